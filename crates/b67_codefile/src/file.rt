@@ -1,0 +1,99 @@
+//! A program's segments and data rows.
+
+ghost use Rattle.std.specs.Prelude.{◌≡◌, [], ◌∷◌, ◌++◌, OnOk, OnErr};
+
+use b67_word::Words;
+use std::alloc::{AllocError, Global};
+use std::marker::Model;
+
+/// A segment's level and code.
+#[derive(Drop)]
+pub struct Segment {
+    pub level: u8,
+    pub code: Words,
+}
+
+/// A list of segments.
+#[derive(Drop)]
+pub struct Segments {
+    items: Vec<Segment>,
+}
+
+impl Model for Segments {
+    ghost use Rattle.std.specs.Prelude.{List};
+    ghost use Rattle.b67_codefile.specs.declared.file.Segment.{Segment};
+
+    ghost Value = { List Segment };
+
+    ghost view = { λ c. c.items.items };
+}
+
+impl Segments {
+    pub fn new(alloc: Global) -> Self
+        ensures { result ≡ [] }
+    {
+        Segments {
+            items: Vec::new(alloc),
+        }
+    }
+
+    pub fn push(&mut self, x: Segment) -> Result<(), AllocError>
+        ensures ok { OnOk result (self.new ≡ self.old ++ x ∷ []) }
+        ensures err { OnErr result (self.new ≡ self.old) }
+    {
+        self.items.push(x)?;
+        Ok(())
+    }
+
+    pub fn as_slice(&self) -> &[Segment]
+        ensures { result.now ≡ self.now }
+    {
+        self.items.as_slice()
+    }
+}
+
+/// A list of data rows.
+#[derive(Drop)]
+pub struct Rows {
+    items: Vec<Words>,
+}
+
+impl Model for Rows {
+    ghost use Rattle.std.specs.Prelude.{List};
+    ghost use Rattle.b67_word.specs.Tagged.{Tagged};
+
+    ghost Value = { List (List Tagged) };
+
+    ghost view = { λ c. c.items.items };
+}
+
+impl Rows {
+    pub fn new(alloc: Global) -> Self
+        ensures { result ≡ [] }
+    {
+        Rows {
+            items: Vec::new(alloc),
+        }
+    }
+
+    pub fn push(&mut self, x: Words) -> Result<(), AllocError>
+        ensures ok { OnOk result (self.new ≡ self.old ++ x ∷ []) }
+        ensures err { OnErr result (self.new ≡ self.old) }
+    {
+        self.items.push(x)?;
+        Ok(())
+    }
+
+    pub fn as_slice(&self) -> &[Words]
+        ensures { result.now ≡ self.now }
+    {
+        self.items.as_slice()
+    }
+}
+
+/// A program.
+#[derive(Drop)]
+pub struct Codefile {
+    pub segments: Segments,
+    pub rows: Rows,
+}

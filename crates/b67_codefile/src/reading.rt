@@ -1,0 +1,208 @@
+//! Reading a codefile.
+
+ghost use Rattle.std.specs.Prelude.{◌≡◌, ◌<◌, length, IfOk, Ok};
+ghost use Rattle.std.specs.Int.{w8, w16, w64};
+ghost use Rattle.b67_codefile.specs.declared.file.Codefile.{Codefile};
+ghost use Rattle.b67_codefile.specs.Spelling.{IsWithin, spelling};
+ghost use Rattle.b67_codefile.specs.Reading.{Gives, Answers, number_at, word_at, words_at, many_at, segment_at, row_at, header_at, counts_at, reading};
+
+use crate::fault::{BadFile, Flaw, ReadError};
+use crate::file::{Codefile, Rows, Segment, Segments};
+use b67_word::{Word, Words};
+use std::alloc::Global;
+
+fn u8_at(bytes: &[u8]) -> Result<(u8, &[u8]), ReadError>
+    ensures { Gives (λ x. (x.0, x.1.now)) result (number_at w8 bytes.now) }
+{
+    if bytes.is_empty() {
+        return Err(ReadError::Flaw(Flaw::Short));
+    }
+    let (front, rest) = bytes.split_at(1);
+    Ok((u8::from_be_bytes([front[0]]), rest))
+}
+
+fn u16_at(bytes: &[u8]) -> Result<(u16, &[u8]), ReadError>
+    ensures { Gives (λ x. (x.0, x.1.now)) result (number_at w16 bytes.now) }
+{
+    if bytes.len() < 2 {
+        return Err(ReadError::Flaw(Flaw::Short));
+    }
+    let (front, rest) = bytes.split_at(2);
+    Ok((u16::from_be_bytes([front[0], front[1]]), rest))
+}
+
+fn u64_at(bytes: &[u8]) -> Result<(u64, &[u8]), ReadError>
+    ensures { Gives (λ x. (x.0, x.1.now)) result (number_at w64 bytes.now) }
+{
+    if bytes.len() < 8 {
+        return Err(ReadError::Flaw(Flaw::Short));
+    }
+    let (front, rest) = bytes.split_at(8);
+    let number = u64::from_be_bytes([
+        front[0], front[1], front[2], front[3], front[4], front[5], front[6], front[7],
+    ]);
+    Ok((number, rest))
+}
+
+#[tactic(auto, unfolding(crate::specs::Reading::word_at))]
+fn word_of(tag: u8, bytes: &[u8]) -> Result<(Word, &[u8]), ReadError>
+    requires { tag < 8 }
+    ensures { Gives (λ x. (x.0, x.1.now)) result (word_at tag bytes.now) }
+{
+    let (number, rest) = u64_at(bytes)?;
+    if number / 0x1_0000_0000_0000 != u64::from(tag) {
+        return Err(ReadError::Flaw(Flaw::BadWord { left: bytes.len() }));
+    }
+    Ok((Word::of(tag, number % 0x1_0000_0000_0000), rest))
+}
+
+fn many_words_of(
+    alloc: Global,
+    tag: u8,
+    count: u16,
+    bytes: &[u8],
+) -> Result<(Words, &[u8]), ReadError>
+    requires { tag < 8 }
+    ensures { Gives (λ x. (x.0, x.1.now)) result (many_at (word_at tag) count bytes.now) }
+{
+    let mut words = Words::new(alloc);
+    let mut rest = bytes;
+    'words: for _ in 0..count {
+        let (word, after) = match word_of(tag, rest) {
+            Ok(found) => found,
+            Err(e) => return Err(e),
+        };
+        words.push(word)?;
+        rest = after;
+    }
+    Ok((words, rest))
+}
+
+#[tactic(auto, unfolding(crate::specs::Reading::words_at))]
+fn words_of(alloc: Global, tag: u8, limit: u16, bytes: &[u8]) -> Result<(Words, &[u8]), ReadError>
+    requires { tag < 8 }
+    ensures { Gives (λ x. (x.0, x.1.now)) result (words_at tag limit bytes.now) }
+{
+    let (count, rest) = u16_at(bytes)?;
+    if count < 1 || count > limit {
+        return Err(ReadError::Flaw(Flaw::TooMany { left: bytes.len() }));
+    }
+    many_words_of(alloc, tag, count, rest)
+}
+
+#[tactic(auto, unfolding(crate::specs::Reading::segment_at))]
+fn segment_of(alloc: Global, bytes: &[u8]) -> Result<(Segment, &[u8]), ReadError>
+    ensures { Gives (λ x. (x.0, x.1.now)) result (segment_at bytes.now) }
+{
+    let (level, rest) = u8_at(bytes)?;
+    let (code, rest) = match words_of(alloc, 3, 8191, rest) {
+        Ok(found) => found,
+        Err(e) => return Err(e),
+    };
+    Ok((Segment { level, code }, rest))
+}
+
+fn segments_of(alloc: Global, count: u16, bytes: &[u8]) -> Result<(Segments, &[u8]), ReadError>
+    ensures { Gives (λ x. (x.0, x.1.now)) result (many_at segment_at count bytes.now) }
+{
+    let mut segments = Segments::new(alloc);
+    let mut rest = bytes;
+    'segments: for _ in 0..count {
+        let (segment, after) = match segment_of(alloc, rest) {
+            Ok(found) => found,
+            Err(e) => return Err(e),
+        };
+        segments.push(segment)?;
+        rest = after;
+    }
+    Ok((segments, rest))
+}
+
+fn rows_of(alloc: Global, count: u16, bytes: &[u8]) -> Result<(Rows, &[u8]), ReadError>
+    ensures { Gives (λ x. (x.0, x.1.now)) result (many_at row_at count bytes.now) }
+{
+    let mut rows = Rows::new(alloc);
+    let mut rest = bytes;
+    'rows: for _ in 0..count {
+        let (row, after) = match words_of(alloc, 0, 65535, rest) {
+            Ok(found) => found,
+            Err(e) => return Err(e),
+        };
+        rows.push(row)?;
+        rest = after;
+    }
+    Ok((rows, rest))
+}
+
+fn header_of(bytes: &[u8]) -> Result<(u64, &[u8]), ReadError>
+    ensures { Gives (λ x. (x.0, x.1.now)) result (header_at bytes.now) }
+{
+    let (number, rest) = u64_at(bytes)?;
+    if number != 0x4236_3743_4f44_4531 {
+        return Err(ReadError::Flaw(Flaw::BadHeader));
+    }
+    Ok((number, rest))
+}
+
+fn counts_of(bytes: &[u8]) -> Result<((u16, u16), &[u8]), ReadError>
+    ensures { Gives (λ x. (x.0, x.1.now)) result (counts_at bytes.now) }
+{
+    let (segments, rest) = u16_at(bytes)?;
+    let (rows, rest) = u16_at(rest)?;
+    if u32::from(segments) + u32::from(rows) > 255 {
+        return Err(ReadError::Flaw(Flaw::TooMany { left: bytes.len() }));
+    }
+    Ok(((segments, rows), rest))
+}
+
+#[tactic(auto, unfolding(crate::specs::Reading::reading))]
+fn whole(alloc: Global, bytes: &[u8]) -> Result<Codefile, ReadError>
+    ensures { Gives (λ x. x) result (reading bytes.now) }
+{
+    let (_, rest) = header_of(bytes)?;
+    let ((segments, rows), rest) = counts_of(rest)?;
+    let (segments, rest) = match segments_of(alloc, segments, rest) {
+        Ok(found) => found,
+        Err(e) => return Err(e),
+    };
+    let (rows, rest) = match rows_of(alloc, rows, rest) {
+        Ok(found) => found,
+        Err(e) => return Err(e),
+    };
+    if !rest.is_empty() {
+        return Err(ReadError::Flaw(Flaw::Trailing { left: rest.len() }));
+    }
+    Ok(Codefile { segments, rows })
+}
+
+fn answer_of(alloc: Global, bytes: &[u8]) -> Result<Codefile, BadFile>
+    ensures { Answers result (length bytes.now) (reading bytes.now) }
+{
+    match whole(alloc, bytes) {
+        Ok(file) => Ok(file),
+        Err(ReadError::Memory) => Err(BadFile::Memory),
+        Err(ReadError::Flaw(Flaw::Short)) => Err(BadFile::Short { at: bytes.len() }),
+        Err(ReadError::Flaw(Flaw::BadHeader)) => Err(BadFile::BadHeader { at: 0 }),
+        Err(ReadError::Flaw(Flaw::BadWord { left })) => Err(BadFile::BadWord {
+            at: bytes.len().saturating_sub(left),
+        }),
+        Err(ReadError::Flaw(Flaw::TooMany { left })) => Err(BadFile::TooMany {
+            at: bytes.len().saturating_sub(left),
+        }),
+        Err(ReadError::Flaw(Flaw::Trailing { left })) => Err(BadFile::Trailing {
+            at: bytes.len().saturating_sub(left),
+        }),
+    }
+}
+
+/// The codefile that bytes spell, all of the bytes.
+pub fn read(alloc: Global, bytes: &[u8]) -> Result<Codefile, BadFile>
+    // What is read is spelled so.
+    ensures found { IfOk result (λ f. IsWithin f × (bytes.now ≡ spelling f)) }
+    // What is spelled so is read, unless memory runs out.
+    ensures only { (f : Codefile) → IsWithin f → bytes.now ≡ spelling f → Answers result (length bytes.now) (Ok f) }
+    // The first flaw from left to right.
+    ensures exact { Answers result (length bytes.now) (reading bytes.now) }
+{
+    answer_of(alloc, bytes)
+}

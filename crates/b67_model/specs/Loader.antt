@@ -1,0 +1,154 @@
+-- The listing of a segment, and the ten rules that admit a program.
+use Rattle.std.specs.Prelude.{◌≡◌, ℕ, zero, suc, ◌+◌, ◌-◌, ◌*◌, ◌/◌, ◌%◌, ◌^◌, ◌==◌, ◌&&◌, ◌||◌, not, nat_lt, nat_le, Bool, true, false, List, [], ◌∷◌, ◌++◌, map, filter, length, Option, Some, None, Ok, Err, slice_get, if◌then◌else◌}
+use Rattle.std.specs.List.{list_any}
+use Rattle.b67_word.specs.declared.couples.Place.{Place}
+use Rattle.b67_model.specs.declared.operators.Op.{Op}
+use Rattle.b67_model.specs.declared.operators.Op.TheVariants.{Valc, Namc, Mpcw, Brun, Brtr, Brfl, Plain}
+use Rattle.b67_model.specs.declared.operators.Code.TheVariants.{Exit, Retn, Nvld}
+use Rattle.b67_model.specs.declared.operators.Undecodable.{Undecodable}
+use Rattle.b67_model.specs.declared.operators.Undecodable.TheVariants.{BadPlace, NotAdmitted, PastEnd}
+use Rattle.b67_word.specs.Operands.{bit}
+use Rattle.b67_word.specs.Couples.{couple}
+use Rattle.b67_model.specs.Operators.{Reading, operator_at}
+use Rattle.b67_model.specs.State.{Segment}
+use Rattle.b67_model.specs.Program.{Program}
+
+-- an operator at its place, or a place at which none can be read
+pub data Entry : Type 0 where
+  At : (place : Place) (op : Op) → Entry
+  Break : (place : Place) (why : Undecodable) → Entry
+
+-- each operator after the one before, up to the segment's end or a break
+abbrev pub entries_from : ℕ → List ℕ → Place → Reading → List Entry
+entries_from zero code at read = []
+entries_from (suc n) code at (Err BadPlace) = []
+entries_from (suc n) code at (Err NotAdmitted) = Break at NotAdmitted ∷ []
+entries_from (suc n) code at (Err PastEnd) = Break at PastEnd ∷ []
+entries_from (suc n) code at (Ok read) = At at read.0 ∷ entries_from n code read.1 (operator_at code read.1)
+
+abbrev pub origin : Place
+origin = record { word = 0; syllable = 0 }
+
+-- each operator has a syllable at least
+abbrev pub listing : List ℕ → List Entry
+listing code = entries_from (6 * length code) code origin (operator_at code origin)
+
+abbrev pub place_of_entry : Entry → Place
+place_of_entry (At place op) = place
+place_of_entry (Break place why) = place
+
+abbrev pub same_place : Place → Place → Bool
+same_place a b = (a.word == b.word) && (a.syllable == b.syllable)
+
+abbrev pub is_start : List Entry → Place → Bool
+is_start entries place = list_any (λ e. same_place (place_of_entry e) place) entries
+
+-- a segment with its number and its listing, in its program
+pub record Listed : Type 0 where
+  pub program : Program
+  pub number : ℕ
+  pub segment : Segment
+  pub entries : List Entry
+
+-- the target of a branch
+abbrev pub target_of : Op → Option Place
+target_of (Brun place) = Some place
+target_of (Brtr place) = Some place
+target_of (Brfl place) = Some place
+target_of _ = None
+
+abbrev pub couple_bits : Op → Option ℕ
+couple_bits (Valc bits) = Some bits
+couple_bits (Namc bits) = Some bits
+couple_bits _ = None
+
+abbrev pub proc_bits : Op → Option ℕ
+proc_bits (Mpcw bits) = Some bits
+proc_bits _ = None
+
+abbrev pub may_be_last : Op → Bool
+may_be_last (Brun place) = true
+may_be_last (Plain Exit) = true
+may_be_last (Plain Retn) = true
+may_be_last (Plain Nvld) = true
+may_be_last _ = false
+
+abbrev pub holds_of : Option ℕ → (ℕ → Bool) → Bool
+holds_of None test = false
+holds_of (Some n) test = test n
+
+abbrev pub holds_at : Option Place → (Place → Bool) → Bool
+holds_at None test = false
+holds_at (Some place) test = test place
+
+abbrev pub is_outside : Segment → Place → Bool
+is_outside s place = not (nat_lt place.word (length s.code)) || nat_lt 5 place.syllable
+
+abbrev pub is_last : List Entry → Place → Bool
+is_last [] place = false
+is_last (e ∷ []) place = same_place (place_of_entry e) place
+is_last (e ∷ f ∷ more) place = is_last (f ∷ more) place
+
+-- the literal's segment, by its displacement
+abbrev pub named_level : Program → ℕ → Option ℕ
+named_level p disp = level_in (if nat_lt disp 2 then None else slice_get p.segments (disp - 2))
+  where
+    level_in : Option Segment → Option ℕ
+    level_in None = None
+    level_in (Some s) = Some s.level
+
+abbrev pub is_off : Program → ℕ → Bool
+is_off p bits = not (nat_lt bits (2 ^ 36)) || not (bit 19 bits == 0) || not (holds_of (named_level p (bits % 2 ^ 14)) (λ level. true))
+
+abbrev pub is_amiss : Listed → ℕ → Bool
+is_amiss l bits =
+    let level = (bits / 2 ^ 14) % 2 ^ 5 in
+    not (holds_of (named_level l.program (bits % 2 ^ 14)) (λ named. named == level))
+    || not (level == l.segment.level + 1) || not (bits / 2 ^ 20 == 0)
+
+-- the rules that an entry breaks, but for 9 and 10
+abbrev pub broken_at : Listed → Entry → List (ℕ × Bool)
+broken_at l (Break place NotAdmitted) = (1, true) ∷ []
+broken_at l (Break place PastEnd) = (2, true) ∷ []
+broken_at l (Break place BadPlace) = []
+broken_at l (At place op) =
+    (3, holds_at (target_of op) (λ target. not (is_outside l.segment target) && not (is_start l.entries target))) ∷
+    (4, holds_at (target_of op) (is_outside l.segment)) ∷
+    (5, is_last l.entries place && not (may_be_last op)) ∷
+    (6, holds_of (couple_bits op) (λ bits. nat_lt l.segment.level (couple bits l.segment.level).level)) ∷
+    (7, holds_of (proc_bits op) (is_off l.program)) ∷
+    (8, holds_of (proc_bits op) (is_amiss l)) ∷ []
+
+-- rules 9 and 10 stand at the segment's first place
+abbrev pub broken_in : Listed → List (ℕ × Bool)
+broken_in l =
+    (9, not (nat_le 2 l.segment.level && nat_le l.segment.level 31)) ∷
+    (10, (l.number == 1) && not (l.segment.level == 2)) ∷ []
+
+pub record Refusal : Type 0 where
+  pub segment : ℕ
+  pub place : Place
+  pub rule : ℕ
+
+abbrev pub refused : ℕ → Place → List (ℕ × Bool) → List Refusal
+refused number place tests = map (λ t. record { segment = number; place = place; rule = t.0 }) (filter (λ t. t.1) tests)
+
+-- the refusals of a segment by place, then by rule
+abbrev pub refusals_of : Listed → List Entry → List Refusal
+refusals_of l [] = []
+refusals_of l (e ∷ more) =
+    refused l.number (place_of_entry e) (if same_place (place_of_entry e) origin then broken_at l e ++ broken_in l else broken_at l e)
+    ++ refusals_of l more
+
+abbrev pub refusals_from : Program → ℕ → List Segment → List Refusal
+refusals_from p n [] = []
+refusals_from p n (s ∷ more) =
+    let l : Listed = record { program = p; number = n; segment = s; entries = listing s.code } in
+    refusals_of l l.entries ++ refusals_from p (n + 1) more
+
+-- all refusals by segment, then by place, then by rule
+abbrev pub refusals : Program → List Refusal
+refusals p = if length p.segments == 0 then record { segment = 0; place = origin; rule = 10 } ∷ [] else refusals_from p 1 p.segments
+
+abbrev pub IsAdmitted : Program → Type 0
+IsAdmitted p = refusals p ≡ []

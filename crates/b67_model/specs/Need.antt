@@ -1,0 +1,72 @@
+-- The core that a step needs.
+use Rattle.std.specs.Prelude.{ℕ, ◌+◌, ◌-◌, ◌*◌, max, nat_lt, List, [], ◌∷◌, length, reverse, sum_by, Option, Some, None, Ok, Err, if◌then◌else◌, option_map}
+use Rattle.b67_model.specs.declared.operators.Op.TheVariants.{Plain}
+use Rattle.b67_model.specs.declared.operators.Code.TheVariants.{Entr}
+use Rattle.b67_model.specs.Answers.{Answer}
+use Rattle.b67_model.specs.Words.{Word, Row}
+use Rattle.b67_model.specs.Keyed.{keyed}
+use Rattle.b67_model.specs.State.{Task, Setting, Job, Member, top}
+use Rattle.b67_model.specs.Chase.{End, AtIntrinsic, follow_reference}
+use Rattle.b67_model.specs.Arrays.{array}
+use Rattle.b67_model.specs.Operators.{Reading}
+use Rattle.b67_model.specs.Steps.{Done, Goes, Leaves, Waits}
+use Rattle.b67_model.specs.Rows.{code_of, reading_of, step}
+use Rattle.b67_model.specs.Schedule.{Session, Choice, choice}
+use Rattle.b67_model.specs.Run.{live_tasks, number_of}
+
+-- the MCP's words and all dictionaries, each of two words and its entries
+abbrev pub fixed : List Member → ℕ
+fixed jobs = 160 + sum_by (λ m. 2 + length m.setting.dictionary.cells) jobs
+
+abbrev pub need_at_opening : ℕ → List Member → ℕ
+need_at_opening stack jobs = fixed jobs + length jobs * stack
+
+-- PRINTROW touches its array before its last faults
+abbrev pub touched_by_call : List Word → Answer End → Option ℕ
+touched_by_call (r ∷ Row a ∷ []) (Ok (AtIntrinsic n)) = if nat_lt n 11 then (if nat_lt 9 n then Some a else None) else None
+touched_by_call _ _ = None
+
+abbrev pub touched_before_fault : Setting → Job → Task → Reading → Option ℕ
+touched_before_fault setting job task (Ok (Plain Entr, next)) = call (reverse (top task.frames).cells)
+  where
+    call : List Word → Option ℕ
+    call [] = None
+    call (r ∷ arguments) = touched_by_call (r ∷ arguments) (follow_reference (record { setting = setting; job = job; task = task; at = task.place }) r)
+touched_before_fault setting job task _ = None
+
+abbrev pub touched_of : Setting → Job → Task → Answer Done → Option ℕ
+touched_of setting job task (Ok (Goes after printed touched)) = touched
+touched_of setting job task (Ok Leaves) = None
+touched_of setting job task (Ok (Waits condition)) = None
+touched_of setting job task (Err fault) = touched_before_fault setting job task (reading_of setting task)
+
+-- how many tasks a step starts
+abbrev pub started_by : Job → Answer Done → ℕ
+started_by job (Ok (Goes after printed touched)) = length after.tasks - length job.tasks
+started_by job _ = 0
+
+abbrev pub area_of : Job → Option ℕ → ℕ
+area_of job None = 0
+area_of job (Some a) = length (array job a).numbers + 2
+
+-- what a step of a job's task needs in a core of this size
+abbrev pub need : ℕ → Session → Member → Task → ℕ
+need core s m task =
+    let made = step m.setting m.course.job task in
+    let code = length (code_of m.setting task.segment) + 2 in
+    let peak = max s.peak (live_tasks s.jobs + started_by m.course.job made) in
+    let base = fixed s.jobs + s.peak * m.setting.stack_size + code in
+    let full = fixed s.jobs + peak * m.setting.stack_size + code + area_of m.course.job (touched_of m.setting m.course.job task made) in
+    if nat_lt core base then base else full
+
+-- Need of the session's next step
+abbrev pub need_of_job : ℕ → Session → ℕ → Option Member → Option ℕ
+need_of_job core s number None = None
+need_of_job core s number (Some m) = option_map (need core s m) (keyed (λ t. t.number) number m.course.job.tasks)
+
+abbrev pub need_by : ℕ → Session → Option Choice → Option ℕ
+need_by core s None = None
+need_by core s (Some c) = need_of_job core s c.who.task (keyed number_of c.who.job s.jobs)
+
+abbrev pub need_next : ℕ → Session → Option ℕ
+need_next core s = need_by core s (choice s)

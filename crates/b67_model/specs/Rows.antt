@@ -1,0 +1,261 @@
+-- One row for each operator.
+use Rattle.std.specs.Prelude.{◌≡◌, ◌≤◌, ℕ, ◌+◌, ◌-◌, ◌/◌, ◌%◌, ◌^◌, ◌==◌, ◌&&◌, nat_lt, Bool, true, false, List, [], ◌∷◌, reverse, length, Option, Some, None, Ok, Err, if◌then◌else◌, slice_get}
+use Rattle.b67_word.specs.declared.faults.Fault.TheVariants.{StackUnderflow, InvalidOperand, MemoryProtect, InvalidOperator}
+use Rattle.b67_word.specs.declared.couples.Place.{Place}
+use Rattle.b67_model.specs.declared.operators.Op.{Op}
+use Rattle.b67_model.specs.declared.operators.Op.TheVariants.{Valc, Namc, Lt8, Lt16, Lt48, Mpcw, Brun, Brtr, Brfl, Bset, Brst, Isol, Insr, Plain}
+use Rattle.b67_model.specs.declared.operators.Code.{Code}
+use Rattle.b67_model.specs.declared.operators.Code.TheVariants.{Add, Subt, Mult, Idiv, Rdiv, Less, Greq, Grtr, Lseq, Equl, Neql, Chsn, Land, Lor, Leqv, Lnot, Same, Exit, Indx, Retn, Entr, Nxlv, Mkst, Stff, Zero, One, Push, Dlet, Exch, Dupl, Stod, Ston, Load, Noop, Nvld}
+use Rattle.b67_model.specs.Answers.{Answer, ◌>>=◌, ◌>>◌, needs}
+use Rattle.b67_word.specs.Operands.{bit}
+use Rattle.b67_model.specs.Words.{Word, Operand, Name, Ref, Row, Element, Proc, operand}
+use Rattle.b67_model.specs.Operators.{Reading, operator_at}
+use Rattle.b67_model.specs.State.{Frame, Standing, Marked, Entered, Array, Task, Setting, Job, Here, with_task}
+use Rattle.b67_model.specs.State as State
+use Rattle.b67_model.specs.Cells.{place_of, cell, with_cell}
+use Rattle.b67_model.specs.Chase.{End, AtCell, AtElement, AtArray, AtProc, AtIntrinsic, chase, follow, follow_reference}
+use Rattle.b67_model.specs.Arithmetic.{Binary, add, subt, mult, idiv, rdiv, less, greq, grtr, lseq, equl, neql, land, lor, leqv, same, chsn, lnot, bset, brst, isol, insr}
+use Rattle.b67_model.specs.Steps.{Line, Done, Goes, top_of, cells_of, result, with_cells, leaves_cells, pushes}
+use Rattle.b67_model.specs.Entry.{mkst, accident, back_to, evaluates, enters, exit, retn}
+use Rattle.b67_model.specs.Arrays.{array, element, with_element, indexed, in_order}
+use Rattle.b67_model.specs.Intrinsics.{is_original, intrinsic}
+
+-- cells, from the top down, to cells
+abbrev pub CellRow : Type 0
+CellRow = List Word → Answer (List Word)
+
+abbrev pub on_one : (ℕ → Answer ℕ) → CellRow
+on_one f [] = Err StackUnderflow
+on_one f (a ∷ rest) = do
+  x ← operand a
+  y ← f x
+  Ok (Operand y ∷ rest)
+
+abbrev pub on_two : Binary → CellRow
+on_two f [] = Err StackUnderflow
+on_two f (b ∷ []) = Err StackUnderflow
+on_two f (b ∷ a ∷ rest) = do
+  x ← operand a
+  y ← operand b
+  z ← f x y
+  Ok (Operand z ∷ rest)
+
+-- an original is never moved or copied
+abbrev pub movable : Word → Answer Word
+movable w = if is_original w then Err InvalidOperand else Ok w
+
+abbrev pub dlet : CellRow
+dlet [] = Err StackUnderflow
+dlet (a ∷ rest) = do
+  v ← movable a
+  Ok rest
+
+abbrev pub exch : CellRow
+exch [] = Err StackUnderflow
+exch (b ∷ []) = Err StackUnderflow
+exch (b ∷ a ∷ rest) = do
+  u ← movable a
+  v ← movable b
+  Ok (a ∷ b ∷ rest)
+
+abbrev pub dupl : CellRow
+dupl [] = Err StackUnderflow
+dupl (a ∷ rest) = do
+  v ← movable a
+  Ok (a ∷ a ∷ rest)
+
+-- the cells change and nothing else
+abbrev pub on_cells : CellRow → Here → Answer Done
+on_cells f h = do
+  cells ← f (cells_of h)
+  leaves_cells h cells None
+
+abbrev pub branches : Here → Place → Here
+branches h target = record h { task = record h.task { place = target } }
+
+-- branches where bit 0 is as wanted
+abbrev pub branch_if : Bool → Here → List Word → Place → Answer Done
+branch_if wanted h [] target = Err StackUnderflow
+branch_if wanted h (a ∷ rest) target = do
+  x ← operand a
+  leaves_cells (branches h (if same_as wanted (bit 0 x == 1) then target else h.task.place)) rest None
+  where
+    same_as : Bool → Bool → Bool
+    same_as true b = b
+    same_as false true = false
+    same_as false false = true
+
+abbrev pub valc : Here → ℕ → Answer Done
+valc h couple = do
+  end ← chase h (Name couple)
+  evaluates h end
+
+abbrev pub stff_word : Here → Word → Answer Word
+stff_word h (Ref f offset) = Ok (Ref f offset)
+stff_word h (Name couple) = do
+  at ← place_of h (Name couple)
+  w ← cell h at.0 at.1
+  Ok (Ref at.0 at.1)
+stff_word h _ = Err InvalidOperand
+
+abbrev pub stff : Here → CellRow
+stff h [] = Err StackUnderflow
+stff h (w ∷ rest) = do
+  v ← stff_word h w
+  Ok (v ∷ rest)
+
+abbrev pub load_at : Here → List Word → End → Answer Done
+load_at h rest (AtCell f offset bits) = leaves_cells h (Operand bits ∷ rest) None
+load_at h rest (AtElement a index) = leaves_cells h (Operand (element h.job a index) ∷ rest) (Some a)
+load_at h rest (AtArray a) = leaves_cells h (Row a ∷ rest) None
+load_at h rest (AtProc f segment level place) = accident h rest (back_to h false h.at) (AtProc f segment level place)
+load_at h rest (AtIntrinsic n) = Err InvalidOperand
+
+abbrev pub load : Here → List Word → Answer Done
+load h [] = Err StackUnderflow
+load h (w ∷ rest) = do
+  end ← follow h w
+  load_at h rest end
+
+abbrev pub indx : Here → List Word → Answer Done
+indx h [] = Err StackUnderflow
+indx h (b ∷ []) = Err StackUnderflow
+indx h (b ∷ a ∷ rest) = do
+  let two = in_order b a
+  at ← indexed h two.0 two.1
+  leaves_cells h (Element at.0 at.1 ∷ rest) None
+
+abbrev pub nxlv : Here → List Word → Answer Done
+nxlv h [] = Err StackUnderflow
+nxlv h (b ∷ []) = Err StackUnderflow
+nxlv h (b ∷ a ∷ rest) = do
+  let two = in_order b a
+  at ← indexed h two.0 two.1
+  leaves_cells h (Operand (element h.job at.0 at.1) ∷ rest) (Some at.0)
+
+-- a value goes to an end, and these cells stay. An accidental entry leaves the value on the stack
+abbrev pub store_at : Here → List Word → List Word → ℕ → End → Answer Done
+store_at h rest kept bits (AtCell f offset old) =
+    Ok (Goes (with_cell (with_task h.job (with_cells h kept)) f offset (Operand bits)) [] None)
+store_at h rest kept bits (AtElement a index) = do
+  needs (array h.job a).writable MemoryProtect
+  result h (with_element h.job a index bits) (with_cells h kept) [] (Some a)
+store_at h rest kept bits (AtProc f segment level place) =
+    accident h (Operand bits ∷ rest) (back_to h false h.at) (AtProc f segment level place)
+store_at h rest kept bits _ = Err MemoryProtect
+
+abbrev pub store : Bool → Here → List Word → Answer Done
+store keeps h [] = Err StackUnderflow
+store keeps h (b ∷ []) = Err StackUnderflow
+store keeps h (b ∷ a ∷ rest) = do
+  let two = in_order b a
+  bits ← operand two.1
+  end ← follow h two.0
+  store_at h rest (if keeps then two.1 ∷ rest else rest) bits end
+
+abbrev pub entr_at : Here → List Word → End → Answer Done
+entr_at h arguments (AtIntrinsic n) = intrinsic n h arguments
+entr_at h arguments end = enters h arguments end
+
+-- the cells of the mark, from the first one up
+abbrev pub entr_with : Here → List Word → Answer Done
+entr_with h [] = Err StackUnderflow
+entr_with h (r ∷ arguments) = do
+  end ← follow_reference h r
+  entr_at h arguments end
+
+abbrev pub entr : Here → Standing → Answer Done
+entr h (Entered level environment back) = Err InvalidOperand
+entr h Marked = entr_with h (reverse (cells_of h))
+
+-- the literal names a segment of the job and has no bit outside its fields
+abbrev pub is_proc : Here → ℕ → Bool
+is_proc h bits =
+    nat_lt bits (2 ^ 36) && (bit 19 bits == 0) && nat_lt 1 (bits % 2 ^ 14) && nat_lt (bits % 2 ^ 14) (length h.setting.segments + 2)
+
+abbrev pub proc_of : ℕ → Word
+proc_of bits = Proc (bits % 2 ^ 14 - 1) ((bits / 2 ^ 14) % 2 ^ 5) (record { word = (bits / 2 ^ 20) % 2 ^ 13; syllable = (bits / 2 ^ 33) % 2 ^ 3 })
+
+abbrev pub mpcw : Here → ℕ → Answer Done
+mpcw h bits = do
+  needs (is_proc h bits) InvalidOperator
+  pushes h (proc_of bits) None
+
+abbrev pub plain : Code → Here → Answer Done
+plain Add h = on_cells (on_two add) h
+plain Subt h = on_cells (on_two subt) h
+plain Mult h = on_cells (on_two mult) h
+plain Idiv h = on_cells (on_two idiv) h
+plain Rdiv h = on_cells (on_two rdiv) h
+plain Less h = on_cells (on_two less) h
+plain Greq h = on_cells (on_two greq) h
+plain Grtr h = on_cells (on_two grtr) h
+plain Lseq h = on_cells (on_two lseq) h
+plain Equl h = on_cells (on_two equl) h
+plain Neql h = on_cells (on_two neql) h
+plain Chsn h = on_cells (on_one chsn) h
+plain Land h = on_cells (on_two land) h
+plain Lor h = on_cells (on_two lor) h
+plain Leqv h = on_cells (on_two leqv) h
+plain Lnot h = on_cells (on_one lnot) h
+plain Same h = on_cells (on_two same) h
+plain Exit h = exit h
+plain Indx h = indx h (cells_of h)
+plain Retn h = retn h
+plain Entr h = entr h (top_of h).standing
+plain Nxlv h = nxlv h (cells_of h)
+plain Mkst h = mkst h
+plain Stff h = on_cells (stff h) h
+plain Zero h = pushes h (Operand 0) None
+plain One h = pushes h (Operand 1) None
+plain Push h = leaves_cells h (cells_of h) None
+plain Dlet h = on_cells dlet h
+plain Exch h = on_cells exch h
+plain Dupl h = on_cells dupl h
+plain Stod h = store false h (cells_of h)
+plain Ston h = store true h (cells_of h)
+plain Load h = load h (cells_of h)
+plain Noop h = leaves_cells h (cells_of h) None
+plain Nvld h = Err InvalidOperator
+
+abbrev pub row : Op → Here → Answer Done
+row (Valc couple) h = valc h couple
+row (Namc couple) h = pushes h (Name couple) None
+row (Lt8 n) h = pushes h (Operand n) None
+row (Lt16 n) h = pushes h (Operand n) None
+row (Lt48 bits) h = pushes h (Operand bits) None
+row (Mpcw bits) h = mpcw h bits
+row (Brun target) h = leaves_cells (branches h target) (cells_of h) None
+row (Brtr target) h = branch_if true h (cells_of h) target
+row (Brfl target) h = branch_if false h (cells_of h) target
+row (Bset n) h = on_cells (on_one (bset n)) h
+row (Brst n) h = on_cells (on_one (brst n)) h
+row (Isol high width) h = on_cells (on_one (isol high width)) h
+row (Insr high width) h = on_cells (on_two (insr high width)) h
+row (Plain code) h = plain code h
+
+-- the code of a segment, by its number
+abbrev pub code_of : Setting → ℕ → List ℕ
+code_of setting segment = code_in (slice_get setting.segments (segment - 1))
+  where
+    code_in : Option State.Segment → List ℕ
+    code_in None = []
+    code_in (Some s) = s.code
+
+abbrev pub reading_of : Setting → Task → Reading
+reading_of setting task = operator_at (code_of setting task.segment) task.place
+
+abbrev pub step_by : Setting → Job → Task → Reading → Answer Done
+step_by setting job task (Err undecodable) = Err InvalidOperator
+step_by setting job task (Ok read) =
+    row read.0 (record { setting = setting; job = job; task = record task { place = read.1 }; at = task.place })
+
+-- the operator at the task's place
+unfoldable pub step : Setting → Job → Task → Answer Done
+step setting job task = step_by setting job task (reading_of setting task)
+
+-- no operator takes an identity back
+abbrev pub IdentitiesGrow : Type 0
+IdentitiesGrow =
+    (op : Op) (h : Here) (after : Job) (printed : List Line) (touched : Option ℕ) →
+    row op h ≡ Ok (Goes after printed touched) → h.job.next_frame ≤ after.next_frame

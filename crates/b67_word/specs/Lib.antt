@@ -1,0 +1,4 @@
+pub mod Tagged
+pub mod Packed
+pub mod Operands
+pub mod Couples

@@ -1,0 +1,12 @@
+//! Words, couples, places, faults, endings and the small lists that all crates of the machine share.
+#![tactic(auto)]
+
+mod couples;
+mod faults;
+mod lists;
+mod tagged;
+
+pub use couples::{Couple, Place};
+pub use faults::{Ending, Failed, Fault};
+pub use lists::{Bytes, Numbers, Words};
+pub use tagged::Word;

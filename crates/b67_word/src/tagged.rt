@@ -1,0 +1,71 @@
+//! The machine's words.
+
+ghost use Rattle.std.specs.Prelude.{◌≡◌, ◌↔◌, ◌+◌, ◌<◌, ◌≤◌, ◌^◌, IsSome, IfSome};
+ghost use Rattle.b67_word.specs.Tagged.{word, bits_at, IsWord};
+
+use std::marker::Model;
+
+/// A word: a tag of 0 to 7 and 48 bits.
+#[derive(Clone, Copy, Debug, PartialEq, Eq)]
+pub struct Word(u64);
+
+impl Model for Word {
+    ghost use Rattle.std.specs.Prelude.{◌+◌, ◌*◌, ◌/◌, ◌%◌, ◌^◌, ◌<◌};
+    ghost use Rattle.b67_word.specs.Tagged.{Tagged};
+    ghost use Rattle.b67_word.specs.Packed.{packed};
+
+    ghost Value = { Tagged };
+
+    ghost view = { λ w. record { tag = w.0 / 2 ^ 48; bits = w.0 % 2 ^ 48 } };
+
+    ghost invariant = { λ w. w.0 < 2 ^ 51 };
+
+    ghost inverse = { λ t. record { 0 = t.tag * 2 ^ 48 + t.bits } };
+
+    ghost inverse_ok = { λ a h. packed a };
+}
+
+impl Word {
+    /// The word of a tag and bits.
+    pub fn new(tag: u8, bits: u64) -> Option<Word>
+        ensures fits { IsSome result ↔ (IsWord (word tag bits)) }
+        ensures value { IfSome result (λ w. w ≡ word tag bits) }
+    {
+        if tag < 8 && bits < 0x1_0000_0000_0000 {
+            Some(Word(u64::from(tag) * 0x1_0000_0000_0000 + bits))
+        } else {
+            None
+        }
+    }
+
+    /// The word of a tag and bits that fit.
+    pub fn of(tag: u8, bits: u64) -> Word
+        requires { IsWord (word tag bits) }
+        ensures { result ≡ word tag bits }
+    {
+        Word(u64::from(tag) * 0x1_0000_0000_0000 + bits)
+    }
+
+    pub fn tag(self) -> u8
+        ensures value { result ≡ self.tag }
+        ensures small { result < 8 }
+    {
+        (self.0 / 0x1_0000_0000_0000) as u8
+    }
+
+    pub fn bits(self) -> u64
+        ensures value { result ≡ self.bits }
+        ensures small { result < 2 ^ 48 }
+    {
+        self.0 % 0x1_0000_0000_0000
+    }
+
+    /// The number in `width` bits from bit `low` up.
+    pub fn part(self, low: u32, width: u32) -> u64
+        requires { low + width ≤ 48 }
+        ensures value { result ≡ bits_at self low width }
+        ensures small { result < 2 ^ width }
+    {
+        (self.bits() >> low) % (1u64 << width)
+    }
+}
