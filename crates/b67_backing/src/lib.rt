@@ -8,6 +8,8 @@ mod honest;
 mod memory;
 mod refusals;
 mod sectors;
+#[cfg(test)]
+mod tests;
 
 pub use device::Backing;
 pub use file::FileBacking;

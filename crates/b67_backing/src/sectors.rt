@@ -84,11 +84,13 @@ impl Sectors {
         at
     }
 
-    /// Takes a chain of n free sectors.
+    /// Makes a chain of n free sectors, and answers its first. No other chain and no other free sector is touched, and
+    /// only n links are followed. None, with nothing changed, is where fewer than n sectors are free.
     pub fn take(&mut self, n: u32) -> Option<u32>
         requires { 1 ≤ n }
         ensures row { (st : Shelf) → IsShelf self.old st
             → MatchOption result (length st.free < n) (λ x. (n ≤ length st.free) × (x ≡ first st.free) × IsShelf self.new (taken n st)) }
+        ensures chain { IfSome result (λ x. (st : Shelf) → IsShelf self.old st → HasChain self.new (taken n st) x n) }
         ensures chains { IfSome result (λ x. (st : Shelf) (y : ℕ) → IsShelf self.old st
             → chain_of y (taken n st).chains ≡ (if x == y then take n st.free else chain_of y st.chains)) }
         ensures unchanged { IfNone result (self.new ≡ self.old) }
@@ -126,12 +128,14 @@ impl Sectors {
         unreachable!()
     }
 
-    /// Gives back a chain.
+    /// Makes the sectors of a chain free. No other chain and no other free sector is touched, and only the links of that
+    /// chain are followed.
     pub fn give(&mut self, first: u32)
         requires { (st : Shelf) × IsShelf self.old st × (1 ≤ length (chain_of first st.chains)) }
         ensures row { (st : Shelf) → IsShelf self.old st → 1 ≤ length (chain_of first st.chains)
             → IsShelf self.new (given first st) }
-        ensures chains { (st : Shelf) (x : ℕ) → x ≢ first → chain_of x (given first st).chains ≡ chain_of x st.chains }
+        ensures chains { (st : Shelf) (x : ℕ) → IsShelf self.old st → 1 ≤ length (chain_of first st.chains)
+            → chain_of x (given first st).chains ≡ (if first == x then [] else chain_of x st.chains) }
     {
         let tail = self.last_of(first);
         self.links[tail.last as usize] = self.link(0);

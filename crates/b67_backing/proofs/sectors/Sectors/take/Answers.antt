@@ -3,7 +3,7 @@ use Rattle.std.specs.List.{slice_get}
 use Rattle.std.proofs.lemmas.Option.{same_Some}
 use Rattle.b67_backing.specs.Shelf.{Table, Shelf, IsShelf, first, taken}
 use Rattle.b67_backing.proofs.Links.{link_first}
-use Rattle.b67_backing.proofs.News.{chain_of-taken}
+use Rattle.b67_backing.proofs.News.{chain_of-taken, has_taken}
 use Rattle.b67_backing.proofs.Takes.{took}
 use Rattle.b67_backing.proofs.sectors.Sectors.take.Goals.{After-self-3-1}
 use Rattle.b67_backing.proofs.sectors.Sectors.take.Goals as goal
@@ -33,3 +33,8 @@ returns-clause-row c = λ st s.
 pub returns-clause-chains : goal.returns-clause-chains
 returns-clause-chains c = λ st y s.
     chain_of-taken c.args.n c.link-first.result y st c.requires (same_Some c.link-first.result (first st.free) (sym c.link-first.ensures ∙ link_first c.args.self.now.links 0 st.free s.free))
+
+pub returns-clause-chain : goal.returns-clause-chain
+returns-clause-chain c = λ st s.
+    let t = subst (λ (t : Table). IsShelf t st) (sym c.self.view_is) s in
+    has_taken _ c.args.n c.link-first.result st c.requires (omega (arith, t.count)) (same_Some c.link-first.result (first st.free) (sym c.link-first.ensures ∙ link_first c.args.self.now.links 0 st.free s.free)) (took_here c st t)
