@@ -1,12 +1,12 @@
 -- What a card of a deck says by itself.
-use Rattle.std.specs.Prelude.{ℕ, ◌==◌, ◌&&◌, nat_le, Bool, false, List, [], ◌∷◌, length, Option, Some, None, Result, Ok, Err, if◌then◌else◌, codes, ⊤}
-use Rattle.std.specs.List.{list_all, slice_split}
+use Rattle.std.specs.Prelude.{ℕ, ◌+◌, ◌==◌, ◌&&◌, nat_le, Bool, false, List, [], ◌∷◌, length, take, drop, position, Option, Some, None, Result, Ok, Err, if◌then◌else◌, codes, ⊤}
+use Rattle.std.specs.List.{list_all}
 use Rattle.std.specs.Option.{option_map, option_and_then}
 use Rattle.std.specs.Str.{bytes_eq}
 use Rattle.b67_text.specs.declared.deck.Keyword as keyword
 use Rattle.b67_text.specs.declared.deck.Keyword.TheVariants as keywords
 use Rattle.b67_text.specs.Answers.{Answer, ◌>>=◌, ◌>>◌, needs, or_reason}
-use Rattle.b67_text.specs.Cards.{words, natural, is_name}
+use Rattle.b67_text.specs.Cards.{words, natural, is_name, is_empty}
 
 pub data Command : Type 0 where
   Stack : (words : ℕ) → Command
@@ -40,34 +40,38 @@ keyword_of word = row_of word all
 abbrev pub number_in : ℕ → ℕ → List ℕ → Option ℕ
 number_in low high text = option_and_then (λ n. if nat_le low n && nat_le n high then Some n else None) (natural text)
 
--- the switch to task t of job j, which is written j.t
-abbrev pub switch_to : ℕ → List (List ℕ) → Option Command
-switch_to count (job ∷ task ∷ []) = option_and_then (λ j. option_map (Switch count j) (number_in 1 100000000 task)) (number_in 1 8 job)
-switch_to count _ = None
+-- a text before the first such mark, and what stands behind the mark
+abbrev pub parted : ℕ → List ℕ → Option (List ℕ × List ℕ)
+parted mark text = option_map (λ at. (take at text, drop (at + 1) text)) (position (λ b. b == mark) text)
+
+-- a lone parameter, a number within these bounds
+abbrev pub one_number : ℕ → ℕ → List (List ℕ) → Option ℕ
+one_number low high [] = None
+one_number low high (word ∷ more) = if is_empty more then number_in low high word else None
+
+-- task t of job j, which is written j.t
+abbrev pub target : List ℕ → Option (ℕ × ℕ)
+target word = option_and_then (λ p. option_and_then (λ job. option_map (λ task. (job, task)) (number_in 1 100000000 p.1)) (number_in 1 8 p.0)) (parted 46 word)
 
 abbrev pub switch : List (List ℕ) → Option Command
-switch (count ∷ target ∷ []) = option_and_then (λ n. switch_to n (slice_split (λ b. b == 46) target)) (number_in 0 800000000 count)
+switch (count ∷ word ∷ []) = option_and_then (λ n. option_map (λ t. Switch n t.0 t.1) (target word)) (number_in 0 800000000 count)
 switch _ = None
 
+abbrev pub job_named : List (List ℕ) → Option Command
+job_named [] = None
+job_named (word ∷ more) = if is_empty more && is_name word then Some (Job word) else None
+
 abbrev pub alone : Command → List (List ℕ) → Option Command
-alone command [] = Some command
-alone command (w ∷ more) = None
-
-abbrev pub with_one : (List ℕ → Option Command) → List (List ℕ) → Option Command
-with_one of_word (w ∷ []) = of_word w
-with_one of_word _ = None
-
-abbrev pub job_named : List ℕ → Option Command
-job_named word = if is_name word then Some (Job word) else None
+alone command parameters = if is_empty parameters then Some command else None
 
 -- what a keyword says with these parameters
 abbrev pub says : keyword.Keyword → List (List ℕ) → Option Command
-says keywords.Stack parameters = with_one (λ w. option_map Stack (number_in 64 16383 w)) parameters
-says keywords.Quantum parameters = with_one (λ w. option_map Quantum (number_in 1 1000000 w)) parameters
-says keywords.Halt parameters = with_one (λ w. option_map Halt (number_in 1 800000000 w)) parameters
+says keywords.Stack parameters = option_map Stack (one_number 64 16383 parameters)
+says keywords.Quantum parameters = option_map Quantum (one_number 1 1000000 parameters)
+says keywords.Halt parameters = option_map Halt (one_number 1 800000000 parameters)
 says keywords.Switch parameters = switch parameters
-says keywords.Job parameters = with_one job_named parameters
-says keywords.Limit parameters = with_one (λ w. option_map Limit (number_in 1 100000000 w)) parameters
+says keywords.Job parameters = job_named parameters
+says keywords.Limit parameters = option_map Limit (one_number 1 100000000 parameters)
 says keywords.Asm parameters = alone Asm parameters
 says keywords.Hex parameters = alone Hex parameters
 says keywords.Data parameters = alone Data parameters

@@ -1,14 +1,14 @@
 -- Where a card of a deck may stand, by the cards before it, the nearest first.
-use Rattle.std.specs.Prelude.{ℕ, ◌^◌, ◌&&◌, ◌||◌, not, nat_lt, Bool, true, false, ℤ, List, [], ◌∷◌, map, length, Option, Some, None, is_some, slice_get, Result, Ok, Err, if◌then◌else◌, nat_abs, ⊤}
+use Rattle.std.specs.Prelude.{ℕ, ◌==◌, ◌&&◌, ◌||◌, not, nat_lt, Bool, true, false, ℤ, pos, neg_ℤ, List, [], ◌∷◌, map, length, Option, Some, None, is_some, slice_get, Result, Ok, Err, if◌then◌else◌, ⊤}
 use Rattle.std.specs.List.{filter_map}
 use Rattle.std.specs.Option.{option_map, option_and_then}
 use Rattle.b67_text.specs.declared.deck.Switch as switches
 use Rattle.b67_text.specs.declared.deck.Stand.{Stand}
 use Rattle.b67_text.specs.declared.deck.Stand.TheVariants.{Front, Begun, Limited, InAsm, InHex, InData, Ended}
 use Rattle.b67_text.specs.Answers.{Answer, ◌>>=◌, ◌>>◌, needs}
-use Rattle.b67_text.specs.Cards.{words, whole}
+use Rattle.b67_text.specs.Cards.{words}
 use Rattle.b67_text.specs.Hex.{hex_bytes}
-use Rattle.b67_text.specs.Command.{Command, Stack, Quantum, Halt, Switch, Job, Limit, Asm, Hex, Data, End, Plain}
+use Rattle.b67_text.specs.Command.{number_in, Command, Stack, Quantum, Halt, Switch, Job, Limit, Asm, Hex, Data, End, Plain}
 
 -- where a card stands: by the nearest command before it
 abbrev pub stand_after : Stand → Command → Stand
@@ -106,9 +106,10 @@ has_room before (Switch count job task) = needs (nat_lt (length (filter_map swit
 has_room before (Job name) = needs (nat_lt (length (filter_map name_in before)) 8) 9
 has_room before _ = Ok tt
 
--- a whole number of magnitude 549,755,813,887 at most
+-- a whole number of magnitude 549,755,813,887 at most, with a minus sign before anything but 0
 abbrev pub operand_in : List ℕ → Option ℤ
-operand_in word = option_and_then (λ v. if nat_lt (nat_abs v) (2 ^ 39) then Some v else None) (whole word)
+operand_in [] = None
+operand_in (b ∷ more) = if b == 45 then option_map (λ n. neg_ℤ (pos n)) (number_in 1 549755813887 more) else option_map pos (number_in 0 549755813887 (b ∷ more))
 
 abbrev pub operands_in : List (List ℕ) → Option (List ℤ)
 operands_in [] = Some []
