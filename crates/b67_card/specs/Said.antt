@@ -1,5 +1,5 @@
 -- What a card was understood to say.
-use Rattle.std.specs.Prelude.{◌≡◌, Result, Ok, Err, ⊤}
+use Rattle.std.specs.Prelude.{◌≡◌, ℕ, List, Result, Ok, Err, ⊤}
 use Rattle.b67_text.specs.declared.deck.Switch.{Switch}
 use Rattle.b67_text.specs.Answers.{Answer}
 use Rattle.b67_text.specs.Command as text
@@ -29,3 +29,9 @@ abbrev pub Says : Result command.Command Refused → Answer text.Command → Typ
 Says (Ok c) answer = answer ≡ Ok (command_of c)
 Says (Err (Reason r)) answer = answer ≡ Err r
 Says (Err Memory) answer = Unit {0}
+
+-- the card's text, or the reason of 1 and 2 why it is refused
+abbrev pub IsPlain : Result (List ℕ) Refused → List ℕ → Answer ⊤ → Type 0
+IsPlain (Ok kept) text answer = (answer ≡ Ok tt) × (kept ≡ text)
+IsPlain (Err (Reason r)) text answer = answer ≡ Err r
+IsPlain (Err Memory) text answer = ⊥

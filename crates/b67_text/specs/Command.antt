@@ -57,9 +57,12 @@ abbrev pub switch : List (List ℕ) → Option Command
 switch (count ∷ word ∷ []) = option_and_then (λ n. option_map (λ t. Switch n t.0 t.1) (target word)) (number_in 0 800000000 count)
 switch _ = None
 
-abbrev pub job_named : List (List ℕ) → Option Command
-job_named [] = None
-job_named (word ∷ more) = if is_empty more && is_name word then Some (Job word) else None
+abbrev pub job_named : List ℕ → Option Command
+job_named word = if is_name word then Some (Job word) else None
+
+abbrev pub job : List (List ℕ) → Option Command
+job [] = None
+job (word ∷ more) = if is_empty more then job_named word else None
 
 abbrev pub alone : Command → List (List ℕ) → Option Command
 alone command parameters = if is_empty parameters then Some command else None
@@ -70,7 +73,7 @@ says keywords.Stack parameters = option_map Stack (one_number 64 16383 parameter
 says keywords.Quantum parameters = option_map Quantum (one_number 1 1000000 parameters)
 says keywords.Halt parameters = option_map Halt (one_number 1 800000000 parameters)
 says keywords.Switch parameters = switch parameters
-says keywords.Job parameters = job_named parameters
+says keywords.Job parameters = job parameters
 says keywords.Limit parameters = option_map Limit (one_number 1 100000000 parameters)
 says keywords.Asm parameters = alone Asm parameters
 says keywords.Hex parameters = alone Hex parameters
