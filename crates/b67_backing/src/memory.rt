@@ -1,25 +1,54 @@
 //! Sectors in memory, some of whose calls fail.
 
-ghost use Rattle.std.specs.Prelude.{◌≡◌, ◌≤◌, ◌<◌, ◌^◌, length, IfOk, Some};
+ghost use Rattle.std.specs.Prelude.{◌≡◌, ◌↔◌, ◌≤◌, ◌<◌, ◌+◌, ◌^◌, ◌∷◌, ◌++◌, [], take, drop, min, length, IfOk, OnOk, OnErr, IsErr, IsTrue, Some, Contains, pos, ◌+ℤ◌};
+ghost use Rattle.std.specs.Int.{saturate_signed, w64};
+ghost use Rattle.b67_io.specs.Causes.{HasCause};
+ghost use Rattle.b67_backing.specs.Held.{Tells, Becomes, Changes, Counts, SameBut, Sets, sector};
 
 use crate::Backing;
 use crate::copies::zeros;
 use b67_word::{Failed, Numbers};
 use std::alloc::{AllocError, Global};
 
+/// Calls of one kind, and the numbers of those that fail, counted from 1.
+#[derive(Drop)]
+struct Plan {
+    fails: Numbers,
+    made: i64,
+}
+
+impl Plan {
+    /// Counts a call, and says whether it fails.
+    fn fails(&mut self) -> bool
+        ensures made { self.new.made ≡ saturate_signed w64 (self.old.made +ℤ pos 1) }
+        ensures same { self.new.fails ≡ self.old.fails }
+        ensures fails { IsTrue result ↔ Contains self.old.fails self.new.made }
+    {
+        self.made = self.made.saturating_add(1);
+        self.fails.as_slice().contains(&self.made)
+    }
+}
+
 /// Sectors in memory, with lists of the numbers of the reads and of the writes that fail, each counted from 1. A failing
 /// write stores the first 15 numbers.
 #[derive(Drop)]
 pub struct MemoryBacking {
     held: Vec<[u64; 30]>,
-    fail_reads: Numbers,
-    fail_writes: Numbers,
-    reads: i64,
-    writes: i64,
+    reads: Plan,
+    writes: Plan,
     calls: u64,
     faults: u64,
     ghost some: { 1 ≤ length held.items },
     ghost few: { length held.items < 2 ^ 20 },
+}
+
+/// The first 15 numbers of one sector, and the others of another.
+fn torn(old: &[u64; 30], new: &[u64; 30]) -> [u64; 30]
+    ensures { result ≡ take 15 new.now ++ drop 15 old.now }
+{
+    let mut sector = *old;
+    sector[..15].copy_from_slice(&new[..15]);
+    sector
 }
 
 impl MemoryBacking {
@@ -41,10 +70,14 @@ impl MemoryBacking {
     {
         Ok(MemoryBacking {
             held: zeros(alloc, sectors)?,
-            fail_reads,
-            fail_writes,
-            reads: 0,
-            writes: 0,
+            reads: Plan {
+                fails: fail_reads,
+                made: 0,
+            },
+            writes: Plan {
+                fails: fail_writes,
+                made: 0,
+            },
             calls: 0,
             faults: 0,
         })
@@ -75,8 +108,7 @@ impl Backing for MemoryBacking {
 
     fn read(&mut self, n: u32, into: &mut [u64; 30]) -> Result<(), Failed> {
         self.calls = self.calls.saturating_add(1);
-        self.reads = self.reads.saturating_add(1);
-        if self.fail_reads.as_slice().contains(&self.reads) {
+        if self.reads.fails() {
             self.faults = self.faults.saturating_add(1);
             return Err(Failed);
         }
@@ -86,14 +118,9 @@ impl Backing for MemoryBacking {
 
     fn write(&mut self, n: u32, from: &[u64; 30]) -> Result<(), Failed> {
         self.calls = self.calls.saturating_add(1);
-        self.writes = self.writes.saturating_add(1);
-        if self.fail_writes.as_slice().contains(&self.writes) {
+        if self.writes.fails() {
             self.faults = self.faults.saturating_add(1);
-            let mut torn = self.held[n as usize - 1];
-            for i in 0..15usize {
-                torn[i] = from[i];
-            }
-            self.held[n as usize - 1] = torn;
+            self.held[n as usize - 1] = torn(&self.held[n as usize - 1], from);
             return Err(Failed);
         }
         self.held[n as usize - 1] = *from;
