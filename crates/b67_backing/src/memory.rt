@@ -1,6 +1,6 @@
 //! Sectors in memory, some of whose calls fail.
 
-ghost use Rattle.std.specs.Prelude.{◌≡◌, ◌↔◌, ◌≤◌, ◌<◌, ◌+◌, ◌^◌, ◌∷◌, ◌++◌, [], take, drop, min, length, IfOk, OnOk, OnErr, IsErr, IsTrue, Some, Contains, pos, ◌+ℤ◌};
+ghost use Rattle.std.specs.Prelude.{List, ℕ, ◌≡◌, ◌↔◌, ◌≤◌, ◌<◌, ◌+◌, ◌^◌, ◌∷◌, ◌++◌, [], take, drop, min, length, IfOk, OnOk, OnErr, IsErr, IsTrue, Some, Contains, pos, ◌+ℤ◌};
 ghost use Rattle.std.specs.Int.{saturate_signed, w64};
 ghost use Rattle.b67_io.specs.Causes.{HasCause};
 ghost use Rattle.b67_backing.specs.Held.{Tells, Becomes, Changes, Counts, SameBut, Sets, sector};
@@ -52,7 +52,7 @@ fn torn(old: &[u64; 30], new: &[u64; 30]) -> [u64; 30]
 }
 
 impl MemoryBacking {
-    ghost use Rattle.b67_backing.specs.Memory.{memory_sectors};
+    ghost use Rattle.b67_backing.specs.Memory.{memory_sectors, failing_reads, failing_writes, reads_made, writes_made};
     ghost use Rattle.b67_backing.specs.Held.{blank};
 
     /// Sectors of zeros.
@@ -65,6 +65,8 @@ impl MemoryBacking {
         requires low { 1 ≤ sectors }
         requires high { sectors < 2 ^ 20 }
         ensures zeros { IfOk result (λ b. memory_sectors b ≡ blank sectors) }
+        ensures lists { IfOk result (λ b. (failing_reads b ≡ fail_reads) × (failing_writes b ≡ fail_writes)) }
+        ensures made { IfOk result (λ b. (reads_made b ≡ pos 0) × (writes_made b ≡ pos 0)) }
         ensures calls { IfOk result (λ b. b.calls ≡ 0) }
         ensures faults { IfOk result (λ b. b.faults ≡ 0) }
     {
@@ -92,21 +94,33 @@ impl MemoryBacking {
 }
 
 impl Backing for MemoryBacking {
-    ghost use Rattle.b67_backing.specs.Memory.{memory_sectors};
+    ghost use Rattle.b67_backing.specs.Memory.{memory_sectors, memory_told, memory_faults, memory_calls, failing_reads, failing_writes, reads_made, writes_made};
 
-    ghost holds = { λ b. Some (memory_sectors b) };
+    ghost holds = { memory_told };
 
     ghost size = { λ b. length (memory_sectors b) };
 
-    ghost faults = { λ b. b.faults };
+    ghost faults = { memory_faults };
 
-    ghost calls = { λ b. b.calls };
+    ghost calls = { memory_calls };
 
     fn sectors(&self) -> u32 {
         self.held.len() as u32
     }
 
-    fn read(&mut self, n: u32, into: &mut [u64; 30]) -> Result<(), Failed> {
+    fn read(&mut self, n: u32, into: &mut [u64; 30]) -> Result<(), Failed>
+        requires low { 1 ≤ n }
+        requires high { n ≤ length (memory_sectors self.old) }
+        ensures fails { IsErr result ↔ Contains (failing_reads self.old) (reads_made self.new) }
+        ensures made { reads_made self.new ≡ saturate_signed w64 (reads_made self.old +ℤ pos 1) }
+        ensures writes { writes_made self.new ≡ writes_made self.old }
+        ensures lists { (failing_reads self.new ≡ failing_reads self.old) × (failing_writes self.new ≡ failing_writes self.old) }
+        ensures gives { OnOk result (Tells memory_told self.old (λ all. sector all n ≡ Some into.new)) }
+        ensures same { Becomes memory_told self.old self.new (λ all. all) }
+        ensures size { length (memory_sectors self.new) ≡ length (memory_sectors self.old) }
+        ensures calls { Counts memory_calls self.old self.new }
+        ensures cause { HasCause memory_faults self.old self.new result }
+    {
         self.calls = self.calls.saturating_add(1);
         if self.reads.fails() {
             self.faults = self.faults.saturating_add(1);
@@ -116,7 +130,21 @@ impl Backing for MemoryBacking {
         Ok(())
     }
 
-    fn write(&mut self, n: u32, from: &[u64; 30]) -> Result<(), Failed> {
+    fn write(&mut self, n: u32, from: &[u64; 30]) -> Result<(), Failed>
+        requires low { 1 ≤ n }
+        requires high { n ≤ length (memory_sectors self.old) }
+        ensures fails { IsErr result ↔ Contains (failing_writes self.old) (writes_made self.new) }
+        ensures half { OnErr result ((old : List ℕ) → sector (memory_sectors self.old) n ≡ Some old
+            → sector (memory_sectors self.new) n ≡ Some (take 15 from.now ++ drop 15 old)) }
+        ensures made { writes_made self.new ≡ saturate_signed w64 (writes_made self.old +ℤ pos 1) }
+        ensures reads { reads_made self.new ≡ reads_made self.old }
+        ensures lists { (failing_reads self.new ≡ failing_reads self.old) × (failing_writes self.new ≡ failing_writes self.old) }
+        ensures sets { OnOk result (Changes memory_told self.old self.new (Sets n from.now)) }
+        ensures leaves { OnErr result (Changes memory_told self.old self.new (SameBut (n ∷ []))) }
+        ensures size { length (memory_sectors self.new) ≡ length (memory_sectors self.old) }
+        ensures calls { Counts memory_calls self.old self.new }
+        ensures cause { HasCause memory_faults self.old self.new result }
+    {
         self.calls = self.calls.saturating_add(1);
         if self.writes.fails() {
             self.faults = self.faults.saturating_add(1);
