@@ -1,5 +1,5 @@
 -- Identities only grow: a law of all rows, by one rule for each way in which rows are made.
-use Rattle.std.proofs.Common.{subst, ◌≡◌, ℕ, ◌+◌, ◌≤◌, Bool, true, false, ℤ, pos, negsuc, List, [], ◌∷◌, reverse, Option, Some, None, Ok, Err, refl, arith, cond}
+use Rattle.std.proofs.Common.{subst, ◌≡◌, ℕ, ◌+◌, Bool, true, false, ℤ, pos, negsuc, List, [], ◌∷◌, reverse, Option, Some, None, Ok, Err, refl, arith, cond}
 use Rattle.b67_word.specs.declared.faults.Fault.{Fault}
 use Rattle.b67_word.specs.declared.faults.Ending.{Ending}
 use Rattle.b67_word.specs.declared.faults.Ending.TheVariants.{Ended, Faulted}
@@ -16,7 +16,7 @@ use Rattle.b67_model.specs.Steps.{Line, Done, Goes, Leaves, Waits, top_of, cells
 use Rattle.b67_model.specs.Entry.{mkst, accident, evaluates, enters, left, leaves, exit, returnable, returned, retn_word}
 use Rattle.b67_model.specs.Intrinsics.{answers, arraydec, print, printrow, read, starts, process, awaits, await, status, waits_at, wait, causes, cause, intrinsic}
 use Rattle.b67_model.specs.Rows.{CellRow, on_cells, branch_if, valc, load_at, load, indx, nxlv, store_at, store, entr_at, entr_with, entr, plain, row}
-use Rattle.b67_model.specs.Rows.{code_of, reading_of, step_by, step}
+use Rattle.b67_model.specs.Rows.{reading_of, step_by, step}
 use Rattle.b67_model.specs.Operators.{Reading}
 use Rattle.b67_model.specs.Keyed.{keyed}
 use Rattle.b67_model.specs.Endings.{Settled, ends_all, ends_task, ends_each_if, unsettled, settles, stepped}

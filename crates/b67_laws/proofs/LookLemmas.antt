@@ -1,10 +1,10 @@
 -- Look-ups of frames across all tasks after a change of one task's top frame.
-use Rattle.std.proofs.Common.{◌≡◌, ◌≢◌, ℕ, List, [], ◌∷◌, flat_map, unwrap_or, Some, refl, sym, ap, ◌∙◌, inl, inr}
+use Rattle.std.proofs.Common.{◌≡◌, ◌≢◌, ℕ, List, [], ◌∷◌, flat_map, unwrap_or, refl, sym, ap, ◌∙◌, inl, inr}
 use Rattle.std.specs.Option.{option_or}
 use Rattle.std.proofs.lemmas.Bool.Decides.{eqb_tells}
 use Rattle.b67_model.specs.Keyed.{keyed, change_keyed}
 use Rattle.b67_model.specs.Words.{Word}
-use Rattle.b67_model.specs.State.{Frame, Task, Here, mcp, no_frame, frame, top, with_top_cells, with_task}
+use Rattle.b67_model.specs.State.{Frame, Task, mcp, no_frame, top, with_top_cells}
 use Rattle.b67_model.specs.Steps.{with_cells}
 use Rattle.b67_laws.specs.Looks.{OthersLookTheSame}
 use Rattle.b67_laws.proofs.KeyedLemmas.{keyed-append, keyed-flat_map-change}

@@ -1,12 +1,12 @@
 -- Frames that stand where they stood.
-use Rattle.std.proofs.Common.{◌≡◌, ◌≢◌, ℕ, ◌+◌, true, false, cond, eqb, List, [], ◌∷◌, Option, Some, None, refl, sym, ap, ◌∙◌, subst, inl, inr}
+use Rattle.std.proofs.Common.{◌≡◌, ◌≢◌, ℕ, List, [], ◌∷◌, Some, refl, sym, ap, ◌∙◌, inl, inr}
 use Rattle.std.specs.Option.{option_or}
 use Rattle.std.proofs.lemmas.Bool.Decides.{eqb_tells}
 use Rattle.b67_model.specs.Keyed.{keyed, change_keyed}
 use Rattle.b67_model.specs.Words.{Word}
-use Rattle.b67_model.specs.State.{Frame, Standing, Task, Here, height, with_top_cells}
-use Rattle.b67_model.specs.Steps.{with_frames, with_cells}
-use Rattle.b67_laws.specs.Places.{place_in, place_among, Runs, CellsMoveNone, MarksMoveNone, EntriesMoveNone, LeavingMovesNone}
+use Rattle.b67_model.specs.State.{Frame, Task, with_top_cells}
+use Rattle.b67_model.specs.Steps.{with_cells}
+use Rattle.b67_laws.specs.Places.{place_in, place_among, CellsMoveNone, MarksMoveNone, EntriesMoveNone, LeavingMovesNone}
 
 -- a change of one task's stack that its own frames don't tell
 among_stays : (base : ℕ → ℕ) (old : Task) (frames : List Frame) (n : ℕ) → place_in (base old.number) frames n ≡ place_in (base old.number) old.frames n →

@@ -2,7 +2,7 @@
 use Rattle.std.specs.Prelude.{◌≡◌, ◌≢◌, ℕ, List, Some}
 use Rattle.b67_model.specs.Keyed.{keyed}
 use Rattle.b67_model.specs.Words.{Word}
-use Rattle.b67_model.specs.State.{Task, Here, frame, top, with_task}
+use Rattle.b67_model.specs.State.{Here, frame, top, with_task}
 use Rattle.b67_model.specs.Steps.{with_cells}
 
 -- with other cells in the running task's top frame

@@ -3,7 +3,7 @@ use Rattle.std.specs.Prelude.{◌≡◌, ◌≢◌, ℕ, ◌+◌, ◌==◌, List
 use Rattle.std.specs.Option.{option_or}
 use Rattle.b67_model.specs.Keyed.{keyed}
 use Rattle.b67_model.specs.Words.{Word}
-use Rattle.b67_model.specs.State.{Frame, Standing, Task, Here, height, with_top_cells, with_task}
+use Rattle.b67_model.specs.State.{Frame, Standing, Task, Here, height, with_task}
 use Rattle.b67_model.specs.Steps.{with_frames, with_cells}
 
 -- where a frame's mark stands in a stack from this address up: as many words up as stand under it
