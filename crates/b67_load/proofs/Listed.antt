@@ -1,0 +1,84 @@
+-- A listing, read one operator after the other.
+use Rattle.std.proofs.Common.{◌≡◌, ℕ, zero, suc, ◌+◌, ◌-◌, ◌*◌, ◌<◌, ◌≤◌, List, [], ◌∷◌, ◌++◌, length, Result, Ok, Err, refl, sym, ap, subst, ◌∙◌, append_assoc, arith}
+use Rattle.std.specs.List.{AllByRecursion}
+use Rattle.std.proofs.lemmas.List.{append-nil}
+use Rattle.b67_word.specs.declared.couples.Place.{Place}
+use Rattle.b67_model.specs.declared.operators.Op.{Op}
+use Rattle.b67_model.specs.declared.operators.Undecodable.{Undecodable}
+use Rattle.b67_model.specs.declared.operators.Undecodable.TheVariants.{BadPlace, NotAdmitted, PastEnd}
+use Rattle.b67_model.specs.Operators.{Reading, count_at, operator_at}
+use Rattle.b67_model.specs.Loader.{Entry, At, Break, entries_from, origin, listing}
+use Rattle.b67_load.specs.Listing.{entry_at, CouplesFit, IsInside}
+use Rattle.b67_load.proofs.Operator.{IsPlaceIn, operator_at-inside, operator_at-is}
+
+-- what was read before a place, with what is read from there on, is the listing
+pub record Reads (code : List ℕ) (at : Place) (entries : List Entry) : Type 0 where
+  pub steps : ℕ
+  pub enough : 6 * length code ≤ count_at at + steps
+  pub so_far : entries ++ entries_from steps code at (operator_at code at) ≡ listing code
+
+pub begins : (code : List ℕ) → Reads code origin []
+begins code = record { steps = 6 * length code; enough = omega arith; so_far = refl }
+
+inside-count : (code : List ℕ) (at : Place) → IsPlaceIn code at → count_at at < 6 * length code
+inside-count code at h = omega (arith, h.word, h.syllable)
+
+pub goes_on : (code : List ℕ) (at : Place) (entries : List Entry) (op : Op) (next : Place) → operator_at code at ≡ Ok (op, next) → Reads code at entries → Reads code next (entries ++ At at op ∷ [])
+goes_on code at entries op next e r = at_step r.steps r.enough r.so_far
+  where
+    inside : IsPlaceIn code at
+    inside = operator_at-inside code at (Ok (op, next)) (λ x. absurd cc) e
+    at_step : (n : ℕ) → 6 * length code ≤ count_at at + n → entries ++ entries_from n code at (operator_at code at) ≡ listing code → Reads code next (entries ++ At at op ∷ [])
+    at_step zero enough so_far = absurd (omega (arith, inside-count code at inside))
+    at_step (suc n) enough so_far =
+        let is = operator_at-is code at (op, next) e in
+        let one : entries ++ entries_from (suc n) code at (operator_at code at) ≡ (entries ++ At at op ∷ []) ++ entries_from n code next (operator_at code next) = rw e (sym (append_assoc entries (At at op ∷ []) (entries_from n code next (operator_at code next)))) in
+        record { steps = n; enough = omega (arith, is.after); so_far = sym one ∙ so_far }
+
+pub ends : (code : List ℕ) (at : Place) (entries : List Entry) → operator_at code at ≡ Err BadPlace → Reads code at entries → entries ≡ listing code
+ends code at entries e r = sym (rw e (nothing r.steps)) ∙ r.so_far
+  where
+    nothing : (n : ℕ) → entries ++ entries_from n code at (Err BadPlace) ≡ entries
+    nothing zero = append-nil entries
+    nothing (suc n) = append-nil entries
+
+pub breaks : (code : List ℕ) (at : Place) (entries : List Entry) (why : Undecodable) → (why ≡ BadPlace → ⊥) → operator_at code at ≡ Err why → Reads code at entries → entries ++ Break at why ∷ [] ≡ listing code
+breaks code at entries why other e r = sym (rw e (last r.steps why r.enough other)) ∙ r.so_far
+  where
+    inside : IsPlaceIn code at
+    inside = operator_at-inside code at (Err why) (λ x. other cc) e
+    last : (n : ℕ) (why : Undecodable) → 6 * length code ≤ count_at at + n → (why ≡ BadPlace → ⊥) → entries ++ entries_from n code at (Err why) ≡ entries ++ Break at why ∷ []
+    last zero why enough other = absurd (omega (arith, inside-count code at inside))
+    last (suc n) BadPlace enough other = absurd (other refl)
+    last (suc n) NotAdmitted enough other = refl
+    last (suc n) PastEnd enough other = refl
+
+-- each entry stands inside the code, and its couple has 14 bits
+pub record IsRead (code : List ℕ) (e : Entry) : Type 0 where
+  pub inside : IsInside (length code) e
+  pub couples : CouplesFit e
+
+is_read : (code : List ℕ) (at : Place) (read : Result Op Undecodable) → IsPlaceIn code at → CouplesFit (entry_at at read) → IsRead code (entry_at at read)
+is_read code at (Ok op) inside couples = record { inside = record { word = inside.word; syllable = inside.syllable }; couples = couples }
+is_read code at (Err why) inside couples = record { inside = record { word = inside.word; syllable = inside.syllable }; couples = couples }
+
+entries_from-read : (n : ℕ) (code : List ℕ) (at : Place) (read : Reading) → operator_at code at ≡ read → AllByRecursion (IsRead code) (entries_from n code at read)
+entries_from-read zero code at read e = tt
+entries_from-read (suc n) code at (Err BadPlace) e = tt
+entries_from-read (suc n) code at (Err NotAdmitted) e = (is_read code at (Err NotAdmitted) (operator_at-inside code at _ (λ x. absurd cc) e) tt, tt)
+entries_from-read (suc n) code at (Err PastEnd) e = (is_read code at (Err PastEnd) (operator_at-inside code at _ (λ x. absurd cc) e) tt, tt)
+entries_from-read (suc n) code at (Ok read) e =
+    (is_read code at (Ok read.0) (operator_at-inside code at _ (λ x. absurd cc) e) (operator_at-is code at read e).couple, entries_from-read n code read.1 (operator_at code read.1) refl)
+
+pub listing-read : (code : List ℕ) → AllByRecursion (IsRead code) (listing code)
+listing-read code = entries_from-read (6 * length code) code origin (operator_at code origin) refl
+
+all_weaker : {X : Type 0} (P Q : X → Type 0) → ((x : X) → P x → Q x) → (xs : List X) → AllByRecursion P xs → AllByRecursion Q xs
+all_weaker P Q f [] h = tt
+all_weaker P Q f (x ∷ xs) h = (f x h.0, all_weaker P Q f xs h.1)
+
+pub listing-inside : (code : List ℕ) (entries : List Entry) → entries ≡ listing code → AllByRecursion (IsInside (length code)) entries
+listing-inside code entries e = subst (AllByRecursion (IsInside (length code))) (sym e) (all_weaker (IsRead code) (IsInside (length code)) (λ x h. h.inside) (listing code) (listing-read code))
+
+pub listing-couples : (code : List ℕ) (entries : List Entry) → entries ≡ listing code → AllByRecursion CouplesFit entries
+listing-couples code entries e = subst (AllByRecursion CouplesFit) (sym e) (all_weaker (IsRead code) CouplesFit (λ x h. h.couples) (listing code) (listing-read code))
