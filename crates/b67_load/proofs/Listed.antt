@@ -1,24 +1,26 @@
 -- A listing, read one operator after the other.
-use Rattle.std.proofs.Common.{◌≡◌, ℕ, zero, suc, ◌+◌, ◌-◌, ◌*◌, ◌<◌, ◌≤◌, List, [], ◌∷◌, ◌++◌, length, Result, Ok, Err, refl, sym, ap, subst, ◌∙◌, append_assoc, arith}
+use Rattle.std.proofs.Common.{◌≡◌, ℕ, zero, suc, ◌+◌, ◌-◌, ◌*◌, ◌<◌, ◌≤◌, List, [], ◌∷◌, ◌++◌, length, lit<, Result, Ok, Err, refl, sym, ap, subst, ◌∙◌, append_assoc, arith}
 use Rattle.std.specs.List.{AllByRecursion}
-use Rattle.std.proofs.lemmas.List.{append-nil}
+use Rattle.std.proofs.lemmas.List.{append-nil, length-map}
 use Rattle.b67_word.specs.declared.couples.Place.{Place}
+use Rattle.b67_word.specs.Tagged.{Tagged, contents}
 use Rattle.b67_model.specs.declared.operators.Op.{Op}
 use Rattle.b67_model.specs.declared.operators.Undecodable.{Undecodable}
 use Rattle.b67_model.specs.declared.operators.Undecodable.TheVariants.{BadPlace, NotAdmitted, PastEnd}
 use Rattle.b67_model.specs.Operators.{Reading, count_at, operator_at}
 use Rattle.b67_model.specs.Loader.{Entry, At, Break, entries_from, origin, listing}
 use Rattle.b67_load.specs.Listing.{entry_at, CouplesFit, IsInside}
-use Rattle.b67_load.proofs.Operator.{IsPlaceIn, operator_at-inside, operator_at-is}
+use Rattle.b67_load.proofs.Operator.{IsPlaceIn, operator_at-inside, operator_at-is, operator_at-reads, operator_at-outside}
 
 -- what was read before a place, with what is read from there on, is the listing
 pub record Reads (code : List ℕ) (at : Place) (entries : List Entry) : Type 0 where
+  pub syllable : at.syllable < 6
   pub steps : ℕ
   pub enough : 6 * length code ≤ count_at at + steps
   pub so_far : entries ++ entries_from steps code at (operator_at code at) ≡ listing code
 
 pub begins : (code : List ℕ) → Reads code origin []
-begins code = record { steps = 6 * length code; enough = omega arith; so_far = refl }
+begins code = record { syllable = lit< tt; steps = 6 * length code; enough = omega arith; so_far = refl }
 
 inside-count : (code : List ℕ) (at : Place) → IsPlaceIn code at → count_at at < 6 * length code
 inside-count code at h = omega (arith, h.word, h.syllable)
@@ -33,20 +35,20 @@ goes_on code at entries op next e r = at_step r.steps r.enough r.so_far
     at_step (suc n) enough so_far =
         let is = operator_at-is code at (op, next) e in
         let one : entries ++ entries_from (suc n) code at (operator_at code at) ≡ (entries ++ At at op ∷ []) ++ entries_from n code next (operator_at code next) = rw e (sym (append_assoc entries (At at op ∷ []) (entries_from n code next (operator_at code next)))) in
-        record { steps = n; enough = omega (arith, is.after); so_far = sym one ∙ so_far }
+        record { syllable = is.syllable; steps = n; enough = omega (arith, is.after); so_far = sym one ∙ so_far }
 
-pub ends : (code : List ℕ) (at : Place) (entries : List Entry) → operator_at code at ≡ Err BadPlace → Reads code at entries → entries ≡ listing code
-ends code at entries e r = sym (rw e (nothing r.steps)) ∙ r.so_far
+pub ends : (code : List ℕ) (at : Place) (entries : List Entry) → length code ≤ at.word → Reads code at entries → entries ≡ listing code
+ends code at entries le r = sym (rw (operator_at-outside code at le) (nothing r.steps)) ∙ r.so_far
   where
     nothing : (n : ℕ) → entries ++ entries_from n code at (Err BadPlace) ≡ entries
     nothing zero = append-nil entries
     nothing (suc n) = append-nil entries
 
-pub breaks : (code : List ℕ) (at : Place) (entries : List Entry) (why : Undecodable) → (why ≡ BadPlace → ⊥) → operator_at code at ≡ Err why → Reads code at entries → entries ++ Break at why ∷ [] ≡ listing code
-breaks code at entries why other e r = sym (rw e (last r.steps why r.enough other)) ∙ r.so_far
+pub breaks : (code : List ℕ) (at : Place) (entries : List Entry) (why : Undecodable) → at.word < length code → operator_at code at ≡ Err why → Reads code at entries → entries ++ Break at why ∷ [] ≡ listing code
+breaks code at entries why lt e r = sym (rw e (last r.steps why r.enough (operator_at-reads code at why inside e))) ∙ r.so_far
   where
     inside : IsPlaceIn code at
-    inside = operator_at-inside code at (Err why) (λ x. other cc) e
+    inside = record { word = lt; syllable = r.syllable }
     last : (n : ℕ) (why : Undecodable) → 6 * length code ≤ count_at at + n → (why ≡ BadPlace → ⊥) → entries ++ entries_from n code at (Err why) ≡ entries ++ Break at why ∷ []
     last zero why enough other = absurd (omega (arith, inside-count code at inside))
     last (suc n) BadPlace enough other = absurd (other refl)
@@ -77,8 +79,20 @@ all_weaker : {X : Type 0} (P Q : X → Type 0) → ((x : X) → P x → Q x) →
 all_weaker P Q f [] h = tt
 all_weaker P Q f (x ∷ xs) h = (f x h.0, all_weaker P Q f xs h.1)
 
-pub listing-inside : (code : List ℕ) (entries : List Entry) → entries ≡ listing code → AllByRecursion (IsInside (length code)) entries
+listing-inside : (code : List ℕ) (entries : List Entry) → entries ≡ listing code → AllByRecursion (IsInside (length code)) entries
 listing-inside code entries e = subst (AllByRecursion (IsInside (length code))) (sym e) (all_weaker (IsRead code) (IsInside (length code)) (λ x h. h.inside) (listing code) (listing-read code))
 
 pub listing-couples : (code : List ℕ) (entries : List Entry) → entries ≡ listing code → AllByRecursion CouplesFit entries
 listing-couples code entries e = subst (AllByRecursion CouplesFit) (sym e) (all_weaker (IsRead code) CouplesFit (λ x h. h.couples) (listing code) (listing-read code))
+
+-- ---- of a segment's words
+
+pub words-smaller : (code : List Tagged) (at : Place) (op : Op) (next : Place) → operator_at (contents code) at ≡ Ok (op, next) → 6 * length code - count_at next < 6 * length code - count_at at
+words-smaller code at op next e =
+    let is = operator_at-is (contents code) at (op, next) e in
+    let inside = inside-count (contents code) at (operator_at-inside (contents code) at (Ok (op, next)) (λ x. absurd cc) e) in
+    let len : length (contents code) ≡ length code = length-map code (λ w. w.bits) in
+    omega (arith, is.after, inside, len)
+
+pub words-inside : (code : List Tagged) (entries : List Entry) → entries ≡ listing (contents code) → AllByRecursion (IsInside (length code)) entries
+words-inside code entries e = subst (λ (n : ℕ). AllByRecursion (IsInside n) entries) (length-map code (λ w. w.bits)) (listing-inside (contents code) entries e)

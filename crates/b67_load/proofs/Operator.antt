@@ -1,7 +1,7 @@
 -- What is known of an operator that was read.
 use Rattle.std.proofs.Common.{◌≡◌, ℕ, ◌+◌, ◌-◌, ◌*◌, ◌/◌, ◌%◌, ◌^◌, ◌<◌, ◌≤◌, Bool, true, false, cond, ltb, leb, eqb, ◌&&◌, List, [], ◌∷◌, length, Option, Some, None, Result, Ok, Err, refl, sym, ap, subst, ◌∙◌, arith, inl, inr}
 use Rattle.std.specs.List.{AllByRecursion}
-use Rattle.std.proofs.lemmas.Bool.{ltb-true}
+use Rattle.std.proofs.lemmas.Bool.{ltb-true, lt-ltb, le-ltb}
 use Rattle.b67_word.specs.declared.couples.Place.{Place}
 use Rattle.b67_model.specs.declared.operators.Op.{Op}
 use Rattle.b67_model.specs.declared.operators.Op.TheVariants as op
@@ -30,12 +30,13 @@ count_at-place_at n = omega arith
 pub record Ends (code : List ℕ) (n : ℕ) (op : Op) (read : Op × Place) : Type 0 where
   pub is : read.0 ≡ op
   pub after : n < count_at read.1
+  pub syllable : read.1.syllable < 6
 
 ends_at-is : (code : List ℕ) (n end : ℕ) (op : Op) (read : Op × Place) → n < end → ends_at code end op ≡ Ok read → Ends code n op read
 ends_at-is code n end op read lt e =
     let t = test_ok (leb end (6 * length code)) PastEnd (done (op, place_at end)) read e in
     let same : (op, place_at end) ≡ read = ok_is (op, place_at end) read t.1 in
-    subst (λ (r : Op × Place). Ends code n op r) same (record { is = refl; after = rw (count_at-place_at end) lt })
+    subst (λ (r : Op × Place). Ends code n op r) same (record { is = refl; after = rw (count_at-place_at end) lt; syllable = omega arith })
 
 -- ---- couples have 14 bits
 
@@ -76,10 +77,11 @@ form_of-fits first = valc (ltb first 0x40) refl
 -- what stands behind syllable n was read there, and its couple has 14 bits
 pub record IsOperator (n : ℕ) (read : Op × Place) : Type 0 where
   pub after : n < count_at read.1
+  pub syllable : read.1.syllable < 6
   pub couple : CoupleFits read.0
 
 fits : (code : List ℕ) (n : ℕ) (op : Op) (read : Op × Place) → CoupleFits op → Ends code n op read → IsOperator n read
-fits code n op read h e = record { after = e.after; couple = subst CoupleFits (sym e.is) h }
+fits code n op read h e = record { after = e.after; syllable = e.syllable; couple = subst CoupleFits (sym e.is) h }
 
 reads-is : (code : List ℕ) (n : ℕ) (form : Option Form) (read : Op × Place) → AnyFits form → reads code n form ≡ Ok read → IsOperator n read
 reads-is code n None read h e = absurd cc
@@ -109,3 +111,34 @@ pub operator_at-is : (code : List ℕ) (at : Place) (read : Op × Place) → ope
 operator_at-is code at read e =
     let t = test_ok (ltb at.syllable 6 && ltb at.word (length code)) BadPlace (reads code (count_at at) (form_of (syllable code (count_at at)))) read e in
     reads-is code (count_at at) (form_of (syllable code (count_at at))) read (form_of-fits (syllable code (count_at at))) t.1
+
+-- inside the code something is read, or else an operator is not admitted or runs past the end
+ends_at-reads : (code : List ℕ) (end : ℕ) (op : Op) → ends_at code end op ≡ Err BadPlace → ⊥
+ends_at-reads code end op e = at_test (leb end (6 * length code)) e
+  where
+    at_test : (b : Bool) → cond b (done (op, place_at end)) (Err PastEnd) ≡ Err BadPlace → ⊥
+    at_test true e = cc
+    at_test false e = cc
+
+reads-inside : (code : List ℕ) (n : ℕ) (form : Option Form) → reads code n form ≡ Err BadPlace → ⊥
+reads-inside code n None e = cc
+reads-inside code n (Some (Alone op)) e = ends_at-reads code _ _ e
+reads-inside code n (Some (OneMore op)) e = ends_at-reads code _ _ e
+reads-inside code n (Some (TwoMore op)) e = ends_at-reads code _ _ e
+reads-inside code n (Some (Literal op)) e = ends_at-reads code _ _ e
+
+pub operator_at-reads : (code : List ℕ) (at : Place) (why : Undecodable) → IsPlaceIn code at → operator_at code at ≡ Err why → why ≡ BadPlace → ⊥
+operator_at-reads code at why inside e bad =
+    let w : ltb at.word (length code) ≡ true = lt-ltb _ _ inside.word in
+    let s : ltb at.syllable 6 ≡ true = lt-ltb _ _ inside.syllable in
+    reads-inside code (count_at at) (form_of (syllable code (count_at at))) (sym (rw (s, w) refl) ∙ e ∙ ap (λ (x : Undecodable). nothing x) bad)
+  where
+    nothing : Undecodable → Reading
+    nothing x = Err x
+
+pub operator_at-outside : (code : List ℕ) (at : Place) → length code ≤ at.word → operator_at code at ≡ Err BadPlace
+operator_at-outside code at le = rw (le-ltb at.word (length code) le, and_false (ltb at.syllable 6)) refl
+  where
+    and_false : (b : Bool) → (b && false) ≡ false
+    and_false true = refl
+    and_false false = refl

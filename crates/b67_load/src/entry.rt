@@ -7,8 +7,7 @@ ghost use Rattle.b67_model.specs.Operators.{count_at};
 ghost use Rattle.b67_model.specs.Loader.{listing, same_place};
 ghost use Rattle.b67_load.specs.Listing.{seen, IsInside, Marks};
 
-use crate::decode::decode;
-use b67_model::{Op, Undecodable};
+use b67_syllable::{Op, Undecodable, decode};
 use b67_word::{Place, Word};
 use std::alloc::{AllocError, Global};
 
@@ -45,7 +44,7 @@ pub(crate) fn entries_of(alloc: Global, code: &[Word]) -> Result<Vec<Entry>, All
 {
     let mut entries = Vec::new(alloc);
     let mut at = ORIGIN;
-    'entries: loop {
+    'entries: while usize::from(at.word) < code.len() {
         match decode(code, at) {
             Ok((op, next)) => {
                 entries.push(Entry {
@@ -54,7 +53,6 @@ pub(crate) fn entries_of(alloc: Global, code: &[Word]) -> Result<Vec<Entry>, All
                 })?;
                 at = next;
             }
-            Err(Undecodable::BadPlace) => return Ok(entries),
             Err(why) => {
                 entries.push(Entry {
                     place: at,
@@ -64,6 +62,7 @@ pub(crate) fn entries_of(alloc: Global, code: &[Word]) -> Result<Vec<Entry>, All
             }
         }
     }
+    Ok(entries)
 }
 
 /// For each syllable of a segment of this many words whether an entry stands there.

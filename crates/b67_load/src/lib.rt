@@ -2,7 +2,6 @@
 #![tactic(auto)]
 
 mod admitted;
-mod decode;
 mod entry;
 mod fault;
 mod listing;

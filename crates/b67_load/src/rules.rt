@@ -12,7 +12,7 @@ ghost use Rattle.b67_codefile.specs.declared.file.Codefile.{Codefile};
 use crate::entry::{Entry, ORIGIN, same_place};
 use crate::listing::Listing;
 use b67_codefile::{Codefile, Segment};
-use b67_model::{Code, Op, Undecodable};
+use b67_syllable::{Code, Op, Undecodable};
 use b67_word::{Place, couple_of};
 
 /// The place to which an operator branches.

@@ -1,15 +1,9 @@
-use Rattle.std.proofs.Common.{rules, ◌≡◌, ◌+◌, ◌*◌, ◌<◌, ◌≤◌, map, length, IfOk, ℕ, ◌-◌, ◌/◌, ◌%◌, Bool, true, false, nat_eq, nat_lt, List, [], ◌∷◌, ◌++◌, slice_index_or, slice_set, bit_and, bit_or, Fits, w8, w32, w64, Bor, MutBor}
-use Rattle.std.specs.List.{AllByRecursion}
-use Rattle.b67_word.specs.Tagged.{contents}
-use Rattle.b67_model.specs.Operators.{count_at}
-use Rattle.b67_model.specs.Loader.{listing, same_place}
-use Rattle.b67_load.specs.Listing.{seen, IsInside, Marks}
+use Rattle.std.proofs.Common.{arith}
+use Rattle.b67_load.proofs.Starts.{marked-more, mark-within}
 use Rattle.b67_load.proofs.entry.starts_of.Goals as goal
 
--- src/entry.rt:81:9
 pub index_mut-requires : goal.index_mut-requires
-index_mut-requires c = ?
+index_mut-requires c = mark-within c.args.words c.args.entries.now c.entries.entry-index _ _ _ c.entries-test.true c.requires.inside (omega (arith, c.entries.invariant.room, c.entries.starts.ok.0)) c.count_at.ensures
 
--- src/entry.rt:80:5
 pub entries-preserved : goal.entries-preserved
-entries-preserved c = ?
+entries-preserved c = rw c.count_at.ensures (marked-more c.args.words _ c.args.entries.now c.entries.entry-index _ c.entries-test.true c.requires.inside c.entries.invariant)

@@ -1,27 +1,22 @@
-use Rattle.std.proofs.Common.{rules, ◌≡◌, ◌≤◌, length, IfOk, ℕ, ◌+◌, ◌-◌, ◌*◌, ◌<◌, ◌/◌, ◌%◌, Bool, true, false, nat_eq, nat_lt, List, [], ◌∷◌, ◌++◌, slice_index_or, slice_set, bit_and, bit_or, Fits, w8, w32, w64, Bor, MutBor}
-use Rattle.b67_word.specs.Tagged.{contents}
-use Rattle.b67_model.specs.Loader.{listing, refusals, refusals_of}
-use Rattle.b67_codefile.specs.Spelling.{IsWithin}
-use Rattle.b67_codefile.specs.Meaning.{program_of}
-use Rattle.b67_load.specs.Broken.{listed, Finds}
+use Rattle.std.proofs.Common.{◌≡◌, ◌+◌, length, sym, ap, ◌∙◌, refl, arith}
+use Rattle.std.proofs.lemmas.Result.{err_from_is_err_and}
+use Rattle.b67_load.proofs.FirstRefusal.{segments-begin, segments-go_on, segments-refuse, segments-done}
 use Rattle.b67_load.proofs.refusing.check.Goals as goal
 
--- src/refusing.rt:64:5
 pub segments-init : goal.segments-init
-segments-init c = ?
+segments-init c = (refl, rw c.as_slice-segments.ensures (segments-begin c.args.file.now (rw c.as_slice-segments.ensures at (sym c.if-is_empty.ensures))))
 
--- src/refusing.rt:65:9
 pub overflow_add-number : goal.overflow_add-number
-overflow_add-number c = ?
+overflow_add-number c = omega (arith, ap length c.as_slice-segments.ensures, c.requires.count, c.segments.invariant.0)
 
--- src/refusing.rt:66:9
 pub returns-in_err-check_segment : goal.returns-in_err-check_segment
-returns-in_err-check_segment c = ?
+returns-in_err-check_segment c =
+    let p = err_from_is_err_and c.from_residual.result c.from_residual.ensures.1 in
+    rw (p.1, p.2) (segments-refuse (Unit {0}) (Unit {0}) c.args.file.now (c.segments.number + 1) c.segments.segment-index c.as_slice-segments.result.now c.segment-item.result _ c.segments-test.true c.segment-item.is c.in_err-check_segment.ensures c.segments.invariant.1)
 
--- src/refusing.rt:64:5
 pub segments-preserved : goal.segments-preserved
-segments-preserved c = ?
+segments-preserved c =
+    (omega (arith, c.segments.invariant.0), segments-go_on c.args.file.now (c.segments.number + 1) c.segments.segment-index c.as_slice-segments.result.now c.segment-item.result c.segments-test.true c.segment-item.is c.in_ok-check_segment.ensures c.segments.invariant.1)
 
--- src/refusing.rt:51:1
 pub returns : goal.returns
-returns c = ?
+returns c = segments-done _ _ c.segments.segment-index c.as_slice-segments.result.now c.segments-test.false c.segments.invariant.1

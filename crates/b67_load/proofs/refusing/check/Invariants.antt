@@ -1,10 +1,7 @@
-use Rattle.std.proofs.Common.{◌≡◌, ◌≤◌, length, IfOk, ℕ, ◌+◌, ◌-◌, ◌*◌, ◌<◌}
-use Rattle.b67_word.specs.Tagged.{contents}
-use Rattle.b67_model.specs.Loader.{listing, refusals, refusals_of}
-use Rattle.b67_codefile.specs.Spelling.{IsWithin}
+use Rattle.std.proofs.Common.{◌≡◌, ◌+◌, drop}
 use Rattle.b67_codefile.specs.Meaning.{program_of}
-use Rattle.b67_load.specs.Broken.{listed, Finds}
+use Rattle.b67_load.proofs.FirstRefusal.{Segments}
 use Rattle.b67_load.proofs.refusing.check.Given as goal
 
 abbrev pub invariant-segments : goal.invariant-segments
-invariant-segments l = ?
+invariant-segments l = (l.number ≡ l.segment-index) × Segments (program_of l.file) (l.number + 1) (drop l.segment-index l.segments)

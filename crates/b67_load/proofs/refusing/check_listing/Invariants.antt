@@ -1,10 +1,8 @@
-use Rattle.std.proofs.Common.{◌≡◌, ◌≤◌, length, IfOk, ℕ, ◌+◌, ◌-◌, ◌*◌, ◌<◌}
-use Rattle.b67_word.specs.Tagged.{contents}
-use Rattle.b67_model.specs.Loader.{listing, refusals, refusals_of}
-use Rattle.b67_codefile.specs.Spelling.{IsWithin}
-use Rattle.b67_codefile.specs.Meaning.{program_of}
-use Rattle.b67_load.specs.Broken.{listed, Finds}
+use Rattle.std.proofs.Common.{map, drop}
+use Rattle.b67_load.specs.Listing.{seen}
+use Rattle.b67_load.specs.Broken.{listed}
+use Rattle.b67_load.proofs.FirstRefusal.{Remains}
 use Rattle.b67_load.proofs.refusing.check_listing.Given as goal
 
 abbrev pub invariant-entries : goal.invariant-entries
-invariant-entries l = ?
+invariant-entries l = Remains (listed l.file l.number l.segment l.listing) l.listing (map seen (drop l.entry-index l.entry-items))

@@ -1,14 +1,11 @@
-use Rattle.std.proofs.Common.{rules, ◌≡◌, ◌<◌, ◌≤◌, map, length, IfOk, ℕ, ◌+◌, ◌-◌, ◌*◌, ◌/◌, ◌%◌, Bool, true, false, nat_eq, nat_lt, List, [], ◌∷◌, ◌++◌, slice_index_or, slice_set, bit_and, bit_or, Fits, w8, w32, w64, Bor, MutBor}
-use Rattle.std.specs.List.{AllByRecursion}
+use Rattle.std.proofs.Common.{map, ap, ◌∙◌}
 use Rattle.b67_word.specs.Tagged.{contents}
-use Rattle.b67_model.specs.Loader.{listing, is_start, is_last}
-use Rattle.b67_load.specs.Listing.{seen, CouplesFit}
+use Rattle.b67_load.specs.Listing.{seen}
+use Rattle.b67_load.proofs.Listed.{words-inside, listing-couples}
 use Rattle.b67_load.proofs.listing.Listing.new.Goals as goal
 
--- src/listing.rt:40:22
 pub starts_of-requires-clause-inside : goal.starts_of-requires-clause-inside
-starts_of-requires-clause-inside c = ?
+starts_of-requires-clause-inside c = words-inside c.args.code.now _ (ap (map seen) c.deref.ensures.value ∙ c.in_ok-entries.ensures)
 
--- src/listing.rt:41:9
 pub invariant_of-result : goal.invariant_of-result
-invariant_of-result c = ?
+invariant_of-result c = record { marks = rw (← c.deref.ensures.value) c.in_ok-starts.ensures; couples = listing-couples (contents c.args.code.now) (map seen c.in_ok-entries.entries.items) c.in_ok-entries.ensures }
