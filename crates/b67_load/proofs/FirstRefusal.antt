@@ -27,7 +27,7 @@ first_refused number place (r ∷ rules) = at_test r.1 (first_refused number pla
   where
     at_test : (b : Bool) → slice_get (refused number place rules) 0 ≡ option_map (refusal number place) (first_broken rules)
         → slice_get (map (λ t. refusal number place t.0) (cond b (r ∷ filter (λ t. t.1) rules) (filter (λ t. t.1) rules))) 0
-            ≡ option_map (refusal number place) (option_map (λ t. t.0) (cond b (Some r) (find (λ t. t.1) rules)))
+        ≡ option_map (refusal number place) (option_map (λ t. t.0) (cond b (Some r) (find (λ t. t.1) rules)))
     at_test true h = refl
     at_test false h = h
 

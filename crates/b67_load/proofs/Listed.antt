@@ -30,6 +30,7 @@ goes_on code at entries op next e r = at_step r.steps r.enough r.so_far
   where
     inside : IsPlaceIn code at
     inside = operator_at-inside code at (Ok (op, next)) (λ x. absurd cc) e
+
     at_step : (n : ℕ) → 6 * length code ≤ count_at at + n → entries ++ entries_from n code at (operator_at code at) ≡ listing code → Reads code next (entries ++ At at op ∷ [])
     at_step zero enough so_far = absurd (omega (arith, inside-count code at inside))
     at_step (suc n) enough so_far =
@@ -49,6 +50,7 @@ breaks code at entries why lt e r = sym (rw e (last r.steps why r.enough (operat
   where
     inside : IsPlaceIn code at
     inside = record { word = lt; syllable = r.syllable }
+
     last : (n : ℕ) (why : Undecodable) → 6 * length code ≤ count_at at + n → (why ≡ BadPlace → ⊥) → entries ++ entries_from n code at (Err why) ≡ entries ++ Break at why ∷ []
     last zero why enough other = absurd (omega (arith, inside-count code at inside))
     last (suc n) BadPlace enough other = absurd (other refl)

@@ -68,6 +68,7 @@ form_of-fits first = valc (ltb first 0x40) refl
     namc : (b : Bool) → ltb first 0x80 ≡ b → AnyFits (cond b (Some (OneMore (λ low. op.Namc ((first - 0x40) * 256 + low)))) (form_in operators first))
     namc true e = λ n lt. let small : first < 0x80 = ltb-true _ _ e in omega arith
     namc false e = form_in-fits operators first operators_fit
+
     valc : (b : Bool) → ltb first 0x40 ≡ b → AnyFits (cond b (Some (OneMore (λ low. op.Valc (first * 256 + low)))) (cond (ltb first 0x80) (Some (OneMore (λ low. op.Namc ((first - 0x40) * 256 + low)))) (form_in operators first)))
     valc true e = λ n lt. let small : first < 0x40 = ltb-true _ _ e in omega arith
     valc false e = namc (ltb first 0x80) refl

@@ -34,7 +34,7 @@ get_or-all : (n i : ℕ) (a : Bool) → get_or (replicate n a) i a ≡ a
 get_or-all n i a = elim (cases_lt i n) [
   | inl lt ↦ get_or-replicate n i a a lt
   | inr le ↦ get_or_past (replicate n a) i a (omega (arith, length-replicate n a))
-  ]
+]
 
 pub no_marks : (n : ℕ) → Marks (replicate n false) []
 no_marks n = record { at = λ place small. get_or-all n (count_at place) false }
@@ -46,7 +46,7 @@ same_place-count a b sa sb = elim (cases_eq (count_at a) (count_at b)) [
       let s : a.syllable ≡ b.syllable = omega arith in
       rw (eq-eqb (count_at a) (count_at b) e, eq-eqb a.word b.word w, eq-eqb a.syllable b.syllable s) refl
   | inr ne ↦ rw (ne_eqb (count_at a) (count_at b) ne) (differ (cases_eq a.word b.word) (cases_eq a.syllable b.syllable) ne)
-  ]
+]
   where
     differ : (a.word ≡ b.word) ⊎ (a.word ≡ b.word → ⊥) → (a.syllable ≡ b.syllable) ⊎ (a.syllable ≡ b.syllable → ⊥) → (count_at a ≡ count_at b → ⊥) → (eqb a.word b.word && eqb a.syllable b.syllable) ≡ false
     differ (inr w) s ne = rw (ne_eqb a.word b.word w) refl
@@ -62,23 +62,25 @@ set-any starts k j lt = elim (cases_eq j k) [
   | inr ne ↦
       let f : eqb k j ≡ false = ne_eqb k j (λ e. ne (sym e)) in
       rw (f, get_or-set_other starts k j true false ne) (sym (or_false (get_or starts j false)))
-  ]
+]
   where
     or_true : (b : Bool) → (b || true) ≡ true
     or_true true = refl
     or_true false = refl
+
     or_false : (b : Bool) → (b || false) ≡ b
     or_false true = refl
     or_false false = refl
 
 marks-push : (words : ℕ) (starts : List Bool) (entries : List loader.Entry) (e : loader.Entry) → length starts ≡ 6 * words → IsInside words e → Marks starts entries → Marks (set starts (count_at (place_of_entry e)) true) (entries ++ e ∷ [])
-marks-push words starts entries e len inside m = record { at = λ place small.
-    let k : ℕ = count_at (place_of_entry e) in
-    let lt : count_at (place_of_entry e) < length starts = omega (arith, inside.word, inside.syllable) in
-    let before : get_or starts (count_at place) false ≡ is_start entries place = m.at place small in
-    let same : same_place (place_of_entry e) place ≡ eqb (count_at (place_of_entry e)) (count_at place) = same_place-count (place_of_entry e) place inside.syllable small in
-    set-any starts (count_at (place_of_entry e)) (count_at place) lt ∙ rw (list_any-append (λ x. same_place (place_of_entry x) place) entries (e ∷ []), before, ← same) refl
-  }
+marks-push words starts entries e len inside m = record {
+  at = λ place small.
+      let k : ℕ = count_at (place_of_entry e) in
+      let lt : count_at (place_of_entry e) < length starts = omega (arith, inside.word, inside.syllable) in
+      let before : get_or starts (count_at place) false ≡ is_start entries place = m.at place small in
+      let same : same_place (place_of_entry e) place ≡ eqb (count_at (place_of_entry e)) (count_at place) = same_place-count (place_of_entry e) place inside.syllable small in
+      set-any starts (count_at (place_of_entry e)) (count_at place) lt ∙ rw (list_any-append (λ x. same_place (place_of_entry x) place) entries (e ∷ []), before, ← same) refl;
+}
 
 -- the marks of a loop over the entries
 pub record Marked (words : ℕ) (starts : List Bool) (entries : List loader.Entry) : Type 0 where

@@ -49,7 +49,10 @@ fn proc_bits(op: Op) -> Option<u64>
 fn may_be_last(op: Op) -> bool
     ensures { result ≡ may_be_last op }
 {
-    matches!(op, Op::Brun(_) | Op::Plain(Code::Exit | Code::Retn | Code::Nvld))
+    matches!(
+        op,
+        Op::Brun(_) | Op::Plain(Code::Exit | Code::Retn | Code::Nvld)
+    )
 }
 
 fn is_outside(segment: &Segment, place: Place) -> bool

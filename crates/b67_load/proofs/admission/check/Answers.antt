@@ -1,7 +1,7 @@
 use Rattle.std.proofs.Common.{◌≡◌, ◌+◌, length, sym, ap, ◌∙◌, refl, arith}
 use Rattle.std.proofs.lemmas.Result.{err_from_is_err_and}
 use Rattle.b67_load.proofs.FirstRefusal.{segments-begin, segments-go_on, segments-refuse, segments-done}
-use Rattle.b67_load.proofs.refusing.check.Goals as goal
+use Rattle.b67_load.proofs.admission.check.Goals as goal
 
 pub segments-init : goal.segments-init
 segments-init c = (refl, rw c.as_slice-segments.ensures (segments-begin c.args.file.now (rw c.as_slice-segments.ensures at (sym c.if-is_empty.ensures))))

@@ -1,7 +1,7 @@
 use Rattle.std.proofs.Common.{◌≡◌, sym, ◌∙◌, refl}
 use Rattle.b67_load.specs.Broken.{listed}
 use Rattle.b67_load.proofs.FirstRefusal.{goes_on, refuses, couple-fits, is_done}
-use Rattle.b67_load.proofs.refusing.check_listing.Goals as goal
+use Rattle.b67_load.proofs.admission.check_listing.Goals as goal
 
 pub entries-init : goal.entries-init
 entries-init c = rw c.entries-entry-items.ensures.same (record { refusals = refl; couples = c.entries-entry-items.ensures.couples })
