@@ -68,34 +68,26 @@ fn named_level(file: &Codefile, disp: u16) -> Option<u8>
     if disp < 2 {
         return None;
     }
-    match file.segments.as_slice().get(usize::from(disp - 2)) {
-        Some(segment) => Some(segment.level),
-        None => None,
-    }
+    let segment = file.segments.as_slice().get(usize::from(disp - 2));
+    segment.map(|segment| segment.level)
 }
 
 /// Rule 3: a branch to a place inside the segment at which no operator begins.
 fn misses_start(segment: &Segment, listing: &Listing, op: Op) -> bool
     ensures { result ≡ holds_at (target_of op) (λ target. not (is_outside (segment_of segment.now) target) && not (is_start listing.now target)) }
 {
-    match target_of(op) {
-        Some(target) => !is_outside(segment, target) && !listing.has_start(target),
-        None => false,
-    }
+    target_of(op).is_some_and(|target| !is_outside(segment, target) && !listing.has_start(target))
 }
 
 /// Rule 4: a branch to a place outside the segment.
 fn leaves_segment(segment: &Segment, op: Op) -> bool
     ensures { result ≡ holds_at (target_of op) (is_outside (segment_of segment.now)) }
 {
-    match target_of(op) {
-        Some(target) => is_outside(segment, target),
-        None => false,
-    }
+    target_of(op).is_some_and(|target| is_outside(segment, target))
 }
 
 /// Rule 6: a couple whose level is above the segment's.
-fn is_above(level: u8, op: Op) -> bool
+fn couple_is_too_high(level: u8, op: Op) -> bool
     requires { CoupleFits op }
     ensures { result ≡ holds_of (couple_bits op) (λ bits. nat_lt level (couple bits level).level) }
 {
@@ -106,7 +98,7 @@ fn is_above(level: u8, op: Op) -> bool
 }
 
 /// Rule 7: a program control word with a bit outside its fields, or of no segment.
-fn is_off(file: &Codefile, op: Op) -> bool
+fn pcw_is_malformed(file: &Codefile, op: Op) -> bool
     ensures { result ≡ holds_of (proc_bits op) (is_off (program_of file.now)) }
 {
     match proc_bits(op) {
@@ -121,7 +113,7 @@ fn is_off(file: &Codefile, op: Op) -> bool
 
 /// Rule 8: a program control word whose level isn't its segment's, or isn't one above that of the segment in which the
 /// word stands, or whose place isn't the first.
-fn is_amiss(file: &Codefile, segment: &Segment, op: Op) -> bool
+fn pcw_is_misplaced(file: &Codefile, segment: &Segment, op: Op) -> bool
     ensures { (number : ℕ) (entries : List loader.Entry) → result ≡ holds_of (proc_bits op) (is_amiss (listed file.now number segment.now entries)) }
 {
     match proc_bits(op) {
@@ -138,14 +130,11 @@ fn is_amiss(file: &Codefile, segment: &Segment, op: Op) -> bool
 fn is_level_of(named: Option<u8>, level: u64) -> bool
     ensures { result ≡ holds_of named (λ n. n == level) }
 {
-    match named {
-        Some(named) => u64::from(named) == level,
-        None => false,
-    }
+    named.is_some_and(|named| u64::from(named) == level)
 }
 
 /// The first rule that an operator breaks at its place.
-fn broken_by(
+fn broken_by_operator(
     file: &Codefile,
     segment: &Segment,
     listing: &Listing,
@@ -161,11 +150,11 @@ fn broken_by(
         Some(4)
     } else if listing.is_last(place) && !may_be_last(op) {
         Some(5)
-    } else if is_above(segment.level, op) {
+    } else if couple_is_too_high(segment.level, op) {
         Some(6)
-    } else if is_off(file, op) {
+    } else if pcw_is_malformed(file, op) {
         Some(7)
-    } else if is_amiss(file, segment, op) {
+    } else if pcw_is_misplaced(file, segment, op) {
         Some(8)
     } else {
         None
@@ -173,12 +162,17 @@ fn broken_by(
 }
 
 /// The first rule that an entry breaks at its place.
-fn broken_at(file: &Codefile, segment: &Segment, listing: &Listing, entry: &Entry) -> Option<u8>
+fn broken_by_entry(
+    file: &Codefile,
+    segment: &Segment,
+    listing: &Listing,
+    entry: &Entry,
+) -> Option<u8>
     requires { CouplesFit (seen entry.now) }
     ensures { (number : ℕ) → result ≡ first_broken (broken_at (listed file.now number segment.now listing.now) (seen entry.now)) }
 {
     match entry.read {
-        Ok(op) => broken_by(file, segment, listing, entry.place, op),
+        Ok(op) => broken_by_operator(file, segment, listing, entry.place, op),
         Err(Undecodable::NotAdmitted) => Some(1),
         Err(Undecodable::PastEnd) => Some(2),
         Err(Undecodable::BadPlace) => None,
@@ -186,7 +180,7 @@ fn broken_at(file: &Codefile, segment: &Segment, listing: &Listing, entry: &Entr
 }
 
 /// The first rule that a segment's level breaks.
-fn broken_in(number: u8, segment: &Segment) -> Option<u8>
+fn broken_by_level(number: u8, segment: &Segment) -> Option<u8>
     ensures { (file : Codefile) (entries : List loader.Entry) → result ≡ first_broken (broken_in (listed file number segment.now entries)) }
 {
     if segment.level < 2 || segment.level > 31 {
@@ -209,9 +203,9 @@ pub(crate) fn broken_rule(
     requires { CouplesFit (seen entry.now) }
     ensures { result ≡ first_broken (rules_at (listed file.now number segment.now listing.now) (seen entry.now)) }
 {
-    match broken_at(file, segment, listing, entry) {
+    match broken_by_entry(file, segment, listing, entry) {
         Some(rule) => Some(rule),
-        None if same_place(entry.place, ORIGIN) => broken_in(number, segment),
+        None if same_place(entry.place, ORIGIN) => broken_by_level(number, segment),
         None => None,
     }
 }
