@@ -1,6 +1,6 @@
 //! Operations on the 48 bits of operands. Each may make any bits, an operand that isn't whole and minus zero too.
 
-ghost use Rattle.std.specs.Prelude.{◌≡◌};
+ghost use Rattle.std.specs.Prelude.{◌≡◌, ◌<◌, ◌≤◌, ◌+◌, ◌-◌, ◌*◌, ◌/◌, ◌%◌, ◌^◌};
 ghost use Rattle.b67_model.specs.Arithmetic as rows;
 ghost use Rattle.b67_arith.specs.OnWords.{on_word, on_words};
 
@@ -87,6 +87,19 @@ pub fn isol(a: Word, high: u8, width: u8) -> Result<Word, Fault>
     Ok(Word::of(0, field))
 }
 
+/// `x` with its bits `high` down to `high - width + 1` replaced by the low bits of `y`.
+fn inserted(x: u64, y: u64, high: u8, width: u8) -> u64
+    requires bits { x < 2 ^ 48 }
+    requires high { high ≤ 47 }
+    requires width { width ≤ high + 1 }
+    ensures value { result ≡ x / 2 ^ (high + 1) * 2 ^ (high + 1) + y % 2 ^ width * 2 ^ (high + 1 - width) + x % 2 ^ (high + 1 - width) }
+    ensures small { result < 2 ^ 48 }
+{
+    let above = high + 1;
+    let low = above - width;
+    (x >> above << above) + (y % (1 << width) << low) + x % (1 << low)
+}
+
 /// The field of `isol` in `a` replaced by the low bits of `b`. INVALID OPERAND, also where it isn't a field.
 pub fn insr(a: Word, b: Word, high: u8, width: u8) -> Result<Word, Fault>
     ensures { result ≡ on_words (rows.insr high width) a b }
@@ -96,10 +109,5 @@ pub fn insr(a: Word, b: Word, high: u8, width: u8) -> Result<Word, Fault>
     if width == 0 || high > 47 || width > high + 1 {
         return Err(Fault::InvalidOperand);
     }
-    let above = high + 1;
-    let low = above - width;
-    Ok(Word::of(
-        0,
-        (x >> above << above) + (y % (1 << width) << low) + x % (1 << low),
-    ))
+    Ok(Word::of(0, inserted(x, y, high, width)))
 }

@@ -1,6 +1,6 @@
 //! Sums, products, quotients and the change of sign.
 
-ghost use Rattle.std.specs.Prelude.{◌≡◌};
+ghost use Rattle.std.specs.Prelude.{◌≡◌, ◌<◌, ◌^◌, nat_abs, int_div, int_rem};
 ghost use Rattle.b67_model.specs.Arithmetic as rows;
 ghost use Rattle.b67_arith.specs.OnWords.{on_word, on_words};
 
@@ -34,15 +34,32 @@ pub fn mult(a: Word, b: Word) -> Result<Word, Fault>
     }
 }
 
+fn quotient(x: i64, y: i64) -> Result<i64, Fault>
+    requires { nat_abs x < 2 ^ 39 }
+    ensures { result ≡ rows.divided int_div x y }
+{
+    if y == 0 {
+        return Err(Fault::DivideByZero);
+    }
+    Ok(x / y)
+}
+
 /// The quotient, toward zero. INVALID OPERAND, EXPONENT, DIVIDE BY ZERO, in this order.
 pub fn idiv(a: Word, b: Word) -> Result<Word, Fault>
     ensures { result ≡ on_words rows.idiv a b }
 {
     let (x, y) = numbers(a, b)?;
+    operand(quotient(x, y)?)
+}
+
+fn remainder(x: i64, y: i64) -> Result<i64, Fault>
+    requires { nat_abs x < 2 ^ 39 }
+    ensures { result ≡ rows.divided int_rem x y }
+{
     if y == 0 {
         return Err(Fault::DivideByZero);
     }
-    operand(x / y)
+    Ok(x % y)
 }
 
 /// The remainder a - b × (a IDIV b). INVALID OPERAND, EXPONENT, DIVIDE BY ZERO, in this order.
@@ -50,10 +67,7 @@ pub fn rdiv(a: Word, b: Word) -> Result<Word, Fault>
     ensures { result ≡ on_words rows.rdiv a b }
 {
     let (x, y) = numbers(a, b)?;
-    if y == 0 {
-        return Err(Fault::DivideByZero);
-    }
-    operand(x % y)
+    operand(remainder(x, y)?)
 }
 
 /// -a, 0 for 0. INVALID OPERAND, EXPONENT, in this order.

@@ -1,6 +1,6 @@
 -- What reading a source answers, from what reading its bytes answers.
-use Rattle.std.proofs.Common.{◌≡◌, ◌≤◌, ◌<◌, ◌+◌, ℕ, List, [], ◌++◌, length, take, drop, Option, Some, Result, Ok, Err, Bool, true, nat_lt, refl, sym, ap, ◌∙◌, arith}
-use Rattle.std.specs.Prelude.{count_by, ◌==◌, ⊤}
+use Rattle.std.proofs.Common.{◌≡◌, ◌≤◌, ◌+◌, ℕ, List, ◌++◌, length, take, drop, Option, Some, Result, Ok, Err, refl, sym, ap, ◌∙◌, arith}
+use Rattle.std.specs.Prelude.{count_by, ◌==◌}
 use Rattle.std.proofs.lemmas.List.{take_all, drop_all}
 use Rattle.std.proofs.Math.Seq.{take-append_seam, drop-append_seam}
 use Rattle.b67_io.specs.Told.{Gave, GaveAll}
@@ -16,15 +16,15 @@ use Rattle.b67_card.specs.declared.fault.DeckFault.TheVariants.{Card, SourceFaul
 first_of_all : {S : Type 0} (left : S → Option (List ℕ)) (old new : S) (count : ℕ) (text : List ℕ) → length text ≤ count → GaveAll left old new text → GaveFirst left count old new text
 first_of_all left old new count text le all = record {
   told = λ before e.
-    let h = all.told before e in
-    (sym (take_all count text le) ∙ ap (take count) (sym h.0), h.1 ∙ ap Some (sym (drop_all count text le) ∙ ap (drop count) (sym h.0)));
+      let h = all.told before e in
+      (sym (take_all count text le) ∙ ap (take count) (sym h.0), h.1 ∙ ap Some (sym (drop_all count text le) ∙ ap (drop count) (sym h.0)));
 }
 
 first_and_more : {S : Type 0} (left : S → Option (List ℕ)) (old new : S) (count : ℕ) (front : List ℕ) → length front ≡ count → Gave left old new front → GaveFirst left count old new front
 first_and_more left old new count front len gave = record {
   told = λ before e.
-    let h = gave.told before e in
-    (sym (taken h.0) ∙ ap (take count) (sym h.1), h.2 ∙ ap Some (sym (dropped h.0) ∙ ap (drop count) (sym h.1)));
+      let h = gave.told before e in
+      (sym (taken h.0) ∙ ap (take count) (sym h.1), h.2 ∙ ap Some (sym (dropped h.0) ∙ ap (drop count) (sym h.1)));
 }
   where
     taken : (rest : List ℕ) → take count (front ++ rest) ≡ front

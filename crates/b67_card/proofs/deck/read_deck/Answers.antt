@@ -1,4 +1,4 @@
-use Rattle.std.proofs.Common.{◌≡◌, ℕ, List, Result, Err, refl, sym, subst}
+use Rattle.std.proofs.Common.{◌≡◌, ℕ, List, Err, refl, sym, subst}
 use Rattle.b67_text.specs.Deck.{Refusal, within_limit, deck_of}
 use Rattle.b67_card.specs.Reading.{IsRead}
 use Rattle.b67_card.specs.Meaning.{IsMeaning}

@@ -1,4 +1,4 @@
-use Rattle.std.proofs.Common.{◌≡◌, sym, ap, Ok, ◌∙◌}
+use Rattle.std.proofs.Common.{sym, ap, Ok, ◌∙◌}
 use Rattle.b67_card.proofs.Finish.{deck_behind_is}
 use Rattle.b67_card.proofs.deck.Reader.finish.Goals as goal
 

@@ -1,4 +1,4 @@
-use Rattle.std.proofs.Common.{◌≡◌, map, refl, subst, ◌∙◌}
+use Rattle.std.proofs.Common.{map, refl, subst, ◌∙◌}
 use Rattle.b67_text.specs.declared.deck.Stand.{Stand}
 use Rattle.b67_text.specs.Deck.{command_in}
 use Rattle.b67_card.specs.Said.{command_of}
