@@ -2,6 +2,7 @@ pub mod Answers
 pub mod Words
 pub mod Operators
 pub mod Keyed
+pub mod Lists
 pub mod State
 pub mod Environment
 pub mod Cells

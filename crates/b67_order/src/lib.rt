@@ -1,0 +1,3 @@
+//! Every step of the machine's model keeps its state in order.
+#![tactic(auto)]
+
