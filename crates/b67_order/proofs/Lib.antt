@@ -1,3 +1,6 @@
 pub mod Members
 pub mod Reaches
 pub mod Replaced
+pub mod Looks
+pub mod Posts
+pub mod Chases

@@ -1,6 +1,7 @@
 -- Members of lists, look-ups by number, and totals.
-use Rattle.std.proofs.Common.{◌≡◌, ◌≢◌, ℕ, zero, suc, ◌+◌, ◌<◌, ◌≤◌, Bool, true, false, cond, eqb, List, [], ◌∷◌, ◌++◌, map, filter, flat_map, length, Option, Some, None, refl, sym, ap, ◌∙◌, subst, inl, inr, ◌⊎◌, arith}
-use Rattle.std.specs.List.{AllByRecursion}
+use Rattle.std.proofs.Common.{◌≡◌, ◌≢◌, ℕ, zero, suc, ◌+◌, ◌<◌, ◌≤◌, Bool, true, false, cond, eqb, List, [], ◌∷◌, ◌++◌, map, filter, flat_map, reverse, length, Option, Some, None, refl, sym, ap, ◌∙◌, subst, inl, inr, ◌⊎◌, arith}
+use Rattle.std.specs.List.{AllByRecursion, slice_get}
+use Rattle.std.proofs.lemmas.List.{reverse-append, reverse-reverse}
 use Rattle.std.proofs.lemmas.Bool.Decides.{eqb_tells}
 use Rattle.std.proofs.lemmas.Bool.{cases_Bool, true≢false}
 use Rattle.b67_model.specs.Keyed.{keyed, change_keyed}
@@ -244,3 +245,35 @@ none_pass test (x ∷ xs) none = let t = none x (inl refl) in rw t (omega (arith
 pub total_zero : {A : Type 0} (weight : A → ℕ) (xs : List A) → ((x : A) → Has xs x → weight x ≡ 0) → total weight xs ≡ 0
 total_zero weight [] none = refl
 total_zero weight (x ∷ xs) none = omega (arith, none x (inl refl), total_zero weight xs (λ y h. none y (inr h)))
+
+pub keyed_left : {A : Type 0} (key : A → ℕ) (n : ℕ) (xs ys : List A) (x : A) → keyed key n xs ≡ Some x → keyed key n (xs ++ ys) ≡ Some x
+keyed_left key n [] ys x e = cc
+keyed_left key n (y ∷ xs) ys x e = elim (eqb_tells (key y) n) [
+  | inl t ↦ rw t.0 (rw t.0 at e)
+  | inr t ↦ rw t.0 (keyed_left key n xs ys x (rw t.0 at e))
+]
+
+pub keyed_right : {A : Type 0} (key : A → ℕ) (n : ℕ) (xs ys : List A) → how_many (λ y. eqb (key y) n) xs ≡ 0 → keyed key n (xs ++ ys) ≡ keyed key n ys
+keyed_right key n [] ys none = refl
+keyed_right key n (y ∷ xs) ys none = elim (eqb_tells (key y) n) [
+  | inl t ↦ let one : 1 + how_many (λ z. eqb (key z) n) xs ≡ 0 = rw t.0 at none in absurd (omega (arith, one))
+  | inr t ↦ let rest : 0 + how_many (λ z. eqb (key z) n) xs ≡ 0 = rw t.0 at none in rw t.0 (keyed_right key n xs ys (omega (arith, rest)))
+]
+
+pub reverse_cons : {A : Type 0} (x : A) (xs : List A) → reverse (x ∷ xs) ≡ reverse xs ++ (x ∷ [])
+reverse_cons x xs = reverse-append (x ∷ []) xs
+
+pub has_reverse : {A : Type 0} (xs : List A) (x : A) → Has xs x → Has (reverse xs) x
+has_reverse [] x h = absurd h
+has_reverse (y ∷ xs) x h = rw (reverse_cons y xs) (elim h [
+  | inl e ↦ has_append_right (reverse xs) (y ∷ []) x (inl e)
+  | inr m ↦ has_append_left (reverse xs) (y ∷ []) x (has_reverse xs x m)
+])
+
+pub has_reverse_back : {A : Type 0} (xs : List A) (x : A) → Has (reverse xs) x → Has xs x
+has_reverse_back xs x h = let twice : reverse (reverse xs) ≡ xs = reverse-reverse xs in subst (λ ys. Has ys x) twice (has_reverse (reverse xs) x h)
+
+pub has_get : {A : Type 0} (xs : List A) (i : ℕ) (x : A) → slice_get xs i ≡ Some x → Has xs x
+has_get [] i x e = cc
+has_get (y ∷ xs) zero x e = inl (let same : y ≡ x = cc in same)
+has_get (y ∷ xs) (suc i) x e = inr (has_get xs i x e)

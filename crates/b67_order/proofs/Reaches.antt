@@ -102,7 +102,7 @@ words_wider P reach reach' arrays arrays' owner wide at [] all = tt
 words_wider P reach reach' arrays arrays' owner wide at (w ∷ ws) all =
     (word_wider P reach reach' arrays arrays' owner wide at w all.0, words_wider P reach reach' arrays arrays' owner wide at ws all.1)
 
-stands_wider : (under under' : List Known) (s : Standing) → ((n : ℕ) (t : Standing) → IsEntered t → Has under (n, t) → Has under' (n, t)) → StandsInOrder under s → StandsInOrder under' s
+pub stands_wider : (under under' : List Known) (s : Standing) → ((n : ℕ) (t : Standing) → IsEntered t → Has under (n, t) → Has under' (n, t)) → StandsInOrder under s → StandsInOrder under' s
 stands_wider under under' Marked more g = tt
 stands_wider under under' (Entered level environment back) more g =
     record { low = g.low; high = g.high; standing = g.standing; among = more environment g.standing g.entered g.among; entered = g.entered; level_below = g.level_below }

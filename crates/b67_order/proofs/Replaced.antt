@@ -109,7 +109,7 @@ pub record Replaced (P : Starts) (setting : Setting) (job : Job) (old : Task) (j
   pub names : Falls job'.next_array (map (λ a. a.identity) job'.arrays)
   pub reads : AllByRecursion (λ n. nat_abs n < 2 ^ 39) job'.numbers
 
-birth_same : (job : Job) (t u : Task) (parents : List ℕ) → u.number ≡ t.number → u.critical ≡ t.critical → BirthInOrder job t parents → BirthInOrder job u parents
+pub birth_same : (job : Job) (t u : Task) (parents : List ℕ) → u.number ≡ t.number → u.critical ≡ t.critical → BirthInOrder job t parents → BirthInOrder job u parents
 birth_same job t u [] n c b = n ∙ b
 birth_same job t u (p ∷ more) n c b =
     record { parent = b.parent; found = b.found; line = b.line; older = omega (arith, n, b.older); is_critical = subst (Has (identities b.parent.frames)) (sym c) b.is_critical }
