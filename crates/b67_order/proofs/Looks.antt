@@ -258,3 +258,50 @@ module _ (P : Starts) (h : Here) (run : Run P h) where
     | inl a ↦ let r = has_map_back known_of line.frames (n, s) a in subst (λ (x : Known). Seen P h x.0 x.1) r.is (see_live r.item r.among)
     | inr b ↦ see_base n s b
   ]
+
+-- what an entered frame's environment is
+pub record Outer (h : Here) (s : Standing) : Type 0 where
+  pub standing : Standing
+  pub among : Has (reach h) (environment_of s, standing)
+  pub entered : IsEntered standing
+  pub level_below : level_of_standing standing + 1 ≡ level_of_standing s
+
+outer_of_standing : (h : Here) (s : Standing) → IsEntered s → StandsInOrder (reach h) s → Outer h s
+outer_of_standing h Marked e g = absurd e
+outer_of_standing h (Entered level environment back) e g = record { standing = g.standing; among = g.among; entered = g.entered; level_below = g.level_below }
+
+low_of_standing : (under : List Known) (s : Standing) → IsEntered s → StandsInOrder under s → 2 ≤ level_of_standing s
+low_of_standing under Marked e g = absurd e
+low_of_standing under (Entered level environment back) e g = g.low
+
+module _ (P : Starts) (h : Here) (run : Run P h) where
+  base_in : (n : ℕ) (s : Standing) → Has base (n, s) → Has (reach h) (n, s)
+  base_in n s k = rw (line P h run).is (has_append_right (map known_of (line P h run).frames) base (n, s) k)
+
+  closed_base : (n : ℕ) (s : Standing) → Has base (n, s) → 1 ≤ level_of_standing s → Outer h s
+  closed_base n s k low = elim k [
+    | inl e ↦ subst (λ (x : Known). Outer h x.1) e (record { standing = Entered 0 0 None; among = base_in 0 (Entered 0 0 None) (inr (inl refl)); entered = tt; level_below = refl })
+    | inr m ↦ elim m [
+        | inl e ↦ let zeros : 0 ≡ level_of_standing s = ap (λ (x : Known). level_of_standing x.1) e in absurd (omega (arith, zeros, low))
+        | inr x ↦ absurd x
+      ]
+  ]
+
+  pub closed : (n : ℕ) (s : Standing) → Has (reach h) (n, s) → IsEntered s → 1 ≤ level_of_standing s → Outer h s
+  closed n s k e low = elim (has_append_cases (map known_of (line P h run).frames) base (n, s) (rw (line P h run).is at k)) [
+    | inl a ↦
+        let r = has_map_back known_of (line P h run).frames (n, s) a in
+        let live = (line P h run).live r.item r.among in
+        let high = above_one P h.setting h.job run.order live.task live.live r.item live.among in
+        let number : r.item.identity ≡ n = ap (λ (x : Known). x.0) r.is in
+        outer_of_standing h s e ((see P h run n s k).outer (omega (arith, high, number)))
+    | inr b ↦ closed_base n s b low
+  ]
+
+  pub level_low : (n : ℕ) (s : Standing) → Has (reach h) (n, s) → IsEntered s → 1 < n → 2 ≤ level_of_standing s
+  level_low n s k e high = low_of_standing (reach h) s e ((see P h run n s k).outer high)
+
+  pub own_high : (f : Frame) → Has h.task.frames f → 1 < f.identity
+  own_high f k =
+      let there : Has run.found.frames f = subst (λ (t : Task). Has t.frames f) (sym run.same) k in
+      above_one P h.setting h.job run.order run.found (keyed_has (λ t. t.number) h.task.number h.job.tasks run.found run.running).0 f there
