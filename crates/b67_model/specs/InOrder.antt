@@ -148,7 +148,7 @@ abbrev pub StackInOrder : Starts → List Frame → Type 0
 StackInOrder P [] = Unit {0}
 StackInOrder P (f ∷ below) = ReturnsInOrder P f.standing below × StackInOrder P below
 
--- a first task has number 1; another's parent is live, was born before it, and has the critical frame
+-- a first task has number 1 and the MCP's frame, which nobody leaves, as its critical one; another's parent is live, was born before it, and has the critical frame
 pub record ParentInOrder (job : Job) (t : Task) (number : ℕ) (above : List ℕ) : Type 0 where
   pub parent : Task
   pub found : keyed (λ t. t.number) number job.tasks ≡ Some parent
@@ -157,7 +157,7 @@ pub record ParentInOrder (job : Job) (t : Task) (number : ℕ) (above : List ℕ
   pub is_critical : Has (identities parent.frames) t.critical
 
 abbrev pub BirthInOrder : Job → Task → List ℕ → Type 0
-BirthInOrder job t [] = t.number ≡ 1
+BirthInOrder job t [] = (t.number ≡ 1) × (t.critical ≡ 0)
 BirthInOrder job t (parent ∷ above) = ParentInOrder job t parent above
 
 -- a cell that is waited at lies in an entered frame of the task's reach

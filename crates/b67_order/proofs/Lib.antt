@@ -4,3 +4,4 @@ pub mod Replaced
 pub mod Looks
 pub mod Posts
 pub mod Chases
+pub mod Changes

@@ -110,7 +110,7 @@ pub record Replaced (P : Starts) (setting : Setting) (job : Job) (old : Task) (j
   pub reads : AllByRecursion (λ n. nat_abs n < 2 ^ 39) job'.numbers
 
 pub birth_same : (job : Job) (t u : Task) (parents : List ℕ) → u.number ≡ t.number → u.critical ≡ t.critical → BirthInOrder job t parents → BirthInOrder job u parents
-birth_same job t u [] n c b = n ∙ b
+birth_same job t u [] n c b = (n ∙ b.0, c ∙ b.1)
 birth_same job t u (p ∷ more) n c b =
     record { parent = b.parent; found = b.found; line = b.line; older = omega (arith, n, b.older); is_critical = subst (Has (identities b.parent.frames)) (sym c) b.is_critical }
 
@@ -186,11 +186,15 @@ module _ (P : Starts) (setting : Setting) (job : Job) (old : Task) (job' : Job) 
   new_live = let e : keyed (λ t. t.number) old.number job'.tasks ≡ Some new = rw r.tasks (change_found (λ (t : Task). t.number) old.number old new job.tasks r.number found) in
       (keyed_has (λ t. t.number) old.number job'.tasks new e).0
 
-  own : TaskInOrder P setting job' new
-  own =
+  pub outer_kept : Alike (outer_of job old) (outer_of job' new)
+  outer_kept =
       let outer : Alike (outer_of job old) (outer_reach job' old.critical old.parents) = outer_alike job job' (λ n. Unit {0}) follows births old old_live old.parents refl (λ n h. tt) in
       let same : outer_reach job' old.critical old.parents ≡ outer_of job' new = rw (r.critical, r.line) refl in
-      let outer' : Alike (outer_of job old) (outer_of job' new) = subst (Alike (outer_of job old)) same outer in
+      subst (Alike (outer_of job old)) same outer
+
+  own : TaskInOrder P setting job' new
+  own =
+      let outer' = outer_kept in
       let reach : Alike (map known_of new.frames ++ outer_of job old) (reach_of job' new) = alike_under (outer_of job old) (outer_of job' new) new.frames outer' in
       record {
         frames = frames_alike P job'.arrays job'.arrays (outer_of job old) (outer_of job' new) new.frames outer' (λ a h at. record { item = a; live = h; named = refl; owned = refl; long = omega arith }) r.frames;
