@@ -5,3 +5,4 @@ pub mod Looks
 pub mod Posts
 pub mod Chases
 pub mod Changes
+pub mod Steps

@@ -1,6 +1,6 @@
 -- Members of lists, look-ups by number, and totals.
 use Rattle.std.proofs.Common.{◌≡◌, ◌≢◌, ℕ, zero, suc, ◌+◌, ◌<◌, ◌≤◌, Bool, true, false, cond, eqb, List, [], ◌∷◌, ◌++◌, map, filter, flat_map, reverse, length, Option, Some, None, refl, sym, ap, ◌∙◌, subst, inl, inr, ◌⊎◌, arith}
-use Rattle.std.specs.List.{AllByRecursion, slice_get}
+use Rattle.std.specs.List.{AllByRecursion, slice_get, list_any}
 use Rattle.std.proofs.lemmas.List.{reverse-append, reverse-reverse}
 use Rattle.std.proofs.lemmas.Bool.Decides.{eqb_tells}
 use Rattle.std.proofs.lemmas.Bool.{cases_Bool, true≢false}
@@ -277,3 +277,29 @@ pub has_get : {A : Type 0} (xs : List A) (i : ℕ) (x : A) → slice_get xs i �
 has_get [] i x e = cc
 has_get (y ∷ xs) zero x e = inl (let same : y ≡ x = cc in same)
 has_get (y ∷ xs) (suc i) x e = inr (has_get xs i x e)
+
+pub any_none : {A : Type 0} (test : A → Bool) (xs : List A) (x : A) → list_any test xs ≡ false → Has xs x → test x ≡ false
+any_none test [] x none h = absurd h
+any_none test (y ∷ xs) x none h = elim (cases_Bool (test y)) [
+  | inl t ↦ let no : true ≡ false = rw t at none in absurd (true≢false no)
+  | inr t ↦ elim h [ inl e ↦ ap test (sym e) ∙ t | inr m ↦ any_none test xs x (rw t at none) m ]
+]
+
+pub falls_filter : {A : Type 0} (key : A → ℕ) (p : A → Bool) (bound : ℕ) (xs : List A) → Falls bound (map key xs) → Falls bound (map key (filter p xs))
+falls_filter key p bound [] f = tt
+falls_filter key p bound (x ∷ xs) f = elim (cases_Bool (p x)) [
+  | inl t ↦ rw t (f.0, falls_filter key p (key x) xs f.1)
+  | inr t ↦ rw t (falls_more (key x) bound (map key (filter p xs)) (omega (arith, f.0)) (falls_filter key p (key x) xs f.1))
+]
+
+pub total_reverse : {A : Type 0} (weight : A → ℕ) (xs : List A) → total weight (reverse xs) ≡ total weight xs
+total_reverse weight [] = refl
+total_reverse weight (x ∷ xs) = rw (reverse_cons x xs) (omega (arith, total_append weight (reverse xs) (x ∷ []), total_reverse weight xs))
+
+-- two items of one number are one, where numbers fall
+pub falls_same : {A : Type 0} (key : A → ℕ) (bound : ℕ) (xs : List A) (x y : A) → Falls bound (map key xs) → Has xs x → Has xs y → key x ≡ key y → x ≡ y
+falls_same key bound xs x y f h k e =
+    let one : keyed key (key x) xs ≡ Some x = keyed_falls key bound xs x f h in
+    let two : keyed key (key x) xs ≡ Some y = rw e (keyed_falls key bound xs y f k) in
+    let both : Some x ≡ Some y = sym one ∙ two in
+    cc
