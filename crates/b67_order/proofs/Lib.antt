@@ -6,3 +6,5 @@ pub mod Posts
 pub mod Chases
 pub mod Changes
 pub mod Steps
+pub mod Entries
+pub mod Returns

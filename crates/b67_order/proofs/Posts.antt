@@ -1,5 +1,5 @@
 -- What holds of an answer's value, by the ways in which answers are made.
-use Rattle.std.proofs.Common.{◌≡◌, refl, Bool, true, false, Ok, Err, cond}
+use Rattle.std.proofs.Common.{◌≡◌, refl, subst, Bool, true, false, Ok, Err, cond}
 use Rattle.b67_word.specs.declared.faults.Fault.{Fault}
 use Rattle.b67_model.specs.Answers.{Answer, ◌>>=◌, ◌>>◌, needs}
 
@@ -46,3 +46,15 @@ post_if_is P false a b x y = y refl
 pub post_more : {A : Type 0} (P Q : A → Type 0) (a : Answer A) → ((x : A) → P x → Q x) → Post P a → Post Q a
 post_more P Q (Ok x) more holds = record { by = more x holds.by }
 post_more P Q (Err fault) more holds = record { by = tt }
+
+pub post_both : {A : Type 0} (P Q : A → Type 0) (a : Answer A) → Post P a → Post Q a → Post (λ x. P x × Q x) a
+post_both P Q (Ok x) p q = record { by = (p.by, q.by) }
+post_both P Q (Err fault) p q = record { by = tt }
+
+-- the value with the equation that gives it
+pub post_is : {A : Type 0} (a : Answer A) → Post (λ x. a ≡ Ok x) a
+post_is (Ok x) = record { by = refl }
+post_is (Err fault) = record { by = tt }
+
+pub post_at : {A : Type 0} (P : A → Type 0) (a : Answer A) (x : A) → a ≡ Ok x → Post P a → P x
+post_at P a x e g = let there : Post P (Ok x) = subst (Post P) e g in there.by

@@ -93,7 +93,7 @@ pub push_good : (P : Starts) (h : Here) (w : Word) (touched : Option ℕ) → Ru
 push_good P h w touched run fit plain = cells_good P h (w ∷ cells_of h) touched run (fit, own_fit P h run) (λ n. let t = plain n in rw t (omega arith))
 
 -- the environment of a Proc's frame
-environment_of_proc : (P : Starts) (h : Here) (run : Run P h) (under : List Known) (f segment level : ℕ) (place : Place) → IsProcOf P (reach h) f segment level place →
+pub environment_of_proc : (P : Starts) (h : Here) (run : Run P h) (under : List Known) (f segment level : ℕ) (place : Place) → IsProcOf P (reach h) f segment level place →
     ((s : Standing) → IsEntered s → Has (reach h) (f, s) → Has under (f, s)) → eqb (level_of_frame (frame h f) + 1) level ≡ true → EnvironmentInOrder under level f
 environment_of_proc P h run under f segment level place is keep test =
     let s = is.names.standing in
