@@ -21,10 +21,12 @@ use Rattle.b67_model.specs.Run.{live_tasks}
 abbrev pub Starts : Type 1
 Starts = (segment level : ℕ) → Place → Type 0
 
--- a segment of the job
+-- a segment of the job, and a place that fits the fields of a control word
 pub record IsSegment (setting : Setting) (segment level : ℕ) (place : Place) : Type 0 where
   pub from_one : 0 < segment
   pub within : segment ≤ length setting.segments
+  pub word_fits : place.word < 2 ^ 13
+  pub syllable_fits : place.syllable < 2 ^ 3
 
 -- a start of a segment at which an operator stands, and the segment's level
 pub record IsStart (setting : Setting) (segment level : ℕ) (place : Place) : Type 0 where
@@ -128,11 +130,30 @@ abbrev pub StandsInOrder : List Known → Standing → Type 0
 StandsInOrder under Marked = Unit {0}
 StandsInOrder under (Entered level environment back) = EnvironmentInOrder under level environment
 
+-- a row or element copy of an array
+abbrev pub is_copy_of : ℕ → Word → Bool
+is_copy_of array (Row a) = a == array
+is_copy_of array (Element a index) = a == array
+is_copy_of array _ = false
+
+-- copies stand above their original: none lies under it
+abbrev pub NoCopyUnder : Word → List Word → Type 0
+NoCopyUnder (Original array) below = how_many (is_copy_of array) below ≡ 0
+NoCopyUnder _ below = Unit {0}
+
+abbrev pub CopiesAbove : List Word → Type 0
+CopiesAbove [] = Unit {0}
+CopiesAbove (w ∷ below) = NoCopyUnder w below × CopiesAbove below
+
+-- the cells of a frame from the top down
+abbrev pub CellsInOrder : Starts → List Array → List Known → ℕ → List Word → Type 0
+CellsInOrder P arrays reach owner cells = AllByRecursion (WordInOrder P arrays reach owner) cells × CopiesAbove cells
+
 -- the frames of a task from the top down, each by what lies under it
 abbrev pub FramesInOrder : Starts → List Array → List Known → List Frame → Type 0
 FramesInOrder P arrays outer [] = Unit {0}
 FramesInOrder P arrays outer (f ∷ below) =
-    AllByRecursion (WordInOrder P arrays (map known_of (f ∷ below) ++ outer) f.identity) f.cells
+    CellsInOrder P arrays (map known_of (f ∷ below) ++ outer) f.identity f.cells
     × StandsInOrder (map known_of below ++ outer) f.standing
     × FramesInOrder P arrays outer below
 
@@ -252,26 +273,37 @@ pub record TasksInOrder (P : Starts) (setting : Setting) (job : Job) : Type 0 wh
   pub few : length job.tasks ≤ 15
   pub reads : AllByRecursion (λ n. nat_abs n < 2 ^ 39) job.numbers
 
--- the counts of a job after a whole step
+-- the counts of a job but for its limit, as they stand before a step's last item of endings too
 pub record CountsInOrder (setting : Setting) (c : Course) : Type 0 where
   pub next : c.job.next_task ≤ c.made + 2
   pub within : c.made ≤ setting.limit
-  pub below_limit : c.job.tasks ≢ [] → c.made < setting.limit
   pub goes_on : c.job.tasks ≢ [] → (t : Task) × Has c.job.tasks t × IsTrue (is_ready t)
+
+-- a job with live tasks has not reached its limit
+abbrev pub BelowLimit : Setting → Course → Type 0
+BelowLimit setting c = c.job.tasks ≢ [] → c.made < setting.limit
 
 pub record JobInOrder (P : Starts) (setting : Setting) (c : Course) : Type 0 where
   pub unchanging : SettingInOrder setting
   pub tasks : TasksInOrder P setting c.job
   pub counts : CountsInOrder setting c
+  pub below_limit : BelowLimit setting c
 
 abbrev pub SwitchesRise : List Switch → Type 0
 SwitchesRise [] = Unit {0}
 SwitchesRise (a ∷ []) = Unit {0}
 SwitchesRise (a ∷ b ∷ more) = (a.count < b.count) × SwitchesRise (b ∷ more)
 
+-- jobs are numbered in order
+abbrev pub NumberedFrom : ℕ → List Member → Type 0
+NumberedFrom n [] = Unit {0}
+NumberedFrom n (m ∷ more) = (m.setting.number ≡ n) × NumberedFrom (n + 1) more
+
 -- the whole session, by what a place must be in each job
 pub record SessionInOrder (P : Setting → Starts) (s : Session) : Type 0 where
   pub few : length s.jobs ≤ 8
+  pub numbered : NumberedFrom 1 s.jobs
+  pub one_size : (stack : ℕ) × AllByRecursion (λ (m : Member). m.setting.stack_size ≡ stack) s.jobs
   pub jobs : AllByRecursion (λ (m : Member). JobInOrder (P m.setting) m.setting m.course) s.jobs
   pub switches : SwitchesRise s.switches
   pub peak_low : live_tasks s.jobs ≤ s.peak

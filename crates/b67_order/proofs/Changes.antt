@@ -8,7 +8,7 @@ use Rattle.b67_model.specs.Lists.{Has, total, how_many, Falls}
 use Rattle.b67_model.specs.Words.{Word}
 use Rattle.b67_model.specs.State.{Frame, Standing, Marked, Entered, Return, Array, Condition, Ready, Task, Setting, Job, Here, top, below_top, with_top_cells, height, with_task}
 use Rattle.b67_model.specs.Environment.{level_of_frame, running}
-use Rattle.b67_model.specs.InOrder.{Starts, Known, known_of, from_frame, base, outer_reach, outer_of, reach_of, known_numbers, identities, IsEntered, NamesEntered, WordInOrder, EnvironmentInOrder, StandsInOrder, FramesInOrder, StackInOrder, ReturnsInOrder, ParentInOrder, BirthInOrder, ConditionInOrder, TaskInOrder, ArrayInOrder, is_original_of, originals_in, originals_of, frames_named, TasksInOrder}
+use Rattle.b67_model.specs.InOrder.{Starts, Known, known_of, from_frame, base, outer_reach, outer_of, reach_of, known_numbers, identities, IsEntered, NamesEntered, WordInOrder, EnvironmentInOrder, StandsInOrder, CellsInOrder, FramesInOrder, StackInOrder, ReturnsInOrder, ParentInOrder, BirthInOrder, ConditionInOrder, TaskInOrder, ArrayInOrder, is_original_of, originals_in, originals_of, frames_named, TasksInOrder}
 use Rattle.b67_order.proofs.Members.{has_append_left, has_map, has_map_back, all_in, keyed_has, falls_low, falls_more}
 use Rattle.b67_order.proofs.Reaches.{Alike, alike_same, alike_append, Stays, Wider, words_wider, stands_wider, known_number, frames_alike}
 use Rattle.b67_order.proofs.Replaced.{KeptOrLeft, Replaced, replaced, outer_kept}
@@ -103,7 +103,7 @@ change_arrays P h arrays arrays' frames next c stay = record {
 
 -- other cells of the top frame
 abbrev pub TopWords : Starts → Here → List Array → List Frame → List Word → Type 0
-TopWords P h arrays frames cells = AllByRecursion (WordInOrder P arrays (map known_of frames ++ outside h) (top frames).identity) cells
+TopWords P h arrays frames cells = CellsInOrder P arrays (map known_of frames ++ outside h) (top frames).identity cells
 
 pub change_cells : (P : Starts) (h : Here) (arrays : List Array) (frames : List Frame) (next : ℕ) (cells : List Word) → Change P h arrays frames next → TopWords P h arrays frames cells →
     Change P h arrays (with_top_cells frames cells) next
@@ -145,7 +145,7 @@ fresh_frame h standing = record { identity = h.job.next_frame; standing = standi
 pub change_push : (P : Starts) (h : Here) (arrays : List Array) (frames : List Frame) (standing : Standing) → Run P h → Change P h arrays frames h.job.next_frame →
     StandsInOrder (map known_of frames ++ outside h) standing → ReturnsInOrder P standing frames → Change P h arrays (fresh_frame h standing ∷ frames) (h.job.next_frame + 1)
 change_push P h arrays frames standing run c stands returns = record {
-  order = (tt, stands, c.order);
+  order = ((tt, tt), stands, c.order);
   returns = (returns, c.returns);
   some = λ e. cc;
   falls = (omega arith, c.falls);
@@ -193,7 +193,7 @@ change_enter P h arrays f below next level environment back c marked stands retu
     ] in
     let wide : Wider old new arrays arrays = record { entered = more; kept = λ a k at. itself arrays a k } in
     record {
-      order = (words_wider P old new arrays arrays f.identity wide (inl refl) f.cells c.order.0, stands, c.order.2);
+      order = ((words_wider P old new arrays arrays f.identity wide (inl refl) f.cells c.order.0.0, c.order.0.1), stands, c.order.2);
       returns = (returns, c.returns.1);
       some = λ e. cc;
       falls = c.falls;

@@ -17,7 +17,7 @@ use Rattle.b67_model.specs.Chase.{End, AtCell, AtElement, AtArray, AtProc, AtInt
 use Rattle.b67_model.specs.Steps.{Line, Done, Goes, Leaves, Waits, top_of, cells_of, result, with_frames, with_cells, leaves_cells, pushes, is_critical, without_arrays_of}
 use Rattle.b67_model.specs.Entry.{mkst, needs_level, accident, back_to, evaluates, enters, left, leaves, exit, returnable, returned, retn_word, retn}
 use Rattle.b67_model.specs.Intrinsics.{is_original}
-use Rattle.b67_model.specs.InOrder.{Starts, Known, known_of, from_frame, base, outer_reach, outer_of, reach_of, known_numbers, identities, IsEntered, NamesEntered, NamesArray, OwnsArray, WordInOrder, EnvironmentInOrder, StandsInOrder, FramesInOrder, StackInOrder, ReturnsInOrder, ConditionInOrder, TaskInOrder, ArrayInOrder, is_original_of, originals_in, originals_of, frames_named, TasksInOrder}
+use Rattle.b67_model.specs.InOrder.{Starts, Known, known_of, from_frame, base, outer_reach, outer_of, reach_of, known_numbers, identities, IsEntered, NamesEntered, NamesArray, OwnsArray, WordInOrder, EnvironmentInOrder, StandsInOrder, CellsInOrder, CopiesAbove, FramesInOrder, StackInOrder, ReturnsInOrder, ConditionInOrder, TaskInOrder, ArrayInOrder, is_original_of, originals_in, originals_of, frames_named, TasksInOrder}
 use Rattle.b67_order.proofs.Members.{has_append_left, has_append_right, has_map, has_reverse, has_reverse_back, has_filter, has_filter_in, all_in, all_from, any_none, keyed_has, change_found, falls_low, falls_more, falls_filter, falls_same, none_pass, total_reverse}
 use Rattle.b67_order.proofs.Reaches.{Alike, alike_has, alike_same, Stays, Wider, word_wider}
 use Rattle.b67_order.proofs.Replaced.{KeptOrLeft, Replaced, replaced, numbers_append}
@@ -25,7 +25,7 @@ use Rattle.b67_order.proofs.Looks.{Run, reach, own_order, Seen, see, level_low, 
 use Rattle.b67_order.proofs.Changes.{Change, TopWords, outside, no_change, change_arrays, change_cells, change_push, change_drop, change_enter, changed, fresh_frame, run_replaced}
 use Rattle.b67_order.proofs.Chases.{EndInOrder, IsProcOf, IsCell, follow_in, array_is}
 use Rattle.b67_order.proofs.Posts.{Post, post_ok, post_err, post_bind, post_any, post_then, post_needs, post_if, post_if_is, post_more}
-use Rattle.b67_order.proofs.Steps.{Keeps, Good, Fit, AllFit, originals, SameOriginals, own_fit, running_cells, known_cells, originals_cells, some_cells, result_good, cells_good, push_good, environment_of_proc, accident_good, element_low, evaluates_good}
+use Rattle.b67_order.proofs.Steps.{Keeps, Good, Fit, AllFit, originals, SameOriginals, own_fit, own_copies, running_cells, known_cells, originals_cells, some_cells, result_good, cells_good, push_good, environment_of_proc, accident_good, element_low, evaluates_good}
 use Rattle.b67_order.proofs.Chases.{follow_reference_in}
 
 -- the marked frame on top, with these cells, is entered
@@ -56,8 +56,8 @@ originals_top : (n : ℕ) (fs : List Frame) (standing : Standing) (cells : List 
 originals_top n [] standing cells some e = absurd (some refl)
 originals_top n (f ∷ below) standing cells some e = omega (arith, e)
 
-pub enters_good : (P : Starts) (h : Here) (arguments : List Word) (end : End) → Run P h → EndInOrder P h end → (top_of h).standing ≡ Marked → AllFit P h (reverse arguments) → SameOriginals (reverse arguments) (cells_of h) → Good P h (enters h arguments end)
-enters_good P h arguments (AtProc f segment level place) run is marked fit same =
+pub enters_good : (P : Starts) (h : Here) (arguments : List Word) (end : End) → Run P h → EndInOrder P h end → (top_of h).standing ≡ Marked → AllFit P h (reverse arguments) → CopiesAbove (reverse arguments) → SameOriginals (reverse arguments) (cells_of h) → Good P h (enters h arguments end)
+enters_good P h arguments (AtProc f segment level place) run is marked fit above same =
     let own = own_order P h run in
     let fs = h.task.frames in
     post_needs (Keeps P h) (eqb (level_of_frame (frame h f) + 1) level) _ _
@@ -67,12 +67,12 @@ enters_good P h arguments (AtProc f segment level place) run is marked fit same 
             environment_of_proc P h run (map known_of (below_top fs) ++ outside h) f segment level place is (λ s e k. below_marked fs (outside h) f s marked e k) t in
         let starts : P h.task.segment (level_of_frame (running (below_top fs))) h.task.place = subst (λ n. P h.task.segment n h.task.place) (running_marked fs marked) run.place in
         changed P h (record (top_of h) { standing = Entered level f (Some (back_to h false h.task.place)); cells = reverse arguments } ∷ below_top fs) h.job.next_frame segment place run
-        (enter_top P h fs h.job.next_frame level f (back_to h false h.task.place) (reverse arguments) (no_change P h run) fit marked environment (below_some P fs own.returns own.some marked, starts))
+        (enter_top P h fs h.job.next_frame level f (back_to h false h.task.place) (reverse arguments) (no_change P h run) (fit, above) marked environment (below_some P fs own.returns own.some marked, starts))
         low is.starts (λ n. originals_top n fs (Entered level f (Some (back_to h false h.task.place))) (reverse arguments) own.some (same n))))
-enters_good P h arguments (AtCell f offset bits) run is marked fit same = post_err (Keeps P h) _
-enters_good P h arguments (AtElement a index) run is marked fit same = post_err (Keeps P h) _
-enters_good P h arguments (AtArray a) run is marked fit same = post_err (Keeps P h) _
-enters_good P h arguments (AtIntrinsic n) run is marked fit same = post_err (Keeps P h) _
+enters_good P h arguments (AtCell f offset bits) run is marked fit above same = post_err (Keeps P h) _
+enters_good P h arguments (AtElement a index) run is marked fit above same = post_err (Keeps P h) _
+enters_good P h arguments (AtArray a) run is marked fit above same = post_err (Keeps P h) _
+enters_good P h arguments (AtIntrinsic n) run is marked fit above same = post_err (Keeps P h) _
 
 -- the task's frames, taken apart
 pub record Apart (h : Here) : Type 0 where
@@ -181,7 +181,7 @@ module _ (P : Starts) (h : Here) (run : Run P h) where
           let inside = has_filter (λ (x : Array). not (eqb x.owner n)) h.job.arrays a k in
           let other : a.owner ≢ n = λ e. elim (eqb_tells a.owner n) [ inl s ↦ true≢false (sym inside.1 ∙ rw s.0 refl) | inr s ↦ s.1 e ] in
           let none : originals a.identity p.f.cells ≡ 0 = none_pass (is_original_of a.identity) p.f.cells (λ w j.
-            none_original h.job P (map known_of (p.f ∷ p.below) ++ outside h) n a run.order.names inside.0 other w (all_in (WordInOrder P h.job.arrays (map known_of (p.f ∷ p.below) ++ outside h) n) p.f.cells w whole.order.0 j)) in
+            none_original h.job P (map known_of (p.f ∷ p.below) ++ outside h) n a run.order.names inside.0 other w (all_in (WordInOrder P h.job.arrays (map known_of (p.f ∷ p.below) ++ outside h) n) p.f.cells w whole.order.0.0 j)) in
           let split : originals_in a.identity h.task.frames ≡ originals a.identity p.f.cells + originals_in a.identity p.below = rw p.are refl in
           omega (arith, split, none, all_in (λ (x : Array). originals_of x.identity h.setting h.job ≡ 1) h.job.arrays a run.order.once inside.0);
         names = falls_filter (λ (x : Array). x.identity) (λ (x : Array). not (eqb x.owner n)) h.job.next_array h.job.arrays run.order.names;

@@ -9,7 +9,7 @@ use Rattle.b67_model.specs.Words.{Word, Operand, Name, Ref, Row, Element, Origin
 use Rattle.b67_model.specs.State.{Frame, Standing, Marked, Entered, Return, Array, Condition, Ready, Task, Setting, Job, Here, mcp, no_frame, all_frames, frame}
 use Rattle.b67_model.specs.Environment as Environment
 use Rattle.b67_model.specs.Environment.{level_of_standing, level_of_frame, environment_of, running_from, outward, running_level, frame_at}
-use Rattle.b67_model.specs.InOrder.{Starts, Known, known_of, from_frame, frames_of_task, critical_of, base, outer_reach, outer_of, reach_of, known_numbers, identities, IsEntered, NamesEntered, NamesArray, OwnsArray, WordInOrder, EnvironmentInOrder, StandsInOrder, FramesInOrder, StackInOrder, ReturnsInOrder, ParentInOrder, BirthInOrder, TaskInOrder, EntryInOrder, frames_named, frames_in_job, SettingInOrder, TasksInOrder}
+use Rattle.b67_model.specs.InOrder.{Starts, Known, known_of, from_frame, frames_of_task, critical_of, base, outer_reach, outer_of, reach_of, known_numbers, identities, IsEntered, NamesEntered, NamesArray, OwnsArray, WordInOrder, EnvironmentInOrder, StandsInOrder, CellsInOrder, FramesInOrder, StackInOrder, ReturnsInOrder, ParentInOrder, BirthInOrder, TaskInOrder, EntryInOrder, frames_named, frames_in_job, SettingInOrder, TasksInOrder}
 use Rattle.b67_order.proofs.Members.{has_append_left, has_append_right, has_append_cases, has_map, has_map_back, has_flat, all_in, keyed_has, keyed_once, keyed_left, keyed_right, total_flat, total_zero, none_pass, falls_above}
 use Rattle.b67_order.proofs.Reaches.{Stays, Wider, word_wider, words_wider, stands_wider, known_number, Births}
 use Rattle.b67_order.proofs.Replaced.{numbers_append, birth_same}
@@ -35,7 +35,7 @@ frames_append P arrays outer [] gs is under g = under
 frames_append P arrays outer (f ∷ fs) gs is under g =
     let whole : map known_of (f ∷ fs) ++ outer ≡ map known_of ((f ∷ fs) ++ gs) ++ base = ap (λ o. map known_of (f ∷ fs) ++ o) is ∙ reach_append (f ∷ fs) gs base in
     let rest : map known_of fs ++ outer ≡ map known_of (fs ++ gs) ++ base = ap (λ o. map known_of fs ++ o) is ∙ reach_append fs gs base in
-    (subst (λ reach. AllByRecursion (WordInOrder P arrays reach f.identity) f.cells) whole g.0,
+    (subst (λ reach. CellsInOrder P arrays reach f.identity f.cells) whole g.0,
     subst (λ reach. StandsInOrder reach f.standing) rest g.1,
     frames_append P arrays outer fs gs is under g.2)
 
@@ -146,7 +146,7 @@ line_words : (P : Starts) (arrays : List Array) (outer : List Known) (fs : List 
 line_words P arrays outer [] f g h = absurd h
 line_words P arrays outer (x ∷ fs) f g h = elim h [
   | inl e ↦ subst (λ (y : Frame). AllByRecursion (WordInOrder P arrays (map known_of (x ∷ fs) ++ outer) y.identity) y.cells × StandsInOrder (map known_of (x ∷ fs) ++ outer) y.standing) e
-      (g.0, stands_wider (map known_of fs ++ outer) (map known_of (x ∷ fs) ++ outer) x.standing (λ n t e k. inr k) g.1)
+      (g.0.0, stands_wider (map known_of fs ++ outer) (map known_of (x ∷ fs) ++ outer) x.standing (λ n t e k. inr k) g.1)
   | inr m ↦
       let r = line_words P arrays outer fs f g.2 m in
       let wide : Wider (map known_of fs ++ outer) (map known_of (x ∷ fs) ++ outer) arrays arrays =

@@ -119,7 +119,7 @@ frames_alike P arrays arrays' outer outer' (f ∷ below) alike stay g =
     let same : (fs : List Frame) → Alike (map known_of fs ++ outer) (map known_of fs ++ outer') = λ fs. alike_under outer outer' fs alike in
     let wide : Wider (map known_of (f ∷ below) ++ outer) (map known_of (f ∷ below) ++ outer') arrays arrays' =
         record { entered = λ n s e h. alike_has (map known_of (f ∷ below) ++ outer) (map known_of (f ∷ below) ++ outer') n s (same (f ∷ below)) e h; kept = stay } in
-    (words_wider P (map known_of (f ∷ below) ++ outer) (map known_of (f ∷ below) ++ outer') arrays arrays' f.identity wide (inl refl) f.cells g.0,
+    ((words_wider P (map known_of (f ∷ below) ++ outer) (map known_of (f ∷ below) ++ outer') arrays arrays' f.identity wide (inl refl) f.cells g.0.0, g.0.1),
     stands_wider (map known_of below ++ outer) (map known_of below ++ outer') f.standing (λ n t e h. alike_has (map known_of below ++ outer) (map known_of below ++ outer') n t (same below) e h) g.1,
     frames_alike P arrays arrays' outer outer' below alike (λ a h at. stay a h (inr at)) g.2)
 
