@@ -8,3 +8,4 @@ pub mod Changes
 pub mod Steps
 pub mod Entries
 pub mod Returns
+pub mod Cells
