@@ -58,3 +58,7 @@ post_is (Err fault) = record { by = tt }
 
 pub post_at : {A : Type 0} (P : A → Type 0) (a : Answer A) (x : A) → a ≡ Ok x → Post P a → P x
 post_at P a x e g = let there : Post P (Ok x) = subst (Post P) e g in there.by
+
+pub post_any_at : {A : Type 0} {P : A → Type 0} (a : Answer A) → ((x : A) → P x) → Post P a
+post_any_at (Ok x) each = record { by = each x }
+post_any_at (Err fault) each = record { by = tt }
