@@ -80,7 +80,7 @@ disp_low bits level low = elim (cases_Bool (leb level 1)) [
     ])
 ]
 
-some_ok : {A : Type 0} (o : Option A) (fault : Fault) (x : A) → ok_or o fault ≡ Ok x → o ≡ Some x
+pub some_ok : {A : Type 0} (o : Option A) (fault : Fault) (x : A) → ok_or o fault ≡ Ok x → o ≡ Some x
 some_ok None fault x e = cc
 some_ok (Some y) fault x e = let same : y ≡ x = cc in ap Some same
 

@@ -9,3 +9,5 @@ pub mod Steps
 pub mod Entries
 pub mod Returns
 pub mod Cells
+pub mod Maps
+pub mod Stores

@@ -98,7 +98,7 @@ module _ (P : Starts) (setting : Setting) (job : Job) (g : TasksInOrder P settin
       ])))
 
   -- a live frame is found by its identity
-  found_frame : (f : Frame) → IsFrame job f → keyed (λ (x : Frame). x.identity) f.identity (flat_map (λ (t : Task). t.frames) job.tasks) ≡ Some f
+  pub found_frame : (f : Frame) → IsFrame job f → keyed (λ (x : Frame). x.identity) f.identity (flat_map (λ (t : Task). t.frames) job.tasks) ≡ Some f
   found_frame f live = keyed_once (λ (x : Frame). x.identity) f.identity (flat_map (λ (t : Task). t.frames) job.tasks) f
       (rw (total_flat (λ (t : Task). t.frames) (λ (x : Frame). cond (eqb x.identity f.identity) 1 0) job.tasks) (g.apart f.identity))
       (has_flat (λ (t : Task). t.frames) job.tasks live.task f live.live live.among) refl

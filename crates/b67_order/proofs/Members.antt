@@ -303,3 +303,18 @@ falls_same key bound xs x y f h k e =
     let two : keyed key (key x) xs ≡ Some y = rw e (keyed_falls key bound xs y f k) in
     let both : Some x ≡ Some y = sym one ∙ two in
     cc
+
+pub keyed_map : {A : Type 0} (key : A → ℕ) (n : ℕ) (change : A → A) (xs : List A) (x : A) → ((y : A) → key (change y) ≡ key y) → keyed key n xs ≡ Some x → keyed key n (map change xs) ≡ Some (change x)
+keyed_map key n change [] x same e = cc
+keyed_map key n change (y ∷ ys) x same e = elim (eqb_tells (key y) n) [
+  | inl t ↦ let at : Some y ≡ Some x = rw t.0 at e in
+      let is : y ≡ x = cc in
+      let k : eqb (key (change y)) n ≡ true = rw (same y) t.0 in
+      rw k (ap (λ z. Some (change z)) is)
+  | inr t ↦ let k : eqb (key (change y)) n ≡ false = rw (same y) t.0 in
+      rw k (keyed_map key n change ys x same (rw t.0 at e))
+]
+
+pub map_map_key : {A B : Type 0} (key : A → B) (change : A → A) (xs : List A) → ((y : A) → key (change y) ≡ key y) → map key (map change xs) ≡ map key xs
+map_map_key key change [] same = refl
+map_map_key key change (x ∷ xs) same = ap (λ k. k ∷ map key (map change xs)) (same x) ∙ ap (λ ks. key x ∷ ks) (map_map_key key change xs same)
