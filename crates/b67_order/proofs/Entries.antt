@@ -37,18 +37,18 @@ enter_top P h (f ∷ below) next level environment back cells c words marked sta
     change_enter P h h.job.arrays (record f { cells = cells }) below next level environment back (change_cells P h h.job.arrays (f ∷ below) next cells c words) marked stands returns
 
 -- what an entered frame is in reach of a marked one lies below it
-below_marked : (fs : List Frame) (outer : List Known) (n : ℕ) (s : Standing) → (top fs).standing ≡ Marked → IsEntered s → Has (map known_of fs ++ outer) (n, s) → Has (map known_of (below_top fs) ++ outer) (n, s)
+pub below_marked : (fs : List Frame) (outer : List Known) (n : ℕ) (s : Standing) → (top fs).standing ≡ Marked → IsEntered s → Has (map known_of fs ++ outer) (n, s) → Has (map known_of (below_top fs) ++ outer) (n, s)
 below_marked [] outer n s marked e k = k
 below_marked (f ∷ below) outer n s marked e k = elim k [
   | inl is ↦ let no : f.standing ≡ s = ap (λ (x : Known). x.1) is in absurd (subst IsEntered (sym no ∙ marked) e)
   | inr m ↦ m
 ]
 
-running_marked : (fs : List Frame) → (top fs).standing ≡ Marked → level_of_frame (running fs) ≡ level_of_frame (running (below_top fs))
+pub running_marked : (fs : List Frame) → (top fs).standing ≡ Marked → level_of_frame (running fs) ≡ level_of_frame (running (below_top fs))
 running_marked [] marked = refl
 running_marked (f ∷ below) marked = rw marked refl
 
-below_some : (P : Starts) (fs : List Frame) → StackInOrder P fs → fs ≢ [] → (top fs).standing ≡ Marked → below_top fs ≢ []
+pub below_some : (P : Starts) (fs : List Frame) → StackInOrder P fs → fs ≢ [] → (top fs).standing ≡ Marked → below_top fs ≢ []
 below_some P [] g some marked = absurd (some refl)
 below_some P (f ∷ below) g some marked = subst (λ s. ReturnsInOrder P s below) marked g.0
 

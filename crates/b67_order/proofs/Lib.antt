@@ -11,3 +11,4 @@ pub mod Returns
 pub mod Cells
 pub mod Maps
 pub mod Stores
+pub mod Cuts

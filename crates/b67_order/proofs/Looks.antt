@@ -81,7 +81,7 @@ module _ (P : Starts) (setting : Setting) (job : Job) (g : TasksInOrder P settin
       }
 
   -- every frame of a task has an identity above the dictionary's
-  above_one : (t : Task) → Has job.tasks t → (f : Frame) → Has t.frames f → 1 < f.identity
+  pub above_one : (t : Task) → Has job.tasks t → (f : Frame) → Has t.frames f → 1 < f.identity
   above_one t here f h =
       let rest : Line P job (outer_of job t) = line_outer t here t.parents refl in
       let ones : Has (known_numbers (outer_of job t)) 1 =

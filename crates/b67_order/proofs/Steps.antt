@@ -49,7 +49,7 @@ originals n words = how_many (is_original_of n) words
 abbrev pub SameOriginals : List Word → List Word → Type 0
 SameOriginals words others = (n : ℕ) → originals n words ≡ originals n others
 
-top_words : (P : Starts) (arrays : List Array) (outer : List Known) (fs : List Frame) → FramesInOrder P arrays outer fs → CellsInOrder P arrays (map known_of fs ++ outer) (top fs).identity (top fs).cells
+pub top_words : (P : Starts) (arrays : List Array) (outer : List Known) (fs : List Frame) → FramesInOrder P arrays outer fs → CellsInOrder P arrays (map known_of fs ++ outer) (top fs).identity (top fs).cells
 top_words P arrays outer [] g = (tt, tt)
 top_words P arrays outer (f ∷ below) g = g.0
 
