@@ -70,7 +70,7 @@ two_keeps P h f fits (b ∷ Operand x ∷ rest) all above = on_lower b all above
 two_keeps P h f fits (b ∷ w ∷ rest) all above = post_err _ _
 
 -- a word that may be moved is no original
-plain_word : (w : Word) → is_original w ≡ false → (n : ℕ) → is_original_of n w ≡ false
+pub plain_word : (w : Word) → is_original w ≡ false → (n : ℕ) → is_original_of n w ≡ false
 plain_word (Original a) e n = absurd (true≢false e)
 plain_word (Operand bits) e n = refl
 plain_word (Name couple) e n = refl

@@ -51,9 +51,10 @@ pub record Cut (P : Starts) (h : Here) : Type 0 where
 pub changed_reads : (P : Starts) (h : Here) (frames : List Frame) (numbers : List ℤ) → Run P h → Change P h h.job.arrays frames h.job.next_frame → height frames ≤ h.setting.stack_size →
     level_of_frame (running frames) ≡ level_of_frame (running h.task.frames) → ((n : ℕ) → originals_in n frames ≡ originals_in n h.task.frames) → AllByRecursion (λ n. nat_abs n < 2 ^ 39) numbers →
     TasksInOrder P h.setting (with_task (record h.job { numbers = numbers }) (with_frames h frames))
+    × Alike (outside h) (outer_of (with_task (record h.job { numbers = numbers }) (with_frames h frames)) (with_frames h frames))
 changed_reads P h frames numbers run c low level same reads =
     let new : Task = with_frames h frames in
-    (run_replaced P h (with_task (record h.job { numbers = numbers }) new) new run (record {
+    run_replaced P h (with_task (record h.job { numbers = numbers }) new) new run (record {
       number = refl;
       line = refl;
       critical = refl;
@@ -75,11 +76,11 @@ changed_reads P h frames numbers run c low level same reads =
       once = λ a k. omega (arith, same a.identity, all_in (λ (x : Array). originals_of x.identity h.setting h.job ≡ 1) h.job.arrays a run.order.once k);
       names = run.order.names;
       reads = reads;
-    })).0
+    })
 
 module _ (P : Starts) (h : Here) (cut : Cut P h) where
   -- the frames without the marked one
-  below_of : Change P h h.job.arrays (below_top h.task.frames) h.job.next_frame → (n : ℕ) → originals_in n (below_top h.task.frames) ≡ originals_in n h.task.frames
+  pub below_of : Change P h h.job.arrays (below_top h.task.frames) h.job.next_frame → (n : ℕ) → originals_in n (below_top h.task.frames) ≡ originals_in n h.task.frames
   below_of c n =
       let p = taken_apart P h cut.run in
       let split : originals_in n h.task.frames ≡ originals n (cells_of h) + originals_in n (below_top h.task.frames) = rw p.are refl in
@@ -93,7 +94,7 @@ module _ (P : Starts) (h : Here) (cut : Cut P h) where
       let free' : not (is_critical h.job p.f.identity) ≡ true = subst (λ (x : Frame). not (is_critical h.job x.identity) ≡ true) (top_is h p) free in
       subst (λ fs. Change P h h.job.arrays fs h.job.next_frame) (sym (below_is h p)) (change_drop P h h.job.arrays p.f p.below h.job.next_frame (parted P h cut.run p) (free_by h.job p.f.identity free') some)
 
-  low_below : height (below_top h.task.frames) ≤ h.setting.stack_size
+  pub low_below : height (below_top h.task.frames) ≤ h.setting.stack_size
   low_below =
       let p = taken_apart P h cut.run in
       let low : height (below_top h.task.frames) ≤ height h.task.frames = rw p.are (omega arith) in
@@ -103,7 +104,7 @@ module _ (P : Starts) (h : Here) (cut : Cut P h) where
   pub cut_low : not (is_critical h.job (top_of h).identity) ≡ true → TasksInOrder P h.setting (with_task h.job (answered h []))
   cut_low free =
       let c = cut_change free in
-      changed_reads P h (below_top h.task.frames) h.job.numbers cut.run c low_below (sym (running_marked h.task.frames cut.marked)) (below_of c) cut.run.order.reads
+      (changed_reads P h (below_top h.task.frames) h.job.numbers cut.run c low_below (sym (running_marked h.task.frames cut.marked)) (below_of c) cut.run.order.reads).0
 
   pub answers_none : (printed : List Line) (touched : Option ℕ) → Good P h (answers h h.job [] printed touched)
   answers_none printed touched = post_needs (Keeps P h) (not (is_critical h.job (top_of h).identity)) _ _
@@ -113,15 +114,24 @@ module _ (P : Starts) (h : Here) (cut : Cut P h) where
   pub pushed_words : (bits : ℕ) → bits < 2 ^ 48 → Change P h h.job.arrays (below_top h.task.frames) h.job.next_frame → TopWords P h h.job.arrays (below_top h.task.frames) (Operand bits ∷ (top (below_top h.task.frames)).cells)
   pushed_words bits low c = let own = top_words P h.job.arrays (outside h) (below_top h.task.frames) c.order in ((low, own.0), (tt, own.1))
 
-  pub answer_job : (bits : ℕ) (numbers : List ℤ) → bits < 2 ^ 48 → AllByRecursion (λ n. nat_abs n < 2 ^ 39) numbers → not (is_critical h.job (top_of h).identity) ≡ true → height (answered h (Operand bits ∷ [])).frames ≤ h.setting.stack_size →
+  pub answer_both : (bits : ℕ) (numbers : List ℤ) → bits < 2 ^ 48 → AllByRecursion (λ n. nat_abs n < 2 ^ 39) numbers → not (is_critical h.job (top_of h).identity) ≡ true → height (answered h (Operand bits ∷ [])).frames ≤ h.setting.stack_size →
       TasksInOrder P h.setting (with_task (record h.job { numbers = numbers }) (answered h (Operand bits ∷ [])))
-  answer_job bits numbers low reads free high =
+      × Alike (outside h) (outer_of (with_task (record h.job { numbers = numbers }) (answered h (Operand bits ∷ []))) (answered h (Operand bits ∷ [])))
+  answer_both bits numbers low reads free high =
       let c = cut_change free in
       let below = below_top h.task.frames in
       let cells = Operand bits ∷ (top below).cells in
       let level : level_of_frame (running (with_top_cells below cells)) ≡ level_of_frame (running h.task.frames) = running_cells below cells ∙ sym (running_marked h.task.frames cut.marked) in
       changed_reads P h (with_top_cells below cells) numbers cut.run (change_cells P h h.job.arrays below h.job.next_frame cells c (pushed_words bits low c)) high level
       (λ n. originals_cells n below cells (omega arith) ∙ below_of c n) reads
+
+  pub answer_job : (bits : ℕ) (numbers : List ℤ) → bits < 2 ^ 48 → AllByRecursion (λ n. nat_abs n < 2 ^ 39) numbers → not (is_critical h.job (top_of h).identity) ≡ true → height (answered h (Operand bits ∷ [])).frames ≤ h.setting.stack_size →
+      TasksInOrder P h.setting (with_task (record h.job { numbers = numbers }) (answered h (Operand bits ∷ [])))
+  answer_job bits numbers low reads free high = (answer_both bits numbers low reads free high).0
+
+  pub answer_outer : (bits : ℕ) (numbers : List ℤ) → bits < 2 ^ 48 → AllByRecursion (λ n. nat_abs n < 2 ^ 39) numbers → not (is_critical h.job (top_of h).identity) ≡ true → height (answered h (Operand bits ∷ [])).frames ≤ h.setting.stack_size →
+      Alike (outside h) (outer_of (with_task (record h.job { numbers = numbers }) (answered h (Operand bits ∷ []))) (answered h (Operand bits ∷ [])))
+  answer_outer bits numbers low reads free high = (answer_both bits numbers low reads free high).1
 
   pub answers_operand : (bits : ℕ) (numbers : List ℤ) (printed : List Line) (touched : Option ℕ) → bits < 2 ^ 48 → AllByRecursion (λ n. nat_abs n < 2 ^ 39) numbers → Good P h (answers h (record h.job { numbers = numbers }) (Operand bits ∷ []) printed touched)
   answers_operand bits numbers printed touched low reads = post_needs (Keeps P h) (not (is_critical h.job (top_of h).identity)) _ _

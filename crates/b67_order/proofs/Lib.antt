@@ -12,3 +12,6 @@ pub mod Cells
 pub mod Maps
 pub mod Stores
 pub mod Cuts
+pub mod Bounds
+pub mod Calls
+pub mod Children

@@ -146,7 +146,7 @@ element_stored P h a index bits cells run low fit above same = result_good P h h
     })).0)
 
 -- a cell that holds an operand, in whichever live frame has the identity
-operand_is : (w : Word) (bits : ℕ) → Operand bits ≡ w → IsOperand w
+pub operand_is : (w : Word) (bits : ℕ) → Operand bits ≡ w → IsOperand w
 operand_is w bits e = subst IsOperand e tt
 
 pub holds_operand : (P : Starts) (h : Here) (n offset bits : ℕ) → Run P h → cell h n offset ≡ Ok (Operand bits) → (f : Frame) → IsFrame h.job f → f.identity ≡ n → slice_get (reverse f.cells) (offset - 2) ≡ Some (Operand bits)
@@ -161,7 +161,7 @@ holds_operand P h n offset bits run e f live is =
       | inr t ↦ let at : slice_get (reverse f.cells) (offset - first_offset f) ≡ Some (Operand bits) = rw t at some in subst (λ k. slice_get (reverse f.cells) (offset - k) ≡ Some (Operand bits)) two at
     ]
 
-same_item : (f : Frame) (i : ℕ) (w v : Word) → slice_get (reverse f.cells) i ≡ Some w → slice_get (reverse f.cells) i ≡ Some v → w ≡ v
+pub same_item : (f : Frame) (i : ℕ) (w v : Word) → slice_get (reverse f.cells) i ≡ Some w → slice_get (reverse f.cells) i ≡ Some v → w ≡ v
 same_item f i w v a b = let e : Some w ≡ Some v = sym a ∙ b in cc
 
 -- below some words that stay, what takes the place of others are operands
