@@ -53,13 +53,13 @@ pub on_cells_good : (P : Starts) (h : Here) (f : CellRow) → Run P h → KeepsC
 on_cells_good P h f run keeps = post_bind (CellsKept P h (cells_of h)) (Keeps P h) (f (cells_of h)) _ (keeps (cells_of h) (own_fit P h run) (own_copies P h run))
     (λ cells k. cells_good P h cells None run k.fit k.above k.same)
 
-one_keeps : (P : Starts) (h : Here) (f : ℕ → Answer ℕ) → Fits1 f → KeepsCells P h (on_one f)
+pub one_keeps : (P : Starts) (h : Here) (f : ℕ → Answer ℕ) → Fits1 f → KeepsCells P h (on_one f)
 one_keeps P h f fits [] all above = post_err _ _
 one_keeps P h f fits (Operand x ∷ rest) all above = post_bind (λ y. y < 2 ^ 48) (CellsKept P h (Operand x ∷ rest)) (f x) _ (fits x all.0)
     (λ y low. post_ok (CellsKept P h (Operand x ∷ rest)) _ (record { fit = (low, all.1); above = above; same = λ n. refl }))
 one_keeps P h f fits (w ∷ rest) all above = post_err _ _
 
-two_keeps : (P : Starts) (h : Here) (f : Binary) → Fits2 f → KeepsCells P h (on_two f)
+pub two_keeps : (P : Starts) (h : Here) (f : Binary) → Fits2 f → KeepsCells P h (on_two f)
 two_keeps P h f fits [] all above = post_err _ _
 two_keeps P h f fits (b ∷ []) all above = post_err _ _
 two_keeps P h f fits (b ∷ Operand x ∷ rest) all above = on_lower b all above where
@@ -85,15 +85,15 @@ pub movable_plain : (w : Word) → Post (λ v. is_original w ≡ false) (movable
 movable_plain w = post_if_is (λ v. is_original w ≡ false) (is_original w) _ _ (λ t. post_err (λ v. is_original w ≡ false) _) (λ t. post_ok (λ v. is_original w ≡ false) w t)
 
 -- what a plain word adds to a count
-none_of : (w : Word) (below : List Word) (n : ℕ) → is_original w ≡ false → originals n (w ∷ below) ≡ originals n below
+pub none_of : (w : Word) (below : List Word) (n : ℕ) → is_original w ≡ false → originals n (w ∷ below) ≡ originals n below
 none_of w below n e = let t = plain_word w e n in rw t (omega arith)
 
-dlet_keeps : (P : Starts) (h : Here) → KeepsCells P h dlet
+pub dlet_keeps : (P : Starts) (h : Here) → KeepsCells P h dlet
 dlet_keeps P h [] all above = post_err _ _
 dlet_keeps P h (a ∷ rest) all above = post_bind (λ v. is_original a ≡ false) (CellsKept P h (a ∷ rest)) (movable a) _ (movable_plain a)
     (λ v plain. post_ok (CellsKept P h (a ∷ rest)) _ (record { fit = all.1; above = above.1; same = λ n. sym (none_of a rest n plain) }))
 
-exch_keeps : (P : Starts) (h : Here) → KeepsCells P h exch
+pub exch_keeps : (P : Starts) (h : Here) → KeepsCells P h exch
 exch_keeps P h [] all above = post_err _ _
 exch_keeps P h (b ∷ []) all above = post_err _ _
 exch_keeps P h (b ∷ a ∷ rest) all above = post_bind (λ v. is_original a ≡ false) (CellsKept P h (b ∷ a ∷ rest)) (movable a) _ (movable_plain a)
@@ -104,7 +104,7 @@ exch_keeps P h (b ∷ a ∷ rest) all above = post_bind (λ v. is_original a ≡
         same = λ n. omega arith;
       })))
 
-dupl_keeps : (P : Starts) (h : Here) → KeepsCells P h dupl
+pub dupl_keeps : (P : Starts) (h : Here) → KeepsCells P h dupl
 dupl_keeps P h [] all above = post_err _ _
 dupl_keeps P h (a ∷ rest) all above = post_bind (λ v. is_original a ≡ false) (CellsKept P h (a ∷ rest)) (movable a) _ (movable_plain a)
     (λ v plain. post_ok (CellsKept P h (a ∷ rest)) _ (record { fit = (all.0, all); above = (plain_above a (a ∷ rest) (plain_word a plain), above); same = λ n. none_of a (a ∷ rest) n plain }))
@@ -112,7 +112,7 @@ dupl_keeps P h (a ∷ rest) all above = post_bind (λ v. is_original a ≡ false
 abbrev IsRefFit : Starts → Here → Word → Type 0
 IsRefFit P h v = Fit P h v × ((n : ℕ) → is_original_of n v ≡ false)
 
-stff_keeps : (P : Starts) (h : Here) → Run P h → KeepsCells P h (stff h)
+pub stff_keeps : (P : Starts) (h : Here) → Run P h → KeepsCells P h (stff h)
 stff_keeps P h run [] all above = post_err _ _
 stff_keeps P h run (Ref f offset ∷ rest) all above = post_ok _ _ (record { fit = all; above = above; same = λ n. refl })
 stff_keeps P h run (Name couple ∷ rest) all above = post_bind (IsRefFit P h) (CellsKept P h (Name couple ∷ rest)) (stff_word h (Name couple)) _

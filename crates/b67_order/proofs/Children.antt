@@ -200,7 +200,7 @@ word_any P arrays reach reach' owner other (Words.Segment number) wide plain g =
 
 module _ (P : Starts) (h : Here) (run : Run P h) (marked : (top_of h).standing ≡ Marked) (low_next : h.job.next_task < 2 ^ 48) where
   -- the call's mark has no original where its words have none
-  started_good : (words : List Word) (environment segment level : ℕ) (place : Place) → ((n : ℕ) → originals n (cells_of h) ≡ 0) → AllFit P h words → list_any is_original words ≡ false →
+  pub started_good : (words : List Word) (environment segment level : ℕ) (place : Place) → ((n : ℕ) → originals n (cells_of h) ≡ 0) → AllFit P h words → list_any is_original words ≡ false →
       IsProcOf P (reach h) environment segment level place → eqb (level_of_frame (frame h environment) + 1) level ≡ true → 3 + length words ≤ h.setting.stack_size → length h.job.tasks < 15 →
       not (is_critical h.job (top_of h).identity) ≡ true → height (answered h (Operand h.job.next_task ∷ [])).frames ≤ h.setting.stack_size →
       TasksInOrder P h.setting (with_task (with_child h.job (child_of h words environment segment level place)) (answered h (Operand h.job.next_task ∷ [])))

@@ -94,7 +94,7 @@ free_of job n none t k e = let no = any_none (λ (u : Task). eqb u.critical n) j
   | inr s ↦ s.1 e
 ]
 
-not_true : (b : Bool) → not b ≡ true → b ≡ false
+pub not_true : (b : Bool) → not b ≡ true → b ≡ false
 not_true true e = absurd (true≢false (sym e))
 not_true false e = refl
 

@@ -15,3 +15,4 @@ pub mod Cuts
 pub mod Bounds
 pub mod Calls
 pub mod Children
+pub mod Rows

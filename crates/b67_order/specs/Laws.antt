@@ -1,5 +1,38 @@
--- The laws of this crate.
-use Rattle.std.specs.Prelude.{ℕ}
+-- The laws of this crate: what each step of the model keeps.
+use Rattle.std.specs.Prelude.{◌≡◌, ℕ, ◌+◌, ◌^◌, ◌<◌, false, Result, Ok, Err, IsTrue}
+use Rattle.b67_word.specs.declared.couples.Place.{Place}
+use Rattle.b67_model.specs.declared.operators.Op.{Op}
+use Rattle.b67_model.specs.declared.operators.Op.TheVariants.{Valc, Namc, Lt8, Lt16, Lt48, Mpcw, Brun, Brtr, Brfl, Bset, Brst, Isol, Insr, Plain}
+use Rattle.b67_model.specs.Answers.{Answer}
+use Rattle.b67_model.specs.Words.{Word, Proc}
+use Rattle.b67_model.specs.State.{Task, Setting, Job, Here}
+use Rattle.b67_model.specs.Environment.{running_level}
+use Rattle.b67_model.specs.Steps.{Done, Goes, Leaves, Waits}
+use Rattle.b67_model.specs.Rows.{is_proc, proc_of, row, step}
+use Rattle.b67_model.specs.InOrder.{Starts, IsSegment, IsStart, SettingInOrder, TasksInOrder, ConditionInOrder, reach_of}
 
-abbrev pub Nothing : Type 0
-Nothing = Unit {0}
+-- a Proc's place is one where its segment may be entered
+abbrev pub StartsAt : Starts → Word → Type 0
+StartsAt P (Proc segment level place) = P segment level place
+StartsAt P _ = Unit {0}
+
+-- what the parameters of an operator are: they have their bits, and places are such that the running activation may go on
+-- there
+abbrev pub ParametersFit : Starts → Here → Op → Type 0
+ParametersFit P h (Valc couple) = couple < 2 ^ 14
+ParametersFit P h (Namc couple) = couple < 2 ^ 14
+ParametersFit P h (Lt8 n) = n < 2 ^ 48
+ParametersFit P h (Lt16 n) = n < 2 ^ 48
+ParametersFit P h (Lt48 bits) = bits < 2 ^ 48
+ParametersFit P h (Mpcw bits) = IsTrue (is_proc h bits) → StartsAt P (proc_of bits)
+ParametersFit P h (Brun target) = P h.task.segment (running_level h) target
+ParametersFit P h (Brtr target) = P h.task.segment (running_level h) target
+ParametersFit P h (Brfl target) = P h.task.segment (running_level h) target
+ParametersFit P h _ = Unit {0}
+
+-- the state that a step leads to is in order; so is what a task that waits waits for
+abbrev pub KeepsOrder : Starts → Setting → Job → Task → Answer Done → Type 0
+KeepsOrder P setting job task (Ok (Goes after printed touched)) = TasksInOrder P setting after
+KeepsOrder P setting job task (Ok Leaves) = Unit {0}
+KeepsOrder P setting job task (Ok (Waits condition)) = ConditionInOrder (reach_of job task) condition
+KeepsOrder P setting job task (Err fault) = Unit {0}
