@@ -1,7 +1,8 @@
 //! The machine's words.
 
 ghost use Rattle.std.specs.Prelude.{◌≡◌, ◌↔◌, ◌+◌, ◌<◌, ◌≤◌, ◌^◌, IsSome, IfSome};
-ghost use Rattle.b67_word.specs.Tagged.{word, bits_at, IsWord};
+ghost use Rattle.b67_word.specs.Tagged.{word, bits_at, field_of, IsWord};
+ghost use Rattle.b67_word.specs.Operands.{operand_of, number_of};
 
 use std::marker::Model;
 
@@ -67,5 +68,46 @@ impl Word {
         ensures small { result < 2 ^ width }
     {
         (self.bits() >> low) % (1u64 << width)
+    }
+
+    /// Bits `high` down to `high - width + 1` as a number. None where they aren't a field: `high` is past 47, `width`
+    /// is 0, or the field would go on below bit 0.
+    pub fn field(self, high: u8, width: u8) -> Option<u64>
+        ensures { result ≡ field_of self high width }
+    {
+        if width > 0 && high <= 47 && width <= high + 1 {
+            Some(self.part(u32::from(high + 1 - width), u32::from(width)))
+        } else {
+            None
+        }
+    }
+
+    /// The operand of a number. None past 549,755,813,887 in magnitude, which the 39 bits of a mantissa don't hold.
+    pub fn operand(v: i64) -> Option<Word>
+        ensures { result ≡ operand_of v }
+    {
+        let magnitude = v.unsigned_abs();
+        if magnitude >= 0x80_0000_0000 {
+            None
+        } else if v < 0 {
+            Some(Word::of(0, 0x4000_0000_0000 + magnitude))
+        } else {
+            Some(Word::of(0, magnitude))
+        }
+    }
+
+    /// The number of a whole operand, minus zero as 0. None where the word isn't an operand or has an exponent.
+    pub fn value(self) -> Option<i64>
+        ensures { result ≡ number_of self }
+    {
+        if self.tag() != 0 || self.part(47, 1) != 0 || self.part(39, 7) != 0 {
+            return None;
+        }
+        let magnitude = self.part(0, 39) as i64;
+        if self.part(46, 1) == 0 {
+            Some(magnitude)
+        } else {
+            Some(-magnitude)
+        }
     }
 }
