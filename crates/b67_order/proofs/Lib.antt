@@ -16,3 +16,4 @@ pub mod Bounds
 pub mod Calls
 pub mod Children
 pub mod Rows
+pub mod Readings

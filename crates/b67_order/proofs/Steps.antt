@@ -145,7 +145,7 @@ accident_good P h cells back (AtArray a) run is fit above same starts = post_err
 accident_good P h cells back (AtIntrinsic n) run is fit above same starts = post_err (Keeps P h) _
 
 -- the numbers of an array in order
-number_low : (xs : List ℕ) (i : ℕ) → AllByRecursion (λ (n : ℕ). n < 2 ^ 48) xs → get_or xs i 0 < 2 ^ 48
+pub number_low : (xs : List ℕ) (i : ℕ) → AllByRecursion (λ (n : ℕ). n < 2 ^ 48) xs → get_or xs i 0 < 2 ^ 48
 number_low [] i all = omega arith
 number_low (x ∷ xs) zero all = all.0
 number_low (x ∷ xs) (suc i) all = number_low xs i all.1
