@@ -17,3 +17,5 @@ pub mod Calls
 pub mod Children
 pub mod Rows
 pub mod Readings
+pub mod Whole
+pub mod Segments
