@@ -144,3 +144,6 @@ module _ (core : List Tagged) (b h at : ℕ) where
         no_end [] x e q = absurd (q e)
         no_end (Area a ∷ ss) x e q = refl
         no_end (Hole m ∷ ss) x e q = absurd x
+
+pub all_above : (core : List Tagged) (low : ℕ) (ss : List Span) → IsDirectory core low ss → IsAbove core 152 0 low ss
+all_above core low ss d = record { laid = d.laid; spans = d.spans; ends = d.all; small = d.small; some = omega (arith, d.above) }
