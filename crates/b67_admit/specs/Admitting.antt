@@ -1,10 +1,9 @@
 -- The programs of a deck: assembled or read in job order, then admitted in job order, or the first refusal.
-use Rattle.std.specs.Prelude.{◌≡◌, ℕ, ◌*◌, ◌-◌, List, [], ◌∷◌, length, Option, Some, None, Result, Ok, Err, ⊤, slice_get}
-use Rattle.b67_codefile.specs.declared.fault.FormatError.{FormatError}
+use Rattle.std.specs.Prelude.{ℕ, List, [], ◌∷◌, Option, Some, None, Result, Ok, Err, ⊤, slice_get}
 use Rattle.b67_codefile.specs.declared.fault.BadFile.{BadFile}
 use Rattle.b67_codefile.specs.declared.fault.BadFile.TheVariants as bad
 use Rattle.b67_codefile.specs.declared.file.Codefile.{Codefile}
-use Rattle.b67_codefile.specs.Reading.{reading, reported}
+use Rattle.b67_codefile.specs.Reading.{file_of}
 use Rattle.b67_codefile.specs.Meaning.{program_of}
 use Rattle.b67_model.specs.Program.{Program}
 use Rattle.b67_model.specs.Loader as loader
@@ -46,15 +45,15 @@ told_of card (bad.TooMany at) = refusal.Codefile card 4 at
 told_of card (bad.Trailing at) = refusal.Codefile card 5 at
 told_of card bad.Memory = refusal.Codefile card 0 0
 
--- a codefile that was read, or why it wasn't, by the card of its body
-abbrev pub of_bytes : ℕ → ℕ → Result Codefile FormatError → Answer Program
-of_bytes card total (Ok file) = Ok (program_of file)
-of_bytes card total (Err flaw) = Err (told_of card (reported total flaw))
+-- a codefile's program, or why its bytes are none, by the card of the body
+abbrev pub of_file : ℕ → Result Codefile BadFile → Answer Program
+of_file card (Ok file) = Ok (program_of file)
+of_file card (Err e) = Err (told_of card e)
 
 -- a job's program
 abbrev pub program_in : ℕ → Body → Answer Program
 program_in card (Cards cards) = of_cards (assembled cards)
-program_in card (Bytes bytes) = of_bytes card (length bytes) (reading bytes)
+program_in card (Bytes bytes) = of_file card (file_of bytes)
 
 -- the programs of jobs, in job order
 abbrev pub programs : List Job → Answer (List Program)
@@ -64,7 +63,11 @@ programs (j ∷ more) = do
   ps ← programs more
   Ok (p ∷ ps)
 
--- the first rule that a program breaks, by the card of its job
+-- the first rule that a program breaks
+abbrev pub first_refusal : Program → Option loader.Refusal
+first_refusal p = slice_get (refusals p) 0
+
+-- the same by the card of its job
 abbrev pub by_rules : ℕ → Option loader.Refusal → Answer ⊤
 by_rules card None = Ok tt
 by_rules card (Some r) = Err (refusal.Load card r.rule r.segment r.place)
@@ -74,7 +77,7 @@ abbrev pub admitted : List Job → List Program → Answer ⊤
 admitted [] ps = Ok tt
 admitted (j ∷ more) [] = Ok tt
 admitted (j ∷ more) (p ∷ ps) = do
-  _ ← by_rules j.card (slice_get (refusals p) 0)
+  _ ← by_rules j.card (first_refusal p)
   admitted more ps
 
 -- the programs of a deck's jobs

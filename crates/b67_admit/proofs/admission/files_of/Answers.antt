@@ -1,0 +1,9 @@
+use Rattle.b67_admit.proofs.Behind.{turn, all_done}
+use Rattle.b67_admit.proofs.admission.files_of.Goals as goal
+
+pub jobs-preserved : goal.jobs-preserved
+jobs-preserved c =
+    turn c.args.jobs.now c.jobs.job-index c.job-item.result c.jobs.files.items _ c.in-Ok.file c.jobs-test.true c.job-item.is c.in-Ok.ensures.answer c.in-Ok.ensures.within c.push_back.ensures.items c.jobs.invariant.0 c.jobs.invariant.1
+
+pub returns-clause-answer : goal.returns-clause-answer
+returns-clause-answer c = all_done c.args.jobs.now c.jobs.job-index c.jobs.files.items c.jobs-test.false c.jobs.invariant.1
