@@ -1,0 +1,7 @@
+//! The top call: the words of a command, the deck that is read, and the run that is printed.
+#![tactic(auto)]
+
+mod command;
+mod stack;
+
+pub use command::{CommandLine, backing_path, command_of};
