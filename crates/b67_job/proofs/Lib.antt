@@ -1,1 +1,5 @@
 pub mod Lists
+pub mod Framed
+pub mod Chased
+pub mod Turns
+pub mod Calls

@@ -1,3 +1,4 @@
 pub mod Command
 pub mod Seen
 pub mod Stack
+pub mod Frames
