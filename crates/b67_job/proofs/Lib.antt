@@ -3,3 +3,4 @@ pub mod Framed
 pub mod Chased
 pub mod Turns
 pub mod Calls
+pub mod Sessions

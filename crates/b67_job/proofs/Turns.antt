@@ -100,12 +100,30 @@ module _ (code : List ℕ) (cells : List Cell) (marks : List ℕ) (next : ℕ) (
   mkst-turn : Answers (turn (Plain Mkst) cells) to (row (Plain Mkst) h)
   mkst-turn = grown Mark (next ∷ marks) (next + 1) tt (above, fresh) (omega arith)
 
+-- the numbers of operands that the ten operators make
+pub number-small : (n : ℕ) → n < 2 ^ 39 → number n ≡ Ok (pos n)
+number-small n small =
+    let at_46 : n < 2 ^ 46 = omega arith in
+    let at_47 : n < 2 ^ 47 = omega arith in
+    let above_46 : n / 2 ^ 46 ≡ 0 = div-eq_of_lt at_46 in
+    let above_47 : n / 2 ^ 47 ≡ 0 = div-eq_of_lt at_47 in
+    let above_39 : n / 2 ^ 39 ≡ 0 = div-eq_of_lt small in
+    let low : n % 2 ^ 39 ≡ n = mod-eq_of_lt small in
+    rw (above_47, above_39, above_46, low) refl
+
+operand-sum : (n : ℕ) → to_operand (pos n) ≡ cond (nat_lt n (2 ^ 39)) (Ok n) (Err IntegerOverflow)
+operand-sum n = let none : nat_lt n 0 ≡ false = grind (arith, nat_tests) in rw none refl
+
+pub add-small : (a b : ℕ) → a < 2 ^ 39 → b < 2 ^ 39 → add a b ≡ cond (nat_lt (a + b) (2 ^ 39)) (Ok (a + b)) (Err IntegerOverflow)
+add-small a b small_a small_b = rw (number-small a small_a, number-small b small_b) (operand-sum (a + b))
+
+
 -- a word that is taken off the top frame, or off the one under a mark
 module _ (code : List ℕ) (cells : List Cell) (marks : List ℕ) (next : ℕ) (at to : Place) (fit : Fits_stack cells) (fresh : Fresh marks) (above : 2 ≤ next) where
   low : nat_le (height (frames_of cells marks)) 512 ≡ true
   low = let few = fit.few in let e = height-frames cells marks in grind (arith, nat_tests)
 
-  shrunk : (printed : Option ℕ) → IfSome printed (λ n. n < 2 ^ 39)
+  pub shrunk : (printed : Option ℕ) → IfSome printed (λ n. n < 2 ^ 39)
       → After cells printed to (needs (nat_le (height (frames_of cells marks)) 512) StackOverflow >> Ok (Goes (job_at (frames_of cells marks) next to) (printed_lines printed) None))
   shrunk printed value = record { fits = fit; value = value; marks = marks; next = next; fresh = fresh; above = above; is = rw low refl }
 
@@ -147,22 +165,6 @@ module _ (code : List ℕ) (cells : List Cell) (marks : List ℕ) (next : ℕ) (
   on_two_known v w f outcome known =
       let go : List Word → Answer Done = λ ws. leaves_cells (here_at code (put v (put w (frames_of cells marks))) next at to) ws None in
       subst (λ (ws : List Word). Answers outcome to (f ws >>= go)) (sym (top-two v w (frames_of cells marks) (frames-some cells marks))) known
-
-  number-small : (n : ℕ) → n < 2 ^ 39 → number n ≡ Ok (pos n)
-  number-small n small =
-      let at_46 : n < 2 ^ 46 = omega arith in
-      let at_47 : n < 2 ^ 47 = omega arith in
-      let above_46 : n / 2 ^ 46 ≡ 0 = div-eq_of_lt at_46 in
-      let above_47 : n / 2 ^ 47 ≡ 0 = div-eq_of_lt at_47 in
-      let above_39 : n / 2 ^ 39 ≡ 0 = div-eq_of_lt small in
-      let low : n % 2 ^ 39 ≡ n = mod-eq_of_lt small in
-      rw (above_47, above_39, above_46, low) refl
-
-  operand-sum : (n : ℕ) → to_operand (pos n) ≡ cond (nat_lt n (2 ^ 39)) (Ok n) (Err IntegerOverflow)
-  operand-sum n = let none : nat_lt n 0 ≡ false = grind (arith, nat_tests) in rw none refl
-
-  add-small : (a b : ℕ) → a < 2 ^ 39 → b < 2 ^ 39 → add a b ≡ cond (nat_lt (a + b) (2 ^ 39)) (Ok (a + b)) (Err IntegerOverflow)
-  add-small a b small_a small_b = rw (number-small a small_a, number-small b small_b) (operand-sum (a + b))
 
   abbrev row_with : (v w : Word) → Answer ℕ → Answer Done
   row_with v w sum = sum >>= λ (z : ℕ). leaves_cells (here_at code (put v (put w (frames_of cells marks))) next at to) (Operand z ∷ (top (frames_of cells marks)).cells) None
