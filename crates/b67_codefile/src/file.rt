@@ -6,7 +6,7 @@ use b67_word::Words;
 use std::alloc::{AllocError, Global};
 use std::marker::Model;
 
-/// A segment's level and code.
+/// A segment: its level and its code, words of tag 3. Segments are numbered from 1 in the order of the file.
 #[derive(Drop)]
 pub struct Segment {
     pub level: u8,
@@ -29,6 +29,7 @@ impl Model for Segments {
 }
 
 impl Segments {
+    /// The empty list.
     pub fn new(alloc: Global) -> Self
         ensures { result ≡ [] }
     {
@@ -37,6 +38,7 @@ impl Segments {
         }
     }
 
+    /// Appends a segment. A refusal changes nothing.
     pub fn push(&mut self, x: Segment) -> Result<(), AllocError>
         ensures ok { OnOk result (self.new ≡ self.old ++ x ∷ []) }
         ensures err { OnErr result (self.new ≡ self.old) }
@@ -52,7 +54,7 @@ impl Segments {
     }
 }
 
-/// A list of data rows.
+/// A list of data rows, each a list of words of tag 0.
 #[derive(Drop)]
 pub struct Rows {
     items: Vec<Words>,
@@ -68,6 +70,7 @@ impl Model for Rows {
 }
 
 impl Rows {
+    /// The empty list.
     pub fn new(alloc: Global) -> Self
         ensures { result ≡ [] }
     {
@@ -76,6 +79,7 @@ impl Rows {
         }
     }
 
+    /// Appends a data row. A refusal changes nothing.
     pub fn push(&mut self, x: Words) -> Result<(), AllocError>
         ensures ok { OnOk result (self.new ≡ self.old ++ x ∷ []) }
         ensures err { OnErr result (self.new ≡ self.old) }
@@ -91,7 +95,7 @@ impl Rows {
     }
 }
 
-/// A program.
+/// A program: its segments and its data rows.
 #[derive(Drop)]
 pub struct Codefile {
     pub segments: Segments,

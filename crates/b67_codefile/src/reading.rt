@@ -1,4 +1,4 @@
-//! Reading a codefile.
+//! Reading a codefile from front to back: each function reads a part at the front of bytes, and gives the bytes behind it.
 
 ghost use Rattle.std.specs.Prelude.{◌≡◌, ◌<◌, length, IfOk, Ok};
 ghost use Rattle.std.specs.Int.{w8, w16, w64};
@@ -6,7 +6,7 @@ ghost use Rattle.b67_codefile.specs.declared.file.Codefile.{Codefile};
 ghost use Rattle.b67_codefile.specs.Spelling.{IsWithin, spelling};
 ghost use Rattle.b67_codefile.specs.Reading.{Gives, Answers, number_at, word_at, words_at, many_at, segment_at, row_at, header_at, counts_at, reading};
 
-use crate::fault::{BadFile, Flaw, ReadError};
+use crate::fault::{BadFile, FormatError, ReadError};
 use crate::file::{Codefile, Rows, Segment, Segments};
 use b67_word::{Word, Words};
 use std::alloc::Global;
@@ -15,7 +15,7 @@ fn u8_at(bytes: &[u8]) -> Result<(u8, &[u8]), ReadError>
     ensures { Gives (λ x. (x.0, x.1.now)) result (number_at w8 bytes.now) }
 {
     if bytes.is_empty() {
-        return Err(ReadError::Flaw(Flaw::Short));
+        return Err(ReadError::Format(FormatError::Short));
     }
     let (front, rest) = bytes.split_at(1);
     Ok((u8::from_be_bytes([front[0]]), rest))
@@ -25,7 +25,7 @@ fn u16_at(bytes: &[u8]) -> Result<(u16, &[u8]), ReadError>
     ensures { Gives (λ x. (x.0, x.1.now)) result (number_at w16 bytes.now) }
 {
     if bytes.len() < 2 {
-        return Err(ReadError::Flaw(Flaw::Short));
+        return Err(ReadError::Format(FormatError::Short));
     }
     let (front, rest) = bytes.split_at(2);
     Ok((u16::from_be_bytes([front[0], front[1]]), rest))
@@ -35,7 +35,7 @@ fn u64_at(bytes: &[u8]) -> Result<(u64, &[u8]), ReadError>
     ensures { Gives (λ x. (x.0, x.1.now)) result (number_at w64 bytes.now) }
 {
     if bytes.len() < 8 {
-        return Err(ReadError::Flaw(Flaw::Short));
+        return Err(ReadError::Format(FormatError::Short));
     }
     let (front, rest) = bytes.split_at(8);
     let number = u64::from_be_bytes([
@@ -51,7 +51,9 @@ fn word_of(tag: u8, bytes: &[u8]) -> Result<(Word, &[u8]), ReadError>
 {
     let (number, rest) = u64_at(bytes)?;
     if number / 0x1_0000_0000_0000 != u64::from(tag) {
-        return Err(ReadError::Flaw(Flaw::BadWord { left: bytes.len() }));
+        return Err(ReadError::Format(FormatError::BadWord {
+            remaining: bytes.len(),
+        }));
     }
     Ok((Word::of(tag, number % 0x1_0000_0000_0000), rest))
 }
@@ -85,7 +87,9 @@ fn words_of(alloc: Global, tag: u8, limit: u16, bytes: &[u8]) -> Result<(Words, 
 {
     let (count, rest) = u16_at(bytes)?;
     if count < 1 || count > limit {
-        return Err(ReadError::Flaw(Flaw::TooMany { left: bytes.len() }));
+        return Err(ReadError::Format(FormatError::TooMany {
+            remaining: bytes.len(),
+        }));
     }
     many_words_of(alloc, tag, count, rest)
 }
@@ -139,7 +143,7 @@ fn header_of(bytes: &[u8]) -> Result<(u64, &[u8]), ReadError>
 {
     let (number, rest) = u64_at(bytes)?;
     if number != 0x4236_3743_4f44_4531 {
-        return Err(ReadError::Flaw(Flaw::BadHeader));
+        return Err(ReadError::Format(FormatError::BadHeader));
     }
     Ok((number, rest))
 }
@@ -150,7 +154,9 @@ fn counts_of(bytes: &[u8]) -> Result<((u16, u16), &[u8]), ReadError>
     let (segments, rest) = u16_at(bytes)?;
     let (rows, rest) = u16_at(rest)?;
     if u32::from(segments) + u32::from(rows) > 255 {
-        return Err(ReadError::Flaw(Flaw::TooMany { left: bytes.len() }));
+        return Err(ReadError::Format(FormatError::TooMany {
+            remaining: bytes.len(),
+        }));
     }
     Ok(((segments, rows), rest))
 }
@@ -170,7 +176,9 @@ fn whole(alloc: Global, bytes: &[u8]) -> Result<Codefile, ReadError>
         Err(e) => return Err(e),
     };
     if !rest.is_empty() {
-        return Err(ReadError::Flaw(Flaw::Trailing { left: rest.len() }));
+        return Err(ReadError::Format(FormatError::Trailing {
+            remaining: rest.len(),
+        }));
     }
     Ok(Codefile { segments, rows })
 }
@@ -181,27 +189,29 @@ fn answer_of(alloc: Global, bytes: &[u8]) -> Result<Codefile, BadFile>
     match whole(alloc, bytes) {
         Ok(file) => Ok(file),
         Err(ReadError::Memory) => Err(BadFile::Memory),
-        Err(ReadError::Flaw(Flaw::Short)) => Err(BadFile::Short { at: bytes.len() }),
-        Err(ReadError::Flaw(Flaw::BadHeader)) => Err(BadFile::BadHeader { at: 0 }),
-        Err(ReadError::Flaw(Flaw::BadWord { left })) => Err(BadFile::BadWord {
-            at: bytes.len().saturating_sub(left),
+        Err(ReadError::Format(FormatError::Short)) => Err(BadFile::Short { at: bytes.len() }),
+        Err(ReadError::Format(FormatError::BadHeader)) => Err(BadFile::BadHeader { at: 0 }),
+        Err(ReadError::Format(FormatError::BadWord { remaining })) => Err(BadFile::BadWord {
+            at: bytes.len().saturating_sub(remaining),
         }),
-        Err(ReadError::Flaw(Flaw::TooMany { left })) => Err(BadFile::TooMany {
-            at: bytes.len().saturating_sub(left),
+        Err(ReadError::Format(FormatError::TooMany { remaining })) => Err(BadFile::TooMany {
+            at: bytes.len().saturating_sub(remaining),
         }),
-        Err(ReadError::Flaw(Flaw::Trailing { left })) => Err(BadFile::Trailing {
-            at: bytes.len().saturating_sub(left),
+        Err(ReadError::Format(FormatError::Trailing { remaining })) => Err(BadFile::Trailing {
+            at: bytes.len().saturating_sub(remaining),
         }),
     }
 }
 
-/// The codefile that bytes spell, all of the bytes.
+/// The codefile whose bytes these are, all of them. The format is a header, the numbers of segments and data rows, each
+/// segment's level, length and words, and each row's length and words, all numbers in big-endian order. No file has two
+/// spellings.
 pub fn read(alloc: Global, bytes: &[u8]) -> Result<Codefile, BadFile>
-    // What is read is spelled so.
+    // A file that is read is within the limits, and these are its bytes.
     ensures found { IfOk result (λ f. IsWithin f × (bytes.now ≡ spelling f)) }
-    // What is spelled so is read, unless memory runs out.
+    // The bytes of a file within the limits are read as that file, unless memory runs out.
     ensures only { (f : Codefile) → IsWithin f → bytes.now ≡ spelling f → Answers result (length bytes.now) (Ok f) }
-    // The first flaw from left to right.
+    // Else the first rule that is broken from the front is told, with its byte.
     ensures exact { Answers result (length bytes.now) (reading bytes.now) }
 {
     answer_of(alloc, bytes)

@@ -19,9 +19,9 @@ moment_with c task made s = record {
   lines = step_lines task.number made.printed s.endings;
 }
 
--- a step up to item 3 of its endings, and the whole step
-abbrev pub up_to_3 : Setting → Course → Task → JobMoment
-up_to_3 setting c task = let made = stepped setting c.job task in moment_with c task made made.settled
+-- a step without the last part of its end, and the whole step
+abbrev pub up_to_deadlock : Setting → Course → Task → JobMoment
+up_to_deadlock setting c task = let made = stepped setting c.job task in moment_with c task made made.settled
 
 abbrev pub whole : Setting → Course → Task → JobMoment
 whole setting c task =

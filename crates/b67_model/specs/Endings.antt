@@ -60,7 +60,7 @@ ends_all s endings =
 abbrev pub is_ready : Task → Bool
 is_ready t = elim t.condition [ Ready ↦ true | Awaits n ↦ false | WaitsAt f offset ↦ false ]
 
--- item 1 and 2: the descendants of a task that ends, then itself
+-- the first two parts of the end of a step: the descendants of a task that ends, then itself
 abbrev pub ends_task : Job → ℕ → Ending → Settled
 ends_task job number ending =
     ends_all (record { job = job; endings = [] })
@@ -70,15 +70,15 @@ abbrev pub ends_each_if : Bool → Ending → Settled → Settled
 ends_each_if true ending s = ends_all s (all_with ending (deepest_first s.job.tasks))
 ends_each_if false ending s = s
 
--- item 3: no live task is ready
+-- the third part: a job with no ready task is deadlocked
 abbrev pub deadlocked : Settled → Settled
 deadlocked s = ends_each_if (list_all (λ t. not (is_ready t)) s.job.tasks) Deadlock s
 
--- item 4: the job has made as many operators as it may
+-- the last part: the job has made as many operators as it may
 abbrev pub limited : ℕ → ℕ → Settled → Settled
 limited limit made s = ends_each_if (made == limit) Limit s
 
--- a step of a job's task up to item 3: what it printed, the array that it touched, how many tasks lived before the
+-- a step of a job's task without the last part of its end: what it printed, the array that it touched, how many tasks lived before the
 -- endings, and the endings
 pub record Stepped : Type 0 where
   pub printed : List Line

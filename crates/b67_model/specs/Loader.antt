@@ -97,9 +97,12 @@ named_level p disp = level_in (if nat_lt disp 2 then None else slice_get p.segme
     level_in None = None
     level_in (Some s) = Some s.level
 
+-- a bit stands outside the fields of a PCW, or the segment field names no segment
 abbrev pub is_off : Program → ℕ → Bool
 is_off p bits = not (nat_lt bits (2 ^ 36)) || not (bit 19 bits == 0) || not (holds_of (named_level p (bits % 2 ^ 14)) (λ level. true))
 
+-- the level isn't that of the named segment or isn't one above the own segment's, or the place isn't 0:0. A bit above
+-- the place is refused by the rule before
 abbrev pub is_amiss : Listed → ℕ → Bool
 is_amiss l bits =
     let level = (bits / 2 ^ 14) % 2 ^ 5 in

@@ -1,11 +1,11 @@
 -- The core that a step needs.
-use Rattle.std.specs.Prelude.{ℕ, ◌+◌, ◌-◌, ◌*◌, max, nat_lt, List, [], ◌∷◌, length, reverse, sum_by, Option, Some, None, Ok, Err, if◌then◌else◌, option_map}
+use Rattle.std.specs.Prelude.{ℕ, ◌+◌, ◌-◌, ◌*◌, max, ◌==◌, nat_lt, List, [], ◌∷◌, length, reverse, sum_by, Option, Some, None, Ok, Err, if◌then◌else◌, option_map}
 use Rattle.b67_model.specs.declared.operators.Op.TheVariants.{Plain}
 use Rattle.b67_model.specs.declared.operators.Code.TheVariants.{Entr}
 use Rattle.b67_model.specs.Answers.{Answer}
 use Rattle.b67_model.specs.Words.{Word, Row}
 use Rattle.b67_model.specs.Keyed.{keyed}
-use Rattle.b67_model.specs.State.{Task, Setting, Job, Member, top}
+use Rattle.b67_model.specs.State.{Standing, Marked, Task, Setting, Job, Member, Here, top}
 use Rattle.b67_model.specs.Chase.{End, AtIntrinsic, follow_reference}
 use Rattle.b67_model.specs.Arrays.{array}
 use Rattle.b67_model.specs.Operators.{Reading}
@@ -21,17 +21,19 @@ fixed jobs = 160 + sum_by (λ m. 2 + length m.setting.dictionary.cells) jobs
 abbrev pub need_at_opening : ℕ → List Member → ℕ
 need_at_opening stack jobs = fixed jobs + length jobs * stack
 
--- PRINTROW touches its array before its last faults
+-- the array of a PRINTROW, whose last faults come after the touch; no other row has a fault after its touch
 abbrev pub touched_by_call : List Word → Answer End → Option ℕ
-touched_by_call (r ∷ Row a ∷ []) (Ok (AtIntrinsic n)) = if nat_lt n 11 then (if nat_lt 9 n then Some a else None) else None
+touched_by_call (r ∷ Row a ∷ []) (Ok (AtIntrinsic n)) = if n == 10 then Some a else None
 touched_by_call _ _ = None
 
+-- the call of the marked frame on top, from its first cell up
+abbrev pub touched_at_mark : Here → Standing → List Word → Option ℕ
+touched_at_mark h Marked (r ∷ arguments) = touched_by_call (r ∷ arguments) (follow_reference h r)
+touched_at_mark h _ _ = None
+
 abbrev pub touched_before_fault : Setting → Job → Task → Reading → Option ℕ
-touched_before_fault setting job task (Ok (Plain Entr, next)) = call (reverse (top task.frames).cells)
-  where
-    call : List Word → Option ℕ
-    call [] = None
-    call (r ∷ arguments) = touched_by_call (r ∷ arguments) (follow_reference (record { setting = setting; job = job; task = task; at = task.place }) r)
+touched_before_fault setting job task (Ok (Plain Entr, next)) =
+    touched_at_mark (record { setting = setting; job = job; task = task; at = task.place }) (top task.frames).standing (reverse (top task.frames).cells)
 touched_before_fault setting job task _ = None
 
 abbrev pub touched_of : Setting → Job → Task → Answer Done → Option ℕ

@@ -1,33 +1,36 @@
--- The state of the machine: frames with fresh identities, arrays, tasks and jobs.
+-- The state of the machine: activation records, here frames, with fresh identities; arrays; tasks and jobs.
 use Rattle.std.specs.Prelude.{ℕ, ◌+◌, Bool, ℤ, List, [], ◌∷◌, ◌++◌, Option, None, flat_map, length, unwrap_or}
 use Rattle.b67_word.specs.declared.couples.Place.{Place}
 use Rattle.b67_word.specs.declared.faults.Ending.{Ending}
 use Rattle.b67_model.specs.Keyed.{keyed, change_keyed}
 use Rattle.b67_model.specs.Words.{Word, Intrinsic}
 
--- where a left frame's caller goes on, and whether it wants a value
+-- where the caller of a left frame goes on, and whether its operator wants the value that is returned
 pub record Return : Type 0 where
   pub value : Bool
   pub segment : ℕ
   pub place : Place
 
--- a frame that nothing returns from has no return
+-- marked by MKST, or entered at a level with a static link, the identity of its environment. A frame that nothing returns
+-- from, as a task's bottom one, has no return
 pub data Standing : Type 0 where
   Marked : Standing
   Entered : (level environment : ℕ) (back : Option Return) → Standing
 
--- the cells stand from the top down
+-- an activation record. The cells stand from the top down
 pub record Frame : Type 0 where
   pub identity : ℕ
   pub standing : Standing
   pub cells : List Word
 
+-- an array of 48-bit numbers, with the frame at whose end it ends
 pub record Array : Type 0 where
   pub identity : ℕ
   pub owner : ℕ
   pub writable : Bool
   pub numbers : List ℕ
 
+-- ready, or waiting for a task's end or at a cell
 pub data Condition : Type 0 where
   Ready : Condition
   Awaits : (task : ℕ) → Condition
@@ -44,6 +47,7 @@ pub record Task : Type 0 where
   pub place : Place
   pub condition : Condition
 
+-- a segment of code, of 48-bit words
 pub record Segment : Type 0 where
   pub level : ℕ
   pub code : List ℕ
@@ -83,7 +87,8 @@ pub record Here : Type 0 where
   pub task : Task
   pub at : Place
 
--- identity 0 is the frame of the MCP in each job, and 1 the job's dictionary
+-- identity 0 is the frame of the MCP in each job, and 1 the job's dictionary. The MCP's frame has no environment beside
+-- itself
 abbrev pub mcp : Frame
 mcp = record { identity = 0; standing = Entered 0 0 None; cells = Intrinsic 16 ∷ Intrinsic 15 ∷ Intrinsic 14 ∷ Intrinsic 13 ∷ Intrinsic 12 ∷ Intrinsic 11 ∷ Intrinsic 10 ∷ Intrinsic 9 ∷ Intrinsic 8 ∷ [] }
 

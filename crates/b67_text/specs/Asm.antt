@@ -14,9 +14,11 @@ use Rattle.b67_model.specs.Operators.{place_at}
 use Rattle.b67_model.specs.State.{Segment}
 use Rattle.b67_model.specs.Program.{Program}
 use Rattle.b67_text.specs.Answers.{Answer, ◌>>=◌, ◌>>◌, needs, or_reason}
-use Rattle.b67_text.specs.Cards.{Card, words, natural, whole, is_name}
+use Rattle.b67_text.specs.declared.card.Card.{Card}
+use Rattle.b67_text.specs.Cards.{words, natural, whole, is_name}
 use Rattle.b67_text.specs.Hex.{hex_bytes}
-use Rattle.b67_text.specs.Deck.{Refusal, of_card, row_of}
+use Rattle.b67_text.specs.Command.{row_of}
+use Rattle.b67_text.specs.Deck.{Refusal, of_card}
 use Rattle.b67_text.specs.Encoding.{syllable_after, code_of}
 
 -- ---- what a card says

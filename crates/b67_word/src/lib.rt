@@ -6,7 +6,10 @@ mod faults;
 mod lists;
 mod tagged;
 
-pub use couples::{Couple, Place};
+pub use couples::{Couple, Place, bits_of, couple_of};
 pub use faults::{Ending, Failed, Fault};
 pub use lists::{Bytes, Numbers, Words};
 pub use tagged::Word;
+
+#[cfg(test)]
+mod tests;

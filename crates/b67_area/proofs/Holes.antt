@@ -1,0 +1,74 @@
+use Rattle.std.proofs.Common.{◌≡◌, ◌≢◌, ℕ, zero, suc, ◌+◌, ◌-◌, ◌<◌, ◌≤◌, ◌^◌, List, [], ◌∷◌, length, Some, None, Option, refl, sym, ◌∙◌, ap, arith, inl, inr, ⊎_elim, ◌⊎◌, ◌==◌, nat_le, leb, cond, subst, Bool, true, false}
+use Rattle.std.proofs.Common.{slice_set}
+use Rattle.std.specs.List.{slice_get}
+use Rattle.std.proofs.lemmas.Bool.{cond-true, cond-false, eq-eqb, ne_eqb, eqb-true, cases_lt, cases_Bool, le-leb, lt-leb}
+use Rattle.std.proofs.Math.ListN.{length-set}
+use Rattle.b67_word.specs.Tagged.{Tagged}
+use Rattle.b67_area.specs.declared.Info.{Info}
+use Rattle.b67_area.specs.Spans.{Span, Area, Hole, wide, end, first_hole, InHole, left, fill, spot}
+use Rattle.b67_area.specs.Words.{link_word, hole_high, head_word, tail_word}
+use Rattle.b67_area.specs.Directory.{IsInfo, NoHole, AreSpans, Laid, IsDirectory}
+use Rattle.b67_area.specs.Walk.{unzip, top, link_place, link_high, Below, NoFit, with_hole}
+use Rattle.b67_area.proofs.Cuts.{Laid-move}
+use Rattle.b67_core.proofs.Writes.{slice_get-set_same, slice_get-set_other}
+
+-- the link to a hole of n words, or to the next one where n is 0
+abbrev pub link_to : ℕ → ℕ → ℕ → ℕ
+link_to at zero next = next
+link_to at (suc n) next = at
+
+pub with_hole-length : (core : List Tagged) (b h at n next : ℕ) → length (with_hole core b h at n next) ≡ length core
+with_hole-length core b h at zero next = length-set core b (link_word h next)
+with_hole-length core b h at (suc n) next = length-set (slice_set core at (link_word (hole_high (suc n)) next)) b (link_word h at) ∙ length-set core at (link_word (hole_high (suc n)) next)
+
+pub with_hole-other : (core : List Tagged) (b h at n next i : ℕ) → i ≢ b → (1 ≤ n → i ≢ at) → slice_get (with_hole core b h at n next) i ≡ slice_get core i
+with_hole-other core b h at zero next i nb na = slice_get-set_other core b i (link_word h next) nb
+with_hole-other core b h at (suc n) next i nb na =
+    slice_get-set_other (slice_set core at (link_word (hole_high (suc n)) next)) b i (link_word h at) nb ∙ slice_get-set_other core at i (link_word (hole_high (suc n)) next) (na (omega arith))
+
+pub with_hole-link : (core : List Tagged) (b h at n next : ℕ) → b < length core → slice_get (with_hole core b h at n next) b ≡ Some (link_word h (link_to at n next))
+with_hole-link core b h at zero next i = slice_get-set_same core b (link_word h next) i
+with_hole-link core b h at (suc n) next i =
+    slice_get-set_same (slice_set core at (link_word (hole_high (suc n)) next)) b (link_word h at) (rw length-set i)
+
+pub with_hole-hole : (core : List Tagged) (b h at n next : ℕ) → 1 ≤ n → b ≢ at → at < length core → slice_get (with_hole core b h at n next) at ≡ Some (link_word (hole_high n) next)
+with_hole-hole core b h at zero next some nb i = absurd (omega arith)
+with_hole-hole core b h at (suc n) next some nb i =
+    slice_get-set_other (slice_set core at (link_word (hole_high (suc n)) next)) b at (link_word h at) (λ e. nb (sym e)) ∙ slice_get-set_same core at (link_word (hole_high (suc n)) next) i
+
+-- a hole of n words, or none, before spans that stay
+pub Laid-left : (core new : List Tagged) (b h b' h' at n next : ℕ) (ss : List Span) → ((i : ℕ) → at + n ≤ i → slice_get new i ≡ slice_get core i) → slice_get new b' ≡ Some (link_word h' (link_to at n next)) → (1 ≤ n → slice_get new at ≡ Some (link_word (hole_high n) next)) → next ≡ first_hole (at + n) ss → Laid core b h (at + n) ss → Laid new b' h' at (left n ss)
+Laid-left core new b h b' h' at zero next ss same link hole e l =
+    let here : at + 0 ≡ at = omega arith in
+    Laid-move core new b h b' h' at ss (λ i g. same i (omega arith)) (link ∙ ap (λ (k : ℕ). Some (link_word h' k)) (e ∙ ap (λ (k : ℕ). first_hole k ss) here)) (rw here at l)
+Laid-left core new b h b' h' at (suc n) next ss same link hole e l =
+    (link, Laid-move core new b h at (hole_high (suc n)) (at + suc n) ss same (hole (omega arith) ∙ ap (λ (k : ℕ). Some (link_word (hole_high (suc n)) k)) e) l)
+
+pub end-left : (at n : ℕ) (ss : List Span) → end at (left n ss) ≡ end (at + n) ss
+end-left at zero ss = let e : at ≡ at + 0 = omega arith in ap (λ (k : ℕ). end k ss) e
+end-left at (suc n) ss = refl
+
+pub AreSpans-left : (n : ℕ) (ss : List Span) → NoHole ss → AreSpans ss → AreSpans (left n ss)
+AreSpans-left zero ss h s = s
+AreSpans-left (suc n) ss h s = (omega arith, h, s)
+
+-- the lowest hole with room, seen from a cut below which there is none
+pub spot-unzip : (n low : ℕ) (ds ss : List Span) → NoFit n ds → spot n low (unzip ds ss) ≡ spot n (top low ds) ss
+spot-unzip n low [] ss f = refl
+spot-unzip n low (Area a ∷ ds) ss f = spot-unzip n low ds (Area a ∷ ss) f
+spot-unzip n low (Hole m ∷ ds) ss f = spot-unzip n low ds (Hole m ∷ ss) f.1 ∙ cond-false (leb n m) _ _ (lt-leb n m f.0)
+
+pub fill-unzip : (a : Info) (ds ss : List Span) → NoFit (a.words + 2) ds → fill a (unzip ds ss) ≡ unzip ds (fill a ss)
+fill-unzip a [] ss f = refl
+fill-unzip a (Area b ∷ ds) ss f = fill-unzip a ds (Area b ∷ ss) f
+fill-unzip a (Hole m ∷ ds) ss f = fill-unzip a ds (Hole m ∷ ss) f.1 ∙ ap (unzip ds) (cond-false (leb (a.words + 2) m) _ _ (lt-leb (a.words + 2) m f.0))
+
+pub spot-none : (n at : ℕ) (ss : List Span) → NoFit n ss → spot n at ss ≡ None
+spot-none n at [] f = refl
+spot-none n at (Area a ∷ ss) f = spot-none n (at + (a.words + 2)) ss f
+spot-none n at (Hole m ∷ ss) f = cond-false (leb n m) _ _ (lt-leb n m f.0) ∙ spot-none n (at + m) ss f.1
+
+pub fill-none : (a : Info) (ss : List Span) → NoFit (a.words + 2) ss → fill a ss ≡ ss
+fill-none a [] f = refl
+fill-none a (Area b ∷ ss) f = ap (λ (r : List Span). Area b ∷ r) (fill-none a ss f)
+fill-none a (Hole m ∷ ss) f = cond-false (leb (a.words + 2) m) _ _ (lt-leb (a.words + 2) m f.0) ∙ ap (λ (r : List Span). Hole m ∷ r) (fill-none a ss f.1)

@@ -1,0 +1,146 @@
+use Rattle.std.proofs.Common.{◌≡◌, ◌≢◌, ℕ, zero, suc, ◌+◌, ◌-◌, ◌*◌, ◌/◌, ◌%◌, ◌<◌, ◌≤◌, ◌^◌, List, [], ◌∷◌, length, Option, Some, None, refl, sym, ◌∙◌, ap, arith, inl, inr, ⊎_elim, ◌⊎◌, ◌==◌, subst, slice_set}
+use Rattle.std.specs.List.{slice_get}
+use Rattle.std.proofs.lemmas.Bool.{cond-true, cond-false, eq-eqb, ne_eqb, cases_lt}
+use Rattle.std.proofs.lemmas.Option.{same_Some, slice_get_within}
+use Rattle.std.proofs.Math.ListN.{length-set}
+use Rattle.b67_word.specs.Tagged.{Tagged, bits_at}
+use Rattle.b67_area.specs.declared.Info.{Info}
+use Rattle.b67_area.specs.declared.Kind.{Kind}
+use Rattle.b67_area.specs.declared.Kind.TheVariants.{Array, Row, Code}
+use Rattle.b67_area.specs.Spans.{Span, Area, Hole, wide, end, first_hole, first_area, area_at, area_after, keeping}
+use Rattle.b67_area.specs.Words.{link_word, hole_high, kind_number, head_word, tail_word}
+use Rattle.b67_area.specs.Directory.{IsInfo, NoHole, AreSpans, Laid, IsDirectory}
+use Rattle.b67_area.specs.Walk.{unzip, top, link_place, link_high, Found, IsArea, IsAbove, front, behind, Around, link_room}
+use Rattle.b67_area.proofs.Cuts.{opened, closed, end-unzip, spans_opened, spans_closed, pending, low_top, link_place_low, Below-same, Laid-move}
+use Rattle.b67_core.proofs.Writes.{slice_get-set_same, slice_get-set_other}
+use Rattle.b67_area.proofs.Walks.{low_end, next-lt}
+use Rattle.b67_area.proofs.Climbs.{area_at-low, find_area, found_area}
+
+pub area_here : (core : List Tagged) (low : ℕ) (ss : List Span) (address : ℕ) (a : Info) → IsDirectory core low ss → area_at low ss address ≡ Some a → (1 ≤ address) × IsArea core (address - 1) a
+area_here core low ss address a d e =
+    let p = area_at-low low ss address a e in
+    (omega arith, found_area core low ss address (address - 1) a d e (omega arith))
+
+keeping-unzip : (low : ℕ) (ds ss : List Span) (x first : ℕ) → top low ds < x → keeping low x first (unzip ds ss) ≡ unzip ds (keeping (top low ds) x first ss)
+keeping-unzip low [] ss x first h = refl
+keeping-unzip low (Area b ∷ ds) ss x first h =
+    keeping-unzip low ds (Area b ∷ ss) x first (omega arith) ∙ ap (unzip ds) (cond-false (top low ds + 1 == x) _ _ (ne_eqb (top low ds + 1) x (λ e. omega arith)))
+keeping-unzip low (Hole n ∷ ds) ss x first h = keeping-unzip low ds (Hole n ∷ ss) x first (omega arith)
+
+area_after-unzip : (low : ℕ) (ds ss : List Span) (x : ℕ) → top low ds < x → area_after low (unzip ds ss) x ≡ area_after (top low ds) ss x
+area_after-unzip low [] ss x h = refl
+area_after-unzip low (Area b ∷ ds) ss x h =
+    area_after-unzip low ds (Area b ∷ ss) x (omega arith) ∙ cond-false (top low ds + 1 == x) _ _ (ne_eqb (top low ds + 1) x (λ e. omega arith))
+area_after-unzip low (Hole n ∷ ds) ss x h = area_after-unzip low ds (Hole n ∷ ss) x (omega arith)
+
+module _ (core : List Tagged) (low : ℕ) (ss : List Span) (address : ℕ) (a : Info) (d : IsDirectory core low ss) (e : area_at low ss address ≡ Some a) where
+  there : Found low ss address a
+  there = find_area low [] ss address a e
+
+  laid : Laid core (link_place low there.below) (link_high there.below) (top low there.below) (Area a ∷ there.above)
+  laid = (opened core low there.below (Area a ∷ there.above) (rw there.is at d.laid)).1
+
+  spans : AreSpans there.below × AreSpans (Area a ∷ there.above)
+  spans = let s = spans_opened there.below (Area a ∷ there.above) (rw there.is at d.spans) in (s.0, s.1)
+
+  ends : end (top low there.below + (a.words + 2)) there.above ≡ length core
+  ends = sym (end-unzip low there.below (Area a ∷ there.above)) ∙ rw there.is at d.all
+
+  -- what lies above the area
+  pub above_here : (b : ℕ) × (h : ℕ) × (ss' : List Span) × IsAbove core b h (address + (a.words + 1)) ss' × (area_after low ss address ≡ first_area (address + (a.words + 1)) ss')
+  above_here =
+      let z : top low there.below + (a.words + 2) ≡ address + (a.words + 1) = omega (arith, there.at) in
+      let h : top low there.below + 1 ≡ address = sym there.at in (
+        link_place low there.below,
+        link_high there.below,
+        there.above,
+        subst (λ (k : ℕ). IsAbove core (link_place low there.below) (link_high there.below) k there.above) z (record { laid = laid.2; spans = spans.1.1; ends = ends; small = d.small; some = omega arith }),
+        ap (λ (s : List Span). area_after low s address) there.is ∙ area_after-unzip low there.below (Area a ∷ there.above) address (omega arith) ∙ cond-true (top low there.below + 1 == address) _ _ (eq-eqb (top low there.below + 1) address h) ∙ ap (λ (k : ℕ). first_area k there.above) z,
+      )
+
+  module _ (first : ℕ) (low_first : first < 2 ^ 20) (new : List Tagged) (is : new ≡ slice_set core (address - 1 + (a.words + 1)) (link_word a.words first)) where
+    same : (k : ℕ) → k ≢ address - 1 + (a.words + 1) → slice_get new k ≡ slice_get core k
+    same k h = ap (λ (c : List Tagged). slice_get c k) is ∙ slice_get-set_other core (address - 1 + (a.words + 1)) k (link_word a.words first) h
+
+    len : length new ≡ length core
+    len = ap length is ∙ length-set core (address - 1 + (a.words + 1)) (link_word a.words first)
+
+    z : address - 1 + (a.words + 1) ≡ top low there.below + (a.words + 1)
+    z = omega (arith, there.at)
+
+    tail_here : slice_get new (top low there.below + (a.words + 1)) ≡ Some (link_word a.words first)
+    tail_here = rw (sym z) (ap (λ (c : List Tagged). slice_get c (address - 1 + (a.words + 1))) is ∙ slice_get-set_same core (address - 1 + (a.words + 1)) (link_word a.words first) (omega (arith, z, ends, low_end (top low there.below + (a.words + 2)) there.above)))
+
+    kept : keeping low address first ss ≡ unzip there.below (Area (record a { kept = first }) ∷ there.above)
+    kept =
+        let h : top low there.below + 1 ≡ address = sym there.at in
+        ap (keeping low address first) there.is ∙ keeping-unzip low there.below (Area a ∷ there.above) address first (omega arith) ∙ ap (unzip there.below) (cond-true (top low there.below + 1 == address) _ _ (eq-eqb (top low there.below + 1) address h))
+
+    place : link_place low there.below < top low there.below
+    place = (link_place_low low there.below d.above spans.0).0
+
+    pub keeps : IsDirectory new low (keeping low address first ss)
+    keeps = record {
+      laid = rw kept (closed new low there.below (Area (record a { kept = first }) ∷ there.above)
+          (Below-same core new low there.below d.above spans.0 (λ k g _. same k (λ q. omega (arith, z))) (opened core low there.below (Area a ∷ there.above) (rw there.is at d.laid)).0) (
+            same (top low there.below) (λ q. omega (arith, z)) ∙ laid.0,
+            tail_here,
+            Laid-move core new (link_place low there.below) (link_high there.below) (link_place low there.below) (link_high there.below) (top low there.below + (a.words + 2)) there.above (λ k g. same k (λ q. omega (arith, z)))
+                (same (link_place low there.below) (λ q. omega (arith, z, place)) ∙ pending core (link_place low there.below) (link_high there.below) (top low there.below + (a.words + 2)) there.above laid.2) laid.2,
+          ));
+      zeros = λ k g h. same k (λ q. omega (arith, z, low_top low there.below, d.above)) ∙ d.zeros k g h;
+      all = ap (end low) kept ∙ end-unzip low there.below (Area (record a { kept = first }) ∷ there.above) ∙ ends ∙ sym len;
+      spans = rw kept (spans_closed there.below (Area (record a { kept = first }) ∷ there.above) spans.0 (record { words = spans.1.0.words; owner = spans.1.0.owner; kept = low_first }, spans.1.1) (inr tt));
+      above = d.above;
+      small = omega (arith, len, d.small);
+    }
+
+    pub keeps_outside : (k : ℕ) → k ≢ address + a.words → slice_get new k ≡ slice_get core k
+    keeps_outside k h = same k (λ q. h (omega (arith, there.at)))
+
+hole_kind : (n x : ℕ) → n < 2 ^ 20 → x < 2 ^ 20 → bits_at (link_word (hole_high n) x) 46 2 ≡ 3
+hole_kind n x h g = omega arith
+
+area_kind : (a : Info) → a.words < 2 ^ 20 → a.owner < 2 ^ 20 → bits_at (head_word a) 46 2 ≢ 3
+area_kind a w o = by_kind a.kind where
+  by_kind : (k : Kind) → bits_at (link_word (kind_number k * 2 ^ 26 + a.words) a.owner) 46 2 ≢ 3
+  by_kind Array e = omega arith
+  by_kind Row e = omega arith
+  by_kind Code e = omega arith
+
+-- what a look at a place above an area tells
+module _ (core : List Tagged) (b h at : ℕ) where
+  pub next_in : (ss : List Span) → IsAbove core b h at ss → at ≢ length core → at < length core
+  next_in ss i n = let low = low_end at ss in ⊎_elim (λ g. g) (λ g. absurd (n (omega (arith, i.ends)))) (lt_or at (length core)) where
+    lt_or : (m n : ℕ) → (m < n) ⊎ (n ≤ m)
+    lt_or = cases_lt
+
+  pub next_end : (ss : List Span) → IsAbove core b h at ss → at ≡ length core → None ≡ first_area at ss
+  next_end [] i e = refl
+  next_end (Area a ∷ ss) i e = absurd (omega (arith, i.ends, low_end (at + (a.words + 2)) ss))
+  next_end (Hole n ∷ ss) i e = absurd (omega (arith, i.ends, i.spans.0, low_end (at + n) ss))
+
+  pub next_area_here : (ss : List Span) (w : Tagged) → IsAbove core b h at ss → slice_get core at ≡ Some w → bits_at w 46 2 ≢ 3 → Some (at + 1) ≡ first_area at ss
+  next_area_here [] w i r k = absurd (omega (arith, i.ends, slice_get_within core at w r))
+  next_area_here (Area a ∷ ss) w i r k = refl
+  next_area_here (Hole n ∷ ss) w i r k =
+      let is : w ≡ link_word (hole_high n) (first_hole (at + n) ss) = same_Some w _ (sym r ∙ pending core at (hole_high n) (at + n) ss i.laid.1) in
+      absurd (k (ap (λ (v : Tagged). bits_at v 46 2) is ∙ hole_kind n (first_hole (at + n) ss) (omega (arith, i.ends, low_end (at + n) ss, i.small)) (next-lt core at (at + n) ss i.spans.2 (omega (arith, i.ends)) i.small)))
+
+  -- a hole is there, and what lies behind it
+  pub next_hole_here : (ss : List Span) (w : Tagged) → IsAbove core b h at ss → slice_get core at ≡ Some w → bits_at w 46 2 ≡ 3 → (n : ℕ) × (x : ℕ) × (n < 2 ^ 20) × (x < 2 ^ 20) × (slice_get core at ≡ Some (link_word (hole_high n) x)) × (at + n ≤ length core) × (at + n ≡ length core → None ≡ first_area at ss) × (at + n ≢ length core → Some (at + n + 1) ≡ first_area at ss)
+  next_hole_here [] w i r k = absurd (omega (arith, i.ends, slice_get_within core at w r))
+  next_hole_here (Area a ∷ ss) w i r k =
+      let is : w ≡ head_word a = same_Some w _ (sym r ∙ i.laid.0) in
+      absurd (area_kind a (omega (arith, i.ends, low_end (at + (a.words + 2)) ss, i.small)) i.spans.0.owner (sym (ap (λ (v : Tagged). bits_at v 46 2) is) ∙ k))
+  next_hole_here (Hole n ∷ ss) w i r k =
+      (n, first_hole (at + n) ss, omega (arith, i.ends, low_end (at + n) ss, i.small), next-lt core at (at + n) ss i.spans.2 (omega (arith, i.ends)) i.small, pending core at (hole_high n) (at + n) ss i.laid.1, omega (arith, i.ends, low_end (at + n) ss), at_end ss i.spans.1 i.spans.2 i.ends, no_end ss i.spans.1 i.ends) where
+        at_end : (ss : List Span) → NoHole ss → AreSpans ss → end (at + n) ss ≡ length core → at + n ≡ length core → None ≡ first_area (at + n) ss
+        at_end [] x s e q = refl
+        at_end (Area a ∷ ss) x s e q = absurd (omega (arith, low_end (at + n + (a.words + 2)) ss))
+        at_end (Hole m ∷ ss) x s e q = absurd x
+
+        no_end : (ss : List Span) → NoHole ss → end (at + n) ss ≡ length core → at + n ≢ length core → Some (at + n + 1) ≡ first_area (at + n) ss
+        no_end [] x e q = absurd (q e)
+        no_end (Area a ∷ ss) x e q = refl
+        no_end (Hole m ∷ ss) x e q = absurd x

@@ -1,0 +1,42 @@
+use Rattle.std.proofs.Common.{◌≡◌, ◌<◌, ◌≤◌, ◌+◌, ◌∙◌, arith, subst, sym, ap, Some, length, map, refl, ℕ, ◌*◌}
+use Rattle.std.proofs.lemmas.List.{length-map}
+use Rattle.std.specs.List.{slice_get}
+use Rattle.b67_core.specs.Numbers.{number}
+use Rattle.b67_backing.specs.Shelf.{Table, Shelf, HasChain, chain_of}
+use Rattle.b67_backing.specs.Held.{Counts, sectors_for}
+use Rattle.b67_backing.proofs.Stores.{slice_get-map, ahead_pos, counts_next, storing_first, storing_next, storing_all, storing_others, storing_failed}
+use Rattle.b67_backing.proofs.sectors.Sectors.store.Goals as goal
+
+pub loop-j-init : goal.loop-j-init
+loop-j-init g c = record {
+  storing = λ st h. storing_first g.B.Backing.holds c.args.self.now c.args.first st (map number c.args.from.now) (sectors_for (length c.args.from.now)) c.args.backing.now h (omega (arith, c.requires.some));
+  size = refl;
+  faults = omega arith;
+  calls = omega arith;
+  rose = λ h. absurd (omega arith);
+}
+
+pub write-requires-clause-high : goal.write-requires-clause-high
+write-requires-clause-high g c =
+    let (st, h) = c.requires.chain in
+    let s = c.loop-j.invariant.storing st h in
+    let p = ahead_pos c.args.self.now.links (chain_of c.args.first st.chains) (sectors_for (length c.args.from.now)) c.loop-j.j c.loop-j.at s.rest s.ahead c.loop-j-test.true in
+    omega (arith, p.1, c.loop-j.invariant.size)
+
+pub link-at-requires : goal.link-at-requires
+link-at-requires g c =
+    let (st, h) = c.requires.chain in
+    let s = c.loop-j.invariant.storing st h in
+    (ahead_pos c.args.self.now.links (chain_of c.args.first st.chains) (sectors_for (length c.args.from.now)) c.loop-j.j c.loop-j.at s.rest s.ahead c.loop-j-test.true).1
+
+pub loop-j-preserved : goal.loop-j-preserved
+loop-j-preserved g c =
+    let counts = counts_next g.B.Backing.calls c.args.backing.now c.loop-j.backing c.write.new.self c.loop-j.invariant.calls c.in_ok-write.ensures.calls in
+    record {
+      storing = λ st h.
+          storing_next g.B.Backing.holds c.args.self.now.links (chain_of c.args.first st.chains) (sectors_for (length c.args.from.now)) c.loop-j.j c.loop-j.at c.link-at.result (map number c.args.from.now) c.pack.result c.args.backing.now c.loop-j.backing c.write.new.self c.loop-j-test.true (c.loop-j.invariant.storing st h) c.in_ok-write.ensures.sets (λ k low here. c.pack.ensures k low (omega (arith, length-map c.args.from.now number)) ∙ sym (slice_get-map number c.args.from.now (30 * c.loop-j.j + k))) c.link-at.ensures;
+      size = c.in_ok-write.ensures.size ∙ c.loop-j.invariant.size;
+      faults = omega (arith, c.loop-j.invariant.faults, c.in_ok-write.ensures.cause.later);
+      calls = counts.later;
+      rose = λ _. counts.rose;
+    }

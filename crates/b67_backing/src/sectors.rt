@@ -1,0 +1,242 @@
+//! Which sectors of a device are free, and the chains of those that aren't.
+
+ghost use Rattle.std.specs.Prelude.{◌≡◌, ◌≢◌, ◌⊎◌, ℕ, ◌+◌, ◌<◌, ◌≤◌, ◌^◌, List, [], IfOk, IfSome, IfNone, MatchOption, Some, OnOk, length, map, option_map, slice_get, slice_range, take, if◌then◌else◌, ◌==◌};
+ghost use Rattle.b67_word.specs.Tagged.{Tagged};
+ghost use Rattle.b67_core.specs.Numbers.{number};
+ghost use Rattle.b67_io.specs.Causes.{HasCause};
+ghost use Rattle.b67_backing.specs.Shelf.{Table, Shelf, IsShelf, HasChain, chain_of, taken, given, first, last, all_free};
+ghost use Rattle.b67_backing.specs.Held.{Tells, Becomes, Changes, Counts, SameBut, Stores, Holds, sectors_for, under};
+
+use crate::Backing;
+use crate::copies::{pack, unpack};
+use b67_core::Core;
+use b67_word::{Failed, Word};
+use std::alloc::{AllocError, Global};
+use std::marker::Model;
+
+/// The sectors of a device: which follows which, the first free one at 0.
+#[derive(Drop)]
+pub struct Sectors {
+    links: Vec<u32>,
+    free: u32,
+}
+
+impl Model for Sectors {
+    ghost use Rattle.b67_backing.specs.Shelf.{Table, Shelf, IsShelf};
+
+    ghost Value = { Table };
+
+    ghost view = { λ s. record { links = s.links.items; free = s.free } };
+
+    ghost invariant = { λ s. (st : Shelf) × IsShelf (record { links = s.links.items; free = s.free }) st };
+}
+
+impl Sectors {
+    /// Sectors that are all free.
+    pub fn new(alloc: Global, sectors: u32) -> Result<Sectors, AllocError>
+        requires low { 1 ≤ sectors }
+        requires high { sectors < 2 ^ 20 }
+        ensures { IfOk result (λ s. (length s.links ≡ sectors + 1) × IsShelf s (all_free sectors)) }
+    {
+        let mut links = Vec::new(alloc);
+        for i in 0..sectors {
+            links.push(i + 1)?;
+        }
+        links.push(0)?;
+        Ok(Sectors {
+            links,
+            free: sectors,
+        })
+    }
+
+    /// The number of sectors, free or not.
+    pub fn count(&self) -> u32
+        ensures { result + 1 ≡ length self.now.links }
+    {
+        self.links.len() as u32 - 1
+    }
+
+    /// The number of free sectors.
+    pub fn free_count(&self) -> u32
+        ensures { (st : Shelf) → IsShelf self.now st → result ≡ length st.free }
+    {
+        self.free
+    }
+
+    /// The sector after a sector; after 0 the first free one.
+    fn link(&self, at: u32) -> u32
+        requires { at < length self.now.links }
+        ensures { slice_get self.now.links at ≡ Some result }
+    {
+        self.links[at as usize]
+    }
+
+    /// The sector after n free ones.
+    fn nth(&self, n: u32) -> u32
+        requires { (st : Shelf) × IsShelf self.now st × (n ≤ self.now.free) }
+        ensures value { (st : Shelf) → IsShelf self.now st → result ≡ last 0 (take n st.free) }
+        ensures inside { result < length self.now.links }
+    {
+        let mut at = 0;
+        for _i in 0..n {
+            at = self.link(at);
+        }
+        at
+    }
+
+    /// Makes a chain of n free sectors, and answers its first. No other chain and no other free sector is touched, and
+    /// only n links are followed. None, with nothing changed, is where fewer than n sectors are free.
+    pub fn take(&mut self, n: u32) -> Option<u32>
+        requires { 1 ≤ n }
+        ensures row { (st : Shelf) → IsShelf self.old st
+            → MatchOption result (length st.free < n) (λ x. (n ≤ length st.free) × (x ≡ first st.free) × IsShelf self.new (taken n st)) }
+        ensures chain { IfSome result (λ x. (st : Shelf) → IsShelf self.old st → HasChain self.new (taken n st) x n) }
+        ensures chains { IfSome result (λ x. (st : Shelf) (y : ℕ) → IsShelf self.old st
+            → chain_of y (taken n st).chains ≡ (if x == y then take n st.free else chain_of y st.chains)) }
+        ensures unchanged { IfNone result (self.new ≡ self.old) }
+    {
+        if self.free < n {
+            return None;
+        }
+        let first = self.link(0);
+        let last = self.nth(n);
+        self.links[0] = self.link(last);
+        self.links[last as usize] = 0;
+        self.free -= n;
+        Some(first)
+    }
+
+    /// The last sector of a chain, and how many sectors the chain has.
+    fn last_of(&self, first: u32) -> Tail
+        requires { (st : Shelf) × IsShelf self.now st × (1 ≤ length (chain_of first st.chains)) }
+        ensures value { (st : Shelf) → IsShelf self.now st → 1 ≤ length (chain_of first st.chains)
+            → (result.last ≡ last 0 (chain_of first st.chains)) × (result.count ≡ length (chain_of first st.chains)) }
+        ensures inside { result.last < length self.now.links }
+        ensures room { self.now.free + result.count < length self.now.links }
+    {
+        let mut at = first;
+        for i in 0..self.count() {
+            let next = self.link(at);
+            if next == 0 {
+                return Tail {
+                    last: at,
+                    count: i + 1,
+                };
+            }
+            at = next;
+        }
+        unreachable!()
+    }
+
+    /// Makes the sectors of a chain free. No other chain and no other free sector is touched, and only the links of that
+    /// chain are followed.
+    pub fn give(&mut self, first: u32)
+        requires { (st : Shelf) × IsShelf self.old st × (1 ≤ length (chain_of first st.chains)) }
+        ensures row { (st : Shelf) → IsShelf self.old st → 1 ≤ length (chain_of first st.chains)
+            → IsShelf self.new (given first st) }
+        ensures chains { (st : Shelf) (x : ℕ) → IsShelf self.old st → 1 ≤ length (chain_of first st.chains)
+            → chain_of x (given first st).chains ≡ (if first == x then [] else chain_of x st.chains) }
+    {
+        let tail = self.last_of(first);
+        self.links[tail.last as usize] = self.link(0);
+        self.links[0] = first;
+        self.free += tail.count;
+    }
+
+    /// Writes words to a chain, 30 to a sector.
+    pub fn store<B: Backing>(
+        &self,
+        first: u32,
+        from: &[Word],
+        backing: &mut B,
+    ) -> Result<(), Failed>
+        requires chain { (st : Shelf) × HasChain self.now st first (sectors_for (length from.now)) }
+        requires some { 1 ≤ length from.now }
+        requires same { B.size backing.old + 1 ≡ length self.now.links }
+        ensures stores { OnOk result ((st : Shelf) → HasChain self.now st first (sectors_for (length from.now))
+            → Changes B.holds backing.old backing.new (Stores (chain_of first st.chains) (map number from.now))) }
+        ensures others { (st : Shelf) → HasChain self.now st first (sectors_for (length from.now))
+            → Changes B.holds backing.old backing.new (SameBut (chain_of first st.chains)) }
+        ensures size { B.size backing.new ≡ B.size backing.old }
+        ensures calls { Counts B.calls backing.old backing.new }
+        ensures cause { HasCause B.faults backing.old backing.new result }
+    {
+        let mut at = first;
+        for j in 0..(from.len() + 29) / 30 {
+            backing.write(at, &pack(from, 30 * j))?;
+            at = self.link(at);
+        }
+        Ok(())
+    }
+
+    /// Writes words of core to a chain, 30 to a sector.
+    pub fn save<B: Backing>(
+        &self,
+        first: u32,
+        core: &Core,
+        at: u32,
+        words: u32,
+        backing: &mut B,
+    ) -> Result<(), Failed>
+        requires chain { (st : Shelf) × HasChain self.now st first (sectors_for words) }
+        requires some { 1 ≤ words }
+        requires inside { at + words ≤ length core.now }
+        requires same { B.size backing.old + 1 ≡ length self.now.links }
+        ensures stores { OnOk result ((st : Shelf) → HasChain self.now st first (sectors_for words)
+            → Changes B.holds backing.old backing.new
+            (Stores (chain_of first st.chains) (map number (slice_range core.now at (at + words))))) }
+        ensures others { (st : Shelf) → HasChain self.now st first (sectors_for words)
+            → Changes B.holds backing.old backing.new (SameBut (chain_of first st.chains)) }
+        ensures size { B.size backing.new ≡ B.size backing.old }
+        ensures calls { Counts B.calls backing.old backing.new }
+        ensures cause { HasCause B.faults backing.old backing.new result }
+    {
+        self.store(first, core.words(at, words), backing)
+    }
+
+    /// Reads words into core from a chain, each as the word of its number's low 48 bits under a tag.
+    pub fn restore<B: Backing>(
+        &self,
+        first: u32,
+        core: &mut Core,
+        at: u32,
+        words: u32,
+        tag: u8,
+        backing: &mut B,
+    ) -> Result<(), Failed>
+        requires chain { (st : Shelf) × HasChain self.now st first (sectors_for words) }
+        requires some { 1 ≤ words }
+        requires inside { at + words ≤ length core.old }
+        requires tag { tag < 8 }
+        requires same { B.size backing.old + 1 ≡ length self.now.links }
+        ensures gives { OnOk result ((st : Shelf) → HasChain self.now st first (sectors_for words)
+            → Tells B.holds backing.old (λ all. (numbers : List ℕ) → length numbers ≡ words
+            → Holds all (chain_of first st.chains) 0 numbers
+            → (i : ℕ) → i < words → slice_get core.new (at + i) ≡ option_map (under tag) (slice_get numbers i))) }
+        ensures tags { OnOk result ((i : ℕ) → i < words → (w : Tagged) × (slice_get core.new (at + i) ≡ Some w) × (w.tag ≡ tag)) }
+        ensures outside { (i : ℕ) → (i < at) ⊎ (at + words ≤ i) → slice_get core.new i ≡ slice_get core.old i }
+        ensures len { length core.new ≡ length core.old }
+        ensures same { Becomes B.holds backing.old backing.new (λ all. all) }
+        ensures size { B.size backing.new ≡ B.size backing.old }
+        ensures calls { Counts B.calls backing.old backing.new }
+        ensures cause { HasCause B.faults backing.old backing.new result }
+    {
+        let _size = core.size();
+        let mut from = first;
+        for j in 0..(words + 29) / 30 {
+            let mut buffer = [0u64; 30];
+            backing.read(from, &mut buffer)?;
+            let n = (words - 30 * j).min(30);
+            unpack(core, at + 30 * j, n, tag, &buffer);
+            from = self.link(from);
+        }
+        Ok(())
+    }
+}
+
+/// The end of a chain.
+#[derive(Clone, Copy, Debug, PartialEq, Eq)]
+struct Tail {
+    last: u32,
+    count: u32,
+}

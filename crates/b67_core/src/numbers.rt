@@ -1,0 +1,21 @@
+//! Words as numbers: tag × 2^48 + bits.
+
+ghost use Rattle.std.specs.Prelude.{◌≡◌, ◌<◌, ◌^◌};
+ghost use Rattle.b67_core.specs.Numbers.{number, word_of};
+
+use b67_word::Word;
+
+/// The number of a word.
+pub fn to_number(w: Word) -> u64
+    ensures { result ≡ number w }
+{
+    u64::from(w.tag()) * 0x1_0000_0000_0000 + w.bits()
+}
+
+/// The word of a number with the tag and the bits of a word.
+pub fn from_number(n: u64) -> Word
+    requires { n < 2 ^ 51 }
+    ensures { result ≡ word_of n }
+{
+    Word::of((n / 0x1_0000_0000_0000) as u8, n % 0x1_0000_0000_0000)
+}

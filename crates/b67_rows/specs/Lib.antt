@@ -1,0 +1,4 @@
+pub mod Mnemonics
+pub mod Programs
+pub mod LongPrograms
+pub mod Sessions

@@ -1,0 +1,69 @@
+-- Syllables of code, and the operator at a place.
+use Rattle.std.proofs.Common.{◌≡◌, ℕ, zero, suc, ◌+◌, ◌-◌, ◌*◌, ◌/◌, ◌%◌, ◌^◌, ◌≤◌, ◌<◌, true, false, refl, sym, ◌∙◌, ap, arith, Option, Some, None, List, map, get_or, take, length, Ok, Err}
+use Rattle.std.specs.Prelude.{nat_lt, nat_le}
+use Rattle.std.specs.Option.{option_map}
+use Rattle.std.proofs.lemmas.Bool.Decides.{nat_tests}
+use Rattle.std.proofs.lemmas.List.{get_or-map, length-map}
+use Rattle.std.proofs.lemmas.Nat.{pow-add}
+use Rattle.std.proofs.Math.Nat.{pow-suc}
+use Rattle.b67_word.specs.declared.couples.Place.{Place}
+use Rattle.b67_word.specs.Tagged.{Tagged, bits_at, contents}
+use Rattle.b67_model.specs.Operators.{Form, Alone, OneMore, TwoMore, Literal, form_of, syllable, count_at, place_at, ends_at, reads, operator_at, Reading}
+use Rattle.b67_model.specs.declared.operators.Op.{Op}
+use Rattle.b67_model.specs.declared.operators.Undecodable.{Undecodable}
+use Rattle.b67_model.specs.declared.operators.Undecodable.TheVariants.{PastEnd}
+use Rattle.b67_syllable.specs.declared.kinds.Kind.{Kind}
+use Rattle.b67_syllable.specs.Kinds.{form, end_of, operator_of}
+
+weight : (k : ℕ) → 256 ^ k ≡ 2 ^ (8 * k)
+weight zero = refl
+weight (suc k) =
+    let more : 8 * suc k ≡ 8 * k + 8 = omega arith in
+    rw (pow-suc 256 k, more, pow-add 2 (8 * k) 8, weight k) refl
+
+-- eight bits of the word in which a syllable stands
+pub syllable_is : (code : List Tagged) (n : ℕ) (w : Tagged) → n < 6 * length code → w ≡ get_or code (n / 6) w → bits_at w (8 * (5 - n % 6)) 8 ≡ syllable (contents code) n
+syllable_is code n w within is =
+    let inside : n / 6 < length code = omega arith in
+    let bits : get_or (contents code) (n / 6) 0 ≡ w.bits = get_or-map (λ (v : Tagged). v.bits) code (n / 6) w 0 inside ∙ ap (λ (v : Tagged). v.bits) (sym is) in
+    rw (bits, weight (5 - n % 6)) refl
+
+reads_is : (code : List ℕ) (n : ℕ) (f : Form) → reads code n (Some f) ≡ ends_at code (end_of n f) (operator_of code n f)
+reads_is code n (Alone op) = refl
+reads_is code n (OneMore op) = refl
+reads_is code n (TwoMore op) = refl
+reads_is code n (Literal op) = refl
+
+inside_is : (code : List Tagged) (at : Place) → at.syllable < 6 → at.word < length code → operator_at (contents code) at ≡ reads (contents code) (count_at at) (form_of (syllable (contents code) (count_at at)))
+inside_is code at in_word word =
+    let first : nat_lt at.syllable 6 ≡ true = grind (arith, nat_tests) in
+    let second : nat_lt at.word (length (contents code)) ≡ true = rw (length-map code (λ (v : Tagged). v.bits)) (grind (arith, nat_tests)) in
+    rw (first, second) refl
+
+-- an operator of a kind begins at syllable n, where the place is, by its first syllable
+pub record Begins (code : List Tagged) (at : Place) (n : ℕ) (kind : Kind) : Type 0 where
+  pub in_word : at.syllable < 6
+  pub inside : n < 6 * length code
+  pub count : n ≡ count_at at
+  pub first : ℕ
+  pub first_is : first ≡ syllable (contents code) n
+  pub form_is : form_of first ≡ Some (form kind)
+
+found : (code : List Tagged) (at : Place) (n : ℕ) (kind : Kind) → Begins code at n kind → operator_at (contents code) at ≡ ends_at (contents code) (end_of n (form kind)) (operator_of (contents code) n (form kind))
+found code at n kind b =
+    let counted : operator_at (contents code) at ≡ reads (contents code) n (form_of (syllable (contents code) n)) = rw (b.count) (inside_is code at b.in_word (omega arith)) in
+    counted ∙ ap (reads (contents code) n) (sym (ap form_of b.first_is) ∙ b.form_is) ∙ reads_is (contents code) n (form kind)
+
+pub ends : (code : List Tagged) (at : Place) (n : ℕ) (kind : Kind) → Begins code at n kind → (end : ℕ) (op : Op) (place : Place) →
+    end ≡ end_of n (form kind) → op ≡ operator_of (contents code) n (form kind) → place ≡ place_at end → end ≤ 6 * length code →
+    ◌≡◌ {A = Reading} (Ok (op, place)) (operator_at (contents code) at)
+ends code at n kind b end op place end_is op_is place_is within =
+    let test : nat_le end (6 * length (contents code)) ≡ true = rw (length-map code (λ (v : Tagged). v.bits)) (grind (arith, nat_tests)) in
+    rw (found code at n kind b, ← end_is, test, place_is, op_is) refl
+
+pub past_end : (code : List Tagged) (at : Place) (n : ℕ) (kind : Kind) → Begins code at n kind → (end : ℕ) →
+    end ≡ end_of n (form kind) → 6 * length code < end →
+    ◌≡◌ {A = Reading} (Err PastEnd) (operator_at (contents code) at)
+past_end code at n kind b end end_is past =
+    let test : nat_le end (6 * length (contents code)) ≡ false = rw (length-map code (λ (v : Tagged). v.bits)) (grind (arith, nat_tests)) in
+    rw (found code at n kind b, ← end_is, test) refl

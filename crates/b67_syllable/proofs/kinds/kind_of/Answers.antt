@@ -1,0 +1,9 @@
+use Rattle.std.proofs.Common.{arith, refl}
+use Rattle.b67_syllable.proofs.KindLemmas.{name_kind, table_kind}
+use Rattle.b67_syllable.proofs.kinds.kind_of.Goals as goal
+
+pub returns-in-64-to-127 : goal.returns-in-64-to-127
+returns-in-64-to-127 c = name_kind c.args.first _ (omega arith) (omega arith) refl
+
+pub returns-in-128-to-191 : goal.returns-in-128-to-191
+returns-in-128-to-191 c = table_kind c.args.first c.kind_in.result (omega arith) (omega arith) c.kind_in.ensures

@@ -1,0 +1,8 @@
+//! Operators as the syllables of code.
+#![tactic(auto)]
+
+mod decoding;
+mod kinds;
+
+pub use b67_model::{Code, Op, Undecodable};
+pub use decoding::decode;
