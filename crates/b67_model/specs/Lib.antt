@@ -1,6 +1,7 @@
 pub mod Answers
 pub mod Words
 pub mod Operators
+pub mod Encoding
 pub mod Keyed
 pub mod State
 pub mod Environment
