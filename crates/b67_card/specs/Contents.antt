@@ -55,6 +55,7 @@ jobs_told (s ∷ before) = told (stand (map command_in before)) s.number s.comma
 -- these are the jobs
 pub record Holds (c : Contents) (jobs : List declared.Job) : Type 0 where
   pub all : jobs ≡ option_to_list c.newest ++ reverse c.older
+  pub none : c.newest ≡ None → jobs ≡ []
 
 -- the job has what a plain card adds to it, or the card is refused for its digits
 abbrev pub Filled : Result ⊤ Refused → Stand → Card → declared.Job → declared.Job → Type 0
