@@ -1,5 +1,7 @@
 pub mod Command
 pub mod Seen
+pub mod FirstForm
+pub mod Formed
 pub mod Stack
 pub mod Frames
 pub mod Session

@@ -2,6 +2,7 @@
 #![tactic(auto)]
 
 mod command;
+mod form;
 mod stack;
 
 pub use command::{CommandLine, backing_path, command_of};
