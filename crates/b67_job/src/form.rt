@@ -1,6 +1,6 @@
 //! Decks of the first form, one job of hexadecimal cards.
 
-ghost use Rattle.std.specs.Prelude.{◌≡◌, ◌<◌, ◌≤◌, ◌+◌, ◌∷◌, ◌^◌, [], IfOk, MatchOption, length};
+ghost use Rattle.std.specs.Prelude.{◌≡◌, ◌<◌, ◌≤◌, ◌+◌, ◌∷◌, ◌^◌, [], IfOk, IfSome, MatchOption, length};
 ghost use Rattle.b67_text.specs.Command.{said};
 ghost use Rattle.b67_job.specs.FirstForm.{cards_from, kind_of, ended, body_form, hex_form, first_form};
 ghost use Rattle.b67_job.specs.Formed.{formed, next_of};
@@ -41,7 +41,8 @@ fn next_card(line: u32, text: &[u8]) -> Option<Next<'_>>
     requires { line + length text.now < 2 ^ 32 }
     ensures card { MatchOption result (cards_from line text.now ≡ [])
         (λ n. cards_from line text.now ≡ next_of n ∷ cards_from (n.number + 1) n.rest.now) }
-    ensures within { MatchOption result (0 ≤ line) (λ n. n.number + 1 + length n.rest.now ≤ line + length text.now) }
+    ensures within { IfSome result (λ n. n.number + 1 + length n.rest.now ≤ line + length text.now) }
+    ensures later { IfSome result (λ n. line ≤ n.number) }
 {
     let mut number = line;
     let mut rest = text;
@@ -79,7 +80,7 @@ fn kind_of(alloc: Global, text: &[u8]) -> Result<Kind, AllocError>
 }
 
 fn ended(end: Next<'_>, card: u32, bytes: Bytes) -> Form
-    requires { end.entry.number + 1 + length end.entry.rest.now < 2 ^ 32 }
+    requires { end.number + 1 + length end.rest.now < 2 ^ 32 }
     ensures { formed result ≡ ended (record { card = card; bytes = bytes }) (cards_from (end.entry.number + 1) end.entry.rest.now) }
 {
     match next_card(end.number + 1, end.rest) {
@@ -113,7 +114,7 @@ fn body_form(alloc: Global, card: u32, text: &[u8]) -> Result<Form, AllocError>
 }
 
 fn hex_form(alloc: Global, job: Next<'_>) -> Result<Form, AllocError>
-    requires { job.entry.number + 1 + length job.entry.rest.now < 2 ^ 32 }
+    requires { job.number + 1 + length job.rest.now < 2 ^ 32 }
     ensures { IfOk result (λ f. formed f ≡ hex_form job.entry.number (cards_from (job.entry.number + 1) job.entry.rest.now)) }
 {
     let Some(next) = next_card(job.number + 1, job.rest) else {
