@@ -4,3 +4,4 @@ pub mod Chased
 pub mod Turns
 pub mod Calls
 pub mod Sessions
+pub mod Places
