@@ -5,3 +5,5 @@ pub mod Turns
 pub mod Calls
 pub mod Sessions
 pub mod Places
+pub mod Small
+pub mod Machine

@@ -85,19 +85,19 @@ module _ (code : List ℕ) (cells : List Cell) (marks : List ℕ) (next : ℕ) (
           record { fits = record { few = omega arith; small = (small, fit.small) }; value = tt; marks = marks'; next = next'; fresh = fresh'; above = above'; is = refl }
       by_room false e = refl
 
-  zero-turn : Answers (turn (Plain Zero) cells) to (row (Plain Zero) h)
+  pub zero-turn : Answers (turn (Plain Zero) cells) to (row (Plain Zero) h)
   zero-turn = grown (Number 0) marks next (omega arith) fresh above
 
-  one-turn : Answers (turn (Plain One) cells) to (row (Plain One) h)
+  pub one-turn : Answers (turn (Plain One) cells) to (row (Plain One) h)
   one-turn = grown (Number 1) marks next (omega arith) fresh above
 
-  lt8-turn : (n : ℕ) → n < 256 → Answers (turn (Lt8 n) cells) to (row (Lt8 n) h)
+  pub lt8-turn : (n : ℕ) → n < 256 → Answers (turn (Lt8 n) cells) to (row (Lt8 n) h)
   lt8-turn n small = grown (Number n) marks next (omega arith) fresh above
 
-  namc-turn : Answers (turn (Namc 9) cells) to (row (Namc 9) h)
+  pub namc-turn : Answers (turn (Namc 9) cells) to (row (Namc 9) h)
   namc-turn = grown Print marks next tt fresh above
 
-  mkst-turn : Answers (turn (Plain Mkst) cells) to (row (Plain Mkst) h)
+  pub mkst-turn : Answers (turn (Plain Mkst) cells) to (row (Plain Mkst) h)
   mkst-turn = grown Mark (next ∷ marks) (next + 1) tt (above, fresh) (omega arith)
 
 -- the numbers of operands that the ten operators make
