@@ -6,4 +6,6 @@ pub mod Calls
 pub mod Sessions
 pub mod Places
 pub mod Small
-pub mod Machine
+pub mod Followed
+pub mod Running
+pub mod Printed

@@ -10,7 +10,7 @@ use Rattle.b67_model.specs.declared.operators.Undecodable.TheVariants.{BadPlace,
 use Rattle.b67_model.specs.Operators.{Form, Alone, OneMore, TwoMore, Literal, Reading, count_at, place_at, ends_at, reads, form_of, syllable, operator_at}
 use Rattle.b67_model.specs.Loader.{Entry, At, Break, entries_from, listing, origin, may_be_last}
 use Rattle.b67_job.specs.Stack.{is_built}
-use Rattle.b67_job.specs.Listed.{built_after, is_runnable}
+use Rattle.b67_job.specs.Listed.{built_after, is_runnable, may_end}
 
 -- the place behind an operator at syllable n
 pub record Behind (code : List ℕ) (n : ℕ) (at : Place) : Type 0 where
@@ -82,15 +82,11 @@ listing-step code at read e =
     rw (e, some) (ap (λ more. At at read.0 ∷ more) (enough code n _ read.1 (omega arith) (omega arith) b.proper (operator_at code read.1) refl))
 
 -- a place at which no operator stands
-abbrev pub built_at_err : Bool → Undecodable → Bool
-built_at_err last BadPlace = last
-built_at_err last _ = false
-
 pub listing-err : (code : List ℕ) (at : Place) (why : Undecodable) (last : Bool) → operator_at code at ≡ Err why → at.syllable < 6 → count_at at ≤ 6 * length code
-    → built_after last (listing_from code at) ≡ built_at_err last why
+    → built_after last (listing_from code at) ≡ may_end last why
 listing-err code at why last e proper inside = by_left (6 * length code - count_at at) refl why e
   where
-    by_left : (n : ℕ) → 6 * length code - count_at at ≡ n → (why : Undecodable) → operator_at code at ≡ Err why → built_after last (entries_from n code at (operator_at code at)) ≡ built_at_err last why
+    by_left : (n : ℕ) → 6 * length code - count_at at ≡ n → (why : Undecodable) → operator_at code at ≡ Err why → built_after last (entries_from n code at (operator_at code at)) ≡ may_end last why
     by_left zero left BadPlace e = refl
     by_left zero left NotAdmitted e = let past = past-end code at (omega arith) proper in absurd cc
     by_left zero left PastEnd e = let past = past-end code at (omega arith) proper in absurd cc

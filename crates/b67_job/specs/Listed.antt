@@ -5,6 +5,8 @@ use Rattle.b67_word.specs.declared.faults.Fault.TheVariants.{InvalidOperator}
 use Rattle.b67_word.specs.declared.faults.Ending.TheVariants.{Faulted}
 use Rattle.b67_model.specs.declared.operators.Op.{Op}
 use Rattle.b67_model.specs.declared.operators.Op.TheVariants.{Lt8}
+use Rattle.b67_model.specs.declared.operators.Undecodable.{Undecodable}
+use Rattle.b67_model.specs.declared.operators.Undecodable.TheVariants.{BadPlace}
 use Rattle.b67_model.specs.Operators.{Reading}
 use Rattle.b67_model.specs.Loader.{Entry, At, Break, listing, may_be_last}
 use Rattle.b67_job.specs.declared.stack.Cell.{Cell}
@@ -39,3 +41,8 @@ SmallOp _ = ⊤
 abbrev pub SmallReading : Reading → Type 0
 SmallReading (Err undecodable) = ⊤
 SmallReading (Ok read) = SmallOp read.0
+
+-- what is said where no operator is read: code ends only behind its last word
+abbrev pub may_end : Bool → Undecodable → Bool
+may_end last BadPlace = last
+may_end last _ = false

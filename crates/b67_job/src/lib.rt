@@ -3,6 +3,9 @@
 
 mod command;
 mod form;
+mod lines;
+mod machine;
+mod program;
 mod stack;
 
 pub use command::{CommandLine, backing_path, command_of};
