@@ -8,4 +8,5 @@ pub mod Places
 pub mod Small
 pub mod Followed
 pub mod Running
+pub mod Programs
 pub mod Printed

@@ -6,7 +6,6 @@ use Rattle.b67_io.specs.Line.{ended}
 use Rattle.b67_text.specs.Cards.{cards, is_empty}
 use Rattle.b67_card.specs.declared.reading.TheConstants.{LIMIT}
 use Rattle.b67_codefile.specs.declared.file.Codefile.{Codefile}
-use Rattle.b67_codefile.specs.declared.fault.Flaw.{Flaw}
 use Rattle.b67_codefile.specs.Reading.{reading}
 use Rattle.b67_codefile.specs.Meaning.{program_of}
 use Rattle.b67_job.specs.FirstForm.{Body, Form, first_form}
@@ -28,7 +27,7 @@ abbrev pub is_first : Program → Bool
 is_first p = is_first_segment p.segments && is_empty p.rows
 
 -- by a body's codefile, under the number of its ?HEX card
-unfoldable pub file_judgement : ℕ → Result Codefile Flaw → Judgement
+unfoldable pub file_judgement : {E : Type 0} → ℕ → Result Codefile E → Judgement
 file_judgement card (Err flaw) = Refused card 90
 file_judgement card (Ok file) = if is_first (program_of file) then Runs (job_of (program_of file) ∷ []) else Refused card 90
 

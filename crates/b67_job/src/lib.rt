@@ -7,5 +7,7 @@ mod lines;
 mod machine;
 mod program;
 mod stack;
+mod top;
 
 pub use command::{CommandLine, backing_path, command_of};
+pub use top::{Outcome, run};
