@@ -9,4 +9,5 @@ pub mod Small
 pub mod Followed
 pub mod Running
 pub mod Programs
+pub mod Judged
 pub mod Printed

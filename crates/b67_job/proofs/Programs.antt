@@ -28,10 +28,10 @@ pub of_one : (f : Codefile) (s : Segment) → f.segments ≡ s ∷ [] → f.rows
     → MatchOption r (is_first_segment (segment_of s ∷ []) ≡ false) (λ code. (s.level ≡ 2) × (code.now ≡ s.code) × (is_runnable (contents code.now) ≡ true))
     → MatchOption r (is_first (program_of f) ≡ false)
         (λ code. (is_first (program_of f) ≡ true) × (program_of f ≡ program_of_code (contents code.now)) × (is_runnable (contents code.now) ≡ true) × (length code.now ≤ 8191))
-of_one f s e rows short None no = rw (e, rows) (ap (λ (b : Bool). b && true) no)
-of_one f s e rows short (Some code) yes =
-    let runs : is_runnable (contents s.code) ≡ true = rw (sym yes.1) yes.2 in
-    (rw (e, rows, yes.0, runs) refl, rw (e, rows, yes.0, yes.1) refl, yes.2, rw yes.1 short)
+of_one f s e rows short None other = rw (e, rows) (ap (λ (b : Bool). b && true) other)
+of_one f s e rows short (Some code) holds =
+    let runs : is_runnable (contents s.code) ≡ true = rw (sym holds.1) holds.2 in
+    (rw (e, rows, holds.0, runs) refl, rw (e, rows, holds.0, holds.1) refl, holds.2, rw holds.1 short)
 
 pub of_none_or_many : (f : Codefile) → (length f.segments < 1) ⊎ (2 ≤ length f.segments) → is_first (program_of f) ≡ false
 of_none_or_many f h = by_segments f.segments h

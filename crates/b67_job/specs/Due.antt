@@ -6,6 +6,8 @@ use Rattle.b67_io.specs.Line.{ended}
 use Rattle.b67_io.specs.Told.{Gave, GaveAll}
 use Rattle.b67_io.specs.Causes.{Rose}
 use Rattle.b67_card.specs.declared.reading.TheConstants.{LIMIT}
+use Rattle.b67_card.specs.declared.reading.ReadFault.{ReadFault}
+use Rattle.b67_card.specs.declared.reading.ReadFault.TheVariants.{TooLong, SourceFault, Memory}
 use Rattle.b67_job.specs.Command.{command_of}
 use Rattle.b67_job.specs.Judgement.{Judgement, Refused, Runs, judgement, refusal_text}
 use Rattle.b67_job.specs.Session.{IsRun}
@@ -58,3 +60,9 @@ pub record Answered {S K : Type 0} (words : List (Bor (List ℕ))) (left : S →
   pub text : List ℕ
   pub due : IsDue words left source_faults deck deck' status text
   pub ends : Ends taken printer_faults old new status text answer
+
+-- how the answer to a fault of reading ends
+abbrev pub FaultEnds : {K : Type 0} → ReadFault → (K → Option (List ℕ)) → (K → ℕ) → K → K → ℕ → Type 0
+FaultEnds (TooLong card) taken faults old new answer = Ends taken faults old new 2 (refusal_text card 14) answer
+FaultEnds SourceFault taken faults old new answer = Ends taken faults old new 7 reading_text answer
+FaultEnds Memory taken faults old new answer = Ends taken faults old new 9 memory_text answer

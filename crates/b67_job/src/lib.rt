@@ -7,7 +7,9 @@ mod lines;
 mod machine;
 mod program;
 mod stack;
+#[cfg(test)]
+mod tests;
 mod top;
 
 pub use command::{CommandLine, backing_path, command_of};
-pub use top::{Outcome, run};
+pub use top::{Outcome, refuse_memory, run};

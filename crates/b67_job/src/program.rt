@@ -36,7 +36,8 @@ pub fn first_code(file: &Codefile) -> Option<&[Word]>
         return None;
     }
     match file.segments.as_slice() {
+        [] => None,
         [segment] => code_of(segment),
-        _ => None,
+        [_, _, ..] => None,
     }
 }

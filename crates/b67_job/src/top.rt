@@ -12,7 +12,7 @@ ghost use Rattle.b67_job.specs.Judgement.{judgement, file_judgement, Refused, Ru
 ghost use Rattle.b67_job.specs.Session.{IsRun};
 ghost use Rattle.b67_job.specs.Runs.{session_of};
 ghost use Rattle.b67_job.specs.Ends.{Ends};
-ghost use Rattle.b67_job.specs.Due.{Answered, AnswersTo, IsDue, WasRead, usage_text, reading_text, memory_text};
+ghost use Rattle.b67_job.specs.Due.{Answered, AnswersTo, FaultEnds, IsDue, WasRead, usage_text, reading_text, memory_text};
 
 use crate::command::command_of;
 use crate::form::{Form, first_form};
@@ -36,10 +36,25 @@ fn refuse<K: Sink>(printer: &mut K, card: u32, reason: u8) -> u8
     say(printer, 2, &refusal_line(card, reason))
 }
 
+fn say_reading_fault<K: Sink>(printer: &mut K) -> u8
+    ensures { Ends K.taken K.faults printer.old printer.new 7 reading_text result }
+{
+    say(printer, 7, &line_of("READING FAULT"))
+}
+
 fn say_no_memory<K: Sink>(printer: &mut K) -> u8
     ensures { Ends K.taken K.faults printer.old printer.new 9 memory_text result }
 {
     say(printer, 9, &line_of("NO MEMORY"))
+}
+
+/// Answers that memory was refused, for a program that has no memory for its words.
+pub fn refuse_memory<K: Sink>(printer: &mut K) -> Outcome
+    ensures { Ends K.taken K.faults printer.old printer.new 9 memory_text result.status }
+{
+    Outcome {
+        status: say_no_memory(printer),
+    }
 }
 
 fn answer<S: Source, K: Sink>(alloc: Global, words: &[&str], deck: &mut S, printer: &mut K) -> u8
@@ -50,9 +65,17 @@ fn answer<S: Source, K: Sink>(alloc: Global, words: &[&str], deck: &mut S, print
     }
     match read_all(alloc, deck) {
         Ok(bytes) => answer_deck(alloc, bytes.as_slice(), printer),
-        Err(ReadFault::TooLong { card }) => refuse(printer, card, 14),
-        Err(ReadFault::SourceFault) => say(printer, 7, &line_of("READING FAULT")),
-        Err(ReadFault::Memory) => say_no_memory(printer),
+        Err(fault) => answer_fault(fault, printer),
+    }
+}
+
+fn answer_fault<K: Sink>(fault: ReadFault, printer: &mut K) -> u8
+    ensures { FaultEnds fault K.taken K.faults printer.old printer.new result }
+{
+    match fault {
+        ReadFault::TooLong { card } => refuse(printer, card, 14),
+        ReadFault::SourceFault => say_reading_fault(printer),
+        ReadFault::Memory => say_no_memory(printer),
     }
 }
 
@@ -76,8 +99,10 @@ fn answer_body<K: Sink>(alloc: Global, card: u32, bytes: &[u8], printer: &mut K)
             Some(code) => run_code(printer, code),
             None => refuse(printer, card, 90),
         },
-        Err(BadFile::Memory) => say_no_memory(printer),
-        Err(_) => refuse(printer, card, 90),
+        Err(fault) => match fault {
+            BadFile::Memory => say_no_memory(printer),
+            _ => refuse(printer, card, 90),
+        },
     }
 }
 

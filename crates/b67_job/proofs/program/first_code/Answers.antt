@@ -2,7 +2,6 @@ use Rattle.std.proofs.Common.{◌≡◌, ◌∙◌, ◌≤◌, ◌<◌, [], ◌�
 use Rattle.std.specs.Prelude.{◌==◌}
 use Rattle.b67_job.proofs.Programs.{single, none_left, is_short, of_one, of_none_or_many}
 use Rattle.b67_job.proofs.program.first_code.Goals as goal
-use Rattle.b67_job.proofs.program.first_code.Goals.{in_default-via-then-as_slice-lt1, in_default-via-else-as_slice-lt1+else-this-lt2}
 
 pub code_of-requires : goal.code_of-requires
 code_of-requires c =
@@ -14,9 +13,5 @@ returns-in-len1 c =
     of_one c.args.file.now c.segment-item.result one
     (sym c.as_slice.ensures ∙ none_left c.as_slice.result.now (sym c.if-not-is_empty.false ∙ c.is_empty.ensures)) (is_short c.args.file.now c.segment-item.result one c.requires) c.code_of.result c.code_of.ensures
 
-pub returns-in_default : goal.returns-in_default
-returns-in_default c =
-    elim c.in_default.branch [
-      | in_default-via-then-as_slice-lt1 w ↦ of_none_or_many c.args.file.now (inl (omega (arith, ap length c.as_slice-2.ensures)))
-      | in_default-via-else-as_slice-lt1+else-this-lt2 w ↦ of_none_or_many c.args.file.now (inr (omega (arith, ap length c.as_slice-2.ensures)))
-    ]
+pub returns-in-len2-up : goal.returns-in-len2-up
+returns-in-len2-up c = of_none_or_many c.args.file.now (inr (omega (arith, ap length c.as_slice-2.ensures)))
