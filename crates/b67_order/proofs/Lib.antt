@@ -19,3 +19,5 @@ pub mod Rows
 pub mod Readings
 pub mod Whole
 pub mod Segments
+pub mod Admitted
+pub mod Places
