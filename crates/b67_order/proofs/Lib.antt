@@ -21,3 +21,4 @@ pub mod Whole
 pub mod Segments
 pub mod Admitted
 pub mod Places
+pub mod Deaths
