@@ -236,6 +236,9 @@ with_numbers : (ending : Ending) (ns : List ℕ) → map (λ (e : ℕ × Ending)
 with_numbers ending [] = refl
 with_numbers ending (n ∷ ns) = ap (λ ms. n ∷ ms) (with_numbers ending ns)
 
+pub all_among : (P : Starts) (setting : Setting) (job : Job) (ending : Ending) → TasksInOrder P setting job → (t : Task) → Has job.tasks t → among (map (λ (e : ℕ × Ending). e.0) (all_with ending (deepest_first job.tasks))) t.number ≡ true
+all_among P setting job ending g t here = rw (with_numbers ending (deepest_first job.tasks)) (among_has (deepest_first job.tasks) t.number (deepest_has 15 job.tasks t here (depth_low P setting job g t here)))
+
 pub all_closed : (P : Starts) (setting : Setting) (job : Job) (ending : Ending) → TasksInOrder P setting job → IsClosed job (map (λ (e : ℕ × Ending). e.0) (all_with ending (deepest_first job.tasks)))
 all_closed P setting job ending g t here n h k = rw (with_numbers ending (deepest_first job.tasks)) (among_has (deepest_first job.tasks) t.number (deepest_has 15 job.tasks t here (depth_low P setting job g t here)))
 

@@ -22,3 +22,5 @@ pub mod Segments
 pub mod Admitted
 pub mod Places
 pub mod Deaths
+pub mod NextTask
+pub mod Settles

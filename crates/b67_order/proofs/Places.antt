@@ -15,7 +15,7 @@ use Rattle.b67_model.specs.Program.{Program}
 use Rattle.b67_model.specs.Loader.{Entry, At, origin, listing, is_start, Listed, target_of, may_be_last, holds_of, holds_at, is_outside, is_last, named_level, is_off, is_amiss, IsAdmitted}
 use Rattle.b67_model.specs.Rows.{code_of, reading_of, is_proc, proc_of}
 use Rattle.b67_model.specs.InOrder.{Starts, IsStart, SegmentInOrder, SettingInOrder, TaskInOrder, TasksInOrder}
-use Rattle.b67_order.specs.Laws.{StartsAt, ParametersFit, KeepsOrder, StepsFrom, RowsKeepOrder}
+use Rattle.b67_order.specs.Laws.{StartsAt, ParametersFit, KeepsOrder, StepsFrom, RowsKeepOrder, PlacesHaveOperators}
 use Rattle.b67_order.proofs.Members.{all_in, keyed_has, has_get}
 use Rattle.b67_order.proofs.Readings.{OpBits, ReadFits}
 use Rattle.b67_order.proofs.Segments.{reading_fits}
@@ -161,3 +161,10 @@ rows_keep_order p setting job task admitted same s =
         after = λ goes. after_fits p setting admitted same s.unchanging task level own.place op next e goes;
         parameters = parameters_fit p setting admitted same s.unchanging task level own.place (here setting job task next) refl op is.0 read.0 (λ target start. start);
       })
+
+pub places_have_operators : PlacesHaveOperators
+places_have_operators p setting job task admitted same g live =
+    let own = all_in (TaskInOrder (IsStart setting) setting job) job.tasks task g.tasks (keyed_has (λ t. t.number) task.number job.tasks task live).0 in
+    let at = own.place in
+    let r = entered _ at.code.code origin (operator_at at.code.code origin) task.place at.op refl at.stands in
+    (at.op, r.next, rw at.found r.reads)
