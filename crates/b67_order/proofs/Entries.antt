@@ -102,7 +102,7 @@ pub free_by : (job : Job) (n : ℕ) → not (is_critical job n) ≡ true → (t 
 free_by job n test = free_of job n (not_true (is_critical job n) test)
 
 -- the originals of other arrays don't lie in a frame
-none_original : (job : Job) (P : Starts) (reach : List Known) (n : ℕ) (a : Array) → Falls job.next_array (map (λ x. x.identity) job.arrays) → Has job.arrays a → a.owner ≢ n → (w : Word) → WordInOrder P job.arrays reach n w → is_original_of a.identity w ≡ false
+pub none_original : (job : Job) (P : Starts) (reach : List Known) (n : ℕ) (a : Array) → Falls job.next_array (map (λ x. x.identity) job.arrays) → Has job.arrays a → a.owner ≢ n → (w : Word) → WordInOrder P job.arrays reach n w → is_original_of a.identity w ≡ false
 none_original job P reach n a falls live other (Original m) g = elim (eqb_tells m a.identity) [
   | inl e ↦ let same : g.item ≡ a = falls_same (λ (x : Array). x.identity) job.next_array job.arrays g.item a falls g.live live (g.named ∙ e.1) in
       absurd (other (ap (λ (x : Array). x.owner) (sym same) ∙ g.owned))
