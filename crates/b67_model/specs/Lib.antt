@@ -1,7 +1,9 @@
 pub mod Answers
 pub mod Words
 pub mod Operators
+pub mod Encoding
 pub mod Keyed
+pub mod Lists
 pub mod State
 pub mod Environment
 pub mod Cells

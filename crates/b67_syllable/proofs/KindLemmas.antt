@@ -18,6 +18,9 @@ not_below n k h = grind (arith, nat_tests)
 below : (n k : ℕ) → n < k → nat_lt n k ≡ true
 below n k h = grind (arith, nat_tests)
 
+pub value_kind : (first : ℕ) → first < 0x40 → form_of first ≡ Some (OneMore (λ low. Valc (first * 256 + low)))
+value_kind first upto = rw (below first 0x40 upto) refl
+
 pub name_kind : (first high : ℕ) → 0x40 ≤ first → first ≤ 0x7f → high ≡ first - 0x40 → form_of first ≡ Some (OneMore (λ low. Namc (high * 256 + low)))
 name_kind first high from upto is = rw (not_below first 0x40 from, below first 0x80 (omega arith), is) refl
 

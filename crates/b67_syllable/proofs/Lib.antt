@@ -1,2 +1,3 @@
 pub mod KindLemmas
 pub mod CodeLemmas
+pub mod EncodingLemmas

@@ -2,7 +2,12 @@
 #![tactic(auto)]
 
 mod decoding;
+mod encoding;
 mod kinds;
 
 pub use b67_model::{Code, Op, Undecodable};
 pub use decoding::decode;
+pub use encoding::encode;
+
+#[cfg(test)]
+mod tests;
