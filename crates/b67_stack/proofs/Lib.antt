@@ -1,0 +1,6 @@
+pub mod Bases
+pub mod Lies
+pub mod Heights
+pub mod Slots
+pub mod Pushes
+pub mod Tops
