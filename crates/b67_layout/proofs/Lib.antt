@@ -1,3 +1,4 @@
 pub mod Frames
 pub mod Others
 pub mod Pictures
+pub mod Witness
