@@ -1,9 +1,11 @@
 // What the cards of a deck add to its jobs.
-ghost use Rattle.std.specs.Prelude.{◌≡◌, ℕ, List, [], ◌∷◌, ◌++◌, map, reverse, OnOk};
+ghost use Rattle.std.specs.Prelude.{◌≡◌, ℕ, List, [], ◌∷◌, ◌++◌, map, reverse, OnOk, IfOk, None};
 ghost use Rattle.b67_text.specs.declared.deck.Job as job;
+ghost use Rattle.b67_text.specs.declared.deck.Stand.TheVariants.{Front};
+ghost use Rattle.b67_text.specs.Command as text;
 ghost use Rattle.b67_text.specs.Placing.{numbers, operands_in};
 ghost use Rattle.b67_card.specs.Said.{command_of};
-ghost use Rattle.b67_card.specs.Contents.{Holds, Told, Filled, Appended, with_card, with_text, with_limit, with_program, new_job};
+ghost use Rattle.b67_card.specs.Contents.{Holds, Told, Filled, Appended, with_card, with_text, with_limit, with_program, new_job, to_newest};
 
 use crate::command::{Command, Refused};
 use crate::hex::{is_hex, put_digits};
@@ -64,5 +66,103 @@ fn fill(alloc: Global, stand: Stand, card: Card, job: &mut Job) -> Result<(), Re
             put_card(card, &mut job.program)?;
             Ok(())
         }
+    }
+}
+
+impl Contents {
+    pub fn new(alloc: Global) -> Self
+        ensures { Holds result [] }
+    {
+        Contents {
+            older: Jobs::new(alloc),
+            newest: None,
+        }
+    }
+
+    // Puts the newest job behind the others.
+    fn close(&mut self) -> Result<(), AllocError>
+        ensures { OnOk result ((jobs : List job.Job) → Holds self.old jobs → (self.new.newest ≡ None) × (jobs ≡ reverse self.new.older)) }
+    {
+        match self.newest.take() {
+            Some(job) => self.older.push(job),
+            None => Ok(()),
+        }
+    }
+
+    fn begin(&mut self, alloc: Global, number: u32, name: Name) -> Result<(), AllocError>
+        ensures { OnOk result ((jobs : List job.Job) → Holds self.old jobs → Holds self.new (new_job number name ∷ jobs)) }
+    {
+        self.close()?;
+        self.newest = Some(Job {
+            name,
+            limit: 1_000_000,
+            card: number,
+            body_card: 0,
+            program: Body::Cards(Cards::new(alloc)),
+            numbers: Numbers::new(alloc),
+        });
+        Ok(())
+    }
+
+    fn limit(&mut self, n: u64)
+        ensures { (jobs : List job.Job) → Holds self.old jobs → Holds self.new (to_newest (with_limit n) jobs) }
+    {
+        match &mut self.newest {
+            Some(job) => job.limit = n,
+            None => {}
+        }
+    }
+
+    fn program(&mut self, number: u32, program: Body)
+        ensures { (jobs : List job.Job) → Holds self.old jobs → Holds self.new (to_newest (with_program number program) jobs) }
+    {
+        match &mut self.newest {
+            Some(job) => {
+                job.body_card = number;
+                job.program = program;
+            }
+            None => {}
+        }
+    }
+
+    fn plain(&mut self, alloc: Global, stand: Stand, card: Card) -> Result<(), Refused>
+        ensures { (jobs : List job.Job) → Holds self.old jobs → (jobs ≡ [] → stand ≡ Front) → Told result stand card.number (text.Plain card.text) jobs self.new }
+    {
+        match &mut self.newest {
+            Some(job) => fill(alloc, stand, card, job),
+            None => Ok(()),
+        }
+    }
+
+    /// Takes in what a card adds that stands there, or says why its digits are refused.
+    pub fn add(
+        &mut self,
+        alloc: Global,
+        stand: Stand,
+        number: u32,
+        command: Command,
+    ) -> Result<(), Refused>
+        ensures { (jobs : List job.Job) → Holds self.old jobs → (jobs ≡ [] → stand ≡ Front) → Told result stand number (command_of command) jobs self.new }
+    {
+        match command {
+            Command::Job(name) => self.begin(alloc, number, name)?,
+            Command::Limit(n) => self.limit(n),
+            Command::Asm => self.program(number, Body::Cards(Cards::new(alloc))),
+            Command::Hex => self.program(number, Body::Bytes(Bytes::new(alloc))),
+            Command::Plain(text) => return self.plain(alloc, stand, Card { number, text }),
+            Command::Stack(_) | Command::Quantum(_) | Command::Halt(_) | Command::Switch(_) => {}
+            Command::Data | Command::End => {}
+        }
+        Ok(())
+    }
+
+    /// All the jobs, in the order of their cards.
+    pub fn into_jobs(mut self) -> Result<Jobs, AllocError>
+        ensures { IfOk result (λ all. (jobs : List job.Job) → Holds self jobs → jobs ≡ reverse all) }
+    {
+        self.close()?;
+        let Contents { older, newest } = self;
+        drop(newest);
+        Ok(older)
     }
 }

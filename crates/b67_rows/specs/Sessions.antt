@@ -7,7 +7,7 @@ use Rattle.b67_model.specs.State.{Segment}
 use Rattle.b67_model.specs.Program.{Program, opened}
 use Rattle.b67_model.specs.Steps.{Value, Values, Ends}
 use Rattle.b67_model.specs.Schedule.{Switch, Session}
-use Rattle.b67_model.specs.Run.{RunLine, Moment, start, next, live_tasks}
+use Rattle.b67_model.specs.Run.{RunLine, Moment, start, next}
 use Rattle.b67_model.specs.Need.{need_next}
 use Rattle.b67_model.specs.Sectors.{sectors}
 use Rattle.b67_model.specs.Loader.{Refusal}

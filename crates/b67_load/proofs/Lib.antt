@@ -1,0 +1,4 @@
+pub mod Operator
+pub mod Listed
+pub mod Starts
+pub mod FirstRefusal
