@@ -1,4 +1,5 @@
 pub mod Frames
 pub mod Others
 pub mod Pictures
+pub mod Rows
 pub mod Witness
