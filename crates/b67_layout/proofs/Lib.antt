@@ -2,4 +2,5 @@ pub mod Frames
 pub mod Others
 pub mod Pictures
 pub mod Rows
+pub mod Sessions
 pub mod Witness

@@ -18,13 +18,14 @@ use Rattle.b67_core.specs.Numbers.{number}
 use Rattle.b67_model.specs.State.{Segment, Entered, Ready, Task, Member}
 use Rattle.b67_model.specs.Environment.{frame_at}
 use Rattle.b67_model.specs.Program.{Program, opened}
-use Rattle.b67_model.specs.Run.{start}
+use Rattle.b67_model.specs.Run.{number_of, start}
 use Rattle.b67_model.specs.Schedule.{Session}
 use Rattle.b67_stack.specs.declared.Cpu.{Cpu}
 use Rattle.b67_stack.specs.Shapes.{Held, Copied, Shape, Is, Copy, Fits, Lie}
 use Rattle.b67_stack.specs.Stacks.{high, words}
 use Rattle.b67_stack.specs.Picture.{Thing, words_of, Picture, Slot, stack_of, Settled, Laid, SlotFits, slot_base, CopiesName, IsArrayAt}
 use Rattle.b67_stack.specs.Stands.{Storage, SlotsStand, SlotStands, StacksLie, ThingsStand, ThingStands, Owned, Stands, HoldsIn, info_of}
+use Rattle.b67_layout.proofs.Others.{keyed-has}
 use Rattle.b67_layout.specs.Plan.{Plan, Slotted, slot_of}
 use Rattle.b67_layout.specs.Layout.{picture}
 use Rattle.b67_layout.specs.Session.{PlanFits, RowsFit, DictionaryStands, McpStands, VectorStands, CriticalStands, TaskStands, IsRunning, vector_word, critical_mark, frame_address, Shows, SessionHolds, SessionStands}
@@ -233,9 +234,9 @@ holds = record { fits = fits; memory = stands;
   dictionaries = only member (DictionaryStands core plan) (record { mark = refl; entries = refl });
   mcp = record { mark = refl; intrinsics = λ n low up. all_from (λ q. slice_get core q ≡ Some (word 7 (2 ^ 19 + q))) 8 9 (refl, (refl, (refl, (refl, (refl, (refl, (refl, (refl, (refl, tt))))))))) n low (omega arith) };
   vector = vector; critical = critical;
-  running = λ m t r. for_task (TaskStands regs plan) (record { slot = refl; dict = refl; entries = refl; segment = refl; place = refl }) m t r.member r.task;
+  running = λ m t r. for_task (TaskStands regs plan) (record { slot = refl; dict = refl; entries = refl; segment = refl; place = refl }) m t (keyed-has number_of m.setting.number session.jobs m r.member) (keyed-has (λ (u : Task). u.number) t.number m.course.job.tasks t r.task);
   none = λ e. omega arith }
 
 pub witness : SessionStands storage machine plan session
 witness = record { holds = holds;
-  shows = λ m t r. for_task (Shows machine.display plan) (λ n up. all_from (λ q. slice_get machine.display q ≡ Some (frame_address plan member task (frame_at (record { setting = member.setting; job = member.course.job; task = task; at = task.place }) q).identity)) 0 3 (refl, (refl, (refl, tt))) n (omega arith) (omega arith)) m t r.member r.task }
+  shows = λ m t r. for_task (Shows machine.display plan) (λ n up. all_from (λ q. slice_get machine.display q ≡ Some (frame_address plan member task (frame_at (record { setting = member.setting; job = member.course.job; task = task; at = task.place }) q).identity)) 0 3 (refl, (refl, (refl, tt))) n (omega arith) (omega arith)) m t (keyed-has number_of m.setting.number session.jobs m r.member) (keyed-has (λ (u : Task). u.number) t.number m.course.job.tasks t r.task) }

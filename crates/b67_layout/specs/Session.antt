@@ -7,6 +7,7 @@ use Rattle.b67_model.specs.State.{Frame, Task, Job, Member, Here, height}
 use Rattle.b67_model.specs.Keyed.{keyed}
 use Rattle.b67_model.specs.Environment.{level_of_frame, running, frame_at}
 use Rattle.b67_model.specs.Steps.{is_critical}
+use Rattle.b67_model.specs.Run.{number_of}
 use Rattle.b67_model.specs.Schedule.{Session}
 use Rattle.b67_stack.specs.declared.Cpu.{Cpu}
 use Rattle.b67_stack.specs.Picture.{Settled}
@@ -71,8 +72,8 @@ pub record TaskStands (r : Regs) (plan : Plan) (m : Member) (t : Task) : Type 0 
 
 -- a live task whose slot is the running one
 pub record IsRunning (plan : Plan) (jobs : List Member) (m : Member) (t : Task) : Type 0 where
-  pub member : Has jobs m
-  pub task : Has m.course.job.tasks t
+  pub member : keyed number_of m.setting.number jobs ≡ Some m
+  pub task : keyed (λ (u : Task). u.number) t.number m.course.job.tasks ≡ Some t
   pub slot : plan.running ≡ slot_of plan m.setting.number t.number
 
 -- the address of a frame, seen from a task
