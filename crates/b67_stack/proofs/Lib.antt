@@ -4,3 +4,4 @@ pub mod Heights
 pub mod Slots
 pub mod Pushes
 pub mod Tops
+pub mod Cells
