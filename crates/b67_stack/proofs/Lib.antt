@@ -5,3 +5,4 @@ pub mod Slots
 pub mod Pushes
 pub mod Tops
 pub mod Cells
+pub mod Homes
