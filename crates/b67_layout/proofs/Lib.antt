@@ -3,4 +3,5 @@ pub mod Others
 pub mod Pictures
 pub mod Rows
 pub mod Sessions
+pub mod Steps
 pub mod Witness
