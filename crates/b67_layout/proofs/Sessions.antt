@@ -182,6 +182,7 @@ module _ (x : Storage) (core new : List Tagged) (r r' : Regs) (marks : List ℕ)
         (λ u in_u. h.critical.live m u has_m in_u ∙ ap Some (sym (critical_mark-same m.course.job c.job criticals u.frames)))
         (ap (λ (i : ℕ). slice_get marks (slot_of plan m.setting.number i)) top.number ∙ h.critical.live m t has_m has_t ∙ ap Some (sym criticals_same ∙ sym (critical_mark-same m.course.job c.job criticals t'.frames)));
       free = h.critical.free };
+    live = λ z. (moved, t', still_running);
     running = λ y u q. running_only plan jobs' moved y t' u (TaskStands r' plan) rows still_running q task;
     none = λ e. absurd (let z : ⊥ = omega (arith, e, runs.slot, slot_small) in z) } where
     low : 160 ≤ plan.stacks

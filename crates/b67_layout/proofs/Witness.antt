@@ -234,6 +234,7 @@ holds = record { fits = fits; memory = stands;
   dictionaries = only member (DictionaryStands core plan) (record { mark = refl; entries = refl });
   mcp = record { mark = refl; intrinsics = λ n low up. all_from (λ q. slice_get core q ≡ Some (word 7 (2 ^ 19 + q))) 8 9 (refl, (refl, (refl, (refl, (refl, (refl, (refl, (refl, (refl, tt))))))))) n low (omega arith) };
   vector = vector; critical = critical;
+  live = λ n. (member, task, record { member = refl; task = refl; slot = refl });
   running = λ m t r. for_task (TaskStands regs plan) (record { slot = refl; dict = refl; entries = refl; segment = refl; place = refl }) m t (keyed-has number_of m.setting.number session.jobs m r.member) (keyed-has (λ (u : Task). u.number) t.number m.course.job.tasks t r.task);
   none = λ e. omega arith }
 

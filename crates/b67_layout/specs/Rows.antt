@@ -1,6 +1,6 @@
 -- What the rows of tasks and of jobs, and the counts, show of a session's state. They are plain values here, which the
 -- tables of the machine give.
-use Rattle.std.specs.Prelude.{◌≡◌, ◌≢◌, ◌↔◌, ℕ, ℤ, ◌+◌, ◌<◌, ◌≤◌, ◌==◌, List, [], ◌∷◌, length, drop, Option, Some, None, slice_get, if◌then◌else◌}
+use Rattle.std.specs.Prelude.{◌≡◌, ◌≢◌, ◌↔◌, ℕ, ℤ, ◌+◌, ◌<◌, ◌≤◌, ◌==◌, List, [], ◌∷◌, length, map, drop, Option, Some, None, slice_get, if◌then◌else◌}
 use Rattle.b67_word.specs.declared.couples.Place.{Place}
 use Rattle.b67_model.specs.Lists.{Has}
 use Rattle.b67_model.specs.State.{Frame, Condition, Ready, Awaits, WaitsAt, Task, Job, Member, height}
@@ -108,10 +108,15 @@ pub record CountsShow (plan : Plan) (s : Session) (rows : List TaskRow) (c : Cou
   pub past : (i : ℕ) (w : Switch) → i < c.next_switch → slice_get c.switches i ≡ Some w → w.count < c.made
   pub running : RunningRow plan (slice_get rows c.running) c.running
 
+-- no number stands twice
+abbrev pub Differ : List ℕ → Type 0
+Differ [] = Unit {0}
+Differ (n ∷ more) = (Has more n → ⊥) × Differ more
+
 -- the tables show the session: a row for each live task and each row a live task's, the jobs in order, the counts
 pub record TablesShow (plan : Plan) (s : Session) (rows : List TaskRow) (job_rows : List JobRow) (c : Counts) : Type 0 where
   pub tasks : (row : TaskRow) → Has rows row → (m : Member) × (t : Task) × Has s.jobs m × Has m.course.job.tasks t × TaskShows plan m t row
   pub each : (m : Member) (t : Task) → Has s.jobs m → Has m.course.job.tasks t → (row : TaskRow) × Has rows row × TaskShows plan m t row
-  pub once : (a b : TaskRow) → Has rows a → Has rows b → a.slot ≡ b.slot → a ≡ b
+  pub once : Differ (map (λ (row : TaskRow). row.slot) rows)
   pub jobs : JobsShow plan s.jobs job_rows
   pub counts : CountsShow plan s rows c

@@ -1,6 +1,8 @@
 -- When a machine stands for a session's state.
 use Rattle.std.specs.Prelude.{◌≡◌, ◌≢◌, ℕ, ◌+◌, ◌-◌, ◌*◌, ◌^◌, ◌<◌, ◌≤◌, ◌==◌, List, [], ◌∷◌, length, Option, Some, None, slice_get, if◌then◌else◌}
 use Rattle.b67_word.specs.Tagged.{Tagged, word}
+use Rattle.b67_area.specs.declared.Areas.{Areas}
+use Rattle.b67_backing.specs.Shelf.{Table, IsShelf}
 use Rattle.b67_ctl.specs.declared.registers.Regs.{Regs}
 use Rattle.b67_model.specs.Lists.{Has}
 use Rattle.b67_model.specs.State.{Frame, Task, Job, Member, Here, height}
@@ -105,6 +107,7 @@ pub record SessionHolds (x : Storage) (core : List Tagged) (r : Regs) (marks : L
   pub mcp : McpStands core
   pub vector : VectorStands core plan s.jobs
   pub critical : CriticalStands marks plan s.jobs
+  pub live : plan.running ≢ 255 → (m : Member) × (t : Task) × IsRunning plan s.jobs m t
   pub running : (m : Member) (t : Task) → IsRunning plan s.jobs m t → TaskStands r plan m t
   pub none : plan.running ≡ 255 → r.slot ≡ 255
 
@@ -112,3 +115,20 @@ pub record SessionHolds (x : Storage) (core : List Tagged) (r : Regs) (marks : L
 pub record SessionStands (x : Storage) (cpu : Cpu) (plan : Plan) (s : Session) : Type 0 where
   pub holds : SessionHolds x cpu.core cpu.regs cpu.critical plan s
   pub shows : (m : Member) (t : Task) → IsRunning plan s.jobs m t → Shows cpu.display plan m t
+
+-- the tables beside core are those that the storage says: where areas begin, which sectors are in chains, and what the
+-- device tells that these hold
+pub record StorageStands (areas : Areas) (table : Table) (told : Option (List (List ℕ))) (core : List Tagged) (x : Storage) : Type 0 where
+  pub low : areas.low ≡ x.low
+  pub size : areas.size ≡ length core
+  pub shelf : IsShelf table x.shelf
+  pub device : told ≡ x.device
+
+-- the machine stands for some session of an order, whatever its sectors hold
+pub record StandsForSome (IsInOrder : Session → Type 0) (cpu : Cpu) : Type 0 where
+  pub storage : Storage
+  pub plan : Plan
+  pub session : Session
+  pub ordered : IsInOrder session
+  pub untold : storage.device ≡ None
+  pub stands : SessionStands storage cpu plan session
