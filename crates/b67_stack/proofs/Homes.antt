@@ -1,9 +1,9 @@
 -- The words of originals, and why no other word of a stack stands where an original is.
-use Rattle.std.proofs.Common.{◌≡◌, ◌≢◌, ℕ, zero, suc, ◌+◌, ◌*◌, ◌<◌, ◌≤◌, ◌^◌, List, [], ◌∷◌, length, map, Option, Some, None, refl, sym, ◌∙◌, ap, arith, inl, inr, ◌⊎◌, ⊎_elim, subst, Bool, true, false}
+use Rattle.std.proofs.Common.{◌≡◌, ◌≢◌, ℕ, ◌+◌, ◌*◌, ◌<◌, ◌≤◌, ◌^◌, List, length, Option, Some, None, refl, sym, ◌∙◌, ap, arith, inl, inr, Bool, true, false}
 use Rattle.std.specs.List.{slice_get}
-use Rattle.std.proofs.lemmas.Option.{slice_get_within, same_Some}
-use Rattle.std.proofs.lemmas.Bool.{true≢false, false≢true}
-use Rattle.b67_word.specs.Tagged.{Tagged, word}
+use Rattle.std.proofs.lemmas.Option.{same_Some}
+use Rattle.std.proofs.lemmas.Bool.{false≢true}
+use Rattle.b67_word.specs.Tagged.{Tagged}
 use Rattle.b67_ctl.specs.Layout.{bit}
 use Rattle.b67_ctl.specs.declared.descriptors.DataDesc.{DataDesc}
 use Rattle.b67_ctl.specs.declared.registers.Regs.{Regs}
@@ -12,9 +12,9 @@ use Rattle.b67_area.specs.declared.Kind.{Kind}
 use Rattle.b67_area.specs.declared.Kind.TheVariants.{Array, Row, Code}
 use Rattle.b67_area.proofs.Laws.{area_inside}
 use Rattle.b67_model.specs.Lists.{Has}
-use Rattle.b67_stack.specs.Shapes.{Held, Shape, Is, Original, Copy, Copied, copy_desc, Fits, IsCopy}
-use Rattle.b67_stack.specs.Picture.{Thing, Picture, home_desc, home_word, home_word_of}
-use Rattle.b67_stack.specs.Stands.{Storage, Content, Keeps, HasChain, HoldsIn, ThingStands, Stands, info_of}
+use Rattle.b67_stack.specs.Shapes.{Held, Shape, Is, Original, Copy, copy_desc, Fits}
+use Rattle.b67_stack.specs.Picture.{Thing, Picture, home_desc, home_word_of}
+use Rattle.b67_stack.specs.Stands.{Storage, Content, Keeps, Stands, info_of}
 
 same_bit : (a b : Bool) → bit a ≡ bit b → a ≡ b
 same_bit true true e = refl
@@ -42,8 +42,8 @@ pub record SameDesc (d e : DataDesc) : Type 0 where
 pub same_desc : (d e : DataDesc) → IsDataDesc d → IsDataDesc e → data_word d ≡ data_word e → SameDesc d e
 same_desc d e hd he s =
     let r = same_fields (bit d.present) (bit d.copy) (bit d.indexed) (bit d.read_only) d.length d.address (bit e.present) (bit e.copy) (bit e.indexed) (bit e.read_only) e.length e.address
-        (bit-lt d.present) (bit-lt d.copy) (bit-lt d.indexed) (bit-lt d.read_only) hd.words hd.address (bit-lt e.present) (bit-lt e.copy) (bit-lt e.indexed) (bit-lt e.read_only) he.words he.address
-        (ap (λ (w : Tagged). w.bits) s) in
+    (bit-lt d.present) (bit-lt d.copy) (bit-lt d.indexed) (bit-lt d.read_only) hd.words hd.address (bit-lt e.present) (bit-lt e.copy) (bit-lt e.indexed) (bit-lt e.read_only) he.words he.address
+    (ap (λ (w : Tagged). w.bits) s) in
     record { present = same_bit d.present e.present r.0; copy = same_bit d.copy e.copy r.1; address = r.2 }
 
 fits_home : (b : Bool) (n : ℕ) (a : Option ℕ) (f : ℕ) → n < 2 ^ 20 → f < 2 ^ 20 → ((b : ℕ) → a ≡ Some b → b < 2 ^ 20) → IsDataDesc (home_desc b n (record { area = a; chain = f }))
@@ -78,12 +78,15 @@ pub not_home : (x : Storage) (core : List Tagged) (r : Regs) (p : Picture) (c : 
 not_home x core r p c w i s low get fit plain t int e = by_shape c fit plain where
   no_code : t.kind ≢ Code
   no_code z = omega (arith, s.slots.laid.codes t int z, e, low)
+
   is : w ≡ home_word_of t.kind (length t.numbers) (x.held t.home)
   is = same_Some _ _ (sym get ∙ ap (slice_get core) (sym e) ∙ (s.things t int).home)
+
   area_small : (b : ℕ) → (x.held t.home).area ≡ Some b → b < 2 ^ 20
   area_small b q =
       let o = s.owned.of_held t.home b q in
       omega (arith, (area_inside core x.low x.spans b (info_of x o.0) s.directory o.3).1, s.directory.small)
+
   by_shape : (d : Shape) → Fits x.held d i w → ((home : ℕ) → d ≢ Original home) → ⊥
   by_shape (Is v) f n = f.1 (ap (λ (z : Tagged). z.tag) (sym f.0 ∙ is) ∙ tag-home t.kind (length t.numbers) (x.held t.home) no_code)
   by_shape (Original home) f n = n home refl

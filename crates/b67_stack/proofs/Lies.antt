@@ -1,5 +1,5 @@
 -- Words that lie in core by their shapes.
-use Rattle.std.proofs.Common.{◌≡◌, ◌≢◌, ℕ, zero, suc, ◌+◌, ◌<◌, ◌≤◌, List, [], ◌∷◌, ◌++◌, length, Some, refl, sym, ◌∙◌, ap, arith, ⊎_elim, inl, inr, slice_set, subst}
+use Rattle.std.proofs.Common.{◌≡◌, ℕ, ◌+◌, ◌<◌, ◌≤◌, List, [], ◌∷◌, ◌++◌, length, Some, refl, ◌∙◌, arith, ⊎_elim, inl, inr, slice_set, subst}
 use Rattle.std.proofs.lemmas.Bool.{cases_eq}
 use Rattle.std.specs.List.{slice_get}
 use Rattle.b67_word.specs.Tagged.{Tagged}
@@ -24,7 +24,7 @@ Lie-same R old new from xs same l = Lie-each R R old new from xs (λ a i v there
 pub Lie-push : (R : Shape → ℕ → Tagged → Type 0) (core : List Tagged) (from i : ℕ) (a : Shape) (w : Tagged) (xs : List Shape) → i ≡ from + length xs → i < length core → R a i w → Lie R core from xs → Lie R (slice_set core i w) from (a ∷ xs)
 Lie-push R core from i a w xs e h r l =
     let there : (v : Tagged) × (slice_get (slice_set core i w) (from + length xs) ≡ Some v) × R a (from + length xs) v =
-        (let P : ℕ → Type 0 = λ n. (v : Tagged) × (slice_get (slice_set core i w) n ≡ Some v) × R a n v in subst P e (w, slice_get-set_same core i w h, r)) in
+    (let P : ℕ → Type 0 = λ n. (v : Tagged) × (slice_get (slice_set core i w) n ≡ Some v) × R a n v in subst P e (w, slice_get-set_same core i w h, r)) in
     (there, Lie-same R core (slice_set core i w) from xs (λ j low high. slice_get-set_other core i j w (λ z. omega arith)) l)
 
 -- what lies under others

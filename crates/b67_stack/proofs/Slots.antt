@@ -1,12 +1,9 @@
 -- A step that changes the running stack alone needs a proof for that stack alone.
-use Rattle.std.proofs.Common.{◌≡◌, ◌≢◌, ℕ, zero, suc, ◌+◌, ◌*◌, ◌<◌, ◌≤◌, ◌^◌, List, [], ◌∷◌, length, Option, Some, None, refl, sym, ◌∙◌, ap, arith, inl, inr, ◌⊎◌, ⊎_elim, slice_set, ◌==◌, subst}
-use Rattle.std.specs.Prelude.{if◌then◌else◌}
+use Rattle.std.proofs.Common.{◌≡◌, ◌≢◌, ℕ, suc, ◌+◌, ◌<◌, ◌≤◌, List, [], ◌∷◌, length, Option, Some, None, refl, sym, ◌∙◌, arith, inl, inr, ◌⊎◌, ⊎_elim, subst}
 use Rattle.std.specs.List.{slice_get}
 use Rattle.std.proofs.lemmas.Bool.{cases_eq, cases_lt, eq-eqb, ne_eqb}
 use Rattle.b67_word.specs.Tagged.{Tagged}
-use Rattle.b67_area.specs.declared.Kind.{Kind}
 use Rattle.b67_area.specs.Spans.{Span, Area, Hole}
-use Rattle.b67_area.specs.Directory.{IsDirectory}
 use Rattle.b67_area.proofs.Climbs.{area_at-low}
 use Rattle.b67_area.proofs.Separation.{Controls, IsDirectory-same}
 use Rattle.b67_model.specs.Lists.{Has}
@@ -14,7 +11,7 @@ use Rattle.b67_ctl.specs.declared.registers.Regs.{Regs}
 use Rattle.b67_stack.specs.Shapes.{Fits, Lie}
 use Rattle.b67_stack.specs.Stacks.{Activation, IsStack, high, words}
 use Rattle.b67_stack.specs.Picture.{Thing, Picture, Slot, Free, Running, Waiting, stack_of, slot_base, RunsOn, SlotFits, CopiesName, Laid, with_slot, words_of}
-use Rattle.b67_stack.specs.Stands.{Storage, SlotsStand, SlotStands, RunningStands, StacksLie, ThingsStand, ThingStands, Content, RegsStand, Stands, info_of}
+use Rattle.b67_stack.specs.Stands.{Storage, SlotStands, RunningStands, StacksLie, ThingsStand, Content, RegsStand, Stands, info_of}
 use Rattle.b67_stack.specs.Changes.{with_stack}
 use Rattle.b67_stack.proofs.Bases.{base-apart}
 use Rattle.b67_stack.proofs.Lies.{Lie-same, Upward-same}
@@ -81,49 +78,73 @@ pub record Changed (x : Storage) (core new : List Tagged) (r' : Regs) (p : Pictu
 pub Stands-slot : (x : Storage) (core new : List Tagged) (r r' : Regs) (p : Picture) (k : ℕ) (before stack : List Activation)
     → RunsOn p k before → Changed x core new r' p k stack → Stands x core r p → Stands x new r' (with_stack p k stack)
 Stands-slot x core new r r' p k before stack u c s = record {
-  slots = record { laid = laid'; regs = record { stacks = c.regs.stacks; size = c.regs.size; peak = c.regs.peak };
-    slots = by_slot p k (Running stack) (λ j y. SlotStands new r' p' j y) runs (λ j hj n. slot_other core new r r' p k j (Running stack) (p.slots j) n is_k c.runs.slot (elsewhere j hj n (slot_base p j) (omega arith) (omega (arith, room))) (s.slots.slots j hj)) };
-  stacks = stacks; things = things; owned = record { of_area = s.owned.of_area; of_held = s.owned.of_held; of_chain = s.owned.of_chain; no_zero = s.owned.no_zero; one_chain = s.owned.one_chain };
+  slots = record {
+    laid = laid';
+    regs = record { stacks = c.regs.stacks; size = c.regs.size; peak = c.regs.peak };
+    slots = by_slot p k (Running stack) (λ j y. SlotStands new r' p' j y) runs (λ j hj n. slot_other core new r r' p k j (Running stack) (p.slots j) n is_k c.runs.slot (elsewhere j hj n (slot_base p j) (omega arith) (omega (arith, room))) (s.slots.slots j hj));
+  };
+  stacks = stacks;
+  things = things;
+  owned = record { of_area = s.owned.of_area; of_held = s.owned.of_held; of_chain = s.owned.of_chain; no_zero = s.owned.no_zero; one_chain = s.owned.one_chain };
   directory = IsDirectory-same core new x.low x.spans c.size
-    (λ i h. c.outside i (inl (omega (arith, h.1, laid.first))))
-    (λ i h. c.outside i (inr (omega (arith, controls_above x.low x.spans i h, base-apart p k p.peak u.used, laid.low)))) s.directory;
-  inside = rw c.size s.inside } where
+      (λ i h. c.outside i (inl (omega (arith, h.1, laid.first))))
+      (λ i h. c.outside i (inr (omega (arith, controls_above x.low x.spans i h, base-apart p k p.peak u.used, laid.low)))) s.directory;
+  inside = rw c.size s.inside;
+} where
   p' : Picture
   p' = with_stack p k stack
+
   laid : Laid x.low p
   laid = s.slots.laid
+
   is_k : r.slot ≡ k
   is_k = (running_slot x core r p k before s u).slot
+
   room : 0 < p.size
   room = omega (arith, (running_fits x core r p k before s u).0.fits)
+
   elsewhere : (j : ℕ) → j < p.peak → j ≢ k → (i : ℕ) → slot_base p j ≤ i → i < slot_base p j + p.size → slice_get new i ≡ slice_get core i
   elsewhere j hj n i down up = ⊎_elim
-    (λ (a : j < k). c.outside i (inl (omega (arith, base-apart p j k a))))
-    (λ (a : k ≤ j). c.outside i (inr (omega (arith, base-apart p k j (omega arith)))))
-    (cases_lt j k)
+      (λ (a : j < k). c.outside i (inl (omega (arith, base-apart p j k a))))
+      (λ (a : k ≤ j). c.outside i (inr (omega (arith, base-apart p k j (omega arith)))))
+      (cases_lt j k)
+
   runs : RunningStands r' p' k stack
   runs = record { slot = c.runs.slot; first = c.runs.first; last = c.runs.last; top = c.runs.top; mark = c.runs.mark; level = c.runs.level }
+
   fits_same : (j : ℕ) (y : Slot) → SlotFits p j y → SlotFits p' j y
   fits_same j Free f = f
   fits_same j (Running q) f = f
   fits_same j (Waiting q) f = f
+
   laid' : Laid x.low p'
   laid' = record {
-    low = laid.low; first = laid.first; room = laid.room; homes = laid.homes; codes = laid.codes; differ = laid.differ; not_base = laid.not_base; lengths = laid.lengths;
-    slots = by_slot p k (Running stack) (λ j y. SlotFits p' j y) (c.fits, c.copies) (λ j hj n. fits_same j (p.slots j) (laid.slots j hj)) }
+    low = laid.low;
+    first = laid.first;
+    room = laid.room;
+    homes = laid.homes;
+    codes = laid.codes;
+    differ = laid.differ;
+    not_base = laid.not_base;
+    lengths = laid.lengths;
+    slots = by_slot p k (Running stack) (λ j y. SlotFits p' j y) (c.fits, c.copies) (λ j hj n. fits_same j (p.slots j) (laid.slots j hj));
+  }
+
   stacks : StacksLie x.held new p'
   stacks = by_slot p k (Running stack) (λ j y. Lie (Fits x.held) new (suc (slot_base p j)) (words j (stack_of y))) c.lies
       (λ j hj n. Lie-same (Fits x.held) core new (suc (slot_base p j)) (words j (stack_of (p.slots j)))
-        (λ i down up. elsewhere j hj n i (omega arith) (omega (arith, words-length j (stack_of (p.slots j)), slot_room p j (p.slots j) (laid.slots j hj) room))) (s.stacks j hj))
+      (λ i down up. elsewhere j hj n i (omega arith) (omega (arith, words-length j (stack_of (p.slots j)), slot_room p j (p.slots j) (laid.slots j hj) room))) (s.stacks j hj))
+
   things : ThingsStand x new p.things
   things t int =
       let was = s.things t int in
       let home : slice_get new t.home ≡ slice_get core t.home = ⊎_elim
-          (λ (a : t.home < slot_base p k). c.outside t.home (inl a))
-          (λ (a : slot_base p k ≤ t.home). ⊎_elim (λ (b : t.home < slot_base p k + p.size). c.homes t int a b) (λ (b : slot_base p k + p.size ≤ t.home). c.outside t.home (inr b)) (cases_lt t.home (slot_base p k + p.size)))
-          (cases_lt t.home (slot_base p k)) in
+      (λ (a : t.home < slot_base p k). c.outside t.home (inl a))
+      (λ (a : slot_base p k ≤ t.home). ⊎_elim (λ (b : t.home < slot_base p k + p.size). c.homes t int a b) (λ (b : slot_base p k + p.size ≤ t.home). c.outside t.home (inr b)) (cases_lt t.home (slot_base p k + p.size)))
+      (cases_lt t.home (slot_base p k)) in
       record {
         home = home ∙ was.home;
         content = Content-areas x core new t (x.held t.home).area (x.held t.home).chain
-          (λ b q. let o = s.owned.of_held t.home b q in omega (arith, area_at-low x.low x.spans b (info_of x o.0) o.3))
-          (λ q up. c.outside q (inr (omega (arith, base-apart p k p.peak u.used, laid.low)))) was.content }
+            (λ b q. let o = s.owned.of_held t.home b q in omega (arith, area_at-low x.low x.spans b (info_of x o.0) o.3))
+            (λ q up. c.outside q (inr (omega (arith, base-apart p k p.peak u.used, laid.low)))) was.content;
+      }

@@ -1,16 +1,16 @@
 -- The words at the head of the top activation record, where F points.
-use Rattle.std.proofs.Common.{◌≡◌, ◌≢◌, ℕ, zero, suc, ◌+◌, ◌-◌, ◌*◌, ◌<◌, ◌≤◌, ◌^◌, List, [], ◌∷◌, ◌++◌, length, Option, Some, None, refl, sym, ◌∙◌, ap, arith, subst, Bool, true, false}
+use Rattle.std.proofs.Common.{◌≡◌, ◌≢◌, ℕ, suc, ◌+◌, ◌-◌, ◌<◌, ◌≤◌, ◌^◌, List, [], ◌∷◌, length, Option, Some, None, refl, sym, ◌∙◌, ap, arith, true, false}
 use Rattle.std.specs.List.{slice_get}
-use Rattle.b67_word.specs.Tagged.{Tagged, word}
+use Rattle.b67_word.specs.Tagged.{Tagged}
 use Rattle.b67_ctl.specs.declared.registers.Regs.{Regs}
 use Rattle.b67_ctl.specs.declared.marks.Mscw.{Mscw}
 use Rattle.b67_ctl.specs.declared.marks.Rcw.{Rcw}
 use Rattle.b67_ctl.specs.Layout.{bit, mscw_word, IsMscw, rcw_word, IsRcw}
 use Rattle.b67_model.specs.State.{Return}
-use Rattle.b67_stack.specs.Shapes.{Shape, Is, Map, Fits, Lie}
-use Rattle.b67_stack.specs.Stacks.{Activation, Head, Marked, Entered, Spot, IsStack, ReturnFits, HeadFits, HeadsFit, head_size, size, top_size, high, mark_place, running_level, level_from, mark_of, top_mark, return_of, headed, words}
+use Rattle.b67_stack.specs.Shapes.{Map, Fits, Lie}
+use Rattle.b67_stack.specs.Stacks.{Activation, Head, Marked, Entered, ReturnFits, HeadFits, HeadsFit, head_size, size, top_size, high, mark_place, running_level, level_from, mark_of, top_mark, return_of, headed, words}
 use Rattle.b67_stack.specs.Picture.{Picture, RunsOn, slot_base}
-use Rattle.b67_stack.specs.Stands.{Storage, RunningStands, Stands}
+use Rattle.b67_stack.specs.Stands.{Storage, Stands}
 use Rattle.b67_stack.specs.declared.Cpu.{Cpu}
 use Rattle.b67_stack.specs.Changes.{top_cells, below_top, topped}
 use Rattle.b67_stack.proofs.Lies.{Lie-under}
@@ -72,9 +72,9 @@ module _ (x : Storage) (core : List Tagged) (r : Regs) (p : Picture) (k : ℕ) w
       let g = running_slot x core r p k (a ∷ b ∷ below) s u in
       let e = back a.head in
       (omega (arith, g.mark, g.first), omega (arith, g.mark, g.first, e), omega (arith, g.mark, g.first, e)) where
-    back : (h : Head) → (mark_of k h (b ∷ below)).back ≡ size b
-    back Marked = refl
-    back (Entered level environment r) = refl
+        back : (h : Head) → (mark_of k h (b ∷ below)).back ≡ size b
+        back Marked = refl
+        back (Entered level environment r) = refl
 
   -- the level of the record that runs without the top one: that of the return word, if there is one
   pub level_under : (stack : List Activation) → Stands x core r p → RunsOn p k stack
@@ -86,16 +86,18 @@ module _ (x : Storage) (core : List Tagged) (r : Regs) (p : Picture) (k : ℕ) w
       let f = (running_fits x core r p k (a ∷ below) s u).0 in
       let l = Lie-under (Fits x.held) core (suc (slot_base p k)) a.cells (headed k a.head below (words k below)) (running_lies x core r p k (a ∷ below) s u) in
       by_head a.head g.level (omega (arith, g.mark)) f.heads.0 f.heads.1 l where
-    returned : (level : ℕ) (back : Option Return) → ReturnFits back below → HeadsFit below → IsRcw (return_of back below) × ((return_of back below).level ≡ running_level below)
-    returned level None e hs = (record { place = record { syllable = omega arith; word = omega arith }; level = omega arith; segment = omega arith }, ap running_level (sym e))
-    returned level (Some b) e hs = (record { place = e.0; level = level-small below hs; segment = e.1 }, refl)
-    by_head : (h : Head) → r.level ≡ level_from h (running_level below) → r.f ≡ suc (slot_base p k) + high below → HeadFits h below → HeadsFit below → Lie (Fits x.held) core (suc (slot_base p k)) (headed k h below (words k below))
-        → ((mark_of k h below).entered ≡ false → r.level ≡ running_level below) × ((mark_of k h below).entered ≡ true → (c : Rcw) × IsRcw c × (slice_get core (r.f + 1) ≡ Some (rcw_word c)) × (c.level ≡ running_level below))
-    by_head Marked e at fits hs l = (λ z. e, λ z. absurd (let b : ⊥ = cc in b))
-    by_head (Entered level environment back) e at fits hs l =
-        let d = returned level back fits.3 hs in
-        (λ z. absurd (let b : ⊥ = cc in b),
-         λ z. (return_of back below, d.0, ap (slice_get core) (let e : r.f + 1 ≡ suc (slot_base p k) + suc (length (words k below)) = omega (arith, at, words-length k below) in e) ∙ l.0.1 ∙ ap Some l.0.2.0, d.1))
+        returned : (level : ℕ) (back : Option Return) → ReturnFits back below → HeadsFit below → IsRcw (return_of back below) × ((return_of back below).level ≡ running_level below)
+        returned level None e hs = (record { place = record { syllable = omega arith; word = omega arith }; level = omega arith; segment = omega arith }, ap running_level (sym e))
+        returned level (Some b) e hs = (record { place = e.0; level = level-small below hs; segment = e.1 }, refl)
+
+        by_head : (h : Head) → r.level ≡ level_from h (running_level below) → r.f ≡ suc (slot_base p k) + high below → HeadFits h below → HeadsFit below → Lie (Fits x.held) core (suc (slot_base p k)) (headed k h below (words k below))
+            → ((mark_of k h below).entered ≡ false → r.level ≡ running_level below) × ((mark_of k h below).entered ≡ true → (c : Rcw) × IsRcw c × (slice_get core (r.f + 1) ≡ Some (rcw_word c)) × (c.level ≡ running_level below))
+        by_head Marked e at fits hs l = (λ z. e, λ z. absurd (let b : ⊥ = cc in b))
+        by_head (Entered level environment back) e at fits hs l =
+            let d = returned level back fits.3 hs in (
+              λ z. absurd (let b : ⊥ = cc in b),
+              λ z. (return_of back below, d.0, ap (slice_get core) (let e : r.f + 1 ≡ suc (slot_base p k) + suc (length (words k below)) = omega (arith, at, words-length k below) in e) ∙ l.0.1 ∙ ap Some l.0.2.0, d.1),
+            )
 
   no_items : {A : Type 0} (xs : List A) → length xs ≡ 0 → xs ≡ []
   no_items [] e = refl

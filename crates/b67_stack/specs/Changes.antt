@@ -1,12 +1,11 @@
 -- What push, pop, mark and cut make of the machine and of a stack.
-use Rattle.std.specs.Prelude.{◌≡◌, ◌≢◌, ℕ, false, ◌+◌, ◌-◌, ◌≤◌, List, [], ◌∷◌, length, slice_set}
+use Rattle.std.specs.Prelude.{ℕ, false, ◌+◌, ◌-◌, List, [], ◌∷◌, slice_set}
 use Rattle.b67_word.specs.Tagged.{Tagged}
 use Rattle.b67_ctl.specs.Layout.{mscw_word}
-use Rattle.b67_model.specs.Lists.{Has}
 use Rattle.b67_stack.specs.declared.Cpu.{Cpu}
 use Rattle.b67_stack.specs.Shapes.{Shape, Is, Original, Copy}
-use Rattle.b67_stack.specs.Stacks.{Activation, Marked, high, mark_place, running_level, mark_of}
-use Rattle.b67_stack.specs.Picture.{Thing, Picture, Running, with_slot, RunsOn, IsArrayAt, CopiesName}
+use Rattle.b67_stack.specs.Stacks.{Activation, Marked, high, mark_place, running_level}
+use Rattle.b67_stack.specs.Picture.{Thing, Picture, Running, with_slot, RunsOn, IsArrayAt}
 use Rattle.b67_stack.specs.Stands.{Storage, Stands}
 
 -- a task runs on a stack of some picture that the machine stands for

@@ -1,6 +1,5 @@
 -- A stack as the activation records on it, from the top down, and the words of these.
 use Rattle.std.specs.Prelude.{◌≡◌, ◌≢◌, ℕ, Bool, true, false, not, ◌+◌, ◌^◌, ◌<◌, ◌==◌, List, [], ◌∷◌, ◌++◌, length, Option, Some, None}
-use Rattle.b67_word.specs.declared.couples.Place.{Place}
 use Rattle.b67_ctl.specs.declared.marks.Mscw.{Mscw}
 use Rattle.b67_ctl.specs.declared.marks.Rcw.{Rcw}
 use Rattle.b67_ctl.specs.declared.marks.Toscw.{Toscw}

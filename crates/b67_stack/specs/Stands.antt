@@ -1,5 +1,5 @@
 -- When a machine stands for a picture.
-use Rattle.std.specs.Prelude.{◌≡◌, ◌≢◌, ℕ, suc, ◌+◌, ◌<◌, ◌≤◌, ◌^◌, ◌⊎◌, List, [], ◌∷◌, length, map, Option, Some, None, slice_get}
+use Rattle.std.specs.Prelude.{◌≡◌, ◌≢◌, ℕ, suc, ◌+◌, ◌<◌, ◌≤◌, ◌^◌, ◌⊎◌, List, [], length, map, Option, Some, None, slice_get}
 use Rattle.b67_word.specs.Tagged.{Tagged, word}
 use Rattle.b67_ctl.specs.Layout.{toscw_word}
 use Rattle.b67_core.specs.Numbers.{number}
@@ -12,7 +12,7 @@ use Rattle.b67_backing.specs.Shelf.{Shelf, chain_of}
 use Rattle.b67_backing.specs.Held.{Holds, sectors_for}
 use Rattle.b67_model.specs.Lists.{Has}
 use Rattle.b67_ctl.specs.declared.registers.Regs.{Regs}
-use Rattle.b67_stack.specs.Shapes.{Held, Map, Fits, Lie, Upward}
+use Rattle.b67_stack.specs.Shapes.{Map, Fits, Lie, Upward}
 use Rattle.b67_stack.specs.Stacks.{Activation, high, mark_place, running_level, words, toscw_of}
 use Rattle.b67_stack.specs.Picture.{Thing, Slot, Free, Running, Waiting, stack_of, Picture, slot_base, Laid, home_word, words_of, AreZero}
 

@@ -126,9 +126,6 @@ impl Cpu {
             → RunsOn p self.old.regs.slot stack → Settled p
             → Stands x self.new.core self.new.regs (with_stack p self.old.regs.slot (new_mark ∷ stack))) }
     {
-        if self.regs.s == self.regs.losr {
-            return Err(StackOverflow {});
-        }
         let m = Mscw {
             far: false,
             entered: false,
@@ -138,10 +135,13 @@ impl Cpu {
             level: 0,
             back: (self.regs.s + 1 - self.regs.f) as u16,
         };
-        self.core.set(self.regs.s + 1, m.word());
-        self.regs.s += 1;
-        self.regs.f = self.regs.s;
-        Ok(())
+        match self.push(m.word()) {
+            Ok(()) => {
+                self.regs.f = self.regs.s;
+                Ok(())
+            }
+            Err(full) => Err(full),
+        }
     }
 
     /// Drops the top activation record, of two or more. The running level is that of the record that then runs; place,

@@ -1,8 +1,6 @@
-use Rattle.std.proofs.Common.{◌≡◌, ◌≢◌, ℕ, ◌+◌, ◌-◌, ◌<◌, List, [], ◌∷◌, length, Some, None, refl, sym, ◌∙◌, ap, arith, subst, slice_set, false, true}
-use Rattle.std.proofs.lemmas.Option.{same_Some, none-some}
-use Rattle.b67_word.specs.Tagged.{Tagged}
+use Rattle.std.proofs.Common.{◌≡◌, ℕ, ◌-◌, ◌∙◌, ap, arith}
 use Rattle.b67_stack.specs.Stacks.{top_mark}
-use Rattle.b67_stack.specs.Changes.{top_cells, below_top, topped}
+use Rattle.b67_stack.specs.Changes.{below_top}
 use Rattle.b67_ctl.specs.declared.marks.Mscw.{Mscw}
 use Rattle.b67_stack.proofs.Tops.{mark_before, topped_by}
 use Rattle.b67_stack.proofs.Pushes.{Stands-below}

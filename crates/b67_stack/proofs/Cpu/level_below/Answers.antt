@@ -1,8 +1,5 @@
-use Rattle.std.proofs.Common.{◌≡◌, ◌≢◌, ℕ, ◌+◌, ◌-◌, ◌<◌, List, [], ◌∷◌, length, Some, None, refl, sym, ◌∙◌, ap, arith, subst, slice_set, false, true}
+use Rattle.std.proofs.Common.{sym, ◌∙◌, ap}
 use Rattle.std.proofs.lemmas.Option.{same_Some, none-some}
-use Rattle.b67_word.specs.Tagged.{Tagged}
-use Rattle.b67_stack.specs.Stacks.{top_mark}
-use Rattle.b67_stack.specs.Changes.{top_cells, below_top, topped}
 use Rattle.std.proofs.lemmas.Option.{slice_get_within}
 use Rattle.std.proofs.lemmas.Bool.{not-false, not-true}
 use Rattle.b67_stack.proofs.Tops.{level_under}

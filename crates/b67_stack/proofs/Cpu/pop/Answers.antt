@@ -1,9 +1,5 @@
-use Rattle.std.proofs.Common.{◌≡◌, ◌≢◌, ℕ, ◌+◌, ◌-◌, ◌<◌, List, [], ◌∷◌, length, Some, None, refl, sym, ◌∙◌, ap, arith, subst, slice_set, false, true, rules}
-use Rattle.std.proofs.lemmas.Option.{same_Some, none-some}
-use Rattle.b67_word.specs.Tagged.{Tagged}
-use Rattle.b67_stack.specs.Stacks.{top_mark}
+use Rattle.std.proofs.Common.{◌≡◌, refl, rules}
 use Rattle.b67_ctl.specs.Layout.{bit}
-use Rattle.b67_stack.specs.Changes.{top_cells, below_top, topped}
 use Rattle.b67_stack.proofs.Tops.{empty_at}
 use Rattle.b67_stack.proofs.Pushes.{Stands-popped}
 use Rattle.b67_stack.proofs.Cpu.pop.Goals as goal

@@ -1,8 +1,3 @@
-use Rattle.std.proofs.Common.{◌≡◌, ◌≢◌, ℕ, ◌+◌, ◌-◌, ◌<◌, List, [], ◌∷◌, length, Some, None, refl, sym, ◌∙◌, ap, arith, subst, slice_set, false, true}
-use Rattle.std.proofs.lemmas.Option.{same_Some, none-some}
-use Rattle.b67_word.specs.Tagged.{Tagged}
-use Rattle.b67_stack.specs.Stacks.{top_mark}
-use Rattle.b67_stack.specs.Changes.{top_cells, below_top, topped}
 use Rattle.b67_stack.proofs.Pushes.{Stands-push}
 use Rattle.b67_stack.proofs.Cpu.push.Goals as goal
 
