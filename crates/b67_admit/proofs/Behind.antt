@@ -1,5 +1,5 @@
 -- Programs behind those that are done.
-use Rattle.std.proofs.Common.{◌≡◌, ℕ, ◌+◌, ◌<◌, ◌≤◌, List, [], ◌∷◌, ◌++◌, Result, Ok, Err, refl, ap, append_assoc, ◌∙◌, sym, get_or, drop, map, length, subst, add-one, arith}
+use Rattle.std.proofs.Common.{◌≡◌, ℕ, suc, ◌+◌, ◌<◌, ◌≤◌, List, [], ◌∷◌, ◌++◌, Result, Ok, Err, refl, ap, append_assoc, ◌∙◌, sym, get_or, drop, map, length, subst, add-one, arith}
 use Rattle.std.specs.List.{AllByRecursion}
 use Rattle.std.proofs.Math.Seq.{drop-cons}
 use Rattle.std.proofs.lemmas.List.{map-append, append-nil, drop_all}
@@ -33,7 +33,7 @@ pub turn : (jobs : List Job) (i : ℕ) (j : Job) (files now : List Codefile) (fi
     → AllByRecursion IsWithin files → programs jobs ≡ behind (map program_of files) (programs (drop i jobs))
     → AllByRecursion IsWithin now × (programs jobs ≡ behind (map program_of now) (programs (drop (i + 1) jobs)))
 turn jobs i j files now file low is e within pushed all before =
-    let here : drop i jobs ≡ j ∷ drop (i + 1) jobs = drop-cons jobs i j low ∙ ap (λ (x : Job). x ∷ drop (i + 1) jobs) (sym is) in
+    let here : drop i jobs ≡ j ∷ drop (i + 1) jobs = rw (add-one i) (drop-cons jobs i j low ∙ ap (λ (x : Job). x ∷ drop (suc i) jobs) (sym is)) in
     (rw pushed (all_and_one IsWithin files file all within),
      before ∙ ap (λ (rest : List Job). behind (map program_of files) (programs rest)) here ∙ behind_next (map program_of files) j (drop (i + 1) jobs) (program_of file) e
        ∙ ap (λ (done : List Program). behind done (programs (drop (i + 1) jobs))) (sym (map-append program_of files (file ∷ [])) ∙ ap (map program_of) (sym pushed)))

@@ -7,6 +7,9 @@ use Rattle.b67_text.specs.Deck.{limit}
 use Rattle.b67_card.specs.Reading.{GaveFirst}
 use Rattle.b67_admit.specs.declared.fault.AdmitFault.{AdmitFault}
 use Rattle.b67_admit.specs.declared.fault.AdmitFault.TheVariants.{Refused, SourceFault, Memory}
+use Rattle.b67_card.specs.declared.fault.DeckFault.{DeckFault}
+use Rattle.b67_card.specs.declared.fault.DeckFault.TheVariants as deck
+use Rattle.b67_admit.specs.declared.refusal.Refusal.TheVariants as refusal
 use Rattle.b67_admit.specs.declared.programs.Loaded.{Loaded}
 use Rattle.b67_admit.specs.Admitting.{Answer, Prepared, deck_prepared}
 
@@ -29,3 +32,9 @@ IsLoaded left faults old new (Ok loaded) = (text : List ℕ) × GaveAll left old
 IsLoaded left faults old new (Err (Refused r)) = (text : List ℕ) × GaveFirst left (limit + 1) old new text × (deck_prepared text ≡ Err r)
 IsLoaded left faults old new (Err SourceFault) = Rose faults old new
 IsLoaded left faults old new (Err Memory) = Unit {0}
+
+-- a deck's fault, as it is handed on
+abbrev pub of_deck_fault : DeckFault → AdmitFault
+of_deck_fault (deck.Card card reason) = Refused (refusal.Deck card reason)
+of_deck_fault deck.SourceFault = SourceFault
+of_deck_fault deck.Memory = Memory

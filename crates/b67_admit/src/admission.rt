@@ -5,7 +5,7 @@ ghost use Rattle.std.specs.List.{AllByRecursion};
 ghost use Rattle.b67_codefile.specs.Spelling.{IsWithin};
 ghost use Rattle.b67_codefile.specs.Meaning as meaning;
 ghost use Rattle.b67_admit.specs.Admitting.{program_in, programs, by_rules, first_refusal, admitted, prepared};
-ghost use Rattle.b67_admit.specs.Meets.{Meets, IsLoaded};
+ghost use Rattle.b67_admit.specs.Meets.{Meets, IsLoaded, of_deck_fault};
 
 use crate::fault::AdmitFault;
 use crate::programs::{Loaded, Programs};
@@ -82,6 +82,7 @@ pub fn file_of(alloc: Global, job: &Job) -> Result<Codefile, AdmitFault>
 
 fn files_of(alloc: Global, jobs: &[Job]) -> Result<VecDeque<Codefile>, AdmitFault>
     ensures within { IfOk result (λ files. AllByRecursion IsWithin files.items) }
+    ensures each { IfOk result (λ files. length files.items ≡ length jobs.now) }
     ensures answer { Meets (λ files. map meaning.program_of files.items) result (programs jobs.now) }
 {
     let mut files = VecDeque::new(alloc);
@@ -135,6 +136,16 @@ fn programs_of(alloc: Global, jobs: &[Job]) -> Result<Programs, AdmitFault>
     }
 }
 
+fn deck_fault(fault: DeckFault) -> AdmitFault
+    ensures { result ≡ of_deck_fault fault }
+{
+    match fault {
+        DeckFault::Card { card, reason } => AdmitFault::Refused(Refusal::Deck { card, reason }),
+        DeckFault::SourceFault => AdmitFault::SourceFault,
+        DeckFault::Memory => AdmitFault::Memory,
+    }
+}
+
 /// Reads a deck to its end, and loads its programs: each job's cards are assembled or its bytes read, in job order, and
 /// then each program is admitted, in job order. The first refusal of all is told.
 pub fn admit<S: Source>(alloc: Global, source: &mut S) -> Result<Loaded, AdmitFault>
@@ -144,12 +155,9 @@ pub fn admit<S: Source>(alloc: Global, source: &mut S) -> Result<Loaded, AdmitFa
     match read_deck(alloc, source) {
         Ok(deck) => match programs_of(alloc, deck.jobs.as_slice()) {
             Ok(programs) => Ok(Loaded { deck, programs }),
-            Err(fault) => Err(fault),
+            Err(AdmitFault::Refused(refusal)) => Err(AdmitFault::Refused(refusal)),
+            Err(_) => Err(AdmitFault::Memory),
         },
-        Err(DeckFault::Card { card, reason }) => {
-            Err(AdmitFault::Refused(Refusal::Deck { card, reason }))
-        }
-        Err(DeckFault::SourceFault) => Err(AdmitFault::SourceFault),
-        Err(DeckFault::Memory) => Err(AdmitFault::Memory),
+        Err(fault) => Err(deck_fault(fault)),
     }
 }
