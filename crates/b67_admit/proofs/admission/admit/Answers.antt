@@ -15,4 +15,4 @@ returns-in-Err-Refused-clause-answer g c =
     (h.0, first_of_all _ _ _ h.0 c.in-Ok.deck h.2 h.1, refused_program h.0 c.in-Ok.deck _ h.2 (ap prepared (sym c.as_slice.ensures) ∙ e))
 
 pub returns-clause-answer : goal.returns-clause-answer
-returns-clause-answer g c = rw c.deck_fault.ensures (handed_on _ _ _ _ c.in-Err.fault c.in-Err.ensures.answer)
+returns-clause-answer g c = rw c.deck_fault.ensures (handed_on g.S.Source.left g.S.Source.faults c.args.source.now c.read_deck.new.source c.in-Err.fault c.in-Err.ensures.answer)
