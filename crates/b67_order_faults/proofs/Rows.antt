@@ -1,29 +1,26 @@
 -- No row but NVLD's faults INVALID OPERATOR, and MPCW's at a literal that the loader refuses.
-use Rattle.std.proofs.Common.{◌≡◌, ◌≢◌, ℕ, zero, suc, ◌+◌, ◌-◌, ℤ, pos, negsuc, ◌+ℤ◌, ◌*ℤ◌, neg_ℤ, Bool, true, false, not, cond, eqb, leb, ltb, List, [], ◌∷◌, ◌++◌, reverse, replicate, length, Option, Some, None, Ok, Err, refl, sym, ap, ◌∙◌, subst, inl, inr, ◌⊎◌}
+use Rattle.std.proofs.Common.{◌≡◌, ◌≢◌, ℕ, zero, suc, ℤ, pos, negsuc, ◌+ℤ◌, ◌*ℤ◌, neg_ℤ, Bool, true, false, cond, List, [], ◌∷◌, reverse, length, Option, Some, None, Ok, Err, refl, inl, inr}
 use Rattle.std.specs.Prelude.{int_div, int_rem}
 use Rattle.std.specs.Option.{ok_or}
-use Rattle.std.specs.List.{slice_get, list_any}
 use Rattle.std.proofs.lemmas.Bool.{cases_Bool}
 use Rattle.b67_word.specs.declared.couples.Place.{Place}
 use Rattle.b67_word.specs.declared.faults.Fault.{Fault}
 use Rattle.b67_word.specs.declared.faults.Fault.TheVariants.{InvalidOperator, InvalidOperand, InvalidAddress, InvalidIndex, Loop, Exponent, IntegerOverflow, DivideByZero, MemoryProtect, MarkPending, Uplevel, CriticalBlock, StackUnderflow, StackOverflow}
-use Rattle.b67_model.specs.declared.operators.Op.{Op}
 use Rattle.b67_model.specs.declared.operators.Op.TheVariants.{Valc, Namc, Lt8, Lt16, Lt48, Mpcw, Brun, Brtr, Brfl, Bset, Brst, Isol, Insr, Plain}
 use Rattle.b67_model.specs.declared.operators.Code.{Code}
 use Rattle.b67_model.specs.declared.operators.Code.TheVariants.{Add, Subt, Mult, Idiv, Rdiv, Less, Greq, Grtr, Lseq, Equl, Neql, Chsn, Land, Lor, Leqv, Lnot, Same, Exit, Indx, Retn, Entr, Nxlv, Mkst, Stff, Zero, One, Push, Dlet, Exch, Dupl, Stod, Ston, Load, Noop, Nvld}
 use Rattle.b67_model.specs.Answers.{Answer, ◌>>=◌, ◌>>◌, needs}
 use Rattle.b67_model.specs.Words as Words
 use Rattle.b67_model.specs.Words.{Word, Operand, Name, Ref, Row, Element, Original, Proc, Intrinsic, operand, number, whole, to_operand}
-use Rattle.b67_model.specs.State.{Frame, Standing, Marked, Entered, Return, Array, Task, Job, Here, frame, with_task}
-use Rattle.b67_model.specs.Environment.{level_of_frame}
-use Rattle.b67_model.specs.Cells.{place_of, cell, cell_of, named}
+use Rattle.b67_model.specs.State.{Standing, Marked, Entered, Return, Task, Job, Here}
+use Rattle.b67_model.specs.Cells.{place_of, cell}
 use Rattle.b67_model.specs.Chase.{End, AtCell, AtElement, AtArray, AtProc, AtIntrinsic, Link, Stops, Leads, link_at, link_in, link_from, link, chase_on, chase, follow, follow_reference}
-use Rattle.b67_model.specs.Arrays.{array, element, with_element, array_at, array_of, index_below, indexed, in_order}
+use Rattle.b67_model.specs.Arrays.{array, array_at, array_of, index_below, indexed, in_order}
 use Rattle.b67_model.specs.Arithmetic.{Binary, on_numbers, compared, divided, add, subt, mult, idiv, rdiv, less, greq, grtr, lseq, equl, neql, land, lor, leqv, same, chsn, lnot, bset, brst, isol, insr}
-use Rattle.b67_model.specs.Steps.{Line, Value, Values, Done, Goes, Leaves, Waits, top_of, cells_of, result, with_cells, leaves_cells, pushes}
-use Rattle.b67_model.specs.Entry.{mkst, needs_level, accident, back_to, evaluates, enters, left, leaves, exit, returnable, returned, retn_word, retn}
-use Rattle.b67_model.specs.Intrinsics.{answers, array_length, arraydec, print, row_copy, numbers_of, printrow, read_from, read, starts, process, awaits, await, status_of, status, waits_at, wait, causes, cause, intrinsic}
-use Rattle.b67_model.specs.Rows.{CellRow, on_one, on_two, movable, dlet, exch, dupl, on_cells, branches, branch_if, valc, stff_word, stff, load_at, load, indx, nxlv, store_at, store, entr_at, entr_with, entr, is_proc, proc_of, mpcw, plain, row}
+use Rattle.b67_model.specs.Steps.{Line, Done, top_of, cells_of, result, with_cells, leaves_cells, pushes}
+use Rattle.b67_model.specs.Entry.{accident, evaluates, enters, leaves, exit, returnable, returned, retn_word}
+use Rattle.b67_model.specs.Intrinsics.{answers, array_length, arraydec, print, row_copy, numbers_of, printrow, read, starts, process, awaits, await, status, waits_at, wait, causes, cause, intrinsic}
+use Rattle.b67_model.specs.Rows.{CellRow, on_one, on_two, movable, dlet, exch, dupl, on_cells, branches, branch_if, valc, stff_word, stff, load_at, load, indx, nxlv, store_at, store, entr_at, entr_with, entr, is_proc, proc_of, plain}
 use Rattle.b67_order_faults.specs.Faults.{InvalidOperatorIsNvld}
 
 -- any answer but that fault
