@@ -94,6 +94,7 @@ impl Sectors {
         ensures chains { IfSome result (λ x. (st : Shelf) (y : ℕ) → IsShelf self.old st
             → chain_of y (taken n st).chains ≡ (if x == y then take n st.free else chain_of y st.chains)) }
         ensures unchanged { IfNone result (self.new ≡ self.old) }
+        ensures count { length self.new.links ≡ length self.old.links }
     {
         if self.free < n {
             return None;
@@ -136,6 +137,7 @@ impl Sectors {
             → IsShelf self.new (given first st) }
         ensures chains { (st : Shelf) (x : ℕ) → IsShelf self.old st → 1 ≤ length (chain_of first st.chains)
             → chain_of x (given first st).chains ≡ (if first == x then [] else chain_of x st.chains) }
+        ensures count { length self.new.links ≡ length self.old.links }
     {
         let tail = self.last_of(first);
         self.links[tail.last as usize] = self.link(0);

@@ -159,7 +159,13 @@ fn job(parameters: &[&[u8]]) -> Option<Command>
 {
     match parameters {
         [] => None,
-        [word, more @ ..] => { if more.is_empty() { job_named(word) } else { None } }
+        [word, more @ ..] => {
+            if more.is_empty() {
+                job_named(word)
+            } else {
+                None
+            }
+        }
     }
 }
 

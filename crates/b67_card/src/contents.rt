@@ -135,7 +135,13 @@ impl Contents {
     }
 
     /// Takes in what a card adds that stands there, or says why its digits are refused.
-    pub fn add(&mut self, alloc: Global, stand: Stand, number: u32, command: Command) -> Result<(), Refused>
+    pub fn add(
+        &mut self,
+        alloc: Global,
+        stand: Stand,
+        number: u32,
+        command: Command,
+    ) -> Result<(), Refused>
         ensures { (jobs : List job.Job) → Holds self.old jobs → (jobs ≡ [] → stand ≡ Front) → Told result stand number (command_of command) jobs self.new }
     {
         match command {

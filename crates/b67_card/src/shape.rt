@@ -3,10 +3,10 @@ ghost use Rattle.std.specs.Prelude.{◌≡◌, ◌-◌, slice_get, length, [], �
 ghost use Rattle.b67_text.specs.Command as card;
 ghost use Rattle.b67_text.specs.Placing.{is_above};
 ghost use Rattle.b67_card.specs.Said.{command_of};
-ghost use Rattle.b67_card.specs.Shape.{Shows, Placed};
+ghost use Rattle.b67_card.specs.Shape.{Shows, Placed, deck_of};
 
 use crate::command::{Command, Refused};
-use b67_text::{Stand, Switch, Switches};
+use b67_text::{Deck, Jobs, Stand, Switch, Switches};
 use std::alloc::Global;
 
 /// What the cards so far have said.
@@ -201,6 +201,18 @@ impl Shape {
             Command::Data => self.data(),
             Command::End => self.end(),
             Command::Plain(_) => self.plain(),
+        }
+    }
+    /// The deck of these jobs.
+    pub fn into_deck(self, jobs: Jobs) -> Deck
+        ensures { result ≡ deck_of self jobs }
+    {
+        Deck {
+            stack: self.stack.unwrap_or(512),
+            quantum: self.quantum.unwrap_or(1_000),
+            halt: self.halt,
+            switches: self.switches,
+            jobs,
         }
     }
 }

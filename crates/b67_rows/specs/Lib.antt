@@ -2,3 +2,5 @@ pub mod Mnemonics
 pub mod Programs
 pub mod LongPrograms
 pub mod Sessions
+pub mod Cards
+pub mod Texts

@@ -1,142 +1,126 @@
--- Operators by their mnemonics, and the code words that they fill.
-use Rattle.std.specs.Prelude.{ℕ, zero, suc, ◌+◌, ◌-◌, ◌*◌, ◌/◌, ◌%◌, ◌^◌, List, [], ◌∷◌, ◌++◌, drop, fold, length, replicate, take}
-use Rattle.b67_word.specs.Operands.{bit}
-use Rattle.b67_word.specs.Couples.{level_bits}
+-- Operators by their mnemonics, and segments of them.
+use Rattle.std.specs.Prelude.{ℕ, zero, suc, ◌+◌, ◌*◌, ◌^◌, List, [], ◌++◌, map}
+use Rattle.b67_word.specs.Couples.{level_bits, reversed_bits}
+use Rattle.b67_model.specs.declared.operators.Op.{Op}
+use Rattle.b67_model.specs.declared.operators.Op.TheVariants as op
+use Rattle.b67_model.specs.declared.operators.Code.{Code}
+use Rattle.b67_model.specs.declared.operators.Code.TheVariants as code
 use Rattle.b67_model.specs.State.{Segment}
+use Rattle.b67_text.specs.Encoding.{code_of}
 
--- an operator: its syllables; or one whose literal is the next whole word; or one with a couple, which the running
--- level splits
-pub data Operator : Type 0 where
-  Short : (syllables : List ℕ) → Operator
-  Long : (first literal : ℕ) → Operator
-  Coupled : (first level disp : ℕ) → Operator
-
--- the level bits of a couple in reversed order
-abbrev pub reversed : ℕ → ℕ → ℕ
-reversed zero level = 0
-reversed (suc i) level = reversed i level + bit i level * 2 ^ (13 - i)
-
--- the low syllables of a number, the most significant first
-abbrev pub low_syllables : ℕ → ℕ → List ℕ
-low_syllables zero n = []
-low_syllables (suc count) n = (n / 256 ^ count) % 256 ∷ low_syllables count n
-
--- the syllables of operators in a segment of a level, which stand behind so many
-abbrev pub syllables : ℕ → ℕ → List Operator → List ℕ
-syllables level n [] = []
-syllables level n (Short s ∷ more) = s ++ syllables level (n + length s) more
-syllables level n (Long first literal ∷ more) =
-    first ∷ (replicate (5 - n % 6) 0xFF ++ low_syllables 6 literal) ++ syllables level (6 * (n / 6 + 2)) more
-syllables level n (Coupled first l disp ∷ more) =
-    low_syllables 2 (first * 256 + reversed (level_bits level) l + disp) ++ syllables level (n + 2) more
-
--- words of six syllables, the last one filled
-abbrev pub filled : ℕ → List ℕ → List ℕ
-filled zero s = []
-filled (suc n) [] = []
-filled (suc n) (x ∷ more) = fold (λ word s. word * 256 + s) 0 (take 6 (x ∷ more ++ replicate 5 0xFF)) ∷ filled n (drop 5 more)
-
-abbrev pub code : List ℕ → List ℕ
-code s = filled (length s) s
+-- an operator, by the level of its segment, which splits couples
+abbrev pub Operator : Type 0
+Operator = ℕ → Op
 
 -- a segment of a level
 abbrev pub segment : ℕ → List Operator → Segment
-segment level operators = record { level = level; code = code (syllables level 0 operators) }
+segment level operators = record { level = level; code = code_of (map (λ (o : Operator). o level) operators) }
+
+-- operators so many times
+abbrev pub times : ℕ → List Operator → List Operator
+times zero operators = []
+times (suc n) operators = operators ++ times n operators
+
+abbrev pub couple_at : ℕ → ℕ → ℕ → ℕ
+couple_at level disp running = reversed_bits (level_bits running) level + disp
 
 abbrev pub VALC : ℕ → ℕ → Operator
-VALC level disp = Coupled 0x00 level disp
+VALC level disp running = op.Valc (couple_at level disp running)
 
 abbrev pub NAMC : ℕ → ℕ → Operator
-NAMC level disp = Coupled 0x40 level disp
+NAMC level disp running = op.Namc (couple_at level disp running)
 
 -- the PCW of a segment at its first place
 abbrev pub MPCW : ℕ → ℕ → Operator
-MPCW segment level = Long 0xBF (level * 2 ^ 14 + segment + 1)
+MPCW number level running = op.Mpcw (level * 2 ^ 14 + number + 1)
 
 abbrev pub LT48 : ℕ → Operator
-LT48 bits = Long 0xBE bits
+LT48 bits running = op.Lt48 bits
 
 abbrev pub LT8 : ℕ → Operator
-LT8 n = Short (0xB2 ∷ n ∷ [])
+LT8 n running = op.Lt8 n
 
 abbrev pub LT16 : ℕ → Operator
-LT16 n = Short (0xB3 ∷ n / 256 ∷ n % 256 ∷ [])
+LT16 n running = op.Lt16 n
 
 abbrev pub ISOL : ℕ → ℕ → Operator
-ISOL high width = Short (0x9A ∷ high ∷ width ∷ [])
+ISOL high width running = op.Isol high width
 
 -- branches to a word and a syllable
 abbrev pub BRUN : ℕ → ℕ → Operator
-BRUN word syllable = Short (0xA2 ∷ low_syllables 2 (syllable * 2 ^ 13 + word))
+BRUN word syllable running = op.Brun (record { word = word; syllable = syllable })
 
 abbrev pub BRTR : ℕ → ℕ → Operator
-BRTR word syllable = Short (0xA1 ∷ low_syllables 2 (syllable * 2 ^ 13 + word))
+BRTR word syllable running = op.Brtr (record { word = word; syllable = syllable })
+
+abbrev pub plain : Code → Operator
+plain c running = op.Plain c
 
 abbrev pub ADD : Operator
-ADD = Short (0x80 ∷ [])
+ADD = plain code.Add
 
 abbrev pub SUBT : Operator
-SUBT = Short (0x81 ∷ [])
+SUBT = plain code.Subt
 
 abbrev pub MULT : Operator
-MULT = Short (0x82 ∷ [])
+MULT = plain code.Mult
 
 abbrev pub IDIV : Operator
-IDIV = Short (0x84 ∷ [])
+IDIV = plain code.Idiv
 
 abbrev pub RDIV : Operator
-RDIV = Short (0x85 ∷ [])
+RDIV = plain code.Rdiv
 
 abbrev pub GRTR : Operator
-GRTR = Short (0x8A ∷ [])
+GRTR = plain code.Grtr
 
 abbrev pub CHSN : Operator
-CHSN = Short (0x8E ∷ [])
+CHSN = plain code.Chsn
 
 abbrev pub LNOT : Operator
-LNOT = Short (0x92 ∷ [])
+LNOT = plain code.Lnot
 
 abbrev pub SAME : Operator
-SAME = Short (0x94 ∷ [])
+SAME = plain code.Same
 
 abbrev pub EXIT : Operator
-EXIT = Short (0xA3 ∷ [])
+EXIT = plain code.Exit
 
 abbrev pub INDX : Operator
-INDX = Short (0xA6 ∷ [])
+INDX = plain code.Indx
 
 abbrev pub RETN : Operator
-RETN = Short (0xA7 ∷ [])
+RETN = plain code.Retn
 
 abbrev pub ENTR : Operator
-ENTR = Short (0xAB ∷ [])
+ENTR = plain code.Entr
 
 abbrev pub NXLV : Operator
-NXLV = Short (0xAD ∷ [])
+NXLV = plain code.Nxlv
 
 abbrev pub MKST : Operator
-MKST = Short (0xAE ∷ [])
+MKST = plain code.Mkst
 
 abbrev pub STFF : Operator
-STFF = Short (0xAF ∷ [])
+STFF = plain code.Stff
 
 abbrev pub ZERO : Operator
-ZERO = Short (0xB0 ∷ [])
+ZERO = plain code.Zero
 
 abbrev pub ONE : Operator
-ONE = Short (0xB1 ∷ [])
+ONE = plain code.One
 
 abbrev pub DLET : Operator
-DLET = Short (0xB5 ∷ [])
+DLET = plain code.Dlet
 
 abbrev pub STOD : Operator
-STOD = Short (0xB8 ∷ [])
+STOD = plain code.Stod
 
 abbrev pub LOAD : Operator
-LOAD = Short (0xBD ∷ [])
+LOAD = plain code.Load
 
 abbrev pub NOOP : Operator
-NOOP = Short (0xFE ∷ [])
+NOOP = plain code.Noop
 
 abbrev pub NVLD : Operator
-NVLD = Short (0xFF ∷ [])
+NVLD = plain code.Nvld

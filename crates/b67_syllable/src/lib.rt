@@ -8,3 +8,6 @@ mod kinds;
 pub use b67_model::{Code, Op, Undecodable};
 pub use decoding::decode;
 pub use encoding::encode;
+
+#[cfg(test)]
+mod tests;

@@ -1,6 +1,6 @@
 -- Assembly: what a card says, why it is refused, and the program that cards denote.
 use Rattle.std.specs.Prelude.{ℕ, zero, suc, ◌+◌, ◌-◌, ◌*◌, ◌^◌, ◌==◌, ◌&&◌, ◌||◌, not, nat_lt, nat_le, min, Bool, true, false, ℤ, nat_abs, List, [], ◌∷◌, ◌++◌, map, reverse, filter, fold, take, length, count_by, sum_by, slice_index, Option, Some, None, is_some, unwrap_or, Result, Ok, Err, if◌then◌else◌, codes, ⊤}
-use Rattle.std.specs.List.{filter_map, flat_map, list_all, list_any, take_while, slice_split, before_first, position_or_len}
+use Rattle.std.specs.List.{filter_map, flat_map, list_all, list_any, slice_split, before_first, position_or_len}
 use Rattle.std.specs.Option.{option_map, option_and_then}
 use Rattle.std.specs.Str.{bytes_eq}
 use Rattle.b67_word.specs.declared.couples.Place.{Place}
@@ -15,7 +15,7 @@ use Rattle.b67_model.specs.State.{Segment}
 use Rattle.b67_model.specs.Program.{Program}
 use Rattle.b67_text.specs.Answers.{Answer, ◌>>=◌, ◌>>◌, needs, or_reason}
 use Rattle.b67_text.specs.declared.card.Card.{Card}
-use Rattle.b67_text.specs.Cards.{words, natural, whole, is_name}
+use Rattle.b67_text.specs.Cards.{leading, words, natural, whole, is_name}
 use Rattle.b67_text.specs.Hex.{hex_bytes}
 use Rattle.b67_text.specs.Command.{row_of}
 use Rattle.b67_text.specs.Deck.{Refusal, of_card}
@@ -175,7 +175,7 @@ is_num l = bytes_eq l.key (codes "NUM")
 
 -- the cards of the current segment or row at the front of these
 abbrev pub own : List Line → List Line
-own lines = take_while (λ l. not (begins l)) lines
+own lines = leading (λ l. not (begins l)) lines
 
 pub data Named : Type 0 where
   SegmentName : (level : ℕ) → Named

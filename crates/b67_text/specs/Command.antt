@@ -1,5 +1,5 @@
 -- What a card of a deck says by itself.
-use Rattle.std.specs.Prelude.{ℕ, ◌+◌, ◌==◌, ◌&&◌, nat_le, Bool, false, List, [], ◌∷◌, length, take, drop, position, Option, Some, None, Result, Ok, Err, if◌then◌else◌, codes, ⊤}
+use Rattle.std.specs.Prelude.{ℕ, ◌+◌, ◌==◌, ◌&&◌, nat_le, Bool, false, List, [], ◌∷◌, length, take, drop, position, Option, Some, None, Ok, Err, if◌then◌else◌, codes, ⊤}
 use Rattle.std.specs.List.{list_all}
 use Rattle.std.specs.Option.{option_map, option_and_then}
 use Rattle.std.specs.Str.{bytes_eq}

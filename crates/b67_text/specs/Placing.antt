@@ -1,5 +1,5 @@
 -- Where a card of a deck may stand, by the cards before it, the nearest first.
-use Rattle.std.specs.Prelude.{ℕ, ◌==◌, ◌&&◌, ◌||◌, not, nat_lt, Bool, true, false, ℤ, pos, neg_ℤ, List, [], ◌∷◌, map, length, Option, Some, None, is_some, slice_get, Result, Ok, Err, if◌then◌else◌, ⊤}
+use Rattle.std.specs.Prelude.{ℕ, ◌==◌, ◌&&◌, ◌||◌, not, nat_lt, Bool, true, false, ℤ, pos, neg_ℤ, List, [], ◌∷◌, length, Option, Some, None, is_some, slice_get, Ok, if◌then◌else◌, ⊤}
 use Rattle.std.specs.List.{filter_map}
 use Rattle.std.specs.Option.{option_map, option_and_then}
 use Rattle.b67_text.specs.declared.deck.Switch as switches

@@ -1,4 +1,4 @@
-use Rattle.std.proofs.Common.{◌≡◌, sym, ◌∙◌}
+use Rattle.std.proofs.Common.{sym, ◌∙◌}
 use Rattle.b67_card.proofs.Ascii.{name_ascii}
 use Rattle.b67_card.proofs.command.job_named.Goals as goal
 

@@ -1,4 +1,4 @@
-use Rattle.std.proofs.Common.{◌≡◌, sym, ◌∙◌}
+use Rattle.std.proofs.Common.{sym, ◌∙◌}
 use Rattle.b67_card.proofs.Ascii.{printable_ascii}
 use Rattle.b67_card.proofs.command.plain.Goals as goal
 

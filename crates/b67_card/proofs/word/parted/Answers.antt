@@ -1,4 +1,4 @@
-use Rattle.std.proofs.Common.{◌≡◌, ◌+◌, ◌-◌, ℕ, List, length, take, drop, Some, None, refl, ap, sym, ◌∙◌}
+use Rattle.std.proofs.Common.{◌+◌, ℕ, List, take, drop, Some, ap, ◌∙◌}
 use Rattle.std.specs.Option.{option_map}
 use Rattle.b67_card.proofs.Slices.{rest_is}
 use Rattle.b67_card.proofs.word.parted.Goals as goal

@@ -1,0 +1,41 @@
+-- The operators on numbers and bits, on words.
+use Rattle.std.specs.Prelude.{ℕ, ◌==◌, ℤ, if◌then◌else◌, Ok, Err}
+use Rattle.b67_word.specs.Tagged.{Tagged, word}
+use Rattle.b67_word.specs.declared.faults.Fault.TheVariants.{InvalidOperand}
+use Rattle.b67_model.specs.Answers.{Answer, ◌>>=◌}
+use Rattle.b67_model.specs.Words.{number, to_operand}
+use Rattle.b67_model.specs.Arithmetic.{Binary}
+
+-- the bits of an operand
+abbrev pub bits_in : Tagged → Answer ℕ
+bits_in w = if w.tag == 0 then Ok w.bits else Err InvalidOperand
+
+-- an operator of one operand
+abbrev pub on_word : (ℕ → Answer ℕ) → Tagged → Answer Tagged
+on_word f a = do
+  x ← bits_in a
+  z ← f x
+  Ok (word 0 z)
+
+-- an operator of two: whether both are operands is looked at first
+abbrev pub on_words : Binary → Tagged → Tagged → Answer Tagged
+on_words f a b = do
+  x ← bits_in a
+  y ← bits_in b
+  z ← f x y
+  Ok (word 0 z)
+
+-- the numbers of two operands
+abbrev pub numbers_in : Tagged → Tagged → Answer (ℤ × ℤ)
+numbers_in a b = do
+  x ← bits_in a
+  y ← bits_in b
+  m ← number x
+  n ← number y
+  Ok (m, n)
+
+-- the operand of a number
+abbrev pub operand_word : ℤ → Answer Tagged
+operand_word v = do
+  z ← to_operand v
+  Ok (word 0 z)

@@ -1,0 +1,48 @@
+//! What operators take from words and make of what they compute.
+
+ghost use Rattle.std.specs.Prelude.{◌≡◌, ◌+◌, ◌*◌, ◌^◌, ◌<◌, nat_abs, IfOk};
+ghost use Rattle.b67_word.specs.Tagged.{word};
+ghost use Rattle.b67_model.specs.Words.{truth};
+ghost use Rattle.b67_arith.specs.OnWords.{bits_in, numbers_in, operand_word};
+
+use b67_word::{Fault, Word};
+
+/// The bits of an operand.
+pub fn bits(w: Word) -> Result<u64, Fault>
+    ensures value { result ≡ bits_in w }
+    ensures small { IfOk result (λ n. n < 2 ^ 48) }
+{
+    if w.tag() == 0 {
+        Ok(w.bits())
+    } else {
+        Err(Fault::InvalidOperand)
+    }
+}
+
+/// The numbers of two operands.
+pub fn numbers(a: Word, b: Word) -> Result<(i64, i64), Fault>
+    ensures value { result ≡ numbers_in a b }
+    ensures small { IfOk result (λ p. (nat_abs p.0 < 2 ^ 39) × (nat_abs p.1 < 2 ^ 39)) }
+{
+    if a.tag() != 0 || b.tag() != 0 {
+        return Err(Fault::InvalidOperand);
+    }
+    match (a.value(), b.value()) {
+        (Some(m), Some(n)) => Ok((m, n)),
+        _ => Err(Fault::Exponent),
+    }
+}
+
+/// The operand of a number, or INTEGER OVERFLOW.
+pub fn operand(v: i64) -> Result<Word, Fault>
+    ensures { result ≡ operand_word v }
+{
+    Word::operand(v).ok_or(Fault::IntegerOverflow)
+}
+
+/// The operand 1 or 0.
+pub fn truth_of(holds: bool) -> Word
+    ensures { result ≡ word 0 (truth holds) }
+{
+    Word::of(0, u64::from(holds))
+}

@@ -1,0 +1,6 @@
+mod KeyedLemmas
+mod ApartLemmas
+mod ChaseLemmas
+mod GrownLemmas
+mod LookLemmas
+mod PlaceLemmas

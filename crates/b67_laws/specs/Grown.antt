@@ -1,0 +1,22 @@
+-- Identities are counted up and never used again.
+use Rattle.std.specs.Prelude.{◌≡◌, ℕ, ◌≤◌, List, Option, Ok}
+use Rattle.b67_model.specs.declared.operators.Op.{Op}
+use Rattle.b67_model.specs.State.{Setting, Job, Course, Here}
+use Rattle.b67_model.specs.Steps.{Line, Goes}
+use Rattle.b67_model.specs.Rows.{row}
+use Rattle.b67_model.specs.Alone.{step_of}
+
+-- the next identities of frames and arrays, and the next number of a task, are the same or higher
+pub record Grown (before after : Job) : Type 0 where
+  pub frames : before.next_frame ≤ after.next_frame
+  pub arrays : before.next_array ≤ after.next_array
+  pub tasks : before.next_task ≤ after.next_task
+
+-- after the row of any operator
+abbrev pub RowsGrow : Type 0
+RowsGrow =
+    (op : Op) (h : Here) (after : Job) (printed : List Line) (touched : Option ℕ) → row op h ≡ Ok (Goes after printed touched) → Grown h.job after
+
+-- after a whole step of any task
+abbrev pub StepsGrow : Type 0
+StepsGrow = (setting : Setting) (c : Course) (number : ℕ) → Grown c.job (step_of setting c number).course.job

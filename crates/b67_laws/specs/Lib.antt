@@ -1,0 +1,4 @@
+pub mod Grown
+pub mod JobsApart
+pub mod Looks
+pub mod Places

@@ -1,0 +1,9 @@
+pub mod Members
+pub mod Reaches
+pub mod Replaced
+pub mod Looks
+pub mod Changes
+pub mod Posts
+pub mod Chases
+pub mod Maps
+pub mod Couples
