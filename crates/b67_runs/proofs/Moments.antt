@@ -13,7 +13,8 @@ use Rattle.b67_model.specs.Endings.{Settled, among, released, is_ready, ends_all
 use Rattle.b67_model.specs.Alone.{JobMoment, whole, by_task, step_of}
 use Rattle.b67_model.specs.InOrder.{Starts, TasksInOrder, JobInOrder}
 use Rattle.b67_order.proofs.Members.{length_change, length_filter}
-use Rattle.b67_order.specs.Laws.{StepsFrom, KeepsOrder, KeptBySteps}
+use Rattle.b67_order.specs.Ends.{StepsFrom}
+use Rattle.b67_order_steps.specs.Laws.{KeepsOrder, KeptBySteps}
 
 ends_fewer : (s : Settled) (endings : List (ℕ × Ending)) → length (ends_all s endings).job.tasks ≤ length s.job.tasks
 ends_fewer s endings =

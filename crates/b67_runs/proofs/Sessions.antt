@@ -12,9 +12,9 @@ use Rattle.b67_model.specs.InOrder.{Starts, IsSegment, IsStart, JobInOrder, Sess
 use Rattle.b67_opening.specs.Opening.{Opening, OpeningWithin, DeckWithin, opened_from, opening, OpensInOrder}
 use Rattle.b67_opening.proofs.Opens.{opens_in_order}
 use Rattle.b67_order.proofs.Members.{all_in, all_from, keyed_has, keyed_falls, total_change, total_has, length_change}
-use Rattle.b67_order.proofs.Settles.{steps_keep_order, steps_keep_order_but_places}
-use Rattle.b67_order.proofs.Whole.{rows_keep_order_but_places}
-use Rattle.b67_order.proofs.Places.{rows_keep_order}
+use Rattle.b67_order_steps.proofs.Settles.{steps_keep_order, steps_keep_order_but_places}
+use Rattle.b67_order_steps.proofs.Segments.{rows_keep_order_but_places}
+use Rattle.b67_order_steps.proofs.Places.{rows_keep_order}
 use Rattle.b67_runs.specs.Runs.{RunsAdmitted, SessionsStayInOrder, SessionsStayInOrderButPlaces, RunsStayInOrder}
 use Rattle.b67_runs.proofs.Chosen.{IsChosen, chosen, keyed_numbered}
 use Rattle.b67_runs.proofs.Totals.{sum_total, change_is, all_change, numbered_change, others_fifteen, peak_low_of, peak_high_of}
