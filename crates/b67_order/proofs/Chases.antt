@@ -19,30 +19,10 @@ use Rattle.b67_model.specs.Environment.{level_of_standing, level_of_frame, envir
 use Rattle.b67_model.specs.Cells.{first_offset, cell_of, cell, named, place_of}
 use Rattle.b67_model.specs.Chase.{End, AtCell, AtElement, AtArray, AtProc, AtIntrinsic, Link, Stops, Leads, link_at, link_in, link_from, link, chase_on, chase, follow, follow_reference}
 use Rattle.b67_model.specs.InOrder.{Starts, Known, known_of, reach_of, IsEntered, NamesEntered, NamesArray, OwnsArray, WordInOrder, EnvironmentInOrder, StandsInOrder, FramesInOrder, StackInOrder, ReturnsInOrder, ArrayInOrder, TaskInOrder}
+use Rattle.b67_order.specs.Ends.{IsProcOf, IsCell, EndInOrder}
 use Rattle.b67_order.proofs.Members.{has_append_left, has_append_right, has_append_cases, has_map, has_get, has_reverse_back, all_in, keyed_falls}
 use Rattle.b67_order.proofs.Looks.{SeenWord, Run, reach, own_order, Seen, see, Outer, closed, level_low, own_high}
 use Rattle.b67_order.proofs.Posts.{Post, post_ok, post_err, post_bind, post_any, post_if_is, post_more}
-
--- an entered frame, and not the MCP's or a dictionary's
-pub record IsProcOf (P : Starts) (reach : List Known) (f segment level : ℕ) (place : Place) : Type 0 where
-  pub names : NamesEntered reach f
-  pub own : 1 < f
-  pub high : level ≤ 31
-  pub starts : P segment level place
-
-pub record IsCell (h : Here) (reach : List Known) (f offset bits : ℕ) : Type 0 where
-  pub names : NamesEntered reach f
-  pub low : offset < 2 ^ 12
-  pub bound : bits < 2 ^ 48
-  pub found : cell h f offset ≡ Ok (Operand bits)
-
--- what the end of a reference may be
-abbrev pub EndInOrder : Starts → Here → End → Type 0
-EndInOrder P h (AtCell f offset bits) = IsCell h (reach h) f offset bits
-EndInOrder P h (AtElement array index) = NamesArray h.job.arrays (reach h) array index
-EndInOrder P h (AtArray array) = NamesArray h.job.arrays (reach h) array 0
-EndInOrder P h (AtProc f segment level place) = IsProcOf P (reach h) f segment level place
-EndInOrder P h (AtIntrinsic n) = Unit {0}
 
 -- what a reference may be
 abbrev pub RefInOrder : List Known → Word → Type 0

@@ -1,5 +1,5 @@
 -- Members of lists, look-ups by number, and totals.
-use Rattle.std.proofs.Common.{◌≡◌, ◌≢◌, ℕ, zero, suc, ◌+◌, ◌<◌, ◌≤◌, Bool, true, false, cond, eqb, List, [], ◌∷◌, ◌++◌, map, filter, flat_map, reverse, length, Option, Some, None, refl, sym, ap, ◌∙◌, subst, inl, inr, ◌⊎◌, arith}
+use Rattle.std.proofs.Common.{◌≡◌, ◌≢◌, ℕ, zero, suc, ◌+◌, ◌<◌, ◌≤◌, Bool, true, false, not, cond, eqb, List, [], ◌∷◌, ◌++◌, map, filter, flat_map, reverse, length, Option, Some, None, refl, sym, ap, ◌∙◌, subst, inl, inr, ◌⊎◌, arith}
 use Rattle.std.specs.List.{AllByRecursion, slice_get, list_any}
 use Rattle.std.proofs.lemmas.List.{reverse-append, reverse-reverse}
 use Rattle.std.proofs.lemmas.Bool.Decides.{eqb_tells}
@@ -318,3 +318,55 @@ keyed_map key n change (y ∷ ys) x same e = elim (eqb_tells (key y) n) [
 pub map_map_key : {A B : Type 0} (key : A → B) (change : A → A) (xs : List A) → ((y : A) → key (change y) ≡ key y) → map key (map change xs) ≡ map key xs
 map_map_key key change [] same = refl
 map_map_key key change (x ∷ xs) same = ap (λ k. k ∷ map key (map change xs)) (same x) ∙ ap (λ ks. key x ∷ ks) (map_map_key key change xs same)
+
+pub keyed_filter : {A : Type 0} (key : A → ℕ) (n : ℕ) (p : A → Bool) (xs : List A) (x : A) → keyed key n xs ≡ Some x → p x ≡ true → ((y : A) → key y ≡ n → p y ≡ p x) → keyed key n (filter p xs) ≡ Some x
+keyed_filter key n p [] x e t same = cc
+keyed_filter key n p (y ∷ ys) x e t same = elim (eqb_tells (key y) n) [
+  | inl k ↦ let at : Some y ≡ Some x = rw k.0 at e in
+      let py : p y ≡ true = same y k.1 ∙ t in
+      rw (py, k.0) at
+  | inr k ↦ let rest : keyed key n (filter p ys) ≡ Some x = keyed_filter key n p ys x (rw k.0 at e) t same in
+      elim (cases_Bool (p y)) [ inl q ↦ rw (q, k.0) rest | inr q ↦ rw q rest ]
+]
+
+pub total_split : {A : Type 0} (weight : A → ℕ) (p : A → Bool) (xs : List A) → total weight (filter p xs) + total weight (filter (λ x. not (p x)) xs) ≡ total weight xs
+total_split weight p [] = omega arith
+total_split weight p (x ∷ xs) = elim (cases_Bool (p x)) [
+  | inl t ↦ rw t (omega (arith, total_split weight p xs))
+  | inr t ↦ rw t (omega (arith, total_split weight p xs))
+]
+
+pub length_filter : {A : Type 0} (p : A → Bool) (xs : List A) → length (filter p xs) ≤ length xs
+length_filter p [] = omega arith
+length_filter p (x ∷ xs) = elim (cases_Bool (p x)) [
+  | inl t ↦ rw t (omega (arith, length_filter p xs))
+  | inr t ↦ rw t (omega (arith, length_filter p xs))
+]
+
+-- a list of falling numbers among others is no longer
+pub falls_short : (bound : ℕ) (xs : List ℕ) (c : ℕ) (ys : List ℕ) → Falls bound xs → Falls c ys → ((x : ℕ) → Has xs x → Has ys x) → length xs ≤ length ys
+falls_short bound [] c ys f g among = omega arith
+falls_short bound (x ∷ xs) c [] f g among = absurd (among x (inl refl))
+falls_short bound (x ∷ xs) c (y ∷ ys) f g among =
+    let rest : length xs ≤ length ys = falls_short x xs y ys f.1 g.1 (λ z h. elim (among z (inr h)) [
+      | inl e ↦ let low = falls_low x xs z f.1 h in elim (among x (inl refl)) [
+          | inl d ↦ absurd (omega (arith, low, e, d))
+          | inr m ↦ let under = falls_low y ys x g.1 m in absurd (omega (arith, low, e, under))
+        ]
+      | inr m ↦ m
+    ]) in
+    omega (arith, rest)
+
+pub any_some : {A : Type 0} (test : A → Bool) (xs : List A) (x : A) → Has xs x → test x ≡ true → list_any test xs ≡ true
+any_some test [] x h t = absurd h
+any_some test (y ∷ xs) x h t = elim (cases_Bool (test y)) [
+  | inl s ↦ rw s refl
+  | inr s ↦ rw s (elim h [ inl e ↦ absurd (true≢false (sym t ∙ ap test (sym e) ∙ s)) | inr m ↦ any_some test xs x m t ])
+]
+
+pub any_has : {A : Type 0} (test : A → Bool) (xs : List A) → list_any test xs ≡ true → (x : A) × Has xs x × (test x ≡ true)
+any_has test [] t = absurd (true≢false (sym t))
+any_has test (y ∷ xs) t = elim (cases_Bool (test y)) [
+  | inl s ↦ (y, inl refl, s)
+  | inr s ↦ let r = any_has test xs (rw s at t) in (r.0, inr r.1, r.2)
+]

@@ -41,7 +41,7 @@ task_kept P setting job job' Lives follows births up t here live stay g =
 pub record IsLive (job : Job) (n : ℕ) : Type 0 where
   pub counted : (n ≤ 1) ⊎ (1 ≤ frames_in_job n job)
 
-has_counts : (n : ℕ) (frames : List Frame) → Has (known_numbers (map known_of frames)) n → 1 ≤ frames_named n frames
+pub has_counts : (n : ℕ) (frames : List Frame) → Has (known_numbers (map known_of frames)) n → 1 ≤ frames_named n frames
 has_counts n [] h = absurd h
 has_counts n (f ∷ below) h = elim (eqb_tells f.identity n) [
   | inl t ↦ rw t.0 (omega arith)
@@ -114,7 +114,7 @@ birth_same job t u [] n c b = (n ∙ b.0, c ∙ b.1)
 birth_same job t u (p ∷ more) n c b =
     record { parent = b.parent; found = b.found; line = b.line; older = omega (arith, n, b.older); is_critical = subst (Has (identities b.parent.frames)) (sym c) b.is_critical }
 
-entry_kept : (arrays arrays' : List Array) (w : Word) → ((a : Array) → Has arrays a → a.owner ≡ 1 → Stays arrays' a) → EntryInOrder arrays w → EntryInOrder arrays' w
+pub entry_kept : (arrays arrays' : List Array) (w : Word) → ((a : Array) → Has arrays a → a.owner ≡ 1 → Stays arrays' a) → EntryInOrder arrays w → EntryInOrder arrays' w
 entry_kept arrays arrays' (Original n) stay g =
     let kept = stay g.item g.live g.owned in
     record { item = kept.item; live = kept.live; named = kept.named ∙ g.named; owned = kept.owned ∙ g.owned }

@@ -1,10 +1,10 @@
-//! Every step of the machine's model keeps its state in order.
+//! States in order: what a step of one task leaves of the others, and where references lead.
 #![tactic(auto)]
 
-ghost use Rattle.b67_order.specs.Laws.{RowsKeepOrderButPlaces};
+ghost use Rattle.b67_order.specs.Ends.{CouplesEndInOrder};
 
-/// Over any code words each operator and each intrinsic keeps all items of the order but those on
-/// places and on counts.
-pub fn rows_keep_order_but_places()
-    ensures { RowsKeepOrderButPlaces }
+/// A couple of the running task leads to a fault, or to a cell, element, array or procedure that is
+/// in reach and in order.
+pub fn couples_end_in_order()
+    ensures { CouplesEndInOrder }
 {}

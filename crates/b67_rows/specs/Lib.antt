@@ -3,3 +3,4 @@ pub mod Programs
 pub mod LongPrograms
 pub mod Sessions
 pub mod Cards
+pub mod Texts

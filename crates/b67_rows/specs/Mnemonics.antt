@@ -1,5 +1,5 @@
 -- Operators by their mnemonics, and segments of them.
-use Rattle.std.specs.Prelude.{ℕ, ◌+◌, ◌*◌, ◌^◌, List, map}
+use Rattle.std.specs.Prelude.{ℕ, zero, suc, ◌+◌, ◌*◌, ◌^◌, List, [], ◌++◌, map}
 use Rattle.b67_word.specs.Couples.{level_bits, reversed_bits}
 use Rattle.b67_model.specs.declared.operators.Op.{Op}
 use Rattle.b67_model.specs.declared.operators.Op.TheVariants as op
@@ -15,6 +15,11 @@ Operator = ℕ → Op
 -- a segment of a level
 abbrev pub segment : ℕ → List Operator → Segment
 segment level operators = record { level = level; code = code_of (map (λ (o : Operator). o level) operators) }
+
+-- operators so many times
+abbrev pub times : ℕ → List Operator → List Operator
+times zero operators = []
+times (suc n) operators = operators ++ times n operators
 
 abbrev pub couple_at : ℕ → ℕ → ℕ → ℕ
 couple_at level disp running = reversed_bits (level_bits running) level + disp

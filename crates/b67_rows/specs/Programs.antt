@@ -1,7 +1,7 @@
 -- The programs of worked runs.
-use Rattle.std.specs.Prelude.{ℕ, List, [], ◌∷◌}
+use Rattle.std.specs.Prelude.{ℕ, zero, suc, ◌+◌, List, [], ◌∷◌, ◌++◌}
 use Rattle.b67_model.specs.State.{Segment}
-use Rattle.b67_rows.specs.Mnemonics.{segment, ADD, BRTR, BRUN, CHSN, DLET, ENTR, EXIT, GRTR, IDIV, INDX, ISOL, LNOT, LOAD, LT16, LT48, LT8, MKST, MPCW, MULT, NAMC, NOOP, NVLD, NXLV, ONE, RDIV, RETN, SAME, STFF, STOD, VALC, ZERO}
+use Rattle.b67_rows.specs.Mnemonics.{segment, times, ADD, BRTR, BRUN, CHSN, DLET, ENTR, EXIT, GRTR, IDIV, INDX, ISOL, LNOT, LOAD, LT16, LT48, LT8, MKST, MPCW, MULT, NAMC, NOOP, NVLD, NXLV, ONE, RDIV, RETN, SAME, STFF, STOD, VALC, ZERO}
 
 -- two and three
 abbrev pub sum : List Segment
@@ -11,7 +11,8 @@ sum =
 -- the greatest number, zero negated, and a sum past the greatest number
 abbrev pub limits : List Segment
 limits =
-    segment 2 (MKST ∷ NAMC 0 9 ∷ LT48 549755813887 ∷ ENTR ∷ MKST ∷ NAMC 0 9 ∷ ZERO ∷ CHSN ∷ ENTR ∷ LT48 549755813887 ∷ ONE ∷ ADD ∷ EXIT ∷ []) ∷ []
+    segment 2 (MKST ∷ NAMC 0 9 ∷ LT48 549755813887 ∷ ENTR ∷ MKST ∷ NAMC 0 9 ∷ ZERO ∷ CHSN ∷ ENTR ∷
+    LT48 549755813887 ∷ ONE ∷ ADD ∷ EXIT ∷ []) ∷ []
 
 -- arithmetic on the complement of zero
 abbrev pub not_whole : List Segment
@@ -21,22 +22,24 @@ not_whole =
 -- Jensen's device: the sum of the squares up to ten, by two parameters called by name
 abbrev pub jensen : List Segment
 jensen =
-    segment 2 (ZERO ∷ MPCW 2 3 ∷ MPCW 3 3 ∷ MPCW 4 3 ∷ MKST ∷ NAMC 0 9 ∷ MKST ∷ NAMC 2 3 ∷ NAMC 2 5 ∷ STFF ∷ NAMC 2 4 ∷ STFF ∷ ENTR ∷ ENTR ∷ EXIT ∷
-    []) ∷
-    segment 3 (ZERO ∷ ONE ∷ NAMC 3 2 ∷ STOD ∷ VALC 3 2 ∷ LT8 10 ∷ GRTR ∷ BRTR 5 1 ∷ VALC 3 4 ∷ VALC 3 3 ∷ ADD ∷ NAMC 3 4 ∷ STOD ∷ VALC 3 2 ∷ ONE ∷
-    ADD ∷ NAMC 3 2 ∷ STOD ∷ BRUN 0 5 ∷ VALC 3 4 ∷ RETN ∷ []) ∷
+    segment 2 (ZERO ∷ MPCW 2 3 ∷ MPCW 3 3 ∷ MPCW 4 3 ∷ MKST ∷ NAMC 0 9 ∷ MKST ∷ NAMC 2 3 ∷ NAMC 2 5 ∷ STFF ∷
+    NAMC 2 4 ∷ STFF ∷ ENTR ∷ ENTR ∷ EXIT ∷ []) ∷
+    segment 3 (ZERO ∷ ONE ∷ NAMC 3 2 ∷ STOD ∷ VALC 3 2 ∷ LT8 10 ∷ GRTR ∷ BRTR 5 1 ∷ VALC 3 4 ∷ VALC 3 3 ∷ ADD ∷
+    NAMC 3 4 ∷ STOD ∷ VALC 3 2 ∷ ONE ∷ ADD ∷ NAMC 3 2 ∷ STOD ∷ BRUN 0 5 ∷ VALC 3 4 ∷ RETN ∷ []) ∷
     segment 3 (VALC 2 2 ∷ VALC 2 2 ∷ MULT ∷ RETN ∷ []) ∷
     segment 3 (NAMC 2 2 ∷ STFF ∷ RETN ∷ []) ∷ []
 
 -- an element, and the element behind the last one
 abbrev pub index_at_length : List Segment
 index_at_length =
-    segment 2 (MKST ∷ NAMC 0 8 ∷ LT8 100 ∷ ENTR ∷ MKST ∷ NAMC 0 9 ∷ NAMC 2 2 ∷ LT8 99 ∷ NXLV ∷ ENTR ∷ NAMC 2 2 ∷ LT8 100 ∷ NXLV ∷ EXIT ∷ []) ∷ []
+    segment 2 (MKST ∷ NAMC 0 8 ∷ LT8 100 ∷ ENTR ∷ MKST ∷ NAMC 0 9 ∷ NAMC 2 2 ∷ LT8 99 ∷ NXLV ∷ ENTR ∷ NAMC 2 2 ∷
+    LT8 100 ∷ NXLV ∷ EXIT ∷ []) ∷ []
 
 -- P returns a reference to its own cell; Q one to its caller's cell
 abbrev pub own_reference : List Segment
 own_reference =
-    segment 2 (LT8 7 ∷ MPCW 2 3 ∷ MPCW 3 3 ∷ MKST ∷ NAMC 0 9 ∷ MKST ∷ NAMC 2 4 ∷ ENTR ∷ LOAD ∷ ENTR ∷ MKST ∷ NAMC 2 3 ∷ ENTR ∷ EXIT ∷ []) ∷
+    segment 2 (LT8 7 ∷ MPCW 2 3 ∷ MPCW 3 3 ∷ MKST ∷ NAMC 0 9 ∷ MKST ∷ NAMC 2 4 ∷ ENTR ∷ LOAD ∷ ENTR ∷ MKST ∷
+    NAMC 2 3 ∷ ENTR ∷ EXIT ∷ []) ∷
     segment 3 (ONE ∷ NAMC 3 2 ∷ STFF ∷ RETN ∷ []) ∷
     segment 3 (NAMC 2 2 ∷ STFF ∷ RETN ∷ []) ∷ []
 
@@ -48,8 +51,8 @@ place_of_mark =
 -- two tasks add one to the same cell
 abbrev pub two_tasks : List Segment
 two_tasks =
-    segment 2 (ZERO ∷ MPCW 2 3 ∷ MKST ∷ NAMC 0 12 ∷ NAMC 2 3 ∷ ENTR ∷ VALC 2 2 ∷ ONE ∷ ADD ∷ NAMC 2 2 ∷ STOD ∷ MKST ∷ NAMC 0 13 ∷ VALC 2 4 ∷ ENTR ∷
-    MKST ∷ NAMC 0 9 ∷ VALC 2 2 ∷ ENTR ∷ EXIT ∷ []) ∷
+    segment 2 (ZERO ∷ MPCW 2 3 ∷ MKST ∷ NAMC 0 12 ∷ NAMC 2 3 ∷ ENTR ∷ VALC 2 2 ∷ ONE ∷ ADD ∷ NAMC 2 2 ∷ STOD ∷ MKST ∷
+    NAMC 0 13 ∷ VALC 2 4 ∷ ENTR ∷ MKST ∷ NAMC 0 9 ∷ VALC 2 2 ∷ ENTR ∷ EXIT ∷ []) ∷
     segment 3 (VALC 2 2 ∷ ONE ∷ ADD ∷ NAMC 2 2 ∷ STOD ∷ EXIT ∷ []) ∷ []
 
 -- the outer block ends under a task that lives
@@ -61,34 +64,34 @@ critical_block =
 -- an array of a hundred words, under ten words of code
 abbrev pub ten_words : List Segment
 ten_words =
-    segment 2 (MKST ∷ NAMC 0 8 ∷ LT8 100 ∷ ENTR ∷ MKST ∷ NAMC 0 9 ∷ NAMC 2 2 ∷ LT8 99 ∷ NXLV ∷ ENTR ∷ EXIT ∷ NVLD ∷ NVLD ∷ NVLD ∷ NVLD ∷ NVLD ∷
-    NVLD ∷ NVLD ∷ NVLD ∷ NVLD ∷ NVLD ∷ NVLD ∷ NVLD ∷ NVLD ∷ NVLD ∷ NVLD ∷ NVLD ∷ NVLD ∷ NVLD ∷ NVLD ∷ NVLD ∷ NVLD ∷ NVLD ∷ NVLD ∷ NVLD ∷ NVLD ∷
-    NVLD ∷ NVLD ∷ NVLD ∷ NVLD ∷ NVLD ∷ NVLD ∷ NVLD ∷ NVLD ∷ NVLD ∷ NVLD ∷ NVLD ∷ NVLD ∷ NVLD ∷ NVLD ∷ NVLD ∷ NVLD ∷ NVLD ∷ NVLD ∷ NVLD ∷ []) ∷ []
+    segment 2 (MKST ∷ NAMC 0 8 ∷ LT8 100 ∷ ENTR ∷ MKST ∷ NAMC 0 9 ∷ NAMC 2 2 ∷ LT8 99 ∷ NXLV ∷ ENTR ∷ EXIT ∷
+    times 44 (NVLD ∷ []) ++ []) ∷ []
 
 -- eight arrays, of each of which an element is raised by a child
 abbrev pub eight : List Segment
 eight =
-    segment 2 (MPCW 2 3 ∷ MKST ∷ NAMC 0 8 ∷ LT8 200 ∷ ENTR ∷ MKST ∷ NAMC 0 8 ∷ LT8 200 ∷ ENTR ∷ MKST ∷ NAMC 0 8 ∷ LT8 200 ∷ ENTR ∷ MKST ∷ NAMC 0 8 ∷
-    LT8 200 ∷ ENTR ∷ MKST ∷ NAMC 0 8 ∷ LT8 200 ∷ ENTR ∷ MKST ∷ NAMC 0 8 ∷ LT8 200 ∷ ENTR ∷ MKST ∷ NAMC 0 8 ∷ LT8 200 ∷ ENTR ∷ MKST ∷ NAMC 0 8 ∷
-    LT8 200 ∷ ENTR ∷ NAMC 2 3 ∷ LT8 0 ∷ INDX ∷ NAMC 2 4 ∷ LT8 1 ∷ INDX ∷ NAMC 2 5 ∷ LT8 2 ∷ INDX ∷ NAMC 2 6 ∷ LT8 3 ∷ INDX ∷ NAMC 2 7 ∷ LT8 4 ∷
-    INDX ∷ NAMC 2 8 ∷ LT8 5 ∷ INDX ∷ NAMC 2 9 ∷ LT8 6 ∷ INDX ∷ NAMC 2 10 ∷ LT8 7 ∷ INDX ∷ LT8 11 ∷ NAMC 2 11 ∷ STOD ∷ LT8 12 ∷ NAMC 2 12 ∷ STOD ∷
-    LT8 13 ∷ NAMC 2 13 ∷ STOD ∷ LT8 14 ∷ NAMC 2 14 ∷ STOD ∷ LT8 15 ∷ NAMC 2 15 ∷ STOD ∷ LT8 16 ∷ NAMC 2 16 ∷ STOD ∷ LT8 17 ∷ NAMC 2 17 ∷ STOD ∷
-    LT8 18 ∷ NAMC 2 18 ∷ STOD ∷ MKST ∷ NAMC 0 12 ∷ NAMC 2 2 ∷ ENTR ∷ MKST ∷ NAMC 0 13 ∷ VALC 2 19 ∷ ENTR ∷ MKST ∷ NAMC 0 9 ∷ VALC 2 11 ∷
-    VALC 2 12 ∷ ADD ∷ VALC 2 13 ∷ ADD ∷ VALC 2 14 ∷ ADD ∷ VALC 2 15 ∷ ADD ∷ VALC 2 16 ∷ ADD ∷ VALC 2 17 ∷ ADD ∷ VALC 2 18 ∷ ADD ∷ ENTR ∷ EXIT ∷
-    []) ∷
-    segment 3 (NAMC 2 3 ∷ LT8 0 ∷ INDX ∷ NAMC 2 4 ∷ LT8 1 ∷ INDX ∷ NAMC 2 5 ∷ LT8 2 ∷ INDX ∷ NAMC 2 6 ∷ LT8 3 ∷ INDX ∷ NAMC 2 7 ∷ LT8 4 ∷ INDX ∷
-    NAMC 2 8 ∷ LT8 5 ∷ INDX ∷ NAMC 2 9 ∷ LT8 6 ∷ INDX ∷ NAMC 2 10 ∷ LT8 7 ∷ INDX ∷ VALC 3 2 ∷ LT8 100 ∷ ADD ∷ NAMC 3 2 ∷ STOD ∷ VALC 3 3 ∷
-    LT8 100 ∷ ADD ∷ NAMC 3 3 ∷ STOD ∷ VALC 3 4 ∷ LT8 100 ∷ ADD ∷ NAMC 3 4 ∷ STOD ∷ VALC 3 5 ∷ LT8 100 ∷ ADD ∷ NAMC 3 5 ∷ STOD ∷ VALC 3 6 ∷
-    LT8 100 ∷ ADD ∷ NAMC 3 6 ∷ STOD ∷ VALC 3 7 ∷ LT8 100 ∷ ADD ∷ NAMC 3 7 ∷ STOD ∷ VALC 3 8 ∷ LT8 100 ∷ ADD ∷ NAMC 3 8 ∷ STOD ∷ VALC 3 9 ∷
-    LT8 100 ∷ ADD ∷ NAMC 3 9 ∷ STOD ∷ EXIT ∷ []) ∷ []
+    segment 2 (MPCW 2 3 ∷ times 8 (MKST ∷ NAMC 0 8 ∷ LT8 200 ∷ ENTR ∷ []) ++ NAMC 2 3 ∷ LT8 0 ∷ INDX ∷ NAMC 2 4 ∷
+    LT8 1 ∷ INDX ∷ NAMC 2 5 ∷ LT8 2 ∷ INDX ∷ NAMC 2 6 ∷ LT8 3 ∷ INDX ∷ NAMC 2 7 ∷ LT8 4 ∷ INDX ∷ NAMC 2 8 ∷
+    LT8 5 ∷ INDX ∷ NAMC 2 9 ∷ LT8 6 ∷ INDX ∷ NAMC 2 10 ∷ LT8 7 ∷ INDX ∷ LT8 11 ∷ NAMC 2 11 ∷ STOD ∷ LT8 12 ∷
+    NAMC 2 12 ∷ STOD ∷ LT8 13 ∷ NAMC 2 13 ∷ STOD ∷ LT8 14 ∷ NAMC 2 14 ∷ STOD ∷ LT8 15 ∷ NAMC 2 15 ∷ STOD ∷
+    LT8 16 ∷ NAMC 2 16 ∷ STOD ∷ LT8 17 ∷ NAMC 2 17 ∷ STOD ∷ LT8 18 ∷ NAMC 2 18 ∷ STOD ∷ MKST ∷ NAMC 0 12 ∷
+    NAMC 2 2 ∷ ENTR ∷ MKST ∷ NAMC 0 13 ∷ VALC 2 19 ∷ ENTR ∷ MKST ∷ NAMC 0 9 ∷ VALC 2 11 ∷ VALC 2 12 ∷ ADD ∷
+    VALC 2 13 ∷ ADD ∷ VALC 2 14 ∷ ADD ∷ VALC 2 15 ∷ ADD ∷ VALC 2 16 ∷ ADD ∷ VALC 2 17 ∷ ADD ∷ VALC 2 18 ∷ ADD ∷
+    ENTR ∷ EXIT ∷ []) ∷
+    segment 3 (NAMC 2 3 ∷ LT8 0 ∷ INDX ∷ NAMC 2 4 ∷ LT8 1 ∷ INDX ∷ NAMC 2 5 ∷ LT8 2 ∷ INDX ∷ NAMC 2 6 ∷ LT8 3 ∷
+    INDX ∷ NAMC 2 7 ∷ LT8 4 ∷ INDX ∷ NAMC 2 8 ∷ LT8 5 ∷ INDX ∷ NAMC 2 9 ∷ LT8 6 ∷ INDX ∷ NAMC 2 10 ∷ LT8 7 ∷
+    INDX ∷ VALC 3 2 ∷ LT8 100 ∷ ADD ∷ NAMC 3 2 ∷ STOD ∷ VALC 3 3 ∷ LT8 100 ∷ ADD ∷ NAMC 3 3 ∷ STOD ∷ VALC 3 4 ∷
+    LT8 100 ∷ ADD ∷ NAMC 3 4 ∷ STOD ∷ VALC 3 5 ∷ LT8 100 ∷ ADD ∷ NAMC 3 5 ∷ STOD ∷ VALC 3 6 ∷ LT8 100 ∷ ADD ∷
+    NAMC 3 6 ∷ STOD ∷ VALC 3 7 ∷ LT8 100 ∷ ADD ∷ NAMC 3 7 ∷ STOD ∷ VALC 3 8 ∷ LT8 100 ∷ ADD ∷ NAMC 3 8 ∷ STOD ∷
+    VALC 3 9 ∷ LT8 100 ∷ ADD ∷ NAMC 3 9 ∷ STOD ∷ EXIT ∷ []) ∷ []
 
 -- a procedure with an array of its own, called three times
 abbrev pub leave : List Segment
 leave =
-    segment 2 (MPCW 2 3 ∷ MKST ∷ NAMC 0 8 ∷ LT8 200 ∷ ENTR ∷ MKST ∷ NAMC 2 2 ∷ ENTR ∷ MKST ∷ NAMC 2 2 ∷ ENTR ∷ MKST ∷ NAMC 2 2 ∷ ENTR ∷ MKST ∷
+    segment 2 (MPCW 2 3 ∷ MKST ∷ NAMC 0 8 ∷ LT8 200 ∷ times 3 (ENTR ∷ MKST ∷ NAMC 2 2 ∷ []) ++ ENTR ∷ MKST ∷
     NAMC 0 9 ∷ NAMC 2 3 ∷ ZERO ∷ NXLV ∷ ENTR ∷ EXIT ∷ []) ∷
-    segment 3 (MKST ∷ NAMC 0 8 ∷ LT8 200 ∷ ENTR ∷ ONE ∷ NAMC 3 2 ∷ ZERO ∷ INDX ∷ STOD ∷ NAMC 2 3 ∷ ZERO ∷ NXLV ∷ NAMC 3 2 ∷ ZERO ∷ NXLV ∷ ADD ∷
-    NAMC 2 3 ∷ ZERO ∷ INDX ∷ STOD ∷ EXIT ∷ []) ∷ []
+    segment 3 (MKST ∷ NAMC 0 8 ∷ LT8 200 ∷ ENTR ∷ ONE ∷ NAMC 3 2 ∷ ZERO ∷ INDX ∷ STOD ∷ NAMC 2 3 ∷ ZERO ∷ NXLV ∷
+    NAMC 3 2 ∷ ZERO ∷ NXLV ∷ ADD ∷ NAMC 2 3 ∷ ZERO ∷ INDX ∷ STOD ∷ EXIT ∷ []) ∷ []
 
 -- the only task waits at a cell
 abbrev pub wait_at_zero : List Segment
@@ -103,15 +106,16 @@ endless =
 -- two numbers that are read, and the end of the numbers
 abbrev pub reads : List Segment
 reads =
-    segment 2 (MKST ∷ NAMC 0 9 ∷ MKST ∷ NAMC 0 11 ∷ ENTR ∷ MKST ∷ NAMC 0 11 ∷ ENTR ∷ ADD ∷ ENTR ∷ MKST ∷ NAMC 0 9 ∷ MKST ∷ NAMC 0 11 ∷ ENTR ∷
-    LT48 0x800000000000 ∷ SAME ∷ ENTR ∷ EXIT ∷ []) ∷ []
+    segment 2 (MKST ∷ NAMC 0 9 ∷ MKST ∷ NAMC 0 11 ∷ ENTR ∷ MKST ∷ NAMC 0 11 ∷ ENTR ∷ ADD ∷ ENTR ∷ MKST ∷ NAMC 0 9 ∷
+    MKST ∷ NAMC 0 11 ∷ ENTR ∷ LT48 0x800000000000 ∷ SAME ∷ ENTR ∷ EXIT ∷ []) ∷ []
 
 -- four stores into one array, and the sum of their elements
 abbrev pub exercise : List Segment
 exercise =
-    segment 2 (MKST ∷ NAMC 0 8 ∷ LT16 88 ∷ ENTR ∷ LT16 515 ∷ NAMC 2 2 ∷ LT16 81 ∷ INDX ∷ STOD ∷ LT16 10 ∷ NAMC 2 2 ∷ LT16 83 ∷ INDX ∷ STOD ∷
-    LT16 86 ∷ NAMC 2 2 ∷ LT16 20 ∷ INDX ∷ STOD ∷ LT16 84 ∷ NAMC 2 2 ∷ LT16 7 ∷ INDX ∷ STOD ∷ MKST ∷ NAMC 0 9 ∷ ZERO ∷ NAMC 2 2 ∷ LT16 81 ∷ NXLV ∷
-    ADD ∷ NAMC 2 2 ∷ LT16 83 ∷ NXLV ∷ ADD ∷ NAMC 2 2 ∷ LT16 20 ∷ NXLV ∷ ADD ∷ NAMC 2 2 ∷ LT16 7 ∷ NXLV ∷ ADD ∷ ENTR ∷ EXIT ∷ []) ∷ []
+    segment 2 (MKST ∷ NAMC 0 8 ∷ LT16 88 ∷ ENTR ∷ LT16 515 ∷ NAMC 2 2 ∷ LT16 81 ∷ INDX ∷ STOD ∷ LT16 10 ∷ NAMC 2 2 ∷
+    LT16 83 ∷ INDX ∷ STOD ∷ LT16 86 ∷ NAMC 2 2 ∷ LT16 20 ∷ INDX ∷ STOD ∷ LT16 84 ∷ NAMC 2 2 ∷ LT16 7 ∷ INDX ∷
+    STOD ∷ MKST ∷ NAMC 0 9 ∷ ZERO ∷ NAMC 2 2 ∷ LT16 81 ∷ NXLV ∷ ADD ∷ NAMC 2 2 ∷ LT16 83 ∷ NXLV ∷ ADD ∷
+    NAMC 2 2 ∷ LT16 20 ∷ NXLV ∷ ADD ∷ NAMC 2 2 ∷ LT16 7 ∷ NXLV ∷ ADD ∷ ENTR ∷ EXIT ∷ []) ∷ []
 
 -- an operator of two operands on one cell
 abbrev pub one_cell : List Segment
@@ -126,8 +130,8 @@ left_when_marked =
 -- quotient and remainder of a negative number, a field, and a division by zero
 abbrev pub division : List Segment
 division =
-    segment 2 (MKST ∷ NAMC 0 9 ∷ LT8 7 ∷ CHSN ∷ LT8 2 ∷ IDIV ∷ ENTR ∷ MKST ∷ NAMC 0 9 ∷ LT8 7 ∷ CHSN ∷ LT8 2 ∷ RDIV ∷ ENTR ∷ MKST ∷ NAMC 0 9 ∷
-    LT8 165 ∷ ISOL 7 4 ∷ ENTR ∷ ONE ∷ ZERO ∷ IDIV ∷ EXIT ∷ []) ∷ []
+    segment 2 (MKST ∷ NAMC 0 9 ∷ LT8 7 ∷ CHSN ∷ LT8 2 ∷ IDIV ∷ ENTR ∷ MKST ∷ NAMC 0 9 ∷ LT8 7 ∷ CHSN ∷ LT8 2 ∷ RDIV ∷
+    ENTR ∷ MKST ∷ NAMC 0 9 ∷ LT8 165 ∷ ISOL 7 4 ∷ ENTR ∷ ONE ∷ ZERO ∷ IDIV ∷ EXIT ∷ []) ∷ []
 
 -- a procedure with a parameter, whose value is printed
 abbrev pub with_a_parameter : List Segment
@@ -160,26 +164,22 @@ reads_itself =
 -- an array of twelve
 abbrev pub printed_row : List Segment
 printed_row =
-    segment 2 (MKST ∷ NAMC 0 8 ∷ LT8 12 ∷ ENTR ∷ LT8 5 ∷ NAMC 2 2 ∷ LT8 10 ∷ INDX ∷ STOD ∷ MKST ∷ NAMC 0 10 ∷ NAMC 2 2 ∷ LOAD ∷ ENTR ∷ EXIT ∷ []) ∷ []
+    segment 2 (MKST ∷ NAMC 0 8 ∷ LT8 12 ∷ ENTR ∷ LT8 5 ∷ NAMC 2 2 ∷ LT8 10 ∷ INDX ∷ STOD ∷ MKST ∷ NAMC 0 10 ∷
+    NAMC 2 2 ∷ LOAD ∷ ENTR ∷ EXIT ∷ []) ∷ []
 
 -- two procedures of sixty operators that do nothing
 abbrev pub three_segments : List Segment
 three_segments =
     segment 2 (MPCW 2 3 ∷ MPCW 3 3 ∷ MKST ∷ NAMC 2 2 ∷ ENTR ∷ MKST ∷ NAMC 2 3 ∷ ENTR ∷ EXIT ∷ []) ∷
-    segment 3 (NOOP ∷ NOOP ∷ NOOP ∷ NOOP ∷ NOOP ∷ NOOP ∷ NOOP ∷ NOOP ∷ NOOP ∷ NOOP ∷ NOOP ∷ NOOP ∷ NOOP ∷ NOOP ∷ NOOP ∷ NOOP ∷ NOOP ∷ NOOP ∷ NOOP ∷
-    NOOP ∷ NOOP ∷ NOOP ∷ NOOP ∷ NOOP ∷ NOOP ∷ NOOP ∷ NOOP ∷ NOOP ∷ NOOP ∷ NOOP ∷ NOOP ∷ NOOP ∷ NOOP ∷ NOOP ∷ NOOP ∷ NOOP ∷ NOOP ∷ NOOP ∷ NOOP ∷
-    NOOP ∷ NOOP ∷ NOOP ∷ NOOP ∷ NOOP ∷ NOOP ∷ NOOP ∷ NOOP ∷ NOOP ∷ NOOP ∷ NOOP ∷ NOOP ∷ NOOP ∷ NOOP ∷ NOOP ∷ NOOP ∷ NOOP ∷ NOOP ∷ NOOP ∷ NOOP ∷
-    NOOP ∷ EXIT ∷ []) ∷
-    segment 3 (NOOP ∷ NOOP ∷ NOOP ∷ NOOP ∷ NOOP ∷ NOOP ∷ NOOP ∷ NOOP ∷ NOOP ∷ NOOP ∷ NOOP ∷ NOOP ∷ NOOP ∷ NOOP ∷ NOOP ∷ NOOP ∷ NOOP ∷ NOOP ∷ NOOP ∷
-    NOOP ∷ NOOP ∷ NOOP ∷ NOOP ∷ NOOP ∷ NOOP ∷ NOOP ∷ NOOP ∷ NOOP ∷ NOOP ∷ NOOP ∷ NOOP ∷ NOOP ∷ NOOP ∷ NOOP ∷ NOOP ∷ NOOP ∷ NOOP ∷ NOOP ∷ NOOP ∷
-    NOOP ∷ NOOP ∷ NOOP ∷ NOOP ∷ NOOP ∷ NOOP ∷ NOOP ∷ NOOP ∷ NOOP ∷ NOOP ∷ NOOP ∷ NOOP ∷ NOOP ∷ NOOP ∷ NOOP ∷ NOOP ∷ NOOP ∷ NOOP ∷ NOOP ∷ NOOP ∷
-    NOOP ∷ EXIT ∷ []) ∷ []
+    segment 3 (times 60 (NOOP ∷ []) ++ EXIT ∷ []) ∷
+    segment 3 (times 60 (NOOP ∷ []) ++ EXIT ∷ []) ∷ []
 
 -- two arrays with an element each
 abbrev pub two : List Segment
 two =
-    segment 2 (MKST ∷ NAMC 0 8 ∷ LT8 200 ∷ ENTR ∷ MKST ∷ NAMC 0 8 ∷ LT8 200 ∷ ENTR ∷ NAMC 2 2 ∷ LT8 5 ∷ INDX ∷ NAMC 2 3 ∷ LT8 6 ∷ INDX ∷ LT8 11 ∷
-    NAMC 2 4 ∷ STOD ∷ LT8 12 ∷ NAMC 2 5 ∷ STOD ∷ MKST ∷ NAMC 0 9 ∷ VALC 2 4 ∷ VALC 2 5 ∷ ADD ∷ ENTR ∷ EXIT ∷ []) ∷ []
+    segment 2 (MKST ∷ NAMC 0 8 ∷ LT8 200 ∷ ENTR ∷ MKST ∷ NAMC 0 8 ∷ LT8 200 ∷ ENTR ∷ NAMC 2 2 ∷ LT8 5 ∷ INDX ∷
+    NAMC 2 3 ∷ LT8 6 ∷ INDX ∷ LT8 11 ∷ NAMC 2 4 ∷ STOD ∷ LT8 12 ∷ NAMC 2 5 ∷ STOD ∷ MKST ∷ NAMC 0 9 ∷ VALC 2 4 ∷
+    VALC 2 5 ∷ ADD ∷ ENTR ∷ EXIT ∷ []) ∷ []
 
 -- the status of a task that was never started
 abbrev pub never_started : List Segment
@@ -195,51 +195,17 @@ critical_mark =
 -- a child causes what its parent waits for
 abbrev pub event : List Segment
 event =
-    segment 2 (ZERO ∷ MPCW 2 3 ∷ MKST ∷ NAMC 0 12 ∷ NAMC 2 3 ∷ ENTR ∷ MKST ∷ NAMC 0 15 ∷ NAMC 2 2 ∷ ENTR ∷ MKST ∷ NAMC 0 9 ∷ VALC 2 2 ∷ ENTR ∷ EXIT ∷
-    []) ∷
+    segment 2 (ZERO ∷ MPCW 2 3 ∷ MKST ∷ NAMC 0 12 ∷ NAMC 2 3 ∷ ENTR ∷ MKST ∷ NAMC 0 15 ∷ NAMC 2 2 ∷ ENTR ∷ MKST ∷
+    NAMC 0 9 ∷ VALC 2 2 ∷ ENTR ∷ EXIT ∷ []) ∷
     segment 3 (MKST ∷ NAMC 0 16 ∷ NAMC 2 2 ∷ ENTR ∷ EXIT ∷ []) ∷ []
 
 -- a child waits at a cell that its parent pops; a cell of another activation record takes its place in core
 abbrev pub popped_cell : List Segment
 popped_cell =
-    segment 2 (MPCW 2 3 ∷ MPCW 3 3 ∷ MKST ∷ NAMC 0 12 ∷ NAMC 2 2 ∷ ENTR ∷ ZERO ∷ ZERO ∷ ZERO ∷ DLET ∷ DLET ∷ DLET ∷ MKST ∷ NAMC 2 3 ∷ ENTR ∷ MKST ∷
-    NAMC 0 13 ∷ VALC 2 4 ∷ ENTR ∷ EXIT ∷ []) ∷
+    segment 2 (MPCW 2 3 ∷ MPCW 3 3 ∷ MKST ∷ NAMC 0 12 ∷ NAMC 2 2 ∷ ENTR ∷ ZERO ∷ ZERO ∷ ZERO ∷ DLET ∷ DLET ∷ DLET ∷
+    MKST ∷ NAMC 2 3 ∷ ENTR ∷ MKST ∷ NAMC 0 13 ∷ VALC 2 4 ∷ ENTR ∷ EXIT ∷ []) ∷
     segment 3 (MKST ∷ NAMC 0 15 ∷ NAMC 2 7 ∷ ENTR ∷ EXIT ∷ []) ∷
     segment 3 (ZERO ∷ MKST ∷ NAMC 0 16 ∷ NAMC 3 2 ∷ ENTR ∷ EXIT ∷ []) ∷ []
-
--- each level calls the next one
-abbrev pub thirty_levels : List Segment
-thirty_levels =
-    segment 2 (MPCW 2 3 ∷ MKST ∷ NAMC 2 2 ∷ ENTR ∷ EXIT ∷ []) ∷
-    segment 3 (MPCW 3 4 ∷ MKST ∷ NAMC 3 2 ∷ ENTR ∷ EXIT ∷ []) ∷
-    segment 4 (MPCW 4 5 ∷ MKST ∷ NAMC 4 2 ∷ ENTR ∷ EXIT ∷ []) ∷
-    segment 5 (MPCW 5 6 ∷ MKST ∷ NAMC 5 2 ∷ ENTR ∷ EXIT ∷ []) ∷
-    segment 6 (MPCW 6 7 ∷ MKST ∷ NAMC 6 2 ∷ ENTR ∷ EXIT ∷ []) ∷
-    segment 7 (MPCW 7 8 ∷ MKST ∷ NAMC 7 2 ∷ ENTR ∷ EXIT ∷ []) ∷
-    segment 8 (MPCW 8 9 ∷ MKST ∷ NAMC 8 2 ∷ ENTR ∷ EXIT ∷ []) ∷
-    segment 9 (MPCW 9 10 ∷ MKST ∷ NAMC 9 2 ∷ ENTR ∷ EXIT ∷ []) ∷
-    segment 10 (MPCW 10 11 ∷ MKST ∷ NAMC 10 2 ∷ ENTR ∷ EXIT ∷ []) ∷
-    segment 11 (MPCW 11 12 ∷ MKST ∷ NAMC 11 2 ∷ ENTR ∷ EXIT ∷ []) ∷
-    segment 12 (MPCW 12 13 ∷ MKST ∷ NAMC 12 2 ∷ ENTR ∷ EXIT ∷ []) ∷
-    segment 13 (MPCW 13 14 ∷ MKST ∷ NAMC 13 2 ∷ ENTR ∷ EXIT ∷ []) ∷
-    segment 14 (MPCW 14 15 ∷ MKST ∷ NAMC 14 2 ∷ ENTR ∷ EXIT ∷ []) ∷
-    segment 15 (MPCW 15 16 ∷ MKST ∷ NAMC 15 2 ∷ ENTR ∷ EXIT ∷ []) ∷
-    segment 16 (MPCW 16 17 ∷ MKST ∷ NAMC 16 2 ∷ ENTR ∷ EXIT ∷ []) ∷
-    segment 17 (MPCW 17 18 ∷ MKST ∷ NAMC 17 2 ∷ ENTR ∷ EXIT ∷ []) ∷
-    segment 18 (MPCW 18 19 ∷ MKST ∷ NAMC 18 2 ∷ ENTR ∷ EXIT ∷ []) ∷
-    segment 19 (MPCW 19 20 ∷ MKST ∷ NAMC 19 2 ∷ ENTR ∷ EXIT ∷ []) ∷
-    segment 20 (MPCW 20 21 ∷ MKST ∷ NAMC 20 2 ∷ ENTR ∷ EXIT ∷ []) ∷
-    segment 21 (MPCW 21 22 ∷ MKST ∷ NAMC 21 2 ∷ ENTR ∷ EXIT ∷ []) ∷
-    segment 22 (MPCW 22 23 ∷ MKST ∷ NAMC 22 2 ∷ ENTR ∷ EXIT ∷ []) ∷
-    segment 23 (MPCW 23 24 ∷ MKST ∷ NAMC 23 2 ∷ ENTR ∷ EXIT ∷ []) ∷
-    segment 24 (MPCW 24 25 ∷ MKST ∷ NAMC 24 2 ∷ ENTR ∷ EXIT ∷ []) ∷
-    segment 25 (MPCW 25 26 ∷ MKST ∷ NAMC 25 2 ∷ ENTR ∷ EXIT ∷ []) ∷
-    segment 26 (MPCW 26 27 ∷ MKST ∷ NAMC 26 2 ∷ ENTR ∷ EXIT ∷ []) ∷
-    segment 27 (MPCW 27 28 ∷ MKST ∷ NAMC 27 2 ∷ ENTR ∷ EXIT ∷ []) ∷
-    segment 28 (MPCW 28 29 ∷ MKST ∷ NAMC 28 2 ∷ ENTR ∷ EXIT ∷ []) ∷
-    segment 29 (MPCW 29 30 ∷ MKST ∷ NAMC 29 2 ∷ ENTR ∷ EXIT ∷ []) ∷
-    segment 30 (MPCW 30 31 ∷ MKST ∷ NAMC 30 2 ∷ ENTR ∷ EXIT ∷ []) ∷
-    segment 31 (MKST ∷ NAMC 0 9 ∷ LT8 31 ∷ ENTR ∷ EXIT ∷ []) ∷ []
 
 -- a loop that pushes a cell
 abbrev pub pushes : List Segment
@@ -249,11 +215,8 @@ pushes =
 -- fifteen children, the last of which isn't started
 abbrev pub fifteen : List Segment
 fifteen =
-    segment 2 (MPCW 2 3 ∷ MKST ∷ NAMC 0 12 ∷ NAMC 2 2 ∷ ENTR ∷ MKST ∷ NAMC 0 12 ∷ NAMC 2 2 ∷ ENTR ∷ MKST ∷ NAMC 0 12 ∷ NAMC 2 2 ∷ ENTR ∷ MKST ∷
-    NAMC 0 12 ∷ NAMC 2 2 ∷ ENTR ∷ MKST ∷ NAMC 0 12 ∷ NAMC 2 2 ∷ ENTR ∷ MKST ∷ NAMC 0 12 ∷ NAMC 2 2 ∷ ENTR ∷ MKST ∷ NAMC 0 12 ∷ NAMC 2 2 ∷ ENTR ∷
-    MKST ∷ NAMC 0 12 ∷ NAMC 2 2 ∷ ENTR ∷ MKST ∷ NAMC 0 12 ∷ NAMC 2 2 ∷ ENTR ∷ MKST ∷ NAMC 0 12 ∷ NAMC 2 2 ∷ ENTR ∷ MKST ∷ NAMC 0 12 ∷ NAMC 2 2 ∷
-    ENTR ∷ MKST ∷ NAMC 0 12 ∷ NAMC 2 2 ∷ ENTR ∷ MKST ∷ NAMC 0 12 ∷ NAMC 2 2 ∷ ENTR ∷ MKST ∷ NAMC 0 12 ∷ NAMC 2 2 ∷ ENTR ∷ MKST ∷ NAMC 0 12 ∷
-    NAMC 2 2 ∷ ENTR ∷ MKST ∷ NAMC 0 9 ∷ VALC 2 17 ∷ ENTR ∷ EXIT ∷ []) ∷
+    segment 2 (MPCW 2 3 ∷ times 15 (MKST ∷ NAMC 0 12 ∷ NAMC 2 2 ∷ ENTR ∷ []) ++ MKST ∷ NAMC 0 9 ∷ VALC 2 17 ∷ ENTR ∷
+    EXIT ∷ []) ∷
     segment 3 (BRUN 0 0 ∷ []) ∷ []
 
 -- the name of the cell that the value is in, the value on top
@@ -302,25 +265,20 @@ row_for_a_value =
 -- a thunk that returns an element
 abbrev pub element_for_a_value : List Segment
 element_for_a_value =
-    segment 2 (MKST ∷ NAMC 0 8 ∷ LT8 3 ∷ ENTR ∷ LT8 6 ∷ NAMC 2 2 ∷ ONE ∷ INDX ∷ STOD ∷ MPCW 2 3 ∷ MKST ∷ NAMC 0 9 ∷ VALC 2 3 ∷ ENTR ∷ EXIT ∷ []) ∷
+    segment 2 (MKST ∷ NAMC 0 8 ∷ LT8 3 ∷ ENTR ∷ LT8 6 ∷ NAMC 2 2 ∷ ONE ∷ INDX ∷ STOD ∷ MPCW 2 3 ∷ MKST ∷ NAMC 0 9 ∷
+    VALC 2 3 ∷ ENTR ∷ EXIT ∷ []) ∷
     segment 3 (NAMC 2 2 ∷ ONE ∷ INDX ∷ RETN ∷ []) ∷ []
 
 -- a LOAD that enters a procedure over a full stack
 abbrev pub full_load : List Segment
 full_load =
-    segment 2 (MPCW 2 3 ∷ ZERO ∷ ZERO ∷ ZERO ∷ ZERO ∷ ZERO ∷ ZERO ∷ ZERO ∷ ZERO ∷ ZERO ∷ ZERO ∷ ZERO ∷ ZERO ∷ ZERO ∷ ZERO ∷ ZERO ∷ ZERO ∷ ZERO ∷
-    ZERO ∷ ZERO ∷ ZERO ∷ ZERO ∷ ZERO ∷ ZERO ∷ ZERO ∷ ZERO ∷ ZERO ∷ ZERO ∷ ZERO ∷ ZERO ∷ ZERO ∷ ZERO ∷ ZERO ∷ ZERO ∷ ZERO ∷ ZERO ∷ ZERO ∷ ZERO ∷
-    ZERO ∷ ZERO ∷ ZERO ∷ ZERO ∷ ZERO ∷ ZERO ∷ ZERO ∷ ZERO ∷ ZERO ∷ ZERO ∷ ZERO ∷ ZERO ∷ ZERO ∷ ZERO ∷ ZERO ∷ ZERO ∷ ZERO ∷ ZERO ∷ ZERO ∷ ZERO ∷
-    ZERO ∷ ZERO ∷ NAMC 2 2 ∷ LOAD ∷ EXIT ∷ []) ∷
+    segment 2 (MPCW 2 3 ∷ times 59 (ZERO ∷ []) ++ NAMC 2 2 ∷ LOAD ∷ EXIT ∷ []) ∷
     segment 3 (EXIT ∷ []) ∷ []
 
 -- the same with a cell less
 abbrev pub fuller_load : List Segment
 fuller_load =
-    segment 2 (MPCW 2 3 ∷ ZERO ∷ ZERO ∷ ZERO ∷ ZERO ∷ ZERO ∷ ZERO ∷ ZERO ∷ ZERO ∷ ZERO ∷ ZERO ∷ ZERO ∷ ZERO ∷ ZERO ∷ ZERO ∷ ZERO ∷ ZERO ∷ ZERO ∷
-    ZERO ∷ ZERO ∷ ZERO ∷ ZERO ∷ ZERO ∷ ZERO ∷ ZERO ∷ ZERO ∷ ZERO ∷ ZERO ∷ ZERO ∷ ZERO ∷ ZERO ∷ ZERO ∷ ZERO ∷ ZERO ∷ ZERO ∷ ZERO ∷ ZERO ∷ ZERO ∷
-    ZERO ∷ ZERO ∷ ZERO ∷ ZERO ∷ ZERO ∷ ZERO ∷ ZERO ∷ ZERO ∷ ZERO ∷ ZERO ∷ ZERO ∷ ZERO ∷ ZERO ∷ ZERO ∷ ZERO ∷ ZERO ∷ ZERO ∷ ZERO ∷ ZERO ∷ ZERO ∷
-    ZERO ∷ NAMC 2 2 ∷ LOAD ∷ EXIT ∷ []) ∷
+    segment 2 (MPCW 2 3 ∷ times 58 (ZERO ∷ []) ++ NAMC 2 2 ∷ LOAD ∷ EXIT ∷ []) ∷
     segment 3 (EXIT ∷ []) ∷ []
 
 -- an array that is declared into the parameters of a call
@@ -383,6 +341,14 @@ outer_of_level_3 =
 abbrev pub names_itself : List Segment
 names_itself =
     segment 2 (MPCW 1 2 ∷ EXIT ∷ []) ∷ []
+
+-- segments from a level on, each of which enters the next one, and the last one prints its level
+abbrev pub calls : ℕ → ℕ → List Segment
+calls zero level = segment level (MKST ∷ NAMC 0 9 ∷ LT8 level ∷ ENTR ∷ EXIT ∷ []) ∷ []
+calls (suc more) level = segment level (MPCW level (level + 1) ∷ MKST ∷ NAMC level 2 ∷ ENTR ∷ EXIT ∷ []) ∷ calls more (level + 1)
+
+abbrev pub thirty_levels : List Segment
+thirty_levels = calls 29 2
 
 -- a branch into a literal
 abbrev pub into_a_literal : List Segment

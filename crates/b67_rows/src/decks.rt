@@ -2,6 +2,7 @@
 
 ghost use Rattle.std.specs.Prelude.{◌≡◌, [], ◌∷◌, None, Ok, Some, codes, negsuc, pos};
 ghost use Rattle.b67_rows.specs.Cards.{refused};
+ghost use Rattle.b67_rows.specs.Texts.{small_job, sum_deck, text_of, times};
 ghost use Rattle.b67_text.specs.declared.deck.Body.TheVariants.{Bytes, Cards};
 ghost use Rattle.b67_text.specs.Deck.{deck_of};
 
@@ -12,7 +13,7 @@ pub fn no_bytes_are_a_deck()
 
 /// A job with the bytes of its codefile.
 pub fn job_of_hexadecimal_cards_is_read()
-    ensures { deck_of (codes "?JOB SUM\n?HEX\n423637434f44453100010000020002\n0003ae4009b202b200030380aba3ffff\n?END\n") ≡ Ok (record { stack = 512; quantum = 1000; halt = None; switches = []; jobs = record { name = codes "SUM"; card = 1; limit = 1000000; body_card = 2; program = Bytes (0x42 ∷ 0x36 ∷ 0x37 ∷ 0x43 ∷ 0x4f ∷ 0x44 ∷ 0x45 ∷ 0x31 ∷ 0x0 ∷ 0x1 ∷ 0x0 ∷ 0x0 ∷ 0x2 ∷ 0x0 ∷ 0x2 ∷ 0x0 ∷ 0x3 ∷ 0xae ∷ 0x40 ∷ 0x9 ∷ 0xb2 ∷ 0x2 ∷ 0xb2 ∷ 0x0 ∷ 0x3 ∷ 0x3 ∷ 0x80 ∷ 0xab ∷ 0xa3 ∷ 0xff ∷ 0xff ∷ []); numbers = [] } ∷ [] }) }
+    ensures { deck_of (text_of sum_deck) ≡ Ok (record { stack = 512; quantum = 1000; halt = None; switches = []; jobs = record { name = codes "SUM"; card = 1; limit = 1000000; body_card = 2; program = Bytes (0x42 ∷ 0x36 ∷ 0x37 ∷ 0x43 ∷ 0x4f ∷ 0x44 ∷ 0x45 ∷ 0x31 ∷ 0x0 ∷ 0x1 ∷ 0x0 ∷ 0x0 ∷ 0x2 ∷ 0x0 ∷ 0x2 ∷ 0x0 ∷ 0x3 ∷ 0xae ∷ 0x40 ∷ 0x9 ∷ 0xb2 ∷ 0x2 ∷ 0xb2 ∷ 0x0 ∷ 0x3 ∷ 0x3 ∷ 0x80 ∷ 0xab ∷ 0xa3 ∷ 0xff ∷ 0xff ∷ []); numbers = [] } ∷ [] }) }
 {}
 
 /// Each parameter at its edge, and numbers of a job.
@@ -76,7 +77,7 @@ pub fn repeated_cards_are_refused()
 
 /// Reason 9.
 pub fn job_9_is_refused()
-    ensures job_9 { deck_of (codes "?JOB A\n?HEX\n00\n?END\n?JOB A\n?HEX\n00\n?END\n?JOB A\n?HEX\n00\n?END\n?JOB A\n?HEX\n00\n?END\n?JOB A\n?HEX\n00\n?END\n?JOB A\n?HEX\n00\n?END\n?JOB A\n?HEX\n00\n?END\n?JOB A\n?HEX\n00\n?END\n?JOB A\n?HEX\n00\n?END\n") ≡ refused 33 9 }
+    ensures nine { deck_of (text_of (times 9 small_job)) ≡ refused 33 9 }
 {}
 
 /// Reason 10.

@@ -1,0 +1,11 @@
+pub mod Steps
+pub mod Entries
+pub mod Returns
+pub mod Cells
+pub mod Stores
+pub mod Bounds
+pub mod Cuts
+pub mod Calls
+pub mod Children
+pub mod Rows
+pub mod Kept
