@@ -4,4 +4,5 @@ pub mod Pictures
 pub mod Rows
 pub mod Sessions
 pub mod Steps
+pub mod Displays
 pub mod Witness
