@@ -75,15 +75,15 @@ pub tasks_known : (n : ℕ) (t t' : Task) → map known_of t'.frames ≡ map kno
 tasks_known n t t' e [] k = refl
 tasks_known n t t' e (y ∷ ys) k = ⊎_elim
     (λ (q : (y.number == n) ≡ true).
-      let same : y ≡ t = same_Some y t (rw q at k) in
-      rw q (map-append known_of t'.frames (flat_map (λ (u : Task). u.frames) ys)
-        ∙ ap (λ (ks : List Known). ks ++ map known_of (flat_map (λ (u : Task). u.frames) ys)) (e ∙ ap (λ (u : Task). map known_of u.frames) (sym same))
-        ∙ sym (map-append known_of y.frames (flat_map (λ (u : Task). u.frames) ys))))
+    let same : y ≡ t = same_Some y t (rw q at k) in
+    rw q (map-append known_of t'.frames (flat_map (λ (u : Task). u.frames) ys)
+    ∙ ap (λ (ks : List Known). ks ++ map known_of (flat_map (λ (u : Task). u.frames) ys)) (e ∙ ap (λ (u : Task). map known_of u.frames) (sym same))
+    ∙ sym (map-append known_of y.frames (flat_map (λ (u : Task). u.frames) ys))))
     (λ (q : (y.number == n) ≡ false).
-      let at : keyed (λ (u : Task). u.number) n ys ≡ Some t = rw q at k in
-      rw q (map-append known_of y.frames (flat_map (λ (u : Task). u.frames) (change_keyed (λ (u : Task). u.number) n (λ u. t') ys))
-        ∙ ap (λ (ks : List Known). map known_of y.frames ++ ks) (tasks_known n t t' e ys at)
-        ∙ sym (map-append known_of y.frames (flat_map (λ (u : Task). u.frames) ys))))
+    let at : keyed (λ (u : Task). u.number) n ys ≡ Some t = rw q at k in
+    rw q (map-append known_of y.frames (flat_map (λ (u : Task). u.frames) (change_keyed (λ (u : Task). u.number) n (λ u. t') ys))
+    ∙ ap (λ (ks : List Known). map known_of y.frames ++ ks) (tasks_known n t t' e ys at)
+    ∙ sym (map-append known_of y.frames (flat_map (λ (u : Task). u.frames) ys))))
     (cases_Bool (y.number == n))
 
 -- the display of the task that changed
@@ -96,11 +96,11 @@ Shows-same display plan m c t t' there tasks own places shown n up =
     let h : Here = record { setting = m.setting; job = m.course.job; task = t; at = t.place } in
     let h' : Here = record { setting = m.setting; job = c.job; task = t'; at = t'.place } in
     let in_tasks : map known_of (flat_map (λ (u : Task). u.frames) c.job.tasks) ≡ map known_of (flat_map (λ (u : Task). u.frames) m.course.job.tasks) =
-      ap (λ (ts : List Task). map known_of (flat_map (λ (u : Task). u.frames) ts)) tasks ∙ tasks_known t.number t t' own m.course.job.tasks there in
+    ap (λ (ts : List Task). map known_of (flat_map (λ (u : Task). u.frames) ts)) tasks ∙ tasks_known t.number t t' own m.course.job.tasks there in
     let frames : map known_of (all_frames h') ≡ map known_of (all_frames h) =
-      map-append known_of (flat_map (λ (u : Task). u.frames) c.job.tasks) (m.setting.dictionary ∷ State.mcp ∷ [])
-      ∙ ap (λ (ks : List Known). ks ++ map known_of (m.setting.dictionary ∷ State.mcp ∷ [])) in_tasks
-      ∙ sym (map-append known_of (flat_map (λ (u : Task). u.frames) m.course.job.tasks) (m.setting.dictionary ∷ State.mcp ∷ [])) in
+    map-append known_of (flat_map (λ (u : Task). u.frames) c.job.tasks) (m.setting.dictionary ∷ State.mcp ∷ [])
+    ∙ ap (λ (ks : List Known). ks ++ map known_of (m.setting.dictionary ∷ State.mcp ∷ [])) in_tasks
+    ∙ sym (map-append known_of (flat_map (λ (u : Task). u.frames) m.course.job.tasks) (m.setting.dictionary ∷ State.mcp ∷ [])) in
     let level : level_of_frame (running t'.frames) ≡ level_of_frame (running t.frames) = ap (λ (k : Known). level_of_standing k.1) (same_running t'.frames t.frames own) in
     let id : (frame_at h' n).identity ≡ (frame_at h n).identity = ap (λ (k : Known). k.0) (same_frame_at h h' frames n own) in
     shown n (omega (arith, up, level))

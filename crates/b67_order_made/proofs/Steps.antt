@@ -204,10 +204,13 @@ module _ (W : Word → Type 0) (M : ℕ → Standing → Type 0) (numbers : (bit
   stored_made job n offset bits all t h =
       let r = has_map_back (λ (u : Task). record u { frames = change_keyed (λ f. f.identity) n (with_cell_of offset (Operand bits)) u.frames }) job.tasks t h in
       subst (λ (u : Task). AllMade u.frames) r.is (λ f k. elim (has_changed (λ (x : Frame). x.identity) n (with_cell_of offset (Operand bits)) r.item.frames f k) [
-        | inl c ↦ subst Made c.2 (λ w j. elim (has_set (reverse c.0.cells) (offset - 2) (Operand bits) w (has_reverse_back (slice_set (reverse c.0.cells) (offset - 2) (Operand bits)) w j)) [
+        | inl c ↦ subst Made c.2 (
+          λ w j. elim (has_set (reverse c.0.cells) (offset - 2) (Operand bits) w (has_reverse_back (slice_set (reverse c.0.cells) (offset - 2) (Operand bits)) w j)) [
             | inl e ↦ subst W e (numbers bits)
             | inr m ↦ (all r.item r.among c.0 c.1).0 w (has_reverse_back c.0.cells w m)
-          ], (all r.item r.among c.0 c.1).1)
+          ],
+          (all r.item r.among c.0 c.1).1,
+        )
         | inr m ↦ all r.item r.among f m
       ])
 

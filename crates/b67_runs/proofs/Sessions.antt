@@ -85,8 +85,8 @@ next_good P s after o keeps e = by_choice (choice s) refl e
         let found : keyed number_of c.who.job s.jobs ≡ Some m = subst (λ n. keyed number_of n s.jobs ≡ Some m) k.who.named (keyed_numbered 1 s.jobs m o.numbered k.who.among) in
         let j = all_in (λ (x : Member). JobInOrder (P x.setting) x.setting x.course) s.jobs m o.jobs k.who.among in
         let task : keyed (λ t. t.number) c.who.task m.course.job.tasks ≡ Some k.who.task =
-            subst (λ n. keyed (λ t. t.number) n m.course.job.tasks ≡ Some k.who.task) k.who.numbered
-            (keyed_falls (λ (t : Task). t.number) m.course.job.next_task m.course.job.tasks k.who.task j.tasks.numbers k.who.lives) in
+        subst (λ n. keyed (λ t. t.number) n m.course.job.tasks ≡ Some k.who.task) k.who.numbered
+        (keyed_falls (λ (t : Task). t.number) m.course.job.next_task m.course.job.tasks k.who.task j.tasks.numbers k.who.lives) in
         let made = step_of m.setting m.course c.who.task in
         let good = step_made P m.setting m.course c.who.task k.who.task (keeps m k.who.among) j task k.who.numbered k.who.ready in
         let moment : Moment = record { session = with_moment s c m made; lines = of_job c.who.job made.lines } in
