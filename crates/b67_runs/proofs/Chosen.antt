@@ -1,6 +1,6 @@
 -- The chosen task is a ready task of its job.
-use Rattle.std.proofs.Common.{◌≡◌, ◌≢◌, ℕ, ◌+◌, ◌≤◌, Bool, true, false, not, cond, eqb, ◌&&◌, List, [], ◌∷◌, ◌++◌, map, filter, flat_map, reverse, Option, Some, None, refl, sym, ap, ◌∙◌, subst, inl, inr, ◌⊎◌, arith}
-use Rattle.std.specs.List.{AllByRecursion, find, list_any}
+use Rattle.std.proofs.Common.{◌≡◌, ℕ, ◌+◌, ◌≤◌, Bool, true, false, not, eqb, ◌&&◌, List, [], ◌∷◌, ◌++◌, filter, flat_map, reverse, Option, Some, None, refl, sym, ap, ◌∙◌, subst, inl, inr, ◌⊎◌, arith}
+use Rattle.std.specs.List.{find, list_any}
 use Rattle.std.proofs.lemmas.Bool.{cases_Bool, true≢false, eqb-true}
 use Rattle.std.proofs.lemmas.Bool.Decides.{eqb_tells}
 use Rattle.b67_model.specs.Keyed.{keyed}
@@ -126,7 +126,7 @@ keyed_numbered k [] m n h = absurd h
 keyed_numbered k (x ∷ jobs) m n h = elim h [
   | inl e ↦ elim (eqb_tells (number_of x) (number_of m)) [ inl t ↦ rw t.0 (ap Some e) | inr t ↦ absurd (t.1 (ap number_of e)) ]
   | inr r ↦ elim (eqb_tells (number_of x) (number_of m)) [
-      | inl t ↦ absurd (omega (arith, numbered_low (k + 1) jobs m n.1 r, t.1, n.0))
-      | inr t ↦ rw t.0 (keyed_numbered (k + 1) jobs m n.1 r)
-    ]
+    | inl t ↦ absurd (omega (arith, numbered_low (k + 1) jobs m n.1 r, t.1, n.0))
+    | inr t ↦ rw t.0 (keyed_numbered (k + 1) jobs m n.1 r)
+  ]
 ]

@@ -1,22 +1,22 @@
 -- A step of a session keeps it in order, and so does a run.
-use Rattle.std.proofs.Common.{◌≡◌, ℕ, zero, suc, ◌+◌, ◌-◌, ◌≤◌, max, List, [], ◌∷◌, map, length, Option, Some, None, refl, sym, ap, ◌∙◌, subst, inl, inr, ◌⊎◌, arith}
+use Rattle.std.proofs.Common.{◌≡◌, ℕ, zero, suc, ◌+◌, ◌-◌, ◌≤◌, max, List, [], ◌∷◌, length, Option, Some, None, refl, sym, subst, inl, inr, ◌⊎◌, arith}
 use Rattle.std.specs.List.{AllByRecursion, sum_by}
 use Rattle.std.proofs.lemmas.Bool.Decides.{eqb_tells}
 use Rattle.b67_model.specs.Keyed.{keyed, change_keyed}
-use Rattle.b67_model.specs.Lists.{Has, total}
+use Rattle.b67_model.specs.Lists.{Has}
 use Rattle.b67_model.specs.State.{Task, Setting, Course, Member}
 use Rattle.b67_model.specs.Alone.{JobMoment, step_of}
-use Rattle.b67_model.specs.Schedule.{Switch, Session, Choice, choice}
+use Rattle.b67_model.specs.Schedule.{Session, Choice, choice}
 use Rattle.b67_model.specs.Run.{Moment, number_of, of_job, with_moment, moment_by, moment_for, next, after_from, after}
 use Rattle.b67_model.specs.InOrder.{Starts, IsSegment, IsStart, JobInOrder, SessionInOrder, IsInOrder}
-use Rattle.b67_opening.specs.Opening.{Opening, OpeningWithin, DeckWithin, opened_from, opening, OpensInOrder}
+use Rattle.b67_opening.specs.Opening.{Opening, OpeningWithin, opened_from, opening}
 use Rattle.b67_opening.proofs.Opens.{opens_in_order}
-use Rattle.b67_order.proofs.Members.{all_in, all_from, keyed_has, keyed_falls, total_change, total_has, length_change}
+use Rattle.b67_order.proofs.Members.{all_in, keyed_has, keyed_falls, total_change, total_has, length_change}
 use Rattle.b67_order_steps.proofs.Settles.{steps_keep_order, steps_keep_order_but_places}
 use Rattle.b67_order_steps.proofs.Segments.{rows_keep_order_but_places}
 use Rattle.b67_order_steps.proofs.Places.{rows_keep_order}
 use Rattle.b67_runs.specs.Runs.{RunsAdmitted, SessionsStayInOrder, SessionsStayInOrderButPlaces, RunsStayInOrder}
-use Rattle.b67_runs.proofs.Chosen.{IsChosen, chosen, keyed_numbered}
+use Rattle.b67_runs.proofs.Chosen.{chosen, keyed_numbered}
 use Rattle.b67_runs.proofs.Totals.{sum_total, change_is, all_change, numbered_change, others_fifteen, peak_low_of, peak_high_of}
 use Rattle.b67_runs.proofs.Moments.{Made, Keeping, step_made}
 
@@ -85,8 +85,8 @@ next_good P s after o keeps e = by_choice (choice s) refl e
         let found : keyed number_of c.who.job s.jobs ≡ Some m = subst (λ n. keyed number_of n s.jobs ≡ Some m) k.who.named (keyed_numbered 1 s.jobs m o.numbered k.who.among) in
         let j = all_in (λ (x : Member). JobInOrder (P x.setting) x.setting x.course) s.jobs m o.jobs k.who.among in
         let task : keyed (λ t. t.number) c.who.task m.course.job.tasks ≡ Some k.who.task =
-            subst (λ n. keyed (λ t. t.number) n m.course.job.tasks ≡ Some k.who.task) k.who.numbered
-            (keyed_falls (λ (t : Task). t.number) m.course.job.next_task m.course.job.tasks k.who.task j.tasks.numbers k.who.lives) in
+        subst (λ n. keyed (λ t. t.number) n m.course.job.tasks ≡ Some k.who.task) k.who.numbered
+        (keyed_falls (λ (t : Task). t.number) m.course.job.next_task m.course.job.tasks k.who.task j.tasks.numbers k.who.lives) in
         let made = step_of m.setting m.course c.who.task in
         let good = step_made P m.setting m.course c.who.task k.who.task (keeps m k.who.among) j task k.who.numbered k.who.ready in
         let moment : Moment = record { session = with_moment s c m made; lines = of_job c.who.job made.lines } in
