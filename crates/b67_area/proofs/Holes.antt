@@ -4,7 +4,7 @@ use Rattle.std.specs.List.{slice_get}
 use Rattle.std.proofs.lemmas.Bool.{cond-true, cond-false, eq-eqb, ne_eqb, eqb-true, cases_lt, cases_Bool, le-leb, lt-leb}
 use Rattle.std.proofs.Math.ListN.{length-set}
 use Rattle.b67_word.specs.Tagged.{Tagged}
-use Rattle.b67_area.specs.declared.Info.{Info}
+use Rattle.b67_area.specs.declared.kinds.Info.{Info}
 use Rattle.b67_area.specs.Spans.{Span, Area, Hole, wide, end, first_hole, InHole, left, fill, spot}
 use Rattle.b67_area.specs.Words.{link_word, hole_high, head_word, tail_word}
 use Rattle.b67_area.specs.Directory.{IsInfo, NoHole, AreSpans, Laid, IsDirectory}

@@ -4,9 +4,9 @@ use Rattle.std.proofs.lemmas.Bool.{cond-true, cond-false, eq-eqb, ne_eqb, cases_
 use Rattle.std.proofs.lemmas.Option.{same_Some, slice_get_within}
 use Rattle.std.proofs.Math.ListN.{length-set}
 use Rattle.b67_word.specs.Tagged.{Tagged, word, bits_at}
-use Rattle.b67_area.specs.declared.Info.{Info}
-use Rattle.b67_area.specs.declared.Kind.{Kind}
-use Rattle.b67_area.specs.declared.Kind.TheVariants.{Array, Row, Code}
+use Rattle.b67_area.specs.declared.kinds.Info.{Info}
+use Rattle.b67_area.specs.declared.kinds.Kind.{Kind}
+use Rattle.b67_area.specs.declared.kinds.Kind.TheVariants.{Array, Row, Code}
 use Rattle.b67_area.specs.Spans.{Span, Area, Hole, wide, end, first_hole, first_area, area_at, area_after, keeping}
 use Rattle.b67_area.specs.Words.{link_word, hole_high, kind_number, head_word, tail_word}
 use Rattle.b67_area.specs.Directory.{IsInfo, NoHole, AreSpans, Laid, IsDirectory}

@@ -4,8 +4,8 @@ use Rattle.std.specs.List.{slice_get}
 use Rattle.std.proofs.lemmas.Bool.{cond-true, le-leb, cases_lt}
 use Rattle.std.proofs.Math.ListN.{length-set}
 use Rattle.b67_word.specs.Tagged.{Tagged, word}
-use Rattle.b67_area.specs.declared.Info.{Info}
-use Rattle.b67_area.specs.declared.Fit.{Fit}
+use Rattle.b67_area.specs.declared.kinds.Info.{Info}
+use Rattle.b67_area.specs.declared.search.Fit.{Fit}
 use Rattle.b67_area.specs.Spans.{Span, Area, Hole, wide, end, first_hole, InHole, left, fill, spot}
 use Rattle.b67_area.specs.Words.{link_word, hole_high, head_word, tail_word}
 use Rattle.b67_area.specs.Directory.{IsInfo, NoHole, AreSpans, Laid, IsDirectory, OnlyHoles}

@@ -1,5 +1,5 @@
 -- The words of descriptors.
-use Rattle.std.specs.Prelude.{ℕ, Bool, true, false, ◌≡◌, ◌+◌, ◌*◌, ◌^◌, ◌<◌}
+use Rattle.std.specs.Prelude.{true, ◌≡◌, ◌+◌, ◌*◌, ◌^◌, ◌<◌}
 use Rattle.b67_word.specs.Tagged.{Tagged, word}
 use Rattle.b67_ctl.specs.Layout.{bit}
 use Rattle.b67_ctl.specs.declared.descriptors.DataDesc.{DataDesc}

@@ -6,7 +6,7 @@ use b67_word::Place;
 /// the last core word of the running stack. `slot`: its number. `level`, `segment`, `place`: the running level, the
 /// running segment's displacement in the dictionary, and the next operator's place in it. `dict` and `entries`: the
 /// core address of the job's segment dictionary and the number of its entries. `stacks`: the core address of the first
-/// slot's stack, and `stack_size` the words of each. `peak`: how many slots the job has used at once so far.
+/// slot's stack, and `stack_size` the words of each. `peak`: the greatest number of tasks alive at one moment so far.
 #[derive(Clone, Copy, Debug, PartialEq, Eq)]
 pub struct Regs {
     pub s: u32,

@@ -1,5 +1,5 @@
 -- The refusals of a program stand in order: by segment, then by place, then by rule.
-use Rattle.std.proofs.Common.{◌≡◌, ◌⊎◌, ℕ, zero, suc, ◌+◌, ◌-◌, ◌*◌, ◌<◌, ◌≤◌, lit<, Bool, true, false, cond, eqb, List, [], ◌∷◌, ◌++◌, length, map, filter, Option, Some, Result, Ok, Err, refl, sym, ap, subst, ◌∙◌, arith, inl, inr}
+use Rattle.std.proofs.Common.{◌≡◌, ◌⊎◌, ℕ, zero, suc, ◌+◌, ◌*◌, ◌<◌, ◌≤◌, lit<, Bool, true, false, cond, eqb, List, [], ◌∷◌, ◌++◌, length, map, filter, Some, Ok, Err, refl, sym, subst, ◌∙◌, arith, inl, inr}
 use Rattle.std.specs.Prelude.{slice_get}
 use Rattle.std.specs.List.{AllByRecursion}
 use Rattle.std.proofs.Math.Nat.{le_refl}
@@ -9,10 +9,9 @@ use Rattle.b67_model.specs.declared.operators.Undecodable.TheVariants.{BadPlace,
 use Rattle.b67_model.specs.Operators.{Reading, count_at, operator_at}
 use Rattle.b67_model.specs.State.{Segment}
 use Rattle.b67_model.specs.Program.{Program}
-use Rattle.b67_model.specs.Loader.{Entry, At, Break, entries_from, origin, listing, place_of_entry, same_place, Listed, Refusal, broken_at, broken_in, refused, refusals_of, refusals_from, refusals}
+use Rattle.b67_model.specs.Loader.{Entry, At, Break, entries_from, origin, listing, place_of_entry, same_place, Listed, Refusal, refused, refusals_of, refusals_from, refusals}
 use Rattle.b67_load.specs.declared.fault.LoadFault.{LoadFault}
 use Rattle.b67_load.specs.declared.fault.LoadFault.TheVariants.{Refused, Memory}
-use Rattle.b67_load.specs.Listing.{IsInside}
 use Rattle.b67_load.specs.Broken.{rules_at, Finds}
 use Rattle.b67_load.specs.Order.{StandsBefore, ComesBefore, IsLeast, TellsLeast}
 use Rattle.b67_load.proofs.Operator.{operator_at-is}
@@ -115,7 +114,7 @@ before-count : (a b : Place) → a.syllable < 6 → b.syllable < 6 → count_at 
 before-count a b sa sb lt = elim (cases_lt a.word b.word) [
   | inl less ↦ inl less
   | inr le ↦ inr (omega arith, omega arith)
-  ]
+]
 
 of-from : (number : ℕ) (e : Entry) → IsSound e → (r : Refusal) → IsOf number (place_of_entry e) r → IsFrom number (count_at (place_of_entry e)) r
 of-from number e sound r h = record { segment = h.in_segment; count = rw h.at_place (le_refl (count_at (place_of_entry e))); syllable = rw h.at_place sound }
@@ -141,8 +140,8 @@ refusals_of-in_order : (l : Listed) (n : ℕ) (entries : List Entry) → Climb n
 refusals_of-in_order l n [] h sound = tt
 refusals_of-in_order l n (e ∷ more) h sound =
     in_order-append (IsOf l.number (place_of_entry e)) (IsFrom l.number (suc (count_at (place_of_entry e)))) (of-before l.number e sound.0) _ _
-        (refused-of l.number (place_of_entry e) (rules_at l e)) (refusals_of-from l (suc (count_at (place_of_entry e))) more h.1 sound.1)
-        (refused-in_order l.number (place_of_entry e) (rules_at l e) (rules_at-rising l e)) (refusals_of-in_order l (suc (count_at (place_of_entry e))) more h.1 sound.1)
+    (refused-of l.number (place_of_entry e) (rules_at l e)) (refusals_of-from l (suc (count_at (place_of_entry e))) more h.1 sound.1)
+    (refused-in_order l.number (place_of_entry e) (rules_at l e) (rules_at-rising l e)) (refusals_of-in_order l (suc (count_at (place_of_entry e))) more h.1 sound.1)
 
 -- ---- the segments of a program
 
@@ -157,16 +156,16 @@ refusals_from-number p n [] = tt
 refusals_from-number p n (s ∷ more) =
     let l : Listed = record { program = p; number = n; segment = s; entries = listing s.code } in
     all-append (λ r. n ≤ r.segment) _ _
-        (all_weaker (IsFrom n 0) (λ r. n ≤ r.segment) (λ r h. omega (arith, h.segment)) _ (refusals_of-from l 0 (listing s.code) (listing-climb s.code) (listing-sound s.code)))
-        (all_weaker (λ r. n + 1 ≤ r.segment) (λ r. n ≤ r.segment) (λ r h. omega (arith, h)) _ (refusals_from-number p (n + 1) more))
+    (all_weaker (IsFrom n 0) (λ r. n ≤ r.segment) (λ r h. omega (arith, h.segment)) _ (refusals_of-from l 0 (listing s.code) (listing-climb s.code) (listing-sound s.code)))
+    (all_weaker (λ r. n + 1 ≤ r.segment) (λ r. n ≤ r.segment) (λ r h. omega (arith, h)) _ (refusals_from-number p (n + 1) more))
 
 refusals_from-in_order : (p : Program) (n : ℕ) (segments : List Segment) → InOrder (refusals_from p n segments)
 refusals_from-in_order p n [] = tt
 refusals_from-in_order p n (s ∷ more) =
     let l : Listed = record { program = p; number = n; segment = s; entries = listing s.code } in
     in_order-append (IsFrom n 0) (λ r. n + 1 ≤ r.segment) (λ a b h k. inl (omega (arith, h.segment, k))) _ _
-        (refusals_of-from l 0 (listing s.code) (listing-climb s.code) (listing-sound s.code)) (refusals_from-number p (n + 1) more)
-        (refusals_of-in_order l 0 (listing s.code) (listing-climb s.code) (listing-sound s.code)) (refusals_from-in_order p (n + 1) more)
+    (refusals_of-from l 0 (listing s.code) (listing-climb s.code) (listing-sound s.code)) (refusals_from-number p (n + 1) more)
+    (refusals_of-in_order l 0 (listing s.code) (listing-climb s.code) (listing-sound s.code)) (refusals_from-in_order p (n + 1) more)
 
 refusals-in_order : (p : Program) → InOrder (refusals p)
 refusals-in_order p = at_test (eqb (length p.segments) 0)

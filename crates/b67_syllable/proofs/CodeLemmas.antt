@@ -1,7 +1,6 @@
 -- Syllables of code, and the operator at a place.
-use Rattle.std.proofs.Common.{◌≡◌, ℕ, zero, suc, ◌+◌, ◌-◌, ◌*◌, ◌/◌, ◌%◌, ◌^◌, ◌≤◌, ◌<◌, true, false, refl, sym, ◌∙◌, ap, arith, Option, Some, None, List, map, get_or, take, length, Ok, Err}
+use Rattle.std.proofs.Common.{◌≡◌, ℕ, zero, suc, ◌+◌, ◌-◌, ◌*◌, ◌/◌, ◌%◌, ◌^◌, ◌≤◌, ◌<◌, true, false, refl, sym, ◌∙◌, ap, arith, Some, List, get_or, length, Ok, Err}
 use Rattle.std.specs.Prelude.{nat_lt, nat_le}
-use Rattle.std.specs.Option.{option_map}
 use Rattle.std.proofs.lemmas.Bool.Decides.{nat_tests}
 use Rattle.std.proofs.lemmas.List.{get_or-map, length-map}
 use Rattle.std.proofs.lemmas.Nat.{pow-add}
@@ -10,7 +9,6 @@ use Rattle.b67_word.specs.declared.couples.Place.{Place}
 use Rattle.b67_word.specs.Tagged.{Tagged, bits_at, contents}
 use Rattle.b67_model.specs.Operators.{Form, Alone, OneMore, TwoMore, Literal, form_of, syllable, count_at, place_at, ends_at, reads, operator_at, Reading}
 use Rattle.b67_model.specs.declared.operators.Op.{Op}
-use Rattle.b67_model.specs.declared.operators.Undecodable.{Undecodable}
 use Rattle.b67_model.specs.declared.operators.Undecodable.TheVariants.{PastEnd}
 use Rattle.b67_syllable.specs.declared.kinds.Kind.{Kind}
 use Rattle.b67_syllable.specs.Kinds.{form, end_of, operator_of}

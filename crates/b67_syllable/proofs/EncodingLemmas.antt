@@ -1,7 +1,6 @@
 -- An operator is read where its syllables and its literal stand.
-use Rattle.std.proofs.Common.{◌≡◌, ℕ, zero, suc, ◌+◌, ◌-◌, ◌*◌, ◌/◌, ◌%◌, ◌^◌, ◌≤◌, ◌<◌, true, refl, sym, ◌∙◌, ap, subst, arith, Option, Some, None, List, [], ◌∷◌, length, get_or, Ok, Err}
+use Rattle.std.proofs.Common.{◌≡◌, ℕ, ◌+◌, ◌-◌, ◌*◌, ◌/◌, ◌%◌, ◌^◌, ◌≤◌, ◌<◌, true, refl, ◌∙◌, ap, arith, Option, Some, None, List, [], ◌∷◌, length, Ok}
 use Rattle.std.specs.Prelude.{nat_lt, nat_le, ◌&&◌, IsTrue, slice_get}
-use Rattle.std.specs.Int.{w16, to_be_bytes}
 use Rattle.std.proofs.lemmas.Bool.Decides.{nat_tests}
 use Rattle.std.proofs.lemmas.Option.{slice_get_within, get_or_from_slice_get}
 use Rattle.b67_word.specs.declared.couples.Place.{Place}
@@ -9,8 +8,8 @@ use Rattle.b67_model.specs.declared.operators.Op.{Op}
 use Rattle.b67_model.specs.declared.operators.Op.TheVariants.{Valc, Namc, Lt8, Lt16, Lt48, Mpcw, Brun, Brtr, Brfl, Bset, Brst, Isol, Insr, Plain}
 use Rattle.b67_model.specs.declared.operators.Code.{Code}
 use Rattle.b67_model.specs.declared.operators.Code.TheVariants.{Add}
-use Rattle.b67_model.specs.Operators.{Form, Alone, OneMore, TwoMore, Literal, form_of, syllable, count_at, place_at, ends_at, reads, operator_at, Reading, branch}
-use Rattle.b67_model.specs.Encoding.{syllable_of, syllables, literal, with_16, target_bits, has_bits, IsLaid, ReadsBack, after_literal}
+use Rattle.b67_model.specs.Operators.{Form, Alone, OneMore, TwoMore, Literal, form_of, syllable, count_at, place_at, ends_at, reads, operator_at, branch}
+use Rattle.b67_model.specs.Encoding.{syllable_of, syllables, literal, with_16, target_bits, has_bits, IsLaid, ReadsBack}
 use Rattle.b67_syllable.proofs.KindLemmas.{value_kind, name_kind}
 
 -- the first syllable is looked at

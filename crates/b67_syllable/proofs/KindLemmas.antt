@@ -1,5 +1,5 @@
 -- The table of kinds against the operators of the machine.
-use Rattle.std.proofs.Common.{◌≡◌, ℕ, ◌+◌, ◌-◌, ◌*◌, ◌≤◌, ◌<◌, ltb, true, false, refl, sym, ◌∙◌, ap, arith, Option, Some, None, List, map, get_or}
+use Rattle.std.proofs.Common.{◌≡◌, ℕ, ◌+◌, ◌-◌, ◌*◌, ◌≤◌, ◌<◌, true, false, refl, sym, ◌∙◌, ap, arith, Option, Some, None, List, map, get_or}
 use Rattle.std.specs.Prelude.{nat_lt, slice_get}
 use Rattle.std.specs.Option.{option_map}
 use Rattle.std.specs.List.{range_with_len}

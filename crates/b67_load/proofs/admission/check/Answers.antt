@@ -1,4 +1,4 @@
-use Rattle.std.proofs.Common.{◌≡◌, ◌+◌, length, sym, ap, ◌∙◌, refl, arith}
+use Rattle.std.proofs.Common.{◌+◌, length, sym, ap, refl, arith}
 use Rattle.std.proofs.lemmas.Result.{err_from_is_err_and}
 use Rattle.b67_load.proofs.FirstRefusal.{segments-begin, segments-go_on, segments-refuse, segments-done}
 use Rattle.b67_load.proofs.admission.check.Goals as goal

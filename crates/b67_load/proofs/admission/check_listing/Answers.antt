@@ -1,5 +1,4 @@
-use Rattle.std.proofs.Common.{◌≡◌, sym, ◌∙◌, refl}
-use Rattle.b67_load.specs.Broken.{listed}
+use Rattle.std.proofs.Common.{sym, refl}
 use Rattle.b67_load.proofs.FirstRefusal.{goes_on, refuses, couple-fits, is_done}
 use Rattle.b67_load.proofs.admission.check_listing.Goals as goal
 

@@ -1,0 +1,46 @@
+//! The program: it reads a deck from standard input and prints to standard output.
+#![tactic(auto)]
+
+use b67_io::{StdSink, StdSource};
+use b67_job::{Outcome, refuse_memory, run};
+use std::alloc::Global;
+use std::io;
+use std::process::ExitCode;
+
+// The words without the program's own name. A word that isn't text makes them no command.
+fn words(rt: &HostRuntime) -> io::Result<Vec<String>> {
+    let alloc = rt.alloc();
+    let mut words = Vec::new(alloc);
+    match std::env::args(rt) {
+        Ok(args) => {
+            for word in args.skip(1) {
+                words.push(word)?;
+            }
+        }
+        Err(error) if error.kind() == io::ErrorKind::OutOfMemory => return Err(error),
+        Err(_) => {}
+    }
+    Ok(words)
+}
+
+fn run_words(rt: &HostRuntime, alloc: Global, owned: &[String]) -> Option<Outcome> {
+    let mut words = Vec::new(alloc);
+    for word in owned {
+        words.push(word.as_str()).ok()?;
+    }
+    let mut deck = StdSource::new(rt.stdin());
+    let mut printer = StdSink::new(rt.stdout());
+    Some(run(alloc, words.as_slice(), &mut deck, &mut printer))
+}
+
+fn main(rt: HostRuntime) -> ExitCode {
+    let outcome = match words(&rt) {
+        Ok(owned) => run_words(&rt, rt.alloc(), owned.as_slice()),
+        Err(_) => None,
+    };
+    let outcome = match outcome {
+        Some(outcome) => outcome,
+        None => refuse_memory(&mut StdSink::new(rt.stdout())),
+    };
+    ExitCode::from(outcome.status)
+}

@@ -1,0 +1,16 @@
+use Rattle.std.proofs.Common.{◌≡◌, ◌∙◌, ◌≤◌, ◌<◌, ◌+◌, sym, ap, refl, subst, arith, List, ℕ, length, inr, rules, true}
+use Rattle.std.specs.Prelude.{is_some}
+use Rattle.b67_card.specs.declared.reading.TheConstants.{LIMIT}
+use Rattle.b67_job.specs.Command.{command_of}
+use Rattle.b67_job.specs.Judgement.{judgement, refusal_text}
+use Rattle.b67_job.specs.Due.{AnswersTo, refusal_due}
+use Rattle.b67_job.proofs.Judged.{answered, answered_fault, answers_same}
+use Rattle.b67_job.proofs.top.answer.Goals as goal
+
+pub returns-in-Ok : goal.returns-in-Ok
+returns-in-Ok g c =
+    answered c.in-Ok.bytes c.answer_deck.result (search rules) c.in-Ok.ensures.answer.0
+    (answers_same (judgement c.as_slice.result.now) (judgement c.in-Ok.bytes) c.answer_deck.result (sym (ap judgement c.as_slice.ensures)) c.answer_deck.ensures)
+
+pub returns-in-Err : goal.returns-in-Err
+returns-in-Err g c = answered_fault c.in-Err.fault c.answer_fault.result (search rules) c.in-Err.ensures.answer c.answer_fault.ensures

@@ -1,0 +1,46 @@
+-- The words of a command.
+use Rattle.std.specs.Prelude.{ℕ, ◌==◌, ◌&&◌, not, Bool, false, List, [], ◌∷◌, map, codes, Option, Some, None, if◌then◌else◌}
+use Rattle.std.specs.Option.{option_map, option_and_then}
+use Rattle.std.specs.Str.{bytes_eq}
+use denote.Ref.{Bor}
+use Rattle.b67_text.specs.Command.{number_in}
+use Rattle.b67_job.specs.declared.command.CommandLine.{CommandLine}
+use Rattle.b67_job.specs.declared.command.CommandLine.TheVariants as lines
+
+-- what a run is asked for: its words of core, and the path of its backing
+pub record Request : Type 0 where
+  pub core : ℕ
+  pub path : List ℕ
+
+-- the texts that stand behind the two options
+pub record Options : Type 0 where
+  pub core : List ℕ
+  pub path : List ℕ
+
+-- both options, in either order
+abbrev pub options : List ℕ → List ℕ → List ℕ → List ℕ → Option Options
+options first a second b =
+    if bytes_eq first (codes "--core") && bytes_eq second (codes "--backing") then Some (record { core = a; path = b })
+    else (if bytes_eq first (codes "--backing") && bytes_eq second (codes "--core") then Some (record { core = b; path = a }) else None)
+
+-- it isn't empty and doesn't begin with a minus sign
+abbrev pub is_path : List ℕ → Bool
+is_path [] = false
+is_path (b ∷ more) = not (b == 45)
+
+abbrev pub requested : Options → Option Request
+requested o = if is_path o.path then option_map (λ n. record { core = n; path = o.path }) (number_in 256 1048575 o.core) else None
+
+-- what the words ask for, where they are `run` and both options
+abbrev pub request : List (Bor (List ℕ)) → Option Request
+request (run ∷ first ∷ a ∷ second ∷ b ∷ []) =
+    if bytes_eq run.now (codes "run") then option_and_then requested (options first.now a.now second.now b.now) else None
+request _ = None
+
+-- the command that the words are
+abbrev pub command_of : List (Bor (List ℕ)) → Option CommandLine
+command_of words = option_map (λ r. lines.Run r.core) (request words)
+
+-- the path that the words name
+abbrev pub backing_path : List (Bor (List ℕ)) → Option (List ℕ)
+backing_path words = option_map (λ r. r.path) (request words)

@@ -1,0 +1,68 @@
+-- What a run is due to answer and to print, by its cause.
+use Rattle.std.specs.Prelude.{ℕ, ◌≡◌, ◌<◌, ◌⊎◌, true, false, List, length, codes, Option, is_some}
+use denote.Ref.{Bor}
+use Rattle.b67_model.specs.State.{Member}
+use Rattle.b67_io.specs.Line.{ended}
+use Rattle.b67_io.specs.Told.{Gave, GaveAll}
+use Rattle.b67_io.specs.Causes.{Rose}
+use Rattle.b67_card.specs.declared.reading.TheConstants.{LIMIT}
+use Rattle.b67_card.specs.declared.reading.ReadFault.{ReadFault}
+use Rattle.b67_card.specs.declared.reading.ReadFault.TheVariants.{TooLong, SourceFault, Memory}
+use Rattle.b67_job.specs.Command.{command_of}
+use Rattle.b67_job.specs.Judgement.{Judgement, Refused, Runs, judgement, refusal_text}
+use Rattle.b67_job.specs.Session.{IsRun}
+use Rattle.b67_job.specs.Runs.{session_of}
+use Rattle.b67_job.specs.Ends.{Ends}
+
+abbrev pub usage_text : List ℕ
+usage_text = ended (codes "USAGE: b67 run --core N --backing PATH")
+
+abbrev pub reading_text : List ℕ
+reading_text = ended (codes "READING FAULT")
+
+abbrev pub memory_text : List ℕ
+memory_text = ended (codes "NO MEMORY")
+
+-- what a judgement asks for: the line of its refusal with status 2, or the whole text of the run with status 0. Memory
+-- may be refused.
+pub data IsAsked (j : Judgement) (status : ℕ) (text : List ℕ) : Type 0 where
+  refusal_asked : (card reason : ℕ) → j ≡ Refused card reason → status ≡ 2 → text ≡ refusal_text card reason → IsAsked j status text
+  run_asked : (jobs : List Member) → j ≡ Runs jobs → IsRun (session_of jobs) text → status ≡ 0 → IsAsked j status text
+  memory_asked : status ≡ 9 → text ≡ memory_text → IsAsked j status text
+
+-- a judgement is answered, unless the printer fails
+pub record AnswersTo {K : Type 0} (j : Judgement) (taken : K → Option (List ℕ)) (faults : K → ℕ) (old new : K) (answer : ℕ) : Type 0 where
+  pub status : ℕ
+  pub text : List ℕ
+  pub asked : IsAsked j status text
+  pub ends : Ends taken faults old new status text answer
+
+-- these bytes were read: all that there were, or more than a deck may have
+abbrev pub WasRead : {S : Type 0} → (S → Option (List ℕ)) → S → S → List ℕ → Type 0
+WasRead left deck deck' bytes = GaveAll left deck deck' bytes ⊎ (Gave left deck deck' bytes × (LIMIT < length bytes))
+
+-- the status and the text that are due, by their cause
+pub data IsDue {S : Type 0} (words : List (Bor (List ℕ))) (left : S → Option (List ℕ)) (faults : S → ℕ) (deck deck' : S) (status : ℕ) (text : List ℕ) : Type 0 where
+  usage_due : is_some (command_of words) ≡ false → deck' ≡ deck
+      → status ≡ 1 → text ≡ usage_text → IsDue words left faults deck deck' status text
+  refusal_due : (bytes : List ℕ) (card reason : ℕ) → is_some (command_of words) ≡ true → WasRead left deck deck' bytes → judgement bytes ≡ Refused card reason
+      → status ≡ 2 → text ≡ refusal_text card reason → IsDue words left faults deck deck' status text
+  run_due : (bytes : List ℕ) (jobs : List Member) → is_some (command_of words) ≡ true → GaveAll left deck deck' bytes → judgement bytes ≡ Runs jobs
+      → IsRun (session_of jobs) text → status ≡ 0 → IsDue words left faults deck deck' status text
+  reading_due : is_some (command_of words) ≡ true → Rose faults deck deck'
+      → status ≡ 7 → text ≡ reading_text → IsDue words left faults deck deck' status text
+  memory_due : is_some (command_of words) ≡ true → status ≡ 9 → text ≡ memory_text → IsDue words left faults deck deck' status text
+
+-- a run: what was due, and how it ended
+pub record Answered {S K : Type 0} (words : List (Bor (List ℕ))) (left : S → Option (List ℕ)) (source_faults : S → ℕ) (deck deck' : S)
+    (taken : K → Option (List ℕ)) (printer_faults : K → ℕ) (old new : K) (answer : ℕ) : Type 0 where
+  pub status : ℕ
+  pub text : List ℕ
+  pub due : IsDue words left source_faults deck deck' status text
+  pub ends : Ends taken printer_faults old new status text answer
+
+-- how the answer to a fault of reading ends
+abbrev pub FaultEnds : {K : Type 0} → ReadFault → (K → Option (List ℕ)) → (K → ℕ) → K → K → ℕ → Type 0
+FaultEnds (TooLong card) taken faults old new answer = Ends taken faults old new 2 (refusal_text card 14) answer
+FaultEnds SourceFault taken faults old new answer = Ends taken faults old new 7 reading_text answer
+FaultEnds Memory taken faults old new answer = Ends taken faults old new 9 memory_text answer

@@ -1,0 +1,12 @@
+pub mod Command
+pub mod Seen
+pub mod FirstForm
+pub mod Formed
+pub mod Stack
+pub mod Listed
+pub mod Ends
+pub mod Runs
+pub mod Judgement
+pub mod Due
+pub mod Frames
+pub mod Session

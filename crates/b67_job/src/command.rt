@@ -1,0 +1,103 @@
+//! The words of a command.
+
+ghost use Rattle.std.specs.Prelude.{◌≡◌};
+ghost use Rattle.std.specs.Option.{option_map};
+ghost use Rattle.b67_job.specs.Command.{options, is_path, requested, request, command_of, backing_path};
+ghost use Rattle.b67_job.specs.Seen.{seen_options, seen_request};
+
+use b67_card::number_in;
+
+/// A command.
+#[derive(Clone, Copy, Debug, PartialEq, Eq)]
+pub enum CommandLine {
+    /// Runs a deck over so many words of core.
+    Run { core: u32 },
+}
+
+// The texts behind the two options.
+#[derive(Clone, Copy)]
+pub struct Options<'a> {
+    core: &'a str,
+    path: &'a str,
+}
+
+// What a run is asked for.
+#[derive(Clone, Copy)]
+pub struct Request<'a> {
+    core: u32,
+    path: &'a str,
+}
+
+fn read_options<'a>(first: &str, a: &'a str, second: &str, b: &'a str) -> Option<Options<'a>>
+    ensures { option_map seen_options result ≡ options first.now a.now second.now b.now }
+{
+    if first == "--core" && second == "--backing" {
+        Some(Options { core: a, path: b })
+    } else if first == "--backing" && second == "--core" {
+        Some(Options { core: b, path: a })
+    } else {
+        None
+    }
+}
+
+fn is_path(word: &str) -> bool
+    ensures { result ≡ is_path word.now }
+{
+    match word.as_bytes() {
+        [] => false,
+        [first, ..] => *first != b'-',
+    }
+}
+
+fn check_options(options: Options<'_>) -> Option<Request<'_>>
+    ensures { option_map seen_request result ≡ requested (seen_options options.entry) }
+{
+    if !is_path(options.path) {
+        return None;
+    }
+    match number_in(options.core.as_bytes(), 256, 1_048_575) {
+        Some(core) => Some(Request {
+            core: core as u32,
+            path: options.path,
+        }),
+        None => None,
+    }
+}
+
+fn read_request<'a>(words: &[&'a str]) -> Option<Request<'a>>
+    ensures { option_map seen_request result ≡ request words.now }
+{
+    match words {
+        [run, first, a, second, b] => {
+            if *run != "run" {
+                return None;
+            }
+            match read_options(first, a, second, b) {
+                Some(options) => check_options(options),
+                None => None,
+            }
+        }
+        _ => None,
+    }
+}
+
+/// The command that the words are: `run --core N --backing PATH`, the two options in either order. N is 256 to
+/// 1,048,575 in decimal without sign or leading zero; PATH isn't empty and doesn't begin with `-`.
+pub fn command_of(words: &[&str]) -> Option<CommandLine>
+    ensures { result ≡ command_of words.now }
+{
+    match read_request(words) {
+        Some(request) => Some(CommandLine::Run { core: request.core }),
+        None => None,
+    }
+}
+
+/// The path that the words name, where they are a command with one.
+pub fn backing_path<'a>(words: &[&'a str]) -> Option<&'a str>
+    ensures { option_map (λ p. p.now) result ≡ backing_path words.now }
+{
+    match read_request(words) {
+        Some(request) => Some(request.path),
+        None => None,
+    }
+}

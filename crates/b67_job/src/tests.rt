@@ -1,0 +1,130 @@
+//! Decks as tables, with the answers that the rules give.
+
+use crate::{CommandLine, backing_path, command_of, refuse_memory, run};
+use b67_io::{Paper, Tape};
+use b67_word::{Bytes, Numbers};
+use std::alloc::{AllocError, Global};
+use std::test::Fail;
+
+const WORDS: [&str; 5] = ["run", "--core", "4096", "--backing", "b"];
+
+/// MKST / NAMC 0,9 / LT8 2 / LT8 3 / ADD / ENTR / EXIT.
+const SUM: &str =
+    "?JOB SUM\n?HEX\n423637434f44453100010000020002\n0003ae4009b202b200030380aba3ffff\n?END\n";
+
+const SUM_LINES: &str = "1.1 5\n1.1 ENDED\n";
+
+fn bytes_of(alloc: Global, text: &[u8]) -> Result<Bytes, AllocError> {
+    let mut bytes = Bytes::new(alloc);
+    bytes.extend(text)?;
+    Ok(bytes)
+}
+
+fn numbers_of(alloc: Global, numbers: &[i64]) -> Result<Numbers, AllocError> {
+    let mut all = Numbers::new(alloc);
+    for n in numbers {
+        all.push(*n)?;
+    }
+    Ok(all)
+}
+
+/// The status of a deck that is read in pieces of one size, and what is printed.
+fn answer(
+    alloc: Global,
+    words: &[&str],
+    deck: &[u8],
+    piece: usize,
+    bad_reads: &[i64],
+    bad_puts: &[i64],
+) -> Result<(u8, Vec<u8>), AllocError> {
+    let piece = piece.max(1);
+    let mut tape = Tape::new(bytes_of(alloc, deck)?, piece, numbers_of(alloc, bad_reads)?);
+    let mut paper = Paper::new(alloc, 1000, numbers_of(alloc, bad_puts)?)?;
+    let outcome = run(alloc, words, &mut tape, &mut paper);
+    Ok((outcome.status, Vec::from_slice(alloc, paper.bytes())?))
+}
+
+#[test]
+fn decks(rt: HostRuntime) -> Result<(), Fail> {
+    let table = [
+        (SUM, 0, SUM_LINES),
+        ("", 0, ""),
+        // ZERO / ADD.
+        (
+            "?JOB A\n?HEX\n423637434f444531000100000200010003b080ffffffff\n?END\n",
+            0,
+            "1.1 STACK UNDERFLOW\n",
+        ),
+        // MKST / EXIT.
+        (
+            "?JOB A\n?HEX\n423637434f444531000100000200010003aea3ffffffff\n?END\n",
+            0,
+            "1.1 MARK PENDING\n",
+        ),
+        // BRUN into a literal.
+        (
+            "?JOB BAD\n?HEX\n423637434f44453100010000020003\n0003beffffffffff00030000000000010003a20001ffffff\n?END\n",
+            2,
+            "DECK 2 REASON 90\n",
+        ),
+    ];
+    for (deck, status, lines) in table {
+        for piece in [1, 2, 7, 80] {
+            let (was, printed) = answer(rt.alloc(), &WORDS, deck.as_bytes(), piece, &[], &[])?;
+            assert_eq!(rt; was, status);
+            assert_eq!(rt; printed.as_slice(), lines.as_bytes());
+        }
+    }
+    Ok(())
+}
+
+// A deck that is cut off ends too early at its last card, or in the midst of one that can't continue the form.
+#[test]
+fn prefixes(rt: HostRuntime) -> Result<(), Fail> {
+    let lines = [
+        (1, 9, "DECK 1 REASON 90\n"),
+        (10, 14, "DECK 2 REASON 90\n"),
+        (15, 45, "DECK 3 REASON 90\n"),
+        (46, 78, "DECK 4 REASON 90\n"),
+        (79, 81, "DECK 5 REASON 90\n"),
+    ];
+    let deck = SUM.as_bytes();
+    assert_eq!(rt; deck.len(), 83);
+    for (first, last, line) in lines {
+        for n in first..=last {
+            let front = deck.get(..n).ok_or("the deck is longer")?;
+            let (status, printed) = answer(rt.alloc(), &WORDS, front, 512, &[], &[])?;
+            assert_eq!(rt; status, 2, "{n}");
+            assert_eq!(rt; printed.as_slice(), line.as_bytes(), "{n}");
+        }
+    }
+    let (status, printed) = answer(rt.alloc(), &WORDS, &deck[..82], 512, &[], &[])?;
+    assert_eq!(rt; status, 0);
+    assert_eq!(rt; printed.as_slice(), SUM_LINES.as_bytes());
+    Ok(())
+}
+
+#[test]
+fn faults_and_usage(rt: HostRuntime) -> Result<(), Fail> {
+    let deck = SUM.as_bytes();
+    let (status, printed) = answer(rt.alloc(), &WORDS, deck, 80, &[], &[1])?;
+    assert_eq!(rt; status, 8);
+    assert_eq!(rt; printed.as_slice(), b"".as_slice());
+    let (status, printed) = answer(rt.alloc(), &WORDS, deck, 80, &[1], &[])?;
+    assert_eq!(rt; status, 7);
+    assert_eq!(rt; printed.as_slice(), b"READING FAULT\n".as_slice());
+    let small = ["run", "--core", "255", "--backing", "b"];
+    let (status, printed) = answer(rt.alloc(), &small, deck, 80, &[], &[])?;
+    assert_eq!(rt; status, 1);
+    assert_eq!(rt;
+        printed.as_slice(),
+        b"USAGE: b67 run --core N --backing PATH\n".as_slice()
+    );
+    let turned = ["run", "--backing", "b", "--core", "256"];
+    assert_eq!(rt; command_of(&turned), Some(CommandLine::Run { core: 256 }));
+    assert_eq!(rt; backing_path(&turned), Some("b"));
+    let mut paper = Paper::new(rt.alloc(), 20, Numbers::new(rt.alloc()))?;
+    assert_eq!(rt; refuse_memory(&mut paper).status, 9);
+    assert_eq!(rt; paper.bytes(), b"NO MEMORY\n".as_slice());
+    Ok(())
+}

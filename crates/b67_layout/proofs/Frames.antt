@@ -1,0 +1,50 @@
+-- A task's frames as activation records: what a change of the top frame makes of them. All of it computes.
+use Rattle.std.proofs.Common.{◌≡◌, ℕ, suc, List, [], ◌∷◌, map, refl, sym, ap, arith}
+use Rattle.std.proofs.lemmas.List.{length-map}
+use Rattle.b67_model.specs.Words.{Word}
+use Rattle.b67_model.specs.State as State
+use Rattle.b67_model.specs.State.{Standing, Frame, Job, head_words, words_of, height}
+use Rattle.b67_model.specs.Environment.{level_of_standing, level_of_frame, running_from, running}
+use Rattle.b67_stack.specs.Stacks.{Spot, head_size, top_size, high, running_level, level_from}
+use Rattle.b67_stack.specs.Changes.{with_cells, top_cells, below_top, new_mark}
+use Rattle.b67_layout.specs.Plan.{Plan, spot_in}
+use Rattle.b67_layout.specs.Layout.{shape, head, activations}
+
+module _ (plan : Plan) (j : ℕ) (job : Job) (k : ℕ) (outer : ℕ → Spot) where
+  -- other cells on the top frame
+  pub activations-cells : (f : Frame) (below : List Frame) (cells : List Word)
+      → activations plan j job k outer (record f { cells = cells } ∷ below) ≡ with_cells (activations plan j job k outer (f ∷ below)) (map (shape plan j job (spot_in k outer (f ∷ below))) cells)
+  activations-cells f below cells = refl
+
+  -- a word more
+  pub activations-push : (f : Frame) (below : List Frame) (w : Word) → let old = activations plan j job k outer (f ∷ below) in
+      activations plan j job k outer (record f { cells = w ∷ f.cells } ∷ below) ≡ with_cells old (shape plan j job (spot_in k outer (f ∷ below)) w ∷ top_cells old)
+  activations-push f below w = refl
+
+  -- a mark more
+  pub activations-mark : (identity : ℕ) (fs : List Frame)
+      → activations plan j job k outer (record { identity = identity; standing = State.Marked; cells = [] } ∷ fs) ≡ new_mark ∷ activations plan j job k outer fs
+  activations-mark identity fs = refl
+
+  -- a frame less
+  pub activations-cut : (f : Frame) (below : List Frame) → below_top (activations plan j job k outer (f ∷ below)) ≡ activations plan j job k outer below
+  activations-cut f below = refl
+
+  head_size-head : (spot : ℕ → Spot) (s : Standing) → head_size (head spot s) ≡ head_words s
+  head_size-head spot State.Marked = refl
+  head_size-head spot (State.Entered level environment back) = refl
+
+  pub size-is : (f : Frame) (below : List Frame) → top_size (activations plan j job k outer (f ∷ below)) ≡ words_of f
+  size-is f below = omega (arith, head_size-head (spot_in k outer below) f.standing, length-map f.cells (shape plan j job (spot_in k outer (f ∷ below))))
+
+  pub height-is : (fs : List Frame) → height fs ≡ suc (high (activations plan j job k outer fs))
+  height-is [] = refl
+  height-is (f ∷ below) = omega (arith, height-is below, size-is f below)
+
+  level-head : (spot : ℕ → Spot) (s : Standing) (f next : Frame) (level : ℕ) → f.standing ≡ s → level ≡ level_of_frame next → level_from (head spot s) level ≡ level_of_frame (running_from s f next)
+  level-head spot State.Marked f next level e h = h
+  level-head spot (State.Entered level environment back) f next l e h = ap level_of_standing (sym e)
+
+  pub level-is : (fs : List Frame) → running_level (activations plan j job k outer fs) ≡ level_of_frame (running fs)
+  level-is [] = refl
+  level-is (f ∷ below) = level-head (spot_in k outer below) f.standing f (running below) (running_level (activations plan j job k outer below)) refl (level-is below)

@@ -1,0 +1,135 @@
+-- The two commonest steps: other cells in the top frame, and a mark on it.
+use Rattle.std.proofs.Common.{◌≡◌, ◌≢◌, ℕ, ◌<◌, List, [], ◌∷◌, map, refl, sym, ◌∙◌, ap, Bool, false, subst}
+use Rattle.std.specs.Prelude.{if◌then◌else◌}
+use Rattle.std.specs.List.{slice_get}
+use Rattle.b67_word.specs.Tagged.{Tagged}
+use Rattle.b67_word.specs.declared.couples.Place.{Place}
+use Rattle.b67_ctl.specs.declared.registers.Regs.{Regs}
+use Rattle.b67_model.specs.Lists.{Has}
+use Rattle.b67_model.specs.Words.{Word}
+use Rattle.b67_model.specs.State as State
+use Rattle.b67_model.specs.State.{Frame, Task, Job, Course, Member, height, with_top_cells, with_task}
+use Rattle.b67_model.specs.InOrder.{from_frame}
+use Rattle.b67_model.specs.Steps.{is_critical}
+use Rattle.b67_model.specs.Schedule.{Session}
+use Rattle.b67_stack.specs.Stacks.{Spot, Activation}
+use Rattle.b67_stack.specs.Picture.{Picture, Settled}
+use Rattle.b67_stack.specs.Stands.{Storage, Stands}
+use Rattle.b67_stack.specs.Changes.{with_stack, with_cells, new_mark}
+use Rattle.b67_layout.specs.Plan.{Plan, spot_in, outer_spots}
+use Rattle.b67_layout.specs.Layout.{shape, activations, stack_of_task, picture}
+use Rattle.b67_layout.specs.Session.{TaskStands, IsRunning, critical_mark, SessionHolds}
+use Rattle.b67_layout.proofs.Others.{OnTop, seen-cells, seen-mark, keyed-has}
+use Rattle.b67_layout.proofs.Pictures.{with_course, picture-after, stack-after}
+use Rattle.b67_layout.proofs.Rows.{row_of}
+use Rattle.b67_layout.proofs.Sessions.{SessionHolds-after}
+use Rattle.b67_model.specs.Keyed.{change_keyed}
+use Rattle.b67_model.specs.Run.{number_of}
+
+pub activations-with : (plan : Plan) (j : ℕ) (job : Job) (k : ℕ) (outer : ℕ → Spot) (fs : List Frame) (cells : List Word)
+    → activations plan j job k outer (with_top_cells fs cells) ≡ with_cells (activations plan j job k outer fs) (map (shape plan j job (spot_in k outer fs)) cells)
+activations-with plan j job k outer [] cells = refl
+activations-with plan j job k outer (f ∷ below) cells = refl
+
+seen-with : (fs : List Frame) (cells : List Word) (c s : ℕ) (outer : ℕ → Spot) (id : ℕ) → spot_in s outer (from_frame c (with_top_cells fs cells)) id ≡ spot_in s outer (from_frame c fs) id
+seen-with [] cells c s outer id = refl
+seen-with (f ∷ below) cells c s outer id = seen-cells f below cells c s outer id
+
+critical-with : (job : Job) (fs : List Frame) (cells : List Word) → critical_mark job (with_top_cells fs cells) ≡ critical_mark job fs
+critical-with job [] cells = refl
+critical-with job (f ∷ below) cells = refl
+
+-- a number that no live task depends on, and that isn't the MCP's frame
+pub record IsFree (job : Job) (n : ℕ) : Type 0 where
+  pub some : 0 ≢ n
+  pub uncritical : (u : Task) → Has job.tasks u → u.critical ≢ n
+
+-- the registers that a step on the stack leaves, and the place where it goes on
+pub record GoesOn (r r' : Regs) (q : Place) : Type 0 where
+  pub slot : r'.slot ≡ r.slot
+  pub dict : r'.dict ≡ r.dict
+  pub entries : r'.entries ≡ r.entries
+  pub segment : r'.segment ≡ r.segment
+  pub place : r'.place ≡ q
+
+module _ (x : Storage) (core new : List Tagged) (r r' : Regs) (marks : List ℕ) (plan : Plan) (s : Session) (m : Member) (t : Task) (q : Place)
+    (h : SessionHolds x core r marks plan s) (runs : IsRunning plan s.jobs m t) (same : (i : ℕ) → i < plan.stacks → slice_get new i ≡ slice_get core i) (on : GoesOn r r' q) where
+  has_m : Has s.jobs m
+  has_m = keyed-has number_of m.setting.number s.jobs m runs.member
+
+  has_t : Has m.course.job.tasks t
+  has_t = keyed-has (λ (u : Task). u.number) t.number m.course.job.tasks t runs.task
+
+  -- the outer spots that the running task names
+  abbrev pub outer : ℕ → Spot
+  outer = outer_spots plan m.setting.number m.course.job t.critical t.parents
+
+  -- the running stack
+  abbrev pub running_stack : List Activation
+  running_stack = stack_of_task plan m.setting.number m.course.job plan.running t
+
+  task_stands : (c : Course) (fs : List Frame) → TaskStands r' plan (record m { course = c }) (record t { frames = fs; place = q })
+  task_stands c fs =
+      let o = h.running m t runs in
+      record { slot = on.slot ∙ o.slot; dict = on.dict ∙ o.dict; entries = on.entries ∙ o.entries; segment = on.segment ∙ o.segment; place = on.place }
+
+  -- the session with a job of the running task's, which differs from the old one by that task on top of frame n
+  after : (job' : Job) (fs : List Frame) (stack : List Activation) (n : ℕ) → OnTop m.course.job job' t (record t { frames = fs; place = q }) n
+      → critical_mark m.course.job fs ≡ critical_mark m.course.job t.frames
+      → activations plan m.setting.number m.course.job plan.running outer fs ≡ stack
+      → Stands x new r' (with_stack (picture plan s.jobs) plan.running stack)
+      → Settled (with_stack (picture plan s.jobs) plan.running stack)
+      → SessionHolds x new r' marks plan (record s { jobs = with_course s.jobs m.setting.number (record m.course { job = job' }) })
+  after job' fs stack n top critical is stands settled =
+      let c : Course = record m.course { job = job' } in
+      let t' : Task = record t { frames = fs; place = q } in
+      let row = row_of plan s.jobs m t h.fits.rows has_m has_t runs.slot in
+      let e : picture plan (with_course s.jobs m.setting.number c) ≡ with_stack (picture plan s.jobs) plan.running stack =
+      picture-after plan s.jobs m.setting.number m c t t' n plan.running runs.member top row
+      ∙ ap (λ (xs : List Activation). with_stack (picture plan s.jobs) plan.running xs) (stack-after plan s.jobs m.setting.number m c t t' n plan.running runs.member top row ∙ is) in
+      let P : Picture → Type 0 = λ p. Stands x new r' p in
+      SessionHolds-after x core new r r' marks plan s m c t t' n h runs top same critical (subst P (sym e) stands) (subst Settled (sym e) settled) (task_stands c fs)
+
+  -- other cells in the top frame
+  pub SessionHolds-cells : (n : ℕ) (cells : List Word) → IsFree m.course.job n
+      → Stands x new r' (with_stack (picture plan s.jobs) plan.running (with_cells running_stack (map (shape plan m.setting.number m.course.job (spot_in plan.running outer t.frames)) cells)))
+      → Settled (with_stack (picture plan s.jobs) plan.running (with_cells running_stack (map (shape plan m.setting.number m.course.job (spot_in plan.running outer t.frames)) cells)))
+      → SessionHolds x new r' marks plan (record s { jobs = with_course s.jobs m.setting.number (record m.course { job = with_task m.course.job (record t { frames = with_top_cells t.frames cells; place = q }) }) })
+  SessionHolds-cells n cells free stands settled =
+      after (with_task m.course.job (record t { frames = with_top_cells t.frames cells; place = q })) (with_top_cells t.frames cells)
+      (with_cells running_stack (map (shape plan m.setting.number m.course.job (spot_in plan.running outer t.frames)) cells)) n
+      (record {
+        there = runs.task;
+        number = refl;
+        critical = refl;
+        parents = refl;
+        tasks = refl;
+        arrays = refl;
+        some = free.some;
+        uncritical = free.uncritical;
+        same = λ c k o id ne. seen-with t.frames cells c k o id;
+      })
+      (critical-with m.course.job t.frames cells)
+      (activations-with plan m.setting.number m.course.job plan.running outer t.frames cells) stands settled
+
+  -- a mark on the top frame, of a new identity
+  pub SessionHolds-mark : (job : Job) (n : ℕ) → job.tasks ≡ m.course.job.tasks → job.arrays ≡ m.course.job.arrays → IsFree m.course.job n → is_critical m.course.job n ≡ false
+      → Stands x new r' (with_stack (picture plan s.jobs) plan.running (new_mark ∷ running_stack))
+      → Settled (with_stack (picture plan s.jobs) plan.running (new_mark ∷ running_stack))
+      → let fs = record { identity = n; standing = State.Marked; cells = [] } ∷ t.frames in
+      SessionHolds x new r' marks plan (record s { jobs = with_course s.jobs m.setting.number (record m.course { job = with_task job (record t { frames = fs; place = q }) }) })
+  SessionHolds-mark job n tasks arrays free uncritical stands settled =
+      let f : Frame = record { identity = n; standing = State.Marked; cells = [] } in
+      after (with_task job (record t { frames = f ∷ t.frames; place = q })) (f ∷ t.frames) (new_mark ∷ running_stack) n
+      (record {
+        there = runs.task;
+        number = refl;
+        critical = refl;
+        parents = refl;
+        tasks = ap (λ (ts : List Task). change_keyed (λ (u : Task). u.number) t.number (λ (u : Task). record t { frames = f ∷ t.frames; place = q }) ts) tasks;
+        arrays = arrays;
+        some = free.some;
+        uncritical = free.uncritical;
+        same = λ c k o id ne. seen-mark f t.frames c k o id ne;
+      })
+      (ap (λ (b : Bool). if b then height t.frames else critical_mark m.course.job t.frames) uncritical) refl stands settled

@@ -1,0 +1,4 @@
+pub mod Plan
+pub mod Layout
+pub mod Rows
+pub mod Session

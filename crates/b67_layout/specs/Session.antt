@@ -1,0 +1,134 @@
+-- When a machine stands for a session's state.
+use Rattle.std.specs.Prelude.{◌≡◌, ◌≢◌, ℕ, ◌+◌, ◌*◌, ◌^◌, ◌<◌, ◌≤◌, List, [], ◌∷◌, length, Option, Some, None, slice_get, if◌then◌else◌}
+use Rattle.b67_word.specs.Tagged.{Tagged, word}
+use Rattle.b67_area.specs.declared.Areas.{Areas}
+use Rattle.b67_backing.specs.Shelf.{Table, IsShelf}
+use Rattle.b67_ctl.specs.declared.registers.Regs.{Regs}
+use Rattle.b67_model.specs.Lists.{Has}
+use Rattle.b67_model.specs.State.{Frame, Task, Job, Member, height}
+use Rattle.b67_model.specs.Keyed.{keyed}
+use Rattle.b67_model.specs.Environment.{level_of_frame, running, frame_at}
+use Rattle.b67_model.specs.Steps.{is_critical}
+use Rattle.b67_model.specs.Run.{number_of}
+use Rattle.b67_model.specs.Schedule.{Session}
+use Rattle.b67_stack.specs.declared.Cpu.{Cpu}
+use Rattle.b67_stack.specs.Picture.{Settled}
+use Rattle.b67_stack.specs.Stands.{Storage, Stands}
+use Rattle.b67_layout.specs.Plan.{Slotted, Plan, slot_of, spots, address_of}
+use Rattle.b67_layout.specs.Layout.{picture}
+
+-- each live task has a slot of its own, below the peak, and each row is a live task's
+pub record RowsFit (plan : Plan) (jobs : List Member) : Type 0 where
+  pub live : (r : Slotted) → Has plan.rows r → (m : Member) × (t : Task) × Has jobs m × (m.setting.number ≡ r.job) × Has m.course.job.tasks t × (t.number ≡ r.task)
+  pub slotted : (m : Member) (t : Task) → Has jobs m → Has m.course.job.tasks t → (r : Slotted) × Has plan.rows r × (r.job ≡ m.setting.number) × (r.task ≡ t.number)
+  pub below : (r : Slotted) → Has plan.rows r → r.slot < plan.peak
+  pub differ : (a b : Slotted) → Has plan.rows a → Has plan.rows b → a.slot ≡ b.slot → a ≡ b
+  pub tasks_differ : (a b : Slotted) → Has plan.rows a → Has plan.rows b → a.job ≡ b.job → a.task ≡ b.task → a ≡ b
+
+-- dictionaries follow each other in the jobs' order, up to slot 0
+abbrev pub DictionariesFollow : Plan → ℕ → List Member → Type 0
+DictionariesFollow plan at [] = at ≡ plan.stacks
+DictionariesFollow plan at (m ∷ more) =
+    (plan.dictionary m.setting.number ≡ at) × DictionariesFollow plan (at + (2 + length m.setting.dictionary.cells)) more
+
+-- the originals of data rows, whose identities are 1, 2 and so on, stand after the segment descriptors
+abbrev pub RowHomes : Plan → Member → Type 0
+RowHomes plan m = (n : ℕ) → 1 ≤ n → n + length m.setting.segments ≤ length m.setting.dictionary.cells
+    → plan.home m.setting.number n ≡ plan.dictionary m.setting.number + 1 + length m.setting.segments + n
+
+pub record PlanFits (plan : Plan) (s : Session) : Type 0 where
+  pub rows : RowsFit plan s.jobs
+  pub peak : plan.peak ≡ s.peak
+  pub few : plan.peak ≤ 120
+  pub sizes : (m : Member) → Has s.jobs m → m.setting.stack_size ≡ plan.size
+  pub dictionaries : DictionariesFollow plan 160 s.jobs
+  pub row_homes : (m : Member) → Has s.jobs m → RowHomes plan m
+
+-- the two words before a dictionary's entries; the entries are words of things
+pub record DictionaryStands (core : List Tagged) (plan : Plan) (m : Member) : Type 0 where
+  pub mark : slice_get core (plan.dictionary m.setting.number) ≡ Some (word 3 (2 ^ 47 + 2 ^ 46 + 136 * 2 ^ 36 + 1 * 2 ^ 14))
+  pub entries : slice_get core (plan.dictionary m.setting.number + 1) ≡ Some (word 0 (length m.setting.dictionary.cells))
+
+-- the MCP's mark and the intrinsics
+pub record McpStands (core : List Tagged) : Type 0 where
+  pub mark : slice_get core 0 ≡ Some (word 3 (2 ^ 46))
+  pub intrinsics : (n : ℕ) → 8 ≤ n → n ≤ 16 → slice_get core n ≡ Some (word 7 (2 ^ 19 + n))
+
+-- the word of a slot in the stack vector: the parent's slot, 1,023 for a first task, and the job
+abbrev pub vector_word : Plan → ℕ → List ℕ → Tagged
+vector_word plan j [] = word 3 (2 ^ 46 + 1023 * 2 ^ 36 + j * 2 ^ 16)
+vector_word plan j (parent ∷ more) = word 3 (2 ^ 46 + slot_of plan j parent * 2 ^ 36 + j * 2 ^ 16)
+
+pub record VectorStands (core : List Tagged) (plan : Plan) (jobs : List Member) : Type 0 where
+  pub live : (m : Member) (t : Task) → Has jobs m → Has m.course.job.tasks t
+      → slice_get core (32 + slot_of plan m.setting.number t.number) ≡ Some (vector_word plan m.setting.number t.parents)
+  pub free : (k : ℕ) → k < 120 → ((r : Slotted) → Has plan.rows r → r.slot ≢ k) → slice_get core (32 + k) ≡ Some (word 0 0)
+
+-- the registers of the running task that its stack doesn't tell
+pub record TaskStands (r : Regs) (plan : Plan) (m : Member) (t : Task) : Type 0 where
+  pub slot : r.slot ≡ slot_of plan m.setting.number t.number
+  pub dict : r.dict ≡ plan.dictionary m.setting.number
+  pub entries : r.entries ≡ length m.setting.dictionary.cells
+  pub segment : r.segment ≡ t.segment + 1
+  pub place : r.place ≡ t.place
+
+-- a live task whose slot is the running one
+pub record IsRunning (plan : Plan) (jobs : List Member) (m : Member) (t : Task) : Type 0 where
+  pub member : keyed number_of m.setting.number jobs ≡ Some m
+  pub task : keyed (λ (u : Task). u.number) t.number m.course.job.tasks ≡ Some t
+  pub slot : plan.running ≡ slot_of plan m.setting.number t.number
+
+-- the address of a frame, seen from a task
+abbrev pub frame_address : Plan → Member → Task → ℕ → ℕ
+frame_address plan m t identity = address_of plan (spots plan m.setting.number m.course.job t identity)
+
+-- the display: at each level up to the running one, the address of the frame that the environment has there
+abbrev pub Shows : List ℕ → Plan → Member → Task → Type 0
+Shows display plan m t =
+    (n : ℕ) → n ≤ level_of_frame (running t.frames)
+    → slice_get display n ≡ Some (frame_address plan m t (frame_at (record { setting = m.setting; job = m.course.job; task = t; at = t.place }) n).identity)
+
+-- the displacement of the topmost frame that a live task depends on, 0 for none
+abbrev pub critical_mark : Job → List Frame → ℕ
+critical_mark job [] = 0
+critical_mark job (f ∷ below) = if is_critical job f.identity then height below else critical_mark job below
+
+pub record CriticalStands (critical : List ℕ) (plan : Plan) (jobs : List Member) : Type 0 where
+  pub live : (m : Member) (t : Task) → Has jobs m → Has m.course.job.tasks t
+      → slice_get critical (slot_of plan m.setting.number t.number) ≡ Some (critical_mark m.course.job t.frames)
+  pub free : (k : ℕ) → k < 120 → ((r : Slotted) → Has plan.rows r → r.slot ≢ k) → slice_get critical k ≡ Some 0
+
+-- all but the display
+pub record SessionHolds (x : Storage) (core : List Tagged) (r : Regs) (marks : List ℕ) (plan : Plan) (s : Session) : Type 0 where
+  pub fits : PlanFits plan s
+  pub memory : Stands x core r (picture plan s.jobs)
+  pub settled : Settled (picture plan s.jobs)
+  pub dictionaries : (m : Member) → Has s.jobs m → DictionaryStands core plan m
+  pub mcp : McpStands core
+  pub vector : VectorStands core plan s.jobs
+  pub critical : CriticalStands marks plan s.jobs
+  pub live : plan.running ≢ 255 → (m : Member) × (t : Task) × IsRunning plan s.jobs m t
+  pub running : (m : Member) (t : Task) → IsRunning plan s.jobs m t → TaskStands r plan m t
+  pub none : plan.running ≡ 255 → r.slot ≡ 255
+
+-- the machine stands for the session
+pub record SessionStands (x : Storage) (cpu : Cpu) (plan : Plan) (s : Session) : Type 0 where
+  pub holds : SessionHolds x cpu.core cpu.regs cpu.critical plan s
+  pub shows : (m : Member) (t : Task) → IsRunning plan s.jobs m t → Shows cpu.display plan m t
+
+-- the tables beside core are those that the storage says: where areas begin, which sectors are in chains, and what the
+-- device tells that these hold
+pub record StorageStands (areas : Areas) (table : Table) (told : Option (List (List ℕ))) (core : List Tagged) (x : Storage) : Type 0 where
+  pub low : areas.low ≡ x.low
+  pub size : areas.size ≡ length core
+  pub shelf : IsShelf table x.shelf
+  pub device : told ≡ x.device
+
+-- the machine stands for some session of an order, whatever its sectors hold
+pub record StandsForSome (IsInOrder : Session → Type 0) (cpu : Cpu) : Type 0 where
+  pub storage : Storage
+  pub plan : Plan
+  pub session : Session
+  pub ordered : IsInOrder session
+  pub untold : storage.device ≡ None
+  pub stands : SessionStands storage cpu plan session

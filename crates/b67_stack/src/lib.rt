@@ -1,0 +1,163 @@
+//! The machine's registers over core, and the running stack: push, pop, mark and cut.
+#![tactic(auto)]
+
+ghost use Rattle.std.specs.Prelude.{◌≡◌, ◌≢◌, ◌↔◌, ℕ, ◌+◌, ◌-◌, ◌<◌, ◌≤◌, IsErr, IsOk, OnOk, OnErr, IfOk, [], ◌∷◌, List, length, slice_get, Some};
+ghost use Rattle.b67_stack.specs.Shapes.{Shape, Fits};
+ghost use Rattle.b67_stack.specs.Stacks.{Activation, running_level, top_mark as top_mark_of};
+ghost use Rattle.b67_stack.specs.Picture.{Picture, RunsOn, Settled};
+ghost use Rattle.b67_stack.specs.Stands.{Storage, Stands};
+ghost use Rattle.b67_stack.specs.Changes.{Runs, pushed, popped, marked, topped, top_cells, with_cells, without_first, below_top, new_mark, with_stack, MayPush};
+
+use b67_core::Core;
+use b67_ctl::{Mscw, Rcw, Regs};
+use b67_word::{Fault, Word};
+
+/// Core with its registers, the display (the address of the activation record of each level up to the running one), and
+/// for each slot the displacement of the topmost mark that a live task depends on, 0 for none.
+#[derive(Drop)]
+pub struct Cpu {
+    pub core: Core,
+    pub regs: Regs,
+    pub display: [u32; 32],
+    pub critical: [u16; 120],
+}
+
+/// What an operator found absent: the segment of a displacement in the dictionary, or the array whose original has a
+/// core address.
+#[derive(Clone, Copy, Debug, PartialEq, Eq)]
+pub enum What {
+    Code(u16),
+    Array(u32),
+}
+
+/// What an operator answered: it was made, or nothing was changed since something is absent, an intrinsic is called, it
+/// faults, or it leaves the task's outermost activation record.
+#[derive(Clone, Copy, Debug, PartialEq, Eq)]
+pub enum Step {
+    Done,
+    Absent(What),
+    Call(u8),
+    Fault(Fault),
+    Ended,
+}
+
+/// The stack is as high as its slot.
+#[derive(Clone, Copy, Debug, PartialEq, Eq)]
+pub struct StackOverflow {}
+
+/// The top activation record has no cell.
+#[derive(Clone, Copy, Debug, PartialEq, Eq)]
+pub struct StackUnderflow {}
+
+impl Cpu {
+    /// The mark of the top activation record.
+    pub fn top_mark(&self) -> Mscw
+        requires { Runs self.now }
+        ensures { (x : Storage) (p : Picture) (stack : List Activation) → Stands x self.now.core self.now.regs p
+            → RunsOn p self.now.regs.slot stack → result ≡ top_mark_of self.now.regs.slot stack }
+    {
+        match Mscw::from_word(self.core.get(self.regs.f)) {
+            Some(m) => m,
+            None => unreachable!(),
+        }
+    }
+
+    /// The running level without the top activation record.
+    fn level_below(&self) -> u8
+        requires { Runs self.now }
+        ensures { (x : Storage) (p : Picture) (stack : List Activation) → Stands x self.now.core self.now.regs p
+            → RunsOn p self.now.regs.slot stack → result ≡ running_level (below_top stack) }
+    {
+        if !self.top_mark().entered {
+            return self.regs.level;
+        }
+        match Rcw::from_word(self.core.get(self.regs.f + 1)) {
+            Some(r) => r.level,
+            None => unreachable!(),
+        }
+    }
+
+    /// Puts a word on the stack. Refused, with nothing changed, exactly where the stack's top is its slot's last word.
+    pub fn push(&mut self, w: Word) -> Result<(), StackOverflow>
+        requires { Runs self.old }
+        ensures full { IsErr result ↔ (self.old.regs.s ≡ self.old.regs.losr) }
+        ensures ok { OnOk result (self.new ≡ pushed self.old w) }
+        ensures err { OnErr result (self.new ≡ self.old) }
+        ensures stands { OnOk result ((x : Storage) (p : Picture) (stack : List Activation) (c : Shape) → Stands x self.old.core self.old.regs p
+            → RunsOn p self.old.regs.slot stack → Settled p → MayPush p.things c → Fits x.held c (self.old.regs.s + 1) w
+            → Stands x self.new.core self.new.regs (with_stack p self.old.regs.slot (with_cells stack (c ∷ top_cells stack)))) }
+    {
+        if self.regs.s == self.regs.losr {
+            return Err(StackOverflow {});
+        }
+        self.core.set(self.regs.s + 1, w);
+        self.regs.s += 1;
+        Ok(())
+    }
+
+    /// Takes a word off the stack. Refused, with nothing changed, exactly where the top activation record has no cell.
+    pub fn pop(&mut self) -> Result<Word, StackUnderflow>
+        requires { Runs self.old }
+        ensures empty { (x : Storage) (p : Picture) (stack : List Activation) → Stands x self.old.core self.old.regs p
+            → RunsOn p self.old.regs.slot stack → IsErr result ↔ (top_cells stack ≡ []) }
+        ensures ok { IfOk result (λ w. (slice_get self.old.core self.old.regs.s ≡ Some w) × (self.new ≡ popped self.old)) }
+        ensures err { OnErr result (self.new ≡ self.old) }
+        ensures stands { OnOk result ((x : Storage) (p : Picture) (stack : List Activation) → Stands x self.old.core self.old.regs p
+            → RunsOn p self.old.regs.slot stack
+            → Stands x self.new.core self.new.regs (with_stack p self.old.regs.slot (with_cells stack (without_first (top_cells stack))))) }
+    {
+        let m = self.top_mark();
+        if self.regs.s == self.regs.f + u32::from(m.entered) {
+            return Err(StackUnderflow {});
+        }
+        let w = self.core.get(self.regs.s);
+        self.regs.s -= 1;
+        Ok(w)
+    }
+
+    /// Puts a mark on the stack, linked to the last one. Refused, with nothing changed, exactly where the stack's top is
+    /// its slot's last word.
+    pub fn mark(&mut self) -> Result<(), StackOverflow>
+        requires { Runs self.old }
+        ensures full { IsErr result ↔ (self.old.regs.s ≡ self.old.regs.losr) }
+        ensures ok { OnOk result (self.new ≡ marked self.old) }
+        ensures err { OnErr result (self.new ≡ self.old) }
+        ensures stands { OnOk result ((x : Storage) (p : Picture) (stack : List Activation) → Stands x self.old.core self.old.regs p
+            → RunsOn p self.old.regs.slot stack → Settled p
+            → Stands x self.new.core self.new.regs (with_stack p self.old.regs.slot (new_mark ∷ stack))) }
+    {
+        let m = Mscw {
+            far: false,
+            entered: false,
+            env_stack: 0,
+            env_disp: 0,
+            value: false,
+            level: 0,
+            back: (self.regs.s + 1 - self.regs.f) as u16,
+        };
+        match self.push(m.word()) {
+            Ok(()) => {
+                self.regs.f = self.regs.s;
+                Ok(())
+            }
+            Err(full) => Err(full),
+        }
+    }
+
+    /// Drops the top activation record, of two or more. The running level is that of the record that then runs; place,
+    /// segment and display are the caller's.
+    pub fn cut(&mut self)
+        requires { (x : Storage) × (p : Picture) × (stack : List Activation) × Stands x self.old.core self.old.regs p
+            × RunsOn p self.old.regs.slot stack × (below_top stack ≢ []) }
+        ensures row { (x : Storage) (p : Picture) (stack : List Activation) → Stands x self.old.core self.old.regs p
+            → RunsOn p self.old.regs.slot stack → below_top stack ≢ [] → self.new ≡ topped self.old (below_top stack) }
+        ensures stands { (x : Storage) (p : Picture) (stack : List Activation) → Stands x self.old.core self.old.regs p
+            → RunsOn p self.old.regs.slot stack → below_top stack ≢ []
+            → Stands x self.new.core self.new.regs (with_stack p self.old.regs.slot (below_top stack)) }
+    {
+        let m = self.top_mark();
+        self.regs.level = self.level_below();
+        self.regs.s = self.regs.f - 1;
+        self.regs.f -= u32::from(m.back);
+    }
+}
