@@ -5,4 +5,5 @@ pub mod Rows
 pub mod Sessions
 pub mod Steps
 pub mod Displays
+pub mod Whole
 pub mod Witness
