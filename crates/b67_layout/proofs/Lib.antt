@@ -6,4 +6,5 @@ pub mod Sessions
 pub mod Steps
 pub mod Displays
 pub mod Whole
+pub mod Settles
 pub mod Witness
