@@ -1,10 +1,9 @@
 -- The display stays where the frames of the running task keep their identities, standings and places.
-use Rattle.std.proofs.Common.{◌≡◌, ◌≢◌, ℕ, zero, suc, ◌+◌, ◌-◌, ◌<◌, ◌≤◌, List, [], ◌∷◌, ◌++◌, length, map, Option, Some, None, refl, sym, ◌∙◌, ap, arith, Bool, true, false, cond, ◌==◌, ⊎_elim, unwrap_or, subst}
+use Rattle.std.proofs.Common.{◌≡◌, ℕ, zero, suc, ◌-◌, List, [], ◌∷◌, ◌++◌, map, Some, refl, sym, ◌∙◌, ap, arith, true, false, ◌==◌, ⊎_elim, unwrap_or}
 use Rattle.std.specs.Prelude.{if◌then◌else◌, flat_map}
-use Rattle.std.specs.List.{slice_get}
 use Rattle.std.proofs.lemmas.Bool.{cases_Bool}
 use Rattle.std.proofs.lemmas.List.{map-append}
-use Rattle.std.proofs.lemmas.Option.{same_Some, none-some}
+use Rattle.std.proofs.lemmas.Option.{same_Some}
 use Rattle.b67_model.specs.State as State
 use Rattle.b67_model.specs.State.{Frame, Standing, Task, Job, Course, Member, Here, all_frames, frame, no_frame, with_top_cells}
 use Rattle.b67_model.specs.Environment.{level_of_standing, environment_of, level_of_frame, running_from, running, outward, running_level, frame_at}
@@ -75,15 +74,15 @@ pub tasks_known : (n : ℕ) (t t' : Task) → map known_of t'.frames ≡ map kno
 tasks_known n t t' e [] k = refl
 tasks_known n t t' e (y ∷ ys) k = ⊎_elim
     (λ (q : (y.number == n) ≡ true).
-      let same : y ≡ t = same_Some y t (rw q at k) in
-      rw q (map-append known_of t'.frames (flat_map (λ (u : Task). u.frames) ys)
-        ∙ ap (λ (ks : List Known). ks ++ map known_of (flat_map (λ (u : Task). u.frames) ys)) (e ∙ ap (λ (u : Task). map known_of u.frames) (sym same))
-        ∙ sym (map-append known_of y.frames (flat_map (λ (u : Task). u.frames) ys))))
+    let same : y ≡ t = same_Some y t (rw q at k) in
+    rw q (map-append known_of t'.frames (flat_map (λ (u : Task). u.frames) ys)
+    ∙ ap (λ (ks : List Known). ks ++ map known_of (flat_map (λ (u : Task). u.frames) ys)) (e ∙ ap (λ (u : Task). map known_of u.frames) (sym same))
+    ∙ sym (map-append known_of y.frames (flat_map (λ (u : Task). u.frames) ys))))
     (λ (q : (y.number == n) ≡ false).
-      let at : keyed (λ (u : Task). u.number) n ys ≡ Some t = rw q at k in
-      rw q (map-append known_of y.frames (flat_map (λ (u : Task). u.frames) (change_keyed (λ (u : Task). u.number) n (λ u. t') ys))
-        ∙ ap (λ (ks : List Known). map known_of y.frames ++ ks) (tasks_known n t t' e ys at)
-        ∙ sym (map-append known_of y.frames (flat_map (λ (u : Task). u.frames) ys))))
+    let at : keyed (λ (u : Task). u.number) n ys ≡ Some t = rw q at k in
+    rw q (map-append known_of y.frames (flat_map (λ (u : Task). u.frames) (change_keyed (λ (u : Task). u.number) n (λ u. t') ys))
+    ∙ ap (λ (ks : List Known). map known_of y.frames ++ ks) (tasks_known n t t' e ys at)
+    ∙ sym (map-append known_of y.frames (flat_map (λ (u : Task). u.frames) ys))))
     (cases_Bool (y.number == n))
 
 -- the display of the task that changed
@@ -96,11 +95,11 @@ Shows-same display plan m c t t' there tasks own places shown n up =
     let h : Here = record { setting = m.setting; job = m.course.job; task = t; at = t.place } in
     let h' : Here = record { setting = m.setting; job = c.job; task = t'; at = t'.place } in
     let in_tasks : map known_of (flat_map (λ (u : Task). u.frames) c.job.tasks) ≡ map known_of (flat_map (λ (u : Task). u.frames) m.course.job.tasks) =
-      ap (λ (ts : List Task). map known_of (flat_map (λ (u : Task). u.frames) ts)) tasks ∙ tasks_known t.number t t' own m.course.job.tasks there in
+    ap (λ (ts : List Task). map known_of (flat_map (λ (u : Task). u.frames) ts)) tasks ∙ tasks_known t.number t t' own m.course.job.tasks there in
     let frames : map known_of (all_frames h') ≡ map known_of (all_frames h) =
-      map-append known_of (flat_map (λ (u : Task). u.frames) c.job.tasks) (m.setting.dictionary ∷ State.mcp ∷ [])
-      ∙ ap (λ (ks : List Known). ks ++ map known_of (m.setting.dictionary ∷ State.mcp ∷ [])) in_tasks
-      ∙ sym (map-append known_of (flat_map (λ (u : Task). u.frames) m.course.job.tasks) (m.setting.dictionary ∷ State.mcp ∷ [])) in
+    map-append known_of (flat_map (λ (u : Task). u.frames) c.job.tasks) (m.setting.dictionary ∷ State.mcp ∷ [])
+    ∙ ap (λ (ks : List Known). ks ++ map known_of (m.setting.dictionary ∷ State.mcp ∷ [])) in_tasks
+    ∙ sym (map-append known_of (flat_map (λ (u : Task). u.frames) m.course.job.tasks) (m.setting.dictionary ∷ State.mcp ∷ [])) in
     let level : level_of_frame (running t'.frames) ≡ level_of_frame (running t.frames) = ap (λ (k : Known). level_of_standing k.1) (same_running t'.frames t.frames own) in
     let id : (frame_at h' n).identity ≡ (frame_at h n).identity = ap (λ (k : Known). k.0) (same_frame_at h h' frames n own) in
     shown n (omega (arith, up, level))

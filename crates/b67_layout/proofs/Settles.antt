@@ -1,12 +1,12 @@
 -- Originals stay at or under the top of their stack where no original is popped.
-use Rattle.std.proofs.Common.{◌≡◌, ◌≢◌, ℕ, suc, ◌+◌, ◌-◌, ◌<◌, ◌≤◌, List, [], ◌∷◌, ◌++◌, length, Some, refl, sym, ◌∙◌, ap, arith, inl, inr, append_assoc, length-append}
+use Rattle.std.proofs.Common.{◌≡◌, ◌≢◌, ℕ, suc, ◌+◌, ◌-◌, ◌≤◌, List, [], ◌∷◌, ◌++◌, length, sym, ◌∙◌, ap, arith, inl, inr, append_assoc, length-append}
 use Rattle.b67_word.specs.Tagged.{Tagged}
 use Rattle.b67_ctl.specs.declared.registers.Regs.{Regs}
 use Rattle.b67_model.specs.Lists.{Has}
 use Rattle.b67_stack.specs.Shapes.{Shape, Original}
 use Rattle.b67_stack.specs.Stacks.{Activation, high}
-use Rattle.b67_stack.specs.Picture.{Thing, Picture, RunsOn, slot_base, Settled}
-use Rattle.b67_stack.specs.Stands.{Storage, RunningStands, Stands}
+use Rattle.b67_stack.specs.Picture.{Thing, Picture, RunsOn, Settled}
+use Rattle.b67_stack.specs.Stands.{Storage, Stands}
 use Rattle.b67_stack.specs.Changes.{with_stack}
 use Rattle.b67_stack.proofs.Slots.{running_slot}
 use Rattle.b67_stack.proofs.Pushes.{Settled-with}
@@ -38,7 +38,7 @@ module _ (x : Storage) (core : List Tagged) (r : Regs) (p : Picture) (k : ℕ) (
       let top = running_slot x core r p k (a ∷ below) s u in
       let count : length a.cells ≡ length gone + length rest = ap length e ∙ length-append gone rest in
       Settled-with p k (a ∷ below) (record a { cells = rest } ∷ below) u
-        (λ t int low up. let d = lowered t int gone [] rest e plain (omega (arith, up, top.top)) in omega (arith, d, top.top, count)) settled
+      (λ t int low up. let d = lowered t int gone [] rest e plain (omega (arith, up, top.top)) in omega (arith, d, top.top, count)) settled
 
 -- words are put on
 pub Settled-more : (p : Picture) (k : ℕ) (stack after : List Activation) → RunsOn p k stack → high stack ≤ high after → Settled p → Settled (with_stack p k after)
