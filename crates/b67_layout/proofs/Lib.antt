@@ -7,4 +7,5 @@ pub mod Steps
 pub mod Displays
 pub mod Whole
 pub mod Settles
+pub mod Starts
 pub mod Witness
