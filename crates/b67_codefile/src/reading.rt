@@ -4,7 +4,7 @@ ghost use Rattle.std.specs.Prelude.{◌≡◌, ◌<◌, length, IfOk, Ok};
 ghost use Rattle.std.specs.Int.{w8, w16, w64};
 ghost use Rattle.b67_codefile.specs.declared.file.Codefile.{Codefile};
 ghost use Rattle.b67_codefile.specs.Spelling.{IsWithin, spelling};
-ghost use Rattle.b67_codefile.specs.Reading.{Gives, Answers, number_at, word_at, words_at, many_at, segment_at, row_at, header_at, counts_at, reading};
+ghost use Rattle.b67_codefile.specs.Reading.{Gives, Answers, number_at, word_at, words_at, many_at, segment_at, row_at, header_at, counts_at, reading, file_of};
 
 use crate::fault::{BadFile, FormatError, ReadError};
 use crate::file::{Codefile, Rows, Segment, Segments};
@@ -184,7 +184,7 @@ fn whole(alloc: Global, bytes: &[u8]) -> Result<Codefile, ReadError>
 }
 
 fn answer_of(alloc: Global, bytes: &[u8]) -> Result<Codefile, BadFile>
-    ensures { Answers result (length bytes.now) (reading bytes.now) }
+    ensures { Answers result (file_of bytes.now) }
 {
     match whole(alloc, bytes) {
         Ok(file) => Ok(file),
@@ -210,9 +210,9 @@ pub fn read(alloc: Global, bytes: &[u8]) -> Result<Codefile, BadFile>
     // A file that is read is within the limits, and these are its bytes.
     ensures found { IfOk result (λ f. IsWithin f × (bytes.now ≡ spelling f)) }
     // The bytes of a file within the limits are read as that file, unless memory runs out.
-    ensures only { (f : Codefile) → IsWithin f → bytes.now ≡ spelling f → Answers result (length bytes.now) (Ok f) }
+    ensures only { (f : Codefile) → IsWithin f → bytes.now ≡ spelling f → Answers result (Ok f) }
     // Else the first rule that is broken from the front is told, with its byte.
-    ensures exact { Answers result (length bytes.now) (reading bytes.now) }
+    ensures exact { Answers result (file_of bytes.now) }
 {
     answer_of(alloc, bytes)
 }

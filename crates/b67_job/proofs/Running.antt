@@ -86,7 +86,6 @@ TookPart-more {taken = taken} {a = a} {b = b} x y p = record {
 
 module _ {K : Type 0} (code : List ℕ) (taken : K → Option (List ℕ)) (faults : K → ℕ) (old now new : K) (cells cells' : List Cell) (at to : Place)
     (h : Running code taken old now cells at) (short : length code ≤ 8191) where
-
   coming : Comes code h.session (behind at (operator_at code at)) (turn_of (operator_at code at) cells)
   coming = comes code h.session cells at h.machine short (operator_at code at) refl (reading-small code at)
 

@@ -117,7 +117,6 @@ operand-sum n = let none : nat_lt n 0 ≡ false = grind (arith, nat_tests) in rw
 pub add-small : (a b : ℕ) → a < 2 ^ 39 → b < 2 ^ 39 → add a b ≡ cond (nat_lt (a + b) (2 ^ 39)) (Ok (a + b)) (Err IntegerOverflow)
 add-small a b small_a small_b = rw (number-small a small_a, number-small b small_b) (operand-sum (a + b))
 
-
 -- a word that is taken off the top frame, or off the one under a mark
 module _ (code : List ℕ) (cells : List Cell) (marks : List ℕ) (next : ℕ) (at to : Place) (fit : Fits_stack cells) (fresh : Fresh marks) (above : 2 ≤ next) where
   low : nat_le (height (frames_of cells marks)) 512 ≡ true

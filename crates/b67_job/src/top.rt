@@ -61,7 +61,11 @@ fn answer<S: Source, K: Sink>(alloc: Global, words: &[&str], deck: &mut S, print
     ensures { Answered words.now S.left S.faults deck.old deck.new K.taken K.faults printer.old printer.new result }
 {
     if command_of(words).is_none() {
-        return say(printer, 1, &line_of("USAGE: b67 run --core N --backing PATH"));
+        return say(
+            printer,
+            1,
+            &line_of("USAGE: b67 run --core N --backing PATH"),
+        );
     }
     match read_all(alloc, deck) {
         Ok(bytes) => answer_deck(alloc, bytes.as_slice(), printer),

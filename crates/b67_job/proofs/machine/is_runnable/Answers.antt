@@ -27,11 +27,13 @@ pub operator-preserved : goal.operator-preserved
 operator-preserved c =
     let code = contents c.args.code.now in
     let e = sym (c.in-Ok.ensures.segment (omega arith)) in
-    let b = operator-behind code c.operator.at (c.in-Ok.op, c.in-Ok.next) e in
-    (c.operator.invariant.0 ∙ ap (built_after c.operator.last) (listing-step code c.operator.at (c.in-Ok.op, c.in-Ok.next) e)
-      ∙ ap (λ (b : Bool). b && built_after (may_be_last c.in-Ok.op) (listing_from code c.in-Ok.next)) (sym c.is_built.ensures ∙ c.if-not-is_built.false)
-      ∙ ap (λ (last : Bool). built_after last (listing_from code c.in-Ok.next)) (sym c.may_be_last-last.ensures),
-      b.proper, b.inside)
+    let b = operator-behind code c.operator.at (c.in-Ok.op, c.in-Ok.next) e in (
+      c.operator.invariant.0 ∙ ap (built_after c.operator.last) (listing-step code c.operator.at (c.in-Ok.op, c.in-Ok.next) e)
+          ∙ ap (λ (b : Bool). b && built_after (may_be_last c.in-Ok.op) (listing_from code c.in-Ok.next)) (sym c.is_built.ensures ∙ c.if-not-is_built.false)
+          ∙ ap (λ (last : Bool). built_after last (listing_from code c.in-Ok.next)) (sym c.may_be_last-last.ensures),
+      b.proper,
+      b.inside,
+    )
 
 pub returns-in-Err : goal.returns-in-Err
 returns-in-Err c =

@@ -22,5 +22,5 @@ pub returns-in-Ok-Body : goal.returns-in-Ok-Body
 returns-in-Ok-Body g c =
     answers_same (file_judgement c.in-Ok-Body.card (reading c.as_slice.result.now)) (judgement c.args.text.now) c.answer_body.result
     (judged c.args.text.now c.requires ∙ form_body _ c.in-Ok-Body.card c.in-Ok-Body.bytes (sym (ap formed c.in-Ok-Body.field-0-is) ∙ c.in-Ok-Body.ensures)
-      ∙ ap (λ (bytes : List ℕ). file_judgement c.in-Ok-Body.card (reading bytes)) (sym c.as_slice.ensures))
+    ∙ ap (λ (bytes : List ℕ). file_judgement c.in-Ok-Body.card (reading bytes)) (sym c.as_slice.ensures))
     c.answer_body.ensures
