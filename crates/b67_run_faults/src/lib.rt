@@ -1,0 +1,21 @@
+//! The fault INVALID OPERATOR over admitted programs and in whole runs.
+#![tactic(auto)]
+
+ghost use Rattle.b67_run_faults.specs.Faults.{InvalidOperatorExactlyAtNvld, SessionsFaultExactlyAtNvld, RunsFaultExactlyAtNvld};
+
+/// Over an admitted program an operator stands at the place of each live task, and the task's step
+/// faults INVALID OPERATOR exactly where this is NVLD.
+pub fn invalid_operator_exactly_at_nvld()
+    ensures { InvalidOperatorExactlyAtNvld }
+{}
+
+/// The same of each live task of a session in order over admitted programs, and of the task that
+/// is chosen for the next step.
+pub fn sessions_fault_exactly_at_nvld()
+    ensures { SessionsFaultExactlyAtNvld }
+{}
+
+/// The same in every state of the run of an admitted deck.
+pub fn runs_fault_exactly_at_nvld()
+    ensures { RunsFaultExactlyAtNvld }
+{}
