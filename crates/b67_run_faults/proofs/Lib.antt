@@ -1,3 +1,4 @@
 pub mod Literals
 pub mod Nvld
 pub mod States
+pub mod Opened

@@ -2,6 +2,7 @@
 #![tactic(auto)]
 
 ghost use Rattle.b67_run_faults.specs.Faults.{InvalidOperatorExactlyAtNvld, SessionsFaultExactlyAtNvld, RunsFaultExactlyAtNvld};
+ghost use Rattle.b67_run_faults.specs.Opened.{OpeningsMadeByLoader};
 
 /// Over an admitted program an operator stands at the place of each live task, and the task's step
 /// faults INVALID OPERATOR exactly where this is NVLD.
@@ -18,4 +19,11 @@ pub fn sessions_fault_exactly_at_nvld()
 /// The same in every state of the run of an admitted deck.
 pub fn runs_fault_exactly_at_nvld()
     ensures { RunsFaultExactlyAtNvld }
+{}
+
+/// Each word, mark and return of an opening state was made by the loader: the dictionary's words
+/// are those of the program's segments and the originals of its data rows, and no other frame has
+/// words.
+pub fn openings_are_made_by_the_loader()
+    ensures { OpeningsMadeByLoader }
 {}
