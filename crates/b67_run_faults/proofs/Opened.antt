@@ -72,6 +72,10 @@ loader_made number stack o = record {
     λ m. has_reverse (segment_words 1 o.program.segments ++ originals 1 o.program.rows) w (all o.program w m),
   );
   dictionary_mark = refl;
+  outer_block = λ t f live among. elim live [
+    | inl is ↦ elim (subst (λ (x : Task). Has x.frames f) (sym is) among) [ inl same ↦ ap (λ (g : Frame). g.identity) (sym same) | inr x ↦ absurd x ]
+    | inr x ↦ absurd x
+  ];
   no_words = λ t f live among. elim live [
     | inl is ↦ elim (subst (λ (x : Task). Has x.frames f) (sym is) among) [ inl same ↦ ap (λ (g : Frame). g.cells) (sym same) | inr x ↦ absurd x ]
     | inr x ↦ absurd x

@@ -25,6 +25,7 @@ LoaderMakes p (Words.Segment number) = (0 < number) × (number ≤ length p.segm
 pub record MadeByLoader (p : Program) (m : Member) : Type 0 where
   pub dictionary : (w : Word) → Has m.setting.dictionary.cells w ↔ LoaderMakes p w
   pub dictionary_mark : m.setting.dictionary.standing ≡ Entered 1 0 None
+  pub outer_block : (t : Task) (f : Frame) → Has m.course.job.tasks t → Has t.frames f → f.identity ≡ 2
   pub no_words : (t : Task) (f : Frame) → Has m.course.job.tasks t → Has t.frames f → f.cells ≡ []
   pub mark : (t : Task) (f : Frame) → Has m.course.job.tasks t → Has t.frames f → f.standing ≡ Entered 2 1 None
 

@@ -3,6 +3,7 @@
 
 ghost use Rattle.b67_run_faults.specs.Faults.{InvalidOperatorExactlyAtNvld, SessionsFaultExactlyAtNvld, RunsFaultExactlyAtNvld};
 ghost use Rattle.b67_run_faults.specs.Opened.{OpeningsMadeByLoader};
+ghost use Rattle.b67_run_faults.specs.Made.{RunsMakeTheirWords};
 
 /// Over an admitted program an operator stands at the place of each live task, and the task's step
 /// faults INVALID OPERATOR exactly where this is NVLD.
@@ -26,4 +27,10 @@ pub fn runs_fault_exactly_at_nvld()
 /// words.
 pub fn openings_are_made_by_the_loader()
     ensures { OpeningsMadeByLoader }
+{}
+
+/// Each word, mark and return of a live frame in any state of a deck's run was made by an operator
+/// of an earlier step of its job, but for the mark of the outer block, which the loader made.
+pub fn runs_make_their_words()
+    ensures { RunsMakeTheirWords }
 {}
