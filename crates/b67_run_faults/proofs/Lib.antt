@@ -4,3 +4,5 @@ pub mod States
 pub mod Opened
 pub mod Keeping
 pub mod Makers
+pub mod Endings
+pub mod Ended

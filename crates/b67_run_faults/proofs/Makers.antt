@@ -19,7 +19,7 @@ use Rattle.b67_run_faults.proofs.Opened.{openings_are_made_by_the_loader}
 use Rattle.b67_run_faults.proofs.Keeping.{Changed, has_changed, TasksMade, Maker, step_kept}
 
 -- the state after one step more
-after_more : (k : ℕ) (first s : Session) (m : Moment) → after k first ≡ s → next s ≡ Some m → after (suc k) first ≡ m.session
+pub after_more : (k : ℕ) (first s : Session) (m : Moment) → after k first ≡ s → next s ≡ Some m → after (suc k) first ≡ m.session
 after_more zero first s m is e = let found : next first ≡ Some m = ap next is ∙ e in rw found refl
 after_more (suc k) first s m is e = by (λ from. after_more k from s m) (next first) refl
   where
@@ -45,15 +45,15 @@ module _ (first : Session) (total : ℕ) where
   maker : (k : ℕ) (s : Session) (c : Choice) (m : Member) (task : Task) (op : Op) (place : Place) → after k first ≡ s → k < total → choice s ≡ Some c →
       keyed number_of c.who.job s.jobs ≡ Some m → keyed (λ t. t.number) c.who.task m.course.job.tasks ≡ Some task → reading_of m.setting task ≡ Ok (op, place) → Maker (WordOf c.who.job) (MarkOf c.who.job) op
   maker k s c m task op place is below chooses found live reads = record {
-    words = λ w made. record { steps_before = k; earlier = below; op = op; ran = ran; made = made };
-    marks = λ identity standing made. inr (record { steps_before = k; earlier = below; op = op; ran = ran; made = made });
+    words = λ w made. record { steps_before = k; earlier = below; number = c.who.task; op = op; ran = ran; made = made };
+    marks = λ identity standing made. inr (record { steps_before = k; earlier = below; number = c.who.task; op = op; ran = ran; made = made });
   }
     where
-      now : Runs s c.who.job op
-      now = record { chosen = c; chooses = chooses; of_job = refl; member = m; found = found; task = task; live = live; next = place; stands = reads }
+      now : Runs s c.who.job c.who.task op
+      now = record { chosen = c; chooses = chooses; of_job = refl; of_task = refl; member = m; found = found; task = task; live = live; next = place; stands = reads }
 
-      ran : Runs (after k first) c.who.job op
-      ran = subst (λ (x : Session). Runs x c.who.job op) (sym is) now
+      ran : Runs (after k first) c.who.job c.who.task op
+      ran = subst (λ (x : Session). Runs x c.who.job c.who.task op) (sym is) now
 
   next_made : (k : ℕ) (s : Session) (after' : Moment) → after k first ≡ s → k < total → SessionMade s → next s ≡ Some after' → SessionMade after'.session
   unfolding next

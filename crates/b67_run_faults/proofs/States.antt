@@ -51,7 +51,7 @@ follows (suc n) s o a = go (λ s' o' a'. follows n s' o' a') (next s) refl
     go rest None e = sessions_fault_exactly_at_nvld s o a
     go rest (Some m) e = let both = sessions_stay_in_order s m o a e in rest m.session both.0 both.1
 
-opened_admitted : (number stack : ℕ) (openings : List Opening) → AllByRecursion OpeningWithin openings → AllByRecursion RunsAdmitted (opened_from number stack openings)
+pub opened_admitted : (number stack : ℕ) (openings : List Opening) → AllByRecursion OpeningWithin openings → AllByRecursion RunsAdmitted (opened_from number stack openings)
 opened_admitted number stack [] each = tt
 opened_admitted number stack (o ∷ more) each = (record { program = o.program; admitted = each.0.admitted; segments = refl }, opened_admitted (number + 1) stack more each.1)
 

@@ -12,11 +12,12 @@ use Rattle.b67_model.specs.Run.{number_of, after}
 use Rattle.b67_opening.specs.Opening.{Opening, opening}
 use Rattle.b67_order_made.specs.Made.{Makes, MakesMark}
 
--- the next step of a session is that of an operator of a job
-pub record Runs (s : Session) (job : ℕ) (op : Op) : Type 0 where
+-- a task of a job makes the next step of a session, and stands at this operator
+pub record Runs (s : Session) (job number : ℕ) (op : Op) : Type 0 where
   pub chosen : Choice
   pub chooses : choice s ≡ Some chosen
   pub of_job : chosen.who.job ≡ job
+  pub of_task : chosen.who.task ≡ number
   pub member : Member
   pub found : keyed number_of chosen.who.job s.jobs ≡ Some member
   pub task : Task
@@ -24,12 +25,13 @@ pub record Runs (s : Session) (job : ℕ) (op : Op) : Type 0 where
   pub next : Place
   pub stands : reading_of member.setting task ≡ Ok (op, next)
 
--- one of the first n steps of a run was that of an operator of the job which made this
+-- one of the first n steps of a run was that of a task of the job, and its operator made this
 pub record EarlierStep (s : Session) (n job : ℕ) (Made : Op → Type 0) : Type 0 where
   pub steps_before : ℕ
   pub earlier : steps_before < n
+  pub number : ℕ
   pub op : Op
-  pub ran : Runs (after steps_before s) job op
+  pub ran : Runs (after steps_before s) job number op
   pub made : Made op
 
 -- each word of a frame was made by an earlier step of its job, and so were its mark and return, but for the mark of the

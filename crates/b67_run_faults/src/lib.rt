@@ -4,6 +4,7 @@
 ghost use Rattle.b67_run_faults.specs.Faults.{InvalidOperatorExactlyAtNvld, SessionsFaultExactlyAtNvld, RunsFaultExactlyAtNvld};
 ghost use Rattle.b67_run_faults.specs.Opened.{OpeningsMadeByLoader};
 ghost use Rattle.b67_run_faults.specs.Made.{RunsMakeTheirWords};
+ghost use Rattle.b67_run_faults.specs.Ended.{RunsEndExactlyAtNvld};
 
 /// Over an admitted program an operator stands at the place of each live task, and the task's step
 /// faults INVALID OPERATOR exactly where this is NVLD.
@@ -33,4 +34,10 @@ pub fn openings_are_made_by_the_loader()
 /// of an earlier step of its job, but for the mark of the outer block, which the loader made.
 pub fn runs_make_their_words()
     ensures { RunsMakeTheirWords }
+{}
+
+/// In any state of a deck's run a task has ended with INVALID OPERATOR exactly if one of its steps
+/// was that of NVLD.
+pub fn runs_end_exactly_at_nvld()
+    ensures { RunsEndExactlyAtNvld }
 {}
