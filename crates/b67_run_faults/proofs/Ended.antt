@@ -1,5 +1,5 @@
 -- Which tasks of a run have ended with INVALID OPERATOR.
-use Rattle.std.proofs.Common.{◌≡◌, ◌≢◌, ◌↔◌, ℕ, zero, suc, ◌+◌, ◌<◌, List, [], ◌∷◌, Option, Some, None, Ok, Err, refl, sym, ap, ◌∙◌, subst, inl, inr, ◌⊎◌, arith}
+use Rattle.std.proofs.Common.{◌≡◌, ◌↔◌, ℕ, zero, suc, ◌+◌, List, [], ◌∷◌, Option, Some, None, Ok, refl, sym, ap, ◌∙◌, subst, inl, inr, ◌⊎◌, arith}
 use Rattle.std.specs.List.{AllByRecursion}
 use Rattle.std.proofs.lemmas.Bool.Decides.{eqb_tells}
 use Rattle.b67_word.specs.declared.couples.Place.{Place}
@@ -125,8 +125,7 @@ module _ (first : Session) where
       own : (x : ℕ) → FaultIn made.course.ended x ↔ SteppedAtNvld first (suc k) c.who.job x
       own x =
           let step = step_exact t.member.setting t.member.course c.who.task t.task x t.live in
-          let old = exact c.who.job x t.member t.job in
-          (
+          let old = exact c.who.job x t.member t.job in (
             λ h. elim (step.0 h) [
               | inl o ↦ later k c.who.job x (old.0 o)
               | inr n ↦ record { steps_before = k; earlier = omega arith; ran = subst (λ (y : Session). Runs y c.who.job x (Plain Nvld)) (sym is) (now x n.0 (t.at_nvld.faults.0 n.1)) }
@@ -153,8 +152,7 @@ module _ (first : Session) where
                 subst (λ (y : Member). FaultIn y.course.ended x ↔ SteppedAtNvld first (suc k) job x) same
                 (subst (λ j. FaultIn new.course.ended x ↔ SteppedAtNvld first (suc k) j x) (sym a.1) (own x))
             | inr a ↦
-                let old = exact job x m (sym (change_other number_of job c.who.job new s.jobs named a.1) ∙ found') in
-                (
+                let old = exact job x m (sym (change_other number_of job c.who.job new s.jobs named a.1) ∙ found') in (
                   λ h. later k job x (old.0 h),
                   λ r. elim (last_or k job x s is r) [
                     | inl earlier ↦ old.1 earlier
@@ -179,8 +177,7 @@ module _ (first : Session) where
 
   stop_exact : (k : ℕ) (s : Session) → after k first ≡ s → Exact k s → next s ≡ None → Exact (suc k) s
   stop_exact k s is exact e job x m found =
-      let old = exact job x m found in
-      (
+      let old = exact job x m found in (
         λ h. later k job x (old.0 h),
         λ r. elim (last_or k job x s is r) [ inl earlier ↦ old.1 earlier | inr runs ↦ absurd (runs_on s job x (Plain Nvld) runs e) ],
       )

@@ -1,5 +1,5 @@
 -- A whole step ends a task with INVALID OPERATOR exactly if it is the task that steps, and its operator faults so.
-use Rattle.std.proofs.Common.{◌≡◌, ◌≢◌, ◌↔◌, ℕ, ◌+◌, Bool, true, false, not, eqb, List, [], ◌∷◌, ◌++◌, map, Option, Some, None, Ok, Err, refl, sym, ap, ◌∙◌, subst, inl, inr, ◌⊎◌}
+use Rattle.std.proofs.Common.{◌≡◌, ◌≢◌, ◌↔◌, ℕ, ◌+◌, Bool, true, false, not, eqb, List, [], ◌∷◌, ◌++◌, Some, Ok, Err, sym, ap, subst, inl, inr, ◌⊎◌}
 use Rattle.std.specs.List.{list_all}
 use Rattle.b67_word.specs.declared.faults.Fault.{Fault}
 use Rattle.b67_word.specs.declared.faults.Fault.TheVariants.{InvalidOperator}
@@ -68,26 +68,26 @@ settles_exact job task (Ok (Goes after printed touched)) x = (
 )
 settles_exact job task (Ok (Waits condition)) x = (
   λ h.
-  let after = with_task job (record task { condition = condition }) in
-  absurd ((each_exact (list_all (λ (t : Task). not (is_ready t)) after.tasks) Deadlock (unsettled after) x deadlock_ne).0 h),
+      let after = with_task job (record task { condition = condition }) in
+      absurd ((each_exact (list_all (λ (t : Task). not (is_ready t)) after.tasks) Deadlock (unsettled after) x deadlock_ne).0 h),
   λ both. absurd (let is = both.1 in let z : ⊥ = cc in z),
 )
 settles_exact job task (Ok Leaves) x = (
   λ h.
-  let both = (task_exact job task.number Ended x).0 ((each_exact (list_all (λ (t : Task). not (is_ready t)) (ends_task job task.number Ended).job.tasks) Deadlock (ends_task job task.number Ended) x deadlock_ne).0 h) in
-  absurd (let is = both.1 in let z : ⊥ = cc in z),
+      let both = (task_exact job task.number Ended x).0 ((each_exact (list_all (λ (t : Task). not (is_ready t)) (ends_task job task.number Ended).job.tasks) Deadlock (ends_task job task.number Ended) x deadlock_ne).0 h) in
+      absurd (let is = both.1 in let z : ⊥ = cc in z),
   λ both. absurd (let is = both.1 in let z : ⊥ = cc in z),
 )
 settles_exact job task (Err fault) x = (
   λ h.
-  let both = (task_exact job task.number (Faulted fault) x).0 ((each_exact (list_all (λ (t : Task). not (is_ready t)) ended.job.tasks) Deadlock ended x deadlock_ne).0 h) in
-  let is = both.1 in
-  let same : fault ≡ InvalidOperator = cc in
-  (both.0, ap (λ (f : Fault). let a : Answer Done = Err f in a) same),
+      let both = (task_exact job task.number (Faulted fault) x).0 ((each_exact (list_all (λ (t : Task). not (is_ready t)) ended.job.tasks) Deadlock ended x deadlock_ne).0 h) in
+      let is = both.1 in
+      let same : fault ≡ InvalidOperator = cc in
+      (both.0, ap (λ (f : Fault). let a : Answer Done = Err f in a) same),
   λ both.
-  let is = both.1 in
-  let same : fault ≡ InvalidOperator = cc in
-  (each_exact (list_all (λ (t : Task). not (is_ready t)) ended.job.tasks) Deadlock ended x deadlock_ne).1 ((task_exact job task.number (Faulted fault) x).1 (both.0, ap Faulted same)),
+      let is = both.1 in
+      let same : fault ≡ InvalidOperator = cc in
+      (each_exact (list_all (λ (t : Task). not (is_ready t)) ended.job.tasks) Deadlock ended x deadlock_ne).1 ((task_exact job task.number (Faulted fault) x).1 (both.0, ap Faulted same)),
 )
   where
     ended : Settled

@@ -1,6 +1,5 @@
 -- What a whole step leaves in the frames of its job's live tasks.
 use Rattle.std.proofs.Common.{◌≡◌, ℕ, ◌+◌, Bool, true, false, not, eqb, List, [], ◌∷◌, map, filter, Option, Some, None, Ok, Err, refl, sym, subst, inl, inr, ◌⊎◌}
-use Rattle.std.specs.List.{list_all}
 use Rattle.std.proofs.lemmas.Bool.Decides.{eqb_tells}
 use Rattle.b67_word.specs.declared.couples.Place.{Place}
 use Rattle.b67_word.specs.declared.faults.Ending.{Ending}
@@ -14,8 +13,8 @@ use Rattle.b67_model.specs.State.{Frame, Standing, Task, Setting, Job, Course, w
 use Rattle.b67_model.specs.Steps.{Line, Done, Goes, Leaves, Waits}
 use Rattle.b67_model.specs.Operators.{Reading}
 use Rattle.b67_model.specs.Rows.{row, reading_of, step_by, step}
-use Rattle.b67_model.specs.Endings.{Settled, among, released, is_ready, ends_all, ends_task, ends_each_if, unsettled, settles, stepped}
-use Rattle.b67_model.specs.Alone.{whole, by_task, step_of}
+use Rattle.b67_model.specs.Endings.{Settled, among, released, ends_all, ends_task, ends_each_if, unsettled, settles, stepped}
+use Rattle.b67_model.specs.Alone.{by_task, step_of}
 use Rattle.b67_order.proofs.Members.{has_map_back, has_filter, keyed_has}
 use Rattle.b67_order_rows.proofs.Kept.{here}
 use Rattle.b67_order_made.specs.Made.{Makes, MakesMark, StandsIn}
@@ -98,8 +97,7 @@ module _ (W : Word → Type 0) (M : ℕ → Standing → Type 0) where
       (r : StepRow setting job task (Goes after printed touched)) → Maker r.op → TasksMade after.tasks
   row_kept setting job task after printed touched live all r maker t h f among =
       let stands : StandsIn after.tasks f = record { task = t; live = h; among = among } in
-      let made = each_row_makes_its_words r.op (here setting job task r.next) task after printed touched live refl r.row_is f stands in
-      (
+      let made = each_row_makes_its_words r.op (here setting job task r.next) task after printed touched live refl r.row_is f stands in (
         λ w has. elim (made.words w has) [
           | inl old ↦ (all old.stands.task old.stands.live old.frame old.stands.among).0 w old.among
           | inr new ↦ maker.words w new

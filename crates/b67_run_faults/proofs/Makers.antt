@@ -5,7 +5,7 @@ use Rattle.b67_model.specs.declared.operators.Op.{Op}
 use Rattle.b67_model.specs.Keyed.{keyed}
 use Rattle.b67_model.specs.Lists.{Has}
 use Rattle.b67_model.specs.Words.{Word}
-use Rattle.b67_model.specs.State.{Frame, Standing, Entered, Task, Member}
+use Rattle.b67_model.specs.State.{Standing, Entered, Task, Member}
 use Rattle.b67_model.specs.Rows.{reading_of}
 use Rattle.b67_model.specs.Alone.{step_of}
 use Rattle.b67_model.specs.Schedule.{Session, Choice, choice}
@@ -13,10 +13,9 @@ use Rattle.b67_model.specs.Run.{Moment, number_of, of_job, with_moment, moment_b
 use Rattle.b67_opening.specs.Opening.{opening}
 use Rattle.b67_order.proofs.Members.{keyed_has}
 use Rattle.b67_order_made.specs.Made.{Makes, MakesMark}
-
-use Rattle.b67_run_faults.specs.Made.{Runs, EarlierStep, FrameMadeInRun, RunsMakeTheirWords}
+use Rattle.b67_run_faults.specs.Made.{Runs, EarlierStep, RunsMakeTheirWords}
 use Rattle.b67_run_faults.proofs.Opened.{openings_are_made_by_the_loader}
-use Rattle.b67_run_faults.proofs.Keeping.{Changed, has_changed, TasksMade, Maker, step_kept}
+use Rattle.b67_run_faults.proofs.Keeping.{has_changed, TasksMade, Maker, step_kept}
 
 -- the state after one step more
 pub after_more : (k : ℕ) (first s : Session) (m : Moment) → after k first ≡ s → next s ≡ Some m → after (suc k) first ≡ m.session
@@ -91,8 +90,7 @@ pub runs_make_their_words : RunsMakeTheirWords
 runs_make_their_words n stack quantum switches openings m task f among live of_task =
     let s = opening stack quantum switches openings in
     let start : SessionMade s n s = λ m' among' t h g has.
-    let o = openings_are_made_by_the_loader stack quantum switches openings m' among' in
-    (
+    let o = openings_are_made_by_the_loader stack quantum switches openings m' among' in (
       λ w word. absurd (subst (λ (ws : List Word). Has ws w) (o.made.no_words t g h has) word),
       inl (o.made.outer_block t g h has, o.made.mark t g h has),
     ) in

@@ -20,18 +20,18 @@ pub sessions_fault_exactly_at_nvld : SessionsFaultExactlyAtNvld
 sessions_fault_exactly_at_nvld s order admitted = record {
   each = each;
   chosen = λ c is.
-    let k = chosen s c is in
-    let m = k.who.member in
-    record {
-      member = m;
-      job = subst (λ n. keyed number_of n s.jobs ≡ Some m) k.who.named (keyed_numbered 1 s.jobs m order.numbered k.who.among);
-      task = k.who.task;
-      live =
-        subst (λ n. keyed (λ t. t.number) n m.course.job.tasks ≡ Some k.who.task) k.who.numbered
-        (keyed_falls (λ (t : Task). t.number) m.course.job.next_task m.course.job.tasks k.who.task (job_good m k.who.among).tasks.numbers k.who.lives);
-      ready = k.who.ready;
-      at_nvld = each m k.who.task k.who.among k.who.lives;
-    };
+      let k = chosen s c is in
+      let m = k.who.member in
+      record {
+        member = m;
+        job = subst (λ n. keyed number_of n s.jobs ≡ Some m) k.who.named (keyed_numbered 1 s.jobs m order.numbered k.who.among);
+        task = k.who.task;
+        live =
+            subst (λ n. keyed (λ t. t.number) n m.course.job.tasks ≡ Some k.who.task) k.who.numbered
+            (keyed_falls (λ (t : Task). t.number) m.course.job.next_task m.course.job.tasks k.who.task (job_good m k.who.among).tasks.numbers k.who.lives);
+        ready = k.who.ready;
+        at_nvld = each m k.who.task k.who.among k.who.lives;
+      };
 }
   where
     job_good : (m : Member) → Has s.jobs m → JobInOrder (IsStart m.setting) m.setting m.course
