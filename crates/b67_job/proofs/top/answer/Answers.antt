@@ -2,7 +2,7 @@ use Rattle.std.proofs.Common.{◌≡◌, ◌∙◌, ◌≤◌, ◌<◌, ◌+◌,
 use Rattle.std.specs.Prelude.{is_some}
 use Rattle.b67_text.specs.Deck.{limit}
 use Rattle.b67_job.specs.Command.{command_of}
-use Rattle.b67_job.specs.Judgement.{judgement, refusal_text}
+use Rattle.b67_job.specs.Judgement.{judgement}
 use Rattle.b67_job.specs.Due.{AnswersTo, refusal_due}
 use Rattle.b67_job.proofs.Judged.{answered, answered_fault, answers_same}
 use Rattle.b67_job.proofs.top.answer.Goals as goal

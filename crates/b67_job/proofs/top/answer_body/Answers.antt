@@ -22,6 +22,6 @@ returns-in-Ok g c =
     answers_refusal (file_judgement c.args.job c.args.card c.args.bytes.now) (refusals.Deck c.args.card 90) c.refuse_card.result
     (program_other c.args.card a (program_of c.in-Ok.program) c.in-Ok.ensures (sym (ap (λ (f : Codefile). is_first (program_of f)) c.file.ensures.same) ∙ c.in-None.ensures)) c.refuse_card.ensures
 
-pub returns-in-Err : goal.returns-in-Err
-returns-in-Err g c =
+pub returns : goal.returns
+returns g c =
     answers_fault program_of c.args.card (program_admitted c.args.job c.args.card (file_of c.args.bytes.now)) c.in-Err.fault c.refuse_program.result c.in-Err.ensures c.refuse_program.ensures
