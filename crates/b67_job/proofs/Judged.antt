@@ -1,13 +1,12 @@
 -- What is judged of a deck, part by part, and how a judgement is answered.
-use Rattle.std.proofs.Common.{◌≡◌, ◌≢◌, ◌≤◌, ◌<◌, ◌+◌, ◌-◌, ◌^◌, ◌⊎◌, inl, inr, Bool, true, false, ℕ, List, [], ◌∷◌, ◌++◌, length, take, refl, sym, ap, ◌∙◌, subst, arith, Option, Some, None, Ok, Err, Result, cond, eqb}
-use Rattle.std.specs.Prelude.{nat_lt, count_by, is_some, min, ◌==◌}
+use Rattle.std.proofs.Common.{◌≡◌, ◌≢◌, ◌≤◌, ◌<◌, ◌+◌, ◌⊎◌, inl, inr, true, false, ℕ, List, [], ◌∷◌, length, take, refl, sym, ap, ◌∙◌, subst, arith, Option, Some, None, Ok, Err}
+use Rattle.std.specs.Prelude.{nat_lt, count_by, is_some, ◌==◌}
 use Rattle.std.proofs.lemmas.Bool.{lt-ltb, false≢true}
 use Rattle.std.proofs.lemmas.Bool.Decides.{nat_tests}
-use Rattle.std.proofs.lemmas.List.{take-append-le, length-append}
-use Rattle.std.proofs.lemmas.Option.{same_Some}
+use Rattle.std.proofs.lemmas.List.{length-append}
 use denote.Ref.{Bor}
 use Rattle.b67_model.specs.Program.{Program}
-use Rattle.b67_io.specs.Told.{Took, TookPart, Gave, GaveAll}
+use Rattle.b67_io.specs.Told.{TookPart, GaveAll}
 use Rattle.b67_io.specs.Causes.{Rose, Stayed}
 use Rattle.b67_io.proofs.Joined.{Took-none}
 use Rattle.b67_text.specs.Cards.{cards}
@@ -16,7 +15,7 @@ use Rattle.b67_card.specs.declared.reading.ReadFault.{ReadFault}
 use Rattle.b67_card.specs.declared.reading.ReadFault.TheVariants as read_faults
 use Rattle.b67_card.specs.Reading.{IsAnswer}
 use Rattle.b67_job.specs.Command.{command_of}
-use Rattle.b67_job.specs.FirstForm.{Body, Form, first_form}
+use Rattle.b67_job.specs.FirstForm.{Form, first_form}
 use Rattle.b67_job.specs.Judgement.{Judgement, Refused, Runs, is_first, program_judgement, file_judgement, form_judgement, judgement, judged_status}
 use Rattle.b67_job.specs.declared.refusal.Refusal.{Refusal}
 use Rattle.b67_job.specs.declared.refusal.Refusal.TheVariants as refusals

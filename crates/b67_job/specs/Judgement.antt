@@ -1,5 +1,5 @@
 -- What a deck asks for.
-use Rattle.std.specs.Prelude.{ℕ, ◌+◌, ◌==◌, ◌&&◌, nat_lt, Bool, false, List, [], ◌∷◌, length, take, count_by, Option, Some, None, Ok, Err, if◌then◌else◌}
+use Rattle.std.specs.Prelude.{ℕ, ◌+◌, ◌==◌, ◌&&◌, nat_lt, Bool, false, List, [], ◌∷◌, length, take, count_by, Some, None, Ok, Err, if◌then◌else◌}
 use Rattle.b67_model.specs.State.{Member, Segment}
 use Rattle.b67_model.specs.Program.{Program}
 use Rattle.b67_text.specs.Cards.{cards, is_empty}
@@ -8,7 +8,7 @@ use Rattle.b67_codefile.specs.Reading.{file_of}
 use Rattle.b67_job.specs.declared.refusal.Refusal.{Refusal}
 use Rattle.b67_job.specs.declared.refusal.Refusal.TheVariants as refusals
 use Rattle.b67_job.specs.Admission.{Answer, program_admitted}
-use Rattle.b67_job.specs.FirstForm.{Body, Form, first_form}
+use Rattle.b67_job.specs.FirstForm.{Form, first_form}
 use Rattle.b67_job.specs.Listed.{is_runnable}
 use Rattle.b67_job.specs.Runs.{job_of}
 

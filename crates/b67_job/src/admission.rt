@@ -48,11 +48,13 @@ fn verified(alloc: Global, card: u32, file: Codefile) -> Result<Admitted, AdmitF
 {
     match verify(alloc, file) {
         Ok(program) => Ok(program),
-        Err(LoadFault::Refused {
-            segment,
-            place,
-            reason,
-        }) => Err(AdmitFault::Refused(Refusal::Load {
+        Err(
+            LoadFault::Refused {
+                segment,
+                place,
+                reason,
+            },
+        ) => Err(AdmitFault::Refused(Refusal::Load {
             card,
             reason,
             segment,

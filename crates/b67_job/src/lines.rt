@@ -105,7 +105,10 @@ fn card_line(kind: &str, card: u32, reason: u8) -> Line
 fn codefile_line(card: u32, reason: u8, byte: usize) -> Line
     ensures { result ≡ card_text (codes "CODEFILE ") card reason ++ codes " BYTE " ++ decimal byte }
 {
-    with_number(with_text(card_line("CODEFILE ", card, reason), " BYTE "), byte as u64)
+    with_number(
+        with_text(card_line("CODEFILE ", card, reason), " BYTE "),
+        byte as u64,
+    )
 }
 
 fn load_line(card: u32, reason: u8, segment: u8, place: Place) -> Line

@@ -6,9 +6,16 @@ use b67_word::Place;
 #[derive(Clone, Copy, Debug, PartialEq, Eq)]
 pub enum Refusal {
     /// A card is refused for this reason.
-    Deck { card: u32, reason: u8 },
+    Deck {
+        card: u32,
+        reason: u8,
+    },
     /// The bytes of the body of this `?HEX` card are no codefile, from this byte on, counted from 0.
-    Codefile { card: u32, reason: u8, byte: usize },
+    Codefile {
+        card: u32,
+        reason: u8,
+        byte: usize,
+    },
     /// The program of this `?JOB` card breaks this rule of the loader, in this segment at this place.
     Load {
         card: u32,

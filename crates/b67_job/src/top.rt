@@ -105,13 +105,7 @@ fn answer_deck<K: Sink>(alloc: Global, text: &[u8], printer: &mut K) -> u8
     }
 }
 
-fn answer_body<K: Sink>(
-    alloc: Global,
-    job: u32,
-    card: u32,
-    bytes: &[u8],
-    printer: &mut K,
-) -> u8
+fn answer_body<K: Sink>(alloc: Global, job: u32, card: u32, bytes: &[u8], printer: &mut K) -> u8
     ensures { AnswersTo (file_judgement job card bytes.now) K.taken K.faults printer.old printer.new result }
 {
     match admit(alloc, job, card, bytes) {

@@ -1,9 +1,9 @@
-use Rattle.std.proofs.Common.{◌≡◌, ◌∙◌, ◌<◌, ◌≤◌, List, ℕ, sym, ap, subst, Some, None, arith, refl}
+use Rattle.std.proofs.Common.{◌∙◌, sym, ap, subst, Some, None, arith}
 use Rattle.b67_word.specs.Tagged.{contents}
 use Rattle.b67_io.specs.Told.{Took, TookPart}
 use Rattle.b67_job.specs.Stack as stack
 use Rattle.b67_io.proofs.Joined.{Took-none}
-use Rattle.b67_job.proofs.Running.{Running, running-begins, running-goes, running-cut, running-ends, falls, value_text_is, short-contents}
+use Rattle.b67_job.proofs.Running.{running-begins, running-goes, running-cut, running-ends, falls, value_text_is, short-contents}
 use Rattle.b67_job.proofs.machine.run_code.Goals as goal
 
 pub step-init : goal.step-init
