@@ -31,7 +31,7 @@ pub activations-with : (plan : Plan) (j : ℕ) (job : Job) (k : ℕ) (outer : �
 activations-with plan j job k outer [] cells = refl
 activations-with plan j job k outer (f ∷ below) cells = refl
 
-seen-with : (fs : List Frame) (cells : List Word) (c s : ℕ) (outer : ℕ → Spot) (id : ℕ) → spot_in s outer (from_frame c (with_top_cells fs cells)) id ≡ spot_in s outer (from_frame c fs) id
+pub seen-with : (fs : List Frame) (cells : List Word) (c s : ℕ) (outer : ℕ → Spot) (id : ℕ) → spot_in s outer (from_frame c (with_top_cells fs cells)) id ≡ spot_in s outer (from_frame c fs) id
 seen-with [] cells c s outer id = refl
 seen-with (f ∷ below) cells c s outer id = seen-cells f below cells c s outer id
 

@@ -1,28 +1,26 @@
 -- Every row makes only its own words and marks.
-use Rattle.std.proofs.Common.{◌≡◌, ◌≢◌, ℕ, zero, suc, ◌+◌, ℤ, pos, negsuc, Bool, true, false, not, cond, eqb, leb, ltb, List, [], ◌∷◌, ◌++◌, reverse, replicate, length, Option, Some, None, Ok, Err, refl, sym, ap, ◌∙◌, subst, inl, inr, ◌⊎◌}
-use Rattle.std.specs.List.{list_any}
+use Rattle.std.proofs.Common.{◌≡◌, ℕ, ◌+◌, ℤ, pos, negsuc, Bool, true, false, cond, leb, ltb, List, [], ◌∷◌, reverse, replicate, length, Option, Some, None, refl, sym, subst, inl, inr, ◌⊎◌}
 use Rattle.b67_word.specs.declared.couples.Place.{Place}
-use Rattle.b67_word.specs.Operands.{bits_of}
 use Rattle.b67_model.specs.declared.operators.Op.{Op}
 use Rattle.b67_model.specs.declared.operators.Op.TheVariants.{Valc, Namc, Lt8, Lt16, Lt48, Mpcw, Brun, Brtr, Brfl, Bset, Brst, Isol, Insr, Plain}
 use Rattle.b67_model.specs.declared.operators.Code.{Code}
 use Rattle.b67_model.specs.declared.operators.Code.TheVariants.{Add, Subt, Mult, Idiv, Rdiv, Less, Greq, Grtr, Lseq, Equl, Neql, Chsn, Land, Lor, Leqv, Lnot, Same, Exit, Indx, Retn, Entr, Nxlv, Mkst, Stff, Zero, One, Push, Dlet, Exch, Dupl, Stod, Ston, Load, Noop, Nvld}
-use Rattle.b67_model.specs.Answers.{Answer, ◌>>=◌, ◌>>◌, needs}
+use Rattle.b67_model.specs.Answers.{Answer, needs}
 use Rattle.b67_model.specs.Lists.{Has}
 use Rattle.b67_model.specs.Arithmetic.{Binary, add, subt, mult, idiv, rdiv, less, greq, grtr, lseq, equl, neql, land, lor, leqv, same, chsn, lnot, bset, brst, isol, insr}
-use Rattle.b67_model.specs.Words.{Word, Operand, Name, Ref, Row, Element, Original, Proc, operand, whole}
-use Rattle.b67_model.specs.State.{Frame, Standing, Marked, Entered, Return, Array, Task, Job, Here, top, below_top, with_top_cells, with_task}
+use Rattle.b67_model.specs.Words.{Word, Operand, Name, Ref, Row, Element, Original, operand, whole}
+use Rattle.b67_model.specs.State.{Frame, Standing, Marked, Entered, Task, Here, top, below_top, with_task}
 use Rattle.b67_model.specs.Cells.{place_of, cell, with_cell}
 use Rattle.b67_model.specs.Arrays.{array, element, with_element, indexed, in_order}
 use Rattle.b67_model.specs.Chase.{End, AtCell, AtElement, AtArray, AtProc, AtIntrinsic, chase, follow, follow_reference}
-use Rattle.b67_model.specs.Steps.{Line, Value, Values, Done, Goes, Leaves, Waits, top_of, cells_of, result, with_cells, leaves_cells, pushes}
+use Rattle.b67_model.specs.Steps.{Line, Value, Values, Done, Goes, top_of, cells_of, with_cells, leaves_cells, pushes}
 use Rattle.b67_model.specs.Entry.{back_to, needs_level}
 use Rattle.b67_word.specs.declared.faults.Fault.TheVariants.{StackOverflow}
 use Rattle.b67_model.specs.Intrinsics.{answered, answers, array_length, arraydec, print, row_copy, numbers_of, printrow, read_from, read, child_of, starts, process, awaits, await, status_of, status, waits_at, wait, causes, cause, intrinsic}
-use Rattle.b67_model.specs.Rows.{on_one, on_two, dlet, exch, dupl, on_cells, branches, branch_if, valc, stff_word, stff, load_at, load, indx, nxlv, store_at, store, entr_at, entr_with, entr, is_proc, proc_of, mpcw, plain, row}
+use Rattle.b67_model.specs.Rows.{on_one, on_two, dlet, exch, dupl, on_cells, branches, branch_if, stff_word, stff, load_at, load, indx, nxlv, store_at, store, entr_at, entr_with, entr, proc_of, plain, row}
 use Rattle.b67_order.proofs.Members.{has_reverse_back}
-use Rattle.b67_order.proofs.Posts.{Post, post_ok, post_err, post_bind, post_any, post_then, post_if, post_any_at, post_at}
-use Rattle.b67_order_made.specs.Made.{Makes, MakesMark, by_mkst, by_entr, by_retn, by_load, by_stod, by_ston, by_valc, StandsIn, HasWord, HasMark, FrameMade, EachRowMakesItsWords}
+use Rattle.b67_order.proofs.Posts.{Post, post_ok, post_err, post_bind, post_any, post_then, post_if, post_at}
+use Rattle.b67_order_made.specs.Made.{Makes, MakesMark, by_mkst, by_entr, by_retn, by_load, by_stod, by_ston, by_valc, StandsIn, HasWord, HasMark, EachRowMakesItsWords}
 use Rattle.b67_order_made.proofs.Steps as S
 
 module _ (W : Word → Type 0) (M : ℕ → Standing → Type 0) (numbers : (bits : ℕ) → W (Operand bits)) where

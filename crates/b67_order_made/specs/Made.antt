@@ -6,7 +6,7 @@ use Rattle.b67_model.specs.declared.operators.Code.TheVariants.{Mkst, Entr, Retn
 use Rattle.b67_model.specs.Lists.{Has}
 use Rattle.b67_model.specs.Words as Words
 use Rattle.b67_model.specs.Words.{Word, Operand, Name, Ref, Row, Element, Original, Proc, Intrinsic}
-use Rattle.b67_model.specs.State.{Frame, Standing, Marked, Entered, Task, Job, Here}
+use Rattle.b67_model.specs.State.{Frame, Standing, Marked, Task, Job, Here}
 use Rattle.b67_model.specs.Steps.{Line, Goes}
 use Rattle.b67_model.specs.Rows.{proc_of, row}
 

@@ -1,12 +1,12 @@
 -- A job after a whole step: in order, one operator further, with at most fifteen tasks before its endings.
-use Rattle.std.proofs.Common.{◌≡◌, ℕ, ◌+◌, ◌^◌, ◌<◌, ◌≤◌, Bool, true, false, not, eqb, List, [], ◌∷◌, map, filter, length, Option, Some, None, Ok, Err, refl, sym, ap, ◌∙◌, subst, arith}
+use Rattle.std.proofs.Common.{◌≡◌, ℕ, ◌+◌, ◌≤◌, Bool, true, false, not, eqb, List, map, filter, length, Some, Ok, Err, refl, sym, subst, arith}
 use Rattle.std.specs.List.{list_all}
 use Rattle.std.proofs.lemmas.List.{length-map}
 use Rattle.b67_word.specs.declared.faults.Ending.{Ending}
 use Rattle.b67_word.specs.declared.faults.Ending.TheVariants.{Ended, Deadlock, Limit, Faulted}
 use Rattle.b67_model.specs.Answers.{Answer}
 use Rattle.b67_model.specs.Keyed.{keyed}
-use Rattle.b67_model.specs.State.{Ready, Task, Setting, Job, Course, Member, with_task}
+use Rattle.b67_model.specs.State.{Ready, Task, Setting, Job, Course, with_task}
 use Rattle.b67_model.specs.Steps.{Done, Goes, Leaves, Waits}
 use Rattle.b67_model.specs.Rows.{step}
 use Rattle.b67_model.specs.Endings.{Settled, among, released, is_ready, ends_all, ends_task, ends_each_if, unsettled, settles, stepped}
@@ -14,7 +14,8 @@ use Rattle.b67_model.specs.Alone.{JobMoment, whole, by_task, step_of}
 use Rattle.b67_model.specs.InOrder.{Starts, TasksInOrder, JobInOrder}
 use Rattle.b67_order.proofs.Members.{length_change, length_filter}
 use Rattle.b67_order.specs.Ends.{StepsFrom}
-use Rattle.b67_order_steps.specs.Laws.{KeepsOrder, KeptBySteps}
+use Rattle.b67_order_rows.specs.Keeping.{KeepsOrder}
+use Rattle.b67_order_steps.specs.Laws.{KeptBySteps}
 
 ends_fewer : (s : Settled) (endings : List (ℕ × Ending)) → length (ends_all s endings).job.tasks ≤ length s.job.tasks
 ends_fewer s endings =

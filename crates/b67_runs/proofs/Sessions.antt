@@ -1,22 +1,22 @@
 -- A step of a session keeps it in order, and so does a run.
-use Rattle.std.proofs.Common.{◌≡◌, ℕ, zero, suc, ◌+◌, ◌-◌, ◌≤◌, max, List, [], ◌∷◌, map, length, Option, Some, None, refl, sym, ap, ◌∙◌, subst, inl, inr, ◌⊎◌, arith}
+use Rattle.std.proofs.Common.{◌≡◌, ℕ, zero, suc, ◌+◌, ◌-◌, ◌≤◌, max, List, [], ◌∷◌, length, Option, Some, None, refl, sym, subst, inl, inr, ◌⊎◌, arith}
 use Rattle.std.specs.List.{AllByRecursion, sum_by}
 use Rattle.std.proofs.lemmas.Bool.Decides.{eqb_tells}
 use Rattle.b67_model.specs.Keyed.{keyed, change_keyed}
-use Rattle.b67_model.specs.Lists.{Has, total}
+use Rattle.b67_model.specs.Lists.{Has}
 use Rattle.b67_model.specs.State.{Task, Setting, Course, Member}
 use Rattle.b67_model.specs.Alone.{JobMoment, step_of}
-use Rattle.b67_model.specs.Schedule.{Switch, Session, Choice, choice}
+use Rattle.b67_model.specs.Schedule.{Session, Choice, choice}
 use Rattle.b67_model.specs.Run.{Moment, number_of, of_job, with_moment, moment_by, moment_for, next, after_from, after}
 use Rattle.b67_model.specs.InOrder.{Starts, IsSegment, IsStart, JobInOrder, SessionInOrder, IsInOrder}
-use Rattle.b67_opening.specs.Opening.{Opening, OpeningWithin, DeckWithin, opened_from, opening, OpensInOrder}
+use Rattle.b67_opening.specs.Opening.{Opening, OpeningWithin, opened_from, opening}
 use Rattle.b67_opening.proofs.Opens.{opens_in_order}
-use Rattle.b67_order.proofs.Members.{all_in, all_from, keyed_has, keyed_falls, total_change, total_has, length_change}
+use Rattle.b67_order.proofs.Members.{all_in, keyed_has, keyed_falls, total_change, total_has, length_change}
 use Rattle.b67_order_steps.proofs.Settles.{steps_keep_order, steps_keep_order_but_places}
 use Rattle.b67_order_steps.proofs.Segments.{rows_keep_order_but_places}
 use Rattle.b67_order_steps.proofs.Places.{rows_keep_order}
 use Rattle.b67_runs.specs.Runs.{RunsAdmitted, SessionsStayInOrder, SessionsStayInOrderButPlaces, RunsStayInOrder}
-use Rattle.b67_runs.proofs.Chosen.{IsChosen, chosen, keyed_numbered}
+use Rattle.b67_runs.proofs.Chosen.{chosen, keyed_numbered}
 use Rattle.b67_runs.proofs.Totals.{sum_total, change_is, all_change, numbered_change, others_fifteen, peak_low_of, peak_high_of}
 use Rattle.b67_runs.proofs.Moments.{Made, Keeping, step_made}
 
