@@ -1,0 +1,6 @@
+pub mod Literals
+pub mod Nvld
+pub mod States
+pub mod Opened
+pub mod Keeping
+pub mod Makers
