@@ -1,10 +1,8 @@
-use Rattle.std.proofs.Common.{◌≡◌, ◌∙◌, ◌<◌, ◌≤◌, Bool, false, true, sym, ap, subst, Ok, Err, arith, refl}
+use Rattle.std.proofs.Common.{◌∙◌, Bool, sym, ap, arith}
 use Rattle.std.specs.Prelude.{◌&&◌}
 use Rattle.b67_word.specs.Tagged.{contents}
-use Rattle.b67_model.specs.Operators.{operator_at}
 use Rattle.b67_model.specs.Loader.{may_be_last}
 use Rattle.b67_job.specs.Listed.{built_after}
-use Rattle.b67_job.specs.Stack.{is_built}
 use Rattle.b67_job.proofs.Places.{listing_from, listing-step, listing-err, operator-behind}
 use Rattle.b67_job.proofs.machine.is_runnable.Goals as goal
 
