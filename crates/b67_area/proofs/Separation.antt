@@ -1,7 +1,7 @@
 -- which writes keep the directory: into an area, and below `low` but for words 152 to 159
 use Rattle.std.proofs.Common.{◌≡◌, ◌≢◌, ℕ, zero, suc, ◌+◌, ◌-◌, ◌<◌, ◌≤◌, ◌^◌, List, [], ◌∷◌, length, Some, refl, sym, ◌∙◌, ap, arith, inl, inr, ⊎_elim, ◌⊎◌, ◌==◌, slice_set}
 use Rattle.std.specs.List.{slice_get}
-use Rattle.std.proofs.lemmas.Bool.{cases_Bool, eqb-true}
+use Rattle.std.proofs.lemmas.Bool.{cases_Bool, cases_lt, eqb-true}
 use Rattle.std.proofs.lemmas.Option.{same_Some, none-some}
 use Rattle.std.proofs.Math.ListN.{length-set}
 use Rattle.b67_word.specs.Tagged.{Tagged}
@@ -69,4 +69,20 @@ IsDirectory-set_below core low ss i w d under out =
     IsDirectory-same core (slice_set core i w) low ss (length-set core i w)
     (λ k h. slice_get-set_other core i k w (λ q. ⊎_elim (λ g. omega (arith, h.0)) (λ g. omega (arith, h.1)) out))
     (λ k c. slice_get-set_other core i k w (λ q. omega (arith, control-low low ss k c)))
+    d
+
+-- the words of an area, from its first word on
+pub IsDirectory-area_words : (core new : List Tagged) (low : ℕ) (ss : List Span) (x : ℕ) (a : Info) → IsDirectory core low ss → area_at low ss x ≡ Some a → length new ≡ length core → ((i : ℕ) → (i < x) ⊎ (x + a.words ≤ i) → slice_get new i ≡ slice_get core i) → IsDirectory new low ss
+IsDirectory-area_words core new low ss x a d e len same =
+    IsDirectory-same core new low ss len
+    (λ k h. same k (inl (omega (arith, d.above, area_at-low low ss x a e, h.1))))
+    (λ k c. same k (⊎_elim (λ l. inl l) (λ g. ⊎_elim (λ l. absurd (area-control low ss x a k e g l c)) (λ m. inr m) (cases_lt k (x + a.words))) (cases_lt k x)))
+    d
+
+-- the words below the areas, but for words 152 to 159
+pub IsDirectory-below_words : (core new : List Tagged) (low : ℕ) (ss : List Span) → IsDirectory core low ss → length new ≡ length core → ((i : ℕ) → (low ≤ i) ⊎ ((152 ≤ i) × (i < 160)) → slice_get new i ≡ slice_get core i) → IsDirectory new low ss
+IsDirectory-below_words core new low ss d len same =
+    IsDirectory-same core new low ss len
+    (λ k h. same k (inr h))
+    (λ k c. same k (inl (control-low low ss k c)))
     d

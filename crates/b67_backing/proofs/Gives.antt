@@ -1,11 +1,10 @@
-use Rattle.std.proofs.Common.{◌≡◌, ◌≢◌, ℕ, zero, suc, ◌+◌, ◌-◌, ◌<◌, ◌≤◌, ◌^◌, List, [], ◌∷◌, ◌++◌, length, take, drop, Some, None, refl, sym, ◌∙◌, ap, arith, inl, inr, ⊎_elim, ◌⊎◌, ◌==◌, subst, slice_set, length-append}
+use Rattle.std.proofs.Common.{◌≡◌, ◌≢◌, ℕ, ◌+◌, ◌<◌, ◌≤◌, List, ◌∷◌, ◌++◌, length, Some, sym, ◌∙◌, ap, arith, subst, slice_set, length-append}
 use Rattle.std.specs.List.{slice_get}
 use Rattle.std.proofs.lemmas.Option.{slice_get_within, same_Some}
 use Rattle.std.proofs.Math.ListN.{length-set}
 use Rattle.b67_core.proofs.Writes.{slice_get-set_same}
 use Rattle.b67_backing.specs.Shelf.{Table, Shelf, IsShelf, Linked, AreChains, one, times, uses, first, last, chain_of, others, given}
-use Rattle.b67_backing.proofs.Links.{one-same, one-apart, times-cons, times-append, times-last, link_first, linked_end, linked_within, Linked-set, Linked-append, AreChains-set, AreChains-others, uses-split, Chain, chain_there, rest}
-use Rattle.b67_backing.proofs.Tallies.{AllBelow, distinct_length_zero}
+use Rattle.b67_backing.proofs.Links.{times-cons, times-append, times-last, link_first, linked_end, Linked-set, Linked-append, AreChains-set, AreChains-others, uses-split, Chain, chain_there, rest}
 
 -- the links after a chain of these sectors was given back, where f was the first free one
 abbrev pub give_links : List ℕ → ℕ → ℕ → List ℕ → List ℕ

@@ -1,14 +1,13 @@
-use Rattle.std.proofs.Common.{◌≡◌, ◌≢◌, ℕ, zero, suc, ◌+◌, ◌-◌, ◌*◌, ◌/◌, ◌<◌, ◌≤◌, ◌^◌, List, [], ◌∷◌, ◌++◌, length, Option, Some, None, IfSome, refl, sym, ◌∙◌, ap, arith, inl, inr, ⊎_elim, ◌⊎◌, ◌==◌, subst, map, option_map, min}
+use Rattle.std.proofs.Common.{◌≡◌, ℕ, zero, suc, ◌+◌, ◌-◌, ◌*◌, ◌<◌, ◌≤◌, List, [], ◌∷◌, length, Option, Some, refl, sym, ◌∙◌, ap, arith, inl, inr, ⊎_elim, ◌⊎◌, subst, map, option_map, min}
 use Rattle.std.specs.List.{slice_get}
 use Rattle.std.proofs.lemmas.Bool.{cases_lt}
 use Rattle.b67_backing.proofs.Tallies.{AllBelow}
 use Rattle.b67_backing.proofs.Walks.{all_below}
-use Rattle.std.proofs.lemmas.Option.{slice_get_within, same_Some}
+use Rattle.std.proofs.lemmas.Option.{same_Some}
 use Rattle.b67_word.specs.Tagged.{Tagged}
-use Rattle.b67_backing.specs.Shelf.{Table, Shelf, IsShelf, HasChain, Linked, one, times, uses, first, last, chain_of, others}
-use Rattle.b67_io.specs.Causes.{Rose}
-use Rattle.b67_backing.specs.Held.{Tells, Becomes, Changes, Counts, SameBut, Sets, Stores, Holds, under, sector, sectors_for}
-use Rattle.b67_backing.proofs.Links.{one-same, one-apart, one-other, times-cons, link_first, linked_within, uses-split, Chain, chain_there, rest}
+use Rattle.b67_backing.specs.Shelf.{Table, Shelf, IsShelf, HasChain, Linked, times, first, chain_of}
+use Rattle.b67_backing.specs.Held.{Tells, Becomes, Changes, Counts, SameBut, Sets, Stores, Holds, under, sector}
+use Rattle.b67_backing.proofs.Links.{one-same, one-other, times-cons, link_first, linked_within, uses-split, chain_there, rest}
 
 abbrev pub AreLinked : List ℕ → List ℕ → Type 0
 AreLinked links [] = Unit {0}

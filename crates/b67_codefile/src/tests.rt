@@ -1,6 +1,7 @@
 //! What the format's examples give.
 
 use crate::{BadFile, read, write};
+use std::alloc::Global;
 use std::test::Fail;
 
 /// One segment of level 2: MKST, NAMC 0,9, LT8 2, LT8 3, ADD, ENTR, EXIT.
@@ -34,9 +35,15 @@ fn every_prefix_is_short(rt: HostRuntime) {
     }
 }
 
+/// Why a header with these bytes behind it is no codefile.
+fn reason_behind_the_header(alloc: Global, rest: &[u8]) -> Result<Option<BadFile>, Fail> {
+    let mut bytes = b"B67CODE1".to_vec(alloc)?;
+    bytes.extend_from_slice(rest)?;
+    Ok(read(alloc, &bytes).err())
+}
+
 #[test]
-fn tells_each_reason(rt: HostRuntime) {
-    let header = [0x42, 0x36, 0x37, 0x43, 0x4f, 0x44, 0x45, 0x31];
+fn tells_each_reason(rt: HostRuntime) -> Result<(), Fail> {
     let behind: [(&[u8], BadFile); 12] = [
         (&[0, 255, 0, 0], BadFile::Short { at: 12 }),
         (&[0, 255, 0, 1], BadFile::TooMany { at: 8 }),
@@ -64,10 +71,7 @@ fn tells_each_reason(rt: HostRuntime) {
         (&[0, 0, 0, 0, 0], BadFile::Trailing { at: 12 }),
     ];
     for (rest, reason) in behind {
-        let bytes = [header.as_slice(), rest]
-            .concat(rt.alloc())
-            .expect(&rt, "memory");
-        assert_eq!(rt; read(rt.alloc(), &bytes).err(), Some(reason));
+        assert_eq!(rt; reason_behind_the_header(rt.alloc(), rest)?, Some(reason));
     }
     let other = [0x42, 0x36, 0x37, 0x43, 0x4f, 0x44, 0x45, 0x32];
     assert_eq!(rt;
@@ -78,4 +82,5 @@ fn tells_each_reason(rt: HostRuntime) {
         read(rt.alloc(), &other[..7]).err(),
         Some(BadFile::Short { at: 7 })
     );
+    Ok(())
 }

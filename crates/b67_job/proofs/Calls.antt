@@ -1,16 +1,16 @@
 -- Leaving the outer activation, and entering PRINT.
-use Rattle.std.proofs.Common.{◌≡◌, ◌≢◌, ℕ, ◌+◌, ◌^◌, ◌≤◌, ◌<◌, Bool, true, false, List, [], ◌∷◌, ◌++◌, length, map, reverse, refl, sym, ap, ◌∙◌, subst, arith, None, Option, Some, Ok, Err, Result, cond}
-use Rattle.std.specs.Prelude.{nat_lt, nat_le, ℤ, pos, ◌==◌, not, ◌||◌, nat_eq}
+use Rattle.std.proofs.Common.{◌≡◌, ◌≢◌, ℕ, ◌^◌, ◌≤◌, ◌<◌, Bool, true, false, List, [], ◌∷◌, map, reverse, refl, sym, ap, ◌∙◌, subst, arith, None, Some, Ok, Err, cond}
+use Rattle.std.specs.Prelude.{◌==◌}
 use Rattle.std.specs.List.{AllByRecursion, list_any}
-use Rattle.b67_word.specs.declared.faults.Fault.TheVariants.{StackUnderflow, StackOverflow, InvalidOperand, InvalidOperator, MarkPending, CriticalBlock}
+use Rattle.b67_word.specs.declared.faults.Fault.TheVariants.{InvalidOperand, MarkPending}
 use Rattle.b67_word.specs.declared.faults.Ending.TheVariants.{Ended, Faulted}
 use Rattle.b67_word.specs.declared.couples.Place.{Place}
 use Rattle.b67_model.specs.declared.operators.Op.TheVariants.{Plain}
 use Rattle.b67_model.specs.declared.operators.Code.TheVariants.{Exit, Entr}
-use Rattle.b67_model.specs.Answers.{Answer, ◌>>=◌, ◌>>◌, needs}
-use Rattle.b67_model.specs.Words.{Word, Name, Operand, Row, number}
+use Rattle.b67_model.specs.Answers.{Answer, ◌>>=◌}
+use Rattle.b67_model.specs.Words.{Word, Name, Operand, Row}
 use Rattle.b67_model.specs.State.{Frame, Standing, Marked, Entered, Here, top}
-use Rattle.b67_model.specs.Steps.{Done, Goes, Value, result, top_of, cells_of}
+use Rattle.b67_model.specs.Steps.{Done, result}
 use Rattle.b67_model.specs.Entry.{leaves}
 use Rattle.b67_model.specs.Intrinsics.{print}
 use Rattle.b67_model.specs.Rows.{row, entr, entr_at, entr_with}
@@ -19,7 +19,7 @@ use Rattle.b67_job.specs.declared.stack.Cell.{Cell}
 use Rattle.b67_job.specs.declared.stack.Cell.TheVariants.{Mark, Print, Number}
 use Rattle.b67_job.specs.Stack as stack
 use Rattle.b67_job.specs.Stack.{Turn, turn, is_mark, left}
-use Rattle.b67_job.specs.Frames.{outer, marked, put, first_of, rest_of, frames_of}
+use Rattle.b67_job.specs.Frames.{put, first_of, rest_of, frames_of}
 use Rattle.std.proofs.lemmas.List.{reverse-reverse}
 use Rattle.b67_job.proofs.Lists.{map-reverse}
 use Rattle.b67_job.proofs.Framed.{Fresh, first-fresh, rest-fresh, Some_frames, frames-some, running-frames, frames-apart}

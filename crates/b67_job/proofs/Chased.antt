@@ -1,18 +1,16 @@
 -- The couple of PRINT leads to PRINT from any stack of the first form.
-use Rattle.std.proofs.Common.{◌≡◌, ℕ, ◌+◌, ◌-◌, ◌≤◌, ◌<◌, Bool, true, false, List, [], ◌∷◌, ◌++◌, length, refl, sym, ap, ◌∙◌, subst, arith, None, Option, Some, Ok, Err, Result, append-nil, cond}
+use Rattle.std.proofs.Common.{◌≡◌, ℕ, ◌-◌, ◌<◌, List, [], ◌∷◌, ◌++◌, sym, ap, ◌∙◌, subst, arith, Option, Ok, Err, append-nil, cond}
 use Rattle.std.specs.Prelude.{nat_le, find, ◌==◌, unwrap_or, ok_or}
 use Rattle.b67_word.specs.Couples.{couple}
 use Rattle.b67_word.specs.declared.faults.Fault.TheVariants.{InvalidAddress}
 use Rattle.b67_word.specs.declared.couples.Place.{Place}
-use Rattle.b67_model.specs.Answers.{Answer}
-use Rattle.b67_model.specs.Words.{Word, Name, Operand, Intrinsic}
-use Rattle.b67_model.specs.State.{Frame, Here, frame, no_frame, mcp, all_frames}
+use Rattle.b67_model.specs.Words.{Name}
+use Rattle.b67_model.specs.State.{Frame, Here, frame, no_frame, mcp}
 use Rattle.b67_model.specs.Environment.{level_of_frame, environment_of, outward, running}
 use Rattle.b67_model.specs.Cells.{cell, cell_of}
-use Rattle.b67_model.specs.Chase.{End, AtIntrinsic, Link, Stops, Leads, link, link_from, link_in, chase, chase_on, follow_reference}
-use Rattle.b67_job.specs.declared.stack.Cell.{Cell}
-use Rattle.b67_job.specs.Frames.{outer, frames_of, task_at, job_at, setting_of}
-use Rattle.b67_job.proofs.Framed.{Fresh, Apart, Runs_outer, running-frames, frames-apart, find-past}
+use Rattle.b67_model.specs.Chase.{AtIntrinsic, Link, Stops, link, link_from, link_in, chase_on, follow_reference}
+use Rattle.b67_job.specs.Frames.{task_at, job_at, setting_of}
+use Rattle.b67_job.proofs.Framed.{Apart, Runs_outer, find-past}
 
 -- where an operator is made
 abbrev pub here_at : List ℕ → List Frame → ℕ → Place → Place → Here

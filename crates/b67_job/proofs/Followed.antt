@@ -1,29 +1,26 @@
 -- The machine of one stack follows the session of one task, step by step to the end.
-use Rattle.std.proofs.Common.{◌≡◌, ◌≢◌, ℕ, zero, suc, ◌+◌, ◌-◌, ◌*◌, ◌≤◌, ◌<◌, ◌^◌, ◌⊎◌, inl, inr, Bool, true, false, List, [], ◌∷◌, ◌++◌, length, map, refl, sym, ap, ◌∙◌, subst, arith, None, Option, Some, Ok, Err, Result, cond}
-use Rattle.std.specs.Prelude.{nat_lt, nat_le, ◌&&◌, ◌==◌, ⊤, IfSome, pos, flat_map, nat_eq}
-use Rattle.std.specs.List.{AllByRecursion, list_any}
+use Rattle.std.proofs.Common.{◌≡◌, ◌≢◌, ℕ, zero, suc, ◌+◌, ◌-◌, ◌*◌, ◌≤◌, ◌<◌, ◌^◌, Bool, true, false, List, [], ◌∷◌, ◌++◌, length, map, refl, sym, ap, ◌∙◌, subst, arith, Option, Some, Ok, Err, cond}
+use Rattle.std.specs.Prelude.{◌&&◌, IfSome}
+use Rattle.std.specs.List.{list_any}
 use Rattle.std.proofs.lemmas.Bool.{false≢true}
 use Rattle.std.proofs.lemmas.Bool.Decides.{nat_tests}
 use Rattle.std.proofs.lemmas.Grind.{flat_map-append}
 use Rattle.b67_word.specs.declared.couples.Place.{Place}
-use Rattle.b67_word.specs.declared.faults.Fault.{Fault}
 use Rattle.b67_word.specs.declared.faults.Fault.TheVariants.{InvalidOperator, MarkPending}
 use Rattle.b67_word.specs.declared.faults.Ending.{Ending}
 use Rattle.b67_word.specs.declared.faults.Ending.TheVariants.{Ended, Parent, Deadlock, Limit, Faulted}
 use Rattle.b67_model.specs.declared.operators.Op.{Op}
-use Rattle.b67_model.specs.declared.operators.Op.TheVariants.{Valc, Namc, Lt8, Lt16, Lt48, Mpcw, Brun, Brtr, Brfl, Bset, Brst, Isol, Insr, Plain}
-use Rattle.b67_model.specs.declared.operators.Code.{Code}
-use Rattle.b67_model.specs.declared.operators.Code.TheVariants.{Add, Subt, Mult, Idiv, Rdiv, Less, Greq, Grtr, Lseq, Equl, Neql, Chsn, Land, Lor, Leqv, Lnot, Same, Exit, Indx, Retn, Entr, Nxlv, Mkst, Stff, Zero, One, Push, Dlet, Exch, Dupl, Stod, Ston, Load, Noop, Nvld}
-use Rattle.b67_model.specs.declared.operators.Undecodable.{Undecodable}
+use Rattle.b67_model.specs.declared.operators.Op.TheVariants.{Namc, Lt8, Brun, Plain}
+use Rattle.b67_model.specs.declared.operators.Code.TheVariants.{Add, Exit, Retn, Entr, Mkst, Zero, One, Dlet, Nvld}
 use Rattle.b67_model.specs.declared.operators.Undecodable.TheVariants.{BadPlace}
 use Rattle.b67_model.specs.Answers.{Answer}
 use Rattle.b67_model.specs.Operators.{Reading, operator_at, count_at}
-use Rattle.b67_model.specs.Loader.{listing, may_be_last}
-use Rattle.b67_model.specs.Steps.{Line, Value, Ends, Done, Goes, Leaves}
+use Rattle.b67_model.specs.Loader.{may_be_last}
+use Rattle.b67_model.specs.Steps.{Ends, Done}
 use Rattle.b67_model.specs.Rows.{row, step, step_by}
 use Rattle.b67_model.specs.Schedule.{Session}
-use Rattle.b67_model.specs.Lines.{run_text, line_text}
-use Rattle.b67_model.specs.Run.{Moment, RunLine, next, of_job, live_tasks, lines, lines_from, after, after_from}
+use Rattle.b67_model.specs.Lines.{run_text}
+use Rattle.b67_model.specs.Run.{Moment, RunLine, next, of_job, live_tasks, lines, lines_from, after_from}
 use Rattle.b67_job.specs.declared.stack.Cell.{Cell}
 use Rattle.b67_job.specs.Stack as stack
 use Rattle.b67_job.specs.Stack.{Turn, turn, left, is_built, is_mark}
@@ -32,11 +29,11 @@ use Rattle.b67_job.specs.Frames.{frames_of, task_at, job_at, setting_of}
 use Rattle.b67_job.specs.Session.{IsRun}
 use Rattle.b67_job.proofs.Framed.{Fresh}
 use Rattle.b67_job.proofs.Chased.{here_at}
-use Rattle.b67_job.proofs.Turns.{Answers, After, Fits_stack, printed_lines, zero-turn, one-turn, lt8-turn, namc-turn, mkst-turn, add-turn, dlet-turn}
+use Rattle.b67_job.proofs.Turns.{Answers, Fits_stack, printed_lines, zero-turn, one-turn, lt8-turn, namc-turn, mkst-turn, add-turn, dlet-turn}
 use Rattle.b67_job.proofs.Calls.{exit-turn, entr-turn}
-use Rattle.b67_job.proofs.Sessions.{Stands, Went, Over, goes, leaves, faults}
+use Rattle.b67_job.proofs.Sessions.{Stands, Over, goes, leaves, faults}
 use Rattle.b67_job.proofs.Small.{reading-small}
-use Rattle.b67_job.proofs.Places.{Behind, operator-behind, past-end, listing_from, listing-step}
+use Rattle.b67_job.proofs.Places.{operator-behind, past-end, listing_from, listing-step}
 
 -- a built operator does to the stack what its row does to the task
 pub turn-row : (op : Op) → is_built op ≡ true → SmallOp op → (code : List ℕ) (cells : List Cell) (marks : List ℕ) (next : ℕ) (at to : Place)

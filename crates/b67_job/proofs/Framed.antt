@@ -1,13 +1,12 @@
 -- The frames of a stack of cells: there is one, they are as high as the cells are many, and the outer one runs.
-use Rattle.std.proofs.Common.{◌≡◌, ℕ, ◌+◌, ◌≤◌, ◌<◌, Bool, true, false, List, [], ◌∷◌, ◌++◌, length, map, refl, sym, ap, ◌∙◌, subst, arith, None, Option, Some}
+use Rattle.std.proofs.Common.{◌≡◌, ℕ, ◌+◌, ◌≤◌, ◌<◌, false, List, [], ◌∷◌, ◌++◌, length, refl, sym, ap, ◌∙◌, subst, arith}
 use Rattle.std.specs.Prelude.{find, ◌==◌, nat_eq}
-use Rattle.std.specs.List.{AllByRecursion, list_any}
+use Rattle.std.specs.List.{AllByRecursion}
 use Rattle.b67_model.specs.Words.{Word, Name, Operand}
-use Rattle.b67_model.specs.State.{Frame, Standing, Marked, Entered, height, top, below_top, with_top_cells}
+use Rattle.b67_model.specs.State.{Frame, Standing, Marked, Entered, height}
 use Rattle.b67_model.specs.Environment.{running}
 use Rattle.b67_job.specs.declared.stack.Cell.{Cell}
 use Rattle.b67_job.specs.declared.stack.Cell.TheVariants.{Mark, Print, Number}
-use Rattle.b67_job.specs.Stack.{is_mark}
 use Rattle.b67_job.specs.Frames.{outer, marked, put, first_of, rest_of, frames_of}
 
 -- a list that isn't empty

@@ -10,4 +10,3 @@ pub mod Followed
 pub mod Running
 pub mod Programs
 pub mod Judged
-pub mod Printed

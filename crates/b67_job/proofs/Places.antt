@@ -1,16 +1,14 @@
 -- Places of code, and the listing from a place on.
-use Rattle.std.proofs.Common.{◌≡◌, ℕ, zero, suc, ◌+◌, ◌-◌, ◌*◌, ◌/◌, ◌%◌, ◌≤◌, ◌<◌, Bool, true, false, List, [], ◌∷◌, length, refl, sym, ap, ◌∙◌, subst, arith, None, Option, Some, Ok, Err, Result, cond}
+use Rattle.std.proofs.Common.{◌≡◌, ℕ, zero, suc, ◌-◌, ◌*◌, ◌≤◌, ◌<◌, Bool, true, false, List, ◌∷◌, length, refl, sym, ap, ◌∙◌, subst, arith, None, Option, Some, Ok, Err, cond}
 use Rattle.std.specs.Prelude.{nat_lt, nat_le, ◌&&◌}
-use Rattle.std.proofs.lemmas.Bool.{ltb-true, ltb-false, false≢true}
 use Rattle.std.proofs.lemmas.Bool.Decides.{nat_tests}
 use Rattle.b67_word.specs.declared.couples.Place.{Place}
 use Rattle.b67_model.specs.declared.operators.Op.{Op}
 use Rattle.b67_model.specs.declared.operators.Undecodable.{Undecodable}
 use Rattle.b67_model.specs.declared.operators.Undecodable.TheVariants.{BadPlace, NotAdmitted, PastEnd}
 use Rattle.b67_model.specs.Operators.{Form, Alone, OneMore, TwoMore, Literal, Reading, count_at, place_at, ends_at, reads, form_of, syllable, operator_at}
-use Rattle.b67_model.specs.Loader.{Entry, At, Break, entries_from, listing, origin, may_be_last}
-use Rattle.b67_job.specs.Stack.{is_built}
-use Rattle.b67_job.specs.Listed.{built_after, is_runnable, may_end}
+use Rattle.b67_model.specs.Loader.{Entry, At, entries_from}
+use Rattle.b67_job.specs.Listed.{built_after, may_end}
 
 -- the place behind an operator at syllable n
 pub record Behind (code : List ℕ) (n : ℕ) (at : Place) : Type 0 where

@@ -1,6 +1,6 @@
 -- Programs of one segment and of others.
-use Rattle.std.proofs.Common.{◌≡◌, ◌≤◌, ◌<◌, ◌⊎◌, inl, inr, Bool, true, false, ℕ, List, [], ◌∷◌, length, map, get_or, refl, sym, ap, ◌∙◌, subst, arith, Option, Some, None, eqb}
-use Rattle.std.specs.Prelude.{◌&&◌, ◌==◌, MatchOption, nat_eq}
+use Rattle.std.proofs.Common.{◌≡◌, ◌≤◌, ◌<◌, ◌⊎◌, inl, inr, Bool, true, false, List, [], ◌∷◌, length, map, get_or, refl, sym, ap, arith, Option, Some, None}
+use Rattle.std.specs.Prelude.{◌&&◌, ◌==◌, MatchOption}
 use Rattle.std.proofs.lemmas.Bool.Decides.{nat_tests}
 use denote.Ref.{Bor}
 use Rattle.b67_word.specs.Tagged.{Tagged, contents}
@@ -27,7 +27,7 @@ is_short f s e h = (rw e at h.segments).0.code.few
 pub of_one : (f : Codefile) (s : Segment) → f.segments ≡ s ∷ [] → f.rows ≡ [] → length s.code ≤ 8191 → (r : Option (Bor (List Tagged)))
     → MatchOption r (is_first_segment (segment_of s ∷ []) ≡ false) (λ code. (s.level ≡ 2) × (code.now ≡ s.code) × (is_runnable (contents code.now) ≡ true))
     → MatchOption r (is_first (program_of f) ≡ false)
-        (λ code. (is_first (program_of f) ≡ true) × (program_of f ≡ program_of_code (contents code.now)) × (is_runnable (contents code.now) ≡ true) × (length code.now ≤ 8191))
+    (λ code. (is_first (program_of f) ≡ true) × (program_of f ≡ program_of_code (contents code.now)) × (is_runnable (contents code.now) ≡ true) × (length code.now ≤ 8191))
 of_one f s e rows short None other = rw (e, rows) (ap (λ (b : Bool). b && true) other)
 of_one f s e rows short (Some code) holds =
     let runs : is_runnable (contents s.code) ≡ true = rw (sym holds.1) holds.2 in

@@ -1,15 +1,14 @@
 -- A run that has come so far.
-use Rattle.std.proofs.Common.{◌≡◌, ℕ, zero, suc, ◌+◌, ◌-◌, ◌*◌, ◌≤◌, ◌<◌, ◌^◌, Bool, true, false, List, [], ◌∷◌, ◌++◌, length, map, take, refl, sym, ap, ◌∙◌, subst, arith, None, Option, Some, Ok, Err, Result, append-nil, append_assoc, inl, inr}
+use Rattle.std.proofs.Common.{◌≡◌, ℕ, ◌-◌, ◌*◌, ◌≤◌, ◌<◌, ◌^◌, true, List, [], ◌∷◌, ◌++◌, length, map, refl, sym, subst, arith, Option, Some, Ok, Err, append-nil, append_assoc, inl}
 use Rattle.std.proofs.Math.Nat.{sub-zero}
 use Rattle.std.proofs.lemmas.Fmt.{decimal_digit}
 use Rattle.std.proofs.lemmas.List.{take-append-le, length-append, length-map}
-use Rattle.std.specs.Prelude.{codes, decimal, pos, IfSome, min}
+use Rattle.std.specs.Prelude.{codes, decimal}
 use Rattle.b67_word.specs.Tagged.{Tagged, contents}
 use Rattle.b67_word.specs.declared.couples.Place.{Place}
 use Rattle.b67_word.specs.declared.faults.Ending.{Ending}
 use Rattle.b67_model.specs.Schedule.{Session}
 use Rattle.b67_model.specs.Steps.{Ends}
-use Rattle.b67_model.specs.declared.operators.Op.{Op}
 use Rattle.b67_model.specs.Operators.{Reading, operator_at, count_at}
 use Rattle.b67_model.specs.Run.{of_job}
 use Rattle.b67_model.specs.Lines.{ending_name}
@@ -86,7 +85,6 @@ TookPart-more {taken = taken} {a = a} {b = b} x y p = record {
 
 module _ {K : Type 0} (code : List ℕ) (taken : K → Option (List ℕ)) (faults : K → ℕ) (old now new : K) (cells cells' : List Cell) (at to : Place)
     (h : Running code taken old now cells at) (short : length code ≤ 8191) where
-
   coming : Comes code h.session (behind at (operator_at code at)) (turn_of (operator_at code at) cells)
   coming = comes code h.session cells at h.machine short (operator_at code at) refl (reading-small code at)
 

@@ -1,6 +1,6 @@
 -- The session of one job with one task: which step comes next, and what it makes.
-use Rattle.std.proofs.Common.{◌≡◌, ◌≢◌, ℕ, suc, ◌+◌, ◌^◌, ◌≤◌, ◌<◌, ◌⊎◌, inl, inr, Bool, true, false, List, [], ◌∷◌, ◌++◌, length, map, refl, sym, ap, ◌∙◌, subst, arith, None, Option, Some, Ok, Err, Result, cond, append-nil}
-use Rattle.std.specs.Prelude.{nat_lt, ◌==◌, nat_eq}
+use Rattle.std.proofs.Common.{◌≡◌, ℕ, ◌+◌, ◌<◌, ◌⊎◌, inl, inr, Bool, true, false, List, [], ◌∷◌, map, refl, sym, ap, ◌∙◌, subst, arith, None, Option, Some, Ok, Err, append-nil}
+use Rattle.std.specs.Prelude.{nat_lt, ◌==◌}
 use Rattle.b67_word.specs.declared.couples.Place.{Place}
 use Rattle.b67_word.specs.declared.faults.Ending.{Ending}
 use Rattle.b67_word.specs.declared.faults.Ending.TheVariants.{Ended, Faulted}
@@ -12,7 +12,7 @@ use Rattle.b67_model.specs.Endings.{stepped, settles}
 use Rattle.b67_model.specs.Alone.{step_of, moment_with}
 use Rattle.b67_model.specs.Endings.{limited, ends_with}
 use Rattle.b67_model.specs.Rows.{step}
-use Rattle.b67_model.specs.Schedule.{Who, Session, Choice, choice, choice_by, goes_on}
+use Rattle.b67_model.specs.Schedule.{Who, Session, Choice, choice, choice_by}
 use Rattle.b67_model.specs.Run.{Moment, RunLine, next, with_moment, moment_for, of_job, live_tasks}
 use Rattle.b67_job.specs.Frames.{task_at, job_at, setting_of}
 

@@ -1,6 +1,6 @@
 -- A literal of eight bits is below 256 wherever it is read.
-use Rattle.std.proofs.Common.{◌≡◌, ℕ, ◌+◌, ◌-◌, ◌*◌, ◌/◌, ◌%◌, ◌≤◌, ◌<◌, ◌^◌, Bool, true, false, List, [], ◌∷◌, length, refl, subst, arith, Option, Some, None, Ok, Err, cond}
-use Rattle.std.specs.Prelude.{⊤, nat_le, nat_lt, ◌==◌, ◌&&◌, nat_eq}
+use Rattle.std.proofs.Common.{ℕ, ◌+◌, ◌-◌, ◌*◌, ◌<◌, Bool, true, false, List, [], ◌∷◌, length, arith, Option, Some, None, Ok, Err, cond}
+use Rattle.std.specs.Prelude.{⊤, nat_le, nat_lt, ◌==◌, ◌&&◌}
 use Rattle.std.specs.List.{AllByRecursion}
 use Rattle.b67_word.specs.declared.couples.Place.{Place}
 use Rattle.b67_model.specs.declared.operators.Op.{Op}

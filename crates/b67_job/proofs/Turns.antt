@@ -1,33 +1,28 @@
 -- What the ten operators do to one stack is what the machine's rows do to its task.
-use Rattle.std.proofs.Common.{◌≡◌, ℕ, ◌+◌, ◌^◌, ◌/◌, ◌%◌, ◌≤◌, ◌<◌, Bool, true, false, List, [], ◌∷◌, ◌++◌, length, map, reverse, refl, sym, ap, ◌∙◌, subst, arith, None, Option, Some, Ok, Err, Result, cond}
-use Rattle.std.specs.Prelude.{⊤, IfSome, nat_lt, nat_le, ℤ, pos, ◌==◌}
+use Rattle.std.proofs.Common.{◌≡◌, ℕ, ◌+◌, ◌^◌, ◌/◌, ◌%◌, ◌≤◌, ◌<◌, Bool, true, false, List, [], ◌∷◌, length, refl, sym, subst, arith, None, Option, Some, Ok, Err, cond}
+use Rattle.std.specs.Prelude.{⊤, IfSome, nat_lt, nat_le, pos}
 use Rattle.std.proofs.lemmas.Bool.Decides.{nat_tests}
-use Rattle.std.specs.List.{AllByRecursion, list_any}
-use Rattle.std.proofs.lemmas.Bool.{ltb-true, ltb-false}
+use Rattle.std.specs.List.{AllByRecursion}
+use Rattle.std.proofs.lemmas.Bool.{ltb-true}
 use Rattle.std.proofs.Math.Nat.{div-eq_of_lt, mod-eq_of_lt}
-use Rattle.b67_word.specs.declared.faults.Fault.{Fault}
-use Rattle.b67_word.specs.declared.faults.Fault.TheVariants.{StackUnderflow, StackOverflow, InvalidOperand, IntegerOverflow, InvalidOperator, MarkPending}
-use Rattle.b67_word.specs.declared.faults.Ending.{Ending}
-use Rattle.b67_word.specs.declared.faults.Ending.TheVariants.{Ended, Parent, Deadlock, Limit, Faulted}
+use Rattle.b67_word.specs.declared.faults.Fault.TheVariants.{StackOverflow, InvalidOperand, IntegerOverflow}
+use Rattle.b67_word.specs.declared.faults.Ending.TheVariants.{Ended, Faulted}
 use Rattle.b67_word.specs.declared.couples.Place.{Place}
-use Rattle.b67_model.specs.declared.operators.Op.{Op}
-use Rattle.b67_model.specs.declared.operators.Op.TheVariants.{Valc, Namc, Lt8, Lt16, Lt48, Mpcw, Brun, Brtr, Brfl, Bset, Brst, Isol, Insr, Plain}
-use Rattle.b67_model.specs.declared.operators.Code.{Code}
-use Rattle.b67_model.specs.declared.operators.Code.TheVariants.{Add, Subt, Mult, Idiv, Rdiv, Less, Greq, Grtr, Lseq, Equl, Neql, Chsn, Land, Lor, Leqv, Lnot, Same, Exit, Indx, Retn, Entr, Nxlv, Mkst, Stff, Zero, One, Push, Dlet, Exch, Dupl, Stod, Ston, Load, Noop, Nvld}
+use Rattle.b67_model.specs.declared.operators.Op.TheVariants.{Namc, Lt8, Plain}
+use Rattle.b67_model.specs.declared.operators.Code.TheVariants.{Add, Mkst, Zero, One, Dlet}
 use Rattle.b67_model.specs.Answers.{Answer, ◌>>=◌, ◌>>◌, needs}
 use Rattle.b67_model.specs.Words.{Word, Name, Operand, number, to_operand}
 use Rattle.b67_model.specs.Arithmetic.{add}
-use Rattle.b67_model.specs.State.{Frame, Standing, Marked, Entered, Here, Job, height, top, with_top_cells}
-use Rattle.b67_model.specs.Steps as steps
-use Rattle.b67_model.specs.Steps.{Line, Value, Done, Goes, Leaves, pushes, leaves_cells}
-use Rattle.b67_model.specs.Rows.{row, plain, CellRow, on_cells, on_two, dlet}
+use Rattle.b67_model.specs.State.{Frame, Here, height, top, with_top_cells}
+use Rattle.b67_model.specs.Steps.{Line, Value, Done, Goes, Leaves, leaves_cells}
+use Rattle.b67_model.specs.Rows.{row, CellRow, on_cells, on_two, dlet}
 use Rattle.b67_job.specs.declared.stack.Cell.{Cell}
 use Rattle.b67_job.specs.declared.stack.Cell.TheVariants.{Mark, Print, Number}
 use Rattle.b67_job.specs.Stack as stack
 use Rattle.b67_job.specs.Stack.{Turn, turn, pushed, deleted, summed, is_built, is_mark}
-use Rattle.b67_job.specs.Frames.{outer, marked, put, first_of, rest_of, frames_of, task_at, job_at, setting_of}
-use Rattle.b67_job.proofs.Framed.{Fresh, rest-fresh, Some_frames, frames-some, height-frames, running-frames, frames-apart, first-fresh}
-use Rattle.b67_job.proofs.Chased.{here_at, chase-print}
+use Rattle.b67_job.specs.Frames.{put, frames_of, job_at}
+use Rattle.b67_job.proofs.Framed.{Fresh, Some_frames, frames-some, height-frames}
+use Rattle.b67_job.proofs.Chased.{here_at}
 
 abbrev pub printed_lines : Option ℕ → List Line
 printed_lines None = []
@@ -116,7 +111,6 @@ operand-sum n = let none : nat_lt n 0 ≡ false = grind (arith, nat_tests) in rw
 
 pub add-small : (a b : ℕ) → a < 2 ^ 39 → b < 2 ^ 39 → add a b ≡ cond (nat_lt (a + b) (2 ^ 39)) (Ok (a + b)) (Err IntegerOverflow)
 add-small a b small_a small_b = rw (number-small a small_a, number-small b small_b) (operand-sum (a + b))
-
 
 -- a word that is taken off the top frame, or off the one under a mark
 module _ (code : List ℕ) (cells : List Cell) (marks : List ℕ) (next : ℕ) (at to : Place) (fit : Fits_stack cells) (fresh : Fresh marks) (above : 2 ≤ next) where

@@ -5,11 +5,16 @@ use Rattle.b67_model.specs.State.{Member}
 use Rattle.b67_io.specs.Line.{ended}
 use Rattle.b67_io.specs.Told.{Gave, GaveAll}
 use Rattle.b67_io.specs.Causes.{Rose}
-use Rattle.b67_card.specs.declared.reading.TheConstants.{LIMIT}
+use Rattle.b67_text.specs.Deck.{limit}
 use Rattle.b67_card.specs.declared.reading.ReadFault.{ReadFault}
 use Rattle.b67_card.specs.declared.reading.ReadFault.TheVariants.{TooLong, SourceFault, Memory}
 use Rattle.b67_job.specs.Command.{command_of}
-use Rattle.b67_job.specs.Judgement.{Judgement, Refused, Runs, judgement, refusal_text}
+use Rattle.b67_job.specs.Judgement.{Judgement, Refused, Runs, judgement}
+use Rattle.b67_job.specs.declared.refusal.Refusal.{Refusal}
+use Rattle.b67_job.specs.declared.refusal.Refusal.TheVariants as refusals
+use Rattle.b67_job.specs.declared.admission.AdmitFault.{AdmitFault}
+use Rattle.b67_job.specs.declared.admission.AdmitFault.TheVariants as admits
+use Rattle.b67_job.specs.Told.{refusal_text}
 use Rattle.b67_job.specs.Session.{IsRun}
 use Rattle.b67_job.specs.Runs.{session_of}
 use Rattle.b67_job.specs.Ends.{Ends}
@@ -26,7 +31,7 @@ memory_text = ended (codes "NO MEMORY")
 -- what a judgement asks for: the line of its refusal with status 2, or the whole text of the run with status 0. Memory
 -- may be refused.
 pub data IsAsked (j : Judgement) (status : ℕ) (text : List ℕ) : Type 0 where
-  refusal_asked : (card reason : ℕ) → j ≡ Refused card reason → status ≡ 2 → text ≡ refusal_text card reason → IsAsked j status text
+  refusal_asked : (refusal : Refusal) → j ≡ Refused refusal → status ≡ 2 → text ≡ refusal_text refusal → IsAsked j status text
   run_asked : (jobs : List Member) → j ≡ Runs jobs → IsRun (session_of jobs) text → status ≡ 0 → IsAsked j status text
   memory_asked : status ≡ 9 → text ≡ memory_text → IsAsked j status text
 
@@ -39,14 +44,14 @@ pub record AnswersTo {K : Type 0} (j : Judgement) (taken : K → Option (List �
 
 -- these bytes were read: all that there were, or more than a deck may have
 abbrev pub WasRead : {S : Type 0} → (S → Option (List ℕ)) → S → S → List ℕ → Type 0
-WasRead left deck deck' bytes = GaveAll left deck deck' bytes ⊎ (Gave left deck deck' bytes × (LIMIT < length bytes))
+WasRead left deck deck' bytes = GaveAll left deck deck' bytes ⊎ (Gave left deck deck' bytes × (limit < length bytes))
 
 -- the status and the text that are due, by their cause
 pub data IsDue {S : Type 0} (words : List (Bor (List ℕ))) (left : S → Option (List ℕ)) (faults : S → ℕ) (deck deck' : S) (status : ℕ) (text : List ℕ) : Type 0 where
   usage_due : is_some (command_of words) ≡ false → deck' ≡ deck
       → status ≡ 1 → text ≡ usage_text → IsDue words left faults deck deck' status text
-  refusal_due : (bytes : List ℕ) (card reason : ℕ) → is_some (command_of words) ≡ true → WasRead left deck deck' bytes → judgement bytes ≡ Refused card reason
-      → status ≡ 2 → text ≡ refusal_text card reason → IsDue words left faults deck deck' status text
+  refusal_due : (bytes : List ℕ) (refusal : Refusal) → is_some (command_of words) ≡ true → WasRead left deck deck' bytes → judgement bytes ≡ Refused refusal
+      → status ≡ 2 → text ≡ refusal_text refusal → IsDue words left faults deck deck' status text
   run_due : (bytes : List ℕ) (jobs : List Member) → is_some (command_of words) ≡ true → GaveAll left deck deck' bytes → judgement bytes ≡ Runs jobs
       → IsRun (session_of jobs) text → status ≡ 0 → IsDue words left faults deck deck' status text
   reading_due : is_some (command_of words) ≡ true → Rose faults deck deck'
@@ -63,6 +68,11 @@ pub record Answered {S K : Type 0} (words : List (Bor (List ℕ))) (left : S →
 
 -- how the answer to a fault of reading ends
 abbrev pub FaultEnds : {K : Type 0} → ReadFault → (K → Option (List ℕ)) → (K → ℕ) → K → K → ℕ → Type 0
-FaultEnds (TooLong card) taken faults old new answer = Ends taken faults old new 2 (refusal_text card 14) answer
+FaultEnds (TooLong card) taken faults old new answer = Ends taken faults old new 2 (refusal_text (refusals.Deck card 14)) answer
 FaultEnds SourceFault taken faults old new answer = Ends taken faults old new 7 reading_text answer
 FaultEnds Memory taken faults old new answer = Ends taken faults old new 9 memory_text answer
+
+-- how the answer to a program that isn't admitted ends
+abbrev pub RefusalEnds : {K : Type 0} → AdmitFault → (K → Option (List ℕ)) → (K → ℕ) → K → K → ℕ → Type 0
+RefusalEnds (admits.Refused refusal) taken faults old new answer = Ends taken faults old new 2 (refusal_text refusal) answer
+RefusalEnds admits.Memory taken faults old new answer = Ends taken faults old new 9 memory_text answer

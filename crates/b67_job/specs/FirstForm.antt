@@ -1,5 +1,5 @@
 -- Decks of the first form: no card, or one job of hexadecimal cards.
-use Rattle.std.specs.Prelude.{ℕ, ◌+◌, ◌==◌, not, List, [], ◌∷◌, ◌++◌, map, filter, Option, Some, None, Result, Ok, Err, if◌then◌else◌}
+use Rattle.std.specs.Prelude.{ℕ, not, List, [], ◌∷◌, ◌++◌, map, filter, Option, Some, None, Result, Ok, Err, if◌then◌else◌}
 use Rattle.std.specs.List.{enumerate_from}
 use Rattle.std.specs.Str.Lines.{lines}
 use Rattle.b67_text.specs.declared.card.Card.{Card}
@@ -22,8 +22,9 @@ kind_of (Ok (Plain text)) = if is_hex text then kinds.Digits else kinds.Other
 kind_of (Ok End) = kinds.End
 kind_of _ = kinds.Other
 
--- the bytes of a job's hexadecimal cards, and the number of its ?HEX card
+-- the bytes of a job's hexadecimal cards, and the numbers of its ?JOB card and its ?HEX card
 pub record Body : Type 0 where
+  pub job : ℕ
   pub card : ℕ
   pub bytes : List ℕ
 
@@ -38,15 +39,15 @@ ended body [] = Ok (Some body)
 ended body (c ∷ more) = Err c.number
 
 -- Hexadecimal cards, one at least, and ?END, behind these bytes. The card before has the number `last`.
-abbrev pub body_form : ℕ → ℕ → List ℕ → List Card → Form
-body_form card last bytes [] = Err last
-body_form card last bytes (c ∷ more) =
-    let others = body_form card c.number (bytes ++ digit_bytes c.text) more in
+abbrev pub body_form : ℕ → ℕ → ℕ → List ℕ → List Card → Form
+body_form job card last bytes [] = Err last
+body_form job card last bytes (c ∷ more) =
+    let others = body_form job card c.number (bytes ++ digit_bytes c.text) more in
     by_kind others (kind_of (said c.text))
   where
     by_kind : Form → Kind → Form
     by_kind others kinds.Digits = others
-    by_kind others kinds.End = if is_empty bytes then Err c.number else ended (record { card = card; bytes = bytes }) more
+    by_kind others kinds.End = if is_empty bytes then Err c.number else ended (record { job = job; card = card; bytes = bytes }) more
     by_kind others _ = Err c.number
 
 abbrev pub hex_form : ℕ → List Card → Form
@@ -54,7 +55,7 @@ hex_form last [] = Err last
 hex_form last (c ∷ more) = by_kind (kind_of (said c.text))
   where
     by_kind : Kind → Form
-    by_kind kinds.Hex = body_form c.number c.number [] more
+    by_kind kinds.Hex = body_form last c.number c.number [] more
     by_kind _ = Err c.number
 
 abbrev pub first_form : List Card → Form

@@ -8,7 +8,7 @@ use Rattle.b67_job.specs.FirstForm.{Form}
 
 abbrev pub formed : declared.Form → Form
 formed forms.Empty = Ok None
-formed (forms.Body card bytes) = Ok (Some (record { card = card; bytes = bytes }))
+formed (forms.Body job card bytes) = Ok (Some (record { job = job; card = card; bytes = bytes }))
 formed (forms.Refused card) = Err card
 
 abbrev pub next_of : next.Next → Card

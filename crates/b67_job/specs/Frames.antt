@@ -1,9 +1,8 @@
 -- The frames of the machine's one task that a stack of cells stands for.
-use Rattle.std.specs.Prelude.{ℕ, ◌≤◌, List, [], ◌∷◌, None}
-use Rattle.std.specs.List.{AllByRecursion}
+use Rattle.std.specs.Prelude.{ℕ, List, [], ◌∷◌, None}
 use Rattle.b67_word.specs.declared.couples.Place.{Place}
 use Rattle.b67_model.specs.Words.{Word, Name, Operand}
-use Rattle.b67_model.specs.State.{Frame, Marked, Entered, Ready, Task, Job, Setting, Here, top, with_top_cells}
+use Rattle.b67_model.specs.State.{Frame, Marked, Entered, Ready, Task, Job, Setting, top, with_top_cells}
 use Rattle.b67_model.specs.Program.{opened}
 use Rattle.b67_job.specs.declared.stack.Cell.{Cell}
 use Rattle.b67_job.specs.declared.stack.Cell.TheVariants.{Mark, Print, Number}

@@ -6,6 +6,9 @@ pub mod Stack
 pub mod Listed
 pub mod Ends
 pub mod Runs
+pub mod Admission
+pub mod Meets
+pub mod Told
 pub mod Judgement
 pub mod Due
 pub mod Frames

@@ -1,11 +1,8 @@
 -- The session of one task, and the text of a whole run.
-use Rattle.std.specs.Prelude.{◌≡◌, ℕ, List, [], ◌∷◌}
-use Rattle.b67_word.specs.declared.couples.Place.{Place}
-use Rattle.b67_model.specs.State.{Frame, Member}
-use Rattle.b67_model.specs.Schedule.{Who, Session}
+use Rattle.std.specs.Prelude.{◌≡◌, ℕ, List}
+use Rattle.b67_model.specs.Schedule.{Session}
 use Rattle.b67_model.specs.Lines.{run_text}
 use Rattle.b67_model.specs.Run.{live_tasks, lines, after}
-use Rattle.b67_job.specs.Frames.{job_at, setting_of}
 
 -- The text of a session's whole run: after so many steps no task lives, and this is what they print.
 pub record IsRun (s : Session) (text : List ℕ) : Type 0 where

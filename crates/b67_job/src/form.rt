@@ -19,12 +19,12 @@ pub enum Kind {
     Other,
 }
 
-/// The form of a deck: it has no card; or a job with the number of its `?HEX` card and its bytes; or a card can't
+/// The form of a deck: it has no card; or a job with the numbers of its `?JOB` and `?HEX` cards and its bytes; or a card can't
 /// continue the form.
 #[derive(Drop)]
 pub enum Form {
     Empty,
-    Body { card: u32, bytes: Bytes },
+    Body { job: u32, card: u32, bytes: Bytes },
     Refused { card: u32 },
 }
 
@@ -79,19 +79,19 @@ fn kind_of(alloc: Global, text: &[u8]) -> Result<Kind, AllocError>
     }
 }
 
-fn ended(end: Next<'_>, card: u32, bytes: Bytes) -> Form
+fn ended(end: Next<'_>, job: u32, card: u32, bytes: Bytes) -> Form
     requires { end.number + 1 + length end.rest.now < 2 ^ 32 }
-    ensures { formed result ≡ ended (record { card = card; bytes = bytes }) (cards_from (end.entry.number + 1) end.entry.rest.now) }
+    ensures { formed result ≡ ended (record { job = job; card = card; bytes = bytes }) (cards_from (end.entry.number + 1) end.entry.rest.now) }
 {
     match next_card(end.number + 1, end.rest) {
         Some(next) => Form::Refused { card: next.number },
-        None => Form::Body { card, bytes },
+        None => Form::Body { job, card, bytes },
     }
 }
 
-fn body_form(alloc: Global, card: u32, text: &[u8]) -> Result<Form, AllocError>
+fn body_form(alloc: Global, job: u32, card: u32, text: &[u8]) -> Result<Form, AllocError>
     requires { card + 1 + length text.now < 2 ^ 32 }
-    ensures { IfOk result (λ f. formed f ≡ body_form card card [] (cards_from (card + 1) text.now)) }
+    ensures { IfOk result (λ f. formed f ≡ body_form job card card [] (cards_from (card + 1) text.now)) }
 {
     let mut bytes = Bytes::new(alloc);
     let mut last = card;
@@ -103,7 +103,7 @@ fn body_form(alloc: Global, card: u32, text: &[u8]) -> Result<Form, AllocError>
                 if bytes.as_slice().is_empty() {
                     return Ok(Form::Refused { card: next.number });
                 }
-                return Ok(ended(next, card, bytes));
+                return Ok(ended(next, job, card, bytes));
             }
             _ => return Ok(Form::Refused { card: next.number }),
         }
@@ -121,7 +121,7 @@ fn hex_form(alloc: Global, job: Next<'_>) -> Result<Form, AllocError>
         return Ok(Form::Refused { card: job.number });
     };
     match kind_of(alloc, next.text)? {
-        Kind::Hex => body_form(alloc, next.number, next.rest),
+        Kind::Hex => body_form(alloc, job.number, next.number, next.rest),
         _ => Ok(Form::Refused { card: next.number }),
     }
 }

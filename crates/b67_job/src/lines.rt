@@ -1,12 +1,15 @@
 //! The lines that are printed.
 
-ghost use Rattle.std.specs.Prelude.{◌≡◌, ◌≤◌, ◌<◌, ◌+◌, ◌^◌, ◌++◌, length, codes, decimal};
+ghost use Rattle.std.specs.Prelude.{◌≡◌, ◌≤◌, ◌+◌, ◌++◌, length, codes, decimal};
 ghost use Rattle.b67_model.specs.Lines.{fault_name, ending_name};
 ghost use Rattle.b67_io.specs.Line.{ended};
 ghost use Rattle.b67_job.specs.Ends.{Ends};
+ghost use Rattle.b67_job.specs.Told.{card_text, refusal_line};
 
+use crate::refusal::Refusal;
 use b67_io::{Line, Sink, put_line};
-use b67_word::{Ending, Fault};
+use b67_word::{Ending, Fault, Place};
+use itoa::Buffer;
 
 /// The name of a fault.
 fn fault_name(fault: Fault) -> &'static str
@@ -72,31 +75,66 @@ fn with_text(mut line: Line, text: &str) -> Line
     line
 }
 
-// Appends a number that is short enough to a short line.
-fn with_number(mut line: Line, n: u64) -> Line
-    requires short { length line ≤ 100 }
-    requires small { n < 2 ^ 40 }
+// Appends a number.
+fn with_number(line: Line, n: u64) -> Line
+    requires { length line ≤ 172 }
     ensures text { result ≡ line ++ decimal n }
-    ensures short { length result ≤ length line + 13 }
+    ensures short { length result ≤ length line + 20 }
 {
-    let _ = line.number(n as i64);
-    line
+    let mut buffer = Buffer::new();
+    with_text(line, buffer.format(n))
 }
 
 /// The line of a value that the first job's first task prints.
 pub fn value_line(n: u64) -> Line
-    requires { n < 2 ^ 39 }
     ensures { result ≡ codes "1.1 " ++ decimal n }
 {
     with_number(line_of("1.1 "), n)
 }
 
-/// The line of a refused card.
-pub fn refusal_line(card: u32, reason: u8) -> Line
-    ensures { result ≡ codes "DECK " ++ decimal card ++ codes " REASON " ++ decimal reason }
+// A card and its reason.
+fn card_line(kind: &str, card: u32, reason: u8) -> Line
+    requires { length kind.now ≤ 9 }
+    ensures text { result ≡ card_text kind.now card reason }
+    ensures short { length result ≤ 57 }
 {
-    let line = with_number(line_of("DECK "), u64::from(card));
+    let line = with_number(line_of(kind), u64::from(card));
     with_number(with_text(line, " REASON "), u64::from(reason))
+}
+
+fn codefile_line(card: u32, reason: u8, byte: usize) -> Line
+    ensures { result ≡ card_text (codes "CODEFILE ") card reason ++ codes " BYTE " ++ decimal byte }
+{
+    with_number(
+        with_text(card_line("CODEFILE ", card, reason), " BYTE "),
+        byte as u64,
+    )
+}
+
+fn load_line(card: u32, reason: u8, segment: u8, place: Place) -> Line
+    ensures { result ≡ card_text (codes "LOAD ") card reason ++ codes " SEGMENT " ++ decimal segment ++ codes " AT "
+        ++ decimal place.word ++ codes ":" ++ decimal place.syllable }
+{
+    let line = with_text(card_line("LOAD ", card, reason), " SEGMENT ");
+    let line = with_text(with_number(line, u64::from(segment)), " AT ");
+    let line = with_text(with_number(line, u64::from(place.word)), ":");
+    with_number(line, u64::from(place.syllable))
+}
+
+/// The line of a refusal.
+pub fn refusal_line(refusal: Refusal) -> Line
+    ensures { result ≡ refusal_line refusal }
+{
+    match refusal {
+        Refusal::Deck { card, reason } => card_line("DECK ", card, reason),
+        Refusal::Codefile { card, reason, byte } => codefile_line(card, reason, byte),
+        Refusal::Load {
+            card,
+            reason,
+            segment,
+            place,
+        } => load_line(card, reason, segment, place),
+    }
 }
 
 /// Prints a line and answers the status, or 8.

@@ -24,7 +24,10 @@ const ORIGIN: Place = Place {
 fn may_be_last(op: Op) -> bool
     ensures { result ≡ may_be_last op }
 {
-    matches!(op, Op::Brun(_) | Op::Plain(Code::Exit | Code::Retn | Code::Nvld))
+    matches!(
+        op,
+        Op::Brun(_) | Op::Plain(Code::Exit | Code::Retn | Code::Nvld)
+    )
 }
 
 // Whether code may end where no operator is read, behind an operator that may be the last or may not.

@@ -30,7 +30,7 @@ pub fn first_code(file: &Codefile) -> Option<&[Word]>
     requires { IsWithin file.now }
     ensures { MatchOption result (is_first (program_of file.now) ≡ false)
         (λ code. (is_first (program_of file.now) ≡ true) × (program_of file.now ≡ program_of_code (contents code.now))
-            × (is_runnable (contents code.now) ≡ true) × (length code.now ≤ 8191)) }
+        × (is_runnable (contents code.now) ≡ true) × (length code.now ≤ 8191)) }
 {
     if !file.rows.as_slice().is_empty() {
         return None;

@@ -9,7 +9,8 @@ use std::test::Fail;
 const WORDS: [&str; 5] = ["run", "--core", "4096", "--backing", "b"];
 
 /// MKST / NAMC 0,9 / LT8 2 / LT8 3 / ADD / ENTR / EXIT.
-const SUM: &str = "?JOB SUM\n?HEX\n423637434f44453100010000020002\n0003ae4009b202b200030380aba3ffff\n?END\n";
+const SUM: &str =
+    "?JOB SUM\n?HEX\n423637434f44453100010000020002\n0003ae4009b202b200030380aba3ffff\n?END\n";
 
 const SUM_LINES: &str = "1.1 5\n1.1 ENDED\n";
 
@@ -63,6 +64,18 @@ fn decks(rt: HostRuntime) -> Result<(), Fail> {
         // BRUN into a literal.
         (
             "?JOB BAD\n?HEX\n423637434f44453100010000020003\n0003beffffffffff00030000000000010003a20001ffffff\n?END\n",
+            2,
+            "LOAD 1 REASON 3 SEGMENT 1 AT 2:0\n",
+        ),
+        // The last byte is missing.
+        (
+            "?JOB SUM\n?HEX\n423637434f44453100010000020002\n0003ae4009b202b200030380aba3ff\n?END\n",
+            2,
+            "CODEFILE 2 REASON 1 BYTE 30\n",
+        ),
+        // SUBT isn't built.
+        (
+            "?JOB SUM\n?HEX\n423637434f44453100010000020002\n0003ae4009b202b200030381aba3ffff\n?END\n",
             2,
             "DECK 2 REASON 90\n",
         ),

@@ -5,22 +5,24 @@ ghost use Rattle.b67_model.specs.State.{Member};
 ghost use Rattle.b67_io.specs.Told.{Took, TookPart, GaveAll};
 ghost use Rattle.b67_io.specs.Causes.{Rose, Stayed};
 ghost use Rattle.b67_io.specs.Line.{ended};
-ghost use Rattle.b67_card.specs.declared.reading.TheConstants.{LIMIT};
-ghost use Rattle.b67_codefile.specs.Reading.{reading};
+ghost use Rattle.b67_text.specs.Deck.{limit};
 ghost use Rattle.b67_job.specs.Command.{command_of};
-ghost use Rattle.b67_job.specs.Judgement.{judgement, file_judgement, Refused, Runs, judged_status, refusal_text};
+ghost use Rattle.b67_job.specs.Judgement.{judgement, file_judgement, Refused, Runs, judged_status};
+ghost use Rattle.b67_job.specs.declared.refusal.Refusal.{Refusal};
+ghost use Rattle.b67_job.specs.Told.{refusal_text};
 ghost use Rattle.b67_job.specs.Session.{IsRun};
 ghost use Rattle.b67_job.specs.Runs.{session_of};
 ghost use Rattle.b67_job.specs.Ends.{Ends};
-ghost use Rattle.b67_job.specs.Due.{Answered, AnswersTo, FaultEnds, IsDue, WasRead, usage_text, reading_text, memory_text};
+ghost use Rattle.b67_job.specs.Due.{Answered, AnswersTo, FaultEnds, RefusalEnds, IsDue, WasRead, usage_text, reading_text, memory_text};
 
+use crate::admission::{AdmitFault, admit};
 use crate::command::command_of;
 use crate::form::{Form, first_form};
 use crate::lines::{line_of, refusal_line, say};
 use crate::machine::run_code;
 use crate::program::first_code;
+use crate::refusal::Refusal;
 use b67_card::{ReadFault, read_all};
-use b67_codefile::{BadFile, read};
 use b67_io::{Sink, Source};
 use std::alloc::Global;
 
@@ -30,10 +32,16 @@ pub struct Outcome {
     pub status: u8,
 }
 
-fn refuse<K: Sink>(printer: &mut K, card: u32, reason: u8) -> u8
-    ensures { Ends K.taken K.faults printer.old printer.new 2 (refusal_text card reason) result }
+fn refuse<K: Sink>(printer: &mut K, refusal: Refusal) -> u8
+    ensures { Ends K.taken K.faults printer.old printer.new 2 (refusal_text refusal) result }
 {
-    say(printer, 2, &refusal_line(card, reason))
+    say(printer, 2, &refusal_line(refusal))
+}
+
+fn refuse_card<K: Sink>(printer: &mut K, card: u32, reason: u8) -> u8
+    ensures { Ends K.taken K.faults printer.old printer.new 2 (refusal_text (Refusal.Deck card reason)) result }
+{
+    refuse(printer, Refusal::Deck { card, reason })
 }
 
 fn say_reading_fault<K: Sink>(printer: &mut K) -> u8
@@ -61,7 +69,11 @@ fn answer<S: Source, K: Sink>(alloc: Global, words: &[&str], deck: &mut S, print
     ensures { Answered words.now S.left S.faults deck.old deck.new K.taken K.faults printer.old printer.new result }
 {
     if command_of(words).is_none() {
-        return say(printer, 1, &line_of("USAGE: b67 run --core N --backing PATH"));
+        return say(
+            printer,
+            1,
+            &line_of("USAGE: b67 run --core N --backing PATH"),
+        );
     }
     match read_all(alloc, deck) {
         Ok(bytes) => answer_deck(alloc, bytes.as_slice(), printer),
@@ -73,36 +85,44 @@ fn answer_fault<K: Sink>(fault: ReadFault, printer: &mut K) -> u8
     ensures { FaultEnds fault K.taken K.faults printer.old printer.new result }
 {
     match fault {
-        ReadFault::TooLong { card } => refuse(printer, card, 14),
+        ReadFault::TooLong { card } => refuse_card(printer, card, 14),
         ReadFault::SourceFault => say_reading_fault(printer),
         ReadFault::Memory => say_no_memory(printer),
     }
 }
 
 fn answer_deck<K: Sink>(alloc: Global, text: &[u8], printer: &mut K) -> u8
-    requires { length text.now ≤ LIMIT }
+    requires { length text.now ≤ limit }
     ensures { AnswersTo (judgement text.now) K.taken K.faults printer.old printer.new result }
 {
     match first_form(alloc, text) {
         Ok(Form::Empty) => 0,
-        Ok(Form::Refused { card }) => refuse(printer, card, 90),
-        Ok(Form::Body { card, bytes }) => answer_body(alloc, card, bytes.as_slice(), printer),
+        Ok(Form::Refused { card }) => refuse_card(printer, card, 90),
+        Ok(Form::Body { job, card, bytes }) => {
+            answer_body(alloc, job, card, bytes.as_slice(), printer)
+        }
         Err(_) => say_no_memory(printer),
     }
 }
 
-fn answer_body<K: Sink>(alloc: Global, card: u32, bytes: &[u8], printer: &mut K) -> u8
-    ensures { AnswersTo (file_judgement card (reading bytes.now)) K.taken K.faults printer.old printer.new result }
+fn answer_body<K: Sink>(alloc: Global, job: u32, card: u32, bytes: &[u8], printer: &mut K) -> u8
+    ensures { AnswersTo (file_judgement job card bytes.now) K.taken K.faults printer.old printer.new result }
 {
-    match read(alloc, bytes) {
-        Ok(file) => match first_code(&file) {
+    match admit(alloc, job, card, bytes) {
+        Ok(program) => match first_code(program.file()) {
             Some(code) => run_code(printer, code),
-            None => refuse(printer, card, 90),
+            None => refuse_card(printer, card, 90),
         },
-        Err(fault) => match fault {
-            BadFile::Memory => say_no_memory(printer),
-            _ => refuse(printer, card, 90),
-        },
+        Err(fault) => refuse_program(fault, printer),
+    }
+}
+
+fn refuse_program<K: Sink>(fault: AdmitFault, printer: &mut K) -> u8
+    ensures { RefusalEnds fault K.taken K.faults printer.old printer.new result }
+{
+    match fault {
+        AdmitFault::Refused(refusal) => refuse(printer, refusal),
+        AdmitFault::Memory => say_no_memory(printer),
     }
 }
 
@@ -125,8 +145,8 @@ pub fn run<S: Source, K: Sink>(
     ensures no_command { is_some (command_of words.now) ≡ false → (result.status ≡ 1) ⊎ (result.status ≡ 8) }
 
     // A deck that was read and is refused: the line of its first refusal is printed.
-    ensures refused { result.status ≡ 2 → (bytes : List ℕ) × (card : ℕ) × (reason : ℕ) × WasRead S.left deck.old deck.new bytes
-        × (judgement bytes ≡ Refused card reason) × Took K.taken printer.old printer.new (refusal_text card reason) }
+    ensures refused { result.status ≡ 2 → (bytes : List ℕ) × (refusal : Refusal) × WasRead S.left deck.old deck.new bytes
+        × (judgement bytes ≡ Refused refusal) × Took K.taken printer.old printer.new (refusal_text refusal) }
 
     // A deck that was read to its end and is run: the whole text of its run is printed.
     ensures done { result.status ≡ 0 → (bytes : List ℕ) × (jobs : List Member) × (text : List ℕ) × GaveAll S.left deck.old deck.new bytes

@@ -1,12 +1,11 @@
 -- A task's frames as activation records: what a change of the top frame makes of them. All of it computes.
-use Rattle.std.proofs.Common.{◌≡◌, ◌≢◌, ℕ, zero, suc, ◌+◌, ◌-◌, ◌<◌, ◌≤◌, List, [], ◌∷◌, ◌++◌, length, map, refl, sym, ◌∙◌, ap, arith}
+use Rattle.std.proofs.Common.{◌≡◌, ℕ, suc, List, [], ◌∷◌, map, refl, sym, ap, arith}
 use Rattle.std.proofs.lemmas.List.{length-map}
 use Rattle.b67_model.specs.Words.{Word}
 use Rattle.b67_model.specs.State as State
 use Rattle.b67_model.specs.State.{Standing, Frame, Job, head_words, words_of, height}
 use Rattle.b67_model.specs.Environment.{level_of_standing, level_of_frame, running_from, running}
-use Rattle.b67_stack.specs.Stacks.{Spot, Head, Marked, Entered, Activation, head_size, size, top_size, high, mark_place, running_level, level_from}
-use Rattle.b67_stack.specs.Shapes.{Shape}
+use Rattle.b67_stack.specs.Stacks.{Spot, head_size, top_size, high, running_level, level_from}
 use Rattle.b67_stack.specs.Changes.{with_cells, top_cells, below_top, new_mark}
 use Rattle.b67_layout.specs.Plan.{Plan, spot_in}
 use Rattle.b67_layout.specs.Layout.{shape, head, activations}

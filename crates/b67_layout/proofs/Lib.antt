@@ -4,4 +4,8 @@ pub mod Pictures
 pub mod Rows
 pub mod Sessions
 pub mod Steps
+pub mod Displays
+pub mod Whole
+pub mod Settles
+pub mod Starts
 pub mod Witness

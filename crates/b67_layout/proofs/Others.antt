@@ -1,5 +1,5 @@
 -- What other tasks see of a task that changed on top of a frame that none of them depends on.
-use Rattle.std.proofs.Common.{◌≡◌, ◌≢◌, ℕ, suc, ◌+◌, ◌<◌, ◌≤◌, List, [], ◌∷◌, ◌++◌, length, map, Option, Some, None, refl, sym, ◌∙◌, ap, arith, Bool, true, false, cond, ◌==◌, ⊎_elim, inl, inr, not}
+use Rattle.std.proofs.Common.{◌≡◌, ◌≢◌, ℕ, List, [], ◌∷◌, map, Option, Some, None, refl, sym, ◌∙◌, ap, true, false, cond, ◌==◌, ⊎_elim, inl, inr}
 use Rattle.std.specs.Prelude.{if◌then◌else◌}
 use Rattle.std.proofs.lemmas.Option.{same_Some, none-some}
 use Rattle.std.proofs.lemmas.Bool.{cases_eq, cases_Bool, eq-eqb, ne_eqb, eqb-true}
@@ -13,7 +13,7 @@ use Rattle.b67_stack.specs.Shapes.{Shape}
 use Rattle.b67_stack.specs.Stacks.{Spot, Activation}
 use Rattle.b67_stack.specs.Picture.{Slot, Running, Waiting}
 use Rattle.b67_layout.specs.Plan.{Plan, slot_of, spot_in, outer_spots}
-use Rattle.b67_layout.specs.Layout.{shape, head, activations, stack_of_task, slot_with}
+use Rattle.b67_layout.specs.Layout.{shape, head, activations, slot_with}
 
 -- the first item of a number, where another takes its place
 pub keyed-put_same : {A : Type 0} (key : A → ℕ) (n : ℕ) (y x : A) → key y ≡ n → (xs : List A) → keyed key n xs ≡ Some x → keyed key n (change_keyed key n (λ z. y) xs) ≡ Some y
@@ -27,9 +27,9 @@ pub keyed-put_other : {A : Type 0} (key : A → ℕ) (m n : ℕ) (y : A) → key
 keyed-put_other key m n y k ne [] = refl
 keyed-put_other key m n y k ne (z ∷ zs) = ⊎_elim
     (λ (t : (key z == n) ≡ true).
-      let a : (key y == m) ≡ false = ne_eqb (key y) m (λ e. ne (sym e ∙ k)) in
-      let b : (key z == m) ≡ false = ne_eqb (key z) m (λ e. ne (sym e ∙ eqb-true (key z) n t)) in
-      rw t (rw (a, b) refl))
+    let a : (key y == m) ≡ false = ne_eqb (key y) m (λ e. ne (sym e ∙ k)) in
+    let b : (key z == m) ≡ false = ne_eqb (key z) m (λ e. ne (sym e ∙ eqb-true (key z) n t)) in
+    rw t (rw (a, b) refl))
     (λ (t : (key z == n) ≡ false). rw t (ap (λ r. cond (key z == m) (Some z) r) (keyed-put_other key m n y k ne zs)))
     (cases_Bool (key z == n))
 
@@ -78,18 +78,18 @@ module _ (plan : Plan) (j : ℕ) (job job' : Job) (t t' : Task) (n : ℕ) (top :
       let new = keyed (λ (u : Task). u.number) parent job'.tasks in
       ⊎_elim
       (λ (e : parent ≡ t.number).
-        let is_old : old ≡ Some t = ap (λ m. keyed (λ (u : Task). u.number) m job.tasks) e ∙ top.there in
-        let is_new : new ≡ Some t' = ap (λ m. keyed (λ (u : Task). u.number) m job'.tasks) e ∙ task-same in
-        let inner : (x : ℕ) → O job' (Some t') x ≡ O job (Some t) x = λ x. outer_spots-after more t'.critical (λ z. top.uncritical t (keyed-has (λ (u : Task). u.number) t.number job.tasks t top.there) (sym top.critical ∙ z)) x ∙ ap (λ d. outer_spots plan j job d more x) top.critical in
-        ap (λ o. S (O job' o) o) is_new
-        ∙ spot_in-outer (slot_of plan j parent) (O job (Some t)) (O job' (Some t')) inner (from_frame c t'.frames) id
-        ∙ top.same c (slot_of plan j parent) (O job (Some t)) id ne
-        ∙ ap (λ o. S (O job o) o) (sym is_old))
+      let is_old : old ≡ Some t = ap (λ m. keyed (λ (u : Task). u.number) m job.tasks) e ∙ top.there in
+      let is_new : new ≡ Some t' = ap (λ m. keyed (λ (u : Task). u.number) m job'.tasks) e ∙ task-same in
+      let inner : (x : ℕ) → O job' (Some t') x ≡ O job (Some t) x = λ x. outer_spots-after more t'.critical (λ z. top.uncritical t (keyed-has (λ (u : Task). u.number) t.number job.tasks t top.there) (sym top.critical ∙ z)) x ∙ ap (λ d. outer_spots plan j job d more x) top.critical in
+      ap (λ o. S (O job' o) o) is_new
+      ∙ spot_in-outer (slot_of plan j parent) (O job (Some t)) (O job' (Some t')) inner (from_frame c t'.frames) id
+      ∙ top.same c (slot_of plan j parent) (O job (Some t)) id ne
+      ∙ ap (λ o. S (O job o) o) (sym is_old))
       (λ (e : parent ≡ t.number → ⊥).
-        let is_new : new ≡ old = task-other parent e in
-        let inner : (x : ℕ) → O job' old x ≡ O job old x = λ x. outer_spots-after more (critical_of old) (any parent old refl) x in
-        ap (λ o. S (O job' o) o) is_new
-        ∙ spot_in-outer (slot_of plan j parent) (O job old) (O job' old) inner (from_frame c (frames_of_task old)) id)
+      let is_new : new ≡ old = task-other parent e in
+      let inner : (x : ℕ) → O job' old x ≡ O job old x = λ x. outer_spots-after more (critical_of old) (any parent old refl) x in
+      ap (λ o. S (O job' o) o) is_new
+      ∙ spot_in-outer (slot_of plan j parent) (O job old) (O job' old) inner (from_frame c (frames_of_task old)) id)
       (cases_eq parent t.number)
 
 -- a shape reads nothing of a job but its arrays

@@ -1,17 +1,16 @@
 -- A step of one task on top of its stack changes the picture in that task's slot alone.
-use Rattle.std.proofs.Common.{◌≡◌, ◌≢◌, ℕ, suc, ◌+◌, ◌<◌, ◌≤◌, List, [], ◌∷◌, ◌++◌, length, map, Option, Some, None, refl, sym, ◌∙◌, ap, arith, Bool, true, false, cond, ◌==◌, ⊎_elim, inl, inr, subst}
-use Rattle.std.specs.Prelude.{if◌then◌else◌, flat_map, option_map}
-use Rattle.std.proofs.lemmas.Option.{same_Some, none-some}
+use Rattle.std.proofs.Common.{◌≡◌, ◌≢◌, ℕ, List, [], ◌∷◌, ◌++◌, map, Option, Some, None, refl, sym, ◌∙◌, ap, Bool, true, false, cond, ◌==◌, ⊎_elim}
+use Rattle.std.specs.Prelude.{if◌then◌else◌, flat_map}
+use Rattle.std.proofs.lemmas.Option.{same_Some}
 use Rattle.std.proofs.lemmas.Bool.{cases_eq, cases_Bool, eq-eqb, ne_eqb, eqb-true}
-use Rattle.b67_model.specs.Lists.{Has}
-use Rattle.b67_model.specs.State.{Frame, Array, Task, Job, Course, Member, Setting}
+use Rattle.b67_model.specs.State.{Array, Task, Course, Member}
 use Rattle.b67_model.specs.Keyed.{keyed, change_keyed}
 use Rattle.b67_model.specs.Run.{number_of}
 use Rattle.b67_stack.specs.Stacks.{Spot, Activation}
-use Rattle.b67_stack.specs.Picture.{Thing, Slot, Free, Running, Waiting, Picture, RunsOn}
+use Rattle.b67_stack.specs.Picture.{Thing, Slot, Running, Waiting, Picture}
 use Rattle.b67_stack.specs.Changes.{with_stack}
 use Rattle.b67_stack.proofs.Slots.{slot-same, slot-other}
-use Rattle.b67_layout.specs.Plan.{Slotted, Plan, slot_of, spot_in, outer_spots}
+use Rattle.b67_layout.specs.Plan.{Slotted, Plan, outer_spots}
 use Rattle.b67_layout.specs.Layout.{activations, stack_of_task, slot_with, slot_in, slot_by, slot_at, things_of, array_thing, code_things, picture}
 use Rattle.b67_layout.proofs.Others.{OnTop, task-same, task-other, slot_with-after, outer_spots-after, activations-job, keyed-has}
 
@@ -81,7 +80,7 @@ module _ (plan : Plan) (jobs : List Member) (j : ℕ) (m : Member) (c : Course) 
     by_row : (o : Option Slotted) → keyed (λ (r : Slotted). r.slot) i plan.rows ≡ o → slot_by plan (with_course jobs j c) i o ≡ slot_by plan jobs i o
     by_row None e = refl
     by_row (Some r) e = ⊎_elim
-      (λ (z : r.job ≡ j).
+        (λ (z : r.job ≡ j).
         let new : keyed number_of r.job (with_course jobs j c) ≡ Some (record m { course = c }) = ap (λ (q : ℕ). keyed number_of q (with_course jobs j c)) z ∙ member-same jobs j c m member in
         let old : keyed number_of r.job jobs ≡ Some m = ap (λ (q : ℕ). keyed number_of q jobs) z ∙ member in
         ap (slot_in plan i r.job r.task) new
@@ -89,8 +88,8 @@ module _ (plan : Plan) (jobs : List Member) (j : ℕ) (m : Member) (c : Course) 
         ∙ same_task i r.task (λ w. ne (row.alone i r e z w))
         ∙ ap (λ (q : ℕ). slot_with plan i q m.course.job (keyed (λ (v : Task). v.number) r.task m.course.job.tasks)) (sym z)
         ∙ ap (slot_in plan i r.job r.task) (sym old))
-      (λ (z : r.job ≡ j → ⊥). ap (slot_in plan i r.job r.task) (member-other jobs j c r.job z))
-      (cases_eq r.job j)
+        (λ (z : r.job ≡ j → ⊥). ap (slot_in plan i r.job r.task) (member-other jobs j c r.job z))
+        (cases_eq r.job j)
 
   slots-after : (i : ℕ) → slot_at plan (with_course jobs j c) i ≡ (with_stack (picture plan jobs) k (stack_of_task plan j c.job k t')).slots i
   slots-after i = ⊎_elim
@@ -111,6 +110,6 @@ module _ (plan : Plan) (jobs : List Member) (j : ℕ) (m : Member) (c : Course) 
   stack-after =
       let own : t.critical ≢ n = top.uncritical t (keyed-has (λ (v : Task). v.number) t.number m.course.job.tasks t top.there) in
       let outer : outer_spots plan j c.job t'.critical t'.parents ≡ outer_spots plan j m.course.job t.critical t.parents =
-        ap (λ (d : ℕ). outer_spots plan j c.job d t'.parents) top.critical ∙ ap (outer_spots plan j c.job t.critical) top.parents ∙ (λ z id. outer_spots-after plan j m.course.job c.job t t' n top t.parents t.critical own id z) in
+      ap (λ (d : ℕ). outer_spots plan j c.job d t'.parents) top.critical ∙ ap (outer_spots plan j c.job t.critical) top.parents ∙ (λ z id. outer_spots-after plan j m.course.job c.job t t' n top t.parents t.critical own id z) in
       ap (λ (o : ℕ → Spot). activations plan j c.job k o t'.frames) outer
       ∙ activations-job plan j m.course.job c.job top.arrays k (outer_spots plan j m.course.job t.critical t.parents) t'.frames

@@ -1,13 +1,12 @@
 -- The row and the slot of a live task.
-use Rattle.std.proofs.Common.{◌≡◌, ◌≢◌, ℕ, suc, ◌+◌, ◌<◌, ◌≤◌, List, [], ◌∷◌, length, find, Option, Some, None, refl, sym, ◌∙◌, ap, arith, Bool, true, false, cond, ◌==◌, ⊎_elim, inl, inr, subst}
-use Rattle.std.specs.Prelude.{if◌then◌else◌, option_map, unwrap_or, ◌&&◌}
+use Rattle.std.proofs.Common.{◌≡◌, ℕ, ◌<◌, List, [], ◌∷◌, find, Option, Some, refl, sym, ◌∙◌, ap, Bool, true, false, ◌==◌, ⊎_elim, inl, inr, subst}
+use Rattle.std.specs.Prelude.{if◌then◌else◌, option_map, unwrap_or}
 use Rattle.std.proofs.lemmas.Option.{same_Some, none-some}
-use Rattle.std.proofs.lemmas.Bool.{cases_eq, cases_Bool, eq-eqb, ne_eqb, eqb-true}
+use Rattle.std.proofs.lemmas.Bool.{cases_Bool, eq-eqb, eqb-true}
 use Rattle.b67_model.specs.Lists.{Has}
-use Rattle.b67_model.specs.State.{Task, Job, Member}
+use Rattle.b67_model.specs.State.{Task, Member}
 use Rattle.b67_model.specs.Keyed.{keyed}
 use Rattle.b67_model.specs.Run.{number_of}
-use Rattle.b67_stack.specs.Stacks.{Activation}
 use Rattle.b67_stack.specs.Picture.{Running, Waiting, RunsOn}
 use Rattle.b67_layout.specs.Plan.{Slotted, Plan, is_row_of, slot_of}
 use Rattle.b67_layout.specs.Layout.{stack_of_task, slot_with, slot_in, slot_by, picture}
@@ -26,9 +25,9 @@ finds test [] x h e = absurd h
 finds test (y ∷ ys) x h e = ⊎_elim
     (λ (t : test y ≡ true). record { item = y; found = rw t refl; among = inl refl; passes = t })
     (λ (t : test y ≡ false).
-      let there : Has ys x = ⊎_elim (λ (z : y ≡ x). absurd (let f : ⊥ = (let u : test x ≡ false = ap test (sym z) ∙ t in let v : false ≡ true = sym u ∙ e in cc) in f)) (λ k. k) h in
-      let r = finds test ys x there e in
-      record { item = r.item; found = rw t r.found; among = inr r.among; passes = r.passes })
+    let there : Has ys x = ⊎_elim (λ (z : y ≡ x). absurd (let f : ⊥ = (let u : test x ≡ false = ap test (sym z) ∙ t in let v : false ≡ true = sym u ∙ e in cc) in f)) (λ k. k) h in
+    let r = finds test ys x there e in
+    record { item = r.item; found = rw t r.found; among = inr r.among; passes = r.passes })
     (cases_Bool (test y))
 
 pub is_row-true : (job task : ℕ) (r : Slotted) → r.job ≡ job → r.task ≡ task → is_row_of job task r ≡ true
@@ -71,11 +70,16 @@ row_of plan jobs m t fit inm int runs =
     let f = finds (λ (r : Slotted). r.slot == plan.running) plan.rows a.row a.among (eq-eqb a.row.slot plan.running at) in
     let same : f.item ≡ a.row = fit.differ f.item a.row f.among a.among (eqb-true f.item.slot plan.running f.passes ∙ sym at) in
     record {
-      row = f.item; found = f.found; job = ap (λ (r : Slotted). r.job) same ∙ a.job; number = ap (λ (r : Slotted). r.task) same ∙ a.number; running = refl;
+      row = f.item;
+      found = f.found;
+      job = ap (λ (r : Slotted). r.job) same ∙ a.job;
+      number = ap (λ (r : Slotted). r.task) same ∙ a.number;
+      running = refl;
       alone = λ i r e ej et.
-        let h = found-has (λ (q : Slotted). q.slot == i) plan.rows r e in
-        let is : r ≡ a.row = fit.tasks_differ r a.row h.0 a.among (ej ∙ sym a.job) (et ∙ sym a.number) in
-        sym (eqb-true r.slot i h.1) ∙ ap (λ (q : Slotted). q.slot) is ∙ at }
+          let h = found-has (λ (q : Slotted). q.slot == i) plan.rows r e in
+          let is : r ≡ a.row = fit.tasks_differ r a.row h.0 a.among (ej ∙ sym a.job) (et ∙ sym a.number) in
+          sym (eqb-true r.slot i h.1) ∙ ap (λ (q : Slotted). q.slot) is ∙ at;
+    }
 
 pub slot_below : (plan : Plan) (jobs : List Member) (m : Member) (t : Task) → RowsFit plan jobs → Has jobs m → Has m.course.job.tasks t → slot_of plan m.setting.number t.number < plan.peak
 slot_below plan jobs m t fit inm int = let a = task_row plan jobs m t fit inm int in subst (λ (n : ℕ). n < plan.peak) (sym a.slot) (fit.below a.row a.among)
@@ -90,8 +94,9 @@ runs_on plan jobs m t fit inm int runs km kt =
     record {
       used = subst (λ (n : ℕ). n < plan.peak) (sym runs) (slot_below plan jobs m t fit inm int);
       is = ap (slot_by plan jobs plan.running) r.found
-        ∙ ap (λ (i : ℕ). slot_in plan plan.running i r.row.task (keyed number_of i jobs)) r.job
-        ∙ ap (slot_in plan plan.running j r.row.task) km
-        ∙ ap (λ (i : ℕ). slot_with plan plan.running j m.course.job (keyed (λ (u : Task). u.number) i m.course.job.tasks)) r.number
-        ∙ ap (slot_with plan plan.running j m.course.job) kt
-        ∙ ap (λ (b : Bool). if b then Running (stack_of_task plan j m.course.job plan.running t) else Waiting (stack_of_task plan j m.course.job plan.running t)) (eq-eqb plan.running plan.running refl) }
+          ∙ ap (λ (i : ℕ). slot_in plan plan.running i r.row.task (keyed number_of i jobs)) r.job
+          ∙ ap (slot_in plan plan.running j r.row.task) km
+          ∙ ap (λ (i : ℕ). slot_with plan plan.running j m.course.job (keyed (λ (u : Task). u.number) i m.course.job.tasks)) r.number
+          ∙ ap (slot_with plan plan.running j m.course.job) kt
+          ∙ ap (λ (b : Bool). if b then Running (stack_of_task plan j m.course.job plan.running t) else Waiting (stack_of_task plan j m.course.job plan.running t)) (eq-eqb plan.running plan.running refl);
+    }

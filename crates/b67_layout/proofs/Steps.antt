@@ -1,5 +1,5 @@
 -- The two commonest steps: other cells in the top frame, and a mark on it.
-use Rattle.std.proofs.Common.{◌≡◌, ◌≢◌, ℕ, suc, ◌+◌, ◌<◌, ◌≤◌, List, [], ◌∷◌, length, map, Option, Some, None, refl, sym, ◌∙◌, ap, arith, Bool, true, false, cond, ◌==◌, subst}
+use Rattle.std.proofs.Common.{◌≡◌, ◌≢◌, ℕ, ◌<◌, List, [], ◌∷◌, map, refl, sym, ◌∙◌, ap, Bool, false, subst}
 use Rattle.std.specs.Prelude.{if◌then◌else◌}
 use Rattle.std.specs.List.{slice_get}
 use Rattle.b67_word.specs.Tagged.{Tagged}
@@ -31,7 +31,7 @@ pub activations-with : (plan : Plan) (j : ℕ) (job : Job) (k : ℕ) (outer : �
 activations-with plan j job k outer [] cells = refl
 activations-with plan j job k outer (f ∷ below) cells = refl
 
-seen-with : (fs : List Frame) (cells : List Word) (c s : ℕ) (outer : ℕ → Spot) (id : ℕ) → spot_in s outer (from_frame c (with_top_cells fs cells)) id ≡ spot_in s outer (from_frame c fs) id
+pub seen-with : (fs : List Frame) (cells : List Word) (c s : ℕ) (outer : ℕ → Spot) (id : ℕ) → spot_in s outer (from_frame c (with_top_cells fs cells)) id ≡ spot_in s outer (from_frame c fs) id
 seen-with [] cells c s outer id = refl
 seen-with (f ∷ below) cells c s outer id = seen-cells f below cells c s outer id
 
@@ -85,8 +85,8 @@ module _ (x : Storage) (core new : List Tagged) (r r' : Regs) (marks : List ℕ)
       let t' : Task = record t { frames = fs; place = q } in
       let row = row_of plan s.jobs m t h.fits.rows has_m has_t runs.slot in
       let e : picture plan (with_course s.jobs m.setting.number c) ≡ with_stack (picture plan s.jobs) plan.running stack =
-        picture-after plan s.jobs m.setting.number m c t t' n plan.running runs.member top row
-        ∙ ap (λ (xs : List Activation). with_stack (picture plan s.jobs) plan.running xs) (stack-after plan s.jobs m.setting.number m c t t' n plan.running runs.member top row ∙ is) in
+      picture-after plan s.jobs m.setting.number m c t t' n plan.running runs.member top row
+      ∙ ap (λ (xs : List Activation). with_stack (picture plan s.jobs) plan.running xs) (stack-after plan s.jobs m.setting.number m c t t' n plan.running runs.member top row ∙ is) in
       let P : Picture → Type 0 = λ p. Stands x new r' p in
       SessionHolds-after x core new r r' marks plan s m c t t' n h runs top same critical (subst P (sym e) stands) (subst Settled (sym e) settled) (task_stands c fs)
 
@@ -97,23 +97,39 @@ module _ (x : Storage) (core new : List Tagged) (r r' : Regs) (marks : List ℕ)
       → SessionHolds x new r' marks plan (record s { jobs = with_course s.jobs m.setting.number (record m.course { job = with_task m.course.job (record t { frames = with_top_cells t.frames cells; place = q }) }) })
   SessionHolds-cells n cells free stands settled =
       after (with_task m.course.job (record t { frames = with_top_cells t.frames cells; place = q })) (with_top_cells t.frames cells)
-        (with_cells running_stack (map (shape plan m.setting.number m.course.job (spot_in plan.running outer t.frames)) cells)) n
-        (record { there = runs.task; number = refl; critical = refl; parents = refl; tasks = refl; arrays = refl; some = free.some; uncritical = free.uncritical;
-          same = λ c k o id ne. seen-with t.frames cells c k o id })
-        (critical-with m.course.job t.frames cells)
-        (activations-with plan m.setting.number m.course.job plan.running outer t.frames cells) stands settled
+      (with_cells running_stack (map (shape plan m.setting.number m.course.job (spot_in plan.running outer t.frames)) cells)) n
+      (record {
+        there = runs.task;
+        number = refl;
+        critical = refl;
+        parents = refl;
+        tasks = refl;
+        arrays = refl;
+        some = free.some;
+        uncritical = free.uncritical;
+        same = λ c k o id ne. seen-with t.frames cells c k o id;
+      })
+      (critical-with m.course.job t.frames cells)
+      (activations-with plan m.setting.number m.course.job plan.running outer t.frames cells) stands settled
 
   -- a mark on the top frame, of a new identity
   pub SessionHolds-mark : (job : Job) (n : ℕ) → job.tasks ≡ m.course.job.tasks → job.arrays ≡ m.course.job.arrays → IsFree m.course.job n → is_critical m.course.job n ≡ false
       → Stands x new r' (with_stack (picture plan s.jobs) plan.running (new_mark ∷ running_stack))
       → Settled (with_stack (picture plan s.jobs) plan.running (new_mark ∷ running_stack))
       → let fs = record { identity = n; standing = State.Marked; cells = [] } ∷ t.frames in
-        SessionHolds x new r' marks plan (record s { jobs = with_course s.jobs m.setting.number (record m.course { job = with_task job (record t { frames = fs; place = q }) }) })
+      SessionHolds x new r' marks plan (record s { jobs = with_course s.jobs m.setting.number (record m.course { job = with_task job (record t { frames = fs; place = q }) }) })
   SessionHolds-mark job n tasks arrays free uncritical stands settled =
       let f : Frame = record { identity = n; standing = State.Marked; cells = [] } in
       after (with_task job (record t { frames = f ∷ t.frames; place = q })) (f ∷ t.frames) (new_mark ∷ running_stack) n
-        (record { there = runs.task; number = refl; critical = refl; parents = refl;
-          tasks = ap (λ (ts : List Task). change_keyed (λ (u : Task). u.number) t.number (λ (u : Task). record t { frames = f ∷ t.frames; place = q }) ts) tasks;
-          arrays = arrays; some = free.some; uncritical = free.uncritical;
-          same = λ c k o id ne. seen-mark f t.frames c k o id ne })
-        (ap (λ (b : Bool). if b then height t.frames else critical_mark m.course.job t.frames) uncritical) refl stands settled
+      (record {
+        there = runs.task;
+        number = refl;
+        critical = refl;
+        parents = refl;
+        tasks = ap (λ (ts : List Task). change_keyed (λ (u : Task). u.number) t.number (λ (u : Task). record t { frames = f ∷ t.frames; place = q }) ts) tasks;
+        arrays = arrays;
+        some = free.some;
+        uncritical = free.uncritical;
+        same = λ c k o id ne. seen-mark f t.frames c k o id ne;
+      })
+      (ap (λ (b : Bool). if b then height t.frames else critical_mark m.course.job t.frames) uncritical) refl stands settled

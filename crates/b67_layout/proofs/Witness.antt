@@ -1,6 +1,6 @@
 -- A machine that stands for a session: one job whose only segment adds and prints, at its first operator, with its code
 -- in core and in a sector. So the conditions of operators can be met.
-use Rattle.std.proofs.Common.{◌≡◌, ◌≢◌, ℕ, zero, suc, ◌+◌, ◌-◌, ◌*◌, ◌<◌, ◌≤◌, ◌^◌, ◌==◌, List, [], ◌∷◌, ◌++◌, length, Option, Some, None, refl, sym, ◌∙◌, ap, arith, inl, inr, ◌⊎◌, ⊎_elim, Bool, true, false, subst, replicate, cond}
+use Rattle.std.proofs.Common.{◌≡◌, ◌≢◌, ℕ, zero, suc, ◌+◌, ◌-◌, ◌*◌, ◌<◌, ◌≤◌, ◌^◌, ◌==◌, List, [], ◌∷◌, ◌++◌, length, Some, None, refl, sym, ◌∙◌, ap, arith, inl, inr, ⊎_elim, subst, replicate}
 use Rattle.std.specs.Prelude.{if◌then◌else◌, map}
 use Rattle.std.specs.List.{slice_get}
 use Rattle.std.proofs.lemmas.Option.{none-some, same_Some}
@@ -11,24 +11,24 @@ use Rattle.b67_area.specs.declared.Kind.TheVariants as kind
 use Rattle.b67_area.specs.Spans.{Span, Area, Hole, area_at}
 use Rattle.b67_area.specs.Words.{head_word, tail_word, link_word, hole_high}
 use Rattle.b67_area.specs.Directory.{IsDirectory}
-use Rattle.b67_backing.specs.Shelf.{Shelf, chain_of}
+use Rattle.b67_backing.specs.Shelf.{chain_of}
 use Rattle.b67_ctl.specs.declared.registers.Regs.{Regs}
 use Rattle.b67_model.specs.Lists.{Has}
 use Rattle.b67_core.specs.Numbers.{number}
-use Rattle.b67_model.specs.State.{Segment, Entered, Ready, Task, Member}
+use Rattle.b67_model.specs.State.{Entered, Ready, Task, Member}
 use Rattle.b67_model.specs.Environment.{frame_at}
 use Rattle.b67_model.specs.Program.{Program, opened}
 use Rattle.b67_model.specs.Run.{number_of, start}
 use Rattle.b67_model.specs.Schedule.{Session}
 use Rattle.b67_stack.specs.declared.Cpu.{Cpu}
-use Rattle.b67_stack.specs.Shapes.{Held, Copied, Shape, Is, Copy, Fits, Lie}
+use Rattle.b67_stack.specs.Shapes.{Held, Fits, Lie}
 use Rattle.b67_stack.specs.Stacks.{high, words}
-use Rattle.b67_stack.specs.Picture.{Thing, words_of, Picture, Slot, stack_of, Settled, Laid, SlotFits, slot_base, CopiesName, IsArrayAt}
+use Rattle.b67_stack.specs.Picture.{Thing, words_of, Picture, stack_of, Laid, SlotFits, slot_base, CopiesName}
 use Rattle.b67_stack.specs.Stands.{Storage, SlotsStand, SlotStands, StacksLie, ThingsStand, ThingStands, Owned, Stands, HoldsIn, info_of}
 use Rattle.b67_layout.proofs.Others.{keyed-has}
 use Rattle.b67_layout.specs.Plan.{Plan, Slotted, slot_of}
 use Rattle.b67_layout.specs.Layout.{picture}
-use Rattle.b67_layout.specs.Session.{PlanFits, RowsFit, DictionaryStands, McpStands, VectorStands, CriticalStands, TaskStands, IsRunning, vector_word, critical_mark, frame_address, Shows, SessionHolds, SessionStands}
+use Rattle.b67_layout.specs.Session.{PlanFits, RowsFit, DictionaryStands, VectorStands, CriticalStands, TaskStands, vector_word, critical_mark, frame_address, Shows, SessionHolds, SessionStands}
 
 -- MKST, NAMC 0,9, LT8 2, LT8 3, ADD, ENTR, EXIT
 abbrev code : List ℕ
@@ -144,26 +144,40 @@ first_slot P h k small = subst P (let e : 0 ≡ k = omega arith in e) h
 
 laid : Laid 227 p
 laid = record {
-  low = refl; first = omega arith; room = omega arith;
+  low = refl;
+  first = omega arith;
+  room = omega arith;
   slots = first_slot (λ k. SlotFits p k (p.slots k)) (record { some = λ e. cc; heads = ((omega arith, omega arith, omega arith, refl), tt); fits = omega arith }, no_copies);
   homes = only thing (λ u. (160 ≤ u.home) × (u.home < 227)) (omega arith, omega arith);
   codes = only thing (λ u. u.kind ≡ kind.Code → u.home < 163) (λ e. omega arith);
   differ = λ u v inu inv e. only thing (λ x. x.home ≡ v.home → x ≡ v) (only thing (λ y. thing.home ≡ y.home → thing ≡ y) (λ z. refl) v inv) u inu e;
   not_base = only thing (λ u. (k : ℕ) → k < 1 → u.home ≢ slot_base p k) (first_slot (λ k. 162 ≢ slot_base p k) (λ e. omega arith));
-  lengths = only thing (λ u. (0 < length u.numbers) × (length u.numbers < 2 ^ 16)) (omega arith, omega arith) }
+  lengths = only thing (λ u. (0 < length u.numbers) × (length u.numbers < 2 ^ 16)) (omega arith, omega arith);
+}
 
 slots : SlotsStand core regs 227 p
-slots = record { laid = laid; regs = record { stacks = refl; size = refl; peak = refl };
-  slots = first_slot (λ k. SlotStands core regs p k (p.slots k)) (record { slot = refl; first = refl; last = refl; top = refl; mark = refl; level = refl }) }
+slots = record {
+  laid = laid;
+  regs = record { stacks = refl; size = refl; peak = refl };
+  slots = first_slot (λ k. SlotStands core regs p k (p.slots k)) (record { slot = refl; first = refl; last = refl; top = refl; mark = refl; level = refl });
+}
 
 stacks : StacksLie held core p
 stacks = first_slot (λ k. Lie (Fits held) core (suc (slot_base p k)) (words k (stack_of (p.slots k))))
     ((word 3 0, refl, (refl, λ e. omega (arith, e))), ((word 3 (2 ^ 47 + 2 ^ 46 + 128 * 2 ^ 36 + 2 * 2 ^ 14), refl, (refl, λ e. omega (arith, e))), tt))
 
 held_in : HoldsIn storage thing 1
-held_in = record { chain = record { some = omega arith; small = omega arith; sectors = refl };
-  told = (((3 * 2 ^ 48 + 0xae4009b202b2) ∷ (3 * 2 ^ 48 + 0x0380aba3ffff) ∷ replicate 28 0, refl,
-    λ i small inside. all_from (λ q. slice_get ((3 * 2 ^ 48 + 0xae4009b202b2) ∷ (3 * 2 ^ 48 + 0x0380aba3ffff) ∷ replicate 28 0) q ≡ slice_get (map number (words_of thing)) (0 + q)) 0 2 (refl, (refl, tt)) i (omega arith) (omega arith)), omega arith) }
+held_in = record {
+  chain = record { some = omega arith; small = omega arith; sectors = refl };
+  told = (
+    (
+      (3 * 2 ^ 48 + 0xae4009b202b2) ∷ (3 * 2 ^ 48 + 0x0380aba3ffff) ∷ replicate 28 0,
+      refl,
+      λ i small inside. all_from (λ q. slice_get ((3 * 2 ^ 48 + 0xae4009b202b2) ∷ (3 * 2 ^ 48 + 0x0380aba3ffff) ∷ replicate 28 0) q ≡ slice_get (map number (words_of thing)) (0 + q)) 0 2 (refl, (refl, tt)) i (omega arith) (omega arith),
+    ),
+    omega arith,
+  );
+}
 
 things : ThingsStand storage core p.things
 things = only thing (λ u. ThingStands storage core u) (record { home = refl; content = ((refl, (refl, tt)), held_in) })
@@ -177,7 +191,7 @@ areas at a e = ⊎_elim
 by_held : (home at : ℕ) → (held home).area ≡ Some at → (t : Thing) × Has p.things t × (t.home ≡ home) × (area_at 227 spans at ≡ Some (info_of storage t))
 by_held home at e = ⊎_elim
     (λ (z : home ≡ 162). let there : (held 162).area ≡ Some at = ap (λ n. (held n).area) (sym z) ∙ e in
-      let is : 228 ≡ at = same_Some 228 at there in (thing, inl refl, sym z, ap (area_at 227 spans) (sym is)))
+    let is : 228 ≡ at = same_Some 228 at there in (thing, inl refl, sym z, ap (area_at 227 spans) (sym is)))
     (λ (z : home ≡ 162 → ⊥). let absent : None ≡ Some at = rw (ne_eqb home 162 z) at e in absurd (none-some at absent))
     (cases_eq home 162)
 
@@ -188,12 +202,23 @@ chains first some = ⊎_elim
     (cases_eq 1 first)
 
 owned : Owned storage p.things
-owned = record { of_area = areas; of_held = by_held; of_chain = chains; no_zero = refl;
-  one_chain = λ t u int inu some e. only thing (λ x. x.home ≡ u.home) (only thing (λ y. thing.home ≡ y.home) refl u inu) t int }
+owned = record {
+  of_area = areas;
+  of_held = by_held;
+  of_chain = chains;
+  no_zero = refl;
+  one_chain = λ t u int inu some e. only thing (λ x. x.home ≡ u.home) (only thing (λ y. thing.home ≡ y.home) refl u inu) t int;
+}
 
 directory : IsDirectory core 227 spans
-directory = record { laid = (refl, refl, (refl, refl)); zeros = λ i low up. all_from (λ q. slice_get core q ≡ Some (word 0 0)) 153 7 (refl, (refl, (refl, (refl, (refl, (refl, (refl, tt))))))) i (omega arith) (omega arith);
-  all = refl; spans = (record { words = omega arith; owner = omega arith; kept = omega arith }, (omega arith, tt, tt)); above = omega arith; small = omega arith }
+directory = record {
+  laid = (refl, refl, (refl, refl));
+  zeros = λ i low up. all_from (λ q. slice_get core q ≡ Some (word 0 0)) 153 7 (refl, (refl, (refl, (refl, (refl, (refl, (refl, tt))))))) i (omega arith) (omega arith);
+  all = refl;
+  spans = (record { words = omega arith; owner = omega arith; kept = omega arith }, (omega arith, tt, tt));
+  above = omega arith;
+  small = omega arith;
+}
 
 pub stands : Stands storage core regs p
 stands = record { slots = slots; stacks = stacks; things = things; owned = owned; directory = directory; inside = omega arith }
@@ -208,36 +233,51 @@ rows_fit = record {
   slotted = for_task (λ m t. (r : Slotted) × Has plan.rows r × (r.job ≡ m.setting.number) × (r.task ≡ t.number)) (record { job = 1; task = 1; slot = 0 }, inl refl, refl, refl);
   below = only (record { job = 1; task = 1; slot = 0 }) (λ r. r.slot < 1) (omega arith);
   differ = λ a b ina inb e. one a b ina inb;
-  tasks_differ = λ a b ina inb e f. one a b ina inb } where
+  tasks_differ = λ a b ina inb e f. one a b ina inb;
+} where
   one : (a b : Slotted) → Has plan.rows a → Has plan.rows b → a ≡ b
   one a b (inl e) (inl f) = sym e ∙ f
   one a b (inl e) (inr k) = absurd k
   one a b (inr k) inb = absurd k
 
 fits : PlanFits plan session
-fits = record { rows = rows_fit; peak = refl; few = omega arith; sizes = only member (λ m. m.setting.stack_size ≡ 64) refl; dictionaries = (refl, refl);
-  row_homes = only member (λ m. (n : ℕ) → 1 ≤ n → n + length m.setting.segments ≤ length m.setting.dictionary.cells → plan.home m.setting.number n ≡ plan.dictionary m.setting.number + 1 + length m.setting.segments + n) (λ n low up. absurd (omega arith)) }
+fits = record {
+  rows = rows_fit;
+  peak = refl;
+  few = omega arith;
+  sizes = only member (λ m. m.setting.stack_size ≡ 64) refl;
+  dictionaries = (refl, refl);
+  row_homes = only member (λ m. (n : ℕ) → 1 ≤ n → n + length m.setting.segments ≤ length m.setting.dictionary.cells → plan.home m.setting.number n ≡ plan.dictionary m.setting.number + 1 + length m.setting.segments + n) (λ n low up. absurd (omega arith));
+}
 
 not_first : (k : ℕ) → ((r : Slotted) → Has plan.rows r → r.slot ≢ k) → 0 ≢ k
 not_first k h = h (record { job = 1; task = 1; slot = 0 }) (inl refl)
 
 vector : VectorStands core plan session.jobs
-vector = record { live = for_task (λ m t. slice_get core (32 + slot_of plan m.setting.number t.number) ≡ Some (vector_word plan m.setting.number t.parents)) refl;
-  free = λ k small others. let n = not_first k others in get-past mcp_words (zeros 119 ++ after_vector) (k - 1) (32 + k) (omega (arith, n)) ∙ get-replicate 119 (word 0 0) after_vector (k - 1) (omega (arith, n)) }
+vector = record {
+  live = for_task (λ m t. slice_get core (32 + slot_of plan m.setting.number t.number) ≡ Some (vector_word plan m.setting.number t.parents)) refl;
+  free = λ k small others. let n = not_first k others in get-past mcp_words (zeros 119 ++ after_vector) (k - 1) (32 + k) (omega (arith, n)) ∙ get-replicate 119 (word 0 0) after_vector (k - 1) (omega (arith, n));
+}
 
 critical : CriticalStands machine.critical plan session.jobs
 critical = record { live = for_task (λ m t. slice_get machine.critical (slot_of plan m.setting.number t.number) ≡ Some (critical_mark m.course.job t.frames)) refl; free = λ k small others. get-only 120 0 k small }
 
 holds : SessionHolds storage core regs machine.critical plan session
-holds = record { fits = fits; memory = stands;
+holds = record {
+  fits = fits;
+  memory = stands;
   settled = only thing (λ t. (k : ℕ) → k < 1 → slot_base p k ≤ t.home → t.home < slot_base p k + p.size → t.home ≤ slot_base p k + high (stack_of (p.slots k))) (first_slot (λ k. slot_base p k ≤ 162 → 162 < slot_base p k + p.size → 162 ≤ slot_base p k + high (stack_of (p.slots k))) (λ low up. absurd (omega arith)));
   dictionaries = only member (DictionaryStands core plan) (record { mark = refl; entries = refl });
   mcp = record { mark = refl; intrinsics = λ n low up. all_from (λ q. slice_get core q ≡ Some (word 7 (2 ^ 19 + q))) 8 9 (refl, (refl, (refl, (refl, (refl, (refl, (refl, (refl, (refl, tt))))))))) n low (omega arith) };
-  vector = vector; critical = critical;
+  vector = vector;
+  critical = critical;
   live = λ n. (member, task, record { member = refl; task = refl; slot = refl });
   running = λ m t r. for_task (TaskStands regs plan) (record { slot = refl; dict = refl; entries = refl; segment = refl; place = refl }) m t (keyed-has number_of m.setting.number session.jobs m r.member) (keyed-has (λ (u : Task). u.number) t.number m.course.job.tasks t r.task);
-  none = λ e. omega arith }
+  none = λ e. omega arith;
+}
 
 pub witness : SessionStands storage machine plan session
-witness = record { holds = holds;
-  shows = λ m t r. for_task (Shows machine.display plan) (λ n up. all_from (λ q. slice_get machine.display q ≡ Some (frame_address plan member task (frame_at (record { setting = member.setting; job = member.course.job; task = task; at = task.place }) q).identity)) 0 3 (refl, (refl, (refl, tt))) n (omega arith) (omega arith)) m t (keyed-has number_of m.setting.number session.jobs m r.member) (keyed-has (λ (u : Task). u.number) t.number m.course.job.tasks t r.task) }
+witness = record {
+  holds = holds;
+  shows = λ m t r. for_task (Shows machine.display plan) (λ n up. all_from (λ q. slice_get machine.display q ≡ Some (frame_address plan member task (frame_at (record { setting = member.setting; job = member.course.job; task = task; at = task.place }) q).identity)) 0 3 (refl, (refl, (refl, tt))) n (omega arith) (omega arith)) m t (keyed-has number_of m.setting.number session.jobs m r.member) (keyed-has (λ (u : Task). u.number) t.number m.course.job.tasks t r.task);
+}

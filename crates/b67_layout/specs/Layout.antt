@@ -1,6 +1,6 @@
 -- The picture of a session's state.
-use Rattle.std.specs.Prelude.{ℕ, ◌+◌, ◌^◌, ◌==◌, not, Bool, true, false, List, [], ◌∷◌, ◌++◌, map, flat_map, length, Option, Some, None, if◌then◌else◌}
-use Rattle.b67_word.specs.Tagged.{Tagged, word}
+use Rattle.std.specs.Prelude.{ℕ, ◌+◌, ◌==◌, not, true, false, List, [], ◌∷◌, ◌++◌, map, flat_map, length, Option, Some, None, if◌then◌else◌}
+use Rattle.b67_word.specs.Tagged.{word}
 use Rattle.b67_ctl.specs.Layout.{pcw_word, intrinsic_word, irw_word, sirw_word}
 use Rattle.b67_area.specs.declared.Kind.TheVariants as kind
 use Rattle.b67_model.specs.Words as Words
@@ -13,7 +13,7 @@ use Rattle.b67_stack.specs.Shapes as Shapes
 use Rattle.b67_stack.specs.Shapes.{Shape, Is, Copy}
 use Rattle.b67_stack.specs.Stacks.{Spot, Head, Marked, Entered, Activation}
 use Rattle.b67_stack.specs.Picture.{Thing, Slot, Free, Running, Waiting, Picture}
-use Rattle.b67_layout.specs.Plan.{Slotted, Plan, slot_of, spot_in, outer_spots}
+use Rattle.b67_layout.specs.Plan.{Slotted, Plan, spot_in, outer_spots}
 
 -- the shape of a cell's word, where the spots of frames are known
 abbrev pub shape : Plan → ℕ → Job → (ℕ → Spot) → Word → Shape

@@ -1,13 +1,12 @@
 -- What the rows of tasks and of jobs, and the counts, show of a session's state. They are plain values here, which the
 -- tables of the machine give.
-use Rattle.std.specs.Prelude.{◌≡◌, ◌≢◌, ◌↔◌, ℕ, ℤ, ◌+◌, ◌<◌, ◌≤◌, ◌==◌, List, [], ◌∷◌, length, map, drop, Option, Some, None, slice_get, if◌then◌else◌}
+use Rattle.std.specs.Prelude.{◌≡◌, ◌≢◌, ℕ, ℤ, ◌+◌, ◌<◌, ◌≤◌, List, [], ◌∷◌, length, map, drop, Option, Some, None, slice_get}
 use Rattle.b67_word.specs.declared.couples.Place.{Place}
 use Rattle.b67_model.specs.Lists.{Has}
-use Rattle.b67_model.specs.State.{Frame, Condition, Ready, Awaits, WaitsAt, Task, Job, Member, height}
+use Rattle.b67_model.specs.State.{Condition, Ready, Awaits, WaitsAt, Task, Job, Member}
 use Rattle.b67_model.specs.Keyed.{keyed}
-use Rattle.b67_model.specs.Steps.{is_critical}
 use Rattle.b67_model.specs.InOrder.{frames_of_task}
-use Rattle.b67_model.specs.Schedule.{Who, Switch, Session}
+use Rattle.b67_model.specs.Schedule.{Switch, Session}
 use Rattle.b67_layout.specs.Plan.{Plan, slot_of, spot_in, base_spot, spots, address_of}
 
 -- ready, or waiting for a task's end, or at the cell of an offset above the mark at a core address

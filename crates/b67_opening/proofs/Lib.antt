@@ -1,4 +1,4 @@
-mod Turned
-mod Rows
-mod First
-mod Opens
+pub mod Turned
+pub mod Rows
+pub mod First
+pub mod Opens

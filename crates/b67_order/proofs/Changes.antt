@@ -1,18 +1,17 @@
 -- The ways in which a step changes the running task's frames, each of which keeps them in order.
-use Rattle.std.proofs.Common.{◌≡◌, ◌≢◌, ℕ, zero, suc, ◌+◌, ◌^◌, ◌<◌, ◌≤◌, Bool, true, false, cond, eqb, List, [], ◌∷◌, ◌++◌, map, length, nat_abs, Option, Some, None, refl, sym, ap, ◌∙◌, subst, inl, inr, ◌⊎◌, arith}
-use Rattle.std.specs.List.{AllByRecursion}
+use Rattle.std.proofs.Common.{◌≡◌, ◌≢◌, ℕ, ◌+◌, ◌<◌, ◌≤◌, List, [], ◌∷◌, ◌++◌, map, Some, refl, sym, ap, ◌∙◌, subst, inl, inr, arith}
 use Rattle.std.proofs.lemmas.Bool.Decides.{eqb_tells}
 use Rattle.b67_word.specs.declared.couples.Place.{Place}
-use Rattle.b67_model.specs.Keyed.{keyed, change_keyed}
-use Rattle.b67_model.specs.Lists.{Has, total, how_many, Falls}
+use Rattle.b67_model.specs.Keyed.{keyed}
+use Rattle.b67_model.specs.Lists.{Has, Falls}
 use Rattle.b67_model.specs.Words.{Word}
-use Rattle.b67_model.specs.State.{Frame, Standing, Marked, Entered, Return, Array, Condition, Ready, Task, Setting, Job, Here, top, below_top, with_top_cells, height, with_task}
+use Rattle.b67_model.specs.State.{Frame, Standing, Marked, Entered, Return, Array, Task, Job, Here, top, with_top_cells, height, with_task}
 use Rattle.b67_model.specs.Environment.{level_of_frame, running}
-use Rattle.b67_model.specs.InOrder.{Starts, Known, known_of, from_frame, base, outer_reach, outer_of, reach_of, known_numbers, identities, IsEntered, NamesEntered, WordInOrder, EnvironmentInOrder, StandsInOrder, CellsInOrder, FramesInOrder, StackInOrder, ReturnsInOrder, ParentInOrder, BirthInOrder, ConditionInOrder, TaskInOrder, ArrayInOrder, is_original_of, originals_in, originals_of, frames_named, TasksInOrder}
+use Rattle.b67_model.specs.InOrder.{Starts, Known, known_of, from_frame, outer_of, reach_of, known_numbers, identities, IsEntered, EnvironmentInOrder, StandsInOrder, CellsInOrder, FramesInOrder, StackInOrder, ReturnsInOrder, BirthInOrder, ConditionInOrder, TaskInOrder, originals_in, originals_of, frames_named, TasksInOrder}
 use Rattle.b67_order.proofs.Members.{has_append_left, has_map, has_map_back, all_in, keyed_has, falls_low, falls_more}
-use Rattle.b67_order.proofs.Reaches.{Alike, alike_same, alike_append, Stays, Wider, words_wider, stands_wider, known_number, frames_alike}
-use Rattle.b67_order.proofs.Replaced.{KeptOrLeft, Replaced, replaced, outer_kept}
-use Rattle.b67_order.proofs.Looks.{Run, reach, own_order}
+use Rattle.b67_order.proofs.Reaches.{Alike, alike_same, Stays, Wider, words_wider, known_number, frames_alike}
+use Rattle.b67_order.proofs.Replaced.{Replaced, replaced, outer_kept}
+use Rattle.b67_order.proofs.Looks.{Run, own_order}
 
 pub alike_trans : (ks ls ms : List Known) → Alike ks ls → Alike ls ms → Alike ks ms
 alike_trans [] [] ms a b = b
@@ -115,7 +114,7 @@ change_cells P h arrays (f ∷ below) next cells c words = record {
   falls = c.falls;
   up = c.up;
   alike = λ t k. alike_trans (map known_of (from_frame t.critical h.task.frames)) (map known_of (from_frame t.critical (f ∷ below))) (map known_of (from_frame t.critical (record f { cells = cells } ∷ below))) (c.alike t k)
-    (elim (eqb_tells f.identity t.critical) [ inl e ↦ rw e.0 (alike_same (map known_of (f ∷ below))) | inr e ↦ rw e.0 (alike_same (map known_of (from_frame t.critical below))) ]);
+      (elim (eqb_tells f.identity t.critical) [ inl e ↦ rw e.0 (alike_same (map known_of (f ∷ below))) | inr e ↦ rw e.0 (alike_same (map known_of (from_frame t.critical below))) ]);
   stays = c.stays;
   fewer = c.fewer;
 }
@@ -171,7 +170,7 @@ change_drop P h arrays f below next c free some = record {
   falls = falls_more f.identity next (known_numbers (map known_of below ++ outside h)) (omega (arith, c.falls.0)) c.falls.1;
   up = c.up;
   alike = λ t k. alike_trans (map known_of (from_frame t.critical h.task.frames)) (map known_of (from_frame t.critical (f ∷ below))) (map known_of (from_frame t.critical below)) (c.alike t k)
-    (elim (eqb_tells f.identity t.critical) [ inl e ↦ absurd (free t k (sym e.1)) | inr e ↦ rw e.0 (alike_same (map known_of (from_frame t.critical below))) ]);
+      (elim (eqb_tells f.identity t.critical) [ inl e ↦ absurd (free t k (sym e.1)) | inr e ↦ rw e.0 (alike_same (map known_of (from_frame t.critical below))) ]);
   stays = λ t k i. elim (c.stays t k i) [ inl e ↦ absurd (free t k (sym e)) | inr m ↦ m ];
   fewer = λ n low. let one = c.fewer n low in elim (eqb_tells f.identity n) [
     | inl e ↦ let more : 1 + frames_named n below ≤ frames_named n h.task.frames = rw e.0 at one in omega (arith, more)
@@ -199,10 +198,10 @@ change_enter P h arrays f below next level environment back c marked stands retu
       falls = c.falls;
       up = c.up;
       alike = λ t k. alike_trans (map known_of (from_frame t.critical h.task.frames)) (map known_of (from_frame t.critical (f ∷ below))) (map known_of (from_frame t.critical (entered ∷ below))) (c.alike t k)
-        (elim (eqb_tells f.identity t.critical) [
-          | inl e ↦ rw e.0 (refl, λ is. absurd (subst IsEntered marked is), alike_same (map known_of below))
-          | inr e ↦ rw e.0 (alike_same (map known_of (from_frame t.critical below)))
-        ]);
+          (elim (eqb_tells f.identity t.critical) [
+            | inl e ↦ rw e.0 (refl, λ is. absurd (subst IsEntered marked is), alike_same (map known_of below))
+            | inr e ↦ rw e.0 (alike_same (map known_of (from_frame t.critical below)))
+          ]);
       stays = c.stays;
       fewer = c.fewer;
     }

@@ -1,28 +1,26 @@
 -- Where references of the running task lead.
-use Rattle.std.proofs.Common.{◌≡◌, ◌≢◌, ℕ, zero, suc, ◌+◌, ◌-◌, ◌%◌, ◌^◌, ◌<◌, ◌≤◌, Bool, true, false, cond, eqb, ltb, leb, List, [], ◌∷◌, ◌++◌, map, reverse, length, ℤ, pos, negsuc, Option, Some, None, unwrap_or, Ok, Err, refl, sym, ap, ◌∙◌, subst, inl, inr, ◌⊎◌, arith}
-use Rattle.std.specs.List.{AllByRecursion, slice_get}
+use Rattle.std.proofs.Common.{◌≡◌, ◌≢◌, ℕ, zero, suc, ◌-◌, ◌^◌, ◌<◌, ◌≤◌, ltb, leb, List, [], ◌∷◌, map, reverse, length, ℤ, pos, negsuc, Option, Some, None, unwrap_or, Ok, Err, refl, sym, ap, subst, inl, inr, arith}
 use Rattle.std.specs.Option.{ok_or}
-use Rattle.std.proofs.lemmas.Bool.{cases_lt, cases_Bool, leb-true, ltb-true}
-use Rattle.b67_word.specs.declared.couples.Place.{Place}
+use Rattle.std.proofs.lemmas.Bool.{cases_Bool, leb-true, ltb-true}
 use Rattle.b67_word.specs.declared.couples.Couple.{Couple}
 use Rattle.b67_word.specs.declared.faults.Fault.{Fault}
-use Rattle.b67_word.specs.declared.faults.Fault.TheVariants.{InvalidAddress, InvalidOperand}
-use Rattle.b67_word.specs.Couples.{couple, level_bits}
+use Rattle.b67_word.specs.declared.faults.Fault.TheVariants.{InvalidAddress}
+use Rattle.b67_word.specs.Couples.{couple}
 use Rattle.b67_model.specs.Answers.{Answer}
 use Rattle.b67_model.specs.Keyed.{keyed}
 use Rattle.b67_model.specs.Lists.{Has}
 use Rattle.b67_model.specs.Arrays.{no_array, array, array_at, array_of, index_below, indexed}
 use Rattle.b67_model.specs.Words as Words
 use Rattle.b67_model.specs.Words.{Word, Operand, Name, Ref, Row, Element, Original, Proc, Intrinsic, operand, number}
-use Rattle.b67_model.specs.State.{Frame, Standing, Marked, Entered, Return, Array, Task, Setting, Job, Here, frame}
-use Rattle.b67_model.specs.Environment.{level_of_standing, level_of_frame, environment_of, running, running_from, outward, running_level, frame_at}
+use Rattle.b67_model.specs.State.{Frame, Standing, Marked, Entered, Array, Here, frame}
+use Rattle.b67_model.specs.Environment.{level_of_standing, level_of_frame, environment_of, running, running_from, outward, running_level}
 use Rattle.b67_model.specs.Cells.{first_offset, cell_of, cell, named, place_of}
 use Rattle.b67_model.specs.Chase.{End, AtCell, AtElement, AtArray, AtProc, AtIntrinsic, Link, Stops, Leads, link_at, link_in, link_from, link, chase_on, chase, follow, follow_reference}
-use Rattle.b67_model.specs.InOrder.{Starts, Known, known_of, reach_of, IsEntered, NamesEntered, NamesArray, OwnsArray, WordInOrder, EnvironmentInOrder, StandsInOrder, FramesInOrder, StackInOrder, ReturnsInOrder, ArrayInOrder, TaskInOrder}
-use Rattle.b67_order.specs.Ends.{IsProcOf, IsCell, EndInOrder}
-use Rattle.b67_order.proofs.Members.{has_append_left, has_append_right, has_append_cases, has_map, has_get, has_reverse_back, all_in, keyed_falls}
-use Rattle.b67_order.proofs.Looks.{SeenWord, Run, reach, own_order, Seen, see, Outer, closed, level_low, own_high}
-use Rattle.b67_order.proofs.Posts.{Post, post_ok, post_err, post_bind, post_any, post_if_is, post_more}
+use Rattle.b67_model.specs.InOrder.{Starts, Known, known_of, IsEntered, NamesEntered, NamesArray, OwnsArray, WordInOrder, StackInOrder, ReturnsInOrder, ArrayInOrder}
+use Rattle.b67_order.specs.Ends.{EndInOrder}
+use Rattle.b67_order.proofs.Members.{has_append_left, has_map, has_get, has_reverse_back, all_in, keyed_falls}
+use Rattle.b67_order.proofs.Looks.{SeenWord, Run, reach, own_order, see, closed, level_low, own_high}
+use Rattle.b67_order.proofs.Posts.{Post, post_ok, post_err, post_bind, post_any, post_if_is}
 
 -- what a reference may be
 abbrev pub RefInOrder : List Known → Word → Type 0
@@ -49,15 +47,15 @@ disp_low : (bits level : ℕ) → 2 ≤ level → (couple bits level).disp < 2 ^
 disp_low bits level low = elim (cases_Bool (leb level 1)) [
   | inl t ↦ absurd (omega (arith, leb-true level 1 t, low))
   | inr t ↦ rw t (elim (cases_Bool (leb level 3)) [
-      | inl u ↦ rw u (omega arith)
-      | inr u ↦ rw u (elim (cases_Bool (leb level 7)) [
-          | inl v ↦ rw v (omega arith)
-          | inr v ↦ rw v (elim (cases_Bool (leb level 15)) [
-              | inl w ↦ rw w (omega arith)
-              | inr w ↦ rw w (elim (cases_Bool (leb level 31)) [ inl x ↦ rw x (omega arith) | inr x ↦ rw x (omega arith) ])
-            ])
-        ])
+    | inl u ↦ rw u (omega arith)
+    | inr u ↦ rw u (elim (cases_Bool (leb level 7)) [
+      | inl v ↦ rw v (omega arith)
+      | inr v ↦ rw v (elim (cases_Bool (leb level 15)) [
+        | inl w ↦ rw w (omega arith)
+        | inr w ↦ rw w (elim (cases_Bool (leb level 31)) [ inl x ↦ rw x (omega arith) | inr x ↦ rw x (omega arith) ])
+      ])
     ])
+  ])
 ]
 
 pub some_ok : {A : Type 0} (o : Option A) (fault : Fault) (x : A) → ok_or o fault ≡ Ok x → o ≡ Some x
@@ -198,7 +196,7 @@ module _ (P : Starts) (h : Here) (run : Run P h) where
   pub array_is : (n index : ℕ) (a : NamesArray h.job.arrays (reach h) n index) → array h.job n ≡ a.item
   array_is n index a =
       let e : keyed (λ (x : Array). x.identity) n h.job.arrays ≡ Some a.item =
-          subst (λ m. keyed (λ (x : Array). x.identity) m h.job.arrays ≡ Some a.item) a.named (keyed_falls (λ (x : Array). x.identity) h.job.next_array h.job.arrays a.item run.order.names a.live) in
+      subst (λ m. keyed (λ (x : Array). x.identity) m h.job.arrays ≡ Some a.item) a.named (keyed_falls (λ (x : Array). x.identity) h.job.next_array h.job.arrays a.item run.order.names a.live) in
       ap (λ o. unwrap_or o no_array) e
 
   abbrev pub IsElement : (ℕ × ℕ) → Type 0

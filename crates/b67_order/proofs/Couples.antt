@@ -1,11 +1,10 @@
 -- Where the couples of a running task lead.
-use Rattle.std.proofs.Common.{◌≡◌, ℕ, ◌<◌, ◌^◌, Some, Ok, Err, refl}
+use Rattle.std.proofs.Common.{ℕ, ◌<◌, ◌^◌, Ok, Err, refl}
 use Rattle.b67_model.specs.Answers.{Answer}
-use Rattle.b67_model.specs.Keyed.{keyed}
 use Rattle.b67_model.specs.Words.{Name}
 use Rattle.b67_model.specs.State.{Task, Setting, Job, Here}
 use Rattle.b67_model.specs.Chase.{End, chase}
-use Rattle.b67_model.specs.InOrder.{Starts, IsSegment, IsStart, TaskInOrder, TasksInOrder}
+use Rattle.b67_model.specs.InOrder.{Starts, IsSegment, IsStart, TaskInOrder}
 use Rattle.b67_order.specs.Ends.{EndInOrder, StepsFrom, EndsInOrder, CouplesEndInOrder}
 use Rattle.b67_order.proofs.Members.{all_in, keyed_has}
 use Rattle.b67_order.proofs.Posts.{Post}

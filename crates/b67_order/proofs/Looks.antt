@@ -1,17 +1,17 @@
 -- What the running task sees: the frames of its reach, by their identities.
-use Rattle.std.proofs.Common.{◌≡◌, ◌≢◌, ℕ, zero, suc, ◌+◌, ◌-◌, ◌^◌, ◌<◌, ◌≤◌, Bool, true, false, cond, eqb, ltb, List, [], ◌∷◌, ◌++◌, map, flat_map, length, Option, Some, None, unwrap_or, refl, sym, ap, ◌∙◌, subst, inl, inr, ◌⊎◌, arith}
-use Rattle.std.specs.List.{AllByRecursion, slice_get}
+use Rattle.std.proofs.Common.{◌≡◌, ℕ, ◌+◌, ◌^◌, ◌<◌, ◌≤◌, cond, eqb, List, [], ◌∷◌, ◌++◌, map, flat_map, Some, None, unwrap_or, refl, sym, ap, ◌∙◌, subst, inl, inr, arith}
+use Rattle.std.specs.List.{AllByRecursion}
 use Rattle.std.proofs.lemmas.Bool.Decides.{eqb_tells}
 use Rattle.b67_model.specs.Keyed.{keyed}
-use Rattle.b67_model.specs.Lists.{Has, total, how_many, Falls}
+use Rattle.b67_model.specs.Lists.{Has, how_many}
 use Rattle.b67_model.specs.Words as Words
 use Rattle.b67_model.specs.Words.{Word, Operand, Name, Ref, Row, Element, Original, Proc, Intrinsic}
-use Rattle.b67_model.specs.State.{Frame, Standing, Marked, Entered, Return, Array, Condition, Ready, Task, Setting, Job, Here, mcp, no_frame, all_frames, frame}
+use Rattle.b67_model.specs.State.{Frame, Standing, Marked, Entered, Array, Ready, Task, Setting, Job, Here, mcp, no_frame, all_frames, frame}
 use Rattle.b67_model.specs.Environment as Environment
 use Rattle.b67_model.specs.Environment.{level_of_standing, level_of_frame, environment_of, running_from, outward, running_level, frame_at}
-use Rattle.b67_model.specs.InOrder.{Starts, Known, known_of, from_frame, frames_of_task, critical_of, base, outer_reach, outer_of, reach_of, known_numbers, identities, IsEntered, NamesEntered, NamesArray, OwnsArray, WordInOrder, EnvironmentInOrder, StandsInOrder, CellsInOrder, FramesInOrder, StackInOrder, ReturnsInOrder, ParentInOrder, BirthInOrder, TaskInOrder, EntryInOrder, frames_named, frames_in_job, SettingInOrder, TasksInOrder}
+use Rattle.b67_model.specs.InOrder.{Starts, Known, known_of, from_frame, base, outer_reach, outer_of, reach_of, known_numbers, IsEntered, NamesEntered, NamesArray, OwnsArray, WordInOrder, StandsInOrder, CellsInOrder, FramesInOrder, ParentInOrder, BirthInOrder, TaskInOrder, EntryInOrder, frames_named, SettingInOrder, TasksInOrder}
 use Rattle.b67_order.proofs.Members.{has_append_left, has_append_right, has_append_cases, has_map, has_map_back, has_flat, all_in, keyed_has, keyed_once, keyed_left, keyed_right, total_flat, total_zero, none_pass, falls_above}
-use Rattle.b67_order.proofs.Reaches.{Stays, Wider, word_wider, words_wider, stands_wider, known_number, Births}
+use Rattle.b67_order.proofs.Reaches.{Wider, words_wider, stands_wider, known_number}
 use Rattle.b67_order.proofs.Replaced.{numbers_append, birth_same}
 
 pub record IsFrame (job : Job) (f : Frame) : Type 0 where
@@ -34,10 +34,11 @@ frames_append : (P : Starts) (arrays : List Array) (outer : List Known) (fs gs :
 frames_append P arrays outer [] gs is under g = under
 frames_append P arrays outer (f ∷ fs) gs is under g =
     let whole : map known_of (f ∷ fs) ++ outer ≡ map known_of ((f ∷ fs) ++ gs) ++ base = ap (λ o. map known_of (f ∷ fs) ++ o) is ∙ reach_append (f ∷ fs) gs base in
-    let rest : map known_of fs ++ outer ≡ map known_of (fs ++ gs) ++ base = ap (λ o. map known_of fs ++ o) is ∙ reach_append fs gs base in
-    (subst (λ reach. CellsInOrder P arrays reach f.identity f.cells) whole g.0,
-    subst (λ reach. StandsInOrder reach f.standing) rest g.1,
-    frames_append P arrays outer fs gs is under g.2)
+    let rest : map known_of fs ++ outer ≡ map known_of (fs ++ gs) ++ base = ap (λ o. map known_of fs ++ o) is ∙ reach_append fs gs base in (
+      subst (λ reach. CellsInOrder P arrays reach f.identity f.cells) whole g.0,
+      subst (λ reach. StandsInOrder reach f.standing) rest g.1,
+      frames_append P arrays outer fs gs is under g.2,
+    )
 
 from_order : (P : Starts) (arrays : List Array) (outer : List Known) (c : ℕ) (fs : List Frame) → FramesInOrder P arrays outer fs → FramesInOrder P arrays outer (from_frame c fs)
 from_order P arrays outer c [] g = tt
@@ -85,7 +86,7 @@ module _ (P : Starts) (setting : Setting) (job : Job) (g : TasksInOrder P settin
   above_one t here f h =
       let rest : Line P job (outer_of job t) = line_outer t here t.parents refl in
       let ones : Has (known_numbers (outer_of job t)) 1 =
-          rw rest.is (rw (numbers_append (map known_of rest.frames) base) (has_append_right (known_numbers (map known_of rest.frames)) (known_numbers base) 1 (inl refl))) in
+      rw rest.is (rw (numbers_append (map known_of rest.frames) base) (has_append_right (known_numbers (map known_of rest.frames)) (known_numbers base) 1 (inl refl))) in
       let falls = rw numbers_append at (order_of t here).falls in
       falls_above job.next_frame (known_numbers (map known_of t.frames)) (known_numbers (outer_of job t)) f.identity 1 falls
       (has_map (λ (k : Known). k.0) (map known_of t.frames) (known_of f) (has_map known_of t.frames f h)) ones
@@ -150,10 +151,11 @@ line_words P arrays outer (x ∷ fs) f g h = elim h [
   | inr m ↦
       let r = line_words P arrays outer fs f g.2 m in
       let wide : Wider (map known_of fs ++ outer) (map known_of (x ∷ fs) ++ outer) arrays arrays =
-          record { entered = λ n s e k. inr k; kept = λ a k at. record { item = a; live = k; named = refl; owned = refl; long = omega arith } } in
-      let at : Has (known_numbers (map known_of (x ∷ fs) ++ outer)) f.identity = known_number (map known_of (x ∷ fs) ++ outer) f.identity f.standing (inr (has_append_left (map known_of fs) outer (known_of f) (has_map known_of fs f m))) in
-      (words_wider P (map known_of fs ++ outer) (map known_of (x ∷ fs) ++ outer) arrays arrays f.identity wide at f.cells r.0,
-      stands_wider (map known_of fs ++ outer) (map known_of (x ∷ fs) ++ outer) f.standing (λ n t e k. inr k) r.1)
+      record { entered = λ n s e k. inr k; kept = λ a k at. record { item = a; live = k; named = refl; owned = refl; long = omega arith } } in
+      let at : Has (known_numbers (map known_of (x ∷ fs) ++ outer)) f.identity = known_number (map known_of (x ∷ fs) ++ outer) f.identity f.standing (inr (has_append_left (map known_of fs) outer (known_of f) (has_map known_of fs f m))) in (
+        words_wider P (map known_of fs ++ outer) (map known_of (x ∷ fs) ++ outer) arrays arrays f.identity wide at f.cells r.0,
+        stands_wider (map known_of fs ++ outer) (map known_of (x ∷ fs) ++ outer) f.standing (λ n t e k. inr k) r.1,
+      )
 ]
 
 -- the running task of a job in order; it may stand past the operator already
@@ -221,14 +223,14 @@ module _ (P : Starts) (h : Here) (run : Run P h) where
   dictionary_found =
       let here : keyed (λ (x : Frame). x.identity) 1 (h.setting.dictionary ∷ mcp ∷ []) ≡ Some h.setting.dictionary = rw run.unchanging.named refl in
       let all : keyed (λ (x : Frame). x.identity) 1 (all_frames h) ≡ Some h.setting.dictionary =
-          keyed_right (λ (x : Frame). x.identity) 1 (flat_map (λ (t : Task). t.frames) h.job.tasks) (h.setting.dictionary ∷ mcp ∷ []) (none_low P h.setting h.job run.order 1 (omega arith)) ∙ here in
+      keyed_right (λ (x : Frame). x.identity) 1 (flat_map (λ (t : Task). t.frames) h.job.tasks) (h.setting.dictionary ∷ mcp ∷ []) (none_low P h.setting h.job run.order 1 (omega arith)) ∙ here in
       ap (λ o. unwrap_or o no_frame) all
 
   mcp_found : frame h 0 ≡ mcp
   mcp_found =
       let here : keyed (λ (x : Frame). x.identity) 0 (h.setting.dictionary ∷ mcp ∷ []) ≡ Some mcp = rw run.unchanging.named refl in
       let all : keyed (λ (x : Frame). x.identity) 0 (all_frames h) ≡ Some mcp =
-          keyed_right (λ (x : Frame). x.identity) 0 (flat_map (λ (t : Task). t.frames) h.job.tasks) (h.setting.dictionary ∷ mcp ∷ []) (none_low P h.setting h.job run.order 0 (omega arith)) ∙ here in
+      keyed_right (λ (x : Frame). x.identity) 0 (flat_map (λ (t : Task). t.frames) h.job.tasks) (h.setting.dictionary ∷ mcp ∷ []) (none_low P h.setting h.job run.order 0 (omega arith)) ∙ here in
       ap (λ o. unwrap_or o no_frame) all
 
   see_dictionary : Seen P h 1 (Entered 1 0 None)
@@ -282,9 +284,9 @@ module _ (P : Starts) (h : Here) (run : Run P h) where
   closed_base n s k low = elim k [
     | inl e ↦ subst (λ (x : Known). Outer h x.1) e (record { standing = Entered 0 0 None; among = base_in 0 (Entered 0 0 None) (inr (inl refl)); entered = tt; level_below = refl })
     | inr m ↦ elim m [
-        | inl e ↦ let zeros : 0 ≡ level_of_standing s = ap (λ (x : Known). level_of_standing x.1) e in absurd (omega (arith, zeros, low))
-        | inr x ↦ absurd x
-      ]
+      | inl e ↦ let zeros : 0 ≡ level_of_standing s = ap (λ (x : Known). level_of_standing x.1) e in absurd (omega (arith, zeros, low))
+      | inr x ↦ absurd x
+    ]
   ]
 
   pub closed : (n : ℕ) (s : Standing) → Has (reach h) (n, s) → IsEntered s → 1 ≤ level_of_standing s → Outer h s

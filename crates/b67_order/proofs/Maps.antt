@@ -1,10 +1,10 @@
 -- Changes of all tasks at once, which leave their frames but for operands: stores into cells, and who waits.
-use Rattle.std.proofs.Common.{◌≡◌, ◌≢◌, ℕ, zero, suc, ◌+◌, ◌-◌, ◌^◌, ◌<◌, ◌≤◌, Bool, true, false, cond, eqb, List, [], ◌∷◌, ◌++◌, map, reverse, length, Option, Some, None, refl, sym, ap, ◌∙◌, subst, inl, inr, ◌⊎◌, arith, slice_set}
-use Rattle.std.specs.List.{AllByRecursion, slice_get}
+use Rattle.std.proofs.Common.{◌≡◌, ◌≢◌, ℕ, zero, suc, ◌-◌, ◌^◌, ◌<◌, Bool, true, false, eqb, List, [], ◌∷◌, ◌++◌, map, reverse, length, Some, None, refl, sym, ap, ◌∙◌, subst, inl, inr, ◌⊎◌, arith, slice_set}
+use Rattle.std.specs.List.{slice_get}
 use Rattle.std.proofs.lemmas.List.{reverse-reverse, length-map}
 use Rattle.std.proofs.lemmas.Bool.Decides.{eqb_tells}
-use Rattle.b67_model.specs.Keyed.{keyed, change_keyed}
-use Rattle.b67_model.specs.Lists.{Has, total, how_many, Falls}
+use Rattle.b67_model.specs.Keyed.{change_keyed}
+use Rattle.b67_model.specs.Lists.{Has, how_many, Falls}
 use Rattle.b67_model.specs.Words as Words
 use Rattle.b67_model.specs.Words.{Word, Operand, Name, Ref, Row, Element, Original, Proc, Intrinsic}
 use Rattle.b67_model.specs.State.{Frame, Standing, Marked, Entered, Return, Array, Condition, Ready, Awaits, WaitsAt, Task, Setting, Job, words_of, height}
@@ -12,9 +12,9 @@ use Rattle.b67_model.specs.Environment as Environment
 use Rattle.b67_model.specs.Environment.{level_of_frame, running, running_from}
 use Rattle.b67_model.specs.State as State
 use Rattle.b67_model.specs.Cells.{with_cell_of, with_cell}
-use Rattle.b67_model.specs.InOrder.{Starts, Known, known_of, from_frame, outer_of, reach_of, known_numbers, identities, WordInOrder, StandsInOrder, is_copy_of, NoCopyUnder, CopiesAbove, CellsInOrder, FramesInOrder, StackInOrder, ReturnsInOrder, BirthInOrder, ConditionInOrder, TaskInOrder, is_original_of, originals_in, originals_of, frames_named, frames_in_job, TasksInOrder}
+use Rattle.b67_model.specs.InOrder.{Starts, Known, known_of, from_frame, outer_of, reach_of, known_numbers, identities, WordInOrder, StandsInOrder, is_copy_of, NoCopyUnder, CellsInOrder, FramesInOrder, StackInOrder, ReturnsInOrder, BirthInOrder, ConditionInOrder, TaskInOrder, is_original_of, originals_in, originals_of, frames_named, TasksInOrder}
 use Rattle.b67_order.proofs.Members.{has_map_back, all_in, all_from, keyed_has, keyed_map, map_map_key, total_same, total_map, reverse_cons}
-use Rattle.b67_order.proofs.Reaches.{Alike, alike_same, alike_under, Follower, Follows, outer_alike, birth_follows}
+use Rattle.b67_order.proofs.Reaches.{Alike, alike_same, Follows}
 use Rattle.b67_order.proofs.Replaced.{birth_same, task_kept}
 
 abbrev pub IsOperand : Word → Type 0
@@ -163,10 +163,11 @@ frames_order P arrays outer (f ∷ fs) [] s o = absurd s
 frames_order P arrays outer (f ∷ fs) (g ∷ gs) s o =
     let whole : map known_of (f ∷ fs) ++ outer ≡ map known_of (g ∷ gs) ++ outer = ap (λ ks. ks ++ outer) (frames_known (f ∷ fs) (g ∷ gs) s) in
     let under : map known_of fs ++ outer ≡ map known_of gs ++ outer = ap (λ ks. ks ++ outer) (frames_known fs gs s.1) in
-    let words = cells_same P arrays (map known_of (f ∷ fs) ++ outer) f.identity f.cells g.cells s.0.cells o.0 in
-    (subst (λ n. CellsInOrder P arrays (map known_of (g ∷ gs) ++ outer) n g.cells) s.0.identity (subst (λ reach. CellsInOrder P arrays reach f.identity g.cells) whole words),
-    subst (StandsInOrder (map known_of gs ++ outer)) s.0.standing (subst (λ reach. StandsInOrder reach f.standing) under o.1),
-    frames_order P arrays outer fs gs s.1 o.2)
+    let words = cells_same P arrays (map known_of (f ∷ fs) ++ outer) f.identity f.cells g.cells s.0.cells o.0 in (
+      subst (λ n. CellsInOrder P arrays (map known_of (g ∷ gs) ++ outer) n g.cells) s.0.identity (subst (λ reach. CellsInOrder P arrays reach f.identity g.cells) whole words),
+      subst (StandsInOrder (map known_of gs ++ outer)) s.0.standing (subst (λ reach. StandsInOrder reach f.standing) under o.1),
+      frames_order P arrays outer fs gs s.1 o.2,
+    )
 
 level_same : (s : Standing) (f g r q : Frame) → f.standing ≡ g.standing → level_of_frame r ≡ level_of_frame q → level_of_frame (running_from s f r) ≡ level_of_frame (running_from s g q)
 level_same Marked f g r q a b = b
@@ -258,7 +259,7 @@ module _ (P : Starts) (setting : Setting) (job : Job) (change : Task → Task) (
       let s = each t h in
       let own = task_of t h in
       let kept : TaskInOrder P setting (mapped change job) t = task_kept P setting job (mapped change job) (λ n. Unit {0}) map_follows (λ u k. (task_of u k).birth) (omega arith) t h (λ n k. tt)
-          (λ a k at. record { item = a; live = k; named = refl; owned = refl; long = omega arith }) own in
+      (λ a k at. record { item = a; live = k; named = refl; owned = refl; long = omega arith }) own in
       let outer : outer_of (mapped change job) t ≡ outer_of (mapped change job) (change t) = rw (s.critical, s.line) refl in
       let reach : reach_of (mapped change job) t ≡ reach_of (mapped change job) (change t) = rw outer (ap (λ ks. ks ++ outer_of (mapped change job) (change t)) (frames_known t.frames (change t).frames s.frames)) in
       record {
@@ -285,9 +286,9 @@ module _ (P : Starts) (setting : Setting) (job : Job) (change : Task → Task) (
         (rw (sym (total_same (λ (t : Task). frames_named n t.frames) (λ (t : Task). frames_named n (change t).frames) job.tasks (λ t h. named_same n t.frames (change t).frames (each t h).frames))) (g.apart n));
     arrays = g.arrays;
     once = all_from (λ (a : Array). originals_of a.identity setting (mapped change job) ≡ 1) job.arrays (λ a k.
-      rw (total_map change (λ (t : Task). originals_in a.identity t.frames) job.tasks)
-      (rw (sym (total_same (λ (t : Task). originals_in a.identity t.frames) (λ (t : Task). originals_in a.identity (change t).frames) job.tasks (λ t h. originals_same a.identity t.frames (change t).frames (each t h).frames)))
-      (all_in (λ (x : Array). originals_of x.identity setting job ≡ 1) job.arrays a g.once k)));
+        rw (total_map change (λ (t : Task). originals_in a.identity t.frames) job.tasks)
+        (rw (sym (total_same (λ (t : Task). originals_in a.identity t.frames) (λ (t : Task). originals_in a.identity (change t).frames) job.tasks (λ t h. originals_same a.identity t.frames (change t).frames (each t h).frames)))
+        (all_in (λ (x : Array). originals_of x.identity setting job ≡ 1) job.arrays a g.once k)));
     entries = g.entries;
     numbers = rw (map_map_key (λ (t : Task). t.number) change job.tasks numbers) g.numbers;
     names = g.names;

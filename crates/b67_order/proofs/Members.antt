@@ -1,5 +1,5 @@
 -- Members of lists, look-ups by number, and totals.
-use Rattle.std.proofs.Common.{◌≡◌, ◌≢◌, ℕ, zero, suc, ◌+◌, ◌<◌, ◌≤◌, Bool, true, false, not, cond, eqb, List, [], ◌∷◌, ◌++◌, map, filter, flat_map, reverse, length, Option, Some, None, refl, sym, ap, ◌∙◌, subst, inl, inr, ◌⊎◌, arith}
+use Rattle.std.proofs.Common.{◌≡◌, ◌≢◌, ℕ, zero, suc, ◌+◌, ◌<◌, ◌≤◌, Bool, true, false, not, cond, eqb, List, [], ◌∷◌, ◌++◌, map, filter, flat_map, reverse, length, Some, refl, sym, ap, ◌∙◌, subst, inl, inr, ◌⊎◌, arith}
 use Rattle.std.specs.List.{AllByRecursion, slice_get, list_any}
 use Rattle.std.proofs.lemmas.List.{reverse-append, reverse-reverse}
 use Rattle.std.proofs.lemmas.Bool.Decides.{eqb_tells}
@@ -54,9 +54,9 @@ pub has_filter : {A : Type 0} (p : A → Bool) (xs : List A) (x : A) → Has (fi
 has_filter p [] x h = absurd h
 has_filter p (y ∷ xs) x h = elim (cases_Bool (p y)) [
   | inl t ↦ elim (rw t at h) [
-      | inl e ↦ (inl e, ap p (sym e) ∙ t)
-      | inr m ↦ let r = has_filter p xs x m in (inr r.0, r.1)
-    ]
+    | inl e ↦ (inl e, ap p (sym e) ∙ t)
+    | inr m ↦ let r = has_filter p xs x m in (inr r.0, r.1)
+  ]
   | inr t ↦ let r = has_filter p xs x (rw t at h) in (inr r.0, r.1)
 ]
 
@@ -98,9 +98,9 @@ keyed_falls key bound [] x f h = absurd h
 keyed_falls key bound (y ∷ ys) x f h = elim h [
   | inl e ↦ elim (eqb_tells (key y) (key x)) [ inl t ↦ rw t.0 (ap Some e) | inr t ↦ absurd (t.1 (ap key e)) ]
   | inr m ↦ elim (eqb_tells (key y) (key x)) [
-      | inl t ↦ let low : key x < key y = falls_low (key y) (map key ys) (key x) f.1 (has_map key ys x m) in absurd (omega (arith, low, t.1))
-      | inr t ↦ rw t.0 (keyed_falls key (key y) ys x f.1 m)
-    ]
+    | inl t ↦ let low : key x < key y = falls_low (key y) (map key ys) (key x) f.1 (has_map key ys x m) in absurd (omega (arith, low, t.1))
+    | inr t ↦ rw t.0 (keyed_falls key (key y) ys x f.1 m)
+  ]
 ]
 
 -- what a list has after its first item of a number was replaced
@@ -109,13 +109,13 @@ pub has_change : {A : Type 0} (key : A → ℕ) (bound n : ℕ) (new : A) (xs : 
 has_change key bound n new [] x f h = absurd h
 has_change key bound n new (y ∷ ys) x f h = elim (eqb_tells (key y) n) [
   | inl t ↦ elim (rw t.0 at h) [
-      | inl e ↦ inl e
-      | inr m ↦ inr (inr m, λ e. let low : key x < key y = falls_low (key y) (map key ys) (key x) f.1 (has_map key ys x m) in omega (arith, low, t.1, e))
-    ]
+    | inl e ↦ inl e
+    | inr m ↦ inr (inr m, λ e. let low : key x < key y = falls_low (key y) (map key ys) (key x) f.1 (has_map key ys x m) in omega (arith, low, t.1, e))
+  ]
   | inr t ↦ elim (rw t.0 at h) [
-      | inl e ↦ inr (inl e, λ k. t.1 (ap key e ∙ k))
-      | inr m ↦ elim (has_change key (key y) n new ys x f.1 m) [ inl e ↦ inl e | inr r ↦ inr (inr r.0, r.1) ]
-    ]
+    | inl e ↦ inr (inl e, λ k. t.1 (ap key e ∙ k))
+    | inr m ↦ elim (has_change key (key y) n new ys x f.1 m) [ inl e ↦ inl e | inr r ↦ inr (inr r.0, r.1) ]
+  ]
 ]
 
 pub map_change : {A : Type 0} (key : A → ℕ) (n : ℕ) (new : A) (xs : List A) → key new ≡ n → map key (change_keyed key n (λ y. new) xs) ≡ map key xs
@@ -178,18 +178,18 @@ pub keyed_once : {A : Type 0} (key : A → ℕ) (n : ℕ) (xs : List A) (x : A) 
 keyed_once key n [] x few h k = absurd h
 keyed_once key n (y ∷ ys) x few h k = elim (eqb_tells (key y) n) [
   | inl t ↦ elim h [
-      | inl e ↦ rw t.0 (ap Some e)
-      | inr m ↦ let lows : 1 + how_many (λ z. eqb (key z) n) ys ≤ 1 = rw t.0 at few in
-          let one = total_has (λ z. cond (eqb (key z) n) 1 0) ys x m in
-          elim (eqb_tells (key x) n) [
-            | inl s ↦ let one' : 1 ≤ how_many (λ z. eqb (key z) n) ys = rw s.0 at one in absurd (omega (arith, lows, one'))
-            | inr s ↦ absurd (s.1 k)
-          ]
-    ]
+    | inl e ↦ rw t.0 (ap Some e)
+    | inr m ↦ let lows : 1 + how_many (λ z. eqb (key z) n) ys ≤ 1 = rw t.0 at few in
+        let one = total_has (λ z. cond (eqb (key z) n) 1 0) ys x m in
+        elim (eqb_tells (key x) n) [
+          | inl s ↦ let one' : 1 ≤ how_many (λ z. eqb (key z) n) ys = rw s.0 at one in absurd (omega (arith, lows, one'))
+          | inr s ↦ absurd (s.1 k)
+        ]
+  ]
   | inr t ↦ elim h [
-      | inl e ↦ absurd (t.1 (ap key e ∙ k))
-      | inr m ↦ let lows : 0 + how_many (λ z. eqb (key z) n) ys ≤ 1 = rw t.0 at few in rw t.0 (keyed_once key n ys x (omega (arith, lows)) m k)
-    ]
+    | inl e ↦ absurd (t.1 (ap key e ∙ k))
+    | inr m ↦ let lows : 0 + how_many (λ z. eqb (key z) n) ys ≤ 1 = rw t.0 at few in rw t.0 (keyed_once key n ys x (omega (arith, lows)) m k)
+  ]
 ]
 
 pub change_found : {A : Type 0} (key : A → ℕ) (n : ℕ) (old new : A) (xs : List A) → key new ≡ n → keyed key n xs ≡ Some old → keyed key n (change_keyed key n (λ y. new) xs) ≡ Some new
@@ -203,9 +203,9 @@ pub change_other : {A : Type 0} (key : A → ℕ) (m n : ℕ) (new : A) (xs : Li
 change_other key m n new [] k ne = refl
 change_other key m n new (y ∷ ys) k ne = elim (eqb_tells (key y) n) [
   | inl t ↦ elim (eqb_tells (key y) m) [
-      | inl u ↦ absurd (ne (sym u.1 ∙ t.1))
-      | inr u ↦ elim (eqb_tells (key new) m) [ inl s ↦ absurd (ne (sym s.1 ∙ k)) | inr s ↦ rw (t.0, s.0, u.0) refl ]
-    ]
+    | inl u ↦ absurd (ne (sym u.1 ∙ t.1))
+    | inr u ↦ elim (eqb_tells (key new) m) [ inl s ↦ absurd (ne (sym s.1 ∙ k)) | inr s ↦ rw (t.0, s.0, u.0) refl ]
+  ]
   | inr t ↦ rw t.0 (ap (λ r. cond (eqb (key y) m) (Some y) r) (change_other key m n new ys k ne))
 ]
 
@@ -350,9 +350,9 @@ falls_short bound (x ∷ xs) c [] f g among = absurd (among x (inl refl))
 falls_short bound (x ∷ xs) c (y ∷ ys) f g among =
     let rest : length xs ≤ length ys = falls_short x xs y ys f.1 g.1 (λ z h. elim (among z (inr h)) [
       | inl e ↦ let low = falls_low x xs z f.1 h in elim (among x (inl refl)) [
-          | inl d ↦ absurd (omega (arith, low, e, d))
-          | inr m ↦ let under = falls_low y ys x g.1 m in absurd (omega (arith, low, e, under))
-        ]
+        | inl d ↦ absurd (omega (arith, low, e, d))
+        | inr m ↦ let under = falls_low y ys x g.1 m in absurd (omega (arith, low, e, under))
+      ]
       | inr m ↦ m
     ]) in
     omega (arith, rest)

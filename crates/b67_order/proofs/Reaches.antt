@@ -1,15 +1,13 @@
 -- Reaches that are alike: the same identities, and the same entered frames.
-use Rattle.std.proofs.Common.{◌≡◌, ◌≢◌, ℕ, zero, suc, ◌+◌, ◌<◌, ◌≤◌, Bool, true, false, cond, eqb, List, [], ◌∷◌, ◌++◌, map, length, Option, Some, None, refl, sym, ap, ◌∙◌, subst, inl, inr, ◌⊎◌, arith}
+use Rattle.std.proofs.Common.{◌≡◌, ℕ, ◌≤◌, List, [], ◌∷◌, ◌++◌, map, length, Some, refl, sym, ap, ◌∙◌, subst, inl, inr, arith}
 use Rattle.std.specs.List.{AllByRecursion}
-use Rattle.std.proofs.lemmas.Bool.Decides.{eqb_tells}
-use Rattle.b67_word.specs.declared.couples.Place.{Place}
 use Rattle.b67_model.specs.Keyed.{keyed}
-use Rattle.b67_model.specs.Lists.{Has, Falls}
+use Rattle.b67_model.specs.Lists.{Has}
 use Rattle.b67_model.specs.Words as Words
 use Rattle.b67_model.specs.Words.{Word, Operand, Name, Ref, Row, Element, Original, Proc, Intrinsic}
-use Rattle.b67_model.specs.State.{Frame, Standing, Marked, Entered, Return, Array, Condition, Ready, Awaits, WaitsAt, Task, Setting, Job}
-use Rattle.b67_model.specs.InOrder.{Starts, Known, known_of, from_frame, frames_of_task, critical_of, base, outer_reach, outer_of, reach_of, known_numbers, identities, IsEntered, NamesEntered, NamesArray, OwnsArray, WordInOrder, EnvironmentInOrder, StandsInOrder, FramesInOrder, ParentInOrder, BirthInOrder, ConditionInOrder, TaskInOrder, TasksInOrder}
-use Rattle.b67_order.proofs.Members.{has_append_left, has_append_right, has_append_cases, has_map, all_in, all_from, keyed_has}
+use Rattle.b67_model.specs.State.{Frame, Standing, Marked, Entered, Array, Task, Job}
+use Rattle.b67_model.specs.InOrder.{Starts, Known, known_of, from_frame, base, outer_reach, known_numbers, identities, IsEntered, NamesEntered, NamesArray, WordInOrder, StandsInOrder, FramesInOrder, ParentInOrder, BirthInOrder}
+use Rattle.b67_order.proofs.Members.{has_map, keyed_has}
 
 -- one after the other: the same identities, and what was entered stands as before
 abbrev pub Alike : List Known → List Known → Type 0
@@ -62,7 +60,6 @@ pub record Stays (arrays' : List Array) (a : Array) : Type 0 where
 pub record Wider (reach reach' : List Known) (arrays arrays' : List Array) : Type 0 where
   pub entered : (n : ℕ) (s : Standing) → IsEntered s → Has reach (n, s) → Has reach' (n, s)
   pub kept : (a : Array) → Has arrays a → Has (known_numbers reach') a.owner → Stays arrays' a
-
 
 pub names_entered : (reach reach' : List Known) (arrays arrays' : List Array) (n : ℕ) → Wider reach reach' arrays arrays' → NamesEntered reach n → NamesEntered reach' n
 names_entered reach reach' arrays arrays' n wide e = record { standing = e.standing; among = wide.entered n e.standing e.entered e.among; entered = e.entered }
@@ -118,10 +115,11 @@ frames_alike P arrays arrays' outer outer' [] alike stay g = tt
 frames_alike P arrays arrays' outer outer' (f ∷ below) alike stay g =
     let same : (fs : List Frame) → Alike (map known_of fs ++ outer) (map known_of fs ++ outer') = λ fs. alike_under outer outer' fs alike in
     let wide : Wider (map known_of (f ∷ below) ++ outer) (map known_of (f ∷ below) ++ outer') arrays arrays' =
-        record { entered = λ n s e h. alike_has (map known_of (f ∷ below) ++ outer) (map known_of (f ∷ below) ++ outer') n s (same (f ∷ below)) e h; kept = stay } in
-    ((words_wider P (map known_of (f ∷ below) ++ outer) (map known_of (f ∷ below) ++ outer') arrays arrays' f.identity wide (inl refl) f.cells g.0.0, g.0.1),
-    stands_wider (map known_of below ++ outer) (map known_of below ++ outer') f.standing (λ n t e h. alike_has (map known_of below ++ outer) (map known_of below ++ outer') n t (same below) e h) g.1,
-    frames_alike P arrays arrays' outer outer' below alike (λ a h at. stay a h (inr at)) g.2)
+    record { entered = λ n s e h. alike_has (map known_of (f ∷ below) ++ outer) (map known_of (f ∷ below) ++ outer') n s (same (f ∷ below)) e h; kept = stay } in (
+      (words_wider P (map known_of (f ∷ below) ++ outer) (map known_of (f ∷ below) ++ outer') arrays arrays' f.identity wide (inl refl) f.cells g.0.0, g.0.1),
+      stands_wider (map known_of below ++ outer) (map known_of below ++ outer') f.standing (λ n t e h. alike_has (map known_of below ++ outer) (map known_of below ++ outer') n t (same below) e h) g.1,
+      frames_alike P arrays arrays' outer outer' below alike (λ a h at. stay a h (inr at)) g.2,
+    )
 
 -- how a job follows another: its tasks of these numbers are there still, with frames that are alike from each critical one down
 pub record Follower (job job' : Job) (n : ℕ) (q : Task) : Type 0 where
@@ -149,9 +147,9 @@ outer_alike job job' Lives follows births t here (p ∷ more) line live =
     let q = birth.parent in
     let next : Follower job job' p q = follows p q (live p (inl refl)) birth.found in
     let rest : Alike (outer_reach job q.critical more) (outer_reach job' q.critical more) =
-        outer_alike job job' Lives follows births q (keyed_has (λ u. u.number) p job.tasks q birth.found).0 more birth.line (λ n h. live n (inr h)) in
+    outer_alike job job' Lives follows births q (keyed_has (λ u. u.number) p job.tasks q birth.found).0 more birth.line (λ n h. live n (inr h)) in
     let rest' : Alike (outer_reach job q.critical more) (outer_reach job' next.item.critical more) =
-        subst (λ c. Alike (outer_reach job q.critical more) (outer_reach job' c more)) (sym next.critical) rest in
+    subst (λ c. Alike (outer_reach job q.critical more) (outer_reach job' c more)) (sym next.critical) rest in
     rw (birth.found, next.found) (alike_append (map known_of (from_frame t.critical q.frames)) (map known_of (from_frame t.critical next.item.frames)) (outer_reach job q.critical more) (outer_reach job' next.item.critical more) (next.alike t here) rest')
 
 pub birth_follows : (job job' : Job) (Lives : ℕ → Type 0) → Follows job job' Lives → (t : Task) → Has job.tasks t → (parents : List ℕ) → ((n : ℕ) → Has parents n → Lives n) →

@@ -1,16 +1,16 @@
 -- A job whose running task is replaced stays in order.
-use Rattle.std.proofs.Common.{◌≡◌, ◌≢◌, ℕ, zero, suc, ◌+◌, ◌^◌, ◌<◌, ◌≤◌, Bool, true, false, cond, eqb, ltb, List, [], ◌∷◌, ◌++◌, map, length, nat_abs, Option, Some, None, refl, sym, ap, ◌∙◌, subst, inl, inr, ◌⊎◌, arith}
+use Rattle.std.proofs.Common.{◌≡◌, ◌≢◌, ℕ, ◌+◌, ◌^◌, ◌<◌, ◌≤◌, eqb, List, [], ◌∷◌, ◌++◌, map, nat_abs, Option, Some, None, refl, sym, ap, ◌∙◌, subst, inl, inr, ◌⊎◌, arith}
 use Rattle.std.specs.List.{AllByRecursion}
 use Rattle.std.proofs.lemmas.Bool.Decides.{eqb_tells}
 use Rattle.std.proofs.lemmas.Bool.{cases_lt}
 use Rattle.b67_model.specs.Keyed.{keyed, change_keyed}
-use Rattle.b67_model.specs.Lists.{Has, total, how_many, Falls}
+use Rattle.b67_model.specs.Lists.{Has, Falls}
 use Rattle.b67_model.specs.Words as Words
 use Rattle.b67_model.specs.Words.{Word, Operand, Name, Ref, Row, Element, Original, Proc, Intrinsic}
-use Rattle.b67_model.specs.State.{Frame, Standing, Marked, Entered, Return, Array, Condition, Ready, Awaits, WaitsAt, Task, Setting, Job, height}
+use Rattle.b67_model.specs.State.{Frame, Array, Condition, Ready, Awaits, WaitsAt, Task, Setting, Job, height}
 use Rattle.b67_model.specs.Environment.{level_of_frame, running}
-use Rattle.b67_model.specs.InOrder.{Starts, Known, known_of, from_frame, frames_of_task, critical_of, base, outer_reach, outer_of, reach_of, known_numbers, identities, IsEntered, NamesEntered, NamesArray, OwnsArray, WordInOrder, EnvironmentInOrder, StandsInOrder, FramesInOrder, StackInOrder, ParentInOrder, BirthInOrder, ConditionInOrder, TaskInOrder, ArrayInOrder, EntryInOrder, is_original_of, originals_in, originals_of, frames_named, frames_in_job, TasksInOrder}
-use Rattle.b67_order.proofs.Members.{has_append_left, has_append_right, has_append_cases, has_map, has_map_back, all_in, all_from, keyed_has, has_change, map_change, total_change, total_has, change_found, change_other, length_change, falls_low, falls_more, falls_append_left, falls_append_right, falls_once, none_pass, total_zero}
+use Rattle.b67_model.specs.InOrder.{Starts, Known, known_of, from_frame, frames_of_task, critical_of, outer_reach, outer_of, reach_of, known_numbers, identities, FramesInOrder, StackInOrder, BirthInOrder, ConditionInOrder, TaskInOrder, ArrayInOrder, EntryInOrder, originals_in, originals_of, frames_named, frames_in_job, TasksInOrder}
+use Rattle.b67_order.proofs.Members.{has_append_left, has_append_cases, has_map, all_in, all_from, keyed_has, has_change, map_change, total_change, total_has, change_found, change_other, length_change, falls_low, falls_more, falls_once, none_pass, total_zero}
 use Rattle.b67_order.proofs.Reaches.{Alike, alike_same, alike_under, alike_numbers, alike_has, Stays, frames_alike, Follower, Follows, Births, outer_alike, birth_follows}
 
 condition_alike : (reach reach' : List Known) (c : Condition) → Alike reach reach' → ConditionInOrder reach c → ConditionInOrder reach' c
@@ -177,9 +177,9 @@ module _ (P : Starts) (setting : Setting) (job : Job) (old : Task) (job' : Job) 
   stay t here a live at = elim (r.kept a live).case [
     | inl s ↦ s
     | inr gone ↦ elim (reach_live job' t a.owner here at).counted [
-        | inl low ↦ absurd (omega (arith, low, gone.0))
-        | inr one ↦ absurd (omega (arith, one, gone.1, counted a.owner, g.apart a.owner))
-      ]
+      | inl low ↦ absurd (omega (arith, low, gone.0))
+      | inr one ↦ absurd (omega (arith, one, gone.1, counted a.owner, g.apart a.owner))
+    ]
   ]
 
   new_live : Has job'.tasks new
@@ -225,8 +225,8 @@ module _ (P : Starts) (setting : Setting) (job : Job) (old : Task) (job' : Job) 
     arrays = r.arrays;
     once = all_from (λ (a : Array). originals_of a.identity setting job' ≡ 1) job'.arrays once;
     entries = all_from (EntryInOrder job'.arrays) setting.dictionary.cells (λ w h. entry_kept job.arrays job'.arrays w
-      (λ a live owned. elim (r.kept a live).case [ inl s ↦ s | inr gone ↦ absurd (omega (arith, gone.0, owned)) ])
-      (all_in (EntryInOrder job.arrays) setting.dictionary.cells w g.entries h));
+        (λ a live owned. elim (r.kept a live).case [ inl s ↦ s | inr gone ↦ absurd (omega (arith, gone.0, owned)) ])
+        (all_in (EntryInOrder job.arrays) setting.dictionary.cells w g.entries h));
     numbers = rw (r.next_task, r.tasks) (subst (Falls job.next_task) (sym (map_change (λ (t : Task). t.number) old.number new job.tasks r.number)) g.numbers);
     names = r.names;
     few = rw r.tasks (omega (arith, length_change (λ (t : Task). t.number) old.number new job.tasks, g.few));

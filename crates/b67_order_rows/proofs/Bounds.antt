@@ -1,5 +1,5 @@
 -- Operators on numbers and bits keep operands in 48 bits.
-use Rattle.std.proofs.Common.{◌≡◌, ◌≢◌, ℕ, zero, suc, ◌+◌, ◌-◌, ◌*◌, ◌/◌, ◌%◌, ◌^◌, ◌<◌, ◌≤◌, ℤ, pos, negsuc, nat_abs, Bool, true, false, not, cond, eqb, ltb, leb, Ok, Err, refl, sym, ap, ◌∙◌, subst, inl, inr, ◌⊎◌, arith, ◌&&◌}
+use Rattle.std.proofs.Common.{◌≡◌, ℕ, zero, suc, ◌+◌, ◌-◌, ◌*◌, ◌/◌, ◌%◌, ◌^◌, ◌<◌, ◌≤◌, ℤ, pos, nat_abs, Bool, true, false, cond, eqb, ltb, leb, Ok, Err, refl, sym, ap, subst, inl, inr, arith, ◌&&◌}
 use Rattle.std.proofs.Math.IntN.{neg_ℤ}
 use Rattle.std.specs.Prelude.{int_lt}
 use Rattle.b67_word.specs.declared.faults.Fault.TheVariants.{Exponent}
@@ -9,10 +9,10 @@ use Rattle.std.proofs.lemmas.Bool.{cases_Bool, true≢false, leb-true, ltb-true,
 use Rattle.std.proofs.Math.Pow.{ones_sub-lt, pow_mono}
 use Rattle.std.proofs.Math.Nat.{mul-le-mul_right, div-lt_iff_lt-mul, mod-lt, div-add-mod}
 use Rattle.b67_word.specs.Operands.{bit, is_whole, value_of, bits_of}
-use Rattle.b67_model.specs.Answers.{Answer, ◌>>=◌, ◌>>◌, needs}
+use Rattle.b67_model.specs.Answers.{Answer, ◌>>=◌}
 use Rattle.b67_model.specs.Words.{to_operand, number, truth}
-use Rattle.b67_model.specs.Arithmetic.{Binary, ones, on_numbers, compared, divided, add, subt, mult, idiv, rdiv, less, greq, grtr, lseq, equl, neql, land, lor, leqv, same, chsn, lnot, bset, brst, is_field, isol, insr}
-use Rattle.b67_order.proofs.Posts.{Post, post_ok, post_err, post_bind, post_any, post_then, post_needs, post_if, post_if_is, post_more}
+use Rattle.b67_model.specs.Arithmetic.{ones, on_numbers, compared, land, lor, leqv, same, chsn, lnot, bset, brst, is_field, isol, insr}
+use Rattle.b67_order.proofs.Posts.{Post, post_ok, post_err, post_any, post_needs, post_if_is}
 use Rattle.b67_order_rows.proofs.Cells.{Fits1, Fits2}
 
 pub bits_low : (v : ℤ) → nat_abs v < 2 ^ 39 → bits_of v < 2 ^ 48
@@ -64,9 +64,11 @@ pub chsn_fits : Fits1 chsn
 chsn_fits a x = post_if_number (is_whole a) where
   low : a % 2 ^ 39 < 2 ^ 39
   low = omega arith
+
   by : (b : Bool) → nat_abs (neg_ℤ (cond b (pos (a % 2 ^ 39)) (neg_ℤ (pos (a % 2 ^ 39))))) < 2 ^ 39
   by true = rw (neg_abs (a % 2 ^ 39)) low
   by false = rw (neg_neg_abs (a % 2 ^ 39)) low
+
   post_if_number : (b : Bool) → Post Low (cond b (Ok (value_of a)) (Err Exponent) >>= λ v. Ok (bits_of (neg_ℤ v)))
   post_if_number true = post_ok Low (bits_of (neg_ℤ (value_of a))) (bits_low (neg_ℤ (value_of a)) (by (eqb (bit 46 a) 0)))
   post_if_number false = post_err Low _

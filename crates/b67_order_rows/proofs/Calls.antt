@@ -1,50 +1,35 @@
 -- Reading, waiting, waking and declaring keep order.
-use Rattle.std.proofs.Common.{◌≡◌, ◌≢◌, ℕ, zero, suc, ◌+◌, ◌^◌, ◌<◌, ◌≤◌, Bool, true, false, not, cond, eqb, leb, List, [], ◌∷◌, ◌++◌, map, filter, reverse, length, Option, Some, None, Ok, Err, get_or, refl, sym, ap, ◌∙◌, subst, inl, inr, ◌⊎◌, arith, ◌-◌}
-use Rattle.std.specs.List.{AllByRecursion, list_any, slice_index}
+use Rattle.std.proofs.Common.{◌≡◌, ◌≢◌, ℕ, zero, suc, ◌+◌, ◌^◌, ◌<◌, ◌≤◌, Bool, true, false, not, cond, eqb, List, [], ◌∷◌, ◌++◌, map, length, None, Ok, refl, sym, ap, ◌∙◌, subst, inl, inr, ◌⊎◌, arith, ◌-◌}
+use Rattle.std.specs.List.{AllByRecursion}
 use Rattle.std.proofs.lemmas.Bool.Decides.{eqb_tells}
-use Rattle.std.proofs.lemmas.Bool.{cases_Bool, true≢false, leb-true, eqb-true}
-use Rattle.b67_word.specs.declared.couples.Place.{Place}
-use Rattle.b67_word.specs.declared.faults.Fault.TheVariants.{StackOverflow}
-use Rattle.b67_model.specs.Answers.{Answer, ◌>>=◌, ◌>>◌, needs}
-use Rattle.b67_model.specs.Keyed.{keyed, change_keyed}
-use Rattle.b67_model.specs.Lists.{Has, total, how_many, Falls}
+use Rattle.std.proofs.lemmas.Bool.{true≢false}
+use Rattle.b67_model.specs.Lists.{Has, how_many}
 use Rattle.b67_model.specs.Words as Words
 use Rattle.b67_model.specs.Words.{Word, Operand, Name, Ref, Row, Element, Original, Proc, Intrinsic}
-use Rattle.b67_model.specs.State.{Frame, Standing, Marked, Entered, Return, Array, Condition, Ready, Awaits, WaitsAt, Task, Setting, Job, Here, frame, top, below_top, with_top_cells, words_of, height, with_task}
-use Rattle.b67_model.specs.Environment.{level_of_standing, level_of_frame, running, running_from}
-use Rattle.b67_model.specs.Arrays.{array, element, owner_of}
-use Rattle.b67_model.specs.Chase.{End, AtCell, AtElement, AtArray, AtProc, AtIntrinsic, follow, follow_reference}
-use Rattle.b67_model.specs.Steps.{Line, Done, Goes, Leaves, Waits, top_of, cells_of, result, with_frames, with_cells, leaves_cells, pushes, is_critical, without_arrays_of}
-use Rattle.b67_model.specs.Entry.{mkst, needs_level, accident, back_to, evaluates, enters, left, leaves, exit, returnable, returned, retn_word, retn}
-use Rattle.b67_model.specs.Intrinsics as Intrinsics
-use Rattle.b67_model.specs.Intrinsics.{is_original}
-use Rattle.b67_model.specs.InOrder.{Starts, Known, known_of, from_frame, base, outer_reach, outer_of, reach_of, known_numbers, identities, IsEntered, NamesEntered, NamesArray, OwnsArray, WordInOrder, EnvironmentInOrder, StandsInOrder, CellsInOrder, CopiesAbove, NoCopyUnder, FramesInOrder, StackInOrder, ReturnsInOrder, ConditionInOrder, TaskInOrder, ArrayInOrder, is_original_of, originals_in, originals_of, frames_named, TasksInOrder}
-use Rattle.b67_order.proofs.Members.{has_append_left, has_append_right, has_map, has_reverse, has_reverse_back, has_filter, has_filter_in, all_in, all_from, any_none, keyed_has, change_found, has_change, total_zero, falls_low, falls_more, falls_filter, falls_same, none_pass, total_reverse}
-use Rattle.b67_order.proofs.Reaches.{Alike, alike_has, alike_same, Stays, Wider, word_wider}
-use Rattle.b67_order.proofs.Replaced.{KeptOrLeft, Replaced, replaced, numbers_append}
-use Rattle.b67_order.proofs.Looks.{Run, reach, own_order, Seen, see, level_low, own_high}
-use Rattle.b67_order.proofs.Changes.{Change, TopWords, outside, no_change, change_arrays, change_cells, change_push, change_drop, change_enter, changed, fresh_frame, run_replaced}
-use Rattle.b67_order.specs.Ends.{EndInOrder, IsProcOf, IsCell}
-use Rattle.b67_order.proofs.Chases.{follow_in, array_is}
-use Rattle.b67_order.proofs.Posts.{Post, post_ok, post_err, post_bind, post_any, post_then, post_needs, post_if, post_if_is, post_more, post_both, post_any_at}
+use Rattle.b67_model.specs.State.{Frame, Array, Condition, Ready, Awaits, WaitsAt, Task, Setting, Job, Here, top, below_top, with_top_cells, height, with_task}
+use Rattle.b67_model.specs.Arrays.{array}
+use Rattle.b67_model.specs.Chase.{End, AtCell, AtElement, AtArray, AtProc, AtIntrinsic, follow_reference}
+use Rattle.b67_model.specs.Steps.{Waits, top_of, is_critical}
+use Rattle.b67_model.specs.InOrder.{Starts, Known, known_of, outer_of, OwnsArray, WordInOrder, FramesInOrder, ConditionInOrder, TaskInOrder, is_original_of, originals_in, originals_of, TasksInOrder}
+use Rattle.b67_order.proofs.Members.{has_map, all_in, has_change, total_zero, falls_low, none_pass}
+use Rattle.b67_order.proofs.Reaches.{Stays}
+use Rattle.b67_order.proofs.Looks.{reach, own_order, own_high}
+use Rattle.b67_order.proofs.Changes.{Change, outside, change_arrays, change_cells, run_replaced}
+use Rattle.b67_order.specs.Ends.{EndInOrder}
+use Rattle.b67_order.proofs.Posts.{Post, post_ok, post_err, post_bind, post_any, post_needs, post_if, post_if_is}
 use Rattle.b67_model.specs.Words.{operand}
-use Rattle.b67_model.specs.Cells.{place_of, cell, with_cell}
-use Rattle.b67_model.specs.Arithmetic.{Binary}
-use Rattle.b67_model.specs.Arrays.{array_of, indexed, in_order}
-use Rattle.b67_model.specs.Rows.{CellRow, on_one, on_two, movable, dlet, exch, dupl, on_cells, branches, branch_if, valc, stff_word, stff, load_at, load, indx, nxlv}
-use Rattle.b67_order_rows.proofs.Steps.{Keeps, Good, top_words, Fit, AllFit, originals, SameOriginals, own_fit, own_copies, plain_above, running_cells, known_cells, originals_cells, some_cells, result_good, cells_good, push_good, environment_of_proc, accident_good, element_low, evaluates_good}
-use Rattle.b67_order.proofs.Chases.{RefInOrder, chase_in, place_in, indexed_in}
+use Rattle.b67_model.specs.Cells.{cell, with_cell}
+use Rattle.b67_order_rows.proofs.Steps.{Keeps, Good, top_words, AllFit, originals, running_cells, result_good}
 use Rattle.std.proofs.Common.{ℤ, pos, negsuc, nat_abs, replicate, ltb, ◌&&◌}
 use Rattle.std.proofs.lemmas.Bool.{ltb-true}
 use Rattle.b67_word.specs.Operands.{bits_of}
-use Rattle.b67_model.specs.Steps.{Value, Values}
-use Rattle.b67_model.specs.Intrinsics.{answered, needs_free, answers, array_length, arraydec, print, printrow, row_copy, numbers_of, read_from, read, child_of, starts, process, awaits, await, status_of, status, waits_at, wait, woken_at, wakes, causes, cause}
+use Rattle.b67_model.specs.Intrinsics.{answered, answers, array_length, arraydec, read_from, read, waits_at, wait, woken_at, causes, cause}
 use Rattle.b67_model.specs.Words.{number, whole}
-use Rattle.b67_order_rows.proofs.Entries.{Apart, taken_apart, parted, below_is, top_is, free_by, running_marked, below_marked, below_some}
-use Rattle.b67_order_rows.proofs.Cuts.{Cut, changed_reads, below_of, cut_change, low_below, cut_low, answers_none, answers_operand}
+use Rattle.b67_order_rows.proofs.Entries.{running_marked}
+use Rattle.b67_order_rows.proofs.Cuts.{Cut, below_of, cut_change, cut_low, answers_none, answers_operand}
 use Rattle.b67_order_rows.proofs.Bounds.{bits_low}
 use Rattle.b67_order.proofs.Chases.{follow_reference_in}
-use Rattle.b67_order.proofs.Maps.{HoldsOperand, cell_stored, mapped, map_good, SameTask, frames_refl}
+use Rattle.b67_order.proofs.Maps.{HoldsOperand, cell_stored, map_good, frames_refl}
 use Rattle.b67_order_rows.proofs.Stores.{holds_operand, same_item, operand_is, own_frame}
 use Rattle.b67_model.specs.InOrder.{is_copy_of, EntryInOrder}
 
@@ -151,7 +136,7 @@ module _ (P : Starts) (h : Here) (cut : Cut P h) where
   causes_good (AtCell f offset bits) is = post_needs (Keeps P h) (not (is_critical h.job (top_of h).identity)) _ _ (λ free.
       let stored = cell_stored P h.setting (with_task h.job (answered h [])) f offset 1 (omega arith) (cut_holds f offset bits is.found) (cut_low P h cut free) in
       post_ok (Keeps P h) _ (map_good P h.setting (with_cell (with_task h.job (answered h [])) f offset (Operand 1)) (λ (t : Task). record t { condition = woken_at f offset t.condition }) (λ t. refl)
-        (λ t k. record { number = refl; line = refl; critical = refl; segment = refl; place = refl; frames = frames_refl t.frames; condition = woken_same f offset t.condition }) stored))
+      (λ t k. record { number = refl; line = refl; critical = refl; segment = refl; place = refl; frames = frames_refl t.frames; condition = woken_same f offset t.condition }) stored))
   causes_good (AtElement a index) is = post_err (Keeps P h) _
   causes_good (AtArray a) is = post_err (Keeps P h) _
   causes_good (AtProc f segment level place) is = post_err (Keeps P h) _
@@ -184,12 +169,12 @@ module _ (P : Starts) (h : Here) (cut : Cut P h) where
       let old_words = top_words P h.job.arrays (outside h) below c.order in
       let new_words = top_words P arrays' (outside h) below c'.order in
       let uncopied : how_many (is_copy_of h.job.next_array) (top below).cells ≡ 0 =
-          none_pass (is_copy_of h.job.next_array) (top below).cells (λ w k. no_copy P h.setting h.job cut.run.order (map known_of below ++ outside h) (top below).identity w (all_in (WordInOrder P h.job.arrays (map known_of below ++ outside h) (top below).identity) (top below).cells w old_words.0 k)) in
+      none_pass (is_copy_of h.job.next_array) (top below).cells (λ w k. no_copy P h.setting h.job cut.run.order (map known_of below ++ outside h) (top below).identity w (all_in (WordInOrder P h.job.arrays (map known_of below ++ outside h) (top below).identity) (top below).cells w old_words.0 k)) in
       let owns : OwnsArray arrays' (top below).identity h.job.next_array = record { item = made; live = inl refl; named = refl; owned = refl } in
       let c'' : Change P h arrays' (with_top_cells below cells) h.job.next_frame = change_cells P h arrays' below h.job.next_frame cells c' ((owns, new_words.0), (uncopied, new_words.1)) in
       let new : Task = answered h (Original h.job.next_array ∷ []) in
       let counted : (n : ℕ) → originals_in n (with_top_cells below cells) ≡ cond (eqb h.job.next_array n) 1 0 + originals_in n h.task.frames =
-          λ n. originals_more n below cells (cond (eqb h.job.next_array n) 1 0) c.some refl ∙ ap (λ m. cond (eqb h.job.next_array n) 1 0 + m) (below_of P h cut c n) in
+      λ n. originals_more n below cells (cond (eqb h.job.next_array n) 1 0) c.some refl ∙ ap (λ m. cond (eqb h.job.next_array n) 1 0 + m) (below_of P h cut c n) in
       let own_none : originals_in h.job.next_array h.task.frames ≡ 0 = frames_none P h.setting h.job cut.run.order (outside h) h.task.frames (own_order P h cut.run).frames in
       let owner_high = below_high free in
       (run_replaced P h (with_task job' new) new cut.run (record {
@@ -210,12 +195,15 @@ module _ (P : Starts) (h : Here) (cut : Cut P h) where
         stays = c''.stays;
         fewer = c''.fewer;
         kept = λ x k. record { case = inl (stay x k) };
-        arrays = (record {
-          length_low = rw (length_replicate len) low;
-          length_high = rw (length_replicate len) (omega (arith, high));
-          words = zeros_low len;
-          writes = (λ e. absurd (true≢false e), λ e. absurd (omega (arith, e, owner_high)));
-        }, cut.run.order.arrays);
+        arrays = (
+          record {
+            length_low = rw (length_replicate len) low;
+            length_high = rw (length_replicate len) (omega (arith, high));
+            words = zeros_low len;
+            writes = (λ e. absurd (true≢false e), λ e. absurd (omega (arith, e, owner_high)));
+          },
+          cut.run.order.arrays,
+        );
         once = λ x k. elim k [
           | inl e ↦ let same : h.job.next_array ≡ x.identity = ap (λ (y : Array). y.identity) e in
               subst (λ n. originals_in n (with_top_cells below cells) + originals_of n h.setting h.job ≡ originals_in n h.task.frames + 1) same
@@ -224,9 +212,9 @@ module _ (P : Starts) (h : Here) (cut : Cut P h) where
                 | inr z ↦ absurd (z.1 refl)
               ])
           | inr m ↦ let here = counted x.identity in elim (eqb_tells h.job.next_array x.identity) [
-              | inl y ↦ absurd (omega (arith, y.1, array_low P h.setting h.job cut.run.order x m))
-              | inr z ↦ let none : originals_in x.identity (with_top_cells below cells) ≡ 0 + originals_in x.identity h.task.frames = rw z.0 at here in omega (arith, none, all_in (λ (y : Array). originals_of y.identity h.setting h.job ≡ 1) h.job.arrays x cut.run.order.once m)
-            ]
+            | inl y ↦ absurd (omega (arith, y.1, array_low P h.setting h.job cut.run.order x m))
+            | inr z ↦ let none : originals_in x.identity (with_top_cells below cells) ≡ 0 + originals_in x.identity h.task.frames = rw z.0 at here in omega (arith, none, all_in (λ (y : Array). originals_of y.identity h.setting h.job ≡ 1) h.job.arrays x cut.run.order.once m)
+          ]
         ];
         names = (omega arith, cut.run.order.names);
         reads = cut.run.order.reads;

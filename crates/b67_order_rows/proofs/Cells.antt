@@ -1,38 +1,29 @@
 -- Rows on the cells of the top frame, branches, loads and index rows keep order.
-use Rattle.std.proofs.Common.{◌≡◌, ◌≢◌, ℕ, zero, suc, ◌+◌, ◌^◌, ◌<◌, ◌≤◌, Bool, true, false, not, cond, eqb, leb, List, [], ◌∷◌, ◌++◌, map, filter, reverse, length, Option, Some, None, Ok, Err, get_or, refl, sym, ap, ◌∙◌, subst, inl, inr, ◌⊎◌, arith}
-use Rattle.std.specs.List.{AllByRecursion, list_any, slice_index}
-use Rattle.std.proofs.lemmas.Bool.Decides.{eqb_tells}
-use Rattle.std.proofs.lemmas.Bool.{cases_Bool, true≢false, leb-true, eqb-true}
+use Rattle.std.proofs.Common.{◌≡◌, ℕ, ◌^◌, ◌<◌, Bool, true, false, cond, List, [], ◌∷◌, Some, None, refl, sym, ap, ◌∙◌, subst, arith}
+use Rattle.std.proofs.lemmas.Bool.{true≢false}
 use Rattle.b67_word.specs.declared.couples.Place.{Place}
-use Rattle.b67_word.specs.declared.faults.Fault.TheVariants.{StackOverflow}
-use Rattle.b67_model.specs.Answers.{Answer, ◌>>=◌, ◌>>◌, needs}
-use Rattle.b67_model.specs.Keyed.{keyed, change_keyed}
-use Rattle.b67_model.specs.Lists.{Has, total, how_many, Falls}
+use Rattle.b67_model.specs.Answers.{Answer}
 use Rattle.b67_model.specs.Words as Words
 use Rattle.b67_model.specs.Words.{Word, Operand, Name, Ref, Row, Element, Original, Proc, Intrinsic}
-use Rattle.b67_model.specs.State.{Frame, Standing, Marked, Entered, Return, Array, Condition, Ready, Task, Setting, Job, Here, frame, top, below_top, with_top_cells, words_of, height, with_task}
-use Rattle.b67_model.specs.Environment.{level_of_standing, level_of_frame, running, running_from}
-use Rattle.b67_model.specs.Arrays.{array, element, owner_of}
-use Rattle.b67_model.specs.Chase.{End, AtCell, AtElement, AtArray, AtProc, AtIntrinsic, follow, follow_reference}
-use Rattle.b67_model.specs.Steps.{Line, Done, Goes, Leaves, Waits, top_of, cells_of, result, with_frames, with_cells, leaves_cells, pushes, is_critical, without_arrays_of}
-use Rattle.b67_model.specs.Entry.{mkst, needs_level, accident, back_to, evaluates, enters, left, leaves, exit, returnable, returned, retn_word, retn}
+use Rattle.b67_model.specs.State.{Task, Here}
+use Rattle.b67_model.specs.Environment.{level_of_frame, running}
+use Rattle.b67_model.specs.Arrays.{array, element}
+use Rattle.b67_model.specs.Chase.{End, AtCell, AtElement, AtArray, AtProc, AtIntrinsic, follow}
+use Rattle.b67_model.specs.Steps.{top_of, cells_of, leaves_cells}
+use Rattle.b67_model.specs.Entry.{back_to}
 use Rattle.b67_model.specs.Intrinsics.{is_original}
-use Rattle.b67_model.specs.InOrder.{Starts, Known, known_of, from_frame, base, outer_reach, outer_of, reach_of, known_numbers, identities, IsEntered, NamesEntered, NamesArray, OwnsArray, WordInOrder, EnvironmentInOrder, StandsInOrder, CellsInOrder, CopiesAbove, NoCopyUnder, FramesInOrder, StackInOrder, ReturnsInOrder, ConditionInOrder, TaskInOrder, ArrayInOrder, is_original_of, originals_in, originals_of, frames_named, TasksInOrder}
-use Rattle.b67_order.proofs.Members.{has_append_left, has_append_right, has_map, has_reverse, has_reverse_back, has_filter, has_filter_in, all_in, all_from, any_none, keyed_has, change_found, falls_low, falls_more, falls_filter, falls_same, none_pass, total_reverse}
-use Rattle.b67_order.proofs.Reaches.{Alike, alike_has, alike_same, Stays, Wider, word_wider}
-use Rattle.b67_order.proofs.Replaced.{KeptOrLeft, Replaced, replaced, numbers_append}
-use Rattle.b67_order.proofs.Looks.{Run, reach, own_order, Seen, see, level_low, own_high}
-use Rattle.b67_order.proofs.Changes.{Change, TopWords, outside, no_change, change_arrays, change_cells, change_push, change_drop, change_enter, changed, fresh_frame, run_replaced}
-use Rattle.b67_order.specs.Ends.{EndInOrder, IsProcOf, IsCell}
-use Rattle.b67_order.proofs.Chases.{follow_in, array_is}
-use Rattle.b67_order.proofs.Posts.{Post, post_ok, post_err, post_bind, post_any, post_then, post_needs, post_if, post_if_is, post_more, post_both, post_any_at}
+use Rattle.b67_model.specs.InOrder.{Starts, NamesArray, CopiesAbove, is_original_of}
+use Rattle.b67_order.proofs.Looks.{Run, reach}
+use Rattle.b67_order.specs.Ends.{EndInOrder}
+use Rattle.b67_order.proofs.Chases.{follow_in}
+use Rattle.b67_order.proofs.Posts.{Post, post_ok, post_err, post_bind, post_any, post_if_is, post_more, post_both, post_any_at}
 use Rattle.b67_model.specs.Words.{operand}
 use Rattle.b67_model.specs.Cells.{place_of, cell}
 use Rattle.b67_model.specs.Arithmetic.{Binary}
 use Rattle.b67_model.specs.Arrays.{array_of, indexed, in_order}
 use Rattle.b67_model.specs.Rows.{CellRow, on_one, on_two, movable, dlet, exch, dupl, on_cells, branches, branch_if, valc, stff_word, stff, load_at, load, indx, nxlv}
-use Rattle.b67_order_rows.proofs.Steps.{Keeps, Good, Fit, AllFit, originals, SameOriginals, own_fit, own_copies, plain_above, running_cells, known_cells, originals_cells, some_cells, result_good, cells_good, push_good, environment_of_proc, accident_good, element_low, evaluates_good}
-use Rattle.b67_order.proofs.Chases.{RefInOrder, chase_in, place_in, indexed_in}
+use Rattle.b67_order_rows.proofs.Steps.{Keeps, Good, Fit, AllFit, originals, SameOriginals, own_fit, own_copies, plain_above, cells_good, accident_good, element_low, evaluates_good}
+use Rattle.b67_order.proofs.Chases.{chase_in, place_in, indexed_in}
 
 -- rows that keep operands in 48 bits
 abbrev pub Fits1 : (ℕ → Answer ℕ) → Type 0
@@ -99,11 +90,11 @@ exch_keeps P h [] all above = post_err _ _
 exch_keeps P h (b ∷ []) all above = post_err _ _
 exch_keeps P h (b ∷ a ∷ rest) all above = post_bind (λ v. is_original a ≡ false) (CellsKept P h (b ∷ a ∷ rest)) (movable a) _ (movable_plain a)
     (λ u one. post_bind (λ v. is_original b ≡ false) (CellsKept P h (b ∷ a ∷ rest)) (movable b) _ (movable_plain b)
-      (λ v two. post_ok (CellsKept P h (b ∷ a ∷ rest)) _ (record {
-        fit = (all.1.0, (all.0, all.1.1));
-        above = (plain_above a (b ∷ rest) (plain_word a one), (plain_above b rest (plain_word b two), above.1.1));
-        same = λ n. omega arith;
-      })))
+    (λ v two. post_ok (CellsKept P h (b ∷ a ∷ rest)) _ (record {
+      fit = (all.1.0, (all.0, all.1.1));
+      above = (plain_above a (b ∷ rest) (plain_word a one), (plain_above b rest (plain_word b two), above.1.1));
+      same = λ n. omega arith;
+    })))
 
 pub dupl_keeps : (P : Starts) (h : Here) → KeepsCells P h dupl
 dupl_keeps P h [] all above = post_err _ _
@@ -150,10 +141,10 @@ branch_good P wanted h (a ∷ rest) target run starts are =
     let above : CopiesAbove (a ∷ rest) = subst CopiesAbove are (own_copies P h run) in
     post_bind (λ x. is_original a ≡ false) (Keeps P h) (operand a) _ (operand_plain a)
     (λ x plain. go_good P h _ rest run (goes _) fit.1 above.1 (λ n. sym (none_of a rest n plain) ∙ ap (originals n) (sym are)))
-    where
-      goes : (b : Bool) → P h.task.segment (level_of_frame (running h.task.frames)) (cond b target h.task.place)
-      goes true = starts
-      goes false = run.place
+  where
+    goes : (b : Bool) → P h.task.segment (level_of_frame (running h.task.frames)) (cond b target h.task.place)
+    goes true = starts
+    goes false = run.place
 
 pub valc_good : (P : Starts) (h : Here) (couple : ℕ) → couple < 2 ^ 14 → Run P h → Good P h (valc h couple)
 valc_good P h couple low run = post_bind (EndInOrder P h) (Keeps P h) _ _ (chase_in P h run (Name couple) low) (λ end is. evaluates_good P h end run is)
@@ -208,7 +199,7 @@ array_of_plain h (Words.Segment number) = post_err _ _
 indexed_plain : (h : Here) (r i : Word) → Post (λ at. (is_original r ≡ false) × (is_original i ≡ false)) (indexed h r i)
 indexed_plain h r i = post_bind (λ b. is_original i ≡ false) (λ at. (is_original r ≡ false) × (is_original i ≡ false)) (operand i) _ (operand_plain i)
     (λ b one. post_bind (λ a. is_original r ≡ false) (λ at. (is_original r ≡ false) × (is_original i ≡ false)) (array_of h r) _ (array_of_plain h r)
-      (λ a two. post_any_at _ (λ at. (two, one))))
+    (λ a two. post_any_at _ (λ at. (two, one))))
 
 -- two words in the order that a row takes them
 pub record Pair (P : Starts) (h : Here) (b a : Word) : Type 0 where
@@ -242,7 +233,7 @@ indx_good P h (b ∷ a ∷ rest) run are =
     let two = pair P h b a fit.0 fit.1.0 in
     post_bind _ (Keeps P h) _ _ (indexed_good P h (in_order b a).0 (in_order b a).1 run two.first)
     (λ at g. let plain = two.plain g.1.0 g.1.1 in
-      cells_good P h (Element at.0 at.1 ∷ rest) None run (g.0, fit.1.1) (tt, above.1.1) (λ n. omega (arith, two_plain n b a rest plain.0 plain.1, ap (originals n) are)))
+    cells_good P h (Element at.0 at.1 ∷ rest) None run (g.0, fit.1.1) (tt, above.1.1) (λ n. omega (arith, two_plain n b a rest plain.0 plain.1, ap (originals n) are)))
 
 pub nxlv_good : (P : Starts) (h : Here) (cells : List Word) → Run P h → cells_of h ≡ cells → Good P h (nxlv h cells)
 nxlv_good P h [] run are = post_err (Keeps P h) _
@@ -253,4 +244,4 @@ nxlv_good P h (b ∷ a ∷ rest) run are =
     let two = pair P h b a fit.0 fit.1.0 in
     post_bind _ (Keeps P h) _ _ (indexed_good P h (in_order b a).0 (in_order b a).1 run two.first)
     (λ at g. let plain = two.plain g.1.0 g.1.1 in
-      cells_good P h (Operand (element h.job at.0 at.1) ∷ rest) (Some at.0) run (element_low P h run at.0 at.1 at.1 g.0, fit.1.1) (tt, above.1.1) (λ n. omega (arith, two_plain n b a rest plain.0 plain.1, ap (originals n) are)))
+    cells_good P h (Operand (element h.job at.0 at.1) ∷ rest) (Some at.0) run (element_low P h run at.0 at.1 at.1 g.0, fit.1.1) (tt, above.1.1) (λ n. omega (arith, two_plain n b a rest plain.0 plain.1, ap (originals n) are)))

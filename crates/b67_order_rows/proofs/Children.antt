@@ -1,60 +1,38 @@
 -- A task that is started keeps order.
-use Rattle.std.proofs.Common.{◌≡◌, ◌≢◌, ℕ, zero, suc, ◌+◌, ◌^◌, ◌<◌, ◌≤◌, Bool, true, false, not, cond, eqb, leb, List, [], ◌∷◌, ◌++◌, map, filter, reverse, length, Option, Some, None, Ok, Err, get_or, refl, sym, ap, ◌∙◌, subst, inl, inr, ◌⊎◌, arith, ◌-◌}
-use Rattle.std.specs.List.{AllByRecursion, list_any, slice_index}
+use Rattle.std.proofs.Common.{◌≡◌, ◌≢◌, ℕ, ◌+◌, ◌^◌, ◌<◌, ◌≤◌, true, false, not, eqb, List, [], ◌∷◌, ◌++◌, map, reverse, length, Some, None, refl, sym, ap, ◌∙◌, subst, inl, inr, arith}
+use Rattle.std.specs.List.{list_any}
 use Rattle.std.proofs.lemmas.Bool.Decides.{eqb_tells}
-use Rattle.std.proofs.lemmas.Bool.{cases_Bool, true≢false, leb-true, eqb-true}
+use Rattle.std.proofs.lemmas.Bool.{true≢false}
 use Rattle.b67_word.specs.declared.couples.Place.{Place}
-use Rattle.b67_word.specs.declared.faults.Fault.TheVariants.{StackOverflow}
-use Rattle.b67_model.specs.Answers.{Answer, ◌>>=◌, ◌>>◌, needs}
-use Rattle.b67_model.specs.Keyed.{keyed, change_keyed}
-use Rattle.b67_model.specs.Lists.{Has, total, how_many, Falls}
+use Rattle.b67_model.specs.Keyed.{keyed}
+use Rattle.b67_model.specs.Lists.{Has, Falls}
 use Rattle.b67_model.specs.Words as Words
 use Rattle.b67_model.specs.Words.{Word, Operand, Name, Ref, Row, Element, Original, Proc, Intrinsic}
-use Rattle.b67_model.specs.State.{Frame, Standing, Marked, Entered, Return, Array, Condition, Ready, Awaits, WaitsAt, Task, Setting, Job, Here, frame, top, below_top, with_top_cells, words_of, height, with_task}
-use Rattle.b67_model.specs.Environment.{level_of_standing, level_of_frame, running, running_from}
-use Rattle.b67_model.specs.Arrays.{array, element, owner_of}
-use Rattle.b67_model.specs.Chase.{End, AtCell, AtElement, AtArray, AtProc, AtIntrinsic, follow, follow_reference}
-use Rattle.b67_model.specs.Steps.{Line, Done, Goes, Leaves, Waits, top_of, cells_of, result, with_frames, with_cells, leaves_cells, pushes, is_critical, without_arrays_of}
-use Rattle.b67_model.specs.Entry.{mkst, needs_level, accident, back_to, evaluates, enters, left, leaves, exit, returnable, returned, retn_word, retn}
-use Rattle.b67_model.specs.Intrinsics as Intrinsics
+use Rattle.b67_model.specs.State.{Frame, Standing, Marked, Entered, Array, Ready, Task, Setting, Job, Here, frame, top, below_top, with_top_cells, height, with_task}
+use Rattle.b67_model.specs.Environment.{level_of_frame}
+use Rattle.b67_model.specs.Arrays.{array}
+use Rattle.b67_model.specs.Steps.{top_of, cells_of, is_critical}
 use Rattle.b67_model.specs.Intrinsics.{is_original}
-use Rattle.b67_model.specs.InOrder.{Starts, Known, known_of, from_frame, base, outer_reach, outer_of, reach_of, known_numbers, identities, IsEntered, NamesEntered, NamesArray, OwnsArray, WordInOrder, EnvironmentInOrder, StandsInOrder, CellsInOrder, CopiesAbove, NoCopyUnder, FramesInOrder, StackInOrder, ReturnsInOrder, ConditionInOrder, TaskInOrder, ArrayInOrder, is_original_of, originals_in, originals_of, frames_named, TasksInOrder}
-use Rattle.b67_order.proofs.Members.{has_append_left, has_append_right, has_map, has_reverse, has_reverse_back, has_filter, has_filter_in, all_in, all_from, any_none, keyed_has, change_found, has_change, total_zero, falls_low, falls_more, falls_filter, falls_same, none_pass, total_reverse}
-use Rattle.b67_order.proofs.Reaches.{Alike, alike_has, alike_same, Stays, Wider, word_wider, names_entered, names_array}
-use Rattle.b67_order.proofs.Replaced.{KeptOrLeft, Replaced, replaced, numbers_append}
-use Rattle.b67_order.proofs.Looks.{Run, reach, own_order, Seen, see, level_low, own_high}
-use Rattle.b67_order.proofs.Changes.{Change, TopWords, outside, no_change, change_arrays, change_cells, change_push, change_drop, change_enter, changed, fresh_frame, run_replaced}
-use Rattle.b67_order.specs.Ends.{EndInOrder, IsProcOf, IsCell}
-use Rattle.b67_order.proofs.Chases.{follow_in, array_is}
-use Rattle.b67_order.proofs.Posts.{Post, post_ok, post_err, post_bind, post_any, post_then, post_needs, post_if, post_if_is, post_more, post_both, post_any_at}
+use Rattle.b67_model.specs.InOrder.{Starts, Known, known_of, from_frame, outer_reach, outer_of, reach_of, known_numbers, identities, IsEntered, WordInOrder, EnvironmentInOrder, CopiesAbove, FramesInOrder, TaskInOrder, is_original_of, originals_in, originals_of, TasksInOrder}
+use Rattle.b67_order.proofs.Members.{has_map, has_reverse_back, all_in, all_from, any_none, keyed_has, change_found, falls_low, none_pass}
+use Rattle.b67_order.proofs.Reaches.{Alike, alike_has, alike_same, Wider, word_wider, names_entered, names_array}
+use Rattle.b67_order.proofs.Looks.{Run, reach}
+use Rattle.b67_order.proofs.Changes.{outside}
+use Rattle.b67_order.specs.Ends.{IsProcOf}
 use Rattle.b67_model.specs.Words.{operand}
-use Rattle.b67_model.specs.Cells.{place_of, cell, with_cell}
-use Rattle.b67_model.specs.Arithmetic.{Binary}
-use Rattle.b67_model.specs.Arrays.{array_of, indexed, in_order}
-use Rattle.b67_model.specs.Rows.{CellRow, on_one, on_two, movable, dlet, exch, dupl, on_cells, branches, branch_if, valc, stff_word, stff, load_at, load, indx, nxlv}
-use Rattle.b67_order_rows.proofs.Steps.{Keeps, Good, top_words, Fit, AllFit, originals, SameOriginals, own_fit, own_copies, plain_above, running_cells, known_cells, originals_cells, some_cells, result_good, cells_good, push_good, environment_of_proc, accident_good, element_low, evaluates_good}
-use Rattle.b67_order.proofs.Chases.{RefInOrder, chase_in, place_in, indexed_in}
-use Rattle.std.proofs.Common.{ℤ, pos, negsuc, nat_abs, replicate, ltb, ◌&&◌}
-use Rattle.std.proofs.lemmas.Bool.{ltb-true}
-use Rattle.b67_word.specs.Operands.{bits_of}
-use Rattle.b67_model.specs.Steps.{Value, Values}
-use Rattle.b67_model.specs.Intrinsics.{answered, needs_free, answers, array_length, arraydec, print, printrow, row_copy, numbers_of, read_from, read, child_of, starts, process, awaits, await, status_of, status, waits_at, wait, woken_at, wakes, causes, cause}
+use Rattle.b67_order_rows.proofs.Steps.{Fit, AllFit, originals, plain_above, known_cells, some_cells, environment_of_proc}
+use Rattle.b67_model.specs.Intrinsics.{answered, child_of}
 use Rattle.b67_model.specs.Words.{number, whole}
-use Rattle.b67_order_rows.proofs.Entries.{Apart, taken_apart, parted, below_is, top_is, free_by, running_marked, below_marked, below_some}
-use Rattle.b67_order_rows.proofs.Cuts.{Cut, changed_reads, below_of, cut_change, low_below, cut_low, answers_none, answers_operand}
-use Rattle.b67_order_rows.proofs.Bounds.{bits_low}
-use Rattle.b67_order.proofs.Chases.{follow_reference_in}
-use Rattle.b67_order.proofs.Maps.{HoldsOperand, cell_stored, mapped, map_good, SameTask, frames_refl}
-use Rattle.b67_order_rows.proofs.Stores.{holds_operand, same_item, operand_is, own_frame}
-use Rattle.b67_model.specs.InOrder.{is_copy_of, EntryInOrder}
+use Rattle.b67_order_rows.proofs.Entries.{below_marked}
+use Rattle.b67_order_rows.proofs.Cuts.{Cut, cut_change}
 use Rattle.std.specs.List.{list_any}
 use Rattle.b67_order_rows.proofs.Cuts.{answer_job, answer_outer}
 use Rattle.b67_order_rows.proofs.Cells.{plain_word}
 use Rattle.std.proofs.lemmas.List.{length-reverse}
-use Rattle.b67_order.proofs.Members.{has_append_cases, length_change}
+use Rattle.b67_order.proofs.Members.{length_change}
 use Rattle.b67_order.proofs.Replaced.{task_kept, job_fresh}
-use Rattle.b67_order.proofs.Reaches.{alike_under, alike_numbers, Follower, Follows, Births, outer_alike, birth_follows}
-use Rattle.b67_model.specs.InOrder.{BirthInOrder, ParentInOrder, frames_in_job, frames_of_task, critical_of}
+use Rattle.b67_order.proofs.Reaches.{alike_under, alike_numbers, Follows, Births, outer_alike}
+use Rattle.b67_model.specs.InOrder.{BirthInOrder}
 
 -- a new task of a job in order
 pub record ChildInOrder (P : Starts) (setting : Setting) (job : Job) (parent child : Task) : Type 0 where
@@ -218,12 +196,12 @@ module _ (P : Starts) (h : Here) (run : Run P h) (marked : (top_of h).standing �
       let outer : Alike (outside h) (outer_of job1 new) = answer_outer P h cut h.job.next_task h.job.numbers low_next run.order.reads free high in
       let known : map known_of new.frames ≡ map known_of below = known_cells below cells in
       let wide : (n : ℕ) (s : Standing) → IsEntered s → Has (reach h) (n, s) → Has (reach_of job1 new) (n, s) = λ n s e k.
-          let under : Has (map known_of below ++ outside h) (n, s) = below_marked h.task.frames (outside h) n s marked e k in
-          rw known (alike_has (map known_of below ++ outside h) (map known_of below ++ outer_of job1 new) n s (alike_under (outside h) (outer_of job1 new) below outer) e under) in
+      let under : Has (map known_of below ++ outside h) (n, s) = below_marked h.task.frames (outside h) n s marked e k in
+      rw known (alike_has (map known_of below ++ outside h) (map known_of below ++ outer_of job1 new) n s (alike_under (outside h) (outer_of job1 new) below outer) e under) in
       let number_low : h.task.number < h.job.next_task =
-          let r = keyed_has (λ t. t.number) h.task.number h.job.tasks run.found run.running in
-          let l = falls_low h.job.next_task (map (λ (t : Task). t.number) h.job.tasks) run.found.number run.order.numbers (has_map (λ (t : Task). t.number) h.job.tasks run.found r.0) in
-          omega (arith, l, r.1) in
+      let r = keyed_has (λ t. t.number) h.task.number h.job.tasks run.found run.running in
+      let l = falls_low h.job.next_task (map (λ (t : Task). t.number) h.job.tasks) run.found.number run.order.numbers (has_map (λ (t : Task). t.number) h.job.tasks run.found r.0) in
+      omega (arith, l, r.1) in
       let narrow : Wider (reach h) (reach_of job1 new) h.job.arrays h.job.arrays = record { entered = wide; kept = λ a k at. record { item = a; live = k; named = refl; owned = refl; long = omega arith } } in
       let in_child : ChildInOrder P h.setting job1 new child = record {
         live = found;
@@ -236,9 +214,9 @@ module _ (P : Starts) (h : Here) (run : Run P h) (marked : (top_of h).standing �
         cells = reverse words;
         frames = refl;
         fit = λ w k.
-          let there = has_reverse_back words w k in
-          let one = any_none is_original words w plain there in
-          (word_any P h.job.arrays (reach h) (reach_of job1 new) (top_of h).identity h.job.next_frame w narrow one (all_in (Fit P h) words w fit there), plain_word w one);
+            let there = has_reverse_back words w k in
+            let one = any_none is_original words w plain there in
+            (word_any P h.job.arrays (reach h) (reach_of job1 new) (top_of h).identity h.job.next_frame w narrow one (all_in (Fit P h) words w fit there), plain_word w one);
         stands = environment_of_proc P h run (reach_of job1 new) environment segment level place is (λ s e k. wide environment s e k) test;
         low = rw (length-reverse words) low;
         place = is.starts;

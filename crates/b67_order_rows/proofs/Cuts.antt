@@ -1,46 +1,26 @@
 -- Intrinsics that cut their mark and answer keep order.
-use Rattle.std.proofs.Common.{◌≡◌, ◌≢◌, ℕ, zero, suc, ◌+◌, ◌^◌, ◌<◌, ◌≤◌, Bool, true, false, not, cond, eqb, leb, List, [], ◌∷◌, ◌++◌, map, filter, reverse, length, Option, Some, None, Ok, Err, get_or, refl, sym, ap, ◌∙◌, subst, inl, inr, ◌⊎◌, arith}
-use Rattle.std.specs.List.{AllByRecursion, list_any, slice_index}
-use Rattle.std.proofs.lemmas.Bool.Decides.{eqb_tells}
-use Rattle.std.proofs.lemmas.Bool.{cases_Bool, true≢false, leb-true, eqb-true}
-use Rattle.b67_word.specs.declared.couples.Place.{Place}
-use Rattle.b67_word.specs.declared.faults.Fault.TheVariants.{StackOverflow}
-use Rattle.b67_model.specs.Answers.{Answer, ◌>>=◌, ◌>>◌, needs}
-use Rattle.b67_model.specs.Keyed.{keyed, change_keyed}
-use Rattle.b67_model.specs.Lists.{Has, total, how_many, Falls}
-use Rattle.b67_model.specs.Words as Words
-use Rattle.b67_model.specs.Words.{Word, Operand, Name, Ref, Row, Element, Original, Proc, Intrinsic}
-use Rattle.b67_model.specs.State.{Frame, Standing, Marked, Entered, Return, Array, Condition, Ready, Awaits, WaitsAt, Task, Setting, Job, Here, frame, top, below_top, with_top_cells, words_of, height, with_task}
-use Rattle.b67_model.specs.Environment.{level_of_standing, level_of_frame, running, running_from}
-use Rattle.b67_model.specs.Arrays.{array, element, owner_of}
-use Rattle.b67_model.specs.Chase.{End, AtCell, AtElement, AtArray, AtProc, AtIntrinsic, follow, follow_reference}
-use Rattle.b67_model.specs.Steps.{Line, Done, Goes, Leaves, Waits, top_of, cells_of, result, with_frames, with_cells, leaves_cells, pushes, is_critical, without_arrays_of}
-use Rattle.b67_model.specs.Entry.{mkst, needs_level, accident, back_to, evaluates, enters, left, leaves, exit, returnable, returned, retn_word, retn}
+use Rattle.std.proofs.Common.{◌≡◌, ◌≢◌, ℕ, ◌+◌, ◌^◌, ◌<◌, ◌≤◌, Bool, true, false, not, cond, List, [], ◌∷◌, ◌++◌, map, Option, Some, None, refl, sym, ◌∙◌, subst, inl, arith}
+use Rattle.std.specs.List.{AllByRecursion}
+use Rattle.b67_model.specs.Keyed.{keyed}
+use Rattle.b67_model.specs.Words.{Word, Operand}
+use Rattle.b67_model.specs.State.{Frame, Marked, Array, Condition, Ready, Awaits, WaitsAt, Task, Here, top, below_top, with_top_cells, height, with_task}
+use Rattle.b67_model.specs.Environment.{level_of_frame, running}
+use Rattle.b67_model.specs.Arrays.{array}
+use Rattle.b67_model.specs.Steps.{Line, Waits, top_of, cells_of, with_frames, is_critical}
 use Rattle.b67_model.specs.Intrinsics as Intrinsics
 use Rattle.b67_model.specs.Intrinsics.{is_original}
-use Rattle.b67_model.specs.InOrder.{Starts, Known, known_of, from_frame, base, outer_reach, outer_of, reach_of, known_numbers, identities, IsEntered, NamesEntered, NamesArray, OwnsArray, WordInOrder, EnvironmentInOrder, StandsInOrder, CellsInOrder, CopiesAbove, NoCopyUnder, FramesInOrder, StackInOrder, ReturnsInOrder, ConditionInOrder, TaskInOrder, ArrayInOrder, is_original_of, originals_in, originals_of, frames_named, TasksInOrder}
-use Rattle.b67_order.proofs.Members.{has_append_left, has_append_right, has_map, has_reverse, has_reverse_back, has_filter, has_filter_in, all_in, all_from, any_none, keyed_has, change_found, falls_low, falls_more, falls_filter, falls_same, none_pass, total_reverse}
-use Rattle.b67_order.proofs.Reaches.{Alike, alike_has, alike_same, Stays, Wider, word_wider}
-use Rattle.b67_order.proofs.Replaced.{KeptOrLeft, Replaced, replaced, numbers_append}
-use Rattle.b67_order.proofs.Looks.{Run, reach, own_order, Seen, see, level_low, own_high}
-use Rattle.b67_order.proofs.Changes.{Change, TopWords, outside, no_change, change_arrays, change_cells, change_push, change_drop, change_enter, changed, fresh_frame, run_replaced}
-use Rattle.b67_order.specs.Ends.{EndInOrder, IsProcOf, IsCell}
-use Rattle.b67_order.proofs.Chases.{follow_in, array_is}
-use Rattle.b67_order.proofs.Posts.{Post, post_ok, post_err, post_bind, post_any, post_then, post_needs, post_if, post_if_is, post_more, post_both, post_any_at}
-use Rattle.b67_model.specs.Words.{operand}
-use Rattle.b67_model.specs.Cells.{place_of, cell}
-use Rattle.b67_model.specs.Arithmetic.{Binary}
-use Rattle.b67_model.specs.Arrays.{array_of, indexed, in_order}
-use Rattle.b67_model.specs.Rows.{CellRow, on_one, on_two, movable, dlet, exch, dupl, on_cells, branches, branch_if, valc, stff_word, stff, load_at, load, indx, nxlv}
-use Rattle.b67_order_rows.proofs.Steps.{Keeps, Good, top_words, Fit, AllFit, originals, SameOriginals, own_fit, own_copies, plain_above, running_cells, known_cells, originals_cells, some_cells, result_good, cells_good, push_good, environment_of_proc, accident_good, element_low, evaluates_good}
-use Rattle.b67_order.proofs.Chases.{RefInOrder, chase_in, place_in, indexed_in}
-use Rattle.std.proofs.Common.{ℤ, pos, negsuc, nat_abs, replicate, ltb, ◌&&◌}
-use Rattle.std.proofs.lemmas.Bool.{ltb-true}
-use Rattle.b67_word.specs.Operands.{bits_of}
+use Rattle.b67_model.specs.InOrder.{Starts, known_of, outer_of, ConditionInOrder, originals_in, originals_of, TasksInOrder}
+use Rattle.b67_order.proofs.Members.{all_in}
+use Rattle.b67_order.proofs.Reaches.{Alike}
+use Rattle.b67_order.proofs.Looks.{Run, own_order}
+use Rattle.b67_order.proofs.Changes.{Change, TopWords, outside, change_cells, change_drop, run_replaced}
+use Rattle.b67_order.proofs.Posts.{post_ok, post_err, post_any, post_needs, post_if}
+use Rattle.b67_order_rows.proofs.Steps.{Keeps, Good, top_words, originals, running_cells, originals_cells, result_good}
+use Rattle.std.proofs.Common.{ℤ, pos, negsuc, nat_abs, ltb, ◌&&◌}
 use Rattle.b67_model.specs.Steps.{Value, Values}
 use Rattle.b67_model.specs.Intrinsics.{answered, needs_free, answers, array_length, arraydec, print, printrow, row_copy, numbers_of, read_from, read, child_of, starts, process, awaits, await, status_of, status, waits_at, wait, woken_at, wakes, causes, cause}
-use Rattle.b67_model.specs.Words.{number, whole}
-use Rattle.b67_order_rows.proofs.Entries.{Apart, taken_apart, parted, below_is, top_is, free_by, running_marked, below_marked, below_some}
+use Rattle.b67_model.specs.Words.{whole}
+use Rattle.b67_order_rows.proofs.Entries.{taken_apart, parted, below_is, top_is, free_by, running_marked, below_some}
 
 -- the marked frame on top, whose cells hold no original
 pub record Cut (P : Starts) (h : Here) : Type 0 where
@@ -155,9 +135,11 @@ module _ (P : Starts) (h : Here) (cut : Cut P h) where
     status_in_low Ready = omega arith
     status_in_low (Awaits m) = omega arith
     status_in_low (WaitsAt f offset) = omega arith
+
     past : (b : Bool) → cond b 3 0 < 2 ^ 48
     past true = omega arith
     past false = omega arith
+
     by : (o : Option Task) → (elim o [ Some t ↦ Intrinsics.status_in t.condition | None ↦ cond (ltb 0 n && ltb n h.job.next_task) 3 0 ]) < 2 ^ 48
     by (Some t) = status_in_low t.condition
     by None = past (ltb 0 n && ltb n h.job.next_task)

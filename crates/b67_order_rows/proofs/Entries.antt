@@ -1,33 +1,26 @@
 -- Entering and leaving keep order.
-use Rattle.std.proofs.Common.{◌≡◌, ◌≢◌, ℕ, zero, suc, ◌+◌, ◌^◌, ◌<◌, ◌≤◌, Bool, true, false, not, cond, eqb, leb, List, [], ◌∷◌, ◌++◌, map, filter, reverse, length, Option, Some, None, Ok, Err, get_or, refl, sym, ap, ◌∙◌, subst, inl, inr, ◌⊎◌, arith}
-use Rattle.std.specs.List.{AllByRecursion, list_any, slice_index}
+use Rattle.std.proofs.Common.{◌≡◌, ◌≢◌, ℕ, ◌+◌, ◌≤◌, Bool, true, false, not, eqb, List, [], ◌∷◌, ◌++◌, map, filter, reverse, Some, None, refl, sym, ap, ◌∙◌, subst, inl, inr, arith}
 use Rattle.std.proofs.lemmas.Bool.Decides.{eqb_tells}
-use Rattle.std.proofs.lemmas.Bool.{cases_Bool, true≢false, leb-true, eqb-true}
-use Rattle.b67_word.specs.declared.couples.Place.{Place}
-use Rattle.b67_word.specs.declared.faults.Fault.TheVariants.{StackOverflow}
-use Rattle.b67_model.specs.Answers.{Answer, ◌>>=◌, ◌>>◌, needs}
-use Rattle.b67_model.specs.Keyed.{keyed, change_keyed}
-use Rattle.b67_model.specs.Lists.{Has, total, how_many, Falls}
+use Rattle.std.proofs.lemmas.Bool.{true≢false}
+use Rattle.b67_model.specs.Keyed.{keyed}
+use Rattle.b67_model.specs.Lists.{Has, Falls}
 use Rattle.b67_model.specs.Words as Words
 use Rattle.b67_model.specs.Words.{Word, Operand, Name, Ref, Row, Element, Original, Proc, Intrinsic}
-use Rattle.b67_model.specs.State.{Frame, Standing, Marked, Entered, Return, Array, Condition, Ready, Task, Setting, Job, Here, frame, top, below_top, with_top_cells, words_of, height, with_task}
-use Rattle.b67_model.specs.Environment.{level_of_standing, level_of_frame, running, running_from}
-use Rattle.b67_model.specs.Arrays.{array, element, owner_of}
-use Rattle.b67_model.specs.Chase.{End, AtCell, AtElement, AtArray, AtProc, AtIntrinsic, follow, follow_reference}
-use Rattle.b67_model.specs.Steps.{Line, Done, Goes, Leaves, Waits, top_of, cells_of, result, with_frames, with_cells, leaves_cells, pushes, is_critical, without_arrays_of}
-use Rattle.b67_model.specs.Entry.{mkst, needs_level, accident, back_to, evaluates, enters, left, leaves, exit, returnable, returned, retn_word, retn}
-use Rattle.b67_model.specs.Intrinsics.{is_original}
-use Rattle.b67_model.specs.InOrder.{Starts, Known, known_of, from_frame, base, outer_reach, outer_of, reach_of, known_numbers, identities, IsEntered, NamesEntered, NamesArray, OwnsArray, WordInOrder, EnvironmentInOrder, StandsInOrder, CellsInOrder, CopiesAbove, FramesInOrder, StackInOrder, ReturnsInOrder, ConditionInOrder, TaskInOrder, ArrayInOrder, is_original_of, originals_in, originals_of, frames_named, TasksInOrder}
-use Rattle.b67_order.proofs.Members.{has_append_left, has_append_right, has_map, has_reverse, has_reverse_back, has_filter, has_filter_in, all_in, all_from, any_none, keyed_has, change_found, falls_low, falls_more, falls_filter, falls_same, none_pass, total_reverse}
-use Rattle.b67_order.proofs.Reaches.{Alike, alike_has, alike_same, Stays, Wider, word_wider}
-use Rattle.b67_order.proofs.Replaced.{KeptOrLeft, Replaced, replaced, numbers_append}
-use Rattle.b67_order.proofs.Looks.{Run, reach, own_order, Seen, see, level_low, own_high}
-use Rattle.b67_order.proofs.Changes.{Change, TopWords, outside, no_change, change_arrays, change_cells, change_push, change_drop, change_enter, changed, fresh_frame, run_replaced}
-use Rattle.b67_order.specs.Ends.{EndInOrder, IsProcOf, IsCell}
-use Rattle.b67_order.proofs.Chases.{follow_in, array_is}
-use Rattle.b67_order.proofs.Posts.{Post, post_ok, post_err, post_bind, post_any, post_then, post_needs, post_if, post_if_is, post_more}
-use Rattle.b67_order_rows.proofs.Steps.{Keeps, Good, Fit, AllFit, originals, SameOriginals, own_fit, own_copies, running_cells, known_cells, originals_cells, some_cells, result_good, cells_good, push_good, environment_of_proc, accident_good, element_low, evaluates_good}
-use Rattle.b67_order.proofs.Chases.{follow_reference_in}
+use Rattle.b67_model.specs.State.{Frame, Standing, Marked, Entered, Return, Array, Task, Job, Here, frame, top, below_top, height, with_task}
+use Rattle.b67_model.specs.Environment.{level_of_frame, running}
+use Rattle.b67_model.specs.Arrays.{array}
+use Rattle.b67_model.specs.Chase.{End, AtCell, AtElement, AtArray, AtProc, AtIntrinsic}
+use Rattle.b67_model.specs.Steps.{top_of, cells_of, is_critical}
+use Rattle.b67_model.specs.Entry.{back_to, enters, left}
+use Rattle.b67_model.specs.InOrder.{Starts, Known, known_of, known_numbers, IsEntered, WordInOrder, EnvironmentInOrder, CopiesAbove, StackInOrder, ReturnsInOrder, ConditionInOrder, ArrayInOrder, is_original_of, originals_in, originals_of, frames_named}
+use Rattle.b67_order.proofs.Members.{has_filter, has_filter_in, all_in, all_from, any_none, change_found, falls_low, falls_filter, falls_same, none_pass}
+use Rattle.b67_order.proofs.Reaches.{Alike, Stays}
+use Rattle.b67_order.proofs.Replaced.{Replaced}
+use Rattle.b67_order.proofs.Looks.{Run, reach, own_order, own_high}
+use Rattle.b67_order.proofs.Changes.{Change, TopWords, outside, no_change, change_arrays, change_cells, change_drop, change_enter, changed, run_replaced}
+use Rattle.b67_order.specs.Ends.{EndInOrder}
+use Rattle.b67_order.proofs.Posts.{post_err, post_needs}
+use Rattle.b67_order_rows.proofs.Steps.{Keeps, Good, AllFit, originals, SameOriginals, result_good, environment_of_proc}
 
 -- the marked frame on top, with these cells, is entered
 enter_top : (P : Starts) (h : Here) (fs : List Frame) (next level environment : ℕ) (back : Return) (cells : List Word) → Change P h h.job.arrays fs next → TopWords P h h.job.arrays fs cells → (top fs).standing ≡ Marked →
@@ -63,13 +56,13 @@ enters_good P h arguments (AtProc f segment level place) run is marked fit above
     let fs = h.task.frames in
     post_needs (Keeps P h) (eqb (level_of_frame (frame h f) + 1) level) _ _
     (λ t. result_good P h h h.job _ [] None
-      (λ low.
-        let environment : EnvironmentInOrder (map known_of (below_top fs) ++ outside h) level f =
-            environment_of_proc P h run (map known_of (below_top fs) ++ outside h) f segment level place is (λ s e k. below_marked fs (outside h) f s marked e k) t in
-        let starts : P h.task.segment (level_of_frame (running (below_top fs))) h.task.place = subst (λ n. P h.task.segment n h.task.place) (running_marked fs marked) run.place in
-        changed P h (record (top_of h) { standing = Entered level f (Some (back_to h false h.task.place)); cells = reverse arguments } ∷ below_top fs) h.job.next_frame segment place run
-        (enter_top P h fs h.job.next_frame level f (back_to h false h.task.place) (reverse arguments) (no_change P h run) (fit, above) marked environment (below_some P fs own.returns own.some marked, starts))
-        low is.starts (λ n. originals_top n fs (Entered level f (Some (back_to h false h.task.place))) (reverse arguments) own.some (same n))))
+    (λ low.
+    let environment : EnvironmentInOrder (map known_of (below_top fs) ++ outside h) level f =
+    environment_of_proc P h run (map known_of (below_top fs) ++ outside h) f segment level place is (λ s e k. below_marked fs (outside h) f s marked e k) t in
+    let starts : P h.task.segment (level_of_frame (running (below_top fs))) h.task.place = subst (λ n. P h.task.segment n h.task.place) (running_marked fs marked) run.place in
+    changed P h (record (top_of h) { standing = Entered level f (Some (back_to h false h.task.place)); cells = reverse arguments } ∷ below_top fs) h.job.next_frame segment place run
+    (enter_top P h fs h.job.next_frame level f (back_to h false h.task.place) (reverse arguments) (no_change P h run) (fit, above) marked environment (below_some P fs own.returns own.some marked, starts))
+    low is.starts (λ n. originals_top n fs (Entered level f (Some (back_to h false h.task.place))) (reverse arguments) own.some (same n))))
 enters_good P h arguments (AtCell f offset bits) run is marked fit above same = post_err (Keeps P h) _
 enters_good P h arguments (AtElement a index) run is marked fit above same = post_err (Keeps P h) _
 enters_good P h arguments (AtArray a) run is marked fit above same = post_err (Keeps P h) _
@@ -150,7 +143,7 @@ module _ (P : Starts) (h : Here) (run : Run P h) where
       let whole = parted p in
       let below = change_drop P h h.job.arrays p.f p.below h.job.next_frame whole (free_by h.job n free) some in
       let c : Change P h arrays' p.below h.job.next_frame = change_arrays P h h.job.arrays arrays' p.below h.job.next_frame below
-          (λ a live at. stays_by n a live (λ e. let low = falls_low n (known_numbers (map known_of p.below ++ outside h)) a.owner whole.falls.1 at in omega (arith, low, e))) in
+      (λ a live at. stays_by n a live (λ e. let low = falls_low n (known_numbers (map known_of p.below ++ outside h)) a.owner whole.falls.1 at in omega (arith, low, e))) in
       let new : Task = record h.task { frames = p.below; segment = back.segment; place = back.place } in
       let job' : Job = with_task (record h.job { arrays = arrays' }) new in
       let high = own_high P h run p.f (subst (λ fs. Has fs p.f) (sym p.are) (inl refl)) in
@@ -179,12 +172,12 @@ module _ (P : Starts) (h : Here) (run : Run P h) where
         ];
         arrays = all_from ArrayInOrder arrays' (λ a k. all_in ArrayInOrder h.job.arrays a run.order.arrays (has_filter (λ (x : Array). not (eqb x.owner n)) h.job.arrays a k).0);
         once = λ a k.
-          let inside = has_filter (λ (x : Array). not (eqb x.owner n)) h.job.arrays a k in
-          let other : a.owner ≢ n = λ e. elim (eqb_tells a.owner n) [ inl s ↦ true≢false (sym inside.1 ∙ rw s.0 refl) | inr s ↦ s.1 e ] in
-          let none : originals a.identity p.f.cells ≡ 0 = none_pass (is_original_of a.identity) p.f.cells (λ w j.
+            let inside = has_filter (λ (x : Array). not (eqb x.owner n)) h.job.arrays a k in
+            let other : a.owner ≢ n = λ e. elim (eqb_tells a.owner n) [ inl s ↦ true≢false (sym inside.1 ∙ rw s.0 refl) | inr s ↦ s.1 e ] in
+            let none : originals a.identity p.f.cells ≡ 0 = none_pass (is_original_of a.identity) p.f.cells (λ w j.
             none_original h.job P (map known_of (p.f ∷ p.below) ++ outside h) n a run.order.names inside.0 other w (all_in (WordInOrder P h.job.arrays (map known_of (p.f ∷ p.below) ++ outside h) n) p.f.cells w whole.order.0.0 j)) in
-          let split : originals_in a.identity h.task.frames ≡ originals a.identity p.f.cells + originals_in a.identity p.below = rw p.are refl in
-          omega (arith, split, none, all_in (λ (x : Array). originals_of x.identity h.setting h.job ≡ 1) h.job.arrays a run.order.once inside.0);
+            let split : originals_in a.identity h.task.frames ≡ originals a.identity p.f.cells + originals_in a.identity p.below = rw p.are refl in
+            omega (arith, split, none, all_in (λ (x : Array). originals_of x.identity h.setting h.job ≡ 1) h.job.arrays a run.order.once inside.0);
         names = falls_filter (λ (x : Array). x.identity) (λ (x : Array). not (eqb x.owner n)) h.job.next_array h.job.arrays run.order.names;
         reads = run.order.reads;
       } in

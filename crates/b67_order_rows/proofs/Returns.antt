@@ -1,34 +1,27 @@
 -- Leaving, and the word that is returned.
-use Rattle.std.proofs.Common.{◌≡◌, ◌≢◌, ℕ, zero, suc, ◌+◌, ◌^◌, ◌<◌, ◌≤◌, Bool, true, false, not, cond, eqb, leb, List, [], ◌∷◌, ◌++◌, map, filter, reverse, length, Option, Some, None, Ok, Err, get_or, refl, sym, ap, ◌∙◌, subst, inl, inr, ◌⊎◌, arith}
-use Rattle.std.specs.List.{AllByRecursion, list_any, slice_index}
+use Rattle.std.proofs.Common.{◌≡◌, ◌≢◌, ℕ, Bool, true, false, not, eqb, List, [], ◌∷◌, ◌++◌, map, Option, Some, None, Ok, refl, sym, ap, ◌∙◌, subst, inl, inr}
 use Rattle.std.proofs.lemmas.Bool.Decides.{eqb_tells}
-use Rattle.std.proofs.lemmas.Bool.{cases_Bool, true≢false, leb-true, eqb-true}
-use Rattle.b67_word.specs.declared.couples.Place.{Place}
-use Rattle.b67_word.specs.declared.faults.Fault.TheVariants.{StackOverflow}
-use Rattle.b67_model.specs.Answers.{Answer, ◌>>=◌, ◌>>◌, needs}
-use Rattle.b67_model.specs.Keyed.{keyed, change_keyed}
-use Rattle.b67_model.specs.Lists.{Has, total, how_many, Falls}
+use Rattle.std.proofs.lemmas.Bool.{true≢false}
+use Rattle.b67_model.specs.Answers.{Answer}
+use Rattle.b67_model.specs.Lists.{Has}
 use Rattle.b67_model.specs.Words as Words
 use Rattle.b67_model.specs.Words.{Word, Operand, Name, Ref, Row, Element, Original, Proc, Intrinsic}
-use Rattle.b67_model.specs.State.{Frame, Standing, Marked, Entered, Return, Array, Condition, Ready, Task, Setting, Job, Here, frame, top, below_top, with_top_cells, words_of, height, with_task}
-use Rattle.b67_model.specs.Environment.{level_of_standing, level_of_frame, running, running_from}
+use Rattle.b67_model.specs.State.{Frame, Standing, Marked, Entered, Return, Array, Task, Job, Here, with_task}
+use Rattle.b67_model.specs.Environment.{level_of_frame, running}
 use Rattle.b67_model.specs.Arrays.{array, element, owner_of}
-use Rattle.b67_model.specs.Chase.{End, AtCell, AtElement, AtArray, AtProc, AtIntrinsic, follow, follow_reference}
-use Rattle.b67_model.specs.Steps.{Line, Done, Goes, Leaves, Waits, top_of, cells_of, result, with_frames, with_cells, leaves_cells, pushes, is_critical, without_arrays_of}
-use Rattle.b67_model.specs.Entry.{mkst, needs_level, accident, back_to, evaluates, enters, left, leaves, exit, returnable, returned, retn_word, retn}
-use Rattle.b67_model.specs.Intrinsics.{is_original}
-use Rattle.b67_model.specs.InOrder.{Starts, Known, known_of, from_frame, base, outer_reach, outer_of, reach_of, known_numbers, identities, IsEntered, NamesEntered, NamesArray, OwnsArray, WordInOrder, EnvironmentInOrder, StandsInOrder, FramesInOrder, StackInOrder, ReturnsInOrder, ConditionInOrder, TaskInOrder, ArrayInOrder, is_original_of, originals_in, originals_of, frames_named, TasksInOrder}
-use Rattle.b67_order.proofs.Members.{has_append_left, has_append_right, has_map, has_reverse, has_reverse_back, has_filter, has_filter_in, all_in, all_from, any_none, keyed_has, change_found, change_twice, falls_low, falls_more, falls_filter, falls_same, none_pass, total_reverse}
-use Rattle.b67_order.proofs.Reaches.{Alike, alike_has, alike_same, Stays, Wider, word_wider}
-use Rattle.b67_order.proofs.Replaced.{KeptOrLeft, Replaced, replaced, numbers_append}
-use Rattle.b67_order.proofs.Looks.{Run, reach, own_order, Seen, see, level_low, own_high}
-use Rattle.b67_order.proofs.Changes.{Change, TopWords, outside, no_change, change_arrays, change_cells, change_push, change_drop, change_enter, changed, fresh_frame, run_replaced}
-use Rattle.b67_order.specs.Ends.{EndInOrder, IsProcOf, IsCell}
+use Rattle.b67_model.specs.Chase.{End, AtCell, AtElement, AtArray, AtProc, AtIntrinsic, follow}
+use Rattle.b67_model.specs.Steps.{Line, Done, Goes, Leaves, Waits, top_of, cells_of, result, with_cells, is_critical}
+use Rattle.b67_model.specs.Entry.{accident, evaluates, left, leaves, exit, returnable, returned, retn_word, retn}
+use Rattle.b67_model.specs.InOrder.{Starts, Known, known_of, IsEntered, NamesEntered, NamesArray, ReturnsInOrder, is_original_of, TasksInOrder}
+use Rattle.b67_order.proofs.Members.{has_filter_in, change_twice}
+use Rattle.b67_order.proofs.Reaches.{alike_has}
+use Rattle.b67_order.proofs.Looks.{Run, reach}
+use Rattle.b67_order.proofs.Changes.{outside}
+use Rattle.b67_order.specs.Ends.{EndInOrder}
 use Rattle.b67_order.proofs.Chases.{follow_in, array_is}
-use Rattle.b67_order.proofs.Posts.{Post, post_ok, post_err, post_bind, post_any, post_then, post_needs, post_if, post_if_is, post_more}
-use Rattle.b67_order_rows.proofs.Steps.{Keeps, Good, Fit, AllFit, originals, SameOriginals, own_fit, running_cells, known_cells, originals_cells, some_cells, result_good, cells_good, push_good, environment_of_proc, accident_good, element_low, evaluates_good}
-use Rattle.b67_order.proofs.Chases.{follow_reference_in}
-use Rattle.b67_order_rows.proofs.Entries.{Apart, taken_apart, Left, left_good, parted, below_is, top_is, free_by}
+use Rattle.b67_order.proofs.Posts.{Post, post_ok, post_err, post_bind, post_any, post_then, post_needs, post_more}
+use Rattle.b67_order_rows.proofs.Steps.{Keeps, Good, Fit, AllFit, own_fit, result_good, push_good, evaluates_good}
+use Rattle.b67_order_rows.proofs.Entries.{taken_apart, Left, left_good, parted, below_is, top_is}
 use Rattle.b67_order.proofs.Reaches.{alike_under}
 use Rattle.b67_order.proofs.Posts.{post_both, post_is, post_at}
 
@@ -112,7 +105,7 @@ module _ (P : Starts) (h : Here) (run : Run P h) where
         | inr m ↦ m
       ] in
       let now : Has (map known_of p.below ++ outside (left h back)) (n, s) =
-          alike_has (map known_of p.below ++ outside h) (map known_of p.below ++ outside (left h back)) n s (alike_under (outside h) (outside (left h back)) p.below l.outer) e under in
+      alike_has (map known_of p.below ++ outside h) (map known_of p.below ++ outside (left h back)) n s (alike_under (outside h) (outside (left h back)) p.below l.outer) e under in
       subst (λ fs. Has (map known_of fs ++ outside (left h back)) (n, s)) (sym (below_is h p)) now
 
   names_still : (back : Return) → Left P h back → (n : ℕ) → n ≢ (top_of h).identity → NamesEntered (reach h) n → NamesEntered (reach (left h back)) n
@@ -154,7 +147,7 @@ module _ (P : Starts) (h : Here) (run : Run P h) where
   retn_word_good (Entered level environment back) e [] fit = post_err (Keeps P h) _
   retn_word_good (Entered level environment back) e (w ∷ cells) fit = post_bind (λ v. returnable h.job (top_of h).identity w ≡ Ok v) (Keeps P h) (returnable h.job (top_of h).identity w) _ (post_is (returnable h.job (top_of h).identity w))
       (λ v is. leaves_good (Entered level environment back) e (λ after value. returned after v value)
-        (λ b l. returned_before P h (left h b) v b.value refl l.run (post_at (Moves P (left h b)) (returnable h.job (top_of h).identity w) v is (returnable_good b l w fit.0))))
+      (λ b l. returned_before P h (left h b) v b.value refl l.run (post_at (Moves P (left h b)) (returnable h.job (top_of h).identity w) v is (returnable_good b l w fit.0))))
 
   pub retn_good : Good P h (retn h)
   retn_good = retn_word_good (top_of h).standing refl (cells_of h) (own_fit P h run)

@@ -1,71 +1,47 @@
 -- Every row keeps order.
-use Rattle.std.proofs.Common.{◌≡◌, ◌≢◌, ℕ, zero, suc, ◌+◌, ◌^◌, ◌<◌, ◌≤◌, Bool, true, false, not, cond, eqb, leb, List, [], ◌∷◌, ◌++◌, map, filter, reverse, length, Option, Some, None, Ok, Err, get_or, refl, sym, ap, ◌∙◌, subst, inl, inr, ◌⊎◌, arith, ◌-◌}
-use Rattle.std.specs.List.{AllByRecursion, list_any, slice_index}
-use Rattle.std.proofs.lemmas.Bool.Decides.{eqb_tells}
-use Rattle.std.proofs.lemmas.Bool.{cases_Bool, true≢false, leb-true, eqb-true}
-use Rattle.b67_word.specs.declared.couples.Place.{Place}
-use Rattle.b67_word.specs.declared.faults.Fault.TheVariants.{StackOverflow}
-use Rattle.b67_model.specs.Answers.{Answer, ◌>>=◌, ◌>>◌, needs}
-use Rattle.b67_model.specs.Keyed.{keyed, change_keyed}
-use Rattle.b67_model.specs.Lists.{Has, total, how_many, Falls}
+use Rattle.std.proofs.Common.{◌≡◌, ℕ, ◌+◌, ◌^◌, ◌<◌, ◌≤◌, true, false, not, cond, eqb, leb, List, [], ◌∷◌, ◌++◌, reverse, length, None, Ok, refl, sym, ap, ◌∙◌, subst, arith}
+use Rattle.std.specs.List.{list_any}
+use Rattle.std.proofs.lemmas.Bool.{leb-true}
+use Rattle.b67_model.specs.Lists.{Has}
 use Rattle.b67_model.specs.Words as Words
 use Rattle.b67_model.specs.Words.{Word, Operand, Name, Ref, Row, Element, Original, Proc, Intrinsic}
-use Rattle.b67_model.specs.State.{Frame, Standing, Marked, Entered, Return, Array, Condition, Ready, Awaits, WaitsAt, Task, Setting, Job, Here, frame, top, below_top, with_top_cells, words_of, height, with_task}
-use Rattle.b67_model.specs.Environment.{level_of_standing, level_of_frame, running, running_from}
-use Rattle.b67_model.specs.Arrays.{array, element, owner_of}
-use Rattle.b67_model.specs.Chase.{End, AtCell, AtElement, AtArray, AtProc, AtIntrinsic, follow, follow_reference}
-use Rattle.b67_model.specs.Steps.{Line, Done, Goes, Leaves, Waits, top_of, cells_of, result, with_frames, with_cells, leaves_cells, pushes, is_critical, without_arrays_of}
-use Rattle.b67_model.specs.Entry.{mkst, needs_level, accident, back_to, evaluates, enters, left, leaves, exit, returnable, returned, retn_word, retn}
-use Rattle.b67_model.specs.Intrinsics as Intrinsics
+use Rattle.b67_model.specs.State.{Standing, Marked, Entered, Here, frame}
+use Rattle.b67_model.specs.Environment.{level_of_frame, running}
+use Rattle.b67_model.specs.Arrays.{array}
+use Rattle.b67_model.specs.Chase.{End, AtCell, AtElement, AtArray, AtProc, AtIntrinsic, follow_reference}
+use Rattle.b67_model.specs.Steps.{top_of, cells_of, leaves_cells, pushes, is_critical}
 use Rattle.b67_model.specs.Intrinsics.{is_original}
-use Rattle.b67_model.specs.InOrder.{Starts, Known, known_of, from_frame, base, outer_reach, outer_of, reach_of, known_numbers, identities, IsEntered, NamesEntered, NamesArray, OwnsArray, WordInOrder, EnvironmentInOrder, StandsInOrder, CellsInOrder, CopiesAbove, NoCopyUnder, FramesInOrder, StackInOrder, ReturnsInOrder, ConditionInOrder, TaskInOrder, ArrayInOrder, is_original_of, originals_in, originals_of, frames_named, TasksInOrder}
-use Rattle.b67_order.proofs.Members.{has_append_left, has_append_right, has_map, has_reverse, has_reverse_back, has_filter, has_filter_in, all_in, all_from, any_none, keyed_has, change_found, has_change, total_zero, falls_low, falls_more, falls_filter, falls_same, none_pass, total_reverse}
-use Rattle.b67_order.proofs.Reaches.{Alike, alike_has, alike_same, Stays, Wider, word_wider, names_entered, names_array}
-use Rattle.b67_order.proofs.Replaced.{KeptOrLeft, Replaced, replaced, numbers_append}
-use Rattle.b67_order.proofs.Looks.{Run, reach, own_order, Seen, see, level_low, own_high}
-use Rattle.b67_order.proofs.Changes.{Change, TopWords, outside, no_change, change_arrays, change_cells, change_push, change_drop, change_enter, changed, fresh_frame, run_replaced}
-use Rattle.b67_order.specs.Ends.{EndInOrder, IsProcOf, IsCell}
-use Rattle.b67_order.proofs.Chases.{follow_in, array_is}
-use Rattle.b67_order.proofs.Posts.{Post, post_ok, post_err, post_bind, post_any, post_then, post_needs, post_if, post_if_is, post_more, post_both, post_any_at}
+use Rattle.b67_model.specs.InOrder.{Starts, WordInOrder, CopiesAbove, NoCopyUnder, is_original_of}
+use Rattle.b67_order.proofs.Members.{has_reverse_back, all_in, all_from, any_none, none_pass, total_reverse}
+use Rattle.b67_order.proofs.Looks.{Run, reach}
+use Rattle.b67_order.specs.Ends.{EndInOrder}
+use Rattle.b67_order.proofs.Posts.{Post, post_err, post_bind, post_needs, post_if, post_if_is, post_more, post_both, post_any_at}
 use Rattle.b67_model.specs.Words.{operand}
-use Rattle.b67_model.specs.Cells.{place_of, cell, with_cell}
 use Rattle.b67_model.specs.Arithmetic.{Binary}
-use Rattle.b67_model.specs.Arrays.{array_of, indexed, in_order}
-use Rattle.b67_model.specs.Rows.{CellRow, on_one, on_two, movable, dlet, exch, dupl, on_cells, branches, branch_if, valc, stff_word, stff, load_at, load, indx, nxlv}
-use Rattle.b67_order_rows.proofs.Steps.{Keeps, Good, top_words, Fit, AllFit, originals, SameOriginals, own_fit, own_copies, plain_above, running_cells, known_cells, originals_cells, some_cells, result_good, cells_good, push_good, environment_of_proc, accident_good, element_low, evaluates_good}
-use Rattle.b67_order.proofs.Chases.{RefInOrder, chase_in, place_in, indexed_in}
-use Rattle.std.proofs.Common.{ℤ, pos, negsuc, nat_abs, replicate, ltb, ◌&&◌}
+use Rattle.b67_model.specs.Rows.{on_two, dlet, exch, dupl, on_cells, branches, stff}
+use Rattle.b67_order_rows.proofs.Steps.{Keeps, Good, Fit, AllFit, originals, own_fit, own_copies, result_good, cells_good, push_good}
+use Rattle.std.proofs.Common.{ltb}
 use Rattle.std.proofs.lemmas.Bool.{ltb-true}
-use Rattle.b67_word.specs.Operands.{bits_of}
-use Rattle.b67_model.specs.Steps.{Value, Values}
-use Rattle.b67_model.specs.Intrinsics.{answered, needs_free, answers, array_length, arraydec, print, printrow, row_copy, numbers_of, read_from, read, child_of, starts, process, awaits, await, status_of, status, waits_at, wait, woken_at, wakes, causes, cause}
+use Rattle.b67_model.specs.Intrinsics.{answered, arraydec, print, printrow, read, child_of, starts, process, await, status, wait, cause}
 use Rattle.b67_model.specs.Words.{number, whole}
-use Rattle.b67_order_rows.proofs.Entries.{Apart, taken_apart, parted, below_is, top_is, free_by, running_marked, below_marked, below_some}
-use Rattle.b67_order_rows.proofs.Cuts.{Cut, changed_reads, below_of, cut_change, low_below, cut_low, answers_none, answers_operand}
+use Rattle.b67_order_rows.proofs.Cuts.{Cut, answers_operand}
 use Rattle.b67_order_rows.proofs.Bounds.{bits_low}
 use Rattle.b67_order.proofs.Chases.{follow_reference_in}
-use Rattle.b67_order.proofs.Maps.{HoldsOperand, cell_stored, mapped, map_good, SameTask, frames_refl}
-use Rattle.b67_order_rows.proofs.Stores.{holds_operand, same_item, operand_is, own_frame}
-use Rattle.b67_model.specs.InOrder.{is_copy_of, EntryInOrder}
+use Rattle.b67_model.specs.InOrder.{is_copy_of}
 use Rattle.std.specs.List.{list_any}
 use Rattle.b67_order_rows.proofs.Cells.{plain_word}
-use Rattle.std.proofs.lemmas.List.{length-reverse}
 use Rattle.b67_order.proofs.Members.{reverse_cons, total_append}
 use Rattle.std.proofs.lemmas.List.{reverse-reverse}
 use Rattle.b67_order_rows.proofs.Cells.{followed, Followed}
 use Rattle.b67_order_rows.proofs.Entries.{not_true}
-use Rattle.b67_order.proofs.Replaced.{task_kept, job_fresh}
-use Rattle.b67_order.proofs.Reaches.{alike_under, alike_numbers, Follower, Follows, Births, outer_alike, birth_follows}
-use Rattle.b67_model.specs.InOrder.{BirthInOrder, ParentInOrder, frames_in_job, frames_of_task, critical_of}
 use Rattle.b67_model.specs.declared.operators.Op.{Op}
 use Rattle.b67_model.specs.declared.operators.Op.TheVariants.{Valc, Namc, Lt8, Lt16, Lt48, Mpcw, Brun, Brtr, Brfl, Bset, Brst, Isol, Insr, Plain}
 use Rattle.b67_model.specs.declared.operators.Code.{Code}
 use Rattle.b67_model.specs.declared.operators.Code.TheVariants.{Add, Subt, Mult, Idiv, Rdiv, Less, Greq, Grtr, Lseq, Equl, Neql, Chsn, Land, Lor, Leqv, Lnot, Same, Exit, Indx, Retn, Entr, Nxlv, Mkst, Stff, Zero, One, Push, Dlet, Exch, Dupl, Stod, Ston, Load, Noop, Nvld}
-use Rattle.b67_model.specs.Intrinsics.{intrinsic, call_in}
-use Rattle.b67_model.specs.Rows.{entr_at, entr_with, entr, is_proc, proc_of, mpcw, plain, row}
+use Rattle.b67_model.specs.Intrinsics.{intrinsic}
+use Rattle.b67_model.specs.Rows.{entr_at, entr_with, entr, is_proc, proc_of, plain, row}
 use Rattle.std.proofs.Common.{◌/◌, ◌%◌, ◌+ℤ◌, ◌*ℤ◌, neg_ℤ}
 use Rattle.std.specs.Prelude.{int_div, int_rem}
-use Rattle.b67_model.specs.Environment.{running_level}
 use Rattle.b67_model.specs.Arithmetic.{on_numbers, divided, chsn, lnot, bset, brst, isol, insr}
 use Rattle.b67_model.specs.Loader.{may_be_last}
 use Rattle.b67_order_rows.specs.Parameters.{ParametersFit}
@@ -136,8 +112,8 @@ module _ (P : Starts) (h : Here) where
       post_needs (Keeps P h) (leb (3 + length words) h.setting.stack_size) _ _ (λ low.
       post_if_is (Keeps P h) (ltb (length h.job.tasks) 15) _ _
       (λ few. post_needs (Keeps P h) (not (is_critical h.job (top_of h).identity)) _ _ (λ free.
-        result_good P h h (record h.job { tasks = child_of h words environment segment level place ∷ h.job.tasks; next_task = h.job.next_task + 1; next_frame = h.job.next_frame + 1 }) (answered h (Operand h.job.next_task ∷ [])) [] None
-        (λ high. started_good P h c.run c.marked c.next words environment segment level place (λ n. c.counts n ∙ none n) fit plain is test (leb-true (3 + length words) h.setting.stack_size low) (ltb-true (length h.job.tasks) 15 few) free high)))
+      result_good P h h (record h.job { tasks = child_of h words environment segment level place ∷ h.job.tasks; next_task = h.job.next_task + 1; next_frame = h.job.next_frame + 1 }) (answered h (Operand h.job.next_task ∷ [])) [] None
+      (λ high. started_good P h c.run c.marked c.next words environment segment level place (λ n. c.counts n ∙ none n) fit plain is test (leb-true (3 + length words) h.setting.stack_size low) (ltb-true (length h.job.tasks) 15 few) free high)))
       (λ many. answers_operand P h (cut_of words c none) 0 h.job.numbers [] None (omega arith) c.run.order.reads)))
   starts_good words (AtCell f offset bits) c none plain is fit = post_err (Keeps P h) _
   starts_good words (AtElement a index) c none plain is fit = post_err (Keeps P h) _
@@ -150,7 +126,7 @@ module _ (P : Starts) (h : Here) where
       let plain : list_any is_original words ≡ false = not_true (list_any is_original words) t in
       let none : (n : ℕ) → originals n words ≡ 0 = λ n. none_pass (is_original_of n) words (λ w k. plain_word w (any_none is_original words w plain k) n) in
       post_bind (Followed P h r) (Keeps P h) (follow_reference h r) _ (reference_followed P h c.run (top_of h).identity r c.fit.0) (λ end g.
-        starts_good words end (record { run = c.run; marked = c.marked; fit = c.fit.1; above = above_init words r (subst CopiesAbove (reverse_cons r words) c.above); counts = λ n. c.counts n ∙ Cells.none_of r words n g.plain; next = c.next }) none plain g.is c.fit.1))
+      starts_good words end (record { run = c.run; marked = c.marked; fit = c.fit.1; above = above_init words r (subst CopiesAbove (reverse_cons r words) c.above); counts = λ n. c.counts n ∙ Cells.none_of r words n g.plain; next = c.next }) none plain g.is c.fit.1))
     where
       above_init : (words : List Word) (r : Word) → CopiesAbove (reverse words ++ (r ∷ [])) → CopiesAbove (reverse words)
       above_init words r g = above_left (reverse words) (r ∷ []) g
@@ -197,14 +173,14 @@ module _ (P : Starts) (h : Here) where
       let fit : AllFit P h (r ∷ arguments) = all_from (Fit P h) (r ∷ arguments) (λ w k. all_in (Fit P h) (cells_of h) w own (has_reverse_back (cells_of h) w (subst (λ ws. Has ws w) (sym are) k))) in
       let back : cells_of h ≡ reverse arguments ++ (r ∷ []) = sym (reverse-reverse (cells_of h)) ∙ ap reverse are ∙ reverse_cons r arguments in
       post_bind (Followed P h r) (Keeps P h) (follow_reference h r) _ (reference_followed P h run (top_of h).identity r fit.0) (λ end g.
-        entr_at_good arguments end (record {
-          run = run;
-          marked = marked;
-          fit = fit.1;
-          above = above_left (reverse arguments) (r ∷ []) (subst CopiesAbove back (own_copies P h run));
-          counts = λ n. sym (total_reverse (λ w. cond (is_original_of n w) 1 0) (cells_of h)) ∙ ap (originals n) are ∙ Cells.none_of r arguments n g.plain;
-          next = next;
-        }) g.is)
+      entr_at_good arguments end (record {
+        run = run;
+        marked = marked;
+        fit = fit.1;
+        above = above_left (reverse arguments) (r ∷ []) (subst CopiesAbove back (own_copies P h run));
+        counts = λ n. sym (total_reverse (λ w. cond (is_original_of n w) 1 0) (cells_of h)) ∙ ap (originals n) are ∙ Cells.none_of r arguments n g.plain;
+        next = next;
+      }) g.is)
 
   pub entr_good : Run P h → h.job.next_task < 2 ^ 48 → (s : Standing) → (top_of h).standing ≡ s → Good P h (entr h s)
   entr_good run next Marked e = entr_with_good run e next (reverse (cells_of h)) refl

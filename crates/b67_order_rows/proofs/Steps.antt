@@ -1,31 +1,27 @@
 -- The common parts of rows keep order.
-use Rattle.std.proofs.Common.{◌≡◌, ◌≢◌, ℕ, zero, suc, ◌+◌, ◌^◌, ◌<◌, ◌≤◌, Bool, true, false, not, cond, eqb, leb, List, [], ◌∷◌, ◌++◌, map, filter, reverse, length, Option, Some, None, Ok, Err, get_or, refl, sym, ap, ◌∙◌, subst, inl, inr, ◌⊎◌, arith}
-use Rattle.std.specs.List.{AllByRecursion, list_any, slice_index}
+use Rattle.std.proofs.Common.{◌≡◌, ◌≢◌, ℕ, zero, suc, ◌+◌, ◌^◌, ◌<◌, ◌≤◌, true, false, eqb, leb, List, [], ◌∷◌, ◌++◌, map, Option, Some, None, get_or, refl, sym, ap, ◌∙◌, inl, inr, arith}
+use Rattle.std.specs.List.{AllByRecursion}
 use Rattle.std.proofs.lemmas.Bool.Decides.{eqb_tells}
-use Rattle.std.proofs.lemmas.Bool.{cases_Bool, true≢false, leb-true, eqb-true}
+use Rattle.std.proofs.lemmas.Bool.{true≢false, leb-true, eqb-true}
 use Rattle.b67_word.specs.declared.couples.Place.{Place}
 use Rattle.b67_word.specs.declared.faults.Fault.TheVariants.{StackOverflow}
-use Rattle.b67_model.specs.Answers.{Answer, ◌>>=◌, ◌>>◌, needs}
-use Rattle.b67_model.specs.Keyed.{keyed, change_keyed}
-use Rattle.b67_model.specs.Lists.{Has, total, how_many, Falls}
+use Rattle.b67_model.specs.Answers.{Answer}
+use Rattle.b67_model.specs.Lists.{Has, how_many}
 use Rattle.b67_model.specs.Words as Words
 use Rattle.b67_model.specs.Words.{Word, Operand, Name, Ref, Row, Element, Original, Proc, Intrinsic}
-use Rattle.b67_model.specs.State.{Frame, Standing, Marked, Entered, Return, Array, Condition, Ready, Task, Setting, Job, Here, frame, top, below_top, with_top_cells, words_of, height, with_task}
+use Rattle.b67_model.specs.State.{Frame, Standing, Marked, Entered, Return, Array, Task, Job, Here, frame, top, with_top_cells, height, with_task}
 use Rattle.b67_model.specs.Environment.{level_of_standing, level_of_frame, running, running_from}
-use Rattle.b67_model.specs.Arrays.{array, element, owner_of}
-use Rattle.b67_model.specs.Chase.{End, AtCell, AtElement, AtArray, AtProc, AtIntrinsic, follow, follow_reference}
-use Rattle.b67_model.specs.Steps.{Line, Done, Goes, Leaves, Waits, top_of, cells_of, result, with_frames, with_cells, leaves_cells, pushes, is_critical, without_arrays_of}
-use Rattle.b67_model.specs.Entry.{mkst, needs_level, accident, back_to, evaluates, enters, left, leaves, exit, returnable, returned, retn_word, retn}
-use Rattle.b67_model.specs.Intrinsics.{is_original}
-use Rattle.b67_model.specs.InOrder.{Starts, Known, known_of, from_frame, base, outer_reach, outer_of, reach_of, known_numbers, identities, IsEntered, NamesEntered, NamesArray, OwnsArray, WordInOrder, EnvironmentInOrder, StandsInOrder, CellsInOrder, CopiesAbove, NoCopyUnder, FramesInOrder, StackInOrder, ReturnsInOrder, ConditionInOrder, TaskInOrder, ArrayInOrder, is_original_of, originals_in, originals_of, frames_named, TasksInOrder}
-use Rattle.b67_order.proofs.Members.{has_append_left, has_append_right, has_map, has_reverse, has_reverse_back, has_filter, has_filter_in, all_in, all_from, any_none, keyed_has, change_found, falls_low, falls_more, falls_filter, falls_same, none_pass, total_reverse}
-use Rattle.b67_order.proofs.Reaches.{Alike, alike_has, alike_same, Stays, Wider, word_wider}
-use Rattle.b67_order.proofs.Replaced.{KeptOrLeft, Replaced, replaced, numbers_append}
-use Rattle.b67_order.proofs.Looks.{Run, reach, own_order, Seen, see, level_low, own_high}
-use Rattle.b67_order.proofs.Changes.{Change, TopWords, outside, no_change, change_arrays, change_cells, change_push, change_drop, change_enter, changed, fresh_frame, run_replaced}
-use Rattle.b67_order.specs.Ends.{EndInOrder, IsProcOf, IsCell}
-use Rattle.b67_order.proofs.Chases.{follow_in, array_is}
-use Rattle.b67_order.proofs.Posts.{Post, post_ok, post_err, post_bind, post_any, post_then, post_needs, post_if, post_if_is, post_more}
+use Rattle.b67_model.specs.Arrays.{array, element}
+use Rattle.b67_model.specs.Chase.{End, AtCell, AtElement, AtArray, AtProc, AtIntrinsic}
+use Rattle.b67_model.specs.Steps.{Line, Done, Goes, Leaves, Waits, top_of, cells_of, result, with_cells, leaves_cells, pushes}
+use Rattle.b67_model.specs.Entry.{mkst, accident, back_to, evaluates}
+use Rattle.b67_model.specs.InOrder.{Starts, Known, known_of, IsEntered, NamesArray, WordInOrder, EnvironmentInOrder, CellsInOrder, CopiesAbove, NoCopyUnder, FramesInOrder, ConditionInOrder, ArrayInOrder, is_original_of, originals_in, TasksInOrder}
+use Rattle.b67_order.proofs.Members.{all_in}
+use Rattle.b67_order.proofs.Looks.{Run, reach, own_order, see, level_low}
+use Rattle.b67_order.proofs.Changes.{outside, no_change, change_cells, change_push, changed, fresh_frame}
+use Rattle.b67_order.specs.Ends.{EndInOrder, IsProcOf}
+use Rattle.b67_order.proofs.Chases.{array_is}
+use Rattle.b67_order.proofs.Posts.{Post, post_ok, post_err, post_needs}
 
 -- what the law says of a step
 abbrev pub Keeps : Starts → Here → Done → Type 0
@@ -102,8 +98,8 @@ result_good P h k job task printed touched good =
 pub cells_good : (P : Starts) (h : Here) (cells : List Word) (touched : Option ℕ) → Run P h → AllFit P h cells → CopiesAbove cells → SameOriginals cells (cells_of h) → Good P h (leaves_cells h cells touched)
 cells_good P h cells touched run fit above same = result_good P h h h.job (with_cells h cells) [] touched
     (λ low. changed P h (with_top_cells h.task.frames cells) h.job.next_frame h.task.segment h.task.place run (change_cells P h h.job.arrays h.task.frames h.job.next_frame cells (no_change P h run) (fit, above)) low
-      (rw (running_cells h.task.frames cells) run.place)
-      (λ n. originals_cells n h.task.frames cells (same n)))
+    (rw (running_cells h.task.frames cells) run.place)
+    (λ n. originals_cells n h.task.frames cells (same n)))
 
 pub push_good : (P : Starts) (h : Here) (w : Word) (touched : Option ℕ) → Run P h → Fit P h w → ((n : ℕ) → is_original_of n w ≡ false) → Good P h (pushes h w touched)
 push_good P h w touched run fit plain = cells_good P h (w ∷ cells_of h) touched run (fit, own_fit P h run) (plain_above w (cells_of h) plain, own_copies P h run) (λ n. let t = plain n in rw t (omega arith))
@@ -134,12 +130,12 @@ accident_good P h cells back (AtProc f segment level place) run is fit above sam
     let fs = with_top_cells h.task.frames cells in
     post_needs (Keeps P h) (eqb (level_of_frame (frame h f) + 1) level) _ _
     (λ t. result_good P h h (record h.job { next_frame = h.job.next_frame + 1 }) _ [] None
-      (λ low.
-        let environment : EnvironmentInOrder (map known_of fs ++ outside h) level f =
-            environment_of_proc P h run (map known_of fs ++ outside h) f segment level place is (λ s e k. rw (known_cells h.task.frames cells) k) t in
-        changed P h (fresh_frame h (Entered level f (Some back)) ∷ fs) (h.job.next_frame + 1) segment place run
-        (change_push P h h.job.arrays fs (Entered level f (Some back)) run over environment (some_cells h.task.frames cells (own_order P h run).some, rw (running_cells h.task.frames cells) starts))
-        low is.starts (λ n. omega (arith, originals_cells n h.task.frames cells (same n)))))
+    (λ low.
+    let environment : EnvironmentInOrder (map known_of fs ++ outside h) level f =
+    environment_of_proc P h run (map known_of fs ++ outside h) f segment level place is (λ s e k. rw (known_cells h.task.frames cells) k) t in
+    changed P h (fresh_frame h (Entered level f (Some back)) ∷ fs) (h.job.next_frame + 1) segment place run
+    (change_push P h h.job.arrays fs (Entered level f (Some back)) run over environment (some_cells h.task.frames cells (own_order P h run).some, rw (running_cells h.task.frames cells) starts))
+    low is.starts (λ n. omega (arith, originals_cells n h.task.frames cells (same n)))))
 accident_good P h cells back (AtCell f offset bits) run is fit above same starts = post_err (Keeps P h) _
 accident_good P h cells back (AtElement a index) run is fit above same starts = post_err (Keeps P h) _
 accident_good P h cells back (AtArray a) run is fit above same starts = post_err (Keeps P h) _
@@ -166,4 +162,4 @@ evaluates_good P h (AtIntrinsic n) run is = post_err (Keeps P h) _
 pub mkst_good : (P : Starts) (h : Here) → Run P h → Good P h (mkst h)
 mkst_good P h run = result_good P h h (record h.job { next_frame = h.job.next_frame + 1 }) _ [] None
     (λ low. changed P h (fresh_frame h Marked ∷ h.task.frames) (h.job.next_frame + 1) h.task.segment h.task.place run
-      (change_push P h h.job.arrays h.task.frames Marked run (no_change P h run) tt (own_order P h run).some) low run.place (λ n. omega arith))
+    (change_push P h h.job.arrays h.task.frames Marked run (no_change P h run) tt (own_order P h run).some) low run.place (λ n. omega arith))

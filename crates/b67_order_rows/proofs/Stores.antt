@@ -1,39 +1,29 @@
 -- Stores keep order.
-use Rattle.std.proofs.Common.{◌≡◌, ◌≢◌, ℕ, zero, suc, ◌+◌, ◌^◌, ◌<◌, ◌≤◌, Bool, true, false, not, cond, eqb, leb, List, [], ◌∷◌, ◌++◌, map, filter, reverse, length, Option, Some, None, Ok, Err, get_or, refl, sym, ap, ◌∙◌, subst, inl, inr, ◌⊎◌, arith, slice_set}
-use Rattle.std.specs.List.{AllByRecursion, list_any, slice_index}
+use Rattle.std.proofs.Common.{◌≡◌, ◌≢◌, ℕ, zero, suc, ◌^◌, ◌<◌, ◌≤◌, Bool, true, false, cond, List, [], ◌∷◌, ◌++◌, map, reverse, length, Some, None, Ok, refl, sym, ap, ◌∙◌, subst, inl, inr, ◌⊎◌, arith, slice_set}
+use Rattle.std.specs.List.{AllByRecursion}
 use Rattle.std.proofs.lemmas.Bool.Decides.{eqb_tells}
-use Rattle.std.proofs.lemmas.Bool.{cases_Bool, true≢false, leb-true, eqb-true}
-use Rattle.b67_word.specs.declared.couples.Place.{Place}
-use Rattle.b67_word.specs.declared.faults.Fault.TheVariants.{StackOverflow}
-use Rattle.b67_model.specs.Answers.{Answer, ◌>>=◌, ◌>>◌, needs}
-use Rattle.b67_model.specs.Keyed.{keyed, change_keyed}
-use Rattle.b67_model.specs.Lists.{Has, total, how_many, Falls}
-use Rattle.b67_model.specs.Words as Words
-use Rattle.b67_model.specs.Words.{Word, Operand, Name, Ref, Row, Element, Original, Proc, Intrinsic}
-use Rattle.b67_model.specs.State.{Frame, Standing, Marked, Entered, Return, Array, Condition, Ready, Task, Setting, Job, Here, frame, top, below_top, with_top_cells, words_of, height, with_task}
-use Rattle.b67_model.specs.Environment.{level_of_standing, level_of_frame, running, running_from}
-use Rattle.b67_model.specs.Arrays.{array, element, owner_of}
-use Rattle.b67_model.specs.Chase.{End, AtCell, AtElement, AtArray, AtProc, AtIntrinsic, follow, follow_reference}
-use Rattle.b67_model.specs.Steps.{Line, Done, Goes, Leaves, Waits, top_of, cells_of, result, with_frames, with_cells, leaves_cells, pushes, is_critical, without_arrays_of}
-use Rattle.b67_model.specs.Entry.{mkst, needs_level, accident, back_to, evaluates, enters, left, leaves, exit, returnable, returned, retn_word, retn}
-use Rattle.b67_model.specs.Intrinsics.{is_original}
-use Rattle.b67_model.specs.InOrder.{Starts, Known, known_of, from_frame, base, outer_reach, outer_of, reach_of, known_numbers, identities, IsEntered, NamesEntered, NamesArray, OwnsArray, WordInOrder, EnvironmentInOrder, StandsInOrder, CellsInOrder, CopiesAbove, NoCopyUnder, FramesInOrder, StackInOrder, ReturnsInOrder, ConditionInOrder, TaskInOrder, ArrayInOrder, is_original_of, originals_in, originals_of, frames_named, TasksInOrder}
-use Rattle.b67_order.proofs.Members.{has_append_left, has_append_right, has_map, has_reverse, has_reverse_back, has_filter, has_filter_in, all_in, all_from, any_none, keyed_has, change_found, has_change, has_get, keyed_left, has_map_back, falls_low, falls_more, falls_filter, falls_same, none_pass, total_reverse}
-use Rattle.b67_order.proofs.Reaches.{Alike, alike_has, alike_same, Stays, Wider, word_wider}
-use Rattle.b67_order.proofs.Replaced.{KeptOrLeft, Replaced, replaced, numbers_append}
-use Rattle.b67_order.proofs.Looks.{Run, reach, own_order, Seen, see, level_low, own_high}
-use Rattle.b67_order.proofs.Changes.{Change, TopWords, outside, no_change, change_arrays, change_cells, change_push, change_drop, change_enter, changed, fresh_frame, run_replaced}
-use Rattle.b67_order.specs.Ends.{EndInOrder, IsProcOf, IsCell}
-use Rattle.b67_order.proofs.Chases.{follow_in, array_is}
-use Rattle.b67_order.proofs.Posts.{Post, post_ok, post_err, post_bind, post_any, post_then, post_needs, post_if, post_if_is, post_more, post_both, post_any_at}
+use Rattle.std.proofs.lemmas.Bool.{cases_Bool}
+use Rattle.b67_model.specs.Keyed.{change_keyed}
+use Rattle.b67_model.specs.Lists.{Has}
+use Rattle.b67_model.specs.Words.{Word, Operand}
+use Rattle.b67_model.specs.State.{Frame, Array, Task, Here, frame, top, with_top_cells, height, with_task}
+use Rattle.b67_model.specs.Environment.{level_of_frame, running}
+use Rattle.b67_model.specs.Arrays.{array}
+use Rattle.b67_model.specs.Chase.{End, AtCell, AtElement, AtArray, AtProc, AtIntrinsic, follow}
+use Rattle.b67_model.specs.Steps.{top_of, cells_of, result, with_cells}
+use Rattle.b67_model.specs.Entry.{back_to}
+use Rattle.b67_model.specs.InOrder.{Starts, known_of, CopiesAbove, ConditionInOrder, ArrayInOrder, is_original_of, originals_of, TasksInOrder}
+use Rattle.b67_order.proofs.Members.{has_map, all_in, keyed_has, has_change, has_get, keyed_left, has_map_back}
+use Rattle.b67_order.proofs.Reaches.{Stays}
+use Rattle.b67_order.proofs.Looks.{Run, own_order}
+use Rattle.b67_order.proofs.Changes.{Change, outside, no_change, change_arrays, change_cells, changed, run_replaced}
+use Rattle.b67_order.specs.Ends.{EndInOrder}
+use Rattle.b67_order.proofs.Posts.{Post, post_ok, post_err, post_bind, post_needs}
 use Rattle.b67_model.specs.Words.{operand}
-use Rattle.b67_model.specs.Cells.{place_of, cell}
-use Rattle.b67_model.specs.Arithmetic.{Binary}
-use Rattle.b67_model.specs.Arrays.{array_of, indexed, in_order}
-use Rattle.b67_model.specs.Rows.{CellRow, on_one, on_two, movable, dlet, exch, dupl, on_cells, branches, branch_if, valc, stff_word, stff, load_at, load, indx, nxlv}
-use Rattle.b67_order_rows.proofs.Steps.{Keeps, Good, Fit, AllFit, originals, SameOriginals, own_fit, own_copies, plain_above, running_cells, known_cells, originals_cells, some_cells, result_good, cells_good, push_good, environment_of_proc, accident_good, element_low, evaluates_good}
-use Rattle.b67_order.proofs.Chases.{RefInOrder, chase_in, place_in, indexed_in}
-use Rattle.b67_model.specs.Cells.{first_offset, cell_of, with_cell}
+use Rattle.b67_model.specs.Cells.{cell}
+use Rattle.b67_model.specs.Arrays.{in_order}
+use Rattle.b67_order_rows.proofs.Steps.{Keeps, Good, Fit, AllFit, originals, SameOriginals, own_fit, own_copies, plain_above, running_cells, originals_cells, result_good, accident_good}
+use Rattle.b67_model.specs.Cells.{first_offset, cell_of}
 use Rattle.b67_model.specs.Arrays.{with_number, with_element}
 use Rattle.b67_model.specs.Rows.{store_at, store}
 use Rattle.b67_order.proofs.Maps.{IsOperand, HoldsOperand, cell_stored}
@@ -64,15 +54,15 @@ change_has : (n : ℕ) (f : Array → Array) (xs : List Array) (a : Array) → H
 change_has n f [] a h same = absurd h
 change_has n f (x ∷ xs) a h same = elim (eqb_tells x.identity n) [
   | inl e ↦ rw e.0 (elim h [
-      | inl is ↦ let s = same x in
-          let item : f x ≡ s.item = elim s.live [ inl z ↦ z | inr z ↦ absurd z ] in
-          subst (Stays (f x ∷ xs)) is (record { item = s.item; live = inl item; named = s.named; owned = s.owned; long = s.long })
-      | inr m ↦ record { item = a; live = inr m; named = refl; owned = refl; long = omega arith }
-    ])
+    | inl is ↦ let s = same x in
+        let item : f x ≡ s.item = elim s.live [ inl z ↦ z | inr z ↦ absurd z ] in
+        subst (Stays (f x ∷ xs)) is (record { item = s.item; live = inl item; named = s.named; owned = s.owned; long = s.long })
+    | inr m ↦ record { item = a; live = inr m; named = refl; owned = refl; long = omega arith }
+  ])
   | inr e ↦ rw e.0 (elim h [
-      | inl is ↦ record { item = a; live = inl is; named = refl; owned = refl; long = omega arith }
-      | inr m ↦ let s = change_has n f xs a m same in record { item = s.item; live = inr s.live; named = s.named; owned = s.owned; long = s.long }
-    ])
+    | inl is ↦ record { item = a; live = inl is; named = refl; owned = refl; long = omega arith }
+    | inr m ↦ let s = change_has n f xs a m same in record { item = s.item; live = inr s.live; named = s.named; owned = s.owned; long = s.long }
+  ])
 ]
 
 set_low : (xs : List ℕ) (i bits : ℕ) → bits < 2 ^ 48 → AllByRecursion (λ (n : ℕ). n < 2 ^ 48) xs → AllByRecursion (λ (n : ℕ). n < 2 ^ 48) (slice_set xs i bits)
@@ -203,7 +193,7 @@ store_holds P h b a rest kept n offset bits run e are keep t live f among is w k
                 let number : (top_of h).identity ≡ n = ap (λ (x : Frame). x.identity) top_one ∙ is in
                 let old = holds_operand P h n offset bits run e (top_of h) (own_frame P h run (top_of h) (top_has h.task.frames (own_order P h run).some)) number in
                 let old' : slice_get (reverse rest ++ (a ∷ b ∷ [])) (offset - 2) ≡ Some (Operand bits) =
-                    subst (λ ws. slice_get ws (offset - 2) ≡ Some (Operand bits)) (ap reverse are ∙ reverse-append (b ∷ a ∷ []) rest) old in
+                subst (λ ws. slice_get ws (offset - 2) ≡ Some (Operand bits)) (ap reverse are ∙ reverse-append (b ∷ a ∷ []) rest) old in
                 let now : slice_get (reverse kept) (offset - 2) ≡ Some w = subst (λ (x : Frame). slice_get (reverse x.cells) (offset - 2) ≡ Some w) (sym top_one) k in
                 kept_operand (reverse rest) (a ∷ b ∷ []) keep.above (offset - 2) (Operand bits) w old' tt keep.operands (subst (λ ws. slice_get ws (offset - 2) ≡ Some w) keep.are now)
             | inr old_one ↦ operand_is w bits (same_item f (offset - 2) (Operand bits) w (holds_operand P h n offset bits run e f (own_frame P h run f old_one) is) k)
@@ -266,8 +256,8 @@ store_good P keeps h (b ∷ a ∷ rest) run at are =
     let v = (in_order b a).1 in
     let two = pair P h b a fit.0 fit.1.0 in
     post_bind (IsOperandOf v) (Keeps P h) (operand v) _ (operand_of v) (λ bits one.
-      post_bind (Followed P h r) (Keeps P h) (follow h r) _ (followed P h run r two.first) (λ end g.
-        let plain = two.plain g.plain (rw one.is refl) in
-        let same : SameOriginals rest (cells_of h) = λ n. sym (two_plain n b a rest plain.0 plain.1) ∙ ap (originals n) (sym are) in
-        let low : bits < 2 ^ 48 = subst (Fit P h) one.is two.second in
-        store_at_good P h b a rest _ bits end run at g.is low are (leaves_two P h b a v rest bits keeps fit.1.1 two.second above.1.1 same are one.is) fit.1.1 above.1.1 same))
+    post_bind (Followed P h r) (Keeps P h) (follow h r) _ (followed P h run r two.first) (λ end g.
+    let plain = two.plain g.plain (rw one.is refl) in
+    let same : SameOriginals rest (cells_of h) = λ n. sym (two_plain n b a rest plain.0 plain.1) ∙ ap (originals n) (sym are) in
+    let low : bits < 2 ^ 48 = subst (Fit P h) one.is two.second in
+    store_at_good P h b a rest _ bits end run at g.is low are (leaves_two P h b a v rest bits keeps fit.1.1 two.second above.1.1 same are one.is) fit.1.1 above.1.1 same))

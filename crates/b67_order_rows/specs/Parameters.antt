@@ -1,7 +1,7 @@
 -- What an operator's parameters are.
-use Rattle.std.specs.Prelude.{ℕ, ◌^◌, ◌<◌, IsTrue}
+use Rattle.std.specs.Prelude.{◌^◌, ◌<◌, IsTrue}
 use Rattle.b67_model.specs.declared.operators.Op.{Op}
-use Rattle.b67_model.specs.declared.operators.Op.TheVariants.{Valc, Namc, Lt8, Lt16, Lt48, Mpcw, Brun, Brtr, Brfl, Bset, Brst, Isol, Insr, Plain}
+use Rattle.b67_model.specs.declared.operators.Op.TheVariants.{Valc, Namc, Lt8, Lt16, Lt48, Mpcw, Brun, Brtr, Brfl}
 use Rattle.b67_model.specs.Words.{Word, Proc}
 use Rattle.b67_model.specs.State.{Here}
 use Rattle.b67_model.specs.Environment.{running_level}

@@ -1,20 +1,17 @@
 -- What admission says of listings: an operator stands wherever one may go on.
-use Rattle.std.proofs.Common.{◌≡◌, ◌≢◌, ℕ, zero, suc, ◌+◌, ◌-◌, ◌*◌, ◌/◌, ◌%◌, ◌^◌, ◌<◌, ◌≤◌, Bool, true, false, not, cond, eqb, ltb, leb, ◌&&◌, ◌||◌, List, [], ◌∷◌, ◌++◌, map, filter, length, Option, Some, None, Result, Ok, Err, refl, sym, ap, ◌∙◌, subst, inl, inr, ◌⊎◌, arith}
-use Rattle.std.specs.List.{AllByRecursion, slice_get, slice_index, list_any}
+use Rattle.std.proofs.Common.{◌≡◌, ◌≢◌, ℕ, zero, suc, ◌+◌, ◌*◌, ◌/◌, ◌<◌, Bool, true, false, cond, eqb, ltb, leb, ◌&&◌, List, [], ◌∷◌, ◌++◌, length, Option, Some, None, Ok, Err, refl, sym, ap, ◌∙◌, subst, inl, inr, arith}
+use Rattle.std.specs.List.{slice_get, slice_index}
 use Rattle.std.proofs.lemmas.Bool.Decides.{eqb_tells}
-use Rattle.std.proofs.lemmas.Bool.{cases_Bool, true≢false, ltb-true, ltb-false, eqb-true}
+use Rattle.std.proofs.lemmas.Bool.{cases_Bool, true≢false, ltb-false, eqb-true}
 use Rattle.b67_word.specs.declared.couples.Place.{Place}
 use Rattle.b67_model.specs.declared.operators.Op.{Op}
-use Rattle.b67_model.specs.declared.operators.Op.TheVariants.{Valc, Namc, Mpcw, Brun, Brtr, Brfl, Plain}
-use Rattle.b67_model.specs.declared.operators.Undecodable.{Undecodable}
+use Rattle.b67_model.specs.declared.operators.Op.TheVariants.{Plain}
 use Rattle.b67_model.specs.declared.operators.Undecodable.TheVariants.{BadPlace, NotAdmitted, PastEnd}
 use Rattle.b67_model.specs.Lists.{Has}
-use Rattle.b67_model.specs.State as State
 use Rattle.b67_model.specs.State.{Segment}
-use Rattle.b67_model.specs.Operators as Operators
-use Rattle.b67_model.specs.Operators.{Form, Alone, OneMore, TwoMore, Literal, form_of, syllable, count_at, Reading, ends_at, reads, operator_at}
+use Rattle.b67_model.specs.Operators.{Form, Alone, OneMore, TwoMore, Literal, form_of, syllable, Reading, ends_at, reads, operator_at}
 use Rattle.b67_model.specs.Program.{Program}
-use Rattle.b67_model.specs.Loader.{Entry, At, Break, entries_from, origin, listing, place_of_entry, same_place, is_start, Listed, target_of, may_be_last, holds_of, holds_at, is_outside, is_last, named_level, is_off, is_amiss, broken_at, broken_in, Refusal, refused, refusals_of, refusals_from, refusals, IsAdmitted}
+use Rattle.b67_model.specs.Loader.{Entry, At, Break, entries_from, origin, listing, place_of_entry, same_place, is_start, Listed, is_last, broken_at, broken_in, Refusal, refused, refusals_of, refusals_from, IsAdmitted}
 use Rattle.b67_order.proofs.Members.{has_append_left}
 
 -- nothing is refused of two lists where nothing is of their whole
@@ -31,9 +28,9 @@ tests_false number place [] t e h = absurd h
 tests_false number place (x ∷ tests) t e h = elim (cases_Bool x.1) [
   | inl y ↦ let no : (record { segment = number; place = place; rule = x.0 } ∷ refused number place tests) ≡ [] = rw y at e in cc
   | inr y ↦ elim h [
-      | inl is ↦ ap (λ (z : ℕ × Bool). z.1) (sym is) ∙ y
-      | inr m ↦ tests_false number place tests t (rw y at e) m
-    ]
+    | inl is ↦ ap (λ (z : ℕ × Bool). z.1) (sym is) ∙ y
+    | inr m ↦ tests_false number place tests t (rw y at e) m
+  ]
 ]
 
 -- no rule is broken at an entry

@@ -1,24 +1,22 @@
 -- Tasks that end leave the others in order.
-use Rattle.std.proofs.Common.{◌≡◌, ◌≢◌, ℕ, zero, suc, ◌+◌, ◌^◌, ◌<◌, ◌≤◌, Bool, true, false, not, cond, eqb, List, [], ◌∷◌, ◌++◌, map, filter, reverse, length, Option, Some, None, refl, sym, ap, ◌∙◌, subst, inl, inr, ◌⊎◌, arith}
-use Rattle.std.specs.List.{AllByRecursion, list_any}
+use Rattle.std.proofs.Common.{◌≡◌, ◌≢◌, ℕ, zero, suc, ◌+◌, ◌<◌, ◌≤◌, Bool, true, false, not, cond, eqb, List, [], ◌∷◌, ◌++◌, map, filter, reverse, length, Some, refl, sym, ap, ◌∙◌, subst, inl, inr, ◌⊎◌, arith}
+use Rattle.std.specs.List.{list_any}
 use Rattle.std.proofs.lemmas.Bool.Decides.{eqb_tells}
 use Rattle.std.proofs.lemmas.Bool.{cases_Bool, true≢false}
 use Rattle.std.proofs.lemmas.List.{length-map, map-append}
 use Rattle.b67_model.specs.Keyed.{keyed}
-use Rattle.b67_model.specs.Lists.{Has, total, how_many, Falls}
-use Rattle.b67_model.specs.Words as Words
-use Rattle.b67_model.specs.Words.{Word, Operand, Name, Ref, Row, Element, Original, Proc, Intrinsic}
+use Rattle.b67_model.specs.Lists.{Has, total, Falls}
 use Rattle.b67_model.specs.State.{Frame, Array, Condition, Ready, Awaits, WaitsAt, Task, Setting, Job}
 use Rattle.b67_word.specs.declared.faults.Ending.{Ending}
 use Rattle.b67_word.specs.declared.faults.Ending.TheVariants.{Parent}
 use Rattle.b67_model.specs.Endings.{among, is_owned_by, released, at_depth, deepest_below, deepest_first, descendants, all_with, Settled, ends_all, ends_task, unsettled}
-use Rattle.b67_model.specs.InOrder.{Starts, Known, known_of, from_frame, outer_of, reach_of, known_numbers, identities, OwnsArray, WordInOrder, FramesInOrder, BirthInOrder, ParentInOrder, TaskInOrder, ArrayInOrder, EntryInOrder, is_original_of, originals_in, originals_of, frames_named, frames_in_job, TasksInOrder}
-use Rattle.b67_order.proofs.Members.{has_map, has_filter, has_filter_in, all_in, all_from, any_none, any_some, any_has, keyed_has, keyed_filter, falls_filter, falls_same, none_pass, total_has, total_split, total_zero, length_filter, falls_low, falls_short, keyed_falls, has_append_left, has_append_right, has_append_cases, has_map_back, has_reverse, has_reverse_back}
-use Rattle.b67_order.proofs.Reaches.{Alike, alike_same, Stays, Follower, Follows, Births}
+use Rattle.b67_model.specs.InOrder.{Starts, Known, known_of, from_frame, outer_of, known_numbers, WordInOrder, FramesInOrder, BirthInOrder, ParentInOrder, TaskInOrder, ArrayInOrder, EntryInOrder, is_original_of, originals_in, originals_of, frames_named, frames_in_job, TasksInOrder}
+use Rattle.b67_order.proofs.Members.{has_map, has_filter, has_filter_in, all_in, all_from, any_none, any_some, any_has, keyed_has, keyed_filter, falls_filter, none_pass, total_has, total_split, total_zero, length_filter, falls_short, keyed_falls, has_append_left, has_append_right, has_append_cases, has_map_back, has_reverse, has_reverse_back}
+use Rattle.b67_order.proofs.Reaches.{alike_same, Stays, Follows}
 use Rattle.b67_order.proofs.Replaced.{task_kept, entry_kept, IsLive, reach_live, has_counts}
 use Rattle.b67_order.proofs.Looks.{above_one}
 use Rattle.b67_order_rows.proofs.Entries.{none_original}
-use Rattle.b67_order.proofs.Maps.{mapped, map_good, SameTask, frames_refl}
+use Rattle.b67_order.proofs.Maps.{map_good, frames_refl}
 
 -- whoever has one of these above it is one of these
 abbrev pub IsClosed : Job → List ℕ → Type 0
@@ -132,9 +130,9 @@ module _ (P : Starts) (setting : Setting) (job : Job) (numbers : List ℕ) (g : 
       let free = not_true_is (is_owned_by (gone_of numbers job) a) r.1 in
       let parts = total_split (λ (t : Task). originals_in a.identity t.frames) (stays numbers) job.tasks in
       let none : total (λ (t : Task). originals_in a.identity t.frames) (filter (λ t. not (stays numbers t)) job.tasks) ≡ 0 =
-          total_zero (λ (t : Task). originals_in a.identity t.frames) (filter (λ t. not (stays numbers t)) job.tasks) (λ t k.
-            let q = has_filter (λ u. not (stays numbers u)) job.tasks t k in
-            none_gone a r.0 free t (has_filter_in (goes numbers) job.tasks t q.0 (twice (among numbers t.number) q.1))) in
+      total_zero (λ (t : Task). originals_in a.identity t.frames) (filter (λ t. not (stays numbers t)) job.tasks) (λ t k.
+      let q = has_filter (λ u. not (stays numbers u)) job.tasks t k in
+      none_gone a r.0 free t (has_filter_in (goes numbers) job.tasks t q.0 (twice (among numbers t.number) q.1))) in
       omega (arith, parts, none, all_in (λ (x : Array). originals_of x.identity setting job ≡ 1) job.arrays a g.once r.0)
     where
       twice : (b : Bool) → not (not b) ≡ true → b ≡ true
@@ -148,7 +146,7 @@ module _ (P : Starts) (setting : Setting) (job : Job) (numbers : List ℕ) (g : 
     arrays = all_from ArrayInOrder job'.arrays (λ a h. all_in ArrayInOrder job.arrays a g.arrays (has_filter (λ (x : Array). not (is_owned_by (gone_of numbers job) x)) job.arrays a h).0);
     once = all_from (λ (a : Array). originals_of a.identity setting job' ≡ 1) job'.arrays rest_once;
     entries = all_from (EntryInOrder job'.arrays) setting.dictionary.cells (λ w h. entry_kept job.arrays job'.arrays w (λ a live owned. array_stays a live (record { counted = inl (omega (arith, owned)) }))
-      (all_in (EntryInOrder job.arrays) setting.dictionary.cells w g.entries h));
+        (all_in (EntryInOrder job.arrays) setting.dictionary.cells w g.entries h));
     numbers = falls_filter (λ (t : Task). t.number) (stays numbers) job.next_task job.tasks g.numbers;
     names = falls_filter (λ (a : Array). a.identity) (λ a. not (is_owned_by (gone_of numbers job) a)) job.next_array job.arrays g.names;
     few = omega (arith, length_filter (stays numbers) job.tasks, g.few);
@@ -197,12 +195,12 @@ depth_low : (P : Starts) (setting : Setting) (job : Job) → TasksInOrder P sett
 depth_low P setting job g t here =
     let falls = parents_fall P setting job g t here t.parents refl in
     let short : length (t.number ∷ t.parents) ≤ length (map (λ (u : Task). u.number) job.tasks) =
-        falls_short (t.number + 1) (t.number ∷ t.parents) job.next_task (map (λ (u : Task). u.number) job.tasks) (omega arith, falls) g.numbers
-        (λ n h. elim h [
-          | inl e ↦ subst (Has (map (λ (u : Task). u.number) job.tasks)) e (has_map (λ (u : Task). u.number) job.tasks t here)
-          | inr k ↦ let r = line_above P setting job g t here t.parents refl n k in let there = keyed_has (λ (u : Task). u.number) n job.tasks r.0 r.1 in
-              subst (Has (map (λ (u : Task). u.number) job.tasks)) there.1 (has_map (λ (u : Task). u.number) job.tasks r.0 there.0)
-        ]) in
+    falls_short (t.number + 1) (t.number ∷ t.parents) job.next_task (map (λ (u : Task). u.number) job.tasks) (omega arith, falls) g.numbers
+    (λ n h. elim h [
+      | inl e ↦ subst (Has (map (λ (u : Task). u.number) job.tasks)) e (has_map (λ (u : Task). u.number) job.tasks t here)
+      | inr k ↦ let r = line_above P setting job g t here t.parents refl n k in let there = keyed_has (λ (u : Task). u.number) n job.tasks r.0 r.1 in
+          subst (Has (map (λ (u : Task). u.number) job.tasks)) there.1 (has_map (λ (u : Task). u.number) job.tasks r.0 there.0)
+    ]) in
     omega (arith, short, length-map job.tasks (λ (u : Task). u.number), g.few)
 
 -- the deepest first: all of these tasks

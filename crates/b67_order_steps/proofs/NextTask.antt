@@ -1,8 +1,6 @@
 -- The next number of a task grows by one at most: a law of all rows, by one rule for each way in which rows are made.
-use Rattle.std.proofs.Common.{subst, ◌≡◌, ℕ, ◌+◌, ◌≤◌, Bool, true, false, ℤ, pos, negsuc, List, [], ◌∷◌, reverse, Option, Some, None, Ok, Err, refl, arith, cond}
+use Rattle.std.proofs.Common.{◌≡◌, ℕ, ◌+◌, ◌≤◌, Bool, true, false, ℤ, pos, negsuc, List, [], ◌∷◌, reverse, Option, Some, None, Ok, Err, refl, arith, cond}
 use Rattle.b67_word.specs.declared.faults.Fault.{Fault}
-use Rattle.b67_word.specs.declared.faults.Ending.{Ending}
-use Rattle.b67_word.specs.declared.faults.Ending.TheVariants.{Ended, Faulted}
 use Rattle.b67_word.specs.declared.couples.Place.{Place}
 use Rattle.b67_model.specs.declared.operators.Op.{Op}
 use Rattle.b67_model.specs.declared.operators.Op.TheVariants.{Valc, Brun, Brtr, Brfl, Plain}
@@ -10,18 +8,12 @@ use Rattle.b67_model.specs.declared.operators.Code.{Code}
 use Rattle.b67_model.specs.declared.operators.Code.TheVariants.{Exit, Indx, Retn, Entr, Nxlv, Mkst, Stod, Ston, Load}
 use Rattle.b67_model.specs.Answers.{Answer, ◌>>=◌, ◌>>◌}
 use Rattle.b67_model.specs.Words.{Word, Operand}
-use Rattle.b67_model.specs.State.{Standing, Marked, Entered, Return, Task, Setting, Job, Course, Here, with_task}
+use Rattle.b67_model.specs.State.{Standing, Marked, Entered, Return, Task, Job, Here}
 use Rattle.b67_model.specs.Chase.{End, AtCell, AtElement, AtArray, AtProc, AtIntrinsic, follow}
 use Rattle.b67_model.specs.Steps.{Line, Done, Goes, Leaves, Waits, top_of, cells_of, result, with_cells, leaves_cells, pushes}
 use Rattle.b67_model.specs.Entry.{mkst, accident, evaluates, enters, left, leaves, exit, returnable, returned, retn_word}
 use Rattle.b67_model.specs.Intrinsics.{answers, arraydec, print, printrow, read, starts, process, awaits, await, status, waits_at, wait, causes, cause, intrinsic}
 use Rattle.b67_model.specs.Rows.{CellRow, on_cells, branch_if, valc, load_at, load, indx, nxlv, store_at, store, entr_at, entr_with, entr, plain, row}
-use Rattle.b67_model.specs.Rows.{reading_of, step_by, step}
-use Rattle.b67_model.specs.Operators.{Reading}
-use Rattle.b67_model.specs.Keyed.{keyed}
-use Rattle.b67_model.specs.Endings.{Settled, ends_all, ends_task, ends_each_if, unsettled, settles, stepped}
-use Rattle.b67_model.specs.Alone.{whole, by_task, step_of}
-
 
 -- the fact of an answer's value
 abbrev pub of_value : {A : Type 0} → (A → Type 0) → Answer A → Type 0

@@ -1,29 +1,25 @@
 -- What an admitted codefile keeps: an operator stands wherever one may go on.
-use Rattle.std.proofs.Common.{◌≡◌, ◌≢◌, ℕ, zero, suc, ◌+◌, ◌-◌, ◌/◌, ◌%◌, ◌^◌, ◌<◌, ◌≤◌, Bool, true, false, not, cond, eqb, ltb, ◌&&◌, ◌||◌, List, [], ◌∷◌, length, Option, Some, None, Ok, Err, refl, sym, ap, ◌∙◌, subst, inl, inr, ◌⊎◌, arith}
-use Rattle.std.specs.List.{AllByRecursion, slice_get}
-use Rattle.std.proofs.lemmas.Bool.{cases_Bool, ltb-true, ltb-false, true≢false, eqb-true}
+use Rattle.std.proofs.Common.{◌≡◌, ℕ, ◌+◌, ◌-◌, ◌/◌, ◌%◌, ◌^◌, ◌≤◌, Bool, true, false, not, eqb, ltb, ◌&&◌, ◌||◌, Option, Some, None, Ok, refl, sym, ap, ◌∙◌, subst, inl, inr, arith}
+use Rattle.std.specs.List.{slice_get}
+use Rattle.std.proofs.lemmas.Bool.{cases_Bool, ltb-false, true≢false, eqb-true}
 use Rattle.b67_word.specs.declared.couples.Place.{Place}
 use Rattle.b67_model.specs.declared.operators.Op.{Op}
 use Rattle.b67_model.specs.declared.operators.Op.TheVariants.{Valc, Namc, Lt8, Lt16, Lt48, Mpcw, Brun, Brtr, Brfl, Bset, Brst, Isol, Insr, Plain}
-use Rattle.b67_model.specs.Keyed.{keyed}
 use Rattle.b67_model.specs.Lists.{Has}
-use Rattle.b67_model.specs.State as State
-use Rattle.b67_model.specs.State.{Segment, Task, Setting, Job, Here}
+use Rattle.b67_model.specs.State.{Segment, Task, Setting, Here}
 use Rattle.b67_model.specs.Environment.{level_of_frame, running}
-use Rattle.b67_model.specs.Operators.{Reading, operator_at}
+use Rattle.b67_model.specs.Operators.{operator_at}
 use Rattle.b67_model.specs.Program.{Program}
-use Rattle.b67_model.specs.Loader.{Entry, At, origin, listing, is_start, Listed, target_of, may_be_last, holds_of, holds_at, is_outside, is_last, named_level, is_off, is_amiss, IsAdmitted}
-use Rattle.b67_model.specs.Rows.{code_of, reading_of, is_proc, proc_of}
-use Rattle.b67_model.specs.InOrder.{Starts, IsStart, SegmentInOrder, SettingInOrder, TaskInOrder, TasksInOrder}
+use Rattle.b67_model.specs.Loader.{At, origin, listing, is_start, target_of, may_be_last, holds_of, holds_at, is_outside, is_last, named_level, is_amiss, IsAdmitted}
+use Rattle.b67_model.specs.Rows.{reading_of, proc_of}
+use Rattle.b67_model.specs.InOrder.{IsStart, SegmentInOrder, SettingInOrder, TaskInOrder}
 use Rattle.b67_order_rows.specs.Parameters.{StartsAt, ParametersFit}
-use Rattle.b67_order.specs.Ends.{StepsFrom}
-use Rattle.b67_order_rows.specs.Keeping.{KeepsOrder}
 use Rattle.b67_order_steps.specs.Laws.{RowsKeepOrder, PlacesHaveOperators}
 use Rattle.b67_order.proofs.Members.{all_in, keyed_has, has_get}
 use Rattle.b67_order_steps.proofs.Readings.{OpBits, ReadFits}
 use Rattle.b67_order_steps.proofs.Segments.{reading_fits}
 use Rattle.b67_order_rows.proofs.Kept.{here}
-use Rattle.b67_order_steps.proofs.Whole.{ReadingFits, step_good}
+use Rattle.b67_order_steps.proofs.Whole.{step_good}
 use Rattle.b67_order_steps.proofs.Admitted.{listed, Sound, admitted_sound, Entered, entered, StandsAt, stands_sound, start_stands, origin_stands}
 
 or_false : (a b : Bool) → (a || b) ≡ false → (a ≡ false) × (b ≡ false)
@@ -135,7 +131,7 @@ module _ (p : Program) (setting : Setting) (admitted : IsAdmitted p) (same : set
         let r = stands_sound (listed p s.0 named.code) s.1 origin (origin_stands named.code.code some) in
         let low = named.low in
         let at_origin : IsStart setting (disp - 1) level' origin =
-            record { from_one = omega (arith, low); code = named.code; found = subst (λ i. slice_get setting.segments i ≡ Some named.code) index found; of_level = named.of_level; op = r.0; stands = r.1 } in
+        record { from_one = omega (arith, low); code = named.code; found = subst (λ i. slice_get setting.segments i ≡ Some named.code) index found; of_level = named.of_level; op = r.0; stands = r.1 } in
         subst (IsStart setting (disp - 1) level') (sym here) at_origin
 
     parameters_fit : (h : Here) → h.setting ≡ setting → (op : Op) → at.op ≡ op → OpBits op → ((target : Place) → IsStart setting task.segment level target → IsStart h.setting h.task.segment (level_of_frame (running h.task.frames)) target) → ParametersFit (IsStart setting) h op
@@ -159,12 +155,12 @@ rows_keep_order p setting job task admitted same s =
     let own = all_in (TaskInOrder (IsStart setting) setting job) job.tasks task s.order.tasks (keyed_has (λ t. t.number) task.number job.tasks task s.live).0 in
     let level = level_of_frame (running task.frames) in
     step_good (IsStart setting) setting job task s (λ op next e.
-      let read : ReadFits (Ok (op, next)) = subst ReadFits e (reading_fits setting task s.unchanging) in
-      let is = the_entry p setting admitted same s.unchanging task level own.place op next e in
-      record {
-        after = λ goes. after_fits p setting admitted same s.unchanging task level own.place op next e goes;
-        parameters = parameters_fit p setting admitted same s.unchanging task level own.place (here setting job task next) refl op is.0 read.0 (λ target start. start);
-      })
+    let read : ReadFits (Ok (op, next)) = subst ReadFits e (reading_fits setting task s.unchanging) in
+    let is = the_entry p setting admitted same s.unchanging task level own.place op next e in
+    record {
+      after = λ goes. after_fits p setting admitted same s.unchanging task level own.place op next e goes;
+      parameters = parameters_fit p setting admitted same s.unchanging task level own.place (here setting job task next) refl op is.0 read.0 (λ target start. start);
+    })
 
 pub places_have_operators : PlacesHaveOperators
 places_have_operators p setting job task admitted same g live =

@@ -1,13 +1,12 @@
 -- What is read of code: the operators' parameters have their bits, and places fit.
-use Rattle.std.proofs.Common.{◌≡◌, ◌≢◌, ℕ, zero, suc, ◌+◌, ◌-◌, ◌*◌, ◌/◌, ◌%◌, ◌^◌, ◌<◌, ◌≤◌, Bool, true, false, cond, eqb, ltb, leb, List, [], ◌∷◌, length, Option, Some, None, Result, Ok, Err, get_or, refl, sym, ap, ◌∙◌, subst, inl, inr, ◌⊎◌, arith, ◌&&◌}
-use Rattle.std.specs.List.{AllByRecursion, slice_get, slice_index}
-use Rattle.std.proofs.lemmas.Bool.{cases_Bool, true≢false, leb-true, ltb-true}
+use Rattle.std.proofs.Common.{ℕ, ◌+◌, ◌-◌, ◌*◌, ◌/◌, ◌%◌, ◌^◌, ◌<◌, eqb, ltb, leb, List, [], ◌∷◌, length, Option, Some, None, Ok, Err, inl, inr, arith, ◌&&◌}
+use Rattle.std.specs.List.{AllByRecursion, slice_index}
+use Rattle.std.proofs.lemmas.Bool.{cases_Bool, leb-true, ltb-true}
 use Rattle.std.proofs.Math.Nat.{mod-lt}
 use Rattle.b67_word.specs.declared.couples.Place.{Place}
 use Rattle.b67_model.specs.declared.operators.Op.{Op}
-use Rattle.b67_model.specs.declared.operators.Op.TheVariants.{Valc, Namc, Lt8, Lt16, Lt48, Mpcw, Brun, Brtr, Brfl, Bset, Brst, Isol, Insr, Plain}
-use Rattle.b67_model.specs.declared.operators.Undecodable.{Undecodable}
-use Rattle.b67_model.specs.Operators.{Form, Alone, OneMore, TwoMore, Literal, branch, operators, form_in, form_of, syllable, place_at, count_at, Reading, ends_at, reads, operator_at}
+use Rattle.b67_model.specs.declared.operators.Op.TheVariants.{Valc, Namc, Lt8, Lt16, Lt48, Brun, Brtr, Brfl, Plain}
+use Rattle.b67_model.specs.Operators.{Form, Alone, OneMore, TwoMore, Literal, operators, form_in, form_of, syllable, count_at, Reading, ends_at, reads, operator_at}
 use Rattle.b67_order_rows.proofs.Steps.{number_low}
 
 -- a place that fits the fields of a control word
@@ -50,9 +49,9 @@ form_fits : (first : ℕ) → SomeFits (form_of first)
 form_fits first = elim (cases_Bool (ltb first 64)) [
   | inl t ↦ let low = ltb-true first 64 t in rw t (λ l h. omega (arith, low, h))
   | inr t ↦ rw t (elim (cases_Bool (ltb first 128)) [
-      | inl u ↦ let low = ltb-true first 128 u in rw u (λ l h. omega (arith, low, h))
-      | inr u ↦ rw u (form_in_fits operators first table_fits)
-    ])
+    | inl u ↦ let low = ltb-true first 128 u in rw u (λ l h. omega (arith, low, h))
+    | inr u ↦ rw u (form_in_fits operators first table_fits)
+  ])
 ]
 
 -- an operator that was read, and the place after it

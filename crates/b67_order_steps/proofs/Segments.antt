@@ -1,25 +1,19 @@
 -- What any code words keep.
-use Rattle.std.proofs.Common.{◌≡◌, ◌≢◌, ℕ, zero, suc, ◌+◌, ◌-◌, ◌/◌, ◌%◌, ◌^◌, ◌<◌, ◌≤◌, Bool, true, false, eqb, ltb, ◌&&◌, List, [], ◌∷◌, length, Option, Some, None, Ok, Err, refl, sym, ap, ◌∙◌, subst, arith}
+use Rattle.std.proofs.Common.{◌≡◌, ℕ, ◌+◌, ◌-◌, ◌/◌, ◌%◌, ◌^◌, ◌<◌, Bool, true, false, eqb, ltb, ◌&&◌, length, Option, Some, None, Ok, refl, sym, subst, arith}
 use Rattle.std.specs.List.{AllByRecursion, slice_get}
 use Rattle.std.proofs.lemmas.Bool.{ltb-true, true≢false}
-use Rattle.b67_word.specs.declared.couples.Place.{Place}
 use Rattle.b67_model.specs.declared.operators.Op.{Op}
 use Rattle.b67_model.specs.declared.operators.Op.TheVariants.{Valc, Namc, Lt8, Lt16, Lt48, Mpcw, Brun, Brtr, Brfl, Bset, Brst, Isol, Insr, Plain}
-use Rattle.b67_model.specs.Keyed.{keyed}
-use Rattle.b67_model.specs.Lists.{Has}
 use Rattle.b67_model.specs.State as State
 use Rattle.b67_model.specs.State.{Task, Setting, Job, Here}
-use Rattle.b67_model.specs.Operators.{Reading, operator_at}
 use Rattle.b67_model.specs.Rows.{code_of, reading_of, is_proc, proc_of}
-use Rattle.b67_model.specs.InOrder.{Starts, IsSegment, SegmentInOrder, SettingInOrder, TaskInOrder, TasksInOrder}
+use Rattle.b67_model.specs.InOrder.{IsSegment, SegmentInOrder, SettingInOrder, TaskInOrder}
 use Rattle.b67_order_rows.specs.Parameters.{StartsAt, ParametersFit}
-use Rattle.b67_order.specs.Ends.{StepsFrom}
-use Rattle.b67_order_rows.specs.Keeping.{KeepsOrder}
 use Rattle.b67_order_steps.specs.Laws.{RowsKeepOrderButPlaces}
 use Rattle.b67_order.proofs.Members.{all_in, keyed_has, has_get}
-use Rattle.b67_order_steps.proofs.Readings.{PlaceFits, OpBits, ReadFits, operator_fits}
+use Rattle.b67_order_steps.proofs.Readings.{OpBits, ReadFits, operator_fits}
 use Rattle.b67_order_rows.proofs.Kept.{here}
-use Rattle.b67_order_steps.proofs.Whole.{ReadingFits, step_good}
+use Rattle.b67_order_steps.proofs.Whole.{step_good}
 
 -- the code of a segment has its bits
 code_fits : (setting : Setting) (segment : ℕ) → SettingInOrder setting → (length (code_of setting segment) < 2 ^ 13) × AllByRecursion (λ (w : ℕ). w < 2 ^ 48) (code_of setting segment)
@@ -64,8 +58,8 @@ pub rows_keep_order_but_places : RowsKeepOrderButPlaces
 rows_keep_order_but_places setting job task s =
     let own = all_in (TaskInOrder (IsSegment setting) setting job) job.tasks task s.order.tasks (keyed_has (λ t. t.number) task.number job.tasks task s.live).0 in
     step_good (IsSegment setting) setting job task s (λ op next e.
-      let read : ReadFits (Ok (op, next)) = subst ReadFits e (reading_fits setting task s.unchanging) in
-      record {
-        after = λ goes. record { from_one = own.place.from_one; within = own.place.within; word_fits = read.1.0; syllable_fits = read.1.1 };
-        parameters = parameters_fit (here setting job task next) _ op own.place read.0;
-      })
+    let read : ReadFits (Ok (op, next)) = subst ReadFits e (reading_fits setting task s.unchanging) in
+    record {
+      after = λ goes. record { from_one = own.place.from_one; within = own.place.within; word_fits = read.1.0; syllable_fits = read.1.1 };
+      parameters = parameters_fit (here setting job task next) _ op own.place read.0;
+    })

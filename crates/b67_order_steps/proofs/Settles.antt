@@ -1,31 +1,26 @@
 -- A whole step, with its endings and counts, keeps a job in order.
-use Rattle.std.proofs.Common.{◌≡◌, ◌≢◌, ℕ, zero, suc, ◌+◌, ◌^◌, ◌<◌, ◌≤◌, Bool, true, false, not, cond, eqb, List, [], ◌∷◌, ◌++◌, map, filter, length, Option, Some, None, Ok, Err, IsTrue, refl, sym, ap, ◌∙◌, subst, inl, inr, ◌⊎◌, arith}
-use Rattle.std.specs.List.{AllByRecursion, list_any, list_all}
+use Rattle.std.proofs.Common.{◌≡◌, ◌≢◌, ℕ, ◌+◌, ◌<◌, ◌≤◌, Bool, true, false, not, eqb, List, [], ◌∷◌, map, filter, Some, Ok, Err, IsTrue, refl, sym, ap, ◌∙◌, inl, inr, arith}
+use Rattle.std.specs.List.{list_all}
 use Rattle.std.proofs.lemmas.Bool.Decides.{eqb_tells}
 use Rattle.std.proofs.lemmas.Bool.{cases_Bool, true≢false}
-use Rattle.b67_word.specs.declared.faults.Fault.{Fault}
 use Rattle.b67_word.specs.declared.faults.Ending.{Ending}
 use Rattle.b67_word.specs.declared.faults.Ending.TheVariants.{Ended, Deadlock, Limit, Faulted}
 use Rattle.b67_model.specs.Answers.{Answer}
-use Rattle.b67_model.specs.Keyed.{keyed, change_keyed}
-use Rattle.b67_model.specs.Lists.{Has, Falls}
-use Rattle.b67_model.specs.State.{Frame, Array, Condition, Ready, Awaits, WaitsAt, Task, Setting, Job, Course, with_task}
-use Rattle.b67_model.specs.Steps.{Line, Done, Goes, Leaves, Waits}
+use Rattle.b67_model.specs.Keyed.{keyed}
+use Rattle.b67_model.specs.Lists.{Has}
+use Rattle.b67_model.specs.State.{Array, Condition, Ready, Task, Setting, Job, Course, with_task}
+use Rattle.b67_model.specs.Steps.{Done, Goes, Leaves, Waits}
 use Rattle.b67_model.specs.Operators.{Reading}
 use Rattle.b67_model.specs.Rows.{step, step_by, reading_of}
 use Rattle.b67_model.specs.Endings as Endings
 use Rattle.b67_model.specs.Endings.{among, all_with, deepest_first, Settled, ends_all, ends_task, ends_each_if, deadlocked, limited, unsettled, is_ready, settles, stepped}
 use Rattle.b67_model.specs.Alone.{whole}
-use Rattle.b67_model.specs.Program.{Program}
-use Rattle.b67_model.specs.Loader.{IsAdmitted}
-use Rattle.b67_model.specs.InOrder.{Starts, IsSegment, IsStart, known_of, from_frame, outer_of, reach_of, originals_of, ConditionInOrder, TaskInOrder, TasksInOrder, CountsInOrder, BelowLimit, JobInOrder, SettingInOrder}
+use Rattle.b67_model.specs.InOrder.{Starts, IsSegment, IsStart, known_of, from_frame, reach_of, originals_of, ConditionInOrder, TaskInOrder, TasksInOrder, JobInOrder}
 use Rattle.b67_order.specs.Ends.{StepsFrom}
 use Rattle.b67_order_rows.specs.Keeping.{KeepsOrder}
-use Rattle.b67_order_steps.specs.Laws.{KeptBySteps, StepsKeepOrderButPlaces, StepsKeepOrder}
-use Rattle.b67_order.proofs.Members.{all_in, all_from, any_none, keyed_has, has_map, has_filter}
+use Rattle.b67_order_steps.specs.Laws.{StepsKeepOrderButPlaces, StepsKeepOrder}
+use Rattle.b67_order.proofs.Members.{all_in, keyed_has}
 use Rattle.b67_order.proofs.Reaches.{alike_same}
-use Rattle.b67_order.proofs.Replaced.{KeptOrLeft}
-use Rattle.b67_order.proofs.Looks.{Run}
 use Rattle.b67_order.proofs.Changes.{run_replaced}
 use Rattle.b67_order_rows.proofs.Kept.{starts_run}
 use Rattle.b67_order_steps.proofs.Deaths.{ends_good, ends_task_good, all_closed, all_among}

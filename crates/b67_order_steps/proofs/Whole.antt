@@ -1,22 +1,14 @@
 -- A step keeps order where what it reads fits.
-use Rattle.std.proofs.Common.{◌≡◌, ℕ, ◌<◌, ◌^◌, List, Option, Some, None, Ok, Err, refl, sym, ap, subst}
+use Rattle.std.proofs.Common.{◌≡◌, Ok, Err, refl}
 use Rattle.b67_word.specs.declared.couples.Place.{Place}
 use Rattle.b67_model.specs.declared.operators.Op.{Op}
-use Rattle.b67_model.specs.Answers.{Answer}
-use Rattle.b67_model.specs.Keyed.{keyed}
 use Rattle.b67_model.specs.State.{Task, Setting, Job, Here}
-use Rattle.b67_model.specs.Environment.{level_of_frame, running}
 use Rattle.b67_model.specs.Operators.{Reading}
-use Rattle.b67_model.specs.Steps.{Done, Goes, Leaves, Waits}
-use Rattle.b67_model.specs.Rows.{branches, row, reading_of, step_by, step}
-use Rattle.b67_model.specs.InOrder.{Starts, TaskInOrder, TasksInOrder}
+use Rattle.b67_model.specs.Rows.{row, reading_of, step_by, step}
+use Rattle.b67_model.specs.InOrder.{Starts}
 use Rattle.b67_order_rows.specs.Parameters.{ParametersFit}
 use Rattle.b67_order.specs.Ends.{StepsFrom}
 use Rattle.b67_order_rows.specs.Keeping.{KeepsOrder}
-use Rattle.b67_order.proofs.Members.{all_in, keyed_has}
-use Rattle.b67_order.proofs.Posts.{Post}
-use Rattle.b67_order.proofs.Looks.{Run}
-use Rattle.b67_order_rows.proofs.Steps.{Keeps, Good}
 use Rattle.b67_order_rows.proofs.Rows.{row_good}
 use Rattle.b67_order_rows.specs.Keeping.{AfterFits}
 use Rattle.b67_order_rows.proofs.Kept.{here, keeps, starts_run}

@@ -1,20 +1,15 @@
 -- The laws of this crate: what each step of the model keeps.
-use Rattle.std.specs.Prelude.{◌≡◌, ℕ, ◌+◌, ◌^◌, ◌<◌, Some, Ok, Err, IsTrue}
+use Rattle.std.specs.Prelude.{◌≡◌, Some, Ok}
 use Rattle.b67_word.specs.declared.couples.Place.{Place}
 use Rattle.b67_model.specs.declared.operators.Op.{Op}
-use Rattle.b67_model.specs.declared.operators.Op.TheVariants.{Valc, Namc, Lt8, Lt16, Lt48, Mpcw, Brun, Brtr, Brfl, Bset, Brst, Isol, Insr, Plain}
 use Rattle.b67_order.specs.Ends.{StepsFrom}
 use Rattle.b67_order_rows.specs.Keeping.{KeepsOrder}
-use Rattle.b67_model.specs.Answers.{Answer}
-use Rattle.b67_model.specs.Words.{Word, Proc}
 use Rattle.b67_model.specs.Keyed.{keyed}
-use Rattle.b67_model.specs.State.{Ready, Task, Setting, Job, Course, Here}
+use Rattle.b67_model.specs.State.{Ready, Task, Setting, Job, Course}
 use Rattle.b67_model.specs.Program.{Program}
 use Rattle.b67_model.specs.Loader.{IsAdmitted}
-use Rattle.b67_model.specs.Environment.{running_level}
-use Rattle.b67_model.specs.Steps.{Done, Goes, Leaves, Waits}
-use Rattle.b67_model.specs.Rows.{is_proc, proc_of, reading_of, row, step}
-use Rattle.b67_model.specs.InOrder.{Starts, IsSegment, IsStart, SettingInOrder, TasksInOrder, JobInOrder, ConditionInOrder, reach_of}
+use Rattle.b67_model.specs.Rows.{reading_of, step}
+use Rattle.b67_model.specs.InOrder.{Starts, IsSegment, IsStart, TasksInOrder, JobInOrder}
 use Rattle.b67_model.specs.Alone.{whole}
 
 -- each operator and each intrinsic keeps all items but those on counts and on places, over any code words

@@ -1,4 +1,4 @@
-use Rattle.std.proofs.Common.{◌≡◌, ℕ, ◌<◌, ◌≤◌, ◌+◌, length}
+use Rattle.std.proofs.Common.{◌≡◌, ℕ, ◌<◌, ◌+◌, length}
 use Rattle.std.proofs.Common.{option_map}
 use Rattle.std.specs.List.{slice_get}
 use Rattle.b67_core.specs.Numbers.{number}

@@ -1,4 +1,4 @@
-use Rattle.std.proofs.Common.{◌∙◌, ◌+◌, ap, ℕ, length, arith}
+use Rattle.std.proofs.Common.{ap, length, arith}
 use Rattle.b67_backing.specs.Shelf.{all_free, taken}
 use Rattle.b67_backing.proofs.tests.turns.Goals as goal
 

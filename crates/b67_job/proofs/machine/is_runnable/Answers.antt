@@ -1,10 +1,8 @@
-use Rattle.std.proofs.Common.{◌≡◌, ◌∙◌, ◌<◌, ◌≤◌, Bool, false, true, sym, ap, subst, Ok, Err, arith, refl}
+use Rattle.std.proofs.Common.{◌∙◌, Bool, sym, ap, arith}
 use Rattle.std.specs.Prelude.{◌&&◌}
 use Rattle.b67_word.specs.Tagged.{contents}
-use Rattle.b67_model.specs.Operators.{operator_at}
 use Rattle.b67_model.specs.Loader.{may_be_last}
 use Rattle.b67_job.specs.Listed.{built_after}
-use Rattle.b67_job.specs.Stack.{is_built}
 use Rattle.b67_job.proofs.Places.{listing_from, listing-step, listing-err, operator-behind}
 use Rattle.b67_job.proofs.machine.is_runnable.Goals as goal
 
@@ -27,11 +25,13 @@ pub operator-preserved : goal.operator-preserved
 operator-preserved c =
     let code = contents c.args.code.now in
     let e = sym (c.in-Ok.ensures.segment (omega arith)) in
-    let b = operator-behind code c.operator.at (c.in-Ok.op, c.in-Ok.next) e in
-    (c.operator.invariant.0 ∙ ap (built_after c.operator.last) (listing-step code c.operator.at (c.in-Ok.op, c.in-Ok.next) e)
-      ∙ ap (λ (b : Bool). b && built_after (may_be_last c.in-Ok.op) (listing_from code c.in-Ok.next)) (sym c.is_built.ensures ∙ c.if-not-is_built.false)
-      ∙ ap (λ (last : Bool). built_after last (listing_from code c.in-Ok.next)) (sym c.may_be_last-last.ensures),
-      b.proper, b.inside)
+    let b = operator-behind code c.operator.at (c.in-Ok.op, c.in-Ok.next) e in (
+      c.operator.invariant.0 ∙ ap (built_after c.operator.last) (listing-step code c.operator.at (c.in-Ok.op, c.in-Ok.next) e)
+          ∙ ap (λ (b : Bool). b && built_after (may_be_last c.in-Ok.op) (listing_from code c.in-Ok.next)) (sym c.is_built.ensures ∙ c.if-not-is_built.false)
+          ∙ ap (λ (last : Bool). built_after last (listing_from code c.in-Ok.next)) (sym c.may_be_last-last.ensures),
+      b.proper,
+      b.inside,
+    )
 
 pub returns-in-Err : goal.returns-in-Err
 returns-in-Err c =

@@ -1,4 +1,4 @@
-use Rattle.std.proofs.Common.{◌≡◌, ◌≤◌, ◌<◌, ◌*◌, ◌-◌, false, length}
+use Rattle.std.proofs.Common.{◌≤◌, ◌*◌, ◌-◌, length}
 use Rattle.b67_word.specs.Tagged.{contents}
 use Rattle.b67_model.specs.Operators.{count_at}
 use Rattle.b67_job.proofs.Running.{Running}

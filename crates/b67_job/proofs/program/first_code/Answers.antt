@@ -1,5 +1,4 @@
-use Rattle.std.proofs.Common.{◌≡◌, ◌∙◌, ◌≤◌, ◌<◌, [], ◌∷◌, length, sym, ap, inl, inr, arith}
-use Rattle.std.specs.Prelude.{◌==◌}
+use Rattle.std.proofs.Common.{◌∙◌, length, sym, ap, inr, arith}
 use Rattle.b67_job.proofs.Programs.{single, none_left, is_short, of_one, of_none_or_many}
 use Rattle.b67_job.proofs.program.first_code.Goals as goal
 

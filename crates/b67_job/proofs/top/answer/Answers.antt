@@ -1,9 +1,5 @@
-use Rattle.std.proofs.Common.{◌≡◌, ◌∙◌, ◌≤◌, ◌<◌, ◌+◌, sym, ap, refl, subst, arith, List, ℕ, length, inr, rules, true}
-use Rattle.std.specs.Prelude.{is_some}
-use Rattle.b67_card.specs.declared.reading.TheConstants.{LIMIT}
-use Rattle.b67_job.specs.Command.{command_of}
-use Rattle.b67_job.specs.Judgement.{judgement, refusal_text}
-use Rattle.b67_job.specs.Due.{AnswersTo, refusal_due}
+use Rattle.std.proofs.Common.{sym, ap, rules}
+use Rattle.b67_job.specs.Judgement.{judgement}
 use Rattle.b67_job.proofs.Judged.{answered, answered_fault, answers_same}
 use Rattle.b67_job.proofs.top.answer.Goals as goal
 

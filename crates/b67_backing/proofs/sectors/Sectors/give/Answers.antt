@@ -1,6 +1,6 @@
-use Rattle.std.proofs.Common.{◌≡◌, ◌<◌, ◌≤◌, ◌+◌, ◌∙◌, arith, subst, sym, ap, Some, length}
+use Rattle.std.proofs.Common.{◌∙◌, subst, sym, ap}
 use Rattle.std.specs.List.{slice_get}
-use Rattle.b67_backing.specs.Shelf.{Table, Shelf, IsShelf, first, given, chain_of}
+use Rattle.b67_backing.specs.Shelf.{Table, IsShelf, given}
 use Rattle.b67_backing.proofs.Gives.{gave}
 use Rattle.b67_backing.proofs.News.{chain_of-given}
 use Rattle.b67_backing.proofs.sectors.Sectors.give.Goals as goal

@@ -1,6 +1,4 @@
-use Rattle.std.proofs.Common.{◌≡◌, ◌<◌, ◌≤◌, ◌+◌, arith, subst, ap, Some, sym, ◌∙◌}
-use Rattle.std.specs.List.{slice_get}
-use Rattle.b67_backing.specs.Shelf.{Table, Shelf, IsShelf, chain_of}
+use Rattle.std.proofs.Common.{arith, ap, Some, ◌∙◌}
 use Rattle.b67_backing.proofs.Walks.{count_is, room, walk_at, walk_next, walk_end}
 use Rattle.b67_backing.proofs.sectors.Sectors.last_of.Goals as goal
 

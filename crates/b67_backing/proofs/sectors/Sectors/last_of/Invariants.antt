@@ -1,5 +1,5 @@
-use Rattle.std.proofs.Common.{◌≡◌, ◌<◌, ◌≤◌, take, length}
-use Rattle.b67_backing.specs.Shelf.{Table, Shelf, IsShelf, last, chain_of}
+use Rattle.std.proofs.Common.{◌≡◌, ◌≤◌, take, length}
+use Rattle.b67_backing.specs.Shelf.{Shelf, IsShelf, last, chain_of}
 use Rattle.b67_backing.proofs.Links.{rest}
 use Rattle.b67_backing.proofs.sectors.Sectors.last_of.Given as goal
 

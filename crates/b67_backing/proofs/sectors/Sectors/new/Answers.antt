@@ -1,5 +1,4 @@
-use Rattle.std.proofs.Common.{◌≡◌, ℕ, ◌<◌, ◌≤◌, ◌+◌, arith, List, subst, length, Some}
-use Rattle.std.specs.List.{slice_get}
+use Rattle.std.proofs.Common.{◌≡◌, arith}
 use Rattle.b67_backing.specs.Shelf.{all_free}
 use Rattle.b67_backing.proofs.News.{news_pushed}
 use Rattle.b67_backing.proofs.sectors.Sectors.new.Goals as goal

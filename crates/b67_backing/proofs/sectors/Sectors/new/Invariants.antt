@@ -1,4 +1,4 @@
-use Rattle.std.proofs.Common.{◌≡◌, ℕ, ◌<◌, ◌≤◌, ◌+◌, length, Some}
+use Rattle.std.proofs.Common.{◌≡◌, ℕ, ◌<◌, ◌+◌, length, Some}
 use Rattle.std.specs.List.{slice_get}
 use Rattle.b67_backing.proofs.sectors.Sectors.new.Given as goal
 

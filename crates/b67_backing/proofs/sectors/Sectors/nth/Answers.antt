@@ -1,5 +1,4 @@
-use Rattle.std.proofs.Common.{◌≡◌, ◌<◌, ◌≤◌, ◌+◌, arith, refl}
-use Rattle.b67_backing.specs.Shelf.{Table, Shelf, IsShelf}
+use Rattle.std.proofs.Common.{arith, refl}
 use Rattle.b67_backing.proofs.Walks.{nth_step}
 use Rattle.b67_backing.proofs.sectors.Sectors.nth.Goals as goal
 

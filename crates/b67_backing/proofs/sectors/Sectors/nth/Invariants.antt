@@ -1,5 +1,5 @@
-use Rattle.std.proofs.Common.{◌≡◌, ◌<◌, ◌≤◌, take, length}
-use Rattle.b67_backing.specs.Shelf.{Table, Shelf, IsShelf, last}
+use Rattle.std.proofs.Common.{◌≡◌, ◌<◌, take, length}
+use Rattle.b67_backing.specs.Shelf.{Shelf, IsShelf, last}
 use Rattle.b67_backing.proofs.sectors.Sectors.nth.Given as goal
 
 abbrev pub invariant-loop-i : goal.invariant-loop-i

@@ -1,10 +1,9 @@
-use Rattle.std.proofs.Common.{◌≡◌, ◌<◌, ◌≤◌, ◌+◌, ◌*◌, ◌∙◌, ◌⊎◌, arith, sym, ap, Some, length, refl, ℕ, inl, inr, ⊎_elim, min, ◌-◌}
+use Rattle.std.proofs.Common.{◌≡◌, ◌+◌, ◌*◌, ◌∙◌, arith, sym, ap, refl, inl, inr, ⊎_elim, ◌-◌}
 use Rattle.std.specs.List.{slice_get}
 use Rattle.std.proofs.lemmas.Bool.{cases_lt}
-use Rattle.b67_word.specs.Tagged.{Tagged}
-use Rattle.b67_backing.specs.Shelf.{Table, Shelf, HasChain, chain_of}
+use Rattle.b67_backing.specs.Shelf.{chain_of}
 use Rattle.b67_backing.specs.Held.{sectors_for}
-use Rattle.b67_backing.proofs.Stores.{ahead_pos, counts_next, becomes_next, restoring_first, restoring_next, restoring_all}
+use Rattle.b67_backing.proofs.Stores.{ahead_pos, counts_next, becomes_next, restoring_first, restoring_next}
 use Rattle.b67_backing.proofs.sectors.Sectors.restore.Goals as goal
 
 pub loop-j-init : goal.loop-j-init

@@ -1,8 +1,8 @@
-use Rattle.std.proofs.Common.{◌≡◌, ℕ, ◌<◌, ◌≤◌, ◌+◌, ◌*◌, ◌⊎◌, List, length, Some}
+use Rattle.std.proofs.Common.{◌≡◌, ℕ, ◌<◌, ◌≤◌, ◌+◌, ◌*◌, ◌⊎◌, length, Some}
 use Rattle.std.specs.List.{slice_get}
 use Rattle.b67_word.specs.Tagged.{Tagged}
 use Rattle.b67_io.specs.Causes.{Rose}
-use Rattle.b67_backing.specs.Shelf.{Table, Shelf, HasChain, chain_of}
+use Rattle.b67_backing.specs.Shelf.{Shelf, HasChain, chain_of}
 use Rattle.b67_backing.specs.Held.{Becomes, sectors_for}
 use Rattle.b67_backing.proofs.Stores.{Restoring}
 use Rattle.b67_backing.proofs.sectors.Sectors.restore.Given as goal

@@ -1,10 +1,9 @@
-use Rattle.std.proofs.Common.{◌≡◌, ◌<◌, ◌≤◌, ◌+◌, ◌∙◌, arith, subst, sym, ap, Some, length, map, refl, ℕ, ◌*◌}
+use Rattle.std.proofs.Common.{◌+◌, ◌∙◌, arith, sym, length, map, refl, ◌*◌}
 use Rattle.std.proofs.lemmas.List.{length-map}
-use Rattle.std.specs.List.{slice_get}
 use Rattle.b67_core.specs.Numbers.{number}
-use Rattle.b67_backing.specs.Shelf.{Table, Shelf, HasChain, chain_of}
-use Rattle.b67_backing.specs.Held.{Counts, sectors_for}
-use Rattle.b67_backing.proofs.Stores.{slice_get-map, ahead_pos, counts_next, storing_first, storing_next, storing_all, storing_others, storing_failed}
+use Rattle.b67_backing.specs.Shelf.{chain_of}
+use Rattle.b67_backing.specs.Held.{sectors_for}
+use Rattle.b67_backing.proofs.Stores.{slice_get-map, ahead_pos, counts_next, storing_first, storing_next}
 use Rattle.b67_backing.proofs.sectors.Sectors.store.Goals as goal
 
 pub loop-j-init : goal.loop-j-init

@@ -1,8 +1,8 @@
-use Rattle.std.proofs.Common.{◌≡◌, ℕ, ◌<◌, ◌≤◌, ◌+◌, ◌*◌, List, length, map}
+use Rattle.std.proofs.Common.{◌≡◌, ◌≤◌, length, map}
 use Rattle.b67_io.specs.Causes.{Rose}
 use Rattle.b67_core.specs.Numbers.{number}
-use Rattle.b67_backing.specs.Shelf.{Table, Shelf, HasChain, chain_of}
-use Rattle.b67_backing.specs.Held.{Counts, sectors_for}
+use Rattle.b67_backing.specs.Shelf.{Shelf, HasChain, chain_of}
+use Rattle.b67_backing.specs.Held.{sectors_for}
 use Rattle.b67_backing.proofs.Stores.{Storing}
 use Rattle.b67_backing.proofs.sectors.Sectors.store.Given as goal
 

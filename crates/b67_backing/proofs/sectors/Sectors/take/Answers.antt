@@ -1,4 +1,4 @@
-use Rattle.std.proofs.Common.{◌≡◌, ◌<◌, ◌≤◌, ◌+◌, ◌∙◌, arith, subst, sym, ap, Some, slice_set, ◌-◌}
+use Rattle.std.proofs.Common.{◌≡◌, ◌∙◌, arith, subst, sym, ap, slice_set, ◌-◌}
 use Rattle.std.specs.List.{slice_get}
 use Rattle.std.proofs.lemmas.Option.{same_Some}
 use Rattle.b67_backing.specs.Shelf.{Table, Shelf, IsShelf, first, taken}

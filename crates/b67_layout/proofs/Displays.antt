@@ -1,0 +1,107 @@
+-- The display stays where the frames of the running task keep their identities, standings and places.
+use Rattle.std.proofs.Common.{◌≡◌, ℕ, zero, suc, ◌-◌, List, [], ◌∷◌, ◌++◌, map, Some, refl, sym, ◌∙◌, ap, arith, true, false, ◌==◌, ⊎_elim, unwrap_or}
+use Rattle.std.specs.Prelude.{if◌then◌else◌, flat_map}
+use Rattle.std.proofs.lemmas.Bool.{cases_Bool}
+use Rattle.std.proofs.lemmas.List.{map-append}
+use Rattle.std.proofs.lemmas.Option.{same_Some}
+use Rattle.b67_model.specs.State as State
+use Rattle.b67_model.specs.State.{Frame, Standing, Task, Job, Course, Member, Here, all_frames, frame, no_frame, with_top_cells}
+use Rattle.b67_model.specs.Environment.{level_of_standing, environment_of, level_of_frame, running_from, running, outward, running_level, frame_at}
+use Rattle.b67_model.specs.InOrder.{Known, known_of}
+use Rattle.b67_model.specs.Keyed.{keyed, change_keyed}
+use Rattle.b67_stack.specs.Stacks.{Spot}
+use Rattle.b67_layout.specs.Plan.{Plan, spots, address_of}
+use Rattle.b67_layout.specs.Session.{Shows}
+
+-- looking up by identity reads identities and standings alone
+known_look : ℕ → Known → List Known → Known
+known_look id d [] = d
+known_look id d (k ∷ ks) = if k.0 == id then k else known_look id d ks
+
+look-known : (d : Frame) (id : ℕ) (xs : List Frame) → known_of (unwrap_or (keyed (λ f. f.identity) id xs) d) ≡ known_look id (known_of d) (map known_of xs)
+unfolding known_look
+look-known d id [] = refl
+look-known d id (f ∷ fs) = ⊎_elim
+    (λ (t : (f.identity == id) ≡ true). rw t refl)
+    (λ (t : (f.identity == id) ≡ false). rw t (look-known d id fs))
+    (cases_Bool (f.identity == id))
+
+same_look : (d : Frame) (id : ℕ) (xs ys : List Frame) → map known_of xs ≡ map known_of ys → known_of (unwrap_or (keyed (λ f. f.identity) id xs) d) ≡ known_of (unwrap_or (keyed (λ f. f.identity) id ys) d)
+same_look d id xs ys e = look-known d id xs ∙ ap (known_look id (known_of d)) e ∙ sym (look-known d id ys)
+
+run_look-by : Known → Standing → Known → Known
+run_look-by k State.Marked next = next
+run_look-by k (State.Entered level environment back) next = k
+
+run_look : List Known → Known
+run_look [] = known_of no_frame
+run_look (k ∷ ks) = run_look-by k k.1 (run_look ks)
+
+running-by : (s : Standing) (f next : Frame) → known_of (running_from s f next) ≡ run_look-by (known_of f) s (known_of next)
+unfolding run_look-by
+running-by State.Marked f next = refl
+running-by (State.Entered level environment back) f next = refl
+
+running-known : (fs : List Frame) → known_of (running fs) ≡ run_look (map known_of fs)
+unfolding run_look
+running-known [] = refl
+running-known (f ∷ below) = running-by f.standing f (running below) ∙ ap (run_look-by (known_of f) f.standing) (running-known below)
+
+pub same_running : (xs ys : List Frame) → map known_of xs ≡ map known_of ys → known_of (running xs) ≡ known_of (running ys)
+same_running xs ys e = running-known xs ∙ ap run_look e ∙ sym (running-known ys)
+
+module _ (h h' : Here) (frames : map known_of (all_frames h') ≡ map known_of (all_frames h)) where
+  same_frame : (id : ℕ) → known_of (frame h' id) ≡ known_of (frame h id)
+  same_frame id = same_look no_frame id (all_frames h') (all_frames h) frames
+
+  same_outward : (links : ℕ) (g' g : Frame) → known_of g' ≡ known_of g → known_of (outward h' links g') ≡ known_of (outward h links g)
+  same_outward zero g' g e = e
+  same_outward (suc links) g' g e =
+      let env : environment_of g'.standing ≡ environment_of g.standing = ap (λ (k : Known). environment_of k.1) e in
+      same_outward links (frame h' (environment_of g'.standing)) (frame h (environment_of g.standing)) (same_frame (environment_of g'.standing) ∙ ap (λ (i : ℕ). known_of (frame h i)) env)
+
+  -- the frame at a level is the same, as far as others may name it
+  pub same_frame_at : (n : ℕ) → map known_of h'.task.frames ≡ map known_of h.task.frames → known_of (frame_at h' n) ≡ known_of (frame_at h n)
+  same_frame_at n own =
+      let run = same_running h'.task.frames h.task.frames own in
+      let level : running_level h' ≡ running_level h = ap (λ (k : Known). level_of_standing k.1) run in
+      same_outward (running_level h' - n) (running h'.task.frames) (running h.task.frames) run
+      ∙ ap (λ (i : ℕ). known_of (outward h (i - n) (running h.task.frames))) level
+
+-- all frames of a job, where one task's keep their identities and standings
+pub tasks_known : (n : ℕ) (t t' : Task) → map known_of t'.frames ≡ map known_of t.frames → (xs : List Task) → keyed (λ (u : Task). u.number) n xs ≡ Some t
+    → map known_of (flat_map (λ (u : Task). u.frames) (change_keyed (λ (u : Task). u.number) n (λ u. t') xs)) ≡ map known_of (flat_map (λ (u : Task). u.frames) xs)
+tasks_known n t t' e [] k = refl
+tasks_known n t t' e (y ∷ ys) k = ⊎_elim
+    (λ (q : (y.number == n) ≡ true).
+    let same : y ≡ t = same_Some y t (rw q at k) in
+    rw q (map-append known_of t'.frames (flat_map (λ (u : Task). u.frames) ys)
+    ∙ ap (λ (ks : List Known). ks ++ map known_of (flat_map (λ (u : Task). u.frames) ys)) (e ∙ ap (λ (u : Task). map known_of u.frames) (sym same))
+    ∙ sym (map-append known_of y.frames (flat_map (λ (u : Task). u.frames) ys))))
+    (λ (q : (y.number == n) ≡ false).
+    let at : keyed (λ (u : Task). u.number) n ys ≡ Some t = rw q at k in
+    rw q (map-append known_of y.frames (flat_map (λ (u : Task). u.frames) (change_keyed (λ (u : Task). u.number) n (λ u. t') ys))
+    ∙ ap (λ (ks : List Known). map known_of y.frames ++ ks) (tasks_known n t t' e ys at)
+    ∙ sym (map-append known_of y.frames (flat_map (λ (u : Task). u.frames) ys))))
+    (cases_Bool (y.number == n))
+
+-- the display of the task that changed
+pub Shows-same : (display : List ℕ) (plan : Plan) (m : Member) (c : Course) (t t' : Task)
+    → keyed (λ (u : Task). u.number) t.number m.course.job.tasks ≡ Some t → c.job.tasks ≡ change_keyed (λ (u : Task). u.number) t.number (λ u. t') m.course.job.tasks
+    → map known_of t'.frames ≡ map known_of t.frames
+    → ((id : ℕ) → spots plan m.setting.number c.job t' id ≡ spots plan m.setting.number m.course.job t id)
+    → Shows display plan m t → Shows display plan (record m { course = c }) t'
+Shows-same display plan m c t t' there tasks own places shown n up =
+    let h : Here = record { setting = m.setting; job = m.course.job; task = t; at = t.place } in
+    let h' : Here = record { setting = m.setting; job = c.job; task = t'; at = t'.place } in
+    let in_tasks : map known_of (flat_map (λ (u : Task). u.frames) c.job.tasks) ≡ map known_of (flat_map (λ (u : Task). u.frames) m.course.job.tasks) =
+    ap (λ (ts : List Task). map known_of (flat_map (λ (u : Task). u.frames) ts)) tasks ∙ tasks_known t.number t t' own m.course.job.tasks there in
+    let frames : map known_of (all_frames h') ≡ map known_of (all_frames h) =
+    map-append known_of (flat_map (λ (u : Task). u.frames) c.job.tasks) (m.setting.dictionary ∷ State.mcp ∷ [])
+    ∙ ap (λ (ks : List Known). ks ++ map known_of (m.setting.dictionary ∷ State.mcp ∷ [])) in_tasks
+    ∙ sym (map-append known_of (flat_map (λ (u : Task). u.frames) m.course.job.tasks) (m.setting.dictionary ∷ State.mcp ∷ [])) in
+    let level : level_of_frame (running t'.frames) ≡ level_of_frame (running t.frames) = ap (λ (k : Known). level_of_standing k.1) (same_running t'.frames t.frames own) in
+    let id : (frame_at h' n).identity ≡ (frame_at h n).identity = ap (λ (k : Known). k.0) (same_frame_at h h' frames n own) in
+    shown n (omega (arith, up, level))
+    ∙ ap (λ (i : ℕ). Some (address_of plan (spots plan m.setting.number m.course.job t i))) (sym id)
+    ∙ ap (λ (s : Spot). Some (address_of plan s)) (sym (places (frame_at h' n).identity))

@@ -1,0 +1,10 @@
+//! When the fault INVALID OPERATOR comes.
+#![tactic(auto)]
+
+ghost use Rattle.b67_order_faults.specs.Faults.{InvalidOperatorIsNvld};
+
+/// The row of an operator faults INVALID OPERATOR only at NVLD, or at an MPCW whose literal the
+/// loader refuses.
+pub fn invalid_operator_is_nvld()
+    ensures { InvalidOperatorIsNvld }
+{}

@@ -1,0 +1,4 @@
+pub mod Chosen
+pub mod Totals
+pub mod Moments
+pub mod Sessions
