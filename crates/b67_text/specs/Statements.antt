@@ -1,0 +1,180 @@
+-- Assembly: what a card says by itself.
+use Rattle.std.specs.Prelude.{ℕ, ◌+◌, ◌-◌, ◌*◌, ◌^◌, ◌==◌, ◌&&◌, nat_lt, nat_le, Bool, false, ℤ, nat_abs, List, [], ◌∷◌, fold, take, length, slice_index, Option, Some, None, Result, Ok, Err, if◌then◌else◌, codes}
+use Rattle.std.specs.List.{filter_map, before_first}
+use Rattle.std.specs.Option.{option_map, option_and_then}
+use Rattle.std.specs.Str.{bytes_eq}
+use Rattle.b67_word.specs.declared.couples.Couple.{Couple}
+use Rattle.b67_word.specs.Operands.{bits_of}
+use Rattle.b67_model.specs.declared.operators.Op.{Op}
+use Rattle.b67_model.specs.declared.operators.Op.TheVariants as ops
+use Rattle.b67_model.specs.declared.operators.Code.TheVariants as codes_of
+use Rattle.b67_text.specs.declared.card.Card.{Card}
+use Rattle.b67_text.specs.declared.assembly.Mnemonic.{Mnemonic}
+use Rattle.b67_text.specs.declared.assembly.Mnemonic.TheVariants as names
+use Rattle.b67_text.specs.declared.assembly.Call as call
+use Rattle.b67_text.specs.declared.assembly.Call.TheVariants as calls
+use Rattle.b67_text.specs.declared.assembly.Branch as branch
+use Rattle.b67_text.specs.declared.assembly.Branch.TheVariants as branches
+use Rattle.b67_text.specs.declared.assembly.Sketch as sketch
+use Rattle.b67_text.specs.declared.assembly.Sketch.TheVariants.{Whole, OutOfRange, Couple as Coupled, Row as RowCoupled, Jump, Pcw}
+use Rattle.b67_text.specs.declared.assembly.Statement as statement
+use Rattle.b67_text.specs.declared.assembly.Statement.TheVariants as statements
+use Rattle.b67_text.specs.declared.assembly.Kind as kind
+use Rattle.b67_text.specs.declared.assembly.Kind.TheVariants as kinds
+use Rattle.b67_text.specs.declared.assembly.Line.{Line}
+use Rattle.b67_text.specs.Answers.{Answer, ◌>>=◌, ◌>>◌, needs, or_reason}
+use Rattle.b67_text.specs.Cards.{words, natural, whole, is_name, is_empty}
+use Rattle.b67_text.specs.Hex.{hex_bytes}
+use Rattle.b67_text.specs.Command.{row_of, parted}
+
+-- a numeral, and its number where that is within the range
+abbrev pub numeral_up_to : ℕ → List ℕ → Option (Option ℕ)
+numeral_up_to high word = option_map (λ n. if nat_le n high then Some n else None) (natural word)
+
+-- an operator with a number
+abbrev pub with_number : (ℕ → Op) → Option ℕ → sketch.Sketch
+with_number op None = OutOfRange
+with_number op (Some n) = Whole (op n)
+
+abbrev pub with_numbers : (ℕ → ℕ → Op) → Option ℕ → Option ℕ → sketch.Sketch
+with_numbers op (Some m) (Some n) = Whole (op m n)
+with_numbers op _ _ = OutOfRange
+
+abbrev pub two_numbers : (ℕ → ℕ → Op) → List ℕ × List ℕ → Option sketch.Sketch
+two_numbers op p = option_and_then (λ m. option_map (λ n. with_numbers op m n) (numeral_up_to 255 p.1)) (numeral_up_to 255 p.0)
+
+abbrev pub couple_of : Option ℕ → Option ℕ → Option Couple
+couple_of (Some level) (Some disp) = Some (record { level = level; disp = disp })
+couple_of _ _ = None
+
+abbrev pub is_one : Option ℕ → Bool
+is_one None = false
+is_one (Some n) = n == 1
+
+-- at level 1 the displacement may be a row's name
+abbrev pub call_at : call.Call → Option ℕ → List ℕ → Option (Option ℕ) → Option sketch.Sketch
+call_at c level text (Some disp) = Some (Coupled c (couple_of level disp))
+call_at c level text None = if is_one level && is_name text then Some (RowCoupled c text) else None
+
+abbrev pub couple_in : call.Call → List ℕ × List ℕ → Option sketch.Sketch
+couple_in c p = option_and_then (λ level. call_at c level p.1 (numeral_up_to 16383 p.1)) (numeral_up_to 255 p.0)
+
+abbrev pub jump_to : branch.Branch → List ℕ → Option sketch.Sketch
+jump_to b word = if is_name word then Some (Jump b word) else None
+
+abbrev pub pcw_of : List ℕ → Option sketch.Sketch
+pcw_of word = if is_name word then Some (Pcw word) else None
+
+-- the 48 bits of a whole number, if a word has them
+abbrev pub whole_bits : ℤ → Option ℕ
+whole_bits v = if nat_lt (nat_abs v) (2 ^ 39) then Some (bits_of v) else None
+
+abbrev pub hex_bits : List ℕ → Option ℕ
+hex_bits digits = if length digits == 12 then option_map (λ bytes. fold (λ n b. n * 256 + b) 0 bytes) (hex_bytes digits) else None
+
+-- a whole number, or # and twelve hexadecimal digits
+abbrev pub bits_in : List ℕ → Option (Option ℕ)
+bits_in [] = None
+bits_in (b ∷ more) = if b == 35 then option_map Some (hex_bits more) else option_map whole_bits (whole (b ∷ more))
+
+-- an operator with one word behind its name
+abbrev pub with_operand : Mnemonic → List ℕ → Option sketch.Sketch
+with_operand names.Valc word = option_and_then (couple_in calls.Value) (parted 44 word)
+with_operand names.Namc word = option_and_then (couple_in calls.Name) (parted 44 word)
+with_operand names.Brun word = jump_to branches.Always word
+with_operand names.Brtr word = jump_to branches.IfTrue word
+with_operand names.Brfl word = jump_to branches.IfFalse word
+with_operand names.Lt8 word = option_map (with_number ops.Lt8) (numeral_up_to 255 word)
+with_operand names.Lt16 word = option_map (with_number ops.Lt16) (numeral_up_to 65535 word)
+with_operand names.Lt48 word = option_map (with_number ops.Lt48) (bits_in word)
+with_operand names.Mpcw word = pcw_of word
+with_operand names.Bset word = option_map (with_number ops.Bset) (numeral_up_to 47 word)
+with_operand names.Brst word = option_map (with_number ops.Brst) (numeral_up_to 47 word)
+with_operand names.Isol word = option_and_then (two_numbers ops.Isol) (parted 44 word)
+with_operand names.Insr word = option_and_then (two_numbers ops.Insr) (parted 44 word)
+with_operand (names.Plain code) word = None
+
+abbrev pub is_plain : Mnemonic → Option sketch.Sketch
+is_plain (names.Plain code) = Some (Whole (ops.Plain code))
+is_plain _ = None
+
+abbrev pub sketch_of : Mnemonic → List (List ℕ) → Option sketch.Sketch
+sketch_of m [] = is_plain m
+sketch_of m (word ∷ more) = if is_empty more then with_operand m word else None
+
+abbrev pub mnemonics : List (List ℕ × Mnemonic)
+mnemonics =
+    (codes "VALC", names.Valc) ∷ (codes "NAMC", names.Namc) ∷
+    (codes "ADD", names.Plain codes_of.Add) ∷ (codes "SUBT", names.Plain codes_of.Subt) ∷ (codes "MULT", names.Plain codes_of.Mult) ∷
+    (codes "IDIV", names.Plain codes_of.Idiv) ∷ (codes "RDIV", names.Plain codes_of.Rdiv) ∷ (codes "LESS", names.Plain codes_of.Less) ∷
+    (codes "GREQ", names.Plain codes_of.Greq) ∷ (codes "GRTR", names.Plain codes_of.Grtr) ∷ (codes "LSEQ", names.Plain codes_of.Lseq) ∷
+    (codes "EQUL", names.Plain codes_of.Equl) ∷ (codes "NEQL", names.Plain codes_of.Neql) ∷ (codes "CHSN", names.Plain codes_of.Chsn) ∷
+    (codes "LAND", names.Plain codes_of.Land) ∷ (codes "LOR", names.Plain codes_of.Lor) ∷ (codes "LNOT", names.Plain codes_of.Lnot) ∷
+    (codes "LEQV", names.Plain codes_of.Leqv) ∷ (codes "SAME", names.Plain codes_of.Same) ∷ (codes "BSET", names.Bset) ∷
+    (codes "BRST", names.Brst) ∷ (codes "ISOL", names.Isol) ∷ (codes "INSR", names.Insr) ∷
+    (codes "BRFL", names.Brfl) ∷ (codes "BRTR", names.Brtr) ∷ (codes "BRUN", names.Brun) ∷
+    (codes "EXIT", names.Plain codes_of.Exit) ∷ (codes "INDX", names.Plain codes_of.Indx) ∷ (codes "RETN", names.Plain codes_of.Retn) ∷
+    (codes "ENTR", names.Plain codes_of.Entr) ∷ (codes "NXLV", names.Plain codes_of.Nxlv) ∷ (codes "MKST", names.Plain codes_of.Mkst) ∷
+    (codes "STFF", names.Plain codes_of.Stff) ∷ (codes "ZERO", names.Plain codes_of.Zero) ∷ (codes "ONE", names.Plain codes_of.One) ∷
+    (codes "LT8", names.Lt8) ∷ (codes "LT16", names.Lt16) ∷ (codes "PUSH", names.Plain codes_of.Push) ∷
+    (codes "DLET", names.Plain codes_of.Dlet) ∷ (codes "EXCH", names.Plain codes_of.Exch) ∷ (codes "DUPL", names.Plain codes_of.Dupl) ∷
+    (codes "STOD", names.Plain codes_of.Stod) ∷ (codes "STON", names.Plain codes_of.Ston) ∷ (codes "LOAD", names.Plain codes_of.Load) ∷
+    (codes "LT48", names.Lt48) ∷ (codes "MPCW", names.Mpcw) ∷ (codes "NOOP", names.Plain codes_of.Noop) ∷ (codes "NVLD", names.Plain codes_of.Nvld) ∷ []
+
+abbrev pub segment : List (List ℕ) → Option statement.Statement
+segment (name ∷ level ∷ []) = if is_name name then option_map (statements.Segment name) (numeral_up_to 255 level) else None
+segment _ = None
+
+abbrev pub row_named : List ℕ → Option statement.Statement
+row_named word = if is_name word then Some (statements.Row word) else None
+
+abbrev pub row : List (List ℕ) → Option statement.Statement
+row [] = None
+row (name ∷ more) = if is_empty more then row_named name else None
+
+abbrev pub all_bits : List (List ℕ) → Option (List (Option ℕ))
+all_bits [] = Some []
+all_bits (w ∷ more) = let rest = all_bits more in option_and_then (λ n. option_map (λ ns. n ∷ ns) rest) (bits_in w)
+
+abbrev pub num : List (List ℕ) → Option statement.Statement
+num words = if is_empty words then None else option_map statements.Values (all_bits words)
+
+abbrev pub operator : Option (List ℕ) → List (List ℕ) → Answer statement.Statement
+operator label [] = Err 1
+operator label (key ∷ operands) = do
+  mnemonic ← or_reason (row_of key mnemonics) 1
+  sketch ← or_reason (sketch_of mnemonic operands) 2
+  Ok (statements.Operator label sketch)
+
+abbrev pub kind_of : List ℕ → kind.Kind
+kind_of word =
+    if bytes_eq (codes "SEGMENT") word then kinds.Segment
+    else (if bytes_eq (codes "ROW") word then kinds.Row
+    else (if bytes_eq (codes "NUM") word then kinds.Numbers else kinds.Operator))
+
+abbrev pub is_label : List ℕ → Bool
+is_label w = slice_index w (length w - 1) == 58
+
+-- an operator, with a label before it where its first word ends in a colon
+abbrev pub labelled : List ℕ → List (List ℕ) → Answer statement.Statement
+labelled word more =
+    if is_label word
+    then (let label = take (length word - 1) word in needs (is_name label) 1 >> operator (Some label) more)
+    else operator None (word ∷ more)
+
+abbrev pub says : kind.Kind → List ℕ → List (List ℕ) → Answer statement.Statement
+says kinds.Segment word more = or_reason (segment more) 2
+says kinds.Row word more = or_reason (row more) 2
+says kinds.Numbers word more = or_reason (num more) 2
+says kinds.Operator word more = labelled word more
+
+abbrev pub line_with : ℕ → List (List ℕ) → Option Line
+line_with number [] = None
+line_with number (word ∷ more) = Some (record { number = number; kind = kind_of word; says = says (kind_of word) word more })
+
+-- a semicolon begins a comment; a card with nothing before it is ignored
+abbrev pub line_of : Card → Option Line
+line_of card = line_with card.number (words (before_first (λ b. b == 59) card.text))
+
+abbrev pub lines_of : List Card → List Line
+lines_of cards = filter_map line_of cards
