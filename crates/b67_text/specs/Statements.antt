@@ -1,10 +1,9 @@
 -- Assembly: what a card says by itself.
-use Rattle.std.specs.Prelude.{ℕ, ◌+◌, ◌-◌, ◌*◌, ◌^◌, ◌==◌, ◌&&◌, nat_lt, nat_le, Bool, false, ℤ, nat_abs, List, [], ◌∷◌, fold, take, length, slice_index, Option, Some, None, Result, Ok, Err, if◌then◌else◌, codes}
-use Rattle.std.specs.List.{filter_map, before_first}
+use Rattle.std.specs.Prelude.{ℕ, zero, suc, ◌+◌, ◌-◌, ◌*◌, ◌%◌, ◌^◌, ◌==◌, ◌&&◌, nat_le, Bool, true, false, is_some, unwrap_or, List, [], ◌∷◌, fold, take, length, slice_index, Option, Some, None, Result, Ok, Err, if◌then◌else◌, codes}
+use Rattle.std.specs.List.{filter_map, list_all}
 use Rattle.std.specs.Option.{option_map, option_and_then}
 use Rattle.std.specs.Str.{bytes_eq}
 use Rattle.b67_word.specs.declared.couples.Couple.{Couple}
-use Rattle.b67_word.specs.Operands.{bits_of}
 use Rattle.b67_model.specs.declared.operators.Op.{Op}
 use Rattle.b67_model.specs.declared.operators.Op.TheVariants as ops
 use Rattle.b67_model.specs.declared.operators.Code.TheVariants as codes_of
@@ -23,8 +22,8 @@ use Rattle.b67_text.specs.declared.assembly.Kind as kind
 use Rattle.b67_text.specs.declared.assembly.Kind.TheVariants as kinds
 use Rattle.b67_text.specs.declared.assembly.Line.{Line}
 use Rattle.b67_text.specs.Answers.{Answer, ◌>>=◌, ◌>>◌, needs, or_reason}
-use Rattle.b67_text.specs.Cards.{words, natural, whole, is_name, is_empty}
-use Rattle.b67_text.specs.Hex.{hex_bytes}
+use Rattle.b67_text.specs.Cards.{words, natural, is_name, is_empty}
+use Rattle.b67_text.specs.Hex.{hex_digit, digit_value}
 use Rattle.b67_text.specs.Command.{row_of, parted}
 
 -- a numeral, and its number where that is within the range
@@ -40,6 +39,9 @@ abbrev pub with_numbers : (ℕ → ℕ → Op) → Option ℕ → Option ℕ →
 with_numbers op (Some m) (Some n) = Whole (op m n)
 with_numbers op _ _ = OutOfRange
 
+abbrev pub field_operator : Bool → ℕ → ℕ → Op
+field_operator is_insert high width = if is_insert then ops.Insr high width else ops.Isol high width
+
 abbrev pub two_numbers : (ℕ → ℕ → Op) → List ℕ × List ℕ → Option sketch.Sketch
 two_numbers op p = option_and_then (λ m. option_map (λ n. with_numbers op m n) (numeral_up_to 255 p.1)) (numeral_up_to 255 p.0)
 
@@ -51,10 +53,13 @@ abbrev pub is_one : Option ℕ → Bool
 is_one None = false
 is_one (Some n) = n == 1
 
+abbrev pub row_call : call.Call → List ℕ → Option sketch.Sketch
+row_call c word = if is_name word then Some (RowCoupled c word) else None
+
 -- at level 1 the displacement may be a row's name
 abbrev pub call_at : call.Call → Option ℕ → List ℕ → Option (Option ℕ) → Option sketch.Sketch
 call_at c level text (Some disp) = Some (Coupled c (couple_of level disp))
-call_at c level text None = if is_one level && is_name text then Some (RowCoupled c text) else None
+call_at c level text None = if is_one level then row_call c text else None
 
 abbrev pub couple_in : call.Call → List ℕ × List ℕ → Option sketch.Sketch
 couple_in c p = option_and_then (λ level. call_at c level p.1 (numeral_up_to 16383 p.1)) (numeral_up_to 255 p.0)
@@ -65,17 +70,29 @@ jump_to b word = if is_name word then Some (Jump b word) else None
 abbrev pub pcw_of : List ℕ → Option sketch.Sketch
 pcw_of word = if is_name word then Some (Pcw word) else None
 
--- the 48 bits of a whole number, if a word has them
-abbrev pub whole_bits : ℤ → Option ℕ
-whole_bits v = if nat_lt (nat_abs v) (2 ^ 39) then Some (bits_of v) else None
+-- the operand of a negative number: bit 46 is its sign
+abbrev pub negative_bits : Option ℕ → Option (Option ℕ)
+negative_bits None = Some None
+negative_bits (Some zero) = None
+negative_bits (Some (suc n)) = Some (Some (2 ^ 46 + suc n))
 
-abbrev pub hex_bits : List ℕ → Option ℕ
-hex_bits digits = if length digits == 12 then option_map (λ bytes. fold (λ n b. n * 256 + b) 0 bytes) (hex_bytes digits) else None
+abbrev pub are_hex : List ℕ → Bool
+are_hex text = list_all (λ b. is_some (hex_digit b)) text
+
+-- the 48 bits of twelve hexadecimal digits
+abbrev pub digit_bits : List ℕ → ℕ
+digit_bits digits = fold (λ n d. (16 * n + digit_value d) % 2 ^ 48) 0 digits
+
+abbrev pub hex_bits : List ℕ → Option (Option ℕ)
+hex_bits digits = if (length digits == 12) && are_hex digits then Some (Some (digit_bits digits)) else None
 
 -- a whole number, or # and twelve hexadecimal digits
 abbrev pub bits_in : List ℕ → Option (Option ℕ)
 bits_in [] = None
-bits_in (b ∷ more) = if b == 35 then option_map Some (hex_bits more) else option_map whole_bits (whole (b ∷ more))
+bits_in (b ∷ more) =
+    if b == 35 then hex_bits more
+    else (if b == 45 then option_and_then negative_bits (numeral_up_to 549755813887 more)
+    else numeral_up_to 549755813887 (b ∷ more))
 
 -- an operator with one word behind its name
 abbrev pub with_operand : Mnemonic → List ℕ → Option sketch.Sketch
@@ -90,8 +107,8 @@ with_operand names.Lt48 word = option_map (with_number ops.Lt48) (bits_in word)
 with_operand names.Mpcw word = pcw_of word
 with_operand names.Bset word = option_map (with_number ops.Bset) (numeral_up_to 47 word)
 with_operand names.Brst word = option_map (with_number ops.Brst) (numeral_up_to 47 word)
-with_operand names.Isol word = option_and_then (two_numbers ops.Isol) (parted 44 word)
-with_operand names.Insr word = option_and_then (two_numbers ops.Insr) (parted 44 word)
+with_operand names.Isol word = option_and_then (two_numbers (field_operator false)) (parted 44 word)
+with_operand names.Insr word = option_and_then (two_numbers (field_operator true)) (parted 44 word)
 with_operand (names.Plain code) word = None
 
 abbrev pub is_plain : Mnemonic → Option sketch.Sketch
@@ -172,9 +189,13 @@ abbrev pub line_with : ℕ → List (List ℕ) → Option Line
 line_with number [] = None
 line_with number (word ∷ more) = Some (record { number = number; kind = kind_of word; says = says (kind_of word) word more })
 
--- a semicolon begins a comment; a card with nothing before it is ignored
+-- a semicolon begins a comment
+abbrev pub without_comment : List ℕ → List ℕ
+without_comment text = unwrap_or (option_map (λ p. p.0) (parted 59 text)) text
+
+-- a card with nothing before it is ignored
 abbrev pub line_of : Card → Option Line
-line_of card = line_with card.number (words (before_first (λ b. b == 59) card.text))
+line_of card = line_with card.number (words (without_comment card.text))
 
 abbrev pub lines_of : List Card → List Line
 lines_of cards = filter_map line_of cards

@@ -163,3 +163,10 @@ impl Lines {
         self.items.as_slice()
     }
 }
+
+/// What a name means: a segment or a data row, by its place among those of its kind, counted from 0.
+#[derive(Clone, Copy, Debug)]
+pub enum Named {
+    Segment { number: u32, level: Option<u8> },
+    Row { number: u32 },
+}

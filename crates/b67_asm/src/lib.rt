@@ -1,0 +1,7 @@
+//! The assembler: the codefile that cards denote.
+#![tactic(auto)]
+
+mod number;
+mod statement;
+
+
