@@ -1,13 +1,14 @@
 // What an assembly card says by itself.
-ghost use Rattle.std.specs.Prelude.{◌≡◌, ◌∷◌, ◌++◌, ◌<◌, ◌≤◌, ◌^◌, map, IfOk, IfSome, Some, None, slice_index, length};
+ghost use Rattle.std.specs.Prelude.{◌≡◌, ◌-◌, [], ◌∷◌, ◌≤◌, map, take, IfOk, IfSome, length};
 ghost use Rattle.std.specs.Option.{option_and_then};
 ghost use Rattle.b67_text.specs.declared.assembly.Mnemonic.TheVariants as names;
+ghost use Rattle.b67_text.specs.Answers.{or_reason};
 ghost use Rattle.b67_text.specs.Command.{row_of, parted};
 ghost use Rattle.b67_text.specs.Statements as spec;
-ghost use Rattle.b67_asm.specs.Rows.{keyed};
+ghost use Rattle.b67_asm.specs.Rows.{keyed, ValuesPut};
 
 use crate::number::{bits_in, numeral_up_to};
-use b67_card::{is_name, parted, words};
+use b67_card::{name, parted, words};
 use b67_model::{Code, Op};
 use b67_text::{Branch, Call, Card, Kind, Line, Lines, Mnemonic, Name, Sketch, Statement, Values};
 use b67_word::Couple;
@@ -84,39 +85,22 @@ fn mnemonic_of(word: &[u8]) -> Option<Mnemonic>
 fn jump_to(branch: Branch, word: &[u8]) -> Option<Sketch>
     ensures { result ≡ spec.jump_to branch word.now }
 {
-    if is_name(word) {
-        Some(Sketch::Jump {
-            branch,
-            label: Name::new(word),
-        })
-    } else {
-        None
-    }
+    let label = name(word)?;
+    Some(Sketch::Jump { branch, label })
 }
 
 fn pcw_of(word: &[u8]) -> Option<Sketch>
     ensures { result ≡ spec.pcw_of word.now }
 {
-    if is_name(word) {
-        Some(Sketch::Pcw {
-            segment: Name::new(word),
-        })
-    } else {
-        None
-    }
+    let segment = name(word)?;
+    Some(Sketch::Pcw { segment })
 }
 
 fn row_call(call: Call, word: &[u8]) -> Option<Sketch>
     ensures { result ≡ spec.row_call call word.now }
 {
-    if is_name(word) {
-        Some(Sketch::Row {
-            call,
-            row: Name::new(word),
-        })
-    } else {
-        None
-    }
+    let row = name(word)?;
+    Some(Sketch::Row { call, row })
 }
 
 fn couple_of(level: Option<u64>, disp: Option<u64>) -> Option<Couple>
@@ -266,4 +250,202 @@ fn sketch_of(mnemonic: Mnemonic, operands: &[&[u8]]) -> Option<Sketch>
             }
         }
     }
+}
+
+fn segment_at(word: &[u8], level: &[u8]) -> Option<Statement>
+    ensures { result ≡ spec.segment (word.now ∷ level.now ∷ []) }
+{
+    let name = name(word)?;
+    match numeral_up_to(level, 255)? {
+        Some(n) => Some(Statement::Segment {
+            name,
+            level: Some(n as u8),
+        }),
+        None => Some(Statement::Segment { name, level: None }),
+    }
+}
+
+fn segment(parameters: &[&[u8]]) -> Option<Statement>
+    ensures { result ≡ spec.segment (map (λ w. w.now) parameters.now) }
+{
+    match parameters {
+        [word, level] => segment_at(word, level),
+        _ => None,
+    }
+}
+
+fn row_named(word: &[u8]) -> Option<Statement>
+    ensures { result ≡ spec.row_named word.now }
+{
+    let name = name(word)?;
+    Some(Statement::Row { name })
+}
+
+fn row(parameters: &[&[u8]]) -> Option<Statement>
+    ensures { result ≡ spec.row (map (λ w. w.now) parameters.now) }
+{
+    match parameters {
+        [] => None,
+        [word, more @ ..] => { if more.is_empty() { row_named(word) } else { None } }
+    }
+}
+
+// Appends the words of a data row, and answers whether all are well formed.
+fn put_values(words: &[&[u8]], into: &mut Values) -> Result<bool, AllocError>
+    ensures { ValuesPut result (spec.all_bits (map (λ w. w.now) words.now)) into.old into.new }
+{
+    for word in words {
+        match bits_in(word) {
+            Some(value) => into.push(value)?,
+            None => return Ok(false),
+        }
+    }
+    Ok(true)
+}
+
+fn num(alloc: Global, words: &[&[u8]]) -> Result<Option<Statement>, AllocError>
+    ensures { IfOk result (λ o. o ≡ spec.num (map (λ w. w.now) words.now)) }
+{
+    if words.is_empty() {
+        return Ok(None);
+    }
+    let mut values = Values::new(alloc);
+    if put_values(words, &mut values)? {
+        Ok(Some(Statement::Values(values)))
+    } else {
+        Ok(None)
+    }
+}
+
+fn operator(label: Option<Name>, words: &[&[u8]]) -> Result<Statement, u8>
+    ensures { result ≡ spec.operator label (map (λ w. w.now) words.now) }
+{
+    match words {
+        [] => Err(1),
+        [key, operands @ ..] => match mnemonic_of(key) {
+            None => Err(1),
+            Some(mnemonic) => match sketch_of(mnemonic, operands) {
+                None => Err(2),
+                Some(sketch) => Ok(Statement::Operator { label, sketch }),
+            },
+        },
+    }
+}
+
+fn is_label(word: &[u8]) -> bool
+    ensures { result ≡ spec.is_label word.now }
+{
+    match word.last() {
+        Some(last) => *last == b':',
+        None => false,
+    }
+}
+
+fn labelled(words: &[&[u8]]) -> Result<Statement, u8>
+    ensures { result ≡ spec.labelled (map (λ w. w.now) words.now) }
+{
+    match words {
+        [] => Err(1),
+        [word, more @ ..] => {
+            if !is_label(word) {
+                return operator(None, words);
+            }
+            match name(without_last(word)) {
+                Some(label) => operator(Some(label), more),
+                None => Err(1),
+            }
+        }
+    }
+}
+
+fn without_last(word: &[u8]) -> &[u8]
+    ensures { result.now ≡ take (length word.now - 1) word.now }
+{
+    match word {
+        [front @ .., _] => front,
+        [] => word,
+    }
+}
+
+fn kind_of(word: &[u8]) -> Kind
+    ensures { result ≡ spec.kind_of word.now }
+{
+    match word {
+        b"SEGMENT" => Kind::Segment,
+        b"ROW" => Kind::Row,
+        b"NUM" => Kind::Numbers,
+        _ => Kind::Operator,
+    }
+}
+
+fn or_malformed(statement: Option<Statement>) -> Result<Statement, u8>
+    ensures { result ≡ or_reason statement 2 }
+{
+    match statement {
+        Some(statement) => Ok(statement),
+        None => Err(2),
+    }
+}
+
+fn statement_of(alloc: Global, words: &[&[u8]]) -> Result<Result<Statement, u8>, AllocError>
+    ensures { IfOk result (λ answer. answer ≡ spec.statement_of (map (λ w. w.now) words.now)) }
+{
+    match words {
+        [] => Ok(Err(1)),
+        [word, more @ ..] => match kind_of(word) {
+            Kind::Segment => Ok(or_malformed(segment(more))),
+            Kind::Row => Ok(or_malformed(row(more))),
+            Kind::Numbers => {
+                let statement = num(alloc, more)?;
+                Ok(or_malformed(statement))
+            }
+            Kind::Operator => Ok(labelled(words)),
+        },
+    }
+}
+
+fn without_comment(text: &[u8]) -> &[u8]
+    ensures { result.now ≡ spec.without_comment text.now }
+{
+    match parted(text, b';') {
+        Some((front, _)) => front,
+        None => text,
+    }
+}
+
+fn line_with(alloc: Global, number: u32, words: &[&[u8]]) -> Result<Option<Line>, AllocError>
+    ensures { IfOk result (λ o. o ≡ spec.line_with number (map (λ w. w.now) words.now)) }
+{
+    match words {
+        [] => Ok(None),
+        [word, ..] => {
+            let says = statement_of(alloc, words)?;
+            Ok(Some(Line {
+                number,
+                kind: kind_of(word),
+                says,
+            }))
+        }
+    }
+}
+
+fn line_of(alloc: Global, card: &Card) -> Result<Option<Line>, AllocError>
+    ensures { IfOk result (λ o. o ≡ spec.line_of card.now) }
+{
+    let words = words(alloc, without_comment(card.text.as_str().as_bytes()))?;
+    line_with(alloc, card.number, words.as_slice())
+}
+
+// The cards that aren't ignored, with what each says.
+pub fn lines_of(alloc: Global, cards: &[Card]) -> Result<Lines, AllocError>
+    ensures { IfOk result (λ lines. lines ≡ spec.lines_of cards.now) }
+{
+    let mut lines = Lines::new(alloc);
+    for card in cards {
+        match line_of(alloc, card)? {
+            Some(line) => lines.push(line)?,
+            None => {}
+        }
+    }
+    Ok(lines)
 }

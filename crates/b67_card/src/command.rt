@@ -9,7 +9,7 @@ ghost use Rattle.b67_text.specs.declared.deck.Keyword.TheVariants as keywords;
 ghost use Rattle.b67_card.specs.Said.{Says, IsPlain, command_of};
 ghost use Rattle.b67_card.specs.declared.command.Refused.TheVariants.{Memory};
 
-use crate::word::{is_name, number_in, parted, words};
+use crate::word::{name, number_in, parted, words};
 use b67_text::{Keyword, Name, Switch, Text};
 use std::alloc::{AllocError, Global};
 
@@ -147,10 +147,9 @@ fn switch(parameters: &[&[u8]]) -> Option<Command>
 fn job_named(word: &[u8]) -> Option<Command>
     ensures { option_map command_of result ≡ card.job_named word.now }
 {
-    if is_name(word) {
-        Some(Command::Job(Name::new(word)))
-    } else {
-        None
+    match name(word) {
+        Some(name) => Some(Command::Job(name)),
+        None => None,
     }
 }
 

@@ -6,7 +6,7 @@ use Rattle.std.specs.Str.{bytes_eq}
 use Rattle.b67_text.specs.declared.deck.Keyword as keyword
 use Rattle.b67_text.specs.declared.deck.Keyword.TheVariants as keywords
 use Rattle.b67_text.specs.Answers.{Answer, ◌>>=◌, ◌>>◌, needs, or_reason}
-use Rattle.b67_text.specs.Cards.{words, natural, is_name, is_empty}
+use Rattle.b67_text.specs.Cards.{words, natural, name_in, is_empty}
 
 pub data Command : Type 0 where
   Stack : (words : ℕ) → Command
@@ -58,7 +58,7 @@ switch (count ∷ word ∷ []) = option_and_then (λ n. option_map (λ t. Switch
 switch _ = None
 
 abbrev pub job_named : List ℕ → Option Command
-job_named word = if is_name word then Some (Job word) else None
+job_named word = option_map Job (name_in word)
 
 abbrev pub job : List (List ℕ) → Option Command
 job [] = None

@@ -22,7 +22,7 @@ use Rattle.b67_text.specs.declared.assembly.Kind as kind
 use Rattle.b67_text.specs.declared.assembly.Kind.TheVariants as kinds
 use Rattle.b67_text.specs.declared.assembly.Line.{Line}
 use Rattle.b67_text.specs.Answers.{Answer, ◌>>=◌, ◌>>◌, needs, or_reason}
-use Rattle.b67_text.specs.Cards.{words, natural, is_name, is_empty}
+use Rattle.b67_text.specs.Cards.{words, natural, name_in, is_empty}
 use Rattle.b67_text.specs.Hex.{hex_digit, digit_value}
 use Rattle.b67_text.specs.Command.{row_of, parted}
 
@@ -54,7 +54,7 @@ is_one None = false
 is_one (Some n) = n == 1
 
 abbrev pub row_call : call.Call → List ℕ → Option sketch.Sketch
-row_call c word = if is_name word then Some (RowCoupled c word) else None
+row_call c word = option_map (RowCoupled c) (name_in word)
 
 -- at level 1 the displacement may be a row's name
 abbrev pub call_at : call.Call → Option ℕ → List ℕ → Option (Option ℕ) → Option sketch.Sketch
@@ -65,10 +65,10 @@ abbrev pub couple_in : call.Call → List ℕ × List ℕ → Option sketch.Sket
 couple_in c p = option_and_then (λ level. call_at c level p.1 (numeral_up_to 16383 p.1)) (numeral_up_to 255 p.0)
 
 abbrev pub jump_to : branch.Branch → List ℕ → Option sketch.Sketch
-jump_to b word = if is_name word then Some (Jump b word) else None
+jump_to b word = option_map (Jump b) (name_in word)
 
 abbrev pub pcw_of : List ℕ → Option sketch.Sketch
-pcw_of word = if is_name word then Some (Pcw word) else None
+pcw_of word = option_map Pcw (name_in word)
 
 -- the operand of a negative number: bit 46 is its sign
 abbrev pub negative_bits : Option ℕ → Option (Option ℕ)
@@ -139,15 +139,15 @@ mnemonics =
     (codes "LT48", names.Lt48) ∷ (codes "MPCW", names.Mpcw) ∷ (codes "NOOP", names.Plain codes_of.Noop) ∷ (codes "NVLD", names.Plain codes_of.Nvld) ∷ []
 
 abbrev pub segment : List (List ℕ) → Option statement.Statement
-segment (name ∷ level ∷ []) = if is_name name then option_map (statements.Segment name) (numeral_up_to 255 level) else None
+segment (word ∷ level ∷ []) = option_and_then (λ name. option_map (statements.Segment name) (numeral_up_to 255 level)) (name_in word)
 segment _ = None
 
 abbrev pub row_named : List ℕ → Option statement.Statement
-row_named word = if is_name word then Some (statements.Row word) else None
+row_named word = option_map statements.Row (name_in word)
 
 abbrev pub row : List (List ℕ) → Option statement.Statement
 row [] = None
-row (name ∷ more) = if is_empty more then row_named name else None
+row (word ∷ more) = if is_empty more then row_named word else None
 
 abbrev pub all_bits : List (List ℕ) → Option (List (Option ℕ))
 all_bits [] = Some []
@@ -172,22 +172,29 @@ kind_of word =
 abbrev pub is_label : List ℕ → Bool
 is_label w = slice_index w (length w - 1) == 58
 
--- an operator, with a label before it where its first word ends in a colon
-abbrev pub labelled : List ℕ → List (List ℕ) → Answer statement.Statement
-labelled word more =
-    if is_label word
-    then (let label = take (length word - 1) word in needs (is_name label) 1 >> operator (Some label) more)
-    else operator None (word ∷ more)
+-- an operator with this label
+abbrev pub with_label : Option (List ℕ) → List (List ℕ) → Answer statement.Statement
+with_label None more = Err 1
+with_label (Some label) more = operator (Some label) more
 
-abbrev pub says : kind.Kind → List ℕ → List (List ℕ) → Answer statement.Statement
-says kinds.Segment word more = or_reason (segment more) 2
-says kinds.Row word more = or_reason (row more) 2
-says kinds.Numbers word more = or_reason (num more) 2
-says kinds.Operator word more = labelled word more
+-- an operator, with a label before it where its first word ends in a colon
+abbrev pub labelled : List (List ℕ) → Answer statement.Statement
+labelled [] = Err 1
+labelled (word ∷ more) = if is_label word then with_label (name_in (take (length word - 1) word)) more else operator None (word ∷ more)
+
+abbrev pub says : kind.Kind → List (List ℕ) → List (List ℕ) → Answer statement.Statement
+says kinds.Segment more all = or_reason (segment more) 2
+says kinds.Row more all = or_reason (row more) 2
+says kinds.Numbers more all = or_reason (num more) 2
+says kinds.Operator more all = labelled all
+
+abbrev pub statement_of : List (List ℕ) → Answer statement.Statement
+statement_of [] = Err 1
+statement_of (word ∷ more) = says (kind_of word) more (word ∷ more)
 
 abbrev pub line_with : ℕ → List (List ℕ) → Option Line
 line_with number [] = None
-line_with number (word ∷ more) = Some (record { number = number; kind = kind_of word; says = says (kind_of word) word more })
+line_with number (word ∷ more) = Some (record { number = number; kind = kind_of word; says = statement_of (word ∷ more) })
 
 -- a semicolon begins a comment
 abbrev pub without_comment : List ℕ → List ℕ
