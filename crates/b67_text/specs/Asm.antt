@@ -10,7 +10,7 @@ use Rattle.b67_word.specs.Couples.{couple_bits}
 use Rattle.b67_model.specs.declared.operators.Op.{Op}
 use Rattle.b67_model.specs.declared.operators.Op.TheVariants.{Valc, Namc, Mpcw, Brun, Brtr, Brfl}
 use Rattle.b67_model.specs.Operators.{place_at}
-use Rattle.b67_model.specs.Encoding.{syllable_after}
+use Rattle.b67_model.specs.Encoding.{has_bits}
 use Rattle.b67_model.specs.State as state
 use Rattle.b67_model.specs.Program.{Program}
 use Rattle.b67_text.specs.declared.card.Card.{Card}
@@ -30,13 +30,14 @@ use Rattle.b67_text.specs.declared.assembly.Line.{Line}
 use Rattle.b67_text.specs.Answers.{Answer, ◌>>=◌, ◌>>◌, needs, or_reason}
 use Rattle.b67_text.specs.Cards.{leading}
 use Rattle.b67_text.specs.Deck.{Refusal, of_card}
-use Rattle.b67_text.specs.Encoding.{code_of}
+use Rattle.b67_text.specs.Encoding.{laid_one, code_of}
 use Rattle.b67_text.specs.Statements.{lines_of}
 
 -- ---- names
 
+-- what each name means
 abbrev pub Names : Type 0
-Names = List (List ℕ × named.Named)
+Names = List ℕ → Option named.Named
 
 abbrev pub definition : ℕ → ℕ → Answer statement.Statement → Option (List ℕ × named.Named)
 definition s r (Ok (statements.Segment name level)) = Some (name, means.Segment s level)
@@ -52,7 +53,7 @@ rows_behind r (Ok (statements.Row name)) = r + 1
 rows_behind r _ = r
 
 -- the names that cards define, behind so many segments and data rows
-abbrev pub definitions : ℕ → ℕ → List Line → Names
+abbrev pub definitions : ℕ → ℕ → List Line → List (List ℕ × named.Named)
 definitions s r [] = []
 definitions s r (l ∷ more) = cons_option (definition s r l.says) (definitions (segments_behind s l.says) (rows_behind r l.says) more)
 
@@ -60,15 +61,19 @@ abbrev pub segment_count : ℕ → List Line → ℕ
 segment_count s [] = s
 segment_count s (l ∷ more) = segment_count (segments_behind s l.says) more
 
--- what a name or label means first
+-- what a name or label means: its first definition
 abbrev pub meaning : {A : Type 0} → List (List ℕ × A) → List ℕ → Option A
 meaning rows name = lookup (bytes_eq name) rows
+
+-- the syllable behind an operator that begins at syllable n
+abbrev pub next : ℕ → Op → ℕ
+next n op = n + length (laid_one n op)
 
 -- ---- the cards of a segment
 
 -- the syllable behind an operator that begins at syllable n
 abbrev pub behind : sketch.Sketch → ℕ → ℕ
-behind (Whole op) n = syllable_after op n
+behind (Whole op) n = next n op
 behind OutOfRange n = n
 behind (Coupled c couple) n = n + 2
 behind (RowCoupled c row) n = n + 2
@@ -93,20 +98,21 @@ pub record Scope : Type 0 where
   pub names : Names
   pub segments : ℕ
   pub level : ℕ
-  pub labels : List (List ℕ × ℕ)
+  pub labels : List ℕ → Option ℕ
 
 abbrev pub is_in_range : sketch.Sketch → Bool
+is_in_range (Whole op) = has_bits op
 is_in_range OutOfRange = false
 is_in_range _ = true
 
 -- a label's first place is this one
-abbrev pub is_first_label : List (List ℕ × ℕ) → ℕ → Option (List ℕ) → Bool
+abbrev pub is_place : ℕ → Option ℕ → Bool
+is_place n None = false
+is_place n (Some m) = m == n
+
+abbrev pub is_first_label : (List ℕ → Option ℕ) → ℕ → Option (List ℕ) → Bool
 is_first_label labels n None = true
-is_first_label labels n (Some label) = is_place n (meaning labels label)
-  where
-    is_place : ℕ → Option ℕ → Bool
-    is_place n None = false
-    is_place n (Some m) = m == n
+is_first_label labels n (Some label) = is_place n (labels label)
 
 -- a procedure's level is 31 at most
 abbrev pub pcw_in : Option named.Named → Option ℕ
@@ -119,12 +125,12 @@ row_in _ = None
 
 -- the names that a card uses are defined
 abbrev pub has_names : Names → sketch.Sketch → Bool
-has_names names (Pcw segment) = is_some (pcw_in (meaning names segment))
-has_names names (RowCoupled c row) = is_some (row_in (meaning names row))
+has_names names (Pcw segment) = is_some (pcw_in (names segment))
+has_names names (RowCoupled c row) = is_some (row_in (names row))
 has_names names _ = true
 
-abbrev pub has_label : List (List ℕ × ℕ) → sketch.Sketch → Bool
-has_label labels (Jump b label) = is_some (meaning labels label)
+abbrev pub has_label : (List ℕ → Option ℕ) → sketch.Sketch → Bool
+has_label labels (Jump b label) = is_some (labels label)
 has_label labels _ = true
 
 abbrev pub called : call.Call → ℕ → Op
@@ -142,9 +148,9 @@ abbrev pub denoted : Scope → sketch.Sketch → Option Op
 denoted x (Whole op) = Some op
 denoted x OutOfRange = None
 denoted x (Coupled c couple) = option_map (called c) (option_and_then (couple_bits (min x.level 31)) couple)
-denoted x (RowCoupled c row) = option_map (called c) (option_and_then (λ number. couple_bits (min x.level 31) (record { level = 1; disp = x.segments + number + 2 })) (row_in (meaning x.names row)))
-denoted x (Jump b label) = option_map (branch_to b) (meaning x.labels label)
-denoted x (Pcw segment) = option_map Mpcw (pcw_in (meaning x.names segment))
+denoted x (RowCoupled c row) = option_map (called c) (option_and_then (λ number. couple_bits (min x.level 31) (record { level = 1; disp = x.segments + number + 2 })) (row_in (x.names row)))
+denoted x (Jump b label) = option_map (branch_to b) (x.labels label)
+denoted x (Pcw segment) = option_map Mpcw (pcw_in (x.names segment))
 
 -- why a card is refused that stands in no block of its kind: a number, a name, or its place
 abbrev pub misplaced : Names → statement.Statement → ℕ
@@ -167,7 +173,7 @@ abbrev pub operators : Scope → ℕ → List Line → Result (List Op) Refusal
 operators x n [] = Ok []
 operators x n (l ∷ more) = do
   op ← of_card l.number (l.says >>= operator_of x n)
-  rest ← operators x (syllable_after op n) more
+  rest ← operators x (next n op) more
   Ok (op ∷ rest)
 
 -- ---- the cards of a data row
@@ -223,15 +229,15 @@ pub data Part : Type 0 where
 abbrev pub segment_part : Names → (segments s r number : ℕ) (name : List ℕ) (level : Option ℕ) → List Line → Result Part Refusal
 segment_part names segments s r number name level lines = do
   l ← of_card number (or_reason level 3)
-  of_card number (needs (is_segment_number s (meaning names name)) 4)
+  of_card number (needs (is_segment_number s (names name)) 4)
   of_card number (needs (list_any (λ l. not (is_numbers l.kind)) lines) 7)
   of_card number (needs (nat_lt (s + r) 255) 9)
-  ops ← operators (record { names = names; segments = segments; level = l; labels = labels 0 lines }) 0 lines
+  ops ← operators (record { names = names; segments = segments; level = l; labels = λ label. meaning (labels 0 lines) label }) 0 lines
   Ok (CodePart (record { level = l; code = code_of ops }))
 
 abbrev pub row_part : Names → (s r number : ℕ) (name : List ℕ) → List Line → Result Part Refusal
 row_part names s r number name lines = do
-  of_card number (needs (is_row_number r (meaning names name)) 4)
+  of_card number (needs (is_row_number r (names name)) 4)
   of_card number (needs (list_any (λ l. is_numbers l.kind) lines) 7)
   of_card number (needs (nat_lt (s + r) 255) 9)
   words ← row_words names 0 lines
@@ -263,5 +269,5 @@ no_strays names (l ∷ more) = if is_head l.kind then Ok tt else of_card l.numbe
 abbrev pub assembled : List Card → Result Program Refusal
 assembled cards =
     let all = lines_of cards in
-    let names = definitions 0 0 all in
+    let names : Names = λ name. meaning (definitions 0 0 all) name in
     no_strays names all >>= λ _. program_from names (segment_count 0 all) 0 0 all

@@ -1,8 +1,8 @@
 -- The code of a list of operators.
-use Rattle.std.specs.Prelude.{ℕ, ◌+◌, ◌-◌, ◌*◌, ◌%◌, List, [], ◌∷◌, ◌++◌, replicate, drop, Option, Some, None}
+use Rattle.std.specs.Prelude.{ℕ, ◌+◌, ◌-◌, ◌*◌, ◌%◌, List, [], ◌∷◌, ◌++◌, length, replicate, drop, Option, Some, None}
 use Rattle.std.specs.Int.{w64, to_be_bytes}
 use Rattle.b67_model.specs.declared.operators.Op.{Op}
-use Rattle.b67_model.specs.Encoding.{syllables, literal, syllable_after}
+use Rattle.b67_model.specs.Encoding.{syllables, literal}
 
 -- up to the next whole word from syllable n
 abbrev pub filling : ℕ → List ℕ
@@ -18,12 +18,12 @@ literal_part (Some bits) n = filling n ++ six_syllables bits
 
 -- an operator that begins at syllable n, with its literal
 abbrev pub laid_one : ℕ → Op → List ℕ
-laid_one n op = syllables op ++ literal_part (literal op) (n + 1)
+laid_one n op = syllables op ++ literal_part (literal op) (n + length (syllables op))
 
 -- the syllables of operators from syllable n on, up to a whole word
 abbrev pub laid : ℕ → List Op → List ℕ
 laid n [] = filling n
-laid n (op ∷ more) = laid_one n op ++ laid (syllable_after op n) more
+laid n (op ∷ more) = laid_one n op ++ laid (n + length (laid_one n op)) more
 
 -- six syllables to a word
 abbrev pub packed : List ℕ → List ℕ

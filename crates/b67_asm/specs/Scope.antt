@@ -1,0 +1,14 @@
+-- What the operators of a segment may name, as the assembler holds it.
+use denote.Bor.{Bor}
+use Rattle.std.specs.Prelude.{◌≡◌, ℕ, List, Result, Ok, Err}
+use Rattle.b67_text.specs.declared.assembly.Named.{Named}
+use Rattle.b67_text.specs.Deck.{Refusal}
+use Rattle.b67_text.specs.Asm as asm
+use Rattle.b67_asm.specs.Names.{name_entries, label_entries}
+use Rattle.b67_asm.specs.declared.operator.Scope.{Scope}
+
+abbrev pub names_in : List (Bor (List ℕ) × Named) → asm.Names
+names_in es = λ name. asm.meaning (name_entries es) name
+
+abbrev pub scope_of : Scope → asm.Scope
+scope_of x = record { names = names_in x.names.now.entries; segments = x.segments; level = x.level; labels = λ label. asm.meaning (label_entries x.labels.now.entries) label }

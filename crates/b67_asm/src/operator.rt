@@ -1,0 +1,149 @@
+// The operator that a card of a segment denotes.
+ghost use Rattle.std.specs.Prelude.{◌≡◌, ◌+◌, ◌*◌, ◌<◌, ◌≤◌, ◌^◌, ◌&&◌, not, min, is_some, IfSome, IfOk, IsTrue, Ok};
+ghost use Rattle.b67_word.specs.Couples.{couple_bits};
+ghost use Rattle.b67_model.specs.Encoding.{has_bits};
+ghost use Rattle.b67_text.specs.Asm as asm;
+ghost use Rattle.std.specs.List.{list_any};
+ghost use Rattle.b67_model.specs.Operators.{place_at};
+ghost use Rattle.b67_asm.specs.Names.{label_entries};
+ghost use Rattle.b67_asm.specs.Scope.{names_in};
+
+use crate::names::{meaning_of, place_of};
+use b67_model::Op;
+use b67_text::{Branch, Call, Named, Sketch, Statement, Values};
+use b67_word::{Couple, Place, bits_of};
+use indexmap::IndexMap;
+
+/// What the operators of a segment may name: names, labels, how many segments there are, and the segment's level.
+pub struct Scope<'a> {
+    pub names: &'a IndexMap<&'a [u8], Named>,
+    pub labels: &'a IndexMap<&'a [u8], u64>,
+    pub segments: u32,
+    pub level: u8,
+}
+
+fn pcw_in(named: Option<Named>) -> Option<u64>
+    ensures exact { result ≡ asm.pcw_in named }
+    ensures small { IfSome result (λ bits. bits < 2 ^ 48) }
+{
+    match named {
+        Some(Named::Segment {
+            number,
+            level: Some(level),
+        }) => {
+            if level <= 31 {
+                Some(u64::from(level) * 0x4000 + (u64::from(number) + 2))
+            } else {
+                None
+            }
+        }
+        _ => None,
+    }
+}
+
+fn row_in(named: Option<Named>) -> Option<u32>
+    ensures { result ≡ asm.row_in named }
+{
+    match named {
+        Some(Named::Row { number }) => Some(number),
+        _ => None,
+    }
+}
+
+fn has_bits(op: Op) -> bool
+    ensures { result ≡ has_bits op }
+{
+    match op {
+        Op::Valc(bits) | Op::Namc(bits) => bits < 0x4000,
+        Op::Lt48(bits) | Op::Mpcw(bits) => bits < 0x1_0000_0000_0000,
+        Op::Brun(place) | Op::Brtr(place) | Op::Brfl(place) => place.syllable < 8 && place.word < 0x2000,
+        _ => true,
+    }
+}
+
+fn is_in_range(sketch: &Sketch) -> bool
+    ensures { result ≡ asm.is_in_range sketch.now }
+{
+    match sketch {
+        Sketch::Whole(op) => has_bits(*op),
+        Sketch::OutOfRange => false,
+        _ => true,
+    }
+}
+
+pub fn has_names(names: &IndexMap<&[u8], Named>, sketch: &Sketch) -> bool
+    ensures { result ≡ asm.has_names (names_in names.now.entries) sketch.now }
+{
+    match sketch {
+        Sketch::Pcw { segment } => pcw_in(meaning_of(names, segment.as_str().as_bytes())).is_some(),
+        Sketch::Row { row, .. } => row_in(meaning_of(names, row.as_str().as_bytes())).is_some(),
+        _ => true,
+    }
+}
+
+fn has_label(labels: &IndexMap<&[u8], u64>, sketch: &Sketch) -> bool
+    ensures { result ≡ asm.has_label (λ label. asm.meaning (label_entries labels.now.entries) label) sketch.now }
+{
+    match sketch {
+        Sketch::Jump { label, .. } => place_of(labels, label.as_str().as_bytes()).is_some(),
+        _ => true,
+    }
+}
+
+fn called(call: Call, bits: u16) -> Op
+    requires { bits < 2 ^ 14 }
+    ensures exact { result ≡ asm.called call bits }
+    ensures fits { IsTrue (has_bits result) }
+{
+    match call {
+        Call::Value => Op::Valc(bits),
+        Call::Name => Op::Namc(bits),
+    }
+}
+
+fn place_at(syllable: u64) -> Place
+    requires { syllable ≤ 6 * 8191 }
+    ensures { result ≡ place_at syllable }
+{
+    Place {
+        word: (syllable / 6) as u16,
+        syllable: (syllable % 6) as u8,
+    }
+}
+
+fn branch_to(branch: Branch, syllable: u64) -> Op
+    ensures exact { result ≡ asm.branch_to branch syllable }
+    ensures fits { IsTrue (has_bits result) }
+{
+    let place = place_at(syllable.min(6 * 8_191));
+    match branch {
+        Branch::Always => Op::Brun(place),
+        Branch::IfTrue => Op::Brtr(place),
+        Branch::IfFalse => Op::Brfl(place),
+    }
+}
+
+fn has_none(values: &[Option<u64>]) -> bool
+    ensures { result ≡ list_any (λ v. not (is_some v)) values.now }
+{
+    values.iter().any(|v| v.is_none())
+}
+
+/// Why a card is refused that stands in no block of its kind.
+pub fn misplaced(names: &IndexMap<&[u8], Named>, statement: &Statement) -> u8
+    ensures { result ≡ asm.misplaced (names_in names.now.entries) statement.now }
+{
+    match statement {
+        Statement::Values(values) => { if has_none(values.as_slice()) { 3 } else { 6 } }
+        Statement::Operator { sketch, .. } => {
+            if !is_in_range(sketch) {
+                3
+            } else if has_names(names, sketch) {
+                6
+            } else {
+                5
+            }
+        }
+        _ => 6,
+    }
+}
