@@ -47,3 +47,7 @@ name_behind q (e ∷ es) k v = step (bytes_eq q e.0.now) e.1 _ _ _ (name_behind 
 pub copied_some : {X : Type 0} (o : Option (Bor X)) → is_some (option_copied o) ≡ is_some o
 copied_some None = refl
 copied_some (Some x) = refl
+
+pub none_copied : {X : Type 0} (o : Option (Bor X)) → is_some o ≡ false → option_copied o ≡ None
+none_copied None e = refl
+none_copied (Some x) e = absurd cc

@@ -1,5 +1,5 @@
 -- Syllables, six at a time.
-use Rattle.std.proofs.Common.{◌≡◌, ℕ, ◌+◌, ◌-◌, ◌*◌, ◌<◌, ◌≤◌, List, [], ◌∷◌, ◌++◌, map, length, take, drop, get_or, refl, sym, ap, subst, ◌∙◌, append_assoc, arith}
+use Rattle.std.proofs.Common.{◌≡◌, ℕ, ◌+◌, ◌-◌, ◌*◌, ◌^◌, ◌<◌, ◌≤◌, List, [], ◌∷◌, ◌++◌, map, length, take, drop, get_or, refl, sym, ap, subst, ◌∙◌, append_assoc, arith}
 use Rattle.std.specs.List.{AllByRecursion}
 use Rattle.std.proofs.lemmas.List.{take_all, length-drop, length-append, map-append}
 use Rattle.b67_word.specs.Tagged.{Tagged, contents}
@@ -42,3 +42,6 @@ all_behind xs x new e h p = subst (AllByRecursion (Bears 3)) (sym e) (all_one xs
 
 pub fewer : (xs : List Tagged) (x : Tagged) (rest : List ℕ) (new : List Tagged) (n : ℕ) → 6 ≤ length rest → new ≡ xs ++ x ∷ [] → 6 * length xs + length rest ≤ n → 6 * length new + length (take (length rest - 6) (drop 6 rest)) ≤ n
 fewer xs x rest new n le e h = omega (arith, ap length e, length-append xs (x ∷ []), ap length (rest_is 6 rest), length-drop 6 rest)
+
+pub below : (a b : ℕ) → a ≡ b → b < 2 ^ 48 → a < 2 ^ 48
+below a b e h = subst (λ (n : ℕ). n < 2 ^ 48) (sym e) h

@@ -1,8 +1,8 @@
 // The names and labels that cards define.
 ghost use Rattle.std.specs.Prelude.{◌≡◌, ℕ, List, [], ◌∷◌, IfOk, OnOk};
-ghost use Rattle.std.specs.Option.{option_or};
+ghost use Rattle.std.specs.Option.{option_or, option_map};
 ghost use Rattle.b67_text.specs.Asm.{meaning};
-ghost use Rattle.b67_asm.specs.Names.{name_entries, label_entries};
+ghost use Rattle.b67_asm.specs.Names.{name_entries, label_entries, defined_name};
 
 use b67_text::{Line, Named, Statement};
 use indexmap::IndexMap;
@@ -42,5 +42,15 @@ fn define<'a>(
     match names.insert(name, named) {
         Ok(_) => Ok(()),
         Err(_) => Err(AllocError),
+    }
+}
+
+fn name_of(statement: &Statement) -> Option<&[u8]>
+    ensures { option_map (λ b. b.now) result ≡ defined_name statement.now }
+{
+    match statement {
+        Statement::Segment { name, .. } => Some(name.as_str().as_bytes()),
+        Statement::Row { name } => Some(name.as_str().as_bytes()),
+        _ => None,
     }
 }

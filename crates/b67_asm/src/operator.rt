@@ -1,16 +1,17 @@
 // The operator that a card of a segment denotes.
-ghost use Rattle.std.specs.Prelude.{◌≡◌, ◌+◌, ◌*◌, ◌<◌, ◌≤◌, ◌^◌, ◌&&◌, not, min, is_some, IfSome, IfOk, IsTrue, Ok};
+ghost use Rattle.std.specs.Prelude.{◌≡◌, ◌+◌, ◌*◌, ◌<◌, ◌≤◌, ◌^◌, ◌&&◌, not, min, is_some, if◌then◌else◌, IfSome, IfOk, IsTrue, Ok};
 ghost use Rattle.b67_word.specs.Couples.{couple_bits};
 ghost use Rattle.b67_model.specs.Encoding.{has_bits};
 ghost use Rattle.b67_text.specs.Asm as asm;
 ghost use Rattle.std.specs.List.{list_any};
+ghost use Rattle.std.specs.Option.{option_map, option_and_then};
 ghost use Rattle.b67_model.specs.Operators.{place_at};
 ghost use Rattle.b67_asm.specs.Names.{label_entries};
 ghost use Rattle.b67_asm.specs.Scope.{names_in};
 
 use crate::names::{meaning_of, place_of};
 use b67_model::Op;
-use b67_text::{Branch, Call, Named, Sketch, Statement, Values};
+use b67_text::{Branch, Call, Name, Named, Sketch, Statement, Values};
 use b67_word::{Couple, Place, bits_of};
 use indexmap::IndexMap;
 
@@ -129,12 +130,19 @@ fn has_none(values: &[Option<u64>]) -> bool
     values.iter().any(|v| v.is_none())
 }
 
+fn misplaced_values(values: &Values) -> u8
+    ensures { result ≡ (if list_any (λ v. not (is_some v)) values.now then 3 else 6) }
+{
+    let values = values.as_slice();
+    if has_none(values) { 3 } else { 6 }
+}
+
 /// Why a card is refused that stands in no block of its kind.
 pub fn misplaced(names: &IndexMap<&[u8], Named>, statement: &Statement) -> u8
     ensures { result ≡ asm.misplaced (names_in names.now.entries) statement.now }
 {
     match statement {
-        Statement::Values(values) => { if has_none(values.as_slice()) { 3 } else { 6 } }
+        Statement::Values(values) => misplaced_values(values),
         Statement::Operator { sketch, .. } => {
             if !is_in_range(sketch) {
                 3
@@ -145,5 +153,43 @@ pub fn misplaced(names: &IndexMap<&[u8], Named>, statement: &Statement) -> u8
             }
         }
         _ => 6,
+    }
+}
+
+// The bits of a row's couple, at level 1.
+fn row_bits(segments: u32, number: u32, level: u8) -> Option<u16>
+    ensures exact { result ≡ couple_bits (min level 31) (record { level = 1; disp = segments + number + 2 }) }
+    ensures small { IfSome result (λ bits. bits < 2 ^ 14) }
+{
+    let disp = u64::from(segments) + u64::from(number) + 2;
+    if disp >= 0x2000 {
+        return None;
+    }
+    let couple = Couple {
+        level: 1,
+        disp: disp as u16,
+    };
+    match bits_of(couple, level.min(31)) {
+        Some(bits) => Some(bits),
+        None => None,
+    }
+}
+
+fn couple_call(call: Call, couple: Option<Couple>, level: u8) -> Option<Op>
+    ensures exact { result ≡ option_map (asm.called call) (option_and_then (couple_bits (min level 31)) couple) }
+    ensures fits { IfSome result (λ op. IsTrue (has_bits op)) }
+{
+    match bits_of(couple?, level.min(31)) {
+        Some(bits) => Some(called(call, bits)),
+        None => None,
+    }
+}
+
+fn is_first_label(labels: &IndexMap<&[u8], u64>, n: u64, label: &Option<Name>) -> bool
+    ensures { result ≡ asm.is_first_label (λ text. asm.meaning (label_entries labels.now.entries) text) n label.now }
+{
+    match label {
+        None => true,
+        Some(label) => place_of(labels, label.as_str().as_bytes()) == Some(n),
     }
 }
