@@ -33,12 +33,12 @@ next_word words w rest all new le grown bits h =
     let more : packed rest ≡ w.bits ∷ packed (drop 6 rest) = six_more rest le ∙ ap (λ (n : ℕ). n ∷ packed (drop 6 rest)) (sym bits) in
     ap (λ (l : List Tagged). contents l ++ packed (take (length rest - 6) (drop 6 rest))) grown ∙ ap (λ (l : List ℕ). contents (words ++ w ∷ []) ++ l) cut ∙ ap (λ (l : List ℕ). l ++ packed (drop 6 rest)) (map-append (λ (t : Tagged). t.bits) words (w ∷ [])) ∙ append_assoc (contents words) (w.bits ∷ []) (packed (drop 6 rest)) ∙ ap (λ (l : List ℕ). contents words ++ l) (sym more) ∙ h
 
-all_one : {P : Tagged → Type 0} (xs : List Tagged) (x : Tagged) → AllByRecursion P xs → P x → AllByRecursion P (xs ++ x ∷ [])
-all_one [] x h p = (p, tt)
-all_one (y ∷ ys) x h p = (h.0, all_one ys x h.1 p)
+all_one : (P : Tagged → Type 0) (xs : List Tagged) (x : Tagged) → AllByRecursion P xs → P x → AllByRecursion P (xs ++ x ∷ [])
+all_one P [] x h p = (p, tt)
+all_one P (y ∷ ys) x h p = (h.0, all_one P ys x h.1 p)
 
 pub all_behind : (xs : List Tagged) (x : Tagged) (new : List Tagged) → new ≡ xs ++ x ∷ [] → AllByRecursion (Bears 3) xs → Bears 3 x → AllByRecursion (Bears 3) new
-all_behind xs x new e h p = subst (AllByRecursion (Bears 3)) (sym e) (all_one xs x h p)
+all_behind xs x new e h p = subst (AllByRecursion (Bears 3)) (sym e) (all_one (Bears 3) xs x h p)
 
 pub fewer : (xs : List Tagged) (x : Tagged) (rest : List ℕ) (new : List Tagged) (n : ℕ) → 6 ≤ length rest → new ≡ xs ++ x ∷ [] → 6 * length xs + length rest ≤ n → 6 * length new + length (take (length rest - 6) (drop 6 rest)) ≤ n
 fewer xs x rest new n le e h = omega (arith, ap length e, length-append xs (x ∷ []), ap length (rest_is 6 rest), length-drop 6 rest)
