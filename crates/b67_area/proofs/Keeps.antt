@@ -3,7 +3,7 @@ use Rattle.std.specs.List.{slice_get}
 use Rattle.std.proofs.lemmas.Bool.{cond-true, cond-false, eq-eqb, ne_eqb, cases_lt}
 use Rattle.std.proofs.lemmas.Option.{same_Some, slice_get_within}
 use Rattle.std.proofs.Math.ListN.{length-set}
-use Rattle.b67_word.specs.Tagged.{Tagged, bits_at}
+use Rattle.b67_word.specs.Tagged.{Tagged, word, bits_at}
 use Rattle.b67_area.specs.declared.Info.{Info}
 use Rattle.b67_area.specs.declared.Kind.{Kind}
 use Rattle.b67_area.specs.declared.Kind.TheVariants.{Array, Row, Code}
@@ -103,7 +103,7 @@ hole_kind n x h g = omega arith
 
 area_kind : (a : Info) → a.words < 2 ^ 20 → a.owner < 2 ^ 20 → bits_at (head_word a) 46 2 ≢ 3
 area_kind a w o = by_kind a.kind where
-  by_kind : (k : Kind) → bits_at (link_word (kind_number k * 2 ^ 26 + a.words) a.owner) 46 2 ≢ 3
+  by_kind : (k : Kind) → bits_at (word 3 (kind_number k * 2 ^ 46 + a.words * 2 ^ 20 + a.owner)) 46 2 ≢ 3
   by_kind Array e = omega arith
   by_kind Row e = omega arith
   by_kind Code e = omega arith
@@ -144,3 +144,6 @@ module _ (core : List Tagged) (b h at : ℕ) where
         no_end [] x e q = absurd (q e)
         no_end (Area a ∷ ss) x e q = refl
         no_end (Hole m ∷ ss) x e q = absurd x
+
+pub all_above : (core : List Tagged) (low : ℕ) (ss : List Span) → IsDirectory core low ss → IsAbove core 152 0 low ss
+all_above core low ss d = record { laid = d.laid; spans = d.spans; ends = d.all; small = d.small; some = omega (arith, d.above) }

@@ -1,6 +1,6 @@
 //! Sectors in a file.
 
-ghost use Rattle.std.specs.Prelude.{◌≡◌, ◌≤◌, None};
+ghost use Rattle.std.specs.Prelude.{◌≡◌, ◌↔◌, ◌≤◌, ◌+◌, ◌-◌, ◌^◌, min, None, IsOk, IsTrue, OnOk, OnErr};
 ghost use Rattle.b67_backing.specs.declared.file.TheConstants.{SECTORS};
 
 use crate::Backing;
@@ -64,6 +64,26 @@ fn write_sector<F: Write + Seek>(file: &mut F, n: u32, from: &[u64; 30]) -> io::
     file.write_all(&bytes)
 }
 
+/// Reads a sector, and says whether it was read.
+fn reads<F: Read + Seek>(file: &mut Option<F>, n: u32, into: &mut [u64; 30]) -> bool
+    requires { 1 ≤ n }
+{
+    match file {
+        Some(file) => read_sector(file, n, into).is_ok(),
+        None => false,
+    }
+}
+
+/// Writes a sector, and says whether it was written.
+fn writes<F: Write + Seek>(file: &mut Option<F>, n: u32, from: &[u64; 30]) -> bool
+    requires { 1 ≤ n }
+{
+    match file {
+        Some(file) => write_sector(file, n, from).is_ok(),
+        None => false,
+    }
+}
+
 impl<F: Read + Write + Seek + Drop> FileBacking<F> {
     /// The sectors in the file at a path. It is created where it is missing.
     pub fn at<R: Files<File = F>>(rt: &R, path: &str) -> FileBacking<F>
@@ -75,6 +95,23 @@ impl<F: Read + Write + Seek + Drop> FileBacking<F> {
             calls: 0,
             faults: 0,
         }
+    }
+
+    /// Counts a call, and its failure where it wasn't done.
+    fn counted(&mut self, done: bool) -> Result<(), Failed>
+        ensures answer { IsOk result ↔ IsTrue done }
+        ensures calls { self.new.calls ≡ min (self.old.calls + 1) (2 ^ 64 - 1) }
+        ensures more { self.old.calls ≤ self.new.calls }
+        ensures ok { OnOk result (self.new.faults ≡ self.old.faults) }
+        ensures later { self.old.faults ≤ self.new.faults }
+        ensures failed { OnErr result (self.new.faults ≡ min (self.old.faults + 1) (2 ^ 64 - 1)) }
+    {
+        self.calls = self.calls.saturating_add(1);
+        if done {
+            return Ok(());
+        }
+        self.faults = self.faults.saturating_add(1);
+        Err(Failed)
     }
 }
 
@@ -92,28 +129,12 @@ impl<F: Read + Write + Seek + Drop> Backing for FileBacking<F> {
     }
 
     fn read(&mut self, n: u32, into: &mut [u64; 30]) -> Result<(), Failed> {
-        self.calls = self.calls.saturating_add(1);
-        let done = match &mut self.file {
-            Some(file) => read_sector(file, n, into).is_ok(),
-            None => false,
-        };
-        if done {
-            return Ok(());
-        }
-        self.faults = self.faults.saturating_add(1);
-        Err(Failed)
+        let done = reads(&mut self.file, n, into);
+        self.counted(done)
     }
 
     fn write(&mut self, n: u32, from: &[u64; 30]) -> Result<(), Failed> {
-        self.calls = self.calls.saturating_add(1);
-        let done = match &mut self.file {
-            Some(file) => write_sector(file, n, from).is_ok(),
-            None => false,
-        };
-        if done {
-            return Ok(());
-        }
-        self.faults = self.faults.saturating_add(1);
-        Err(Failed)
+        let done = writes(&mut self.file, n, from);
+        self.counted(done)
     }
 }

@@ -41,14 +41,14 @@ fn are_hex_digits(text: &[u8]) -> bool
     text.iter().all(|b| is_hex_digit(*b))
 }
 
-// An even number of digits.
+/// Whether a text is an even number of hexadecimal digits.
 pub fn is_hex(text: &[u8]) -> bool
     ensures { result ≡ is_hex text.now }
 {
     text.len() % 2 == 0 && are_hex_digits(text)
 }
 
-// Appends the bytes whose digits these are.
+/// Appends the bytes whose digits these are.
 #[tactic(auto, using(crate::proofs::Digits::two_digits, crate::proofs::Digits::no_two_digits))]
 pub fn put_digits(text: &[u8], into: &mut Bytes) -> Result<(), AllocError>
     ensures { OnOk result (into.new ≡ into.old ++ digit_bytes text.now) }

@@ -12,7 +12,7 @@ fn without_carriage_return(line: &[u8]) -> &[u8]
     }
 }
 
-// The line without the spaces at its end.
+/// The line without the spaces at its end.
 pub fn trimmed(line: &[u8]) -> &[u8]
     ensures { result.now ≡ trimmed line.now }
 {
@@ -29,7 +29,7 @@ fn newline_in(text: &[u8]) -> Option<usize>
     text.iter().position(|b| *b == b'\n')
 }
 
-// The first line, and what follows it.
+/// The first line, and what follows it.
 pub fn first_line(text: &[u8]) -> (&[u8], &[u8])
     requires { 0 < length text.now }
     ensures first { lines text.now ≡ result.0.now ∷ lines result.1.now }

@@ -1,11 +1,12 @@
 //! Admitting a program.
 
-ghost use Rattle.std.specs.Prelude.{◌≡◌, ◌≤◌, length, IfOk};
+ghost use Rattle.std.specs.Prelude.{◌≡◌, ◌≤◌, length, IfOk, IfErr};
 ghost use Rattle.b67_word.specs.Tagged.{contents};
 ghost use Rattle.b67_model.specs.Loader.{listing, refusals, refusals_of};
 ghost use Rattle.b67_codefile.specs.Spelling.{IsWithin};
 ghost use Rattle.b67_codefile.specs.Meaning.{program_of};
 ghost use Rattle.b67_load.specs.Broken.{listed, Finds};
+ghost use Rattle.b67_load.specs.Order.{TellsLeast};
 
 use crate::admitted::Admitted;
 use crate::entry::ORIGIN;
@@ -72,7 +73,9 @@ fn check(alloc: Global, file: &Codefile) -> Result<(), LoadFault>
 /// first refusal is told. A file that is refused is dropped.
 pub fn verify(alloc: Global, file: Codefile) -> Result<Admitted, LoadFault>
     requires { IsWithin file }
+    // There is no refusal, or else the first one is told, and this is the least by segment, then by place, then by rule.
     ensures exact { Finds result (refusals (program_of file)) }
+    ensures least { IfErr result (λ fault. TellsLeast fault (refusals (program_of file))) }
     ensures kept { IfOk result (λ admitted. admitted ≡ file) }
 {
     check(alloc, &file)?;

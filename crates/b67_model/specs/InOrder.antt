@@ -1,17 +1,41 @@
 -- When a state is in order: what each word of a frame may name, and what tasks, jobs and the session keep.
-use Rattle.std.specs.Prelude.{◌≡◌, ◌≢◌, ◌↔◌, ℕ, ◌+◌, ◌-◌, ◌^◌, ◌<◌, ◌≤◌, ◌==◌, Bool, false, nat_abs, List, [], ◌∷◌, ◌++◌, map, flat_map, reverse, length, sum_by, count_by, Option, Some, None, Contains, IsTrue, if◌then◌else◌, slice_get}
+-- Each item that speaks of a place of code takes what such a place must be as a parameter: `IsStart`, that an operator
+-- stands there, gives the whole order, and `IsSegment`, that its segment is one of the job, gives the items that any
+-- code words keep.
+use Rattle.std.specs.Prelude.{◌≡◌, ◌≢◌, ◌↔◌, ℕ, ◌+◌, ◌-◌, ◌^◌, ◌<◌, ◌≤◌, ◌==◌, Bool, false, nat_abs, List, [], ◌∷◌, ◌++◌, map, flat_map, reverse, length, sum_by, Option, Some, None, IsTrue, if◌then◌else◌, slice_get}
 use Rattle.std.specs.List.{AllByRecursion}
 use Rattle.b67_word.specs.declared.couples.Place.{Place}
 use Rattle.b67_model.specs.declared.operators.Op.{Op}
 use Rattle.b67_model.specs.Keyed.{keyed}
+use Rattle.b67_model.specs.Lists.{Has, total, how_many, Falls}
 use Rattle.b67_model.specs.Words as Words
 use Rattle.b67_model.specs.Words.{Word, Operand, Name, Ref, Row, Element, Original, Proc, Intrinsic}
-use Rattle.b67_model.specs.State.{Frame, Standing, Marked, Entered, Array, Condition, Ready, Awaits, WaitsAt, Task, Segment, Setting, Job, Course, Member, height}
+use Rattle.b67_model.specs.State.{Frame, Standing, Marked, Entered, Return, Array, Condition, Ready, Awaits, WaitsAt, Task, Segment, Setting, Job, Course, Member, height}
 use Rattle.b67_model.specs.Environment.{level_of_standing, level_of_frame, running}
 use Rattle.b67_model.specs.Endings.{is_ready}
 use Rattle.b67_model.specs.Loader.{listing, At}
 use Rattle.b67_model.specs.Schedule.{Switch, Session}
 use Rattle.b67_model.specs.Run.{live_tasks}
+
+-- what a place of a segment must be, for an activation of a level that goes on there
+abbrev pub Starts : Type 1
+Starts = (segment level : ℕ) → Place → Type 0
+
+-- a segment of the job, and a place that fits the fields of a control word
+pub record IsSegment (setting : Setting) (segment level : ℕ) (place : Place) : Type 0 where
+  pub from_one : 0 < segment
+  pub within : segment ≤ length setting.segments
+  pub word_fits : place.word < 2 ^ 13
+  pub syllable_fits : place.syllable < 2 ^ 3
+
+-- a start of a segment at which an operator stands, and the segment's level
+pub record IsStart (setting : Setting) (segment level : ℕ) (place : Place) : Type 0 where
+  pub from_one : 0 < segment
+  pub code : Segment
+  pub found : slice_get setting.segments (segment - 1) ≡ Some code
+  pub of_level : code.level ≡ level
+  pub op : Op
+  pub stands : Has (listing code.code) (At place op)
 
 -- a frame's identity and how it stands: what others may name of it
 abbrev pub Known : Type 0
@@ -33,110 +57,144 @@ abbrev pub critical_of : Option Task → ℕ
 critical_of None = 0
 critical_of (Some t) = t.critical
 
+-- the job's dictionary and the MCP's frame
+abbrev pub base : List Known
+base = (1, Entered 1 0 None) ∷ (0, Entered 0 0 None) ∷ []
+
 -- what is in reach of a task below its own frames: its parent's frames from the critical one down, and so on
 abbrev pub outer_reach : Job → ℕ → List ℕ → List Known
-outer_reach job critical [] = (1, Entered 1 0 None) ∷ (0, Entered 0 0 None) ∷ []
+outer_reach job critical [] = base
 outer_reach job critical (parent ∷ more) =
     let t = keyed (λ t. t.number) parent job.tasks in
     map known_of (from_frame critical (frames_of_task t)) ++ outer_reach job (critical_of t) more
+
+abbrev pub outer_of : Job → Task → List Known
+outer_of job t = outer_reach job t.critical t.parents
+
+abbrev pub reach_of : Job → Task → List Known
+reach_of job t = map known_of t.frames ++ outer_of job t
+
+abbrev pub known_numbers : List Known → List ℕ
+known_numbers reach = map (λ (k : Known). k.0) reach
+
+abbrev pub identities : List Frame → List ℕ
+identities frames = map (λ f. f.identity) frames
 
 abbrev pub IsEntered : Standing → Type 0
 IsEntered Marked = ⊥
 IsEntered (Entered level environment back) = Unit {0}
 
 -- an entered frame in reach
-abbrev pub NamesEntered : List Known → ℕ → Type 0
-NamesEntered reach identity = (standing : Standing) × Contains reach (identity, standing) × IsEntered standing
-
--- a start of a segment at which an operator stands, and the segment's level
-pub record IsStart (setting : Setting) (segment level : ℕ) (place : Place) : Type 0 where
-  pub code : Segment
-  pub found : slice_get setting.segments (segment - 1) ≡ Some code
-  pub of_level : code.level ≡ level
-  pub stands : (op : Op) × Contains (listing code.code) (At place op)
+pub record NamesEntered (reach : List Known) (identity : ℕ) : Type 0 where
+  pub standing : Standing
+  pub among : Has reach (identity, standing)
+  pub entered : IsEntered standing
 
 -- the array of a row or element copy
-pub record NamesArray (arrays : List Array) (reach : List Known) (array : ℕ) (a : Array) : Type 0 where
-  pub live : Contains arrays a
-  pub named : a.identity ≡ array
-  pub owner : NamesEntered reach a.owner
+pub record NamesArray (arrays : List Array) (reach : List Known) (array index : ℕ) : Type 0 where
+  pub item : Array
+  pub live : Has arrays item
+  pub named : item.identity ≡ array
+  pub owner : NamesEntered reach item.owner
+  pub inside : index < length item.numbers
 
--- what a word in a frame may be, by what is in the frame's reach
-abbrev pub WordInOrder : Setting → List Array → List Known → ℕ → Word → Type 0
-WordInOrder setting arrays reach owner (Operand bits) = bits < 2 ^ 48
-WordInOrder setting arrays reach owner (Name couple) = couple < 2 ^ 14
-WordInOrder setting arrays reach owner (Ref identity offset) = NamesEntered reach identity
-WordInOrder setting arrays reach owner (Row array) = (a : Array) × NamesArray arrays reach array a
-WordInOrder setting arrays reach owner (Element array index) = (a : Array) × NamesArray arrays reach array a × (index < length a.numbers)
-WordInOrder setting arrays reach owner (Original array) = (a : Array) × Contains arrays a × (a.identity ≡ array) × (a.owner ≡ owner)
-WordInOrder setting arrays reach owner (Proc segment level place) = (level ≤ 31) × IsStart setting segment level place
-WordInOrder setting arrays reach owner (Intrinsic number) = ⊥
-WordInOrder setting arrays reach owner (Words.Segment number) = ⊥
+-- the array of an original, in its owner
+pub record OwnsArray (arrays : List Array) (owner array : ℕ) : Type 0 where
+  pub item : Array
+  pub live : Has arrays item
+  pub named : item.identity ≡ array
+  pub owned : item.owner ≡ owner
 
--- an entered frame of a task: its environment is another entered frame in reach, of the level below
-abbrev pub StandsInOrder : List Known → ℕ → Standing → Type 0
-StandsInOrder under identity Marked = Unit {0}
-StandsInOrder under identity (Entered level environment back) =
-    (2 ≤ level) × (level ≤ 31) × ((s : Standing) × Contains under (environment, s) × IsEntered s × (level_of_standing s + 1 ≡ level))
+-- what a word in a frame may be, by what is in the frame's reach. Only a couple makes the offset of a reference
+abbrev pub WordInOrder : Starts → List Array → List Known → ℕ → Word → Type 0
+WordInOrder P arrays reach owner (Operand bits) = bits < 2 ^ 48
+WordInOrder P arrays reach owner (Name couple) = couple < 2 ^ 14
+WordInOrder P arrays reach owner (Ref identity offset) = NamesEntered reach identity × (offset < 2 ^ 12)
+WordInOrder P arrays reach owner (Row array) = NamesArray arrays reach array 0
+WordInOrder P arrays reach owner (Element array index) = NamesArray arrays reach array index
+WordInOrder P arrays reach owner (Original array) = OwnsArray arrays owner array
+WordInOrder P arrays reach owner (Proc segment level place) = (level ≤ 31) × P segment level place
+WordInOrder P arrays reach owner (Intrinsic number) = ⊥
+WordInOrder P arrays reach owner (Words.Segment number) = ⊥
+
+-- the environment of an entered frame: another entered frame in reach, of the level below
+pub record EnvironmentInOrder (under : List Known) (level environment : ℕ) : Type 0 where
+  pub low : 2 ≤ level
+  pub high : level ≤ 31
+  pub standing : Standing
+  pub among : Has under (environment, standing)
+  pub entered : IsEntered standing
+  pub level_below : level_of_standing standing + 1 ≡ level
+
+abbrev pub StandsInOrder : List Known → Standing → Type 0
+StandsInOrder under Marked = Unit {0}
+StandsInOrder under (Entered level environment back) = EnvironmentInOrder under level environment
+
+-- a row or element copy of an array
+abbrev pub is_copy_of : ℕ → Word → Bool
+is_copy_of array (Row a) = a == array
+is_copy_of array (Element a index) = a == array
+is_copy_of array _ = false
+
+-- copies stand above their original: none lies under it
+abbrev pub NoCopyUnder : Word → List Word → Type 0
+NoCopyUnder (Original array) below = how_many (is_copy_of array) below ≡ 0
+NoCopyUnder _ below = Unit {0}
+
+abbrev pub CopiesAbove : List Word → Type 0
+CopiesAbove [] = Unit {0}
+CopiesAbove (w ∷ below) = NoCopyUnder w below × CopiesAbove below
+
+-- the cells of a frame from the top down
+abbrev pub CellsInOrder : Starts → List Array → List Known → ℕ → List Word → Type 0
+CellsInOrder P arrays reach owner cells = AllByRecursion (WordInOrder P arrays reach owner) cells × CopiesAbove cells
 
 -- the frames of a task from the top down, each by what lies under it
-abbrev pub FramesInOrder : Setting → List Array → List Known → List Frame → Type 0
-FramesInOrder setting arrays outer [] = Unit {0}
-FramesInOrder setting arrays outer (f ∷ below) =
-    AllByRecursion (WordInOrder setting arrays (map known_of (f ∷ below) ++ outer) f.identity) f.cells
-    × StandsInOrder (map known_of below ++ outer) f.identity f.standing
-    × FramesInOrder setting arrays outer below
+abbrev pub FramesInOrder : Starts → List Array → List Known → List Frame → Type 0
+FramesInOrder P arrays outer [] = Unit {0}
+FramesInOrder P arrays outer (f ∷ below) =
+    CellsInOrder P arrays (map known_of (f ∷ below) ++ outer) f.identity f.cells
+    × StandsInOrder (map known_of below ++ outer) f.standing
+    × FramesInOrder P arrays outer below
 
--- numbers that fall from below a bound
-abbrev pub Falls : ℕ → List ℕ → Type 0
-Falls bound [] = Unit {0}
-Falls bound (n ∷ more) = (n < bound) × Falls n more
+-- the last frame of the list is a task's bottom one, which is entered and which nothing returns from; all others that
+-- are entered return to a place for the frame that runs below
+abbrev pub ReturnsInOrder : Starts → Standing → List Frame → Type 0
+ReturnsInOrder P Marked below = below ≢ []
+ReturnsInOrder P (Entered level environment None) below = below ≡ []
+ReturnsInOrder P (Entered level environment (Some back)) below =
+    (below ≢ []) × P back.segment (level_of_frame (running below)) back.place
 
-abbrev pub known_numbers : List Known → List ℕ
-known_numbers reach = map (λ (k : Known). k.0) reach
+abbrev pub StackInOrder : Starts → List Frame → Type 0
+StackInOrder P [] = Unit {0}
+StackInOrder P (f ∷ below) = ReturnsInOrder P f.standing below × StackInOrder P below
 
--- the last frame of the list is a task's bottom one, which nothing returns from; all others that are entered return
--- to a start
-abbrev pub ReturnsInOrder : Setting → Standing → List Frame → Type 0
-ReturnsInOrder setting Marked below = below ≢ []
-ReturnsInOrder setting (Entered level environment None) below = below ≡ []
-ReturnsInOrder setting (Entered level environment (Some back)) below =
-    (below ≢ []) × IsStart setting back.segment (level_of_frame (running below)) back.place
-
-abbrev pub StackInOrder : Setting → List Frame → Type 0
-StackInOrder setting [] = Unit {0}
-StackInOrder setting (f ∷ below) = ReturnsInOrder setting f.standing below × StackInOrder setting below
-
--- a first task has number 1; another's parent is live, was born before it, and has the critical frame
+-- a first task has number 1 and the MCP's frame, which nobody leaves, as its critical one; another's parent is live, was born before it, and has the critical frame
 pub record ParentInOrder (job : Job) (t : Task) (number : ℕ) (above : List ℕ) : Type 0 where
   pub parent : Task
-  pub live : Contains job.tasks parent
-  pub named : parent.number ≡ number
+  pub found : keyed (λ t. t.number) number job.tasks ≡ Some parent
   pub line : parent.parents ≡ above
   pub older : number < t.number
-  pub frame : Frame
-  pub stands : Contains parent.frames frame
-  pub is_critical : frame.identity ≡ t.critical
+  pub is_critical : Has (identities parent.frames) t.critical
 
 abbrev pub BirthInOrder : Job → Task → List ℕ → Type 0
-BirthInOrder job t [] = t.number ≡ 1
+BirthInOrder job t [] = (t.number ≡ 1) × (t.critical ≡ 0)
 BirthInOrder job t (parent ∷ above) = ParentInOrder job t parent above
 
+-- a cell that is waited at lies in an entered frame of the task's reach
 abbrev pub ConditionInOrder : List Known → Condition → Type 0
 ConditionInOrder reach Ready = Unit {0}
 ConditionInOrder reach (Awaits n) = Unit {0}
-ConditionInOrder reach (WaitsAt frame offset) = NamesEntered reach frame
+ConditionInOrder reach (WaitsAt frame offset) = NamesEntered reach frame × (offset < 2 ^ 12)
 
-abbrev pub reach_of : Job → Task → List Known
-reach_of job t = map known_of t.frames ++ outer_reach job t.critical t.parents
-
-pub record TaskInOrder (setting : Setting) (job : Job) (t : Task) : Type 0 where
-  pub frames : FramesInOrder setting job.arrays (outer_reach job t.critical t.parents) t.frames
-  pub returns : StackInOrder setting t.frames
+-- identities fall along a task's reach
+pub record TaskInOrder (P : Starts) (setting : Setting) (job : Job) (t : Task) : Type 0 where
+  pub frames : FramesInOrder P job.arrays (outer_of job t) t.frames
+  pub returns : StackInOrder P t.frames
   pub some : t.frames ≢ []
   pub falls : Falls job.next_frame (known_numbers (reach_of job t))
   pub not_higher : height t.frames ≤ setting.stack_size
-  pub place : IsStart setting t.segment (level_of_frame (running t.frames)) t.place
+  pub place : P t.segment (level_of_frame (running t.frames)) t.place
   pub birth : BirthInOrder job t t.parents
   pub condition : ConditionInOrder (reach_of job t) t.condition
 
@@ -144,14 +202,26 @@ abbrev pub is_original_of : ℕ → Word → Bool
 is_original_of array (Original a) = a == array
 is_original_of array _ = false
 
-abbrev pub originals_of : ℕ → List Frame → ℕ
-originals_of array frames = sum_by (λ (f : Frame). count_by (is_original_of array) f.cells) frames
+-- the originals of an array in frames, in tasks, and in a whole job
+abbrev pub originals_in : ℕ → List Frame → ℕ
+originals_in array frames = total (λ (f : Frame). how_many (is_original_of array) f.cells) frames
 
-pub record ArrayInOrder (setting : Setting) (job : Job) (a : Array) : Type 0 where
+abbrev pub originals_of : ℕ → Setting → Job → ℕ
+originals_of array setting job =
+    how_many (is_original_of array) setting.dictionary.cells + total (λ (t : Task). originals_in array t.frames) job.tasks
+
+-- how many frames have an identity, in a list and in a whole job
+abbrev pub frames_named : ℕ → List Frame → ℕ
+frames_named identity frames = how_many (λ (f : Frame). f.identity == identity) frames
+
+abbrev pub frames_in_job : ℕ → Job → ℕ
+frames_in_job identity job = total (λ (t : Task). frames_named identity t.frames) job.tasks
+
+pub record ArrayInOrder (a : Array) : Type 0 where
   pub length_low : 0 < length a.numbers
   pub length_high : length a.numbers < 2 ^ 16
+  pub words : AllByRecursion (λ (n : ℕ). n < 2 ^ 48) a.numbers
   pub writes : (a.writable ≡ false) ↔ (a.owner ≡ 1)
-  pub once : originals_of a.identity (setting.dictionary ∷ flat_map (λ t. t.frames) job.tasks) ≡ 1
 
 -- the words of a dictionary: its segments, then the originals of its data rows
 abbrev pub rows_after : ℕ → List Word → Type 0
@@ -163,36 +233,87 @@ DictionaryWords n [] words = rows_after 1 words
 DictionaryWords n (s ∷ more) [] = ⊥
 DictionaryWords n (s ∷ more) (w ∷ words) = (w ≡ Words.Segment n) × DictionaryWords (n + 1) more words
 
+pub record SegmentInOrder (s : Segment) : Type 0 where
+  pub length_low : 0 < length s.code
+  pub length_high : length s.code < 2 ^ 13
+  pub words : AllByRecursion (λ (n : ℕ). n < 2 ^ 48) s.code
+
 pub record SettingInOrder (setting : Setting) : Type 0 where
   pub limit : setting.limit ≤ 100000000
   pub stack_low : 64 ≤ setting.stack_size
   pub stack_high : setting.stack_size < 2 ^ 14
-  pub segments : AllByRecursion (λ (s : Segment). (0 < length s.code) × (length s.code < 2 ^ 13)) setting.segments
+  pub segments : AllByRecursion SegmentInOrder setting.segments
   pub entries : length setting.dictionary.cells ≤ 255
+  pub named : setting.dictionary.identity ≡ 1
+  pub stands : setting.dictionary.standing ≡ Entered 1 0 None
   pub dictionary : DictionaryWords 1 setting.segments (reverse setting.dictionary.cells)
 
-pub record JobInOrder (setting : Setting) (c : Course) : Type 0 where
-  pub unchanging : SettingInOrder setting
-  pub tasks : AllByRecursion (TaskInOrder setting c.job) c.job.tasks
-  pub arrays : AllByRecursion (ArrayInOrder setting c.job) c.job.arrays
-  pub numbers : Falls c.job.next_task (map (λ t. t.number) c.job.tasks)
-  pub names : Falls c.job.next_array (map (λ a. a.identity) c.job.arrays)
-  pub few : length c.job.tasks ≤ 15
+-- a word of the dictionary: a segment, or the original of a live data row
+abbrev pub EntryInOrder : List Array → Word → Type 0
+EntryInOrder arrays (Operand bits) = ⊥
+EntryInOrder arrays (Name couple) = ⊥
+EntryInOrder arrays (Ref identity offset) = ⊥
+EntryInOrder arrays (Row array) = ⊥
+EntryInOrder arrays (Element array index) = ⊥
+EntryInOrder arrays (Original array) = OwnsArray arrays 1 array
+EntryInOrder arrays (Proc segment level place) = ⊥
+EntryInOrder arrays (Intrinsic number) = ⊥
+EntryInOrder arrays (Words.Segment number) = Unit {0}
+
+-- a job's tasks and arrays, without its counts of operators. No two live frames have one identity, and each array has
+-- one original
+pub record TasksInOrder (P : Starts) (setting : Setting) (job : Job) : Type 0 where
+  pub tasks : AllByRecursion (TaskInOrder P setting job) job.tasks
+  pub apart : (identity : ℕ) → frames_in_job identity job ≤ 1
+  pub arrays : AllByRecursion ArrayInOrder job.arrays
+  pub once : AllByRecursion (λ (a : Array). originals_of a.identity setting job ≡ 1) job.arrays
+  pub entries : AllByRecursion (EntryInOrder job.arrays) setting.dictionary.cells
+  pub numbers : Falls job.next_task (map (λ t. t.number) job.tasks)
+  pub names : Falls job.next_array (map (λ a. a.identity) job.arrays)
+  pub few : length job.tasks ≤ 15
+  pub reads : AllByRecursion (λ n. nat_abs n < 2 ^ 39) job.numbers
+
+-- the counts of a job but for its limit, as they stand before a step's last item of endings too
+pub record CountsInOrder (setting : Setting) (c : Course) : Type 0 where
   pub next : c.job.next_task ≤ c.made + 2
-  pub reads : AllByRecursion (λ n. nat_abs n < 2 ^ 39) c.job.numbers
   pub within : c.made ≤ setting.limit
-  pub goes_on : c.job.tasks ≢ [] → (c.made < setting.limit) × ((t : Task) × Contains c.job.tasks t × IsTrue (is_ready t))
+  pub goes_on : c.job.tasks ≢ [] → (t : Task) × Has c.job.tasks t × IsTrue (is_ready t)
+
+-- a job with live tasks has not reached its limit
+abbrev pub BelowLimit : Setting → Course → Type 0
+BelowLimit setting c = c.job.tasks ≢ [] → c.made < setting.limit
+
+pub record JobInOrder (P : Starts) (setting : Setting) (c : Course) : Type 0 where
+  pub unchanging : SettingInOrder setting
+  pub tasks : TasksInOrder P setting c.job
+  pub counts : CountsInOrder setting c
+  pub below_limit : BelowLimit setting c
 
 abbrev pub SwitchesRise : List Switch → Type 0
 SwitchesRise [] = Unit {0}
 SwitchesRise (a ∷ []) = Unit {0}
 SwitchesRise (a ∷ b ∷ more) = (a.count < b.count) × SwitchesRise (b ∷ more)
 
-pub record IsInOrder (s : Session) : Type 0 where
+-- jobs are numbered in order
+abbrev pub NumberedFrom : ℕ → List Member → Type 0
+NumberedFrom n [] = Unit {0}
+NumberedFrom n (m ∷ more) = (m.setting.number ≡ n) × NumberedFrom (n + 1) more
+
+-- the whole session, by what a place must be in each job
+pub record SessionInOrder (P : Setting → Starts) (s : Session) : Type 0 where
   pub few : length s.jobs ≤ 8
-  pub jobs : AllByRecursion (λ (m : Member). JobInOrder m.setting m.course) s.jobs
+  pub numbered : NumberedFrom 1 s.jobs
+  pub one_size : (stack : ℕ) × AllByRecursion (λ (m : Member). m.setting.stack_size ≡ stack) s.jobs
+  pub jobs : AllByRecursion (λ (m : Member). JobInOrder (P m.setting) m.setting m.course) s.jobs
   pub switches : SwitchesRise s.switches
   pub peak_low : live_tasks s.jobs ≤ s.peak
   pub peak_high : s.peak ≤ 120
   pub counted : s.made ≡ sum_by (λ (m : Member). m.course.made) s.jobs
   pub turn : s.turn ≤ s.made
+
+abbrev pub IsInOrder : Session → Type 0
+IsInOrder s = SessionInOrder IsStart s
+
+-- all but the items on places
+abbrev pub IsInOrderButPlaces : Session → Type 0
+IsInOrderButPlaces s = SessionInOrder IsSegment s

@@ -3,6 +3,7 @@ pub mod Words
 pub mod Operators
 pub mod Encoding
 pub mod Keyed
+pub mod Lists
 pub mod State
 pub mod Environment
 pub mod Cells

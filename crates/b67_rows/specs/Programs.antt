@@ -281,6 +281,94 @@ abbrev pub refused_row : List Segment
 refused_row =
     segment 2 (NAMC 0 10 ∷ NAMC 1 3 ∷ LOAD ∷ ENTR ∷ EXIT ∷ []) ∷ []
 
+-- a thunk that leaves without a value
+abbrev pub exit_for_a_value : List Segment
+exit_for_a_value =
+    segment 2 (MPCW 2 3 ∷ MKST ∷ NAMC 0 9 ∷ LT8 4 ∷ VALC 2 2 ∷ ENTR ∷ EXIT ∷ []) ∷
+    segment 3 (EXIT ∷ []) ∷ []
+
+-- a thunk that leaves without a word, under a LOAD
+abbrev pub exit_for_a_load : List Segment
+exit_for_a_load =
+    segment 2 (LT8 7 ∷ MPCW 2 3 ∷ MKST ∷ NAMC 0 9 ∷ NAMC 2 2 ∷ NAMC 2 3 ∷ LOAD ∷ ENTR ∷ EXIT ∷ []) ∷
+    segment 3 (EXIT ∷ []) ∷ []
+
+-- a thunk that returns a whole array
+abbrev pub row_for_a_value : List Segment
+row_for_a_value =
+    segment 2 (MKST ∷ NAMC 0 8 ∷ LT8 3 ∷ ENTR ∷ MPCW 2 3 ∷ VALC 2 3 ∷ EXIT ∷ []) ∷
+    segment 3 (NAMC 2 2 ∷ LOAD ∷ RETN ∷ []) ∷ []
+
+-- a thunk that returns an element
+abbrev pub element_for_a_value : List Segment
+element_for_a_value =
+    segment 2 (MKST ∷ NAMC 0 8 ∷ LT8 3 ∷ ENTR ∷ LT8 6 ∷ NAMC 2 2 ∷ ONE ∷ INDX ∷ STOD ∷ MPCW 2 3 ∷ MKST ∷ NAMC 0 9 ∷ VALC 2 3 ∷ ENTR ∷ EXIT ∷ []) ∷
+    segment 3 (NAMC 2 2 ∷ ONE ∷ INDX ∷ RETN ∷ []) ∷ []
+
+-- a LOAD that enters a procedure over a full stack
+abbrev pub full_load : List Segment
+full_load =
+    segment 2 (MPCW 2 3 ∷ ZERO ∷ ZERO ∷ ZERO ∷ ZERO ∷ ZERO ∷ ZERO ∷ ZERO ∷ ZERO ∷ ZERO ∷ ZERO ∷ ZERO ∷ ZERO ∷ ZERO ∷ ZERO ∷ ZERO ∷ ZERO ∷ ZERO ∷
+    ZERO ∷ ZERO ∷ ZERO ∷ ZERO ∷ ZERO ∷ ZERO ∷ ZERO ∷ ZERO ∷ ZERO ∷ ZERO ∷ ZERO ∷ ZERO ∷ ZERO ∷ ZERO ∷ ZERO ∷ ZERO ∷ ZERO ∷ ZERO ∷ ZERO ∷ ZERO ∷
+    ZERO ∷ ZERO ∷ ZERO ∷ ZERO ∷ ZERO ∷ ZERO ∷ ZERO ∷ ZERO ∷ ZERO ∷ ZERO ∷ ZERO ∷ ZERO ∷ ZERO ∷ ZERO ∷ ZERO ∷ ZERO ∷ ZERO ∷ ZERO ∷ ZERO ∷ ZERO ∷
+    ZERO ∷ ZERO ∷ NAMC 2 2 ∷ LOAD ∷ EXIT ∷ []) ∷
+    segment 3 (EXIT ∷ []) ∷ []
+
+-- the same with a cell less
+abbrev pub fuller_load : List Segment
+fuller_load =
+    segment 2 (MPCW 2 3 ∷ ZERO ∷ ZERO ∷ ZERO ∷ ZERO ∷ ZERO ∷ ZERO ∷ ZERO ∷ ZERO ∷ ZERO ∷ ZERO ∷ ZERO ∷ ZERO ∷ ZERO ∷ ZERO ∷ ZERO ∷ ZERO ∷ ZERO ∷
+    ZERO ∷ ZERO ∷ ZERO ∷ ZERO ∷ ZERO ∷ ZERO ∷ ZERO ∷ ZERO ∷ ZERO ∷ ZERO ∷ ZERO ∷ ZERO ∷ ZERO ∷ ZERO ∷ ZERO ∷ ZERO ∷ ZERO ∷ ZERO ∷ ZERO ∷ ZERO ∷
+    ZERO ∷ ZERO ∷ ZERO ∷ ZERO ∷ ZERO ∷ ZERO ∷ ZERO ∷ ZERO ∷ ZERO ∷ ZERO ∷ ZERO ∷ ZERO ∷ ZERO ∷ ZERO ∷ ZERO ∷ ZERO ∷ ZERO ∷ ZERO ∷ ZERO ∷ ZERO ∷
+    ZERO ∷ NAMC 2 2 ∷ LOAD ∷ EXIT ∷ []) ∷
+    segment 3 (EXIT ∷ []) ∷ []
+
+-- an array that is declared into the parameters of a call
+abbrev pub array_as_parameter : List Segment
+array_as_parameter =
+    segment 2 (MPCW 2 3 ∷ MKST ∷ NAMC 2 2 ∷ MKST ∷ NAMC 0 8 ∷ LT8 3 ∷ ENTR ∷ ENTR ∷ EXIT ∷ []) ∷
+    segment 3 (LT8 6 ∷ NAMC 3 2 ∷ ZERO ∷ INDX ∷ STOD ∷ MKST ∷ NAMC 0 9 ∷ NAMC 3 2 ∷ ZERO ∷ NXLV ∷ ENTR ∷ EXIT ∷ []) ∷ []
+
+-- PROCESS with a bad reference and an original behind it
+abbrev pub process_with_original : List Segment
+process_with_original =
+    segment 2 (MKST ∷ NAMC 0 12 ∷ NAMC 2 9 ∷ MKST ∷ NAMC 0 8 ∷ LT8 3 ∷ ENTR ∷ ENTR ∷ EXIT ∷ []) ∷ []
+
+-- PROCESS with a bad reference
+abbrev pub process_of_none : List Segment
+process_of_none =
+    segment 2 (MKST ∷ NAMC 0 12 ∷ NAMC 2 9 ∷ ENTR ∷ EXIT ∷ []) ∷ []
+
+-- AWAIT of a task that was never started
+abbrev pub awaits_none : List Segment
+awaits_none =
+    segment 2 (MKST ∷ NAMC 0 13 ∷ LT8 9 ∷ ENTR ∷ EXIT ∷ []) ∷ []
+
+-- AWAIT of the own number
+abbrev pub awaits_itself : List Segment
+awaits_itself =
+    segment 2 (MKST ∷ NAMC 0 13 ∷ ONE ∷ ENTR ∷ EXIT ∷ []) ∷ []
+
+-- STATUS of the own number
+abbrev pub own_status : List Segment
+own_status =
+    segment 2 (MKST ∷ NAMC 0 9 ∷ MKST ∷ NAMC 0 14 ∷ ONE ∷ ENTR ∷ ENTR ∷ EXIT ∷ []) ∷ []
+
+-- CAUSE of a cell that holds seven
+abbrev pub causes_seven : List Segment
+causes_seven =
+    segment 2 (LT8 7 ∷ MKST ∷ NAMC 0 16 ∷ NAMC 2 2 ∷ ENTR ∷ MKST ∷ NAMC 0 9 ∷ VALC 2 2 ∷ ENTR ∷ EXIT ∷ []) ∷ []
+
+-- a RETN of the outer block
+abbrev pub returns_at_bottom : List Segment
+returns_at_bottom =
+    segment 2 (ONE ∷ RETN ∷ []) ∷ []
+
+-- a RETN of the outer block without a word
+abbrev pub returns_nothing : List Segment
+returns_nothing =
+    segment 2 (RETN ∷ []) ∷ []
+
 -- a data row whose element isn't whole, printed
 abbrev pub row_with_bits : List Segment
 row_with_bits =

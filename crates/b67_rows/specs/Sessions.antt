@@ -1,5 +1,5 @@
 -- The sessions of worked runs, and what is looked at in them.
-use Rattle.std.specs.Prelude.{ℕ, zero, suc, max, ℤ, List, [], ◌∷◌, Option, Some, None, unwrap_or}
+use Rattle.std.specs.Prelude.{ℕ, zero, suc, max, ℤ, List, [], ◌∷◌, Option, Some, None, unwrap_or, map}
 use Rattle.b67_word.specs.declared.faults.Fault.{Fault}
 use Rattle.b67_word.specs.declared.faults.Ending.{Ending}
 use Rattle.b67_word.specs.declared.faults.Ending.TheVariants.{Faulted}
@@ -11,7 +11,8 @@ use Rattle.b67_model.specs.Run.{RunLine, Moment, start, next}
 use Rattle.b67_model.specs.Need.{need_next}
 use Rattle.b67_model.specs.Sectors.{sectors}
 use Rattle.b67_model.specs.Loader.{Refusal}
-use Rattle.b67_rows.specs.Programs.{sum, not_whole, refused_row, row_with_bits, branches_to}
+use Rattle.b67_model.specs.Apart.{makers_from}
+use Rattle.b67_rows.specs.Programs.{sum, endless, not_whole, refused_row, row_with_bits, branches_to}
 
 -- one job, by its program, stack size, limit, numbers for READ and the session's switches, with turns of a thousand
 abbrev pub one_job : Program → ℕ → ℕ → List ℤ → List Switch → Session
@@ -59,6 +60,15 @@ refused_row_program = record { segments = refused_row; rows = (5 ∷ []) ∷ [] 
 
 abbrev pub row_with_bits_program : Program
 row_with_bits_program = record { segments = row_with_bits; rows = (0x800000000000 ∷ []) ∷ [] }
+
+-- two jobs that loop, with turns of three operators
+abbrev pub two_loops : List Switch → Session
+two_loops switches =
+    start (opened 1 (without_rows endless) 512 1000 [] ∷ opened 2 (without_rows endless) 512 1000 [] ∷ []) switches 3
+
+-- the jobs that make the next n operators
+abbrev pub jobs_of : ℕ → Session → List ℕ
+jobs_of n s = map (λ w. w.job) (makers_from n (next s))
 
 -- the refusals of two words with a branch to a place
 abbrev pub branching : ℕ → ℕ → Program

@@ -3,6 +3,7 @@
 #![tactic(auto, unfolding(b67_model::specs::Rows::step, b67_model::specs::Endings::stepped, b67_model::specs::Alone::step_of, b67_model::specs::Run::next))]
 
 pub mod assembly;
+pub mod choices;
 pub mod decks;
 pub mod long;
 pub mod refusals;

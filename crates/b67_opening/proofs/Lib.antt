@@ -1,0 +1,4 @@
+mod Turned
+mod Rows
+mod First
+mod Opens

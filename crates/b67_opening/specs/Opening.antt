@@ -1,0 +1,53 @@
+-- The opening of a session, within the limits of a deck.
+use Rattle.std.specs.Prelude.{ℕ, ◌+◌, ◌^◌, ◌<◌, ◌≤◌, ℤ, nat_abs, List, [], ◌∷◌, length}
+use Rattle.std.specs.List.{AllByRecursion}
+use Rattle.b67_model.specs.State.{Member}
+use Rattle.b67_model.specs.Program.{Program, opened}
+use Rattle.b67_model.specs.Loader.{IsAdmitted}
+use Rattle.b67_model.specs.Schedule.{Switch, Session}
+use Rattle.b67_model.specs.Run.{start}
+use Rattle.b67_model.specs.InOrder.{SegmentInOrder, SwitchesRise, IsInOrder}
+
+-- the words of a data row
+pub record RowWithin (row : List ℕ) : Type 0 where
+  pub length_low : 0 < length row
+  pub length_high : length row < 2 ^ 16
+  pub words : AllByRecursion (λ (n : ℕ). n < 2 ^ 48) row
+
+-- a job of a deck: its program, its limit of operators and its numbers for READ
+pub record Opening : Type 0 where
+  pub program : Program
+  pub limit : ℕ
+  pub numbers : List ℤ
+
+-- an admitted program and numbers within their limits
+pub record OpeningWithin (o : Opening) : Type 0 where
+  pub admitted : IsAdmitted o.program
+  pub segments : AllByRecursion SegmentInOrder o.program.segments
+  pub rows : AllByRecursion RowWithin o.program.rows
+  pub few : length o.program.segments + length o.program.rows ≤ 255
+  pub limit_low : 0 < o.limit
+  pub limit_high : o.limit ≤ 100000000
+  pub numbers : AllByRecursion (λ (v : ℤ). nat_abs v < 2 ^ 39) o.numbers
+
+-- the jobs of a session from a number on
+abbrev pub opened_from : ℕ → ℕ → List Opening → List Member
+opened_from number stack [] = []
+opened_from number stack (o ∷ more) = opened number o.program stack o.limit o.numbers ∷ opened_from (number + 1) stack more
+
+abbrev pub opening : ℕ → ℕ → List Switch → List Opening → Session
+opening stack quantum switches openings = start (opened_from 1 stack openings) switches quantum
+
+-- what a deck within its limits asks for
+pub record DeckWithin (stack : ℕ) (switches : List Switch) (openings : List Opening) : Type 0 where
+  pub stack_low : 64 ≤ stack
+  pub stack_high : stack < 2 ^ 14
+  pub rise : SwitchesRise switches
+  pub few : length openings ≤ 8
+  pub each : AllByRecursion OpeningWithin openings
+
+-- the opening state of each deck whose programs are admitted is in order
+abbrev pub OpensInOrder : Type 0
+OpensInOrder =
+    (stack quantum : ℕ) (switches : List Switch) (openings : List Opening) → DeckWithin stack switches openings →
+    IsInOrder (opening stack quantum switches openings)
