@@ -40,7 +40,7 @@ all_one P (y ∷ ys) x h p = (h.0, all_one P ys x h.1 p)
 pub all_behind : (xs : List Tagged) (x : Tagged) (new : List Tagged) → new ≡ xs ++ x ∷ [] → AllByRecursion (Bears 3) xs → Bears 3 x → AllByRecursion (Bears 3) new
 all_behind xs x new e h p = subst (AllByRecursion (Bears 3)) (sym e) (all_one (Bears 3) xs x h p)
 
-pub fewer : (xs : List Tagged) (x : Tagged) (rest : List ℕ) (new : List Tagged) (n : ℕ) → 6 ≤ length rest → new ≡ xs ++ x ∷ [] → 6 * length xs + length rest ≤ n → 6 * length new + length (take (length rest - 6) (drop 6 rest)) ≤ n
+pub fewer : (xs : List Tagged) (x : Tagged) (rest : List ℕ) (new : List Tagged) (n : ℕ) → 6 ≤ length rest → new ≡ xs ++ x ∷ [] → 6 * length xs + length rest ≡ n → 6 * length new + length (take (length rest - 6) (drop 6 rest)) ≡ n
 fewer xs x rest new n le e h = omega (arith, ap length e, length-append xs (x ∷ []), ap length (rest_is 6 rest), length-drop 6 rest)
 
 pub below : (a b : ℕ) → a ≡ b → b < 2 ^ 48 → a < 2 ^ 48

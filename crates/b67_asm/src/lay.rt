@@ -14,7 +14,10 @@ use std::alloc::{AllocError, Global};
 
 // Fills up to the next whole word.
 pub fn fill(out: &mut Vec<u8>) -> Result<(), AllocError>
-    ensures { OnOk result (out.new.items ≡ out.old.items ++ filling (length out.old.items)) }
+    ensures filled { OnOk result (out.new.items ≡ out.old.items ++ filling (length out.old.items)) }
+    ensures whole { OnOk result (length out.new.items % 6 ≡ 0) }
+    ensures more { OnOk result (length out.old.items ≤ length out.new.items) }
+    ensures few { OnOk result (length out.old.items ≤ 6 * 8191 → length out.new.items ≤ 6 * 8191) }
 {
     while out.len() % 6 != 0 {
         out.push(0xFF)?;
@@ -35,9 +38,11 @@ fn put_literal(out: &mut Vec<u8>, literal: Option<u64>) -> Result<(), AllocError
 }
 
 // Appends an operator and its literal.
+#[tactic(auto, using(crate::proofs::Laid::some_syllable))]
 pub fn put(out: &mut Vec<u8>, op: Op) -> Result<(), AllocError>
     requires { IsTrue (has_bits op) }
-    ensures { OnOk result (out.new.items ≡ out.old.items ++ laid_one (length out.old.items) op) }
+    ensures laid { OnOk result (out.new.items ≡ out.old.items ++ laid_one (length out.old.items) op) }
+    ensures more { OnOk result (length out.old.items < length out.new.items) }
 {
     let mut syllables = ArrayVec::<u8, 3>::new();
     let literal = encode(op, &mut syllables);
@@ -60,7 +65,8 @@ fn word_bits(a: u8, b: u8, c: u8, d: u8, e: u8, f: u8) -> u64
 pub fn pack(alloc: Global, syllables: &[u8]) -> Result<Words, AllocError>
     ensures code { IfOk result (λ words. contents words ≡ packed syllables.now) }
     ensures tag { IfOk result (λ words. AllByRecursion (Bears 3) words) }
-    ensures count { IfOk result (λ words. 6 * length words ≤ length syllables.now) }
+    ensures most { IfOk result (λ words. 6 * length words ≤ length syllables.now) }
+    ensures least { IfOk result (λ words. length syllables.now < 6 * length words + 6) }
 {
     let mut words = Words::new(alloc);
     let mut rest = syllables;

@@ -1,13 +1,14 @@
 // The operator that a card of a segment denotes.
-ghost use Rattle.std.specs.Prelude.{◌≡◌, ◌+◌, ◌*◌, ◌<◌, ◌≤◌, ◌^◌, ◌&&◌, not, min, is_some, if◌then◌else◌, IfSome, IfOk, IsTrue, Ok};
+ghost use Rattle.std.specs.Prelude.{◌≡◌, ◌∷◌, ◌+◌, ◌*◌, ◌<◌, ◌≤◌, ◌^◌, ◌&&◌, not, min, is_some, if◌then◌else◌, IfSome, IfOk, IsTrue, Ok};
 ghost use Rattle.b67_word.specs.Couples.{couple_bits};
 ghost use Rattle.b67_model.specs.Encoding.{has_bits};
+ghost use Rattle.b67_model.specs.declared.operators.Op.TheVariants.{Mpcw};
 ghost use Rattle.b67_text.specs.Asm as asm;
 ghost use Rattle.std.specs.List.{list_any};
 ghost use Rattle.std.specs.Option.{option_map, option_and_then};
 ghost use Rattle.b67_model.specs.Operators.{place_at};
 ghost use Rattle.b67_asm.specs.Names.{label_entries};
-ghost use Rattle.b67_asm.specs.Scope.{names_in};
+ghost use Rattle.b67_asm.specs.Scope.{names_in, scope_of, IsOperator};
 
 use crate::names::{meaning_of, place_of};
 use b67_model::Op;
@@ -124,17 +125,32 @@ fn branch_to(branch: Branch, syllable: u64) -> Op
     }
 }
 
-fn has_none(values: &[Option<u64>]) -> bool
-    ensures { result ≡ list_any (λ v. not (is_some v)) values.now }
+fn is_word(value: Option<u64>) -> bool
+    ensures { result ≡ asm.is_word value }
 {
-    values.iter().any(|v| v.is_none())
+    match value {
+        None => false,
+        Some(bits) => bits < 0x1_0000_0000_0000,
+    }
 }
 
-fn misplaced_values(values: &Values) -> u8
-    ensures { result ≡ (if list_any (λ v. not (is_some v)) values.now then 3 else 6) }
+fn has_no_word(values: &[Option<u64>]) -> bool
+    ensures { result ≡ list_any (λ v. not (asm.is_word v)) values.now }
 {
-    let values = values.as_slice();
-    if has_none(values) { 3 } else { 6 }
+    values.iter().any(|v| !is_word(*v))
+}
+
+/// Whether one of the words is out of range.
+pub fn is_bad(first: Option<u64>, more: &[Option<u64>]) -> bool
+    ensures { result ≡ list_any (λ v. not (asm.is_word v)) (first ∷ more.now) }
+{
+    !is_word(first) || has_no_word(more)
+}
+
+fn misplaced_values(first: Option<u64>, more: &Values) -> u8
+    ensures { result ≡ (if list_any (λ v. not (asm.is_word v)) (first ∷ more.now) then 3 else 6) }
+{
+    if is_bad(first, more.as_slice()) { 3 } else { 6 }
 }
 
 /// Why a card is refused that stands in no block of its kind.
@@ -142,7 +158,7 @@ pub fn misplaced(names: &IndexMap<&[u8], Named>, statement: &Statement) -> u8
     ensures { result ≡ asm.misplaced (names_in names.now.entries) statement.now }
 {
     match statement {
-        Statement::Values(values) => misplaced_values(values),
+        Statement::Values { first, more } => misplaced_values(*first, more),
         Statement::Operator { sketch, .. } => {
             if !is_in_range(sketch) {
                 3
@@ -191,5 +207,76 @@ fn is_first_label(labels: &IndexMap<&[u8], u64>, n: u64, label: &Option<Name>) -
     match label {
         None => true,
         Some(label) => place_of(labels, label.as_str().as_bytes()) == Some(n),
+    }
+}
+
+fn row_operator(scope: &Scope, call: Call, row: &[u8]) -> Option<Op>
+    ensures exact { result ≡ option_map (asm.called call) (option_and_then (λ number. couple_bits (min scope.now.level 31) (record { level = 1; disp = scope.now.segments + number + 2 })) (asm.row_in (names_in scope.now.names.now.entries row.now))) }
+    ensures fits { IfSome result (λ op. IsTrue (has_bits op)) }
+{
+    match row_in(meaning_of(scope.names, row)) {
+        Some(number) => match row_bits(scope.segments, number, scope.level) {
+            Some(bits) => Some(called(call, bits)),
+            None => None,
+        },
+        None => None,
+    }
+}
+
+fn jump(labels: &IndexMap<&[u8], u64>, branch: Branch, label: &[u8]) -> Option<Op>
+    ensures exact { result ≡ option_map (asm.branch_to branch) (asm.meaning (label_entries labels.now.entries) label.now) }
+    ensures fits { IfSome result (λ op. IsTrue (has_bits op)) }
+{
+    match place_of(labels, label) {
+        Some(syllable) => Some(branch_to(branch, syllable)),
+        None => None,
+    }
+}
+
+fn pcw(names: &IndexMap<&[u8], Named>, segment: &[u8]) -> Option<Op>
+    ensures exact { result ≡ option_map Mpcw (asm.pcw_in (names_in names.now.entries segment.now)) }
+    ensures fits { IfSome result (λ op. IsTrue (has_bits op)) }
+{
+    match pcw_in(meaning_of(names, segment)) {
+        Some(bits) => Some(Op::Mpcw(bits)),
+        None => None,
+    }
+}
+
+fn denoted(scope: &Scope, sketch: &Sketch) -> Option<Op>
+    requires { IsTrue (asm.is_in_range sketch.now) }
+    ensures exact { result ≡ asm.denoted (scope_of scope.now) sketch.now }
+    ensures fits { IfSome result (λ op. IsTrue (has_bits op)) }
+{
+    match sketch {
+        Sketch::Whole(op) => Some(*op),
+        Sketch::OutOfRange => None,
+        Sketch::Couple { call, couple } => couple_call(*call, *couple, scope.level),
+        Sketch::Row { call, row } => row_operator(scope, *call, row.as_str().as_bytes()),
+        Sketch::Jump { branch, label } => jump(scope.labels, *branch, label.as_str().as_bytes()),
+        Sketch::Pcw { segment } => pcw(scope.names, segment.as_str().as_bytes()),
+    }
+}
+
+/// What a card of a segment writes at syllable n, None for a couple that doesn't fit, or the reason of 3 to 6 why the card
+/// is refused.
+pub fn operator_in(scope: &Scope, n: u64, statement: &Statement) -> Result<Option<Op>, u8>
+    ensures exact { IsOperator result (scope_of scope.now) n statement.now }
+    ensures fits { IfOk result (λ o. IfSome o (λ op. IsTrue (has_bits op))) }
+{
+    match statement {
+        Statement::Operator { label, sketch } => {
+            if !is_in_range(sketch) {
+                return Err(3);
+            }
+            if !is_first_label(scope.labels, n, label) {
+                return Err(4);
+            }
+            if !has_names(scope.names, sketch) || !has_label(scope.labels, sketch) {
+                return Err(5);
+            }
+            Ok(denoted(scope, sketch))
+        }
+        _ => Err(misplaced(scope.names, statement)),
     }
 }

@@ -306,14 +306,19 @@ fn put_values(words: &[&[u8]], into: &mut Values) -> Result<bool, AllocError>
 fn num(alloc: Global, words: &[&[u8]]) -> Result<Option<Statement>, AllocError>
     ensures { IfOk result (λ o. o ≡ spec.num (map (λ w. w.now) words.now)) }
 {
-    if words.is_empty() {
-        return Ok(None);
-    }
-    let mut values = Values::new(alloc);
-    if put_values(words, &mut values)? {
-        Ok(Some(Statement::Values(values)))
-    } else {
-        Ok(None)
+    match words {
+        [] => Ok(None),
+        [word, rest @ ..] => match bits_in(word) {
+            None => Ok(None),
+            Some(first) => {
+                let mut more = Values::new(alloc);
+                if put_values(rest, &mut more)? {
+                    Ok(Some(Statement::Values { first, more }))
+                } else {
+                    Ok(None)
+                }
+            }
+        },
     }
 }
 

@@ -1,5 +1,5 @@
 -- Assembly: the program that cards denote, or the first refused card with its lowest reason.
-use Rattle.std.specs.Prelude.{ℕ, ◌+◌, ◌*◌, ◌/◌, ◌^◌, ◌==◌, ◌&&◌, not, nat_le, nat_lt, min, Bool, true, false, List, [], ◌∷◌, ◌++◌, length, Option, Some, None, is_some, Result, Ok, Err, if◌then◌else◌, ⊤}
+use Rattle.std.specs.Prelude.{ℕ, ◌+◌, ◌*◌, ◌/◌, ◌^◌, ◌==◌, ◌&&◌, not, nat_le, nat_lt, min, Bool, true, false, List, [], ◌∷◌, ◌++◌, length, map, unwrap_or, Option, Some, None, is_some, Result, Ok, Err, if◌then◌else◌, ⊤}
 use Rattle.std.specs.List.{list_any, cons_option}
 use Rattle.std.specs.Option.{option_map, option_and_then}
 use Rattle.std.specs.Str.{bytes_eq}
@@ -10,7 +10,7 @@ use Rattle.b67_word.specs.Couples.{couple_bits}
 use Rattle.b67_model.specs.declared.operators.Op.{Op}
 use Rattle.b67_model.specs.declared.operators.Op.TheVariants.{Valc, Namc, Mpcw, Brun, Brtr, Brfl}
 use Rattle.b67_model.specs.Operators.{place_at}
-use Rattle.b67_model.specs.Encoding.{has_bits}
+use Rattle.b67_model.specs.Encoding.{has_bits, syllable_after}
 use Rattle.b67_model.specs.State as state
 use Rattle.b67_model.specs.Program.{Program}
 use Rattle.b67_text.specs.declared.card.Card.{Card}
@@ -73,7 +73,7 @@ next n op = n + length (laid_one n op)
 
 -- the syllable behind an operator that begins at syllable n
 abbrev pub behind : sketch.Sketch → ℕ → ℕ
-behind (Whole op) n = next n op
+behind (Whole op) n = syllable_after op n
 behind OutOfRange n = n
 behind (Coupled c couple) n = n + 2
 behind (RowCoupled c row) n = n + 2
@@ -152,11 +152,21 @@ denoted x (RowCoupled c row) = option_map (called c) (option_and_then (λ number
 denoted x (Jump b label) = option_map (branch_to b) (x.labels label)
 denoted x (Pcw segment) = option_map Mpcw (pcw_in (x.names segment))
 
+-- 48 bits
+abbrev pub is_word : Option ℕ → Bool
+is_word None = false
+is_word (Some v) = nat_lt v (2 ^ 48)
+
 -- why a card is refused that stands in no block of its kind: a number, a name, or its place
 abbrev pub misplaced : Names → statement.Statement → ℕ
-misplaced names (statements.Values values) = if list_any (λ v. not (is_some v)) values then 3 else 6
+misplaced names (statements.Values first more) = if list_any (λ v. not (is_word v)) (first ∷ more) then 3 else 6
 misplaced names (statements.Operator label sketch) = if not (is_in_range sketch) then 3 else (if has_names names sketch then 6 else 5)
 misplaced names _ = 6
+
+-- an operator that begins at syllable n, in 8,191 words; a couple that doesn't fit has two syllables too
+abbrev pub fitted : ℕ → Option Op → Answer Op
+fitted n None = needs (nat_le (n + 2) (6 * 8191)) 7 >> Err 8
+fitted n (Some op) = needs (nat_le (next n op) (6 * 8191)) 7 >> Ok op
 
 -- the operator of a segment's card that begins at syllable n
 abbrev pub operator_of : Scope → ℕ → statement.Statement → Answer Op
@@ -164,8 +174,7 @@ operator_of x n (statements.Operator label sketch) = do
   needs (is_in_range sketch) 3
   needs (is_first_label x.labels n label) 4
   needs (has_names x.names sketch && has_label x.labels sketch) 5
-  needs (nat_le (behind sketch n) (6 * 8191)) 7
-  or_reason (denoted x sketch) 8
+  fitted n (denoted x sketch)
 operator_of x n other = Err (misplaced x.names other)
 
 -- a segment's operators, in card order
@@ -178,17 +187,15 @@ operators x n (l ∷ more) = do
 
 -- ---- the cards of a data row
 
-abbrev pub all_some : List (Option ℕ) → Option (List ℕ)
-all_some [] = Some []
-all_some (None ∷ more) = None
-all_some (Some v ∷ more) = option_map (λ vs. v ∷ vs) (all_some more)
+abbrev pub value_in : Option ℕ → ℕ
+value_in v = unwrap_or v 0
 
 -- the words of a row's card behind n words
 abbrev pub values_of : Names → ℕ → statement.Statement → Answer (List ℕ)
-values_of names n (statements.Values values) = do
-  words ← or_reason (all_some values) 3
-  needs (nat_le (n + length words) 65535) 7
-  Ok words
+values_of names n (statements.Values first more) = do
+  needs (not (list_any (λ v. not (is_word v)) (first ∷ more))) 3
+  needs (nat_le (n + length (first ∷ more)) 65535) 7
+  Ok (map value_in (first ∷ more))
 values_of names n other = Err (misplaced names other)
 
 abbrev pub row_words : Names → ℕ → List Line → Result (List ℕ) Refusal

@@ -154,7 +154,8 @@ all_bits [] = Some []
 all_bits (w ∷ more) = let rest = all_bits more in option_and_then (λ n. option_map (λ ns. n ∷ ns) rest) (bits_in w)
 
 abbrev pub num : List (List ℕ) → Option statement.Statement
-num words = if is_empty words then None else option_map statements.Values (all_bits words)
+num [] = None
+num (word ∷ more) = option_and_then (λ first. option_map (statements.Values first) (all_bits more)) (bits_in word)
 
 abbrev pub operator : Option (List ℕ) → List (List ℕ) → Answer statement.Statement
 operator label [] = Err 1

@@ -102,7 +102,8 @@ pub enum Statement {
     /// Begins a segment, at no level where that is out of its range.
     Segment { name: Name, level: Option<u8> },
     Row { name: Name },
-    Values(Values),
+    /// One word of a data row or more.
+    Values { first: Option<u64>, more: Values },
     Operator { label: Option<Name>, sketch: Sketch },
 }
 
