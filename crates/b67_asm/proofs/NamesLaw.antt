@@ -2,6 +2,7 @@
 use denote.Bor.{Bor}
 use Rattle.std.proofs.Common.{◌≡◌, ℕ, Bool, true, false, cond, List, [], ◌∷◌, ◌++◌, map, Option, Some, None, is_some, refl, sym, ap, subst, ◌∙◌}
 use Rattle.std.specs.Option.{option_or, option_copied}
+use Rattle.std.specs.List.{cons_option}
 use Rattle.std.specs.Str.{bytes_eq}
 use Rattle.std.specs.Map.{lookup}
 use Rattle.std.proofs.lemmas.Slice.Eq.{bytes_eq-Decides}
@@ -19,7 +20,7 @@ lookup_behind q (x ∷ xs) ys = step (bytes_eq q x.0) x.1 (lookup (bytes_eq q) (
     step true v all front back h = refl
     step false v all front back h = h
 
-or_none : {X : Type 0} (o : Option X) → o ≡ option_or o None
+pub or_none : {X : Type 0} (o : Option X) → o ≡ option_or o None
 or_none None = refl
 or_none (Some x) = refl
 
@@ -51,3 +52,20 @@ copied_some (Some x) = refl
 pub none_copied : {X : Type 0} (o : Option (Bor X)) → is_some o ≡ false → option_copied o ≡ None
 none_copied None e = refl
 none_copied (Some x) e = absurd cc
+
+or_three : {X : Type 0} (a b c : Option X) → option_or (option_or a b) c ≡ option_or a (option_or b c)
+or_three None b c = refl
+or_three (Some x) b c = refl
+
+in_front : {X : Type 0} (q : List ℕ) (d : Option (List ℕ × X)) (rest : List (List ℕ × X)) → lookup (bytes_eq q) (cons_option d rest) ≡ option_or (lookup (bytes_eq q) (cons_option d [])) (lookup (bytes_eq q) rest)
+in_front q None rest = refl
+in_front q (Some p) rest = at (bytes_eq q p.0) p.1 (lookup (bytes_eq q) rest)
+  where
+    at : {B : Type 0} (b : Bool) (v : B) (more : Option B) → cond b (Some v) more ≡ option_or (cond b (Some v) None) more
+    at true v more = refl
+    at false v more = refl
+
+-- one definition more is taken in
+pub grown : {X : Type 0} (old new : List (List ℕ × X)) (d : Option (List ℕ × X)) (rest all : List (List ℕ × X)) → ((q : List ℕ) → lookup (bytes_eq q) new ≡ option_or (lookup (bytes_eq q) old) (lookup (bytes_eq q) (cons_option d []))) → ((q : List ℕ) → option_or (lookup (bytes_eq q) old) (lookup (bytes_eq q) (cons_option d rest)) ≡ lookup (bytes_eq q) all) → (q : List ℕ) → option_or (lookup (bytes_eq q) new) (lookup (bytes_eq q) rest) ≡ lookup (bytes_eq q) all
+grown old new d rest all step before q =
+    ap (λ o. option_or o (lookup (bytes_eq q) rest)) (step q) ∙ or_three (lookup (bytes_eq q) old) (lookup (bytes_eq q) (cons_option d [])) (lookup (bytes_eq q) rest) ∙ ap (option_or (lookup (bytes_eq q) old)) (sym (in_front q d rest)) ∙ before q

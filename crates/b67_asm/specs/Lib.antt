@@ -2,3 +2,4 @@ pub mod Bounds
 pub mod Rows
 pub mod Names
 pub mod Scope
+pub mod Putting
