@@ -3,3 +3,5 @@ pub mod Rows
 pub mod Names
 pub mod Scope
 pub mod Putting
+pub mod RowPutting
+pub mod Blocks

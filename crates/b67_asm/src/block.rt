@@ -1,0 +1,124 @@
+// Segments and data rows, each from its card and the cards behind it.
+ghost use Rattle.std.specs.Prelude.{◌≡◌, ◌+◌, ◌≤◌, ◌<◌, ◌^◌, not, length, drop};
+ghost use Rattle.std.specs.List.{list_any};
+ghost use Rattle.b67_text.specs.Asm as asm;
+ghost use Rattle.b67_asm.specs.Scope.{names_in};
+ghost use Rattle.b67_asm.specs.Blocks.{segment_head, row_head, SegmentPut, RowPartPut, PartPut, Grows};
+
+use crate::fault::AsmFault;
+use crate::names::{labels_of, meaning_of};
+use crate::operator::Scope;
+use crate::row::words_in;
+use crate::segment::code_in;
+use b67_codefile::{Codefile, Segment};
+use b67_text::{Kind, Line, Named, Statement};
+use b67_word::Words;
+use indexmap::IndexMap;
+use std::alloc::Global;
+
+/// A card that begins a segment or a data row, by its number and name, with what stands before it and its own cards.
+pub struct Block<'a> {
+    pub number: u32,
+    pub name: &'a [u8],
+    pub segments: usize,
+    pub rows: usize,
+    pub own: &'a [Line],
+}
+
+pub fn is_head(kind: Kind) -> bool
+    ensures { result ≡ asm.is_head kind }
+{
+    match kind {
+        Kind::Segment | Kind::Row => true,
+        Kind::Numbers | Kind::Operator => false,
+    }
+}
+
+fn is_numbers(kind: Kind) -> bool
+    ensures { result ≡ asm.is_numbers kind }
+{
+    match kind {
+        Kind::Numbers => true,
+        Kind::Segment | Kind::Row | Kind::Operator => false,
+    }
+}
+
+fn has_numbers(lines: &[Line]) -> bool
+    ensures { result ≡ list_any (λ l. asm.is_numbers l.kind) lines.now }
+{
+    lines.iter().any(|l| is_numbers(l.kind))
+}
+
+fn has_operator(lines: &[Line]) -> bool
+    ensures { result ≡ list_any (λ l. not (asm.is_numbers l.kind)) lines.now }
+{
+    lines.iter().any(|l| !is_numbers(l.kind))
+}
+
+// The cards of the segment or row at the front of these.
+pub fn own_of(lines: &[Line]) -> &[Line]
+    ensures { result.now ≡ asm.own lines.now }
+{
+    let mut count = 0;
+    while count < lines.len() && !is_head(lines[count].kind) {
+        count += 1;
+    }
+    &lines[..count]
+}
+
+fn is_segment_number(count: usize, named: Option<Named>) -> bool
+    ensures { result ≡ asm.is_segment_number count named }
+{
+    match named {
+        Some(Named::Segment { number, .. }) => number as usize == count,
+        _ => false,
+    }
+}
+
+fn is_row_number(count: usize, named: Option<Named>) -> bool
+    ensures { result ≡ asm.is_row_number count named }
+{
+    match named {
+        Some(Named::Row { number }) => number as usize == count,
+        _ => false,
+    }
+}
+
+fn level_of(names: &IndexMap<&[u8], Named>, block: &Block, level: Option<u8>) -> Result<u8, u8>
+    requires { block.now.segments + block.now.rows ≤ 255 }
+    ensures { result ≡ segment_head (names_in names.now.entries) block.now.segments block.now.rows block.now.name.now level block.now.own.now }
+{
+    match level {
+        None => Err(3),
+        Some(level) => {
+            if !is_segment_number(block.segments, meaning_of(names, block.name)) {
+                return Err(4);
+            }
+            if !has_operator(block.own) {
+                return Err(7);
+            }
+            if block.segments + block.rows < 255 {
+                Ok(level)
+            } else {
+                Err(9)
+            }
+        }
+    }
+}
+
+fn check_row(names: &IndexMap<&[u8], Named>, block: &Block) -> Result<(), u8>
+    requires { block.now.segments + block.now.rows ≤ 255 }
+    ensures { result ≡ row_head (names_in names.now.entries) block.now.segments block.now.rows block.now.name.now block.now.own.now }
+{
+    if !is_row_number(block.rows, meaning_of(names, block.name)) {
+        return Err(4);
+    }
+    if !has_numbers(block.own) {
+        return Err(7);
+    }
+    if block.segments + block.rows < 255 {
+        Ok(())
+    } else {
+        Err(9)
+    }
+}
