@@ -1,8 +1,9 @@
 // Segments and data rows, each from its card and the cards behind it.
-ghost use Rattle.std.specs.Prelude.{◌≡◌, ◌+◌, ◌≤◌, ◌<◌, ◌^◌, not, length, drop};
+ghost use Rattle.std.specs.Prelude.{◌≡◌, ◌+◌, ◌≤◌, ◌<◌, ◌^◌, not, length, [], OnOk, IfOk};
 ghost use Rattle.std.specs.List.{list_any};
 ghost use Rattle.b67_text.specs.Asm as asm;
-ghost use Rattle.b67_asm.specs.Scope.{names_in};
+ghost use Rattle.b67_asm.specs.Scope.{names_in, scope_at};
+ghost use Rattle.b67_asm.specs.Putting.{CodePut, syllables_behind};
 ghost use Rattle.b67_asm.specs.Blocks.{segment_head, row_head, SegmentPut, RowPartPut, PartPut, Grows};
 
 use crate::fault::AsmFault;
@@ -17,6 +18,7 @@ use indexmap::IndexMap;
 use std::alloc::Global;
 
 /// A card that begins a segment or a data row, by its number and name, with what stands before it and its own cards.
+#[derive(Clone, Copy)]
 pub struct Block<'a> {
     pub number: u32,
     pub name: &'a [u8],
@@ -84,9 +86,13 @@ fn is_row_number(count: usize, named: Option<Named>) -> bool
     }
 }
 
+#[tactic(auto, using(crate::proofs::Parts::any_some))]
 fn level_of(names: &IndexMap<&[u8], Named>, block: &Block, level: Option<u8>) -> Result<u8, u8>
     requires { block.now.segments + block.now.rows ≤ 255 }
-    ensures { result ≡ segment_head (names_in names.now.entries) block.now.segments block.now.rows block.now.name.now level block.now.own.now }
+    ensures exact { result ≡ segment_head (names_in names.now.entries) block.now.segments block.now.rows block.now.name.now level block.now.own.now }
+    ensures small { IfOk result (λ l. l < 2 ^ 8) }
+    ensures room { OnOk result (block.now.segments + block.now.rows < 255) }
+    ensures some { OnOk result (1 ≤ length block.now.own.now) }
 {
     match level {
         None => Err(3),
@@ -106,9 +112,12 @@ fn level_of(names: &IndexMap<&[u8], Named>, block: &Block, level: Option<u8>) ->
     }
 }
 
+#[tactic(auto, using(crate::proofs::Parts::any_some))]
 fn check_row(names: &IndexMap<&[u8], Named>, block: &Block) -> Result<(), u8>
     requires { block.now.segments + block.now.rows ≤ 255 }
-    ensures { result ≡ row_head (names_in names.now.entries) block.now.segments block.now.rows block.now.name.now block.now.own.now }
+    ensures exact { result ≡ row_head (names_in names.now.entries) block.now.segments block.now.rows block.now.name.now block.now.own.now }
+    ensures room { OnOk result (block.now.segments + block.now.rows < 255) }
+    ensures some { OnOk result (1 ≤ length block.now.own.now) }
 {
     if !is_row_number(block.rows, meaning_of(names, block.name)) {
         return Err(4);
@@ -120,5 +129,67 @@ fn check_row(names: &IndexMap<&[u8], Named>, block: &Block) -> Result<(), u8>
         Ok(())
     } else {
         Err(9)
+    }
+}
+
+// The code of a segment's own cards.
+fn segment_code(
+    alloc: Global,
+    names: &IndexMap<&[u8], Named>,
+    segments: u32,
+    level: u8,
+    own: &[Line],
+) -> Result<Words, AsmFault>
+    requires { length own.now < 2 ^ 31 }
+    ensures { CodePut result (syllables_behind [] (asm.operators (scope_at (names_in names.now.entries) segments level own.now) 0 own.now)) (length own.now) }
+{
+    let labels = labels_of(alloc, own)?;
+    let scope = Scope {
+        names,
+        labels: &labels,
+        segments,
+        level,
+    };
+    code_in(alloc, &scope, own)
+}
+
+fn segment_in(
+    alloc: Global,
+    names: &IndexMap<&[u8], Named>,
+    segments: u32,
+    block: &Block,
+    level: Option<u8>,
+) -> Result<Segment, AsmFault>
+    requires counts { block.now.segments + block.now.rows ≤ 255 }
+    requires small { length block.now.own.now < 2 ^ 31 }
+    ensures exact { SegmentPut result (asm.segment_part (names_in names.now.entries) segments block.now.segments block.now.rows block.now.number block.now.name.now level block.now.own.now) }
+    ensures room { OnOk result (block.now.segments + block.now.rows < 255) }
+{
+    match level_of(names, block, level) {
+        Ok(level) => match segment_code(alloc, names, segments, level, block.own) {
+            Ok(code) => Ok(Segment { level, code }),
+            Err(fault) => Err(fault),
+        },
+        Err(reason) => Err(AsmFault::Card {
+            card: block.number,
+            reason,
+        }),
+    }
+}
+
+fn row_in(alloc: Global, names: &IndexMap<&[u8], Named>, block: &Block) -> Result<Words, AsmFault>
+    requires { block.now.segments + block.now.rows ≤ 255 }
+    ensures exact { RowPartPut result (asm.row_part (names_in names.now.entries) block.now.segments block.now.rows block.now.number block.now.name.now block.now.own.now) }
+    ensures room { OnOk result (block.now.segments + block.now.rows < 255) }
+{
+    match check_row(names, block) {
+        Ok(()) => match words_in(alloc, names, block.own) {
+            Ok(words) => Ok(words),
+            Err(fault) => Err(fault),
+        },
+        Err(reason) => Err(AsmFault::Card {
+            card: block.number,
+            reason,
+        }),
     }
 }

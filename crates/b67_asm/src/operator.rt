@@ -17,6 +17,7 @@ use b67_word::{Couple, Place, bits_of};
 use indexmap::IndexMap;
 
 /// What the operators of a segment may name: names, labels, how many segments there are, and the segment's level.
+#[derive(Clone, Copy)]
 pub struct Scope<'a> {
     pub names: &'a IndexMap<&'a [u8], Named>,
     pub labels: &'a IndexMap<&'a [u8], u64>,
