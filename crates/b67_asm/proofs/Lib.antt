@@ -3,3 +3,4 @@ pub mod NamesLaw
 pub mod Laid
 pub mod Taking
 pub mod Parts
+pub mod Program

@@ -2,6 +2,7 @@
 use Rattle.std.specs.Prelude.{◌≡◌, ◌≤◌, ◌+◌, ℕ, not, nat_lt, List, [], ◌∷◌, ◌++◌, map, length, Option, Result, Ok, Err, ⊤}
 use Rattle.std.specs.List.{AllByRecursion, list_any}
 use Rattle.b67_word.specs.Tagged.{Tagged, contents}
+use Rattle.b67_model.specs.State as state
 use Rattle.b67_model.specs.Program.{Program}
 use Rattle.b67_codefile.specs.declared.file.Segment.{Segment}
 use Rattle.b67_codefile.specs.declared.file.Codefile.{Codefile}
@@ -60,6 +61,30 @@ abbrev pub PartPut : Result ⊤ AsmFault → Result asm.Part Refusal → Line �
 PartPut (Ok done) answer l old new = (part : asm.Part) × (answer ≡ Ok part) × Extends part old new × Grows new × (length new.segments ≡ asm.segments_behind (length old.segments) l.says) × (length new.rows ≡ asm.rows_behind (length old.rows) l.says)
 PartPut (Err (Card card reason)) answer l old new = answer ≡ Err (record { card = card; reason = reason })
 PartPut (Err Memory) answer l old new = Unit {0}
+
+-- a segment is put behind a codefile's
+abbrev pub SegmentAdded : Result ⊤ AsmFault → Result asm.Part Refusal → Codefile → Codefile → Type 0
+SegmentAdded (Ok done) answer old new = (s : state.Segment) × (answer ≡ Ok (asm.CodePart s)) × (map segment_of new.segments ≡ map segment_of old.segments ++ s ∷ []) × (new.rows ≡ old.rows) × (length new.segments ≡ length old.segments + 1) × Grows new
+SegmentAdded (Err (Card card reason)) answer old new = answer ≡ Err (record { card = card; reason = reason })
+SegmentAdded (Err Memory) answer old new = Unit {0}
+
+-- a data row is put behind a codefile's
+abbrev pub RowAdded : Result ⊤ AsmFault → Result asm.Part Refusal → Codefile → Codefile → Type 0
+RowAdded (Ok done) answer old new = (words : List ℕ) × (answer ≡ Ok (asm.RowPart words)) × (map contents new.rows ≡ map contents old.rows ++ words ∷ []) × (new.segments ≡ old.segments) × (length new.rows ≡ length old.rows + 1) × Grows new
+RowAdded (Err (Card card reason)) answer old new = answer ≡ Err (record { card = card; reason = reason })
+RowAdded (Err Memory) answer old new = Unit {0}
+
+-- the program of lines whose names mean this, or the first refused card
+abbrev pub with_names : asm.Names → List Line → Result Program Refusal
+with_names names all = asm.no_strays names all >>= λ _. asm.program_from names (asm.segment_count 0 all) 0 0 all
+
+abbrev pub assembled_lines : List Line → Result Program Refusal
+assembled_lines all = with_names (λ name. asm.meaning (asm.definitions 0 0 all) name) all
+
+abbrev pub IsChecked : Result ⊤ AsmFault → Result ⊤ Refusal → Type 0
+IsChecked (Ok done) answer = answer ≡ Ok tt
+IsChecked (Err (Card card reason)) answer = answer ≡ Err (record { card = card; reason = reason })
+IsChecked (Err Memory) answer = ⊥
 
 -- the codefile that the cards denote, or the first refused card
 abbrev pub IsAssembled : Result Codefile AsmFault → Result Program Refusal → Type 0

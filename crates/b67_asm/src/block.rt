@@ -4,11 +4,11 @@ ghost use Rattle.std.specs.List.{list_any};
 ghost use Rattle.b67_text.specs.Asm as asm;
 ghost use Rattle.b67_asm.specs.Scope.{names_in, scope_at};
 ghost use Rattle.b67_asm.specs.Putting.{CodePut, syllables_behind};
-ghost use Rattle.b67_asm.specs.Blocks.{segment_head, row_head, SegmentPut, RowPartPut, PartPut, Grows};
+ghost use Rattle.b67_asm.specs.Blocks.{segment_head, row_head, SegmentPut, RowPartPut, SegmentAdded, RowAdded, PartPut, Grows};
 
 use crate::fault::AsmFault;
 use crate::names::{labels_of, meaning_of};
-use crate::operator::Scope;
+use crate::operator::{Scope, misplaced};
 use crate::row::words_in;
 use crate::segment::code_in;
 use b67_codefile::{Codefile, Segment};
@@ -191,5 +191,105 @@ fn row_in(alloc: Global, names: &IndexMap<&[u8], Named>, block: &Block) -> Resul
             card: block.number,
             reason,
         }),
+    }
+}
+
+#[tactic(auto, using(crate::proofs::Parts::all_one))]
+fn put_segment(
+    alloc: Global,
+    names: &IndexMap<&[u8], Named>,
+    segments: u32,
+    block: &Block,
+    level: Option<u8>,
+    file: &mut Codefile,
+) -> Result<(), AsmFault>
+    requires grows { Grows file.old }
+    requires segments { block.now.segments ≡ length file.old.segments }
+    requires rows { block.now.rows ≡ length file.old.rows }
+    requires small { length block.now.own.now < 2 ^ 31 }
+    ensures { SegmentAdded result (asm.segment_part (names_in names.now.entries) segments block.now.segments block.now.rows block.now.number block.now.name.now level block.now.own.now) file.old file.new }
+{
+    match segment_in(alloc, names, segments, block, level) {
+        Ok(segment) => {
+            file.segments.push(segment)?;
+            Ok(())
+        }
+        Err(fault) => Err(fault),
+    }
+}
+
+#[tactic(auto, using(crate::proofs::Parts::all_one))]
+fn put_row(
+    alloc: Global,
+    names: &IndexMap<&[u8], Named>,
+    block: &Block,
+    file: &mut Codefile,
+) -> Result<(), AsmFault>
+    requires grows { Grows file.old }
+    requires segments { block.now.segments ≡ length file.old.segments }
+    requires rows { block.now.rows ≡ length file.old.rows }
+    ensures { RowAdded result (asm.row_part (names_in names.now.entries) block.now.segments block.now.rows block.now.number block.now.name.now block.now.own.now) file.old file.new }
+{
+    match row_in(alloc, names, block) {
+        Ok(words) => {
+            file.rows.push(words)?;
+            Ok(())
+        }
+        Err(fault) => Err(fault),
+    }
+}
+
+fn block_of<'a>(number: u32, name: &'a [u8], own: &'a [Line], file: &Codefile) -> Block<'a>
+    ensures number { result.number ≡ number }
+    ensures name { result.name.now ≡ name.now }
+    ensures own { result.own.now ≡ own.now }
+    ensures segments { result.segments ≡ length file.now.segments }
+    ensures rows { result.rows ≡ length file.now.rows }
+{
+    Block {
+        number,
+        name,
+        segments: file.segments.as_slice().len(),
+        rows: file.rows.as_slice().len(),
+        own,
+    }
+}
+
+/// Puts the segment or data row that a card begins behind those of a codefile.
+pub fn put_part(
+    alloc: Global,
+    names: &IndexMap<&[u8], Named>,
+    segments: u32,
+    line: &Line,
+    own: &[Line],
+    file: &mut Codefile,
+) -> Result<(), AsmFault>
+    requires grows { Grows file.old }
+    requires small { length own.now < 2 ^ 31 }
+    ensures { PartPut result (asm.part_of (names_in names.now.entries) segments (length file.old.segments) (length file.old.rows) line.now.number line.now.says own.now) line.now file.old file.new }
+{
+    match &line.says {
+        Err(reason) => Err(AsmFault::Card {
+            card: line.number,
+            reason: *reason,
+        }),
+        Ok(statement) => match statement {
+            Statement::Segment { name, level } => {
+                let block = block_of(line.number, name.as_str().as_bytes(), own, file);
+                put_segment(alloc, names, segments, &block, *level, file)
+            }
+            Statement::Row { name } => {
+                let block = block_of(line.number, name.as_str().as_bytes(), own, file);
+                put_row(alloc, names, &block, file)
+            }
+            Statement::Values { .. } => Err(AsmFault::Card {
+                card: line.number,
+                reason: misplaced(names, statement),
+            }),
+            Statement::Operator { .. } => Err(AsmFault::Card {
+                card: line.number,
+                reason: misplaced(names, statement),
+            }),
+        },
     }
 }

@@ -1,6 +1,7 @@
 //! The assembler: the codefile that cards denote.
 #![tactic(auto)]
 
+mod assembly;
 mod block;
 mod fault;
 mod lay;
@@ -10,3 +11,6 @@ mod operator;
 mod row;
 mod segment;
 mod statement;
+
+pub use assembly::assemble;
+pub use fault::AsmFault;
