@@ -18,7 +18,8 @@ use std::alloc::Global;
 // The lines from a place on.
 fn rest_from(lines: &[Line], from: usize) -> &[Line]
     requires { from ≤ length lines.now }
-    ensures { result.now ≡ drop from lines.now }
+    ensures rest { result.now ≡ drop from lines.now }
+    ensures short { length result.now ≤ length lines.now }
 {
     &lines[from..]
 }

@@ -59,7 +59,8 @@ fn has_operator(lines: &[Line]) -> bool
 
 // The cards of the segment or row at the front of these.
 pub fn own_of(lines: &[Line]) -> &[Line]
-    ensures { result.now ≡ asm.own lines.now }
+    ensures own { result.now ≡ asm.own lines.now }
+    ensures short { length result.now ≤ length lines.now }
 {
     let mut count = 0;
     while count < lines.len() && !is_head(lines[count].kind) {
