@@ -83,7 +83,11 @@ fn define_statement<'a>(
                 level: *level,
             },
         ),
-        Statement::Row { name } => define(names, name.as_str().as_bytes(), Named::Row { number: rows }),
+        Statement::Row { name } => define(
+            names,
+            name.as_str().as_bytes(),
+            Named::Row { number: rows },
+        ),
         Statement::Values { .. } => Ok(()),
         Statement::Operator { .. } => Ok(()),
     }
@@ -218,7 +222,10 @@ fn reach(n: u64, line: &Line) -> u64
 }
 
 /// What each name means: its first definition.
-pub fn names_of<'a>(alloc: Global, lines: &'a [Line]) -> Result<IndexMap<&'a [u8], Named>, AllocError>
+pub fn names_of<'a>(
+    alloc: Global,
+    lines: &'a [Line],
+) -> Result<IndexMap<&'a [u8], Named>, AllocError>
     requires { length lines.now < 2 ^ 31 }
     ensures { IfOk result (λ m. (q : List ℕ) → meaning (name_entries m.entries) q ≡ meaning (definitions 0 0 lines.now) q) }
 {
@@ -234,7 +241,10 @@ pub fn names_of<'a>(alloc: Global, lines: &'a [Line]) -> Result<IndexMap<&'a [u8
 }
 
 /// The syllable of each label: its first place.
-pub fn labels_of<'a>(alloc: Global, lines: &'a [Line]) -> Result<IndexMap<&'a [u8], u64>, AllocError>
+pub fn labels_of<'a>(
+    alloc: Global,
+    lines: &'a [Line],
+) -> Result<IndexMap<&'a [u8], u64>, AllocError>
     requires { length lines.now < 2 ^ 31 }
     ensures { IfOk result (λ m. (q : List ℕ) → meaning (label_entries m.entries) q ≡ meaning (labels 0 lines.now) q) }
 {

@@ -30,10 +30,12 @@ fn pcw_in(named: Option<Named>) -> Option<u64>
     ensures small { IfSome result (λ bits. bits < 2 ^ 48) }
 {
     match named {
-        Some(Named::Segment {
-            number,
-            level: Some(level),
-        }) => {
+        Some(
+            Named::Segment {
+                number,
+                level: Some(level),
+            },
+        ) => {
             if level <= 31 {
                 Some(u64::from(level) * 0x4000 + (u64::from(number) + 2))
             } else {
@@ -59,7 +61,8 @@ fn has_bits(op: Op) -> bool
     match op {
         Op::Valc(bits) | Op::Namc(bits) => bits < 0x4000,
         Op::Lt48(bits) | Op::Mpcw(bits) => bits < 0x1_0000_0000_0000,
-        Op::Brun(place) | Op::Brtr(place) | Op::Brfl(place) => place.syllable < 8 && place.word < 0x2000,
+        Op::Brun(place) | Op::Brtr(place) | Op::Brfl(place) => place.syllable < 8
+            && place.word < 0x2000,
         _ => true,
     }
 }

@@ -45,7 +45,11 @@ fn put_values(first: Option<u64>, more: &[Option<u64>], into: &mut Words) -> Res
     put_more(more, into)
 }
 
-fn put_statement(names: &IndexMap<&[u8], Named>, statement: &Statement, into: &mut Words) -> Result<(), Refused>
+fn put_statement(
+    names: &IndexMap<&[u8], Named>,
+    statement: &Statement,
+    into: &mut Words,
+) -> Result<(), Refused>
     requires { length into.old ≤ 65535 }
     ensures { WordsPut result (asm.values_of (names_in names.now.entries) (length into.old) statement.now) into.old into.new }
 {
@@ -80,7 +84,11 @@ fn put_line(names: &IndexMap<&[u8], Named>, line: &Line, into: &mut Words) -> Re
 }
 
 /// The words of a data row's cards, or the first refused card.
-pub fn words_in(alloc: Global, names: &IndexMap<&[u8], Named>, lines: &[Line]) -> Result<Words, AsmFault>
+pub fn words_in(
+    alloc: Global,
+    names: &IndexMap<&[u8], Named>,
+    lines: &[Line],
+) -> Result<Words, AsmFault>
     ensures { RowPut result (asm.row_words (names_in names.now.entries) 0 lines.now) (length lines.now) }
 {
     let mut words = Words::new(alloc);

@@ -130,7 +130,13 @@ fn couple_in(call: Call, level: &[u8], disp: &[u8]) -> Option<Sketch>
             call,
             couple: couple_of(level, n),
         }),
-        None => { if level == Some(1) { row_call(call, disp) } else { None } }
+        None => {
+            if level == Some(1) {
+                row_call(call, disp)
+            } else {
+                None
+            }
+        }
     }
 }
 
@@ -286,7 +292,13 @@ fn row(parameters: &[&[u8]]) -> Option<Statement>
 {
     match parameters {
         [] => None,
-        [word, more @ ..] => { if more.is_empty() { row_named(word) } else { None } }
+        [word, more @ ..] => {
+            if more.is_empty() {
+                row_named(word)
+            } else {
+                None
+            }
+        }
     }
 }
 
