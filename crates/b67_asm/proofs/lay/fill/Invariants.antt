@@ -1,0 +1,9 @@
+use Rattle.std.proofs.Common.{◌≡◌, ◌++◌, ◌≤◌, ◌-◌, ◌*◌, ◌%◌, length}
+use Rattle.b67_text.specs.Encoding.{filling}
+use Rattle.b67_asm.proofs.lay.fill.Given as goal
+
+abbrev pub invariant-loop-out : goal.invariant-loop-out
+invariant-loop-out l = (l.out.items ++ filling (length l.out.items) ≡ l.fn.out.items ++ filling (length l.fn.out.items)) × (length l.fn.out.items ≤ length l.out.items) × (length l.fn.out.items ≤ 6 * 8191 → length l.out.items ≤ 6 * 8191)
+
+abbrev pub decreases-loop-out : goal.decreases-loop-out
+decreases-loop-out l = (6 - length l.out.items % 6) % 6

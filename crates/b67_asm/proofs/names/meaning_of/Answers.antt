@@ -1,0 +1,6 @@
+use Rattle.std.proofs.Common.{◌≡◌, ◌∙◌}
+use Rattle.b67_asm.proofs.NamesLaw.{lookup_seen}
+use Rattle.b67_asm.proofs.names.meaning_of.Goals as goal
+
+pub returns : goal.returns
+returns c = c.copied.ensures ∙ c.get.ensures.value ∙ lookup_seen c.args.name.now c.args.names.now.entries

@@ -1,0 +1,93 @@
+-- What is known while segments and data rows are put into a codefile.
+use Rattle.std.specs.Prelude.{◌≡◌, ◌≤◌, ◌+◌, ℕ, not, nat_lt, List, [], ◌∷◌, ◌++◌, map, length, Option, Result, Ok, Err, ⊤}
+use Rattle.std.specs.List.{AllByRecursion, list_any}
+use Rattle.b67_word.specs.Tagged.{Tagged, contents}
+use Rattle.b67_model.specs.State as state
+use Rattle.b67_model.specs.Program.{Program}
+use Rattle.b67_codefile.specs.declared.file.Segment.{Segment}
+use Rattle.b67_codefile.specs.declared.file.Codefile.{Codefile}
+use Rattle.b67_codefile.specs.Spelling.{IsSegment, IsRow, IsWithin}
+use Rattle.b67_codefile.specs.Meaning.{segment_of, program_of}
+use Rattle.b67_text.specs.declared.assembly.Line.{Line}
+use Rattle.b67_text.specs.Answers.{Answer, ◌>>=◌, ◌>>◌, needs, or_reason}
+use Rattle.b67_text.specs.Deck.{Refusal}
+use Rattle.b67_text.specs.Asm as asm
+use Rattle.b67_asm.specs.declared.fault.AsmFault.{AsmFault}
+use Rattle.b67_asm.specs.declared.fault.AsmFault.TheVariants.{Card, Memory}
+
+-- what is refused of a segment's card, and its level
+abbrev pub segment_head : asm.Names → (s r : ℕ) (name : List ℕ) (level : Option ℕ) → List Line → Answer ℕ
+segment_head names s r name level lines = do
+  l ← or_reason level 3
+  needs (asm.is_segment_number s (names name)) 4
+  needs (list_any (λ l. not (asm.is_numbers l.kind)) lines) 7
+  needs (nat_lt (s + r) 255) 9
+  Ok l
+
+-- what is refused of a data row's card
+abbrev pub row_head : asm.Names → (s r : ℕ) (name : List ℕ) → List Line → Answer ⊤
+row_head names s r name lines = do
+  needs (asm.is_row_number r (names name)) 4
+  needs (list_any (λ l. asm.is_numbers l.kind) lines) 7
+  needs (nat_lt (s + r) 255) 9
+
+abbrev pub SegmentPut : Result Segment AsmFault → Result asm.Part Refusal → Type 0
+SegmentPut (Ok s) answer = (answer ≡ Ok (asm.CodePart (segment_of s))) × IsSegment s
+SegmentPut (Err (Card card reason)) answer = answer ≡ Err (record { card = card; reason = reason })
+SegmentPut (Err Memory) answer = Unit {0}
+
+abbrev pub RowPartPut : Result (List Tagged) AsmFault → Result asm.Part Refusal → Type 0
+RowPartPut (Ok words) answer = (answer ≡ Ok (asm.RowPart (contents words))) × IsRow words
+RowPartPut (Err (Card card reason)) answer = answer ≡ Err (record { card = card; reason = reason })
+RowPartPut (Err Memory) answer = Unit {0}
+
+-- a codefile that grows
+pub record Grows (f : Codefile) : Type 0 where
+  pub count : length f.segments + length f.rows ≤ 255
+  pub segments : AllByRecursion IsSegment f.segments
+  pub rows : AllByRecursion IsRow f.rows
+
+-- a codefile with a program behind it
+abbrev pub with_program : Codefile → Result Program Refusal → Result Program Refusal
+with_program f (Ok p) = Ok (record { segments = map segment_of f.segments ++ p.segments; rows = map contents f.rows ++ p.rows })
+with_program f (Err refusal) = Err refusal
+
+-- a part is put behind a codefile
+abbrev pub Extends : asm.Part → Codefile → Codefile → Type 0
+Extends (asm.CodePart s) old new = (map segment_of new.segments ≡ map segment_of old.segments ++ s ∷ []) × (new.rows ≡ old.rows) × (length new.segments ≡ length old.segments + 1)
+Extends (asm.RowPart words) old new = (map contents new.rows ≡ map contents old.rows ++ words ∷ []) × (new.segments ≡ old.segments) × (length new.rows ≡ length old.rows + 1)
+
+abbrev pub PartPut : Result ⊤ AsmFault → Result asm.Part Refusal → Line → Codefile → Codefile → Type 0
+PartPut (Ok done) answer l old new = (part : asm.Part) × (answer ≡ Ok part) × Extends part old new × Grows new × (length new.segments ≡ asm.segments_behind (length old.segments) l.says) × (length new.rows ≡ asm.rows_behind (length old.rows) l.says)
+PartPut (Err (Card card reason)) answer l old new = answer ≡ Err (record { card = card; reason = reason })
+PartPut (Err Memory) answer l old new = Unit {0}
+
+-- a segment is put behind a codefile's
+abbrev pub SegmentAdded : Result ⊤ AsmFault → Result asm.Part Refusal → Codefile → Codefile → Type 0
+SegmentAdded (Ok done) answer old new = (s : state.Segment) × (answer ≡ Ok (asm.CodePart s)) × (map segment_of new.segments ≡ map segment_of old.segments ++ s ∷ []) × (new.rows ≡ old.rows) × (length new.segments ≡ length old.segments + 1) × Grows new
+SegmentAdded (Err (Card card reason)) answer old new = answer ≡ Err (record { card = card; reason = reason })
+SegmentAdded (Err Memory) answer old new = Unit {0}
+
+-- a data row is put behind a codefile's
+abbrev pub RowAdded : Result ⊤ AsmFault → Result asm.Part Refusal → Codefile → Codefile → Type 0
+RowAdded (Ok done) answer old new = (words : List ℕ) × (answer ≡ Ok (asm.RowPart words)) × (map contents new.rows ≡ map contents old.rows ++ words ∷ []) × (new.segments ≡ old.segments) × (length new.rows ≡ length old.rows + 1) × Grows new
+RowAdded (Err (Card card reason)) answer old new = answer ≡ Err (record { card = card; reason = reason })
+RowAdded (Err Memory) answer old new = Unit {0}
+
+-- the program of lines whose names mean this, or the first refused card
+abbrev pub with_names : asm.Names → List Line → Result Program Refusal
+with_names names all = asm.no_strays names all >>= λ _. asm.program_from names (asm.segment_count 0 all) 0 0 all
+
+abbrev pub assembled_lines : List Line → Result Program Refusal
+assembled_lines all = with_names (λ name. asm.meaning (asm.definitions 0 0 all) name) all
+
+abbrev pub IsChecked : Result ⊤ AsmFault → Result ⊤ Refusal → Type 0
+IsChecked (Ok done) answer = answer ≡ Ok tt
+IsChecked (Err (Card card reason)) answer = answer ≡ Err (record { card = card; reason = reason })
+IsChecked (Err Memory) answer = ⊥
+
+-- the codefile that the cards denote, or the first refused card
+abbrev pub IsAssembled : Result Codefile AsmFault → Result Program Refusal → Type 0
+IsAssembled (Ok f) answer = (answer ≡ Ok (program_of f)) × IsWithin f
+IsAssembled (Err (Card card reason)) answer = answer ≡ Err (record { card = card; reason = reason })
+IsAssembled (Err Memory) answer = Unit {0}

@@ -1,0 +1,7 @@
+pub mod Bounds
+pub mod Rows
+pub mod Names
+pub mod Scope
+pub mod Putting
+pub mod RowPutting
+pub mod Blocks

@@ -1,0 +1,15 @@
+-- Rows of tables, and lists that grow.
+use denote.Bor.{Bor}
+use Rattle.std.specs.Prelude.{◌≡◌, ℕ, Bool, true, false, List, ◌++◌, Option, Some, None, Result, Ok, Err}
+use Rattle.b67_text.specs.declared.assembly.Mnemonic.{Mnemonic}
+
+-- a row without where its key lies
+abbrev pub keyed : Bor (List ℕ) × Mnemonic → List ℕ × Mnemonic
+keyed row = (row.0.now, row.1)
+
+-- the values are appended, or one is malformed
+abbrev pub ValuesPut : {E : Type 0} → Result Bool E → Option (List (Option ℕ)) → List (Option ℕ) → List (Option ℕ) → Type 0
+ValuesPut (Ok true) (Some more) old new = new ≡ old ++ more
+ValuesPut (Ok true) None old new = ⊥
+ValuesPut (Ok false) found old new = found ≡ None
+ValuesPut (Err e) found old new = Unit {0}

@@ -1,0 +1,296 @@
+// Segments and data rows, each from its card and the cards behind it.
+ghost use Rattle.std.specs.Prelude.{◌≡◌, ◌+◌, ◌≤◌, ◌<◌, ◌^◌, not, length, [], OnOk, IfOk};
+ghost use Rattle.std.specs.List.{list_any};
+ghost use Rattle.b67_text.specs.Asm as asm;
+ghost use Rattle.b67_asm.specs.Scope.{names_in, scope_at};
+ghost use Rattle.b67_asm.specs.Putting.{CodePut, syllables_behind};
+ghost use Rattle.b67_asm.specs.Blocks.{segment_head, row_head, SegmentPut, RowPartPut, SegmentAdded, RowAdded, PartPut, Grows};
+
+use crate::fault::AsmFault;
+use crate::names::{labels_of, meaning_of};
+use crate::operator::{Scope, misplaced};
+use crate::row::words_in;
+use crate::segment::code_in;
+use b67_codefile::{Codefile, Segment};
+use b67_text::{Kind, Line, Named, Statement};
+use b67_word::Words;
+use indexmap::IndexMap;
+use std::alloc::Global;
+
+/// A card that begins a segment or a data row, by its number and name, with what stands before it and its own cards.
+#[derive(Clone, Copy)]
+pub struct Block<'a> {
+    pub number: u32,
+    pub name: &'a [u8],
+    pub segments: usize,
+    pub rows: usize,
+    pub own: &'a [Line],
+}
+
+pub fn is_head(kind: Kind) -> bool
+    ensures { result ≡ asm.is_head kind }
+{
+    match kind {
+        Kind::Segment | Kind::Row => true,
+        Kind::Numbers | Kind::Operator => false,
+    }
+}
+
+fn is_numbers(kind: Kind) -> bool
+    ensures { result ≡ asm.is_numbers kind }
+{
+    match kind {
+        Kind::Numbers => true,
+        Kind::Segment | Kind::Row | Kind::Operator => false,
+    }
+}
+
+fn has_numbers(lines: &[Line]) -> bool
+    ensures { result ≡ list_any (λ l. asm.is_numbers l.kind) lines.now }
+{
+    lines.iter().any(|l| is_numbers(l.kind))
+}
+
+fn has_operator(lines: &[Line]) -> bool
+    ensures { result ≡ list_any (λ l. not (asm.is_numbers l.kind)) lines.now }
+{
+    lines.iter().any(|l| !is_numbers(l.kind))
+}
+
+// The cards of the segment or row at the front of these.
+pub fn own_of(lines: &[Line]) -> &[Line]
+    ensures own { result.now ≡ asm.own lines.now }
+    ensures short { length result.now ≤ length lines.now }
+{
+    let mut count = 0;
+    while count < lines.len() && !is_head(lines[count].kind) {
+        count += 1;
+    }
+    &lines[..count]
+}
+
+fn is_segment_number(count: usize, named: Option<Named>) -> bool
+    ensures { result ≡ asm.is_segment_number count named }
+{
+    match named {
+        Some(Named::Segment { number, .. }) => number as usize == count,
+        _ => false,
+    }
+}
+
+fn is_row_number(count: usize, named: Option<Named>) -> bool
+    ensures { result ≡ asm.is_row_number count named }
+{
+    match named {
+        Some(Named::Row { number }) => number as usize == count,
+        _ => false,
+    }
+}
+
+#[tactic(auto, using(crate::proofs::Parts::any_some))]
+fn level_of(names: &IndexMap<&[u8], Named>, block: &Block, level: Option<u8>) -> Result<u8, u8>
+    requires { block.now.segments + block.now.rows ≤ 255 }
+    ensures exact { result ≡ segment_head (names_in names.now.entries) block.now.segments block.now.rows block.now.name.now level block.now.own.now }
+    ensures small { IfOk result (λ l. l < 2 ^ 8) }
+    ensures room { OnOk result (block.now.segments + block.now.rows < 255) }
+    ensures some { OnOk result (1 ≤ length block.now.own.now) }
+{
+    match level {
+        None => Err(3),
+        Some(level) => {
+            if !is_segment_number(block.segments, meaning_of(names, block.name)) {
+                return Err(4);
+            }
+            if !has_operator(block.own) {
+                return Err(7);
+            }
+            if block.segments + block.rows < 255 {
+                Ok(level)
+            } else {
+                Err(9)
+            }
+        }
+    }
+}
+
+#[tactic(auto, using(crate::proofs::Parts::any_some))]
+fn check_row(names: &IndexMap<&[u8], Named>, block: &Block) -> Result<(), u8>
+    requires { block.now.segments + block.now.rows ≤ 255 }
+    ensures exact { result ≡ row_head (names_in names.now.entries) block.now.segments block.now.rows block.now.name.now block.now.own.now }
+    ensures room { OnOk result (block.now.segments + block.now.rows < 255) }
+    ensures some { OnOk result (1 ≤ length block.now.own.now) }
+{
+    if !is_row_number(block.rows, meaning_of(names, block.name)) {
+        return Err(4);
+    }
+    if !has_numbers(block.own) {
+        return Err(7);
+    }
+    if block.segments + block.rows < 255 {
+        Ok(())
+    } else {
+        Err(9)
+    }
+}
+
+// The code of a segment's own cards.
+fn segment_code(
+    alloc: Global,
+    names: &IndexMap<&[u8], Named>,
+    segments: u32,
+    level: u8,
+    own: &[Line],
+) -> Result<Words, AsmFault>
+    requires { length own.now < 2 ^ 31 }
+    ensures { CodePut result (syllables_behind [] (asm.operators (scope_at (names_in names.now.entries) segments level own.now) 0 own.now)) (length own.now) }
+{
+    let labels = labels_of(alloc, own)?;
+    let scope = Scope {
+        names,
+        labels: &labels,
+        segments,
+        level,
+    };
+    code_in(alloc, &scope, own)
+}
+
+fn segment_in(
+    alloc: Global,
+    names: &IndexMap<&[u8], Named>,
+    segments: u32,
+    block: &Block,
+    level: Option<u8>,
+) -> Result<Segment, AsmFault>
+    requires counts { block.now.segments + block.now.rows ≤ 255 }
+    requires small { length block.now.own.now < 2 ^ 31 }
+    ensures exact { SegmentPut result (asm.segment_part (names_in names.now.entries) segments block.now.segments block.now.rows block.now.number block.now.name.now level block.now.own.now) }
+    ensures room { OnOk result (block.now.segments + block.now.rows < 255) }
+{
+    match level_of(names, block, level) {
+        Ok(level) => match segment_code(alloc, names, segments, level, block.own) {
+            Ok(code) => Ok(Segment { level, code }),
+            Err(fault) => Err(fault),
+        },
+        Err(reason) => Err(AsmFault::Card {
+            card: block.number,
+            reason,
+        }),
+    }
+}
+
+fn row_in(alloc: Global, names: &IndexMap<&[u8], Named>, block: &Block) -> Result<Words, AsmFault>
+    requires { block.now.segments + block.now.rows ≤ 255 }
+    ensures exact { RowPartPut result (asm.row_part (names_in names.now.entries) block.now.segments block.now.rows block.now.number block.now.name.now block.now.own.now) }
+    ensures room { OnOk result (block.now.segments + block.now.rows < 255) }
+{
+    match check_row(names, block) {
+        Ok(()) => match words_in(alloc, names, block.own) {
+            Ok(words) => Ok(words),
+            Err(fault) => Err(fault),
+        },
+        Err(reason) => Err(AsmFault::Card {
+            card: block.number,
+            reason,
+        }),
+    }
+}
+
+#[tactic(auto, using(crate::proofs::Parts::all_one))]
+fn put_segment(
+    alloc: Global,
+    names: &IndexMap<&[u8], Named>,
+    segments: u32,
+    block: &Block,
+    level: Option<u8>,
+    file: &mut Codefile,
+) -> Result<(), AsmFault>
+    requires grows { Grows file.old }
+    requires segments { block.now.segments ≡ length file.old.segments }
+    requires rows { block.now.rows ≡ length file.old.rows }
+    requires small { length block.now.own.now < 2 ^ 31 }
+    ensures { SegmentAdded result (asm.segment_part (names_in names.now.entries) segments block.now.segments block.now.rows block.now.number block.now.name.now level block.now.own.now) file.old file.new }
+{
+    match segment_in(alloc, names, segments, block, level) {
+        Ok(segment) => {
+            file.segments.push(segment)?;
+            Ok(())
+        }
+        Err(fault) => Err(fault),
+    }
+}
+
+#[tactic(auto, using(crate::proofs::Parts::all_one))]
+fn put_row(
+    alloc: Global,
+    names: &IndexMap<&[u8], Named>,
+    block: &Block,
+    file: &mut Codefile,
+) -> Result<(), AsmFault>
+    requires grows { Grows file.old }
+    requires segments { block.now.segments ≡ length file.old.segments }
+    requires rows { block.now.rows ≡ length file.old.rows }
+    ensures { RowAdded result (asm.row_part (names_in names.now.entries) block.now.segments block.now.rows block.now.number block.now.name.now block.now.own.now) file.old file.new }
+{
+    match row_in(alloc, names, block) {
+        Ok(words) => {
+            file.rows.push(words)?;
+            Ok(())
+        }
+        Err(fault) => Err(fault),
+    }
+}
+
+fn block_of<'a>(number: u32, name: &'a [u8], own: &'a [Line], file: &Codefile) -> Block<'a>
+    ensures number { result.number ≡ number }
+    ensures name { result.name.now ≡ name.now }
+    ensures own { result.own.now ≡ own.now }
+    ensures segments { result.segments ≡ length file.now.segments }
+    ensures rows { result.rows ≡ length file.now.rows }
+{
+    Block {
+        number,
+        name,
+        segments: file.segments.as_slice().len(),
+        rows: file.rows.as_slice().len(),
+        own,
+    }
+}
+
+/// Puts the segment or data row that a card begins behind those of a codefile.
+pub fn put_part(
+    alloc: Global,
+    names: &IndexMap<&[u8], Named>,
+    segments: u32,
+    line: &Line,
+    own: &[Line],
+    file: &mut Codefile,
+) -> Result<(), AsmFault>
+    requires grows { Grows file.old }
+    requires small { length own.now < 2 ^ 31 }
+    ensures { PartPut result (asm.part_of (names_in names.now.entries) segments (length file.old.segments) (length file.old.rows) line.now.number line.now.says own.now) line.now file.old file.new }
+{
+    match &line.says {
+        Err(reason) => Err(AsmFault::Card {
+            card: line.number,
+            reason: *reason,
+        }),
+        Ok(statement) => match statement {
+            Statement::Segment { name, level } => {
+                let block = block_of(line.number, name.as_str().as_bytes(), own, file);
+                put_segment(alloc, names, segments, &block, *level, file)
+            }
+            Statement::Row { name } => {
+                let block = block_of(line.number, name.as_str().as_bytes(), own, file);
+                put_row(alloc, names, &block, file)
+            }
+            Statement::Values { .. } => Err(AsmFault::Card {
+                card: line.number,
+                reason: misplaced(names, statement),
+            }),
+            Statement::Operator { .. } => Err(AsmFault::Card {
+                card: line.number,
+                reason: misplaced(names, statement),
+            }),
+        },
+    }
+}

@@ -1,0 +1,16 @@
+//! The assembler: the codefile that cards denote.
+#![tactic(auto)]
+
+mod assembly;
+mod block;
+mod fault;
+mod lay;
+mod names;
+mod number;
+mod operator;
+mod row;
+mod segment;
+mod statement;
+
+pub use assembly::assemble;
+pub use fault::AsmFault;

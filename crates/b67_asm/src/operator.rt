@@ -1,0 +1,286 @@
+// The operator that a card of a segment denotes.
+ghost use Rattle.std.specs.Prelude.{◌≡◌, ◌∷◌, ◌+◌, ◌*◌, ◌<◌, ◌≤◌, ◌^◌, ◌&&◌, not, min, is_some, if◌then◌else◌, IfSome, IfOk, IsTrue, Ok};
+ghost use Rattle.b67_word.specs.Couples.{couple_bits};
+ghost use Rattle.b67_model.specs.Encoding.{has_bits};
+ghost use Rattle.b67_model.specs.declared.operators.Op.TheVariants.{Mpcw};
+ghost use Rattle.b67_text.specs.Asm as asm;
+ghost use Rattle.std.specs.List.{list_any};
+ghost use Rattle.std.specs.Option.{option_map, option_and_then};
+ghost use Rattle.b67_model.specs.Operators.{place_at};
+ghost use Rattle.b67_asm.specs.Names.{label_entries};
+ghost use Rattle.b67_asm.specs.Scope.{names_in, scope_of, IsOperator};
+
+use crate::names::{meaning_of, place_of};
+use b67_model::Op;
+use b67_text::{Branch, Call, Name, Named, Sketch, Statement, Values};
+use b67_word::{Couple, Place, bits_of};
+use indexmap::IndexMap;
+
+/// What the operators of a segment may name: names, labels, how many segments there are, and the segment's level.
+#[derive(Clone, Copy)]
+pub struct Scope<'a> {
+    pub names: &'a IndexMap<&'a [u8], Named>,
+    pub labels: &'a IndexMap<&'a [u8], u64>,
+    pub segments: u32,
+    pub level: u8,
+}
+
+fn pcw_in(named: Option<Named>) -> Option<u64>
+    ensures exact { result ≡ asm.pcw_in named }
+    ensures small { IfSome result (λ bits. bits < 2 ^ 48) }
+{
+    match named {
+        Some(
+            Named::Segment {
+                number,
+                level: Some(level),
+            },
+        ) => {
+            if level <= 31 {
+                Some(u64::from(level) * 0x4000 + (u64::from(number) + 2))
+            } else {
+                None
+            }
+        }
+        _ => None,
+    }
+}
+
+fn row_in(named: Option<Named>) -> Option<u32>
+    ensures { result ≡ asm.row_in named }
+{
+    match named {
+        Some(Named::Row { number }) => Some(number),
+        _ => None,
+    }
+}
+
+fn has_bits(op: Op) -> bool
+    ensures { result ≡ has_bits op }
+{
+    match op {
+        Op::Valc(bits) | Op::Namc(bits) => bits < 0x4000,
+        Op::Lt48(bits) | Op::Mpcw(bits) => bits < 0x1_0000_0000_0000,
+        Op::Brun(place) | Op::Brtr(place) | Op::Brfl(place) => place.syllable < 8
+            && place.word < 0x2000,
+        _ => true,
+    }
+}
+
+fn is_in_range(sketch: &Sketch) -> bool
+    ensures { result ≡ asm.is_in_range sketch.now }
+{
+    match sketch {
+        Sketch::Whole(op) => has_bits(*op),
+        Sketch::OutOfRange => false,
+        _ => true,
+    }
+}
+
+pub fn has_names(names: &IndexMap<&[u8], Named>, sketch: &Sketch) -> bool
+    ensures { result ≡ asm.has_names (names_in names.now.entries) sketch.now }
+{
+    match sketch {
+        Sketch::Pcw { segment } => pcw_in(meaning_of(names, segment.as_str().as_bytes())).is_some(),
+        Sketch::Row { row, .. } => row_in(meaning_of(names, row.as_str().as_bytes())).is_some(),
+        _ => true,
+    }
+}
+
+fn has_label(labels: &IndexMap<&[u8], u64>, sketch: &Sketch) -> bool
+    ensures { result ≡ asm.has_label (λ label. asm.meaning (label_entries labels.now.entries) label) sketch.now }
+{
+    match sketch {
+        Sketch::Jump { label, .. } => place_of(labels, label.as_str().as_bytes()).is_some(),
+        _ => true,
+    }
+}
+
+fn called(call: Call, bits: u16) -> Op
+    requires { bits < 2 ^ 14 }
+    ensures exact { result ≡ asm.called call bits }
+    ensures fits { IsTrue (has_bits result) }
+{
+    match call {
+        Call::Value => Op::Valc(bits),
+        Call::Name => Op::Namc(bits),
+    }
+}
+
+fn place_at(syllable: u64) -> Place
+    requires { syllable ≤ 6 * 8191 }
+    ensures { result ≡ place_at syllable }
+{
+    Place {
+        word: (syllable / 6) as u16,
+        syllable: (syllable % 6) as u8,
+    }
+}
+
+fn branch_to(branch: Branch, syllable: u64) -> Op
+    ensures exact { result ≡ asm.branch_to branch syllable }
+    ensures fits { IsTrue (has_bits result) }
+{
+    let place = place_at(syllable.min(6 * 8_191));
+    match branch {
+        Branch::Always => Op::Brun(place),
+        Branch::IfTrue => Op::Brtr(place),
+        Branch::IfFalse => Op::Brfl(place),
+    }
+}
+
+fn is_word(value: Option<u64>) -> bool
+    ensures { result ≡ asm.is_word value }
+{
+    match value {
+        None => false,
+        Some(bits) => bits < 0x1_0000_0000_0000,
+    }
+}
+
+fn has_no_word(values: &[Option<u64>]) -> bool
+    ensures { result ≡ list_any (λ v. not (asm.is_word v)) values.now }
+{
+    values.iter().any(|v| !is_word(*v))
+}
+
+/// Whether one of the words is out of range.
+pub fn is_bad(first: Option<u64>, more: &[Option<u64>]) -> bool
+    ensures { result ≡ list_any (λ v. not (asm.is_word v)) (first ∷ more.now) }
+{
+    !is_word(first) || has_no_word(more)
+}
+
+fn misplaced_values(first: Option<u64>, more: &Values) -> u8
+    ensures { result ≡ (if list_any (λ v. not (asm.is_word v)) (first ∷ more.now) then 3 else 6) }
+{
+    if is_bad(first, more.as_slice()) { 3 } else { 6 }
+}
+
+/// Why a card is refused that stands in no block of its kind.
+pub fn misplaced(names: &IndexMap<&[u8], Named>, statement: &Statement) -> u8
+    ensures { result ≡ asm.misplaced (names_in names.now.entries) statement.now }
+{
+    match statement {
+        Statement::Values { first, more } => misplaced_values(*first, more),
+        Statement::Operator { sketch, .. } => {
+            if !is_in_range(sketch) {
+                3
+            } else if has_names(names, sketch) {
+                6
+            } else {
+                5
+            }
+        }
+        _ => 6,
+    }
+}
+
+// The bits of a row's couple, at level 1.
+fn row_bits(segments: u32, number: u32, level: u8) -> Option<u16>
+    ensures exact { result ≡ couple_bits (min level 31) (record { level = 1; disp = segments + number + 2 }) }
+    ensures small { IfSome result (λ bits. bits < 2 ^ 14) }
+{
+    let disp = u64::from(segments) + u64::from(number) + 2;
+    if disp >= 0x2000 {
+        return None;
+    }
+    let couple = Couple {
+        level: 1,
+        disp: disp as u16,
+    };
+    match bits_of(couple, level.min(31)) {
+        Some(bits) => Some(bits),
+        None => None,
+    }
+}
+
+fn couple_call(call: Call, couple: Option<Couple>, level: u8) -> Option<Op>
+    ensures exact { result ≡ option_map (asm.called call) (option_and_then (couple_bits (min level 31)) couple) }
+    ensures fits { IfSome result (λ op. IsTrue (has_bits op)) }
+{
+    match bits_of(couple?, level.min(31)) {
+        Some(bits) => Some(called(call, bits)),
+        None => None,
+    }
+}
+
+fn is_first_label(labels: &IndexMap<&[u8], u64>, n: u64, label: &Option<Name>) -> bool
+    ensures { result ≡ asm.is_first_label (λ text. asm.meaning (label_entries labels.now.entries) text) n label.now }
+{
+    match label {
+        None => true,
+        Some(label) => place_of(labels, label.as_str().as_bytes()) == Some(n),
+    }
+}
+
+fn row_operator(scope: &Scope, call: Call, row: &[u8]) -> Option<Op>
+    ensures exact { result ≡ option_map (asm.called call) (option_and_then (λ number. couple_bits (min scope.now.level 31) (record { level = 1; disp = scope.now.segments + number + 2 })) (asm.row_in (names_in scope.now.names.now.entries row.now))) }
+    ensures fits { IfSome result (λ op. IsTrue (has_bits op)) }
+{
+    match row_in(meaning_of(scope.names, row)) {
+        Some(number) => match row_bits(scope.segments, number, scope.level) {
+            Some(bits) => Some(called(call, bits)),
+            None => None,
+        },
+        None => None,
+    }
+}
+
+fn jump(labels: &IndexMap<&[u8], u64>, branch: Branch, label: &[u8]) -> Option<Op>
+    ensures exact { result ≡ option_map (asm.branch_to branch) (asm.meaning (label_entries labels.now.entries) label.now) }
+    ensures fits { IfSome result (λ op. IsTrue (has_bits op)) }
+{
+    match place_of(labels, label) {
+        Some(syllable) => Some(branch_to(branch, syllable)),
+        None => None,
+    }
+}
+
+fn pcw(names: &IndexMap<&[u8], Named>, segment: &[u8]) -> Option<Op>
+    ensures exact { result ≡ option_map Mpcw (asm.pcw_in (names_in names.now.entries segment.now)) }
+    ensures fits { IfSome result (λ op. IsTrue (has_bits op)) }
+{
+    match pcw_in(meaning_of(names, segment)) {
+        Some(bits) => Some(Op::Mpcw(bits)),
+        None => None,
+    }
+}
+
+fn denoted(scope: &Scope, sketch: &Sketch) -> Option<Op>
+    requires { IsTrue (asm.is_in_range sketch.now) }
+    ensures exact { result ≡ asm.denoted (scope_of scope.now) sketch.now }
+    ensures fits { IfSome result (λ op. IsTrue (has_bits op)) }
+{
+    match sketch {
+        Sketch::Whole(op) => Some(*op),
+        Sketch::OutOfRange => None,
+        Sketch::Couple { call, couple } => couple_call(*call, *couple, scope.level),
+        Sketch::Row { call, row } => row_operator(scope, *call, row.as_str().as_bytes()),
+        Sketch::Jump { branch, label } => jump(scope.labels, *branch, label.as_str().as_bytes()),
+        Sketch::Pcw { segment } => pcw(scope.names, segment.as_str().as_bytes()),
+    }
+}
+
+/// What a card of a segment writes at syllable n, None for a couple that doesn't fit, or the reason of 3 to 6 why the card
+/// is refused.
+pub fn operator_in(scope: &Scope, n: u64, statement: &Statement) -> Result<Option<Op>, u8>
+    ensures exact { IsOperator result (scope_of scope.now) n statement.now }
+    ensures fits { IfOk result (λ o. IfSome o (λ op. IsTrue (has_bits op))) }
+{
+    match statement {
+        Statement::Operator { label, sketch } => {
+            if !is_in_range(sketch) {
+                return Err(3);
+            }
+            if !is_first_label(scope.labels, n, label) {
+                return Err(4);
+            }
+            if !has_names(scope.names, sketch) || !has_label(scope.labels, sketch) {
+                return Err(5);
+            }
+            Ok(denoted(scope, sketch))
+        }
+        _ => Err(misplaced(scope.names, statement)),
+    }
+}
