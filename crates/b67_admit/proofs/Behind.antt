@@ -33,10 +33,11 @@ pub turn : (jobs : List Job) (i : ℕ) (j : Job) (files now : List Codefile) (fi
     → AllByRecursion IsWithin files → programs jobs ≡ behind (map program_of files) (programs (drop i jobs))
     → AllByRecursion IsWithin now × (programs jobs ≡ behind (map program_of now) (programs (drop (i + 1) jobs)))
 turn jobs i j files now file low is e within pushed all before =
-    let here : drop i jobs ≡ j ∷ drop (i + 1) jobs = rw (add-one i) (drop-cons jobs i j low ∙ ap (λ (x : Job). x ∷ drop (suc i) jobs) (sym is)) in
-    (rw pushed (all_and_one IsWithin files file all within),
-     before ∙ ap (λ (rest : List Job). behind (map program_of files) (programs rest)) here ∙ behind_next (map program_of files) j (drop (i + 1) jobs) (program_of file) e
-       ∙ ap (λ (done : List Program). behind done (programs (drop (i + 1) jobs))) (sym (map-append program_of files (file ∷ [])) ∙ ap (map program_of) (sym pushed)))
+    let here : drop i jobs ≡ j ∷ drop (i + 1) jobs = rw (add-one i) (drop-cons jobs i j low ∙ ap (λ (x : Job). x ∷ drop (suc i) jobs) (sym is)) in (
+      rw pushed (all_and_one IsWithin files file all within),
+      before ∙ ap (λ (rest : List Job). behind (map program_of files) (programs rest)) here ∙ behind_next (map program_of files) j (drop (i + 1) jobs) (program_of file) e
+          ∙ ap (λ (done : List Program). behind done (programs (drop (i + 1) jobs))) (sym (map-append program_of files (file ∷ [])) ∙ ap (map program_of) (sym pushed)),
+    )
 
 -- the loop ends
 pub all_done : (jobs : List Job) (i : ℕ) (files : List Codefile) → length jobs ≤ i

@@ -10,6 +10,7 @@ ghost use Rattle.b67_admit.specs.Meets.{Meets, IsLoaded, of_deck_fault};
 use crate::fault::AdmitFault;
 use crate::programs::{Loaded, Programs};
 use crate::refusal::Refusal;
+use b67_asm::{AsmFault, assemble};
 use b67_card::{DeckFault, read_deck};
 use b67_codefile::{BadFile, Codefile, read};
 use b67_io::Source;
@@ -47,11 +48,13 @@ fn admitted_one(alloc: Global, card: u32, file: Codefile) -> Result<Admitted, Ad
 {
     match verify(alloc, file) {
         Ok(program) => Ok(program),
-        Err(LoadFault::Refused {
-            segment,
-            place,
-            reason,
-        }) => Err(AdmitFault::Refused(Refusal::Load {
+        Err(
+            LoadFault::Refused {
+                segment,
+                place,
+                reason,
+            },
+        ) => Err(AdmitFault::Refused(Refusal::Load {
             card,
             reason,
             segment,
@@ -61,12 +64,17 @@ fn admitted_one(alloc: Global, card: u32, file: Codefile) -> Result<Admitted, Ad
     }
 }
 
-// The file of assembly cards.
-fn assembled_in(_alloc: Global, _card: u32, _cards: &Cards) -> Result<Codefile, AdmitFault>
+fn assembled_in(alloc: Global, card: u32, cards: &Cards) -> Result<Codefile, AdmitFault>
     ensures within { IfOk result IsWithin }
-    ensures answer { Meets meaning.program_of result (program_in _card (Body.Cards _cards.now)) }
+    ensures answer { Meets meaning.program_of result (program_in card (Body.Cards cards.now)) }
 {
-    Err(AdmitFault::Memory)
+    match assemble(alloc, cards) {
+        Ok(file) => Ok(file),
+        Err(AsmFault::Card { card, reason }) => {
+            Err(AdmitFault::Refused(Refusal::Asm { card, reason }))
+        }
+        Err(AsmFault::Memory) => Err(AdmitFault::Memory),
+    }
 }
 
 /// The file of a job's program, assembled or read, or the refusal of its cards or its bytes.

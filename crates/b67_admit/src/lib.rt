@@ -6,7 +6,6 @@ mod fault;
 mod programs;
 mod refusal;
 
-
 pub use admission::{admit, file_of};
 pub use fault::AdmitFault;
 pub use programs::{Loaded, Programs};

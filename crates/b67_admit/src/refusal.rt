@@ -6,11 +6,21 @@ use b67_word::Place;
 #[derive(Clone, Copy, Debug, PartialEq, Eq)]
 pub enum Refusal {
     /// A card of the deck breaks this reason of the deck's grammar.
-    Deck { card: u32, reason: u8 },
+    Deck {
+        card: u32,
+        reason: u8,
+    },
     /// A card of an `?ASM` body breaks this reason of the assembler.
-    Asm { card: u32, reason: u8 },
+    Asm {
+        card: u32,
+        reason: u8,
+    },
     /// The bytes of the body of this `?HEX` card are no codefile, from this byte on, counted from 0.
-    Codefile { card: u32, reason: u8, byte: usize },
+    Codefile {
+        card: u32,
+        reason: u8,
+        byte: usize,
+    },
     /// The program of this `?JOB` card breaks this rule of the loader, in this segment at this place.
     Load {
         card: u32,
