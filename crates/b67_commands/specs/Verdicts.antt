@@ -1,0 +1,61 @@
+-- What the commands that open no session print of a text, or the first refusal of all.
+use Rattle.std.specs.Prelude.{ℕ, List, [], ◌∷◌, ◌++◌, length, map, Ok, codes, decimal}
+use Rattle.std.specs.List.{flat_map}
+use Rattle.b67_word.specs.Tagged.{word}
+use Rattle.b67_io.specs.Line.{ended}
+use Rattle.b67_model.specs.State as state
+use Rattle.b67_model.specs.Program.{Program}
+use Rattle.b67_codefile.specs.declared.file.Segment.{Segment}
+use Rattle.b67_codefile.specs.declared.file.Codefile.{Codefile}
+use Rattle.b67_codefile.specs.Spelling.{spelling}
+use Rattle.b67_text.specs.declared.card.Card.{Card}
+use Rattle.b67_text.specs.declared.deck.Job.{Job}
+use Rattle.b67_text.specs.Hex.{hex_cards}
+use Rattle.b67_text.specs.Deck.{plain_cards}
+use Rattle.b67_text.specs.Asm.{assembled}
+use Rattle.b67_admit.specs.Admitting.{Answer, ◌>>=◌, of_deck, of_cards, deck_prepared}
+
+-- the text to print, or the first refusal
+abbrev pub Verdict : Type 0
+Verdict = Answer (List ℕ)
+
+-- ---- check
+
+-- a job's name, and how many segments and data rows its program has
+abbrev pub job_line : Job → Program → List ℕ
+job_line job p = job.name ++ codes " ADMITTED " ++ decimal (length p.segments) ++ codes " " ++ decimal (length p.rows)
+
+abbrev pub job_lines : List Job → List Program → List ℕ
+job_lines (job ∷ jobs) (p ∷ ps) = ended (job_line job p) ++ job_lines jobs ps
+job_lines _ _ = []
+
+-- a line for each job of a deck, in job order, where all are admitted
+unfoldable pub check_verdict : List ℕ → Verdict
+check_verdict text = do
+  prepared ← deck_prepared text
+  Ok (job_lines prepared.0.jobs prepared.1)
+
+-- ---- asm
+
+-- the codefile of a program: words of code have tag 3, words of data rows tag 0
+abbrev pub segment_file : state.Segment → Segment
+segment_file s = record { level = s.level; code = map (word 3) s.code }
+
+abbrev pub codefile_of : Program → Codefile
+codefile_of p = record { segments = map segment_file p.segments; rows = map (map (word 0)) p.rows }
+
+-- the hexadecimal cards of bytes, each on a line
+abbrev pub hex_lines : List ℕ → List ℕ
+hex_lines bytes = flat_map ended (hex_cards bytes)
+
+-- by cards: the hexadecimal cards of the codefile that they denote
+abbrev pub asm_of : List Card → Verdict
+asm_of cards = do
+  p ← of_cards (assembled cards)
+  Ok (hex_lines (spelling (codefile_of p)))
+
+-- by a whole text of assembly cards
+unfoldable pub asm_verdict : List ℕ → Verdict
+asm_verdict text = do
+  cards ← of_deck (plain_cards text)
+  asm_of cards
