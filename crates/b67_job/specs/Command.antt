@@ -1,6 +1,6 @@
 -- The words of a command.
 use Rattle.std.specs.Prelude.{ℕ, ◌==◌, ◌&&◌, not, Bool, false, List, [], ◌∷◌, codes, Option, Some, None, if◌then◌else◌}
-use Rattle.std.specs.Option.{option_map, option_and_then}
+use Rattle.std.specs.Option.{option_map, option_and_then, option_or}
 use Rattle.std.specs.Str.{bytes_eq}
 use denote.Ref.{Bor}
 use Rattle.b67_text.specs.Command.{number_in}
@@ -37,9 +37,16 @@ request (run ∷ first ∷ a ∷ second ∷ b ∷ []) =
     if bytes_eq run.now (codes "run") then option_and_then requested (options first.now a.now second.now b.now) else None
 request _ = None
 
+-- the commands of one word
+abbrev pub one_word : List (Bor (List ℕ)) → Option CommandLine
+one_word (word ∷ []) =
+    if bytes_eq word.now (codes "asm") then Some lines.Asm
+    else (if bytes_eq word.now (codes "check") then Some lines.Check else None)
+one_word _ = None
+
 -- the command that the words are
 abbrev pub command_of : List (Bor (List ℕ)) → Option CommandLine
-command_of words = option_map (λ r. lines.Run r.core) (request words)
+command_of words = option_or (one_word words) (option_map (λ r. lines.Run r.core) (request words))
 
 -- the path that the words name
 abbrev pub backing_path : List (Bor (List ℕ)) → Option (List ℕ)

@@ -1,21 +1,26 @@
--- What a deck asks for.
+-- What a command and a text ask for.
 use Rattle.std.specs.Prelude.{ℕ, ◌+◌, ◌==◌, ◌&&◌, nat_lt, Bool, false, List, [], ◌∷◌, length, take, count_by, Some, None, Ok, Err, if◌then◌else◌}
 use Rattle.b67_model.specs.State.{Member, Segment}
 use Rattle.b67_model.specs.Program.{Program}
 use Rattle.b67_text.specs.Cards.{cards, is_empty}
 use Rattle.b67_text.specs.Deck.{limit}
 use Rattle.b67_codefile.specs.Reading.{file_of}
-use Rattle.b67_job.specs.declared.refusal.Refusal.{Refusal}
-use Rattle.b67_job.specs.declared.refusal.Refusal.TheVariants as refusals
-use Rattle.b67_job.specs.Admission.{Answer, program_admitted}
+use Rattle.b67_admit.specs.declared.refusal.Refusal.{Refusal}
+use Rattle.b67_admit.specs.declared.refusal.Refusal.TheVariants as refusals
+use Rattle.b67_admit.specs.Admitting.{Answer}
+use Rattle.b67_commands.specs.Verdicts.{Verdict, check_verdict, asm_verdict}
+use Rattle.b67_job.specs.declared.command.CommandLine.{CommandLine}
+use Rattle.b67_job.specs.declared.command.CommandLine.TheVariants as lines
+use Rattle.b67_job.specs.Admission.{program_admitted}
 use Rattle.b67_job.specs.FirstForm.{Form, first_form}
 use Rattle.b67_job.specs.Listed.{is_runnable}
 use Rattle.b67_job.specs.Runs.{job_of}
 
--- a refusal, or jobs are run
+-- a refusal, or jobs are run, or a text is printed
 pub data Judgement : Type 0 where
   Refused : (refusal : Refusal) → Judgement
   Runs : (jobs : List Member) → Judgement
+  Prints : (text : List ℕ) → Judgement
 
 -- the one segment is of level 2, and its code is of the ten operators
 abbrev pub is_first_segment : List Segment → Bool
@@ -46,6 +51,17 @@ unfoldable pub judgement : List ℕ → Judgement
 judgement text =
     if nat_lt limit (length text) then Refused (refusals.Deck (count_by (λ b. b == 10) (take limit text) + 1) 14) else form_judgement (first_form (cards text))
 
+abbrev pub printed : Verdict → Judgement
+printed (Ok text) = Prints text
+printed (Err refusal) = Refused refusal
+
+-- by a command and a whole text
+abbrev pub asked : CommandLine → List ℕ → Judgement
+asked (lines.Run core) text = judgement text
+asked lines.Asm text = printed (asm_verdict text)
+asked lines.Check text = printed (check_verdict text)
+
 abbrev pub judged_status : Judgement → ℕ
 judged_status (Refused refusal) = 2
 judged_status (Runs jobs) = 0
+judged_status (Prints text) = 0

@@ -7,8 +7,6 @@ pub mod Listed
 pub mod Ends
 pub mod Runs
 pub mod Admission
-pub mod Meets
-pub mod Told
 pub mod Judgement
 pub mod Due
 pub mod Frames

@@ -4,20 +4,14 @@ ghost use Rattle.std.specs.Prelude.{◌≡◌, IfOk};
 ghost use Rattle.b67_codefile.specs.Spelling.{IsWithin};
 ghost use Rattle.b67_codefile.specs.Reading.{file_of};
 ghost use Rattle.b67_codefile.specs.Meaning.{program_of};
-ghost use Rattle.b67_job.specs.Admission.{of_file, by_rules, first_refusal, program_admitted};
-ghost use Rattle.b67_job.specs.Meets.{Meets};
+ghost use Rattle.b67_admit.specs.Admitting.{of_file, by_rules, first_refusal};
+ghost use Rattle.b67_job.specs.Admission.{program_admitted};
+ghost use Rattle.b67_admit.specs.Meets.{Meets};
 
-use crate::refusal::Refusal;
+use b67_admit::{AdmitFault, Refusal};
 use b67_codefile::{BadFile, Codefile, read};
 use b67_load::{Admitted, LoadFault, verify};
 use std::alloc::Global;
-
-/// Why no program is admitted: it is refused, or memory was refused.
-#[derive(Clone, Copy, Debug, PartialEq, Eq)]
-pub enum AdmitFault {
-    Refused(Refusal),
-    Memory,
-}
 
 fn refused(card: u32, reason: u8, byte: usize) -> AdmitFault
     ensures { result ≡ AdmitFault.Refused (Refusal.Codefile card reason byte) }

@@ -2,7 +2,7 @@
 
 ghost use Rattle.std.specs.Prelude.{◌≡◌};
 ghost use Rattle.std.specs.Option.{option_map};
-ghost use Rattle.b67_job.specs.Command.{options, is_path, requested, request, command_of, backing_path};
+ghost use Rattle.b67_job.specs.Command.{options, is_path, requested, request, one_word, command_of, backing_path};
 ghost use Rattle.b67_job.specs.Seen.{seen_options, seen_request};
 
 use b67_card::number_in;
@@ -12,6 +12,10 @@ use b67_card::number_in;
 pub enum CommandLine {
     /// Runs a deck over so many words of core.
     Run { core: u32 },
+    /// Assembles cards, and prints their codefile.
+    Asm,
+    /// Reads a deck, and prints a line for each of its jobs.
+    Check,
 }
 
 // The texts behind the two options.
@@ -81,14 +85,34 @@ fn read_request<'a>(words: &[&'a str]) -> Option<Request<'a>>
     }
 }
 
-/// The command that the words are: `run --core N --backing PATH`, the two options in either order. N is 256 to
+fn one_word(words: &[&str]) -> Option<CommandLine>
+    ensures { result ≡ one_word words.now }
+{
+    match words {
+        [word] => {
+            if *word == "asm" {
+                Some(CommandLine::Asm)
+            } else if *word == "check" {
+                Some(CommandLine::Check)
+            } else {
+                None
+            }
+        }
+        _ => None,
+    }
+}
+
+/// The command that the words are: `run --core N --backing PATH`, the two options in either order, `asm` or `check`. N is 256 to
 /// 1,048,575 in decimal without sign or leading zero; PATH isn't empty and doesn't begin with `-`.
 pub fn command_of(words: &[&str]) -> Option<CommandLine>
     ensures { result ≡ command_of words.now }
 {
-    match read_request(words) {
-        Some(request) => Some(CommandLine::Run { core: request.core }),
-        None => None,
+    match one_word(words) {
+        Some(command) => Some(command),
+        None => match read_request(words) {
+            Some(request) => Some(CommandLine::Run { core: request.core }),
+            None => None,
+        },
     }
 }
 

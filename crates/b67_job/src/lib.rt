@@ -7,7 +7,6 @@ mod form;
 mod lines;
 mod machine;
 mod program;
-mod refusal;
 mod stack;
 #[cfg(test)]
 mod tests;

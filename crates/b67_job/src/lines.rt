@@ -3,10 +3,11 @@
 ghost use Rattle.std.specs.Prelude.{◌≡◌, ◌≤◌, ◌+◌, ◌++◌, length, codes, decimal};
 ghost use Rattle.b67_model.specs.Lines.{fault_name, ending_name};
 ghost use Rattle.b67_io.specs.Line.{ended};
+ghost use Rattle.b67_admit.specs.Told.{card_text, refusal_line};
 ghost use Rattle.b67_job.specs.Ends.{Ends};
-ghost use Rattle.b67_job.specs.Told.{card_text, refusal_line};
 
-use crate::refusal::Refusal;
+use b67_admit::Refusal;
+use b67_commands::put_text;
 use b67_io::{Line, Sink, put_line};
 use b67_word::{Ending, Fault, Place};
 use itoa::Buffer;
@@ -127,6 +128,7 @@ pub fn refusal_line(refusal: Refusal) -> Line
 {
     match refusal {
         Refusal::Deck { card, reason } => card_line("DECK ", card, reason),
+        Refusal::Asm { card, reason } => card_line("ASM ", card, reason),
         Refusal::Codefile { card, reason, byte } => codefile_line(card, reason, byte),
         Refusal::Load {
             card,
@@ -142,6 +144,16 @@ pub fn say<K: Sink>(printer: &mut K, status: u8, line: &Line) -> u8
     ensures { Ends K.taken K.faults printer.old printer.new status (ended line.now) result }
 {
     match put_line(printer, line, 0) {
+        Ok(()) => status,
+        Err(_taken) => 8,
+    }
+}
+
+/// Prints a text and answers the status, or 8.
+pub fn say_text<K: Sink>(printer: &mut K, status: u8, text: &[u8]) -> u8
+    ensures { Ends K.taken K.faults printer.old printer.new status text.now result }
+{
+    match put_text(printer, text) {
         Ok(()) => status,
         Err(_taken) => 8,
     }

@@ -116,6 +116,53 @@ fn prefixes(rt: HostRuntime) -> Result<(), Fail> {
     Ok(())
 }
 
+/// The code of SUM as cards.
+const SUM_CARDS: &str =
+    "SEGMENT MAIN 2\nMKST\nNAMC 0,9\nLT8 2\nLT8 3\nADD\nENTR\nEXIT\n";
+
+/// Its mnemonic of card 6 is misspelt.
+const ADDD_CARDS: &str =
+    "SEGMENT MAIN 2\nMKST\nNAMC 0,9\nLT8 2\nLT8 3\nADDD\nENTR\nEXIT\n";
+
+/// SUM's deck, and behind it that of a job with a BRUN into a literal.
+const SUM_AND_BAD: &str = "?JOB SUM\n?HEX\n423637434f44453100010000020002\n0003ae4009b202b200030380aba3ffff\n?END\n?JOB BAD\n?HEX\n423637434f44453100010000020003\n0003beffffffffff00030000000000010003a20001ffffff\n?END\n";
+
+// The commands that print a text, or a refusal alone.
+#[test]
+fn commands(rt: HostRuntime) -> Result<(), Fail> {
+    let table = [
+        (
+            "asm",
+            SUM_CARDS,
+            0,
+            "423637434f444531000100000200020003ae4009b202b200030380aba3ffff\n",
+        ),
+        ("asm", ADDD_CARDS, 2, "ASM 6 REASON 1\n"),
+        ("asm", "MKST\tX\n", 2, "DECK 1 REASON 2\n"),
+        ("check", SUM, 0, "SUM ADMITTED 1 0\n"),
+        (
+            "check",
+            SUM_AND_BAD,
+            2,
+            "LOAD 6 REASON 3 SEGMENT 1 AT 2:0\n",
+        ),
+        ("check", "?JOB a\n", 2, "DECK 1 REASON 4\n"),
+        ("check", "?JOB A\n", 2, "DECK 1 REASON 13\n"),
+    ];
+    for (word, text, status, lines) in table {
+        for piece in [1, 80] {
+            let (was, printed) = answer(rt.alloc(), &[word], text.as_bytes(), piece, &[], &[])?;
+            assert_eq!(rt; was, status, "{text}");
+            assert_eq!(rt; printed.as_slice(), lines.as_bytes(), "{text}");
+        }
+    }
+    let (status, _) = answer(rt.alloc(), &["check"], SUM.as_bytes(), 80, &[], &[1])?;
+    assert_eq!(rt; status, 8);
+    let (status, _) = answer(rt.alloc(), &["asm", "x"], b"", 80, &[], &[])?;
+    assert_eq!(rt; status, 1);
+    Ok(())
+}
+
 #[test]
 fn faults_and_usage(rt: HostRuntime) -> Result<(), Fail> {
     let deck = SUM.as_bytes();

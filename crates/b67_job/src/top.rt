@@ -1,29 +1,29 @@
 //! The top call.
 
 ghost use Rattle.std.specs.Prelude.{◌≡◌, ◌⊎◌, ◌≤◌, ◌<◌, ◌+◌, ℕ, List, length, true, false, is_some, Some};
-ghost use Rattle.b67_model.specs.State.{Member};
 ghost use Rattle.b67_io.specs.Told.{Took, TookPart, GaveAll};
 ghost use Rattle.b67_io.specs.Causes.{Rose, Stayed};
 ghost use Rattle.b67_io.specs.Line.{ended};
 ghost use Rattle.b67_text.specs.Deck.{limit};
 ghost use Rattle.b67_job.specs.Command.{command_of};
-ghost use Rattle.b67_job.specs.Judgement.{judgement, file_judgement, Refused, Runs, judged_status};
-ghost use Rattle.b67_job.specs.declared.refusal.Refusal.{Refusal};
-ghost use Rattle.b67_job.specs.Told.{refusal_text};
-ghost use Rattle.b67_job.specs.Session.{IsRun};
-ghost use Rattle.b67_job.specs.Runs.{session_of};
+ghost use Rattle.b67_job.specs.declared.command.CommandLine.{CommandLine};
+ghost use Rattle.b67_job.specs.Judgement.{judgement, file_judgement, asked, Refused, judged_status};
+ghost use Rattle.b67_admit.specs.declared.refusal.Refusal.{Refusal};
+ghost use Rattle.b67_admit.specs.Told.{refusal_text};
 ghost use Rattle.b67_job.specs.Ends.{Ends};
-ghost use Rattle.b67_job.specs.Due.{Answered, AnswersTo, FaultEnds, RefusalEnds, IsDue, WasRead, usage_text, reading_text, memory_text};
+ghost use Rattle.b67_job.specs.Due.{Answered, AnswersTo, Serves, FaultEnds, RefusalEnds, TextEnds, IsDue, IsDone, WasRead, usage_text, reading_text, memory_text};
 
-use crate::admission::{AdmitFault, admit};
-use crate::command::command_of;
+use crate::admission::admit;
+use crate::command::{CommandLine, command_of};
 use crate::form::{Form, first_form};
-use crate::lines::{line_of, refusal_line, say};
+use crate::lines::{line_of, refusal_line, say, say_text};
 use crate::machine::run_code;
 use crate::program::first_code;
-use crate::refusal::Refusal;
+use b67_admit::{AdmitFault, Refusal};
 use b67_card::{ReadFault, read_all};
+use b67_commands::{asm_text, check_text};
 use b67_io::{Sink, Source};
+use b67_word::Bytes;
 use std::alloc::Global;
 
 /// How a run ended.
@@ -68,16 +68,47 @@ pub fn refuse_memory<K: Sink>(printer: &mut K) -> Outcome
 fn answer<S: Source, K: Sink>(alloc: Global, words: &[&str], deck: &mut S, printer: &mut K) -> u8
     ensures { Answered words.now S.left S.faults deck.old deck.new K.taken K.faults printer.old printer.new result }
 {
-    if command_of(words).is_none() {
-        return say(
+    match command_of(words) {
+        Some(CommandLine::Run { core }) => answer_run(alloc, core, deck, printer),
+        Some(CommandLine::Asm) => answer_asm(alloc, deck, printer),
+        Some(CommandLine::Check) => answer_check(alloc, deck, printer),
+        None => say(
             printer,
             1,
             &line_of("USAGE: b67 run --core N --backing PATH"),
-        );
+        ),
     }
+}
+
+fn answer_run<S: Source, K: Sink>(alloc: Global, core: u32, deck: &mut S, printer: &mut K) -> u8
+    ensures { Serves (CommandLine.Run core) S.left S.faults deck.old deck.new K.taken K.faults printer.old printer.new result }
+{
     match read_all(alloc, deck) {
         Ok(bytes) => answer_deck(alloc, bytes.as_slice(), printer),
         Err(fault) => answer_fault(fault, printer),
+    }
+}
+
+fn answer_asm<S: Source, K: Sink>(alloc: Global, deck: &mut S, printer: &mut K) -> u8
+    ensures { Serves CommandLine.Asm S.left S.faults deck.old deck.new K.taken K.faults printer.old printer.new result }
+{
+    let text = asm_text(alloc, deck);
+    answer_text(&text, printer)
+}
+
+fn answer_check<S: Source, K: Sink>(alloc: Global, deck: &mut S, printer: &mut K) -> u8
+    ensures { Serves CommandLine.Check S.left S.faults deck.old deck.new K.taken K.faults printer.old printer.new result }
+{
+    let text = check_text(alloc, deck);
+    answer_text(&text, printer)
+}
+
+fn answer_text<K: Sink>(text: &Result<Bytes, AdmitFault>, printer: &mut K) -> u8
+    ensures { TextEnds text.now K.taken K.faults printer.old printer.new result }
+{
+    match text {
+        Ok(text) => say_text(printer, 0, text.as_slice()),
+        Err(fault) => refuse_program(*fault, printer),
     }
 }
 
@@ -122,14 +153,20 @@ fn refuse_program<K: Sink>(fault: AdmitFault, printer: &mut K) -> u8
 {
     match fault {
         AdmitFault::Refused(refusal) => refuse(printer, refusal),
+        AdmitFault::SourceFault => say_reading_fault(printer),
         AdmitFault::Memory => say_no_memory(printer),
     }
 }
 
-/// Runs the deck that the words ask for, and prints the lines of its run. The words are `run --core N --backing PATH`; the
-/// core and the backing aren't used yet. A deck has no card, or one job of hexadecimal cards: `?JOB name`, `?HEX`, cards of
-/// digits, `?END`. Status 0 is the run's end, 1 the usage, 2 a refused deck, 7 a source that failed, 8 a printer that
-/// failed, 9 want of memory.
+/// Carries out the command that the words are, on the deck that is read, and prints what it asks for.
+///
+/// - `run --core N --backing PATH` prints the lines of the deck's run; the core and the backing aren't used yet. A deck has no
+///   card, or one job of hexadecimal cards: `?JOB name`, `?HEX`, cards of digits, `?END`.
+/// - `asm` prints the codefile of assembly cards as hexadecimal cards, 32 bytes to a card, in lower case.
+/// - `check` prints `name ADMITTED s r` for each job of the deck, with its numbers of segments and of data rows.
+///
+/// Status 0 is that all is done, 1 the usage, 2 a refused deck, 7 a source that failed, 8 a printer that failed, 9 want of
+/// memory.
 pub fn run<S: Source, K: Sink>(
     alloc: Global,
     words: &[&str],
@@ -144,13 +181,16 @@ pub fn run<S: Source, K: Sink>(
         × Took K.taken printer.old printer.new usage_text }
     ensures no_command { is_some (command_of words.now) ≡ false → (result.status ≡ 1) ⊎ (result.status ≡ 8) }
 
-    // A deck that was read and is refused: the line of its first refusal is printed.
-    ensures refused { result.status ≡ 2 → (bytes : List ℕ) × (refusal : Refusal) × WasRead S.left deck.old deck.new bytes
-        × (judgement bytes ≡ Refused refusal) × Took K.taken printer.old printer.new (refusal_text refusal) }
+    // A text that was read and is refused by the command: the line of its first refusal is printed.
+    ensures refused { result.status ≡ 2 → (command : CommandLine) × (bytes : List ℕ) × (refusal : Refusal)
+        × (command_of words.now ≡ Some command) × WasRead S.left deck.old deck.new bytes × (asked command bytes ≡ Refused refusal)
+        × Took K.taken printer.old printer.new (refusal_text refusal) }
 
-    // A deck that was read to its end and is run: the whole text of its run is printed.
-    ensures done { result.status ≡ 0 → (bytes : List ℕ) × (jobs : List Member) × (text : List ℕ) × GaveAll S.left deck.old deck.new bytes
-        × (judgement bytes ≡ Runs jobs) × IsRun (session_of jobs) text × Took K.taken printer.old printer.new text }
+    // The deck was read to its end, and the command's work is done: the whole text of its run is printed, or the text that
+    // it is to print.
+    ensures done { result.status ≡ 0 → (command : CommandLine) × (bytes : List ℕ) × (text : List ℕ)
+        × (command_of words.now ≡ Some command) × GaveAll S.left deck.old deck.new bytes × IsDone (asked command bytes) text
+        × Took K.taken printer.old printer.new text }
 
     // A device failed.
     ensures reading_fault { result.status ≡ 7 → Rose S.faults deck.old deck.new
@@ -161,10 +201,10 @@ pub fn run<S: Source, K: Sink>(
     // Memory was refused.
     ensures memory { result.status ≡ 9 → Took K.taken printer.old printer.new memory_text }
 
-    // Where no count rises, the words and the deck decide, or memory was refused.
-    ensures complete { (bytes : List ℕ) → S.left deck.old ≡ Some bytes → is_some (command_of words.now) ≡ true
+    // Where no count rises, the command and the deck decide, or memory was refused.
+    ensures complete { (command : CommandLine) → (bytes : List ℕ) → S.left deck.old ≡ Some bytes → command_of words.now ≡ Some command
         → Stayed S.faults deck.old deck.new → Stayed K.faults printer.old printer.new
-        → (result.status ≡ judged_status (judgement bytes)) ⊎ (result.status ≡ 9) }
+        → (result.status ≡ judged_status (asked command bytes)) ⊎ (result.status ≡ 9) }
 {
     Outcome {
         status: answer(alloc, words, deck, printer),

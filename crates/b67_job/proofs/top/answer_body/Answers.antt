@@ -3,7 +3,7 @@ use Rattle.b67_codefile.specs.declared.file.Codefile.{Codefile}
 use Rattle.b67_word.specs.Tagged.{contents}
 use Rattle.b67_codefile.specs.Reading.{file_of}
 use Rattle.b67_codefile.specs.Meaning.{program_of}
-use Rattle.b67_job.specs.declared.refusal.Refusal.TheVariants as refusals
+use Rattle.b67_admit.specs.declared.refusal.Refusal.TheVariants as refusals
 use Rattle.b67_job.specs.Admission.{program_admitted}
 use Rattle.b67_job.specs.Judgement.{file_judgement, is_first}
 use Rattle.b67_job.proofs.Judged.{program_runs, program_other, answers_run, answers_refusal, answers_fault}

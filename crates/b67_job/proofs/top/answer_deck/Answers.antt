@@ -1,7 +1,7 @@
 use Rattle.std.proofs.Common.{◌∙◌, sym, ap, List, ℕ}
 use Rattle.b67_job.specs.Formed.{formed}
 use Rattle.b67_job.specs.Judgement.{judgement, file_judgement}
-use Rattle.b67_job.specs.declared.refusal.Refusal.TheVariants as refusals
+use Rattle.b67_admit.specs.declared.refusal.Refusal.TheVariants as refusals
 use Rattle.b67_job.proofs.Judged.{judged, form_empty, form_refused, form_body, answers_idle, answers_refusal, answers_same}
 use Rattle.b67_job.proofs.top.answer_deck.Goals as goal
 

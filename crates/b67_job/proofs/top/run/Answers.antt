@@ -5,4 +5,4 @@ pub returns-clause-printing_fault : goal.returns-clause-printing_fault
 returns-clause-printing_fault g c = λ e. let r = c.answer.ensures in let d = cut_of r.ends (due_not_8 r.due) e in (d.0, (r.status, r.text, r.due, d.1))
 
 pub returns-clause-complete : goal.returns-clause-complete
-returns-clause-complete g c = λ bytes e command stayed calm. let r = c.answer.ensures in completed bytes e command stayed calm r.due r.ends
+returns-clause-complete g c = λ command bytes e is stayed calm. let r = c.answer.ensures in completed command bytes e is stayed calm r.due r.ends
