@@ -58,7 +58,7 @@ pub card_turn : (bytes first before now : List ℕ) (n end : ℕ) → before ≡
 card_turn bytes first before now n end b e h =
     let swapped : n * 32 ≡ 32 * n = omega arith in
     let piece : take (end - n * 32) (drop (n * 32) bytes) ≡ take 32 (drop (32 * n) bytes) =
-        ap (λ (k : ℕ). take (k - n * 32) (drop (n * 32) bytes)) e ∙ slice_is bytes (n * 32) ∙ ap (λ (k : ℕ). take 32 (drop k bytes)) swapped in
+    ap (λ (k : ℕ). take (k - n * 32) (drop (n * 32) bytes)) e ∙ slice_is bytes (n * 32) ∙ ap (λ (k : ℕ). take 32 (drop k bytes)) swapped in
     h ∙ ap (λ (xs : List ℕ). xs ++ ended (hex_text (take (end - n * 32) (drop (n * 32) bytes)))) b
     ∙ ap (λ (xs : List ℕ). (first ++ first_cards bytes n) ++ ended (hex_text xs)) piece
     ∙ append_assoc first (first_cards bytes n) (ended (hex_text (take 32 (drop (32 * n) bytes))))

@@ -32,7 +32,7 @@ use Rattle.b67_admit.specs.Told.{refusal_text}
 use Rattle.b67_job.specs.Session.{IsRun}
 use Rattle.b67_job.specs.Runs.{session_of, job_of, program_of_code, RunsCode}
 use Rattle.b67_job.specs.Ends.{Ends, whole, cut}
-use Rattle.b67_job.specs.Due.{IsDone, IsAsked, refusal_asked, done_asked, memory_asked, AnswersTo, WasRead, IsDue, usage_due, refusal_due, done_due, reading_due, memory_due, Answered, Serves, FaultEnds, RefusalEnds, TextEnds, reading_text, memory_text}
+use Rattle.b67_job.specs.Due.{IsDone, IsAsked, refusal_asked, done_asked, memory_asked, AnswersTo, WasRead, IsDue, usage_due, refusal_due, done_due, reading_due, memory_due, Serves, FaultEnds, RefusalEnds, TextEnds, reading_text, memory_text}
 
 -- ---- programs
 
@@ -113,16 +113,19 @@ was_read {left = left} {deck = deck} {deck' = deck'} {bytes = bytes} first = by_
     all_of before short e =
         let l : length bytes ≡ min (limit + 1) (length before) = ap length e ∙ length-take (limit + 1) before in
         omega (arith, short, l)
+
     by_test : (b : Bool) → nat_lt limit (length bytes) ≡ b → WasRead left deck deck' bytes
     by_test true t =
         let long : limit < length bytes = grind (arith, nat_tests) in
         inr (record { told = λ before e. let h = first.told before e in (drop (limit + 1) before, sym (take-append-drop (limit + 1) before) ∙ ap (λ (xs : List ℕ). xs ++ drop (limit + 1) before) (sym h.0), h.1) }, long)
     by_test false t =
         let short : length bytes ≤ limit = grind (arith, nat_tests) in
-        inl (record { told = λ before e.
-          let h = first.told before e in
-          let few = all_of before short h.0 in
-          (sym (h.0 ∙ take_all (limit + 1) before few), h.1 ∙ ap Some (drop_all (limit + 1) before few)) })
+        inl (record {
+          told = λ before e.
+              let h = first.told before e in
+              let few = all_of before short h.0 in
+              (sym (h.0 ∙ take_all (limit + 1) before few), h.1 ∙ ap Some (drop_all (limit + 1) before few));
+        })
 
 -- ---- commands
 

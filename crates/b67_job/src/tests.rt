@@ -117,15 +117,14 @@ fn prefixes(rt: HostRuntime) -> Result<(), Fail> {
 }
 
 /// The code of SUM as cards.
-const SUM_CARDS: &str =
-    "SEGMENT MAIN 2\nMKST\nNAMC 0,9\nLT8 2\nLT8 3\nADD\nENTR\nEXIT\n";
+const SUM_CARDS: &str = "SEGMENT MAIN 2\nMKST\nNAMC 0,9\nLT8 2\nLT8 3\nADD\nENTR\nEXIT\n";
 
 /// Its mnemonic of card 6 is misspelt.
-const ADDD_CARDS: &str =
-    "SEGMENT MAIN 2\nMKST\nNAMC 0,9\nLT8 2\nLT8 3\nADDD\nENTR\nEXIT\n";
+const ADDD_CARDS: &str = "SEGMENT MAIN 2\nMKST\nNAMC 0,9\nLT8 2\nLT8 3\nADDD\nENTR\nEXIT\n";
 
 /// SUM's deck, and behind it that of a job with a BRUN into a literal.
-const SUM_AND_BAD: &str = "?JOB SUM\n?HEX\n423637434f44453100010000020002\n0003ae4009b202b200030380aba3ffff\n?END\n?JOB BAD\n?HEX\n423637434f44453100010000020003\n0003beffffffffff00030000000000010003a20001ffffff\n?END\n";
+const SUM_AND_BAD: &str =
+    "?JOB SUM\n?HEX\n423637434f44453100010000020002\n0003ae4009b202b200030380aba3ffff\n?END\n?JOB BAD\n?HEX\n423637434f44453100010000020003\n0003beffffffffff00030000000000010003a20001ffffff\n?END\n";
 
 // The commands that print a text, or a refusal alone.
 #[test]
