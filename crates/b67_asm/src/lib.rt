@@ -11,6 +11,8 @@ mod operator;
 mod row;
 mod segment;
 mod statement;
+#[cfg(test)]
+mod tests;
 
 pub use assembly::assemble;
 pub use fault::AsmFault;
