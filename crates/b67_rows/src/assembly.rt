@@ -72,7 +72,7 @@ pub fn operands_are_refused()
     ensures three_in_a_pair { assembly (codes "SEGMENT A 2\nVALC 2,2,2\n") ≡ refused 2 2 }
     ensures bad_literal { assembly (codes "SEGMENT A 2\nLT48 #12345678901\n") ≡ refused 2 2 }
     ensures bad_name { assembly (codes "SEGMENT a 2\n") ≡ refused 1 2 }
-    ensures two_names { assembly (codes "ROW R2 X\n") ≡ refused 1 2 }
+    ensures two_names { assembly (codes "ROW TWO X\n") ≡ refused 1 2 }
     ensures row_at_2 { assembly (codes "SEGMENT A 2\nVALC 2,R\nROW R\nNUM 1\n") ≡ refused 2 2 }
 {}
 
