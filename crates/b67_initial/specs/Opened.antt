@@ -1,16 +1,17 @@
 -- Where a machine keeps the things of a session that opens: the dictionaries lie in a row, the first task of each job has
 -- the slot before the job's number, and no task runs.
-use Rattle.std.specs.Prelude.{ℕ, ◌+◌, ◌-◌, List, [], ◌∷◌, length, take, Option, Some, None, slice_get}
-use Rattle.b67_area.specs.declared.Kind.TheVariants as kind
+use Rattle.std.specs.Prelude.{ℕ, ◌+◌, ◌-◌, List, [], ◌∷◌, ◌++◌, length, map, take, Option, Some, None, slice_get}
 use Rattle.b67_model.specs.Lists.{total}
-use Rattle.b67_model.specs.State.{Segment}
 use Rattle.b67_model.specs.Program.{Program}
+use Rattle.b67_opening.specs.Opening.{Opening}
+use Rattle.b67_stack.specs.Stacks.{Entered, Activation}
 use Rattle.b67_stack.specs.Picture.{Thing}
 use Rattle.b67_layout.specs.Plan.{Slotted, Plan}
+use Rattle.b67_install.specs.Things.{entries_of, things_of}
 
 -- the words of a program's dictionary, and of the dictionaries of programs
 abbrev pub dictionary_words : Program → ℕ
-dictionary_words p = 2 + (length p.segments + length p.rows)
+dictionary_words p = 2 + entries_of p
 
 abbrev pub dictionaries : List Program → ℕ
 dictionaries programs = total dictionary_words programs
@@ -39,11 +40,14 @@ opening_plan stack programs = record {
   home = λ job n. dictionary_at programs job + 1 + segments_in (slice_get programs (job - 1)) + n;
 }
 
--- the things of a program, whose descriptors stand one after another from an address on
-abbrev pub segments_from : ℕ → List Segment → List Thing
-segments_from at [] = []
-segments_from at (s ∷ more) = record { home = at; kind = kind.Code; numbers = s.code } ∷ segments_from (at + 1) more
+-- the things of programs whose dictionaries lie in a row from an address on
+abbrev pub things_from : ℕ → List Program → List Thing
+things_from at [] = []
+things_from at (p ∷ more) = things_of at p ++ things_from (at + dictionary_words p) more
 
-abbrev pub rows_from : ℕ → List (List ℕ) → List Thing
-rows_from at [] = []
-rows_from at (r ∷ more) = record { home = at; kind = kind.Row; numbers = r } ∷ rows_from (at + 1) more
+-- the stack of a job's first task
+abbrev pub first_stack : ℕ → List Activation
+first_stack job = record { head = Entered 2 (record { stack = 127 + job; disp = 0 }) None; cells = [] } ∷ []
+
+abbrev pub programs_of : List Opening → List Program
+programs_of openings = map (λ (o : Opening). o.program) openings
