@@ -1,3 +1,6 @@
 pub mod Lists
 pub mod Members
 pub mod Things
+pub mod Slots
+pub mod Plans
+pub mod Whole
