@@ -87,7 +87,7 @@ free_first t s x is has = ⊎_elim
       some : 1 ≤ times x (chain_of x s.chains)
       some = rw k.is (omega (arith, one-same x))
 
-first_take : (n : ℕ) (fs : List ℕ) → 1 ≤ n → first (take n fs) ≡ first fs
+pub first_take : (n : ℕ) (fs : List ℕ) → 1 ≤ n → first (take n fs) ≡ first fs
 first_take zero fs h = absurd (omega arith)
 first_take (suc n) [] h = refl
 first_take (suc n) (c ∷ cs) h = refl

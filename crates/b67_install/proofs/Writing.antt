@@ -1,16 +1,18 @@
 -- Things written one after the other.
-use Rattle.std.proofs.Common.{◌≡◌, ℕ, ◌+◌, ◌-◌, ◌<◌, ◌≤◌, ◌⊎◌, List, [], ◌∷◌, ◌++◌, length, take, map, Option, Some, refl, sym, ◌∙◌, ap, subst, arith, inl, inr, ⊎_elim}
+use Rattle.std.proofs.Common.{◌≡◌, ℕ, ◌+◌, ◌-◌, ◌<◌, ◌≤◌, ◌⊎◌, List, [], ◌∷◌, ◌++◌, length, take, map, Option, Some, refl, sym, ◌∙◌, ap, subst, arith, inl, inr, ⊎_elim, slice_set, length-drop}
 use Rattle.std.specs.List.{slice_get, AllByRecursion}
 use Rattle.b67_word.specs.Tagged.{Tagged, word, contents}
 use Rattle.b67_core.specs.Numbers.{number}
-use Rattle.b67_backing.specs.Shelf.{Table, Shelf, IsShelf, times, taken}
+use Rattle.b67_core.proofs.Writes.{slice_get-set_same, slice_get-set_other}
+use Rattle.b67_codefile.specs.Spelling.{Bears}
+use Rattle.b67_backing.specs.Shelf.{Table, Shelf, IsShelf, first, times, taken}
 use Rattle.b67_backing.specs.Held.{Changes, SameBut, Stores, Holds, sectors_for}
 use Rattle.b67_model.specs.Lists.{Has, total}
-use Rattle.b67_stack.specs.Picture.{Thing, words_of}
+use Rattle.b67_stack.specs.Picture.{Thing, words_of, home_word}
 use Rattle.b67_install.specs.Things.{sectors_of, sectors_of_all}
-use Rattle.b67_install.specs.Resting.{Resting, placed, stocked, descriptor, DescriptorsStand, WordsRest, Stocks, SameOutside, KeepsChains}
+use Rattle.b67_install.specs.Resting.{Resting, placed, stocked, at_rest, descriptor, DescriptorsStand, WordsRest, Stocks, SameOutside, KeepsChains}
 use Rattle.b67_install.specs.Writing.{Parts, Spares, Writes}
-use Rattle.b67_install.proofs.Shelves.{keeps_taken, keeps-refl, keeps_both, stocked-append, placed-append, stocked_has, placed_chain, placed_thing, holds_stay, chain_apart, times-take_drop, none_more}
+use Rattle.b67_install.proofs.Shelves.{first_take, keeps_taken, keeps-refl, keeps_both, stocked-append, placed-append, stocked_has, placed_chain, placed_thing, holds_stay, chain_apart, times-take_drop, none_more}
 
 same_but_both : (ms ns : List ℕ) (a b c : List (List ℕ)) → ((m : ℕ) → Has ns m → Has ms m) → SameBut ms a b → SameBut ns b c → SameBut ms a c
 same_but_both ms ns a b c more s t = record { count = t.count ∙ s.count; others = λ m low out. t.others m low (none_more ms ns m (more m) out) ∙ s.others m low out }
@@ -23,6 +25,20 @@ pub has_parts : {A : Type 0} (xs ys : List A) (x : A) → Has (xs ++ ys) x → H
 has_parts [] ys x h = inr h
 has_parts (y ∷ xs) ys x (inl e) = inl (inl e)
 has_parts (y ∷ xs) ys x (inr h) = ⊎_elim (λ k. inl (inr k)) (λ k. inr k) (has_parts xs ys x h)
+
+-- the words of a list with one tag are those of their bits
+pub words_back : (tag : ℕ) (ws : List Tagged) → AllByRecursion (Bears tag) ws → map (word tag) (contents ws) ≡ ws
+words_back tag [] h = refl
+words_back tag (w ∷ ws) h = cc2 (ap (λ (n : ℕ). word n w.bits) (sym h.0.tagged)) (words_back tag ws h.1) where
+  cc2 : word tag w.bits ≡ w → map (word tag) (contents ws) ≡ ws → word tag w.bits ∷ map (word tag) (contents ws) ≡ w ∷ ws
+  cc2 e f = cc
+
+-- a word that was written to core
+pub word_set : (core new : List Tagged) (at : ℕ) (w v : Tagged) → at < length core → new ≡ slice_set core at w → w ≡ v → slice_get new at ≡ Some v
+word_set core new at w v inside e f = ap (λ (c : List Tagged). slice_get c at) e ∙ slice_get-set_same core at w inside ∙ ap Some f
+
+pub outside_set : (core new : List Tagged) (at : ℕ) (w : Tagged) → new ≡ slice_set core at w → SameOutside at (at + 1) core new
+outside_set core new at w e i h = ap (λ (c : List Tagged). slice_get c i) e ∙ slice_get-set_other core at i w (λ q. ⊎_elim (λ (l : i < at). omega arith) (λ (l : at + 1 ≤ i). omega arith) h)
 
 module _ {D : Type 0} (tell : D → Option (List (List ℕ))) where
   pub spares-refl : (at n : ℕ) (a : Parts D) → Spares tell at n a a
@@ -111,6 +127,22 @@ module _ {D : Type 0} (tell : D → Option (List (List ℕ))) where
     };
     left = omega (arith, left);
   }
+
+  -- a thing whose words were put on a shelf, and its descriptor into core
+  pub written : (t : Thing) (ws : List Tagged) (x : ℕ) (a b : Parts D) → (s : Shelf) × IsShelf a.table s
+      → words_of t ≡ ws → length t.numbers ≡ length ws → 1 ≤ length ws → sectors_for (length ws) ≤ a.table.free
+      → ((s : Shelf) → IsShelf a.table s → IsShelf b.table (taken (sectors_for (length ws)) s))
+      → ((s : Shelf) → IsShelf a.table s → Changes tell a.device b.device (Stores (take (sectors_for (length ws)) s.free) (map number ws)))
+      → ((s : Shelf) → IsShelf a.table s → x ≡ first s.free)
+      → slice_get b.core t.home ≡ Some (home_word t (at_rest x))
+      → Writes tell (t ∷ []) a b
+  written t ws x a b known words long some fits shelf stores firsts word_is =
+      let n : sectors_for (length ws) ≡ sectors_of t = ap sectors_for (sym long) in
+      writes_one t a b
+          (λ s is. subst (λ (m : ℕ). IsShelf b.table (taken m s)) n (shelf s is))
+          (λ s is. word_is ∙ ap (λ (m : ℕ). Some (home_word t (at_rest m))) (firsts s is ∙ sym (first_take (sectors_of t) s.free (omega (arith, long)))))
+          (λ s is. rw words (subst (λ (m : ℕ). Changes tell a.device b.device (Stores (take m s.free) (map number ws))) n (stores s is)))
+          (let (s, is) = known in omega (arith, (shelf s is).count, is.count, length-drop (sectors_for (length ws)) s.free, n))
 
   -- what is written after things leaves them, if their descriptors lie elsewhere
   pub writes_both : (xs ys : List Thing) (at n : ℕ) (a b c : Parts D) → Writes tell xs a b → Writes tell ys b c → Spares tell at n b c

@@ -56,3 +56,106 @@ fn shelve<B: Backing>(
         Err(_) => Err(SpaceFault::BackingFault),
     }
 }
+
+/// Writes a segment to sectors, and its descriptor to core.
+fn install_segment<B: Backing>(
+    core: &mut Core,
+    sectors: &mut Sectors,
+    backing: &mut B,
+    at: u32,
+    segment: &Segment,
+) -> Result<(), SpaceFault>
+    requires known { (st : Shelf) × IsShelf sectors.old st }
+    requires inside { at < length core.old }
+    requires within { IsSegment segment.now }
+    requires room { sectors_for (length segment.now.code) ≤ sectors.old.free }
+    requires same { B.size backing.old + 1 ≡ length sectors.old.links }
+    ensures writes { OnOk result (Writes B.holds (record { home = at; kind = Code; numbers = contents segment.now.code } ∷ [])
+        (record { core = core.old; table = sectors.old; device = backing.old })
+        (record { core = core.new; table = sectors.new; device = backing.new })) }
+    ensures spares { Spares B.holds at 1
+        (record { core = core.old; table = sectors.old; device = backing.old })
+        (record { core = core.new; table = sectors.new; device = backing.new }) }
+    ensures size { B.size backing.new ≡ B.size backing.old }
+    ensures refusal { IfErr result (λ fault. fault ≡ BackingFault) }
+    ensures cause { HasCause B.faults backing.old backing.new result }
+{
+    let code = segment.code.as_slice();
+    let first = shelve(sectors, backing, code)?;
+    let descriptor = SegDesc {
+        present: false,
+        words: code.len() as u32,
+        address: first,
+    };
+    core.set(at, descriptor.word());
+    Ok(())
+}
+
+/// Writes a data row to sectors, and its original to core.
+fn install_row<B: Backing>(
+    core: &mut Core,
+    sectors: &mut Sectors,
+    backing: &mut B,
+    at: u32,
+    row: &Words,
+) -> Result<(), SpaceFault>
+    requires known { (st : Shelf) × IsShelf sectors.old st }
+    requires inside { at < length core.old }
+    requires within { IsRow row.now }
+    requires room { sectors_for (length row.now) ≤ sectors.old.free }
+    requires same { B.size backing.old + 1 ≡ length sectors.old.links }
+    ensures writes { OnOk result (Writes B.holds (record { home = at; kind = Row; numbers = contents row.now } ∷ [])
+        (record { core = core.old; table = sectors.old; device = backing.old })
+        (record { core = core.new; table = sectors.new; device = backing.new })) }
+    ensures spares { Spares B.holds at 1
+        (record { core = core.old; table = sectors.old; device = backing.old })
+        (record { core = core.new; table = sectors.new; device = backing.new }) }
+    ensures size { B.size backing.new ≡ B.size backing.old }
+    ensures refusal { IfErr result (λ fault. fault ≡ BackingFault) }
+    ensures cause { HasCause B.faults backing.old backing.new result }
+{
+    let words = row.as_slice();
+    let first = shelve(sectors, backing, words)?;
+    let original = DataDesc {
+        present: false,
+        copy: false,
+        indexed: false,
+        read_only: true,
+        length: words.len() as u32,
+        address: first,
+    };
+    core.set(at, original.word());
+    Ok(())
+}
+
+/// Writes segments to sectors, and their descriptors to core, one after the other.
+fn install_segments<B: Backing>(
+    core: &mut Core,
+    sectors: &mut Sectors,
+    backing: &mut B,
+    base: u32,
+    segments: &[Segment],
+) -> Result<(), SpaceFault>
+    requires known { (st : Shelf) × IsShelf sectors.old st }
+    requires inside { base + length segments.now ≤ length core.old }
+    requires within { AllByRecursion IsSegment segments.now }
+    requires room { sectors_of_all (code_from base (map segment_of segments.now)) ≤ sectors.old.free }
+    requires same { B.size backing.old + 1 ≡ length sectors.old.links }
+    ensures writes { OnOk result (Writes B.holds (code_from base (map segment_of segments.now))
+        (record { core = core.old; table = sectors.old; device = backing.old })
+        (record { core = core.new; table = sectors.new; device = backing.new })) }
+    ensures spares { Spares B.holds base (length segments.now)
+        (record { core = core.old; table = sectors.old; device = backing.old })
+        (record { core = core.new; table = sectors.new; device = backing.new }) }
+    ensures size { B.size backing.new ≡ B.size backing.old }
+    ensures refusal { IfErr result (λ fault. fault ≡ BackingFault) }
+    ensures cause { HasCause B.faults backing.old backing.new result }
+{
+    let _size = core.size();
+    let mut at = base;
+    for segment in segments {
+        install_segment(core, sectors, backing, at, segment)?;
+        at += 1;
+    }
+    Ok(())
+}
