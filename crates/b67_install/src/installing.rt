@@ -1,0 +1,161 @@
+//! A program's dictionary, and where its segments and data rows rest.
+
+ghost use Rattle.std.specs.Prelude.{◌≡◌, ℕ, ◌+◌, ◌<◌, ◌≤◌, ◌^◌, ◌∷◌, [], length, map, take, OnOk, OnErr, IfErr, IfOk};
+ghost use Rattle.std.specs.List.{AllByRecursion};
+ghost use Rattle.b67_word.specs.Tagged.{contents};
+ghost use Rattle.b67_core.specs.Numbers.{number};
+ghost use Rattle.b67_area.specs.declared.Kind.TheVariants.{Code, Row};
+ghost use Rattle.b67_io.specs.Causes.{HasCause};
+ghost use Rattle.b67_backing.specs.Shelf.{Shelf, IsShelf, first as first_of, taken};
+ghost use Rattle.b67_backing.specs.Held.{Changes, SameBut, Stores, sectors_for};
+ghost use Rattle.b67_backing.specs.declared.refusals.SpaceFault.TheVariants.{BackingFault};
+ghost use Rattle.b67_codefile.specs.Spelling.{IsSegment, IsRow};
+ghost use Rattle.b67_codefile.specs.Meaning.{segment_of, program_of};
+ghost use Rattle.b67_stack.specs.declared.Cpu.{Cpu};
+ghost use Rattle.b67_install.specs.Things.{code_from, rows_from, things_of, entries_of, sectors_of_all, sectors_of_program};
+ghost use Rattle.b67_install.specs.Resting.{stocked, DictionaryIs, Stocks, SameOutside, KeepsChains};
+ghost use Rattle.b67_install.specs.Writing.{Parts, Spares, Writes};
+
+use b67_backing::{Backing, Sectors, SpaceFault};
+use b67_codefile::Segment;
+use b67_core::Core;
+use b67_ctl::{DataDesc, Mscw, SegDesc};
+use b67_load::Admitted;
+use b67_stack::Cpu;
+use b67_word::{Word, Words};
+
+/// Writes words to a chain of free sectors, and answers its first.
+fn shelve<B: Backing>(
+    sectors: &mut Sectors,
+    backing: &mut B,
+    words: &[Word],
+) -> Result<u32, SpaceFault>
+    requires known { (st : Shelf) × IsShelf sectors.old st }
+    requires some { 1 ≤ length words.now }
+    requires few { length words.now < 2 ^ 16 }
+    requires room { sectors_for (length words.now) ≤ sectors.old.free }
+    requires same { B.size backing.old + 1 ≡ length sectors.old.links }
+    ensures first { IfOk result (λ x. (st : Shelf) → IsShelf sectors.old st → x ≡ first_of st.free) }
+    ensures small { IfOk result (λ x. x < 2 ^ 20) }
+    ensures shelf { (st : Shelf) → IsShelf sectors.old st → IsShelf sectors.new (taken (sectors_for (length words.now)) st) }
+    ensures stores { OnOk result ((st : Shelf) → IsShelf sectors.old st
+        → Changes B.holds backing.old backing.new (Stores (take (sectors_for (length words.now)) st.free) (map number words.now))) }
+    ensures others { (st : Shelf) → IsShelf sectors.old st
+        → Changes B.holds backing.old backing.new (SameBut (take (sectors_for (length words.now)) st.free)) }
+    ensures count { length sectors.new.links ≡ length sectors.old.links }
+    ensures size { B.size backing.new ≡ B.size backing.old }
+    ensures refusal { IfErr result (λ fault. fault ≡ BackingFault) }
+    ensures cause { HasCause B.faults backing.old backing.new result }
+{
+    let first = match sectors.take((words.len() as u32 + 29) / 30) {
+        Some(first) => first,
+        None => unreachable!(),
+    };
+    match sectors.store(first, words, backing) {
+        Ok(()) => Ok(first),
+        Err(_) => Err(SpaceFault::BackingFault),
+    }
+}
+
+/// Writes a segment to sectors, and its descriptor to core.
+fn install_segment<B: Backing>(
+    core: &mut Core,
+    sectors: &mut Sectors,
+    backing: &mut B,
+    at: u32,
+    segment: &Segment,
+) -> Result<(), SpaceFault>
+    requires known { (st : Shelf) × IsShelf sectors.old st }
+    requires inside { at < length core.old }
+    requires within { IsSegment segment.now }
+    requires room { sectors_for (length segment.now.code) ≤ sectors.old.free }
+    requires same { B.size backing.old + 1 ≡ length sectors.old.links }
+    ensures writes { OnOk result (Writes B.holds (record { home = at; kind = Code; numbers = contents segment.now.code } ∷ [])
+        (record { core = core.old; table = sectors.old; device = backing.old })
+        (record { core = core.new; table = sectors.new; device = backing.new })) }
+    ensures spares { Spares B.holds at 1
+        (record { core = core.old; table = sectors.old; device = backing.old })
+        (record { core = core.new; table = sectors.new; device = backing.new }) }
+    ensures size { B.size backing.new ≡ B.size backing.old }
+    ensures refusal { IfErr result (λ fault. fault ≡ BackingFault) }
+    ensures cause { HasCause B.faults backing.old backing.new result }
+{
+    let code = segment.code.as_slice();
+    let first = shelve(sectors, backing, code)?;
+    let descriptor = SegDesc {
+        present: false,
+        words: code.len() as u32,
+        address: first,
+    };
+    core.set(at, descriptor.word());
+    Ok(())
+}
+
+/// Writes a data row to sectors, and its original to core.
+fn install_row<B: Backing>(
+    core: &mut Core,
+    sectors: &mut Sectors,
+    backing: &mut B,
+    at: u32,
+    row: &Words,
+) -> Result<(), SpaceFault>
+    requires known { (st : Shelf) × IsShelf sectors.old st }
+    requires inside { at < length core.old }
+    requires within { IsRow row.now }
+    requires room { sectors_for (length row.now) ≤ sectors.old.free }
+    requires same { B.size backing.old + 1 ≡ length sectors.old.links }
+    ensures writes { OnOk result (Writes B.holds (record { home = at; kind = Row; numbers = contents row.now } ∷ [])
+        (record { core = core.old; table = sectors.old; device = backing.old })
+        (record { core = core.new; table = sectors.new; device = backing.new })) }
+    ensures spares { Spares B.holds at 1
+        (record { core = core.old; table = sectors.old; device = backing.old })
+        (record { core = core.new; table = sectors.new; device = backing.new }) }
+    ensures size { B.size backing.new ≡ B.size backing.old }
+    ensures refusal { IfErr result (λ fault. fault ≡ BackingFault) }
+    ensures cause { HasCause B.faults backing.old backing.new result }
+{
+    let words = row.as_slice();
+    let first = shelve(sectors, backing, words)?;
+    let original = DataDesc {
+        present: false,
+        copy: false,
+        indexed: false,
+        read_only: true,
+        length: words.len() as u32,
+        address: first,
+    };
+    core.set(at, original.word());
+    Ok(())
+}
+
+/// Writes segments to sectors, and their descriptors to core, one after the other.
+fn install_segments<B: Backing>(
+    core: &mut Core,
+    sectors: &mut Sectors,
+    backing: &mut B,
+    base: u32,
+    segments: &[Segment],
+) -> Result<(), SpaceFault>
+    requires known { (st : Shelf) × IsShelf sectors.old st }
+    requires inside { base + length segments.now ≤ length core.old }
+    requires within { AllByRecursion IsSegment segments.now }
+    requires room { sectors_of_all (code_from base (map segment_of segments.now)) ≤ sectors.old.free }
+    requires same { B.size backing.old + 1 ≡ length sectors.old.links }
+    ensures writes { OnOk result (Writes B.holds (code_from base (map segment_of segments.now))
+        (record { core = core.old; table = sectors.old; device = backing.old })
+        (record { core = core.new; table = sectors.new; device = backing.new })) }
+    ensures spares { Spares B.holds base (length segments.now)
+        (record { core = core.old; table = sectors.old; device = backing.old })
+        (record { core = core.new; table = sectors.new; device = backing.new }) }
+    ensures size { B.size backing.new ≡ B.size backing.old }
+    ensures refusal { IfErr result (λ fault. fault ≡ BackingFault) }
+    ensures cause { HasCause B.faults backing.old backing.new result }
+{
+    let _size = core.size();
+    let mut at = base;
+    for segment in segments {
+        install_segment(core, sectors, backing, at, segment)?;
+        at += 1;
+    }
+    Ok(())
+}
