@@ -4,3 +4,4 @@ pub mod Things
 pub mod Slots
 pub mod Plans
 pub mod Whole
+pub mod Resting
