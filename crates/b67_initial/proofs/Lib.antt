@@ -5,3 +5,4 @@ pub mod Slots
 pub mod Plans
 pub mod Whole
 pub mod Resting
+pub mod Rests
