@@ -1,4 +1,5 @@
 pub mod Lists
+pub mod Writes
 pub mod Members
 pub mod Things
 pub mod Slots

@@ -78,7 +78,7 @@ module _ (x : Storage) (cpu : Cpu) (stack quantum : ℕ) (switches : List Switch
       let few : k < length openings = omega (arith, low, count_is openings) in
       let small : k < 8 = omega (arith, few, within.few) in
       let o = item_at openings k few in
-      subst (P k) (sym (slot_is stack openings k o.0 o.1 small)) (h k small (parts.slots.slots k low))
+      subst (P k) (sym (slot_is stack openings k o.0 o.1 small)) (h k small ((parts.slots.tasks k low).slot))
 
   home_low : (t : Thing) → Has p.things t → Within 162 (160 + dictionaries (programs_of openings)) t
   home_low t h = thing_within (programs_of openings) t (is_thing (programs_of openings) t (from_picture stack openings t h))
@@ -139,7 +139,7 @@ module _ (x : Storage) (cpu : Cpu) (stack quantum : ℕ) (switches : List Switch
   vector : VectorStands cpu.core plan jobs
   vector = record {
     live = for_places (λ m t. slice_get cpu.core (32 + slot_of plan m.setting.number t.number) ≡ Some (vector_word plan m.setting.number t.parents))
-        (λ k o e small low is. ap (λ i. slice_get cpu.core (32 + i)) is ∙ parts.slots.vector k low);
+        (λ k o e small low is. ap (λ i. slice_get cpu.core (32 + i)) is ∙ (parts.slots.tasks k low).vector);
     free = λ k small none. ⊎_elim
         (λ (low : k < length (programs_of openings)). let q = item_at (programs_of openings) k low in absurd (none (slotted k) (has_slot 0 (programs_of openings) k k q.0 q.1 (omega arith)) refl))
         (λ (past : length (programs_of openings) ≤ k). parts.free k past small)

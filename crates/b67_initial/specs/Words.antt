@@ -17,10 +17,14 @@ pub record SlotLies (core : List Tagged) (at job : ℕ) : Type 0 where
 abbrev pub first_vector_word : ℕ → Tagged
 first_vector_word job = word 3 (2 ^ 46 + 1023 * 2 ^ 36 + job * 2 ^ 16)
 
+-- both, of slot k
+pub record FirstTaskLies (core : List Tagged) (at k : ℕ) : Type 0 where
+  pub slot : SlotLies core at (k + 1)
+  pub vector : slice_get core (32 + k) ≡ Some (first_vector_word (k + 1))
+
 -- the first `jobs` slots, of `size` words each, and their words in the vector
 pub record SlotsLie (core : List Tagged) (at size jobs : ℕ) : Type 0 where
-  pub slots : (k : ℕ) → k < jobs → SlotLies core (at + k * size) (k + 1)
-  pub vector : (k : ℕ) → k < jobs → slice_get core (32 + k) ≡ Some (first_vector_word (k + 1))
+  pub tasks : (k : ℕ) → k < jobs → FirstTaskLies core (at + k * size) k
 
 -- the two words before the entries of a dictionary
 pub record HeadLies (core : List Tagged) (base count : ℕ) : Type 0 where

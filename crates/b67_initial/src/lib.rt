@@ -1,2 +1,4 @@
 //! The machine that stands for the opening state of a session: nothing is present and no task runs.
 #![tactic(auto)]
+
+mod laying;
