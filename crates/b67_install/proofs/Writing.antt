@@ -17,7 +17,7 @@ use Rattle.b67_install.proofs.Shelves.{first_take, keeps_taken, keeps-refl, keep
 same_but_both : (ms ns : List ℕ) (a b c : List (List ℕ)) → ((m : ℕ) → Has ns m → Has ms m) → SameBut ms a b → SameBut ns b c → SameBut ms a c
 same_but_both ms ns a b c more s t = record { count = t.count ∙ s.count; others = λ m low out. t.others m low (none_more ms ns m (more m) out) ∙ s.others m low out }
 
-total-append : {A : Type 0} (f : A → ℕ) (xs ys : List A) → total f (xs ++ ys) ≡ total f xs + total f ys
+pub total-append : {A : Type 0} (f : A → ℕ) (xs ys : List A) → total f (xs ++ ys) ≡ total f xs + total f ys
 total-append f [] ys = omega arith
 total-append f (x ∷ xs) ys = omega (arith, total-append f xs ys)
 

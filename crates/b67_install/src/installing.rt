@@ -9,7 +9,7 @@ ghost use Rattle.b67_io.specs.Causes.{HasCause};
 ghost use Rattle.b67_backing.specs.Shelf.{Shelf, IsShelf, first as first_of, taken};
 ghost use Rattle.b67_backing.specs.Held.{Changes, SameBut, Stores, sectors_for};
 ghost use Rattle.b67_backing.specs.declared.refusals.SpaceFault.TheVariants.{BackingFault};
-ghost use Rattle.b67_codefile.specs.Spelling.{IsSegment, IsRow};
+ghost use Rattle.b67_codefile.specs.Spelling.{IsSegment, IsRow, IsWithin};
 ghost use Rattle.b67_codefile.specs.Meaning.{segment_of, program_of};
 ghost use Rattle.b67_stack.specs.declared.Cpu.{Cpu};
 ghost use Rattle.b67_install.specs.Things.{code_from, rows_from, things_of, entries_of, sectors_of_all, sectors_of_program};
@@ -17,7 +17,7 @@ ghost use Rattle.b67_install.specs.Resting.{stocked, DictionaryIs, Stocks, SameO
 ghost use Rattle.b67_install.specs.Writing.{Parts, Spares, Writes};
 
 use b67_backing::{Backing, Sectors, SpaceFault};
-use b67_codefile::Segment;
+use b67_codefile::{Codefile, Segment};
 use b67_core::Core;
 use b67_ctl::{DataDesc, Mscw, SegDesc};
 use b67_load::Admitted;
@@ -158,4 +158,66 @@ fn install_segments<B: Backing>(
         at += 1;
     }
     Ok(())
+}
+
+/// Writes data rows to sectors, and their originals to core, one after the other.
+fn install_rows<B: Backing>(
+    core: &mut Core,
+    sectors: &mut Sectors,
+    backing: &mut B,
+    base: u32,
+    rows: &[Words],
+) -> Result<(), SpaceFault>
+    requires known { (st : Shelf) × IsShelf sectors.old st }
+    requires inside { base + length rows.now ≤ length core.old }
+    requires within { AllByRecursion IsRow rows.now }
+    requires room { sectors_of_all (rows_from base (map contents rows.now)) ≤ sectors.old.free }
+    requires same { B.size backing.old + 1 ≡ length sectors.old.links }
+    ensures writes { OnOk result (Writes B.holds (rows_from base (map contents rows.now))
+        (record { core = core.old; table = sectors.old; device = backing.old })
+        (record { core = core.new; table = sectors.new; device = backing.new })) }
+    ensures spares { Spares B.holds base (length rows.now)
+        (record { core = core.old; table = sectors.old; device = backing.old })
+        (record { core = core.new; table = sectors.new; device = backing.new }) }
+    ensures size { B.size backing.new ≡ B.size backing.old }
+    ensures refusal { IfErr result (λ fault. fault ≡ BackingFault) }
+    ensures cause { HasCause B.faults backing.old backing.new result }
+{
+    let _size = core.size();
+    let mut at = base;
+    for row in rows {
+        install_row(core, sectors, backing, at, row)?;
+        at += 1;
+    }
+    Ok(())
+}
+
+/// Writes a program's segments and data rows to sectors, and the entries of its dictionary at `base` to core.
+fn install_things<B: Backing>(
+    core: &mut Core,
+    sectors: &mut Sectors,
+    backing: &mut B,
+    base: u32,
+    file: &Codefile,
+) -> Result<(), SpaceFault>
+    requires known { (st : Shelf) × IsShelf sectors.old st }
+    requires inside { base + (2 + entries_of (program_of file.now)) ≤ length core.old }
+    requires within { IsWithin file.now }
+    requires room { sectors_of_all (things_of base (program_of file.now)) ≤ sectors.old.free }
+    requires same { B.size backing.old + 1 ≡ length sectors.old.links }
+    ensures writes { OnOk result (Writes B.holds (things_of base (program_of file.now))
+        (record { core = core.old; table = sectors.old; device = backing.old })
+        (record { core = core.new; table = sectors.new; device = backing.new })) }
+    ensures spares { Spares B.holds (base + 2) (entries_of (program_of file.now))
+        (record { core = core.old; table = sectors.old; device = backing.old })
+        (record { core = core.new; table = sectors.new; device = backing.new }) }
+    ensures size { B.size backing.new ≡ B.size backing.old }
+    ensures refusal { IfErr result (λ fault. fault ≡ BackingFault) }
+    ensures cause { HasCause B.faults backing.old backing.new result }
+{
+    let _size = core.size();
+    let segments = file.segments.as_slice();
+    let rows = file.rows.as_slice();
+    install_segments(core, sectors, backing, base + 2, segments)?;
+    install_rows(core, sectors, backing, base + (2 + segments.len() as u32), rows)
 }
