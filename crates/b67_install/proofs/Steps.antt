@@ -1,8 +1,8 @@
 -- The things of segments and of data rows, item by item.
-use Rattle.std.proofs.Common.{◌≡◌, Option, ℕ, zero, suc, ◌+◌, ◌<◌, ◌≤◌, List, [], ◌∷◌, ◌++◌, length, map, drop, get_or, refl, sym, ◌∙◌, ap, arith, inl, inr, add-one, drop-cons}
+use Rattle.std.proofs.Common.{◌≡◌, Option, ℕ, zero, suc, ◌+◌, ◌<◌, ◌≤◌, List, [], ◌∷◌, ◌++◌, length, map, drop, get_or, refl, sym, ◌∙◌, ap, arith, inl, inr, ⊎_elim, subst, slice_set, add-one, drop-cons}
 use Rattle.std.proofs.lemmas.List.{length-map}
 use Rattle.std.proofs.Math.Seq.{drop-length}
-use Rattle.b67_word.specs.Tagged.{Tagged, contents}
+use Rattle.b67_word.specs.Tagged.{Tagged, word, contents}
 use Rattle.b67_area.specs.declared.Kind.TheVariants.{Code, Row}
 use Rattle.b67_codefile.specs.declared.file.Segment.{Segment}
 use Rattle.b67_codefile.specs.Meaning.{segment_of, program_of}
@@ -12,9 +12,11 @@ use Rattle.b67_model.specs.Lists.{Has, total}
 use Rattle.b67_model.specs.Program.{Program}
 use Rattle.b67_stack.specs.Picture.{Thing}
 use Rattle.b67_install.specs.Things.{code_from, rows_from, things_of, entries_of, sectors_of, sectors_of_all, sectors_of_program}
+use Rattle.b67_install.specs.Resting.{placed, dictionary_mark, DescriptorsStand, DictionaryIs, SameOutside}
+use Rattle.b67_backing.specs.Shelf.{Shelf, IsShelf}
 use Rattle.b67_install.specs.Writing.{Parts, Spares, Writes}
 use Rattle.b67_codefile.specs.declared.file.Codefile.{Codefile}
-use Rattle.b67_install.proofs.Writing.{total-append, writes_both, spares_both, spares_wider}
+use Rattle.b67_install.proofs.Writing.{total-append, word_set, outside_set, writes_both, spares_both, spares_wider}
 
 pub length-code_from : (at : ℕ) (segments : List state.Segment) → length (code_from at segments) ≡ length segments
 length-code_from at [] = refl
@@ -86,3 +88,25 @@ all_spared tell base f segments rows a b c e q s t =
     spares_both tell (base + 2) (entries_of (program_of f)) a b c
         (spares_wider tell (base + 2) (length segments) (base + 2) (entries_of (program_of f)) a b (omega arith) (omega (arith, long)) s)
         (spares_wider tell (base + (2 + length segments)) (length rows) (base + 2) (entries_of (program_of f)) b c (omega arith) (omega (arith, long)) t)
+
+-- the two words before the entries are written first
+pub dictionary_stands : {D : Type 0} (tell : D → Option (List (List ℕ))) (base : ℕ) (f g : Codefile) (core one : List Tagged) (m n : Tagged) (a b : Parts D) (k : ℕ) → f ≡ g
+    → base + 1 < length core → one ≡ slice_set core base m → length one ≡ length core → a.core ≡ slice_set one (base + 1) n
+    → m ≡ dictionary_mark → n ≡ word 0 (entries_of (program_of g)) → Spares tell (base + 2) k a b → Writes tell (things_of base (program_of f)) a b
+    → (st : Shelf) → IsShelf a.table st → DictionaryIs b.core base (program_of g) st.free
+dictionary_stands tell base f g core one m n a b k same inside first_set len second_set mark_is count_is s w st is = record {
+  mark = s.outside base (inl (omega arith)) ∙ outside_set one a.core (base + 1) n second_set base (inl (omega arith)) ∙ word_set core one base m dictionary_mark (omega arith) first_set mark_is;
+  entries = s.outside (base + 1) (inl (omega arith)) ∙ word_set one a.core (base + 1) n (word 0 (entries_of (program_of g))) (omega (arith, len)) second_set count_is;
+  descriptors = subst (λ (x : Codefile). DescriptorsStand b.core (placed (things_of base (program_of x)) st.free)) same (w.descriptors st is);
+}
+
+pub dictionary_outside : {D : Type 0} (tell : D → Option (List (List ℕ))) (base : ℕ) (core one : List Tagged) (m n : Tagged) (a b : Parts D) (k : ℕ)
+    → one ≡ slice_set core base m → a.core ≡ slice_set one (base + 1) n → Spares tell (base + 2) k a b → SameOutside base (base + (2 + k)) core b.core
+dictionary_outside tell base core one m n a b k first_set second_set s i h =
+    s.outside i (⊎_elim (λ (l : i < base). inl (omega arith)) (λ (l : base + (2 + k) ≤ i). inr (omega arith)) h)
+    ∙ outside_set one a.core (base + 1) n second_set i (⊎_elim (λ (l : i < base). inl (omega arith)) (λ (l : base + (2 + k) ≤ i). inr (omega arith)) h)
+    ∙ outside_set core one base m first_set i (⊎_elim (λ (l : i < base). inl (omega arith)) (λ (l : base + (2 + k) ≤ i). inr (omega arith)) h)
+
+pub entries_word : (f g : Codefile) (segments : List Segment) (rows : List (List Tagged)) → f ≡ g → segments ≡ f.segments → rows ≡ f.rows → word 0 (length segments + length rows) ≡ word 0 (entries_of (program_of g))
+entries_word f g segments rows e p q =
+    ap (word 0) (let n : length segments + length rows ≡ entries_of (program_of g) = omega (arith, ap length p, ap length q, length-map g.segments segment_of, length-map g.rows contents, ap (λ (x : Codefile). length x.segments) e, ap (λ (x : Codefile). length x.rows) e) in n)
