@@ -17,7 +17,7 @@ use Rattle.b67_install.proofs.Shelves.{first_take, keeps_taken, keeps-refl, keep
 same_but_both : (ms ns : List ℕ) (a b c : List (List ℕ)) → ((m : ℕ) → Has ns m → Has ms m) → SameBut ms a b → SameBut ns b c → SameBut ms a c
 same_but_both ms ns a b c more s t = record { count = t.count ∙ s.count; others = λ m low out. t.others m low (none_more ms ns m (more m) out) ∙ s.others m low out }
 
-total-append : {A : Type 0} (f : A → ℕ) (xs ys : List A) → total f (xs ++ ys) ≡ total f xs + total f ys
+pub total-append : {A : Type 0} (f : A → ℕ) (xs ys : List A) → total f (xs ++ ys) ≡ total f xs + total f ys
 total-append f [] ys = omega arith
 total-append f (x ∷ xs) ys = omega (arith, total-append f xs ys)
 
@@ -180,3 +180,39 @@ module _ {D : Type 0} (tell : D → Option (List (List ℕ))) where
             (one.rest r k))
         (λ (k : Has (placed ys (stocked xs st).free) r). two.rest r k)
         (has_parts (placed xs st.free) (placed ys (stocked xs st).free) r h)
+
+  -- a loop over things whose descriptors follow each other: what is written so far, with what is still written, is what
+  -- all of it writes
+  pub record Going (base upto at : ℕ) (all rest : List Thing) (start now : Parts D) : Type 0 where
+    pub low : base ≤ at
+    pub high : at + length rest ≡ base + upto
+    pub room : sectors_of_all rest ≤ now.table.free
+    pub spares : Spares tell base upto start now
+    pub writes : (end : Parts D) → Writes tell rest now end → Spares tell at (length rest) now end → Writes tell all start end
+
+  pub going_first : (base : ℕ) (all : List Thing) (upto : ℕ) (start : Parts D) → length all ≡ upto → sectors_of_all all ≤ start.table.free → Going base upto base all all start start
+  going_first base all upto start e room = record { low = omega arith; high = omega arith; room = room; spares = spares-refl base upto start; writes = λ end w s. w }
+
+  pub going_next : (base upto at : ℕ) (all : List Thing) (t : Thing) (rest more : List Thing) (start now next : Parts D) → rest ≡ t ∷ more → t.home ≡ at
+      → Going base upto at all rest start now → Writes tell (t ∷ []) now next → Spares tell at 1 now next → Going base upto (at + 1) all more start next
+  going_next base upto at all t rest more start now next e home g w s = by_cons (subst (λ (r : List Thing). Going base upto at all r start now) e g) where
+    by_cons : Going base upto at all (t ∷ more) start now → Going base upto (at + 1) all more start next
+    by_cons g = record {
+      low = omega (arith, g.low);
+      high = omega (arith, g.high);
+      room = omega (arith, g.room, w.left);
+      spares = spares_both base upto start now next g.spares (spares_wider at 1 base upto now next g.low (omega (arith, g.high)) s);
+      writes = λ end v r. g.writes end
+          (writes_both (t ∷ []) more (at + 1) (length more) now next end w v r (λ u h. ⊎_elim (λ (q : t ≡ u). inl (let k : u.home ≡ at = ap (λ (x : Thing). x.home) (sym q) ∙ home in omega (arith, k))) (λ k. absurd k) h))
+          (spares_both at (length (t ∷ more)) now next end (spares_wider at 1 at (length (t ∷ more)) now next (omega arith) (omega arith) s) (spares_wider (at + 1) (length more) at (length (t ∷ more)) next end (omega arith) (omega arith) r));
+    }
+
+  pub going_all : (base upto at : ℕ) (all rest : List Thing) (start now : Parts D) → rest ≡ [] → Going base upto at all rest start now → Writes tell all start now
+  going_all base upto at all rest start now e g = by_nil (subst (λ (r : List Thing). Going base upto at all r start now) e g) where
+    by_nil : Going base upto at all [] start now → Writes tell all start now
+    by_nil g = g.writes now (writes_none now) (spares-refl at 0 now)
+
+  pub going_failed : (base upto at : ℕ) (all : List Thing) (t : Thing) (rest more : List Thing) (start now next : Parts D) → rest ≡ t ∷ more
+      → Going base upto at all rest start now → Spares tell at 1 now next → Spares tell base upto start next
+  going_failed base upto at all t rest more start now next e g s =
+      spares_both base upto start now next g.spares (spares_wider at 1 base upto now next g.low (omega (arith, g.high, ap length e)) s)

@@ -3,4 +3,4 @@
 
 mod installing;
 
-// pub use installing::install;
+pub use installing::install;
