@@ -2,6 +2,7 @@ pub mod Lists
 pub mod Writes
 pub mod Members
 pub mod Things
+pub mod Heads
 pub mod Slots
 pub mod Plans
 pub mod Whole

@@ -32,13 +32,14 @@ use Rattle.b67_initial.specs.Opened.{dictionaries, opening_plan, things_from, fi
 use Rattle.b67_initial.specs.Words.{SlotLies, SlotsLie, first_vector_word, HeadLies, HeadsLie}
 use Rattle.b67_initial.proofs.Lists.{item_at, mapped}
 use Rattle.b67_initial.proofs.Members.{member, for_members, slotted, has_slot}
+use Rattle.b67_initial.proofs.Heads.{head_at}
 use Rattle.b67_initial.proofs.Things.{Within, thing_within, is_thing, homes_differ, dictionary_is, from_picture, to_picture, things_long}
 use Rattle.b67_initial.proofs.Slots.{slot_is, slot_number, first_fits, first_stands, first_lies}
 use Rattle.b67_initial.proofs.Plans.{first_task, for_tasks, count_is, plan_fits}
 
 -- what is laid out
 pub record Parts (x : Storage) (cpu : Cpu) (stack : ℕ) (programs : List Program) : Type 0 where
-  pub heads : HeadsLie cpu.core programs
+  pub heads : HeadsLie cpu.core 160 programs
   pub things : (t : Thing) → Has (things_from 160 programs) t → ThingStands x cpu.core t
   pub owned : Owned x (things_from 160 programs)
   pub mcp : McpStands cpu.core
@@ -118,7 +119,7 @@ module _ (x : Storage) (cpu : Cpu) (stack quantum : ℕ) (switches : List Switch
 
   dictionary : (m : Member) → Has jobs m → DictionaryStands cpu.core plan m
   dictionary = for_members (DictionaryStands cpu.core plan) stack 1 openings (λ k j o e f.
-      let head = parts.heads k o.program (mapped (λ (q : Opening). q.program) openings k o e) in
+      let head = head_at cpu.core 160 (programs_of openings) k o.program parts.heads (mapped (λ (q : Opening). q.program) openings k o e) in
       let at = dictionary_is stack openings k j o e f in
       record {
         mark = ap (slice_get cpu.core) at ∙ head.mark;

@@ -1,10 +1,10 @@
 -- The words of a core in which a session opens.
-use Rattle.std.specs.Prelude.{◌≡◌, ℕ, ◌+◌, ◌*◌, ◌^◌, ◌<◌, ◌≤◌, List, length, take, Some, slice_get}
+use Rattle.std.specs.Prelude.{◌≡◌, ℕ, ◌+◌, ◌*◌, ◌^◌, ◌<◌, List, [], ◌∷◌, Some, slice_get}
 use Rattle.b67_word.specs.Tagged.{Tagged, word}
 use Rattle.b67_model.specs.Program.{Program}
 use Rattle.b67_install.specs.Things.{entries_of}
 use Rattle.b67_install.specs.Resting.{dictionary_mark}
-use Rattle.b67_initial.specs.Opened.{dictionaries}
+use Rattle.b67_initial.specs.Opened.{dictionary_words}
 
 -- the slot of a first task that hasn't run: the top of its stack, the mark of its outer block on the job's dictionary,
 -- and a return to nowhere
@@ -31,6 +31,7 @@ pub record HeadLies (core : List Tagged) (base count : ℕ) : Type 0 where
   pub mark : slice_get core base ≡ Some dictionary_mark
   pub entries : slice_get core (base + 1) ≡ Some (word 0 count)
 
-abbrev pub HeadsLie : List Tagged → List Program → Type 0
-HeadsLie core programs =
-    (k : ℕ) (p : Program) → slice_get programs k ≡ Some p → HeadLies core (160 + dictionaries (take k programs)) (entries_of p)
+-- those of programs whose dictionaries lie in a row from an address on
+abbrev pub HeadsLie : List Tagged → ℕ → List Program → Type 0
+HeadsLie core at [] = Unit {0}
+HeadsLie core at (p ∷ more) = HeadLies core at (entries_of p) × HeadsLie core (at + dictionary_words p) more
