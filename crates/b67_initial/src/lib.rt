@@ -1,4 +1,5 @@
 //! The machine that stands for the opening state of a session: nothing is present and no task runs.
 #![tactic(auto)]
 
+mod dictionaries;
 mod laying;
