@@ -8,3 +8,4 @@ pub mod Plans
 pub mod Whole
 pub mod Resting
 pub mod Rests
+pub mod Opens

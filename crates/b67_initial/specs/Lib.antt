@@ -1,3 +1,4 @@
 pub mod Opened
 pub mod Words
 pub mod Stored
+pub mod Opens

@@ -3,3 +3,6 @@
 
 mod dictionaries;
 mod laying;
+mod opening;
+
+pub use opening::{Initial, set_up};
