@@ -9,3 +9,4 @@ pub mod Whole
 pub mod Resting
 pub mod Rests
 pub mod Opens
+pub mod Sums

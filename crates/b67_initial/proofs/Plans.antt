@@ -59,7 +59,7 @@ follow plan stack n at (o ∷ more) h e = (
   (follow plan stack (n + 1) (at + dictionary_words o.program) more (λ k j q f g. omega (arith, h (suc k) j q f (omega (arith, g)))) (omega (arith, e))),
 )
 
-length_opened : (n stack : ℕ) (openings : List Opening) → length (opened_from n stack openings) ≡ length openings
+pub length_opened : (n stack : ℕ) (openings : List Opening) → length (opened_from n stack openings) ≡ length openings
 length_opened n stack [] = refl
 length_opened n stack (o ∷ more) = ap suc (length_opened (n + 1) stack more)
 

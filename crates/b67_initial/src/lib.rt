@@ -3,6 +3,8 @@
 
 mod dictionaries;
 mod laying;
+mod needs;
 mod opening;
 
+pub use needs::{opening_need, opening_sectors};
 pub use opening::{Initial, set_up};
