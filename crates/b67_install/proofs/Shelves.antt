@@ -1,11 +1,11 @@
 -- Chains among others, and chains that are taken one after the other.
-use Rattle.std.proofs.Common.{◌≡◌, ◌≢◌, ℕ, zero, suc, ◌+◌, ◌-◌, ◌<◌, ◌≤◌, ◌^◌, ◌⊎◌, List, [], ◌∷◌, ◌++◌, length, take, drop, refl, sym, ◌∙◌, ap, subst, arith, inl, inr, ⊎_elim, if◌then◌else◌, ◌==◌, length-drop}
+use Rattle.std.proofs.Common.{◌≡◌, ℕ, zero, suc, ◌+◌, ◌-◌, ◌<◌, ◌≤◌, ◌^◌, List, [], ◌∷◌, ◌++◌, length, take, drop, refl, sym, ◌∙◌, ap, subst, arith, inl, inr, ⊎_elim, if◌then◌else◌, ◌==◌, length-drop}
 use Rattle.std.proofs.lemmas.Bool.{cond-true, cond-false, eq-eqb, ne_eqb, cases_eq, cases_lt}
 use Rattle.std.proofs.lemmas.List.{take-append-drop}
 use Rattle.b67_backing.specs.Shelf.{Table, Shelf, HasChain, IsShelf, Linked, AreChains, one, times, uses, first, chain_of, taken}
-use Rattle.b67_backing.specs.Held.{Holds, SameBut, sectors_for}
+use Rattle.b67_backing.specs.Held.{Holds, SameBut}
 use Rattle.b67_backing.proofs.Links.{Chain, chain_there, linked_within, rest, one-same, one-other, times-append, uses-split}
-use Rattle.b67_model.specs.Lists.{Has, total}
+use Rattle.b67_model.specs.Lists.{Has}
 use Rattle.b67_stack.specs.Picture.{Thing}
 use Rattle.b67_install.specs.Things.{sectors_of, sectors_of_all}
 use Rattle.b67_install.specs.Resting.{Resting, placed, stocked, KeepsChains}
@@ -52,9 +52,9 @@ chain_within links [] k c a h g = absurd h
 chain_within links ([] ∷ ks) k c a h g = absurd a
 chain_within links ((d ∷ ds) ∷ ks) k c a h g = ⊎_elim
     (λ (e : d ∷ ds ≡ k). ⊎_elim
-        (λ (q : d ≡ c). subst (λ (i : ℕ). i < length links) q (linked_within links d ds a.0))
-        (λ (i : Has ds c). linked_has links d ds c a.0 i)
-        (subst (λ (l : List ℕ). Has l c) (sym e) g))
+    (λ (q : d ≡ c). subst (λ (i : ℕ). i < length links) q (linked_within links d ds a.0))
+    (λ (i : Has ds c). linked_has links d ds c a.0 i)
+    (subst (λ (l : List ℕ). Has l c) (sym e) g))
     (λ (i : Has ks k). chain_within links ks k c a.1 i g)
     h
 

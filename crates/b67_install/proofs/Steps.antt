@@ -1,7 +1,6 @@
 -- The things of segments and of data rows, item by item.
-use Rattle.std.proofs.Common.{◌≡◌, Option, ℕ, zero, suc, ◌+◌, ◌<◌, ◌≤◌, List, [], ◌∷◌, ◌++◌, length, map, drop, get_or, refl, sym, ◌∙◌, ap, arith, inl, inr, ⊎_elim, subst, slice_set, add-one, drop-cons}
+use Rattle.std.proofs.Common.{◌≡◌, Option, ℕ, zero, suc, ◌+◌, ◌<◌, ◌≤◌, List, [], ◌∷◌, length, map, drop, get_or, refl, sym, ◌∙◌, ap, arith, inl, inr, ⊎_elim, subst, slice_set, add-one, drop-cons}
 use Rattle.std.proofs.lemmas.List.{length-map}
-use Rattle.std.proofs.Math.Seq.{drop-length}
 use Rattle.b67_word.specs.Tagged.{Tagged, word, contents}
 use Rattle.b67_area.specs.declared.Kind.TheVariants.{Code, Row}
 use Rattle.b67_codefile.specs.declared.file.Segment.{Segment}
@@ -86,8 +85,8 @@ pub all_spared : {D : Type 0} (tell : D → Option (List (List ℕ))) (base : �
 all_spared tell base f segments rows a b c e q s t =
     let long : entries_of (program_of f) ≡ length segments + length rows = omega (arith, length-map f.segments segment_of, length-map f.rows contents, ap length e, ap length q) in
     spares_both tell (base + 2) (entries_of (program_of f)) a b c
-        (spares_wider tell (base + 2) (length segments) (base + 2) (entries_of (program_of f)) a b (omega arith) (omega (arith, long)) s)
-        (spares_wider tell (base + (2 + length segments)) (length rows) (base + 2) (entries_of (program_of f)) b c (omega arith) (omega (arith, long)) t)
+    (spares_wider tell (base + 2) (length segments) (base + 2) (entries_of (program_of f)) a b (omega arith) (omega (arith, long)) s)
+    (spares_wider tell (base + (2 + length segments)) (length rows) (base + 2) (entries_of (program_of f)) b c (omega arith) (omega (arith, long)) t)
 
 -- the two words before the entries are written first
 pub dictionary_stands : {D : Type 0} (tell : D → Option (List (List ℕ))) (base : ℕ) (f g : Codefile) (core one : List Tagged) (m n : Tagged) (a b : Parts D) (k : ℕ) → f ≡ g

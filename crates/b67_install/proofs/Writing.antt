@@ -1,16 +1,16 @@
 -- Things written one after the other.
-use Rattle.std.proofs.Common.{◌≡◌, ℕ, ◌+◌, ◌-◌, ◌<◌, ◌≤◌, ◌⊎◌, List, [], ◌∷◌, ◌++◌, length, take, map, Option, Some, refl, sym, ◌∙◌, ap, subst, arith, inl, inr, ⊎_elim, slice_set, length-drop}
+use Rattle.std.proofs.Common.{◌≡◌, ℕ, ◌+◌, ◌<◌, ◌≤◌, ◌⊎◌, List, [], ◌∷◌, ◌++◌, length, take, map, Option, Some, refl, sym, ◌∙◌, ap, subst, arith, inl, inr, ⊎_elim, slice_set, length-drop}
 use Rattle.std.specs.List.{slice_get, AllByRecursion}
 use Rattle.b67_word.specs.Tagged.{Tagged, word, contents}
 use Rattle.b67_core.specs.Numbers.{number}
 use Rattle.b67_core.proofs.Writes.{slice_get-set_same, slice_get-set_other}
 use Rattle.b67_codefile.specs.Spelling.{Bears}
-use Rattle.b67_backing.specs.Shelf.{Table, Shelf, IsShelf, first, times, taken}
+use Rattle.b67_backing.specs.Shelf.{Shelf, IsShelf, first, taken}
 use Rattle.b67_backing.specs.Held.{Changes, SameBut, Stores, Holds, sectors_for}
 use Rattle.b67_model.specs.Lists.{Has, total}
 use Rattle.b67_stack.specs.Picture.{Thing, words_of, home_word}
 use Rattle.b67_install.specs.Things.{sectors_of, sectors_of_all}
-use Rattle.b67_install.specs.Resting.{Resting, placed, stocked, at_rest, descriptor, DescriptorsStand, WordsRest, Stocks, SameOutside, KeepsChains}
+use Rattle.b67_install.specs.Resting.{Resting, placed, stocked, at_rest, descriptor, DescriptorsStand, WordsRest, Stocks, SameOutside}
 use Rattle.b67_install.specs.Writing.{Parts, Spares, Writes}
 use Rattle.b67_install.proofs.Shelves.{first_take, keeps_taken, keeps-refl, keeps_both, stocked-append, placed-append, stocked_has, placed_chain, placed_thing, holds_stay, chain_apart, times-take_drop, none_more}
 
@@ -115,8 +115,7 @@ module _ {D : Type 0} (tell : D → Option (List (List ℕ))) where
     descriptors = λ s is r h. ⊎_elim (λ e. subst (λ (q : Resting). slice_get b.core q.thing.home ≡ Some (descriptor q)) e (desc s is)) (λ k. absurd k) h;
     stocks = λ s is. record {
       told = λ x e.
-          let (y, told, one) = (stores s is).told x e in
-          (
+          let (y, told, one) = (stores s is).told x e in (
             y,
             told,
             record {
@@ -139,10 +138,10 @@ module _ {D : Type 0} (tell : D → Option (List (List ℕ))) where
   written t ws x a b known words long some fits shelf stores firsts word_is =
       let n : sectors_for (length ws) ≡ sectors_of t = ap sectors_for (sym long) in
       writes_one t a b
-          (λ s is. subst (λ (m : ℕ). IsShelf b.table (taken m s)) n (shelf s is))
-          (λ s is. word_is ∙ ap (λ (m : ℕ). Some (home_word t (at_rest m))) (firsts s is ∙ sym (first_take (sectors_of t) s.free (omega (arith, long)))))
-          (λ s is. rw words (subst (λ (m : ℕ). Changes tell a.device b.device (Stores (take m s.free) (map number ws))) n (stores s is)))
-          (let (s, is) = known in omega (arith, (shelf s is).count, is.count, length-drop (sectors_for (length ws)) s.free, n))
+      (λ s is. subst (λ (m : ℕ). IsShelf b.table (taken m s)) n (shelf s is))
+      (λ s is. word_is ∙ ap (λ (m : ℕ). Some (home_word t (at_rest m))) (firsts s is ∙ sym (first_take (sectors_of t) s.free (omega (arith, long)))))
+      (λ s is. rw words (subst (λ (m : ℕ). Changes tell a.device b.device (Stores (take m s.free) (map number ws))) n (stores s is)))
+      (let (s, is) = known in omega (arith, (shelf s is).count, is.count, length-drop (sectors_for (length ws)) s.free, n))
 
   -- what is written after things leaves them, if their descriptors lie elsewhere
   pub writes_both : (xs ys : List Thing) (at n : ℕ) (a b c : Parts D) → Writes tell xs a b → Writes tell ys b c → Spares tell at n b c
@@ -153,8 +152,7 @@ module _ {D : Type 0} (tell : D → Option (List (List ℕ))) where
     stocks = λ st is. record {
       told = λ x e.
           let (y, told, one) = (w.stocks st is).told x e in
-          let (z, then, two) = (v.stocks (stocked xs st) (w.shelf st is)).told y told in
-          (
+          let (z, then, two) = (v.stocks (stocked xs st) (w.shelf st is)).told y told in (
             z,
             then,
             record {
@@ -176,8 +174,8 @@ module _ {D : Type 0} (tell : D → Option (List (List ℕ))) where
     both_rest st is y z one two r h = ⊎_elim
         (λ (k : Has (placed xs st.free) r).
         holds_stay (stocked xs st).free r.chain y z 0 (map number (words_of r.thing)) two.same
-            (λ d i. let p = chain_apart b.table (stocked xs st) r.chain d (w.shelf st is) (placed_chain xs st r k) i in (p.low, p.not_free))
-            (one.rest r k))
+        (λ d i. let p = chain_apart b.table (stocked xs st) r.chain d (w.shelf st is) (placed_chain xs st r k) i in (p.low, p.not_free))
+        (one.rest r k))
         (λ (k : Has (placed ys (stocked xs st).free) r). two.rest r k)
         (has_parts (placed xs st.free) (placed ys (stocked xs st).free) r h)
 

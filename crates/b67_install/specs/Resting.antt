@@ -1,9 +1,9 @@
 -- Things that are in sectors alone.
-use Rattle.std.specs.Prelude.{◌≡◌, ℕ, ◌+◌, ◌*◌, ◌^◌, ◌<◌, ◌≤◌, ◌⊎◌, List, [], ◌∷◌, length, map, take, drop, Option, Some, None, slice_get}
+use Rattle.std.specs.Prelude.{◌≡◌, ℕ, ◌+◌, ◌*◌, ◌^◌, ◌<◌, ◌≤◌, ◌⊎◌, List, [], ◌∷◌, length, map, take, drop, Some, None, slice_get}
 use Rattle.b67_word.specs.Tagged.{Tagged, word}
 use Rattle.b67_core.specs.Numbers.{number}
-use Rattle.b67_backing.specs.Shelf.{Shelf, Table, IsShelf, first, chain_of, taken}
-use Rattle.b67_backing.specs.Held.{Holds, SameBut, Changes}
+use Rattle.b67_backing.specs.Shelf.{Shelf, first, chain_of, taken}
+use Rattle.b67_backing.specs.Held.{Holds, SameBut}
 use Rattle.b67_model.specs.Lists.{Has}
 use Rattle.b67_model.specs.Program.{Program}
 use Rattle.b67_stack.specs.Shapes.{Held}

@@ -219,7 +219,13 @@ fn install_things<B: Backing>(
     let segments = file.segments.as_slice();
     let rows = file.rows.as_slice();
     install_segments(core, sectors, backing, base + 2, segments)?;
-    install_rows(core, sectors, backing, base + (2 + segments.len() as u32), rows)
+    install_rows(
+        core,
+        sectors,
+        backing,
+        base + (2 + segments.len() as u32),
+        rows,
+    )
 }
 
 /// Writes the dictionary of a program at `base`, and its code and data rows to sectors that were free: in the order of

@@ -1,5 +1,5 @@
 -- A machine that stands for a session with a running task meets what push, pop, mark and cut ask for.
-use Rattle.std.proofs.Common.{◌≡◌, ℕ, List, refl, sym, ◌∙◌, subst}
+use Rattle.std.proofs.Common.{◌≡◌, ℕ, sym, ◌∙◌, subst}
 use Rattle.b67_model.specs.State.{Task, Member}
 use Rattle.b67_model.specs.Run.{number_of}
 use Rattle.b67_model.specs.Schedule.{Session}
@@ -9,7 +9,7 @@ use Rattle.b67_stack.specs.Stands.{Storage}
 use Rattle.b67_stack.specs.Changes.{Runs}
 use Rattle.b67_layout.specs.Plan.{Plan}
 use Rattle.b67_layout.specs.Layout.{picture, stack_of_task}
-use Rattle.b67_layout.specs.Session.{IsRunning, SessionHolds, SessionStands}
+use Rattle.b67_layout.specs.Session.{IsRunning, SessionStands}
 use Rattle.b67_layout.proofs.Others.{keyed-has}
 use Rattle.b67_layout.proofs.Rows.{runs_on}
 

@@ -2,3 +2,4 @@ pub mod Plan
 pub mod Layout
 pub mod Rows
 pub mod Session
+pub mod Meets

@@ -1,5 +1,5 @@
 -- When a machine stands for a session's state.
-use Rattle.std.specs.Prelude.{◌≡◌, ◌≢◌, ℕ, ◌+◌, ◌*◌, ◌^◌, ◌<◌, ◌≤◌, List, [], ◌∷◌, length, Option, Some, None, slice_get, if◌then◌else◌}
+use Rattle.std.specs.Prelude.{◌≡◌, ◌≢◌, ℕ, ◌+◌, ◌*◌, ◌^◌, ◌<◌, ◌≤◌, List, [], ◌∷◌, ◌++◌, length, Option, Some, None, slice_get, if◌then◌else◌}
 use Rattle.b67_word.specs.Tagged.{Tagged, word}
 use Rattle.b67_area.specs.declared.Areas.{Areas}
 use Rattle.b67_backing.specs.Shelf.{Table, IsShelf}
@@ -12,7 +12,7 @@ use Rattle.b67_model.specs.Steps.{is_critical}
 use Rattle.b67_model.specs.Run.{number_of}
 use Rattle.b67_model.specs.Schedule.{Session}
 use Rattle.b67_stack.specs.declared.Cpu.{Cpu}
-use Rattle.b67_stack.specs.Picture.{Settled}
+use Rattle.b67_stack.specs.Picture.{Thing, Picture, Settled}
 use Rattle.b67_stack.specs.Stands.{Storage, Stands}
 use Rattle.b67_layout.specs.Plan.{Slotted, Plan, slot_of, spots, address_of}
 use Rattle.b67_layout.specs.Layout.{picture}
@@ -98,10 +98,15 @@ pub record CriticalStands (critical : List ℕ) (plan : Plan) (jobs : List Membe
       → slice_get critical (slot_of plan m.setting.number t.number) ≡ Some (critical_mark m.course.job t.frames)
   pub free : (k : ℕ) → k < 120 → ((r : Slotted) → Has plan.rows r → r.slot ≢ k) → slice_get critical k ≡ Some 0
 
--- all but the display
-pub record SessionHolds (x : Storage) (core : List Tagged) (r : Regs) (marks : List ℕ) (plan : Plan) (s : Session) : Type 0 where
+-- the picture with more things
+abbrev pub with_things : List Thing → Picture → Picture
+with_things left p = record p { things = left ++ p.things }
+
+-- all but the display. `left` are arrays of an activation record that was just left: their areas, chains and originals
+-- are still there
+pub record SessionHoldsBut (left : List Thing) (x : Storage) (core : List Tagged) (r : Regs) (marks : List ℕ) (plan : Plan) (s : Session) : Type 0 where
   pub fits : PlanFits plan s
-  pub memory : Stands x core r (picture plan s.jobs)
+  pub memory : Stands x core r (with_things left (picture plan s.jobs))
   pub settled : Settled (picture plan s.jobs)
   pub dictionaries : (m : Member) → Has s.jobs m → DictionaryStands core plan m
   pub mcp : McpStands core
@@ -111,10 +116,17 @@ pub record SessionHolds (x : Storage) (core : List Tagged) (r : Regs) (marks : L
   pub running : (m : Member) (t : Task) → IsRunning plan s.jobs m t → TaskStands r plan m t
   pub none : plan.running ≡ 255 → r.slot ≡ 255
 
--- the machine stands for the session
-pub record SessionStands (x : Storage) (cpu : Cpu) (plan : Plan) (s : Session) : Type 0 where
-  pub holds : SessionHolds x cpu.core cpu.regs cpu.critical plan s
+abbrev pub SessionHolds : Storage → List Tagged → Regs → List ℕ → Plan → Session → Type 0
+SessionHolds = SessionHoldsBut []
+
+-- the machine stands for the session, but for what is left to release
+pub record SessionStandsBut (left : List Thing) (x : Storage) (cpu : Cpu) (plan : Plan) (s : Session) : Type 0 where
+  pub holds : SessionHoldsBut left x cpu.core cpu.regs cpu.critical plan s
   pub shows : (m : Member) (t : Task) → IsRunning plan s.jobs m t → Shows cpu.display plan m t
+
+-- the machine stands for the session
+abbrev pub SessionStands : Storage → Cpu → Plan → Session → Type 0
+SessionStands = SessionStandsBut []
 
 -- the tables beside core are those that the storage says: where areas begin, which sectors are in chains, and what the
 -- device tells that these hold

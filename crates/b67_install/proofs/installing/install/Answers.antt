@@ -1,9 +1,7 @@
-use Rattle.std.proofs.Common.{◌≡◌, ℕ, ◌+◌, ◌∙◌, ap, arith, length, map}
-use Rattle.std.proofs.lemmas.List.{length-map}
+use Rattle.std.proofs.Common.{◌∙◌, ap, arith}
 use Rattle.std.proofs.lemmas.Result.{on_ok_weaker}
 use Rattle.b67_codefile.specs.declared.file.Codefile.{Codefile}
-use Rattle.b67_codefile.specs.Meaning.{segment_of, program_of}
-use Rattle.b67_word.specs.Tagged.{contents}
+use Rattle.b67_codefile.specs.Meaning.{program_of}
 use Rattle.b67_install.specs.Things.{entries_of, sectors_of_program}
 use Rattle.b67_install.proofs.Steps.{sectors-things, dictionary_stands, dictionary_outside, entries_word}
 use Rattle.b67_install.proofs.installing.install.Goals as goal
@@ -15,9 +13,9 @@ install_things-requires-clause-room g c =
 pub returns-clause-dictionary : goal.returns-clause-dictionary
 returns-clause-dictionary g c =
     on_ok_weaker c.install_things.result
-        (dictionary_stands g.B.Backing.holds c.args.base c.file-file.result.now c.args.program.now c.args.cpu.now.core c.set.new.self c.word.result c.of.result _ _ _ c.file-file.ensures.same (omega (arith, c.requires.inside)) c.set.ensures.value c.set.ensures.len c.set-2.ensures.value c.word.ensures
-            (c.of.ensures ∙ entries_word c.file-file.result.now c.args.program.now c.as_slice.result.now c.as_slice-2.result.now c.file-file.ensures.same c.as_slice.ensures c.as_slice-2.ensures) c.install_things.ensures.spares)
-        c.install_things.ensures.writes
+    (dictionary_stands g.B.Backing.holds c.args.base c.file-file.result.now c.args.program.now c.args.cpu.now.core c.set.new.self c.word.result c.of.result _ _ _ c.file-file.ensures.same (omega (arith, c.requires.inside)) c.set.ensures.value c.set.ensures.len c.set-2.ensures.value c.word.ensures
+    (c.of.ensures ∙ entries_word c.file-file.result.now c.args.program.now c.as_slice.result.now c.as_slice-2.result.now c.file-file.ensures.same c.as_slice.ensures c.as_slice-2.ensures) c.install_things.ensures.spares)
+    c.install_things.ensures.writes
 
 pub returns-clause-left : goal.returns-clause-left
 returns-clause-left g c =

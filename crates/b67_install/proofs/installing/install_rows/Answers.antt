@@ -1,7 +1,6 @@
-use Rattle.std.proofs.Common.{◌≡◌, ◌+◌, ℕ, ◌∙◌, List, length, map, drop, refl, arith}
+use Rattle.std.proofs.Common.{◌∙◌, List, length, map, refl, arith}
 use Rattle.std.proofs.lemmas.List.{length-map}
 use Rattle.b67_word.specs.Tagged.{contents}
-use Rattle.b67_area.specs.declared.Kind.TheVariants.{Row}
 use Rattle.b67_stack.specs.Picture.{Thing}
 use Rattle.b67_install.specs.Things.{rows_from}
 use Rattle.b67_install.proofs.Writing.{going_first, going_next, going_all, going_failed}
@@ -21,8 +20,8 @@ pub returns-in_err-install_row-clause-spares :
     goal.returns-in_err-install_row-clause-spares
 returns-in_err-install_row-clause-spares g c =
     going_failed g.B.Backing.holds c.args.base (length c.args.rows.now) c.loop-row.at (rows_from c.args.base (map contents c.args.rows.now)) _ _ _ _ _ _
-        (rows_step c.loop-row.at c.loop-row.row-index c.args.rows.now c.row-item.result c.row-item.is c.loop-row-test.true)
-        c.loop-row.invariant.going c.install_row.ensures.spares
+    (rows_step c.loop-row.at c.loop-row.row-index c.args.rows.now c.row-item.result c.row-item.is c.loop-row-test.true)
+    c.loop-row.invariant.going c.install_row.ensures.spares
 
 pub loop-row-preserved : goal.loop-row-preserved
 loop-row-preserved g c = record {
@@ -36,4 +35,4 @@ loop-row-preserved g c = record {
 pub returns-clause-writes : goal.returns-clause-writes
 returns-clause-writes g c =
     going_all g.B.Backing.holds c.args.base (length c.args.rows.now) c.loop-row.at (rows_from c.args.base (map contents c.args.rows.now)) _ _ _
-        (rows_end c.loop-row.at c.loop-row.row-index c.args.rows.now c.loop-row-test.false) c.loop-row.invariant.going
+    (rows_end c.loop-row.at c.loop-row.row-index c.args.rows.now c.loop-row-test.false) c.loop-row.invariant.going

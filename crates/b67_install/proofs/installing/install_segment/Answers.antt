@@ -1,4 +1,4 @@
-use Rattle.std.proofs.Common.{◌≡◌, ℕ, false, true, ◌∙◌, List, length, map, sym, ap, refl, arith}
+use Rattle.std.proofs.Common.{◌≡◌, ℕ, false, ◌∙◌, length, sym, ap, refl, arith}
 use Rattle.std.proofs.lemmas.List.{length-map}
 use Rattle.b67_word.specs.Tagged.{Tagged, contents}
 use Rattle.b67_area.specs.declared.Kind.TheVariants.{Code}
@@ -16,9 +16,9 @@ returns-clause-writes g c =
     let e = c.as_slice-code.ensures in
     let long : length (contents c.args.segment.now.code) ≡ length c.as_slice-code.result.now = length-map c.args.segment.now.code (λ (w : Tagged). w.bits) ∙ ap length (sym e) in
     written g.B.Backing.holds (record { home = c.args.at; kind = Code; numbers = contents c.args.segment.now.code }) c.as_slice-code.result.now c.in_ok-first.first _ _ c.requires.known
-        (words_back 3 c.args.segment.now.code c.requires.within.code.each ∙ sym e) long (omega (arith, c.requires.within.code.some, ap length e)) (omega (arith, ap length e, c.requires.room))
-        c.shelve.ensures.shelf c.in_ok-first.ensures.stores c.in_ok-first.ensures.first
-        (word_set c.args.core.now c.set.new.self c.args.at c.word.result _ c.requires.inside c.set.ensures.value (c.word.ensures ∙ ap (λ (n : ℕ). seg_word (record { present = false; words = n; address = c.in_ok-first.first })) (sym long)))
+    (words_back 3 c.args.segment.now.code c.requires.within.code.each ∙ sym e) long (omega (arith, c.requires.within.code.some, ap length e)) (omega (arith, ap length e, c.requires.room))
+    c.shelve.ensures.shelf c.in_ok-first.ensures.stores c.in_ok-first.ensures.first
+    (word_set c.args.core.now c.set.new.self c.args.at c.word.result _ c.requires.inside c.set.ensures.value (c.word.ensures ∙ ap (λ (n : ℕ). seg_word (record { present = false; words = n; address = c.in_ok-first.first })) (sym long)))
 
 pub returns-clause-spares : goal.returns-clause-spares
 returns-clause-spares g c =

@@ -1,7 +1,5 @@
-use Rattle.std.proofs.Common.{◌≡◌, ◌+◌, ℕ, ◌∙◌, List, length, map, drop, refl, arith}
+use Rattle.std.proofs.Common.{◌∙◌, List, length, map, refl, arith}
 use Rattle.std.proofs.lemmas.List.{length-map}
-use Rattle.b67_word.specs.Tagged.{contents}
-use Rattle.b67_area.specs.declared.Kind.TheVariants.{Code}
 use Rattle.b67_codefile.specs.Meaning.{segment_of}
 use Rattle.b67_stack.specs.Picture.{Thing}
 use Rattle.b67_install.specs.Things.{code_from}
@@ -22,8 +20,8 @@ pub returns-in_err-install_segment-clause-spares :
     goal.returns-in_err-install_segment-clause-spares
 returns-in_err-install_segment-clause-spares g c =
     going_failed g.B.Backing.holds c.args.base (length c.args.segments.now) c.loop-segment.at (code_from c.args.base (map segment_of c.args.segments.now)) _ _ _ _ _ _
-        (code_step c.loop-segment.at c.loop-segment.segment-index c.args.segments.now c.segment-item.result c.segment-item.is c.loop-segment-test.true)
-        c.loop-segment.invariant.going c.install_segment.ensures.spares
+    (code_step c.loop-segment.at c.loop-segment.segment-index c.args.segments.now c.segment-item.result c.segment-item.is c.loop-segment-test.true)
+    c.loop-segment.invariant.going c.install_segment.ensures.spares
 
 pub loop-segment-preserved : goal.loop-segment-preserved
 loop-segment-preserved g c = record {
@@ -37,4 +35,4 @@ loop-segment-preserved g c = record {
 pub returns-clause-writes : goal.returns-clause-writes
 returns-clause-writes g c =
     going_all g.B.Backing.holds c.args.base (length c.args.segments.now) c.loop-segment.at (code_from c.args.base (map segment_of c.args.segments.now)) _ _ _
-        (code_end c.loop-segment.at c.loop-segment.segment-index c.args.segments.now c.loop-segment-test.false) c.loop-segment.invariant.going
+    (code_end c.loop-segment.at c.loop-segment.segment-index c.args.segments.now c.loop-segment-test.false) c.loop-segment.invariant.going

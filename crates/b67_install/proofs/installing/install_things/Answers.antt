@@ -1,4 +1,4 @@
-use Rattle.std.proofs.Common.{◌+◌, arith}
+use Rattle.std.proofs.Common.{arith}
 use Rattle.std.proofs.lemmas.Result.{on_ok_weaker}
 use Rattle.b67_install.proofs.Steps.{sectors-parts, all_written, all_spared}
 use Rattle.b67_install.proofs.installing.install_things.Goals as goal
@@ -14,8 +14,8 @@ install_rows-requires-clause-room g c =
 pub returns-clause-writes : goal.returns-clause-writes
 returns-clause-writes g c =
     on_ok_weaker c.install_rows.result
-        (all_written g.B.Backing.holds c.args.base c.args.file.now c.as_slice-segments.result.now c.as_slice-rows.result.now _ _ _ c.as_slice-segments.ensures c.as_slice-rows.ensures c.in_ok-install_segments.ensures.writes c.install_rows.ensures.spares)
-        c.install_rows.ensures.writes
+    (all_written g.B.Backing.holds c.args.base c.args.file.now c.as_slice-segments.result.now c.as_slice-rows.result.now _ _ _ c.as_slice-segments.ensures c.as_slice-rows.ensures c.in_ok-install_segments.ensures.writes c.install_rows.ensures.spares)
+    c.install_rows.ensures.writes
 
 pub returns-clause-spares : goal.returns-clause-spares
 returns-clause-spares g c =

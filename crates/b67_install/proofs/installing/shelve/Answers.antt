@@ -1,4 +1,4 @@
-use Rattle.std.proofs.Common.{ℕ, ◌/◌, ◌+◌, List, length, map, take, arith, subst}
+use Rattle.std.proofs.Common.{ℕ, List, length, map, arith, subst}
 use Rattle.b67_core.specs.Numbers.{number}
 use Rattle.b67_backing.specs.Shelf.{taken}
 use Rattle.b67_backing.specs.Held.{Changes, SameBut, Stores, sectors_for}
@@ -24,19 +24,19 @@ pub returns-in-Ok-clause-stores : goal.returns-in-Ok-clause-stores
 returns-in-Ok-clause-stores g c = λ st s.
     let n : ℕ = sectors_for (length c.args.words.now) in
     subst (λ (k : List ℕ). Changes g.B.Backing.holds c.args.backing.now c.store.new.backing (Stores k (map number c.args.words.now)))
-        (last_taken c.in-Some.first n st (c.in-Some.ensures.chains st c.in-Some.first s))
-        (c.in-Ok.ensures.stores (taken n st) (c.in-Some.ensures.chain st s))
+    (last_taken c.in-Some.first n st (c.in-Some.ensures.chains st c.in-Some.first s))
+    (c.in-Ok.ensures.stores (taken n st) (c.in-Some.ensures.chain st s))
 
 pub returns-in-Ok-clause-others : goal.returns-in-Ok-clause-others
 returns-in-Ok-clause-others g c = λ st s.
     let n : ℕ = sectors_for (length c.args.words.now) in
     subst (λ (k : List ℕ). Changes g.B.Backing.holds c.args.backing.now c.store.new.backing (SameBut k))
-        (last_taken c.in-Some.first n st (c.in-Some.ensures.chains st c.in-Some.first s))
-        (c.in-Ok.ensures.others (taken n st) (c.in-Some.ensures.chain st s))
+    (last_taken c.in-Some.first n st (c.in-Some.ensures.chains st c.in-Some.first s))
+    (c.in-Ok.ensures.others (taken n st) (c.in-Some.ensures.chain st s))
 
 pub returns-in-Err-clause-others : goal.returns-in-Err-clause-others
 returns-in-Err-clause-others g c = λ st s.
     let n : ℕ = sectors_for (length c.args.words.now) in
     subst (λ (k : List ℕ). Changes g.B.Backing.holds c.args.backing.now c.store.new.backing (SameBut k))
-        (last_taken c.in-Some.first n st (c.in-Some.ensures.chains st c.in-Some.first s))
-        (c.in-Err.ensures.others (taken n st) (c.in-Some.ensures.chain st s))
+    (last_taken c.in-Some.first n st (c.in-Some.ensures.chains st c.in-Some.first s))
+    (c.in-Err.ensures.others (taken n st) (c.in-Some.ensures.chain st s))
