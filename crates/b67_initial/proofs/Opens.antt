@@ -26,10 +26,10 @@ use Rattle.b67_initial.proofs.Things.{is_thing, thing_within, things_long}
 use Rattle.b67_initial.proofs.Rests.{Stored, thing_stands, owned}
 use Rattle.b67_initial.proofs.Whole.{Parts, opening_stands}
 
-pub zeros_at : (n k : ℕ) → k < n → slice_get (replicate n zero) k ≡ Some 0
-zeros_at zero k h = absurd (omega arith)
-zeros_at (suc n) zero h = refl
-zeros_at (suc n) (suc k) h = zeros_at n k (omega arith)
+pub each_is : {A : Type 0} (x : A) (n k : ℕ) → k < n → slice_get (replicate n x) k ≡ Some x
+each_is x zero k h = absurd (omega arith)
+each_is x (suc n) zero h = refl
+each_is x (suc n) (suc k) h = each_is x n k (omega arith)
 
 -- core after the dictionaries were written, where the rest was laid out
 pub record LaidOut (mid : List Tagged) (cpu : Cpu) (areas : Areas) (stack : ℕ) (programs : List Program) : Type 0 where
@@ -49,7 +49,7 @@ pub record LaidOut (mid : List Tagged) (cpu : Cpu) (areas : Areas) (stack : ℕ)
 
 module _ {D : Type 0} (tell : D → Option (List (List ℕ))) (old mid : Writing_parts D) (cpu : Cpu) (areas : Areas) (stack : ℕ) (programs : List Program) where
   parts_of : (openings : List Opening) (switches : List Switch) (st : Shelf) → programs_of openings ≡ programs → DeckWithin stack switches openings
-      → ((i : ℕ) → i < length old.core → slice_get old.core i ≡ Some (word 0 0)) → 160 ≤ length old.core
+      → old.core ≡ replicate (length old.core) (word 0 0) → 160 ≤ length old.core
       → HeadsLie mid.core 160 programs → Writes tell (things_from 160 programs) old mid → Spares tell 160 (dictionaries programs) old mid
       → LaidOut mid.core cpu areas stack programs → IsShelf old.table st → st.chains ≡ []
       → Parts (absent_storage cpu.core areas.low (stocked (things_from 160 programs) st) (told_after (tell old.device) (tell mid.device))) cpu stack programs
@@ -59,7 +59,7 @@ module _ {D : Type 0} (tell : D → Option (List (List ℕ))) (old mid : Writing
     owned = owned cpu.core areas.low old.table mid.table st (things_from 160 programs) (tell old.device) (tell mid.device) stored;
     mcp = laid.mcp;
     slots = laid.slots;
-    free = λ k low high. laid.vector k low high ∙ (spares.outside (32 + k) (inl (omega (arith, high))) ∙ zero_words (32 + k) (omega (arith, high, some)));
+    free = λ k low high. laid.vector k low high ∙ (spares.outside (32 + k) (inl (omega (arith, high))) ∙ (ap (λ c. slice_get c (32 + k)) zero_words ∙ each_is (word 0 0) (length old.core) (32 + k) (omega (arith, high, some))));
     critical = laid.critical;
     idle = laid.slot;
     stacks = laid.stacks;
@@ -83,7 +83,7 @@ module _ {D : Type 0} (tell : D → Option (List (List ℕ))) (old mid : Writing
       stocks = λ a e. (writes.stocks st is).told a e;
     }
 
-  pub opens : ((i : ℕ) → i < length old.core → slice_get old.core i ≡ Some (word 0 0)) → 160 ≤ length old.core
+  pub opens : old.core ≡ replicate (length old.core) (word 0 0) → 160 ≤ length old.core
       → HeadsLie mid.core 160 programs → Writes tell (things_from 160 programs) old mid → Spares tell 160 (dictionaries programs) old mid
       → LaidOut mid.core cpu areas stack programs → (st : Shelf) → IsShelf old.table st → st.chains ≡ []
       → Opens areas mid.table (told_after (tell old.device) (tell mid.device)) (absent_storage cpu.core areas.low (stocked (things_from 160 programs) st) (told_after (tell old.device) (tell mid.device))) cpu stack programs

@@ -5,6 +5,8 @@ mod dictionaries;
 mod laying;
 mod needs;
 mod opening;
+#[cfg(test)]
+mod tests;
 
 pub use needs::{opening_need, opening_sectors};
 pub use opening::{Initial, set_up};

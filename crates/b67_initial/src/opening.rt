@@ -1,6 +1,6 @@
 //! The machine of a session that opens.
 
-ghost use Rattle.std.specs.Prelude.{◌≡◌, ℕ, ◌+◌, ◌*◌, ◌<◌, ◌≤◌, ◌^◌, [], length, map, slice_get, Some, IfOk, IfErr};
+ghost use Rattle.std.specs.Prelude.{◌≡◌, ◌+◌, ◌*◌, ◌≤◌, [], length, map, replicate, IfOk, IfErr};
 ghost use Rattle.b67_word.specs.Tagged.{word};
 ghost use Rattle.b67_io.specs.Causes.{HasCause};
 ghost use Rattle.b67_backing.specs.Shelf.{Shelf, IsShelf};
@@ -69,7 +69,7 @@ pub fn set_up<B: Backing>(
     stack: u16,
     programs: &[Admitted],
 ) -> Result<Initial, SpaceFault>
-    requires zeros { (i : ℕ) → i < length core → slice_get core i ≡ Some (word 0 0) }
+    requires zeros { core ≡ replicate (length core) (word 0 0) }
     requires stack_low { 64 ≤ stack }
     requires few { length programs.now ≤ 8 }
     requires inside { 160 + dictionaries (map program_of programs.now) + length programs.now * stack ≤ length core }
@@ -80,6 +80,7 @@ pub fn set_up<B: Backing>(
         → Opens m.areas sectors.new (told_after (B.holds backing.old) (B.holds backing.new))
             (absent_storage m.cpu.core m.areas.low (stocked (things_from 160 (map program_of programs.now)) st) (told_after (B.holds backing.old) (B.holds backing.new)))
             m.cpu stack (map program_of programs.now)) }
+    ensures len { IfOk result (λ m. length m.cpu.core ≡ length core) }
     ensures size { B.size backing.new ≡ B.size backing.old }
     ensures count { length sectors.new.links ≡ length sectors.old.links }
     ensures refusal { IfErr result (λ fault. fault ≡ BackingFault) }

@@ -3,7 +3,7 @@ use Rattle.b67_codefile.specs.Meaning.{program_of}
 use Rattle.std.specs.List.{slice_get}
 use Rattle.std.proofs.lemmas.List.{length-map}
 use Rattle.b67_stack.specs.declared.Cpu.{Cpu}
-use Rattle.b67_initial.proofs.Opens.{zeros_at, laid_out, opens}
+use Rattle.b67_initial.proofs.Opens.{each_is, laid_out, opens}
 use Rattle.b67_initial.proofs.opening.set_up.Goals as goal
 
 pub returns-clause-opens : goal.returns-clause-opens
@@ -18,5 +18,5 @@ returns-clause-opens g c =
       c.in_ok-stacks.ensures.end (omega (arith, length-map c.args.programs.now program_of, c.requires.few))
       c.lay_core-areas.ensures.mcp c.lay_core-areas.ensures.slots c.lay_core-areas.ensures.vector c.lay_core-areas.ensures.dictionaries
       c.lay_core-areas.ensures.areas c.lay_core-areas.ensures.directory c.lay_core-areas.ensures.len (omega (arith, c.requires.inside, c.in_ok-stacks.ensures.end, c.install_all.ensures.spares.len))
-      (λ k h. ap (λ (z : Cpu). slice_get z.critical k) c.install_all.ensures.cpu ∙ zeros_at 120 k h)
+      (λ k h. ap (λ (z : Cpu). slice_get z.critical k) c.install_all.ensures.cpu ∙ each_is 0 120 k h)
       c.idle_registers-cpu.ensures.slot c.idle_registers-cpu.ensures.stacks c.idle_registers-cpu.ensures.size c.idle_registers-cpu.ensures.peak)
