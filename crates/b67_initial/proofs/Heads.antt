@@ -1,18 +1,17 @@
 -- The dictionaries of programs are installed one after the other.
-use Rattle.std.proofs.Common.{◌≡◌, ℕ, zero, suc, ◌+◌, ◌-◌, ◌<◌, ◌≤◌, ◌⊎◌, List, [], ◌∷◌, ◌++◌, length, map, take, drop, get_or, Option, Some, None, refl, sym, ◌∙◌, ap, subst, arith, inl, inr, ⊎_elim}
+use Rattle.std.proofs.Common.{◌≡◌, ℕ, zero, suc, ◌+◌, ◌<◌, ◌≤◌, List, [], ◌∷◌, length, map, take, drop, get_or, Option, Some, refl, sym, ◌∙◌, ap, subst, arith, inl}
 use Rattle.std.specs.List.{slice_get}
 use Rattle.std.proofs.lemmas.Option.{same_Some, none-some}
 use Rattle.std.proofs.lemmas.List.{drop_more, drop_all}
 use Rattle.b67_word.specs.Tagged.{Tagged}
 use Rattle.b67_backing.specs.Shelf.{Shelf, IsShelf}
-use Rattle.b67_backing.specs.Held.{Changes, SameBut}
+use Rattle.b67_backing.specs.Held.{Changes}
 use Rattle.b67_codefile.specs.declared.file.Codefile.{Codefile}
 use Rattle.b67_codefile.specs.Meaning.{program_of}
-use Rattle.b67_model.specs.Lists.{Has, total}
+use Rattle.b67_model.specs.Lists.{total}
 use Rattle.b67_model.specs.Program.{Program}
-use Rattle.b67_stack.specs.Picture.{Thing}
 use Rattle.b67_install.specs.Things.{things_of, entries_of, sectors_of_program}
-use Rattle.b67_install.specs.Resting.{stocked, DictionaryIs, Stocks, SameOutside, KeepsChains}
+use Rattle.b67_install.specs.Resting.{stocked, DictionaryIs, Stocks}
 use Rattle.b67_install.specs.Writing.{Parts, Spares, Writes}
 use Rattle.b67_install.proofs.Steps.{sectors-things}
 use Rattle.b67_install.proofs.Writing.{writes_none, writes_both, spares-refl, spares_both, spares_wider}
@@ -91,8 +90,8 @@ module _ {D : Type 0} (tell : D → Option (List (List ℕ))) where
       writes = λ end v r. g.writes end
           (writes_both tell (things_of at p) (things_from (at + dictionary_words p) more) (at + dictionary_words p) (dictionaries more) now next end step.writes v r (λ t h. inl (things_within at p t h).high))
           (spares_both tell at (dictionary_words p + dictionaries more) now next end
-            (spares_wider tell at (dictionary_words p) at (dictionary_words p + dictionaries more) now next (omega arith) (omega arith) step.spares)
-            (spares_wider tell (at + dictionary_words p) (dictionaries more) at (dictionary_words p + dictionaries more) next end (omega arith) (omega arith) r));
+          (spares_wider tell at (dictionary_words p) at (dictionary_words p + dictionaries more) now next (omega arith) (omega arith) step.spares)
+          (spares_wider tell (at + dictionary_words p) (dictionaries more) at (dictionary_words p + dictionaries more) next end (omega arith) (omega arith) r));
       heads = λ core same h. g.heads core (λ i below. same i (omega (arith, below)) ∙ step.spares.outside i (inl below))
           (record { mark = same at (omega arith) ∙ step.head.mark; entries = same (at + 1) (omega arith) ∙ step.head.entries }, h);
     }

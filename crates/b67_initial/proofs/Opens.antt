@@ -1,20 +1,18 @@
 -- The machine that was set up stands for the sessions of its programs.
-use Rattle.std.proofs.Common.{◌≡◌, ℕ, zero, suc, ◌+◌, ◌-◌, ◌*◌, ◌<◌, ◌≤◌, List, [], ◌∷◌, length, map, replicate, Option, Some, None, refl, sym, ◌∙◌, ap, subst, arith, inl, inr}
+use Rattle.std.proofs.Common.{◌≡◌, ℕ, zero, suc, ◌+◌, ◌-◌, ◌*◌, ◌<◌, ◌≤◌, List, [], length, replicate, Option, Some, refl, sym, ◌∙◌, ap, subst, arith, inl}
 use Rattle.std.specs.List.{slice_get}
 use Rattle.b67_word.specs.Tagged.{Tagged, word}
 use Rattle.b67_area.specs.declared.Areas.{Areas}
 use Rattle.b67_area.specs.Spans.{left}
 use Rattle.b67_area.specs.Directory.{IsDirectory}
-use Rattle.b67_backing.specs.Shelf.{Table, Shelf, IsShelf}
+use Rattle.b67_backing.specs.Shelf.{Shelf, IsShelf}
 use Rattle.b67_model.specs.Lists.{Has}
 use Rattle.b67_model.specs.Program.{Program}
 use Rattle.b67_model.specs.Schedule.{Switch}
 use Rattle.b67_opening.specs.Opening.{Opening, DeckWithin, opening}
 use Rattle.b67_stack.specs.declared.Cpu.{Cpu}
-use Rattle.b67_stack.specs.Picture.{Thing}
-use Rattle.b67_stack.specs.Stands.{Storage}
 use Rattle.b67_layout.specs.Session.{McpStands, SessionStands}
-use Rattle.b67_install.specs.Resting.{Resting, stocked, placed, DescriptorsStand}
+use Rattle.b67_install.specs.Resting.{stocked}
 use Rattle.b67_install.specs.Writing.{Parts as Writing_parts, Spares, Writes}
 use Rattle.b67_install.proofs.Shelves.{placed_thing}
 use Rattle.b67_initial.specs.Opened.{dictionaries, things_from, opening_plan, programs_of}
@@ -93,8 +91,8 @@ module _ {D : Type 0} (tell : D → Option (List (List ℕ))) (old mid : Writing
         let x = absent_storage cpu.core areas.low (stocked (things_from 160 programs) st) (told_after (tell old.device) (tell mid.device)) in
         subst (λ (ps : List Program). SessionStands x cpu (opening_plan stack ps) (opening stack quantum switches openings)) same
         (opening_stands x cpu stack quantum switches openings within
-          (subst (λ (ps : List Program). Parts x cpu stack ps) (sym same)
-            (parts_of openings switches st same within zero_words some heads writes spares laid is none)));
+        (subst (λ (ps : List Program). Parts x cpu stack ps) (sym same)
+        (parts_of openings switches st same within zero_words some heads writes spares laid is none)));
   }
 
 pub laid_out : (mid : List Tagged) (cpu : Cpu) (areas : Areas) (stack stacks jobs : ℕ) (programs : List Program) → stacks ≡ 160 + dictionaries programs → jobs ≡ length programs

@@ -1,13 +1,13 @@
 -- The plan of a session that opens fits it.
-use Rattle.std.proofs.Common.{◌≡◌, ◌≢◌, ℕ, zero, suc, ◌+◌, ◌-◌, ◌*◌, ◌<◌, ◌≤◌, ◌^◌, List, [], ◌∷◌, ◌++◌, length, map, reverse, take, Option, Some, None, refl, sym, ◌∙◌, ap, arith, subst, inl, inr}
+use Rattle.std.proofs.Common.{◌≡◌, ℕ, suc, ◌+◌, ◌<◌, ◌≤◌, List, [], ◌∷◌, length, take, Some, None, refl, sym, ◌∙◌, ap, arith, subst, inl, inr}
 use Rattle.std.specs.List.{slice_get}
 use Rattle.std.proofs.lemmas.Option.{slice_get_within}
 use Rattle.std.proofs.lemmas.List.{length-map}
 use Rattle.b67_model.specs.Lists.{Has}
 use Rattle.b67_model.specs.State.{Entered, Ready, Task, Member}
-use Rattle.b67_model.specs.Program.{Program, segment_words, originals}
+use Rattle.b67_model.specs.Program.{Program}
 use Rattle.b67_model.specs.Schedule.{Switch}
-use Rattle.b67_opening.specs.Opening.{Opening, opened_from, opening, DeckWithin}
+use Rattle.b67_opening.specs.Opening.{Opening, opened_from, opening}
 use Rattle.b67_opening.proofs.Rows.{entries_count}
 use Rattle.b67_layout.specs.Plan.{Slotted, Plan}
 use Rattle.b67_layout.specs.Session.{RowsFit, DictionariesFollow, RowHomes, PlanFits}
@@ -42,10 +42,13 @@ rows_fit stack openings = record {
 } where
   jobs : List Member
   jobs = opened_from 1 stack openings
+
   programs : List Program
   programs = programs_of openings
+
   same : (a b : Slotted) → Has (opening_plan stack programs).rows a → Has (opening_plan stack programs).rows b → a.slot ≡ b.slot → a ≡ b
   same a b ina inb = for_slots (λ c. c.slot ≡ b.slot → c ≡ b) 0 programs (λ k s p e f. for_slots (λ d. s ≡ d.slot → slotted s ≡ d) 0 programs (λ l i q g h z. ap slotted z) b inb) a ina
+
   same_job : (a b : Slotted) → Has (opening_plan stack programs).rows a → Has (opening_plan stack programs).rows b → a.job ≡ b.job → a ≡ b
   same_job a b ina inb = for_slots (λ c. c.job ≡ b.job → c ≡ b) 0 programs (λ k s p e f. for_slots (λ d. s + 1 ≡ d.job → slotted s ≡ d) 0 programs (λ l i q g h z. ap slotted (omega (arith, z))) b inb) a ina
 
@@ -56,7 +59,7 @@ follow plan stack n at [] h e = omega (arith, e)
 follow plan stack n at (o ∷ more) h e = (
   omega (arith, h 0 n o refl (omega arith)),
   subst (λ i. DictionariesFollow plan i (opened_from (n + 1) stack more)) (omega (arith, entries_count o.program.segments o.program.rows))
-  (follow plan stack (n + 1) (at + dictionary_words o.program) more (λ k j q f g. omega (arith, h (suc k) j q f (omega (arith, g)))) (omega (arith, e))),
+      (follow plan stack (n + 1) (at + dictionary_words o.program) more (λ k j q f g. omega (arith, h (suc k) j q f (omega (arith, g)))) (omega (arith, e))),
 )
 
 pub length_opened : (n stack : ℕ) (openings : List Opening) → length (opened_from n stack openings) ≡ length openings

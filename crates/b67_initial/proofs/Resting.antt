@@ -1,10 +1,10 @@
 -- The chains of things that rest.
-use Rattle.std.proofs.Common.{◌≡◌, ◌≢◌, ℕ, zero, suc, ◌+◌, ◌-◌, ◌<◌, ◌≤◌, ◌^◌, ◌⊎◌, List, [], ◌∷◌, ◌++◌, length, take, drop, refl, sym, ◌∙◌, ap, subst, arith, inl, inr, ⊎_elim, ◌==◌, length-drop}
+use Rattle.std.proofs.Common.{◌≡◌, ℕ, ◌<◌, ◌≤◌, ◌⊎◌, List, [], ◌∷◌, length, take, drop, refl, sym, ◌∙◌, ap, subst, arith, inl, inr, ⊎_elim, length-drop}
 use Rattle.std.proofs.lemmas.Bool.{eq-eqb, ne_eqb, cases_eq, cases_lt}
 use Rattle.std.proofs.lemmas.List.{length-take, nil_from_length}
-use Rattle.b67_backing.specs.Shelf.{Table, Shelf, IsShelf, AreChains, one, times, uses, first, chain_of, others, taken}
-use Rattle.b67_backing.proofs.Links.{Chain, chain_there, rest, one-same, uses-split}
-use Rattle.b67_model.specs.Lists.{Has, total}
+use Rattle.b67_backing.specs.Shelf.{Table, Shelf, IsShelf, AreChains, one, times, uses, first, chain_of, taken}
+use Rattle.b67_backing.proofs.Links.{chain_there, one-same, uses-split}
+use Rattle.b67_model.specs.Lists.{Has}
 use Rattle.b67_stack.specs.Picture.{Thing}
 use Rattle.b67_install.specs.Things.{sectors_of, sectors_of_all}
 use Rattle.b67_install.specs.Resting.{Resting, placed, stocked}
@@ -28,8 +28,8 @@ found links ([] ∷ ks) k a h few = absurd a
 found links ((d ∷ ds) ∷ ks) k a (inl e) few = subst (λ (z : List ℕ). chain_of (first z) ((d ∷ ds) ∷ ks) ≡ z) e (rw (eq-eqb d d refl) refl)
 found links ((d ∷ ds) ∷ ks) k a (inr h) few = ⊎_elim
     (λ (e : first k ≡ d).
-      let here : one (first k) d ≡ 1 = ap (one (first k)) (sym e) ∙ one-same (first k) in
-      absurd (omega (arith, few, here, has_uses ks k (first k) h (first_in k (chain_some links ks k a.1 h)))))
+    let here : one (first k) d ≡ 1 = ap (one (first k)) (sym e) ∙ one-same (first k) in
+    absurd (omega (arith, few, here, has_uses ks k (first k) h (first_in k (chain_some links ks k a.1 h)))))
     (λ (e : first k ≡ d → ⊥). rw (ne_eqb d (first k) (λ z. e (sym z))) (found links ks k a.1 h (omega (arith, few))))
     (cases_eq (first k) d)
 
@@ -45,9 +45,9 @@ pub no_zero : (t : Table) (s : Shelf) → IsShelf t s → chain_of 0 s.chains �
 no_zero t s is = ⊎_elim
     (λ (l : length (chain_of 0 s.chains) < 1). nil_from_length (chain_of 0 s.chains) (omega arith))
     (λ (l : 1 ≤ length (chain_of 0 s.chains)).
-      let k = chain_there t.links 0 s.chains is.chains l in
-      let some : 1 ≤ times 0 (chain_of 0 s.chains) = rw k.is (omega (arith, one-same 0)) in
-      absurd (omega (arith, some, uses-split 0 0 s.chains, is.zero)))
+    let k = chain_there t.links 0 s.chains is.chains l in
+    let some : 1 ≤ times 0 (chain_of 0 s.chains) = rw k.is (omega (arith, one-same 0)) in
+    absurd (omega (arith, some, uses-split 0 0 s.chains, is.zero)))
     (cases_lt (length (chain_of 0 s.chains)) 1)
 
 -- the chain that begins with a sector is among them
@@ -56,9 +56,9 @@ chain_begins [] x h = absurd (omega arith)
 chain_begins (k ∷ ks) x h = ⊎_elim
     (λ (e : first k ≡ x). let t = eq-eqb (first k) x e in rw t (inl refl, e))
     (λ (e : first k ≡ x → ⊥).
-      let t = ne_eqb (first k) x e in
-      let b = chain_begins ks x (rw t at h) in
-      rw t (inr b.0, b.1))
+    let t = ne_eqb (first k) x e in
+    let b = chain_begins ks x (rw t at h) in
+    rw t (inr b.0, b.1))
     (cases_eq (first k) x)
 
 -- each thing has its sectors
@@ -78,9 +78,9 @@ pub chain_placed : (ts : List Thing) (s : Shelf) (k : List ℕ) → Has (stocked
 chain_placed [] s k h = inl h
 chain_placed (t ∷ more) s k h = ⊎_elim
     (λ (m : Has (take (sectors_of t) s.free ∷ s.chains) k). ⊎_elim
-      (λ (e : take (sectors_of t) s.free ≡ k). inr (record { thing = t; chain = take (sectors_of t) s.free }, inl refl, e))
-      (λ (i : Has s.chains k). inl i)
-      m)
+    (λ (e : take (sectors_of t) s.free ≡ k). inr (record { thing = t; chain = take (sectors_of t) s.free }, inl refl, e))
+    (λ (i : Has s.chains k). inl i)
+    m)
     (λ (m : (r : Resting) × Has (placed more (drop (sectors_of t) s.free)) r × (r.chain ≡ k)). inr (m.0, inr m.1, m.2))
     (chain_placed more (taken (sectors_of t) s) k h)
 

@@ -1,22 +1,20 @@
 -- Things that were written to free sectors stand at rest.
-use Rattle.std.proofs.Common.{◌≡◌, ◌≢◌, ℕ, zero, suc, ◌+◌, ◌-◌, ◌*◌, ◌/◌, ◌%◌, ◌<◌, ◌≤◌, ◌^◌, ◌⊎◌, List, [], ◌∷◌, ◌++◌, length, map, Option, Some, None, refl, sym, ◌∙◌, ap, subst, arith, inl, inr, ⊎_elim}
+use Rattle.std.proofs.Common.{◌≡◌, ℕ, zero, suc, ◌-◌, ◌%◌, ◌<◌, ◌≤◌, ◌^◌, List, [], length, map, Option, Some, None, refl, sym, ◌∙◌, ap, subst, arith, inl, ⊎_elim}
 use Rattle.std.specs.List.{slice_get}
 use Rattle.std.proofs.lemmas.Option.{none-some}
 use Rattle.b67_word.specs.Tagged.{Tagged}
 use Rattle.b67_core.specs.Numbers.{number}
 use Rattle.b67_area.specs.Spans.{area_at, left}
-use Rattle.b67_area.specs.declared.Info.{Info}
 use Rattle.b67_area.specs.declared.Kind.{Kind}
 use Rattle.b67_area.specs.declared.Kind.TheVariants.{Array, Row, Code}
 use Rattle.b67_backing.specs.Shelf.{Table, Shelf, IsShelf, first, chain_of}
-use Rattle.b67_backing.specs.Held.{Holds}
 use Rattle.b67_model.specs.Lists.{Has}
 use Rattle.b67_stack.specs.Picture.{Thing, home_word_of, home_word, words_of}
-use Rattle.b67_stack.specs.Stands.{Storage, Told, HasChain, HoldsIn, ThingStands, Owned}
+use Rattle.b67_stack.specs.Stands.{Storage, Told, HoldsIn, ThingStands, Owned}
 use Rattle.b67_install.specs.Things.{sectors_of, sectors_of_all}
-use Rattle.b67_install.specs.Resting.{Resting, placed, stocked, at_rest, descriptor, DescriptorsStand, Stocks}
+use Rattle.b67_install.specs.Resting.{Resting, placed, stocked, at_rest, DescriptorsStand, Stocks}
 use Rattle.b67_install.proofs.Shelves.{Apart, placed_chain, placed_thing}
-use Rattle.b67_initial.specs.Stored.{sector_named, held_in, absent_storage, told_after}
+use Rattle.b67_initial.specs.Stored.{sector_named, absent_storage, told_after}
 use Rattle.b67_initial.proofs.Resting.{first_apart, chain_found, no_zero, chain_begins, placed_length, placed_has, chain_placed, Alone, one_place}
 
 -- things that were written, from sectors that were all free
@@ -90,7 +88,7 @@ module _ (core : List Tagged) (low : ℕ) (old new : Table) (st : Shelf) (ts : L
       ⊎_elim
       (λ (m : Has st.chains (chain_of c (stocked ts st).chains)). absurd (subst (λ ks. Has ks (chain_of c (stocked ts st).chains)) stored.none m))
       (λ (m : (r : Resting) × Has (placed ts st.free) r × (r.chain ≡ chain_of c (stocked ts st).chains)).
-        (m.0.thing, placed_thing ts st.free m.0 m.1, names m.0 m.1 ∙ ap first m.2 ∙ b.1))
+      (m.0.thing, placed_thing ts st.free m.0 m.1, names m.0 m.1 ∙ ap first m.2 ∙ b.1))
       (chain_placed ts st (chain_of c (stocked ts st).chains) b.0)
 
   one_home : (t u : Thing) → Has ts t → Has ts u → (x.held t.home).chain ≡ (x.held u.home).chain → t.home ≡ u.home

@@ -1,25 +1,21 @@
 -- The slots of a session that opens: each first task waits.
-use Rattle.std.proofs.Common.{◌≡◌, ◌≢◌, ℕ, zero, suc, ◌+◌, ◌-◌, ◌*◌, ◌<◌, ◌≤◌, ◌^◌, List, [], ◌∷◌, length, Option, Some, None, refl, sym, ◌∙◌, ap, arith, subst, inl, inr}
+use Rattle.std.proofs.Common.{◌≡◌, ◌≢◌, ℕ, suc, ◌+◌, ◌*◌, ◌<◌, ◌≤◌, ◌^◌, List, Option, Some, refl, ◌∙◌, ap, arith, inl, inr}
 use Rattle.std.specs.List.{slice_get}
-use Rattle.std.specs.Prelude.{find, option_map, unwrap_or}
+use Rattle.std.specs.Prelude.{option_map, unwrap_or}
 use Rattle.std.proofs.lemmas.Bool.{ne_eqb}
 use Rattle.b67_word.specs.Tagged.{Tagged, word}
-use Rattle.b67_model.specs.Lists.{Has}
-use Rattle.b67_model.specs.Keyed.{keyed}
-use Rattle.b67_model.specs.State.{Member}
-use Rattle.b67_model.specs.Run.{number_of}
 use Rattle.b67_opening.specs.Opening.{Opening, opened_from}
 use Rattle.b67_ctl.specs.declared.registers.Regs.{Regs}
 use Rattle.b67_stack.specs.Shapes.{Map, Fits, Lie}
-use Rattle.b67_stack.specs.Stacks.{words, IsStack}
-use Rattle.b67_stack.specs.Picture.{Thing, Slot, Waiting, stack_of, Picture, slot_base, CopiesName, SlotFits}
+use Rattle.b67_stack.specs.Stacks.{words}
+use Rattle.b67_stack.specs.Picture.{Waiting, Picture, slot_base, CopiesName, SlotFits}
 use Rattle.b67_stack.specs.Stands.{SlotStands}
-use Rattle.b67_layout.specs.Plan.{Slotted, is_row_of, slot_of}
-use Rattle.b67_layout.specs.Layout.{slot_with, slot_in, slot_by, slot_at, picture}
-use Rattle.b67_initial.specs.Opened.{first_stack, opening_plan, slots_from, programs_of}
+use Rattle.b67_layout.specs.Plan.{Slotted, slot_of}
+use Rattle.b67_layout.specs.Layout.{slot_in, slot_by, slot_at}
+use Rattle.b67_initial.specs.Opened.{first_stack, opening_plan, programs_of}
 use Rattle.b67_initial.specs.Words.{SlotLies}
 use Rattle.b67_initial.proofs.Lists.{mapped}
-use Rattle.b67_initial.proofs.Members.{member, member_at, slotted, slot_at_place, slot_of_job}
+use Rattle.b67_initial.proofs.Members.{member_at, slot_at_place, slot_of_job}
 
 module _ (stack : ℕ) (openings : List Opening) (k : ℕ) (o : Opening) (found : slice_get openings k ≡ Some o) (small : k < 8) where
   pub slot_is : slot_at (opening_plan stack (programs_of openings)) (opened_from 1 stack openings) k ≡ Waiting (first_stack (k + 1))
@@ -51,9 +47,10 @@ first_stands core r p k job other lies = (other, lies.top)
 pub first_lies : (held : Map) (core : List Tagged) (p : Picture) (k job : ℕ) → k < 8 → SlotLies core (slot_base p k) job → Lie (Fits held) core (suc (slot_base p k)) (words k (first_stack job))
 first_lies held core p k job small lies =
     let upper : suc (slot_base p k) + 1 ≡ slot_base p k + 2 = omega arith in
-    let lower : suc (slot_base p k) + 0 ≡ slot_base p k + 1 = omega arith in
-    ((word 3 0, ap (slice_get core) upper ∙ lies.back, (refl, λ e. omega (arith, e))),
-    ((word 3 (2 ^ 47 + 2 ^ 46 + (127 + job) * 2 ^ 36 + 2 * 2 ^ 14), ap (slice_get core) lower ∙ lies.mark, (rw (ne_eqb (127 + job) k (λ e. omega (arith, e, small))) (mark_bits job), λ e. omega (arith, e))), tt))
+    let lower : suc (slot_base p k) + 0 ≡ slot_base p k + 1 = omega arith in (
+      (word 3 0, ap (slice_get core) upper ∙ lies.back, (refl, λ e. omega (arith, e))),
+      ((word 3 (2 ^ 47 + 2 ^ 46 + (127 + job) * 2 ^ 36 + 2 * 2 ^ 14), ap (slice_get core) lower ∙ lies.mark, (rw (ne_eqb (127 + job) k (λ e. omega (arith, e, small))) (mark_bits job), λ e. omega (arith, e))), tt),
+    )
   where
     mark_bits : (job : ℕ) → word 3 (2 ^ 47 + 2 ^ 46 + (127 + job) * 2 ^ 36 + 2 * 2 ^ 14) ≡ word 3 (1 * 2 ^ 47 + 1 * 2 ^ 46 + (127 + job) * 2 ^ 36 + 0 * 2 ^ 20 + 0 * 2 ^ 19 + 2 * 2 ^ 14 + 0)
     mark_bits job = ap (λ b. word 3 b) (omega arith)

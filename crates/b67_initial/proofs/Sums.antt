@@ -1,5 +1,5 @@
 -- What the opening of programs needs.
-use Rattle.std.proofs.Common.{◌≡◌, ℕ, zero, suc, ◌+◌, ◌*◌, ◌/◌, List, [], ◌∷◌, length, map, reverse, refl, sym, ◌∙◌, ap, subst, arith}
+use Rattle.std.proofs.Common.{◌≡◌, ℕ, ◌+◌, ◌*◌, List, [], ◌∷◌, length, reverse, refl, sym, ◌∙◌, ap, arith}
 use Rattle.std.specs.List.{sum_by}
 use Rattle.std.proofs.lemmas.List.Sums.{sum_by-cons}
 use Rattle.b67_backing.specs.Held.{sectors_for}
@@ -28,7 +28,7 @@ pub need_is : (stack : ℕ) (openings : List Opening) (programs : List Program) 
 need_is stack openings programs count same many =
     let jobs = opened_from 1 stack openings in
     let words : dictionaries programs ≡ sum_by (λ (m : Member). 2 + length m.setting.dictionary.cells) jobs =
-        ap dictionaries (sym same) ∙ sym (sum_is (λ (m : Member). 2 + length m.setting.dictionary.cells) jobs ∙ dictionaries_are 1 stack openings) in
+    ap dictionaries (sym same) ∙ sym (sum_is (λ (m : Member). 2 + length m.setting.dictionary.cells) jobs ∙ dictionaries_are 1 stack openings) in
     let number : count ≡ length jobs = many ∙ (ap length (sym same) ∙ (count_is openings ∙ sym (length_opened 1 stack openings))) in
     ap (λ d. 160 + d + count * stack) words ∙ ap (λ n. 160 + sum_by (λ (m : Member). 2 + length m.setting.dictionary.cells) jobs + n * stack) number
 

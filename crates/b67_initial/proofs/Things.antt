@@ -1,12 +1,12 @@
 -- The things of a session that opens are those of its programs; no two have one home.
-use Rattle.std.proofs.Common.{◌≡◌, ◌≢◌, ℕ, zero, suc, ◌+◌, ◌-◌, ◌*◌, ◌<◌, ◌≤◌, ◌^◌, ⊎_elim, List, [], ◌∷◌, ◌++◌, length, map, reverse, take, Option, Some, None, refl, sym, ◌∙◌, ap, arith, subst, inl, inr, false}
+use Rattle.std.proofs.Common.{◌≡◌, ℕ, zero, suc, ◌+◌, ◌-◌, ◌<◌, ◌≤◌, ◌^◌, ⊎_elim, List, [], ◌∷◌, length, map, reverse, take, Some, refl, sym, ◌∙◌, ap, arith, subst, inl, inr}
 use Rattle.std.specs.List.{slice_get, flat_map, AllByRecursion}
 use Rattle.std.specs.Prelude.{◌⊎◌}
 use Rattle.std.proofs.lemmas.Option.{same_Some, none-some}
 use Rattle.std.proofs.lemmas.Bool.{cases_order}
 use Rattle.b67_area.specs.declared.Kind.TheVariants as kind
 use Rattle.b67_model.specs.Lists.{Has}
-use Rattle.b67_model.specs.State.{Array, Segment, Member}
+use Rattle.b67_model.specs.State.{Segment, Member}
 use Rattle.b67_model.specs.Program.{Program, row_arrays}
 use Rattle.b67_model.specs.InOrder.{SegmentInOrder}
 use Rattle.b67_opening.specs.Opening.{Opening, RowWithin, OpeningWithin, opened_from}
@@ -14,7 +14,7 @@ use Rattle.b67_stack.specs.Picture.{Thing}
 use Rattle.b67_layout.specs.Plan.{Plan}
 use Rattle.b67_layout.specs.Layout.{array_thing, code_things, things_of}
 use Rattle.b67_install.specs.Things.{code_from, rows_from, things_of as things_at}
-use Rattle.b67_initial.specs.Opened.{dictionary_words, dictionaries, dictionary_at, segments_in, opening_plan, things_from, programs_of}
+use Rattle.b67_initial.specs.Opened.{dictionary_words, dictionaries, segments_in, opening_plan, things_from, programs_of}
 use Rattle.b67_initial.proofs.Lists.{total_before, total_within, mapped, from_mapped, has_split, has_left, has_right, has_turned, has_reverse, has_mapped, has_map, has_flat, has_flat_map}
 use Rattle.b67_initial.proofs.Members.{member, for_members, has_member}
 
@@ -66,13 +66,13 @@ things_differ at p t u h k e =
     let rs = rows_from (at + (2 + length p.segments)) p.rows in
     ⊎_elim
     (λ (a : Has ss t). ⊎_elim
-      (λ (b : Has ss u). segments_differ (at + 2) p.segments t u a b e)
-      (λ (b : Has rs u). absurd (omega (arith, e, (segments_within (at + 2) p.segments t a).high, (rows_within (at + (2 + length p.segments)) p.rows u b).low)))
-      (has_split ss rs u k))
+    (λ (b : Has ss u). segments_differ (at + 2) p.segments t u a b e)
+    (λ (b : Has rs u). absurd (omega (arith, e, (segments_within (at + 2) p.segments t a).high, (rows_within (at + (2 + length p.segments)) p.rows u b).low)))
+    (has_split ss rs u k))
     (λ (a : Has rs t). ⊎_elim
-      (λ (b : Has ss u). absurd (omega (arith, e, (segments_within (at + 2) p.segments u b).high, (rows_within (at + (2 + length p.segments)) p.rows t a).low)))
-      (λ (b : Has rs u). rows_differ (at + (2 + length p.segments)) p.rows t u a b e)
-      (has_split ss rs u k))
+    (λ (b : Has ss u). absurd (omega (arith, e, (segments_within (at + 2) p.segments u b).high, (rows_within (at + (2 + length p.segments)) p.rows t a).low)))
+    (λ (b : Has rs u). rows_differ (at + (2 + length p.segments)) p.rows t u a b e)
+    (has_split ss rs u k))
     (has_split ss rs t h)
 
 -- of several programs
@@ -90,15 +90,15 @@ apart programs t u i j less =
 pub homes_differ : (programs : List Program) (t u : Thing) → IsThing programs t → IsThing programs u → t.home ≡ u.home → t ≡ u
 homes_differ programs t u i j e = ⊎_elim
     (λ (s : i.place ≡ j.place).
-      let p : i.program ≡ j.program = same_Some i.program j.program (sym i.found ∙ (ap (slice_get programs) s ∙ j.found)) in
-      let at = λ (n : ℕ). 160 + dictionaries (take n programs) in
-      let m : Has (things_at (at j.place) i.program) t = subst (λ n. Has (things_at (at n) i.program) t) s i.among in
-      let n : Has (things_at (at j.place) j.program) t = subst (λ q. Has (things_at (at j.place) q) t) p m in
-      things_differ (at j.place) j.program t u n j.among e)
+    let p : i.program ≡ j.program = same_Some i.program j.program (sym i.found ∙ (ap (slice_get programs) s ∙ j.found)) in
+    let at = λ (n : ℕ). 160 + dictionaries (take n programs) in
+    let m : Has (things_at (at j.place) i.program) t = subst (λ n. Has (things_at (at n) i.program) t) s i.among in
+    let n : Has (things_at (at j.place) j.program) t = subst (λ q. Has (things_at (at j.place) q) t) p m in
+    things_differ (at j.place) j.program t u n j.among e)
     (λ (s : (i.place < j.place) ⊎ (j.place < i.place)). ⊎_elim
-      (λ (l : i.place < j.place). absurd (omega (arith, e, apart programs t u i j l)))
-      (λ (l : j.place < i.place). absurd (omega (arith, e, apart programs u t j i l)))
-      s)
+    (λ (l : i.place < j.place). absurd (omega (arith, e, apart programs t u i j l)))
+    (λ (l : j.place < i.place). absurd (omega (arith, e, apart programs u t j i l)))
+    s)
     (cases_order i.place j.place)
 
 -- as the picture lists them
@@ -138,9 +138,13 @@ from_all at [] t h = absurd h
 from_all at (p ∷ more) t h = ⊎_elim
     (λ (m : Has (things_at at p) t). record { place = 0; program = p; found = refl; among = is_thing_at at (at + 0) p t (omega arith) m })
     (λ (m : Has (things_from (at + dictionary_words p) more) t).
-      let a = from_all (at + dictionary_words p) more t m in
-      record { place = suc a.place; program = a.program; found = a.found;
-        among = is_thing_at (at + dictionary_words p + dictionaries (take a.place more)) (at + (dictionary_words p + dictionaries (take a.place more))) a.program t (omega arith) a.among })
+    let a = from_all (at + dictionary_words p) more t m in
+    record {
+      place = suc a.place;
+      program = a.program;
+      found = a.found;
+      among = is_thing_at (at + dictionary_words p + dictionaries (take a.place more)) (at + (dictionary_words p + dictionaries (take a.place more))) a.program t (omega arith) a.among;
+    })
     (has_split (things_at at p) (things_from (at + dictionary_words p) more) t h)
 
 pub is_thing : (programs : List Program) (t : Thing) → Has (things_from 160 programs) t → IsThing programs t
@@ -175,9 +179,9 @@ module _ (stack : ℕ) (openings : List Opening) (k j : ℕ) (o : Opening) (foun
       ⊎_elim
       (λ (m : Has (code_things plan j 1 o.program.segments) t). has_left codes rows t (subst (λ ts. Has ts t) codes_of m))
       (λ (m : Has (map (array_thing plan j) (reverse (row_arrays 1 o.program.rows))) t).
-        let a = has_mapped (array_thing plan j) (reverse (row_arrays 1 o.program.rows)) t m in
-        let b : Has (map (array_thing plan j) (row_arrays 1 o.program.rows)) (array_thing plan j a.0) = has_map (array_thing plan j) (row_arrays 1 o.program.rows) a.0 (has_turned (row_arrays 1 o.program.rows) a.0 a.1) in
-        has_right codes rows t (subst (λ u. Has rows u) a.2 (subst (λ ts. Has ts (array_thing plan j a.0)) rows_of b)))
+      let a = has_mapped (array_thing plan j) (reverse (row_arrays 1 o.program.rows)) t m in
+      let b : Has (map (array_thing plan j) (row_arrays 1 o.program.rows)) (array_thing plan j a.0) = has_map (array_thing plan j) (row_arrays 1 o.program.rows) a.0 (has_turned (row_arrays 1 o.program.rows) a.0 a.1) in
+      has_right codes rows t (subst (λ u. Has rows u) a.2 (subst (λ ts. Has ts (array_thing plan j a.0)) rows_of b)))
       (has_split (code_things plan j 1 o.program.segments) (map (array_thing plan j) (reverse (row_arrays 1 o.program.rows))) t h)
 
   pub things_member : (t : Thing) → Has (things_at (160 + dictionaries (take k (programs_of openings))) o.program) t → Has (things_of (opening_plan stack (programs_of openings)) (member stack j o)) t
@@ -190,9 +194,9 @@ module _ (stack : ℕ) (openings : List Opening) (k j : ℕ) (o : Opening) (foun
       ⊎_elim
       (λ (m : Has codes t). has_left (code_things plan j 1 o.program.segments) listed t (subst (λ ts. Has ts t) (sym codes_of) m))
       (λ (m : Has rows t).
-        let a = has_mapped (array_thing plan j) (row_arrays 1 o.program.rows) t (subst (λ ts. Has ts t) (sym rows_of) m) in
-        has_right (code_things plan j 1 o.program.segments) listed t
-        (subst (λ u. Has listed u) a.2 (has_map (array_thing plan j) (reverse (row_arrays 1 o.program.rows)) a.0 (has_reverse (row_arrays 1 o.program.rows) a.0 a.1))))
+      let a = has_mapped (array_thing plan j) (row_arrays 1 o.program.rows) t (subst (λ ts. Has ts t) (sym rows_of) m) in
+      has_right (code_things plan j 1 o.program.segments) listed t
+      (subst (λ u. Has listed u) a.2 (has_map (array_thing plan j) (reverse (row_arrays 1 o.program.rows)) a.0 (has_reverse (row_arrays 1 o.program.rows) a.0 a.1))))
       (has_split codes rows t h)
 
 -- the picture's things and those in a row are the same
@@ -230,8 +234,8 @@ pub things_long : (at : ℕ) (openings : List Opening) (t : Thing) → AllByRecu
 things_long at [] t h k = absurd k
 things_long at (o ∷ more) t h k = ⊎_elim
     (λ (m : Has (things_at at o.program) t). ⊎_elim
-      (λ (a : Has (code_from (at + 2) o.program.segments) t). codes_long (at + 2) o.program.segments t h.0.segments a)
-      (λ (a : Has (rows_from (at + (2 + length o.program.segments)) o.program.rows) t). rows_long (at + (2 + length o.program.segments)) o.program.rows t h.0.rows a)
-      (has_split (code_from (at + 2) o.program.segments) (rows_from (at + (2 + length o.program.segments)) o.program.rows) t m))
+    (λ (a : Has (code_from (at + 2) o.program.segments) t). codes_long (at + 2) o.program.segments t h.0.segments a)
+    (λ (a : Has (rows_from (at + (2 + length o.program.segments)) o.program.rows) t). rows_long (at + (2 + length o.program.segments)) o.program.rows t h.0.rows a)
+    (has_split (code_from (at + 2) o.program.segments) (rows_from (at + (2 + length o.program.segments)) o.program.rows) t m))
     (λ (m : Has (things_from (at + dictionary_words o.program) (programs_of more)) t). things_long (at + dictionary_words o.program) more t h.1 m)
     (has_split (things_at at o.program) (things_from (at + dictionary_words o.program) (programs_of more)) t k)

@@ -1,16 +1,10 @@
 -- The parts that are laid out in core stand for the session that opens.
-use Rattle.std.proofs.Common.{◌≡◌, ◌≢◌, ℕ, zero, suc, ◌+◌, ◌-◌, ◌*◌, ◌<◌, ◌≤◌, ◌^◌, ⊎_elim, List, [], ◌∷◌, ◌++◌, length, map, reverse, take, Option, Some, None, refl, sym, ◌∙◌, ap, arith, subst, inl, inr}
-use Rattle.std.specs.List.{slice_get, flat_map}
-use Rattle.std.specs.Prelude.{◌⊎◌}
+use Rattle.std.proofs.Common.{◌≡◌, ◌≢◌, ℕ, suc, ◌+◌, ◌*◌, ◌<◌, ◌≤◌, ⊎_elim, List, length, Some, refl, sym, ◌∙◌, ap, arith, subst}
+use Rattle.std.specs.List.{slice_get}
 use Rattle.std.proofs.lemmas.Bool.{cases_lt}
 use Rattle.std.proofs.lemmas.Option.{slice_get_within}
-use Rattle.b67_word.specs.Tagged.{Tagged, word}
+use Rattle.b67_word.specs.Tagged.{word}
 use Rattle.b67_area.specs.Directory.{IsDirectory}
-use Rattle.b67_area.specs.Spans.{area_at}
-use Rattle.b67_area.specs.declared.Info.{Info}
-use Rattle.b67_area.specs.declared.Kind.TheVariants as kind
-use Rattle.b67_ctl.specs.declared.registers.Regs.{Regs}
-use Rattle.b67_backing.specs.Shelf.{chain_of}
 use Rattle.b67_model.specs.Lists.{Has}
 use Rattle.b67_model.specs.State.{Task, Member}
 use Rattle.b67_model.specs.Program.{Program}
@@ -19,17 +13,16 @@ use Rattle.b67_opening.specs.Opening.{Opening, opened_from, opening, DeckWithin}
 use Rattle.b67_opening.proofs.Rows.{entries_count}
 use Rattle.b67_stack.specs.declared.Cpu.{Cpu}
 use Rattle.b67_stack.specs.Shapes.{Fits, Lie}
-use Rattle.b67_stack.specs.Stacks.{high, words}
+use Rattle.b67_stack.specs.Stacks.{words}
 use Rattle.b67_stack.specs.Picture.{Thing, Slot, Waiting, stack_of, Picture, slot_base, SlotFits, Laid, Settled}
-use Rattle.b67_stack.specs.Stands.{Storage, RegsStand, SlotStands, SlotsStand, StacksLie, ThingStands, ThingsStand, Owned, Stands, info_of}
-use Rattle.b67_layout.specs.Plan.{Slotted, Plan, slot_of}
-use Rattle.b67_layout.specs.Layout.{slot_at, picture}
-use Rattle.b67_layout.specs.Session.{DictionaryStands, McpStands, vector_word, VectorStands, CriticalStands, critical_mark, IsRunning, SessionHolds, SessionStands}
+use Rattle.b67_stack.specs.Stands.{Storage, SlotStands, ThingStands, Owned, Stands}
+use Rattle.b67_layout.specs.Plan.{Plan, slot_of}
+use Rattle.b67_layout.specs.Layout.{picture}
+use Rattle.b67_layout.specs.Session.{DictionaryStands, McpStands, vector_word, VectorStands, CriticalStands, critical_mark, IsRunning, SessionStands}
 use Rattle.b67_layout.proofs.Others.{keyed-has}
 use Rattle.b67_model.specs.Run.{number_of}
-use Rattle.b67_install.specs.Things.{entries_of}
 use Rattle.b67_initial.specs.Opened.{dictionaries, opening_plan, things_from, first_stack, programs_of}
-use Rattle.b67_initial.specs.Words.{SlotLies, SlotsLie, first_vector_word, HeadLies, HeadsLie}
+use Rattle.b67_initial.specs.Words.{SlotLies, SlotsLie, HeadsLie}
 use Rattle.b67_initial.proofs.Lists.{item_at, mapped}
 use Rattle.b67_initial.proofs.Members.{member, for_members, slotted, has_slot}
 use Rattle.b67_initial.proofs.Heads.{head_at}

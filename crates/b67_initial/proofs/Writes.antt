@@ -1,9 +1,9 @@
 -- What several writes to core leave.
-use Rattle.std.proofs.Common.{◌≡◌, ◌≢◌, ℕ, ◌+◌, ◌-◌, ◌*◌, ◌<◌, ◌≤◌, ◌^◌, ◌⊎◌, List, length, Some, refl, sym, ◌∙◌, ap, arith, ⊎_elim}
+use Rattle.std.proofs.Common.{◌≡◌, ◌≢◌, ℕ, ◌+◌, ◌*◌, ◌<◌, ◌≤◌, ◌^◌, ◌⊎◌, List, length, Some, refl, sym, ◌∙◌, ap, arith, ⊎_elim}
 use Rattle.std.specs.List.{slice_get, slice_set}
 use Rattle.b67_core.proofs.Writes.{slice_get-set_same, slice_get-set_other}
 use Rattle.b67_word.specs.Tagged.{Tagged, word}
-use Rattle.b67_initial.specs.Words.{SlotLies, first_vector_word, FirstTaskLies}
+use Rattle.b67_initial.specs.Words.{first_vector_word, FirstTaskLies}
 
 -- a word is written
 pub record Puts (old new : List Tagged) (at : ℕ) (w : Tagged) : Type 0 where

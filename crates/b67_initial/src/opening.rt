@@ -78,8 +78,8 @@ pub fn set_up<B: Backing>(
     requires same { B.size backing.old + 1 ≡ length sectors.old.links }
     ensures opens { IfOk result (λ m. (st : Shelf) → IsShelf sectors.old st → st.chains ≡ []
         → Opens m.areas sectors.new (told_after (B.holds backing.old) (B.holds backing.new))
-            (absent_storage m.cpu.core m.areas.low (stocked (things_from 160 (map program_of programs.now)) st) (told_after (B.holds backing.old) (B.holds backing.new)))
-            m.cpu stack (map program_of programs.now)) }
+        (absent_storage m.cpu.core m.areas.low (stocked (things_from 160 (map program_of programs.now)) st) (told_after (B.holds backing.old) (B.holds backing.new)))
+        m.cpu stack (map program_of programs.now)) }
     ensures len { IfOk result (λ m. length m.cpu.core ≡ length core) }
     ensures size { B.size backing.new ≡ B.size backing.old }
     ensures count { length sectors.new.links ≡ length sectors.old.links }

@@ -1,6 +1,5 @@
-use Rattle.std.proofs.Common.{◌≡◌, ◌≤◌, length, map, drop}
+use Rattle.std.proofs.Common.{◌≡◌, ◌≤◌, map, drop}
 use Rattle.b67_codefile.specs.Meaning.{program_of}
-use Rattle.b67_stack.specs.declared.Cpu.{Cpu}
 use Rattle.b67_initial.proofs.Heads.{Installing}
 use Rattle.b67_initial.proofs.dictionaries.install_all.Given as goal
 

@@ -1,6 +1,6 @@
-use Rattle.std.proofs.Common.{◌≡◌, ◌≢◌, ◌⊎◌, ℕ, ◌+◌, ◌-◌, ◌*◌, ◌^◌, ◌<◌, ◌≤◌, length, refl, ap, ◌∙◌, arith}
+use Rattle.std.proofs.Common.{◌+◌, ap, ◌∙◌, arith}
 use Rattle.b67_word.specs.Tagged.{word}
-use Rattle.b67_initial.proofs.Writes.{Puts, task_lies, task_outside}
+use Rattle.b67_initial.proofs.Writes.{task_lies, task_outside}
 use Rattle.b67_initial.proofs.laying.lay_first_task.Goals as goal
 
 pub returns-clause-task : goal.returns-clause-task

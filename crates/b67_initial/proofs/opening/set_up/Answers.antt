@@ -1,4 +1,4 @@
-use Rattle.std.proofs.Common.{◌≡◌, ℕ, ◌+◌, ◌*◌, ◌≤◌, ◌∙◌, length, map, refl, ap, arith}
+use Rattle.std.proofs.Common.{◌∙◌, map, ap, arith}
 use Rattle.b67_codefile.specs.Meaning.{program_of}
 use Rattle.std.specs.List.{slice_get}
 use Rattle.std.proofs.lemmas.List.{length-map}
@@ -15,8 +15,8 @@ returns-clause-opens g c =
     c.lay_core-areas.result c.args.stack (map program_of c.args.programs.now)
     c.requires.zeros (omega (arith, c.requires.inside)) c.in_ok-stacks.ensures.heads c.in_ok-stacks.ensures.writes c.install_all.ensures.spares
     (laid_out c.install_all.new.cpu.core _ c.lay_core-areas.result c.args.stack c.in_ok-stacks.stacks _ (map program_of c.args.programs.now)
-      c.in_ok-stacks.ensures.end (omega (arith, length-map c.args.programs.now program_of, c.requires.few))
-      c.lay_core-areas.ensures.mcp c.lay_core-areas.ensures.slots c.lay_core-areas.ensures.vector c.lay_core-areas.ensures.dictionaries
-      c.lay_core-areas.ensures.areas c.lay_core-areas.ensures.directory c.lay_core-areas.ensures.len (omega (arith, c.requires.inside, c.in_ok-stacks.ensures.end, c.install_all.ensures.spares.len))
-      (λ k h. ap (λ (z : Cpu). slice_get z.critical k) c.install_all.ensures.cpu ∙ each_is 0 120 k h)
-      c.idle_registers-cpu.ensures.slot c.idle_registers-cpu.ensures.stacks c.idle_registers-cpu.ensures.size c.idle_registers-cpu.ensures.peak)
+    c.in_ok-stacks.ensures.end (omega (arith, length-map c.args.programs.now program_of, c.requires.few))
+    c.lay_core-areas.ensures.mcp c.lay_core-areas.ensures.slots c.lay_core-areas.ensures.vector c.lay_core-areas.ensures.dictionaries
+    c.lay_core-areas.ensures.areas c.lay_core-areas.ensures.directory c.lay_core-areas.ensures.len (omega (arith, c.requires.inside, c.in_ok-stacks.ensures.end, c.install_all.ensures.spares.len))
+    (λ k h. ap (λ (z : Cpu). slice_get z.critical k) c.install_all.ensures.cpu ∙ each_is 0 120 k h)
+    c.idle_registers-cpu.ensures.slot c.idle_registers-cpu.ensures.stacks c.idle_registers-cpu.ensures.size c.idle_registers-cpu.ensures.peak)
