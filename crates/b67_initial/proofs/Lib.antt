@@ -10,3 +10,4 @@ pub mod Resting
 pub mod Rests
 pub mod Opens
 pub mod Sums
+pub mod Tables

@@ -2,3 +2,4 @@ pub mod Opened
 pub mod Words
 pub mod Stored
 pub mod Opens
+pub mod Tables
