@@ -1,23 +1,23 @@
 -- The next step of a session of one ready task.
-use Rattle.std.proofs.Common.{◌≡◌, ◌≢◌, ℕ, zero, suc, ◌+◌, ◌<◌, ◌≤◌, Bool, true, false, cond, List, [], ◌∷◌, ◌++◌, map, refl, sym, ap, ◌∙◌, subst, arith, None, Option, Some, Ok, Err, ⊎_elim, inl, inr, ◌⊎◌, append-nil}
+use Rattle.std.proofs.Common.{◌≡◌, ℕ, ◌+◌, Bool, true, false, List, [], ◌∷◌, ◌++◌, map, refl, sym, ap, ◌∙◌, subst, arith, None, Option, Some, Ok, Err, ⊎_elim, inl, inr, ◌⊎◌, append-nil}
 use Rattle.std.specs.Prelude.{◌==◌, ◌&&◌, ◌||◌, nat_lt, not, filter, find}
 use Rattle.std.specs.List.{list_any}
 use Rattle.std.proofs.lemmas.List.{map-append}
-use Rattle.std.proofs.lemmas.Bool.{cases_Bool, eqb-true, eq-eqb, ne_eqb}
+use Rattle.std.proofs.lemmas.Bool.{cases_Bool, eqb-true, eq-eqb}
 use Rattle.b67_word.specs.declared.faults.Ending.{Ending}
 use Rattle.b67_word.specs.declared.faults.Ending.TheVariants.{Ended, Limit, Faulted}
 use Rattle.b67_word.specs.declared.faults.Fault.{Fault}
 use Rattle.b67_model.specs.Answers.{Answer}
-use Rattle.b67_model.specs.State.{Condition, Ready, Task, Setting, Job, Course, Member}
+use Rattle.b67_model.specs.State.{Condition, Ready, Task, Job, Course, Member}
 use Rattle.b67_model.specs.Steps.{Line, Ends, Done, Goes, Leaves}
-use Rattle.b67_model.specs.Endings.{is_ready, stepped, settles, limited, ends_with, ends_each_if}
+use Rattle.b67_model.specs.Endings.{stepped, settles, limited, ends_with, ends_each_if}
 use Rattle.b67_model.specs.Alone.{JobMoment, by_task, step_of, moment_with}
 use Rattle.b67_model.specs.Rows.{step}
-use Rattle.b67_model.specs.Schedule.{Who, Switch, Session, Choice, ready, ready_of, first, switched, goes_on, next_after, is_same, is_before, afresh, choice, choice_by}
+use Rattle.b67_model.specs.Schedule.{Who, Switch, Session, Choice, ready, first, switched, goes_on, next_after, is_same, is_before, afresh, choice, choice_by}
 use Rattle.b67_model.specs.Keyed.{keyed, change_keyed}
-use Rattle.b67_model.specs.Run.{Moment, RunLine, next, with_moment, moment_by, moment_for, number_of, of_job, live_tasks}
+use Rattle.b67_model.specs.Run.{Moment, next, with_moment, moment_by, moment_for, number_of, of_job}
 use Rattle.b67_profiles.specs.Profiles.{Profile, profile, profiles}
-use Rattle.b67_single.specs.Single.{IsSingle, member_after, task_lines, GoesOn, IsOver}
+use Rattle.b67_single.specs.Single.{IsSingle, GoesOn, IsOver}
 
 abbrev pub who_of : Member → Task → Who
 who_of m t = record { job = m.setting.number; task = t.number }
