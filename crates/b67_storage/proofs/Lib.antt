@@ -1,0 +1,4 @@
+pub mod Helds
+pub mod Reheld
+pub mod Unchanged
+pub mod Renumbered
