@@ -2,3 +2,5 @@ pub mod Helds
 pub mod Reheld
 pub mod Unchanged
 pub mod Renumbered
+pub mod Words
+pub mod Holes

@@ -37,22 +37,22 @@ pub record ChainStays (x y : Storage) (f : ℕ) : Type 0 where
   pub told : (ns : List ℕ) → Told x.device (chain_of f x.shelf.chains) ns → Told y.device (chain_of f x.shelf.chains) ns
 
 module _ (x y : Storage) (t : Thing) (f : ℕ) (c : ChainStays x y f) where
-  HasChain-stays : HasChain x t f → HasChain y t f
+  pub HasChain-stays : HasChain x t f → HasChain y t f
   HasChain-stays h = record { some = h.some; small = h.small; sectors = ap length c.chain ∙ h.sectors }
 
-  HoldsIn-stays : HoldsIn x t f → HoldsIn y t f
+  pub HoldsIn-stays : HoldsIn x t f → HoldsIn y t f
   HoldsIn-stays h = record {
     chain = HasChain-stays h.chain;
     told = let P : List ℕ → Type 0 = λ k. Told y.device k (map number (words_of t)) in subst P (sym c.chain) (c.told (map number (words_of t)) h.told);
   }
 
-  Keeps-stays : (k : Kind) → Keeps x t k f → Keeps y t k f
+  pub Keeps-stays : (k : Kind) → Keeps x t k f → Keeps y t k f
   Keeps-stays Array (inl z) = inl z
   Keeps-stays Array (inr h) = inr (HasChain-stays h)
   Keeps-stays Row h = HoldsIn-stays h
   Keeps-stays Code h = HoldsIn-stays h
 
-  Rests-stays : Rests x t f → Rests y t f
+  pub Rests-stays : Rests x t f → Rests y t f
   Rests-stays (inl h) = inl (HoldsIn-stays h)
   Rests-stays (inr z) = inr z
 

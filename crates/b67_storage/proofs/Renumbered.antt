@@ -144,3 +144,16 @@ module _ (x : Storage) (core : List Tagged) (r : Regs) (p : Picture) (s : Stands
 
   pub there_renumbered : Has (renumbered p t.home ns).things (record t { numbers = ns })
   there_renumbered = let Q : Thing → Type 0 = λ v. Has (map f p.things) v in subst Q (renumber-there t.home ns t refl) (map-Has f p.things t int)
+
+map-id : {A : Type 0} (f : A → A) (xs : List A) → ((x : A) → Has xs x → f x ≡ x) → map f xs ≡ xs
+map-id {A} f [] h = refl
+map-id {A} f (x ∷ xs) h = ap (λ (y : A). y ∷ map f xs) (h x (inl refl)) ∙ ap (λ (ys : List A). x ∷ ys) (map-id f xs (λ y there. h y (inr there)))
+
+-- the numbers that it had
+pub renumbered-same : (x : Storage) (core : List Tagged) (r : Regs) (p : Picture) → Stands x core r p → (t : Thing) → Has p.things t → renumbered p t.home t.numbers ≡ p
+renumbered-same x core r p s t int =
+    ap (λ (things : List Thing). let q : Picture = record { stacks = p.stacks; size = p.size; peak = p.peak; slots = p.slots; things = things } in q)
+    (map-id (renumber t.home t.numbers) p.things (λ u inu. ⊎_elim
+    (λ (e : u.home ≡ t.home). let same = s.slots.laid.differ u t inu int e in ap (renumber t.home t.numbers) same ∙ renumber-there t.home t.numbers t refl ∙ sym same)
+    (λ (n : u.home ≡ t.home → ⊥). renumber-other t.home t.numbers u n)
+    (cases_eq u.home t.home)))
