@@ -11,13 +11,13 @@ use Rattle.b67_ctl.specs.declared.registers.Regs.{Regs}
 use Rattle.b67_model.specs.Lists.{Has}
 use Rattle.b67_stack.specs.Shapes.{Held, Map, Shape, Is, Original, Copy, IsOriginal, IsCopy, Fits, Lie}
 use Rattle.b67_stack.specs.Stacks.{words}
-use Rattle.b67_stack.specs.Picture.{Thing, Picture, stack_of, slot_base, home_desc, home_word_of}
+use Rattle.b67_stack.specs.Picture.{Thing, Picture, stack_of, slot_base, home_desc, home_word, home_word_of}
 use Rattle.b67_stack.specs.Stands.{Storage, StacksLie, Stands}
-use Rattle.b67_stack.proofs.Homes.{not_home}
+use Rattle.b67_stack.proofs.Homes.{not_home, chain_small}
 use Rattle.b67_stack.proofs.Lies.{Lie-each}
 use Rattle.b67_storage.specs.Machine.{with_held}
 use Rattle.b67_storage.proofs.Helds.{held-other}
-use Rattle.b67_storage.proofs.Unchanged.{slot_below}
+use Rattle.b67_storage.proofs.Unchanged.{slot_below, area_bounds}
 
 -- the word of an array's or data row's original
 pub original_word : (k : Kind) (n : ℕ) (h : Held) → k ≢ Code → n < 2 ^ 20 → h.chain < 2 ^ 20 → ((b : ℕ) → h.area ≡ Some b → b < 2 ^ 20) → IsOriginal (home_word_of k n h)
@@ -73,3 +73,8 @@ module _ (x : Storage) (core : List Tagged) (r : Regs) (p : Picture) (s : Stands
       (λ (n : i ≡ t.home → ⊥). (v, below i (omega (arith, (slot_below x core r p s k hk).0)) ((slot_below x core r p s k hk).1 i (omega arith) high) n ∙ get, copy_other x.held t.home h a i v (λ b e. none-some b (sym absent ∙ e)) f))
       (cases_eq i t.home))
       (s.stacks k hk)
+
+  -- the original of any array or data row
+  pub original_of_home : t.kind ≢ Code → IsOriginal (home_word t (x.held t.home))
+  original_of_home no_code = original_word t.kind (length t.numbers) (x.held t.home) no_code (omega (arith, (s.slots.laid.lengths t int).1)) (chain_small x core t (x.held t.home).area (x.held t.home).chain (s.things t int).content)
+      (λ b e. omega (arith, (area_bounds x core r p s t int b e).1, s.directory.small))

@@ -41,11 +41,10 @@ pub record IsAbsent (x : Storage) (p : Picture) (home : ℕ) (t : Thing) : Type 
   pub is : t.home ≡ home
   pub absent : (x.held home).area ≡ None
 
--- it is in the area at an address
-pub record IsPresent (x : Storage) (p : Picture) (home at : ℕ) (t : Thing) : Type 0 where
+-- an array, data row or segment is in the area at an address
+pub record IsPresent (x : Storage) (p : Picture) (at : ℕ) (t : Thing) : Type 0 where
   pub there : Has p.things t
-  pub is : t.home ≡ home
-  pub present : (x.held home).area ≡ Some at
+  pub present : (x.held t.home).area ≡ Some at
 
 -- each number has the 48 bits of a word
 abbrev pub AreBits : List ℕ → Type 0
