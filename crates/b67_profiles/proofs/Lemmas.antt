@@ -1,6 +1,6 @@
 -- Each way in which rows are made keeps the profiles.
-use Rattle.std.proofs.Common.{subst, ◌≡◌, ℕ, ◌+◌, Bool, true, false, cond, List, [], ◌∷◌, reverse, map, Option, Some, None, Ok, Err, refl, sym, ap, ◌∙◌, ⊎_elim}
-use Rattle.std.specs.Prelude.{◌==◌}
+use Rattle.std.proofs.Common.{subst, ◌≡◌, ℕ, ◌+◌, Bool, true, false, List, [], ◌∷◌, reverse, map, Option, Some, None, Ok, Err, refl, sym, ap, ◌∙◌, ⊎_elim}
+use Rattle.std.specs.Prelude.{◌==◌, not, filter}
 use Rattle.std.proofs.lemmas.Bool.{cases_Bool}
 use Rattle.std.proofs.lemmas.Option.{same_Some}
 use Rattle.b67_word.specs.declared.couples.Place.{Place}
@@ -11,15 +11,15 @@ use Rattle.b67_model.specs.declared.operators.Code.TheVariants.{Add, Subt, Mult,
 use Rattle.b67_model.specs.Answers.{Answer, ◌>>=◌}
 use Rattle.b67_model.specs.Arithmetic.{add, subt, mult, idiv, rdiv, less, greq, grtr, lseq, equl, neql, land, lor, leqv, same, chsn, lnot, bset, brst, isol, insr}
 use Rattle.b67_model.specs.Words.{Word, Operand, Name, operand, whole}
-use Rattle.b67_model.specs.State.{Frame, Standing, Marked, Entered, Return, Task, Job, Here, with_task, below_top, with_top_cells}
+use Rattle.b67_model.specs.State.{Array, Frame, Standing, Marked, Entered, Return, Task, Job, Here, with_task, below_top, with_top_cells}
 use Rattle.b67_model.specs.Keyed.{keyed, change_keyed}
-use Rattle.b67_model.specs.Cells.{with_cell, with_cell_of}
+use Rattle.b67_model.specs.Cells.{with_cell_of}
 use Rattle.b67_model.specs.Chase.{End, AtCell, AtElement, AtArray, AtProc, AtIntrinsic, chase, follow, follow_reference}
-use Rattle.b67_model.specs.Arrays.{array, element, with_element, indexed, in_order}
+use Rattle.b67_model.specs.Arrays.{with_number, with_element, indexed, in_order}
 use Rattle.b67_model.specs.Steps.{Line, Value, Done, Goes, Leaves, Waits, top_of, cells_of, result, with_cells, leaves_cells, pushes, without_arrays_of}
-use Rattle.b67_model.specs.Entry.{mkst, accident, needs_level, back_to, evaluates, enters, left, leaves, exit, returnable, returned, retn_word}
-use Rattle.b67_model.specs.Intrinsics.{answers, answered, print}
-use Rattle.b67_model.specs.Rows.{CellRow, on_one, on_two, dlet, exch, dupl, on_cells, branches, branch_if, valc, stff, load_at, load, indx, nxlv, store_at, store, entr_at, entr_with, entr, mpcw, plain, row}
+use Rattle.b67_model.specs.Entry.{accident, needs_level, back_to, evaluates, enters, left, leaves, returnable, returned, retn_word}
+use Rattle.b67_model.specs.Intrinsics.{answered, print}
+use Rattle.b67_model.specs.Rows.{CellRow, on_one, on_two, dlet, exch, dupl, on_cells, branches, branch_if, stff, load_at, load, indx, nxlv, store_at, store, entr_at, entr_with, entr, plain, row}
 use Rattle.b67_order.proofs.Posts.{Post, post_ok, post_err, post_any, post_then, post_at}
 use Rattle.b67_profiles.specs.Profiles.{Profile, profile, profiles, called_at, called_by, called_on, called, RowsKeepProfiles, PrintKeepsProfiles}
 
@@ -39,9 +39,9 @@ stored identity offset w [] = refl
 stored identity offset w (t ∷ ts) = ap (λ (ps : List Profile). profile t ∷ ps) (stored identity offset w ts)
 
 -- a job and its task on the way, from the first ones
-module _ (first : List Profile) (own : Profile) (known : keyed (λ (p : Profile). p.number) own.number first ≡ Some own) where
+module _ (none : Type 0) (first : List Profile) (own : Profile) (known : keyed (λ (p : Profile). p.number) own.number first ≡ Some own) where
   abbrev Keeps : Done → Type 0
-  Keeps (Goes after printed touched) = profiles after.tasks ≡ first
+  Keeps (Goes after printed touched) = (profiles after.tasks ≡ first) × (none → after.arrays ≡ [])
   Keeps Leaves = Unit {0}
   Keeps (Waits condition) = Unit {0}
 
@@ -51,6 +51,7 @@ module _ (first : List Profile) (own : Profile) (known : keyed (λ (p : Profile)
   record Source (h : Here) : Type 0 where
     pub tasks : profiles h.job.tasks ≡ first
     pub task : profile h.task ≡ own
+    pub arrays : none → h.job.arrays ≡ []
 
   with_good : (job : Job) (task : Task) → profiles job.tasks ≡ first → profile task ≡ own → profiles (with_task job task).tasks ≡ first
   with_good job task tasks same =
@@ -58,11 +59,11 @@ module _ (first : List Profile) (own : Profile) (known : keyed (λ (p : Profile)
       let there : K (profiles job.tasks) (profile task) = subst (λ (p : Profile). K (profiles job.tasks) p) (sym same) (subst (λ (ps : List Profile). K ps own) (sym tasks) known) in
       put task.number task job.tasks there ∙ tasks
 
-  result_good : (h : Here) (job : Job) (task : Task) (printed : List Line) (touched : Option ℕ) → profiles job.tasks ≡ first → profile task ≡ own → Good (result h job task printed touched)
-  result_good h job task printed touched tasks same = post_then Keeps _ _ (post_ok Keeps _ (with_good job task tasks same))
+  result_good : (h : Here) (job : Job) (task : Task) (printed : List Line) (touched : Option ℕ) → profiles job.tasks ≡ first → profile task ≡ own → (none → job.arrays ≡ []) → Good (result h job task printed touched)
+  result_good h job task printed touched tasks same arrays = post_then Keeps _ _ (post_ok Keeps _ (with_good job task tasks same, arrays))
 
   cells_good : (h : Here) (cells : List Word) (touched : Option ℕ) → Source h → Good (leaves_cells h cells touched)
-  cells_good h cells touched s = result_good h h.job (with_cells h cells) [] touched s.tasks s.task
+  cells_good h cells touched s = result_good h h.job (with_cells h cells) [] touched s.tasks s.task s.arrays
 
   on_cells_good : (f : CellRow) (h : Here) → Source h → Good (on_cells f h)
   on_cells_good f h s = post_any Keeps (f (cells_of h)) _ (λ cells. cells_good h cells None s)
@@ -74,7 +75,7 @@ module _ (first : List Profile) (own : Profile) (known : keyed (λ (p : Profile)
   accident_good h cells back (AtProc f segment level place) s =
       let entered : Frame = record { identity = h.job.next_frame; standing = Entered level f (Some back); cells = [] } in
       post_then Keeps (needs_level h f level) _
-      (result_good h (record h.job { next_frame = h.job.next_frame + 1 }) (record h.task { frames = entered ∷ with_top_cells h.task.frames cells; segment = segment; place = place }) [] None s.tasks s.task)
+      (result_good h (record h.job { next_frame = h.job.next_frame + 1 }) (record h.task { frames = entered ∷ with_top_cells h.task.frames cells; segment = segment; place = place }) [] None s.tasks s.task s.arrays)
   accident_good h cells back (AtCell f offset bits) s = post_err Keeps _
   accident_good h cells back (AtElement a index) s = post_err Keeps _
   accident_good h cells back (AtArray a) s = post_err Keeps _
@@ -90,7 +91,7 @@ module _ (first : List Profile) (own : Profile) (known : keyed (λ (p : Profile)
   enters_good : (h : Here) (arguments : List Word) (end : End) → Source h → Good (enters h arguments end)
   enters_good h arguments (AtProc f segment level place) s =
       let entered : Frame = record (top_of h) { standing = Entered level f (Some (back_to h false h.task.place)); cells = reverse arguments } in
-      post_then Keeps (needs_level h f level) _ (result_good h h.job (record h.task { frames = entered ∷ below_top h.task.frames; segment = segment; place = place }) [] None s.tasks s.task)
+      post_then Keeps (needs_level h f level) _ (result_good h h.job (record h.task { frames = entered ∷ below_top h.task.frames; segment = segment; place = place }) [] None s.tasks s.task s.arrays)
   enters_good h arguments (AtCell f offset bits) s = post_err Keeps _
   enters_good h arguments (AtElement a index) s = post_err Keeps _
   enters_good h arguments (AtArray a) s = post_err Keeps _
@@ -101,7 +102,7 @@ module _ (first : List Profile) (own : Profile) (known : keyed (λ (p : Profile)
   leaves_good h (Entered level environment None) go s each = post_then Keeps _ _ (post_ok Keeps _ tt)
   leaves_good h (Entered level environment (Some back)) go s each =
       post_then Keeps _ _ (each (left h back) back.value
-      (record { tasks = with_good (without_arrays_of (top_of h).identity h.job) (record h.task { frames = below_top h.task.frames; segment = back.segment; place = back.place }) s.tasks s.task; task = s.task }))
+      (record { tasks = with_good (without_arrays_of (top_of h).identity h.job) (record h.task { frames = below_top h.task.frames; segment = back.segment; place = back.place }) s.tasks s.task; task = s.task; arrays = λ n. ap (filter (λ (a : Array). not (a.owner == (top_of h).identity))) (s.arrays n) }))
 
   returned_good : (h : Here) (w : Word) (value : Bool) → Source h → Good (returned h w value)
   returned_good h w false s = cells_good h _ None s
@@ -117,7 +118,7 @@ module _ (first : List Profile) (own : Profile) (known : keyed (λ (p : Profile)
 
   branch_good : (wanted : Bool) (h : Here) (cells : List Word) (target : Place) → Source h → Good (branch_if wanted h cells target)
   branch_good wanted h [] target s = post_err Keeps _
-  branch_good wanted h (a ∷ rest) target s = post_any Keeps (operand a) _ (λ x. cells_good (branches h _) rest None (record { tasks = s.tasks; task = s.task }))
+  branch_good wanted h (a ∷ rest) target s = post_any Keeps (operand a) _ (λ x. cells_good (branches h _) rest None (record { tasks = s.tasks; task = s.task; arrays = s.arrays }))
 
   load_at_good : (h : Here) (rest : List Word) (end : End) → Source h → Good (load_at h rest end)
   load_at_good h rest (AtCell f offset bits) s = cells_good h _ None s
@@ -142,8 +143,8 @@ module _ (first : List Profile) (own : Profile) (known : keyed (λ (p : Profile)
 
   store_at_good : (h : Here) (rest kept : List Word) (bits : ℕ) (end : End) → Source h → Good (store_at h rest kept bits end)
   store_at_good h rest kept bits (AtCell f offset old) s =
-      post_ok Keeps _ (stored f offset (Operand bits) (with_task h.job (with_cells h kept)).tasks ∙ with_good h.job (with_cells h kept) s.tasks s.task)
-  store_at_good h rest kept bits (AtElement a index) s = post_then Keeps _ _ (result_good h (with_element h.job a index bits) (with_cells h kept) [] (Some a) s.tasks s.task)
+      post_ok Keeps _ (stored f offset (Operand bits) (with_task h.job (with_cells h kept)).tasks ∙ with_good h.job (with_cells h kept) s.tasks s.task, s.arrays)
+  store_at_good h rest kept bits (AtElement a index) s = post_then Keeps _ _ (result_good h (with_element h.job a index bits) (with_cells h kept) [] (Some a) s.tasks s.task (λ n. ap (change_keyed (λ (b : Array). b.identity) a (with_number index bits)) (s.arrays n)))
   store_at_good h rest kept bits (AtProc f segment level place) s = accident_good h (Operand bits ∷ rest) _ (AtProc f segment level place) s
   store_at_good h rest kept bits (AtArray a) s = post_err Keeps _
   store_at_good h rest kept bits (AtIntrinsic n) s = post_err Keeps _
@@ -173,14 +174,14 @@ module _ (first : List Profile) (own : Profile) (known : keyed (λ (p : Profile)
   entr_good h (Entered level environment back) s e = post_err Keeps _
 
   plain_good : (code : Code) (h : Here) → Source h → called (Plain code) h ≡ None → Good (plain code h)
-  plain_good Exit h s e = leaves_good h (top_of h).standing _ s (λ k value from. result_good k k.job k.task [] None from.tasks from.task)
+  plain_good Exit h s e = leaves_good h (top_of h).standing _ s (λ k value from. result_good k k.job k.task [] None from.tasks from.task from.arrays)
   plain_good Retn h s e = retn_good h (top_of h).standing (cells_of h) s
   plain_good Entr h s e = entr_good h (top_of h).standing s e
   plain_good Indx h s e = indx_good h (cells_of h) s
   plain_good Nxlv h s e = nxlv_good h (cells_of h) s
   plain_good Mkst h s e =
       let marked : Frame = record { identity = h.job.next_frame; standing = Marked; cells = [] } in
-      result_good h (record h.job { next_frame = h.job.next_frame + 1 }) (record h.task { frames = marked ∷ h.task.frames }) [] None s.tasks s.task
+      result_good h (record h.job { next_frame = h.job.next_frame + 1 }) (record h.task { frames = marked ∷ h.task.frames }) [] None s.tasks s.task s.arrays
   plain_good Zero h s e = push_good h _ None s
   plain_good One h s e = push_good h _ None s
   plain_good Push h s e = cells_good h _ None s
@@ -218,7 +219,7 @@ module _ (first : List Profile) (own : Profile) (known : keyed (λ (p : Profile)
   row_good (Lt16 n) h s e = push_good h _ None s
   row_good (Lt48 bits) h s e = push_good h _ None s
   row_good (Mpcw bits) h s e = post_then Keeps _ _ (push_good h _ None s)
-  row_good (Brun target) h s e = cells_good (branches h target) _ None (record { tasks = s.tasks; task = s.task })
+  row_good (Brun target) h s e = cells_good (branches h target) _ None (record { tasks = s.tasks; task = s.task; arrays = s.arrays })
   row_good (Brtr target) h s e = branch_good true h (cells_of h) target s
   row_good (Brfl target) h s e = branch_good false h (cells_of h) target s
   row_good (Bset n) h s e = on_cells_good (on_one (bset n)) h s
@@ -229,15 +230,18 @@ module _ (first : List Profile) (own : Profile) (known : keyed (λ (p : Profile)
 
   print_good : (h : Here) (arguments : List Word) → Source h → Good (print h arguments)
   print_good h [] s = post_err Keeps _
-  print_good h (w ∷ []) s = post_any Keeps (whole w) _ (λ n. post_then Keeps _ _ (result_good h h.job (answered h []) (Value n ∷ []) None s.tasks s.task))
+  print_good h (w ∷ []) s = post_any Keeps (whole w) _ (λ n. post_then Keeps _ _ (result_good h h.job (answered h []) (Value n ∷ []) None s.tasks s.task s.arrays))
   print_good h (w ∷ v ∷ more) s = post_err Keeps _
+
+abbrev NoArrays : Here → Type 0
+NoArrays h = h.job.arrays ≡ []
 
 pub rows_keep : RowsKeepProfiles
 rows_keep op h known e after printed touched is =
-    post_at (Keeps (profiles h.job.tasks) (profile h.task) known) (row op h) (Goes after printed touched) is
-    (row_good (profiles h.job.tasks) (profile h.task) known op h (record { tasks = refl; task = refl }) e)
+    post_at (Keeps (NoArrays h) (profiles h.job.tasks) (profile h.task) known) (row op h) (Goes after printed touched) is
+    (row_good (NoArrays h) (profiles h.job.tasks) (profile h.task) known op h (record { tasks = refl; task = refl; arrays = λ n. n }) e)
 
 pub print_keeps : PrintKeepsProfiles
 print_keeps h arguments known after printed touched is =
-    post_at (Keeps (profiles h.job.tasks) (profile h.task) known) (print h arguments) (Goes after printed touched) is
-    (print_good (profiles h.job.tasks) (profile h.task) known h arguments (record { tasks = refl; task = refl }))
+    post_at (Keeps (NoArrays h) (profiles h.job.tasks) (profile h.task) known) (print h arguments) (Goes after printed touched) is
+    (print_good (NoArrays h) (profiles h.job.tasks) (profile h.task) known h arguments (record { tasks = refl; task = refl; arrays = λ n. n }))

@@ -1,5 +1,5 @@
--- What a step leaves of all tasks: their numbers, parents, critical frames and conditions.
-use Rattle.std.specs.Prelude.{◌≡◌, ℕ, List, [], ◌∷◌, map, reverse, Option, Some, None, Ok, Err}
+-- What a step leaves of all tasks: their numbers, parents, critical frames and conditions; and that it makes no array.
+use Rattle.std.specs.Prelude.{◌≡◌, ℕ, List, [], ◌∷◌, map, reverse, Option, Some, None, Ok}
 use Rattle.b67_model.specs.declared.operators.Op.{Op}
 use Rattle.b67_model.specs.declared.operators.Op.TheVariants.{Plain}
 use Rattle.b67_model.specs.declared.operators.Code.TheVariants.{Entr}
@@ -45,16 +45,16 @@ called _ h = None
 abbrev pub IsKnown : Here → Type 0
 IsKnown h = keyed (λ (p : Profile). p.number) h.task.number (profiles h.job.tasks) ≡ Some (profile h.task)
 
--- an operator that calls no intrinsic starts and ends no task, and each goes on as ready as it was
+-- an operator that calls no intrinsic starts and ends no task, each goes on as ready as it was, and no array comes to be
 abbrev pub RowsKeepProfiles : Type 0
 RowsKeepProfiles =
     (op : Op) (h : Here) → IsKnown h → called op h ≡ None →
     (after : Job) (printed : List Line) (touched : Option ℕ) → row op h ≡ Ok (Goes after printed touched) →
-    profiles after.tasks ≡ profiles h.job.tasks
+    (profiles after.tasks ≡ profiles h.job.tasks) × (h.job.arrays ≡ [] → after.arrays ≡ [])
 
 -- nor does PRINT
 abbrev pub PrintKeepsProfiles : Type 0
 PrintKeepsProfiles =
     (h : Here) (arguments : List Word) → IsKnown h →
     (after : Job) (printed : List Line) (touched : Option ℕ) → print h arguments ≡ Ok (Goes after printed touched) →
-    profiles after.tasks ≡ profiles h.job.tasks
+    (profiles after.tasks ≡ profiles h.job.tasks) × (h.job.arrays ≡ [] → after.arrays ≡ [])

@@ -4,7 +4,7 @@
 ghost use Rattle.b67_profiles.specs.Profiles.{RowsKeepProfiles, PrintKeepsProfiles};
 
 /// An operator that calls no intrinsic leaves each task its number, its parents, its critical activation record and its
-/// condition, and starts and ends none.
+/// condition, starts and ends none, and makes no array.
 pub fn rows_keep_profiles()
     ensures { RowsKeepProfiles }
 {}
