@@ -1,3 +1,3 @@
-pub mod Counted
+pub mod Alike
 pub mod Paged
 pub mod Renumbered

@@ -1,4 +1,4 @@
--- A machine stands for the same session where areas came or went.
+-- A machine stands for a session that is alike, where areas came or went or operators were counted.
 use Rattle.std.proofs.Common.{◌≡◌, ◌≢◌, ℕ, ◌+◌, ◌*◌, ◌<◌, ◌≤◌, ◌^◌, ◌++◌, List, [], ◌∷◌, length, Option, Some, None, refl, sym, ◌∙◌, ap, arith, Bool, true, false, subst, inl, inr, ◌⊎◌}
 use Rattle.std.specs.List.{slice_get}
 use Rattle.std.proofs.lemmas.Option.{same_Some}
@@ -20,7 +20,8 @@ use Rattle.b67_layout.specs.Plan.{Plan, slot_of}
 use Rattle.b67_layout.specs.Layout.{picture}
 use Rattle.b67_layout.proofs.Rows.{slot_below}
 use Rattle.b67_layout.proofs.Sessions.{dictionary_below}
-use Rattle.b67_layout.specs.Session.{DictionariesFollow, DictionaryStands, vector_word, with_things, SessionHoldsBut, SessionStandsBut}
+use Rattle.b67_layout.specs.Session.{DictionariesFollow, DictionaryStands, vector_word, with_things, Shows, SessionHoldsBut, SessionStandsBut}
+use Rattle.b67_step.proofs.Alike.{AllAlike, backs, twin, has_task, dictionary_alike, row_homes_alike, task_stands_alike, shows_alike, critical_same, rows_alike, dictionaries_alike, running_twin}
 
 -- the mark of a dictionary, and its number of entries, are no originals and no segment descriptors
 abbrev mark_bits : ℕ
@@ -69,39 +70,76 @@ dictionary_above plan at (m ∷ ms) y d (inr k) = omega (arith, dictionary_above
 abbrev pub Stayed : Picture → List Tagged → List Tagged → Type 0
 Stayed p core new = (i : ℕ) → i < p.stacks → (i < 152) ⊎ (160 ≤ i) → ((t : Thing) → Has p.things t → t.home ≢ i) → slice_get new i ≡ slice_get core i
 
-module _ (left : List Thing) (x x' : Storage) (core new : List Tagged) (r : Regs) (marks : List ℕ) (plan : Plan) (s : Session)
-    (h : SessionHoldsBut left x core r marks plan s) (memory : Stands x' new r (with_things left (picture plan s.jobs))) (stayed : Stayed (with_things left (picture plan s.jobs)) core new) where
+
+module _ (left left' : List Thing) (x x' : Storage) (cpu cpu' : Cpu) (plan : Plan) (s s' : Session)
+    (h : SessionStandsBut left x cpu plan s) (alike : AllAlike s.jobs s'.jobs) (peak : s'.peak ≡ s.peak)
+    (regs : cpu'.regs ≡ cpu.regs) (display : cpu'.display ≡ cpu.display) (critical : cpu'.critical ≡ cpu.critical)
+    (memory : Stands x' cpu'.core cpu.regs (with_things left' (picture plan s'.jobs))) (settled : Settled (picture plan s'.jobs))
+    (stayed : Stayed (with_things left (picture plan s.jobs)) cpu.core cpu'.core) where
+  abbrev o : SessionHoldsBut left x cpu.core cpu.regs cpu.critical plan s
+  o = h.holds
+
   low : 160 ≤ plan.stacks
-  low = h.memory.slots.laid.first
+  low = h.holds.memory.slots.laid.first
 
   -- words of the MCP
-  mcp_word : (i : ℕ) → i < 152 → slice_get new i ≡ slice_get core i
-  mcp_word i small = stayed i (omega (arith, small, low)) (inl small) (λ t int e. absurd (let home = (h.memory.slots.laid.homes t int).0 in let z : ⊥ = omega (arith, home, e, small) in z))
+  mcp_word : (i : ℕ) → i < 152 → slice_get cpu'.core i ≡ slice_get cpu.core i
+  mcp_word i small = stayed i (omega (arith, small, low)) (inl small) (λ t int e. absurd (let home = (h.holds.memory.slots.laid.homes t int).0 in let z : ⊥ = omega (arith, home, e, small) in z))
 
-  dictionary : (y : Member) → Has s.jobs y → DictionaryStands new plan y
-  dictionary y in_y =
-      let d = dictionary_below plan 160 s.jobs y h.fits.dictionaries in_y in
-      let o = h.dictionaries y in_y in
-      let up = dictionary_above plan 160 s.jobs y h.fits.dictionaries in_y in
+  dictionary_same : (y : Member) → Has s.jobs y → DictionaryStands cpu'.core plan y
+  dictionary_same y in_y =
+      let d = dictionary_below plan 160 s.jobs y h.holds.fits.dictionaries in_y in
+      let up = dictionary_above plan 160 s.jobs y h.holds.fits.dictionaries in_y in
+      let o = h.holds.dictionaries y in_y in
       let at = plan.dictionary y.setting.number in
       record {
-        mark = stayed at (omega (arith, d)) (inr (omega (arith, up))) (λ t int. no_mark x core r (with_things left (picture plan s.jobs)) h.memory t int at o.mark) ∙ o.mark;
-        entries = stayed (at + 1) (omega (arith, d)) (inr (omega (arith, up))) (λ t int. no_operand x core r (with_things left (picture plan s.jobs)) h.memory t int (at + 1) (length y.setting.dictionary.cells) o.entries) ∙ o.entries;
+        mark = stayed at (omega (arith, d)) (inr (omega (arith, up))) (λ t int. no_mark x cpu.core cpu.regs (with_things left (picture plan s.jobs)) h.holds.memory t int at o.mark) ∙ o.mark;
+        entries = stayed (at + 1) (omega (arith, d)) (inr (omega (arith, up))) (λ t int. no_operand x cpu.core cpu.regs (with_things left (picture plan s.jobs)) h.holds.memory t int (at + 1) (length y.setting.dictionary.cells) o.entries) ∙ o.entries;
       }
 
-  pub SessionHolds-paged : SessionHoldsBut left x' new r marks plan s
-  SessionHolds-paged = record {
-    fits = h.fits;
-    memory = memory;
-    settled = h.settled;
-    dictionaries = dictionary;
-    mcp = record { mark = mcp_word 0 (omega arith) ∙ h.mcp.mark; intrinsics = λ n a b. mcp_word n (omega (arith, b)) ∙ h.mcp.intrinsics n a b };
-    vector = record {
-      live = λ y u in_y in_u. mcp_word (32 + slot_of plan y.setting.number u.number) (omega (arith, slot_below plan s.jobs y u h.fits.rows in_y in_u, h.fits.few)) ∙ h.vector.live y u in_y in_u;
-      free = λ k small others. mcp_word (32 + k) (omega (arith, small)) ∙ h.vector.free k small others;
+  pub SessionHolds-over : SessionHoldsBut left' x' cpu'.core cpu.regs cpu.critical plan s'
+  SessionHolds-over = record {
+    fits = record {
+      rows = rows_alike plan s.jobs s'.jobs alike h.holds.fits.rows;
+      peak = h.holds.fits.peak ∙ sym peak;
+      few = h.holds.fits.few;
+      sizes = λ n in_n. let t = twin s.jobs s'.jobs alike n in_n in t.alike.stack_size ∙ h.holds.fits.sizes t.member t.among;
+      dictionaries = dictionaries_alike plan 160 s.jobs s'.jobs alike h.holds.fits.dictionaries;
+      row_homes = λ n in_n. let t = twin s.jobs s'.jobs alike n in_n in row_homes_alike t.member n t.alike plan (h.holds.fits.row_homes t.member t.among);
     };
-    critical = h.critical;
-    live = h.live;
-    running = h.running;
-    none = h.none;
+    memory = memory;
+    settled = settled;
+    dictionaries = λ n in_n. let t = twin s.jobs s'.jobs alike n in_n in dictionary_alike t.member n t.alike cpu'.core plan (dictionary_same t.member t.among);
+    mcp = record { mark = mcp_word 0 (omega arith) ∙ h.holds.mcp.mark; intrinsics = λ n a b. mcp_word n (omega (arith, b)) ∙ h.holds.mcp.intrinsics n a b };
+    vector = record {
+      live = λ n u in_n in_u.
+          let t = twin s.jobs s'.jobs alike n in_n in
+          let in_m = has_task t.member n t.alike u in_u in
+          ap (λ (i : ℕ). slice_get cpu'.core (32 + slot_of plan i u.number)) t.alike.number
+          ∙ mcp_word (32 + slot_of plan t.member.setting.number u.number) (omega (arith, slot_below plan s.jobs t.member u h.holds.fits.rows t.among in_m, h.holds.fits.few))
+          ∙ h.holds.vector.live t.member u t.among in_m
+          ∙ ap (λ (i : ℕ). Some (vector_word plan i u.parents)) (sym t.alike.number);
+      free = λ k small others. mcp_word (32 + k) (omega (arith, small)) ∙ h.holds.vector.free k small others;
+    };
+    critical = record {
+      live = λ n u in_n in_u.
+          let t = twin s.jobs s'.jobs alike n in_n in
+          ap (λ (i : ℕ). slice_get cpu.critical (slot_of plan i u.number)) t.alike.number
+          ∙ h.holds.critical.live t.member u t.among (has_task t.member n t.alike u in_u)
+          ∙ ap Some (sym (critical_same t.member.course.job n.course.job t.alike.tasks u.frames));
+      free = h.holds.critical.free;
+    };
+    live = λ z. let (y, t, r) = h.holds.live z in let k = running_twin plan s'.jobs s.jobs (backs s.jobs s'.jobs alike) y t r in (k.member, t, k.runs);
+    running = λ n t r. let k = running_twin plan s.jobs s'.jobs alike n t r in task_stands_alike k.member n k.alike cpu.regs plan t (h.holds.running k.member t k.runs);
+    none = h.holds.none;
   }
+
+  pub SessionStands-over : SessionStandsBut left' x' cpu' plan s'
+  SessionStands-over =
+      let P : Regs → List ℕ → Type 0 = λ r marks. SessionHoldsBut left' x' cpu'.core r marks plan s' in
+      record {
+        holds = subst (λ (r : Regs). P r cpu'.critical) (sym regs) (subst (P cpu.regs) (sym critical) SessionHolds-over);
+        shows = λ n t r.
+            let k = running_twin plan s.jobs s'.jobs alike n t r in
+            subst (λ (d : List ℕ). Shows d plan n t) (sym display) (shows_alike k.member n k.alike cpu.display plan t (h.shows k.member t k.runs));
+      }
