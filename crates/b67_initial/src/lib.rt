@@ -8,5 +8,6 @@ mod opening;
 #[cfg(test)]
 mod tests;
 
+pub use dictionaries::dictionary_words;
 pub use needs::{opening_need, opening_sectors};
 pub use opening::{Initial, set_up};
