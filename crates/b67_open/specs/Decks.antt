@@ -4,10 +4,15 @@ use Rattle.std.specs.List.{AllByRecursion, list_all}
 use Rattle.std.specs.Char.{is_ascii}
 use Rattle.b67_text.specs.declared.deck.Deck.{Deck}
 use Rattle.b67_text.specs.declared.deck.Job.{Job}
+use Rattle.b67_codefile.specs.declared.file.Codefile.{Codefile}
+use Rattle.b67_codefile.specs.Spelling.{IsWithin}
+use Rattle.b67_codefile.specs.Meaning.{program_of}
+use Rattle.b67_model.specs.Loader.{IsAdmitted}
 use Rattle.b67_model.specs.Program.{Program}
 use Rattle.b67_model.specs.Schedule.{Session}
 use Rattle.b67_model.specs.InOrder.{SwitchesRise}
 use Rattle.b67_opening.specs.Opening.{Opening, opening}
+use Rattle.b67_task.specs.declared.tables.JobRow.{JobRow}
 use Rattle.b67_task.specs.Tables.{switch_of}
 
 -- a job with its program
@@ -37,3 +42,15 @@ pub record DeckInRange (d : Deck) : Type 0 where
   pub rise : SwitchesRise (map switch_of d.switches)
   pub few : length d.jobs ≤ 8
   pub each : AllByRecursion JobInRange d.jobs
+
+-- the names of jobs
+abbrev pub job_names : List Job → List (List ℕ)
+job_names jobs = map (λ (j : Job). j.name) jobs
+
+abbrev pub row_names : List JobRow → List (List ℕ)
+row_names rows = map (λ (r : JobRow). r.name) rows
+
+-- a file as the loader admits it
+pub record IsLoaded (f : Codefile) : Type 0 where
+  pub within : IsWithin f
+  pub admitted : IsAdmitted (program_of f)

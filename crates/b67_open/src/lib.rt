@@ -2,3 +2,9 @@
 #![tactic(auto)]
 
 mod copies;
+mod fault;
+mod opening;
+mod tables;
+
+pub use fault::OpenFault;
+pub use opening::open;
