@@ -5,6 +5,8 @@ mod copies;
 mod fault;
 mod opening;
 mod tables;
+#[cfg(test)]
+mod tests;
 
 pub use fault::OpenFault;
 pub use opening::open;
