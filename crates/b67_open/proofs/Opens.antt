@@ -1,12 +1,11 @@
 -- The machine that was set up, with its tables, stands for the opening state of a deck's session.
-use Rattle.std.proofs.Common.{◌≡◌, ℕ, zero, suc, ◌+◌, ◌≤◌, List, length, map, Option, refl, sym, ◌∙◌, ap, arith}
+use Rattle.std.proofs.Common.{◌≡◌, ℕ, zero, suc, ◌+◌, List, length, map, Option, refl, ◌∙◌, ap}
 use Rattle.std.specs.List.{AllByRecursion}
 use Rattle.std.proofs.lemmas.List.{length-map}
 use Rattle.b67_backing.specs.Shelf.{Table, IsShelf, row, all_free}
 use Rattle.b67_text.specs.declared.deck.Deck.{Deck}
 use Rattle.b67_codefile.specs.declared.file.Codefile.{Codefile}
 use Rattle.b67_codefile.specs.Meaning.{program_of}
-use Rattle.b67_model.specs.Program.{Program}
 use Rattle.b67_stack.specs.Stands.{Storage}
 use Rattle.b67_initial.specs.Opened.{opening_plan, programs_of}
 use Rattle.b67_initial.specs.Opens.{Opens}

@@ -45,11 +45,7 @@ fn opening_row(
 }
 
 /// The rows of jobs that haven't begun, each with its program.
-fn opening_rows(
-    alloc: Global,
-    jobs: &[Job],
-    programs: &[Admitted],
-) -> Result<JobRows, AllocError>
+fn opening_rows(alloc: Global, jobs: &[Job], programs: &[Admitted]) -> Result<JobRows, AllocError>
     requires range { AllByRecursion JobInRange jobs.now }
     requires few { length jobs.now ≤ 8 }
     requires each { length programs.now ≡ length jobs.now }
@@ -100,11 +96,7 @@ fn first_rows(programs: &[Admitted]) -> ArrayVec<TaskRow, 120>
 }
 
 /// The tables of a deck's session that opens, with a program for each job: no operator is made and no task runs.
-pub fn opening_tasks(
-    alloc: Global,
-    deck: &Deck,
-    programs: &[Admitted],
-) -> Result<Tasks, AllocError>
+pub fn opening_tasks(alloc: Global, deck: &Deck, programs: &[Admitted]) -> Result<Tasks, AllocError>
     requires range { DeckInRange deck.now }
     requires each { length programs.now ≡ length deck.now.jobs }
     ensures shows { IfOk result (λ t. TasksShow (opening_plan deck.now.stack (map program_of programs.now)) (session_of deck.now (map program_of programs.now)) t) }

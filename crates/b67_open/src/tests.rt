@@ -50,12 +50,7 @@ fn deck(alloc: Global, stack: u16) -> Result<Deck, Fail>
 }
 
 /// Opens it in 256 words of core, over so many sectors, where the write of that number fails. The refusal.
-fn refusal(
-    alloc: Global,
-    stack: u16,
-    sectors: u32,
-    failing: i64,
-) -> Result<Option<OpenFault>, Fail>
+fn refusal(alloc: Global, stack: u16, sectors: u32, failing: i64) -> Result<Option<OpenFault>, Fail>
     requires low { 64 ≤ stack }
     requires high { stack < 2 ^ 14 }
     requires some { 1 ≤ sectors }
@@ -70,10 +65,7 @@ fn refusal(
 
 #[test]
 fn each_refusal_is_told(rt: HostRuntime) -> Result<(), Fail> {
-    let full = OpenFault::BackingFull {
-        sum: 3,
-        sectors: 2,
-    };
+    let full = OpenFault::BackingFull { sum: 3, sectors: 2 };
     let none = OpenFault::NoCore {
         need: 257,
         core: 256,

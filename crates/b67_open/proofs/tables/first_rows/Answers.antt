@@ -1,4 +1,4 @@
-use Rattle.std.proofs.Common.{◌≡◌, ◌+◌, length, arith}
+use Rattle.std.proofs.Common.{arith}
 use Rattle.b67_open.proofs.Decks.{rows_step}
 use Rattle.b67_open.proofs.tables.first_rows.Goals as goal
 

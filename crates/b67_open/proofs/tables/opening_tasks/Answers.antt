@@ -1,4 +1,4 @@
-use Rattle.std.proofs.Common.{◌≡◌, length, map, ◌∙◌, arith, ap}
+use Rattle.std.proofs.Common.{map, ◌∙◌, ap}
 use Rattle.std.proofs.lemmas.List.{length-map}
 use Rattle.b67_codefile.specs.Meaning.{program_of}
 use Rattle.b67_initial.specs.Tables.{opening_rows}
