@@ -1,5 +1,5 @@
 -- What a card says is in range.
-use Rattle.std.proofs.Common.{◌≡◌, ℕ, zero, suc, ◌+◌, ◌<◌, ◌≤◌, ◌^◌, Bool, true, false, List, [], ◌∷◌, length, Option, Some, None, Ok, Err, Result, refl, sym, ◌∙◌, ap, subst, arith, inl, inr, ⊎_elim, cond}
+use Rattle.std.proofs.Common.{◌≡◌, ℕ, ◌≤◌, Bool, true, false, List, [], ◌∷◌, length, Option, Some, None, Ok, Err, Result, refl, ap, subst, arith, ⊎_elim, cond}
 use Rattle.std.specs.Prelude.{nat_le, nat_lt, ◌&&◌, ◌||◌, IsTrue, ⊤}
 use Rattle.std.specs.List.{list_all}
 use Rattle.std.specs.Char.{is_ascii, is_ascii_uppercase, is_ascii_digit}
@@ -75,6 +75,7 @@ name_within name word e = by_test (is_name word) refl e
           short = omega (arith, ltb-true (length more) 16 outer.1);
           ascii = and_from (is_ascii b) (list_all is_ascii more) (upper_ascii b inner.0) (letters_ascii more inner.1);
         }
+
     by_test : (t : Bool) → is_name word ≡ t → cond t (Some word) None ≡ Some name → NameWithin name
     by_test true t e = subst NameWithin (same_Some word name e) (of_name word t)
     by_test false t e = absurd (none-some name e)

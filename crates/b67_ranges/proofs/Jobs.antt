@@ -1,23 +1,19 @@
 -- The jobs of cards that are in range, and their numbers.
-use Rattle.std.proofs.Common.{◌≡◌, ℕ, ℤ, zero, suc, ◌+◌, ◌<◌, ◌≤◌, ◌^◌, Bool, true, false, List, [], ◌∷◌, ◌++◌, length, map, reverse, Option, Some, None, Ok, refl, sym, ◌∙◌, ap, subst, arith, inl, inr, cond}
+use Rattle.std.proofs.Common.{◌≡◌, ℕ, ℤ, zero, suc, ◌<◌, ◌≤◌, ◌^◌, Bool, true, false, List, [], ◌∷◌, ◌++◌, length, map, reverse, Option, Some, None, Ok, refl, sym, ap, subst, arith, cond}
 use Rattle.std.specs.Prelude.{nat_abs, pos, neg_ℤ, not, unwrap_or, slice_get, ◌==◌}
-use Rattle.std.specs.List.{AllByRecursion, filter_map, flat_map, cons_option}
+use Rattle.std.specs.List.{AllByRecursion, filter_map, cons_option}
 use Rattle.std.specs.Option.{option_map, option_and_then, option_or, option_to_list}
 use Rattle.std.proofs.lemmas.Option.{same_Some, none-some}
-use Rattle.std.proofs.lemmas.Int.{ints}
 use Rattle.b67_text.specs.declared.card.Card.{Card}
-use Rattle.b67_text.specs.declared.deck.Job as declared
 use Rattle.b67_text.specs.declared.deck.Deck.{Deck}
 use Rattle.b67_text.specs.Cards.{cards, words, leading}
 use Rattle.b67_text.specs.Command.{Command, Stack, Job, Limit, Data, number_in}
 use Rattle.b67_text.specs.Placing.{stack_in, switch_in, name_in, first_of, operand_in, operands_in, numbers}
 use Rattle.b67_text.specs.Answers.{◌>>=◌}
 use Rattle.b67_text.specs.Deck.{Said, command_in, within_limit, sayings, limit_in, body, numbers_in, numbers_at, data_numbers, limit_behind, job_of, is_job, own_cards, jobs, deck, deck_of}
-use Rattle.b67_model.specs.InOrder.{SwitchesRise}
-use Rattle.b67_task.specs.Tables.{switch_of}
 use Rattle.b67_open.specs.Decks.{JobInRange, DeckInRange}
 use Rattle.b67_ranges.proofs.Commands.{NumberWithin, NameWithin, CommandInRange, number_within, after_both}
-use Rattle.b67_ranges.proofs.Sayings.{AllStood, Read, read, in_range_onto, follows_none, rise_onto, jobs_in, few_jobs, jobs_onto}
+use Rattle.b67_ranges.proofs.Sayings.{Read, read, in_range_onto, follows_none, rise_onto, jobs_in, few_jobs, jobs_onto}
 
 abbrev InRange : Said → Type 0
 InRange s = CommandInRange s.command

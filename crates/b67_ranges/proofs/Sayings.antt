@@ -1,6 +1,6 @@
 -- The cards that are read are in range, and each stands where it may.
-use Rattle.std.proofs.Common.{◌≡◌, ℕ, zero, suc, ◌+◌, ◌<◌, ◌≤◌, ◌^◌, Bool, true, false, List, [], ◌∷◌, ◌++◌, length, map, reverse, Option, Some, None, Ok, Err, Result, refl, sym, ◌∙◌, ap, subst, arith, inl, inr, cond}
-use Rattle.std.specs.Prelude.{nat_lt, not, ◌||◌, ⊤, slice_get, unwrap_or}
+use Rattle.std.proofs.Common.{◌≡◌, ℕ, ◌+◌, ◌<◌, ◌≤◌, Bool, true, false, List, [], ◌∷◌, length, map, reverse, Option, Some, None, Ok, Err, Result, refl, sym, ap, subst, arith}
+use Rattle.std.specs.Prelude.{nat_lt, not, ◌||◌, ⊤, slice_get}
 use Rattle.std.specs.List.{AllByRecursion, filter_map, cons_option}
 use mathlib.Core.List.{reverse_aux}
 use Rattle.std.proofs.lemmas.Option.{same_Some, none-some}
@@ -8,10 +8,9 @@ use Rattle.std.proofs.lemmas.Bool.{ltb-true}
 use Rattle.b67_text.specs.declared.card.Card.{Card}
 use Rattle.b67_text.specs.declared.deck.Switch as text
 use Rattle.b67_text.specs.Answers.{Answer, ◌>>=◌, ◌>>◌, needs}
-use Rattle.b67_text.specs.Command.{Command, Stack, Quantum, Halt, Switch, Job, Limit, Asm, Hex, Data, End, Plain, said}
+use Rattle.b67_text.specs.Command.{Command, Switch, Job, said}
 use Rattle.b67_text.specs.Placing.{stand, may_stand, lacks_program, is_repeated, rises, has_room, arranged, is_well_formed, placed, is_above, first_of, switch_in, name_in}
-use Rattle.b67_text.specs.Deck.{Said, Refusal, of_card, command_in, said_after, sayings, ended, is_between, number_of_last}
-use Rattle.b67_model.specs.Schedule.{Switch as ModelSwitch}
+use Rattle.b67_text.specs.Deck.{Said, Refusal, of_card, command_in, said_after, sayings, is_between, number_of_last}
 use Rattle.b67_model.specs.InOrder.{SwitchesRise}
 use Rattle.b67_task.specs.Tables.{switch_of}
 use Rattle.b67_ranges.proofs.Commands.{CommandInRange, said_in_range, err-ok, after_both, after_needs}
@@ -108,13 +107,13 @@ rise_onto (s ∷ before) acc h k f = by_switch (λ k f. rise_onto before (s ∷ 
         next
         (subst (λ (o : Option text.Switch). SwitchesRise (map switch_of (cons_option o (switches_of acc)))) (sym e) k)
         (subst (λ (o : Option text.Switch). Follows (first_of switch_in (map command_in before)) (cons_option o (switches_of acc))) (sym e)
-          (subst (λ (o : Option text.Switch). Follows (slice_get (cons_option o (filter_map switch_in (map command_in before))) 0) (switches_of acc)) e f))
+        (subst (λ (o : Option text.Switch). Follows (slice_get (cons_option o (filter_map switch_in (map command_in before))) 0) (switches_of acc)) e f))
     by_switch next (Some w) e =
         next
         (subst (λ (o : Option text.Switch). SwitchesRise (map switch_of (cons_option o (switches_of acc)))) (sym e)
-          (rise_more w (switches_of acc) (subst (λ (o : Option text.Switch). Follows (slice_get (cons_option o (filter_map switch_in (map command_in before))) 0) (switches_of acc)) e f) k))
+        (rise_more w (switches_of acc) (subst (λ (o : Option text.Switch). Follows (slice_get (cons_option o (filter_map switch_in (map command_in before))) 0) (switches_of acc)) e f) k))
         (subst (λ (o : Option text.Switch). Follows (first_of switch_in (map command_in before)) (cons_option o (switches_of acc))) (sym e)
-          (follows (first_of switch_in (map command_in before)) w (switches_of acc) (above (map command_in before) s.command w h.0.rises e)))
+        (follows (first_of switch_in (map command_in before)) w (switches_of acc) (above (map command_in before) s.command w h.0.rises e)))
 
 -- at most eight jobs
 abbrev pub jobs_in : List Said → ℕ
