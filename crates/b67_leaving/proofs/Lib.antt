@@ -1,3 +1,4 @@
+pub mod Originals
 pub mod Holds
 pub mod Slots
 pub mod Nowhere
