@@ -1,3 +1,5 @@
+pub mod Settled
+pub mod Settles
 pub mod Originals
 pub mod Holds
 pub mod Slots

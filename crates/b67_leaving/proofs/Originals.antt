@@ -34,7 +34,7 @@ lies_at R core from (a ∷ more) c l (inr h) =
     let r = lies_at R core from more c l.1 h in
     record { at = r.at; low = r.low; up = (let u : r.at < from + length (a ∷ more) = omega (arith, r.up) in u); word = r.word; there = r.there; fits = r.fits }
 
-has_headed : (k : ℕ) (h : Head) (below : List Activation) (under : List Shape) (z : Shape) → Has under z → Has (headed k h below under) z
+pub has_headed : (k : ℕ) (h : Head) (below : List Activation) (under : List Shape) (z : Shape) → Has under z → Has (headed k h below under) z
 has_headed k Marked below under z o = inr o
 has_headed k (Entered level environment back) below under z o = inr (inr o)
 

@@ -21,7 +21,7 @@ use Rattle.b67_layout.proofs.Others.{keyed-has}
 use Rattle.b67_layout.proofs.Pictures.{with_course, member-same}
 use Rattle.b67_layout.proofs.Sessions.{change-has, change-kept}
 
-has_flat_back : {A B : Type 0} (f : A → List B) (xs : List A) (y : B) → Has (flat_map f xs) y → Part f xs y
+pub has_flat_back : {A B : Type 0} (f : A → List B) (xs : List A) (y : B) → Has (flat_map f xs) y → Part f xs y
 has_flat_back f [] y h = absurd h
 has_flat_back f (x ∷ xs) y h = elim (has_append_cases (f x) (flat_map f xs) y h) [
   | inl a ↦ record { item = x; among = inl refl; inside = a }
