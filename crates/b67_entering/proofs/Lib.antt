@@ -1,1 +1,3 @@
 pub mod Heads
+pub mod Names
+pub mod Tops
