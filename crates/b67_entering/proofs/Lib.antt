@@ -1,3 +1,5 @@
 pub mod Heads
+pub mod Enters
+pub mod Orders
 pub mod Names
 pub mod Tops

@@ -5,7 +5,7 @@ use Rattle.b67_word.specs.Tagged.{Tagged}
 use Rattle.b67_word.specs.declared.couples.Place.{Place}
 use Rattle.b67_ctl.specs.declared.registers.Regs.{Regs}
 use Rattle.b67_model.specs.Lists.{Has}
-use Rattle.b67_model.specs.State.{Frame, Task, Job, Course, Member}
+use Rattle.b67_model.specs.State.{Frame, Condition, Task, Job, Course, Member}
 use Rattle.b67_model.specs.Run.{number_of}
 use Rattle.b67_model.specs.Schedule.{Session}
 use Rattle.b67_stack.specs.Stacks.{Spot, Activation}
@@ -30,8 +30,8 @@ pub record GoesTo (r r' : Regs) (g : ℕ) (q : Place) : Type 0 where
   pub place : r'.place ≡ q
 
 -- the task that goes on there with these frames
-abbrev pub task_on : Task → List Frame → ℕ → Place → Task
-task_on t fs segment q = record t { frames = fs; segment = segment; place = q }
+abbrev pub task_on : Task → List Frame → ℕ → Place → Condition → Task
+task_on t fs segment q condition = record t { frames = fs; segment = segment; place = q; condition = condition }
 
 module _ (x : Storage) (core new : List Tagged) (r r' : Regs) (marks : List ℕ) (plan : Plan) (s : Session) (m : Member) (t : Task) (h : SessionHolds x core r marks plan s) (runs : IsRunning plan s.jobs m t) where
   has_m : Has s.jobs m
@@ -44,7 +44,7 @@ module _ (x : Storage) (core new : List Tagged) (r r' : Regs) (marks : List ℕ)
   abbrev pub outer : ℕ → Spot
   outer = outer_spots plan m.setting.number m.course.job t.critical t.parents
 
-  module _ (job' : Job) (fs : List Frame) (segment : ℕ) (q : Place) (n : ℕ) (top : OnTop m.course.job job' t (task_on t fs segment q) n) where
+  module _ (job' : Job) (fs : List Frame) (segment : ℕ) (q : Place) (condition : Condition) (n : ℕ) (top : OnTop m.course.job job' t (task_on t fs segment q condition) n) where
     -- all but the display
     pub SessionHolds-top : (stack : List Activation) → ((i : ℕ) → i < plan.stacks → slice_get new i ≡ slice_get core i) → GoesTo r r' segment q
         → critical_mark m.course.job fs ≡ critical_mark m.course.job t.frames
@@ -53,7 +53,7 @@ module _ (x : Storage) (core new : List Tagged) (r r' : Regs) (marks : List ℕ)
         → SessionHolds x new r' marks plan (with_job s m job')
     SessionHolds-top stack same on critical is stands settled =
         let c : Course = record m.course { job = job' } in
-        let t' : Task = task_on t fs segment q in
+        let t' : Task = task_on t fs segment q condition in
         let row = row_of plan s.jobs m t h.fits.rows has_m has_t runs.slot in
         let e : picture plan (with_course s.jobs m.setting.number c) ≡ with_stack (picture plan s.jobs) plan.running stack =
         picture-after plan s.jobs m.setting.number m c t t' n plan.running runs.member top row
@@ -64,13 +64,13 @@ module _ (x : Storage) (core new : List Tagged) (r r' : Regs) (marks : List ℕ)
         SessionHolds-after x core new r r' marks plan s m c t t' n h runs top same critical (subst P (sym e) stands) (subst Settled (sym e) settled) task
 
     -- the task still runs
-    pub still_running : IsRunning plan (with_job s m job').jobs (record m { course = record m.course { job = job' } }) (task_on t fs segment q)
+    pub still_running : IsRunning plan (with_job s m job').jobs (record m { course = record m.course { job = job' } }) (task_on t fs segment q condition)
     still_running = record {
       member = member-same s.jobs m.setting.number (record m.course { job = job' }) m runs.member;
-      task = task-same plan m.setting.number m.course.job job' t (task_on t fs segment q) n top;
+      task = task-same plan m.setting.number m.course.job job' t (task_on t fs segment q condition) n top;
       slot = runs.slot;
     }
 
     -- it names the same frames outside its own
     pub outer-same : outer_spots plan m.setting.number job' t.critical t.parents ≡ outer_spots plan m.setting.number m.course.job t.critical t.parents
-    outer-same = λ z i. outer_spots-after plan m.setting.number m.course.job job' t (task_on t fs segment q) n top t.parents t.critical (top.uncritical t has_t) i z
+    outer-same = λ z i. outer_spots-after plan m.setting.number m.course.job job' t (task_on t fs segment q condition) n top t.parents t.critical (top.uncritical t has_t) i z
