@@ -1,4 +1,6 @@
 pub mod Heads
+pub mod Accidents
+pub mod Marks
 pub mod Enters
 pub mod Orders
 pub mod Names
