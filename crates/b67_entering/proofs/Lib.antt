@@ -1,4 +1,5 @@
 pub mod Heads
+pub mod Conditions
 pub mod Rooms
 pub mod Accidents
 pub mod Marks
