@@ -1,0 +1,143 @@
+-- The running task's marked top frame is entered: what core and registers stand for then, and what it needs for it.
+use Rattle.std.proofs.Common.{◌≡◌, ◌≢◌, ℕ, suc, ◌+◌, ◌<◌, ◌≤◌, List, [], ◌∷◌, ◌++◌, length, map, Some, refl, sym, ◌∙◌, ap, arith, inl, inr, ⊎_elim, slice_set, subst, length-append, ◌==◌}
+use Rattle.std.specs.Prelude.{if◌then◌else◌}
+use Rattle.std.specs.List.{slice_get}
+use Rattle.std.proofs.lemmas.Bool.{cases_Bool}
+use Rattle.std.proofs.lemmas.List.{map-append}
+use Rattle.b67_word.specs.Tagged.{Tagged}
+use Rattle.b67_word.specs.declared.couples.Place.{Place}
+use Rattle.b67_ctl.specs.declared.registers.Regs.{Regs}
+use Rattle.b67_ctl.specs.Layout.{mscw_word, rcw_word}
+use Rattle.b67_core.proofs.Writes.{slice_get-set_other}
+use Rattle.b67_model.specs.Words.{Word}
+use Rattle.b67_model.specs.State as State
+use Rattle.b67_model.specs.State.{Frame, Return, Condition, Task, Job, Member, top, below_top, height, with_task}
+use Rattle.b67_model.specs.InOrder.{from_frame}
+use Rattle.b67_model.specs.Schedule.{Session}
+use Rattle.b67_stack.specs.Shapes.{Shape, Original}
+use Rattle.b67_stack.specs.Stacks.{Spot, Head, Marked, Entered, Activation, HeadFits, high, mark_of, return_of}
+use Rattle.b67_stack.specs.Picture.{Picture, RunsOn, slot_base, Settled}
+use Rattle.b67_stack.specs.Stands.{Storage, RunningStands, Stands}
+use Rattle.b67_model.specs.Run.{number_of}
+use Rattle.b67_stack.specs.Changes.{with_stack}
+use Rattle.b67_stack.proofs.Slots.{running_slot}
+use Rattle.b67_stack.proofs.Pushes.{Room, room_of}
+use Rattle.b67_layout.specs.Plan.{Plan, spot_in, outer_spots}
+use Rattle.b67_layout.specs.Layout.{shape, head, activations, stack_of_task, picture}
+use Rattle.b67_layout.specs.Meets.{with_job}
+use Rattle.b67_layout.specs.Session.{IsRunning, critical_mark, SessionHolds}
+use Rattle.b67_layout.proofs.Others.{OnTop, keyed-has}
+use Rattle.b67_layout.proofs.Steps.{IsFree}
+use Rattle.b67_layout.proofs.Rows.{runs_on}
+use Rattle.b67_layout.proofs.Settles.{Settled-more}
+use Rattle.b67_entering.proofs.Heads.{Stands-entered}
+use Rattle.b67_entering.proofs.Tops.{GoesTo, task_on, SessionHolds-top}
+
+-- the frames with the top one entered, with these cells
+abbrev pub entered_frames : List Frame → ℕ → ℕ → Return → List Word → List Frame
+entered_frames fs level environment back cells =
+    record (top fs) { standing = State.Entered level environment (Some back); cells = cells } ∷ below_top fs
+
+-- nobody sees other frames where a frame is entered
+pub seen_entered : (fs : List Frame) (level environment : ℕ) (back : Return) (cells : List Word) (c s : ℕ) (outer : ℕ → Spot) (id : ℕ) → fs ≢ [] → spot_in s outer (from_frame c (entered_frames fs level environment back cells)) id ≡ spot_in s outer (from_frame c fs) id
+seen_entered [] level environment back cells c s outer id some = absurd (some refl)
+seen_entered (f ∷ below) level environment back cells c s outer id some = ⊎_elim (λ e. rw e refl) (λ e. rw e refl) (cases_Bool (f.identity == c))
+
+critical_entered : (job : Job) (fs : List Frame) (level environment : ℕ) (back : Return) (cells : List Word) → fs ≢ [] → critical_mark job (entered_frames fs level environment back cells) ≡ critical_mark job fs
+critical_entered job [] level environment back cells some = absurd (some refl)
+critical_entered job (f ∷ below) level environment back cells some = refl
+
+-- the marked frame on top with its first cell
+pub record IsMarkedWith (fs : List Frame) (first : Word) (others : List Word) : Type 0 where
+  pub some : fs ≢ []
+  pub marked : (top fs).standing ≡ State.Marked
+  pub cells : (top fs).cells ≡ others ++ first ∷ []
+
+module _ (plan : Plan) (j : ℕ) (job : Job) (k : ℕ) (outer : ℕ → Spot) where
+  -- its activation record
+  marked_stack : (fs : List Frame) (first : Word) (cells : List Word) → IsMarkedWith fs first cells → let sh = shape plan j job (spot_in k outer fs) in
+      activations plan j job k outer fs ≡ record { head = Marked; cells = map sh cells ++ sh first ∷ [] } ∷ activations plan j job k outer (below_top fs)
+  marked_stack [] first cells w = absurd (w.some refl)
+  marked_stack (f ∷ below) first cells w =
+      let sh = shape plan j job (spot_in k outer (f ∷ below)) in
+      let rest = activations plan j job k outer below in
+      ap (λ st. record { head = head_of st; cells = map sh f.cells } ∷ rest) w.marked
+      ∙ ap (λ cs. record { head = Marked; cells = cs } ∷ rest) (ap (map sh) w.cells ∙ map-append sh cells (first ∷ [])) where
+        head_of : State.Standing → Head
+        head_of st = head (spot_in k outer below) st
+
+  entered_stack : (fs : List Frame) (level environment : ℕ) (back : Return) (cells : List Word) → fs ≢ [] →
+      activations plan j job k outer (entered_frames fs level environment back cells)
+      ≡ record { head = Entered level (spot_in k outer (below_top fs) environment) (Some back); cells = map (shape plan j job (spot_in k outer fs)) cells } ∷ activations plan j job k outer (below_top fs)
+  entered_stack [] level environment back cells some = absurd (some refl)
+  entered_stack (f ∷ below) level environment back cells some = refl
+
+module _ (x : Storage) (core : List Tagged) (r : Regs) (marks : List ℕ) (plan : Plan) (s : Session) (m : Member) (t : Task) (h : SessionHolds x core r marks plan s) (runs : IsRunning plan s.jobs m t)
+    (first : Word) (cells : List Word) (w : IsMarkedWith t.frames first cells) (level environment : ℕ) (back : Return) (spot : Spot) where
+  abbrev pub outer : ℕ → Spot
+  outer = outer_spots plan m.setting.number m.course.job t.critical t.parents
+
+  -- the activation records under the marked one
+  abbrev pub under : List Activation
+  under = activations plan m.setting.number m.course.job plan.running (outer_spots plan m.setting.number m.course.job t.critical t.parents) (below_top t.frames)
+
+  abbrev sh : Word → Shape
+  sh = shape plan m.setting.number m.course.job (spot_in plan.running (outer_spots plan m.setting.number m.course.job t.critical t.parents) t.frames)
+
+  abbrev stack : List Activation
+  stack = record { head = Marked; cells = map sh cells ++ sh first ∷ [] } ∷ under
+
+  stack_is : stack_of_task plan m.setting.number m.course.job plan.running t ≡ stack
+  stack_is = marked_stack plan m.setting.number m.course.job plan.running outer t.frames first cells w
+
+  pub slot_is : r.slot ≡ plan.running
+  slot_is = (h.running m t runs).slot ∙ sym runs.slot
+
+  on_stack : RunsOn (picture plan s.jobs) plan.running stack
+  on_stack = subst (RunsOn (picture plan s.jobs) plan.running) stack_is
+      (runs_on plan s.jobs m t h.fits.rows (keyed-has number_of m.setting.number s.jobs m runs.member) (keyed-has (λ (u : Task). u.number) t.number m.course.job.tasks t runs.task) runs.slot runs.member runs.task)
+
+  abbrev pub mark : Tagged
+  mark = mscw_word (mark_of plan.running (Entered level spot (Some back)) under)
+
+  abbrev pub rcw : Tagged
+  rcw = rcw_word (return_of (Some back) under)
+
+  room : Room x core r (picture plan s.jobs) plan.running stack
+  room = room_of x core r (picture plan s.jobs) plan.running stack h.memory on_stack
+
+  top_is : RunningStands r (picture plan s.jobs) plan.running stack
+  top_is = running_slot x core r (picture plan s.jobs) plan.running stack h.memory on_stack
+
+  two_cells : r.f + 1 ≤ r.s
+  two_cells = omega (arith, top_is.top, top_is.mark, length-append (map sh cells) (sh first ∷ []))
+
+  -- all but the display, where the frame is entered
+  pub SessionHolds-entered : (segment n : ℕ) (q : Place) (condition : Condition) → IsFree m.course.job n → ((home : ℕ) → shape plan m.setting.number m.course.job (spot_in plan.running outer t.frames) first ≢ Original home)
+      → spot_in plan.running outer (below_top t.frames) environment ≡ spot → HeadFits (Entered level spot (Some back)) under
+      → SessionHolds x (slice_set (slice_set core r.f mark) (r.f + 1) rcw) (record r { level = level; segment = segment + 1; place = q }) marks plan (with_job s m (with_task m.course.job (task_on t (entered_frames t.frames level environment back cells) segment q condition)))
+  SessionHolds-entered segment n q condition free plain at fit =
+      let p = picture plan s.jobs in
+      let r' : Regs = record r { level = level; segment = segment + 1; place = q } in
+      let fs = entered_frames t.frames level environment back cells in
+      let new = slice_set (slice_set core r.f mark) (r.f + 1) rcw in
+      let after : List Activation = record { head = Entered level spot (Some back); cells = map sh cells } ∷ under in
+      let top : OnTop m.course.job (with_task m.course.job (task_on t fs segment q condition)) t (task_on t fs segment q condition) n = record {
+        there = runs.task;
+        number = refl;
+        critical = refl;
+        parents = refl;
+        tasks = refl;
+        arrays = refl;
+        some = free.some;
+        uncritical = free.uncritical;
+        same = λ c k o id ne. seen_entered t.frames level environment back cells c k o id w.some;
+      } in
+      let is : activations plan m.setting.number m.course.job plan.running outer fs ≡ after =
+      entered_stack plan m.setting.number m.course.job plan.running outer t.frames level environment back cells w.some
+      ∙ ap (λ (o : Spot). record { head = Entered level o (Some back); cells = map sh cells } ∷ under) at in
+      let stands : Stands x new r' (with_stack p plan.running after) = Stands-entered x core r p plan.running level spot back (segment + 1) q (map sh cells) (sh first) under h.memory on_stack plain fit in
+      SessionHolds-top x core new r r' marks plan s m t h runs (with_task m.course.job (task_on t fs segment q condition)) fs segment q condition n top after
+      (λ i low. slice_get-set_other (slice_set core r.f mark) (r.f + 1) i rcw (λ z. omega (arith, z, low, room.mark, top_is.first)) ∙ slice_get-set_other core r.f i mark (λ z. omega (arith, z, low, room.mark, top_is.first)))
+      (record { slot = refl; dict = refl; entries = refl; segment = refl; place = refl }) (critical_entered m.course.job t.frames level environment back cells w.some) is stands
+      (Settled-more p plan.running stack after on_stack (omega (arith, length-append (map sh cells) (sh first ∷ []))) h.settled)
