@@ -50,11 +50,11 @@ module _ (plan : Plan) (s : Session) (m : Member) (t : Task) (f : Frame) (below 
   own_order = (running_in_order plan s m t may.ordered may.running).1
 
   pub may_leave : MayLeave m.setting m.course.job t f below
-  may_leave = record { order = job_order.tasks; there = may.running.task; frames = may.frames; free = may.free }
+  may_leave = record { top = record { order = job_order.tasks; there = may.running.task; frames = may.frames }; free = may.free }
 
   -- what a live task depends on isn't the frame that is left
   pub depended_apart : (c : ℕ) → IsDependedOn m.course.job c → c ≢ f.identity
-  depended_apart c (inl e) z = omega (arith, e, z, identity_high m.setting m.course.job t f below may_leave)
+  depended_apart c (inl e) z = omega (arith, e, z, identity_high m.setting m.course.job t f below may_leave.top)
   depended_apart c (inr (u, h, e)) z = uncritical m.setting m.course.job t f below may_leave u h (e ∙ z)
 
   own_critical : t.critical ≢ f.identity
@@ -69,13 +69,13 @@ module _ (plan : Plan) (s : Session) (m : Member) (t : Task) (f : Frame) (below 
     below-same =
         let all = subst (λ (fs : List Frame). FramesInOrder (IsSegment m.setting) m.course.job.arrays (outer_of m.course.job t) fs) may.frames own_order.frames in
         frames_stay new m.course.job f.identity arrays names_fall (IsSegment m.setting) (outer_of m.course.job t) below
-        (not_in_reach m.setting m.course.job t f below may_leave t.critical t.parents below own_critical (once_only m.setting m.course.job t f below may_leave)) all.2
+        (not_in_reach m.setting m.course.job t f below may_leave t.critical t.parents below own_critical (once_only m.setting m.course.job t f below may_leave.top)) all.2
 
     pub others-same : OthersSame new m.course.job t
     others-same u h ne =
         let order = all_in (TaskInOrder (IsSegment m.setting) m.setting m.course.job) m.course.job.tasks u job_order.tasks.tasks h in
         frames_stay new m.course.job f.identity arrays names_fall (IsSegment m.setting) (outer_of m.course.job u) u.frames
-        (not_in_reach m.setting m.course.job t f below may_leave u.critical u.parents u.frames (uncritical m.setting m.course.job t f below may_leave u h) (elsewhere m.setting m.course.job t f below may_leave u h ne)) order.frames
+        (not_in_reach m.setting m.course.job t f below may_leave u.critical u.parents u.frames (uncritical m.setting m.course.job t f below may_leave u h) (elsewhere m.setting m.course.job t f below may_leave.top u h ne)) order.frames
 
   -- the outer spots that the task names
   abbrev pub outer : ℕ → Spot

@@ -1,3 +1,4 @@
+pub mod Apart
 pub mod Returned
 pub mod Orders
 pub mod Leaves

@@ -23,11 +23,15 @@ use Rattle.b67_layout.specs.Layout.{shape, head, activations}
 use Rattle.b67_layout.proofs.Sessions.{change-kept}
 use Rattle.b67_leaving.proofs.Things.{others}
 
--- the top frame of a live task, which no live task depends on
-pub record MayLeave (setting : Setting) (job : Job) (t : Task) (f : Frame) (below : List Frame) : Type 0 where
+-- the top frame of a live task
+pub record IsOnTop (setting : Setting) (job : Job) (t : Task) (f : Frame) (below : List Frame) : Type 0 where
   pub order : TasksInOrder (IsSegment setting) setting job
   pub there : keyed (λ (u : Task). u.number) t.number job.tasks ≡ Some t
   pub frames : t.frames ≡ f ∷ below
+
+-- on which no live task depends
+pub record MayLeave (setting : Setting) (job : Job) (t : Task) (f : Frame) (below : List Frame) : Type 0 where
+  pub top : IsOnTop setting job t f below
   pub free : is_critical job f.identity ≡ false
 
 from_counts : (n c : ℕ) (frames : List Frame) → frames_named n (from_frame c frames) ≤ frames_named n frames
@@ -37,33 +41,34 @@ from_counts n c (f ∷ below) = elim (eqb_tells f.identity c) [ inl t ↦ rw t.0
 named_first : (f : Frame) (below : List Frame) → frames_named f.identity (f ∷ below) ≡ 1 + frames_named f.identity below
 named_first f below = elim (eqb_tells f.identity f.identity) [ inl e ↦ rw e.0 refl | inr e ↦ absurd (e.1 refl) ]
 
-module _ (setting : Setting) (job : Job) (t : Task) (f : Frame) (below : List Frame) (may : MayLeave setting job t f below) where
+module _ (setting : Setting) (job : Job) (t : Task) (f : Frame) (below : List Frame) (top : IsOnTop setting job t f below) where
   pub live : Has job.tasks t
-  live = (keyed_has (λ (u : Task). u.number) t.number job.tasks t may.there).0
+  live = (keyed_has (λ (u : Task). u.number) t.number job.tasks t top.there).0
 
   pub high : 1 < f.identity
-  high = above_one (IsSegment setting) setting job may.order t live f (subst (λ (fs : List Frame). Has fs f) (sym may.frames) (inl refl))
+  high = above_one (IsSegment setting) setting job top.order t live f (subst (λ (fs : List Frame). Has fs f) (sym top.frames) (inl refl))
 
+  own_named : frames_named f.identity t.frames ≡ 1 + frames_named f.identity below
+  own_named = ap (frames_named f.identity) top.frames ∙ named_first f below
+
+  -- it stands once
+  pub under : frames_named f.identity below ≡ 0
+  under = omega (arith, own_named, total_has (λ (u : Task). frames_named f.identity u.frames) job.tasks t live, top.order.apart f.identity)
+
+  pub elsewhere : (u : Task) → Has job.tasks u → u.number ≢ t.number → frames_named f.identity u.frames ≡ 0
+  elsewhere u h ne = elim (change-kept (λ (v : Task). v.number) t.number (λ (v : Task). record t { frames = [] }) job.tasks t top.there u h) [
+    | inl k ↦
+        let e = total_change (λ (v : Task). v.number) (λ (v : Task). frames_named f.identity v.frames) t.number t (record t { frames = [] }) job.tasks top.there in
+        let l = total_has (λ (v : Task). frames_named f.identity v.frames) (change_keyed (λ (v : Task). v.number) t.number (λ (v : Task). record t { frames = [] }) job.tasks) u k in
+        omega (arith, e, l, own_named, top.order.apart f.identity)
+    | inr k ↦ absurd (ne (ap (λ (v : Task). v.number) k.0))
+  ]
+
+module _ (setting : Setting) (job : Job) (t : Task) (f : Frame) (below : List Frame) (may : MayLeave setting job t f below) where
   pub uncritical : (u : Task) → Has job.tasks u → u.critical ≢ f.identity
   uncritical u h e = elim (eqb_tells u.critical f.identity) [
     | inl s ↦ true≢false (sym s.0 ∙ any_none (λ (v : Task). v.critical == f.identity) job.tasks u may.free h)
     | inr s ↦ s.1 e
-  ]
-
-  own_named : frames_named f.identity t.frames ≡ 1 + frames_named f.identity below
-  own_named = ap (frames_named f.identity) may.frames ∙ named_first f below
-
-  -- it stands once
-  pub under : frames_named f.identity below ≡ 0
-  under = omega (arith, own_named, total_has (λ (u : Task). frames_named f.identity u.frames) job.tasks t live, may.order.apart f.identity)
-
-  pub elsewhere : (u : Task) → Has job.tasks u → u.number ≢ t.number → frames_named f.identity u.frames ≡ 0
-  elsewhere u h ne = elim (change-kept (λ (v : Task). v.number) t.number (λ (v : Task). record t { frames = [] }) job.tasks t may.there u h) [
-    | inl k ↦
-        let e = total_change (λ (v : Task). v.number) (λ (v : Task). frames_named f.identity v.frames) t.number t (record t { frames = [] }) job.tasks may.there in
-        let l = total_has (λ (v : Task). frames_named f.identity v.frames) (change_keyed (λ (v : Task). v.number) t.number (λ (v : Task). record t { frames = [] }) job.tasks) u k in
-        omega (arith, e, l, own_named, may.order.apart f.identity)
-    | inr k ↦ absurd (ne (ap (λ (v : Task). v.number) k.0))
   ]
 
   in_parent : (c parent : ℕ) (o : Option Task) → keyed (λ (u : Task). u.number) parent job.tasks ≡ o → c ≢ f.identity → Has (known_numbers (map known_of (from_frame c (frames_of_task o)))) f.identity → ⊥
@@ -73,27 +78,27 @@ module _ (setting : Setting) (job : Job) (t : Task) (f : Frame) (below : List Fr
       elim (eqb_tells q.number t.number) [
         | inl s ↦
             let at : keyed (λ (u : Task). u.number) t.number job.tasks ≡ Some q = ap (λ (n : ℕ). keyed (λ (u : Task). u.number) n job.tasks) (sym s.1 ∙ k.1) ∙ e in
-            let same : q ≡ t = same_Some q t (sym at ∙ may.there) in
-            let mine : Has (known_numbers (map known_of (from_frame c (f ∷ below)))) f.identity = subst (λ (fs : List Frame). Has (known_numbers (map known_of (from_frame c fs))) f.identity) (ap (λ (u : Task). u.frames) same ∙ may.frames) h in
+            let same : q ≡ t = same_Some q t (sym at ∙ may.top.there) in
+            let mine : Has (known_numbers (map known_of (from_frame c (f ∷ below)))) f.identity = subst (λ (fs : List Frame). Has (known_numbers (map known_of (from_frame c fs))) f.identity) (ap (λ (u : Task). u.frames) same ∙ may.top.frames) h in
             elim (eqb_tells f.identity c) [
               | inl z ↦ ne (sym z.1)
               | inr z ↦
                   let lower : Has (known_numbers (map known_of (from_frame c below))) f.identity = rw z.0 at mine in
                   let one = has_counts f.identity (from_frame c below) lower in
-                  omega (arith, one, from_counts f.identity c below, under)
+                  omega (arith, one, from_counts f.identity c below, under setting job t f below may.top)
             ]
         | inr s ↦
             let one = has_counts f.identity (from_frame c q.frames) h in
-            omega (arith, one, from_counts f.identity c q.frames, elsewhere q k.0 s.1)
+            omega (arith, one, from_counts f.identity c q.frames, elsewhere setting job t f below may.top q k.0 s.1)
       ]
 
   critical_apart : (parent : ℕ) (o : Option Task) → keyed (λ (u : Task). u.number) parent job.tasks ≡ o → critical_of o ≢ f.identity
-  critical_apart parent None e = λ z. omega (arith, z, high)
+  critical_apart parent None e = λ z. omega (arith, z, high setting job t f below may.top)
   critical_apart parent (Some q) e = uncritical q (keyed_has (λ (u : Task). u.number) parent job.tasks q e).0
 
   pub outside : (c : ℕ) (parents : List ℕ) → c ≢ f.identity → Has (known_numbers (outer_reach job c parents)) f.identity → ⊥
-  outside c [] ne (inl e) = omega (arith, e, high)
-  outside c [] ne (inr (inl e)) = omega (arith, e, high)
+  outside c [] ne (inl e) = omega (arith, e, high setting job t f below may.top)
+  outside c [] ne (inr (inl e)) = omega (arith, e, high setting job t f below may.top)
   outside c [] ne (inr (inr k)) = k
   outside c (parent ∷ more) ne h =
       let o = keyed (λ (u : Task). u.number) parent job.tasks in

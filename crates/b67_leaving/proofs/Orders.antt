@@ -27,11 +27,11 @@ module _ (setting : Setting) (job : Job) (t : Task) (f : Frame) (below : List Fr
   at = record { setting = setting; job = job; task = t; at = t.place }
 
   own : TaskInOrder (IsSegment setting) setting job t
-  own = all_in (TaskInOrder (IsSegment setting) setting job) job.tasks t may.order.tasks (live setting job t f below may)
+  own = all_in (TaskInOrder (IsSegment setting) setting job) job.tasks t may.top.order.tasks (live setting job t f below may.top)
 
   -- the task's frames as they are
   start : Change (IsSegment setting) at job.arrays (f ∷ below) job.next_frame
-  start = subst (λ (fs : List Frame). Change (IsSegment setting) at job.arrays fs job.next_frame) may.frames (record {
+  start = subst (λ (fs : List Frame). Change (IsSegment setting) at job.arrays fs job.next_frame) may.top.frames (record {
     order = own.frames;
     returns = own.returns;
     some = own.some;
@@ -63,9 +63,9 @@ module _ (setting : Setting) (job : Job) (t : Task) (f : Frame) (below : List Fr
   left_ready segment place some starts =
       let new : Task = task_at t below segment place Ready in
       let c = dropped some in
-      let count : frames_named f.identity below + 1 ≤ frames_named f.identity t.frames = subst (λ (fs : List Frame). frames_named f.identity below + 1 ≤ frames_named f.identity fs) (sym may.frames) (elim (eqb_tells f.identity f.identity) [ inl e ↦ rw e.0 (omega arith) | inr e ↦ absurd (e.1 refl) ]) in
-      let fewer : height below ≤ height t.frames = subst (λ (fs : List Frame). height below ≤ height fs) (sym may.frames) (omega arith) in
-      replaced (IsSegment setting) setting job t (with_task (without_arrays_of f.identity job) new) new may.order may.there (record {
+      let count : frames_named f.identity below + 1 ≤ frames_named f.identity t.frames = subst (λ (fs : List Frame). frames_named f.identity below + 1 ≤ frames_named f.identity fs) (sym may.top.frames) (elim (eqb_tells f.identity f.identity) [ inl e ↦ rw e.0 (omega arith) | inr e ↦ absurd (e.1 refl) ]) in
+      let fewer : height below ≤ height t.frames = subst (λ (fs : List Frame). height below ≤ height fs) (sym may.top.frames) (omega arith) in
+      replaced (IsSegment setting) setting job t (with_task (without_arrays_of f.identity job) new) new may.top.order may.top.there (record {
         number = refl;
         line = refl;
         critical = refl;
@@ -83,17 +83,17 @@ module _ (setting : Setting) (job : Job) (t : Task) (f : Frame) (below : List Fr
         stays = c.stays;
         fewer = c.fewer;
         kept = λ a k. elim (eqb_tells a.owner f.identity) [
-          | inl e ↦ record { case = inr (omega (arith, high setting job t f below may, e.1), subst (λ (m : ℕ). frames_named m below + 1 ≤ frames_named m t.frames) (sym e.1) count) }
+          | inl e ↦ record { case = inr (omega (arith, high setting job t f below may.top, e.1), subst (λ (m : ℕ). frames_named m below + 1 ≤ frames_named m t.frames) (sym e.1) count) }
           | inr e ↦ record { case = inl (stays_by a k e.1) }
         ];
-        arrays = all_from ArrayInOrder (others f.identity job.arrays) (λ a k. all_in ArrayInOrder job.arrays a may.order.arrays (has_filter (λ (x : Array). not (eqb x.owner f.identity)) job.arrays a k).0);
+        arrays = all_from ArrayInOrder (others f.identity job.arrays) (λ a k. all_in ArrayInOrder job.arrays a may.top.order.arrays (has_filter (λ (x : Array). not (eqb x.owner f.identity)) job.arrays a k).0);
         once = λ a k.
             let inside = has_filter (λ (x : Array). not (eqb x.owner f.identity)) job.arrays a k in
             let other : a.owner ≢ f.identity = λ e. elim (eqb_tells a.owner f.identity) [ inl s ↦ true≢false (sym inside.1 ∙ rw s.0 refl) | inr s ↦ s.1 e ] in
             let none : originals a.identity f.cells ≡ 0 = none_pass (is_original_of a.identity) f.cells (λ w j.
-            none_original job (IsSegment setting) (map known_of (f ∷ below) ++ outer_of job t) f.identity a may.order.names inside.0 other w (all_in (WordInOrder (IsSegment setting) job.arrays (map known_of (f ∷ below) ++ outer_of job t) f.identity) f.cells w start.order.0.0 j)) in
-            let split : originals_in a.identity t.frames ≡ originals a.identity f.cells + originals_in a.identity below = ap (originals_in a.identity) may.frames in
-            omega (arith, split, none, all_in (λ (x : Array). originals_of x.identity setting job ≡ 1) job.arrays a may.order.once inside.0);
-        names = falls_filter (λ (x : Array). x.identity) (λ (x : Array). not (eqb x.owner f.identity)) job.next_array job.arrays may.order.names;
-        reads = may.order.reads;
+            none_original job (IsSegment setting) (map known_of (f ∷ below) ++ outer_of job t) f.identity a may.top.order.names inside.0 other w (all_in (WordInOrder (IsSegment setting) job.arrays (map known_of (f ∷ below) ++ outer_of job t) f.identity) f.cells w start.order.0.0 j)) in
+            let split : originals_in a.identity t.frames ≡ originals a.identity f.cells + originals_in a.identity below = ap (originals_in a.identity) may.top.frames in
+            omega (arith, split, none, all_in (λ (x : Array). originals_of x.identity setting job ≡ 1) job.arrays a may.top.order.once inside.0);
+        names = falls_filter (λ (x : Array). x.identity) (λ (x : Array). not (eqb x.owner f.identity)) job.next_array job.arrays may.top.order.names;
+        reads = may.top.order.reads;
       })

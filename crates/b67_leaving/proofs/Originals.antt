@@ -1,5 +1,5 @@
 -- Where the original of an array stands: in the dictionary, or in the frame that owns the array, at the array's home.
-use Rattle.std.proofs.Common.{◌≡◌, ◌≢◌, ℕ, ◌+◌, ◌<◌, ◌≤◌, List, [], ◌∷◌, ◌++◌, map, length, reverse, Some, refl, sym, ◌∙◌, ap, arith, Bool, true, false, cond, inl, inr, ◌⊎◌, subst}
+use Rattle.std.proofs.Common.{◌≡◌, ◌≢◌, ℕ, ◌+◌, ◌<◌, ◌≤◌, List, [], ◌∷◌, ◌++◌, map, length, reverse, Some, refl, sym, ◌∙◌, ap, arith, length-append, Bool, true, false, cond, inl, inr, ◌⊎◌, subst}
 use Rattle.std.specs.Prelude.{◌==◌}
 use Rattle.std.specs.List.{AllByRecursion, slice_get}
 use Rattle.std.proofs.lemmas.Bool.{cases_Bool, cases_eq}
@@ -33,6 +33,15 @@ lies_at R core from (a ∷ more) c l (inl e) =
 lies_at R core from (a ∷ more) c l (inr h) =
     let r = lies_at R core from more c l.1 h in
     record { at = r.at; low = r.low; up = (let u : r.at < from + length (a ∷ more) = omega (arith, r.up) in u); word = r.word; there = r.there; fits = r.fits }
+
+-- one of the upper words
+pub lies_over : (R : Shape → ℕ → Tagged → Type 0) (core : List Tagged) (from : ℕ) (xs ys : List Shape) (c : Shape) → Lie R core from (xs ++ ys) → Has xs c → LiesAt R core (from + length ys) xs c
+lies_over R core from [] ys c l h = absurd h
+lies_over R core from (a ∷ more) ys c l (inl e) =
+    record { at = from + length (more ++ ys); low = omega (arith, length-append more ys); up = omega (arith, length-append more ys); word = l.0.0; there = l.0.1; fits = subst (λ (z : Shape). R z (from + length (more ++ ys)) l.0.0) e l.0.2 }
+lies_over R core from (a ∷ more) ys c l (inr h) =
+    let r = lies_over R core from more ys c l.1 h in
+    record { at = r.at; low = r.low; up = (let u : r.at < from + length ys + length (a ∷ more) = omega (arith, r.up) in u); word = r.word; there = r.there; fits = r.fits }
 
 pub has_headed : (k : ℕ) (h : Head) (below : List Activation) (under : List Shape) (z : Shape) → Has under z → Has (headed k h below under) z
 has_headed k Marked below under z o = inr o

@@ -1,5 +1,5 @@
 -- Where a frame was left, no original of an array that is still there stands above the new top of the stack.
-use Rattle.std.proofs.Common.{◌≡◌, ◌≢◌, ℕ, suc, ◌+◌, ◌<◌, ◌≤◌, List, [], ◌∷◌, ◌++◌, map, flat_map, length, reverse, Some, refl, sym, ◌∙◌, ap, arith, Bool, true, false, not, inl, inr, ◌⊎◌, ⊎_elim, subst}
+use Rattle.std.proofs.Common.{◌≡◌, ◌≢◌, ℕ, suc, ◌+◌, ◌<◌, ◌≤◌, List, [], ◌∷◌, ◌++◌, map, flat_map, length, reverse, Some, refl, sym, ◌∙◌, ap, arith, length-append, Bool, true, false, not, inl, inr, ◌⊎◌, ⊎_elim, subst}
 use Rattle.std.specs.Prelude.{if◌then◌else◌, ◌==◌}
 use Rattle.std.specs.List.{AllByRecursion}
 use Rattle.std.proofs.lemmas.Bool.{cases_eq, cases_lt, cases_Bool, true≢false, eq-eqb}
@@ -15,8 +15,9 @@ use Rattle.b67_model.specs.State.{Frame, Array, Segment, Task, Job, Course, Memb
 use Rattle.b67_model.specs.Keyed.{keyed, change_keyed}
 use Rattle.b67_model.specs.Run.{number_of}
 use Rattle.b67_model.specs.Schedule.{Session}
-use Rattle.b67_model.specs.InOrder.{IsSegment, NumberedFrom, TasksInOrder, JobInOrder, IsInOrderButPlaces}
-use Rattle.b67_order.proofs.Members.{has_append_cases, has_map_back, has_filter, has_reverse, keyed_has, keyed_falls, all_in}
+use Rattle.b67_model.specs.InOrder.{Known, known_of, OwnsArray, EntryInOrder, frames_named, IsSegment, NumberedFrom, TasksInOrder, JobInOrder, IsInOrderButPlaces}
+use Rattle.b67_order.proofs.Members.{has_append_cases, has_map_back, has_filter, has_reverse, has_map, keyed_has, keyed_falls, falls_same, all_in}
+use Rattle.b67_order.proofs.Replaced.{has_counts}
 use Rattle.b67_stack.specs.Shapes as Shapes
 use Rattle.b67_stack.specs.Shapes.{Fits, Lie}
 use Rattle.b67_stack.specs.Stacks as Stacks
@@ -36,7 +37,8 @@ use Rattle.b67_layout.proofs.Pictures.{with_course, member-same}
 use Rattle.b67_layout.proofs.Rows.{TaskRow, task_row, slot_below, finds, runs_on}
 use Rattle.b67_layout.proofs.Sessions.{change-has, running_only}
 use Rattle.b67_leaving.proofs.Things.{SameThings, others}
-use Rattle.b67_leaving.proofs.Originals.{lies_at, original_word, InFrame, original_of, entry_number}
+use Rattle.b67_leaving.proofs.Nowhere.{IsOnTop, high as identity_high, under as once_only, elsewhere}
+use Rattle.b67_leaving.proofs.Originals.{lies_over, lies_at, original_word, InFrame, original_of, entry_number}
 
 -- jobs in order of their numbers are found by these
 later : (n : ℕ) (xs : List Member) (y : Member) → NumberedFrom n xs → Has xs y → n ≤ y.setting.number
@@ -103,6 +105,10 @@ original_inside x core plan j job k from outer fs g a l h w =
 lie_below : (R : Shapes.Shape → ℕ → Tagged → Type 0) (core : List Tagged) (from k : ℕ) (h : Head) (below : List Activation) (under : List Shapes.Shape) → Lie R core from (headed k h below under) → Lie R core from under
 lie_below R core from k Stacks.Marked below under l = l.1
 lie_below R core from k (Stacks.Entered level environment back) below under l = l.1.1
+
+head_length : (k : ℕ) (h : Head) (below : List Activation) (under : List Shapes.Shape) → 1 + length under ≤ length (headed k h below under)
+head_length k Stacks.Marked below under = omega arith
+head_length k (Stacks.Entered level environment back) below under = omega arith
 
 module _ (x : Storage) (core : List Tagged) (r : Regs) (marks : List ℕ) (plan : Plan) (s : Session) (m : Member) (t : Task) (f : Frame) (below : List Frame)
     (o : IsInOrderButPlaces s) (h : SessionHolds x core r marks plan s) (runs : IsRunning plan s.jobs m t) (frames : t.frames ≡ f ∷ below) where
@@ -178,3 +184,51 @@ module _ (x : Storage) (core : List Tagged) (r : Regs) (marks : List ℕ) (plan 
         inr (inl (omega (arith, home, end, e.1, n)))
     | inr q ↦ in_frame y in_y b q
   ]
+
+  -- the frame on top, and the whole stack
+  abbrev pub all : List Activation
+  all = activations plan m.setting.number m.course.job plan.running (outer_spots plan m.setting.number m.course.job t.critical t.parents) (f ∷ below)
+
+  on_top : IsOnTop m.setting m.course.job t f below
+  on_top = record { order = (order_of m (keyed-has number_of m.setting.number s.jobs m runs.member)).tasks; there = runs.task; frames = frames }
+
+  -- an original among the cells of the frame
+  in_cells : (b : ℕ) → Has f.cells (Original b) → (base + high under + 1 < plan.home m.setting.number b) × (plan.home m.setting.number b ≤ base + high all)
+  in_cells b w =
+      let outer = outer_spots plan m.setting.number m.course.job t.critical t.parents in
+      let shapes = map (shape plan m.setting.number m.course.job (spot_in plan.running outer (f ∷ below))) f.cells in
+      let fh : Head = head (spot_in plan.running outer below) f.standing in
+      let lies = subst (λ (fs : List Frame). Lie (Fits x.held) core (suc base) (words plan.running (activations plan m.setting.number m.course.job plan.running outer fs))) frames
+      (running_lies x core r (picture plan s.jobs) plan.running (stack_of_task plan m.setting.number m.course.job plan.running t) h.memory used) in
+      let q = lies_over (Fits x.held) core (suc base) shapes (headed plan.running fh under (words plan.running under)) (Shapes.Original (plan.home m.setting.number b)) lies
+      (has_map (shape plan m.setting.number m.course.job (spot_in plan.running outer (f ∷ below))) f.cells (Original b) w) in
+      let up = words-length plan.running all in
+      let low = head_length plan.running fh under (words plan.running under) in
+      (omega (arith, q.low, q.fits.0, low, words-length plan.running under), omega (arith, q.up, q.fits.0, up, length-append shapes (headed plan.running fh under (words plan.running under))))
+
+  -- the arrays of the frame have their originals there
+  pub homes_high : (b : Array) → Has m.course.job.arrays b → b.owner ≡ f.identity → (base + high under + 1 < plan.home m.setting.number b.identity) × (plan.home m.setting.number b.identity ≤ base + high all)
+  homes_high b in_b owned = elim (original_of m.setting m.course.job on_top.order b in_b) [
+    | inl d ↦
+        let own : OwnsArray m.course.job.arrays 1 b.identity = all_in (EntryInOrder m.course.job.arrays) m.setting.dictionary.cells (Original b.identity) on_top.order.entries d in
+        let same : own.item ≡ b = falls_same (λ (a : Array). a.identity) m.course.job.next_array m.course.job.arrays own.item b on_top.order.names own.live in_b own.named in
+        absurd (omega (arith, identity_high m.setting m.course.job t f below on_top, owned, own.owned, ap (λ (a : Array). a.owner) same))
+    | inr q ↦ in_cells b.identity (its_cells q)
+  ] where
+    named : (g : Frame) (gs : List Frame) → Has gs g → 1 ≤ frames_named g.identity gs
+    named g gs k = has_counts g.identity gs (has_map (λ (z : Known). z.0) (map known_of gs) (known_of g) (has_map known_of gs g k))
+
+    its_cells : (q : InFrame m.course.job b) → Has f.cells (Original b.identity)
+    its_cells q =
+        let same_id : q.frame.identity ≡ f.identity = sym q.owned ∙ owned in
+        let counted : 1 ≤ frames_named f.identity q.task.frames = subst (λ (n : ℕ). 1 ≤ frames_named n q.task.frames) same_id (named q.frame q.task.frames q.among) in
+        elim (eqb_tells q.task.number t.number) [
+          | inl e ↦
+              let k = keyed_falls (λ (v : Task). v.number) m.course.job.next_task m.course.job.tasks q.task on_top.order.numbers q.live in
+              let is_t : q.task ≡ t = same_Some q.task t (sym k ∙ ap (λ (n : ℕ). keyed (λ (v : Task). v.number) n m.course.job.tasks) e.1 ∙ runs.task) in
+              elim (subst (λ (fs : List Frame). Has fs q.frame) (ap (λ (v : Task). v.frames) is_t ∙ frames) q.among) [
+                | inl is ↦ subst (λ (g : Frame). Has g.cells (Original b.identity)) (sym is) q.word
+                | inr k ↦ absurd (let one = subst (λ (n : ℕ). 1 ≤ frames_named n below) same_id (named q.frame below k) in let z : ⊥ = omega (arith, one, once_only m.setting m.course.job t f below on_top) in z)
+              ]
+          | inr e ↦ absurd (let z : ⊥ = omega (arith, counted, elsewhere m.setting m.course.job t f below on_top q.task q.live e.1) in z)
+        ]
