@@ -40,6 +40,17 @@ copies_stay [] first mark under v w z (inr (inr k)) n o = inr (inr k)
 copies_stay (c ∷ cells) first mark under v w z (inl e) n o = inl e
 copies_stay (c ∷ cells) first mark under v w z (inr k) n o = inr (copies_stay cells first mark under v w z k n o)
 
+-- no original stands on the two words over the top
+abbrev pub IsClear : Regs → Picture → Type 0
+IsClear r p = (t : Thing) → Has p.things t → (t.home ≢ r.s + 1) × (t.home ≢ r.s + 2)
+
+-- as none does where all of them stand at or under the top
+pub clear_settled : (x : Storage) (core : List Tagged) (r : Regs) (p : Picture) (k : ℕ) (stack : List Activation) → Stands x core r p → RunsOn p k stack → r.s + 2 ≤ r.losr → Settled p → IsClear r p
+clear_settled x core r p k stack s u room settled t int =
+    let g = running_slot x core r p k stack s u in
+    let high_is : high (stack_of (p.slots k)) ≡ high stack = ap (λ y. high (stack_of y)) u.is in
+    (λ z. omega (arith, z, settled t int k u.used (omega (arith, z, g.top)) (omega (arith, z, g.last, room)), high_is, g.top), λ z. omega (arith, z, settled t int k u.used (omega (arith, z, g.top)) (omega (arith, z, g.last, room)), high_is, g.top))
+
 module _ (x : Storage) (core : List Tagged) (r : Regs) (p : Picture) (k : ℕ) (level : ℕ) (environment : Spot) (back : Return) (segment : ℕ) (q : Place) where
   -- the marked record on top is entered: the first cell gives way to the return word
   pub Stands-entered : (cells : List Shape) (first : Shape) (below : List Activation) → let stack = record { head = Marked; cells = cells ++ first ∷ [] } ∷ below in
@@ -111,10 +122,10 @@ module _ (x : Storage) (core : List Tagged) (r : Regs) (p : Picture) (k : ℕ) (
             not_home x core r p first w.0 (r.s - length cells) s (omega (arith, there, at)) w.1 w.2 plain t int (e ∙ sym there)
 
   -- a record without cells is entered at once on top of a stack
-  pub Stands-accident : (stack : List Activation) → Stands x core r p → RunsOn p k stack → Settled p → r.s + 2 ≤ r.losr → HeadFits (Entered level environment (Some back)) stack
+  pub Stands-accident : (stack : List Activation) → Stands x core r p → RunsOn p k stack → IsClear r p → r.s + 2 ≤ r.losr → HeadFits (Entered level environment (Some back)) stack
       → Stands x (slice_set (slice_set core (r.s + 1) (mscw_word (mark_of k (Entered level environment (Some back)) stack))) (r.s + 2) (rcw_word (return_of (Some back) stack)))
         (record r { s = r.s + 2; f = r.s + 1; level = level; segment = segment; place = q }) (with_stack p k (record { head = Entered level environment (Some back); cells = [] } ∷ stack))
-  Stands-accident stack s u settled room fit = Stands-slot x core new r (record r { s = r.s + 2; f = r.s + 1; level = level; segment = segment; place = q }) p k stack new_stack u
+  Stands-accident stack s u clear room fit = Stands-slot x core new r (record r { s = r.s + 2; f = r.s + 1; level = level; segment = segment; place = q }) p k stack new_stack u
       (record {
         size = length-set core1 (r.s + 2) rcw ∙ length-set core (r.s + 1) mark;
         outside = λ i o. outside i (λ z. ⊎_elim (λ (g : i < slot_base p k). omega (arith, g, z, g0.top)) (λ (g : slot_base p k + p.size ≤ i). omega (arith, g, z, g0.last, room)) o) (λ z. ⊎_elim (λ (g : i < slot_base p k). omega (arith, g, z, g0.top)) (λ (g : slot_base p k + p.size ≤ i). omega (arith, g, z, g0.last, room)) o);
@@ -123,7 +134,7 @@ module _ (x : Storage) (core : List Tagged) (r : Regs) (p : Picture) (k : ℕ) (
         fits = record { some = λ e. cc; heads = (fit, f.0.heads); fits = omega (arith, g0.last, g0.top, room) };
         copies = λ d h there. ⊎_elim (λ (e : Is rcw ≡ Copy d h). absurd (let z : ⊥ = cc in z)) (λ o. ⊎_elim (λ (e : Is mark ≡ Copy d h). absurd (let z : ⊥ = cc in z)) (λ o. f.1 d h o) o) there;
         lies = lies;
-        homes = λ t int low up. outside t.home (λ z. omega (arith, z, settled t int k u.used low up, high_is, g0.top)) (λ z. omega (arith, z, settled t int k u.used low up, high_is, g0.top));
+        homes = λ t int low up. outside t.home (clear t int).0 (clear t int).1;
       }) s where
         new_stack : List Activation
         new_stack = record { head = Entered level environment (Some back); cells = [] } ∷ stack
@@ -148,9 +159,6 @@ module _ (x : Storage) (core : List Tagged) (r : Regs) (p : Picture) (k : ℕ) (
 
         f : IsStack p.size stack × CopiesName p.things (words k stack)
         f = running_fits x core r p k stack s u
-
-        high_is : high (stack_of (p.slots k)) ≡ high stack
-        high_is = ap (λ y. high (stack_of y)) u.is
 
         outside : (i : ℕ) → i ≢ r.s + 1 → i ≢ r.s + 2 → slice_get new i ≡ slice_get core i
         outside i n o = slice_get-set_other core1 (r.s + 2) i rcw o ∙ slice_get-set_other core (r.s + 1) i mark n
