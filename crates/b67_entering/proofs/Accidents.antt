@@ -50,7 +50,7 @@ module _ (x : Storage) (core : List Tagged) (r : Regs) (marks : List ℕ) (plan 
   abbrev pub stack : List Activation
   stack = stack_of_task plan m.setting.number m.course.job plan.running t
 
-  on_stack : RunsOn (picture plan s.jobs) plan.running stack
+  pub on_stack : RunsOn (picture plan s.jobs) plan.running stack
   on_stack = runs_on plan s.jobs m t h.fits.rows (keyed-has number_of m.setting.number s.jobs m runs.member) (keyed-has (λ (u : Task). u.number) t.number m.course.job.tasks t runs.task) runs.slot runs.member runs.task
 
   abbrev pub mark : Tagged

@@ -96,7 +96,7 @@ module _ (x : Storage) (core : List Tagged) (r : Regs) (marks : List ℕ) (plan 
   pub slot_is : r.slot ≡ plan.running
   slot_is = (h.running m t runs).slot ∙ sym runs.slot
 
-  on_stack : RunsOn (picture plan s.jobs) plan.running stack
+  pub on_stack : RunsOn (picture plan s.jobs) plan.running stack
   on_stack = subst (RunsOn (picture plan s.jobs) plan.running) stack_is
       (runs_on plan s.jobs m t h.fits.rows (keyed-has number_of m.setting.number s.jobs m runs.member) (keyed-has (λ (u : Task). u.number) t.number m.course.job.tasks t runs.task) runs.slot runs.member runs.task)
 

@@ -1,16 +1,16 @@
 -- A marked record on top that is entered, and one that is entered at once.
-use Rattle.std.proofs.Common.{◌≡◌, ◌≢◌, ℕ, suc, ◌+◌, ◌-◌, ◌<◌, ◌≤◌, ◌⊎◌, List, [], ◌∷◌, ◌++◌, length, Some, refl, sym, ◌∙◌, ap, arith, inl, inr, ⊎_elim, slice_set, subst, append_assoc, length-append}
+use Rattle.std.proofs.Common.{◌≡◌, ◌≢◌, ℕ, suc, ◌+◌, ◌-◌, ◌^◌, ◌<◌, ◌≤◌, ◌⊎◌, List, [], ◌∷◌, ◌++◌, length, Option, Some, refl, sym, ◌∙◌, ap, arith, inl, inr, ⊎_elim, slice_set, subst, append_assoc, length-append}
 use Rattle.std.specs.List.{slice_get}
 use Rattle.std.proofs.Math.ListN.{length-set}
 use Rattle.b67_word.specs.Tagged.{Tagged}
 use Rattle.b67_word.specs.declared.couples.Place.{Place}
 use Rattle.b67_ctl.specs.declared.registers.Regs.{Regs}
-use Rattle.b67_ctl.specs.Layout.{mscw_word, rcw_word}
+use Rattle.b67_ctl.specs.Layout.{mscw_word, IsMscw, rcw_word}
 use Rattle.b67_core.proofs.Writes.{slice_get-set_other}
 use Rattle.b67_model.specs.Lists.{Has}
 use Rattle.b67_model.specs.State.{Return}
 use Rattle.b67_stack.specs.Shapes.{Shape, Is, Original, Copy, Fits, Lie}
-use Rattle.b67_stack.specs.Stacks.{Spot, Marked, Entered, Activation, IsStack, HeadFits, high, mark_of, return_of, words}
+use Rattle.b67_stack.specs.Stacks.{Spot, Marked, Entered, Activation, IsStack, HeadFits, top_size, high, mark_of, return_of, words}
 use Rattle.b67_stack.specs.Picture.{Thing, Picture, RunsOn, slot_base, stack_of, CopiesName, Settled}
 use Rattle.b67_stack.specs.Stands.{Storage, RunningStands, Stands}
 use Rattle.b67_stack.specs.Changes.{with_stack}
@@ -31,6 +31,14 @@ Lie-put R core from i (c ∷ above) a b w under e h r l =
     let up : i ≡ from + length (above ++ a ∷ under) → ⊥ = λ z. omega (arith, z, e, length-append above (a ∷ under)) in
     let P : ℕ → Type 0 = λ n. (v : Tagged) × (slice_get (slice_set core i w) (from + n) ≡ Some v) × R c (from + n) v in
     (subst P (sym same) (l.0.0, slice_get-set_other core i (from + length (above ++ a ∷ under)) w (λ z. up (sym z)) ∙ l.0.1, l.0.2), Lie-put R core from i above a b w under e h r l.1)
+
+-- an entered record's mark has a word
+pub entered_mark_fits : (k level : ℕ) (environment : Spot) (back : Option Return) (below : List Activation) → HeadFits (Entered level environment back) below → top_size below < 2 ^ 14 → IsMscw (mark_of k (Entered level environment back) below)
+entered_mark_fits k level environment back below f small = record { env_stack = f.1; env_disp = f.2; level = f.0; back = small; marked = λ e. absurd (let z : ⊥ = cc in z) }
+
+pub top_size_high : (stack : List Activation) → top_size stack ≤ high stack
+top_size_high [] = omega arith
+top_size_high (b ∷ below) = omega arith
 
 -- what stands among these words stood there before, but for two plain words
 copies_stay : (cells : List Shape) (first mark : Shape) (under : List Shape) (v w : Tagged) (z : Shape) → Has (cells ++ Is v ∷ Is w ∷ under) z → (Is v ≢ z) → (Is w ≢ z) → Has ((cells ++ first ∷ []) ++ mark ∷ under) z
