@@ -58,7 +58,7 @@ pub record IsMarkedWith (fs : List Frame) (first : Word) (others : List Word) : 
 
 module _ (plan : Plan) (j : ℕ) (job : Job) (k : ℕ) (outer : ℕ → Spot) where
   -- its activation record
-  marked_stack : (fs : List Frame) (first : Word) (cells : List Word) → IsMarkedWith fs first cells → let sh = shape plan j job (spot_in k outer fs) in
+  pub marked_stack : (fs : List Frame) (first : Word) (cells : List Word) → IsMarkedWith fs first cells → let sh = shape plan j job (spot_in k outer fs) in
       activations plan j job k outer fs ≡ record { head = Marked; cells = map sh cells ++ sh first ∷ [] } ∷ activations plan j job k outer (below_top fs)
   marked_stack [] first cells w = absurd (w.some refl)
   marked_stack (f ∷ below) first cells w =
@@ -84,10 +84,10 @@ module _ (x : Storage) (core : List Tagged) (r : Regs) (marks : List ℕ) (plan 
   abbrev pub under : List Activation
   under = activations plan m.setting.number m.course.job plan.running (outer_spots plan m.setting.number m.course.job t.critical t.parents) (below_top t.frames)
 
-  abbrev sh : Word → Shape
+  abbrev pub sh : Word → Shape
   sh = shape plan m.setting.number m.course.job (spot_in plan.running (outer_spots plan m.setting.number m.course.job t.critical t.parents) t.frames)
 
-  abbrev stack : List Activation
+  abbrev pub stack : List Activation
   stack = record { head = Marked; cells = map sh cells ++ sh first ∷ [] } ∷ under
 
   stack_is : stack_of_task plan m.setting.number m.course.job plan.running t ≡ stack
@@ -112,7 +112,7 @@ module _ (x : Storage) (core : List Tagged) (r : Regs) (marks : List ℕ) (plan 
   top_is : RunningStands r (picture plan s.jobs) plan.running stack
   top_is = running_slot x core r (picture plan s.jobs) plan.running stack h.memory on_stack
 
-  two_cells : r.f + 1 ≤ r.s
+  pub two_cells : r.f + 1 ≤ r.s
   two_cells = omega (arith, top_is.top, top_is.mark, length-append (map sh cells) (sh first ∷ []))
 
   -- the running level is that of what lies under the marked record
