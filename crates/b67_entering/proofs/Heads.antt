@@ -1,16 +1,16 @@
 -- A marked record on top that is entered, and one that is entered at once.
-use Rattle.std.proofs.Common.{◌≡◌, ◌≢◌, ℕ, suc, ◌+◌, ◌-◌, ◌<◌, ◌≤◌, ◌⊎◌, List, [], ◌∷◌, ◌++◌, length, Some, refl, sym, ◌∙◌, ap, arith, inl, inr, ⊎_elim, slice_set, subst, append_assoc, length-append}
+use Rattle.std.proofs.Common.{◌≡◌, ◌≢◌, ℕ, suc, ◌+◌, ◌-◌, ◌^◌, ◌<◌, ◌≤◌, ◌⊎◌, List, [], ◌∷◌, ◌++◌, length, Option, Some, refl, sym, ◌∙◌, ap, arith, inl, inr, ⊎_elim, slice_set, subst, append_assoc, length-append}
 use Rattle.std.specs.List.{slice_get}
 use Rattle.std.proofs.Math.ListN.{length-set}
 use Rattle.b67_word.specs.Tagged.{Tagged}
 use Rattle.b67_word.specs.declared.couples.Place.{Place}
 use Rattle.b67_ctl.specs.declared.registers.Regs.{Regs}
-use Rattle.b67_ctl.specs.Layout.{mscw_word, rcw_word}
+use Rattle.b67_ctl.specs.Layout.{mscw_word, IsMscw, rcw_word}
 use Rattle.b67_core.proofs.Writes.{slice_get-set_other}
 use Rattle.b67_model.specs.Lists.{Has}
 use Rattle.b67_model.specs.State.{Return}
 use Rattle.b67_stack.specs.Shapes.{Shape, Is, Original, Copy, Fits, Lie}
-use Rattle.b67_stack.specs.Stacks.{Spot, Marked, Entered, Activation, IsStack, HeadFits, high, mark_of, return_of, words}
+use Rattle.b67_stack.specs.Stacks.{Spot, Marked, Entered, Activation, IsStack, HeadFits, top_size, high, mark_of, return_of, words}
 use Rattle.b67_stack.specs.Picture.{Thing, Picture, RunsOn, slot_base, stack_of, CopiesName, Settled}
 use Rattle.b67_stack.specs.Stands.{Storage, RunningStands, Stands}
 use Rattle.b67_stack.specs.Changes.{with_stack}
@@ -32,6 +32,14 @@ Lie-put R core from i (c ∷ above) a b w under e h r l =
     let P : ℕ → Type 0 = λ n. (v : Tagged) × (slice_get (slice_set core i w) (from + n) ≡ Some v) × R c (from + n) v in
     (subst P (sym same) (l.0.0, slice_get-set_other core i (from + length (above ++ a ∷ under)) w (λ z. up (sym z)) ∙ l.0.1, l.0.2), Lie-put R core from i above a b w under e h r l.1)
 
+-- an entered record's mark has a word
+pub entered_mark_fits : (k level : ℕ) (environment : Spot) (back : Option Return) (below : List Activation) → HeadFits (Entered level environment back) below → top_size below < 2 ^ 14 → IsMscw (mark_of k (Entered level environment back) below)
+entered_mark_fits k level environment back below f small = record { env_stack = f.1; env_disp = f.2; level = f.0; back = small; marked = λ e. absurd (let z : ⊥ = cc in z) }
+
+pub top_size_high : (stack : List Activation) → top_size stack ≤ high stack
+top_size_high [] = omega arith
+top_size_high (b ∷ below) = omega arith
+
 -- what stands among these words stood there before, but for two plain words
 copies_stay : (cells : List Shape) (first mark : Shape) (under : List Shape) (v w : Tagged) (z : Shape) → Has (cells ++ Is v ∷ Is w ∷ under) z → (Is v ≢ z) → (Is w ≢ z) → Has ((cells ++ first ∷ []) ++ mark ∷ under) z
 copies_stay [] first mark under v w z (inl e) n o = absurd (n e)
@@ -39,6 +47,17 @@ copies_stay [] first mark under v w z (inr (inl e)) n o = absurd (o e)
 copies_stay [] first mark under v w z (inr (inr k)) n o = inr (inr k)
 copies_stay (c ∷ cells) first mark under v w z (inl e) n o = inl e
 copies_stay (c ∷ cells) first mark under v w z (inr k) n o = inr (copies_stay cells first mark under v w z k n o)
+
+-- no original stands on the two words over the top
+abbrev pub IsClear : Regs → Picture → Type 0
+IsClear r p = (t : Thing) → Has p.things t → (t.home ≢ r.s + 1) × (t.home ≢ r.s + 2)
+
+-- as none does where all of them stand at or under the top
+pub clear_settled : (x : Storage) (core : List Tagged) (r : Regs) (p : Picture) (k : ℕ) (stack : List Activation) → Stands x core r p → RunsOn p k stack → r.s + 2 ≤ r.losr → Settled p → IsClear r p
+clear_settled x core r p k stack s u room settled t int =
+    let g = running_slot x core r p k stack s u in
+    let high_is : high (stack_of (p.slots k)) ≡ high stack = ap (λ y. high (stack_of y)) u.is in
+    (λ z. omega (arith, z, settled t int k u.used (omega (arith, z, g.top)) (omega (arith, z, g.last, room)), high_is, g.top), λ z. omega (arith, z, settled t int k u.used (omega (arith, z, g.top)) (omega (arith, z, g.last, room)), high_is, g.top))
 
 module _ (x : Storage) (core : List Tagged) (r : Regs) (p : Picture) (k : ℕ) (level : ℕ) (environment : Spot) (back : Return) (segment : ℕ) (q : Place) where
   -- the marked record on top is entered: the first cell gives way to the return word
@@ -111,10 +130,10 @@ module _ (x : Storage) (core : List Tagged) (r : Regs) (p : Picture) (k : ℕ) (
             not_home x core r p first w.0 (r.s - length cells) s (omega (arith, there, at)) w.1 w.2 plain t int (e ∙ sym there)
 
   -- a record without cells is entered at once on top of a stack
-  pub Stands-accident : (stack : List Activation) → Stands x core r p → RunsOn p k stack → Settled p → r.s + 2 ≤ r.losr → HeadFits (Entered level environment (Some back)) stack
+  pub Stands-accident : (stack : List Activation) → Stands x core r p → RunsOn p k stack → IsClear r p → r.s + 2 ≤ r.losr → HeadFits (Entered level environment (Some back)) stack
       → Stands x (slice_set (slice_set core (r.s + 1) (mscw_word (mark_of k (Entered level environment (Some back)) stack))) (r.s + 2) (rcw_word (return_of (Some back) stack)))
         (record r { s = r.s + 2; f = r.s + 1; level = level; segment = segment; place = q }) (with_stack p k (record { head = Entered level environment (Some back); cells = [] } ∷ stack))
-  Stands-accident stack s u settled room fit = Stands-slot x core new r (record r { s = r.s + 2; f = r.s + 1; level = level; segment = segment; place = q }) p k stack new_stack u
+  Stands-accident stack s u clear room fit = Stands-slot x core new r (record r { s = r.s + 2; f = r.s + 1; level = level; segment = segment; place = q }) p k stack new_stack u
       (record {
         size = length-set core1 (r.s + 2) rcw ∙ length-set core (r.s + 1) mark;
         outside = λ i o. outside i (λ z. ⊎_elim (λ (g : i < slot_base p k). omega (arith, g, z, g0.top)) (λ (g : slot_base p k + p.size ≤ i). omega (arith, g, z, g0.last, room)) o) (λ z. ⊎_elim (λ (g : i < slot_base p k). omega (arith, g, z, g0.top)) (λ (g : slot_base p k + p.size ≤ i). omega (arith, g, z, g0.last, room)) o);
@@ -123,7 +142,7 @@ module _ (x : Storage) (core : List Tagged) (r : Regs) (p : Picture) (k : ℕ) (
         fits = record { some = λ e. cc; heads = (fit, f.0.heads); fits = omega (arith, g0.last, g0.top, room) };
         copies = λ d h there. ⊎_elim (λ (e : Is rcw ≡ Copy d h). absurd (let z : ⊥ = cc in z)) (λ o. ⊎_elim (λ (e : Is mark ≡ Copy d h). absurd (let z : ⊥ = cc in z)) (λ o. f.1 d h o) o) there;
         lies = lies;
-        homes = λ t int low up. outside t.home (λ z. omega (arith, z, settled t int k u.used low up, high_is, g0.top)) (λ z. omega (arith, z, settled t int k u.used low up, high_is, g0.top));
+        homes = λ t int low up. outside t.home (clear t int).0 (clear t int).1;
       }) s where
         new_stack : List Activation
         new_stack = record { head = Entered level environment (Some back); cells = [] } ∷ stack
@@ -148,9 +167,6 @@ module _ (x : Storage) (core : List Tagged) (r : Regs) (p : Picture) (k : ℕ) (
 
         f : IsStack p.size stack × CopiesName p.things (words k stack)
         f = running_fits x core r p k stack s u
-
-        high_is : high (stack_of (p.slots k)) ≡ high stack
-        high_is = ap (λ y. high (stack_of y)) u.is
 
         outside : (i : ℕ) → i ≢ r.s + 1 → i ≢ r.s + 2 → slice_get new i ≡ slice_get core i
         outside i n o = slice_get-set_other core1 (r.s + 2) i rcw o ∙ slice_get-set_other core (r.s + 1) i mark n
