@@ -39,35 +39,31 @@ use Rattle.b67_leave.proofs.Exits.{job_left, exit_left}
 -- the task's top frame is entered with a return to others, and no live task depends on it
 pub record Returns (m : Member) (t : Task) : Type 0 where
   pub f : Frame
-  pub below : List Frame
+  pub next : Frame
+  pub more : List Frame
   pub level : ℕ
   pub environment : ℕ
   pub back : Return
-  pub frames : t.frames ≡ f ∷ below
+  pub frames : t.frames ≡ f ∷ next ∷ more
   pub entered : f.standing ≡ State.Entered level environment (Some back)
-  pub some : below ≢ []
-  pub starts : IsSegment m.setting back.segment (level_of_frame (running below)) back.place
+  pub starts : IsSegment m.setting back.segment (level_of_frame (running (next ∷ more))) back.place
   pub free : is_critical m.course.job f.identity ≡ false
 
 module _ (x : Storage) (old : Cpu) (plan : Plan) (s : Session) (m : Member) (t : Task) (o : IsInOrderButPlaces s) (h : SessionStands x old plan s) (runs : IsRunning plan s.jobs m t) (a : Returns m t) where
-  pub may : Leaver plan s m t a.f a.below
+  pub may : Leaver plan s m t a.f (a.next ∷ a.more)
   may = record { ordered = o; running = runs; frames = a.frames; free = a.free }
 
   abbrev pub outer : ℕ → Spot
   outer = outer_spots plan m.setting.number m.course.job t.critical t.parents
 
   abbrev pub under : List Activation
-  under = activations plan m.setting.number m.course.job plan.running outer a.below
+  under = activations plan m.setting.number m.course.job plan.running outer (a.next ∷ a.more)
 
   abbrev pub on_top : Activation
-  on_top = record { head = head (spot_in plan.running outer a.below) a.f.standing; cells = map (shape plan m.setting.number m.course.job (spot_in plan.running outer (a.f ∷ a.below))) a.f.cells }
+  on_top = record { head = head (spot_in plan.running outer (a.next ∷ a.more)) a.f.standing; cells = map (shape plan m.setting.number m.course.job (spot_in plan.running outer (a.f ∷ (a.next ∷ a.more)))) a.f.cells }
 
   pub on_stack : RunsOn (picture plan s.jobs) old.regs.slot (on_top ∷ under)
   on_stack = subst (λ (fs : List Frame). RunsOn (picture plan s.jobs) old.regs.slot (activations plan m.setting.number m.course.job plan.running outer fs)) a.frames (runs_here x old plan s m t h runs)
-
-  pub some_under : (fs : List Frame) → fs ≢ [] → activations plan m.setting.number m.course.job plan.running outer fs ≢ []
-  some_under [] some e = some refl
-  some_under (g ∷ gs) some e = let z : ⊥ = cc in z
 
   -- the stack has a record to return from
   abbrev pub may_return : MayReturn old
@@ -77,12 +73,12 @@ module _ (x : Storage) (old : Cpu) (plan : Plan) (s : Session) (m : Member) (t :
     top = on_top;
     below = under;
     level = a.level;
-    environment = spot_in plan.running outer a.below a.environment;
+    environment = spot_in plan.running outer (a.next ∷ a.more) a.environment;
     back = a.back;
     stands = h.holds.memory;
     runs = on_stack;
-    entered = ap (head (spot_in plan.running outer a.below)) a.entered;
-    some = some_under a.below a.some;
+    entered = ap (head (spot_in plan.running outer (a.next ∷ a.more))) a.entered;
+    some = λ z. cc;
   }
 
   abbrev pub regs_left : Regs
@@ -90,32 +86,32 @@ module _ (x : Storage) (old : Cpu) (plan : Plan) (s : Session) (m : Member) (t :
 
   -- the job without the frame, whatever its task waits for
   abbrev pub job_at : Condition → Job
-  job_at d = with_task (without_arrays_of a.f.identity m.course.job) (task_at t a.below a.back.segment a.back.place d)
+  job_at d = with_task (without_arrays_of a.f.identity m.course.job) (task_at t (a.next ∷ a.more) a.back.segment a.back.place d)
 
   abbrev pub member_at : Condition → Member
   member_at d = record m { course = record m.course { job = job_at d } }
 
   abbrev pub task_left : Condition → Task
-  task_left d = task_at t a.below a.back.segment a.back.place d
+  task_left d = task_at t (a.next ∷ a.more) a.back.segment a.back.place d
 
-  same_under : (d : Condition) → activations plan m.setting.number (job_at d) plan.running outer a.below ≡ under
-  same_under d = activations-same plan m.setting.number (job_at d) m.course.job plan.running outer a.below (below-same plan s m t a.f a.below may (job_at d) refl)
+  same_under : (d : Condition) → activations plan m.setting.number (job_at d) plan.running outer (a.next ∷ a.more) ≡ under
+  same_under d = activations-same plan m.setting.number (job_at d) m.course.job plan.running outer (a.next ∷ a.more) (below-same plan s m t a.f (a.next ∷ a.more) may (job_at d) refl)
 
   memory : Stands x old.core regs_left (with_stack (picture plan s.jobs) plan.running under)
   memory =
       let P : ℕ → Type 0 = λ k. Stands x old.core regs_left (with_stack (picture plan s.jobs) k under) in
-      subst P (slot_is x old plan s m t h runs) (Stands-cut x old.core old.regs (picture plan s.jobs) old.regs.slot on_top under (a.back.segment + 1) a.back.place (some_under a.below a.some) h.holds.memory on_stack)
+      subst P (slot_is x old plan s m t h runs) (Stands-cut x old.core old.regs (picture plan s.jobs) old.regs.slot on_top under (a.back.segment + 1) a.back.place (λ z. cc) h.holds.memory on_stack)
 
   task_stands : (d : Condition) → TaskStands regs_left plan (member_at d) (task_left d)
   task_stands d = let r = h.holds.running m t runs in record { slot = r.slot; dict = r.dict; entries = r.entries; segment = refl; place = refl }
 
   pub holds_left : (d : Condition) → SessionHoldsBut (things_gone plan m (job_at d)) x old.core regs_left old.critical plan (with_job s m (job_at d))
-  holds_left d = holds_after plan s m t a.f a.below may (job_at d) a.below a.back.segment a.back.place d refl refl (Frames-below plan s m t a.f a.below may) x old.core old.core old.regs regs_left old.critical h.holds (λ i low. refl)
+  holds_left d = holds_after plan s m t a.f (a.next ∷ a.more) may (job_at d) (a.next ∷ a.more) a.back.segment a.back.place d refl refl (Frames-below plan s m t a.f (a.next ∷ a.more) may) x old.core old.core old.regs regs_left old.critical h.holds (λ i low. refl)
       (subst (λ (S : List Activation). Stands x old.core regs_left (with_stack (picture plan s.jobs) plan.running S)) (sym (same_under d)) memory)
       (omega (arith, ap high (same_under d))) (task_stands d)
 
   pub runs_left : (d : Condition) → IsRunning plan (with_job s m (job_at d)).jobs (member_at d) (task_left d)
-  runs_left d = runs_after plan s m t a.f a.below may (job_at d) a.below a.back.segment a.back.place d refl refl (Frames-below plan s m t a.f a.below may)
+  runs_left d = runs_after plan s m t a.f (a.next ∷ a.more) may (job_at d) (a.next ∷ a.more) a.back.segment a.back.place d refl refl (Frames-below plan s m t a.f (a.next ∷ a.more) may)
 
   -- what references are followed in, once the frame is left. The task is seen as a ready one
   abbrev pub scene_left : Scene old.core regs_left
@@ -129,7 +125,7 @@ module _ (x : Storage) (old : Cpu) (plan : Plan) (s : Session) (m : Member) (t :
         session = with_job s m (job_at Ready);
         member = member_at Ready;
         task = task_left Ready;
-        ordered = record { from_one = i.from_one; few = i.few; setting = i.setting; tasks = left_ready m.setting m.course.job t a.f a.below (may_leave plan s m t a.f a.below may) a.back.segment a.back.place a.some a.starts };
+        ordered = record { from_one = i.from_one; few = i.few; setting = i.setting; tasks = left_ready m.setting m.course.job t a.f (a.next ∷ a.more) (may_leave plan s m t a.f (a.next ∷ a.more) may) a.back.segment a.back.place (λ z. cc) a.starts };
         holds = holds_left Ready;
         running = runs_left Ready;
       }
@@ -147,15 +143,15 @@ module _ (x : Storage) (old : Cpu) (plan : Plan) (s : Session) (m : Member) (t :
   exit_made q display shown =
       let new : Cpu = record { core = old.core; regs = regs_left; display = display; critical = old.critical } in
       let after = shown_left display shown in
-      let lower : height a.below ≤ height t.frames = subst (λ (fs : List Frame). height a.below ≤ height fs) (sym a.frames) (omega arith) in
+      let lower : height (a.next ∷ a.more) ≤ height t.frames = subst (λ (fs : List Frame). height (a.next ∷ a.more) ≤ height fs) (sym a.frames) (omega arith) in
       record {
         job = job_at t.condition;
         touched = None;
-        is = exit_left m t q a.f a.below a.level a.environment a.back a.frames a.entered (ap (λ (fs : List Frame). is_critical m.course.job (top fs).identity) a.frames ∙ a.free) (omega (arith, lower, (running_in_order plan s m t o runs).1.not_higher));
+        is = exit_left m t q a.f (a.next ∷ a.more) a.level a.environment a.back a.frames a.entered (ap (λ (fs : List Frame). is_critical m.course.job (top fs).identity) a.frames ∙ a.free) (omega (arith, lower, (running_in_order plan s m t o runs).1.not_higher));
         present = tt;
         stands = record {
           holds = holds_left t.condition;
-          shows = for_running_after plan s m t a.f a.below may (job_at t.condition) a.below a.back.segment a.back.place t.condition refl refl (Frames-below plan s m t a.f a.below may) x old.core old.core old.regs regs_left old.critical h.holds (Shows display plan) after;
+          shows = for_running_after plan s m t a.f (a.next ∷ a.more) may (job_at t.condition) (a.next ∷ a.more) a.back.segment a.back.place t.condition refl refl (Frames-below plan s m t a.f (a.next ∷ a.more) may) x old.core old.core old.regs regs_left old.critical h.holds (Shows display plan) after;
         };
         changed = λ i. inl refl;
       }

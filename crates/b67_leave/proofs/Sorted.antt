@@ -50,36 +50,36 @@ module _ (plan : Plan) (m : Member) (t : Task) (k i : ℕ) (outer : ℕ → Spot
     by : TopCase m.setting t → Pending t
     by (pending f below e st) = record { f = f; below = below; frames = e; marked = st }
     by (last f level environment e st) = apart (entered_is ∙ (mark_last plan m.setting.number m.course.job k i outer t.frames f level environment e st).0) n
-    by (inner f below level environment back e st some starts) = apart (entered_is ∙ (mark_inner plan m.setting.number m.course.job k i outer t.frames f below level environment back e st some).0) n
+    by (inner f next more level environment back e st starts) = apart (entered_is ∙ (mark_inner plan m.setting.number m.course.job k i outer t.frames f next more level environment back e st).0) n
 
   pub is_entered : mark.entered ≡ true → IsEntered t
   is_entered n = by (top_case m.setting m.course.job t o) where
     by : TopCase m.setting t → IsEntered t
     by (pending f below e st) = apart n (entered_is ∙ mark_pending plan m.setting.number m.course.job k i outer t.frames f below e st)
     by (last f level environment e st) = record { f = f; below = []; level = level; environment = environment; back = None; frames = e; entered = st }
-    by (inner f below level environment back e st some starts) = record { f = f; below = below; level = level; environment = environment; back = Some back; frames = e; entered = st }
+    by (inner f next more level environment back e st starts) = record { f = f; below = next ∷ more; level = level; environment = environment; back = Some back; frames = e; entered = st }
 
   pub is_last : mark.entered ≡ true → mark.back ≡ 0 → Last t
   is_last n z = by (top_case m.setting m.course.job t o) where
     by : TopCase m.setting t → Last t
     by (pending f below e st) = apart n (entered_is ∙ mark_pending plan m.setting.number m.course.job k i outer t.frames f below e st)
     by (last f level environment e st) = record { f = f; level = level; environment = environment; frames = e; entered = st }
-    by (inner f below level environment back e st some starts) = absurd ((mark_inner plan m.setting.number m.course.job k i outer t.frames f below level environment back e st some).1 (sym back_is ∙ z))
+    by (inner f next more level environment back e st starts) = absurd ((mark_inner plan m.setting.number m.course.job k i outer t.frames f next more level environment back e st).1 (sym back_is ∙ z))
 
   pub returns_of : mark.entered ≡ true → mark.back ≢ 0 → is_critical m.course.job (top t.frames).identity ≡ false → Returns m t
   returns_of n z c = by (top_case m.setting m.course.job t o) where
     by : TopCase m.setting t → Returns m t
     by (pending f below e st) = apart n (entered_is ∙ mark_pending plan m.setting.number m.course.job k i outer t.frames f below e st)
     by (last f level environment e st) = absurd (z (back_is ∙ (mark_last plan m.setting.number m.course.job k i outer t.frames f level environment e st).1))
-    by (inner f below level environment back e st some starts) = record {
+    by (inner f next more level environment back e st starts) = record {
       f = f;
-      below = below;
+      next = next;
+      more = more;
       level = level;
       environment = environment;
       back = back;
       frames = e;
       entered = st;
-      some = some;
       starts = starts;
       free = ap (λ (fs : List Frame). is_critical m.course.job (top fs).identity) (sym e) ∙ c;
     }

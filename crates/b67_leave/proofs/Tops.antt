@@ -14,13 +14,14 @@ use Rattle.b67_layout.specs.Layout.{shape, head, activations}
 pub data TopCase (setting : Setting) (t : Task) : Type 0 where
   pending : (f : Frame) (below : List Frame) → t.frames ≡ f ∷ below → f.standing ≡ State.Marked → TopCase setting t
   last : (f : Frame) (level environment : ℕ) → t.frames ≡ f ∷ [] → f.standing ≡ State.Entered level environment None → TopCase setting t
-  inner : (f : Frame) (below : List Frame) (level environment : ℕ) (back : Return) → t.frames ≡ f ∷ below → f.standing ≡ State.Entered level environment (Some back)
-      → below ≢ [] → IsSegment setting back.segment (level_of_frame (running below)) back.place → TopCase setting t
+  inner : (f next : Frame) (more : List Frame) (level environment : ℕ) (back : Return) → t.frames ≡ f ∷ next ∷ more → f.standing ≡ State.Entered level environment (Some back)
+      → IsSegment setting back.segment (level_of_frame (running (next ∷ more))) back.place → TopCase setting t
 
 by_standing : (setting : Setting) (t : Task) (f : Frame) (below : List Frame) (s : Standing) → t.frames ≡ f ∷ below → f.standing ≡ s → ReturnsInOrder (IsSegment setting) s below → TopCase setting t
 by_standing setting t f below State.Marked e is g = pending f below e is
 by_standing setting t f below (State.Entered level environment None) e is g = last f level environment (e ∙ ap (λ (fs : List Frame). f ∷ fs) g) is
-by_standing setting t f below (State.Entered level environment (Some back)) e is g = inner f below level environment back e is g.0 g.1
+by_standing setting t f [] (State.Entered level environment (Some back)) e is g = absurd (g.0 refl)
+by_standing setting t f (next ∷ more) (State.Entered level environment (Some back)) e is g = inner f next more level environment back e is g.1
 
 by_frames : (setting : Setting) (job : Job) (t : Task) (fs : List Frame) → t.frames ≡ fs → TaskInOrder (IsSegment setting) setting job t → TopCase setting t
 by_frames setting job t [] e o = absurd (o.some e)
@@ -39,12 +40,9 @@ module _ (plan : Plan) (j : ℕ) (job : Job) (k i : ℕ) (outer : ℕ → Spot) 
   entered_by : (s : Standing) (spot : ℕ → Spot) (below : List Activation) (level environment : ℕ) (back : Option Return) → s ≡ State.Entered level environment back → ((mark_of i (head spot s) below).entered ≡ true) × ((mark_of i (head spot s) below).back ≡ top_size below)
   entered_by s spot below level environment back e = (ap (λ (z : Standing). (mark_of i (head spot z) below).entered) e, ap (λ (z : Standing). (mark_of i (head spot z) below).back) e)
 
-  some_size : (below : List Frame) → below ≢ [] → top_size (activations plan j job k outer below) ≢ 0
-  some_size [] some e = some refl
-  some_size (g ∷ more) some e = size_some (head (spot_in k outer more) g.standing) (map (shape plan j job (spot_in k outer (g ∷ more))) g.cells) e where
-    size_some : (h : Head) (cells : List Shape) → head_size h + length cells ≢ 0
-    size_some Marked cells e = omega (arith, e)
-    size_some (Entered level environment back) cells e = omega (arith, e)
+  size_some : (h : Head) (cells : List Shape) → head_size h + length cells ≢ 0
+  size_some Marked cells e = omega (arith, e)
+  size_some (Entered level environment back) cells e = omega (arith, e)
 
   -- the mark of each
   pub mark_pending : (fs : List Frame) (f : Frame) (below : List Frame) → fs ≡ f ∷ below → f.standing ≡ State.Marked → (top_mark i (activations plan j job k outer fs)).entered ≡ false
@@ -56,8 +54,8 @@ module _ (plan : Plan) (j : ℕ) (job : Job) (k i : ℕ) (outer : ℕ → Spot) 
       let m = entered_by f.standing (spot_in k outer []) [] level environment None is in
       (ap (λ (gs : List Frame). (mark_on gs).entered) e ∙ m.0, ap (λ (gs : List Frame). (mark_on gs).back) e ∙ m.1)
 
-  pub mark_inner : (fs : List Frame) (f : Frame) (below : List Frame) (level environment : ℕ) (back : Return) → fs ≡ f ∷ below → f.standing ≡ State.Entered level environment (Some back) → below ≢ []
+  pub mark_inner : (fs : List Frame) (f next : Frame) (more : List Frame) (level environment : ℕ) (back : Return) → fs ≡ f ∷ next ∷ more → f.standing ≡ State.Entered level environment (Some back)
       → ((top_mark i (activations plan j job k outer fs)).entered ≡ true) × ((top_mark i (activations plan j job k outer fs)).back ≢ 0)
-  mark_inner fs f below level environment back e is some =
-      let m = entered_by f.standing (spot_in k outer below) (activations plan j job k outer below) level environment (Some back) is in
-      (ap (λ (gs : List Frame). (mark_on gs).entered) e ∙ m.0, λ z. some_size below some (sym m.1 ∙ sym (ap (λ (gs : List Frame). (mark_on gs).back) e) ∙ z))
+  mark_inner fs f next more level environment back e is =
+      let m = entered_by f.standing (spot_in k outer (next ∷ more)) (activations plan j job k outer (next ∷ more)) level environment (Some back) is in
+      (ap (λ (gs : List Frame). (mark_on gs).entered) e ∙ m.0, λ z. size_some (head (spot_in k outer more) next.standing) (map (shape plan j job (spot_in k outer (next ∷ more))) next.cells) (sym m.1 ∙ sym (ap (λ (gs : List Frame). (mark_on gs).back) e) ∙ z))
