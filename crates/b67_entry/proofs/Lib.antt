@@ -1,0 +1,4 @@
+pub mod Marking
+pub mod Entering
+pub mod Accidental
+pub mod Sites

@@ -1,0 +1,6 @@
+pub mod Sorted
+pub mod Leaving
+pub mod Exits
+pub mod Criticals
+pub mod Callers
+pub mod Tops
