@@ -1,14 +1,11 @@
 -- What rows make of the words that are read.
-use Rattle.std.proofs.Common.{◌≡◌, ◌≢◌, ℕ, ◌+◌, ◌-◌, ◌%◌, ◌≤◌, length, map, List, [], ◌∷◌, ◌++◌, Result, Ok, Err, None, refl, sym, ◌∙◌, ap, arith, Bool, true, false, subst, ◌==◌}
-use Rattle.std.specs.Prelude.{if◌then◌else◌}
+use Rattle.std.proofs.Common.{◌≡◌, ◌≢◌, ℕ, ◌+◌, ◌-◌, ◌≤◌, length, map, List, [], ◌∷◌, ◌++◌, Result, Ok, Err, None, refl, sym, ◌∙◌, ap, arith, true, false, subst, ◌==◌}
 use Rattle.std.specs.List.{AllByRecursion}
 use Rattle.std.proofs.lemmas.Bool.{eq-eqb, ne_eqb}
 use Rattle.b67_word.specs.Tagged.{Tagged, word}
 use Rattle.b67_word.specs.declared.couples.Place.{Place}
 use Rattle.b67_word.specs.declared.faults.Fault.{Fault}
 use Rattle.b67_word.specs.declared.faults.Fault.TheVariants.{StackUnderflow, InvalidOperand}
-use Rattle.b67_ctl.specs.declared.descriptors.DataDesc.{DataDesc}
-use Rattle.b67_ctl.specs.Descriptors.{data_word, IsDataDesc}
 use Rattle.b67_model.specs.Answers.{Answer, ◌>>=◌}
 use Rattle.b67_model.specs.Words as Words
 use Rattle.b67_model.specs.Words.{Word, Operand, Name, Ref, Row, Element, Original, Proc, Intrinsic, operand}
@@ -18,7 +15,7 @@ use Rattle.b67_model.specs.Arithmetic.{Binary}
 use Rattle.b67_model.specs.Steps.{Done, leaves_cells}
 use Rattle.b67_model.specs.Intrinsics.{is_original}
 use Rattle.b67_model.specs.Schedule.{Session}
-use Rattle.b67_model.specs.Rows.{CellRow, on_one, on_two, on_cells, dlet, exch, dupl, branch_if}
+use Rattle.b67_model.specs.Rows.{CellRow, on_one, on_two, on_cells, dlet, dupl}
 use Rattle.b67_arith.specs.OnWords.{bits_in, on_word, on_words}
 use Rattle.b67_stack.specs.declared.Cpu.{Cpu}
 use Rattle.b67_stack.specs.declared.Step.{Step}
@@ -27,7 +24,7 @@ use Rattle.b67_layout.specs.Plan.{Plan}
 use Rattle.b67_layout.specs.Session.{IsRunning}
 use Rattle.b67_layout.specs.Meets.{here, IsMade, Meets, RunsSome}
 use Rattle.b67_layout.proofs.Fresh.{running_in_order}
-use Rattle.b67_cells.specs.Tops.{IsWordOf, IsAt, cells, GivesTop, GivesTwo, MayStand, NoOriginals}
+use Rattle.b67_cells.specs.Tops.{IsWordOf, cells, GivesTop, GivesTwo, MayStand, NoOriginals}
 use Rattle.b67_cells.proofs.Put.{room}
 
 -- the bits of a word are those of the cell, if that is an operand
@@ -44,7 +41,7 @@ module _ (x : Storage) (plan : Plan) (m : Member) (t : Task) (at : ℕ) (v : Tag
   operand_seen (Words.Segment n) f = ap bits_in f.0
 
 -- an operand is no original
-plain_operand : (w : Word) (n : ℕ) → operand w ≡ Ok n → is_original w ≡ false
+pub plain_operand : (w : Word) (n : ℕ) → operand w ≡ Ok n → is_original w ≡ false
 plain_operand (Operand bits) n e = refl
 plain_operand (Name c) n e = refl
 plain_operand (Ref g o) n e = refl
@@ -113,6 +110,20 @@ pub top_may_stand : (plan : Plan) (s : Session) (m : Member) (t : Task) → IsIn
 top_may_stand plan s m t ordered runs a rest e n =
     let o = in_order (IsSegment m.setting) m.course.job.arrays (outer_of m.course.job t) t.frames a rest (running_in_order plan s m t ordered runs).1.frames e in
     may_stand (IsSegment m.setting) m.course.job o.0 o.1 a o.2 n
+
+-- so may the two top ones
+two_in_order : (P : Starts) (arrays : List Array) (outer : List Known) (fs : List Frame) (b a : Word) (rest : List Word) → FramesInOrder P arrays outer fs → (top fs).cells ≡ b ∷ a ∷ rest
+    → (reach : List Known) × (owner : ℕ) × WordInOrder P arrays reach owner a
+two_in_order P arrays outer [] b a rest o e = absurd (let z : ⊥ = cc in z)
+two_in_order P arrays outer (f ∷ below) b a rest o e =
+    let A : List Word → Type 0 = λ cs. AllByRecursion (WordInOrder P arrays (map known_of (f ∷ below) ++ outer) f.identity) cs in
+    (map known_of (f ∷ below) ++ outer, f.identity, (subst A e o.0.0).1.0)
+
+pub two_may_stand : (plan : Plan) (s : Session) (m : Member) (t : Task) → IsInOrderButPlaces s → IsRunning plan s.jobs m t → (b a : Word) (rest : List Word) → cells t ≡ b ∷ a ∷ rest → is_original b ≡ false → is_original a ≡ false
+    → MayStand m.course.job a × MayStand m.course.job b
+two_may_stand plan s m t ordered runs b a rest e nb na =
+    let o = two_in_order (IsSegment m.setting) m.course.job.arrays (outer_of m.course.job t) t.frames b a rest (running_in_order plan s m t ordered runs).1.frames e in
+    (may_stand (IsSegment m.setting) m.course.job o.0 o.1 a o.2 na, top_may_stand plan s m t ordered runs b (a ∷ rest) e nb)
 
 -- the bits of no operand
 pub no_operand : (x : Storage) (plan : Plan) (m : Member) (t : Task) (w : Word) (at : ℕ) (v : Tagged) → IsWordOf x plan m t w at v → v.tag ≢ 0 → operand w ≡ Err InvalidOperand
