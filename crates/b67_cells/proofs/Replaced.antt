@@ -65,7 +65,7 @@ behind : (xs ys : List Thing) (z : Thing) → Has ys z → Has (xs ++ ys) z
 behind [] ys z h = h
 behind (x ∷ xs) ys z h = inr (behind xs ys z h)
 
-before : (xs ys : List Thing) (z : Thing) → Has xs z → Has (xs ++ ys) z
+pub before : (xs ys : List Thing) (z : Thing) → Has xs z → Has (xs ++ ys) z
 before [] ys z h = absurd h
 before (x ∷ xs) ys z (inl e) = inl e
 before (x ∷ xs) ys z (inr h) = inr (before xs ys z h)
