@@ -6,9 +6,11 @@
 mod branches;
 mod moves;
 mod numbers;
+mod procedures;
 mod pushes;
 
 pub use branches::{branch_if, go_on};
 pub use moves::{dlet, dupl, exch};
 pub use numbers::{Binary, Unary, on_one, on_two};
+pub use procedures::mpcw;
 pub use pushes::{literal, namc};
