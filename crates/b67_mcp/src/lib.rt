@@ -1,0 +1,6 @@
+//! Intrinsics over core.
+#![tactic(auto)]
+
+mod calls;
+
+pub use calls::cut_call;
