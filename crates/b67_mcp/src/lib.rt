@@ -2,5 +2,7 @@
 #![tactic(auto)]
 
 mod calls;
+mod print;
 
 pub use calls::cut_call;
+pub use print::print_value;
