@@ -13,7 +13,7 @@ use Rattle.b67_stack.specs.Shapes.{Shape}
 use Rattle.b67_stack.specs.Stacks.{Spot, Activation}
 use Rattle.b67_stack.specs.Picture.{Thing, Slot, Running, Waiting, with_slot}
 use Rattle.b67_stack.proofs.Slots.{slot-same, slot-other}
-use Rattle.b67_layout.specs.Plan.{Plan, Slotted, slot_of, spot_in, outer_spots}
+use Rattle.b67_layout.specs.Plan.{Plan, Slotted, slot_of, spot_in, outer_spots, spots}
 use Rattle.b67_layout.specs.Layout.{shape, head, activations, stack_of_task, slot_with, slot_in, slot_by, slot_at, code_things, array_thing, things_of, picture}
 use Rattle.b67_layout.specs.Session.{RowsFit}
 use Rattle.b67_layout.proofs.Others.{keyed-has}
@@ -27,6 +27,12 @@ module _ (plan : Plan) (k : ℕ) where
       let t = keyed (λ (u : Task). u.number) parent job.tasks in
       let outer : outer_spots (with_running plan k) j job (critical_of t) more ≡ outer_spots plan j job (critical_of t) more = λ i x. outer_spots-replan j job more (critical_of t) x i in
       ap (λ (o : ℕ → Spot). spot_in (slot_of plan j parent) o (from_frame c (frames_of_task t)) id) outer
+
+  -- spots of frames don't depend on which registers are in use
+  pub spots-replan : (j : ℕ) (job : Job) (t : Task) (id : ℕ) → spots (with_running plan k) j job t id ≡ spots plan j job t id
+  spots-replan j job t id =
+      let outer : outer_spots (with_running plan k) j job t.critical t.parents ≡ outer_spots plan j job t.critical t.parents = λ i x. outer_spots-replan j job t.parents t.critical x i in
+      ap (λ (o : ℕ → Spot). spot_in (slot_of plan j t.number) o t.frames id) outer
 
   shape-replan : (j : ℕ) (job : Job) (spot : ℕ → Spot) (w : Word) → shape (with_running plan k) j job spot w ≡ shape plan j job spot w
   shape-replan j job spot (Operand bits) = refl

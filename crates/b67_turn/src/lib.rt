@@ -1,0 +1,2 @@
+//! Whose turn it is: the registers go from one task to another.
+#![tactic(auto)]
