@@ -1,6 +1,6 @@
 -- Items of a list by their places.
 use Rattle.std.proofs.Common.{◌≡◌, ◌≢◌, ℕ, zero, suc, ◌+◌, ◌-◌, ◌<◌, ◌≤◌, List, [], ◌∷◌, length, map, Option, Some, None, refl, sym, ◌∙◌, ap, arith, inl, inr, ⊎_elim, slice_set, subst}
-use Rattle.std.specs.List.{slice_get}
+use Rattle.std.specs.List.{slice_get, refill}
 use Rattle.std.proofs.lemmas.Option.{same_Some, none-some}
 use Rattle.b67_model.specs.Lists.{Has}
 use Rattle.b67_layout.specs.Rows.{Differ}
@@ -38,3 +38,25 @@ pub map-slice_set : {A B : Type 0} (f : A → B) (xs : List A) (i : ℕ) (y : A)
 map-slice_set f [] i y = refl
 map-slice_set f (z ∷ zs) zero y = refl
 map-slice_set f (z ∷ zs) (suc i) y = ap (λ bs. f z ∷ bs) (map-slice_set f zs i y)
+
+pub mapped_at : {A B : Type 0} (f : A → B) (xs : List A) (i : ℕ) (y : B) → slice_get (map f xs) i ≡ Some y → (x : A) × (slice_get xs i ≡ Some x) × (f x ≡ y)
+mapped_at f [] i y e = absurd (none-some y e)
+mapped_at f (x ∷ xs) zero y e = (x, refl, same_Some (f x) y e)
+mapped_at f (x ∷ xs) (suc i) y e = mapped_at f xs i y e
+
+pub at_mapped : {A B : Type 0} (f : A → B) (xs : List A) (i : ℕ) (x : A) → slice_get xs i ≡ Some x → slice_get (map f xs) i ≡ Some (f x)
+at_mapped f [] i x e = absurd (none-some x e)
+at_mapped f (y ∷ ys) zero x e = ap Some (ap f (same_Some y x e))
+at_mapped f (y ∷ ys) (suc i) x e = at_mapped f ys i x e
+
+pub there : {A : Type 0} (xs : List A) (i : ℕ) → i < length xs → (x : A) × (slice_get xs i ≡ Some x)
+there [] i h = absurd (omega arith)
+there (x ∷ xs) zero h = (x, refl)
+there (x ∷ xs) (suc i) h = there xs i (omega arith)
+
+-- a list that was lent and comes back with its length
+pub came_back : {A : Type 0} (xs ws : List A) → length ws ≡ length xs → refill (length xs) xs ws ≡ ws
+came_back [] [] e = refl
+came_back [] (w ∷ ws) e = absurd (omega (arith, e))
+came_back (x ∷ xs) [] e = absurd (omega (arith, e))
+came_back (x ∷ xs) (w ∷ ws) e = ap (λ r. w ∷ r) (came_back xs ws (omega (arith, e)))

@@ -27,7 +27,7 @@ keyed-head : {A : Type 0} (key : A → ℕ) (y : A) (more : List A) → keyed ke
 keyed-head key y more = rw (eq-eqb (key y) (key y) refl) refl
 
 -- a job of a session in order is the first of its number, and a task the first of its number in its job
-numbered_low : (n : ℕ) (jobs : List Member) (m : Member) → NumberedFrom n jobs → Has jobs m → n ≤ m.setting.number
+pub numbered_low : (n : ℕ) (jobs : List Member) (m : Member) → NumberedFrom n jobs → Has jobs m → n ≤ m.setting.number
 numbered_low n [] m d h = absurd h
 numbered_low n (y ∷ more) m d (inl e) = let P : Member → Type 0 = λ z. n ≤ z.setting.number in subst P e (omega (arith, d.0))
 numbered_low n (y ∷ more) m d (inr h) = omega (arith, numbered_low (n + 1) more m d.1 h)
@@ -149,7 +149,7 @@ module _ (x : Storage) (core : List Tagged) (r : Regs) (marks : List ℕ) (plan 
 module _ (plan : Plan) (s : Session) (fit : RowsFit plan s.jobs) (small : plan.peak ≤ 120) (idle : plan.running ≡ 255)
     (rows : List TaskRow) (job_rows : List JobRow) (c : Counts) (shows : TablesShow plan s rows job_rows c) where
   -- every row says where its task goes on
-  goes_on : (m : Member) (t : Task) (y : TaskRow) → Has s.jobs m → Has m.course.job.tasks t → TaskShows plan m t y → (y.segment ≡ t.segment + 1) × (y.place ≡ t.place)
+  pub goes_on : (m : Member) (t : Task) (y : TaskRow) → Has s.jobs m → Has m.course.job.tasks t → TaskShows plan m t y → (y.segment ≡ t.segment + 1) × (y.place ≡ t.place)
   goes_on m t y inm int w =
       let apart : y.slot ≢ plan.running = λ e. omega (arith, e, idle, w.slot, slot_below plan s.jobs m t fit inm int) in
       (w.segment apart, w.place apart)
