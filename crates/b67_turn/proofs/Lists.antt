@@ -1,5 +1,5 @@
 -- Items of a list by their places.
-use Rattle.std.proofs.Common.{◌≡◌, ◌≢◌, ℕ, zero, suc, ◌+◌, ◌-◌, ◌<◌, ◌≤◌, List, [], ◌∷◌, length, map, Option, Some, None, refl, sym, ◌∙◌, ap, arith, inl, inr, ⊎_elim, slice_set, subst}
+use Rattle.std.proofs.Common.{◌≡◌, ℕ, zero, suc, ◌<◌, List, [], ◌∷◌, length, map, Some, refl, sym, ◌∙◌, ap, arith, inl, inr, slice_set, subst}
 use Rattle.std.specs.List.{slice_get, refill}
 use Rattle.std.proofs.lemmas.Option.{same_Some, none-some}
 use Rattle.b67_model.specs.Lists.{Has}

@@ -1,6 +1,6 @@
 //! The registers go from one task to another, and the rows of both tell where they go on.
 
-ghost use Rattle.std.specs.Prelude.{◌≡◌, ℕ, ◌<◌, List, length, map, Option, Some, slice_get, slice_set};
+ghost use Rattle.std.specs.Prelude.{◌≡◌, ◌≢◌, ℕ, ◌<◌, List, length, map, Option, Some, slice_get, slice_set};
 ghost use Rattle.b67_word.specs.Tagged.{Tagged};
 ghost use Rattle.b67_model.specs.State.{Task, Member};
 ghost use Rattle.b67_model.specs.Schedule.{Session};
@@ -10,6 +10,7 @@ ghost use Rattle.b67_layout.specs.Plan.{Plan};
 ghost use Rattle.b67_layout.specs.Session.{SessionHolds};
 ghost use Rattle.b67_switch.specs.Turns.{with_running, IsTurnOf};
 ghost use Rattle.b67_task.specs.declared.tables.TaskRow.{TaskRow};
+ghost use Rattle.b67_task.specs.declared.tables.Tasks.{Tasks};
 ghost use Rattle.b67_task.specs.Tables.{TasksShow, MachineStands};
 ghost use Rattle.b67_turn.specs.Standing.{HasRow, InUse, Rests};
 
@@ -34,6 +35,7 @@ fn pause(tasks: &mut Tasks, regs: &Regs)
     requires { InUse regs.now tasks.old }
     ensures rests { (x : Storage) (core : List Tagged) (marks : List ℕ) (plan : Plan) (s : Session) → IsInOrderButPlaces s
         → SessionHolds x core regs.now marks plan s → TasksShow plan s tasks.old → TasksShow (with_running plan 255) s tasks.new }
+    ensures rest { tasks.new ≡ record tasks.old { rows = tasks.new.rows; running = 255 } }
     ensures slots { map (λ (r : TaskRow). r.slot) tasks.new.rows.items ≡ map (λ (r : TaskRow). r.slot) tasks.old.rows.items }
 {
     if tasks.running == 255 {
@@ -69,7 +71,8 @@ pub fn switch_to(machine: &mut Machine, row: u8)
     ensures stands { (x : Storage) (told : Option (List (List ℕ))) (plan : Plan) (s : Session) (r : TaskRow) → IsInOrderButPlaces s
         → MachineStands x told machine.old plan s → slice_get machine.old.tasks.rows.items row ≡ Some r
         → MachineStands x told machine.new (with_running plan r.slot) s }
-    ensures running { machine.new.tasks.running ≡ row }
+    ensures tables { machine.new.tasks ≡ record machine.old.tasks { rows = machine.new.tasks.rows; running = row } }
+    ensures words { (i : ℕ) → i ≢ machine.old.cpu.regs.bosr → slice_get machine.new.cpu.core i ≡ slice_get machine.old.cpu.core i }
     ensures areas { machine.new.areas ≡ machine.old.areas }
     ensures sectors { machine.new.sectors ≡ machine.old.sectors }
 {

@@ -1,4 +1,4 @@
-use Rattle.std.proofs.Common.{◌≡◌, ◌∙◌, ℕ, length, ap, sym, subst, List, map}
+use Rattle.std.proofs.Common.{◌∙◌, ℕ, sym, subst, map}
 use Rattle.b67_layout.specs.Session.{SessionStands}
 use Rattle.b67_layout.specs.Rows.{TablesShow}
 use Rattle.b67_switch.specs.Turns.{with_running}

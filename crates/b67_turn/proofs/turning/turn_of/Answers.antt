@@ -1,4 +1,4 @@
-use Rattle.std.proofs.Common.{◌≡◌, ◌≤◌, ◌<◌, ◌∙◌, sym, ap, arith}
+use Rattle.std.proofs.Common.{ap, arith}
 use Rattle.b67_task.specs.declared.tables.TaskRow.{TaskRow}
 use Rattle.b67_turn.proofs.Lists.{there}
 use Rattle.b67_turn.proofs.Turns.{turn_known, seen_row, seen_one, seen_inside, seen_fits, seen_turn}
