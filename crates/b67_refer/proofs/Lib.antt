@@ -5,3 +5,7 @@ pub mod Bases
 pub mod Marks
 pub mod Chains
 pub mod Turns
+pub mod Rule
+pub mod Fixed
+pub mod Unders
+pub mod Founds
