@@ -148,7 +148,7 @@ module _ (core : List Tagged) (r : Regs) (a : Scene core r) where
           found = found;
           word = Rattle.b67_word.specs.Tagged.word 7 (2 ^ 19 + offset);
           there = a.holds.mcp.intrinsics offset low up;
-          stands = (refl, omega (arith, up));
+          stands = (refl, low, up);
         } in
         let F : Answer Word → Type 0 = λ y. CellMeets a q 0 offset (Ok offset) y in
         subst F (sym found) is

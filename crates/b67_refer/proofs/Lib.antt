@@ -9,3 +9,7 @@ pub mod Rule
 pub mod Fixed
 pub mod Unders
 pub mod Founds
+pub mod Copies
+pub mod Links
+pub mod Procs
+pub mod Names

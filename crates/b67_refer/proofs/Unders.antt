@@ -73,6 +73,13 @@ module _ (core : List Tagged) (r : Regs) (a : Scene core r) where
         is = b.top_is;
       }
 
+  pub seat_low : (f : ℕ) (n : NamesEntered (reach_of a.member.course.job a.task) f) (own : 1 < f) → height (seat core r a f n.standing n.among own).below < a.plan.size
+  seat_low f n own =
+      let b = seat core r a f n.standing n.among own in
+      let h = height-is a.plan a.member.setting.number a.member.course.job b.slot b.outer b.below in
+      let w = one_word (spot_in b.slot b.outer b.below) b.frame.standing in
+      omega (arith, h, w, b.part.low, b.part.room)
+
   pub high_address : (f : ℕ) → NamesEntered (reach_of a.member.course.job a.task) f → 1 < f → (a.plan.stacks ≤ frame_address a.plan a.member a.task f) × (frame_address a.plan a.member a.task f < 2 ^ 20)
   high_address f n own =
       let u = under f n own in
