@@ -1,0 +1,173 @@
+-- The environment of the running task, level by level.
+use Rattle.std.proofs.Common.{◌≡◌, ◌≢◌, ℕ, zero, suc, ◌+◌, ◌-◌, ◌<◌, ◌≤◌, List, [], ◌∷◌, map, Some, refl, sym, ◌∙◌, ap, arith, inl, inr, subst, length, slice_set, ◌⊎◌, ⊎_elim}
+use Rattle.std.specs.List.{slice_get}
+use Rattle.std.proofs.lemmas.Bool.{cases_eq}
+use Rattle.b67_core.proofs.Writes.{slice_get-set_same, slice_get-set_other}
+use Rattle.b67_word.specs.Tagged.{Tagged}
+use Rattle.b67_word.specs.declared.couples.Place.{Place}
+use Rattle.b67_ctl.specs.declared.registers.Regs.{Regs}
+use Rattle.b67_ctl.specs.declared.marks.Mscw.{Mscw}
+use Rattle.b67_ctl.specs.Layout.{mscw_word, IsMscw}
+use Rattle.b67_model.specs.Lists.{Has}
+use Rattle.b67_model.specs.State as State
+use Rattle.b67_model.specs.State.{Frame, Standing, Here, frame}
+use Rattle.b67_model.specs.Environment.{level_of_standing, level_of_frame, environment_of, running, running_from, running_level, outward, frame_at}
+use Rattle.b67_model.specs.InOrder.{Starts, Known, known_of, outer_of, reach_of, IsEntered, StackInOrder, ReturnsInOrder, IsSegment}
+use Rattle.b67_order.proofs.Members.{has_append_left, has_map}
+use Rattle.b67_stack.specs.Stacks as Stacks
+use Rattle.b67_stack.proofs.Tops.{level-small}
+use Rattle.b67_layout.specs.Plan.{Plan, slot_of, outer_spots, address_of}
+use Rattle.b67_layout.specs.Session.{frame_address, Shows}
+use Rattle.b67_layout.specs.Meets.{here}
+use Rattle.b67_layout.proofs.Frames.{level-is}
+use Rattle.b67_refer.specs.Scene.{Scene, IsShown, IsStackOf}
+use Rattle.b67_refer.proofs.Slots.{Whole, whole, registers}
+use Rattle.b67_refer.proofs.Seats.{has_task, order_of}
+use Rattle.b67_refer.proofs.Marks.{MarkOf, mark, frame_known}
+
+running_in : (P : Starts) (fs : List Frame) → StackInOrder P fs → fs ≢ [] → Has fs (running fs) × IsEntered (running fs).standing
+running_in P [] g some = absurd (some refl)
+running_in P (f ∷ below) g some = by f.standing refl g.0 (λ more. running_in P below g.1 more) where
+  by : (s : Standing) → f.standing ≡ s → ReturnsInOrder P s below → (below ≢ [] → Has below (running below) × IsEntered (running below).standing) → Has (f ∷ below) (running_from s f (running below)) × IsEntered (running_from s f (running below)).standing
+  by State.Marked e g under = let r = under g in (inr r.0, r.1)
+  by (State.Entered level environment back) e g under = (inl refl, rw e tt)
+
+-- the last link of a chain
+outward_last : (h : Here) (links : ℕ) (f : Frame) → outward h (suc links) f ≡ frame h (environment_of (outward h links f).standing)
+outward_last h zero f = refl
+outward_last h (suc links) f = outward_last h links (frame h (environment_of f.standing))
+
+module _ (core : List Tagged) (r : Regs) (a : Scene core r) where
+  -- where the task goes on is no part of its environment
+  outward_same : (q p : Place) (links : ℕ) (f : Frame) → outward (here a.member a.task q) links f ≡ outward (here a.member a.task p) links f
+  outward_same q p zero f = refl
+  outward_same q p (suc links) f = outward_same q p links (frame (here a.member a.task q) (environment_of f.standing))
+
+  pub frame_at_same : (q p : Place) (n : ℕ) → frame_at (here a.member a.task q) n ≡ frame_at (here a.member a.task p) n
+  frame_at_same q p n = outward_same q p (running_level (here a.member a.task q) - n) (running a.task.frames)
+
+  abbrev pub level : ℕ
+  level = level_of_frame (running a.task.frames)
+
+  module _ (q : Place) where
+    -- the frame of a level of the environment
+    pub record Level (n : ℕ) (f : Frame) : Type 0 where
+      pub among : Has (reach_of a.member.course.job a.task) (known_of f)
+      pub entered : IsEntered f.standing
+      pub level : level_of_frame f ≡ n
+
+    pub run_level : Level level (running a.task.frames)
+    run_level =
+        let o = order_of core r a a.task (has_task core r a) in
+        let b = running_in (IsSegment a.member.setting) a.task.frames o.returns o.some in
+        record { among = has_append_left (map known_of a.task.frames) (outer_of a.member.course.job a.task) (known_of (running a.task.frames)) (has_map known_of a.task.frames (running a.task.frames) b.0); entered = b.1; level = refl }
+
+    next_level : (n : ℕ) (f : Frame) → Level (suc n) f → Level n (frame (here a.member a.task q) (environment_of f.standing))
+    next_level n f b =
+        let m = mark core r a f.identity f.standing b.among b.entered (omega (arith, b.level)) in
+        let k = frame_known core r a q (environment_of f.standing) m.standing m.among in
+        record {
+          among = subst (Has (reach_of a.member.course.job a.task)) (sym k) m.among;
+          entered = subst (λ (z : Known). IsEntered z.1) (sym k) m.entered;
+          level = ap (λ (z : Known). level_of_standing z.1) k ∙ (let e = m.level_below in let d = b.level in omega (arith, e, d));
+        }
+
+    level_out : (links n : ℕ) (f : Frame) → Level (n + links) f → Level n (outward (here a.member a.task q) links f)
+    level_out zero n f b = subst (λ (i : ℕ). Level i f) (let e : n + 0 ≡ n = omega arith in e) b
+    level_out (suc links) n f b = level_out links n (frame (here a.member a.task q) (environment_of f.standing)) (next_level (n + links) f (subst (λ (i : ℕ). Level i f) (let e : n + suc links ≡ suc (n + links) = omega arith in e) b))
+
+    pub level_at : (n : ℕ) → n ≤ level → Level n (frame_at (here a.member a.task q) n)
+    level_at n up = level_out (level - n) n (running a.task.frames) (subst (λ (i : ℕ). Level i (running a.task.frames)) (let e : level ≡ n + (level - n) = omega arith in e) run_level)
+
+    frame_at_next : (n : ℕ) → suc n ≤ level → frame_at (here a.member a.task q) n ≡ frame (here a.member a.task q) (environment_of (frame_at (here a.member a.task q) (suc n)).standing)
+    frame_at_next n up =
+        let e : level - n ≡ suc (level - suc n) = omega arith in
+        ap (λ (i : ℕ). outward (here a.member a.task q) i (running a.task.frames)) e ∙ outward_last (here a.member a.task q) (level - suc n) (running a.task.frames)
+
+    -- the address of the frame of a level
+    abbrev pub address_at : ℕ → ℕ
+    address_at n = frame_address a.plan a.member a.task (frame_at (here a.member a.task q) n).identity
+
+    pub top_address : address_at level ≡ frame_address a.plan a.member a.task (running a.task.frames).identity
+    top_address = let e : level - level ≡ 0 = omega arith in ap (λ (i : ℕ). frame_address a.plan a.member a.task (outward (here a.member a.task q) i (running a.task.frames)).identity) e
+
+    pub mark_of_level : (n : ℕ) → suc n ≤ level → MarkOf core r a (frame_at (here a.member a.task q) (suc n)).identity (frame_at (here a.member a.task q) (suc n)).standing
+    mark_of_level n up =
+        let b = level_at (suc n) up in
+        mark core r a (frame_at (here a.member a.task q) (suc n)).identity (frame_at (here a.member a.task q) (suc n)).standing b.among b.entered (omega (arith, b.level))
+
+    -- the mark at a level names the frame of the level below
+    pub next_address : (n : ℕ) (up : suc n ≤ level) → address_of a.plan (let s : Stacks.Spot = record { stack = (mark_of_level n up).mark.env_stack; disp = (mark_of_level n up).mark.env_disp } in s) ≡ address_at n
+    next_address n up =
+        let m = mark_of_level n up in
+        let k = frame_known core r a q (environment_of (frame_at (here a.member a.task q) (suc n)).standing) m.standing m.among in
+        m.address ∙ ap (frame_address a.plan a.member a.task) (sym (ap (λ (z : Known). z.0) k) ∙ ap (λ (f : Frame). f.identity) (sym (frame_at_next n up)))
+
+  -- the level in the registers
+  pub level_is : r.level ≡ level
+  level_is =
+      let g = registers core r a in
+      g.level ∙ level-is a.plan a.member.setting.number a.member.course.job (slot_of a.plan a.member.setting.number a.task.number) (outer_spots a.plan a.member.setting.number a.member.course.job a.task.critical a.task.parents) a.task.frames
+
+  pub level_small : level < 32
+  level_small =
+      let w = whole core r a a.task a.running.task in
+      let e = level_is in
+      let g = registers core r a in
+      omega (arith, e, g.level, level-small _ w.part.heads)
+
+  -- the display is written down to a level, and at is the address of that level's frame
+  pub record Written (at n : ℕ) (display : List ℕ) : Type 0 where
+    pub low : n ≤ level
+    pub address : at ≡ address_at a.task.place n
+    pub done : (k : ℕ) → n < k → k ≤ level → slice_get display k ≡ Some (address_at a.task.place k)
+
+  pub written_start : (at : ℕ) (display : List ℕ) → at ≡ frame_address a.plan a.member a.task (running a.task.frames).identity → Written at r.level display
+  written_start at display e = record {
+    low = omega (arith, level_is);
+    address = e ∙ sym (top_address a.task.place) ∙ ap (address_at a.task.place) (sym level_is);
+    done = λ k low up. absurd (omega (arith, level_is, low, up));
+  }
+
+  pub written_more : (at n : ℕ) (display : List ℕ) → Written at n display → length display ≡ 32 → (k : ℕ) → n ≤ k → k ≤ level → slice_get (slice_set display n at) k ≡ Some (address_at a.task.place k)
+  written_more at n display w len k low up = ⊎_elim
+      (λ (e : k ≡ n). rw e (slice_get-set_same display n at (omega (arith, w.low, level_small, len)) ∙ ap Some w.address))
+      (λ (e : k ≡ n → ⊥). slice_get-set_other display n k at e ∙ w.done k (omega (arith, e)) up)
+      (cases_eq k n)
+
+  pub written_end : (at : ℕ) (display : List ℕ) → Written at 0 display → length display ≡ 32 → IsShown a (slice_set display 0 at)
+  written_end at display w len k up = written_more at 0 display w len k (omega arith) up
+
+  -- what was read at an address
+  abbrev pub Reads : ℕ → Mscw → Type 0
+  Reads at m = (k : Mscw) → IsMscw k → slice_get core at ≡ Some (mscw_word k) → m ≡ k
+
+  pub written_mark : (at n : ℕ) (display : List ℕ) → Written at (suc n) display → (m : Mscw) × IsMscw m × (slice_get core at ≡ Some (mscw_word m)) × IsStackOf a m.env_stack × (address_of a.plan (let s : Stacks.Spot = record { stack = m.env_stack; disp = m.env_disp } in s) ≡ address_at a.task.place n)
+  written_mark at n display w =
+      let m = mark_of_level a.task.place n w.low in
+      (m.mark, m.fits, ap (slice_get core) w.address ∙ m.there, m.stack, next_address a.task.place n w.low)
+
+  pub written_next : (at n down : ℕ) (display : List ℕ) → Written at (suc n) display → length display ≡ 32 → down ≡ address_at a.task.place n → Written down n (slice_set display (suc n) at)
+  written_next at n down display w len e = record {
+    low = omega (arith, w.low);
+    address = e;
+    done = λ k low up. written_more at (suc n) display w len k (omega arith) up;
+  }
+
+  -- one turn: the mark at the address of a level above 0, and what is written and found next
+  pub turn_mark : (at n : ℕ) (display : List ℕ) → Written at n display → n ≢ 0 → (m : Mscw) × IsMscw m × (slice_get core at ≡ Some (mscw_word m)) × IsStackOf a m.env_stack × (address_of a.plan (let s : Stacks.Spot = record { stack = m.env_stack; disp = m.env_disp } in s) ≡ address_at a.task.place (n - 1))
+  turn_mark at n display w some = written_mark at (n - 1) display (subst (λ (i : ℕ). Written at i display) (let e : n ≡ suc (n - 1) = omega (arith, some) in e) w)
+
+  pub turn_down : (at n : ℕ) (display : List ℕ) (m : Mscw) → Written at n display → n ≢ 0 → Reads at m → IsStackOf a m.env_stack × (address_of a.plan (let s : Stacks.Spot = record { stack = m.env_stack; disp = m.env_disp } in s) ≡ address_at a.task.place (n - 1))
+  turn_down at n display m w some read =
+      let k = turn_mark at n display w some in
+      let P : Mscw → Type 0 = λ z. IsStackOf a z.env_stack × (address_of a.plan (let s : Stacks.Spot = record { stack = z.env_stack; disp = z.env_disp } in s) ≡ address_at a.task.place (n - 1)) in
+      subst P (sym (read k.0 k.1 k.2)) (k.3, k.4)
+
+  pub turn_next : (at n down : ℕ) (display : List ℕ) → Written at n display → n ≢ 0 → length display ≡ 32 → down ≡ address_at a.task.place (n - 1) → Written down (n - 1) (slice_set display n at)
+  turn_next at n down display w some len d =
+      let e : n ≡ suc (n - 1) = omega (arith, some) in
+      subst (λ (i : ℕ). Written down (n - 1) (slice_set display i at)) (sym e) (written_next at (n - 1) down display (subst (λ (i : ℕ). Written at i display) e w) len d)
+
+  pub turn_end : (at n : ℕ) (display : List ℕ) → Written at n display → n ≡ 0 → length display ≡ 32 → IsShown a (slice_set display n at)
+  turn_end at n display w none len = subst (λ (i : ℕ). IsShown a (slice_set display i at)) (sym none) (written_end at display (subst (λ (i : ℕ). Written at i display) none w) len)

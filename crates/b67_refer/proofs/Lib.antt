@@ -1,0 +1,15 @@
+pub mod Scenes
+pub mod Slots
+pub mod Seats
+pub mod Bases
+pub mod Marks
+pub mod Chains
+pub mod Turns
+pub mod Rule
+pub mod Fixed
+pub mod Unders
+pub mod Founds
+pub mod Copies
+pub mod Links
+pub mod Procs
+pub mod Names

@@ -1,0 +1,14 @@
+use Rattle.std.proofs.Common.{◌≡◌, ◌<◌, length}
+use Rattle.b67_refer.specs.Scene.{Scene}
+use Rattle.b67_refer.proofs.Chains.{Written}
+use Rattle.b67_refer.proofs.environment.rebuild.Given as goal
+
+abbrev pub invariant-out : goal.invariant-out
+invariant-out l = record {
+  len : length l.display ≡ 32;
+  high : l.level < 32;
+  written : (a : Scene l.core l.regs) → Written l.core l.regs a l.at l.level l.display;
+}
+
+abbrev pub decreases-out : goal.decreases-out
+decreases-out l = l.level

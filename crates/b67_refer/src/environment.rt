@@ -1,0 +1,81 @@
+//! The running environment, and the display that shows it.
+
+ghost use Rattle.std.specs.Prelude.{◌≡◌, ℕ, ◌<◌, ◌^◌, Some, slice_get};
+ghost use Rattle.b67_ctl.specs.declared.marks.Mscw.{Mscw};
+ghost use Rattle.b67_ctl.specs.Layout.{mscw_word, IsMscw};
+ghost use Rattle.b67_model.specs.Environment.{running as running_frame};
+ghost use Rattle.b67_stack.specs.Stacks.{Spot};
+ghost use Rattle.b67_layout.specs.Plan.{base_of as base_of_stack, address_of as address_of_spot};
+ghost use Rattle.b67_layout.specs.Session.{frame_address};
+ghost use Rattle.b67_refer.specs.Scene.{Scene, IsShown, IsStackOf};
+
+use b67_core::Core;
+use b67_ctl::{Mscw, Regs};
+
+/// The mark at an address.
+fn mark_at(core: &Core, at: u32) -> Mscw
+    requires { (m : Mscw) × IsMscw m × (slice_get core.now at ≡ Some (mscw_word m)) }
+    ensures { (m : Mscw) → IsMscw m → slice_get core.now at ≡ Some (mscw_word m) → result ≡ m }
+{
+    match Mscw::from_word(core.get(at)) {
+        Some(m) => m,
+        None => unreachable!(),
+    }
+}
+
+/// The core address of a stack's base word: a slot's, the running job's dictionary's or the MCP's.
+fn base_of(core: &Core, regs: &Regs, stack: u16) -> u32
+    requires { (a : Scene core.now regs.now) × IsStackOf a stack }
+    ensures value { (a : Scene core.now regs.now) → IsStackOf a stack → result ≡ base_of_stack a.plan stack }
+    ensures small { result < 2 ^ 20 }
+{
+    if stack < 120 {
+        regs.stacks + u32::from(stack) * u32::from(regs.stack_size)
+    } else if stack < 136 {
+        regs.dict
+    } else {
+        0
+    }
+}
+
+/// The core address of a displacement in a stack.
+pub(crate) fn address_of(core: &Core, regs: &Regs, stack: u16, disp: u16) -> u32
+    requires { (a : Scene core.now regs.now) × IsStackOf a stack }
+    ensures { (a : Scene core.now regs.now) → IsStackOf a stack → result ≡ address_of_spot a.plan (record { stack = stack; disp = disp }) }
+{
+    base_of(core, regs, stack) + u32::from(disp)
+}
+
+/// The address of the running activation record's mark.
+fn running(core: &Core, regs: &Regs) -> u32
+    requires { Scene core.now regs.now }
+    ensures { (a : Scene core.now regs.now) → result ≡ frame_address a.plan a.member a.task (running_frame a.task.frames).identity }
+{
+    let mut at = regs.f;
+    'down: loop {
+        let m = mark_at(core, at);
+        if m.entered {
+            return at;
+        }
+        at -= u32::from(m.back);
+    }
+}
+
+/// Writes the display: at each level up to the running one, the address of the activation record that the running
+/// environment has there.
+pub fn rebuild(core: &Core, regs: &Regs, display: &mut [u32; 32])
+    requires { Scene core.now regs.now }
+    ensures { (a : Scene core.now regs.now) → IsShown a display.new }
+{
+    let mut at = running(core, regs);
+    let mut level = regs.level;
+    'out: loop {
+        display[level as usize] = at;
+        if level == 0 {
+            return;
+        }
+        let m = mark_at(core, at);
+        at = address_of(core, regs, m.env_stack, m.env_disp);
+        level -= 1;
+    }
+}
