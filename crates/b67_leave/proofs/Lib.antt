@@ -1,3 +1,5 @@
+pub mod Replacing
+pub mod Returning
 pub mod Sorted
 pub mod Leaving
 pub mod Exits
