@@ -1,3 +1,5 @@
+pub mod Refusals
+pub mod Retns
 pub mod Replacing
 pub mod Returning
 pub mod Sorted
