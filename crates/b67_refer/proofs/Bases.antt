@@ -14,7 +14,7 @@ use Rattle.b67_layout.proofs.Others.{keyed-has}
 use Rattle.b67_refer.specs.Scene.{Scene, IsStackOf}
 
 module _ (core : List Tagged) (r : Regs) (a : Scene core r) where
-  abbrev pictured : Picture
+  abbrev pub pictured : Picture
   pictured = with_things a.left (picture a.plan a.session.jobs)
 
   -- a slot lies inside core

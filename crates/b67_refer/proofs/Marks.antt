@@ -24,7 +24,8 @@ use Rattle.b67_word.specs.declared.couples.Place.{Place}
 use Rattle.b67_stack.specs.Stacks as Stacks
 use Rattle.b67_layout.specs.Layout.{head}
 use Rattle.b67_refer.specs.Scene.{Scene, IsStackOf}
-use Rattle.b67_refer.proofs.Slots.{Part, TopIs, mark_in, part_mark, base, acts}
+use Rattle.b67_refer.specs.Cells.{IsTop}
+use Rattle.b67_refer.proofs.Slots.{Part, mark_in, part_mark, base, acts}
 use Rattle.b67_refer.proofs.Seats.{spot_low, from_has, Seat, seat, has_task, order_of}
 
 module _ (core : List Tagged) (r : Regs) (a : Scene core r) where

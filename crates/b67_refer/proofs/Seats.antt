@@ -13,7 +13,8 @@ use Rattle.b67_order.proofs.Looks.{IsFrame, Line, line_of, above_one, found_fram
 use Rattle.b67_order.proofs.Replaced.{numbers_append}
 use Rattle.b67_layout.specs.Plan.{Plan, slot_of, spot_in, base_spot, outer_spots, spots}
 use Rattle.b67_refer.specs.Scene.{Scene, MemberInOrder, number_in, job_in}
-use Rattle.b67_refer.proofs.Slots.{Part, TopIs, drop, part_from, Whole, whole}
+use Rattle.b67_refer.specs.Cells.{IsTop}
+use Rattle.b67_refer.proofs.Slots.{Part, drop, part_from, Whole, whole}
 
 -- what other frames' spots look like: frames whose identities are above one don't hide the dictionary and the MCP
 pub spot_low : (k : ℕ) (outer : ℕ → Spot) (fs : List Frame) (id : ℕ) → id ≤ 1 → ((f : Frame) → Has fs f → 1 < f.identity) → spot_in k outer fs id ≡ outer id
@@ -42,7 +43,7 @@ module _ (core : List Tagged) (r : Regs) (a : Scene core r) where
     pub stands : frame.standing ≡ s
     pub spot : view id ≡ record { stack = slot; disp = height below }
     pub part : Part core r a slot outer top (frame ∷ below)
-    pub top_is : TopIs core r a slot top
+    pub top_is : IsTop a slot top
     pub sees : (g : ℕ) → Has (known_numbers (map known_of (frame ∷ below) ++ known)) g → view g ≡ spot_in slot outer (frame ∷ below) g
     pub among : (k : Known) → Has (map known_of (frame ∷ below) ++ known) k → Has reach k
     pub order : FramesInOrder (IsSegment a.member.setting) a.member.course.job.arrays known (frame ∷ below)
@@ -77,7 +78,7 @@ module _ (core : List Tagged) (r : Regs) (a : Scene core r) where
       }
 
   -- among frames of one stack
-  find_in : (k : ℕ) (outer : ℕ → Spot) (known : List Known) (top bound : ℕ) (fs : List Frame) → Part core r a k outer top fs → TopIs core r a k top
+  find_in : (k : ℕ) (outer : ℕ → Spot) (known : List Known) (top bound : ℕ) (fs : List Frame) → Part core r a k outer top fs → IsTop a k top
       → FramesInOrder (IsSegment a.member.setting) a.member.course.job.arrays known fs → ((f : Frame) → Has fs f → IsFrame a.member.course.job f) → Falls bound (known_numbers (map known_of fs ++ known))
       → (id : ℕ) (s : Standing) → Has (map known_of fs) (id, s) → Seat (spot_in k outer fs) (map known_of fs ++ known) id s
   find_in k outer known top bound [] p t o live falls id s h = absurd h
@@ -134,7 +135,7 @@ module _ (core : List Tagged) (r : Regs) (a : Scene core r) where
       rw ne (apart f.identity fs known g falls.1 h k outer)
 
   -- frames of one stack over an outer reach
-  find_both : (k : ℕ) (outer : ℕ → Spot) (known : List Known) (top bound : ℕ) (fs : List Frame) → Part core r a k outer top fs → TopIs core r a k top
+  find_both : (k : ℕ) (outer : ℕ → Spot) (known : List Known) (top bound : ℕ) (fs : List Frame) → Part core r a k outer top fs → IsTop a k top
       → FramesInOrder (IsSegment a.member.setting) a.member.course.job.arrays known fs → ((f : Frame) → Has fs f → IsFrame a.member.course.job f) → Falls bound (known_numbers (map known_of fs ++ known))
       → (id : ℕ) (s : Standing) → (Has known (id, s) → Seat outer known id s) → Has (map known_of fs ++ known) (id, s) → Seat (spot_in k outer fs) (map known_of fs ++ known) id s
   find_both k outer known top bound fs p t o live falls id s rest h = ⊎_elim

@@ -27,7 +27,8 @@ use Rattle.b67_layout.specs.Session.{RowsFit, with_things}
 use Rattle.b67_layout.proofs.Others.{keyed-has}
 use Rattle.b67_layout.proofs.Rows.{finds, task_row}
 use Rattle.b67_layout.proofs.Frames.{height-is}
-use Rattle.b67_refer.specs.Scene.{Scene, number_in, job_in}
+use Rattle.b67_refer.specs.Scene.{Scene}
+use Rattle.b67_refer.specs.Cells.{IsTop}
 
 -- the slot of a live task, by its number
 pub live_slot : (plan : Plan) (jobs : List Member) (m : Member) (u : Task) → RowsFit plan jobs → keyed number_of m.setting.number jobs ≡ Some m → keyed (λ (v : Task). v.number) u.number m.course.job.tasks ≡ Some u
@@ -83,11 +84,6 @@ module _ (core : List Tagged) (r : Regs) (a : Scene core r) where
     pub room : top < base k + a.plan.size
     pub above : (base k + high (acts k outer fs) ≡ top) ⊎ ((w : Tagged) × (slice_get core (suc (base k) + high (acts k outer fs)) ≡ Some w) × (w.tag ≡ 3))
 
-  -- what registers or the base word say of the top
-  pub record TopIs (k top : ℕ) : Type 0 where
-    pub used : k < a.plan.peak
-    pub by : ((r.slot ≡ k) × (r.s ≡ top)) ⊎ ((r.slot ≢ k) × ((w : Toscw) × IsToscw w × (slice_get core (base k) ≡ Some (toscw_word w)) × (base k + w.s ≡ top)))
-
   -- the frames below
   pub drop : (k : ℕ) (outer : ℕ → Spot) (top : ℕ) (f : Frame) (fs : List Frame) → Part k outer top (f ∷ fs) → Part k outer top fs
   drop k outer top f fs p =
@@ -123,7 +119,7 @@ module _ (core : List Tagged) (r : Regs) (a : Scene core r) where
   -- all frames of a live task
   pub record Whole (u : Task) : Type 0 where
     pub top : ℕ
-    pub top_is : TopIs (slot_of a.plan a.member.setting.number u.number) top
+    pub top_is : IsTop a (slot_of a.plan a.member.setting.number u.number) top
     pub part : Part (slot_of a.plan a.member.setting.number u.number) (outer_spots a.plan a.member.setting.number a.member.course.job u.critical u.parents) top u.frames
 
   abbrev whole_picture : Picture
@@ -132,7 +128,7 @@ module _ (core : List Tagged) (r : Regs) (a : Scene core r) where
   by_slot : (k : ℕ) (stack : List Activation) (b : Bool) → k < a.plan.peak → (let y = if b then Running stack else Waiting stack in
       SlotStands core r (with_things a.left (picture a.plan a.session.jobs)) k y → SlotFits (with_things a.left (picture a.plan a.session.jobs)) k y
       → Lie (Fits a.storage.held) core (suc (base k)) (words k (stack_of y))
-      → IsStack a.plan.size stack × Lie (Fits a.storage.held) core (suc (base k)) (words k stack) × TopIs k (base k + high stack))
+      → IsStack a.plan.size stack × Lie (Fits a.storage.held) core (suc (base k)) (words k stack) × IsTop a k (base k + high stack))
   by_slot k stack true used s f l = (f.0, l, record { used = used; by = inl (s.slot, s.top) })
   by_slot k stack false used s f l = (f.0, l, record { used = used; by = inr (s.0, (toscw_of stack, toscw_fits, s.1, refl)) }) where
     toscw_fits : IsToscw (toscw_of stack)

@@ -18,7 +18,8 @@ use Rattle.b67_layout.specs.Layout.{head}
 use Rattle.b67_layout.specs.Session.{frame_address}
 use Rattle.b67_layout.proofs.Frames.{height-is, size-is}
 use Rattle.b67_refer.specs.Scene.{Scene}
-use Rattle.b67_refer.proofs.Slots.{Part, TopIs, Whole, whole, drop, base, acts, mark_in, part_mark, registers}
+use Rattle.b67_refer.specs.Cells.{IsTop}
+use Rattle.b67_refer.proofs.Slots.{Part, Whole, whole, drop, base, acts, mark_in, part_mark, registers}
 use Rattle.b67_refer.proofs.Seats.{has_task, order_of}
 use Rattle.b67_refer.proofs.Marks.{slot_address}
 use Rattle.b67_refer.proofs.Chains.{Reads}
@@ -49,7 +50,7 @@ module _ (core : List Tagged) (r : Regs) (a : Scene core r) where
     pub frame : Frame
     pub below : List Frame
     pub part : Part core r a (slot_of a.plan a.member.setting.number a.task.number) (outer_spots a.plan a.member.setting.number a.member.course.job a.task.critical a.task.parents) top (frame ∷ below)
-    pub top_is : TopIs core r a (slot_of a.plan a.member.setting.number a.task.number) top
+    pub top_is : IsTop a (slot_of a.plan a.member.setting.number a.task.number) top
     pub at_is : at ≡ base core r a (slot_of a.plan a.member.setting.number a.task.number) + height below
     pub same : running (frame ∷ below) ≡ running a.task.frames
     pub sees : (g : ℕ) → Has (known_numbers (map known_of (frame ∷ below) ++ outer_of a.member.course.job a.task)) g

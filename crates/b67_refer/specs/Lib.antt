@@ -1,1 +1,4 @@
 pub mod Scene
+pub mod Cells
+pub mod Ends
+
