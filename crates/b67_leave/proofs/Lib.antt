@@ -1,3 +1,4 @@
+pub mod CopyRefusals
 pub mod Refusals
 pub mod Retns
 pub mod Replacing

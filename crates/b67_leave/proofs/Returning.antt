@@ -82,7 +82,7 @@ module _ (job : Job) (id : ℕ) where
   may_push plan j spot things shapes (Words.Segment number) copies h e = tt
 
   -- and its array stays
-  found_array : (reach : List Known) (a index : ℕ) (n : NamesArray job.arrays reach a index) → Falls job.next_array (map (λ (b : Array). b.identity) job.arrays) → array job a ≡ n.item
+  pub found_array : (reach : List Known) (a index : ℕ) (n : NamesArray job.arrays reach a index) → Falls job.next_array (map (λ (b : Array). b.identity) job.arrays) → array job a ≡ n.item
   found_array reach a index n falls =
       ap (λ (o : Option Array). unwrap_or o no_array) (ap (λ (i : ℕ). keyed (λ (b : Array). b.identity) i job.arrays) (sym n.named) ∙ keyed_falls (λ (b : Array). b.identity) job.next_array job.arrays n.item falls n.live)
 

@@ -15,7 +15,7 @@ ghost use Rattle.b67_leave.specs.Left.{MayReturn, caller_regs};
 ghost use Rattle.b67_leave.specs.Words.{IsTopWord, Refuses};
 
 use b67_ctl::{DataDesc, Mscw, Rcw, Regs, Sirw};
-use b67_refer::rebuild;
+use b67_refer::{owner, rebuild};
 use b67_stack::{Cpu, Step};
 use b67_word::{Fault, Word};
 
@@ -87,4 +87,29 @@ fn reference_refusal(cpu: &Cpu, word: Word) -> Option<Fault>
             }
         }
     }
+}
+
+/// Why a data descriptor at the top of the stack may not be returned: an original never moves, and a copy of an array of
+/// the top activation record would outlive it.
+fn copy_refusal(cpu: &Cpu, word: Word) -> Option<Fault>
+    requires run { (r : RunsSome cpu.now) × (v : Words.Word) × IsTopWord r.storage r.plan r.member r.task cpu.now v word }
+    requires tag { word.tag ≡ 5 }
+    ensures { ForEach cpu.now (λ x plan s m t. (v : Words.Word) → IsTopWord x plan m t cpu.now v word
+        → Refuses result v (rows.returnable m.course.job (top t.frames).identity v)) }
+{
+    let d = match DataDesc::from_word(word) {
+        Some(d) => d,
+        None => unreachable!(),
+    };
+    if !d.copy {
+        return Some(Fault::InvalidOperand);
+    }
+    let home = owner(&cpu.core, d);
+    if home <= cpu.regs.f {
+        return None;
+    }
+    if home > cpu.regs.s {
+        return None;
+    }
+    Some(Fault::Uplevel)
 }
