@@ -33,24 +33,11 @@ use Rattle.b67_entering.proofs.Conditions.{Shows-condition}
 use Rattle.b67_leaving.proofs.Nowhere.{activations-same}
 use Rattle.b67_leaving.proofs.Leaves.{Leaver, task_at, may_leave, below-same, Frames-below, new_member, new_task, runs_after, holds_after, for_running_after}
 use Rattle.b67_leaving.proofs.Orders.{left_ready}
-use Rattle.b67_leave.specs.Left.{MayReturn, caller_regs}
+use Rattle.b67_leave.specs.Left.{MayReturn, caller_regs, Returns}
 use Rattle.b67_leave.proofs.Exits.{job_left, exit_left}
 
 pub some_first : {A : Type 0} (x : A) (xs : List A) → x ∷ xs ≢ []
 some_first x xs e = cc
-
--- the task's top frame is entered with a return to others, and no live task depends on it
-pub record Returns (m : Member) (t : Task) : Type 0 where
-  pub f : Frame
-  pub next : Frame
-  pub more : List Frame
-  pub level : ℕ
-  pub environment : ℕ
-  pub back : Return
-  pub frames : t.frames ≡ f ∷ next ∷ more
-  pub entered : f.standing ≡ State.Entered level environment (Some back)
-  pub starts : IsSegment m.setting back.segment (level_of_frame (running (next ∷ more))) back.place
-  pub free : is_critical m.course.job f.identity ≡ false
 
 module _ (x : Storage) (old : Cpu) (plan : Plan) (s : Session) (m : Member) (t : Task) (o : IsInOrderButPlaces s) (h : SessionStands x old plan s) (runs : IsRunning plan s.jobs m t) (a : Returns m t) where
   pub may : Leaver plan s m t a.f (a.next ∷ a.more)

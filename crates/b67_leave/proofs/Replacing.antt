@@ -2,12 +2,12 @@
 use Rattle.std.proofs.Common.{◌≡◌, ◌≢◌, ℕ, ◌+◌, ◌<◌, ◌≤◌, List, [], ◌∷◌, ◌++◌, map, Option, Some, None, Ok, refl, sym, ◌∙◌, ap, arith, Bool, true, false, inl, inr, ◌⊎◌, subst, slice_set}
 use Rattle.std.specs.List.{slice_get, AllByRecursion}
 use Rattle.std.proofs.lemmas.Bool.{cases_eq}
-use Rattle.b67_word.specs.Tagged.{Tagged}
+use Rattle.b67_word.specs.Tagged.{Tagged, word}
 use Rattle.b67_word.specs.declared.couples.Place.{Place}
 use Rattle.b67_ctl.specs.declared.registers.Regs.{Regs}
 use Rattle.b67_core.proofs.Writes.{slice_get-set_other}
 use Rattle.b67_model.specs.Lists.{Has}
-use Rattle.b67_model.specs.Words.{Word}
+use Rattle.b67_model.specs.Words.{Word, Operand}
 use Rattle.b67_model.specs.State.{Return, Frame, Condition, Ready, Task, Job, Course, Member, height, top, with_top_cells, with_task}
 use Rattle.b67_model.specs.Entry.{returnable}
 use Rattle.b67_model.specs.Steps.{is_critical, without_arrays_of}
@@ -35,17 +35,13 @@ use Rattle.b67_layout.proofs.Fresh.{fresh, running_in_order}
 use Rattle.b67_layout.proofs.Starts.{slot_is}
 use Rattle.b67_leaving.proofs.Nowhere.{SameArray, SameArrays, activations-same}
 use Rattle.b67_leaving.proofs.Slots.{IsDependedOn}
-use Rattle.b67_leaving.proofs.Returned.{Stands-returned, size_entered}
+use Rattle.b67_leaving.proofs.Returned.{Stands-returned, size_entered, fits_anywhere}
+use Rattle.b67_leaving.proofs.Things.{others}
 use Rattle.b67_leaving.proofs.Leaves.{Leaver, task_at, below-same, Frames, Frames-below, holds_after, runs_after, for_running_after}
-use Rattle.b67_leave.specs.Left.{caller_regs}
-use Rattle.b67_leave.specs.Words.{IsTopWord}
-use Rattle.b67_leave.proofs.Leaving.{Returns, may, outer, under, on_top, on_stack, may_return, regs_left, job_at, member_at, task_left, shown_left}
+use Rattle.b67_leave.specs.Left.{caller_regs, Returns}
+use Rattle.b67_leave.specs.Words.{IsTopWord, ReturnsWord}
+use Rattle.b67_leave.proofs.Leaving.{may, outer, under, on_top, on_stack, may_return, regs_left, job_at, member_at, task_left, shown_left}
 use Rattle.b67_leave.proofs.Returning.{shape_below, may_push, array_kept}
-
--- the top word and the frame that is left with it
-pub record ReturnsWord (x : Storage) (plan : Plan) (m : Member) (t : Task) (cpu : Cpu) (a : Returns m t) (v : Word) (w : Tagged) : Type 0 where
-  pub word : IsTopWord x plan m t cpu v w
-  pub passes : returnable m.course.job a.f.identity v ≡ Ok v
 
 module _ (x : Storage) (old : Cpu) (plan : Plan) (s : Session) (m : Member) (t : Task) (o : IsInOrderButPlaces s) (h : SessionStands x old plan s) (runs : IsRunning plan s.jobs m t) (a : Returns m t) where
   -- the frames with words on the caller's
@@ -103,6 +99,22 @@ module _ (x : Storage) (old : Cpu) (plan : Plan) (s : Session) (m : Member) (t :
           same = λ c k out id ne. seen-with (a.next ∷ a.more) cells c k out id;
         }
 
+  stack_fits : IsStack plan.size (on_top x old plan s m t o h runs a ∷ under x old plan s m t o h runs a) × CopiesName (picture plan s.jobs).things (words old.regs.slot (on_top x old plan s m t o h runs a ∷ under x old plan s m t o h runs a))
+  stack_fits = running_fits x old.core old.regs (picture plan s.jobs) old.regs.slot (on_top x old plan s m t o h runs a ∷ under x old plan s m t o h runs a) h.holds.memory (on_stack x old plan s m t o h runs a)
+
+  -- the shape of a word on the caller's frame
+  abbrev pub new_shape : Word → Shape
+  new_shape v = shape plan m.setting.number m.course.job (spot_in plan.running (outer x old plan s m t o h runs a) (a.next ∷ a.more)) v
+
+  -- a word that may be put there, and the word of core that stands for it
+  pub record Puts (v : Word) (w : Tagged) : Type 0 where
+    pub fits : (i : ℕ) → Fits x.held (new_shape v) i w
+    pub may : MayPush (picture plan s.jobs).things (new_shape v)
+    pub same : (new : Job) → new.arrays ≡ others a.f.identity m.course.job.arrays → SameArray new m.course.job v
+
+  pub puts_operand : (bits : ℕ) → Puts (Operand bits) (word 0 bits)
+  puts_operand bits = record { fits = λ i. (refl, λ e. omega (arith, e)); may = tt; same = λ new is. tt }
+
   module _ (v : Word) (w : Tagged) (b : ReturnsWord x plan m t old a v w) where
     -- the frames of the word are the frames that were found
     frame_is : b.word.frame ≡ a.f
@@ -114,10 +126,7 @@ module _ (x : Storage) (old : Cpu) (plan : Plan) (s : Session) (m : Member) (t :
     abbrev old_shape : Shape
     old_shape = shape plan m.setting.number m.course.job (spot_in plan.running (outer x old plan s m t o h runs a) (a.f ∷ a.next ∷ a.more)) v
 
-    abbrev new_shape : Shape
-    new_shape = shape plan m.setting.number m.course.job (spot_in plan.running (outer x old plan s m t o h runs a) (a.next ∷ a.more)) v
-
-    shape_same : old_shape ≡ new_shape
+    shape_same : old_shape ≡ new_shape v
     shape_same = shape_below m.course.job a.f.identity plan m.setting.number plan.running (outer x old plan s m t o h runs a) a.f (a.next ∷ a.more) v refl b.passes
 
     fits_old : Fits x.held old_shape old.regs.s w
@@ -128,21 +137,27 @@ module _ (x : Storage) (old : Cpu) (plan : Plan) (s : Session) (m : Member) (t :
     cells_are : a.f.cells ≡ v ∷ b.word.rest
     cells_are = ap (λ (f : Frame). f.cells) (sym frame_is) ∙ b.word.cells
 
-    stack_fits : IsStack plan.size (on_top x old plan s m t o h runs a ∷ under x old plan s m t o h runs a) × CopiesName (picture plan s.jobs).things (words old.regs.slot (on_top x old plan s m t o h runs a ∷ under x old plan s m t o h runs a))
-    stack_fits = running_fits x old.core old.regs (picture plan s.jobs) old.regs.slot (on_top x old plan s m t o h runs a ∷ under x old plan s m t o h runs a) h.holds.memory (on_stack x old plan s m t o h runs a)
-
     in_words : Has (words old.regs.slot (on_top x old plan s m t o h runs a ∷ under x old plan s m t o h runs a)) old_shape
     in_words = has_append_left (on_top x old plan s m t o h runs a).cells (headed old.regs.slot (on_top x old plan s m t o h runs a).head (under x old plan s m t o h runs a) (words old.regs.slot (under x old plan s m t o h runs a))) old_shape
         (has_map (shape plan m.setting.number m.course.job (spot_in plan.running (outer x old plan s m t o h runs a) (a.f ∷ a.next ∷ a.more))) a.f.cells v (subst (λ (cs : List Word). Has cs v) (sym cells_are) (inl refl)))
 
-    may_new : MayPush (picture plan s.jobs).things new_shape
+    may_new : MayPush (picture plan s.jobs).things (new_shape v)
     may_new = subst (MayPush (picture plan s.jobs).things) shape_same
         (may_push m.course.job a.f.identity plan m.setting.number (spot_in plan.running (outer x old plan s m t o h runs a) (a.f ∷ a.next ∷ a.more)) (picture plan s.jobs).things
         (words old.regs.slot (on_top x old plan s m t o h runs a ∷ under x old plan s m t o h runs a)) v stack_fits.1 in_words b.passes)
 
-    fits_new : Fits x.held new_shape old.regs.s w
+    fits_new : Fits x.held (new_shape v) old.regs.s w
     fits_new = subst (λ (c : Shape). Fits x.held c old.regs.s w) shape_same fits_old
 
+    pub puts_word : Puts v w
+    puts_word = record {
+      fits = λ i. fits_anywhere x (picture plan s.jobs).things (new_shape v) old.regs.s i w may_new fits_new;
+      may = may_new;
+      same = λ new is. (let order = subst (λ (f : Frame). WordInOrder (IsSegment m.setting) m.course.job.arrays (reach_of m.course.job t) f.identity v) frame_is b.word.order in
+          array_kept m.course.job a.f.identity new m.setting (reach_of m.course.job t) v order is (running_in_order plan s m t o runs).0.tasks.names b.passes);
+    }
+
+  module _ (v : Word) (w : Tagged) (put : Puts v w) where
     -- where the word goes
     abbrev pub top_at : ℕ
     top_at = old.regs.bosr + high (under x old plan s m t o h runs a) + 1
@@ -166,16 +181,14 @@ module _ (x : Storage) (old : Cpu) (plan : Plan) (s : Session) (m : Member) (t :
     abbrev stack_with : List Activation
     stack_with = record {
       head = head (spot_in plan.running (outer x old plan s m t o h runs a) a.more) a.next.standing;
-      cells = new_shape ∷ map (shape plan m.setting.number m.course.job (spot_in plan.running (outer x old plan s m t o h runs a) (a.next ∷ a.more))) a.next.cells;
+      cells = new_shape v ∷ map (shape plan m.setting.number m.course.job (spot_in plan.running (outer x old plan s m t o h runs a) (a.next ∷ a.more))) a.next.cells;
     } ∷ activations plan m.setting.number m.course.job plan.running (outer x old plan s m t o h runs a) a.more
 
     same_arrays : (d : Condition) → SameArrays (job_with (frames_with (v ∷ a.next.cells)) d) m.course.job (frames_with (v ∷ a.next.cells))
     same_arrays d =
         let new = job_with (frames_with (v ∷ a.next.cells)) d in
         let below = below-same plan s m t a.f (a.next ∷ a.more) (may x old plan s m t o h runs a) new refl in
-        let order = subst (λ (f : Frame). WordInOrder (IsSegment m.setting) m.course.job.arrays (reach_of m.course.job t) f.identity v) frame_is b.word.order in
-        let one = array_kept m.course.job a.f.identity new m.setting (reach_of m.course.job t) v order refl (running_in_order plan s m t o runs).0.tasks.names b.passes in
-        ((one, below.0), below.1)
+        ((put.same new refl, below.0), below.1)
 
     stack_same : (d : Condition) → activations plan m.setting.number (job_with (frames_with (v ∷ a.next.cells)) d) plan.running (outer x old plan s m t o h runs a) (frames_with (v ∷ a.next.cells)) ≡ stack_with
     stack_same d = activations-same plan m.setting.number (job_with (frames_with (v ∷ a.next.cells)) d) m.course.job plan.running (outer x old plan s m t o h runs a) (frames_with (v ∷ a.next.cells)) (same_arrays d)
@@ -185,7 +198,7 @@ module _ (x : Storage) (old : Cpu) (plan : Plan) (s : Session) (m : Member) (t :
         let P : ℕ → Type 0 = λ k. Stands x new_core new_regs (with_stack (picture plan s.jobs) k stack_with) in
         subst P (slot_is x old plan s m t h runs)
         (Stands-returned x old.core old.regs (picture plan s.jobs) old.regs.slot (on_top x old plan s m t o h runs a) _ _ a.level _ a.back h.holds.memory (on_stack x old plan s m t o h runs a) (may_return x old plan s m t o h runs a).entered
-        new_shape w old.regs.s (a.back.segment + 1) a.back.place may_new fits_new)
+        (new_shape v) w old.regs.s (a.back.segment + 1) a.back.place put.may (put.fits old.regs.s))
 
     task_stands : (d : Condition) → TaskStands new_regs plan (member_with (frames_with (v ∷ a.next.cells)) d) (task_with (frames_with (v ∷ a.next.cells)) d)
     task_stands d = let r = h.holds.running m t runs in record { slot = r.slot; dict = r.dict; entries = r.entries; segment = refl; place = refl }
