@@ -20,7 +20,7 @@ use b67_stack::{Cpu, Step};
 use b67_word::{Fault, Word};
 
 /// Whether a live task depends on the top activation record.
-fn is_critical(cpu: &Cpu) -> bool
+pub fn is_critical(cpu: &Cpu) -> bool
     requires { RunsSome cpu.now }
     ensures { ForEach cpu.now (λ x plan s m t. result ≡ depended_on m.course.job (top t.frames).identity) }
 {
