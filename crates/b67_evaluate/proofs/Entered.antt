@@ -1,5 +1,5 @@
 -- Ends at procedures, and what entering them makes.
-use Rattle.std.proofs.Common.{◌≡◌, ◌≢◌, ℕ, ◌<◌, ◌^◌, List, Option, Some, None, Result, Ok, Err, refl, sym, ◌∙◌, ap, Bool, true, false, subst}
+use Rattle.std.proofs.Common.{◌≡◌, ◌≢◌, ℕ, ◌<◌, ◌^◌, List, Ok, Err, refl, sym, Bool, true, false, subst}
 use Rattle.b67_word.specs.Tagged.{Tagged}
 use Rattle.b67_word.specs.declared.couples.Place.{Place}
 use Rattle.b67_word.specs.declared.faults.Fault.{Fault}
@@ -8,7 +8,7 @@ use Rattle.b67_ctl.specs.declared.registers.Regs.{Regs}
 use Rattle.b67_model.specs.Answers.{Answer, ◌>>=◌}
 use Rattle.b67_model.specs.Chase as Chase
 use Rattle.b67_model.specs.Chase.{AtCell, AtElement, AtArray, AtProc, AtIntrinsic, chase, follow}
-use Rattle.b67_model.specs.Words.{Word, Name}
+use Rattle.b67_model.specs.Words.{Name}
 use Rattle.b67_model.specs.Entry.{accident, back_to, evaluates}
 use Rattle.b67_model.specs.Rows as rows
 use Rattle.b67_model.specs.State.{Task, Member}
@@ -24,10 +24,10 @@ use Rattle.b67_layout.specs.Session.{IsRunning, SessionStands}
 use Rattle.b67_layout.specs.Meets.{here, Meets}
 use Rattle.b67_refer.specs.declared.ends.End.{End}
 use Rattle.b67_refer.specs.declared.ends.End.TheVariants as end
-use Rattle.b67_refer.specs.Scene.{Scene, IsShown}
+use Rattle.b67_refer.specs.Scene.{Scene}
 use Rattle.b67_refer.specs.Ends.{EndMeets, IsProcAt}
 use Rattle.b67_entry.specs.Procedures.{ReachesProc}
-use Rattle.b67_fetch.specs.Fetches.{IsFollowed, enters, enters_at, EntersOrMeets}
+use Rattle.b67_fetch.specs.Fetches.{enters, enters_at, EntersOrMeets}
 use Rattle.b67_fetch.proofs.Values.{here_scene, here_shown, followed_stands, couple_followed}
 use Rattle.b67_evaluate.specs.Procedures.{Leads}
 
@@ -67,8 +67,8 @@ module _ {core : List Tagged} {r : Regs} (a : Scene core r) (q : Place) where
 
 -- an answer other than a call's, and a call's
 pub met_by : (x : Storage) (plan : Plan) (s : Session) (m : Member) (r : Step) (old new : Cpu) (b : Bool) (answer : Answer Done) → ((n : ℕ) → r ≢ step.Call n) → EntersOrMeets x plan s m r old new b answer → Meets x plan s m r old new answer
-met_by x plan s m r old new true answer no i = absurd (no 255 i.0)
-met_by x plan s m r old new false answer no i = i
+met_by x plan s m r old new true answer other i = absurd (other 255 i.0)
+met_by x plan s m r old new false answer other i = i
 
 pub called_by : (x : Storage) (plan : Plan) (s : Session) (m : Member) (n : ℕ) (old new : Cpu) (b : Bool) (answer : Answer Done) → EntersOrMeets x plan s m (step.Call n) old new b answer → (b ≡ true) × (new ≡ old)
 called_by x plan s m n old new true answer i = (refl, i.1)
