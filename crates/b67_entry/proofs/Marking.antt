@@ -39,7 +39,7 @@ marked_at cpu q = record (marked cpu) { regs = record (marked cpu).regs { place 
 
 module _ (x : Storage) (old : Cpu) (plan : Plan) (s : Session) (m : Member) (t : Task) (q : Place) (o : IsInOrderButPlaces s) (h : SessionStands x old plan s) (runs : IsRunning plan s.jobs m t) where
   pub mkst_full : old.regs.s ≡ old.regs.losr → mkst (here m t q) ≡ Err StackOverflow
-  mkst_full full = rw (lt-leb (height t.frames + 1) m.setting.stack_size (omega (arith, full, height_room x old.core old.regs old.critical plan s m t h.holds runs))) refl
+  mkst_full full = rw (lt-leb (height t.frames + 1) m.setting.stack_size (omega (arith, full, height_room [] x old.core old.regs old.critical plan s m t h.holds runs))) refl
 
   pub mkst_done : old.regs.s ≢ old.regs.losr → IsMade x plan s m old (marked_at old q) (mkst (here m t q))
   mkst_done room =
@@ -66,7 +66,7 @@ module _ (x : Storage) (old : Cpu) (plan : Plan) (s : Session) (m : Member) (t :
       record {
         job = job;
         touched = None;
-        is = rw (le-leb (height t.frames + 1) m.setting.stack_size (omega (arith, room, r.last, height_room x old.core old.regs old.critical plan s m t h.holds runs))) refl;
+        is = rw (le-leb (height t.frames + 1) m.setting.stack_size (omega (arith, room, r.last, height_room [] x old.core old.regs old.critical plan s m t h.holds runs))) refl;
         present = tt;
         stands = subst L (sym (no_things_gone plan m job refl)) made;
         changed = λ i. ⊎_elim (λ e. inl e) (λ e. inr (inl e)) (written old.core old.regs (old.regs.s + 1) word (omega (arith, r.mark, r.top), omega (arith, r.last, room)) i);

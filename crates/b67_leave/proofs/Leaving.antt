@@ -33,21 +33,11 @@ use Rattle.b67_entering.proofs.Conditions.{Shows-condition}
 use Rattle.b67_leaving.proofs.Nowhere.{activations-same}
 use Rattle.b67_leaving.proofs.Leaves.{Leaver, task_at, may_leave, below-same, Frames-below, new_member, new_task, runs_after, holds_after, for_running_after}
 use Rattle.b67_leaving.proofs.Orders.{left_ready}
-use Rattle.b67_leave.specs.Left.{MayReturn, caller_regs}
+use Rattle.b67_leave.specs.Left.{MayReturn, caller_regs, Returns}
 use Rattle.b67_leave.proofs.Exits.{job_left, exit_left}
 
--- the task's top frame is entered with a return to others, and no live task depends on it
-pub record Returns (m : Member) (t : Task) : Type 0 where
-  pub f : Frame
-  pub next : Frame
-  pub more : List Frame
-  pub level : ℕ
-  pub environment : ℕ
-  pub back : Return
-  pub frames : t.frames ≡ f ∷ next ∷ more
-  pub entered : f.standing ≡ State.Entered level environment (Some back)
-  pub starts : IsSegment m.setting back.segment (level_of_frame (running (next ∷ more))) back.place
-  pub free : is_critical m.course.job f.identity ≡ false
+pub some_first : {A : Type 0} (x : A) (xs : List A) → x ∷ xs ≢ []
+some_first x xs e = cc
 
 module _ (x : Storage) (old : Cpu) (plan : Plan) (s : Session) (m : Member) (t : Task) (o : IsInOrderButPlaces s) (h : SessionStands x old plan s) (runs : IsRunning plan s.jobs m t) (a : Returns m t) where
   pub may : Leaver plan s m t a.f (a.next ∷ a.more)
@@ -78,7 +68,7 @@ module _ (x : Storage) (old : Cpu) (plan : Plan) (s : Session) (m : Member) (t :
     stands = h.holds.memory;
     runs = on_stack;
     entered = ap (head (spot_in plan.running outer (a.next ∷ a.more))) a.entered;
-    some = λ z. cc;
+    some = some_first (record { head = head (spot_in plan.running outer a.more) a.next.standing; cells = map (shape plan m.setting.number m.course.job (spot_in plan.running outer (a.next ∷ a.more))) a.next.cells }) (activations plan m.setting.number m.course.job plan.running outer a.more);
   }
 
   abbrev pub regs_left : Regs
@@ -125,7 +115,7 @@ module _ (x : Storage) (old : Cpu) (plan : Plan) (s : Session) (m : Member) (t :
         session = with_job s m (job_at Ready);
         member = member_at Ready;
         task = task_left Ready;
-        ordered = record { from_one = i.from_one; few = i.few; setting = i.setting; tasks = left_ready m.setting m.course.job t a.f (a.next ∷ a.more) (may_leave plan s m t a.f (a.next ∷ a.more) may) a.back.segment a.back.place (λ z. cc) a.starts };
+        ordered = record { from_one = i.from_one; few = i.few; setting = i.setting; tasks = left_ready m.setting m.course.job t a.f (a.next ∷ a.more) (may_leave plan s m t a.f (a.next ∷ a.more) may) a.back.segment a.back.place (some_first a.next a.more) a.starts };
         holds = holds_left Ready;
         running = runs_left Ready;
       }

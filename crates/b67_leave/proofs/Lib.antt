@@ -1,3 +1,8 @@
+pub mod CopyRefusals
+pub mod Refusals
+pub mod Retns
+pub mod Replacing
+pub mod Returning
 pub mod Sorted
 pub mod Leaving
 pub mod Exits

@@ -10,7 +10,7 @@ use Rattle.b67_layout.specs.Plan.{Plan}
 use Rattle.b67_layout.specs.Layout.{activations}
 use Rattle.b67_model.specs.InOrder.{IsSegment, TaskInOrder}
 use Rattle.b67_leave.proofs.Tops.{TopCase, pending, last, inner, top_case, mark_pending, mark_last, mark_inner}
-use Rattle.b67_leave.proofs.Leaving.{Returns}
+use Rattle.b67_leave.specs.Left.{Returns}
 
 pub record Pending (t : Task) : Type 0 where
   pub f : Frame

@@ -63,7 +63,7 @@ module _ (x : Storage) (core : List Tagged) (r : Regs) (p : Picture) (k : ℕ) (
       let P : Head → Type 0 = λ h. Lie (Fits x.held) core (suc (slot_base p k)) (headed k h (b ∷ more) (words k (b ∷ more))) in
       subst P entered (Lie-under (Fits x.held) core (suc (slot_base p k)) a.cells (headed k a.head (b ∷ more) (words k (b ∷ more))) (running_lies x core r p k (a ∷ b ∷ more) s u))
 
-  size_entered : high (a ∷ b ∷ more) ≡ high (b ∷ more) + (2 + length a.cells)
+  pub size_entered : high (a ∷ b ∷ more) ≡ high (b ∷ more) + (2 + length a.cells)
   size_entered = ap (λ (h : Head). high (record { head = h; cells = a.cells } ∷ b ∷ more)) entered
 
   -- no original stands where its head is

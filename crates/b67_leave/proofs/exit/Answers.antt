@@ -16,7 +16,7 @@ use Rattle.b67_layout.proofs.Fresh.{running_in_order}
 use Rattle.b67_layout.proofs.Starts.{meets_runs, runs_here}
 use Rattle.b67_refer.specs.Scene.{Scene}
 use Rattle.b67_leave.proofs.Exits.{leaves_pending, leaves_critical, leaves_last}
-use Rattle.b67_leave.proofs.Leaving.{Returns, under, on_top, on_stack, may_return, scene_left, exit_done}
+use Rattle.b67_leave.proofs.Leaving.{under, on_top, on_stack, may_return, scene_left, exit_done}
 use Rattle.b67_leave.proofs.Sorted.{is_pending, is_entered, is_last, returns_of}
 use Rattle.b67_leave.proofs.exit.Goals as goal
 
