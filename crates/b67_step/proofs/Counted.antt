@@ -63,4 +63,3 @@ same_picture plan ms ns e =
     let P : (ℕ → Slot) → List Thing → Picture = λ s things. record { stacks = plan.stacks; size = plan.size; peak = plan.peak; slots = s; things = things } in
     let slots : slot_at plan ns ≡ slot_at plan ms = λ z k. same_slots plan ms ns e k z in
     ap (λ (s : ℕ → Slot). P s (flat_map (things_of plan) ns)) slots ∙ ap (P (slot_at plan ms)) (same_things plan ms ns e)
-

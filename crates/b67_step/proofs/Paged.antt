@@ -70,7 +70,6 @@ dictionary_above plan at (m ∷ ms) y d (inr k) = omega (arith, dictionary_above
 abbrev pub Stayed : Picture → List Tagged → List Tagged → Type 0
 Stayed p core new = (i : ℕ) → i < p.stacks → (i < 152) ⊎ (160 ≤ i) → ((t : Thing) → Has p.things t → t.home ≢ i) → slice_get new i ≡ slice_get core i
 
-
 module _ (left left' : List Thing) (x x' : Storage) (cpu cpu' : Cpu) (plan : Plan) (s s' : Session)
     (h : SessionStandsBut left x cpu plan s) (alike : AllAlike s.jobs s'.jobs) (peak : s'.peak ≡ s.peak)
     (regs : cpu'.regs ≡ cpu.regs) (display : cpu'.display ≡ cpu.display) (critical : cpu'.critical ≡ cpu.critical)

@@ -46,8 +46,8 @@ module _ (s : Session) (m : Member) (t : Task) (single : IsSingle s m t) where
   kept_by (Ok read) at calls job printed touched e =
       let h : Here = here m t read.1 in
       let known : IsKnown h =
-          ap (λ (ts : List Task). keyed (λ (p : Profile). p.number) t.number (profiles ts)) single.tasks
-          ∙ rw (eq-eqb t.number t.number refl) refl in
+      ap (λ (ts : List Task). keyed (λ (p : Profile). p.number) t.number (profiles ts)) single.tasks
+      ∙ rw (eq-eqb t.number t.number refl) refl in
       rows_keep read.0 h known (calls read at) job printed touched e
 
   pub kept : CallsNone m t → (job : Job) (printed : List Line) (touched : Option ℕ) → step m.setting m.course.job t ≡ Ok (Goes job printed touched)
@@ -62,10 +62,10 @@ module _ (s : Session) (m : Member) (t : Task) (single : IsSingle s m t) where
       let one : Member = record m { course = record m.course { job = job } } in
       let same : SameJobs (one ∷ []) (member_after m job ∷ []) = (record { setting = refl; job = refl }, tt) in
       let pictures : picture plan after.jobs ≡ picture plan (with_job s m job).jobs =
-          ap (picture plan) is ∙ same_picture plan (one ∷ []) (member_after m job ∷ []) same ∙ ap (picture plan) (sym (with_is job)) in
+      ap (picture plan) is ∙ same_picture plan (one ∷ []) (member_after m job ∷ []) same ∙ ap (picture plan) (sym (with_is job)) in
       let A : List Member → List Member → Type 0 = λ a b. AllAlike a b in
       let alike : AllAlike (with_job s m job).jobs after.jobs =
-          subst (λ (a : List Member). A a after.jobs) (sym (with_is job)) (subst (A (one ∷ [])) (sym is) (record { number = refl; stack_size = refl; dictionary = refl; count = refl; tasks = refl }, tt)) in
+      subst (λ (a : List Member). A a after.jobs) (sym (with_is job)) (subst (A (one ∷ [])) (sym is) (record { number = refl; stack_size = refl; dictionary = refl; count = refl; tasks = refl }, tt)) in
       SessionStands-over left left x x cpu cpu plan (with_job s m job) after h alike peak refl refl refl
       (subst (λ (p : Picture). Stands x cpu.core cpu.regs (with_things left p)) (sym pictures) h.holds.memory)
       (subst Settled (sym pictures) h.holds.settled)
