@@ -1,24 +1,23 @@
 -- The picture of a session under the plan in which another task's registers are in use.
-use Rattle.std.proofs.Common.{◌≡◌, ◌≢◌, ℕ, ◌+◌, ◌<◌, ◌≤◌, List, [], ◌∷◌, ◌++◌, length, map, Option, Some, None, refl, sym, ◌∙◌, ap, arith, Bool, true, false, ◌==◌, ⊎_elim, subst, not}
+use Rattle.std.proofs.Common.{◌≡◌, ◌≢◌, ℕ, ◌+◌, ◌<◌, ◌≤◌, List, [], ◌∷◌, ◌++◌, map, Option, Some, None, refl, sym, ◌∙◌, ap, arith, false, ◌==◌, ⊎_elim}
 use Rattle.std.specs.Prelude.{if◌then◌else◌, flat_map}
-use Rattle.std.proofs.lemmas.Bool.{cases_eq, cases_Bool, eq-eqb, ne_eqb, eqb-true}
+use Rattle.std.proofs.lemmas.Bool.{cases_eq, eqb-true}
 use Rattle.b67_area.specs.declared.Kind.TheVariants as kind
 use Rattle.b67_model.specs.Words as Words
 use Rattle.b67_model.specs.Words.{Word, Operand, Name, Ref, Row, Element, Original, Proc, Intrinsic}
-use Rattle.b67_model.specs.Lists.{Has}
 use Rattle.b67_model.specs.State.{Frame, Segment, Task, Job, Member}
 use Rattle.b67_model.specs.Keyed.{keyed}
 use Rattle.b67_model.specs.Run.{number_of}
 use Rattle.b67_model.specs.InOrder.{from_frame, frames_of_task, critical_of}
 use Rattle.b67_stack.specs.Shapes.{Shape}
 use Rattle.b67_stack.specs.Stacks.{Spot, Activation}
-use Rattle.b67_stack.specs.Picture.{Thing, Slot, Free, Running, Waiting, Picture, with_slot}
+use Rattle.b67_stack.specs.Picture.{Thing, Slot, Running, Waiting, with_slot}
 use Rattle.b67_stack.proofs.Slots.{slot-same, slot-other}
-use Rattle.b67_layout.specs.Plan.{Plan, Slotted, slot_of, spot_in, outer_spots}
+use Rattle.b67_layout.specs.Plan.{Plan, Slotted, slot_of, spot_in, outer_spots, spots}
 use Rattle.b67_layout.specs.Layout.{shape, head, activations, stack_of_task, slot_with, slot_in, slot_by, slot_at, code_things, array_thing, things_of, picture}
 use Rattle.b67_layout.specs.Session.{RowsFit}
 use Rattle.b67_layout.proofs.Others.{keyed-has}
-use Rattle.b67_layout.proofs.Rows.{row_of, slot_below, found-has}
+use Rattle.b67_layout.proofs.Rows.{row_of, found-has}
 use Rattle.b67_switch.specs.Turns.{with_running}
 
 module _ (plan : Plan) (k : ℕ) where
@@ -28,6 +27,12 @@ module _ (plan : Plan) (k : ℕ) where
       let t = keyed (λ (u : Task). u.number) parent job.tasks in
       let outer : outer_spots (with_running plan k) j job (critical_of t) more ≡ outer_spots plan j job (critical_of t) more = λ i x. outer_spots-replan j job more (critical_of t) x i in
       ap (λ (o : ℕ → Spot). spot_in (slot_of plan j parent) o (from_frame c (frames_of_task t)) id) outer
+
+  -- spots of frames don't depend on which registers are in use
+  pub spots-replan : (j : ℕ) (job : Job) (t : Task) (id : ℕ) → spots (with_running plan k) j job t id ≡ spots plan j job t id
+  spots-replan j job t id =
+      let outer : outer_spots (with_running plan k) j job t.critical t.parents ≡ outer_spots plan j job t.critical t.parents = λ i x. outer_spots-replan j job t.parents t.critical x i in
+      ap (λ (o : ℕ → Spot). spot_in (slot_of plan j t.number) o t.frames id) outer
 
   shape-replan : (j : ℕ) (job : Job) (spot : ℕ → Spot) (w : Word) → shape (with_running plan k) j job spot w ≡ shape plan j job spot w
   shape-replan j job spot (Operand bits) = refl
@@ -116,9 +121,9 @@ module _ (plan : Plan) (jobs : List Member) (m : Member) (t : Task) (fit : RowsF
   picture-turned a slot now before is =
       let p = picture plan jobs in
       let each : (k : ℕ) → slot_at (with_running plan a) jobs k ≡ (with_slot (picture plan jobs) q slot).slots k = λ k. ⊎_elim
-          (λ (e : k ≡ q). ap (slot_at (with_running plan a) jobs) e ∙ is ∙ sym (slot-same (picture plan jobs) q slot) ∙ ap (with_slot (picture plan jobs) q slot).slots (sym e))
-          (λ (e : k ≡ q → ⊥). others_stay a now before k e ∙ sym (slot-other (picture plan jobs) q slot k e))
-          (cases_eq k q) in
+      (λ (e : k ≡ q). ap (slot_at (with_running plan a) jobs) e ∙ is ∙ sym (slot-same (picture plan jobs) q slot) ∙ ap (with_slot (picture plan jobs) q slot).slots (sym e))
+      (λ (e : k ≡ q → ⊥). others_stay a now before k e ∙ sym (slot-other (picture plan jobs) q slot k e))
+      (cases_eq k q) in
       let same : slot_at (with_running plan a) jobs ≡ (with_slot (picture plan jobs) q slot).slots = λ i k. each k i in
       ap (λ (f : ℕ → Slot). record { stacks = plan.stacks; size = plan.size; peak = plan.peak; slots = f; things = flat_map (things_of (with_running plan a)) jobs }) same
       ∙ ap (λ (ts : List Thing). record { stacks = plan.stacks; size = plan.size; peak = plan.peak; slots = (with_slot (picture plan jobs) q slot).slots; things = ts }) (things-replan plan a jobs)

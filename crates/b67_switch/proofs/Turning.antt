@@ -1,5 +1,5 @@
 -- A task's registers come into use, or are put into its top of stack word.
-use Rattle.std.proofs.Common.{◌≡◌, ◌≢◌, ℕ, suc, ◌+◌, ◌<◌, ◌≤◌, List, [], ◌∷◌, ◌++◌, length, Option, Some, None, refl, sym, ◌∙◌, ap, arith, inl, inr, ◌⊎◌, ⊎_elim, subst}
+use Rattle.std.proofs.Common.{◌≡◌, ◌≢◌, ℕ, suc, ◌+◌, ◌<◌, ◌≤◌, List, [], ◌∷◌, length, Some, refl, sym, ◌∙◌, ap, arith, ⊎_elim, subst}
 use Rattle.std.specs.List.{slice_get}
 use Rattle.std.proofs.lemmas.Bool.{cases_eq, cases_lt}
 use Rattle.b67_word.specs.Tagged.{Tagged}
@@ -7,20 +7,19 @@ use Rattle.b67_area.specs.Spans.{Span, Area, Hole}
 use Rattle.b67_area.proofs.Climbs.{area_at-low}
 use Rattle.b67_area.proofs.Separation.{Controls, IsDirectory-same}
 use Rattle.b67_ctl.specs.declared.registers.Regs.{Regs}
-use Rattle.b67_model.specs.Lists.{Has}
 use Rattle.b67_model.specs.State.{Task, Member}
 use Rattle.b67_model.specs.Schedule.{Session}
 use Rattle.b67_stack.specs.Shapes.{Fits, Lie}
-use Rattle.b67_stack.specs.Stacks.{Activation, IsStack, high, words}
-use Rattle.b67_stack.specs.Picture.{Thing, Picture, Slot, Free, Running, Waiting, stack_of, slot_base, SlotFits, CopiesName, Laid, with_slot, Settled}
-use Rattle.b67_stack.specs.Stands.{Storage, SlotStands, RunningStands, StacksLie, ThingsStand, RegsStand, Stands, info_of}
+use Rattle.b67_stack.specs.Stacks.{Activation, high, words}
+use Rattle.b67_stack.specs.Picture.{Picture, Slot, Free, Running, Waiting, stack_of, slot_base, SlotFits, Laid, with_slot, Settled}
+use Rattle.b67_stack.specs.Stands.{Storage, SlotStands, StacksLie, ThingsStand, RegsStand, Stands, info_of}
 use Rattle.b67_stack.proofs.Bases.{base-apart}
 use Rattle.b67_stack.proofs.Heights.{words-length}
 use Rattle.b67_stack.proofs.Lies.{Lie-same}
 use Rattle.b67_stack.proofs.Slots.{by_slot, Content-areas}
-use Rattle.b67_layout.specs.Plan.{Plan, Slotted, slot_of}
+use Rattle.b67_layout.specs.Plan.{Plan, slot_of}
 use Rattle.b67_layout.specs.Layout.{picture}
-use Rattle.b67_layout.specs.Session.{DictionariesFollow, PlanFits, DictionaryStands, VectorStands, vector_word, CriticalStands, IsRunning, TaskStands, SessionHolds}
+use Rattle.b67_layout.specs.Session.{DictionariesFollow, PlanFits, vector_word, IsRunning, TaskStands, SessionHolds}
 use Rattle.b67_layout.proofs.Rows.{slot_below}
 use Rattle.b67_layout.proofs.Sessions.{dictionary_below}
 use Rattle.b67_switch.specs.Turns.{with_running}

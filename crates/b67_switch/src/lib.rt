@@ -3,4 +3,4 @@
 
 mod switching;
 
-pub use switching::Turn;
+pub use switching::{Turn, switch_to};

@@ -1,0 +1,10 @@
+pub mod Heads
+pub mod Holds
+pub mod Conditions
+pub mod Rooms
+pub mod Accidents
+pub mod Marks
+pub mod Enters
+pub mod Orders
+pub mod Names
+pub mod Tops
