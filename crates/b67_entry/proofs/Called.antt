@@ -1,6 +1,5 @@
 -- The entering of a marked activation record in the code's own values.
-use Rattle.std.proofs.Common.{◌≡◌, ◌≢◌, ℕ, ◌+◌, ◌-◌, ◌<◌, ◌≤◌, ◌^◌, List, [], ◌∷◌, ◌++◌, reverse, Some, Err, refl, sym, ◌∙◌, ap, arith, Bool, true, false, not, ◌==◌, slice_set, subst}
-use Rattle.std.specs.List.{slice_get}
+use Rattle.std.proofs.Common.{◌≡◌, ◌≢◌, ℕ, ◌+◌, ◌<◌, ◌≤◌, List, reverse, Err, refl, sym, ◌∙◌, ap, true, false, not, ◌==◌, slice_set, subst}
 use Rattle.b67_word.specs.Tagged.{Tagged}
 use Rattle.b67_word.specs.declared.couples.Place.{Place}
 use Rattle.b67_word.specs.declared.faults.Fault.TheVariants.{InvalidOperand}
