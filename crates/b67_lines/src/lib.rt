@@ -1,0 +1,9 @@
+//! The lines that a run prints, and how a call ends that prints.
+#![tactic(auto)]
+
+mod lines;
+mod names;
+mod printing;
+
+pub use lines::{ending_line, halted_line, line_of, value_line, with_number, with_text};
+pub use printing::say;
