@@ -1,5 +1,5 @@
 -- Leaving the outer activation, and entering PRINT.
-use Rattle.std.proofs.Common.{◌≡◌, ◌≢◌, ℕ, ◌^◌, ◌≤◌, ◌<◌, Bool, true, false, List, [], ◌∷◌, map, reverse, refl, sym, ap, ◌∙◌, subst, arith, None, Some, Ok, Err, cond}
+use Rattle.std.proofs.Common.{◌≡◌, ◌≢◌, ℕ, ◌+◌, ◌^◌, ◌≤◌, ◌<◌, Bool, true, false, List, [], ◌∷◌, length, map, reverse, refl, sym, ap, ◌∙◌, subst, arith, None, Some, Ok, Err, cond}
 use Rattle.std.specs.Prelude.{◌==◌}
 use Rattle.std.specs.List.{AllByRecursion, list_any}
 use Rattle.b67_word.specs.declared.faults.Fault.TheVariants.{InvalidOperand, MarkPending}
@@ -25,7 +25,7 @@ use Rattle.std.proofs.lemmas.List.{reverse-reverse}
 use Rattle.b67_straight.proofs.Lists.{map-reverse}
 use Rattle.b67_straight.proofs.Framed.{Fresh, first-fresh, rest-fresh, Some_frames, frames-some, running-frames, frames-apart}
 use Rattle.b67_straight.proofs.Chased.{here_at, chase-print}
-use Rattle.b67_straight.proofs.Turns.{Answers, After, Fits_stack, under, under-two, shrunk, number-small}
+use Rattle.b67_straight.proofs.Turns.{Answers, After, Fits_stack, under, under-two, deep, shrunk, number-small}
 
 -- the top frame is the outer one where there is no mark
 abbrev pub standing_by : Bool → Standing
@@ -124,12 +124,12 @@ module _ (l : Lone) (marks : List ℕ) (next : ℕ) (at to : Place) (fresh : Fre
   entr-other cells some other =
       entr-else l (frames_of cells marks) next at to (follows-print cells) (top (frames_of cells marks)).standing (above_mark cells) some other (cells-frames cells marks)
 
-  entr-number : (n : ℕ) (cells : List Cell) → n < 2 ^ 39 → Fits_stack l.stack cells
+  entr-number : (n : ℕ) (cells : List Cell) → n < 2 ^ 39 → Fits_stack l.stack cells → length cells + 3 ≤ l.stack
       → Answers l (stack.Goes cells (Some n)) to (row (Plain Entr) (here_of (Number n ∷ Print ∷ Mark ∷ cells)))
-  entr-number n cells small fit =
+  entr-number n cells small fit room =
       let h : Here = here_of (Number n ∷ Print ∷ Mark ∷ cells) in
       let unbound : (0 == first_of marks) ≡ false = let two = first-fresh marks fresh in grind arith in
-      let printed : After l cells (Some n) to (print h (Operand n ∷ [])) = rw (number-small n small, unbound) (shrunk l cells (rest_of marks) next at to fit (rest-fresh marks fresh) above (Some n) small) in
+      let printed : After l cells (Some n) to (print h (Operand n ∷ [])) = rw (number-small n small, unbound) (shrunk l cells (rest_of marks) next at to fit room (rest-fresh marks fresh) above (Some n) small) in
       subst (λ (e : Answer End). After l cells (Some n) to (e >>= entr_at h (Operand n ∷ []))) (sym (follows-print (Number n ∷ Print ∷ Mark ∷ cells))) printed
 
   pub entr-turn : (cells : List Cell) → Fits_stack l.stack cells → Answers l (turn (Plain Entr) l.stack cells) to (row (Plain Entr) (here_of cells))
@@ -140,6 +140,6 @@ module _ (l : Lone) (marks : List ℕ) (next : ℕ) (at to : Place) (fresh : Fre
   entr-turn (Number n ∷ Mark ∷ cells) fit = refl
   entr-turn (Number n ∷ Number m ∷ cells) fit = entr-other (Number n ∷ Number m ∷ cells) (λ e. cc) (λ k e. cc)
   entr-turn (Number n ∷ Print ∷ []) fit = refl
-  entr-turn (Number n ∷ Print ∷ Mark ∷ cells) fit = entr-number n cells fit.small.0 (under (under-two fit))
+  entr-turn (Number n ∷ Print ∷ Mark ∷ cells) fit = entr-number n cells fit.small.0 (under (under-two fit)) (deep (under-two fit))
   entr-turn (Number n ∷ Print ∷ Print ∷ cells) fit = entr-other (Number n ∷ Print ∷ Print ∷ cells) (λ e. cc) (λ k e. cc)
   entr-turn (Number n ∷ Print ∷ Number m ∷ cells) fit = entr-other (Number n ∷ Print ∷ Number m ∷ cells) (λ e. cc) (λ k e. cc)

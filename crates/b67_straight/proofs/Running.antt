@@ -44,8 +44,8 @@ pub record Running {K : Type 0} (l : Lone) (taken : K → Option (List ℕ)) (ol
 abbrev origin : Place
 origin = record { word = 0; syllable = 0 }
 
-begins : (l : Lone) → 64 ≤ l.stack → is_built_code l.segment.code ≡ true → Machine l (session_of l) [] origin 0
-begins l high built = record {
+begins : (l : Lone) → is_built_code l.segment.code ≡ true → Machine l (session_of l) [] origin 0
+begins l built = record {
   marks = [];
   next_frame = 3;
   stands = record { count = 0; turn = 0; peak = 1; last = record { job = 0; task = 0 }; known = inl refl; is = refl };
@@ -58,10 +58,10 @@ begins l high built = record {
   built = rw (sub-zero (6 * length l.segment.code)) built;
 }
 
-pub running-begins : {K : Type 0} (l : Lone) (taken : K → Option (List ℕ)) (now : K) → 64 ≤ l.stack → is_built_code l.segment.code ≡ true → Running l taken now now [] origin 0
-running-begins l taken now high built = record {
+pub running-begins : {K : Type 0} (l : Lone) (taken : K → Option (List ℕ)) (now : K) → is_built_code l.segment.code ≡ true → Running l taken now now [] origin 0
+running-begins l taken now built = record {
   session = session_of l;
-  machine = begins l high built;
+  machine = begins l built;
   printed = [];
   took = Took-none taken now;
   ran = ran-none (session_of l);

@@ -1,5 +1,5 @@
 -- What the ten operators do to one stack is what the machine's rows do to its task.
-use Rattle.std.proofs.Common.{◌≡◌, ℕ, ◌+◌, ◌^◌, ◌/◌, ◌%◌, ◌≤◌, ◌<◌, Bool, true, false, List, [], ◌∷◌, length, refl, sym, subst, arith, None, Option, Some, Ok, Err, cond}
+use Rattle.std.proofs.Common.{◌≡◌, ℕ, ◌+◌, ◌-◌, ◌^◌, ◌/◌, ◌%◌, ◌≤◌, ◌<◌, Bool, true, false, List, [], ◌∷◌, length, refl, sym, subst, arith, None, Option, Some, Ok, Err, cond}
 use Rattle.std.specs.Prelude.{⊤, IfSome, nat_lt, nat_le, pos}
 use Rattle.std.proofs.lemmas.Bool.Decides.{nat_tests}
 use Rattle.std.specs.List.{AllByRecursion}
@@ -33,7 +33,7 @@ Small_cell _ = ⊤
 
 -- so many cells fit the stack, and its numbers are operands'
 pub record Fits_stack (size : ℕ) (cells : List Cell) : Type 0 where
-  pub few : length cells + 3 ≤ size
+  pub few : length cells ≤ size - 3
   pub small : AllByRecursion Small_cell cells
 
 pub under : {size : ℕ} {cell : Cell} {cells : List Cell} → Fits_stack size (cell ∷ cells) → Fits_stack size cells
@@ -41,6 +41,13 @@ under fit = record { few = let few = fit.few in omega arith; small = fit.small.1
 
 pub under-two : {size : ℕ} {a b : Cell} {cells : List Cell} → Fits_stack size (a ∷ b ∷ cells) → Fits_stack size cells
 under-two fit = under (under fit)
+
+-- there is room for the words before the cells, under some cell
+pub deep : {size : ℕ} {cell : Cell} {cells : List Cell} → Fits_stack size (cell ∷ cells) → length cells + 3 ≤ size
+deep fit = let few = fit.few in omega arith
+
+pub deep-two : {size : ℕ} {a b : Cell} {cells : List Cell} → Fits_stack size (a ∷ b ∷ cells) → length cells + 3 ≤ size
+deep-two fit = let few = fit.few in omega arith
 
 -- the task's frames after an operator, and the next identity
 pub record After (l : Lone) (cells : List Cell) (printed : Option ℕ) (to : Place) (answer : Answer Done) : Type 0 where
@@ -111,9 +118,9 @@ pub add-small : (a b : ℕ) → a < 2 ^ 39 → b < 2 ^ 39 → add a b ≡ cond (
 add-small a b small_a small_b = rw (number-small a small_a, number-small b small_b) (operand-sum (a + b))
 
 -- a word that is taken off the top frame, or off the one under a mark
-module _ (l : Lone) (cells : List Cell) (marks : List ℕ) (next : ℕ) (at to : Place) (fit : Fits_stack l.stack cells) (fresh : Fresh marks) (above : 2 ≤ next) where
+module _ (l : Lone) (cells : List Cell) (marks : List ℕ) (next : ℕ) (at to : Place) (fit : Fits_stack l.stack cells) (room : length cells + 3 ≤ l.stack) (fresh : Fresh marks) (above : 2 ≤ next) where
   low : nat_le (height (frames_of cells marks)) l.stack ≡ true
-  low = let few = fit.few in let e = height-frames cells marks in grind (arith, nat_tests)
+  low = let e = height-frames cells marks in grind (arith, nat_tests)
 
   pub shrunk : (printed : Option ℕ) → IfSome printed (λ n. n < 2 ^ 39)
       → After l cells printed to (needs (nat_le (height (frames_of cells marks)) l.stack) StackOverflow >> Ok (Goes (job_at l.numbers (frames_of cells marks) next to) (value_lines printed) None))
@@ -199,14 +206,14 @@ add-turn l (Print ∷ []) marks next at to fit fresh above = refl
 add-turn l (Number b ∷ []) marks next at to fit fresh above = refl
 add-turn l (Print ∷ Mark ∷ cells) marks next at to fit fresh above = refl
 add-turn l (Number b ∷ Mark ∷ cells) marks next at to fit fresh above = refl
-add-turn l (Print ∷ Print ∷ cells) marks next at to fit fresh above = add-print l cells marks next at to (under-two fit) fresh above (Name 9)
-add-turn l (Number b ∷ Print ∷ cells) marks next at to fit fresh above = add-print l cells marks next at to (under-two fit) fresh above (Operand b)
-add-turn l (Print ∷ Number a ∷ cells) marks next at to fit fresh above = print-add l cells marks next at to (under-two fit) fresh above a
-add-turn l (Number b ∷ Number a ∷ cells) marks next at to fit fresh above = add-numbers l cells marks next at to (under-two fit) fresh above a b fit.small.1.0 fit.small.0
+add-turn l (Print ∷ Print ∷ cells) marks next at to fit fresh above = add-print l cells marks next at to (under-two fit) (deep-two fit) fresh above (Name 9)
+add-turn l (Number b ∷ Print ∷ cells) marks next at to fit fresh above = add-print l cells marks next at to (under-two fit) (deep-two fit) fresh above (Operand b)
+add-turn l (Print ∷ Number a ∷ cells) marks next at to fit fresh above = print-add l cells marks next at to (under-two fit) (deep-two fit) fresh above a
+add-turn l (Number b ∷ Number a ∷ cells) marks next at to fit fresh above = add-numbers l cells marks next at to (under-two fit) (deep-two fit) fresh above a b fit.small.1.0 fit.small.0
 
 pub dlet-turn : (l : Lone) (cells : List Cell) (marks : List ℕ) (next : ℕ) (at to : Place) → Fits_stack l.stack cells → Fresh marks → 2 ≤ next
     → Answers l (turn (Plain Dlet) l.stack cells) to (row (Plain Dlet) (here_at l (frames_of cells marks) next at to))
 dlet-turn l [] marks next at to fit fresh above = refl
 dlet-turn l (Mark ∷ cells) marks next at to fit fresh above = refl
-dlet-turn l (Print ∷ cells) marks next at to fit fresh above = dlet-print l cells marks next at to (under fit) fresh above
-dlet-turn l (Number n ∷ cells) marks next at to fit fresh above = dlet-number l cells marks next at to (under fit) fresh above n
+dlet-turn l (Print ∷ cells) marks next at to fit fresh above = dlet-print l cells marks next at to (under fit) (deep fit) fresh above
+dlet-turn l (Number n ∷ cells) marks next at to fit fresh above = dlet-number l cells marks next at to (under fit) (deep fit) fresh above n

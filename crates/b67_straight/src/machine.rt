@@ -25,8 +25,8 @@ const ORIGIN: Place = Place {
     syllable: 0,
 };
 
-/// What a run is given: the size of its stack in words, 64 at least, how many operators it may make, and the count of
-/// operators at which it halts.
+/// What a run is given: the size of its stack in words, how many operators it may make, and the count of operators at
+/// which it halts, where there is one.
 #[derive(Clone, Copy, Debug, PartialEq, Eq)]
 pub struct Terms {
     pub stack: u16,
@@ -113,9 +113,8 @@ pub fn run_code<K: Sink>(
 ) -> Result<u8, AllocError>
     requires short { length code.now ≤ 8191 }
     requires built { is_built_code (contents code.now) ≡ true }
-    requires stack { 64 ≤ terms.stack }
     ensures runs { IfOk result (λ answer. (idle : Idle) → RunEnds (run_of (contents code.now) terms idle) K.taken K.faults printer.old printer.new answer) }
-    ensures idle { IfErr result (λ _. printer.new ≡ printer.old) }
+    ensures untouched { IfErr result (λ _. printer.new ≡ printer.old) }
 {
     let mut stack = Stack::new(alloc, terms.stack)?;
     let mut at = ORIGIN;
