@@ -30,7 +30,7 @@ use Rattle.b67_straight.proofs.Chased.{here_at}
 use Rattle.b67_straight.proofs.Turns.{Answers, Fits_stack, zero-turn, one-turn, lt8-turn, namc-turn, mkst-turn, add-turn, dlet-turn}
 use Rattle.b67_straight.proofs.Calls.{exit-turn, entr-turn}
 use Rattle.b67_straight.proofs.Sessions.{Stands, Over, end_line, goes-on, goes-last, leaves, faults}
-use Rattle.b67_straight.proofs.Stopped.{Ends_some}
+use Rattle.b67_lines.proofs.Stopped.{Ends_some}
 use Rattle.b67_straight.proofs.Small.{reading-small}
 use Rattle.b67_straight.proofs.Places.{operator-behind, past-end, listing_from, listing-step}
 

@@ -7,6 +7,5 @@ pub mod Sessions
 pub mod Places
 pub mod Small
 pub mod Followed
-pub mod Stopped
 pub mod Running
 pub mod Programs

@@ -30,7 +30,7 @@ use Rattle.b67_straight.specs.Lone.{Lone, session_of}
 use Rattle.b67_straight.specs.Printing.{run_lines, value_text, is_halt}
 use Rattle.b67_straight.proofs.Places.{operator-behind}
 use Rattle.b67_straight.proofs.Sessions.{Over, end_line}
-use Rattle.b67_straight.proofs.Stopped.{Ran, ran-none, ran-next, ran-finished, ran-halted, Ends_some, stops-past}
+use Rattle.b67_lines.proofs.Stopped.{Ran, ran-none, ran-next, ran-finished, ran-halted, Ends_some, stops-past}
 use Rattle.b67_straight.proofs.Followed.{Machine, Comes, Comes_to, Onward, comes-here, some-over, run-ends}
 
 -- what is printed after so many steps

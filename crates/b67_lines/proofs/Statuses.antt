@@ -1,0 +1,74 @@
+-- A run stops with one status.
+use Rattle.std.proofs.Common.{◌≡◌, ◌≤◌, ◌+◌, ◌-◌, ℕ, zero, suc, false, List, [], ◌∷◌, length, map, reverse, refl, sym, ap, ◌∙◌, arith, Option, Some, None}
+use Rattle.std.specs.Prelude.{◌&&◌, ◌||◌, ◌==◌, ◌++◌, not, nat_lt, find, filter, flat_map, IfSome}
+use Rattle.std.specs.List.{list_any}
+use Rattle.std.proofs.lemmas.List.Sums.{sum_by-cons}
+use Rattle.std.proofs.lemmas.Bool.Decides.{nat_tests}
+use Rattle.b67_model.specs.State.{Task, Member}
+use Rattle.b67_model.specs.Endings.{is_ready}
+use Rattle.b67_model.specs.Schedule.{Who, Session, Choice, is_same, is_before, ready_of, ready, afresh, switched, goes_on, first, next_after, choice_by, choice}
+use Rattle.b67_model.specs.Run.{Moment, next, moment_for, live_tasks, after, after_from}
+use Rattle.b67_lines.specs.Stops.{Run, live_after, IsFinished, IsHalted, Stops, finished, halted, run_status}
+
+-- ---- a session without tasks makes no step
+
+none : {A : Type 0} (xs : List A) → length xs ≡ 0 → xs ≡ []
+none [] e = refl
+none (x ∷ xs) e = absurd (omega arith)
+
+none-ready : (jobs : List Member) → live_tasks jobs ≡ 0 → flat_map ready_of jobs ≡ []
+none-ready [] e = refl
+none-ready (m ∷ jobs) e =
+    let both : length m.course.job.tasks + live_tasks jobs ≡ 0 = sym (sum_by-cons (λ (m : Member). length m.course.job.tasks) m jobs) ∙ e in
+    let own : m.course.job.tasks ≡ [] = none m.course.job.tasks (omega (arith, both)) in
+    ap (λ (tasks : List Task). map (λ (t : Task). record { job = m.setting.number; task = t.number }) (filter is_ready (reverse tasks)) ++ flat_map ready_of jobs) own
+    ∙ none-ready jobs (omega (arith, both))
+
+none-chosen : (s : Session) → ready s ≡ [] → choice s ≡ None
+none-chosen s e =
+    let by_switch : switched s ≡ None = ap (find (λ who. list_any (λ switch. (switch.count == s.made) && is_same switch.to who) s.switches)) e in
+    let by_turn : goes_on s ≡ false = ap (λ (whos : List Who). list_any (is_same s.last) whos && (list_any (λ switch. nat_lt s.made switch.count) s.switches || nat_lt s.turn s.quantum)) e in
+    let by_order : next_after s ≡ None = ap (λ (whos : List Who). first (filter (is_before s.last) whos ++ filter (λ who. not (is_before s.last who)) whos)) e in
+    ap (λ (o : Option Who). choice_by s o (goes_on s)) by_switch ∙ ap (choice_by s None) by_turn ∙ ap afresh by_order
+
+pub over-next : (s : Session) → live_tasks s.jobs ≡ 0 → next s ≡ None
+unfolding next
+over-next s e = ap (moment_for s) (none-chosen s (none-ready s.jobs e))
+
+-- ---- steps after steps
+
+after-stays : (n : ℕ) (s : Session) → next s ≡ None → after n s ≡ s
+after-stays zero s e = refl
+after-stays (suc n) s e = ap (after_from (suc n) s) e
+
+one-more : (k m : ℕ) (s : Session) → ((t : Session) → after (k + m) t ≡ after m (after k t)) → (o : Option Moment) → next s ≡ o → after_from (suc (k + m)) s o ≡ after m (after_from (suc k) s o)
+one-more k m s more None e = sym (after-stays m s e)
+one-more k m s more (Some n) e = more n.session
+
+pub after-add : (k m : ℕ) (s : Session) → after (k + m) s ≡ after m (after k s)
+after-add zero m s = let same : 0 + m ≡ m = omega arith in ap (λ n. after n s) same
+after-add (suc k) m s = let same : suc k + m ≡ suc (k + m) = omega arith in ap (λ n. after n s) same ∙ one-more k m s (after-add k m) (next s) refl
+
+-- a session whose tasks have ended stays so
+pub over-stays : (k n : ℕ) (s : Session) → live_after k s ≡ 0 → k ≤ n → live_after n s ≡ 0
+over-stays k n s e le =
+    let same : n ≡ k + (n - k) = omega arith in
+    ap (λ i. live_after i s) same ∙ ap (λ (t : Session). live_tasks t.jobs) (after-add k (n - k) s ∙ after-stays (n - k) (after k s) (over-next (after k s) e)) ∙ e
+
+-- ---- the status
+
+pub finished-status : (r : Run) (text : List ℕ) → IsFinished r text → run_status r ≡ 0
+finished-status r text f = by_halt r.halt refl
+  where
+    by_halt : (halt : Option ℕ) → r.halt ≡ halt → run_status r ≡ 0
+    by_halt None e = rw e refl
+    by_halt (Some count) e =
+        let le : f.steps ≤ count = rw e at f.within in
+        rw (e, over-stays f.steps count r.session f.over le) refl
+
+pub halted-status : (r : Run) (text : List ℕ) → IsHalted r text → run_status r ≡ 3
+halted-status r text h = let lives : (live_after h.count r.session == 0) ≡ false = let some = h.lives in grind (arith, nat_tests) in rw (h.halt, lives) refl
+
+pub stops-with : (r : Run) (status : ℕ) (text : List ℕ) → Stops r status text → status ≡ run_status r
+stops-with r status text (finished e f) = e ∙ sym (finished-status r text f)
+stops-with r status text (halted e h) = e ∙ sym (halted-status r text h)
