@@ -1,11 +1,10 @@
 -- What is judged of a deck, and how a judgement is answered.
 use Rattle.std.proofs.Common.{◌≡◌, ◌≢◌, ◌≤◌, ◌<◌, ◌+◌, ◌⊎◌, inl, inr, true, false, ℕ, List, [], ◌∷◌, length, map, take, drop, min, ◌++◌, Bool, Result, refl, sym, ap, ◌∙◌, subst, arith, Option, Some, None, Ok, Err}
-use Rattle.std.specs.Prelude.{ℤ, nat_lt, count_by, is_some, ◌==◌, IfSome}
+use Rattle.std.specs.Prelude.{ℤ, nat_lt, is_some, IfSome}
 use Rattle.std.proofs.lemmas.Bool.{lt-ltb, false≢true}
 use Rattle.std.proofs.lemmas.Bool.Decides.{nat_tests}
 use Rattle.std.proofs.lemmas.List.{length-append, length-take, take_all, drop_all, take-append-drop}
 use denote.Ref.{Bor}
-use Rattle.b67_word.specs.Tagged.{Tagged, contents}
 use Rattle.b67_io.specs.Told.{TookPart, GaveAll}
 use Rattle.b67_io.specs.Causes.{Rose, Stayed}
 use Rattle.b67_io.proofs.Joined.{Took-none}
@@ -26,7 +25,7 @@ use Rattle.b67_commands.specs.Verdicts.{Verdict}
 use Rattle.b67_commands.specs.Meets.{IsJudged}
 use Rattle.b67_commands.proofs.Judged.{too_long, check_long, asm_long}
 use Rattle.b67_lines.specs.Ends.{Ends, whole, cut}
-use Rattle.b67_lines.specs.Stops.{Run, IsFinished, IsHalted, Stops, finished, halted, RunEnds, run_status}
+use Rattle.b67_lines.specs.Stops.{Run, IsFinished, Stops, finished, halted, RunEnds}
 use Rattle.b67_lines.proofs.Statuses.{finished-status, halted-status}
 use Rattle.b67_straight.specs.declared.machine.Terms.{Terms}
 use Rattle.b67_straight.specs.Lone.{Idle, lone, session_of}

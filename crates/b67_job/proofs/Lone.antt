@@ -1,6 +1,6 @@
 -- One job is planned.
-use Rattle.std.proofs.Common.{◌≡◌, ◌≤◌, ◌<◌, true, List, [], ◌∷◌, length, map, drop, get_or, refl, sym, ap, arith, Option, None}
-use Rattle.std.specs.Prelude.{ℕ, ℤ, if◌then◌else◌}
+use Rattle.std.proofs.Common.{◌≡◌, ◌≤◌, ◌<◌, true, List, [], ◌∷◌, length, map, drop, get_or, refl, sym, ap, arith, None}
+use Rattle.std.specs.Prelude.{ℕ}
 use Rattle.b67_model.specs.Program.{Program}
 use Rattle.b67_text.specs.declared.deck.Job.{Job}
 use Rattle.b67_straight.specs.Served.{is_served, IsOneSegment}

@@ -1,12 +1,12 @@
 -- A run stops with one status.
 use Rattle.std.proofs.Common.{◌≡◌, ◌≤◌, ◌+◌, ◌-◌, ℕ, zero, suc, false, List, [], ◌∷◌, length, map, reverse, refl, sym, ap, ◌∙◌, arith, Option, Some, None}
-use Rattle.std.specs.Prelude.{◌&&◌, ◌||◌, ◌==◌, ◌++◌, not, nat_lt, find, filter, flat_map, IfSome}
+use Rattle.std.specs.Prelude.{◌&&◌, ◌||◌, ◌==◌, ◌++◌, not, nat_lt, find, filter, flat_map}
 use Rattle.std.specs.List.{list_any}
 use Rattle.std.proofs.lemmas.List.Sums.{sum_by-cons}
 use Rattle.std.proofs.lemmas.Bool.Decides.{nat_tests}
 use Rattle.b67_model.specs.State.{Task, Member}
 use Rattle.b67_model.specs.Endings.{is_ready}
-use Rattle.b67_model.specs.Schedule.{Who, Session, Choice, is_same, is_before, ready_of, ready, afresh, switched, goes_on, first, next_after, choice_by, choice}
+use Rattle.b67_model.specs.Schedule.{Who, Session, is_same, is_before, ready_of, ready, afresh, switched, goes_on, first, next_after, choice_by, choice}
 use Rattle.b67_model.specs.Run.{Moment, next, moment_for, live_tasks, after, after_from}
 use Rattle.b67_lines.specs.Stops.{Run, live_after, IsFinished, IsHalted, Stops, finished, halted, run_status}
 

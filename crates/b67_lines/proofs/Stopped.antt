@@ -1,12 +1,11 @@
 -- A run that has come so far, and how it stops.
-use Rattle.std.proofs.Common.{◌≡◌, ◌≤◌, ◌<◌, ◌+◌, ◌-◌, ℕ, zero, suc, Bool, true, false, List, [], ◌∷◌, ◌++◌, refl, sym, ap, ◌∙◌, subst, arith, Option, Some, None, append-nil, append_assoc}
-use Rattle.std.specs.Prelude.{◌==◌, IfSome}
-use Rattle.std.proofs.lemmas.Bool.Decides.{nat_tests}
+use Rattle.std.proofs.Common.{◌≡◌, ◌≤◌, ◌<◌, ◌+◌, ◌-◌, ℕ, zero, suc, List, [], ◌++◌, refl, sym, ap, ◌∙◌, subst, arith, Option, Some, None, append-nil, append_assoc}
+use Rattle.std.specs.Prelude.{IfSome}
 use Rattle.std.proofs.lemmas.Grind.{flat_map-append}
 use Rattle.b67_io.specs.Line.{ended}
 use Rattle.b67_model.specs.Schedule.{Session}
 use Rattle.b67_model.specs.Lines.{run_text}
-use Rattle.b67_model.specs.Run.{Moment, RunLine, next, live_tasks, lines, lines_from, after, after_from}
+use Rattle.b67_model.specs.Run.{Moment, next, live_tasks, lines, lines_from, after, after_from}
 use Rattle.b67_lines.specs.Stops.{Run, live_after, halted_line, IsFinished, IsHalted, Stops, finished, halted}
 
 -- so many steps lead from the first session to this one, and print this text

@@ -4,6 +4,8 @@
 mod lines;
 mod names;
 mod printing;
+#[cfg(test)]
+mod tests;
 
 pub use lines::{ending_line, halted_line, line_of, value_line, with_number, with_text};
 pub use printing::say;

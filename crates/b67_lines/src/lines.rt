@@ -53,20 +53,14 @@ pub fn value_line(job: u8, task: u32, value: i64) -> Line
     ensures { result ≡ task_name job task ++ value_text value }
 {
     let mut buffer = Buffer::new();
-    with_text(
-        with_text(task_line(job, task), " "),
-        buffer.format(value),
-    )
+    with_text(with_text(task_line(job, task), " "), buffer.format(value))
 }
 
 /// The line of how a task of a job ended.
 pub fn ending_line(job: u8, task: u32, ending: Ending) -> Line
     ensures { result ≡ task_name job task ++ codes " " ++ ending_name ending }
 {
-    with_text(
-        with_text(task_line(job, task), " "),
-        ending_name(ending),
-    )
+    with_text(with_text(task_line(job, task), " "), ending_name(ending))
 }
 
 /// The line of a halt at a count of operators.

@@ -17,7 +17,6 @@ use Rattle.b67_model.specs.Steps.{Ends, Done}
 use Rattle.b67_model.specs.Rows.{row, step, step_by}
 use Rattle.b67_model.specs.Schedule.{Session}
 use Rattle.b67_model.specs.Run.{Moment, RunLine, next, of_job, live_tasks, after_from}
-use Rattle.b67_lines.specs.Stops.{live_after}
 use Rattle.b67_straight.specs.declared.stack.Cell.{Cell}
 use Rattle.b67_straight.specs.Stack as stack
 use Rattle.b67_straight.specs.Stack.{Turn, turn, is_built}

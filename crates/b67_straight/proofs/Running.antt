@@ -1,6 +1,6 @@
 -- What a run of code has printed, and what is left of it.
-use Rattle.std.proofs.Common.{◌≡◌, ℕ, ◌+◌, ◌-◌, ◌*◌, ◌≤◌, ◌<◌, ◌^◌, Bool, true, false, List, [], ◌∷◌, ◌++◌, length, refl, sym, ap, ◌∙◌, subst, arith, Option, None, Some, Ok, Err, append-nil, append_assoc, inl}
-use Rattle.std.specs.Prelude.{◌==◌, pos, IfSome, codes}
+use Rattle.std.proofs.Common.{◌≡◌, ℕ, ◌+◌, ◌-◌, ◌*◌, ◌≤◌, ◌<◌, ◌^◌, Bool, true, false, List, [], ◌++◌, length, refl, sym, ap, ◌∙◌, subst, arith, Option, None, Some, Ok, Err, append-nil, append_assoc, inl}
+use Rattle.std.specs.Prelude.{◌==◌, IfSome, codes}
 use Rattle.std.proofs.Math.Nat.{sub-zero}
 use Rattle.std.proofs.lemmas.Fmt.{decimal_digit}
 use Rattle.std.proofs.lemmas.Bool.{false≢true}
@@ -18,11 +18,9 @@ use Rattle.b67_io.proofs.Joined.{Took-then, Took-none, TookPart-then}
 use Rattle.b67_model.specs.Schedule.{Session}
 use Rattle.b67_model.specs.Operators.{Reading, operator_at, count_at}
 use Rattle.b67_model.specs.Lines.{run_text, task_name, ending_name}
-use Rattle.b67_model.specs.Lines as text
 use Rattle.b67_model.specs.Run.{Moment, RunLine, next, live_tasks, lines}
 use Rattle.b67_lines.specs.Ends.{Ends, whole, cut}
 use Rattle.b67_lines.specs.Stops.{Run, halted_line, IsFinished, IsHalted, finished, halted, RunEnds}
-use Rattle.b67_straight.specs.declared.machine.Terms.{Terms}
 use Rattle.b67_straight.specs.declared.stack.Cell.{Cell}
 use Rattle.b67_straight.specs.Stack as stack
 use Rattle.b67_straight.specs.Listed.{turn_of, behind, is_built_code}
@@ -31,7 +29,7 @@ use Rattle.b67_straight.specs.Printing.{run_lines, value_text, is_halt}
 use Rattle.b67_straight.proofs.Places.{operator-behind}
 use Rattle.b67_straight.proofs.Sessions.{Over, end_line}
 use Rattle.b67_lines.proofs.Stopped.{Ran, ran-none, ran-next, ran-finished, ran-halted, Ends_some, stops-past}
-use Rattle.b67_straight.proofs.Followed.{Machine, Comes, Comes_to, Onward, comes-here, some-over, run-ends}
+use Rattle.b67_straight.proofs.Followed.{Machine, Comes, Comes_to, comes-here, run-ends}
 
 -- what is printed after so many steps
 pub record Running {K : Type 0} (l : Lone) (taken : K → Option (List ℕ)) (old now : K) (cells : List Cell) (at : Place) (made : ℕ) : Type 0 where
@@ -133,7 +131,7 @@ module _ {K : Type 0} (l : Lone) (halt : Option ℕ) (taken : K → Option (List
   part-ends value more m new e is some within later rose part =
       let p = stops-past (made + 1) run m.session _ (ran-next made run.session h.session h.printed m h.ran e) within some in
       let same : h.printed ++ (value ++ (more ++ p.rest)) ≡ (h.printed ++ run_text m.lines) ++ p.rest =
-          ap (λ text. h.printed ++ text) (sym (append_assoc value more p.rest)) ∙ sym (append_assoc h.printed (value ++ more) p.rest) ∙ ap (λ text. (h.printed ++ text) ++ p.rest) (sym is) in
+      ap (λ text. h.printed ++ text) (sym (append_assoc value more p.rest)) ∙ sym (append_assoc h.printed (value ++ more) p.rest) ∙ ap (λ text. (h.printed ++ text) ++ p.rest) (sym is) in
       record {
         status = p.status;
         text = (h.printed ++ run_text m.lines) ++ p.rest;

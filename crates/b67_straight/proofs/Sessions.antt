@@ -12,7 +12,7 @@ use Rattle.b67_model.specs.Endings.{stepped, settles}
 use Rattle.b67_model.specs.Alone.{step_of, moment_with}
 use Rattle.b67_model.specs.Endings.{limited, ends_with}
 use Rattle.b67_model.specs.Rows.{step}
-use Rattle.b67_model.specs.Schedule.{Who, Session, Choice, choice, choice_by, switched, goes_on}
+use Rattle.b67_model.specs.Schedule.{Who, Session, Choice, choice, choice_by, goes_on}
 use Rattle.b67_model.specs.Run.{Moment, RunLine, next, with_moment, moment_for, of_job, live_tasks}
 use Rattle.b67_straight.specs.Frames.{task_at, job_at}
 use Rattle.b67_straight.specs.Lone.{Lone, setting_of}

@@ -4,6 +4,8 @@
 mod machine;
 mod program;
 mod stack;
+#[cfg(test)]
+mod tests;
 
 pub use machine::{Terms, run_code};
 pub use program::served_code;

@@ -17,7 +17,11 @@ fn built_code(segment: &Segment) -> Option<&[Word]>
         (λ code. (code.now ≡ segment.now.code) × (is_built_code (contents code.now) ≡ true)) }
 {
     let code = segment.code.as_slice();
-    if is_built_code(code) { Some(code) } else { None }
+    if is_built_code(code) {
+        Some(code)
+    } else {
+        None
+    }
 }
 
 /// The code of a program of one segment of built operators and no data row, with which the step loop can run it. None is

@@ -1,4 +1,4 @@
-use Rattle.std.proofs.Common.{sym, ap, ◌∙◌, subst, ◌≡◌, true, arith}
+use Rattle.std.proofs.Common.{subst, ◌≡◌, true, arith}
 use Rattle.b67_word.specs.Tagged.{contents}
 use Rattle.b67_codefile.specs.declared.file.Codefile.{Codefile}
 use Rattle.b67_codefile.specs.Meaning.{program_of}

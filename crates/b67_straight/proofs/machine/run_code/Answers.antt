@@ -2,10 +2,8 @@ use Rattle.std.proofs.Common.{◌≡◌, ◌+◌, ◌∙◌, ◌≤◌, ℕ, [],
 use Rattle.std.specs.Prelude.{◌==◌, IfSome}
 use Rattle.std.proofs.lemmas.Bool.Decides.{nat_tests}
 use Rattle.b67_word.specs.Tagged.{contents}
-use Rattle.b67_word.specs.declared.faults.Ending.TheVariants.{Limit}
-use Rattle.b67_straight.specs.Printing.{is_halt}
-use Rattle.b67_straight.specs.Lone.{Idle, Lone, lone}
-use Rattle.b67_straight.proofs.Running.{running-begins, running-goes, running-cut, running-ends, running-limit, running-halts, value-small, falls, not-halt, short-contents}
+use Rattle.b67_straight.specs.Lone.{Idle, lone}
+use Rattle.b67_straight.proofs.Running.{running-begins, running-goes, running-cut, running-ends, running-limit, running-halts, value-small, falls, not-halt}
 use Rattle.b67_straight.proofs.machine.run_code.Goals as goal
 
 -- any one job of the code on the terms
