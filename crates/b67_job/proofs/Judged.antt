@@ -28,7 +28,7 @@ use Rattle.b67_lines.specs.Ends.{Ends, whole, cut}
 use Rattle.b67_lines.specs.Stops.{Run, IsFinished, Stops, finished, halted, RunEnds}
 use Rattle.b67_lines.proofs.Statuses.{finished-status, halted-status}
 use Rattle.b67_straight.specs.declared.machine.Terms.{Terms}
-use Rattle.b67_straight.specs.Lone.{Idle, lone, session_of}
+use Rattle.b67_straight.specs.Lone.{Unread, lone, session_of}
 use Rattle.b67_straight.specs.Lone as straight
 use Rattle.b67_job.specs.Command.{command_of}
 use Rattle.b67_job.specs.declared.command.CommandLine.{CommandLine}
@@ -78,8 +78,8 @@ answers_idle {taken = taken} {faults = faults} now p e f = answers_same (Runs (r
     (record { status = 0; text = []; asked = done_asked (idle_text p.0 p.1 f) refl; ends = whole refl (Took-none taken now) })
 
 -- what a deck says of its lone job beside its code and its terms
-abbrev pub idle_of : Deck → ℕ → List ℤ → Idle
-idle_of d level numbers = record { level = level; numbers = numbers; quantum = d.quantum; switches = map switch_of d.switches }
+abbrev pub unread_of : Deck → ℕ → List ℤ → Unread
+unread_of d level numbers = record { level = level; numbers = numbers; quantum = d.quantum; switches = map switch_of d.switches }
 
 abbrev pub terms_of : Deck → ℕ → Terms
 terms_of d most = record { stack = d.stack; limit = most; halt = d.halt }
@@ -87,7 +87,7 @@ terms_of d most = record { stack = d.stack; limit = most; halt = d.halt }
 -- one job runs
 pub lone_is : (p : Prepared) (code : List ℕ) (most level : ℕ) (numbers : List ℤ) → missing p.0.jobs p.1 ≡ None
     → openings p.0.jobs p.1 ≡ record { program = record { segments = record { level = level; code = code } ∷ []; rows = [] }; limit = most; numbers = numbers } ∷ []
-    → deck_judgement p ≡ Runs (straight.run_of code (terms_of p.0 most) (idle_of p.0 level numbers))
+    → deck_judgement p ≡ Runs (straight.run_of code (terms_of p.0 most) (unread_of p.0 level numbers))
 lone_is p code most level numbers e f = none_is (missing p.0.jobs p.1) (run_of p.0 p.1) e
     ∙ ap (λ (os : List Opening). Runs (record { session = opening p.0.stack p.0.quantum (map switch_of p.0.switches) os; halt = p.0.halt })) f
 

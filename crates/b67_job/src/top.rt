@@ -10,7 +10,7 @@ ghost use Rattle.b67_admit.specs.Meets.{prepared_of};
 ghost use Rattle.b67_lines.specs.Ends.{Ends};
 ghost use Rattle.b67_lines.specs.Stops.{Run, IsHalted};
 ghost use Rattle.b67_straight.specs.Listed.{is_built_code};
-ghost use Rattle.b67_straight.specs.Lone.{Idle, run_of};
+ghost use Rattle.b67_straight.specs.Lone.{Unread, run_of};
 ghost use Rattle.b67_job.specs.Command.{command_of};
 ghost use Rattle.b67_job.specs.declared.command.CommandLine.{CommandLine};
 ghost use Rattle.b67_job.specs.Judgement.{deck_judgement, asked, Refused, Runs, judged_status};
@@ -128,7 +128,7 @@ fn answer_deck<K: Sink>(alloc: Global, loaded: &Loaded, printer: &mut K) -> u8
 fn answer_code<K: Sink>(alloc: Global, code: &[Word], terms: Terms, printer: &mut K) -> u8
     requires short { length code.now ≤ 8191 }
     requires built { is_built_code (contents code.now) ≡ true }
-    ensures { (idle : Idle) → AnswersTo (Runs (run_of (contents code.now) terms idle)) K.taken K.faults printer.old printer.new result }
+    ensures { (unread : Unread) → AnswersTo (Runs (run_of (contents code.now) terms unread)) K.taken K.faults printer.old printer.new result }
 {
     match run_code(alloc, printer, code, terms) {
         Ok(status) => status,

@@ -27,22 +27,22 @@ abbrev pub session_of : Lone → Session
 session_of l = opening l.stack l.quantum l.switches (record { program = program_of l; limit = l.limit; numbers = l.numbers } ∷ [])
 
 -- what a run of straight-line code never looks at
-pub record Idle : Type 0 where
+pub record Unread : Type 0 where
   pub level : ℕ
   pub numbers : List ℤ
   pub quantum : ℕ
   pub switches : List Switch
 
 -- the job of this code on these terms, whatever the rest is
-abbrev pub lone : List ℕ → Terms → Idle → Lone
-lone code terms idle = record {
-  segment = record { level = idle.level; code = code };
+abbrev pub lone : List ℕ → Terms → Unread → Lone
+lone code terms unread = record {
+  segment = record { level = unread.level; code = code };
   stack = terms.stack;
   limit = terms.limit;
-  numbers = idle.numbers;
-  quantum = idle.quantum;
-  switches = idle.switches;
+  numbers = unread.numbers;
+  quantum = unread.quantum;
+  switches = unread.switches;
 }
 
-abbrev pub run_of : List ℕ → Terms → Idle → Run
-run_of code terms idle = record { session = session_of (lone code terms idle); halt = terms.halt }
+abbrev pub run_of : List ℕ → Terms → Unread → Run
+run_of code terms unread = record { session = session_of (lone code terms unread); halt = terms.halt }

@@ -8,7 +8,7 @@ ghost use Rattle.b67_io.specs.Causes.{HasCause};
 ghost use Rattle.b67_lines.specs.Stops.{RunEnds};
 ghost use Rattle.b67_straight.specs.Stack.{Turned};
 ghost use Rattle.b67_straight.specs.Listed.{is_built_code, is_end, turn_of, behind};
-ghost use Rattle.b67_straight.specs.Lone.{Idle, run_of};
+ghost use Rattle.b67_straight.specs.Lone.{Unread, run_of};
 ghost use Rattle.b67_straight.specs.Printing.{value_text, is_halt};
 
 use crate::stack::{Stack, Turn, is_built};
@@ -104,7 +104,9 @@ fn is_halt(halt: Option<u64>, made: u64) -> bool
     }
 }
 
-/// Runs code to its end, to its limit or to the halt, and prints what it prints.
+/// Runs code of built operators as the one task of a session, to its end, to its limit of operators or to the halt. Prints
+/// its lines, and answers the status with which the run stops, or 8 where the printer fails. All memory is taken before the
+/// first operator; an error is want of it, with nothing printed.
 pub fn run_code<K: Sink>(
     alloc: Global,
     printer: &mut K,
@@ -113,7 +115,7 @@ pub fn run_code<K: Sink>(
 ) -> Result<u8, AllocError>
     requires short { length code.now ≤ 8191 }
     requires built { is_built_code (contents code.now) ≡ true }
-    ensures runs { IfOk result (λ answer. (idle : Idle) → RunEnds (run_of (contents code.now) terms idle) K.taken K.faults printer.old printer.new answer) }
+    ensures runs { IfOk result (λ answer. (unread : Unread) → RunEnds (run_of (contents code.now) terms unread) K.taken K.faults printer.old printer.new answer) }
     ensures untouched { IfErr result (λ _. printer.new ≡ printer.old) }
 {
     let mut stack = Stack::new(alloc, terms.stack)?;

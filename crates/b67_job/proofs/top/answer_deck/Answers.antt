@@ -3,7 +3,7 @@ use Rattle.b67_admit.specs.declared.refusal.Refusal.TheVariants as refusals
 use Rattle.b67_admit.specs.Meets.{prepared_of}
 use Rattle.b67_straight.specs.Lone.{run_of}
 use Rattle.b67_job.specs.Judgement.{Runs, deck_judgement}
-use Rattle.b67_job.proofs.Judged.{answers_idle, answers_refusal, answers_same, missing_is, lone_is, idle_of, terms_of}
+use Rattle.b67_job.proofs.Judged.{answers_idle, answers_refusal, answers_same, missing_is, lone_is, unread_of, terms_of}
 use Rattle.b67_job.proofs.top.answer_deck.Goals as goal
 
 pub returns-in-Idle : goal.returns-in-Idle
@@ -21,5 +21,5 @@ returns-in-Runs g c =
     let h = rw (c.as_slice.ensures, c.as_slice-2.ensures) at c.in-Runs.ensures in
     let p = prepared_of c.args.loaded.now in
     let code = contents c.in-Runs.code.now in
-    let idle = idle_of p.0 h.1 h.2 in
-    answers_same (Runs (run_of code (terms_of p.0 c.in-Runs.limit) idle)) (deck_judgement p) c.answer_code.result (lone_is p code c.in-Runs.limit h.1 h.2 h.0 h.3) (c.answer_code.ensures idle)
+    let unread = unread_of p.0 h.1 h.2 in
+    answers_same (Runs (run_of code (terms_of p.0 c.in-Runs.limit) unread)) (deck_judgement p) c.answer_code.result (lone_is p code c.in-Runs.limit h.1 h.2 h.0 h.3) (c.answer_code.ensures unread)

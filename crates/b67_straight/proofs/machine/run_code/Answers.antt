@@ -2,12 +2,12 @@ use Rattle.std.proofs.Common.{◌≡◌, ◌+◌, ◌∙◌, ◌≤◌, ℕ, [],
 use Rattle.std.specs.Prelude.{◌==◌, IfSome}
 use Rattle.std.proofs.lemmas.Bool.Decides.{nat_tests}
 use Rattle.b67_word.specs.Tagged.{contents}
-use Rattle.b67_straight.specs.Lone.{Idle, lone}
+use Rattle.b67_straight.specs.Lone.{Unread, lone}
 use Rattle.b67_straight.proofs.Running.{running-begins, running-goes, running-cut, running-ends, running-limit, running-halts, value-small, falls, not-halt}
 use Rattle.b67_straight.proofs.machine.run_code.Goals as goal
 
 -- any one job of the code on the terms
-nothing : Idle
+nothing : Unread
 nothing = record { level = 2; numbers = []; quantum = 1; switches = [] }
 
 from-none : (halt : Option ℕ) → IfSome halt (λ count. 0 ≤ count)
@@ -24,13 +24,13 @@ step-init g c = record {
   within = from-none c.args.terms.halt;
   counts = omega arith;
   inside = omega arith;
-  runs = λ idle. rw c.in_ok-stack.ensures (running-begins (lone (contents c.args.code.now) c.args.terms idle) g.K.Sink.taken c.args.printer.now c.requires.built);
+  runs = λ unread. rw c.in_ok-stack.ensures (running-begins (lone (contents c.args.code.now) c.args.terms unread) g.K.Sink.taken c.args.printer.now c.requires.built);
 }
 
 pub returns-in-Ends-clause-runs : goal.returns-in-Ends-clause-runs
-returns-in-Ends-clause-runs g c = λ idle.
-    running-ends (lone (contents c.args.code.now) c.args.terms idle) c.args.terms.halt g.K.Sink.taken g.K.Sink.faults c.args.printer.now c.step.printer c.step.stack.cells c.step.at c.step.made
-    (c.step.invariant.runs idle) c.step.stack.size c.step.invariant.size c.in-Ends.ending c.ending_line.result c.say.new.printer c.say.result c.in-Ends.ensures.turn c.ending_line.ensures
+returns-in-Ends-clause-runs g c = λ unread.
+    running-ends (lone (contents c.args.code.now) c.args.terms unread) c.args.terms.halt g.K.Sink.taken g.K.Sink.faults c.args.printer.now c.step.printer c.step.stack.cells c.step.at c.step.made
+    (c.step.invariant.runs unread) c.step.stack.size c.step.invariant.size c.in-Ends.ending c.ending_line.result c.say.new.printer c.say.result c.in-Ends.ensures.turn c.ending_line.ensures
     (not-halt c.args.terms.halt c.step.made (sym c.is_halt.ensures ∙ c.step-test.true) c.step.invariant.within) c.step.invariant.later c.say.ensures
 
 pub put_value-requires : goal.put_value-requires
@@ -39,15 +39,15 @@ put_value-requires g c =
     (c.step.invariant.runs nothing) c.step.stack.size c.step.invariant.size c.advance.new.stack.cells c.in-Goes.printed c.advance.new.at c.in-Goes.ensures.turn c.in-Goes.ensures.place
 
 pub returns-in-Err-clause-runs : goal.returns-in-Err-clause-runs
-returns-in-Err-clause-runs g c = λ idle.
-    running-cut (lone (contents c.args.code.now) c.args.terms idle) c.args.terms.halt g.K.Sink.taken g.K.Sink.faults c.args.printer.now c.step.printer c.step.stack.cells c.step.at c.step.made
-    (c.step.invariant.runs idle) c.step.stack.size c.step.invariant.size c.advance.new.stack.cells c.in-Goes.printed c.advance.new.at c.in-Goes.ensures.turn c.in-Goes.ensures.place c.put_value.new.printer
+returns-in-Err-clause-runs g c = λ unread.
+    running-cut (lone (contents c.args.code.now) c.args.terms unread) c.args.terms.halt g.K.Sink.taken g.K.Sink.faults c.args.printer.now c.step.printer c.step.stack.cells c.step.at c.step.made
+    (c.step.invariant.runs unread) c.step.stack.size c.step.invariant.size c.advance.new.stack.cells c.in-Goes.printed c.advance.new.at c.in-Goes.ensures.turn c.in-Goes.ensures.place c.put_value.new.printer
     (not-halt c.args.terms.halt c.step.made (sym c.is_halt.ensures ∙ c.step-test.true) c.step.invariant.within) c.step.invariant.later c.in-Err.ensures.cause.failed c.in-Err.ensures.part
 
 pub returns-then-made-terms-clause-runs : goal.returns-then-made-terms-clause-runs
-returns-then-made-terms-clause-runs g c = λ idle.
-    running-limit (lone (contents c.args.code.now) c.args.terms idle) c.args.terms.halt g.K.Sink.taken g.K.Sink.faults c.args.printer.now c.step.printer c.step.stack.cells c.step.at c.step.made
-    (c.step.invariant.runs idle) c.step.stack.size c.step.invariant.size c.advance.new.stack.cells c.in-Goes.printed c.advance.new.at c.in-Goes.ensures.turn c.in-Goes.ensures.place
+returns-then-made-terms-clause-runs g c = λ unread.
+    running-limit (lone (contents c.args.code.now) c.args.terms unread) c.args.terms.halt g.K.Sink.taken g.K.Sink.faults c.args.printer.now c.step.printer c.step.stack.cells c.step.at c.step.made
+    (c.step.invariant.runs unread) c.step.stack.size c.step.invariant.size c.advance.new.stack.cells c.in-Goes.printed c.advance.new.at c.in-Goes.ensures.turn c.in-Goes.ensures.place
     c.put_value.new.printer c.say-then-made-terms.new.printer c.ending_line-then-made-terms.result c.say-then-made-terms.result (reached (c.step.made + 1) c.args.terms.limit c.if-made-terms.true)
     c.ending_line-then-made-terms.ensures (not-halt c.args.terms.halt c.step.made (sym c.is_halt.ensures ∙ c.step-test.true) c.step.invariant.within)
     (omega (arith, c.step.invariant.later, c.in-Ok.ensures.cause.later)) c.in-Ok.ensures.whole c.say-then-made-terms.ensures
@@ -66,9 +66,9 @@ step-preserved g c =
       within = not-halt c.args.terms.halt c.step.made (sym c.is_halt.ensures ∙ c.step-test.true) c.step.invariant.within;
       counts = omega (arith, f.0, c.step.invariant.counts);
       inside = f.1;
-      runs = λ idle.
-          running-goes (lone (contents c.args.code.now) c.args.terms idle) c.args.terms.halt g.K.Sink.taken g.K.Sink.faults c.args.printer.now c.step.printer c.step.stack.cells c.step.at c.step.made
-          (c.step.invariant.runs idle) c.step.stack.size c.step.invariant.size c.advance.new.stack.cells c.in-Goes.printed c.advance.new.at c.in-Goes.ensures.turn c.in-Goes.ensures.place
+      runs = λ unread.
+          running-goes (lone (contents c.args.code.now) c.args.terms unread) c.args.terms.halt g.K.Sink.taken g.K.Sink.faults c.args.printer.now c.step.printer c.step.stack.cells c.step.at c.step.made
+          (c.step.invariant.runs unread) c.step.stack.size c.step.invariant.size c.advance.new.stack.cells c.in-Goes.printed c.advance.new.at c.in-Goes.ensures.turn c.in-Goes.ensures.place
           c.put_value.new.printer (below (c.step.made + 1) c.args.terms.limit c.if-made-terms.false) c.in-Ok.ensures.whole;
     }
   where
@@ -76,6 +76,6 @@ step-preserved g c =
     below n m other = grind (arith, nat_tests)
 
 pub returns-clause-runs : goal.returns-clause-runs
-returns-clause-runs g c = λ idle.
-    running-halts (lone (contents c.args.code.now) c.args.terms idle) c.args.terms.halt g.K.Sink.taken g.K.Sink.faults c.args.printer.now c.step.printer c.step.stack.cells c.step.at c.step.made
-    (c.step.invariant.runs idle) c.halted_line.result c.say-2.new.printer c.say-2.result (sym c.is_halt.ensures ∙ c.step-test.false) c.halted_line.ensures c.step.invariant.later c.say-2.ensures
+returns-clause-runs g c = λ unread.
+    running-halts (lone (contents c.args.code.now) c.args.terms unread) c.args.terms.halt g.K.Sink.taken g.K.Sink.faults c.args.printer.now c.step.printer c.step.stack.cells c.step.at c.step.made
+    (c.step.invariant.runs unread) c.halted_line.result c.say-2.new.printer c.say-2.result (sym c.is_halt.ensures ∙ c.step-test.false) c.halted_line.ensures c.step.invariant.later c.say-2.ensures
