@@ -45,6 +45,14 @@ run_status r = by_halt r.halt
     by_halt None = 0
     by_halt (Some count) = if live_after count r.session == 0 then 0 else 3
 
+-- a run stops with one status and one text
+abbrev pub StopsOnce : Type 0
+StopsOnce = (r : Run) (status status' : ℕ) (text text' : List ℕ) → Stops r status text → Stops r status' text' → (status ≡ status') × (text ≡ text')
+
+-- and this is the status
+abbrev pub StopsWithStatus : Type 0
+StopsWithStatus = (r : Run) (status : ℕ) (text : List ℕ) → Stops r status text → status ≡ run_status r
+
 -- a run stops, and its text is printed, unless the printer fails
 pub record RunEnds {K : Type 0} (r : Run) (taken : K → Option (List ℕ)) (faults : K → ℕ) (old new : K) (answer : ℕ) : Type 0 where
   pub status : ℕ
