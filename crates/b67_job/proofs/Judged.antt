@@ -46,9 +46,6 @@ module _ {K : Type 0} {taken : K → Option (List ℕ)} {faults : K → ℕ} {ol
   pub answers_refusal : (j : Judgement) (r : Refusal) (answer : ℕ) → j ≡ Refused r → Ends taken faults old new 2 (refusal_text r) answer → AnswersTo j taken faults old new answer
   answers_refusal j r answer e ends = record { status = 2; text = refusal_text r; asked = refusal_asked r e refl refl; ends = ends }
 
-  pub answers_memory : (j : Judgement) (answer : ℕ) → Ends taken faults old new 9 memory_text answer → AnswersTo j taken faults old new answer
-  answers_memory j answer ends = record { status = 9; text = memory_text; asked = memory_asked refl refl; ends = ends }
-
   pub answers_run : (r : Run) (answer : ℕ) → RunEnds r taken faults old new answer → AnswersTo (Runs r) taken faults old new answer
   answers_run r answer ran = record { status = ran.status; text = ran.text; asked = stops_asked r ran.stops; ends = ran.ends }
 

@@ -22,7 +22,7 @@ all_built (At place op ∷ more) = is_built op && all_built more
 abbrev pub is_built_code : List ℕ → Bool
 is_built_code code = all_built (listing code)
 
--- what the operator that is read does to the stack
+-- what the operator that is read does to a stack of this size
 abbrev pub turn_of : Reading → ℕ → List Cell → Turn
 turn_of (Err undecodable) size cells = Stops (Faulted InvalidOperator)
 turn_of (Ok read) size cells = turn read.0 size cells

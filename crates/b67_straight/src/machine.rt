@@ -1,4 +1,4 @@
-//! The machine of this stage: one task of straight-line code on one stack.
+//! The step loop: one task of straight-line code on one stack.
 
 ghost use Rattle.std.specs.Prelude.{◌≡◌, ◌≤◌, ◌<◌, ◌^◌, length, true, IfSome, IfOk, IfErr, OnOk, OnErr};
 ghost use Rattle.b67_word.specs.Tagged.{contents};

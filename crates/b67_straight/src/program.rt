@@ -24,8 +24,8 @@ fn built_code(segment: &Segment) -> Option<&[Word]>
     }
 }
 
-/// The code of a program of one segment of built operators and no data row, with which the step loop can run it. None is
-/// where it has something else.
+/// The code by which the step loop can run a program: it is that of one segment, of built operators, and there is no data
+/// row. None is where the program has something else.
 pub fn served_code(file: &Codefile) -> Option<&[Word]>
     requires { IsWithin file.now }
     ensures { MatchOption result (is_served (program_of file.now) ≡ false)
