@@ -1,5 +1,5 @@
 -- The machine where a call was cut, and then with a word on the frame below.
-use Rattle.std.proofs.Common.{◌≡◌, ◌≢◌, ℕ, suc, ◌+◌, ◌-◌, ◌<◌, ◌≤◌, List, [], ◌∷◌, refl, sym, ◌∙◌, ap, arith, inl, inr, ◌⊎◌, subst, slice_set}
+use Rattle.std.proofs.Common.{◌≡◌, ◌≢◌, ℕ, suc, ◌+◌, ◌-◌, ◌<◌, ◌≤◌, ℤ, List, [], ◌∷◌, refl, sym, ◌∙◌, ap, arith, inl, inr, ◌⊎◌, subst, slice_set}
 use Rattle.std.specs.List.{slice_get}
 use Rattle.std.proofs.lemmas.Bool.{cases_eq}
 use Rattle.b67_core.proofs.Writes.{slice_get-set_other}
@@ -28,7 +28,6 @@ use Rattle.b67_layout.proofs.Pictures.{member-same}
 use Rattle.b67_layout.proofs.Frames.{height-is}
 use Rattle.b67_layout.proofs.Fresh.{fresh}
 use Rattle.b67_layout.proofs.Steps.{IsFree}
-use Rattle.b67_layout.proofs.Whole.{session_with}
 use Rattle.b67_entering.proofs.Awaits.{with_job-twice}
 use Rattle.b67_cells.specs.Tops.{cells}
 use Rattle.b67_mcp.specs.Calls.{MayCut, job_cut}
@@ -42,14 +41,6 @@ task_cut m t q = answered (here m t q) []
 
 abbrev pub member_cut : Member → Task → Place → Member
 member_cut m t q = record m { course = record m.course { job = job_cut m t q } }
-
--- the job that is cut, and then has a word more, is the one that is answered
-pub answered_is : (s : Session) (m : Member) (t : Task) (q : Place) (v : Word)
-    → session_with (with_job s m (job_cut m t q)) (member_cut m t q) (task_cut m t q) (v ∷ cells (task_cut m t q)) q ≡ with_job s m (job_answered m t v q)
-answered_is s m t q v =
-    let two : Task = answered (here m t q) (v ∷ []) in
-    with_job-twice s m (job_cut m t q) (with_task (job_cut m t q) two)
-    ∙ ap (λ (ts : List Task). with_job s m (record m.course.job { tasks = ts })) (change_twice (λ (u : Task). u.number) t.number (task_cut m t q) two m.course.job.tasks refl)
 
 -- a mark takes a word
 lower : (fs : List Frame) (f : Frame) (below : List Frame) → fs ≡ f ∷ below → f.standing ≡ State.Marked → height (below_top fs) + 1 ≤ height fs
@@ -100,9 +91,10 @@ module _ (x : Storage) (old mid : Cpu) (plan : Plan) (s : Session) (m : Member) 
   ]
 
   -- the machine with a word that may stand there
-  pub stands_answered : (v : Word) (w : Tagged) → MayPush (picture plan (with_job s m (job_cut m t q)).jobs).things (shaped x mid plan (with_job s m (job_cut m t q)) (member_cut m t q) (task_cut m t q) cut runs_cut v)
+  pub stands_answered : (v : Word) (w : Tagged) (numbers : List ℤ) → MayPush (picture plan (with_job s m (job_cut m t q)).jobs).things (shaped x mid plan (with_job s m (job_cut m t q)) (member_cut m t q) (task_cut m t q) cut runs_cut v)
       → Fits x.held (shaped x mid plan (with_job s m (job_cut m t q)) (member_cut m t q) (task_cut m t q) cut runs_cut v) (mid.regs.s + 1) w
-      → SessionStands x (pushed mid w) plan (with_job s m (job_answered m t v q))
-  stands_answered v w push fit =
-      let d = stands_pushed x mid plan (with_job s m (job_cut m t q)) (member_cut m t q) (task_cut m t q) cut runs_cut m.course.job.next_frame v w free_cut higher push fit in
-      subst (λ (k : Session). SessionStands x (pushed mid w) plan k) (answered_is s m t q v) d
+      → SessionStands x (pushed mid w) plan (with_job s m (job_answered m t v q numbers))
+  stands_answered v w numbers push fit =
+      let d = stands_pushed x mid plan (with_job s m (job_cut m t q)) (member_cut m t q) (task_cut m t q) cut runs_cut m.course.job.next_frame v w (job_answered m t v q numbers) free_cut refl
+      (sym (change_twice (λ (u : Task). u.number) t.number (task_cut m t q) (answered (here m t q) (v ∷ [])) m.course.job.tasks refl)) higher push fit in
+      subst (λ (k : Session). SessionStands x (pushed mid w) plan k) (with_job-twice s m (job_cut m t q) (job_answered m t v q numbers)) d

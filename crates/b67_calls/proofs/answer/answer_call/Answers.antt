@@ -31,12 +31,12 @@ set-requires c =
     omega (arith, o.last, o.under, o.inside, high)
 
 pub returns-clause-stands : goal.returns-clause-stands
-returns-clause-stands c = λ x plan s m t o h runs bits may e.
+returns-clause-stands c = λ x plan s m t o h runs bits numbers may e.
     (let q = c.args.next in
     let mid = c.cut_call.new.cpu in
     let cut = c.cut_call.ensures.stands x plan s m t o h runs may in
-    let P : List Tagged → Type 0 = λ core. SessionStands x (record mid { core = core; regs = record mid.regs { s = mid.regs.s + 1 } }) plan (with_job s m (job_answered m t (Operand bits) q)) in
-    subst P (sym c.set.ensures.value) (stands_answered x c.args.cpu.now mid plan s m t q o h runs may cut (Operand bits) c.args.w tt (e, λ z. cc)))
+    let P : List Tagged → Type 0 = λ core. SessionStands x (record mid { core = core; regs = record mid.regs { s = mid.regs.s + 1 } }) plan (with_job s m (job_answered m t (Operand bits) q numbers)) in
+    subst P (sym c.set.ensures.value) (stands_answered x c.args.cpu.now mid plan s m t q o h runs may cut (Operand bits) c.args.w numbers tt (e, λ z. cc)))
 
 pub returns-clause-changed : goal.returns-clause-changed
 returns-clause-changed c = λ x plan s m t o h runs may i.
