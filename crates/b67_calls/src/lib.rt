@@ -2,5 +2,7 @@
 #![tactic(auto)]
 
 mod answer;
+mod read;
 
 pub use answer::answer_call;
+pub use read::read_number;
