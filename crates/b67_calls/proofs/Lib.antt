@@ -6,3 +6,4 @@ pub mod Added
 pub mod Originals
 pub mod Avoiding
 pub mod Replanned
+pub mod Declaring
