@@ -7,3 +7,4 @@ pub mod Originals
 pub mod Avoiding
 pub mod Replanned
 pub mod Declaring
+pub mod Arrays

@@ -2,7 +2,9 @@
 #![tactic(auto)]
 
 mod answer;
+mod declare;
 mod read;
 
 pub use answer::answer_call;
+pub use declare::answer_array;
 pub use read::read_number;
