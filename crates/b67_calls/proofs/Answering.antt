@@ -1,5 +1,5 @@
 -- The machine where a call was cut, and then with a word on the frame below.
-use Rattle.std.proofs.Common.{◌≡◌, ◌≢◌, ℕ, suc, ◌+◌, ◌-◌, ◌<◌, ◌≤◌, ℤ, List, [], ◌∷◌, refl, sym, ◌∙◌, ap, arith, inl, inr, ◌⊎◌, subst, slice_set}
+use Rattle.std.proofs.Common.{◌≡◌, ◌≢◌, ℕ, suc, ◌+◌, ◌-◌, ◌<◌, ◌≤◌, ℤ, List, [], ◌∷◌, length, refl, sym, ◌∙◌, ap, arith, inl, inr, ◌⊎◌, subst, slice_set}
 use Rattle.std.specs.List.{slice_get}
 use Rattle.std.proofs.lemmas.Bool.{cases_eq}
 use Rattle.b67_core.proofs.Writes.{slice_get-set_other}
@@ -8,7 +8,7 @@ use Rattle.b67_word.specs.declared.couples.Place.{Place}
 use Rattle.b67_model.specs.Lists.{Has}
 use Rattle.b67_model.specs.Words.{Word}
 use Rattle.b67_model.specs.State as State
-use Rattle.b67_model.specs.State.{Frame, Task, Job, Member, height, below_top, with_task}
+use Rattle.b67_model.specs.State.{Frame, Task, Job, Member, height, top, below_top, with_top_cells}
 use Rattle.b67_model.specs.Intrinsics.{answered}
 use Rattle.b67_model.specs.Schedule.{Session}
 use Rattle.b67_model.specs.InOrder.{IsInOrderButPlaces}
@@ -41,6 +41,12 @@ task_cut m t q = answered (here m t q) []
 
 abbrev pub member_cut : Member → Task → Place → Member
 member_cut m t q = record m { course = record m.course { job = job_cut m t q } }
+
+-- a word on the frame below is no higher than the call
+pub no_higher : (fs : List Frame) (w : Word) → 1 ≤ length (top fs).cells → height (with_top_cells (below_top fs) (w ∷ (top (below_top fs)).cells)) ≤ height fs
+no_higher [] w some = omega arith
+no_higher (f ∷ []) w some = omega (arith, some)
+no_higher (f ∷ g ∷ more) w some = omega (arith, some)
 
 -- a mark takes a word
 lower : (fs : List Frame) (f : Frame) (below : List Frame) → fs ≡ f ∷ below → f.standing ≡ State.Marked → height (below_top fs) + 1 ≤ height fs
