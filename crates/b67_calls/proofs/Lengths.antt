@@ -1,5 +1,5 @@
 -- What ARRAYDEC makes of its argument.
-use Rattle.std.proofs.Common.{◌≡◌, ◌≢◌, ℕ, suc, ◌+◌, ◌<◌, ◌≤◌, ◌^◌, ℤ, List, [], ◌∷◌, reverse, length, replicate, Result, Ok, Err, None, refl, sym, ◌∙◌, ap, arith, true, false, subst}
+use Rattle.std.proofs.Common.{◌≡◌, ◌≢◌, ℕ, suc, ◌+◌, ◌<◌, ◌≤◌, ◌^◌, ℤ, List, [], ◌∷◌, length, Result, Ok, Err, None, refl, sym, ◌∙◌, ap, arith, true, false, subst}
 use Rattle.std.specs.Result.{is_ok}
 use Rattle.std.proofs.lemmas.Bool.{le-leb}
 use Rattle.std.proofs.lemmas.List.{length-reverse}
@@ -9,7 +9,7 @@ use Rattle.b67_word.specs.declared.faults.Fault.{Fault}
 use Rattle.b67_word.specs.declared.faults.Fault.TheVariants.{InvalidOperand, CriticalBlock}
 use Rattle.b67_model.specs.Answers.{Answer, ◌>>=◌}
 use Rattle.b67_model.specs.Words.{Word, Original, operand, number, whole}
-use Rattle.b67_model.specs.State.{Frame, Task, Member, height, top, below_top, with_top_cells}
+use Rattle.b67_model.specs.State.{Task, Member, height, top, below_top, with_top_cells}
 use Rattle.b67_model.specs.Steps.{Done, is_critical}
 use Rattle.b67_model.specs.Intrinsics.{is_original, array_length, arraydec, answers}
 use Rattle.b67_stack.specs.declared.Cpu.{Cpu}
@@ -18,8 +18,8 @@ use Rattle.b67_layout.specs.Plan.{Plan}
 use Rattle.b67_layout.specs.Meets.{here}
 use Rattle.b67_cells.specs.Tops.{cells, GivesTop, NoOriginals}
 use Rattle.b67_operands.proofs.Rows.{plain_operand}
-use Rattle.b67_mcp.specs.Calls.{IsCall, number_in}
-use Rattle.b67_mcp.proofs.Prints.{One, one, value_is}
+use Rattle.b67_mcp.specs.Calls.{IsCall}
+use Rattle.b67_mcp.proofs.Prints.{one, value_is}
 use Rattle.b67_calls.specs.Declared.{new_array, length_in, LengthMeets}
 use Rattle.b67_calls.proofs.Answering.{no_higher}
 
