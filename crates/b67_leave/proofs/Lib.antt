@@ -1,3 +1,5 @@
+pub mod Putting
+pub mod Retning
 pub mod CopyRefusals
 pub mod Refusals
 pub mod Retns

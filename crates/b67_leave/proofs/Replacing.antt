@@ -102,6 +102,18 @@ module _ (x : Storage) (old : Cpu) (plan : Plan) (s : Session) (m : Member) (t :
   stack_fits : IsStack plan.size (on_top x old plan s m t o h runs a ∷ under x old plan s m t o h runs a) × CopiesName (picture plan s.jobs).things (words old.regs.slot (on_top x old plan s m t o h runs a ∷ under x old plan s m t o h runs a))
   stack_fits = running_fits x old.core old.regs (picture plan s.jobs) old.regs.slot (on_top x old plan s m t o h runs a ∷ under x old plan s m t o h runs a) h.holds.memory (on_stack x old plan s m t o h runs a)
 
+  -- where the word goes
+  abbrev pub top_at : ℕ
+  top_at = old.regs.bosr + high (under x old plan s m t o h runs a) + 1
+
+  stack_is : RunningStands old.regs (picture plan s.jobs) old.regs.slot (on_top x old plan s m t o h runs a ∷ under x old plan s m t o h runs a)
+  stack_is = running_slot x old.core old.regs (picture plan s.jobs) old.regs.slot (on_top x old plan s m t o h runs a ∷ under x old plan s m t o h runs a) h.holds.memory (on_stack x old plan s m t o h runs a)
+
+  pub top_inside : (plan.stacks ≤ old.regs.bosr) × (old.regs.bosr < top_at) × (top_at < old.regs.losr)
+  top_inside =
+      let size = size_entered x old.core old.regs (picture plan s.jobs) old.regs.slot (on_top x old plan s m t o h runs a) _ _ a.level _ a.back h.holds.memory (on_stack x old plan s m t o h runs a) (may_return x old plan s m t o h runs a).entered in
+      (omega (arith, stack_is.first), omega arith, omega (arith, size, stack_fits.0.fits, stack_is.first, stack_is.last))
+
   -- the shape of a word on the caller's frame
   abbrev pub new_shape : Word → Shape
   new_shape v = shape plan m.setting.number m.course.job (spot_in plan.running (outer x old plan s m t o h runs a) (a.next ∷ a.more)) v
@@ -158,18 +170,6 @@ module _ (x : Storage) (old : Cpu) (plan : Plan) (s : Session) (m : Member) (t :
     }
 
   module _ (v : Word) (w : Tagged) (put : Puts v w) where
-    -- where the word goes
-    abbrev pub top_at : ℕ
-    top_at = old.regs.bosr + high (under x old plan s m t o h runs a) + 1
-
-    stack_is : RunningStands old.regs (picture plan s.jobs) old.regs.slot (on_top x old plan s m t o h runs a ∷ under x old plan s m t o h runs a)
-    stack_is = running_slot x old.core old.regs (picture plan s.jobs) old.regs.slot (on_top x old plan s m t o h runs a ∷ under x old plan s m t o h runs a) h.holds.memory (on_stack x old plan s m t o h runs a)
-
-    pub top_inside : (plan.stacks ≤ old.regs.bosr) × (old.regs.bosr < top_at) × (top_at < old.regs.losr)
-    top_inside =
-        let size = size_entered x old.core old.regs (picture plan s.jobs) old.regs.slot (on_top x old plan s m t o h runs a) _ _ a.level _ a.back h.holds.memory (on_stack x old plan s m t o h runs a) (may_return x old plan s m t o h runs a).entered in
-        (omega (arith, stack_is.first), omega arith, omega (arith, size, stack_fits.0.fits, stack_is.first, stack_is.last))
-
     -- the machine afterwards
     abbrev pub new_core : List Tagged
     new_core = slice_set old.core top_at w
