@@ -1,5 +1,5 @@
 -- The original of a copy, from the head of its area or from the copy itself.
-use Rattle.std.proofs.Common.{◌≡◌, ℕ, ◌+◌, ◌-◌, ◌<◌, ◌≤◌, ◌^◌, List, [], ◌∷◌, length, Some, refl, sym, ◌∙◌, ap, arith, Bool, true, false, ◌==◌, ⊎_elim, subst}
+use Rattle.std.proofs.Common.{◌≡◌, ℕ, ◌+◌, ◌-◌, ◌<◌, List, [], ◌∷◌, length, Some, sym, ◌∙◌, ap, arith, Bool, true, false, ◌==◌, ⊎_elim, subst}
 use Rattle.std.specs.Prelude.{MatchBool}
 use Rattle.std.specs.List.{slice_get}
 use Rattle.std.proofs.lemmas.Bool.{cases_Bool, eqb-true}
@@ -8,7 +8,6 @@ use Rattle.b67_word.specs.Tagged.{Tagged}
 use Rattle.b67_ctl.specs.declared.areas.AreaHead.{AreaHead}
 use Rattle.b67_ctl.specs.declared.descriptors.DataDesc.{DataDesc}
 use Rattle.b67_ctl.specs.Areas.{area_head_word, IsAreaHead}
-use Rattle.b67_ctl.specs.Descriptors.{data_word, IsDataDesc}
 use Rattle.b67_area.specs.declared.Info.{Info}
 use Rattle.b67_area.specs.declared.Kind.{Kind}
 use Rattle.b67_area.specs.declared.Kind.TheVariants as kind
@@ -59,7 +58,11 @@ module _ (core : List Tagged) (copy : DataDesc) (home : ℕ) (c : IsCopyOf core 
       let w = area_head core 152 0 c.storage.low c.storage.spans c.is.address i d.laid d.spans o.3 in
       let z = area_inside core c.storage.low c.storage.spans c.is.address i d o.3 in
       let is = same.address in
-      let small = d.small in
-      (record { kind = kind_number i.kind; words = i.words; owner = i.owner },
+      let small = d.small in (
+        record { kind = kind_number i.kind; words = i.words; owner = i.owner },
         record { kind = kind_small i.kind; words = omega (arith, z.1, small); owner = w.1.owner },
-        ap (λ n. slice_get core (n - 1)) is ∙ w.0, o.2, omega (arith, z.0, is), omega (arith, z.1, is))
+        ap (λ n. slice_get core (n - 1)) is ∙ w.0,
+        o.2,
+        omega (arith, z.0, is),
+        omega (arith, z.1, is),
+      )

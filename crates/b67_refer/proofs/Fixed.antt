@@ -1,16 +1,15 @@
 -- The cells of the MCP and of the job's dictionary.
-use Rattle.std.proofs.Common.{◌≡◌, ◌≢◌, ℕ, zero, suc, ◌+◌, ◌-◌, ◌*◌, ◌<◌, ◌≤◌, ◌^◌, List, [], ◌∷◌, ◌++◌, map, flat_map, reverse, length, Option, Some, None, Ok, Err, refl, sym, ◌∙◌, ap, arith, Bool, true, false, ◌==◌, ◌⊎◌, ⊎_elim, inl, inr, subst}
+use Rattle.std.proofs.Common.{◌≡◌, ◌≢◌, ℕ, zero, suc, ◌+◌, ◌-◌, ◌<◌, ◌≤◌, ◌^◌, List, [], ◌∷◌, ◌++◌, map, flat_map, reverse, length, Option, Some, None, Ok, Err, refl, sym, ◌∙◌, ap, arith, Bool, true, false, ◌⊎◌, ⊎_elim, inl, inr, subst}
 use Rattle.std.specs.Prelude.{if◌then◌else◌, nat_lt}
 use Rattle.std.specs.List.{slice_get}
 use Rattle.std.specs.Option.{ok_or}
-use Rattle.std.proofs.lemmas.Bool.{cases_lt, lt-ltb, le-ltb, false≢true}
+use Rattle.std.proofs.lemmas.Bool.{lt-ltb, le-ltb, false≢true}
 use Rattle.std.proofs.lemmas.Option.{same_Some, none-some}
 use Rattle.b67_word.specs.Tagged.{Tagged}
 use Rattle.b67_word.specs.declared.couples.Place.{Place}
 use Rattle.b67_word.specs.declared.faults.Fault.TheVariants.{InvalidAddress}
 use Rattle.b67_ctl.specs.declared.registers.Regs.{Regs}
-use Rattle.b67_ctl.specs.declared.descriptors.DataDesc.{DataDesc}
-use Rattle.b67_ctl.specs.Descriptors.{data_word, IsDataDesc}
+use Rattle.b67_ctl.specs.Descriptors.{IsDataDesc}
 use Rattle.b67_area.specs.declared.Kind.{Kind}
 use Rattle.b67_area.specs.declared.Kind.TheVariants as kind
 use Rattle.b67_area.proofs.Laws.{area_inside}
@@ -18,17 +17,17 @@ use Rattle.b67_model.specs.Answers.{Answer}
 use Rattle.b67_model.specs.Lists.{Has}
 use Rattle.b67_model.specs.Words as Words
 use Rattle.b67_model.specs.Words.{Word, Operand, Name, Ref, Row, Element, Original, Proc, Intrinsic}
-use Rattle.b67_model.specs.State.{Frame, Standing, Entered, Array, Segment, Member, mcp, frame}
+use Rattle.b67_model.specs.State.{Frame, Entered, Segment, Member, mcp}
 use Rattle.b67_model.specs.Cells.{first_offset, cell_of, cell}
-use Rattle.b67_model.specs.InOrder.{NamesEntered, OwnsArray, EntryInOrder, rows_after, DictionaryWords, reach_of}
+use Rattle.b67_model.specs.InOrder.{OwnsArray, EntryInOrder, rows_after, DictionaryWords}
 use Rattle.b67_order.proofs.Members.{has_append_left, has_append_right, has_map, has_flat, has_reverse_back, has_get, all_in}
 use Rattle.b67_stack.specs.Shapes.{Held, IsOriginal}
 use Rattle.b67_stack.specs.Picture.{Thing, Picture, home_desc, home_word_of}
 use Rattle.b67_stack.specs.Stands.{Storage, Stands, info_of}
 use Rattle.b67_stack.proofs.Homes.{chain_small}
-use Rattle.b67_layout.specs.Plan.{Plan, spots, base_spot, base_of, address_of}
-use Rattle.b67_layout.specs.Layout.{array_thing, code_things, things_of, picture}
-use Rattle.b67_layout.specs.Session.{DictionariesFollow, frame_address, with_things}
+use Rattle.b67_layout.specs.Plan.{Plan, address_of}
+use Rattle.b67_layout.specs.Layout.{array_thing, code_things, things_of}
+use Rattle.b67_layout.specs.Session.{DictionariesFollow, frame_address}
 use Rattle.b67_layout.specs.Meets.{here}
 use Rattle.b67_layout.proofs.Others.{keyed-has}
 use Rattle.b67_refer.specs.Scene.{Scene}

@@ -1,9 +1,8 @@
 -- What the search for a cell finds, by the address of the frame's mark.
-use Rattle.std.proofs.Common.{◌≡◌, ◌≢◌, ℕ, suc, ◌+◌, ◌-◌, ◌<◌, ◌≤◌, ◌^◌, List, Some, Ok, Err, refl, sym, ◌∙◌, ap, arith, ◌⊎◌, ⊎_elim, inl, inr, subst, length, Result}
+use Rattle.std.proofs.Common.{◌≡◌, ℕ, ◌+◌, ◌<◌, ◌≤◌, ◌^◌, List, Some, Ok, Err, refl, sym, ◌∙◌, ap, arith, ◌⊎◌, ⊎_elim, inl, inr, subst, length}
 use Rattle.std.specs.List.{slice_get}
 use Rattle.b67_word.specs.Tagged.{Tagged}
 use Rattle.b67_word.specs.declared.couples.Place.{Place}
-use Rattle.b67_word.specs.declared.faults.Fault.{Fault}
 use Rattle.b67_word.specs.declared.faults.Fault.TheVariants.{InvalidAddress}
 use Rattle.b67_ctl.specs.declared.registers.Regs.{Regs}
 use Rattle.b67_model.specs.Answers.{Answer}
@@ -17,7 +16,7 @@ use Rattle.b67_refer.specs.Cells.{CellMeets}
 use Rattle.b67_refer.proofs.Bases.{slot_inside, dictionary_is, dictionary_low, slot_zero}
 use Rattle.b67_refer.proofs.Seats.{seat}
 use Rattle.b67_refer.proofs.Rule.{misses, marks, lands}
-use Rattle.b67_refer.proofs.Unders.{under, is_mcp, is_dictionary, entries_is, high_address}
+use Rattle.b67_refer.proofs.Unders.{is_mcp, is_dictionary, entries_is, high_address}
 use Rattle.b67_refer.proofs.Fixed.{mcp_misses, mcp_lands, dictionary_misses, dictionary_lands}
 
 module _ (core : List Tagged) (r : Regs) (a : Scene core r) (q : Place) (f from offset : ℕ) (n : NamesEntered (reach_of a.member.course.job a.task) f) (e : from ≡ frame_address a.plan a.member a.task f) where

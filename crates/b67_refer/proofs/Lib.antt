@@ -13,3 +13,5 @@ pub mod Copies
 pub mod Links
 pub mod Procs
 pub mod Names
+pub mod Follows
+pub mod Scans

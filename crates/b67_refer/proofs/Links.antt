@@ -1,46 +1,26 @@
 -- What the words of cells come to, and one turn of a chain of references.
-use Rattle.std.proofs.Common.{◌≡◌, ◌≢◌, ℕ, zero, suc, ◌+◌, ◌-◌, ◌*◌, ◌<◌, ◌≤◌, ◌^◌, List, [], ◌∷◌, length, reverse, Option, Some, None, Result, Ok, Err, refl, sym, ◌∙◌, ap, arith, Bool, true, false, ⊎_elim, inl, inr, ◌⊎◌, subst}
+use Rattle.std.proofs.Common.{◌≡◌, ℕ, ◌+◌, ◌*◌, ◌<◌, ◌≤◌, ◌^◌, List, [], ◌∷◌, length, Option, Some, Ok, refl, sym, ◌∙◌, ap, arith, true, false, subst}
 use Rattle.std.specs.List.{slice_get, AllByRecursion}
-use Rattle.std.proofs.lemmas.Bool.{cases_lt, true≢false, false≢true}
-use Rattle.std.proofs.lemmas.Option.{same_Some, none-some}
-use Rattle.b67_word.specs.Tagged.{Tagged, word}
+use Rattle.std.proofs.lemmas.Bool.{true≢false, false≢true}
+use Rattle.std.proofs.lemmas.Option.{same_Some}
+use Rattle.b67_word.specs.Tagged.{Tagged}
 use Rattle.b67_word.specs.declared.couples.Place.{Place}
-use Rattle.b67_word.specs.declared.couples.Couple.{Couple}
-use Rattle.b67_word.specs.Couples.{couple}
-use Rattle.b67_word.specs.declared.faults.Fault.{Fault}
-use Rattle.b67_word.specs.declared.faults.Fault.TheVariants.{InvalidOperand, Loop}
 use Rattle.b67_ctl.specs.declared.registers.Regs.{Regs}
 use Rattle.b67_ctl.specs.declared.descriptors.DataDesc.{DataDesc}
-use Rattle.b67_ctl.specs.declared.programs.IntrinsicPcw.{IntrinsicPcw}
-use Rattle.b67_ctl.specs.declared.references.Irw.{Irw}
-use Rattle.b67_ctl.specs.declared.references.Sirw.{Sirw}
 use Rattle.b67_ctl.specs.Descriptors.{data_word, IsDataDesc}
-use Rattle.b67_ctl.specs.Layout.{intrinsic_word, IsIntrinsicPcw, irw_word, IsIrw, sirw_word, IsSirw}
-use Rattle.b67_model.specs.Answers.{Answer}
-use Rattle.b67_model.specs.Lists.{Has}
 use Rattle.b67_model.specs.Words as Words
 use Rattle.b67_model.specs.Words.{Word, Operand, Name, Ref, Row, Element, Original, Proc, Intrinsic}
-use Rattle.b67_model.specs.State.{Segment, height}
-use Rattle.b67_model.specs.Environment.{running_level}
-use Rattle.b67_model.specs.Cells.{cell, named, place_of}
-use Rattle.b67_model.specs.Chase.{AtCell, AtElement, AtArray, AtProc, AtIntrinsic, Link, Stops, Leads, link_at, link_in, link_from, link, chase_on, chase, follow}
-use Rattle.b67_model.specs.InOrder.{NamesEntered, NamesArray, OwnsArray, ArrayInOrder, DictionaryWords, rows_after, reach_of}
+use Rattle.b67_model.specs.State.{Segment}
+use Rattle.b67_model.specs.Chase.{link_at}
+use Rattle.b67_model.specs.InOrder.{NamesEntered, NamesArray, OwnsArray, ArrayInOrder, DictionaryWords}
 use Rattle.b67_order.proofs.Members.{all_in}
 use Rattle.b67_stack.specs.Shapes.{Copied, copy_desc, IsCopy}
-use Rattle.b67_stack.specs.Stacks.{Spot}
-use Rattle.b67_layout.specs.Plan.{spots}
-use Rattle.b67_layout.specs.Meets.{here}
-use Rattle.b67_refer.specs.declared.ends.End.{End}
 use Rattle.b67_refer.specs.declared.ends.End.TheVariants as end
-use Rattle.b67_refer.specs.Scene.{Scene, IsStackOf}
-use Rattle.b67_refer.specs.Cells.{reach, view, StandsFor, IsCellAt, CellMeets, FindsCell}
-use Rattle.b67_refer.specs.Ends.{IsCopyOf, HasTag, IsReference, IsProcAt, IsArrayOf, EndIs, EndMeets, LinkMeets}
+use Rattle.b67_refer.specs.Scene.{Scene}
+use Rattle.b67_refer.specs.Cells.{reach, StandsFor, IsCellAt}
+use Rattle.b67_refer.specs.Ends.{IsCopyOf, HasTag, LinkMeets}
 use Rattle.b67_refer.proofs.Bases.{pictured}
-use Rattle.b67_refer.proofs.Rule.{length_reverse}
-use Rattle.b67_refer.proofs.Unders.{under}
-use Rattle.b67_refer.proofs.Seats.{seat}
-use Rattle.b67_refer.proofs.Marks.{stack_known, view_low}
-use Rattle.b67_refer.proofs.Chains.{level, level_is}
+use Rattle.b67_refer.proofs.Chains.{level}
 
 -- the segments of a job are few
 pub segments_low : (n : ℕ) (ss : List Segment) (ws : List Word) → DictionaryWords n ss ws → length ss ≤ length ws

@@ -11,7 +11,6 @@ use Rattle.b67_word.specs.declared.faults.Fault.{Fault}
 use Rattle.b67_word.specs.declared.faults.Fault.TheVariants.{Loop}
 use Rattle.b67_ctl.specs.declared.registers.Regs.{Regs}
 use Rattle.b67_ctl.specs.declared.references.Irw.{Irw}
-use Rattle.b67_ctl.specs.declared.references.Sirw.{Sirw}
 use Rattle.b67_ctl.specs.Layout.{irw_word, IsIrw, sirw_word, IsSirw}
 use Rattle.b67_model.specs.Answers.{Answer}
 use Rattle.b67_model.specs.Words as Words
@@ -24,13 +23,13 @@ use Rattle.b67_stack.specs.Stacks.{Spot}
 use Rattle.b67_layout.specs.Plan.{base_spot}
 use Rattle.b67_layout.specs.Meets.{here}
 use Rattle.b67_refer.specs.declared.ends.End.{End}
-use Rattle.b67_refer.specs.Scene.{Scene, IsStackOf}
+use Rattle.b67_refer.specs.Scene.{Scene}
 use Rattle.b67_refer.specs.Cells.{reach, view, StandsFor, IsCellAt, CellMeets, FindsCell}
 use Rattle.b67_refer.specs.Ends.{IsReference, EndMeets, LinkMeets}
 use Rattle.b67_refer.proofs.Seats.{seat}
 use Rattle.b67_refer.proofs.Unders.{seat_low}
 use Rattle.b67_refer.proofs.Marks.{stack_known, view_low}
-use Rattle.b67_refer.proofs.Chains.{level, level_is}
+use Rattle.b67_refer.proofs.Chains.{level_is}
 
 module _ (core : List Tagged) (r : Regs) (a : Scene core r) where
   -- the fields of a reference's spot fit its word

@@ -1,7 +1,6 @@
 -- The cells of procedures and of intrinsics.
-use Rattle.std.proofs.Common.{◌≡◌, ◌≢◌, ℕ, ◌+◌, ◌-◌, ◌*◌, ◌<◌, ◌≤◌, ◌^◌, List, length, reverse, Option, Some, None, Ok, refl, sym, ◌∙◌, ap, arith, ⊎_elim, subst}
-use Rattle.std.specs.Prelude.{if◌then◌else◌, nat_lt}
-use Rattle.std.specs.List.{slice_get}
+use Rattle.std.proofs.Common.{◌≡◌, ℕ, ◌+◌, ◌-◌, ◌<◌, ◌≤◌, List, length, reverse, Some, Ok, sym, ◌∙◌, ap, arith, ⊎_elim, subst}
+use Rattle.std.specs.Prelude.{nat_lt}
 use Rattle.std.specs.Option.{ok_or}
 use Rattle.std.proofs.lemmas.Bool.{cases_lt, cases_Bool}
 use Rattle.std.proofs.lemmas.Option.{none-some}
@@ -16,7 +15,7 @@ use Rattle.b67_model.specs.Lists.{Has}
 use Rattle.b67_model.specs.Words as Words
 use Rattle.b67_model.specs.Words.{Word, Operand, Name, Ref, Row, Element, Original, Proc, Intrinsic}
 use Rattle.b67_model.specs.State.{Frame, mcp, frame}
-use Rattle.b67_model.specs.Cells.{first_offset, cell_of, cell}
+use Rattle.b67_model.specs.Cells.{first_offset, cell_of}
 use Rattle.b67_model.specs.InOrder.{EntryInOrder, IsSegment}
 use Rattle.b67_model.specs.Chase.{link_at}
 use Rattle.b67_order.proofs.Members.{has_reverse_back, has_get, all_in}
@@ -25,7 +24,7 @@ use Rattle.b67_layout.specs.Meets.{here}
 use Rattle.b67_refer.specs.declared.ends.End.TheVariants as end
 use Rattle.b67_refer.specs.Scene.{Scene}
 use Rattle.b67_refer.specs.Cells.{StandsFor, IsCellAt}
-use Rattle.b67_refer.specs.Ends.{IsProcAt, LinkMeets}
+use Rattle.b67_refer.specs.Ends.{LinkMeets}
 use Rattle.b67_refer.proofs.Marks.{frame_dictionary, frame_mcp}
 use Rattle.b67_refer.proofs.Links.{segments_low, not_intrinsic}
 use Rattle.b67_refer.proofs.Rule.{length_reverse}

@@ -1,7 +1,7 @@
 -- The cells of a frame in a slot: which words of core they are, and where they end.
-use Rattle.std.proofs.Common.{◌≡◌, ◌≢◌, ℕ, zero, suc, ◌+◌, ◌-◌, ◌*◌, ◌<◌, ◌≤◌, ◌^◌, List, [], ◌∷◌, ◌++◌, map, reverse, length, Option, Some, None, Ok, Err, refl, sym, ◌∙◌, ap, arith, Bool, true, false, cond, ◌==◌, ◌⊎◌, ⊎_elim, inl, inr, subst, length-append}
+use Rattle.std.proofs.Common.{◌≡◌, ℕ, zero, suc, ◌+◌, ◌-◌, ◌<◌, ◌≤◌, List, [], ◌∷◌, ◌++◌, map, reverse, length, Option, Some, None, Ok, Err, refl, sym, ◌∙◌, ap, arith, true, false, ◌==◌, ◌⊎◌, ⊎_elim, inl, inr, subst, length-append}
 use Rattle.std.specs.Prelude.{if◌then◌else◌, nat_lt}
-use Rattle.std.specs.List.{slice_get, AllByRecursion}
+use Rattle.std.specs.List.{slice_get}
 use Rattle.std.specs.Option.{ok_or}
 use Rattle.std.proofs.lemmas.Bool.{cases_Bool, cases_eq, cases_lt, eq-eqb, eqb-true, eqb-false, ne_eqb, lt-ltb, le-ltb}
 use Rattle.std.proofs.lemmas.Option.{same_Some, none-some}
@@ -10,7 +10,7 @@ use Rattle.b67_word.specs.Tagged.{Tagged}
 use Rattle.b67_word.specs.declared.couples.Place.{Place}
 use Rattle.b67_word.specs.declared.faults.Fault.TheVariants.{InvalidAddress}
 use Rattle.b67_ctl.specs.declared.registers.Regs.{Regs}
-use Rattle.b67_ctl.specs.Layout.{mscw_word, sirw_word}
+use Rattle.b67_ctl.specs.Layout.{sirw_word}
 use Rattle.b67_model.specs.Lists.{Has}
 use Rattle.b67_model.specs.Answers.{Answer}
 use Rattle.b67_model.specs.Words as Words
@@ -18,7 +18,7 @@ use Rattle.b67_model.specs.Words.{Word, Operand, Name, Ref, Row, Element, Origin
 use Rattle.b67_model.specs.State as State
 use Rattle.b67_model.specs.State.{Frame, Standing, Array, Job, height, frame}
 use Rattle.b67_model.specs.Cells.{first_offset, cell_of, cell}
-use Rattle.b67_model.specs.InOrder.{Starts, Known, known_of, known_numbers, reach_of, IsEntered, IsSegment, NamesEntered, NamesArray, WordInOrder}
+use Rattle.b67_model.specs.InOrder.{Starts, Known, known_of, known_numbers, reach_of, IsEntered, IsSegment, WordInOrder}
 use Rattle.b67_order.proofs.Members.{reverse_cons, has_reverse_back, has_get, all_in, has_map}
 use Rattle.b67_order.proofs.Reaches.{Wider, word_wider}
 use Rattle.b67_stack.specs.Shapes.{Map, Shape, Is, Fits, Lie}
@@ -32,10 +32,13 @@ use Rattle.b67_layout.specs.Session.{frame_address}
 use Rattle.b67_layout.specs.Meets.{here}
 use Rattle.b67_layout.proofs.Frames.{height-is}
 use Rattle.b67_refer.specs.Scene.{Scene}
-use Rattle.b67_refer.specs.Cells.{StandsFor, IsTop, IsCellAt, CellMeets}
-use Rattle.b67_refer.proofs.Slots.{Part, base, acts}
-use Rattle.b67_refer.proofs.Seats.{Seat, seat}
+use Rattle.b67_refer.specs.Cells.{StandsFor, IsCellAt, CellMeets}
+use Rattle.b67_refer.proofs.Slots.{base, acts}
+use Rattle.b67_refer.proofs.Seats.{Seat}
 use Rattle.b67_refer.proofs.Marks.{slot_address, frame_seat}
+
+err_ok : (w : Word) → ◌≡◌ {A = Answer Word} (Err InvalidAddress) (Ok w) → ⊥
+err_ok w e = cc
 
 -- an item by its number from the end
 abbrev from_end : {A : Type 0} → List A → ℕ → Option A
@@ -66,7 +69,7 @@ get_reverse (x ∷ xs) i =
     ∙ ap (λ r. if i == length xs then Some x else r) (get_reverse xs i)
 
 -- each number below the length has an item, and no other
-end_some : {A : Type 0} (xs : List A) (i : ℕ) → i < length xs → (x : A) × (from_end xs i ≡ Some x)
+pub end_some : {A : Type 0} (xs : List A) (i : ℕ) → i < length xs → (x : A) × (from_end xs i ≡ Some x)
 end_some [] i low = absurd (omega (arith, low))
 end_some (x ∷ xs) i low = ⊎_elim
     (λ (t : (i == length xs) ≡ true). (x, rw t refl))
@@ -186,7 +189,7 @@ module _ (core : List Tagged) (r : Regs) (a : Scene core r) where
     here_known : Has (known_numbers (reach_of a.member.course.job a.task)) b.frame.identity
     here_known = has_map (λ (k : Known). k.0) (reach_of a.member.course.job a.task) (known_of b.frame) (b.among (known_of b.frame) (inl refl))
 
-    cell_in : (i : ℕ) (w : Word) → from_end b.frame.cells i ≡ Some w → CellWord (2 + i) w
+    pub cell_in : (i : ℕ) (w : Word) → from_end b.frame.cells i ≡ Some w → CellWord (2 + i) w
     cell_in i w there =
         let arrays = a.member.course.job.arrays in
         let P = IsSegment a.member.setting in
@@ -218,7 +221,7 @@ module _ (core : List Tagged) (r : Regs) (a : Scene core r) where
         ∙ ap (λ (n : ℕ). ok_or (if nat_lt offset n then None else slice_get (reverse b.frame.cells) (offset - n)) InvalidAddress) first
         ∙ ap (λ (o : Option Word). ok_or (if nat_lt offset 2 then None else o) InvalidAddress) (get_reverse b.frame.cells (offset - 2))
 
-    none : (offset : ℕ) → (offset < 2) ⊎ (2 + length b.frame.cells ≤ offset) → cell (here a.member a.task q) f offset ≡ Err InvalidAddress
+    pub none : (offset : ℕ) → (offset < 2) ⊎ (2 + length b.frame.cells ≤ offset) → cell (here a.member a.task q) f offset ≡ Err InvalidAddress
     none offset far = look offset ∙ ⊎_elim
         (λ (low : offset < 2). (let t : nat_lt offset 2 ≡ true = lt-ltb offset 2 low in rw t refl))
         (λ (past : 2 + length b.frame.cells ≤ offset).
@@ -270,3 +273,40 @@ module _ (core : List Tagged) (r : Regs) (a : Scene core r) where
         plain (suc (base core r a b.slot) + high (acts core r a b.slot b.outer (b.frame ∷ b.below))) z.0 (omega (arith, at)) (omega (arith, at, past)) z.1 z.2))
         b.part.above))
         (cases_lt offset (2 + length b.frame.cells))
+
+    -- over the mark of an entered frame stands its return word
+    pub return_tag : (w : Tagged) × (slice_get core (frame_address a.plan a.member a.task f + 1) ≡ Some w) × (w.tag ≡ 3)
+    return_tag =
+        let k = b.slot in
+        let below = acts core r a k b.outer b.below in
+        let cells = map (shape a.plan a.member.setting.number a.member.course.job (spot_in k b.outer (b.frame ∷ b.below))) b.frame.cells in
+        by_standing b.frame.standing entered (Lie-under (Fits a.storage.held) core (suc (base core r a k)) cells (headed k (head (spot_in k b.outer b.below) b.frame.standing) below (words k below)) b.part.lies) where
+          at : suc (base core r a b.slot) + suc (length (words b.slot (acts core r a b.slot b.outer b.below))) ≡ frame_address a.plan a.member a.task f + 1
+          at =
+              let n = words-length b.slot (acts core r a b.slot b.outer b.below) in
+              let h = height-is a.plan a.member.setting.number a.member.course.job b.slot b.outer b.below in
+              let z = seat_address in
+              omega (arith, n, h, z)
+
+          by_standing : (z : Standing) → IsEntered z → Lie (Fits a.storage.held) core (suc (base core r a b.slot)) (headed b.slot (head (spot_in b.slot b.outer b.below) z) (acts core r a b.slot b.outer b.below) (words b.slot (acts core r a b.slot b.outer b.below)))
+              → (w : Tagged) × (slice_get core (frame_address a.plan a.member a.task f + 1) ≡ Some w) × (w.tag ≡ 3)
+          by_standing State.Marked i l = absurd i
+          by_standing (State.Entered level environment back) i l = (l.0.0, ap (slice_get core) (sym at) ∙ l.0.1, ap (λ (x : Tagged). x.tag) l.0.2.0)
+
+    -- a cell that is there lies among the cells
+    pub inside : (offset : ℕ) (w : Word) → cell (here a.member a.task q) f offset ≡ Ok w → (2 ≤ offset) × (offset < 2 + length b.frame.cells)
+    inside offset w found = (
+      ⊎_elim (λ (low : offset < 2). absurd (refused (none offset (inl low)))) (λ (high : 2 ≤ offset). high) (cases_lt offset 2),
+      ⊎_elim (λ (low : offset < 2 + length b.frame.cells). low) (λ (high : 2 + length b.frame.cells ≤ offset). absurd (refused (none offset (inr high)))) (cases_lt offset (2 + length b.frame.cells)),
+    ) where
+      refused : cell (here a.member a.task q) f offset ≡ Err InvalidAddress → ⊥
+      refused e = err_ok w (sym e ∙ found)
+
+    -- no word from the first cell to that one has tag 3
+    pub no_mark_under : (offset j : ℕ) (w : Word) (v : Tagged) → cell (here a.member a.task q) f offset ≡ Ok w → 2 ≤ j → j ≤ offset → slice_get core (frame_address a.plan a.member a.task f + j) ≡ Some v → v.tag ≡ 3 → ⊥
+    no_mark_under offset j w v found low up there tag =
+        let i = inside offset w found in
+        let x = end_some b.frame.cells (j - 2) (omega (arith, low, up, i.1)) in
+        let c = cell_in (j - 2) x.0 x.1 in
+        let at : 2 + (j - 2) ≡ j = omega (arith, low) in
+        c.no_mark (ap (λ (z : Tagged). z.tag) (same_Some _ _ (sym c.there ∙ ap (λ n. slice_get core (frame_address a.plan a.member a.task f + n)) at ∙ there)) ∙ tag)

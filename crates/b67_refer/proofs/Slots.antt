@@ -1,26 +1,23 @@
 -- Where a live task's stack lies, and its parts from a frame down.
-use Rattle.std.proofs.Common.{◌≡◌, ◌≢◌, ℕ, suc, ◌+◌, ◌*◌, ◌<◌, ◌≤◌, ◌^◌, List, [], ◌∷◌, ◌++◌, length, map, Option, Some, None, refl, sym, ◌∙◌, ap, arith, Bool, true, false, ◌==◌, ◌⊎◌, ⊎_elim, inl, inr, subst}
+use Rattle.std.proofs.Common.{◌≡◌, ℕ, suc, ◌+◌, ◌*◌, ◌<◌, ◌≤◌, ◌^◌, List, [], ◌∷◌, length, map, Some, refl, sym, ◌∙◌, ap, arith, Bool, true, false, ◌==◌, ◌⊎◌, ⊎_elim, inl, inr, subst}
 use Rattle.std.specs.Prelude.{if◌then◌else◌}
 use Rattle.std.specs.List.{slice_get}
 use Rattle.std.proofs.lemmas.Bool.{cases_Bool, eq-eqb, eqb-true}
 use Rattle.b67_word.specs.Tagged.{Tagged}
 use Rattle.b67_ctl.specs.declared.registers.Regs.{Regs}
 use Rattle.b67_ctl.specs.declared.marks.Mscw.{Mscw}
-use Rattle.b67_ctl.specs.declared.marks.Toscw.{Toscw}
-use Rattle.b67_ctl.specs.Layout.{mscw_word, IsMscw, toscw_word, IsToscw}
-use Rattle.b67_model.specs.Lists.{Has}
+use Rattle.b67_ctl.specs.Layout.{mscw_word, IsMscw, IsToscw}
 use Rattle.b67_model.specs.Keyed.{keyed}
-use Rattle.b67_model.specs.State.{Frame, Task, Job, Member, height}
+use Rattle.b67_model.specs.State.{Frame, Task, Member, height}
 use Rattle.b67_model.specs.Run.{number_of}
 use Rattle.b67_model.specs.InOrder.{from_frame}
-use Rattle.b67_stack.specs.Shapes.{Map, Shape, Fits, Lie}
-use Rattle.b67_stack.specs.Stacks.{Spot, Head, Marked, Entered, Activation, IsStack, HeadFits, HeadsFit, head_size, top_size, high, mark_of, headed, words, toscw_of, mark_place, running_level}
-use Rattle.b67_stack.specs.Picture.{Slot, Running, Waiting, stack_of, slot_base, SlotFits, Picture}
+use Rattle.b67_stack.specs.Shapes.{Map, Fits, Lie}
+use Rattle.b67_stack.specs.Stacks.{Spot, Head, Marked, Entered, Activation, IsStack, HeadFits, HeadsFit, head_size, top_size, high, mark_of, headed, words, toscw_of, mark_place}
+use Rattle.b67_stack.specs.Picture.{Slot, Running, Waiting, stack_of, SlotFits, Picture}
 use Rattle.b67_stack.specs.Stands.{SlotStands, RunningStands}
 use Rattle.b67_stack.proofs.Lies.{Lie-under}
 use Rattle.b67_stack.proofs.Heights.{words-length}
 use Rattle.b67_stack.proofs.Tops.{level-small}
-use Rattle.b67_stack.proofs.Bases.{base-apart}
 use Rattle.b67_layout.specs.Plan.{Plan, Slotted, slot_of, spot_in, outer_spots}
 use Rattle.b67_layout.specs.Layout.{shape, head, activations, stack_of_task, slot_with, slot_in, slot_by, slot_at, picture}
 use Rattle.b67_layout.specs.Session.{RowsFit, with_things}
@@ -38,13 +35,14 @@ live_slot plan jobs m u fit km ku =
     let k = slot_of plan j u.number in
     let b = task_row plan jobs m u fit (keyed-has number_of j jobs m km) (keyed-has (λ (v : Task). v.number) u.number m.course.job.tasks u ku) in
     let f = finds (λ (q : Slotted). q.slot == k) plan.rows b.row b.among (eq-eqb b.row.slot k (sym b.slot)) in
-    let same : f.item ≡ b.row = fit.differ f.item b.row f.among b.among (eqb-true f.item.slot k f.passes ∙ b.slot) in
-    (subst (λ (n : ℕ). n < plan.peak) (sym b.slot) (fit.below b.row b.among),
+    let same : f.item ≡ b.row = fit.differ f.item b.row f.among b.among (eqb-true f.item.slot k f.passes ∙ b.slot) in (
+      subst (λ (n : ℕ). n < plan.peak) (sym b.slot) (fit.below b.row b.among),
       ap (slot_by plan jobs k) (f.found ∙ ap Some same)
-      ∙ ap (λ (i : ℕ). slot_in plan k i b.row.task (keyed number_of i jobs)) b.job
-      ∙ ap (slot_in plan k j b.row.task) km
-      ∙ ap (λ (i : ℕ). slot_with plan k j m.course.job (keyed (λ (v : Task). v.number) i m.course.job.tasks)) b.number
-      ∙ ap (slot_with plan k j m.course.job) ku)
+          ∙ ap (λ (i : ℕ). slot_in plan k i b.row.task (keyed number_of i jobs)) b.job
+          ∙ ap (slot_in plan k j b.row.task) km
+          ∙ ap (λ (i : ℕ). slot_with plan k j m.course.job (keyed (λ (v : Task). v.number) i m.course.job.tasks)) b.number
+          ∙ ap (slot_with plan k j m.course.job) ku,
+    )
 
 -- what lies under a head, and its mark
 pub head_lies : (R : Map) (core : List Tagged) (from k : ℕ) (h : Head) (below : List Activation) → Lie (Fits R) core from (headed k h below (words k below))

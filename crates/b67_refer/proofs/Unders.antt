@@ -1,5 +1,5 @@
 -- The top of the stack in which an address is, and the frames whose marks are there.
-use Rattle.std.proofs.Common.{◌≡◌, ◌≢◌, ℕ, suc, ◌+◌, ◌-◌, ◌*◌, ◌/◌, ◌<◌, ◌≤◌, ◌^◌, List, ◌∷◌, Some, refl, sym, ◌∙◌, ap, arith, ◌⊎◌, ⊎_elim, inl, inr, subst, length, get_or, true, false, Ok, Err}
+use Rattle.std.proofs.Common.{◌≡◌, ℕ, ◌+◌, ◌-◌, ◌*◌, ◌/◌, ◌<◌, ◌≤◌, ◌^◌, List, Some, refl, sym, ◌∙◌, ap, arith, ⊎_elim, length, get_or, true, false, Ok, Err}
 use Rattle.std.specs.Prelude.{nat_le}
 use Rattle.std.specs.List.{slice_get}
 use Rattle.std.proofs.lemmas.Nat.{div-mul-add}
@@ -14,21 +14,19 @@ use Rattle.b67_ctl.specs.Layout.{toscw_word, IsToscw}
 use Rattle.b67_word.specs.declared.faults.Fault.TheVariants.{InvalidAddress}
 use Rattle.b67_model.specs.State as State
 use Rattle.b67_model.specs.State.{Frame, Standing, height}
-use Rattle.b67_model.specs.InOrder.{Known, known_of, reach_of, IsEntered, NamesEntered}
-use Rattle.b67_model.specs.Environment.{frame_at, running_level}
+use Rattle.b67_model.specs.InOrder.{reach_of, NamesEntered}
+use Rattle.b67_model.specs.Environment.{frame_at}
 use Rattle.b67_model.specs.Cells.{named}
-use Rattle.b67_stack.specs.Stacks.{Spot, Head, head_size, high}
-use Rattle.b67_stack.specs.Stacks as Stacks
-use Rattle.b67_layout.specs.Plan.{spot_in, spots}
+use Rattle.b67_stack.specs.Stacks.{Spot, head_size, high}
+use Rattle.b67_layout.specs.Plan.{spot_in}
 use Rattle.b67_layout.specs.Layout.{head}
 use Rattle.b67_layout.specs.Session.{frame_address}
 use Rattle.b67_layout.specs.Meets.{here}
 use Rattle.b67_layout.proofs.Frames.{height-is}
 use Rattle.b67_refer.specs.Scene.{Scene, IsShown}
-use Rattle.b67_refer.specs.Cells.{IsTop, IsUnder}
-use Rattle.b67_refer.proofs.Slots.{Part, base, acts}
+use Rattle.b67_refer.specs.Cells.{IsUnder}
 use Rattle.b67_refer.proofs.Bases.{stacks_is, size_is, slot_inside, dictionary_is, dictionary_low}
-use Rattle.b67_refer.proofs.Seats.{Seat, seat}
+use Rattle.b67_refer.proofs.Seats.{seat}
 use Rattle.b67_refer.proofs.Rule.{seat_address}
 use Rattle.b67_refer.proofs.Fixed.{mcp_address, dictionary_home, dictionary_high}
 use Rattle.b67_refer.proofs.Chains.{level, level_is, level_at, frame_at_same}

@@ -9,7 +9,6 @@ use Rattle.b67_ctl.specs.Layout.{intrinsic_word, toscw_word, IsToscw}
 use Rattle.b67_model.specs.Answers.{Answer}
 use Rattle.b67_model.specs.Words as Words
 use Rattle.b67_model.specs.Words.{Word, Operand, Name, Ref, Row, Element, Original, Proc, Intrinsic}
-use Rattle.b67_model.specs.State.{Here}
 use Rattle.b67_model.specs.InOrder.{Known, reach_of, IsSegment, NamesEntered, WordInOrder}
 use Rattle.b67_model.specs.Cells.{cell}
 use Rattle.b67_stack.specs.Stacks.{Spot}

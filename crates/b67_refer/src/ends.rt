@@ -127,3 +127,32 @@ fn chase_reference(core: &Core, regs: &Regs, display: &[u32; 32], w: Word) -> Re
     }
     Err(Fault::Loop)
 }
+
+/// Where a word leads: a reference to the end of its chain, an element copy to its element. The faults: INVALID ADDRESS
+/// where a reference names no cell, INVALID OPERAND where the chain comes to a word that is no end or where the word
+/// itself is neither a reference nor an element copy, and LOOP where a link after the 1,024th would be followed. The
+/// word is one of the running task's, and the display shows its environment.
+pub fn chase(core: &Core, regs: &Regs, display: &[u32; 32], w: Word) -> Result<End, Fault>
+    requires { (a : Scene core.now regs.now) × IsShown a display.now × (at : ℕ) × (owner : ℕ) × (v : Words.Word) × StandsFor a at owner w v }
+    ensures { (a : Scene core.now regs.now) (q : Place) → IsShown a display.now → (at owner : ℕ) (v : Words.Word) → StandsFor a at owner w v
+        → EndMeets a q result (follow (here a.member a.task q) v) }
+{
+    if w.tag() == 1 {
+        return chase_reference(core, regs, display, w);
+    }
+    if w.tag() != 5 {
+        return Err(Fault::InvalidOperand);
+    }
+    let d = match DataDesc::from_word(w) {
+        Some(d) => d,
+        None => unreachable!(),
+    };
+    if !d.indexed {
+        return Err(Fault::InvalidOperand);
+    }
+    let original = owner(core, d);
+    Ok(End::Element {
+        original,
+        index: d.length,
+    })
+}

@@ -1,4 +1,4 @@
-use Rattle.std.proofs.Common.{◌≡◌, ◌∙◌, sym, ap, subst}
+use Rattle.std.proofs.Common.{◌∙◌, sym, ap, subst}
 use Rattle.b67_stack.specs.Stacks.{Spot}
 use Rattle.b67_layout.specs.Plan.{address_of}
 use Rattle.b67_refer.specs.Scene.{IsStackOf}

@@ -1,4 +1,4 @@
-use Rattle.std.proofs.Common.{◌≡◌, ◌≤◌, ◌+◌, ◌<◌, ◌⊎◌, ap, ◌∙◌, sym, arith, inl, inr, refl, subst, ℕ, Ok}
+use Rattle.std.proofs.Common.{◌+◌, ◌∙◌, sym, arith, inl, inr, subst, ℕ, Ok}
 use Rattle.b67_model.specs.Cells.{cell}
 use Rattle.b67_layout.specs.Meets.{here}
 use Rattle.b67_refer.specs.Cells.{CellMeets, IsUnder}

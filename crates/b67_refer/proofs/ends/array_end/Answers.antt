@@ -1,4 +1,4 @@
-use Rattle.std.proofs.Common.{◌≡◌, ◌∙◌, sym, not, ℕ, true, Bool}
+use Rattle.std.proofs.Common.{◌∙◌, sym}
 use Rattle.std.proofs.lemmas.Bool.{not-false, not-true}
 use Rattle.std.proofs.lemmas.Option.{none-some}
 use Rattle.b67_refer.proofs.Links.{cell_described, read_described, copied, end_own, end_row, end_item}

@@ -1,4 +1,4 @@
-use Rattle.std.proofs.Common.{◌≡◌, ◌≤◌, ◌∙◌, sym, ap, subst, arith, ℕ, refl}
+use Rattle.std.proofs.Common.{◌∙◌, sym, subst, arith, refl}
 use Rattle.std.proofs.lemmas.Option.{none-some, same_Some}
 use Rattle.b67_word.specs.Tagged.{Tagged}
 use Rattle.b67_refer.specs.Cells.{StandsFor}
