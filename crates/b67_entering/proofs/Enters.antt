@@ -148,7 +148,7 @@ module _ (x : Storage) (core : List Tagged) (r : Regs) (marks : List ℕ) (plan 
     regs_after = record r { level = level; segment = segment + 1; place = q }
 
     pub IsRunning-entered : (condition : Condition) → IsRunning plan (with_job s m (job_after condition)).jobs (record m { course = record m.course { job = job_after condition } }) (task_after condition)
-    IsRunning-entered condition = still_running x core core_after r regs_after marks plan s m t h runs (job_after condition) (entered_frames t.frames level environment back cells) segment q condition n (on_top condition)
+    IsRunning-entered condition = still_running [] x core core_after r regs_after marks plan s m t h runs (job_after condition) (entered_frames t.frames level environment back cells) segment q condition n (on_top condition)
 
     -- all but the display, where the frame is entered
     pub SessionHolds-entered : (condition : Condition) → ((home : ℕ) → shape plan m.setting.number m.course.job (spot_in plan.running outer t.frames) first ≢ Original home)
@@ -162,7 +162,7 @@ module _ (x : Storage) (core : List Tagged) (r : Regs) (marks : List ℕ) (plan 
         entered_stack plan m.setting.number m.course.job plan.running outer t.frames level environment back cells w.some
         ∙ ap (λ (o : Spot). record { head = Entered level o (Some back); cells = map sh cells } ∷ under) at in
         let stands : Stands x core_after regs_after (with_stack p plan.running after) = Stands-entered x core r p plan.running level spot back (segment + 1) q (map sh cells) (sh first) under h.memory on_stack plain fit in
-        SessionHolds-top x core core_after r regs_after marks plan s m t h runs (job_after condition) fs segment q condition n (on_top condition) after
+        SessionHolds-top [] x core core_after r regs_after marks plan s m t h runs (job_after condition) fs segment q condition n (on_top condition) after
         (λ i low. slice_get-set_other (slice_set core r.f mark) (r.f + 1) i rcw (λ z. omega (arith, z, low, room.mark, top_is.first)) ∙ slice_get-set_other core r.f i mark (λ z. omega (arith, z, low, room.mark, top_is.first)))
         (record { slot = refl; dict = refl; entries = refl; segment = refl; place = refl }) (critical_entered m.course.job t.frames level environment back cells w.some) is stands
         (Settled-more p plan.running stack after on_stack (omega (arith, length-append (map sh cells) (sh first ∷ []))) h.settled)

@@ -80,7 +80,7 @@ module _ (x : Storage) (old new : Cpu) (plan : Plan) (s : Session) (m : Member) 
       let id = (frame_at before n).identity in
       let there : spots plan m.setting.number job' t' id ≡ spots plan m.setting.number m.course.job t id =
       (let o = outer_spots plan m.setting.number m.course.job t.critical t.parents in
-      ap (λ (o' : ℕ → Spot). spot_in (slot_of plan m.setting.number t.number) o' (next_mark m.course.job ∷ t.frames) id) (outer-same x old.core new.core old.regs new.regs old.critical plan s m t h.holds runs job' (next_mark m.course.job ∷ t.frames) t.segment q t.condition m.course.job.next_frame top)
+      ap (λ (o' : ℕ → Spot). spot_in (slot_of plan m.setting.number t.number) o' (next_mark m.course.job ∷ t.frames) id) (outer-same [] x old.core new.core old.regs new.regs old.critical plan s m t h.holds runs job' (next_mark m.course.job ∷ t.frames) t.segment q t.condition m.course.job.next_frame top)
       ∙ rw (ne_eqb m.course.job.next_frame id (λ e. omega (arith, e, f.1))) refl) in
       h.shows m t runs n up ∙ ap (λ (p : Spot). Some (address_of plan p)) (sym there) ∙ ap (λ (g' : Frame). Some (address_of plan (spots plan m.setting.number job' t' g'.identity))) (sym f.0)
 
@@ -90,7 +90,7 @@ module _ (x : Storage) (old new : Cpu) (plan : Plan) (s : Session) (m : Member) 
   SessionStands-mark stands settled =
       let P : List ℕ → Type 0 = λ marks. SessionHolds x new.core new.regs marks plan (with_job s m job') in
       let holds = subst P (sym critical) (SessionHolds-mark x old.core new.core old.regs new.regs old.critical plan s m t q h.holds runs same on (record m.course.job { next_frame = m.course.job.next_frame + 1 }) m.course.job.next_frame refl refl free (free-uncritical m.course.job m.course.job.next_frame free) stands settled) in
-      let still = still_running x old.core new.core old.regs new.regs old.critical plan s m t h.holds runs job' (next_mark m.course.job ∷ t.frames) t.segment q t.condition m.course.job.next_frame top in
+      let still = still_running [] x old.core new.core old.regs new.regs old.critical plan s m t h.holds runs job' (next_mark m.course.job ∷ t.frames) t.segment q t.condition m.course.job.next_frame top in
       let moved : Member = record m { course = record m.course { job = job' } } in
       let D : List ℕ → Type 0 = λ d. Shows d plan moved t' in
       record { holds = holds; shows = λ y u r. running_only plan (with_job s m job').jobs moved y t' u (Shows new.display plan) holds.fits.rows still r (subst D (sym display) shown) }

@@ -9,17 +9,17 @@ use Rattle.b67_model.specs.State.{Frame, Condition, Task, Job, Course, Member}
 use Rattle.b67_model.specs.Run.{number_of}
 use Rattle.b67_model.specs.Schedule.{Session}
 use Rattle.b67_stack.specs.Stacks.{Spot, Activation}
-use Rattle.b67_stack.specs.Picture.{Picture, Settled}
+use Rattle.b67_stack.specs.Picture.{Thing, Picture, Settled}
 use Rattle.b67_stack.specs.Stands.{Storage, Stands}
 use Rattle.b67_stack.specs.Changes.{with_stack}
 use Rattle.b67_layout.specs.Plan.{Plan, slot_of, outer_spots}
 use Rattle.b67_layout.specs.Layout.{activations, stack_of_task, picture}
 use Rattle.b67_layout.specs.Meets.{with_job}
-use Rattle.b67_layout.specs.Session.{TaskStands, IsRunning, critical_mark, SessionHolds}
+use Rattle.b67_layout.specs.Session.{TaskStands, IsRunning, critical_mark, with_things, SessionHoldsBut}
 use Rattle.b67_layout.proofs.Others.{OnTop, keyed-has, task-same, outer_spots-after}
 use Rattle.b67_layout.proofs.Pictures.{with_course, member-same, picture-after, stack-after}
 use Rattle.b67_layout.proofs.Rows.{row_of}
-use Rattle.b67_layout.proofs.Sessions.{SessionHolds-after}
+use Rattle.b67_entering.proofs.Holds.{SessionHoldsBut-after}
 
 -- the registers of a task that goes on at a place of a segment
 pub record GoesTo (r r' : Regs) (g : ℕ) (q : Place) : Type 0 where
@@ -33,7 +33,7 @@ pub record GoesTo (r r' : Regs) (g : ℕ) (q : Place) : Type 0 where
 abbrev pub task_on : Task → List Frame → ℕ → Place → Condition → Task
 task_on t fs segment q condition = record t { frames = fs; segment = segment; place = q; condition = condition }
 
-module _ (x : Storage) (core new : List Tagged) (r r' : Regs) (marks : List ℕ) (plan : Plan) (s : Session) (m : Member) (t : Task) (h : SessionHolds x core r marks plan s) (runs : IsRunning plan s.jobs m t) where
+module _ (left : List Thing) (x : Storage) (core new : List Tagged) (r r' : Regs) (marks : List ℕ) (plan : Plan) (s : Session) (m : Member) (t : Task) (h : SessionHoldsBut left x core r marks plan s) (runs : IsRunning plan s.jobs m t) where
   has_m : Has s.jobs m
   has_m = keyed-has number_of m.setting.number s.jobs m runs.member
 
@@ -49,8 +49,8 @@ module _ (x : Storage) (core new : List Tagged) (r r' : Regs) (marks : List ℕ)
     pub SessionHolds-top : (stack : List Activation) → ((i : ℕ) → i < plan.stacks → slice_get new i ≡ slice_get core i) → GoesTo r r' segment q
         → critical_mark m.course.job fs ≡ critical_mark m.course.job t.frames
         → activations plan m.setting.number m.course.job plan.running outer fs ≡ stack
-        → Stands x new r' (with_stack (picture plan s.jobs) plan.running stack) → Settled (with_stack (picture plan s.jobs) plan.running stack)
-        → SessionHolds x new r' marks plan (with_job s m job')
+        → Stands x new r' (with_things left (with_stack (picture plan s.jobs) plan.running stack)) → Settled (with_stack (picture plan s.jobs) plan.running stack)
+        → SessionHoldsBut left x new r' marks plan (with_job s m job')
     SessionHolds-top stack same on critical is stands settled =
         let c : Course = record m.course { job = job' } in
         let t' : Task = task_on t fs segment q condition in
@@ -58,10 +58,10 @@ module _ (x : Storage) (core new : List Tagged) (r r' : Regs) (marks : List ℕ)
         let e : picture plan (with_course s.jobs m.setting.number c) ≡ with_stack (picture plan s.jobs) plan.running stack =
         picture-after plan s.jobs m.setting.number m c t t' n plan.running runs.member top row
         ∙ ap (λ (xs : List Activation). with_stack (picture plan s.jobs) plan.running xs) (stack-after plan s.jobs m.setting.number m c t t' n plan.running runs.member top row ∙ is) in
-        let P : Picture → Type 0 = λ p. Stands x new r' p in
+        let P : Picture → Type 0 = λ p. Stands x new r' (with_things left p) in
         let o = h.running m t runs in
         let task : TaskStands r' plan (record m { course = c }) t' = record { slot = on.slot ∙ o.slot; dict = on.dict ∙ o.dict; entries = on.entries ∙ o.entries; segment = on.segment; place = on.place } in
-        SessionHolds-after x core new r r' marks plan s m c t t' n h runs top same critical (subst P (sym e) stands) (subst Settled (sym e) settled) task
+        SessionHoldsBut-after left x core new r r' marks plan s m c t t' n h runs top same critical (subst P (sym e) stands) (subst Settled (sym e) settled) task
 
     -- the task still runs
     pub still_running : IsRunning plan (with_job s m job').jobs (record m { course = record m.course { job = job' } }) (task_on t fs segment q condition)
