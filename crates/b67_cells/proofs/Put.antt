@@ -139,6 +139,16 @@ module _ (x : Storage) (old : Cpu) (plan : Plan) (s : Session) (m : Member) (t :
       d
       (omega (arith, tall, longer, n, height_of, size-is, g.last, g.top, at, inside, enough))
 
+  -- such a word fits where its place lies in the slot
+  pub fitting : (count i : ℕ) (gone rest : List Word) (w : Word) → cells t ≡ gone ++ rest → length gone ≡ count → old.regs.f + count ≤ old.regs.s → i ≡ old.regs.s - count + 1 → i ≤ old.regs.losr
+      → nat_le (height (with_top_cells t.frames (w ∷ rest))) m.setting.stack_size ≡ true
+  fitting count i gone rest w e n enough at inside =
+      let tall = height-with t.frames (w ∷ rest) some_frame in
+      let longer = ap length e ∙ length-append gone rest in
+      let g = registers in
+      let low : height (with_top_cells t.frames (w ∷ rest)) ≤ m.setting.stack_size = omega (arith, tall, longer, n, height_of, size-is, g.last, g.top, at, inside, enough) in
+      grind (arith, nat_tests)
+
   -- no room for it
   pub overflows : (count i : ℕ) (q : Place) (gone rest : List Word) (w : Word) → cells t ≡ gone ++ rest → length gone ≡ count → old.regs.f + count ≤ old.regs.s → i ≡ old.regs.s - count + 1 → old.regs.losr < i
       → leaves_cells (here m t q) (w ∷ rest) None ≡ Err StackOverflow
