@@ -118,7 +118,7 @@ module _ (plan : Plan) (s : Session) (m : Member) (t : Task) (f : Frame) (below 
     -- and what is shown of it, is shown of each running task
     pub for_running_after : (x : Storage) (core core' : List Tagged) (r r' : Regs) (marks : List ℕ) → SessionHolds x core r marks plan s
         → (P : Member → Task → Type 0) → P new_member new_task → (y : Member) (u : Task) → IsRunning plan (with_job s m new).jobs y u → P y u
-    for_running_after x core core' r r' marks h = for_running (things_gone plan m new) x core core' r r' marks plan s m new_course t new_task h may.running replaces
+    for_running_after x core core' r r' marks h = for_running [] (things_gone plan m new) x core core' r r' marks plan s m new_course t new_task h may.running replaces
 
     -- the whole session, all but the display
     pub holds_after : (x : Storage) (core core' : List Tagged) (r r' : Regs) (marks : List ℕ) → SessionHolds x core r marks plan s
@@ -136,4 +136,4 @@ module _ (plan : Plan) (s : Session) (m : Member) (t : Task) (f : Frame) (below 
         (subst (λ (S : List Activation). Stands x core' r' (with_stack (picture plan s.jobs) plan.running S)) (sym is) stands) in
         let settled = settled-after x core r marks plan s m t f below may.ordered h may.running may.frames new_course new_task replaces row (others-same new arrays) m.course.job.next_array names_fall arrays
         (subst (λ (S : List Activation). high (activations plan m.setting.number m.course.job plan.running outer below) ≤ high S) (sym is) higher) in
-        SessionHoldsBut-after (things_gone plan m new) x core core' r r' marks plan s m new_course t new_task h may.running replaces same after.mark memory settled task
+        SessionHoldsBut-after [] (things_gone plan m new) x core core' r r' marks plan s m new_course t new_task h may.running replaces same after.mark memory settled task
