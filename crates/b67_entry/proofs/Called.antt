@@ -1,6 +1,5 @@
 -- The entering of a marked activation record in the code's own values.
-use Rattle.std.proofs.Common.{◌≡◌, ◌≢◌, ℕ, ◌+◌, ◌-◌, ◌<◌, ◌≤◌, ◌^◌, List, [], ◌∷◌, ◌++◌, reverse, Some, Err, refl, sym, ◌∙◌, ap, arith, Bool, true, false, not, ◌==◌, slice_set, subst}
-use Rattle.std.specs.List.{slice_get}
+use Rattle.std.proofs.Common.{◌≡◌, ◌≢◌, ℕ, ◌+◌, ◌<◌, ◌≤◌, List, reverse, Err, refl, sym, ◌∙◌, ap, true, false, not, ◌==◌, slice_set, subst}
 use Rattle.b67_word.specs.Tagged.{Tagged}
 use Rattle.b67_word.specs.declared.couples.Place.{Place}
 use Rattle.b67_word.specs.declared.faults.Fault.TheVariants.{InvalidOperand}
@@ -63,10 +62,10 @@ module _ (cpu : Cpu) (a : Scene cpu.core cpu.regs) (q : Place) (good : IsPlace q
 
   abbrev pub mark : Mscw
   mark = record {
-    far = not ((environment cpu a q at f segment level place e).stack == cpu.regs.slot);
+    far = not ((environment cpu cpu.regs a q at f segment level place e.procedure).stack == cpu.regs.slot);
     entered = true;
-    env_stack = (environment cpu a q at f segment level place e).stack;
-    env_disp = (environment cpu a q at f segment level place e).disp;
+    env_stack = (environment cpu cpu.regs a q at f segment level place e.procedure).stack;
+    env_disp = (environment cpu cpu.regs a q at f segment level place e.procedure).disp;
     value = false;
     level = level;
     back = (top_mark cpu.regs.slot (stack_of_task a.plan a.member.setting.number a.member.course.job a.plan.running a.task)).back;
@@ -76,17 +75,17 @@ module _ (cpu : Cpu) (a : Scene cpu.core cpu.regs) (q : Place) (good : IsPlace q
   caller = record { place = q; level = cpu.regs.level; segment = cpu.regs.segment }
 
   pub mark_good : IsMscw mark
-  mark_good = Entering.mark_good a.storage cpu a.plan a.session a.member a.task q e.ordered e.stands a.running f segment level place e.procedure.cell.names e.procedure.own (high cpu a q at f segment level place e) (starts cpu a q at f segment level place e) good reference arguments with (plain_reference reference w.refers)
+  mark_good = Entering.mark_good a.storage cpu a.plan a.session a.member a.task q e.ordered e.stands a.running f segment level place e.procedure.cell.names e.procedure.own (high cpu cpu.regs a q at f segment level place e.procedure) (starts cpu cpu.regs a q at f segment level place e.procedure) good reference arguments with (plain_reference reference w.refers)
 
   pub caller_good : IsRcw caller
-  caller_good = Entering.rcw_good a.storage cpu a.plan a.session a.member a.task q e.ordered e.stands a.running f segment level place e.procedure.cell.names e.procedure.own (high cpu a q at f segment level place e) (starts cpu a q at f segment level place e) good reference arguments with (plain_reference reference w.refers)
+  caller_good = Entering.rcw_good a.storage cpu a.plan a.session a.member a.task q e.ordered e.stands a.running f segment level place e.procedure.cell.names e.procedure.own (high cpu cpu.regs a q at f segment level place e.procedure) (starts cpu cpu.regs a q at f segment level place e.procedure) good reference arguments with (plain_reference reference w.refers)
 
   -- where the two words lie
   pub two_words : (cpu.regs.bosr < cpu.regs.f) × (cpu.regs.f + 1 ≤ cpu.regs.losr)
-  two_words = Entering.two_words a.storage cpu a.plan a.session a.member a.task q e.ordered e.stands a.running f segment level place e.procedure.cell.names e.procedure.own (high cpu a q at f segment level place e) (starts cpu a q at f segment level place e) good reference arguments with (plain_reference reference w.refers)
+  two_words = Entering.two_words a.storage cpu a.plan a.session a.member a.task q e.ordered e.stands a.running f segment level place e.procedure.cell.names e.procedure.own (high cpu cpu.regs a q at f segment level place e.procedure) (starts cpu cpu.regs a q at f segment level place e.procedure) good reference arguments with (plain_reference reference w.refers)
 
   -- the mark of these readings
-  pub mark_is : (env : Activation) (p : Pcw) (t : Mscw) → env ≡ environment cpu a q at f segment level place e → p ≡ pcw cpu a q at f segment level place e
+  pub mark_is : (env : Activation) (p : Pcw) (t : Mscw) → env ≡ environment cpu cpu.regs a q at f segment level place e.procedure → p ≡ pcw cpu cpu.regs a q at f segment level place e.procedure
       → t ≡ top_mark cpu.regs.slot (stack_of_task a.plan a.member.setting.number a.member.course.job a.plan.running a.task) → (k : Mscw)
       → k ≡ record { far = not (env.stack == cpu.regs.slot); entered = true; env_stack = env.stack; env_disp = env.disp; value = false; level = p.level; back = t.back } → k ≡ mark
   mark_is env p t ee ep et k ek =
@@ -104,24 +103,24 @@ module _ (cpu : Cpu) (a : Scene cpu.core cpu.regs) (q : Place) (good : IsPlace q
       ∙ ap (slice_set (slice_set cpu.core cpu.regs.f (mscw_word mark)) (cpu.regs.f + 1)) ew
 
   pub refused : level_of_frame (frame (here a.member a.task q) f) + 1 ≢ level → enters (here a.member a.task q) arguments (AtProc f segment level place) ≡ Err InvalidOperand
-  refused ne = Entering.refused a.storage cpu a.plan a.session a.member a.task q e.ordered e.stands a.running f segment level place e.procedure.cell.names e.procedure.own (high cpu a q at f segment level place e) (starts cpu a q at f segment level place e) good reference arguments with (plain_reference reference w.refers) ne
+  refused ne = Entering.refused a.storage cpu a.plan a.session a.member a.task q e.ordered e.stands a.running f segment level place e.procedure.cell.names e.procedure.own (high cpu cpu.regs a q at f segment level place e.procedure) (starts cpu cpu.regs a q at f segment level place e.procedure) good reference arguments with (plain_reference reference w.refers) ne
 
   module _ (test : level_of_frame (frame (here a.member a.task q) f) + 1 ≡ level) where
-    abbrev pub scene_after : Scene core_after (regs_with (pcw cpu a q at f segment level place e))
-    scene_after = Entering.scene_after a.storage cpu a.plan a.session a.member a.task q e.ordered e.stands a.running f segment level place e.procedure.cell.names e.procedure.own (high cpu a q at f segment level place e) (starts cpu a q at f segment level place e) good reference arguments with (plain_reference reference w.refers) test (plain_shape a.plan a.member.setting.number a.member.course.job _ reference w.refers)
+    abbrev pub scene_after : Scene core_after (regs_with (pcw cpu cpu.regs a q at f segment level place e.procedure))
+    scene_after = Entering.scene_after a.storage cpu a.plan a.session a.member a.task q e.ordered e.stands a.running f segment level place e.procedure.cell.names e.procedure.own (high cpu cpu.regs a q at f segment level place e.procedure) (starts cpu cpu.regs a q at f segment level place e.procedure) good reference arguments with (plain_reference reference w.refers) test (plain_shape a.plan a.member.setting.number a.member.course.job _ reference w.refers)
 
-    pub scene_with : (core : List Tagged) (p : Pcw) → core ≡ core_after → p ≡ pcw cpu a q at f segment level place e → Scene core (regs_with p)
+    pub scene_with : (core : List Tagged) (p : Pcw) → core ≡ core_after → p ≡ pcw cpu cpu.regs a q at f segment level place e.procedure → Scene core (regs_with p)
     scene_with core p ec ep = subst (λ (k : List Tagged). Scene k (regs_with p)) (sym ec) (subst (λ (z : Pcw). Scene core_after (regs_with z)) (sym ep) scene_after)
 
-    pub done : (core : List Tagged) (p : Pcw) (new : Cpu) → core ≡ core_after → p ≡ pcw cpu a q at f segment level place e → new ≡ record { core = core; regs = regs_with p; display = new.display; critical = cpu.critical }
+    pub done : (core : List Tagged) (p : Pcw) (new : Cpu) → core ≡ core_after → p ≡ pcw cpu cpu.regs a q at f segment level place e.procedure → new ≡ record { core = core; regs = regs_with p; display = new.display; critical = cpu.critical }
         → ((b : Scene core (regs_with p)) → IsShown b new.display)
         → IsMade a.storage a.plan a.session a.member cpu new (enters (here a.member a.task q) arguments (AtProc f segment level place))
     done core p new ec ep en shown =
         let d = new.display in
-        let p0 = pcw cpu a q at f segment level place e in
+        let p0 = pcw cpu cpu.regs a q at f segment level place e.procedure in
         let D : List Tagged → Pcw → Type 0 = λ k z. (b : Scene k (regs_with z)) → IsShown b d in
         let seen : IsShown scene_after d = subst (λ (z : Pcw). D core_after z) ep (subst (λ (k : List Tagged). D k p) ec shown) scene_after in
-        let made = Entering.done a.storage cpu a.plan a.session a.member a.task q e.ordered e.stands a.running f segment level place e.procedure.cell.names e.procedure.own (high cpu a q at f segment level place e) (starts cpu a q at f segment level place e) good reference arguments with (plain_reference reference w.refers) test (plain_shape a.plan a.member.setting.number a.member.course.job _ reference w.refers) d seen in
+        let made = Entering.done a.storage cpu a.plan a.session a.member a.task q e.ordered e.stands a.running f segment level place e.procedure.cell.names e.procedure.own (high cpu cpu.regs a q at f segment level place e.procedure) (starts cpu cpu.regs a q at f segment level place e.procedure) good reference arguments with (plain_reference reference w.refers) test (plain_shape a.plan a.member.setting.number a.member.course.job _ reference w.refers) d seen in
         let is : new ≡ record { core = core_after; regs = regs_with p0; display = d; critical = cpu.critical } =
         en ∙ ap (λ (k : List Tagged). let z : Cpu = record { core = k; regs = regs_with p; display = d; critical = cpu.critical } in z) ec ∙ ap (λ (y : Pcw). let z : Cpu = record { core = core_after; regs = regs_with y; display = d; critical = cpu.critical } in z) ep in
         subst (λ (z : Cpu). IsMade a.storage a.plan a.session a.member cpu z (enters (here a.member a.task q) arguments (AtProc f segment level place))) (sym is) made

@@ -1,7 +1,5 @@
 -- What the entering of a marked activation record makes.
-use Rattle.std.proofs.Common.{◌≡◌, ◌≢◌, ℕ, suc, ◌+◌, ◌-◌, ◌<◌, ◌≤◌, ◌^◌, List, [], ◌∷◌, ◌++◌, map, length, reverse, Option, Some, None, Ok, Err, refl, sym, ◌∙◌, ap, arith, Bool, true, false, not, ◌==◌, inl, inr, ◌⊎◌, ⊎_elim, slice_set, subst, length-append}
-use Rattle.std.specs.Prelude.{if◌then◌else◌}
-use Rattle.std.specs.List.{slice_get}
+use Rattle.std.proofs.Common.{◌≡◌, ◌≢◌, ℕ, ◌+◌, ◌<◌, ◌≤◌, List, [], ◌∷◌, ◌++◌, map, reverse, Some, None, Err, refl, sym, ◌∙◌, ap, arith, true, false, not, ◌==◌, inl, inr, ⊎_elim, slice_set, subst}
 use Rattle.std.proofs.lemmas.Bool.{le-leb, eq-eqb, ne_eqb}
 use Rattle.b67_word.specs.Tagged.{Tagged}
 use Rattle.b67_word.specs.declared.couples.Place.{Place}

@@ -3,6 +3,7 @@ pub mod Leads
 pub mod Firsts
 pub mod Called
 pub mod Unasked
+pub mod Plain
 pub mod Entering
 pub mod Accidental
 pub mod Sites

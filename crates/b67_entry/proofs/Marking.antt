@@ -1,15 +1,11 @@
 -- What MKST makes.
-use Rattle.std.proofs.Common.{◌≡◌, ◌≢◌, ℕ, suc, ◌+◌, ◌-◌, ◌≤◌, List, [], ◌∷◌, map, Some, None, Ok, Err, refl, sym, ◌∙◌, ap, arith, inl, inr, ◌⊎◌, ⊎_elim, slice_set, subst, false}
-use Rattle.std.specs.List.{slice_get}
-use Rattle.std.proofs.lemmas.Bool.{cond-true, cond-false, le-leb, lt-leb}
-use Rattle.b67_word.specs.Tagged.{Tagged}
+use Rattle.std.proofs.Common.{◌≡◌, ◌≢◌, ℕ, ◌+◌, ◌-◌, List, [], ◌∷◌, None, Err, refl, sym, arith, inl, inr, ⊎_elim, subst, false}
+use Rattle.std.proofs.lemmas.Bool.{le-leb, lt-leb}
 use Rattle.b67_word.specs.declared.couples.Place.{Place}
 use Rattle.b67_word.specs.declared.faults.Fault.TheVariants.{StackOverflow}
-use Rattle.b67_ctl.specs.declared.registers.Regs.{Regs}
 use Rattle.b67_ctl.specs.Layout.{mscw_word}
 use Rattle.b67_core.proofs.Writes.{slice_get-set_other}
 use Rattle.b67_model.specs.State.{Task, Member, height}
-use Rattle.b67_model.specs.Answers.{Answer}
 use Rattle.b67_model.specs.Entry.{mkst}
 use Rattle.b67_model.specs.Run.{number_of}
 use Rattle.b67_model.specs.Schedule.{Session}
@@ -22,12 +18,11 @@ use Rattle.b67_stack.proofs.Slots.{running_slot}
 use Rattle.b67_stack.proofs.Pushes.{Room, room_of, Stands-marked}
 use Rattle.b67_layout.specs.Plan.{Plan}
 use Rattle.b67_layout.specs.Layout.{picture, stack_of_task}
-use Rattle.b67_layout.specs.Meets.{IsMade, here, things_gone, with_job}
+use Rattle.b67_layout.specs.Meets.{IsMade, here, with_job}
 use Rattle.b67_layout.specs.Session.{IsRunning, SessionStands, SessionStandsBut}
 use Rattle.b67_layout.proofs.Others.{keyed-has}
 use Rattle.b67_layout.proofs.Starts.{slot_is, runs_here}
 use Rattle.b67_layout.proofs.Settles.{Settled-more}
-use Rattle.b67_layout.proofs.Sessions.{dictionary_below}
 use Rattle.b67_layout.proofs.Gone.{no_things_gone}
 use Rattle.b67_layout.proofs.Fresh.{job_in_order}
 use Rattle.b67_entering.proofs.Marks.{job_marked, SessionStands-mark}
@@ -39,7 +34,7 @@ marked_at cpu q = record (marked cpu) { regs = record (marked cpu).regs { place 
 
 module _ (x : Storage) (old : Cpu) (plan : Plan) (s : Session) (m : Member) (t : Task) (q : Place) (o : IsInOrderButPlaces s) (h : SessionStands x old plan s) (runs : IsRunning plan s.jobs m t) where
   pub mkst_full : old.regs.s ≡ old.regs.losr → mkst (here m t q) ≡ Err StackOverflow
-  mkst_full full = rw (lt-leb (height t.frames + 1) m.setting.stack_size (omega (arith, full, height_room x old.core old.regs old.critical plan s m t h.holds runs))) refl
+  mkst_full full = rw (lt-leb (height t.frames + 1) m.setting.stack_size (omega (arith, full, height_room [] x old.core old.regs old.critical plan s m t h.holds runs))) refl
 
   pub mkst_done : old.regs.s ≢ old.regs.losr → IsMade x plan s m old (marked_at old q) (mkst (here m t q))
   mkst_done room =
@@ -66,7 +61,7 @@ module _ (x : Storage) (old : Cpu) (plan : Plan) (s : Session) (m : Member) (t :
       record {
         job = job;
         touched = None;
-        is = rw (le-leb (height t.frames + 1) m.setting.stack_size (omega (arith, room, r.last, height_room x old.core old.regs old.critical plan s m t h.holds runs))) refl;
+        is = rw (le-leb (height t.frames + 1) m.setting.stack_size (omega (arith, room, r.last, height_room [] x old.core old.regs old.critical plan s m t h.holds runs))) refl;
         present = tt;
         stands = subst L (sym (no_things_gone plan m job refl)) made;
         changed = λ i. ⊎_elim (λ e. inl e) (λ e. inr (inl e)) (written old.core old.regs (old.regs.s + 1) word (omega (arith, r.mark, r.top), omega (arith, r.last, room)) i);

@@ -13,7 +13,7 @@ ghost use Rattle.b67_model.specs.Entry.{back_to};
 ghost use Rattle.b67_model.specs.Rows as operators;
 ghost use Rattle.b67_layout.specs.Meets.{RunsSome, ForEach, Meets, here};
 ghost use Rattle.b67_refer.specs.Scene.{Scene, IsShown};
-ghost use Rattle.b67_entry.specs.Procedures.{ReachesProc, Calls, called, CallsOrMeets};
+ghost use Rattle.b67_entry.specs.Procedures.{ReachesProc, CanEnter, EntersOrFaults, Calls, called, CallsOrMeets};
 ghost use Rattle.b67_model.specs.Words.{Word};
 
 use b67_core::Core;
@@ -132,6 +132,39 @@ pub fn entr(cpu: &mut Cpu, next: Place) -> Step
     }
 }
 
+/// As `accident`, with these registers in place of the machine's.
+pub fn accident_on(cpu: &mut Cpu, regs: Regs, cell: u32, value: bool, back: Place) -> Step
+    requires procedure { (a : Scene cpu.old.core regs) × (q : Place) × (f : ℕ) × (segment : ℕ) × (level : ℕ) × (place : Place) × CanEnter cpu.old regs a q cell f segment level place }
+    requires back { IsPlace back }
+    ensures row { (a : Scene cpu.old.core regs) (q : Place) (f segment level : ℕ) (place : Place) → CanEnter cpu.old regs a q cell f segment level place
+        → EntersOrFaults a result cpu.old cpu.new (rows.accident (here a.member a.task q) (cells_of (here a.member a.task q)) (back_to (here a.member a.task q) value back) (AtProc f segment level place)) }
+{
+    let env = activation_of(&cpu.core, &regs, cell);
+    let procedure = procedure_at(&cpu.core, cell);
+    if env.level + 1 != procedure.level {
+        return Step::Fault(Fault::InvalidOperand);
+    }
+    if regs.losr - regs.s < 2 {
+        return Step::Fault(Fault::StackOverflow);
+    }
+    let distance = (regs.s + 1 - regs.f) as u16;
+    let mark = entered_mark(&regs, env, procedure.level, value, distance);
+    let caller = Rcw {
+        place: back,
+        level: regs.level,
+        segment: regs.segment,
+    };
+    cpu.core.set(regs.s + 1, mark.word());
+    cpu.core.set(regs.s + 2, caller.word());
+    cpu.regs = Regs {
+        s: regs.s + 2,
+        f: regs.s + 1,
+        ..regs
+    };
+    begin(cpu, procedure);
+    Step::Done
+}
+
 /// Enters the procedure of a cell that a reference of the running task ends at, by a new activation record without
 /// cells. It returns to `back` in the running segment, and is marked to return a value where `value` says so.
 ///
@@ -143,25 +176,6 @@ pub fn accident(cpu: &mut Cpu, cell: u32, value: bool, back: Place) -> Step
     ensures row { (a : Scene cpu.old.core cpu.old.regs) (q : Place) (f segment level : ℕ) (place : Place) → ReachesProc cpu.old a q cell f segment level place
         → Meets a.storage a.plan a.session a.member result cpu.old cpu.new (rows.accident (here a.member a.task q) (cells_of (here a.member a.task q)) (back_to (here a.member a.task q) value back) (AtProc f segment level place)) }
 {
-    let env = activation_of(&cpu.core, &cpu.regs, cell);
-    let procedure = procedure_at(&cpu.core, cell);
-    if env.level + 1 != procedure.level {
-        return Step::Fault(Fault::InvalidOperand);
-    }
-    if cpu.regs.losr - cpu.regs.s < 2 {
-        return Step::Fault(Fault::StackOverflow);
-    }
-    let distance = (cpu.regs.s + 1 - cpu.regs.f) as u16;
-    let mark = entered_mark(&cpu.regs, env, procedure.level, value, distance);
-    let caller = Rcw {
-        place: back,
-        level: cpu.regs.level,
-        segment: cpu.regs.segment,
-    };
-    cpu.core.set(cpu.regs.s + 1, mark.word());
-    cpu.core.set(cpu.regs.s + 2, caller.word());
-    cpu.regs.f = cpu.regs.s + 1;
-    cpu.regs.s += 2;
-    begin(cpu, procedure);
-    Step::Done
+    let regs = cpu.regs;
+    accident_on(cpu, regs, cell, value, back)
 }
