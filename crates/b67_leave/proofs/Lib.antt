@@ -1,3 +1,5 @@
+pub mod Heres
+pub mod Moved
 pub mod Putting
 pub mod Retning
 pub mod CopyRefusals

@@ -129,7 +129,7 @@ module _ (x : Storage) (old : Cpu) (plan : Plan) (s : Session) (m : Member) (t :
 
   module _ (v : Word) (w : Tagged) (b : ReturnsWord x plan m t old a v w) where
     -- the frames of the word are the frames that were found
-    frame_is : b.word.frame ≡ a.f
+    pub frame_is : b.word.frame ≡ a.f
     frame_is = let e : b.word.frame ∷ b.word.below ≡ a.f ∷ a.next ∷ a.more = sym b.word.frames ∙ a.frames in cc
 
     below_is : b.word.below ≡ a.next ∷ a.more

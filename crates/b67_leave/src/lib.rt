@@ -16,8 +16,10 @@ ghost use Rattle.b67_leave.specs.Left.{MayReturn, Returns, caller_regs, caller_s
 ghost use Rattle.b67_leave.specs.Words.{IsTopWord, ReturnsWord, Refuses};
 
 use b67_ctl::{DataDesc, Mscw, Rcw, Regs, Sirw};
-use b67_refer::{owner, rebuild};
-use b67_stack::{Cpu, Step};
+use b67_elements::element;
+use b67_entry::accident_on;
+use b67_refer::{End, chase, owner, rebuild};
+use b67_stack::{Cpu, Step, What};
 use b67_word::{Fault, Word};
 
 /// Whether a live task depends on the top activation record.
@@ -152,7 +154,24 @@ fn evaluate(cpu: &mut Cpu, regs: Regs, display: [u32; 32], word: Word) -> Step
         → regs ≡ caller_regs cpu.old.regs (caller_stack plan m t a) a.back
         → Meets x plan s m result cpu.old cpu.new (rows.returned (here_left m t a) v true)) }
 {
-    unreachable!()
+    match chase(&cpu.core, &regs, &display, word) {
+        Ok(End::Cell(at)) => {
+            let value = cpu.core.get(at);
+            put(cpu, regs, display, value);
+            Step::Done
+        }
+        Ok(End::Element { original, index }) => match element(cpu, original, index) {
+            Some(value) => {
+                put(cpu, regs, display, value);
+                Step::Done
+            }
+            None => Step::Absent(What::Array(original)),
+        },
+        Ok(End::Proc(cell)) => accident_on(cpu, regs, cell, true, regs.place),
+        Ok(End::Array(_)) => Step::Fault(Fault::InvalidOperand),
+        Ok(End::Intrinsic(_)) => Step::Fault(Fault::InvalidOperand),
+        Err(fault) => Step::Fault(fault),
+    }
 }
 
 /// RETN: leaves the running activation record with the word at the top of the stack, which goes on the caller's record,
