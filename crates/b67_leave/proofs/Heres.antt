@@ -22,8 +22,8 @@ use Rattle.b67_model.specs.Entry.{needs_level, accident}
 pub flat_same : (n : ℕ) (a b : Task) (xs : List Task) → a.frames ≡ b.frames → flat_map (λ (t : Task). t.frames) (change_keyed (λ (t : Task). t.number) n (λ (t : Task). a) xs) ≡ flat_map (λ (t : Task). t.frames) (change_keyed (λ (t : Task). t.number) n (λ (t : Task). b) xs)
 flat_same n a b [] e = refl
 flat_same n a b (x ∷ xs) e = elim (cases_Bool (x.number == n)) [
-  | inl t ↦ rw (t, t) (ap (λ (fs : List Frame). fs ++ flat_map (λ (u : Task). u.frames) xs) e)
-  | inr t ↦ rw (t, t) (ap (λ (fs : List Frame). x.frames ++ fs) (flat_same n a b xs e))
+  | inl t ↦ rw t (ap (λ (fs : List Frame). fs ++ flat_map (λ (u : Task). u.frames) xs) e)
+  | inr t ↦ rw t (ap (λ (fs : List Frame). x.frames ++ fs) (flat_same n a b xs e))
 ]
 
 module _ (h k : Here) (frames : all_frames h ≡ all_frames k) (own : h.task.frames ≡ k.task.frames) where

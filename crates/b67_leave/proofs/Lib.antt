@@ -1,3 +1,4 @@
+pub mod Evaluating
 pub mod Heres
 pub mod Moved
 pub mod Putting
