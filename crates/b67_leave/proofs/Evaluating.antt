@@ -113,7 +113,7 @@ module _ (x : Storage) (old : Cpu) (plan : Plan) (s : Session) (m : Member) (t :
   abbrev pub seen : Here
   seen = here (member_at x old plan s m t o h runs a Ready) (task_left x old plan s m t o h runs a Ready) a.back.place
 
-  frames_same : all_frames (here_left m t a) ≡ all_frames seen
+  pub frames_same : all_frames (here_left m t a) ≡ all_frames seen
   frames_same = ap (λ (fs : List Frame). fs ++ (m.setting.dictionary ∷ mcp ∷ [])) (flat_same t.number (here_left m t a).task (task_left x old plan s m t o h runs a Ready) m.course.job.tasks refl)
 
   pub answer_is : (v : Word) → (IsOperand v → ⊥) → returned (here_left m t a) v true ≡ (follow seen v >>= evaluates (here_left m t a))

@@ -1,3 +1,4 @@
+pub mod Calling
 pub mod Evaluating
 pub mod Heres
 pub mod Moved
