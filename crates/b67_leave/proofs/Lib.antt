@@ -1,3 +1,4 @@
+pub mod Candidates
 pub mod Calling
 pub mod Evaluating
 pub mod Heres

@@ -180,3 +180,17 @@ module _ (x : Storage) (cpu : Cpu) (plan : Plan) (s : Session) (m : Member) (t :
     by (Proc segment level place) fit g = apart _ fit.0 (λ e. omega (arith, e))
     by (Intrinsic number) fit g = absurd g
     by (Words.Segment number) fit g = absurd g
+
+  -- no operand has another tag
+  pub not_operand : (v : Word) (w : Tagged) → IsTopWord x plan m t cpu v w → w.tag ≢ 0 → IsOperand v → ⊥
+  not_operand v w b ne is = by v b.fits is where
+    by : (u : Word) → Fits x.held (shape plan m.setting.number m.course.job (spot_in plan.running outer (b.frame ∷ b.below)) u) cpu.regs.s w → IsOperand u → ⊥
+    by (Operand bits) fit i = ne (ap (λ (z : Tagged). z.tag) fit.0)
+    by (Name couple) fit i = i
+    by (Ref f offset) fit i = i
+    by (Row a) fit i = i
+    by (Element a index) fit i = i
+    by (Original a) fit i = i
+    by (Proc segment level place) fit i = i
+    by (Intrinsic number) fit i = i
+    by (Words.Segment number) fit i = i
