@@ -1,6 +1,5 @@
 -- What an accidental entry makes.
-use Rattle.std.proofs.Common.{◌≡◌, ◌≢◌, ℕ, ◌+◌, ◌-◌, ◌<◌, ◌≤◌, List, [], ◌∷◌, ◌++◌, map, length, reverse, Some, Err, refl, sym, ◌∙◌, ap, arith, Bool, true, not, ◌==◌, slice_set, subst}
-use Rattle.std.proofs.lemmas.List.{length-reverse}
+use Rattle.std.proofs.Common.{◌≡◌, ◌≢◌, ℕ, ◌+◌, ◌-◌, ◌<◌, ◌≤◌, List, [], ◌∷◌, ◌++◌, map, Some, Err, refl, sym, ◌∙◌, ap, arith, Bool, true, not, ◌==◌, slice_set, subst}
 use Rattle.std.proofs.lemmas.Bool.{le-leb, lt-leb, eq-eqb, ne_eqb}
 use Rattle.b67_word.specs.Tagged.{Tagged}
 use Rattle.b67_word.specs.declared.couples.Place.{Place}
@@ -9,14 +8,13 @@ use Rattle.b67_ctl.specs.declared.registers.Regs.{Regs}
 use Rattle.b67_ctl.specs.declared.marks.Mscw.{Mscw}
 use Rattle.b67_ctl.specs.declared.marks.Rcw.{Rcw}
 use Rattle.b67_ctl.specs.Layout.{IsPlace, IsMscw, mscw_word, IsRcw, rcw_word}
-use Rattle.b67_model.specs.Words.{Word}
 use Rattle.b67_model.specs.State as State
 use Rattle.b67_model.specs.State.{Frame, Return, Ready, Segment, Task, Setting, Job, Member, Here, top, height, with_top_cells, frame}
 use Rattle.b67_model.specs.Environment.{level_of_frame}
 use Rattle.b67_model.specs.Chase.{AtProc}
 use Rattle.b67_model.specs.Steps.{cells_of}
 use Rattle.b67_model.specs.Entry.{accident, back_to}
-use Rattle.b67_model.specs.InOrder.{IsSegment, NamesEntered, SettingInOrder, DictionaryWords, TasksInOrder, TaskInOrder, EnvironmentInOrder, outer_of, reach_of, known_of}
+use Rattle.b67_model.specs.InOrder.{IsSegment, NamesEntered, TasksInOrder, TaskInOrder, EnvironmentInOrder, outer_of, reach_of, known_of}
 use Rattle.b67_stack.specs.declared.Cpu.{Cpu}
 use Rattle.b67_stack.specs.Stacks.{Spot, Activation, Entered, HeadFits, IsStack, mark_of, return_of, running_level, words}
 use Rattle.b67_stack.specs.Picture.{CopiesName}
@@ -41,16 +39,8 @@ use Rattle.b67_order.proofs.Members.{all_in}
 use Rattle.b67_core.proofs.Writes.{slice_get-set_other}
 use Rattle.b67_model.specs.Lists.{Has}
 use Rattle.b67_entry.specs.Procedures.{IsEntered}
-use Rattle.b67_entry.proofs.Sites.{Site, site}
-
--- a job has at most as many segments as entries in its dictionary
-words_enough : (n : ℕ) (segments : List Segment) (words : List Word) → DictionaryWords n segments words → length segments ≤ length words
-words_enough n [] words d = omega arith
-words_enough n (s ∷ more) [] d = absurd d
-words_enough n (s ∷ more) (w ∷ words) d = omega (arith, words_enough (n + 1) more words d.1)
-
-pub few_segments : (setting : Setting) → SettingInOrder setting → length setting.segments ≤ 255
-few_segments setting g = omega (arith, words_enough 1 setting.segments (reverse setting.dictionary.cells) g.dictionary, length-reverse setting.dictionary.cells, g.entries)
+use Rattle.b67_environments.proofs.Sites.{Site, site}
+use Rattle.b67_environments.proofs.Segments.{few_segments}
 
 same_cells : (fs : List Frame) → with_top_cells fs (top fs).cells ≡ fs
 same_cells [] = refl
