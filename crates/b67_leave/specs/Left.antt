@@ -1,6 +1,5 @@
 -- The registers that the leaving of an activation record makes.
-use Rattle.std.specs.Prelude.{◌≡◌, ◌≢◌, ℕ, ◌+◌, List, [], ◌∷◌, Some, false, slice_set}
-use Rattle.b67_word.specs.Tagged.{Tagged}
+use Rattle.std.specs.Prelude.{◌≡◌, ◌≢◌, ℕ, ◌+◌, List, [], ◌∷◌, Some, false}
 use Rattle.b67_ctl.specs.declared.registers.Regs.{Regs}
 use Rattle.b67_model.specs.State as State
 use Rattle.b67_model.specs.State.{Return, Frame, Task, Here, Member, with_task}
@@ -56,7 +55,3 @@ abbrev pub here_left : (m : Member) (t : Task) → Returns m t → Here
 here_left m t a =
     let task = record t { frames = a.next ∷ a.more; segment = a.back.segment; place = a.back.place } in
     record { setting = m.setting; job = with_task (without_arrays_of a.f.identity m.course.job) task; task = task; at = t.place }
-
--- the machine with these registers, this display and a word more on the stack
-abbrev pub with_word : Cpu → Regs → List ℕ → Tagged → Cpu
-with_word cpu r display w = record { core = slice_set cpu.core (r.s + 1) w; regs = record r { s = r.s + 1 }; display = display; critical = cpu.critical }

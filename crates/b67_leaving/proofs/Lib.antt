@@ -1,6 +1,4 @@
-pub mod Conditions
 pub mod Apart
-pub mod Returned
 pub mod Orders
 pub mod Leaves
 pub mod Settled

@@ -23,12 +23,13 @@ use Rattle.b67_refer.specs.Scene.{Scene, IsShown}
 use Rattle.b67_refer.specs.Cells.{StandsFor}
 use Rattle.b67_refer.specs.Ends.{IsProcAt, EndMeets}
 use Rattle.b67_entry.specs.Procedures.{CanEnter, EntersOrFaults}
-use Rattle.b67_leave.specs.Left.{Returns, caller_regs, caller_stack, with_word}
-use Rattle.b67_leave.specs.Words.{ReturnsWord}
+use Rattle.b67_leave.specs.Left.{Returns, caller_regs, caller_stack}
+use Rattle.b67_returning.specs.Returned.{with_word}
+use Rattle.b67_returning.specs.Returned.{ReturnsWord}
 use Rattle.b67_leave.proofs.Leaving.{regs_left}
-use Rattle.b67_leave.proofs.Moved.{stands_for}
-use Rattle.b67_leave.proofs.Evaluating.{scene, seen}
-use Rattle.b67_leave.proofs.Calling.{can_enter}
+use Rattle.b67_returning.proofs.Moved.{stands_for}
+use Rattle.b67_return.proofs.Evaluating.{scene, seen}
+use Rattle.b67_return.proofs.Calling.{can_enter}
 
 module _ (x : Storage) (old : Cpu) (plan : Plan) (s : Session) (m : Member) (t : Task) (o : IsInOrderButPlaces s) (h : SessionStands x old plan s) (runs : IsRunning plan s.jobs m t) (a : Returns m t)
     (r : Regs) (is : r ≡ caller_regs old.regs (caller_stack plan m t a) a.back) where

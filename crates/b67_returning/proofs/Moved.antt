@@ -32,10 +32,11 @@ use Rattle.b67_leaving.proofs.Slots.{outer_spots-after}
 use Rattle.b67_leaving.proofs.Leaves.{task_at, may_leave, Frames-below, replaces}
 use Rattle.b67_leaving.proofs.Orders.{left_outer}
 use Rattle.b67_leave.specs.Left.{Returns}
-use Rattle.b67_leave.specs.Words.{ReturnsWord}
+use Rattle.b67_returning.specs.Returned.{ReturnsWord}
 use Rattle.b67_leave.proofs.Leaving.{some_first, may, outer, job_at, member_at, task_left, regs_left, scene_left}
-use Rattle.b67_leave.proofs.Returning.{other_frame, other_row, other_element, found_array}
-use Rattle.b67_leave.proofs.Replacing.{Puts, new_shape, frame_is, puts_word}
+use Rattle.b67_returning.proofs.Returning.{other_frame, other_row, other_element}
+use Rattle.b67_refusals.proofs.CopyRefusals.{found_array}
+use Rattle.b67_returning.proofs.Replacing.{Puts, new_shape, frame_is, puts_word}
 
 module _ (x : Storage) (old : Cpu) (plan : Plan) (s : Session) (m : Member) (t : Task) (o : IsInOrderButPlaces s) (h : SessionStands x old plan s) (runs : IsRunning plan s.jobs m t) (a : Returns m t) where
   abbrev job : Job
@@ -62,7 +63,7 @@ module _ (x : Storage) (old : Cpu) (plan : Plan) (s : Session) (m : Member) (t :
 
   array_moved : (n index : ℕ) → owner_of m.course.job n ≢ a.f.identity → NamesArray m.course.job.arrays (reach_of m.course.job t) n index → NamesArray job.arrays (reach_of job task) n index
   array_moved n index ne g =
-      let is = found_array m.course.job a.f.identity (reach_of m.course.job t) n index g (running_in_order plan s m t o runs).0.tasks.names in
+      let is = found_array m.course.job (reach_of m.course.job t) n index g (running_in_order plan s m t o runs).0.tasks.names in
       let apart : g.item.owner ≢ a.f.identity = λ e. ne (ap (λ (z : Array). z.owner) is ∙ e) in
       record {
         item = g.item;

@@ -7,11 +7,11 @@ use Rattle.b67_layout.specs.Layout.{picture, stack_of_task}
 use Rattle.b67_layout.proofs.Starts.{meets_runs, runs_here}
 use Rattle.b67_refer.specs.Scene.{Scene}
 use Rattle.b67_leave.proofs.Leaving.{under, on_top, on_stack, may_return, scene_left}
-use Rattle.b67_leave.proofs.Retning.{room, pending, empty, word_at, refused, refusal_passes, refusal_faults, critical, ended, leaver, with_its_word, value_is, operand_is}
-use Rattle.b67_leave.proofs.Retns.{IsOperand}
-use Rattle.b67_leave.proofs.Putting.{room_left, put_done, evaluated}
-use Rattle.b67_leave.proofs.retn.Goals as goal
-use Rattle.b67_leave.proofs.retn.Goals.{else-mark-via-then-mark+else-tag-ne0, else-mark-via-else-mark}
+use Rattle.b67_return.proofs.Retning.{room, pending, empty, word_at, refused, refusal_passes, refusal_faults, critical, ended, leaver, with_its_word, value_is, operand_is}
+use Rattle.b67_returning.proofs.Retns.{IsOperand}
+use Rattle.b67_return.proofs.Putting.{room_left, put_done, evaluated}
+use Rattle.b67_return.proofs.retn.Goals as goal
+use Rattle.b67_return.proofs.retn.Goals.{else-mark-via-then-mark+else-tag-ne0, else-mark-via-else-mark}
 
 pub top_mark-mark-requires : goal.top_mark-mark-requires
 top_mark-mark-requires c = let r = c.requires in meets_runs r.storage c.args.cpu.now r.plan r.session r.member r.task r.stands r.running

@@ -35,13 +35,14 @@ use Rattle.b67_layout.proofs.Fresh.{fresh, running_in_order}
 use Rattle.b67_layout.proofs.Starts.{slot_is}
 use Rattle.b67_leaving.proofs.Nowhere.{SameArray, SameArrays, activations-same}
 use Rattle.b67_leaving.proofs.Slots.{IsDependedOn}
-use Rattle.b67_leaving.proofs.Returned.{Stands-returned, size_entered, fits_anywhere}
+use Rattle.b67_returning.proofs.Returned.{Stands-returned, size_entered, fits_anywhere}
 use Rattle.b67_leaving.proofs.Things.{others}
 use Rattle.b67_leaving.proofs.Leaves.{Leaver, task_at, below-same, Frames, Frames-below, holds_after, runs_after, for_running_after}
 use Rattle.b67_leave.specs.Left.{caller_regs, Returns}
-use Rattle.b67_leave.specs.Words.{IsTopWord, ReturnsWord}
+use Rattle.b67_refusals.specs.Words.{IsTopWord}
+use Rattle.b67_returning.specs.Returned.{ReturnsWord}
 use Rattle.b67_leave.proofs.Leaving.{may, outer, under, on_top, on_stack, may_return, regs_left, job_at, member_at, task_left, shown_left}
-use Rattle.b67_leave.proofs.Returning.{shape_below, may_push, array_kept}
+use Rattle.b67_returning.proofs.Returning.{shape_below, may_push, array_kept}
 
 module _ (x : Storage) (old : Cpu) (plan : Plan) (s : Session) (m : Member) (t : Task) (o : IsInOrderButPlaces s) (h : SessionStands x old plan s) (runs : IsRunning plan s.jobs m t) (a : Returns m t) where
   -- the frames with words on the caller's

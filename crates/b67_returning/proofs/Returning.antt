@@ -32,6 +32,7 @@ use Rattle.b67_layout.specs.Plan.{Plan, spot_in, outer_spots}
 use Rattle.b67_layout.specs.Layout.{shape}
 use Rattle.b67_leaving.proofs.Nowhere.{SameArray, array_stays}
 use Rattle.b67_leaving.proofs.Things.{others}
+use Rattle.b67_refusals.proofs.CopyRefusals.{found_array}
 
 -- a word that may be returned from a frame
 module _ (job : Job) (id : ℕ) where
@@ -82,13 +83,9 @@ module _ (job : Job) (id : ℕ) where
   may_push plan j spot things shapes (Words.Segment number) copies h e = tt
 
   -- and its array stays
-  pub found_array : (reach : List Known) (a index : ℕ) (n : NamesArray job.arrays reach a index) → Falls job.next_array (map (λ (b : Array). b.identity) job.arrays) → array job a ≡ n.item
-  found_array reach a index n falls =
-      ap (λ (o : Option Array). unwrap_or o no_array) (ap (λ (i : ℕ). keyed (λ (b : Array). b.identity) i job.arrays) (sym n.named) ∙ keyed_falls (λ (b : Array). b.identity) job.next_array job.arrays n.item falls n.live)
-
   kept : (new : Job) (reach : List Known) (a index : ℕ) → NamesArray job.arrays reach a index → new.arrays ≡ others id job.arrays → Falls job.next_array (map (λ (b : Array). b.identity) job.arrays) → owner_of job a ≢ id → array new a ≡ array job a
   kept new reach a index n is falls ne =
-      let same = found_array reach a index n falls in
+      let same = found_array job reach a index n falls in
       subst (λ (i : ℕ). array new i ≡ array job i) n.named (array_stays new job id is falls n.item n.live (λ e. ne (ap (λ (b : Array). b.owner) same ∙ e)))
 
   pub array_kept : (new : Job) (setting : Setting) (reach : List Known) (v : Word) → WordInOrder (IsSegment setting) job.arrays reach id v → new.arrays ≡ others id job.arrays → Falls job.next_array (map (λ (b : Array). b.identity) job.arrays) → returnable job id v ≡ Ok v → SameArray new job v

@@ -32,7 +32,13 @@ use Rattle.b67_layout.proofs.Fresh.{running_in_order}
 use Rattle.b67_layout.proofs.Starts.{slot_is, runs_here}
 use Rattle.b67_refer.proofs.Scenes.{member_in_order}
 use Rattle.b67_leaving.proofs.Apart.{spot_apart, spot_top, spot_fits}
-use Rattle.b67_leave.specs.Words.{IsTopWord, Refuses}
+use Rattle.b67_refusals.specs.Words.{IsTopWord, Refuses}
+
+-- the mark at F lies in the stack
+pub base_low : (x : Storage) (cpu : Cpu) (plan : Plan) (s : Session) (m : Member) (t : Task) → SessionStands x cpu plan s → IsRunning plan s.jobs m t → cpu.regs.bosr ≤ cpu.regs.f
+base_low x cpu plan s m t h runs =
+    let r = running_slot x cpu.core cpu.regs (picture plan s.jobs) cpu.regs.slot (stack_of_task plan m.setting.number m.course.job plan.running t) h.holds.memory (runs_here x cpu plan s m t h runs) in
+    omega (arith, r.first, r.mark)
 
 module _ (x : Storage) (cpu : Cpu) (plan : Plan) (s : Session) (m : Member) (t : Task) (o : IsInOrderButPlaces s) (h : SessionStands x cpu plan s) (runs : IsRunning plan s.jobs m t) (v : Word) (w : Tagged) (b : IsTopWord x plan m t cpu v w) where
   abbrev spot : ℕ → Spot

@@ -22,11 +22,12 @@ use Rattle.b67_layout.specs.Meets.{Meets, IsMade, here}
 use Rattle.b67_layout.proofs.Fresh.{running_in_order}
 use Rattle.b67_layout.proofs.Starts.{runs_here}
 use Rattle.b67_refer.specs.Scene.{Scene, IsShown}
-use Rattle.b67_leave.specs.Left.{Returns, caller_regs, caller_stack, here_left, with_word}
-use Rattle.b67_leave.specs.Words.{ReturnsWord}
+use Rattle.b67_leave.specs.Left.{Returns, caller_regs, caller_stack, here_left}
+use Rattle.b67_returning.specs.Returned.{with_word}
+use Rattle.b67_returning.specs.Returned.{ReturnsWord}
 use Rattle.b67_leave.proofs.Leaving.{regs_left, scene_left, member_at, task_left}
-use Rattle.b67_leave.proofs.Replacing.{frames_with, job_with, Puts, puts_word, top_at, top_inside, new_core, new_regs, stands_with, changed_with}
-use Rattle.b67_leave.proofs.Retns.{IsOperand, retn_left, retn_pushed}
+use Rattle.b67_returning.proofs.Replacing.{frames_with, job_with, Puts, puts_word, top_at, top_inside, new_core, new_regs, stands_with, changed_with}
+use Rattle.b67_returning.proofs.Retns.{IsOperand, retn_left, retn_pushed}
 
 some_words : (s : Standing) → 1 ≤ head_words s
 some_words Marked = omega arith

@@ -38,14 +38,15 @@ use Rattle.b67_refer.specs.Ends.{IsArrayOf, IsProcAt, EndMeets}
 use Rattle.b67_elements.specs.Elements.{HasElement}
 use Rattle.b67_leaving.proofs.Things.{others}
 use Rattle.b67_leaving.proofs.Nowhere.{array_stays}
-use Rattle.b67_leave.specs.Left.{Returns, here_left, with_word}
-use Rattle.b67_leave.specs.Words.{ReturnsWord}
-use Rattle.b67_leave.proofs.Heres.{flat_same, follow_same}
+use Rattle.b67_leave.specs.Left.{Returns, here_left}
+use Rattle.b67_returning.specs.Returned.{with_word}
+use Rattle.b67_returning.specs.Returned.{ReturnsWord}
+use Rattle.b67_returning.proofs.Heres.{flat_same, follow_same}
 use Rattle.b67_leave.proofs.Leaving.{job_at, member_at, task_left, regs_left, scene_left}
-use Rattle.b67_leave.proofs.Moved.{stands_for}
-use Rattle.b67_leave.proofs.Putting.{height_left}
-use Rattle.b67_leave.proofs.Replacing.{frames_with, job_with, Puts, puts_operand, stands_with, changed_with}
-use Rattle.b67_leave.proofs.Retns.{IsOperand}
+use Rattle.b67_returning.proofs.Moved.{stands_for}
+use Rattle.b67_return.proofs.Putting.{height_left}
+use Rattle.b67_returning.proofs.Replacing.{frames_with, job_with, Puts, puts_operand, stands_with, changed_with}
+use Rattle.b67_returning.proofs.Retns.{IsOperand}
 
 -- a word that isn't an operand is followed
 follows : (h : Here) (v : Word) → (IsOperand v → ⊥) → returned h v true ≡ (follow h v >>= evaluates h)

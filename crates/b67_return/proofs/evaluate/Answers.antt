@@ -6,12 +6,12 @@ use Rattle.b67_refer.specs.declared.ends.End.{End}
 use Rattle.b67_refer.specs.declared.ends.End.TheVariants as end
 use Rattle.b67_refer.specs.Ends.{EndMeets}
 use Rattle.b67_elements.specs.Elements.{GivesElement}
-use Rattle.b67_leave.proofs.Retning.{not_operand}
-use Rattle.b67_leave.proofs.Putting.{room_left}
-use Rattle.b67_leave.proofs.Evaluating.{scene, seen, element_end, proc_end, cell_inside, cell_made, element_there, element_made, element_absent, array_refused, intrinsic_refused, fault_refused}
-use Rattle.b67_leave.proofs.Calling.{proc_meets}
-use Rattle.b67_leave.proofs.Candidates.{shown_there, follows_there, found_end, made_there, enters_there, entered_there}
-use Rattle.b67_leave.proofs.evaluate.Goals as goal
+use Rattle.b67_return.proofs.Retning.{not_operand}
+use Rattle.b67_return.proofs.Putting.{room_left}
+use Rattle.b67_return.proofs.Evaluating.{scene, seen, element_end, proc_end, cell_inside, cell_made, element_there, element_made, element_absent, array_refused, intrinsic_refused, fault_refused}
+use Rattle.b67_return.proofs.Calling.{proc_meets}
+use Rattle.b67_return.proofs.Candidates.{shown_there, follows_there, found_end, made_there, enters_there, entered_there}
+use Rattle.b67_return.proofs.evaluate.Goals as goal
 
 pub chase-requires : goal.chase-requires
 chase-requires c =

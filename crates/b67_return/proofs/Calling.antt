@@ -41,17 +41,16 @@ use Rattle.b67_layout.proofs.Sessions.{change-has}
 use Rattle.b67_layout.proofs.Fresh.{fresh, running_in_order}
 use Rattle.b67_refer.specs.Scene.{Scene}
 use Rattle.b67_refer.specs.Ends.{IsProcAt}
-use Rattle.b67_entering.proofs.Conditions.{Shows-condition}
+use Rattle.b67_entering.proofs.Awaits.{with_job-twice, SessionStands-condition}
 use Rattle.b67_entry.specs.Procedures.{CanEnter, IsEntered, EntersOrFaults}
 use Rattle.b67_leaving.proofs.Things.{things-after}
-use Rattle.b67_leaving.proofs.Returned.{clear_mark, clear_return}
+use Rattle.b67_returning.proofs.Returned.{clear_mark, clear_return}
 use Rattle.b67_leaving.proofs.Leaves.{task_at}
-use Rattle.b67_leaving.proofs.Conditions.{change_again, holds_waiting, for_waiting}
 use Rattle.b67_leave.specs.Left.{Returns, here_left}
-use Rattle.b67_leave.proofs.Heres.{frame_same}
+use Rattle.b67_returning.proofs.Heres.{frame_same}
 use Rattle.b67_leave.proofs.Leaving.{outer, under, on_top, on_stack, may_return, regs_left, job_at, member_at, task_left, scene_left}
-use Rattle.b67_leave.proofs.Evaluating.{scene, seen, frames_same, answer_is}
-use Rattle.b67_leave.proofs.Retns.{IsOperand}
+use Rattle.b67_return.proofs.Evaluating.{scene, seen, frames_same, answer_is}
+use Rattle.b67_returning.proofs.Retns.{IsOperand}
 
 -- an accidental entry by whether the procedure's level is the next one
 accident_at : (h : Here) (cells : List Word) (back : Return) (f segment level : ℕ) (place : Place) (b : Bool) → (level_of_frame (frame h f) + 1 == level) ≡ b
@@ -124,8 +123,7 @@ module _ (x : Storage) (old : Cpu) (plan : Plan) (s : Session) (m : Member) (t :
   member_on d = record m { course = record m.course { job = job_on d } }
 
   session_same : (j : Job) → with_job (with_job s m (job_at x old plan s m t o h runs a Ready)) (member_at x old plan s m t o h runs a Ready) j ≡ with_job s m j
-  session_same j = ap (λ (ms : List Member). record s { jobs = ms })
-      (change_again number_of m.setting.number (λ (y : Member). record y { course = record m.course { job = j } }) (λ (y : Member). record y { course = record m.course { job = job_at x old plan s m t o h runs a Ready } }) s.jobs (λ y. refl) (λ y. refl))
+  session_same j = with_job-twice s m (job_at x old plan s m t o h runs a Ready) j
 
   free : IsFree m.course.job m.course.job.next_frame
   free = fresh plan s m t o runs
@@ -140,21 +138,18 @@ module _ (x : Storage) (old : Cpu) (plan : Plan) (s : Session) (m : Member) (t :
     slot = runs.slot;
   }
 
+  free_on : IsFree (job_on Ready) m.course.job.next_frame
+  free_on = record {
+    some = free.some;
+    uncritical = λ u k. elim (change-has (λ (v : Task). v.number) t.number (λ (v : Task). task_on Ready) m.course.job.tasks t runs.task u k) [
+      | inl i ↦ free.uncritical u i
+      | inr e ↦ subst (λ (v : Task). v.critical ≢ m.course.job.next_frame) (sym e) (free.uncritical t in_t)
+    ];
+  }
+
   -- the session as it is then
   waits : (left : List Thing) (new : Cpu) → SessionStandsBut left x new plan (with_job s m (job_on Ready)) → SessionStandsBut left x new plan (with_job s m (job_on t.condition))
-  waits left new stands =
-      let job_is : with_task (job_on Ready) (task_on t.condition) ≡ job_on t.condition = ap (λ (ts : List Task). record without { tasks = ts }) (change_twice (λ (u : Task). u.number) t.number (task_on Ready) (task_on t.condition) m.course.job.tasks refl) in
-      let session_is : with_job (with_job s m (job_on Ready)) (member_on Ready) (with_task (job_on Ready) (task_on t.condition)) ≡ with_job s m (job_on t.condition) =
-      ap (λ (j : Job). with_job (with_job s m (job_on Ready)) (member_on Ready) j) job_is
-      ∙ ap (λ (ms : List Member). record s { jobs = ms }) (change_again number_of m.setting.number (λ (y : Member). record y { course = record m.course { job = job_on t.condition } }) (λ (y : Member). record y { course = record m.course { job = job_on Ready } }) s.jobs (λ y. refl) (λ y. refl)) in
-      let shown : Shows new.display plan (member_on t.condition) (task_on t.condition) = Shows-condition new.display plan m without (task_on Ready) Ready t.condition t m.course.job.next_frame runs.task (record { some = free.some; uncritical = free.uncritical }) (free.uncritical t in_t) (stands.shows (member_on Ready) (task_on Ready) (running_on Ready)) in
-      let member_is : record (member_on Ready) { course = record (member_on Ready).course { job = with_task (job_on Ready) (task_on t.condition) } } ≡ member_on t.condition = ap (λ (j : Job). record m { course = record m.course { job = j } }) job_is in
-      let P : Session → Type 0 = λ z. SessionStandsBut left x new plan z in
-      subst P session_is (record {
-        holds = holds_waiting left x new.core new.regs new.critical plan (with_job s m (job_on Ready)) (member_on Ready) (task_on Ready) stands.holds (running_on Ready) t.condition;
-        shows = for_waiting left x new.core new.regs new.critical plan (with_job s m (job_on Ready)) (member_on Ready) (task_on Ready) stands.holds (running_on Ready) t.condition (Shows new.display plan)
-            (subst (λ (y : Member). Shows new.display plan y (task_on t.condition)) (sym member_is) shown);
-      })
+  waits left new stands = SessionStands-condition left x new plan s m without (task_on Ready) Ready t.condition m.course.job.next_frame stands (running_on Ready) free_on
 
   module _ (v : Word) (not_operand : IsOperand v → ⊥) (is : follow (seen x old plan s m t o h runs a) v ≡ Ok (AtProc f segment level place)) where
     answer : (b : Bool) → (level_of_frame (frame (seen x old plan s m t o h runs a) f) + 1 == level) ≡ b → returned (here_left m t a) v true ≡ (if b then Ok (Goes (job_on t.condition) [] None) else Err InvalidOperand)
