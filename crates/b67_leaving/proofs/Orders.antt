@@ -1,15 +1,14 @@
 -- A task without its top frame, whose arrays are gone, is in order, where it is ready then.
-use Rattle.std.proofs.Common.{◌≡◌, ◌≢◌, ℕ, ◌+◌, ◌<◌, ◌≤◌, not, eqb, List, [], ◌∷◌, ◌++◌, map, filter, Some, refl, sym, ap, ◌∙◌, subst, inl, inr, arith}
+use Rattle.std.proofs.Common.{◌≡◌, ◌≢◌, ℕ, ◌+◌, ◌≤◌, not, eqb, List, [], ◌∷◌, ◌++◌, map, refl, sym, ap, ◌∙◌, subst, inl, inr, arith}
 use Rattle.std.proofs.lemmas.Bool.Decides.{eqb_tells}
 use Rattle.std.proofs.lemmas.Bool.{true≢false}
 use Rattle.b67_word.specs.declared.couples.Place.{Place}
-use Rattle.b67_model.specs.Keyed.{keyed}
 use Rattle.b67_model.specs.Lists.{Has}
 use Rattle.b67_model.specs.State.{Frame, Array, Ready, Task, Setting, Job, Here, height, with_task}
 use Rattle.b67_model.specs.Environment.{level_of_frame, running}
-use Rattle.b67_model.specs.Steps.{is_critical, without_arrays_of}
+use Rattle.b67_model.specs.Steps.{without_arrays_of}
 use Rattle.b67_model.specs.InOrder.{Starts, known_of, known_numbers, from_frame, outer_of, WordInOrder, TaskInOrder, ArrayInOrder, is_original_of, originals_in, originals_of, frames_named, TasksInOrder, IsSegment}
-use Rattle.b67_order.proofs.Members.{all_in, all_from, keyed_has, has_filter, has_filter_in, falls_low, falls_filter, none_pass}
+use Rattle.b67_order.proofs.Members.{all_in, all_from, has_filter, has_filter_in, falls_low, falls_filter, none_pass}
 use Rattle.b67_order.proofs.Reaches.{Alike, alike_same, Stays}
 use Rattle.b67_order.proofs.Replaced.{Replaced, replaced, outer_kept}
 use Rattle.b67_order.proofs.Changes.{Change, change_drop, change_arrays}

@@ -1,14 +1,11 @@
 -- Which references may not be returned, by their words.
-use Rattle.std.proofs.Common.{◌≡◌, ◌≢◌, ℕ, suc, ◌+◌, ◌-◌, ◌*◌, ◌<◌, ◌≤◌, ◌^◌, List, [], ◌∷◌, Option, Some, None, Ok, Err, refl, sym, ◌∙◌, ap, arith, Bool, true, false, not, inl, inr, ◌⊎◌, subst}
-use Rattle.std.specs.Prelude.{◌==◌}
+use Rattle.std.proofs.Common.{◌≡◌, ◌≢◌, ℕ, ◌+◌, ◌-◌, ◌*◌, ◌<◌, ◌≤◌, ◌^◌, List, ◌∷◌, Option, Some, None, refl, sym, ◌∙◌, ap, arith, inl, inr, subst}
 use Rattle.std.proofs.lemmas.Bool.Decides.{eqb_tells}
 use Rattle.std.proofs.lemmas.Option.{same_Some, none-some}
 use Rattle.b67_word.specs.Tagged.{Tagged}
-use Rattle.b67_word.specs.declared.faults.Fault.{Fault}
 use Rattle.b67_word.specs.declared.faults.Fault.TheVariants.{InvalidOperand, Uplevel}
 use Rattle.b67_ctl.specs.Layout.{sirw_word, IsSirw}
 use Rattle.b67_ctl.specs.declared.references.Sirw.{Sirw}
-use Rattle.b67_model.specs.Answers.{Answer, ◌>>◌, needs}
 use Rattle.b67_model.specs.Lists.{Has}
 use Rattle.b67_model.specs.Words as Words
 use Rattle.b67_model.specs.Words.{Word, Operand, Name, Ref, Row, Element, Original, Proc, Intrinsic}
@@ -16,12 +13,12 @@ use Rattle.b67_model.specs.State.{Frame, Task, Member, height, top}
 use Rattle.b67_model.specs.Entry.{returnable}
 use Rattle.b67_model.specs.Run.{number_of}
 use Rattle.b67_model.specs.Schedule.{Session}
-use Rattle.b67_model.specs.InOrder.{IsSegment, NamesEntered, WordInOrder, reach_of, IsInOrderButPlaces}
+use Rattle.b67_model.specs.InOrder.{IsSegment, WordInOrder, reach_of, IsInOrderButPlaces}
 use Rattle.b67_stack.specs.declared.Cpu.{Cpu}
-use Rattle.b67_stack.specs.Shapes.{Shape, Fits}
-use Rattle.b67_stack.specs.Stacks.{Spot, high, mark_place}
+use Rattle.b67_stack.specs.Shapes.{Fits}
+use Rattle.b67_stack.specs.Stacks.{Spot}
 use Rattle.b67_stack.specs.Picture.{RunsOn}
-use Rattle.b67_stack.specs.Stands.{Storage, RunningStands}
+use Rattle.b67_stack.specs.Stands.{Storage}
 use Rattle.b67_stack.proofs.Slots.{running_slot}
 use Rattle.b67_layout.specs.Plan.{Plan, spot_in, outer_spots}
 use Rattle.b67_layout.specs.Layout.{shape, activations, stack_of_task, picture}

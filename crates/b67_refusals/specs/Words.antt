@@ -1,5 +1,5 @@
 -- The word that is returned.
-use Rattle.std.specs.Prelude.{◌≡◌, ℕ, List, ◌∷◌, Option, Some, None, Ok, Err, slice_get}
+use Rattle.std.specs.Prelude.{◌≡◌, List, ◌∷◌, Option, Some, None, Ok, Err, slice_get}
 use Rattle.b67_word.specs.Tagged.{Tagged}
 use Rattle.b67_word.specs.declared.faults.Fault.{Fault}
 use Rattle.b67_model.specs.Answers.{Answer}

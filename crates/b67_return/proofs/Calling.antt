@@ -1,45 +1,38 @@
 -- The word that is returned leads to a procedure, which is entered in the state without the frame.
-use Rattle.std.proofs.Common.{◌≡◌, ◌≢◌, ℕ, ◌+◌, ◌<◌, ◌≤◌, List, [], ◌∷◌, ◌++◌, map, flat_map, Option, Some, None, Ok, Err, refl, sym, ◌∙◌, ap, arith, Bool, true, false, not, inl, inr, ◌⊎◌, ⊎_elim, subst}
+use Rattle.std.proofs.Common.{◌≡◌, ◌≢◌, ℕ, ◌+◌, ◌≤◌, List, [], ◌∷◌, Some, None, Ok, Err, refl, sym, ◌∙◌, ap, arith, Bool, true, false, inl, inr, subst}
 use Rattle.std.specs.Prelude.{◌==◌, if◌then◌else◌}
-use Rattle.std.specs.List.{slice_get}
 use Rattle.std.proofs.lemmas.Bool.{cases_eq, le-leb}
-use Rattle.b67_word.specs.Tagged.{Tagged}
 use Rattle.b67_word.specs.declared.couples.Place.{Place}
 use Rattle.b67_word.specs.declared.faults.Fault.{Fault}
 use Rattle.b67_word.specs.declared.faults.Fault.TheVariants.{InvalidOperand}
-use Rattle.b67_ctl.specs.declared.registers.Regs.{Regs}
-use Rattle.b67_model.specs.Answers.{Answer, ◌>>=◌, ◌>>◌, needs}
+use Rattle.b67_model.specs.Answers.{Answer, ◌>>=◌}
 use Rattle.b67_model.specs.Lists.{Has}
 use Rattle.b67_model.specs.Words.{Word}
 use Rattle.b67_model.specs.State as State
 use Rattle.b67_model.specs.State.{Standing, Return, Ready, Frame, Array, Condition, Task, Job, Here, Member, frame, head_words, height, with_top_cells, with_task}
 use Rattle.b67_model.specs.Environment.{level_of_frame}
-use Rattle.b67_model.specs.Keyed.{keyed, change_keyed}
-use Rattle.b67_model.specs.Run.{number_of}
 use Rattle.b67_model.specs.Chase as Chase
 use Rattle.b67_model.specs.Chase.{AtProc, follow}
-use Rattle.b67_model.specs.Entry.{needs_level, accident, back_to, evaluates, returned}
-use Rattle.b67_model.specs.Steps.{Done, Goes, cells_of, result, without_arrays_of}
+use Rattle.b67_model.specs.Entry.{accident, back_to, evaluates, returned}
+use Rattle.b67_model.specs.Steps.{Done, Goes, cells_of, without_arrays_of}
 use Rattle.b67_model.specs.Schedule.{Session}
 use Rattle.b67_model.specs.InOrder.{IsInOrderButPlaces}
 use Rattle.b67_order.proofs.Members.{change_twice}
 use Rattle.b67_stack.specs.declared.Cpu.{Cpu}
 use Rattle.b67_stack.specs.declared.Step.{Step}
 use Rattle.b67_stack.specs.declared.Step.TheVariants as step
-use Rattle.b67_stack.specs.Stacks.{Spot, high}
 use Rattle.b67_stack.specs.Picture.{Thing}
 use Rattle.b67_stack.specs.Stands.{Storage, RunningStands}
 use Rattle.b67_stack.proofs.Slots.{running_slot}
 use Rattle.b67_layout.specs.Plan.{Plan}
-use Rattle.b67_layout.specs.Layout.{picture, things_of}
-use Rattle.b67_layout.specs.Session.{IsRunning, Shows, SessionStands, SessionStandsBut}
-use Rattle.b67_layout.specs.Meets.{IsMade, Meets, here, with_job, things_gone}
+use Rattle.b67_layout.specs.Layout.{picture}
+use Rattle.b67_layout.specs.Session.{IsRunning, SessionStands, SessionStandsBut}
+use Rattle.b67_layout.specs.Meets.{IsMade, Meets, with_job}
 use Rattle.b67_layout.proofs.Others.{keyed-has, keyed-put_same}
-use Rattle.b67_layout.proofs.Pictures.{with_course, member-same}
+use Rattle.b67_layout.proofs.Pictures.{member-same}
 use Rattle.b67_layout.proofs.Steps.{IsFree}
 use Rattle.b67_layout.proofs.Sessions.{change-has}
 use Rattle.b67_layout.proofs.Fresh.{fresh, running_in_order}
-use Rattle.b67_refer.specs.Scene.{Scene}
 use Rattle.b67_refer.specs.Ends.{IsProcAt}
 use Rattle.b67_entering.proofs.Awaits.{with_job-twice, SessionStands-condition}
 use Rattle.b67_entry.specs.Procedures.{CanEnter, IsEntered, EntersOrFaults}
@@ -48,7 +41,7 @@ use Rattle.b67_returning.proofs.Returned.{clear_mark, clear_return}
 use Rattle.b67_leaving.proofs.Leaves.{task_at}
 use Rattle.b67_leave.specs.Left.{Returns, here_left}
 use Rattle.b67_returning.proofs.Heres.{frame_same}
-use Rattle.b67_leave.proofs.Leaving.{outer, under, on_top, on_stack, may_return, regs_left, job_at, member_at, task_left, scene_left}
+use Rattle.b67_leave.proofs.Leaving.{under, on_top, on_stack, may_return, regs_left, job_at, member_at, task_left}
 use Rattle.b67_return.proofs.Evaluating.{scene, seen, frames_same, answer_is}
 use Rattle.b67_returning.proofs.Retns.{IsOperand}
 

@@ -1,5 +1,5 @@
 -- What was computed on the registers of the caller, which stand in no register yet.
-use Rattle.std.proofs.Common.{◌≡◌, ◌≢◌, ℕ, ◌+◌, ◌<◌, List, length, Option, Some, None, Result, Ok, Err, refl, sym, ◌∙◌, ap, true, subst}
+use Rattle.std.proofs.Common.{◌≡◌, ℕ, List, Result, sym, true, subst}
 use Rattle.b67_word.specs.Tagged.{Tagged}
 use Rattle.b67_word.specs.declared.couples.Place.{Place}
 use Rattle.b67_word.specs.declared.faults.Fault.{Fault}
@@ -55,8 +55,8 @@ module _ (x : Storage) (old : Cpu) (plan : Plan) (s : Session) (m : Member) (t :
       → EndMeets (scene x old plan s m t o h runs a) a.back.place found (follow (seen x old plan s m t o h runs a) v)
   found_end v w b display found shown meets =
       let P : Regs → Type 0 = λ z. ((c : Scene old.core z) → IsShown c display)
-          → ((c : Scene old.core z) (q : Place) → IsShown c display → (at owner : ℕ) (u : Word) → StandsFor c at owner w u → EndMeets c q found (follow (here c.member c.task q) u))
-          → EndMeets (scene x old plan s m t o h runs a) a.back.place found (follow (seen x old plan s m t o h runs a) v) in
+      → ((c : Scene old.core z) (q : Place) → IsShown c display → (at owner : ℕ) (u : Word) → StandsFor c at owner w u → EndMeets c q found (follow (here c.member c.task q) u))
+      → EndMeets (scene x old plan s m t o h runs a) a.back.place found (follow (seen x old plan s m t o h runs a) v) in
       subst P (sym is) (λ all ends. ends (scene x old plan s m t o h runs a) a.back.place (all (scene x old plan s m t o h runs a)) 0 a.next.identity v (stands_for x old plan s m t o h runs a v w b 0)) shown meets
 
   -- the machine that was made
@@ -78,6 +78,6 @@ module _ (x : Storage) (old : Cpu) (plan : Plan) (s : Session) (m : Member) (t :
         → EntersOrFaults (scene x old plan s m t o h runs a) answered old new (accident (seen x old plan s m t o h runs a) (cells_of (seen x old plan s m t o h runs a)) (back_to (seen x old plan s m t o h runs a) true a.back.place) (AtProc f segment level place))
     entered_there answered new enters =
         let P : Regs → Type 0 = λ z. ((c : Scene old.core z) (q : Place) (g n l : ℕ) (first : Place) → CanEnter old z c q cell g n l first
-            → EntersOrFaults c answered old new (accident (here c.member c.task q) (cells_of (here c.member c.task q)) (back_to (here c.member c.task q) true z.place) (AtProc g n l first)))
-            → EntersOrFaults (scene x old plan s m t o h runs a) answered old new (accident (seen x old plan s m t o h runs a) (cells_of (seen x old plan s m t o h runs a)) (back_to (seen x old plan s m t o h runs a) true a.back.place) (AtProc f segment level place)) in
+        → EntersOrFaults c answered old new (accident (here c.member c.task q) (cells_of (here c.member c.task q)) (back_to (here c.member c.task q) true z.place) (AtProc g n l first)))
+        → EntersOrFaults (scene x old plan s m t o h runs a) answered old new (accident (seen x old plan s m t o h runs a) (cells_of (seen x old plan s m t o h runs a)) (back_to (seen x old plan s m t o h runs a) true a.back.place) (AtProc f segment level place)) in
         subst P (sym is) (λ all. all (scene x old plan s m t o h runs a) a.back.place f segment level place (can_enter x old plan s m t o h runs a cell f segment level place p)) enters

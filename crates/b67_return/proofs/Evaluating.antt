@@ -1,5 +1,5 @@
 -- The word that is returned is evaluated in the state without the frame.
-use Rattle.std.proofs.Common.{◌≡◌, ◌≢◌, ℕ, ◌+◌, ◌<◌, ◌≤◌, List, [], ◌∷◌, ◌++◌, map, length, flat_map, Option, Some, None, Result, Ok, Err, refl, sym, ◌∙◌, ap, arith, Bool, true, false, not, inl, inr, ◌⊎◌, ⊎_elim, subst, unwrap_or, slice_index}
+use Rattle.std.proofs.Common.{◌≡◌, ◌≢◌, ℕ, ◌<◌, List, [], ◌∷◌, ◌++◌, length, Option, Some, None, Ok, Err, refl, sym, ◌∙◌, ap, arith, true, not, inl, inr, ⊎_elim, subst, slice_index}
 use Rattle.std.specs.Prelude.{◌==◌}
 use Rattle.std.specs.List.{slice_get}
 use Rattle.std.proofs.lemmas.Bool.{true≢false, le-leb}
@@ -11,39 +11,35 @@ use Rattle.b67_word.specs.declared.faults.Fault.{Fault}
 use Rattle.b67_word.specs.declared.faults.Fault.TheVariants.{InvalidOperand}
 use Rattle.b67_ctl.specs.declared.registers.Regs.{Regs}
 use Rattle.b67_model.specs.Answers.{Answer, ◌>>=◌}
-use Rattle.b67_model.specs.Lists.{Has}
 use Rattle.b67_model.specs.Words as Words
 use Rattle.b67_model.specs.Words.{Word, Operand, Name, Ref, Row, Element, Original, Proc, Intrinsic}
-use Rattle.b67_model.specs.State.{Ready, Frame, Array, Task, Job, Here, Member, all_frames, mcp, height, top, with_top_cells, with_task}
-use Rattle.b67_model.specs.Arrays.{array, element}
+use Rattle.b67_model.specs.State.{Ready, Frame, Array, Task, Job, Here, Member, all_frames, mcp, height, with_task}
+use Rattle.b67_model.specs.Arrays.{element}
 use Rattle.b67_model.specs.Chase as Chase
 use Rattle.b67_model.specs.Chase.{AtCell, AtElement, AtArray, AtProc, AtIntrinsic, follow}
 use Rattle.b67_model.specs.Entry.{evaluates, returned}
 use Rattle.b67_model.specs.Steps.{Done, Goes, pushes, without_arrays_of}
 use Rattle.b67_model.specs.Schedule.{Session}
-use Rattle.b67_model.specs.InOrder.{NamesArray, reach_of, IsInOrderButPlaces}
+use Rattle.b67_model.specs.InOrder.{IsInOrderButPlaces}
 use Rattle.b67_order.proofs.Members.{change_twice, has_filter}
 use Rattle.b67_stack.specs.declared.Cpu.{Cpu}
 use Rattle.b67_stack.specs.declared.What.TheVariants as what
 use Rattle.b67_stack.specs.Stands.{Storage}
 use Rattle.b67_layout.specs.Plan.{Plan}
-use Rattle.b67_layout.specs.Session.{IsRunning, Shows, SessionStands}
+use Rattle.b67_layout.specs.Session.{IsRunning, SessionStands}
 use Rattle.b67_layout.specs.Meets.{IsMade, IsAbsent, IsPresent, area_held, here}
 use Rattle.b67_layout.proofs.Fresh.{running_in_order}
-use Rattle.b67_refer.specs.declared.ends.End.{End}
 use Rattle.b67_refer.specs.declared.ends.End.TheVariants as end
 use Rattle.b67_refer.specs.Scene.{Scene, IsShown}
-use Rattle.b67_refer.specs.Cells.{StandsFor, IsCellAt}
+use Rattle.b67_refer.specs.Cells.{IsCellAt}
 use Rattle.b67_refer.specs.Ends.{IsArrayOf, IsProcAt, EndMeets}
 use Rattle.b67_elements.specs.Elements.{HasElement}
-use Rattle.b67_leaving.proofs.Things.{others}
 use Rattle.b67_leaving.proofs.Nowhere.{array_stays}
 use Rattle.b67_leave.specs.Left.{Returns, here_left}
 use Rattle.b67_returning.specs.Returned.{with_word}
 use Rattle.b67_returning.specs.Returned.{ReturnsWord}
 use Rattle.b67_returning.proofs.Heres.{flat_same, follow_same}
-use Rattle.b67_leave.proofs.Leaving.{job_at, member_at, task_left, regs_left, scene_left}
-use Rattle.b67_returning.proofs.Moved.{stands_for}
+use Rattle.b67_leave.proofs.Leaving.{member_at, task_left, regs_left, scene_left}
 use Rattle.b67_return.proofs.Putting.{height_left}
 use Rattle.b67_returning.proofs.Replacing.{frames_with, job_with, Puts, puts_operand, stands_with, changed_with}
 use Rattle.b67_returning.proofs.Retns.{IsOperand}

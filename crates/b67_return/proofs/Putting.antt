@@ -1,12 +1,11 @@
 -- RETN whose word goes on the caller's record at once, or is evaluated first.
-use Rattle.std.proofs.Common.{◌≡◌, ◌≢◌, ℕ, ◌+◌, ◌<◌, ◌≤◌, List, [], ◌∷◌, length, Option, Some, None, Ok, refl, sym, ◌∙◌, ap, arith, Bool, true, false, inl, inr, ◌⊎◌, ⊎_elim, subst}
-use Rattle.std.specs.List.{slice_get}
+use Rattle.std.proofs.Common.{◌≡◌, ℕ, ◌+◌, ◌<◌, ◌≤◌, List, ◌∷◌, length, None, Ok, sym, ◌∙◌, ap, arith, true, false, inl, inr, ◌⊎◌, ⊎_elim, subst}
 use Rattle.b67_word.specs.Tagged.{Tagged}
 use Rattle.b67_word.specs.declared.couples.Place.{Place}
 use Rattle.b67_ctl.specs.declared.registers.Regs.{Regs}
 use Rattle.b67_model.specs.Answers.{Answer}
 use Rattle.b67_model.specs.Words.{Word}
-use Rattle.b67_model.specs.State.{Standing, Marked, Entered, Ready, Frame, Task, Member, head_words, height, top}
+use Rattle.b67_model.specs.State.{Standing, Marked, Entered, Frame, Task, Member, head_words, height, top}
 use Rattle.b67_model.specs.Entry.{returnable, returned, retn}
 use Rattle.b67_model.specs.Steps.{Done, is_critical}
 use Rattle.b67_model.specs.Schedule.{Session}
@@ -14,10 +13,10 @@ use Rattle.b67_model.specs.InOrder.{IsInOrderButPlaces}
 use Rattle.b67_stack.specs.declared.Cpu.{Cpu}
 use Rattle.b67_stack.specs.declared.Step.{Step}
 use Rattle.b67_stack.specs.Stands.{Storage}
-use Rattle.b67_stack.proofs.Pushes.{Room, room_of}
+use Rattle.b67_stack.proofs.Pushes.{room_of}
 use Rattle.b67_layout.specs.Plan.{Plan}
 use Rattle.b67_layout.specs.Layout.{stack_of_task, picture}
-use Rattle.b67_layout.specs.Session.{IsRunning, Shows, SessionStands}
+use Rattle.b67_layout.specs.Session.{IsRunning, SessionStands}
 use Rattle.b67_layout.specs.Meets.{Meets, IsMade, here}
 use Rattle.b67_layout.proofs.Fresh.{running_in_order}
 use Rattle.b67_layout.proofs.Starts.{runs_here}
@@ -25,8 +24,8 @@ use Rattle.b67_refer.specs.Scene.{Scene, IsShown}
 use Rattle.b67_leave.specs.Left.{Returns, caller_regs, caller_stack, here_left}
 use Rattle.b67_returning.specs.Returned.{with_word}
 use Rattle.b67_returning.specs.Returned.{ReturnsWord}
-use Rattle.b67_leave.proofs.Leaving.{regs_left, scene_left, member_at, task_left}
-use Rattle.b67_returning.proofs.Replacing.{frames_with, job_with, Puts, puts_word, top_at, top_inside, new_core, new_regs, stands_with, changed_with}
+use Rattle.b67_leave.proofs.Leaving.{scene_left}
+use Rattle.b67_returning.proofs.Replacing.{frames_with, job_with, puts_word, top_inside, stands_with, changed_with}
 use Rattle.b67_returning.proofs.Retns.{IsOperand, retn_left, retn_pushed}
 
 some_words : (s : Standing) → 1 ≤ head_words s

@@ -1,5 +1,5 @@
 -- RETN, by what its tests tell.
-use Rattle.std.proofs.Common.{◌≡◌, ◌≢◌, ℕ, ◌+◌, ◌-◌, ◌<◌, ◌≤◌, ◌^◌, List, [], ◌∷◌, ◌++◌, map, length, Option, Some, None, Ok, Err, refl, sym, ◌∙◌, ap, arith, Bool, true, false, inl, inr, ◌⊎◌, subst}
+use Rattle.std.proofs.Common.{◌≡◌, ◌≢◌, ℕ, ◌+◌, ◌-◌, List, [], ◌∷◌, ◌++◌, map, Option, Some, None, Ok, Err, refl, sym, ◌∙◌, ap, arith, true, false, subst}
 use Rattle.std.specs.List.{slice_get, AllByRecursion}
 use Rattle.std.proofs.lemmas.Option.{same_Some}
 use Rattle.b67_word.specs.Tagged.{Tagged}
@@ -17,7 +17,7 @@ use Rattle.b67_model.specs.Steps.{Leaves, is_critical}
 use Rattle.b67_model.specs.Schedule.{Session}
 use Rattle.b67_model.specs.InOrder.{IsSegment, known_of, outer_of, FramesInOrder, WordInOrder, reach_of, IsInOrderButPlaces}
 use Rattle.b67_stack.specs.declared.Cpu.{Cpu}
-use Rattle.b67_stack.specs.Shapes.{Shape, Fits}
+use Rattle.b67_stack.specs.Shapes.{Fits}
 use Rattle.b67_stack.specs.Stacks.{Spot, Activation, mark_of, top_mark}
 use Rattle.b67_stack.specs.Picture.{RunsOn}
 use Rattle.b67_stack.specs.Stands.{Storage}
@@ -36,7 +36,7 @@ use Rattle.b67_refusals.specs.Words.{IsTopWord, Refuses}
 use Rattle.b67_returning.specs.Returned.{ReturnsWord}
 use Rattle.b67_leave.proofs.Exits.{leaves_critical, leaves_last}
 use Rattle.b67_returning.proofs.Retns.{IsOperand, retn_pending, retn_empty, retn_refused, retn_passed}
-use Rattle.b67_leave.proofs.Sorted.{Pending, IsEntered, Last, is_pending, is_entered, is_last, returns_of}
+use Rattle.b67_leave.proofs.Sorted.{IsEntered, is_pending, is_entered, is_last, returns_of}
 
 no_cells : {A B : Type 0} (f : A → B) (xs : List A) → map f xs ≡ [] → xs ≡ []
 no_cells f [] e = refl
@@ -107,17 +107,19 @@ module _ (x : Storage) (cpu : Cpu) (plan : Plan) (s : Session) (m : Member) (t :
             let c = subst P at (cell_word x cpu.core cpu.regs (picture plan s.jobs) cpu.regs.slot a below h.holds.memory on' [] (sh v) (map sh rest) (ap (map sh) e)) in
             let same : c.0 ≡ w = same_Some c.0 w (sym c.1 ∙ there) in
             let order = subst (λ (fs : List Frame). FramesInOrder (IsSegment m.setting) m.course.job.arrays (outer_of m.course.job t) fs) top_entered.frames (running_in_order plan s m t o runs).1.frames in
-            let cells = subst (λ (cs : List Word). AllByRecursion (WordInOrder (IsSegment m.setting) m.course.job.arrays (map known_of (top_entered.f ∷ top_entered.below) ++ outer_of m.course.job t) top_entered.f.identity) cs) e order.0.0 in
-            (v, record {
-              frame = top_entered.f;
-              below = top_entered.below;
-              rest = rest;
-              frames = top_entered.frames;
-              cells = e;
-              there = there;
-              fits = subst (λ (z : Tagged). Fits x.held (sh v) cpu.regs.s z) same c.2;
-              order = subst (λ (fs : List Frame). WordInOrder (IsSegment m.setting) m.course.job.arrays (map known_of fs ++ outer_of m.course.job t) top_entered.f.identity v) (sym top_entered.frames) cells.0;
-            })
+            let cells = subst (λ (cs : List Word). AllByRecursion (WordInOrder (IsSegment m.setting) m.course.job.arrays (map known_of (top_entered.f ∷ top_entered.below) ++ outer_of m.course.job t) top_entered.f.identity) cs) e order.0.0 in (
+              v,
+              record {
+                frame = top_entered.f;
+                below = top_entered.below;
+                rest = rest;
+                frames = top_entered.frames;
+                cells = e;
+                there = there;
+                fits = subst (λ (z : Tagged). Fits x.held (sh v) cpu.regs.s z) same c.2;
+                order = subst (λ (fs : List Frame). WordInOrder (IsSegment m.setting) m.course.job.arrays (map known_of fs ++ outer_of m.course.job t) top_entered.f.identity v) (sym top_entered.frames) cells.0;
+              },
+            )
 
       module _ (v : Word) (w : Tagged) (b : IsTopWord x plan m t cpu v w) where
         frame_is : top_entered.f ≡ b.frame

@@ -1,22 +1,18 @@
 -- References lead where they lead, whatever the tasks wait for.
-use Rattle.std.proofs.Common.{◌≡◌, ◌≢◌, ℕ, zero, suc, ◌+◌, ◌-◌, ◌≤◌, List, [], ◌∷◌, ◌++◌, Option, Some, None, Ok, Err, refl, sym, ◌∙◌, ap, arith, Bool, true, false, unwrap_or, inl, inr, subst}
+use Rattle.std.proofs.Common.{◌≡◌, ℕ, zero, suc, ◌-◌, List, [], ◌∷◌, ◌++◌, Ok, Err, refl, ◌∙◌, ap, unwrap_or, inl, inr}
 use Rattle.std.specs.Prelude.{flat_map, ◌==◌, if◌then◌else◌, nat_le, ok_or}
-use Rattle.std.proofs.lemmas.Bool.{cases_Bool, le-leb}
+use Rattle.std.proofs.lemmas.Bool.{cases_Bool}
 use Rattle.b67_word.specs.Couples.{couple}
 use Rattle.b67_word.specs.declared.couples.Couple.{Couple}
-use Rattle.b67_word.specs.declared.couples.Place.{Place}
-use Rattle.b67_word.specs.declared.faults.Fault.TheVariants.{InvalidOperand, InvalidAddress}
+use Rattle.b67_word.specs.declared.faults.Fault.TheVariants.{InvalidAddress}
 use Rattle.b67_model.specs.Answers.{Answer}
 use Rattle.b67_model.specs.Keyed.{keyed, change_keyed}
 use Rattle.b67_model.specs.Words as Words
 use Rattle.b67_model.specs.Words.{Word, Operand, Name, Ref, Row, Element, Original, Proc, Intrinsic}
-use Rattle.b67_model.specs.State as State
-use Rattle.b67_model.specs.State.{Frame, Return, Task, Job, Here, mcp, no_frame, all_frames, frame, top, with_top_cells, height, with_task}
+use Rattle.b67_model.specs.State.{Frame, Task, Here, no_frame, all_frames, frame}
 use Rattle.b67_model.specs.Environment.{environment_of, level_of_frame, running, outward, running_level, frame_at}
 use Rattle.b67_model.specs.Cells.{cell_of, cell, named, place_of}
-use Rattle.b67_model.specs.Chase.{End, AtProc, Link, Stops, Leads, link_at, link_in, link_from, link, chase_on, chase, follow}
-use Rattle.b67_model.specs.Steps.{Done, Goes, result}
-use Rattle.b67_model.specs.Entry.{needs_level, accident}
+use Rattle.b67_model.specs.Chase.{Link, Stops, Leads, link_in, link_from, link, chase_on, follow}
 
 -- the frames of a list of tasks where one is replaced by another with the same frames
 pub flat_same : (n : ℕ) (a b : Task) (xs : List Task) → a.frames ≡ b.frames → flat_map (λ (t : Task). t.frames) (change_keyed (λ (t : Task). t.number) n (λ (t : Task). a) xs) ≡ flat_map (λ (t : Task). t.frames) (change_keyed (λ (t : Task). t.number) n (λ (t : Task). b) xs)

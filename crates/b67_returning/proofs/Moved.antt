@@ -1,14 +1,12 @@
 -- The word that is returned, seen from the task without the frame.
-use Rattle.std.proofs.Common.{◌≡◌, ◌≢◌, ℕ, ◌+◌, ◌<◌, ◌≤◌, List, [], ◌∷◌, ◌++◌, map, Option, Some, None, Ok, Err, refl, sym, ◌∙◌, ap, arith, Bool, true, false, not, inl, inr, ◌⊎◌, subst}
+use Rattle.std.proofs.Common.{◌≡◌, ◌≢◌, ℕ, List, ◌∷◌, ◌++◌, map, Ok, refl, sym, ◌∙◌, ap, not, inl, inr, subst}
 use Rattle.std.specs.Prelude.{◌==◌}
 use Rattle.std.proofs.lemmas.Bool.Decides.{eqb_tells}
 use Rattle.b67_word.specs.Tagged.{Tagged}
-use Rattle.b67_word.specs.declared.couples.Place.{Place}
-use Rattle.b67_ctl.specs.declared.registers.Regs.{Regs}
 use Rattle.b67_model.specs.Lists.{Has}
 use Rattle.b67_model.specs.Words as Words
 use Rattle.b67_model.specs.Words.{Word, Operand, Name, Ref, Row, Element, Original, Proc, Intrinsic}
-use Rattle.b67_model.specs.State.{Ready, Frame, Standing, Array, Condition, Task, Job, Member}
+use Rattle.b67_model.specs.State.{Ready, Frame, Standing, Array, Task, Job, Member}
 use Rattle.b67_model.specs.Arrays.{owner_of}
 use Rattle.b67_model.specs.Entry.{returnable}
 use Rattle.b67_model.specs.Schedule.{Session}
@@ -19,21 +17,19 @@ use Rattle.b67_stack.specs.declared.Cpu.{Cpu}
 use Rattle.b67_stack.specs.Shapes.{Shape, Fits}
 use Rattle.b67_stack.specs.Stacks.{Spot}
 use Rattle.b67_stack.specs.Stands.{Storage}
-use Rattle.b67_layout.specs.Plan.{Plan, slot_of, spot_in, outer_spots, spots}
+use Rattle.b67_layout.specs.Plan.{Plan, spot_in, outer_spots, spots}
 use Rattle.b67_layout.specs.Layout.{shape}
 use Rattle.b67_layout.specs.Session.{IsRunning, SessionStands}
 use Rattle.b67_layout.proofs.Others.{keyed-has}
 use Rattle.b67_layout.proofs.Fresh.{running_in_order}
-use Rattle.b67_refer.specs.Scene.{Scene}
 use Rattle.b67_refer.specs.Cells.{StandsFor}
-use Rattle.b67_leaving.proofs.Things.{others}
-use Rattle.b67_leaving.proofs.Nowhere.{SameArray, shape-same}
+use Rattle.b67_leaving.proofs.Nowhere.{shape-same}
 use Rattle.b67_leaving.proofs.Slots.{outer_spots-after}
-use Rattle.b67_leaving.proofs.Leaves.{task_at, may_leave, Frames-below, replaces}
+use Rattle.b67_leaving.proofs.Leaves.{may_leave, Frames-below, replaces}
 use Rattle.b67_leaving.proofs.Orders.{left_outer}
 use Rattle.b67_leave.specs.Left.{Returns}
 use Rattle.b67_returning.specs.Returned.{ReturnsWord}
-use Rattle.b67_leave.proofs.Leaving.{some_first, may, outer, job_at, member_at, task_left, regs_left, scene_left}
+use Rattle.b67_leave.proofs.Leaving.{some_first, may, outer, job_at, task_left, scene_left}
 use Rattle.b67_returning.proofs.Returning.{other_frame, other_row, other_element}
 use Rattle.b67_refusals.proofs.CopyRefusals.{found_array}
 use Rattle.b67_returning.proofs.Replacing.{Puts, new_shape, frame_is, puts_word}

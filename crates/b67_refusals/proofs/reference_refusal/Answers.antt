@@ -1,4 +1,4 @@
-use Rattle.std.proofs.Common.{◌≡◌, sym, ◌∙◌, ap, arith}
+use Rattle.std.proofs.Common.{sym, ◌∙◌}
 use Rattle.b67_refusals.proofs.Refusals.{base_low, couple_refused, own_refused, other_passes}
 use Rattle.b67_refusals.proofs.reference_refusal.Goals as goal
 use Rattle.b67_refusals.proofs.reference_refusal.Goals.{else-r-from-via-then-r-from+else-from-cpu, else-r-from-via-else-r-from}

@@ -1,4 +1,4 @@
-use Rattle.std.proofs.Common.{◌≡◌, ◌≢◌, ℕ, ◌+◌, ◌<◌, List, length, Option, Some, None, Result, Ok, Err, sym, ◌∙◌, ap, refl, true, subst}
+use Rattle.std.proofs.Common.{Option, Result, Ok, ◌∙◌, ap, refl, subst}
 use Rattle.b67_word.specs.Tagged.{Tagged}
 use Rattle.b67_word.specs.declared.faults.Fault.{Fault}
 use Rattle.b67_model.specs.Chase.{follow}
@@ -175,4 +175,3 @@ returns-in-Err c = λ x plan s m t o h runs a v b is.
     let E = found_end x cpu plan s m t o h runs a c.args.regs is v c.args.word b c.args.display c.chase.result c.requires.shown c.chase.ensures in
     let no_operand = not_operand x cpu plan s m t o h runs v c.args.word b.word c.requires.tag in
     (fault_refused x cpu plan s m t o h runs a v c.args.word b no_operand c.in-Err.fault (subst (λ (z : Result End Fault). EndMeets (scene x cpu plan s m t o h runs a) a.back.place z (follow (seen x cpu plan s m t o h runs a) v)) c.in-Err.is E), refl))
-
