@@ -1,40 +1,43 @@
 -- Which descriptors may not be returned, by their words.
-use Rattle.std.proofs.Common.{◌≡◌, ◌≢◌, ℕ, suc, ◌+◌, ◌-◌, ◌<◌, ◌≤◌, ◌^◌, List, [], ◌∷◌, Option, Some, None, Ok, Err, refl, sym, ◌∙◌, ap, arith, Bool, true, false, not, inl, inr, ◌⊎◌, subst}
-use Rattle.std.specs.Prelude.{◌==◌}
+use Rattle.std.proofs.Common.{◌≡◌, ◌≢◌, ℕ, ◌+◌, ◌<◌, ◌≤◌, List, ◌∷◌, map, unwrap_or, Option, Some, None, refl, sym, ◌∙◌, ap, arith, true, false, inl, inr, subst}
 use Rattle.std.proofs.lemmas.Bool.{true≢false, cases_eq}
 use Rattle.std.proofs.lemmas.Bool.Decides.{eqb_tells}
 use Rattle.b67_word.specs.Tagged.{Tagged}
-use Rattle.b67_word.specs.declared.faults.Fault.{Fault}
 use Rattle.b67_word.specs.declared.faults.Fault.TheVariants.{InvalidOperand, Uplevel}
 use Rattle.b67_ctl.specs.Descriptors.{data_word, IsDataDesc}
 use Rattle.b67_ctl.specs.declared.descriptors.DataDesc.{DataDesc}
-use Rattle.b67_model.specs.Answers.{Answer, ◌>>◌, needs}
-use Rattle.b67_model.specs.Lists.{Has}
+use Rattle.b67_model.specs.Lists.{Has, Falls}
 use Rattle.b67_model.specs.Words as Words
 use Rattle.b67_model.specs.Words.{Word, Operand, Name, Ref, Row, Element, Original, Proc, Intrinsic}
-use Rattle.b67_model.specs.State.{Frame, Array, Task, Member, top}
-use Rattle.b67_model.specs.Arrays.{owner_of}
+use Rattle.b67_model.specs.State.{Frame, Array, Task, Job, Member, top}
+use Rattle.b67_model.specs.Arrays.{array, no_array, owner_of}
+use Rattle.b67_model.specs.Keyed.{keyed}
+use Rattle.b67_order.proofs.Members.{keyed_falls}
 use Rattle.b67_model.specs.Entry.{returnable}
 use Rattle.b67_model.specs.Run.{number_of}
 use Rattle.b67_model.specs.Schedule.{Session}
-use Rattle.b67_model.specs.InOrder.{IsSegment, NamesArray, WordInOrder, reach_of, IsInOrderButPlaces}
+use Rattle.b67_model.specs.InOrder.{IsSegment, Known, NamesArray, WordInOrder, reach_of, IsInOrderButPlaces}
 use Rattle.b67_stack.specs.declared.Cpu.{Cpu}
-use Rattle.b67_stack.specs.Shapes.{Shape, Fits, IsCopy, Copied, copy_desc}
+use Rattle.b67_stack.specs.Shapes.{Fits, IsCopy, Copied, copy_desc}
 use Rattle.b67_stack.specs.Stacks.{Spot, high}
 use Rattle.b67_stack.specs.Picture.{RunsOn, slot_base}
-use Rattle.b67_stack.specs.Stands.{Storage, RunningStands}
+use Rattle.b67_stack.specs.Stands.{Storage}
 use Rattle.b67_stack.proofs.Homes.{same_desc}
 use Rattle.b67_stack.proofs.Slots.{running_slot, running_fits}
 use Rattle.b67_layout.specs.Plan.{Plan, spot_in, outer_spots}
-use Rattle.b67_layout.specs.Layout.{shape, activations, stack_of_task, picture}
+use Rattle.b67_layout.specs.Layout.{shape, activations, picture}
 use Rattle.b67_layout.specs.Session.{IsRunning, SessionStands}
 use Rattle.b67_layout.proofs.Others.{keyed-has}
 use Rattle.b67_layout.proofs.Fresh.{running_in_order}
 use Rattle.b67_layout.proofs.Starts.{slot_is, runs_here}
 use Rattle.b67_refer.specs.Ends.{IsCopyOf}
-use Rattle.b67_leaving.proofs.Settles.{under, all, base, homes_low, homes_high}
-use Rattle.b67_leave.specs.Words.{IsTopWord, Refuses}
-use Rattle.b67_leave.proofs.Returning.{found_array}
+use Rattle.b67_leaving.proofs.Settles.{under, all, homes_low, homes_high}
+use Rattle.b67_refusals.specs.Words.{IsTopWord, Refuses}
+
+-- the array that a word names is found
+pub found_array : (job : Job) (reach : List Known) (a index : ℕ) (n : NamesArray job.arrays reach a index) → Falls job.next_array (map (λ (b : Array). b.identity) job.arrays) → array job a ≡ n.item
+found_array job reach a index n falls =
+    ap (λ (o : Option Array). unwrap_or o no_array) (ap (λ (i : ℕ). keyed (λ (b : Array). b.identity) i job.arrays) (sym n.named) ∙ keyed_falls (λ (b : Array). b.identity) job.next_array job.arrays n.item falls n.live)
 
 module _ (x : Storage) (cpu : Cpu) (plan : Plan) (s : Session) (m : Member) (t : Task) (o : IsInOrderButPlaces s) (h : SessionStands x cpu plan s) (runs : IsRunning plan s.jobs m t) (v : Word) (w : Tagged) (b : IsTopWord x plan m t cpu v w) where
   abbrev spot : ℕ → Spot
@@ -138,14 +141,14 @@ module _ (x : Storage) (cpu : Cpu) (plan : Plan) (s : Session) (m : Member) (t :
   -- an array that a word in order names: its owner by its home
   owned_above : (a index : ℕ) → NamesArray m.course.job.arrays (reach_of m.course.job t) a index → owner_of m.course.job a ≡ b.frame.identity → (cpu.regs.f < plan.home m.setting.number a) × (plan.home m.setting.number a ≤ cpu.regs.s)
   owned_above a index n e =
-      let item = found_array m.course.job b.frame.identity (reach_of m.course.job t) a index n (running_in_order plan s m t o runs).0.tasks.names in
+      let item = found_array m.course.job (reach_of m.course.job t) a index n (running_in_order plan s m t o runs).0.tasks.names in
       let q = homes_high x cpu.core cpu.regs cpu.critical plan s m t b.frame b.below o h.holds runs b.frames n.item n.live (sym (ap (λ (z : Array). z.owner) item) ∙ e) in
       let is : plan.home m.setting.number n.item.identity ≡ plan.home m.setting.number a = ap (plan.home m.setting.number) n.named in
       (omega (arith, q.0, is, bounds.0), omega (arith, q.1, is, bounds.1))
 
   not_owned : (a index : ℕ) → NamesArray m.course.job.arrays (reach_of m.course.job t) a index → owner_of m.course.job a ≢ b.frame.identity → cpu.regs.f < plan.home m.setting.number a → plan.home m.setting.number a ≤ cpu.regs.s → ⊥
   not_owned a index n ne low up =
-      let item = found_array m.course.job b.frame.identity (reach_of m.course.job t) a index n (running_in_order plan s m t o runs).0.tasks.names in
+      let item = found_array m.course.job (reach_of m.course.job t) a index n (running_in_order plan s m t o runs).0.tasks.names in
       let is : plan.home m.setting.number n.item.identity ≡ plan.home m.setting.number a = ap (plan.home m.setting.number) n.named in
       elim (homes_low x cpu.core cpu.regs cpu.critical plan s m t b.frame b.below o h.holds runs b.frames m in_m n.item n.live) [
         | inl q ↦ ne (ap (λ (z : Array). z.owner) item ∙ q.1)

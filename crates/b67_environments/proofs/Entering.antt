@@ -1,7 +1,5 @@
 -- What the entering of a marked activation record makes.
-use Rattle.std.proofs.Common.{◌≡◌, ◌≢◌, ℕ, suc, ◌+◌, ◌-◌, ◌<◌, ◌≤◌, ◌^◌, List, [], ◌∷◌, ◌++◌, map, length, reverse, Option, Some, None, Ok, Err, refl, sym, ◌∙◌, ap, arith, Bool, true, false, not, ◌==◌, inl, inr, ◌⊎◌, ⊎_elim, slice_set, subst, length-append}
-use Rattle.std.specs.Prelude.{if◌then◌else◌}
-use Rattle.std.specs.List.{slice_get}
+use Rattle.std.proofs.Common.{◌≡◌, ◌≢◌, ℕ, ◌+◌, ◌<◌, ◌≤◌, List, [], ◌∷◌, ◌++◌, map, reverse, Some, None, Err, refl, sym, ◌∙◌, ap, arith, true, false, not, ◌==◌, inl, inr, ⊎_elim, slice_set, subst}
 use Rattle.std.proofs.lemmas.Bool.{le-leb, eq-eqb, ne_eqb}
 use Rattle.b67_word.specs.Tagged.{Tagged}
 use Rattle.b67_word.specs.declared.couples.Place.{Place}
@@ -43,8 +41,8 @@ use Rattle.b67_entering.proofs.Orders.{start, enter, ready_with, below_marked, b
 use Rattle.b67_entering.proofs.Rooms.{written_twice}
 use Rattle.b67_entering.proofs.Enters as Enters
 use Rattle.b67_entering.proofs.Enters.{IsMarkedWith, entered_frames, marked_stack, IsRunning-entered, SessionHolds-entered, SessionStands-entered}
-use Rattle.b67_entry.proofs.Sites.{Site, site}
-use Rattle.b67_entry.proofs.Accidental.{few_segments}
+use Rattle.b67_environments.proofs.Sites.{Site, site}
+use Rattle.b67_environments.proofs.Segments.{few_segments}
 
 top_cells_in_order : (P : (ℕ → ℕ → Place → Type 0)) (arrays : List State.Array) (outer : List (ℕ × State.Standing)) (fs : List Frame) → FramesInOrder P arrays outer fs → CellsInOrder P arrays (map known_of fs ++ outer) (top fs).identity (top fs).cells
 top_cells_in_order P arrays outer [] g = (tt, tt)

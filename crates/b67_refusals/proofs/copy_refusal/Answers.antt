@@ -1,8 +1,8 @@
-use Rattle.std.proofs.Common.{◌≡◌, ◌<◌, ◌≤◌, ℕ, Some, sym, ◌∙◌, ap, arith}
+use Rattle.std.proofs.Common.{sym, ◌∙◌, arith}
 use Rattle.std.proofs.lemmas.Bool.{not-false, not-true}
-use Rattle.std.proofs.lemmas.Option.{same_Some, none-some}
-use Rattle.b67_leave.proofs.CopyRefusals.{has_desc, original_refused, is_copy, own_copy_refused, other_copy_passes}
-use Rattle.b67_leave.proofs.copy_refusal.Goals as goal
+use Rattle.std.proofs.lemmas.Option.{none-some}
+use Rattle.b67_refusals.proofs.CopyRefusals.{has_desc, original_refused, is_copy, own_copy_refused, other_copy_passes}
+use Rattle.b67_refusals.proofs.copy_refusal.Goals as goal
 
 pub unreachable-requires : goal.unreachable-requires
 unreachable-requires c =

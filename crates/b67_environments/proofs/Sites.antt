@@ -1,5 +1,5 @@
 -- The activation record in which a procedure's cell lies.
-use Rattle.std.proofs.Common.{◌≡◌, ◌≢◌, ℕ, suc, ◌+◌, ◌<◌, ◌≤◌, ◌^◌, List, [], ◌∷◌, ◌++◌, map, refl, sym, ◌∙◌, ap, arith, subst}
+use Rattle.std.proofs.Common.{◌≡◌, ℕ, ◌<◌, ◌≤◌, ◌^◌, List, ◌++◌, map, sym, ap, arith, subst}
 use Rattle.b67_word.specs.Tagged.{Tagged}
 use Rattle.b67_word.specs.declared.couples.Place.{Place}
 use Rattle.b67_ctl.specs.declared.registers.Regs.{Regs}
@@ -7,9 +7,8 @@ use Rattle.b67_model.specs.Lists.{Has}
 use Rattle.b67_model.specs.State as State
 use Rattle.b67_model.specs.State.{Standing, frame, height}
 use Rattle.b67_model.specs.Environment.{level_of_standing, level_of_frame}
-use Rattle.b67_model.specs.InOrder.{Known, known_of, reach_of, IsSegment, IsEntered, NamesEntered, StandsInOrder}
+use Rattle.b67_model.specs.InOrder.{Known, known_of, reach_of, IsEntered, NamesEntered, StandsInOrder}
 use Rattle.b67_stack.specs.Stacks.{Spot}
-use Rattle.b67_stack.specs.Picture.{Picture}
 use Rattle.b67_layout.specs.Plan.{spots}
 use Rattle.b67_layout.specs.Meets.{here}
 use Rattle.b67_layout.proofs.Frames.{height-is}

@@ -1,37 +1,26 @@
 -- The frame is left and a word is put on the caller's: the machine stands for the session afterwards.
-use Rattle.std.proofs.Common.{◌≡◌, ◌≢◌, ℕ, ◌+◌, ◌<◌, ◌≤◌, List, [], ◌∷◌, ◌++◌, map, Option, Some, None, Ok, Err, refl, sym, ◌∙◌, ap, arith, Bool, true, false, not, inl, inr, ◌⊎◌, subst, slice_set, unwrap_or}
+use Rattle.std.proofs.Common.{◌≡◌, ◌≢◌, ℕ, List, ◌∷◌, map, Ok, refl, sym, ◌∙◌, ap, Bool, true, false, not, inl, inr, subst}
 use Rattle.std.specs.Prelude.{◌==◌}
-use Rattle.std.specs.List.{slice_get, AllByRecursion}
-use Rattle.std.proofs.lemmas.Bool.{true≢false, false≢true, cases_eq}
+use Rattle.std.proofs.lemmas.Bool.{true≢false}
 use Rattle.std.proofs.lemmas.Bool.Decides.{eqb_tells}
-use Rattle.b67_word.specs.Tagged.{Tagged}
-use Rattle.b67_word.specs.declared.couples.Place.{Place}
 use Rattle.b67_word.specs.declared.faults.Fault.TheVariants.{Uplevel}
-use Rattle.b67_ctl.specs.declared.registers.Regs.{Regs}
-use Rattle.b67_core.proofs.Writes.{slice_get-set_other}
 use Rattle.b67_model.specs.Lists.{Has, Falls}
-use Rattle.b67_model.specs.Answers.{Answer, ◌>>◌, needs}
+use Rattle.b67_model.specs.Answers.{◌>>◌, needs}
 use Rattle.b67_model.specs.Words as Words
 use Rattle.b67_model.specs.Words.{Word, Operand, Name, Ref, Row, Element, Original, Proc, Intrinsic}
-use Rattle.b67_model.specs.State.{Return, Frame, Array, Condition, Ready, Task, Setting, Job, Member, height, top, with_task}
-use Rattle.b67_model.specs.Arrays.{array, no_array, owner_of}
-use Rattle.b67_model.specs.Keyed.{keyed}
+use Rattle.b67_model.specs.State.{Frame, Array, Setting, Job}
+use Rattle.b67_model.specs.Arrays.{array, owner_of}
 use Rattle.b67_model.specs.Entry.{returnable}
-use Rattle.b67_model.specs.Steps.{without_arrays_of}
-use Rattle.b67_model.specs.Schedule.{Session}
-use Rattle.b67_model.specs.InOrder.{IsSegment, Known, NamesArray, WordInOrder, reach_of, TasksInOrder, IsInOrderButPlaces}
-use Rattle.b67_order.proofs.Members.{keyed_falls}
-use Rattle.b67_stack.specs.declared.Cpu.{Cpu}
-use Rattle.b67_stack.specs.Shapes as Shapes
-use Rattle.b67_stack.specs.Shapes.{Shape, Is, Copy, Fits}
-use Rattle.b67_stack.specs.Stacks.{Spot, Activation, high, words}
-use Rattle.b67_stack.specs.Picture.{Thing, Picture, IsArrayAt, CopiesName}
-use Rattle.b67_stack.specs.Stands.{Storage, Stands}
-use Rattle.b67_stack.specs.Changes.{with_stack, MayPush}
-use Rattle.b67_layout.specs.Plan.{Plan, spot_in, outer_spots}
+use Rattle.b67_model.specs.InOrder.{IsSegment, Known, NamesArray, WordInOrder}
+use Rattle.b67_stack.specs.Shapes.{Shape}
+use Rattle.b67_stack.specs.Stacks.{Spot}
+use Rattle.b67_stack.specs.Picture.{Thing, CopiesName}
+use Rattle.b67_stack.specs.Changes.{MayPush}
+use Rattle.b67_layout.specs.Plan.{Plan, spot_in}
 use Rattle.b67_layout.specs.Layout.{shape}
 use Rattle.b67_leaving.proofs.Nowhere.{SameArray, array_stays}
 use Rattle.b67_leaving.proofs.Things.{others}
+use Rattle.b67_refusals.proofs.CopyRefusals.{found_array}
 
 -- a word that may be returned from a frame
 module _ (job : Job) (id : ℕ) where
@@ -82,13 +71,9 @@ module _ (job : Job) (id : ℕ) where
   may_push plan j spot things shapes (Words.Segment number) copies h e = tt
 
   -- and its array stays
-  pub found_array : (reach : List Known) (a index : ℕ) (n : NamesArray job.arrays reach a index) → Falls job.next_array (map (λ (b : Array). b.identity) job.arrays) → array job a ≡ n.item
-  found_array reach a index n falls =
-      ap (λ (o : Option Array). unwrap_or o no_array) (ap (λ (i : ℕ). keyed (λ (b : Array). b.identity) i job.arrays) (sym n.named) ∙ keyed_falls (λ (b : Array). b.identity) job.next_array job.arrays n.item falls n.live)
-
   kept : (new : Job) (reach : List Known) (a index : ℕ) → NamesArray job.arrays reach a index → new.arrays ≡ others id job.arrays → Falls job.next_array (map (λ (b : Array). b.identity) job.arrays) → owner_of job a ≢ id → array new a ≡ array job a
   kept new reach a index n is falls ne =
-      let same = found_array reach a index n falls in
+      let same = found_array job reach a index n falls in
       subst (λ (i : ℕ). array new i ≡ array job i) n.named (array_stays new job id is falls n.item n.live (λ e. ne (ap (λ (b : Array). b.owner) same ∙ e)))
 
   pub array_kept : (new : Job) (setting : Setting) (reach : List Known) (v : Word) → WordInOrder (IsSegment setting) job.arrays reach id v → new.arrays ≡ others id job.arrays → Falls job.next_array (map (λ (b : Array). b.identity) job.arrays) → returnable job id v ≡ Ok v → SameArray new job v

@@ -1,18 +1,16 @@
 -- The word that is returned.
-use Rattle.std.specs.Prelude.{◌≡◌, ℕ, List, ◌∷◌, Option, Some, None, Ok, Err, slice_get}
+use Rattle.std.specs.Prelude.{◌≡◌, List, ◌∷◌, Option, Some, None, Ok, Err, slice_get}
 use Rattle.b67_word.specs.Tagged.{Tagged}
 use Rattle.b67_word.specs.declared.faults.Fault.{Fault}
 use Rattle.b67_model.specs.Answers.{Answer}
 use Rattle.b67_model.specs.Words.{Word}
 use Rattle.b67_model.specs.State.{Frame, Task, Member}
-use Rattle.b67_model.specs.Entry.{returnable}
 use Rattle.b67_model.specs.InOrder.{IsSegment, WordInOrder, reach_of}
 use Rattle.b67_stack.specs.declared.Cpu.{Cpu}
 use Rattle.b67_stack.specs.Shapes.{Fits}
 use Rattle.b67_stack.specs.Stands.{Storage}
 use Rattle.b67_layout.specs.Plan.{Plan, spot_in, outer_spots}
 use Rattle.b67_layout.specs.Layout.{shape}
-use Rattle.b67_leave.specs.Left.{Returns}
 
 -- the top word of the running task's stack, and what it stands for in the top frame
 pub record IsTopWord (x : Storage) (plan : Plan) (m : Member) (t : Task) (cpu : Cpu) (v : Word) (w : Tagged) : Type 0 where
@@ -30,8 +28,3 @@ abbrev pub Refuses : Option Fault → Word → Answer Word → Type 0
 Refuses None v (Ok passed) = passed ≡ v
 Refuses (Some fault) v (Err other) = fault ≡ other
 Refuses _ v _ = ⊥
-
--- the top word and the frame that is left with it
-pub record ReturnsWord (x : Storage) (plan : Plan) (m : Member) (t : Task) (cpu : Cpu) (a : Returns m t) (v : Word) (w : Tagged) : Type 0 where
-  pub word : IsTopWord x plan m t cpu v w
-  pub passes : returnable m.course.job a.f.identity v ≡ Ok v

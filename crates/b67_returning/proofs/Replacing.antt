@@ -1,30 +1,27 @@
 -- The whole machine where the frame is left with a word.
-use Rattle.std.proofs.Common.{◌≡◌, ◌≢◌, ℕ, ◌+◌, ◌<◌, ◌≤◌, List, [], ◌∷◌, ◌++◌, map, Option, Some, None, Ok, refl, sym, ◌∙◌, ap, arith, Bool, true, false, inl, inr, ◌⊎◌, subst, slice_set}
-use Rattle.std.specs.List.{slice_get, AllByRecursion}
+use Rattle.std.proofs.Common.{◌≡◌, ◌≢◌, ℕ, ◌+◌, ◌<◌, ◌≤◌, List, ◌∷◌, map, Some, refl, sym, ◌∙◌, ap, arith, inl, inr, ◌⊎◌, subst, slice_set}
+use Rattle.std.specs.List.{slice_get}
 use Rattle.std.proofs.lemmas.Bool.{cases_eq}
 use Rattle.b67_word.specs.Tagged.{Tagged, word}
-use Rattle.b67_word.specs.declared.couples.Place.{Place}
 use Rattle.b67_ctl.specs.declared.registers.Regs.{Regs}
 use Rattle.b67_core.proofs.Writes.{slice_get-set_other}
 use Rattle.b67_model.specs.Lists.{Has}
 use Rattle.b67_model.specs.Words.{Word, Operand}
-use Rattle.b67_model.specs.State.{Return, Frame, Condition, Ready, Task, Job, Course, Member, height, top, with_top_cells, with_task}
-use Rattle.b67_model.specs.Entry.{returnable}
-use Rattle.b67_model.specs.Steps.{is_critical, without_arrays_of}
-use Rattle.b67_model.specs.Run.{number_of}
+use Rattle.b67_model.specs.State.{Frame, Condition, Ready, Task, Job, Member, with_top_cells, with_task}
+use Rattle.b67_model.specs.Steps.{without_arrays_of}
 use Rattle.b67_model.specs.Schedule.{Session}
 use Rattle.b67_model.specs.InOrder.{IsSegment, WordInOrder, reach_of, IsInOrderButPlaces}
 use Rattle.b67_order.proofs.Members.{has_append_left, has_map, change_twice}
 use Rattle.b67_stack.specs.declared.Cpu.{Cpu}
 use Rattle.b67_stack.specs.Shapes.{Shape, Fits}
-use Rattle.b67_stack.specs.Stacks.{Spot, Head, Entered, Activation, high, mark_place, IsStack, headed, words}
-use Rattle.b67_stack.specs.Picture.{Picture, RunsOn, slot_base, CopiesName}
+use Rattle.b67_stack.specs.Stacks.{Spot, Activation, high, IsStack, headed, words}
+use Rattle.b67_stack.specs.Picture.{CopiesName}
 use Rattle.b67_stack.specs.Stands.{Storage, RunningStands, Stands}
 use Rattle.b67_stack.specs.Changes.{with_stack, MayPush}
 use Rattle.b67_stack.proofs.Slots.{running_slot, running_fits}
-use Rattle.b67_layout.specs.Plan.{Plan, spot_in, outer_spots, slot_of, spots}
+use Rattle.b67_layout.specs.Plan.{Plan, spot_in, outer_spots, slot_of}
 use Rattle.b67_layout.specs.Layout.{shape, head, activations, picture}
-use Rattle.b67_layout.specs.Session.{TaskStands, IsRunning, Shows, critical_mark, SessionStands, SessionHoldsBut, SessionStandsBut}
+use Rattle.b67_layout.specs.Session.{TaskStands, IsRunning, Shows, SessionStands, SessionHoldsBut, SessionStandsBut}
 use Rattle.b67_layout.specs.Meets.{things_gone, with_job, IsInStack}
 use Rattle.b67_layout.proofs.Others.{OnTop, keyed-has, keyed-put_same, outer_spots-after}
 use Rattle.b67_layout.proofs.Steps.{IsFree, seen-with}
@@ -34,14 +31,13 @@ use Rattle.b67_layout.proofs.Displays.{Shows-same}
 use Rattle.b67_layout.proofs.Fresh.{fresh, running_in_order}
 use Rattle.b67_layout.proofs.Starts.{slot_is}
 use Rattle.b67_leaving.proofs.Nowhere.{SameArray, SameArrays, activations-same}
-use Rattle.b67_leaving.proofs.Slots.{IsDependedOn}
-use Rattle.b67_leaving.proofs.Returned.{Stands-returned, size_entered, fits_anywhere}
+use Rattle.b67_returning.proofs.Returned.{Stands-returned, size_entered, fits_anywhere}
 use Rattle.b67_leaving.proofs.Things.{others}
-use Rattle.b67_leaving.proofs.Leaves.{Leaver, task_at, below-same, Frames, Frames-below, holds_after, runs_after, for_running_after}
-use Rattle.b67_leave.specs.Left.{caller_regs, Returns}
-use Rattle.b67_leave.specs.Words.{IsTopWord, ReturnsWord}
-use Rattle.b67_leave.proofs.Leaving.{may, outer, under, on_top, on_stack, may_return, regs_left, job_at, member_at, task_left, shown_left}
-use Rattle.b67_leave.proofs.Returning.{shape_below, may_push, array_kept}
+use Rattle.b67_leaving.proofs.Leaves.{task_at, below-same, Frames, Frames-below, holds_after, for_running_after}
+use Rattle.b67_leave.specs.Left.{Returns}
+use Rattle.b67_returning.specs.Returned.{ReturnsWord}
+use Rattle.b67_leave.proofs.Leaving.{may, outer, under, on_top, on_stack, may_return, regs_left, member_at, task_left, shown_left}
+use Rattle.b67_returning.proofs.Returning.{shape_below, may_push, array_kept}
 
 module _ (x : Storage) (old : Cpu) (plan : Plan) (s : Session) (m : Member) (t : Task) (o : IsInOrderButPlaces s) (h : SessionStands x old plan s) (runs : IsRunning plan s.jobs m t) (a : Returns m t) where
   -- the frames with words on the caller's
@@ -102,6 +98,18 @@ module _ (x : Storage) (old : Cpu) (plan : Plan) (s : Session) (m : Member) (t :
   stack_fits : IsStack plan.size (on_top x old plan s m t o h runs a ∷ under x old plan s m t o h runs a) × CopiesName (picture plan s.jobs).things (words old.regs.slot (on_top x old plan s m t o h runs a ∷ under x old plan s m t o h runs a))
   stack_fits = running_fits x old.core old.regs (picture plan s.jobs) old.regs.slot (on_top x old plan s m t o h runs a ∷ under x old plan s m t o h runs a) h.holds.memory (on_stack x old plan s m t o h runs a)
 
+  -- where the word goes
+  abbrev pub top_at : ℕ
+  top_at = old.regs.bosr + high (under x old plan s m t o h runs a) + 1
+
+  stack_is : RunningStands old.regs (picture plan s.jobs) old.regs.slot (on_top x old plan s m t o h runs a ∷ under x old plan s m t o h runs a)
+  stack_is = running_slot x old.core old.regs (picture plan s.jobs) old.regs.slot (on_top x old plan s m t o h runs a ∷ under x old plan s m t o h runs a) h.holds.memory (on_stack x old plan s m t o h runs a)
+
+  pub top_inside : (plan.stacks ≤ old.regs.bosr) × (old.regs.bosr < top_at) × (top_at < old.regs.losr)
+  top_inside =
+      let size = size_entered x old.core old.regs (picture plan s.jobs) old.regs.slot (on_top x old plan s m t o h runs a) _ _ a.level _ a.back h.holds.memory (on_stack x old plan s m t o h runs a) (may_return x old plan s m t o h runs a).entered in
+      (omega (arith, stack_is.first), omega arith, omega (arith, size, stack_fits.0.fits, stack_is.first, stack_is.last))
+
   -- the shape of a word on the caller's frame
   abbrev pub new_shape : Word → Shape
   new_shape v = shape plan m.setting.number m.course.job (spot_in plan.running (outer x old plan s m t o h runs a) (a.next ∷ a.more)) v
@@ -117,7 +125,7 @@ module _ (x : Storage) (old : Cpu) (plan : Plan) (s : Session) (m : Member) (t :
 
   module _ (v : Word) (w : Tagged) (b : ReturnsWord x plan m t old a v w) where
     -- the frames of the word are the frames that were found
-    frame_is : b.word.frame ≡ a.f
+    pub frame_is : b.word.frame ≡ a.f
     frame_is = let e : b.word.frame ∷ b.word.below ≡ a.f ∷ a.next ∷ a.more = sym b.word.frames ∙ a.frames in cc
 
     below_is : b.word.below ≡ a.next ∷ a.more
@@ -158,18 +166,6 @@ module _ (x : Storage) (old : Cpu) (plan : Plan) (s : Session) (m : Member) (t :
     }
 
   module _ (v : Word) (w : Tagged) (put : Puts v w) where
-    -- where the word goes
-    abbrev pub top_at : ℕ
-    top_at = old.regs.bosr + high (under x old plan s m t o h runs a) + 1
-
-    stack_is : RunningStands old.regs (picture plan s.jobs) old.regs.slot (on_top x old plan s m t o h runs a ∷ under x old plan s m t o h runs a)
-    stack_is = running_slot x old.core old.regs (picture plan s.jobs) old.regs.slot (on_top x old plan s m t o h runs a ∷ under x old plan s m t o h runs a) h.holds.memory (on_stack x old plan s m t o h runs a)
-
-    pub top_inside : (plan.stacks ≤ old.regs.bosr) × (old.regs.bosr < top_at) × (top_at < old.regs.losr)
-    top_inside =
-        let size = size_entered x old.core old.regs (picture plan s.jobs) old.regs.slot (on_top x old plan s m t o h runs a) _ _ a.level _ a.back h.holds.memory (on_stack x old plan s m t o h runs a) (may_return x old plan s m t o h runs a).entered in
-        (omega (arith, stack_is.first), omega arith, omega (arith, size, stack_fits.0.fits, stack_is.first, stack_is.last))
-
     -- the machine afterwards
     abbrev pub new_core : List Tagged
     new_core = slice_set old.core top_at w

@@ -1,11 +1,10 @@
-use Rattle.std.proofs.Common.{◌≡◌, sym, ◌∙◌, ap, arith}
-use Rattle.b67_leave.proofs.Criticals.{base_low}
-use Rattle.b67_leave.proofs.Refusals.{couple_refused, own_refused, other_passes}
-use Rattle.b67_leave.proofs.reference_refusal.Goals as goal
-use Rattle.b67_leave.proofs.reference_refusal.Goals.{else-r-from-via-then-r-from+else-from-cpu, else-r-from-via-else-r-from}
+use Rattle.std.proofs.Common.{sym, ◌∙◌}
+use Rattle.b67_refusals.proofs.Refusals.{base_low, couple_refused, own_refused, other_passes}
+use Rattle.b67_refusals.proofs.reference_refusal.Goals as goal
+use Rattle.b67_refusals.proofs.reference_refusal.Goals.{else-r-from-via-then-r-from+else-from-cpu, else-r-from-via-else-r-from}
 
 pub overflow_sub-cpu : goal.overflow_sub-cpu
-overflow_sub-cpu c = let r = c.requires.run.0 in base_low r.storage c.args.cpu.now r.plan r.session r.member r.task r.ordered r.stands r.running
+overflow_sub-cpu c = let r = c.requires.run.0 in base_low r.storage c.args.cpu.now r.plan r.session r.member r.task r.stands r.running
 
 pub returns-in-None : goal.returns-in-None
 returns-in-None c = λ x plan s m t o h runs v b. couple_refused x c.args.cpu.now plan s m t o h runs v c.args.word b c.requires.tag c.from_word.result c.from_word.ensures.known c.in-None.is

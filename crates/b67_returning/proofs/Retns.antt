@@ -1,20 +1,20 @@
 -- What RETN answers by the case of the top frame and of its word.
-use Rattle.std.proofs.Common.{◌≡◌, ◌≢◌, ℕ, ◌+◌, ◌≤◌, List, [], ◌∷◌, Option, Some, None, Ok, Err, refl, sym, ◌∙◌, ap, arith, Bool, true, false, inl, inr, ◌⊎◌, subst}
+use Rattle.std.proofs.Common.{◌≡◌, ℕ, ◌+◌, ◌≤◌, List, [], ◌∷◌, Option, Some, None, Ok, Err, refl, sym, ◌∙◌, ap, arith, Bool, true, false, inl, inr, ◌⊎◌}
 use Rattle.std.proofs.lemmas.Bool.{le-leb}
 use Rattle.b67_word.specs.declared.couples.Place.{Place}
 use Rattle.b67_word.specs.declared.faults.Fault.{Fault}
-use Rattle.b67_word.specs.declared.faults.Fault.TheVariants.{MarkPending, StackUnderflow, CriticalBlock}
+use Rattle.b67_word.specs.declared.faults.Fault.TheVariants.{MarkPending, StackUnderflow}
 use Rattle.b67_model.specs.Answers.{Answer, ◌>>=◌}
 use Rattle.b67_model.specs.Words as Words
 use Rattle.b67_model.specs.Words.{Word, Operand, Name, Ref, Row, Element, Original, Proc, Intrinsic}
 use Rattle.b67_model.specs.State as State
 use Rattle.b67_model.specs.State.{Standing, Return, Frame, Condition, Task, Job, Here, Member, height, top, with_top_cells, with_task}
-use Rattle.b67_model.specs.Steps.{Done, Goes, Leaves, top_of, cells_of, is_critical, without_arrays_of, pushes}
+use Rattle.b67_model.specs.Steps.{Goes, top_of, is_critical, without_arrays_of, pushes}
 use Rattle.b67_model.specs.Entry.{returnable, returned, leaves, retn_word, retn}
 use Rattle.b67_order.proofs.Members.{change_twice}
 use Rattle.b67_layout.specs.Meets.{here}
 use Rattle.b67_leaving.proofs.Leaves.{task_at}
-use Rattle.b67_leave.proofs.Exits.{job_left, leaves_critical, leaves_last, leaves_inner}
+use Rattle.b67_leave.proofs.Exits.{job_left, leaves_inner}
 
 -- the word that is to be pushed on the caller's frame at once
 abbrev pub IsOperand : Word → Type 0

@@ -1,6 +1,5 @@
 -- The top record is left, and a word is put on the stack below: what core and registers stand for.
-use Rattle.std.proofs.Common.{◌≡◌, ◌≢◌, ℕ, suc, ◌+◌, ◌-◌, ◌<◌, ◌≤◌, List, [], ◌∷◌, ◌++◌, length, Some, refl, sym, ◌∙◌, ap, arith, inl, inr, ⊎_elim, slice_set, subst}
-use Rattle.std.specs.List.{slice_get}
+use Rattle.std.proofs.Common.{◌≡◌, ◌≢◌, ℕ, suc, ◌+◌, ◌<◌, ◌≤◌, List, ◌∷◌, length, Some, sym, ◌∙◌, ap, arith, ⊎_elim, slice_set, subst}
 use Rattle.std.proofs.Math.ListN.{length-set}
 use Rattle.b67_word.specs.Tagged.{Tagged}
 use Rattle.b67_word.specs.declared.couples.Place.{Place}
@@ -13,7 +12,7 @@ use Rattle.b67_stack.specs.Shapes.{Shape, Is, Original, Copy, Fits, Lie}
 use Rattle.b67_stack.specs.Stacks.{Spot, Head, Entered, Activation, IsStack, high, mark_place, running_level, mark_of, return_of, headed, words}
 use Rattle.b67_stack.specs.Picture.{Thing, Picture, RunsOn, slot_base, CopiesName}
 use Rattle.b67_stack.specs.Stands.{Storage, RunningStands, Stands}
-use Rattle.b67_stack.specs.Changes.{with_stack, with_cells, top_cells, MayPush}
+use Rattle.b67_stack.specs.Changes.{with_stack, MayPush}
 use Rattle.b67_stack.proofs.Lies.{Lie-push, Lie-under}
 use Rattle.b67_stack.proofs.Heights.{words-length}
 use Rattle.b67_stack.proofs.Homes.{not_home}

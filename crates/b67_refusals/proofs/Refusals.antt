@@ -1,14 +1,11 @@
 -- Which references may not be returned, by their words.
-use Rattle.std.proofs.Common.{◌≡◌, ◌≢◌, ℕ, suc, ◌+◌, ◌-◌, ◌*◌, ◌<◌, ◌≤◌, ◌^◌, List, [], ◌∷◌, Option, Some, None, Ok, Err, refl, sym, ◌∙◌, ap, arith, Bool, true, false, not, inl, inr, ◌⊎◌, subst}
-use Rattle.std.specs.Prelude.{◌==◌}
+use Rattle.std.proofs.Common.{◌≡◌, ◌≢◌, ℕ, ◌+◌, ◌-◌, ◌*◌, ◌<◌, ◌≤◌, ◌^◌, List, ◌∷◌, Option, Some, None, refl, sym, ◌∙◌, ap, arith, inl, inr, subst}
 use Rattle.std.proofs.lemmas.Bool.Decides.{eqb_tells}
 use Rattle.std.proofs.lemmas.Option.{same_Some, none-some}
 use Rattle.b67_word.specs.Tagged.{Tagged}
-use Rattle.b67_word.specs.declared.faults.Fault.{Fault}
 use Rattle.b67_word.specs.declared.faults.Fault.TheVariants.{InvalidOperand, Uplevel}
 use Rattle.b67_ctl.specs.Layout.{sirw_word, IsSirw}
 use Rattle.b67_ctl.specs.declared.references.Sirw.{Sirw}
-use Rattle.b67_model.specs.Answers.{Answer, ◌>>◌, needs}
 use Rattle.b67_model.specs.Lists.{Has}
 use Rattle.b67_model.specs.Words as Words
 use Rattle.b67_model.specs.Words.{Word, Operand, Name, Ref, Row, Element, Original, Proc, Intrinsic}
@@ -16,12 +13,12 @@ use Rattle.b67_model.specs.State.{Frame, Task, Member, height, top}
 use Rattle.b67_model.specs.Entry.{returnable}
 use Rattle.b67_model.specs.Run.{number_of}
 use Rattle.b67_model.specs.Schedule.{Session}
-use Rattle.b67_model.specs.InOrder.{IsSegment, NamesEntered, WordInOrder, reach_of, IsInOrderButPlaces}
+use Rattle.b67_model.specs.InOrder.{IsSegment, WordInOrder, reach_of, IsInOrderButPlaces}
 use Rattle.b67_stack.specs.declared.Cpu.{Cpu}
-use Rattle.b67_stack.specs.Shapes.{Shape, Fits}
-use Rattle.b67_stack.specs.Stacks.{Spot, high, mark_place}
+use Rattle.b67_stack.specs.Shapes.{Fits}
+use Rattle.b67_stack.specs.Stacks.{Spot}
 use Rattle.b67_stack.specs.Picture.{RunsOn}
-use Rattle.b67_stack.specs.Stands.{Storage, RunningStands}
+use Rattle.b67_stack.specs.Stands.{Storage}
 use Rattle.b67_stack.proofs.Slots.{running_slot}
 use Rattle.b67_layout.specs.Plan.{Plan, spot_in, outer_spots}
 use Rattle.b67_layout.specs.Layout.{shape, activations, stack_of_task, picture}
@@ -32,7 +29,13 @@ use Rattle.b67_layout.proofs.Fresh.{running_in_order}
 use Rattle.b67_layout.proofs.Starts.{slot_is, runs_here}
 use Rattle.b67_refer.proofs.Scenes.{member_in_order}
 use Rattle.b67_leaving.proofs.Apart.{spot_apart, spot_top, spot_fits}
-use Rattle.b67_leave.specs.Words.{IsTopWord, Refuses}
+use Rattle.b67_refusals.specs.Words.{IsTopWord, Refuses}
+
+-- the mark at F lies in the stack
+pub base_low : (x : Storage) (cpu : Cpu) (plan : Plan) (s : Session) (m : Member) (t : Task) → SessionStands x cpu plan s → IsRunning plan s.jobs m t → cpu.regs.bosr ≤ cpu.regs.f
+base_low x cpu plan s m t h runs =
+    let r = running_slot x cpu.core cpu.regs (picture plan s.jobs) cpu.regs.slot (stack_of_task plan m.setting.number m.course.job plan.running t) h.holds.memory (runs_here x cpu plan s m t h runs) in
+    omega (arith, r.first, r.mark)
 
 module _ (x : Storage) (cpu : Cpu) (plan : Plan) (s : Session) (m : Member) (t : Task) (o : IsInOrderButPlaces s) (h : SessionStands x cpu plan s) (runs : IsRunning plan s.jobs m t) (v : Word) (w : Tagged) (b : IsTopWord x plan m t cpu v w) where
   abbrev spot : ℕ → Spot
