@@ -3,4 +3,5 @@ pub mod Stores
 pub mod Frames
 pub mod Owners
 pub mod Mapped
+pub mod Stored
 
