@@ -25,7 +25,7 @@ number_has [] known id h = absurd h
 number_has (f ∷ fs) known id (inl e) = inl e
 number_has (f ∷ fs) known id (inr h) = inr (number_has fs known id h)
 
-spot_under : (k : ℕ) (outer : ℕ → Spot) (fs : List Frame) (id : ℕ) → Has (identities fs) id → spot_in k outer fs id ≡ record { stack = k; disp = height (frames_under id fs) }
+pub spot_under : (k : ℕ) (outer : ℕ → Spot) (fs : List Frame) (id : ℕ) → Has (identities fs) id → spot_in k outer fs id ≡ record { stack = k; disp = height (frames_under id fs) }
 spot_under k outer [] id h = absurd h
 spot_under k outer (f ∷ fs) id h = ⊎_elim
     (λ (t : (f.identity == id) ≡ true). rw t refl)

@@ -47,14 +47,14 @@ use Rattle.b67_refer.proofs.Rule.{inside}
 use Rattle.b67_storing.proofs.Puts.{Puts}
 use Rattle.b67_storing.proofs.Stores.{SlotPuts, runs, waits, Stands-store, Settled-store}
 use Rattle.b67_storing.proofs.Frames.{put_frames, put_job, put_activations, frames_under, frame_found}
-use Rattle.b67_storing.proofs.Owners.{OwnerAt, owner}
+use Rattle.b67_storing.proofs.Owners.{OwnerAt, owner, spot_under}
 use Rattle.b67_storing.proofs.Mapped.{put_task, keyed_put, stack_put, mark_put, rows_put, picture_put, Shows-put}
 
 abbrev IsNoOperand : Word → Type 0
 IsNoOperand (Operand bits) = ⊥
 IsNoOperand _ = Unit {0}
 
-found_in : (id : ℕ) (fs : List Frame) → Has (identities fs) id → Has fs (frame_found id fs) × ((frame_found id fs).identity ≡ id)
+pub found_in : (id : ℕ) (fs : List Frame) → Has (identities fs) id → Has fs (frame_found id fs) × ((frame_found id fs).identity ≡ id)
 found_in id [] h = absurd h
 found_in id (f ∷ fs) h = ⊎_elim
     (λ (t : (f.identity == id) ≡ true). rw t (inl refl, Rattle.std.proofs.lemmas.Bool.eqb-true f.identity id t))
@@ -140,6 +140,15 @@ module _ (core : List Tagged) (r : Regs) (a : Scene core r) (q : Place) (at f of
       let c = here_at.address in
       let low = bounds.0 in
       omega (arith, c, e, h, low)
+
+  -- the same address as its own task sees it
+  pub own_address : at ≡ frame_address a.plan a.member own_of.task (frame_found f own_of.task.frames).identity + offset
+  own_address =
+      let u = own_of.task in
+      let g = found_in f u.frames own_of.has in
+      let e : frame_address a.plan a.member u (frame_found f u.frames).identity ≡ frame_address a.plan a.member a.task f =
+      ap (frame_address a.plan a.member u) g.1 ∙ ap (address_of a.plan) (spot_under (slot_of a.plan a.member.setting.number u.number) (outer_spots a.plan a.member.setting.number a.member.course.job u.critical u.parents) u.frames f own_of.has ∙ sym own_of.spot) in
+      here_at.address ∙ ap (λ (n : ℕ). n + offset) (sym e)
 
 module _ (x : Storage) (old : Cpu) (plan : Plan) (s : Session) (m : Member) (t : Task) (o : IsInOrderButPlaces s) (h : SessionStands x old plan s) (runs_t : IsRunning plan s.jobs m t) where
   -- the scene of the machine
