@@ -5,3 +5,4 @@ pub mod Owners
 pub mod Mapped
 pub mod Stored
 
+pub mod Elements
