@@ -5,13 +5,14 @@ ghost use Rattle.std.specs.Prelude.{◌≡◌, ℕ, ◌^◌, ◌<◌};
 ghost use Rattle.b67_ctl.specs.Layout.{IsPlace};
 ghost use Rattle.b67_word.specs.declared.couples.Place.{Place};
 ghost use Rattle.b67_model.specs.Rows as rows;
+ghost use Rattle.b67_model.specs.Steps.{cells_of};
 ghost use Rattle.b67_layout.specs.Meets.{here, Meets, RunsSome, ForEach};
 ghost use Rattle.b67_refer.specs.Scene.{Scene};
 ghost use Rattle.b67_refer.specs.Ends.{IsProcAt};
 ghost use Rattle.b67_evaluate.specs.Procedures.{Leads};
 
-use b67_ctl::Irw;
-use b67_entry::accident;
+use b67_ctl::{Irw, Regs};
+use b67_entry::{accident, accident_on};
 use b67_fetch::valc;
 use b67_refer::{End, chase};
 use b67_stack::{Cpu, Step};
@@ -44,6 +45,27 @@ pub fn evaluate(cpu: &mut Cpu, couple: u16, next: Place) -> Step
         Step::Call(_) => {
             let cell = procedure_cell(cpu, Irw { couple }.word());
             accident(cpu, cell, true, next)
+        }
+        step => step,
+    }
+}
+
+/// Puts the value or the row copy to which the top cell leads in its place, and goes on at `next`; a procedure there is
+/// entered in its place, and the operator is made again with what it returns. STACK UNDERFLOW, the faults of references,
+/// INVALID OPERAND where it ends at an intrinsic or where the procedure's level doesn't fit, STACK OVERFLOW. Where an
+/// element's array is absent nothing is changed.
+pub fn load(cpu: &mut Cpu, next: Place) -> Step
+    requires { RunsSome cpu.old }
+    ensures row { ForEach cpu.old (λ x plan s m t. let h = here m t next in Meets x plan s m result cpu.old cpu.new (rows.load h (cells_of h))) }
+{
+    match b67_fetch::load(cpu, next) {
+        Step::Call(_) => {
+            let cell = procedure_cell(cpu, cpu.core.get(cpu.regs.s));
+            let without = Regs {
+                s: cpu.regs.s - 1,
+                ..cpu.regs
+            };
+            accident_on(cpu, without, cell, false, cpu.regs.place)
         }
         step => step,
     }
