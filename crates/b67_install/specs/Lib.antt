@@ -1,0 +1,3 @@
+pub mod Things
+pub mod Resting
+pub mod Writing

@@ -1,0 +1,37 @@
+-- What the search for copies of an area does to core.
+use Rattle.std.specs.Prelude.{◌≡◌, ◌≢◌, ℕ, true, false, ◌+◌, ◌<◌, ◌≤◌, ◌^◌, List, length, Some, slice_get}
+use Rattle.b67_word.specs.Tagged.{Tagged}
+use Rattle.b67_ctl.specs.declared.descriptors.DataDesc.{DataDesc}
+use Rattle.b67_ctl.specs.Descriptors.{data_word, IsDataDesc}
+use Rattle.b67_ctl.specs.declared.registers.Regs.{Regs}
+use Rattle.b67_stack.specs.Stacks.{high}
+use Rattle.b67_stack.specs.Picture.{Picture, slot_base, stack_of}
+use Rattle.b67_stack.specs.Stands.{SlotsStand}
+
+abbrev pub IsCopyOf : ℕ → DataDesc → Type 0
+IsCopyOf area d = (d.present ≡ true) × (d.copy ≡ true) × (d.address ≡ area)
+
+-- a present copy of the area is absent and has the original's address; any other word stays
+pub record Turns (area original : ℕ) (v w : Tagged) : Type 0 where
+  pub copies : (d : DataDesc) → IsDataDesc d → v ≡ data_word d → IsCopyOf area d → w ≡ data_word (record d { present = false; address = original })
+  pub others : ((d : DataDesc) → IsDataDesc d → v ≡ data_word d → IsCopyOf area d → ⊥) → w ≡ v
+
+abbrev pub TurnsAt : ℕ → ℕ → List Tagged → List Tagged → ℕ → Type 0
+TurnsAt area original old new i = (v : Tagged) × (w : Tagged) × (slice_get old i ≡ Some v) × (slice_get new i ≡ Some w) × Turns area original v w
+
+-- the address of a word of slot k's stack, up to its top; the base word isn't one
+abbrev pub InStack : Picture → ℕ → ℕ → Type 0
+InStack p k i = (slot_base p k < i) × (i ≤ slot_base p k + high (stack_of (p.slots k)))
+
+-- the copies in the stacks of the slots below n are turned, and nothing else is changed
+pub record Searched (p : Picture) (n area original : ℕ) (old new : List Tagged) : Type 0 where
+  pub size : length new ≡ length old
+  pub turned : (k : ℕ) → k < n → (i : ℕ) → InStack p k i → TurnsAt area original old new i
+  pub others : (i : ℕ) → ((k : ℕ) → k < n → InStack p k i → ⊥) → slice_get new i ≡ slice_get old i
+
+-- the slots of a picture lie in core, below `low`
+pub record Lies (core : List Tagged) (r : Regs) (low : ℕ) (p : Picture) : Type 0 where
+  pub slots : SlotsStand core r low p
+  pub inside : low ≤ length core
+  pub small : length core < 2 ^ 20
+  pub base : (k : ℕ) → k < p.peak → slot_base p k < low

@@ -1,0 +1,94 @@
+//! The search for copies of a descriptor.
+
+ghost use Rattle.std.specs.Prelude.{◌≡◌, ◌⊎◌, ℕ, ◌+◌, ◌^◌, ◌<◌, ◌≤◌, length, slice_get};
+ghost use Rattle.b67_stack.specs.Stacks.{high};
+ghost use Rattle.b67_stack.specs.Picture.{Thing, Picture, slot_base, stack_of};
+ghost use Rattle.b67_stack.specs.Stands.{Storage, Stands};
+ghost use Rattle.b67_storage.specs.Machine.{IsPresent};
+ghost use Rattle.b67_overlay.specs.Turns.{Turns, TurnsAt, Searched, Lies};
+
+use b67_core::Core;
+use b67_ctl::{DataDesc, Regs, Toscw};
+use b67_stack::Cpu;
+use b67_word::Word;
+
+/// The word; absent, with the original's address, if it is a present copy of the area.
+fn turned(w: Word, area: u32, original: u32) -> Word
+    requires { original < 2 ^ 20 }
+    ensures { Turns area original w result }
+{
+    match DataDesc::from_word(w) {
+        Some(d) => {
+            if d.present && d.copy && d.address == area {
+                DataDesc {
+                    present: false,
+                    copy: d.copy,
+                    indexed: d.indexed,
+                    read_only: d.read_only,
+                    length: d.length,
+                    address: original,
+                }
+                .word()
+            } else {
+                w
+            }
+        }
+        None => w,
+    }
+}
+
+/// Turns the copies in a part of core.
+fn turn_part(core: &mut Core, from: u32, upto: u32, area: u32, original: u32)
+    requires order { from ≤ upto }
+    requires inside { upto ≤ length core.old }
+    requires small { original < 2 ^ 20 }
+    ensures size { length core.new ≡ length core.old }
+    ensures turned { (i : ℕ) → from ≤ i → i < upto → TurnsAt area original core.old core.new i }
+    ensures others { (i : ℕ) → (i < from) ⊎ (upto ≤ i) → slice_get core.new i ≡ slice_get core.old i }
+{
+    for i in from..upto {
+        let w = core.get(i);
+        core.set(i, turned(w, area, original));
+    }
+}
+
+/// The address of the top word of a slot's stack; where no task lives there, of the slot's base word.
+fn stack_top(core: &Core, regs: &Regs, k: u8, base: u32) -> u32
+    requires { (low : ℕ) × (p : Picture) × Lies core.now regs.now low p × (k < p.peak) × (base ≡ slot_base p k) }
+    ensures { (low : ℕ) (p : Picture) → Lies core.now regs.now low p → k < p.peak → base ≡ slot_base p k
+        → result ≡ base + high (stack_of (p.slots k)) }
+{
+    if regs.slot == k {
+        return regs.s;
+    }
+    match Toscw::from_word(core.get(base)) {
+        Some(top) => base + u32::from(top.s),
+        None => base,
+    }
+}
+
+/// Turns the copies in every stack.
+fn search(core: &mut Core, regs: &Regs, area: u32, original: u32)
+    requires slots { (low : ℕ) × (p : Picture) × Lies core.old regs.now low p }
+    requires small { original < 2 ^ 20 }
+    ensures { (low : ℕ) (p : Picture) → Lies core.old regs.now low p → Searched p p.peak area original core.old core.new }
+{
+    let mut base = regs.stacks;
+    let size = u32::from(regs.stack_size);
+    for k in 0..regs.peak {
+        let top = stack_top(core, regs, k, base);
+        turn_part(core, base + 1, top + 1, area, original);
+        base += size;
+    }
+}
+
+/// The search for the copies of the area that a present original holds: every present copy of it, in every stack up to its top, becomes absent and has the original's address. No other
+/// word is changed.
+pub fn search_copies(cpu: &mut Cpu, area: u32, original: u32)
+    requires { (x : Storage) × (p : Picture) × (t : Thing) × Stands x cpu.old.core cpu.old.regs p × IsPresent x p area t × (t.home ≡ original) }
+    ensures rest { cpu.new ≡ record cpu.old { core = cpu.new.core } }
+    ensures searched { (x : Storage) (p : Picture) → Stands x cpu.old.core cpu.old.regs p
+        → Searched p p.peak area original cpu.old.core cpu.new.core }
+{
+    search(&mut cpu.core, &cpu.regs, area, original);
+}

@@ -1,0 +1,4 @@
+pub mod Descriptors
+pub mod Placing
+pub mod Contents
+pub mod Paged

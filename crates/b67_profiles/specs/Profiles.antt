@@ -1,0 +1,60 @@
+-- What a step leaves of all tasks: their numbers, parents, critical frames and conditions; and that it makes no array.
+use Rattle.std.specs.Prelude.{◌≡◌, ℕ, List, [], ◌∷◌, map, reverse, Option, Some, None, Ok}
+use Rattle.b67_model.specs.declared.operators.Op.{Op}
+use Rattle.b67_model.specs.declared.operators.Op.TheVariants.{Plain}
+use Rattle.b67_model.specs.declared.operators.Code.TheVariants.{Entr}
+use Rattle.b67_model.specs.Answers.{Answer}
+use Rattle.b67_model.specs.Words.{Word}
+use Rattle.b67_model.specs.State.{Standing, Marked, Condition, Task, Job, Here}
+use Rattle.b67_model.specs.Keyed.{keyed}
+use Rattle.b67_model.specs.Chase.{End, AtIntrinsic, follow_reference}
+use Rattle.b67_model.specs.Steps.{Line, Goes, top_of, cells_of}
+use Rattle.b67_model.specs.Intrinsics.{print}
+use Rattle.b67_model.specs.Rows.{row}
+
+pub record Profile : Type 0 where
+  pub number : ℕ
+  pub parents : List ℕ
+  pub critical : ℕ
+  pub condition : Condition
+
+abbrev pub profile : Task → Profile
+profile t = record { number = t.number; parents = t.parents; critical = t.critical; condition = t.condition }
+
+abbrev pub profiles : List Task → List Profile
+profiles tasks = map profile tasks
+
+-- the intrinsic that an operator calls, if it is an ENTR that ends at one
+abbrev pub called_at : Answer End → Option ℕ
+called_at (Ok (AtIntrinsic n)) = Some n
+called_at _ = None
+
+abbrev pub called_by : Here → List Word → Option ℕ
+called_by h [] = None
+called_by h (r ∷ arguments) = called_at (follow_reference h r)
+
+abbrev pub called_on : Here → Standing → Option ℕ
+called_on h Marked = called_by h (reverse (cells_of h))
+called_on h _ = None
+
+abbrev pub called : Op → Here → Option ℕ
+called (Plain Entr) h = called_on h (top_of h).standing
+called _ h = None
+
+-- the task that makes the operator stands in the job as it is known
+abbrev pub IsKnown : Here → Type 0
+IsKnown h = keyed (λ (p : Profile). p.number) h.task.number (profiles h.job.tasks) ≡ Some (profile h.task)
+
+-- an operator that calls no intrinsic starts and ends no task, each goes on as ready as it was, and no array comes to be
+abbrev pub RowsKeepProfiles : Type 0
+RowsKeepProfiles =
+    (op : Op) (h : Here) → IsKnown h → called op h ≡ None →
+    (after : Job) (printed : List Line) (touched : Option ℕ) → row op h ≡ Ok (Goes after printed touched) →
+    (profiles after.tasks ≡ profiles h.job.tasks) × (h.job.arrays ≡ [] → after.arrays ≡ [])
+
+-- nor does PRINT
+abbrev pub PrintKeepsProfiles : Type 0
+PrintKeepsProfiles =
+    (h : Here) (arguments : List Word) → IsKnown h →
+    (after : Job) (printed : List Line) (touched : Option ℕ) → print h arguments ≡ Ok (Goes after printed touched) →
+    (profiles after.tasks ≡ profiles h.job.tasks) × (h.job.arrays ≡ [] → after.arrays ≡ [])

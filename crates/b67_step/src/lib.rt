@@ -1,0 +1,2 @@
+//! One step of the machine over core.
+#![tactic(auto)]

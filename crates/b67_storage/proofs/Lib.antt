@@ -1,0 +1,6 @@
+pub mod Helds
+pub mod Reheld
+pub mod Unchanged
+pub mod Renumbered
+pub mod Words
+pub mod Holes

@@ -1,0 +1,64 @@
+-- The machine with its areas, sectors and device, and pictures in which one thing is held otherwise.
+use Rattle.std.specs.Prelude.{◌≡◌, ℕ, ◌^◌, ◌<◌, ◌≤◌, ◌==◌, ◌⊎◌, List, [], ◌∷◌, length, map, Option, Some, None, if◌then◌else◌}
+use Rattle.std.specs.List.{AllByRecursion}
+use Rattle.b67_area.specs.declared.Areas.{Areas}
+use Rattle.b67_area.specs.Spans.{Span, Area, Hole}
+use Rattle.b67_backing.specs.Shelf.{Table, IsShelf}
+use Rattle.b67_model.specs.Lists.{Has}
+use Rattle.b67_stack.specs.declared.Cpu.{Cpu}
+use Rattle.b67_stack.specs.Shapes.{Held, Map}
+use Rattle.b67_stack.specs.Picture.{Thing, Picture}
+use Rattle.b67_stack.specs.Stands.{Storage, Stands}
+
+-- what a storage says of the sectors, if anything, is what the device tells
+abbrev pub Says : Option (List (List ℕ)) → Option (List (List ℕ)) → Type 0
+Says None told = Unit {0}
+Says (Some all) told = told ≡ Some all
+
+-- what a storage says that said this, where the device now tells that
+abbrev pub retold : Option (List (List ℕ)) → Option (List (List ℕ)) → Option (List (List ℕ))
+retold None told = None
+retold (Some all) told = told
+
+-- the registers and core, the areas, the table of sectors and what the device tells are those of a storage and a picture
+pub record MachineStands (x : Storage) (cpu : Cpu) (areas : Areas) (table : Table) (told : Option (List (List ℕ))) (p : Picture) : Type 0 where
+  pub stands : Stands x cpu.core cpu.regs p
+  pub low : areas.low ≡ x.low
+  pub shelf : IsShelf table x.shelf
+  pub device : Says x.device told
+
+-- how all things are held where that at a home is held so
+abbrev pub with_held : Map → ℕ → Held → Map
+with_held held home h = λ q. if q == home then h else held q
+
+-- what the storage then is
+abbrev pub holding : Storage → ℕ → Held → Storage
+holding x home h = record x { held = with_held x.held home h }
+
+-- the array, data row or segment of a home is not in core
+pub record IsAbsent (x : Storage) (p : Picture) (home : ℕ) (t : Thing) : Type 0 where
+  pub there : Has p.things t
+  pub is : t.home ≡ home
+  pub absent : (x.held home).area ≡ None
+
+-- an array, data row or segment is in the area at an address
+pub record IsPresent (x : Storage) (p : Picture) (at : ℕ) (t : Thing) : Type 0 where
+  pub there : Has p.things t
+  pub present : (x.held t.home).area ≡ Some at
+
+-- each number has the 48 bits of a word
+abbrev pub AreBits : List ℕ → Type 0
+AreBits ns = AllByRecursion (λ n. n < 2 ^ 48) ns
+
+-- the picture with other numbers in the thing of a home
+abbrev pub renumber : ℕ → List ℕ → Thing → Thing
+renumber home ns t = if t.home == home then record t { numbers = ns } else t
+
+abbrev pub renumbered : Picture → ℕ → List ℕ → Picture
+renumbered p home ns = record p { things = map (renumber home ns) p.things }
+
+-- a hole of n words or more
+abbrev pub HasRoom : ℕ → List Span → Type 0
+HasRoom n [] = ⊥
+HasRoom n (Area a ∷ ss) = HasRoom n ss
+HasRoom n (Hole m ∷ ss) = (n ≤ m) ⊎ HasRoom n ss

@@ -1,0 +1,41 @@
+-- What the machine stands for before and after its registers go to another task.
+use Rattle.std.specs.Prelude.{◌≡◌, ℕ, ◌<◌, List, length, Option}
+use Rattle.b67_word.specs.Tagged.{Tagged}
+use Rattle.b67_ctl.specs.declared.registers.Regs.{Regs}
+use Rattle.b67_model.specs.Schedule.{Session}
+use Rattle.b67_model.specs.InOrder.{IsInOrderButPlaces}
+use Rattle.b67_stack.specs.Stands.{Storage}
+use Rattle.b67_layout.specs.Plan.{Plan}
+use Rattle.b67_layout.specs.Session.{RowsFit, SessionHolds}
+use Rattle.b67_task.specs.declared.tables.Tasks.{Tasks}
+use Rattle.b67_task.specs.declared.tables.Machine.{Machine}
+use Rattle.b67_task.specs.Tables.{TasksShow, MachineStands}
+
+-- the machine stands for some session in order, and has a row of this number
+pub record HasRow (k : Machine) (row : ℕ) : Type 0 where
+  pub storage : Storage
+  pub told : Option (List (List ℕ))
+  pub plan : Plan
+  pub session : Session
+  pub ordered : IsInOrderButPlaces session
+  pub stands : MachineStands storage told k plan session
+  pub inside : row < length k.tasks.rows.items
+
+-- the registers and the tables are those of a session in order
+pub record InUse (r : Regs) (tasks : Tasks) : Type 0 where
+  pub storage : Storage
+  pub core : List Tagged
+  pub marks : List ℕ
+  pub plan : Plan
+  pub session : Session
+  pub ordered : IsInOrderButPlaces session
+  pub holds : SessionHolds storage core r marks plan session
+  pub shows : TasksShow plan session tasks
+
+-- the tables show a session in order, where no task's registers are in use
+pub record Rests (tasks : Tasks) (plan : Plan) (s : Session) : Type 0 where
+  pub ordered : IsInOrderButPlaces s
+  pub fits : RowsFit plan s.jobs
+  pub few : plan.peak < 121
+  pub none : plan.running ≡ 255
+  pub shows : TasksShow plan s tasks
