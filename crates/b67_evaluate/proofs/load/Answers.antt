@@ -7,7 +7,7 @@ use Rattle.b67_layout.specs.Meets.{here, Meets}
 use Rattle.b67_fetch.specs.Fetches.{enters_at, top_end}
 use Rattle.b67_fetch.proofs.Values.{here_scene}
 use Rattle.b67_evaluate.proofs.Entered.{met_by, called_by}
-use Rattle.b67_evaluate.proofs.Loads.{bounds, place_fits, at_end, leads, scene_without, enters_without, load_enters}
+use Rattle.b67_evaluate.proofs.Loads.{bounds, place_fits, at_end, leads, scene_without, enters_without, accident_without, load_row}
 use Rattle.b67_evaluate.proofs.load.Goals as goal
 
 pub get-requires : goal.get-requires
@@ -75,7 +75,7 @@ returns-in-Call c = record { row = λ x plan s m t ordered h runs.
     let k = c.procedure_cell-cell.ensures (here_scene x new plan s m t ordered st runs) n e.frame e.segment e.level e.place l in
     let made = c.accident_on.ensures.row (scene_without x new plan s m t ordered st runs n i.0 w c.get.ensures) n e.frame e.segment e.level e.place (enters_without x new plan s m t ordered st runs n i.0 w c.get.ensures c.procedure_cell-cell.result k) in
     let P : Cpu → Type 0 = λ z. Meets x plan s m c.accident_on.result z c.accident_on.new.cpu (rows.load hh (cells_of hh)) in
-    subst P i.1 (load_enters x new plan s m t ordered st runs n i.0 w c.get.ensures c.accident_on.result c.accident_on.new.cpu made) }
+    subst P i.1 (load_row x new plan s m t ordered st runs n i.0 w c.get.ensures c.accident_on.result c.accident_on.new.cpu (accident_without x new plan s m t ordered st runs n i.0 w c.get.ensures c.accident_on.result c.accident_on.new.cpu made)) }
 
 pub returns-in_default : goal.returns-in_default
 returns-in_default c = record { row = λ x plan s m t ordered h runs.
