@@ -128,17 +128,20 @@ module _ (x : Storage) (cpu : Cpu) (plan : Plan) (s : Session) (m : Member) (t :
         (λ g l p k. ⊎_elim (λ (e : top_is.word ≡ Proc g l p). not_proc m t q top_is.word (AtProc at_end.frame at_end.segment at_end.level at_end.place) g l p at_end.is e) (λ z. z) k)
         (λ i v e tag. e) i)
 
-    pub load_enters : (r : Step) (new : Cpu)
+    pub accident_without : (r : Step) (new : Cpu)
         → EntersOrFaults scene_without r cpu new (accident (here (member0 x cpu plan s m t ordered h runs top_is.rest ordered_without cpu (cpu.regs.s - 1) refl holds_without) (task0 x cpu plan s m t ordered h runs top_is.rest ordered_without cpu (cpu.regs.s - 1) refl holds_without) q)
         (cells_of (here (member0 x cpu plan s m t ordered h runs top_is.rest ordered_without cpu (cpu.regs.s - 1) refl holds_without) (task0 x cpu plan s m t ordered h runs top_is.rest ordered_without cpu (cpu.regs.s - 1) refl holds_without) q))
         (back_to (here (member0 x cpu plan s m t ordered h runs top_is.rest ordered_without cpu (cpu.regs.s - 1) refl holds_without) (task0 x cpu plan s m t ordered h runs top_is.rest ordered_without cpu (cpu.regs.s - 1) refl holds_without) q) false cpu.regs.place)
         (AtProc at_end.frame at_end.segment at_end.level at_end.place))
-        → Meets x plan s m r cpu new (rows.load (here m t q) (cells_of (here m t q)))
-    load_enters r new i =
+        → Meets x plan s m r cpu new (accident (here m t q) top_is.rest (back_to (here m t q) false t.place) (AtProc at_end.frame at_end.segment at_end.level at_end.place))
+    accident_without r new i =
         let over = entered x cpu plan s m t ordered h runs top_is.rest ordered_without cpu (cpu.regs.s - 1) refl holds_without (λ k. inl refl) r new q false cpu.regs.place at_end.frame at_end.segment at_end.level at_end.place i in
         let met = over_meets x plan s m r cpu new _ over in
         let B : Place → Type 0 = λ p. Meets x plan s m r cpu new (accident (here m t q) top_is.rest (back_to (here m t q) false p) (AtProc at_end.frame at_end.segment at_end.level at_end.place)) in
-        let at_place = subst B (h.holds.running m t runs).place met in
+        subst B (h.holds.running m t runs).place met
+
+    pub load_row : (r : Step) (new : Cpu) → Meets x plan s m r cpu new (accident (here m t q) top_is.rest (back_to (here m t q) false t.place) (AtProc at_end.frame at_end.segment at_end.level at_end.place)) → Meets x plan s m r cpu new (rows.load (here m t q) (cells_of (here m t q)))
+    load_row r new i =
         let E : Answer Chase.End → Type 0 = λ e. Meets x plan s m r cpu new (e >>= λ f. rows.load_at (here m t q) top_is.rest f) in
         let C : List Word → Type 0 = λ cs. Meets x plan s m r cpu new (rows.load (here m t q) cs) in
-        subst C (sym top_is.is) (subst E (sym at_end.is) at_place)
+        subst C (sym top_is.is) (subst E (sym at_end.is) i)
