@@ -1,2 +1,4 @@
 pub mod Elements
 pub mod Homes
+pub mod Arrays
+pub mod Things
