@@ -2,3 +2,4 @@ pub mod Elements
 pub mod Homes
 pub mod Arrays
 pub mod Things
+pub mod Machine
