@@ -36,7 +36,7 @@ changed_there key n f (y ∷ ys) x e = ⊎_elim
     (λ (t : (key y == n) ≡ false). let at : keyed key n ys ≡ Some x = rw t at e in rw t (inr (changed_there key n f ys x at)))
     (cases_Bool (key y == n))
 
-identities_kept : (id i v : ℕ) (xs : List Array) → map (λ (a : Array). a.identity) (change_keyed (λ (a : Array). a.identity) id (Arrays.with_number i v) xs) ≡ map (λ (a : Array). a.identity) xs
+pub identities_kept : (id i v : ℕ) (xs : List Array) → map (λ (a : Array). a.identity) (change_keyed (λ (a : Array). a.identity) id (Arrays.with_number i v) xs) ≡ map (λ (a : Array). a.identity) xs
 identities_kept id i v [] = refl
 identities_kept id i v (x ∷ xs) = ⊎_elim
     (λ (t : (x.identity == id) ≡ true). rw t refl)
