@@ -41,7 +41,7 @@ differ_append [] ys d e apart = e
 differ_append (x ∷ xs) ys d e apart =
     (λ h. ⊎_elim (λ (i : Has xs x). d.0 i) (λ (i : Has ys x). apart x (inl refl) i) (has_append_cases xs ys x h), differ_append xs ys d.1 e (λ n h k. apart n (inr h) k))
 
-part_of : {A B : Type 0} (f : A → List B) (xs : List A) (y : B) → Has (flat_map f xs) y → Part f xs y
+pub part_of : {A B : Type 0} (f : A → List B) (xs : List A) (y : B) → Has (flat_map f xs) y → Part f xs y
 part_of f [] y h = absurd h
 part_of f (x ∷ xs) y h = ⊎_elim
     (λ (i : Has (f x) y). record { item = x; among = inl refl; inside = i })
@@ -54,7 +54,7 @@ numbered_low n (y ∷ more) m d (inl e) = let P : Member → Type 0 = λ z. n �
 numbered_low n (y ∷ more) m d (inr h) = omega (arith, numbered_low (n + 1) more m d.1 h)
 
 -- the slots of a job's live tasks
-abbrev slots_of : Plan → Member → List ℕ
+abbrev pub slots_of : Plan → Member → List ℕ
 slots_of plan m = map (λ (t : Task). slot_of plan m.setting.number t.number) m.course.job.tasks
 
 slots_length : (plan : Plan) (jobs : List Member) → length (flat_map (slots_of plan) jobs) ≡ live_tasks jobs
@@ -89,7 +89,7 @@ module _ (plan : Plan) (s : Session) (o : IsInOrderButPlaces s) (fit : RowsFit p
     tasks_differ m t.number ts inm (λ u h. inside u (inr h)) f.1,
   )
 
-  jobs_differ : (n : ℕ) (ms : List Member) → NumberedFrom n ms → ((m : Member) → Has ms m → Has s.jobs m) → Differ (flat_map (slots_of plan) ms)
+  pub jobs_differ : (n : ℕ) (ms : List Member) → NumberedFrom n ms → ((m : Member) → Has ms m → Has s.jobs m) → Differ (flat_map (slots_of plan) ms)
   jobs_differ n [] d inside = tt
   jobs_differ n (m ∷ more) d inside =
       let inm = inside m (inl refl) in

@@ -39,3 +39,12 @@ pub record MachineRuns (k : Machine) : Type 0 where
   pub ordered : IsInOrderButPlaces session
   pub stands : MachineStands storage told k plan session
   pub running : IsRunning plan session.jobs member task
+
+-- the machine stands for some session in order
+pub record StandsInOrder (k : Machine) : Type 0 where
+  pub storage : Storage
+  pub told : Option (List (List ℕ))
+  pub plan : Plan
+  pub session : Session
+  pub ordered : IsInOrderButPlaces session
+  pub stands : MachineStands storage told k plan session

@@ -2,5 +2,7 @@
 #![tactic(auto)]
 
 mod needing;
+mod sums;
 
 pub use needing::need;
+pub use sums::sector_sum;
