@@ -1,6 +1,6 @@
 -- What the code reads is what the need is made of.
-use Rattle.std.proofs.Common.{◌≡◌, ◌≢◌, ℕ, ◌+◌, ◌*◌, ◌^◌, ◌<◌, ◌≤◌, List, [], ◌∷◌, Option, Some, None, map, length, refl, sym, ◌∙◌, ap, arith, ⊎_elim}
-use Rattle.std.specs.Prelude.{sum_by, max, nat_lt, if◌then◌else◌, Bool}
+use Rattle.std.proofs.Common.{◌≡◌, ℕ, ◌+◌, ◌*◌, ◌^◌, ◌<◌, ◌≤◌, List, [], ◌∷◌, Option, Some, None, map, length, refl, sym, ◌∙◌, ap, arith, ⊎_elim}
+use Rattle.std.specs.Prelude.{sum_by, max, nat_lt, if◌then◌else◌}
 use Rattle.std.proofs.lemmas.List.{length-map}
 use Rattle.std.proofs.lemmas.Bool.{cases_eq, eq-eqb, ne_eqb}
 use Rattle.std.proofs.lemmas.Nat.{mul-le}
@@ -21,7 +21,7 @@ use Rattle.b67_layout.proofs.Others.{keyed-has}
 use Rattle.b67_task.specs.declared.tables.Machine.{Machine}
 use Rattle.b67_task.specs.Tables.{MachineStands, task_row, job_row, counts_of}
 use Rattle.b67_code.proofs.Codes.{short}
-use Rattle.b67_needs.specs.Needing.{array_area, need_with, touched_words}
+use Rattle.b67_needs.specs.Needing.{array_area, need_with, touched_words, HasWords}
 use Rattle.b67_needs.proofs.Counts.{rows_live}
 
 follow_all : (plan : Plan) (at : ℕ) (jobs : List Member) → DictionariesFollow plan at jobs → at + sum_by (λ (m : Member). 2 + length m.setting.dictionary.cells) jobs ≡ plan.stacks
@@ -63,11 +63,6 @@ read x told k plan s m t o h runs =
 pub area_low : (n : ℕ) → n < 2 ^ 16 → array_area n ≤ n + 2
 area_low n h = ⊎_elim (λ (e : n ≡ 0). rw (eq-eqb n 0 e) (omega arith)) (λ (ne : n ≡ 0 → ⊥). rw (ne_eqb n 0 ne) (omega arith)) (cases_eq n 0)
 
--- an array that is touched has words
-abbrev HasWords : Job → Option ℕ → Type 0
-HasWords job None = Unit {0}
-HasWords job (Some a) = length (array job a).numbers ≢ 0
-
 area_same : (job : Job) (touched : Option ℕ) → HasWords job touched → area_of job touched ≡ array_area (touched_words job touched)
 area_same job None h = refl
 area_same job (Some a) h = rw (ne_eqb (length (array job a).numbers) 0 h) refl
@@ -103,3 +98,22 @@ module _ (k : Machine) (s : Session) (m : Member) (t : Task) (r : Read k s m t) 
       ∙ ap (λ (n : ℕ). fixed s.jobs + n + (code + 2) + area) e
       ∙ ap (λ (n : ℕ). fixed s.jobs + max s.peak (live_tasks s.jobs + stacks) * m.setting.stack_size + (n + 2) + area) code_is
       ∙ ap (λ (n : ℕ). fixed s.jobs + max s.peak (live_tasks s.jobs + stacks) * m.setting.stack_size + (length (code_of m.setting t.segment) + 2) + n) area_is
+
+-- areas begin behind the dictionaries and the stacks of the slots used so far, so that without a new stack the need is
+-- what lies below them, the running segment's area and the array's
+module _ (x : Storage) (told : Option (List (List ℕ))) (k : Machine) (plan : Plan) (s : Session) (m : Member) (t : Task) (o : IsInOrderButPlaces s) (h : MachineStands x told k plan s) (runs : IsRunning plan s.jobs m t) where
+  pub low_is : k.areas.low ≡ fixed s.jobs + s.peak * m.setting.stack_size
+  low_is =
+      let holds = h.session.holds in
+      let slots = holds.memory.slots in
+      let r = read x told k plan s m t o h runs in
+      h.storage.low ∙ slots.laid.low
+      ∙ ap (λ (n : ℕ). n + plan.peak * plan.size) (sym (follow_all plan 160 s.jobs holds.fits.dictionaries))
+      ∙ ap (λ (n : ℕ). fixed s.jobs + n * plan.size) holds.fits.peak
+      ∙ ap (λ (n : ℕ). fixed s.jobs + s.peak * n) (sym slots.regs.size ∙ r.size)
+
+  pub need_above_low : (words : ℕ) → need_with s m t 0 words ≡ k.areas.low + (length (code_of m.setting t.segment) + 2) + array_area words
+  need_above_low words =
+      let peak : max s.peak (live_tasks s.jobs + 0) ≡ s.peak = omega (arith, o.peak_low) in
+      ap (λ (n : ℕ). fixed s.jobs + n * m.setting.stack_size + (length (code_of m.setting t.segment) + 2) + array_area words) peak
+      ∙ ap (λ (n : ℕ). n + (length (code_of m.setting t.segment) + 2) + array_area words) (sym low_is)

@@ -1,30 +1,27 @@
 -- What dictionaries and stacks keep is the sector sum of the session.
-use Rattle.std.proofs.Common.{◌≡◌, ◌≢◌, ℕ, zero, suc, ◌+◌, ◌-◌, ◌*◌, ◌^◌, ◌<◌, ◌≤◌, ◌==◌, Bool, true, false, List, [], ◌∷◌, ◌++◌, map, flat_map, length, reverse, Option, Some, None, refl, sym, ◌∙◌, ap, arith, inl, inr, ⊎_elim, subst}
+use Rattle.std.proofs.Common.{◌≡◌, ◌≢◌, ℕ, zero, suc, ◌+◌, ◌-◌, ◌^◌, ◌<◌, ◌≤◌, ◌==◌, Bool, true, false, List, [], ◌∷◌, ◌++◌, map, flat_map, length, reverse, Option, Some, None, refl, sym, ◌∙◌, ap, arith, inl, inr, subst}
 use Rattle.std.specs.Prelude.{sum_by, if◌then◌else◌}
-use Rattle.std.specs.List.{AllByRecursion, slice_get}
-use Rattle.std.proofs.lemmas.Option.{none-some, same_Some}
+use Rattle.std.specs.List.{slice_get}
 use Rattle.std.proofs.lemmas.Bool.{eqb-true}
 use Rattle.std.proofs.lemmas.List.{length-reverse}
 use Rattle.std.proofs.lemmas.List.Sums.{sum_by-cons}
 use Rattle.b67_word.specs.Tagged.{Tagged}
-use Rattle.b67_area.specs.declared.Kind.{Kind}
 use Rattle.b67_area.specs.declared.Kind.TheVariants as kind
 use Rattle.b67_area.proofs.Laws.{area_inside}
-use Rattle.b67_model.specs.Lists.{Has, Falls, total, how_many}
+use Rattle.b67_model.specs.Lists.{Has, total, how_many}
 use Rattle.b67_model.specs.Words as Words
 use Rattle.b67_model.specs.Words.{Word, Operand, Name, Ref, Row, Element, Original, Proc, Intrinsic}
 use Rattle.b67_model.specs.State.{Frame, Array, Segment, Setting, Task, Job, Member}
 use Rattle.b67_model.specs.Keyed.{keyed}
 use Rattle.b67_model.specs.Sectors.{sectors_for, sectors_of, sectors}
-use Rattle.b67_model.specs.Run.{number_of}
 use Rattle.b67_model.specs.Schedule.{Session}
-use Rattle.b67_model.specs.InOrder.{Starts, IsSegment, Known, known_of, OwnsArray, FramesInOrder, WordInOrder, EntryInOrder, is_original_of, originals_in, originals_of, outer_of, rows_after, DictionaryWords, TaskInOrder, TasksInOrder, JobInOrder, SegmentInOrder, IsInOrderButPlaces}
-use Rattle.b67_order.proofs.Members.{all_in, total_same, total_zero, total_append, total_map, total_flat, total_reverse, has_reverse_back, has_append_left, has_get}
+use Rattle.b67_model.specs.InOrder.{Starts, IsSegment, Known, known_of, OwnsArray, FramesInOrder, WordInOrder, EntryInOrder, is_original_of, originals_of, outer_of, rows_after, DictionaryWords, TaskInOrder, TasksInOrder, IsInOrderButPlaces}
+use Rattle.b67_order.proofs.Members.{all_in, total_same, total_zero, total_append, total_map, total_flat, total_reverse, has_reverse_back}
 use Rattle.b67_stack.specs.declared.Cpu.{Cpu}
 use Rattle.b67_stack.specs.Shapes as Shapes
 use Rattle.b67_stack.specs.Shapes.{Held}
 use Rattle.b67_stack.specs.Stacks.{Spot, Activation, Head, headed, high, words}
-use Rattle.b67_stack.specs.Picture.{Thing, stack_of, slot_base, address_or, home_word_of}
+use Rattle.b67_stack.specs.Picture.{Thing, stack_of, slot_base, address_or}
 use Rattle.b67_stack.specs.Stands.{Storage, info_of}
 use Rattle.b67_stack.proofs.Heights.{words-length}
 use Rattle.b67_stack.proofs.Homes.{chain_small}
@@ -38,7 +35,7 @@ use Rattle.b67_leaving.proofs.Settles.{keyed_member, stack_in_slot}
 use Rattle.b67_leaving.proofs.Originals.{entry_number}
 use Rattle.b67_order.proofs.Members.{keyed_falls, has_map, has_map_back, has_flat}
 use Rattle.b67_code.proofs.Codes.{code_thing}
-use Rattle.b67_needs.specs.Sums.{sectors_of_word, sectors_at, sectors_from, sectors_of_slot, sectors_of_slots}
+use Rattle.b67_needs.specs.Sums.{sectors_at, sectors_from, sectors_of_slot, sectors_of_slots}
 use Rattle.b67_needs.proofs.Counts.{slots_of, jobs_differ, part_of}
 use Rattle.b67_needs.proofs.Totals.{upto, slots_total, range_split, range_first, kept, total_plus, kept_once, kept_original}
 use Rattle.b67_needs.proofs.Words.{home_array, home_code, of_shape, lies_total, headed_total}

@@ -1,17 +1,16 @@
 -- What the words of stacks and of dictionaries keep.
-use Rattle.std.proofs.Common.{◌≡◌, ◌≢◌, ℕ, suc, ◌+◌, ◌*◌, ◌^◌, ◌/◌, ◌%◌, ◌<◌, ◌≤◌, ◌==◌, Bool, true, false, List, [], ◌∷◌, ◌++◌, map, length, Option, Some, None, refl, sym, ◌∙◌, ap, arith, inl, inr, ◌⊎◌}
+use Rattle.std.proofs.Common.{◌≡◌, ◌≢◌, ℕ, ◌+◌, ◌*◌, ◌^◌, ◌/◌, ◌%◌, ◌<◌, Bool, true, false, List, [], ◌∷◌, length, Some, refl, sym, ◌∙◌, ap, arith, inl, inr, ◌⊎◌}
 use Rattle.std.specs.List.{slice_get}
 use Rattle.std.proofs.lemmas.Bool.{eq-eqb, ne_eqb}
 use Rattle.b67_word.specs.Tagged.{Tagged, bits_at}
 use Rattle.b67_area.specs.declared.Kind.{Kind}
 use Rattle.b67_area.specs.declared.Kind.TheVariants.{Array, Row, Code}
 use Rattle.b67_ctl.specs.Layout.{bit}
-use Rattle.b67_model.specs.Lists.{Has, total}
+use Rattle.b67_model.specs.Lists.{total}
 use Rattle.b67_model.specs.Sectors.{sectors_for}
-use Rattle.b67_order.proofs.Members.{total_append}
 use Rattle.b67_stack.specs.Shapes as Shapes
 use Rattle.b67_stack.specs.Shapes.{Held, Map, Shape, Is, Copy, Fits, Lie}
-use Rattle.b67_stack.specs.Stacks.{Head, Marked, Entered, Activation, headed, high, words}
+use Rattle.b67_stack.specs.Stacks.{Head, Marked, Entered, Activation, headed, high}
 use Rattle.b67_stack.specs.Picture.{Picture, Slot, Free, Running, Waiting, stack_of, SlotFits, is_present, address_or, home_word_of}
 use Rattle.b67_needs.specs.Sums.{sectors_of_word, sectors_at, sectors_from}
 

@@ -1,5 +1,5 @@
 -- The core that an operator of the running task needs, and the machines that have one.
-use Rattle.std.specs.Prelude.{ℕ, ◌+◌, ◌*◌, max, ◌==◌, List, length, Option, Some, None, if◌then◌else◌}
+use Rattle.std.specs.Prelude.{◌≢◌, ℕ, ◌+◌, ◌*◌, max, ◌==◌, List, length, Option, Some, None, if◌then◌else◌}
 use Rattle.b67_model.specs.State.{Task, Job, Member}
 use Rattle.b67_model.specs.Arrays.{array}
 use Rattle.b67_model.specs.Rows.{code_of}
@@ -27,6 +27,11 @@ need_with s m t stacks words =
 abbrev pub touched_words : Job → Option ℕ → ℕ
 touched_words job None = 0
 touched_words job (Some a) = length (array job a).numbers
+
+-- an array that is touched has words
+abbrev pub HasWords : Job → Option ℕ → Type 0
+HasWords job None = Unit {0}
+HasWords job (Some a) = touched_words job (Some a) ≢ 0
 
 -- the machine stands for some session in order, of which a task runs
 pub record MachineRuns (k : Machine) : Type 0 where

@@ -1,5 +1,5 @@
 -- The sectors of what has its home in core: arrays by their originals, segments by their descriptors.
-use Rattle.std.specs.Prelude.{ℕ, zero, suc, ◌+◌, Bool, true, false, ◌==◌, ◌&&◌, ◌||◌, List, Option, Some, None, if◌then◌else◌, slice_get}
+use Rattle.std.specs.Prelude.{ℕ, zero, suc, ◌+◌, Bool, false, ◌==◌, ◌&&◌, ◌||◌, List, Option, Some, None, if◌then◌else◌, slice_get}
 use Rattle.b67_word.specs.Tagged.{Tagged, bits_at}
 use Rattle.b67_ctl.specs.declared.registers.Regs.{Regs}
 use Rattle.b67_model.specs.Sectors.{sectors_for}

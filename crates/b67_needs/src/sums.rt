@@ -33,7 +33,7 @@ fn word_sectors(w: Word, code: bool) -> u32
 }
 
 /// Those of the words of a range.
-fn range_sectors(core: &Core, from: u32, upto: u32, code: bool) -> u32
+pub(crate) fn range_sectors(core: &Core, from: u32, upto: u32, code: bool) -> u32
     requires order { from ≤ upto }
     requires inside { upto ≤ length core.now }
     ensures value { result ≡ sectors_from code core.now from (upto - from) }

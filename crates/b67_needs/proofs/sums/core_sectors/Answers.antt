@@ -1,4 +1,4 @@
-use Rattle.std.proofs.Common.{◌≡◌, ℕ, suc, true, false, ◌+◌, ◌-◌, ◌*◌, ◌<◌, ◌≤◌, arith, sym, ◌∙◌, ap, add-one, ⊎_elim}
+use Rattle.std.proofs.Common.{◌≡◌, ℕ, suc, false, ◌+◌, ◌-◌, ◌<◌, arith, ◌∙◌, ap, ⊎_elim}
 use Rattle.b67_stack.specs.Stacks.{high}
 use Rattle.b67_stack.specs.Picture.{slot_base, stack_of}
 use Rattle.b67_stack.proofs.Bases.{base-step}
