@@ -3,4 +3,4 @@
 
 mod search;
 
-pub use search::search_copies;
+pub use search::{search_copies, stack_top};
