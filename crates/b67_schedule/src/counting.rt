@@ -1,0 +1,63 @@
+//! The counts of operators.
+
+ghost use Rattle.std.specs.Prelude.{◌≡◌, ℕ, ◌+◌, ◌-◌, ◌^◌, ◌≤◌, ◌<◌, length, Option, Some, map, slice_get, slice_set};
+ghost use Rattle.b67_model.specs.InOrder.{NumberedFrom};
+ghost use Rattle.b67_model.specs.Schedule.{Session, Switch};
+ghost use Rattle.b67_layout.specs.Plan.{Plan};
+ghost use Rattle.b67_task.specs.declared.tables.JobRow.{JobRow};
+ghost use Rattle.b67_task.specs.Tables.{switch_of, TasksShow};
+ghost use Rattle.b67_schedule.specs.Counted.{choice_of, counted, counted_row, HasRoom, Past};
+
+use b67_task::{JobRow, Tasks};
+use b67_text::Switch;
+
+/// The task that makes the next operator: its row, its job and number, and how many operators of its turn it has made.
+#[derive(Clone, Copy, Debug, PartialEq, Eq)]
+pub struct Chosen {
+    pub row: u8,
+    pub job: u8,
+    pub number: u32,
+    pub turn: u32,
+}
+
+/// A job has made one operator more.
+fn count_of_job(rows: &mut [JobRow], at: usize)
+    requires { (r : JobRow) × (slice_get rows.old at ≡ Some r) × (r.made + 1 < 2 ^ 64) }
+    ensures { (r : JobRow) → slice_get rows.old at ≡ Some r → rows.new ≡ slice_set rows.old at (counted_row r) }
+{
+    let row = &mut rows[at];
+    row.made += 1;
+}
+
+/// The first switch that is left, where one of them at most has become past since it was `from`.
+fn first_left(switches: &[Switch], from: u32, made: u64) -> u32
+    requires { from ≤ length switches.now }
+    ensures within { result ≤ length switches.now }
+    ensures past { Past from made (map switch_of switches.now) → Past result made (map switch_of switches.now) }
+{
+    if (from as usize) < switches.len() && switches[from as usize].count < made {
+        return from.saturating_add(1);
+    }
+    from
+}
+
+/// The task has made one operator more, which was the last one.
+pub fn count(tasks: &mut Tasks, chosen: Chosen)
+    requires { HasRoom tasks.old chosen }
+    ensures counted { (plan : Plan) (s : Session) → NumberedFrom 1 s.jobs → TasksShow plan s tasks.old → TasksShow plan (counted s (choice_of chosen)) tasks.new }
+    ensures rest { tasks.new ≡ record tasks.old {
+        jobs = tasks.new.jobs;
+        made = tasks.old.made + 1;
+        last_job = chosen.job;
+        last_number = chosen.number;
+        turn = chosen.turn + 1;
+        next_switch = tasks.new.next_switch;
+    } }
+{
+    tasks.made += 1;
+    tasks.turn = chosen.turn + 1;
+    tasks.last_job = chosen.job;
+    tasks.last_number = chosen.number;
+    count_of_job(tasks.jobs.as_mut_slice(), chosen.job as usize - 1);
+    tasks.next_switch = first_left(tasks.switches.as_slice(), tasks.next_switch, tasks.made);
+}
