@@ -2,5 +2,6 @@
 #![tactic(auto)]
 
 mod counting;
+mod ready;
 
 pub use counting::{count, Chosen};
