@@ -1,5 +1,6 @@
 -- The rows of the tasks that are ready, and the task that makes the next operator.
-use Rattle.std.specs.Prelude.{◌≡◌, ℕ, ◌<◌, ◌&&◌, Bool, true, false, List, Option, Some, None, slice_get}
+use Rattle.std.specs.Prelude.{◌≡◌, ℕ, ◌<◌, ◌&&◌, ◌||◌, nat_lt, Bool, true, false, List, Option, Some, None, slice_get}
+use Rattle.std.specs.List.{list_any}
 use Rattle.b67_model.specs.Lists.{Has}
 use Rattle.b67_model.specs.Schedule.{Who, Switch, Session, Choice, is_same, is_before, goes_on}
 use Rattle.b67_task.specs.declared.tables.TaskState.{TaskState}
@@ -54,6 +55,10 @@ NextRow n rows last (Some i) = IsNextAt n rows last i
 abbrev pub RowOf : List TaskRow → Option ℕ → Option Who → Type 0
 RowOf rows None named = named ≡ None
 RowOf rows (Some i) named = (who : Who) × IsReadyAt rows i who × (named ≡ Some who)
+
+-- whether the last task's turn goes on: a switch is left, or it hasn't made all operators of its turn
+abbrev pub turn_lasts : Session → Bool
+turn_lasts s = list_any (λ w. nat_lt s.made w.count) s.switches || nat_lt s.turn s.quantum
 
 -- the row of the last task, where it goes on
 abbrev pub GoesOnAt : List TaskRow → Option ℕ → Session → Type 0

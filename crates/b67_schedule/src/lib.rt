@@ -1,7 +1,10 @@
 //! Which task makes the next operator, and the counts of operators.
 #![tactic(auto)]
 
+mod choosing;
 mod counting;
 mod ready;
+mod switches;
 
+pub use choosing::choose;
 pub use counting::{count, Chosen};
