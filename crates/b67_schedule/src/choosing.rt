@@ -1,12 +1,12 @@
 //! Which task makes the next operator.
 
-ghost use Rattle.std.specs.Prelude.{◌≡◌, ◌<◌, length, IfSome};
+ghost use Rattle.std.specs.Prelude.{◌≡◌, ◌<◌, ◌↔◌, [], length, None, option_map, IfSome};
 ghost use Rattle.b67_model.specs.InOrder.{IsInOrderButPlaces};
 ghost use Rattle.b67_model.specs.Schedule as schedule;
-ghost use Rattle.b67_model.specs.Schedule.{Session, switched, next_after, choice};
+ghost use Rattle.b67_model.specs.Schedule.{Session, ready, switched, next_after, choice};
 ghost use Rattle.b67_layout.specs.Plan.{Plan};
 ghost use Rattle.b67_task.specs.Tables.{TasksShow};
-ghost use Rattle.b67_schedule.specs.Counted.{choice_of};
+ghost use Rattle.b67_schedule.specs.Counted.{choice_of, HasRoom};
 ghost use Rattle.b67_schedule.specs.Chosen.{who_is, turn_lasts, IsReadyAt, RowOf, GoesOnAt, Chooses};
 
 use crate::counting::Chosen;
@@ -80,8 +80,8 @@ fn chosen_at(tasks: &Tasks, row: u8, turn: u32) -> Chosen
     }
 }
 
-/// The task that makes the next operator; None exactly where no task is ready.
-pub fn choose(tasks: &Tasks) -> Option<Chosen>
+/// The task that the rules choose.
+fn by_rules(tasks: &Tasks) -> Option<Chosen>
     ensures { (plan : Plan) (s : Session) → IsInOrderButPlaces s → TasksShow plan s tasks.now → Chooses tasks.now.rows.items result (choice s) }
 {
     match switched_row(tasks) {
@@ -93,5 +93,26 @@ pub fn choose(tasks: &Tasks) -> Option<Chosen>
                 None => None,
             },
         },
+    }
+}
+
+/// The task that makes the next operator; None exactly where no task is ready.
+pub fn choose(tasks: &Tasks) -> Option<Chosen>
+    ensures choice { (plan : Plan) (s : Session) → IsInOrderButPlaces s → TasksShow plan s tasks.now → Chooses tasks.now.rows.items result (choice s) }
+    ensures none { (plan : Plan) (s : Session) → IsInOrderButPlaces s → TasksShow plan s tasks.now → (result ≡ None) ↔ (ready s ≡ []) }
+    // One operator more of that task then fits the counts.
+    ensures room { (plan : Plan) (s : Session) → IsInOrderButPlaces s → TasksShow plan s tasks.now → IfSome result (HasRoom tasks.now) }
+{
+    by_rules(tasks)
+}
+
+/// The row of the task that makes the next operator; None exactly where no task is ready.
+pub fn schedule(tasks: &Tasks) -> Option<u8>
+    ensures row { (plan : Plan) (s : Session) → IsInOrderButPlaces s → TasksShow plan s tasks.now → RowOf tasks.now.rows.items result (option_map (λ c. c.who) (choice s)) }
+    ensures none { (plan : Plan) (s : Session) → IsInOrderButPlaces s → TasksShow plan s tasks.now → (result ≡ None) ↔ (ready s ≡ []) }
+{
+    match choose(tasks) {
+        Some(chosen) => Some(chosen.row),
+        None => None,
     }
 }

@@ -6,5 +6,5 @@ mod counting;
 mod ready;
 mod switches;
 
-pub use choosing::choose;
+pub use choosing::{choose, schedule};
 pub use counting::{count, Chosen};

@@ -1,0 +1,1 @@
+-- The count of an operator, with what the operator makes of its job, is the step of the session.
