@@ -58,9 +58,6 @@ has_counted_of n (y ∷ more) m h = elim (eqb_tells (number_of y) n) [
 pub task_counted : (plan : Plan) (m : Member) (t : Task) (row : TaskRow) → TaskShows plan m t row → TaskShows plan (counted_member m) t row
 task_counted plan m t row h = record { job = h.job; number = h.number; slot = h.slot; parent = h.parent; critical = h.critical; state = h.state; segment = h.segment; place = h.place }
 
-pub task_counted_back : (plan : Plan) (m : Member) (t : Task) (row : TaskRow) → TaskShows plan (counted_member m) t row → TaskShows plan m t row
-task_counted_back plan m t row h = record { job = h.job; number = h.number; slot = h.slot; parent = h.parent; critical = h.critical; state = h.state; segment = h.segment; place = h.place }
-
 abbrev pub row_counted : rows.JobRow → rows.JobRow
 row_counted r = record r { made = r.made + 1 }
 

@@ -100,6 +100,12 @@ ready_state plan j job t (code.WaitsAt mark offset) Ready r e = cc
 ready_state plan j job t (code.WaitsAt mark offset) (Awaits n) r e = r
 ready_state plan j job t (code.WaitsAt mark offset) (WaitsAt f o) r e = r
 
+abbrev the_name : ℕ → ℕ → Who
+the_name n t = record { job = n; task = t }
+
+one_name : (a b c d : ℕ) → a ≡ c → b ≡ d → the_name a b ≡ the_name c d
+one_name a b c d e f = ap (λ (n : ℕ). the_name n b) e ∙ ap (λ (n : ℕ). the_name c n) f
+
 module _ (plan : Plan) (s : Session) (o : IsInOrderButPlaces s) where
   pub ready_rises : Rises (ready s)
   ready_rises = members_rise 1 s.jobs o.numbered (λ m k. (all_in (λ (y : Member). JobInOrder (IsSegment y.setting) y.setting y.course) s.jobs m o.jobs k).tasks.numbers)
@@ -116,8 +122,7 @@ module _ (plan : Plan) (s : Session) (o : IsInOrderButPlaces s) where
     row_ready i w a =
         let (m, t, inm, int, sh) = shows.tasks (task_row a.row) (at_has (map task_row task_rows) i (task_row a.row) (at_mapped task_row task_rows i a.row a.at)) in
         let r = ready_condition plan m.setting.number m.course.job t a.row.state t.condition a.ready sh.state in
-        let is : named m.setting.number t ≡ w =
-        sym (ap (λ (n : ℕ). record { job = n; task = a.row.number }) sh.job ∙ ap (λ (n : ℕ). record { job = m.setting.number; task = n }) sh.number) ∙ a.is in
+        let is : named m.setting.number t ≡ w = sym (one_name a.row.job a.row.number m.setting.number t.number sh.job sh.number) ∙ a.is in
         subst (λ (v : Who). Has (ready s) v) is (has_flat ready_of s.jobs m (named m.setting.number t) inm (of_tasks m.setting.number m.course.job.tasks t int r))
 
     -- and each ready task has a row
@@ -129,7 +134,5 @@ module _ (plan : Plan) (s : Session) (o : IsInOrderButPlaces s) where
         let (i, at_y) = has_at (map task_row task_rows) y iny in
         let (row, at, same) = mapped_at task_row task_rows i y at_y in
         let state : state_of row.state ≡ shown plan m.setting.number m.course.job t t.condition = ap (λ (z : rows.TaskRow). z.state) same ∙ sh.state in
-        let is : who_of row ≡ named m.setting.number t =
-        ap (λ (z : rows.TaskRow). record { job = z.job; task = z.number }) same
-        ∙ ap (λ (n : ℕ). record { job = n; task = y.number }) sh.job ∙ ap (λ (n : ℕ). record { job = m.setting.number; task = n }) sh.number in
+        let is : who_of row ≡ named m.setting.number t = one_name row.job row.number m.setting.number t.number (ap (λ (z : rows.TaskRow). z.job) same ∙ sh.job) (ap (λ (z : rows.TaskRow). z.number) same ∙ sh.number) in
         (i, record { row = row; at = at; ready = ready_state plan m.setting.number m.course.job t row.state t.condition r state; is = is ∙ e })

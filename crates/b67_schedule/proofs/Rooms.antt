@@ -105,10 +105,3 @@ module _ (plan : Plan) (s : Session) (o : IsInOrderButPlaces s) (tasks : Tasks) 
   pub none_if : (result : Option Chosen) → Chooses tasks.rows.items result (choice s) → (result ≡ None) ↔ (ready s ≡ [])
   none_if None h = (λ e. none_ready s h, λ e. refl)
   none_if (Some c) h = (λ e. absurd (none-some c (sym e)), λ e. absurd (chosen_some c h e))
-
--- the chosen task's row alone
-pub row_of : (rows : List TaskRow) (c : Chosen) (choice : Option Choice) → Chooses rows (Some c) choice → RowOf rows (Some c.row) (option_map (λ (d : Choice). d.who) choice)
-row_of rows c choice h = ((choice_of c).who, h.0, ap (option_map (λ (d : Choice). d.who)) h.1)
-
-pub row_none : (rows : List TaskRow) (choice : Option Choice) → Chooses rows None choice → RowOf rows None (option_map (λ (d : Choice). d.who) choice)
-row_none rows choice h = ap (option_map (λ (d : Choice). d.who)) h

@@ -1,8 +1,13 @@
 //! The counts of operators.
 
 ghost use Rattle.std.specs.Prelude.{◌≡◌, ℕ, ◌+◌, ◌-◌, ◌^◌, ◌≤◌, ◌<◌, length, Option, Some, map, slice_get, slice_set};
+ghost use Rattle.b67_model.specs.Alone.{JobMoment};
 ghost use Rattle.b67_model.specs.InOrder.{NumberedFrom};
+ghost use Rattle.b67_model.specs.Keyed.{keyed};
+ghost use Rattle.b67_model.specs.Run.{number_of, with_moment};
 ghost use Rattle.b67_model.specs.Schedule.{Session, Switch};
+ghost use Rattle.b67_model.specs.State.{Member};
+ghost use Rattle.b67_layout.specs.Meets.{with_job};
 ghost use Rattle.b67_layout.specs.Plan.{Plan};
 ghost use Rattle.b67_task.specs.declared.tables.JobRow.{JobRow};
 ghost use Rattle.b67_task.specs.Tables.{switch_of, TasksShow};
@@ -45,6 +50,10 @@ fn first_left(switches: &[Switch], from: u32, made: u64) -> u32
 pub fn count(tasks: &mut Tasks, chosen: Chosen)
     requires { HasRoom tasks.old chosen }
     ensures counted { (plan : Plan) (s : Session) → NumberedFrom 1 s.jobs → TasksShow plan s tasks.old → TasksShow plan (counted s (choice_of chosen)) tasks.new }
+    // Of the tables once the operator has changed its job, it makes those of the session's step.
+    ensures moment { (plan : Plan) (s : Session) (m : Member) (made : JobMoment) → NumberedFrom 1 s.jobs
+        → keyed number_of chosen.job s.jobs ≡ Some m → made.course.made ≡ m.course.made + 1
+        → TasksShow plan (with_job s m made.course.job) tasks.old → TasksShow plan (with_moment s (choice_of chosen) m made) tasks.new }
     ensures rest { tasks.new ≡ record tasks.old {
         jobs = tasks.new.jobs;
         made = tasks.old.made + 1;
