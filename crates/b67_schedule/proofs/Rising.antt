@@ -1,7 +1,7 @@
 -- Switches whose counts rise: the one of a count, and whether one is left.
-use Rattle.std.proofs.Common.{◌≡◌, ℕ, zero, suc, ◌-◌, ◌<◌, ◌≤◌, ◌&&◌, ◌==◌, Bool, true, false, List, [], ◌∷◌, length, Option, Some, None, refl, sym, ◌∙◌, ap, arith, inl, inr, ◌⊎◌, subst, ltb, eqb, map, get_or}
+use Rattle.std.proofs.Common.{◌≡◌, ℕ, zero, suc, ◌+◌, ◌-◌, ◌^◌, ◌<◌, ◌≤◌, ◌&&◌, ◌==◌, Bool, true, false, List, [], ◌∷◌, length, Option, Some, None, refl, sym, ◌∙◌, ap, arith, inl, inr, ◌⊎◌, subst, ltb, eqb, map, get_or}
 use Rattle.std.specs.List.{slice_get, list_any}
-use Rattle.std.proofs.lemmas.Option.{same_Some, none-some, slice_get_within}
+use Rattle.std.proofs.lemmas.Option.{same_Some, none-some, slice_get_within, get_or_from_slice_get}
 use Rattle.std.proofs.lemmas.Bool.{cases_lt, cases_Bool, true≢false, lt-ltb, le-ltb, eq-eqb, ltb-true}
 use Rattle.std.proofs.lemmas.Bool.Decides.{eqb_tells}
 use Rattle.std.proofs.lemmas.List.{length-map}
@@ -10,12 +10,12 @@ use Rattle.b67_model.specs.Lists.{Has}
 use Rattle.b67_model.specs.InOrder.{SwitchesRise}
 use Rattle.b67_model.specs.Schedule.{Who, Switch, is_same}
 use Rattle.b67_order.proofs.Members.{any_some, any_has}
-use Rattle.b67_schedule.specs.Counted.{Past}
+use Rattle.b67_schedule.specs.Counted.{Past, IsLeft}
 use Rattle.b67_schedule.specs.Chosen.{SwitchesTo}
 use Rattle.b67_task.specs.Tables.{switch_of}
 use Rattle.b67_schedule.proofs.Nearer.{seen}
 use Rattle.b67_schedule.proofs.Orders.{same_is, is_self}
-use Rattle.b67_turn.proofs.Lists.{at_has, has_at, at_mapped}
+use Rattle.b67_turn.proofs.Lists.{at_has, has_at, at_mapped, mapped_at, there}
 
 rise_rest : (a : Switch) (more : List Switch) → SwitchesRise (a ∷ more) → SwitchesRise more
 rise_rest a [] h = h
@@ -113,3 +113,21 @@ named_one made xs who v rise k t =
     let (w, kw, q) = any_has (λ w. (w.count == made) && is_same w.to v) xs t in
     let (count, to) = of_count w made v q in
     sym to ∙ ap (λ (z : Switch). z.to) (rise_once xs w (record { count = made; to = who }) rise kw k count)
+
+-- the next switch is left, where the one before it was left before this operator
+pub next_left : (xs : List text.Switch) (from before made : ℕ) → SwitchesRise (map switch_of xs) → from < length xs → made ≤ before + 1 → IsLeft from before (map switch_of xs) → IsLeft (from + 1) made (map switch_of xs)
+next_left xs from before made rise inside more left = λ w at.
+    let (v, e) = there (map switch_of xs) from (omega (arith, inside, length-map xs switch_of)) in
+    omega (arith, more, left v e, rise_at (map switch_of xs) from (from + 1) v w rise (omega arith) e at)
+
+pub still_left : (xs : List text.Switch) (from made : ℕ) (d : text.Switch) → (from < length xs → made ≤ (get_or xs from d).count) → IsLeft from made (map switch_of xs)
+still_left xs from made d high = λ w at.
+    let (x, e, same) = mapped_at switch_of xs from w at in
+    omega (arith, high (slice_get_within xs from x e), ap (λ (v : text.Switch). v.count) (get_or_from_slice_get xs from x d e), ap (λ (v : Switch). v.count) same)
+
+pub lent_left : (lent xs : List text.Switch) (from next made : ℕ) → lent ≡ xs
+    → ((before : ℕ) → length lent < 2 ^ 32 → SwitchesRise (map switch_of lent) → made ≤ before + 1 → IsLeft from before (map switch_of lent) → IsLeft next made (map switch_of lent))
+    → (before : ℕ) → length xs < 2 ^ 32 → SwitchesRise (map switch_of xs) → made ≤ before + 1 → IsLeft from before (map switch_of xs) → IsLeft next made (map switch_of xs)
+lent_left lent xs from next made is h =
+    let P : List text.Switch → Type 0 = λ l. (before : ℕ) → length l < 2 ^ 32 → SwitchesRise (map switch_of l) → made ≤ before + 1 → IsLeft from before (map switch_of l) → IsLeft next made (map switch_of l) in
+    subst P is h

@@ -39,3 +39,7 @@ pub record HasRoom (tasks : Tasks) (c : Chosen) : Type 0 where
 -- the switches before this one are for counts below a number
 abbrev pub Past : ℕ → ℕ → List Switch → Type 0
 Past next made switches = (i : ℕ) (w : Switch) → i < next → slice_get switches i ≡ Some w → w.count < made
+
+-- and this one is not for a lower count
+abbrev pub IsLeft : ℕ → ℕ → List Switch → Type 0
+IsLeft next made switches = (w : Switch) → slice_get switches next ≡ Some w → made ≤ w.count

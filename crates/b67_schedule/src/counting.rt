@@ -2,7 +2,7 @@
 
 ghost use Rattle.std.specs.Prelude.{◌≡◌, ℕ, ◌+◌, ◌-◌, ◌^◌, ◌≤◌, ◌<◌, length, Option, Some, map, slice_get, slice_set};
 ghost use Rattle.b67_model.specs.Alone.{JobMoment};
-ghost use Rattle.b67_model.specs.InOrder.{NumberedFrom};
+ghost use Rattle.b67_model.specs.InOrder.{NumberedFrom, SwitchesRise};
 ghost use Rattle.b67_model.specs.Keyed.{keyed};
 ghost use Rattle.b67_model.specs.Run.{number_of, with_moment};
 ghost use Rattle.b67_model.specs.Schedule.{Session, Switch};
@@ -11,7 +11,7 @@ ghost use Rattle.b67_layout.specs.Meets.{with_job};
 ghost use Rattle.b67_layout.specs.Plan.{Plan};
 ghost use Rattle.b67_task.specs.declared.tables.JobRow.{JobRow};
 ghost use Rattle.b67_task.specs.Tables.{switch_of, TasksShow};
-ghost use Rattle.b67_schedule.specs.Counted.{choice_of, counted, counted_row, HasRoom, Past};
+ghost use Rattle.b67_schedule.specs.Counted.{choice_of, counted, counted_row, HasRoom, Past, IsLeft};
 
 use b67_task::{JobRow, Tasks};
 use b67_text::Switch;
@@ -34,11 +34,13 @@ fn count_of_job(rows: &mut [JobRow], at: usize)
     row.made += 1;
 }
 
-/// The first switch that is left, where one of them at most has become past since it was `from`.
+/// The first switch that is left, where that was `from` before one operator more was made.
 fn first_left(switches: &[Switch], from: u32, made: u64) -> u32
     requires { from ≤ length switches.now }
     ensures within { result ≤ length switches.now }
     ensures past { Past from made (map switch_of switches.now) → Past result made (map switch_of switches.now) }
+    ensures left { (before : ℕ) → length switches.now < 2 ^ 32 → SwitchesRise (map switch_of switches.now) → made ≤ before + 1
+        → IsLeft from before (map switch_of switches.now) → IsLeft result made (map switch_of switches.now) }
 {
     if (from as usize) < switches.len() && switches[from as usize].count < made {
         return from.saturating_add(1);
@@ -54,6 +56,10 @@ pub fn count(tasks: &mut Tasks, chosen: Chosen)
     ensures moment { (plan : Plan) (s : Session) (m : Member) (made : JobMoment) → NumberedFrom 1 s.jobs
         → keyed number_of chosen.job s.jobs ≡ Some m → made.course.made ≡ m.course.made + 1
         → TasksShow plan (with_job s m made.course.job) tasks.old → TasksShow plan (with_moment s (choice_of chosen) m made) tasks.new }
+    // Where the first switch that is left was known, it is known again.
+    ensures left { length tasks.old.switches < 2 ^ 32 → SwitchesRise (map switch_of tasks.old.switches)
+        → IsLeft tasks.old.next_switch tasks.old.made (map switch_of tasks.old.switches)
+        → IsLeft tasks.new.next_switch tasks.new.made (map switch_of tasks.new.switches) }
     ensures rest { tasks.new ≡ record tasks.old {
         jobs = tasks.new.jobs;
         made = tasks.old.made + 1;
