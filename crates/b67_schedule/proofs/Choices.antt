@@ -1,8 +1,8 @@
 -- The choice, by what the rows and switches tell.
-use Rattle.std.proofs.Common.{◌≡◌, ℕ, ◌<◌, ◌≤◌, ◌&&◌, ◌||◌, Bool, true, false, not, List, [], ◌∷◌, ◌++◌, map, filter, length, Option, Some, None, refl, sym, ◌∙◌, ap, arith, inl, inr, ◌⊎◌, subst, cond, ltb}
+use Rattle.std.proofs.Common.{◌≡◌, ℕ, ◌<◌, ◌≤◌, ◌&&◌, Bool, true, false, not, List, [], ◌∷◌, ◌++◌, map, filter, length, Option, Some, None, refl, sym, ◌∙◌, ap, arith, inl, inr, subst}
 use Rattle.std.specs.Prelude.{find, IfSome}
 use Rattle.std.proofs.lemmas.Option.{slice_get_within}
-use Rattle.std.specs.List.{slice_get, list_any}
+use Rattle.std.specs.List.{list_any}
 use Rattle.std.proofs.lemmas.Bool.{cases_Bool, true≢false}
 use Rattle.b67_model.specs.Lists.{Has}
 use Rattle.b67_model.specs.Schedule.{Who, Switch, Session, Choice, is_same, is_before, ready, switched, goes_on, first, next_after, afresh, choice_by, choice}
@@ -153,9 +153,12 @@ module _ (plan : Plan) (s : Session) (o : IsInOrderButPlaces s) (task_rows : Lis
     pub next_around : (last before : Who) (i : Option ℕ) → last ≡ s.last → before.job ≡ 0 → NextRow n task_rows last None → NextRow n task_rows before i → RowOf task_rows i (next_after s)
     next_around last before None is low none h =
         subst (λ (v : Who). cyclic v (ready s) ≡ None) is (cyclic_none last before (ready s) (none_after last none) (λ x k. before_job before x (omega (arith, low, from_one plan s o x k))) (none_after before h))
-    next_around last before (Some i) is low none h =
-        (h.who, h.at, subst (λ (v : Who). cyclic v (ready s) ≡ Some h.who) is
-        (cyclic_first last before (ready s) h.who rises (none_after last none) (λ x k. before_job before x (omega (arith, low, from_one plan s o x k))) (in_row i h.who h.at) (least before i h)))
+    next_around last before (Some i) is low none h = (
+      h.who,
+      h.at,
+      subst (λ (v : Who). cyclic v (ready s) ≡ Some h.who) is
+          (cyclic_first last before (ready s) h.who rises (none_after last none) (λ x k. before_job before x (omega (arith, low, from_one plan s o x k))) (in_row i h.who h.at) (least before i h)),
+    )
 
 pub ready_inside : (task_rows : List TaskRow) (who : Who) (i : Option ℕ) → ReadyRow task_rows who i → IfSome i (λ k. k < length task_rows)
 ready_inside task_rows who None h = tt

@@ -1,5 +1,5 @@
 -- The tables once a task has made one operator more.
-use Rattle.std.proofs.Common.{◌≡◌, ℕ, zero, suc, ◌+◌, ◌-◌, ◌<◌, ◌≤◌, List, [], ◌∷◌, ◌++◌, length, map, take, drop, Option, Some, None, refl, sym, ◌∙◌, ap, arith, inl, inr, ◌⊎◌, slice_set, subst, get_or}
+use Rattle.std.proofs.Common.{◌≡◌, ℕ, zero, suc, ◌+◌, ◌-◌, ◌<◌, ◌≤◌, List, [], ◌∷◌, ◌++◌, length, map, take, drop, Some, refl, sym, ◌∙◌, ap, arith, inl, inr, ◌⊎◌, slice_set, subst, get_or}
 use Rattle.std.specs.List.{slice_get}
 use Rattle.std.proofs.lemmas.Option.{same_Some, get_or_from_slice_get, none-some}
 use Rattle.std.proofs.lemmas.List.{length-map}
@@ -20,7 +20,7 @@ use Rattle.b67_task.specs.declared.tables.Tasks.{Tasks}
 use Rattle.b67_task.specs.Tables.{task_row, job_row, switch_of, counts_of, TasksShow}
 use Rattle.b67_schedule.specs.declared.counting.Chosen.{Chosen}
 use Rattle.b67_schedule.specs.Counted.{choice_of, counted_member, counted_row, counted, HasRoom, Past}
-use Rattle.b67_turn.proofs.Lists.{there, mapped_at, at_mapped, map-slice_set}
+use Rattle.b67_turn.proofs.Lists.{mapped_at, at_mapped, map-slice_set}
 
 -- one switch more is past
 pub past_grown : (xs : List text.Switch) (from made n : ℕ) (d : text.Switch) → from < length xs → (get_or xs from d).count < made → n ≤ from + 1 → Past from made (map switch_of xs) → Past n made (map switch_of xs)
@@ -69,7 +69,13 @@ jobs_counted plan k i n (m ∷ more) [] r e d h at = absurd h
 jobs_counted plan k zero n (m ∷ more) (q ∷ job_rows) r e d h at = elim (eqb_tells (number_of m) n) [
   | inl t ↦ let same : q ≡ r = same_Some q r at in
       let shows : JobShows plan (counted_member m) (row_counted q) = record {
-        dictionary = h.0.dictionary; segments = h.0.segments; rows = h.0.rows; limit = h.0.limit; made = omega (arith, h.0.made); next_task = h.0.next_task; numbers = h.0.numbers
+        dictionary = h.0.dictionary;
+        segments = h.0.segments;
+        rows = h.0.rows;
+        limit = h.0.limit;
+        made = omega (arith, h.0.made);
+        next_task = h.0.next_task;
+        numbers = h.0.numbers;
       } in
       rw t.0 (subst (λ (z : rows.JobRow). JobShows plan (counted_member m) (row_counted z)) same shows, h.1)
   | inr t ↦ absurd (t.1 (omega (arith, d.0, e)))

@@ -1,11 +1,11 @@
 -- The first ready task after another, among more and more rows.
-use Rattle.std.proofs.Common.{◌≡◌, ℕ, suc, ◌+◌, ◌<◌, ◌≤◌, Bool, true, false, List, [], ◌∷◌, length, Option, Some, None, refl, sym, ◌∙◌, ap, arith, inl, inr, ◌⊎◌, subst, get_or}
+use Rattle.std.proofs.Common.{◌≡◌, ℕ, ◌+◌, ◌<◌, true, false, List, length, Option, Some, None, refl, sym, ◌∙◌, ap, arith, inl, inr, subst, get_or}
 use Rattle.std.specs.List.{slice_get}
-use Rattle.std.proofs.lemmas.Option.{same_Some, get_or_from_slice_get, slice_get_within}
+use Rattle.std.proofs.lemmas.Option.{same_Some, get_or_from_slice_get}
 use Rattle.std.proofs.lemmas.Bool.{cases_lt, cases_Bool, true≢false}
 use Rattle.b67_model.specs.Schedule.{Who, is_before, is_same}
 use Rattle.b67_task.specs.declared.tables.TaskRow.{TaskRow}
-use Rattle.b67_schedule.specs.Chosen.{who_of, is_ready, comes, is_row_of, IsReadyAt, ReadyRow, IsNextAt, NextRow}
+use Rattle.b67_schedule.specs.Chosen.{who_of, is_ready, comes, is_row_of, IsReadyAt, IsNextAt, NextRow}
 use Rattle.b67_schedule.proofs.Orders.{before_same, before_after, same_is, is_self}
 use Rattle.b67_turn.proofs.Lists.{there}
 

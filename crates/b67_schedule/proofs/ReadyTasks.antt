@@ -1,6 +1,5 @@
 -- The ready tasks of a session, in order, and their rows.
-use Rattle.std.proofs.Common.{◌≡◌, ℕ, zero, suc, ◌+◌, ◌<◌, ◌≤◌, Bool, true, false, not, List, [], ◌∷◌, ◌++◌, map, filter, flat_map, reverse, length, Option, Some, None, refl, sym, ◌∙◌, ap, arith, inl, inr, ◌⊎◌, subst}
-use Rattle.std.specs.List.{slice_get}
+use Rattle.std.proofs.Common.{◌≡◌, ℕ, ◌+◌, ◌≤◌, true, List, [], ◌∷◌, ◌++◌, map, filter, flat_map, reverse, refl, sym, ◌∙◌, ap, arith, inl, inr, subst}
 use Rattle.std.proofs.lemmas.List.{map-append}
 use Rattle.std.proofs.lemmas.List.Elements.{filter-append}
 use Rattle.std.proofs.lemmas.Bool.{cases_Bool, true≢false}
@@ -9,7 +8,7 @@ use Rattle.b67_model.specs.State.{Condition, Ready, Awaits, WaitsAt, Task, Job, 
 use Rattle.b67_model.specs.Endings as model
 use Rattle.b67_model.specs.Schedule.{Who, Session, is_before, ready_of, ready}
 use Rattle.b67_model.specs.InOrder.{JobInOrder, IsSegment, NumberedFrom, IsInOrderButPlaces}
-use Rattle.b67_order.proofs.Members.{has_append_left, has_append_right, has_append_cases, has_map, has_map_back, has_flat, has_filter, has_filter_in, has_reverse, has_reverse_back, reverse_cons, falls_low, all_in}
+use Rattle.b67_order.proofs.Members.{has_append_cases, has_map, has_map_back, has_flat, has_filter, has_filter_in, has_reverse, has_reverse_back, reverse_cons, falls_low, all_in}
 use Rattle.b67_layout.specs.Plan.{Plan}
 use Rattle.b67_layout.specs.Rows as rows
 use Rattle.b67_layout.specs.Rows.{IsReady, AwaitsTask, WaitsAtCell, shown, TaskShows, TablesShow}

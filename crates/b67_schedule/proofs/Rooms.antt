@@ -1,6 +1,6 @@
 -- When no task is chosen, and that one operator more of a chosen task fits the counts.
-use Rattle.std.proofs.Common.{◌≡◌, ℕ, suc, ◌+◌, ◌*◌, ◌-◌, ◌<◌, ◌≤◌, ◌⊎◌, ◌↔◌, Bool, true, false, not, List, [], ◌∷◌, ◌++◌, map, filter, length, Option, Some, None, refl, sym, ◌∙◌, ap, arith, inl, inr, subst}
-use Rattle.std.specs.Prelude.{sum_by, option_map, IfSome}
+use Rattle.std.proofs.Common.{◌≡◌, ℕ, ◌*◌, ◌-◌, ◌≤◌, ◌↔◌, Bool, true, false, not, List, [], ◌∷◌, ◌++◌, map, filter, length, Option, Some, None, refl, sym, ◌∙◌, ap, arith, inl, inr, subst}
+use Rattle.std.specs.Prelude.{sum_by, IfSome}
 use Rattle.std.specs.List.{slice_get}
 use Rattle.std.proofs.lemmas.List.{length-map}
 use Rattle.std.proofs.lemmas.List.Sums.{sum_by-cons}
@@ -13,13 +13,11 @@ use Rattle.b67_model.specs.Schedule.{Who, Session, Choice, is_before, ready, swi
 use Rattle.b67_order.proofs.Members.{all_in}
 use Rattle.b67_layout.specs.Plan.{Plan}
 use Rattle.b67_layout.specs.Rows as rows
-use Rattle.b67_task.specs.declared.tables.TaskRow.{TaskRow}
-use Rattle.b67_task.specs.declared.tables.JobRow.{JobRow}
 use Rattle.b67_task.specs.declared.tables.Tasks.{Tasks}
 use Rattle.b67_task.specs.Tables.{job_row, switch_of, counts_of, TasksShow}
 use Rattle.b67_schedule.specs.declared.counting.Chosen.{Chosen}
 use Rattle.b67_schedule.specs.Counted.{choice_of, HasRoom}
-use Rattle.b67_schedule.specs.Chosen.{IsReadyAt, RowOf, Chooses}
+use Rattle.b67_schedule.specs.Chosen.{IsReadyAt, Chooses}
 use Rattle.b67_schedule.proofs.ReadyTasks.{among_members, among_tasks, row_ready}
 use Rattle.b67_schedule.proofs.Choices.{cyclic}
 use Rattle.b67_turn.proofs.Lists.{mapped_at}

@@ -10,7 +10,7 @@ ghost use Rattle.b67_schedule.specs.Counted.{choice_of, HasRoom};
 ghost use Rattle.b67_schedule.specs.Chosen.{who_is, turn_lasts, IsReadyAt, RowOf, GoesOnAt, Chooses};
 
 use crate::counting::Chosen;
-use crate::ready::{next_row, ready_row, Who};
+use crate::ready::{Who, next_row, ready_row};
 use crate::switches::{is_left, switch_to};
 use b67_task::Tasks;
 
@@ -111,8 +111,5 @@ pub fn schedule(tasks: &Tasks) -> Option<u8>
     ensures row { (plan : Plan) (s : Session) → IsInOrderButPlaces s → TasksShow plan s tasks.now → RowOf tasks.now.rows.items result (option_map (λ c. c.who) (choice s)) }
     ensures none { (plan : Plan) (s : Session) → IsInOrderButPlaces s → TasksShow plan s tasks.now → (result ≡ None) ↔ (ready s ≡ []) }
 {
-    match choose(tasks) {
-        Some(chosen) => Some(chosen.row),
-        None => None,
-    }
+    Some(choose(tasks)?.row)
 }

@@ -16,7 +16,8 @@ ghost use Rattle.b67_schedule.specs.Counted.{choice_of, counted, counted_row, Ha
 use b67_task::{JobRow, Tasks};
 use b67_text::Switch;
 
-/// The task that makes the next operator: its row, its job and number, and how many operators of its turn it has made.
+/// The task that makes the next operator: its row; its job and number, from 1 on; and how many operators of its turn it
+/// has made.
 #[derive(Clone, Copy, Debug, PartialEq, Eq)]
 pub struct Chosen {
     pub row: u8,
@@ -48,7 +49,8 @@ fn first_left(switches: &[Switch], from: u32, made: u64) -> u32
     from
 }
 
-/// The task has made one operator more, which was the last one.
+/// Counts one operator of the chosen task, in the session, in its job and in its turn; that task is then the last one.
+/// All else of the tables stays.
 pub fn count(tasks: &mut Tasks, chosen: Chosen)
     requires { HasRoom tasks.old chosen }
     ensures counted { (plan : Plan) (s : Session) → NumberedFrom 1 s.jobs → TasksShow plan s tasks.old → TasksShow plan (counted s (choice_of chosen)) tasks.new }
@@ -61,12 +63,12 @@ pub fn count(tasks: &mut Tasks, chosen: Chosen)
         → IsLeft tasks.old.next_switch tasks.old.made (map switch_of tasks.old.switches)
         → IsLeft tasks.new.next_switch tasks.new.made (map switch_of tasks.new.switches) }
     ensures rest { tasks.new ≡ record tasks.old {
-        jobs = tasks.new.jobs;
-        made = tasks.old.made + 1;
-        last_job = chosen.job;
-        last_number = chosen.number;
-        turn = chosen.turn + 1;
-        next_switch = tasks.new.next_switch;
+      jobs = tasks.new.jobs;
+      made = tasks.old.made + 1;
+      last_job = chosen.job;
+      last_number = chosen.number;
+      turn = chosen.turn + 1;
+      next_switch = tasks.new.next_switch;
     } }
 {
     tasks.made += 1;

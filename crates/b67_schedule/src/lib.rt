@@ -7,4 +7,4 @@ mod ready;
 mod switches;
 
 pub use choosing::{choose, schedule};
-pub use counting::{count, Chosen};
+pub use counting::{Chosen, count};

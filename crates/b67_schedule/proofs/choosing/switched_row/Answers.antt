@@ -1,6 +1,5 @@
-use Rattle.std.proofs.Common.{Some, None, map, length, ap, ◌<◌, ◌≡◌, subst, List}
+use Rattle.std.proofs.Common.{Some, None, map}
 use Rattle.b67_task.specs.Tables.{job_row, counts_of}
-use Rattle.b67_task.specs.declared.tables.TaskRow.{TaskRow}
 use Rattle.b67_schedule.specs.Chosen.{who_is}
 use Rattle.b67_schedule.proofs.Choices.{rises_there, switched_at, switched_none, lent_named, lent_ready, ready_inside}
 use Rattle.b67_schedule.proofs.choosing.switched_row.Goals as goal

@@ -1,4 +1,4 @@
-use Rattle.std.proofs.Common.{ℕ, length, ap, subst, arith, ◌≡◌}
+use Rattle.std.proofs.Common.{ℕ, length, subst, arith, ◌≡◌}
 use Rattle.b67_schedule.specs.Chosen.{who_is, NextRow}
 use Rattle.b67_schedule.proofs.ready.next_row.Goals as goal
 
