@@ -8,4 +8,6 @@ pub mod Displays
 pub mod Whole
 pub mod Settles
 pub mod Starts
+pub mod Fresh
+pub mod Gone
 pub mod Witness

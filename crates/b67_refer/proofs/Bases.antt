@@ -1,5 +1,5 @@
 -- Where the stacks begin that a word may name.
-use Rattle.std.proofs.Common.{◌≡◌, ℕ, ◌+◌, ◌-◌, ◌*◌, ◌<◌, ◌≤◌, ◌^◌, refl, sym, ◌∙◌, ap, arith, false, true, ◌⊎◌, ⊎_elim, inl, inr, List, length}
+use Rattle.std.proofs.Common.{◌≡◌, ℕ, ◌+◌, ◌-◌, ◌*◌, ◌<◌, ◌≤◌, ◌^◌, refl, sym, ◌∙◌, ap, arith, false, true, ⊎_elim, List, length}
 use Rattle.std.specs.Prelude.{nat_lt}
 use Rattle.std.proofs.lemmas.Bool.{lt-ltb, le-ltb}
 use Rattle.b67_word.specs.Tagged.{Tagged}
@@ -14,7 +14,7 @@ use Rattle.b67_layout.proofs.Others.{keyed-has}
 use Rattle.b67_refer.specs.Scene.{Scene, IsStackOf}
 
 module _ (core : List Tagged) (r : Regs) (a : Scene core r) where
-  abbrev pictured : Picture
+  abbrev pub pictured : Picture
   pictured = with_things a.left (picture a.plan a.session.jobs)
 
   -- a slot lies inside core

@@ -1,5 +1,5 @@
 -- The environment of the running task, level by level.
-use Rattle.std.proofs.Common.{◌≡◌, ◌≢◌, ℕ, zero, suc, ◌+◌, ◌-◌, ◌<◌, ◌≤◌, List, [], ◌∷◌, map, Some, refl, sym, ◌∙◌, ap, arith, inl, inr, subst, length, slice_set, ◌⊎◌, ⊎_elim}
+use Rattle.std.proofs.Common.{◌≡◌, ◌≢◌, ℕ, zero, suc, ◌+◌, ◌-◌, ◌<◌, ◌≤◌, List, [], ◌∷◌, map, Some, refl, sym, ◌∙◌, ap, arith, inl, inr, subst, length, slice_set, ⊎_elim}
 use Rattle.std.specs.List.{slice_get}
 use Rattle.std.proofs.lemmas.Bool.{cases_eq}
 use Rattle.b67_core.proofs.Writes.{slice_get-set_same, slice_get-set_other}
@@ -16,12 +16,12 @@ use Rattle.b67_model.specs.InOrder.{Starts, Known, known_of, outer_of, reach_of,
 use Rattle.b67_order.proofs.Members.{has_append_left, has_map}
 use Rattle.b67_stack.specs.Stacks as Stacks
 use Rattle.b67_stack.proofs.Tops.{level-small}
-use Rattle.b67_layout.specs.Plan.{Plan, slot_of, outer_spots, address_of}
-use Rattle.b67_layout.specs.Session.{frame_address, Shows}
+use Rattle.b67_layout.specs.Plan.{slot_of, outer_spots, address_of}
+use Rattle.b67_layout.specs.Session.{frame_address}
 use Rattle.b67_layout.specs.Meets.{here}
 use Rattle.b67_layout.proofs.Frames.{level-is}
 use Rattle.b67_refer.specs.Scene.{Scene, IsShown, IsStackOf}
-use Rattle.b67_refer.proofs.Slots.{Whole, whole, registers}
+use Rattle.b67_refer.proofs.Slots.{whole, registers}
 use Rattle.b67_refer.proofs.Seats.{has_task, order_of}
 use Rattle.b67_refer.proofs.Marks.{MarkOf, mark, frame_known}
 

@@ -5,3 +5,13 @@ pub mod Bases
 pub mod Marks
 pub mod Chains
 pub mod Turns
+pub mod Rule
+pub mod Fixed
+pub mod Unders
+pub mod Founds
+pub mod Copies
+pub mod Links
+pub mod Procs
+pub mod Names
+pub mod Follows
+pub mod Scans

@@ -1,30 +1,30 @@
 -- What the running task sees at an identity of its reach: the frame, and the mark in core that names its environment.
-use Rattle.std.proofs.Common.{◌≡◌, ◌≢◌, ℕ, zero, suc, ◌+◌, ◌-◌, ◌*◌, ◌<◌, ◌≤◌, ◌^◌, List, [], ◌∷◌, ◌++◌, map, flat_map, Option, Some, None, unwrap_or, refl, sym, ◌∙◌, ap, arith, Bool, true, false, ◌==◌, ◌⊎◌, ⊎_elim, inl, inr, subst, eqb, cond}
+use Rattle.std.proofs.Common.{◌≡◌, ℕ, ◌+◌, ◌-◌, ◌<◌, ◌≤◌, List, [], ◌∷◌, ◌++◌, map, flat_map, Option, Some, None, unwrap_or, refl, sym, ◌∙◌, ap, arith, Bool, true, false, ◌==◌, ⊎_elim, inl, inr, subst, eqb, cond}
 use Rattle.std.specs.Prelude.{if◌then◌else◌, nat_lt}
 use Rattle.std.specs.List.{slice_get}
-use Rattle.std.proofs.lemmas.Bool.{cases_Bool, cases_lt, eq-eqb, eqb-true, ne_eqb, lt-ltb, le-ltb}
+use Rattle.std.proofs.lemmas.Bool.{cases_lt, ne_eqb, lt-ltb, le-ltb}
 use Rattle.std.proofs.lemmas.Bool.Decides.{eqb_tells}
 use Rattle.b67_word.specs.Tagged.{Tagged}
 use Rattle.b67_ctl.specs.declared.registers.Regs.{Regs}
 use Rattle.b67_ctl.specs.declared.marks.Mscw.{Mscw}
 use Rattle.b67_ctl.specs.Layout.{mscw_word, IsMscw}
-use Rattle.b67_model.specs.Lists.{Has, Falls, how_many}
+use Rattle.b67_model.specs.Lists.{Has, how_many}
 use Rattle.b67_model.specs.Keyed.{keyed}
-use Rattle.b67_model.specs.State.{Frame, Standing, Marked, Entered, Return, Task, Job, Setting, Here, height, mcp, no_frame, all_frames, frame}
+use Rattle.b67_model.specs.State.{Frame, Standing, Marked, Entered, Task, Here, height, mcp, no_frame, frame}
 use Rattle.b67_model.specs.Environment.{level_of_standing, environment_of}
-use Rattle.b67_model.specs.InOrder.{Known, known_of, known_numbers, from_frame, frames_of_task, critical_of, base as base_known, outer_reach, outer_of, reach_of, IsEntered, ParentInOrder, BirthInOrder, StandsInOrder, EnvironmentInOrder, TasksInOrder, IsSegment, frames_named}
+use Rattle.b67_model.specs.InOrder.{Known, known_of, known_numbers, from_frame, frames_of_task, critical_of, base as base_known, reach_of, IsEntered, ParentInOrder, BirthInOrder, StandsInOrder, EnvironmentInOrder, IsSegment, frames_named}
 use Rattle.b67_stack.specs.Stacks.{Spot}
-use Rattle.b67_order.proofs.Members.{has_append_left, has_append_right, has_append_cases, has_map, has_map_back, keyed_has, keyed_left, keyed_right, total_flat, total_zero, none_pass}
-use Rattle.b67_order.proofs.Looks.{IsFrame, Line, line_of, above_one, found_frame}
-use Rattle.b67_layout.specs.Plan.{Plan, slot_of, spot_in, base_spot, outer_spots, spots, base_of, address_of}
-use Rattle.b67_layout.specs.Session.{frame_address, DictionaryStands}
+use Rattle.b67_order.proofs.Members.{has_append_right, has_append_cases, has_map, has_map_back, keyed_has, keyed_left, keyed_right, total_flat, total_zero, none_pass}
+use Rattle.b67_order.proofs.Looks.{Line, line_of, above_one, found_frame}
+use Rattle.b67_layout.specs.Plan.{slot_of, spot_in, base_spot, outer_spots, spots, address_of}
+use Rattle.b67_layout.specs.Session.{frame_address}
 use Rattle.b67_layout.specs.Meets.{here}
 use Rattle.b67_layout.proofs.Others.{keyed-has}
 use Rattle.b67_word.specs.declared.couples.Place.{Place}
 use Rattle.b67_stack.specs.Stacks as Stacks
 use Rattle.b67_layout.specs.Layout.{head}
 use Rattle.b67_refer.specs.Scene.{Scene, IsStackOf}
-use Rattle.b67_refer.proofs.Slots.{Part, TopIs, mark_in, part_mark, base, acts}
+use Rattle.b67_refer.proofs.Slots.{mark_in, part_mark, base, acts}
 use Rattle.b67_refer.proofs.Seats.{spot_low, from_has, Seat, seat, has_task, order_of}
 
 module _ (core : List Tagged) (r : Regs) (a : Scene core r) where
@@ -172,6 +172,14 @@ module _ (core : List Tagged) (r : Regs) (a : Scene core r) where
         stack = subst (λ (z : Spot). IsStackOf a z.stack) seen (stack_known environment order.standing under);
         address = ap (address_of a.plan) (sym seen);
       }
+
+  -- a frame of a task is entered at level 2 or more
+  pub high_level : (id : ℕ) (s : Standing) → Has (reach_of a.member.course.job a.task) (id, s) → IsEntered s → 1 < id → 2 ≤ level_of_standing s
+  high_level id Marked m e high = absurd e
+  high_level id (Entered level environment back) m e high =
+      let b = seat core r a id (Entered level environment back) m high in
+      let order : EnvironmentInOrder (map known_of b.below ++ b.known) level environment = subst (λ (z : Standing). StandsInOrder (map known_of b.below ++ b.known) z) b.stands b.order.1 in
+      order.low
 
   dictionary_mark : Mscw
   dictionary_mark = record { far = true; entered = true; env_stack = 136; env_disp = 0; value = false; level = 1; back = 0 }

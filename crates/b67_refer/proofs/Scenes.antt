@@ -1,5 +1,5 @@
 -- What a session in order gives references to rest on.
-use Rattle.std.proofs.Common.{◌≡◌, ℕ, ◌+◌, ◌<◌, ◌≤◌, List, [], ◌∷◌, length, arith, subst, inl, inr}
+use Rattle.std.proofs.Common.{ℕ, ◌+◌, ◌<◌, ◌≤◌, List, [], ◌∷◌, length, arith, subst, inl, inr}
 use Rattle.b67_word.specs.Tagged.{Tagged}
 use Rattle.b67_ctl.specs.declared.registers.Regs.{Regs}
 use Rattle.b67_model.specs.Lists.{Has}
@@ -7,11 +7,10 @@ use Rattle.b67_model.specs.State.{Task, Member}
 use Rattle.b67_model.specs.Schedule.{Session}
 use Rattle.b67_model.specs.InOrder.{JobInOrder, IsSegment, NumberedFrom, IsInOrderButPlaces}
 use Rattle.b67_order.proofs.Members.{all_in}
-use Rattle.b67_stack.specs.declared.Cpu.{Cpu}
 use Rattle.b67_stack.specs.Picture.{Thing}
 use Rattle.b67_stack.specs.Stands.{Storage}
 use Rattle.b67_layout.specs.Plan.{Plan}
-use Rattle.b67_layout.specs.Session.{IsRunning, SessionHoldsBut, SessionStandsBut}
+use Rattle.b67_layout.specs.Session.{IsRunning, SessionHoldsBut}
 use Rattle.b67_layout.proofs.Others.{keyed-has}
 use Rattle.b67_refer.specs.Scene.{MemberInOrder, Scene}
 

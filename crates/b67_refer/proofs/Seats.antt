@@ -1,19 +1,20 @@
 -- Where the frames of the running task's reach lie, in whichever stack.
-use Rattle.std.proofs.Common.{◌≡◌, ◌≢◌, ℕ, ◌+◌, ◌<◌, ◌≤◌, List, [], ◌∷◌, ◌++◌, map, flat_map, Option, Some, None, unwrap_or, refl, sym, ◌∙◌, ap, arith, Bool, true, false, ◌==◌, ◌⊎◌, ⊎_elim, inl, inr, subst, eqb, cond}
-use Rattle.std.proofs.lemmas.Bool.{cases_Bool, eq-eqb, eqb-true, ne_eqb}
+use Rattle.std.proofs.Common.{◌≡◌, ℕ, ◌<◌, ◌≤◌, List, [], ◌∷◌, ◌++◌, map, Option, Some, refl, sym, ◌∙◌, ap, arith, true, false, ◌==◌, ⊎_elim, inl, inr, subst}
+use Rattle.std.proofs.lemmas.Bool.{cases_Bool, eq-eqb, ne_eqb}
 use Rattle.b67_word.specs.Tagged.{Tagged}
 use Rattle.b67_ctl.specs.declared.registers.Regs.{Regs}
-use Rattle.b67_model.specs.Lists.{Has, Falls, how_many}
+use Rattle.b67_model.specs.Lists.{Has, Falls}
 use Rattle.b67_model.specs.Keyed.{keyed}
-use Rattle.b67_model.specs.State.{Frame, Standing, Entered, Task, Job, Setting, Here, height, mcp, no_frame, all_frames, frame}
-use Rattle.b67_model.specs.InOrder.{Known, known_of, known_numbers, from_frame, frames_of_task, critical_of, base as base_known, outer_reach, outer_of, reach_of, FramesInOrder, ParentInOrder, BirthInOrder, TaskInOrder, TasksInOrder, IsSegment, frames_named}
+use Rattle.b67_model.specs.State.{Frame, Standing, Task, height}
+use Rattle.b67_model.specs.InOrder.{Known, known_of, known_numbers, from_frame, frames_of_task, critical_of, base as base_known, outer_reach, outer_of, reach_of, FramesInOrder, ParentInOrder, BirthInOrder, TaskInOrder, IsSegment}
 use Rattle.b67_stack.specs.Stacks.{Spot}
-use Rattle.b67_order.proofs.Members.{has_append_left, has_append_right, has_append_cases, has_map, has_map_back, all_in, keyed_has, keyed_left, keyed_right, falls_low, falls_append_right, total_flat, total_zero, none_pass}
-use Rattle.b67_order.proofs.Looks.{IsFrame, Line, line_of, above_one, found_frame}
+use Rattle.b67_order.proofs.Members.{has_append_right, has_append_cases, has_map, has_map_back, all_in, keyed_has, falls_low}
+use Rattle.b67_order.proofs.Looks.{IsFrame}
 use Rattle.b67_order.proofs.Replaced.{numbers_append}
-use Rattle.b67_layout.specs.Plan.{Plan, slot_of, spot_in, base_spot, outer_spots, spots}
-use Rattle.b67_refer.specs.Scene.{Scene, MemberInOrder, number_in, job_in}
-use Rattle.b67_refer.proofs.Slots.{Part, TopIs, drop, part_from, Whole, whole}
+use Rattle.b67_layout.specs.Plan.{slot_of, spot_in, outer_spots, spots}
+use Rattle.b67_refer.specs.Scene.{Scene}
+use Rattle.b67_refer.specs.Cells.{IsTop}
+use Rattle.b67_refer.proofs.Slots.{Part, drop, part_from, whole}
 
 -- what other frames' spots look like: frames whose identities are above one don't hide the dictionary and the MCP
 pub spot_low : (k : ℕ) (outer : ℕ → Spot) (fs : List Frame) (id : ℕ) → id ≤ 1 → ((f : Frame) → Has fs f → 1 < f.identity) → spot_in k outer fs id ≡ outer id
@@ -42,7 +43,7 @@ module _ (core : List Tagged) (r : Regs) (a : Scene core r) where
     pub stands : frame.standing ≡ s
     pub spot : view id ≡ record { stack = slot; disp = height below }
     pub part : Part core r a slot outer top (frame ∷ below)
-    pub top_is : TopIs core r a slot top
+    pub top_is : IsTop a slot top
     pub sees : (g : ℕ) → Has (known_numbers (map known_of (frame ∷ below) ++ known)) g → view g ≡ spot_in slot outer (frame ∷ below) g
     pub among : (k : Known) → Has (map known_of (frame ∷ below) ++ known) k → Has reach k
     pub order : FramesInOrder (IsSegment a.member.setting) a.member.course.job.arrays known (frame ∷ below)
@@ -77,7 +78,7 @@ module _ (core : List Tagged) (r : Regs) (a : Scene core r) where
       }
 
   -- among frames of one stack
-  find_in : (k : ℕ) (outer : ℕ → Spot) (known : List Known) (top bound : ℕ) (fs : List Frame) → Part core r a k outer top fs → TopIs core r a k top
+  find_in : (k : ℕ) (outer : ℕ → Spot) (known : List Known) (top bound : ℕ) (fs : List Frame) → Part core r a k outer top fs → IsTop a k top
       → FramesInOrder (IsSegment a.member.setting) a.member.course.job.arrays known fs → ((f : Frame) → Has fs f → IsFrame a.member.course.job f) → Falls bound (known_numbers (map known_of fs ++ known))
       → (id : ℕ) (s : Standing) → Has (map known_of fs) (id, s) → Seat (spot_in k outer fs) (map known_of fs ++ known) id s
   find_in k outer known top bound [] p t o live falls id s h = absurd h
@@ -134,7 +135,7 @@ module _ (core : List Tagged) (r : Regs) (a : Scene core r) where
       rw ne (apart f.identity fs known g falls.1 h k outer)
 
   -- frames of one stack over an outer reach
-  find_both : (k : ℕ) (outer : ℕ → Spot) (known : List Known) (top bound : ℕ) (fs : List Frame) → Part core r a k outer top fs → TopIs core r a k top
+  find_both : (k : ℕ) (outer : ℕ → Spot) (known : List Known) (top bound : ℕ) (fs : List Frame) → Part core r a k outer top fs → IsTop a k top
       → FramesInOrder (IsSegment a.member.setting) a.member.course.job.arrays known fs → ((f : Frame) → Has fs f → IsFrame a.member.course.job f) → Falls bound (known_numbers (map known_of fs ++ known))
       → (id : ℕ) (s : Standing) → (Has known (id, s) → Seat outer known id s) → Has (map known_of fs ++ known) (id, s) → Seat (spot_in k outer fs) (map known_of fs ++ known) id s
   find_both k outer known top bound fs p t o live falls id s rest h = ⊎_elim
@@ -172,7 +173,7 @@ module _ (core : List Tagged) (r : Regs) (a : Scene core r) where
       find_both k outer known w.top down.0 fs (part_from core r a k outer w.top u.critical q.frames part) w.top_is (order_from known u.critical q.frames frames)
       (λ f m. record { task = q; live = at.0; among = from_has u.critical q.frames f m }) down.1 id s (λ m. find_outer q at.0 more birth.line id s high m) h' in
       let F : ℕ → Option Task → Type 0 = λ i v. Seat (spot_in i (outer_spots a.plan a.member.setting.number job (critical_of v) more) (from_frame u.critical (frames_of_task v)))
-          (map known_of (from_frame u.critical (frames_of_task v)) ++ outer_reach job (critical_of v) more) id s in
+      (map known_of (from_frame u.critical (frames_of_task v)) ++ outer_reach job (critical_of v) more) id s in
       let G : ℕ → Type 0 = λ i. F i (Some q) in
       let H : Option Task → Type 0 = λ v. F (slot_of a.plan a.member.setting.number n) v in
       subst H (sym birth.found) (subst G (sym slot_is) seat)

@@ -1,33 +1,31 @@
 -- Where a live task's stack lies, and its parts from a frame down.
-use Rattle.std.proofs.Common.{◌≡◌, ◌≢◌, ℕ, suc, ◌+◌, ◌*◌, ◌<◌, ◌≤◌, ◌^◌, List, [], ◌∷◌, ◌++◌, length, map, Option, Some, None, refl, sym, ◌∙◌, ap, arith, Bool, true, false, ◌==◌, ◌⊎◌, ⊎_elim, inl, inr, subst}
+use Rattle.std.proofs.Common.{◌≡◌, ℕ, suc, ◌+◌, ◌*◌, ◌<◌, ◌≤◌, ◌^◌, List, [], ◌∷◌, length, map, Some, refl, sym, ◌∙◌, ap, arith, Bool, true, false, ◌==◌, ◌⊎◌, ⊎_elim, inl, inr, subst}
 use Rattle.std.specs.Prelude.{if◌then◌else◌}
 use Rattle.std.specs.List.{slice_get}
 use Rattle.std.proofs.lemmas.Bool.{cases_Bool, eq-eqb, eqb-true}
 use Rattle.b67_word.specs.Tagged.{Tagged}
 use Rattle.b67_ctl.specs.declared.registers.Regs.{Regs}
 use Rattle.b67_ctl.specs.declared.marks.Mscw.{Mscw}
-use Rattle.b67_ctl.specs.declared.marks.Toscw.{Toscw}
-use Rattle.b67_ctl.specs.Layout.{mscw_word, IsMscw, toscw_word, IsToscw}
-use Rattle.b67_model.specs.Lists.{Has}
+use Rattle.b67_ctl.specs.Layout.{mscw_word, IsMscw, IsToscw}
 use Rattle.b67_model.specs.Keyed.{keyed}
-use Rattle.b67_model.specs.State.{Frame, Task, Job, Member, height}
+use Rattle.b67_model.specs.State.{Frame, Task, Member, height}
 use Rattle.b67_model.specs.Run.{number_of}
 use Rattle.b67_model.specs.InOrder.{from_frame}
-use Rattle.b67_stack.specs.Shapes.{Map, Shape, Fits, Lie}
-use Rattle.b67_stack.specs.Stacks.{Spot, Head, Marked, Entered, Activation, IsStack, HeadFits, HeadsFit, head_size, top_size, high, mark_of, headed, words, toscw_of, mark_place, running_level}
-use Rattle.b67_stack.specs.Picture.{Slot, Running, Waiting, stack_of, slot_base, SlotFits, Picture}
+use Rattle.b67_stack.specs.Shapes.{Map, Fits, Lie}
+use Rattle.b67_stack.specs.Stacks.{Spot, Head, Marked, Entered, Activation, IsStack, HeadFits, HeadsFit, head_size, top_size, high, mark_of, headed, words, toscw_of, mark_place}
+use Rattle.b67_stack.specs.Picture.{Slot, Running, Waiting, stack_of, SlotFits, Picture}
 use Rattle.b67_stack.specs.Stands.{SlotStands, RunningStands}
 use Rattle.b67_stack.proofs.Lies.{Lie-under}
 use Rattle.b67_stack.proofs.Heights.{words-length}
 use Rattle.b67_stack.proofs.Tops.{level-small}
-use Rattle.b67_stack.proofs.Bases.{base-apart}
 use Rattle.b67_layout.specs.Plan.{Plan, Slotted, slot_of, spot_in, outer_spots}
 use Rattle.b67_layout.specs.Layout.{shape, head, activations, stack_of_task, slot_with, slot_in, slot_by, slot_at, picture}
 use Rattle.b67_layout.specs.Session.{RowsFit, with_things}
 use Rattle.b67_layout.proofs.Others.{keyed-has}
 use Rattle.b67_layout.proofs.Rows.{finds, task_row}
 use Rattle.b67_layout.proofs.Frames.{height-is}
-use Rattle.b67_refer.specs.Scene.{Scene, number_in, job_in}
+use Rattle.b67_refer.specs.Scene.{Scene}
+use Rattle.b67_refer.specs.Cells.{IsTop}
 
 -- the slot of a live task, by its number
 pub live_slot : (plan : Plan) (jobs : List Member) (m : Member) (u : Task) → RowsFit plan jobs → keyed number_of m.setting.number jobs ≡ Some m → keyed (λ (v : Task). v.number) u.number m.course.job.tasks ≡ Some u
@@ -37,13 +35,14 @@ live_slot plan jobs m u fit km ku =
     let k = slot_of plan j u.number in
     let b = task_row plan jobs m u fit (keyed-has number_of j jobs m km) (keyed-has (λ (v : Task). v.number) u.number m.course.job.tasks u ku) in
     let f = finds (λ (q : Slotted). q.slot == k) plan.rows b.row b.among (eq-eqb b.row.slot k (sym b.slot)) in
-    let same : f.item ≡ b.row = fit.differ f.item b.row f.among b.among (eqb-true f.item.slot k f.passes ∙ b.slot) in
-    (subst (λ (n : ℕ). n < plan.peak) (sym b.slot) (fit.below b.row b.among),
+    let same : f.item ≡ b.row = fit.differ f.item b.row f.among b.among (eqb-true f.item.slot k f.passes ∙ b.slot) in (
+      subst (λ (n : ℕ). n < plan.peak) (sym b.slot) (fit.below b.row b.among),
       ap (slot_by plan jobs k) (f.found ∙ ap Some same)
-      ∙ ap (λ (i : ℕ). slot_in plan k i b.row.task (keyed number_of i jobs)) b.job
-      ∙ ap (slot_in plan k j b.row.task) km
-      ∙ ap (λ (i : ℕ). slot_with plan k j m.course.job (keyed (λ (v : Task). v.number) i m.course.job.tasks)) b.number
-      ∙ ap (slot_with plan k j m.course.job) ku)
+          ∙ ap (λ (i : ℕ). slot_in plan k i b.row.task (keyed number_of i jobs)) b.job
+          ∙ ap (slot_in plan k j b.row.task) km
+          ∙ ap (λ (i : ℕ). slot_with plan k j m.course.job (keyed (λ (v : Task). v.number) i m.course.job.tasks)) b.number
+          ∙ ap (slot_with plan k j m.course.job) ku,
+    )
 
 -- what lies under a head, and its mark
 pub head_lies : (R : Map) (core : List Tagged) (from k : ℕ) (h : Head) (below : List Activation) → Lie (Fits R) core from (headed k h below (words k below))
@@ -83,11 +82,6 @@ module _ (core : List Tagged) (r : Regs) (a : Scene core r) where
     pub room : top < base k + a.plan.size
     pub above : (base k + high (acts k outer fs) ≡ top) ⊎ ((w : Tagged) × (slice_get core (suc (base k) + high (acts k outer fs)) ≡ Some w) × (w.tag ≡ 3))
 
-  -- what registers or the base word say of the top
-  pub record TopIs (k top : ℕ) : Type 0 where
-    pub used : k < a.plan.peak
-    pub by : ((r.slot ≡ k) × (r.s ≡ top)) ⊎ ((r.slot ≢ k) × ((w : Toscw) × IsToscw w × (slice_get core (base k) ≡ Some (toscw_word w)) × (base k + w.s ≡ top)))
-
   -- the frames below
   pub drop : (k : ℕ) (outer : ℕ → Spot) (top : ℕ) (f : Frame) (fs : List Frame) → Part k outer top (f ∷ fs) → Part k outer top fs
   drop k outer top f fs p =
@@ -123,7 +117,7 @@ module _ (core : List Tagged) (r : Regs) (a : Scene core r) where
   -- all frames of a live task
   pub record Whole (u : Task) : Type 0 where
     pub top : ℕ
-    pub top_is : TopIs (slot_of a.plan a.member.setting.number u.number) top
+    pub top_is : IsTop a (slot_of a.plan a.member.setting.number u.number) top
     pub part : Part (slot_of a.plan a.member.setting.number u.number) (outer_spots a.plan a.member.setting.number a.member.course.job u.critical u.parents) top u.frames
 
   abbrev whole_picture : Picture
@@ -132,7 +126,7 @@ module _ (core : List Tagged) (r : Regs) (a : Scene core r) where
   by_slot : (k : ℕ) (stack : List Activation) (b : Bool) → k < a.plan.peak → (let y = if b then Running stack else Waiting stack in
       SlotStands core r (with_things a.left (picture a.plan a.session.jobs)) k y → SlotFits (with_things a.left (picture a.plan a.session.jobs)) k y
       → Lie (Fits a.storage.held) core (suc (base k)) (words k (stack_of y))
-      → IsStack a.plan.size stack × Lie (Fits a.storage.held) core (suc (base k)) (words k stack) × TopIs k (base k + high stack))
+      → IsStack a.plan.size stack × Lie (Fits a.storage.held) core (suc (base k)) (words k stack) × IsTop a k (base k + high stack))
   by_slot k stack true used s f l = (f.0, l, record { used = used; by = inl (s.slot, s.top) })
   by_slot k stack false used s f l = (f.0, l, record { used = used; by = inr (s.0, (toscw_of stack, toscw_fits, s.1, refl)) }) where
     toscw_fits : IsToscw (toscw_of stack)

@@ -1,5 +1,5 @@
 -- The walk from the last mark down to the running activation record's.
-use Rattle.std.proofs.Common.{◌≡◌, ◌≢◌, ℕ, suc, ◌+◌, ◌-◌, ◌<◌, ◌≤◌, List, [], ◌∷◌, ◌++◌, map, length, Some, refl, sym, ◌∙◌, ap, arith, Bool, true, false, ◌==◌, inl, inr, subst}
+use Rattle.std.proofs.Common.{◌≡◌, ℕ, ◌+◌, ◌-◌, ◌≤◌, List, [], ◌∷◌, ◌++◌, map, length, Some, refl, sym, ◌∙◌, ap, arith, true, false, ◌==◌, inl, inr, subst}
 use Rattle.std.specs.List.{slice_get}
 use Rattle.std.proofs.lemmas.Bool.{eq-eqb, ne_eqb}
 use Rattle.b67_word.specs.Tagged.{Tagged}
@@ -10,15 +10,16 @@ use Rattle.b67_model.specs.Lists.{Has, Falls}
 use Rattle.b67_model.specs.State as State
 use Rattle.b67_model.specs.State.{Frame, Standing, Task, height}
 use Rattle.b67_model.specs.Environment.{running, running_from}
-use Rattle.b67_model.specs.InOrder.{Known, known_of, known_numbers, outer_of, IsSegment, TaskInOrder, StackInOrder, ReturnsInOrder}
+use Rattle.b67_model.specs.InOrder.{known_of, known_numbers, outer_of, IsSegment, TaskInOrder, StackInOrder, ReturnsInOrder}
 use Rattle.b67_order.proofs.Members.{falls_low}
-use Rattle.b67_stack.specs.Stacks.{Spot, Head, Activation, mark_of, top_size, high, mark_place}
-use Rattle.b67_layout.specs.Plan.{Plan, slot_of, spot_in, outer_spots, spots, address_of}
+use Rattle.b67_stack.specs.Stacks.{Spot, Activation, mark_of, top_size, mark_place}
+use Rattle.b67_layout.specs.Plan.{slot_of, spot_in, outer_spots, spots, address_of}
 use Rattle.b67_layout.specs.Layout.{head}
 use Rattle.b67_layout.specs.Session.{frame_address}
 use Rattle.b67_layout.proofs.Frames.{height-is, size-is}
 use Rattle.b67_refer.specs.Scene.{Scene}
-use Rattle.b67_refer.proofs.Slots.{Part, TopIs, Whole, whole, drop, base, acts, mark_in, part_mark, registers}
+use Rattle.b67_refer.specs.Cells.{IsTop}
+use Rattle.b67_refer.proofs.Slots.{Part, whole, drop, base, acts, mark_in, part_mark, registers}
 use Rattle.b67_refer.proofs.Seats.{has_task, order_of}
 use Rattle.b67_refer.proofs.Marks.{slot_address}
 use Rattle.b67_refer.proofs.Chains.{Reads}
@@ -49,7 +50,7 @@ module _ (core : List Tagged) (r : Regs) (a : Scene core r) where
     pub frame : Frame
     pub below : List Frame
     pub part : Part core r a (slot_of a.plan a.member.setting.number a.task.number) (outer_spots a.plan a.member.setting.number a.member.course.job a.task.critical a.task.parents) top (frame ∷ below)
-    pub top_is : TopIs core r a (slot_of a.plan a.member.setting.number a.task.number) top
+    pub top_is : IsTop a (slot_of a.plan a.member.setting.number a.task.number) top
     pub at_is : at ≡ base core r a (slot_of a.plan a.member.setting.number a.task.number) + height below
     pub same : running (frame ∷ below) ≡ running a.task.frames
     pub sees : (g : ℕ) → Has (known_numbers (map known_of (frame ∷ below) ++ outer_of a.member.course.job a.task)) g
@@ -118,24 +119,27 @@ module _ (core : List Tagged) (r : Regs) (a : Scene core r) where
         let some : 1 ≤ State.words_of g = one_word g.standing in
         let high : height on.below ≡ height fs + State.words_of g = ap height z in
         let at_is = on.at_is in
-        let F : List Frame → Type 0 = λ fs. Falls on.frame.identity (known_numbers (map known_of fs ++ outer_of a.member.course.job a.task)) in
-        (omega (arith, size, some), omega (arith, size, high, at_is), record {
-          top = on.top;
-          bound = on.frame.identity;
-          frame = g;
-          below = fs;
-          part = subst P z (drop core r a slot outer on.top on.frame on.below on.part);
-          top_is = on.top_is;
-          at_is = omega (arith, size, high, at_is);
-          same = ap running (sym z) ∙ (let x : running_from on.frame.standing on.frame (running on.below) ≡ running on.below = ap (λ (s : Standing). running_from s on.frame (running on.below)) marked in sym x) ∙ on.same;
-          sees = λ i h.
-              (let there : Has (known_numbers (map known_of on.below ++ outer_of a.member.course.job a.task)) i = subst (λ (gs : List Frame). Has (known_numbers (map known_of gs ++ outer_of a.member.course.job a.task)) i) (sym z) h in
-              let low = falls_low on.frame.identity (known_numbers (map known_of on.below ++ outer_of a.member.course.job a.task)) i on.falls.1 there in
-              let ne : (on.frame.identity == i) ≡ false = ne_eqb on.frame.identity i (λ x. omega (arith, x, low)) in
-              on.sees i (inr there) ∙ (rw ne refl) ∙ ap (λ (gs : List Frame). spot_in slot outer gs i) z);
-          falls = subst F z on.falls.1;
-          returns = subst (StackInOrder (IsSegment a.member.setting)) z on.returns.1;
-        }) where
+        let F : List Frame → Type 0 = λ fs. Falls on.frame.identity (known_numbers (map known_of fs ++ outer_of a.member.course.job a.task)) in (
+          omega (arith, size, some),
+          omega (arith, size, high, at_is),
+          record {
+            top = on.top;
+            bound = on.frame.identity;
+            frame = g;
+            below = fs;
+            part = subst P z (drop core r a slot outer on.top on.frame on.below on.part);
+            top_is = on.top_is;
+            at_is = omega (arith, size, high, at_is);
+            same = ap running (sym z) ∙ (let x : running_from on.frame.standing on.frame (running on.below) ≡ running on.below = ap (λ (s : Standing). running_from s on.frame (running on.below)) marked in sym x) ∙ on.same;
+            sees = λ i h.
+                (let there : Has (known_numbers (map known_of on.below ++ outer_of a.member.course.job a.task)) i = subst (λ (gs : List Frame). Has (known_numbers (map known_of gs ++ outer_of a.member.course.job a.task)) i) (sym z) h in
+                let low = falls_low on.frame.identity (known_numbers (map known_of on.below ++ outer_of a.member.course.job a.task)) i on.falls.1 there in
+                let ne : (on.frame.identity == i) ≡ false = ne_eqb on.frame.identity i (λ x. omega (arith, x, low)) in
+                on.sees i (inr there) ∙ (rw ne refl) ∙ ap (λ (gs : List Frame). spot_in slot outer gs i) z);
+            falls = subst F z on.falls.1;
+            returns = subst (StackInOrder (IsSegment a.member.setting)) z on.returns.1;
+          },
+        ) where
           one_word : (s : Standing) → 1 ≤ State.head_words s + length g.cells
           one_word State.Marked = omega arith
           one_word (State.Entered level environment return) = omega arith

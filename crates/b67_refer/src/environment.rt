@@ -13,7 +13,7 @@ use b67_core::Core;
 use b67_ctl::{Mscw, Regs};
 
 /// The mark at an address.
-fn mark_at(core: &Core, at: u32) -> Mscw
+pub(crate) fn mark_at(core: &Core, at: u32) -> Mscw
     requires { (m : Mscw) × IsMscw m × (slice_get core.now at ≡ Some (mscw_word m)) }
     ensures { (m : Mscw) → IsMscw m → slice_get core.now at ≡ Some (mscw_word m) → result ≡ m }
 {

@@ -1,6 +1,12 @@
 //! The running environment, and where references lead.
 #![tactic(auto)]
 
+mod activation;
+mod cells;
+mod ends;
 mod environment;
 
+pub use activation::{Activation, activation_of};
+pub use cells::{cell_at, cell_of};
+pub use ends::{End, chase, owner};
 pub use environment::rebuild;

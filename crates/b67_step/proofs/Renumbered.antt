@@ -1,23 +1,28 @@
 -- The session whose picture has other numbers in a thing: what a device that tells nothing may have given back.
-use Rattle.std.proofs.Common.{◌≡◌, ◌≢◌, ℕ, zero, suc, ◌+◌, ◌<◌, ◌≤◌, ◌^◌, ◌++◌, ◌==◌, List, [], ◌∷◌, length, map, Option, Some, None, refl, sym, ◌∙◌, ap, arith, Bool, true, false, cond, subst, inl, inr, ◌⊎◌, ⊎_elim, unwrap_or}
+use Rattle.std.proofs.Common.{◌≡◌, ℕ, suc, ◌+◌, ◌<◌, ◌≤◌, ◌^◌, ◌++◌, ◌==◌, List, [], ◌∷◌, length, map, Option, Some, None, refl, sym, ◌∙◌, ap, Bool, true, false, subst, inl, inr, ⊎_elim, unwrap_or}
 use Rattle.std.specs.Prelude.{if◌then◌else◌, flat_map, not, option_map}
 use Rattle.std.proofs.lemmas.Option.{none-some, same_Some}
 use Rattle.std.proofs.lemmas.Bool.{cases_Bool, eqb-true}
-use Rattle.std.proofs.lemmas.List.{map-append, length-map}
+use Rattle.std.proofs.lemmas.List.{map-append}
+use Rattle.std.specs.List.{AllByRecursion}
 use Rattle.b67_model.specs.Lists.{Has}
+use Rattle.b67_model.specs.Schedule.{Session}
+use Rattle.b67_model.specs.InOrder.{IsSegment, SegmentInOrder, ArrayInOrder, JobInOrder, IsInOrderButPlaces}
+use Rattle.b67_order_weaker.specs.Weaker.{Renumbers, Recoded, RefilledArray, Refilled, AllOtherNumbers}
+use Rattle.b67_order_weaker.proofs.Sessions.{other_numbers_keep_order}
 use Rattle.b67_model.specs.Words as Words
 use Rattle.b67_model.specs.Words.{Word, Operand, Name, Ref, Row, Element, Original, Proc, Intrinsic}
-use Rattle.b67_model.specs.State.{Frame, Array, Task, Segment, Setting, Job, Course, Member}
+use Rattle.b67_model.specs.State.{Frame, Array, Task, Segment, Setting, Job, Member}
 use Rattle.b67_model.specs.Keyed.{keyed}
 use Rattle.b67_model.specs.Arrays.{array, no_array}
 use Rattle.b67_model.specs.Run.{number_of}
 use Rattle.b67_stack.specs.Shapes.{Shape, Copy}
-use Rattle.b67_stack.specs.Stacks.{Spot, Activation}
+use Rattle.b67_stack.specs.Stacks.{Spot, Activation, high}
 use Rattle.b67_order.proofs.Members.{has_append_left, has_append_right}
 use Rattle.b67_layout.proofs.Others.{keyed-has}
 use Rattle.b67_step.proofs.Alike.{AllAlike, outer_same}
 use Rattle.b67_area.specs.declared.kinds.Kind.TheVariants as kind
-use Rattle.b67_stack.specs.Picture.{Thing, Slot, Running, Waiting, Picture}
+use Rattle.b67_stack.specs.Picture.{Thing, Slot, Running, Waiting, Picture, slot_base, stack_of, Settled}
 use Rattle.b67_storage.specs.Machine.{renumber, renumbered}
 use Rattle.b67_layout.specs.Plan.{Slotted, Plan, spot_in, outer_spots}
 use Rattle.b67_layout.specs.Layout.{shape, head, activations, slot_with, slot_in, slot_by, slot_at, array_thing, code_things, things_of, picture}
@@ -204,3 +209,60 @@ pub alike_renumbered : (plan : Plan) (home : ℕ) (ns : List ℕ) (jobs : List M
 alike_renumbered plan home ns [] = tt
 alike_renumbered plan home ns (m ∷ more) =
     (record { number = refl; stack_size = refl; dictionary = refl; count = recoded_count plan m.setting.number home ns 1 m.setting.segments; tasks = refl }, alike_renumbered plan home ns more)
+
+module _ (plan : Plan) (home : ℕ) (ns : List ℕ) (bits : AllByRecursion (λ (n : ℕ). n < 2 ^ 48) ns) where
+  recoded_other : (j n : ℕ) (segments : List Segment) → AllByRecursion SegmentInOrder segments → Fitting home ns (code_things plan j n segments) → Recoded segments (recoded plan j home ns n segments)
+  recoded_other j n [] order fits = tt
+  recoded_other j n (s ∷ more) order fits =
+      let thing : Thing = record { home = plan.dictionary j + 1 + n; kind = kind.Code; numbers = s.code } in
+      let here : Renumbers s.code (if plan.dictionary j + 1 + n == home then record s { code = ns } else s).code = ⊎_elim
+      (λ (e : (plan.dictionary j + 1 + n == home) ≡ true). rw e (record { count = fits thing (inl refl) (eqb-true (plan.dictionary j + 1 + n) home e); bits = bits }))
+      (λ (e : (plan.dictionary j + 1 + n == home) ≡ false). rw e (record { count = refl; bits = order.0.words }))
+      (cases_Bool (plan.dictionary j + 1 + n == home)) in
+      (here, recoded_other j (n + 1) more order.1 (λ t int. fits t (inr int)))
+
+  refilled_other : (j : ℕ) (arrays : List Array) → AllByRecursion ArrayInOrder arrays → Fitting home ns (map (array_thing plan j) arrays) → Refilled arrays (map (refilled plan j home ns) arrays)
+  refilled_other j [] order fits = tt
+  refilled_other j (a ∷ more) order fits =
+      let here : RefilledArray a (refilled plan j home ns a) = ⊎_elim
+      (λ (e : (plan.home j a.identity == home) ≡ true). rw e (record { identity = refl; owner = refl; writable = refl; numbers = record { count = fits (array_thing plan j a) (inl refl) (eqb-true (plan.home j a.identity) home e); bits = bits } }))
+      (λ (e : (plan.home j a.identity == home) ≡ false). rw e (record { identity = refl; owner = refl; writable = refl; numbers = record { count = refl; bits = order.0.words } }))
+      (cases_Bool (plan.home j a.identity == home)) in
+      (here, refilled_other j more order.1 (λ t int. fits t (inr int)))
+
+  others_from : (jobs : List Member) → AllByRecursion (λ (m : Member). JobInOrder (IsSegment m.setting) m.setting m.course) jobs → Fitting home ns (flat_map (things_of plan) jobs)
+      → AllOtherNumbers jobs (map (member_with plan home ns) jobs)
+  others_from [] order fits = tt
+  others_from (m ∷ more) order fits =
+      let own : Fitting home ns (things_of plan m) = λ t int. fits t (has_append_left (things_of plan m) (flat_map (things_of plan) more) t int) in
+      let j = m.setting.number in
+      let code = code_things plan j 1 m.setting.segments in
+      let filled = map (array_thing plan j) m.course.job.arrays in (
+        record {
+          segments = recoded_other j 1 m.setting.segments order.0.unchanging.segments (λ t int. own t (has_append_left code filled t int));
+          arrays = refilled_other j m.course.job.arrays order.0.tasks.arrays (λ t int. own t (has_append_right code filled t int));
+          rest = refl;
+        },
+        others_from more order.1 (λ t int. fits t (has_append_right (things_of plan m) (flat_map (things_of plan) more) t int)),
+      )
+
+renumbered_home : (home : ℕ) (ns : List ℕ) (t : Thing) → (renumber home ns t).home ≡ t.home
+renumbered_home home ns t = ⊎_elim (λ (e : (t.home == home) ≡ true). rw e refl) (λ (e : (t.home == home) ≡ false). rw e refl) (cases_Bool (t.home == home))
+
+renumbered_from : (home : ℕ) (ns : List ℕ) (ts : List Thing) (t : Thing) → Has (map (renumber home ns) ts) t → (u : Thing) × Has ts u × (t.home ≡ u.home)
+renumbered_from home ns [] t k = absurd k
+renumbered_from home ns (u ∷ us) t (inl e) = (u, inl refl, ap (λ (x : Thing). x.home) (sym e) ∙ renumbered_home home ns u)
+renumbered_from home ns (u ∷ us) t (inr k) = let (v, inv, e) = renumbered_from home ns us t k in (v, inr inv, e)
+
+pub settled_renumbered : (p : Picture) (home : ℕ) (ns : List ℕ) → Settled p → Settled (renumbered p home ns)
+settled_renumbered p home ns s t int k used low up =
+    let (u, inu, e) = renumbered_from home ns p.things t int in
+    subst (λ (a : ℕ). a ≤ slot_base p k + high (stack_of (p.slots k))) (sym e) (s u inu k used (subst (λ (a : ℕ). slot_base p k ≤ a) e low) (subst (λ (a : ℕ). a < slot_base p k + p.size) e up))
+
+-- the session that the machine then stands for
+abbrev pub session_renumbered : Plan → ℕ → List ℕ → Session → Session
+session_renumbered plan home ns s = record s { jobs = map (member_with plan home ns) s.jobs }
+
+pub order_renumbered : (plan : Plan) (home : ℕ) (ns : List ℕ) (s : Session) → AllByRecursion (λ (n : ℕ). n < 2 ^ 48) ns → Fitting home ns (flat_map (things_of plan) s.jobs)
+    → IsInOrderButPlaces s → IsInOrderButPlaces (session_renumbered plan home ns s)
+order_renumbered plan home ns s bits fits order = other_numbers_keep_order s (map (member_with plan home ns) s.jobs) (others_from plan home ns bits s.jobs order.jobs fits) order

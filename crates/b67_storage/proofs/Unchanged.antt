@@ -51,10 +51,13 @@ module _ (x : Storage) (core : List Tagged) (r : Regs) (p : Picture) (s : Stands
   slot_high k (Waiting stack) f = inr f.0.fits
 
   pub slot_below : (k : ℕ) → k < p.peak → (160 ≤ slot_base p k) × ((i : ℕ) → slot_base p k < i → i < suc (slot_base p k) + length (words k (stack_of (p.slots k))) → i < x.low)
-  slot_below k h = (omega (arith, s.slots.laid.first), λ i low up. ⊎_elim
-      (λ e. absurd (omega (arith, ap (λ (q : List Activation). length (words k q)) e)))
-      (λ (g : high (stack_of (p.slots k)) < p.size). omega (arith, words-length k (stack_of (p.slots k)), base-apart p k p.peak h, s.slots.laid.low))
-      (slot_high k (p.slots k) (s.slots.laid.slots k h)))
+  slot_below k h = (
+    omega (arith, s.slots.laid.first),
+    λ i low up. ⊎_elim
+        (λ e. absurd (omega (arith, ap (λ (q : List Activation). length (words k q)) e)))
+        (λ (g : high (stack_of (p.slots k)) < p.size). omega (arith, words-length k (stack_of (p.slots k)), base-apart p k p.peak h, s.slots.laid.low))
+        (slot_high k (p.slots k) (s.slots.laid.slots k h)),
+  )
 
   low_word : (ss : List Span) → Laid core 152 0 x.low ss → end x.low ss ≡ length core → slice_get core x.low ≢ Some (word 0 0)
   low_word [] l e z = absurd (omega (arith, slice_get_within core x.low (word 0 0) z))

@@ -24,13 +24,13 @@ pub original_word : (k : Kind) (n : ℕ) (h : Held) → k ≢ Code → n < 2 ^ 2
 original_word k n h no_code few small area = by k no_code where
   address : (o : Option ℕ) → ((b : ℕ) → o ≡ Some b → b < 2 ^ 20) → (read_only : Bool) → IsOriginal (home_word_of Array n (record { area = o; chain = h.chain })) × IsOriginal (home_word_of Row n (record { area = o; chain = h.chain }))
   address None f b = (
-        record { desc = home_desc false n (record { area = None; chain = h.chain }); fits = record { words = few; address = small; indexed = λ z. absurd (false≢true z) }; own = refl; is = refl },
-        record { desc = home_desc true n (record { area = None; chain = h.chain }); fits = record { words = few; address = small; indexed = λ z. absurd (false≢true z) }; own = refl; is = refl },
-      )
+    record { desc = home_desc false n (record { area = None; chain = h.chain }); fits = record { words = few; address = small; indexed = λ z. absurd (false≢true z) }; own = refl; is = refl },
+    record { desc = home_desc true n (record { area = None; chain = h.chain }); fits = record { words = few; address = small; indexed = λ z. absurd (false≢true z) }; own = refl; is = refl },
+  )
   address (Some a) f b = (
-        record { desc = home_desc false n (record { area = Some a; chain = h.chain }); fits = record { words = few; address = f a refl; indexed = λ z. absurd (false≢true z) }; own = refl; is = refl },
-        record { desc = home_desc true n (record { area = Some a; chain = h.chain }); fits = record { words = few; address = f a refl; indexed = λ z. absurd (false≢true z) }; own = refl; is = refl },
-      )
+    record { desc = home_desc false n (record { area = Some a; chain = h.chain }); fits = record { words = few; address = f a refl; indexed = λ z. absurd (false≢true z) }; own = refl; is = refl },
+    record { desc = home_desc true n (record { area = Some a; chain = h.chain }); fits = record { words = few; address = f a refl; indexed = λ z. absurd (false≢true z) }; own = refl; is = refl },
+  )
 
   by : (k : Kind) → k ≢ Code → IsOriginal (home_word_of k n h)
   by Array ne = (address h.area area false).0

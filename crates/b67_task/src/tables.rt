@@ -36,6 +36,25 @@ pub struct TaskRow {
     pub place: Place,
 }
 
+impl Default for TaskRow {
+    /// A row of no task.
+    fn default() -> TaskRow {
+        TaskRow {
+            job: 0,
+            number: 0,
+            slot: 0,
+            parent: 0,
+            critical: 0,
+            state: TaskState::Ready,
+            segment: 0,
+            place: Place {
+                word: 0,
+                syllable: 0,
+            },
+        }
+    }
+}
+
 /// A job: its name; the core address of its dictionary, and how many segments and data rows that has; how many operators
 /// it may make and has made; the next task's number; its numbers for READ, and the first of them that is left.
 #[derive(Drop)]

@@ -1,4 +1,3 @@
-use Rattle.std.proofs.Common.{◌<◌, arith}
 use Rattle.b67_refer.proofs.Bases.{of_dictionary}
 use Rattle.b67_refer.proofs.environment.base_of.Goals as goal
 

@@ -1,4 +1,4 @@
-use Rattle.std.proofs.Common.{◌≡◌, ◌<◌, ◌∙◌, arith}
+use Rattle.std.proofs.Common.{◌∙◌, arith}
 use Rattle.std.proofs.lemmas.List.{length-set}
 use Rattle.b67_refer.proofs.Chains.{written_start, level_is, level_small, turn_mark, turn_down, turn_next, turn_end}
 use Rattle.b67_refer.proofs.environment.rebuild.Goals as goal

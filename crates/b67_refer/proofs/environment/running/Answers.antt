@@ -1,4 +1,4 @@
-use Rattle.std.proofs.Common.{◌≡◌, ◌≤◌, ◌<◌, ◌-◌, ℕ, arith, subst, sym}
+use Rattle.std.proofs.Common.{◌-◌, ℕ, arith, subst, sym}
 use Rattle.b67_refer.proofs.Turns.{On, start, has_mark, ends, goes}
 use Rattle.b67_refer.proofs.environment.running.Goals as goal
 

@@ -1,0 +1,62 @@
+-- The cells of the running task's top activation record, as words of core.
+use Rattle.std.specs.Prelude.{◌≡◌, ℕ, ◌-◌, false, List, [], ◌∷◌, Some, Result, Ok, Err, slice_get}
+use Rattle.std.specs.List.{AllByRecursion}
+use Rattle.b67_word.specs.Tagged.{Tagged}
+use Rattle.b67_word.specs.declared.faults.Fault.{Fault}
+use Rattle.b67_word.specs.declared.faults.Fault.TheVariants.{StackUnderflow}
+use Rattle.b67_model.specs.Lists.{Has}
+use Rattle.b67_model.specs.Words as Words
+use Rattle.b67_model.specs.Words.{Word, Operand, Name, Ref, Row, Element, Original, Proc, Intrinsic}
+use Rattle.b67_model.specs.State.{Array, Task, Job, Member, top}
+use Rattle.b67_model.specs.Intrinsics.{is_original}
+use Rattle.b67_stack.specs.declared.Cpu.{Cpu}
+use Rattle.b67_stack.specs.Shapes.{Fits}
+use Rattle.b67_stack.specs.Stands.{Storage}
+use Rattle.b67_layout.specs.Plan.{Plan, spots}
+use Rattle.b67_layout.specs.Layout.{shape}
+
+-- a word at a core address is that of a word of the state, as the running task names frames
+abbrev pub IsWordOf : Storage → Plan → Member → Task → Word → ℕ → Tagged → Type 0
+IsWordOf x plan m t w at v = Fits x.held (shape plan m.setting.number m.course.job (spots plan m.setting.number m.course.job t) w) at v
+
+-- the word at a core address, which is that of a word of the state
+pub record IsAt (x : Storage) (plan : Plan) (m : Member) (t : Task) (core : List Tagged) (w : Word) (at : ℕ) (v : Tagged) : Type 0 where
+  pub found : slice_get core at ≡ Some v
+  pub is : IsWordOf x plan m t w at v
+
+abbrev pub cells : Task → List Word
+cells t = (top t.frames).cells
+
+-- the top cell
+abbrev pub GivesTop : Storage → Plan → Member → Task → Cpu → List Word → Result Tagged Fault → Type 0
+GivesTop x plan m t cpu [] answer = answer ≡ Err StackUnderflow
+GivesTop x plan m t cpu (a ∷ rest) answer = (v : Tagged) × (answer ≡ Ok v) × IsAt x plan m t cpu.core a cpu.regs.s v
+
+-- the second cell and the top one
+abbrev pub GivesTwo : Storage → Plan → Member → Task → Cpu → List Word → Result (Tagged × Tagged) Fault → Type 0
+GivesTwo x plan m t cpu [] answer = answer ≡ Err StackUnderflow
+GivesTwo x plan m t cpu (b ∷ []) answer = answer ≡ Err StackUnderflow
+GivesTwo x plan m t cpu (b ∷ a ∷ rest) answer =
+    (u v : Tagged) × (answer ≡ Ok (u, v)) × IsAt x plan m t cpu.core a (cpu.regs.s - 1) u × IsAt x plan m t cpu.core b cpu.regs.s v
+
+-- an array of the job
+pub record IsLive (job : Job) (array : ℕ) : Type 0 where
+  pub item : Array
+  pub live : Has job.arrays item
+  pub named : item.identity ≡ array
+
+-- a word that may be put on a stack: no original, and copies of live arrays alone
+abbrev pub MayStand : Job → Word → Type 0
+MayStand job (Operand bits) = Unit {0}
+MayStand job (Name couple) = Unit {0}
+MayStand job (Ref frame offset) = Unit {0}
+MayStand job (Row array) = IsLive job array
+MayStand job (Element array index) = IsLive job array
+MayStand job (Original array) = ⊥
+MayStand job (Proc segment level place) = Unit {0}
+MayStand job (Intrinsic number) = Unit {0}
+MayStand job (Words.Segment number) = Unit {0}
+
+-- words among which is no original
+abbrev pub NoOriginals : List Word → Type 0
+NoOriginals ws = AllByRecursion (λ (w : Word). is_original w ≡ false) ws

@@ -1,0 +1,19 @@
+-- Words that lead to a procedure.
+use Rattle.std.specs.Prelude.{◌≡◌, ℕ, Ok}
+use Rattle.b67_word.specs.Tagged.{Tagged}
+use Rattle.b67_word.specs.declared.couples.Place.{Place}
+use Rattle.b67_model.specs.Words.{Word}
+use Rattle.b67_model.specs.Chase.{AtProc, follow}
+use Rattle.b67_stack.specs.declared.Cpu.{Cpu}
+use Rattle.b67_layout.specs.Meets.{here}
+use Rattle.b67_refer.specs.Scene.{Scene, IsShown}
+use Rattle.b67_refer.specs.Cells.{StandsFor}
+
+-- the running task, seen on these registers, follows a word to a procedure
+pub record Leads (cpu : Cpu) (a : Scene cpu.core cpu.regs) (q : Place) (w : Tagged) (f segment level : ℕ) (place : Place) : Type 0 where
+  pub shown : IsShown a cpu.display
+  pub at : ℕ
+  pub owner : ℕ
+  pub word : Word
+  pub stands : StandsFor a at owner w word
+  pub ends : follow (here a.member a.task q) word ≡ Ok (AtProc f segment level place)

@@ -1,0 +1,72 @@
+//! Operators that read through references, where a procedure at the end of one is entered.
+#![tactic(auto)]
+
+ghost use Rattle.std.specs.Prelude.{◌≡◌, ℕ, ◌^◌, ◌<◌};
+ghost use Rattle.b67_ctl.specs.Layout.{IsPlace};
+ghost use Rattle.b67_word.specs.declared.couples.Place.{Place};
+ghost use Rattle.b67_model.specs.Rows as rows;
+ghost use Rattle.b67_model.specs.Steps.{cells_of};
+ghost use Rattle.b67_layout.specs.Meets.{here, Meets, RunsSome, ForEach};
+ghost use Rattle.b67_refer.specs.Scene.{Scene};
+ghost use Rattle.b67_refer.specs.Ends.{IsProcAt};
+ghost use Rattle.b67_evaluate.specs.Procedures.{Leads};
+
+use b67_ctl::{Irw, Regs};
+use b67_entry::{accident, accident_on};
+use b67_fetch::valc;
+use b67_refer::{End, chase};
+use b67_stack::{Cpu, Step};
+use b67_word::{Place, Word};
+
+/// The core address of the cell of the procedure to which a word leads.
+fn procedure_cell(cpu: &Cpu, w: Word) -> u32
+    requires { (a : Scene cpu.now.core cpu.now.regs) × (q : Place) × (f : ℕ) × (segment : ℕ) × (level : ℕ) × (place : Place) × Leads cpu.now a q w f segment level place }
+    ensures { (a : Scene cpu.now.core cpu.now.regs) (q : Place) (f segment level : ℕ) (place : Place) → Leads cpu.now a q w f segment level place → IsProcAt a q result f segment level place }
+{
+    match chase(&cpu.core, &cpu.regs, &cpu.display, w) {
+        Ok(end) => match end {
+            End::Proc(cell) => cell,
+            _ => unreachable!(),
+        },
+        Err(_) => unreachable!(),
+    }
+}
+
+/// Pushes the value to which a couple of 14 bits leads, and goes on at `next`; a procedure there is entered, and its
+/// value pushed when it returns. The faults of references, INVALID OPERAND where it ends at an array or an intrinsic or
+/// where the procedure's level doesn't fit, STACK OVERFLOW. Where an array is absent nothing is changed.
+pub fn evaluate(cpu: &mut Cpu, couple: u16, next: Place) -> Step
+    requires runs { RunsSome cpu.old }
+    requires couple { couple < 2 ^ 14 }
+    requires next { IsPlace next }
+    ensures row { ForEach cpu.old (λ x plan s m t. Meets x plan s m result cpu.old cpu.new (rows.valc (here m t next) couple)) }
+{
+    match valc(cpu, couple, next) {
+        Step::Call(_) => {
+            let cell = procedure_cell(cpu, Irw { couple }.word());
+            accident(cpu, cell, true, next)
+        }
+        step => step,
+    }
+}
+
+/// Puts the value or the row copy to which the top cell leads in its place, and goes on at `next`; a procedure there is
+/// entered in its place, and the operator is made again with what it returns. STACK UNDERFLOW, the faults of references,
+/// INVALID OPERAND where it ends at an intrinsic or where the procedure's level doesn't fit, STACK OVERFLOW. Where an
+/// element's array is absent nothing is changed.
+pub fn load(cpu: &mut Cpu, next: Place) -> Step
+    requires { RunsSome cpu.old }
+    ensures row { ForEach cpu.old (λ x plan s m t. let h = here m t next in Meets x plan s m result cpu.old cpu.new (rows.load h (cells_of h))) }
+{
+    match b67_fetch::load(cpu, next) {
+        Step::Call(_) => {
+            let cell = procedure_cell(cpu, cpu.core.get(cpu.regs.s));
+            let without = Regs {
+                s: cpu.regs.s - 1,
+                ..cpu.regs
+            };
+            accident_on(cpu, without, cell, false, cpu.regs.place)
+        }
+        step => step,
+    }
+}

@@ -1,0 +1,13 @@
+pub mod Lists
+pub mod Writes
+pub mod Members
+pub mod Things
+pub mod Heads
+pub mod Slots
+pub mod Plans
+pub mod Whole
+pub mod Resting
+pub mod Rests
+pub mod Opens
+pub mod Sums
+pub mod Tables

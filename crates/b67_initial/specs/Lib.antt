@@ -1,0 +1,5 @@
+pub mod Opened
+pub mod Words
+pub mod Stored
+pub mod Opens
+pub mod Tables

@@ -1,0 +1,74 @@
+-- The next frame's identity is free: no live task depends on it, and it isn't the MCP's.
+use Rattle.std.proofs.Common.{◌≡◌, ◌≢◌, ℕ, ◌<◌, List, [], ◌∷◌, ◌++◌, map, refl, arith, false, ◌==◌, inl, inr, subst}
+use Rattle.std.specs.List.{AllByRecursion, list_any}
+use Rattle.std.proofs.lemmas.Bool.{ne_eqb}
+use Rattle.b67_model.specs.Lists.{Has, Falls}
+use Rattle.b67_model.specs.State.{Frame, Task, Setting, Job, Member}
+use Rattle.b67_model.specs.Steps.{is_critical}
+use Rattle.b67_model.specs.Run.{number_of}
+use Rattle.b67_model.specs.Schedule.{Session}
+use Rattle.b67_model.specs.InOrder.{Starts, IsSegment, Known, known_of, known_numbers, identities, outer_of, reach_of, BirthInOrder, TaskInOrder, TasksInOrder, JobInOrder, IsInOrderButPlaces}
+use Rattle.b67_layout.specs.Plan.{Plan}
+use Rattle.b67_layout.specs.Session.{IsRunning}
+use Rattle.b67_layout.proofs.Others.{keyed-has}
+use Rattle.b67_layout.proofs.Steps.{IsFree}
+
+pub each : {A : Type 0} (P : A → Type 0) (xs : List A) (x : A) → AllByRecursion P xs → Has xs x → P x
+each P [] x all h = absurd h
+each P (y ∷ ys) x all (inl e) = subst P e all.0
+each P (y ∷ ys) x all (inr h) = each P ys x all.1 h
+
+pub falls-below : (bound : ℕ) (xs : List ℕ) (n : ℕ) → Falls bound xs → Has xs n → n < bound
+falls-below bound [] n f h = absurd h
+falls-below bound (y ∷ ys) n f (inl e) = omega (arith, f.0, e)
+falls-below bound (y ∷ ys) n f (inr h) = omega (arith, f.0, falls-below y ys n f.1 h)
+
+has-number : (fs : List Frame) (outer : List Known) (n : ℕ) → Has (identities fs) n → Has (known_numbers (map known_of fs ++ outer)) n
+has-number [] outer n h = absurd h
+has-number (f ∷ below) outer n (inl e) = inl e
+has-number (f ∷ below) outer n (inr h) = inr (has-number below outer n h)
+
+first-below : (bound : ℕ) (fs : List Frame) (outer : List Known) → fs ≢ [] → Falls bound (known_numbers (map known_of fs ++ outer)) → 0 < bound
+first-below bound [] outer some f = absurd (some refl)
+first-below bound (g ∷ below) outer some f = omega (arith, f.0)
+
+-- a member of a session in order is in order, and so are the tasks of one
+pub job_in_order : (s : Session) (m : Member) → IsInOrderButPlaces s → Has s.jobs m → JobInOrder (IsSegment m.setting) m.setting m.course
+job_in_order s m o h = each (λ (y : Member). JobInOrder (IsSegment y.setting) y.setting y.course) s.jobs m o.jobs h
+
+pub running_in_order : (plan : Plan) (s : Session) (m : Member) (t : Task) → IsInOrderButPlaces s → IsRunning plan s.jobs m t → JobInOrder (IsSegment m.setting) m.setting m.course × TaskInOrder (IsSegment m.setting) m.setting m.course.job t
+running_in_order plan s m t o runs =
+    let j = job_in_order s m o (keyed-has number_of m.setting.number s.jobs m runs.member) in
+    (j, each (TaskInOrder (IsSegment m.setting) m.setting m.course.job) m.course.job.tasks t j.tasks.tasks (keyed-has (λ (u : Task). u.number) t.number m.course.job.tasks t runs.task))
+
+module _ (P : Starts) (setting : Setting) (job : Job) (o : TasksInOrder P setting job) where
+  task_in_order : (u : Task) → Has job.tasks u → TaskInOrder P setting job u
+  task_in_order u h = each (TaskInOrder P setting job) job.tasks u o.tasks h
+
+  by_birth : (u : Task) (parents : List ℕ) → 0 < job.next_frame → BirthInOrder job u parents → u.critical < job.next_frame
+  by_birth u [] low b = omega (arith, b.1)
+  by_birth u (parent ∷ above) low b =
+      let p = task_in_order b.parent (keyed-has (λ (v : Task). v.number) parent job.tasks b.parent b.found) in
+      falls-below job.next_frame (known_numbers (reach_of job b.parent)) u.critical p.falls (has-number b.parent.frames (outer_of job b.parent) u.critical b.is_critical)
+
+  pub critical-below : (u : Task) → Has job.tasks u → u.critical < job.next_frame
+  critical-below u h =
+      let t = task_in_order u h in
+      by_birth u u.parents (first-below job.next_frame u.frames (outer_of job u) t.some t.falls) t.birth
+
+  pub next_is_free : (t : Task) → Has job.tasks t → IsFree job job.next_frame
+  next_is_free t h =
+      let i = task_in_order t h in
+      record { some = (let low : 0 < job.next_frame = first-below job.next_frame t.frames (outer_of job t) i.some i.falls in λ e. omega (arith, e, low)); uncritical = λ u in_u e. (let low = critical-below u in_u in omega (arith, low, e)) }
+
+none_critical : (n : ℕ) (ts : List Task) → ((u : Task) → Has ts u → u.critical ≢ n) → list_any (λ (u : Task). u.critical == n) ts ≡ false
+none_critical n [] apart = refl
+none_critical n (u ∷ us) apart = rw (ne_eqb u.critical n (apart u (inl refl))) (none_critical n us (λ v h. apart v (inr h)))
+
+pub free-uncritical : (job : Job) (n : ℕ) → IsFree job n → is_critical job n ≡ false
+free-uncritical job n free = none_critical n job.tasks free.uncritical
+
+-- in a session in order
+pub fresh : (plan : Plan) (s : Session) (m : Member) (t : Task) → IsInOrderButPlaces s → IsRunning plan s.jobs m t → IsFree m.course.job m.course.job.next_frame
+fresh plan s m t o runs =
+    next_is_free (IsSegment m.setting) m.setting m.course.job (job_in_order s m o (keyed-has number_of m.setting.number s.jobs m runs.member)).tasks t (keyed-has (λ (u : Task). u.number) t.number m.course.job.tasks t runs.task)

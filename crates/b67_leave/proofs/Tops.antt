@@ -1,0 +1,61 @@
+-- How the running task's top frame stands, and what the mark at F says of it.
+use Rattle.std.proofs.Common.{◌≡◌, ◌≢◌, ℕ, ◌+◌, List, [], ◌∷◌, map, length, Option, Some, None, refl, sym, ◌∙◌, ap, arith, true, false, subst}
+use Rattle.b67_ctl.specs.declared.marks.Mscw.{Mscw}
+use Rattle.b67_model.specs.State as State
+use Rattle.b67_model.specs.State.{Standing, Return, Frame, Task, Setting, Job}
+use Rattle.b67_model.specs.Environment.{level_of_frame, running}
+use Rattle.b67_model.specs.InOrder.{IsSegment, ReturnsInOrder, StackInOrder, TaskInOrder}
+use Rattle.b67_stack.specs.Shapes.{Shape}
+use Rattle.b67_stack.specs.Stacks.{Spot, Head, Marked, Entered, Activation, head_size, top_size, mark_of, top_mark}
+use Rattle.b67_layout.specs.Plan.{Plan, spot_in}
+use Rattle.b67_layout.specs.Layout.{shape, head, activations}
+
+-- marked, or entered as the bottom one, or entered over others with a return to these
+pub data TopCase (setting : Setting) (t : Task) : Type 0 where
+  pending : (f : Frame) (below : List Frame) → t.frames ≡ f ∷ below → f.standing ≡ State.Marked → TopCase setting t
+  last : (f : Frame) (level environment : ℕ) → t.frames ≡ f ∷ [] → f.standing ≡ State.Entered level environment None → TopCase setting t
+  inner : (f next : Frame) (more : List Frame) (level environment : ℕ) (back : Return) → t.frames ≡ f ∷ next ∷ more → f.standing ≡ State.Entered level environment (Some back)
+      → IsSegment setting back.segment (level_of_frame (running (next ∷ more))) back.place → TopCase setting t
+
+by_standing : (setting : Setting) (t : Task) (f : Frame) (below : List Frame) (s : Standing) → t.frames ≡ f ∷ below → f.standing ≡ s → ReturnsInOrder (IsSegment setting) s below → TopCase setting t
+by_standing setting t f below State.Marked e is g = pending f below e is
+by_standing setting t f below (State.Entered level environment None) e is g = last f level environment (e ∙ ap (λ (fs : List Frame). f ∷ fs) g) is
+by_standing setting t f [] (State.Entered level environment (Some back)) e is g = absurd (g.0 refl)
+by_standing setting t f (next ∷ more) (State.Entered level environment (Some back)) e is g = inner f next more level environment back e is g.1
+
+by_frames : (setting : Setting) (job : Job) (t : Task) (fs : List Frame) → t.frames ≡ fs → TaskInOrder (IsSegment setting) setting job t → TopCase setting t
+by_frames setting job t [] e o = absurd (o.some e)
+by_frames setting job t (f ∷ below) e o = by_standing setting t f below f.standing e refl (let s = subst (λ (gs : List Frame). StackInOrder (IsSegment setting) gs) e o.returns in s.0)
+
+pub top_case : (setting : Setting) (job : Job) (t : Task) → TaskInOrder (IsSegment setting) setting job t → TopCase setting t
+top_case setting job t o = by_frames setting job t t.frames refl o
+
+module _ (plan : Plan) (j : ℕ) (job : Job) (k i : ℕ) (outer : ℕ → Spot) where
+  abbrev mark_on : List Frame → Mscw
+  mark_on fs = top_mark i (activations plan j job k outer fs)
+
+  marked_by : (s : Standing) (spot : ℕ → Spot) (below : List Activation) → s ≡ State.Marked → (mark_of i (head spot s) below).entered ≡ false
+  marked_by s spot below e = ap (λ (z : Standing). (mark_of i (head spot z) below).entered) e
+
+  entered_by : (s : Standing) (spot : ℕ → Spot) (below : List Activation) (level environment : ℕ) (back : Option Return) → s ≡ State.Entered level environment back → ((mark_of i (head spot s) below).entered ≡ true) × ((mark_of i (head spot s) below).back ≡ top_size below)
+  entered_by s spot below level environment back e = (ap (λ (z : Standing). (mark_of i (head spot z) below).entered) e, ap (λ (z : Standing). (mark_of i (head spot z) below).back) e)
+
+  size_some : (h : Head) (cells : List Shape) → head_size h + length cells ≢ 0
+  size_some Marked cells e = omega (arith, e)
+  size_some (Entered level environment back) cells e = omega (arith, e)
+
+  -- the mark of each
+  pub mark_pending : (fs : List Frame) (f : Frame) (below : List Frame) → fs ≡ f ∷ below → f.standing ≡ State.Marked → (top_mark i (activations plan j job k outer fs)).entered ≡ false
+  mark_pending fs f below e is = ap (λ (gs : List Frame). (mark_on gs).entered) e ∙ marked_by f.standing (spot_in k outer below) (activations plan j job k outer below) is
+
+  pub mark_last : (fs : List Frame) (f : Frame) (level environment : ℕ) → fs ≡ f ∷ [] → f.standing ≡ State.Entered level environment None
+      → ((top_mark i (activations plan j job k outer fs)).entered ≡ true) × ((top_mark i (activations plan j job k outer fs)).back ≡ 0)
+  mark_last fs f level environment e is =
+      let m = entered_by f.standing (spot_in k outer []) [] level environment None is in
+      (ap (λ (gs : List Frame). (mark_on gs).entered) e ∙ m.0, ap (λ (gs : List Frame). (mark_on gs).back) e ∙ m.1)
+
+  pub mark_inner : (fs : List Frame) (f next : Frame) (more : List Frame) (level environment : ℕ) (back : Return) → fs ≡ f ∷ next ∷ more → f.standing ≡ State.Entered level environment (Some back)
+      → ((top_mark i (activations plan j job k outer fs)).entered ≡ true) × ((top_mark i (activations plan j job k outer fs)).back ≢ 0)
+  mark_inner fs f next more level environment back e is =
+      let m = entered_by f.standing (spot_in k outer (next ∷ more)) (activations plan j job k outer (next ∷ more)) level environment (Some back) is in
+      (ap (λ (gs : List Frame). (mark_on gs).entered) e ∙ m.0, λ z. size_some (head (spot_in k outer more) next.standing) (map (shape plan j job (spot_in k outer (next ∷ more))) next.cells) (sym m.1 ∙ sym (ap (λ (gs : List Frame). (mark_on gs).back) e) ∙ z))

@@ -1,0 +1,40 @@
+//! Copies of what a deck holds.
+
+ghost use Rattle.std.specs.Prelude.{◌≡◌, ◌≤◌, IsTrue, IfOk, length};
+ghost use Rattle.std.specs.List.{list_all};
+ghost use Rattle.std.specs.Char.{is_ascii};
+
+use b67_text::{Name, Switches};
+use b67_word::Numbers;
+use std::alloc::{AllocError, Global};
+
+/// The same name once more.
+pub fn copied_name(name: &Name) -> Name
+    requires short { length name.now ≤ 16 }
+    requires ascii { IsTrue (list_all is_ascii name.now) }
+    ensures { result ≡ name.now }
+{
+    Name::new(name.as_str().as_bytes())
+}
+
+/// The same numbers once more.
+pub fn copied_numbers(alloc: Global, numbers: &Numbers) -> Result<Numbers, AllocError>
+    ensures { IfOk result (λ copy. copy ≡ numbers.now) }
+{
+    let mut copy = Numbers::new(alloc);
+    'numbers: for number in numbers.as_slice() {
+        copy.push(*number)?;
+    }
+    Ok(copy)
+}
+
+/// The same switches once more.
+pub fn copied_switches(alloc: Global, switches: &Switches) -> Result<Switches, AllocError>
+    ensures { IfOk result (λ copy. copy ≡ switches.now) }
+{
+    let mut copy = Switches::new(alloc);
+    'switches: for switch in switches.as_slice() {
+        copy.push(*switch)?;
+    }
+    Ok(copy)
+}

@@ -1,0 +1,76 @@
+-- Words that are no references, and element copies.
+use Rattle.std.proofs.Common.{◌≡◌, ℕ, List, Ok, Err, Some, Option, refl, sym, ◌∙◌, ap, arith, true, false, subst}
+use Rattle.std.proofs.lemmas.Bool.{true≢false, false≢true}
+use Rattle.std.proofs.lemmas.Option.{same_Some}
+use Rattle.b67_word.specs.Tagged.{Tagged}
+use Rattle.b67_word.specs.declared.couples.Place.{Place}
+use Rattle.b67_word.specs.declared.faults.Fault.TheVariants.{InvalidOperand}
+use Rattle.b67_ctl.specs.declared.registers.Regs.{Regs}
+use Rattle.b67_ctl.specs.declared.descriptors.DataDesc.{DataDesc}
+use Rattle.b67_ctl.specs.Descriptors.{data_word, IsDataDesc}
+use Rattle.b67_model.specs.Words as Words
+use Rattle.b67_model.specs.Words.{Word, Operand, Name, Ref, Row, Element, Original, Proc, Intrinsic}
+use Rattle.b67_model.specs.Chase.{chase, follow}
+use Rattle.b67_layout.specs.Meets.{here}
+use Rattle.b67_refer.specs.declared.ends.End.TheVariants as end
+use Rattle.b67_refer.specs.Scene.{Scene}
+use Rattle.b67_refer.specs.Cells.{StandsFor}
+use Rattle.b67_refer.specs.Ends.{IsCopyOf, IsReference, EndMeets}
+use Rattle.b67_refer.proofs.Links.{Described, own, row, item, described}
+
+module _ (core : List Tagged) (r : Regs) (a : Scene core r) where
+  pub is_reference : (at owner : ℕ) (w : Tagged) (v : Word) → StandsFor a at owner w v → w.tag ≡ 1 → IsReference v
+  is_reference at owner w (Operand b) s t = absurd (let z = ap (λ (x : Tagged). x.tag) s.0.0 in omega (arith, z, t))
+  is_reference at owner w (Name c) s t = tt
+  is_reference at owner w (Ref g d) s t = tt
+  is_reference at owner w (Row b) s t = absurd (let z = ap (λ (x : Tagged). x.tag) s.0.is in omega (arith, z, t))
+  is_reference at owner w (Element b d) s t = absurd (let z = ap (λ (x : Tagged). x.tag) s.0.is in omega (arith, z, t))
+  is_reference at owner w (Original b) s t = absurd (let z = ap (λ (x : Tagged). x.tag) s.0.1.is in omega (arith, z, t))
+  is_reference at owner w (Proc g l p) s t = absurd (let z = ap (λ (x : Tagged). x.tag) s.0.0 in omega (arith, z, t))
+  is_reference at owner w (Intrinsic n) s t = absurd (let z = ap (λ (x : Tagged). x.tag) s.0 in omega (arith, z, t))
+  is_reference at owner w (Words.Segment n) s t = absurd (omega (arith, s, t))
+
+  module _ (q : Place) where
+    pub follows_reference : (v : Word) → IsReference v → follow (here a.member a.task q) v ≡ chase (here a.member a.task q) v
+    follows_reference (Name c) ref = refl
+    follows_reference (Ref g d) ref = refl
+    follows_reference (Operand b) ref = absurd ref
+    follows_reference (Row b) ref = absurd ref
+    follows_reference (Element b d) ref = absurd ref
+    follows_reference (Original b) ref = absurd ref
+    follows_reference (Proc g l p) ref = absurd ref
+    follows_reference (Intrinsic n) ref = absurd ref
+    follows_reference (Words.Segment n) ref = absurd ref
+
+    pub follows_none : (at owner : ℕ) (w : Tagged) (v : Word) → StandsFor a at owner w v → (w.tag ≡ 1 → ⊥) → (w.tag ≡ 5 → ⊥) → EndMeets a q (Err InvalidOperand) (follow (here a.member a.task q) v)
+    follows_none at owner w (Operand b) s one five = refl
+    follows_none at owner w (Name c) s one five = absurd (one (ap (λ (x : Tagged). x.tag) s.0.0))
+    follows_none at owner w (Ref g d) s one five = absurd (one (ap (λ (x : Tagged). x.tag) s.0.0))
+    follows_none at owner w (Row b) s one five = refl
+    follows_none at owner w (Element b d) s one five = absurd (five (ap (λ (x : Tagged). x.tag) s.0.is))
+    follows_none at owner w (Original b) s one five = refl
+    follows_none at owner w (Proc g l p) s one five = refl
+    follows_none at owner w (Intrinsic n) s one five = refl
+    follows_none at owner w (Words.Segment n) s one five = refl
+
+    -- a whole array isn't followed
+    pub follows_whole : (at owner : ℕ) (v : Word) (d : DataDesc) → Described core r a at owner v d → d.indexed ≡ false → EndMeets a q (Err InvalidOperand) (follow (here a.member a.task q) v)
+    follows_whole at owner v d (own b e c h o) z = let P : Word → Type 0 = λ x. EndMeets a q (Err InvalidOperand) (follow (here a.member a.task q) x) in subst P (sym e) refl
+    follows_whole at owner v d (row b e c i h o) z = let P : Word → Type 0 = λ x. EndMeets a q (Err InvalidOperand) (follow (here a.member a.task q) x) in subst P (sym e) refl
+    follows_whole at owner v d (item b x e c i k h o) z = absurd (true≢false (sym i ∙ z))
+
+    pub follows_item : (at owner : ℕ) (v : Word) (d : DataDesc) (original : ℕ) → Described core r a at owner v d → IsDataDesc d → d.indexed ≡ true → ((home : ℕ) → IsCopyOf core d home → original ≡ home) → EndMeets a q (Ok (end.Element original d.length)) (follow (here a.member a.task q) v)
+    follows_item at owner v d original (own b e c h o) fits z found = absurd (false≢true (sym c ∙ fits.indexed z))
+    follows_item at owner v d original (row b e c i h o) fits z found = absurd (false≢true (sym i ∙ z))
+    follows_item at owner v d original (item b x e c i k h o) fits z found = let P : Word → Type 0 = λ y. EndMeets a q (Ok (end.Element original d.length)) (follow (here a.member a.task q) y) in subst P (sym e) (k, record { home = found (a.plan.home a.member.setting.number b) h; names = o })
+
+  pub item_copied : (at owner : ℕ) (v : Word) (d : DataDesc) → Described core r a at owner v d → IsDataDesc d → d.indexed ≡ true → (home : ℕ) × IsCopyOf core d home
+  item_copied at owner v d (own b e c h o) fits z = absurd (false≢true (sym c ∙ fits.indexed z))
+  item_copied at owner v d (row b e c i h o) fits z = absurd (false≢true (sym i ∙ z))
+  item_copied at owner v d (item b x e c i k h o) fits z = (a.plan.home a.member.setting.number b, h)
+
+  pub word_described : (at owner : ℕ) (w : Tagged) (v : Word) (o : Option DataDesc) (d : DataDesc) → StandsFor a at owner w v → w.tag ≡ 5 → ((x : DataDesc) → IsDataDesc x → w ≡ data_word x → o ≡ Some x) → o ≡ Some d → Described core r a at owner v d × IsDataDesc d
+  word_described at owner w v o d s t known e =
+      let k = described core r a at owner w v s t in
+      let same : k.0 ≡ d = same_Some _ _ (sym (known k.0 k.1 k.2) ∙ e) in
+      (subst (Described core r a at owner v) same k.3, subst IsDataDesc same k.1)

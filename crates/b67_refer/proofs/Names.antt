@@ -1,0 +1,191 @@
+-- The cell that a reference word names, and one turn of a chain.
+use Rattle.std.proofs.Common.{◌≡◌, ◌≢◌, ℕ, zero, suc, ◌+◌, ◌-◌, ◌*◌, ◌<◌, ◌≤◌, ◌^◌, List, length, Option, Some, None, Result, Ok, Err, refl, sym, ◌∙◌, ap, arith, ⊎_elim, inl, inr, ◌⊎◌, subst}
+use Rattle.std.specs.List.{slice_get}
+use Rattle.std.proofs.lemmas.Bool.{cases_lt}
+use Rattle.std.proofs.lemmas.Option.{same_Some}
+use Rattle.b67_word.specs.Tagged.{Tagged}
+use Rattle.b67_word.specs.declared.couples.Place.{Place}
+use Rattle.b67_word.specs.declared.couples.Couple.{Couple}
+use Rattle.b67_word.specs.Couples.{couple}
+use Rattle.b67_word.specs.declared.faults.Fault.{Fault}
+use Rattle.b67_word.specs.declared.faults.Fault.TheVariants.{Loop}
+use Rattle.b67_ctl.specs.declared.registers.Regs.{Regs}
+use Rattle.b67_ctl.specs.declared.references.Irw.{Irw}
+use Rattle.b67_ctl.specs.Layout.{irw_word, IsIrw, sirw_word, IsSirw}
+use Rattle.b67_model.specs.Answers.{Answer}
+use Rattle.b67_model.specs.Words as Words
+use Rattle.b67_model.specs.Words.{Word, Operand, Name, Ref, Row, Element, Original, Proc, Intrinsic}
+use Rattle.b67_model.specs.State.{height}
+use Rattle.b67_model.specs.Cells.{cell, named, place_of}
+use Rattle.b67_model.specs.Chase.{Link, Stops, Leads, link_at, link_in, link_from, link, chase_on}
+use Rattle.b67_model.specs.InOrder.{NamesEntered}
+use Rattle.b67_stack.specs.Stacks.{Spot}
+use Rattle.b67_layout.specs.Plan.{base_spot}
+use Rattle.b67_layout.specs.Meets.{here}
+use Rattle.b67_refer.specs.declared.ends.End.{End}
+use Rattle.b67_refer.specs.Scene.{Scene}
+use Rattle.b67_refer.specs.Cells.{reach, view, StandsFor, IsCellAt, CellMeets, FindsCell}
+use Rattle.b67_refer.specs.Ends.{IsReference, EndMeets, LinkMeets}
+use Rattle.b67_refer.proofs.Seats.{seat}
+use Rattle.b67_refer.proofs.Unders.{seat_low}
+use Rattle.b67_refer.proofs.Marks.{stack_known, view_low}
+use Rattle.b67_refer.proofs.Chains.{level_is}
+
+module _ (core : List Tagged) (r : Regs) (a : Scene core r) where
+  -- the fields of a reference's spot fit its word
+  spot_fits : (g offset : ℕ) → NamesEntered (reach a) g → offset < 2 ^ 12 → IsSirw (record { stack = (view a g).stack; disp = (view a g).disp; offset = offset })
+  spot_fits g offset n low =
+      let k = stack_known core r a g n.standing n.among in
+      let few = a.holds.fits.few in
+      let number = a.ordered.few in
+      record {
+        stack = ⊎_elim (λ (u : (view a g).stack < a.plan.peak). omega (arith, u, few)) (λ o. ⊎_elim (λ e. omega (arith, e, number)) (λ e. omega (arith, e)) o) k;
+        disp = disp_fits;
+        offset = omega (arith, low);
+      } where
+        by_base : (z : Spot) → z ≡ base_spot a.member.setting.number g → z.disp < 2 ^ 16
+        by_base z e = subst (λ (y : Spot). y.disp < 2 ^ 16) (sym e) (by_test (Rattle.std.proofs.Common.eqb g 1)) where
+          by_test : (b : Rattle.std.proofs.Common.Bool) → (let y : Spot = Rattle.std.proofs.Common.cond b (record { stack = 127 + a.member.setting.number; disp = 0 }) (record { stack = 136; disp = 0 }) in y).disp < 2 ^ 16
+          by_test Rattle.std.proofs.Common.true = omega arith
+          by_test Rattle.std.proofs.Common.false = omega arith
+
+        disp_fits : (view a g).disp < 2 ^ 16
+        disp_fits = ⊎_elim
+            (λ (own : 1 < g).
+            (let b = seat core r a g n.standing n.among own in
+            let small = a.holds.memory.slots.laid.room in
+            let low = seat_low core r a g n own in
+            let e : (view a g).disp ≡ height b.below = ap (λ (z : Spot). z.disp) b.spot in
+            omega (arith, e, low, small)))
+            (λ (low : g ≤ 1). by_base (view a g) (view_low core r a g low))
+            (cases_lt 1 g)
+
+  -- an IRW is that of a couple, and another reference an SIRW
+  pub irw_is : (at owner : ℕ) (w : Tagged) (v : Word) (i : Irw) → StandsFor a at owner w v → IsReference v → IsIrw i → w ≡ irw_word i → v ≡ Name i.couple
+  irw_is at owner w (Name c) i s ref fits e = ap Name (ap (λ (x : Tagged). x.bits) (sym s.0.0 ∙ e))
+  irw_is at owner w (Ref g d) i s ref fits e = absurd (let z = ap (λ (x : Tagged). x.bits) (sym s.0.0 ∙ e) in let small = fits.couple in omega (arith, z, small))
+  irw_is at owner w (Operand b) i s ref fits e = absurd ref
+  irw_is at owner w (Row b) i s ref fits e = absurd ref
+  irw_is at owner w (Element b d) i s ref fits e = absurd ref
+  irw_is at owner w (Original b) i s ref fits e = absurd ref
+  irw_is at owner w (Proc g l p) i s ref fits e = absurd ref
+  irw_is at owner w (Intrinsic n) i s ref fits e = absurd ref
+  irw_is at owner w (Words.Segment n) i s ref fits e = absurd ref
+
+  -- a stuffed reference of a frame
+  pub record Stuffed (w : Tagged) (v : Word) : Type 0 where
+    pub frame : ℕ
+    pub offset : ℕ
+    pub names : NamesEntered (reach a) frame
+    pub word : v ≡ Ref frame offset
+    pub fits : IsSirw (record { stack = (view a frame).stack; disp = (view a frame).disp; offset = offset })
+    pub is : w ≡ sirw_word (record { stack = (view a frame).stack; disp = (view a frame).disp; offset = offset })
+
+  pub stuffed : (at owner : ℕ) (w : Tagged) (v : Word) → StandsFor a at owner w v → IsReference v → ((i : Irw) → IsIrw i → w ≡ irw_word i → ⊥) → Stuffed w v
+  stuffed at owner w (Name c) s ref other = absurd (other (record { couple = c }) (record { couple = s.1 }) s.0.0)
+  stuffed at owner w (Ref g d) s ref other = record { frame = g; offset = d; names = s.1.0; word = refl; fits = spot_fits g d s.1.0 s.1.1; is = s.0.0 }
+  stuffed at owner w (Operand b) s ref other = absurd ref
+  stuffed at owner w (Row b) s ref other = absurd ref
+  stuffed at owner w (Element b d) s ref other = absurd ref
+  stuffed at owner w (Original b) s ref other = absurd ref
+  stuffed at owner w (Proc g l p) s ref other = absurd ref
+  stuffed at owner w (Intrinsic n) s ref other = absurd ref
+  stuffed at owner w (Words.Segment n) s ref other = absurd ref
+
+  module _ (q : Place) where
+    pub finds_name : (v : Word) (bits : ℕ) (c : Couple) (found : Result ℕ Fault) → v ≡ Name bits → c ≡ couple bits r.level → FindsCell a q found (named (here a.member a.task q) c) → FindsCell a q found (place_of (here a.member a.task q) v)
+    finds_name v bits c found e is h =
+        let P : Word → Type 0 = λ x. FindsCell a q found (place_of (here a.member a.task q) x) in
+        let Q : Couple → Type 0 = λ x. FindsCell a q found (named (here a.member a.task q) x) in
+        subst P (sym e) (subst Q (is ∙ ap (couple bits) (level_is core r a)) h)
+
+    pub finds_ref : (v : Word) (g d : ℕ) (found : Result ℕ Fault) → v ≡ Ref g d → CellMeets a q g d found (cell (here a.member a.task q) g d) → FindsCell a q found (place_of (here a.member a.task q) v)
+    finds_ref v g d found e h = let P : Word → Type 0 = λ x. FindsCell a q found (place_of (here a.member a.task q) x) in subst P (sym e) h
+
+    -- a cell that isn't there ends the chain
+    pub turn_err : (n : ℕ) (v : Word) (fault : Fault) → 0 < n → FindsCell a q (Err fault) (place_of (here a.member a.task q) v) → chase_on (here a.member a.task q) n (Leads v) ≡ Err fault
+    turn_err zero v fault some h = absurd (omega (arith, some))
+    turn_err (suc n) v fault some h = ap (chase_on (here a.member a.task q) n) (by_place (place_of (here a.member a.task q) v) h) where
+      by_cell : (f offset : ℕ) (y : Answer Word) → CellMeets a q f offset (Err fault) y → link_in f offset y ≡ Stops (Err fault)
+      by_cell f offset (Err y) h = ap (λ z. Stops (Err z)) (sym h)
+      by_cell f offset (Ok w) h = absurd h
+
+      by_place : (y : Answer (ℕ × ℕ)) → FindsCell a q (Err fault) y → link_from (here a.member a.task q) y ≡ Stops (Err fault)
+      by_place (Err y) h = let z : y ≡ fault = cc in ap (λ x. Stops (Err x)) z
+      by_place (Ok at) h = by_cell at.0 at.1 (cell (here a.member a.task q) at.0 at.1) h
+
+    -- the cell that was found, and what its word comes to
+    pub record Turn (at : ℕ) (v : Word) : Type 0 where
+      pub frame : ℕ
+      pub offset : ℕ
+      pub word : Word
+      pub cell : IsCellAt a q at frame offset word
+      pub is : link (here a.member a.task q) v ≡ link_at frame offset word
+
+    pub turn : (at : ℕ) (v : Word) → FindsCell a q (Ok at) (place_of (here a.member a.task q) v) → Turn at v
+    turn at v h = by_place (place_of (here a.member a.task q) v) refl h where
+      by_cell : (f offset : ℕ) (y : Answer Word) → link (here a.member a.task q) v ≡ link_in f offset y → CellMeets a q f offset (Ok at) y → Turn at v
+      by_cell f offset (Err y) e h = absurd h
+      by_cell f offset (Ok w) e h = record { frame = f; offset = offset; word = w; cell = h; is = e }
+
+      by_place : (y : Answer (ℕ × ℕ)) → place_of (here a.member a.task q) v ≡ y → FindsCell a q (Ok at) y → Turn at v
+      by_place (Err y) e h = absurd (let z : ⊥ = cc in z)
+      by_place (Ok p) e h = by_cell p.0 p.1 (cell (here a.member a.task q) p.0 p.1) (ap (link_from (here a.member a.task q)) e) h
+
+    -- an end or a fault ends the chain
+    pub turn_end : (n at : ℕ) (v : Word) (t : Turn at v) (found : End) → 0 < n → LinkMeets a q (Ok (Some found)) (link_at t.frame t.offset t.word) → EndMeets a q (Ok found) (chase_on (here a.member a.task q) n (Leads v))
+    turn_end zero at v t found some h = absurd (omega (arith, some))
+    turn_end (suc n) at v t found some h = by_link (link_at t.frame t.offset t.word) t.is h where
+      by_link : (l : Link) → link (here a.member a.task q) v ≡ l → LinkMeets a q (Ok (Some found)) l → EndMeets a q (Ok found) (chase_on (here a.member a.task q) n (link (here a.member a.task q) v))
+      by_link (Stops (Ok end)) e h = let P : Link → Type 0 = λ l. EndMeets a q (Ok found) (chase_on (here a.member a.task q) n l) in subst P (sym e) h
+      by_link (Stops (Err y)) e h = absurd h
+      by_link (Leads w) e h = absurd h
+
+    pub turn_fault : (n at : ℕ) (v : Word) (t : Turn at v) (fault : Fault) → 0 < n → LinkMeets a q (Err fault) (link_at t.frame t.offset t.word) → EndMeets a q (Err fault) (chase_on (here a.member a.task q) n (Leads v))
+    turn_fault zero at v t fault some h = absurd (omega (arith, some))
+    turn_fault (suc n) at v t fault some h = by_link (link_at t.frame t.offset t.word) t.is h where
+      by_link : (l : Link) → link (here a.member a.task q) v ≡ l → LinkMeets a q (Err fault) l → EndMeets a q (Err fault) (chase_on (here a.member a.task q) n (link (here a.member a.task q) v))
+      by_link (Stops (Ok end)) e h = absurd h
+      by_link (Stops (Err y)) e h = let P : Link → Type 0 = λ l. EndMeets a q (Err fault) (chase_on (here a.member a.task q) n l) in subst P (sym e) h
+      by_link (Leads w) e h = absurd h
+
+    leads : (f offset : ℕ) (w : Word) → LinkMeets a q (Ok None) (link_at f offset w) → IsReference w × (link_at f offset w ≡ Leads w)
+    leads f offset (Name c) h = (tt, refl)
+    leads f offset (Ref g d) h = (tt, refl)
+    leads f offset (Operand b) h = absurd h
+    leads f offset (Row b) h = absurd h
+    leads f offset (Element b d) h = absurd h
+    leads f offset (Original b) h = absurd h
+    leads f offset (Proc g l p) h = absurd h
+    leads f offset (Intrinsic n) h = absurd h
+    leads f offset (Words.Segment n) h = absurd h
+
+    -- what is still to be followed of a chain
+    pub record Rest (links : ℕ) (first : Word) (w : Tagged) : Type 0 where
+      pub at : ℕ
+      pub owner : ℕ
+      pub word : Word
+      pub stands : StandsFor a at owner w word
+      pub reference : IsReference word
+      pub same : chase_on (here a.member a.task q) 1024 (Leads first) ≡ chase_on (here a.member a.task q) links (Leads word)
+
+    pub turn_on : (n at : ℕ) (first : Word) (w v : Tagged) (l : Rest n first w) (t : Turn at l.word) → 0 < n → LinkMeets a q (Ok None) (link_at t.frame t.offset t.word) → slice_get core at ≡ Some v → Rest (n - 1) first v
+    turn_on zero at first w v l t some h there = absurd (omega (arith, some))
+    turn_on (suc n) at first w v l t some h there =
+        let k = leads t.frame t.offset t.word h in
+        let is : t.cell.word ≡ v = same_Some _ _ (sym t.cell.there ∙ there) in
+        let P : Tagged → Type 0 = λ x. StandsFor a at t.frame x t.word in
+        let m : n ≡ suc n - 1 = omega arith in
+        record {
+          at = at;
+          owner = t.frame;
+          word = t.word;
+          stands = subst P is t.cell.stands;
+          reference = k.0;
+          same = l.same ∙ ap (chase_on (here a.member a.task q) n) (t.is ∙ k.1) ∙ ap (λ i. chase_on (here a.member a.task q) i (Leads t.word)) m;
+        }
+
+    pub turn_last : (n : ℕ) (first : Word) (w : Tagged) → n ≡ 0 → Rest n first w → EndMeets a q (Err Loop) (chase_on (here a.member a.task q) 1024 (Leads first))
+    turn_last n first w none l =
+        let P : Answer Rattle.b67_model.specs.Chase.End → Type 0 = λ y. EndMeets a q (Err Loop) y in
+        subst P (sym (l.same ∙ ap (λ i. chase_on (here a.member a.task q) i (Leads l.word)) none)) refl

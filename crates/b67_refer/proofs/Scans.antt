@@ -1,0 +1,106 @@
+-- The search from a procedure's cell down to its frame's mark.
+use Rattle.std.proofs.Common.{◌≡◌, ℕ, ◌+◌, ◌-◌, ◌*◌, ◌/◌, ◌%◌, ◌<◌, ◌≤◌, ◌^◌, List, Some, sym, ◌∙◌, ap, arith, length, ⊎_elim}
+use Rattle.std.specs.List.{slice_get}
+use Rattle.std.proofs.lemmas.Bool.{cases_lt}
+use Rattle.std.proofs.lemmas.Nat.{div-mul-add, mod-mul-add}
+use Rattle.std.proofs.lemmas.Option.{same_Some, slice_get_within}
+use Rattle.b67_word.specs.Tagged.{Tagged}
+use Rattle.b67_word.specs.declared.couples.Place.{Place}
+use Rattle.b67_ctl.specs.declared.registers.Regs.{Regs}
+use Rattle.b67_ctl.specs.declared.marks.Mscw.{Mscw}
+use Rattle.b67_ctl.specs.Layout.{mscw_word, IsMscw}
+use Rattle.b67_model.specs.Words.{Proc}
+use Rattle.b67_model.specs.State.{frame, height}
+use Rattle.b67_model.specs.Environment.{level_of_standing, level_of_frame}
+use Rattle.b67_model.specs.InOrder.{Known}
+use Rattle.b67_stack.specs.Stacks.{Spot}
+use Rattle.b67_layout.specs.Meets.{here}
+use Rattle.b67_refer.specs.declared.activation.Activation.{Activation}
+use Rattle.b67_refer.specs.Scene.{Scene}
+use Rattle.b67_refer.specs.Cells.{view, frame_at_core}
+use Rattle.b67_refer.specs.Ends.{IsProcAt}
+use Rattle.b67_refer.proofs.Seats.{seat}
+use Rattle.b67_refer.proofs.Bases.{stacks_is, size_is}
+use Rattle.b67_refer.proofs.Marks.{mark, high_level, frame_known}
+use Rattle.b67_refer.proofs.Rule.{inside, no_mark_under, return_tag, seat_address}
+use Rattle.b67_refer.proofs.Unders.{seat_low, high_address}
+
+module _ (core : List Tagged) (r : Regs) (a : Scene core r) (q : Place) (cell f segment level : ℕ) (place : Place) (p : IsProcAt a q cell f segment level place) where
+  -- a place on the way: above the mark, up to the cell
+  pub record Over (at : ℕ) : Type 0 where
+    pub steps : ℕ
+    pub low : 1 ≤ steps
+    pub high : steps ≤ p.offset
+    pub is : at ≡ frame_at_core a f + steps
+
+  bounds : (2 ≤ p.offset) × (p.offset < 2 + length (seat core r a f p.cell.names.standing p.cell.names.among p.own).frame.cells)
+  bounds = inside core r a q f p.cell.names.standing (seat core r a f p.cell.names.standing p.cell.names.among p.own) p.cell.names.entered p.own p.offset (Proc segment level place) p.cell.found
+
+  pub over_start : Over cell
+  over_start = record { steps = p.offset; low = omega (arith, bounds.0); high = omega arith; is = p.cell.address }
+
+  pub over_inside : (at : ℕ) → Over at → at < length core
+  over_inside at o = let top = slice_get_within core cell p.cell.word p.cell.there in let c = p.cell.address in omega (arith, top, c, o.is, o.high)
+
+  -- the first word of tag 3 is the one over the mark
+  pub over_ends : (at : ℕ) (w : Tagged) → Over at → slice_get core at ≡ Some w → w.tag ≡ 3 → at ≡ frame_at_core a f + 1
+  over_ends at w o there tag = ⊎_elim
+      (λ (one : o.steps < 2). (let i = o.is in let l = o.low in omega (arith, one, i, l)))
+      (λ (more : 2 ≤ o.steps). absurd (no_mark_under core r a q f p.cell.names.standing (seat core r a f p.cell.names.standing p.cell.names.among p.own) p.cell.names.entered p.own p.offset o.steps (Proc segment level place) w p.cell.found more o.high (ap (slice_get core) (sym o.is) ∙ there) tag))
+      (cases_lt o.steps 2)
+
+  pub over_next : (at : ℕ) (w : Tagged) → Over at → slice_get core at ≡ Some w → (w.tag ≡ 3 → ⊥) → Over (at - 1) × (1 ≤ at)
+  over_next at w o there tag =
+      let t = return_tag core r a q f p.cell.names.standing (seat core r a f p.cell.names.standing p.cell.names.among p.own) p.cell.names.entered p.own in
+      let i = o.is in
+      let h = o.high in
+      let l = o.low in
+      let more : 2 ≤ o.steps = ⊎_elim
+      (λ (one : o.steps < 2). absurd (tag (let at_is : at ≡ frame_at_core a f + 1 = omega (arith, one, i, l) in ap (λ (x : Tagged). x.tag) (same_Some _ _ (sym there ∙ ap (slice_get core) at_is ∙ t.1)) ∙ t.2)))
+      (λ (more : 2 ≤ o.steps). more)
+      (cases_lt o.steps 2) in
+      (record { steps = o.steps - 1; low = omega (arith, more); high = omega (arith, h); is = omega (arith, i, more) }, omega (arith, i, more))
+
+  -- the spot of the mark, and its level
+  pub mark_low : (r.stacks ≤ frame_at_core a f) × (frame_at_core a f < 2 ^ 20)
+  mark_low = let h = high_address core r a f p.cell.names p.own in let k = stacks_is core r a in (omega (arith, h.0, k), h.1)
+
+  pub spot_is : (size : ℕ) → size ≡ r.stack_size → ((frame_at_core a f - r.stacks) / size ≡ (view a f).stack) × ((frame_at_core a f - r.stacks) % size ≡ (view a f).disp) × (0 < size) × ((view a f).stack < 120) × ((view a f).disp < 2 ^ 14)
+  spot_is size e =
+      let b = seat core r a f p.cell.names.standing p.cell.names.among p.own in
+      let at = seat_address core r a q f p.cell.names.standing b p.cell.names.entered p.own in
+      let low = seat_low core r a f p.cell.names p.own in
+      let k = stacks_is core r a in
+      let z : size ≡ a.plan.size = e ∙ size_is core r a in
+      let d : frame_at_core a f - r.stacks ≡ b.slot * a.plan.size + height b.below = omega (arith, at, k) in
+      let few = a.holds.fits.few in
+      let small = a.holds.memory.slots.laid.room in
+      let used = b.top_is.used in
+      let sp : view a f ≡ record { stack = b.slot; disp = height b.below } = b.spot in (
+        ap (λ n. n / size) d ∙ ap (λ n. (b.slot * a.plan.size + height b.below) / n) z ∙ div-mul-add b.slot a.plan.size (height b.below) low ∙ ap (λ (y : Spot). y.stack) (sym sp),
+        ap (λ n. n % size) d ∙ ap (λ n. (b.slot * a.plan.size + height b.below) % n) z ∙ mod-mul-add b.slot a.plan.size (height b.below) low ∙ ap (λ (y : Spot). y.disp) (sym sp),
+        omega (arith, z, low),
+        (let y : (view a f).stack ≡ b.slot = ap (λ (y : Spot). y.stack) sp in omega (arith, y, used, few)),
+        (let y : (view a f).disp ≡ height b.below = ap (λ (y : Spot). y.disp) sp in omega (arith, y, low, small)),
+      )
+
+  pub mark_there : (m : Mscw) × IsMscw m × (slice_get core (frame_at_core a f) ≡ Some (mscw_word m)) × (m.level ≡ level_of_frame (frame (here a.member a.task q) f))
+  mark_there =
+      let n = p.cell.names in
+      let own = p.own in
+      let low = high_level core r a f n.standing n.among n.entered own in
+      let m = mark core r a f n.standing n.among n.entered (omega (arith, low)) in
+      (m.mark, m.fits, m.there, m.level ∙ ap (λ (k : Known). level_of_standing k.1) (sym (frame_known core r a q f n.standing n.among)))
+
+  -- the same for the address that was found
+  pub found_spot : (m size : ℕ) → m ≡ frame_at_core a f → size ≡ r.stack_size → ((m - r.stacks) / size ≡ (view a f).stack) × ((m - r.stacks) % size ≡ (view a f).disp) × (0 < size) × ((view a f).stack < 120) × ((view a f).disp < 2 ^ 14)
+  found_spot m size e z =
+      let s = spot_is size z in
+      (ap (λ n. (n - r.stacks) / size) e ∙ s.0, ap (λ n. (n - r.stacks) % size) e ∙ s.1, s.2, s.3, s.4)
+
+  pub found_mark : (m : ℕ) → m ≡ frame_at_core a f → (k : Mscw) × IsMscw k × (slice_get core m ≡ Some (mscw_word k)) × (k.level ≡ level_of_frame (frame (here a.member a.task q) f))
+  found_mark m e = let k = mark_there in (k.0, k.1, ap (slice_get core) e ∙ k.2, k.3)
+
+  pub found_activation : (stack disp low : ℕ) → stack ≡ (view a f).stack → disp ≡ (view a f).disp → low ≡ level_of_frame (frame (here a.member a.task q) f)
+      → ◌≡◌ {A = Activation} (record { stack = stack; disp = disp; level = low }) (record { stack = (view a f).stack; disp = (view a f).disp; level = level_of_frame (frame (here a.member a.task q) f) })
+  found_activation stack disp low x y z = λ i. record { stack = x i; disp = y i; level = z i }

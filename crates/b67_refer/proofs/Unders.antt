@@ -1,0 +1,139 @@
+-- The top of the stack in which an address is, and the frames whose marks are there.
+use Rattle.std.proofs.Common.{◌≡◌, ℕ, ◌+◌, ◌-◌, ◌*◌, ◌/◌, ◌<◌, ◌≤◌, ◌^◌, List, Some, refl, sym, ◌∙◌, ap, arith, ⊎_elim, length, get_or, true, false, Ok, Err}
+use Rattle.std.specs.Prelude.{nat_le}
+use Rattle.std.specs.List.{slice_get}
+use Rattle.std.proofs.lemmas.Nat.{div-mul-add}
+use Rattle.std.proofs.lemmas.Bool.{cases_lt, lt-leb, le-leb}
+use Rattle.std.proofs.lemmas.Option.{get_or_from_slice_get}
+use Rattle.b67_word.specs.Tagged.{Tagged}
+use Rattle.b67_word.specs.declared.couples.Place.{Place}
+use Rattle.b67_word.specs.declared.couples.Couple.{Couple}
+use Rattle.b67_ctl.specs.declared.registers.Regs.{Regs}
+use Rattle.b67_ctl.specs.declared.marks.Toscw.{Toscw}
+use Rattle.b67_ctl.specs.Layout.{toscw_word, IsToscw}
+use Rattle.b67_word.specs.declared.faults.Fault.TheVariants.{InvalidAddress}
+use Rattle.b67_model.specs.State as State
+use Rattle.b67_model.specs.State.{Frame, Standing, height}
+use Rattle.b67_model.specs.InOrder.{reach_of, NamesEntered}
+use Rattle.b67_model.specs.Environment.{frame_at}
+use Rattle.b67_model.specs.Cells.{named}
+use Rattle.b67_stack.specs.Stacks.{Spot, head_size, high}
+use Rattle.b67_layout.specs.Plan.{spot_in}
+use Rattle.b67_layout.specs.Layout.{head}
+use Rattle.b67_layout.specs.Session.{frame_address}
+use Rattle.b67_layout.specs.Meets.{here}
+use Rattle.b67_layout.proofs.Frames.{height-is}
+use Rattle.b67_refer.specs.Scene.{Scene, IsShown}
+use Rattle.b67_refer.specs.Cells.{IsUnder}
+use Rattle.b67_refer.proofs.Bases.{stacks_is, size_is, slot_inside, dictionary_is, dictionary_low}
+use Rattle.b67_refer.proofs.Seats.{seat}
+use Rattle.b67_refer.proofs.Rule.{seat_address}
+use Rattle.b67_refer.proofs.Fixed.{mcp_address, dictionary_home, dictionary_high}
+use Rattle.b67_refer.proofs.Chains.{level, level_is, level_at, frame_at_same}
+
+one_word : (spot : ℕ → Spot) (s : Standing) → 1 ≤ head_size (head spot s)
+one_word spot State.Marked = omega arith
+one_word spot (State.Entered l environment back) = omega arith
+
+module _ (core : List Tagged) (r : Regs) (a : Scene core r) where
+  pub slot_found : (from top size : ℕ) (u : IsUnder a from top) → size ≡ r.stack_size → (from - r.stacks) / size ≡ u.slot
+  slot_found from top size u e =
+      let z : size ≡ a.plan.size = e ∙ size_is core r a in
+      let k = stacks_is core r a in
+      let at = u.at in
+      let d : from - r.stacks ≡ u.slot * a.plan.size + u.disp = omega (arith, k, at) in
+      ap (λ n. n / size) d ∙ ap (λ n. (u.slot * a.plan.size + u.disp) / n) z ∙ div-mul-add u.slot a.plan.size u.disp u.low
+
+  pub top_running : (from top size : ℕ) (u : IsUnder a from top) → size ≡ r.stack_size → (from - r.stacks) / size ≡ r.slot → r.s ≡ top
+  top_running from top size u e runs = ⊎_elim (λ b. b.1) (λ b. absurd (b.0 (sym runs ∙ slot_found from top size u e))) u.is.by
+
+  pub top_waiting : (from top size : ℕ) (u : IsUnder a from top) → size ≡ r.stack_size → ((from - r.stacks) / size ≡ r.slot → ⊥)
+      → (w : Toscw) × IsToscw w × (slice_get core (r.stacks + (from - r.stacks) / size * size) ≡ Some (toscw_word w)) × (r.stacks + (from - r.stacks) / size * size + w.s ≡ top)
+  top_waiting from top size u e runs =
+      let first : r.stacks + (from - r.stacks) / size * size ≡ a.plan.stacks + u.slot * a.plan.size =
+      ap (λ n. r.stacks + n * size) (slot_found from top size u e) ∙ ap (λ n. r.stacks + u.slot * n) (e ∙ size_is core r a) ∙ ap (λ n. n + u.slot * a.plan.size) (stacks_is core r a) in
+      ⊎_elim
+      (λ b. absurd (runs (slot_found from top size u e ∙ sym b.0)))
+      (λ b. (b.1.0, b.1.1, ap (slice_get core) first ∙ b.1.2, ap (λ n. n + b.1.0.s) first ∙ b.1.3))
+      u.is.by
+
+  -- a frame of a task is under its stack's top
+  pub under : (f : ℕ) (n : NamesEntered (reach_of a.member.course.job a.task) f) (own : 1 < f) → IsUnder a (frame_address a.plan a.member a.task f) (seat core r a f n.standing n.among own).top
+  under f n own =
+      let b = seat core r a f n.standing n.among own in
+      let h = height-is a.plan a.member.setting.number a.member.course.job b.slot b.outer b.below in
+      let w = one_word (spot_in b.slot b.outer b.below) b.frame.standing in
+      record {
+        slot = b.slot;
+        disp = height b.below;
+        low = omega (arith, h, w, b.part.low, b.part.room);
+        at = seat_address core r a a.task.place f n.standing b n.entered own;
+        is = b.top_is;
+      }
+
+  pub seat_low : (f : ℕ) (n : NamesEntered (reach_of a.member.course.job a.task) f) (own : 1 < f) → height (seat core r a f n.standing n.among own).below < a.plan.size
+  seat_low f n own =
+      let b = seat core r a f n.standing n.among own in
+      let h = height-is a.plan a.member.setting.number a.member.course.job b.slot b.outer b.below in
+      let w = one_word (spot_in b.slot b.outer b.below) b.frame.standing in
+      omega (arith, h, w, b.part.low, b.part.room)
+
+  pub high_address : (f : ℕ) → NamesEntered (reach_of a.member.course.job a.task) f → 1 < f → (a.plan.stacks ≤ frame_address a.plan a.member a.task f) × (frame_address a.plan a.member a.task f < 2 ^ 20)
+  high_address f n own =
+      let u = under f n own in
+      let at = u.at in
+      let low = u.low in
+      let i = slot_inside core r a u.slot u.is.used in
+      (omega (arith, at), omega (arith, at, low, i.0, i.1, i.2))
+
+  -- which frame it is by the address
+  pub is_mcp : (f from : ℕ) → NamesEntered (reach_of a.member.course.job a.task) f → from ≡ frame_address a.plan a.member a.task f → from ≡ 0 → f ≡ 0
+  is_mcp f from n e zero = ⊎_elim
+      (λ (own : 1 < f). absurd (let h = high_address f n own in let d = dictionary_low core r a in omega (arith, h.0, e, zero, d)))
+      (λ (low : f ≤ 1). ⊎_elim
+      (λ (z : f < 1). omega (arith, z))
+      (λ (one : 1 ≤ f). (let is : f ≡ 1 = omega (arith, low, one) in let at : from ≡ a.plan.dictionary a.member.setting.number = e ∙ ap (frame_address a.plan a.member a.task) is ∙ dictionary_home core r a in let d = dictionary_high core r a in absurd (omega (arith, at, zero, d))))
+      (cases_lt f 1))
+      (cases_lt 1 f)
+
+  pub is_dictionary : (f from : ℕ) → NamesEntered (reach_of a.member.course.job a.task) f → from ≡ frame_address a.plan a.member a.task f → (from ≡ 0 → ⊥) → from ≡ r.dict → f ≡ 1
+  is_dictionary f from n e some is = ⊎_elim
+      (λ (own : 1 < f). absurd (let h = high_address f n own in let d = dictionary_low core r a in let k = dictionary_is core r a in omega (arith, h.0, e, is, k, d)))
+      (λ (low : f ≤ 1). ⊎_elim
+      (λ (z : f < 1). absurd (let zero : f ≡ 0 = omega (arith, z) in some (e ∙ ap (frame_address a.plan a.member a.task) zero ∙ mcp_address core r a)))
+      (λ (one : 1 ≤ f). omega (arith, low, one))
+      (cases_lt f 1))
+      (cases_lt 1 f)
+
+  pub is_task : (f from : ℕ) → NamesEntered (reach_of a.member.course.job a.task) f → from ≡ frame_address a.plan a.member a.task f → (from ≡ 0 → ⊥) → (from ≡ r.dict → ⊥) → 1 < f
+  is_task f from n e some other = ⊎_elim
+      (λ (own : 1 < f). own)
+      (λ (low : f ≤ 1). ⊎_elim
+      (λ (z : f < 1). absurd (let zero : f ≡ 0 = omega (arith, z) in some (e ∙ ap (frame_address a.plan a.member a.task) zero ∙ mcp_address core r a)))
+      (λ (one : 1 ≤ f). absurd (let is : f ≡ 1 = omega (arith, low, one) in other (e ∙ ap (frame_address a.plan a.member a.task) is ∙ dictionary_home core r a ∙ sym (dictionary_is core r a))))
+      (cases_lt f 1))
+      (cases_lt 1 f)
+
+  -- the number of a dictionary's entries
+  pub entries_is : r.entries ≡ length a.member.setting.dictionary.cells
+  entries_is = (a.holds.running a.member a.task a.running).entries
+
+  -- a couple's frame
+  module _ (q : Place) (display : List ℕ) (shown : IsShown a display) (c : Couple) where
+    pub named_above : r.level < c.level → named (here a.member a.task q) c ≡ Err InvalidAddress
+    named_above high = let e = level_is core r a in let t : nat_le c.level (level core r a) ≡ false = lt-leb c.level (level core r a) (omega (arith, e, high)) in rw t refl
+
+    pub named_at : c.level ≤ r.level → named (here a.member a.task q) c ≡ Ok ((frame_at (here a.member a.task q) c.level).identity, c.disp)
+    named_at low = let e = level_is core r a in let t : nat_le c.level (level core r a) ≡ true = le-leb c.level (level core r a) (omega (arith, e, low)) in rw t refl
+
+    pub names_level : c.level ≤ r.level → NamesEntered (reach_of a.member.course.job a.task) (frame_at (here a.member a.task q) c.level).identity
+    names_level low =
+        let e = level_is core r a in
+        let k = level_at core r a q c.level (omega (arith, e, low)) in
+        record { standing = (frame_at (here a.member a.task q) c.level).standing; among = k.among; entered = k.entered }
+
+    pub display_at : c.level ≤ r.level → get_or display c.level 0 ≡ frame_address a.plan a.member a.task (frame_at (here a.member a.task q) c.level).identity
+    display_at low =
+        let e = level_is core r a in
+        get_or_from_slice_get display c.level _ 0 (shown c.level (omega (arith, e, low)))
+        ∙ ap (λ (f : Frame). frame_address a.plan a.member a.task f.identity) (frame_at_same core r a a.task.place q c.level)

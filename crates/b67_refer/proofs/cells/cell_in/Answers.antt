@@ -1,0 +1,42 @@
+use Rattle.std.proofs.Common.{◌+◌, sym, arith, inl, inr, subst, ℕ, Ok}
+use Rattle.b67_model.specs.Cells.{cell}
+use Rattle.b67_layout.specs.Meets.{here}
+use Rattle.b67_refer.specs.Cells.{CellMeets}
+use Rattle.b67_refer.proofs.Unders.{is_task}
+use Rattle.b67_refer.proofs.Founds.{mcp_far, mcp_found, dictionary_far, dictionary_found, dictionary_small}
+use Rattle.b67_refer.proofs.cells.cell_in.Goals as goal
+use Rattle.b67_refer.proofs.cells.cell_in.Goals.{then-offset-lt8-via-then-offset-lt8, then-offset-lt8-via-else-offset-lt8+then-offset-gt16, then-offset-lt2-via-then-offset-lt2, then-offset-lt2-via-else-offset-lt2+then-from}
+
+pub returns-then-offset-lt8 : goal.returns-then-offset-lt8
+returns-then-offset-lt8 c = λ a q f n e.
+    mcp_far c.args.core.now c.args.regs.now a q f c.args.base c.args.offset n e c.if-base-eq0.true (elim c.then-offset-lt8.branch [
+      | then-offset-lt8-via-then-offset-lt8 w ↦ inl (omega (arith, w.if-offset-lt8.true))
+      | then-offset-lt8-via-else-offset-lt8+then-offset-gt16 w ↦ inr (omega (arith, w.if-offset-gt16.true))
+    ])
+
+pub returns-then-base-eq0 : goal.returns-then-base-eq0
+returns-then-base-eq0 c = λ a q f n e.
+    mcp_found c.args.core.now c.args.regs.now a q f c.args.base c.args.offset n e c.from.result c.from.ensures c.if-base-eq0.true (omega (arith, c.if-offset-lt8.false)) (omega (arith, c.if-offset-gt16.false))
+
+pub returns-then-offset-lt2 : goal.returns-then-offset-lt2
+returns-then-offset-lt2 c = λ a q f n e.
+    dictionary_far c.args.core.now c.args.regs.now a q f c.args.base c.args.offset n e c.if-base-eq0.false c.if-base-regs.true (elim c.then-offset-lt2.branch [
+      | then-offset-lt2-via-then-offset-lt2 w ↦ inl (omega (arith, w.if-offset-lt2.true))
+      | then-offset-lt2-via-else-offset-lt2+then-from w ↦ inr (omega (arith, w.if-from.true, w.from-else-offset-lt2.ensures, w.from-else-offset-lt2-2.ensures))
+    ])
+
+pub overflow_add-result : goal.overflow_add-result
+overflow_add-result c = omega (arith, dictionary_small c.args.core.now c.args.regs.now c.requires.0, c.if-base-regs.true, c.from-then-base-regs.ensures, c.ranges.offset.fits)
+
+pub returns-then-base-regs : goal.returns-then-base-regs
+returns-then-base-regs c = λ a q f n e.
+    let found = dictionary_found c.args.core.now c.args.regs.now a q f c.args.base c.args.offset n e c.if-base-eq0.false c.if-base-regs.true (omega (arith, c.if-offset-lt2.false)) (omega (arith, c.if-from.false, c.from-else-offset-lt2.ensures, c.from-else-offset-lt2-2.ensures)) in
+    subst (λ (i : ℕ). CellMeets a q f c.args.offset (Ok (c.args.base + i)) (cell (here a.member a.task q) f c.args.offset)) (sym c.from-then-base-regs.ensures) found
+
+pub slot_cell-requires : goal.slot_cell-requires
+slot_cell-requires c =
+    let (a, f, n, e) = c.requires in
+    (a, f, n, is_task c.args.core.now c.args.regs.now a f c.args.base n e c.if-base-eq0.false c.if-base-regs.false, e)
+
+pub returns : goal.returns
+returns c = λ a q f n e. c.slot_cell.ensures a q f n (is_task c.args.core.now c.args.regs.now a f c.args.base n e c.if-base-eq0.false c.if-base-regs.false) e

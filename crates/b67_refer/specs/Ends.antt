@@ -1,0 +1,73 @@
+-- Where references end in core.
+use Rattle.std.specs.Prelude.{◌≡◌, ℕ, ◌<◌, List, Option, Some, None, Result, Ok, Err, slice_get}
+use Rattle.b67_word.specs.Tagged.{Tagged}
+use Rattle.b67_word.specs.declared.couples.Place.{Place}
+use Rattle.b67_word.specs.declared.faults.Fault.{Fault}
+use Rattle.b67_ctl.specs.declared.registers.Regs.{Regs}
+use Rattle.b67_ctl.specs.declared.descriptors.DataDesc.{DataDesc}
+use Rattle.b67_ctl.specs.Descriptors.{data_word, IsDataDesc}
+use Rattle.b67_model.specs.Answers.{Answer}
+use Rattle.b67_model.specs.Words.{Word, Operand, Name, Ref, Proc}
+use Rattle.b67_model.specs.InOrder.{NamesArray}
+use Rattle.b67_model.specs.Chase as Chase
+use Rattle.b67_model.specs.Chase.{AtCell, AtElement, AtArray, AtProc, AtIntrinsic, Link, Stops, Leads}
+use Rattle.b67_stack.specs.Shapes.{Copied, IsCopy}
+use Rattle.b67_stack.specs.Picture.{Picture}
+use Rattle.b67_stack.specs.Stands.{Storage, Stands}
+use Rattle.b67_refer.specs.declared.ends.End.{End}
+use Rattle.b67_refer.specs.declared.ends.End.TheVariants as end
+use Rattle.b67_refer.specs.Scene.{Scene}
+use Rattle.b67_refer.specs.Cells.{reach, IsCellAt}
+
+-- a copy of the array whose original has this address, in some machine of this core
+pub record IsCopyOf (core : List Tagged) (copy : DataDesc) (home : ℕ) : Type 0 where
+  pub storage : Storage
+  pub registers : Regs
+  pub picture : Picture
+  pub stands : Stands storage core registers picture
+  pub copied : Copied
+  pub fits : IsDataDesc copy
+  pub is : IsCopy storage.held copied home (data_word copy)
+
+-- the word at an address has this tag
+abbrev pub HasTag : List Tagged → (at tag : ℕ) → Type 0
+HasTag core at tag = (v : Tagged) × (slice_get core at ≡ Some v) × (v.tag ≡ tag)
+
+-- an IRW's or an SIRW's word
+abbrev pub IsReference : Word → Type 0
+IsReference (Name couple) = Unit {0}
+IsReference (Ref frame offset) = Unit {0}
+IsReference _ = ⊥
+
+module _ {core : List Tagged} {r : Regs} (a : Scene core r) (q : Place) where
+  -- the cell of a procedure
+  pub record IsProcAt (at f segment level : ℕ) (place : Place) : Type 0 where
+    pub own : 1 < f
+    pub offset : ℕ
+    pub cell : IsCellAt a q at f offset (Proc segment level place)
+
+  -- an array whose original has this address
+  pub record IsArrayOf (original array index : ℕ) : Type 0 where
+    pub home : original ≡ a.plan.home a.member.setting.number array
+    pub names : NamesArray a.member.course.job.arrays (reach a) array index
+
+  abbrev pub EndIs : End → Chase.End → Type 0
+  EndIs (end.Cell at) (AtCell f offset bits) = IsCellAt a q at f offset (Operand bits)
+  EndIs (end.Element original index) (AtElement array i) = (index ≡ i) × IsArrayOf original array i
+  EndIs (end.Array original) (AtArray array) = IsArrayOf original array 0
+  EndIs (end.Proc at) (AtProc f segment level place) = IsProcAt at f segment level place
+  EndIs (end.Intrinsic n) (AtIntrinsic k) = n ≡ k
+  EndIs _ _ = ⊥
+
+  -- what was found is the end, or the fault
+  abbrev pub EndMeets : Result End Fault → Answer Chase.End → Type 0
+  EndMeets (Ok found) (Ok end) = EndIs found end
+  EndMeets (Err x) (Err y) = x ≡ y
+  EndMeets _ _ = ⊥
+
+  -- what a cell's word comes to: an end, a fault, or a reference to follow
+  abbrev pub LinkMeets : Result (Option End) Fault → Link → Type 0
+  LinkMeets (Ok (Some found)) (Stops (Ok end)) = EndIs found end
+  LinkMeets (Ok None) (Leads w) = IsReference w
+  LinkMeets (Err x) (Stops (Err y)) = x ≡ y
+  LinkMeets _ _ = ⊥

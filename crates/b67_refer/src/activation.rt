@@ -1,0 +1,54 @@
+//! The activation record in which a procedure lies.
+
+ghost use Rattle.std.specs.Prelude.{◌≡◌, ℕ, List};
+ghost use Rattle.b67_word.specs.declared.couples.Place.{Place};
+ghost use Rattle.b67_model.specs.Environment.{level_of_frame};
+ghost use Rattle.b67_model.specs.State.{frame};
+ghost use Rattle.b67_layout.specs.Meets.{here};
+ghost use Rattle.b67_refer.specs.Scene.{Scene};
+ghost use Rattle.b67_refer.specs.Cells.{view, frame_at_core};
+ghost use Rattle.b67_refer.specs.Ends.{IsProcAt};
+
+use crate::environment::mark_at;
+use b67_core::Core;
+use b67_ctl::Regs;
+
+/// An activation record in a slot: the slot's number, the displacement of its mark, and its level.
+#[derive(Clone, Copy, Debug, PartialEq, Eq)]
+pub struct Activation {
+    pub stack: u16,
+    pub disp: u16,
+    pub level: u8,
+}
+
+/// The address of the mark under a cell of an entered activation record. The word over the mark has tag 3, the cells'
+/// have other tags.
+fn mark_under(core: &Core, regs: &Regs, cell: u32) -> u32
+    requires { (a : Scene core.now regs.now) × (q : Place) × (f : ℕ) × (segment : ℕ) × (level : ℕ) × (place : Place) × IsProcAt a q cell f segment level place }
+    ensures { (a : Scene core.now regs.now) (q : Place) (f segment level : ℕ) (place : Place) → IsProcAt a q cell f segment level place
+        → result ≡ frame_at_core a f }
+{
+    let mut at = cell;
+    'down: loop {
+        if core.get(at).tag() == 3 {
+            return at - 1;
+        }
+        at -= 1;
+    }
+}
+
+/// The activation record in which the cell of a procedure lies: the environment of the procedure's activations.
+pub fn activation_of(core: &Core, regs: &Regs, cell: u32) -> Activation
+    requires { (a : Scene core.now regs.now) × (q : Place) × (f : ℕ) × (segment : ℕ) × (level : ℕ) × (place : Place) × IsProcAt a q cell f segment level place }
+    ensures { (a : Scene core.now regs.now) (q : Place) (f segment level : ℕ) (place : Place) → IsProcAt a q cell f segment level place
+        → result ≡ record { stack = (view a f).stack; disp = (view a f).disp; level = level_of_frame (frame (here a.member a.task q) f) } }
+{
+    let mark = mark_under(core, regs, cell);
+    let distance = mark - regs.stacks;
+    let size = u32::from(regs.stack_size);
+    Activation {
+        stack: (distance / size) as u16,
+        disp: (distance % size) as u16,
+        level: mark_at(core, mark).level,
+    }
+}

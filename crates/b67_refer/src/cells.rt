@@ -1,0 +1,96 @@
+//! The cells that references name.
+
+ghost use Rattle.std.specs.Prelude.{◌≡◌, ℕ, ◌<◌, List, Result};
+ghost use Rattle.b67_word.specs.declared.couples.Place.{Place};
+ghost use Rattle.b67_model.specs.InOrder.{NamesEntered};
+ghost use Rattle.b67_model.specs.Cells.{cell, named};
+ghost use Rattle.b67_stack.specs.Stacks.{Spot};
+ghost use Rattle.b67_layout.specs.Meets.{here};
+ghost use Rattle.b67_refer.specs.Scene.{Scene, IsShown};
+ghost use Rattle.b67_refer.specs.Cells.{reach, view, frame_at_core, IsUnder, CellMeets, FindsCell};
+
+use crate::environment::address_of;
+use b67_core::Core;
+use b67_ctl::{Regs, Sirw, Toscw};
+use b67_word::{Couple, Fault};
+
+/// The address of the top word of the stack in which an address of a slot is.
+fn top_of(core: &Core, regs: &Regs, base: u32) -> u32
+    requires { (a : Scene core.now regs.now) × (top : ℕ) × IsUnder a base top }
+    ensures { (a : Scene core.now regs.now) (top : ℕ) → IsUnder a base top → result ≡ top }
+{
+    let size = u32::from(regs.stack_size);
+    let slot = (base - regs.stacks) / size;
+    if slot == u32::from(regs.slot) {
+        return regs.s;
+    }
+    let first = regs.stacks + slot * size;
+    match Toscw::from_word(core.get(first)) {
+        Some(w) => first + u32::from(w.s),
+        None => unreachable!(),
+    }
+}
+
+/// The cell at an offset of an activation record whose mark is at an address of a slot: no mark lies between.
+fn slot_cell(core: &Core, regs: &Regs, base: u32, offset: u16) -> Result<u32, Fault>
+    requires { (a : Scene core.now regs.now) × (f : ℕ) × NamesEntered (reach a) f × (1 < f) × (base ≡ frame_at_core a f) }
+    ensures { (a : Scene core.now regs.now) (q : Place) (f : ℕ) → NamesEntered (reach a) f → 1 < f → base ≡ frame_at_core a f
+        → CellMeets a q f offset result (cell (here a.member a.task q) f offset) }
+{
+    let at = base + u32::from(offset);
+    if offset < 2 || at > top_of(core, regs, base) {
+        return Err(Fault::InvalidAddress);
+    }
+    for k in base + 2..at + 1 {
+        if core.get(k).tag() == 3 {
+            return Err(Fault::InvalidAddress);
+        }
+    }
+    Ok(at)
+}
+
+/// The cell at an offset of the activation record whose mark is at an address: in a slot, the dictionary's or the MCP's.
+fn cell_in(core: &Core, regs: &Regs, base: u32, offset: u16) -> Result<u32, Fault>
+    requires { (a : Scene core.now regs.now) × (f : ℕ) × NamesEntered (reach a) f × (base ≡ frame_at_core a f) }
+    ensures { (a : Scene core.now regs.now) (q : Place) (f : ℕ) → NamesEntered (reach a) f → base ≡ frame_at_core a f
+        → CellMeets a q f offset result (cell (here a.member a.task q) f offset) }
+{
+    if base == 0 {
+        if offset < 8 || offset > 16 {
+            return Err(Fault::InvalidAddress);
+        }
+        return Ok(u32::from(offset));
+    }
+    if base == regs.dict {
+        if offset < 2 || u32::from(offset) > 1 + u32::from(regs.entries) {
+            return Err(Fault::InvalidAddress);
+        }
+        return Ok(base + u32::from(offset));
+    }
+    slot_cell(core, regs, base, offset)
+}
+
+/// The core address of the cell that a couple names in the running environment. INVALID ADDRESS exactly where the level
+/// is above the running one, or the activation record at that level has no such cell: displacements 2 and up, and 8 to
+/// 16 of the MCP.
+pub fn cell_of(core: &Core, regs: &Regs, display: &[u32; 32], c: Couple) -> Result<u32, Fault>
+    requires { (a : Scene core.now regs.now) × IsShown a display.now }
+    ensures { (a : Scene core.now regs.now) (q : Place) → IsShown a display.now
+        → FindsCell a q result (named (here a.member a.task q) c) }
+{
+    if c.level > regs.level {
+        return Err(Fault::InvalidAddress);
+    }
+    cell_in(core, regs, display[c.level as usize], c.disp)
+}
+
+/// The core address of the cell that a stuffed reference names. It needs the reference's activation record alive, and,
+/// where it is a dictionary, that of the running task's job. INVALID ADDRESS exactly where there is no such cell.
+pub fn cell_at(core: &Core, regs: &Regs, r: Sirw) -> Result<u32, Fault>
+    requires { (a : Scene core.now regs.now) × (f : ℕ) × NamesEntered (reach a) f × (view a f ≡ record { stack = r.stack; disp = r.disp }) }
+    ensures { (a : Scene core.now regs.now) (q : Place) (f : ℕ) → NamesEntered (reach a) f → view a f ≡ record { stack = r.stack; disp = r.disp }
+        → CellMeets a q f r.offset result (cell (here a.member a.task q) f r.offset) }
+{
+    let base = address_of(core, regs, r.stack, r.disp);
+    cell_in(core, regs, base, r.offset)
+}

@@ -1,0 +1,158 @@
+//! Where references end.
+
+ghost use Rattle.std.specs.Prelude.{◌≡◌, ℕ, List, Result, Option, Some, Ok, slice_get};
+ghost use Rattle.b67_word.specs.declared.couples.Place.{Place};
+ghost use Rattle.b67_model.specs.Words as Words;
+ghost use Rattle.b67_model.specs.Cells.{place_of};
+ghost use Rattle.b67_model.specs.Chase.{link_at, chase as chase_of, follow};
+ghost use Rattle.b67_layout.specs.Meets.{here};
+ghost use Rattle.b67_refer.specs.Scene.{Scene, IsShown};
+ghost use Rattle.b67_refer.specs.Cells.{StandsFor, IsCellAt, FindsCell};
+ghost use Rattle.b67_refer.specs.Ends.{IsCopyOf, HasTag, IsReference, EndMeets, LinkMeets};
+
+use crate::cells::{cell_at, cell_of};
+use b67_core::Core;
+use b67_ctl::{AreaHead, DataDesc, IntrinsicPcw, Irw, Regs, Sirw};
+use b67_word::{Fault, Word, couple_of};
+
+/// Where a reference ends: at the cell of an operand, at an element of an array, at an array, at the cell of a
+/// procedure, or at an intrinsic procedure. Cells are core addresses, and arrays the core addresses of their originals.
+#[derive(Clone, Copy, Debug, PartialEq, Eq)]
+pub enum End {
+    Cell(u32),
+    Element { original: u32, index: u32 },
+    Array(u32),
+    Proc(u32),
+    Intrinsic(u8),
+}
+
+/// The core address of the original of a copy: that in the head of its area, or its own where the copy is absent.
+pub fn owner(core: &Core, copy: DataDesc) -> u32
+    requires { (home : ℕ) × IsCopyOf core.now copy home }
+    ensures { (home : ℕ) → IsCopyOf core.now copy home → result ≡ home }
+{
+    if !copy.present {
+        return copy.address;
+    }
+    match AreaHead::from_word(core.get(copy.address - 1)) {
+        Some(head) => head.owner,
+        None => unreachable!(),
+    }
+}
+
+/// The end at an array's descriptor in a cell.
+fn array_end(core: &Core, regs: &Regs, at: u32) -> End
+    requires { (a : Scene core.now regs.now) × (q : Place) × (f : ℕ) × (offset : ℕ) × (w : Words.Word) × IsCellAt a q at f offset w × HasTag core.now at 5 }
+    ensures { (a : Scene core.now regs.now) (q : Place) (f offset : ℕ) (w : Words.Word) → IsCellAt a q at f offset w → HasTag core.now at 5
+        → LinkMeets a q (Ok (Some result)) (link_at f offset w) }
+{
+    let d = match DataDesc::from_word(core.get(at)) {
+        Some(d) => d,
+        None => unreachable!(),
+    };
+    if !d.copy {
+        return End::Array(at);
+    }
+    let original = owner(core, d);
+    if !d.indexed {
+        return End::Array(original);
+    }
+    End::Element {
+        original,
+        index: d.length,
+    }
+}
+
+/// What the word in a cell comes to: an end, or None where it is a reference. INVALID OPERAND exactly where it is
+/// neither.
+fn end_at(core: &Core, regs: &Regs, at: u32) -> Result<Option<End>, Fault>
+    requires { (a : Scene core.now regs.now) × (q : Place) × (f : ℕ) × (offset : ℕ) × (w : Words.Word) × IsCellAt a q at f offset w }
+    ensures { (a : Scene core.now regs.now) (q : Place) (f offset : ℕ) (w : Words.Word) → IsCellAt a q at f offset w
+        → LinkMeets a q result (link_at f offset w) }
+{
+    let w = core.get(at);
+    if w.tag() == 0 {
+        return Ok(Some(End::Cell(at)));
+    }
+    if w.tag() == 1 {
+        return Ok(None);
+    }
+    if w.tag() == 5 {
+        return Ok(Some(array_end(core, regs, at)));
+    }
+    if w.tag() != 7 {
+        return Err(Fault::InvalidOperand);
+    }
+    match IntrinsicPcw::from_word(w) {
+        Some(p) => {
+            let number = p.number as u8;
+            Ok(Some(End::Intrinsic(number)))
+        }
+        None => Ok(Some(End::Proc(at))),
+    }
+}
+
+/// The cell that a reference word names.
+fn named_cell(core: &Core, regs: &Regs, display: &[u32; 32], w: Word) -> Result<u32, Fault>
+    requires { (a : Scene core.now regs.now) × IsShown a display.now × (at : ℕ) × (owner : ℕ) × (v : Words.Word) × StandsFor a at owner w v × IsReference v }
+    ensures { (a : Scene core.now regs.now) (q : Place) → IsShown a display.now → (at owner : ℕ) (v : Words.Word) → StandsFor a at owner w v
+        → IsReference v → FindsCell a q result (place_of (here a.member a.task q) v) }
+{
+    match Irw::from_word(w) {
+        Some(r) => cell_of(core, regs, display, couple_of(r.couple, regs.level)),
+        None => match Sirw::from_word(w) {
+            Some(r) => cell_at(core, regs, r),
+            None => unreachable!(),
+        },
+    }
+}
+
+/// Follows a chain of references, of at most 1,024 links.
+fn chase_reference(core: &Core, regs: &Regs, display: &[u32; 32], w: Word) -> Result<End, Fault>
+    requires { (a : Scene core.now regs.now) × IsShown a display.now × (at : ℕ) × (owner : ℕ) × (v : Words.Word) × StandsFor a at owner w v × IsReference v }
+    ensures { (a : Scene core.now regs.now) (q : Place) → IsShown a display.now → (at owner : ℕ) (v : Words.Word) → StandsFor a at owner w v
+        → IsReference v → EndMeets a q result (chase_of (here a.member a.task q) v) }
+{
+    let mut w = w;
+    for _i in 0..1024u32 {
+        let at = match named_cell(core, regs, display, w) {
+            Ok(at) => at,
+            Err(fault) => return Err(fault),
+        };
+        match end_at(core, regs, at) {
+            Ok(Some(end)) => return Ok(end),
+            Ok(None) => w = core.get(at),
+            Err(fault) => return Err(fault),
+        }
+    }
+    Err(Fault::Loop)
+}
+
+/// Where a word leads: a reference to the end of its chain, an element copy to its element. The faults: INVALID ADDRESS
+/// where a reference names no cell, INVALID OPERAND where the chain comes to a word that is no end or where the word
+/// itself is neither a reference nor an element copy, and LOOP where a link after the 1,024th would be followed. The
+/// word is one of the running task's, and the display shows its environment.
+pub fn chase(core: &Core, regs: &Regs, display: &[u32; 32], w: Word) -> Result<End, Fault>
+    requires { (a : Scene core.now regs.now) × IsShown a display.now × (at : ℕ) × (owner : ℕ) × (v : Words.Word) × StandsFor a at owner w v }
+    ensures { (a : Scene core.now regs.now) (q : Place) → IsShown a display.now → (at owner : ℕ) (v : Words.Word) → StandsFor a at owner w v
+        → EndMeets a q result (follow (here a.member a.task q) v) }
+{
+    if w.tag() == 1 {
+        return chase_reference(core, regs, display, w);
+    }
+    if w.tag() != 5 {
+        return Err(Fault::InvalidOperand);
+    }
+    let d = match DataDesc::from_word(w) {
+        Some(d) => d,
+        None => unreachable!(),
+    };
+    if !d.indexed {
+        return Err(Fault::InvalidOperand);
+    }
+    let original = owner(core, d);
+    Ok(End::Element {
+        original,
+        index: d.length,
+    })
+}
