@@ -129,6 +129,11 @@ came_back [] (w ∷ ws) e = absurd (omega (arith, e))
 came_back (x ∷ xs) [] e = absurd (omega (arith, e))
 came_back (x ∷ xs) (w ∷ ws) e = ap (λ r. w ∷ r) (came_back xs ws (omega (arith, e)))
 
+pub jobs_after : (xs lent new : List JobRow) (n : ℕ) (r : JobRow) → lent ≡ xs → (slice_get lent n ≡ Some r → new ≡ slice_set lent n (counted_row r)) → length new ≡ length lent → slice_get xs n ≡ Some r
+    → take (length xs) (new ++ drop (length new) xs) ≡ slice_set xs n (counted_row r)
+jobs_after xs lent new n r same changed len at =
+    came_back xs new (len ∙ ap length same) ∙ changed (ap (λ (l : List JobRow). slice_get l n) same ∙ at) ∙ ap (λ (l : List JobRow). slice_set l n (counted_row r)) same
+
 pub count_shows : (tasks : Tasks) (chosen : Chosen) (room : HasRoom tasks chosen) (lent new : List JobRow) (switches : List text.Switch) (next : ℕ) → lent ≡ tasks.jobs → switches ≡ tasks.switches
     → (slice_get lent (chosen.job - 1) ≡ Some room.job → new ≡ slice_set lent (chosen.job - 1) (counted_row room.job)) → length new ≡ length lent
     → next ≤ length switches → (Past tasks.next_switch (tasks.made + 1) (map switch_of switches) → Past next (tasks.made + 1) (map switch_of switches))

@@ -62,6 +62,7 @@ pub fn count(tasks: &mut Tasks, chosen: Chosen)
     ensures left { length tasks.old.switches < 2 ^ 32 → SwitchesRise (map switch_of tasks.old.switches)
         → IsLeft tasks.old.next_switch tasks.old.made (map switch_of tasks.old.switches)
         → IsLeft tasks.new.next_switch tasks.new.made (map switch_of tasks.new.switches) }
+    ensures jobs { (r : JobRow) → slice_get tasks.old.jobs (chosen.job - 1) ≡ Some r → tasks.new.jobs ≡ slice_set tasks.old.jobs (chosen.job - 1) (counted_row r) }
     ensures rest { tasks.new ≡ record tasks.old {
       jobs = tasks.new.jobs;
       made = tasks.old.made + 1;

@@ -1,10 +1,10 @@
-use Rattle.std.proofs.Common.{◌+◌, map, arith}
+use Rattle.std.proofs.Common.{◌+◌, ◌-◌, map, arith}
 use Rattle.b67_layout.specs.Meets.{with_job}
 use Rattle.b67_task.specs.Tables.{task_row}
 use Rattle.b67_schedule.specs.Counted.{choice_of}
 use Rattle.b67_schedule.proofs.Rising.{lent_left}
 use Rattle.b67_schedule.proofs.Moments.{numbered_with_job, moment_shows}
-use Rattle.b67_schedule.proofs.Counts.{count_shows}
+use Rattle.b67_schedule.proofs.Counts.{count_shows, jobs_after}
 use Rattle.b67_schedule.proofs.counting.count.Goals as goal
 
 pub returns-clause-counted : goal.returns-clause-counted
@@ -22,3 +22,7 @@ pub returns-clause-left : goal.returns-clause-left
 returns-clause-left c = λ short rise left.
     let tasks = c.args.tasks.now in
     lent_left c.as_slice.result.now tasks.switches tasks.next_switch c.first_left-tasks.result (tasks.made + 1) c.as_slice.ensures c.first_left-tasks.ensures.left tasks.made short rise (omega arith) left
+
+pub returns-clause-jobs : goal.returns-clause-jobs
+returns-clause-jobs c = λ r at.
+    jobs_after c.args.tasks.now.jobs c.as_mut_slice.result.now c.count_of_job.new.rows (c.args.chosen.job - 1) r c.as_mut_slice.ensures.value (c.count_of_job.ensures r) c.count_of_job.auto.rows at
