@@ -1,6 +1,9 @@
 //! Areas that are given back: what they hold goes to sectors, and their descriptors' copies become absent.
 #![tactic(auto)]
 
+mod overlays;
 mod search;
+mod writing;
 
+pub use overlays::overlay;
 pub use search::search_copies;

@@ -24,9 +24,9 @@ use Rattle.b67_stack.specs.Picture.{Thing, Picture, slot_base, home_word, home_w
 use Rattle.b67_stack.specs.Stands.{Storage, Content, Keeps, Rests, HoldsIn, Told, info_of, Stands}
 use Rattle.b67_stack.proofs.Homes.{chain_small}
 use Rattle.b67_stack.proofs.Lies.{Upward-same}
-use Rattle.b67_storage.specs.Machine.{IsAbsent, AreBits, with_held}
+use Rattle.b67_storage.specs.Machine.{IsAbsent, with_held, ChainStays}
 use Rattle.b67_storage.proofs.Unchanged.{area_of_thing, home_below, slot_below, base_low, Stands-core}
-use Rattle.b67_storage.proofs.Reheld.{Reheld, ThingStays, ChainStays, Keeps-stays, storage_with, info_with, Stands-reheld}
+use Rattle.b67_storage.proofs.Reheld.{Reheld, ThingStays, Keeps-stays, storage_with, info_with, Stands-reheld}
 use Rattle.b67_storage.proofs.Words.{StacksLie-home, original_word}
 use Rattle.b67_storage.proofs.Holes.{without_fill, place_spot}
 use Rattle.b67_presence.specs.declared.paging.Resting.{Resting}

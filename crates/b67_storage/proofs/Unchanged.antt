@@ -21,7 +21,7 @@ use Rattle.b67_stack.specs.Stands.{Storage, SlotsStand, SlotStands, StacksLie, T
 use Rattle.b67_stack.proofs.Bases.{base-apart}
 use Rattle.b67_stack.proofs.Heights.{words-length}
 use Rattle.b67_stack.proofs.Lies.{Lie-same}
-use Rattle.b67_storage.proofs.Reheld.{SlotsStand-same, ChainStays, Content-stays}
+use Rattle.b67_storage.proofs.Reheld.{SlotsStand-same, Content-stays}
 
 module _ (x : Storage) (core : List Tagged) (r : Regs) (p : Picture) (s : Stands x core r p) where
   -- a thing's area

@@ -3,12 +3,12 @@ use Rattle.std.specs.Prelude.{◌≡◌, ℕ, ◌^◌, ◌<◌, ◌≤◌, ◌==
 use Rattle.std.specs.List.{AllByRecursion}
 use Rattle.b67_area.specs.declared.Areas.{Areas}
 use Rattle.b67_area.specs.Spans.{Span, Area, Hole}
-use Rattle.b67_backing.specs.Shelf.{Table, IsShelf}
+use Rattle.b67_backing.specs.Shelf.{Table, IsShelf, chain_of}
 use Rattle.b67_model.specs.Lists.{Has}
 use Rattle.b67_stack.specs.declared.Cpu.{Cpu}
 use Rattle.b67_stack.specs.Shapes.{Held, Map}
 use Rattle.b67_stack.specs.Picture.{Thing, Picture}
-use Rattle.b67_stack.specs.Stands.{Storage, Stands}
+use Rattle.b67_stack.specs.Stands.{Storage, Told, Stands}
 
 -- what a storage says of the sectors, if anything, is what the device tells
 abbrev pub Says : Option (List (List ℕ)) → Option (List (List ℕ)) → Type 0
@@ -62,3 +62,8 @@ abbrev pub HasRoom : ℕ → List Span → Type 0
 HasRoom n [] = ⊥
 HasRoom n (Area a ∷ ss) = HasRoom n ss
 HasRoom n (Hole m ∷ ss) = (n ≤ m) ⊎ HasRoom n ss
+
+-- the chain of a first sector is the same in another storage, and holds what it held, as far as that is told
+pub record ChainStays (x y : Storage) (first : ℕ) : Type 0 where
+  pub chain : chain_of first y.shelf.chains ≡ chain_of first x.shelf.chains
+  pub told : (ns : List ℕ) → Told x.device (chain_of first x.shelf.chains) ns → Told y.device (chain_of first x.shelf.chains) ns
