@@ -4,3 +4,5 @@ pub mod Chains
 pub mod Dropping
 pub mod Sectors
 pub mod Finish
+pub mod Visits
+pub mod Shedding

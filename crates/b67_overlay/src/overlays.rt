@@ -9,7 +9,7 @@ ghost use Rattle.b67_io.specs.Causes.{Rose};
 ghost use Rattle.b67_stack.specs.Shapes.{Held};
 ghost use Rattle.b67_stack.specs.Picture.{Thing, Picture, home_desc, home_word_of};
 ghost use Rattle.b67_stack.specs.Stands.{Storage, Stands, info_of};
-ghost use Rattle.b67_storage.specs.Machine.{MachineStands, IsPresent};
+ghost use Rattle.b67_storage.specs.Machine.{Served, MachineStands, IsPresent};
 ghost use Rattle.b67_overlay.specs.Turns.{Hides};
 ghost use Rattle.b67_overlay.specs.Overlaid.{overlaid, dropped, retelling, IsOut, IsShort};
 
@@ -110,9 +110,7 @@ pub fn overlay<B: Backing>(
     ensures clean { (x : Storage) (p : Picture) (t : Thing) → MachineStands x cpu.old areas.old sectors.old (B.holds backing.old) p → IsPresent x p area t
         → t.kind ≢ Array → IsOk result × (sectors.new ≡ sectors.old) × (backing.new ≡ backing.old) }
     ensures count { length sectors.new.links ≡ length sectors.old.links }
-    ensures size { B.size backing.new ≡ B.size backing.old }
-    ensures calls { B.calls backing.old ≤ B.calls backing.new }
-    ensures later { B.faults backing.old ≤ B.faults backing.new }
+    ensures device { Served B.holds B.size B.calls B.faults backing.old backing.new }
     ensures cause { result ≡ Err BackingFault → Rose B.faults backing.old backing.new }
 {
     let info = areas.info(&cpu.core, area);

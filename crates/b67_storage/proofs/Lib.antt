@@ -4,3 +4,4 @@ pub mod Unchanged
 pub mod Renumbered
 pub mod Words
 pub mod Holes
+pub mod Devices

@@ -4,6 +4,7 @@ use Rattle.std.specs.List.{AllByRecursion}
 use Rattle.b67_area.specs.declared.Areas.{Areas}
 use Rattle.b67_area.specs.Spans.{Span, Area, Hole}
 use Rattle.b67_backing.specs.Shelf.{Table, IsShelf, chain_of}
+use Rattle.b67_backing.specs.Held.{Changes}
 use Rattle.b67_model.specs.Lists.{Has}
 use Rattle.b67_stack.specs.declared.Cpu.{Cpu}
 use Rattle.b67_stack.specs.Shapes.{Held, Map}
@@ -67,3 +68,10 @@ HasRoom n (Hole m ∷ ss) = (n ≤ m) ⊎ HasRoom n ss
 pub record ChainStays (x y : Storage) (first : ℕ) : Type 0 where
   pub chain : chain_of first y.shelf.chains ≡ chain_of first x.shelf.chains
   pub told : (ns : List ℕ) → Told x.device (chain_of first x.shelf.chains) ns → Told y.device (chain_of first x.shelf.chains) ns
+
+-- a device after calls: it has as many sectors, no count has fallen, and where it told its sectors it still does
+pub record Served {D : Type 0} (holds : D → Option (List (List ℕ))) (many counted failed : D → ℕ) (old new : D) : Type 0 where
+  pub size : many new ≡ many old
+  pub calls : counted old ≤ counted new
+  pub faults : failed old ≤ failed new
+  pub tells : Changes holds old new (λ before after. length after ≡ length before)
