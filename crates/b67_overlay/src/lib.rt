@@ -7,5 +7,5 @@ mod search;
 mod writing;
 
 pub use claims::claim;
-pub use overlays::overlay;
+pub use overlays::{discard, overlay};
 pub use search::search_copies;

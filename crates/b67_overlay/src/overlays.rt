@@ -1,7 +1,8 @@
 //! Areas that are given back.
 
-ghost use Rattle.std.specs.Prelude.{◌≡◌, ◌≢◌, ◌↔◌, ◌⊎◌, ℕ, ◌+◌, ◌^◌, ◌<◌, ◌≤◌, Option, Some, None, Err, OnOk, OnErr, IsOk, length};
+ghost use Rattle.std.specs.Prelude.{◌≡◌, ◌≢◌, ◌↔◌, ◌⊎◌, ℕ, ◌+◌, ◌^◌, ◌<◌, ◌≤◌, List, Option, Some, None, Err, OnOk, OnErr, IsOk, length};
 ghost use Rattle.b67_area.specs.declared.Kind.TheVariants.{Array, Row, Code};
+ghost use Rattle.b67_backing.specs.Shelf.{Table};
 ghost use Rattle.b67_backing.specs.Held.{sectors_for};
 ghost use Rattle.b67_backing.specs.declared.SpaceFault.TheVariants.{NoCore, BackingFull, BackingFault};
 ghost use Rattle.b67_ctl.specs.Descriptors.{data_word};
@@ -84,6 +85,19 @@ fn give_back(cpu: &mut Cpu, areas: &mut Areas, area: u32, info: Info, first: u32
     areas.free(&mut cpu.core, area);
 }
 
+/// Gives back the area of code or of a data row, whose words are in sectors already. No device is called.
+pub fn discard(cpu: &mut Cpu, areas: &mut Areas, area: u32)
+    requires { (x : Storage) × (p : Picture) × (t : Thing) × Stands x cpu.old.core cpu.old.regs p × (areas.old.low ≡ x.low) × IsPresent x p area t × (t.kind ≢ Array) }
+    ensures rest { cpu.new ≡ record cpu.old { core = cpu.new.core } }
+    ensures len { length cpu.new.core ≡ length cpu.old.core }
+    ensures areas { areas.new ≡ areas.old }
+    ensures stands { (x : Storage) (table : Table) (told : Option (List (List ℕ))) (p : Picture) (t : Thing) → MachineStands x cpu.old areas.old table told p
+        → IsPresent x p area t → t.kind ≢ Array → MachineStands (overlaid x t area told) cpu.new areas.new table told p }
+{
+    let info = areas.info(&cpu.core, area);
+    give_back(cpu, areas, area, info, info.kept);
+}
+
 /// Takes an area out of core: the words of an array are written to its chain of sectors, those of code and data rows are
 /// there already. Its copies become absent, and its original or segment descriptor. Nothing of core is changed where it is
 /// refused.
@@ -116,7 +130,7 @@ pub fn overlay<B: Backing>(
     let info = areas.info(&cpu.core, area);
     match info.kind {
         Kind::Row | Kind::Code => {
-            give_back(cpu, areas, area, info, info.kept);
+            discard(cpu, areas, area);
             Ok(())
         }
         Kind::Array => {

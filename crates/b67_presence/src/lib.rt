@@ -2,5 +2,6 @@
 #![tactic(auto)]
 
 mod paging;
+mod way;
 
 pub use paging::{Refusal, page_in};

@@ -32,15 +32,6 @@ info-info-requires g c =
     let here : area_at c.args.areas.now.low x.spans c.args.area ≡ Some (info_of x t) = ap (λ (n : ℕ). area_at n x.spans c.args.area) m.low ∙ ab.here in
     (x.spans, info_of x t, dir, here)
 
-pub give_back-requires : goal.give_back-requires
-give_back-requires g c =
-    let (x, p, t, m, at) = c.requires.machine in
-    let ab = about x c.args.cpu.now.core c.args.cpu.now.regs p m.stands c.args.area t at in
-    let dir : IsDirectory c.args.cpu.now.core c.args.areas.now.low x.spans = subst (λ (n : ℕ). IsDirectory c.args.cpu.now.core n x.spans) (sym m.low) m.stands.directory in
-    let here : area_at c.args.areas.now.low x.spans c.args.area ≡ Some (info_of x t) = ap (λ (n : ℕ). area_at n x.spans c.args.area) m.low ∙ ab.here in
-    let is : c.info-info.result ≡ info_of x t = c.info-info.ensures x.spans (info_of x t) dir here in
-    record { machine = (x, p, t, m.stands, m.low, at, is); first = omega (arith, ab.small, ap (λ (i : Info). i.kept) is) }
-
 pub write_out-requires-clause-some : goal.write_out-requires-clause-some
 write_out-requires-clause-some g c =
     let (x, p, t, m, at) = c.requires.machine in
@@ -83,8 +74,8 @@ write_out-requires-clause-chain g c =
     (kept_chain x c.args.cpu.now.core c.args.cpu.now.regs p m.stands c.args.area t at c.args.sectors.now (g.B.Backing.holds c.args.backing.now) (g.B.Backing.holds c.args.backing.now) m.shelf m.device array)) in
     (x.shelf, m.shelf, chain)
 
-pub give_back-requires-in-Ok-clause-machine : goal.give_back-requires-in-Ok-clause-machine
-give_back-requires-in-Ok-clause-machine g c =
+pub give_back-requires-clause-machine : goal.give_back-requires-clause-machine
+give_back-requires-clause-machine g c =
     let (x, p, t, m, at) = c.requires.machine in
     let ab = about x c.args.cpu.now.core c.args.cpu.now.regs p m.stands c.args.area t at in
     let dir : IsDirectory c.args.cpu.now.core c.args.areas.now.low x.spans = subst (λ (n : ℕ). IsDirectory c.args.cpu.now.core n x.spans) (sym m.low) m.stands.directory in
@@ -92,8 +83,8 @@ give_back-requires-in-Ok-clause-machine g c =
     let is : c.info-info.result ≡ info_of x t = c.info-info.ensures x.spans (info_of x t) dir here in
     (x, p, t, m.stands, m.low, at, is)
 
-pub give_back-requires-in-Ok-clause-first : goal.give_back-requires-in-Ok-clause-first
-give_back-requires-in-Ok-clause-first g c =
+pub give_back-requires-clause-first : goal.give_back-requires-clause-first
+give_back-requires-clause-first g c =
     let (x, p, t, m, at) = c.requires.machine in
     let ab = about x c.args.cpu.now.core c.args.cpu.now.regs p m.stands c.args.area t at in
     let dir : IsDirectory c.args.cpu.now.core c.args.areas.now.low x.spans = subst (λ (n : ℕ). IsDirectory c.args.cpu.now.core n x.spans) (sym m.low) m.stands.directory in
@@ -114,25 +105,6 @@ give_back-requires-in-Ok-clause-first g c =
     let stores = subst S (range_up c.args.cpu.now.core c.args.area (length t.numbers) (words_of t) (length-map t.numbers (word (tag_of t.kind))) ab.words) wr.2 in
     let o = out_written x c.args.cpu.now.core c.args.cpu.now.regs p m.stands c.args.area t at c.args.sectors.now (g.B.Backing.holds c.args.backing.now) (g.B.Backing.holds c.write_out.new.backing) m.shelf m.device array stores.told room in
     omega (arith, o.holds.chain.small, wr.0)
-
-pub returns-in-Row-clause-stands : goal.returns-in-Row-clause-stands
-returns-in-Row-clause-stands g c = λ x p t m at.
-    let ab = about x c.args.cpu.now.core c.args.cpu.now.regs p m.stands c.args.area t at in
-    let dir : IsDirectory c.args.cpu.now.core c.args.areas.now.low x.spans = subst (λ (n : ℕ). IsDirectory c.args.cpu.now.core n x.spans) (sym m.low) m.stands.directory in
-    let here : area_at c.args.areas.now.low x.spans c.args.area ≡ Some (info_of x t) = ap (λ (n : ℕ). area_at n x.spans c.args.area) m.low ∙ ab.here in
-    let is : c.info-info.result ≡ info_of x t = c.info-info.ensures x.spans (info_of x t) dir here in
-    let no_array : t.kind ≢ Array = λ z. ⊎_elim
-    (λ (q : c.info-info.result.kind ≡ Row). let b : ⊥ = cc (z, q, ap (λ (i : Info). i.kind) is) in b)
-    (λ (q : c.info-info.result.kind ≡ Code). let b : ⊥ = cc (z, q, ap (λ (i : Info). i.kind) is) in b)
-    c.in-Row.is in
-    let out = out_clean x c.args.cpu.now.core c.args.cpu.now.regs p m.stands c.args.area t at no_array in
-    let I : ℕ → Type 0 = λ n. IsOut x x p t n in
-    let J : ℕ → Regs → Type 0 = λ n r. Stands (dropped x x t c.args.area n) c.give_back.new.cpu.core r p in
-    let regs : c.give_back.new.cpu.regs ≡ c.args.cpu.now.regs = ap (λ (z : Cpu). z.regs) c.give_back.ensures.rest in
-    let M : Cpu → Type 0 = λ z. MachineStands (overlaid x t c.args.area (g.B.Backing.holds c.args.backing.now)) z c.give_back.new.areas c.args.sectors.now (g.B.Backing.holds c.args.backing.now) p in
-    let kept : c.info-info.result.kept ≡ (x.held t.home).chain = ap (λ (i : Info). i.kept) is in
-    let d = subst (J (x.held t.home).chain) regs (subst (λ (n : ℕ). J n c.give_back.new.cpu.regs) kept (c.give_back.ensures.stands x x p t m.stands m.low at is (subst I (sym kept) out))) in
-    subst M (sym c.give_back.ensures.rest) (clean_machine x c.args.cpu.now c.args.areas.now c.give_back.new.areas c.args.sectors.now (g.B.Backing.holds c.args.backing.now) p c.args.area t m at no_array (ap (λ (z : Areas). z.low) c.give_back.ensures.areas) c.give_back.new.cpu.core d)
 
 pub returns-in-Ok-clause-stands : goal.returns-in-Ok-clause-stands
 returns-in-Ok-clause-stands g c = λ x p t m at.
@@ -156,12 +128,12 @@ returns-in-Ok-clause-stands g c = λ x p t m at.
     let o = out_written x c.args.cpu.now.core c.args.cpu.now.regs p m.stands c.args.area t at c.args.sectors.now (g.B.Backing.holds c.args.backing.now) (g.B.Backing.holds c.write_out.new.backing) m.shelf m.device array stores.told room in
     let y : Storage = record x { shelf = shelf_out x.shelf (x.held t.home).chain (length t.numbers); device = retold x.device (g.B.Backing.holds c.write_out.new.backing) } in
     let I : ℕ → Type 0 = λ n. IsOut x y p t n in
-    let J : ℕ → Regs → Type 0 = λ n r. Stands (dropped x y t c.args.area n) c.give_back-in-Ok.new.cpu.core r p in
-    let regs : c.give_back-in-Ok.new.cpu.regs ≡ c.args.cpu.now.regs = ap (λ (z : Cpu). z.regs) c.give_back-in-Ok.ensures.rest in
-    let M : Cpu → Type 0 = λ z. MachineStands (overlaid x t c.args.area (g.B.Backing.holds c.write_out.new.backing)) z c.give_back-in-Ok.new.areas c.write_out.new.sectors (g.B.Backing.holds c.write_out.new.backing) p in
-    let d = subst (J (chain_out x.shelf (x.held t.home).chain)) regs (subst (λ (n : ℕ). J n c.give_back-in-Ok.new.cpu.regs) wr.0 (c.give_back-in-Ok.ensures.stands x y p t m.stands m.low at is (subst I (sym wr.0) o))) in
-    subst M (sym c.give_back-in-Ok.ensures.rest) (overlaid_machine x c.args.cpu.now c.args.areas.now c.give_back-in-Ok.new.areas c.args.sectors.now c.write_out.new.sectors (g.B.Backing.holds c.args.backing.now) (g.B.Backing.holds c.write_out.new.backing) p c.args.area t m
-    (ap (λ (z : Areas). z.low) c.give_back-in-Ok.ensures.areas) wr.1 (λ all e. let (q, i, st) = stores.told all e in (q, i)) c.give_back-in-Ok.new.cpu.core d)
+    let J : ℕ → Regs → Type 0 = λ n r. Stands (dropped x y t c.args.area n) c.give_back.new.cpu.core r p in
+    let regs : c.give_back.new.cpu.regs ≡ c.args.cpu.now.regs = ap (λ (z : Cpu). z.regs) c.give_back.ensures.rest in
+    let M : Cpu → Type 0 = λ z. MachineStands (overlaid x t c.args.area (g.B.Backing.holds c.write_out.new.backing)) z c.give_back.new.areas c.write_out.new.sectors (g.B.Backing.holds c.write_out.new.backing) p in
+    let d = subst (J (chain_out x.shelf (x.held t.home).chain)) regs (subst (λ (n : ℕ). J n c.give_back.new.cpu.regs) wr.0 (c.give_back.ensures.stands x y p t m.stands m.low at is (subst I (sym wr.0) o))) in
+    subst M (sym c.give_back.ensures.rest) (overlaid_machine x c.args.cpu.now c.args.areas.now c.give_back.new.areas c.args.sectors.now c.write_out.new.sectors (g.B.Backing.holds c.args.backing.now) (g.B.Backing.holds c.write_out.new.backing) p c.args.area t m
+    (ap (λ (z : Areas). z.low) c.give_back.ensures.areas) wr.1 (λ all e. let (q, i, st) = stores.told all e in (q, i)) c.give_back.new.cpu.core d)
 
 pub returns-in-Err-clause-refused : goal.returns-in-Err-clause-refused
 returns-in-Err-clause-refused g c = λ x p t m at.
@@ -233,3 +205,29 @@ returns-in-Err-clause-clean g c = λ x p t m at no_array.
     let is : c.info-info.result ≡ info_of x t = c.info-info.ensures x.spans (info_of x t) dir here in
     let array : t.kind ≡ Array = ap (λ (i : Info). i.kind) (sym is) ∙ c.in-Array.is in
     absurd (no_array array)
+
+
+pub discard-requires : goal.discard-requires
+discard-requires g c =
+    let (x, p, t, m, at) = c.requires.machine in
+    let ab = about x c.args.cpu.now.core c.args.cpu.now.regs p m.stands c.args.area t at in
+    let dir : IsDirectory c.args.cpu.now.core c.args.areas.now.low x.spans = subst (λ (n : ℕ). IsDirectory c.args.cpu.now.core n x.spans) (sym m.low) m.stands.directory in
+    let here : area_at c.args.areas.now.low x.spans c.args.area ≡ Some (info_of x t) = ap (λ (n : ℕ). area_at n x.spans c.args.area) m.low ∙ ab.here in
+    let is : c.info-info.result ≡ info_of x t = c.info-info.ensures x.spans (info_of x t) dir here in
+    let no_array : t.kind ≢ Array = λ z. ⊎_elim
+    (λ (q : c.info-info.result.kind ≡ Row). let b : ⊥ = cc (z, q, ap (λ (i : Info). i.kind) is) in b)
+    (λ (q : c.info-info.result.kind ≡ Code). let b : ⊥ = cc (z, q, ap (λ (i : Info). i.kind) is) in b)
+    c.in-Row.is in
+    (x, p, t, m.stands, m.low, at, no_array)
+
+pub returns-in-Row-clause-stands : goal.returns-in-Row-clause-stands
+returns-in-Row-clause-stands g c = λ x p t m at.
+    let ab = about x c.args.cpu.now.core c.args.cpu.now.regs p m.stands c.args.area t at in
+    let dir : IsDirectory c.args.cpu.now.core c.args.areas.now.low x.spans = subst (λ (n : ℕ). IsDirectory c.args.cpu.now.core n x.spans) (sym m.low) m.stands.directory in
+    let here : area_at c.args.areas.now.low x.spans c.args.area ≡ Some (info_of x t) = ap (λ (n : ℕ). area_at n x.spans c.args.area) m.low ∙ ab.here in
+    let is : c.info-info.result ≡ info_of x t = c.info-info.ensures x.spans (info_of x t) dir here in
+    let no_array : t.kind ≢ Array = λ z. ⊎_elim
+    (λ (q : c.info-info.result.kind ≡ Row). let b : ⊥ = cc (z, q, ap (λ (i : Info). i.kind) is) in b)
+    (λ (q : c.info-info.result.kind ≡ Code). let b : ⊥ = cc (z, q, ap (λ (i : Info). i.kind) is) in b)
+    c.in-Row.is in
+    c.discard.ensures.stands x c.args.sectors.now (g.B.Backing.holds c.args.backing.now) p t m at no_array
