@@ -24,7 +24,8 @@ use Rattle.b67_stack.specs.Stands.{Storage, StacksLie, HoldsIn, info_of, Stands}
 use Rattle.b67_stack.proofs.Bases.{base-apart}
 use Rattle.b67_stack.proofs.Heights.{words-length}
 use Rattle.b67_stack.proofs.Lies.{Lie-each}
-use Rattle.b67_storage.specs.Machine.{IsPresent, with_held, ChainStays}
+use Rattle.b67_storage.specs.Machine.{IsPresent, with_held, ChainStays, Stayed}
+use Rattle.b67_storage.proofs.Below.{stacks_low, not_heads}
 use Rattle.b67_storage.proofs.Unchanged.{area_of_thing, home_below, slot_below, base_low}
 use Rattle.b67_storage.proofs.Reheld.{Reheld, ThingStays, HoldsIn-stays, storage_with, info_with, Stands-reheld}
 use Rattle.b67_storage.proofs.Words.{shape_home, no_code_above, original_word}
@@ -65,6 +66,12 @@ module _ (x y : Storage) (core : List Tagged) (r : Regs) (p : Picture) (s : Stan
 
   pub size2 : length c2 ≡ length core
   size2 = length-set mid t.home w ∙ hd.size
+
+  -- the words below the slots
+  pub below_dropped : (new : List Tagged) → Freed x.low area x.spans c2 new → Stayed p core new
+  below_dropped new f i low out apart =
+      OnlyHoles-below c2 new x.low (without x.low area x.spans) i f.outside (not_heads i out) (omega (arith, stacks_low x core r p s))
+      ∙ slice_get-set_other mid t.home i w (λ e. apart t at.there (sym e)) ∙ hd.below i low out apart
 
   module _ (o : IsOut x y p t first) (new : List Tagged) (f : Freed x.low area x.spans c2 new) where
     abbrev z : Storage

@@ -144,6 +144,7 @@ module _ (x : Storage) (core : List Tagged) (r : Regs) (p : Picture) (s : Stands
         (λ (a : x.low ≤ i). let z : ⊥ = omega (arith, stack_low core r x.low p k l hk, there.1) in z)
         (λ (a : i < 160). let z : ⊥ = omega (arith, there.0, s.slots.laid.first) in z)
         out);
+    below = λ i low out apart. q.others i (λ k hk there. let z : ⊥ = omega (arith, there.0) in z);
   } where
     l : Lies core r x.low p
     l = lies_of x core r p s
@@ -156,6 +157,7 @@ module _ (x : Storage) (core : List Tagged) (r : Regs) (p : Picture) (s : Stands
     homes = λ u inu. refl;
     bases = λ k hk. refl;
     outside = λ i out. refl;
+    below = λ i low out apart. refl;
   } where
     names : (k : ℕ) (y : Slot) → SlotFits p k y → (c : Copied) (q : ℕ) → Has (words k (stack_of y)) (Copy c q) → IsArrayAt p.things q
     names k Free f c q there = absurd there

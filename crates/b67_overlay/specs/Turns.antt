@@ -9,7 +9,7 @@ use Rattle.b67_stack.specs.Shapes.{Held, Shape, Fits}
 use Rattle.b67_stack.specs.Stacks.{high, words}
 use Rattle.b67_stack.specs.Picture.{Thing, Picture, slot_base, stack_of}
 use Rattle.b67_stack.specs.Stands.{Storage, SlotsStand}
-use Rattle.b67_storage.specs.Machine.{with_held}
+use Rattle.b67_storage.specs.Machine.{with_held, Stayed}
 
 abbrev pub IsCopyOf : ℕ → DataDesc → Type 0
 IsCopyOf area d = (d.present ≡ true) × (d.copy ≡ true) × (d.address ≡ area)
@@ -48,3 +48,4 @@ pub record Hides (x : Storage) (core new : List Tagged) (p : Picture) (t : Thing
   pub homes : (u : Thing) → Has p.things u → slice_get new u.home ≡ slice_get core u.home
   pub bases : (k : ℕ) → k < p.peak → slice_get new (slot_base p k) ≡ slice_get core (slot_base p k)
   pub outside : (i : ℕ) → (x.low ≤ i) ⊎ (i < 160) → slice_get new i ≡ slice_get core i
+  pub below : Stayed p core new

@@ -7,7 +7,7 @@ ghost use Rattle.b67_backing.specs.declared.SpaceFault.TheVariants.{NoCore, Back
 ghost use Rattle.b67_io.specs.Causes.{Rose};
 ghost use Rattle.b67_stack.specs.Picture.{Picture};
 ghost use Rattle.b67_stack.specs.Stands.{Storage};
-ghost use Rattle.b67_storage.specs.Machine.{Served, MachineStands};
+ghost use Rattle.b67_storage.specs.Machine.{MachineStands, Served, Stayed};
 ghost use Rattle.b67_overlay.specs.Sheds.{Sheds, IsShortBy};
 
 use crate::overlays::overlay;
@@ -28,6 +28,7 @@ pub fn claim<B: Backing>(
     ensures rest { cpu.new ≡ record cpu.old { core = cpu.new.core } }
     ensures len { length cpu.new.core ≡ length cpu.old.core }
     ensures areas { areas.new ≡ areas.old }
+    ensures outside { (x : Storage) (p : Picture) → MachineStands x cpu.old areas.old sectors.old (B.holds backing.old) p → Stayed p cpu.old.core cpu.new.core }
     ensures clear { OnOk result ((x : Storage) (p : Picture) → MachineStands x cpu.old areas.old sectors.old (B.holds backing.old) p
         → (y : Storage) × Sheds x y 0 × ((at : ℕ) (a : Info) → area_at y.low y.spans at ≡ Some a → upto < at)
             × MachineStands y cpu.new areas.new sectors.new (B.holds backing.new) p) }

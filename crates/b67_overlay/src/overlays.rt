@@ -10,7 +10,7 @@ ghost use Rattle.b67_io.specs.Causes.{Rose};
 ghost use Rattle.b67_stack.specs.Shapes.{Held};
 ghost use Rattle.b67_stack.specs.Picture.{Thing, Picture, home_desc, home_word_of};
 ghost use Rattle.b67_stack.specs.Stands.{Storage, Stands, info_of};
-ghost use Rattle.b67_storage.specs.Machine.{Served, MachineStands, IsPresent};
+ghost use Rattle.b67_storage.specs.Machine.{MachineStands, IsPresent, Served, Stayed};
 ghost use Rattle.b67_overlay.specs.Turns.{Hides};
 ghost use Rattle.b67_overlay.specs.Overlaid.{overlaid, dropped, retelling, IsOut, IsShort};
 
@@ -79,6 +79,8 @@ fn give_back(cpu: &mut Cpu, areas: &mut Areas, area: u32, info: Info, first: u32
     ensures len { length cpu.new.core ≡ length cpu.old.core }
     ensures stands { (x y : Storage) (p : Picture) (t : Thing) → Stands x cpu.old.core cpu.old.regs p → areas.old.low ≡ x.low → IsPresent x p area t → info ≡ info_of x t
         → IsOut x y p t first → Stands (dropped x y t area first) cpu.new.core cpu.new.regs p }
+    ensures outside { (x : Storage) (p : Picture) (t : Thing) → Stands x cpu.old.core cpu.old.regs p → areas.old.low ≡ x.low → IsPresent x p area t → info ≡ info_of x t
+        → Stayed p cpu.old.core cpu.new.core }
 {
     hide_copies(cpu, area, info);
     cpu.core.set(info.owner, absent_word(info, first));
@@ -93,6 +95,8 @@ pub fn discard(cpu: &mut Cpu, areas: &mut Areas, area: u32)
     ensures areas { areas.new ≡ areas.old }
     ensures stands { (x : Storage) (table : Table) (told : Option (List (List ℕ))) (p : Picture) (t : Thing) → MachineStands x cpu.old areas.old table told p
         → IsPresent x p area t → t.kind ≢ Array → MachineStands (overlaid x t area told) cpu.new areas.new table told p }
+    ensures outside { (x : Storage) (p : Picture) (t : Thing) → Stands x cpu.old.core cpu.old.regs p → areas.old.low ≡ x.low → IsPresent x p area t
+        → Stayed p cpu.old.core cpu.new.core }
 {
     let info = areas.info(&cpu.core, area);
     give_back(cpu, areas, area, info, info.kept);
@@ -118,6 +122,8 @@ pub fn overlay<B: Backing>(
     ensures refused { OnErr result ((x : Storage) (p : Picture) (t : Thing) → MachineStands x cpu.old areas.old sectors.old (B.holds backing.old) p
         → IsPresent x p area t → MachineStands (retelling x (B.holds backing.new)) cpu.new areas.new sectors.new (B.holds backing.new) p) }
     ensures unchanged { OnErr result (cpu.new ≡ cpu.old) }
+    ensures outside { (x : Storage) (p : Picture) (t : Thing) → MachineStands x cpu.old areas.old sectors.old (B.holds backing.old) p → IsPresent x p area t
+        → Stayed p cpu.old.core cpu.new.core }
     ensures full { (x : Storage) (p : Picture) (t : Thing) (wants free : ℕ) → MachineStands x cpu.old areas.old sectors.old (B.holds backing.old) p → IsPresent x p area t
         → (result ≡ Err (BackingFull wants free)) ↔ (IsShort x t × (wants ≡ sectors_for (length t.numbers)) × (free ≡ length x.shelf.free)) }
     ensures no_core { (need size : ℕ) → result ≢ Err (NoCore need size) }

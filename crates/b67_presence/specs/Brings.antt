@@ -1,6 +1,8 @@
 -- Things that are brought into core where other areas give way.
 use Rattle.std.specs.Prelude.{◌≡◌, ◌≢◌, ℕ, ◌+◌, ◌<◌, ◌≤◌, ◌⊎◌, List, length, Option, Some, None}
 use Rattle.b67_area.specs.declared.Areas.{Areas}
+use Rattle.b67_area.specs.declared.Info.{Info}
+use Rattle.b67_area.specs.Spans.{area_at}
 use Rattle.b67_area.specs.declared.Kind.TheVariants.{Code}
 use Rattle.b67_backing.specs.Shelf.{Table}
 use Rattle.b67_model.specs.Lists.{Has}
@@ -21,6 +23,14 @@ pub record Reads (x : Storage) (p q : Picture) (t : Thing) : Type 0 where
   pub count : length numbers ≡ length t.numbers
   pub is : q ≡ renumbered p t.home numbers
   pub same : x.device ≢ None → q ≡ p
+
+-- the machine stands, where the thing was placed and read, and no area moved
+pub record ReadIn (x : Storage) (p : Picture) (t : Thing) (cpu : Cpu) (areas : Areas) (table : Table) (told : Option (List (List ℕ))) : Type 0 where
+  pub at : ℕ
+  pub picture : Picture
+  pub place : IsPlace x t at
+  pub reads : Reads x p picture t
+  pub stands : MachineStands (brought x t at) cpu areas table told picture
 
 -- the machine stands, where areas but the one at `spare` were given back, and then the thing was placed
 pub record Came (x : Storage) (p : Picture) (t : Thing) (spare : ℕ) (cpu : Cpu) (areas : Areas) (table : Table) (told : Option (List (List ℕ))) : Type 0 where
@@ -68,3 +78,14 @@ pub record MayWait (x : Storage) (p : Picture) (t : Thing) (cpu : Cpu) (areas : 
   pub told_still : x.device ≢ None → storage.device ≢ None
   pub reads : Reads x p picture t
   pub stands : MachineStands storage cpu areas table told picture
+
+-- the words that core must have for a thing beside the stacks, and for the running code with it
+abbrev pub need_one : Storage → Thing → ℕ
+need_one x t = x.low + (length t.numbers + 2)
+
+abbrev pub need_both : Storage → Thing → Thing → ℕ
+need_both x c t = x.low + (length c.numbers + 2) + (length t.numbers + 2)
+
+-- there is no area but the one at `spare`
+abbrev pub IsAlone : Storage → ℕ → Type 0
+IsAlone x spare = (at : ℕ) (a : Info) → area_at x.low x.spans at ≡ Some a → at ≡ spare

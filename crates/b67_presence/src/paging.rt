@@ -31,10 +31,10 @@ pub enum Refusal {
 /// What an absent original or segment descriptor says: the words, and the first sector of the chain that holds them, 0 for
 /// zeros.
 #[derive(Clone, Copy, Debug, PartialEq, Eq)]
-struct Resting {
-    kind: Kind,
-    words: u32,
-    first: u32,
+pub struct Resting {
+    pub kind: Kind,
+    pub words: u32,
+    pub first: u32,
 }
 
 /// The kind of a descriptor in a stack or in a dictionary.
@@ -46,7 +46,7 @@ fn data_kind(read_only: bool) -> Kind
 
 impl Resting {
     /// What the descriptor at an address says.
-    fn at(core: &Core, home: u32) -> Resting
+    pub fn at(core: &Core, home: u32) -> Resting
         requires { (x : Storage) × (r : Regs) × (p : Picture) × (t : Thing) × Stands x core.now r p × IsAbsent x p home t }
         ensures { (x : Storage) (r : Regs) (p : Picture) (t : Thing) → Stands x core.now r p → IsAbsent x p home t → result ≡ resting x t }
     {

@@ -18,8 +18,8 @@ use b67_backing::{Backing, Sectors, SpaceFault};
 use b67_overlay::overlay;
 use b67_stack::Cpu;
 
-/// Takes one area out of core, and tries to bring the thing of an absent descriptor in. False is where there is still no
-/// hole for it.
+/// Takes an area out of core, if it isn't the one at `spare`, and tries to bring the thing of an absent descriptor in. False
+/// is where there is still no hole for it, or nothing was done.
 fn give_way<B: Backing>(
     cpu: &mut Cpu,
     areas: &mut Areas,
@@ -27,25 +27,31 @@ fn give_way<B: Backing>(
     backing: &mut B,
     home: u32,
     at: u32,
+    spare: u32,
 ) -> Result<bool, SpaceFault>
     requires machine { (x : Storage) × (p : Picture) × (t : Thing) × (u : Thing) × MachineStands x cpu.old areas.old sectors.old (B.holds backing.old) p × IsAbsent x p home t × IsPresent x p at u }
     requires same { B.size backing.old + 1 ≡ length sectors.old.links }
     ensures rest { cpu.new ≡ record cpu.old { core = cpu.new.core } }
     ensures len { length cpu.new.core ≡ length cpu.old.core }
     ensures areas { areas.new ≡ areas.old }
-    ensures came { result ≡ Ok true → (x : Storage) (p : Picture) (t : Thing) (spare : ℕ) → MachineStands x cpu.old areas.old sectors.old (B.holds backing.old) p
-        → IsAbsent x p home t → at ≢ spare → IsReadable x p → Came x p t spare cpu.new areas.new sectors.new (B.holds backing.new) }
+    ensures came { result ≡ Ok true → (x : Storage) (p : Picture) (t u : Thing) → MachineStands x cpu.old areas.old sectors.old (B.holds backing.old) p
+        → IsAbsent x p home t → IsPresent x p at u → IsReadable x p → Came x p t spare cpu.new areas.new sectors.new (B.holds backing.new) }
     ensures gone { result ≡ Ok false → (x : Storage) (p : Picture) (t u : Thing) → MachineStands x cpu.old areas.old sectors.old (B.holds backing.old) p
-        → IsAbsent x p home t → IsPresent x p at u → MachineStands (overlaid x u at (B.holds backing.new)) cpu.new areas.new sectors.new (B.holds backing.new) p }
-    ensures refused { OnErr result ((x : Storage) (p : Picture) (t : Thing) (spare : ℕ) → MachineStands x cpu.old areas.old sectors.old (B.holds backing.old) p
-        → IsAbsent x p home t → at ≢ spare → Waits x p spare cpu.new areas.new sectors.new (B.holds backing.new)) }
-    ensures full { (x : Storage) (p : Picture) (t : Thing) (spare wants free : ℕ) → MachineStands x cpu.old areas.old sectors.old (B.holds backing.old) p → IsAbsent x p home t → at ≢ spare
+        → IsAbsent x p home t → IsPresent x p at u
+        → (at ≡ spare → MachineStands x cpu.new areas.new sectors.new (B.holds backing.new) p)
+            × (at ≢ spare → MachineStands (overlaid x u at (B.holds backing.new)) cpu.new areas.new sectors.new (B.holds backing.new) p) }
+    ensures refused { OnErr result ((x : Storage) (p : Picture) (t u : Thing) → MachineStands x cpu.old areas.old sectors.old (B.holds backing.old) p
+        → IsAbsent x p home t → IsPresent x p at u → Waits x p spare cpu.new areas.new sectors.new (B.holds backing.new)) }
+    ensures full { (x : Storage) (p : Picture) (t u : Thing) (wants free : ℕ) → MachineStands x cpu.old areas.old sectors.old (B.holds backing.old) p → IsAbsent x p home t → IsPresent x p at u
         → result ≡ Err (BackingFull wants free) → (w : Waits x p spare cpu.new areas.new sectors.new (B.holds backing.new)) × IsShortBy w.storage p wants free }
     ensures no_core { (need size : ℕ) → result ≢ Err (NoCore need size) }
     ensures count { length sectors.new.links ≡ length sectors.old.links }
     ensures device { Served B.holds B.size B.calls B.faults backing.old backing.new }
     ensures cause { result ≡ Err BackingFault → Rose B.faults backing.old backing.new }
 {
+    if at == spare {
+        return Ok(false);
+    }
     match overlay(cpu, areas, sectors, backing, at) {
         Err(fault) => Err(fault),
         Ok(()) => match page_in(cpu, areas, sectors, backing, home) {
@@ -87,12 +93,10 @@ pub fn make_way<B: Backing>(
     let mut next = areas.first(&cpu.core);
     'areas: while let Some(at) = next {
         next = areas.after(&cpu.core, at);
-        if at != spare {
-            match give_way(cpu, areas, sectors, backing, home, at) {
-                Ok(false) => {}
-                Ok(true) => return Ok(true),
-                Err(fault) => return Err(fault),
-            }
+        match give_way(cpu, areas, sectors, backing, home, at, spare) {
+            Ok(false) => {}
+            Ok(true) => return Ok(true),
+            Err(fault) => return Err(fault),
         }
     }
     Ok(false)

@@ -5,3 +5,4 @@ pub mod Renumbered
 pub mod Words
 pub mod Holes
 pub mod Devices
+pub mod Below

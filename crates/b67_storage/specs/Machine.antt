@@ -1,6 +1,7 @@
 -- The machine with its areas, sectors and device, and pictures in which one thing is held otherwise.
-use Rattle.std.specs.Prelude.{◌≡◌, ℕ, ◌^◌, ◌<◌, ◌≤◌, ◌==◌, ◌⊎◌, List, [], ◌∷◌, length, map, Option, Some, None, if◌then◌else◌}
+use Rattle.std.specs.Prelude.{◌≡◌, ◌≢◌, ℕ, slice_get, ◌^◌, ◌<◌, ◌≤◌, ◌==◌, ◌⊎◌, List, [], ◌∷◌, length, map, Option, Some, None, if◌then◌else◌}
 use Rattle.std.specs.List.{AllByRecursion}
+use Rattle.b67_word.specs.Tagged.{Tagged}
 use Rattle.b67_area.specs.declared.Areas.{Areas}
 use Rattle.b67_area.specs.Spans.{Span, Area, Hole}
 use Rattle.b67_backing.specs.Shelf.{Table, IsShelf, chain_of}
@@ -75,3 +76,8 @@ pub record Served {D : Type 0} (holds : D → Option (List (List ℕ))) (many co
   pub calls : counted old ≤ counted new
   pub faults : failed old ≤ failed new
   pub tells : Changes holds old new (λ before after. length after ≡ length before)
+
+-- the words below the slots that are neither the directory's nor descriptors are as they were
+abbrev pub Stayed : Picture → List Tagged → List Tagged → Type 0
+Stayed p core new =
+    (i : ℕ) → i < p.stacks → (i < 152) ⊎ (160 ≤ i) → ((t : Thing) → Has p.things t → t.home ≢ i) → slice_get new i ≡ slice_get core i

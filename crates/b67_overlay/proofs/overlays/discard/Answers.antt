@@ -55,3 +55,11 @@ returns-clause-stands c = λ x table told p t m at no_array.
     let kept : c.info-info.result.kept ≡ (x.held t.home).chain = ap (λ (i : Info). i.kept) is in
     let d = subst (J (x.held t.home).chain) regs (subst (λ (n : ℕ). J n c.give_back.new.cpu.regs) kept (c.give_back.ensures.stands x x p t m.stands m.low at is (subst I (sym kept) out))) in
     subst M (sym c.give_back.ensures.rest) (clean_machine x c.args.cpu.now c.args.areas.now c.give_back.new.areas table told p c.args.area t m at no_array (ap (λ (z : Areas). z.low) c.give_back.ensures.areas) c.give_back.new.cpu.core d)
+
+pub returns-clause-outside : goal.returns-clause-outside
+returns-clause-outside c = λ x p t s low at.
+    let ab = about x c.args.cpu.now.core c.args.cpu.now.regs p s c.args.area t at in
+    let dir : IsDirectory c.args.cpu.now.core c.args.areas.now.low x.spans = subst (λ (n : ℕ). IsDirectory c.args.cpu.now.core n x.spans) (sym low) s.directory in
+    let here : area_at c.args.areas.now.low x.spans c.args.area ≡ Some (info_of x t) = ap (λ (n : ℕ). area_at n x.spans c.args.area) low ∙ ab.here in
+    let is : c.info-info.result ≡ info_of x t = c.info-info.ensures x.spans (info_of x t) dir here in
+    c.give_back.ensures.outside x p t s low at is

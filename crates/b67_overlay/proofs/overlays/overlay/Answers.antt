@@ -231,3 +231,14 @@ returns-in-Row-clause-stands g c = λ x p t m at.
     (λ (q : c.info-info.result.kind ≡ Code). let b : ⊥ = cc (z, q, ap (λ (i : Info). i.kind) is) in b)
     c.in-Row.is in
     c.discard.ensures.stands x c.args.sectors.now (g.B.Backing.holds c.args.backing.now) p t m at no_array
+
+pub returns-in-Row-clause-outside : goal.returns-in-Row-clause-outside
+returns-in-Row-clause-outside g c = λ x p t m at. c.discard.ensures.outside x p t m.stands m.low at
+
+pub returns-in-Ok-clause-outside : goal.returns-in-Ok-clause-outside
+returns-in-Ok-clause-outside g c = λ x p t m at.
+    let ab = about x c.args.cpu.now.core c.args.cpu.now.regs p m.stands c.args.area t at in
+    let dir : IsDirectory c.args.cpu.now.core c.args.areas.now.low x.spans = subst (λ (n : ℕ). IsDirectory c.args.cpu.now.core n x.spans) (sym m.low) m.stands.directory in
+    let here : area_at c.args.areas.now.low x.spans c.args.area ≡ Some (info_of x t) = ap (λ (n : ℕ). area_at n x.spans c.args.area) m.low ∙ ab.here in
+    let is : c.info-info.result ≡ info_of x t = c.info-info.ensures x.spans (info_of x t) dir here in
+    c.give_back.ensures.outside x p t m.stands m.low at is
