@@ -24,7 +24,8 @@ use Rattle.b67_stack.specs.Picture.{Thing, Picture, slot_base, home_word, home_w
 use Rattle.b67_stack.specs.Stands.{Storage, Content, Keeps, Rests, HoldsIn, Told, info_of, Stands}
 use Rattle.b67_stack.proofs.Homes.{chain_small}
 use Rattle.b67_stack.proofs.Lies.{Upward-same}
-use Rattle.b67_storage.specs.Machine.{IsAbsent, with_held, ChainStays}
+use Rattle.b67_storage.specs.Machine.{IsAbsent, with_held, ChainStays, Stayed}
+use Rattle.b67_storage.proofs.Below.{stacks_low, not_heads}
 use Rattle.b67_storage.proofs.Unchanged.{area_of_thing, home_below, slot_below, base_low, Stands-core}
 use Rattle.b67_storage.proofs.Reheld.{Reheld, ThingStays, Keeps-stays, storage_with, info_with, Stands-reheld}
 use Rattle.b67_storage.proofs.Words.{StacksLie-home, original_word}
@@ -105,6 +106,17 @@ module _ (x : Storage) (core : List Tagged) (r : Regs) (p : Picture) (home : ℕ
     body2 b i e q low high =
         fl.outside q (⊎_elim (λ (l : q + 1 < at). inl (omega arith)) (λ (l : at + n < q). inr (omega arith)) (apart b i e q (omega arith) (omega arith)))
         ∙ OnlyHoles-area core c1 x.low x.spans b i q pl.outside e s.directory.above (omega arith) (omega arith)
+
+    -- the words below the slots
+    pub below2 : Stayed p core c2
+    below2 i low out apart = fl.outside i (inl (omega (arith, bounds.0, stacks_low x core r p s))) ∙ OnlyHoles-below core c1 x.low x.spans i pl.outside (not_heads i out) (omega (arith, stacks_low x core r p s))
+
+    pub below_back : (c3 : List Tagged) → Freed x.low x.spans c2 c3 → Stayed p core c3
+    below_back c3 f i low out apart = OnlyHoles-below c2 c3 x.low x.spans i f.outside (not_heads i out) (omega (arith, stacks_low x core r p s)) ∙ below2 i low out apart
+
+    pub below_in : (c3 : List Tagged) → Kept x.low filled c2 c3 at n first → (v : Tagged) → Stayed p core (slice_set c3 home v)
+    below_in c3 kp v i low out apart =
+        slice_get-set_other c3 home i v (λ e. apart t a.there (a.is ∙ sym e)) ∙ kp.outside i (λ e. omega (arith, bounds.0, stacks_low x core r p s)) ∙ below2 i low out apart
 
     pub without_here : without x.low at filled ≡ x.spans
     without_here =

@@ -1,7 +1,6 @@
 //! Arrays, data rows and segments brought into core.
 #![tactic(auto)]
 
-mod bringing;
 mod paging;
 mod way;
 

@@ -7,7 +7,7 @@ ghost use Rattle.b67_backing.specs.declared.SpaceFault.TheVariants.{NoCore, Back
 ghost use Rattle.b67_io.specs.Causes.{Rose};
 ghost use Rattle.b67_stack.specs.Picture.{Thing, Picture};
 ghost use Rattle.b67_stack.specs.Stands.{Storage};
-ghost use Rattle.b67_storage.specs.Machine.{MachineStands, IsAbsent, IsPresent, Served, HasRoom};
+ghost use Rattle.b67_storage.specs.Machine.{MachineStands, IsAbsent, IsPresent, Served, HasRoom, Stayed};
 ghost use Rattle.b67_overlay.specs.Overlaid.{overlaid};
 ghost use Rattle.b67_overlay.specs.Sheds.{IsShortBy};
 ghost use Rattle.b67_presence.specs.Brings.{IsReadable, Came, Waits};
@@ -34,6 +34,8 @@ fn give_way<B: Backing>(
     ensures rest { cpu.new ≡ record cpu.old { core = cpu.new.core } }
     ensures len { length cpu.new.core ≡ length cpu.old.core }
     ensures areas { areas.new ≡ areas.old }
+    ensures outside { (x : Storage) (p : Picture) (t u : Thing) → MachineStands x cpu.old areas.old sectors.old (B.holds backing.old) p → IsAbsent x p home t → IsPresent x p at u
+        → Stayed p cpu.old.core cpu.new.core }
     ensures came { result ≡ Ok true → (x : Storage) (p : Picture) (t u : Thing) → MachineStands x cpu.old areas.old sectors.old (B.holds backing.old) p
         → IsAbsent x p home t → IsPresent x p at u → IsReadable x p → Came x p t spare cpu.new areas.new sectors.new (B.holds backing.new) }
     ensures gone { result ≡ Ok false → (x : Storage) (p : Picture) (t u : Thing) → MachineStands x cpu.old areas.old sectors.old (B.holds backing.old) p
@@ -77,6 +79,8 @@ pub fn make_way<B: Backing>(
     ensures rest { cpu.new ≡ record cpu.old { core = cpu.new.core } }
     ensures len { length cpu.new.core ≡ length cpu.old.core }
     ensures areas { areas.new ≡ areas.old }
+    ensures outside { (x : Storage) (p : Picture) (t : Thing) → MachineStands x cpu.old areas.old sectors.old (B.holds backing.old) p → IsAbsent x p home t
+        → Stayed p cpu.old.core cpu.new.core }
     ensures came { result ≡ Ok true → (x : Storage) (p : Picture) (t : Thing) → MachineStands x cpu.old areas.old sectors.old (B.holds backing.old) p
         → IsAbsent x p home t → IsReadable x p → Came x p t spare cpu.new areas.new sectors.new (B.holds backing.new) }
     ensures clear { result ≡ Ok false → (x : Storage) (p : Picture) (t : Thing) → MachineStands x cpu.old areas.old sectors.old (B.holds backing.old) p → IsAbsent x p home t

@@ -4,6 +4,7 @@ use Rattle.b67_stack.specs.declared.Cpu.{Cpu}
 use Rattle.b67_stack.specs.Picture.{Picture}
 use Rattle.b67_stack.specs.Stands.{Storage}
 use Rattle.b67_storage.specs.Machine.{MachineStands, Served}
+use Rattle.b67_storage.proofs.Below.{Stayed-then}
 use Rattle.b67_storage.proofs.Devices.{still_tells}
 use Rattle.b67_overlay.specs.Overlaid.{overlaid, retelling}
 use Rattle.b67_overlay.specs.Sheds.{Sheds}
@@ -80,3 +81,39 @@ returns-in-Err-BackingFault-clause-refused g c = λ x p t u m a pr.
     let sh : Sheds x y spare = Sheds-overlaid x (g.B.Backing.holds c.args.backing.now) (g.B.Backing.holds c.overlay.new.backing) m.device tells u c.args.at spare pr.present n in
     let ay = absent_after x y p c.args.home spare t sh a in
     record { storage = y; sheds = sh; stands = c.in-Err-BackingFault.ensures.refused y p t my ay }
+
+pub returns-in-Err-clause-outside : goal.returns-in-Err-clause-outside
+returns-in-Err-clause-outside g c = λ x p t u m a pr. c.overlay.ensures.outside x p u m pr
+
+pub returns-in-Ok-page_in-clause-outside : goal.returns-in-Ok-page_in-clause-outside
+returns-in-Ok-page_in-clause-outside g c = λ x p t u m a pr.
+    let spare = c.args.spare in
+    let n = c.if-at-spare.false in
+    let tells : (all : List (List ℕ)) → g.B.Backing.holds c.args.backing.now ≡ Some all → g.B.Backing.holds c.overlay.new.backing ≢ None = λ all e n. let (q, i) = still_tells g.B.Backing.holds g.B.Backing.size g.B.Backing.calls g.B.Backing.faults c.args.backing.now c.overlay.new.backing c.overlay.ensures.device all e in none-some q (sym n ∙ i) in
+    let y : Storage = overlaid x u c.args.at (g.B.Backing.holds c.overlay.new.backing) in
+    let my = c.in-Ok.ensures.stands x p u m pr in
+    let sh : Sheds x y spare = Sheds-overlaid x (g.B.Backing.holds c.args.backing.now) (g.B.Backing.holds c.overlay.new.backing) m.device tells u c.args.at spare pr.present n in
+    let ay = absent_after x y p c.args.home spare t sh a in
+    Stayed-then p c.args.cpu.now.core c.overlay.new.cpu.core c.page_in.new.cpu.core (c.overlay.ensures.outside x p u m pr) (c.page_in.ensures.outside y p t my ay)
+
+pub returns-in-Err-NoHole-clause-outside : goal.returns-in-Err-NoHole-clause-outside
+returns-in-Err-NoHole-clause-outside g c = λ x p t u m a pr.
+    let spare = c.args.spare in
+    let n = c.if-at-spare.false in
+    let tells : (all : List (List ℕ)) → g.B.Backing.holds c.args.backing.now ≡ Some all → g.B.Backing.holds c.overlay.new.backing ≢ None = λ all e n. let (q, i) = still_tells g.B.Backing.holds g.B.Backing.size g.B.Backing.calls g.B.Backing.faults c.args.backing.now c.overlay.new.backing c.overlay.ensures.device all e in none-some q (sym n ∙ i) in
+    let y : Storage = overlaid x u c.args.at (g.B.Backing.holds c.overlay.new.backing) in
+    let my = c.in-Ok.ensures.stands x p u m pr in
+    let sh : Sheds x y spare = Sheds-overlaid x (g.B.Backing.holds c.args.backing.now) (g.B.Backing.holds c.overlay.new.backing) m.device tells u c.args.at spare pr.present n in
+    let ay = absent_after x y p c.args.home spare t sh a in
+    Stayed-then p c.args.cpu.now.core c.overlay.new.cpu.core c.page_in.new.cpu.core (c.overlay.ensures.outside x p u m pr) (c.page_in.ensures.outside y p t my ay)
+
+pub returns-in-Err-BackingFault-clause-outside : goal.returns-in-Err-BackingFault-clause-outside
+returns-in-Err-BackingFault-clause-outside g c = λ x p t u m a pr.
+    let spare = c.args.spare in
+    let n = c.if-at-spare.false in
+    let tells : (all : List (List ℕ)) → g.B.Backing.holds c.args.backing.now ≡ Some all → g.B.Backing.holds c.overlay.new.backing ≢ None = λ all e n. let (q, i) = still_tells g.B.Backing.holds g.B.Backing.size g.B.Backing.calls g.B.Backing.faults c.args.backing.now c.overlay.new.backing c.overlay.ensures.device all e in none-some q (sym n ∙ i) in
+    let y : Storage = overlaid x u c.args.at (g.B.Backing.holds c.overlay.new.backing) in
+    let my = c.in-Ok.ensures.stands x p u m pr in
+    let sh : Sheds x y spare = Sheds-overlaid x (g.B.Backing.holds c.args.backing.now) (g.B.Backing.holds c.overlay.new.backing) m.device tells u c.args.at spare pr.present n in
+    let ay = absent_after x y p c.args.home spare t sh a in
+    Stayed-then p c.args.cpu.now.core c.overlay.new.cpu.core c.page_in.new.cpu.core (c.overlay.ensures.outside x p u m pr) (c.page_in.ensures.outside y p t my ay)

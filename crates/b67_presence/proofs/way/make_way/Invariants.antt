@@ -1,7 +1,7 @@
 use Rattle.std.proofs.Common.{◌≡◌, ℕ, length}
 use Rattle.b67_stack.specs.Picture.{Thing, Picture}
 use Rattle.b67_stack.specs.Stands.{Storage}
-use Rattle.b67_storage.specs.Machine.{MachineStands, IsAbsent, Served}
+use Rattle.b67_storage.specs.Machine.{MachineStands, IsAbsent, Served, Stayed}
 use Rattle.b67_overlay.specs.Sheds.{Sheds, Remains}
 use Rattle.b67_overlay.proofs.Visits.{left_of}
 use Rattle.b67_presence.proofs.way.make_way.Given as goal
@@ -16,7 +16,8 @@ invariant-areas g l =
       count : length l.sectors.links ≡ length l.initial.sectors.links;
       device : Served holds g.B.Backing.size g.B.Backing.calls g.B.Backing.faults l.initial.backing l.backing;
       stands : (x : Storage) (p : Picture) (t : Thing) → MachineStands x l.initial.cpu l.initial.areas l.initial.sectors (holds l.initial.backing) p → IsAbsent x p l.home t
-          → (y : Storage) × Sheds x y l.spare × Remains y.low y.spans l.spare l.next × MachineStands y l.cpu l.areas l.sectors (holds l.backing) p;
+          → (y : Storage) × Sheds x y l.spare × Remains y.low y.spans l.spare l.next × MachineStands y l.cpu l.areas l.sectors (holds l.backing) p
+          × Stayed p l.initial.cpu.core l.cpu.core;
     }
 
 abbrev pub decreases-areas : goal.decreases-areas
