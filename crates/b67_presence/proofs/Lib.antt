@@ -4,3 +4,4 @@ pub mod Contents
 pub mod Paged
 pub mod Ways
 pub mod Rooms
+pub mod Resort

@@ -1,6 +1,7 @@
 //! Arrays, data rows and segments brought into core.
 #![tactic(auto)]
 
+mod bringing;
 mod paging;
 mod way;
 

@@ -6,3 +6,4 @@ pub mod Words
 pub mod Holes
 pub mod Devices
 pub mod Below
+pub mod Untold
