@@ -5,3 +5,4 @@ pub mod Paged
 pub mod Ways
 pub mod Rooms
 pub mod Resort
+pub mod Forcing
