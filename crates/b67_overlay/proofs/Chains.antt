@@ -1,19 +1,16 @@
 -- Chains of a shelf, and what those that weren't written still hold.
-use Rattle.std.proofs.Common.{◌≡◌, ◌≢◌, ℕ, zero, suc, ◌+◌, ◌<◌, ◌≤◌, ◌^◌, ◌==◌, List, [], ◌∷◌, ◌++◌, length, map, take, drop, Option, Some, None, refl, sym, ◌∙◌, ap, arith, inl, inr, ◌⊎◌, ⊎_elim, subst}
-use Rattle.std.specs.Prelude.{if◌then◌else◌}
-use Rattle.std.specs.List.{slice_get}
+use Rattle.std.proofs.Common.{◌≡◌, ◌≢◌, ℕ, zero, suc, ◌+◌, ◌<◌, ◌≤◌, ◌==◌, List, [], ◌∷◌, ◌++◌, length, take, drop, Option, Some, None, refl, sym, ◌∙◌, ap, arith, ⊎_elim, subst}
 use Rattle.std.proofs.lemmas.List.{take-append-drop}
-use Rattle.std.proofs.lemmas.Bool.{cases_eq, cases_lt, cond-true, cond-false, eq-eqb, ne_eqb}
-use Rattle.std.proofs.lemmas.Option.{same_Some}
-use Rattle.b67_backing.specs.Shelf.{Shelf, Table, IsShelf, HasChain, Linked, times, uses, first, taken, given, chain_of, others}
-use Rattle.b67_backing.specs.Held.{sectors_for, SameBut, Stores, Holds, sector}
+use Rattle.std.proofs.lemmas.Bool.{cases_eq, cond-true, eq-eqb}
+use Rattle.b67_backing.specs.Shelf.{Shelf, Table, IsShelf, Linked, times, uses, first, taken, given, chain_of, others}
+use Rattle.b67_backing.specs.Held.{sectors_for, SameBut, Stores, Holds}
 use Rattle.b67_backing.proofs.Links.{one-same, one-other, times-append, uses-split, chain_there, rest, linked_within}
-use Rattle.b67_backing.proofs.News.{chain_of-others, chain_of-taken}
+use Rattle.b67_backing.proofs.News.{chain_of-others}
 use Rattle.b67_backing.proofs.Tallies.{AllBelow}
 use Rattle.b67_backing.proofs.Walks.{all_below}
 use Rattle.b67_stack.specs.Stands.{Told}
 use Rattle.b67_storage.specs.Machine.{Says, retold}
-use Rattle.b67_overlay.specs.Overlaid.{chain_out, shelf_out, sectors_out}
+use Rattle.b67_overlay.specs.Overlaid.{sectors_out}
 
 first_take : (n : ℕ) (fs : List ℕ) → 1 ≤ n → first (take n fs) ≡ first fs
 first_take zero fs h = absurd (omega arith)

@@ -1,35 +1,31 @@
 -- A thing's area is given back.
-use Rattle.std.proofs.Common.{◌≡◌, ◌≢◌, ℕ, zero, suc, ◌+◌, ◌<◌, ◌≤◌, ◌^◌, ◌==◌, List, [], ◌∷◌, length, map, Option, Some, None, refl, sym, ◌∙◌, ap, arith, inl, inr, ◌⊎◌, ⊎_elim, slice_set, Bool, true, false, subst}
+use Rattle.std.proofs.Common.{◌≡◌, ◌≢◌, ℕ, suc, ◌+◌, ◌<◌, ◌≤◌, ◌==◌, List, length, Some, None, refl, sym, ◌∙◌, ap, arith, inl, inr, ⊎_elim, slice_set, subst}
 use Rattle.std.specs.List.{slice_get}
-use Rattle.std.proofs.lemmas.List.{length-map, length-set}
+use Rattle.std.proofs.lemmas.List.{length-set}
 use Rattle.std.proofs.lemmas.Option.{same_Some, none-some}
-use Rattle.std.proofs.lemmas.Bool.{cases_eq, cases_lt, cond-true, cond-false, eq-eqb, ne_eqb}
-use Rattle.b67_word.specs.Tagged.{Tagged, word}
+use Rattle.std.proofs.lemmas.Bool.{cases_eq, cond-true, cond-false, eq-eqb, ne_eqb}
+use Rattle.b67_word.specs.Tagged.{Tagged}
 use Rattle.b67_core.proofs.Writes.{slice_get-set_same, slice_get-set_other}
 use Rattle.b67_area.specs.declared.Info.{Info}
-use Rattle.b67_area.specs.declared.Kind.{Kind}
-use Rattle.b67_area.specs.declared.Kind.TheVariants.{Array, Row, Code}
 use Rattle.b67_area.specs.Spans.{Span, area_at, without, but}
 use Rattle.b67_area.specs.Directory.{IsDirectory, OnlyHoles}
 use Rattle.b67_area.proofs.Climbs.{area_at-low}
 use Rattle.b67_area.proofs.Laws.{OnlyHoles-area, OnlyHoles-below}
 use Rattle.b67_area.proofs.Separation.{IsDirectory-below_words, IsDirectory-set_below}
-use Rattle.b67_backing.specs.Shelf.{chain_of}
 use Rattle.b67_ctl.specs.declared.registers.Regs.{Regs}
 use Rattle.b67_model.specs.Lists.{Has}
-use Rattle.b67_stack.specs.Shapes.{Held, Shape, Original, IsOriginal, Fits, Lie}
+use Rattle.b67_stack.specs.Shapes.{Held, Shape, Original, IsOriginal, Fits}
 use Rattle.b67_stack.specs.Stacks.{high, words}
-use Rattle.b67_stack.specs.Picture.{Thing, Picture, stack_of, slot_base, home_word, home_word_of}
+use Rattle.b67_stack.specs.Picture.{Thing, Picture, stack_of, slot_base, home_word_of}
 use Rattle.b67_stack.specs.Stands.{Storage, StacksLie, HoldsIn, info_of, Stands}
-use Rattle.b67_stack.proofs.Bases.{base-apart}
 use Rattle.b67_stack.proofs.Heights.{words-length}
 use Rattle.b67_stack.proofs.Lies.{Lie-each}
-use Rattle.b67_storage.specs.Machine.{IsPresent, with_held, ChainStays, Stayed}
+use Rattle.b67_storage.specs.Machine.{IsPresent, with_held, Stayed}
 use Rattle.b67_storage.proofs.Below.{stacks_low, not_heads}
 use Rattle.b67_storage.proofs.Unchanged.{area_of_thing, home_below, slot_below, base_low}
-use Rattle.b67_storage.proofs.Reheld.{Reheld, ThingStays, HoldsIn-stays, storage_with, info_with, Stands-reheld}
+use Rattle.b67_storage.proofs.Reheld.{Reheld, HoldsIn-stays, storage_with, Stands-reheld}
 use Rattle.b67_storage.proofs.Words.{shape_home, no_code_above, original_word}
-use Rattle.b67_overlay.specs.Turns.{Hides, InStack}
+use Rattle.b67_overlay.specs.Turns.{Hides}
 use Rattle.b67_overlay.specs.Overlaid.{IsOut, dropped}
 
 -- an area was freed

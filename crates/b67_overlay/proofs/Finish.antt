@@ -1,5 +1,5 @@
 -- The machine after an overlay.
-use Rattle.std.proofs.Common.{◌≡◌, ◌≢◌, ℕ, List, length, Option, Some, None, refl, sym, ◌∙◌, ap, subst}
+use Rattle.std.proofs.Common.{◌≡◌, ◌≢◌, ℕ, List, length, Option, Some, ◌∙◌, subst}
 use Rattle.b67_word.specs.Tagged.{Tagged}
 use Rattle.b67_area.specs.declared.Areas.{Areas}
 use Rattle.b67_area.specs.declared.Kind.TheVariants.{Array}
@@ -7,9 +7,9 @@ use Rattle.b67_backing.specs.Shelf.{Table, IsShelf}
 use Rattle.b67_stack.specs.declared.Cpu.{Cpu}
 use Rattle.b67_stack.specs.Picture.{Thing, Picture}
 use Rattle.b67_stack.specs.Stands.{Storage, Stands}
-use Rattle.b67_storage.specs.Machine.{MachineStands, IsPresent, Says, retold}
-use Rattle.b67_overlay.specs.Overlaid.{chain_out, shelf_out, overlaid, dropped, retelling}
-use Rattle.b67_overlay.proofs.Chains.{Says-retold, retold-same}
+use Rattle.b67_storage.specs.Machine.{MachineStands, IsPresent}
+use Rattle.b67_overlay.specs.Overlaid.{shelf_out, overlaid, dropped, retelling}
+use Rattle.b67_overlay.proofs.Chains.{Says-retold}
 use Rattle.b67_overlay.proofs.Sectors.{overlaid_clean}
 
 pub clean_machine : (x : Storage) (cpu : Cpu) (areas after : Areas) (table : Table) (told : Option (List (List ℕ))) (p : Picture) (area : ℕ) (t : Thing) → MachineStands x cpu areas table told p → IsPresent x p area t → t.kind ≢ Array

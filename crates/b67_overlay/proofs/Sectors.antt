@@ -1,13 +1,11 @@
 -- The sectors of things after an array was written, or was not.
-use Rattle.std.proofs.Common.{◌≡◌, ◌≢◌, ℕ, zero, suc, ◌+◌, ◌-◌, ◌/◌, ◌<◌, ◌≤◌, ◌^◌, ◌==◌, List, [], ◌∷◌, length, map, take, drop, min, Option, Some, None, refl, sym, ◌∙◌, ap, arith, inl, inr, ◌⊎◌, ⊎_elim, subst}
-use Rattle.std.specs.Prelude.{if◌then◌else◌, slice_range}
+use Rattle.std.proofs.Common.{◌≡◌, ◌≢◌, ℕ, zero, suc, ◌+◌, ◌-◌, ◌<◌, ◌≤◌, ◌^◌, ◌==◌, List, [], ◌∷◌, length, map, take, drop, Option, Some, None, refl, sym, ◌∙◌, ap, arith, inl, inr, ◌⊎◌, ⊎_elim, subst}
+use Rattle.std.specs.Prelude.{slice_range}
 use Rattle.std.specs.List.{slice_get}
 use Rattle.std.proofs.lemmas.Bool.{cases_eq, cond-true, cond-false, eq-eqb, ne_eqb}
-use Rattle.std.proofs.lemmas.List.{length-map, length-take}
 use Rattle.std.proofs.lemmas.Option.{same_Some, none-some}
-use Rattle.b67_word.specs.Tagged.{Tagged, word}
+use Rattle.b67_word.specs.Tagged.{Tagged}
 use Rattle.b67_core.specs.Numbers.{number}
-use Rattle.b67_area.specs.declared.Info.{Info}
 use Rattle.b67_area.specs.declared.Kind.{Kind}
 use Rattle.b67_area.specs.declared.Kind.TheVariants.{Array, Row, Code}
 use Rattle.b67_area.specs.Spans.{area_at}
@@ -16,13 +14,13 @@ use Rattle.b67_backing.specs.Held.{sectors_for, SameBut, Stores}
 use Rattle.b67_backing.proofs.News.{chain_of-taken}
 use Rattle.b67_ctl.specs.declared.registers.Regs.{Regs}
 use Rattle.b67_model.specs.Lists.{Has}
-use Rattle.b67_stack.specs.Shapes.{Held, Map, Upward}
-use Rattle.b67_stack.specs.Picture.{Thing, Picture, words_of, tag_of}
-use Rattle.b67_stack.specs.Stands.{Storage, Stands, Content, Keeps, Rests, HasChain, HoldsIn, Told, StacksLie, info_of}
+use Rattle.b67_stack.specs.Shapes.{Map, Upward}
+use Rattle.b67_stack.specs.Picture.{Thing, Picture, words_of}
+use Rattle.b67_stack.specs.Stands.{Storage, Stands, Content, Keeps, HasChain, HoldsIn, Told, StacksLie, info_of}
 use Rattle.b67_stack.proofs.Homes.{chain_small}
-use Rattle.b67_storage.specs.Machine.{IsPresent, ChainStays, Says, retold, with_held}
+use Rattle.b67_storage.specs.Machine.{IsPresent, Says, retold}
 use Rattle.b67_storage.proofs.Helds.{held-back}
-use Rattle.b67_storage.proofs.Reheld.{Reheld, ThingStays, storage_with, info_with, Stands-reheld, HasChain-stays}
+use Rattle.b67_storage.proofs.Reheld.{Reheld, storage_with, Stands-reheld}
 use Rattle.b67_storage.proofs.Unchanged.{area_of_thing, area_bounds}
 use Rattle.b67_overlay.specs.Overlaid.{chain_out, shelf_out, sectors_out, retelling, overlaid, dropped, IsOut}
 use Rattle.b67_overlay.proofs.Chains.{Apart, chains_apart, free_apart, free_first, Told-same, Told-stored, retold-same}

@@ -1,6 +1,5 @@
 -- What an overlay leaves of a storage.
-use Rattle.std.proofs.Common.{◌≡◌, ◌≢◌, ℕ, ◌+◌, ◌^◌, ◌<◌, ◌≤◌, arith, List, length, Option, Some, None, refl, sym, ◌∙◌, ap, ⊎_elim, subst}
-use Rattle.std.proofs.lemmas.Bool.{cases_eq}
+use Rattle.std.proofs.Common.{◌≡◌, ◌≢◌, ℕ, ◌^◌, ◌<◌, arith, List, length, Option, Some, None, refl, sym, ◌∙◌, ap, subst}
 use Rattle.std.proofs.lemmas.Option.{same_Some, none-some}
 use Rattle.b67_area.specs.declared.Areas.{Areas}
 use Rattle.b67_area.specs.declared.Info.{Info}
@@ -11,8 +10,8 @@ use Rattle.b67_backing.specs.Shelf.{Table}
 use Rattle.b67_stack.specs.declared.Cpu.{Cpu}
 use Rattle.b67_stack.specs.Shapes.{Held}
 use Rattle.b67_stack.specs.Picture.{Thing, Picture}
-use Rattle.b67_stack.specs.Stands.{Storage, info_of}
-use Rattle.b67_storage.specs.Machine.{MachineStands, IsPresent, Says, retold, with_held}
+use Rattle.b67_stack.specs.Stands.{Storage}
+use Rattle.b67_storage.specs.Machine.{MachineStands, IsPresent, Says, retold}
 use Rattle.b67_storage.proofs.Helds.{held-other}
 use Rattle.b67_overlay.specs.Overlaid.{overlaid, retelling, chain_out, IsShort}
 use Rattle.b67_backing.specs.Held.{sectors_for}

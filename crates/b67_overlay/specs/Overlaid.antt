@@ -1,10 +1,8 @@
 -- What an area leaves that is given back.
-use Rattle.std.specs.Prelude.{◌≡◌, ◌≢◌, ℕ, ◌+◌, ◌<◌, ◌≤◌, ◌==◌, ◌⊎◌, List, [], length, map, Option, Some, None, slice_range, if◌then◌else◌}
-use Rattle.b67_word.specs.Tagged.{Tagged}
-use Rattle.b67_core.specs.Numbers.{number}
+use Rattle.std.specs.Prelude.{◌≡◌, ◌≢◌, ℕ, ◌<◌, ◌==◌, ◌⊎◌, List, [], length, Option, None, if◌then◌else◌}
 use Rattle.b67_area.specs.Spans.{without}
 use Rattle.b67_area.specs.declared.Kind.TheVariants.{Array}
-use Rattle.b67_backing.specs.Shelf.{Shelf, Table, HasChain, first, taken, chain_of}
+use Rattle.b67_backing.specs.Shelf.{Shelf, first, taken, chain_of}
 use Rattle.b67_backing.specs.Held.{sectors_for}
 use Rattle.b67_model.specs.Lists.{Has}
 use Rattle.b67_stack.specs.Picture.{Thing, Picture}

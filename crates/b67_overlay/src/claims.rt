@@ -31,7 +31,7 @@ pub fn claim<B: Backing>(
     ensures outside { (x : Storage) (p : Picture) → MachineStands x cpu.old areas.old sectors.old (B.holds backing.old) p → Stayed p cpu.old.core cpu.new.core }
     ensures clear { OnOk result ((x : Storage) (p : Picture) → MachineStands x cpu.old areas.old sectors.old (B.holds backing.old) p
         → (y : Storage) × Sheds x y 0 × ((at : ℕ) (a : Info) → area_at y.low y.spans at ≡ Some a → upto < at)
-            × MachineStands y cpu.new areas.new sectors.new (B.holds backing.new) p) }
+        × MachineStands y cpu.new areas.new sectors.new (B.holds backing.new) p) }
     ensures refused { OnErr result ((x : Storage) (p : Picture) → MachineStands x cpu.old areas.old sectors.old (B.holds backing.old) p
         → (y : Storage) × Sheds x y 0 × MachineStands y cpu.new areas.new sectors.new (B.holds backing.new) p) }
     ensures full { (x : Storage) (p : Picture) (wants free : ℕ) → MachineStands x cpu.old areas.old sectors.old (B.holds backing.old) p → result ≡ Err (BackingFull wants free)

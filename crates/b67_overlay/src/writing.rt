@@ -29,7 +29,7 @@ pub fn write_out<B: Backing>(
     requires same { B.size backing.old + 1 ≡ length sectors.old.links }
     ensures written { IfOk result (λ first. (st : Shelf) → IsShelf sectors.old st → (kept ≡ 0) ⊎ HasChain sectors.old st kept (sectors_for words)
         → (first ≡ chain_out st kept) × IsShelf sectors.new (shelf_out st kept words)
-            × Changes B.holds backing.old backing.new (Stores (sectors_out st kept words) (map number (slice_range core.now at (at + words))))) }
+        × Changes B.holds backing.old backing.new (Stores (sectors_out st kept words) (map number (slice_range core.now at (at + words))))) }
     ensures room { IfOk result (λ first. (st : Shelf) → IsShelf sectors.old st → kept ≡ 0 → sectors_for words ≤ length st.free) }
     ensures refused { OnErr result ((st : Shelf) → IsShelf sectors.old st → (kept ≡ 0) ⊎ HasChain sectors.old st kept (sectors_for words)
         → IsShelf sectors.new st × Changes B.holds backing.old backing.new (SameBut (sectors_out st kept words))) }

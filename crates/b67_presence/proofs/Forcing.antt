@@ -1,23 +1,20 @@
 -- What stands where make_way ended.
-use Rattle.std.proofs.Common.{◌≡◌, ◌≢◌, ℕ, ◌+◌, ◌<◌, ◌≤◌, List, length, Option, Some, None, Result, Err, refl, sym, ◌∙◌, ap, arith, subst}
+use Rattle.std.proofs.Common.{◌≡◌, ℕ, ◌+◌, ◌≤◌, List, length, Option, Some, Result, Err, refl, sym, ◌∙◌, ap, arith}
 use Rattle.b67_backing.specs.declared.SpaceFault.{SpaceFault}
 use Rattle.b67_backing.specs.declared.SpaceFault.TheVariants.{NoCore}
 use Rattle.std.proofs.lemmas.Option.{none-some}
-use Rattle.b67_word.specs.Tagged.{Tagged}
 use Rattle.b67_area.specs.declared.Areas.{Areas}
-use Rattle.b67_area.specs.declared.Info.{Info}
-use Rattle.b67_area.specs.Spans.{area_at}
 use Rattle.b67_area.proofs.Laws.{area_inside}
 use Rattle.b67_backing.specs.Shelf.{Table}
 use Rattle.b67_stack.specs.declared.Cpu.{Cpu}
 use Rattle.b67_stack.specs.Shapes.{Held}
 use Rattle.b67_stack.specs.Picture.{Thing, Picture}
-use Rattle.b67_stack.specs.Stands.{Storage, Stands}
+use Rattle.b67_stack.specs.Stands.{Storage}
 use Rattle.b67_storage.specs.Machine.{MachineStands, IsAbsent, HasRoom}
 use Rattle.b67_storage.proofs.Helds.{held-same, held-other}
 use Rattle.b67_overlay.specs.Sheds.{Sheds}
 use Rattle.b67_presence.specs.Brought.{brought}
-use Rattle.b67_presence.specs.Brings.{IsReadable, Reads, ReadIn, Came, Waits, IsCode, BothIn, MayWait, need_one, need_both, IsAlone}
+use Rattle.b67_presence.specs.Brings.{Came, Waits, IsCode, BothIn, MayWait, IsAlone}
 use Rattle.b67_presence.proofs.Rooms.{one_hole, first_room}
 use Rattle.b67_presence.proofs.Resort.{Reads-none, there_after, differ}
 

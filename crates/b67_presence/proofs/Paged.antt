@@ -1,19 +1,17 @@
 -- The machine after a thing was brought in, by what the calls tell.
-use Rattle.std.proofs.Common.{◌≡◌, ◌≢◌, ℕ, ◌+◌, ◌<◌, ◌≤◌, ◌^◌, ◌==◌, List, [], ◌∷◌, length, map, Option, Some, None, refl, sym, ◌∙◌, ap, arith, inl, inr, ◌⊎◌, ⊎_elim, slice_set, Bool, true, false, subst}
-use Rattle.std.specs.List.{slice_get}
-use Rattle.b67_word.specs.Tagged.{Tagged, word}
+use Rattle.std.proofs.Common.{◌≡◌, ℕ, ◌+◌, ◌<◌, List, length, Option, Some, None, refl, sym, ◌∙◌, ap, ⊎_elim, slice_set, subst}
+use Rattle.b67_word.specs.Tagged.{Tagged}
 use Rattle.b67_area.specs.declared.Areas.{Areas}
 use Rattle.b67_area.specs.declared.Kind.{Kind}
 use Rattle.b67_area.specs.Spans.{Span, area_at, fill, fresh, keeping, without}
 use Rattle.b67_area.specs.Directory.{IsDirectory}
 use Rattle.b67_backing.specs.Shelf.{Table}
 use Rattle.b67_ctl.specs.declared.registers.Regs.{Regs}
-use Rattle.b67_model.specs.Lists.{Has}
 use Rattle.b67_stack.specs.declared.Cpu.{Cpu}
-use Rattle.b67_stack.specs.Shapes.{Held, Upward}
-use Rattle.b67_stack.specs.Picture.{Thing, Picture, home_word_of, words_of, tag_of}
+use Rattle.b67_stack.specs.Shapes.{Upward}
+use Rattle.b67_stack.specs.Picture.{Thing, Picture, home_word_of, words_of}
 use Rattle.b67_stack.specs.Stands.{Storage, Stands}
-use Rattle.b67_storage.specs.Machine.{Stayed, MachineStands, Says, IsAbsent, with_held, renumber, renumbered}
+use Rattle.b67_storage.specs.Machine.{Stayed, MachineStands, Says, IsAbsent, with_held, renumbered}
 use Rattle.b67_storage.proofs.Renumbered.{Stands-renumbered, there_renumbered, renumbered-same}
 use Rattle.b67_presence.specs.declared.paging.Resting.{Resting}
 use Rattle.b67_presence.specs.Brought.{brought, resting, IsKnown, IsPlace}

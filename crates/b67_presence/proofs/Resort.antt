@@ -1,13 +1,12 @@
 -- The last resort: the code gives way too, and comes back behind the thing.
-use Rattle.std.proofs.Common.{◌≡◌, ◌≢◌, ℕ, ◌+◌, ◌-◌, ◌<◌, ◌≤◌, ◌^◌, ◌==◌, ◌⊎◌, ⊎_elim, inl, inr, List, [], ◌∷◌, length, map, Option, Some, None, refl, sym, ◌∙◌, ap, arith, subst}
-use Rattle.std.proofs.lemmas.Option.{same_Some, none-some}
+use Rattle.std.proofs.Common.{◌≡◌, ◌≢◌, ℕ, ◌+◌, ◌≤◌, ◌==◌, ◌⊎◌, ⊎_elim, inl, inr, List, [], ◌∷◌, length, Option, Some, None, refl, sym, ◌∙◌, ap, arith, subst}
+use Rattle.std.proofs.lemmas.Option.{none-some}
 use Rattle.std.proofs.lemmas.Bool.{cases_eq, cond-true, cond-false, eq-eqb, ne_eqb}
 use Rattle.b67_word.specs.Tagged.{Tagged}
 use Rattle.b67_area.specs.declared.Areas.{Areas}
 use Rattle.b67_area.specs.declared.Info.{Info}
-use Rattle.b67_area.specs.declared.Kind.{Kind}
-use Rattle.b67_area.specs.declared.Kind.TheVariants.{Array, Row, Code}
-use Rattle.b67_area.specs.Spans.{Span, Hole, area_at, fresh, without}
+use Rattle.b67_area.specs.declared.Kind.TheVariants.{Array, Code}
+use Rattle.b67_area.specs.Spans.{Hole, area_at, fresh, without}
 use Rattle.b67_area.proofs.Laws.{area_at-without}
 use Rattle.b67_backing.specs.Shelf.{Table}
 use Rattle.b67_ctl.specs.declared.registers.Regs.{Regs}
@@ -16,12 +15,12 @@ use Rattle.b67_stack.specs.declared.Cpu.{Cpu}
 use Rattle.b67_stack.specs.Shapes.{Held}
 use Rattle.b67_stack.specs.Picture.{Thing, Picture}
 use Rattle.b67_stack.specs.Stands.{Storage, Stands}
-use Rattle.b67_storage.specs.Machine.{MachineStands, IsAbsent, IsPresent, HasRoom, AreBits, renumber, renumbered, Stayed}
+use Rattle.b67_storage.specs.Machine.{MachineStands, IsAbsent, IsPresent, HasRoom, AreBits, Stayed}
 use Rattle.b67_storage.proofs.Helds.{held-same, held-other}
-use Rattle.b67_storage.proofs.Renumbered.{renumbered-same, renumber-other, kept_there, Stayed-renumbered}
+use Rattle.b67_storage.proofs.Renumbered.{renumbered-same, kept_there, Stayed-renumbered}
 use Rattle.b67_overlay.specs.Overlaid.{overlaid, chain_out}
 use Rattle.b67_overlay.proofs.Chains.{retold-same}
-use Rattle.b67_presence.specs.Brought.{brought, IsPlace}
+use Rattle.b67_presence.specs.Brought.{brought}
 use Rattle.b67_presence.specs.Brings.{IsReadable, Reads, ReadIn, IsCode, BothIn, MayWait, need_both, IsAlone}
 use Rattle.b67_presence.proofs.Rooms.{one_hole, first_room, second_room}
 

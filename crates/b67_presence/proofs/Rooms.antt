@@ -1,10 +1,10 @@
 -- Where nothing but a hole is left, a thing finds its place, and then the code.
-use Rattle.std.proofs.Common.{◌≡◌, ◌≢◌, ℕ, zero, suc, ◌+◌, ◌-◌, ◌<◌, ◌≤◌, List, [], ◌∷◌, length, Some, refl, sym, ◌∙◌, ap, arith, inl, inr, ◌⊎◌, ⊎_elim, ◌==◌, leb, subst}
+use Rattle.std.proofs.Common.{◌≡◌, ℕ, zero, suc, ◌+◌, ◌-◌, ◌<◌, ◌≤◌, List, [], ◌∷◌, length, Some, refl, sym, arith, inl, inr, ⊎_elim, ◌==◌, subst}
 use Rattle.std.proofs.lemmas.Bool.{cases_Bool, cond-true, eq-eqb, le-leb}
 use Rattle.b67_word.specs.Tagged.{Tagged}
 use Rattle.b67_area.specs.declared.Info.{Info}
 use Rattle.b67_area.specs.Spans.{Span, Area, Hole, area_at, fill, keeping, left, end}
-use Rattle.b67_area.specs.Directory.{IsDirectory, AreSpans, NoHole}
+use Rattle.b67_area.specs.Directory.{IsDirectory, AreSpans}
 use Rattle.b67_storage.specs.Machine.{HasRoom}
 
 -- a directory without an area is one hole

@@ -1,5 +1,5 @@
 -- What stands after areas gave way.
-use Rattle.std.proofs.Common.{◌≡◌, ◌≢◌, ℕ, ◌+◌, ◌<◌, ◌≤◌, ◌⊎◌, ⊎_elim, inl, inr, List, length, Option, Some, None, refl, sym, ◌∙◌, ap, subst}
+use Rattle.std.proofs.Common.{◌≡◌, ◌≢◌, ℕ, ◌⊎◌, ⊎_elim, inl, inr, List, length, Option, Some, None, refl, sym, ◌∙◌, ap}
 use Rattle.std.proofs.lemmas.Option.{none-some}
 use Rattle.b67_area.specs.declared.Areas.{Areas}
 use Rattle.b67_backing.specs.Shelf.{Table}
@@ -10,7 +10,7 @@ use Rattle.b67_word.specs.Tagged.{Tagged}
 use Rattle.b67_stack.specs.Shapes.{Held}
 use Rattle.b67_stack.specs.Picture.{Thing, Picture}
 use Rattle.b67_stack.specs.Stands.{Storage, Stands}
-use Rattle.b67_storage.specs.Machine.{MachineStands, IsAbsent, IsPresent, AreBits, renumbered}
+use Rattle.b67_storage.specs.Machine.{MachineStands, IsAbsent, AreBits, renumbered}
 use Rattle.b67_storage.proofs.Renumbered.{renumbered-same}
 use Rattle.b67_overlay.specs.Sheds.{Sheds}
 use Rattle.b67_overlay.proofs.Shedding.{Sheds-then}

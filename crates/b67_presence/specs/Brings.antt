@@ -1,5 +1,5 @@
 -- Things that are brought into core where other areas give way.
-use Rattle.std.specs.Prelude.{◌≡◌, ◌≢◌, ℕ, ◌+◌, ◌<◌, ◌≤◌, ◌⊎◌, List, length, Option, Some, None}
+use Rattle.std.specs.Prelude.{◌≡◌, ◌≢◌, ℕ, ◌+◌, ◌⊎◌, List, length, Option, Some, None}
 use Rattle.b67_area.specs.declared.Areas.{Areas}
 use Rattle.b67_area.specs.declared.Info.{Info}
 use Rattle.b67_area.specs.Spans.{area_at}
@@ -10,7 +10,7 @@ use Rattle.b67_stack.specs.declared.Cpu.{Cpu}
 use Rattle.b67_stack.specs.Picture.{Thing, Picture}
 use Rattle.b67_stack.specs.Stands.{Storage}
 use Rattle.b67_storage.specs.Machine.{MachineStands, AreBits, renumbered}
-use Rattle.b67_overlay.specs.Sheds.{Sheds, IsShortBy}
+use Rattle.b67_overlay.specs.Sheds.{Sheds}
 use Rattle.b67_presence.specs.Brought.{brought, IsPlace}
 
 -- the device tells nothing, or each number of the picture is one of a word

@@ -187,7 +187,7 @@ pub fn bring_code<B: Backing>(
         → IsReadable x p → Came x p t 0 cpu.new areas.new sectors.new (B.holds backing.new)) }
     ensures hole { (x : Storage) (p : Picture) (t : Thing) → MachineStands x cpu.old areas.old sectors.old (B.holds backing.old) p → IsAbsent x p code t
         → HasRoom (length t.numbers + 2) x.spans → (sectors.new ≡ sectors.old) × Becomes B.holds backing.old backing.new (λ all. all)
-            × OnOk result (IsReadable x p → ReadIn x p t cpu.new areas.new sectors.new (B.holds backing.new)) }
+        × OnOk result (IsReadable x p → ReadIn x p t cpu.new areas.new sectors.new (B.holds backing.new)) }
     ensures refused { OnErr result ((x : Storage) (p : Picture) (t : Thing) → MachineStands x cpu.old areas.old sectors.old (B.holds backing.old) p → IsAbsent x p code t
         → Waits x p 0 cpu.new areas.new sectors.new (B.holds backing.new)) }
     ensures full { (x : Storage) (p : Picture) (t : Thing) (wants free : ℕ) → MachineStands x cpu.old areas.old sectors.old (B.holds backing.old) p → IsAbsent x p code t
@@ -235,7 +235,7 @@ pub fn bring_data<B: Backing>(
         → IsCode x p code at c → IsReadable x p → BothIn x p t c cpu.new areas.new sectors.new (B.holds backing.new)) }
     ensures hole { (x : Storage) (p : Picture) (t : Thing) → MachineStands x cpu.old areas.old sectors.old (B.holds backing.old) p → IsAbsent x p home t
         → HasRoom (length t.numbers + 2) x.spans → (sectors.new ≡ sectors.old) × Becomes B.holds backing.old backing.new (λ all. all)
-            × OnOk result (IsReadable x p → ReadIn x p t cpu.new areas.new sectors.new (B.holds backing.new)) }
+        × OnOk result (IsReadable x p → ReadIn x p t cpu.new areas.new sectors.new (B.holds backing.new)) }
     ensures refused { OnErr result ((x : Storage) (p : Picture) (t c : Thing) (at : ℕ) → MachineStands x cpu.old areas.old sectors.old (B.holds backing.old) p → IsAbsent x p home t
         → IsCode x p code at c → IsReadable x p → MayWait x p t cpu.new areas.new sectors.new (B.holds backing.new)) }
     ensures full { (x : Storage) (p : Picture) (t c : Thing) (at wants free : ℕ) → MachineStands x cpu.old areas.old sectors.old (B.holds backing.old) p → IsAbsent x p home t → IsCode x p code at c

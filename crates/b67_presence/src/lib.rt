@@ -6,5 +6,4 @@ mod paging;
 mod way;
 
 pub use bringing::{bring_code, bring_data};
-
 pub use paging::{Refusal, page_in};

@@ -166,7 +166,7 @@ pub fn page_in<B: Backing>(
     ensures untold { OnOk result ((x : Storage) (p : Picture) (t : Thing) → MachineStands x cpu.old areas.old sectors.now (B.holds backing.old) p
         → IsAbsent x p home t → x.device ≡ None
         → (at : ℕ) × (ns : List ℕ) × IsPlace x t at × (length ns ≡ length t.numbers)
-            × MachineStands (brought x t at) cpu.new areas.new sectors.now (B.holds backing.new) (renumbered p home ns)) }
+        × MachineStands (brought x t at) cpu.new areas.new sectors.now (B.holds backing.new) (renumbered p home ns)) }
     ensures refused { OnErr result ((x : Storage) (p : Picture) (t : Thing) → MachineStands x cpu.old areas.old sectors.now (B.holds backing.old) p
         → IsAbsent x p home t → MachineStands x cpu.new areas.new sectors.now (B.holds backing.new) p) }
     ensures full { (x : Storage) (p : Picture) (t : Thing) → MachineStands x cpu.old areas.old sectors.now (B.holds backing.old) p

@@ -41,7 +41,7 @@ fn give_way<B: Backing>(
     ensures gone { result ≡ Ok false → (x : Storage) (p : Picture) (t u : Thing) → MachineStands x cpu.old areas.old sectors.old (B.holds backing.old) p
         → IsAbsent x p home t → IsPresent x p at u
         → (at ≡ spare → MachineStands x cpu.new areas.new sectors.new (B.holds backing.new) p)
-            × (at ≢ spare → MachineStands (overlaid x u at (B.holds backing.new)) cpu.new areas.new sectors.new (B.holds backing.new) p) }
+        × (at ≢ spare → MachineStands (overlaid x u at (B.holds backing.new)) cpu.new areas.new sectors.new (B.holds backing.new) p) }
     ensures refused { OnErr result ((x : Storage) (p : Picture) (t u : Thing) → MachineStands x cpu.old areas.old sectors.old (B.holds backing.old) p
         → IsAbsent x p home t → IsPresent x p at u → Waits x p spare cpu.new areas.new sectors.new (B.holds backing.new)) }
     ensures full { (x : Storage) (p : Picture) (t u : Thing) (wants free : ℕ) → MachineStands x cpu.old areas.old sectors.old (B.holds backing.old) p → IsAbsent x p home t → IsPresent x p at u

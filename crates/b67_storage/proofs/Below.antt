@@ -1,8 +1,8 @@
 -- The words below the slots.
-use Rattle.std.proofs.Common.{◌≡◌, ◌≢◌, ℕ, ◌+◌, ◌*◌, ◌<◌, ◌≤◌, ◌⊎◌, ⊎_elim, List, length, refl, sym, ◌∙◌, ap, arith}
+use Rattle.std.proofs.Common.{◌≢◌, ℕ, ◌<◌, ◌≤◌, ◌⊎◌, ⊎_elim, List, refl, ◌∙◌, arith}
 use Rattle.b67_word.specs.Tagged.{Tagged}
 use Rattle.b67_ctl.specs.declared.registers.Regs.{Regs}
-use Rattle.b67_stack.specs.Picture.{Picture, slot_base}
+use Rattle.b67_stack.specs.Picture.{Picture}
 use Rattle.b67_stack.specs.Stands.{Storage, Stands}
 use Rattle.b67_storage.specs.Machine.{Stayed}
 

@@ -1,6 +1,6 @@
 -- A device over several calls.
-use Rattle.std.proofs.Common.{◌≡◌, ℕ, ◌≤◌, List, length, Option, Some, None, refl, ◌∙◌, arith}
-use Rattle.b67_backing.specs.Held.{Changes, Becomes}
+use Rattle.std.proofs.Common.{◌≡◌, ℕ, ◌≤◌, List, Option, Some, refl, ◌∙◌, arith}
+use Rattle.b67_backing.specs.Held.{Becomes}
 use Rattle.b67_storage.specs.Machine.{Served}
 
 pub Served-none : {D : Type 0} (holds : D → Option (List (List ℕ))) (size calls faults : D → ℕ) (d : D) → Served holds size calls faults d d

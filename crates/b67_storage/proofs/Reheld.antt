@@ -1,9 +1,9 @@
 -- A machine in which one thing is held otherwise stands for the same picture.
-use Rattle.std.proofs.Common.{◌≡◌, ◌≢◌, ℕ, suc, ◌+◌, ◌<◌, ◌≤◌, ◌^◌, List, [], ◌∷◌, length, map, Option, Some, None, refl, sym, ◌∙◌, ap, arith, inl, inr, ◌⊎◌, ⊎_elim, subst}
+use Rattle.std.proofs.Common.{◌≡◌, ◌≢◌, ℕ, ◌+◌, ◌<◌, ◌≤◌, List, [], length, map, Option, Some, None, refl, sym, ◌∙◌, ap, arith, inl, inr, ◌⊎◌, ⊎_elim, subst}
 use Rattle.std.specs.List.{slice_get}
 use Rattle.std.proofs.lemmas.List.{length-map}
 use Rattle.std.proofs.lemmas.Bool.{cases_eq}
-use Rattle.std.proofs.lemmas.Option.{same_Some, none-some}
+use Rattle.std.proofs.lemmas.Option.{same_Some}
 use Rattle.b67_word.specs.Tagged.{Tagged, word}
 use Rattle.b67_core.specs.Numbers.{number}
 use Rattle.b67_area.specs.declared.Info.{Info}
@@ -12,10 +12,9 @@ use Rattle.b67_area.specs.declared.Kind.TheVariants.{Array, Row, Code}
 use Rattle.b67_area.specs.Spans.{Span, area_at}
 use Rattle.b67_area.specs.Directory.{IsDirectory}
 use Rattle.b67_backing.specs.Shelf.{Shelf, chain_of}
-use Rattle.b67_backing.specs.Held.{sectors_for}
 use Rattle.b67_model.specs.Lists.{Has}
 use Rattle.b67_ctl.specs.declared.registers.Regs.{Regs}
-use Rattle.b67_stack.specs.Shapes.{Held, Map, Upward}
+use Rattle.b67_stack.specs.Shapes.{Held}
 use Rattle.b67_stack.specs.Picture.{Thing, Picture, Slot, Free, Running, Waiting, slot_base, home_word, words_of, tag_of}
 use Rattle.b67_stack.specs.Stands.{Storage, SlotStands, SlotsStand, StacksLie, ThingsStand, ThingStands, Content, Keeps, Rests, HasChain, HoldsIn, Told, Owned, info_of, Stands}
 use Rattle.b67_stack.proofs.Lies.{Upward-same}

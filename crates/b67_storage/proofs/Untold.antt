@@ -1,13 +1,13 @@
 -- A storage that says nothing of the device.
-use Rattle.std.proofs.Common.{◌≡◌, ◌≢◌, ℕ, List, length, Option, Some, None, refl, sym, ap}
+use Rattle.std.proofs.Common.{ℕ, List, Option, None, refl}
 use Rattle.b67_word.specs.Tagged.{Tagged}
 use Rattle.b67_area.specs.declared.Areas.{Areas}
 use Rattle.b67_backing.specs.Shelf.{Table}
 use Rattle.b67_ctl.specs.declared.registers.Regs.{Regs}
 use Rattle.b67_stack.specs.declared.Cpu.{Cpu}
-use Rattle.b67_stack.specs.Picture.{Thing, Picture}
-use Rattle.b67_stack.specs.Stands.{Storage, Content, ThingsStand, Owned, Stands}
-use Rattle.b67_storage.specs.Machine.{MachineStands, ChainStays}
+use Rattle.b67_stack.specs.Picture.{Picture}
+use Rattle.b67_stack.specs.Stands.{Storage, Stands}
+use Rattle.b67_storage.specs.Machine.{MachineStands}
 use Rattle.b67_storage.proofs.Reheld.{Content-stays}
 
 abbrev pub untold : Storage → Storage

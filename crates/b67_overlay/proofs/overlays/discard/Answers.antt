@@ -1,27 +1,15 @@
-use Rattle.std.proofs.Common.{◌≡◌, ◌≢◌, ◌⊎◌, ◌↔◌, ℕ, ◌+◌, ◌<◌, ◌≤◌, List, length, map, Option, Some, None, Result, Ok, Err, refl, ap, arith, sym, ◌∙◌, subst, inl, inr, ⊎_elim}
-use Rattle.std.specs.Prelude.{slice_range}
-use Rattle.b67_word.specs.Tagged.{Tagged, word}
-use Rattle.b67_core.specs.Numbers.{number}
+use Rattle.std.proofs.Common.{◌≡◌, ℕ, Some, ap, arith, sym, ◌∙◌, subst}
 use Rattle.b67_area.specs.declared.Areas.{Areas}
 use Rattle.b67_area.specs.declared.Info.{Info}
-use Rattle.b67_area.specs.declared.Kind.{Kind}
-use Rattle.b67_area.specs.declared.Kind.TheVariants.{Array, Row, Code}
 use Rattle.b67_area.specs.Spans.{area_at}
 use Rattle.b67_area.specs.Directory.{IsDirectory}
-use Rattle.b67_backing.specs.Shelf.{Shelf, IsShelf, HasChain as ChainIs}
-use Rattle.b67_backing.specs.Held.{sectors_for, Stores, SameBut, Changes}
-use Rattle.b67_stack.specs.Picture.{words_of, tag_of}
-use Rattle.b67_stack.specs.Stands.{Storage, Stands, HasChain, info_of}
-use Rattle.b67_storage.specs.Machine.{MachineStands, Says, retold}
-use Rattle.std.proofs.lemmas.List.{length-map}
-use Rattle.b67_overlay.specs.Overlaid.{chain_out, shelf_out, sectors_out, overlaid, dropped, retelling, IsOut, IsShort}
-use Rattle.b67_overlay.proofs.Chains.{Says-retold}
-use Rattle.b67_overlay.proofs.Sectors.{About, about, out_clean, overlaid_clean, kept_chain, out_written, Stands-retold, range_up}
+use Rattle.b67_stack.specs.Stands.{Stands, info_of}
+use Rattle.b67_storage.specs.Machine.{MachineStands}
+use Rattle.b67_overlay.specs.Overlaid.{overlaid, dropped, IsOut}
+use Rattle.b67_overlay.proofs.Sectors.{about, out_clean}
 use Rattle.b67_ctl.specs.declared.registers.Regs.{Regs}
 use Rattle.b67_stack.specs.declared.Cpu.{Cpu}
-use Rattle.b67_backing.specs.declared.SpaceFault.{SpaceFault}
-use Rattle.b67_backing.specs.declared.SpaceFault.TheVariants.{BackingFull}
-use Rattle.b67_overlay.proofs.Finish.{overlaid_machine, clean_machine, retold_machine}
+use Rattle.b67_overlay.proofs.Finish.{clean_machine}
 use Rattle.b67_overlay.proofs.overlays.discard.Goals as goal
 
 pub info-info-requires : goal.info-info-requires

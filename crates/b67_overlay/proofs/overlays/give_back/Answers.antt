@@ -1,4 +1,4 @@
-use Rattle.std.proofs.Common.{◌≡◌, ℕ, ◌+◌, ◌<◌, ◌≤◌, List, length, Some, None, ap, arith, sym, ◌∙◌, subst, slice_set}
+use Rattle.std.proofs.Common.{◌≡◌, ℕ, List, length, Some, None, ap, arith, sym, ◌∙◌, subst, slice_set}
 use Rattle.b67_word.specs.Tagged.{Tagged}
 use Rattle.b67_area.specs.declared.Info.{Info}
 use Rattle.b67_area.specs.Spans.{area_at}
@@ -11,7 +11,7 @@ use Rattle.b67_stack.specs.declared.Cpu.{Cpu}
 use Rattle.b67_overlay.specs.Overlaid.{dropped}
 use Rattle.b67_storage.proofs.Unchanged.{home_below}
 use Rattle.b67_overlay.proofs.Sectors.{about}
-use Rattle.b67_overlay.proofs.Dropping.{Freed, directory2, size2, below_dropped, Stands-dropped}
+use Rattle.b67_overlay.proofs.Dropping.{Freed, directory2, below_dropped, Stands-dropped}
 use Rattle.b67_overlay.proofs.overlays.give_back.Goals as goal
 
 pub set-requires : goal.set-requires

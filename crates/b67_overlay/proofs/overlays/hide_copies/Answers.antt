@@ -1,6 +1,5 @@
-use Rattle.std.proofs.Common.{◌≡◌, ℕ, ap, subst, sym, ◌∙◌}
+use Rattle.std.proofs.Common.{ℕ, ap, subst, sym, ◌∙◌}
 use Rattle.b67_area.specs.declared.Info.{Info}
-use Rattle.b67_stack.specs.Stands.{info_of}
 use Rattle.b67_overlay.specs.Turns.{Searched}
 use Rattle.b67_overlay.proofs.Hiding.{hidden_data, hidden_code}
 use Rattle.b67_overlay.proofs.overlays.hide_copies.Goals as goal

@@ -1,27 +1,25 @@
-use Rattle.std.proofs.Common.{◌≡◌, ◌≢◌, ◌⊎◌, ◌↔◌, ℕ, ◌+◌, ◌<◌, ◌≤◌, List, length, map, Option, Some, None, Result, Ok, Err, refl, ap, arith, sym, ◌∙◌, subst, inl, inr, ⊎_elim}
+use Rattle.std.proofs.Common.{◌≡◌, ◌≢◌, ◌⊎◌, ℕ, ◌+◌, ◌<◌, ◌≤◌, List, length, map, Some, Result, Err, refl, ap, arith, sym, ◌∙◌, subst, inl, inr, ⊎_elim}
 use Rattle.std.specs.Prelude.{slice_range}
 use Rattle.b67_word.specs.Tagged.{Tagged, word}
 use Rattle.b67_core.specs.Numbers.{number}
 use Rattle.b67_area.specs.declared.Areas.{Areas}
 use Rattle.b67_area.specs.declared.Info.{Info}
-use Rattle.b67_area.specs.declared.Kind.{Kind}
 use Rattle.b67_area.specs.declared.Kind.TheVariants.{Array, Row, Code}
 use Rattle.b67_area.specs.Spans.{area_at}
 use Rattle.b67_area.specs.Directory.{IsDirectory}
-use Rattle.b67_backing.specs.Shelf.{Shelf, IsShelf, HasChain as ChainIs}
+use Rattle.b67_backing.specs.Shelf.{IsShelf, HasChain as ChainIs}
 use Rattle.b67_backing.specs.Held.{sectors_for, Stores, SameBut, Changes}
 use Rattle.b67_stack.specs.Picture.{words_of, tag_of}
 use Rattle.b67_stack.specs.Stands.{Storage, Stands, HasChain, info_of}
-use Rattle.b67_storage.specs.Machine.{MachineStands, Says, retold}
+use Rattle.b67_storage.specs.Machine.{MachineStands, retold}
 use Rattle.std.proofs.lemmas.List.{length-map}
-use Rattle.b67_overlay.specs.Overlaid.{chain_out, shelf_out, sectors_out, overlaid, dropped, retelling, IsOut, IsShort}
-use Rattle.b67_overlay.proofs.Chains.{Says-retold}
-use Rattle.b67_overlay.proofs.Sectors.{About, about, out_clean, overlaid_clean, kept_chain, out_written, Stands-retold, range_up}
+use Rattle.b67_overlay.specs.Overlaid.{chain_out, shelf_out, sectors_out, overlaid, dropped, IsOut}
+use Rattle.b67_overlay.proofs.Sectors.{about, kept_chain, out_written, Stands-retold, range_up}
 use Rattle.b67_ctl.specs.declared.registers.Regs.{Regs}
 use Rattle.b67_stack.specs.declared.Cpu.{Cpu}
 use Rattle.b67_backing.specs.declared.SpaceFault.{SpaceFault}
 use Rattle.b67_backing.specs.declared.SpaceFault.TheVariants.{BackingFull}
-use Rattle.b67_overlay.proofs.Finish.{overlaid_machine, clean_machine, retold_machine}
+use Rattle.b67_overlay.proofs.Finish.{overlaid_machine, retold_machine}
 use Rattle.b67_overlay.proofs.overlays.overlay.Goals as goal
 
 pub info-info-requires : goal.info-info-requires
@@ -97,7 +95,7 @@ give_back-requires-clause-first g c =
     (λ (h : HasChain x t (x.held t.home).chain). let r : Q (info_of x t) = inr (record { shelf = m.shelf; many = h.sectors }) in r)
     (kept_chain x c.args.cpu.now.core c.args.cpu.now.regs p m.stands c.args.area t at c.args.sectors.now (g.B.Backing.holds c.args.backing.now) (g.B.Backing.holds c.args.backing.now) m.shelf m.device array)) in
     let W : Info → Type 0 = λ i. (c.in-Ok.first ≡ chain_out x.shelf i.kept) × IsShelf c.write_out.new.sectors (shelf_out x.shelf i.kept i.words)
-        × Changes g.B.Backing.holds c.args.backing.now c.write_out.new.backing (Stores (sectors_out x.shelf i.kept i.words) (map number (slice_range c.args.cpu.now.core c.args.area (c.args.area + i.words)))) in
+    × Changes g.B.Backing.holds c.args.backing.now c.write_out.new.backing (Stores (sectors_out x.shelf i.kept i.words) (map number (slice_range c.args.cpu.now.core c.args.area (c.args.area + i.words)))) in
     let wr = subst W is (c.in-Ok.ensures.written x.shelf m.shelf chain) in
     let R : Info → Type 0 = λ i. i.kept ≡ 0 → sectors_for i.words ≤ length x.shelf.free in
     let room = subst R is (c.in-Ok.ensures.room x.shelf m.shelf) in
@@ -119,7 +117,7 @@ returns-in-Ok-clause-stands g c = λ x p t m at.
     (λ (h : HasChain x t (x.held t.home).chain). let r : Q (info_of x t) = inr (record { shelf = m.shelf; many = h.sectors }) in r)
     (kept_chain x c.args.cpu.now.core c.args.cpu.now.regs p m.stands c.args.area t at c.args.sectors.now (g.B.Backing.holds c.args.backing.now) (g.B.Backing.holds c.args.backing.now) m.shelf m.device array)) in
     let W : Info → Type 0 = λ i. (c.in-Ok.first ≡ chain_out x.shelf i.kept) × IsShelf c.write_out.new.sectors (shelf_out x.shelf i.kept i.words)
-        × Changes g.B.Backing.holds c.args.backing.now c.write_out.new.backing (Stores (sectors_out x.shelf i.kept i.words) (map number (slice_range c.args.cpu.now.core c.args.area (c.args.area + i.words)))) in
+    × Changes g.B.Backing.holds c.args.backing.now c.write_out.new.backing (Stores (sectors_out x.shelf i.kept i.words) (map number (slice_range c.args.cpu.now.core c.args.area (c.args.area + i.words)))) in
     let wr = subst W is (c.in-Ok.ensures.written x.shelf m.shelf chain) in
     let R : Info → Type 0 = λ i. i.kept ≡ 0 → sectors_for i.words ≤ length x.shelf.free in
     let room = subst R is (c.in-Ok.ensures.room x.shelf m.shelf) in
@@ -182,7 +180,7 @@ returns-in-Err-clause-full g c = λ x p t wants free m at.
     let is : c.info-info.result ≡ info_of x t = c.info-info.ensures x.spans (info_of x t) dir here in
     let array : t.kind ≡ Array = ap (λ (i : Info). i.kind) (sym is) ∙ c.in-Array.is in
     let F : Info → Type 0 = λ i. (◌≡◌ {A = Result ℕ SpaceFault} (Err c.in-Err.fault) (Err (BackingFull wants free)) → (i.kept ≡ 0) × (length x.shelf.free < sectors_for i.words) × (wants ≡ sectors_for i.words) × (free ≡ length x.shelf.free))
-        × ((i.kept ≡ 0) × (length x.shelf.free < sectors_for i.words) × (wants ≡ sectors_for i.words) × (free ≡ length x.shelf.free) → ◌≡◌ {A = Result ℕ SpaceFault} (Err c.in-Err.fault) (Err (BackingFull wants free))) in
+    × ((i.kept ≡ 0) × (length x.shelf.free < sectors_for i.words) × (wants ≡ sectors_for i.words) × (free ≡ length x.shelf.free) → ◌≡◌ {A = Result ℕ SpaceFault} (Err c.in-Err.fault) (Err (BackingFull wants free))) in
     let fl = subst F is (c.in-Err.ensures.full x.shelf wants free m.shelf) in (
       λ e. let r = fl.0 (let z : ◌≡◌ {A = Result ℕ SpaceFault} (Err c.in-Err.fault) (Err (BackingFull wants free)) = cc in z) in (record { kind = array; none = r.0; few = r.1 }, r.2, r.3),
       λ h. let z = fl.1 (h.0.none, h.0.few, h.1, h.2) in (let q : ◌≡◌ {A = Result (Unit {0}) SpaceFault} (Err c.in-Err.fault) (Err (BackingFull wants free)) = cc in q),
@@ -205,7 +203,6 @@ returns-in-Err-clause-clean g c = λ x p t m at no_array.
     let is : c.info-info.result ≡ info_of x t = c.info-info.ensures x.spans (info_of x t) dir here in
     let array : t.kind ≡ Array = ap (λ (i : Info). i.kind) (sym is) ∙ c.in-Array.is in
     absurd (no_array array)
-
 
 pub discard-requires : goal.discard-requires
 discard-requires g c =

@@ -1,9 +1,7 @@
-use Rattle.std.proofs.Common.{◌≡◌, ◌⊎◌, ℕ, ◌+◌, ◌≤◌, List, length, arith, sym, ◌∙◌, ap, subst, ⊎_elim}
-use Rattle.b67_backing.specs.Shelf.{Shelf, IsShelf, HasChain, taken, given, chain_of}
+use Rattle.std.proofs.Common.{◌≡◌, ℕ, List, arith, sym, ◌∙◌, ap, subst, ⊎_elim}
+use Rattle.b67_backing.specs.Shelf.{Shelf, IsShelf, HasChain, taken, chain_of}
 use Rattle.b67_backing.specs.Held.{Changes, SameBut, sectors_for}
-use Rattle.b67_overlay.specs.Overlaid.{sectors_out}
 use Rattle.b67_overlay.proofs.Chains.{given_taken, new_out}
-use Rattle.b67_storage.specs.Machine.{Served}
 use Rattle.b67_overlay.proofs.writing.write_out.Goals as goal
 
 pub save-requires-clause-chain : goal.save-requires-clause-chain

@@ -1,21 +1,14 @@
-use Rattle.std.proofs.Common.{◌≡◌, ◌≢◌, ◌↔◌, ℕ, ◌+◌, ◌<◌, ◌≤◌, List, length, Option, Some, None, Result, Ok, Err, Bool, refl, sym, ◌∙◌, ap, arith, subst}
+use Rattle.std.proofs.Common.{◌≡◌, ◌+◌, length, Err, refl, sym, ◌∙◌, ap, arith}
 use Rattle.std.proofs.lemmas.Result.{on_ok_weaker, on_err_weaker}
-use Rattle.b67_backing.specs.declared.SpaceFault.{SpaceFault}
-use Rattle.b67_backing.specs.declared.SpaceFault.TheVariants.{NoCore, BackingFull}
-use Rattle.b67_stack.specs.declared.Cpu.{Cpu}
-use Rattle.b67_stack.specs.Stands.{Storage}
-use Rattle.b67_storage.specs.Machine.{MachineStands, Served, Stayed}
 use Rattle.b67_storage.proofs.Below.{Stayed-then}
 use Rattle.b67_storage.proofs.Devices.{Served-then, Served-same}
-use Rattle.b67_overlay.specs.Sheds.{Sheds, IsShortBy}
 use Rattle.b67_overlay.proofs.Shedding.{Sheds-none}
 use Rattle.b67_presence.specs.declared.paging.Refusal.TheVariants.{NoHole}
 use Rattle.b67_presence.specs.declared.paging.Resting.{Resting}
-use Rattle.b67_presence.specs.Brought.{resting}
-use Rattle.b67_presence.specs.Brings.{Came, Waits, IsCode, need_one, need_both}
+use Rattle.b67_presence.specs.Brings.{need_one}
 use Rattle.b67_presence.proofs.Descriptors.{rest_here}
 use Rattle.b67_presence.proofs.Ways.{read_in, came_of}
-use Rattle.b67_presence.proofs.Forcing.{both_came, may_wait, same_need, need_is}
+use Rattle.b67_presence.proofs.Forcing.{same_need, need_is}
 use Rattle.b67_presence.proofs.bringing.bring_code.Goals as goal
 
 pub overflow_add-need : goal.overflow_add-need
@@ -38,8 +31,7 @@ pub returns-then-need-size-clause-no_core : goal.returns-then-need-size-clause-n
 returns-then-need-size-clause-no_core g c = λ x p t need size m a.
     let is = c.at.ensures x c.args.cpu.now.regs p t m.stands a in
     let words : c.at.result.words ≡ length t.numbers = ap (λ (z : Resting). z.words) is in
-    let need_same : c.args.areas.now.low + (c.at.result.words + 2) ≡ need_one x t = omega (arith, m.low, words) in
-    (
+    let need_same : c.args.areas.now.low + (c.at.result.words + 2) ≡ need_one x t = omega (arith, m.low, words) in (
       λ e. let q = need_is (c.args.areas.now.low + (c.at.result.words + 2)) c.size-size.result need size e in (omega (arith, c.if-need-size.true, need_same, c.size-size.ensures.value), sym q.0 ∙ need_same, sym q.1 ∙ c.size-size.ensures.value),
       λ h. same_need (c.args.areas.now.low + (c.at.result.words + 2)) c.size-size.result need size (need_same ∙ sym h.1) (c.size-size.ensures.value ∙ sym h.2),
     )

@@ -1,16 +1,11 @@
-use Rattle.std.proofs.Common.{◌≡◌, ◌≢◌, ℕ, ◌+◌, ◌<◌, ◌≤◌, List, length, Option, Some, None, Result, Ok, Err, Bool, refl, sym, ◌∙◌, ap, arith, subst}
+use Rattle.std.proofs.Common.{◌≡◌, length, Result, Ok, Err, Bool, ◌∙◌, ap, arith}
 use Rattle.std.proofs.lemmas.Result.{on_ok_weaker, on_err_weaker}
 use Rattle.b67_backing.specs.declared.SpaceFault.{SpaceFault}
 use Rattle.b67_backing.specs.declared.SpaceFault.TheVariants.{BackingFull}
-use Rattle.b67_stack.specs.declared.Cpu.{Cpu}
-use Rattle.b67_stack.specs.Stands.{Storage}
-use Rattle.b67_storage.specs.Machine.{MachineStands, Served, Stayed}
 use Rattle.b67_storage.proofs.Below.{Stayed-then}
 use Rattle.b67_storage.proofs.Devices.{Served-then}
-use Rattle.b67_overlay.specs.Sheds.{Sheds, IsShortBy}
-use Rattle.b67_presence.specs.Brings.{Came, Waits, IsAlone}
 use Rattle.b67_presence.proofs.Ways.{absent_after, readable_after, came_of}
-use Rattle.b67_presence.proofs.Forcing.{room_alone, code_after, both_came, may_wait, both_before, wait_before}
+use Rattle.b67_presence.proofs.Forcing.{room_alone}
 use Rattle.b67_presence.proofs.bringing.force_code.Goals as goal
 
 pub page_in_room-requires-clause-machine : goal.page_in_room-requires-clause-machine

@@ -1,16 +1,15 @@
-use Rattle.std.proofs.Common.{◌≡◌, ℕ, ◌+◌, List, length, Option, Some, None, refl, sym, ◌∙◌, ap, inl, subst}
-use Rattle.std.proofs.lemmas.Result.{IfOk-weaker, on_ok_weaker, on_err_weaker}
-use Rattle.b67_word.specs.Tagged.{Tagged}
+use Rattle.std.proofs.Common.{refl, ap, inl, subst}
+use Rattle.std.proofs.lemmas.Result.{on_ok_weaker, on_err_weaker}
 use Rattle.b67_ctl.specs.declared.registers.Regs.{Regs}
 use Rattle.b67_stack.specs.declared.Cpu.{Cpu}
 use Rattle.b67_stack.specs.Stands.{Storage, Stands}
-use Rattle.b67_storage.specs.Machine.{MachineStands, IsAbsent}
+use Rattle.b67_storage.specs.Machine.{IsAbsent}
 use Rattle.b67_storage.proofs.Untold.{untold, Machine-untold}
 use Rattle.b67_storage.proofs.Below.{Stayed-then}
 use Rattle.b67_overlay.specs.Overlaid.{overlaid}
 use Rattle.b67_presence.specs.Brought.{brought}
 use Rattle.b67_presence.specs.Brings.{IsReadable, IsCode}
-use Rattle.b67_presence.proofs.Resort.{present_code, no_array, absent_t, absent_c, readable_y, room_t, room_c, absent_z, readable_z, waits_first, waits_second, both_in, reads_x, Stayed-read}
+use Rattle.b67_presence.proofs.Resort.{present_code, no_array, absent_t, readable_y, room_t, room_c, absent_z, readable_z, waits_first, waits_second, both_in, reads_x, Stayed-read}
 use Rattle.b67_presence.proofs.bringing.last_resort.Goals as goal
 
 pub discard-requires : goal.discard-requires

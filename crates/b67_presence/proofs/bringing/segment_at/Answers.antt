@@ -1,8 +1,7 @@
-use Rattle.std.proofs.Common.{◌≡◌, ℕ, List, length, Option, Some, None, sym, ◌∙◌, ap}
-use Rattle.std.specs.List.{slice_get}
+use Rattle.std.proofs.Common.{sym, ◌∙◌, ap}
 use Rattle.std.proofs.lemmas.Option.{same_Some, none-some}
 use Rattle.b67_ctl.specs.declared.descriptors.SegDesc.{SegDesc}
-use Rattle.b67_presence.proofs.Descriptors.{Segment, segment_here}
+use Rattle.b67_presence.proofs.Descriptors.{segment_here}
 use Rattle.b67_presence.proofs.bringing.segment_at.Goals as goal
 
 pub get-requires : goal.get-requires

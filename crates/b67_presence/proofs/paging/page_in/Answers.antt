@@ -1,15 +1,14 @@
-use Rattle.std.proofs.Common.{◌≡◌, ◌≢◌, ◌↔◌, ◌⊎◌, ℕ, ◌+◌, ◌<◌, ◌≤◌, List, length, Option, Some, None, Ok, Err, OnOk, refl, sym, ◌∙◌, ap, arith, subst, inl, inr, slice_set}
-use Rattle.std.specs.List.{slice_get}
+use Rattle.std.proofs.Common.{◌≡◌, ℕ, ◌+◌, List, length, Some, refl, sym, ◌∙◌, ap, arith, subst, slice_set}
 use Rattle.b67_word.specs.Tagged.{Tagged}
-use Rattle.b67_area.specs.Spans.{Span, area_at, fresh, fill, without}
+use Rattle.b67_area.specs.Spans.{area_at, fresh, fill, without}
 use Rattle.b67_area.specs.Directory.{IsDirectory}
 use Rattle.b67_area.specs.declared.Areas.{Areas}
-use Rattle.b67_presence.specs.Brought.{resting, brought}
+use Rattle.b67_presence.specs.Brought.{brought}
 use Rattle.b67_presence.specs.declared.paging.Resting.{Resting}
 use Rattle.b67_presence.proofs.Descriptors.{rest_here}
 use Rattle.b67_presence.proofs.Contents.{Loaded, chain_at}
 use Rattle.b67_presence.proofs.Placing.{Placed, Filled, Kept, Freed}
-use Rattle.b67_presence.proofs.Paged.{Ready, ready, Steps, in_place, paged_known, paged_untold, paged_back, paged_below, back_below}
+use Rattle.b67_presence.proofs.Paged.{ready, Steps, in_place, paged_known, paged_untold, paged_back, paged_below, back_below}
 use Rattle.b67_stack.specs.Picture.{home_word_of}
 use Rattle.b67_storage.specs.Machine.{Stayed, MachineStands, HasRoom, renumbered}
 use Rattle.b67_storage.proofs.Holes.{no_place, place_room}

@@ -1,9 +1,7 @@
-use Rattle.std.proofs.Common.{◌≡◌, ◌≢◌, ℕ, ◌<◌, ◌≤◌, List, length, Option, Some, None, refl, sym, ◌∙◌, ap, subst, arith, ◌+◌, Result, Err, Ok}
+use Rattle.std.proofs.Common.{◌≡◌, ◌≢◌, ℕ, List, Option, Some, None, sym, ◌∙◌, ap, subst, Result, Err}
 use Rattle.std.proofs.lemmas.Option.{none-some}
-use Rattle.b67_stack.specs.declared.Cpu.{Cpu}
-use Rattle.b67_stack.specs.Picture.{Picture}
 use Rattle.b67_stack.specs.Stands.{Storage}
-use Rattle.b67_storage.specs.Machine.{MachineStands, Served}
+use Rattle.b67_storage.specs.Machine.{MachineStands}
 use Rattle.b67_storage.proofs.Below.{Stayed-then}
 use Rattle.b67_storage.proofs.Devices.{still_tells}
 use Rattle.b67_overlay.specs.Overlaid.{overlaid, retelling}

@@ -1,20 +1,17 @@
-use Rattle.std.proofs.Common.{◌≡◌, ◌≢◌, ℕ, ◌<◌, ◌≤◌, ◌⊎◌, List, length, Option, Some, None, Result, Ok, Err, Bool, refl, sym, ◌∙◌, ap, arith, ⊎_elim, subst}
+use Rattle.std.proofs.Common.{◌≡◌, ◌≢◌, ℕ, List, Option, Some, None, Result, Ok, Err, Bool, refl, sym, ◌∙◌, ap, ⊎_elim, subst}
 use Rattle.std.proofs.lemmas.Option.{none-some}
 use Rattle.std.proofs.lemmas.Bool.{cases_eq}
-use Rattle.b67_area.specs.declared.Info.{Info}
-use Rattle.b67_area.specs.Spans.{area_at}
 use Rattle.b67_backing.specs.declared.SpaceFault.{SpaceFault}
 use Rattle.b67_backing.specs.declared.SpaceFault.TheVariants.{BackingFull}
 use Rattle.b67_stack.specs.declared.Cpu.{Cpu}
-use Rattle.b67_stack.specs.Picture.{Picture}
 use Rattle.b67_stack.specs.Stands.{Storage}
-use Rattle.b67_storage.specs.Machine.{MachineStands, Served, Stayed}
+use Rattle.b67_storage.specs.Machine.{MachineStands, Stayed}
 use Rattle.b67_storage.proofs.Below.{Stayed-none, Stayed-then}
 use Rattle.b67_storage.proofs.Devices.{Served-none, Served-then, still_tells}
 use Rattle.b67_overlay.specs.Overlaid.{overlaid}
-use Rattle.b67_overlay.specs.Sheds.{Sheds, Remains, IsShortBy}
+use Rattle.b67_overlay.specs.Sheds.{Sheds, Remains}
 use Rattle.b67_overlay.proofs.Shedding.{Sheds-none, Sheds-then, Sheds-overlaid, directory_here, thing_here, after_here, falls_here, gone_here, past_here, first_here}
-use Rattle.b67_presence.specs.Brings.{Came, Waits}
+use Rattle.b67_presence.specs.Brings.{Waits}
 use Rattle.b67_presence.proofs.Ways.{absent_after, readable_after, Came-before, Waits-before}
 use Rattle.b67_presence.proofs.way.make_way.Goals as goal
 
@@ -68,10 +65,10 @@ areas-preserved g c =
       count = c.give_way.ensures.count ∙ v.count;
       device = Served-then g.B.Backing.holds g.B.Backing.size g.B.Backing.calls g.B.Backing.faults c.args.backing.now c.areas.backing c.give_way.new.backing v.device c.give_way.ensures.device;
       stands = λ x p t m a.
-    let (y, sh, re, my, st) = c.areas.invariant.stands x p t m a in
-    let ay = absent_after x y p c.args.home c.args.spare t sh a in
-    let (u, pr) = thing_here y c.areas.cpu c.areas.areas c.areas.sectors (g.B.Backing.holds c.areas.backing) p my c.args.spare c.in-Some.at c.areas.next c.in-Some.is re in
-    let tells : (all : List (List ℕ)) → g.B.Backing.holds c.areas.backing ≡ Some all → g.B.Backing.holds c.give_way.new.backing ≢ None = λ all e n. let (q, i) = still_tells g.B.Backing.holds g.B.Backing.size g.B.Backing.calls g.B.Backing.faults c.areas.backing c.give_way.new.backing c.give_way.ensures.device all e in none-some q (sym n ∙ i) in
+          let (y, sh, re, my, st) = c.areas.invariant.stands x p t m a in
+          let ay = absent_after x y p c.args.home c.args.spare t sh a in
+          let (u, pr) = thing_here y c.areas.cpu c.areas.areas c.areas.sectors (g.B.Backing.holds c.areas.backing) p my c.args.spare c.in-Some.at c.areas.next c.in-Some.is re in
+          let tells : (all : List (List ℕ)) → g.B.Backing.holds c.areas.backing ≡ Some all → g.B.Backing.holds c.give_way.new.backing ≢ None = λ all e n. let (q, i) = still_tells g.B.Backing.holds g.B.Backing.size g.B.Backing.calls g.B.Backing.faults c.areas.backing c.give_way.new.backing c.give_way.ensures.device all e in none-some q (sym n ∙ i) in
           let z = overlaid y u c.in-Some.at (g.B.Backing.holds c.give_way.new.backing) in
           let r = c.give_way.ensures.gone (c.in-Ok-false.is ∙ ap Ok c.in-Ok-false.field-0-test) y p t u my ay pr in
           let sw = Stayed-then p c.args.cpu.now.core c.areas.cpu.core c.give_way.new.cpu.core st (c.give_way.ensures.outside y p t u my ay pr) in
@@ -80,10 +77,13 @@ areas-preserved g c =
           (λ (q : c.in-Some.at ≡ c.args.spare).
           let done : (s : Storage) × Sheds x s c.args.spare × Remains s.low s.spans c.args.spare c.after-next.result × MachineStands s c.give_way.new.cpu c.give_way.new.areas c.give_way.new.sectors (g.B.Backing.holds c.give_way.new.backing) p × Stayed p c.args.cpu.now.core c.give_way.new.cpu.core = (y, sh, past_here y c.areas.cpu c.areas.areas c.areas.sectors (g.B.Backing.holds c.areas.backing) p my c.args.spare c.in-Some.at c.areas.next c.in-Some.is re c.after-next.result e q, r.0 q, sw) in done)
           (λ (n : c.in-Some.at ≡ c.args.spare → ⊥).
-          let done : (s : Storage) × Sheds x s c.args.spare × Remains s.low s.spans c.args.spare c.after-next.result × MachineStands s c.give_way.new.cpu c.give_way.new.areas c.give_way.new.sectors (g.B.Backing.holds c.give_way.new.backing) p × Stayed p c.args.cpu.now.core c.give_way.new.cpu.core = (z,
-          Sheds-then x y z c.args.spare sh (Sheds-overlaid y (g.B.Backing.holds c.areas.backing) (g.B.Backing.holds c.give_way.new.backing) my.device tells u c.in-Some.at c.args.spare pr.present n),
-          gone_here y c.areas.cpu c.areas.areas c.areas.sectors (g.B.Backing.holds c.areas.backing) p my c.args.spare c.in-Some.at c.areas.next c.in-Some.is re c.after-next.result e n,
-          r.1 n, sw) in done)
+          let done : (s : Storage) × Sheds x s c.args.spare × Remains s.low s.spans c.args.spare c.after-next.result × MachineStands s c.give_way.new.cpu c.give_way.new.areas c.give_way.new.sectors (g.B.Backing.holds c.give_way.new.backing) p × Stayed p c.args.cpu.now.core c.give_way.new.cpu.core = (
+            z,
+            Sheds-then x y z c.args.spare sh (Sheds-overlaid y (g.B.Backing.holds c.areas.backing) (g.B.Backing.holds c.give_way.new.backing) my.device tells u c.in-Some.at c.args.spare pr.present n),
+            gone_here y c.areas.cpu c.areas.areas c.areas.sectors (g.B.Backing.holds c.areas.backing) p my c.args.spare c.in-Some.at c.areas.next c.in-Some.is re c.after-next.result e n,
+            r.1 n,
+            sw,
+          ) in done)
           (cases_eq c.in-Some.at c.args.spare);
     }
 
