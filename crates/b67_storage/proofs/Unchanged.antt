@@ -1,12 +1,10 @@
 -- Core was changed where no picture looks; and what any storage tells of areas and homes.
-use Rattle.std.proofs.Common.{◌≡◌, ◌≢◌, ℕ, suc, ◌+◌, ◌<◌, ◌≤◌, ◌^◌, List, [], ◌∷◌, length, map, Option, Some, None, refl, sym, ◌∙◌, ap, arith, inl, inr, ◌⊎◌, ⊎_elim, subst}
+use Rattle.std.proofs.Common.{◌≡◌, ◌≢◌, ℕ, suc, ◌+◌, ◌<◌, ◌≤◌, List, [], ◌∷◌, length, Some, refl, sym, ◌∙◌, ap, arith, inl, inr, ◌⊎◌, ⊎_elim}
 use Rattle.std.specs.List.{slice_get}
-use Rattle.std.proofs.lemmas.List.{length-map}
 use Rattle.std.proofs.lemmas.Bool.{cases_eq}
 use Rattle.std.proofs.lemmas.Option.{same_Some, slice_get_within}
 use Rattle.b67_word.specs.Tagged.{Tagged, word}
 use Rattle.b67_area.specs.declared.Info.{Info}
-use Rattle.b67_area.specs.declared.Kind.{Kind}
 use Rattle.b67_area.specs.Spans.{Span, Area, Hole, area_at, end}
 use Rattle.b67_area.specs.Words.{hole_high}
 use Rattle.b67_area.specs.Directory.{IsDirectory, Laid}
@@ -14,14 +12,14 @@ use Rattle.b67_area.proofs.Cuts.{pending}
 use Rattle.b67_area.proofs.Laws.{area_inside, areas_apart}
 use Rattle.b67_model.specs.Lists.{Has}
 use Rattle.b67_ctl.specs.declared.registers.Regs.{Regs}
-use Rattle.b67_stack.specs.Shapes.{Held, Shape, Fits, Lie, Upward}
+use Rattle.b67_stack.specs.Shapes.{Fits}
 use Rattle.b67_stack.specs.Stacks.{Activation, high, words}
-use Rattle.b67_stack.specs.Picture.{Thing, Picture, Slot, Free, Running, Waiting, stack_of, slot_base, home_word, words_of, SlotFits}
-use Rattle.b67_stack.specs.Stands.{Storage, SlotsStand, SlotStands, StacksLie, ThingsStand, ThingStands, Content, info_of, Stands}
+use Rattle.b67_stack.specs.Picture.{Thing, Picture, Slot, Free, Running, Waiting, stack_of, slot_base, SlotFits}
+use Rattle.b67_stack.specs.Stands.{Storage, SlotStands, info_of, Stands}
 use Rattle.b67_stack.proofs.Bases.{base-apart}
 use Rattle.b67_stack.proofs.Heights.{words-length}
 use Rattle.b67_stack.proofs.Lies.{Lie-same}
-use Rattle.b67_storage.proofs.Reheld.{SlotsStand-same, ChainStays, Content-stays}
+use Rattle.b67_storage.proofs.Reheld.{SlotsStand-same, Content-stays}
 
 module _ (x : Storage) (core : List Tagged) (r : Regs) (p : Picture) (s : Stands x core r p) where
   -- a thing's area

@@ -1,15 +1,15 @@
 -- The words of stacks where one original's word is another.
-use Rattle.std.proofs.Common.{◌≡◌, ◌≢◌, ℕ, suc, ◌+◌, ◌*◌, ◌<◌, ◌≤◌, ◌^◌, List, length, Option, Some, None, refl, sym, ◌∙◌, ap, arith, ⊎_elim, Bool, true, false, subst}
+use Rattle.std.proofs.Common.{◌≡◌, ◌≢◌, ℕ, suc, ◌<◌, ◌≤◌, ◌^◌, List, length, Option, Some, None, refl, sym, ◌∙◌, ap, arith, ⊎_elim, Bool, true, false, subst}
 use Rattle.std.specs.Prelude.{MatchBool}
 use Rattle.std.specs.List.{slice_get}
-use Rattle.std.proofs.lemmas.Option.{same_Some, none-some}
+use Rattle.std.proofs.lemmas.Option.{none-some}
 use Rattle.std.proofs.lemmas.Bool.{cases_eq, false≢true}
 use Rattle.b67_word.specs.Tagged.{Tagged}
 use Rattle.b67_area.specs.declared.Kind.{Kind}
 use Rattle.b67_area.specs.declared.Kind.TheVariants.{Array, Row, Code}
 use Rattle.b67_ctl.specs.declared.registers.Regs.{Regs}
 use Rattle.b67_model.specs.Lists.{Has}
-use Rattle.b67_stack.specs.Shapes.{Held, Map, Shape, Is, Original, Copy, IsOriginal, IsCopy, Fits, Lie}
+use Rattle.b67_stack.specs.Shapes.{Held, Map, Shape, Is, Original, Copy, IsOriginal, Fits}
 use Rattle.b67_stack.specs.Stacks.{words}
 use Rattle.b67_stack.specs.Picture.{Thing, Picture, stack_of, slot_base, home_desc, home_word, home_word_of}
 use Rattle.b67_stack.specs.Stands.{Storage, StacksLie, Stands}
