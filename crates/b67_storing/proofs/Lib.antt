@@ -5,4 +5,3 @@ pub mod Owners
 pub mod Mapped
 pub mod Stored
 
-pub mod Elements
