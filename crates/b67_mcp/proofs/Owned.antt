@@ -40,15 +40,15 @@ module _ (setting : Setting) (job : Job) (t : Task) (f : Frame) (below : List Fr
         let one : a.owner ≡ 1 = ap (λ (b : Array). b.owner) (sym same) ∙ own.owned in
         let z : ⊥ = omega (arith, one, e, high setting job t f below top) in z
     | inr g ↦ elim (cases_eq g.task.number t.number) [
-        | inl n ↦
-            let own : g.task ≡ t = same_task g.task g.live n in
-            let there : Has (f ∷ below) g.frame = subst (λ (fs : List Frame). Has fs g.frame) top.frames (subst (λ (u : Task). Has u.frames g.frame) own g.among) in
-            elim there [
-              | inl is ↦ no_original f.cells a.identity plain (subst (λ (k : Frame). Has k.cells (Original a.identity)) (sym is) g.word)
-              | inr k ↦ named_has f.identity below g.frame k (sym g.owned ∙ e) (under setting job t f below top)
-            ]
-        | inr n ↦ named_has f.identity g.task.frames g.frame g.among (sym g.owned ∙ e) (elsewhere setting job t f below top g.task g.live n)
-      ]
+      | inl n ↦
+          let own : g.task ≡ t = same_task g.task g.live n in
+          let there : Has (f ∷ below) g.frame = subst (λ (fs : List Frame). Has fs g.frame) top.frames (subst (λ (u : Task). Has u.frames g.frame) own g.among) in
+          elim there [
+            | inl is ↦ no_original f.cells a.identity plain (subst (λ (k : Frame). Has k.cells (Original a.identity)) (sym is) g.word)
+            | inr k ↦ named_has f.identity below g.frame k (sym g.owned ∙ e) (under setting job t f below top)
+          ]
+      | inr n ↦ named_has f.identity g.task.frames g.frame g.among (sym g.owned ∙ e) (elsewhere setting job t f below top g.task g.live n)
+    ]
   ]
     where
       same_task : (u : Task) → Has job.tasks u → u.number ≡ t.number → u ≡ t

@@ -87,9 +87,10 @@ module _ (m : Member) (t : Task) (r : Word) (arguments : List Word) (call : IsCa
   pub prints : (two : length (cells t) ≡ 2) (v : ℤ) → whole (one two).argument ≡ Ok v → is_critical m.course.job (top t.frames).identity ≡ false → height t.frames ≤ m.setting.stack_size → PrintMeets m t arguments (Ok v)
   prints two v e c fits =
       let low : height (below_top t.frames) ≤ m.setting.stack_size = omega (arith, lower t.frames, fits) in
-      let P : List Word → Type 0 = λ ws. AllByRecursion (λ (w : Word). is_original w ≡ false) ws in
-      (λ next. ap (print (here m t next)) (one two).arguments_are ∙ rw e (rw c (rw (le-leb (height (below_top t.frames)) m.setting.stack_size low) refl)),
-      record { marked = call.marked; free = c; plain = subst P (sym (one two).cells_are) (whole_plain (one two).argument v e, (call.plain, tt)) })
+      let P : List Word → Type 0 = λ ws. AllByRecursion (λ (w : Word). is_original w ≡ false) ws in (
+        λ next. ap (print (here m t next)) (one two).arguments_are ∙ rw e (rw c (rw (le-leb (height (below_top t.frames)) m.setting.stack_size low) refl)),
+        record { marked = call.marked; free = c; plain = subst P (sym (one two).cells_are) (whole_plain (one two).argument v e, (call.plain, tt)) },
+      )
 
   -- by what the argument's word is
   pub decided : (two : length (cells t) ≡ 2) → height t.frames ≤ m.setting.stack_size → (v : Tagged) (answer : Result ℤ Fault) → answer ≡ number_in v → number_in v ≡ whole (one two).argument

@@ -140,13 +140,15 @@ arrays_order [] [] h o = o
 arrays_order (x ∷ xs) (y ∷ ys) h o =
     let low = o.0.length_low in
     let high = o.0.length_high in
-    let W : Bool → ℕ → Type 0 = λ w n. (w ≡ false) ↔ (n ≡ 1) in
-    (record {
-      length_low = omega (arith, low, h.0.numbers.count);
-      length_high = omega (arith, high, h.0.numbers.count);
-      words = h.0.numbers.bits;
-      writes = subst (λ (w : Bool). W w y.owner) (sym h.0.writable) (subst (W x.writable) (sym h.0.owner) o.0.writes);
-    }, arrays_order xs ys h.1 o.1)
+    let W : Bool → ℕ → Type 0 = λ w n. (w ≡ false) ↔ (n ≡ 1) in (
+      record {
+        length_low = omega (arith, low, h.0.numbers.count);
+        length_high = omega (arith, high, h.0.numbers.count);
+        words = h.0.numbers.bits;
+        writes = subst (λ (w : Bool). W w y.owner) (sym h.0.writable) (subst (W x.writable) (sym h.0.owner) o.0.writes);
+      },
+      arrays_order xs ys h.1 o.1,
+    )
 arrays_order [] (y ∷ ys) h o = absurd h
 arrays_order (x ∷ xs) [] h o = absurd h
 

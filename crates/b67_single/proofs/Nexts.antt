@@ -108,10 +108,12 @@ module _ (s : Session) (m : Member) (t : Task) (single : IsSingle s m t) where
   stepping =
       let c = chosen (written t) (who_of m t) (ap ready (sym is_written) ∙ only_ready) in
       let there : keyed number_of m.setting.number (member_with ∷ []) ≡ Some member_with = rw (eq-eqb m.setting.number m.setting.number refl) refl in
-      let here : keyed (λ (u : Task). u.number) t.number (t ∷ []) ≡ Some t = rw (eq-eqb t.number t.number refl) refl in
-      (c.0, ap next is_written ∙ ap (moment_for (written t)) c.1 ∙ ap (moment_by (written t) (choice_at c.0)) there
-      ∙ ap (λ (o : Option Task). Some (moment_at c.0 (by_task m.setting (course_with t) o))) here
-      ∙ ap (λ (ts : List Task). Some (moment_at c.0 (made_by (step m.setting (record m.course.job { tasks = ts }) t)))) (sym single.tasks))
+      let here : keyed (λ (u : Task). u.number) t.number (t ∷ []) ≡ Some t = rw (eq-eqb t.number t.number refl) refl in (
+        c.0,
+        ap next is_written ∙ ap (moment_for (written t)) c.1 ∙ ap (moment_by (written t) (choice_at c.0)) there
+            ∙ ap (λ (o : Option Task). Some (moment_at c.0 (by_task m.setting (course_with t) o))) here
+            ∙ ap (λ (ts : List Task). Some (moment_at c.0 (made_by (step m.setting (record m.course.job { tasks = ts }) t)))) (sym single.tasks),
+      )
 
   abbrev next_by : Answer Done → Type 0
   next_by answer = (turn : ℕ) × (next s ≡ Some (moment_at turn (made_by answer)))
@@ -156,10 +158,12 @@ module _ (s : Session) (m : Member) (t : Task) (single : IsSingle s m t) where
   one_task : (ts : List Task) → profiles ts ≡ profile t ∷ [] → (u : Task) × (ts ≡ record u { number = t.number; parents = []; condition = Ready } ∷ [])
   one_task [] e = absurd cc
   one_task (u ∷ []) e =
-      let p : profile u ≡ profile t = (let head : List Profile → Profile = λ ps. elim ps [ [] ↦ profile t | q ∷ qs ↦ q ] in ap head e) in
-      (u, ap (λ (q : Profile). record u { number = q.number; parents = q.parents; condition = q.condition } ∷ []) p
-      ∙ ap (λ (ps : List ℕ). record u { number = t.number; parents = ps; condition = t.condition } ∷ []) single.first
-      ∙ ap (λ (c : Condition). record u { number = t.number; parents = []; condition = c } ∷ []) single.ready)
+      let p : profile u ≡ profile t = (let head : List Profile → Profile = λ ps. elim ps [ [] ↦ profile t | q ∷ qs ↦ q ] in ap head e) in (
+        u,
+        ap (λ (q : Profile). record u { number = q.number; parents = q.parents; condition = q.condition } ∷ []) p
+            ∙ ap (λ (ps : List ℕ). record u { number = t.number; parents = ps; condition = t.condition } ∷ []) single.first
+            ∙ ap (λ (c : Condition). record u { number = t.number; parents = []; condition = c } ∷ []) single.ready,
+      )
   one_task (u ∷ v ∷ more) e = absurd cc
 
   pub goes : (job : Job) (printed : List Line) (touched : Option ℕ) → step m.setting m.course.job t ≡ Ok (Goes job printed touched)

@@ -26,10 +26,11 @@ more (suc steps) first s m e n = by (λ f at. more steps f s m at n) (next first
         absurd (none-some m (sym at ∙ ap next stays ∙ n))
     by further (Some f) at =
         let there : after steps f.session ≡ s = sym (ap (after_from (suc steps) first) at) ∙ e in
-        let later = further f.session there in
-        (ap (after_from (suc (suc steps)) first) at ∙ later.0,
-        ap (lines_from (suc (suc steps))) at ∙ ap (λ (ls : List RunLine). f.lines ++ ls) later.1 ∙ sym (append_assoc f.lines (lines steps f.session) m.lines)
-        ∙ ap (λ (ls : List RunLine). ls ++ m.lines) (sym (ap (lines_from (suc steps)) at)))
+        let later = further f.session there in (
+          ap (after_from (suc (suc steps)) first) at ∙ later.0,
+          ap (lines_from (suc (suc steps))) at ∙ ap (λ (ls : List RunLine). f.lines ++ ls) later.1 ∙ sym (append_assoc f.lines (lines steps f.session) m.lines)
+              ∙ ap (λ (ls : List RunLine). ls ++ m.lines) (sym (ap (lines_from (suc steps)) at)),
+        )
 
 pub came-more : (first : Session) (steps : ℕ) (s : Session) (printed : List RunLine) (m : Moment) → Came first steps s printed → next s ≡ Some m
     → Came first (steps + 1) m.session (printed ++ m.lines)

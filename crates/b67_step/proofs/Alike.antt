@@ -1,6 +1,6 @@
 -- What a session's picture doesn't show depends on few parts of its jobs.
-use Rattle.std.proofs.Common.{◌≡◌, ◌≢◌, ℕ, zero, suc, ◌+◌, ◌-◌, ◌<◌, ◌≤◌, List, [], ◌∷◌, ◌++◌, length, map, Option, Some, None, refl, sym, ◌∙◌, ap, Bool, true, false, ⊎_elim, inl, inr, subst, arith, unwrap_or}
-use Rattle.std.specs.Prelude.{◌==◌, ◌^◌, ◌*◌, flat_map, if◌then◌else◌}
+use Rattle.std.proofs.Common.{◌≡◌, ℕ, zero, suc, ◌+◌, ◌-◌, List, [], ◌∷◌, ◌++◌, length, Option, Some, None, refl, sym, ◌∙◌, ap, true, false, ⊎_elim, inl, inr, subst, arith, unwrap_or}
+use Rattle.std.specs.Prelude.{◌==◌, flat_map, if◌then◌else◌}
 use Rattle.std.specs.List.{slice_get, list_any}
 use Rattle.std.proofs.lemmas.Bool.{cases_Bool}
 use Rattle.b67_word.specs.Tagged.{Tagged, word}
@@ -13,8 +13,8 @@ use Rattle.b67_model.specs.InOrder.{from_frame, frames_of_task, critical_of}
 use Rattle.b67_model.specs.Keyed.{keyed}
 use Rattle.b67_model.specs.Run.{number_of}
 use Rattle.b67_stack.specs.Stacks.{Spot}
-use Rattle.b67_layout.specs.Plan.{Slotted, Plan, slot_of, spot_in, outer_spots, spots, address_of}
-use Rattle.b67_layout.specs.Session.{RowsFit, DictionariesFollow, RowHomes, PlanFits, DictionaryStands, TaskStands, IsRunning, Shows, critical_mark, frame_address}
+use Rattle.b67_layout.specs.Plan.{Plan, slot_of, spot_in, outer_spots, spots, address_of}
+use Rattle.b67_layout.specs.Session.{RowsFit, DictionariesFollow, RowHomes, DictionaryStands, TaskStands, IsRunning, Shows, critical_mark}
 
 -- the same number, stack size and dictionary, as many segments, and the same tasks
 pub record Alike (m n : Member) : Type 0 where

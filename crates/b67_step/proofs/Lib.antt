@@ -1,3 +1,5 @@
 pub mod Alike
 pub mod Paged
 pub mod Renumbered
+pub mod Counted
+pub mod Stepped

@@ -1,5 +1,5 @@
 -- A machine stands for a session that is alike, where areas came or went or operators were counted.
-use Rattle.std.proofs.Common.{◌≡◌, ◌≢◌, ℕ, ◌+◌, ◌*◌, ◌<◌, ◌≤◌, ◌^◌, ◌++◌, List, [], ◌∷◌, length, Option, Some, None, refl, sym, ◌∙◌, ap, arith, Bool, true, false, subst, inl, inr, ◌⊎◌}
+use Rattle.std.proofs.Common.{◌≡◌, ◌≢◌, ℕ, ◌+◌, ◌*◌, ◌<◌, ◌≤◌, ◌^◌, List, [], ◌∷◌, length, Option, Some, None, refl, sym, ◌∙◌, ap, arith, Bool, true, false, subst, inl, inr, ◌⊎◌}
 use Rattle.std.specs.List.{slice_get}
 use Rattle.std.proofs.lemmas.Option.{same_Some}
 use Rattle.b67_word.specs.Tagged.{Tagged, word}
@@ -9,7 +9,7 @@ use Rattle.b67_area.specs.declared.kinds.Kind.TheVariants.{Array, Row, Code}
 use Rattle.b67_area.proofs.Laws.{area_inside}
 use Rattle.b67_ctl.specs.declared.registers.Regs.{Regs}
 use Rattle.b67_model.specs.Lists.{Has}
-use Rattle.b67_model.specs.State.{Task, Member}
+use Rattle.b67_model.specs.State.{Member}
 use Rattle.b67_model.specs.Schedule.{Session}
 use Rattle.b67_stack.specs.declared.Cpu.{Cpu}
 use Rattle.b67_stack.specs.Shapes.{Held}
@@ -69,7 +69,6 @@ dictionary_above plan at (m ∷ ms) y d (inr k) = omega (arith, dictionary_above
 -- words below slot 0 that are no originals and no segment descriptors stayed, but for the directory's heads
 abbrev pub Stayed : Picture → List Tagged → List Tagged → Type 0
 Stayed p core new = (i : ℕ) → i < p.stacks → (i < 152) ⊎ (160 ≤ i) → ((t : Thing) → Has p.things t → t.home ≢ i) → slice_get new i ≡ slice_get core i
-
 
 module _ (left left' : List Thing) (x x' : Storage) (cpu cpu' : Cpu) (plan : Plan) (s s' : Session)
     (h : SessionStandsBut left x cpu plan s) (alike : AllAlike s.jobs s'.jobs) (peak : s'.peak ≡ s.peak)

@@ -1,9 +1,9 @@
 -- The session whose picture has other numbers in a thing: what a device that tells nothing may have given back.
-use Rattle.std.proofs.Common.{◌≡◌, ◌≢◌, ℕ, zero, suc, ◌+◌, ◌<◌, ◌≤◌, ◌^◌, ◌++◌, ◌==◌, List, [], ◌∷◌, length, map, Option, Some, None, refl, sym, ◌∙◌, ap, arith, Bool, true, false, cond, subst, inl, inr, ◌⊎◌, ⊎_elim, unwrap_or}
+use Rattle.std.proofs.Common.{◌≡◌, ℕ, suc, ◌+◌, ◌<◌, ◌≤◌, ◌^◌, ◌++◌, ◌==◌, List, [], ◌∷◌, length, map, Option, Some, None, refl, sym, ◌∙◌, ap, Bool, true, false, subst, inl, inr, ⊎_elim, unwrap_or}
 use Rattle.std.specs.Prelude.{if◌then◌else◌, flat_map, not, option_map}
 use Rattle.std.proofs.lemmas.Option.{none-some, same_Some}
 use Rattle.std.proofs.lemmas.Bool.{cases_Bool, eqb-true}
-use Rattle.std.proofs.lemmas.List.{map-append, length-map}
+use Rattle.std.proofs.lemmas.List.{map-append}
 use Rattle.std.specs.List.{AllByRecursion}
 use Rattle.b67_model.specs.Lists.{Has}
 use Rattle.b67_model.specs.Schedule.{Session}
@@ -12,7 +12,7 @@ use Rattle.b67_order_weaker.specs.Weaker.{Renumbers, Recoded, RefilledArray, Ref
 use Rattle.b67_order_weaker.proofs.Sessions.{other_numbers_keep_order}
 use Rattle.b67_model.specs.Words as Words
 use Rattle.b67_model.specs.Words.{Word, Operand, Name, Ref, Row, Element, Original, Proc, Intrinsic}
-use Rattle.b67_model.specs.State.{Frame, Array, Task, Segment, Setting, Job, Course, Member}
+use Rattle.b67_model.specs.State.{Frame, Array, Task, Segment, Setting, Job, Member}
 use Rattle.b67_model.specs.Keyed.{keyed}
 use Rattle.b67_model.specs.Arrays.{array, no_array}
 use Rattle.b67_model.specs.Run.{number_of}
@@ -216,18 +216,18 @@ module _ (plan : Plan) (home : ℕ) (ns : List ℕ) (bits : AllByRecursion (λ (
   recoded_other j n (s ∷ more) order fits =
       let thing : Thing = record { home = plan.dictionary j + 1 + n; kind = kind.Code; numbers = s.code } in
       let here : Renumbers s.code (if plan.dictionary j + 1 + n == home then record s { code = ns } else s).code = ⊎_elim
-          (λ (e : (plan.dictionary j + 1 + n == home) ≡ true). rw e (record { count = fits thing (inl refl) (eqb-true (plan.dictionary j + 1 + n) home e); bits = bits }))
-          (λ (e : (plan.dictionary j + 1 + n == home) ≡ false). rw e (record { count = refl; bits = order.0.words }))
-          (cases_Bool (plan.dictionary j + 1 + n == home)) in
+      (λ (e : (plan.dictionary j + 1 + n == home) ≡ true). rw e (record { count = fits thing (inl refl) (eqb-true (plan.dictionary j + 1 + n) home e); bits = bits }))
+      (λ (e : (plan.dictionary j + 1 + n == home) ≡ false). rw e (record { count = refl; bits = order.0.words }))
+      (cases_Bool (plan.dictionary j + 1 + n == home)) in
       (here, recoded_other j (n + 1) more order.1 (λ t int. fits t (inr int)))
 
   refilled_other : (j : ℕ) (arrays : List Array) → AllByRecursion ArrayInOrder arrays → Fitting home ns (map (array_thing plan j) arrays) → Refilled arrays (map (refilled plan j home ns) arrays)
   refilled_other j [] order fits = tt
   refilled_other j (a ∷ more) order fits =
       let here : RefilledArray a (refilled plan j home ns a) = ⊎_elim
-          (λ (e : (plan.home j a.identity == home) ≡ true). rw e (record { identity = refl; owner = refl; writable = refl; numbers = record { count = fits (array_thing plan j a) (inl refl) (eqb-true (plan.home j a.identity) home e); bits = bits } }))
-          (λ (e : (plan.home j a.identity == home) ≡ false). rw e (record { identity = refl; owner = refl; writable = refl; numbers = record { count = refl; bits = order.0.words } }))
-          (cases_Bool (plan.home j a.identity == home)) in
+      (λ (e : (plan.home j a.identity == home) ≡ true). rw e (record { identity = refl; owner = refl; writable = refl; numbers = record { count = fits (array_thing plan j a) (inl refl) (eqb-true (plan.home j a.identity) home e); bits = bits } }))
+      (λ (e : (plan.home j a.identity == home) ≡ false). rw e (record { identity = refl; owner = refl; writable = refl; numbers = record { count = refl; bits = order.0.words } }))
+      (cases_Bool (plan.home j a.identity == home)) in
       (here, refilled_other j more order.1 (λ t int. fits t (inr int)))
 
   others_from : (jobs : List Member) → AllByRecursion (λ (m : Member). JobInOrder (IsSegment m.setting) m.setting m.course) jobs → Fitting home ns (flat_map (things_of plan) jobs)
@@ -237,12 +237,14 @@ module _ (plan : Plan) (home : ℕ) (ns : List ℕ) (bits : AllByRecursion (λ (
       let own : Fitting home ns (things_of plan m) = λ t int. fits t (has_append_left (things_of plan m) (flat_map (things_of plan) more) t int) in
       let j = m.setting.number in
       let code = code_things plan j 1 m.setting.segments in
-      let filled = map (array_thing plan j) m.course.job.arrays in
-      (record {
-        segments = recoded_other j 1 m.setting.segments order.0.unchanging.segments (λ t int. own t (has_append_left code filled t int));
-        arrays = refilled_other j m.course.job.arrays order.0.tasks.arrays (λ t int. own t (has_append_right code filled t int));
-        rest = refl;
-      }, others_from more order.1 (λ t int. fits t (has_append_right (things_of plan m) (flat_map (things_of plan) more) t int)))
+      let filled = map (array_thing plan j) m.course.job.arrays in (
+        record {
+          segments = recoded_other j 1 m.setting.segments order.0.unchanging.segments (λ t int. own t (has_append_left code filled t int));
+          arrays = refilled_other j m.course.job.arrays order.0.tasks.arrays (λ t int. own t (has_append_right code filled t int));
+          rest = refl;
+        },
+        others_from more order.1 (λ t int. fits t (has_append_right (things_of plan m) (flat_map (things_of plan) more) t int)),
+      )
 
 renumbered_home : (home : ℕ) (ns : List ℕ) (t : Thing) → (renumber home ns t).home ≡ t.home
 renumbered_home home ns t = ⊎_elim (λ (e : (t.home == home) ≡ true). rw e refl) (λ (e : (t.home == home) ≡ false). rw e refl) (cases_Bool (t.home == home))

@@ -17,9 +17,14 @@ use Rattle.b67_mcp.proofs.calls.cut_call.Goals as goal
 pub cut-requires : goal.cut-requires
 cut-requires c =
     let r = c.requires.call.runs in
-    let a = cut_of r.plan r.session r.member r.task r.ordered r.running c.requires.call.may in
-    (r.storage, picture r.plan r.session.jobs, on_top r.storage c.args.cpu.now r.plan r.session r.member r.task r.ordered r.stands r.running a c.args.next c.requires.place ∷ under r.storage c.args.cpu.now r.plan r.session r.member r.task r.ordered r.stands r.running a c.args.next c.requires.place,
-    r.stands.holds.memory, on_stack r.storage c.args.cpu.now r.plan r.session r.member r.task r.ordered r.stands r.running a c.args.next c.requires.place, λ z. cc)
+    let a = cut_of r.plan r.session r.member r.task r.ordered r.running c.requires.call.may in (
+      r.storage,
+      picture r.plan r.session.jobs,
+      on_top r.storage c.args.cpu.now r.plan r.session r.member r.task r.ordered r.stands r.running a c.args.next c.requires.place ∷ under r.storage c.args.cpu.now r.plan r.session r.member r.task r.ordered r.stands r.running a c.args.next c.requires.place,
+      r.stands.holds.memory,
+      on_stack r.storage c.args.cpu.now r.plan r.session r.member r.task r.ordered r.stands r.running a c.args.next c.requires.place,
+      λ z. cc,
+    )
 
 pub rebuild-requires : goal.rebuild-requires
 rebuild-requires c =

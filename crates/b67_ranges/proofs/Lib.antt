@@ -1,0 +1,4 @@
+pub mod Commands
+pub mod Sayings
+pub mod Jobs
+pub mod Prepared
