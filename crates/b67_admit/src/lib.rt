@@ -5,6 +5,8 @@ mod admission;
 mod fault;
 mod programs;
 mod refusal;
+#[cfg(test)]
+mod tests;
 
 pub use admission::{admit, file_of};
 pub use fault::AdmitFault;

@@ -5,6 +5,8 @@ mod asm;
 mod check;
 mod hex;
 mod put;
+#[cfg(test)]
+mod tests;
 
 pub use asm::asm_text;
 pub use b67_admit::{AdmitFault, Refusal};

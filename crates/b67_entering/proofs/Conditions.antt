@@ -1,11 +1,10 @@
 -- The display of a task doesn't show what the task waits for.
-use Rattle.std.proofs.Common.{◌≡◌, ◌≢◌, ℕ, List, [], ◌∷◌, map, Some, refl, sym, ◌∙◌, ap, subst, ⊎_elim}
-use Rattle.b67_model.specs.Lists.{Has}
+use Rattle.std.proofs.Common.{◌≡◌, ◌≢◌, ℕ, List, Some, refl, sym, ap, subst, ⊎_elim}
 use Rattle.b67_model.specs.Keyed.{keyed, change_keyed}
-use Rattle.b67_model.specs.State.{Condition, Task, Job, Course, Member, with_task}
+use Rattle.b67_model.specs.State.{Condition, Task, Job, Member, with_task}
 use Rattle.b67_order.proofs.Members.{change_twice}
 use Rattle.b67_stack.specs.Stacks.{Spot}
-use Rattle.b67_layout.specs.Plan.{Plan, slot_of, spot_in, outer_spots, spots}
+use Rattle.b67_layout.specs.Plan.{Plan, slot_of, spot_in, outer_spots}
 use Rattle.b67_layout.specs.Session.{Shows}
 use Rattle.b67_layout.proofs.Displays.{Shows-same}
 use Rattle.b67_layout.proofs.Others.{OnTop, keyed-put_same, outer_spots-after}

@@ -1,7 +1,5 @@
 -- The running task's marked top frame is entered: what core and registers stand for then, and what it needs for it.
-use Rattle.std.proofs.Common.{◌≡◌, ◌≢◌, ℕ, suc, ◌+◌, ◌<◌, ◌≤◌, List, [], ◌∷◌, ◌++◌, length, map, Some, refl, sym, ◌∙◌, ap, arith, inl, inr, ⊎_elim, slice_set, subst, length-append, ◌==◌}
-use Rattle.std.specs.Prelude.{if◌then◌else◌}
-use Rattle.std.specs.List.{slice_get}
+use Rattle.std.proofs.Common.{◌≡◌, ◌≢◌, ℕ, ◌+◌, ◌≤◌, List, [], ◌∷◌, ◌++◌, map, Some, refl, sym, ◌∙◌, ap, arith, ⊎_elim, slice_set, subst, length-append, ◌==◌}
 use Rattle.std.proofs.lemmas.Bool.{cases_Bool}
 use Rattle.std.proofs.lemmas.List.{map-append}
 use Rattle.b67_word.specs.Tagged.{Tagged}
@@ -15,8 +13,8 @@ use Rattle.b67_model.specs.State.{Frame, Return, Condition, Ready, Task, Job, Me
 use Rattle.b67_model.specs.InOrder.{from_frame}
 use Rattle.b67_model.specs.Schedule.{Session}
 use Rattle.b67_stack.specs.Shapes.{Shape, Original}
-use Rattle.b67_stack.specs.Stacks.{Spot, Head, Marked, Entered, Activation, HeadFits, high, running_level, mark_of, return_of}
-use Rattle.b67_stack.specs.Picture.{Picture, RunsOn, slot_base, Settled}
+use Rattle.b67_stack.specs.Stacks.{Spot, Head, Marked, Entered, Activation, HeadFits, running_level, mark_of, return_of}
+use Rattle.b67_stack.specs.Picture.{RunsOn}
 use Rattle.b67_stack.specs.Stands.{Storage, RunningStands, Stands}
 use Rattle.b67_model.specs.Run.{number_of}
 use Rattle.b67_stack.specs.Changes.{with_stack}

@@ -1,5 +1,5 @@
 -- A marked record on top that is entered, and one that is entered at once.
-use Rattle.std.proofs.Common.{◌≡◌, ◌≢◌, ℕ, suc, ◌+◌, ◌-◌, ◌^◌, ◌<◌, ◌≤◌, ◌⊎◌, List, [], ◌∷◌, ◌++◌, length, Option, Some, refl, sym, ◌∙◌, ap, arith, inl, inr, ⊎_elim, slice_set, subst, append_assoc, length-append}
+use Rattle.std.proofs.Common.{◌≡◌, ◌≢◌, ℕ, suc, ◌+◌, ◌-◌, ◌^◌, ◌<◌, ◌≤◌, List, [], ◌∷◌, ◌++◌, length, Option, Some, refl, sym, ◌∙◌, ap, arith, inl, inr, ⊎_elim, slice_set, subst, append_assoc, length-append}
 use Rattle.std.specs.List.{slice_get}
 use Rattle.std.proofs.Math.ListN.{length-set}
 use Rattle.b67_word.specs.Tagged.{Tagged}
@@ -64,7 +64,7 @@ module _ (x : Storage) (core : List Tagged) (r : Regs) (p : Picture) (k : ℕ) (
   pub Stands-entered : (cells : List Shape) (first : Shape) (below : List Activation) → let stack = record { head = Marked; cells = cells ++ first ∷ [] } ∷ below in
       Stands x core r p → RunsOn p k stack → ((home : ℕ) → first ≢ Original home) → HeadFits (Entered level environment (Some back)) below
       → Stands x (slice_set (slice_set core r.f (mscw_word (mark_of k (Entered level environment (Some back)) below))) (r.f + 1) (rcw_word (return_of (Some back) below)))
-        (record r { level = level; segment = segment; place = q }) (with_stack p k (record { head = Entered level environment (Some back); cells = cells } ∷ below))
+      (record r { level = level; segment = segment; place = q }) (with_stack p k (record { head = Entered level environment (Some back); cells = cells } ∷ below))
   Stands-entered cells first below s u plain fit = Stands-slot x core new r (record r { level = level; segment = segment; place = q }) p k old_stack new_stack u
       (record {
         size = length-set core1 (r.f + 1) rcw ∙ length-set core r.f mark;
@@ -132,7 +132,7 @@ module _ (x : Storage) (core : List Tagged) (r : Regs) (p : Picture) (k : ℕ) (
   -- a record without cells is entered at once on top of a stack
   pub Stands-accident : (stack : List Activation) → Stands x core r p → RunsOn p k stack → IsClear r p → r.s + 2 ≤ r.losr → HeadFits (Entered level environment (Some back)) stack
       → Stands x (slice_set (slice_set core (r.s + 1) (mscw_word (mark_of k (Entered level environment (Some back)) stack))) (r.s + 2) (rcw_word (return_of (Some back) stack)))
-        (record r { s = r.s + 2; f = r.s + 1; level = level; segment = segment; place = q }) (with_stack p k (record { head = Entered level environment (Some back); cells = [] } ∷ stack))
+      (record r { s = r.s + 2; f = r.s + 1; level = level; segment = segment; place = q }) (with_stack p k (record { head = Entered level environment (Some back); cells = [] } ∷ stack))
   Stands-accident stack s u clear room fit = Stands-slot x core new r (record r { s = r.s + 2; f = r.s + 1; level = level; segment = segment; place = q }) p k stack new_stack u
       (record {
         size = length-set core1 (r.s + 2) rcw ∙ length-set core (r.s + 1) mark;

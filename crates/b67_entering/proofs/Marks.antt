@@ -1,13 +1,12 @@
 -- A mark more on the running task's stack: the machine stands for the session with it, the display as it was.
-use Rattle.std.proofs.Common.{◌≡◌, ◌≢◌, ℕ, suc, ◌+◌, ◌<◌, ◌≤◌, List, [], ◌∷◌, ◌++◌, map, flat_map, Some, refl, sym, ◌∙◌, ap, arith, subst, unwrap_or}
+use Rattle.std.proofs.Common.{◌≡◌, ℕ, ◌+◌, ◌<◌, List, [], ◌∷◌, Some, refl, sym, ◌∙◌, ap, arith, subst, unwrap_or}
 use Rattle.std.specs.List.{slice_get}
 use Rattle.std.proofs.lemmas.Bool.{ne_eqb}
 use Rattle.b67_word.specs.declared.couples.Place.{Place}
 use Rattle.b67_model.specs.Lists.{Has}
-use Rattle.b67_model.specs.Keyed.{keyed, change_keyed}
 use Rattle.b67_model.specs.State as State
 use Rattle.b67_model.specs.State.{Frame, Task, Setting, Job, Member, Here, mcp, no_frame, all_frames, frame, with_task}
-use Rattle.b67_model.specs.Environment.{level_of_frame, running, frame_at}
+use Rattle.b67_model.specs.Environment.{frame_at}
 use Rattle.b67_model.specs.InOrder.{IsSegment, SettingInOrder, TasksInOrder}
 use Rattle.b67_model.specs.Schedule.{Session}
 use Rattle.b67_stack.specs.declared.Cpu.{Cpu}
@@ -24,7 +23,7 @@ use Rattle.b67_layout.proofs.Sessions.{running_only}
 use Rattle.b67_layout.proofs.Steps.{IsFree, GoesOn, SessionHolds-mark}
 use Rattle.b67_layout.proofs.Fresh.{next_is_free, free-uncritical}
 use Rattle.b67_entering.proofs.Names.{frame_at_same, frame_past}
-use Rattle.b67_entering.proofs.Tops.{task_on, still_running, outer-same}
+use Rattle.b67_entering.proofs.Tops.{still_running, outer-same}
 
 -- the mark of the next identity
 abbrev pub next_mark : Job → Frame

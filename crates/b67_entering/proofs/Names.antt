@@ -1,15 +1,14 @@
 -- Every identity that frames of a job name is below the next one, so a new frame is looked up by none of them.
-use Rattle.std.proofs.Common.{◌≡◌, ◌≢◌, ℕ, zero, suc, ◌-◌, ◌<◌, List, [], ◌∷◌, ◌++◌, map, flat_map, Option, Some, None, refl, sym, ◌∙◌, ap, arith, true, false, cond, ◌==◌, ⊎_elim, inl, inr, ◌⊎◌, unwrap_or, subst}
-use Rattle.std.specs.Prelude.{if◌then◌else◌}
-use Rattle.std.proofs.lemmas.Bool.{cases_Bool, ne_eqb, eqb-true}
+use Rattle.std.proofs.Common.{◌≡◌, ◌≢◌, ℕ, zero, suc, ◌-◌, ◌<◌, List, [], ◌∷◌, ◌++◌, map, flat_map, Option, Some, None, refl, sym, ◌∙◌, ap, arith, true, false, cond, ◌==◌, ⊎_elim, inl, inr, unwrap_or, subst}
+use Rattle.std.proofs.lemmas.Bool.{cases_Bool, ne_eqb}
 use Rattle.std.proofs.lemmas.Option.{same_Some}
-use Rattle.b67_model.specs.Lists.{Has, Falls}
+use Rattle.b67_model.specs.Lists.{Has}
 use Rattle.b67_model.specs.Keyed.{keyed, change_keyed}
 use Rattle.b67_model.specs.State as State
 use Rattle.b67_model.specs.State.{Frame, Standing, Array, Task, Setting, Job, Here, mcp, no_frame, all_frames, frame}
 use Rattle.b67_model.specs.Environment.{environment_of, level_of_frame, running_from, running, outward, running_level, frame_at}
 use Rattle.b67_model.specs.InOrder.{Starts, Known, known_of, base, outer_of, reach_of, known_numbers, FramesInOrder, StandsInOrder, TaskInOrder, SettingInOrder, TasksInOrder}
-use Rattle.b67_order.proofs.Members.{has_append_left, has_append_right, has_append_cases, has_map, all_in, keyed_has, falls_low, Part}
+use Rattle.b67_order.proofs.Members.{has_append_right, has_append_cases, all_in, keyed_has, falls_low}
 use Rattle.b67_order.proofs.Reaches.{known_number}
 use Rattle.b67_order.proofs.Looks.{Line, line_of}
 
@@ -81,13 +80,13 @@ module _ (P : Starts) (h : Here) (unchanging : SettingInOrder h.setting) (g : Ta
       (λ i. let r = has_flat_back h.job.tasks f i in frames_low P h.setting h.job g r.0 r.1 f r.2)
       (λ i. base_case i)
       (has_append_cases (flat_map (λ (t : Task). t.frames) h.job.tasks) (h.setting.dictionary ∷ mcp ∷ []) f k) where
-    dictionary : Low h.job.next_frame h.setting.dictionary
-    dictionary = record { identity = omega (arith, unchanging.named, some); environment = rw unchanging.stands (omega (arith, some)) }
+        dictionary : Low h.job.next_frame h.setting.dictionary
+        dictionary = record { identity = omega (arith, unchanging.named, some); environment = rw unchanging.stands (omega (arith, some)) }
 
-    base_case : Has (h.setting.dictionary ∷ mcp ∷ []) f → Low h.job.next_frame f
-    base_case (inl e) = subst (Low h.job.next_frame) e dictionary
-    base_case (inr (inl e)) = subst (Low h.job.next_frame) e (record { identity = omega (arith, some); environment = omega (arith, some) })
-    base_case (inr (inr i)) = absurd i
+        base_case : Has (h.setting.dictionary ∷ mcp ∷ []) f → Low h.job.next_frame f
+        base_case (inl e) = subst (Low h.job.next_frame) e dictionary
+        base_case (inr (inl e)) = subst (Low h.job.next_frame) e (record { identity = omega (arith, some); environment = omega (arith, some) })
+        base_case (inr (inr i)) = absurd i
 
   -- whatever is looked up names frames below the next identity
   pub frame_low : (id : ℕ) → Low h.job.next_frame (frame h id)
@@ -122,6 +121,6 @@ frame_past n f more number t t' is named (y ∷ ys) k id ne = ⊎_elim
     let at : keyed (λ (u : Task). u.number) number ys ≡ Some t = rw q at k in
     rw q (past y.frames (flat_map (λ (u : Task). u.frames) (change_keyed (λ (u : Task). u.number) number (λ u. t') ys)) (flat_map (λ (u : Task). u.frames) ys) (frame_past n f more number t t' is named ys at id ne)))
     (cases_Bool (y.number == number)) where
-  past : (fs xs ys : List Frame) → keyed (λ (g : Frame). g.identity) id (xs ++ more) ≡ keyed (λ (g : Frame). g.identity) id (ys ++ more) → keyed (λ (g : Frame). g.identity) id ((fs ++ xs) ++ more) ≡ keyed (λ (g : Frame). g.identity) id ((fs ++ ys) ++ more)
-  past [] xs ys e = e
-  past (g ∷ fs) xs ys e = ap (λ r. cond (g.identity == id) (Some g) r) (past fs xs ys e)
+      past : (fs xs ys : List Frame) → keyed (λ (g : Frame). g.identity) id (xs ++ more) ≡ keyed (λ (g : Frame). g.identity) id (ys ++ more) → keyed (λ (g : Frame). g.identity) id ((fs ++ xs) ++ more) ≡ keyed (λ (g : Frame). g.identity) id ((fs ++ ys) ++ more)
+      past [] xs ys e = e
+      past (g ∷ fs) xs ys e = ap (λ r. cond (g.identity == id) (Some g) r) (past fs xs ys e)

@@ -1,5 +1,5 @@
 -- The running task is in order with its marked frame entered, or with an entered one more, where it is ready then.
-use Rattle.std.proofs.Common.{◌≡◌, ◌≢◌, ℕ, ◌+◌, ◌<◌, ◌≤◌, eqb, List, [], ◌∷◌, ◌++◌, map, length, Some, refl, sym, ◌∙◌, ap, subst, inl, inr, arith, false, length-append}
+use Rattle.std.proofs.Common.{◌≡◌, ◌≢◌, ℕ, ◌+◌, ◌≤◌, List, [], ◌∷◌, ◌++◌, map, length, Some, refl, sym, ◌∙◌, ap, subst, inl, inr, arith, false, length-append}
 use Rattle.std.specs.Prelude.{if◌then◌else◌}
 use Rattle.std.specs.List.{AllByRecursion}
 use Rattle.std.proofs.lemmas.Bool.Decides.{eqb_tells}
@@ -10,11 +10,11 @@ use Rattle.b67_model.specs.Words as Words
 use Rattle.b67_model.specs.Words.{Word, Operand, Name, Ref, Row, Element, Original, Proc, Intrinsic}
 use Rattle.b67_model.specs.State.{Frame, Standing, Marked, Entered, Return, Array, Ready, Task, Setting, Job, Here, top, below_top, head_words, height, with_task}
 use Rattle.b67_model.specs.Environment.{level_of_frame, running}
-use Rattle.b67_model.specs.InOrder.{Starts, Known, IsEntered, WordInOrder, NoCopyUnder, CopiesAbove, StackInOrder, is_copy_of, is_original_of, known_numbers, known_of, from_frame, outer_of, EnvironmentInOrder, StandsInOrder, ReturnsInOrder, CellsInOrder, TaskInOrder, originals_in, originals_of, frames_named, TasksInOrder}
+use Rattle.b67_model.specs.InOrder.{Starts, Known, IsEntered, WordInOrder, NoCopyUnder, CopiesAbove, StackInOrder, is_copy_of, is_original_of, known_numbers, known_of, from_frame, outer_of, EnvironmentInOrder, StandsInOrder, ReturnsInOrder, CellsInOrder, TaskInOrder, originals_in, originals_of, TasksInOrder}
 use Rattle.b67_order.proofs.Members.{all_in, keyed_has, falls_low, total_append}
 use Rattle.b67_order.proofs.Reaches.{alike_same, known_number}
 use Rattle.b67_order.proofs.Replaced.{replaced}
-use Rattle.b67_order.proofs.Changes.{Change, outside, fresh_frame, change_cells, change_enter}
+use Rattle.b67_order.proofs.Changes.{Change, fresh_frame, change_cells, change_enter}
 use Rattle.b67_layout.proofs.Fresh.{critical-below}
 use Rattle.b67_entering.proofs.Tops.{task_on}
 

@@ -1,5 +1,5 @@
 -- How high the running task's frames are, by the registers.
-use Rattle.std.proofs.Common.{◌≡◌, ℕ, suc, ◌+◌, ◌<◌, ◌≤◌, ◌⊎◌, List, sym, ◌∙◌, ap, arith, inl, inr, ⊎_elim, slice_set}
+use Rattle.std.proofs.Common.{◌≡◌, ℕ, ◌+◌, ◌⊎◌, List, ◌∙◌, arith, inl, inr, ⊎_elim, slice_set}
 use Rattle.std.specs.List.{slice_get}
 use Rattle.std.proofs.lemmas.Bool.{cases_eq}
 use Rattle.b67_word.specs.Tagged.{Tagged}

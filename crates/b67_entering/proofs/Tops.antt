@@ -1,5 +1,5 @@
 -- The session where the running task has other frames on top, and maybe goes on in another segment.
-use Rattle.std.proofs.Common.{◌≡◌, ◌≢◌, ℕ, ◌+◌, ◌<◌, List, [], ◌∷◌, refl, sym, ◌∙◌, ap, subst}
+use Rattle.std.proofs.Common.{◌≡◌, ℕ, ◌+◌, ◌<◌, List, sym, ◌∙◌, ap, subst}
 use Rattle.std.specs.List.{slice_get}
 use Rattle.b67_word.specs.Tagged.{Tagged}
 use Rattle.b67_word.specs.declared.couples.Place.{Place}
@@ -12,8 +12,8 @@ use Rattle.b67_stack.specs.Stacks.{Spot, Activation}
 use Rattle.b67_stack.specs.Picture.{Thing, Picture, Settled}
 use Rattle.b67_stack.specs.Stands.{Storage, Stands}
 use Rattle.b67_stack.specs.Changes.{with_stack}
-use Rattle.b67_layout.specs.Plan.{Plan, slot_of, outer_spots}
-use Rattle.b67_layout.specs.Layout.{activations, stack_of_task, picture}
+use Rattle.b67_layout.specs.Plan.{Plan, outer_spots}
+use Rattle.b67_layout.specs.Layout.{activations, picture}
 use Rattle.b67_layout.specs.Meets.{with_job}
 use Rattle.b67_layout.specs.Session.{TaskStands, IsRunning, critical_mark, with_things, SessionHoldsBut}
 use Rattle.b67_layout.proofs.Others.{OnTop, keyed-has, task-same, outer_spots-after}

@@ -1,7 +1,5 @@
 -- What an accidental entry makes.
-use Rattle.std.proofs.Common.{◌≡◌, ◌≢◌, ℕ, suc, ◌+◌, ◌-◌, ◌<◌, ◌≤◌, ◌^◌, List, [], ◌∷◌, ◌++◌, map, length, reverse, Option, Some, None, Ok, Err, refl, sym, ◌∙◌, ap, arith, Bool, true, false, not, ◌==◌, inl, inr, ◌⊎◌, ⊎_elim, slice_set, subst}
-use Rattle.std.specs.List.{slice_get}
-use Rattle.std.proofs.lemmas.List.{length-reverse}
+use Rattle.std.proofs.Common.{◌≡◌, ◌≢◌, ℕ, ◌+◌, ◌-◌, ◌<◌, ◌≤◌, List, [], ◌∷◌, ◌++◌, map, Some, Err, refl, sym, ◌∙◌, ap, arith, Bool, true, not, ◌==◌, slice_set, subst}
 use Rattle.std.proofs.lemmas.Bool.{le-leb, lt-leb, eq-eqb, ne_eqb}
 use Rattle.b67_word.specs.Tagged.{Tagged}
 use Rattle.b67_word.specs.declared.couples.Place.{Place}
@@ -10,32 +8,27 @@ use Rattle.b67_ctl.specs.declared.registers.Regs.{Regs}
 use Rattle.b67_ctl.specs.declared.marks.Mscw.{Mscw}
 use Rattle.b67_ctl.specs.declared.marks.Rcw.{Rcw}
 use Rattle.b67_ctl.specs.Layout.{IsPlace, IsMscw, mscw_word, IsRcw, rcw_word}
-use Rattle.b67_model.specs.Words as Words
-use Rattle.b67_model.specs.Words.{Word, Proc}
 use Rattle.b67_model.specs.State as State
 use Rattle.b67_model.specs.State.{Frame, Return, Ready, Segment, Task, Setting, Job, Member, Here, top, height, with_top_cells, frame}
-use Rattle.b67_model.specs.Environment.{level_of_frame, level_of_standing}
+use Rattle.b67_model.specs.Environment.{level_of_frame}
 use Rattle.b67_model.specs.Chase.{AtProc}
 use Rattle.b67_model.specs.Steps.{cells_of}
 use Rattle.b67_model.specs.Entry.{accident, back_to}
-use Rattle.b67_model.specs.Run.{number_of}
-use Rattle.b67_model.specs.Schedule.{Session}
-use Rattle.b67_model.specs.InOrder.{IsSegment, NamesEntered, SettingInOrder, DictionaryWords, IsInOrderButPlaces, TasksInOrder, TaskInOrder, EnvironmentInOrder, outer_of, reach_of, known_of}
+use Rattle.b67_model.specs.InOrder.{IsSegment, NamesEntered, TasksInOrder, TaskInOrder, EnvironmentInOrder, outer_of, reach_of, known_of}
 use Rattle.b67_stack.specs.declared.Cpu.{Cpu}
 use Rattle.b67_stack.specs.Stacks.{Spot, Activation, Entered, HeadFits, IsStack, mark_of, return_of, running_level, words}
-use Rattle.b67_stack.specs.Picture.{Thing, CopiesName}
-use Rattle.b67_stack.specs.Stands.{Storage, RunningStands}
+use Rattle.b67_stack.specs.Picture.{CopiesName}
+use Rattle.b67_stack.specs.Stands.{RunningStands}
 use Rattle.b67_stack.proofs.Slots.{running_slot, running_fits}
 use Rattle.b67_stack.proofs.Tops.{level-small}
-use Rattle.b67_layout.specs.Plan.{Plan, spot_in, outer_spots, spots}
+use Rattle.b67_layout.specs.Plan.{spot_in, outer_spots, spots}
 use Rattle.b67_layout.specs.Layout.{picture, stack_of_task}
-use Rattle.b67_layout.specs.Meets.{IsMade, here, things_gone, with_job}
+use Rattle.b67_layout.specs.Meets.{here, with_job}
 use Rattle.b67_layout.specs.Session.{Shows, with_things, SessionHoldsBut}
 use Rattle.b67_layout.proofs.Others.{keyed-has}
 use Rattle.b67_layout.proofs.Fresh.{next_is_free}
-use Rattle.b67_refer.specs.Scene.{Scene, MemberInOrder}
+use Rattle.b67_refer.specs.Scene.{Scene}
 use Rattle.b67_entering.proofs.Heads.{entered_mark_fits, top_size_high}
-use Rattle.b67_entering.proofs.Tops.{task_on}
 use Rattle.b67_entering.proofs.Orders.{start, push, ready_with}
 use Rattle.b67_entering.proofs.Rooms.{height_room}
 use Rattle.b67_entering.proofs.Accidents as Accidents
@@ -46,16 +39,8 @@ use Rattle.b67_order.proofs.Members.{all_in}
 use Rattle.b67_core.proofs.Writes.{slice_get-set_other}
 use Rattle.b67_model.specs.Lists.{Has}
 use Rattle.b67_entry.specs.Procedures.{IsEntered}
-use Rattle.b67_entry.proofs.Sites.{Site, site}
-
--- a job has at most as many segments as entries in its dictionary
-words_enough : (n : ℕ) (segments : List Segment) (words : List Word) → DictionaryWords n segments words → length segments ≤ length words
-words_enough n [] words d = omega arith
-words_enough n (s ∷ more) [] d = absurd d
-words_enough n (s ∷ more) (w ∷ words) d = omega (arith, words_enough (n + 1) more words d.1)
-
-pub few_segments : (setting : Setting) → SettingInOrder setting → length setting.segments ≤ 255
-few_segments setting g = omega (arith, words_enough 1 setting.segments (reverse setting.dictionary.cells) g.dictionary, length-reverse setting.dictionary.cells, g.entries)
+use Rattle.b67_environments.proofs.Sites.{Site, site}
+use Rattle.b67_environments.proofs.Segments.{few_segments}
 
 same_cells : (fs : List Frame) → with_top_cells fs (top fs).cells ≡ fs
 same_cells [] = refl

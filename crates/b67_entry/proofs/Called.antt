@@ -1,6 +1,5 @@
 -- The entering of a marked activation record in the code's own values.
-use Rattle.std.proofs.Common.{◌≡◌, ◌≢◌, ℕ, ◌+◌, ◌-◌, ◌<◌, ◌≤◌, ◌^◌, List, [], ◌∷◌, ◌++◌, reverse, Some, Err, refl, sym, ◌∙◌, ap, arith, Bool, true, false, not, ◌==◌, slice_set, subst}
-use Rattle.std.specs.List.{slice_get}
+use Rattle.std.proofs.Common.{◌≡◌, ◌≢◌, ℕ, ◌+◌, ◌<◌, ◌≤◌, List, reverse, Err, refl, sym, ◌∙◌, ap, true, false, not, ◌==◌, slice_set, subst}
 use Rattle.b67_word.specs.Tagged.{Tagged}
 use Rattle.b67_word.specs.declared.couples.Place.{Place}
 use Rattle.b67_word.specs.declared.faults.Fault.TheVariants.{InvalidOperand}
@@ -28,7 +27,7 @@ use Rattle.b67_refer.specs.declared.activation.Activation.{Activation}
 use Rattle.b67_refer.specs.Ends.{IsReference}
 use Rattle.b67_entry.specs.Procedures.{ReachesProc, Calls}
 use Rattle.b67_entry.proofs.Unasked.{pcw, environment, starts, high}
-use Rattle.b67_entry.proofs.Entering as Entering
+use Rattle.b67_environments.proofs.Entering as Entering
 
 -- a reference is no original
 pub plain_reference : (w : Word) → IsReference w → (n : ℕ) → is_original_of n w ≡ false

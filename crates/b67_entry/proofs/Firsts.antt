@@ -1,8 +1,8 @@
 -- The top activation record before ENTR: its mark, and its first cell.
-use Rattle.std.proofs.Common.{◌≡◌, ◌≢◌, ℕ, suc, ◌+◌, ◌-◌, ◌<◌, ◌≤◌, List, [], ◌∷◌, ◌++◌, length, map, reverse, Option, Some, None, Ok, Err, refl, sym, ◌∙◌, ap, arith, Bool, true, false, inl, inr, subst, length-append}
+use Rattle.std.proofs.Common.{◌≡◌, ◌≢◌, ℕ, ◌+◌, ◌-◌, List, [], ◌∷◌, ◌++◌, length, map, reverse, Some, None, Err, refl, sym, ◌∙◌, ap, arith, true, false, inl, inr, subst, length-append}
 use Rattle.std.specs.List.{slice_get, AllByRecursion}
 use Rattle.std.proofs.lemmas.Bool.{false≢true}
-use Rattle.std.proofs.lemmas.List.{reverse-append, reverse-reverse, length-map, map-append}
+use Rattle.std.proofs.lemmas.List.{reverse-reverse}
 use Rattle.b67_word.specs.Tagged.{Tagged}
 use Rattle.b67_word.specs.declared.couples.Place.{Place}
 use Rattle.b67_word.specs.declared.faults.Fault.TheVariants.{InvalidOperand, StackUnderflow}
@@ -18,7 +18,6 @@ use Rattle.b67_model.specs.State.{Frame, Standing, Array, Task, Job, Member, Her
 use Rattle.b67_model.specs.Chase.{End, follow, follow_reference}
 use Rattle.b67_model.specs.Steps.{cells_of, top_of}
 use Rattle.b67_model.specs.Rows.{entr, entr_at, entr_with}
-use Rattle.b67_model.specs.Run.{number_of}
 use Rattle.b67_model.specs.Schedule.{Session}
 use Rattle.b67_model.specs.InOrder.{Starts, Known, IsSegment, IsInOrderButPlaces, WordInOrder, FramesInOrder, known_of, outer_of, reach_of}
 use Rattle.b67_stack.specs.declared.Cpu.{Cpu}
@@ -30,7 +29,7 @@ use Rattle.b67_stack.specs.Changes.{top_cells}
 use Rattle.b67_stack.specs.Stands.{Storage}
 use Rattle.b67_stack.proofs.Tops.{empty_at}
 use Rattle.b67_stack.proofs.Cells.{cell_word}
-use Rattle.b67_layout.specs.Plan.{Plan, slot_of, spot_in, outer_spots, spots}
+use Rattle.b67_layout.specs.Plan.{Plan, spot_in, outer_spots, spots}
 use Rattle.b67_layout.specs.Layout.{shape, head, activations, picture, stack_of_task}
 use Rattle.b67_layout.specs.Meets.{here}
 use Rattle.b67_layout.specs.Session.{IsRunning, SessionStands}
@@ -40,7 +39,6 @@ use Rattle.b67_order.proofs.Members.{reverse_cons, all_in}
 use Rattle.b67_refer.specs.Scene.{Scene}
 use Rattle.b67_refer.specs.Cells.{StandsFor}
 use Rattle.b67_refer.proofs.Scenes.{scene}
-use Rattle.b67_entering.proofs.Enters as Enters
 use Rattle.b67_entering.proofs.Enters.{IsMarkedWith, marked_stack}
 use Rattle.b67_refer.specs.Ends.{IsReference}
 use Rattle.b67_entry.specs.Procedures.{Calls, called, called_at, called_with}

@@ -1,5 +1,5 @@
 -- What ENTR comes to, by the end that was found for its reference.
-use Rattle.std.proofs.Common.{◌≡◌, ℕ, List, Option, Some, None, Result, Ok, Err, refl, sym, ◌∙◌, ap, subst}
+use Rattle.std.proofs.Common.{◌≡◌, ℕ, List, Option, None, Ok, Err, refl, sym, ap, subst}
 use Rattle.b67_word.specs.Tagged.{Tagged}
 use Rattle.b67_word.specs.declared.couples.Place.{Place}
 use Rattle.b67_word.specs.declared.faults.Fault.{Fault}
@@ -11,7 +11,6 @@ use Rattle.b67_model.specs.State.{Member, Here}
 use Rattle.b67_model.specs.Chase as Chase
 use Rattle.b67_model.specs.Chase.{AtCell, AtElement, AtArray, AtProc, AtIntrinsic}
 use Rattle.b67_model.specs.Steps.{Done}
-use Rattle.b67_model.specs.Entry.{enters}
 use Rattle.b67_model.specs.Rows.{entr_at}
 use Rattle.b67_model.specs.Schedule.{Session}
 use Rattle.b67_stack.specs.declared.Cpu.{Cpu}
@@ -21,7 +20,6 @@ use Rattle.b67_stack.specs.Stands.{Storage}
 use Rattle.b67_layout.specs.Plan.{Plan}
 use Rattle.b67_layout.specs.Meets.{Meets}
 use Rattle.b67_refer.specs.Scene.{Scene}
-use Rattle.b67_refer.specs.declared.ends.End.{End}
 use Rattle.b67_refer.specs.declared.ends.End.TheVariants as end
 use Rattle.b67_refer.specs.Ends.{EndMeets, IsProcAt}
 use Rattle.b67_entry.specs.Procedures.{called_at, CallsOrMeets}

@@ -4,6 +4,4 @@ pub mod Firsts
 pub mod Called
 pub mod Unasked
 pub mod Plain
-pub mod Entering
 pub mod Accidental
-pub mod Sites

@@ -1,15 +1,11 @@
 -- What MKST makes.
-use Rattle.std.proofs.Common.{◌≡◌, ◌≢◌, ℕ, suc, ◌+◌, ◌-◌, ◌≤◌, List, [], ◌∷◌, map, Some, None, Ok, Err, refl, sym, ◌∙◌, ap, arith, inl, inr, ◌⊎◌, ⊎_elim, slice_set, subst, false}
-use Rattle.std.specs.List.{slice_get}
-use Rattle.std.proofs.lemmas.Bool.{cond-true, cond-false, le-leb, lt-leb}
-use Rattle.b67_word.specs.Tagged.{Tagged}
+use Rattle.std.proofs.Common.{◌≡◌, ◌≢◌, ℕ, ◌+◌, ◌-◌, List, [], ◌∷◌, None, Err, refl, sym, arith, inl, inr, ⊎_elim, subst, false}
+use Rattle.std.proofs.lemmas.Bool.{le-leb, lt-leb}
 use Rattle.b67_word.specs.declared.couples.Place.{Place}
 use Rattle.b67_word.specs.declared.faults.Fault.TheVariants.{StackOverflow}
-use Rattle.b67_ctl.specs.declared.registers.Regs.{Regs}
 use Rattle.b67_ctl.specs.Layout.{mscw_word}
 use Rattle.b67_core.proofs.Writes.{slice_get-set_other}
 use Rattle.b67_model.specs.State.{Task, Member, height}
-use Rattle.b67_model.specs.Answers.{Answer}
 use Rattle.b67_model.specs.Entry.{mkst}
 use Rattle.b67_model.specs.Run.{number_of}
 use Rattle.b67_model.specs.Schedule.{Session}
@@ -22,12 +18,11 @@ use Rattle.b67_stack.proofs.Slots.{running_slot}
 use Rattle.b67_stack.proofs.Pushes.{Room, room_of, Stands-marked}
 use Rattle.b67_layout.specs.Plan.{Plan}
 use Rattle.b67_layout.specs.Layout.{picture, stack_of_task}
-use Rattle.b67_layout.specs.Meets.{IsMade, here, things_gone, with_job}
+use Rattle.b67_layout.specs.Meets.{IsMade, here, with_job}
 use Rattle.b67_layout.specs.Session.{IsRunning, SessionStands, SessionStandsBut}
 use Rattle.b67_layout.proofs.Others.{keyed-has}
 use Rattle.b67_layout.proofs.Starts.{slot_is, runs_here}
 use Rattle.b67_layout.proofs.Settles.{Settled-more}
-use Rattle.b67_layout.proofs.Sessions.{dictionary_below}
 use Rattle.b67_layout.proofs.Gone.{no_things_gone}
 use Rattle.b67_layout.proofs.Fresh.{job_in_order}
 use Rattle.b67_entering.proofs.Marks.{job_marked, SessionStands-mark}

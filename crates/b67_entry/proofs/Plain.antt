@@ -1,19 +1,17 @@
 -- The accidental entry on the machine's own registers.
-use Rattle.std.proofs.Common.{◌≡◌, ◌≢◌, ℕ, ◌+◌, ◌≤◌, List, [], map, None, Ok, refl, sym, ap, arith, Bool, inl, inr, ⊎_elim, subst}
+use Rattle.std.proofs.Common.{◌≡◌, ℕ, ◌+◌, List, [], map, None, refl, sym, ap, arith, inl, inr, ⊎_elim, subst}
 use Rattle.std.proofs.lemmas.Bool.{cases_eq}
 use Rattle.b67_word.specs.declared.couples.Place.{Place}
 use Rattle.b67_model.specs.State.{Array}
 use Rattle.b67_model.specs.Answers.{Answer}
-use Rattle.b67_model.specs.Chase.{AtProc}
-use Rattle.b67_model.specs.Steps.{Done, cells_of}
-use Rattle.b67_model.specs.Entry.{accident, back_to}
+use Rattle.b67_model.specs.Steps.{Done}
 use Rattle.b67_model.specs.InOrder.{IsInOrderButPlaces}
 use Rattle.b67_stack.specs.declared.Cpu.{Cpu}
 use Rattle.b67_stack.specs.declared.Step.{Step}
 use Rattle.b67_stack.specs.declared.Step.TheVariants as step
 use Rattle.b67_stack.specs.Picture.{Thing}
 use Rattle.b67_layout.specs.Layout.{picture, stack_of_task}
-use Rattle.b67_layout.specs.Meets.{IsMade, Meets, here, with_job}
+use Rattle.b67_layout.specs.Meets.{IsMade, Meets, with_job}
 use Rattle.b67_layout.specs.Session.{SessionStands, SessionStandsBut}
 use Rattle.b67_layout.proofs.Gone.{no_things_gone}
 use Rattle.b67_layout.proofs.Starts.{runs_here}

@@ -1,5 +1,5 @@
 -- The accidental entry in the code's own values.
-use Rattle.std.proofs.Common.{◌≡◌, ◌≢◌, ℕ, ◌+◌, ◌-◌, ◌<◌, ◌≤◌, ◌^◌, List, Some, Err, sym, ◌∙◌, ap, arith, Bool, true, not, ◌==◌, slice_set, subst}
+use Rattle.std.proofs.Common.{◌≡◌, ◌≢◌, ℕ, ◌+◌, ◌-◌, ◌<◌, ◌≤◌, List, Some, Err, sym, ◌∙◌, ap, arith, Bool, true, not, ◌==◌, slice_set, subst}
 use Rattle.std.specs.List.{slice_get}
 use Rattle.b67_word.specs.Tagged.{Tagged}
 use Rattle.b67_word.specs.declared.couples.Place.{Place}
@@ -16,7 +16,6 @@ use Rattle.b67_model.specs.Steps.{cells_of}
 use Rattle.b67_model.specs.Entry.{accident, back_to}
 use Rattle.b67_model.specs.InOrder.{IsSegment}
 use Rattle.b67_stack.specs.declared.Cpu.{Cpu}
-use Rattle.b67_stack.specs.Stacks.{Spot}
 use Rattle.b67_layout.specs.Plan.{spots}
 use Rattle.b67_layout.specs.Meets.{here}
 use Rattle.b67_layout.specs.Layout.{picture, stack_of_task}
@@ -29,9 +28,9 @@ use Rattle.b67_refer.specs.Ends.{IsProcAt}
 use Rattle.b67_refer.specs.Scene.{Scene, IsShown}
 use Rattle.b67_refer.specs.declared.activation.Activation.{Activation}
 use Rattle.b67_entry.specs.Procedures.{IsEntered}
-use Rattle.b67_entry.proofs.Sites.{Site, site}
+use Rattle.b67_environments.proofs.Sites.{site}
 use Rattle.b67_entry.proofs.Accidental as Accidental
-use Rattle.b67_entry.proofs.Accidental.{few_segments}
+use Rattle.b67_environments.proofs.Segments.{few_segments}
 
 module _ (cpu : Cpu) (r : Regs) (a : Scene cpu.core r) (q : Place) (at f segment level : ℕ) (place : Place) (e : IsProcAt a q at f segment level place) where
   abbrev pub pcw : Pcw

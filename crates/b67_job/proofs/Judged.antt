@@ -1,109 +1,104 @@
--- What is judged of a deck, part by part, and how a judgement is answered.
-use Rattle.std.proofs.Common.{◌≡◌, ◌≢◌, ◌≤◌, ◌<◌, ◌+◌, ◌⊎◌, inl, inr, true, false, ℕ, List, [], ◌∷◌, length, take, drop, min, ◌++◌, Bool, Result, refl, sym, ap, ◌∙◌, subst, arith, Option, Some, None, Ok, Err}
-use Rattle.std.specs.Prelude.{nat_lt, count_by, is_some, ◌==◌}
+-- What is judged of a deck, and how a judgement is answered.
+use Rattle.std.proofs.Common.{◌≡◌, ◌≢◌, ◌≤◌, ◌<◌, ◌+◌, ◌⊎◌, inl, inr, true, false, ℕ, List, [], ◌∷◌, length, map, take, drop, min, ◌++◌, Bool, Result, refl, sym, ap, ◌∙◌, subst, arith, Option, Some, None, Ok, Err}
+use Rattle.std.specs.Prelude.{ℤ, nat_lt, is_some, IfSome}
 use Rattle.std.proofs.lemmas.Bool.{lt-ltb, false≢true}
 use Rattle.std.proofs.lemmas.Bool.Decides.{nat_tests}
 use Rattle.std.proofs.lemmas.List.{length-append, length-take, take_all, drop_all, take-append-drop}
 use denote.Ref.{Bor}
-use Rattle.b67_model.specs.Program.{Program}
 use Rattle.b67_io.specs.Told.{TookPart, GaveAll}
 use Rattle.b67_io.specs.Causes.{Rose, Stayed}
 use Rattle.b67_io.proofs.Joined.{Took-none}
-use Rattle.b67_text.specs.Cards.{cards}
+use Rattle.b67_model.specs.Program.{Program}
+use Rattle.b67_opening.specs.Opening.{Opening, opening}
+use Rattle.b67_text.specs.declared.deck.Deck.{Deck}
 use Rattle.b67_text.specs.Deck.{limit}
-use Rattle.b67_card.specs.declared.reading.ReadFault.{ReadFault}
-use Rattle.b67_card.specs.declared.reading.ReadFault.TheVariants as read_faults
-use Rattle.b67_card.specs.Reading.{IsAnswer, GaveFirst}
-use Rattle.b67_commands.specs.Verdicts.{Verdict}
-use Rattle.b67_commands.specs.Meets.{IsJudged}
-use Rattle.b67_commands.proofs.Judged.{check_long, asm_long}
-use Rattle.b67_job.specs.Command.{command_of}
-use Rattle.b67_job.specs.FirstForm.{Form, first_form}
-use Rattle.b67_job.specs.declared.command.CommandLine.{CommandLine}
-use Rattle.b67_job.specs.declared.command.CommandLine.TheVariants as lines
-use Rattle.b67_job.specs.Judgement.{Judgement, Refused, Runs, Prints, is_first, program_judgement, file_judgement, form_judgement, judgement, printed, asked, judged_status}
+use Rattle.b67_card.specs.Reading.{GaveFirst}
 use Rattle.b67_admit.specs.declared.refusal.Refusal.{Refusal}
 use Rattle.b67_admit.specs.declared.refusal.Refusal.TheVariants as refusals
 use Rattle.b67_admit.specs.declared.fault.AdmitFault.{AdmitFault}
 use Rattle.b67_admit.specs.declared.fault.AdmitFault.TheVariants as admits
-use Rattle.b67_admit.specs.Admitting.{Answer}
-use Rattle.b67_admit.specs.Meets.{Meets}
+use Rattle.b67_admit.specs.declared.programs.Loaded.{Loaded}
+use Rattle.b67_admit.specs.Admitting.{Prepared, deck_prepared}
+use Rattle.b67_admit.specs.Meets.{IsLoaded, prepared_of}
 use Rattle.b67_admit.specs.Told.{refusal_text}
-use Rattle.b67_job.specs.Session.{IsRun}
-use Rattle.b67_job.specs.Runs.{session_of, job_of, program_of_code, RunsCode}
-use Rattle.b67_job.specs.Ends.{Ends, whole, cut}
-use Rattle.b67_job.specs.Due.{IsDone, IsAsked, refusal_asked, done_asked, memory_asked, AnswersTo, WasRead, IsDue, usage_due, refusal_due, done_due, reading_due, memory_due, Serves, FaultEnds, RefusalEnds, TextEnds, reading_text, memory_text}
-
--- ---- programs
-
-pub program_runs : (card : ℕ) (answer : Answer Program) (p : Program) → answer ≡ Ok p → is_first p ≡ true → program_judgement card answer ≡ Runs (job_of p ∷ [])
-unfolding program_judgement
-program_runs card answer p e holds = rw (e, holds) refl
-
-pub program_other : (card : ℕ) (answer : Answer Program) (p : Program) → answer ≡ Ok p → is_first p ≡ false → program_judgement card answer ≡ Refused (refusals.Deck card 90)
-unfolding program_judgement
-program_other card answer p e other = rw (e, other) refl
-
-program_refused : (card : ℕ) (answer : Answer Program) (r : Refusal) → answer ≡ Err r → program_judgement card answer ≡ Refused r
-unfolding program_judgement
-program_refused card answer r e = rw e refl
+use Rattle.b67_commands.specs.Verdicts.{Verdict}
+use Rattle.b67_commands.specs.Meets.{IsJudged}
+use Rattle.b67_commands.proofs.Judged.{too_long, check_long, asm_long}
+use Rattle.b67_lines.specs.Ends.{Ends, whole, cut}
+use Rattle.b67_lines.specs.Stops.{Run, IsFinished, Stops, finished, halted, RunEnds}
+use Rattle.b67_lines.proofs.Statuses.{finished-status, halted-status}
+use Rattle.b67_straight.specs.declared.machine.Terms.{Terms}
+use Rattle.b67_straight.specs.Lone.{Unread, lone, session_of}
+use Rattle.b67_straight.specs.Lone as straight
+use Rattle.b67_job.specs.Command.{command_of}
+use Rattle.b67_job.specs.declared.command.CommandLine.{CommandLine}
+use Rattle.b67_job.specs.declared.command.CommandLine.TheVariants as lines
+use Rattle.b67_job.specs.Judgement.{Judgement, Refused, Runs, Prints, switch_of, openings, run_of, missing, runs_unless, deck_judgement, judgement, printed, asked, judged_status}
+use Rattle.b67_job.specs.Due.{IsDone, IsAsked, refusal_asked, done_asked, halt_asked, memory_asked, AnswersTo, WasRead, IsDue, usage_due, refusal_due, done_due, halt_due, reading_due, memory_due, Serves, RefusalEnds, TextEnds, reading_text, memory_text}
 
 -- ---- answers
+
+stops_asked : (r : Run) {status : ℕ} {text : List ℕ} → Stops r status text → IsAsked (Runs r) status text
+stops_asked r (finished e f) = done_asked f e
+stops_asked r (halted e h) = halt_asked r refl h e
 
 module _ {K : Type 0} {taken : K → Option (List ℕ)} {faults : K → ℕ} {old new : K} where
   pub answers_refusal : (j : Judgement) (r : Refusal) (answer : ℕ) → j ≡ Refused r → Ends taken faults old new 2 (refusal_text r) answer → AnswersTo j taken faults old new answer
   answers_refusal j r answer e ends = record { status = 2; text = refusal_text r; asked = refusal_asked r e refl refl; ends = ends }
 
-  -- a program that isn't admitted
-  pub answers_fault : {X : Type 0} (view : X → Program) (card : ℕ) (admitted : Answer Program) (fault : AdmitFault) (answer : ℕ) → Meets view (Err fault) admitted → RefusalEnds fault taken faults old new answer
-      → AnswersTo (program_judgement card admitted) taken faults old new answer
-  answers_fault view card admitted (admits.Refused r) answer met ends = answers_refusal (program_judgement card admitted) r answer (program_refused card admitted r met) ends
-  answers_fault view card admitted admits.SourceFault answer met ends = absurd met
-  answers_fault view card admitted admits.Memory answer met ends = record { status = 9; text = memory_text; asked = memory_asked refl refl; ends = ends }
-
-  pub answers_run : (j : Judgement) (code : List ℕ) (p : Program) (answer : ℕ) → j ≡ Runs (job_of p ∷ []) → p ≡ program_of_code code → RunsCode code taken faults old new answer → AnswersTo j taken faults old new answer
-  answers_run j code p answer e same r = record {
-    status = 0;
-    text = r.text;
-    asked = done_asked (subst (λ (k : Judgement). IsDone k r.text) (sym e) (subst (λ (q : Program). IsRun (session_of (job_of q ∷ [])) r.text) (sym same) r.run)) refl;
-    ends = r.ends;
-  }
+  pub answers_run : (r : Run) (answer : ℕ) → RunEnds r taken faults old new answer → AnswersTo (Runs r) taken faults old new answer
+  answers_run r answer ran = record { status = ran.status; text = ran.text; asked = stops_asked r ran.stops; ends = ran.ends }
 
   pub answers_same : (i j : Judgement) (answer : ℕ) → j ≡ i → AnswersTo i taken faults old new answer → AnswersTo j taken faults old new answer
   answers_same i j answer e h = subst (λ (k : Judgement). AnswersTo k taken faults old new answer) (sym e) h
 
-pub answers_idle : {K : Type 0} {taken : K → Option (List ℕ)} {faults : K → ℕ} (now : K) (j : Judgement) → j ≡ Runs [] → AnswersTo j taken faults now now 0
-answers_idle {taken = taken} now j e = record {
-  status = 0;
-  text = [];
-  asked = done_asked (subst (λ (k : Judgement). IsDone k []) (sym e) idle) refl;
-  ends = whole refl (Took-none taken now);
-}
-  where
-    idle : IsRun (session_of []) []
-    idle = record { steps = 0; over = refl; printed = refl }
-
 -- ---- decks
 
-pub judged : (text : List ℕ) → length text ≤ limit → judgement text ≡ form_judgement (first_form (cards text))
-unfolding judgement
-judged text short = let within : nat_lt limit (length text) ≡ false = grind (arith, nat_tests) in rw within refl
+none_is : (o : Option ℕ) (r : Run) → o ≡ None → runs_unless o r ≡ Runs r
+none_is o r e = ap (λ (x : Option ℕ). runs_unless x r) e
 
-pub judged_long : (text : List ℕ) → limit < length text → judgement text ≡ Refused (refusals.Deck (count_by (λ b. b == 10) (take limit text) + 1) 14)
+-- something isn't built
+pub missing_is : (p : Prepared) (card : ℕ) → missing p.0.jobs p.1 ≡ Some card → deck_judgement p ≡ Refused (refusals.Deck card 90)
+missing_is p card e = ap (λ (x : Option ℕ). runs_unless x (run_of p.0 p.1)) e
+
+-- nothing runs
+idle_text : (d : Deck) (ps : List Program) → openings d.jobs ps ≡ [] → IsFinished (run_of d ps) []
+idle_text d ps e = subst (λ (os : List Opening). IsFinished (record { session = opening d.stack d.quantum (map switch_of d.switches) os; halt = d.halt }) []) (sym e)
+    (record { steps = 0; within = from_none d.halt; over = refl; printed = refl })
+  where
+    from_none : (halt : Option ℕ) → IfSome halt (λ count. 0 ≤ count)
+    from_none None = tt
+    from_none (Some count) = omega arith
+
+pub answers_idle : {K : Type 0} {taken : K → Option (List ℕ)} {faults : K → ℕ} (now : K) (p : Prepared) → missing p.0.jobs p.1 ≡ None → openings p.0.jobs p.1 ≡ [] → AnswersTo (deck_judgement p) taken faults now now 0
+answers_idle {taken = taken} {faults = faults} now p e f = answers_same (Runs (run_of p.0 p.1)) (deck_judgement p) 0 (none_is (missing p.0.jobs p.1) (run_of p.0 p.1) e)
+    (record { status = 0; text = []; asked = done_asked (idle_text p.0 p.1 f) refl; ends = whole refl (Took-none taken now) })
+
+-- what a deck says of its lone job beside its code and its terms
+abbrev pub unread_of : Deck → ℕ → List ℤ → Unread
+unread_of d level numbers = record { level = level; numbers = numbers; quantum = d.quantum; switches = map switch_of d.switches }
+
+abbrev pub terms_of : Deck → ℕ → Terms
+terms_of d most = record { stack = d.stack; limit = most; halt = d.halt }
+
+-- one job runs
+pub lone_is : (p : Prepared) (code : List ℕ) (most level : ℕ) (numbers : List ℤ) → missing p.0.jobs p.1 ≡ None
+    → openings p.0.jobs p.1 ≡ record { program = record { segments = record { level = level; code = code } ∷ []; rows = [] }; limit = most; numbers = numbers } ∷ []
+    → deck_judgement p ≡ Runs (straight.run_of code (terms_of p.0 most) (unread_of p.0 level numbers))
+lone_is p code most level numbers e f = none_is (missing p.0.jobs p.1) (run_of p.0 p.1) e
+    ∙ ap (λ (os : List Opening). Runs (record { session = opening p.0.stack p.0.quantum (map switch_of p.0.switches) os; halt = p.0.halt })) f
+
+prepared_is : (text : List ℕ) (p : Prepared) → deck_prepared text ≡ Ok p → judgement text ≡ deck_judgement p
 unfolding judgement
+prepared_is text p e = rw e refl
+
+refused_is : (text : List ℕ) (r : Refusal) → deck_prepared text ≡ Err r → judgement text ≡ Refused r
+unfolding judgement
+refused_is text r e = rw e refl
+
+judged_long : (text : List ℕ) → limit < length text → judgement text ≡ Refused (too_long text)
+unfolding judgement deck_prepared
 judged_long text long = rw (lt-ltb limit (length text) long) refl
-
-pub form_empty : (f : Form) → Ok None ≡ f → form_judgement f ≡ Runs []
-unfolding form_judgement
-form_empty f e = rw (sym e) refl
-
-pub form_refused : (f : Form) (card : ℕ) → Err card ≡ f → form_judgement f ≡ Refused (refusals.Deck card 90)
-unfolding form_judgement
-form_refused f card e = rw (sym e) refl
-
-pub form_body : (f : Form) (job card : ℕ) (bytes : List ℕ) → Ok (Some (record { job = job; card = card; bytes = bytes })) ≡ f → form_judgement f ≡ file_judgement job card bytes
-unfolding form_judgement
-form_body f job card bytes e = rw (sym e) refl
 
 -- first bytes of a source are all that it had, or more than a deck may have
 was_read : {S : Type 0} {left : S → Option (List ℕ)} {deck deck' : S} {bytes : List ℕ} → GaveFirst left (limit + 1) deck deck' bytes → WasRead left deck deck' bytes
@@ -132,6 +127,12 @@ was_read {left = left} {deck = deck} {deck' = deck'} {bytes = bytes} first = by_
 commanded : (words : List (Bor (List ℕ))) (command : CommandLine) → command_of words ≡ Some command → is_some (command_of words) ≡ true
 commanded words command e = ap is_some e
 
+-- why a command isn't carried out, which is handed on
+abbrev IsUnserved : {S : Type 0} → (S → Option (List ℕ)) → (S → ℕ) → S → S → CommandLine → AdmitFault → Type 0
+IsUnserved left source_faults deck deck' command (admits.Refused r) = (bytes : List ℕ) × GaveFirst left (limit + 1) deck deck' bytes × (asked command bytes ≡ Refused r)
+IsUnserved left source_faults deck deck' command admits.SourceFault = Rose source_faults deck deck'
+IsUnserved left source_faults deck deck' command admits.Memory = Unit {0}
+
 module _ {S K : Type 0} {left : S → Option (List ℕ)} {source_faults : S → ℕ} {deck deck' : S} {taken : K → Option (List ℕ)} {faults : K → ℕ} {old new : K} where
   -- a text that was read whole
   pub served : (command : CommandLine) (bytes : List ℕ) (answer : ℕ) → GaveAll left deck deck' bytes → AnswersTo (asked command bytes) taken faults old new answer
@@ -141,16 +142,28 @@ module _ {S K : Type 0} {left : S → Option (List ℕ)} {source_faults : S → 
       by_cause : (words : List (Bor (List ℕ))) → command_of words ≡ Some command → {status : ℕ} {text : List ℕ} → IsAsked (asked command bytes) status text → IsDue words left source_faults deck deck' status text
       by_cause words e (refusal_asked r j s t) = refusal_due command bytes r e (inl read) j s t
       by_cause words e (done_asked d s) = done_due command bytes e read d s
+      by_cause words e (halt_asked r j h s) = halt_due command bytes r e read j h s
       by_cause words e (memory_asked s t) = memory_due (commanded words command e) s t
 
-  -- a fault of reading a deck to run
-  pub served_fault : (core : ℕ) (fault : ReadFault) (answer : ℕ) → IsAnswer left source_faults deck deck' (Err fault) → FaultEnds fault taken faults old new answer
+  unserved : (command : CommandLine) (fault : AdmitFault) (answer : ℕ) → IsUnserved left source_faults deck deck' command fault → RefusalEnds fault taken faults old new answer → Serves command left source_faults deck deck' taken faults old new answer
+  unserved command (admits.Refused r) answer h ends = λ words e. record { status = 2; text = refusal_text r; due = refusal_due command h.0 r e (was_read h.1) h.2 refl refl; ends = ends }
+  unserved command admits.SourceFault answer rose ends = λ words e. record { status = 7; text = reading_text; due = reading_due (commanded words command e) rose refl refl; ends = ends }
+  unserved command admits.Memory answer free ends = λ words e. record { status = 9; text = memory_text; due = memory_due (commanded words command e) refl refl; ends = ends }
+
+  -- a deck that was loaded, or wasn't
+  pub served_deck : (core : ℕ) (loaded : Loaded) (answer : ℕ) → IsLoaded left source_faults deck deck' (Ok loaded) → AnswersTo (deck_judgement (prepared_of loaded)) taken faults old new answer
       → Serves (lines.Run core) left source_faults deck deck' taken faults old new answer
-  served_fault core (read_faults.TooLong card) answer a ends = λ words e.
-      let long : limit < length a.0 = omega (arith, a.2) in
-      record { status = 2; text = refusal_text (refusals.Deck card 14); due = refusal_due (lines.Run core) a.0 (refusals.Deck card 14) e (inr (a.1, long)) (rw a.3 (judged_long a.0 long)) refl refl; ends = ends }
-  served_fault core read_faults.SourceFault answer rose ends = λ words e. record { status = 7; text = reading_text; due = reading_due (commanded words (lines.Run core) e) rose refl refl; ends = ends }
-  served_fault core read_faults.Memory answer free ends = λ words e. record { status = 9; text = memory_text; due = memory_due (commanded words (lines.Run core) e) refl refl; ends = ends }
+  served_deck core loaded answer h answers =
+      served (lines.Run core) h.0 answer h.1 (answers_same (deck_judgement (prepared_of loaded)) (judgement h.0) answer (prepared_is h.0 (prepared_of loaded) h.2) answers)
+
+  pub served_refusal : (core : ℕ) (fault : AdmitFault) (answer : ℕ) → IsLoaded left source_faults deck deck' (Err fault) → RefusalEnds fault taken faults old new answer
+      → Serves (lines.Run core) left source_faults deck deck' taken faults old new answer
+  served_refusal core fault answer h ends = unserved (lines.Run core) fault answer (by_fault fault h) ends
+    where
+      by_fault : (fault : AdmitFault) → IsLoaded left source_faults deck deck' (Err fault) → IsUnserved left source_faults deck deck' (lines.Run core) fault
+      by_fault (admits.Refused r) h = (h.0, h.1, refused_is h.0 r h.2)
+      by_fault admits.SourceFault h = h
+      by_fault admits.Memory h = h
 
   -- a text that was made, or wasn't
   pub served_text : (command : CommandLine) (verdict : List ℕ → Verdict) (made : Result (List ℕ) AdmitFault) (answer : ℕ) → ((bytes : List ℕ) → asked command bytes ≡ printed (verdict bytes))
@@ -158,10 +171,12 @@ module _ {S K : Type 0} {left : S → Option (List ℕ)} {source_faults : S → 
   served_text command verdict (Ok text) answer same j ends = λ words e.
       let is : asked command j.0 ≡ Prints text = same j.0 ∙ ap printed j.2 in
       record { status = 0; text = text; due = done_due command j.0 e j.1 (subst (λ (k : Judgement). IsDone k text) (sym is) refl) refl; ends = ends }
-  served_text command verdict (Err (admits.Refused r)) answer same j ends = λ words e.
-      record { status = 2; text = refusal_text r; due = refusal_due command j.0 r e (was_read j.1) (same j.0 ∙ ap printed j.2) refl refl; ends = ends }
-  served_text command verdict (Err admits.SourceFault) answer same rose ends = λ words e. record { status = 7; text = reading_text; due = reading_due (commanded words command e) rose refl refl; ends = ends }
-  served_text command verdict (Err admits.Memory) answer same free ends = λ words e. record { status = 9; text = memory_text; due = memory_due (commanded words command e) refl refl; ends = ends }
+  served_text command verdict (Err fault) answer same j ends = unserved command fault answer (by_fault fault j) ends
+    where
+      by_fault : (fault : AdmitFault) → IsJudged left source_faults deck deck' verdict (Err fault) → IsUnserved left source_faults deck deck' command fault
+      by_fault (admits.Refused r) j = (j.0, j.1, same j.0 ∙ ap printed j.2)
+      by_fault admits.SourceFault j = j
+      by_fault admits.Memory j = j
 
 pub cut_of : {K : Type 0} {taken : K → Option (List ℕ)} {faults : K → ℕ} {old new : K} {status answer : ℕ} {text : List ℕ}
     → Ends taken faults old new status text answer → status ≢ 8 → answer ≡ 8 → Rose faults old new × TookPart taken old new text
@@ -185,7 +200,7 @@ read_status command bytes told e (inr front) =
 
 done_status : (j : Judgement) (text : List ℕ) → IsDone j text → judged_status j ≡ 0
 done_status (Refused r) text d = absurd d
-done_status (Runs jobs) text d = refl
+done_status (Runs r) text d = finished-status r text d
 done_status (Prints text') text d = refl
 
 same_command : (o : Option CommandLine) (a b : CommandLine) → o ≡ Some a → o ≡ Some b → a ≡ b
@@ -196,6 +211,7 @@ module _ {S : Type 0} {words : List (Bor (List ℕ))} {left : S → Option (List
   due_not_8 (usage_due c d s t) e = absurd (omega arith)
   due_not_8 (refusal_due command b refusal c r j s t) e = absurd (omega arith)
   due_not_8 (done_due command b c r d s) e = absurd (omega arith)
+  due_not_8 (halt_due command b r c read j h s) e = absurd (omega arith)
   due_not_8 (reading_due c r s t) e = absurd (omega arith)
   due_not_8 (memory_due c s t) e = absurd (omega arith)
 
@@ -208,6 +224,9 @@ module _ {S : Type 0} {words : List (Bor (List ℕ))} {left : S → Option (List
   due_status command told e is stayed (done_due other b c r d s) =
       let same : other ≡ command = same_command (command_of words) other command c is in
       inl (s ∙ sym (ap (λ (x : CommandLine). judged_status (asked x told)) (sym same) ∙ read_status other b told e (inl r) ∙ done_status (asked other b) text d))
+  due_status command told e is stayed (halt_due other b r c read j h s) =
+      let same : other ≡ command = same_command (command_of words) other command c is in
+      inl (s ∙ sym (ap (λ (x : CommandLine). judged_status (asked x told)) (sym same) ∙ read_status other b told e (inl read) ∙ ap judged_status j ∙ halted-status r text h))
   due_status command told e is stayed (reading_due c r s t) = absurd (omega arith)
   due_status command told e is stayed (memory_due c s t) = inr s
 

@@ -5,19 +5,15 @@ use Rattle.b67_io.specs.Line.{ended}
 use Rattle.b67_io.specs.Told.{Gave, GaveAll}
 use Rattle.b67_io.specs.Causes.{Rose}
 use Rattle.b67_text.specs.Deck.{limit}
-use Rattle.b67_card.specs.declared.reading.ReadFault.{ReadFault}
-use Rattle.b67_card.specs.declared.reading.ReadFault.TheVariants.{TooLong, SourceFault, Memory}
 use Rattle.b67_job.specs.Command.{command_of}
 use Rattle.b67_job.specs.declared.command.CommandLine.{CommandLine}
 use Rattle.b67_job.specs.Judgement.{Judgement, Refused, Runs, Prints, asked}
 use Rattle.b67_admit.specs.declared.refusal.Refusal.{Refusal}
-use Rattle.b67_admit.specs.declared.refusal.Refusal.TheVariants as refusals
 use Rattle.b67_admit.specs.declared.fault.AdmitFault.{AdmitFault}
 use Rattle.b67_admit.specs.declared.fault.AdmitFault.TheVariants as admits
 use Rattle.b67_admit.specs.Told.{refusal_text}
-use Rattle.b67_job.specs.Session.{IsRun}
-use Rattle.b67_job.specs.Runs.{session_of}
-use Rattle.b67_job.specs.Ends.{Ends}
+use Rattle.b67_lines.specs.Ends.{Ends}
+use Rattle.b67_lines.specs.Stops.{Run, IsFinished, IsHalted}
 
 abbrev pub usage_text : List ℕ
 usage_text = ended (codes "USAGE: b67 run --core N --backing PATH")
@@ -28,17 +24,18 @@ reading_text = ended (codes "READING FAULT")
 abbrev pub memory_text : List ℕ
 memory_text = ended (codes "NO MEMORY")
 
--- the text that a judgement asks for where it is no refusal: that of a whole run, or the one to print
+-- the text that a judgement asks for where it is done: that of a whole run, or the one to print
 abbrev pub IsDone : Judgement → List ℕ → Type 0
 IsDone (Refused refusal) text = ⊥
-IsDone (Runs jobs) text = IsRun (session_of jobs) text
+IsDone (Runs r) text = IsFinished r text
 IsDone (Prints whole) text = text ≡ whole
 
--- what a judgement asks for: the line of its refusal with status 2, or the text of what is done with status 0. Memory
--- may be refused.
+-- what a judgement asks for: the line of its refusal with status 2, the text of what is done with status 0, or that of a
+-- run that halts with status 3. Memory may be refused.
 pub data IsAsked (j : Judgement) (status : ℕ) (text : List ℕ) : Type 0 where
   refusal_asked : (refusal : Refusal) → j ≡ Refused refusal → status ≡ 2 → text ≡ refusal_text refusal → IsAsked j status text
   done_asked : IsDone j text → status ≡ 0 → IsAsked j status text
+  halt_asked : (r : Run) → j ≡ Runs r → IsHalted r text → status ≡ 3 → IsAsked j status text
   memory_asked : status ≡ 9 → text ≡ memory_text → IsAsked j status text
 
 -- a judgement is answered, unless the printer fails
@@ -60,6 +57,8 @@ pub data IsDue {S : Type 0} (words : List (Bor (List ℕ))) (left : S → Option
       → asked command bytes ≡ Refused refusal → status ≡ 2 → text ≡ refusal_text refusal → IsDue words left faults deck deck' status text
   done_due : (command : CommandLine) (bytes : List ℕ) → command_of words ≡ Some command → GaveAll left deck deck' bytes
       → IsDone (asked command bytes) text → status ≡ 0 → IsDue words left faults deck deck' status text
+  halt_due : (command : CommandLine) (bytes : List ℕ) (r : Run) → command_of words ≡ Some command → GaveAll left deck deck' bytes
+      → asked command bytes ≡ Runs r → IsHalted r text → status ≡ 3 → IsDue words left faults deck deck' status text
   reading_due : is_some (command_of words) ≡ true → Rose faults deck deck'
       → status ≡ 7 → text ≡ reading_text → IsDue words left faults deck deck' status text
   memory_due : is_some (command_of words) ≡ true → status ≡ 9 → text ≡ memory_text → IsDue words left faults deck deck' status text
@@ -76,12 +75,6 @@ pub record Answered {S K : Type 0} (words : List (Bor (List ℕ))) (left : S →
 abbrev pub Serves : {S K : Type 0} → CommandLine → (S → Option (List ℕ)) → (S → ℕ) → S → S → (K → Option (List ℕ)) → (K → ℕ) → K → K → ℕ → Type 0
 Serves command left source_faults deck deck' taken printer_faults old new answer =
     (words : List (Bor (List ℕ))) → command_of words ≡ Some command → Answered words left source_faults deck deck' taken printer_faults old new answer
-
--- how the answer to a fault of reading ends
-abbrev pub FaultEnds : {K : Type 0} → ReadFault → (K → Option (List ℕ)) → (K → ℕ) → K → K → ℕ → Type 0
-FaultEnds (TooLong card) taken faults old new answer = Ends taken faults old new 2 (refusal_text (refusals.Deck card 14)) answer
-FaultEnds SourceFault taken faults old new answer = Ends taken faults old new 7 reading_text answer
-FaultEnds Memory taken faults old new answer = Ends taken faults old new 9 memory_text answer
 
 -- how the answer to a refusal, or to a fault of reading, ends
 abbrev pub RefusalEnds : {K : Type 0} → AdmitFault → (K → Option (List ℕ)) → (K → ℕ) → K → K → ℕ → Type 0

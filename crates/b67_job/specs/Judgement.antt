@@ -1,55 +1,71 @@
 -- What a command and a text ask for.
-use Rattle.std.specs.Prelude.{ℕ, ◌+◌, ◌==◌, ◌&&◌, nat_lt, Bool, false, List, [], ◌∷◌, length, take, count_by, Some, None, Ok, Err, if◌then◌else◌}
-use Rattle.b67_model.specs.State.{Member, Segment}
+use Rattle.std.specs.Prelude.{ℕ, List, [], ◌∷◌, map, Option, Some, None, Ok, Err, if◌then◌else◌}
 use Rattle.b67_model.specs.Program.{Program}
-use Rattle.b67_text.specs.Cards.{cards, is_empty}
-use Rattle.b67_text.specs.Deck.{limit}
-use Rattle.b67_codefile.specs.Reading.{file_of}
+use Rattle.b67_model.specs.Schedule.{Switch}
+use Rattle.b67_opening.specs.Opening.{Opening, opening}
+use Rattle.b67_text.specs.declared.deck.Switch as declared
+use Rattle.b67_text.specs.declared.deck.Job.{Job}
+use Rattle.b67_text.specs.declared.deck.Deck.{Deck}
 use Rattle.b67_admit.specs.declared.refusal.Refusal.{Refusal}
 use Rattle.b67_admit.specs.declared.refusal.Refusal.TheVariants as refusals
-use Rattle.b67_admit.specs.Admitting.{Answer}
+use Rattle.b67_admit.specs.Admitting.{Answer, Prepared, deck_prepared}
 use Rattle.b67_commands.specs.Verdicts.{Verdict, check_verdict, asm_verdict}
+use Rattle.b67_lines.specs.Stops.{Run, run_status}
+use Rattle.b67_straight.specs.Served.{is_served}
 use Rattle.b67_job.specs.declared.command.CommandLine.{CommandLine}
 use Rattle.b67_job.specs.declared.command.CommandLine.TheVariants as lines
-use Rattle.b67_job.specs.Admission.{program_admitted}
-use Rattle.b67_job.specs.FirstForm.{Form, first_form}
-use Rattle.b67_job.specs.Listed.{is_runnable}
-use Rattle.b67_job.specs.Runs.{job_of}
 
--- a refusal, or jobs are run, or a text is printed
+-- a refusal, or a run, or a text is printed
 pub data Judgement : Type 0 where
   Refused : (refusal : Refusal) → Judgement
-  Runs : (jobs : List Member) → Judgement
+  Runs : (run : Run) → Judgement
   Prints : (text : List ℕ) → Judgement
 
--- the one segment is of level 2, and its code is of the ten operators
-abbrev pub is_first_segment : List Segment → Bool
-is_first_segment (s ∷ []) = (s.level == 2) && is_runnable s.code
-is_first_segment _ = false
+-- ---- the run that a deck asks for
 
--- a program of the first form has no data row
-abbrev pub is_first : Program → Bool
-is_first p = is_first_segment p.segments && is_empty p.rows
+abbrev pub switch_of : declared.Switch → Switch
+switch_of s = record { count = s.count; to = record { job = s.job; task = s.task } }
 
--- by a program, which is refused at its ?HEX card where it isn't of the first form
-unfoldable pub program_judgement : ℕ → Answer Program → Judgement
-program_judgement card (Err r) = Refused r
-program_judgement card (Ok p) = if is_first p then Runs (job_of p ∷ []) else Refused (refusals.Deck card 90)
+-- each job with its program, its limit of operators and its numbers for READ
+abbrev pub openings : List Job → List Program → List Opening
+openings (j ∷ jobs) (p ∷ ps) = record { program = p; limit = j.limit; numbers = j.numbers } ∷ openings jobs ps
+openings _ _ = []
 
--- by the codefile of these bytes, under the cards of its job and of its bytes
-abbrev pub file_judgement : ℕ → ℕ → List ℕ → Judgement
-file_judgement job card bytes = program_judgement card (program_admitted job card (file_of bytes))
+-- the session under the deck's stack size, quantum and switches, and the deck's halt
+abbrev pub run_of : Deck → List Program → Run
+run_of d ps = record { session = opening d.stack d.quantum (map switch_of d.switches) (openings d.jobs ps); halt = d.halt }
 
--- by the form of the deck
-unfoldable pub form_judgement : Form → Judgement
-form_judgement (Err card) = Refused (refusals.Deck card 90)
-form_judgement (Ok None) = Runs []
-form_judgement (Ok (Some body)) = file_judgement body.job body.card body.bytes
+-- ---- what isn't built
 
--- by a whole deck: the card with the first byte past the limit is refused before all else
+-- a second job
+abbrev pub second_card : List Job → Option ℕ
+second_card [] = None
+second_card (j ∷ more) = Some j.card
+
+-- The card of the first thing in a deck that the step loop doesn't have yet: that of a job's body, if it is in its
+-- program, or of a second job.
+abbrev pub missing : List Job → List Program → Option ℕ
+missing (j ∷ jobs) (p ∷ ps) = if is_served p then second_card jobs else Some j.body_card
+missing _ _ = None
+
+-- ---- judgements
+
+abbrev pub runs_unless : Option ℕ → Run → Judgement
+runs_unless None r = Runs r
+runs_unless (Some card) r = Refused (refusals.Deck card 90)
+
+-- by a deck with its admitted programs
+abbrev pub deck_judgement : Prepared → Judgement
+deck_judgement p = runs_unless (missing p.0.jobs p.1) (run_of p.0 p.1)
+
+abbrev pub prepared_judgement : Answer Prepared → Judgement
+prepared_judgement (Ok p) = deck_judgement p
+prepared_judgement (Err refusal) = Refused refusal
+
+-- By a whole text: it is read, its programs are assembled or read, and admitted. What isn't built is refused behind all
+-- else.
 unfoldable pub judgement : List ℕ → Judgement
-judgement text =
-    if nat_lt limit (length text) then Refused (refusals.Deck (count_by (λ b. b == 10) (take limit text) + 1) 14) else form_judgement (first_form (cards text))
+judgement text = prepared_judgement (deck_prepared text)
 
 abbrev pub printed : Verdict → Judgement
 printed (Ok text) = Prints text
@@ -63,5 +79,5 @@ asked lines.Check text = printed (check_verdict text)
 
 abbrev pub judged_status : Judgement → ℕ
 judged_status (Refused refusal) = 2
-judged_status (Runs jobs) = 0
+judged_status (Runs r) = run_status r
 judged_status (Prints text) = 0

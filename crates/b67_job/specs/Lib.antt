@@ -1,13 +1,5 @@
 pub mod Command
 pub mod Seen
-pub mod FirstForm
-pub mod Formed
-pub mod Stack
-pub mod Listed
-pub mod Ends
-pub mod Runs
-pub mod Admission
 pub mod Judgement
+pub mod Planned
 pub mod Due
-pub mod Frames
-pub mod Session

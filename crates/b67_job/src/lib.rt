@@ -1,13 +1,9 @@
 //! The top call: the words of a command, the deck that is read, and the run that is printed.
 #![tactic(auto)]
 
-mod admission;
 mod command;
-mod form;
 mod lines;
-mod machine;
-mod program;
-mod stack;
+mod planning;
 #[cfg(test)]
 mod tests;
 mod top;

@@ -44,11 +44,24 @@ fn answer(
     Ok((outcome.status, Vec::from_slice(alloc, paper.bytes())?))
 }
 
+/// SUM's deck in assembly, between these cards.
+fn sum_deck(alloc: Global, run_cards: &str, limit: &str, data: &str) -> Result<Bytes, AllocError> {
+    let mut deck = bytes_of(alloc, run_cards.as_bytes())?;
+    deck.extend(b"?JOB SUM\n")?;
+    deck.extend(limit.as_bytes())?;
+    deck.extend(b"?ASM\n")?;
+    deck.extend(SUM_CARDS.as_bytes())?;
+    deck.extend(data.as_bytes())?;
+    deck.extend(b"?END\n")?;
+    Ok(deck)
+}
+
 #[test]
 fn decks(rt: HostRuntime) -> Result<(), Fail> {
     let table = [
         (SUM, 0, SUM_LINES),
         ("", 0, ""),
+        ("?HALT 1\n?SWITCH 0 8.1\n", 0, ""),
         // ZERO / ADD.
         (
             "?JOB A\n?HEX\n423637434f444531000100000200010003b080ffffffff\n?END\n",
@@ -73,46 +86,106 @@ fn decks(rt: HostRuntime) -> Result<(), Fail> {
             2,
             "CODEFILE 2 REASON 1 BYTE 30\n",
         ),
-        // SUBT isn't built.
+        ("?JOB a\n", 2, "DECK 1 REASON 4\n"),
+        ("?JOB A\n", 2, "DECK 1 REASON 13\n"),
         (
-            "?JOB SUM\n?HEX\n423637434f44453100010000020002\n0003ae4009b202b200030381aba3ffff\n?END\n",
+            "?JOB A\n?ASM\nSEGMENT MAIN 2\nADDD\n?END\n",
             2,
-            "DECK 2 REASON 90\n",
+            "ASM 4 REASON 1\n",
         ),
+        // A job behind SUM, whose program is refused.
+        (SUM_AND_BAD, 2, "LOAD 6 REASON 3 SEGMENT 1 AT 2:0\n"),
     ];
     for (deck, status, lines) in table {
         for piece in [1, 2, 7, 80] {
             let (was, printed) = answer(rt.alloc(), &WORDS, deck.as_bytes(), piece, &[], &[])?;
-            assert_eq!(rt; was, status);
-            assert_eq!(rt; printed.as_slice(), lines.as_bytes());
+            assert_eq!(rt; was, status, "{deck}");
+            assert_eq!(rt; printed.as_slice(), lines.as_bytes(), "{deck}");
         }
     }
     Ok(())
 }
 
-// A deck that is cut off ends too early at its last card, or in the midst of one that can't continue the form.
+// What the step loop doesn't have yet, each at its card.
 #[test]
-fn prefixes(rt: HostRuntime) -> Result<(), Fail> {
-    let lines = [
-        (1, 9, "DECK 1 REASON 90\n"),
-        (10, 14, "DECK 2 REASON 90\n"),
-        (15, 45, "DECK 3 REASON 90\n"),
-        (46, 78, "DECK 4 REASON 90\n"),
-        (79, 81, "DECK 5 REASON 90\n"),
+fn not_built(rt: HostRuntime) -> Result<(), Fail> {
+    let table = [
+        // SUBT.
+        (
+            "?JOB SUM\n?HEX\n423637434f44453100010000020002\n0003ae4009b202b200030381aba3ffff\n?END\n",
+            "DECK 2 REASON 90\n",
+        ),
+        // Another intrinsic.
+        (
+            "?JOB A\n?LIMIT 5\n?ASM\nSEGMENT MAIN 2\nNAMC 0,8\nEXIT\n?END\n",
+            "DECK 3 REASON 90\n",
+        ),
+        // A second segment, and a data row.
+        (
+            "?JOB A\n?ASM\nSEGMENT MAIN 2\nEXIT\nSEGMENT P 3\nEXIT\n?END\n",
+            "DECK 2 REASON 90\n",
+        ),
+        (
+            "?JOB A\n?ASM\nSEGMENT MAIN 2\nEXIT\nROW R\nNUM 1\n?END\n",
+            "DECK 2 REASON 90\n",
+        ),
+        // A second job, ZERO / LNOT / ONE / ADD / EXIT behind SUM; and both in the other order.
+        (
+            "?JOB SUM\n?HEX\n423637434f44453100010000020002\n0003ae4009b202b200030380aba3ffff\n?END\n?JOB B\n?ASM\nSEGMENT MAIN 2\nZERO\nLNOT\nONE\nADD\nEXIT\n?END\n",
+            "DECK 6 REASON 90\n",
+        ),
+        (
+            "?JOB B\n?ASM\nSEGMENT MAIN 2\nZERO\nLNOT\nONE\nADD\nEXIT\n?END\n?JOB A\n?ASM\nSEGMENT MAIN 2\nEXIT\n?END\n",
+            "DECK 2 REASON 90\n",
+        ),
     ];
-    let deck = SUM.as_bytes();
-    assert_eq!(rt; deck.len(), 83);
-    for (first, last, line) in lines {
-        for n in first..=last {
-            let front = deck.get(..n).ok_or("the deck is longer")?;
-            let (status, printed) = answer(rt.alloc(), &WORDS, front, 512, &[], &[])?;
-            assert_eq!(rt; status, 2, "{n}");
-            assert_eq!(rt; printed.as_slice(), line.as_bytes(), "{n}");
-        }
+    for (deck, line) in table {
+        let (status, printed) = answer(rt.alloc(), &WORDS, deck.as_bytes(), 80, &[], &[])?;
+        assert_eq!(rt; status, 2, "{deck}");
+        assert_eq!(rt; printed.as_slice(), line.as_bytes(), "{deck}");
     }
-    let (status, printed) = answer(rt.alloc(), &WORDS, &deck[..82], 512, &[], &[])?;
-    assert_eq!(rt; status, 0);
-    assert_eq!(rt; printed.as_slice(), SUM_LINES.as_bytes());
+    Ok(())
+}
+
+// The cards of a run and of a job, around SUM's seven operators, of which the sixth prints.
+#[test]
+fn cards(rt: HostRuntime) -> Result<(), Fail> {
+    let table = [
+        ("", "", "", 0, SUM_LINES),
+        ("", "?LIMIT 5\n", "", 0, "1.1 LIMIT\n"),
+        ("", "?LIMIT 6\n", "", 0, "1.1 5\n1.1 LIMIT\n"),
+        ("", "?LIMIT 7\n", "", 0, SUM_LINES),
+        ("?HALT 5\n", "", "", 3, "HALTED 5\n"),
+        ("?HALT 6\n", "", "", 3, "1.1 5\nHALTED 6\n"),
+        ("?HALT 7\n", "", "", 0, SUM_LINES),
+        ("?HALT 6\n", "?LIMIT 6\n", "", 0, "1.1 5\n1.1 LIMIT\n"),
+        ("?HALT 5\n", "?LIMIT 6\n", "", 3, "HALTED 5\n"),
+        ("?QUANTUM 1\n", "", "", 0, SUM_LINES),
+        ("?SWITCH 0 1.1\n?SWITCH 3 2.1\n", "", "", 0, SUM_LINES),
+        ("?STACK 64\n", "", "?DATA\n7 -2\n", 0, SUM_LINES),
+    ];
+    for (run_cards, limit, data, status, lines) in table {
+        let deck = sum_deck(rt.alloc(), run_cards, limit, data)?;
+        let (was, printed) = answer(rt.alloc(), &WORDS, deck.as_slice(), 80, &[], &[])?;
+        assert_eq!(rt; was, status, "{run_cards}{limit}");
+        assert_eq!(rt; printed.as_slice(), lines.as_bytes(), "{run_cards}{limit}");
+    }
+    Ok(())
+}
+
+// A stack of 64 words has room for 61 cells over the outer activation's words.
+#[test]
+fn stack_size(rt: HostRuntime) -> Result<(), Fail> {
+    for (cells, line) in [(61, "1.1 ENDED\n"), (62, "1.1 STACK OVERFLOW\n")] {
+        let mut deck = bytes_of(rt.alloc(), b"?STACK 64\n?JOB A\n?ASM\nSEGMENT MAIN 2\n")?;
+        for _ in 0..cells {
+            deck.extend(b"ONE\n")?;
+        }
+        deck.extend(b"EXIT\n?END\n")?;
+        let (status, printed) = answer(rt.alloc(), &WORDS, deck.as_slice(), 80, &[], &[])?;
+        assert_eq!(rt; status, 0);
+        assert_eq!(rt; printed.as_slice(), line.as_bytes());
+    }
     Ok(())
 }
 
@@ -168,6 +241,9 @@ fn faults_and_usage(rt: HostRuntime) -> Result<(), Fail> {
     let (status, printed) = answer(rt.alloc(), &WORDS, deck, 80, &[], &[1])?;
     assert_eq!(rt; status, 8);
     assert_eq!(rt; printed.as_slice(), b"".as_slice());
+    let (status, printed) = answer(rt.alloc(), &WORDS, deck, 80, &[], &[2])?;
+    assert_eq!(rt; status, 8);
+    assert_eq!(rt; printed.as_slice(), b"1.1 5\n".as_slice());
     let (status, printed) = answer(rt.alloc(), &WORDS, deck, 80, &[1], &[])?;
     assert_eq!(rt; status, 7);
     assert_eq!(rt; printed.as_slice(), b"READING FAULT\n".as_slice());

@@ -1,29 +1,30 @@
 //! The top call.
 
-ghost use Rattle.std.specs.Prelude.{◌≡◌, ◌⊎◌, ◌≤◌, ◌<◌, ◌+◌, ℕ, List, length, true, false, is_some, Some};
+ghost use Rattle.std.specs.Prelude.{◌≡◌, ◌⊎◌, ◌≤◌, ℕ, List, length, true, false, is_some, Some};
+ghost use Rattle.b67_word.specs.Tagged.{contents};
 ghost use Rattle.b67_io.specs.Told.{Took, TookPart, GaveAll};
 ghost use Rattle.b67_io.specs.Causes.{Rose, Stayed};
-ghost use Rattle.b67_io.specs.Line.{ended};
-ghost use Rattle.b67_text.specs.Deck.{limit};
-ghost use Rattle.b67_job.specs.Command.{command_of};
-ghost use Rattle.b67_job.specs.declared.command.CommandLine.{CommandLine};
-ghost use Rattle.b67_job.specs.Judgement.{judgement, file_judgement, asked, Refused, judged_status};
 ghost use Rattle.b67_admit.specs.declared.refusal.Refusal.{Refusal};
 ghost use Rattle.b67_admit.specs.Told.{refusal_text};
-ghost use Rattle.b67_job.specs.Ends.{Ends};
-ghost use Rattle.b67_job.specs.Due.{Answered, AnswersTo, Serves, FaultEnds, RefusalEnds, TextEnds, IsDue, IsDone, WasRead, usage_text, reading_text, memory_text};
+ghost use Rattle.b67_admit.specs.Meets.{prepared_of};
+ghost use Rattle.b67_lines.specs.Ends.{Ends};
+ghost use Rattle.b67_lines.specs.Stops.{Run, IsHalted};
+ghost use Rattle.b67_straight.specs.Listed.{is_built_code};
+ghost use Rattle.b67_straight.specs.Lone.{Unread, run_of};
+ghost use Rattle.b67_job.specs.Command.{command_of};
+ghost use Rattle.b67_job.specs.declared.command.CommandLine.{CommandLine};
+ghost use Rattle.b67_job.specs.Judgement.{deck_judgement, asked, Refused, Runs, judged_status};
+ghost use Rattle.b67_job.specs.Due.{Answered, AnswersTo, Serves, RefusalEnds, TextEnds, IsDue, IsDone, WasRead, usage_text, reading_text, memory_text};
 
-use crate::admission::admit;
 use crate::command::{CommandLine, command_of};
-use crate::form::{Form, first_form};
-use crate::lines::{line_of, refusal_line, say, say_text};
-use crate::machine::run_code;
-use crate::program::first_code;
-use b67_admit::{AdmitFault, Refusal};
-use b67_card::{ReadFault, read_all};
+use crate::lines::{refusal_line, say_text};
+use crate::planning::{Plan, plan_of};
+use b67_admit::{AdmitFault, Loaded, Refusal, admit};
 use b67_commands::{asm_text, check_text};
 use b67_io::{Sink, Source};
-use b67_word::Bytes;
+use b67_lines::{line_of, say};
+use b67_straight::{Terms, run_code};
+use b67_word::{Bytes, Word};
 use std::alloc::Global;
 
 /// How a run ended.
@@ -36,12 +37,6 @@ fn refuse<K: Sink>(printer: &mut K, refusal: Refusal) -> u8
     ensures { Ends K.taken K.faults printer.old printer.new 2 (refusal_text refusal) result }
 {
     say(printer, 2, &refusal_line(refusal))
-}
-
-fn refuse_card<K: Sink>(printer: &mut K, card: u32, reason: u8) -> u8
-    ensures { Ends K.taken K.faults printer.old printer.new 2 (refusal_text (Refusal.Deck card reason)) result }
-{
-    refuse(printer, Refusal::Deck { card, reason })
 }
 
 fn say_reading_fault<K: Sink>(printer: &mut K) -> u8
@@ -83,9 +78,9 @@ fn answer<S: Source, K: Sink>(alloc: Global, words: &[&str], deck: &mut S, print
 fn answer_run<S: Source, K: Sink>(alloc: Global, core: u32, deck: &mut S, printer: &mut K) -> u8
     ensures { Serves (CommandLine.Run core) S.left S.faults deck.old deck.new K.taken K.faults printer.old printer.new result }
 {
-    match read_all(alloc, deck) {
-        Ok(bytes) => answer_deck(alloc, bytes.as_slice(), printer),
-        Err(fault) => answer_fault(fault, printer),
+    match admit(alloc, deck) {
+        Ok(loaded) => answer_deck(alloc, &loaded, printer),
+        Err(fault) => refuse_program(fault, printer),
     }
 }
 
@@ -112,39 +107,32 @@ fn answer_text<K: Sink>(text: &Result<Bytes, AdmitFault>, printer: &mut K) -> u8
     }
 }
 
-fn answer_fault<K: Sink>(fault: ReadFault, printer: &mut K) -> u8
-    ensures { FaultEnds fault K.taken K.faults printer.old printer.new result }
+fn answer_deck<K: Sink>(alloc: Global, loaded: &Loaded, printer: &mut K) -> u8
+    ensures { AnswersTo (deck_judgement (prepared_of loaded.now)) K.taken K.faults printer.old printer.new result }
 {
-    match fault {
-        ReadFault::TooLong { card } => refuse_card(printer, card, 14),
-        ReadFault::SourceFault => say_reading_fault(printer),
-        ReadFault::Memory => say_no_memory(printer),
-    }
-}
-
-fn answer_deck<K: Sink>(alloc: Global, text: &[u8], printer: &mut K) -> u8
-    requires { length text.now ≤ limit }
-    ensures { AnswersTo (judgement text.now) K.taken K.faults printer.old printer.new result }
-{
-    match first_form(alloc, text) {
-        Ok(Form::Empty) => 0,
-        Ok(Form::Refused { card }) => refuse_card(printer, card, 90),
-        Ok(Form::Body { job, card, bytes }) => {
-            answer_body(alloc, job, card, bytes.as_slice(), printer)
+    let deck = &loaded.deck;
+    match plan_of(deck.jobs.as_slice(), loaded.programs.as_slice()) {
+        Plan::Idle => 0,
+        Plan::Missing { card } => refuse(printer, Refusal::Deck { card, reason: 90 }),
+        Plan::Runs { limit, code } => {
+            let terms = Terms {
+                stack: deck.stack,
+                limit,
+                halt: deck.halt,
+            };
+            answer_code(alloc, code, terms, printer)
         }
-        Err(_) => say_no_memory(printer),
     }
 }
 
-fn answer_body<K: Sink>(alloc: Global, job: u32, card: u32, bytes: &[u8], printer: &mut K) -> u8
-    ensures { AnswersTo (file_judgement job card bytes.now) K.taken K.faults printer.old printer.new result }
+fn answer_code<K: Sink>(alloc: Global, code: &[Word], terms: Terms, printer: &mut K) -> u8
+    requires short { length code.now ≤ 8191 }
+    requires built { is_built_code (contents code.now) ≡ true }
+    ensures { (unread : Unread) → AnswersTo (Runs (run_of (contents code.now) terms unread)) K.taken K.faults printer.old printer.new result }
 {
-    match admit(alloc, job, card, bytes) {
-        Ok(program) => match first_code(program.file()) {
-            Some(code) => run_code(printer, code),
-            None => refuse_card(printer, card, 90),
-        },
-        Err(fault) => refuse_program(fault, printer),
+    match run_code(alloc, printer, code, terms) {
+        Ok(status) => status,
+        Err(_) => say_no_memory(printer),
     }
 }
 
@@ -160,13 +148,13 @@ fn refuse_program<K: Sink>(fault: AdmitFault, printer: &mut K) -> u8
 
 /// Carries out the command that the words are, on the deck that is read, and prints what it asks for.
 ///
-/// - `run --core N --backing PATH` prints the lines of the deck's run; the core and the backing aren't used yet. A deck has no
-///   card, or one job of hexadecimal cards: `?JOB name`, `?HEX`, cards of digits, `?END`.
+/// - `run --core N --backing PATH` prints the lines of the deck's run, up to its halt; the core and the backing aren't used
+///   yet. What the step loop doesn't have is refused with reason 90, once all programs are admitted.
 /// - `asm` prints the codefile of assembly cards as hexadecimal cards, 32 bytes to a card, in lower case.
 /// - `check` prints `name ADMITTED s r` for each job of the deck, with its numbers of segments and of data rows.
 ///
-/// Status 0 is that all is done, 1 the usage, 2 a refused deck, 7 a source that failed, 8 a printer that failed, 9 want of
-/// memory.
+/// Status 0 is that all is done, 1 the usage, 2 a refused deck, 3 a run that halted, 7 a source that failed, 8 a printer
+/// that failed, 9 want of memory.
 pub fn run<S: Source, K: Sink>(
     alloc: Global,
     words: &[&str],
@@ -186,10 +174,16 @@ pub fn run<S: Source, K: Sink>(
         × (command_of words.now ≡ Some command) × WasRead S.left deck.old deck.new bytes × (asked command bytes ≡ Refused refusal)
         × Took K.taken printer.old printer.new (refusal_text refusal) }
 
-    // The deck was read to its end, and the command's work is done: the whole text of its run is printed, or the text that
-    // it is to print.
+    // The deck was read to its end, and the command's work is done: the whole text of its run is printed, at the halt at the
+    // latest, or the text that it is to print.
     ensures done { result.status ≡ 0 → (command : CommandLine) × (bytes : List ℕ) × (text : List ℕ)
         × (command_of words.now ≡ Some command) × GaveAll S.left deck.old deck.new bytes × IsDone (asked command bytes) text
+        × Took K.taken printer.old printer.new text }
+
+    // The deck was read to its end, and its run halted: tasks live at the count of its halt, and the text up to there is
+    // printed, with the line of the halt behind it.
+    ensures halted { result.status ≡ 3 → (command : CommandLine) × (bytes : List ℕ) × (r : Run) × (text : List ℕ)
+        × (command_of words.now ≡ Some command) × GaveAll S.left deck.old deck.new bytes × (asked command bytes ≡ Runs r) × IsHalted r text
         × Took K.taken printer.old printer.new text }
 
     // A device failed.

@@ -1,9 +1,6 @@
-use Rattle.std.proofs.Common.{◌≡◌, ◌≢◌, ℕ, ◌+◌, ◌-◌, ◌<◌, ◌≤◌, List, refl, sym, ◌∙◌, ap, arith, Bool, not, ◌==◌, slice_set, length, subst}
-use Rattle.std.proofs.lemmas.List.{length-set}
-use Rattle.b67_word.specs.Tagged.{Tagged}
-use Rattle.b67_ctl.specs.declared.marks.Mscw.{Mscw}
+use Rattle.std.proofs.Common.{◌≡◌, ◌+◌, ◌≤◌, refl, sym, ap, arith, subst}
 use Rattle.b67_ctl.specs.declared.programs.Pcw.{Pcw}
-use Rattle.b67_ctl.specs.Layout.{IsMscw, mscw_word, rcw_word}
+use Rattle.b67_ctl.specs.Layout.{IsMscw}
 use Rattle.b67_model.specs.State.{frame}
 use Rattle.b67_model.specs.Environment.{level_of_frame}
 use Rattle.b67_layout.specs.Meets.{here}

@@ -1,10 +1,8 @@
-use Rattle.std.proofs.Common.{◌≡◌, ◌≢◌, ℕ, ◌+◌, ◌≤◌, refl, sym, ap, arith, subst}
-use Rattle.b67_ctl.specs.declared.marks.Mscw.{Mscw}
+use Rattle.std.proofs.Common.{◌≡◌, ◌+◌, refl, sym, ap, arith, subst}
 use Rattle.b67_ctl.specs.declared.programs.Pcw.{Pcw}
 use Rattle.b67_ctl.specs.Layout.{IsMscw}
 use Rattle.b67_model.specs.State.{frame}
 use Rattle.b67_model.specs.Environment.{level_of_frame}
-use Rattle.b67_stack.specs.Stacks.{top_mark}
 use Rattle.b67_layout.specs.Layout.{picture, stack_of_task}
 use Rattle.b67_layout.specs.Meets.{here}
 use Rattle.b67_layout.proofs.Starts.{meets_runs, runs_here}
@@ -67,11 +65,11 @@ set-requires-2 c =
 pub returns-then-env-procedure : goal.returns-then-env-procedure
 returns-then-env-procedure c = record {
   row = λ a f segment level place reference arguments e w.
-    let env = c.activation_of-env.ensures a c.args.next f segment level place e.procedure in
-    let pcw = c.procedure_at-procedure.ensures (Unasked.pcw c.args.cpu.now c.args.cpu.now.regs a c.args.next c.args.cell f segment level place e.procedure) (pcw_fits c.args.cpu.now c.args.cpu.now.regs a c.args.next c.args.cell f segment level place e.procedure) (pcw_there c.args.cpu.now c.args.cpu.now.regs a c.args.next c.args.cell f segment level place e.procedure) in
-    let one : c.activation_of-env.result.level ≡ level_of_frame (frame (here a.member a.task c.args.next) f) = ap (λ (z : Activation). z.level) env in
-    let two : c.procedure_at-procedure.result.level ≡ level = ap (λ (z : Pcw). z.level) pcw in
-    (Called.refused c.args.cpu.now a c.args.next c.requires.next c.args.cell f segment level place reference arguments e w (λ z. c.if-env-procedure.true (omega (arith, one, two, z))), refl);
+      let env = c.activation_of-env.ensures a c.args.next f segment level place e.procedure in
+      let pcw = c.procedure_at-procedure.ensures (Unasked.pcw c.args.cpu.now c.args.cpu.now.regs a c.args.next c.args.cell f segment level place e.procedure) (pcw_fits c.args.cpu.now c.args.cpu.now.regs a c.args.next c.args.cell f segment level place e.procedure) (pcw_there c.args.cpu.now c.args.cpu.now.regs a c.args.next c.args.cell f segment level place e.procedure) in
+      let one : c.activation_of-env.result.level ≡ level_of_frame (frame (here a.member a.task c.args.next) f) = ap (λ (z : Activation). z.level) env in
+      let two : c.procedure_at-procedure.result.level ≡ level = ap (λ (z : Pcw). z.level) pcw in
+      (Called.refused c.args.cpu.now a c.args.next c.requires.next c.args.cell f segment level place reference arguments e w (λ z. c.if-env-procedure.true (omega (arith, one, two, z))), refl);
 }
 
 pub begin-requires : goal.begin-requires
@@ -90,13 +88,13 @@ begin-requires c =
 pub returns : goal.returns
 returns c = record {
   row = λ a f segment level place reference arguments e w.
-    let env = c.activation_of-env.ensures a c.args.next f segment level place e.procedure in
-    let pcw = c.procedure_at-procedure.ensures (Unasked.pcw c.args.cpu.now c.args.cpu.now.regs a c.args.next c.args.cell f segment level place e.procedure) (pcw_fits c.args.cpu.now c.args.cpu.now.regs a c.args.next c.args.cell f segment level place e.procedure) (pcw_there c.args.cpu.now c.args.cpu.now.regs a c.args.next c.args.cell f segment level place e.procedure) in
-    let top = c.top_mark-top.ensures a.storage (picture a.plan a.session.jobs) (stack_of_task a.plan a.member.setting.number a.member.course.job a.plan.running a.task) e.stands.holds.memory (runs_here a.storage c.args.cpu.now a.plan a.session a.member a.task e.stands a.running) in
-    let mark = Called.mark_is c.args.cpu.now a c.args.next c.requires.next c.args.cell f segment level place reference arguments e w c.activation_of-env.result c.procedure_at-procedure.result c.top_mark-top.result env pcw top c.entered_mark-mark.result c.entered_mark-mark.ensures in
-    let core = Called.core_is c.args.cpu.now a c.args.next c.requires.next c.args.cell f segment level place reference arguments e w c.word.result c.word-2.result c.entered_mark-mark.result c.set.new.self c.set-2.new.self c.set.ensures.value c.word.ensures mark c.set-2.ensures.value c.word-2.ensures in
-    let one : c.activation_of-env.result.level ≡ level_of_frame (frame (here a.member a.task c.args.next) f) = ap (λ (z : Activation). z.level) env in
-    let two : c.procedure_at-procedure.result.level ≡ level = ap (λ (z : Pcw). z.level) pcw in
-    let test : level_of_frame (frame (here a.member a.task c.args.next) f) + 1 ≡ level = omega (arith, one, two, c.if-env-procedure.false) in
-    Called.done c.args.cpu.now a c.args.next c.requires.next c.args.cell f segment level place reference arguments e w test c.set-2.new.self c.procedure_at-procedure.result c.begin.new.cpu core pcw c.begin.ensures.rest c.begin.ensures.display;
+      let env = c.activation_of-env.ensures a c.args.next f segment level place e.procedure in
+      let pcw = c.procedure_at-procedure.ensures (Unasked.pcw c.args.cpu.now c.args.cpu.now.regs a c.args.next c.args.cell f segment level place e.procedure) (pcw_fits c.args.cpu.now c.args.cpu.now.regs a c.args.next c.args.cell f segment level place e.procedure) (pcw_there c.args.cpu.now c.args.cpu.now.regs a c.args.next c.args.cell f segment level place e.procedure) in
+      let top = c.top_mark-top.ensures a.storage (picture a.plan a.session.jobs) (stack_of_task a.plan a.member.setting.number a.member.course.job a.plan.running a.task) e.stands.holds.memory (runs_here a.storage c.args.cpu.now a.plan a.session a.member a.task e.stands a.running) in
+      let mark = Called.mark_is c.args.cpu.now a c.args.next c.requires.next c.args.cell f segment level place reference arguments e w c.activation_of-env.result c.procedure_at-procedure.result c.top_mark-top.result env pcw top c.entered_mark-mark.result c.entered_mark-mark.ensures in
+      let core = Called.core_is c.args.cpu.now a c.args.next c.requires.next c.args.cell f segment level place reference arguments e w c.word.result c.word-2.result c.entered_mark-mark.result c.set.new.self c.set-2.new.self c.set.ensures.value c.word.ensures mark c.set-2.ensures.value c.word-2.ensures in
+      let one : c.activation_of-env.result.level ≡ level_of_frame (frame (here a.member a.task c.args.next) f) = ap (λ (z : Activation). z.level) env in
+      let two : c.procedure_at-procedure.result.level ≡ level = ap (λ (z : Pcw). z.level) pcw in
+      let test : level_of_frame (frame (here a.member a.task c.args.next) f) + 1 ≡ level = omega (arith, one, two, c.if-env-procedure.false) in
+      Called.done c.args.cpu.now a c.args.next c.requires.next c.args.cell f segment level place reference arguments e w test c.set-2.new.self c.procedure_at-procedure.result c.begin.new.cpu core pcw c.begin.ensures.rest c.begin.ensures.display;
 }

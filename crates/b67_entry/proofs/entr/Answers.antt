@@ -1,24 +1,20 @@
-use Rattle.std.proofs.Common.{◌≡◌, ◌≢◌, ℕ, [], ◌+◌, ◌<◌, ◌≤◌, length, Option, Some, None, Ok, Err, refl, sym, ◌∙◌, ap, arith, subst}
+use Rattle.std.proofs.Common.{◌≡◌, [], ◌+◌, ◌<◌, length, Ok, Err, refl, sym, ◌∙◌, ap, arith, subst}
 use Rattle.std.proofs.lemmas.Option.{same_Some, slice_get_within}
-use Rattle.std.proofs.lemmas.Bool.{not-true, not-false}
 use Rattle.b67_word.specs.Tagged.{Tagged}
-use Rattle.b67_model.specs.Answers.{◌>>=◌}
 use Rattle.b67_model.specs.Chase.{follow, AtIntrinsic}
 use Rattle.b67_model.specs.Chase as Chase
-use Rattle.b67_model.specs.Rows.{entr, entr_at}
+use Rattle.b67_model.specs.Rows.{entr}
 use Rattle.b67_model.specs.Steps.{top_of}
 use Rattle.b67_model.specs.State.{top}
-use Rattle.b67_stack.specs.declared.Cpu.{Cpu}
 use Rattle.b67_stack.specs.declared.Step.TheVariants as step
 use Rattle.b67_layout.specs.Layout.{picture, stack_of_task}
-use Rattle.b67_layout.specs.Meets.{here, Meets}
+use Rattle.b67_layout.specs.Meets.{here}
 use Rattle.b67_layout.proofs.Starts.{meets_runs, runs_here}
 use Rattle.b67_refer.proofs.Scenes.{scene}
 use Rattle.b67_refer.specs.Cells.{StandsFor}
 use Rattle.b67_refer.specs.Ends.{EndMeets}
 use Rattle.b67_refer.specs.declared.ends.End.TheVariants as end
-use Rattle.b67_entry.specs.Procedures.{called, called_at, CallsOrMeets}
-use Rattle.b67_entry.proofs.Firsts as Firsts
+use Rattle.b67_entry.specs.Procedures.{CallsOrMeets}
 use Rattle.b67_entry.proofs.Firsts.{faults_entered, faults_empty, faults_other, facing, first_stands, calling, goes}
 use Rattle.b67_entry.proofs.Leads.{meets_plain, meets_fault, proc_found, intrinsic_found, fault_found, cell_found, element_found, array_found}
 use Rattle.b67_entry.proofs.entr.Goals as goal

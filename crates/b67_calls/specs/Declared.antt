@@ -1,0 +1,33 @@
+-- ARRAYDEC: a call that answers with the original of a new array.
+use Rattle.std.specs.Prelude.{ℕ, ◌+◌, ◌==◌, ◌&&◌, true, List, [], ◌∷◌, None, replicate, if◌then◌else◌}
+use Rattle.b67_word.specs.declared.couples.Place.{Place}
+use Rattle.b67_model.specs.Words.{Original}
+use Rattle.b67_model.specs.State.{Array, Task, Job, Member, top, below_top, with_task}
+use Rattle.b67_model.specs.Intrinsics.{answered}
+use Rattle.b67_stack.specs.Shapes.{Held}
+use Rattle.b67_stack.specs.Stands.{Storage}
+use Rattle.b67_storage.specs.Machine.{holding}
+use Rattle.b67_layout.specs.Plan.{Plan}
+use Rattle.b67_layout.specs.Meets.{here}
+
+-- an array of zeros, which ends with the frame below the call
+abbrev pub new_array : Member → Task → ℕ → Array
+new_array m t n = record { identity = m.course.job.next_array; owner = (top (below_top t.frames)).identity; writable = true; numbers = replicate n 0 }
+
+-- the job without the call, with the array, whose task goes on at a place with the array's original on the frame below
+abbrev pub job_declared : Member → Task → ℕ → Place → Job
+job_declared m t n next =
+    with_task (record m.course.job { arrays = new_array m t n ∷ m.course.job.arrays; next_array = m.course.job.next_array + 1 })
+    (answered (here m t next) (Original m.course.job.next_array ∷ []))
+
+-- the plan in which the original of an array of a job stands at an address
+abbrev pub with_home : Plan → ℕ → ℕ → ℕ → Plan
+with_home plan j a at = record plan { home = λ i b. if (i == j) && (b == a) then at else plan.home i b }
+
+-- in no area and in no chain
+abbrev pub nowhere : Held
+nowhere = record { area = None; chain = 0 }
+
+-- the storage that holds nothing of what is known by an address
+abbrev pub without : Storage → ℕ → Storage
+without x at = holding x at nowhere

@@ -1,0 +1,3 @@
+pub mod Segments
+pub mod Sites
+pub mod Entering

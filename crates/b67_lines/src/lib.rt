@@ -1,0 +1,13 @@
+//! The lines that a run prints, and how a call ends that prints.
+#![tactic(auto)]
+
+mod laws;
+mod lines;
+mod names;
+mod printing;
+#[cfg(test)]
+mod tests;
+
+pub use laws::{runs_stop_once, runs_stop_with_their_status};
+pub use lines::{ending_line, halted_line, line_of, value_line, with_number, with_text};
+pub use printing::say;

@@ -1,0 +1,2 @@
+//! Operators that store through references.
+#![tactic(auto)]

@@ -1,0 +1,11 @@
+pub mod Lists
+pub mod Framed
+pub mod Chased
+pub mod Turns
+pub mod Calls
+pub mod Sessions
+pub mod Places
+pub mod Small
+pub mod Followed
+pub mod Running
+pub mod Programs
