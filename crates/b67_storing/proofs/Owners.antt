@@ -100,19 +100,19 @@ module _ (core : List Tagged) (r : Regs) (a : Scene core r) where
       let G : ℕ → Type 0 = λ i. F (Some q) i in
       let H : Option Task → Type 0 = λ v. F v (slot_of a.plan a.member.setting.number n) in
       let result : OwnerAt (λ g. spot_in k outer fs g) id = ⊎_elim
-        (λ m.
-        (let inside = identity_has fs id s m in
-        let o : OwnerAt (λ g. spot_in k outer fs g) id = record {
-          task = q;
-          there = found;
-          has = from_identity u.critical q.frames id inside;
-          spot = spot_under k outer fs id inside ∙ ap (λ gs. let z : Spot = record { stack = k; disp = height gs } in z) (from_under job.next_frame u.critical q.frames known id falls inside);
-        } in o))
-        (λ m.
-        (let o = owner_outer q at.0 more birth.line id s high m in
-        let down = falls_from job.next_frame u.critical q.frames known falls in
-        let p : OwnerAt (λ g. spot_in k outer fs g) id = record { task = o.task; there = o.there; has = o.has; spot = apart down.0 fs known id down.1 (has_map (λ (z : Known). z.0) known (id, s) m) k outer ∙ o.spot } in p))
-        (has_append_cases (map known_of fs) known (id, s) h') in
+      (λ m.
+      (let inside = identity_has fs id s m in
+      let o : OwnerAt (λ g. spot_in k outer fs g) id = record {
+        task = q;
+        there = found;
+        has = from_identity u.critical q.frames id inside;
+        spot = spot_under k outer fs id inside ∙ ap (λ gs. let z : Spot = record { stack = k; disp = height gs } in z) (from_under job.next_frame u.critical q.frames known id falls inside);
+      } in o))
+      (λ m.
+      (let o = owner_outer q at.0 more birth.line id s high m in
+      let down = falls_from job.next_frame u.critical q.frames known falls in
+      let p : OwnerAt (λ g. spot_in k outer fs g) id = record { task = o.task; there = o.there; has = o.has; spot = apart down.0 fs known id down.1 (has_map (λ (z : Known). z.0) known (id, s) m) k outer ∙ o.spot } in p))
+      (has_append_cases (map known_of fs) known (id, s) h') in
       subst H (sym birth.found) (subst G (sym slot_is) result)
 
   -- the owner of a frame of a task that is named

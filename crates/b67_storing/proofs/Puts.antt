@@ -148,9 +148,10 @@ Lie-tops R core from i v (x ∷ xs) under under' same low l m =
 Lie-head : (R : Shape → ℕ → Tagged → Type 0) (core : List Tagged) (from i : ℕ) (v : Tagged) (k : ℕ) (h : Head) (below : List Activation) (under under' : List Shape) → length under' ≡ length under → i < from + length under → Lie R (slice_set core i v) from under' → Lie R core from (headed k h below under)
     → Lie R (slice_set core i v) from (headed k h below under')
 Lie-head R core from i v k Marked below under under' same low l m = (moved R core from i v (Is (mscw_word (mark_of k Marked below))) (length under) (length under') same low m.0, l)
-Lie-head R core from i v k (Entered level environment back) below under under' same low l m =
-    (moved R core from i v (Is (rcw_word (return_of back below))) (suc (length under)) (suc (length under')) (ap suc same) (omega (arith, low)) m.0,
-      (moved R core from i v (Is (mscw_word (mark_of k (Entered level environment back) below))) (length under) (length under') same low m.1.0, l))
+Lie-head R core from i v k (Entered level environment back) below under under' same low l m = (
+  moved R core from i v (Is (rcw_word (return_of back below))) (suc (length under)) (suc (length under')) (ap suc same) (omega (arith, low)) m.0,
+  (moved R core from i v (Is (mscw_word (mark_of k (Entered level environment back) below))) (length under) (length under') same low m.1.0, l),
+)
 
 pub puts_low : {c : Shape} {at : ℕ} {st st' : List Activation} → Puts c at st st' → at < high st
 puts_low (within a below i low) = omega (arith, low)

@@ -157,12 +157,12 @@ module _ (x : Storage) (core : List Tagged) (r : Regs) (p : Picture) (k : ℕ) (
         (λ j hj n. Lie-same (Fits x.held) core (slice_set core (suc (slot_base p k) + at) v) (suc (slot_base p j)) (words j (stack_of (p.slots j)))
         (λ i down up. elsewhere j hj n i (omega (arith, down)) (let w = words-length j (stack_of (p.slots j)) in let f = slot_room p j (p.slots j) (laid.slots j hj) some in omega (arith, up, w, f))) (s.stacks j hj));
     things = λ t int. (let was = s.things t int in
-    record {
-      home = slice_get-set_other core (suc (slot_base p k) + at) t.home v (no_home t int) ∙ was.home;
-      content = Content-areas x core (slice_set core (suc (slot_base p k) + at) v) t (x.held t.home).area (x.held t.home).chain
-          (λ b q. let o = s.owned.of_held t.home b q in let l = area_at-low x.low x.spans b (info_of x o.0) o.3 in omega (arith, l))
-          (λ q up. other q (inr (omega (arith, up, below_low)))) was.content;
-    });
+        record {
+          home = slice_get-set_other core (suc (slot_base p k) + at) t.home v (no_home t int) ∙ was.home;
+          content = Content-areas x core (slice_set core (suc (slot_base p k) + at) v) t (x.held t.home).area (x.held t.home).chain
+              (λ b q. let o = s.owned.of_held t.home b q in let l = area_at-low x.low x.spans b (info_of x o.0) o.3 in omega (arith, l))
+              (λ q up. other q (inr (omega (arith, up, below_low)))) was.content;
+        });
     owned = record { of_area = s.owned.of_area; of_held = s.owned.of_held; of_chain = s.owned.of_chain; no_zero = s.owned.no_zero; one_chain = s.owned.one_chain };
     directory = IsDirectory-same core (slice_set core (suc (slot_base p k) + at) v) x.low x.spans (length-set core (suc (slot_base p k) + at) v)
         (λ i h. other i (inl (let f = laid.first in omega (arith, h.1, f))))
