@@ -71,7 +71,11 @@ fn store(cpu: &mut Cpu, keeps: bool, next: Place) -> Step
         Ok(two) => two,
         Err(fault) => return Step::Fault(fault),
     };
-    let (reference, value) = if upper.tag() == 0 { (lower, upper) } else { (upper, lower) };
+    let (reference, value) = if upper.tag() == 0 {
+        (lower, upper)
+    } else {
+        (upper, lower)
+    };
     if value.tag() != 0 {
         return Step::Fault(Fault::InvalidOperand);
     }
