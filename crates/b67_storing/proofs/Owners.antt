@@ -1,19 +1,19 @@
 -- Whose frame it is that the running task names, and where it lies in its task's stack.
-use Rattle.std.proofs.Common.{◌≡◌, ◌≢◌, ℕ, ◌+◌, ◌<◌, ◌≤◌, List, [], ◌∷◌, ◌++◌, map, Option, Some, refl, sym, ◌∙◌, ap, arith, true, false, cond, ◌==◌, ⊎_elim, inl, inr, subst}
-use Rattle.std.proofs.lemmas.Bool.{cases_Bool, eq-eqb, ne_eqb, eqb-true}
+use Rattle.std.proofs.Common.{◌≡◌, ◌≢◌, ℕ, ◌+◌, ◌<◌, ◌≤◌, List, [], ◌∷◌, ◌++◌, map, Option, Some, refl, sym, ◌∙◌, ap, arith, true, false, ◌==◌, ⊎_elim, inl, inr, subst}
+use Rattle.std.proofs.lemmas.Bool.{cases_Bool, eq-eqb, ne_eqb}
 use Rattle.b67_word.specs.Tagged.{Tagged}
 use Rattle.b67_ctl.specs.declared.registers.Regs.{Regs}
-use Rattle.b67_model.specs.Lists.{Has, Falls, how_many, total}
+use Rattle.b67_model.specs.Lists.{Has, Falls, total}
 use Rattle.b67_model.specs.Keyed.{keyed}
-use Rattle.b67_model.specs.State.{Frame, Standing, Task, Job, height}
-use Rattle.b67_model.specs.InOrder.{Known, known_of, known_numbers, identities, from_frame, frames_of_task, critical_of, base, outer_reach, outer_of, reach_of, IsSegment, IsEntered, NamesEntered, ParentInOrder, BirthInOrder, TaskInOrder, frames_named}
-use Rattle.b67_order.proofs.Members.{has_append_right, has_append_cases, has_map_back, has_map, all_in, keyed_has, falls_low, total_has}
+use Rattle.b67_model.specs.State.{Frame, Standing, Task, height}
+use Rattle.b67_model.specs.InOrder.{Known, known_of, known_numbers, identities, from_frame, frames_of_task, critical_of, base, outer_reach, outer_of, reach_of, NamesEntered, ParentInOrder, BirthInOrder, frames_named}
+use Rattle.b67_order.proofs.Members.{has_append_right, has_append_cases, has_map, keyed_has, falls_low, total_has}
 use Rattle.b67_order.proofs.Replaced.{numbers_append}
 use Rattle.b67_stack.specs.Stacks.{Spot}
-use Rattle.b67_layout.specs.Plan.{Plan, slot_of, spot_in, outer_spots, spots}
+use Rattle.b67_layout.specs.Plan.{slot_of, spot_in, outer_spots, spots}
 use Rattle.b67_refer.specs.Scene.{Scene}
 use Rattle.b67_refer.proofs.Seats.{order_of, has_task}
-use Rattle.b67_storing.proofs.Frames.{frames_under, frame_found}
+use Rattle.b67_storing.proofs.Frames.{frames_under}
 
 identity_has : (fs : List Frame) (id : ℕ) (s : Standing) → Has (map known_of fs) (id, s) → Has (identities fs) id
 identity_has [] id s h = absurd h

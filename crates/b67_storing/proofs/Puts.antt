@@ -1,8 +1,8 @@
 -- A stack with another shape in one cell.
-use Rattle.std.proofs.Common.{◌≡◌, ◌≢◌, ℕ, zero, suc, ◌+◌, ◌-◌, ◌<◌, ◌≤◌, List, [], ◌∷◌, ◌++◌, map, length, not, Option, Some, None, refl, sym, ◌∙◌, ap, arith, Bool, true, false, cond, ◌==◌, ◌⊎◌, ⊎_elim, inl, inr, subst, slice_set, length-append}
+use Rattle.std.proofs.Common.{◌≡◌, ◌≢◌, ℕ, suc, ◌+◌, ◌<◌, ◌≤◌, List, [], ◌∷◌, ◌++◌, map, length, not, Option, Some, None, refl, sym, ◌∙◌, ap, arith, Bool, true, false, ◌==◌, ⊎_elim, inl, inr, subst, slice_set, length-append}
 use Rattle.std.specs.Prelude.{if◌then◌else◌}
 use Rattle.std.specs.List.{slice_get}
-use Rattle.std.proofs.lemmas.Bool.{cases_Bool, eq-eqb, ne_eqb, eqb-true, eqb-false}
+use Rattle.std.proofs.lemmas.Bool.{cases_Bool, ne_eqb, eqb-true, eqb-false}
 use Rattle.b67_word.specs.Tagged.{Tagged}
 use Rattle.b67_core.proofs.Writes.{slice_get-set_same, slice_get-set_other}
 use Rattle.b67_model.specs.Lists.{Has}
@@ -10,7 +10,7 @@ use Rattle.b67_model.specs.State.{Return}
 use Rattle.std.proofs.lemmas.List.{length-map}
 use Rattle.b67_ctl.specs.Layout.{mscw_word, rcw_word}
 use Rattle.b67_stack.specs.Shapes.{Copied, Shape, Is, Copy, Lie}
-use Rattle.b67_stack.specs.Stacks.{Spot, Head, Marked, Entered, Activation, head_size, top_size, high, mark_place, level_from, running_level, mark_of, return_of, headed, words, ReturnFits, HeadFits, HeadsFit}
+use Rattle.b67_stack.specs.Stacks.{Head, Marked, Entered, Activation, head_size, top_size, high, mark_place, level_from, running_level, mark_of, return_of, headed, words, ReturnFits, HeadFits, HeadsFit}
 use Rattle.b67_stack.proofs.Lies.{Lie-same, Lie-under}
 use Rattle.b67_stack.proofs.Heights.{words-length}
 

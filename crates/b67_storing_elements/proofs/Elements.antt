@@ -1,8 +1,8 @@
 -- The machine after a store into an element of a present array.
-use Rattle.std.proofs.Common.{◌≡◌, ◌≢◌, ℕ, zero, suc, ◌+◌, ◌-◌, ◌<◌, ◌≤◌, ◌^◌, List, [], ◌∷◌, map, length, Option, Some, None, refl, sym, ◌∙◌, ap, arith, inl, inr, ◌⊎◌, ⊎_elim, subst, slice_set}
+use Rattle.std.proofs.Common.{◌≡◌, ◌≢◌, ℕ, zero, suc, ◌+◌, ◌<◌, ◌≤◌, ◌^◌, List, [], ◌∷◌, map, length, Option, Some, None, refl, sym, ◌∙◌, ap, arith, inl, inr, ◌⊎◌, ⊎_elim, subst, slice_set}
 use Rattle.std.specs.List.{slice_get}
 use Rattle.std.proofs.Math.ListN.{length-set}
-use Rattle.std.proofs.lemmas.Bool.{cases_eq, cases_lt}
+use Rattle.std.proofs.lemmas.Bool.{cases_eq}
 use Rattle.std.proofs.lemmas.Option.{same_Some}
 use Rattle.std.proofs.lemmas.List.{length-map}
 use Rattle.b67_word.specs.Tagged.{Tagged, word}
@@ -15,8 +15,8 @@ use Rattle.b67_area.proofs.Laws.{area_inside, areas_apart}
 use Rattle.b67_area.proofs.Separation.{IsDirectory-set_area}
 use Rattle.b67_model.specs.Lists.{Has}
 use Rattle.b67_ctl.specs.declared.registers.Regs.{Regs}
-use Rattle.b67_stack.specs.Shapes.{Copied, Shape, Copy, Fits, Lie, Upward}
-use Rattle.b67_stack.specs.Stacks.{Activation, high, words}
+use Rattle.b67_stack.specs.Shapes.{Fits, Upward}
+use Rattle.b67_stack.specs.Stacks.{high, words}
 use Rattle.b67_stack.specs.Picture.{Thing, Picture, Slot, Free, Running, Waiting, stack_of, slot_base, SlotFits, CopiesName, IsArrayAt, Laid, Settled, home_word, words_of, tag_of}
 use Rattle.b67_stack.specs.Stands.{Storage, SlotStands, ThingStands, Content, Keeps, Stands, info_of}
 use Rattle.b67_stack.proofs.Bases.{base-apart}

@@ -1,4 +1,4 @@
-use Rattle.std.proofs.Common.{◌≡◌, ℕ, sym, ◌∙◌, ap, subst, refl, inl, inr, Result, Ok, Err, List, ◌∷◌, arith}
+use Rattle.std.proofs.Common.{◌≡◌, ℕ, sym, ◌∙◌, ap, subst, refl, inl, inr, Result, Ok, ◌∷◌, arith}
 use Rattle.b67_word.specs.Tagged.{Tagged, word}
 use Rattle.b67_word.specs.declared.faults.Fault.{Fault}
 use Rattle.b67_word.specs.declared.faults.Fault.TheVariants.{MemoryProtect}
@@ -14,7 +14,6 @@ use Rattle.b67_stack.specs.declared.Step.TheVariants as step
 use Rattle.b67_layout.specs.Meets.{here}
 use Rattle.b67_cells.proofs.Put.{room}
 use Rattle.b67_refer.specs.declared.ends.End.{End}
-use Rattle.b67_refer.specs.declared.ends.End.TheVariants as end
 use Rattle.b67_refer.specs.Ends.{EndMeets}
 use Rattle.b67_fetch.proofs.Values.{here_scene, here_shown, followed_stands}
 use Rattle.b67_cells.specs.Tops.{cells, GivesTwo}
