@@ -21,7 +21,7 @@ use Rattle.b67_model.specs.InOrder.{IsInOrderButPlaces}
 use Rattle.b67_stack.specs.declared.Cpu.{Cpu}
 use Rattle.b67_stack.specs.Shapes.{Shape, Fits}
 use Rattle.b67_stack.specs.Stacks.{Spot, Activation, high, top_mark}
-use Rattle.b67_stack.specs.Picture.{RunsOn, Settled}
+use Rattle.b67_stack.specs.Picture.{Thing, RunsOn, Settled}
 use Rattle.b67_stack.specs.Stands.{Storage, RunningStands, Stands}
 use Rattle.b67_stack.specs.Changes.{with_stack, with_cells, top_cells}
 use Rattle.b67_stack.proofs.Tops.{cells_above}
@@ -85,6 +85,14 @@ module _ (x : Storage) (old : Cpu) (plan : Plan) (s : Session) (m : Member) (t :
       ∙ ap (map shaped) e ∙ map-append shaped gone rest
 
   -- other cells on top, whatever the machine's words
+  pub stands_cells : (new : Cpu) (q : Place) (cs : List Word) → new.display ≡ old.display → new.critical ≡ old.critical → GoesOn old.regs new.regs q
+      → ((i : ℕ) → (slice_get new.core i ≡ slice_get old.core i) ⊎ ((old.regs.bosr < i) × (i ≤ old.regs.losr)))
+      → Stands x new.core new.regs (with_stack (picture plan s.jobs) plan.running (with_cells stack (map shaped cs))) × Settled (with_stack (picture plan s.jobs) plan.running (with_cells stack (map shaped cs)))
+      → SessionStands x new plan (with_job s m (with_task m.course.job (task_with t cs q)))
+  stands_cells new q cs display critical on changed stands =
+      let low : plan.stacks ≤ old.regs.bosr = omega (arith, registers.first) in
+      SessionStands-cells x old new plan s m t q h runs (λ i below. ⊎_elim (λ e. e) (λ o. absurd (omega (arith, o.0, below, low))) (changed i)) on display critical m.course.job.next_frame cs (fresh plan s m t ordered runs) stands.0 stands.1
+
   pub made_cells : (new : Cpu) (q : Place) (cs : List Word) → new.display ≡ old.display → new.critical ≡ old.critical → GoesOn old.regs new.regs q
       → ((i : ℕ) → (slice_get new.core i ≡ slice_get old.core i) ⊎ ((old.regs.bosr < i) × (i ≤ old.regs.losr)))
       → Stands x new.core new.regs (with_stack (picture plan s.jobs) plan.running (with_cells stack (map shaped cs))) × Settled (with_stack (picture plan s.jobs) plan.running (with_cells stack (map shaped cs)))
@@ -93,50 +101,75 @@ module _ (x : Storage) (old : Cpu) (plan : Plan) (s : Session) (m : Member) (t :
   made_cells new q cs display critical on changed stands fits =
       let job : Job = with_task m.course.job (task_with t cs q) in
       let test : nat_le (height (with_top_cells t.frames cs)) m.setting.stack_size ≡ true = grind (arith, nat_tests) in
-      let low : plan.stacks ≤ old.regs.bosr = omega (arith, registers.first) in
-      let whole = SessionStands-cells x old new plan s m t q h runs (λ i below. ⊎_elim (λ e. e) (λ o. absurd (omega (arith, o.0, below, low))) (changed i)) on display critical m.course.job.next_frame cs (fresh plan s m t ordered runs) stands.0 stands.1 in
       record {
         job = job;
         touched = None;
         is = rw test refl;
         present = tt;
-        stands = (let P : List _ → Type 0 = λ left. SessionStandsBut left x new plan (with_job s m job) in subst P (sym (no_things_gone plan m job refl)) whole);
+        stands = (let P : List Thing → Type 0 = λ left. SessionStandsBut left x new plan (with_job s m job) in subst P (sym (no_things_gone plan m job refl)) (stands_cells new q cs display critical on changed stands));
         changed = λ i. ⊎_elim (λ e. inl e) (λ o. inr (inl o)) (changed i);
       }
 
   -- fewer cells
-  pub dropped : (count : ℕ) (q : Place) (gone rest : List Word) → cells t ≡ gone ++ rest → length gone ≡ count → NoOriginals gone
-      → IsMade x plan s m old (record old { regs = record old.regs { s = old.regs.s - count; place = q } }) (leaves_cells (here m t q) rest None)
-  dropped count q gone rest e n plain =
+  Stands-dropped : (count : ℕ) (q : Place) (gone rest : List Word) → cells t ≡ gone ++ rest → length gone ≡ count → NoOriginals gone
+      → Stands x old.core (record old.regs { s = old.regs.s - count; place = q }) (with_stack (picture plan s.jobs) plan.running (with_cells stack (map shaped rest))) × Settled (with_stack (picture plan s.jobs) plan.running (with_cells stack (map shaped rest)))
+  Stands-dropped count q gone rest e n plain =
       let d = Stands-less x old.core old.regs (picture plan s.jobs) plan.running stack h.holds.memory runs_here (map shaped gone) (map shaped rest) q (tops gone rest e)
       (shapes_plain plan m.setting.number m.course.job (spot_in plan.running (outer_spots plan m.setting.number m.course.job t.critical t.parents) t.frames) gone plain) h.holds.settled in
       let P : ℕ → Type 0 = λ i. Stands x old.core (record old.regs { s = old.regs.s - i; place = q }) (with_stack (picture plan s.jobs) plan.running (with_cells stack (map shaped rest))) in
+      (subst P (length-map gone shaped ∙ n) d.0, d.1)
+
+  pub dropped_stands : (count : ℕ) (q : Place) (gone rest : List Word) → cells t ≡ gone ++ rest → length gone ≡ count → NoOriginals gone
+      → SessionStands x (record old { regs = record old.regs { s = old.regs.s - count; place = q } }) plan (with_job s m (with_task m.course.job (task_with t rest q)))
+  dropped_stands count q gone rest e n plain =
+      stands_cells (record old { regs = record old.regs { s = old.regs.s - count; place = q } }) q rest refl refl (record { slot = refl; dict = refl; entries = refl; segment = refl; place = refl }) (λ i. inl refl) (Stands-dropped count q gone rest e n plain)
+
+  pub dropped-fits : (gone rest : List Word) → cells t ≡ gone ++ rest → height (with_top_cells t.frames rest) ≤ m.setting.stack_size
+  dropped-fits gone rest e =
       let f = (running_fits x old.core old.regs (picture plan s.jobs) plan.running stack h.holds.memory runs_here).0 in
       let tall = height-with t.frames rest some_frame in
       let longer = ap length e ∙ length-append gone rest in
+      omega (arith, tall, longer, height_of, f.fits, size-is)
+
+  pub dropped : (count : ℕ) (q : Place) (gone rest : List Word) → cells t ≡ gone ++ rest → length gone ≡ count → NoOriginals gone
+      → IsMade x plan s m old (record old { regs = record old.regs { s = old.regs.s - count; place = q } }) (leaves_cells (here m t q) rest None)
+  dropped count q gone rest e n plain =
       made_cells (record old { regs = record old.regs { s = old.regs.s - count; place = q } }) q rest refl refl
       (record { slot = refl; dict = refl; entries = refl; segment = refl; place = refl }) (λ i. inl refl)
-      (subst P (length-map gone shaped ∙ n) d.0, d.1)
-      (omega (arith, tall, longer, height_of, f.fits, size-is))
+      (Stands-dropped count q gone rest e n plain) (dropped-fits gone rest e)
 
   -- a word in the place of cells
+  Stands-replaced : (count i : ℕ) (v : Tagged) (q : Place) (gone rest : List Word) (w : Word) → cells t ≡ gone ++ rest → length gone ≡ count → i ≡ old.regs.s - count + 1 → i ≤ old.regs.losr
+      → NoOriginals gone → MayStand m.course.job w → IsWordOf x plan m t w i v
+      → Stands x (slice_set old.core i v) (record old.regs { s = i; place = q }) (with_stack (picture plan s.jobs) plan.running (with_cells stack (map shaped (w ∷ rest)))) × Settled (with_stack (picture plan s.jobs) plan.running (with_cells stack (map shaped (w ∷ rest))))
+  Stands-replaced count i v q gone rest w e n at inside plain may fit =
+      let spot : ℕ → Spot = spot_in plan.running (outer_spots plan m.setting.number m.course.job t.critical t.parents) t.frames in
+      let has_m = keyed-has number_of m.setting.number s.jobs m runs.member in
+      let count-is : length (map shaped gone) ≡ count = length-map gone shaped ∙ n in
+      Stands-put x old.core old.regs (picture plan s.jobs) plan.running stack h.holds.memory runs_here (map shaped gone) (map shaped rest) (shaped w) v i q (tops gone rest e)
+      (at ∙ ap (λ (k : ℕ). old.regs.s - k + 1) (sym count-is)) inside (shapes_plain plan m.setting.number m.course.job spot gone plain) h.holds.settled (may_push plan s.jobs m spot w has_m may) (seen w i v fit)
+
+  within : (count i : ℕ) (v : Tagged) → old.regs.f + count ≤ old.regs.s → i ≡ old.regs.s - count + 1 → i ≤ old.regs.losr → (k : ℕ) → (slice_get (slice_set old.core i v) k ≡ slice_get old.core k) ⊎ ((old.regs.bosr < k) × (k ≤ old.regs.losr))
+  within count i v enough at inside k =
+      let r = room in
+      ⊎_elim (λ (z : k ≡ i). inr (omega (arith, z, at, enough, r.mark), omega (arith, z, inside))) (λ (z : k ≡ i → ⊥). inl (slice_get-set_other old.core i k v z)) (cases_eq k i)
+
+  pub replaced_stands : (count i : ℕ) (v : Tagged) (q : Place) (gone rest : List Word) (w : Word) → cells t ≡ gone ++ rest → length gone ≡ count → old.regs.f + count ≤ old.regs.s → i ≡ old.regs.s - count + 1 → i ≤ old.regs.losr
+      → NoOriginals gone → MayStand m.course.job w → IsWordOf x plan m t w i v
+      → SessionStands x (record old { core = slice_set old.core i v; regs = record old.regs { s = i; place = q } }) plan (with_job s m (with_task m.course.job (task_with t (w ∷ rest) q)))
+  replaced_stands count i v q gone rest w e n enough at inside plain may fit =
+      stands_cells (record old { core = slice_set old.core i v; regs = record old.regs { s = i; place = q } }) q (w ∷ rest) refl refl
+      (record { slot = refl; dict = refl; entries = refl; segment = refl; place = refl }) (within count i v enough at inside) (Stands-replaced count i v q gone rest w e n at inside plain may fit)
+
   pub replaced : (count i : ℕ) (v : Tagged) (q : Place) (gone rest : List Word) (w : Word) → cells t ≡ gone ++ rest → length gone ≡ count → old.regs.f + count ≤ old.regs.s → i ≡ old.regs.s - count + 1 → i ≤ old.regs.losr
       → NoOriginals gone → MayStand m.course.job w → IsWordOf x plan m t w i v
       → IsMade x plan s m old (record old { core = slice_set old.core i v; regs = record old.regs { s = i; place = q } }) (leaves_cells (here m t q) (w ∷ rest) None)
   replaced count i v q gone rest w e n enough at inside plain may fit =
-      let spot : ℕ → Spot = spot_in plan.running (outer_spots plan m.setting.number m.course.job t.critical t.parents) t.frames in
-      let has_m = keyed-has number_of m.setting.number s.jobs m runs.member in
-      let count-is : length (map shaped gone) ≡ count = length-map gone shaped ∙ n in
-      let d = Stands-put x old.core old.regs (picture plan s.jobs) plan.running stack h.holds.memory runs_here (map shaped gone) (map shaped rest) (shaped w) v i q (tops gone rest e)
-      (at ∙ ap (λ (k : ℕ). old.regs.s - k + 1) (sym count-is)) inside (shapes_plain plan m.setting.number m.course.job spot gone plain) h.holds.settled (may_push plan s.jobs m spot w has_m may) (seen w i v fit) in
       let tall = height-with t.frames (w ∷ rest) some_frame in
       let longer = ap length e ∙ length-append gone rest in
       let g = registers in
-      let r = room in
       made_cells (record old { core = slice_set old.core i v; regs = record old.regs { s = i; place = q } }) q (w ∷ rest) refl refl
-      (record { slot = refl; dict = refl; entries = refl; segment = refl; place = refl })
-      (λ k. ⊎_elim (λ (z : k ≡ i). inr (omega (arith, z, at, enough, r.mark), omega (arith, z, inside))) (λ (z : k ≡ i → ⊥). inl (slice_get-set_other old.core i k v z)) (cases_eq k i))
-      d
+      (record { slot = refl; dict = refl; entries = refl; segment = refl; place = refl }) (within count i v enough at inside) (Stands-replaced count i v q gone rest w e n at inside plain may fit)
       (omega (arith, tall, longer, n, height_of, size-is, g.last, g.top, at, inside, enough))
 
   -- such a word fits where its place lies in the slot

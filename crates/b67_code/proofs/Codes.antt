@@ -34,7 +34,7 @@ get_within [] i low = absurd (omega (arith, low))
 get_within (x ∷ xs) zero low = (x, refl)
 get_within (x ∷ xs) (suc i) low = get_within xs i (omega (arith, low))
 
-code_thing : (plan : Plan) (j n : ℕ) (ss : List Segment) (i at : ℕ) (g : Segment) → slice_get ss i ≡ Some g → at ≡ plan.dictionary j + 1 + (n + i) → Has (code_things plan j n ss) (record { home = at; kind = kind.Code; numbers = g.code })
+pub code_thing : (plan : Plan) (j n : ℕ) (ss : List Segment) (i at : ℕ) (g : Segment) → slice_get ss i ≡ Some g → at ≡ plan.dictionary j + 1 + (n + i) → Has (code_things plan j n ss) (record { home = at; kind = kind.Code; numbers = g.code })
 code_thing plan j n [] i at g e is = absurd (none-some g e)
 code_thing plan j n (s ∷ ss) zero at g e is =
     let T : Segment → Thing = λ z. record { home = plan.dictionary j + 1 + n; kind = kind.Code; numbers = z.code } in

@@ -12,7 +12,7 @@ use b67_syllable::decode;
 use b67_word::Place;
 
 /// The descriptor of the running segment.
-fn descriptor(cpu: &Cpu) -> SegDesc
+pub fn descriptor(cpu: &Cpu) -> SegDesc
     requires { RunsSome cpu.now }
     ensures { ForEach cpu.now (λ x plan s m t. result ≡ code_desc x plan m t) }
 {

@@ -51,7 +51,7 @@ module _ (x : Storage) (cpu : Cpu) (plan : Plan) (s : Session) (m : Member) (t :
   held : Held
   held = x.held (plan.home m.setting.number n)
 
-  array_is : array m.course.job n ≡ e.item
+  pub array_is : array m.course.job n ≡ e.item
   array_is =
       let o = (running_in_order plan s m t ordered runs).0 in
       let found : keyed (λ (a : Array). a.identity) n m.course.job.arrays ≡ Some e.item =
@@ -95,7 +95,7 @@ module _ (x : Storage) (cpu : Cpu) (plan : Plan) (s : Session) (m : Member) (t :
   chain-small : (x.held (plan.home m.setting.number n)).chain < 2 ^ 20
   chain-small = subst (λ i. (x.held i).chain < 2 ^ 20) home-is (chain_small x cpu.core thing (x.held thing.home).area (x.held thing.home).chain stands.content)
 
-  long : length (array m.course.job n).numbers < 2 ^ 16
+  pub long : length (array m.course.job n).numbers < 2 ^ 16
   long = let l = (h.holds.memory.slots.laid.lengths thing there).1 in let k : length e.item.numbers ≡ length (array m.course.job n).numbers = ap (λ (z : Array). length z.numbers) (sym array_is) in omega (arith, l, k)
 
   address-small : (o : Option ℕ) (f : ℕ) → ((at : ℕ) → o ≡ Some at → at < 2 ^ 20) → f < 2 ^ 20 → address_or o f < 2 ^ 20
@@ -123,7 +123,7 @@ module _ (x : Storage) (cpu : Cpu) (plan : Plan) (s : Session) (m : Member) (t :
   pub present : (d : DataDesc) → d ≡ original_desc x plan m n → d.present ≡ true → area_held x plan m.setting.number n ≡ Some d.address
   present d is on = an_area (area_held x plan m.setting.number n) (x.held (plan.home m.setting.number n)).chain (ap (λ (z : DataDesc). z.present) (sym is) ∙ on) ∙ ap (λ (z : DataDesc). Some z.address) (sym is)
 
-  inside : index < length (array m.course.job n).numbers
+  pub inside : index < length (array m.course.job n).numbers
   inside = let k : length e.item.numbers ≡ length (array m.course.job n).numbers = ap (λ (z : Array). length z.numbers) (sym array_is) in omega (arith, e.inside, k)
 
   -- an element lies in core

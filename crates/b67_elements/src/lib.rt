@@ -12,7 +12,7 @@ use b67_stack::Cpu;
 use b67_word::Word;
 
 /// The descriptor in the original of an array of the running job.
-fn descriptor(cpu: &Cpu, original: u32) -> DataDesc
+pub fn descriptor(cpu: &Cpu, original: u32) -> DataDesc
     requires { (index : ℕ) × HoldsElement cpu.now original index }
     ensures { ForEach cpu.now (λ x plan s m t. (n index : ℕ) → original ≡ plan.home m.setting.number n → HasElement m.course.job n index → result ≡ original_desc x plan m n) }
 {

@@ -1,11 +1,13 @@
 -- Words that lead to a procedure.
-use Rattle.std.specs.Prelude.{◌≡◌, ℕ, Ok}
+use Rattle.std.specs.Prelude.{◌≡◌, ℕ, true, Ok}
 use Rattle.b67_word.specs.Tagged.{Tagged}
 use Rattle.b67_word.specs.declared.couples.Place.{Place}
 use Rattle.b67_model.specs.Words.{Word}
 use Rattle.b67_model.specs.Chase.{AtProc, follow}
 use Rattle.b67_stack.specs.declared.Cpu.{Cpu}
-use Rattle.b67_layout.specs.Meets.{here}
+use Rattle.b67_layout.specs.Meets.{here, RunsSome}
+use Rattle.b67_cells.specs.Tops.{cells}
+use Rattle.b67_fetch.specs.Fetches.{enters_at, top_end}
 use Rattle.b67_refer.specs.Scene.{Scene, IsShown}
 use Rattle.b67_refer.specs.Cells.{StandsFor}
 
@@ -17,3 +19,9 @@ pub record Leads (cpu : Cpu) (a : Scene cpu.core cpu.regs) (q : Place) (w : Tagg
   pub word : Word
   pub stands : StandsFor a at owner w word
   pub ends : follow (here a.member a.task q) word ≡ Ok (AtProc f segment level place)
+
+-- a running task's top cell leads to a procedure
+pub record EntersTop (cpu : Cpu) : Type 0 where
+  pub runs : RunsSome cpu
+  pub place : Place
+  pub enters : enters_at (top_end (here runs.member runs.task place) (cells runs.task)) ≡ true

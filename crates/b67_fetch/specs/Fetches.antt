@@ -3,12 +3,12 @@ use Rattle.std.specs.Prelude.{◌≡◌, ℕ, Bool, true, false, List, [], ◌�
 use Rattle.b67_word.specs.Tagged.{Tagged, word}
 use Rattle.b67_word.specs.declared.faults.Fault.{Fault}
 use Rattle.b67_word.specs.declared.faults.Fault.TheVariants.{StackUnderflow, InvalidOperand}
-use Rattle.b67_model.specs.Answers.{Answer}
-use Rattle.b67_model.specs.Arrays.{element}
+use Rattle.b67_model.specs.Answers.{Answer, ◌>>=◌}
+use Rattle.b67_model.specs.Arrays.{element, in_order}
 use Rattle.b67_model.specs.Chase as Chase
 use Rattle.b67_model.specs.Chase.{AtCell, AtElement, AtArray, AtProc, AtIntrinsic, follow}
 use Rattle.b67_model.specs.InOrder.{IsSegment, WordInOrder, reach_of}
-use Rattle.b67_model.specs.Words.{Word, Operand}
+use Rattle.b67_model.specs.Words.{Word, Operand, operand}
 use Rattle.b67_model.specs.Schedule.{Session}
 use Rattle.b67_model.specs.State.{Task, Member, Here}
 use Rattle.b67_model.specs.Steps.{Done, leaves_cells}
@@ -84,3 +84,12 @@ EntersOrMeets x plan s m answered old new false answer = Meets x plan s m answer
 abbrev pub top_end : Here → List Word → Answer Chase.End
 top_end h [] = Err StackUnderflow
 top_end h (w ∷ rest) = follow h w
+
+-- the end of the reference among the two top cells, where the other one is an operand
+abbrev pub store_end : Here → List Word → Answer Chase.End
+store_end h [] = Err StackUnderflow
+store_end h (b ∷ []) = Err StackUnderflow
+store_end h (b ∷ a ∷ rest) = do
+  let two = in_order b a
+  bits ← operand two.1
+  follow h two.0

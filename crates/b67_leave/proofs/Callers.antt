@@ -1,18 +1,13 @@
 -- The return word of an entered record on top, and the registers that it gives.
-use Rattle.std.proofs.Common.{◌≡◌, ◌≢◌, ℕ, suc, ◌+◌, ◌-◌, ◌<◌, ◌≤◌, ◌^◌, List, [], ◌∷◌, length, Some, refl, sym, ◌∙◌, ap, arith, subst}
+use Rattle.std.proofs.Common.{◌≡◌, ℕ, suc, ◌+◌, ◌-◌, ◌∷◌, length, Some, ◌∙◌, ap, arith, subst}
 use Rattle.std.specs.List.{slice_get}
-use Rattle.b67_word.specs.Tagged.{Tagged}
-use Rattle.b67_word.specs.declared.couples.Place.{Place}
 use Rattle.b67_ctl.specs.declared.registers.Regs.{Regs}
-use Rattle.b67_ctl.specs.declared.marks.Mscw.{Mscw}
 use Rattle.b67_ctl.specs.declared.marks.Rcw.{Rcw}
 use Rattle.b67_ctl.specs.Layout.{rcw_word, IsRcw}
-use Rattle.b67_model.specs.State.{Return}
 use Rattle.b67_stack.specs.declared.Cpu.{Cpu}
 use Rattle.b67_stack.specs.Shapes.{Fits, Lie}
-use Rattle.b67_stack.specs.Stacks.{Spot, Head, Entered, Activation, HeadFits, high, mark_place, running_level, top_mark, return_of, headed, words}
-use Rattle.b67_stack.specs.Picture.{Picture, RunsOn, slot_base}
-use Rattle.b67_stack.specs.Stands.{Storage, Stands}
+use Rattle.b67_stack.specs.Stacks.{Head, Entered, HeadFits, high, mark_place, top_mark, return_of, headed, words}
+use Rattle.b67_stack.specs.Picture.{slot_base}
 use Rattle.b67_stack.proofs.Heights.{words-length}
 use Rattle.b67_stack.proofs.Lies.{Lie-under}
 use Rattle.b67_stack.proofs.Slots.{running_slot, running_fits, running_lies}

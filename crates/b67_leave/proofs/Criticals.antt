@@ -1,8 +1,8 @@
 -- The displacement of the topmost critical mark tells whether the top frame is critical.
-use Rattle.std.proofs.Common.{◌≡◌, ◌≢◌, ℕ, suc, ◌+◌, ◌-◌, ◌<◌, ◌≤◌, List, [], ◌∷◌, Some, refl, sym, ◌∙◌, ap, arith, Bool, true, false, eqb, get_or, subst}
-use Rattle.std.specs.Prelude.{if◌then◌else◌, ◌==◌}
+use Rattle.std.proofs.Common.{◌≡◌, ◌≢◌, ℕ, suc, ◌+◌, ◌-◌, ◌<◌, ◌≤◌, List, [], ◌∷◌, Some, refl, sym, ◌∙◌, ap, arith, Bool, true, false, eqb, get_or}
+use Rattle.std.specs.Prelude.{if◌then◌else◌}
 use Rattle.std.specs.List.{slice_get}
-use Rattle.std.proofs.lemmas.Bool.{cases_Bool, eq-eqb, ne_eqb}
+use Rattle.std.proofs.lemmas.Bool.{eq-eqb, ne_eqb}
 use Rattle.std.proofs.lemmas.Option.{get_or_from_slice_get}
 use Rattle.b67_model.specs.State.{Frame, Standing, Marked, Entered, Task, Job, Member, head_words, words_of, height, top}
 use Rattle.b67_model.specs.Run.{number_of}
@@ -11,17 +11,16 @@ use Rattle.b67_model.specs.Schedule.{Session}
 use Rattle.b67_model.specs.InOrder.{IsInOrderButPlaces}
 use Rattle.b67_stack.specs.declared.Cpu.{Cpu}
 use Rattle.b67_stack.specs.Stacks.{high, mark_place}
-use Rattle.b67_stack.specs.Picture.{RunsOn}
 use Rattle.b67_stack.specs.Stands.{Storage, RunningStands}
 use Rattle.b67_stack.proofs.Slots.{running_slot}
-use Rattle.b67_layout.specs.Plan.{Plan, slot_of, outer_spots}
+use Rattle.b67_layout.specs.Plan.{Plan, outer_spots}
 use Rattle.b67_layout.specs.Layout.{activations, stack_of_task, picture}
 use Rattle.b67_layout.specs.Session.{IsRunning, SessionStands, critical_mark}
 use Rattle.b67_layout.proofs.Frames.{height-is}
 use Rattle.b67_layout.proofs.Others.{keyed-has}
 use Rattle.b67_layout.proofs.Fresh.{running_in_order}
 use Rattle.b67_layout.proofs.Rows.{slot_below}
-use Rattle.b67_layout.proofs.Starts.{slot_is, runs_here}
+use Rattle.b67_layout.proofs.Starts.{runs_here}
 
 some_words : (s : Standing) → 1 ≤ head_words s
 some_words Marked = omega arith

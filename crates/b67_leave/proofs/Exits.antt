@@ -1,16 +1,11 @@
 -- What EXIT answers by the case of the top frame.
-use Rattle.std.proofs.Common.{◌≡◌, ◌≢◌, ℕ, ◌+◌, ◌<◌, ◌≤◌, List, [], ◌∷◌, ◌++◌, map, Option, Some, None, Ok, Err, refl, sym, ◌∙◌, ap, arith, Bool, true, false, not, inl, inr, ◌⊎◌, subst}
-use Rattle.std.specs.List.{slice_get}
-use Rattle.std.proofs.lemmas.Bool.{le-leb, true≢false}
+use Rattle.std.proofs.Common.{◌≡◌, ℕ, ◌≤◌, List, [], ◌∷◌, Option, Some, None, Ok, Err, refl, ◌∙◌, ap, Bool, true, false}
+use Rattle.std.proofs.lemmas.Bool.{le-leb}
 use Rattle.b67_word.specs.declared.couples.Place.{Place}
-use Rattle.b67_word.specs.declared.faults.Fault.{Fault}
-use Rattle.b67_word.specs.declared.faults.Fault.TheVariants.{MarkPending, CriticalBlock, StackOverflow}
-use Rattle.b67_ctl.specs.declared.registers.Regs.{Regs}
-use Rattle.b67_model.specs.Answers.{Answer, ◌>>◌, needs}
+use Rattle.b67_word.specs.declared.faults.Fault.TheVariants.{MarkPending, CriticalBlock}
+use Rattle.b67_model.specs.Answers.{Answer}
 use Rattle.b67_model.specs.State as State
 use Rattle.b67_model.specs.State.{Standing, Return, Frame, Condition, Task, Job, Here, Member, height, top, with_task}
-use Rattle.b67_model.specs.Environment.{level_of_frame, running}
-use Rattle.b67_model.specs.Keyed.{keyed, change_keyed}
 use Rattle.b67_model.specs.Steps.{Done, Goes, Leaves, top_of, result, is_critical, without_arrays_of}
 use Rattle.b67_model.specs.Entry.{left, leaves, exit}
 use Rattle.b67_order.proofs.Members.{change_twice}

@@ -1,40 +1,34 @@
 -- The machine with the caller's registers stands for the session without the top frame.
-use Rattle.std.proofs.Common.{◌≡◌, ◌≢◌, ℕ, ◌+◌, ◌<◌, ◌≤◌, List, [], ◌∷◌, map, Option, Some, None, Ok, refl, sym, ◌∙◌, ap, arith, Bool, true, false, inl, inr, ◌⊎◌, subst}
-use Rattle.std.specs.List.{slice_get}
-use Rattle.b67_word.specs.Tagged.{Tagged}
+use Rattle.std.proofs.Common.{◌≡◌, ◌≢◌, ℕ, ◌+◌, ◌≤◌, List, [], ◌∷◌, map, None, refl, sym, ◌∙◌, ap, arith, inl, subst}
 use Rattle.b67_word.specs.declared.couples.Place.{Place}
 use Rattle.b67_ctl.specs.declared.registers.Regs.{Regs}
-use Rattle.b67_model.specs.State as State
-use Rattle.b67_model.specs.State.{Standing, Return, Frame, Condition, Ready, Task, Job, Member, height, top, with_task}
-use Rattle.b67_model.specs.Environment.{level_of_frame, running}
+use Rattle.b67_model.specs.State.{Frame, Condition, Ready, Task, Job, Member, height, top, with_task}
 use Rattle.b67_model.specs.Entry.{exit}
 use Rattle.b67_model.specs.Run.{number_of}
 use Rattle.b67_model.specs.Steps.{is_critical, without_arrays_of}
 use Rattle.b67_model.specs.Schedule.{Session}
-use Rattle.b67_model.specs.InOrder.{IsSegment, IsInOrderButPlaces}
+use Rattle.b67_model.specs.InOrder.{IsInOrderButPlaces}
 use Rattle.b67_stack.specs.declared.Cpu.{Cpu}
-use Rattle.b67_stack.specs.Shapes.{Shape}
-use Rattle.b67_stack.specs.Stacks.{Spot, Head, Entered, Activation, high}
-use Rattle.b67_stack.specs.Picture.{Picture, RunsOn}
+use Rattle.b67_stack.specs.Stacks.{Spot, Activation, high}
+use Rattle.b67_stack.specs.Picture.{RunsOn}
 use Rattle.b67_stack.specs.Stands.{Storage, Stands}
 use Rattle.b67_stack.specs.Changes.{with_stack}
 use Rattle.b67_stack.proofs.Pushes.{Stands-cut}
 use Rattle.b67_layout.specs.Plan.{Plan, spot_in, outer_spots}
-use Rattle.b67_layout.specs.Layout.{shape, head, activations, stack_of_task, picture}
+use Rattle.b67_layout.specs.Layout.{shape, head, activations, picture}
 use Rattle.b67_layout.specs.Session.{TaskStands, IsRunning, Shows, SessionStands, SessionHoldsBut}
 use Rattle.b67_layout.specs.Meets.{things_gone, with_job, IsMade, here}
 use Rattle.b67_layout.proofs.Others.{keyed-has}
-use Rattle.b67_layout.proofs.Steps.{IsFree}
 use Rattle.b67_layout.proofs.Fresh.{fresh, running_in_order}
 use Rattle.b67_layout.proofs.Starts.{slot_is, runs_here}
-use Rattle.b67_refer.specs.Scene.{Scene, MemberInOrder, IsShown}
+use Rattle.b67_refer.specs.Scene.{Scene, IsShown}
 use Rattle.b67_refer.proofs.Scenes.{member_in_order}
 use Rattle.b67_entering.proofs.Conditions.{Shows-condition}
 use Rattle.b67_leaving.proofs.Nowhere.{activations-same}
-use Rattle.b67_leaving.proofs.Leaves.{Leaver, task_at, may_leave, below-same, Frames-below, new_member, new_task, runs_after, holds_after, for_running_after}
+use Rattle.b67_leaving.proofs.Leaves.{Leaver, task_at, may_leave, below-same, Frames-below, runs_after, holds_after, for_running_after}
 use Rattle.b67_leaving.proofs.Orders.{left_ready}
 use Rattle.b67_leave.specs.Left.{MayReturn, caller_regs, Returns}
-use Rattle.b67_leave.proofs.Exits.{job_left, exit_left}
+use Rattle.b67_leave.proofs.Exits.{exit_left}
 
 pub some_first : {A : Type 0} (x : A) (xs : List A) → x ∷ xs ≢ []
 some_first x xs e = cc

@@ -1,11 +1,6 @@
-pub mod CopyRefusals
-pub mod Refusals
-pub mod Retns
-pub mod Replacing
-pub mod Returning
-pub mod Sorted
-pub mod Leaving
-pub mod Exits
-pub mod Criticals
 pub mod Callers
+pub mod Criticals
+pub mod Exits
+pub mod Leaving
+pub mod Sorted
 pub mod Tops

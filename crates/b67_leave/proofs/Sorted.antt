@@ -1,11 +1,11 @@
 -- What the mark at F tells of the running task's top frame.
-use Rattle.std.proofs.Common.{◌≡◌, ◌≢◌, ℕ, List, [], ◌∷◌, Option, Some, None, refl, sym, ◌∙◌, ap, Bool, true, false, subst}
+use Rattle.std.proofs.Common.{◌≡◌, ◌≢◌, ℕ, List, [], ◌∷◌, Option, Some, None, sym, ◌∙◌, ap, true, false}
 use Rattle.std.proofs.lemmas.Bool.{true≢false}
 use Rattle.b67_ctl.specs.declared.marks.Mscw.{Mscw}
 use Rattle.b67_model.specs.State as State
 use Rattle.b67_model.specs.State.{Frame, Return, Task, Member, top}
 use Rattle.b67_model.specs.Steps.{is_critical}
-use Rattle.b67_stack.specs.Stacks.{Spot, Activation, top_mark}
+use Rattle.b67_stack.specs.Stacks.{Spot, top_mark}
 use Rattle.b67_layout.specs.Plan.{Plan}
 use Rattle.b67_layout.specs.Layout.{activations}
 use Rattle.b67_model.specs.InOrder.{IsSegment, TaskInOrder}

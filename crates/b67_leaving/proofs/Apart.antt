@@ -1,9 +1,7 @@
 -- The spot of a task's top frame is that of no other frame that the task names, and spots fit their fields.
-use Rattle.std.proofs.Common.{◌≡◌, ◌≢◌, ℕ, ◌+◌, ◌<◌, ◌≤◌, ◌^◌, List, [], ◌∷◌, map, find, length, Option, Some, None, refl, sym, ◌∙◌, ap, arith, Bool, true, false, inl, inr, subst, unwrap_or}
-use Rattle.std.specs.Prelude.{if◌then◌else◌, ◌==◌, option_map}
-use Rattle.std.proofs.lemmas.Bool.{cases_eq}
+use Rattle.std.proofs.Common.{◌≡◌, ◌≢◌, ℕ, ◌+◌, ◌<◌, ◌≤◌, ◌^◌, List, [], ◌∷◌, find, Option, Some, None, refl, sym, ◌∙◌, ap, arith, true, false, inl, inr, subst, unwrap_or}
+use Rattle.std.specs.Prelude.{option_map}
 use Rattle.std.proofs.lemmas.Bool.Decides.{eqb_tells}
-use Rattle.std.proofs.lemmas.Option.{same_Some}
 use Rattle.b67_model.specs.Lists.{Has}
 use Rattle.b67_model.specs.State.{Frame, Standing, Marked, Entered, Task, Setting, Job, Member, head_words, height}
 use Rattle.b67_model.specs.Keyed.{keyed}

@@ -1,5 +1,5 @@
 -- A task is replaced by one of whose frames others see the same: what the machine stands for beside the picture.
-use Rattle.std.proofs.Common.{◌≡◌, ℕ, ◌+◌, ◌<◌, ◌≤◌, List, [], ◌∷◌, length, Some, refl, sym, ◌∙◌, ap, arith, Bool, true, false, ⊎_elim, inl, inr, ◌⊎◌, subst}
+use Rattle.std.proofs.Common.{◌≡◌, ℕ, ◌+◌, ◌<◌, ◌≤◌, List, [], ◌∷◌, length, Some, refl, sym, ◌∙◌, ap, arith, Bool, true, false, ⊎_elim, subst}
 use Rattle.std.specs.Prelude.{if◌then◌else◌, ◌||◌, ◌==◌}
 use Rattle.std.specs.List.{slice_get, list_any}
 use Rattle.std.proofs.lemmas.Option.{same_Some}
@@ -16,7 +16,7 @@ use Rattle.b67_stack.specs.Picture.{Thing, Settled}
 use Rattle.b67_stack.specs.Stands.{Storage, Stands}
 use Rattle.b67_layout.specs.Plan.{Plan, Slotted, slot_of}
 use Rattle.b67_layout.specs.Layout.{picture}
-use Rattle.b67_layout.specs.Session.{RowsFit, DictionariesFollow, RowHomes, PlanFits, DictionaryStands, vector_word, critical_mark, TaskStands, IsRunning, with_things, SessionHolds, SessionHoldsBut}
+use Rattle.b67_layout.specs.Session.{RowsFit, DictionariesFollow, RowHomes, PlanFits, DictionaryStands, vector_word, critical_mark, TaskStands, IsRunning, with_things, SessionHoldsBut}
 use Rattle.b67_layout.proofs.Others.{keyed-has}
 use Rattle.b67_layout.proofs.Pictures.{with_course, member-same}
 use Rattle.b67_layout.proofs.Rows.{slot_below}
@@ -48,8 +48,8 @@ follow-course plan at j c (m ∷ more) d = ⊎_elim
     (λ (q : (number_of m == j) ≡ false). rw q (d.0, follow-course plan (at + (2 + length m.setting.dictionary.cells)) j c more d.1))
     (cases_Bool (number_of m == j))
 
-module _ (left : List Thing) (x : Storage) (core new : List Tagged) (r r' : Regs) (marks : List ℕ) (plan : Plan) (s : Session) (m : Member) (c : Course) (t t' : Task)
-    (h : SessionHolds x core r marks plan s) (runs : IsRunning plan s.jobs m t) (by : Replaces m.course.job c.job t t') where
+module _ (before left : List Thing) (x : Storage) (core new : List Tagged) (r r' : Regs) (marks : List ℕ) (plan : Plan) (s : Session) (m : Member) (c : Course) (t t' : Task)
+    (h : SessionHoldsBut before x core r marks plan s) (runs : IsRunning plan s.jobs m t) (by : Replaces m.course.job c.job t t') where
   abbrev pub moved : Member
   moved = record m { course = c }
 

@@ -1,17 +1,17 @@
 -- The running task leaves its top frame: the machine stands for the session afterwards, where the memory does.
-use Rattle.std.proofs.Common.{◌≡◌, ◌≢◌, ℕ, ◌+◌, ◌<◌, ◌≤◌, List, [], ◌∷◌, map, Some, refl, sym, ◌∙◌, ap, arith, Bool, true, false, inl, inr, subst}
-use Rattle.std.specs.Prelude.{if◌then◌else◌, ◌==◌}
+use Rattle.std.proofs.Common.{◌≡◌, ◌≢◌, ℕ, ◌<◌, ◌≤◌, List, [], ◌∷◌, map, refl, sym, ◌∙◌, ap, arith, Bool, false, inl, inr, subst}
+use Rattle.std.specs.Prelude.{if◌then◌else◌}
 use Rattle.std.specs.List.{slice_get}
 use Rattle.std.proofs.lemmas.Bool.Decides.{eqb_tells}
 use Rattle.b67_word.specs.Tagged.{Tagged}
 use Rattle.b67_word.specs.declared.couples.Place.{Place}
 use Rattle.b67_ctl.specs.declared.registers.Regs.{Regs}
-use Rattle.b67_model.specs.Lists.{Has, Falls}
+use Rattle.b67_model.specs.Lists.{Falls}
 use Rattle.b67_model.specs.State.{Frame, Array, Condition, Task, Job, Course, Member, height}
-use Rattle.b67_model.specs.Keyed.{keyed, change_keyed}
+use Rattle.b67_model.specs.Keyed.{change_keyed}
 use Rattle.b67_model.specs.Steps.{is_critical}
 use Rattle.b67_model.specs.Schedule.{Session}
-use Rattle.b67_model.specs.InOrder.{IsSegment, from_frame, FramesInOrder, outer_of, frames_named, known_of, TaskInOrder, JobInOrder, IsInOrderButPlaces}
+use Rattle.b67_model.specs.InOrder.{IsSegment, from_frame, FramesInOrder, outer_of, TaskInOrder, JobInOrder, IsInOrderButPlaces}
 use Rattle.b67_order.proofs.Members.{all_in}
 use Rattle.b67_stack.specs.Stacks.{Spot, Activation, high}
 use Rattle.b67_stack.specs.Stands.{Storage, Stands}
@@ -25,10 +25,9 @@ use Rattle.b67_layout.proofs.Fresh.{running_in_order}
 use Rattle.b67_layout.proofs.Pictures.{member-same}
 use Rattle.b67_layout.proofs.Rows.{row_of}
 use Rattle.b67_leaving.proofs.Things.{others}
-use Rattle.b67_leaving.proofs.Nowhere.{MayLeave, high as identity_high, uncritical, under as once_only, elsewhere, not_in_reach, SameArrays, frames_stay, activations-same}
+use Rattle.b67_leaving.proofs.Nowhere.{MayLeave, high as identity_high, uncritical, under as once_only, elsewhere, not_in_reach, SameArrays, frames_stay}
 use Rattle.b67_leaving.proofs.Slots.{IsDependedOn, Replaces, OthersSame, task-same, stack-after, memory-after}
 use Rattle.b67_leaving.proofs.Holds.{SessionHoldsBut-after, for_running}
-use Rattle.b67_leaving.proofs.Settles.{under}
 use Rattle.b67_leaving.proofs.Settled.{settled-after}
 
 -- the running task may leave its top frame
@@ -118,7 +117,7 @@ module _ (plan : Plan) (s : Session) (m : Member) (t : Task) (f : Frame) (below 
     -- and what is shown of it, is shown of each running task
     pub for_running_after : (x : Storage) (core core' : List Tagged) (r r' : Regs) (marks : List ℕ) → SessionHolds x core r marks plan s
         → (P : Member → Task → Type 0) → P new_member new_task → (y : Member) (u : Task) → IsRunning plan (with_job s m new).jobs y u → P y u
-    for_running_after x core core' r r' marks h = for_running (things_gone plan m new) x core core' r r' marks plan s m new_course t new_task h may.running replaces
+    for_running_after x core core' r r' marks h = for_running [] (things_gone plan m new) x core core' r r' marks plan s m new_course t new_task h may.running replaces
 
     -- the whole session, all but the display
     pub holds_after : (x : Storage) (core core' : List Tagged) (r r' : Regs) (marks : List ℕ) → SessionHolds x core r marks plan s
@@ -136,4 +135,4 @@ module _ (plan : Plan) (s : Session) (m : Member) (t : Task) (f : Frame) (below 
         (subst (λ (S : List Activation). Stands x core' r' (with_stack (picture plan s.jobs) plan.running S)) (sym is) stands) in
         let settled = settled-after x core r marks plan s m t f below may.ordered h may.running may.frames new_course new_task replaces row (others-same new arrays) m.course.job.next_array names_fall arrays
         (subst (λ (S : List Activation). high (activations plan m.setting.number m.course.job plan.running outer below) ≤ high S) (sym is) higher) in
-        SessionHoldsBut-after (things_gone plan m new) x core core' r r' marks plan s m new_course t new_task h may.running replaces same after.mark memory settled task
+        SessionHoldsBut-after [] (things_gone plan m new) x core core' r r' marks plan s m new_course t new_task h may.running replaces same after.mark memory settled task

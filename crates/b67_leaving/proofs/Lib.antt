@@ -1,5 +1,4 @@
 pub mod Apart
-pub mod Returned
 pub mod Orders
 pub mod Leaves
 pub mod Settled

@@ -1,19 +1,19 @@
 -- A frame that no live task depends on is in nobody's reach but its own, so nobody else names its arrays.
-use Rattle.std.proofs.Common.{◌≡◌, ◌≢◌, ℕ, ◌+◌, ◌<◌, ◌≤◌, List, [], ◌∷◌, ◌++◌, map, Option, Some, None, refl, sym, ◌∙◌, ap, arith, Bool, true, false, not, inl, inr, ◌⊎◌, subst, unwrap_or}
+use Rattle.std.proofs.Common.{◌≡◌, ◌≢◌, ℕ, ◌+◌, ◌<◌, ◌≤◌, List, [], ◌∷◌, ◌++◌, map, Option, Some, None, refl, sym, ◌∙◌, ap, arith, true, false, not, inl, inr, subst, unwrap_or}
 use Rattle.std.specs.Prelude.{◌==◌}
 use Rattle.std.specs.List.{AllByRecursion}
 use Rattle.std.proofs.lemmas.Bool.{true≢false}
 use Rattle.std.proofs.lemmas.Bool.Decides.{eqb_tells}
 use Rattle.std.proofs.lemmas.Option.{same_Some}
-use Rattle.b67_model.specs.Lists.{Has, Falls, total}
+use Rattle.b67_model.specs.Lists.{Has, Falls}
 use Rattle.b67_model.specs.Words as Words
 use Rattle.b67_model.specs.Words.{Word, Operand, Name, Ref, Row, Element, Original, Proc, Intrinsic}
 use Rattle.b67_model.specs.State.{Frame, Array, Task, Setting, Job}
 use Rattle.b67_model.specs.Keyed.{keyed, change_keyed}
 use Rattle.b67_model.specs.Arrays.{array, no_array}
 use Rattle.b67_model.specs.Steps.{is_critical}
-use Rattle.b67_model.specs.InOrder.{Starts, Known, known_of, from_frame, frames_of_task, critical_of, outer_reach, known_numbers, NamesArray, WordInOrder, FramesInOrder, frames_named, frames_in_job, IsSegment, TasksInOrder}
-use Rattle.b67_order.proofs.Members.{has_append_left, has_append_right, has_append_cases, has_map, has_filter_in, keyed_has, keyed_falls, falls_filter, total_has, total_change, any_none}
+use Rattle.b67_model.specs.InOrder.{Starts, Known, known_of, from_frame, frames_of_task, critical_of, outer_reach, known_numbers, NamesArray, WordInOrder, FramesInOrder, frames_named, IsSegment, TasksInOrder}
+use Rattle.b67_order.proofs.Members.{has_append_cases, has_map, has_filter_in, keyed_has, keyed_falls, falls_filter, total_has, total_change, any_none}
 use Rattle.b67_order.proofs.Replaced.{numbers_append, has_counts}
 use Rattle.b67_order.proofs.Looks.{above_one}
 use Rattle.b67_stack.specs.Shapes.{Shape}

@@ -1,17 +1,16 @@
 -- A task without its top frame, whose arrays are gone, is in order, where it is ready then.
-use Rattle.std.proofs.Common.{◌≡◌, ◌≢◌, ℕ, ◌+◌, ◌<◌, ◌≤◌, not, eqb, List, [], ◌∷◌, ◌++◌, map, filter, Some, refl, sym, ap, ◌∙◌, subst, inl, inr, arith}
+use Rattle.std.proofs.Common.{◌≡◌, ◌≢◌, ℕ, ◌+◌, ◌≤◌, not, eqb, List, [], ◌∷◌, ◌++◌, map, refl, sym, ap, ◌∙◌, subst, inl, inr, arith}
 use Rattle.std.proofs.lemmas.Bool.Decides.{eqb_tells}
 use Rattle.std.proofs.lemmas.Bool.{true≢false}
 use Rattle.b67_word.specs.declared.couples.Place.{Place}
-use Rattle.b67_model.specs.Keyed.{keyed}
 use Rattle.b67_model.specs.Lists.{Has}
 use Rattle.b67_model.specs.State.{Frame, Array, Ready, Task, Setting, Job, Here, height, with_task}
 use Rattle.b67_model.specs.Environment.{level_of_frame, running}
-use Rattle.b67_model.specs.Steps.{is_critical, without_arrays_of}
+use Rattle.b67_model.specs.Steps.{without_arrays_of}
 use Rattle.b67_model.specs.InOrder.{Starts, known_of, known_numbers, from_frame, outer_of, WordInOrder, TaskInOrder, ArrayInOrder, is_original_of, originals_in, originals_of, frames_named, TasksInOrder, IsSegment}
-use Rattle.b67_order.proofs.Members.{all_in, all_from, keyed_has, has_filter, has_filter_in, falls_low, falls_filter, none_pass}
-use Rattle.b67_order.proofs.Reaches.{alike_same, Stays}
-use Rattle.b67_order.proofs.Replaced.{Replaced, replaced}
+use Rattle.b67_order.proofs.Members.{all_in, all_from, has_filter, has_filter_in, falls_low, falls_filter, none_pass}
+use Rattle.b67_order.proofs.Reaches.{Alike, alike_same, Stays}
+use Rattle.b67_order.proofs.Replaced.{Replaced, replaced, outer_kept}
 use Rattle.b67_order.proofs.Changes.{Change, change_drop, change_arrays}
 use Rattle.b67_order_rows.proofs.Entries.{none_original}
 use Rattle.b67_order_rows.proofs.Steps.{originals}
@@ -58,14 +57,14 @@ module _ (setting : Setting) (job : Job) (t : Task) (f : Frame) (below : List Fr
       change_arrays (IsSegment setting) at job.arrays (others f.identity job.arrays) below job.next_frame c
       (λ a k at. stays_by a k (λ e. let low = falls_low f.identity (known_numbers (map known_of below ++ outer_of job t)) a.owner start.falls.1 at in omega (arith, low, e)))
 
-  pub left_ready : (segment : ℕ) (place : Place) → below ≢ [] → IsSegment setting segment (level_of_frame (running below)) place
-      → TasksInOrder (IsSegment setting) setting (with_task (without_arrays_of f.identity job) (task_at t below segment place Ready))
-  left_ready segment place some starts =
+  replaces : (segment : ℕ) (place : Place) → below ≢ [] → IsSegment setting segment (level_of_frame (running below)) place
+      → Replaced (IsSegment setting) setting job t (with_task (without_arrays_of f.identity job) (task_at t below segment place Ready)) (task_at t below segment place Ready)
+  replaces segment place some starts =
       let new : Task = task_at t below segment place Ready in
       let c = dropped some in
       let count : frames_named f.identity below + 1 ≤ frames_named f.identity t.frames = subst (λ (fs : List Frame). frames_named f.identity below + 1 ≤ frames_named f.identity fs) (sym may.top.frames) (elim (eqb_tells f.identity f.identity) [ inl e ↦ rw e.0 (omega arith) | inr e ↦ absurd (e.1 refl) ]) in
       let fewer : height below ≤ height t.frames = subst (λ (fs : List Frame). height below ≤ height fs) (sym may.top.frames) (omega arith) in
-      replaced (IsSegment setting) setting job t (with_task (without_arrays_of f.identity job) new) new may.top.order may.top.there (record {
+      record {
         number = refl;
         line = refl;
         critical = refl;
@@ -96,4 +95,15 @@ module _ (setting : Setting) (job : Job) (t : Task) (f : Frame) (below : List Fr
             omega (arith, split, none, all_in (λ (x : Array). originals_of x.identity setting job ≡ 1) job.arrays a may.top.order.once inside.0);
         names = falls_filter (λ (x : Array). x.identity) (λ (x : Array). not (eqb x.owner f.identity)) job.next_array job.arrays may.top.order.names;
         reads = may.top.order.reads;
-      })
+      }
+
+  pub left_ready : (segment : ℕ) (place : Place) → below ≢ [] → IsSegment setting segment (level_of_frame (running below)) place
+      → TasksInOrder (IsSegment setting) setting (with_task (without_arrays_of f.identity job) (task_at t below segment place Ready))
+  left_ready segment place some starts =
+      replaced (IsSegment setting) setting job t (with_task (without_arrays_of f.identity job) (task_at t below segment place Ready)) (task_at t below segment place Ready) may.top.order may.top.there (replaces segment place some starts)
+
+  -- what lies outside the task's frames is alike
+  pub left_outer : (segment : ℕ) (place : Place) → below ≢ [] → IsSegment setting segment (level_of_frame (running below)) place
+      → Alike (outer_of job t) (outer_of (with_task (without_arrays_of f.identity job) (task_at t below segment place Ready)) (task_at t below segment place Ready))
+  left_outer segment place some starts =
+      outer_kept (IsSegment setting) setting job t (with_task (without_arrays_of f.identity job) (task_at t below segment place Ready)) (task_at t below segment place Ready) may.top.order may.top.there (replaces segment place some starts)

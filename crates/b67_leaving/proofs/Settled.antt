@@ -1,24 +1,22 @@
 -- The picture after a frame was left is settled.
-use Rattle.std.proofs.Common.{◌≡◌, ◌≢◌, ℕ, ◌+◌, ◌<◌, ◌≤◌, List, [], ◌∷◌, ◌++◌, map, flat_map, Some, refl, sym, ◌∙◌, ap, arith, Bool, true, false, not, inl, inr, ◌⊎◌, subst}
+use Rattle.std.proofs.Common.{◌≡◌, ◌≢◌, ℕ, ◌+◌, ◌≤◌, List, [], ◌∷◌, map, flat_map, sym, ◌∙◌, ap, arith, not, inl, inr, ◌⊎◌, subst}
 use Rattle.std.specs.Prelude.{◌==◌}
-use Rattle.std.proofs.lemmas.Bool.{cases_eq, cases_lt, true≢false}
+use Rattle.std.proofs.lemmas.Bool.{cases_eq, true≢false}
 use Rattle.std.proofs.lemmas.Bool.Decides.{eqb_tells}
 use Rattle.std.proofs.lemmas.Option.{same_Some}
 use Rattle.b67_word.specs.Tagged.{Tagged}
 use Rattle.b67_area.specs.declared.Kind.TheVariants as kind
 use Rattle.b67_ctl.specs.declared.registers.Regs.{Regs}
 use Rattle.b67_model.specs.Lists.{Has, Falls}
-use Rattle.b67_model.specs.State.{Frame, Array, Segment, Task, Job, Course, Member}
+use Rattle.b67_model.specs.State.{Frame, Array, Segment, Task, Course, Member}
 use Rattle.b67_model.specs.Keyed.{keyed}
 use Rattle.b67_model.specs.Run.{number_of}
 use Rattle.b67_model.specs.Schedule.{Session}
 use Rattle.b67_model.specs.InOrder.{IsInOrderButPlaces}
 use Rattle.b67_order.proofs.Members.{has_append_cases, has_append_right, has_map_back, has_filter}
 use Rattle.b67_stack.specs.Stacks.{high}
-use Rattle.b67_stack.specs.Picture.{Thing, Slot, Running, stack_of, Picture, slot_base, Settled}
+use Rattle.b67_stack.specs.Picture.{Thing, Slot, Running, stack_of, slot_base, Settled}
 use Rattle.b67_stack.specs.Stands.{Storage}
-use Rattle.b67_stack.specs.Changes.{with_stack}
-use Rattle.b67_stack.proofs.Bases.{base-apart}
 use Rattle.b67_stack.proofs.Slots.{slot-same, slot-other}
 use Rattle.b67_layout.specs.Plan.{Plan}
 use Rattle.b67_layout.specs.Layout.{stack_of_task, slot_at, things_of, array_thing, code_things, picture}
@@ -27,9 +25,9 @@ use Rattle.b67_layout.specs.Meets.{things_gone}
 use Rattle.b67_layout.proofs.Others.{keyed-has}
 use Rattle.b67_layout.proofs.Pictures.{with_course, member-same, RowOf}
 use Rattle.b67_layout.proofs.Sessions.{change-has}
-use Rattle.b67_leaving.proofs.Things.{SameThings, has_flat_back, others, things-after}
+use Rattle.b67_leaving.proofs.Things.{has_flat_back, others, things-after}
 use Rattle.b67_leaving.proofs.Slots.{Replaces, OthersSame, slots-after}
-use Rattle.b67_leaving.proofs.Settles.{keyed_member, numbered_course, under, base, Low, homes_low}
+use Rattle.b67_leaving.proofs.Settles.{keyed_member, numbered_course, under, homes_low}
 
 code_kind : (plan : Plan) (j n : ℕ) (segments : List Segment) (t : Thing) → Has (code_things plan j n segments) t → t.kind ≡ kind.Code
 code_kind plan j n [] t h = absurd h

@@ -1,42 +1,38 @@
 -- Where a frame was left, no original of an array that is still there stands above the new top of the stack.
-use Rattle.std.proofs.Common.{◌≡◌, ◌≢◌, ℕ, suc, ◌+◌, ◌<◌, ◌≤◌, List, [], ◌∷◌, ◌++◌, map, flat_map, length, reverse, Some, refl, sym, ◌∙◌, ap, arith, length-append, Bool, true, false, not, inl, inr, ◌⊎◌, ⊎_elim, subst}
+use Rattle.std.proofs.Common.{◌≡◌, ◌≢◌, ℕ, suc, ◌+◌, ◌<◌, ◌≤◌, List, [], ◌∷◌, map, length, reverse, Some, refl, sym, ◌∙◌, ap, arith, length-append, Bool, true, false, inl, inr, ◌⊎◌, subst}
 use Rattle.std.specs.Prelude.{if◌then◌else◌, ◌==◌}
-use Rattle.std.specs.List.{AllByRecursion}
 use Rattle.std.proofs.lemmas.Bool.{cases_eq, cases_lt, cases_Bool, true≢false, eq-eqb}
 use Rattle.std.proofs.lemmas.Bool.Decides.{eqb_tells}
 use Rattle.std.proofs.lemmas.Option.{same_Some}
 use Rattle.std.proofs.lemmas.List.{length-reverse}
 use Rattle.b67_word.specs.Tagged.{Tagged}
-use Rattle.b67_area.specs.declared.Kind.TheVariants as kind
 use Rattle.b67_ctl.specs.declared.registers.Regs.{Regs}
-use Rattle.b67_model.specs.Lists.{Has, Falls}
+use Rattle.b67_model.specs.Lists.{Has}
 use Rattle.b67_model.specs.Words.{Original}
-use Rattle.b67_model.specs.State.{Frame, Array, Segment, Task, Job, Course, Member}
-use Rattle.b67_model.specs.Keyed.{keyed, change_keyed}
+use Rattle.b67_model.specs.State.{Frame, Array, Task, Job, Course, Member}
+use Rattle.b67_model.specs.Keyed.{keyed}
 use Rattle.b67_model.specs.Run.{number_of}
 use Rattle.b67_model.specs.Schedule.{Session}
-use Rattle.b67_model.specs.InOrder.{Known, known_of, OwnsArray, EntryInOrder, frames_named, IsSegment, NumberedFrom, TasksInOrder, JobInOrder, IsInOrderButPlaces}
-use Rattle.b67_order.proofs.Members.{has_append_cases, has_map_back, has_filter, has_reverse, has_map, keyed_has, keyed_falls, falls_same, all_in}
+use Rattle.b67_model.specs.InOrder.{Known, known_of, OwnsArray, EntryInOrder, frames_named, IsSegment, NumberedFrom, JobInOrder, IsInOrderButPlaces}
+use Rattle.b67_order.proofs.Members.{has_reverse, has_map, keyed_falls, falls_same, all_in}
 use Rattle.b67_order.proofs.Replaced.{has_counts}
 use Rattle.b67_stack.specs.Shapes as Shapes
 use Rattle.b67_stack.specs.Shapes.{Fits, Lie}
 use Rattle.b67_stack.specs.Stacks as Stacks
 use Rattle.b67_stack.specs.Stacks.{Spot, Head, Activation, high, headed, words}
-use Rattle.b67_stack.specs.Picture.{Thing, Slot, Free, Running, Waiting, stack_of, Picture, SlotFits, slot_base, RunsOn, Settled}
-use Rattle.b67_stack.specs.Stands.{Storage, Stands}
-use Rattle.b67_stack.specs.Changes.{with_stack}
+use Rattle.b67_stack.specs.Picture.{Slot, Free, Running, Waiting, stack_of, Picture, SlotFits, slot_base, RunsOn}
+use Rattle.b67_stack.specs.Stands.{Storage}
 use Rattle.b67_stack.proofs.Bases.{base-apart}
 use Rattle.b67_stack.proofs.Heights.{words-length}
 use Rattle.b67_stack.proofs.Lies.{Lie-under}
-use Rattle.b67_stack.proofs.Slots.{slot-same, slot-other, running_fits, running_lies}
+use Rattle.b67_stack.proofs.Slots.{running_fits, running_lies}
 use Rattle.b67_layout.specs.Plan.{Slotted, Plan, slot_of, spot_in, outer_spots}
-use Rattle.b67_layout.specs.Layout.{shape, head, activations, stack_of_task, slot_with, slot_in, slot_by, slot_at, things_of, array_thing, code_things, picture}
+use Rattle.b67_layout.specs.Layout.{shape, head, activations, stack_of_task, slot_with, slot_in, slot_by, slot_at, picture}
 use Rattle.b67_layout.specs.Session.{RowsFit, DictionariesFollow, IsRunning, SessionHolds}
 use Rattle.b67_layout.proofs.Others.{keyed-has}
-use Rattle.b67_layout.proofs.Pictures.{with_course, member-same}
-use Rattle.b67_layout.proofs.Rows.{TaskRow, task_row, slot_below, finds, runs_on}
-use Rattle.b67_layout.proofs.Sessions.{change-has, running_only}
-use Rattle.b67_leaving.proofs.Things.{SameThings, others}
+use Rattle.b67_layout.proofs.Pictures.{with_course}
+use Rattle.b67_layout.proofs.Rows.{task_row, slot_below, finds, runs_on}
+use Rattle.b67_layout.proofs.Sessions.{running_only}
 use Rattle.b67_leaving.proofs.Nowhere.{IsOnTop, high as identity_high, under as once_only, elsewhere}
 use Rattle.b67_leaving.proofs.Originals.{lies_over, lies_at, original_word, InFrame, original_of, entry_number}
 

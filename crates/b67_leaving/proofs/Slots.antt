@@ -1,6 +1,6 @@
 -- A task is replaced by one of whose frames others see the same: the picture changes in that task's slot, and its things are
 -- those of before.
-use Rattle.std.proofs.Common.{◌≡◌, ◌≢◌, ℕ, List, [], ◌∷◌, ◌++◌, map, Option, Some, None, refl, sym, ◌∙◌, ap, Bool, true, false, cond, ⊎_elim, inl, inr, ◌⊎◌, subst}
+use Rattle.std.proofs.Common.{◌≡◌, ◌≢◌, ℕ, List, [], ◌∷◌, ◌++◌, map, Option, Some, None, refl, sym, ◌∙◌, ap, Bool, cond, ⊎_elim, inl, inr, ◌⊎◌, subst}
 use Rattle.std.specs.Prelude.{if◌then◌else◌, flat_map, ◌==◌}
 use Rattle.std.proofs.lemmas.Bool.{cases_eq, eq-eqb}
 use Rattle.b67_word.specs.Tagged.{Tagged}
@@ -22,7 +22,7 @@ use Rattle.b67_layout.specs.Meets.{things_gone}
 use Rattle.b67_order.proofs.Members.{keyed_has}
 use Rattle.b67_layout.proofs.Others.{keyed-has, keyed-put_same, keyed-put_other}
 use Rattle.b67_layout.proofs.Pictures.{with_course, member-same, member-other, RowOf}
-use Rattle.b67_leaving.proofs.Things.{SameThings, of_things, Stands-things, others, things-after}
+use Rattle.b67_leaving.proofs.Things.{Stands-things, others, things-after}
 use Rattle.b67_leaving.proofs.Nowhere.{SameArrays, activations-same}
 
 -- the MCP's frame, or one that a live task depends on

@@ -1,5 +1,5 @@
 -- Where a job has fewer arrays, the things of those that it has no more and all others are the things of before.
-use Rattle.std.proofs.Common.{◌≡◌, ◌≢◌, ℕ, ◌<◌, ◌≤◌, List, [], ◌∷◌, ◌++◌, map, flat_map, Some, refl, sym, ◌∙◌, ap, arith, Bool, true, false, not, inl, inr, subst}
+use Rattle.std.proofs.Common.{◌≡◌, ℕ, List, [], ◌∷◌, ◌++◌, map, flat_map, Some, refl, sym, ◌∙◌, ap, Bool, true, false, not, inl, inr, subst}
 use Rattle.std.specs.Prelude.{filter, ◌==◌}
 use Rattle.std.specs.List.{list_any}
 use Rattle.std.proofs.lemmas.Bool.{cases_Bool, true≢false}
@@ -8,11 +8,10 @@ use Rattle.b67_word.specs.Tagged.{Tagged}
 use Rattle.b67_ctl.specs.declared.registers.Regs.{Regs}
 use Rattle.b67_model.specs.Lists.{Has, Falls}
 use Rattle.b67_model.specs.State.{Array, Job, Course, Member}
-use Rattle.b67_model.specs.Keyed.{keyed, change_keyed}
+use Rattle.b67_model.specs.Keyed.{keyed}
 use Rattle.b67_model.specs.Run.{number_of}
 use Rattle.b67_order.proofs.Members.{has_append_left, has_append_right, has_append_cases, has_map, has_map_back, Part, has_flat, has_filter, has_filter_in, any_has, falls_same}
-use Rattle.b67_stack.specs.Picture.{Thing, Picture, Slot, Free, Running, Waiting, SlotFits, Laid}
-use Rattle.b67_stack.specs.Shapes.{Copied}
+use Rattle.b67_stack.specs.Picture.{Thing, Picture, Slot, Free, Running, Waiting, SlotFits}
 use Rattle.b67_stack.specs.Stands.{Storage, SlotStands, Stands}
 use Rattle.b67_layout.specs.Plan.{Plan}
 use Rattle.b67_layout.specs.Layout.{things_of, array_thing, code_things}

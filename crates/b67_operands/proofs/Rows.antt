@@ -213,7 +213,7 @@ module _ (x : Storage) (old : Cpu) (plan : Plan) (s : Session) (m : Member) (t :
     by_cells (b ∷ []) g = absurd (let z : ⊥ = cc in z)
     by_cells (b ∷ a ∷ rest) g =
         let pair : ◌≡◌ {A = Tagged × Tagged} (u, v) (g.0, g.1) = (let d = g.2 in cc) in
-          let same_u : u ≡ g.0 = ap (λ (z : Tagged × Tagged). z.0) pair in
+        let same_u : u ≡ g.0 = ap (λ (z : Tagged × Tagged). z.0) pair in
         let same_v : v ≡ g.1 = ap (λ (z : Tagged × Tagged). z.1) pair in
         let says = says_two f a b g.0 g.1 (Err fault) (operand_seen x plan m t (old.regs.s - 1) g.0 a g.3.is) (operand_seen x plan m t old.regs.s g.1 b g.4.is) (is ∙ ap (λ (z : Tagged). on_words f z v) same_u ∙ ap (on_words f g.0) same_v) in
         ap (λ (an : Answer (List Word)). an >>= λ ds. leaves_cells (here m t q) ds None) (says rest)

@@ -1,14 +1,13 @@
 -- The words of core after the copies of an area were hidden.
-use Rattle.std.proofs.Common.{◌≡◌, ◌≢◌, ℕ, zero, suc, ◌+◌, ◌<◌, ◌≤◌, ◌^◌, List, [], ◌∷◌, length, Option, Some, None, refl, sym, ◌∙◌, ap, arith, inl, inr, ◌⊎◌, ⊎_elim, slice_set, Bool, true, false, subst}
+use Rattle.std.proofs.Common.{◌≡◌, ◌≢◌, ℕ, zero, suc, ◌+◌, ◌<◌, ◌≤◌, ◌^◌, List, Some, refl, sym, ◌∙◌, ap, arith, inl, inr, ◌⊎◌, ⊎_elim, Bool, true, false, subst}
 use Rattle.std.specs.Prelude.{MatchBool}
 use Rattle.std.specs.List.{slice_get}
 use Rattle.std.proofs.lemmas.Bool.{cases_eq, cases_lt, false≢true}
-use Rattle.std.proofs.lemmas.Option.{same_Some, none-some}
+use Rattle.std.proofs.lemmas.Option.{same_Some}
 use Rattle.b67_word.specs.Tagged.{Tagged}
 use Rattle.b67_area.specs.declared.Info.{Info}
 use Rattle.b67_area.specs.declared.Kind.{Kind}
 use Rattle.b67_area.specs.declared.Kind.TheVariants.{Array, Row, Code}
-use Rattle.b67_area.specs.Spans.{area_at}
 use Rattle.b67_ctl.specs.declared.descriptors.DataDesc.{DataDesc}
 use Rattle.b67_ctl.specs.declared.registers.Regs.{Regs}
 use Rattle.b67_ctl.specs.Descriptors.{data_word, IsDataDesc}
@@ -23,17 +22,8 @@ use Rattle.b67_storage.specs.Machine.{with_held, IsPresent}
 use Rattle.b67_storage.proofs.Helds.{held-other}
 use Rattle.b67_storage.proofs.Words.{original_of_home}
 use Rattle.b67_storage.proofs.Unchanged.{area_of_thing, home_below}
-use Rattle.b67_overlay.specs.Turns.{Turns, InStack, Searched, Lies}
+use Rattle.b67_overlay.specs.Turns.{Turns, InStack, Searched, Lies, Hides}
 use Rattle.b67_overlay.proofs.Turning.{lies_of, stack_low, stack_before}
-
--- no word of core points to the area any more but the thing's own descriptor
-pub record Hidden (x : Storage) (core mid : List Tagged) (p : Picture) (t : Thing) (h : Held) : Type 0 where
-  pub size : length mid ≡ length core
-  pub each : (k i : ℕ) (a : Shape) (v : Tagged) → k < p.peak → InStack p k i → Has (words k (stack_of (p.slots k))) a → slice_get core i ≡ Some v → Fits x.held a i v
-      → (w : Tagged) × (slice_get mid i ≡ Some w) × Fits (with_held x.held t.home h) a i w
-  pub homes : (u : Thing) → Has p.things u → slice_get mid u.home ≡ slice_get core u.home
-  pub bases : (k : ℕ) → k < p.peak → slice_get mid (slot_base p k) ≡ slice_get core (slot_base p k)
-  pub outside : (i : ℕ) → (x.low ≤ i) ⊎ (i < 160) → slice_get mid i ≡ slice_get core i
 
 -- a place is in some stack, or in none
 in_some : (p : Picture) (n i : ℕ) → ((k : ℕ) × (k < n) × InStack p k i) ⊎ ((k : ℕ) → k < n → InStack p k i → ⊥)
@@ -133,7 +123,7 @@ module _ (x : Storage) (core : List Tagged) (r : Regs) (p : Picture) (s : Stands
         let o = original_of_home x core r p s u inu n in
         false≢true (sym o.own ∙ (same_desc o.desc d o.fits fd (sym o.is ∙ e)).copy ∙ c)
 
-  pub hidden_data : (mid : List Tagged) → Searched p p.peak area t.home core mid → Hidden x core mid p t h
+  pub hidden_data : (mid : List Tagged) → Searched p p.peak area t.home core mid → Hides x core mid p t h
   hidden_data mid q = record {
     size = q.size;
     each = λ k i a v hk there has get f.
@@ -153,18 +143,20 @@ module _ (x : Storage) (core : List Tagged) (r : Regs) (p : Picture) (s : Stands
         (λ (a : x.low ≤ i). let z : ⊥ = omega (arith, stack_low core r x.low p k l hk, there.1) in z)
         (λ (a : i < 160). let z : ⊥ = omega (arith, there.0, s.slots.laid.first) in z)
         out);
+    below = λ i low out apart. q.others i (λ k hk there. let z : ⊥ = omega (arith, there.0) in z);
   } where
     l : Lies core r x.low p
     l = lies_of x core r p s
 
   -- no copy is of a segment
-  pub hidden_code : t.kind ≡ Code → Hidden x core core p t h
+  pub hidden_code : t.kind ≡ Code → Hides x core core p t h
   hidden_code code = record {
     size = refl;
     each = λ k i a v hk there has get f. (v, get, fits k hk a i v has f);
     homes = λ u inu. refl;
     bases = λ k hk. refl;
     outside = λ i out. refl;
+    below = λ i low out apart. refl;
   } where
     names : (k : ℕ) (y : Slot) → SlotFits p k y → (c : Copied) (q : ℕ) → Has (words k (stack_of y)) (Copy c q) → IsArrayAt p.things q
     names k Free f c q there = absurd there

@@ -1,16 +1,16 @@
 -- The search, word by word and slot by slot.
-use Rattle.std.proofs.Common.{◌≡◌, ◌≢◌, ℕ, zero, suc, ◌+◌, ◌<◌, ◌≤◌, ◌^◌, List, [], ◌∷◌, length, Some, None, Option, refl, sym, ◌∙◌, ap, arith, inl, inr, ◌⊎◌, ⊎_elim, slice_set}
+use Rattle.std.proofs.Common.{◌≡◌, ℕ, ◌+◌, ◌<◌, ◌≤◌, ◌^◌, List, [], ◌∷◌, length, Some, None, refl, sym, ◌∙◌, ap, arith, inl, inr, ◌⊎◌, ⊎_elim, slice_set}
 use Rattle.std.specs.List.{slice_get}
 use Rattle.std.proofs.lemmas.Bool.{cases_eq, cases_lt}
 use Rattle.std.proofs.lemmas.Option.{same_Some, none-some}
-use Rattle.b67_word.specs.Tagged.{Tagged, word}
+use Rattle.b67_word.specs.Tagged.{Tagged}
 use Rattle.b67_core.proofs.Writes.{slice_get-set_same, slice_get-set_other}
 use Rattle.b67_ctl.specs.declared.marks.Toscw.{Toscw}
 use Rattle.b67_ctl.specs.declared.registers.Regs.{Regs}
 use Rattle.b67_ctl.specs.Layout.{toscw_word, IsToscw}
-use Rattle.b67_stack.specs.Stacks.{Activation, Head, Marked, Entered, HeadsFit, high, mark_place, toscw_of, head_size}
+use Rattle.b67_stack.specs.Stacks.{Activation, Head, Marked, Entered, high, mark_place, toscw_of}
 use Rattle.b67_stack.specs.Picture.{Picture, Slot, Free, Running, Waiting, SlotFits, stack_of, slot_base}
-use Rattle.b67_stack.specs.Stands.{Storage, SlotsStand, SlotStands, Stands}
+use Rattle.b67_stack.specs.Stands.{Storage, SlotStands, Stands}
 use Rattle.b67_stack.proofs.Bases.{base-apart}
 use Rattle.b67_stack.proofs.Tops.{level-small}
 use Rattle.b67_storage.proofs.Reheld.{SlotsStand-same}

@@ -1,12 +1,15 @@
 -- What the search for copies of an area does to core.
-use Rattle.std.specs.Prelude.{◌≡◌, ◌≢◌, ℕ, true, false, ◌+◌, ◌<◌, ◌≤◌, ◌^◌, List, length, Some, slice_get}
+use Rattle.std.specs.Prelude.{◌≡◌, ℕ, true, false, ◌+◌, ◌<◌, ◌≤◌, ◌^◌, ◌⊎◌, List, length, Some, slice_get}
 use Rattle.b67_word.specs.Tagged.{Tagged}
 use Rattle.b67_ctl.specs.declared.descriptors.DataDesc.{DataDesc}
 use Rattle.b67_ctl.specs.Descriptors.{data_word, IsDataDesc}
 use Rattle.b67_ctl.specs.declared.registers.Regs.{Regs}
-use Rattle.b67_stack.specs.Stacks.{high}
-use Rattle.b67_stack.specs.Picture.{Picture, slot_base, stack_of}
-use Rattle.b67_stack.specs.Stands.{SlotsStand}
+use Rattle.b67_model.specs.Lists.{Has}
+use Rattle.b67_stack.specs.Shapes.{Held, Shape, Fits}
+use Rattle.b67_stack.specs.Stacks.{high, words}
+use Rattle.b67_stack.specs.Picture.{Thing, Picture, slot_base, stack_of}
+use Rattle.b67_stack.specs.Stands.{Storage, SlotsStand}
+use Rattle.b67_storage.specs.Machine.{with_held, Stayed}
 
 abbrev pub IsCopyOf : ℕ → DataDesc → Type 0
 IsCopyOf area d = (d.present ≡ true) × (d.copy ≡ true) × (d.address ≡ area)
@@ -35,3 +38,14 @@ pub record Lies (core : List Tagged) (r : Regs) (low : ℕ) (p : Picture) : Type
   pub inside : low ≤ length core
   pub small : length core < 2 ^ 20
   pub base : (k : ℕ) → k < p.peak → slot_base p k < low
+
+-- no word of a stack has the address of a thing's area any more: each is what it was, where that thing is held so. The
+-- descriptors and all that isn't in a stack are as they were
+pub record Hides (x : Storage) (core new : List Tagged) (p : Picture) (t : Thing) (h : Held) : Type 0 where
+  pub size : length new ≡ length core
+  pub each : (k i : ℕ) (a : Shape) (v : Tagged) → k < p.peak → InStack p k i → Has (words k (stack_of (p.slots k))) a → slice_get core i ≡ Some v → Fits x.held a i v
+      → (w : Tagged) × (slice_get new i ≡ Some w) × Fits (with_held x.held t.home h) a i w
+  pub homes : (u : Thing) → Has p.things u → slice_get new u.home ≡ slice_get core u.home
+  pub bases : (k : ℕ) → k < p.peak → slice_get new (slot_base p k) ≡ slice_get core (slot_base p k)
+  pub outside : (i : ℕ) → (x.low ≤ i) ⊎ (i < 160) → slice_get new i ≡ slice_get core i
+  pub below : Stayed p core new

@@ -1,6 +1,11 @@
 //! Areas that are given back: what they hold goes to sectors, and their descriptors' copies become absent.
 #![tactic(auto)]
 
+mod claims;
+mod overlays;
 mod search;
+mod writing;
 
-pub use search::search_copies;
+pub use claims::claim;
+pub use overlays::{discard, overlay};
+pub use search::{search_copies, stack_top};

@@ -53,7 +53,7 @@ fn turn_part(core: &mut Core, from: u32, upto: u32, area: u32, original: u32)
 }
 
 /// The address of the top word of a slot's stack; where no task lives there, of the slot's base word.
-fn stack_top(core: &Core, regs: &Regs, k: u8, base: u32) -> u32
+pub fn stack_top(core: &Core, regs: &Regs, k: u8, base: u32) -> u32
     requires { (low : ℕ) × (p : Picture) × Lies core.now regs.now low p × (k < p.peak) × (base ≡ slot_base p k) }
     ensures { (low : ℕ) (p : Picture) → Lies core.now regs.now low p → k < p.peak → base ≡ slot_base p k
         → result ≡ base + high (stack_of (p.slots k)) }

@@ -1,20 +1,18 @@
 -- The words that came into an area are those of the thing.
-use Rattle.std.proofs.Common.{◌≡◌, ◌≢◌, ℕ, zero, suc, ◌+◌, ◌*◌, ◌%◌, ◌<◌, ◌≤◌, ◌^◌, ◌==◌, List, [], ◌∷◌, length, map, option_map, Option, Some, None, refl, sym, ◌∙◌, ap, arith, inl, inr, ◌⊎◌, ⊎_elim, Bool, true, false, subst}
-use Rattle.std.specs.List.{slice_get, AllByRecursion}
+use Rattle.std.proofs.Common.{◌≡◌, ◌≢◌, ℕ, zero, suc, ◌+◌, ◌*◌, ◌%◌, ◌<◌, ◌≤◌, ◌^◌, List, [], ◌∷◌, length, map, option_map, Option, Some, None, refl, sym, ◌∙◌, ap, arith, inl, inr, ◌⊎◌, ⊎_elim, subst}
+use Rattle.std.specs.List.{slice_get}
 use Rattle.std.proofs.lemmas.List.{length-map}
-use Rattle.std.proofs.lemmas.Option.{same_Some, none-some}
 use Rattle.b67_word.specs.Tagged.{Tagged, word}
 use Rattle.b67_core.specs.Numbers.{number}
 use Rattle.b67_area.specs.declared.Areas.{Areas}
 use Rattle.b67_area.specs.declared.Kind.{Kind}
-use Rattle.b67_area.specs.declared.Kind.TheVariants.{Array, Row, Code}
-use Rattle.b67_backing.specs.Shelf.{Shelf, Table, IsShelf, HasChain, chain_of}
+use Rattle.b67_area.specs.declared.Kind.TheVariants.{Array}
+use Rattle.b67_backing.specs.Shelf.{Shelf, Table, HasChain, chain_of}
 use Rattle.b67_backing.specs.Held.{sectors_for, under, Holds}
-use Rattle.b67_model.specs.Lists.{Has}
 use Rattle.b67_stack.specs.declared.Cpu.{Cpu}
 use Rattle.b67_stack.specs.Shapes.{Upward}
 use Rattle.b67_stack.specs.Picture.{Thing, Picture, words_of, tag_of, AreZero}
-use Rattle.b67_stack.specs.Stands.{Storage, Content, Rests, HoldsIn, Told, Stands}
+use Rattle.b67_stack.specs.Stands.{Storage, Content, Rests, HoldsIn, Told}
 use Rattle.b67_storage.specs.Machine.{MachineStands, Says, IsAbsent, AreBits}
 use Rattle.b67_presence.specs.declared.paging.Resting.{Resting}
 use Rattle.b67_presence.specs.Brought.{resting, IsKnown, Reads}

@@ -1,7 +1,7 @@
 -- What the descriptor of an absent thing tells.
-use Rattle.std.proofs.Common.{◌≡◌, ◌≢◌, ℕ, ◌+◌, ◌<◌, ◌≤◌, ◌^◌, List, length, Option, Some, None, refl, sym, ◌∙◌, ap, arith, Bool, true, false, subst}
+use Rattle.std.proofs.Common.{◌≡◌, ℕ, ◌<◌, ◌^◌, List, length, Option, Some, None, refl, sym, ◌∙◌, ap, arith, Bool, true, false, subst}
 use Rattle.std.specs.List.{slice_get}
-use Rattle.std.proofs.lemmas.Option.{same_Some, none-some}
+use Rattle.std.proofs.lemmas.Option.{same_Some}
 use Rattle.std.proofs.lemmas.Bool.{false≢true}
 use Rattle.b67_word.specs.Tagged.{Tagged}
 use Rattle.b67_ctl.specs.declared.descriptors.DataDesc.{DataDesc}
@@ -10,12 +10,13 @@ use Rattle.b67_ctl.specs.declared.registers.Regs.{Regs}
 use Rattle.b67_ctl.specs.Descriptors.{data_word, seg_word, IsDataDesc, IsSegDesc}
 use Rattle.b67_area.specs.declared.Kind.{Kind}
 use Rattle.b67_area.specs.declared.Kind.TheVariants.{Array, Row, Code}
-use Rattle.b67_model.specs.Lists.{Has}
 use Rattle.b67_stack.specs.Shapes.{Held}
-use Rattle.b67_stack.specs.Picture.{Thing, Picture, home_desc, home_word, home_word_of}
-use Rattle.b67_stack.specs.Stands.{Storage, Stands, Content}
+use Rattle.b67_stack.specs.Picture.{Thing, Picture, home_desc, home_word_of}
+use Rattle.b67_stack.specs.Stands.{Storage, Stands}
 use Rattle.b67_stack.proofs.Homes.{chain_small}
 use Rattle.b67_storage.specs.Machine.{IsAbsent}
+use Rattle.b67_storage.proofs.Unchanged.{area_bounds}
+use Rattle.b67_presence.specs.Brings.{IsCode}
 
 abbrev pub at_rest : ℕ → Held
 at_rest first = record { area = None; chain = first }
@@ -57,3 +58,30 @@ module _ (core : List Tagged) (home : ℕ) (w : Tagged) (get : slice_get core ho
   no_reader Array h no_seg no_data = no_data (rest_desc false n first) (record { words = omega (arith, h.few); address = h.small; indexed = λ z. absurd (false≢true z) }) (is Array h)
   no_reader Row h no_seg no_data = no_data (rest_desc true n first) (record { words = omega (arith, h.few); address = h.small; indexed = λ z. absurd (false≢true z) }) (is Row h)
   no_reader Code h no_seg no_data = no_seg (rest_seg n first) (record { words = omega (arith, h.few); address = h.small }) (is Code h)
+
+-- the segment descriptor of code that is in core
+pub record Segment (core : List Tagged) (code n at : ℕ) : Type 0 where
+  pub desc : SegDesc
+  pub fits : IsSegDesc desc
+  pub word : slice_get core code ≡ Some (seg_word desc)
+  pub words : desc.words ≡ n
+  pub address : desc.address ≡ at
+  pub inside : code < length core
+
+pub segment_here : (x : Storage) (core : List Tagged) (r : Regs) (p : Picture) (code at : ℕ) (c : Thing) → Stands x core r p → IsCode x p code at c → Segment core code (length c.numbers) at
+segment_here x core r p code at c s k =
+    let it = s.things c k.there in
+    let present : (x.held c.home).area ≡ Some at = ap (λ q. (x.held q).area) k.is ∙ k.present in
+    let l = s.slots.laid.lengths c k.there in
+    let b = area_bounds x core r p s c k.there at present in
+    let H : Kind → Type 0 = λ q. slice_get core c.home ≡ Some (home_word_of q (length c.numbers) (x.held c.home)) in
+    let w : slice_get core c.home ≡ Some (home_word_of Code (length c.numbers) (x.held c.home)) = subst H k.kind it.home in
+    let A : Option ℕ → Type 0 = λ o. slice_get core c.home ≡ Some (home_word_of Code (length c.numbers) (record { area = o; chain = (x.held c.home).chain })) in
+    record {
+      desc = record { present = true; words = length c.numbers; address = at };
+      fits = record { words = omega (arith, l.1); address = omega (arith, b.1, s.directory.small) };
+      word = ap (slice_get core) (sym k.is) ∙ subst A present w;
+      words = refl;
+      address = refl;
+      inside = omega (arith, (s.slots.laid.homes c k.there).1, s.inside, k.is);
+    }

@@ -1,24 +1,22 @@
 -- The machine after a thing was brought in, by what the calls tell.
-use Rattle.std.proofs.Common.{◌≡◌, ◌≢◌, ℕ, ◌+◌, ◌<◌, ◌≤◌, ◌^◌, ◌==◌, List, [], ◌∷◌, length, map, Option, Some, None, refl, sym, ◌∙◌, ap, arith, inl, inr, ◌⊎◌, ⊎_elim, slice_set, Bool, true, false, subst}
-use Rattle.std.specs.List.{slice_get}
-use Rattle.b67_word.specs.Tagged.{Tagged, word}
+use Rattle.std.proofs.Common.{◌≡◌, ℕ, ◌+◌, ◌<◌, List, length, Option, Some, None, refl, sym, ◌∙◌, ap, ⊎_elim, slice_set, subst}
+use Rattle.b67_word.specs.Tagged.{Tagged}
 use Rattle.b67_area.specs.declared.Areas.{Areas}
 use Rattle.b67_area.specs.declared.Kind.{Kind}
 use Rattle.b67_area.specs.Spans.{Span, area_at, fill, fresh, keeping, without}
 use Rattle.b67_area.specs.Directory.{IsDirectory}
 use Rattle.b67_backing.specs.Shelf.{Table}
 use Rattle.b67_ctl.specs.declared.registers.Regs.{Regs}
-use Rattle.b67_model.specs.Lists.{Has}
 use Rattle.b67_stack.specs.declared.Cpu.{Cpu}
-use Rattle.b67_stack.specs.Shapes.{Held, Upward}
-use Rattle.b67_stack.specs.Picture.{Thing, Picture, home_word_of, words_of, tag_of}
+use Rattle.b67_stack.specs.Shapes.{Upward}
+use Rattle.b67_stack.specs.Picture.{Thing, Picture, home_word_of, words_of}
 use Rattle.b67_stack.specs.Stands.{Storage, Stands}
-use Rattle.b67_storage.specs.Machine.{MachineStands, Says, IsAbsent, with_held, renumber, renumbered}
+use Rattle.b67_storage.specs.Machine.{Stayed, MachineStands, Says, IsAbsent, with_held, renumbered}
 use Rattle.b67_storage.proofs.Renumbered.{Stands-renumbered, there_renumbered, renumbered-same}
 use Rattle.b67_presence.specs.declared.paging.Resting.{Resting}
 use Rattle.b67_presence.specs.Brought.{brought, resting, IsKnown, IsPlace}
 use Rattle.b67_presence.proofs.Contents.{Loaded, known_words, some_words}
-use Rattle.b67_presence.proofs.Placing.{Placed, Filled, Kept, Freed, brought_in, given_back, without_here, directory2, area_here, bounds}
+use Rattle.b67_presence.proofs.Placing.{Placed, Filled, Kept, Freed, brought_in, given_back, below_in, below_back, without_here, directory2, area_here, bounds}
 
 pub Says-on : (d told new : Option (List (List ℕ))) → ((all : List (List ℕ)) → told ≡ Some all → new ≡ Some all) → Says d told → Says d new
 Says-on None told new f s = tt
@@ -86,6 +84,9 @@ module _ (x : Storage) (cpu : Cpu) (areas after : Areas) (table : Table) (told n
     back : (y : Storage) (q : Picture) → Stands y (slice_set c3 home (word_at (resting x t))) cpu.regs q → Stands y (slice_set c3 home (word_at thing)) cpu.regs q
     back y q s = let P : Resting → Type 0 = λ z. Stands y (slice_set c3 home (word_at z)) cpu.regs q in subst P (sym is) s
 
+    pub paged_below : (v : Tagged) → Stayed p cpu.core (slice_set c3 home v)
+    paged_below v = below_in x cpu.core cpu.regs p home t m.stands a at c1 st'.placed c2 st'.filled c3 st'.kept v
+
     pub in_place : IsPlace x t at
     in_place = sym st'.placed.row.0
 
@@ -108,6 +109,13 @@ module _ (x : Storage) (cpu : Cpu) (areas after : Areas) (table : Table) (told n
         let d = placed_in x cpu.core c1 c2 c3 cpu.regs p' home at t' (length t.numbers) count s' a' st' up in
         let P : ℕ → Type 0 = λ q. MachineStands (brought x t at) (record cpu { core = slice_set c3 home (word_at thing) }) after table new (renumbered p q ns) in
         (ns, count, subst P a.is (with_core (brought x t at) p' (slice_set c3 home (word_at thing)) refl refl refl (back (brought x t at) p' d)))
+
+  pub back_below : (at : ℕ) (c1 c2 c3 : List Tagged) (thing : Resting) → thing ≡ resting x t → Placed areas.low x.spans cpu.core c1 home at thing → Filled c1 c2 at thing.words → Freed areas.low (without areas.low at (fill (fresh thing.kind thing.words home) x.spans)) c2 c3 → Stayed p cpu.core c3
+  back_below at c1 c2 c3 thing is pl fl fr =
+      let P : ℕ → Resting → Type 0 = λ n z. Placed n x.spans cpu.core c1 home at z × Filled c1 c2 at z.words × Freed n (without n at (fill (fresh z.kind z.words home) x.spans)) c2 c3 in
+      let (pl', fl', fr') = subst (λ (z : Resting). P x.low z) is (subst (λ (n : ℕ). P n thing) m.low (pl, fl, fr)) in
+      let Q : List Span → Type 0 = λ ss. Freed x.low ss c2 c3 in
+      below_back x cpu.core cpu.regs p home t m.stands a at c1 pl' c2 fl' c3 (subst Q (without_here x cpu.core cpu.regs p home t m.stands a at c1 pl' c2 fl') fr')
 
   pub paged_back : (at : ℕ) (c1 c2 c3 : List Tagged) (thing : Resting) → thing ≡ resting x t → Placed areas.low x.spans cpu.core c1 home at thing → Filled c1 c2 at thing.words → Freed areas.low (without areas.low at (fill (fresh thing.kind thing.words home) x.spans)) c2 c3 → MachineStands x (record cpu { core = c3 }) after table new p
   paged_back at c1 c2 c3 thing is pl fl fr =

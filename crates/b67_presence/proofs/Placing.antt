@@ -1,11 +1,10 @@
 -- An absent thing is placed, its words come into the area, and its descriptor is written.
-use Rattle.std.proofs.Common.{◌≡◌, ◌≢◌, ℕ, zero, suc, ◌+◌, ◌*◌, ◌%◌, ◌<◌, ◌≤◌, ◌^◌, ◌==◌, List, [], ◌∷◌, length, map, option_map, Option, Some, None, refl, sym, ◌∙◌, ap, arith, inl, inr, ◌⊎◌, ⊎_elim, slice_set, Bool, true, false, subst}
-use Rattle.std.specs.List.{slice_get, AllByRecursion}
+use Rattle.std.proofs.Common.{◌≡◌, ◌≢◌, ℕ, ◌+◌, ◌<◌, ◌≤◌, ◌==◌, List, length, Option, Some, None, refl, sym, ◌∙◌, ap, arith, inl, inr, ◌⊎◌, ⊎_elim, slice_set, subst}
+use Rattle.std.specs.List.{slice_get}
 use Rattle.std.proofs.lemmas.List.{length-map, length-set}
-use Rattle.std.proofs.lemmas.Option.{same_Some, none-some, slice_get_within}
+use Rattle.std.proofs.lemmas.Option.{same_Some, none-some}
 use Rattle.std.proofs.lemmas.Bool.{cases_eq, cases_lt, cond-true, cond-false, eq-eqb, ne_eqb}
 use Rattle.b67_word.specs.Tagged.{Tagged, word}
-use Rattle.b67_core.specs.Numbers.{number}
 use Rattle.b67_core.proofs.Writes.{slice_get-set_same, slice_get-set_other}
 use Rattle.b67_area.specs.declared.Info.{Info}
 use Rattle.b67_area.specs.declared.Kind.{Kind}
@@ -15,22 +14,19 @@ use Rattle.b67_area.specs.Directory.{IsDirectory, OnlyHoles}
 use Rattle.b67_area.proofs.Climbs.{area_at-low}
 use Rattle.b67_area.proofs.Laws.{area_inside, hole-area, OnlyHoles-area, OnlyHoles-below}
 use Rattle.b67_area.proofs.Separation.{IsDirectory-area_words, IsDirectory-set_below}
-use Rattle.b67_backing.specs.Shelf.{Shelf, Table, IsShelf, chain_of}
-use Rattle.b67_backing.specs.Held.{sectors_for, under, Holds}
 use Rattle.b67_ctl.specs.declared.registers.Regs.{Regs}
-use Rattle.b67_model.specs.Lists.{Has}
 use Rattle.b67_stack.specs.Shapes.{Held, Upward}
-use Rattle.b67_stack.specs.Picture.{Thing, Picture, slot_base, home_word, home_word_of, words_of, tag_of, AreZero}
-use Rattle.b67_stack.specs.Stands.{Storage, Content, Keeps, Rests, HoldsIn, Told, info_of, Stands}
-use Rattle.b67_stack.proofs.Homes.{chain_small}
+use Rattle.b67_stack.specs.Picture.{Thing, Picture, slot_base, home_word_of, words_of, tag_of, AreZero}
+use Rattle.b67_stack.specs.Stands.{Storage, Content, Keeps, Rests, HoldsIn, info_of, Stands}
 use Rattle.b67_stack.proofs.Lies.{Upward-same}
-use Rattle.b67_storage.specs.Machine.{IsAbsent, AreBits, with_held}
+use Rattle.b67_storage.specs.Machine.{IsAbsent, with_held, ChainStays, Stayed}
+use Rattle.b67_storage.proofs.Below.{stacks_low, not_heads}
 use Rattle.b67_storage.proofs.Unchanged.{area_of_thing, home_below, slot_below, base_low, Stands-core}
-use Rattle.b67_storage.proofs.Reheld.{Reheld, ThingStays, ChainStays, Keeps-stays, storage_with, info_with, Stands-reheld}
+use Rattle.b67_storage.proofs.Reheld.{Reheld, Keeps-stays, storage_with, info_with, Stands-reheld}
 use Rattle.b67_storage.proofs.Words.{StacksLie-home, original_word}
 use Rattle.b67_storage.proofs.Holes.{without_fill, place_spot}
 use Rattle.b67_presence.specs.declared.paging.Resting.{Resting}
-use Rattle.b67_presence.specs.Brought.{brought, resting, Reads}
+use Rattle.b67_presence.specs.Brought.{brought, resting}
 use Rattle.b67_presence.proofs.Descriptors.{rest_here}
 
 -- an area was placed
@@ -105,6 +101,17 @@ module _ (x : Storage) (core : List Tagged) (r : Regs) (p : Picture) (home : ℕ
     body2 b i e q low high =
         fl.outside q (⊎_elim (λ (l : q + 1 < at). inl (omega arith)) (λ (l : at + n < q). inr (omega arith)) (apart b i e q (omega arith) (omega arith)))
         ∙ OnlyHoles-area core c1 x.low x.spans b i q pl.outside e s.directory.above (omega arith) (omega arith)
+
+    -- the words below the slots
+    pub below2 : Stayed p core c2
+    below2 i low out apart = fl.outside i (inl (omega (arith, bounds.0, stacks_low x core r p s))) ∙ OnlyHoles-below core c1 x.low x.spans i pl.outside (not_heads i out) (omega (arith, stacks_low x core r p s))
+
+    pub below_back : (c3 : List Tagged) → Freed x.low x.spans c2 c3 → Stayed p core c3
+    below_back c3 f i low out apart = OnlyHoles-below c2 c3 x.low x.spans i f.outside (not_heads i out) (omega (arith, stacks_low x core r p s)) ∙ below2 i low out apart
+
+    pub below_in : (c3 : List Tagged) → Kept x.low filled c2 c3 at n first → (v : Tagged) → Stayed p core (slice_set c3 home v)
+    below_in c3 kp v i low out apart =
+        slice_get-set_other c3 home i v (λ e. apart t a.there (a.is ∙ sym e)) ∙ kp.outside i (λ e. omega (arith, bounds.0, stacks_low x core r p s)) ∙ below2 i low out apart
 
     pub without_here : without x.low at filled ≡ x.spans
     without_here =

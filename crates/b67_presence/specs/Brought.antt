@@ -1,15 +1,13 @@
 -- Things that are brought into core.
-use Rattle.std.specs.Prelude.{◌≡◌, ◌≢◌, ℕ, ◌+◌, ◌^◌, ◌<◌, ◌≤◌, ◌⊎◌, List, length, map, Option, Some, None, slice_get, option_map}
+use Rattle.std.specs.Prelude.{◌≡◌, ◌≢◌, ℕ, ◌+◌, ◌<◌, ◌⊎◌, List, length, Option, Some, None, slice_get, option_map}
 use Rattle.b67_word.specs.Tagged.{Tagged}
-use Rattle.b67_area.specs.declared.Kind.{Kind}
-use Rattle.b67_area.specs.declared.Kind.TheVariants.{Array}
 use Rattle.b67_area.specs.Spans.{address, spot, fill, fresh, keeping}
 use Rattle.b67_backing.specs.Shelf.{Table, Shelf, HasChain}
-use Rattle.b67_backing.specs.Held.{Tells, Holds, sectors_for, under}
+use Rattle.b67_backing.specs.Held.{Holds, sectors_for, under}
 use Rattle.b67_backing.specs.Shelf.{chain_of}
-use Rattle.b67_stack.specs.Picture.{Thing, Picture, tag_of}
-use Rattle.b67_stack.specs.Stands.{Storage, Stands}
-use Rattle.b67_storage.specs.Machine.{with_held, AreBits, IsAbsent}
+use Rattle.b67_stack.specs.Picture.{Thing}
+use Rattle.b67_stack.specs.Stands.{Storage}
+use Rattle.b67_storage.specs.Machine.{with_held, AreBits}
 use Rattle.b67_presence.specs.declared.paging.Resting.{Resting}
 
 -- the storage with an absent thing in an area at that address: the front of the lowest hole with room for it

@@ -10,7 +10,7 @@ ghost use Rattle.b67_ctl.specs.declared.registers.Regs.{Regs};
 ghost use Rattle.b67_stack.specs.Picture.{Thing, Picture, home_word_of, home_desc, tag_of};
 ghost use Rattle.b67_ctl.specs.Descriptors.{data_word};
 ghost use Rattle.b67_stack.specs.Stands.{Storage, Stands};
-ghost use Rattle.b67_storage.specs.Machine.{MachineStands, IsAbsent, HasRoom, renumbered};
+ghost use Rattle.b67_storage.specs.Machine.{MachineStands, IsAbsent, HasRoom, Stayed, renumbered};
 ghost use Rattle.b67_presence.specs.declared.paging.Refusal.TheVariants.{NoHole, BackingFault};
 ghost use Rattle.b67_presence.specs.Brought.{brought, IsPlace, IsKnown, resting, Reads};
 
@@ -31,10 +31,10 @@ pub enum Refusal {
 /// What an absent original or segment descriptor says: the words, and the first sector of the chain that holds them, 0 for
 /// zeros.
 #[derive(Clone, Copy, Debug, PartialEq, Eq)]
-struct Resting {
-    kind: Kind,
-    words: u32,
-    first: u32,
+pub struct Resting {
+    pub kind: Kind,
+    pub words: u32,
+    pub first: u32,
 }
 
 /// The kind of a descriptor in a stack or in a dictionary.
@@ -46,7 +46,7 @@ fn data_kind(read_only: bool) -> Kind
 
 impl Resting {
     /// What the descriptor at an address says.
-    fn at(core: &Core, home: u32) -> Resting
+    pub fn at(core: &Core, home: u32) -> Resting
         requires { (x : Storage) × (r : Regs) × (p : Picture) × (t : Thing) × Stands x core.now r p × IsAbsent x p home t }
         ensures { (x : Storage) (r : Regs) (p : Picture) (t : Thing) → Stands x core.now r p → IsAbsent x p home t → result ≡ resting x t }
     {
@@ -158,13 +158,15 @@ pub fn page_in<B: Backing>(
     ensures rest { cpu.new ≡ record cpu.old { core = cpu.new.core } }
     ensures len { length cpu.new.core ≡ length cpu.old.core }
     ensures areas { areas.new ≡ areas.old }
+    ensures outside { (x : Storage) (p : Picture) (t : Thing) → MachineStands x cpu.old areas.old sectors.now (B.holds backing.old) p → IsAbsent x p home t
+        → Stayed p cpu.old.core cpu.new.core }
     ensures known { OnOk result ((x : Storage) (p : Picture) (t : Thing) → MachineStands x cpu.old areas.old sectors.now (B.holds backing.old) p
         → IsAbsent x p home t → IsKnown x t
         → (at : ℕ) × IsPlace x t at × MachineStands (brought x t at) cpu.new areas.new sectors.now (B.holds backing.new) p) }
     ensures untold { OnOk result ((x : Storage) (p : Picture) (t : Thing) → MachineStands x cpu.old areas.old sectors.now (B.holds backing.old) p
         → IsAbsent x p home t → x.device ≡ None
         → (at : ℕ) × (ns : List ℕ) × IsPlace x t at × (length ns ≡ length t.numbers)
-            × MachineStands (brought x t at) cpu.new areas.new sectors.now (B.holds backing.new) (renumbered p home ns)) }
+        × MachineStands (brought x t at) cpu.new areas.new sectors.now (B.holds backing.new) (renumbered p home ns)) }
     ensures refused { OnErr result ((x : Storage) (p : Picture) (t : Thing) → MachineStands x cpu.old areas.old sectors.now (B.holds backing.old) p
         → IsAbsent x p home t → MachineStands x cpu.new areas.new sectors.now (B.holds backing.new) p) }
     ensures full { (x : Storage) (p : Picture) (t : Thing) → MachineStands x cpu.old areas.old sectors.now (B.holds backing.old) p

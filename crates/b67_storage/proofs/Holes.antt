@@ -1,5 +1,5 @@
 -- Holes: which have room, and an area that is placed and freed again.
-use Rattle.std.proofs.Common.{◌≡◌, ◌≢◌, ℕ, zero, suc, ◌+◌, ◌-◌, ◌<◌, ◌≤◌, List, [], ◌∷◌, Option, Some, None, refl, sym, ◌∙◌, ap, arith, inl, inr, ⊎_elim, ◌⊎◌, ◌==◌, leb}
+use Rattle.std.proofs.Common.{◌≡◌, ℕ, zero, suc, ◌+◌, ◌-◌, ◌<◌, ◌≤◌, List, [], ◌∷◌, Option, Some, None, refl, sym, ◌∙◌, ap, arith, inl, inr, ⊎_elim, ◌==◌}
 use Rattle.std.proofs.lemmas.Bool.{cond-true, cond-false, eq-eqb, ne_eqb, cases_lt, le-leb, lt-leb}
 use Rattle.std.proofs.lemmas.Option.{same_Some, none-some}
 use Rattle.b67_area.specs.declared.kinds.Info.{Info}

@@ -4,3 +4,6 @@ pub mod Unchanged
 pub mod Renumbered
 pub mod Words
 pub mod Holes
+pub mod Devices
+pub mod Below
+pub mod Untold

@@ -1,9 +1,9 @@
 -- A machine in which one thing is held otherwise stands for the same picture.
-use Rattle.std.proofs.Common.{◌≡◌, ◌≢◌, ℕ, suc, ◌+◌, ◌<◌, ◌≤◌, ◌^◌, List, [], ◌∷◌, length, map, Option, Some, None, refl, sym, ◌∙◌, ap, arith, inl, inr, ◌⊎◌, ⊎_elim, subst}
+use Rattle.std.proofs.Common.{◌≡◌, ◌≢◌, ℕ, ◌+◌, ◌<◌, ◌≤◌, List, [], length, map, Option, Some, None, refl, sym, ◌∙◌, ap, arith, inl, inr, ◌⊎◌, ⊎_elim, subst}
 use Rattle.std.specs.List.{slice_get}
 use Rattle.std.proofs.lemmas.List.{length-map}
 use Rattle.std.proofs.lemmas.Bool.{cases_eq}
-use Rattle.std.proofs.lemmas.Option.{same_Some, none-some}
+use Rattle.std.proofs.lemmas.Option.{same_Some}
 use Rattle.b67_word.specs.Tagged.{Tagged, word}
 use Rattle.b67_core.specs.Numbers.{number}
 use Rattle.b67_area.specs.declared.Info.{Info}
@@ -12,14 +12,13 @@ use Rattle.b67_area.specs.declared.Kind.TheVariants.{Array, Row, Code}
 use Rattle.b67_area.specs.Spans.{Span, area_at}
 use Rattle.b67_area.specs.Directory.{IsDirectory}
 use Rattle.b67_backing.specs.Shelf.{Shelf, chain_of}
-use Rattle.b67_backing.specs.Held.{sectors_for}
 use Rattle.b67_model.specs.Lists.{Has}
 use Rattle.b67_ctl.specs.declared.registers.Regs.{Regs}
-use Rattle.b67_stack.specs.Shapes.{Held, Map, Upward}
+use Rattle.b67_stack.specs.Shapes.{Held}
 use Rattle.b67_stack.specs.Picture.{Thing, Picture, Slot, Free, Running, Waiting, slot_base, home_word, words_of, tag_of}
 use Rattle.b67_stack.specs.Stands.{Storage, SlotStands, SlotsStand, StacksLie, ThingsStand, ThingStands, Content, Keeps, Rests, HasChain, HoldsIn, Told, Owned, info_of, Stands}
 use Rattle.b67_stack.proofs.Lies.{Upward-same}
-use Rattle.b67_storage.specs.Machine.{with_held}
+use Rattle.b67_storage.specs.Machine.{with_held, ChainStays}
 use Rattle.b67_storage.proofs.Helds.{held-other, held-same}
 
 slot_same : (core new : List Tagged) (r : Regs) (p : Picture) (k : ℕ) (y : Slot) → slice_get new (slot_base p k) ≡ slice_get core (slot_base p k) → SlotStands core r p k y → SlotStands new r p k y
@@ -30,11 +29,6 @@ slot_same core new r p k (Waiting stack) e t = (t.0, e ∙ t.1)
 -- the slots' base words alone tell where the tops are
 pub SlotsStand-same : (core new : List Tagged) (r : Regs) (low : ℕ) (p : Picture) → ((k : ℕ) → k < p.peak → slice_get new (slot_base p k) ≡ slice_get core (slot_base p k)) → SlotsStand core r low p → SlotsStand new r low p
 SlotsStand-same core new r low p same s = record { laid = s.laid; regs = s.regs; slots = λ k h. slot_same core new r p k (p.slots k) (same k h) (s.slots k h) }
-
--- what one thing's chain is in another storage
-pub record ChainStays (x y : Storage) (f : ℕ) : Type 0 where
-  pub chain : chain_of f y.shelf.chains ≡ chain_of f x.shelf.chains
-  pub told : (ns : List ℕ) → Told x.device (chain_of f x.shelf.chains) ns → Told y.device (chain_of f x.shelf.chains) ns
 
 module _ (x y : Storage) (t : Thing) (f : ℕ) (c : ChainStays x y f) where
   pub HasChain-stays : HasChain x t f → HasChain y t f

@@ -1,20 +1,16 @@
 -- Where the device tells nothing, an absent thing may have any numbers.
-use Rattle.std.proofs.Common.{◌≡◌, ◌≢◌, ℕ, ◌+◌, ◌<◌, ◌≤◌, ◌^◌, ◌==◌, Bool, true, false, List, [], ◌∷◌, length, map, Option, Some, None, refl, sym, ◌∙◌, ap, arith, inl, inr, ◌⊎◌, ⊎_elim, subst}
-use Rattle.std.specs.Prelude.{if◌then◌else◌}
-use Rattle.std.specs.List.{slice_get}
-use Rattle.std.proofs.lemmas.Bool.{cases_eq, cases_Bool, eq-eqb, ne_eqb, eqb-true}
-use Rattle.b67_word.specs.Tagged.{Tagged, word}
+use Rattle.std.proofs.Common.{◌≡◌, ◌≢◌, ℕ, ◌<◌, ◌≤◌, ◌^◌, List, [], ◌∷◌, length, map, Option, Some, None, refl, sym, ◌∙◌, ap, arith, inl, inr, ⊎_elim, subst}
+use Rattle.std.proofs.lemmas.Bool.{cases_eq, eq-eqb, ne_eqb}
+use Rattle.b67_word.specs.Tagged.{Tagged}
 use Rattle.b67_area.specs.declared.Info.{Info}
 use Rattle.b67_area.specs.declared.Kind.{Kind}
-use Rattle.b67_area.specs.declared.Kind.TheVariants.{Array, Row, Code}
-use Rattle.b67_area.specs.Spans.{Span, area_at}
+use Rattle.b67_area.specs.declared.Kind.TheVariants.{Code}
 use Rattle.b67_backing.specs.Held.{sectors_for}
 use Rattle.b67_model.specs.Lists.{Has}
 use Rattle.b67_ctl.specs.declared.registers.Regs.{Regs}
-use Rattle.b67_stack.specs.Shapes.{Held, Shape, Copied, Copy}
-use Rattle.b67_stack.specs.Picture.{Thing, Picture, Slot, Free, Running, Waiting, SlotFits, CopiesName, IsArrayAt, Laid, slot_base, home_word, home_word_of}
-use Rattle.b67_stack.specs.Stands.{Storage, SlotsStand, SlotStands, RunningStands, ThingsStand, ThingStands, Content, Rests, HoldsIn, Told, HasChain, Owned, info_of, Stands}
-use Rattle.b67_storage.specs.Machine.{renumber, renumbered}
+use Rattle.b67_stack.specs.Picture.{Thing, Picture, Slot, Free, Running, Waiting, SlotFits, IsArrayAt, Laid, slot_base, home_word_of}
+use Rattle.b67_stack.specs.Stands.{Storage, SlotStands, ThingsStand, ThingStands, Content, Rests, Told, Owned, info_of, Stands}
+use Rattle.b67_storage.specs.Machine.{renumber, renumbered, Stayed}
 
 -- a thing of other numbers, as many
 pub record Alike (u v : Thing) : Type 0 where
@@ -157,3 +153,15 @@ renumbered-same x core r p s t int =
     (λ (e : u.home ≡ t.home). let same = s.slots.laid.differ u t inu int e in ap (renumber t.home t.numbers) same ∙ renumber-there t.home t.numbers t refl ∙ sym same)
     (λ (n : u.home ≡ t.home → ⊥). renumber-other t.home t.numbers u n)
     (cases_eq u.home t.home)))
+
+-- another thing is still there
+pub kept_there : (p : Picture) (home : ℕ) (ns : List ℕ) (c : Thing) → Has p.things c → c.home ≢ home → Has (renumbered p home ns).things c
+kept_there p home ns c int n = let Q : Thing → Type 0 = λ v. Has (map (renumber home ns) p.things) v in subst Q (renumber-other home ns c n) (map-Has (renumber home ns) p.things c int)
+
+pub Stayed-renumbered : (p : Picture) (home : ℕ) (ns : List ℕ) (core new : List Tagged) → Stayed (renumbered p home ns) core new → Stayed p core new
+Stayed-renumbered p home ns core new s i low out apart = s i low out (λ v inv e. let o = Has-map (renumber home ns) p.things v inv in apart o.0 o.1 (sym (home_is o.0) ∙ ap (λ (u : Thing). u.home) o.2 ∙ e)) where
+  home_is : (u : Thing) → (renumber home ns u).home ≡ u.home
+  home_is u = ⊎_elim
+      (λ (e : u.home ≡ home). ap (λ (v : Thing). v.home) (renumber-there home ns u e))
+      (λ (n : u.home ≡ home → ⊥). ap (λ (v : Thing). v.home) (renumber-other home ns u n))
+      (cases_eq u.home home)

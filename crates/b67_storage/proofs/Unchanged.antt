@@ -1,12 +1,10 @@
 -- Core was changed where no picture looks; and what any storage tells of areas and homes.
-use Rattle.std.proofs.Common.{◌≡◌, ◌≢◌, ℕ, suc, ◌+◌, ◌<◌, ◌≤◌, ◌^◌, List, [], ◌∷◌, length, map, Option, Some, None, refl, sym, ◌∙◌, ap, arith, inl, inr, ◌⊎◌, ⊎_elim, subst}
+use Rattle.std.proofs.Common.{◌≡◌, ◌≢◌, ℕ, suc, ◌+◌, ◌<◌, ◌≤◌, List, [], ◌∷◌, length, Some, refl, sym, ◌∙◌, ap, arith, inl, inr, ◌⊎◌, ⊎_elim}
 use Rattle.std.specs.List.{slice_get}
-use Rattle.std.proofs.lemmas.List.{length-map}
 use Rattle.std.proofs.lemmas.Bool.{cases_eq}
 use Rattle.std.proofs.lemmas.Option.{same_Some, slice_get_within}
 use Rattle.b67_word.specs.Tagged.{Tagged, word}
 use Rattle.b67_area.specs.declared.Info.{Info}
-use Rattle.b67_area.specs.declared.Kind.{Kind}
 use Rattle.b67_area.specs.Spans.{Span, Area, Hole, area_at, end}
 use Rattle.b67_area.specs.Words.{hole_high}
 use Rattle.b67_area.specs.Directory.{IsDirectory, Laid}
@@ -14,14 +12,14 @@ use Rattle.b67_area.proofs.Cuts.{pending}
 use Rattle.b67_area.proofs.Laws.{area_inside, areas_apart}
 use Rattle.b67_model.specs.Lists.{Has}
 use Rattle.b67_ctl.specs.declared.registers.Regs.{Regs}
-use Rattle.b67_stack.specs.Shapes.{Held, Shape, Fits, Lie, Upward}
+use Rattle.b67_stack.specs.Shapes.{Fits}
 use Rattle.b67_stack.specs.Stacks.{Activation, high, words}
-use Rattle.b67_stack.specs.Picture.{Thing, Picture, Slot, Free, Running, Waiting, stack_of, slot_base, home_word, words_of, SlotFits}
-use Rattle.b67_stack.specs.Stands.{Storage, SlotsStand, SlotStands, StacksLie, ThingsStand, ThingStands, Content, info_of, Stands}
+use Rattle.b67_stack.specs.Picture.{Thing, Picture, Slot, Free, Running, Waiting, stack_of, slot_base, SlotFits}
+use Rattle.b67_stack.specs.Stands.{Storage, SlotStands, info_of, Stands}
 use Rattle.b67_stack.proofs.Bases.{base-apart}
 use Rattle.b67_stack.proofs.Heights.{words-length}
 use Rattle.b67_stack.proofs.Lies.{Lie-same}
-use Rattle.b67_storage.proofs.Reheld.{SlotsStand-same, ChainStays, Content-stays}
+use Rattle.b67_storage.proofs.Reheld.{SlotsStand-same, Content-stays}
 
 module _ (x : Storage) (core : List Tagged) (r : Regs) (p : Picture) (s : Stands x core r p) where
   -- a thing's area
@@ -51,10 +49,13 @@ module _ (x : Storage) (core : List Tagged) (r : Regs) (p : Picture) (s : Stands
   slot_high k (Waiting stack) f = inr f.0.fits
 
   pub slot_below : (k : ℕ) → k < p.peak → (160 ≤ slot_base p k) × ((i : ℕ) → slot_base p k < i → i < suc (slot_base p k) + length (words k (stack_of (p.slots k))) → i < x.low)
-  slot_below k h = (omega (arith, s.slots.laid.first), λ i low up. ⊎_elim
-      (λ e. absurd (omega (arith, ap (λ (q : List Activation). length (words k q)) e)))
-      (λ (g : high (stack_of (p.slots k)) < p.size). omega (arith, words-length k (stack_of (p.slots k)), base-apart p k p.peak h, s.slots.laid.low))
-      (slot_high k (p.slots k) (s.slots.laid.slots k h)))
+  slot_below k h = (
+    omega (arith, s.slots.laid.first),
+    λ i low up. ⊎_elim
+        (λ e. absurd (omega (arith, ap (λ (q : List Activation). length (words k q)) e)))
+        (λ (g : high (stack_of (p.slots k)) < p.size). omega (arith, words-length k (stack_of (p.slots k)), base-apart p k p.peak h, s.slots.laid.low))
+        (slot_high k (p.slots k) (s.slots.laid.slots k h)),
+  )
 
   low_word : (ss : List Span) → Laid core 152 0 x.low ss → end x.low ss ≡ length core → slice_get core x.low ≢ Some (word 0 0)
   low_word [] l e z = absurd (omega (arith, slice_get_within core x.low (word 0 0) z))

@@ -1,15 +1,15 @@
 -- The words of stacks where one original's word is another.
-use Rattle.std.proofs.Common.{◌≡◌, ◌≢◌, ℕ, suc, ◌+◌, ◌*◌, ◌<◌, ◌≤◌, ◌^◌, List, length, Option, Some, None, refl, sym, ◌∙◌, ap, arith, ⊎_elim, Bool, true, false, subst}
+use Rattle.std.proofs.Common.{◌≡◌, ◌≢◌, ℕ, suc, ◌<◌, ◌≤◌, ◌^◌, List, length, Option, Some, None, refl, sym, ◌∙◌, ap, arith, ⊎_elim, Bool, true, false, subst}
 use Rattle.std.specs.Prelude.{MatchBool}
 use Rattle.std.specs.List.{slice_get}
-use Rattle.std.proofs.lemmas.Option.{same_Some, none-some}
+use Rattle.std.proofs.lemmas.Option.{none-some}
 use Rattle.std.proofs.lemmas.Bool.{cases_eq, false≢true}
 use Rattle.b67_word.specs.Tagged.{Tagged}
 use Rattle.b67_area.specs.declared.Kind.{Kind}
 use Rattle.b67_area.specs.declared.Kind.TheVariants.{Array, Row, Code}
 use Rattle.b67_ctl.specs.declared.registers.Regs.{Regs}
 use Rattle.b67_model.specs.Lists.{Has}
-use Rattle.b67_stack.specs.Shapes.{Held, Map, Shape, Is, Original, Copy, IsOriginal, IsCopy, Fits, Lie}
+use Rattle.b67_stack.specs.Shapes.{Held, Map, Shape, Is, Original, Copy, IsOriginal, Fits}
 use Rattle.b67_stack.specs.Stacks.{words}
 use Rattle.b67_stack.specs.Picture.{Thing, Picture, stack_of, slot_base, home_desc, home_word, home_word_of}
 use Rattle.b67_stack.specs.Stands.{Storage, StacksLie, Stands}
@@ -24,13 +24,13 @@ pub original_word : (k : Kind) (n : ℕ) (h : Held) → k ≢ Code → n < 2 ^ 2
 original_word k n h no_code few small area = by k no_code where
   address : (o : Option ℕ) → ((b : ℕ) → o ≡ Some b → b < 2 ^ 20) → (read_only : Bool) → IsOriginal (home_word_of Array n (record { area = o; chain = h.chain })) × IsOriginal (home_word_of Row n (record { area = o; chain = h.chain }))
   address None f b = (
-        record { desc = home_desc false n (record { area = None; chain = h.chain }); fits = record { words = few; address = small; indexed = λ z. absurd (false≢true z) }; own = refl; is = refl },
-        record { desc = home_desc true n (record { area = None; chain = h.chain }); fits = record { words = few; address = small; indexed = λ z. absurd (false≢true z) }; own = refl; is = refl },
-      )
+    record { desc = home_desc false n (record { area = None; chain = h.chain }); fits = record { words = few; address = small; indexed = λ z. absurd (false≢true z) }; own = refl; is = refl },
+    record { desc = home_desc true n (record { area = None; chain = h.chain }); fits = record { words = few; address = small; indexed = λ z. absurd (false≢true z) }; own = refl; is = refl },
+  )
   address (Some a) f b = (
-        record { desc = home_desc false n (record { area = Some a; chain = h.chain }); fits = record { words = few; address = f a refl; indexed = λ z. absurd (false≢true z) }; own = refl; is = refl },
-        record { desc = home_desc true n (record { area = Some a; chain = h.chain }); fits = record { words = few; address = f a refl; indexed = λ z. absurd (false≢true z) }; own = refl; is = refl },
-      )
+    record { desc = home_desc false n (record { area = Some a; chain = h.chain }); fits = record { words = few; address = f a refl; indexed = λ z. absurd (false≢true z) }; own = refl; is = refl },
+    record { desc = home_desc true n (record { area = Some a; chain = h.chain }); fits = record { words = few; address = f a refl; indexed = λ z. absurd (false≢true z) }; own = refl; is = refl },
+  )
 
   by : (k : Kind) → k ≢ Code → IsOriginal (home_word_of k n h)
   by Array ne = (address h.area area false).0

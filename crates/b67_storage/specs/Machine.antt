@@ -1,14 +1,16 @@
 -- The machine with its areas, sectors and device, and pictures in which one thing is held otherwise.
-use Rattle.std.specs.Prelude.{◌≡◌, ℕ, ◌^◌, ◌<◌, ◌≤◌, ◌==◌, ◌⊎◌, List, [], ◌∷◌, length, map, Option, Some, None, if◌then◌else◌}
+use Rattle.std.specs.Prelude.{◌≡◌, ◌≢◌, ℕ, slice_get, ◌^◌, ◌<◌, ◌≤◌, ◌==◌, ◌⊎◌, List, [], ◌∷◌, length, map, Option, Some, None, if◌then◌else◌}
 use Rattle.std.specs.List.{AllByRecursion}
+use Rattle.b67_word.specs.Tagged.{Tagged}
 use Rattle.b67_area.specs.declared.Areas.{Areas}
 use Rattle.b67_area.specs.Spans.{Span, Area, Hole}
-use Rattle.b67_backing.specs.Shelf.{Table, IsShelf}
+use Rattle.b67_backing.specs.Shelf.{Table, IsShelf, chain_of}
+use Rattle.b67_backing.specs.Held.{Changes}
 use Rattle.b67_model.specs.Lists.{Has}
 use Rattle.b67_stack.specs.declared.Cpu.{Cpu}
 use Rattle.b67_stack.specs.Shapes.{Held, Map}
 use Rattle.b67_stack.specs.Picture.{Thing, Picture}
-use Rattle.b67_stack.specs.Stands.{Storage, Stands}
+use Rattle.b67_stack.specs.Stands.{Storage, Told, Stands}
 
 -- what a storage says of the sectors, if anything, is what the device tells
 abbrev pub Says : Option (List (List ℕ)) → Option (List (List ℕ)) → Type 0
@@ -62,3 +64,20 @@ abbrev pub HasRoom : ℕ → List Span → Type 0
 HasRoom n [] = ⊥
 HasRoom n (Area a ∷ ss) = HasRoom n ss
 HasRoom n (Hole m ∷ ss) = (n ≤ m) ⊎ HasRoom n ss
+
+-- the chain of a first sector is the same in another storage, and holds what it held, as far as that is told
+pub record ChainStays (x y : Storage) (first : ℕ) : Type 0 where
+  pub chain : chain_of first y.shelf.chains ≡ chain_of first x.shelf.chains
+  pub told : (ns : List ℕ) → Told x.device (chain_of first x.shelf.chains) ns → Told y.device (chain_of first x.shelf.chains) ns
+
+-- a device after calls: it has as many sectors, no count has fallen, and where it told its sectors it still does
+pub record Served {D : Type 0} (holds : D → Option (List (List ℕ))) (many counted failed : D → ℕ) (old new : D) : Type 0 where
+  pub size : many new ≡ many old
+  pub calls : counted old ≤ counted new
+  pub faults : failed old ≤ failed new
+  pub tells : Changes holds old new (λ before after. length after ≡ length before)
+
+-- the words below the slots that are neither the directory's nor descriptors are as they were
+abbrev pub Stayed : Picture → List Tagged → List Tagged → Type 0
+Stayed p core new =
+    (i : ℕ) → i < p.stacks → (i < 152) ⊎ (160 ≤ i) → ((t : Thing) → Has p.things t → t.home ≢ i) → slice_get new i ≡ slice_get core i

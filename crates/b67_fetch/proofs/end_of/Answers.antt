@@ -6,9 +6,14 @@ use Rattle.b67_fetch.proofs.end_of.Goals as goal
 pub chase-requires : goal.chase-requires
 chase-requires c =
     let q = c.requires.runs in
-    let i = c.requires.followed in
-    (here_scene q.storage c.args.cpu.now q.plan q.session q.member q.task q.ordered q.stands q.running, here_shown q.storage c.args.cpu.now q.plan q.session q.member q.task q.ordered q.stands q.running,
-    i.at, i.owner, c.requires.word, followed_stands q.storage c.args.cpu.now q.plan q.session q.member q.task q.ordered q.stands q.running c.args.w c.requires.word i)
+    let i = c.requires.followed in (
+      here_scene q.storage c.args.cpu.now q.plan q.session q.member q.task q.ordered q.stands q.running,
+      here_shown q.storage c.args.cpu.now q.plan q.session q.member q.task q.ordered q.stands q.running,
+      i.at,
+      i.owner,
+      c.requires.word,
+      followed_stands q.storage c.args.cpu.now q.plan q.session q.member q.task q.ordered q.stands q.running c.args.w c.requires.word i,
+    )
 
 pub returns : goal.returns
 returns c = λ x plan s m t ordered h runs q v i.

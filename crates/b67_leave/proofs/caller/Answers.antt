@@ -1,4 +1,4 @@
-use Rattle.std.proofs.Common.{◌≡◌, Some, sym, ◌∙◌, ap}
+use Rattle.std.proofs.Common.{Some, sym, ◌∙◌, ap}
 use Rattle.std.proofs.lemmas.Option.{same_Some, none-some}
 use Rattle.b67_ctl.specs.declared.marks.Mscw.{Mscw}
 use Rattle.b67_stack.specs.Stacks.{return_of}

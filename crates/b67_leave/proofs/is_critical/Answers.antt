@@ -1,4 +1,4 @@
-use Rattle.std.proofs.Common.{sym, ◌∙◌, ap, arith}
+use Rattle.std.proofs.Common.{arith}
 use Rattle.b67_leave.proofs.Criticals.{slot_small, base_low, tells_critical}
 use Rattle.b67_leave.proofs.is_critical.Goals as goal
 

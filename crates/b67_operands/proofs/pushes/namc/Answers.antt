@@ -8,5 +8,7 @@ pub replace_cells-requires-clause-cells : goal.replace_cells-requires-clause-cel
 replace_cells-requires-clause-cells c = marked c.args.cpu.now c.requires.runs
 
 pub returns : goal.returns
-returns c = record { row = λ x plan s m t ordered h runs.
-    c.replace_cells.ensures.row x plan s m t ordered h runs [] (cells t) (Name c.args.couple) refl refl tt tt (c.word.ensures, λ z. omega (arith, z)) }
+returns c = record {
+  row = λ x plan s m t ordered h runs.
+      c.replace_cells.ensures.row x plan s m t ordered h runs [] (cells t) (Name c.args.couple) refl refl tt tt (c.word.ensures, λ z. omega (arith, z));
+}

@@ -1,5 +1,4 @@
-use Rattle.std.proofs.Common.{◌≡◌, ℕ, ◌+◌, ◌<◌, ◌≤◌, length, arith, sym, ◌∙◌, ap, refl, subst}
-use Rattle.b67_stack.specs.Picture.{Picture, slot_base}
+use Rattle.std.proofs.Common.{◌≡◌, ℕ, ◌<◌, arith, sym, subst}
 use Rattle.b67_stack.proofs.Bases.{base-step}
 use Rattle.b67_overlay.specs.Turns.{Searched}
 use Rattle.b67_overlay.proofs.Turning.{stack_low, Lies-turned, Searched-more}

@@ -1,4 +1,4 @@
-use Rattle.std.proofs.Common.{ℕ, ◌<◌, arith}
+use Rattle.std.proofs.Common.{arith}
 use Rattle.b67_overlay.proofs.Turning.{lies_of}
 use Rattle.b67_overlay.proofs.search.search_copies.Goals as goal
 

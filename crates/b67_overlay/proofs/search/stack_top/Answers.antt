@@ -1,4 +1,4 @@
-use Rattle.std.proofs.Common.{◌≡◌, ℕ, ◌+◌, ◌<◌, ◌≤◌, length, arith, sym, ◌∙◌, ap, Some}
+use Rattle.std.proofs.Common.{arith, sym, ◌∙◌, ap}
 use Rattle.std.specs.List.{slice_get}
 use Rattle.b67_overlay.proofs.Turning.{top_some, top_none}
 use Rattle.b67_overlay.proofs.search.stack_top.Goals as goal

@@ -1,4 +1,4 @@
-use Rattle.std.proofs.Common.{◌≡◌, ◌<◌, ◌≤◌, ◌+◌, arith, inl, inr, ◌⊎◌, ⊎_elim, ◌∙◌}
+use Rattle.std.proofs.Common.{◌<◌, ◌≤◌, arith, inl, inr, ⊎_elim, ◌∙◌}
 use Rattle.std.proofs.lemmas.Bool.{cases_lt}
 use Rattle.b67_overlay.proofs.Turning.{turned-more, others-more}
 use Rattle.b67_overlay.proofs.search.turn_part.Goals as goal

@@ -1,0 +1,187 @@
+-- What a task with other cells on top sees: the same frames at the same places, and cells further down.
+use Rattle.std.proofs.Common.{◌≡◌, ◌≢◌, ℕ, zero, suc, ◌+◌, ◌-◌, ◌<◌, ◌≤◌, eqb, List, [], ◌∷◌, ◌++◌, map, flat_map, reverse, length, Option, Some, None, Ok, Err, refl, sym, ◌∙◌, ap, arith, Bool, true, false, cond, ◌==◌, ◌⊎◌, inl, inr, ⊎_elim, subst, append_assoc, unwrap_or}
+use Rattle.std.specs.Prelude.{if◌then◌else◌, nat_lt}
+use Rattle.std.specs.List.{slice_get}
+use Rattle.std.specs.Option.{ok_or}
+use Rattle.std.proofs.lemmas.Bool.{cases_Bool}
+use Rattle.std.proofs.lemmas.Bool.Decides.{eqb_tells}
+use Rattle.std.proofs.lemmas.Option.{same_Some, none-some}
+use Rattle.std.proofs.lemmas.List.{reverse-append, length-reverse}
+use Rattle.b67_word.specs.declared.couples.Place.{Place}
+use Rattle.b67_word.specs.declared.faults.Fault.TheVariants.{InvalidAddress}
+use Rattle.b67_model.specs.Answers.{Answer}
+use Rattle.b67_model.specs.Keyed.{keyed, change_keyed}
+use Rattle.b67_model.specs.Lists.{Has}
+use Rattle.b67_model.specs.Words.{Word}
+use Rattle.b67_model.specs.State as State
+use Rattle.b67_model.specs.State.{Frame, Task, Job, Member, Here, top, with_top_cells, with_task, all_frames, frame, no_frame}
+use Rattle.b67_model.specs.Environment.{level_of_frame}
+use Rattle.b67_model.specs.Cells.{cell, cell_of, first_offset}
+use Rattle.b67_model.specs.InOrder.{Known, known_of, from_frame, frames_of_task, critical_of, outer_reach, outer_of, reach_of, IsInOrderButPlaces}
+use Rattle.b67_model.specs.Run.{number_of}
+use Rattle.b67_model.specs.Schedule.{Session}
+use Rattle.b67_order.proofs.Members.{has_get, has_reverse_back}
+use Rattle.b67_stack.specs.Stacks.{Spot}
+use Rattle.b67_layout.specs.Plan.{Plan, slot_of, spot_in, outer_spots, spots}
+use Rattle.b67_layout.specs.Session.{IsRunning}
+use Rattle.b67_layout.specs.Meets.{here}
+use Rattle.b67_layout.proofs.Others.{OnTop, outer_spots-after, keyed-has, keyed-put_same, keyed-put_other}
+use Rattle.b67_layout.proofs.Steps.{seen-with}
+use Rattle.b67_layout.proofs.Whole.{task_with}
+use Rattle.b67_layout.proofs.Fresh.{fresh}
+
+known-with : (fs : List Frame) (cs : List Word) → map known_of (with_top_cells fs cs) ≡ map known_of fs
+known-with [] cs = refl
+known-with (f ∷ below) cs = refl
+
+known-from : (n : ℕ) (fs : List Frame) (cs : List Word) → map known_of (from_frame n (with_top_cells fs cs)) ≡ map known_of (from_frame n fs)
+known-from n [] cs = refl
+known-from n (f ∷ below) cs = ⊎_elim (λ (e : (f.identity == n) ≡ true). rw e refl) (λ (e : (f.identity == n) ≡ false). rw e refl) (cases_Bool (f.identity == n))
+
+spots-with : (k : ℕ) (outer : ℕ → Spot) (fs : List Frame) (cells : List Word) (id : ℕ) → spot_in k outer (with_top_cells fs cells) id ≡ spot_in k outer fs id
+spots-with k outer [] cells id = refl
+spots-with k outer (f ∷ below) cells id = refl
+
+-- a list of frames of which one list of a task has other cells on top
+abbrev pub Seen : List Frame → List Word → Option Frame → Option Frame → Type 0
+Seen fs cs new old = (new ≡ old) ⊎ ((old ≡ Some (top fs)) × (new ≡ Some (record (top fs) { cells = cs })))
+
+abbrev look : ℕ → List Frame → Option Frame
+look id xs = keyed (λ (f : Frame). f.identity) id xs
+
+look-own : (id : ℕ) (fs : List Frame) (cs : List Word) (more : List Frame) → Seen fs cs (look id (with_top_cells fs cs ++ more)) (look id (fs ++ more))
+look-own id [] cs more = inl refl
+look-own id (f ∷ below) cs more = ⊎_elim
+    (λ (e : (f.identity == id) ≡ true). inr (rw e refl, rw e refl))
+    (λ (e : (f.identity == id) ≡ false). inl (rw e refl))
+    (cases_Bool (f.identity == id))
+
+look-past : (id : ℕ) (fs : List Frame) (cs : List Word) (xs new old : List Frame) → Seen fs cs (look id new) (look id old) → Seen fs cs (look id (xs ++ new)) (look id (xs ++ old))
+look-past id fs cs [] new old s = s
+look-past id fs cs (f ∷ xs) new old s = ⊎_elim
+    (λ (e : (f.identity == id) ≡ true). inl (rw e refl))
+    (λ (e : (f.identity == id) ≡ false). rw e (look-past id fs cs xs new old s))
+    (cases_Bool (f.identity == id))
+
+abbrev frames_of : List Task → List Frame
+frames_of ts = flat_map (λ (u : Task). u.frames) ts
+
+look-tasks : (id : ℕ) (t : Task) (cs : List Word) (q : Place) (base : List Frame) (ts : List Task) → keyed (λ (u : Task). u.number) t.number ts ≡ Some t
+    → Seen t.frames cs (look id (frames_of (change_keyed (λ (u : Task). u.number) t.number (λ (u : Task). task_with t cs q) ts) ++ base)) (look id (frames_of ts ++ base))
+look-tasks id t cs q base [] k = absurd (none-some t k)
+look-tasks id t cs q base (y ∷ ys) k = ⊎_elim
+    (λ (e : (y.number == t.number) ≡ true).
+    let same : y ≡ t = same_Some y t (rw e at k) in
+    let P : Task → Type 0 = λ z. Seen t.frames cs (look id (frames_of (task_with t cs q ∷ ys) ++ base)) (look id (frames_of (z ∷ ys) ++ base)) in
+    let L : List Frame → List Frame → Type 0 = λ a b. Seen t.frames cs (look id a) (look id b) in
+    let own : L (with_top_cells t.frames cs ++ (frames_of ys ++ base)) (t.frames ++ (frames_of ys ++ base)) = look-own id t.frames cs (frames_of ys ++ base) in
+    let here_own : L (frames_of (task_with t cs q ∷ ys) ++ base) (frames_of (t ∷ ys) ++ base) = rw (append_assoc, append_assoc) own in
+    rw e (subst P (sym same) here_own))
+    (λ (e : (y.number == t.number) ≡ false).
+    let at : keyed (λ (u : Task). u.number) t.number ys ≡ Some t = rw e at k in
+    let L : List Frame → List Frame → Type 0 = λ a b. Seen t.frames cs (look id a) (look id b) in
+    let new = change_keyed (λ (u : Task). u.number) t.number (λ (u : Task). task_with t cs q) ys in
+    let past : L (y.frames ++ (frames_of new ++ base)) (y.frames ++ (frames_of ys ++ base)) = look-past id t.frames cs y.frames (frames_of new ++ base) (frames_of ys ++ base) (look-tasks id t cs q base ys at) in
+    let all : L (frames_of (y ∷ new) ++ base) (frames_of (y ∷ ys) ++ base) = rw (append_assoc, append_assoc) past in
+    rw e all)
+    (cases_Bool (y.number == t.number))
+
+-- the item at a place of the front part
+get_front : {A : Type 0} (xs ys zs : List A) (i : ℕ) (w : A) → slice_get (xs ++ ys) i ≡ Some w → (Has ys w → ⊥) → slice_get (xs ++ zs) i ≡ Some w
+get_front [] ys zs i w e other = absurd (other (has_get ys i w e))
+get_front (x ∷ xs) ys zs zero w e other = e
+get_front (x ∷ xs) ys zs (suc i) w e other = get_front xs ys zs i w e other
+
+get_other : (gone rest put : List Word) (i : ℕ) (w : Word) → slice_get (reverse (gone ++ rest)) i ≡ Some w → (Has gone w → ⊥) → slice_get (reverse (put ++ rest)) i ≡ Some w
+get_other gone rest put i w e other =
+    let old : slice_get (reverse rest ++ reverse gone) i ≡ Some w = ap (λ xs. slice_get xs i) (sym (reverse-append gone rest)) ∙ e in
+    ap (λ xs. slice_get xs i) (reverse-append put rest) ∙ get_front (reverse rest) (reverse gone) (reverse put) i w old (λ h. other (has_reverse_back gone w h))
+
+cell_other : (f : Frame) (gone rest put : List Word) (offset : ℕ) (w : Word) → f.cells ≡ gone ++ rest → cell_of f offset ≡ Some w → (Has gone w → ⊥) → cell_of (record f { cells = put ++ rest }) offset ≡ Some w
+cell_other f gone rest put offset w e found other = ⊎_elim
+    (λ (t : nat_lt offset (first_offset f) ≡ true). absurd (none-some w (rw t at found)))
+    (λ (t : nat_lt offset (first_offset f) ≡ false).
+    let at : slice_get (reverse f.cells) (offset - first_offset f) ≡ Some w = rw t at found in
+    rw t (get_other gone rest put (offset - first_offset f) w (ap (λ xs. slice_get (reverse xs) (offset - first_offset f)) (sym e) ∙ at) other))
+    (cases_Bool (nat_lt offset (first_offset f)))
+
+ok_some : (o : Option Word) (w : Word) → ok_or o InvalidAddress ≡ Ok w → o ≡ Some w
+ok_some None w e = cc
+ok_some (Some v) w e = cc
+
+module _ (plan : Plan) (s : Session) (m : Member) (t : Task) (ordered : IsInOrderButPlaces s) (runs : IsRunning plan s.jobs m t) (cs : List Word) (p : Place) where
+  abbrev pub job_with : Job
+  job_with = with_task m.course.job (task_with t cs p)
+
+  abbrev pub member_with : Member
+  member_with = record m { course = record m.course { job = with_task m.course.job (task_with t cs p) } }
+
+  on_top : OnTop m.course.job (with_task m.course.job (task_with t cs p)) t (task_with t cs p) m.course.job.next_frame
+  on_top =
+      let free = fresh plan s m t ordered runs in
+      record {
+        there = runs.task;
+        number = refl;
+        critical = refl;
+        parents = refl;
+        tasks = refl;
+        arrays = refl;
+        some = free.some;
+        uncritical = free.uncritical;
+        same = λ d k o id ne. seen-with t.frames cs d k o id;
+      }
+
+  pub spots-same : (id : ℕ) → spots plan m.setting.number (with_task m.course.job (task_with t cs p)) (task_with t cs p) id ≡ spots plan m.setting.number m.course.job t id
+  spots-same id =
+      let own : t.critical ≢ m.course.job.next_frame = (fresh plan s m t ordered runs).uncritical t (keyed-has (λ (u : Task). u.number) t.number m.course.job.tasks t runs.task) in
+      let outer : outer_spots plan m.setting.number (with_task m.course.job (task_with t cs p)) t.critical t.parents ≡ outer_spots plan m.setting.number m.course.job t.critical t.parents =
+      λ z i. outer_spots-after plan m.setting.number m.course.job (with_task m.course.job (task_with t cs p)) t (task_with t cs p) m.course.job.next_frame on_top t.parents t.critical own i z in
+      ap (λ (o : ℕ → Spot). spot_in (slot_of plan m.setting.number t.number) o (with_top_cells t.frames cs) id) outer
+      ∙ spots-with (slot_of plan m.setting.number t.number) (outer_spots plan m.setting.number m.course.job t.critical t.parents) t.frames cs id
+
+  -- the reach of each task
+  reach-by : (parents : List ℕ) (c : ℕ) → outer_reach (with_task m.course.job (task_with t cs p)) c parents ≡ outer_reach m.course.job c parents
+  reach-by [] c = refl
+  reach-by (parent ∷ more) c = elim (eqb_tells parent t.number) [
+    | inl e ↦
+        let old : keyed (λ (u : Task). u.number) parent m.course.job.tasks ≡ Some t = ap (λ n. keyed (λ (u : Task). u.number) n m.course.job.tasks) e.1 ∙ runs.task in
+        let new : keyed (λ (u : Task). u.number) parent (with_task m.course.job (task_with t cs p)).tasks ≡ Some (task_with t cs p) =
+        ap (λ n. keyed (λ (u : Task). u.number) n (with_task m.course.job (task_with t cs p)).tasks) e.1 ∙ keyed-put_same (λ (u : Task). u.number) t.number (task_with t cs p) t refl m.course.job.tasks runs.task in
+        let O : Job → Option Task → List Known = λ j o. map known_of (from_frame c (frames_of_task o)) ++ outer_reach j (critical_of o) more in
+        ap (O (with_task m.course.job (task_with t cs p))) new
+        ∙ ap (λ ks. ks ++ outer_reach (with_task m.course.job (task_with t cs p)) t.critical more) (known-from c t.frames cs)
+        ∙ ap (λ ks. map known_of (from_frame c t.frames) ++ ks) (reach-by more t.critical)
+        ∙ ap (O m.course.job) (sym old)
+    | inr e ↦
+        let new : keyed (λ (u : Task). u.number) parent (with_task m.course.job (task_with t cs p)).tasks ≡ keyed (λ (u : Task). u.number) parent m.course.job.tasks = keyed-put_other (λ (u : Task). u.number) parent t.number (task_with t cs p) refl e.1 m.course.job.tasks in
+        let o = keyed (λ (u : Task). u.number) parent m.course.job.tasks in
+        let O : Job → Option Task → List Known = λ j z. map known_of (from_frame c (frames_of_task z)) ++ outer_reach j (critical_of z) more in
+        ap (O (with_task m.course.job (task_with t cs p))) new
+        ∙ ap (λ ks. map known_of (from_frame c (frames_of_task o)) ++ ks) (reach-by more (critical_of o))
+  ]
+
+  pub reach-same : reach_of (with_task m.course.job (task_with t cs p)) (task_with t cs p) ≡ reach_of m.course.job t
+  reach-same = ap (λ ks. ks ++ outer_reach (with_task m.course.job (task_with t cs p)) t.critical t.parents) (known-with t.frames cs) ∙ ap (λ ks. map known_of t.frames ++ ks) (reach-by t.parents t.critical)
+
+  -- a frame that is looked up
+  look-same : (q : Place) (id : ℕ) → Seen t.frames cs (look id (all_frames (here member_with (task_with t cs p) q))) (look id (all_frames (here m t q)))
+  look-same q id = look-tasks id t cs p (m.setting.dictionary ∷ State.mcp ∷ []) m.course.job.tasks runs.task
+
+  pub level-same : (q : Place) (id : ℕ) → level_of_frame (frame (here member_with (task_with t cs p) q) id) ≡ level_of_frame (frame (here m t q) id)
+  level-same q id = ⊎_elim
+      (λ (e : look id (all_frames (here member_with (task_with t cs p) q)) ≡ look id (all_frames (here m t q))). ap (λ o. level_of_frame (unwrap_or o no_frame)) e)
+      (λ (e : (look id (all_frames (here m t q)) ≡ Some (top t.frames)) × (look id (all_frames (here member_with (task_with t cs p) q)) ≡ Some (record (top t.frames) { cells = cs }))).
+      ap (λ o. level_of_frame (unwrap_or o no_frame)) e.1 ∙ ap (λ o. level_of_frame (unwrap_or o no_frame)) (sym e.0))
+      (look-same q id)
+
+  -- a cell that stays
+  pub cell-same : (q : Place) (gone rest put : List Word) (id offset : ℕ) (w : Word) → (top t.frames).cells ≡ gone ++ rest → cs ≡ put ++ rest → cell (here m t q) id offset ≡ Ok w → (Has gone w → ⊥)
+      → cell (here member_with (task_with t cs p) q) id offset ≡ Ok w
+  cell-same q gone rest put id offset w e new found other = ⊎_elim
+      (λ (l : look id (all_frames (here member_with (task_with t cs p) q)) ≡ look id (all_frames (here m t q))). ap (λ o. ok_or (cell_of (unwrap_or o no_frame) offset) InvalidAddress) l ∙ found)
+      (λ (l : (look id (all_frames (here m t q)) ≡ Some (top t.frames)) × (look id (all_frames (here member_with (task_with t cs p) q)) ≡ Some (record (top t.frames) { cells = cs }))).
+      let F : Option Frame → Answer Word = λ o. ok_or (cell_of (unwrap_or o no_frame) offset) InvalidAddress in
+      let old : cell_of (top t.frames) offset ≡ Some w = ok_some (cell_of (top t.frames) offset) w (ap F (sym l.0) ∙ found) in
+      ap F l.1 ∙ ap (λ (ds : List Word). ok_or (cell_of (record (top t.frames) { cells = ds }) offset) InvalidAddress) new
+      ∙ ap (λ (o : Option Word). ok_or o InvalidAddress) (cell_other (top t.frames) gone rest put offset w e old other))
+      (look-same q id)

@@ -1,0 +1,2 @@
+//! Accidental entry where the top cells of the running task have changed before: lemmas.
+#![tactic(auto)]

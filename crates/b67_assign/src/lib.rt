@@ -1,0 +1,2 @@
+//! Stores.
+#![tactic(auto)]

@@ -1,0 +1,14 @@
+use Rattle.std.proofs.Common.{ℕ, ap, subst, sym, ◌∙◌}
+use Rattle.b67_area.specs.declared.Info.{Info}
+use Rattle.b67_overlay.specs.Turns.{Searched}
+use Rattle.b67_overlay.proofs.Hiding.{hidden_data, hidden_code}
+use Rattle.b67_overlay.proofs.overlays.hide_copies.Goals as goal
+
+pub returns-in-Array-clause-hides : goal.returns-in-Array-clause-hides
+returns-in-Array-clause-hides c = λ x p t h s at is.
+    let P : ℕ → Type 0 = λ n. Searched p p.peak c.args.area n c.args.cpu.now.core c.search_copies.new.cpu.core in
+    hidden_data x c.args.cpu.now.core c.args.cpu.now.regs p s c.args.area t at h c.search_copies.new.cpu.core (subst P (ap (λ (i : Info). i.owner) is) (c.search_copies.ensures.searched x p s))
+
+pub returns-in-Code-clause-hides : goal.returns-in-Code-clause-hides
+returns-in-Code-clause-hides c = λ x p t h s at is.
+    hidden_code x c.args.cpu.now.core c.args.cpu.now.regs p s c.args.area t at h (sym (ap (λ (i : Info). i.kind) is) ∙ c.in-Code.is)

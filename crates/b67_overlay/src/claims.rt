@@ -1,0 +1,56 @@
+//! A part of core that is cleared of areas.
+
+ghost use Rattle.std.specs.Prelude.{◌≡◌, ◌≢◌, ℕ, ◌+◌, ◌<◌, ◌≤◌, Some, Err, OnOk, OnErr, length};
+ghost use Rattle.b67_area.specs.declared.Info.{Info};
+ghost use Rattle.b67_area.specs.Spans.{area_at};
+ghost use Rattle.b67_backing.specs.declared.SpaceFault.TheVariants.{NoCore, BackingFull, BackingFault};
+ghost use Rattle.b67_io.specs.Causes.{Rose};
+ghost use Rattle.b67_stack.specs.Picture.{Picture};
+ghost use Rattle.b67_stack.specs.Stands.{Storage};
+ghost use Rattle.b67_storage.specs.Machine.{MachineStands, Served, Stayed};
+ghost use Rattle.b67_overlay.specs.Sheds.{Sheds, IsShortBy};
+
+use crate::overlays::overlay;
+use b67_area::Areas;
+use b67_backing::{Backing, Sectors, SpaceFault};
+use b67_stack::Cpu;
+
+/// Takes each area out of core that has a word, its head included, below an address.
+pub fn claim<B: Backing>(
+    cpu: &mut Cpu,
+    areas: &mut Areas,
+    sectors: &mut Sectors,
+    backing: &mut B,
+    upto: u32,
+) -> Result<(), SpaceFault>
+    requires machine { (x : Storage) × (p : Picture) × MachineStands x cpu.old areas.old sectors.old (B.holds backing.old) p }
+    requires same { B.size backing.old + 1 ≡ length sectors.old.links }
+    ensures rest { cpu.new ≡ record cpu.old { core = cpu.new.core } }
+    ensures len { length cpu.new.core ≡ length cpu.old.core }
+    ensures areas { areas.new ≡ areas.old }
+    ensures outside { (x : Storage) (p : Picture) → MachineStands x cpu.old areas.old sectors.old (B.holds backing.old) p → Stayed p cpu.old.core cpu.new.core }
+    ensures clear { OnOk result ((x : Storage) (p : Picture) → MachineStands x cpu.old areas.old sectors.old (B.holds backing.old) p
+        → (y : Storage) × Sheds x y 0 × ((at : ℕ) (a : Info) → area_at y.low y.spans at ≡ Some a → upto < at)
+        × MachineStands y cpu.new areas.new sectors.new (B.holds backing.new) p) }
+    ensures refused { OnErr result ((x : Storage) (p : Picture) → MachineStands x cpu.old areas.old sectors.old (B.holds backing.old) p
+        → (y : Storage) × Sheds x y 0 × MachineStands y cpu.new areas.new sectors.new (B.holds backing.new) p) }
+    ensures full { (x : Storage) (p : Picture) (wants free : ℕ) → MachineStands x cpu.old areas.old sectors.old (B.holds backing.old) p → result ≡ Err (BackingFull wants free)
+        → (y : Storage) × Sheds x y 0 × IsShortBy y p wants free × MachineStands y cpu.new areas.new sectors.new (B.holds backing.new) p }
+    ensures no_core { (need size : ℕ) → result ≢ Err (NoCore need size) }
+    ensures count { length sectors.new.links ≡ length sectors.old.links }
+    ensures device { Served B.holds B.size B.calls B.faults backing.old backing.new }
+    ensures cause { result ≡ Err BackingFault → Rose B.faults backing.old backing.new }
+{
+    let mut next = areas.first(&cpu.core);
+    'areas: while let Some(at) = next {
+        if at > upto {
+            return Ok(());
+        }
+        next = areas.after(&cpu.core, at);
+        match overlay(cpu, areas, sectors, backing, at) {
+            Ok(()) => {}
+            Err(fault) => return Err(fault),
+        }
+    }
+    Ok(())
+}

@@ -1,0 +1,152 @@
+//! Areas that are given back.
+
+ghost use Rattle.std.specs.Prelude.{◌≡◌, ◌≢◌, ◌↔◌, ◌⊎◌, ℕ, ◌+◌, ◌^◌, ◌<◌, ◌≤◌, List, Option, Some, None, Err, OnOk, OnErr, IsOk, length};
+ghost use Rattle.b67_area.specs.declared.Kind.TheVariants.{Array, Row, Code};
+ghost use Rattle.b67_backing.specs.Shelf.{Table};
+ghost use Rattle.b67_backing.specs.Held.{sectors_for};
+ghost use Rattle.b67_backing.specs.declared.SpaceFault.TheVariants.{NoCore, BackingFull, BackingFault};
+ghost use Rattle.b67_ctl.specs.Descriptors.{data_word};
+ghost use Rattle.b67_io.specs.Causes.{Rose};
+ghost use Rattle.b67_stack.specs.Shapes.{Held};
+ghost use Rattle.b67_stack.specs.Picture.{Thing, Picture, home_desc, home_word_of};
+ghost use Rattle.b67_stack.specs.Stands.{Storage, Stands, info_of};
+ghost use Rattle.b67_storage.specs.Machine.{MachineStands, IsPresent, Served, Stayed};
+ghost use Rattle.b67_overlay.specs.Turns.{Hides};
+ghost use Rattle.b67_overlay.specs.Overlaid.{overlaid, dropped, retelling, IsOut, IsShort};
+
+use crate::search::search_copies;
+use crate::writing::write_out;
+use b67_area::{Areas, Info, Kind};
+use b67_backing::{Backing, Sectors, SpaceFault};
+use b67_ctl::{DataDesc, SegDesc};
+use b67_stack::Cpu;
+use b67_word::Word;
+
+/// The word of an absent original.
+fn original(read_only: bool, words: u32, first: u32) -> Word
+    requires words { words < 2 ^ 20 }
+    requires first { first < 2 ^ 20 }
+    ensures { result ≡ data_word (home_desc read_only words (record { area = None; chain = first })) }
+{
+    DataDesc {
+        present: false,
+        copy: false,
+        indexed: false,
+        read_only,
+        length: words,
+        address: first,
+    }
+    .word()
+}
+
+/// The word of the original or segment descriptor of a thing that isn't in core.
+fn absent_word(info: Info, first: u32) -> Word
+    requires words { info.words < 2 ^ 20 }
+    requires first { first < 2 ^ 20 }
+    ensures { result ≡ home_word_of info.kind info.words (record { area = None; chain = first }) }
+{
+    match info.kind {
+        Kind::Array => original(false, info.words, first),
+        Kind::Row => original(true, info.words, first),
+        Kind::Code => SegDesc {
+            present: false,
+            words: info.words,
+            address: first,
+        }
+        .word(),
+    }
+}
+
+/// Makes the copies absent that have the address of an area. No copy has that of a segment's.
+fn hide_copies(cpu: &mut Cpu, area: u32, info: Info)
+    requires { (x : Storage) × (p : Picture) × (t : Thing) × Stands x cpu.old.core cpu.old.regs p × IsPresent x p area t × (info ≡ info_of x t) }
+    ensures rest { cpu.new ≡ record cpu.old { core = cpu.new.core } }
+    ensures hides { (x : Storage) (p : Picture) (t : Thing) (h : Held) → Stands x cpu.old.core cpu.old.regs p → IsPresent x p area t → info ≡ info_of x t
+        → Hides x cpu.old.core cpu.new.core p t h }
+{
+    match info.kind {
+        Kind::Array | Kind::Row => search_copies(cpu, area, info.owner),
+        Kind::Code => {}
+    }
+}
+
+/// Gives an area back whose words are in the chain of this first sector.
+fn give_back(cpu: &mut Cpu, areas: &mut Areas, area: u32, info: Info, first: u32)
+    requires machine { (x : Storage) × (p : Picture) × (t : Thing) × Stands x cpu.old.core cpu.old.regs p × (areas.old.low ≡ x.low) × IsPresent x p area t × (info ≡ info_of x t) }
+    requires first { first < 2 ^ 20 }
+    ensures rest { cpu.new ≡ record cpu.old { core = cpu.new.core } }
+    ensures areas { areas.new ≡ areas.old }
+    ensures len { length cpu.new.core ≡ length cpu.old.core }
+    ensures stands { (x y : Storage) (p : Picture) (t : Thing) → Stands x cpu.old.core cpu.old.regs p → areas.old.low ≡ x.low → IsPresent x p area t → info ≡ info_of x t
+        → IsOut x y p t first → Stands (dropped x y t area first) cpu.new.core cpu.new.regs p }
+    ensures outside { (x : Storage) (p : Picture) (t : Thing) → Stands x cpu.old.core cpu.old.regs p → areas.old.low ≡ x.low → IsPresent x p area t → info ≡ info_of x t
+        → Stayed p cpu.old.core cpu.new.core }
+{
+    hide_copies(cpu, area, info);
+    cpu.core.set(info.owner, absent_word(info, first));
+    areas.free(&mut cpu.core, area);
+}
+
+/// Gives back the area of code or of a data row, whose words are in sectors already. No device is called.
+pub fn discard(cpu: &mut Cpu, areas: &mut Areas, area: u32)
+    requires { (x : Storage) × (p : Picture) × (t : Thing) × Stands x cpu.old.core cpu.old.regs p × (areas.old.low ≡ x.low) × IsPresent x p area t × (t.kind ≢ Array) }
+    ensures rest { cpu.new ≡ record cpu.old { core = cpu.new.core } }
+    ensures len { length cpu.new.core ≡ length cpu.old.core }
+    ensures areas { areas.new ≡ areas.old }
+    ensures stands { (x : Storage) (table : Table) (told : Option (List (List ℕ))) (p : Picture) (t : Thing) → MachineStands x cpu.old areas.old table told p
+        → IsPresent x p area t → t.kind ≢ Array → MachineStands (overlaid x t area told) cpu.new areas.new table told p }
+    ensures outside { (x : Storage) (p : Picture) (t : Thing) → Stands x cpu.old.core cpu.old.regs p → areas.old.low ≡ x.low → IsPresent x p area t
+        → Stayed p cpu.old.core cpu.new.core }
+{
+    let info = areas.info(&cpu.core, area);
+    give_back(cpu, areas, area, info, info.kept);
+}
+
+/// Takes an area out of core: the words of an array are written to its chain of sectors, those of code and data rows are
+/// there already. Its copies become absent, and its original or segment descriptor. Nothing of core is changed where it is
+/// refused.
+pub fn overlay<B: Backing>(
+    cpu: &mut Cpu,
+    areas: &mut Areas,
+    sectors: &mut Sectors,
+    backing: &mut B,
+    area: u32,
+) -> Result<(), SpaceFault>
+    requires machine { (x : Storage) × (p : Picture) × (t : Thing) × MachineStands x cpu.old areas.old sectors.old (B.holds backing.old) p × IsPresent x p area t }
+    requires same { B.size backing.old + 1 ≡ length sectors.old.links }
+    ensures rest { cpu.new ≡ record cpu.old { core = cpu.new.core } }
+    ensures len { length cpu.new.core ≡ length cpu.old.core }
+    ensures areas { areas.new ≡ areas.old }
+    ensures stands { OnOk result ((x : Storage) (p : Picture) (t : Thing) → MachineStands x cpu.old areas.old sectors.old (B.holds backing.old) p
+        → IsPresent x p area t → MachineStands (overlaid x t area (B.holds backing.new)) cpu.new areas.new sectors.new (B.holds backing.new) p) }
+    ensures refused { OnErr result ((x : Storage) (p : Picture) (t : Thing) → MachineStands x cpu.old areas.old sectors.old (B.holds backing.old) p
+        → IsPresent x p area t → MachineStands (retelling x (B.holds backing.new)) cpu.new areas.new sectors.new (B.holds backing.new) p) }
+    ensures unchanged { OnErr result (cpu.new ≡ cpu.old) }
+    ensures outside { (x : Storage) (p : Picture) (t : Thing) → MachineStands x cpu.old areas.old sectors.old (B.holds backing.old) p → IsPresent x p area t
+        → Stayed p cpu.old.core cpu.new.core }
+    ensures full { (x : Storage) (p : Picture) (t : Thing) (wants free : ℕ) → MachineStands x cpu.old areas.old sectors.old (B.holds backing.old) p → IsPresent x p area t
+        → (result ≡ Err (BackingFull wants free)) ↔ (IsShort x t × (wants ≡ sectors_for (length t.numbers)) × (free ≡ length x.shelf.free)) }
+    ensures no_core { (need size : ℕ) → result ≢ Err (NoCore need size) }
+    ensures clean { (x : Storage) (p : Picture) (t : Thing) → MachineStands x cpu.old areas.old sectors.old (B.holds backing.old) p → IsPresent x p area t
+        → t.kind ≢ Array → IsOk result × (sectors.new ≡ sectors.old) × (backing.new ≡ backing.old) }
+    ensures count { length sectors.new.links ≡ length sectors.old.links }
+    ensures device { Served B.holds B.size B.calls B.faults backing.old backing.new }
+    ensures cause { result ≡ Err BackingFault → Rose B.faults backing.old backing.new }
+{
+    let info = areas.info(&cpu.core, area);
+    match info.kind {
+        Kind::Row | Kind::Code => {
+            discard(cpu, areas, area);
+            Ok(())
+        }
+        Kind::Array => {
+            match write_out(&cpu.core, sectors, backing, area, info.words, info.kept) {
+                Ok(first) => {
+                    give_back(cpu, areas, area, info, first);
+                    Ok(())
+                }
+                Err(fault) => Err(fault),
+            }
+        }
+    }
+}

@@ -1,0 +1,5 @@
+pub mod Retning
+pub mod Putting
+pub mod Evaluating
+pub mod Calling
+pub mod Candidates

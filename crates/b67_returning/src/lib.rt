@@ -1,0 +1,2 @@
+//! An activation record is left with a word: lemmas alone.
+#![tactic(auto)]

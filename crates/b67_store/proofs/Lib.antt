@@ -1,0 +1,5 @@
+pub mod Finishes
+pub mod Cells
+pub mod Elements
+pub mod Words
+pub mod Stores
