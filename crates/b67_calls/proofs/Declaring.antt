@@ -312,6 +312,6 @@ module _ (x : Storage) (cpu : Cpu) (plan : Plan) (s : Session) (m : Member) (t :
       ∙ spots-with (slot_of plan m.setting.number t.number) (outer_spots plan m.setting.number m.course.job t.critical t.parents) t.frames (Original a.identity ∷ cells t) id) in
       let shown : Shows cpu.display plan (record m { course = c }) t' = Shows-same cpu.display plan m c t t' runs.task d.tasks (known-with t.frames (Original a.identity ∷ cells t)) places (h.shows m t runs) in
       record {
-        holds = SessionHoldsBut-after [] y cpu.core core' cpu.regs regs' cpu.critical plan s m c t t' holds runs by low (critical-with m.course.job t.frames (Original a.identity ∷ cells t)) memory (subst Settled (sym picture_is) settled') task_stands;
-        shows = for_running [] y cpu.core core' cpu.regs regs' cpu.critical plan s m c t t' holds runs by (Shows cpu.display plan) shown;
+        holds = SessionHoldsBut-after [] [] y cpu.core core' cpu.regs regs' cpu.critical plan s m c t t' holds runs by low (critical-with m.course.job t.frames (Original a.identity ∷ cells t)) memory (subst Settled (sym picture_is) settled') task_stands;
+        shows = for_running [] [] y cpu.core core' cpu.regs regs' cpu.critical plan s m c t t' holds runs by (Shows cpu.display plan) shown;
       }
