@@ -9,3 +9,4 @@ pub mod Replanned
 pub mod Declaring
 pub mod Arrays
 pub mod Lengths
+pub mod Tables
