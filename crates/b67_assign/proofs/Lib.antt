@@ -1,1 +1,3 @@
 pub mod Unders
+pub mod Cases
+pub mod Overs

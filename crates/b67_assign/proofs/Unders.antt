@@ -1,24 +1,23 @@
 -- A store into a procedure: the value stays, the reference goes, and the procedure is entered.
-use Rattle.std.proofs.Common.{◌≡◌, ◌≢◌, ℕ, zero, suc, ◌+◌, ◌-◌, ◌<◌, ◌≤◌, ◌^◌, List, [], ◌∷◌, ◌++◌, map, length, Option, Some, None, Ok, Err, refl, sym, ◌∙◌, ap, arith, Bool, true, false, inl, inr, ◌⊎◌, ⊎_elim, subst, slice_set}
+use Rattle.std.proofs.Common.{◌≡◌, ◌≢◌, ℕ, zero, suc, ◌+◌, ◌-◌, ◌<◌, ◌≤◌, List, [], ◌∷◌, ◌++◌, map, length, Some, Ok, Err, refl, sym, ◌∙◌, ap, arith, Bool, false, inl, inr, ◌⊎◌, ⊎_elim, subst, slice_set}
 use Rattle.std.specs.Prelude.{if◌then◌else◌}
-use Rattle.std.specs.List.{slice_get, AllByRecursion}
+use Rattle.std.specs.List.{slice_get}
 use Rattle.std.proofs.lemmas.Bool.{cases_eq}
 use Rattle.std.proofs.lemmas.Option.{same_Some}
 use Rattle.b67_word.specs.Tagged.{Tagged}
 use Rattle.b67_word.specs.declared.couples.Place.{Place}
 use Rattle.b67_word.specs.declared.faults.Fault.{Fault}
-use Rattle.b67_core.proofs.Writes.{slice_get-set_same, slice_get-set_other}
+use Rattle.b67_core.proofs.Writes.{slice_get-set_other}
 use Rattle.b67_model.specs.Answers.{Answer, ◌>>=◌}
-use Rattle.b67_model.specs.Arrays.{in_order}
 use Rattle.b67_model.specs.Chase as Chase
 use Rattle.b67_model.specs.Chase.{AtProc, follow}
 use Rattle.b67_model.specs.Entry.{accident, back_to}
-use Rattle.b67_model.specs.InOrder.{Starts, Known, known_of, outer_of, is_original_of, IsSegment, NoCopyUnder, CopiesAbove, CellsInOrder, FramesInOrder, IsInOrderButPlaces}
+use Rattle.b67_model.specs.InOrder.{Starts, Known, known_of, outer_of, is_original_of, IsSegment, CellsInOrder, FramesInOrder, IsInOrderButPlaces}
 use Rattle.b67_model.specs.Intrinsics.{is_original}
 use Rattle.b67_model.specs.Lists.{Has, how_many}
 use Rattle.b67_model.specs.Rows as rows
 use Rattle.b67_model.specs.Schedule.{Session}
-use Rattle.b67_model.specs.State.{Frame, Array, Task, Job, Member, Here, top, with_top_cells, with_task, height}
+use Rattle.b67_model.specs.State.{Frame, Array, Task, Member, Here, top, with_task}
 use Rattle.b67_model.specs.Steps.{Done, cells_of}
 use Rattle.b67_model.specs.Words as Words
 use Rattle.b67_model.specs.Words.{Word, Operand, Name, Ref, Row, Element, Original, Proc, Intrinsic, operand}
@@ -28,10 +27,10 @@ use Rattle.b67_stack.specs.declared.Step.TheVariants as step
 use Rattle.b67_stack.specs.Stands.{Storage}
 use Rattle.b67_layout.specs.Plan.{Plan}
 use Rattle.b67_layout.specs.Session.{IsRunning, SessionHoldsBut, SessionStands}
-use Rattle.b67_layout.specs.Meets.{here, with_job, IsMade, Meets}
+use Rattle.b67_layout.specs.Meets.{here, with_job, Meets}
 use Rattle.b67_layout.proofs.Whole.{task_with}
 use Rattle.b67_layout.proofs.Fresh.{running_in_order}
-use Rattle.b67_cells.specs.Tops.{IsWordOf, IsAt, cells, MayStand}
+use Rattle.b67_cells.specs.Tops.{IsWordOf, IsAt, cells}
 use Rattle.b67_cells.proofs.Replaced.{height-with}
 use Rattle.b67_cells.proofs.Put.{room, replaced_stands}
 use Rattle.b67_ordering.proofs.Cells.{cells_in_order}
@@ -43,7 +42,7 @@ use Rattle.b67_accidents.proofs.Entries.{EntersOver, scene0, member0, task0, pro
 use Rattle.b67_evaluate.proofs.Entered.{AtProcedure}
 
 -- the value of an operand
-is_operand : (b : Word) (bits : ℕ) → operand b ≡ Ok bits → b ≡ Operand bits
+pub is_operand : (b : Word) (bits : ℕ) → operand b ≡ Ok bits → b ≡ Operand bits
 is_operand (Operand n) bits e = cc
 is_operand (Name c) bits e = cc
 is_operand (Ref f o) bits e = cc
