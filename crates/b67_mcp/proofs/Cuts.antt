@@ -1,7 +1,6 @@
 -- The machine without a call on its running stack stands for the session without it.
-use Rattle.std.proofs.Common.{◌≡◌, ◌≢◌, ℕ, ◌+◌, ◌<◌, ◌≤◌, ◌^◌, List, [], ◌∷◌, map, Option, Some, None, Ok, refl, sym, ◌∙◌, ap, arith, Bool, true, false, inl, inr, ◌⊎◌, subst}
-use Rattle.std.specs.List.{AllByRecursion, slice_get}
-use Rattle.b67_word.specs.Tagged.{Tagged}
+use Rattle.std.proofs.Common.{◌≡◌, ◌≢◌, ℕ, ◌+◌, List, [], ◌∷◌, map, refl, sym, ap, arith, false, subst}
+use Rattle.std.specs.List.{AllByRecursion}
 use Rattle.b67_word.specs.declared.couples.Place.{Place}
 use Rattle.b67_ctl.specs.Layout.{IsPlace}
 use Rattle.b67_ctl.specs.declared.registers.Regs.{Regs}
@@ -11,7 +10,7 @@ use Rattle.b67_model.specs.State.{Frame, Array, Condition, Ready, Task, Job, Mem
 use Rattle.b67_model.specs.Environment.{level_of_frame, running}
 use Rattle.b67_model.specs.Intrinsics.{is_original}
 use Rattle.b67_model.specs.Run.{number_of}
-use Rattle.b67_model.specs.Steps.{is_critical, without_arrays_of}
+use Rattle.b67_model.specs.Steps.{is_critical}
 use Rattle.b67_model.specs.Schedule.{Session}
 use Rattle.b67_model.specs.InOrder.{IsSegment, ReturnsInOrder, StackInOrder, TaskInOrder, TasksInOrder, IsInOrderButPlaces}
 use Rattle.b67_stack.specs.declared.Cpu.{Cpu}
@@ -21,20 +20,19 @@ use Rattle.b67_stack.specs.Stands.{Storage, Stands}
 use Rattle.b67_stack.specs.Changes.{with_stack}
 use Rattle.b67_stack.proofs.Pushes.{Stands-cut}
 use Rattle.b67_layout.specs.Plan.{Plan, spot_in, outer_spots}
-use Rattle.b67_layout.specs.Layout.{shape, head, activations, stack_of_task, picture}
-use Rattle.b67_layout.specs.Session.{TaskStands, IsRunning, Shows, SessionStands, SessionHolds, SessionHoldsBut, SessionStandsBut}
+use Rattle.b67_layout.specs.Layout.{shape, head, activations, picture}
+use Rattle.b67_layout.specs.Session.{TaskStands, IsRunning, Shows, SessionStands, SessionHoldsBut, SessionStandsBut}
 use Rattle.b67_layout.specs.Meets.{things_gone, with_job}
 use Rattle.b67_layout.proofs.Others.{keyed-has}
-use Rattle.b67_layout.proofs.Steps.{IsFree}
 use Rattle.b67_layout.proofs.Fresh.{fresh, running_in_order}
 use Rattle.b67_layout.proofs.Gone.{no_things_gone}
 use Rattle.b67_layout.proofs.Starts.{slot_is, runs_here}
-use Rattle.b67_refer.specs.Scene.{Scene, IsShown}
+use Rattle.b67_refer.specs.Scene.{Scene}
 use Rattle.b67_refer.proofs.Scenes.{member_in_order}
 use Rattle.b67_entering.proofs.Conditions.{Shows-condition}
 use Rattle.b67_leaving.proofs.Things.{others}
 use Rattle.b67_leaving.proofs.Nowhere.{activations-same}
-use Rattle.b67_leaving.proofs.Leaves.{Leaver, task_at, may_leave, below-same, Frames-below, new_member, new_task, runs_after, holds_after, for_running_after}
+use Rattle.b67_leaving.proofs.Leaves.{Leaver, task_at, may_leave, below-same, Frames-below, runs_after, holds_after, for_running_after}
 use Rattle.b67_leaving.proofs.Orders.{left_ready}
 use Rattle.b67_mcp.specs.Calls.{MayCut, job_cut}
 use Rattle.b67_mcp.proofs.Owned.{arrays_stay}

@@ -1,5 +1,5 @@
 -- A frame without an original owns no array.
-use Rattle.std.proofs.Common.{◌≡◌, ◌≢◌, ℕ, ◌+◌, ◌<◌, ◌≤◌, eqb, List, [], ◌∷◌, filter, not, refl, sym, ap, ◌∙◌, subst, inl, inr, ◌⊎◌, arith, false, true, Bool}
+use Rattle.std.proofs.Common.{◌≡◌, ◌≢◌, ℕ, ◌+◌, List, [], ◌∷◌, refl, sym, ap, ◌∙◌, subst, inl, inr, arith, false, true}
 use Rattle.std.specs.List.{AllByRecursion}
 use Rattle.std.proofs.lemmas.Bool.{cases_eq}
 use Rattle.std.proofs.lemmas.Bool.Decides.{eqb_tells}
@@ -7,7 +7,7 @@ use Rattle.b67_model.specs.Lists.{Has}
 use Rattle.b67_model.specs.Words.{Word, Original}
 use Rattle.b67_model.specs.State.{Frame, Array, Task, Setting, Job}
 use Rattle.b67_model.specs.Intrinsics.{is_original}
-use Rattle.b67_model.specs.InOrder.{EntryInOrder, frames_named, TasksInOrder, IsSegment}
+use Rattle.b67_model.specs.InOrder.{EntryInOrder, frames_named}
 use Rattle.b67_order.proofs.Members.{all_in, falls_same}
 use Rattle.b67_leaving.proofs.Things.{others}
 use Rattle.b67_leaving.proofs.Nowhere.{IsOnTop, high, live, under, elsewhere}

@@ -1,26 +1,24 @@
 -- What PRINT makes of its arguments.
-use Rattle.std.proofs.Common.{◌≡◌, ◌≢◌, ℕ, suc, ◌+◌, ◌≤◌, ℤ, List, [], ◌∷◌, reverse, length, Result, Ok, Err, None, refl, sym, ◌∙◌, ap, arith, true, false, subst, not}
+use Rattle.std.proofs.Common.{◌≡◌, ◌≢◌, ℕ, suc, ◌≤◌, ℤ, List, [], ◌∷◌, reverse, length, Result, Ok, Err, refl, sym, ◌∙◌, ap, arith, true, false, subst}
 use Rattle.std.specs.List.{AllByRecursion}
 use Rattle.std.specs.Result.{is_ok}
 use Rattle.std.proofs.lemmas.Bool.{le-leb}
 use Rattle.std.proofs.lemmas.List.{length-reverse}
 use Rattle.b67_word.specs.Tagged.{Tagged}
-use Rattle.b67_word.specs.declared.couples.Place.{Place}
 use Rattle.b67_word.specs.declared.faults.Fault.{Fault}
 use Rattle.b67_word.specs.declared.faults.Fault.TheVariants.{InvalidOperand, CriticalBlock}
 use Rattle.b67_model.specs.Answers.{Answer, ◌>>=◌}
 use Rattle.b67_model.specs.Words.{Word, operand, number, whole}
 use Rattle.b67_model.specs.State.{Frame, Task, Member, height, top, below_top}
-use Rattle.b67_model.specs.Steps.{Value, Goes, is_critical}
-use Rattle.b67_model.specs.Intrinsics.{is_original, print, answered}
-use Rattle.b67_arith.specs.OnWords.{bits_in}
+use Rattle.b67_model.specs.Steps.{is_critical}
+use Rattle.b67_model.specs.Intrinsics.{is_original, print}
 use Rattle.b67_stack.specs.declared.Cpu.{Cpu}
 use Rattle.b67_stack.specs.Stands.{Storage}
 use Rattle.b67_layout.specs.Plan.{Plan}
 use Rattle.b67_layout.specs.Meets.{here}
-use Rattle.b67_cells.specs.Tops.{IsAt, cells, GivesTop}
+use Rattle.b67_cells.specs.Tops.{cells, GivesTop}
 use Rattle.b67_operands.proofs.Rows.{operand_seen, plain_operand}
-use Rattle.b67_mcp.specs.Calls.{IsCall, MayCut, PrintMeets, number_in}
+use Rattle.b67_mcp.specs.Calls.{IsCall, PrintMeets, number_in}
 
 module _ (m : Member) (t : Task) (r : Word) (arguments : List Word) (call : IsCall t r arguments) where
   count : length (cells t) ≡ suc (length arguments)

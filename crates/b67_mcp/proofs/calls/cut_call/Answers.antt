@@ -1,17 +1,12 @@
-use Rattle.std.proofs.Common.{◌≡◌, ◌≢◌, ℕ, List, [], ◌∷◌, sym, ap, refl, subst}
-use Rattle.b67_ctl.specs.declared.registers.Regs.{Regs}
-use Rattle.b67_model.specs.State.{Task, Job, Member}
-use Rattle.b67_model.specs.Schedule.{Session}
-use Rattle.b67_model.specs.InOrder.{IsInOrderButPlaces}
+use Rattle.std.proofs.Common.{◌∷◌, sym, ap, subst}
+use Rattle.b67_model.specs.State.{Job}
 use Rattle.b67_stack.specs.declared.Cpu.{Cpu}
-use Rattle.b67_stack.specs.Stands.{Storage}
-use Rattle.b67_layout.specs.Plan.{Plan}
 use Rattle.b67_layout.specs.Layout.{picture}
-use Rattle.b67_layout.specs.Session.{IsRunning, SessionStands}
+use Rattle.b67_layout.specs.Session.{SessionStands}
 use Rattle.b67_layout.specs.Meets.{with_job}
 use Rattle.b67_refer.specs.Scene.{Scene, IsShown}
 use Rattle.b67_mcp.specs.Calls.{job_cut}
-use Rattle.b67_mcp.proofs.Cuts.{Cut, cut_of, job_is, on_top, under, on_stack, regs_cut, scene_cut, stands_cut}
+use Rattle.b67_mcp.proofs.Cuts.{cut_of, job_is, on_top, under, on_stack, regs_cut, scene_cut, stands_cut}
 use Rattle.b67_mcp.proofs.calls.cut_call.Goals as goal
 
 pub cut-requires : goal.cut-requires

@@ -1,4 +1,4 @@
-use Rattle.std.proofs.Common.{◌≡◌, ℕ, sym, ◌∙◌, refl, ap, true, false}
+use Rattle.std.proofs.Common.{◌≡◌, sym, ◌∙◌, ap, true, false}
 use Rattle.std.specs.Result.{is_ok}
 use Rattle.b67_layout.proofs.Fresh.{running_in_order}
 use Rattle.b67_mcp.proofs.Prints.{not_one, no_fault, value_is, decided, decided_critical}
