@@ -1,14 +1,12 @@
 -- A procedure is entered over other cells on top of the running task.
-use Rattle.std.proofs.Common.{◌≡◌, ◌≢◌, ℕ, ◌+◌, ◌-◌, ◌<◌, ◌≤◌, List, [], ◌∷◌, ◌++◌, map, length, Option, Some, None, Ok, Err, refl, sym, ◌∙◌, ap, arith, Bool, true, false, ◌==◌, ◌⊎◌, inl, inr, ⊎_elim, subst}
+use Rattle.std.proofs.Common.{◌≡◌, ℕ, ◌+◌, ◌<◌, ◌≤◌, List, [], ◌∷◌, ◌++◌, map, Some, None, Ok, Err, refl, sym, ◌∙◌, ap, arith, Bool, ◌==◌, ◌⊎◌, inl, inr, ⊎_elim, subst}
 use Rattle.std.specs.Prelude.{nat_le}
 use Rattle.std.specs.List.{slice_get}
 use Rattle.std.proofs.lemmas.Bool.{cases_eq}
 use Rattle.std.proofs.lemmas.Bool.Decides.{eqb_tells}
 use Rattle.b67_word.specs.Tagged.{Tagged}
 use Rattle.b67_word.specs.declared.couples.Place.{Place}
-use Rattle.b67_word.specs.declared.faults.Fault.{Fault}
 use Rattle.b67_word.specs.declared.faults.Fault.TheVariants.{InvalidOperand, StackOverflow}
-use Rattle.b67_ctl.specs.declared.registers.Regs.{Regs}
 use Rattle.b67_model.specs.Answers.{Answer, ◌>>◌, needs}
 use Rattle.b67_model.specs.Chase.{AtProc}
 use Rattle.b67_model.specs.Entry.{accident, back_to}
@@ -18,33 +16,30 @@ use Rattle.b67_model.specs.Keyed.{change_keyed}
 use Rattle.b67_model.specs.Lists.{Has}
 use Rattle.b67_model.specs.Run.{number_of}
 use Rattle.b67_model.specs.Schedule.{Session}
-use Rattle.b67_model.specs.State.{Frame, Standing, Entered, Return, Array, Task, Job, Course, Member, top, with_top_cells, with_task, height, frame}
+use Rattle.b67_model.specs.State.{Frame, Entered, Array, Task, Job, Course, Member, top, with_top_cells, with_task, height, frame}
 use Rattle.b67_model.specs.Steps.{Done, Goes, cells_of}
 use Rattle.b67_model.specs.Words.{Word, Proc}
 use Rattle.b67_order.proofs.Members.{change_twice}
 use Rattle.b67_stack.specs.declared.Cpu.{Cpu}
-use Rattle.b67_stack.specs.declared.What.{What}
 use Rattle.b67_stack.specs.declared.Step.{Step}
 use Rattle.b67_stack.specs.declared.Step.TheVariants as step
 use Rattle.b67_stack.specs.Picture.{Thing}
 use Rattle.b67_stack.specs.Stands.{Storage}
-use Rattle.b67_layout.specs.Plan.{Plan, address_of, spots}
+use Rattle.b67_layout.specs.Plan.{Plan, address_of}
 use Rattle.b67_layout.specs.Layout.{picture, stack_of_task}
-use Rattle.b67_layout.specs.Session.{IsRunning, SessionHoldsBut, SessionStands, SessionStandsBut, with_things, frame_address}
-use Rattle.b67_layout.specs.Meets.{here, with_job, things_gone, MayChange, IsMade, Meets}
+use Rattle.b67_layout.specs.Session.{IsRunning, SessionHoldsBut, SessionStands, SessionStandsBut}
+use Rattle.b67_layout.specs.Meets.{here, with_job, IsMade}
 use Rattle.b67_layout.proofs.Others.{keyed-has, keyed-put_same}
 use Rattle.b67_layout.proofs.Pictures.{member-same}
 use Rattle.b67_layout.proofs.Rows.{runs_on}
 use Rattle.b67_layout.proofs.Whole.{task_with}
 use Rattle.b67_layout.proofs.Gone.{no_things_gone}
-use Rattle.b67_cells.proofs.Put.{room}
 use Rattle.b67_refer.specs.Scene.{Scene}
-use Rattle.b67_refer.specs.Cells.{IsCellAt}
 use Rattle.b67_refer.specs.Ends.{IsProcAt}
 use Rattle.b67_refer.proofs.Scenes.{scene}
 use Rattle.b67_entering.proofs.Heads.{clear_settled}
 use Rattle.b67_entry.specs.Procedures.{CanEnter, IsEntered, EntersOrFaults}
-use Rattle.b67_accidents.proofs.Looks.{member_with, spots-same, reach-same, level-same, cell-same}
+use Rattle.b67_accidents.proofs.Looks.{spots-same, reach-same, level-same, cell-same}
 
 cells-back : (fs : List Frame) (cs : List Word) → with_top_cells (with_top_cells fs cs) (top (with_top_cells fs cs)).cells ≡ with_top_cells fs cs
 cells-back [] cs = refl
