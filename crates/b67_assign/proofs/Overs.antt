@@ -75,8 +75,15 @@ module _ (x : Storage) (cpu : Cpu) (plan : Plan) (s : Session) (m : Member) (t :
       → MayEnter (record cpu { core = core }) (record cpu.regs { s = cpu.regs.s - 1 }) cell
   may_enter cell core is i =
       let P : List Tagged → Type 0 = λ z. MayEnter (record cpu { core = z }) (record cpu.regs { s = cpu.regs.s - 1 }) cell in
-      subst P (sym is) (under_scene x cpu plan s m t ordered h runs q o.bits o.reference o.rest o.is proc_of u v o.under o.over o.enough, q, o.frame, o.segment, o.level, o.place,
-      under_enters x cpu plan s m t ordered h runs q o.bits o.reference o.rest o.is proc_of u v o.under o.over o.enough cell i)
+      subst P (sym is) (
+        under_scene x cpu plan s m t ordered h runs q o.bits o.reference o.rest o.is proc_of u v o.under o.over o.enough,
+        q,
+        o.frame,
+        o.segment,
+        o.level,
+        o.place,
+        under_enters x cpu plan s m t ordered h runs q o.bits o.reference o.rest o.is proc_of u v o.under o.over o.enough cell i,
+      )
 
   module _ (cell : ℕ) (core : List Tagged) (set : core ≡ slice_set cpu.core (cpu.regs.s - 1) v) (proc : IsProcAt (here_scene x cpu plan s m t ordered h runs) q cell o.frame o.segment o.level o.place) (new : Cpu) where
     pub stored_made : (keeps : Bool) (r : Step) → ((n : Fault) → r ≢ step.Fault n) → Enters (record cpu { core = core }) (record cpu.regs { s = cpu.regs.s - 1 }) cell cpu.regs.place r new → Meets x plan s m r cpu new (rows.store keeps (here m t q) (cells t))

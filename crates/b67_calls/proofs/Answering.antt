@@ -1,14 +1,13 @@
 -- The machine where a call was cut, and then with a word on the frame below.
-use Rattle.std.proofs.Common.{◌≡◌, ◌≢◌, ℕ, suc, ◌+◌, ◌-◌, ◌<◌, ◌≤◌, ℤ, List, [], ◌∷◌, refl, sym, ◌∙◌, ap, arith, inl, inr, ◌⊎◌, subst, slice_set}
+use Rattle.std.proofs.Common.{◌≡◌, ◌≢◌, ℕ, ◌+◌, ◌<◌, ◌≤◌, ℤ, List, [], ◌∷◌, length, refl, sym, ◌∙◌, ap, arith, inl, inr, ◌⊎◌, subst, slice_set}
 use Rattle.std.specs.List.{slice_get}
 use Rattle.std.proofs.lemmas.Bool.{cases_eq}
 use Rattle.b67_core.proofs.Writes.{slice_get-set_other}
 use Rattle.b67_word.specs.Tagged.{Tagged}
 use Rattle.b67_word.specs.declared.couples.Place.{Place}
-use Rattle.b67_model.specs.Lists.{Has}
 use Rattle.b67_model.specs.Words.{Word}
 use Rattle.b67_model.specs.State as State
-use Rattle.b67_model.specs.State.{Frame, Task, Job, Member, height, below_top, with_task}
+use Rattle.b67_model.specs.State.{Frame, Task, Job, Member, height, top, below_top, with_top_cells}
 use Rattle.b67_model.specs.Intrinsics.{answered}
 use Rattle.b67_model.specs.Schedule.{Session}
 use Rattle.b67_model.specs.InOrder.{IsInOrderButPlaces}
@@ -29,9 +28,8 @@ use Rattle.b67_layout.proofs.Frames.{height-is}
 use Rattle.b67_layout.proofs.Fresh.{fresh}
 use Rattle.b67_layout.proofs.Steps.{IsFree}
 use Rattle.b67_entering.proofs.Awaits.{with_job-twice}
-use Rattle.b67_cells.specs.Tops.{cells}
 use Rattle.b67_mcp.specs.Calls.{MayCut, job_cut}
-use Rattle.b67_mcp.proofs.Cuts.{Cut, cut_of}
+use Rattle.b67_mcp.proofs.Cuts.{cut_of}
 use Rattle.b67_calls.specs.Answered.{job_answered}
 use Rattle.b67_calls.proofs.Pushed.{stack, shaped, on_slot, registers, stands_pushed}
 
@@ -41,6 +39,12 @@ task_cut m t q = answered (here m t q) []
 
 abbrev pub member_cut : Member → Task → Place → Member
 member_cut m t q = record m { course = record m.course { job = job_cut m t q } }
+
+-- a word on the frame below is no higher than the call
+pub no_higher : (fs : List Frame) (w : Word) → 1 ≤ length (top fs).cells → height (with_top_cells (below_top fs) (w ∷ (top (below_top fs)).cells)) ≤ height fs
+no_higher [] w some = omega arith
+no_higher (f ∷ []) w some = omega (arith, some)
+no_higher (f ∷ g ∷ more) w some = omega (arith, some)
 
 -- a mark takes a word
 lower : (fs : List Frame) (f : Frame) (below : List Frame) → fs ≡ f ∷ below → f.standing ≡ State.Marked → height (below_top fs) + 1 ≤ height fs
@@ -72,9 +76,15 @@ module _ (x : Storage) (old mid : Cpu) (plan : Plan) (s : Session) (m : Member) 
       let a = cut_of plan s m t o runs may in
       let fits = (running_fits x old.core old.regs (picture plan s.jobs) plan.running (stack x old plan s m t h runs) h.holds.memory (on_slot x old plan s m t h runs)).0.fits in
       let g = registers x mid plan (with_job s m (job_cut m t q)) (member_cut m t q) (task_cut m t q) cut runs_cut in
-      omega (arith, fits, g.top, g.last, lower t.frames a.f (a.next ∷ a.more) a.frames a.marked,
-      height-is plan m.setting.number m.course.job plan.running (outer_spots plan m.setting.number m.course.job t.critical t.parents) t.frames,
-      height-is plan m.setting.number (job_cut m t q) plan.running (outer_spots plan m.setting.number (job_cut m t q) t.critical t.parents) (below_top t.frames))
+      omega (
+        arith,
+        fits,
+        g.top,
+        g.last,
+        lower t.frames a.f (a.next ∷ a.more) a.frames a.marked,
+        height-is plan m.setting.number m.course.job plan.running (outer_spots plan m.setting.number m.course.job t.critical t.parents) t.frames,
+        height-is plan m.setting.number (job_cut m t q) plan.running (outer_spots plan m.setting.number (job_cut m t q) t.critical t.parents) (below_top t.frames),
+      )
 
   -- which lies in the running stack
   pub inside : IsInStack old.regs (mid.regs.s + 1)

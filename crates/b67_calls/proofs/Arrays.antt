@@ -1,5 +1,5 @@
 -- A call that answers with the original of a new array.
-use Rattle.std.proofs.Common.{◌≡◌, ◌≢◌, ℕ, zero, suc, ◌+◌, ◌<◌, ◌≤◌, ◌^◌, List, [], ◌∷◌, length, Some, refl, sym, ◌∙◌, ap, arith, true, false, inl, inr, subst, replicate}
+use Rattle.std.proofs.Common.{◌≡◌, ◌≢◌, ℕ, zero, suc, ◌+◌, ◌<◌, ◌≤◌, ◌^◌, List, [], ◌∷◌, length, refl, sym, ◌∙◌, ap, arith, false, inl, inr, subst, replicate}
 use Rattle.std.proofs.lemmas.List.{length-replicate}
 use Rattle.std.proofs.lemmas.Bool.{eq-eqb}
 use Rattle.std.proofs.lemmas.Option.{same_Some}
@@ -9,7 +9,7 @@ use Rattle.b67_area.specs.declared.Kind.TheVariants.{Array}
 use Rattle.b67_ctl.specs.Descriptors.{data_word}
 use Rattle.b67_model.specs.Lists.{Has}
 use Rattle.b67_model.specs.Words.{Original}
-use Rattle.b67_model.specs.State.{Frame, Task, Job, Member, below_top}
+use Rattle.b67_model.specs.State.{Frame, Task, Member, below_top}
 use Rattle.b67_model.specs.Keyed.{keyed}
 use Rattle.b67_model.specs.Run.{number_of}
 use Rattle.b67_model.specs.Schedule.{Session}

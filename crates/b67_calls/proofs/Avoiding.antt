@@ -1,5 +1,5 @@
 -- The words of a job in order name arrays of smaller identities than the next one.
-use Rattle.std.proofs.Common.{◌≡◌, ◌≢◌, ℕ, ◌+◌, ◌<◌, ◌≤◌, List, [], ◌∷◌, ◌++◌, map, length, reverse, refl, sym, ◌∙◌, ap, arith, inl, inr, ◌⊎◌, subst}
+use Rattle.std.proofs.Common.{◌≡◌, ◌≢◌, ℕ, ◌+◌, ◌<◌, ◌≤◌, List, [], ◌∷◌, ◌++◌, map, length, reverse, ◌∙◌, ap, arith, inl, inr}
 use Rattle.std.specs.List.{AllByRecursion}
 use Rattle.std.proofs.lemmas.Bool.{cases_eq}
 use Rattle.std.proofs.lemmas.List.{length-reverse}
@@ -7,7 +7,7 @@ use Rattle.b67_model.specs.Lists.{Has, Falls}
 use Rattle.b67_model.specs.Words as Words
 use Rattle.b67_model.specs.Words.{Word, Operand, Name, Ref, Row, Element, Original, Proc, Intrinsic}
 use Rattle.b67_model.specs.State.{Frame, Array, Segment, Task, Setting, Job, Course}
-use Rattle.b67_model.specs.InOrder.{Starts, Known, known_of, outer_of, WordInOrder, CellsInOrder, FramesInOrder, EntryInOrder, DictionaryWords, rows_after, TaskInOrder, JobInOrder}
+use Rattle.b67_model.specs.InOrder.{Starts, Known, known_of, outer_of, WordInOrder, FramesInOrder, EntryInOrder, DictionaryWords, rows_after, TaskInOrder, JobInOrder}
 use Rattle.b67_order.proofs.Members.{all_in, all_from, has_map, has_reverse_back, falls_low}
 
 -- a word that names no array of an identity

@@ -1,5 +1,5 @@
 -- The machine with the original of a new array on the running task's top frame.
-use Rattle.std.proofs.Common.{◌≡◌, ◌≢◌, ℕ, suc, ◌+◌, ◌*◌, ◌<◌, ◌≤◌, ◌^◌, List, [], ◌∷◌, ◌++◌, map, length, Option, Some, None, refl, sym, ◌∙◌, ap, arith, Bool, true, false, ◌==◌, inl, inr, ◌⊎◌, subst, slice_set, unwrap_or}
+use Rattle.std.proofs.Common.{◌≡◌, ◌≢◌, ℕ, ◌+◌, ◌<◌, ◌≤◌, ◌^◌, List, [], ◌∷◌, map, length, Some, refl, sym, ◌∙◌, ap, arith, Bool, true, inl, inr, ◌⊎◌, subst, slice_set, unwrap_or}
 use Rattle.std.specs.Prelude.{if◌then◌else◌, flat_map}
 use Rattle.std.specs.List.{AllByRecursion, slice_get}
 use Rattle.std.proofs.lemmas.Bool.{cases_eq, cases_lt, ne_eqb}
@@ -28,7 +28,7 @@ use Rattle.b67_stack.proofs.Bases.{base-apart}
 use Rattle.b67_stack.proofs.Slots.{by_slot, running_fits}
 use Rattle.b67_storage.proofs.Helds.{held-same}
 use Rattle.b67_layout.specs.Plan.{Plan, slot_of, spot_in, outer_spots, spots}
-use Rattle.b67_layout.specs.Layout.{shape, activations, stack_of_task, slot_at, code_things, array_thing, things_of, picture}
+use Rattle.b67_layout.specs.Layout.{shape, stack_of_task, slot_at, code_things, array_thing, things_of, picture}
 use Rattle.b67_layout.specs.Session.{TaskStands, IsRunning, Shows, critical_mark, SessionHolds, SessionStands}
 use Rattle.b67_layout.specs.Meets.{with_job}
 use Rattle.b67_layout.proofs.Others.{keyed-has}
@@ -312,6 +312,6 @@ module _ (x : Storage) (cpu : Cpu) (plan : Plan) (s : Session) (m : Member) (t :
       ∙ spots-with (slot_of plan m.setting.number t.number) (outer_spots plan m.setting.number m.course.job t.critical t.parents) t.frames (Original a.identity ∷ cells t) id) in
       let shown : Shows cpu.display plan (record m { course = c }) t' = Shows-same cpu.display plan m c t t' runs.task d.tasks (known-with t.frames (Original a.identity ∷ cells t)) places (h.shows m t runs) in
       record {
-        holds = SessionHoldsBut-after [] y cpu.core core' cpu.regs regs' cpu.critical plan s m c t t' holds runs by low (critical-with m.course.job t.frames (Original a.identity ∷ cells t)) memory (subst Settled (sym picture_is) settled') task_stands;
-        shows = for_running [] y cpu.core core' cpu.regs regs' cpu.critical plan s m c t t' holds runs by (Shows cpu.display plan) shown;
+        holds = SessionHoldsBut-after [] [] y cpu.core core' cpu.regs regs' cpu.critical plan s m c t t' holds runs by low (critical-with m.course.job t.frames (Original a.identity ∷ cells t)) memory (subst Settled (sym picture_is) settled') task_stands;
+        shows = for_running [] [] y cpu.core core' cpu.regs regs' cpu.critical plan s m c t t' holds runs by (Shows cpu.display plan) shown;
       }

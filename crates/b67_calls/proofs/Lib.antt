@@ -8,3 +8,5 @@ pub mod Avoiding
 pub mod Replanned
 pub mod Declaring
 pub mod Arrays
+pub mod Lengths
+pub mod Tables

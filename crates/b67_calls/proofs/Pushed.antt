@@ -1,18 +1,15 @@
 -- A word more on the running task's top frame, whatever the tasks wait for.
-use Rattle.std.proofs.Common.{◌≡◌, ◌≢◌, ℕ, ◌+◌, ◌-◌, ◌<◌, ◌≤◌, ◌^◌, List, [], ◌∷◌, map, length, refl, sym, ◌∙◌, ap, arith, inl, inr, slice_set, subst}
-use Rattle.std.specs.List.{slice_get}
-use Rattle.std.proofs.lemmas.Bool.{cases_eq}
+use Rattle.std.proofs.Common.{◌≡◌, ℕ, ◌+◌, ◌<◌, List, [], ◌∷◌, map, refl, ◌∙◌, ap, arith, subst}
 use Rattle.b67_word.specs.Tagged.{Tagged}
 use Rattle.b67_core.proofs.Writes.{slice_get-set_other}
 use Rattle.b67_model.specs.Words.{Word}
 use Rattle.b67_model.specs.State.{Frame, Task, Job, Member, with_top_cells}
 use Rattle.b67_model.specs.Keyed.{change_keyed}
 use Rattle.b67_model.specs.InOrder.{known_of}
-use Rattle.b67_model.specs.Run.{number_of}
 use Rattle.b67_model.specs.Schedule.{Session}
 use Rattle.b67_stack.specs.declared.Cpu.{Cpu}
 use Rattle.b67_stack.specs.Shapes.{Shape, Fits}
-use Rattle.b67_stack.specs.Stacks.{Spot, Activation, high}
+use Rattle.b67_stack.specs.Stacks.{Spot, Activation}
 use Rattle.b67_stack.specs.Picture.{RunsOn}
 use Rattle.b67_stack.specs.Stands.{Storage, RunningStands}
 use Rattle.b67_stack.specs.Changes.{pushed, top_cells, with_cells, MayPush}
@@ -89,15 +86,15 @@ module _ (x : Storage) (cpu : Cpu) (plan : Plan) (s : Session) (m : Member) (t :
           holds = holds;
           shows = λ y u k. running_only plan (with_job s m job).jobs (record m { course = record m.course { job = job } }) y task_pushed u (Shows cpu.display plan) holds.fits.rows still k shown;
         }
-          where
-            critical-with : (j : Job) (fs : List Frame) → critical_mark j (with_top_cells fs (v ∷ cells t)) ≡ critical_mark j fs
-            critical-with j [] = refl
-            critical-with j (f ∷ below) = refl
+      where
+        critical-with : (j : Job) (fs : List Frame) → critical_mark j (with_top_cells fs (v ∷ cells t)) ≡ critical_mark j fs
+        critical-with j [] = refl
+        critical-with j (f ∷ below) = refl
 
-            known-with : (fs : List Frame) → map known_of (with_top_cells fs (v ∷ cells t)) ≡ map known_of fs
-            known-with [] = refl
-            known-with (f ∷ below) = refl
+        known-with : (fs : List Frame) → map known_of (with_top_cells fs (v ∷ cells t)) ≡ map known_of fs
+        known-with [] = refl
+        known-with (f ∷ below) = refl
 
-            spots-with : (k : ℕ) (outer : ℕ → Spot) (fs : List Frame) (id : ℕ) → spot_in k outer (with_top_cells fs (v ∷ cells t)) id ≡ spot_in k outer fs id
-            spots-with k outer [] id = refl
-            spots-with k outer (f ∷ below) id = refl
+        spots-with : (k : ℕ) (outer : ℕ → Spot) (fs : List Frame) (id : ℕ) → spot_in k outer (with_top_cells fs (v ∷ cells t)) id ≡ spot_in k outer fs id
+        spots-with k outer [] id = refl
+        spots-with k outer (f ∷ below) id = refl

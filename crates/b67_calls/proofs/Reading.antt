@@ -1,12 +1,12 @@
 -- What READ makes of its job.
-use Rattle.std.proofs.Common.{◌≡◌, ◌≢◌, ℕ, zero, suc, ◌+◌, ◌<◌, ◌≤◌, ◌^◌, ℤ, List, [], ◌∷◌, reverse, length, drop, Some, None, Ok, Err, refl, sym, ◌∙◌, ap, arith, true, false, subst}
+use Rattle.std.proofs.Common.{◌≡◌, ◌≢◌, ℕ, suc, ◌+◌, ◌≤◌, ℤ, List, [], ◌∷◌, reverse, length, Ok, Err, refl, sym, ◌∙◌, ap, arith, true, false}
 use Rattle.std.proofs.lemmas.Bool.{le-leb}
 use Rattle.std.proofs.lemmas.List.{length-reverse}
 use Rattle.b67_word.specs.Tagged.{Tagged, word}
 use Rattle.b67_word.specs.declared.couples.Place.{Place}
 use Rattle.b67_word.specs.declared.faults.Fault.TheVariants.{InvalidOperand, CriticalBlock}
 use Rattle.b67_model.specs.Words.{Word, Operand}
-use Rattle.b67_model.specs.State.{Frame, Task, Member, height, top, below_top, with_top_cells}
+use Rattle.b67_model.specs.State.{Task, Member, height, top, below_top, with_top_cells}
 use Rattle.b67_model.specs.Steps.{is_critical}
 use Rattle.b67_model.specs.Intrinsics.{is_original, read_from, read}
 use Rattle.b67_layout.specs.Plan.{Plan}
@@ -15,14 +15,9 @@ use Rattle.b67_layout.specs.Meets.{here}
 use Rattle.b67_task.specs.declared.tables.JobRow.{JobRow}
 use Rattle.b67_task.specs.Tables.{job_row}
 use Rattle.b67_cells.specs.Tops.{cells, NoOriginals}
-use Rattle.b67_mcp.specs.Calls.{IsCall, MayCut}
-use Rattle.b67_calls.specs.Reads.{left_in, IsRead, ReadMeets}
-
--- a word on the frame below is no higher than the call
-lower : (fs : List Frame) (w : Word) → length (top fs).cells ≡ 1 → height (with_top_cells (below_top fs) (w ∷ (top (below_top fs)).cells)) ≤ height fs
-lower [] w one = omega arith
-lower (f ∷ []) w one = omega (arith, one)
-lower (f ∷ g ∷ more) w one = omega (arith, one)
+use Rattle.b67_mcp.specs.Calls.{IsCall}
+use Rattle.b67_calls.proofs.Answering.{no_higher}
+use Rattle.b67_calls.specs.Reads.{left_in, ReadMeets}
 
 module _ (plan : Plan) (m : Member) (t : Task) (r : Word) (arguments : List Word) (call : IsCall t r arguments) (old : JobRow) where
   count : length (cells t) ≡ suc (length arguments)
@@ -61,7 +56,7 @@ module _ (plan : Plan) (m : Member) (t : Task) (r : Word) (arguments : List Word
       may = record { marked = call.marked; plain = plain; free = free };
       makes = λ next. (let v : Word = Operand (read_from m.course.job.numbers).0 in
           let high : ℕ = height (with_top_cells (below_top t.frames) (v ∷ (top (below_top t.frames)).cells)) in
-          let low : high ≤ m.setting.stack_size = omega (arith, lower t.frames v one, fits) in
+          let low : high ≤ m.setting.stack_size = omega (arith, no_higher t.frames v (omega (arith, one)), fits) in
           ap (read (here m t next)) no_argument ∙ rw free (rw (le-leb high m.setting.stack_size low) refl));
       same = same;
       shows = λ next. record {

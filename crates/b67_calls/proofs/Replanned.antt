@@ -1,15 +1,13 @@
 -- The picture of a session doesn't show where an array's original stands that no word names.
-use Rattle.std.proofs.Common.{◌≡◌, ◌≢◌, ℕ, ◌+◌, ◌≤◌, List, [], ◌∷◌, ◌++◌, map, length, Option, Some, None, refl, sym, ◌∙◌, ap, Bool, true, false, not, ◌==◌, ◌&&◌, inl, inr, subst}
+use Rattle.std.proofs.Common.{◌≡◌, ◌≢◌, ℕ, ◌+◌, ◌≤◌, List, [], ◌∷◌, ◌++◌, map, length, Option, Some, None, refl, sym, ◌∙◌, ap, true, false, not, ◌==◌, inl, inr, subst}
 use Rattle.std.specs.Prelude.{if◌then◌else◌, flat_map}
-use Rattle.std.specs.List.{AllByRecursion, slice_get}
+use Rattle.std.specs.List.{AllByRecursion}
 use Rattle.std.proofs.lemmas.Bool.Decides.{eqb_tells}
-use Rattle.b67_word.specs.Tagged.{Tagged}
-use Rattle.b67_ctl.specs.declared.registers.Regs.{Regs}
 use Rattle.b67_area.specs.declared.Kind.TheVariants as kind
 use Rattle.b67_model.specs.Lists.{Has}
 use Rattle.b67_model.specs.Words as Words
 use Rattle.b67_model.specs.Words.{Word, Operand, Name, Ref, Row, Element, Original, Proc, Intrinsic}
-use Rattle.b67_model.specs.State.{Frame, Array, Segment, Task, Job, Member, Here}
+use Rattle.b67_model.specs.State.{Frame, Array, Segment, Task, Job, Member}
 use Rattle.b67_model.specs.Arrays.{array}
 use Rattle.b67_model.specs.Environment.{frame_at}
 use Rattle.b67_model.specs.Keyed.{keyed}
@@ -23,9 +21,9 @@ use Rattle.b67_stack.specs.Shapes.{Shape, Copy}
 use Rattle.b67_stack.specs.Stacks.{Spot, Activation}
 use Rattle.b67_stack.specs.Picture.{Thing, Slot, Running, Waiting, Picture, Settled}
 use Rattle.b67_stack.specs.Stands.{Storage, Stands}
-use Rattle.b67_layout.specs.Plan.{Plan, Slotted, slot_of, spot_in, outer_spots, spots, address_of}
+use Rattle.b67_layout.specs.Plan.{Plan, Slotted, slot_of, spot_in, outer_spots, address_of}
 use Rattle.b67_layout.specs.Layout.{shape, head, activations, stack_of_task, slot_with, slot_in, slot_by, slot_at, code_things, array_thing, things_of, picture}
-use Rattle.b67_layout.specs.Session.{DictionariesFollow, RowHomes, PlanFits, vector_word, IsRunning, frame_address, Shows, SessionHolds, SessionStands}
+use Rattle.b67_layout.specs.Session.{DictionariesFollow, PlanFits, vector_word, IsRunning, SessionStands}
 use Rattle.b67_calls.specs.Declared.{with_home}
 use Rattle.b67_calls.proofs.Avoiding.{Avoids, FramesAvoid, JobAvoids}
 

@@ -1,5 +1,5 @@
 -- What is held at an address where no thing is known is no matter of a picture.
-use Rattle.std.proofs.Common.{◌≡◌, ◌≢◌, ℕ, suc, ◌<◌, List, length, Option, Some, None, refl, sym, ◌∙◌, ap, inl, inr, subst}
+use Rattle.std.proofs.Common.{◌≡◌, ◌≢◌, ℕ, suc, ◌<◌, List, length, Some, None, refl, sym, ◌∙◌, ap, inl, inr, subst}
 use Rattle.std.specs.List.{slice_get}
 use Rattle.std.proofs.lemmas.Bool.{cases_eq}
 use Rattle.b67_word.specs.Tagged.{Tagged}

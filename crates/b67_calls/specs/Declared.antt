@@ -1,14 +1,19 @@
 -- ARRAYDEC: a call that answers with the original of a new array.
-use Rattle.std.specs.Prelude.{ℕ, ◌+◌, ◌==◌, ◌&&◌, true, List, [], ◌∷◌, None, replicate, if◌then◌else◌}
+use Rattle.std.specs.Prelude.{◌≡◌, ℕ, ◌+◌, ◌<◌, ◌^◌, ◌==◌, ◌&&◌, true, List, [], ◌∷◌, None, Result, Ok, Err, replicate, if◌then◌else◌}
+use Rattle.b67_word.specs.Tagged.{Tagged}
+use Rattle.b67_word.specs.declared.faults.Fault.{Fault}
 use Rattle.b67_word.specs.declared.couples.Place.{Place}
-use Rattle.b67_model.specs.Words.{Original}
+use Rattle.b67_model.specs.Answers.{Answer, ◌>>=◌}
+use Rattle.b67_model.specs.Words.{Word, Original}
 use Rattle.b67_model.specs.State.{Array, Task, Job, Member, top, below_top, with_task}
-use Rattle.b67_model.specs.Intrinsics.{answered}
+use Rattle.b67_model.specs.Steps.{Goes}
+use Rattle.b67_model.specs.Intrinsics.{answered, array_length, arraydec}
 use Rattle.b67_stack.specs.Shapes.{Held}
 use Rattle.b67_stack.specs.Stands.{Storage}
 use Rattle.b67_storage.specs.Machine.{holding}
 use Rattle.b67_layout.specs.Plan.{Plan}
 use Rattle.b67_layout.specs.Meets.{here}
+use Rattle.b67_mcp.specs.Calls.{MayCut, number_in}
 
 -- an array of zeros, which ends with the frame below the call
 abbrev pub new_array : Member → Task → ℕ → Array
@@ -31,3 +36,13 @@ nowhere = record { area = None; chain = 0 }
 -- the storage that holds nothing of what is known by an address
 abbrev pub without : Storage → ℕ → Storage
 without x at = holding x at nowhere
+
+-- the length that a word says
+abbrev pub length_in : Tagged → Answer ℕ
+length_in w = number_in w >>= array_length
+
+-- ARRAYDEC is to make an array of the length that was found, or faults as its row does
+abbrev pub LengthMeets : Member → Task → List Word → Result ℕ Fault → Type 0
+LengthMeets m t arguments (Ok n) =
+    (0 < n) × (n < 2 ^ 16) × MayCut m t × ((next : Place) → arraydec (here m t next) arguments ≡ Ok (Goes (job_declared m t n next) [] None))
+LengthMeets m t arguments (Err fault) = (next : Place) → arraydec (here m t next) arguments ≡ Err fault

@@ -6,5 +6,5 @@ mod declare;
 mod read;
 
 pub use answer::answer_call;
-pub use declare::answer_array;
+pub use declare::{answer_array, array_length};
 pub use read::read_number;

@@ -1,30 +1,26 @@
 -- A number stored into a cell, and the operands off the stack: what STOD and STON make at a cell.
-use Rattle.std.proofs.Common.{◌≡◌, ◌≢◌, ℕ, suc, ◌+◌, ◌-◌, ◌<◌, ◌≤◌, List, [], ◌∷◌, ◌++◌, map, length, Some, None, Ok, refl, sym, ◌∙◌, ap, arith, Bool, true, false, ◌==◌, ⊎_elim, inl, inr, ◌⊎◌, subst, slice_set}
+use Rattle.std.proofs.Common.{◌≡◌, ℕ, ◌+◌, ◌-◌, ◌<◌, ◌≤◌, List, [], ◌∷◌, ◌++◌, map, length, None, Ok, refl, sym, ◌∙◌, ap, arith, Bool, true, false, ◌==◌, ⊎_elim, inl, inr, ◌⊎◌, subst, slice_set}
 use Rattle.std.specs.Prelude.{if◌then◌else◌}
 use Rattle.std.specs.List.{slice_get}
 use Rattle.std.proofs.lemmas.Bool.{cases_Bool, cases_eq}
 use Rattle.b67_core.proofs.Writes.{slice_get-set_other}
-use Rattle.b67_word.specs.Tagged.{Tagged, word}
+use Rattle.b67_word.specs.Tagged.{word}
 use Rattle.b67_word.specs.declared.couples.Place.{Place}
-use Rattle.b67_ctl.specs.declared.registers.Regs.{Regs}
-use Rattle.b67_model.specs.Answers.{Answer}
-use Rattle.b67_model.specs.Keyed.{keyed, change_keyed}
-use Rattle.b67_model.specs.Lists.{Has}
+use Rattle.b67_model.specs.Keyed.{change_keyed}
 use Rattle.b67_model.specs.Words.{Word, Operand}
-use Rattle.b67_model.specs.State.{Frame, Task, Job, Course, Member, top, with_top_cells, with_task}
+use Rattle.b67_model.specs.State.{Frame, Task, Job, Member, top, with_top_cells, with_task}
 use Rattle.b67_model.specs.Cells.{with_cell}
 use Rattle.b67_model.specs.Intrinsics.{is_original}
-use Rattle.b67_model.specs.Run.{number_of}
 use Rattle.b67_model.specs.Schedule.{Session}
-use Rattle.b67_model.specs.Steps.{Done, Goes, with_cells}
+use Rattle.b67_model.specs.Steps.{Goes, with_cells}
 use Rattle.b67_model.specs.InOrder.{IsInOrderButPlaces}
 use Rattle.b67_order.proofs.Members.{has_map_back, keyed_has}
 use Rattle.b67_stack.specs.declared.Cpu.{Cpu}
 use Rattle.b67_stack.specs.Picture.{Thing}
 use Rattle.b67_stack.specs.Stands.{Storage}
 use Rattle.b67_layout.specs.Plan.{Plan}
-use Rattle.b67_layout.specs.Session.{IsRunning, SessionStands, SessionStandsBut, frame_address}
-use Rattle.b67_layout.specs.Meets.{here, with_job, things_gone, IsMade, IsLiveCell}
+use Rattle.b67_layout.specs.Session.{IsRunning, SessionStands, SessionStandsBut}
+use Rattle.b67_layout.specs.Meets.{here, with_job, IsMade, IsLiveCell}
 use Rattle.b67_layout.proofs.Fresh.{fresh}
 use Rattle.b67_layout.proofs.Gone.{no_things_gone}
 use Rattle.b67_layout.proofs.Pictures.{with_course}
@@ -36,7 +32,7 @@ use Rattle.b67_refer.proofs.Scenes as Scenes
 use Rattle.b67_cells.specs.Tops.{cells, NoOriginals}
 use Rattle.b67_cells.proofs.Put.{room, registers}
 use Rattle.b67_storing.proofs.Puts.{put}
-use Rattle.b67_storing.proofs.Frames.{put_frames, put_job, with_cell_is, frame_found, frames_under}
+use Rattle.b67_storing.proofs.Frames.{put_frames, put_job, with_cell_is, frame_found}
 use Rattle.b67_storing.proofs.Mapped.{put_task}
 use Rattle.b67_storing.proofs.Stored as Stored
 use Rattle.b67_storing.proofs.Stored.{SessionStands-store, still_runs}

@@ -1,26 +1,24 @@
 -- A number stored into an element, and the operands off the stack: what STOD and STON make at an element.
-use Rattle.std.proofs.Common.{◌≡◌, ◌≢◌, ℕ, suc, ◌+◌, ◌-◌, ◌<◌, ◌≤◌, List, [], ◌∷◌, ◌++◌, map, length, Some, None, Ok, refl, sym, ◌∙◌, ap, arith, Bool, true, false, ⊎_elim, inl, inr, ◌⊎◌, subst, slice_set}
+use Rattle.std.proofs.Common.{◌≡◌, ℕ, ◌+◌, ◌-◌, ◌<◌, ◌≤◌, List, [], ◌∷◌, length, Some, Ok, refl, sym, ◌∙◌, ap, arith, true, ⊎_elim, inl, inr, ◌⊎◌, subst, slice_set}
 use Rattle.std.specs.Prelude.{unwrap_or}
 use Rattle.std.specs.List.{slice_get}
 use Rattle.std.proofs.lemmas.Bool.{cases_eq}
 use Rattle.b67_core.proofs.Writes.{slice_get-set_other}
-use Rattle.b67_word.specs.Tagged.{Tagged, word}
+use Rattle.b67_word.specs.Tagged.{word}
 use Rattle.b67_word.specs.declared.couples.Place.{Place}
-use Rattle.b67_ctl.specs.declared.registers.Regs.{Regs}
-use Rattle.b67_model.specs.Answers.{Answer}
 use Rattle.b67_model.specs.Keyed.{keyed}
 use Rattle.b67_model.specs.Words.{Word, Operand}
-use Rattle.b67_model.specs.State.{Array, Task, Job, Course, Member, with_task}
+use Rattle.b67_model.specs.State.{Array, Task, Job, Member, with_task}
 use Rattle.b67_model.specs.Arrays.{array, no_array, with_element}
 use Rattle.b67_model.specs.Schedule.{Session}
-use Rattle.b67_model.specs.Steps.{Done, Goes, with_cells}
+use Rattle.b67_model.specs.Steps.{Goes, with_cells}
 use Rattle.b67_model.specs.InOrder.{IsInOrderButPlaces}
 use Rattle.b67_stack.specs.declared.Cpu.{Cpu}
 use Rattle.b67_stack.specs.Picture.{Thing}
 use Rattle.b67_stack.specs.Stands.{Storage}
 use Rattle.b67_layout.specs.Plan.{Plan}
 use Rattle.b67_layout.specs.Session.{IsRunning, SessionStands, SessionStandsBut}
-use Rattle.b67_layout.specs.Meets.{here, with_job, things_gone, IsMade}
+use Rattle.b67_layout.specs.Meets.{here, with_job, IsMade}
 use Rattle.b67_layout.proofs.Fresh.{fresh}
 use Rattle.b67_layout.proofs.Gone.{no_things_gone}
 use Rattle.b67_layout.proofs.Pictures.{with_course}

@@ -1,32 +1,29 @@
 -- Cells dropped or replaced on top, after the job itself has changed.
-use Rattle.std.proofs.Common.{◌≡◌, ◌≢◌, ℕ, suc, ◌+◌, ◌-◌, ◌<◌, ◌≤◌, List, [], ◌∷◌, ◌++◌, map, length, Some, refl, sym, ◌∙◌, ap, arith, Bool, true, false, ◌==◌, ⊎_elim, inl, inr, ◌⊎◌, subst, slice_set}
-use Rattle.std.specs.List.{slice_get}
-use Rattle.std.proofs.lemmas.Bool.{cases_Bool, cases_eq}
+use Rattle.std.proofs.Common.{◌≡◌, ℕ, ◌+◌, ◌-◌, ◌≤◌, List, [], ◌∷◌, ◌++◌, map, length, refl, sym, ◌∙◌, ap, arith, true, false, ◌==◌, ⊎_elim, subst, slice_set}
+use Rattle.std.proofs.lemmas.Bool.{cases_Bool}
 use Rattle.std.proofs.lemmas.List.{map-append, length-map}
 use Rattle.b67_core.proofs.Writes.{slice_get-set_other}
-use Rattle.b67_word.specs.Tagged.{Tagged, word}
+use Rattle.b67_word.specs.Tagged.{word}
 use Rattle.b67_word.specs.declared.couples.Place.{Place}
-use Rattle.b67_ctl.specs.declared.registers.Regs.{Regs}
 use Rattle.b67_model.specs.Words.{Word, Operand}
-use Rattle.b67_model.specs.State.{Task, Job, Course, Member, top, with_task}
+use Rattle.b67_model.specs.State.{Task, Course, Member}
 use Rattle.b67_model.specs.Run.{number_of}
 use Rattle.b67_model.specs.Schedule.{Session}
 use Rattle.b67_stack.specs.declared.Cpu.{Cpu}
 use Rattle.b67_stack.specs.Shapes.{Shape, Is}
 use Rattle.b67_stack.specs.Stacks.{Activation}
-use Rattle.b67_stack.specs.Picture.{Picture, RunsOn, Settled}
+use Rattle.b67_stack.specs.Picture.{RunsOn}
 use Rattle.b67_stack.specs.Stands.{Storage, RunningStands, Stands}
 use Rattle.b67_stack.specs.Changes.{with_stack, with_cells, top_cells}
 use Rattle.b67_stack.proofs.Slots.{running_slot}
-use Rattle.b67_stack.proofs.Pushes.{Room, room_of}
 use Rattle.b67_layout.specs.Plan.{Plan, spot_in, outer_spots}
 use Rattle.b67_layout.specs.Layout.{shape, stack_of_task, picture}
 use Rattle.b67_layout.specs.Session.{IsRunning, SessionStands}
 use Rattle.b67_layout.proofs.Others.{keyed-has}
 use Rattle.b67_layout.proofs.Pictures.{with_course}
 use Rattle.b67_layout.proofs.Rows.{runs_on}
-use Rattle.b67_layout.proofs.Steps.{IsFree, GoesOn}
-use Rattle.b67_layout.proofs.Whole.{task_with, session_with, SessionStands-cells}
+use Rattle.b67_layout.proofs.Steps.{IsFree}
+use Rattle.b67_layout.proofs.Whole.{session_with, SessionStands-cells}
 use Rattle.b67_cells.specs.Tops.{cells, NoOriginals}
 use Rattle.b67_cells.proofs.Replaced.{cells-are, shapes_plain, Stands-less, Stands-put}
 

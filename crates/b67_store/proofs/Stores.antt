@@ -1,22 +1,20 @@
 -- What STOD and STON do by the end that was found, against their rows.
-use Rattle.std.proofs.Common.{◌≡◌, ◌≢◌, ℕ, ◌+◌, ◌-◌, ◌<◌, ◌≤◌, List, [], ◌∷◌, length, Option, Some, None, Result, Ok, Err, refl, sym, ◌∙◌, ap, arith, Bool, true, false, inl, inr, subst}
+use Rattle.std.proofs.Common.{◌≡◌, ℕ, ◌+◌, ◌-◌, ◌<◌, ◌≤◌, List, [], ◌∷◌, length, Option, Some, Result, Ok, Err, refl, sym, ◌∙◌, ap, arith, Bool, true, false, subst}
 use Rattle.std.specs.Prelude.{if◌then◌else◌, nat_le, unwrap_or}
-use Rattle.std.specs.List.{slice_get}
-use Rattle.std.proofs.lemmas.Bool.{true≢false}
 use Rattle.std.proofs.lemmas.Bool.Decides.{nat_tests}
 use Rattle.std.proofs.lemmas.Option.{slice_get_within}
 use Rattle.b67_word.specs.Tagged.{Tagged, word}
 use Rattle.b67_word.specs.declared.couples.Place.{Place}
 use Rattle.b67_word.specs.declared.faults.Fault.{Fault}
 use Rattle.b67_word.specs.declared.faults.Fault.TheVariants.{InvalidOperand, MemoryProtect, StackOverflow}
-use Rattle.b67_model.specs.Answers.{Answer, ◌>>=◌, ◌>>◌, needs}
+use Rattle.b67_model.specs.Answers.{Answer, ◌>>=◌}
 use Rattle.b67_model.specs.Arrays.{array, no_array, in_order, with_element}
 use Rattle.b67_model.specs.Keyed.{keyed}
 use Rattle.b67_model.specs.Chase as Chase
 use Rattle.b67_model.specs.Chase.{AtCell, AtElement, AtArray, AtProc, AtIntrinsic, follow}
 use Rattle.b67_model.specs.InOrder.{IsInOrderButPlaces}
 use Rattle.b67_model.specs.Words.{Word, Operand, operand}
-use Rattle.b67_model.specs.State.{Frame, Array, Task, Job, Member, Here, height, with_top_cells, with_task}
+use Rattle.b67_model.specs.State.{Frame, Array, Task, Member, height, with_top_cells, with_task}
 use Rattle.b67_model.specs.Schedule.{Session}
 use Rattle.b67_model.specs.Steps.{Done, Goes, cells_of, with_cells}
 use Rattle.b67_model.specs.Rows as rows
@@ -29,19 +27,18 @@ use Rattle.b67_stack.specs.declared.What.TheVariants as what
 use Rattle.b67_stack.specs.Stands.{Storage}
 use Rattle.b67_layout.specs.Plan.{Plan}
 use Rattle.b67_layout.specs.Session.{IsRunning, SessionStands}
-use Rattle.b67_layout.specs.Meets.{here, area_held, IsMade, IsAbsent, Meets, RunsSome}
+use Rattle.b67_layout.specs.Meets.{here, IsMade, Meets}
 use Rattle.b67_layout.proofs.Fresh.{running_in_order}
-use Rattle.b67_refer.specs.declared.ends.End.{End}
 use Rattle.b67_refer.specs.declared.ends.End.TheVariants as end
 use Rattle.b67_refer.specs.Scene.{Scene}
 use Rattle.b67_refer.specs.Cells.{IsCellAt}
-use Rattle.b67_refer.specs.Ends.{EndMeets, IsArrayOf}
+use Rattle.b67_refer.specs.Ends.{EndMeets}
 use Rattle.b67_cells.specs.Tops.{cells, GivesTwo, NoOriginals}
 use Rattle.b67_cells.proofs.Put.{fitting, room}
 use Rattle.b67_elements.specs.Elements.{HasElement, HoldsElement}
 use Rattle.b67_elements.proofs.Arrays.{area-inside}
 use Rattle.b67_fetch.specs.Fetches.{enters_at, EntersOrMeets}
-use Rattle.b67_fetch.proofs.Values.{here_scene, here_shown}
+use Rattle.b67_fetch.proofs.Values.{here_scene}
 use Rattle.b67_store.specs.Stores.{store_end, ElementAt, stored}
 use Rattle.b67_store.proofs.Cells as Cells
 use Rattle.b67_store.proofs.Elements as Elements

@@ -7,26 +7,15 @@ ghost use Rattle.std.specs.Prelude.{◌≡◌, ℕ, ◌+◌, ◌-◌, ◌<◌, �
 ghost use Rattle.b67_model.specs.Steps.{cells_of};
 ghost use Rattle.b67_model.specs.Rows as rows;
 ghost use Rattle.b67_layout.specs.Meets.{here, RunsSome, ForEach};
-ghost use Rattle.b67_elements.specs.Elements.{HasElement, HoldsElement, original_desc};
+ghost use Rattle.b67_elements.specs.Elements.{HasElement, HoldsElement};
 ghost use Rattle.b67_fetch.specs.Fetches.{enters_at, EntersOrMeets};
 ghost use Rattle.b67_store.specs.Stores.{store_end, ElementAt, stored};
 
 use b67_cells::two_cells;
-use b67_ctl::DataDesc;
+use b67_elements::descriptor;
 use b67_refer::{End, chase};
 use b67_stack::{Cpu, Step, What};
 use b67_word::{Fault, Place, Word};
-
-/// The descriptor in the original of an array of the running job.
-fn descriptor(cpu: &Cpu, original: u32) -> DataDesc
-    requires { (index : ℕ) × HoldsElement cpu.now original index }
-    ensures { ForEach cpu.now (λ x plan s m t. (n index : ℕ) → original ≡ plan.home m.setting.number n → HasElement m.course.job n index → result ≡ original_desc x plan m n) }
-{
-    match DataDesc::from_word(cpu.core.get(original)) {
-        Some(desc) => desc,
-        None => unreachable!(),
-    }
-}
 
 /// The core address of an element that is to be stored into. Else what the operator answers: MEMORY PROTECT where the
 /// array is read-only, then that it is absent.
@@ -71,7 +60,11 @@ fn store(cpu: &mut Cpu, keeps: bool, next: Place) -> Step
         Ok(two) => two,
         Err(fault) => return Step::Fault(fault),
     };
-    let (reference, value) = if upper.tag() == 0 { (lower, upper) } else { (upper, lower) };
+    let (reference, value) = if upper.tag() == 0 {
+        (lower, upper)
+    } else {
+        (upper, lower)
+    };
     if value.tag() != 0 {
         return Step::Fault(Fault::InvalidOperand);
     }

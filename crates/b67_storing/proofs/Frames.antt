@@ -1,19 +1,19 @@
 -- A task's frames with another word in a cell of one of them.
-use Rattle.std.proofs.Common.{◌≡◌, ◌≢◌, ℕ, zero, suc, ◌+◌, ◌-◌, ◌<◌, ◌≤◌, List, [], ◌∷◌, ◌++◌, map, reverse, length, Some, refl, sym, ◌∙◌, ap, arith, Bool, true, false, cond, ◌==◌, ⊎_elim, inl, inr, subst, slice_set}
+use Rattle.std.proofs.Common.{◌≡◌, ℕ, zero, suc, ◌+◌, ◌-◌, ◌<◌, List, [], ◌∷◌, ◌++◌, map, reverse, length, refl, sym, ◌∙◌, ap, arith, Bool, true, false, cond, ◌==◌, ⊎_elim, subst, slice_set}
 use Rattle.std.specs.Prelude.{if◌then◌else◌}
-use Rattle.std.proofs.lemmas.Bool.{cases_Bool, cases_eq, eq-eqb, ne_eqb, eqb-true}
+use Rattle.std.proofs.lemmas.Bool.{cases_Bool, cases_eq, eq-eqb, ne_eqb}
 use Rattle.std.proofs.lemmas.List.{length-map, length-reverse}
 use Rattle.b67_word.specs.Tagged.{word}
 use Rattle.b67_model.specs.Keyed.{change_keyed}
-use Rattle.b67_model.specs.Lists.{Has, Falls, how_many}
+use Rattle.b67_model.specs.Lists.{Has}
 use Rattle.b67_model.specs.Words.{Word, Operand}
 use Rattle.b67_model.specs.State as State
 use Rattle.b67_model.specs.State.{Frame, Standing, Task, Job, no_frame, height}
 use Rattle.b67_model.specs.Cells.{with_cell_of, with_cell}
-use Rattle.b67_model.specs.InOrder.{Known, known_of, known_numbers, identities, from_frame, IsEntered, frames_named}
-use Rattle.b67_order.proofs.Members.{reverse_cons, falls_low}
+use Rattle.b67_model.specs.InOrder.{known_of, identities, from_frame, IsEntered, frames_named}
+use Rattle.b67_order.proofs.Members.{reverse_cons}
 use Rattle.b67_stack.specs.Shapes.{Shape, Is}
-use Rattle.b67_stack.specs.Stacks.{Spot, Head, Activation, head_size, high}
+use Rattle.b67_stack.specs.Stacks.{Spot, Activation, head_size, high}
 use Rattle.b67_layout.specs.Plan.{Plan, spot_in}
 use Rattle.b67_layout.specs.Layout.{shape, head, activations}
 use Rattle.b67_storing.proofs.Puts.{put, put_length, put_map, Puts, within, lower}

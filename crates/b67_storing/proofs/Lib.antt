@@ -4,4 +4,3 @@ pub mod Frames
 pub mod Owners
 pub mod Mapped
 pub mod Stored
-

@@ -1,12 +1,11 @@
 -- A job with a word stored in one frame's cell: what all its tasks see stays.
-use Rattle.std.proofs.Common.{◌≡◌, ◌≢◌, ℕ, ◌+◌, ◌<◌, ◌≤◌, List, [], ◌∷◌, ◌++◌, map, flat_map, length, Option, Some, None, refl, sym, ◌∙◌, ap, arith, Bool, true, false, cond, ◌==◌, ⊎_elim, inl, inr, subst}
+use Rattle.std.proofs.Common.{◌≡◌, ◌≢◌, ℕ, ◌≤◌, List, [], ◌∷◌, ◌++◌, map, flat_map, Option, Some, None, refl, sym, ◌∙◌, ap, arith, Bool, true, false, ◌==◌, ⊎_elim, subst}
 use Rattle.std.specs.Prelude.{if◌then◌else◌, option_map, ◌||◌}
 use Rattle.std.specs.List.{slice_get, list_any}
-use Rattle.std.proofs.lemmas.Bool.{cases_Bool, cases_eq, eq-eqb, eqb-true}
+use Rattle.std.proofs.lemmas.Bool.{cases_Bool, cases_eq, eqb-true}
 use Rattle.std.proofs.lemmas.List.{map-append}
-use Rattle.b67_word.specs.declared.couples.Place.{Place}
-use Rattle.b67_model.specs.Lists.{Has, total}
-use Rattle.b67_model.specs.Keyed.{keyed, change_keyed}
+use Rattle.b67_model.specs.Lists.{Has}
+use Rattle.b67_model.specs.Keyed.{keyed}
 use Rattle.b67_model.specs.Words.{Word}
 use Rattle.b67_model.specs.State as State
 use Rattle.b67_model.specs.State.{Frame, Standing, Array, Task, Job, Course, Member, Here, height, all_frames}
@@ -27,7 +26,7 @@ use Rattle.b67_layout.proofs.Rows.{task_row, found-has}
 use Rattle.b67_layout.proofs.Sessions.{change-has, change-kept}
 use Rattle.b67_layout.proofs.Displays.{same_running, same_frame_at}
 use Rattle.b67_refer.proofs.Slots.{live_slot}
-use Rattle.b67_storing.proofs.Frames.{put_frames, put_job, put_known, put_height, put_spot, put_from, put_none, put_identities}
+use Rattle.b67_storing.proofs.Frames.{put_frames, put_job, put_known, put_height, put_spot, put_from, put_none}
 use Rattle.b67_storing.proofs.Owners.{others_none}
 
 -- each task with the word stored

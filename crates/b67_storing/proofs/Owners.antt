@@ -1,19 +1,19 @@
 -- Whose frame it is that the running task names, and where it lies in its task's stack.
-use Rattle.std.proofs.Common.{◌≡◌, ◌≢◌, ℕ, ◌+◌, ◌<◌, ◌≤◌, List, [], ◌∷◌, ◌++◌, map, Option, Some, refl, sym, ◌∙◌, ap, arith, true, false, cond, ◌==◌, ⊎_elim, inl, inr, subst}
-use Rattle.std.proofs.lemmas.Bool.{cases_Bool, eq-eqb, ne_eqb, eqb-true}
+use Rattle.std.proofs.Common.{◌≡◌, ◌≢◌, ℕ, ◌+◌, ◌<◌, ◌≤◌, List, [], ◌∷◌, ◌++◌, map, Option, Some, refl, sym, ◌∙◌, ap, arith, true, false, ◌==◌, ⊎_elim, inl, inr, subst}
+use Rattle.std.proofs.lemmas.Bool.{cases_Bool, eq-eqb, ne_eqb}
 use Rattle.b67_word.specs.Tagged.{Tagged}
 use Rattle.b67_ctl.specs.declared.registers.Regs.{Regs}
-use Rattle.b67_model.specs.Lists.{Has, Falls, how_many, total}
+use Rattle.b67_model.specs.Lists.{Has, Falls, total}
 use Rattle.b67_model.specs.Keyed.{keyed}
-use Rattle.b67_model.specs.State.{Frame, Standing, Task, Job, height}
-use Rattle.b67_model.specs.InOrder.{Known, known_of, known_numbers, identities, from_frame, frames_of_task, critical_of, base, outer_reach, outer_of, reach_of, IsSegment, IsEntered, NamesEntered, ParentInOrder, BirthInOrder, TaskInOrder, frames_named}
-use Rattle.b67_order.proofs.Members.{has_append_right, has_append_cases, has_map_back, has_map, all_in, keyed_has, falls_low, total_has}
+use Rattle.b67_model.specs.State.{Frame, Standing, Task, height}
+use Rattle.b67_model.specs.InOrder.{Known, known_of, known_numbers, identities, from_frame, frames_of_task, critical_of, base, outer_reach, outer_of, reach_of, NamesEntered, ParentInOrder, BirthInOrder, frames_named}
+use Rattle.b67_order.proofs.Members.{has_append_right, has_append_cases, has_map, keyed_has, falls_low, total_has}
 use Rattle.b67_order.proofs.Replaced.{numbers_append}
 use Rattle.b67_stack.specs.Stacks.{Spot}
-use Rattle.b67_layout.specs.Plan.{Plan, slot_of, spot_in, outer_spots, spots}
+use Rattle.b67_layout.specs.Plan.{slot_of, spot_in, outer_spots, spots}
 use Rattle.b67_refer.specs.Scene.{Scene}
 use Rattle.b67_refer.proofs.Seats.{order_of, has_task}
-use Rattle.b67_storing.proofs.Frames.{frames_under, frame_found}
+use Rattle.b67_storing.proofs.Frames.{frames_under}
 
 identity_has : (fs : List Frame) (id : ℕ) (s : Standing) → Has (map known_of fs) (id, s) → Has (identities fs) id
 identity_has [] id s h = absurd h
@@ -100,19 +100,19 @@ module _ (core : List Tagged) (r : Regs) (a : Scene core r) where
       let G : ℕ → Type 0 = λ i. F (Some q) i in
       let H : Option Task → Type 0 = λ v. F v (slot_of a.plan a.member.setting.number n) in
       let result : OwnerAt (λ g. spot_in k outer fs g) id = ⊎_elim
-        (λ m.
-        (let inside = identity_has fs id s m in
-        let o : OwnerAt (λ g. spot_in k outer fs g) id = record {
-          task = q;
-          there = found;
-          has = from_identity u.critical q.frames id inside;
-          spot = spot_under k outer fs id inside ∙ ap (λ gs. let z : Spot = record { stack = k; disp = height gs } in z) (from_under job.next_frame u.critical q.frames known id falls inside);
-        } in o))
-        (λ m.
-        (let o = owner_outer q at.0 more birth.line id s high m in
-        let down = falls_from job.next_frame u.critical q.frames known falls in
-        let p : OwnerAt (λ g. spot_in k outer fs g) id = record { task = o.task; there = o.there; has = o.has; spot = apart down.0 fs known id down.1 (has_map (λ (z : Known). z.0) known (id, s) m) k outer ∙ o.spot } in p))
-        (has_append_cases (map known_of fs) known (id, s) h') in
+      (λ m.
+      (let inside = identity_has fs id s m in
+      let o : OwnerAt (λ g. spot_in k outer fs g) id = record {
+        task = q;
+        there = found;
+        has = from_identity u.critical q.frames id inside;
+        spot = spot_under k outer fs id inside ∙ ap (λ gs. let z : Spot = record { stack = k; disp = height gs } in z) (from_under job.next_frame u.critical q.frames known id falls inside);
+      } in o))
+      (λ m.
+      (let o = owner_outer q at.0 more birth.line id s high m in
+      let down = falls_from job.next_frame u.critical q.frames known falls in
+      let p : OwnerAt (λ g. spot_in k outer fs g) id = record { task = o.task; there = o.there; has = o.has; spot = apart down.0 fs known id down.1 (has_map (λ (z : Known). z.0) known (id, s) m) k outer ∙ o.spot } in p))
+      (has_append_cases (map known_of fs) known (id, s) h') in
       subst H (sym birth.found) (subst G (sym slot_is) result)
 
   -- the owner of a frame of a task that is named

@@ -1,8 +1,8 @@
 -- A stack with another shape in one cell.
-use Rattle.std.proofs.Common.{◌≡◌, ◌≢◌, ℕ, zero, suc, ◌+◌, ◌-◌, ◌<◌, ◌≤◌, List, [], ◌∷◌, ◌++◌, map, length, not, Option, Some, None, refl, sym, ◌∙◌, ap, arith, Bool, true, false, cond, ◌==◌, ◌⊎◌, ⊎_elim, inl, inr, subst, slice_set, length-append}
+use Rattle.std.proofs.Common.{◌≡◌, ◌≢◌, ℕ, suc, ◌+◌, ◌<◌, ◌≤◌, List, [], ◌∷◌, ◌++◌, map, length, not, Option, Some, None, refl, sym, ◌∙◌, ap, arith, Bool, true, false, ◌==◌, ⊎_elim, inl, inr, subst, slice_set, length-append}
 use Rattle.std.specs.Prelude.{if◌then◌else◌}
 use Rattle.std.specs.List.{slice_get}
-use Rattle.std.proofs.lemmas.Bool.{cases_Bool, eq-eqb, ne_eqb, eqb-true, eqb-false}
+use Rattle.std.proofs.lemmas.Bool.{cases_Bool, ne_eqb, eqb-true, eqb-false}
 use Rattle.b67_word.specs.Tagged.{Tagged}
 use Rattle.b67_core.proofs.Writes.{slice_get-set_same, slice_get-set_other}
 use Rattle.b67_model.specs.Lists.{Has}
@@ -10,7 +10,7 @@ use Rattle.b67_model.specs.State.{Return}
 use Rattle.std.proofs.lemmas.List.{length-map}
 use Rattle.b67_ctl.specs.Layout.{mscw_word, rcw_word}
 use Rattle.b67_stack.specs.Shapes.{Copied, Shape, Is, Copy, Lie}
-use Rattle.b67_stack.specs.Stacks.{Spot, Head, Marked, Entered, Activation, head_size, top_size, high, mark_place, level_from, running_level, mark_of, return_of, headed, words, ReturnFits, HeadFits, HeadsFit}
+use Rattle.b67_stack.specs.Stacks.{Head, Marked, Entered, Activation, head_size, top_size, high, mark_place, level_from, running_level, mark_of, return_of, headed, words, ReturnFits, HeadFits, HeadsFit}
 use Rattle.b67_stack.proofs.Lies.{Lie-same, Lie-under}
 use Rattle.b67_stack.proofs.Heights.{words-length}
 
@@ -148,9 +148,10 @@ Lie-tops R core from i v (x ∷ xs) under under' same low l m =
 Lie-head : (R : Shape → ℕ → Tagged → Type 0) (core : List Tagged) (from i : ℕ) (v : Tagged) (k : ℕ) (h : Head) (below : List Activation) (under under' : List Shape) → length under' ≡ length under → i < from + length under → Lie R (slice_set core i v) from under' → Lie R core from (headed k h below under)
     → Lie R (slice_set core i v) from (headed k h below under')
 Lie-head R core from i v k Marked below under under' same low l m = (moved R core from i v (Is (mscw_word (mark_of k Marked below))) (length under) (length under') same low m.0, l)
-Lie-head R core from i v k (Entered level environment back) below under under' same low l m =
-    (moved R core from i v (Is (rcw_word (return_of back below))) (suc (length under)) (suc (length under')) (ap suc same) (omega (arith, low)) m.0,
-      (moved R core from i v (Is (mscw_word (mark_of k (Entered level environment back) below))) (length under) (length under') same low m.1.0, l))
+Lie-head R core from i v k (Entered level environment back) below under under' same low l m = (
+  moved R core from i v (Is (rcw_word (return_of back below))) (suc (length under)) (suc (length under')) (ap suc same) (omega (arith, low)) m.0,
+  (moved R core from i v (Is (mscw_word (mark_of k (Entered level environment back) below))) (length under) (length under') same low m.1.0, l),
+)
 
 pub puts_low : {c : Shape} {at : ℕ} {st st' : List Activation} → Puts c at st st' → at < high st
 puts_low (within a below i low) = omega (arith, low)

@@ -1,10 +1,10 @@
 -- A number stored into a cell that the running task names: the machine stands for the session with that cell changed.
-use Rattle.std.proofs.Common.{◌≡◌, ◌≢◌, ℕ, suc, ◌+◌, ◌-◌, ◌*◌, ◌<◌, ◌≤◌, ◌^◌, List, [], ◌∷◌, ◌++◌, map, flat_map, reverse, length, Option, Some, None, Ok, unwrap_or, refl, sym, ◌∙◌, ap, arith, Bool, true, false, cond, ◌==◌, ⊎_elim, inl, inr, ◌⊎◌, subst, slice_set}
+use Rattle.std.proofs.Common.{◌≡◌, ◌≢◌, ℕ, suc, ◌+◌, ◌-◌, ◌*◌, ◌<◌, ◌≤◌, List, [], ◌∷◌, flat_map, reverse, length, Some, Ok, unwrap_or, refl, sym, ◌∙◌, ap, arith, Bool, true, false, ◌==◌, ⊎_elim, inl, inr, subst, slice_set}
 use Rattle.std.specs.Prelude.{if◌then◌else◌, nat_lt}
 use Rattle.std.specs.List.{slice_get}
 use Rattle.std.specs.Option.{ok_or}
 use Rattle.std.proofs.lemmas.Bool.{cases_Bool, cases_lt, eq-eqb}
-use Rattle.std.proofs.lemmas.Option.{same_Some, none-some}
+use Rattle.std.proofs.lemmas.Option.{none-some}
 use Rattle.b67_core.proofs.Writes.{slice_get-set_other}
 use Rattle.b67_word.specs.Tagged.{Tagged, word}
 use Rattle.b67_word.specs.declared.couples.Place.{Place}
@@ -12,24 +12,23 @@ use Rattle.b67_word.specs.declared.faults.Fault.TheVariants.{InvalidAddress}
 use Rattle.b67_ctl.specs.declared.registers.Regs.{Regs}
 use Rattle.b67_model.specs.Lists.{Has}
 use Rattle.b67_model.specs.Keyed.{keyed}
-use Rattle.b67_model.specs.Words as Words
-use Rattle.b67_model.specs.Words.{Word, Operand, Name, Ref, Row, Element, Original, Proc, Intrinsic}
-use Rattle.b67_model.specs.State.{Frame, Standing, Task, Job, Course, Member, mcp, no_frame, frame, height}
-use Rattle.b67_model.specs.Cells.{first_offset, cell_of, cell}
+use Rattle.b67_model.specs.Words.{Word, Operand}
+use Rattle.b67_model.specs.State.{Frame, Task, Job, Course, Member, mcp, no_frame, frame, height}
+use Rattle.b67_model.specs.Cells.{first_offset, cell_of}
 use Rattle.b67_model.specs.Run.{number_of}
 use Rattle.b67_model.specs.Schedule.{Session}
 use Rattle.b67_model.specs.InOrder.{Known, known_of, identities, IsEntered, IsSegment, NamesEntered, EntryInOrder, IsInOrderButPlaces}
-use Rattle.b67_order.proofs.Members.{all_in, keyed_has, keyed_left, has_map, has_map_back, has_get, has_reverse_back}
+use Rattle.b67_order.proofs.Members.{all_in, keyed_has, keyed_left, has_map_back, has_get, has_reverse_back}
 use Rattle.b67_order.proofs.Chases.{some_ok}
 use Rattle.b67_order.proofs.Looks.{IsFrame, found_frame}
 use Rattle.b67_stack.specs.declared.Cpu.{Cpu}
-use Rattle.b67_stack.specs.Shapes.{Copied, Shape, Is, Copy}
+use Rattle.b67_stack.specs.Shapes.{Shape, Is}
 use Rattle.b67_stack.specs.Stacks.{Spot, Activation, high}
-use Rattle.b67_stack.specs.Picture.{Thing, Picture, Slot, Running, Waiting, Settled, with_slot, slot_base}
+use Rattle.b67_stack.specs.Picture.{Thing, Picture, Running, Waiting, Settled, with_slot, slot_base}
 use Rattle.b67_stack.specs.Stands.{Storage, Stands}
 use Rattle.b67_stack.proofs.Homes.{not_home}
 use Rattle.b67_layout.specs.Plan.{Plan, slot_of, outer_spots, spots, address_of}
-use Rattle.b67_layout.specs.Layout.{activations, stack_of_task, slot_with, slot_at, picture}
+use Rattle.b67_layout.specs.Layout.{activations, stack_of_task, slot_with, picture}
 use Rattle.b67_layout.specs.Session.{DictionaryStands, RowHomes, PlanFits, vector_word, critical_mark, TaskStands, IsRunning, frame_address, Shows, SessionHolds, SessionStands}
 use Rattle.b67_layout.specs.Meets.{here}
 use Rattle.b67_layout.proofs.Others.{keyed-has}
@@ -40,13 +39,13 @@ use Rattle.b67_layout.proofs.Sessions.{change-has, dictionary_below, running_onl
 use Rattle.b67_refer.specs.Scene.{Scene}
 use Rattle.b67_refer.specs.Cells.{IsCellAt}
 use Rattle.b67_refer.proofs.Scenes as Scenes
-use Rattle.b67_refer.proofs.Seats.{seat, has_task}
+use Rattle.b67_refer.proofs.Seats.{seat}
 use Rattle.b67_refer.proofs.Slots.{live_slot}
 use Rattle.b67_refer.proofs.Marks.{frame_known, frame_seat, frame_dictionary, frame_mcp, slot_address}
 use Rattle.b67_refer.proofs.Rule.{inside}
 use Rattle.b67_storing.proofs.Puts.{Puts}
 use Rattle.b67_storing.proofs.Stores.{SlotPuts, runs, waits, Stands-store, Settled-store}
-use Rattle.b67_storing.proofs.Frames.{put_frames, put_job, put_activations, frames_under, frame_found}
+use Rattle.b67_storing.proofs.Frames.{put_job, put_activations, frames_under, frame_found}
 use Rattle.b67_storing.proofs.Owners.{OwnerAt, owner, spot_under}
 use Rattle.b67_storing.proofs.Mapped.{put_task, keyed_put, stack_put, mark_put, rows_put, picture_put, Shows-put}
 

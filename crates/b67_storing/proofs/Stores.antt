@@ -1,11 +1,10 @@
 -- The machine after a store into a cell of some slot's stack.
-use Rattle.std.proofs.Common.{◌≡◌, ◌≢◌, ℕ, suc, ◌+◌, ◌-◌, ◌<◌, ◌≤◌, List, [], ◌∷◌, length, Option, Some, None, refl, sym, ◌∙◌, ap, arith, inl, inr, ◌⊎◌, ⊎_elim, subst, slice_set}
+use Rattle.std.proofs.Common.{◌≡◌, ◌≢◌, ℕ, suc, ◌+◌, ◌<◌, ◌≤◌, List, [], ◌∷◌, length, Option, Some, None, refl, sym, ◌∙◌, ap, arith, inl, inr, ◌⊎◌, ⊎_elim, subst, slice_set}
 use Rattle.std.specs.List.{slice_get}
 use Rattle.std.proofs.Math.ListN.{length-set}
-use Rattle.std.proofs.lemmas.Bool.{cases_eq, cases_lt}
+use Rattle.std.proofs.lemmas.Bool.{cases_lt}
 use Rattle.b67_word.specs.Tagged.{Tagged}
 use Rattle.b67_ctl.specs.Layout.{toscw_word}
-use Rattle.b67_ctl.specs.declared.marks.Toscw.{Toscw}
 use Rattle.b67_core.proofs.Writes.{slice_get-set_other}
 use Rattle.b67_area.specs.Spans.{Span, Area, Hole}
 use Rattle.b67_area.proofs.Climbs.{area_at-low}
@@ -13,13 +12,13 @@ use Rattle.b67_area.proofs.Separation.{Controls, IsDirectory-same}
 use Rattle.b67_model.specs.Lists.{Has}
 use Rattle.b67_ctl.specs.declared.registers.Regs.{Regs}
 use Rattle.b67_stack.specs.Shapes.{Copied, Shape, Copy, Fits, Lie}
-use Rattle.b67_stack.specs.Stacks.{Activation, IsStack, high, mark_place, running_level, words, toscw_of}
+use Rattle.b67_stack.specs.Stacks.{Activation, IsStack, high, words}
 use Rattle.b67_stack.specs.Picture.{Thing, Picture, Slot, Free, Running, Waiting, stack_of, slot_base, SlotFits, CopiesName, Laid, Settled, with_slot, words_of}
-use Rattle.b67_stack.specs.Stands.{Storage, SlotStands, RunningStands, StacksLie, ThingsStand, Content, Stands, info_of}
+use Rattle.b67_stack.specs.Stands.{Storage, SlotStands, Content, Stands, info_of}
 use Rattle.b67_stack.proofs.Bases.{base-apart}
 use Rattle.b67_stack.proofs.Lies.{Lie-same, Upward-same}
 use Rattle.b67_stack.proofs.Heights.{words-length}
-use Rattle.b67_stack.proofs.Slots.{slot-same, slot-other, by_slot}
+use Rattle.b67_stack.proofs.Slots.{by_slot}
 use Rattle.b67_storing.proofs.Puts.{Puts, puts_high, puts_mark, puts_level, puts_some, puts_heads, puts_lies, puts_has, puts_low}
 
 -- a live task's slot with another shape in a cell
@@ -157,12 +156,12 @@ module _ (x : Storage) (core : List Tagged) (r : Regs) (p : Picture) (k : ℕ) (
         (λ j hj n. Lie-same (Fits x.held) core (slice_set core (suc (slot_base p k) + at) v) (suc (slot_base p j)) (words j (stack_of (p.slots j)))
         (λ i down up. elsewhere j hj n i (omega (arith, down)) (let w = words-length j (stack_of (p.slots j)) in let f = slot_room p j (p.slots j) (laid.slots j hj) some in omega (arith, up, w, f))) (s.stacks j hj));
     things = λ t int. (let was = s.things t int in
-    record {
-      home = slice_get-set_other core (suc (slot_base p k) + at) t.home v (no_home t int) ∙ was.home;
-      content = Content-areas x core (slice_set core (suc (slot_base p k) + at) v) t (x.held t.home).area (x.held t.home).chain
-          (λ b q. let o = s.owned.of_held t.home b q in let l = area_at-low x.low x.spans b (info_of x o.0) o.3 in omega (arith, l))
-          (λ q up. other q (inr (omega (arith, up, below_low)))) was.content;
-    });
+        record {
+          home = slice_get-set_other core (suc (slot_base p k) + at) t.home v (no_home t int) ∙ was.home;
+          content = Content-areas x core (slice_set core (suc (slot_base p k) + at) v) t (x.held t.home).area (x.held t.home).chain
+              (λ b q. let o = s.owned.of_held t.home b q in let l = area_at-low x.low x.spans b (info_of x o.0) o.3 in omega (arith, l))
+              (λ q up. other q (inr (omega (arith, up, below_low)))) was.content;
+        });
     owned = record { of_area = s.owned.of_area; of_held = s.owned.of_held; of_chain = s.owned.of_chain; no_zero = s.owned.no_zero; one_chain = s.owned.one_chain };
     directory = IsDirectory-same core (slice_set core (suc (slot_base p k) + at) v) x.low x.spans (length-set core (suc (slot_base p k) + at) v)
         (λ i h. other i (inl (let f = laid.first in omega (arith, h.1, f))))

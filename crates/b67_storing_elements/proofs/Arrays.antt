@@ -1,5 +1,5 @@
 -- A job with another number in an array: its stacks look the same, and of its things one is replaced.
-use Rattle.std.proofs.Common.{◌≡◌, ◌≢◌, ℕ, ◌<◌, List, [], ◌∷◌, map, flat_map, length, Option, Some, None, refl, sym, ◌∙◌, ap, Bool, true, false, not, ◌==◌, ⊎_elim, inl, inr, ◌⊎◌, subst, slice_set}
+use Rattle.std.proofs.Common.{◌≡◌, ℕ, List, [], ◌∷◌, map, length, Option, Some, None, refl, sym, ◌∙◌, ap, Bool, true, false, not, ◌==◌, ⊎_elim}
 use Rattle.std.specs.Prelude.{if◌then◌else◌, unwrap_or}
 use Rattle.std.proofs.Math.ListN.{length-set}
 use Rattle.std.proofs.lemmas.Bool.{cases_Bool, cases_eq}
@@ -15,7 +15,7 @@ use Rattle.b67_stack.specs.Shapes.{Shape, Copy}
 use Rattle.b67_stack.specs.Stacks.{Spot, Activation}
 use Rattle.b67_stack.specs.Picture.{Slot, Running, Waiting}
 use Rattle.b67_layout.specs.Plan.{Slotted, Plan, slot_of, spot_in, outer_spots, spots}
-use Rattle.b67_layout.specs.Layout.{shape, head, activations, stack_of_task, slot_with, slot_in, slot_by, slot_at}
+use Rattle.b67_layout.specs.Layout.{shape, head, activations, slot_with, slot_in, slot_by, slot_at}
 use Rattle.b67_layout.specs.Session.{critical_mark}
 use Rattle.b67_layout.proofs.Pictures.{with_course, member-same, member-other}
 

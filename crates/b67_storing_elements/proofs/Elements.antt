@@ -1,8 +1,8 @@
 -- The machine after a store into an element of a present array.
-use Rattle.std.proofs.Common.{◌≡◌, ◌≢◌, ℕ, zero, suc, ◌+◌, ◌-◌, ◌<◌, ◌≤◌, ◌^◌, List, [], ◌∷◌, map, length, Option, Some, None, refl, sym, ◌∙◌, ap, arith, inl, inr, ◌⊎◌, ⊎_elim, subst, slice_set}
+use Rattle.std.proofs.Common.{◌≡◌, ◌≢◌, ℕ, zero, suc, ◌+◌, ◌<◌, ◌≤◌, ◌^◌, List, [], ◌∷◌, map, length, Option, Some, None, refl, sym, ◌∙◌, ap, arith, inl, inr, ◌⊎◌, ⊎_elim, subst, slice_set}
 use Rattle.std.specs.List.{slice_get}
 use Rattle.std.proofs.Math.ListN.{length-set}
-use Rattle.std.proofs.lemmas.Bool.{cases_eq, cases_lt}
+use Rattle.std.proofs.lemmas.Bool.{cases_eq}
 use Rattle.std.proofs.lemmas.Option.{same_Some}
 use Rattle.std.proofs.lemmas.List.{length-map}
 use Rattle.b67_word.specs.Tagged.{Tagged, word}
@@ -15,8 +15,8 @@ use Rattle.b67_area.proofs.Laws.{area_inside, areas_apart}
 use Rattle.b67_area.proofs.Separation.{IsDirectory-set_area}
 use Rattle.b67_model.specs.Lists.{Has}
 use Rattle.b67_ctl.specs.declared.registers.Regs.{Regs}
-use Rattle.b67_stack.specs.Shapes.{Copied, Shape, Copy, Fits, Lie, Upward}
-use Rattle.b67_stack.specs.Stacks.{Activation, high, words}
+use Rattle.b67_stack.specs.Shapes.{Fits, Upward}
+use Rattle.b67_stack.specs.Stacks.{high, words}
 use Rattle.b67_stack.specs.Picture.{Thing, Picture, Slot, Free, Running, Waiting, stack_of, slot_base, SlotFits, CopiesName, IsArrayAt, Laid, Settled, home_word, words_of, tag_of}
 use Rattle.b67_stack.specs.Stands.{Storage, SlotStands, ThingStands, Content, Keeps, Stands, info_of}
 use Rattle.b67_stack.proofs.Bases.{base-apart}
@@ -164,9 +164,10 @@ module _ (x : Storage) (core : List Tagged) (r : Regs) (p : Picture) (things' : 
       let P : ℕ → Type 0 = λ q. Upward core q (map (word 0) t.numbers) in
       let Q : ℕ → Type 0 = λ q. Upward (slice_set core (b + i) (word 0 v)) q (map (word 0) (slice_set t.numbers i v)) in
       let T : ℕ → Type 0 = λ g. Upward core a (map (word g) t.numbers) in
-      let U : ℕ → Type 0 = λ g. Upward (slice_set core (b + i) (word 0 v)) a (map (word g) (slice_set t.numbers i v)) in
-      (subst U (sym zero_tag) (subst Q (sym same) (upward_set core b i v t.numbers low (let z = area_in.1 in omega (arith, z)) (subst P same (subst T zero_tag c.0)))),
-        keeps_same x t i v first is_array c.1)
+      let U : ℕ → Type 0 = λ g. Upward (slice_set core (b + i) (word 0 v)) a (map (word g) (slice_set t.numbers i v)) in (
+        subst U (sym zero_tag) (subst Q (sym same) (upward_set core b i v t.numbers low (let z = area_in.1 in omega (arith, z)) (subst P same (subst T zero_tag c.0)))),
+        keeps_same x t i v first is_array c.1,
+      )
 
   home_word_same : (g : Kind) → g ≡ kind.Array → home_word (let z : Thing = record { home = t.home; kind = g; numbers = slice_set t.numbers i v } in z) (x.held t.home) ≡ home_word (let z : Thing = record { home = t.home; kind = g; numbers = t.numbers } in z) (x.held t.home)
   home_word_same g e = ap (λ (q : ℕ). Rattle.b67_stack.specs.Picture.home_word_of g q (x.held t.home)) n
@@ -202,7 +203,7 @@ module _ (x : Storage) (core : List Tagged) (r : Regs) (p : Picture) (things' : 
       of_chain = λ first e. (let o = s.owned.of_chain first e in let k = kept o.0 o.1 in (k.0, k.1, ap (λ (z : ℕ). (x.held z).chain) k.2 ∙ o.2));
       no_zero = s.owned.no_zero;
       one_chain = λ u w hu hw e f. (let bu = back u hu in let bw = back w hw in
-      sym bu.2 ∙ s.owned.one_chain bu.0 bw.0 bu.1 bw.1 (subst (λ (z : ℕ). 0 < (x.held z).chain) (sym bu.2) e) (ap (λ (z : ℕ). (x.held z).chain) bu.2 ∙ f ∙ ap (λ (z : ℕ). (x.held z).chain) (sym bw.2)) ∙ bw.2);
+          sym bu.2 ∙ s.owned.one_chain bu.0 bw.0 bu.1 bw.1 (subst (λ (z : ℕ). 0 < (x.held z).chain) (sym bu.2) e) (ap (λ (z : ℕ). (x.held z).chain) bu.2 ∙ f ∙ ap (λ (z : ℕ). (x.held z).chain) (sym bw.2)) ∙ bw.2);
     };
     directory = IsDirectory-set_area core x.low x.spans b (info_of x t) (b + i) (word 0 v) s.directory area (omega arith) (omega (arith, low));
     inside = (let q = s.inside in let l = length-set core (b + i) (word 0 v) in omega (arith, q, l));

@@ -1,5 +1,5 @@
 -- No two arrays have their originals at one address.
-use Rattle.std.proofs.Common.{◌≡◌, ◌≢◌, ℕ, suc, ◌+◌, ◌*◌, ◌<◌, ◌≤◌, List, [], ◌∷◌, ◌++◌, map, length, reverse, Some, refl, sym, ◌∙◌, ap, arith, length-append, inl, inr, ◌⊎◌, ⊎_elim, subst}
+use Rattle.std.proofs.Common.{◌≡◌, ◌≢◌, ℕ, suc, ◌+◌, ◌<◌, ◌≤◌, List, [], ◌∷◌, ◌++◌, map, length, reverse, sym, ◌∙◌, ap, arith, inl, inr, ◌⊎◌, ⊎_elim, subst}
 use Rattle.std.proofs.lemmas.Bool.{cases_eq, cases_lt}
 use Rattle.std.proofs.lemmas.List.{length-reverse}
 use Rattle.std.proofs.lemmas.Option.{same_Some}
@@ -148,9 +148,10 @@ module _ (x : Storage) (core : List Tagged) (r : Regs) (plan : Plan) (s : Sessio
       let small = slot_below plan s.jobs y u fits.rows h i in
       let is = stack_in_slot plan s.jobs y u fits.rows h i ky ku in
       let size = fits.sizes y h in
-      let low = (order_of y h).unchanging.stack_low in
-      (subst (λ (st : List Activation). Lie (Fits x.held) core (suc (base k)) (words k st)) is (memory.stacks k small),
-        subst (λ (st : List Activation). high st < plan.size) is (room (picture plan s.jobs) k (slot_at plan s.jobs k) (memory.slots.laid.slots k small) (omega (arith, size, low))))
+      let low = (order_of y h).unchanging.stack_low in (
+        subst (λ (st : List Activation). Lie (Fits x.held) core (suc (base k)) (words k st)) is (memory.stacks k small),
+        subst (λ (st : List Activation). high st < plan.size) is (room (picture plan s.jobs) k (slot_at plan s.jobs k) (memory.slots.laid.slots k small) (omega (arith, size, low))),
+      )
 
   in_slot : (y : Member) (b : Array) (q : InFrame y.course.job b) → Has s.jobs y → let k = slot_of plan y.setting.number q.task.number in
       (base k < plan.home y.setting.number b.identity) × (plan.home y.setting.number b.identity < base k + plan.size)

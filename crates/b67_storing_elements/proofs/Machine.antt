@@ -1,25 +1,21 @@
 -- A number stored into an element of a present array: the machine stands for the session with that array changed.
-use Rattle.std.proofs.Common.{◌≡◌, ◌≢◌, ℕ, suc, ◌+◌, ◌*◌, ◌<◌, ◌≤◌, List, [], ◌∷◌, ◌++◌, map, flat_map, length, Option, Some, None, refl, sym, ◌∙◌, ap, arith, Bool, true, false, ◌==◌, ⊎_elim, inl, inr, ◌⊎◌, subst, slice_set}
+use Rattle.std.proofs.Common.{◌≡◌, ◌≢◌, ℕ, ◌+◌, ◌<◌, ◌≤◌, List, [], ◌∷◌, flat_map, length, Some, refl, sym, ◌∙◌, ap, arith, Bool, true, false, ◌==◌, ⊎_elim, subst, slice_set}
 use Rattle.std.specs.List.{slice_get}
-use Rattle.std.proofs.lemmas.Bool.{cases_Bool, cases_eq}
-use Rattle.std.proofs.lemmas.List.{map-append}
+use Rattle.std.proofs.lemmas.Bool.{cases_Bool}
 use Rattle.b67_core.proofs.Writes.{slice_get-set_other}
 use Rattle.b67_word.specs.Tagged.{Tagged, word}
 use Rattle.b67_area.specs.declared.Kind.TheVariants as kind
-use Rattle.b67_area.specs.Spans.{area_at}
 use Rattle.b67_area.proofs.Laws.{area_inside}
-use Rattle.b67_ctl.specs.declared.registers.Regs.{Regs}
 use Rattle.b67_model.specs.Lists.{Has}
 use Rattle.b67_model.specs.Keyed.{keyed}
-use Rattle.b67_model.specs.State.{Frame, Array, Task, Job, Course, Member, Here}
-use Rattle.b67_model.specs.Environment.{level_of_frame, running, frame_at}
+use Rattle.b67_model.specs.State.{Array, Task, Job, Course, Member, Here}
+use Rattle.b67_model.specs.Environment.{frame_at}
 use Rattle.b67_model.specs.Arrays.{with_element}
 use Rattle.b67_model.specs.Run.{number_of}
 use Rattle.b67_model.specs.Schedule.{Session}
-use Rattle.b67_model.specs.InOrder.{Known, known_of, IsInOrderButPlaces}
+use Rattle.b67_model.specs.InOrder.{Known, IsInOrderButPlaces}
 use Rattle.b67_stack.specs.declared.Cpu.{Cpu}
-use Rattle.b67_stack.specs.Stacks.{high}
-use Rattle.b67_stack.specs.Picture.{Thing, Slot, Picture, Settled, stack_of, slot_base}
+use Rattle.b67_stack.specs.Picture.{Thing, Slot, Picture, Settled}
 use Rattle.b67_stack.specs.Stands.{Storage, Stands, info_of}
 use Rattle.b67_layout.specs.Plan.{Plan, slot_of, spots, address_of}
 use Rattle.b67_layout.specs.Layout.{array_thing, things_of, picture}

@@ -1,9 +1,8 @@
 -- The things of a session with another number in an array: one of them is replaced.
-use Rattle.std.proofs.Common.{◌≡◌, ◌≢◌, ℕ, ◌+◌, List, [], ◌∷◌, ◌++◌, map, flat_map, Some, refl, sym, ◌∙◌, ap, Bool, true, false, ◌==◌, ⊎_elim, inl, inr, ◌⊎◌, subst}
+use Rattle.std.proofs.Common.{◌≡◌, ◌≢◌, ℕ, ◌+◌, List, [], ◌∷◌, map, flat_map, Some, refl, sym, ◌∙◌, ap, Bool, true, false, ◌==◌, ⊎_elim, inl, inr, ◌⊎◌, subst}
 use Rattle.std.proofs.lemmas.Bool.{cases_Bool, cases_eq}
 use Rattle.std.proofs.lemmas.Option.{same_Some}
 use Rattle.b67_word.specs.Tagged.{Tagged}
-use Rattle.b67_area.specs.declared.Kind.{Kind}
 use Rattle.b67_area.specs.declared.Kind.TheVariants as kind
 use Rattle.b67_ctl.specs.declared.registers.Regs.{Regs}
 use Rattle.b67_model.specs.Lists.{Has, Falls}
@@ -129,8 +128,10 @@ module _ (x : Storage) (core : List Tagged) (r : Regs) (plan : Plan) (s : Sessio
       (λ k. inr (has_append_left (code_things plan j 1 m.setting.segments) (map (array_thing plan j) m.course.job.arrays) u k, code_apart m has_m u k))
       (λ k. (let b = has_map_back (array_thing plan j) job'.arrays u k in ⊎_elim
       (λ (e : b.item ≡ a'). inl (sym b.is ∙ ap (array_thing plan j) e))
-      (λ q. inr (has_append_right (code_things plan j 1 m.setting.segments) (map (array_thing plan j) m.course.job.arrays) u (subst (Has (map (array_thing plan j) m.course.job.arrays)) b.is (has_map (array_thing plan j) m.course.job.arrays b.item q.0)),
-        λ e. other_array m b.item has_m q.0 (λ z. q.1) (ap (λ (z : Thing). z.home) b.is ∙ e)))
+      (λ q. inr (
+        has_append_right (code_things plan j 1 m.setting.segments) (map (array_thing plan j) m.course.job.arrays) u (subst (Has (map (array_thing plan j) m.course.job.arrays)) b.is (has_map (array_thing plan j) m.course.job.arrays b.item q.0)),
+        λ e. other_array m b.item has_m q.0 (λ z. q.1) (ap (λ (z : Thing). z.home) b.is ∙ e),
+      ))
       (array_of b.item b.among)))
       (has_append_cases (code_things plan j 1 m.setting.segments) (map (array_thing plan j) job'.arrays) u h)
 

@@ -117,9 +117,10 @@ module _ (x : Storage) (cpu : Cpu) (plan : Plan) (s : Session) (m : Member) (t :
       frame_of = (frame_at (here m t q) c.level).identity
 
       pub frame_named : c.level ≤ cpu.regs.level → NamesEntered (reach_of m.course.job t) (frame_at (here m t q) c.level).identity × (get_or cpu.display c.level 0 ≡ frame_address plan m t (frame_at (here m t q) c.level).identity)
-      frame_named low =
-          (names_level cpu.core cpu.regs (here_scene x cpu plan s m t ordered h runs) q cpu.display (here_shown x cpu plan s m t ordered h runs) c low,
-          display_at cpu.core cpu.regs (here_scene x cpu plan s m t ordered h runs) q cpu.display (here_shown x cpu plan s m t ordered h runs) c low)
+      frame_named low = (
+        names_level cpu.core cpu.regs (here_scene x cpu plan s m t ordered h runs) q cpu.display (here_shown x cpu plan s m t ordered h runs) c low,
+        display_at cpu.core cpu.regs (here_scene x cpu plan s m t ordered h runs) q cpu.display (here_shown x cpu plan s m t ordered h runs) c low,
+      )
 
       found_by : (found f d : ℕ) → CellMeets (here_scene x cpu plan s m t ordered h runs) q f d (Ok found) (cell (here m t q) f d) → (cell (here m t q) f d >>= λ v. Ok (Ref f d)) ≡ Ok (Ref f d)
       found_by found f d i = by_cell (cell (here m t q) f d) i where

@@ -24,12 +24,16 @@ enter_in_place-requires c =
     record { runs = q; place = c.requires.place; enters = k.leads }
 
 pub returns-then-tag-eq0 : goal.returns-then-tag-eq0
-returns-then-tag-eq0 c = record { row = λ x plan s m t ordered h runs q keeps enters.
-    c.enter_under.ensures.row x plan s m t ordered h runs q keeps
-    (value_over x c.args.cpu.now plan m t q c.in-Ok.two.0 c.in-Ok.two.1 enters (c.in-Ok.ensures.cells x plan s m t ordered h runs) c.in-Ok.ensures.above (sym c.tag.ensures.value ∙ c.if-tag-eq0.true)) }
+returns-then-tag-eq0 c = record {
+  row = λ x plan s m t ordered h runs q keeps enters.
+      c.enter_under.ensures.row x plan s m t ordered h runs q keeps
+      (value_over x c.args.cpu.now plan m t q c.in-Ok.two.0 c.in-Ok.two.1 enters (c.in-Ok.ensures.cells x plan s m t ordered h runs) c.in-Ok.ensures.above (sym c.tag.ensures.value ∙ c.if-tag-eq0.true));
+}
 
 pub returns-else-tag-eq0 : goal.returns-else-tag-eq0
-returns-else-tag-eq0 c = record { row = λ x plan s m t ordered h runs q keeps enters.
-    let k = on_top x c.args.cpu.now plan m t q c.in-Ok.two.0 c.in-Ok.two.1 enters (c.in-Ok.ensures.cells x plan s m t ordered h runs) (λ e. c.if-tag-eq0.false (c.tag.ensures.value ∙ e)) in
-    let P : Answer Done → Type 0 = λ z. Meets x plan s m c.enter_in_place.result c.args.cpu.now c.enter_in_place.new.cpu z in
-    subst P (sym (k.same keeps)) (c.enter_in_place.ensures.row x plan s m t ordered h runs q k.leads) }
+returns-else-tag-eq0 c = record {
+  row = λ x plan s m t ordered h runs q keeps enters.
+      let k = on_top x c.args.cpu.now plan m t q c.in-Ok.two.0 c.in-Ok.two.1 enters (c.in-Ok.ensures.cells x plan s m t ordered h runs) (λ e. c.if-tag-eq0.false (c.tag.ensures.value ∙ e)) in
+      let P : Answer Done → Type 0 = λ z. Meets x plan s m c.enter_in_place.result c.args.cpu.now c.enter_in_place.new.cpu z in
+      subst P (sym (k.same keeps)) (c.enter_in_place.ensures.row x plan s m t ordered h runs q k.leads);
+}

@@ -6,9 +6,15 @@ use Rattle.b67_assign.proofs.enter_under.Goals as goal
 
 pub procedure_cell-cell-requires : goal.procedure_cell-cell-requires
 procedure_cell-cell-requires c =
-    let (a, q, o) = c.requires in
-    (here_scene a.storage c.args.cpu.now a.plan a.session a.member a.task a.ordered a.stands a.running, q, o.frame, o.segment, o.level, o.place,
-    leads_under a.storage c.args.cpu.now a.plan a.session a.member a.task a.ordered a.stands a.running q c.args.lower c.args.upper o)
+    let (a, q, o) = c.requires in (
+      here_scene a.storage c.args.cpu.now a.plan a.session a.member a.task a.ordered a.stands a.running,
+      q,
+      o.frame,
+      o.segment,
+      o.level,
+      o.place,
+      leads_under a.storage c.args.cpu.now a.plan a.session a.member a.task a.ordered a.stands a.running q c.args.lower c.args.upper o,
+    )
 
 pub set-requires : goal.set-requires
 set-requires c = let (a, q, o) = c.requires in (bounds a.storage c.args.cpu.now a.plan a.session a.member a.task a.ordered a.stands a.running q c.args.lower c.args.upper o).0
@@ -50,18 +56,21 @@ set-requires-in-Fault c =
     subst P (sym f.1) (omega (arith, there, same))
 
 pub returns-in-Fault : goal.returns-in-Fault
-returns-in-Fault c = record { row = λ x plan s m t ordered h runs q keeps o.
-    let cpu = c.args.cpu.now in
-    let l = leads_under x cpu plan s m t ordered h runs q c.args.lower c.args.upper o in
-    let k = c.procedure_cell-cell.ensures (here_scene x cpu plan s m t ordered h runs) q o.frame o.segment o.level o.place l in
-    (
-      (stored_fault x cpu plan s m t ordered h runs q c.args.lower c.args.upper o c.procedure_cell-cell.result c.set.new.self c.set.ensures.value k c.accident_on.new.cpu keeps c.in-Fault.fault c.in-Fault.ensures.row).0,
-      restored x cpu plan s m t ordered h runs q c.args.lower c.args.upper o c.procedure_cell-cell.result c.set.new.self c.set.ensures.value k c.accident_on.new.cpu c.set-in-Fault.new.self keeps c.in-Fault.fault c.in-Fault.ensures.row c.set-in-Fault.ensures.value,
-    ) }
+returns-in-Fault c = record {
+  row = λ x plan s m t ordered h runs q keeps o.
+      let cpu = c.args.cpu.now in
+      let l = leads_under x cpu plan s m t ordered h runs q c.args.lower c.args.upper o in
+      let k = c.procedure_cell-cell.ensures (here_scene x cpu plan s m t ordered h runs) q o.frame o.segment o.level o.place l in (
+        (stored_fault x cpu plan s m t ordered h runs q c.args.lower c.args.upper o c.procedure_cell-cell.result c.set.new.self c.set.ensures.value k c.accident_on.new.cpu keeps c.in-Fault.fault c.in-Fault.ensures.row).0,
+        restored x cpu plan s m t ordered h runs q c.args.lower c.args.upper o c.procedure_cell-cell.result c.set.new.self c.set.ensures.value k c.accident_on.new.cpu c.set-in-Fault.new.self keeps c.in-Fault.fault c.in-Fault.ensures.row c.set-in-Fault.ensures.value,
+      );
+}
 
 pub returns-in_default : goal.returns-in_default
-returns-in_default c = record { row = λ x plan s m t ordered h runs q keeps o.
-    let cpu = c.args.cpu.now in
-    let l = leads_under x cpu plan s m t ordered h runs q c.args.lower c.args.upper o in
-    let k = c.procedure_cell-cell.ensures (here_scene x cpu plan s m t ordered h runs) q o.frame o.segment o.level o.place l in
-    stored_made x cpu plan s m t ordered h runs q c.args.lower c.args.upper o c.procedure_cell-cell.result c.set.new.self c.set.ensures.value k c.accident_on.new.cpu keeps c.accident_on.result c.in_default.not-Fault c.accident_on.ensures.row }
+returns-in_default c = record {
+  row = λ x plan s m t ordered h runs q keeps o.
+      let cpu = c.args.cpu.now in
+      let l = leads_under x cpu plan s m t ordered h runs q c.args.lower c.args.upper o in
+      let k = c.procedure_cell-cell.ensures (here_scene x cpu plan s m t ordered h runs) q o.frame o.segment o.level o.place l in
+      stored_made x cpu plan s m t ordered h runs q c.args.lower c.args.upper o c.procedure_cell-cell.result c.set.new.self c.set.ensures.value k c.accident_on.new.cpu keeps c.accident_on.result c.in_default.not-Fault c.accident_on.ensures.row;
+}

@@ -22,15 +22,19 @@ enter-requires c =
     }
 
 pub returns-in-Call : goal.returns-in-Call
-returns-in-Call c = record { row = λ x plan s m t ordered h runs.
-    let hh = here m t c.args.next in
-    let i = called_by x plan s m c.in-Call.field-0 c.args.cpu.now c.stod.new.cpu (enters_at (store_end hh (cells_of hh))) (rows.store false hh (cells_of hh)) (c.in-Call.ensures.row x plan s m t ordered h runs) in
-    let S : Cpu → Type 0 = λ z. SessionStands x z plan s in
-    let made = c.enter.ensures.row x plan s m t ordered (subst S (sym i.1) h) runs c.args.next false i.0 in
-    let P : Cpu → Type 0 = λ z. Meets x plan s m c.enter.result z c.enter.new.cpu (rows.store false hh (cells_of hh)) in
-    subst P i.1 made }
+returns-in-Call c = record {
+  row = λ x plan s m t ordered h runs.
+      let hh = here m t c.args.next in
+      let i = called_by x plan s m c.in-Call.field-0 c.args.cpu.now c.stod.new.cpu (enters_at (store_end hh (cells_of hh))) (rows.store false hh (cells_of hh)) (c.in-Call.ensures.row x plan s m t ordered h runs) in
+      let S : Cpu → Type 0 = λ z. SessionStands x z plan s in
+      let made = c.enter.ensures.row x plan s m t ordered (subst S (sym i.1) h) runs c.args.next false i.0 in
+      let P : Cpu → Type 0 = λ z. Meets x plan s m c.enter.result z c.enter.new.cpu (rows.store false hh (cells_of hh)) in
+      subst P i.1 made;
+}
 
 pub returns-in_default : goal.returns-in_default
-returns-in_default c = record { row = λ x plan s m t ordered h runs.
-    let hh = here m t c.args.next in
-    met_by x plan s m c.stod.result c.args.cpu.now c.stod.new.cpu (enters_at (store_end hh (cells_of hh))) (rows.store false hh (cells_of hh)) c.in_default.not-Call (c.stod.ensures.row x plan s m t ordered h runs) }
+returns-in_default c = record {
+  row = λ x plan s m t ordered h runs.
+      let hh = here m t c.args.next in
+      met_by x plan s m c.stod.result c.args.cpu.now c.stod.new.cpu (enters_at (store_end hh (cells_of hh))) (rows.store false hh (cells_of hh)) c.in_default.not-Call (c.stod.ensures.row x plan s m t ordered h runs);
+}

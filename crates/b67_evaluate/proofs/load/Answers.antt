@@ -21,15 +21,19 @@ enter_in_place-requires c =
     }
 
 pub returns-in-Call : goal.returns-in-Call
-returns-in-Call c = record { row = λ x plan s m t ordered h runs.
-    let hh = here m t c.args.next in
-    let i = called_by x plan s m c.in-Call.field-0 c.args.cpu.now c.load.new.cpu (enters_at (top_end hh (cells_of hh))) (rows.load hh (cells_of hh)) (c.in-Call.ensures.row x plan s m t ordered h runs) in
-    let S : Cpu → Type 0 = λ z. SessionStands x z plan s in
-    let made = c.enter_in_place.ensures.row x plan s m t ordered (subst S (sym i.1) h) runs c.args.next i.0 in
-    let P : Cpu → Type 0 = λ z. Meets x plan s m c.enter_in_place.result z c.enter_in_place.new.cpu (rows.load hh (cells_of hh)) in
-    subst P i.1 made }
+returns-in-Call c = record {
+  row = λ x plan s m t ordered h runs.
+      let hh = here m t c.args.next in
+      let i = called_by x plan s m c.in-Call.field-0 c.args.cpu.now c.load.new.cpu (enters_at (top_end hh (cells_of hh))) (rows.load hh (cells_of hh)) (c.in-Call.ensures.row x plan s m t ordered h runs) in
+      let S : Cpu → Type 0 = λ z. SessionStands x z plan s in
+      let made = c.enter_in_place.ensures.row x plan s m t ordered (subst S (sym i.1) h) runs c.args.next i.0 in
+      let P : Cpu → Type 0 = λ z. Meets x plan s m c.enter_in_place.result z c.enter_in_place.new.cpu (rows.load hh (cells_of hh)) in
+      subst P i.1 made;
+}
 
 pub returns-in_default : goal.returns-in_default
-returns-in_default c = record { row = λ x plan s m t ordered h runs.
-    let hh = here m t c.args.next in
-    met_by x plan s m c.load.result c.args.cpu.now c.load.new.cpu (enters_at (top_end hh (cells_of hh))) (rows.load hh (cells_of hh)) c.in_default.not-Call (c.load.ensures.row x plan s m t ordered h runs) }
+returns-in_default c = record {
+  row = λ x plan s m t ordered h runs.
+      let hh = here m t c.args.next in
+      met_by x plan s m c.load.result c.args.cpu.now c.load.new.cpu (enters_at (top_end hh (cells_of hh))) (rows.load hh (cells_of hh)) c.in_default.not-Call (c.load.ensures.row x plan s m t ordered h runs);
+}

@@ -7,7 +7,9 @@ use Rattle.b67_entry.specs.Procedures.{CallsOrMeets}
 use Rattle.b67_exec.proofs.perform.Goals as goal
 
 pub returns-in-Valc : goal.returns-in-Valc
-returns-in-Valc c = record { row = λ x plan s m t ordered h runs.
-    let hh = here m t c.args.next in
-    let Q : Op → Type 0 = λ o. CallsOrMeets x plan s m c.evaluate.result c.args.cpu.now c.evaluate.new.cpu (called o hh) (row o hh) in
-    subst Q (sym c.in-Valc.is) (c.evaluate.ensures.row x plan s m t ordered h runs) }
+returns-in-Valc c = record {
+  row = λ x plan s m t ordered h runs.
+      let hh = here m t c.args.next in
+      let Q : Op → Type 0 = λ o. CallsOrMeets x plan s m c.evaluate.result c.args.cpu.now c.evaluate.new.cpu (called o hh) (row o hh) in
+      subst Q (sym c.in-Valc.is) (c.evaluate.ensures.row x plan s m t ordered h runs);
+}

@@ -10,8 +10,10 @@ use Rattle.b67_exec.proofs.Readings.{same_called}
 use Rattle.b67_exec.proofs.plain.Goals as goal
 
 pub returns-in-Entr : goal.returns-in-Entr
-returns-in-Entr c = record { row = λ x plan s m t ordered h runs.
-    let hh = here m t c.args.next in
-    let P : Option ℕ → Type 0 = λ o. CallsOrMeets x plan s m c.entr.result c.args.cpu.now c.entr.new.cpu o (entr hh (top_of hh).standing) in
-    let Q : Code → Type 0 = λ k. CallsOrMeets x plan s m c.entr.result c.args.cpu.now c.entr.new.cpu (called (Plain k) hh) (plain k hh) in
-    subst Q (sym c.in-Entr.is) (subst P (same_called hh (top_of hh).standing) (c.entr.ensures.row x plan s m t ordered h runs)) }
+returns-in-Entr c = record {
+  row = λ x plan s m t ordered h runs.
+      let hh = here m t c.args.next in
+      let P : Option ℕ → Type 0 = λ o. CallsOrMeets x plan s m c.entr.result c.args.cpu.now c.entr.new.cpu o (entr hh (top_of hh).standing) in
+      let Q : Code → Type 0 = λ k. CallsOrMeets x plan s m c.entr.result c.args.cpu.now c.entr.new.cpu (called (Plain k) hh) (plain k hh) in
+      subst Q (sym c.in-Entr.is) (subst P (same_called hh (top_of hh).standing) (c.entr.ensures.row x plan s m t ordered h runs));
+}

@@ -1,4 +1,4 @@
-use Rattle.std.proofs.Common.{◌≡◌, arith, true, false, not, ap, sym, ◌∙◌, refl}
+use Rattle.std.proofs.Common.{arith, ap, sym, ◌∙◌, refl}
 use Rattle.std.proofs.lemmas.Bool.{not-false, not-true}
 use Rattle.b67_ctl.specs.declared.descriptors.DataDesc.{DataDesc}
 use Rattle.b67_elements.proofs.Arrays.{absent, present, bound, element-inside}

@@ -1,6 +1,5 @@
-use Rattle.std.proofs.Common.{◌≡◌, ◌<◌, ℕ, ◌+◌, List, ⊎_elim, arith, refl, sym, ap, subst, inl, inr, slice_set, ◌⊎◌}
+use Rattle.std.proofs.Common.{◌≡◌, arith, sym, subst, ◌⊎◌}
 use Rattle.std.specs.List.{slice_get}
-use Rattle.b67_word.specs.Tagged.{Tagged, word}
 use Rattle.b67_model.specs.Words.{Operand}
 use Rattle.b67_stack.specs.declared.Cpu.{Cpu}
 use Rattle.b67_layout.specs.Meets.{with_job, IsInStack}

@@ -1,4 +1,4 @@
-use Rattle.std.proofs.Common.{◌≡◌, ℤ, List, sym, ◌∙◌, subst}
+use Rattle.std.proofs.Common.{sym, ◌∙◌, subst}
 use Rattle.b67_layout.proofs.Fresh.{running_in_order}
 use Rattle.b67_calls.specs.Reads.{AreOperands}
 use Rattle.b67_calls.proofs.Reading.{not_none, critical, taken}
