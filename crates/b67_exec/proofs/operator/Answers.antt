@@ -1,5 +1,4 @@
-use Rattle.std.proofs.Common.{◌≡◌, refl, sym, ◌∙◌, Ok, Err}
-use Rattle.b67_model.specs.Operators.{Reading}
+use Rattle.std.proofs.Common.{refl, sym, ◌∙◌, Ok, Err}
 use Rattle.b67_layout.proofs.Fresh.{running_in_order}
 use Rattle.b67_exec.proofs.Readings.{read_fits, operator_read}
 use Rattle.b67_exec.proofs.operator.Goals as goal
