@@ -1,16 +1,17 @@
 -- What is read for a segment's cards.
-use Rattle.std.proofs.Common.{◌≡◌, ℕ, zero, suc, ◌+◌, ◌-◌, ◌*◌, ◌%◌, ◌≤◌, Bool, true, false, refl, sym, ◌∙◌, ap, subst, arith, cond, Option, Some, None, List, [], ◌∷◌, length, replicate, min, Result, Ok, Err}
+use Rattle.std.proofs.Common.{◌⊎◌, inl, inr, ◌≡◌, ℕ, zero, suc, ◌+◌, ◌-◌, ◌*◌, ◌%◌, ◌≤◌, Bool, true, false, refl, sym, ◌∙◌, ap, subst, arith, cond, Option, Some, None, List, [], ◌∷◌, length, replicate, min, Result, Ok, Err}
 use Rattle.std.specs.Prelude.{nat_le, ◌&&◌}
 use Rattle.std.specs.Option.{option_map}
 use Rattle.std.specs.List.{AllByRecursion, cons_option}
 use Rattle.std.specs.Str.{bytes_eq}
 use Rattle.std.proofs.lemmas.Bool.{leb-true, eqb-true}
 use Rattle.std.proofs.lemmas.Option.{same_Some, none-some}
+use Rattle.std.proofs.lemmas.Slice.Eq.{bytes_eq-Decides}
 use Rattle.b67_model.specs.declared.operators.Op.{Op}
 use Rattle.b67_model.specs.declared.operators.Op.TheVariants.{Plain}
 use Rattle.b67_model.specs.declared.operators.Code.TheVariants.{Nvld}
 use Rattle.b67_model.specs.Operators.{place_at}
-use Rattle.b67_model.specs.Loader.{listing, target_of}
+use Rattle.b67_model.specs.Loader.{Entry, listing, target_of}
 use Rattle.b67_text.specs.declared.assembly.Branch as branch
 use Rattle.b67_text.specs.declared.assembly.Branch.TheVariants as branches
 use Rattle.b67_text.specs.declared.assembly.Sketch as sketch
@@ -23,7 +24,7 @@ use Rattle.b67_text.specs.Deck.{of_card}
 use Rattle.b67_text.specs.Encoding.{code_of}
 use Rattle.b67_text.specs.Asm.{Scope, behind, is_in_range, is_place, is_first_label, has_names, has_label, branch_to, denoted, misplaced, fitted, next, operator_of, operators, meaning, labels, label_at, reach}
 use Rattle.b67_listing.specs.Operators.{HasBits, AllHaveBits, filled, entries_of}
-use Rattle.b67_listing.specs.Listing.{StandsAt, GoesTo, IsFilled, AreFilled, AreRead}
+use Rattle.b67_listing.specs.Listing.{HasLabel, IsLabelled, IsListed, StandsAt, GoesTo, IsFilled, AreFilled, AreRead}
 use Rattle.b67_listing.proofs.Laying.{after_is, listing_is}
 use Rattle.b67_listing.proofs.Denoting.{AreSmall, mapped, denoted_bits, behind_is}
 
@@ -178,8 +179,33 @@ are_read x n (l ∷ more) ops small e =
       are_read x (next n h.op) more h.rest small h.behind_it,
     )
 
+-- a label that means a place stands on a card that is read there
+labelled : (x : Scope) (n : ℕ) (lines : List Line) (ops : List Op) (q : List ℕ) (m : ℕ) → AreSmall x.names → operators x n lines ≡ Ok ops → meaning (labels n lines) q ≡ Some m → IsLabelled q (place_at m) lines (entries_of n (filled n ops))
+labelled x n [] ops q m small e is = absurd (none-some m is)
+labelled x n (l ∷ more) ops q m small e is =
+    let h = headed x n l more ops e in
+    let t = h.taken in
+    let after : behind t.own n ≡ next n h.op = behind_is x t.own h.op n t.denotes ∙ after_is h.op n (taken_bits x n l h.op small t) in
+    subst (λ (os : List Op). IsLabelled q (place_at m) (l ∷ more) (entries_of n (filled n os))) h.all
+    (by_label (labels (next n h.op) more) (entries_of (next n h.op) (filled (next n h.op) h.rest)) t.own t.label t.says (λ there. labelled x (next n h.op) more h.rest q m small h.behind_it there)
+    (subst (λ k. meaning (cons_option (option_map (λ text. (text, n)) t.label) (labels k more)) q ≡ Some m) after
+    (subst (λ (s : Answer statement.Statement). meaning (cons_option (label_at n s) (labels (reach n s) more)) q ≡ Some m) t.says is)))
+  where
+    by_test : (rest : List (List ℕ × ℕ)) (entries : List Entry) (own : sketch.Sketch) (text : List ℕ) → l.says ≡ Ok (statements.Operator (Some text) own) → (meaning rest q ≡ Some m → IsLabelled q (place_at m) more entries) → (b : Bool) → bytes_eq q text ≡ b → cond b (Some n) (meaning rest q) ≡ Some m → (HasLabel q l × (place_at n ≡ place_at m)) ⊎ IsLabelled q (place_at m) more entries
+    by_test rest entries own text says go true t e =
+        let same : text ≡ q = sym ((bytes_eq-Decides q text).0 t) in
+        inl ((own, says ∙ ap (λ z. Ok (statements.Operator (Some z) own)) same), ap place_at (same_Some n m e))
+    by_test rest entries own text says go false t e = inr (go e)
+
+    by_label : (rest : List (List ℕ × ℕ)) (entries : List Entry) (own : sketch.Sketch) (label : Option (List ℕ)) → l.says ≡ Ok (statements.Operator label own) → (meaning rest q ≡ Some m → IsLabelled q (place_at m) more entries) → meaning (cons_option (option_map (λ text. (text, n)) label) rest) q ≡ Some m → (HasLabel q l × (place_at n ≡ place_at m)) ⊎ IsLabelled q (place_at m) more entries
+    by_label rest entries own None says go e = inr (go e)
+    by_label rest entries own (Some text) says go e = by_test rest entries own text says go (bytes_eq q text) refl e
+
 -- a segment's cards
-pub segment_read : (x : Scope) (lines : List Line) (ops : List Op) → AreSmall x.names → x.labels ≡ (λ label. meaning (labels 0 lines) label) → operators x 0 lines ≡ Ok ops → AreRead x lines (listing (code_of ops))
+pub segment_read : (x : Scope) (lines : List Line) (ops : List Op) → AreSmall x.names → x.labels ≡ (λ label. meaning (labels 0 lines) label) → operators x 0 lines ≡ Ok ops → IsListed x lines (listing (code_of ops))
 segment_read x lines ops small same e =
-    subst (AreRead x lines) (sym (listing_is ops (operators_bits x 0 lines ops small e)))
-    (are_read x 0 lines ops (λ q m is. label_small x 0 lines ops q m small e (sym (ap (λ (f : List ℕ → Option ℕ). f q) same) ∙ is)) e)
+    let known : (q : List ℕ) (m : ℕ) → x.labels q ≡ Some m → meaning (labels 0 lines) q ≡ Some m = λ q m is. sym (ap (λ (f : List ℕ → Option ℕ). f q) same) ∙ is in
+    subst (IsListed x lines) (sym (listing_is ops (operators_bits x 0 lines ops small e))) (record {
+      read = are_read x 0 lines ops (λ q m is. label_small x 0 lines ops q m small e (known q m is)) e;
+      labelled = λ q m is. labelled x 0 lines ops q m small e (known q m is);
+    })

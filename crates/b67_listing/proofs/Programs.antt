@@ -25,7 +25,7 @@ use Rattle.b67_text.specs.Deck.{Refusal, of_card}
 use Rattle.b67_text.specs.Encoding.{code_of}
 use Rattle.b67_text.specs.Statements.{mnemonics, sketch_of, bits_in, all_bits, num, operator, kind_of, is_label, with_label, labelled, says, without_comment, line_with, lines_of}
 use Rattle.b67_text.specs.Asm.{Names, Scope, Part, CodePart, RowPart, meaning, definition, definitions, segments_behind, rows_behind, segment_count, labels, operators, misplaced, is_head, is_numbers, own, is_segment_number, is_row_number, segment_part, row_part, part_of, row_words, with_part, program_from, no_strays, assembled}
-use Rattle.b67_listing.specs.Listing.{scope_in, with_cards, cards_of_segments, SegmentsAreRead}
+use Rattle.b67_listing.specs.Listing.{scope_in, with_cards, cards_of_segments, SegmentsAreListed}
 use Rattle.b67_listing.proofs.Denoting.{IsSmall, AreSmall}
 use Rattle.b67_listing.proofs.Cards.{err-ok, same_Ok, after_both, segment_read}
 
@@ -181,37 +181,37 @@ names_small names segments s r (l ∷ more) p known e q =
 -- ---- all segments
 
 head_read : (all : List Line) (s r number : ℕ) (says : Answer statement.Statement) (lines : List Line) (part : Part) → AreSmall (λ name. meaning (definitions 0 0 all) name) → part_of (λ name. meaning (definitions 0 0 all) name) (segment_count 0 all) s r number says lines ≡ Ok part
-    → (cards : List (List Line)) (rest : Program) → SegmentsAreRead all cards rest.segments → SegmentsAreRead all (with_cards says lines cards) (with_part part rest).segments
+    → (cards : List (List Line)) (rest : Program) → SegmentsAreListed all cards rest.segments → SegmentsAreListed all (with_cards says lines cards) (with_part part rest).segments
 head_read all s r number (Ok (statements.Segment name level)) lines part small e cards rest h =
     let i = segment_is (λ name. meaning (definitions 0 0 all) name) (segment_count 0 all) s r number name level lines part e in
-    subst (λ (part : Part). SegmentsAreRead all (lines ∷ cards) (with_part part rest).segments) i.is (segment_read (scope_in all lines i.level) lines i.ops small refl i.taken, h)
+    subst (λ (part : Part). SegmentsAreListed all (lines ∷ cards) (with_part part rest).segments) i.is (segment_read (scope_in all lines i.level) lines i.ops small refl i.taken, h)
 head_read all s r number (Ok (statements.Row name)) lines part small e cards rest h =
     let i = row_is (λ name. meaning (definitions 0 0 all) name) s r number name lines part e in
-    subst (λ (part : Part). SegmentsAreRead all cards (with_part part rest).segments) i.1 h
+    subst (λ (part : Part). SegmentsAreListed all cards (with_part part rest).segments) i.1 h
 head_read all s r number (Ok (statements.Values first more)) lines part small e cards rest h = err-ok (record { card = number; reason = misplaced (λ name. meaning (definitions 0 0 all) name) (statements.Values first more) }) part _ e
 head_read all s r number (Ok (statements.Operator label own)) lines part small e cards rest h = err-ok (record { card = number; reason = misplaced (λ name. meaning (definitions 0 0 all) name) (statements.Operator label own) }) part _ e
 head_read all s r number (Err reason) lines part small e cards rest h = err-ok (record { card = number; reason = reason }) part _ e
 
-segments_read : (all : List Line) (s r : ℕ) (lines : List Line) (p : Program) → AreSmall (λ name. meaning (definitions 0 0 all) name) → program_from (λ name. meaning (definitions 0 0 all) name) (segment_count 0 all) s r lines ≡ Ok p → SegmentsAreRead all (cards_of_segments lines) p.segments
+segments_read : (all : List Line) (s r : ℕ) (lines : List Line) (p : Program) → AreSmall (λ name. meaning (definitions 0 0 all) name) → program_from (λ name. meaning (definitions 0 0 all) name) (segment_count 0 all) s r lines ≡ Ok p → SegmentsAreListed all (cards_of_segments lines) p.segments
 segments_read all s r [] p small e =
     let is : record { segments = []; rows = [] } ≡ p = same_Ok (record { segments = []; rows = [] }) p e in
-    subst (λ (p : Program). SegmentsAreRead all [] p.segments) is tt
+    subst (λ (p : Program). SegmentsAreListed all [] p.segments) is tt
 segments_read all s r (l ∷ more) p small e =
     by_head (λ p e. segments_read all (segments_behind s l.says) (rows_behind r l.says) more p small e) (λ e. segments_read all s r more p small e) (is_head l.kind) e
   where
-    by_head : ((p : Program) → program_from (λ name. meaning (definitions 0 0 all) name) (segment_count 0 all) (segments_behind s l.says) (rows_behind r l.says) more ≡ Ok p → SegmentsAreRead all (cards_of_segments more) p.segments)
-        → (program_from (λ name. meaning (definitions 0 0 all) name) (segment_count 0 all) s r more ≡ Ok p → SegmentsAreRead all (cards_of_segments more) p.segments)
+    by_head : ((p : Program) → program_from (λ name. meaning (definitions 0 0 all) name) (segment_count 0 all) (segments_behind s l.says) (rows_behind r l.says) more ≡ Ok p → SegmentsAreListed all (cards_of_segments more) p.segments)
+        → (program_from (λ name. meaning (definitions 0 0 all) name) (segment_count 0 all) s r more ≡ Ok p → SegmentsAreListed all (cards_of_segments more) p.segments)
         → (b : Bool)
         → cond b (part_of (λ name. meaning (definitions 0 0 all) name) (segment_count 0 all) s r l.number l.says (own more) >>= go_on (λ name. meaning (definitions 0 0 all) name) (segment_count 0 all) s r l more) (program_from (λ name. meaning (definitions 0 0 all) name) (segment_count 0 all) s r more) ≡ Ok p
-        → SegmentsAreRead all (cond b (with_cards l.says (own more) (cards_of_segments more)) (cards_of_segments more)) p.segments
+        → SegmentsAreListed all (cond b (with_cards l.says (own more) (cards_of_segments more)) (cards_of_segments more)) p.segments
     by_head part skip true e =
         let a = after_both (part_of (λ name. meaning (definitions 0 0 all) name) (segment_count 0 all) s r l.number l.says (own more)) (go_on (λ name. meaning (definitions 0 0 all) name) (segment_count 0 all) s r l more) p e in
         let b = after_both (program_from (λ name. meaning (definitions 0 0 all) name) (segment_count 0 all) (segments_behind s l.says) (rows_behind r l.says) more) (λ rest. Ok (with_part a.0 rest)) p a.2 in
-        subst (λ (p : Program). SegmentsAreRead all (with_cards l.says (own more) (cards_of_segments more)) p.segments) (same_Ok (with_part a.0 b.0) p b.2)
+        subst (λ (p : Program). SegmentsAreListed all (with_cards l.says (own more) (cards_of_segments more)) p.segments) (same_Ok (with_part a.0 b.0) p b.2)
         (head_read all s r l.number l.says (own more) a.0 small a.1 (cards_of_segments more) b.0 (part b.0 b.1))
     by_head part skip false e = skip e
 
-pub cards_read : (cards : List Card) (p : Program) → assembled cards ≡ Ok p → SegmentsAreRead (lines_of cards) (cards_of_segments (lines_of cards)) p.segments
+pub cards_read : (cards : List Card) (p : Program) → assembled cards ≡ Ok p → SegmentsAreListed (lines_of cards) (cards_of_segments (lines_of cards)) p.segments
 cards_read cards p e =
     let all : List Line = lines_of cards in
     let names : Names = λ name. meaning (definitions 0 0 all) name in

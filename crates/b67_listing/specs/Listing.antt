@@ -1,5 +1,5 @@
 -- What is read in the code of assembled cards.
-use Rattle.std.specs.Prelude.{◌≡◌, ℕ, ◌<◌, List, [], ◌∷◌, length, Option, Some, None, Ok, if◌then◌else◌}
+use Rattle.std.specs.Prelude.{◌≡◌, ℕ, ◌<◌, ◌⊎◌, List, [], ◌∷◌, length, Option, Some, None, Ok, if◌then◌else◌}
 use Rattle.std.specs.List.{AllByRecursion}
 use Rattle.std.specs.Option.{option_map}
 use Rattle.b67_word.specs.declared.couples.Place.{Place}
@@ -7,7 +7,7 @@ use Rattle.b67_model.specs.declared.operators.Op.{Op}
 use Rattle.b67_model.specs.declared.operators.Op.TheVariants.{Plain}
 use Rattle.b67_model.specs.declared.operators.Code.TheVariants.{Nvld}
 use Rattle.b67_model.specs.Operators.{place_at}
-use Rattle.b67_model.specs.Loader.{Entry, At, Break, listing, target_of}
+use Rattle.b67_model.specs.Loader.{Entry, At, Break, listing, place_of_entry, target_of}
 use Rattle.b67_model.specs.State.{Segment}
 use Rattle.b67_model.specs.Program.{Program}
 use Rattle.b67_text.specs.declared.card.Card.{Card}
@@ -64,6 +64,21 @@ AreRead x (l ∷ more) [] = ⊥
 AreRead x (l ∷ more) (Break place why ∷ rest) = ⊥
 AreRead x (l ∷ more) (At place op ∷ rest) = IsRead x l place op × AreRead x more rest
 
+-- a card has this label
+abbrev pub HasLabel : List ℕ → Line → Type 0
+HasLabel label l = (sketch : Sketch) × (l.says ≡ Ok (statements.Operator (Some label) sketch))
+
+-- a card has this label, and its operator is read at this place
+abbrev pub IsLabelled : List ℕ → Place → List Line → List Entry → Type 0
+IsLabelled label place [] entries = ⊥
+IsLabelled label place (l ∷ more) [] = ⊥
+IsLabelled label place (l ∷ more) (e ∷ rest) = (HasLabel label l × (place_of_entry e ≡ place)) ⊎ IsLabelled label place more rest
+
+-- a segment's listing is its cards, and each label that means a place stands on the card that is read there
+pub record IsListed (x : Scope) (cards : List Line) (entries : List Entry) : Type 0 where
+  pub read : AreRead x cards entries
+  pub labelled : (label : List ℕ) (n : ℕ) → x.labels label ≡ Some n → IsLabelled label (place_at n) cards entries
+
 abbrev pub with_cards : Answer Statement → List Line → List (List Line) → List (List Line)
 with_cards (Ok (statements.Segment name level)) cards rest = cards ∷ rest
 with_cards _ cards rest = rest
@@ -74,12 +89,12 @@ cards_of_segments [] = []
 cards_of_segments (l ∷ more) = if is_head l.kind then with_cards l.says (own more) (cards_of_segments more) else cards_of_segments more
 
 -- each segment's listing is its own cards
-abbrev pub SegmentsAreRead : List Line → List (List Line) → List Segment → Type 0
-SegmentsAreRead all [] [] = Unit {0}
-SegmentsAreRead all [] (s ∷ rest) = ⊥
-SegmentsAreRead all (cards ∷ more) [] = ⊥
-SegmentsAreRead all (cards ∷ more) (s ∷ rest) = AreRead (scope_in all cards s.level) cards (listing s.code) × SegmentsAreRead all more rest
+abbrev pub SegmentsAreListed : List Line → List (List Line) → List Segment → Type 0
+SegmentsAreListed all [] [] = Unit {0}
+SegmentsAreListed all [] (s ∷ rest) = ⊥
+SegmentsAreListed all (cards ∷ more) [] = ⊥
+SegmentsAreListed all (cards ∷ more) (s ∷ rest) = IsListed (scope_in all cards s.level) cards (listing s.code) × SegmentsAreListed all more rest
 
 -- what is assembled is read card by card
 abbrev pub CardsAreRead : Type 0
-CardsAreRead = (cards : List Card) (p : Program) → assembled cards ≡ Ok p → SegmentsAreRead (lines_of cards) (cards_of_segments (lines_of cards)) p.segments
+CardsAreRead = (cards : List Card) (p : Program) → assembled cards ≡ Ok p → SegmentsAreListed (lines_of cards) (cards_of_segments (lines_of cards)) p.segments
