@@ -89,9 +89,6 @@ fits (Isol high width) h = omega arith
 fits (Insr high width) h = omega arith
 fits (Plain code) h = omega arith
 
-six_length : (bits : ℕ) → length (six_syllables bits) ≡ 6
-six_length bits = refl
-
 literal_length : (bits n : ℕ) → length (literal_part (Some bits) n) ≡ (6 - n % 6) % 6 + 6
 literal_length bits n = length-append (filling n) (six_syllables bits) ∙ ap (λ k. k + 6) (filling_length n)
 
