@@ -1,0 +1,5 @@
+pub mod Packing
+pub mod Laying
+pub mod Denoting
+pub mod Cards
+pub mod Programs
