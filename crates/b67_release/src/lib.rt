@@ -1,0 +1,4 @@
+//! The arrays of an activation record that was left are given back: their areas and their chains of sectors.
+#![tactic(auto)]
+
+mod originals;
