@@ -1,3 +1,6 @@
 pub mod Dropped
 pub mod Freed
 pub mod Machine
+pub mod Remaining
+pub mod Copies
+pub mod Settled

@@ -9,7 +9,7 @@ use Rattle.b67_backing.specs.Shelf.{Shelf, given, chain_of}
 use Rattle.b67_ctl.specs.declared.descriptors.DataDesc.{DataDesc}
 use Rattle.b67_model.specs.Lists.{Has}
 use Rattle.b67_stack.specs.Shapes.{Held, IsOriginal}
-use Rattle.b67_stack.specs.Picture.{Thing, Picture, SlotFits, is_present, address_or}
+use Rattle.b67_stack.specs.Picture.{Thing, Picture, SlotFits, slot_base, is_present, address_or}
 use Rattle.b67_stack.specs.Stands.{Storage}
 use Rattle.b67_storage.specs.Machine.{with_held}
 
@@ -62,3 +62,36 @@ pub record Vacated (low : ℕ) (area : Option ℕ) (spans : List Span) (core new
   pub gone : (b : ℕ) (i : Info) → area_at low (without_area low area spans) b ≡ Some i → (area_at low spans b ≡ Some i) × (area ≢ Some b)
   pub stays : (b : ℕ) (i : Info) → area_at low spans b ≡ Some i → area ≢ Some b → area_at low (without_area low area spans) b ≡ Some i
   pub size : length new ≡ length core
+
+-- the homes of things
+abbrev pub HasHome : List Thing → ℕ → Type 0
+HasHome left home = (t : Thing) × Has left t × (t.home ≡ home)
+
+-- the arrays of some homes, and no others, are nowhere: their chains are free, and all other chains are as they were
+pub record Released (Gone : ℕ → Type 0) (x y : Storage) : Type 0 where
+  pub low : y.low ≡ x.low
+  pub device : y.device ≡ x.device
+  pub others : (home : ℕ) → (Gone home → ⊥) → y.held home ≡ x.held home
+  pub nowhere : (home : ℕ) → Gone home → y.held home ≡ nowhere
+  pub free : (home : ℕ) → Gone home → chain_of (x.held home).chain y.shelf.chains ≡ []
+  pub chains : (first : ℕ) → ((home : ℕ) → Gone home → (x.held home).chain ≢ first) → chain_of first y.shelf.chains ≡ chain_of first x.shelf.chains
+  pub no_more : (first : ℕ) → chain_of first x.shelf.chains ≡ [] → chain_of first y.shelf.chains ≡ []
+
+-- arrays are left in a part of a stack's slot: its originals are theirs, no thing of the picture has an original of them,
+-- and no word of a stack is a copy of them
+pub record AreLeft (p : Picture) (core : List Tagged) (from upto : ℕ) (left : List Thing) : Type 0 where
+  pub low : p.stacks ≤ from
+  pub high : upto ≤ slot_base p p.peak
+  pub each : (i : ℕ) (w : Tagged) → from ≤ i → i < upto → slice_get core i ≡ Some w → IsOriginal w → HasHome left i
+  pub among : (t : Thing) → Has left t → (from ≤ t.home) × (t.home < upto)
+  pub arrays : (t : Thing) → Has left t → t.kind ≢ Code
+  pub alone : (t u : Thing) → Has left t → Has p.things u → u.home ≢ t.home
+  pub fits : (k : ℕ) → k < p.peak → SlotFits p k (p.slots k)
+
+-- what is still left when some are gone
+pub record Remains (Gone : ℕ → Type 0) (x y : Storage) (p : Picture) (old new : List Tagged) (next upto : ℕ) (left rest : List Thing) : Type 0 where
+  pub released : Released Gone x y
+  pub among : (t : Thing) → Has rest t → Has left t
+  pub others : (t : Thing) → Has left t → next ≤ t.home → Has rest t
+  pub still : AreLeft p new next upto rest
+  pub below : SameBelow x.low old new

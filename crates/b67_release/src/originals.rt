@@ -20,6 +20,7 @@ use b67_stack::Cpu;
 /// Frees the area of an original's array where it is in one, and answers the first sector of its chain, 0 for none.
 fn vacate(core: &mut Core, areas: &mut Areas, original: DataDesc) -> u32
     requires { (spans : List Span) × (h : Held) × IsDirectory core.old areas.old.low spans × Finds areas.old.low spans h original }
+    ensures len { length core.new ≡ length core.old }
     ensures areas { areas.new ≡ areas.old }
     ensures chain { (spans : List Span) (h : Held) → IsDirectory core.old areas.old.low spans → Finds areas.old.low spans h original → result ≡ h.chain }
     ensures vacated { (spans : List Span) (h : Held) → IsDirectory core.old areas.old.low spans → Finds areas.old.low spans h original
@@ -53,6 +54,7 @@ pub fn release_original(
     requires { (x : Storage) × (told : Option (List (List ℕ))) × (p : Picture) × (t : Thing) × MachineStands x cpu.old areas.old sectors.old told p
         × Has p.things t × Finds x.low x.spans (x.held t.home) original }
     ensures rest { cpu.new ≡ record cpu.old { core = cpu.new.core } }
+    ensures len { length cpu.new.core ≡ length cpu.old.core }
     ensures areas { areas.new ≡ areas.old }
     ensures stands { (x : Storage) (told : Option (List (List ℕ))) (p : Picture) (t : Thing) (things : List Thing) → MachineStands x cpu.old areas.old sectors.old told p
         → Finds x.low x.spans (x.held t.home) original → Drops p t things
