@@ -1,23 +1,21 @@
 -- In a session that is in order each copy on a stack is one of an array of the session.
-use Rattle.std.proofs.Common.{◌≡◌, ◌≢◌, ℕ, List, [], ◌∷◌, ◌++◌, map, Option, Some, None, refl, sym, ◌∙◌, ap, inl, inr, ◌⊎◌, ⊎_elim, Bool, true, false, subst, if◌then◌else◌}
+use Rattle.std.proofs.Common.{◌≡◌, ◌≢◌, ℕ, List, [], ◌∷◌, Option, Some, None, refl, sym, ◌∙◌, ap, inl, inr, ⊎_elim, Bool, true, false, subst, if◌then◌else◌}
 use Rattle.std.specs.Prelude.{flat_map, ◌==◌}
 use Rattle.std.specs.List.{AllByRecursion}
-use Rattle.b67_area.specs.declared.Kind.{Kind}
 use Rattle.b67_area.specs.declared.Kind.TheVariants as kind
 use Rattle.b67_model.specs.Lists.{Has}
 use Rattle.b67_model.specs.Keyed.{keyed}
 use Rattle.b67_model.specs.Words as Words
 use Rattle.b67_model.specs.Words.{Word, Operand, Name, Ref, Row, Element, Original, Proc, Intrinsic}
-use Rattle.b67_model.specs.State as State
 use Rattle.b67_model.specs.State.{Frame, Array, Task, Job, Member}
 use Rattle.b67_model.specs.Run.{number_of}
 use Rattle.b67_model.specs.Schedule.{Session}
-use Rattle.b67_model.specs.InOrder.{Starts, IsSegment, Known, NamesArray, WordInOrder, FramesInOrder, TaskInOrder, JobInOrder, IsInOrderButPlaces}
+use Rattle.b67_model.specs.InOrder.{Starts, IsSegment, Known, WordInOrder, FramesInOrder, TaskInOrder, JobInOrder, IsInOrderButPlaces, outer_of}
 use Rattle.b67_order.proofs.Members.{has_append_right, has_append_cases, has_map, has_map_back, has_flat, keyed_has, all_in}
 use Rattle.b67_stack.specs.Shapes as Shapes
 use Rattle.b67_stack.specs.Shapes.{Shape, Is, Copy, Copied}
 use Rattle.b67_stack.specs.Stacks.{Spot, Head, Marked, Entered, Activation, headed, words}
-use Rattle.b67_stack.specs.Picture.{Thing, Picture, Slot, Free, Running, Waiting, stack_of, SlotFits, CopiesName, IsArrayAt}
+use Rattle.b67_stack.specs.Picture.{Thing, Slot, Free, Running, Waiting, stack_of, SlotFits, CopiesName}
 use Rattle.b67_layout.specs.Plan.{Slotted, Plan, spot_in, outer_spots}
 use Rattle.b67_layout.specs.Layout.{shape, activations, stack_of_task, slot_with, slot_in, slot_by, slot_at, array_thing, code_things, things_of, picture}
 use Rattle.b67_layout.specs.Session.{with_things}
@@ -97,7 +95,13 @@ array_kind : (b : Bool) → (if b then kind.Array else kind.Row) ≢ kind.Code
 array_kind true e = cc
 array_kind false e = cc
 
-module _ (plan : Plan) (s : Session) (o : IsInOrderButPlaces s) where
+-- in a session in order each task's frames are
+pub frames_in_order : (s : Session) → IsInOrderButPlaces s → (m : Member) (t : Task) → Has s.jobs m → Has m.course.job.tasks t → FramesInOrder (IsSegment m.setting) m.course.job.arrays (outer_of m.course.job t) t.frames
+frames_in_order s o m t inm int =
+    let order = all_in (λ (n : Member). JobInOrder (IsSegment n.setting) n.setting n.course) s.jobs m o.jobs inm in
+    (all_in (TaskInOrder (IsSegment m.setting) m.setting m.course.job) m.course.job.tasks t order.tasks.tasks int).frames
+
+module _ (plan : Plan) (s : Session) (o : (m : Member) (t : Task) → Has s.jobs m → Has m.course.job.tasks t → FramesInOrder (IsSegment m.setting) m.course.job.arrays (outer_of m.course.job t) t.frames) where
   abbrev things : List Thing
   things = flat_map (things_of plan) s.jobs
 
@@ -108,9 +112,7 @@ module _ (plan : Plan) (s : Session) (o : IsInOrderButPlaces s) where
       let outer = outer_spots plan j job t.critical t.parents in
       let cell = words_copy k (stack_of_task plan j job k t) c home h in
       let w = cell_word plan j job k outer t.frames (Copy c home) cell.activation cell.among cell.cell in
-      let order = all_in (λ (n : Member). JobInOrder (IsSegment n.setting) n.setting n.course) s.jobs m o.jobs inm in
-      let tasks = all_in (TaskInOrder (IsSegment m.setting) m.setting job) job.tasks t order.tasks.tasks int in
-      let f = frame_words (IsSegment m.setting) job.arrays _ t.frames w.frame tasks.frames w.among in
+      let f = frame_words (IsSegment m.setting) job.arrays (outer_of job t) t.frames w.frame (o m t inm int) w.among in
       let a = copy_named plan j job w.spot (IsSegment m.setting) f.reach w.frame.identity w.word c home w.is (all_in (WordInOrder (IsSegment m.setting) job.arrays f.reach w.frame.identity) w.frame.cells w.word f.words w.cell) in
       let there : Has (things_of plan m) (array_thing plan j a.0) = has_append_right (code_things plan j 1 m.setting.segments) _ _ (has_map (array_thing plan j) job.arrays a.0 a.1) in
       (array_thing plan j a.0, has_flat (things_of plan) s.jobs m _ inm there, a.2, array_kind a.0.writable)

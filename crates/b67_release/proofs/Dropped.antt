@@ -1,15 +1,15 @@
 -- The machine stands for the things but one, whose area and chain are free.
-use Rattle.std.proofs.Common.{◌≡◌, ◌≢◌, ℕ, suc, ◌+◌, ◌<◌, ◌≤◌, ◌==◌, List, [], length, Option, Some, None, refl, sym, ◌∙◌, ap, arith, inl, inr, ◌⊎◌, ⊎_elim, Bool, true, false, subst}
+use Rattle.std.proofs.Common.{◌≡◌, ◌≢◌, ℕ, suc, ◌<◌, ◌≤◌, ◌==◌, List, [], length, Option, Some, None, refl, sym, ◌∙◌, ap, arith, inl, inr, ◌⊎◌, ⊎_elim, Bool, true, false, subst}
 use Rattle.std.specs.Prelude.{MatchBool}
 use Rattle.std.specs.List.{slice_get}
-use Rattle.std.proofs.lemmas.Bool.{cases_eq, cond-true, cond-false, eq-eqb, ne_eqb}
+use Rattle.std.proofs.lemmas.Bool.{cases_eq, cond-true, eq-eqb, ne_eqb}
 use Rattle.std.proofs.lemmas.Option.{same_Some, none-some}
 use Rattle.b67_word.specs.Tagged.{Tagged}
 use Rattle.b67_area.specs.declared.Info.{Info}
 use Rattle.b67_area.specs.declared.Kind.{Kind}
 use Rattle.b67_area.specs.declared.Kind.TheVariants.{Array, Row, Code}
-use Rattle.b67_area.specs.Spans.{Span, area_at}
-use Rattle.b67_backing.specs.Shelf.{Shelf, Table, IsShelf, chain_of, given}
+use Rattle.b67_area.specs.Spans.{area_at}
+use Rattle.b67_backing.specs.Shelf.{Shelf, Table, IsShelf, chain_of}
 use Rattle.b67_backing.proofs.News.{chain_of-others, chain_of-given}
 use Rattle.b67_ctl.specs.declared.registers.Regs.{Regs}
 use Rattle.b67_model.specs.Lists.{Has}
@@ -22,7 +22,7 @@ use Rattle.b67_storage.specs.Machine.{with_held, ChainStays}
 use Rattle.b67_storage.proofs.Helds.{held-other, held-same}
 use Rattle.b67_storage.proofs.Reheld.{Content-stays}
 use Rattle.b67_storage.proofs.Unchanged.{area_of_thing, home_below, slot_below, base_low}
-use Rattle.b67_release.specs.Released.{nowhere, without_area, without_chain, released, of_things, Drops, Vacated}
+use Rattle.b67_release.specs.Released.{nowhere, without_chain, released, of_things, Drops, Vacated}
 
 -- a thing's chain, if it has one
 keeps_chain : (x : Storage) (t : Thing) (k : Kind) (f : ℕ) → Keeps x t k f → (f ≡ 0) ⊎ HasChain x t f
@@ -124,11 +124,11 @@ module _ (x : Storage) (core : List Tagged) (r : Regs) (p : Picture) (s : Stands
   stacks : StacksLie y.held new q
   stacks k hk = Lie-each (Fits x.held) (Fits y.held) core new (suc (slot_base p k)) (words k (stack_of (p.slots k)))
       (λ a i w there low high get fit. (
-      w,
-      words_low i (omega (arith, (slot_below x core r p s k hk).0)) ((slot_below x core r p s k hk).1 i (omega arith) high) ∙ get,
-      fits_other x.held t.home nowhere a i w (λ c home e z.
-      let n = names k (p.slots k) (d.fits k hk) c home (subst (λ (b : Shape). Has (words k (stack_of (p.slots k))) b) e there) in
-      (d.fewer n.0 n.1).1 (n.2 ∙ z)) fit,
+        w,
+        words_low i (omega (arith, (slot_below x core r p s k hk).0)) ((slot_below x core r p s k hk).1 i (omega arith) high) ∙ get,
+        fits_other x.held t.home nowhere a i w (λ c home e z.
+            let n = names k (p.slots k) (d.fits k hk) c home (subst (λ (b : Shape). Has (words k (stack_of (p.slots k))) b) e there) in
+            (d.fewer n.0 n.1).1 (n.2 ∙ z)) fit,
       ))
       (s.stacks k hk)
 

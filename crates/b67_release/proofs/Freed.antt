@@ -1,10 +1,8 @@
 -- An original's array, by its fields, and its area that is freed.
-use Rattle.std.proofs.Common.{◌≡◌, ◌≢◌, ℕ, ◌+◌, ◌<◌, ◌≤◌, ◌==◌, List, length, Option, Some, None, refl, sym, ◌∙◌, ap, arith, ⊎_elim, Bool, true, false, not, inl, inr, ◌⊎◌}
-use Rattle.std.specs.List.{slice_get}
+use Rattle.std.proofs.Common.{◌≡◌, ◌≢◌, ℕ, ◌==◌, List, length, Option, Some, None, refl, sym, ◌∙◌, ap, arith, ⊎_elim, Bool, true, false, not, inl, inr, ◌⊎◌}
 use Rattle.std.proofs.lemmas.Bool.{cases_eq, cond-true, cond-false, eq-eqb, ne_eqb, cases_Bool, true≢false}
 use Rattle.std.proofs.lemmas.Option.{same_Some, none-some}
 use Rattle.b67_word.specs.Tagged.{Tagged}
-use Rattle.b67_area.specs.declared.Info.{Info}
 use Rattle.b67_area.specs.Spans.{Span, area_at, without, but}
 use Rattle.b67_area.specs.Directory.{IsDirectory, OnlyHoles}
 use Rattle.b67_area.proofs.Laws.{OnlyHoles-area, OnlyHoles-below}

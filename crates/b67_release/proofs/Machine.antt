@@ -1,5 +1,5 @@
 -- The machine after an original's array was released.
-use Rattle.std.proofs.Common.{◌≡◌, ℕ, List, Option, refl, sym, ◌∙◌, ap, subst}
+use Rattle.std.proofs.Common.{ℕ, List, Option, sym, subst}
 use Rattle.b67_word.specs.Tagged.{Tagged}
 use Rattle.b67_area.specs.declared.Areas.{Areas}
 use Rattle.b67_area.specs.Directory.{IsDirectory}

@@ -1,5 +1,5 @@
 -- The arrays that are left, one word after another.
-use Rattle.std.proofs.Common.{◌≡◌, ◌≢◌, ℕ, ◌+◌, ◌<◌, ◌≤◌, ◌^◌, ◌==◌, List, [], ◌∷◌, ◌++◌, length, Option, Some, None, refl, sym, ◌∙◌, ap, arith, inl, inr, ◌⊎◌, ⊎_elim, Bool, true, false, not, subst, if◌then◌else◌}
+use Rattle.std.proofs.Common.{◌≡◌, ◌≢◌, ℕ, ◌+◌, ◌<◌, ◌^◌, ◌==◌, List, [], ◌∷◌, ◌++◌, length, Option, Some, None, refl, sym, ◌∙◌, ap, arith, inl, inr, ◌⊎◌, ⊎_elim, Bool, true, false, not, subst, if◌then◌else◌}
 use Rattle.std.specs.List.{slice_get}
 use Rattle.std.proofs.lemmas.Bool.{cases_eq, eq-eqb, ne_eqb, false≢true}
 use Rattle.std.proofs.lemmas.Option.{same_Some, none-some}
@@ -7,7 +7,7 @@ use Rattle.b67_word.specs.Tagged.{Tagged}
 use Rattle.b67_area.specs.declared.Areas.{Areas}
 use Rattle.b67_area.specs.declared.Kind.{Kind}
 use Rattle.b67_area.specs.declared.Kind.TheVariants.{Array, Row, Code}
-use Rattle.b67_backing.specs.Shelf.{Shelf, Table, IsShelf, chain_of}
+use Rattle.b67_backing.specs.Shelf.{Table, IsShelf, chain_of}
 use Rattle.b67_ctl.specs.declared.descriptors.DataDesc.{DataDesc}
 use Rattle.b67_ctl.specs.declared.registers.Regs.{Regs}
 use Rattle.b67_ctl.specs.Descriptors.{data_word, IsDataDesc}
@@ -15,7 +15,7 @@ use Rattle.b67_model.specs.Lists.{Has}
 use Rattle.b67_order.proofs.Members.{has_append_left, has_append_right, has_append_cases}
 use Rattle.b67_stack.specs.declared.Cpu.{Cpu}
 use Rattle.b67_stack.specs.Shapes.{Held, IsOriginal}
-use Rattle.b67_stack.specs.Picture.{Thing, Picture, Slot, Free, Running, Waiting, SlotFits, slot_base, is_present, address_or, home_desc, home_word, home_word_of}
+use Rattle.b67_stack.specs.Picture.{Thing, Picture, Slot, Free, Running, Waiting, SlotFits, is_present, address_or, home_desc, home_word_of}
 use Rattle.b67_stack.specs.Stands.{Storage, Stands, info_of}
 use Rattle.b67_stack.proofs.Homes.{same_desc, chain_small}
 use Rattle.b67_storage.specs.Machine.{MachineStands}
@@ -23,7 +23,7 @@ use Rattle.b67_storage.proofs.Helds.{held-other, held-same}
 use Rattle.b67_storage.proofs.Unchanged.{area_of_thing, area_bounds}
 use Rattle.b67_storage.proofs.Words.{original_of_home}
 use Rattle.b67_layout.specs.Session.{with_things}
-use Rattle.b67_release.specs.Released.{nowhere, without_chain, released, of_things, Drops, Finds, SameBelow, HasHome, Released, AreLeft, Remains}
+use Rattle.b67_release.specs.Released.{nowhere, released, of_things, Drops, Finds, SameBelow, HasHome, Released, AreLeft, Remains}
 use Rattle.b67_release.proofs.Dropped.{chains_other, chains_gone, has_chain}
 
 -- the word of an array's original, as a descriptor

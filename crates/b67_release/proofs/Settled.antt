@@ -1,23 +1,23 @@
 -- A session whose machine has arrays left: they lie above the top, and without them the machine stands for the session.
-use Rattle.std.proofs.Common.{◌≡◌, ◌≢◌, ℕ, ◌+◌, ◌<◌, ◌≤◌, List, [], ◌∷◌, length, Option, Some, None, refl, sym, ◌∙◌, ap, arith, inl, inr, ◌⊎◌, subst}
+use Rattle.std.proofs.Common.{◌≡◌, ◌≢◌, ℕ, ◌+◌, ◌<◌, List, [], ◌∷◌, length, Option, Some, None, refl, sym, ◌∙◌, ap, arith, subst}
 use Rattle.b67_area.specs.declared.Areas.{Areas}
-use Rattle.b67_backing.specs.Shelf.{Table, IsShelf}
+use Rattle.b67_backing.specs.Shelf.{Table}
 use Rattle.b67_ctl.specs.declared.registers.Regs.{Regs}
 use Rattle.b67_model.specs.Lists.{Has}
 use Rattle.b67_model.specs.State.{Task, Member}
 use Rattle.b67_model.specs.Run.{number_of}
 use Rattle.b67_model.specs.Schedule.{Session}
 use Rattle.b67_stack.specs.declared.Cpu.{Cpu}
-use Rattle.b67_stack.specs.Stacks.{Activation, high}
-use Rattle.b67_stack.specs.Picture.{Thing, Picture, Slot, Running, stack_of, slot_base, RunsOn}
-use Rattle.b67_stack.specs.Stands.{Storage, Stands, RunningStands}
+use Rattle.b67_stack.specs.Stacks.{high}
+use Rattle.b67_stack.specs.Picture.{Thing, Picture, Slot, stack_of, slot_base}
+use Rattle.b67_stack.specs.Stands.{Storage, Stands}
 use Rattle.b67_stack.proofs.Bases.{base-apart}
 use Rattle.b67_stack.proofs.Slots.{running_slot}
 use Rattle.b67_storage.specs.Machine.{MachineStands, Says}
 use Rattle.b67_storage.proofs.Below.{not_heads}
 use Rattle.b67_layout.specs.Plan.{Plan}
-use Rattle.b67_layout.specs.Layout.{picture, stack_of_task, slot_at}
-use Rattle.b67_layout.specs.Session.{IsRunning, with_things, SessionStands, StorageStands}
+use Rattle.b67_layout.specs.Layout.{picture, stack_of_task}
+use Rattle.b67_layout.specs.Session.{with_things, StorageStands}
 use Rattle.b67_layout.proofs.Others.{keyed-has}
 use Rattle.b67_layout.proofs.Rows.{runs_on}
 use Rattle.b67_step.proofs.Alike.{AllAlike}
@@ -63,7 +63,7 @@ module _ (left : List Thing) (x : Storage) (cpu : Cpu) (plan : Plan) (s : Sessio
     among = l.among;
     arrays = l.arrays;
     alone = alone;
-    fits = λ k hk. slots_fit plan s l.ordered left k (l.stands.holds.memory.slots.laid.slots k hk);
+    fits = λ k hk. slots_fit plan s l.frames left k (l.stands.holds.memory.slots.laid.slots k hk);
   }
 
   module _ (areas : Areas) (table : Table) (told : Option (List (List ℕ))) (b : StorageStands areas table told cpu.core x) where

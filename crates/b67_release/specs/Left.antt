@@ -4,8 +4,9 @@ use Rattle.b67_word.specs.Tagged.{Tagged}
 use Rattle.b67_area.specs.declared.Areas.{Areas}
 use Rattle.b67_area.specs.declared.Kind.TheVariants.{Code}
 use Rattle.b67_backing.specs.Shelf.{Table}
-use Rattle.b67_model.specs.InOrder.{IsInOrderButPlaces}
+use Rattle.b67_model.specs.InOrder.{IsSegment, FramesInOrder, outer_of}
 use Rattle.b67_model.specs.Lists.{Has}
+use Rattle.b67_model.specs.State.{Task, Member}
 use Rattle.b67_model.specs.Schedule.{Session}
 use Rattle.b67_stack.specs.declared.Cpu.{Cpu}
 use Rattle.b67_stack.specs.Shapes.{IsOriginal}
@@ -16,9 +17,9 @@ use Rattle.b67_layout.specs.Session.{SessionStands, SessionStandsBut, StorageSta
 use Rattle.b67_release.specs.Released.{HasHome, Released, SameBelow}
 
 -- the machine stands for a session but for arrays whose originals lie in a part of the running slot above the stack's top,
--- and each original there is that of one of them
+-- and each original there is that of one of them. The tasks' frames are in order
 pub record IsLeft (left : List Thing) (x : Storage) (cpu : Cpu) (plan : Plan) (s : Session) (from upto : ℕ) : Type 0 where
-  pub ordered : IsInOrderButPlaces s
+  pub frames : (m : Member) (t : Task) → Has s.jobs m → Has m.course.job.tasks t → FramesInOrder (IsSegment m.setting) m.course.job.arrays (outer_of m.course.job t) t.frames
   pub stands : SessionStandsBut left x cpu plan s
   pub runs : plan.running ≢ 255
   pub low : cpu.regs.s < from

@@ -37,13 +37,7 @@ fn release_word(cpu: &mut Cpu, areas: &mut Areas, sectors: &mut Sectors, at: u32
 }
 
 /// Gives back the arrays whose originals lie from an address up to another, not included.
-pub fn release_words(
-    cpu: &mut Cpu,
-    areas: &mut Areas,
-    sectors: &mut Sectors,
-    from: u32,
-    upto: u32,
-)
+pub fn release_words(cpu: &mut Cpu, areas: &mut Areas, sectors: &mut Sectors, from: u32, upto: u32)
     requires left { (x : Storage) × (told : Option (List (List ℕ))) × (p : Picture) × (left : List Thing)
         × MachineStands x cpu.old areas.old sectors.old told (with_things left p) × AreLeft p cpu.old.core from upto left }
     requires order { from ≤ upto }

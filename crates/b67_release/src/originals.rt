@@ -45,12 +45,7 @@ fn give_chain(sectors: &mut Sectors, first: u32)
 }
 
 /// Gives back the area and the chain of an original's array. The original itself stays where it is.
-pub fn release_original(
-    cpu: &mut Cpu,
-    areas: &mut Areas,
-    sectors: &mut Sectors,
-    original: DataDesc,
-)
+pub fn release_original(cpu: &mut Cpu, areas: &mut Areas, sectors: &mut Sectors, original: DataDesc)
     requires { (x : Storage) × (told : Option (List (List ℕ))) × (p : Picture) × (t : Thing) × MachineStands x cpu.old areas.old sectors.old told p
         × Has p.things t × Finds x.low x.spans (x.held t.home) original }
     ensures rest { cpu.new ≡ record cpu.old { core = cpu.new.core } }

@@ -1,4 +1,3 @@
-use Rattle.std.proofs.Common.{◌≡◌, ℕ, List}
 use Rattle.b67_layout.specs.Session.{with_things}
 use Rattle.b67_release.specs.Released.{released}
 use Rattle.b67_release.proofs.Remaining.{one_left, copy_none, other_none, rest, drops, remains_one, remains_none, in_all}

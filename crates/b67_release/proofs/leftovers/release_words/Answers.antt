@@ -1,8 +1,7 @@
-use Rattle.std.proofs.Common.{◌≡◌, ℕ, ◌<◌, List, arith, sym, ◌∙◌, ap, subst}
+use Rattle.std.proofs.Common.{◌≡◌, ℕ, ◌<◌, arith, ◌∙◌, ap, subst}
 use Rattle.b67_stack.specs.declared.Cpu.{Cpu}
-use Rattle.b67_layout.specs.Session.{with_things}
 use Rattle.b67_release.specs.Released.{HasHome, Remains}
-use Rattle.b67_release.proofs.Remaining.{Remains-then, remains_all, remains_start}
+use Rattle.b67_release.proofs.Remaining.{Remains-then, remains_all}
 use Rattle.b67_release.proofs.leftovers.release_words.Goals as goal
 
 pub release_word-requires-clause-left : goal.release_word-requires-clause-left

@@ -1,4 +1,4 @@
-use Rattle.std.proofs.Common.{◌≡◌, ◌⊎◌, ℕ, ◌≤◌, List, length, sym, subst}
+use Rattle.std.proofs.Common.{◌≡◌, ◌⊎◌, ℕ, ◌≤◌, length, sym, subst}
 use Rattle.b67_area.specs.declared.Areas.{Areas}
 use Rattle.b67_backing.specs.Shelf.{IsShelf, chain_of}
 use Rattle.b67_storage.specs.Machine.{MachineStands}

@@ -1,4 +1,4 @@
-use Rattle.std.proofs.Common.{◌≡◌, ℕ, List, Option, Some, sym, ◌∙◌, ap, subst}
+use Rattle.std.proofs.Common.{ℕ, Option, sym, subst}
 use Rattle.b67_release.specs.Released.{Vacated}
 use Rattle.b67_release.proofs.Freed.{present_area, vacated_some}
 use Rattle.b67_release.proofs.originals.vacate.Goals as goal
