@@ -2,6 +2,7 @@
 use Rattle.std.proofs.Common.{◌≡◌, ◌≢◌, ℕ, List, [], ◌∷◌, Option, Some, None, refl, sym, ◌∙◌, ap, inl, inr, ⊎_elim, Bool, true, false, subst, if◌then◌else◌}
 use Rattle.std.specs.Prelude.{flat_map, ◌==◌}
 use Rattle.std.specs.List.{AllByRecursion}
+use Rattle.b67_word.specs.Tagged.{Tagged}
 use Rattle.b67_area.specs.declared.Kind.TheVariants as kind
 use Rattle.b67_model.specs.Lists.{Has}
 use Rattle.b67_model.specs.Keyed.{keyed}
@@ -20,39 +21,43 @@ use Rattle.b67_layout.specs.Plan.{Slotted, Plan, spot_in, outer_spots}
 use Rattle.b67_layout.specs.Layout.{shape, activations, stack_of_task, slot_with, slot_in, slot_by, slot_at, array_thing, code_things, things_of, picture}
 use Rattle.b67_layout.specs.Session.{with_things}
 
-headed_copy : (k : ℕ) (h : Head) (below : List Activation) (under : List Shape) (c : Copied) (home : ℕ) → Has (headed k h below under) (Copy c home) → Has under (Copy c home)
-headed_copy k Marked below under c home (inl e) = absurd cc
-headed_copy k Marked below under c home (inr i) = i
-headed_copy k (Entered level environment back) below under c home (inl e) = absurd cc
-headed_copy k (Entered level environment back) below under c home (inr (inl e)) = absurd cc
-headed_copy k (Entered level environment back) below under c home (inr (inr i)) = i
+-- a descriptor's shape
+abbrev pub IsDescriptor : Shape → Type 0
+IsDescriptor a = (w : Tagged) → Is w ≢ a
 
--- a copy on a stack is a cell
-record IsCell (stack : List Activation) (a : Shape) : Type 0 where
-  activation : Activation
-  among : Has stack activation
-  cell : Has activation.cells a
+headed_descriptor : (k : ℕ) (h : Head) (below : List Activation) (under : List Shape) (a : Shape) → IsDescriptor a → Has (headed k h below under) a → Has under a
+headed_descriptor k Marked below under a n (inl e) = absurd (n _ e)
+headed_descriptor k Marked below under a n (inr i) = i
+headed_descriptor k (Entered level environment back) below under a n (inl e) = absurd (n _ e)
+headed_descriptor k (Entered level environment back) below under a n (inr (inl e)) = absurd (n _ e)
+headed_descriptor k (Entered level environment back) below under a n (inr (inr i)) = i
 
-words_copy : (k : ℕ) (stack : List Activation) (c : Copied) (home : ℕ) → Has (words k stack) (Copy c home) → IsCell stack (Copy c home)
-words_copy k [] c home h = absurd h
-words_copy k (a ∷ below) c home h = ⊎_elim
-    (λ (i : Has a.cells (Copy c home)). let r : IsCell (a ∷ below) (Copy c home) = record { activation = a; among = inl refl; cell = i } in r)
-    (λ (i : Has (headed k a.head below (words k below)) (Copy c home)).
-    let q = words_copy k below c home (headed_copy k a.head below (words k below) c home i) in
-    let r : IsCell (a ∷ below) (Copy c home) = record { activation = q.activation; among = inr q.among; cell = q.cell } in r)
-    (has_append_cases a.cells (headed k a.head below (words k below)) (Copy c home) h)
+-- a descriptor on a stack is a cell
+pub record IsCell (stack : List Activation) (a : Shape) : Type 0 where
+  pub activation : Activation
+  pub among : Has stack activation
+  pub cell : Has activation.cells a
+
+pub words_descriptor : (k : ℕ) (stack : List Activation) (a : Shape) → IsDescriptor a → Has (words k stack) a → IsCell stack a
+words_descriptor k [] a n h = absurd h
+words_descriptor k (e ∷ below) a n h = ⊎_elim
+    (λ (i : Has e.cells a). let r : IsCell (e ∷ below) a = record { activation = e; among = inl refl; cell = i } in r)
+    (λ (i : Has (headed k e.head below (words k below)) a).
+    let q = words_descriptor k below a n (headed_descriptor k e.head below (words k below) a n i) in
+    let r : IsCell (e ∷ below) a = record { activation = q.activation; among = inr q.among; cell = q.cell } in r)
+    (has_append_cases e.cells (headed k e.head below (words k below)) a h)
 
 -- the word of a frame that it stands for
-record IsWord (plan : Plan) (j : ℕ) (job : Job) (frames : List Frame) (a : Shape) : Type 0 where
-  frame : Frame
-  among : Has frames frame
-  spot : ℕ → Spot
-  word : Word
-  cell : Has frame.cells word
-  is : shape plan j job spot word ≡ a
+pub record IsWord (plan : Plan) (j : ℕ) (job : Job) (frames : List Frame) (a : Shape) : Type 0 where
+  pub frame : Frame
+  pub among : Has frames frame
+  pub spot : ℕ → Spot
+  pub word : Word
+  pub cell : Has frame.cells word
+  pub is : shape plan j job spot word ≡ a
 
 module _ (plan : Plan) (j : ℕ) (job : Job) (k : ℕ) (outer : ℕ → Spot) where
-  cell_word : (frames : List Frame) (a : Shape) (e : Activation) → Has (activations plan j job k outer frames) e → Has e.cells a → IsWord plan j job frames a
+  pub cell_word : (frames : List Frame) (a : Shape) (e : Activation) → Has (activations plan j job k outer frames) e → Has e.cells a → IsWord plan j job frames a
   cell_word [] a e h i = absurd h
   cell_word (f ∷ below) a e (inl q) i =
       let r = has_map_back (shape plan j job (spot_in k outer (f ∷ below))) f.cells a (subst (λ (b : Activation). Has b.cells a) (sym q) i) in
@@ -62,9 +67,9 @@ module _ (plan : Plan) (j : ℕ) (job : Job) (k : ℕ) (outer : ℕ → Spot) wh
       record { frame = r.frame; among = inr r.among; spot = r.spot; word = r.word; cell = r.cell; is = r.is }
 
 -- the array of a copy
-abbrev home_of : Shape → ℕ
+abbrev pub home_of : Shape → ℕ
 home_of (Is w) = 0
-home_of (Shapes.Original home) = 0
+home_of (Shapes.Original home) = home
 home_of (Copy c home) = home
 
 module _ (plan : Plan) (j : ℕ) (job : Job) (spot : ℕ → Spot) (P : Starts) (reach : List Known) (owner : ℕ) where
@@ -80,18 +85,18 @@ module _ (plan : Plan) (j : ℕ) (job : Job) (spot : ℕ → Spot) (P : Starts) 
   copy_named (Words.Segment n) c home e o = absurd cc
 
 -- a frame's words are in order, by some reach
-record FrameWords (P : Starts) (arrays : List Array) (f : Frame) : Type 0 where
-  reach : List Known
-  words : AllByRecursion (WordInOrder P arrays reach f.identity) f.cells
+pub record FrameWords (P : Starts) (arrays : List Array) (f : Frame) : Type 0 where
+  pub reach : List Known
+  pub words : AllByRecursion (WordInOrder P arrays reach f.identity) f.cells
 
-frame_words : (P : Starts) (arrays : List Array) (outer : List Known) (frames : List Frame) (f : Frame) → FramesInOrder P arrays outer frames → Has frames f → FrameWords P arrays f
+pub frame_words : (P : Starts) (arrays : List Array) (outer : List Known) (frames : List Frame) (f : Frame) → FramesInOrder P arrays outer frames → Has frames f → FrameWords P arrays f
 frame_words P arrays outer [] f o h = absurd h
 frame_words P arrays outer (g ∷ below) f o (inl e) =
     let r : FrameWords P arrays g = record { reach = _; words = o.0.0 } in
     subst (λ (b : Frame). FrameWords P arrays b) e r
 frame_words P arrays outer (g ∷ below) f o (inr h) = frame_words P arrays outer below f o.2 h
 
-array_kind : (b : Bool) → (if b then kind.Array else kind.Row) ≢ kind.Code
+pub array_kind : (b : Bool) → (if b then kind.Array else kind.Row) ≢ kind.Code
 array_kind true e = cc
 array_kind false e = cc
 
@@ -110,7 +115,7 @@ module _ (plan : Plan) (s : Session) (o : (m : Member) (t : Task) → Has s.jobs
       let job = m.course.job in
       let j = m.setting.number in
       let outer = outer_spots plan j job t.critical t.parents in
-      let cell = words_copy k (stack_of_task plan j job k t) c home h in
+      let cell = words_descriptor k (stack_of_task plan j job k t) (Copy c home) (λ w z. cc) h in
       let w = cell_word plan j job k outer t.frames (Copy c home) cell.activation cell.among cell.cell in
       let f = frame_words (IsSegment m.setting) job.arrays (outer_of job t) t.frames w.frame (o m t inm int) w.among in
       let a = copy_named plan j job w.spot (IsSegment m.setting) f.reach w.frame.identity w.word c home w.is (all_in (WordInOrder (IsSegment m.setting) job.arrays f.reach w.frame.identity) w.frame.cells w.word f.words w.cell) in

@@ -4,3 +4,4 @@ pub mod Machine
 pub mod Remaining
 pub mod Copies
 pub mod Settled
+pub mod Leavings
