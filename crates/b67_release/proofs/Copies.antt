@@ -1,5 +1,5 @@
 -- In a session that is in order each copy on a stack is one of an array of the session.
-use Rattle.std.proofs.Common.{◌≡◌, ◌≢◌, ℕ, List, [], ◌∷◌, Option, Some, None, refl, sym, ◌∙◌, ap, inl, inr, ⊎_elim, Bool, true, false, subst, if◌then◌else◌}
+use Rattle.std.proofs.Common.{◌≡◌, ◌≢◌, ℕ, List, [], ◌∷◌, map, Option, Some, None, refl, sym, ◌∙◌, ap, inl, inr, ⊎_elim, Bool, true, false, subst, if◌then◌else◌}
 use Rattle.std.specs.Prelude.{flat_map, ◌==◌}
 use Rattle.std.specs.List.{AllByRecursion}
 use Rattle.b67_word.specs.Tagged.{Tagged}
@@ -119,8 +119,8 @@ module _ (plan : Plan) (s : Session) (o : (m : Member) (t : Task) → Has s.jobs
       let w = cell_word plan j job k outer t.frames (Copy c home) cell.activation cell.among cell.cell in
       let f = frame_words (IsSegment m.setting) job.arrays (outer_of job t) t.frames w.frame (o m t inm int) w.among in
       let a = copy_named plan j job w.spot (IsSegment m.setting) f.reach w.frame.identity w.word c home w.is (all_in (WordInOrder (IsSegment m.setting) job.arrays f.reach w.frame.identity) w.frame.cells w.word f.words w.cell) in
-      let there : Has (things_of plan m) (array_thing plan j a.0) = has_append_right (code_things plan j 1 m.setting.segments) _ _ (has_map (array_thing plan j) job.arrays a.0 a.1) in
-      (array_thing plan j a.0, has_flat (things_of plan) s.jobs m _ inm there, a.2, array_kind a.0.writable)
+      let there : Has (things_of plan m) (array_thing plan j a.0) = has_append_right (code_things plan j 1 m.setting.segments) (map (array_thing plan j) job.arrays) (array_thing plan j a.0) (has_map (array_thing plan j) job.arrays a.0 a.1) in
+      (array_thing plan j a.0, has_flat (things_of plan) s.jobs m (array_thing plan j a.0) inm there, a.2, array_kind a.0.writable)
 
   -- each slot's words
   pub slot_names : (k : ℕ) → CopiesName things (words k (stack_of (slot_at plan s.jobs k)))

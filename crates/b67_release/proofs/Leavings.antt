@@ -1,6 +1,6 @@
 -- After a frame was left its arrays are what is left: their originals lie above the stack's new top, and no others.
 use Rattle.std.proofs.Common.{◌≡◌, ◌≢◌, ℕ, suc, ◌+◌, ◌<◌, ◌≤◌, List, [], ◌∷◌, map, length, Some, refl, sym, ◌∙◌, ap, arith, inl, inr, ◌⊎◌, ⊎_elim, Bool, true, false, not, subst}
-use Rattle.std.specs.Prelude.{◌==◌, filter}
+use Rattle.std.specs.Prelude.{◌==◌}
 use Rattle.std.specs.List.{slice_get, list_any}
 use Rattle.std.proofs.lemmas.Bool.{cases_Bool, cases_eq, eq-eqb, ne_eqb, true≢false, eqb-true}
 use Rattle.std.proofs.lemmas.Option.{same_Some}
@@ -148,16 +148,17 @@ module _ (x : Storage) (old : Cpu) (plan : Plan) (s : Session) (m : Member) (t :
       let v = cell_word plan j m.course.job plan.running outer t.frames (Shapes.Original i) c.activation c.among c.cell in
       let g = frame_words (IsSegment m.setting) m.course.job.arrays (outer_of m.course.job t) t.frames v.frame (frames_in_order s o m t in_m in_t) v.among in
       let n = original_named plan j m.course.job v.spot (IsSegment m.setting) g.reach v.frame.identity v.word i v.is (all_in (WordInOrder (IsSegment m.setting) m.course.job.arrays g.reach v.frame.identity) v.frame.cells v.word g.words v.cell) in
-      let order = all_in (λ (y : Member). JobInOrder (IsSegment y.setting) y.setting y.course) s.jobs m o.jobs in_m in
-      let fits = (running_fits x old.core old.regs p plan.running stack h.holds.memory on).0.fits in
-      ⊎_elim
-      (λ (e : (m ≡ m) × (n.0.owner ≡ f.identity)).
-      let r : HasHome (things_gone plan m job) i = (array_thing plan j n.0, has_map (array_thing plan j) (gone m.course.job job) n.0 (owned_gone f.identity m.course.job.next_array m.course.job job order.tasks.names is n.0 n.1 e.1), n.2) in r)
-      (λ (q : (plan.home j n.0.identity ≤ new_top) ⊎ (slot_base p plan.running + plan.size ≤ plan.home j n.0.identity)). absurd (⊎_elim
-      (λ (b : plan.home j n.0.identity ≤ new_top). let z : ⊥ = omega (arith, b, n.2, low) in z)
-      (λ (b : slot_base p plan.running + plan.size ≤ plan.home j n.0.identity). let z : ⊥ = omega (arith, b, n.2, up, old_top, fits) in z)
-      q))
-      (homes_low x old.core old.regs old.critical plan s m t f below o h.holds runs frames m in_m n.0 n.1)
+      by n.0 n.1 (homes_low x old.core old.regs old.critical plan s m t f below o h.holds runs frames m in_m n.0 n.1) n.2 where
+        fits : high stack < plan.size
+        fits = (running_fits x old.core old.regs p plan.running stack h.holds.memory on).0.fits
+
+        names_in : Falls m.course.job.next_array (map (λ (a : Array). a.identity) m.course.job.arrays)
+        names_in = (all_in (λ (y : Member). JobInOrder (IsSegment y.setting) y.setting y.course) s.jobs m o.jobs in_m).tasks.names
+
+        by : (a : Array) → Has m.course.job.arrays a → ((m ≡ m) × (a.owner ≡ f.identity)) ⊎ ((plan.home j a.identity ≤ new_top) ⊎ (slot_base p plan.running + plan.size ≤ plan.home j a.identity)) → plan.home j a.identity ≡ i → HasHome (things_gone plan m job) i
+        by a ina (inl e) home = (array_thing plan j a, has_map (array_thing plan j) (gone m.course.job job) a (owned_gone f.identity m.course.job.next_array m.course.job job names_in is a ina e.1), home)
+        by a ina (inr (inl b)) home = absurd (omega (arith, b, home, low))
+        by a ina (inr (inr b)) home = absurd (omega (arith, b, home, up, old_top, fits))
 
   -- what is left, for any machine with the old words above the new top. A value may stand where the frame's mark stood
   pub left_after : (new : Cpu) → SessionStandsBut (things_gone plan m job) x new plan (with_job s m job)

@@ -5,4 +5,4 @@ mod leftovers;
 mod originals;
 mod sessions;
 
-pub use sessions::release;
+pub use sessions::{release, release_arrays};
