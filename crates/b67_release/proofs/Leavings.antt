@@ -1,5 +1,5 @@
 -- After a frame was left its arrays are what is left: their originals lie above the stack's new top, and no others.
-use Rattle.std.proofs.Common.{◌≡◌, ◌≢◌, ℕ, suc, ◌+◌, ◌<◌, ◌≤◌, List, [], ◌∷◌, map, length, Some, refl, sym, ◌∙◌, ap, arith, inl, inr, ◌⊎◌, ⊎_elim, Bool, true, false, not, subst}
+use Rattle.std.proofs.Common.{◌≡◌, ◌≢◌, ℕ, suc, ◌+◌, ◌<◌, ◌≤◌, List, [], ◌∷◌, map, Option, length, Some, refl, sym, ◌∙◌, ap, arith, inl, inr, ◌⊎◌, ⊎_elim, Bool, true, false, not, subst}
 use Rattle.std.specs.Prelude.{◌==◌}
 use Rattle.std.specs.List.{slice_get, list_any}
 use Rattle.std.proofs.lemmas.Bool.{cases_Bool, cases_eq, eq-eqb, ne_eqb, true≢false, eqb-true}
@@ -9,22 +9,24 @@ use Rattle.b67_area.specs.declared.Kind.TheVariants.{Code}
 use Rattle.b67_model.specs.Lists.{Has, Falls}
 use Rattle.b67_model.specs.Words as Words
 use Rattle.b67_model.specs.Words.{Word, Operand, Name, Ref, Row, Element, Original, Proc, Intrinsic}
-use Rattle.b67_model.specs.State.{Frame, Array, Task, Job, Member}
+use Rattle.b67_model.specs.State.{Standing, Entered, Return, Frame, Array, Task, Job, Member}
 use Rattle.b67_model.specs.Run.{number_of}
 use Rattle.b67_model.specs.Schedule.{Session}
 use Rattle.b67_model.specs.InOrder.{Starts, IsSegment, Known, WordInOrder, FramesInOrder, JobInOrder, IsInOrderButPlaces, outer_of}
-use Rattle.b67_order.proofs.Members.{has_map, has_map_back, has_filter, has_filter_in, any_some, any_has, falls_same, all_in}
+use Rattle.b67_order.proofs.Members.{has_append_right, has_flat, has_map, has_map_back, has_filter, has_filter_in, any_some, any_has, falls_same, all_in}
 use Rattle.b67_stack.specs.declared.Cpu.{Cpu}
 use Rattle.b67_stack.specs.Shapes as Shapes
 use Rattle.b67_stack.specs.Shapes.{Map, Shape, Is, Copy, IsOriginal, Fits, Lie, copy_desc}
-use Rattle.b67_stack.specs.Stacks.{Spot, Activation, high, words}
+use Rattle.b67_stack.specs.Stacks as Stacks
+use Rattle.b67_stack.specs.Stacks.{Spot, Activation, headed, high, words}
 use Rattle.b67_stack.specs.Picture.{Thing, Picture, RunsOn, slot_base}
 use Rattle.b67_stack.specs.Stands.{Storage}
 use Rattle.b67_stack.proofs.Heights.{words-length}
 use Rattle.b67_stack.proofs.Homes.{same_desc}
+use Rattle.b67_stack.proofs.Lies.{Lie-under}
 use Rattle.b67_stack.proofs.Slots.{running_fits, running_lies, running_slot}
-use Rattle.b67_layout.specs.Plan.{Plan, outer_spots}
-use Rattle.b67_layout.specs.Layout.{shape, activations, stack_of_task, array_thing, picture}
+use Rattle.b67_layout.specs.Plan.{Plan, spot_in, outer_spots}
+use Rattle.b67_layout.specs.Layout.{shape, head, activations, stack_of_task, array_thing, code_things, things_of, picture}
 use Rattle.b67_layout.specs.Meets.{gone, things_gone, with_job}
 use Rattle.b67_layout.specs.Session.{IsRunning, SessionStands, SessionStandsBut}
 use Rattle.b67_layout.proofs.Others.{keyed-has}
@@ -33,6 +35,7 @@ use Rattle.b67_leaving.proofs.Settles.{under, base, all, homes_low, homes_high}
 use Rattle.b67_leaving.proofs.Things.{others}
 use Rattle.b67_release.specs.Released.{HasHome}
 use Rattle.b67_release.specs.Left.{IsLeft}
+use Rattle.b67_release.proofs.Remaining.{is_original}
 use Rattle.b67_release.proofs.Copies.{words_descriptor, cell_word, frame_words, frames_in_order, array_kind, home_of}
 
 -- the word at a place of a stack
@@ -52,6 +55,16 @@ here_lies R core from (a ∷ more) i l low up = ⊎_elim
     let q = here_lies R core from more i l.1 low (omega (arith, n)) in
     let r : HereLies R core (a ∷ more) i = record { shape = q.shape; among = inr q.among; word = q.word; there = q.there; fits = q.fits } in r)
     (cases_eq (from + length more) i)
+
+-- the return control word of an entered record is no descriptor
+return_plain : (held : Map) (core : List Tagged) (from k level : ℕ) (environment : Spot) (back : Option Return) (below : List Activation) (under : List Shape) (i : ℕ)
+    → Lie (Fits held) core from (headed k (Stacks.Entered level environment back) below under) → i ≡ from + (1 + length under) → (w : Tagged) × (slice_get core i ≡ Some w) × (w.tag ≢ 5)
+return_plain held core from k level environment back below under i l e =
+    let at : i ≡ from + suc (length under) = omega (arith, e) in
+    (l.0.0, ap (slice_get core) at ∙ l.0.1, λ five. l.0.2.1 (ap (λ (v : Tagged). v.tag) (sym l.0.2.0) ∙ five))
+
+original_tag : (w : Tagged) → IsOriginal w → w.tag ≡ 5
+original_tag w o = ap (λ (v : Tagged). v.tag) o.is
 
 original_shape : (held : Map) (a : Shape) (i : ℕ) (w : Tagged) → Fits held a i w → IsOriginal w → a ≡ Shapes.Original i
 original_shape held (Is v) i w f o = absurd (f.1 (ap (λ (u : Tagged). u.tag) (sym f.0 ∙ o.is)))
@@ -160,18 +173,42 @@ module _ (x : Storage) (old : Cpu) (plan : Plan) (s : Session) (m : Member) (t :
         by a ina (inr (inl b)) home = absurd (omega (arith, b, home, low))
         by a ina (inr (inr b)) home = absurd (omega (arith, b, home, up, old_top, fits))
 
-  -- what is left, for any machine with the old words above the new top. A value may stand where the frame's mark stood
-  pub left_after : (new : Cpu) → SessionStandsBut (things_gone plan m job) x new plan (with_job s m job)
+  -- the old picture has the things that are gone
+  gone_there : (u : Thing) → Has (things_gone plan m job) u → Has p.things u
+  gone_there u inu =
+      let (a, ina, e) = item_of u inu in
+      let r = gone_owned f.identity m.course.job job is a ina in
+      has_flat (things_of plan) s.jobs m u in_m (has_append_right (code_things plan j 1 m.setting.segments) (map (array_thing plan j) m.course.job.arrays) u
+      (subst (Has (map (array_thing plan j) m.course.job.arrays)) e (has_map (array_thing plan j) m.course.job.arrays a r.0)))
+
+  -- the return control word of the frame is no original
+  not_return : (level environment : ℕ) (back : Option Return) → f.standing ≡ Entered level environment back → (u : Thing) → Has (things_gone plan m job) u → u.home ≢ new_top + 2
+  not_return level environment back e u inu z =
+      let outer = outer_spots plan j m.course.job t.critical t.parents in
+      let below_words = activations plan j m.course.job plan.running outer below in
+      let cells = map (shape plan j m.course.job (spot_in plan.running outer (f ∷ below))) f.cells in
+      let from = suc (slot_base p plan.running) in
+      let L : List Frame → Type 0 = λ fs. Lie (Fits x.held) old.core from (words plan.running (activations plan j m.course.job plan.running outer fs)) in
+      let lies = subst L frames (running_lies x old.core old.regs p plan.running stack h.holds.memory on) in
+      let H : Standing → Type 0 = λ st. Lie (Fits x.held) old.core from (headed plan.running (head (spot_in plan.running outer below) st) below_words (words plan.running below_words)) in
+      let entered = subst H e (Lie-under (Fits x.held) old.core from cells (headed plan.running (head (spot_in plan.running outer below) f.standing) below_words (words plan.running below_words)) lies) in
+      let w = return_plain x.held old.core from plan.running level (spot_in plan.running outer below environment) back below_words (words plan.running below_words) u.home entered (omega (arith, z, words-length plan.running below_words)) in
+      let original = is_original x old.core old.regs p h.holds.memory u (gone_there u inu) (gone_kind u inu) w.0 w.1 in
+      w.2 (original_tag w.0 original)
+
+  -- what is left, for any machine with the old words above the new top. A value may stand where the frame's mark stood, or
+  -- another frame's mark and return control word in the place of those
+  pub left_after : (level environment : ℕ) (back : Option Return) → f.standing ≡ Entered level environment back → (new : Cpu) → SessionStandsBut (things_gone plan m job) x new plan (with_job s m job)
       → ((y : Member) (u : Task) → Has (with_job s m job).jobs y → Has y.course.job.tasks u → FramesInOrder (IsSegment y.setting) y.course.job.arrays (outer_of y.course.job u) u.frames)
-      → (from : ℕ) → new.regs.s < from → new_top < from → from ≤ new_top + 2 → new.regs.losr ≡ old.regs.losr → ((i : ℕ) → from ≤ i → i ≤ old.regs.s → slice_get new.core i ≡ slice_get old.core i)
+      → (from : ℕ) → new.regs.s < from → new_top < from → from ≤ new_top + 3 → new.regs.losr ≡ old.regs.losr → ((i : ℕ) → from ≤ i → i ≤ old.regs.s → slice_get new.core i ≡ slice_get old.core i)
       → IsLeft (things_gone plan m job) x new plan (with_job s m job) from (old.regs.s + 1)
-  left_after new stands in_order from above low up losr same = record {
+  left_after level environment back entered new stands in_order from above low up losr same = record {
     frames = in_order;
     stands = stands;
     runs = λ e. omega (arith, e, runs.slot, slot_below plan s.jobs m t h.holds.fits.rows in_m in_t, h.holds.fits.few);
     low = above;
     high = omega (arith, losr, old_top, (running_slot x old.core old.regs p plan.running stack h.holds.memory on).last, (running_fits x old.core old.regs p plan.running stack h.holds.memory on).0.fits);
     arrays = gone_kind;
-    among = λ u inu. let b = gone_home u inu in (omega (arith, b.0, up), omega (arith, b.1));
+    among = λ u inu. let b = gone_home u inu in (omega (arith, b.0, up, not_return level environment back entered u inu), omega (arith, b.1));
     each = λ i w down high get original. gone_each i w (omega (arith, low)) (omega arith) (sym (same i down (omega arith)) ∙ get) original;
   }
