@@ -1,0 +1,8 @@
+//! The arrays of an activation record that was left are given back: their areas and their chains of sectors.
+#![tactic(auto)]
+
+mod leftovers;
+mod originals;
+mod sessions;
+
+pub use sessions::{release, release_arrays};
