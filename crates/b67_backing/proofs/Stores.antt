@@ -1,4 +1,4 @@
-use Rattle.std.proofs.Common.{◌≡◌, ℕ, zero, suc, ◌+◌, ◌-◌, ◌*◌, ◌<◌, ◌≤◌, List, [], ◌∷◌, length, Option, Some, refl, sym, ◌∙◌, ap, arith, inl, inr, ⊎_elim, ◌⊎◌, subst, map, option_map, min}
+use Rattle.std.proofs.Common.{◌≡◌, ℕ, zero, suc, ◌+◌, ◌-◌, ◌*◌, ◌^◌, ◌<◌, ◌≤◌, List, [], ◌∷◌, length, Option, Some, refl, sym, ◌∙◌, ap, arith, inl, inr, ⊎_elim, ◌⊎◌, subst, map, option_map, min}
 use Rattle.std.specs.List.{slice_get}
 use Rattle.std.proofs.lemmas.Bool.{cases_lt}
 use Rattle.b67_backing.proofs.Tallies.{AllBelow}
@@ -219,6 +219,13 @@ restoring_all holds links k n j from tag words at core old now low s = record { 
 
 pub becomes_next : {D A : Type 0} (tell : D → Option A) (old now new : D) → Becomes tell old now (λ all. all) → Becomes tell now new (λ all. all) → Becomes tell old new (λ all. all)
 becomes_next tell old now new a b = record { told = λ x e. b.told x (a.told x e) }
+
+pub low_word : (tag : ℕ) (core : List Tagged) (at i : ℕ) (xs : List ℕ) → slice_get core at ≡ option_map (under tag) (slice_get xs i) → i < length xs → (w : Tagged) × (slice_get core at ≡ Some w) × (w.bits < 2 ^ 48)
+low_word tag core at i xs e h = let (n, is) = there xs i h in (under tag n, e ∙ ap (option_map (under tag)) is, omega arith) where
+  there : (xs : List ℕ) (i : ℕ) → i < length xs → (n : ℕ) × (slice_get xs i ≡ Some n)
+  there [] i h = absurd (omega arith)
+  there (x ∷ xs) zero h = (x, refl)
+  there (x ∷ xs) (suc i) h = there xs i (omega arith)
 
 pub tagged : (tag : ℕ) (core : List Tagged) (at i : ℕ) (xs : List ℕ) → slice_get core at ≡ option_map (under tag) (slice_get xs i) → i < length xs → (w : Tagged) × (slice_get core at ≡ Some w) × (w.tag ≡ tag)
 tagged tag core at i xs e h = let (n, is) = there xs i h in (under tag n, e ∙ ap (option_map (under tag)) is, refl) where

@@ -42,6 +42,7 @@ pub fn unpack(core: &mut Core, at: u32, n: u32, tag: u8, from: &[u64; 30])
     requires tag { tag < 8 }
     ensures value { (i : ℕ) → i < n → slice_get core.new (at + i) ≡ option_map (under tag) (slice_get from.now i) }
     ensures tags { (i : ℕ) → i < n → (w : Tagged) × (slice_get core.new (at + i) ≡ Some w) × (w.tag ≡ tag) }
+    ensures low { (i : ℕ) → i < n → (w : Tagged) × (slice_get core.new (at + i) ≡ Some w) × (w.bits < 2 ^ 48) }
     ensures outside { (i : ℕ) → (i < at) ⊎ (at + n ≤ i) → slice_get core.new i ≡ slice_get core.old i }
     ensures len { length core.new ≡ length core.old }
 {

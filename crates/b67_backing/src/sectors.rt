@@ -216,6 +216,7 @@ impl Sectors {
             → Holds all (chain_of first st.chains) 0 numbers
             → (i : ℕ) → i < words → slice_get core.new (at + i) ≡ option_map (under tag) (slice_get numbers i))) }
         ensures tags { OnOk result ((i : ℕ) → i < words → (w : Tagged) × (slice_get core.new (at + i) ≡ Some w) × (w.tag ≡ tag)) }
+        ensures low { OnOk result ((i : ℕ) → i < words → (w : Tagged) × (slice_get core.new (at + i) ≡ Some w) × (w.bits < 2 ^ 48)) }
         ensures outside { (i : ℕ) → (i < at) ⊎ (at + words ≤ i) → slice_get core.new i ≡ slice_get core.old i }
         ensures len { length core.new ≡ length core.old }
         ensures same { Becomes B.holds backing.old backing.new (λ all. all) }

@@ -70,7 +70,7 @@ fn plain(cpu: &mut Cpu, code: Code, next: Place) -> Step
 }
 
 /// An operator, behind which the task goes on at `next`.
-fn perform(cpu: &mut Cpu, op: Op, next: Place) -> Step
+pub fn perform(cpu: &mut Cpu, op: Op, next: Place) -> Step
     requires runs { RunsSome cpu.old }
     requires parameters { ParametersFit op }
     requires next { IsPlace next }

@@ -52,7 +52,7 @@ pub data Path (h : Here) : Word → Word → ℕ → Type 0 where
   here : {w : Word} → Path h w w 0
   further : {w v u : Word} {links : ℕ} → link h w ≡ Leads v → Path h v u links → Path h w u (suc links)
 
--- the end of a reference: of a chain of at most 1,024 links, or F10 where one more would be followed
+-- the end of a reference: of a chain of at most 1,024 links, or LOOP where one more would be followed
 pub data ComesTo (h : Here) (w : Word) : Answer End → Type 0 where
   ends : (end : Answer End) (links : ℕ) → links ≤ 1024 → Chain h w end links → ComesTo h w end
   loops : (v : Word) → Path h w v 1024 → ComesTo h w (Err Loop)

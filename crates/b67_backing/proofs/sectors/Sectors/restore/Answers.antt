@@ -10,6 +10,7 @@ pub loop-j-init : goal.loop-j-init
 loop-j-init g c = record {
   restoring = λ st h. restoring_first g.B.Backing.holds c.args.self.now c.args.first st (sectors_for c.args.words) c.args.tag c.args.words c.args.at c.args.core.now c.args.backing.now h (omega (arith, c.requires.some));
   tags = λ i z _. absurd (omega arith);
+  low = λ i z _. absurd (omega arith);
   outside = λ i o. refl;
   len = refl;
   same = record { told = λ x e. e };
@@ -43,6 +44,13 @@ loop-j-preserved g c =
           (λ l.
           let there : c.args.at + 30 * c.loop-j.j + (i - 30 * c.loop-j.j) ≡ c.args.at + i = omega arith in
           let (w, is, t) = c.unpack.ensures.tags (i - 30 * c.loop-j.j) (omega (arith, c.min-n.ensures)) in
+          (w, ap (slice_get c.unpack.new.core) (sym there) ∙ is, t))
+          (cases_lt i (30 * c.loop-j.j));
+      low = λ i at inside. ⊎_elim
+          (λ l. let (w, is, t) = c.loop-j.invariant.low i l inside in (w, c.unpack.ensures.outside (c.args.at + i) (inl (omega arith)) ∙ is, t))
+          (λ l.
+          let there : c.args.at + 30 * c.loop-j.j + (i - 30 * c.loop-j.j) ≡ c.args.at + i = omega arith in
+          let (w, is, t) = c.unpack.ensures.low (i - 30 * c.loop-j.j) (omega (arith, c.min-n.ensures)) in
           (w, ap (slice_get c.unpack.new.core) (sym there) ∙ is, t))
           (cases_lt i (30 * c.loop-j.j));
       outside = λ i o. c.unpack.ensures.outside i (⊎_elim (λ l. inl (omega arith)) (λ l. inr (omega (arith, c.loop-j-test.true, c.min-n.ensures))) o) ∙ c.loop-j.invariant.outside i o;

@@ -1,4 +1,4 @@
-use Rattle.std.proofs.Common.{◌≡◌, ℕ, ◌<◌, ◌≤◌, ◌+◌, ◌*◌, ◌⊎◌, length, Some}
+use Rattle.std.proofs.Common.{◌≡◌, ℕ, ◌<◌, ◌≤◌, ◌+◌, ◌*◌, ◌^◌, ◌⊎◌, length, Some}
 use Rattle.std.specs.List.{slice_get}
 use Rattle.b67_word.specs.Tagged.{Tagged}
 use Rattle.b67_io.specs.Causes.{Rose}
@@ -12,6 +12,7 @@ invariant-loop-j g l = record {
   restoring : (st : Shelf) → HasChain l.self st l.first (sectors_for l.words)
       → Restoring g.B.Backing.holds l.self.links (chain_of l.first st.chains) (sectors_for l.words) l.j l.from l.tag l.words l.at l.core l.initial.backing l.backing;
   tags : (i : ℕ) → i < 30 * l.j → i < l.words → (w : Tagged) × (slice_get l.core (l.at + i) ≡ Some w) × (w.tag ≡ l.tag);
+  low : (i : ℕ) → i < 30 * l.j → i < l.words → (w : Tagged) × (slice_get l.core (l.at + i) ≡ Some w) × (w.bits < 2 ^ 48);
   outside : (i : ℕ) → (i < l.at) ⊎ (l.at + l.words ≤ i) → slice_get l.core i ≡ slice_get l.initial.core i;
   len : length l.core ≡ length l.initial.core;
   same : Becomes g.B.Backing.holds l.initial.backing l.backing (λ all. all);

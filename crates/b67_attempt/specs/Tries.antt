@@ -1,0 +1,49 @@
+-- What one try at the next operator of the running task answers and leaves.
+use Rattle.std.specs.Prelude.{◌≡◌, ◌≢◌, ℕ, ◌≤◌, List, length, Option, Some, None, Result, Ok, Err}
+use Rattle.b67_io.specs.Told.{Took}
+use Rattle.b67_word.specs.declared.faults.Ending.{Ending}
+use Rattle.b67_word.specs.declared.faults.Ending.TheVariants.{Ended, Parent, Deadlock, Limit, Faulted}
+use Rattle.b67_model.specs.Lists.{Has}
+use Rattle.b67_model.specs.State.{Array, Task, Job, Member}
+use Rattle.b67_model.specs.Steps.{Line, Goes, Leaves}
+use Rattle.b67_model.specs.Rows.{step}
+use Rattle.b67_model.specs.Need.{touched_of}
+use Rattle.b67_model.specs.Schedule.{Session}
+use Rattle.b67_model.specs.InOrder.{IsInOrderButPlaces}
+use Rattle.b67_stack.specs.declared.What.{What}
+use Rattle.b67_stack.specs.declared.What.TheVariants as what
+use Rattle.b67_stack.specs.Stands.{Storage}
+use Rattle.b67_layout.specs.Plan.{Plan}
+use Rattle.b67_layout.specs.Session.{IsRunning}
+use Rattle.b67_layout.specs.Meets.{with_job}
+use Rattle.b67_exec.specs.Operators.{called_in}
+use Rattle.b67_bring.specs.Bringing.{IsWanted}
+use Rattle.b67_task.specs.declared.tables.Machine.{Machine}
+use Rattle.b67_task.specs.Tables.{MachineStands}
+use Rattle.b67_intrinsics.specs.Called.{IsCalled, IsCut}
+use Rattle.b67_intrinsics.specs.declared.ends.Stop.{Stop}
+use Rattle.b67_intrinsics.specs.declared.ends.Stop.TheVariants as stops
+use Rattle.b67_attempt.specs.declared.tries.Tried.{Tried}
+use Rattle.b67_attempt.specs.declared.tries.Tried.TheVariants as tries
+
+-- the running segment is wanted, or the array that the step touches
+abbrev pub IsTouched : Member → Task → What → ℕ → Type 0
+IsTouched m t (what.Code displacement) words = Unit {0}
+IsTouched m t (what.Array home) words =
+    (a : Array) × Has m.course.job.arrays a × (touched_of m.setting m.course.job t (step m.setting m.course.job t) ≡ Some a.identity) × (words ≡ length a.numbers)
+
+-- the step ends its task so by itself
+abbrev pub EndsSo : Member → Task → Ending → Type 0
+EndsSo m t Ended = step m.setting m.course.job t ≡ Ok Leaves
+EndsSo m t (Faulted fault) = step m.setting m.course.job t ≡ Err fault
+EndsSo m t _ = ⊥
+
+-- by what was answered. Where the step wasn't made nothing has changed
+abbrev pub TryMeets : {K : Type 0} → (K → Option (List ℕ)) → Storage → Option (List (List ℕ)) → Plan → Session → Member → Task → Result Tried Stop → Machine → Machine → K → K → Type 0
+TryMeets taken x told plan s m t (Ok tries.Made) old new paper paper' = IsCalled taken paper paper' told s m t new
+TryMeets taken x told plan s m t (Ok (tries.Absent found)) old new paper paper' =
+    (words : ℕ) × IsWanted x plan m t found words × IsTouched m t found words × (new ≡ old) × (paper' ≡ paper)
+TryMeets taken x told plan s m t (Ok (tries.Ends ending)) old new paper paper' = EndsSo m t ending × (new ≡ old) × (paper' ≡ paper)
+TryMeets taken x told plan s m t (Err stops.PrintFault) old new paper paper' = IsCut taken paper paper' m t × (new ≡ old)
+TryMeets taken x told plan s m t (Err stops.Unbuilt) old new paper paper' = (n : ℕ) × (called_in m t ≡ Some n) × (12 ≤ n) × (new ≡ old) × (paper' ≡ paper)
+TryMeets taken x told plan s m t (Err _) old new paper paper' = ⊥

@@ -1,0 +1,2 @@
+//! What an operator of the running task wants in core is brought in.
+#![tactic(auto)]

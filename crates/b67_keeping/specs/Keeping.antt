@@ -1,0 +1,31 @@
+-- What a row keeps of its job's arrays, and which array it touches.
+use Rattle.std.specs.Prelude.{◌≡◌, ℕ, List, [], Bool, true, false, Option, Some, None, Ok}
+use Rattle.b67_model.specs.declared.operators.Op.{Op}
+use Rattle.b67_model.specs.declared.operators.Op.TheVariants.{Plain}
+use Rattle.b67_model.specs.declared.operators.Code.TheVariants.{Exit, Retn}
+use Rattle.b67_model.specs.Lists.{Has}
+use Rattle.b67_model.specs.State.{Array, Task, Job, Member, Here}
+use Rattle.b67_model.specs.Steps.{Line, Goes}
+use Rattle.b67_model.specs.Rows.{row, step}
+use Rattle.b67_model.specs.Schedule.{Session}
+use Rattle.b67_model.specs.InOrder.{IsInOrderButPlaces}
+use Rattle.b67_layout.specs.Meets.{gone}
+
+-- the operators that leave an activation record
+abbrev pub is_leaving : Op → Bool
+is_leaving (Plain Exit) = true
+is_leaving (Plain Retn) = true
+is_leaving _ = false
+
+-- an operator that leaves no activation record keeps all arrays
+abbrev pub RowsKeepArrays : Type 0
+RowsKeepArrays =
+    (op : Op) (h : Here) → is_leaving op ≡ false → (after : Job) (printed : List Line) (touched : Option ℕ)
+    → row op h ≡ Ok (Goes after printed touched) → gone h.job after ≡ []
+
+-- a step of a session in order touches an array of its job alone
+abbrev pub StepsTouchArrays : Type 0
+StepsTouchArrays =
+    (s : Session) (m : Member) (t : Task) → IsInOrderButPlaces s → Has s.jobs m → Has m.course.job.tasks t
+    → (after : Job) (printed : List Line) (touched : ℕ) → step m.setting m.course.job t ≡ Ok (Goes after printed (Some touched))
+    → (a : Array) × Has m.course.job.arrays a × (a.identity ≡ touched)

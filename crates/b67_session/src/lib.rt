@@ -1,0 +1,6 @@
+//! Slices of a run.
+#![tactic(auto)]
+
+mod slices;
+
+pub use slices::Progress;
