@@ -1,5 +1,5 @@
 -- What a slice of a run answers, prints and leaves: a session of one job with one task.
-use Rattle.std.specs.Prelude.{◌≡◌, ◌≢◌, ℕ, ◌+◌, ◌<◌, ◌≤◌, List, length, Option, Some, None, Result, Ok, Err}
+use Rattle.std.specs.Prelude.{◌≡◌, ◌≢◌, ℕ, ◌+◌, ◌<◌, ◌≤◌, List, [], length, Option, Some, None, Result, Ok, Err}
 use Rattle.b67_io.specs.Told.{Took, TookPart}
 use Rattle.b67_model.specs.State.{Task, Member}
 use Rattle.b67_model.specs.Need.{need}
@@ -12,6 +12,7 @@ use Rattle.b67_stack.specs.Stands.{Storage}
 use Rattle.b67_layout.specs.Plan.{Plan}
 use Rattle.b67_exec.specs.Operators.{called_in}
 use Rattle.b67_single.specs.Single.{IsSingle}
+use Rattle.b67_task.specs.declared.tables.Tasks.{Tasks}
 use Rattle.b67_task.specs.declared.tables.Machine.{Machine}
 use Rattle.b67_task.specs.Tables.{MachineStands}
 use Rattle.b67_intrinsics.specs.Called.{AreCountable}
@@ -34,6 +35,13 @@ pub record LivesOn (told : Option (List (List ℕ))) (k : Machine) : Type 0 wher
   pub member : Member
   pub task : Task
   pub lone : IsLone told k session member task
+
+-- why a slice goes no further: no task lives, or the count of the halt is reached
+abbrev pub Pauses : Tasks → Option Progress → Type 0
+Pauses tasks None = tasks.halt ≢ Some tasks.made
+Pauses tasks (Some progress.Ended) = tasks.rows.items ≡ []
+Pauses tasks (Some progress.Halted) = tasks.halt ≡ Some tasks.made
+Pauses tasks (Some progress.More) = ⊥
 
 -- so many steps lead to a session, and these are their lines
 pub record Leads (first : Session) (steps : ℕ) (s : Session) (printed : List RunLine) : Type 0 where

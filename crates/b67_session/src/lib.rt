@@ -1,6 +1,10 @@
-//! Slices of a run.
+//! A session of one job with one task, step by step.
 #![tactic(auto)]
 
+mod ends;
 mod slices;
+mod standin;
+mod steps;
+mod turns;
 
-pub use slices::Progress;
+pub use slices::{Progress, slice};
