@@ -1,5 +1,7 @@
 use Rattle.std.proofs.Common.{◌≡◌, ◌≢◌, ℕ, ◌+◌, ◌≤◌, length, Option, Some, None, Ok, Err, refl, sym, ap, ◌∙◌, subst, arith}
 use Rattle.b67_storage.proofs.Devices.{Served-none, Served-then, still_tells}
+use Rattle.b67_session.specs.declared.ends.StepEnd.TheVariants as ends
+use Rattle.b67_session.specs.Steps.{Steps}
 use Rattle.b67_session.proofs.Going.{Going, going-begins, going-lives, going-halted, going-more, going-ended, going-steps, going-over, going-stops}
 use Rattle.b67_session.proofs.Pausing.{still_told, pause_slices}
 use Rattle.b67_session.proofs.slices.slice.Goals as goal
@@ -46,13 +48,20 @@ returns-in-Err-clause-device g c =
 pub returns-in-Ok-Over-clause-row : goal.returns-in-Ok-Over-clause-row
 returns-in-Ok-Over-clause-row g c = λ s m t h.
     let going = c.step.invariant.going s m t h in
-    ?
+    let made : Steps g.K.Sink.taken (g.B.Backing.holds c.step-in-step.new.backing) (g.B.Backing.holds c.step.backing ≢ None) (g.B.Backing.size c.step.backing) going.session (Ok ends.Over) c.step.machine c.step-in-step.new.machine c.step.paper c.step-in-step.new.paper = rw c.in-Ok-Over.field-0-is at (c.in-Ok-Over.ensures.row going.session going.member going.task going.lone) in
+    let P : ℕ → Type 0 = λ n. Steps g.K.Sink.taken (g.B.Backing.holds c.step-in-step.new.backing) (g.B.Backing.holds c.step.backing ≢ None) n going.session (Ok ends.Over) c.step.machine c.step-in-step.new.machine c.step.paper c.step-in-step.new.paper in
+    let sized : P (g.B.Backing.size c.args.backing.now) = subst P c.step.invariant.device.size made in
+    going-over g.K.Sink.taken (g.B.Backing.holds c.args.backing.now ≢ None) (g.B.Backing.holds c.step.backing) (g.B.Backing.size c.args.backing.now) c.args.n c.step._made s c.args.machine.now c.step.machine c.args.paper.now c.step.paper going
+    (g.B.Backing.holds c.step-in-step.new.backing) (still_told g.B.Backing.holds g.B.Backing.size g.B.Backing.calls g.B.Backing.faults c.args.backing.now c.step.backing c.step.invariant.device) c.step-in-step.new.machine c.step-in-step.new.paper (omega arith) sized
 
 pub returns-in-Err-clause-row : goal.returns-in-Err-clause-row
 returns-in-Err-clause-row g c = λ s m t h.
     let going = c.step.invariant.going s m t h in
-    let size = sym c.step.invariant.device.size in
-    ?
+    let made : Steps g.K.Sink.taken (g.B.Backing.holds c.step-in-step.new.backing) (g.B.Backing.holds c.step.backing ≢ None) (g.B.Backing.size c.step.backing) going.session (Err c.in-Err.stop) c.step.machine c.step-in-step.new.machine c.step.paper c.step-in-step.new.paper = c.in-Err.ensures.row going.session going.member going.task going.lone in
+    let P : ℕ → Type 0 = λ n. Steps g.K.Sink.taken (g.B.Backing.holds c.step-in-step.new.backing) (g.B.Backing.holds c.step.backing ≢ None) n going.session (Err c.in-Err.stop) c.step.machine c.step-in-step.new.machine c.step.paper c.step-in-step.new.paper in
+    let sized : P (g.B.Backing.size c.args.backing.now) = subst P c.step.invariant.device.size made in
+    going-stops g.K.Sink.taken (g.B.Backing.holds c.args.backing.now ≢ None) (g.B.Backing.holds c.step.backing) (g.B.Backing.size c.args.backing.now) c.args.n c.step._made s c.args.machine.now c.step.machine c.args.paper.now c.step.paper going
+    (g.B.Backing.holds c.step-in-step.new.backing) (still_told g.B.Backing.holds g.B.Backing.size g.B.Backing.calls g.B.Backing.faults c.args.backing.now c.step.backing c.step.invariant.device) c.step-in-step.new.machine c.step-in-step.new.paper c.in-Err.stop (omega arith) c.step.invariant.len sized
 
 pub step-preserved : goal.step-preserved
 step-preserved g c = record {
@@ -62,5 +71,11 @@ step-preserved g c = record {
   len = c.step-in-step.ensures.len ∙ c.step.invariant.len;
   count = c.step-in-step.ensures.count ∙ c.step.invariant.count;
   halt = c.step-in-step.ensures.halt ∙ c.step.invariant.halt;
-  going = λ s m t h. ?;
+  going = λ s m t h.
+      let going = c.step.invariant.going s m t h in
+      let made : Steps g.K.Sink.taken (g.B.Backing.holds c.step-in-step.new.backing) (g.B.Backing.holds c.step.backing ≢ None) (g.B.Backing.size c.step.backing) going.session (Ok ends.GoesOn) c.step.machine c.step-in-step.new.machine c.step.paper c.step-in-step.new.paper = rw c.in-Ok-GoesOn.field-0-is at (c.in-Ok-GoesOn.ensures.row going.session going.member going.task going.lone) in
+      let P : ℕ → Type 0 = λ n. Steps g.K.Sink.taken (g.B.Backing.holds c.step-in-step.new.backing) (g.B.Backing.holds c.step.backing ≢ None) n going.session (Ok ends.GoesOn) c.step.machine c.step-in-step.new.machine c.step.paper c.step-in-step.new.paper in
+      let sized : P (g.B.Backing.size c.args.backing.now) = subst P c.step.invariant.device.size made in
+      going-steps g.K.Sink.taken (g.B.Backing.holds c.args.backing.now ≢ None) (g.B.Backing.holds c.step.backing) (g.B.Backing.size c.args.backing.now) c.args.n c.step._made s c.args.machine.now c.step.machine c.args.paper.now c.step.paper going
+    (g.B.Backing.holds c.step-in-step.new.backing) (still_told g.B.Backing.holds g.B.Backing.size g.B.Backing.calls g.B.Backing.faults c.args.backing.now c.step.backing c.step.invariant.device) c.step-in-step.new.machine c.step-in-step.new.paper sized;
 }
