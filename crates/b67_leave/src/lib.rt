@@ -48,6 +48,7 @@ pub fn caller(cpu: &Cpu, mark: Mscw) -> Regs
 pub fn exit(cpu: &mut Cpu) -> Step
     requires { RunsSome cpu.old }
     ensures row { ForEach cpu.old (λ x plan s m t. (next : Place) → Meets x plan s m result cpu.old cpu.new (rows.exit (here m t next))) }
+    ensures core { cpu.new.core ≡ cpu.old.core }
 {
     let mark = cpu.top_mark();
     if !mark.entered {

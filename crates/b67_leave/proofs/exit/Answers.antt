@@ -22,6 +22,7 @@ returns-then-not-mark c = record {
         leaves_pending m t next _ p.f p.below p.frames p.marked,
     refl,
   );
+  core = refl;
 }
 
 pub returns-then-is_critical : goal.returns-then-is_critical
@@ -32,6 +33,7 @@ returns-then-is_critical c = record {
         leaves_critical m t next _ p.f p.below p.level p.environment p.back p.frames p.entered (sym (c.is_critical.ensures x plan s m t o h runs) ∙ c.if-is_critical.true),
     refl,
   );
+  core = refl;
 }
 
 pub returns-then-mark-eq0 : goal.returns-then-mark-eq0
@@ -42,6 +44,7 @@ returns-then-mark-eq0 c = record {
         leaves_last m t next _ p.f p.level p.environment p.frames p.entered (sym (c.is_critical.ensures x plan s m t o h runs) ∙ c.if-is_critical.false),
     refl,
   );
+  core = refl;
 }
 
 pub caller-cpu-requires : goal.caller-cpu-requires
@@ -84,4 +87,5 @@ returns c = record {
       let is = c.caller-cpu.ensures (may_return x cpu plan s m t o h runs a)
       (c.top_mark-mark.ensures x (picture plan s.jobs) (on_top x cpu plan s m t o h runs a ∷ under x cpu plan s m t o h runs a) h.holds.memory (on_stack x cpu plan s m t o h runs a)) in
       exit_done x cpu plan s m t o h runs a next c.caller-cpu.result c.rebuild.new.display is c.rebuild.ensures);
+  core = refl;
 }
