@@ -1,2 +1,4 @@
 pub mod Places
 pub mod Keeps
+pub mod Steps
+pub mod Tables
