@@ -2,3 +2,5 @@ pub mod Places
 pub mod Keeps
 pub mod Steps
 pub mod Tables
+pub mod Inversion
+pub mod Ordered
