@@ -4,3 +4,5 @@ pub mod Steps
 pub mod Tables
 pub mod Inversion
 pub mod Ordered
+pub mod Readied
+pub mod Releasing
