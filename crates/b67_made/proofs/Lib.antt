@@ -3,6 +3,10 @@ pub mod Keeps
 pub mod Steps
 pub mod Tables
 pub mod Inversion
+pub mod Leavers
 pub mod Ordered
 pub mod Readied
 pub mod Releasing
+pub mod Gives
+pub mod StandIn
+pub mod Made
