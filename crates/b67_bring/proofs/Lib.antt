@@ -1,2 +1,6 @@
 pub mod Others
 pub mod Seen
+pub mod Again
+pub mod Wants
+pub mod Ends
+pub mod Full
