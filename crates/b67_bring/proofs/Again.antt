@@ -1,11 +1,9 @@
 -- The machine stands for a session again, after things came and went in the picture.
 use Rattle.std.proofs.Common.{◌≡◌, ◌≢◌, ℕ, List, [], length, Option, Some, None, refl, sym, ◌∙◌, ap, subst}
 use Rattle.std.proofs.lemmas.Option.{none-some}
-use Rattle.b67_word.specs.Tagged.{Tagged}
 use Rattle.b67_area.specs.declared.Areas.{Areas}
 use Rattle.b67_backing.specs.Shelf.{Table}
 use Rattle.b67_ctl.specs.declared.registers.Regs.{Regs}
-use Rattle.b67_model.specs.State.{Member}
 use Rattle.b67_model.specs.Schedule.{Session}
 use Rattle.b67_stack.specs.declared.Cpu.{Cpu}
 use Rattle.b67_stack.specs.Picture.{Picture, Settled}
@@ -18,7 +16,7 @@ use Rattle.b67_layout.specs.Session.{SessionStands}
 use Rattle.b67_step.proofs.Paged.{SessionStands-over}
 use Rattle.b67_task.specs.declared.tables.Tasks.{Tasks}
 use Rattle.b67_task.specs.declared.tables.Machine.{Machine}
-use Rattle.b67_task.specs.Tables.{MachineStands, TasksShow}
+use Rattle.b67_task.specs.Tables.{MachineStands}
 use Rattle.b67_bring.specs.Bringing.{StandsOver, StandsAgain}
 use Rattle.b67_bring.proofs.Others.{others_alike, others_show}
 use Rattle.b67_bring.proofs.Seen.{Sees}

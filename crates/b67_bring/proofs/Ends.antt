@@ -1,5 +1,5 @@
 -- The machine after something was brought in or refused.
-use Rattle.std.proofs.Common.{◌≡◌, ◌≢◌, ℕ, ◌+◌, List, length, flat_map, Option, Some, None, refl, sym, ◌∙◌, ap, subst, arith}
+use Rattle.std.proofs.Common.{◌≡◌, ◌≢◌, ℕ, ◌+◌, List, length, flat_map, Option, Some, None, refl, sym, ◌∙◌, ap, arith}
 use Rattle.std.proofs.lemmas.Option.{none-some}
 use Rattle.b67_area.specs.declared.Areas.{Areas}
 use Rattle.b67_backing.specs.Shelf.{Table}
@@ -8,7 +8,6 @@ use Rattle.b67_model.specs.State.{Task, Member}
 use Rattle.b67_model.specs.Schedule.{Session}
 use Rattle.b67_model.specs.InOrder.{IsInOrderButPlaces}
 use Rattle.b67_stack.specs.declared.Cpu.{Cpu}
-use Rattle.b67_stack.specs.declared.What.{What}
 use Rattle.b67_stack.specs.declared.What.TheVariants as what
 use Rattle.b67_stack.specs.Shapes.{Held}
 use Rattle.b67_stack.specs.Picture.{Thing}
@@ -24,7 +23,7 @@ use Rattle.b67_task.specs.declared.tables.Machine.{Machine}
 use Rattle.b67_bring.specs.Bringing.{StandsOver, StandsAgain, Brings, IsArrayWanted}
 use Rattle.b67_bring.proofs.Seen.{Sees, sees_none, sees_read, sees_both, fitting, thing_bits}
 use Rattle.b67_bring.proofs.Again.{machine_of, again}
-use Rattle.b67_bring.proofs.Wants.{CodeThing, code_found, array_absent}
+use Rattle.b67_bring.proofs.Wants.{code_found, array_absent}
 
 module _ (x : Storage) (told now : Option (List (List ℕ))) (k : Machine) (plan : Plan) (s : Session) (o : IsInOrderButPlaces s) (h : StandsOver x told k plan s) (cpu : Cpu) (areas : Areas) (table : Table)
     (rest : cpu ≡ record k.cpu { core = cpu.core }) (len : length cpu.core ≡ length k.cpu.core) (same_areas : areas ≡ k.areas) (stayed : Stayed (picture plan s.jobs) k.cpu.core cpu.core) where

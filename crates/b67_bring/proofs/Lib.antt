@@ -3,4 +3,3 @@ pub mod Seen
 pub mod Again
 pub mod Wants
 pub mod Ends
-pub mod Full

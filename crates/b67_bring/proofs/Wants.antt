@@ -1,11 +1,10 @@
 -- What is wanted, as a thing of the picture, and how much core it needs.
-use Rattle.std.proofs.Common.{◌≡◌, ◌≢◌, ℕ, zero, suc, ◌+◌, ◌-◌, ◌^◌, ◌<◌, List, [], ◌∷◌, length, map, flat_map, Option, Some, None, refl, sym, ◌∙◌, ap, arith, true, false, subst, ⊎_elim}
-use Rattle.std.specs.Prelude.{if◌then◌else◌}
+use Rattle.std.proofs.Common.{◌≡◌, ◌≢◌, ℕ, zero, suc, ◌+◌, ◌-◌, ◌^◌, ◌<◌, ◌↔◌, List, [], ◌∷◌, length, map, flat_map, Option, Some, None, refl, sym, ◌∙◌, ap, arith, subst}
 use Rattle.std.specs.List.{slice_get}
-use Rattle.std.proofs.lemmas.Bool.{cases_eq, eq-eqb, ne_eqb}
+use Rattle.std.proofs.lemmas.Bool.{ne_eqb}
 use Rattle.b67_area.specs.declared.kinds.Kind.TheVariants.{Code}
 use Rattle.b67_model.specs.Lists.{Has}
-use Rattle.b67_model.specs.State.{Array, Segment, Task, Member}
+use Rattle.b67_model.specs.State.{Task, Member}
 use Rattle.b67_model.specs.Rows.{code_of}
 use Rattle.b67_model.specs.Run.{number_of}
 use Rattle.b67_model.specs.Schedule.{Session}
@@ -28,7 +27,7 @@ use Rattle.b67_needs.specs.Needing.{array_area, need_with}
 use Rattle.b67_needs.proofs.Needs.{need_above_low}
 use Rattle.b67_presence.specs.Brings.{IsCode, need_one, need_both}
 use Rattle.b67_task.specs.declared.tables.Machine.{Machine}
-use Rattle.b67_bring.specs.Bringing.{StandsOver, IsArrayWanted, IsWanted, StandsAgain, Brings}
+use Rattle.b67_bring.specs.Bringing.{StandsOver, IsArrayWanted, IsWanted, Brings}
 
 get_within : {A : Type 0} (xs : List A) (i : ℕ) → i < length xs → (x : A) × (slice_get xs i ≡ Some x)
 get_within [] i low = absurd (omega (arith, low))
@@ -83,11 +82,12 @@ module _ (x : Storage) (told : Option (List (List ℕ))) (k : Machine) (plan : P
       let c = code_found plan s m t o runs in
       record { there = c.there; is = c.home ∙ sym (displaced d e); absent = ap (λ (q : ℕ). (x.held q).area) (displaced d e) ∙ none }
 
-  pub code_present : code_area x plan m t ≢ None → (at : ℕ) × IsCode x (picture plan s.jobs) (k.cpu.regs.dict + k.cpu.regs.segment) at (code_found plan s m t o runs).thing
-  code_present n =
+  pub code_present : (d : ℕ) → d ≡ k.cpu.regs.segment → code_area x plan m t ≢ None → (at : ℕ) × IsCode x (picture plan s.jobs) (k.cpu.regs.dict + d) at (code_found plan s m t o runs).thing
+  code_present d e n =
       let c = code_found plan s m t o runs in
       let (at, is) = some_of (code_area x plan m t) n in
-      (at, record { there = c.there; is = c.home ∙ sym address; kind = c.kind; present = ap (λ (q : ℕ). (x.held q).area) address ∙ is })
+      let same : k.cpu.regs.dict + d ≡ plan.dictionary m.setting.number + 1 + t.segment = omega (arith, e, address) in
+      (at, record { there = c.there; is = c.home ∙ sym same; kind = c.kind; present = ap (λ (q : ℕ). (x.held q).area) same ∙ is })
 
   pub array_absent : (home words : ℕ) (w : IsArrayWanted x plan m t home words) → IsAbsent x (picture plan s.jobs) home (array_thing plan m.setting.number w.array)
   array_absent home words w = record {
@@ -97,10 +97,10 @@ module _ (x : Storage) (told : Option (List (List ℕ))) (k : Machine) (plan : P
   }
 
   -- what each of them needs is what the step needs
-  pub need_code : need_with s m t 0 0 ≡ need_one x (code_found plan s m t o runs).thing
-  need_code =
+  pub need_code : (words : ℕ) → words ≡ 0 → need_with s m t 0 words ≡ need_one x (code_found plan s m t o runs).thing
+  need_code words none =
       let c = code_found plan s m t o runs in
-      need_above_low x x.device k plan s m t o h.stands runs 0 ∙ (let z : k.areas.low + (length (code_of m.setting t.segment) + 2) + 0 ≡ x.low + (length c.thing.numbers + 2) = omega (arith, h.stands.storage.low, c.count) in z)
+      ap (need_with s m t 0) none ∙ need_above_low x x.device k plan s m t o h.stands runs 0 ∙ (let z : k.areas.low + (length (code_of m.setting t.segment) + 2) + 0 ≡ x.low + (length c.thing.numbers + 2) = omega (arith, h.stands.storage.low, c.count) in z)
 
   pub need_array : (home words : ℕ) (w : IsArrayWanted x plan m t home words) → need_with s m t 0 words ≡ need_both x (code_found plan s m t o runs).thing (array_thing plan m.setting.number w.array)
   need_array home words w =
@@ -109,6 +109,10 @@ module _ (x : Storage) (told : Option (List (List ℕ))) (k : Machine) (plan : P
       let some = (all_in ArrayInOrder m.course.job.arrays w.array order.tasks.arrays w.among).length_low in
       need_above_low x x.device k plan s m t o h.stands runs words
       ∙ (let z : k.areas.low + (length (code_of m.setting t.segment) + 2) + array_area words ≡ x.low + (length c.thing.numbers + 2) + (length w.array.numbers + 2) = omega (arith, h.stands.storage.low, c.count, array_area-some words (omega (arith, some, w.words_are)), w.words_are) in z)
+
+-- a refusal that comes exactly at one need comes exactly at another that is the same
+pub exactly : {A : Type 0} (core need size here there : ℕ) → there ≡ here → A ↔ ((core < here) × (need ≡ here) × (size ≡ core)) → A ↔ ((core < there) × (need ≡ there) × (size ≡ core))
+exactly {A} core need size here there e h = let P : ℕ → Type 0 = λ n. A ↔ ((core < n) × (need ≡ n) × (size ≡ core)) in subst P (sym e) h
 
 -- what is wanted, by its variant
 pub wanted_code : (x : Storage) (plan : Plan) (m : Member) (t : Task) (absent : What) (words d : ℕ) → absent ≡ what.Code d → IsWanted x plan m t absent words → IsWanted x plan m t (what.Code d) words

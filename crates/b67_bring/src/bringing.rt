@@ -23,7 +23,8 @@ use b67_task::Machine;
 /// then present too. `NoCore`, with nothing changed, exactly where the MCP, dictionaries, stacks, the running segment and
 /// that array need more words than core has. `BackingFull` only where the session takes more sectors than the device has.
 /// `BackingFault` only where the device failed. After a refusal the machine stands for the same session, and the call may
-/// be made again, for an array once the running segment is present.
+/// be made again, for an array once the running segment is present. Over a device that doesn't tell what its sectors hold,
+/// the words that it gave back may be others, and as many.
 pub fn bring<B: Backing>(
     machine: &mut Machine,
     backing: &mut B,
