@@ -8,5 +8,4 @@ pub mod Ordered
 pub mod Readied
 pub mod Releasing
 pub mod Gives
-pub mod StandIn
 pub mod Made

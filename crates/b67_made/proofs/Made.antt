@@ -26,7 +26,7 @@ use Rattle.b67_made.specs.Makes.{Makes, StepMakes, CallsOrMakes}
 use Rattle.b67_made.proofs.Releasing.{same_length, storage_over}
 use Rattle.b67_made.proofs.Steps.{row_kept}
 use Rattle.b67_made.proofs.Tables.{tables_after}
-use Rattle.b67_made.proofs.StandIn.{keeps_arrays}
+use Rattle.b67_keeping.proofs.Laws.{keeps_arrays}
 
 -- after all answers but Done nothing has changed
 pub unchanged : (x : Storage) (told : Option (List (List ℕ))) (plan : Plan) (s : Session) (m : Member) (t : Task) (answered : Step) (old : Machine) (new : Cpu) (answer : Answer Result)
