@@ -9,3 +9,4 @@ pub mod Readied
 pub mod Releasing
 pub mod Gives
 pub mod Made
+pub mod Read
