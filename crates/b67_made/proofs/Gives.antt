@@ -1,12 +1,10 @@
 -- An operator left an activation record: what is asked of giving back its arrays, and what is made then.
-use Rattle.std.proofs.Common.{◌≡◌, ◌≢◌, ℕ, ◌+◌, ◌^◌, ◌<◌, ◌≤◌, List, [], map, Option, length, refl, sym, ◌∙◌, ap, arith, subst}
+use Rattle.std.proofs.Common.{◌≡◌, ℕ, ◌+◌, ◌^◌, ◌<◌, ◌≤◌, List, [], map, Option, length, refl, sym, ◌∙◌, ap, arith}
 use Rattle.std.specs.List.{slice_get}
 use Rattle.b67_word.specs.declared.couples.Place.{Place}
 use Rattle.b67_area.specs.declared.Areas.{Areas}
 use Rattle.b67_model.specs.declared.operators.Op.{Op}
-use Rattle.b67_model.specs.Answers.{Answer}
-use Rattle.b67_model.specs.State.{Ready, Task, Job, Member}
-use Rattle.b67_model.specs.Steps.{Done as Result}
+use Rattle.b67_model.specs.State.{Ready, Task, Member}
 use Rattle.b67_model.specs.Rows.{row, step}
 use Rattle.b67_model.specs.Schedule.{Session}
 use Rattle.b67_model.specs.InOrder.{IsSegment, TasksInOrder, IsInOrderButPlaces}

@@ -1,9 +1,9 @@
 -- What an operator answered and left, in the whole machine.
-use Rattle.std.proofs.Common.{◌≡◌, ◌≢◌, ℕ, List, [], map, length, Option, Some, None, Ok, Err, refl, sym, ◌∙◌, ap, false, subst}
+use Rattle.std.proofs.Common.{◌≡◌, ◌≢◌, ℕ, List, [], map, length, Option, Some, None, refl, sym, ◌∙◌, ap, false, subst}
 use Rattle.b67_word.specs.declared.couples.Place.{Place}
 use Rattle.b67_model.specs.declared.operators.Op.{Op}
 use Rattle.b67_model.specs.Answers.{Answer}
-use Rattle.b67_model.specs.State.{Array, Ready, Task, Job, Member}
+use Rattle.b67_model.specs.State.{Ready, Task, Member}
 use Rattle.b67_model.specs.Steps.{Done as Result}
 use Rattle.b67_model.specs.Rows.{row, step}
 use Rattle.b67_model.specs.Schedule.{Session}

@@ -1,11 +1,11 @@
 -- The session after an operator of the running task, which is ready, has its frames in order.
-use Rattle.std.proofs.Common.{◌≡◌, ℕ, ◌+◌, List, Option, Ok, refl, sym, ◌∙◌, ap, arith, true, false, inl, inr, ◌⊎◌, subst}
+use Rattle.std.proofs.Common.{◌≡◌, ℕ, List, Option, Ok, sym, ◌∙◌, arith, true, inl, inr, ◌⊎◌, subst}
 use Rattle.std.proofs.lemmas.Bool.{true≢false}
 use Rattle.b67_word.specs.declared.couples.Place.{Place}
 use Rattle.b67_model.specs.declared.operators.Op.{Op}
 use Rattle.b67_model.specs.Answers.{Answer}
 use Rattle.b67_model.specs.Lists.{Has}
-use Rattle.b67_model.specs.State.{Ready, Task, Job, Member, Here}
+use Rattle.b67_model.specs.State.{Ready, Task, Job, Member}
 use Rattle.b67_model.specs.Steps.{Line, Done, Goes}
 use Rattle.b67_model.specs.Loader.{may_be_last}
 use Rattle.b67_model.specs.Rows.{row}

@@ -1,12 +1,11 @@
 -- Where the marks of frames are: what the changes of frames keep of it.
-use Rattle.std.proofs.Common.{◌≡◌, ◌≢◌, ℕ, ◌+◌, ◌-◌, List, [], ◌∷◌, map, length, reverse, Some, refl, sym, ◌∙◌, ap, arith, Bool, true, false, slice_set, subst, inl, inr}
+use Rattle.std.proofs.Common.{◌≡◌, ◌≢◌, ℕ, ◌-◌, List, [], ◌∷◌, map, length, reverse, Some, refl, sym, ◌∙◌, ap, arith, true, false, slice_set, subst, inl, inr}
 use Rattle.std.specs.Prelude.{◌==◌, if◌then◌else◌}
 use Rattle.std.proofs.lemmas.Bool.{cases_Bool}
 use Rattle.std.proofs.lemmas.Bool.Decides.{eqb_tells}
 use Rattle.std.proofs.lemmas.List.{length-reverse}
 use Rattle.std.proofs.lemmas.Option.{same_Some}
 use Rattle.std.proofs.Math.ListN.{length-set}
-use Rattle.b67_word.specs.declared.couples.Place.{Place}
 use Rattle.b67_model.specs.Words.{Word}
 use Rattle.b67_model.specs.State.{Standing, Frame, Task, height, words_of, with_top_cells, below_top, top}
 use Rattle.b67_model.specs.Cells.{with_cell_of}

@@ -1,13 +1,12 @@
 -- The operator that was read at the running place.
 use Rattle.std.proofs.Common.{◌≡◌, ℕ, List, Option, Some, sym, ap, subst}
 use Rattle.b67_model.specs.Operators.{Reading}
-use Rattle.b67_model.specs.Rows.{row, reading_of, step_by, step}
+use Rattle.b67_model.specs.Rows.{reading_of, step_by, step}
 use Rattle.b67_model.specs.State.{Task, Member}
 use Rattle.b67_model.specs.Schedule.{Session}
 use Rattle.b67_stack.specs.declared.Step.{Step}
 use Rattle.b67_stack.specs.Stands.{Storage}
 use Rattle.b67_layout.specs.Plan.{Plan}
-use Rattle.b67_layout.specs.Meets.{here}
 use Rattle.b67_code.specs.Running.{code_area}
 use Rattle.b67_exec.specs.Operators.{called_by}
 use Rattle.b67_task.specs.declared.tables.Machine.{Machine}

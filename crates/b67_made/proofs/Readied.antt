@@ -1,6 +1,6 @@
 -- The session in which the running task is ready: it is in order, and the machine stands for it.
-use Rattle.std.proofs.Common.{◌≡◌, ◌≢◌, ℕ, ◌+◌, ◌≤◌, List, [], ◌∷◌, map, length, Some, refl, sym, ◌∙◌, ap, arith, true, false, inl, inr, subst}
-use Rattle.std.specs.Prelude.{◌==◌, if◌then◌else◌}
+use Rattle.std.proofs.Common.{◌≡◌, ◌≢◌, ℕ, List, [], ◌∷◌, map, Some, refl, sym, ◌∙◌, ap, arith, inl, inr, subst}
+use Rattle.std.specs.Prelude.{◌==◌}
 use Rattle.std.proofs.lemmas.Bool.{cases_Bool}
 use Rattle.std.proofs.lemmas.Option.{same_Some}
 use Rattle.b67_model.specs.Keyed.{keyed, change_keyed}
@@ -8,7 +8,7 @@ use Rattle.b67_model.specs.Lists.{Has}
 use Rattle.b67_model.specs.State.{Array, Ready, Task, Job, Member, with_task}
 use Rattle.b67_model.specs.Run.{number_of}
 use Rattle.b67_model.specs.Schedule.{Session}
-use Rattle.b67_model.specs.InOrder.{IsSegment, known_of, from_frame, originals_of, TasksInOrder, JobInOrder, IsInOrderButPlaces}
+use Rattle.b67_model.specs.InOrder.{IsSegment, known_of, from_frame, originals_of, JobInOrder, IsInOrderButPlaces}
 use Rattle.b67_order.proofs.Members.{all_in, length_change}
 use Rattle.b67_order.proofs.Reaches.{alike_same}
 use Rattle.b67_order.proofs.Replaced.{Replaced, replaced}

@@ -1,10 +1,8 @@
 -- After a frame was left its arrays are what is left to give back.
-use Rattle.std.proofs.Common.{◌≡◌, ◌≢◌, ℕ, ◌+◌, ◌*◌, ◌<◌, ◌≤◌, List, [], ◌∷◌, map, Option, Some, length, refl, sym, ◌∙◌, ap, arith, subst}
+use Rattle.std.proofs.Common.{◌≡◌, ◌≢◌, ℕ, ◌+◌, ◌*◌, ◌<◌, ◌≤◌, List, [], ◌∷◌, map, Option, length, sym, ◌∙◌, arith, subst}
 use Rattle.std.specs.List.{slice_get}
-use Rattle.b67_ctl.specs.declared.registers.Regs.{Regs}
 use Rattle.b67_area.specs.declared.Areas.{Areas}
 use Rattle.b67_backing.specs.Shelf.{Table}
-use Rattle.b67_model.specs.Lists.{Has}
 use Rattle.b67_model.specs.State.{Standing, Frame, Ready, Task, Job, Member}
 use Rattle.b67_model.specs.Run.{number_of}
 use Rattle.b67_model.specs.Schedule.{Session}
@@ -12,7 +10,7 @@ use Rattle.b67_model.specs.InOrder.{IsSegment, TasksInOrder, IsInOrderButPlaces}
 use Rattle.b67_stack.specs.declared.Cpu.{Cpu}
 use Rattle.b67_stack.specs.Shapes.{Shape}
 use Rattle.b67_stack.specs.Stacks.{Spot, Activation, size}
-use Rattle.b67_stack.specs.Picture.{Thing, Picture, RunsOn}
+use Rattle.b67_stack.specs.Picture.{Thing, RunsOn}
 use Rattle.b67_stack.specs.Stands.{Storage, RunningStands}
 use Rattle.b67_stack.proofs.Pushes.{Room, room_of}
 use Rattle.b67_stack.proofs.Slots.{running_slot}

@@ -1,12 +1,11 @@
 -- What a whole step of the running task keeps, where its operator calls no intrinsic.
-use Rattle.std.proofs.Common.{◌≡◌, ◌≢◌, ℕ, ◌<◌, List, [], ◌∷◌, Option, Some, None, Ok, Err, refl, sym, ap, arith, false, inl, inr, subst}
+use Rattle.std.proofs.Common.{◌≡◌, ◌≢◌, ℕ, ◌<◌, List, [], ◌∷◌, Option, None, Ok, Err, refl, arith, false, inl, inr}
 use Rattle.b67_word.specs.declared.couples.Place.{Place}
 use Rattle.b67_model.specs.declared.operators.Op.{Op}
 use Rattle.b67_model.specs.State.{Frame, Task, Job, Member, top}
 use Rattle.b67_model.specs.Operators.{Reading}
 use Rattle.b67_model.specs.Steps.{Line, Goes, is_critical}
 use Rattle.b67_model.specs.Rows.{row, reading_of, step, step_by}
-use Rattle.b67_model.specs.Run.{number_of}
 use Rattle.b67_model.specs.Schedule.{Session}
 use Rattle.b67_model.specs.InOrder.{IsSegment, IsInOrderButPlaces}
 use Rattle.b67_profiles.specs.Profiles.{called}

@@ -1,10 +1,10 @@
 -- The tables show the session after a step of a ready task that calls no intrinsic.
-use Rattle.std.proofs.Common.{◌≡◌, ◌≢◌, ℕ, ◌+◌, List, [], ◌∷◌, Option, Some, None, refl, sym, ◌∙◌, ap, arith, true, false, inl, inr, ◌⊎◌, ⊎_elim, subst}
-use Rattle.std.specs.Prelude.{◌==◌, if◌then◌else◌, drop, map}
+use Rattle.std.proofs.Common.{◌≡◌, ◌≢◌, ℕ, ◌+◌, List, [], ◌∷◌, Option, Some, None, refl, sym, ◌∙◌, ap, true, false, inl, inr, ◌⊎◌, ⊎_elim, subst}
+use Rattle.std.specs.Prelude.{◌==◌, if◌then◌else◌}
 use Rattle.std.proofs.lemmas.Bool.{cases_Bool, cases_eq}
 use Rattle.std.proofs.lemmas.Option.{same_Some}
 use Rattle.b67_model.specs.Lists.{Has}
-use Rattle.b67_model.specs.State.{Frame, Condition, Ready, Awaits, WaitsAt, Task, Job, Member, height}
+use Rattle.b67_model.specs.State.{Frame, Condition, Ready, Awaits, WaitsAt, Task, Job, Member}
 use Rattle.b67_model.specs.Keyed.{keyed, change_keyed}
 use Rattle.b67_model.specs.Run.{number_of}
 use Rattle.b67_model.specs.Schedule.{Session}
@@ -13,14 +13,14 @@ use Rattle.b67_order.proofs.Members.{falls_same}
 use Rattle.b67_profiles.specs.Profiles.{Profile, profile}
 use Rattle.b67_stack.specs.Stacks.{Spot}
 use Rattle.b67_layout.specs.Plan.{Plan, slot_of, spot_in, base_spot, outer_spots, spots, address_of}
-use Rattle.b67_layout.specs.Rows.{RowState, IsReady, AwaitsTask, WaitsAtCell, TaskRow, JobRow, Counts, shown, parent_slot, critical_disp, TaskShows, JobShows, JobsShow, CountsShow, TablesShow}
+use Rattle.b67_layout.specs.Rows.{WaitsAtCell, TaskRow, JobRow, Counts, shown, parent_slot, critical_disp, TaskShows, JobShows, JobsShow, TablesShow}
 use Rattle.b67_layout.specs.Session.{IsRunning}
 use Rattle.b67_layout.specs.Meets.{with_job}
 use Rattle.b67_layout.proofs.Others.{keyed-has}
 use Rattle.b67_layout.proofs.Fresh.{running_in_order}
 use Rattle.b67_layout.proofs.Sessions.{change-has, change-kept}
 use Rattle.b67_leaving.proofs.Slots.{IsDependedOn}
-use Rattle.b67_made.proofs.Places.{At, places, from_places, from_are, IsAlike, Same, AllSame}
+use Rattle.b67_made.proofs.Places.{At, places, IsAlike, Same, AllSame}
 use Rattle.b67_made.proofs.Steps.{JobKept}
 
 -- a spot is looked up among the places of frames

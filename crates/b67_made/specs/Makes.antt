@@ -1,6 +1,6 @@
 -- What making the operator at the running place answers, and the machine that it leaves once a left activation record's
 -- arrays were given back.
-use Rattle.std.specs.Prelude.{◌≡◌, ◌≢◌, ℕ, ◌+◌, List, [], Option, Some, None, Ok, Err}
+use Rattle.std.specs.Prelude.{◌≡◌, ℕ, ◌+◌, List, [], Option, Some, None, Ok, Err}
 use Rattle.b67_model.specs.State.{Ready, Task, Job, Member}
 use Rattle.b67_model.specs.Steps.{Goes, Leaves}
 use Rattle.b67_model.specs.Rows.{step}

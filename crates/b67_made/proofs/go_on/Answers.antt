@@ -1,4 +1,3 @@
-use Rattle.std.proofs.Common.{refl}
 use Rattle.b67_model.specs.Rows.{row}
 use Rattle.b67_layout.specs.Meets.{here}
 use Rattle.b67_profiles.specs.Profiles.{called}

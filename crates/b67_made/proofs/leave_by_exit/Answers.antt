@@ -1,14 +1,9 @@
-use Rattle.std.proofs.Common.{◌≡◌, ◌+◌, sym, ◌∙◌, ap, arith, refl, subst}
+use Rattle.std.proofs.Common.{ap, arith, refl}
 use Rattle.std.specs.List.{slice_get}
-use Rattle.b67_ctl.specs.declared.registers.Regs.{Regs}
-use Rattle.b67_word.specs.declared.couples.Place.{Place}
-use Rattle.b67_model.specs.declared.operators.Op.{Op}
 use Rattle.b67_model.specs.declared.operators.Op.TheVariants.{Plain}
 use Rattle.b67_model.specs.declared.operators.Code.TheVariants.{Exit}
 use Rattle.b67_model.specs.Rows.{row}
-use Rattle.b67_layout.specs.Meets.{here, Meets}
-use Rattle.b67_stack.specs.declared.Step.{Step}
-use Rattle.b67_needs.specs.Needing.{MachineRuns}
+use Rattle.b67_layout.specs.Meets.{here}
 use Rattle.b67_made.proofs.Gives.{StaysAbove, upto_fits, asks, in_turn, length_after, gives}
 use Rattle.b67_made.proofs.Leavers.{exit_leaves}
 use Rattle.b67_made.proofs.Made.{unchanged, unchanged_length}

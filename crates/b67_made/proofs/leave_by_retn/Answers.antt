@@ -1,13 +1,8 @@
-use Rattle.std.proofs.Common.{◌≡◌, ◌+◌, sym, ◌∙◌, ap, arith, refl, subst}
-use Rattle.b67_ctl.specs.declared.registers.Regs.{Regs}
-use Rattle.b67_word.specs.declared.couples.Place.{Place}
-use Rattle.b67_model.specs.declared.operators.Op.{Op}
+use Rattle.std.proofs.Common.{arith, refl}
 use Rattle.b67_model.specs.declared.operators.Op.TheVariants.{Plain}
 use Rattle.b67_model.specs.declared.operators.Code.TheVariants.{Retn}
 use Rattle.b67_model.specs.Rows.{row}
-use Rattle.b67_layout.specs.Meets.{here, Meets}
-use Rattle.b67_stack.specs.declared.Step.{Step}
-use Rattle.b67_needs.specs.Needing.{MachineRuns}
+use Rattle.b67_layout.specs.Meets.{here}
 use Rattle.b67_made.proofs.Gives.{StaysAbove, upto_fits, asks, in_turn, length_after, gives}
 use Rattle.b67_made.proofs.Leavers.{retn_leaves}
 use Rattle.b67_made.proofs.Made.{unchanged, unchanged_length}
