@@ -1,4 +1,4 @@
-use Rattle.b67_fits.proofs.Room.{present_fit}
+use Rattle.b67_fits.proofs.Space.{present_fit}
 use Rattle.b67_fits.proofs.present_fits.Goals as goal
 
 pub returns : goal.returns

@@ -29,7 +29,7 @@ use Rattle.b67_cells.proofs.Replaced.{array_thing-has, member_things, before}
 use Rattle.b67_code.specs.Running.{code_area}
 use Rattle.b67_code.proofs.Codes.{code_thing}
 use Rattle.b67_needs.specs.Needing.{array_area, need_with}
-use Rattle.b67_fits.specs.Fits.{HasRoom, PresentFits}
+use Rattle.b67_fits.specs.Fits.{HasSpace, PresentFits}
 use Rattle.b67_fits.proofs.Areas.{one_fits, two_fit}
 
 get_within : {A : Type 0} (xs : List A) (i : ℕ) → i < length xs → (x : A) × (slice_get xs i ≡ Some x)
@@ -102,8 +102,8 @@ module _ (x : Storage) (cpu : Cpu) (plan : Plan) (s : Session) (m : Member) (t :
       let both : i ≡ z = same_Some i z (sym e ∙ ap (area_at x.low x.spans) same ∙ f) in
       not_code a.writable (sym k ∙ ap (λ (y : Info). y.kind) both)
 
-  has_room : (at : ℕ) → code_area x plan m t ≡ Some at → HasRoom x plan s m t (length cpu.core)
-  has_room at present =
+  pub has_space : (at : ℕ) → code_area x plan m t ≡ Some at → HasSpace x plan s m t (length cpu.core)
+  has_space at present =
       let d = h.holds.memory.directory in
       let (i, e, k, n) = code_is at present in
       record {
@@ -121,4 +121,4 @@ module _ (x : Storage) (cpu : Cpu) (plan : Plan) (s : Session) (m : Member) (t :
       }
 
 pub present_fit : PresentFits
-present_fit cpu x plan s m t o h runs at present = has_room x cpu plan s m t o h runs at present
+present_fit cpu x plan s m t o h runs at present = has_space x cpu plan s m t o h runs at present
