@@ -26,6 +26,7 @@ pub fn end_last(machine: &mut Machine)
     ensures cpu { machine.new.cpu ≡ record machine.old.cpu { core = machine.new.cpu.core; regs = record machine.old.cpu.regs { slot = 255 } } }
     ensures len { length machine.new.cpu.core ≡ length machine.old.cpu.core }
     ensures areas { machine.new.areas ≡ machine.old.areas }
+    ensures count { length machine.new.sectors.links ≡ length machine.old.sectors.links }
 {
     let slot = machine.tasks.rows[0].slot;
     end_slot(

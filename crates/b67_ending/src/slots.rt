@@ -37,6 +37,7 @@ pub fn end_slot(cpu: &mut Cpu, areas: &mut Areas, sectors: &mut Sectors, slot: u
     ensures rest { cpu.new ≡ record cpu.old { core = cpu.new.core; regs = record cpu.old.regs { slot = 255 } } }
     ensures len { length cpu.new.core ≡ length cpu.old.core }
     ensures areas { areas.new ≡ areas.old }
+    ensures count { length sectors.new.links ≡ length sectors.old.links }
     ensures stands { (x : Storage) (told : Option (List (List ℕ))) (plan : Plan) (s : Session) (m : Member) (t : Task) (ending : Ending) → IsInOrderButPlaces s
         → SessionStands x cpu.old plan s → StorageStands areas.old sectors.old told cpu.old.core x → IsSingle s m t → slot ≡ slot_of plan m.setting.number t.number
         → HasEnded told plan s m t ending cpu.new areas.new sectors.new }
