@@ -11,6 +11,7 @@ use Rattle.b67_layout.specs.Plan.{Plan}
 use Rattle.b67_layout.specs.Session.{IsRunning}
 use Rattle.b67_exec.specs.Operators.{called_in}
 use Rattle.b67_order_weaker.specs.Weaker.{AllOtherNumbers}
+use Rattle.b67_bring.specs.Bringing.{StandsOver}
 use Rattle.b67_task.specs.declared.tables.Machine.{Machine}
 use Rattle.b67_task.specs.Tables.{MachineStands}
 use Rattle.b67_intrinsics.specs.Called.{IsCalled, IsCut}
@@ -28,7 +29,7 @@ pub record RunsOver (k : Machine) (told : Option (List (List ℕ))) : Type 0 whe
   pub member : Member
   pub task : Task
   pub ordered : IsInOrderButPlaces session
-  pub stands : MachineStands storage told k plan session
+  pub stands : StandsOver storage told k plan session
   pub running : IsRunning plan session.jobs member task
 
 -- the machine stands for the session, in some storage

@@ -7,6 +7,7 @@ use Rattle.b67_model.specs.State.{Task, Member}
 use Rattle.b67_model.specs.Lines.{run_text}
 use Rattle.b67_model.specs.Run.{RunLine, Moment, next, after, lines}
 use Rattle.b67_model.specs.Schedule.{Session}
+use Rattle.b67_storage.specs.Machine.{Says}
 use Rattle.b67_layout.specs.Rows as rows
 use Rattle.b67_single.proofs.Runs.{Came, came-more}
 use Rattle.b67_task.specs.declared.tables.TaskRow.{TaskRow}
@@ -22,18 +23,18 @@ use Rattle.b67_session.specs.Steps.{Steps}
 use Rattle.b67_session.proofs.Lone.{has_member, has_task}
 use Rattle.b67_session.proofs.Texts.{run_text-append}
 
-pub record Going {K : Type 0} (taken : K → Option (List ℕ)) (exact : Type 0) (told : Option (List (List ℕ))) (steps : ℕ) (first : Session) (old now : Machine) (paper paper' : K) : Type 0 where
+pub record Going {K : Type 0} (taken : K → Option (List ℕ)) (exact : Type 0) (known : Option (List (List ℕ))) (steps : ℕ) (first : Session) (old now : Machine) (paper paper' : K) : Type 0 where
   pub session : Session
   pub member : Member
   pub task : Task
   pub printed : List RunLine
   pub leads : exact → Leads first steps session printed
   pub made : now.tasks.made ≡ old.tasks.made + steps
-  pub lone : IsLone told now session member task
+  pub lone : IsLone known now session member task
   pub took : Took taken paper paper' (run_text printed)
 
-pub going-begins : {K : Type 0} (taken : K → Option (List ℕ)) (exact : Type 0) (told : Option (List (List ℕ))) (s : Session) (m : Member) (t : Task) (now : Machine) (paper : K) → IsLone told now s m t → Going taken exact told 0 s now now paper paper
-going-begins taken exact told s m t now paper lone = record {
+pub going-begins : {K : Type 0} (taken : K → Option (List ℕ)) (exact : Type 0) (known : Option (List (List ℕ))) (s : Session) (m : Member) (t : Task) (now : Machine) (paper : K) → IsLone known now s m t → Going taken exact known 0 s now now paper paper
+going-begins taken exact known s m t now paper lone = record {
   session = s;
   member = m;
   task = t;
@@ -45,8 +46,8 @@ going-begins taken exact told s m t now paper lone = record {
 }
 
 -- a machine that stands for such a session has a row
-pub some_row : (told : Option (List (List ℕ))) (now : Machine) (s : Session) (m : Member) (t : Task) → IsLone told now s m t → now.tasks.rows.items ≡ [] → ⊥
-some_row told now s m t lone none =
+pub some_row : (known : Option (List (List ℕ))) (now : Machine) (s : Session) (m : Member) (t : Task) → IsLone known now s m t → now.tasks.rows.items ≡ [] → ⊥
+some_row known now s m t lone none =
     let (row, among, shows) = lone.stands.tables.each m t (has_member s m t lone.single) (has_task s m t lone.single) in
     subst (λ (rs : List TaskRow). Has (map task_row rs) row) none among
 
@@ -58,32 +59,32 @@ one_more first steps s s' printed moment leads same is =
     record { session = more.session; printed_are = more.lines_are }
 
 -- the step that wasn't made, after steps that were
-stop_meets : {K : Type 0} (taken : K → Option (List ℕ)) (told : Option (List (List ℕ))) (exact sure : Type 0) (core count n steps : ℕ) (s : Session) (printed : List RunLine) (stop : Stop) (new : Machine) (paper paper' paper'' : K)
-    → (exact → sure) → Took taken paper paper' (run_text printed) → SliceMeets taken told sure core count 0 0 s [] (Err stop) new paper' paper'' → SliceMeets taken told exact core count n steps s printed (Err stop) new paper paper''
-stop_meets taken told exact sure core count n steps s printed (stops.NoCore words size) new paper paper' paper'' up took m = (m.0, m.1, m.2, Took-kept took m.3)
-stop_meets taken told exact sure core count n steps s printed (stops.BackingFull sum size) new paper paper' paper'' up took m = (m.0, m.1, m.2, m.3, Took-kept took m.4)
-stop_meets taken told exact sure core count n steps s printed stops.BackingFault new paper paper' paper'' up took m = (m.0, Took-kept took m.1)
-stop_meets taken told exact sure core count n steps s printed stops.PrintFault new paper paper' paper'' up took m =
+stop_meets : {K : Type 0} (taken : K → Option (List ℕ)) (known : Option (List (List ℕ))) (exact sure : Type 0) (core count n steps : ℕ) (s : Session) (printed : List RunLine) (stop : Stop) (new : Machine) (paper paper' paper'' : K)
+    → (exact → sure) → Took taken paper paper' (run_text printed) → SliceMeets taken known sure core count 0 0 s [] (Err stop) new paper' paper'' → SliceMeets taken known exact core count n steps s printed (Err stop) new paper paper''
+stop_meets taken known exact sure core count n steps s printed (stops.NoCore words size) new paper paper' paper'' up took m = (m.0, m.1, m.2, Took-kept took m.3)
+stop_meets taken known exact sure core count n steps s printed (stops.BackingFull sum size) new paper paper' paper'' up took m = (m.0, m.1, m.2, m.3, Took-kept took m.4)
+stop_meets taken known exact sure core count n steps s printed stops.BackingFault new paper paper' paper'' up took m = (m.0, Took-kept took m.1)
+stop_meets taken known exact sure core count n steps s printed stops.PrintFault new paper paper' paper'' up took m =
     let (between, moment, is, none, part) = m in (between, moment, λ e. is (up e), Took-kept took none, part)
-stop_meets taken told exact sure core count n steps s printed stops.Unbuilt new paper paper' paper'' up took m = (m.0, Took-kept took m.1)
+stop_meets taken known exact sure core count n steps s printed stops.Unbuilt new paper paper' paper'' up took m = (m.0, Took-kept took m.1)
 
-module _ {K : Type 0} (taken : K → Option (List ℕ)) (exact : Type 0) (told : Option (List (List ℕ))) (count n steps : ℕ) (first : Session) (old now : Machine) (paper paper' : K) (g : Going taken exact told steps first old now paper paper') where
-  pub going-lives : LivesOn told now
-  going-lives = record { session = g.session; member = g.member; task = g.task; lone = g.lone }
+module _ {K : Type 0} (taken : K → Option (List ℕ)) (exact : Type 0) (known : Option (List (List ℕ))) (count n steps : ℕ) (first : Session) (old now : Machine) (paper paper' : K) (g : Going taken exact known steps first old now paper paper') where
+  pub going-lives : (told : Option (List (List ℕ))) → Says known told → LivesOn told now
+  going-lives told says = record { known = known; says = says; session = g.session; member = g.member; task = g.task; lone = g.lone }
 
   -- it goes no further
-  pub going-halted : steps ≤ n → now.tasks.halt ≡ Some now.tasks.made → Slices taken told exact count n first (Ok progress.Halted) old now paper paper'
+  pub going-halted : steps ≤ n → now.tasks.halt ≡ Some now.tasks.made → Slices taken known exact count n first (Ok progress.Halted) old now paper paper'
   going-halted few halt = record { steps = steps; few = few; session = g.session; printed = g.printed; leads = g.leads; made = g.made; meets = (halt, (g.member, g.task, g.lone), g.took) }
 
-  pub going-more : steps ≡ n → now.tasks.halt ≢ Some now.tasks.made → Slices taken told exact count n first (Ok progress.More) old now paper paper'
+  pub going-more : steps ≡ n → now.tasks.halt ≢ Some now.tasks.made → Slices taken known exact count n first (Ok progress.More) old now paper paper'
   going-more all halt = record { steps = steps; few = omega (arith, all); session = g.session; printed = g.printed; leads = g.leads; made = g.made; meets = (all, halt, (g.member, g.task, g.lone), g.took) }
 
   pub going-ended : {A : Type 0} → now.tasks.rows.items ≡ [] → A
-  going-ended none = absurd (some_row told now g.session g.member g.task g.lone none)
+  going-ended none = absurd (some_row known now g.session g.member g.task g.lone none)
 
   -- one step more was tried
-  module _ (told' : Option (List (List ℕ))) (up : exact → told ≢ None) (new : Machine) (paper'' : K) where
-    pub going-steps : Steps taken told' (told ≢ None) count g.session (Ok ends.GoesOn) now new paper' paper'' → Going taken exact told' (steps + 1) first old new paper paper''
+  module _ (known' : Option (List (List ℕ))) (up : exact → known ≢ None) (new : Machine) (paper'' : K) where
+    pub going-steps : Steps taken known' (known ≢ None) count g.session (Ok ends.GoesOn) now new paper' paper'' → Going taken exact known' (steps + 1) first old new paper paper''
     going-steps s =
         let (moment, is, (m, t, lone), took) = s.meets in record {
           session = moment.session;
@@ -96,7 +97,7 @@ module _ {K : Type 0} (taken : K → Option (List ℕ)) (exact : Type 0) (told :
           took = subst (Took taken paper paper'') (sym (run_text-append g.printed moment.lines)) (Took-then g.took took);
         }
 
-    pub going-over : steps + 1 ≤ n → Steps taken told' (told ≢ None) count g.session (Ok ends.Over) now new paper' paper'' → Slices taken told' exact count n first (Ok progress.Ended) old new paper paper''
+    pub going-over : steps + 1 ≤ n → Steps taken known' (known ≢ None) count g.session (Ok ends.Over) now new paper' paper'' → Slices taken known' exact count n first (Ok progress.Ended) old new paper paper''
     going-over few s =
         let (moment, is, took) = s.meets in record {
           steps = steps + 1;
@@ -108,7 +109,7 @@ module _ {K : Type 0} (taken : K → Option (List ℕ)) (exact : Type 0) (told :
           meets = (λ tells. (is (up tells)).1, subst (Took taken paper paper'') (sym (run_text-append g.printed moment.lines)) (Took-then g.took took));
         }
 
-    pub going-stops : (stop : Stop) → steps ≤ n → length now.cpu.core ≡ length old.cpu.core → Steps taken told' (told ≢ None) count g.session (Err stop) now new paper' paper'' → Slices taken told' exact count n first (Err stop) old new paper paper''
+    pub going-stops : (stop : Stop) → steps ≤ n → length now.cpu.core ≡ length old.cpu.core → Steps taken known' (known ≢ None) count g.session (Err stop) now new paper' paper'' → Slices taken known' exact count n first (Err stop) old new paper paper''
     going-stops stop few len s = record {
       steps = steps;
       few = few;
@@ -116,6 +117,6 @@ module _ {K : Type 0} (taken : K → Option (List ℕ)) (exact : Type 0) (told :
       printed = g.printed;
       leads = λ tells. subst (λ (z : Session). Leads first steps z g.printed) (sym (s.same (up tells))) (g.leads tells);
       made = omega (arith, s.made, g.made);
-      meets = stop_meets taken told' exact (told ≢ None) (length old.cpu.core) count n steps s.session g.printed stop new paper paper' paper'' up g.took
-          (subst (λ (size : ℕ). SliceMeets taken told' (told ≢ None) size count 0 0 s.session [] (Err stop) new paper' paper'') len s.meets);
+      meets = stop_meets taken known' exact (known ≢ None) (length old.cpu.core) count n steps s.session g.printed stop new paper paper' paper'' up g.took
+          (subst (λ (size : ℕ). SliceMeets taken known' (known ≢ None) size count 0 0 s.session [] (Err stop) new paper' paper'') len s.meets);
     }

@@ -1,7 +1,7 @@
--- A slice that pauses, and a device that still tells.
+-- A slice that pauses, and what is still known of the sectors.
 use Rattle.std.proofs.Common.{◌≡◌, ◌≢◌, ℕ, ◌+◌, ◌≤◌, List, length, Option, Some, None, Result, Ok, refl, sym, ap, ◌∙◌, subst}
 use Rattle.std.proofs.lemmas.Option.{none-some}
-use Rattle.b67_storage.specs.Machine.{Served}
+use Rattle.b67_storage.specs.Machine.{Says, Served, retold}
 use Rattle.b67_storage.proofs.Devices.{still_tells}
 use Rattle.b67_model.specs.Schedule.{Session}
 use Rattle.b67_task.specs.declared.tables.Machine.{Machine}
@@ -10,16 +10,32 @@ use Rattle.b67_session.specs.declared.slices.Progress.TheVariants as progress
 use Rattle.b67_session.specs.Slices.{Pauses, Slices}
 use Rattle.b67_session.proofs.Going.{Going, going-halted, going-ended}
 
--- a device that told its sectors tells them still
-pub still_told : {D : Type 0} (holds : D → Option (List (List ℕ))) (size calls faults : D → ℕ) (d e : D) → Served holds size calls faults d e → holds d ≢ None → holds e ≢ None
-still_told holds size calls faults d e served tells = by (holds d) refl tells
-  where
-    by : (o : Option (List (List ℕ))) → holds d ≡ o → o ≢ None → holds e ≢ None
-    by None is some = absurd (some refl)
-    by (Some all) is some = λ none. let (y, now) = still_tells holds size calls faults d e served all is in absurd (none-some y (sym none ∙ now))
+says_self : (told : Option (List (List ℕ))) → Says told told
+says_self None = tt
+says_self (Some all) = refl
 
-pub pause_slices : {K : Type 0} (taken : K → Option (List ℕ)) (exact : Type 0) (told : Option (List (List ℕ))) (count n steps : ℕ) (first : Session) (old now : Machine) (paper paper' : K) → Going taken exact told steps first old now paper paper'
-    → steps ≤ n → (p : Progress) → Pauses now.tasks (Some p) → Slices taken told exact count n first (Ok p) old now paper paper'
-pause_slices taken exact told count n steps first old now paper paper' g few progress.Ended h = going-ended taken exact told count n steps first old now paper paper' g h
-pause_slices taken exact told count n steps first old now paper paper' g few progress.Halted h = going-halted taken exact told count n steps first old now paper paper' g few h
-pause_slices taken exact told count n steps first old now paper paper' g few progress.More h = absurd h
+-- what is known later is what the device then tells, if anything
+pub says_retold : (known told : Option (List (List ℕ))) → Says (retold known told) told
+says_retold None told = tt
+says_retold (Some all) told = says_self told
+
+-- where something was known, the device tells its sectors still
+pub still_told : {D : Type 0} (holds : D → Option (List (List ℕ))) (size calls faults : D → ℕ) (d e : D) (known : Option (List (List ℕ))) → Says known (holds d) → Served holds size calls faults d e → known ≢ None → holds e ≢ None
+still_told holds size calls faults d e None says served some = absurd (some refl)
+still_told holds size calls faults d e (Some all) says served some = λ none.
+    let (y, now) = still_tells holds size calls faults d e served all says in absurd (none-some y (sym none ∙ now))
+
+pub known_still : (known told : Option (List (List ℕ))) → (known ≢ None → told ≢ None) → known ≢ None → retold known told ≢ None
+known_still None told tells some = absurd (some refl)
+known_still (Some all) told tells some = tells some
+
+pub retold_twice : (known told told' : Option (List (List ℕ))) → (known ≢ None → told ≢ None) → retold (retold known told) told' ≡ retold known told'
+retold_twice None told told' tells = refl
+retold_twice (Some all) None told' tells = absurd (tells (λ e. absurd (none-some all (sym e))) refl)
+retold_twice (Some all) (Some other) told' tells = refl
+
+pub pause_slices : {K : Type 0} (taken : K → Option (List ℕ)) (exact : Type 0) (known : Option (List (List ℕ))) (count n steps : ℕ) (first : Session) (old now : Machine) (paper paper' : K) → Going taken exact known steps first old now paper paper'
+    → steps ≤ n → (p : Progress) → Pauses now.tasks (Some p) → Slices taken known exact count n first (Ok p) old now paper paper'
+pause_slices taken exact known count n steps first old now paper paper' g few progress.Ended h = going-ended taken exact known count n steps first old now paper paper' g h
+pause_slices taken exact known count n steps first old now paper paper' g few progress.Halted h = going-halted taken exact known count n steps first old now paper paper' g few h
+pause_slices taken exact known count n steps first old now paper paper' g few progress.More h = absurd h

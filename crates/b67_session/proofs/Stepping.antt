@@ -56,11 +56,11 @@ TookPart-as {taken = taken} {a = a} {b = b} e t = subst (TookPart taken a b) e t
 Took-same : {K : Type 0} (taken : K → Option (List ℕ)) (now new : K) → new ≡ now → Took taken now new []
 Took-same taken now new e = subst (λ z. Took taken now z []) (sym e) (Took-none taken now)
 
-module _ {K : Type 0} (taken : K → Option (List ℕ)) (told told' : Option (List (List ℕ))) (core count : ℕ) (s : Session) (c : Chosen) where
+module _ {K : Type 0} (taken : K → Option (List ℕ)) (known known' : Option (List (List ℕ))) (core count : ℕ) (s : Session) (c : Chosen) where
   module _ (k : Machine) (paper paper' : K) where
     -- the step that was made
-    module _ (h : Attempted taken told told' core count s c (Ok attempts.Made) k paper paper') where
-      abbrev called : IsCalled taken paper paper' told' h.session h.member h.task k
+    module _ (h : Attempted taken known known' core count s c (Ok attempts.Made) k paper paper') where
+      abbrev called : IsCalled taken paper paper' known' h.session h.member h.task k
       called = h.meets
 
       pub made_room : HasRoom k.tasks c
@@ -89,7 +89,7 @@ module _ {K : Type 0} (taken : K → Option (List ℕ)) (told told' : Option (Li
             (counted.shows called.plan h.session h.member j h.ordered.numbered (found_by h.session h.member h.task h.single (choice_of c) h.choice h.job h.number) f.made
             (subst (λ (z : Job). TasksShow called.plan (with_job h.session h.member z) k.tasks) (sym f.job) called.stands.tables))
 
-        lone : IsLone told' after goes_on.moment.session (member_after h.member called.job) goes_on.task
+        lone : IsLone known' after goes_on.moment.session (member_after h.member called.job) goes_on.task
         lone = record {
           storage = called.storage;
           plan = called.plan;
@@ -102,7 +102,7 @@ module _ {K : Type 0} (taken : K → Option (List ℕ)) (told told' : Option (Li
           };
         }
 
-        made_meets : (paper'' : K) → paper'' ≡ paper' → StepMeets taken told' (told ≢ None) core count h.session (Ok ends.GoesOn) after paper paper''
+        made_meets : (paper'' : K) → paper'' ≡ paper' → StepMeets taken known' (known ≢ None) core count h.session (Ok ends.GoesOn) after paper paper''
         made_meets paper'' e = (
           goes_on.moment,
           goes_on.is,
@@ -120,12 +120,12 @@ module _ {K : Type 0} (taken : K → Option (List ℕ)) (told told' : Option (Li
       limit_text last = with_ending h.member h.task c Limit called.printed h.job h.number ∙ ap run_text (sym (is_over last).lines)
 
       pub made_steps : (answered : Result StepEnd Stop) (old : Machine) (tasks : Tasks) (paper'' : K) → old.tasks.made ≡ s.made → length old.cpu.core ≡ core
-          → Advances taken c answered k.tasks tasks paper' paper'' → Steps taken told' (told ≢ None) count s answered old (record k { tasks = tasks }) paper paper''
+          → Advances taken c answered k.tasks tasks paper' paper'' → Steps taken known' (known ≢ None) count s answered old (record k { tasks = tasks }) paper paper''
       made_steps (Ok ends.GoesOn) old tasks paper'' om size a = record {
         session = h.session;
         same = h.same;
         made = omega (arith, om, made_count, a.1.made);
-        meets = subst (λ (n : ℕ). StepMeets taken told' (told ≢ None) n count h.session (Ok ends.GoesOn) (record k { tasks = tasks }) paper paper'') (sym size) (made_meets tasks a.1 a.0 paper'' a.2);
+        meets = subst (λ (n : ℕ). StepMeets taken known' (known ≢ None) n count h.session (Ok ends.GoesOn) (record k { tasks = tasks }) paper paper'') (sym size) (made_meets tasks a.1 a.0 paper'' a.2);
       }
       made_steps (Ok ends.Over) old tasks paper'' om size a =
           let o = is_over a.0 in record {
@@ -147,8 +147,8 @@ module _ {K : Type 0} (taken : K → Option (List ℕ)) (told told' : Option (Li
       made_steps (Err stops.Unbuilt) old tasks paper'' om size a = absurd a.1
 
     -- the step that ends the task by itself
-    module _ (ending : Ending) (h : Attempted taken told told' core count s c (Ok (attempts.Ends ending)) k paper paper') where
-      abbrev still : StillStands told' k h.plan h.session
+    module _ (ending : Ending) (h : Attempted taken known known' core count s c (Ok (attempts.Ends ending)) k paper paper') where
+      abbrev still : StillStands known' k h.plan h.session
       still = h.meets.1
 
       abbrev shown : TasksShow h.plan h.session k.tasks
@@ -171,7 +171,7 @@ module _ {K : Type 0} (taken : K → Option (List ℕ)) (told told' : Option (Li
       ends_moment : Moment
       ends_moment = record { session = (unwrap_or (next h.session) (record { session = h.session; lines = [] })).session; lines = task_lines h.member h.task (Ends ending ∷ []) }
 
-      ends_next : told ≢ None → (next h.session ≡ Some ends_moment) × (live_tasks ends_moment.session.jobs ≡ 0)
+      ends_next : known ≢ None → (next h.session ≡ Some ends_moment) × (live_tasks ends_moment.session.jobs ≡ 0)
       unfolding ends_moment
       ends_next tells =
           let o = over_by ending (h.meets.0 tells) in
@@ -185,7 +185,7 @@ module _ {K : Type 0} (taken : K → Option (List ℕ)) (told told' : Option (Li
       ends_text = ending_is h.member h.task c ending h.job h.number
 
       pub ends_steps : (answered : Result StepEnd Stop) (old : Machine) (tasks : Tasks) (paper'' : K) → old.tasks.made ≡ s.made → length old.cpu.core ≡ core
-          → Closes taken c ending answered k.tasks tasks paper' paper'' → Steps taken told' (told ≢ None) count s answered old (record k { tasks = tasks }) paper paper''
+          → Closes taken c ending answered k.tasks tasks paper' paper'' → Steps taken known' (known ≢ None) count s answered old (record k { tasks = tasks }) paper paper''
       ends_steps (Ok ends.Over) old tasks paper'' om size a = record {
         session = h.session;
         same = h.same;
@@ -205,17 +205,17 @@ module _ {K : Type 0} (taken : K → Option (List ℕ)) (told told' : Option (Li
       ends_steps (Err stops.Unbuilt) old tasks paper'' om size a = absurd a
 
     -- the step that wasn't made
-    still_lone : (answered : Result Attempt Stop) (h : Attempted taken told told' core count s c answered k paper paper') → StillStands told' k h.plan h.session → IsLone told' k h.session h.member h.task
+    still_lone : (answered : Result Attempt Stop) (h : Attempted taken known known' core count s c answered k paper paper') → StillStands known' k h.plan h.session → IsLone known' k h.session h.member h.task
     still_lone answered h still = record { storage = still.0; plan = h.plan; ordered = h.ordered; single = h.single; stands = still.1 }
 
-    still_made : (answered : Result Attempt Stop) (h : Attempted taken told told' core count s c answered k paper paper') (old : Machine) → old.tasks.made ≡ s.made → StillStands told' k h.plan h.session → k.tasks.made ≡ old.tasks.made + 0
+    still_made : (answered : Result Attempt Stop) (h : Attempted taken known known' core count s c answered k paper paper') (old : Machine) → old.tasks.made ≡ s.made → StillStands known' k h.plan h.session → k.tasks.made ≡ old.tasks.made + 0
     still_made answered h old om still = omega (arith, om, still.1.tables.counts.made, h.same_made)
 
-    pub stop_steps : (stop : Stop) (h : Attempted taken told told' core count s c (Err stop) k paper paper') (old : Machine) → old.tasks.made ≡ s.made → length old.cpu.core ≡ core
-        → Steps taken told' (told ≢ None) count s (Err stop) old k paper paper'
+    pub stop_steps : (stop : Stop) (h : Attempted taken known known' core count s c (Err stop) k paper paper') (old : Machine) → old.tasks.made ≡ s.made → length old.cpu.core ≡ core
+        → Steps taken known' (known ≢ None) count s (Err stop) old k paper paper'
     stop_steps (stops.NoCore words size') h old om size =
         let (is, of, small, still, printed) = h.meets in
-        let P : ℕ → Type 0 = λ n. StepMeets taken told' (told ≢ None) n count h.session (Err (stops.NoCore words size')) k paper paper' in
+        let P : ℕ → Type 0 = λ n. StepMeets taken known' (known ≢ None) n count h.session (Err (stops.NoCore words size')) k paper paper' in
         record {
           session = h.session;
           same = h.same;

@@ -6,6 +6,8 @@ use Rattle.b67_model.specs.State.{Task, Member}
 use Rattle.b67_model.specs.Schedule.{Session, choice}
 use Rattle.b67_model.specs.InOrder.{IsInOrderButPlaces}
 use Rattle.b67_stack.specs.Stands.{Storage}
+use Rattle.b67_storage.specs.Machine.{Says, retold}
+use Rattle.b67_bring.specs.Bringing.{StandsOver}
 use Rattle.b67_layout.specs.Plan.{Plan}
 use Rattle.b67_layout.specs.Rows as rows
 use Rattle.b67_layout.specs.Rows.{RunningRow}
@@ -39,19 +41,19 @@ runs_already x told k plan s r h at =
     subst (λ (p : Plan). MachineStands x told k p s) is h
 
 -- the machine stands for the session with the chosen task running
-pub record Turned (told : Option (List (List ℕ))) (k : Machine) (s : Session) (m : Member) (t : Task) (c : Chosen) : Type 0 where
+pub record Turned (known : Option (List (List ℕ))) (k : Machine) (s : Session) (m : Member) (t : Task) (c : Chosen) : Type 0 where
   pub storage : Storage
   pub plan : Plan
   pub ordered : IsInOrderButPlaces s
   pub single : IsSingle s m t
-  pub stands : MachineStands storage told k plan s
+  pub stands : MachineStands storage known k plan s
   pub running : IsRunning plan s.jobs m t
   pub choice : choice s ≡ Some (choice_of c)
   pub job : c.job ≡ m.setting.number
   pub number : c.number ≡ t.number
   pub turn : c.turn + 1 < 2 ^ 32
 
-module _ (told : Option (List (List ℕ))) (k : Machine) (s : Session) (m : Member) (t : Task) (h : IsLone told k s m t) where
+module _ (known : Option (List (List ℕ))) (k : Machine) (s : Session) (m : Member) (t : Task) (h : IsLone known k s m t) where
   -- a task is chosen
   pub chooses_one : Chooses k.tasks.rows.items None (choice s) → ⊥
   chooses_one none = some_ready s m t h.single (none_ready s none)
@@ -61,18 +63,18 @@ module _ (told : Option (List (List ℕ))) (k : Machine) (s : Session) (m : Memb
     the_row = chose h.plan s m t h.single k.tasks h.stands.tables c chooses.0
 
     pub has_row : HasRow k c.row
-    has_row = record { storage = h.storage; told = told; plan = h.plan; session = s; ordered = h.ordered; stands = h.stands; inside = slice_get_within k.tasks.rows.items c.row the_row.row the_row.at }
+    has_row = record { storage = h.storage; told = known; plan = h.plan; session = s; ordered = h.ordered; stands = h.stands; inside = slice_get_within k.tasks.rows.items c.row the_row.row the_row.at }
 
     pub turned : (new : Machine)
-        → ((x : Storage) (told : Option (List (List ℕ))) (plan : Plan) (s : Session) (r : TaskRow) → IsInOrderButPlaces s → MachineStands x told k plan s → slice_get k.tasks.rows.items c.row ≡ Some r → MachineStands x told new (with_running plan r.slot) s)
-        → HasRoom k.tasks c → Turned told new s m t c
+        → ((x : Storage) (known : Option (List (List ℕ))) (plan : Plan) (s : Session) (r : TaskRow) → IsInOrderButPlaces s → MachineStands x known k plan s → slice_get k.tasks.rows.items c.row ≡ Some r → MachineStands x known new (with_running plan r.slot) s)
+        → HasRoom k.tasks c → Turned known new s m t c
     turned new stands room =
         let r = the_row in record {
           storage = h.storage;
           plan = with_running h.plan r.row.slot;
           ordered = h.ordered;
           single = h.single;
-          stands = stands h.storage told h.plan s r.row h.ordered h.stands r.at;
+          stands = stands h.storage known h.plan s r.row h.ordered h.stands r.at;
           running = runs_then h.plan s m t h.single r.row.slot r.slot;
           choice = chooses.1;
           job = r.job;
@@ -80,13 +82,20 @@ module _ (told : Option (List (List ℕ))) (k : Machine) (s : Session) (m : Memb
           turn = room.turn;
         }
 
-pub runs_over : (told : Option (List (List ℕ))) (k : Machine) (s : Session) (m : Member) (t : Task) (c : Chosen) → Turned told k s m t c → RunsOver k told
-runs_over told k s m t c h = record { storage = h.storage; plan = h.plan; session = s; member = m; task = t; ordered = h.ordered; stands = h.stands; running = h.running }
+-- what is known is what the storage says
+pub over : (x : Storage) (known told : Option (List (List ℕ))) (k : Machine) (plan : Plan) (s : Session) → Says known told → MachineStands x known k plan s → StandsOver x told k plan s
+over x known told k plan s says h = record {
+  says = subst (λ (d : Option (List (List ℕ))). Says d told) h.storage.device says;
+  stands = subst (λ (d : Option (List (List ℕ))). MachineStands x d k plan s) h.storage.device h;
+}
 
--- what the attempt answered, for the session or over a device that tells nothing for one with other numbers
-pub record Attempted {K : Type 0} (taken : K → Option (List ℕ)) (told told' : Option (List (List ℕ))) (core count : ℕ) (s : Session) (c : Chosen) (answered : Result Attempt Stop) (k : Machine) (paper paper' : K) : Type 0 where
+pub runs_over : (known told : Option (List (List ℕ))) → Says known told → (k : Machine) (s : Session) (m : Member) (t : Task) (c : Chosen) → Turned known k s m t c → RunsOver k told
+runs_over known told says k s m t c h = record { storage = h.storage; plan = h.plan; session = s; member = m; task = t; ordered = h.ordered; stands = over h.storage known told k h.plan s says h.stands; running = h.running }
+
+-- what the attempt answered, for the session or where nothing is known of the sectors for one with other numbers
+pub record Attempted {K : Type 0} (taken : K → Option (List ℕ)) (known known' : Option (List (List ℕ))) (core count : ℕ) (s : Session) (c : Chosen) (answered : Result Attempt Stop) (k : Machine) (paper paper' : K) : Type 0 where
   pub session : Session
-  pub same : told ≢ None → session ≡ s
+  pub same : known ≢ None → session ≡ s
   pub same_made : session.made ≡ s.made
   pub member : Member
   pub task : Task
@@ -97,12 +106,12 @@ pub record Attempted {K : Type 0} (taken : K → Option (List ℕ)) (told told' 
   pub job : c.job ≡ member.setting.number
   pub number : c.number ≡ task.number
   pub turn : c.turn + 1 < 2 ^ 32
-  pub meets : AttemptMeets taken told' (told ≢ None) core count plan session member task answered k paper paper'
+  pub meets : AttemptMeets taken known' (known ≢ None) core count plan session member task answered k paper paper'
 
-pub attempted : {K : Type 0} (taken : K → Option (List ℕ)) (told told' : Option (List (List ℕ))) (core count : ℕ) (s : Session) (m : Member) (t : Task) (c : Chosen) (answered : Result Attempt Stop) (old new : Machine) (paper paper' : K)
-    → (h : Turned told old s m t c) → Attempts taken h.storage told' core count h.plan s t answered new paper paper' → Attempted taken told told' core count s c answered new paper paper'
-attempted taken told told' core count s m t c answered old new paper paper' h a =
-    let device : told ≡ h.storage.device = h.stands.storage.device in
+pub attempted : {K : Type 0} (taken : K → Option (List ℕ)) (known told' : Option (List (List ℕ))) (core count : ℕ) (s : Session) (m : Member) (t : Task) (c : Chosen) (answered : Result Attempt Stop) (old new : Machine) (paper paper' : K)
+    → (h : Turned known old s m t c) → Attempts taken h.storage (retold h.storage.device told') core count h.plan s t answered new paper paper' → Attempted taken known (retold known told') core count s c answered new paper paper'
+attempted taken known told' core count s m t c answered old new paper paper' h a =
+    let device : known ≡ h.storage.device = h.stands.storage.device in
     let session : Session = record s { jobs = a.jobs } in
     let o = other h.plan s m a.member t a.jobs h.single a.others a.running in
     record {
@@ -118,5 +127,5 @@ attempted taken told told' core count s m t c answered old new paper paper' h a 
       job = h.job ∙ sym o.number;
       number = h.number;
       turn = h.turn;
-      meets = subst (λ (d : Option (List (List ℕ))). AttemptMeets taken told' (d ≢ None) core count h.plan session a.member t answered new paper paper') (sym device) a.meets;
+      meets = subst (λ (d : Option (List (List ℕ))). AttemptMeets taken (retold d told') (d ≢ None) core count h.plan session a.member t answered new paper paper') (sym device) a.meets;
     }

@@ -54,24 +54,24 @@ Advances taken c (Ok ends.GoesOn) old new paper paper' = IsLast c old false × I
 Advances taken c (Ok ends.Over) old new paper paper' = IsLast c old true × Closes taken c Limit (Ok ends.Over) old new paper paper'
 Advances taken c (Err stop) old new paper paper' = IsLast c old true × Closes taken c Limit (Err stop) old new paper paper'
 
--- how a step ended that set out from a session, over a core of so many words and a device of so many sectors. One that
--- wasn't made ends as a slice of no steps. `exact` is whether the device tells what its sectors hold
+-- how a step ended that set out from a session, over a core of so many words and a device of so many sectors, of which this
+-- is known. One that wasn't made ends as a slice of no steps. `exact` is whether anything was known of them at the start
 abbrev pub StepMeets : {K : Type 0} → (K → Option (List ℕ)) → Option (List (List ℕ)) → Type 0 → ℕ → ℕ → Session → Result StepEnd Stop → Machine → K → K → Type 0
-StepMeets taken told exact core count s (Ok ends.GoesOn) new paper paper' =
-    (moment : Moment) × (next s ≡ Some moment) × ((m : Member) × (t : Task) × IsLone told new moment.session m t) × Took taken paper paper' (run_text moment.lines)
-StepMeets taken told exact core count s (Ok ends.Over) new paper paper' =
+StepMeets taken known exact core count s (Ok ends.GoesOn) new paper paper' =
+    (moment : Moment) × (next s ≡ Some moment) × ((m : Member) × (t : Task) × IsLone known new moment.session m t) × Took taken paper paper' (run_text moment.lines)
+StepMeets taken known exact core count s (Ok ends.Over) new paper paper' =
     (moment : Moment) × (exact → (next s ≡ Some moment) × (live_tasks moment.session.jobs ≡ 0)) × Took taken paper paper' (run_text moment.lines)
-StepMeets taken told exact core count s (Err stop) new paper paper' = SliceMeets taken told exact core count 0 0 s [] (Err stop) new paper paper'
+StepMeets taken known exact core count s (Err stop) new paper paper' = SliceMeets taken known exact core count 0 0 s [] (Err stop) new paper paper'
 
 -- how many steps were made
 abbrev pub steps_of : Result StepEnd Stop → ℕ
 steps_of (Ok end) = 1
 steps_of (Err stop) = 0
 
--- Where the device tells what its sectors hold, the step is that of the session. Where it tells nothing, it is that of a
--- session with some other code and some other numbers.
-pub record Steps {K : Type 0} (taken : K → Option (List ℕ)) (told : Option (List (List ℕ))) (exact : Type 0) (count : ℕ) (s : Session) (answered : Result StepEnd Stop) (old new : Machine) (paper paper' : K) : Type 0 where
+-- Where it is known what the device's sectors hold, the step is that of the session. Where nothing is known, it is that of
+-- a session with some other code and some other numbers.
+pub record Steps {K : Type 0} (taken : K → Option (List ℕ)) (known : Option (List (List ℕ))) (exact : Type 0) (count : ℕ) (s : Session) (answered : Result StepEnd Stop) (old new : Machine) (paper paper' : K) : Type 0 where
   pub session : Session
   pub same : exact → session ≡ s
   pub made : new.tasks.made ≡ old.tasks.made + steps_of answered
-  pub meets : StepMeets taken told exact (length old.cpu.core) count session answered new paper paper'
+  pub meets : StepMeets taken known exact (length old.cpu.core) count session answered new paper paper'

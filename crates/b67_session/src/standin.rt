@@ -2,14 +2,14 @@
 
 ghost use Rattle.std.specs.Prelude.{◌≡◌, ◌≢◌, ℕ, ◌+◌, ◌≤◌, List, Option, Some, None, Err, length};
 ghost use Rattle.b67_io.specs.Causes.{Rose};
-ghost use Rattle.b67_model.specs.State.{Task, Member};
+ghost use Rattle.b67_model.specs.State.{Ready, Task, Member};
 ghost use Rattle.b67_model.specs.Schedule.{Session};
 ghost use Rattle.b67_model.specs.InOrder.{IsInOrderButPlaces};
 ghost use Rattle.b67_stack.specs.Stands.{Storage};
-ghost use Rattle.b67_storage.specs.Machine.{Served};
+ghost use Rattle.b67_storage.specs.Machine.{Served, retold};
 ghost use Rattle.b67_layout.specs.Plan.{Plan};
 ghost use Rattle.b67_layout.specs.Session.{IsRunning};
-ghost use Rattle.b67_task.specs.Tables.{MachineStands};
+ghost use Rattle.b67_bring.specs.Bringing.{StandsOver};
 ghost use Rattle.b67_intrinsics.specs.Called.{AreCountable};
 ghost use Rattle.b67_intrinsics.specs.declared.ends.Stop.TheVariants.{BackingFault, PrintFault};
 ghost use Rattle.b67_attempt.specs.Attempts.{RunsOver, Attempts};
@@ -29,9 +29,9 @@ pub(crate) fn attempt<B: Backing, K: Sink>(
     requires runs { RunsOver machine.old (B.holds backing.old) }
     requires countable { AreCountable machine.old.tasks.jobs }
     requires same { B.size backing.old + 1 ≡ length machine.old.sectors.links }
-    ensures row { (x : Storage) (plan : Plan) (s : Session) (m : Member) (t : Task) → IsInOrderButPlaces s → MachineStands x (B.holds backing.old) machine.old plan s
-        → IsRunning plan s.jobs m t
-        → Attempts K.taken x (B.holds backing.new) (length machine.old.cpu.core) (B.size backing.old) plan s t result machine.new paper.old paper.new }
+    ensures row { (x : Storage) (plan : Plan) (s : Session) (m : Member) (t : Task) → IsInOrderButPlaces s → StandsOver x (B.holds backing.old) machine.old plan s
+        → IsRunning plan s.jobs m t → t.condition ≡ Ready
+        → Attempts K.taken x (retold x.device (B.holds backing.new)) (length machine.old.cpu.core) (B.size backing.old) plan s t result machine.new paper.old paper.new }
     ensures full_cause { result ≡ Err BackingFault → Rose B.faults backing.old backing.new }
     ensures print_cause { result ≡ Err PrintFault → Rose K.faults paper.old paper.new }
     ensures later { K.faults paper.old ≤ K.faults paper.new }

@@ -4,7 +4,7 @@ ghost use Rattle.std.specs.Prelude.{◌≡◌, ◌≢◌, ℕ, ◌+◌, ◌≤�
 ghost use Rattle.b67_io.specs.Causes.{Rose};
 ghost use Rattle.b67_model.specs.State.{Task, Member};
 ghost use Rattle.b67_model.specs.Schedule.{Session};
-ghost use Rattle.b67_storage.specs.Machine.{Served};
+ghost use Rattle.b67_storage.specs.Machine.{Says, Served, retold};
 ghost use Rattle.b67_intrinsics.specs.Called.{AreCountable};
 ghost use Rattle.b67_intrinsics.specs.declared.ends.Stop.TheVariants.{BackingFault, PrintFault};
 ghost use Rattle.b67_session.specs.Slices.{LivesOn, IsLone};
@@ -30,8 +30,8 @@ pub(crate) fn step<B: Backing, K: Sink>(
     requires lives { LivesOn (B.holds backing.old) machine.old }
     requires countable { AreCountable machine.old.tasks.jobs }
     requires same { B.size backing.old + 1 ≡ length machine.old.sectors.links }
-    ensures row { (s : Session) (m : Member) (t : Task) → IsLone (B.holds backing.old) machine.old s m t
-        → Steps K.taken (B.holds backing.new) (B.holds backing.old ≢ None) (B.size backing.old) s result machine.old machine.new paper.old paper.new }
+    ensures row { (known : Option (List (List ℕ))) (s : Session) (m : Member) (t : Task) → Says known (B.holds backing.old) → IsLone known machine.old s m t
+        → Steps K.taken (retold known (B.holds backing.new)) (known ≢ None) (B.size backing.old) s result machine.old machine.new paper.old paper.new }
     ensures backing_cause { result ≡ Err BackingFault → Rose B.faults backing.old backing.new }
     ensures print_cause { result ≡ Err PrintFault → Rose K.faults paper.old paper.new }
     ensures later { K.faults paper.old ≤ K.faults paper.new }

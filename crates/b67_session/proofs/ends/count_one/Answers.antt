@@ -1,8 +1,4 @@
 use Rattle.std.proofs.Common.{◌-◌}
-use Rattle.b67_session.proofs.Lone.{chose}
-use Rattle.b67_session.proofs.Moments.{moment_is}
-use Rattle.b67_session.proofs.Turned.{attempted}
-use Rattle.b67_session.proofs.Texts.{ending_is}
 use Rattle.b67_session.proofs.Rooms.{countable_counted}
 use Rattle.b67_session.proofs.ends.count_one.Goals as goal
 

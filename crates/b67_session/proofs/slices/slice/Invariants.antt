@@ -1,7 +1,7 @@
-use Rattle.std.proofs.Common.{◌≡◌, ◌≢◌, ◌≤◌, None, length}
+use Rattle.std.proofs.Common.{◌≡◌, ◌≢◌, ◌≤◌, ℕ, List, Option, None, length}
 use Rattle.b67_model.specs.State.{Task, Member}
 use Rattle.b67_model.specs.Schedule.{Session}
-use Rattle.b67_storage.specs.Machine.{Served}
+use Rattle.b67_storage.specs.Machine.{Says, Served, retold}
 use Rattle.b67_intrinsics.specs.Called.{AreCountable}
 use Rattle.b67_session.specs.Slices.{IsLone}
 use Rattle.b67_session.proofs.Going.{Going}
@@ -15,6 +15,6 @@ invariant-step g l = record {
   len : length l.machine.cpu.core ≡ length l.initial.machine.cpu.core;
   count : length l.machine.sectors.links ≡ length l.initial.machine.sectors.links;
   halt : l.machine.tasks.halt ≡ l.initial.machine.tasks.halt;
-  going : (s : Session) (m : Member) (t : Task) → IsLone (g.B.Backing.holds l.initial.backing) l.initial.machine s m t
-      → Going g.K.Sink.taken (g.B.Backing.holds l.initial.backing ≢ None) (g.B.Backing.holds l.backing) l._made s l.initial.machine l.machine l.initial.paper l.paper;
+  going : (known : Option (List (List ℕ))) (s : Session) (m : Member) (t : Task) → Says known (g.B.Backing.holds l.initial.backing) → IsLone known l.initial.machine s m t
+      → Going g.K.Sink.taken (known ≢ None) (retold known (g.B.Backing.holds l.backing)) l._made s l.initial.machine l.machine l.initial.paper l.paper;
 }

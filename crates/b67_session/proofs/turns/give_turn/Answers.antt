@@ -1,9 +1,6 @@
-use Rattle.std.proofs.Common.{◌≡◌, ℕ, length, Some, sym, ap, ◌∙◌, subst}
+use Rattle.std.proofs.Common.{sym, ap, ◌∙◌}
 use Rattle.std.specs.List.{slice_get}
 use Rattle.b67_area.specs.declared.Areas.{Areas}
-use Rattle.b67_layout.specs.Plan.{Plan}
-use Rattle.b67_switch.specs.Turns.{with_running}
-use Rattle.b67_task.specs.Tables.{MachineStands}
 use Rattle.b67_session.proofs.Turned.{runs_already}
 use Rattle.b67_turn.proofs.Lists.{there}
 use Rattle.b67_session.proofs.turns.give_turn.Goals as goal
