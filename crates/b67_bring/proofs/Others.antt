@@ -5,23 +5,23 @@ use Rattle.std.specs.List.{AllByRecursion, slice_get}
 use Rattle.std.proofs.lemmas.Bool.{cases_Bool}
 use Rattle.std.proofs.lemmas.List.Sums.{sum_by-cons}
 use Rattle.b67_model.specs.Lists.{Has}
-use Rattle.b67_model.specs.State.{Array, Segment, Setting, Course, Condition, Ready, Awaits, WaitsAt, Task, Job, Member}
+use Rattle.b67_model.specs.State.{Array, Segment, Condition, Ready, Awaits, WaitsAt, Task, Member}
 use Rattle.b67_model.specs.Keyed.{keyed}
 use Rattle.b67_model.specs.Need.{fixed}
 use Rattle.b67_model.specs.Rows.{code_of}
 use Rattle.b67_model.specs.Run.{live_tasks, number_of}
 use Rattle.b67_model.specs.Schedule.{Session}
 use Rattle.b67_model.specs.Sectors.{sectors_for, sectors_of, sectors}
-use Rattle.b67_model.specs.InOrder.{IsSegment, SegmentInOrder, ArrayInOrder, JobInOrder, IsInOrderButPlaces, frames_of_task}
-use Rattle.b67_order_weaker.specs.Weaker.{Renumbers, Recoded, RefilledArray, Refilled, OtherNumbers, AllOtherNumbers}
+use Rattle.b67_model.specs.InOrder.{IsSegment, SegmentInOrder, ArrayInOrder, JobInOrder, IsInOrderButPlaces}
+use Rattle.b67_order_weaker.specs.Weaker.{Renumbers, Recoded, Refilled, OtherNumbers, AllOtherNumbers}
 use Rattle.b67_stack.specs.Stacks.{Spot}
-use Rattle.b67_layout.specs.Plan.{Plan, slot_of, spot_in, base_spot, spots, address_of}
-use Rattle.b67_layout.specs.Rows.{RowState, WaitsAtCell, TaskRow, JobRow, Counts, shown, critical_disp, TaskShows, JobShows, JobsShow, CountsShow, TablesShow}
+use Rattle.b67_layout.specs.Plan.{Plan, slot_of, spot_in, address_of}
+use Rattle.b67_layout.specs.Rows.{WaitsAtCell, TaskRow, JobRow, shown, critical_disp, TaskShows, JobShows, JobsShow}
 use Rattle.b67_layout.specs.Session.{IsRunning}
 use Rattle.b67_needs.specs.Needing.{array_area, need_with}
 use Rattle.b67_step.proofs.Alike.{Alike, AllAlike, outer_same}
 use Rattle.b67_task.specs.declared.tables.Tasks.{Tasks}
-use Rattle.b67_task.specs.Tables.{task_row, job_row, counts_of, TasksShow}
+use Rattle.b67_task.specs.Tables.{job_row, TasksShow}
 
 -- a session in order has the same numbers as itself
 recoded_same : (xs : List Segment) → AllByRecursion SegmentInOrder xs → Recoded xs xs

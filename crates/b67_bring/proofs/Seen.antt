@@ -1,5 +1,5 @@
 -- The session that a picture shows after things were read: with other numbers where the device tells nothing.
-use Rattle.std.proofs.Common.{◌≡◌, ◌≢◌, ℕ, ◌+◌, ◌<◌, ◌^◌, ◌==◌, List, [], ◌∷◌, length, map, Option, Some, None, refl, sym, ◌∙◌, ap, true, false, subst, inl, inr, ◌⊎◌, ⊎_elim}
+use Rattle.std.proofs.Common.{◌≡◌, ◌≢◌, ℕ, ◌+◌, ◌==◌, List, [], ◌∷◌, length, map, Option, Some, None, refl, sym, ◌∙◌, ap, true, false, subst, inl, inr, ◌⊎◌, ⊎_elim}
 use Rattle.std.specs.Prelude.{if◌then◌else◌, flat_map}
 use Rattle.std.specs.List.{AllByRecursion}
 use Rattle.std.proofs.lemmas.Bool.{cases_Bool, eqb-true}
@@ -11,7 +11,7 @@ use Rattle.b67_model.specs.Lists.{Has}
 use Rattle.b67_model.specs.State.{Array, Segment, Member}
 use Rattle.b67_model.specs.Schedule.{Session}
 use Rattle.b67_model.specs.InOrder.{IsSegment, SegmentInOrder, ArrayInOrder, JobInOrder, IsInOrderButPlaces}
-use Rattle.b67_order.proofs.Members.{has_append_left, has_append_right, has_append_cases, has_map_back, all_in}
+use Rattle.b67_order.proofs.Members.{has_append_left, has_append_right, has_append_cases, has_map_back}
 use Rattle.b67_order_weaker.specs.Weaker.{Renumbers, Recoded, RefilledArray, Refilled, AllOtherNumbers}
 use Rattle.b67_order_weaker.proofs.Sessions.{other_numbers_keep_order}
 use Rattle.b67_stack.specs.Picture.{Thing, Picture, Settled}
