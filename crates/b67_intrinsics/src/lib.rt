@@ -2,5 +2,7 @@
 #![tactic(auto)]
 
 mod ends;
+mod print;
+mod running;
 
 pub use ends::{CallEnd, Stop};
