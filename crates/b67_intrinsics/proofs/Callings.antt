@@ -99,7 +99,7 @@ reads_of k n q =
     let c = calling q.member q.task n q.called in
     record { storage = q.storage; told = q.told; plan = q.plan; session = q.session; member = q.member; task = q.task; ordered = q.ordered; stands = q.stands; running = q.running; code = q.code; next = c.next; behind = (Plain Entr, c.reading) }
 
-pub call_some : (k : Machine) (n : ℕ) → CallsSome k n → CallSome k.cpu
+abbrev pub call_some : (k : Machine) (n : ℕ) → CallsSome k n → CallSome k.cpu
 call_some k n q =
     let c = calling q.member q.task n q.called in
     record {

@@ -4,3 +4,6 @@ pub mod Rows
 pub mod Cut
 pub mod Callings
 pub mod Texts
+pub mod Sizes
+pub mod Numbers
+pub mod Answered
