@@ -7,3 +7,5 @@ pub mod Texts
 pub mod Sizes
 pub mod Numbers
 pub mod Answered
+pub mod Low
+pub mod Quiet

@@ -17,6 +17,8 @@ use Rattle.b67_calls.specs.Reads.{ReadMeets}
 use Rattle.b67_task.specs.declared.tables.JobRow.{JobRow}
 use Rattle.b67_task.specs.declared.tables.Machine.{Machine}
 use Rattle.b67_task.specs.Tables.{job_row, MachineStands}
+use Rattle.b67_intrinsics.specs.declared.ends.CallEnd.{CallEnd}
+use Rattle.b67_intrinsics.specs.declared.ends.CallEnd.TheVariants as ends
 
 -- the call was made, and the machine stands for what its row makes
 pub record IsAnswered (told : Option (List (List ℕ))) (s : Session) (m : Member) (t : Task) (new : Machine) : Type 0 where
@@ -36,3 +38,8 @@ pub record Takes (cpu : Cpu) (rows rows' : List JobRow) (at : ℕ) (row : JobRow
   pub new : JobRow
   pub is : rows' ≡ slice_set rows at new
   pub takes : ForEach cpu (λ x plan s m t. (reference : Word) (arguments : List Word) → IsCall t reference arguments → JobShows plan m (job_row row) → ReadMeets plan m t arguments row new answer)
+
+-- the end of such a call
+abbrev pub end_of : Result (Unit {0}) Fault → CallEnd
+end_of (Ok done) = ends.Done
+end_of (Err fault) = ends.Fault fault
