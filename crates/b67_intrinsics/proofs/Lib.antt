@@ -9,3 +9,4 @@ pub mod Numbers
 pub mod Answered
 pub mod Low
 pub mod Quiet
+pub mod Touched
