@@ -90,7 +90,7 @@ over x known told k plan s says h = record {
 }
 
 pub runs_over : (known told : Option (List (List ℕ))) → Says known told → (k : Machine) (s : Session) (m : Member) (t : Task) (c : Chosen) → Turned known k s m t c → RunsOver k told
-runs_over known told says k s m t c h = record { storage = h.storage; plan = h.plan; session = s; member = m; task = t; ordered = h.ordered; stands = over h.storage known told k h.plan s says h.stands; running = h.running }
+runs_over known told says k s m t c h = record { storage = h.storage; plan = h.plan; session = s; member = m; task = t; ordered = h.ordered; stands = over h.storage known told k h.plan s says h.stands; running = h.running; ready = h.single.ready }
 
 -- what the attempt answered, for the session or where nothing is known of the sectors for one with other numbers
 pub record Attempted {K : Type 0} (taken : K → Option (List ℕ)) (known known' : Option (List (List ℕ))) (core count : ℕ) (s : Session) (c : Chosen) (answered : Result Attempt Stop) (k : Machine) (paper paper' : K) : Type 0 where

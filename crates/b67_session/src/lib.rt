@@ -3,7 +3,6 @@
 
 mod ends;
 mod slices;
-mod standin;
 mod steps;
 mod turns;
 

@@ -11,9 +11,8 @@ ghost use Rattle.b67_session.specs.Slices.{LivesOn, IsLone};
 ghost use Rattle.b67_session.specs.Steps.{Steps};
 
 use crate::ends::{StepEnd, advance, close};
-use crate::standin::attempt;
 use crate::turns::give_turn;
-use b67_attempt::Attempt;
+use b67_attempt::{Attempt, attempt};
 use b67_backing::Backing;
 use b67_intrinsics::Stop;
 use b67_io::Sink;
