@@ -1,21 +1,19 @@
 -- A slice that has made so many steps, and how it ends.
-use Rattle.std.proofs.Common.{◌≡◌, ◌≢◌, ℕ, ◌+◌, ◌<◌, ◌≤◌, List, [], ◌∷◌, ◌++◌, length, map, Option, Some, None, Result, Ok, Err, refl, sym, ap, ◌∙◌, subst, arith}
-use Rattle.b67_io.specs.Told.{Took, TookPart}
+use Rattle.std.proofs.Common.{◌≡◌, ◌≢◌, ℕ, ◌+◌, ◌≤◌, List, [], ◌++◌, length, map, Option, Some, None, Ok, Err, refl, sym, ap, ◌∙◌, subst, arith}
+use Rattle.b67_io.specs.Told.{Took}
 use Rattle.b67_io.proofs.Joined.{Took-none, Took-then, Took-kept}
 use Rattle.b67_model.specs.Lists.{Has}
 use Rattle.b67_model.specs.State.{Task, Member}
 use Rattle.b67_model.specs.Lines.{run_text}
-use Rattle.b67_model.specs.Run.{RunLine, Moment, next, after, lines}
+use Rattle.b67_model.specs.Run.{RunLine, Moment, next}
 use Rattle.b67_model.specs.Schedule.{Session}
 use Rattle.b67_storage.specs.Machine.{Says}
-use Rattle.b67_layout.specs.Rows as rows
 use Rattle.b67_single.proofs.Runs.{Came, came-more}
 use Rattle.b67_task.specs.declared.tables.TaskRow.{TaskRow}
 use Rattle.b67_task.specs.declared.tables.Machine.{Machine}
 use Rattle.b67_task.specs.Tables.{task_row}
 use Rattle.b67_intrinsics.specs.declared.ends.Stop.{Stop}
 use Rattle.b67_intrinsics.specs.declared.ends.Stop.TheVariants as stops
-use Rattle.b67_session.specs.declared.ends.StepEnd.{StepEnd}
 use Rattle.b67_session.specs.declared.ends.StepEnd.TheVariants as ends
 use Rattle.b67_session.specs.declared.slices.Progress.TheVariants as progress
 use Rattle.b67_session.specs.Slices.{IsLone, LivesOn, Leads, SliceMeets, Slices}

@@ -1,11 +1,9 @@
 -- A session of one job with one ready task: what there is of it, and which task is chosen.
-use Rattle.std.proofs.Common.{◌≡◌, ◌≢◌, ℕ, ◌+◌, ◌<◌, ◌^◌, List, [], ◌∷◌, ◌++◌, map, reverse, Option, Some, None, Ok, Err, refl, sym, ap, ◌∙◌, subst, arith, ⊎_elim, inl, inr, true, false}
+use Rattle.std.proofs.Common.{◌≡◌, ℕ, ◌<◌, List, [], ◌∷◌, ◌++◌, map, reverse, Option, Some, Ok, Err, refl, sym, ap, ◌∙◌, subst, ⊎_elim, inl, inr, true, false}
 use Rattle.std.specs.Prelude.{◌==◌, filter}
 use Rattle.std.specs.List.{slice_get}
 use Rattle.std.proofs.lemmas.Bool.{cases_Bool, eq-eqb}
 use Rattle.std.proofs.lemmas.Option.{same_Some, none-some}
-use Rattle.b67_model.specs.declared.operators.Op.{Op}
-use Rattle.b67_word.specs.declared.couples.Place.{Place}
 use Rattle.b67_model.specs.Lists.{Has}
 use Rattle.b67_model.specs.Endings.{is_ready}
 use Rattle.b67_model.specs.State.{Condition, Task, Job, Member, Here}
@@ -16,12 +14,11 @@ use Rattle.b67_model.specs.Rows.{reading_of, step, step_by}
 use Rattle.b67_model.specs.Run.{number_of}
 use Rattle.b67_model.specs.Schedule.{Who, Session, ready_of, ready, choice}
 use Rattle.b67_layout.specs.Plan.{Plan, slot_of}
-use Rattle.b67_layout.specs.Rows as rows
 use Rattle.b67_layout.specs.Rows.{TaskShows}
 use Rattle.b67_layout.specs.Session.{IsRunning}
 use Rattle.b67_layout.specs.Meets.{here}
 use Rattle.b67_order_weaker.specs.Weaker.{OtherNumbers, AllOtherNumbers}
-use Rattle.b67_profiles.specs.Profiles.{Profile, profiles, called, IsKnown}
+use Rattle.b67_profiles.specs.Profiles.{Profile, profiles, IsKnown}
 use Rattle.b67_exec.specs.Operators.{called_by}
 use Rattle.b67_switch.specs.Turns.{with_running}
 use Rattle.b67_single.specs.Single.{IsSingle}
@@ -30,7 +27,7 @@ use Rattle.b67_task.specs.declared.tables.Tasks.{Tasks}
 use Rattle.b67_task.specs.Tables.{task_row, TasksShow}
 use Rattle.b67_schedule.specs.declared.counting.Chosen.{Chosen}
 use Rattle.b67_schedule.specs.Counted.{choice_of}
-use Rattle.b67_schedule.specs.Chosen.{IsReadyAt, Chooses}
+use Rattle.b67_schedule.specs.Chosen.{IsReadyAt}
 use Rattle.b67_turn.proofs.Lists.{at_has, at_mapped}
 use Rattle.b67_intrinsics.specs.Called.{CallsBuilt}
 use Rattle.b67_session.proofs.Built.{built_keep}

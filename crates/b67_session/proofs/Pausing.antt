@@ -1,5 +1,5 @@
 -- A slice that pauses, and what is still known of the sectors.
-use Rattle.std.proofs.Common.{◌≡◌, ◌≢◌, ℕ, ◌+◌, ◌≤◌, List, length, Option, Some, None, Result, Ok, refl, sym, ap, ◌∙◌, subst}
+use Rattle.std.proofs.Common.{◌≡◌, ◌≢◌, ℕ, ◌≤◌, List, Option, Some, None, Ok, refl, sym, ◌∙◌}
 use Rattle.std.proofs.lemmas.Option.{none-some}
 use Rattle.b67_storage.specs.Machine.{Says, Served, retold}
 use Rattle.b67_storage.proofs.Devices.{still_tells}

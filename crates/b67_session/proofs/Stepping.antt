@@ -1,5 +1,5 @@
 -- The step by what the attempt at its operator answered.
-use Rattle.std.proofs.Common.{◌≡◌, ◌≢◌, ℕ, ◌+◌, ◌<◌, ◌^◌, Bool, true, false, List, [], ◌∷◌, ◌++◌, length, Option, Some, None, Result, Ok, Err, refl, sym, ap, ◌∙◌, subst, arith, append-nil}
+use Rattle.std.proofs.Common.{◌≡◌, ◌≢◌, ℕ, ◌+◌, Bool, true, false, List, [], ◌∷◌, ◌++◌, length, Option, Some, None, Result, Ok, Err, sym, ap, ◌∙◌, subst, arith}
 use Rattle.std.specs.Prelude.{◌==◌, unwrap_or}
 use Rattle.std.proofs.lemmas.List.Sums.{sum_by-cons}
 use Rattle.b67_word.specs.declared.faults.Ending.{Ending}
@@ -7,25 +7,21 @@ use Rattle.b67_word.specs.declared.faults.Ending.TheVariants.{Ended, Parent, Dea
 use Rattle.b67_io.specs.Told.{Took, TookPart}
 use Rattle.b67_io.proofs.Joined.{Took-none, Took-then, TookPart-then}
 use Rattle.b67_model.specs.State.{Task, Job, Member}
-use Rattle.b67_model.specs.Steps.{Line, Ends, Goes}
-use Rattle.b67_model.specs.Rows.{step}
+use Rattle.b67_model.specs.Steps.{Ends}
 use Rattle.b67_model.specs.Lines.{run_text}
 use Rattle.b67_model.specs.Run.{RunLine, Moment, next, live_tasks}
 use Rattle.b67_model.specs.Schedule.{Session}
-use Rattle.b67_model.specs.InOrder.{IsInOrderButPlaces}
 use Rattle.b67_runs.proofs.Sessions.{sessions_stay_in_order_but_places}
-use Rattle.b67_stack.specs.Stands.{Storage}
-use Rattle.b67_layout.specs.Plan.{Plan}
 use Rattle.b67_layout.specs.Meets.{with_job}
-use Rattle.b67_single.specs.Single.{IsSingle, GoesOn, IsOver, member_after, task_lines}
+use Rattle.b67_single.specs.Single.{GoesOn, IsOver, member_after, task_lines}
 use Rattle.b67_single.proofs.Nexts.{goes, reaches_limit, leaves, faults}
 use Rattle.b67_step.proofs.Stepped.{stands_after}
 use Rattle.b67_task.specs.declared.tables.Tasks.{Tasks}
 use Rattle.b67_task.specs.declared.tables.Machine.{Machine}
-use Rattle.b67_task.specs.Tables.{TasksShow, MachineStands}
+use Rattle.b67_task.specs.Tables.{TasksShow}
 use Rattle.b67_schedule.specs.declared.counting.Chosen.{Chosen}
 use Rattle.b67_schedule.specs.Counted.{choice_of, HasRoom}
-use Rattle.b67_intrinsics.specs.Called.{IsCalled, IsCut}
+use Rattle.b67_intrinsics.specs.Called.{IsCalled}
 use Rattle.b67_intrinsics.specs.declared.ends.Stop.{Stop}
 use Rattle.b67_intrinsics.specs.declared.ends.Stop.TheVariants as stops
 use Rattle.b67_attempt.specs.declared.attempts.Attempt.{Attempt}
@@ -35,7 +31,7 @@ use Rattle.b67_attempt.specs.Attempts.{StillStands}
 use Rattle.b67_session.specs.declared.ends.StepEnd.{StepEnd}
 use Rattle.b67_session.specs.declared.ends.StepEnd.TheVariants as ends
 use Rattle.b67_session.specs.Slices.{IsLone}
-use Rattle.b67_session.specs.Steps.{IsCounted, IsLast, Closes, Advances, StepMeets, Steps, steps_of, ending_text}
+use Rattle.b67_session.specs.Steps.{IsCounted, IsLast, Closes, Advances, StepMeets, Steps, ending_text}
 use Rattle.b67_session.proofs.Lone.{kept}
 use Rattle.b67_session.proofs.Moments.{jm, found_by, follows, lines_begin}
 use Rattle.b67_session.proofs.Rooms.{counts_as, counts_with, room_after, last_is}

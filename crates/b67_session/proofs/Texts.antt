@@ -1,12 +1,11 @@
 -- The texts of a step's lines.
-use Rattle.std.proofs.Common.{◌≡◌, ℕ, ◌+◌, ◌<◌, List, [], ◌∷◌, ◌++◌, length, map, refl, sym, ap, ◌∙◌, subst, arith, append_assoc, append-nil, length-append}
+use Rattle.std.proofs.Common.{◌≡◌, ℕ, List, [], ◌∷◌, ◌++◌, map, sym, ap, ◌∙◌, subst, arith, append-nil, length-append}
 use Rattle.std.specs.Prelude.{codes, Option}
 use Rattle.std.proofs.lemmas.List.{map-append, take-append-le}
 use Rattle.std.proofs.lemmas.Grind.{flat_map-append}
 use Rattle.b67_word.specs.declared.faults.Ending.{Ending}
 use Rattle.b67_io.specs.Line.{ended}
 use Rattle.b67_io.specs.Told.{Took, TookPart}
-use Rattle.b67_io.proofs.Joined.{Took-then, TookPart-then}
 use Rattle.b67_model.specs.State.{Task, Member}
 use Rattle.b67_model.specs.Steps.{Line, Ends}
 use Rattle.b67_model.specs.Lines.{run_text, task_name, ending_name}

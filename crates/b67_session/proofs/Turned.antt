@@ -1,5 +1,5 @@
 -- The chosen task is the running one, and what the attempt at its operator then answers.
-use Rattle.std.proofs.Common.{◌≡◌, ◌≢◌, ℕ, ◌+◌, ◌<◌, ◌^◌, List, [], ◌∷◌, length, map, Option, Some, None, Result, Ok, Err, refl, sym, ap, ◌∙◌, subst, arith}
+use Rattle.std.proofs.Common.{◌≡◌, ◌≢◌, ℕ, ◌+◌, ◌<◌, ◌^◌, List, map, Option, Some, None, Result, refl, sym, ap, ◌∙◌, subst}
 use Rattle.std.specs.List.{slice_get}
 use Rattle.std.proofs.lemmas.Option.{slice_get_within}
 use Rattle.b67_model.specs.State.{Task, Member}
@@ -12,7 +12,6 @@ use Rattle.b67_layout.specs.Plan.{Plan}
 use Rattle.b67_layout.specs.Rows as rows
 use Rattle.b67_layout.specs.Rows.{RunningRow}
 use Rattle.b67_layout.specs.Session.{IsRunning}
-use Rattle.b67_order_weaker.specs.Weaker.{AllOtherNumbers}
 use Rattle.b67_order_weaker.proofs.Sessions.{other_numbers_keep_order}
 use Rattle.b67_switch.specs.Turns.{with_running}
 use Rattle.b67_task.specs.declared.tables.TaskRow.{TaskRow}
@@ -28,7 +27,7 @@ use Rattle.b67_intrinsics.specs.declared.ends.Stop.{Stop}
 use Rattle.b67_attempt.specs.declared.attempts.Attempt.{Attempt}
 use Rattle.b67_attempt.specs.Attempts.{RunsOver, AttemptMeets, Attempts}
 use Rattle.b67_single.specs.Single.{IsSingle}
-use Rattle.b67_session.specs.Slices.{IsLone, LivesOn}
+use Rattle.b67_session.specs.Slices.{IsLone}
 use Rattle.b67_session.proofs.Lone.{Chose, chose, runs_then, other, some_ready}
 
 -- the running row's task is running already

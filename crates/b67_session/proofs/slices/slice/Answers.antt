@@ -1,10 +1,10 @@
-use Rattle.std.proofs.Common.{◌≡◌, ◌≢◌, ℕ, ◌+◌, ◌≤◌, length, List, Option, Some, None, Ok, Err, refl, sym, ap, ◌∙◌, subst, arith}
+use Rattle.std.proofs.Common.{◌≢◌, ℕ, List, Option, None, Ok, Err, refl, sym, ◌∙◌, subst, arith}
 use Rattle.b67_storage.specs.Machine.{retold}
 use Rattle.b67_overlay.proofs.Chains.{retold-same}
-use Rattle.b67_storage.proofs.Devices.{Served-none, Served-then, still_tells}
+use Rattle.b67_storage.proofs.Devices.{Served-none, Served-then}
 use Rattle.b67_session.specs.declared.ends.StepEnd.TheVariants as ends
 use Rattle.b67_session.specs.Steps.{Steps}
-use Rattle.b67_session.proofs.Going.{Going, going-begins, going-lives, going-halted, going-more, going-ended, going-steps, going-over, going-stops}
+use Rattle.b67_session.proofs.Going.{Going, going-begins, going-lives, going-more, going-steps, going-over, going-stops}
 use Rattle.b67_session.proofs.Pausing.{says_retold, still_told, known_still, retold_twice, pause_slices}
 use Rattle.b67_session.proofs.slices.slice.Goals as goal
 

@@ -1,15 +1,9 @@
-use Rattle.std.proofs.Common.{◌≡◌, ◌≢◌, ℕ, length, Option, Some, None, Ok, Err, refl, sym, ap, ◌∙◌, subst}
-use Rattle.b67_model.specs.State.{Task, Member}
-use Rattle.b67_model.specs.Schedule.{Session, choice}
+use Rattle.std.proofs.Common.{length, Ok, Err, sym, subst}
 use Rattle.b67_storage.specs.Machine.{retold}
 use Rattle.b67_task.specs.declared.tables.Tasks.{Tasks}
-use Rattle.b67_schedule.specs.declared.counting.Chosen.{Chosen}
-use Rattle.b67_schedule.specs.Counted.{choice_of, HasRoom}
-use Rattle.b67_schedule.specs.Chosen.{Chooses}
 use Rattle.b67_intrinsics.specs.Called.{AreCountable}
 use Rattle.b67_attempt.specs.declared.attempts.Attempt.TheVariants as attempts
-use Rattle.b67_session.specs.Slices.{IsLone}
-use Rattle.b67_session.proofs.Turned.{Turned, Attempted, chooses_one, has_row, turned, over, runs_over, attempted}
+use Rattle.b67_session.proofs.Turned.{Attempted, chooses_one, has_row, turned, over, runs_over, attempted}
 use Rattle.b67_session.proofs.Stepping.{made_room, made_steps, ends_room, ends_steps, stop_steps}
 use Rattle.b67_session.proofs.steps.step.Goals as goal
 
