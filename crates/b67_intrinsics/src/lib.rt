@@ -24,8 +24,6 @@ ghost use Rattle.b67_intrinsics.specs.Called.{CallsSome, CallMeets, AreCountable
 ghost use Rattle.b67_intrinsics.specs.Answers.{end_of};
 ghost use Rattle.b67_intrinsics.specs.Running.{ForCalls, IsHeard, Kept};
 
-pub use ends::{CallEnd, Stop};
-
 use crate::declare::declare;
 use crate::print::print;
 use crate::print_row::print_row;
@@ -33,6 +31,7 @@ use crate::read::read;
 use b67_io::Sink;
 use b67_task::Machine;
 use b67_word::Fault;
+pub use ends::{CallEnd, Stop};
 
 /// The end of a call that prints nothing.
 fn silent(done: Result<(), Fault>) -> CallEnd
