@@ -1,0 +1,124 @@
+-- Each sector is free or in a chain, so the free ones and those of all chains are as many as there are.
+use Rattle.std.proofs.Common.{◌≡◌, ◌≢◌, ℕ, zero, suc, ◌+◌, ◌<◌, ◌≤◌, ◌==◌, true, false, List, [], ◌∷◌, length, refl, sym, arith, inl, inr, ⊎_elim, subst}
+use Rattle.std.proofs.lemmas.Bool.{cases_Bool, cases_eq, eq-eqb, ne_eqb}
+use Rattle.b67_backing.specs.Shelf.{Table, Shelf, AreChains, IsShelf, one, times, uses, first, chain_of}
+use Rattle.b67_backing.proofs.Links.{one-same, one-apart, one-other, linked_within}
+use Rattle.b67_model.specs.Lists.{Has, total}
+
+-- a function of the numbers from 1 to n
+abbrev upto : (ℕ → ℕ) → ℕ → ℕ
+upto h zero = 0
+upto h (suc n) = upto h n + h (suc n)
+
+upto-one : (h : ℕ → ℕ) (n : ℕ) → ((i : ℕ) → 1 ≤ i → i ≤ n → h i ≡ 1) → upto h n ≡ n
+upto-one h zero e = refl
+upto-one h (suc n) e = omega (arith, upto-one h n (λ i low high. e i low (omega arith)), e (suc n) (omega arith) (omega arith))
+
+upto-plus : (f g : ℕ → ℕ) (n : ℕ) → upto (λ i. f i + g i) n ≡ upto f n + upto g n
+upto-plus f g zero = refl
+upto-plus f g (suc n) = omega (arith, upto-plus f g n)
+
+upto-none : (n : ℕ) → upto (λ i. 0) n ≡ 0
+upto-none zero = refl
+upto-none (suc n) = omega (arith, upto-none n)
+
+-- a number is at most one of these
+single : (c n : ℕ) → (upto (λ i. one i c) n ≤ 1) × (n < c → upto (λ i. one i c) n ≡ 0)
+single c zero = (omega arith, λ low. refl)
+single c (suc n) =
+    let under = single c n in
+    ⊎_elim
+    (λ (e : suc n ≡ c). let is : one (suc n) c ≡ 1 = subst (λ m. one m c ≡ 1) (sym e) (one-same c) in (omega (arith, under.1 (omega (arith, e)), is), λ low. absurd (omega (arith, low, e))))
+    (λ (ne : suc n ≢ c). let is : one (suc n) c ≡ 0 = one-other (suc n) c ne in (omega (arith, under.0, is), λ low. omega (arith, under.1 (omega (arith, low)), is)))
+    (cases_eq (suc n) c)
+
+times_within : (xs : List ℕ) (n : ℕ) → upto (λ i. times i xs) n ≤ length xs
+times_within [] n = omega (arith, upto-none n)
+times_within (c ∷ cs) n = omega (arith, upto-plus (λ i. one i c) (λ i. times i cs) n, (single c n).0, times_within cs n)
+
+uses_within : (ks : List (List ℕ)) (n : ℕ) → upto (λ i. uses i ks) n ≤ total length ks
+uses_within [] n = omega (arith, upto-none n)
+uses_within (k ∷ ks) n = omega (arith, upto-plus (λ i. times i k) (λ i. uses i ks) n, times_within k n, uses_within ks n)
+
+-- totals that differ by so much at one item
+total_le : {A : Type 0} (f g : A → ℕ) (xs : List A) → ((x : A) → Has xs x → f x ≤ g x) → total f xs ≤ total g xs
+total_le f g [] each = omega arith
+total_le f g (x ∷ xs) each = omega (arith, each x (inl refl), total_le f g xs (λ y k. each y (inr k)))
+
+pub total_gap : {A : Type 0} (f g : A → ℕ) (xs : List A) (x : A) (w : ℕ) → ((y : A) → Has xs y → f y ≤ g y) → Has xs x → f x + w ≤ g x → total f xs + w ≤ total g xs
+total_gap f g [] x w each k e = absurd k
+total_gap f g (y ∷ ys) x w each (inl same) e =
+    let here : f y + w ≤ g y = subst (λ z. f z + w ≤ g z) (sym same) e in
+    omega (arith, here, total_le f g ys (λ z m. each z (inr m)))
+total_gap f g (y ∷ ys) x w each (inr k) e = omega (arith, each y (inl refl), total_gap f g ys x w (λ z m. each z (inr m)) k e)
+
+-- no two chains begin with the same sector
+abbrev Differ : List (List ℕ) → Type 0
+Differ [] = Unit {0}
+Differ (k ∷ ks) = (chain_of (first k) ks ≡ []) × Differ ks
+
+no_chain : (links : List ℕ) (x : ℕ) (ks : List (List ℕ)) → AreChains links ks → uses x ks ≡ 0 → chain_of x ks ≡ []
+no_chain links x [] a e = refl
+no_chain links x ([] ∷ ks) a e = absurd a
+no_chain links x ((c ∷ cs) ∷ ks) a e =
+    let ne : x ≢ c = one-apart x c (omega (arith, e)) in
+    rw (ne_eqb c x (λ s. ne (sym s))) (no_chain links x ks a.1 (omega (arith, e)))
+
+differ : (links : List ℕ) (ks : List (List ℕ)) → AreChains links ks → ((i : ℕ) → i < length links → uses i ks ≤ 1) → Differ ks
+differ links [] a once = tt
+differ links ([] ∷ ks) a once = absurd a
+differ links ((c ∷ cs) ∷ ks) a once = (
+  no_chain links c ks a.1 (omega (arith, once c (linked_within links c cs a.0), one-same c)),
+  differ links ks a.1 (λ i low. omega (arith, once i low)),
+)
+
+starts_with : (links : List ℕ) (ks : List (List ℕ)) (k : List ℕ) → AreChains links ks → Has ks k → 0 < length (chain_of (first k) ks)
+starts_with links [] k a h = absurd h
+starts_with links ([] ∷ ks) k a h = absurd a
+starts_with links ((c ∷ cs) ∷ ks) k a h = ⊎_elim
+    (λ (q : (c == first k) ≡ true). rw q (omega arith))
+    (λ (q : (c == first k) ≡ false). rw q (elim h [
+      | inl e ↦ let here : (c == c) ≡ false = subst (λ (l : List ℕ). (c == first l) ≡ false) (sym e) q in let there : (c == c) ≡ true = eq-eqb c c refl in cc
+      | inr m ↦ starts_with links ks k a.1 m
+    ]))
+    (cases_Bool (c == first k))
+
+-- the sectors of all chains, by a list that names each chain
+lengths : (links : List ℕ) (ks : List (List ℕ)) (fs : List ℕ) → AreChains links ks → Differ ks → ((k : List ℕ) → Has ks k → Has fs (first k)) → total length ks ≤ total (λ f. length (chain_of f ks)) fs
+lengths links [] fs a d named = omega arith
+lengths links ([] ∷ ks) fs a d named = absurd a
+lengths links ((c ∷ cs) ∷ ks) fs a d named =
+    let none : length (chain_of c ks) ≡ 0 = rw d.0 refl in
+    let own : length (chain_of c ((c ∷ cs) ∷ ks)) ≡ length (c ∷ cs) = rw (eq-eqb c c refl) refl in
+    let gap = total_gap (λ f. length (chain_of f ks)) (λ f. length (chain_of f ((c ∷ cs) ∷ ks))) fs c (length (c ∷ cs))
+    (λ f k. ⊎_elim
+    (λ (e : c ≡ f). subst (λ g. length (chain_of g ks) ≤ length (chain_of g ((c ∷ cs) ∷ ks))) e (omega (arith, none)))
+    (λ (ne : c ≢ f). let same : length (chain_of f ((c ∷ cs) ∷ ks)) ≡ length (chain_of f ks) = rw (ne_eqb c f ne) refl in omega (arith, same))
+    (cases_eq c f))
+    (named (c ∷ cs) (inl refl)) (omega (arith, none, own)) in
+    omega (arith, gap, lengths links ks fs a.1 d.1 (λ k m. named k (inr m)))
+
+-- a list that names each chain covers the sectors that aren't free
+pub covers : (t : Table) (st : Shelf) → IsShelf t st → (fs : List ℕ) → ((f : ℕ) → 0 < length (chain_of f st.chains) → Has fs f)
+    → length t.links ≤ length st.free + total (λ f. length (chain_of f st.chains)) fs + 1
+covers t st shelf fs named = by (length t.links) refl where
+  by : (n : ℕ) → length t.links ≡ n → n ≤ length st.free + total (λ f. length (chain_of f st.chains)) fs + 1
+  by zero e = omega arith
+  by (suc n) e =
+      let each : upto (λ i. times i st.free + uses i st.chains) n ≡ n = upto-one (λ i. times i st.free + uses i st.chains) n (λ i low high. shelf.once i low (omega (arith, e, high))) in
+      let once : (i : ℕ) → i < length t.links → uses i st.chains ≤ 1 = λ i low. ⊎_elim
+      (λ (z : i ≡ 0). subst (λ m. uses m st.chains ≤ 1) (sym z) (omega (arith, shelf.zero)))
+      (λ (z : i ≢ 0). omega (arith, shelf.once i (by_some i z) low))
+      (cases_eq i 0) in
+      omega (
+        arith,
+        each,
+        upto-plus (λ i. times i st.free) (λ i. uses i st.chains) n,
+        times_within st.free n,
+        uses_within st.chains n,
+        lengths t.links st.chains fs shelf.chains (differ t.links st.chains shelf.chains once) (λ k h. named (first k) (starts_with t.links st.chains k shelf.chains h)),
+      )
+    where
+      by_some : (i : ℕ) → i ≢ 0 → 1 ≤ i
+      by_some zero z = absurd (z refl)
+      by_some (suc i) z = omega arith

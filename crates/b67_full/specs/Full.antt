@@ -1,0 +1,20 @@
+-- When the sectors of a device are too few for a session.
+use Rattle.std.specs.Prelude.{◌≡◌, ℕ, ◌+◌, ◌<◌, List, length, Option}
+use Rattle.b67_area.specs.declared.Areas.{Areas}
+use Rattle.b67_backing.specs.Shelf.{Table}
+use Rattle.b67_model.specs.Sectors.{sectors}
+use Rattle.b67_model.specs.Schedule.{Session}
+use Rattle.b67_stack.specs.declared.Cpu.{Cpu}
+use Rattle.b67_stack.specs.Stands.{Storage}
+use Rattle.b67_storage.specs.Machine.{MachineStands}
+use Rattle.b67_overlay.specs.Sheds.{IsShortBy}
+use Rattle.b67_layout.specs.Plan.{Plan}
+use Rattle.b67_layout.specs.Layout.{picture}
+
+-- over a machine that stands for a session, and a device of so many sectors: where a present array keeps no chain and needs
+-- more sectors than are free, the session takes more sectors than there are
+abbrev pub ShortIsFull : Type 0
+ShortIsFull =
+    (x : Storage) (cpu : Cpu) (areas : Areas) (table : Table) (told : Option (List (List ℕ))) (plan : Plan) (s : Session) (wants free size : ℕ)
+    → MachineStands x cpu areas table told (picture plan s.jobs) → IsShortBy x (picture plan s.jobs) wants free
+    → size + 1 ≡ length table.links → size < sectors s.jobs

@@ -1,0 +1,10 @@
+//! When the sectors of a device are too few for a session.
+#![tactic(auto)]
+
+ghost use Rattle.b67_full.specs.Full.{ShortIsFull};
+
+/// Where a present array keeps no chain and needs more sectors than are free, the session takes more sectors than the
+/// device has.
+pub fn short_is_full()
+    ensures { ShortIsFull }
+{}

@@ -1,0 +1,164 @@
+-- The array that a word names, a reference leads to, or an end is in.
+use Rattle.std.proofs.Common.{◌≡◌, ℕ, zero, suc, ◌-◌, ltb, List, [], ◌∷◌, flat_map, reverse, length, Option, Some, None, unwrap_or, Ok, Err, refl, subst, inl, inr, ◌⊎◌, ◌==◌}
+use Rattle.std.specs.Option.{ok_or}
+use Rattle.std.proofs.lemmas.Bool.{cases_Bool}
+use Rattle.b67_word.specs.declared.faults.Fault.TheVariants.{InvalidAddress}
+use Rattle.b67_model.specs.Answers.{Answer}
+use Rattle.b67_model.specs.Keyed.{keyed, change_keyed}
+use Rattle.b67_model.specs.Lists.{Has}
+use Rattle.b67_model.specs.Arrays.{array, array_at, array_of, index_below, indexed}
+use Rattle.b67_model.specs.Words as Words
+use Rattle.b67_model.specs.Words.{Word, Operand, Name, Ref, Row, Element, Original, Proc, Intrinsic, operand, number}
+use Rattle.b67_model.specs.State.{Frame, Task, Here, mcp, no_frame, all_frames, frame, top, below_top}
+use Rattle.b67_model.specs.Cells.{first_offset, cell_of, cell, place_of}
+use Rattle.b67_model.specs.Chase.{End, AtCell, AtElement, AtArray, AtProc, AtIntrinsic, Link, Stops, Leads, link_at, link_in, link_from, link, chase_on, chase, follow}
+use Rattle.b67_order.proofs.Members.{has_append_cases, has_get, has_reverse_back, keyed_has, all_in}
+use Rattle.b67_order.proofs.Posts.{Post, post_ok, post_err, post_bind, post_any}
+use Rattle.b67_order.proofs.Chases.{some_ok}
+
+-- an item of joined lists stands in one of them
+pub has_flat_back : (ts : List Task) (f : Frame) → Has (flat_map (λ (t : Task). t.frames) ts) f → (t : Task) × Has ts t × Has t.frames f
+has_flat_back [] f h = absurd h
+has_flat_back (t ∷ ts) f h = elim (has_append_cases t.frames (flat_map (λ (u : Task). u.frames) ts) f h) [
+  | inl m ↦ (t, inl refl, m)
+  | inr m ↦ let r = has_flat_back ts f m in (r.0, inr r.1, r.2)
+]
+
+-- a task put in the place of another
+pub has_put : (n : ℕ) (new : Task) (ts : List Task) (t : Task) → Has (change_keyed (λ (u : Task). u.number) n (λ (u : Task). new) ts) t → (new ≡ t) ⊎ Has ts t
+has_put n new [] t h = absurd h
+has_put n new (u ∷ us) t h = elim (cases_Bool (u.number == n)) [
+  | inl q ↦ elim (rw q at h) [ inl e ↦ inl e | inr m ↦ inr (inr m) ]
+  | inr q ↦ elim (rw q at h) [ inl e ↦ inr (inl e) | inr m ↦ elim (has_put n new us t m) [ inl e ↦ inl e | inr k ↦ inr (inr k) ] ]
+]
+
+cell_has : (f : Frame) (offset : ℕ) (w : Word) → ok_or (cell_of f offset) InvalidAddress ≡ Ok w → Has f.cells w
+cell_has f offset w e =
+    let some : cell_of f offset ≡ Some w = some_ok (cell_of f offset) InvalidAddress w e in
+    elim (cases_Bool (ltb offset (first_offset f))) [
+      | inl t ↦ let no : None ≡ Some w = rw t at some in cc
+      | inr t ↦ has_reverse_back f.cells w (has_get (reverse f.cells) (offset - first_offset f) w (rw t at some))
+    ]
+
+-- a fact of the arrays that words name
+module _ (T : ℕ → Type 0) where
+  abbrev pub Names : Word → Type 0
+  Names (Row a) = T a
+  Names (Element a index) = T a
+  Names (Original a) = T a
+  Names _ = Unit {0}
+
+  abbrev pub AllName : List Word → Type 0
+  AllName words = (w : Word) → Has words w → Names w
+
+  abbrev pub FramesName : List Frame → Type 0
+  FramesName frames = (f : Frame) → Has frames f → AllName f.cells
+
+  -- the words of all frames that the running task could name
+  pub record Holds (h : Here) : Type 0 where
+    pub tasks : (t : Task) → Has h.job.tasks t → FramesName t.frames
+    pub own : FramesName h.task.frames
+    pub dictionary : AllName h.setting.dictionary.cells
+
+  pub below_names : (frames : List Frame) → FramesName frames → FramesName (below_top frames)
+  below_names [] all f k = absurd k
+  below_names (x ∷ below) all f k = all f (inr k)
+
+  pub top_names : (frames : List Frame) → FramesName frames → AllName (top frames).cells
+  top_names [] all w k = absurd k
+  top_names (f ∷ below) all w k = all f (inl refl) w k
+
+  pub tail_names : (w : Word) (words : List Word) → AllName (w ∷ words) → AllName words
+  tail_names w words all v k = all v (inr k)
+
+  mcp_names : AllName mcp.cells
+  mcp_names w k = all_in Names mcp.cells w (tt, (tt, (tt, (tt, (tt, (tt, (tt, (tt, (tt, tt))))))))) k
+
+  frame_names : (h : Here) → Holds h → FramesName (all_frames h)
+  frame_names h s f k = elim (has_append_cases (flat_map (λ (t : Task). t.frames) h.job.tasks) (h.setting.dictionary ∷ mcp ∷ []) f k) [
+    | inl m ↦ let r = has_flat_back h.job.tasks f m in s.tasks r.0 r.1 f r.2
+    | inr m ↦ elim m [
+      | inl e ↦ subst (λ (x : Frame). AllName x.cells) e s.dictionary
+      | inr n ↦ elim n [ inl e ↦ subst (λ (x : Frame). AllName x.cells) e mcp_names | inr x ↦ absurd x ]
+    ]
+  ]
+
+  found_names : (h : Here) → Holds h → (n : ℕ) (o : Option Frame) → keyed (λ (f : Frame). f.identity) n (all_frames h) ≡ o → AllName (unwrap_or o no_frame).cells
+  found_names h s n None e w k = absurd k
+  found_names h s n (Some f) e w k = frame_names h s f (keyed_has (λ (x : Frame). x.identity) n (all_frames h) f e).0 w k
+
+  cell_names : (h : Here) → Holds h → (n offset : ℕ) (w : Word) → cell h n offset ≡ Ok w → Names w
+  cell_names h s n offset w e = found_names h s n (keyed (λ (f : Frame). f.identity) n (all_frames h)) refl w (cell_has (frame h n) offset w e)
+
+  abbrev pub EndNames : End → Type 0
+  EndNames (AtElement a index) = T a
+  EndNames (AtArray a) = T a
+  EndNames _ = Unit {0}
+
+  abbrev LinkNames : Link → Type 0
+  LinkNames (Stops end) = Post EndNames end
+  LinkNames (Leads w) = Unit {0}
+
+  link_word : (f offset : ℕ) (w : Word) → Names w → LinkNames (link_at f offset w)
+  link_word f offset (Operand bits) g = post_ok EndNames _ tt
+  link_word f offset (Name couple) g = tt
+  link_word f offset (Ref identity other) g = tt
+  link_word f offset (Element a index) g = post_ok EndNames (AtElement a index) g
+  link_word f offset (Original a) g = post_ok EndNames (AtArray a) g
+  link_word f offset (Row a) g = post_ok EndNames (AtArray a) g
+  link_word f offset (Proc segment level place) g = post_ok EndNames _ tt
+  link_word f offset (Intrinsic n) g = post_ok EndNames _ tt
+  link_word f offset (Words.Segment n) g = post_err EndNames _
+
+  module _ (h : Here) (s : Holds h) where
+    link_cell : (f offset : ℕ) (a : Answer Word) → cell h f offset ≡ a → LinkNames (link_in f offset a)
+    link_cell f offset (Err fault) e = post_err EndNames fault
+    link_cell f offset (Ok w) e = link_word f offset w (cell_names h s f offset w e)
+
+    link_place : (a : Answer (ℕ × ℕ)) → LinkNames (link_from h a)
+    link_place (Err fault) = post_err EndNames fault
+    link_place (Ok at) = link_cell at.0 at.1 (cell h at.0 at.1) refl
+
+    chase_links : (links : ℕ) (l : Link) → LinkNames l → Post EndNames (chase_on h links l)
+    chase_links links (Stops end) g = g
+    chase_links zero (Leads w) g = post_err EndNames _
+    chase_links (suc links) (Leads w) g = chase_links links (link h w) (link_place (place_of h w))
+
+    pub chase_names : (w : Word) → Post EndNames (chase h w)
+    chase_names w = chase_links 1024 (Leads w) tt
+
+    pub follow_names : (w : Word) → Names w → Post EndNames (follow h w)
+    follow_names (Name couple) g = chase_names (Name couple)
+    follow_names (Ref f offset) g = chase_names (Ref f offset)
+    follow_names (Element a index) g = post_ok EndNames (AtElement a index) g
+    follow_names (Operand bits) g = post_err EndNames _
+    follow_names (Row a) g = post_err EndNames _
+    follow_names (Original a) g = post_err EndNames _
+    follow_names (Proc segment level place) g = post_err EndNames _
+    follow_names (Intrinsic n) g = post_err EndNames _
+    follow_names (Words.Segment n) g = post_err EndNames _
+
+    at_names : (end : End) → EndNames end → Post T (array_at end)
+    at_names (AtArray a) g = post_ok T a g
+    at_names (AtCell f offset bits) g = post_err T _
+    at_names (AtElement a index) g = post_err T _
+    at_names (AtProc f segment level place) g = post_err T _
+    at_names (AtIntrinsic n) g = post_err T _
+
+    array_names : (w : Word) → Names w → Post T (array_of h w)
+    array_names (Row a) g = post_ok T a g
+    array_names (Name couple) g = post_bind EndNames T (chase h (Name couple)) _ (chase_names (Name couple)) at_names
+    array_names (Ref f offset) g = post_bind EndNames T (chase h (Ref f offset)) _ (chase_names (Ref f offset)) at_names
+    array_names (Operand bits) g = post_err T _
+    array_names (Element a index) g = post_err T _
+    array_names (Original a) g = post_err T _
+    array_names (Proc segment level place) g = post_err T _
+    array_names (Intrinsic n) g = post_err T _
+    array_names (Words.Segment n) g = post_err T _
+
+    abbrev pub OfPair : (ℕ × ℕ) → Type 0
+    OfPair at = T at.0
+
+    pub indexed_names : (r i : Word) → Names r → Post OfPair (indexed h r i)
+    indexed_names r i g = post_any OfPair (operand i) _ (λ bits. post_bind T OfPair (array_of h r) _ (array_names r g)
+        (λ a is. post_any OfPair (number bits) _ (λ n. post_any OfPair (index_below (length (array h.job a).numbers) n) _ (λ index. post_ok OfPair (a, index) is))))
