@@ -1,9 +1,8 @@
 -- The core that a step needs, where its code or the array that it touches is wanted.
-use Rattle.std.proofs.Common.{◌≡◌, ◌≢◌, ℕ, ◌+◌, ◌-◌, ◌*◌, ◌^◌, ◌<◌, ◌≤◌, cond, ltb, Bool, true, false, List, length, Option, Some, None, unwrap_or, refl, sym, ◌∙◌, ap, arith, subst}
+use Rattle.std.proofs.Common.{◌≡◌, ◌≢◌, ℕ, ◌+◌, ◌*◌, ◌<◌, ◌≤◌, cond, Bool, List, length, Option, Some, None, unwrap_or, refl, sym, ◌∙◌, ap, arith, subst}
 use Rattle.std.specs.Prelude.{max}
 use Rattle.std.proofs.lemmas.Bool.{lt-ltb, le-ltb}
 use Rattle.b67_area.proofs.Laws.{area_inside}
-use Rattle.b67_model.specs.Lists.{Has}
 use Rattle.b67_model.specs.Keyed.{keyed}
 use Rattle.b67_model.specs.State.{Array, Task, Job, Member}
 use Rattle.b67_model.specs.Arrays.{no_array, array}

@@ -1,8 +1,7 @@
 -- A step that touches an array starts no task.
-use Rattle.std.proofs.Common.{◌≡◌, ℕ, ◌+◌, ◌-◌, eqb, inl, inr, ltb, leb, Bool, true, false, List, [], ◌∷◌, reverse, replicate, length, Option, Some, None, Ok, Err, refl, sym, ◌∙◌, ap, arith, ℤ, pos, negsuc}
+use Rattle.std.proofs.Common.{◌≡◌, ℕ, ◌+◌, eqb, inl, inr, ltb, leb, true, false, List, [], ◌∷◌, reverse, replicate, length, Option, Some, None, Ok, Err, refl, sym, ◌∙◌, ap, arith, ℤ, pos, negsuc}
 use Rattle.std.proofs.lemmas.List.{length-map}
 use Rattle.std.proofs.lemmas.Bool.{cases_Bool}
-use Rattle.b67_word.specs.declared.couples.Place.{Place}
 use Rattle.b67_word.specs.declared.faults.Fault.TheVariants.{StackOverflow}
 use Rattle.b67_model.specs.declared.operators.Op.{Op}
 use Rattle.b67_model.specs.declared.operators.Op.TheVariants.{Plain}
@@ -14,7 +13,7 @@ use Rattle.b67_model.specs.State.{Frame, Array, Standing, Marked, Entered, Task,
 use Rattle.b67_model.specs.Keyed.{keyed}
 use Rattle.b67_model.specs.Arrays.{array}
 use Rattle.b67_model.specs.Chase.{End, AtCell, AtElement, AtArray, AtProc, AtIntrinsic, follow_reference}
-use Rattle.b67_model.specs.Steps.{Line, Values, Done, Goes, Leaves, Waits, top_of, cells_of, result}
+use Rattle.b67_model.specs.Steps.{Line, Done, Goes, Leaves, Waits, top_of, cells_of, result}
 use Rattle.b67_model.specs.Entry.{needs_level, back_to}
 use Rattle.b67_model.specs.Intrinsics.{answered, answers, array_length, arraydec, print, numbers_of, row_copy, printrow, read_from, read, child_of, starts, process, awaits, await, status_of, status, waits_at, wait, causes, cause, intrinsic}
 use Rattle.b67_model.specs.Need.{touched_of, started_by}
@@ -23,7 +22,6 @@ use Rattle.b67_order.proofs.Members.{length_change}
 use Rattle.b67_order.proofs.Posts.{Post, post_ok, post_err, post_any, post_then, post_if, post_more, post_is}
 use Rattle.b67_layout.specs.Plan.{Plan}
 use Rattle.b67_layout.specs.Session.{IsRunning}
-use Rattle.b67_layout.specs.Meets.{here}
 use Rattle.b67_profiles.specs.Profiles.{Profile, profile, profiles, called, IsKnown}
 use Rattle.b67_profiles.proofs.Lemmas.{rows_keep}
 

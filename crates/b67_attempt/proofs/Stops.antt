@@ -1,5 +1,5 @@
 -- Why what a step wants wasn't brought in.
-use Rattle.std.proofs.Common.{◌≡◌, ◌≢◌, ℕ, ◌+◌, ◌<◌, ◌≤◌, List, length, Option, Some, None, refl, sym, ◌∙◌, ap, arith, subst}
+use Rattle.std.proofs.Common.{◌≡◌, ℕ, ◌+◌, ◌<◌, List, length, Option, refl, sym, ◌∙◌, ap, arith, subst}
 use Rattle.b67_model.specs.State.{Task, Member}
 use Rattle.b67_model.specs.Sectors.{sectors}
 use Rattle.b67_model.specs.Need.{need}
@@ -21,7 +21,7 @@ use Rattle.b67_intrinsics.specs.declared.ends.Stop.TheVariants as stops
 use Rattle.b67_bring.specs.Bringing.{StandsOver, IsWanted, StandsAgain}
 use Rattle.b67_bring.proofs.Others.{others_same, others_running, others_sectors}
 use Rattle.b67_attempt.specs.Tries.{IsTouched}
-use Rattle.b67_attempt.specs.Brought.{StopsFor, StopMeets, Stopped}
+use Rattle.b67_attempt.specs.Brought.{StopsFor, Stopped}
 use Rattle.b67_attempt.proofs.Numbers.{need_of}
 use Rattle.b67_attempt.proofs.Composed.{told_is, unchanged}
 

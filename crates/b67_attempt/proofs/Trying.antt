@@ -1,12 +1,11 @@
 -- What one try answers, from what the operator or the intrinsic answered.
-use Rattle.std.proofs.Common.{◌≡◌, ◌≢◌, ℕ, ◌+◌, ◌≤◌, List, [], length, Option, Some, None, Result, Ok, Err, refl, sym, ◌∙◌, ap, subst}
+use Rattle.std.proofs.Common.{◌≡◌, ◌≢◌, ℕ, ◌+◌, List, [], length, Option, Some, None, Ok, Err, refl, sym, ◌∙◌, ap, subst}
 use Rattle.std.proofs.lemmas.List.{append-nil}
 use Rattle.std.proofs.lemmas.Option.{none-some}
 use Rattle.b67_word.specs.declared.faults.Fault.{Fault}
-use Rattle.b67_model.specs.Lists.{Has}
-use Rattle.b67_model.specs.State.{Array, Task, Member}
+use Rattle.b67_model.specs.State.{Task, Member}
 use Rattle.b67_model.specs.Answers.{Answer}
-use Rattle.b67_model.specs.Steps.{Done, Goes, Leaves}
+use Rattle.b67_model.specs.Steps.{Done, Leaves}
 use Rattle.b67_model.specs.Rows.{step}
 use Rattle.b67_model.specs.Need.{touched_of}
 use Rattle.b67_model.specs.Run.{number_of}
@@ -14,7 +13,6 @@ use Rattle.b67_model.specs.Schedule.{Session}
 use Rattle.b67_model.specs.InOrder.{IsInOrderButPlaces}
 use Rattle.b67_stack.specs.declared.What.{What}
 use Rattle.b67_stack.specs.declared.What.TheVariants as what
-use Rattle.b67_stack.specs.declared.Step.{Step}
 use Rattle.b67_stack.specs.declared.Step.TheVariants as answers
 use Rattle.b67_stack.specs.Stands.{Storage}
 use Rattle.b67_layout.specs.Plan.{Plan}
@@ -26,8 +24,6 @@ use Rattle.b67_exec.specs.Operators.{called_in}
 use Rattle.b67_task.specs.declared.tables.Machine.{Machine}
 use Rattle.b67_keeping.proofs.Laws.{touches_arrays}
 use Rattle.b67_made.specs.Makes.{Makes, CallsOrMakes, MakesAt}
-use Rattle.b67_intrinsics.specs.declared.ends.CallEnd.{CallEnd}
-use Rattle.b67_intrinsics.specs.declared.ends.CallEnd.TheVariants as ends
 use Rattle.b67_intrinsics.specs.declared.ends.Stop.{Stop}
 use Rattle.b67_intrinsics.specs.declared.ends.Stop.TheVariants as stops
 use Rattle.b67_intrinsics.specs.Called.{CallsBuilt, IsCalled, TouchesAbsent, CallMeets}

@@ -1,6 +1,5 @@
 -- What the next operator of the running task answers and leaves, with what it wants brought into core.
-use Rattle.std.specs.Prelude.{◌≡◌, ◌≢◌, ℕ, ◌<◌, ◌≤◌, List, length, Option, Some, None, Result, Ok, Err}
-use Rattle.b67_word.specs.declared.faults.Ending.{Ending}
+use Rattle.std.specs.Prelude.{◌≡◌, ◌≢◌, ℕ, ◌<◌, ◌≤◌, List, Option, Some, None, Result, Ok, Err}
 use Rattle.b67_model.specs.State.{Ready, Task, Member}
 use Rattle.b67_model.specs.Sectors.{sectors}
 use Rattle.b67_model.specs.Need.{need}

@@ -1,5 +1,5 @@
 -- The tables where ARRAYDEC has made an array.
-use Rattle.std.proofs.Common.{◌≡◌, ℕ, List, [], ◌∷◌, map, refl}
+use Rattle.std.proofs.Common.{ℕ, [], ◌∷◌, map, refl}
 use Rattle.b67_word.specs.declared.couples.Place.{Place}
 use Rattle.b67_model.specs.Words.{Word, Original}
 use Rattle.b67_model.specs.State.{Task, Member, top, below_top}

@@ -1,10 +1,10 @@
 -- The operator that calls an intrinsic: its call on the stack, and the row that it makes.
-use Rattle.std.proofs.Common.{◌≡◌, ℕ, List, [], ◌∷◌, reverse, Option, Some, None, Ok, Err, refl, sym, ◌∙◌, ap, false, subst}
+use Rattle.std.proofs.Common.{◌≡◌, ℕ, List, [], ◌∷◌, reverse, Some, Ok, Err, refl, ◌∙◌, ap, false}
 use Rattle.b67_word.specs.declared.couples.Place.{Place}
 use Rattle.b67_model.specs.declared.operators.Op.{Op}
-use Rattle.b67_model.specs.declared.operators.Op.TheVariants.{Valc, Namc, Lt8, Lt16, Lt48, Mpcw, Brun, Brtr, Brfl, Bset, Brst, Isol, Insr, Plain}
+use Rattle.b67_model.specs.declared.operators.Op.TheVariants.{Plain}
 use Rattle.b67_model.specs.declared.operators.Code.{Code}
-use Rattle.b67_model.specs.declared.operators.Code.TheVariants.{Add, Subt, Mult, Idiv, Rdiv, Less, Greq, Grtr, Lseq, Equl, Neql, Chsn, Land, Lor, Leqv, Lnot, Same, Exit, Indx, Retn, Entr, Nxlv, Mkst, Stff, Zero, One, Push, Dlet, Exch, Dupl, Stod, Ston, Load, Noop, Nvld}
+use Rattle.b67_model.specs.declared.operators.Code.TheVariants.{Entr}
 use Rattle.b67_model.specs.Answers.{Answer, ◌>>=◌}
 use Rattle.b67_model.specs.Operators.{Reading}
 use Rattle.b67_model.specs.Words as Words
@@ -21,7 +21,7 @@ use Rattle.b67_layout.specs.Meets.{here}
 use Rattle.b67_mcp.specs.Calls.{IsCall, CallSome}
 use Rattle.b67_task.specs.declared.tables.Machine.{Machine}
 use Rattle.b67_intrinsics.specs.Called.{CallsSome}
-use Rattle.b67_intrinsics.specs.Running.{IsBehind, Reads}
+use Rattle.b67_intrinsics.specs.Running.{Reads}
 
 -- the call, and the row of the operator
 pub record Calling (m : Member) (t : Task) (n : ℕ) : Type 0 where

@@ -7,16 +7,14 @@ use Rattle.b67_model.specs.Operators.{Reading}
 use Rattle.b67_model.specs.Intrinsics.{answered}
 use Rattle.b67_model.specs.Schedule.{Session}
 use Rattle.b67_model.specs.InOrder.{IsInOrderButPlaces}
-use Rattle.b67_stack.specs.declared.Cpu.{Cpu}
 use Rattle.b67_stack.specs.Stands.{Storage}
 use Rattle.b67_layout.specs.Plan.{Plan}
-use Rattle.b67_layout.specs.Rows.{JobRow}
-use Rattle.b67_layout.specs.Session.{IsRunning, SessionStands, StorageStands}
+use Rattle.b67_layout.specs.Session.{IsRunning, StorageStands}
 use Rattle.b67_layout.specs.Meets.{here, with_job}
 use Rattle.b67_mcp.specs.Calls.{MayCut, job_cut}
 use Rattle.b67_task.specs.declared.tables.Machine.{Machine}
 use Rattle.b67_task.specs.declared.tables.Tasks.{Tasks}
-use Rattle.b67_task.specs.Tables.{task_row, job_row, counts_of, TasksShow, MachineStands}
+use Rattle.b67_task.specs.Tables.{task_row, job_row, counts_of, TasksShow}
 use Rattle.b67_intrinsics.specs.Running.{IsBehind}
 use Rattle.b67_intrinsics.proofs.Tables.{jobs_kept, tables_after}
 use Rattle.b67_intrinsics.proofs.Frames.{replaces_cut, waits_cut}

@@ -1,27 +1,25 @@
 -- The intrinsics that the MCP's cells hold have numbers from 8 on.
-use Rattle.std.proofs.Common.{◌≡◌, ◌≢◌, ℕ, zero, suc, ◌-◌, ◌≤◌, ltb, List, [], ◌∷◌, ◌++◌, reverse, flat_map, Option, Some, None, unwrap_or, Ok, Err, refl, sym, ◌∙◌, ap, subst, inl, inr, arith}
-use Rattle.std.specs.List.{AllByRecursion, slice_get}
+use Rattle.std.proofs.Common.{◌≡◌, ℕ, zero, suc, ◌-◌, ◌≤◌, ltb, List, [], ◌∷◌, reverse, flat_map, Option, Some, None, unwrap_or, Ok, Err, refl, sym, ◌∙◌, ap, subst, inl, inr, arith}
 use Rattle.std.specs.Option.{ok_or}
 use Rattle.std.proofs.lemmas.Bool.{cases_Bool}
 use Rattle.b67_model.specs.Answers.{Answer}
 use Rattle.b67_model.specs.Keyed.{keyed}
 use Rattle.b67_model.specs.Lists.{Has}
-use Rattle.b67_word.specs.declared.couples.Place.{Place}
 use Rattle.b67_word.specs.declared.faults.Fault.TheVariants.{InvalidAddress}
 use Rattle.b67_model.specs.Words as Words
 use Rattle.b67_model.specs.Words.{Word, Operand, Name, Ref, Row, Element, Original, Proc, Intrinsic}
-use Rattle.b67_model.specs.State.{Frame, Array, Task, Setting, Job, Member, Here, mcp, no_frame, all_frames, frame}
+use Rattle.b67_model.specs.State.{Frame, Array, Task, Setting, Member, Here, mcp, no_frame, all_frames, frame}
 use Rattle.b67_model.specs.Cells.{first_offset, cell_of, cell, place_of}
-use Rattle.b67_model.specs.Chase.{End, AtCell, AtElement, AtArray, AtProc, AtIntrinsic, Link, Stops, Leads, link_at, link_in, link_from, link, chase_on, chase, follow_reference}
+use Rattle.b67_model.specs.Chase.{End, AtIntrinsic, Link, Stops, Leads, link_at, link_in, link_from, link, chase_on, follow_reference}
 use Rattle.b67_model.specs.Schedule.{Session}
-use Rattle.b67_model.specs.InOrder.{Starts, IsSegment, Known, known_of, outer_of, WordInOrder, EntryInOrder, FramesInOrder, TaskInOrder, TasksInOrder, IsInOrderButPlaces}
+use Rattle.b67_model.specs.InOrder.{Starts, IsSegment, Known, outer_of, WordInOrder, EntryInOrder, FramesInOrder, TaskInOrder, TasksInOrder, IsInOrderButPlaces}
 use Rattle.b67_order.proofs.Members.{all_in, keyed_has, has_append_cases, Part, has_get, has_reverse_back}
 use Rattle.b67_layout.specs.Plan.{Plan}
 use Rattle.b67_layout.specs.Session.{IsRunning}
 use Rattle.b67_layout.specs.Meets.{here}
 use Rattle.b67_layout.proofs.Fresh.{running_in_order}
 use Rattle.b67_exec.specs.Operators.{called_in}
-use Rattle.b67_intrinsics.proofs.Callings.{Calling, calling}
+use Rattle.b67_intrinsics.proofs.Callings.{calling}
 
 abbrev IsLow : Word → Type 0
 IsLow (Intrinsic n) = 8 ≤ n

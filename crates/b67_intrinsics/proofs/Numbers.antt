@@ -1,5 +1,5 @@
 -- The rows of jobs where READ took a number.
-use Rattle.std.proofs.Common.{◌≡◌, ℕ, zero, suc, ◌+◌, ◌-◌, ◌<◌, ◌≤◌, ◌^◌, List, [], ◌∷◌, ◌++◌, length, map, take, drop, Option, Some, None, Result, Ok, Err, refl, sym, ◌∙◌, ap, arith, inl, inr, ◌⊎◌, subst, slice_set}
+use Rattle.std.proofs.Common.{◌≡◌, ℕ, zero, suc, ◌-◌, ◌<◌, ◌≤◌, ◌^◌, List, [], ◌∷◌, ◌++◌, length, map, take, drop, Some, Result, Ok, Err, refl, sym, ◌∙◌, ap, arith, inl, inr, ◌⊎◌, subst, slice_set}
 use Rattle.std.specs.List.{slice_get}
 use Rattle.std.proofs.lemmas.Option.{same_Some, none-some}
 use Rattle.b67_word.specs.Tagged.{Tagged}
@@ -18,12 +18,11 @@ use Rattle.b67_layout.specs.Rows.{JobShows, TablesShow}
 use Rattle.b67_layout.specs.Session.{IsRunning}
 use Rattle.b67_layout.specs.Meets.{here, with_job}
 use Rattle.b67_layout.proofs.Others.{keyed-has}
-use Rattle.b67_mcp.specs.Calls.{MayCut}
 use Rattle.b67_calls.specs.Reads.{job_read, IsRead, ReadMeets}
 use Rattle.b67_task.specs.declared.tables.JobRow.{JobRow}
 use Rattle.b67_task.specs.declared.tables.Tasks.{Tasks}
 use Rattle.b67_task.specs.Tables.{task_row, job_row, counts_of, TasksShow}
-use Rattle.b67_turn.proofs.Lists.{mapped_at, at_mapped, map-slice_set}
+use Rattle.b67_turn.proofs.Lists.{at_has, mapped_at, at_mapped, map-slice_set}
 use Rattle.b67_turn.proofs.Tables.{numbered_low, job_at}
 use Rattle.b67_intrinsics.specs.Called.{AreCountable}
 use Rattle.b67_intrinsics.proofs.Tables.{jobs_put, tables_after}
@@ -56,11 +55,6 @@ has_put (y ∷ ys) zero x z (inr k) = inl (inr k)
 has_put (y ∷ ys) (suc i) x z (inl e) = inl (inl e)
 has_put (y ∷ ys) (suc i) x z (inr k) = elim (has_put ys i x z k) [ inl h ↦ inl (inr h) | inr e ↦ inr e ]
 
-pub has_at : {A : Type 0} (xs : List A) (i : ℕ) (x : A) → slice_get xs i ≡ Some x → Has xs x
-has_at [] i x e = absurd (none-some x e)
-has_at (y ∷ ys) zero x e = inl (same_Some y x e)
-has_at (y ∷ ys) (suc i) x e = inr (has_at ys i x e)
-
 -- a list that was lent and comes back with its length
 pub came_back : {A : Type 0} (xs ws : List A) → length ws ≡ length xs → take (length xs) (ws ++ drop (length ws) xs) ≡ ws
 came_back [] [] e = refl
@@ -83,7 +77,7 @@ countable_read plan m t arguments jobs jobs' i old new answer at is meets few = 
     (elim (has_put jobs i new row (subst (λ (l : List JobRow). Has l row) is h)) [
       | inl k ↦ few row k
       | inr e ↦
-          let low : length old.numbers < 2 ^ 32 = few old (has_at jobs i old at) in
+          let low : length old.numbers < 2 ^ 32 = few old (at_has jobs i old at) in
           subst (λ (r : JobRow). length r.numbers < 2 ^ 32) e (omega (arith, low, ap length (same_numbers plan m t arguments old new answer meets)))
     ])
 

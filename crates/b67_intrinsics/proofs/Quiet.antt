@@ -1,5 +1,5 @@
 -- A call that prints nothing, as a call with a printer.
-use Rattle.std.proofs.Common.{◌≡◌, ℕ, List, [], Option, None, Result, Ok, Err, refl, subst}
+use Rattle.std.proofs.Common.{ℕ, List, [], Option, None, Result, Ok, Err, refl}
 use Rattle.b67_io.proofs.Joined.{Took-none}
 use Rattle.b67_word.specs.declared.faults.Fault.{Fault}
 use Rattle.b67_model.specs.State.{Task, Member}

@@ -1,5 +1,5 @@
 -- The row of the running task.
-use Rattle.std.proofs.Common.{◌≡◌, ◌≢◌, ℕ, ◌<◌, List, map, Option, Some, None, refl, sym, ◌∙◌, ap, arith}
+use Rattle.std.proofs.Common.{◌≡◌, ◌<◌, map, Option, Some, None, refl, sym, ◌∙◌, ap, arith}
 use Rattle.std.specs.List.{slice_get}
 use Rattle.b67_model.specs.State.{Task, Member}
 use Rattle.b67_model.specs.Run.{number_of}

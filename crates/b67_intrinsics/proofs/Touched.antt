@@ -1,11 +1,10 @@
 -- The array that PRINTROW touches, be it a fault afterwards or none.
 use Rattle.std.proofs.Common.{◌≡◌, ℕ, ℤ, List, [], ◌∷◌, reverse, Bool, true, false, not, Option, Some, Ok, Err, refl, sym, ◌∙◌, ap, subst}
 use Rattle.std.specs.Prelude.{nat_le}
-use Rattle.b67_word.specs.declared.faults.Fault.{Fault}
 use Rattle.b67_word.specs.declared.faults.Fault.TheVariants.{StackOverflow, CriticalBlock}
 use Rattle.b67_model.specs.Answers.{Answer, ◌>>=◌, ◌>>◌, needs}
 use Rattle.b67_model.specs.Arrays.{array}
-use Rattle.b67_model.specs.Chase.{End, AtIntrinsic, follow_reference}
+use Rattle.b67_model.specs.Chase.{End, follow_reference}
 use Rattle.b67_model.specs.Intrinsics.{numbers_of, answered, answers, printrow}
 use Rattle.b67_model.specs.Need.{touched_of, touched_by_call, touched_at_mark, touched_before_fault}
 use Rattle.b67_model.specs.Operators.{Reading}

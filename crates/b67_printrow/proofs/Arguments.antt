@@ -1,16 +1,13 @@
 -- The one argument of a call of PRINTROW.
-use Rattle.std.proofs.Common.{◌≡◌, ◌≢◌, ℕ, suc, List, [], ◌∷◌, reverse, length, Result, Ok, Err, refl, sym, ◌∙◌, ap, subst}
+use Rattle.std.proofs.Common.{◌≡◌, ◌≢◌, ℕ, suc, List, [], ◌∷◌, length, Result, Ok, Err, refl, sym, ◌∙◌, ap, subst}
 use Rattle.std.proofs.lemmas.List.{length-reverse}
 use Rattle.b67_word.specs.Tagged.{Tagged}
-use Rattle.b67_word.specs.declared.couples.Place.{Place}
 use Rattle.b67_word.specs.declared.faults.Fault.{Fault}
 use Rattle.b67_word.specs.declared.faults.Fault.TheVariants.{InvalidOperand}
-use Rattle.b67_model.specs.Answers.{Answer}
 use Rattle.b67_model.specs.Words as Words
 use Rattle.b67_model.specs.Words.{Word, Operand, Name, Ref, Row, Element, Original, Proc, Intrinsic}
 use Rattle.b67_model.specs.State.{Task, Member}
 use Rattle.b67_model.specs.Intrinsics.{row_copy, printrow}
-use Rattle.b67_stack.specs.declared.Cpu.{Cpu}
 use Rattle.b67_stack.specs.Stands.{Storage}
 use Rattle.b67_layout.specs.Plan.{Plan}
 use Rattle.b67_layout.specs.Meets.{here}
@@ -19,7 +16,7 @@ use Rattle.b67_fetch.proofs.Values.{TopFollowed}
 use Rattle.b67_index.specs.Indexes.{FindsArray}
 use Rattle.b67_mcp.specs.Calls.{IsCall}
 use Rattle.b67_mcp.proofs.Prints.{one}
-use Rattle.b67_printrow.specs.Calls.{Copies, CopyMeets}
+use Rattle.b67_printrow.specs.Calls.{CopyMeets}
 
 module _ (plan : Plan) (m : Member) (t : Task) (r : Word) (arguments : List Word) (call : IsCall t r arguments) where
   count : length (cells t) ≡ suc (length arguments)

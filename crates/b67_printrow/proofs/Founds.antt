@@ -1,5 +1,5 @@
 -- What PRINTROW makes of the array that it found.
-use Rattle.std.proofs.Common.{◌≡◌, ◌≢◌, ℕ, ◌+◌, ◌≤◌, ℤ, List, [], ◌∷◌, map, length, Option, Some, None, Ok, Err, refl, sym, ◌∙◌, ap, arith, Bool, true, false, subst}
+use Rattle.std.proofs.Common.{◌≡◌, ℕ, ◌+◌, ◌≤◌, ℤ, List, [], ◌∷◌, map, length, Option, Some, None, Err, refl, sym, ◌∙◌, ap, arith, true, false, subst}
 use Rattle.std.specs.List.{AllByRecursion, slice_range}
 use Rattle.std.proofs.lemmas.Bool.{le-leb, false≢true}
 use Rattle.std.proofs.lemmas.List.{length-reverse}
@@ -10,12 +10,12 @@ use Rattle.b67_model.specs.Answers.{Answer, ◌>>=◌}
 use Rattle.b67_model.specs.Words.{Word, Row}
 use Rattle.b67_model.specs.Arrays.{array}
 use Rattle.b67_model.specs.State.{Frame, Task, Member, Here, height, top, below_top}
-use Rattle.b67_model.specs.Steps.{Values, Done, Goes, is_critical}
-use Rattle.b67_model.specs.Intrinsics.{is_original, numbers_of, answers, printrow}
+use Rattle.b67_model.specs.Steps.{Values, Done, is_critical}
+use Rattle.b67_model.specs.Intrinsics.{is_original, answers, printrow}
 use Rattle.b67_layout.specs.Plan.{Plan}
 use Rattle.b67_layout.specs.Meets.{here}
 use Rattle.b67_cells.specs.Tops.{cells}
-use Rattle.b67_mcp.specs.Calls.{IsCall, MayCut, job_cut}
+use Rattle.b67_mcp.specs.Calls.{IsCall}
 use Rattle.b67_mcp.proofs.Prints.{one}
 use Rattle.b67_printrow.specs.Texts.{values_of, is_some}
 use Rattle.b67_printrow.specs.Calls.{Copies, IsRow}

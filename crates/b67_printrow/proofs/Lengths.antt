@@ -1,5 +1,5 @@
 -- The text of a value is short.
-use Rattle.std.proofs.Common.{◌≡◌, ℕ, ◌+◌, ◌<◌, ◌≤◌, ◌^◌, ℤ, pos, negsuc, List, length, Bool, true, false, arith, w64, SFits}
+use Rattle.std.proofs.Common.{◌≡◌, ◌<◌, ◌≤◌, ◌^◌, ℤ, pos, negsuc, length, Bool, true, false, arith, w64, SFits}
 use Rattle.std.specs.Prelude.{nat_abs, IsTrue}
 use Rattle.std.specs.Bool.{OnTrue}
 use Rattle.std.proofs.lemmas.Fmt.{length_signed_le}

@@ -1,5 +1,5 @@
 -- The values of the words that are left of a row.
-use Rattle.std.proofs.Common.{◌≡◌, ◌≢◌, ℕ, suc, ◌+◌, ◌<◌, ◌≤◌, ℤ, List, [], ◌∷◌, length, drop, get_or, Option, Some, None, refl, sym, ◌∙◌, ap, arith, Bool, true, false, drop-cons, add-one, subst}
+use Rattle.std.proofs.Common.{◌≡◌, ℕ, suc, ◌+◌, ◌<◌, ◌≤◌, ℤ, List, [], ◌∷◌, length, drop, get_or, Option, Some, None, refl, sym, ◌∙◌, ap, arith, true, drop-cons}
 use Rattle.std.proofs.lemmas.List.{at_drop_all}
 use Rattle.b67_word.specs.Tagged.{Tagged}
 use Rattle.b67_word.specs.Operands.{number_of}

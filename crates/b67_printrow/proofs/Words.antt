@@ -1,8 +1,7 @@
 -- The words of a live array in core, and their values.
-use Rattle.std.proofs.Common.{◌≡◌, ℕ, zero, suc, ◌+◌, ◌-◌, ◌<◌, ◌≤◌, ℤ, List, [], ◌∷◌, map, length, take, drop, Option, Some, None, Ok, Err, refl, sym, ◌∙◌, ap, arith, Bool, true, false, inl, inr, subst}
+use Rattle.std.proofs.Common.{◌≡◌, ℕ, zero, suc, ◌+◌, ◌-◌, ℤ, List, [], ◌∷◌, map, length, take, drop, Option, Some, None, Ok, Err, refl, sym, ◌∙◌, ap, arith, Bool, true, false, subst}
 use Rattle.std.specs.Prelude.{if◌then◌else◌}
 use Rattle.std.specs.List.{slice_get, slice_range}
-use Rattle.std.proofs.lemmas.Bool.{cases_Bool}
 use Rattle.std.proofs.lemmas.Option.{same_Some, none-some}
 use Rattle.std.proofs.lemmas.List.{length-map}
 use Rattle.b67_word.specs.Tagged.{Tagged, word}
@@ -10,7 +9,6 @@ use Rattle.b67_word.specs.Operands.{is_whole, number_of}
 use Rattle.b67_word.specs.declared.faults.Fault.TheVariants.{Exponent}
 use Rattle.b67_area.specs.declared.Kind.TheVariants as kind
 use Rattle.b67_model.specs.Answers.{Answer, ◌>>=◌}
-use Rattle.b67_model.specs.Lists.{Has}
 use Rattle.b67_model.specs.Words.{number}
 use Rattle.b67_model.specs.Arrays.{array}
 use Rattle.b67_model.specs.State.{Array, Task, Member}

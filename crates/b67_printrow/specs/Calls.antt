@@ -1,9 +1,8 @@
 -- A call of PRINTROW: the row that it prints.
-use Rattle.std.specs.Prelude.{◌≡◌, ℕ, ◌+◌, ◌≤◌, ℤ, List, [], ◌∷◌, length, Option, Some, None, Result, Ok, Err, slice_range}
+use Rattle.std.specs.Prelude.{◌≡◌, ℕ, ◌+◌, ◌≤◌, ℤ, List, [], ◌∷◌, length, Some, None, Result, Ok, Err, slice_range}
 use Rattle.b67_word.specs.Tagged.{Tagged}
 use Rattle.b67_word.specs.declared.couples.Place.{Place}
 use Rattle.b67_word.specs.declared.faults.Fault.{Fault}
-use Rattle.b67_model.specs.Answers.{Answer}
 use Rattle.b67_model.specs.Lists.{Has}
 use Rattle.b67_model.specs.Words.{Word, Row}
 use Rattle.b67_model.specs.State.{Array, Task, Member}

@@ -40,9 +40,10 @@ fn pause(tasks: &Tasks) -> Option<Progress>
 /// Makes steps of a session of one job with one task until that has ended, the count of the halt is reached, or `n` were
 /// made, looked at in this order. Each step's text is printed as the step is made.
 ///
-/// After a `Stop` the step isn't made, and the machine stands for the state before it. `NoCore` exactly where the step's
-/// need exceeds core; `BackingFull` only where the session takes more sectors than the device has; `BackingFault` and
-/// `PrintFault` only where that device failed.
+/// After a `Stop` the step isn't counted, and but after `PrintFault` the machine stands for the state before it. `NoCore`
+/// only where the step's need exceeds core, with both; `BackingFull` only where the session takes more sectors than the
+/// device has, with both; `BackingFault` and `PrintFault` only where that device failed. Where nothing is known of what the
+/// device's sectors hold, the words that it gives back may be others, and as many.
 pub fn slice<B: Backing, K: Sink>(
     machine: &mut Machine,
     n: u64,

@@ -19,8 +19,8 @@ use b67_io::Sink;
 use b67_schedule::choose;
 use b67_task::Machine;
 
-/// Makes one step, with its text printed and its operator counted. After a `Stop` it isn't made, and the machine stands
-/// for the state before it.
+/// Makes one step, with its text printed and its operator counted. After a `Stop` it isn't counted, and but after
+/// `PrintFault` the machine stands for the state before it.
 pub(crate) fn step<B: Backing, K: Sink>(
     machine: &mut Machine,
     backing: &mut B,

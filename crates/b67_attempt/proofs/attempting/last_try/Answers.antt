@@ -1,4 +1,4 @@
-use Rattle.std.proofs.Common.{◌≡◌, Err, Ok}
+use Rattle.std.proofs.Common.{◌≡◌}
 use Rattle.b67_word.specs.declared.faults.Fault.TheVariants.{InvalidOperator}
 use Rattle.b67_word.specs.declared.faults.Ending.TheVariants.{Faulted}
 use Rattle.b67_intrinsics.specs.declared.ends.Stop.TheVariants.{BackingFault}

@@ -1,4 +1,4 @@
-use Rattle.std.proofs.Common.{◌≡◌, ◌∙◌, Err, Ok, refl, sym, ap, length}
+use Rattle.std.proofs.Common.{◌≡◌, Err, Ok, refl, sym, ap, length}
 use Rattle.b67_storage.specs.Machine.{retold}
 use Rattle.b67_storage.proofs.Devices.{still_tells}
 use Rattle.b67_task.specs.declared.tables.Machine.{Machine}

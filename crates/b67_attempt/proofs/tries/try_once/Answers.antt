@@ -1,16 +1,16 @@
-use Rattle.std.proofs.Common.{◌∙◌, ◌≡◌, ◌≢◌, ℕ, List, Option, Some, None, Ok, sym, subst, refl}
-use Rattle.b67_model.specs.State.{Task, Member}
+use Rattle.std.proofs.Common.{◌∙◌, ◌≡◌, ℕ, List, Option, sym, subst, refl}
 use Rattle.b67_model.specs.Schedule.{Session}
-use Rattle.b67_model.specs.InOrder.{IsInOrderButPlaces}
 use Rattle.b67_stack.specs.Stands.{Storage}
 use Rattle.b67_layout.specs.Plan.{Plan}
-use Rattle.b67_layout.specs.Session.{IsRunning}
 use Rattle.b67_code.specs.Running.{code_area}
-use Rattle.b67_exec.specs.Operators.{called_in}
 use Rattle.b67_task.specs.declared.tables.Machine.{Machine}
 use Rattle.b67_task.specs.Tables.{MachineStands}
+<<<<<<< HEAD
 use Rattle.b67_intrinsics.specs.Called.{CallMeets}
 use Rattle.b67_attempt.proofs.Trying.{wants_array, was_made, was_built, was_fault, was_ended, was_call, was_absent, called_made, stops_so}
+=======
+use Rattle.b67_attempt.proofs.Trying.{wants_array, was_made, was_fault, was_ended, was_call, was_absent, called_made, stops_so}
+>>>>>>> c1242e700f5eba4b86e73fe874001b80578c9a42
 use Rattle.b67_attempt.proofs.tries.try_once.Goals as goal
 
 -- the machine after an operator that calls an intrinsic

@@ -1,10 +1,8 @@
 use Rattle.std.proofs.Common.{refl, sym, ◌∙◌, subst}
 use Rattle.b67_word.specs.declared.couples.Place.{Place}
-use Rattle.b67_layout.specs.Session.{StorageStands}
 use Rattle.b67_layout.specs.Meets.{with_job}
 use Rattle.b67_model.specs.declared.operators.Op.TheVariants.{Plain}
 use Rattle.b67_model.specs.declared.operators.Code.TheVariants.{Entr}
-use Rattle.b67_mcp.specs.Calls.{CutSome}
 use Rattle.b67_calls.specs.Declared.{job_declared, with_home, without}
 use Rattle.b67_task.specs.declared.tables.Machine.{Machine}
 use Rattle.b67_task.specs.Tables.{MachineStands}

@@ -1,12 +1,8 @@
-use Rattle.std.proofs.Common.{ℤ, List, [], ◌∷◌, Some, Ok, refl, ◌∙◌, ap, subst, arith}
+use Rattle.std.proofs.Common.{[], ◌∷◌, Some, Ok, refl, ◌∙◌, ap, subst, arith}
 use Rattle.b67_model.specs.declared.operators.Op.TheVariants.{Plain}
 use Rattle.b67_model.specs.declared.operators.Code.TheVariants.{Entr}
 use Rattle.b67_model.specs.Steps.{Values}
-use Rattle.b67_model.specs.Words.{Word}
-use Rattle.b67_model.specs.State.{Task, Member}
 use Rattle.b67_stack.specs.declared.What.TheVariants as what
-use Rattle.b67_stack.specs.Stands.{Storage}
-use Rattle.b67_layout.specs.Plan.{Plan}
 use Rattle.b67_mcp.specs.Calls.{job_cut}
 use Rattle.b67_printrow.specs.declared.row.Found.{Found}
 use Rattle.b67_printrow.specs.Calls.{RowMeets}

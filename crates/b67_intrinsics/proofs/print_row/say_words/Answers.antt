@@ -1,4 +1,3 @@
-use Rattle.std.proofs.Common.{◌≡◌, ℕ, ℤ, List, [], ◌∷◌, ◌++◌, Result, Ok, Err, Some, sym, ◌∙◌, ap, subst, append-nil}
 use Rattle.b67_intrinsics.proofs.Texts.{whole_row, part_row}
 use Rattle.b67_intrinsics.proofs.print_row.say_words.Goals as goal
 

@@ -1,4 +1,4 @@
-use Rattle.std.proofs.Common.{◌≡◌, ℕ, ◌<◌, ◌^◌, List, length, refl, sym, subst, get_or}
+use Rattle.std.proofs.Common.{◌<◌, ◌^◌, length, refl, sym, subst}
 use Rattle.std.proofs.lemmas.Option.{get_or_from_slice_get}
 use Rattle.b67_layout.specs.Rows.{JobShows}
 use Rattle.b67_calls.specs.Reads.{ReadSome, ReadMeets}

@@ -1,4 +1,4 @@
-use Rattle.std.proofs.Common.{◌≡◌, ℕ, ◌-◌, Some, Ok, refl, sym, ◌∙◌, ap, arith, subst, slice_set}
+use Rattle.std.proofs.Common.{ℕ, ◌-◌, Ok, refl, sym, ◌∙◌, ap, arith, subst, slice_set}
 use Rattle.std.specs.List.{slice_get}
 use Rattle.b67_word.specs.declared.couples.Place.{Place}
 use Rattle.b67_model.specs.declared.operators.Op.TheVariants.{Plain}
@@ -9,10 +9,11 @@ use Rattle.b67_calls.specs.Reads.{job_read}
 use Rattle.b67_task.specs.declared.tables.Machine.{Machine}
 use Rattle.b67_task.specs.declared.tables.Tasks.{Tasks}
 use Rattle.b67_task.specs.Tables.{MachineStands}
+use Rattle.b67_turn.proofs.Lists.{at_has}
 use Rattle.b67_intrinsics.proofs.Callings.{calling, reads_of, call_some}
 use Rattle.b67_intrinsics.proofs.Cut.{one_behind}
 use Rattle.b67_intrinsics.proofs.Sizes.{same_size, kept_same}
-use Rattle.b67_intrinsics.proofs.Numbers.{job_in, has_at, tasks_same, countable_read, tables_read}
+use Rattle.b67_intrinsics.proofs.Numbers.{job_in, tasks_same, countable_read, tables_read}
 use Rattle.b67_intrinsics.proofs.read.read.Goals as goal
 
 pub next_place-next-requires : goal.next_place-next-requires
@@ -37,7 +38,7 @@ take_number-requires c =
       j.row,
       ap (λ (n : ℕ). slice_get tasks.jobs (n - 1)) e ∙ j.at,
       record { some = call_some c.args.machine.now 11 q; shows = j.shows },
-      c.requires.countable j.row (has_at tasks.jobs (q.member.setting.number - 1) j.row j.at),
+      c.requires.countable j.row (at_has tasks.jobs (q.member.setting.number - 1) j.row j.at),
     )
 
 pub returns-in-Err-clause-row : goal.returns-in-Err-clause-row

@@ -1,4 +1,4 @@
-use Rattle.std.proofs.Common.{ℕ, List, length, ap, ◌∙◌, slice_set}
+use Rattle.std.proofs.Common.{List, length, ap, ◌∙◌, slice_set}
 use Rattle.std.specs.List.{slice_get}
 use Rattle.b67_task.specs.declared.tables.JobRow.{JobRow}
 use Rattle.b67_intrinsics.proofs.Numbers.{came_back}

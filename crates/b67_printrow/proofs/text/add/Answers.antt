@@ -1,4 +1,4 @@
-use Rattle.std.proofs.Common.{◌≡◌, ℕ, ◌-◌, ℤ, List, [], ◌∷◌, ◌++◌, ap, sym, ◌∙◌, w64}
+use Rattle.std.proofs.Common.{ℕ, ◌-◌, ℤ, List, [], ◌++◌, ap, sym, ◌∙◌, w64}
 use Rattle.std.proofs.lemmas.Int.{to_z-of_z}
 use Rattle.b67_io.proofs.Joined.{Took-none}
 use Rattle.b67_model.specs.Lines.{task_name, value_text}

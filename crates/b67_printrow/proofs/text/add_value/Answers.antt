@@ -1,4 +1,4 @@
-use Rattle.std.proofs.Common.{◌≡◌, ℤ, List, [], ◌∷◌, ◌++◌, ◌+◌, ap, sym, ◌∙◌, arith, length, length-append, append_assoc, w64}
+use Rattle.std.proofs.Common.{◌≡◌, ℤ, List, [], ◌∷◌, ◌++◌, ◌+◌, ap, ◌∙◌, arith, length, length-append, append_assoc, w64}
 use Rattle.std.specs.Fmt.{signed_decimal}
 use Rattle.std.proofs.lemmas.Int.{to_z-of_z}
 use Rattle.b67_model.specs.Lines.{value_text}

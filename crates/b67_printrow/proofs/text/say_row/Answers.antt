@@ -1,11 +1,11 @@
-use Rattle.std.proofs.Common.{◌≡◌, ℕ, ◌+◌, ℤ, List, [], ◌∷◌, Some, ap, sym, ◌∙◌, arith, w64, to_z, of_z, subst}
+use Rattle.std.proofs.Common.{◌≡◌, ℤ, List, [], ◌∷◌, ap, sym, ◌∙◌, arith, w64, to_z, of_z, subst}
 use Rattle.std.proofs.lemmas.Int.{to_z-of_z}
 use Rattle.std.proofs.lemmas.Option.{same_Some}
 use Rattle.b67_io.specs.Told.{TookPart}
 use Rattle.b67_io.specs.Line.{ended}
 use Rattle.b67_model.specs.Lines.{task_name}
 use Rattle.b67_printrow.specs.Texts.{still}
-use Rattle.b67_printrow.proofs.Values.{Splits, splits, none_behind}
+use Rattle.b67_printrow.proofs.Values.{splits, none_behind}
 use Rattle.b67_printrow.proofs.Lengths.{fits_of}
 use Rattle.b67_printrow.proofs.Lines.{Prints, next_value, last_line, cut_line, part_whole}
 use Rattle.b67_printrow.proofs.text.say_row.Goals as goal
