@@ -1,15 +1,16 @@
 -- The calls of ARRAYDEC, PRINT, PRINTROW and READ keep what is known of tasks; and so each operator that calls no other intrinsic.
-use Rattle.std.proofs.Common.{◌≡◌, ℕ, ◌+◌, ◌<◌, true, false, List, [], ◌∷◌, reverse, replicate, Option, Some, None, Ok, Err, refl, sym, ap, ◌∙◌, subst, arith, ⊎_elim, cond}
+use Rattle.std.proofs.Common.{◌≡◌, ◌≢◌, ℕ, ◌+◌, ◌<◌, true, false, List, [], ◌∷◌, reverse, replicate, Option, Some, None, Ok, Err, refl, sym, ap, ◌∙◌, subst, arith, ⊎_elim, cond}
 use Rattle.std.specs.Prelude.{◌==◌}
 use Rattle.std.proofs.lemmas.Bool.{cases_Bool, eqb-true}
 use Rattle.std.proofs.lemmas.Option.{same_Some, none-some}
+use Rattle.b67_word.specs.declared.couples.Place.{Place}
 use Rattle.b67_word.specs.declared.faults.Fault.TheVariants.{InvalidOperand}
 use Rattle.b67_model.specs.declared.operators.Op.{Op}
 use Rattle.b67_model.specs.declared.operators.Op.TheVariants.{Plain}
 use Rattle.b67_model.specs.declared.operators.Code.TheVariants.{Entr}
 use Rattle.b67_model.specs.Answers.{Answer, ◌>>=◌}
 use Rattle.b67_model.specs.Words.{Word, Operand, Original, whole}
-use Rattle.b67_model.specs.State.{Array, Standing, Marked, Entered, Task, Job, Here, with_task, top, below_top}
+use Rattle.b67_model.specs.State.{Array, Standing, Marked, Entered, Task, Job, Member, Here, with_task, top, below_top}
 use Rattle.b67_model.specs.Keyed.{keyed, change_keyed}
 use Rattle.b67_model.specs.Arrays.{array}
 use Rattle.b67_model.specs.Chase.{End, AtCell, AtElement, AtArray, AtProc, AtIntrinsic, follow_reference}
@@ -19,6 +20,8 @@ use Rattle.b67_model.specs.Rows.{entr_at, entr_with, entr, row}
 use Rattle.b67_order.proofs.Posts.{Post, post_ok, post_err, post_any, post_then, post_if, post_if_is, post_at}
 use Rattle.b67_profiles.specs.Profiles.{Profile, profile, profiles, called_at, called_by, called_on, called, IsKnown}
 use Rattle.b67_profiles.proofs.Lemmas.{rows_keep}
+use Rattle.b67_layout.specs.Meets.{here}
+use Rattle.b67_made.proofs.Keeps.{row_keeps}
 
 -- another task of the same profile in a task's place
 put : (n : ℕ) (t : Task) (ts : List Task) → keyed (λ (p : Profile). p.number) n (profiles ts) ≡ Some (profile t)
@@ -29,9 +32,9 @@ put n t (u ∷ us) e = ⊎_elim
     (λ (q : (u.number == n) ≡ false). let at : keyed (λ (p : Profile). p.number) n (profiles us) ≡ Some (profile t) = rw q at e in rw q (ap (λ (ps : List Profile). profile u ∷ ps) (put n t us at)))
     (cases_Bool (u.number == n))
 
-module _ (first : List Profile) (own : Profile) (known : keyed (λ (p : Profile). p.number) own.number first ≡ Some own) where
+module _ (first : List Profile) (next : ℕ) (own : Profile) (known : keyed (λ (p : Profile). p.number) own.number first ≡ Some own) where
   abbrev Keeps : Done → Type 0
-  Keeps (Goes after printed touched) = profiles after.tasks ≡ first
+  Keeps (Goes after printed touched) = (profiles after.tasks ≡ first) × (after.next_task ≡ next)
   Keeps Leaves = Unit {0}
   Keeps (Waits condition) = Unit {0}
 
@@ -41,6 +44,7 @@ module _ (first : List Profile) (own : Profile) (known : keyed (λ (p : Profile)
   record Source (h : Here) : Type 0 where
     pub tasks : profiles h.job.tasks ≡ first
     pub task : profile h.task ≡ own
+    pub number : h.job.next_task ≡ next
 
   with_good : (job : Job) (task : Task) → profiles job.tasks ≡ first → profile task ≡ own → profiles (with_task job task).tasks ≡ first
   with_good job task tasks same =
@@ -48,29 +52,29 @@ module _ (first : List Profile) (own : Profile) (known : keyed (λ (p : Profile)
       let there : K (profiles job.tasks) (profile task) = subst (λ (p : Profile). K (profiles job.tasks) p) (sym same) (subst (λ (ps : List Profile). K ps own) (sym tasks) known) in
       put task.number task job.tasks there ∙ tasks
 
-  answers_good : (h : Here) (job : Job) (words : List Word) (printed : List Line) (touched : Option ℕ) → Source h → profiles job.tasks ≡ first → Good (answers h job words printed touched)
-  answers_good h job words printed touched s tasks = post_then Keeps _ _ (post_then Keeps _ _ (post_ok Keeps _ (with_good job (answered h words) tasks s.task)))
+  answers_good : (h : Here) (job : Job) (words : List Word) (printed : List Line) (touched : Option ℕ) → Source h → profiles job.tasks ≡ first → job.next_task ≡ next → Good (answers h job words printed touched)
+  answers_good h job words printed touched s tasks number = post_then Keeps _ _ (post_then Keeps _ _ (post_ok Keeps _ (with_good job (answered h words) tasks s.task, number)))
 
   arraydec_good : (h : Here) (arguments : List Word) → Source h → Good (arraydec h arguments)
   arraydec_good h [] s = post_err Keeps _
   arraydec_good h (w ∷ []) s = post_any Keeps (whole w) _ (λ n. post_any Keeps (array_length n) _ (λ len.
       let made : Array = record { identity = h.job.next_array; owner = (top (below_top h.task.frames)).identity; writable = true; numbers = replicate len 0 } in
-      answers_good h (record h.job { arrays = made ∷ h.job.arrays; next_array = h.job.next_array + 1 }) (Original h.job.next_array ∷ []) [] None s s.tasks))
+      answers_good h (record h.job { arrays = made ∷ h.job.arrays; next_array = h.job.next_array + 1 }) (Original h.job.next_array ∷ []) [] None s s.tasks s.number))
   arraydec_good h (w ∷ v ∷ more) s = post_err Keeps _
 
   print_good : (h : Here) (arguments : List Word) → Source h → Good (print h arguments)
   print_good h [] s = post_err Keeps _
-  print_good h (w ∷ []) s = post_any Keeps (whole w) _ (λ n. answers_good h h.job [] (Value n ∷ []) None s s.tasks)
+  print_good h (w ∷ []) s = post_any Keeps (whole w) _ (λ n. answers_good h h.job [] (Value n ∷ []) None s s.tasks s.number)
   print_good h (w ∷ v ∷ more) s = post_err Keeps _
 
   printrow_good : (h : Here) (arguments : List Word) → Source h → Good (printrow h arguments)
   printrow_good h [] s = post_err Keeps _
   printrow_good h (w ∷ []) s =
-      post_any Keeps (row_copy w) _ (λ a. post_any Keeps (numbers_of (array h.job a).numbers) _ (λ values. answers_good h h.job [] (Values values ∷ []) (Some a) s s.tasks))
+      post_any Keeps (row_copy w) _ (λ a. post_any Keeps (numbers_of (array h.job a).numbers) _ (λ values. answers_good h h.job [] (Values values ∷ []) (Some a) s s.tasks s.number))
   printrow_good h (w ∷ v ∷ more) s = post_err Keeps _
 
   read_good : (h : Here) (arguments : List Word) → Source h → Good (read h arguments)
-  read_good h [] s = answers_good h (record h.job { numbers = (read_from h.job.numbers).1 }) (Operand (read_from h.job.numbers).0 ∷ []) [] None s s.tasks
+  read_good h [] s = answers_good h (record h.job { numbers = (read_from h.job.numbers).1 }) (Operand (read_from h.job.numbers).0 ∷ []) [] None s s.tasks s.number
   read_good h (w ∷ more) s = post_err Keeps _
 
   unless : (k n : ℕ) (a b : Answer Done) → (k ≡ n → ⊥) → Good b → Good (cond (k == n) a b)
@@ -111,13 +115,17 @@ module _ (first : List Profile) (own : Profile) (known : keyed (λ (p : Profile)
   row_good (Plain Entr) h n e low s = entr_good h (top_of h).standing n e low s
   row_good _ h n e low s = absurd (none-some n e)
 
--- an operator that calls no intrinsic, or one of these
-pub built_keep : (op : Op) (h : Here) → IsKnown h → ((n : ℕ) → called op h ≡ Some n → n < 12) → (after : Job) (printed : List Line) (touched : Option ℕ) → row op h ≡ Ok (Goes after printed touched)
-    → profiles after.tasks ≡ profiles h.job.tasks
-built_keep op h known built after printed touched is = by (called op h) refl
+-- an operator of a live task that calls no intrinsic, or one of these
+pub built_keep : (op : Op) (m : Member) (t : Task) (q : Place) → keyed (λ (u : Task). u.number) t.number m.course.job.tasks ≡ Some t → t.frames ≢ [] → IsKnown (here m t q) → ((n : ℕ) → called op (here m t q) ≡ Some n → n < 12)
+    → (after : Job) (printed : List Line) (touched : Option ℕ) → row op (here m t q) ≡ Ok (Goes after printed touched)
+    → (profiles after.tasks ≡ profiles m.course.job.tasks) × (after.next_task ≡ m.course.job.next_task)
+built_keep op m t q live some known built after printed touched is = by (called op (here m t q)) refl
   where
-    by : (o : Option ℕ) → called op h ≡ o → profiles after.tasks ≡ profiles h.job.tasks
-    by None e = (rows_keep op h known e after printed touched is).0
+    by : (o : Option ℕ) → called op (here m t q) ≡ o → (profiles after.tasks ≡ profiles m.course.job.tasks) × (after.next_task ≡ m.course.job.next_task)
+    by None e = (
+      (rows_keep op (here m t q) known e after printed touched is).0,
+      (row_keeps (λ c. ⊥) op m t q live some (λ c d. absurd d) (λ c d. absurd d) e after printed touched is).1,
+    )
     by (Some n) e =
-        post_at (Keeps (profiles h.job.tasks) (profile h.task) known) (row op h) (Goes after printed touched) is
-        (row_good (profiles h.job.tasks) (profile h.task) known op h n e (built n e) (record { tasks = refl; task = refl }))
+        post_at (Keeps (profiles m.course.job.tasks) m.course.job.next_task (profile t) known) (row op (here m t q)) (Goes after printed touched) is
+        (row_good (profiles m.course.job.tasks) m.course.job.next_task (profile t) known op (here m t q) n e (built n e) (record { tasks = refl; task = refl; number = refl }))

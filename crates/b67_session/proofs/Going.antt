@@ -5,19 +5,21 @@ use Rattle.b67_io.proofs.Joined.{Took-none, Took-then, Took-kept}
 use Rattle.b67_model.specs.Lists.{Has}
 use Rattle.b67_model.specs.State.{Task, Member}
 use Rattle.b67_model.specs.Lines.{run_text}
-use Rattle.b67_model.specs.Run.{RunLine, Moment, next}
+use Rattle.b67_model.specs.Run.{RunLine, Moment, next, after}
 use Rattle.b67_model.specs.Schedule.{Session}
+use Rattle.b67_stack.specs.Stands.{Storage}
 use Rattle.b67_storage.specs.Machine.{Says}
+use Rattle.b67_layout.specs.Plan.{Plan}
 use Rattle.b67_single.proofs.Runs.{Came, came-more}
 use Rattle.b67_task.specs.declared.tables.TaskRow.{TaskRow}
 use Rattle.b67_task.specs.declared.tables.Machine.{Machine}
-use Rattle.b67_task.specs.Tables.{task_row}
+use Rattle.b67_task.specs.Tables.{task_row, MachineStands}
 use Rattle.b67_intrinsics.specs.declared.ends.Stop.{Stop}
 use Rattle.b67_intrinsics.specs.declared.ends.Stop.TheVariants as stops
 use Rattle.b67_session.specs.declared.ends.StepEnd.TheVariants as ends
 use Rattle.b67_session.specs.declared.slices.Progress.TheVariants as progress
-use Rattle.b67_session.specs.Slices.{IsLone, LivesOn, Leads, SliceMeets, Slices}
-use Rattle.b67_session.specs.Steps.{Steps}
+use Rattle.b67_session.specs.Slices.{IsLone, LivesOn, Leads, SliceMeets, Slices, Over}
+use Rattle.b67_session.specs.Steps.{Steps, StepOver}
 use Rattle.b67_session.proofs.Lone.{has_member, has_task}
 use Rattle.b67_session.proofs.Texts.{run_text-append}
 
@@ -107,6 +109,17 @@ module _ {K : Type 0} (taken : K → Option (List ℕ)) (exact : Type 0) (known 
           meets = (λ tells. (is (up tells)).1, subst (Took taken paper paper'') (sym (run_text-append g.printed moment.lines)) (Took-then g.took took));
         }
 
+    pub going-rests : Steps taken known' (known ≢ None) count g.session (Ok ends.Over) now new paper' paper'' → StepOver known' (known ≢ None) g.session new → Over known' exact first old new
+    going-rests s over = record {
+      session = over.session;
+      is = λ tells all made.
+          let (moment, is, e) = over.is (up tells) in
+          let more = one_more first steps g.session g.session g.printed moment (g.leads tells) refl is in
+          let same : steps + 1 ≡ all = omega (arith, made, s.made, g.made) in
+          subst (λ (k : ℕ). after k first ≡ over.session) same (more.session ∙ e);
+      rests = over.rests;
+    }
+
     pub going-stops : (stop : Stop) → steps ≤ n → length now.cpu.core ≡ length old.cpu.core → Steps taken known' (known ≢ None) count g.session (Err stop) now new paper' paper'' → Slices taken known' exact count n first (Err stop) old new paper paper''
     going-stops stop few len s = record {
       steps = steps;
@@ -118,3 +131,9 @@ module _ {K : Type 0} (taken : K → Option (List ℕ)) (exact : Type 0) (known 
       meets = stop_meets taken known' exact (known ≢ None) (length old.cpu.core) count n steps s.session g.printed stop new paper paper' paper'' up g.took
           (subst (λ (size : ℕ). SliceMeets taken known' (known ≢ None) size count 0 0 s.session [] (Err stop) new paper' paper'') len s.meets);
     }
+
+-- the machine after a run that has ended stands for the session after its steps
+pub over_stands : (known : Option (List (List ℕ))) (exact : Type 0) (first : Session) (old new : Machine) → Over known exact first old new → exact → (steps : ℕ) → new.tasks.made ≡ old.tasks.made + steps
+    → (x : Storage) × (plan : Plan) × MachineStands x known new plan (after steps first)
+over_stands known exact first old new h tells steps made =
+    (h.rests.storage, h.rests.plan, subst (λ (z : Session). MachineStands h.rests.storage known new h.rests.plan z) (sym (h.is tells steps made)) h.rests.stands)

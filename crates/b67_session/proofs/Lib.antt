@@ -4,6 +4,8 @@ pub mod Moments
 pub mod Texts
 pub mod Rooms
 pub mod Turned
+pub mod Finishing
+pub mod Finished
 pub mod Stepping
 pub mod Going
 pub mod Pausing

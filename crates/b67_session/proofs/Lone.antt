@@ -6,13 +6,15 @@ use Rattle.std.proofs.lemmas.Bool.{cases_Bool, eq-eqb}
 use Rattle.std.proofs.lemmas.Option.{same_Some, none-some}
 use Rattle.b67_model.specs.Lists.{Has}
 use Rattle.b67_model.specs.Endings.{is_ready}
-use Rattle.b67_model.specs.State.{Condition, Task, Job, Member, Here}
+use Rattle.b67_model.specs.State.{Condition, Task, Job, Member}
 use Rattle.b67_model.specs.Keyed.{keyed}
 use Rattle.b67_model.specs.Operators.{Reading}
 use Rattle.b67_model.specs.Steps.{Line, Goes}
 use Rattle.b67_model.specs.Rows.{reading_of, step, step_by}
+use Rattle.b67_model.specs.InOrder.{IsSegment, TaskInOrder, JobInOrder, IsInOrderButPlaces}
 use Rattle.b67_model.specs.Run.{number_of}
 use Rattle.b67_model.specs.Schedule.{Who, Session, ready_of, ready, choice}
+use Rattle.b67_order.proofs.Members.{all_in}
 use Rattle.b67_layout.specs.Plan.{Plan, slot_of}
 use Rattle.b67_layout.specs.Rows.{TaskShows}
 use Rattle.b67_layout.specs.Session.{IsRunning}
@@ -65,21 +67,27 @@ module _ (s : Session) (m : Member) (t : Task) (single : IsSingle s m t) where
       let of_ready : name t ∷ [] ≡ [] = ap (λ (c : Condition). map name (filter is_ready (reverse (record t { condition = c } ∷ []))) ++ []) (sym single.ready) ∙ of_task in
       absurd cc
 
-  -- a step that calls no intrinsic, or one that is built, keeps what is known of the task
-  kept_by : (read : Reading) → reading_of m.setting t ≡ read → ((n : ℕ) → called_by m t read ≡ Some n → n < 12) → (job : Job) (printed : List Line) (touched : Option ℕ)
-      → step_by m.setting m.course.job t read ≡ Ok (Goes job printed touched) → profiles job.tasks ≡ profiles m.course.job.tasks
-  kept_by (Err why) at built job printed touched e = absurd cc
-  kept_by (Ok read) at built job printed touched e =
-      let h : Here = here m t read.1 in
-      let known : IsKnown h =
-      ap (λ (ts : List Task). keyed (λ (p : Profile). p.number) t.number (profiles ts)) single.tasks
-      ∙ rw (eq-eqb t.number t.number refl) refl in
-      built_keep read.0 h known built job printed touched e
+  -- a step that calls no intrinsic, or one that is built, keeps what is known of the task, and starts none
+  module _ (o : IsInOrderButPlaces s) where
+    abbrev Keeps : Job → Type 0
+    Keeps job = (profiles job.tasks ≡ profiles m.course.job.tasks) × (job.next_task ≡ m.course.job.next_task)
 
-  pub kept : CallsBuilt m t → (job : Job) (printed : List Line) (touched : Option ℕ) → step m.setting m.course.job t ≡ Ok (Goes job printed touched)
-      → profiles job.tasks ≡ profiles m.course.job.tasks
-  unfolding step
-  kept built job printed touched e = kept_by (reading_of m.setting t) refl built job printed touched e
+    pub job_ordered : JobInOrder (IsSegment m.setting) m.setting m.course
+    job_ordered = all_in (λ (y : Member). JobInOrder (IsSegment y.setting) y.setting y.course) s.jobs m o.jobs has_member
+
+    kept_by : (read : Reading) → reading_of m.setting t ≡ read → ((n : ℕ) → called_by m t read ≡ Some n → n < 12) → (job : Job) (printed : List Line) (touched : Option ℕ)
+        → step_by m.setting m.course.job t read ≡ Ok (Goes job printed touched) → Keeps job
+    kept_by (Err why) at built job printed touched e = absurd cc
+    kept_by (Ok read) at built job printed touched e =
+        let known : IsKnown (here m t read.1) =
+        ap (λ (ts : List Task). keyed (λ (p : Profile). p.number) t.number (profiles ts)) single.tasks
+        ∙ rw (eq-eqb t.number t.number refl) refl in
+        let order = all_in (TaskInOrder (IsSegment m.setting) m.setting m.course.job) m.course.job.tasks t job_ordered.tasks.tasks has_task in
+        built_keep read.0 m t read.1 task_found order.some known built job printed touched e
+
+    pub kept : CallsBuilt m t → (job : Job) (printed : List Line) (touched : Option ℕ) → step m.setting m.course.job t ≡ Ok (Goes job printed touched) → Keeps job
+    unfolding step
+    kept built job printed touched e = kept_by (reading_of m.setting t) refl built job printed touched e
 
 -- the chosen task is the one that there is
 pub record Chose (plan : Plan) (tasks : Tasks) (m : Member) (t : Task) (c : Chosen) : Type 0 where

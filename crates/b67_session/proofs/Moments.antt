@@ -59,6 +59,11 @@ module _ (s : Session) (m : Member) (t : Task) (single : IsSingle s m t) (c : Ch
   unfolding step_of
   of_whole = ap (λ (n : ℕ). by_task m.setting m.course (keyed (λ (u : Task). u.number) n m.course.job.tasks)) chosen_task ∙ ap (by_task m.setting m.course) (task_found s m t single)
 
+  -- by what the step answers
+  pub of_answer : (answer : Answer Done) → step m.setting m.course.job t ≡ answer → jm ≡ moment_with m.course t (settles m.course.job t answer) (limited m.setting.limit (m.course.made + 1) (settles m.course.job t answer).settled)
+  unfolding stepped
+  of_answer answer e = of_whole ∙ ap (λ (a : Answer Done). moment_with m.course t (settles m.course.job t a) (limited m.setting.limit (m.course.made + 1) (settles m.course.job t a).settled)) e
+
   pub lines_begin : (j : Job) (printed : List Line) (touched : Option ℕ) → step m.setting m.course.job t ≡ Ok (Goes j printed touched)
       → (moment : Moment) × (rest : List RunLine) × (next s ≡ Some moment) × (moment.lines ≡ task_lines m t printed ++ rest)
   lines_begin j printed touched e =

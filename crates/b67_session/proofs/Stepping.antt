@@ -1,7 +1,6 @@
 -- The step by what the attempt at its operator answered.
 use Rattle.std.proofs.Common.{◌≡◌, ◌≢◌, ℕ, ◌+◌, Bool, true, false, List, [], ◌∷◌, ◌++◌, length, Option, Some, None, Result, Ok, Err, sym, ap, ◌∙◌, subst, arith}
 use Rattle.std.specs.Prelude.{◌==◌, unwrap_or}
-use Rattle.std.proofs.lemmas.List.Sums.{sum_by-cons}
 use Rattle.b67_word.specs.declared.faults.Ending.{Ending}
 use Rattle.b67_word.specs.declared.faults.Ending.TheVariants.{Ended, Parent, Deadlock, Limit, Faulted}
 use Rattle.b67_io.specs.Told.{Took, TookPart}
@@ -12,6 +11,7 @@ use Rattle.b67_model.specs.Lines.{run_text}
 use Rattle.b67_model.specs.Run.{RunLine, Moment, next, live_tasks}
 use Rattle.b67_model.specs.Schedule.{Session}
 use Rattle.b67_runs.proofs.Sessions.{sessions_stay_in_order_but_places}
+use Rattle.b67_profiles.specs.Profiles.{profiles}
 use Rattle.b67_layout.specs.Meets.{with_job}
 use Rattle.b67_single.specs.Single.{GoesOn, IsOver, member_after, task_lines}
 use Rattle.b67_single.proofs.Nexts.{goes, reaches_limit, leaves, faults}
@@ -28,19 +28,18 @@ use Rattle.b67_attempt.specs.declared.attempts.Attempt.{Attempt}
 use Rattle.b67_attempt.specs.declared.attempts.Attempt.TheVariants as attempts
 use Rattle.b67_attempt.specs.Tries.{EndsSo}
 use Rattle.b67_attempt.specs.Attempts.{StillStands}
+use Rattle.b67_ending.specs.Endings.{HasOne}
 use Rattle.b67_session.specs.declared.ends.StepEnd.{StepEnd}
 use Rattle.b67_session.specs.declared.ends.StepEnd.TheVariants as ends
 use Rattle.b67_session.specs.Slices.{IsLone}
-use Rattle.b67_session.specs.Steps.{IsCounted, IsLast, Closes, Advances, StepMeets, Steps, ending_text}
+use Rattle.b67_session.specs.Steps.{IsCounted, IsLast, Closes, Advances, Finishes, StepMeets, Steps, StepOver, ending_text}
 use Rattle.b67_session.proofs.Lone.{kept}
 use Rattle.b67_session.proofs.Moments.{jm, found_by, follows, lines_begin}
 use Rattle.b67_session.proofs.Rooms.{counts_as, counts_with, room_after, last_is}
 use Rattle.b67_session.proofs.Texts.{run_text-append, ending_is, with_ending, TookPart-more}
 use Rattle.b67_session.proofs.Turned.{Attempted}
-
--- a session whose only job has no task left
-none_lives : (s : Session) (m : Member) → s.jobs ≡ m ∷ [] → m.course.job.tasks ≡ [] → live_tasks s.jobs ≡ 0
-none_lives s m jobs none = ap live_tasks jobs ∙ omega (arith, sum_by-cons (λ (y : Member). length y.course.job.tasks) m [], ap (λ (ts : List Task). length ts) none)
+use Rattle.b67_session.proofs.Finishing.{none_lives}
+use Rattle.b67_session.proofs.Finished.{over_same, ends_over, limit_over, limit_one}
 
 Took-as : {K : Type 0} {taken : K → Option (List ℕ)} {a b : K} {x y : List ℕ} → x ≡ y → Took taken a b x → Took taken a b y
 Took-as {taken = taken} {a = a} {b = b} e t = subst (Took taken a b) e t
@@ -51,6 +50,12 @@ TookPart-as {taken = taken} {a = a} {b = b} e t = subst (TookPart taken a b) e t
 -- nothing was printed
 Took-same : {K : Type 0} (taken : K → Option (List ℕ)) (now new : K) → new ≡ now → Took taken now new []
 Took-same taken now new e = subst (λ z. Took taken now z []) (sym e) (Took-none taken now)
+
+-- the last operator that a job may make was closed
+pub closes_advances : {K : Type 0} (taken : K → Option (List ℕ)) (c : Chosen) (answered : Result StepEnd Stop) (old new : Machine) (paper paper' : K) → IsLast c old.tasks true → Closes taken c Limit answered old.tasks new.tasks paper paper' → Advances taken c answered old new paper paper'
+closes_advances taken c (Ok ends.GoesOn) old new paper paper' last h = absurd h
+closes_advances taken c (Ok ends.Over) old new paper paper' last h = (last, h)
+closes_advances taken c (Err stop) old new paper paper' last h = (last, h)
 
 module _ {K : Type 0} (taken : K → Option (List ℕ)) (known known' : Option (List (List ℕ))) (core count : ℕ) (s : Session) (c : Chosen) where
   module _ (k : Machine) (paper paper' : K) where
@@ -65,6 +70,14 @@ module _ {K : Type 0} (taken : K → Option (List ℕ)) (known known' : Option (
       below : (b : Bool) → IsLast c k.tasks b → (h.member.course.made + 1 == h.member.setting.limit) ≡ b
       below b last = last_is h.session h.member h.task h.single h.ordered called.plan k.tasks c (counts_with h.session h.member h.task h.single called.plan k.tasks called.job called.stands.tables) h.job b last
 
+      keeps : (profiles called.job.tasks ≡ profiles h.member.course.job.tasks) × (called.job.next_task ≡ h.member.course.job.next_task)
+      keeps = kept h.session h.member h.task h.single h.ordered called.built called.job called.printed called.touched called.is
+
+      pub made_one : HasOne k
+      made_one =
+          limit_one known' (known ≢ None) h.session h.member h.task h.ordered h.single c h.choice h.job h.number called.job called.printed called.touched called.is keeps.0 keeps.1
+          k called.storage called.plan called.stands
+
       pub made_count : k.tasks.made ≡ s.made
       made_count = called.stands.tables.counts.made ∙ h.same_made
 
@@ -72,7 +85,7 @@ module _ {K : Type 0} (taken : K → Option (List ℕ)) (known known' : Option (
         goes_on : GoesOn h.session h.member h.task called.job called.printed
         goes_on =
             goes h.session h.member h.task h.single called.job called.printed called.touched called.is
-            (kept h.session h.member h.task h.single called.built called.job called.printed called.touched called.is) (below false last)
+            keeps.0 (below false last)
 
         abbrev after : Machine
         after = record k { tasks = tasks }
@@ -109,38 +122,51 @@ module _ {K : Type 0} (taken : K → Option (List ℕ)) (known known' : Option (
       is_over : IsLast c k.tasks true → IsOver h.session h.member h.task called.printed Limit
       is_over last =
           reaches_limit h.session h.member h.task h.single called.job called.printed called.touched called.is
-          (kept h.session h.member h.task h.single called.built called.job called.printed called.touched called.is) (below true last)
+          keeps.0 (below true last)
 
       -- what was printed and the line of the limit
       limit_text : (last : IsLast c k.tasks true) → run_text (task_lines h.member h.task called.printed) ++ ending_text c Limit ≡ run_text (is_over last).moment.lines
       limit_text last = with_ending h.member h.task c Limit called.printed h.job h.number ∙ ap run_text (sym (is_over last).lines)
 
-      pub made_steps : (answered : Result StepEnd Stop) (old : Machine) (tasks : Tasks) (paper'' : K) → old.tasks.made ≡ s.made → length old.cpu.core ≡ core
-          → Advances taken c answered k.tasks tasks paper' paper'' → Steps taken known' (known ≢ None) count s answered old (record k { tasks = tasks }) paper paper''
-      made_steps (Ok ends.GoesOn) old tasks paper'' om size a = record {
+      pub made_steps : (answered : Result StepEnd Stop) (old new : Machine) (paper'' : K) → old.tasks.made ≡ s.made → length old.cpu.core ≡ core
+          → Advances taken c answered k new paper' paper'' → Steps taken known' (known ≢ None) count s answered old new paper paper''
+      made_steps (Ok ends.GoesOn) old new paper'' om size a = record {
         session = h.session;
         same = h.same;
         made = omega (arith, om, made_count, a.1.made);
-        meets = subst (λ (n : ℕ). StepMeets taken known' (known ≢ None) n count h.session (Ok ends.GoesOn) (record k { tasks = tasks }) paper paper'') (sym size) (made_meets tasks a.1 a.0 paper'' a.2);
+        meets = (
+          let P : ℕ → Machine → Type 0 = λ n z. StepMeets taken known' (known ≢ None) n count h.session (Ok ends.GoesOn) z paper paper'' in
+          subst (P (length old.cpu.core)) (sym a.2) (subst (λ (n : ℕ). P n (record k { tasks = new.tasks })) (sym size) (made_meets new.tasks a.1 a.0 paper'' a.3))
+        );
       }
-      made_steps (Ok ends.Over) old tasks paper'' om size a =
+      made_steps (Ok ends.Over) old new paper'' om size a =
           let o = is_over a.0 in record {
             session = h.session;
             same = h.same;
             made = omega (arith, om, made_count, a.1.0);
             meets = (o.moment, λ tells. (o.is, none_lives o.moment.session (record h.member { course = o.course }) o.jobs o.over), Took-as (limit_text a.0) (Took-then called.text a.1.1));
           }
-      made_steps (Err stops.PrintFault) old tasks paper'' om size a =
+      made_steps (Err stops.PrintFault) old new paper'' om size a =
           let o = is_over a.0 in record {
             session = h.session;
             same = h.same;
             made = omega (arith, om, made_count, a.1.0);
             meets = (paper, o.moment, λ tells. o.is, Took-none taken paper, TookPart-as (limit_text a.0) (TookPart-then called.text a.1.1));
           }
-      made_steps (Err (stops.NoCore words size')) old tasks paper'' om size a = absurd a.1
-      made_steps (Err (stops.BackingFull sum size')) old tasks paper'' om size a = absurd a.1
-      made_steps (Err stops.BackingFault) old tasks paper'' om size a = absurd a.1
-      made_steps (Err stops.Unbuilt) old tasks paper'' om size a = absurd a.1
+      made_steps (Err (stops.NoCore words size')) old new paper'' om size a = absurd a.1
+      made_steps (Err (stops.BackingFull sum size')) old new paper'' om size a = absurd a.1
+      made_steps (Err stops.BackingFault) old new paper'' om size a = absurd a.1
+      made_steps (Err stops.Unbuilt) old new paper'' om size a = absurd a.1
+
+      made_over : (new : Machine) (paper'' : K) → Advances taken c (Ok ends.Over) k new paper' paper'' → Finishes c Limit (Ok ends.Over) k new → StepOver known' (known ≢ None) s new
+      made_over new paper'' a f =
+          over_same known' (known ≢ None) s h.session new h.same
+          (limit_over known' (known ≢ None) h.session h.member h.task h.ordered h.single c h.choice h.job h.number called.job called.printed called.touched called.is keeps.0 keeps.1
+          k new called.storage called.plan called.stands (below true a.0) f)
+
+      pub made_steps_over : (answered : Result StepEnd Stop) (new : Machine) (paper'' : K) → answered ≡ Ok ends.Over → Advances taken c answered k new paper' paper'' → Finishes c Limit answered k new → StepOver known' (known ≢ None) s new
+      made_steps_over answered new paper'' e a f =
+          made_over new paper'' (subst (λ (r : Result StepEnd Stop). Advances taken c r k new paper' paper'') e a) (subst (λ (r : Result StepEnd Stop). Finishes c Limit r k new) e f)
 
     -- the step that ends the task by itself
     module _ (ending : Ending) (h : Attempted taken known known' core count s c (Ok (attempts.Ends ending)) k paper paper') where
@@ -180,25 +206,34 @@ module _ {K : Type 0} (taken : K → Option (List ℕ)) (known known' : Option (
       unfolding ends_moment
       ends_text = ending_is h.member h.task c ending h.job h.number
 
-      pub ends_steps : (answered : Result StepEnd Stop) (old : Machine) (tasks : Tasks) (paper'' : K) → old.tasks.made ≡ s.made → length old.cpu.core ≡ core
-          → Closes taken c ending answered k.tasks tasks paper' paper'' → Steps taken known' (known ≢ None) count s answered old (record k { tasks = tasks }) paper paper''
-      ends_steps (Ok ends.Over) old tasks paper'' om size a = record {
+      pub ends_one : HasOne k
+      ends_one = record { storage = still.0; told = known'; plan = h.plan; session = h.session; member = h.member; task = h.task; ordered = h.ordered; stands = still.1; single = h.single }
+
+      pub ends_steps_over : (answered : Result StepEnd Stop) (new : Machine) → answered ≡ Ok ends.Over → Finishes c ending answered k new → StepOver known' (known ≢ None) s new
+      ends_steps_over answered new e f =
+          over_same known' (known ≢ None) s h.session new h.same
+          (ends_over known' (known ≢ None) h.session h.member h.task h.ordered h.single c h.choice h.job h.number k new still.0 h.plan ending still.1 h.meets.0
+          (subst (λ (r : Result StepEnd Stop). Finishes c ending r k new) e f))
+
+      pub ends_steps : (answered : Result StepEnd Stop) (old new : Machine) (paper'' : K) → old.tasks.made ≡ s.made → length old.cpu.core ≡ core
+          → Closes taken c ending answered k.tasks new.tasks paper' paper'' → Steps taken known' (known ≢ None) count s answered old new paper paper''
+      ends_steps (Ok ends.Over) old new paper'' om size a = record {
         session = h.session;
         same = h.same;
         made = omega (arith, om, ends_count, a.0);
         meets = (ends_moment, ends_next, Took-as ends_text (subst (λ z. Took taken z paper'' (ending_text c ending)) h.meets.2 a.1));
       }
-      ends_steps (Err stops.PrintFault) old tasks paper'' om size a = record {
+      ends_steps (Err stops.PrintFault) old new paper'' om size a = record {
         session = h.session;
         same = h.same;
         made = omega (arith, om, ends_count, a.0);
         meets = (paper, ends_moment, λ tells. (ends_next tells).0, Took-none taken paper, TookPart-as ends_text (subst (λ z. TookPart taken z paper'' (ending_text c ending)) h.meets.2 a.1));
       }
-      ends_steps (Ok ends.GoesOn) old tasks paper'' om size a = absurd a
-      ends_steps (Err (stops.NoCore words size')) old tasks paper'' om size a = absurd a
-      ends_steps (Err (stops.BackingFull sum size')) old tasks paper'' om size a = absurd a
-      ends_steps (Err stops.BackingFault) old tasks paper'' om size a = absurd a
-      ends_steps (Err stops.Unbuilt) old tasks paper'' om size a = absurd a
+      ends_steps (Ok ends.GoesOn) old new paper'' om size a = absurd a
+      ends_steps (Err (stops.NoCore words size')) old new paper'' om size a = absurd a
+      ends_steps (Err (stops.BackingFull sum size')) old new paper'' om size a = absurd a
+      ends_steps (Err stops.BackingFault) old new paper'' om size a = absurd a
+      ends_steps (Err stops.Unbuilt) old new paper'' om size a = absurd a
 
     -- the step that wasn't made
     still_lone : (answered : Result Attempt Stop) (h : Attempted taken known known' core count s c answered k paper paper') → StillStands known' k h.plan h.session → IsLone known' k h.session h.member h.task

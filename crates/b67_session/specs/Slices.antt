@@ -81,3 +81,17 @@ pub record Slices {K : Type 0} (taken : K → Option (List ℕ)) (known : Option
   pub leads : exact → Leads first steps session printed
   pub made : new.tasks.made ≡ old.tasks.made + steps
   pub meets : SliceMeets taken known exact (length old.cpu.core) count n steps session printed answered new paper paper'
+
+-- the machine stands for a session that no task is left of, and this is known of what the device's sectors hold
+pub record Rests (known : Option (List (List ℕ))) (k : Machine) (s : Session) : Type 0 where
+  pub storage : Storage
+  pub plan : Plan
+  pub stands : MachineStands storage known k plan s
+  pub none : live_tasks s.jobs ≡ 0
+
+-- after a run that has ended, the machine rests. Where it was known what the device's sectors hold, its session is the one
+-- after as many steps as were counted
+pub record Over (known : Option (List (List ℕ))) (exact : Type 0) (first : Session) (old new : Machine) : Type 0 where
+  pub session : Session
+  pub is : exact → (steps : ℕ) → new.tasks.made ≡ old.tasks.made + steps → after steps first ≡ session
+  pub rests : Rests known new session

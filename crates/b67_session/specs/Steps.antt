@@ -1,22 +1,25 @@
 -- What a step of a session's one task answers, prints and leaves; what its end makes of the tables.
-use Rattle.std.specs.Prelude.{◌≡◌, ℕ, ◌+◌, ◌-◌, ◌==◌, Bool, true, false, List, [], ◌++◌, length, codes, Option, Some, Result, Ok, Err, slice_get}
+use Rattle.std.specs.Prelude.{◌≡◌, ℕ, ◌+◌, ◌-◌, ◌==◌, Bool, true, false, List, [], ◌∷◌, ◌++◌, length, codes, Option, Some, Result, Ok, Err, slice_get}
 use Rattle.b67_word.specs.declared.faults.Ending.{Ending}
 use Rattle.b67_word.specs.declared.faults.Ending.TheVariants.{Limit}
 use Rattle.b67_io.specs.Line.{ended}
 use Rattle.b67_io.specs.Told.{Took, TookPart}
 use Rattle.b67_model.specs.Alone.{JobMoment}
-use Rattle.b67_model.specs.InOrder.{NumberedFrom}
+use Rattle.b67_model.specs.Endings.{ends_task}
+use Rattle.b67_model.specs.InOrder.{NumberedFrom, IsInOrderButPlaces}
 use Rattle.b67_model.specs.Keyed.{keyed}
 use Rattle.b67_model.specs.Lines.{run_text, task_name, ending_name}
 use Rattle.b67_model.specs.Run.{Moment, next, number_of, with_moment, live_tasks}
-use Rattle.b67_model.specs.Schedule.{Session}
-use Rattle.b67_model.specs.State.{Task, Member}
+use Rattle.b67_model.specs.Schedule.{Choice, Session}
+use Rattle.b67_model.specs.State.{Course, Task, Member}
+use Rattle.b67_single.specs.Single.{IsSingle}
+use Rattle.b67_stack.specs.Stands.{Storage}
 use Rattle.b67_layout.specs.Meets.{with_job}
 use Rattle.b67_layout.specs.Plan.{Plan}
 use Rattle.b67_task.specs.declared.tables.JobRow.{JobRow}
 use Rattle.b67_task.specs.declared.tables.Tasks.{Tasks}
 use Rattle.b67_task.specs.declared.tables.Machine.{Machine}
-use Rattle.b67_task.specs.Tables.{TasksShow}
+use Rattle.b67_task.specs.Tables.{TasksShow, MachineStands}
 use Rattle.b67_schedule.specs.declared.counting.Chosen.{Chosen}
 use Rattle.b67_schedule.specs.Counted.{choice_of}
 use Rattle.b67_intrinsics.specs.Called.{AreCountable}
@@ -24,7 +27,7 @@ use Rattle.b67_intrinsics.specs.declared.ends.Stop.{Stop}
 use Rattle.b67_intrinsics.specs.declared.ends.Stop.TheVariants as stops
 use Rattle.b67_session.specs.declared.ends.StepEnd.{StepEnd}
 use Rattle.b67_session.specs.declared.ends.StepEnd.TheVariants as ends
-use Rattle.b67_session.specs.Slices.{IsLone, SliceMeets}
+use Rattle.b67_session.specs.Slices.{IsLone, SliceMeets, Rests}
 
 -- one operator of the chosen task was counted: tables that show what it made of its job show the session after the step
 pub record IsCounted (c : Chosen) (old new : Tasks) : Type 0 where
@@ -44,15 +47,27 @@ Closes taken c ending (Ok ends.Over) old new paper paper' = (new.made ≡ old.ma
 Closes taken c ending (Err stops.PrintFault) old new paper paper' = (new.made ≡ old.made) × TookPart taken paper paper' (ending_text c ending)
 Closes taken c ending _ old new paper paper' = ⊥
 
+-- the session after the last step of its only job, with the course that the job then has
+abbrev pub finished : Session → Member → Choice → Course → Session
+finished s m c course = record s { jobs = record m { course = course } ∷ []; made = s.made + 1; last = c.who; turn = c.turn + 1 }
+
+-- where a step was the last one, since the only task has ended so, the machine stands for the session after it
+abbrev pub Finishes : Chosen → Ending → Result StepEnd Stop → Machine → Machine → Type 0
+Finishes c ending (Ok ends.Over) old new =
+    (x : Storage) (told : Option (List (List ℕ))) (plan : Plan) (s : Session) (m : Member) (t : Task) (course : Course) → IsInOrderButPlaces s
+    → MachineStands x told old plan s → IsSingle s m t → c.job ≡ m.setting.number → course.made ≡ m.course.made + 1 → course.job ≡ (ends_task m.course.job t.number ending).job
+    → (y : Storage) × (q : Plan) × MachineStands y told new q (finished s m (choice_of c) course)
+Finishes c ending _ old new = Unit {0}
+
 -- whether the chosen task's job, with one operator more, has made as many as it may
 abbrev pub IsLast : Chosen → Tasks → Bool → Type 0
 IsLast c tasks last = (r : JobRow) → slice_get tasks.jobs (c.job - 1) ≡ Some r → (r.made + 1 == r.limit) ≡ last
 
 -- an operator that was made is counted; or it was the last that its job may make
-abbrev pub Advances : {K : Type 0} → (K → Option (List ℕ)) → Chosen → Result StepEnd Stop → Tasks → Tasks → K → K → Type 0
-Advances taken c (Ok ends.GoesOn) old new paper paper' = IsLast c old false × IsCounted c old new × (paper' ≡ paper)
-Advances taken c (Ok ends.Over) old new paper paper' = IsLast c old true × Closes taken c Limit (Ok ends.Over) old new paper paper'
-Advances taken c (Err stop) old new paper paper' = IsLast c old true × Closes taken c Limit (Err stop) old new paper paper'
+abbrev pub Advances : {K : Type 0} → (K → Option (List ℕ)) → Chosen → Result StepEnd Stop → Machine → Machine → K → K → Type 0
+Advances taken c (Ok ends.GoesOn) old new paper paper' = IsLast c old.tasks false × IsCounted c old.tasks new.tasks × (new ≡ record old { tasks = new.tasks }) × (paper' ≡ paper)
+Advances taken c (Ok ends.Over) old new paper paper' = IsLast c old.tasks true × Closes taken c Limit (Ok ends.Over) old.tasks new.tasks paper paper'
+Advances taken c (Err stop) old new paper paper' = IsLast c old.tasks true × Closes taken c Limit (Err stop) old.tasks new.tasks paper paper'
 
 -- how a step ended that set out from a session, over a core of so many words and a device of so many sectors, of which this
 -- is known. One that wasn't made ends as a slice of no steps. `exact` is whether anything was known of them at the start
@@ -75,3 +90,10 @@ pub record Steps {K : Type 0} (taken : K → Option (List ℕ)) (known : Option 
   pub same : exact → session ≡ s
   pub made : new.tasks.made ≡ old.tasks.made + steps_of answered
   pub meets : StepMeets taken known exact (length old.cpu.core) count session answered new paper paper'
+
+-- after the last step the machine rests. Where it was known what the device's sectors hold, its session is the one after the
+-- step
+pub record StepOver (known : Option (List (List ℕ))) (exact : Type 0) (s : Session) (new : Machine) : Type 0 where
+  pub session : Session
+  pub is : exact → (moment : Moment) × (next s ≡ Some moment) × (moment.session ≡ session)
+  pub rests : Rests known new session

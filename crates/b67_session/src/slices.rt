@@ -7,7 +7,8 @@ ghost use Rattle.b67_model.specs.Schedule.{Session};
 ghost use Rattle.b67_storage.specs.Machine.{Says, Served, retold};
 ghost use Rattle.b67_intrinsics.specs.Called.{AreCountable};
 ghost use Rattle.b67_intrinsics.specs.declared.ends.Stop.TheVariants.{BackingFault, PrintFault};
-ghost use Rattle.b67_session.specs.Slices.{LivesOn, IsLone, Slices, Pauses};
+ghost use Rattle.b67_session.specs.declared.slices.Progress.TheVariants.{Ended};
+ghost use Rattle.b67_session.specs.Slices.{LivesOn, IsLone, Slices, Pauses, Over};
 
 use crate::ends::StepEnd;
 use crate::steps::step;
@@ -43,7 +44,8 @@ fn pause(tasks: &Tasks) -> Option<Progress>
 /// After a `Stop` the step isn't counted, and but after `PrintFault` the machine stands for the state before it. `NoCore`
 /// only where the step's need exceeds core, with both; `BackingFull` only where the session takes more sectors than the
 /// device has, with both; `BackingFault` and `PrintFault` only where that device failed. Where nothing is known of what the
-/// device's sectors hold, the words that it gives back may be others, and as many.
+/// device's sectors hold, the words that it gives back may be others, and as many. After `Ended` the machine stands for the
+/// session without a task; where it was known what the sectors hold, for the one after the steps.
 pub fn slice<B: Backing, K: Sink>(
     machine: &mut Machine,
     n: u64,
@@ -55,6 +57,8 @@ pub fn slice<B: Backing, K: Sink>(
     requires same { B.size backing.old + 1 ≡ length machine.old.sectors.links }
     ensures row { (known : Option (List (List ℕ))) (s : Session) (m : Member) (t : Task) → Says known (B.holds backing.old) → IsLone known machine.old s m t
         → Slices K.taken (retold known (B.holds backing.new)) (known ≢ None) (B.size backing.old) n s result machine.old machine.new paper.old paper.new }
+    ensures over { (known : Option (List (List ℕ))) (s : Session) (m : Member) (t : Task) → Says known (B.holds backing.old) → IsLone known machine.old s m t
+        → result ≡ Ok Ended → Over (retold known (B.holds backing.new)) (known ≢ None) s machine.old machine.new }
     ensures backing_cause { result ≡ Err BackingFault → Rose B.faults backing.old backing.new }
     ensures print_cause { result ≡ Err PrintFault → Rose K.faults paper.old paper.new }
     ensures later { K.faults paper.old ≤ K.faults paper.new }

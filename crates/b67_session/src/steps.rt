@@ -1,14 +1,15 @@
 //! One step of a session of one job with one task.
 
-ghost use Rattle.std.specs.Prelude.{◌≡◌, ◌≢◌, ℕ, ◌+◌, ◌≤◌, List, Option, Some, None, Err, length};
+ghost use Rattle.std.specs.Prelude.{◌≡◌, ◌≢◌, ℕ, ◌+◌, ◌≤◌, List, Option, Some, None, Ok, Err, length};
 ghost use Rattle.b67_io.specs.Causes.{Rose};
 ghost use Rattle.b67_model.specs.State.{Task, Member};
 ghost use Rattle.b67_model.specs.Schedule.{Session};
 ghost use Rattle.b67_storage.specs.Machine.{Says, Served, retold};
 ghost use Rattle.b67_intrinsics.specs.Called.{AreCountable};
 ghost use Rattle.b67_intrinsics.specs.declared.ends.Stop.TheVariants.{BackingFault, PrintFault};
+ghost use Rattle.b67_session.specs.declared.ends.StepEnd.TheVariants.{Over};
 ghost use Rattle.b67_session.specs.Slices.{LivesOn, IsLone};
-ghost use Rattle.b67_session.specs.Steps.{Steps};
+ghost use Rattle.b67_session.specs.Steps.{Steps, StepOver};
 
 use crate::ends::{StepEnd, advance, close};
 use crate::turns::give_turn;
@@ -20,7 +21,7 @@ use b67_schedule::choose;
 use b67_task::Machine;
 
 /// Makes one step, with its text printed and its operator counted. After a `Stop` it isn't counted, and but after
-/// `PrintFault` the machine stands for the state before it.
+/// `PrintFault` the machine stands for the state before it. After the last step it stands for the session without a task.
 pub(crate) fn step<B: Backing, K: Sink>(
     machine: &mut Machine,
     backing: &mut B,
@@ -31,6 +32,8 @@ pub(crate) fn step<B: Backing, K: Sink>(
     requires same { B.size backing.old + 1 ≡ length machine.old.sectors.links }
     ensures row { (known : Option (List (List ℕ))) (s : Session) (m : Member) (t : Task) → Says known (B.holds backing.old) → IsLone known machine.old s m t
         → Steps K.taken (retold known (B.holds backing.new)) (known ≢ None) (B.size backing.old) s result machine.old machine.new paper.old paper.new }
+    ensures over { (known : Option (List (List ℕ))) (s : Session) (m : Member) (t : Task) → Says known (B.holds backing.old) → IsLone known machine.old s m t
+        → result ≡ Ok Over → StepOver (retold known (B.holds backing.new)) (known ≢ None) s machine.new }
     ensures backing_cause { result ≡ Err BackingFault → Rose B.faults backing.old backing.new }
     ensures print_cause { result ≡ Err PrintFault → Rose K.faults paper.old paper.new }
     ensures later { K.faults paper.old ≤ K.faults paper.new }
@@ -46,8 +49,8 @@ pub(crate) fn step<B: Backing, K: Sink>(
     };
     give_turn(machine, chosen.row);
     match attempt(machine, backing, paper) {
-        Ok(Attempt::Made) => advance(&mut machine.tasks, chosen, paper),
-        Ok(Attempt::Ends(ending)) => close(&mut machine.tasks, chosen, ending, paper),
+        Ok(Attempt::Made) => advance(machine, chosen, paper),
+        Ok(Attempt::Ends(ending)) => close(machine, chosen, ending, paper),
         Err(stop) => Err(stop),
     }
 }

@@ -1,11 +1,12 @@
-use Rattle.std.proofs.Common.{◌≢◌, ℕ, List, Option, None, Ok, Err, refl, sym, ◌∙◌, subst, arith}
+use Rattle.std.proofs.Common.{◌≢◌, ℕ, List, Option, None, Ok, Err, refl, sym, ap, ◌∙◌, subst, arith}
 use Rattle.b67_storage.specs.Machine.{retold}
 use Rattle.b67_overlay.proofs.Chains.{retold-same}
 use Rattle.b67_storage.proofs.Devices.{Served-none, Served-then}
+use Rattle.b67_session.specs.declared.ends.StepEnd.{StepEnd}
 use Rattle.b67_session.specs.declared.ends.StepEnd.TheVariants as ends
-use Rattle.b67_session.specs.Steps.{Steps}
-use Rattle.b67_session.proofs.Going.{Going, going-begins, going-lives, going-more, going-steps, going-over, going-stops}
-use Rattle.b67_session.proofs.Pausing.{says_retold, still_told, known_still, retold_twice, pause_slices}
+use Rattle.b67_session.specs.Steps.{Steps, StepOver}
+use Rattle.b67_session.proofs.Going.{Going, going-begins, going-lives, going-more, going-steps, going-over, going-rests, going-stops}
+use Rattle.b67_session.proofs.Pausing.{says_retold, still_told, known_still, retold_twice, pause_slices, pause_over}
 use Rattle.b67_session.proofs.slices.slice.Goals as goal
 
 pub step-init : goal.step-init
@@ -37,6 +38,16 @@ returns-in-Some-pause-clause-row g c = λ known s m t says h.
     pause_slices g.K.Sink.taken (known ≢ None) (retold known (g.B.Backing.holds c.step.backing)) (g.B.Backing.size c.args.backing.now) c.args.n c.step._made s c.args.machine.now c.step.machine c.args.paper.now c.step.paper
     (c.step.invariant.going known s m t says h) (omega arith) c.in-Some-pause.progress c.in-Some-pause.ensures
 
+pub returns-in-Some-clause-over : goal.returns-in-Some-clause-over
+returns-in-Some-clause-over g c = λ known s m t says h e.
+    pause_over g.K.Sink.taken (known ≢ None) (retold known (g.B.Backing.holds c.step.backing)) (g.B.Backing.size c.args.backing.now) c.args.n c.step._made s c.args.machine.now c.step.machine c.args.paper.now c.step.paper
+    (c.step.invariant.going known s m t says h) c.in-Some.progress c.in-Some.ensures cc
+
+pub returns-in-Some-pause-clause-over : goal.returns-in-Some-pause-clause-over
+returns-in-Some-pause-clause-over g c = λ known s m t says h e.
+    pause_over g.K.Sink.taken (known ≢ None) (retold known (g.B.Backing.holds c.step.backing)) (g.B.Backing.size c.args.backing.now) c.args.n c.step._made s c.args.machine.now c.step.machine c.args.paper.now c.step.paper
+    (c.step.invariant.going known s m t says h) c.in-Some-pause.progress c.in-Some-pause.ensures cc
+
 pub returns-in-None-clause-row : goal.returns-in-None-clause-row
 returns-in-None-clause-row g c = λ known s m t says h.
     going-more g.K.Sink.taken (known ≢ None) (retold known (g.B.Backing.holds c.step.backing)) (g.B.Backing.size c.args.backing.now) c.args.n c.step._made s c.args.machine.now c.step.machine c.args.paper.now c.step.paper
@@ -62,6 +73,23 @@ returns-in-Ok-Over-clause-row g c = λ known s m t says h.
     subst (λ (d : Option (List (List ℕ))). P d (g.B.Backing.size c.args.backing.now)) (retold_twice known (g.B.Backing.holds c.step.backing) after tells) (subst (P (retold now after)) c.step.invariant.device.size made) in
     going-over g.K.Sink.taken (known ≢ None) now (g.B.Backing.size c.args.backing.now) c.args.n c.step._made s c.args.machine.now c.step.machine c.args.paper.now c.step.paper going
     (retold known after) (known_still known (g.B.Backing.holds c.step.backing) tells) c.step-in-step.new.machine c.step-in-step.new.paper (omega arith) sized
+
+pub returns-in-Ok-Over-clause-over : goal.returns-in-Ok-Over-clause-over
+returns-in-Ok-Over-clause-over g c = λ known s m t says h e.
+    let now = retold known (g.B.Backing.holds c.step.backing) in
+    let after = g.B.Backing.holds c.step-in-step.new.backing in
+    let tells = still_told g.B.Backing.holds g.B.Backing.size g.B.Backing.calls g.B.Backing.faults c.args.backing.now c.step.backing known says c.step.invariant.device in
+    let going = c.step.invariant.going known s m t says h in
+    let P : Option (List (List ℕ)) → ℕ → Type 0 = λ d n. Steps g.K.Sink.taken d (now ≢ None) n going.session (Ok ends.Over) c.step.machine c.step-in-step.new.machine c.step.paper c.step-in-step.new.paper in
+    let made : P (retold now after) (g.B.Backing.size c.step.backing) = rw c.in-Ok-Over.field-0-is at (c.in-Ok-Over.ensures.row now going.session going.member going.task (says_retold known (g.B.Backing.holds c.step.backing)) going.lone) in
+    let sized : P (retold known after) (g.B.Backing.size c.args.backing.now) =
+    subst (λ (d : Option (List (List ℕ))). P d (g.B.Backing.size c.args.backing.now)) (retold_twice known (g.B.Backing.holds c.step.backing) after tells) (subst (P (retold now after)) c.step.invariant.device.size made) in
+    let last : StepOver (retold now after) (now ≢ None) going.session c.step-in-step.new.machine =
+    c.in-Ok-Over.ensures.over now going.session going.member going.task (says_retold known (g.B.Backing.holds c.step.backing)) going.lone (ap (λ (r : StepEnd). Ok r) c.in-Ok-Over.field-0-is) in
+    let rests : StepOver (retold known after) (now ≢ None) going.session c.step-in-step.new.machine =
+    subst (λ (d : Option (List (List ℕ))). StepOver d (now ≢ None) going.session c.step-in-step.new.machine) (retold_twice known (g.B.Backing.holds c.step.backing) after tells) last in
+    going-rests g.K.Sink.taken (known ≢ None) now (g.B.Backing.size c.args.backing.now) c.args.n c.step._made s c.args.machine.now c.step.machine c.args.paper.now c.step.paper going
+    (retold known after) (known_still known (g.B.Backing.holds c.step.backing) tells) c.step-in-step.new.machine c.step-in-step.new.paper sized rests
 
 pub returns-in-Err-clause-row : goal.returns-in-Err-clause-row
 returns-in-Err-clause-row g c = λ known s m t says h.

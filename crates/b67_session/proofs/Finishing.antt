@@ -1,0 +1,156 @@
+-- The session of one job before and after the step that ends its only task, and the machine that stands for it.
+use Rattle.std.proofs.Common.{◌≡◌, ◌≢◌, ℕ, ◌+◌, ◌-◌, ◌≤◌, max, Bool, true, false, not, List, [], ◌∷◌, ◌++◌, length, Option, Some, Ok, Err, refl, sym, ap, ◌∙◌, subst, arith, inl}
+use Rattle.std.specs.Prelude.{◌==◌, filter}
+use Rattle.std.specs.Bool.{IsTrue}
+use Rattle.std.proofs.lemmas.Bool.{eq-eqb}
+use Rattle.std.proofs.lemmas.List.Sums.{sum_by-cons}
+use Rattle.b67_word.specs.declared.faults.Ending.{Ending}
+use Rattle.b67_word.specs.declared.faults.Ending.TheVariants.{Deadlock, Limit}
+use Rattle.b67_model.specs.Answers.{Answer}
+use Rattle.b67_model.specs.Lists.{Has}
+use Rattle.b67_model.specs.State.{Array, Condition, Ready, Task, Job, Course, Member}
+use Rattle.b67_model.specs.Steps.{Line, Done, Goes}
+use Rattle.b67_model.specs.Endings.{Settled, is_ready, is_owned_by, ends_task, ends_each_if, deadlocked, unsettled, limited}
+use Rattle.b67_model.specs.Alone.{JobMoment}
+use Rattle.b67_model.specs.Keyed.{keyed, change_keyed}
+use Rattle.b67_model.specs.Rows.{step}
+use Rattle.b67_model.specs.Run.{number_of, with_moment, live_tasks}
+use Rattle.b67_model.specs.Schedule.{Session, Choice}
+use Rattle.b67_model.specs.InOrder.{IsSegment, JobInOrder, CountsInOrder, IsInOrderButPlaces}
+use Rattle.b67_order.specs.Ends.{StepsFrom}
+use Rattle.b67_order_rows.specs.Keeping.{KeepsOrder}
+use Rattle.b67_order_steps.proofs.Segments.{rows_keep_order_but_places}
+use Rattle.b67_ordering.proofs.Members.{member_kept}
+use Rattle.b67_profiles.specs.Profiles.{Profile, profile, profiles}
+use Rattle.b67_layout.specs.Meets.{with_job}
+use Rattle.b67_single.specs.Single.{IsSingle}
+use Rattle.b67_session.specs.Steps.{finished}
+use Rattle.b67_session.proofs.Lone.{has_member, found, task_found, job_ordered}
+use Rattle.b67_session.proofs.Rooms.{with_is}
+
+-- one task of the profile of a ready one without a parent
+pub record OneTask (t : Task) (tasks : List Task) : Type 0 where
+  pub task : Task
+  pub is : tasks ≡ task ∷ []
+  pub number : task.number ≡ t.number
+  pub ready : task.condition ≡ Ready
+  pub first : task.parents ≡ []
+
+pub one_task : (t : Task) (ts : List Task) → t.condition ≡ Ready → t.parents ≡ [] → profiles ts ≡ profile t ∷ [] → OneTask t ts
+one_task t [] ready first e = absurd cc
+one_task t (u ∷ []) ready first e =
+    let p : profile u ≡ profile t = (let head : List Profile → Profile = λ ps. elim ps [ [] ↦ profile t | q ∷ qs ↦ q ] in ap head e) in
+    record {
+      task = u;
+      is = refl;
+      number = ap (λ (q : Profile). q.number) p;
+      ready = ap (λ (q : Profile). q.condition) p ∙ ready;
+      first = ap (λ (q : Profile). q.parents) p ∙ first;
+    }
+one_task t (u ∷ v ∷ more) ready first e = absurd cc
+
+-- the session with the job that an operator has made, before it is counted
+module _ (s : Session) (m : Member) (t : Task) (single : IsSingle s m t) (o : IsInOrderButPlaces s) (job : Job) (printed : List Line) (touched : Option ℕ)
+    (is : step m.setting m.course.job t ≡ Ok (Goes job printed touched)) (same : profiles job.tasks ≡ profiles m.course.job.tasks) (next_is : job.next_task ≡ m.course.job.next_task) where
+  pub one : OneTask t job.tasks
+  one = one_task t job.tasks single.ready single.first (same ∙ ap profiles single.tasks)
+
+  abbrev pub member_with : Member
+  member_with = record m { course = record m.course { job = job } }
+
+  pub single_with : IsSingle (with_job s m job) member_with one.task
+  single_with = record {
+    jobs = with_is s m t single job;
+    tasks = one.is;
+    ready = one.ready;
+    first = one.first;
+    peak = single.peak;
+  }
+
+  abbrev j : JobInOrder (IsSegment m.setting) m.setting m.course
+  j = job_ordered s m t single o
+
+  steps_from : StepsFrom (IsSegment m.setting) m.setting m.course.job t
+  steps_from = record { unchanging = j.unchanging; order = j.tasks; live = task_found s m t single; ready = single.ready; few = omega (arith, j.counts.next, j.counts.within, j.unchanging.limit) }
+
+  some_task : m.course.job.tasks ≢ []
+  some_task none = let e : t ∷ [] ≡ [] = sym single.tasks ∙ none in absurd cc
+
+  order_with : JobInOrder (IsSegment m.setting) m.setting (record m.course { job = job })
+  order_with =
+      let K : Answer Done → Type 0 = KeepsOrder (IsSegment m.setting) m.setting m.course.job t in
+      record {
+        unchanging = j.unchanging;
+        tasks = (let there : K (Ok (Goes job printed touched)) = subst K is (rows_keep_order_but_places m.setting m.course.job t steps_from) in there);
+        counts = record {
+          next = omega (arith, next_is, j.counts.next);
+          within = j.counts.within;
+          goes_on = λ some. (one.task, subst (λ (ts : List Task). Has ts one.task) (sym one.is) (inl refl), subst (λ (c : Condition). IsTrue (is_ready (record one.task { condition = c }))) (sym one.ready) refl);
+        };
+        below_limit = λ some. j.below_limit some_task;
+      }
+
+  pub ordered_with : IsInOrderButPlaces (with_job s m job)
+  ordered_with = member_kept s m job o (found s m t single) order_with (ap (λ (ts : List Task). length ts) one.is ∙ sym (ap (λ (ts : List Task). length ts) single.tasks))
+
+-- a session whose only job has no task left
+pub none_lives : (s : Session) (m : Member) → s.jobs ≡ m ∷ [] → m.course.job.tasks ≡ [] → live_tasks s.jobs ≡ 0
+none_lives s m jobs none = ap live_tasks jobs ∙ omega (arith, sum_by-cons (λ (y : Member). length y.course.job.tasks) m [], ap (λ (ts : List Task). length ts) none)
+
+-- the session after the last step keeps its peak
+pub finished_is : (s : Session) (m : Member) (t : Task) → IsSingle s m t → (c : Choice) → c.who.job ≡ m.setting.number → (made : JobMoment) → made.alive ≡ 1 → with_moment s c m made ≡ finished s m c made.course
+finished_is s m t single c job made one =
+    let put : Member → Member = λ y. record y { course = made.course } in
+    let jobs : change_keyed number_of c.who.job put s.jobs ≡ record m { course = made.course } ∷ [] =
+    ap (change_keyed number_of c.who.job put) single.jobs ∙ ap (λ (n : ℕ). change_keyed number_of n put (m ∷ [])) job ∙ rw (eq-eqb m.setting.number m.setting.number refl) refl in
+    let lives : live_tasks s.jobs ≡ 1 = ap live_tasks single.jobs ∙ omega (arith, sum_by-cons (λ (y : Member). length y.course.job.tasks) m [], ap (λ (ts : List Task). length ts) single.tasks) in
+    let own : length m.course.job.tasks ≡ 1 = ap (λ (ts : List Task). length ts) single.tasks in
+    let peak : max s.peak (live_tasks s.jobs - length m.course.job.tasks + made.alive) ≡ s.peak = omega (arith, lives, own, one, single.peak) in
+    ap (λ (js : List Member). record s { jobs = js; made = s.made + 1; last = c.who; turn = c.turn + 1; peak = max s.peak (live_tasks s.jobs - length m.course.job.tasks + made.alive) }) jobs
+    ∙ ap (λ (n : ℕ). record s { jobs = record m { course = made.course } ∷ []; made = s.made + 1; last = c.who; turn = c.turn + 1; peak = n }) peak
+
+-- a job's task without a parent, which is ready
+abbrev first_task : Task → Task
+first_task t = record t { parents = []; condition = Ready }
+
+abbrev job_with : Job → Task → Job
+job_with job t = record job { tasks = first_task t ∷ [] }
+
+job_is : (job : Job) (t : Task) → job.tasks ≡ t ∷ [] → t.condition ≡ Ready → t.parents ≡ [] → job ≡ job_with job t
+job_is job t tasks ready first =
+    ap (λ (ts : List Task). record job { tasks = ts }) tasks
+    ∙ ap (λ (ps : List ℕ). record job { tasks = record t { parents = ps } ∷ [] }) first
+    ∙ ap (λ (c : Condition). record job { tasks = record t { parents = []; condition = c } ∷ [] }) ready
+
+-- after its end the job has no task
+pub none_left : (job : Job) (t : Task) (ending : Ending) → job.tasks ≡ t ∷ [] → t.condition ≡ Ready → t.parents ≡ [] → (ends_task job t.number ending).job.tasks ≡ []
+none_left job t ending tasks ready first =
+    let Q : Job → Type 0 = λ z. (ends_task z t.number ending).job.tasks ≡ [] in
+    let same : (t.number == t.number) ≡ true = eq-eqb t.number t.number refl in
+    subst Q (sym (job_is job t tasks ready first)) (rw same refl)
+
+-- at the limit it ends as by itself
+pub limit_ends : (job : Job) (t : Task) (limit made : ℕ) → job.tasks ≡ t ∷ [] → t.condition ≡ Ready → t.parents ≡ [] → (made == limit) ≡ true
+    → (limited limit made (deadlocked (unsettled job))).job ≡ (ends_task job t.number Limit).job
+limit_ends job t limit made tasks ready first at =
+    let Q : Job → Type 0 = λ z. (limited limit made (deadlocked (unsettled z))).job ≡ (ends_task z t.number Limit).job in
+    let same : (t.number == t.number) ≡ true = eq-eqb t.number t.number refl in
+    subst Q (sym (job_is job t tasks ready first)) (rw at (rw same refl))
+
+filter_all : (xs : List Array) → filter (λ (a : Array). true) xs ≡ xs
+filter_all [] = refl
+filter_all (x ∷ xs) = ap (λ (ys : List Array). x ∷ ys) (filter_all xs)
+
+-- where a job has no task, no more of it ends
+each_none : (test : Bool) (ending : Ending) (s : Settled) → s.job.tasks ≡ [] → (ends_each_if test ending s).job ≡ s.job
+each_none false ending s none = refl
+each_none true ending s none =
+    let Q : Job → Type 0 = λ z. (ends_each_if true ending (record s { job = z })).job ≡ z in
+    let bare : Q (record s.job { tasks = [] }) = ap (λ (xs : List Array). record s.job { tasks = []; arrays = xs }) (filter_all s.job.arrays) in
+    subst Q (ap (λ (ts : List Task). record s.job { tasks = ts }) (sym none)) bare
+
+-- the rest of the end of the step changes nothing
+pub ends_rest : (s : Settled) (limit made : ℕ) → s.job.tasks ≡ [] → (limited limit made (deadlocked s)).job ≡ s.job
+ends_rest s limit made none =
+    let one : (deadlocked s).job ≡ s.job = each_none _ Deadlock s none in
+    each_none (made == limit) Limit (deadlocked s) (ap (λ (j : Job). j.tasks) one ∙ none) ∙ one
