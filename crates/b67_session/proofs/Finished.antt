@@ -1,5 +1,5 @@
 -- The machine after the step that ended the only task.
-use Rattle.std.proofs.Common.{◌≡◌, ℕ, ◌+◌, true, List, [], ◌∷◌, length, Option, Some, None, Ok, Err, refl, sym, ap, ◌∙◌, subst}
+use Rattle.std.proofs.Common.{◌≡◌, ℕ, ◌+◌, true, List, [], ◌∷◌, length, Option, Some, Ok, Err, refl, sym, ap, ◌∙◌, subst}
 use Rattle.std.specs.Prelude.{◌==◌}
 use Rattle.b67_word.specs.declared.faults.Ending.{Ending}
 use Rattle.b67_word.specs.declared.faults.Ending.TheVariants.{Ended, Parent, Deadlock, Limit, Faulted}
@@ -11,7 +11,7 @@ use Rattle.b67_model.specs.Alone.{JobMoment, moment_with}
 use Rattle.b67_model.specs.Keyed.{keyed}
 use Rattle.b67_model.specs.Rows.{step}
 use Rattle.b67_model.specs.Run.{Moment, next, number_of, with_moment, of_job}
-use Rattle.b67_model.specs.Schedule.{Session, Choice, choice}
+use Rattle.b67_model.specs.Schedule.{Session, choice}
 use Rattle.b67_model.specs.InOrder.{IsInOrderButPlaces}
 use Rattle.b67_stack.specs.declared.Cpu.{Cpu}
 use Rattle.b67_stack.specs.Picture.{Picture, Settled}
@@ -33,7 +33,6 @@ use Rattle.b67_schedule.specs.Counted.{choice_of, HasRoom}
 use Rattle.b67_attempt.specs.Tries.{EndsSo}
 use Rattle.b67_ending.specs.Endings.{without_slot, HasOne, EndsIn}
 use Rattle.b67_session.specs.declared.ends.StepEnd.TheVariants as ends
-use Rattle.b67_session.specs.Slices.{Rests}
 use Rattle.b67_session.specs.Steps.{IsCounted, Finishes, StepOver, finished}
 use Rattle.b67_session.proofs.Lone.{found}
 use Rattle.b67_session.proofs.Moments.{jm, moment_is, of_answer}

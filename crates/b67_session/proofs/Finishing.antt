@@ -1,5 +1,5 @@
 -- The session of one job before and after the step that ends its only task, and the machine that stands for it.
-use Rattle.std.proofs.Common.{◌≡◌, ◌≢◌, ℕ, ◌+◌, ◌-◌, ◌≤◌, max, Bool, true, false, not, List, [], ◌∷◌, ◌++◌, length, Option, Some, Ok, Err, refl, sym, ap, ◌∙◌, subst, arith, inl}
+use Rattle.std.proofs.Common.{◌≡◌, ◌≢◌, ℕ, ◌+◌, ◌-◌, max, Bool, true, false, List, [], ◌∷◌, length, Option, Ok, refl, sym, ap, ◌∙◌, subst, arith, inl}
 use Rattle.std.specs.Prelude.{◌==◌, filter}
 use Rattle.std.specs.Bool.{IsTrue}
 use Rattle.std.proofs.lemmas.Bool.{eq-eqb}
@@ -8,15 +8,15 @@ use Rattle.b67_word.specs.declared.faults.Ending.{Ending}
 use Rattle.b67_word.specs.declared.faults.Ending.TheVariants.{Deadlock, Limit}
 use Rattle.b67_model.specs.Answers.{Answer}
 use Rattle.b67_model.specs.Lists.{Has}
-use Rattle.b67_model.specs.State.{Array, Condition, Ready, Task, Job, Course, Member}
+use Rattle.b67_model.specs.State.{Array, Condition, Ready, Task, Job, Member}
 use Rattle.b67_model.specs.Steps.{Line, Done, Goes}
-use Rattle.b67_model.specs.Endings.{Settled, is_ready, is_owned_by, ends_task, ends_each_if, deadlocked, unsettled, limited}
+use Rattle.b67_model.specs.Endings.{Settled, is_ready, ends_task, ends_each_if, deadlocked, unsettled, limited}
 use Rattle.b67_model.specs.Alone.{JobMoment}
-use Rattle.b67_model.specs.Keyed.{keyed, change_keyed}
+use Rattle.b67_model.specs.Keyed.{change_keyed}
 use Rattle.b67_model.specs.Rows.{step}
 use Rattle.b67_model.specs.Run.{number_of, with_moment, live_tasks}
 use Rattle.b67_model.specs.Schedule.{Session, Choice}
-use Rattle.b67_model.specs.InOrder.{IsSegment, JobInOrder, CountsInOrder, IsInOrderButPlaces}
+use Rattle.b67_model.specs.InOrder.{IsSegment, JobInOrder, IsInOrderButPlaces}
 use Rattle.b67_order.specs.Ends.{StepsFrom}
 use Rattle.b67_order_rows.specs.Keeping.{KeepsOrder}
 use Rattle.b67_order_steps.proofs.Segments.{rows_keep_order_but_places}
@@ -25,7 +25,7 @@ use Rattle.b67_profiles.specs.Profiles.{Profile, profile, profiles}
 use Rattle.b67_layout.specs.Meets.{with_job}
 use Rattle.b67_single.specs.Single.{IsSingle}
 use Rattle.b67_session.specs.Steps.{finished}
-use Rattle.b67_session.proofs.Lone.{has_member, found, task_found, job_ordered}
+use Rattle.b67_session.proofs.Lone.{found, task_found, job_ordered}
 use Rattle.b67_session.proofs.Rooms.{with_is}
 
 -- one task of the profile of a ready one without a parent

@@ -5,7 +5,7 @@ use Rattle.b67_word.specs.declared.faults.Ending.{Ending}
 use Rattle.b67_word.specs.declared.faults.Ending.TheVariants.{Ended, Parent, Deadlock, Limit, Faulted}
 use Rattle.b67_io.specs.Told.{Took, TookPart}
 use Rattle.b67_io.proofs.Joined.{Took-none, Took-then, TookPart-then}
-use Rattle.b67_model.specs.State.{Task, Job, Member}
+use Rattle.b67_model.specs.State.{Job}
 use Rattle.b67_model.specs.Steps.{Ends}
 use Rattle.b67_model.specs.Lines.{run_text}
 use Rattle.b67_model.specs.Run.{RunLine, Moment, next, live_tasks}
@@ -135,9 +135,9 @@ module _ {K : Type 0} (taken : K → Option (List ℕ)) (known known' : Option (
         same = h.same;
         made = omega (arith, om, made_count, a.1.made);
         meets = (
-          let P : ℕ → Machine → Type 0 = λ n z. StepMeets taken known' (known ≢ None) n count h.session (Ok ends.GoesOn) z paper paper'' in
-          subst (P (length old.cpu.core)) (sym a.2) (subst (λ (n : ℕ). P n (record k { tasks = new.tasks })) (sym size) (made_meets new.tasks a.1 a.0 paper'' a.3))
-        );
+            let P : ℕ → Machine → Type 0 = λ n z. StepMeets taken known' (known ≢ None) n count h.session (Ok ends.GoesOn) z paper paper'' in
+            subst (P (length old.cpu.core)) (sym a.2) (subst (λ (n : ℕ). P n (record k { tasks = new.tasks })) (sym size) (made_meets new.tasks a.1 a.0 paper'' a.3))
+            );
       }
       made_steps (Ok ends.Over) old new paper'' om size a =
           let o = is_over a.0 in record {

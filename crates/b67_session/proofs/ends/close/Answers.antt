@@ -1,7 +1,7 @@
 use Rattle.std.proofs.Common.{sym, subst}
 use Rattle.b67_task.specs.declared.tables.Tasks.{Tasks}
 use Rattle.b67_intrinsics.specs.Called.{AreCountable}
-use Rattle.b67_session.proofs.Finished.{room_left, finish}
+use Rattle.b67_session.proofs.Finished.{finish}
 use Rattle.b67_session.proofs.ends.close.Goals as goal
 
 pub returns-clause-over : goal.returns-clause-over
