@@ -1,6 +1,7 @@
 -- What one try answers, from what the operator or the intrinsic answered.
 use Rattle.std.proofs.Common.{◌≡◌, ◌≢◌, ℕ, ◌+◌, List, [], length, Option, Some, None, Ok, Err, refl, sym, ◌∙◌, ap, subst}
 use Rattle.std.proofs.lemmas.List.{append-nil}
+use Rattle.std.proofs.lemmas.Option.{none-some}
 use Rattle.b67_word.specs.declared.faults.Fault.{Fault}
 use Rattle.b67_model.specs.State.{Task, Member}
 use Rattle.b67_model.specs.Answers.{Answer}
@@ -25,7 +26,7 @@ use Rattle.b67_keeping.proofs.Laws.{touches_arrays}
 use Rattle.b67_made.specs.Makes.{Makes, CallsOrMakes, MakesAt}
 use Rattle.b67_intrinsics.specs.declared.ends.Stop.{Stop}
 use Rattle.b67_intrinsics.specs.declared.ends.Stop.TheVariants as stops
-use Rattle.b67_intrinsics.specs.Called.{IsCalled, TouchesAbsent, CallMeets}
+use Rattle.b67_intrinsics.specs.Called.{CallsBuilt, IsCalled, TouchesAbsent, CallMeets}
 use Rattle.b67_bring.specs.Bringing.{IsWanted}
 use Rattle.b67_attempt.specs.Tries.{IsTouched, TryMeets}
 
@@ -51,6 +52,13 @@ module _ (x : Storage) (told : Option (List (List ℕ))) (plan : Plan) (s : Sess
     by : (called : Option ℕ) → CallsOrMakes x told plan s m t answers.Done old new called → Makes x told plan s m t new
     by (Some n) h = let e = h.0 in absurd cc
     by None h = h
+
+  pub was_built : (area : Option ℕ) → MakesAt x told plan s m t answers.Done old new area → CallsBuilt m t
+  was_built None h = let e = h.0 in absurd cc
+  was_built (Some at) h = by (called_in m t) refl h where
+    by : (called : Option ℕ) → called_in m t ≡ called → CallsOrMakes x told plan s m t answers.Done old new called → CallsBuilt m t
+    by (Some n) is h = let e = h.0 in absurd cc
+    by None is h = λ k e. absurd (none-some k (sym is ∙ e))
 
   pub was_fault : (fault : Fault) (area : Option ℕ) → MakesAt x told plan s m t (answers.Fault fault) old new area → (step m.setting m.course.job t ≡ Err fault) × (new ≡ old)
   was_fault fault None h = let e = h.0 in absurd cc
@@ -99,12 +107,13 @@ module _ (x : Storage) (told : Option (List (List ℕ))) (plan : Plan) (s : Sess
       by None h = wants_array x plan m t found old new (λ none. (let e : None ≡ Some at = sym none ∙ is in absurd cc)) (touches found h.0) h.1
 
 -- an operator prints nothing
-pub called_made : {K : Type 0} (taken : K → Option (List ℕ)) (paper : K) (x : Storage) (told : Option (List (List ℕ))) (plan : Plan) (s : Session) (m : Member) (t : Task) (new : Machine) → Makes x told plan s m t new → IsCalled taken paper paper told s m t new
-called_made taken paper x told plan s m t new h = record {
+pub called_made : {K : Type 0} (taken : K → Option (List ℕ)) (paper : K) (x : Storage) (told : Option (List (List ℕ))) (plan : Plan) (s : Session) (m : Member) (t : Task) (new : Machine) → CallsBuilt m t → Makes x told plan s m t new → IsCalled taken paper paper told s m t new
+called_made taken paper x told plan s m t new built h = record {
   job = h.job;
   printed = [];
   touched = h.touched;
   is = h.is;
+  built = built;
   storage = h.storage;
   plan = plan;
   stands = h.stands;

@@ -9,5 +9,6 @@ pub mod Sizes
 pub mod Numbers
 pub mod Answered
 pub mod Low
+pub mod Built
 pub mod Quiet
 pub mod Touched

@@ -5,7 +5,12 @@ use Rattle.b67_layout.specs.Plan.{Plan}
 use Rattle.b67_code.specs.Running.{code_area}
 use Rattle.b67_task.specs.declared.tables.Machine.{Machine}
 use Rattle.b67_task.specs.Tables.{MachineStands}
+<<<<<<< HEAD
+use Rattle.b67_intrinsics.specs.Called.{CallMeets}
+use Rattle.b67_attempt.proofs.Trying.{wants_array, was_made, was_built, was_fault, was_ended, was_call, was_absent, called_made, stops_so}
+=======
 use Rattle.b67_attempt.proofs.Trying.{wants_array, was_made, was_fault, was_ended, was_call, was_absent, called_made, stops_so}
+>>>>>>> c1242e700f5eba4b86e73fe874001b80578c9a42
 use Rattle.b67_attempt.proofs.tries.try_once.Goals as goal
 
 -- the machine after an operator that calls an intrinsic
@@ -32,7 +37,7 @@ intrinsic-requires-clause-calls g c =
 
 pub returns-in-Done-clause-row : goal.returns-in-Done-clause-row
 returns-in-Done-clause-row g c = λ x told plan s m t o h runs ready.
-    called_made g.K.Sink.taken c.args.paper.now x told plan s m t c.make.new.machine (was_made x told plan s m t c.args.machine.now c.make.new.machine (code_area x plan m t) (c.in-Done.ensures.row x told plan s m t o h runs ready))
+    called_made g.K.Sink.taken c.args.paper.now x told plan s m t c.make.new.machine (was_built x told plan s m t c.args.machine.now c.make.new.machine (code_area x plan m t) (c.in-Done.ensures.row x told plan s m t o h runs ready)) (was_made x told plan s m t c.args.machine.now c.make.new.machine (code_area x plan m t) (c.in-Done.ensures.row x told plan s m t o h runs ready))
 
 pub returns-in-Absent-clause-row : goal.returns-in-Absent-clause-row
 returns-in-Absent-clause-row g c = λ x told plan s m t o h runs ready.

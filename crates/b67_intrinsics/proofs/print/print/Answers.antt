@@ -1,4 +1,4 @@
-use Rattle.std.proofs.Common.{ℤ, refl, ◌∙◌, [], ◌∷◌, None, subst, rules, w64, SFits}
+use Rattle.std.proofs.Common.{ℤ, refl, ◌∙◌, [], ◌∷◌, None, subst, rules, w64, SFits, arith}
 use Rattle.std.proofs.lemmas.Int.{to_z-of_z}
 use Rattle.b67_io.specs.Told.{Took, TookPart}
 use Rattle.b67_intrinsics.specs.Called.{printed_text}
@@ -6,6 +6,7 @@ use Rattle.b67_model.specs.declared.operators.Op.TheVariants.{Plain}
 use Rattle.b67_model.specs.declared.operators.Code.TheVariants.{Entr}
 use Rattle.b67_model.specs.Steps.{Value}
 use Rattle.b67_mcp.specs.Calls.{job_cut}
+use Rattle.b67_intrinsics.proofs.Built.{built_of}
 use Rattle.b67_intrinsics.proofs.Callings.{calling, reads_of, call_some}
 use Rattle.b67_intrinsics.proofs.Present.{faults_untouched, made_untouched}
 use Rattle.b67_intrinsics.proofs.print.print.Goals as goal
@@ -44,6 +45,7 @@ returns-clause-row g c = λ x told plan s m t o h runs code called.
       printed = Value c.in-Ok.value ∷ [];
       touched = None;
       is = k.is ∙ r.0 k.next;
+      built = built_of m t 9 called (omega arith);
       storage = x;
       plan = plan;
       stands = c.cut.ensures.stands x told plan s m t o h runs code r.1 k.next (Plain Entr, k.reading);

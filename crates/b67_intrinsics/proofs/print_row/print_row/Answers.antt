@@ -1,4 +1,4 @@
-use Rattle.std.proofs.Common.{[], ◌∷◌, Some, Ok, refl, ◌∙◌, ap, subst}
+use Rattle.std.proofs.Common.{[], ◌∷◌, Some, Ok, refl, ◌∙◌, ap, subst, arith}
 use Rattle.b67_model.specs.declared.operators.Op.TheVariants.{Plain}
 use Rattle.b67_model.specs.declared.operators.Code.TheVariants.{Entr}
 use Rattle.b67_model.specs.Steps.{Values, Goes}
@@ -6,6 +6,7 @@ use Rattle.b67_stack.specs.declared.What.TheVariants as what
 use Rattle.b67_mcp.specs.Calls.{job_cut}
 use Rattle.b67_printrow.specs.declared.row.Found.{Found}
 use Rattle.b67_printrow.specs.Calls.{RowMeets, RowTouches}
+use Rattle.b67_intrinsics.proofs.Built.{built_of}
 use Rattle.b67_intrinsics.proofs.Callings.{calling, reads_of, call_some}
 use Rattle.b67_intrinsics.proofs.Touched.{touched_by_row}
 use Rattle.b67_intrinsics.proofs.Present.{row_faults, row_made}
@@ -62,6 +63,7 @@ returns-in-Ok-say_words-clause-row g c = λ x told plan s m t o h runs code call
       printed = Values row.values ∷ [];
       touched = Some row.array;
       is = k.is ∙ row.makes k.next;
+      built = built_of m t 10 called (omega arith);
       storage = x;
       plan = plan;
       stands = c.cut.ensures.stands x told plan s m t o h runs code row.may k.next (Plain Entr, k.reading);
