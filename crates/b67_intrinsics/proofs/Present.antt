@@ -4,7 +4,7 @@ use Rattle.std.proofs.lemmas.Bool.{cases_Bool, eqb-true}
 use Rattle.std.proofs.lemmas.Option.{same_Some, none-some}
 use Rattle.b67_word.specs.declared.faults.Fault.{Fault}
 use Rattle.b67_model.specs.Answers.{Answer}
-use Rattle.b67_model.specs.Chase.{End, AtIntrinsic, follow_reference}
+use Rattle.b67_model.specs.Chase.{End, AtCell, AtElement, AtArray, AtProc, AtIntrinsic, follow_reference}
 use Rattle.b67_model.specs.Intrinsics.{printrow}
 use Rattle.b67_model.specs.Need.{touched_of, touched_by_call, touched_at_mark, touched_before_fault}
 use Rattle.b67_model.specs.Operators.{Reading}
@@ -25,33 +25,42 @@ use Rattle.b67_intrinsics.proofs.Callings.{Calling}
 use Rattle.b67_intrinsics.proofs.Touched.{reference_same, touched_by_row}
 
 -- two arguments are no array
-many : (n : ℕ) (r v w : Word) (more : List Word) → touched_by_call (r ∷ v ∷ w ∷ more) (Ok (AtIntrinsic n)) ≡ None
-many n r (Row b) w more = refl
-many n r (Operand bits) w more = refl
-many n r (Name c) w more = refl
-many n r (Ref f o) w more = refl
-many n r (Element b i) w more = refl
-many n r (Original b) w more = refl
-many n r (Proc s l p) w more = refl
-many n r (Intrinsic i) w more = refl
-many n r (Words.Segment i) w more = refl
+many : (r v w : Word) (more : List Word) (e : Answer End) → touched_by_call (r ∷ v ∷ w ∷ more) e ≡ None
+many r (Row b) w more e = refl
+many r (Operand bits) w more e = refl
+many r (Name c) w more e = refl
+many r (Ref f o) w more e = refl
+many r (Element b i) w more e = refl
+many r (Original b) w more e = refl
+many r (Proc s l p) w more e = refl
+many r (Intrinsic i) w more e = refl
+many r (Words.Segment i) w more e = refl
 
--- the one call that touches an array
-row_only : (n : ℕ) (r : Word) (arguments : List Word) (a : ℕ) → touched_by_call (r ∷ arguments) (Ok (AtIntrinsic n)) ≡ Some a → (n ≡ 10) × (arguments ≡ Row a ∷ [])
-row_only n r [] a e = absurd (none-some a e)
-row_only n r (Row b ∷ []) a e = elim (cases_Bool (n == 10)) [
-  | inl q ↦ (eqb-true n 10 q, ap (λ (i : ℕ). Row i ∷ []) (same_Some b a (rw q at e)))
-  | inr q ↦ absurd (none-some a (rw q at e))
+-- the one call that touches an array before a fault
+pub record TouchesRow (arguments : List Word) (e : Answer End) (a : ℕ) : Type 0 where
+  pub called : e ≡ Ok (AtIntrinsic 10)
+  pub are : arguments ≡ Row a ∷ []
+
+pub row_only : (r : Word) (arguments : List Word) (e : Answer End) (a : ℕ) → touched_by_call (r ∷ arguments) e ≡ Some a → TouchesRow arguments e a
+row_only r [] e a q = absurd (none-some a q)
+row_only r (Row b ∷ []) (Ok (AtIntrinsic n)) a q = elim (cases_Bool (n == 10)) [
+  | inl y ↦ record { called = ap (λ (i : ℕ). Ok (AtIntrinsic i)) (eqb-true n 10 y); are = ap (λ (i : ℕ). Row i ∷ []) (same_Some b a (rw y at q)) }
+  | inr z ↦ absurd (none-some a (rw z at q))
 ]
-row_only n r (Operand bits ∷ []) a e = absurd (none-some a e)
-row_only n r (Name c ∷ []) a e = absurd (none-some a e)
-row_only n r (Ref f o ∷ []) a e = absurd (none-some a e)
-row_only n r (Element b i ∷ []) a e = absurd (none-some a e)
-row_only n r (Original b ∷ []) a e = absurd (none-some a e)
-row_only n r (Proc s l p ∷ []) a e = absurd (none-some a e)
-row_only n r (Intrinsic i ∷ []) a e = absurd (none-some a e)
-row_only n r (Words.Segment i ∷ []) a e = absurd (none-some a e)
-row_only n r (v ∷ w ∷ more) a e = absurd (none-some a (sym (many n r v w more) ∙ e))
+row_only r (Row b ∷ []) (Ok (AtCell f o bits)) a q = absurd (none-some a q)
+row_only r (Row b ∷ []) (Ok (AtElement c i)) a q = absurd (none-some a q)
+row_only r (Row b ∷ []) (Ok (AtArray c)) a q = absurd (none-some a q)
+row_only r (Row b ∷ []) (Ok (AtProc f s l p)) a q = absurd (none-some a q)
+row_only r (Row b ∷ []) (Err fault) a q = absurd (none-some a q)
+row_only r (Operand bits ∷ []) e a q = absurd (none-some a q)
+row_only r (Name c ∷ []) e a q = absurd (none-some a q)
+row_only r (Ref f o ∷ []) e a q = absurd (none-some a q)
+row_only r (Element b i ∷ []) e a q = absurd (none-some a q)
+row_only r (Original b ∷ []) e a q = absurd (none-some a q)
+row_only r (Proc s l p ∷ []) e a q = absurd (none-some a q)
+row_only r (Intrinsic i ∷ []) e a q = absurd (none-some a q)
+row_only r (Words.Segment i ∷ []) e a q = absurd (none-some a q)
+row_only r (v ∷ w ∷ more) e a q = absurd (none-some a (sym (many r v w more e) ∙ q))
 
 -- PRINTROW is made with a whole copy alone
 made_row : (h : Here) (arguments : List Word) (done : Done) → printrow h arguments ≡ Ok done → (a : ℕ) × (arguments ≡ Row a ∷ [])
@@ -86,7 +95,9 @@ module _ (m : Member) (t : Task) where
 
     -- a call that faults
     fault_touches : (fault : Fault) → step m.setting m.course.job t ≡ Err fault → (a : ℕ) → touched (step m.setting m.course.job t) ≡ Some a → (n ≡ 10) × (k.arguments ≡ Row a ∷ [])
-    fault_touches fault is a e = row_only n k.reference k.arguments a (sym before ∙ sym (ap touched is) ∙ e)
+    fault_touches fault is a e =
+        let f = row_only k.reference k.arguments (Ok (AtIntrinsic n)) a (sym before ∙ sym (ap touched is) ∙ e) in
+        ((let both : Ok (AtIntrinsic n) ≡ Ok (AtIntrinsic 10) = f.called in cc), f.are)
 
   module _ (x : Storage) (plan : Plan) where
     -- a call of another intrinsic that faults
