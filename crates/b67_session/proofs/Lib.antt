@@ -6,4 +6,5 @@ pub mod Rooms
 pub mod Turned
 pub mod Stepping
 pub mod Going
+pub mod Fitting
 pub mod Pausing

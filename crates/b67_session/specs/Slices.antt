@@ -2,7 +2,7 @@
 use Rattle.std.specs.Prelude.{◌≡◌, ◌≢◌, ℕ, ◌+◌, ◌<◌, ◌≤◌, List, [], length, Option, Some, None, Result, Ok, Err}
 use Rattle.b67_io.specs.Told.{Took, TookPart}
 use Rattle.b67_model.specs.State.{Task, Member}
-use Rattle.b67_model.specs.Need.{need}
+use Rattle.b67_model.specs.Need.{need, need_next}
 use Rattle.b67_model.specs.Sectors.{sectors}
 use Rattle.b67_model.specs.Lines.{run_text}
 use Rattle.b67_model.specs.Schedule.{Session}
@@ -81,3 +81,13 @@ pub record Slices {K : Type 0} (taken : K → Option (List ℕ)) (known : Option
   pub leads : exact → Leads first steps session printed
   pub made : new.tasks.made ≡ old.tasks.made + steps
   pub meets : SliceMeets taken known exact (length old.cpu.core) count n steps session printed answered new paper paper'
+
+-- core has the words that the session's next step needs
+pub record NextFits (core : ℕ) (s : Session) : Type 0 where
+  pub words : ℕ
+  pub needs : need_next core s ≡ Some words
+  pub fits : words ≤ core
+
+-- and those of each of so many steps from a session on
+abbrev pub StepsFit : ℕ → ℕ → Session → Type 0
+StepsFit core steps first = (k : ℕ) → k < steps → NextFits core (after k first)

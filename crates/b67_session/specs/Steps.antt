@@ -24,7 +24,7 @@ use Rattle.b67_intrinsics.specs.declared.ends.Stop.{Stop}
 use Rattle.b67_intrinsics.specs.declared.ends.Stop.TheVariants as stops
 use Rattle.b67_session.specs.declared.ends.StepEnd.{StepEnd}
 use Rattle.b67_session.specs.declared.ends.StepEnd.TheVariants as ends
-use Rattle.b67_session.specs.Slices.{IsLone, SliceMeets}
+use Rattle.b67_session.specs.Slices.{IsLone, SliceMeets, NextFits}
 
 -- one operator of the chosen task was counted: tables that show what it made of its job show the session after the step
 pub record IsCounted (c : Chosen) (old new : Tasks) : Type 0 where
@@ -75,3 +75,8 @@ pub record Steps {K : Type 0} (taken : K → Option (List ℕ)) (known : Option 
   pub same : exact → session ≡ s
   pub made : new.tasks.made ≡ old.tasks.made + steps_of answered
   pub meets : StepMeets taken known exact (length old.cpu.core) count session answered new paper paper'
+
+-- core has the words that a step needs which was made
+abbrev pub StepFits : ℕ → Session → Result StepEnd Stop → Type 0
+StepFits core s (Ok end) = NextFits core s
+StepFits core s (Err stop) = Unit {0}

@@ -7,7 +7,7 @@ ghost use Rattle.b67_model.specs.Schedule.{Session};
 ghost use Rattle.b67_storage.specs.Machine.{Says, Served, retold};
 ghost use Rattle.b67_intrinsics.specs.Called.{AreCountable};
 ghost use Rattle.b67_intrinsics.specs.declared.ends.Stop.TheVariants.{BackingFault, PrintFault};
-ghost use Rattle.b67_session.specs.Slices.{LivesOn, IsLone, Slices, Pauses};
+ghost use Rattle.b67_session.specs.Slices.{LivesOn, IsLone, Slices, StepsFit, Pauses};
 
 use crate::ends::StepEnd;
 use crate::steps::step;
@@ -41,7 +41,8 @@ fn pause(tasks: &Tasks) -> Option<Progress>
 /// made, looked at in this order. Each step's text is printed as the step is made.
 ///
 /// After a `Stop` the step isn't counted, and but after `PrintFault` the machine stands for the state before it. `NoCore`
-/// only where the step's need exceeds core, with both; `BackingFull` only where the session takes more sectors than the
+/// only where the step's need exceeds core, with both; and where it is known what the device's sectors hold, no step that was
+/// made needs more than core has. `BackingFull` only where the session takes more sectors than the
 /// device has, with both; `BackingFault` and `PrintFault` only where that device failed. Where nothing is known of what the
 /// device's sectors hold, the words that it gives back may be others, and as many.
 pub fn slice<B: Backing, K: Sink>(
@@ -55,6 +56,8 @@ pub fn slice<B: Backing, K: Sink>(
     requires same { B.size backing.old + 1 ≡ length machine.old.sectors.links }
     ensures row { (known : Option (List (List ℕ))) (s : Session) (m : Member) (t : Task) → Says known (B.holds backing.old) → IsLone known machine.old s m t
         → Slices K.taken (retold known (B.holds backing.new)) (known ≢ None) (B.size backing.old) n s result machine.old machine.new paper.old paper.new }
+    ensures fits { (known : Option (List (List ℕ))) (s : Session) (m : Member) (t : Task) → Says known (B.holds backing.old) → known ≢ None → IsLone known machine.old s m t
+        → (steps : ℕ) → machine.new.tasks.made ≡ machine.old.tasks.made + steps → StepsFit (length machine.old.cpu.core) steps s }
     ensures backing_cause { result ≡ Err BackingFault → Rose B.faults backing.old backing.new }
     ensures print_cause { result ≡ Err PrintFault → Rose K.faults paper.old paper.new }
     ensures later { K.faults paper.old ≤ K.faults paper.new }
