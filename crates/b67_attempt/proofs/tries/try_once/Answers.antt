@@ -5,12 +5,7 @@ use Rattle.b67_layout.specs.Plan.{Plan}
 use Rattle.b67_code.specs.Running.{code_area}
 use Rattle.b67_task.specs.declared.tables.Machine.{Machine}
 use Rattle.b67_task.specs.Tables.{MachineStands}
-<<<<<<< HEAD
-use Rattle.b67_intrinsics.specs.Called.{CallMeets}
 use Rattle.b67_attempt.proofs.Trying.{wants_array, was_made, was_built, was_fault, was_ended, was_call, was_absent, called_made, stops_so}
-=======
-use Rattle.b67_attempt.proofs.Trying.{wants_array, was_made, was_fault, was_ended, was_call, was_absent, called_made, stops_so}
->>>>>>> c1242e700f5eba4b86e73fe874001b80578c9a42
 use Rattle.b67_attempt.proofs.tries.try_once.Goals as goal
 
 -- the machine after an operator that calls an intrinsic
