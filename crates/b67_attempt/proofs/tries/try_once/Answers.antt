@@ -7,10 +7,7 @@ use Rattle.b67_code.specs.Running.{code_area}
 use Rattle.b67_task.specs.declared.tables.Machine.{Machine}
 use Rattle.b67_task.specs.Tables.{MachineStands}
 use Rattle.b67_attempt.proofs.Trying.{wants_array, was_made, was_built, was_fault, was_ended, was_call, was_absent, called_made, stops_so}
-<<<<<<< HEAD
-=======
 use Rattle.b67_attempt.proofs.Fits.{was_operator, fault_touches, leaves_touches, made_touches, operator_fits, call_fits, fault_fits}
->>>>>>> 4bb9f4d2d224e87b258e17b3d8d48c0a66a7f91a
 use Rattle.b67_attempt.proofs.tries.try_once.Goals as goal
 
 -- the machine after an operator that calls an intrinsic
