@@ -9,7 +9,7 @@ use Rattle.b67_model.specs.declared.operators.Code.{Code}
 use Rattle.b67_model.specs.declared.operators.Code.TheVariants.{Entr}
 use Rattle.b67_model.specs.Answers.{Answer}
 use Rattle.b67_model.specs.Words.{Word}
-use Rattle.b67_model.specs.Chase.{End, AtIntrinsic, follow_reference}
+use Rattle.b67_model.specs.Chase.{AtIntrinsic, follow_reference}
 use Rattle.b67_model.specs.Operators.{Reading}
 use Rattle.b67_model.specs.State.{Standing, Marked, Entered, Task, Member, Here, top}
 use Rattle.b67_model.specs.Steps.{Done, Goes, Leaves}
