@@ -25,7 +25,7 @@ use Rattle.b67_attempt.specs.declared.attempts.Attempt.{Attempt}
 use Rattle.b67_attempt.specs.declared.attempts.Attempt.TheVariants as attempts
 use Rattle.b67_attempt.specs.declared.tries.Tried.TheVariants as tries
 use Rattle.b67_attempt.specs.Tries.{IsTouched, TryMeets}
-use Rattle.b67_attempt.specs.Attempts.{RunsOver, AttemptMeets, Attempts}
+use Rattle.b67_attempt.specs.Attempts.{RunsOver, AttemptMeets, Attempts, AttemptFits}
 use Rattle.b67_attempt.specs.Brought.{WantsNothing, StopMeets, Stopped}
 
 abbrev Told : Type 0
@@ -61,6 +61,14 @@ unchanged x told plan s old new same h = let P : Machine → Type 0 = λ k. Mach
 pub unchanged_over : (x : Storage) (told : Told) (plan : Plan) (s : Session) (old new : Machine) → new ≡ old → StandsOver x told old plan s → StandsOver x told new plan s
 unchanged_over x told plan s old new same h = record { says = h.says; stands = unchanged x x.device plan s old new same h.stands }
 
+-- where nothing is wanted, a try finds nothing absent
+pub never : {K : Type 0} (taken : K → Option (List ℕ)) (x : Storage) (plan : Plan) (s : Session) (m : Member) (t : Task) (old new : Machine) (paper paper' : K) (found : What) → WantsNothing x plan m t → TryMeets taken x x.device plan s m t (Ok (tries.Absent found)) old new paper paper' → ⊥
+never taken x plan s m t old new paper paper' (what.Code displacement) nothing meets = nothing.code meets.1.1
+never taken x plan s m t old new paper paper' (what.Array home) nothing meets =
+    let w = meets.1 in
+    let (a, among, home_is, is, words) = meets.2 in
+    nothing.array a.identity is (ap (λ (at : ℕ). (x.held at).area) (home_is ∙ sym w.home_is) ∙ w.absent)
+
 -- the answer of the session itself
 module _ {K : Type 0} (taken : K → Option (List ℕ)) (x : Storage) (core count : ℕ) (plan : Plan) (s : Session) (m : Member) (t : Task) (o : IsInOrderButPlaces s) (runs : IsRunning plan s.jobs m t) (old new : Machine) (h : MachineStands x x.device old plan s) (paper paper' : K) where
   at_once : (answered : Result Attempt Stop) → AttemptMeets taken x.device (x.device ≢ None) core count plan s m t answered new paper paper' → Attempts taken x x.device core count plan s t answered new paper paper'
@@ -84,12 +92,7 @@ module _ {K : Type 0} (taken : K → Option (List ℕ)) (x : Storage) (core coun
 
   -- nothing was wanted where the device tells
   pub gives_up_once : (ending : Ending) (found : What) → (x.device ≢ None → WantsNothing x plan m t) → TryMeets taken x x.device plan s m t (Ok (tries.Absent found)) old new paper paper' → Attempts taken x x.device core count plan s t (Ok (attempts.Ends ending)) new paper paper'
-  gives_up_once ending found none meets = at_once (Ok (attempts.Ends ending)) (λ e. absurd (never found (none e) meets.1 meets.2), (x, unchanged x x.device plan s old new meets.3 h), meets.4) where
-    never : (wanted : What) → WantsNothing x plan m t → IsWanted x plan m t wanted meets.0 → IsTouched plan m t wanted meets.0 → ⊥
-    never (what.Code displacement) nothing w touched = nothing.code w.1
-    never (what.Array home) nothing w touched =
-        let (a, among, home_is, is, words) = touched in
-        nothing.array a.identity is (ap (λ (at : ℕ). (x.held at).area) (home_is ∙ sym w.home_is) ∙ w.absent)
+  gives_up_once ending found none meets = at_once (Ok (attempts.Ends ending)) (λ e. absurd (never taken x plan s m t old new paper paper' found (none e) meets), (x, unchanged x x.device plan s old new meets.3 h), meets.4)
 
 -- a try never finds the device failing
 pub no_device_fault : {K : Type 0} (taken : K → Option (List ℕ)) (x : Storage) (told : Told) (plan : Plan) (s : Session) (m : Member) (t : Task) (stop : Stop) (old new : Machine) (paper paper' : K)
@@ -181,6 +184,20 @@ module _ (x : Storage) (told : Told) (k : Machine) (plan : Plan) (s : Session) (
       let tells : x.device ≢ None = retold_back x.device told (subst P b.again.device n) in
       let W : Member → Type 0 = λ z. WantsNothing b.again.storage plan z t in
       subst W (sym (member_is (b.again.same tells))) (nothing found words code w touched b b)
+
+-- what core has room for afterwards it had room for before, where the device tells
+module _ (x : Storage) (told : Told) (k : Machine) (plan : Plan) (s : Session) (m : Member) (t : Task) (o : IsInOrderButPlaces s) (runs : IsRunning plan s.jobs m t) (found : What) (b : Brings x told k plan s m t found) (n : x.device ≢ None) (tells : x.device ≢ None → told ≢ None) where
+  pub still_told : b.again.storage.device ≢ None
+  still_told = let P : Told → Type 0 = λ d. d ≢ None in subst P (sym b.again.device) (retold_some x.device told tells n)
+
+  pub same_needs : (size core : ℕ) (answered : Result Attempt Stop) → size ≡ core → AttemptFits size (record s { jobs = b.again.jobs }) (other x told k plan s m t o runs found b).member t answered → AttemptFits core s m t answered
+  same_needs size core answered e fits =
+      let same = b.again.same n in
+      let z = (other x told k plan s m t o runs found b).member in
+      let C : ℕ → Type 0 = λ c. AttemptFits c (record s { jobs = b.again.jobs }) z t answered in
+      let M : Member → Type 0 = λ y. AttemptFits core (record s { jobs = b.again.jobs }) y t answered in
+      let S : List Member → Type 0 = λ jobs. AttemptFits core (record s { jobs = jobs }) m t answered in
+      subst S same (subst M (member_is x told k plan s m t o runs found b same) (subst C e fits))
 
 -- what is wanted, where the try changed nothing
 pub wants_some : {K : Type 0} (taken : K → Option (List ℕ)) (told : Told) (old new : Machine) (paper paper' : K) (found : What) (r : RunsOver old told) → TryMeets taken r.storage r.storage.device r.plan r.session r.member r.task (Ok (tries.Absent found)) old new paper paper' → WantsSome new told found

@@ -1,5 +1,7 @@
 pub mod Trying
 pub mod Started
+pub mod Still
+pub mod Fits
 pub mod Numbers
 pub mod Stops
 pub mod Composed

@@ -152,7 +152,7 @@ row_quiet : (op : Op) (h : Here) → IsKnown h → Post (Quiet (length h.job.tas
 row_quiet (Plain Entr) h known = entr_quiet (length h.job.tasks) h (top_of h).standing refl
 row_quiet op h known = kept op h known refl
 
-known_in : (n : ℕ) (ts : List Task) (t : Task) → keyed (λ (u : Task). u.number) n ts ≡ Some t → keyed (λ (p : Profile). p.number) n (profiles ts) ≡ Some (profile t)
+pub known_in : (n : ℕ) (ts : List Task) (t : Task) → keyed (λ (u : Task). u.number) n ts ≡ Some t → keyed (λ (p : Profile). p.number) n (profiles ts) ≡ Some (profile t)
 known_in n [] t e = cc
 known_in n (u ∷ us) t e = elim (cases_Bool (eqb u.number n)) [
   | inl q ↦ rw q (let at : Some u ≡ Some t = rw q at e in let same : u ≡ t = cc in ap (λ (v : Task). Some (profile v)) same)

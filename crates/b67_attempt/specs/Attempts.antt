@@ -59,3 +59,8 @@ pub record Attempts {K : Type 0} (taken : K → Option (List ℕ)) (x : Storage)
   pub member : Member
   pub running : IsRunning plan jobs member t
   pub meets : AttemptMeets taken told (x.device ≢ None) core count plan (record s { jobs = jobs }) member t answered new paper paper'
+
+-- a step that was made, or ends its task, needs no more words than core has
+abbrev pub AttemptFits : ℕ → Session → Member → Task → Result Attempt Stop → Type 0
+AttemptFits core s m t (Ok attempted) = need core s m t ≤ core
+AttemptFits core s m t (Err stop) = Unit {0}

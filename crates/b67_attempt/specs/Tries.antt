@@ -6,7 +6,7 @@ use Rattle.b67_model.specs.Lists.{Has}
 use Rattle.b67_model.specs.State.{Array, Ready, Task, Member}
 use Rattle.b67_model.specs.Steps.{Leaves}
 use Rattle.b67_model.specs.Rows.{step}
-use Rattle.b67_model.specs.Need.{touched_of}
+use Rattle.b67_model.specs.Need.{touched_of, need}
 use Rattle.b67_model.specs.Schedule.{Session}
 use Rattle.b67_model.specs.InOrder.{IsInOrderButPlaces}
 use Rattle.b67_stack.specs.declared.What.{What}
@@ -59,3 +59,10 @@ TryMeets taken x told plan s m t (Ok (tries.Ends ending)) old new paper paper' =
 TryMeets taken x told plan s m t (Err stops.PrintFault) old new paper paper' = IsCut taken paper paper' m t × (new ≡ old)
 TryMeets taken x told plan s m t (Err stops.Unbuilt) old new paper paper' = (n : ℕ) × (called_in m t ≡ Some n) × (12 ≤ n) × (new ≡ old) × (paper' ≡ paper)
 TryMeets taken x told plan s m t (Err _) old new paper paper' = ⊥
+
+-- a step that was made, or ends its task, needs no more words than core has
+abbrev pub TryFits : ℕ → Session → Member → Task → Result Tried Stop → Type 0
+TryFits core s m t (Ok tries.Made) = need core s m t ≤ core
+TryFits core s m t (Ok (tries.Absent found)) = Unit {0}
+TryFits core s m t (Ok (tries.Ends ending)) = need core s m t ≤ core
+TryFits core s m t (Err stop) = Unit {0}

@@ -16,7 +16,7 @@ ghost use Rattle.b67_intrinsics.specs.Called.{AreCountable};
 ghost use Rattle.b67_intrinsics.specs.declared.ends.Stop.TheVariants.{BackingFault, PrintFault};
 ghost use Rattle.b67_attempt.specs.Tries.{ReadyRuns};
 ghost use Rattle.b67_attempt.specs.Brought.{WantsNothing};
-ghost use Rattle.b67_attempt.specs.Attempts.{RunsOver, Attempts};
+ghost use Rattle.b67_attempt.specs.Attempts.{RunsOver, Attempts, AttemptFits};
 
 use crate::attempts::Attempt;
 use crate::bringing::bring_wanted;
@@ -35,6 +35,8 @@ fn last_try<K: Sink>(machine: &mut Machine, paper: &mut K) -> Result<Attempt, St
     ensures row { (x : Storage) (core count : ℕ) (plan : Plan) (s : Session) (m : Member) (t : Task) → IsInOrderButPlaces s → MachineStands x x.device machine.old plan s
         → IsRunning plan s.jobs m t → t.condition ≡ Ready → (x.device ≢ None → WantsNothing x plan m t)
         → Attempts K.taken x x.device core count plan s t result machine.new paper.old paper.new }
+    ensures fits { (x : Storage) (plan : Plan) (s : Session) (m : Member) (t : Task) → IsInOrderButPlaces s → MachineStands x x.device machine.old plan s
+        → IsRunning plan s.jobs m t → t.condition ≡ Ready → WantsNothing x plan m t → AttemptFits (length machine.old.cpu.core) s m t result }
     ensures full { result ≢ Err BackingFault }
     ensures print_cause { result ≡ Err PrintFault → Rose K.faults paper.old paper.new }
     ensures later { K.faults paper.old ≤ K.faults paper.new }
@@ -63,6 +65,8 @@ fn with_code<B: Backing, K: Sink>(
     ensures row { (x : Storage) (plan : Plan) (s : Session) (m : Member) (t : Task) → IsInOrderButPlaces s → StandsOver x (B.holds backing.old) machine.old plan s
         → IsRunning plan s.jobs m t → t.condition ≡ Ready → code_area x plan m t ≢ None
         → Attempts K.taken x (retold x.device (B.holds backing.new)) (length machine.old.cpu.core) (B.size backing.old) plan s t result machine.new paper.old paper.new }
+    ensures fits { (x : Storage) (plan : Plan) (s : Session) (m : Member) (t : Task) → IsInOrderButPlaces s → StandsOver x (B.holds backing.old) machine.old plan s
+        → IsRunning plan s.jobs m t → t.condition ≡ Ready → code_area x plan m t ≢ None → x.device ≢ None → AttemptFits (length machine.old.cpu.core) s m t result }
     ensures full_cause { result ≡ Err BackingFault → Rose B.faults backing.old backing.new }
     ensures print_cause { result ≡ Err PrintFault → Rose K.faults paper.old paper.new }
     ensures later { K.faults paper.old ≤ K.faults paper.new }
@@ -86,7 +90,8 @@ fn with_code<B: Backing, K: Sink>(
 /// Makes the next operator of the running task, an intrinsic's call included. The running segment and the array that it
 /// touches are brought into core first, whatever has to give way.
 ///
-/// `NoCore` only where the step's need exceeds core, with both; `BackingFull` only where the session takes more sectors
+/// `NoCore` only where the step's need exceeds core, with both; and over a device that tells what its sectors hold, a step
+/// that is made or ends its task never needs more than core has. `BackingFull` only where the session takes more sectors
 /// than the device has, with both; `BackingFault` and `PrintFault` only where that device failed. After each of them, and
 /// where the operator ends its task, the machine stands for the same session. Over a device that doesn't tell what its
 /// sectors hold, the words that it gave back may be others, and as many.
@@ -101,6 +106,8 @@ pub fn attempt<B: Backing, K: Sink>(
     ensures row { (x : Storage) (plan : Plan) (s : Session) (m : Member) (t : Task) → IsInOrderButPlaces s → StandsOver x (B.holds backing.old) machine.old plan s
         → IsRunning plan s.jobs m t → t.condition ≡ Ready
         → Attempts K.taken x (retold x.device (B.holds backing.new)) (length machine.old.cpu.core) (B.size backing.old) plan s t result machine.new paper.old paper.new }
+    ensures fits { (x : Storage) (plan : Plan) (s : Session) (m : Member) (t : Task) → IsInOrderButPlaces s → StandsOver x (B.holds backing.old) machine.old plan s
+        → IsRunning plan s.jobs m t → t.condition ≡ Ready → x.device ≢ None → AttemptFits (length machine.old.cpu.core) s m t result }
     ensures full_cause { result ≡ Err BackingFault → Rose B.faults backing.old backing.new }
     ensures print_cause { result ≡ Err PrintFault → Rose K.faults paper.old paper.new }
     ensures later { K.faults paper.old ≤ K.faults paper.new }

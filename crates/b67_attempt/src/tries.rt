@@ -11,7 +11,7 @@ ghost use Rattle.b67_layout.specs.Session.{IsRunning};
 ghost use Rattle.b67_task.specs.Tables.{MachineStands};
 ghost use Rattle.b67_intrinsics.specs.Called.{AreCountable};
 ghost use Rattle.b67_intrinsics.specs.declared.ends.Stop.TheVariants.{PrintFault};
-ghost use Rattle.b67_attempt.specs.Tries.{ReadyRuns, TryMeets};
+ghost use Rattle.b67_attempt.specs.Tries.{ReadyRuns, TryMeets, TryFits};
 
 use b67_intrinsics::{CallEnd, Stop, intrinsic};
 use b67_io::Sink;
@@ -29,12 +29,15 @@ pub enum Tried {
 }
 
 /// Makes the next operator of the running task, an intrinsic's call included, unless what it wants is absent. Nothing has
-/// changed but where it was made. `PrintFault`, with a proper part of its text taken, only where the printer failed.
+/// changed but where it was made. `PrintFault`, with a proper part of its text taken, only where the printer failed. A step
+/// that was made, or ends its task, needs no more words than core has.
 pub fn try_once<K: Sink>(machine: &mut Machine, paper: &mut K) -> Result<Tried, Stop>
     requires runs { ReadyRuns machine.old }
     requires countable { AreCountable machine.old.tasks.jobs }
     ensures row { (x : Storage) (told : Option (List (List ℕ))) (plan : Plan) (s : Session) (m : Member) (t : Task) → IsInOrderButPlaces s
         → MachineStands x told machine.old plan s → IsRunning plan s.jobs m t → t.condition ≡ Ready → TryMeets K.taken x told plan s m t result machine.old machine.new paper.old paper.new }
+    ensures fits { (x : Storage) (told : Option (List (List ℕ))) (plan : Plan) (s : Session) (m : Member) (t : Task) → IsInOrderButPlaces s
+        → MachineStands x told machine.old plan s → IsRunning plan s.jobs m t → t.condition ≡ Ready → TryFits (length machine.old.cpu.core) s m t result }
     ensures cause { result ≡ Err PrintFault → Rose K.faults paper.old paper.new }
     ensures later { K.faults paper.old ≤ K.faults paper.new }
     ensures countable { AreCountable machine.new.tasks.jobs }

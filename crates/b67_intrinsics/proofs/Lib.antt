@@ -4,6 +4,7 @@ pub mod Rows
 pub mod Cut
 pub mod Callings
 pub mod Texts
+pub mod Present
 pub mod Sizes
 pub mod Numbers
 pub mod Answered

@@ -17,7 +17,7 @@ use Rattle.b67_layout.specs.Meets.{here}
 use Rattle.b67_returning.proofs.Heres.{follow_same}
 use Rattle.b67_intrinsics.proofs.Callings.{Calling}
 
-reference_same : (h k : Here) → all_frames h ≡ all_frames k → h.task.frames ≡ k.task.frames → (w : Word) → follow_reference h w ≡ follow_reference k w
+pub reference_same : (h k : Here) → all_frames h ≡ all_frames k → h.task.frames ≡ k.task.frames → (w : Word) → follow_reference h w ≡ follow_reference k w
 reference_same h k frames own (Name c) = follow_same h k frames own (Name c)
 reference_same h k frames own (Ref f offset) = follow_same h k frames own (Ref f offset)
 reference_same h k frames own (Operand bits) = refl

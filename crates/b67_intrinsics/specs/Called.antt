@@ -89,3 +89,21 @@ pub record CallsSome (k : Machine) (n : ℕ) : Type 0 where
   pub running : IsRunning plan session.jobs member task
   pub code : code_area storage plan member task ≢ None
   pub called : called_in member task ≡ Some n
+
+-- an array of the job, which is present
+pub record IsThere (x : Storage) (plan : Plan) (m : Member) (n : ℕ) : Type 0 where
+  pub array : Array
+  pub among : Has m.course.job.arrays array
+  pub named : array.identity ≡ n
+  pub there : area_held x plan m.setting.number n ≢ None
+
+-- the array that the step touches, if any, is one of the job, and is present
+abbrev pub TouchesPresent : Storage → Plan → Member → Task → Type 0
+TouchesPresent x plan m t = (n : ℕ) → touched_of m.setting m.course.job t (step m.setting m.course.job t) ≡ Some n → IsThere x plan m n
+
+-- so it is where the call was made, and where it faults
+abbrev pub CallTouches : Storage → Plan → Member → Task → Result CallEnd Stop → Type 0
+CallTouches x plan m t (Ok ends.Done) = TouchesPresent x plan m t
+CallTouches x plan m t (Ok (ends.Absent found)) = Unit {0}
+CallTouches x plan m t (Ok (ends.Fault fault)) = TouchesPresent x plan m t
+CallTouches x plan m t (Err stop) = Unit {0}

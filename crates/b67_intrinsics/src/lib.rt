@@ -20,7 +20,7 @@ ghost use Rattle.b67_code.specs.Running.{code_area};
 ghost use Rattle.b67_exec.specs.Operators.{called_in};
 ghost use Rattle.b67_task.specs.Tables.{MachineStands};
 ghost use Rattle.b67_intrinsics.specs.declared.ends.Stop.TheVariants.{PrintFault};
-ghost use Rattle.b67_intrinsics.specs.Called.{CallsSome, CallMeets, AreCountable};
+ghost use Rattle.b67_intrinsics.specs.Called.{CallsSome, CallMeets, CallTouches, AreCountable};
 ghost use Rattle.b67_intrinsics.specs.Answers.{end_of};
 ghost use Rattle.b67_intrinsics.specs.Running.{ForCalls, IsHeard, Kept};
 
@@ -48,6 +48,7 @@ fn call<K: Sink>(machine: &mut Machine, n: u8, paper: &mut K) -> Result<CallEnd,
     requires calls { CallsSome machine.old n }
     requires countable { AreCountable machine.old.tasks.jobs }
     ensures row { ForCalls machine.old n (λ x told plan s m t. CallMeets K.taken x told plan s m t n result machine.old machine.new paper.old paper.new) }
+    ensures present { ForCalls machine.old n (λ x told plan s m t. CallTouches x plan m t result) }
     ensures cause { IsHeard K.faults paper.old paper.new result }
     ensures kept { Kept machine.old machine.new }
 {
@@ -65,13 +66,17 @@ fn call<K: Sink>(machine: &mut Machine, n: u8, paper: &mut K) -> Result<CallEnd,
 ///
 /// Where its row prints, the text is taken by the printer before anything is changed; `PrintFault`, with nothing else
 /// changed and a proper part of the text taken, comes only where the printer failed. `Absent`, with nothing changed, comes
-/// exactly where PRINTROW touches an absent array. `Fault` changes nothing and prints nothing.
+/// exactly where PRINTROW touches an absent array. `Fault` changes nothing and prints nothing. Where the call was made or
+/// faults, what its row touches is present.
 pub fn intrinsic<K: Sink>(machine: &mut Machine, n: u8, paper: &mut K) -> Result<CallEnd, Stop>
     requires calls { CallsSome machine.old n }
     requires countable { AreCountable machine.old.tasks.jobs }
     ensures row { (x : Storage) (told : Option (List (List ℕ))) (plan : Plan) (s : Session) (m : Member) (t : Task) → IsInOrderButPlaces s
         → MachineStands x told machine.old plan s → IsRunning plan s.jobs m t → code_area x plan m t ≢ None → called_in m t ≡ Some n
         → CallMeets K.taken x told plan s m t n result machine.old machine.new paper.old paper.new }
+    ensures present { (x : Storage) (told : Option (List (List ℕ))) (plan : Plan) (s : Session) (m : Member) (t : Task) → IsInOrderButPlaces s
+        → MachineStands x told machine.old plan s → IsRunning plan s.jobs m t → code_area x plan m t ≢ None → called_in m t ≡ Some n
+        → CallTouches x plan m t result }
     ensures cause { result ≡ Err PrintFault → Rose K.faults paper.old paper.new }
     ensures later { K.faults paper.old ≤ K.faults paper.new }
     ensures countable { AreCountable machine.new.tasks.jobs }

@@ -4,7 +4,7 @@ ghost use Rattle.std.specs.Prelude.{◌≡◌, OnOk, OnErr, Err, ◌∷◌, []};
 ghost use Rattle.b67_io.specs.Causes.{HasCause};
 ghost use Rattle.b67_io.specs.Told.{Took, TookPart};
 ghost use Rattle.b67_model.specs.Steps.{Value};
-ghost use Rattle.b67_intrinsics.specs.Called.{printed_text, CallsSome, CallMeets};
+ghost use Rattle.b67_intrinsics.specs.Called.{printed_text, CallsSome, CallMeets, CallTouches};
 ghost use Rattle.b67_intrinsics.specs.Running.{ForRuns, ForCalls, Reads, Kept, IsHeard};
 
 use crate::running::{cut, running_row};
@@ -33,6 +33,7 @@ fn say_value<K: Sink>(machine: &Machine, value: i64, paper: &mut K) -> Result<()
 pub(crate) fn print<K: Sink>(machine: &mut Machine, paper: &mut K) -> Result<CallEnd, Stop>
     requires { CallsSome machine.old 9 }
     ensures row { ForCalls machine.old 9 (λ x told plan s m t. CallMeets K.taken x told plan s m t 9 result machine.old machine.new paper.old paper.new) }
+    ensures present { ForCalls machine.old 9 (λ x told plan s m t. CallTouches x plan m t result) }
     ensures cause { IsHeard K.faults paper.old paper.new result }
     ensures kept { Kept machine.old machine.new }
 {

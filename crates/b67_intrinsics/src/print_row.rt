@@ -5,7 +5,7 @@ ghost use Rattle.b67_io.specs.Causes.{HasCause};
 ghost use Rattle.b67_io.specs.Told.{Took, TookPart};
 ghost use Rattle.b67_model.specs.Steps.{Values};
 ghost use Rattle.b67_printrow.specs.Texts.{values_of};
-ghost use Rattle.b67_intrinsics.specs.Called.{printed_text, CallsSome, CallMeets};
+ghost use Rattle.b67_intrinsics.specs.Called.{printed_text, CallsSome, CallMeets, CallTouches};
 ghost use Rattle.b67_intrinsics.specs.Running.{ForRuns, ForCalls, Reads, Kept, IsHeard};
 
 use crate::running::{cut, running_row};
@@ -40,6 +40,7 @@ fn say_words<K: Sink>(machine: &Machine, at: u32, count: u32, paper: &mut K) -> 
 pub(crate) fn print_row<K: Sink>(machine: &mut Machine, paper: &mut K) -> Result<CallEnd, Stop>
     requires { CallsSome machine.old 10 }
     ensures row { ForCalls machine.old 10 (λ x told plan s m t. CallMeets K.taken x told plan s m t 10 result machine.old machine.new paper.old paper.new) }
+    ensures present { ForCalls machine.old 10 (λ x told plan s m t. CallTouches x plan m t result) }
     ensures cause { IsHeard K.faults paper.old paper.new result }
     ensures kept { Kept machine.old machine.new }
 {

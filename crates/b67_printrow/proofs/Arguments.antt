@@ -16,7 +16,7 @@ use Rattle.b67_fetch.proofs.Values.{TopFollowed}
 use Rattle.b67_index.specs.Indexes.{FindsArray}
 use Rattle.b67_mcp.specs.Calls.{IsCall}
 use Rattle.b67_mcp.proofs.Prints.{one}
-use Rattle.b67_printrow.specs.Calls.{CopyMeets}
+use Rattle.b67_printrow.specs.Calls.{CopyMeets, MissesCopy}
 
 module _ (plan : Plan) (m : Member) (t : Task) (r : Word) (arguments : List Word) (call : IsCall t r arguments) where
   count : length (cells t) ≡ suc (length arguments)
@@ -58,3 +58,17 @@ module _ (plan : Plan) (m : Member) (t : Task) (r : Word) (arguments : List Word
       let same : a.word ∷ a.rest ≡ o.argument ∷ r ∷ [] = sym a.is ∙ o.cells_are in
       let is : a.word ≡ o.argument = cc in
       by_word o.argument o.arguments_are found (subst (λ (v : Word). FindsArray plan m found (row_copy v)) is f)
+
+  -- another number of arguments is no array
+  pub misses_not_one : (fault : Fault) → length (cells t) ≢ 2 → MissesCopy arguments (Err fault)
+  misses_not_one fault ne a e = ne (count ∙ ap (λ (ws : List Word). suc (length ws)) e)
+
+  -- nor is an argument that isn't copied
+  pub argument_misses : (x : Storage) (w : Tagged) (two : length (cells t) ≡ 2) (found : Result ℕ Fault) (a : TopFollowed x plan m t w) → FindsArray plan m found (row_copy a.word) → MissesCopy arguments found
+  argument_misses x w two (Ok original) a f = tt
+  argument_misses x w two (Err fault) a f = λ n q.
+      let o = one m t r arguments call two in
+      let same : a.word ∷ a.rest ≡ o.argument ∷ r ∷ [] = sym a.is ∙ o.cells_are in
+      let are : o.argument ∷ [] ≡ Row n ∷ [] = sym o.arguments_are ∙ q in
+      let is : a.word ≡ Row n = cc in
+      subst (λ (v : Word). FindsArray plan m (Err fault) (row_copy v)) is f

@@ -1,7 +1,8 @@
 -- What PRINTROW makes of the array that it found.
-use Rattle.std.proofs.Common.{◌≡◌, ℕ, ◌+◌, ◌≤◌, ℤ, List, [], ◌∷◌, map, length, Option, Some, None, Err, refl, sym, ◌∙◌, ap, arith, true, false, subst}
+use Rattle.std.proofs.Common.{◌≡◌, ◌≢◌, ℕ, ◌+◌, ◌≤◌, ℤ, List, [], ◌∷◌, map, length, Option, Some, None, Err, refl, sym, ◌∙◌, ap, arith, true, false, subst}
 use Rattle.std.specs.List.{AllByRecursion, slice_range}
 use Rattle.std.proofs.lemmas.Bool.{le-leb, false≢true}
+use Rattle.std.proofs.lemmas.Option.{none-some}
 use Rattle.std.proofs.lemmas.List.{length-reverse}
 use Rattle.b67_word.specs.Tagged.{Tagged, word}
 use Rattle.b67_word.specs.declared.couples.Place.{Place}
@@ -12,13 +13,15 @@ use Rattle.b67_model.specs.Arrays.{array}
 use Rattle.b67_model.specs.State.{Frame, Task, Member, Here, height, top, below_top}
 use Rattle.b67_model.specs.Steps.{Values, Done, is_critical}
 use Rattle.b67_model.specs.Intrinsics.{is_original, answers, printrow}
+use Rattle.b67_stack.specs.Stands.{Storage}
 use Rattle.b67_layout.specs.Plan.{Plan}
-use Rattle.b67_layout.specs.Meets.{here}
+use Rattle.b67_layout.specs.Meets.{here, area_held}
+use Rattle.b67_elements.specs.Elements.{HasElement}
 use Rattle.b67_cells.specs.Tops.{cells}
 use Rattle.b67_mcp.specs.Calls.{IsCall}
 use Rattle.b67_mcp.proofs.Prints.{one}
 use Rattle.b67_printrow.specs.Texts.{values_of, is_some}
-use Rattle.b67_printrow.specs.Calls.{Copies, IsRow}
+use Rattle.b67_printrow.specs.Calls.{Copies, CopiesPresent, IsRow}
 use Rattle.b67_printrow.proofs.Words.{answer_of, numbers_are}
 
 -- the values, if they are some
@@ -32,6 +35,14 @@ none_of (Some vs) e = absurd (false≢true (sym e))
 
 pub two_cells : (t : Task) (r : Word) (arguments : List Word) (a : ℕ) → IsCall t r arguments → arguments ≡ Row a ∷ [] → length (cells t) ≡ 2
 two_cells t r arguments a call are = sym (length-reverse (cells t)) ∙ ap length call.cells ∙ ap (λ (ws : List Word). length (r ∷ ws)) are
+
+-- the array that was copied is the only one that the arguments can be
+pub copies_present : (x : Storage) (plan : Plan) (m : Member) (arguments : List Word) (original at : ℕ) (k : Copies plan m arguments original) → area_held x plan m.setting.number k.array ≡ Some at → CopiesPresent x plan m arguments
+copies_present x plan m arguments original at k on a e =
+    let both : Row k.array ∷ [] ≡ Row a ∷ [] = sym k.are ∙ e in
+    let same : k.array ≡ a = cc in
+    let P : ℕ → Type 0 = λ n. HasElement m.course.job n 0 × (area_held x plan m.setting.number n ≢ None) in
+    subst P same (k.some, λ none. none-some at (sym none ∙ on))
 
 lower : (fs : List Frame) → height (below_top fs) ≤ height fs
 lower [] = omega arith

@@ -1,5 +1,5 @@
 -- A call of PRINTROW: the row that it prints.
-use Rattle.std.specs.Prelude.{◌≡◌, ℕ, ◌+◌, ◌≤◌, ℤ, List, [], ◌∷◌, length, Some, None, Result, Ok, Err, slice_range}
+use Rattle.std.specs.Prelude.{◌≡◌, ◌≢◌, ℕ, ◌+◌, ◌≤◌, ℤ, List, [], ◌∷◌, length, Some, None, Result, Ok, Err, slice_range}
 use Rattle.b67_word.specs.Tagged.{Tagged}
 use Rattle.b67_word.specs.declared.couples.Place.{Place}
 use Rattle.b67_word.specs.declared.faults.Fault.{Fault}
@@ -29,6 +29,11 @@ abbrev pub CopyMeets : Plan → Member → Task → List Word → Result ℕ Fau
 CopyMeets plan m t arguments (Ok original) = Copies plan m arguments original
 CopyMeets plan m t arguments (Err fault) = (next : Place) → printrow (here m t next) arguments ≡ Err fault
 
+-- where there is no copy, the arguments are no array
+abbrev pub MissesCopy : List Word → Result ℕ Fault → Type 0
+MissesCopy arguments (Ok original) = Unit {0}
+MissesCopy arguments (Err fault) = (a : ℕ) → arguments ≢ Row a ∷ []
+
 -- so many words of core from an address on are the row's, and the call may be cut off
 pub record IsRow (m : Member) (t : Task) (core : List Tagged) (arguments : List Word) (at count : ℕ) : Type 0 where
   pub inside : at + count ≤ length core
@@ -51,3 +56,13 @@ abbrev pub RowMeets : Storage → Plan → Member → Task → List Tagged → L
 RowMeets x plan m t core arguments (Ok (found.Words at count)) = IsRow m t core arguments at count
 RowMeets x plan m t core arguments (Ok (found.Absent original)) = IsAbsentRow x plan m arguments original
 RowMeets x plan m t core arguments (Err fault) = (next : Place) → printrow (here m t next) arguments ≡ Err fault
+
+-- the array that the one argument copies, if it copies one, is one of the job, and is present
+abbrev pub CopiesPresent : Storage → Plan → Member → List Word → Type 0
+CopiesPresent x plan m arguments = (a : ℕ) → arguments ≡ Row a ∷ [] → HasElement m.course.job a 0 × (area_held x plan m.setting.number a ≢ None)
+
+-- so it is wherever no absent array is told, before and after a fault
+abbrev pub RowTouches : Storage → Plan → Member → List Word → Result Found Fault → Type 0
+RowTouches x plan m arguments (Ok (found.Words at count)) = CopiesPresent x plan m arguments
+RowTouches x plan m arguments (Ok (found.Absent original)) = Unit {0}
+RowTouches x plan m arguments (Err fault) = CopiesPresent x plan m arguments

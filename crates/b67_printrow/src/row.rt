@@ -7,7 +7,7 @@ ghost use Rattle.b67_layout.specs.Meets.{ForEach};
 ghost use Rattle.b67_fetch.specs.Fetches.{IsFollowed, MayFollow};
 ghost use Rattle.b67_index.specs.Indexes.{FindsArray};
 ghost use Rattle.b67_mcp.specs.Calls.{CallSome, IsCall};
-ghost use Rattle.b67_printrow.specs.Calls.{CopyMeets, RowMeets};
+ghost use Rattle.b67_printrow.specs.Calls.{CopyMeets, MissesCopy, RowMeets, RowTouches};
 
 use crate::whole::are_whole;
 use b67_cells::{count_cells, top_cell};
@@ -49,6 +49,7 @@ fn copied(cpu: &Cpu, w: Word) -> Result<u32, Fault>
 fn argument(cpu: &Cpu) -> Result<u32, Fault>
     requires { CallSome cpu.now }
     ensures row { ForEach cpu.now (λ x plan s m t. (reference : words.Word) (arguments : List words.Word) → IsCall t reference arguments → CopyMeets plan m t arguments result) }
+    ensures copies { ForEach cpu.now (λ x plan s m t. (reference : words.Word) (arguments : List words.Word) → IsCall t reference arguments → MissesCopy arguments result) }
 {
     if count_cells(cpu) != 2 {
         return Err(Fault::InvalidOperand);
@@ -60,10 +61,12 @@ fn argument(cpu: &Cpu) -> Result<u32, Fault>
 }
 
 /// The row that a call of PRINTROW on the running stack prints, or the call's fault. An absent array comes before the
-/// faults of what it holds. Nothing is changed: the lines are printed first, and then the call is cut.
+/// faults of what it holds: after any other answer the array that the argument copies, if any, is present. Nothing is
+/// changed: the lines are printed first, and then the call is cut.
 pub fn row_to_print(cpu: &Cpu) -> Result<Found, Fault>
     requires { CallSome cpu.now }
     ensures row { ForEach cpu.now (λ x plan s m t. (reference : words.Word) (arguments : List words.Word) → IsCall t reference arguments → RowMeets x plan m t cpu.now.core arguments result) }
+    ensures present { ForEach cpu.now (λ x plan s m t. (reference : words.Word) (arguments : List words.Word) → IsCall t reference arguments → RowTouches x plan m arguments result) }
 {
     let original = match argument(cpu) {
         Ok(original) => original,

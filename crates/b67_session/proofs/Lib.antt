@@ -8,4 +8,5 @@ pub mod Finishing
 pub mod Finished
 pub mod Stepping
 pub mod Going
+pub mod Fitting
 pub mod Pausing

@@ -2,7 +2,7 @@
 use Rattle.std.specs.Prelude.{◌≡◌, ◌≢◌, ℕ, ◌+◌, ◌<◌, ◌≤◌, List, [], length, Option, Some, None, Result, Ok, Err}
 use Rattle.b67_io.specs.Told.{Took, TookPart}
 use Rattle.b67_model.specs.State.{Task, Member}
-use Rattle.b67_model.specs.Need.{need}
+use Rattle.b67_model.specs.Need.{need, need_next}
 use Rattle.b67_model.specs.Sectors.{sectors}
 use Rattle.b67_model.specs.Lines.{run_text}
 use Rattle.b67_model.specs.Schedule.{Session}
@@ -95,3 +95,13 @@ pub record Over (known : Option (List (List ℕ))) (exact : Type 0) (first : Ses
   pub session : Session
   pub is : exact → (steps : ℕ) → new.tasks.made ≡ old.tasks.made + steps → after steps first ≡ session
   pub rests : Rests known new session
+
+-- core has the words that the session's next step needs
+pub record NextFits (core : ℕ) (s : Session) : Type 0 where
+  pub words : ℕ
+  pub needs : need_next core s ≡ Some words
+  pub fits : words ≤ core
+
+-- and those of each of so many steps from a session on
+abbrev pub StepsFit : ℕ → ℕ → Session → Type 0
+StepsFit core steps first = (k : ℕ) → k < steps → NextFits core (after k first)

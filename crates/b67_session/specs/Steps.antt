@@ -27,7 +27,7 @@ use Rattle.b67_intrinsics.specs.declared.ends.Stop.{Stop}
 use Rattle.b67_intrinsics.specs.declared.ends.Stop.TheVariants as stops
 use Rattle.b67_session.specs.declared.ends.StepEnd.{StepEnd}
 use Rattle.b67_session.specs.declared.ends.StepEnd.TheVariants as ends
-use Rattle.b67_session.specs.Slices.{IsLone, SliceMeets, Rests}
+use Rattle.b67_session.specs.Slices.{IsLone, SliceMeets, Rests, NextFits}
 
 -- one operator of the chosen task was counted: tables that show what it made of its job show the session after the step
 pub record IsCounted (c : Chosen) (old new : Tasks) : Type 0 where
@@ -97,3 +97,8 @@ pub record StepOver (known : Option (List (List ℕ))) (exact : Type 0) (s : Ses
   pub session : Session
   pub is : exact → (moment : Moment) × (next s ≡ Some moment) × (moment.session ≡ session)
   pub rests : Rests known new session
+
+-- core has the words that a step needs which was made
+abbrev pub StepFits : ℕ → Session → Result StepEnd Stop → Type 0
+StepFits core s (Ok end) = NextFits core s
+StepFits core s (Err stop) = Unit {0}

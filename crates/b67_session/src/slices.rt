@@ -8,7 +8,7 @@ ghost use Rattle.b67_storage.specs.Machine.{Says, Served, retold};
 ghost use Rattle.b67_intrinsics.specs.Called.{AreCountable};
 ghost use Rattle.b67_intrinsics.specs.declared.ends.Stop.TheVariants.{BackingFault, PrintFault};
 ghost use Rattle.b67_session.specs.declared.slices.Progress.TheVariants.{Ended};
-ghost use Rattle.b67_session.specs.Slices.{LivesOn, IsLone, Slices, Pauses, Over};
+ghost use Rattle.b67_session.specs.Slices.{LivesOn, IsLone, Slices, Pauses, Over, StepsFit};
 
 use crate::ends::StepEnd;
 use crate::steps::step;
@@ -42,7 +42,8 @@ fn pause(tasks: &Tasks) -> Option<Progress>
 /// made, looked at in this order. Each step's text is printed as the step is made.
 ///
 /// After a `Stop` the step isn't counted, and but after `PrintFault` the machine stands for the state before it. `NoCore`
-/// only where the step's need exceeds core, with both; `BackingFull` only where the session takes more sectors than the
+/// only where the step's need exceeds core, with both; and where it is known what the device's sectors hold, no step that was
+/// made needs more than core has. `BackingFull` only where the session takes more sectors than the
 /// device has, with both; `BackingFault` and `PrintFault` only where that device failed. Where nothing is known of what the
 /// device's sectors hold, the words that it gives back may be others, and as many. After `Ended` the machine stands for the
 /// session without a task; where it was known what the sectors hold, for the one after the steps.
@@ -59,6 +60,8 @@ pub fn slice<B: Backing, K: Sink>(
         → Slices K.taken (retold known (B.holds backing.new)) (known ≢ None) (B.size backing.old) n s result machine.old machine.new paper.old paper.new }
     ensures over { (known : Option (List (List ℕ))) (s : Session) (m : Member) (t : Task) → Says known (B.holds backing.old) → IsLone known machine.old s m t
         → result ≡ Ok Ended → Over (retold known (B.holds backing.new)) (known ≢ None) s machine.old machine.new }
+    ensures fits { (known : Option (List (List ℕ))) (s : Session) (m : Member) (t : Task) → Says known (B.holds backing.old) → known ≢ None → IsLone known machine.old s m t
+        → (steps : ℕ) → machine.new.tasks.made ≡ machine.old.tasks.made + steps → StepsFit (length machine.old.cpu.core) steps s }
     ensures backing_cause { result ≡ Err BackingFault → Rose B.faults backing.old backing.new }
     ensures print_cause { result ≡ Err PrintFault → Rose K.faults paper.old paper.new }
     ensures later { K.faults paper.old ≤ K.faults paper.new }

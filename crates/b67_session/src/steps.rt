@@ -9,7 +9,7 @@ ghost use Rattle.b67_intrinsics.specs.Called.{AreCountable};
 ghost use Rattle.b67_intrinsics.specs.declared.ends.Stop.TheVariants.{BackingFault, PrintFault};
 ghost use Rattle.b67_session.specs.declared.ends.StepEnd.TheVariants.{Over};
 ghost use Rattle.b67_session.specs.Slices.{LivesOn, IsLone};
-ghost use Rattle.b67_session.specs.Steps.{Steps, StepOver};
+ghost use Rattle.b67_session.specs.Steps.{Steps, StepOver, StepFits};
 
 use crate::ends::{StepEnd, advance, close};
 use crate::turns::give_turn;
@@ -34,6 +34,8 @@ pub(crate) fn step<B: Backing, K: Sink>(
         → Steps K.taken (retold known (B.holds backing.new)) (known ≢ None) (B.size backing.old) s result machine.old machine.new paper.old paper.new }
     ensures over { (known : Option (List (List ℕ))) (s : Session) (m : Member) (t : Task) → Says known (B.holds backing.old) → IsLone known machine.old s m t
         → result ≡ Ok Over → StepOver (retold known (B.holds backing.new)) (known ≢ None) s machine.new }
+    ensures fits { (known : Option (List (List ℕ))) (s : Session) (m : Member) (t : Task) → Says known (B.holds backing.old) → known ≢ None → IsLone known machine.old s m t
+        → StepFits (length machine.old.cpu.core) s result }
     ensures backing_cause { result ≡ Err BackingFault → Rose B.faults backing.old backing.new }
     ensures print_cause { result ≡ Err PrintFault → Rose K.faults paper.old paper.new }
     ensures later { K.faults paper.old ≤ K.faults paper.new }

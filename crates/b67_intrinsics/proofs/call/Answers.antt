@@ -1,9 +1,11 @@
 use Rattle.std.proofs.Common.{ℕ, Some, Ok, refl, sym, ◌∙◌, ap, arith, subst}
 use Rattle.b67_intrinsics.specs.declared.ends.CallEnd.{CallEnd}
-use Rattle.b67_intrinsics.specs.Called.{CallMeets}
+use Rattle.b67_intrinsics.specs.Called.{CallMeets, CallTouches}
 use Rattle.b67_intrinsics.proofs.Built.{built_of}
 use Rattle.b67_intrinsics.proofs.Low.{from_eight}
 use Rattle.b67_intrinsics.proofs.Quiet.{silent_meets}
+use Rattle.b67_intrinsics.proofs.Callings.{calling}
+use Rattle.b67_intrinsics.proofs.Present.{silent_untouched}
 use Rattle.b67_intrinsics.proofs.call.Goals as goal
 
 pub returns-in-8-clause-row : goal.returns-in-8-clause-row
@@ -28,3 +30,21 @@ returns-in-11-clause-row g c = λ x told plan s m t o h runs code called.
 
 pub returns-in_default-clause-row : goal.returns-in_default-clause-row
 returns-in_default-clause-row g c = λ x told plan s m t o h runs code called. (omega (arith, from_eight plan s m t c.args.n o runs called), refl, refl)
+
+pub returns-in-8-clause-present : goal.returns-in-8-clause-present
+returns-in-8-clause-present g c = λ x told plan s m t o h runs code called.
+    (let P : CallEnd → Type 0 = λ e. CallTouches x plan m t (Ok e) in
+    let k = calling m t 8 (called ∙ ap Some c.in-8.is) in
+    subst P (sym c.silent.ensures) (silent_untouched m t x plan 8 (λ e. absurd cc) k told s c.args.machine.now c.declare.new.machine c.declare.result (c.declare.ensures.row x told plan s m t o h runs code (called ∙ ap Some c.in-8.is))))
+
+pub returns-in-11-clause-present : goal.returns-in-11-clause-present
+returns-in-11-clause-present g c = λ x told plan s m t o h runs code called.
+    (let P : CallEnd → Type 0 = λ e. CallTouches x plan m t (Ok e) in
+    let k = calling m t 11 (called ∙ ap Some c.in-11.is) in
+    subst P (sym c.silent-in-11.ensures) (silent_untouched m t x plan 11 (λ e. absurd cc) k told s c.args.machine.now c.read.new.machine c.read.result (c.read.ensures.row x told plan s m t o h runs code (called ∙ ap Some c.in-11.is))))
+
+pub returns-in-9-clause-present : goal.returns-in-9-clause-present
+returns-in-9-clause-present g c = λ x told plan s m t o h runs code called. c.print.ensures.present x told plan s m t o h runs code (called ∙ ap Some c.in-9.is)
+
+pub returns-in-10-clause-present : goal.returns-in-10-clause-present
+returns-in-10-clause-present g c = λ x told plan s m t o h runs code called. c.print_row.ensures.present x told plan s m t o h runs code (called ∙ ap Some c.in-10.is)

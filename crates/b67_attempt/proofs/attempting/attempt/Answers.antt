@@ -4,7 +4,7 @@ use Rattle.b67_storage.proofs.Devices.{still_tells}
 use Rattle.b67_task.specs.declared.tables.Machine.{Machine}
 use Rattle.b67_intrinsics.specs.declared.ends.Stop.TheVariants.{BackingFault}
 use Rattle.b67_attempt.specs.declared.attempts.Attempt.TheVariants.{Made, Ends}
-use Rattle.b67_attempt.proofs.Composed.{made_once, ends_once, stops_once, no_device_fault, unchanged_over, told_is, goes_on_telling, stopped_attempt, runs_over, wants_some, attempt_as, then_coded}
+use Rattle.b67_attempt.proofs.Composed.{made_once, ends_once, stops_once, no_device_fault, unchanged_over, told_is, goes_on_telling, stopped_attempt, runs_over, wants_some, attempt_as, same_needs, still_told, other, in_order, code_there, then_coded}
 use Rattle.b67_attempt.proofs.attempting.attempt.Goals as goal
 
 pub bring_wanted-requires-clause-wants : goal.bring_wanted-requires-clause-wants
@@ -82,3 +82,28 @@ returns-in-Ok-clause-row g c = λ x plan s m t o h runs ready.
     then_coded g.K.Sink.taken x told told' (B.holds c.with_code.new.backing) c.bring_wanted.new.machine c.with_code.new.machine (length c.args.machine.now.cpu.core) (B.size c.args.backing.now) plan s m t o runs c.in-Ok-Absent.wanted
     b ready tells c.with_code.result c.args.paper.now c.try_once.new.paper c.with_code.new.paper w.4 (length c.bring_wanted.new.machine.cpu.core) (B.size c.bring_wanted.new.backing)
     (c.bring_wanted.ensures.len ∙ ap (λ (z : Machine). length z.cpu.core) w.3) c.bring_wanted.ensures.device.size c.with_code.ensures.row
+
+pub returns-in-Ok-Made-clause-fits : goal.returns-in-Ok-Made-clause-fits
+returns-in-Ok-Made-clause-fits g c = λ x plan s m t o h runs ready tells. (rw c.in-Ok-Made.field-0-is at c.in-Ok-Made.ensures.fits) x x.device plan s m t o h.stands runs ready
+
+pub returns-in-Ok-Ends-clause-fits : goal.returns-in-Ok-Ends-clause-fits
+returns-in-Ok-Ends-clause-fits g c = λ x plan s m t o h runs ready tells. (rw c.in-Ok-Ends.field-0-is at c.in-Ok-Ends.ensures.fits) x x.device plan s m t o h.stands runs ready
+
+pub returns-in-Ok-clause-fits : goal.returns-in-Ok-clause-fits
+returns-in-Ok-clause-fits g c = λ x plan s m t o h runs ready n.
+    let B = g.B.Backing in
+    let told = B.holds c.args.backing.now in
+    let told' = B.holds c.bring_wanted.new.backing in
+    let new = c.bring_wanted.new.machine in
+    let found = c.in-Ok-Absent.wanted in
+    let w = (rw c.in-Ok-Absent.field-0-is at c.in-Ok-Absent.ensures.row) x x.device plan s m t o h.stands runs ready in
+    let k = unchanged_over x told plan s c.args.machine.now c.try_once.new.machine w.3 h in
+    let b = c.in-Ok.ensures.row x plan s m t w.0 o k runs w.1 w.2 in
+    let tells = goes_on_telling x.device told told' h.says (still_tells B.holds B.size B.calls B.faults c.args.backing.now c.bring_wanted.new.backing c.bring_wanted.ensures.device) in
+    let still = still_told x told' new plan s m t o runs found b n tells in
+    let r = other x told' new plan s m t o runs found b in
+    let ordered = in_order x told' new plan s m t o runs found b in
+    let size = c.bring_wanted.ensures.len ∙ ap (λ (z : Machine). length z.cpu.core) w.3 in
+    same_needs x told' new plan s m t o runs found b n tells (length new.cpu.core) (length c.args.machine.now.cpu.core) c.with_code.result size
+    (c.with_code.ensures.fits b.again.storage plan (record s { jobs = b.again.jobs }) r.member t ordered b.again.stands r.runs ready
+    (code_there x told' new plan s m t o runs found b) still)

@@ -2,7 +2,7 @@ use Rattle.std.proofs.Common.{◌≡◌}
 use Rattle.b67_word.specs.declared.faults.Fault.TheVariants.{InvalidOperator}
 use Rattle.b67_word.specs.declared.faults.Ending.TheVariants.{Faulted}
 use Rattle.b67_intrinsics.specs.declared.ends.Stop.TheVariants.{BackingFault}
-use Rattle.b67_attempt.proofs.Composed.{made_once, ends_once, stops_once, gives_up_once, no_device_fault}
+use Rattle.b67_attempt.proofs.Composed.{made_once, ends_once, stops_once, gives_up_once, no_device_fault, never}
 use Rattle.b67_attempt.proofs.attempting.last_try.Goals as goal
 
 pub returns-in-Ok-Made-clause-row : goal.returns-in-Ok-Made-clause-row
@@ -31,3 +31,14 @@ returns-in-Err-clause-full g c = λ e.
     (c.in-Err.ensures.row r.storage r.told r.plan r.session r.member r.task r.ordered r.stands r.running r.ready) in
     let is : c.in-Err.stop ≡ BackingFault = cc in
     never is
+
+pub returns-in-Ok-Made-clause-fits : goal.returns-in-Ok-Made-clause-fits
+returns-in-Ok-Made-clause-fits g c = λ x plan s m t o h runs ready none. (rw c.in-Ok-Made.field-0-is at c.in-Ok-Made.ensures.fits) x x.device plan s m t o h runs ready
+
+pub returns-in-Ok-Ends-clause-fits : goal.returns-in-Ok-Ends-clause-fits
+returns-in-Ok-Ends-clause-fits g c = λ x plan s m t o h runs ready none. (rw c.in-Ok-Ends.field-0-is at c.in-Ok-Ends.ensures.fits) x x.device plan s m t o h runs ready
+
+pub returns-in-Ok-Absent-clause-fits : goal.returns-in-Ok-Absent-clause-fits
+returns-in-Ok-Absent-clause-fits g c = λ x plan s m t o h runs ready none.
+    absurd (never g.K.Sink.taken x plan s m t c.args.machine.now c.try_once.new.machine c.args.paper.now c.try_once.new.paper c.in-Ok-Absent.field-0-0 none
+    ((rw c.in-Ok-Absent.field-0-is at c.in-Ok-Absent.ensures.row) x x.device plan s m t o h runs ready))

@@ -1,11 +1,13 @@
 use Rattle.std.proofs.Common.{◌∙◌, ◌≡◌, ℕ, List, Option, sym, subst, refl}
 use Rattle.b67_model.specs.Schedule.{Session}
+use Rattle.b67_stack.specs.declared.Step.TheVariants as answers
 use Rattle.b67_stack.specs.Stands.{Storage}
 use Rattle.b67_layout.specs.Plan.{Plan}
 use Rattle.b67_code.specs.Running.{code_area}
 use Rattle.b67_task.specs.declared.tables.Machine.{Machine}
 use Rattle.b67_task.specs.Tables.{MachineStands}
 use Rattle.b67_attempt.proofs.Trying.{wants_array, was_made, was_built, was_fault, was_ended, was_call, was_absent, called_made, stops_so}
+use Rattle.b67_attempt.proofs.Fits.{was_operator, fault_touches, leaves_touches, made_touches, operator_fits, call_fits, fault_fits}
 use Rattle.b67_attempt.proofs.tries.try_once.Goals as goal
 
 -- the machine after an operator that calls an intrinsic
@@ -75,3 +77,45 @@ returns-in-Err-clause-row g c = λ x told plan s m t o h runs ready.
     let it = was_call x told plan s m t c.args.machine.now c.make.new.machine c.in-Call.n (code_area x plan m t) refl (c.in-Call.ensures.row x told plan s m t o h runs ready) in
     let k = stays x told plan s c.args.machine.now c.make.new.machine it.2 h in
     stops_so g.K.Sink.taken x told plan s m t c.in-Call.n c.in-Err.stop c.args.machine.now c.make.new.machine c.intrinsic.new.machine c.args.paper.now c.intrinsic.new.paper it.1 it.2 (c.in-Err.ensures.row x told plan s m t o k runs it.0 it.1)
+
+pub returns-in-Done-clause-fits : goal.returns-in-Done-clause-fits
+returns-in-Done-clause-fits g c = λ x told plan s m t o h runs ready.
+    let old = c.args.machine.now in
+    let new = c.make.new.machine in
+    let row = c.in-Done.ensures.row x told plan s m t o h runs ready in
+    let is = was_operator x told plan s m t answers.Done old new (code_area x plan m t) refl (λ e. absurd cc) (λ n e. absurd cc) row in
+    operator_fits x told plan s m t o runs old h is (made_touches x told plan s m t o runs new (was_made x told plan s m t old new (code_area x plan m t) row))
+
+pub returns-in-Fault-clause-fits : goal.returns-in-Fault-clause-fits
+returns-in-Fault-clause-fits g c = λ x told plan s m t o h runs ready.
+    let old = c.args.machine.now in
+    let new = c.make.new.machine in
+    let row = c.in-Fault.ensures.row x told plan s m t o h runs ready in
+    let is = was_operator x told plan s m t (answers.Fault c.in-Fault.fault) old new (code_area x plan m t) refl (λ e. absurd cc) (λ n e. absurd cc) row in
+    operator_fits x told plan s m t o runs old h is (fault_touches x told plan s m t c.in-Fault.fault is.1 (was_fault x told plan s m t old new c.in-Fault.fault (code_area x plan m t) row).0)
+
+pub returns-in-Ended-clause-fits : goal.returns-in-Ended-clause-fits
+returns-in-Ended-clause-fits g c = λ x told plan s m t o h runs ready.
+    let old = c.args.machine.now in
+    let new = c.make.new.machine in
+    let row = c.in-Ended.ensures.row x told plan s m t o h runs ready in
+    let is = was_operator x told plan s m t answers.Ended old new (code_area x plan m t) refl (λ e. absurd cc) (λ n e. absurd cc) row in
+    operator_fits x told plan s m t o runs old h is (leaves_touches x told plan s m t (was_ended x told plan s m t old new (code_area x plan m t) row).0)
+
+pub returns-in-Ok-Done-clause-fits : goal.returns-in-Ok-Done-clause-fits
+returns-in-Ok-Done-clause-fits g c = λ x told plan s m t o h runs ready.
+    let old = c.args.machine.now in
+    let it = was_call x told plan s m t old c.make.new.machine c.in-Call.n (code_area x plan m t) refl (c.in-Call.ensures.row x told plan s m t o h runs ready) in
+    let k = stays x told plan s old c.make.new.machine it.2 h in
+    let row = (rw c.in-Ok-Done.field-0-is at c.in-Ok-Done.ensures.row) x told plan s m t o k runs it.0 it.1 in
+    let present = (rw c.in-Ok-Done.field-0-is at c.in-Ok-Done.ensures.present) x told plan s m t o k runs it.0 it.1 in
+    call_fits x told plan s m t o runs old c.in-Call.n h it.0 it.1 row.built present
+
+pub returns-in-Ok-Fault-clause-fits : goal.returns-in-Ok-Fault-clause-fits
+returns-in-Ok-Fault-clause-fits g c = λ x told plan s m t o h runs ready.
+    let old = c.args.machine.now in
+    let it = was_call x told plan s m t old c.make.new.machine c.in-Call.n (code_area x plan m t) refl (c.in-Call.ensures.row x told plan s m t o h runs ready) in
+    let k = stays x told plan s old c.make.new.machine it.2 h in
+    let row = (rw c.in-Ok-Fault.field-0-is at c.in-Ok-Fault.ensures.row) x told plan s m t o k runs it.0 it.1 in
+    let present = (rw c.in-Ok-Fault.field-0-is at c.in-Ok-Fault.ensures.present) x told plan s m t o k runs it.0 it.1 in
+    fault_fits x told plan s m t o runs old c.in-Ok-Fault.fault h it.0 row.0 present

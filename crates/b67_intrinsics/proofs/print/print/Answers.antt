@@ -8,6 +8,7 @@ use Rattle.b67_model.specs.Steps.{Value}
 use Rattle.b67_mcp.specs.Calls.{job_cut}
 use Rattle.b67_intrinsics.proofs.Built.{built_of}
 use Rattle.b67_intrinsics.proofs.Callings.{calling, reads_of, call_some}
+use Rattle.b67_intrinsics.proofs.Present.{faults_untouched, made_untouched}
 use Rattle.b67_intrinsics.proofs.print.print.Goals as goal
 
 pub print_value-requires : goal.print_value-requires
@@ -50,3 +51,14 @@ returns-clause-row g c = λ x told plan s m t o h runs code called.
       stands = c.cut.ensures.stands x told plan s m t o h runs code r.1 k.next (Plain Entr, k.reading);
       text = subst (λ (v : ℤ). Took g.K.Sink.taken c.args.paper.now c.say_value.new.paper (printed_text m t (Value v ∷ []))) (to_z-of_z w64 c.in-Ok.value f) (c.in-Ok-say_value.ensures.whole x told plan s m t o h runs code);
     })
+
+pub returns-in-Err-clause-present : goal.returns-in-Err-clause-present
+returns-in-Err-clause-present g c = λ x told plan s m t o h runs code called.
+    (let k = calling m t 9 called in
+    faults_untouched m t x plan 9 (λ e. absurd cc) k c.in-Err.fault (k.is ∙ c.in-Err.ensures.row x plan s m t o h.session runs k.reference k.arguments k.call k.next))
+
+pub returns-clause-present : goal.returns-clause-present
+returns-clause-present g c = λ x told plan s m t o h runs code called.
+    (let k = calling m t 9 called in
+    let r = c.in-Ok.ensures.row x plan s m t o h.session runs k.reference k.arguments k.call in
+    made_untouched m t x plan (job_cut m t k.next) (Value c.in-Ok.value ∷ []) (k.is ∙ r.0 k.next))

@@ -1,14 +1,15 @@
 use Rattle.std.proofs.Common.{[], ◌∷◌, Some, Ok, refl, ◌∙◌, ap, subst, arith}
 use Rattle.b67_model.specs.declared.operators.Op.TheVariants.{Plain}
 use Rattle.b67_model.specs.declared.operators.Code.TheVariants.{Entr}
-use Rattle.b67_model.specs.Steps.{Values}
+use Rattle.b67_model.specs.Steps.{Values, Goes}
 use Rattle.b67_stack.specs.declared.What.TheVariants as what
 use Rattle.b67_mcp.specs.Calls.{job_cut}
 use Rattle.b67_printrow.specs.declared.row.Found.{Found}
-use Rattle.b67_printrow.specs.Calls.{RowMeets}
+use Rattle.b67_printrow.specs.Calls.{RowMeets, RowTouches}
 use Rattle.b67_intrinsics.proofs.Built.{built_of}
 use Rattle.b67_intrinsics.proofs.Callings.{calling, reads_of, call_some}
 use Rattle.b67_intrinsics.proofs.Touched.{touched_by_row}
+use Rattle.b67_intrinsics.proofs.Present.{row_faults, row_made}
 use Rattle.b67_intrinsics.proofs.print_row.print_row.Goals as goal
 
 pub row_to_print-requires : goal.row_to_print-requires
@@ -75,3 +76,17 @@ returns-in-Err-say_words-clause-row g c = λ x told plan s m t o h runs code cal
     let P : Found → Type 0 = λ f. RowMeets x plan m t c.args.machine.now.cpu.core k.arguments (Ok f) in
     let row = subst P c.in-Words.is (c.in-Ok.ensures.row x plan s m t o h.session runs k.reference k.arguments k.call) in
     (record { job = job_cut m t k.next; printed = Values row.values ∷ []; touched = Some row.array; is = k.is ∙ row.makes k.next; text = c.in-Err-say_words.ensures.part x told plan s m t o h runs code row.values row.lies }, refl))
+
+pub returns-in-Err-clause-present : goal.returns-in-Err-clause-present
+returns-in-Err-clause-present g c = λ x told plan s m t o h runs code called.
+    (let k = calling m t 10 called in
+    row_faults m t x plan k (c.in-Err.ensures.present x plan s m t o h.session runs k.reference k.arguments k.call) c.in-Err.fault (k.is ∙ c.in-Err.ensures.row x plan s m t o h.session runs k.reference k.arguments k.call k.next))
+
+pub returns-in-Ok-say_words-clause-present : goal.returns-in-Ok-say_words-clause-present
+returns-in-Ok-say_words-clause-present g c = λ x told plan s m t o h runs code called.
+    (let k = calling m t 10 called in
+    let P : Found → Type 0 = λ f. RowMeets x plan m t c.args.machine.now.cpu.core k.arguments (Ok f) in
+    let Q : Found → Type 0 = λ f. RowTouches x plan m k.arguments (Ok f) in
+    let row = subst P c.in-Words.is (c.in-Ok.ensures.row x plan s m t o h.session runs k.reference k.arguments k.call) in
+    let present = subst Q c.in-Words.is (c.in-Ok.ensures.present x plan s m t o h.session runs k.reference k.arguments k.call) in
+    row_made m t x plan k present (Goes (job_cut m t k.next) (Values row.values ∷ []) (Some row.array)) (row.makes k.next))

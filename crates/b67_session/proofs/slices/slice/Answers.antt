@@ -1,4 +1,4 @@
-use Rattle.std.proofs.Common.{◌≢◌, ℕ, List, Option, None, Ok, Err, refl, sym, ap, ◌∙◌, subst, arith}
+use Rattle.std.proofs.Common.{◌≢◌, ℕ, List, Option, None, Ok, Err, refl, sym, ap, ◌∙◌, subst, arith, ◌≡◌, ◌+◌, length}
 use Rattle.b67_storage.specs.Machine.{retold}
 use Rattle.b67_overlay.proofs.Chains.{retold-same}
 use Rattle.b67_storage.proofs.Devices.{Served-none, Served-then}
@@ -7,6 +7,7 @@ use Rattle.b67_session.specs.declared.ends.StepEnd.TheVariants as ends
 use Rattle.b67_session.specs.Steps.{Steps, StepOver}
 use Rattle.b67_session.proofs.Going.{Going, going-begins, going-lives, going-more, going-steps, going-over, going-rests, going-stops}
 use Rattle.b67_session.proofs.Pausing.{says_retold, still_told, known_still, retold_twice, pause_slices, pause_over}
+use Rattle.b67_session.proofs.Fitting.{fits_more, counted_fits}
 use Rattle.b67_session.proofs.slices.slice.Goals as goal
 
 pub step-init : goal.step-init
@@ -20,6 +21,7 @@ step-init g c = record {
   going = λ known s m t says h.
       let P : Option (List (List ℕ)) → Type 0 = λ d. Going g.K.Sink.taken (known ≢ None) d 0 s c.args.machine.now c.args.machine.now c.args.paper.now c.args.paper.now in
       subst P (sym (retold-same known (g.B.Backing.holds c.args.backing.now) says)) (going-begins g.K.Sink.taken (known ≢ None) known s m t c.args.machine.now c.args.paper.now h);
+  fits = λ known s m t says tells h k low. absurd (omega (arith, low));
 }
 
 pub step-requires-clause-lives : goal.step-requires-clause-lives
@@ -123,4 +125,45 @@ step-preserved g c = record {
       subst (λ (d : Option (List (List ℕ))). P d (g.B.Backing.size c.args.backing.now)) (retold_twice known (g.B.Backing.holds c.step.backing) after tells) (subst (P (retold now after)) c.step.invariant.device.size made) in
       going-steps g.K.Sink.taken (known ≢ None) now (g.B.Backing.size c.args.backing.now) c.args.n c.step._made s c.args.machine.now c.step.machine c.args.paper.now c.step.paper going
       (retold known after) (known_still known (g.B.Backing.holds c.step.backing) tells) c.step-in-step.new.machine c.step-in-step.new.paper sized;
+  fits = λ known s m t says tells h.
+      let now = retold known (g.B.Backing.holds c.step.backing) in
+      let still = still_told g.B.Backing.holds g.B.Backing.size g.B.Backing.calls g.B.Backing.faults c.args.backing.now c.step.backing known says c.step.invariant.device in
+      let going = c.step.invariant.going known s m t says h in
+      fits_more (length c.args.machine.now.cpu.core) (length c.step.machine.cpu.core) c.step._made s going.session c.step.invariant.len (going.leads tells).session (c.step.invariant.fits known s m t says tells h)
+      (c.in-Ok-GoesOn.ensures.fits now going.session going.member going.task (says_retold known (g.B.Backing.holds c.step.backing)) (known_still known (g.B.Backing.holds c.step.backing) still tells) going.lone);
 }
+
+pub returns-in-Some-clause-fits : goal.returns-in-Some-clause-fits
+returns-in-Some-clause-fits g c = λ known s m t says tells h steps counted.
+    counted_fits (length c.args.machine.now.cpu.core) c.step._made steps c.args.machine.now.tasks.made c.step.machine.tasks.made s (c.step.invariant.going known s m t says h).made counted (c.step.invariant.fits known s m t says tells h)
+
+pub returns-in-Some-pause-clause-fits : goal.returns-in-Some-pause-clause-fits
+returns-in-Some-pause-clause-fits g c = λ known s m t says tells h steps counted.
+    counted_fits (length c.args.machine.now.cpu.core) c.step._made steps c.args.machine.now.tasks.made c.step.machine.tasks.made s (c.step.invariant.going known s m t says h).made counted (c.step.invariant.fits known s m t says tells h)
+
+pub returns-in-None-clause-fits : goal.returns-in-None-clause-fits
+returns-in-None-clause-fits g c = λ known s m t says tells h steps counted.
+    counted_fits (length c.args.machine.now.cpu.core) c.step._made steps c.args.machine.now.tasks.made c.step.machine.tasks.made s (c.step.invariant.going known s m t says h).made counted (c.step.invariant.fits known s m t says tells h)
+
+pub returns-in-Ok-Over-clause-fits : goal.returns-in-Ok-Over-clause-fits
+returns-in-Ok-Over-clause-fits g c = λ known s m t says tells h steps counted.
+    let first = c.args.machine.now.tasks.made in
+    let last = c.step-in-step.new.machine.tasks.made in
+    let going = c.step.invariant.going known s m t says h in
+    let now = retold known (g.B.Backing.holds c.step.backing) in
+    let still = still_told g.B.Backing.holds g.B.Backing.size g.B.Backing.calls g.B.Backing.faults c.args.backing.now c.step.backing known says c.step.invariant.device in
+    let made = (c.in-Ok-Over.ensures.row now going.session going.member going.task (says_retold known (g.B.Backing.holds c.step.backing)) going.lone).made in
+    let all : last ≡ first + (c.step._made + 1) = omega (arith, made, going.made) in
+    counted_fits (length c.args.machine.now.cpu.core) (c.step._made + 1) steps first last s all counted
+    (fits_more (length c.args.machine.now.cpu.core) (length c.step.machine.cpu.core) c.step._made s going.session c.step.invariant.len (going.leads tells).session (c.step.invariant.fits known s m t says tells h)
+    (c.in-Ok-Over.ensures.fits now going.session going.member going.task (says_retold known (g.B.Backing.holds c.step.backing)) (known_still known (g.B.Backing.holds c.step.backing) still tells) going.lone))
+
+pub returns-in-Err-clause-fits : goal.returns-in-Err-clause-fits
+returns-in-Err-clause-fits g c = λ known s m t says tells h steps counted.
+    let first = c.args.machine.now.tasks.made in
+    let last = c.step-in-step.new.machine.tasks.made in
+    let going = c.step.invariant.going known s m t says h in
+    let now = retold known (g.B.Backing.holds c.step.backing) in
+    let made = (c.in-Err.ensures.row now going.session going.member going.task (says_retold known (g.B.Backing.holds c.step.backing)) going.lone).made in
+    let all : last ≡ first + c.step._made = omega (arith, made, going.made) in
+    counted_fits (length c.args.machine.now.cpu.core) c.step._made steps first last s all counted (c.step.invariant.fits known s m t says tells h)

@@ -3,7 +3,7 @@ use Rattle.b67_model.specs.State.{Task, Member}
 use Rattle.b67_model.specs.Schedule.{Session}
 use Rattle.b67_storage.specs.Machine.{Says, Served, retold}
 use Rattle.b67_intrinsics.specs.Called.{AreCountable}
-use Rattle.b67_session.specs.Slices.{IsLone}
+use Rattle.b67_session.specs.Slices.{IsLone, StepsFit}
 use Rattle.b67_session.proofs.Going.{Going}
 use Rattle.b67_session.proofs.slices.slice.Given as goal
 
@@ -17,4 +17,5 @@ invariant-step g l = record {
   halt : l.machine.tasks.halt ≡ l.initial.machine.tasks.halt;
   going : (known : Option (List (List ℕ))) (s : Session) (m : Member) (t : Task) → Says known (g.B.Backing.holds l.initial.backing) → IsLone known l.initial.machine s m t
       → Going g.K.Sink.taken (known ≢ None) (retold known (g.B.Backing.holds l.backing)) l._made s l.initial.machine l.machine l.initial.paper l.paper;
+  fits : (known : Option (List (List ℕ))) (s : Session) (m : Member) (t : Task) → Says known (g.B.Backing.holds l.initial.backing) → known ≢ None → IsLone known l.initial.machine s m t → StepsFit (length l.initial.machine.cpu.core) l._made s;
 }

@@ -5,6 +5,7 @@ use Rattle.b67_intrinsics.specs.Called.{AreCountable}
 use Rattle.b67_attempt.specs.declared.attempts.Attempt.TheVariants as attempts
 use Rattle.b67_session.proofs.Turned.{Attempted, chooses_one, has_row, turned, over, runs_over, attempted}
 use Rattle.b67_session.proofs.Stepping.{made_room, made_one, made_steps, made_steps_over, ends_room, ends_one, ends_steps, ends_steps_over, stop_steps}
+use Rattle.b67_session.proofs.Fitting.{turned_fits, device_told}
 use Rattle.b67_session.proofs.steps.step.Goals as goal
 
 pub returns-in-None-clause-row : goal.returns-in-None-clause-row
@@ -145,3 +146,24 @@ returns-in-Err-clause-row g c = λ known s m t says h.
     (attempted g.K.Sink.taken known (g.B.Backing.holds c.attempt.new.backing) (length after.cpu.core) (g.B.Backing.size c.args.backing.now) s m t c.in-Some.chosen (Err c.in-Err.stop) after c.attempt.new.machine c.args.paper.now c.attempt.new.paper r
     (c.in-Err.ensures.row r.storage r.plan s m t r.ordered (over r.storage known (g.B.Backing.holds c.args.backing.now) after r.plan s says r.stands) r.running r.single.ready))
     k h.stands.tables.counts.made (sym c.give_turn.ensures.len)
+
+pub returns-in-None-clause-fits : goal.returns-in-None-clause-fits
+returns-in-None-clause-fits g c = λ known s m t says tells h.
+    let k = c.args.machine.now in
+    absurd (chooses_one known k s m t h (c.in-None.ensures.choice h.plan s h.ordered h.stands.tables))
+
+pub returns-in-Ok-Made-clause-fits : goal.returns-in-Ok-Made-clause-fits
+returns-in-Ok-Made-clause-fits g c = λ known s m t says tells h.
+    let k = c.args.machine.now in
+    let after = c.give_turn.new.machine in
+    let r = turned known k s m t h c.in-Some.chosen (c.in-Some.ensures.choice h.plan s h.ordered h.stands.tables) after c.give_turn.ensures.stands (c.in-Some.ensures.room h.plan s h.ordered h.stands.tables) in
+    turned_fits known k after s m t c.in-Some.chosen r c.give_turn.ensures.len
+    (c.in-Ok-Made.ensures.fits r.storage r.plan s m t r.ordered (over r.storage known (g.B.Backing.holds c.args.backing.now) after r.plan s says r.stands) r.running r.single.ready (device_told known after s m t c.in-Some.chosen r tells)) c.advance.result
+
+pub returns-in-Ok-Ends-clause-fits : goal.returns-in-Ok-Ends-clause-fits
+returns-in-Ok-Ends-clause-fits g c = λ known s m t says tells h.
+    let k = c.args.machine.now in
+    let after = c.give_turn.new.machine in
+    let r = turned known k s m t h c.in-Some.chosen (c.in-Some.ensures.choice h.plan s h.ordered h.stands.tables) after c.give_turn.ensures.stands (c.in-Some.ensures.room h.plan s h.ordered h.stands.tables) in
+    turned_fits known k after s m t c.in-Some.chosen r c.give_turn.ensures.len
+    (c.in-Ok-Ends.ensures.fits r.storage r.plan s m t r.ordered (over r.storage known (g.B.Backing.holds c.args.backing.now) after r.plan s says r.stands) r.running r.single.ready (device_told known after s m t c.in-Some.chosen r tells)) c.close.result
