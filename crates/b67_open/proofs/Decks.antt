@@ -1,5 +1,5 @@
 -- Decks within the ranges of their cards open sessions within their limits.
-use Rattle.std.proofs.Common.{◌≡◌, ℕ, ◌+◌, ◌<◌, ◌≤◌, ◌^◌, List, [], ◌∷◌, ◌++◌, length, map, drop, refl, sym, ◌∙◌, ap, subst, arith}
+use Rattle.std.proofs.Common.{◌≡◌, ℕ, ◌+◌, ◌<◌, ◌≤◌, ◌^◌, List, [], ◌∷◌, ◌++◌, length, map, drop, inl, inr, refl, sym, ◌∙◌, ap, subst, arith}
 use Rattle.std.specs.List.{AllByRecursion}
 use Rattle.std.proofs.lemmas.List.{drop_more, length-map}
 use Rattle.b67_word.specs.Tagged.{Tagged, contents}
@@ -10,6 +10,7 @@ use Rattle.b67_codefile.specs.declared.file.Segment.{Segment}
 use Rattle.b67_codefile.specs.declared.file.Codefile.{Codefile}
 use Rattle.b67_codefile.specs.Spelling.{Bears, IsSegment, IsRow}
 use Rattle.b67_codefile.specs.Meaning.{segment_of, program_of}
+use Rattle.b67_model.specs.Lists.{Has}
 use Rattle.b67_model.specs.Program.{Program}
 use Rattle.b67_model.specs.InOrder.{SegmentInOrder}
 use Rattle.b67_opening.specs.Opening.{RowWithin, OpeningWithin, DeckWithin}
@@ -18,9 +19,10 @@ use Rattle.b67_initial.specs.Opened.{opening_plan, programs_of}
 use Rattle.b67_initial.specs.Tables.{first_row, first_rows, opening_rows, opening_counts}
 use Rattle.b67_initial.proofs.Lists.{item_at}
 use Rattle.b67_initial.proofs.Tables.{tables_show}
+use Rattle.b67_task.specs.declared.tables.JobRow as kept
 use Rattle.b67_task.specs.declared.tables.TaskRow as task
 use Rattle.b67_task.specs.Tables.{switch_of, task_row}
-use Rattle.b67_open.specs.Decks.{openings_of, session_of, JobInRange, DeckInRange, IsLoaded}
+use Rattle.b67_open.specs.Decks.{openings_of, session_of, JobInRange, DeckInRange, IsLoaded, IsCountable}
 
 bits_fit : (tag : ℕ) (ws : List Tagged) → AllByRecursion (Bears tag) ws → AllByRecursion (λ (n : ℕ). n < 2 ^ 48) (contents ws)
 bits_fit tag [] h = tt
@@ -86,6 +88,12 @@ tables_given d ps rows jobs switches range each is_rows is_jobs is_switches =
     subst (λ (ws : List text.Switch). TablesShow (opening_plan d.stack ps) (session_of d ps) rows jobs (opening_counts d.quantum (map switch_of ws))) (sym is_switches)
     (subst (λ (r : List TaskRow). TablesShow (opening_plan d.stack ps) (session_of d ps) r jobs (opening_counts d.quantum (map switch_of d.switches))) (sym is_rows)
     (subst (λ (r : List JobRow). TablesShow (opening_plan d.stack ps) (session_of d ps) (first_rows 0 ps) r (opening_counts d.quantum (map switch_of d.switches))) (sym is_jobs) same))
+
+-- each row can be counted
+pub each_countable : (rows : List kept.JobRow) → AllByRecursion IsCountable rows → (r : kept.JobRow) → Has rows r → IsCountable r
+each_countable [] h r i = absurd i
+each_countable (q ∷ more) h r (inl e) = subst (λ (p : kept.JobRow). IsCountable p) e h.0
+each_countable (q ∷ more) h r (inr i) = each_countable more h.1 r i
 
 -- one row more
 pushed : {A B : Type 0} (f : A → B) (xs : List A) (x : A) (ys : List B) → map f (xs ++ x ∷ []) ++ ys ≡ map f xs ++ f x ∷ ys

@@ -54,3 +54,7 @@ row_names rows = map (λ (r : JobRow). r.name) rows
 pub record IsLoaded (f : Codefile) : Type 0 where
   pub within : IsWithin f
   pub admitted : IsAdmitted (program_of f)
+
+-- a job with fewer numbers than the tables can count
+abbrev pub IsCountable : JobRow → Type 0
+IsCountable r = length r.numbers < 2 ^ 32

@@ -1,6 +1,6 @@
 //! Copies of what a deck holds.
 
-ghost use Rattle.std.specs.Prelude.{◌≡◌, ◌≤◌, IsTrue, IfOk, length};
+ghost use Rattle.std.specs.Prelude.{◌≡◌, ◌<◌, ◌≤◌, ◌^◌, IsTrue, IfOk, length};
 ghost use Rattle.std.specs.List.{list_all};
 ghost use Rattle.std.specs.Char.{is_ascii};
 
@@ -17,10 +17,15 @@ pub fn copied_name(name: &Name) -> Name
     Name::new(name.as_str().as_bytes())
 }
 
-/// The same numbers once more.
+/// The same numbers once more. Refused where memory is refused, and where there are 2 ^ 32 of them or more, since the
+/// tables count them in 32 bits; a deck, which is at most 4,194,304 bytes, never has so many.
 pub fn copied_numbers(alloc: Global, numbers: &Numbers) -> Result<Numbers, AllocError>
-    ensures { IfOk result (λ copy. copy ≡ numbers.now) }
+    ensures same { IfOk result (λ copy. copy ≡ numbers.now) }
+    ensures countable { IfOk result (λ copy. length copy < 2 ^ 32) }
 {
+    if numbers.as_slice().len() > 4_294_967_295 {
+        return Err(AllocError);
+    }
     let mut copy = Numbers::new(alloc);
     'numbers: for number in numbers.as_slice() {
         copy.push(*number)?;

@@ -1,12 +1,12 @@
 //! The tables of tasks and jobs of a session that opens.
 
-ghost use Rattle.std.specs.Prelude.{◌≡◌, ◌≤◌, OnOk, IfOk, length, map};
+ghost use Rattle.std.specs.Prelude.{◌≡◌, ◌<◌, ◌≤◌, ◌^◌, OnOk, IfOk, length, map};
 ghost use Rattle.std.specs.List.{AllByRecursion};
 ghost use Rattle.b67_codefile.specs.Meaning.{program_of};
 ghost use Rattle.b67_initial.specs.Opened.{opening_plan};
 ghost use Rattle.b67_initial.specs.Tables.{first_row as first_row_of, first_rows as first_rows_of, opening_row as opening_row_of, opening_rows as opening_rows_of};
 ghost use Rattle.b67_task.specs.Tables.{task_row, job_row, TasksShow};
-ghost use Rattle.b67_open.specs.Decks.{opening_of, openings_of, session_of, job_names, row_names, JobInRange, DeckInRange, IsLoaded};
+ghost use Rattle.b67_open.specs.Decks.{opening_of, openings_of, session_of, job_names, row_names, JobInRange, DeckInRange, IsLoaded, IsCountable};
 
 use crate::copies::{copied_name, copied_numbers, copied_switches};
 use arrayvec::ArrayVec;
@@ -27,6 +27,7 @@ fn opening_row(
     requires range { JobInRange job.now }
     ensures row { IfOk result (λ r. job_row r ≡ opening_row_of dict (opening_of job.now (program_of program.now))) }
     ensures name { IfOk result (λ r. r.name ≡ job.now.name) }
+    ensures countable { IfOk result IsCountable }
     ensures loaded { IsLoaded program.now }
 {
     let file = program.file();
@@ -51,6 +52,7 @@ fn opening_rows(alloc: Global, jobs: &[Job], programs: &[Admitted]) -> Result<Jo
     requires each { length programs.now ≡ length jobs.now }
     ensures rows { IfOk result (λ rows. map job_row rows ≡ opening_rows_of 160 (openings_of jobs.now (map program_of programs.now))) }
     ensures names { IfOk result (λ rows. row_names rows ≡ job_names jobs.now) }
+    ensures countable { IfOk result (AllByRecursion IsCountable) }
     ensures loaded { OnOk result (AllByRecursion IsLoaded programs.now) }
 {
     let mut rows = JobRows::new(alloc);
@@ -95,7 +97,8 @@ fn first_rows(programs: &[Admitted]) -> ArrayVec<TaskRow, 120>
     rows
 }
 
-/// The tables of a deck's session that opens, with a program for each job: no operator is made and no task runs.
+/// The tables of a deck's session that opens, with a program for each job: no operator is made and no task runs. Refused
+/// where memory is refused or a job has 2 ^ 32 numbers or more.
 pub fn opening_tasks(alloc: Global, deck: &Deck, programs: &[Admitted]) -> Result<Tasks, AllocError>
     requires range { DeckInRange deck.now }
     requires each { length programs.now ≡ length deck.now.jobs }
@@ -104,6 +107,7 @@ pub fn opening_tasks(alloc: Global, deck: &Deck, programs: &[Admitted]) -> Resul
     ensures loaded { OnOk result (AllByRecursion IsLoaded programs.now) }
     ensures halt { IfOk result (λ t. t.halt ≡ deck.now.halt) }
     ensures printed { IfOk result (λ t. t.printed ≡ 0) }
+    ensures countable { IfOk result (λ t. AllByRecursion IsCountable t.jobs) }
 {
     let jobs = opening_rows(alloc, deck.jobs.as_slice(), programs)?;
     let switches = copied_switches(alloc, &deck.switches)?;

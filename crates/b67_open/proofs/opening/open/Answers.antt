@@ -5,6 +5,7 @@ use Rattle.b67_backing.specs.Shelf.{all_free}
 use Rattle.b67_codefile.specs.Meaning.{program_of}
 use Rattle.b67_open.specs.Decks.{openings_of}
 use Rattle.b67_open.specs.Opens.{need_of, sectors_of_all}
+use Rattle.b67_open.proofs.Decks.{each_countable}
 use Rattle.b67_open.proofs.Opens.{programs_are, free_are, machine_opens}
 use Rattle.b67_open.proofs.opening.open.Goals as goal
 
@@ -49,3 +50,6 @@ returns-in-Err-clause-opens g c =
     let need : c.opening_need-need.result ≡ need_of c.args.deck.now (map program_of c.args.programs.now) = c.opening_need-need.ensures.need os same in
     let sum : c.opening_sectors-sum.result ≡ sectors_of_all c.args.deck.now (map program_of c.args.programs.now) = c.opening_sectors-sum.ensures.sum c.args.deck.now.stack os same in
     (omega (arith, need, c.if-need-core_words.false), omega (arith, sum, c.if-sum-count.false, c.sectors-count.ensures.value), c.in-Err.ensures.cause.failed)
+
+pub returns-in-Ok-clause-countable : goal.returns-in-Ok-clause-countable
+returns-in-Ok-clause-countable g c = each_countable c.in_ok-tasks.tasks.jobs c.in_ok-tasks.ensures.countable
