@@ -1,8 +1,9 @@
-//! The lines of refusals.
+//! The last lines of runs.
 
 ghost use Rattle.std.specs.Prelude.{◌≡◌, ◌≤◌, ◌++◌, length, codes, decimal};
 ghost use Rattle.b67_admit.specs.Told.{card_text, refusal_line};
 ghost use Rattle.b67_lines.specs.Ends.{Ends};
+ghost use Rattle.b67_ends.specs.Lines.{no_core_line, backing_full_line};
 
 use b67_admit::Refusal;
 use b67_commands::put_text;
@@ -54,6 +55,22 @@ pub fn refusal_line(refusal: Refusal) -> Line
             place,
         } => load_line(card, reason, segment, place),
     }
+}
+
+/// The line of a step, or of an opening, that needs more words of core than there are.
+pub(crate) fn no_core_line(need: u32, core: u32) -> Line
+    ensures { result ≡ no_core_line need core }
+{
+    let line = with_number(line_of("NO CORE "), u64::from(need));
+    with_number(with_text(line, " "), u64::from(core))
+}
+
+/// The line of a session that takes more sectors than the device has.
+pub(crate) fn backing_full_line(sum: u32, sectors: u32) -> Line
+    ensures { result ≡ backing_full_line sum sectors }
+{
+    let line = with_number(line_of("BACKING FULL "), u64::from(sum));
+    with_number(with_text(line, " "), u64::from(sectors))
 }
 
 /// Prints a text and answers the status, or 8.
