@@ -14,6 +14,13 @@ use Rattle.b67_code.specs.Running.{code_area}
 use Rattle.b67_order_weaker.specs.Weaker.{AllOtherNumbers}
 use Rattle.b67_task.specs.declared.tables.Machine.{Machine}
 use Rattle.b67_task.specs.Tables.{MachineStands}
+use Rattle.b67_storage.specs.Machine.{Says, retold}
+
+-- the whole machine over a device that tells this: what the storage says of the sectors, if anything, is what the device
+-- tells
+pub record StandsOver (x : Storage) (told : Option (List (List ℕ))) (k : Machine) (plan : Plan) (s : Session) : Type 0 where
+  pub says : Says x.device told
+  pub stands : MachineStands x x.device k plan s
 
 -- an absent array of the running task's job, of so many words, whose original stands at a core address
 pub record IsArrayWanted (x : Storage) (plan : Plan) (m : Member) (t : Task) (home words : ℕ) : Type 0 where
@@ -39,18 +46,19 @@ pub record WantsSome (k : Machine) (told : Option (List (List ℕ))) (absent : W
   pub task : Task
   pub words : ℕ
   pub ordered : IsInOrderButPlaces session
-  pub stands : MachineStands storage told k plan session
+  pub stands : StandsOver storage told k plan session
   pub running : IsRunning plan session.jobs member task
   pub wanted : IsWanted storage plan member task absent words
 
--- the machine stands for a session again. Where the device tells nothing, that may have other numbers in its segments and
--- arrays: what the device gave back
+-- the machine stands for a session again. Where the storage says nothing of the sectors, that may have other numbers in its
+-- segments and arrays: what the device gave back
 pub record StandsAgain (x : Storage) (told : Option (List (List ℕ))) (k : Machine) (plan : Plan) (s : Session) : Type 0 where
   pub storage : Storage
   pub jobs : List Member
   pub others : AllOtherNumbers s.jobs jobs
   pub same : x.device ≢ None → jobs ≡ s.jobs
-  pub stands : MachineStands storage told k plan (record s { jobs = jobs })
+  pub device : storage.device ≡ retold x.device told
+  pub stands : StandsOver storage told k plan (record s { jobs = jobs })
 
 -- what was wanted is in core
 abbrev pub IsThere : Storage → What → Plan → Member → Type 0

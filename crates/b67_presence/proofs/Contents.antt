@@ -2,6 +2,7 @@
 use Rattle.std.proofs.Common.{◌≡◌, ◌≢◌, ℕ, zero, suc, ◌+◌, ◌*◌, ◌%◌, ◌<◌, ◌≤◌, ◌^◌, List, [], ◌∷◌, length, map, option_map, Option, Some, None, refl, sym, ◌∙◌, ap, arith, inl, inr, ◌⊎◌, ⊎_elim, subst}
 use Rattle.std.specs.List.{slice_get}
 use Rattle.std.proofs.lemmas.List.{length-map}
+use Rattle.std.proofs.lemmas.Option.{same_Some}
 use Rattle.b67_word.specs.Tagged.{Tagged, word}
 use Rattle.b67_core.specs.Numbers.{number}
 use Rattle.b67_area.specs.declared.Areas.{Areas}
@@ -22,6 +23,7 @@ pub record Loaded (told : Option (List (List ℕ))) (table : Table) (at : ℕ) (
   pub reads : thing.first ≢ 0 → Reads told table thing.first at thing.words (tag_of thing.kind) new
   pub zeros : thing.first ≡ 0 → (i : ℕ) → at ≤ i → i < at + thing.words → slice_get new i ≡ Some (word 0 0)
   pub tags : thing.first ≢ 0 → (i : ℕ) → i < thing.words → (w : Tagged) × (slice_get new (at + i) ≡ Some w) × (w.tag ≡ tag_of thing.kind)
+  pub low : thing.first ≢ 0 → (i : ℕ) → i < thing.words → (w : Tagged) × (slice_get new (at + i) ≡ Some w) × (w.bits < 2 ^ 48)
 
 zeros_up : (core : List Tagged) (at : ℕ) (ns : List ℕ) → AreZero ns → ((i : ℕ) → at ≤ i → i < at + length ns → slice_get core i ≡ Some (word 0 0)) → Upward core at (map (word 0) ns)
 zeros_up core at [] z f = tt
@@ -38,14 +40,25 @@ told_up core at tag (n ∷ ns) b f =
       told_up core (at + 1) tag ns b.1 (λ i low. ap (slice_get core) (let e : at + 1 + i ≡ at + suc i = omega arith in e) ∙ f (suc i) (omega arith)),
     )
 
+-- the bits of the word at an address are those of the word that is known there
+bits_there : (core : List Tagged) (at : ℕ) (w v : Tagged) → slice_get core at ≡ Some w → slice_get core at ≡ Some v → v.bits < 2 ^ 48 → w.bits < 2 ^ 48
+bits_there core at w v e f small = let P : Tagged → Type 0 = λ u. u.bits < 2 ^ 48 in subst P (same_Some v w (sym f ∙ e)) small
+
 -- words of one tag, as numbers
-collected : (core : List Tagged) (tag n at : ℕ) → ((i : ℕ) → i < n → (w : Tagged) × (slice_get core (at + i) ≡ Some w) × (w.tag ≡ tag)) → (ns : List ℕ) × (length ns ≡ n) × Upward core at (map (word tag) ns)
-collected core tag zero at f = ([], refl, tt)
-collected core tag (suc n) at f =
+collected : (core : List Tagged) (tag n at : ℕ) → ((i : ℕ) → i < n → (w : Tagged) × (slice_get core (at + i) ≡ Some w) × (w.tag ≡ tag))
+    → ((i : ℕ) → i < n → (w : Tagged) × (slice_get core (at + i) ≡ Some w) × (w.bits < 2 ^ 48)) → (ns : List ℕ) × (length ns ≡ n) × AreBits ns × Upward core at (map (word tag) ns)
+collected core tag zero at f g = ([], refl, tt, tt)
+collected core tag (suc n) at f g =
+    let next : (i : ℕ) → at + 1 + i ≡ at + suc i = λ i. omega arith in
     let w = f 0 (omega arith) in
-    let more = collected core tag n (at + 1) (λ i low. let v = f (suc i) (omega arith) in (v.0, ap (slice_get core) (let e : at + 1 + i ≡ at + suc i = omega arith in e) ∙ v.1, v.2)) in
+    let v = g 0 (omega arith) in
+    let more = collected core tag n (at + 1) (λ i low. let v = f (suc i) (omega arith) in (v.0, ap (slice_get core) (next i) ∙ v.1, v.2)) (λ i low. let v = g (suc i) (omega arith) in (v.0, ap (slice_get core) (next i) ∙ v.1, v.2)) in
     let is : w.0 ≡ word tag w.0.bits = ap (λ (t : ℕ). word t w.0.bits) w.2 in
-    (w.0.bits ∷ more.0, ap suc more.1, (ap (slice_get core) (let e : at ≡ at + 0 = omega arith in e) ∙ w.1 ∙ ap Some is, more.2))
+    (w.0.bits ∷ more.0, ap suc more.1, (bits_there core (at + 0) w.0 v.0 w.1 v.1 v.2, more.2), (ap (slice_get core) (let e : at ≡ at + 0 = omega arith in e) ∙ w.1 ∙ ap Some is, more.3))
+
+zeros_bits : (ns : List ℕ) → AreZero ns → AreBits ns
+zeros_bits [] z = tt
+zeros_bits (n ∷ ns) z = (omega (arith, z.0), zeros_bits ns z.1)
 
 what_is_told : (d told : Option (List (List ℕ))) (chain ns : List ℕ) → Says d told → d ≢ None → Told d chain ns → (all : List (List ℕ)) × (told ≡ Some all) × Holds all chain 0 ns
 what_is_told None told chain ns s n h = absurd (n refl)
@@ -83,10 +96,10 @@ module _ (x : Storage) (cpu : Cpu) (areas : Areas) (table : Table) (told : Optio
         k)
         untouched rests
 
-    pub some_words : (ns : List ℕ) × (length ns ≡ length t.numbers) × Upward new at (map (word (tag_of t.kind)) ns) × ((0 < first) ⊎ (ns ≡ t.numbers))
+    pub some_words : (ns : List ℕ) × (length ns ≡ length t.numbers) × AreBits ns × Upward new at (map (word (tag_of t.kind)) ns) × ((0 < first) ⊎ (ns ≡ t.numbers))
     some_words = ⊎_elim
-        (λ (h : HoldsIn x t first). let c = collected new (tag_of t.kind) (length t.numbers) at (l.tags (λ z. omega (arith, h.chain.some))) in
-        let r : (ns : List ℕ) × (length ns ≡ length t.numbers) × Upward new at (map (word (tag_of t.kind)) ns) × ((0 < first) ⊎ (ns ≡ t.numbers)) = (c.0, c.1, c.2, inl h.chain.some) in r)
+        (λ (h : HoldsIn x t first). let c = collected new (tag_of t.kind) (length t.numbers) at (l.tags (λ z. omega (arith, h.chain.some))) (l.low (λ z. omega (arith, h.chain.some))) in
+        let r : (ns : List ℕ) × (length ns ≡ length t.numbers) × AreBits ns × Upward new at (map (word (tag_of t.kind)) ns) × ((0 < first) ⊎ (ns ≡ t.numbers)) = (c.0, c.1, c.2, c.3, inl h.chain.some) in r)
         (λ (z : (first ≡ 0) × (t.kind ≡ Array) × AreZero t.numbers).
-        let r : (ns : List ℕ) × (length ns ≡ length t.numbers) × Upward new at (map (word (tag_of t.kind)) ns) × ((0 < first) ⊎ (ns ≡ t.numbers)) = (t.numbers, refl, untouched z, inr refl) in r)
+        let r : (ns : List ℕ) × (length ns ≡ length t.numbers) × AreBits ns × Upward new at (map (word (tag_of t.kind)) ns) × ((0 < first) ⊎ (ns ≡ t.numbers)) = (t.numbers, refl, zeros_bits t.numbers z.2, untouched z, inr refl) in r)
         rests

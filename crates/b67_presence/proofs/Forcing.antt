@@ -73,8 +73,8 @@ both_before x y p spare t c new after table' now s b = record {
   told_still = λ n. b.told_still (s.told n);
   thing = b.thing;
   code = b.code;
-  reads = record { numbers = b.reads.numbers; count = b.reads.count; is = b.reads.is; same = λ n. b.reads.same (s.told n) };
-  reads_code = record { numbers = b.reads_code.numbers; count = b.reads_code.count; is = b.reads_code.is; same = λ n. b.reads_code.same (s.told n) };
+  reads = record { numbers = b.reads.numbers; count = b.reads.count; bits = b.reads.bits; is = b.reads.is; same = λ n. b.reads.same (s.told n) };
+  reads_code = record { numbers = b.reads_code.numbers; count = b.reads_code.count; bits = b.reads_code.bits; is = b.reads_code.is; same = λ n. b.reads_code.same (s.told n) };
   stands = b.stands;
 }
 
@@ -85,7 +85,7 @@ wait_before x y p spare t new after table' now s b = record {
   low = b.low ∙ s.low;
   untold = λ e. b.untold (s.untold e);
   told_still = λ n. b.told_still (s.told n);
-  reads = record { numbers = b.reads.numbers; count = b.reads.count; is = b.reads.is; same = λ n. b.reads.same (s.told n) };
+  reads = record { numbers = b.reads.numbers; count = b.reads.count; bits = b.reads.bits; is = b.reads.is; same = λ n. b.reads.same (s.told n) };
   stands = b.stands;
 }
 

@@ -11,7 +11,7 @@ use Rattle.b67_stack.specs.declared.Cpu.{Cpu}
 use Rattle.b67_stack.specs.Shapes.{Upward}
 use Rattle.b67_stack.specs.Picture.{Thing, Picture, home_word_of, words_of}
 use Rattle.b67_stack.specs.Stands.{Storage, Stands}
-use Rattle.b67_storage.specs.Machine.{Stayed, MachineStands, Says, IsAbsent, with_held, renumbered}
+use Rattle.b67_storage.specs.Machine.{Stayed, MachineStands, Says, IsAbsent, AreBits, with_held, renumbered}
 use Rattle.b67_storage.proofs.Renumbered.{Stands-renumbered, there_renumbered, renumbered-same}
 use Rattle.b67_presence.specs.declared.paging.Resting.{Resting}
 use Rattle.b67_presence.specs.Brought.{brought, resting, IsKnown, IsPlace}
@@ -94,9 +94,9 @@ module _ (x : Storage) (cpu : Cpu) (areas after : Areas) (table : Table) (told n
     paged_known k = with_core (brought x t at) p (slice_set c3 home (word_at thing)) refl refl refl
         (back (brought x t at) p (placed_in x cpu.core c1 c2 c3 cpu.regs p home at t (length t.numbers) refl m.stands a st' (known_words x cpu areas table told p home t m a at c2 l' k)))
 
-    pub paged_untold : x.device ≡ None → (ns : List ℕ) × (length ns ≡ length t.numbers) × MachineStands (brought x t at) (record cpu { core = slice_set c3 home (word_at thing) }) after table new (renumbered p home ns)
+    pub paged_untold : x.device ≡ None → (ns : List ℕ) × (length ns ≡ length t.numbers) × AreBits ns × MachineStands (brought x t at) (record cpu { core = slice_set c3 home (word_at thing) }) after table new (renumbered p home ns)
     paged_untold untold =
-        let (ns, count, up, way) = some_words x cpu areas table told p home t m a at c2 l' in
+        let (ns, count, bits, up, way) = some_words x cpu areas table told p home t m a at c2 l' in
         let none : (x.held t.home).area ≡ None = ap (λ q. (x.held q).area) a.is ∙ a.absent in
         let t' : Thing = record t { numbers = ns } in
         let p' : Picture = renumbered p t.home ns in
@@ -108,7 +108,7 @@ module _ (x : Storage) (cpu : Cpu) (areas after : Areas) (table : Table) (told n
         let a' : IsAbsent x p' home t' = record { there = there; is = a.is; absent = a.absent } in
         let d = placed_in x cpu.core c1 c2 c3 cpu.regs p' home at t' (length t.numbers) count s' a' st' up in
         let P : ℕ → Type 0 = λ q. MachineStands (brought x t at) (record cpu { core = slice_set c3 home (word_at thing) }) after table new (renumbered p q ns) in
-        (ns, count, subst P a.is (with_core (brought x t at) p' (slice_set c3 home (word_at thing)) refl refl refl (back (brought x t at) p' d)))
+        (ns, count, bits, subst P a.is (with_core (brought x t at) p' (slice_set c3 home (word_at thing)) refl refl refl (back (brought x t at) p' d)))
 
   pub back_below : (at : ℕ) (c1 c2 c3 : List Tagged) (thing : Resting) → thing ≡ resting x t → Placed areas.low x.spans cpu.core c1 home at thing → Filled c1 c2 at thing.words → Freed areas.low (without areas.low at (fill (fresh thing.kind thing.words home) x.spans)) c2 c3 → Stayed p cpu.core c3
   back_below at c1 c2 c3 thing is pl fl fr =

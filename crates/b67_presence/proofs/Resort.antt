@@ -25,7 +25,7 @@ use Rattle.b67_presence.specs.Brings.{IsReadable, Reads, ReadIn, IsCode, BothIn,
 use Rattle.b67_presence.proofs.Rooms.{one_hole, first_room, second_room}
 
 pub Reads-none : (x y : Storage) (core : List Tagged) (r : Regs) (p : Picture) (c : Thing) → Stands y core r p → Has p.things c → Reads x p p c
-Reads-none x y core r p c s int = record { numbers = c.numbers; count = refl; is = sym (renumbered-same y core r p s c int); same = λ n. refl }
+Reads-none x y core r p c s int = record { numbers = c.numbers; count = refl; bits = λ b. b; is = sym (renumbered-same y core r p s c int); same = λ n. refl }
 
 pub there_after : (x : Storage) (p q : Picture) (t c : Thing) → Reads x p q t → Has p.things c → c.home ≢ t.home → Has q.things c
 there_after x p q t c r int n = let P : Picture → Type 0 = λ z. Has z.things c in subst P (sym r.is) (kept_there p t.home r.numbers c int n)
@@ -93,7 +93,7 @@ module _ (x : Storage) (cpu : Cpu) (areas : Areas) (table : Table) (told : Optio
     }
 
     pub reads_x : Reads x p rd.picture t
-    reads_x = record { numbers = rd.reads.numbers; count = rd.reads.count; is = rd.reads.is; same = λ n. rd.reads.same (λ e. n (sym device_same ∙ e)) }
+    reads_x = record { numbers = rd.reads.numbers; count = rd.reads.count; bits = rd.reads.bits; is = rd.reads.is; same = λ n. rd.reads.same (λ e. n (sym device_same ∙ e)) }
 
     pub readable_z : IsReadable x p → IsReadable (brought (overlaid x c spare told) t rd.at) rd.picture
     readable_z r = readable_on x (brought (overlaid x c spare told) t rd.at) p rd.picture t reads_x (λ e. device_same ∙ e) r
@@ -125,7 +125,7 @@ module _ (x : Storage) (cpu : Cpu) (areas : Areas) (table : Table) (told : Optio
           thing = λ e. none-some rd.at (sym e ∙ is_t);
           code = λ e. none-some rc.at (sym e ∙ is_c);
           reads = reads_x;
-          reads_code = record { numbers = rc.reads.numbers; count = rc.reads.count; is = rc.reads.is; same = λ n. rc.reads.same (λ e. n (sym device_same ∙ e)) };
+          reads_code = record { numbers = rc.reads.numbers; count = rc.reads.count; bits = rc.reads.bits; is = rc.reads.is; same = λ n. rc.reads.same (λ e. n (sym device_same ∙ e)) };
           stands = rc.stands;
         }
 

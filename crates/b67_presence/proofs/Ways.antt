@@ -25,7 +25,7 @@ readable_after x y p spare s (inl e) = inl (s.untold e)
 readable_after x y p spare s (inr f) = inr f
 
 pub Reads-before : (x y : Storage) (p q : Picture) (t : Thing) (spare : ℕ) → Sheds x y spare → Reads y p q t → Reads x p q t
-Reads-before x y p q t spare s r = record { numbers = r.numbers; count = r.count; is = r.is; same = λ n. r.same (s.told n) }
+Reads-before x y p q t spare s r = record { numbers = r.numbers; count = r.count; bits = r.bits; is = r.is; same = λ n. r.same (s.told n) }
 
 none_or : (o : Option (List (List ℕ))) → (o ≡ None) ⊎ (o ≢ None)
 none_or None = inl refl
@@ -33,16 +33,16 @@ none_or (Some all) = inr (λ e. none-some all (sym e))
 
 pub read_in : (y : Storage) (core : List Tagged) (r : Regs) (p : Picture) (home : ℕ) (t : Thing) (cpu : Cpu) (areas : Areas) (table : Table) (told : Option (List (List ℕ))) → Stands y core r p → IsAbsent y p home t → IsReadable y p
     → (IsKnown y t → (at : ℕ) × IsPlace y t at × MachineStands (brought y t at) cpu areas table told p)
-    → (y.device ≡ None → (at : ℕ) × (ns : List ℕ) × IsPlace y t at × (length ns ≡ length t.numbers) × MachineStands (brought y t at) cpu areas table told (renumbered p home ns))
+    → (y.device ≡ None → (at : ℕ) × (ns : List ℕ) × IsPlace y t at × (length ns ≡ length t.numbers) × AreBits ns × MachineStands (brought y t at) cpu areas table told (renumbered p home ns))
     → ReadIn y p t cpu areas table told
 read_in y core r p home t cpu areas table told s a readable known untold = ⊎_elim
     (λ (e : y.device ≡ None).
-    let (at, ns, place, count, m) = untold e in
+    let (at, ns, place, count, bits, m) = untold e in
     let it : ReadIn y p t cpu areas table told = record {
       at = at;
       picture = renumbered p home ns;
       place = place;
-      reads = record { numbers = ns; count = count; is = ap (λ (q : ℕ). renumbered p q ns) (sym a.is); same = λ n. absurd (n e) };
+      reads = record { numbers = ns; count = count; bits = λ _. bits; is = ap (λ (q : ℕ). renumbered p q ns) (sym a.is); same = λ n. absurd (n e) };
       stands = m;
     } in
     it)
@@ -54,7 +54,7 @@ read_in y core r p home t cpu areas table told s a readable known untold = ⊎_e
       at = at;
       picture = p;
       place = place;
-      reads = record { numbers = t.numbers; count = refl; is = sym (renumbered-same y core r p s t a.there); same = λ _. refl };
+      reads = record { numbers = t.numbers; count = refl; bits = λ b. b; is = sym (renumbered-same y core r p s t a.there); same = λ _. refl };
       stands = m;
     } in
     it)

@@ -17,10 +17,11 @@ use Rattle.b67_presence.specs.Brought.{brought, IsPlace}
 abbrev pub IsReadable : Storage → Picture → Type 0
 IsReadable x p = (x.device ≡ None) ⊎ ((t : Thing) → Has p.things t → AreBits t.numbers)
 
--- the picture after a thing was read: the same where the device tells its sectors, else with as many numbers
+-- the picture after a thing was read: the same where the device tells its sectors, else with as many numbers, and again those of words
 pub record Reads (x : Storage) (p q : Picture) (t : Thing) : Type 0 where
   pub numbers : List ℕ
   pub count : length numbers ≡ length t.numbers
+  pub bits : AreBits t.numbers → AreBits numbers
   pub is : q ≡ renumbered p t.home numbers
   pub same : x.device ≢ None → q ≡ p
 

@@ -10,7 +10,7 @@ ghost use Rattle.b67_ctl.specs.declared.registers.Regs.{Regs};
 ghost use Rattle.b67_stack.specs.Picture.{Thing, Picture, home_word_of, home_desc, tag_of};
 ghost use Rattle.b67_ctl.specs.Descriptors.{data_word};
 ghost use Rattle.b67_stack.specs.Stands.{Storage, Stands};
-ghost use Rattle.b67_storage.specs.Machine.{MachineStands, IsAbsent, HasRoom, Stayed, renumbered};
+ghost use Rattle.b67_storage.specs.Machine.{MachineStands, IsAbsent, AreBits, HasRoom, Stayed, renumbered};
 ghost use Rattle.b67_presence.specs.declared.paging.Refusal.TheVariants.{NoHole, BackingFault};
 ghost use Rattle.b67_presence.specs.Brought.{brought, IsPlace, IsKnown, resting, Reads};
 
@@ -112,6 +112,7 @@ impl Resting {
         ensures reads { OnOk result (self.first ≢ 0 → Reads (B.holds backing.old) sectors.now self.first at self.words (tag_of self.kind) core.new) }
         ensures zeros { self.first ≡ 0 → IsOk result × (backing.new ≡ backing.old) × ((i : ℕ) → at ≤ i → i < at + self.words → slice_get core.new i ≡ Some (word 0 0)) }
         ensures tags { OnOk result (self.first ≢ 0 → (i : ℕ) → i < self.words → (w : Tagged) × (slice_get core.new (at + i) ≡ Some w) × (w.tag ≡ tag_of self.kind)) }
+        ensures low { OnOk result (self.first ≢ 0 → (i : ℕ) → i < self.words → (w : Tagged) × (slice_get core.new (at + i) ≡ Some w) × (w.bits < 2 ^ 48)) }
         ensures outside { (i : ℕ) → (i < at) ⊎ (at + self.words ≤ i) → slice_get core.new i ≡ slice_get core.old i }
         ensures len { length core.new ≡ length core.old }
         ensures device { Becomes B.holds backing.old backing.new (λ all. all) }
@@ -165,7 +166,7 @@ pub fn page_in<B: Backing>(
         → (at : ℕ) × IsPlace x t at × MachineStands (brought x t at) cpu.new areas.new sectors.now (B.holds backing.new) p) }
     ensures untold { OnOk result ((x : Storage) (p : Picture) (t : Thing) → MachineStands x cpu.old areas.old sectors.now (B.holds backing.old) p
         → IsAbsent x p home t → x.device ≡ None
-        → (at : ℕ) × (ns : List ℕ) × IsPlace x t at × (length ns ≡ length t.numbers)
+        → (at : ℕ) × (ns : List ℕ) × IsPlace x t at × (length ns ≡ length t.numbers) × AreBits ns
         × MachineStands (brought x t at) cpu.new areas.new sectors.now (B.holds backing.new) (renumbered p home ns)) }
     ensures refused { OnErr result ((x : Storage) (p : Picture) (t : Thing) → MachineStands x cpu.old areas.old sectors.now (B.holds backing.old) p
         → IsAbsent x p home t → MachineStands x cpu.new areas.new sectors.now (B.holds backing.new) p) }

@@ -160,7 +160,7 @@ returns-in-Ok-clause-known g c =
     } in
     let K : Areas → Type 0 = λ z. Kept z.low ss c.load.new.core c.keep.new.core c.in-Some.at c.at-thing.result.words c.at-thing.result.first in
     let st : Steps c.args.areas.now.low x.spans c.args.cpu.now.core c.place.new.core c.load.new.core c.keep.new.core c.args.home c.in-Some.at c.at-thing.result = record { placed = pl; filled = fl; kept = subst K c.in-Some.ensures.same kp } in
-    let ld : Loaded (g.B.Backing.holds c.args.backing.now) c.args.sectors.now c.in-Some.at c.at-thing.result c.load.new.core = record { reads = c.in-Ok.ensures.reads; zeros = λ z. (c.load.ensures.zeros z).2; tags = c.in-Ok.ensures.tags } in
+    let ld : Loaded (g.B.Backing.holds c.args.backing.now) c.args.sectors.now c.in-Some.at c.at-thing.result c.load.new.core = record { reads = c.in-Ok.ensures.reads; zeros = λ z. (c.load.ensures.zeros z).2; tags = c.in-Ok.ensures.tags; low = c.in-Ok.ensures.low } in
     let new_is : c.set.new.self ≡ slice_set c.keep.new.core c.args.home (home_word_of c.at-thing.result.kind c.at-thing.result.words (record { area = Some c.in-Some.at; chain = c.at-thing.result.first })) = c.set.ensures.value ∙ ap (λ (w : Tagged). slice_set c.keep.new.core c.args.home w) c.present.ensures in
     let low : c.keep.new.self.low ≡ c.args.areas.now.low = ap (λ (z : Areas). z.low) (c.keep.ensures.same ∙ c.in-Some.ensures.same) in
     let says = c.load.ensures.device.told in
@@ -196,14 +196,14 @@ returns-in-Ok-clause-untold g c =
     } in
     let K : Areas → Type 0 = λ z. Kept z.low ss c.load.new.core c.keep.new.core c.in-Some.at c.at-thing.result.words c.at-thing.result.first in
     let st : Steps c.args.areas.now.low x.spans c.args.cpu.now.core c.place.new.core c.load.new.core c.keep.new.core c.args.home c.in-Some.at c.at-thing.result = record { placed = pl; filled = fl; kept = subst K c.in-Some.ensures.same kp } in
-    let ld : Loaded (g.B.Backing.holds c.args.backing.now) c.args.sectors.now c.in-Some.at c.at-thing.result c.load.new.core = record { reads = c.in-Ok.ensures.reads; zeros = λ z. (c.load.ensures.zeros z).2; tags = c.in-Ok.ensures.tags } in
+    let ld : Loaded (g.B.Backing.holds c.args.backing.now) c.args.sectors.now c.in-Some.at c.at-thing.result c.load.new.core = record { reads = c.in-Ok.ensures.reads; zeros = λ z. (c.load.ensures.zeros z).2; tags = c.in-Ok.ensures.tags; low = c.in-Ok.ensures.low } in
     let new_is : c.set.new.self ≡ slice_set c.keep.new.core c.args.home (home_word_of c.at-thing.result.kind c.at-thing.result.words (record { area = Some c.in-Some.at; chain = c.at-thing.result.first })) = c.set.ensures.value ∙ ap (λ (w : Tagged). slice_set c.keep.new.core c.args.home w) c.present.ensures in
     let low : c.keep.new.self.low ≡ c.args.areas.now.low = ap (λ (z : Areas). z.low) (c.keep.ensures.same ∙ c.in-Some.ensures.same) in
     let says = c.load.ensures.device.told in
     let d = paged_untold x c.args.cpu.now c.args.areas.now c.keep.new.self c.args.sectors.now (g.B.Backing.holds c.args.backing.now) (g.B.Backing.holds c.load.new.backing) p c.args.home t m a low says c.in-Some.at c.place.new.core c.load.new.core c.keep.new.core c.at-thing.result is st ld k in
     let place = in_place x c.args.cpu.now c.args.areas.now c.keep.new.self c.args.sectors.now (g.B.Backing.holds c.args.backing.now) (g.B.Backing.holds c.load.new.backing) p c.args.home t m a low says c.in-Some.at c.place.new.core c.load.new.core c.keep.new.core c.at-thing.result is st ld in
     let M : List Tagged → Type 0 = λ core. MachineStands (brought x t c.in-Some.at) (record c.args.cpu.now { core = core }) c.keep.new.self c.args.sectors.now (g.B.Backing.holds c.load.new.backing) (renumbered p c.args.home d.0) in
-    (c.in-Some.at, d.0, place, d.1, subst M (sym new_is) d.2)
+    (c.in-Some.at, d.0, place, d.1, d.2, subst M (sym new_is) d.3)
 
 pub returns-in-Ok-clause-full : goal.returns-in-Ok-clause-full
 returns-in-Ok-clause-full g c =
@@ -290,7 +290,7 @@ returns-in-Ok-clause-outside g c =
     } in
     let K : Areas → Type 0 = λ z. Kept z.low ss c.load.new.core c.keep.new.core c.in-Some.at c.at-thing.result.words c.at-thing.result.first in
     let st : Steps c.args.areas.now.low x.spans c.args.cpu.now.core c.place.new.core c.load.new.core c.keep.new.core c.args.home c.in-Some.at c.at-thing.result = record { placed = pl; filled = fl; kept = subst K c.in-Some.ensures.same kp } in
-    let ld : Loaded (g.B.Backing.holds c.args.backing.now) c.args.sectors.now c.in-Some.at c.at-thing.result c.load.new.core = record { reads = c.in-Ok.ensures.reads; zeros = λ z. (c.load.ensures.zeros z).2; tags = c.in-Ok.ensures.tags } in
+    let ld : Loaded (g.B.Backing.holds c.args.backing.now) c.args.sectors.now c.in-Some.at c.at-thing.result c.load.new.core = record { reads = c.in-Ok.ensures.reads; zeros = λ z. (c.load.ensures.zeros z).2; tags = c.in-Ok.ensures.tags; low = c.in-Ok.ensures.low } in
     let new_is : c.set.new.self ≡ slice_set c.keep.new.core c.args.home (home_word_of c.at-thing.result.kind c.at-thing.result.words (record { area = Some c.in-Some.at; chain = c.at-thing.result.first })) = c.set.ensures.value ∙ ap (λ (w : Tagged). slice_set c.keep.new.core c.args.home w) c.present.ensures in
     let low : c.keep.new.self.low ≡ c.args.areas.now.low = ap (λ (z : Areas). z.low) (c.keep.ensures.same ∙ c.in-Some.ensures.same) in
     let says = c.load.ensures.device.told in

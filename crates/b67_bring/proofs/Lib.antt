@@ -1,0 +1,5 @@
+pub mod Others
+pub mod Seen
+pub mod Again
+pub mod Wants
+pub mod Ends

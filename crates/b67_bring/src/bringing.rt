@@ -1,0 +1,78 @@
+//! What an operator wants is brought in.
+
+ghost use Rattle.std.specs.Prelude.{◌≡◌, ◌≢◌, ℕ, ◌+◌, ◌<◌, ◌↔◌, List, Option, OnOk, OnErr, Err, length};
+ghost use Rattle.b67_io.specs.Causes.{Rose};
+ghost use Rattle.b67_model.specs.State.{Task, Member};
+ghost use Rattle.b67_model.specs.Sectors.{sectors};
+ghost use Rattle.b67_model.specs.Schedule.{Session};
+ghost use Rattle.b67_model.specs.InOrder.{IsInOrderButPlaces};
+ghost use Rattle.b67_stack.specs.Stands.{Storage};
+ghost use Rattle.b67_storage.specs.Machine.{Served};
+ghost use Rattle.b67_layout.specs.Plan.{Plan};
+ghost use Rattle.b67_layout.specs.Session.{IsRunning};
+ghost use Rattle.b67_backing.specs.declared.SpaceFault.TheVariants.{NoCore, BackingFull, BackingFault};
+ghost use Rattle.b67_needs.specs.Needing.{need_with};
+ghost use Rattle.b67_bring.specs.Bringing.{StandsOver, WantsSome, IsWanted, StandsAgain, Brings};
+
+use b67_backing::{Backing, SpaceFault};
+use b67_presence::{bring_code, bring_data};
+use b67_stack::What;
+use b67_task::Machine;
+
+/// Brings the running segment, or an array that the running task's operator touches, into core; the running segment is
+/// then present too. `NoCore`, with nothing changed, exactly where the MCP, dictionaries, stacks, the running segment and
+/// that array need more words than core has. `BackingFull` only where the session takes more sectors than the device has.
+/// `BackingFault` only where the device failed. After a refusal the machine stands for the same session, and the call may
+/// be made again, for an array once the running segment is present. Over a device that doesn't tell what its sectors hold,
+/// the words that it gave back may be others, and as many.
+pub fn bring<B: Backing>(
+    machine: &mut Machine,
+    backing: &mut B,
+    absent: What,
+) -> Result<(), SpaceFault>
+    requires wants { WantsSome machine.old (B.holds backing.old) absent }
+    requires same { B.size backing.old + 1 ≡ length machine.old.sectors.links }
+    ensures rest { machine.new.cpu ≡ record machine.old.cpu { core = machine.new.cpu.core } }
+    ensures len { length machine.new.cpu.core ≡ length machine.old.cpu.core }
+    ensures tasks { machine.new.tasks ≡ machine.old.tasks }
+    ensures count { length machine.new.sectors.links ≡ length machine.old.sectors.links }
+    ensures came { OnOk result ((x : Storage) (plan : Plan) (s : Session) (m : Member) (t : Task) (words : ℕ) → IsInOrderButPlaces s
+        → StandsOver x (B.holds backing.old) machine.old plan s → IsRunning plan s.jobs m t → IsWanted x plan m t absent words
+        → Brings x (B.holds backing.new) machine.new plan s m t absent) }
+    ensures refused { OnErr result ((x : Storage) (plan : Plan) (s : Session) (m : Member) (t : Task) (words : ℕ) → IsInOrderButPlaces s
+        → StandsOver x (B.holds backing.old) machine.old plan s → IsRunning plan s.jobs m t → IsWanted x plan m t absent words
+        → StandsAgain x (B.holds backing.new) machine.new plan s) }
+    ensures no_core { (x : Storage) (plan : Plan) (s : Session) (m : Member) (t : Task) (words need size : ℕ) → IsInOrderButPlaces s
+        → StandsOver x (B.holds backing.old) machine.old plan s → IsRunning plan s.jobs m t → IsWanted x plan m t absent words
+        → (result ≡ Err (NoCore need size)) ↔ ((length machine.old.cpu.core < need_with s m t 0 words) × (need ≡ need_with s m t 0 words) × (size ≡ length machine.old.cpu.core)) }
+    ensures unchanged { (need size : ℕ) → result ≡ Err (NoCore need size) → (machine.new ≡ machine.old) × (backing.new ≡ backing.old) }
+    ensures full { (x : Storage) (plan : Plan) (s : Session) (m : Member) (t : Task) (words wants free : ℕ) → IsInOrderButPlaces s
+        → StandsOver x (B.holds backing.old) machine.old plan s → IsRunning plan s.jobs m t → IsWanted x plan m t absent words
+        → result ≡ Err (BackingFull wants free) → B.size backing.old < sectors s.jobs }
+    ensures cause { result ≡ Err BackingFault → Rose B.faults backing.old backing.new }
+    ensures device { Served B.holds B.size B.calls B.faults backing.old backing.new }
+{
+    match absent {
+        What::Code(displacement) => {
+            let code = machine.cpu.regs.dict + u32::from(displacement);
+            bring_code(
+                &mut machine.cpu,
+                &mut machine.areas,
+                &mut machine.sectors,
+                backing,
+                code,
+            )
+        }
+        What::Array(original) => {
+            let code = machine.cpu.regs.dict + u32::from(machine.cpu.regs.segment);
+            bring_data(
+                &mut machine.cpu,
+                &mut machine.areas,
+                &mut machine.sectors,
+                backing,
+                original,
+                code,
+            )
+        }
+    }
+}

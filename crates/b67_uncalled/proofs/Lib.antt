@@ -1,0 +1,6 @@
+pub mod Couples
+pub mod Safe
+pub mod Frames
+pub mod Chains
+pub mod Steps
+pub mod Runs
