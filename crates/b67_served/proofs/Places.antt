@@ -8,7 +8,7 @@ use Rattle.b67_model.specs.declared.operators.Undecodable.{Undecodable}
 use Rattle.b67_model.specs.declared.operators.Undecodable.TheVariants.{BadPlace, NotAdmitted, PastEnd}
 use Rattle.b67_model.specs.Operators.{Form, Alone, OneMore, TwoMore, Literal, Reading, count_at, place_at, ends_at, reads, form_of, syllable, operator_at}
 use Rattle.b67_model.specs.Loader.{Entry, At, entries_from}
-use Rattle.b67_served.specs.Served.{all_built}
+use Rattle.b67_uncalled.specs.Uncalled.{entries_use_built}
 
 -- the place behind an operator at syllable n
 pub record Behind (code : List ℕ) (n : ℕ) (at : Place) : Type 0 where
@@ -81,10 +81,10 @@ listing-step code at read e =
 
 -- a place at which no operator stands
 pub listing-err : (level : ℕ) (code : List ℕ) (at : Place) (why : Undecodable) → operator_at code at ≡ Err why → at.syllable < 6 → count_at at ≤ 6 * length code
-    → all_built level (listing_from code at) ≡ true
+    → entries_use_built level (listing_from code at) ≡ true
 listing-err level code at why e proper inside = by_left (6 * length code - count_at at) why e
   where
-    by_left : (n : ℕ) → (why : Undecodable) → operator_at code at ≡ Err why → all_built level (entries_from n code at (operator_at code at)) ≡ true
+    by_left : (n : ℕ) → (why : Undecodable) → operator_at code at ≡ Err why → entries_use_built level (entries_from n code at (operator_at code at)) ≡ true
     by_left zero why e = refl
     by_left (suc n) BadPlace e = rw e refl
     by_left (suc n) NotAdmitted e = rw e refl

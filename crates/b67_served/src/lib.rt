@@ -3,4 +3,4 @@
 
 mod program;
 
-pub use program::is_served;
+pub use program::uses_built;

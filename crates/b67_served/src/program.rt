@@ -6,7 +6,7 @@ ghost use Rattle.b67_model.specs.Loader.{listing};
 ghost use Rattle.b67_codefile.specs.Spelling.{IsWithin};
 ghost use Rattle.b67_codefile.specs.Meaning.{program_of};
 ghost use Rattle.b67_load.specs.Listing.{CoupleFits};
-ghost use Rattle.b67_served.specs.Served.{is_unbuilt, names_unbuilt, all_built, is_served};
+ghost use Rattle.b67_uncalled.specs.Uncalled.{names_unbuilt, op_uses_built, entries_use_built, uses_built};
 
 use b67_codefile::Codefile;
 use b67_model::Op;
@@ -20,32 +20,33 @@ const ORIGIN: Place = Place {
 };
 
 // Whether a couple names an intrinsic that isn't built.
-fn is_unbuilt(couple: Couple) -> bool
-    ensures { result ≡ is_unbuilt couple }
+fn names_unbuilt(couple: Couple) -> bool
+    ensures { result ≡ names_unbuilt couple }
 {
-    couple.level == 0 && (12 <= couple.disp && couple.disp <= 16)
+    couple.level == 0 && 11 < couple.disp && couple.disp < 17
 }
 
-// Whether an operator of a segment of this level does.
-fn names_unbuilt(level: u8, op: Op) -> bool
+// Whether an operator of a segment of this level pushes no such name.
+fn op_uses_built(level: u8, op: Op) -> bool
     requires { CoupleFits op }
-    ensures { result ≡ names_unbuilt level op }
+    ensures { result ≡ op_uses_built level op }
 {
     match op {
-        Op::Namc(bits) => is_unbuilt(couple_of(bits, level.min(31))),
-        _ => false,
+        Op::Namc(bits) => !names_unbuilt(couple_of(bits, level.min(31))),
+        _ => true,
     }
 }
 
-fn is_built(level: u8, code: &[Word]) -> bool
+// Nor does any operator of its code.
+fn code_uses_built(level: u8, code: &[Word]) -> bool
     requires { length code.now ≤ 8191 }
-    ensures { result ≡ all_built level (listing (contents code.now)) }
+    ensures { result ≡ entries_use_built level (listing (contents code.now)) }
 {
     let mut at = ORIGIN;
     'operators: loop {
         match decode(code, at) {
             Ok((op, next)) => {
-                if names_unbuilt(level, op) {
+                if !op_uses_built(level, op) {
                     return false;
                 }
                 at = next;
@@ -55,14 +56,14 @@ fn is_built(level: u8, code: &[Word]) -> bool
     }
 }
 
-/// Whether a program names no intrinsic that isn't built. Those on tasks aren't: 12 to 16, PROCESS, AWAIT, STATUS, WAIT and
-/// CAUSE.
-pub fn is_served(file: &Codefile) -> bool
+/// Whether no operator of a program pushes the name of an intrinsic that isn't built: 12 to 16, PROCESS, AWAIT, STATUS, WAIT
+/// and CAUSE. Such a program never calls one.
+pub fn uses_built(file: &Codefile) -> bool
     requires { IsWithin file.now }
-    ensures { result ≡ is_served (program_of file.now) }
+    ensures { result ≡ uses_built (program_of file.now) }
 {
     'segments: for segment in file.segments.as_slice() {
-        if !is_built(segment.level, segment.code.as_slice()) {
+        if !code_uses_built(segment.level, segment.code.as_slice()) {
             return false;
         }
     }

@@ -2,12 +2,12 @@ use Rattle.std.proofs.Common.{◌≡◌, ◌≤◌, ◌<◌, ◌*◌, ◌-◌, l
 use Rattle.b67_word.specs.Tagged.{contents}
 use Rattle.b67_model.specs.Operators.{count_at}
 use Rattle.b67_model.specs.Loader.{listing}
-use Rattle.b67_served.specs.Served.{all_built}
+use Rattle.b67_uncalled.specs.Uncalled.{entries_use_built}
 use Rattle.b67_served.proofs.Places.{listing_from}
-use Rattle.b67_served.proofs.program.is_built.Given as goal
+use Rattle.b67_served.proofs.program.code_uses_built.Given as goal
 
 abbrev pub invariant-operators : goal.invariant-operators
-invariant-operators l = (all_built l.level (listing (contents l.code)) ≡ all_built l.level (listing_from (contents l.code) l.at))
+invariant-operators l = (entries_use_built l.level (listing (contents l.code)) ≡ entries_use_built l.level (listing_from (contents l.code) l.at))
     × (l.at.syllable < 6) × (count_at l.at ≤ 6 * length (contents l.code))
 
 abbrev pub decreases-operators : goal.decreases-operators
