@@ -4,18 +4,13 @@ use Rattle.std.specs.Prelude.{◌≡◌, ℕ, ◌+◌, ◌<◌, ◌≤◌, Bool,
 use Rattle.b67_io.specs.Line.{ended}
 use Rattle.b67_io.specs.Told.{TookPart}
 use Rattle.b67_io.specs.Causes.{Rose}
-use Rattle.b67_text.specs.declared.deck.Job.{Job}
-use Rattle.b67_text.specs.declared.deck.Deck.{Deck}
 use Rattle.b67_model.specs.State.{Task, Member}
 use Rattle.b67_model.specs.Need.{need}
 use Rattle.b67_model.specs.Sectors.{sectors}
 use Rattle.b67_model.specs.Lines.{run_text}
 use Rattle.b67_model.specs.Schedule.{Session}
 use Rattle.b67_model.specs.Run.{lines, after}
-use Rattle.b67_exec.specs.Operators.{called_in}
-use Rattle.b67_admit.specs.declared.refusal.Refusal.TheVariants as refusals
 use Rattle.b67_admit.specs.Admitting.{Prepared}
-use Rattle.b67_admit.specs.Told.{refusal_line}
 use Rattle.b67_open.specs.Decks.{session_of}
 use Rattle.b67_open.specs.Opens.{need_of, sectors_of_all}
 use Rattle.b67_task.specs.declared.tables.Machine.{Machine}
@@ -28,11 +23,6 @@ use Rattle.b67_ends.specs.Lines.{no_core_line, backing_full_line, backing_fault_
 -- the run that a deck with its programs asks for: the session that it opens, and its halt
 abbrev pub run_of : Prepared → Run
 run_of p = record { session = session_of p.0 p.1; halt = p.0.halt }
-
--- the card of the first job's body
-abbrev pub card_of : List Job → ℕ
-card_of [] = 0
-card_of (j ∷ more) = j.body_card
 
 -- what so many steps print, and a last line
 abbrev pub text_to : ℕ → Session → List ℕ → List ℕ
@@ -76,14 +66,6 @@ pub record IsCutOff (told : Option (List (List ℕ))) (first : Session) (k : Mac
   pub stop : StopsAt told first k
   pub printed : text ≡ text_to k.tasks.made first backing_fault_line
 
--- the next step calls an intrinsic that isn't built
-pub record CallsUnbuilt (told : Option (List (List ℕ))) (card : ℕ) (first : Session) (k : Machine) (text : List ℕ) : Type 0 where
-  pub stop : StopsAt told first k
-  pub called : ℕ
-  pub calls : called_in stop.member stop.task ≡ Some called
-  pub unbuilt : 12 ≤ called
-  pub printed : text ≡ text_to k.tasks.made first (refusal_line (refusals.Deck card 90))
-
 -- ---- the status and the text
 
 -- core and device have room for the session that opens
@@ -98,15 +80,15 @@ pub data StopsUnopened (d : Device) (core : ℕ) (p : Prepared) (status : ℕ) (
       → status ≡ 5 → text ≡ ended (backing_full_line (sectors_of_all p.0 p.1) d.sectors) → StopsUnopened d core p status text
   opening_fails : HasRoom d core p → Failed d → status ≡ 6 → text ≡ ended backing_fault_line → StopsUnopened d core p status text
 
--- A session was opened. What is said of steps is said where the device told what its sectors hold; where it tells nothing
--- it may give back other code than was written.
+-- A session was opened. What is said of steps is said where the device told what its sectors hold. One that tells nothing
+-- may give back other code than was written, even the call of an intrinsic that isn't built.
 pub data StopsOpened (d : Device) (core : ℕ) (p : Prepared) (k : Machine) (status : ℕ) (text : List ℕ) : Type 0 where
   all_end : status ≡ 0 → (Tells d → IsDone (run_of p) k text) → StopsOpened d core p k status text
   halt_comes : status ≡ 3 → is_some p.0.halt ≡ true → (Tells d → IsHaltedAt d.now (run_of p) k text) → StopsOpened d core p k status text
   step_wants_core : status ≡ 4 → (Tells d → WantsCore d.now core (run_of p).session k text) → StopsOpened d core p k status text
   step_wants_sectors : status ≡ 5 → (Tells d → WantsSectors d.now d.sectors (run_of p).session k text) → StopsOpened d core p k status text
   step_fails : status ≡ 6 → Failed d → (Tells d → IsCutOff d.now (run_of p).session k text) → StopsOpened d core p k status text
-  step_is_unbuilt : status ≡ 2 → (Tells d → CallsUnbuilt d.now (card_of p.0.jobs) (run_of p).session k text) → StopsOpened d core p k status text
+  code_is_strange : status ≡ 2 → (Tells d → ⊥) → StopsOpened d core p k status text
 
 -- a run stops, with a machine exactly where a session was opened
 pub data RunStops (d : Device) (core : ℕ) (p : Prepared) (machine : Option Machine) (status : ℕ) (text : List ℕ) : Type 0 where

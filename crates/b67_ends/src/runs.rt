@@ -1,6 +1,6 @@
 //! The run of a deck over core.
 
-ghost use Rattle.std.specs.Prelude.{◌≡◌, ◌≢◌, ◌+◌, ◌<◌, ◌≤◌, ◌^◌, length, map, None};
+ghost use Rattle.std.specs.Prelude.{◌≡◌, ◌≢◌, ◌+◌, ◌<◌, ◌≤◌, ◌^◌, length, map, true, None};
 ghost use Rattle.std.specs.List.{AllByRecursion};
 ghost use Rattle.b67_io.specs.Line.{ended};
 ghost use Rattle.b67_io.specs.Causes.{Rose};
@@ -11,8 +11,10 @@ ghost use Rattle.b67_lines.specs.Ends.{Ends};
 ghost use Rattle.b67_open.specs.Decks.{DeckInRange, IsLoaded};
 ghost use Rattle.b67_intrinsics.specs.Called.{AreCountable};
 ghost use Rattle.b67_session.specs.Slices.{LivesOn, IsLone};
+ghost use Rattle.b67_uncalled.specs.Uncalled.{uses_built};
 ghost use Rattle.b67_ends.specs.Device.{device_of};
 ghost use Rattle.b67_ends.specs.Finishing.{refused_status, refused_line, steps_of, Finishes, JobRan};
+ghost use Rattle.b67_ends.specs.Lines.{backing_fault_line};
 ghost use Rattle.b67_ends.specs.Runs.{RunEnds};
 
 use crate::lines::{backing_full_line, no_core_line, refusal_line};
@@ -36,6 +38,12 @@ pub struct Outcome {
     pub machine: Option<Machine>,
 }
 
+fn say_backing_fault<K: Sink>(printer: &mut K) -> u8
+    ensures { Ends K.taken K.faults printer.old printer.new 6 (ended backing_fault_line) result }
+{
+    say(printer, 6, &line_of("BACKING FAULT"))
+}
+
 // Prints why no session is opened.
 fn refuse_opening<K: Sink>(fault: OpenFault, printer: &mut K) -> u8
     ensures { Ends K.taken K.faults printer.old printer.new (refused_status fault) (ended (refused_line fault)) result }
@@ -44,7 +52,7 @@ fn refuse_opening<K: Sink>(fault: OpenFault, printer: &mut K) -> u8
         OpenFault::Memory => say(printer, 9, &line_of("NO MEMORY")),
         OpenFault::NoCore { need, core } => say(printer, 4, &no_core_line(need, core)),
         OpenFault::BackingFull { sum, sectors } => say(printer, 5, &backing_full_line(sum, sectors)),
-        OpenFault::BackingFault => say(printer, 6, &line_of("BACKING FAULT")),
+        OpenFault::BackingFault => say_backing_fault(printer),
     }
 }
 
@@ -58,7 +66,7 @@ fn finish<K: Sink>(answered: Result<Progress, Stop>, card: u32, made: u64, print
         Ok(Progress::Halted) => say(printer, 3, &halted_line(made)),
         Err(Stop::NoCore { need, core }) => say(printer, 4, &no_core_line(need, core)),
         Err(Stop::BackingFull { sum, sectors }) => say(printer, 5, &backing_full_line(sum, sectors)),
-        Err(Stop::BackingFault) => say(printer, 6, &line_of("BACKING FAULT")),
+        Err(Stop::BackingFault) => say_backing_fault(printer),
         Err(Stop::PrintFault) => 8,
         Err(Stop::Unbuilt) => say(printer, 2, &refusal_line(Refusal::Deck { card, reason: 90 })),
     }
@@ -113,6 +121,7 @@ pub fn run_deck<K: Sink, B: Backing>(
     requires each { length programs.now ≡ length deck.now.jobs }
     requires few { length deck.now.jobs ≤ 1 }
     requires loaded { AllByRecursion IsLoaded programs.now }
+    requires built { AllByRecursion (λ f. uses_built (program_of f) ≡ true) programs.now }
     requires core_low { 256 ≤ core }
     requires core_high { core < 2 ^ 20 }
     ensures { RunEnds K.taken K.faults (device_of B.holds B.size B.faults backing.old backing.new) core (deck.now, map program_of programs.now)
