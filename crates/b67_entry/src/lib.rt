@@ -1,7 +1,7 @@
 //! Marking and entering activation records.
 #![tactic(auto)]
 
-ghost use Rattle.std.specs.Prelude.{◌≡◌, ℕ, not, ◌==◌, true, List, Some, slice_get};
+ghost use Rattle.std.specs.Prelude.{◌≡◌, ℕ, not, ◌==◌, ◌+◌, ◌<◌, true, List, Some, slice_get};
 ghost use Rattle.b67_ctl.specs.Layout.{IsPlace, IsPcw, pcw_word};
 ghost use Rattle.b67_ctl.specs.declared.programs.Pcw.{Pcw};
 ghost use Rattle.b67_ctl.specs.declared.registers.Regs.{Regs};
@@ -11,6 +11,7 @@ ghost use Rattle.b67_model.specs.Chase.{AtProc};
 ghost use Rattle.b67_model.specs.Entry as rows;
 ghost use Rattle.b67_model.specs.Entry.{back_to};
 ghost use Rattle.b67_model.specs.Rows as operators;
+ghost use Rattle.b67_stack.specs.declared.Step.TheVariants.{Done};
 ghost use Rattle.b67_layout.specs.Meets.{RunsSome, ForEach, Meets, here};
 ghost use Rattle.b67_refer.specs.Scene.{Scene, IsShown};
 ghost use Rattle.b67_entry.specs.Procedures.{ReachesProc, CanEnter, EntersOrFaults, Calls, called, CallsOrMeets};
@@ -132,12 +133,15 @@ pub fn entr(cpu: &mut Cpu, next: Place) -> Step
     }
 }
 
-/// As `accident`, with these registers in place of the machine's.
+/// As `accident`, with these registers in place of the machine's. The two words over their top are the new ones, and
+/// nothing above these changes.
 pub fn accident_on(cpu: &mut Cpu, regs: Regs, cell: u32, value: bool, back: Place) -> Step
     requires procedure { (a : Scene cpu.old.core regs) × (q : Place) × (f : ℕ) × (segment : ℕ) × (level : ℕ) × (place : Place) × CanEnter cpu.old regs a q cell f segment level place }
     requires back { IsPlace back }
     ensures row { (a : Scene cpu.old.core regs) (q : Place) (f segment level : ℕ) (place : Place) → CanEnter cpu.old regs a q cell f segment level place
         → EntersOrFaults a result cpu.old cpu.new (rows.accident (here a.member a.task q) (cells_of (here a.member a.task q)) (back_to (here a.member a.task q) value back) (AtProc f segment level place)) }
+    ensures above { (i : ℕ) → cpu.new.regs.s < i → slice_get cpu.new.core i ≡ slice_get cpu.old.core i }
+    ensures top { result ≡ Done → cpu.new.regs.s ≡ regs.s + 2 }
 {
     let env = activation_of(&cpu.core, &regs, cell);
     let procedure = procedure_at(&cpu.core, cell);

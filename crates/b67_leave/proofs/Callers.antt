@@ -26,6 +26,10 @@ module _ (cpu : Cpu) (a : MayReturn cpu) where
   pub mark_at : cpu.regs.f ≡ suc (slot_base a.picture cpu.regs.slot) + high a.below
   mark_at = omega (arith, (running_slot a.storage cpu.core cpu.regs a.picture cpu.regs.slot (a.top ∷ a.below) a.stands a.runs).mark)
 
+  -- the top without the record is below its mark
+  pub below_mark : cpu.regs.bosr + high a.below + 1 ≡ cpu.regs.f
+  below_mark = omega (arith, mark_at, (running_slot a.storage cpu.core cpu.regs a.picture cpu.regs.slot (a.top ∷ a.below) a.stands a.runs).first)
+
   pub return_there : slice_get cpu.core (cpu.regs.f + 1) ≡ Some (rcw_word (return_of (Some a.back) a.below))
   return_there =
       let at : cpu.regs.f + 1 ≡ suc (slot_base a.picture cpu.regs.slot) + suc (length (words cpu.regs.slot a.below)) = omega (arith, mark_at, words-length cpu.regs.slot a.below) in

@@ -1,13 +1,14 @@
 //! Leaving activation records.
 #![tactic(auto)]
 
-ghost use Rattle.std.specs.Prelude.{◌≡◌, ℕ, List, ◌∷◌};
+ghost use Rattle.std.specs.Prelude.{◌≡◌, ℕ, ◌+◌, List, ◌∷◌};
 ghost use Rattle.b67_ctl.specs.declared.marks.Mscw.{Mscw};
 ghost use Rattle.b67_word.specs.declared.couples.Place.{Place};
 ghost use Rattle.b67_model.specs.State.{top};
 ghost use Rattle.b67_model.specs.Entry as rows;
 ghost use Rattle.b67_model.specs.Steps.{is_critical as depended_on};
 ghost use Rattle.b67_stack.specs.Stacks.{top_mark as top_mark_of};
+ghost use Rattle.b67_stack.specs.declared.Step.TheVariants.{Done};
 ghost use Rattle.b67_layout.specs.Meets.{RunsSome, ForEach, Meets, here};
 ghost use Rattle.b67_leave.specs.Left.{MayReturn, caller_regs};
 
@@ -43,11 +44,14 @@ pub fn caller(cpu: &Cpu, mark: Mscw) -> Regs
     }
 }
 
-/// EXIT: leaves the running activation record. Its arrays are gone, and are left to release. Faults where the top one is
-/// only marked, or where a live task depends on it. `Ended`, with nothing changed, where it is the task's outermost.
+/// EXIT: leaves the running activation record: the stack's top is below its mark, and no word changes. Its arrays are gone,
+/// and are left to release. Faults where the top one is only marked, or where a live task depends on it. `Ended`, with
+/// nothing changed, where it is the task's outermost.
 pub fn exit(cpu: &mut Cpu) -> Step
     requires { RunsSome cpu.old }
     ensures row { ForEach cpu.old (λ x plan s m t. (next : Place) → Meets x plan s m result cpu.old cpu.new (rows.exit (here m t next))) }
+    ensures core { cpu.new.core ≡ cpu.old.core }
+    ensures top { result ≡ Done → cpu.new.regs.s + 1 ≡ cpu.old.regs.f }
 {
     let mark = cpu.top_mark();
     if !mark.entered {

@@ -1,15 +1,17 @@
 -- What making the operator at the running place answers, and the machine that it leaves once a left activation record's
 -- arrays were given back.
-use Rattle.std.specs.Prelude.{◌≡◌, ◌≢◌, ℕ, ◌+◌, List, [], Option, Some, None, Ok, Err}
-use Rattle.b67_model.specs.State.{Task, Job, Member}
+use Rattle.std.specs.Prelude.{◌≡◌, ℕ, ◌+◌, List, [], Option, Some, None, Ok, Err}
+use Rattle.b67_model.specs.State.{Ready, Task, Job, Member}
 use Rattle.b67_model.specs.Steps.{Goes, Leaves}
 use Rattle.b67_model.specs.Rows.{step}
 use Rattle.b67_model.specs.Schedule.{Session}
+use Rattle.b67_model.specs.InOrder.{IsInOrderButPlaces}
 use Rattle.b67_stack.specs.declared.What.TheVariants as what
 use Rattle.b67_stack.specs.declared.Step.{Step}
 use Rattle.b67_stack.specs.declared.Step.TheVariants as answers
 use Rattle.b67_stack.specs.Stands.{Storage}
 use Rattle.b67_layout.specs.Plan.{Plan}
+use Rattle.b67_layout.specs.Session.{IsRunning}
 use Rattle.b67_layout.specs.Meets.{with_job, IsAbsent, IsPresent}
 use Rattle.b67_code.specs.Running.{code_area}
 use Rattle.b67_exec.specs.Operators.{called_in}
@@ -44,3 +46,9 @@ MakesAt x told plan s m t answered old new (Some at) = CallsOrMakes x told plan 
 
 abbrev pub MakesOperator : Storage → Option (List (List ℕ)) → Plan → Session → Member → Task → Step → Machine → Machine → Type 0
 MakesOperator x told plan s m t answered old new = MakesAt x told plan s m t answered old new (code_area x plan m t)
+
+-- for each session in order that the machine stands for, with its running task, which is ready
+abbrev pub ForEachReady : Machine → (Storage → Option (List (List ℕ)) → Plan → Session → Member → Task → Type 0) → Type 0
+ForEachReady k P =
+    (x : Storage) (told : Option (List (List ℕ))) (plan : Plan) (s : Session) (m : Member) (t : Task) → IsInOrderButPlaces s → MachineStands x told k plan s
+    → IsRunning plan s.jobs m t → t.condition ≡ Ready → P x told plan s m t

@@ -39,14 +39,14 @@ use Rattle.b67_release.proofs.Remaining.{is_original}
 use Rattle.b67_release.proofs.Copies.{words_descriptor, cell_word, frame_words, frames_in_order, array_kind, home_of}
 
 -- the word at a place of a stack
-record HereLies (R : Shape → ℕ → Tagged → Type 0) (core : List Tagged) (xs : List Shape) (i : ℕ) : Type 0 where
-  shape : Shape
-  among : Has xs shape
-  word : Tagged
-  there : slice_get core i ≡ Some word
-  fits : R shape i word
+pub record HereLies (R : Shape → ℕ → Tagged → Type 0) (core : List Tagged) (xs : List Shape) (i : ℕ) : Type 0 where
+  pub shape : Shape
+  pub among : Has xs shape
+  pub word : Tagged
+  pub there : slice_get core i ≡ Some word
+  pub fits : R shape i word
 
-here_lies : (R : Shape → ℕ → Tagged → Type 0) (core : List Tagged) (from : ℕ) (xs : List Shape) (i : ℕ) → Lie R core from xs → from ≤ i → i < from + length xs → HereLies R core xs i
+pub here_lies : (R : Shape → ℕ → Tagged → Type 0) (core : List Tagged) (from : ℕ) (xs : List Shape) (i : ℕ) → Lie R core from xs → from ≤ i → i < from + length xs → HereLies R core xs i
 here_lies R core from [] i l low up = absurd (omega arith)
 here_lies R core from (a ∷ more) i l low up = ⊎_elim
     (λ (e : from + length more ≡ i).
@@ -66,13 +66,13 @@ return_plain held core from k level environment back below under i l e =
 original_tag : (w : Tagged) → IsOriginal w → w.tag ≡ 5
 original_tag w o = ap (λ (v : Tagged). v.tag) o.is
 
-original_shape : (held : Map) (a : Shape) (i : ℕ) (w : Tagged) → Fits held a i w → IsOriginal w → a ≡ Shapes.Original i
+pub original_shape : (held : Map) (a : Shape) (i : ℕ) (w : Tagged) → Fits held a i w → IsOriginal w → a ≡ Shapes.Original i
 original_shape held (Is v) i w f o = absurd (f.1 (ap (λ (u : Tagged). u.tag) (sym f.0 ∙ o.is)))
 original_shape held (Shapes.Original q) i w f o = ap Shapes.Original (sym f.0)
 original_shape held (Copy c q) i w f o = absurd (true≢false ((same_desc (copy_desc c f.present f.address) o.desc f.fits o.fits (sym f.is ∙ o.is)).copy ∙ o.own))
 
 module _ (plan : Plan) (j : ℕ) (job : Job) (spot : ℕ → Spot) (P : Starts) (reach : List Known) (owner : ℕ) where
-  original_named : (v : Word) (home : ℕ) → shape plan j job spot v ≡ Shapes.Original home → WordInOrder P job.arrays reach owner v → (a : Array) × Has job.arrays a × (plan.home j a.identity ≡ home)
+  pub original_named : (v : Word) (home : ℕ) → shape plan j job spot v ≡ Shapes.Original home → WordInOrder P job.arrays reach owner v → (a : Array) × Has job.arrays a × (plan.home j a.identity ≡ home)
   original_named (Original a) home e o = (o.item, o.live, ap (plan.home j) o.named ∙ ap home_of e)
   original_named (Row a) home e o = absurd cc
   original_named (Element a index) home e o = absurd cc

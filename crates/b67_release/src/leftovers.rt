@@ -21,6 +21,7 @@ fn release_word(cpu: &mut Cpu, areas: &mut Areas, sectors: &mut Sectors, at: u32
     ensures rest { cpu.new ≡ record cpu.old { core = cpu.new.core } }
     ensures len { length cpu.new.core ≡ length cpu.old.core }
     ensures areas { areas.new ≡ areas.old }
+    ensures count { length sectors.new.links ≡ length sectors.old.links }
     ensures stands { (x : Storage) (told : Option (List (List ℕ))) (p : Picture) (left : List Thing) (upto : ℕ)
         → MachineStands x cpu.old areas.old sectors.old told (with_things left p) → AreLeft p cpu.old.core at upto left → at < upto
         → (y : Storage) × (rest : List Thing) × MachineStands y cpu.new areas.new sectors.new told (with_things rest p)
@@ -44,6 +45,7 @@ pub fn release_words(cpu: &mut Cpu, areas: &mut Areas, sectors: &mut Sectors, fr
     ensures rest { cpu.new ≡ record cpu.old { core = cpu.new.core } }
     ensures len { length cpu.new.core ≡ length cpu.old.core }
     ensures areas { areas.new ≡ areas.old }
+    ensures count { length sectors.new.links ≡ length sectors.old.links }
     ensures stands { (x : Storage) (told : Option (List (List ℕ))) (p : Picture) (left : List Thing)
         → MachineStands x cpu.old areas.old sectors.old told (with_things left p) → AreLeft p cpu.old.core from upto left
         → (y : Storage) × Released (HasHome left) x y × MachineStands y cpu.new areas.new sectors.new told p × SameBelow x.low cpu.old.core cpu.new.core }

@@ -5,4 +5,5 @@ mod leftovers;
 mod originals;
 mod sessions;
 
+pub use leftovers::release_words;
 pub use sessions::{release, release_arrays};

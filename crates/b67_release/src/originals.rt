@@ -37,7 +37,8 @@ fn vacate(core: &mut Core, areas: &mut Areas, original: DataDesc) -> u32
 /// Makes the sectors of a chain free, if there is one.
 fn give_chain(sectors: &mut Sectors, first: u32)
     requires { (st : Shelf) × IsShelf sectors.old st × ((first ≡ 0) ⊎ (1 ≤ length (chain_of first st.chains))) }
-    ensures { (st : Shelf) → IsShelf sectors.old st → (first ≡ 0) ⊎ (1 ≤ length (chain_of first st.chains)) → IsShelf sectors.new (without_chain first st) }
+    ensures row { (st : Shelf) → IsShelf sectors.old st → (first ≡ 0) ⊎ (1 ≤ length (chain_of first st.chains)) → IsShelf sectors.new (without_chain first st) }
+    ensures count { length sectors.new.links ≡ length sectors.old.links }
 {
     if first != 0 {
         sectors.give(first);
@@ -51,6 +52,7 @@ pub fn release_original(cpu: &mut Cpu, areas: &mut Areas, sectors: &mut Sectors,
     ensures rest { cpu.new ≡ record cpu.old { core = cpu.new.core } }
     ensures len { length cpu.new.core ≡ length cpu.old.core }
     ensures areas { areas.new ≡ areas.old }
+    ensures count { length sectors.new.links ≡ length sectors.old.links }
     ensures stands { (x : Storage) (told : Option (List (List ℕ))) (p : Picture) (t : Thing) (things : List Thing) → MachineStands x cpu.old areas.old sectors.old told p
         → Finds x.low x.spans (x.held t.home) original → Drops p t things
         → MachineStands (released x t) cpu.new areas.new sectors.new told (of_things p things) }

@@ -25,6 +25,7 @@ pub fn release_arrays(cpu: &mut Cpu, areas: &mut Areas, sectors: &mut Sectors, f
     ensures rest { cpu.new ≡ record cpu.old { core = cpu.new.core } }
     ensures len { length cpu.new.core ≡ length cpu.old.core }
     ensures areas { areas.new ≡ areas.old }
+    ensures count { length sectors.new.links ≡ length sectors.old.links }
     ensures stands { (left : List Thing) (x : Storage) (told : Option (List (List ℕ))) (plan : Plan) (s : Session)
         → IsLeft left x cpu.old plan s from upto → StorageStands areas.old sectors.old told cpu.old.core x
         → AreReleased left x cpu.old cpu.new areas.new sectors.new told plan s }
@@ -39,6 +40,7 @@ pub fn release(machine: &mut Machine, from: u32, upto: u32)
     requires order { from ≤ upto }
     ensures cpu { machine.new.cpu ≡ record machine.old.cpu { core = machine.new.cpu.core } }
     ensures areas { machine.new.areas ≡ machine.old.areas }
+    ensures count { length machine.new.sectors.links ≡ length machine.old.sectors.links }
     ensures tasks { machine.new.tasks ≡ machine.old.tasks }
     ensures released { (left : List Thing) (x : Storage) (told : Option (List (List ℕ))) (plan : Plan) (s : Session)
         → IsLeft left x machine.old.cpu plan s from upto → StorageStands machine.old.areas machine.old.sectors told machine.old.cpu.core x

@@ -1,7 +1,9 @@
 -- RETN whose word goes on the caller's record at once, or is evaluated first.
 use Rattle.std.proofs.Common.{◌≡◌, ℕ, ◌+◌, ◌<◌, ◌≤◌, List, ◌∷◌, length, None, Ok, sym, ◌∙◌, ap, arith, true, false, inl, inr, ◌⊎◌, ⊎_elim, subst}
+use Rattle.std.specs.List.{slice_get}
 use Rattle.b67_word.specs.Tagged.{Tagged}
 use Rattle.b67_word.specs.declared.couples.Place.{Place}
+use Rattle.b67_core.proofs.Writes.{slice_get-set_other}
 use Rattle.b67_ctl.specs.declared.registers.Regs.{Regs}
 use Rattle.b67_model.specs.Answers.{Answer}
 use Rattle.b67_model.specs.Words.{Word}
@@ -27,6 +29,14 @@ use Rattle.b67_returning.specs.Returned.{ReturnsWord}
 use Rattle.b67_leave.proofs.Leaving.{scene_left}
 use Rattle.b67_returning.proofs.Replacing.{frames_with, job_with, puts_word, top_inside, stands_with, changed_with}
 use Rattle.b67_returning.proofs.Retns.{IsOperand, retn_left, retn_pushed}
+
+-- a word was put on the stack: those above it stay, and the top is one higher
+pub put_above : (old : Cpu) (r : Regs) (display : List ℕ) (w : Tagged) (new : Cpu) → new ≡ with_word old r display w → (i : ℕ) → new.regs.s < i → slice_get new.core i ≡ slice_get old.core i
+put_above old r display w new e i low =
+    let top = ap (λ (k : Cpu). k.regs.s) e in ap (λ (k : Cpu). slice_get k.core i) e ∙ slice_get-set_other old.core (r.s + 1) i w (λ z. omega arith)
+
+pub put_top : (old : Cpu) (r : Regs) (display : List ℕ) (w : Tagged) (new : Cpu) → new ≡ with_word old r display w → (r.s < new.regs.s) × (new.regs.s ≤ r.s + 2)
+put_top old r display w new e = let top = ap (λ (k : Cpu). k.regs.s) e in (omega arith, omega arith)
 
 some_words : (s : Standing) → 1 ≤ head_words s
 some_words Marked = omega arith

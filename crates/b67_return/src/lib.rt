@@ -1,10 +1,11 @@
 //! RETN.
 #![tactic(auto)]
 
-ghost use Rattle.std.specs.Prelude.{◌≡◌, ◌≢◌, ℕ, true, ◌<◌, ◌+◌, List, length};
+ghost use Rattle.std.specs.Prelude.{◌≡◌, ◌≢◌, ℕ, true, ◌<◌, ◌≤◌, ◌+◌, List, length, slice_get};
 ghost use Rattle.b67_word.specs.declared.couples.Place.{Place};
 ghost use Rattle.b67_model.specs.Words as Words;
 ghost use Rattle.b67_model.specs.Entry as rows;
+ghost use Rattle.b67_stack.specs.declared.Step.TheVariants.{Done};
 ghost use Rattle.b67_layout.specs.Meets.{RunsSome, ForEach, Meets, here};
 ghost use Rattle.b67_refer.specs.Scene.{Scene, IsShown};
 ghost use Rattle.b67_leave.specs.Left.{Returns, caller_regs, caller_stack, here_left};
@@ -37,9 +38,11 @@ fn evaluate(cpu: &mut Cpu, regs: Regs, display: [u32; 32], word: Word) -> Step
         × (regs ≡ caller_regs cpu.old.regs (caller_stack r.plan r.member r.task a) a.back) }
     requires shown { (b : Scene cpu.old.core regs) → IsShown b display }
     requires tag { word.tag ≢ 0 }
-    ensures { ForEach cpu.old (λ x plan s m t. (a : Returns m t) (v : Words.Word) → ReturnsWord x plan m t cpu.old a v word
+    ensures row { ForEach cpu.old (λ x plan s m t. (a : Returns m t) (v : Words.Word) → ReturnsWord x plan m t cpu.old a v word
         → regs ≡ caller_regs cpu.old.regs (caller_stack plan m t a) a.back
         → Meets x plan s m result cpu.old cpu.new (rows.returned (here_left m t a) v true)) }
+    ensures above { (i : ℕ) → cpu.new.regs.s < i → slice_get cpu.new.core i ≡ slice_get cpu.old.core i }
+    ensures top { result ≡ Done → (regs.s < cpu.new.regs.s) × (cpu.new.regs.s ≤ regs.s + 2) }
 {
     match chase(&cpu.core, &regs, &display, word) {
         Ok(End::Cell(at)) => {
@@ -62,13 +65,16 @@ fn evaluate(cpu: &mut Cpu, regs: Regs, display: [u32; 32], word: Word) -> Step
 }
 
 /// RETN: leaves the running activation record with the word at the top of the stack, which goes on the caller's record,
-/// and which is evaluated first where the caller wants a value. The record's arrays are gone, and are left to release.
+/// and which is evaluated first where the caller wants a value. One word is then on the caller's record, or the two of a
+/// procedure that was entered, and no word above these changes. The record's arrays are gone, and are left to release.
 /// Faults where the top record is only marked, has no word, or may not be left with that word, and where the
 /// evaluation does. `Ended`, with nothing changed, where it is the task's outermost. `Absent`, with nothing changed,
 /// where the value is an element of an absent array.
 pub fn retn(cpu: &mut Cpu) -> Step
     requires { RunsSome cpu.old }
     ensures row { ForEach cpu.old (λ x plan s m t. (next : Place) → Meets x plan s m result cpu.old cpu.new (rows.retn (here m t next))) }
+    ensures above { (i : ℕ) → cpu.new.regs.s < i → slice_get cpu.new.core i ≡ slice_get cpu.old.core i }
+    ensures top { result ≡ Done → (cpu.old.regs.f ≤ cpu.new.regs.s) × (cpu.new.regs.s ≤ cpu.old.regs.f + 1) }
 {
     let mark = cpu.top_mark();
     if !mark.entered {

@@ -1,4 +1,4 @@
-use Rattle.std.proofs.Common.{◌∷◌, sym, ◌∙◌, refl, subst}
+use Rattle.std.proofs.Common.{◌∷◌, sym, ◌∙◌, ap, arith, refl, subst}
 use Rattle.std.proofs.lemmas.Bool.{not-false, not-true}
 use Rattle.b67_ctl.specs.declared.registers.Regs.{Regs}
 use Rattle.b67_layout.specs.Plan.{outer_spots}
@@ -6,6 +6,7 @@ use Rattle.b67_layout.specs.Layout.{picture, stack_of_task}
 use Rattle.b67_layout.proofs.Fresh.{running_in_order}
 use Rattle.b67_layout.proofs.Starts.{meets_runs, runs_here}
 use Rattle.b67_refer.specs.Scene.{Scene}
+use Rattle.b67_leave.proofs.Callers.{below_mark}
 use Rattle.b67_leave.proofs.Exits.{leaves_pending, leaves_critical, leaves_last}
 use Rattle.b67_leave.proofs.Leaving.{under, on_top, on_stack, may_return, scene_left, exit_done}
 use Rattle.b67_leave.proofs.Sorted.{is_pending, is_entered, is_last, returns_of}
@@ -22,6 +23,8 @@ returns-then-not-mark c = record {
         leaves_pending m t next _ p.f p.below p.frames p.marked,
     refl,
   );
+  core = refl;
+  top = λ e. cc;
 }
 
 pub returns-then-is_critical : goal.returns-then-is_critical
@@ -32,6 +35,8 @@ returns-then-is_critical c = record {
         leaves_critical m t next _ p.f p.below p.level p.environment p.back p.frames p.entered (sym (c.is_critical.ensures x plan s m t o h runs) ∙ c.if-is_critical.true),
     refl,
   );
+  core = refl;
+  top = λ e. cc;
 }
 
 pub returns-then-mark-eq0 : goal.returns-then-mark-eq0
@@ -42,6 +47,8 @@ returns-then-mark-eq0 c = record {
         leaves_last m t next _ p.f p.level p.environment p.frames p.entered (sym (c.is_critical.ensures x plan s m t o h runs) ∙ c.if-is_critical.false),
     refl,
   );
+  core = refl;
+  top = λ e. cc;
 }
 
 pub caller-cpu-requires : goal.caller-cpu-requires
@@ -84,4 +91,16 @@ returns c = record {
       let is = c.caller-cpu.ensures (may_return x cpu plan s m t o h runs a)
       (c.top_mark-mark.ensures x (picture plan s.jobs) (on_top x cpu plan s m t o h runs a ∷ under x cpu plan s m t o h runs a) h.holds.memory (on_stack x cpu plan s m t o h runs a)) in
       exit_done x cpu plan s m t o h runs a next c.caller-cpu.result c.rebuild.new.display is c.rebuild.ensures);
+  core = refl;
+  top = λ e.
+      let r = c.requires in
+      let cpu = c.args.cpu.now in
+      let m = r.member in
+      let t = r.task in
+      let a = returns_of r.plan m t r.plan.running cpu.regs.slot (outer_spots r.plan m.setting.number m.course.job t.critical t.parents) (running_in_order r.plan r.session m t r.ordered r.running).1 c.top_mark-mark.result
+      (c.top_mark-mark.ensures r.storage (picture r.plan r.session.jobs) (stack_of_task r.plan m.setting.number m.course.job r.plan.running t) r.stands.holds.memory (runs_here r.storage cpu r.plan r.session m t r.stands r.running))
+      (not-false _ c.if-not-mark.false) c.if-mark-eq0.false (sym (c.is_critical.ensures r.storage r.plan r.session m t r.ordered r.stands r.running) ∙ c.if-is_critical.false) in
+      let may = may_return r.storage cpu r.plan r.session m t r.ordered r.stands r.running a in
+      let is = c.caller-cpu.ensures may (c.top_mark-mark.ensures r.storage (picture r.plan r.session.jobs) (may.top ∷ may.below) r.stands.holds.memory (on_stack r.storage cpu r.plan r.session m t r.ordered r.stands r.running a)) in
+      omega (arith, ap (λ (v : Regs). v.s) is, below_mark cpu may);
 }

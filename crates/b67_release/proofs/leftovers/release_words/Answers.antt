@@ -23,6 +23,7 @@ loop-at-preserved c =
       rest = c.release_word.ensures.rest ∙ ap (λ (z : Cpu). let w : Cpu = record z { core = c.release_word.new.cpu.core } in w) v.rest;
       len = c.release_word.ensures.len ∙ v.len;
       areas = c.release_word.ensures.areas ∙ v.areas;
+      count = c.release_word.ensures.count ∙ v.count;
       stands = λ x told p left m l.
           let (y, rest, my, r) = c.loop-at.invariant.stands x told p left m l in
           let (z, more, mz, q) = c.release_word.ensures.stands y told p rest c.args.upto my r.still (omega arith) in

@@ -11,6 +11,7 @@ invariant-loop-at l = record {
   rest : l.cpu ≡ record l.initial.cpu { core = l.cpu.core };
   len : length l.cpu.core ≡ length l.initial.cpu.core;
   areas : l.areas ≡ l.initial.areas;
+  count : length l.sectors.links ≡ length l.initial.sectors.links;
   stands : (x : Storage) (told : Option (List (List ℕ))) (p : Picture) (left : List Thing)
       → MachineStands x l.initial.cpu l.initial.areas l.initial.sectors told (with_things left p) → AreLeft p l.initial.cpu.core l.from l.upto left
       → (y : Storage) × (rest : List Thing) × MachineStands y l.cpu l.areas l.sectors told (with_things rest p)

@@ -1,0 +1,12 @@
+pub mod Places
+pub mod Keeps
+pub mod Steps
+pub mod Tables
+pub mod Inversion
+pub mod Leavers
+pub mod Ordered
+pub mod Readied
+pub mod Releasing
+pub mod Gives
+pub mod Made
+pub mod Read
