@@ -1,9 +1,8 @@
-//! The run of a deck over core, its last line and its status.
+//! How runs end: their statuses, their last lines, and the machine that is left.
 #![tactic(auto)]
 
 mod lines;
-mod runs;
-mod standin;
+mod outcome;
 
-pub use lines::{refusal_line, say_text};
-pub use runs::{Outcome, run_deck};
+pub use lines::{backing_full_line, no_core_line, refusal_line, say_text};
+pub use outcome::Outcome;

@@ -58,7 +58,7 @@ pub fn refusal_line(refusal: Refusal) -> Line
 }
 
 /// The line of a step, or of an opening, that needs more words of core than there are.
-pub(crate) fn no_core_line(need: u32, core: u32) -> Line
+pub fn no_core_line(need: u32, core: u32) -> Line
     ensures { result ≡ no_core_line need core }
 {
     let line = with_number(line_of("NO CORE "), u64::from(need));
@@ -66,7 +66,7 @@ pub(crate) fn no_core_line(need: u32, core: u32) -> Line
 }
 
 /// The line of a session that takes more sectors than the device has.
-pub(crate) fn backing_full_line(sum: u32, sectors: u32) -> Line
+pub fn backing_full_line(sum: u32, sectors: u32) -> Line
     ensures { result ≡ backing_full_line sum sectors }
 {
     let line = with_number(line_of("BACKING FULL "), u64::from(sum));

@@ -1,0 +1,7 @@
+//! The run of a deck over core: its session is opened, its steps are made, and the last line is printed.
+#![tactic(auto)]
+
+mod runs;
+mod standin;
+
+pub use runs::run_deck;
