@@ -1,0 +1,2 @@
+-- The causes of a status.
+use Rattle.std.proofs.Common.{◌≡◌}
