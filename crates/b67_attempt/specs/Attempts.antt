@@ -1,7 +1,6 @@
 -- What the next operator of the running task answers and leaves, with what it wants brought into core.
-use Rattle.std.specs.Prelude.{◌≡◌, ◌≢◌, ℕ, ◌<◌, ◌≤◌, List, length, Option, Some, None, Result, Ok, Err}
-use Rattle.b67_word.specs.declared.faults.Ending.{Ending}
-use Rattle.b67_model.specs.State.{Task, Member}
+use Rattle.std.specs.Prelude.{◌≡◌, ◌≢◌, ℕ, ◌<◌, ◌≤◌, List, Option, Some, None, Result, Ok, Err}
+use Rattle.b67_model.specs.State.{Ready, Task, Member}
 use Rattle.b67_model.specs.Sectors.{sectors}
 use Rattle.b67_model.specs.Need.{need}
 use Rattle.b67_model.specs.Schedule.{Session}
@@ -11,6 +10,7 @@ use Rattle.b67_layout.specs.Plan.{Plan}
 use Rattle.b67_layout.specs.Session.{IsRunning}
 use Rattle.b67_exec.specs.Operators.{called_in}
 use Rattle.b67_order_weaker.specs.Weaker.{AllOtherNumbers}
+use Rattle.b67_bring.specs.Bringing.{StandsOver}
 use Rattle.b67_task.specs.declared.tables.Machine.{Machine}
 use Rattle.b67_task.specs.Tables.{MachineStands}
 use Rattle.b67_intrinsics.specs.Called.{IsCalled, IsCut}
@@ -20,7 +20,7 @@ use Rattle.b67_attempt.specs.declared.attempts.Attempt.{Attempt}
 use Rattle.b67_attempt.specs.declared.attempts.Attempt.TheVariants as attempts
 use Rattle.b67_attempt.specs.Tries.{EndsSo}
 
--- the machine stands for some session in order over a device that tells this, and a task of it runs
+-- the machine stands for some session in order over a device that tells this, and a ready task of it runs
 pub record RunsOver (k : Machine) (told : Option (List (List ℕ))) : Type 0 where
   pub storage : Storage
   pub plan : Plan
@@ -28,8 +28,9 @@ pub record RunsOver (k : Machine) (told : Option (List (List ℕ))) : Type 0 whe
   pub member : Member
   pub task : Task
   pub ordered : IsInOrderButPlaces session
-  pub stands : MachineStands storage told k plan session
+  pub stands : StandsOver storage told k plan session
   pub running : IsRunning plan session.jobs member task
+  pub ready : task.condition ≡ Ready
 
 -- the machine stands for the session, in some storage
 abbrev pub StillStands : Option (List (List ℕ)) → Machine → Plan → Session → Type 0

@@ -1,11 +1,10 @@
 -- What one try at the next operator of the running task answers and leaves.
-use Rattle.std.specs.Prelude.{◌≡◌, ◌≢◌, ℕ, ◌≤◌, List, length, Option, Some, None, Result, Ok, Err}
-use Rattle.b67_io.specs.Told.{Took}
+use Rattle.std.specs.Prelude.{◌≡◌, ℕ, ◌≤◌, List, length, Option, Some, Result, Ok, Err}
 use Rattle.b67_word.specs.declared.faults.Ending.{Ending}
-use Rattle.b67_word.specs.declared.faults.Ending.TheVariants.{Ended, Parent, Deadlock, Limit, Faulted}
+use Rattle.b67_word.specs.declared.faults.Ending.TheVariants.{Ended, Faulted}
 use Rattle.b67_model.specs.Lists.{Has}
-use Rattle.b67_model.specs.State.{Array, Task, Job, Member}
-use Rattle.b67_model.specs.Steps.{Line, Goes, Leaves}
+use Rattle.b67_model.specs.State.{Array, Ready, Task, Member}
+use Rattle.b67_model.specs.Steps.{Leaves}
 use Rattle.b67_model.specs.Rows.{step}
 use Rattle.b67_model.specs.Need.{touched_of}
 use Rattle.b67_model.specs.Schedule.{Session}
@@ -15,7 +14,6 @@ use Rattle.b67_stack.specs.declared.What.TheVariants as what
 use Rattle.b67_stack.specs.Stands.{Storage}
 use Rattle.b67_layout.specs.Plan.{Plan}
 use Rattle.b67_layout.specs.Session.{IsRunning}
-use Rattle.b67_layout.specs.Meets.{with_job}
 use Rattle.b67_exec.specs.Operators.{called_in}
 use Rattle.b67_bring.specs.Bringing.{IsWanted}
 use Rattle.b67_task.specs.declared.tables.Machine.{Machine}
@@ -26,11 +24,25 @@ use Rattle.b67_intrinsics.specs.declared.ends.Stop.TheVariants as stops
 use Rattle.b67_attempt.specs.declared.tries.Tried.{Tried}
 use Rattle.b67_attempt.specs.declared.tries.Tried.TheVariants as tries
 
--- the running segment is wanted, or the array that the step touches
-abbrev pub IsTouched : Member → Task → What → ℕ → Type 0
-IsTouched m t (what.Code displacement) words = Unit {0}
-IsTouched m t (what.Array home) words =
-    (a : Array) × Has m.course.job.arrays a × (touched_of m.setting m.course.job t (step m.setting m.course.job t) ≡ Some a.identity) × (words ≡ length a.numbers)
+-- the machine stands for some session in order, of which a ready task runs
+pub record ReadyRuns (k : Machine) : Type 0 where
+  pub storage : Storage
+  pub told : Option (List (List ℕ))
+  pub plan : Plan
+  pub session : Session
+  pub member : Member
+  pub task : Task
+  pub ordered : IsInOrderButPlaces session
+  pub stands : MachineStands storage told k plan session
+  pub running : IsRunning plan session.jobs member task
+  pub ready : task.condition ≡ Ready
+
+-- the running segment is wanted, or the array that the step touches, by the address of its original
+abbrev pub IsTouched : Plan → Member → Task → What → ℕ → Type 0
+IsTouched plan m t (what.Code displacement) words = Unit {0}
+IsTouched plan m t (what.Array home) words =
+    (a : Array) × Has m.course.job.arrays a × (plan.home m.setting.number a.identity ≡ home)
+    × (touched_of m.setting m.course.job t (step m.setting m.course.job t) ≡ Some a.identity) × (words ≡ length a.numbers)
 
 -- the step ends its task so by itself
 abbrev pub EndsSo : Member → Task → Ending → Type 0
@@ -42,7 +54,7 @@ EndsSo m t _ = ⊥
 abbrev pub TryMeets : {K : Type 0} → (K → Option (List ℕ)) → Storage → Option (List (List ℕ)) → Plan → Session → Member → Task → Result Tried Stop → Machine → Machine → K → K → Type 0
 TryMeets taken x told plan s m t (Ok tries.Made) old new paper paper' = IsCalled taken paper paper' told s m t new
 TryMeets taken x told plan s m t (Ok (tries.Absent found)) old new paper paper' =
-    (words : ℕ) × IsWanted x plan m t found words × IsTouched m t found words × (new ≡ old) × (paper' ≡ paper)
+    (words : ℕ) × IsWanted x plan m t found words × IsTouched plan m t found words × (new ≡ old) × (paper' ≡ paper)
 TryMeets taken x told plan s m t (Ok (tries.Ends ending)) old new paper paper' = EndsSo m t ending × (new ≡ old) × (paper' ≡ paper)
 TryMeets taken x told plan s m t (Err stops.PrintFault) old new paper paper' = IsCut taken paper paper' m t × (new ≡ old)
 TryMeets taken x told plan s m t (Err stops.Unbuilt) old new paper paper' = (n : ℕ) × (called_in m t ≡ Some n) × (12 ≤ n) × (new ≡ old) × (paper' ≡ paper)

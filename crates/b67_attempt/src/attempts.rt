@@ -1,4 +1,4 @@
-//! The next operator, with what it wants brought into core.
+//! What the next operator of the running task came to.
 
 use b67_word::Ending;
 

@@ -1,6 +1,23 @@
 //! One try at the next operator.
 
-use b67_stack::What;
+ghost use Rattle.std.specs.Prelude.{◌≡◌, ◌≢◌, ℕ, ◌≤◌, List, Option, Err, length};
+ghost use Rattle.b67_io.specs.Causes.{Rose};
+ghost use Rattle.b67_model.specs.State.{Ready, Task, Member};
+ghost use Rattle.b67_model.specs.Schedule.{Session};
+ghost use Rattle.b67_model.specs.InOrder.{IsInOrderButPlaces};
+ghost use Rattle.b67_stack.specs.Stands.{Storage};
+ghost use Rattle.b67_layout.specs.Plan.{Plan};
+ghost use Rattle.b67_layout.specs.Session.{IsRunning};
+ghost use Rattle.b67_task.specs.Tables.{MachineStands};
+ghost use Rattle.b67_intrinsics.specs.Called.{AreCountable};
+ghost use Rattle.b67_intrinsics.specs.declared.ends.Stop.TheVariants.{PrintFault};
+ghost use Rattle.b67_attempt.specs.Tries.{ReadyRuns, TryMeets};
+
+use b67_intrinsics::{CallEnd, Stop, intrinsic};
+use b67_io::Sink;
+use b67_made::make;
+use b67_stack::{Step, What};
+use b67_task::Machine;
 use b67_word::Ending;
 
 /// The operator was made, with its text printed; it wants something in core; or it ends its task.
@@ -9,4 +26,32 @@ pub enum Tried {
     Made,
     Absent(What),
     Ends(Ending),
+}
+
+/// Makes the next operator of the running task, an intrinsic's call included, unless what it wants is absent. Nothing has
+/// changed but where it was made. `PrintFault`, with a proper part of its text taken, only where the printer failed.
+pub fn try_once<K: Sink>(machine: &mut Machine, paper: &mut K) -> Result<Tried, Stop>
+    requires runs { ReadyRuns machine.old }
+    requires countable { AreCountable machine.old.tasks.jobs }
+    ensures row { (x : Storage) (told : Option (List (List ℕ))) (plan : Plan) (s : Session) (m : Member) (t : Task) → IsInOrderButPlaces s
+        → MachineStands x told machine.old plan s → IsRunning plan s.jobs m t → t.condition ≡ Ready → TryMeets K.taken x told plan s m t result machine.old machine.new paper.old paper.new }
+    ensures cause { result ≡ Err PrintFault → Rose K.faults paper.old paper.new }
+    ensures later { K.faults paper.old ≤ K.faults paper.new }
+    ensures countable { AreCountable machine.new.tasks.jobs }
+    ensures len { length machine.new.cpu.core ≡ length machine.old.cpu.core }
+    ensures count { length machine.new.sectors.links ≡ length machine.old.sectors.links }
+    ensures halt { machine.new.tasks.halt ≡ machine.old.tasks.halt }
+{
+    match make(machine) {
+        Step::Done => Ok(Tried::Made),
+        Step::Absent(found) => Ok(Tried::Absent(found)),
+        Step::Fault(fault) => Ok(Tried::Ends(Ending::Faulted(fault))),
+        Step::Ended => Ok(Tried::Ends(Ending::Ended)),
+        Step::Call(n) => match intrinsic(machine, n, paper) {
+            Ok(CallEnd::Done) => Ok(Tried::Made),
+            Ok(CallEnd::Absent(found)) => Ok(Tried::Absent(found)),
+            Ok(CallEnd::Fault(fault)) => Ok(Tried::Ends(Ending::Faulted(fault))),
+            Err(stop) => Err(stop),
+        },
+    }
 }

@@ -30,6 +30,10 @@ use Rattle.b67_intrinsics.specs.declared.ends.Stop.TheVariants as stops
 abbrev pub AreCountable : List JobRow → Type 0
 AreCountable rows = (r : JobRow) → Has rows r → length r.numbers < 2 ^ 32
 
+-- the operator calls no intrinsic, or one that is built
+abbrev pub CallsBuilt : Member → Task → Type 0
+CallsBuilt m t = (n : ℕ) → called_in m t ≡ Some n → n < 12
+
 -- the text of what a step of a task prints
 abbrev pub printed_text : Member → Task → List Line → List ℕ
 printed_text m t printed = run_text (task_lines m t printed)
@@ -41,6 +45,7 @@ pub record IsCalled {K : Type 0} (taken : K → Option (List ℕ)) (paper paper'
   pub printed : List Line
   pub touched : Option ℕ
   pub is : step m.setting m.course.job t ≡ Ok (Goes job printed touched)
+  pub built : CallsBuilt m t
   pub storage : Storage
   pub plan : Plan
   pub stands : MachineStands storage told new plan (with_job s m job)

@@ -1,1 +1,3 @@
 pub mod Called
+pub mod Running
+pub mod Answers

@@ -1,9 +1,81 @@
 //! A slice of a run: steps one after the other.
 
+ghost use Rattle.std.specs.Prelude.{◌≡◌, ◌≢◌, ℕ, ◌+◌, ◌≤◌, List, Option, Some, None, Ok, Err, length};
+ghost use Rattle.b67_io.specs.Causes.{Rose};
+ghost use Rattle.b67_model.specs.State.{Task, Member};
+ghost use Rattle.b67_model.specs.Schedule.{Session};
+ghost use Rattle.b67_storage.specs.Machine.{Says, Served, retold};
+ghost use Rattle.b67_intrinsics.specs.Called.{AreCountable};
+ghost use Rattle.b67_intrinsics.specs.declared.ends.Stop.TheVariants.{BackingFault, PrintFault};
+ghost use Rattle.b67_session.specs.Slices.{LivesOn, IsLone, Slices, Pauses};
+
+use crate::ends::StepEnd;
+use crate::steps::step;
+use b67_backing::Backing;
+use b67_intrinsics::Stop;
+use b67_io::Sink;
+use b67_task::{Machine, Tasks};
+
 /// How far a slice came: no task lives; the count of the halt is reached and a task lives; all its steps were made.
 #[derive(Clone, Copy, Debug, PartialEq, Eq)]
 pub enum Progress {
     Ended,
     Halted,
     More,
+}
+
+/// Whether a slice goes no further: no task lives, or else the count of the halt is reached.
+fn pause(tasks: &Tasks) -> Option<Progress>
+    ensures { Pauses tasks.now result }
+{
+    if tasks.rows.is_empty() {
+        return Some(Progress::Ended);
+    }
+    match tasks.halt {
+        Some(count) if count == tasks.made => Some(Progress::Halted),
+        _ => None,
+    }
+}
+
+/// Makes steps of a session of one job with one task until that has ended, the count of the halt is reached, or `n` were
+/// made, looked at in this order. Each step's text is printed as the step is made.
+///
+/// After a `Stop` the step isn't counted, and but after `PrintFault` the machine stands for the state before it. `NoCore`
+/// only where the step's need exceeds core, with both; `BackingFull` only where the session takes more sectors than the
+/// device has, with both; `BackingFault` and `PrintFault` only where that device failed. Where nothing is known of what the
+/// device's sectors hold, the words that it gives back may be others, and as many.
+pub fn slice<B: Backing, K: Sink>(
+    machine: &mut Machine,
+    n: u64,
+    backing: &mut B,
+    paper: &mut K,
+) -> Result<Progress, Stop>
+    requires lives { LivesOn (B.holds backing.old) machine.old }
+    requires countable { AreCountable machine.old.tasks.jobs }
+    requires same { B.size backing.old + 1 ≡ length machine.old.sectors.links }
+    ensures row { (known : Option (List (List ℕ))) (s : Session) (m : Member) (t : Task) → Says known (B.holds backing.old) → IsLone known machine.old s m t
+        → Slices K.taken (retold known (B.holds backing.new)) (known ≢ None) (B.size backing.old) n s result machine.old machine.new paper.old paper.new }
+    ensures backing_cause { result ≡ Err BackingFault → Rose B.faults backing.old backing.new }
+    ensures print_cause { result ≡ Err PrintFault → Rose K.faults paper.old paper.new }
+    ensures later { K.faults paper.old ≤ K.faults paper.new }
+    ensures device { Served B.holds B.size B.calls B.faults backing.old backing.new }
+    ensures countable { AreCountable machine.new.tasks.jobs }
+    ensures len { length machine.new.cpu.core ≡ length machine.old.cpu.core }
+    ensures count { length machine.new.sectors.links ≡ length machine.old.sectors.links }
+    ensures halt { machine.new.tasks.halt ≡ machine.old.tasks.halt }
+{
+    'step: for _made in 0..n {
+        if let Some(progress) = pause(&machine.tasks) {
+            return Ok(progress);
+        }
+        match step(machine, backing, paper) {
+            Ok(StepEnd::GoesOn) => {}
+            Ok(StepEnd::Over) => return Ok(Progress::Ended),
+            Err(stop) => return Err(stop),
+        }
+    }
+    match pause(&machine.tasks) {
+        Some(progress) => Ok(progress),
+        None => Ok(Progress::More),
+    }
 }

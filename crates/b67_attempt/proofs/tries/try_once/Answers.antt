@@ -1,0 +1,77 @@
+use Rattle.std.proofs.Common.{◌∙◌, ◌≡◌, ℕ, List, Option, sym, subst, refl}
+use Rattle.b67_model.specs.Schedule.{Session}
+use Rattle.b67_stack.specs.Stands.{Storage}
+use Rattle.b67_layout.specs.Plan.{Plan}
+use Rattle.b67_code.specs.Running.{code_area}
+use Rattle.b67_task.specs.declared.tables.Machine.{Machine}
+use Rattle.b67_task.specs.Tables.{MachineStands}
+use Rattle.b67_attempt.proofs.Trying.{wants_array, was_made, was_built, was_fault, was_ended, was_call, was_absent, called_made, stops_so}
+use Rattle.b67_attempt.proofs.tries.try_once.Goals as goal
+
+-- the machine after an operator that calls an intrinsic
+stays : (x : Storage) (told : Option (List (List ℕ))) (plan : Plan) (s : Session) (old new : Machine) → new ≡ old → MachineStands x told old plan s → MachineStands x told new plan s
+stays x told plan s old new same h = let P : Machine → Type 0 = λ k. MachineStands x told k plan s in subst P (sym same) h
+
+pub intrinsic-requires-clause-calls : goal.intrinsic-requires-clause-calls
+intrinsic-requires-clause-calls g c =
+    let r = c.requires.runs in
+    let it = was_call r.storage r.told r.plan r.session r.member r.task c.args.machine.now c.make.new.machine c.in-Call.n (code_area r.storage r.plan r.member r.task) refl (c.in-Call.ensures.row r.storage r.told r.plan r.session r.member r.task r.ordered r.stands r.running r.ready) in
+    record {
+      storage = r.storage;
+      told = r.told;
+      plan = r.plan;
+      session = r.session;
+      member = r.member;
+      task = r.task;
+      ordered = r.ordered;
+      stands = stays r.storage r.told r.plan r.session c.args.machine.now c.make.new.machine it.2 r.stands;
+      running = r.running;
+      code = it.0;
+      called = it.1;
+    }
+
+pub returns-in-Done-clause-row : goal.returns-in-Done-clause-row
+returns-in-Done-clause-row g c = λ x told plan s m t o h runs ready.
+    called_made g.K.Sink.taken c.args.paper.now x told plan s m t c.make.new.machine (was_built x told plan s m t c.args.machine.now c.make.new.machine (code_area x plan m t) (c.in-Done.ensures.row x told plan s m t o h runs ready)) (was_made x told plan s m t c.args.machine.now c.make.new.machine (code_area x plan m t) (c.in-Done.ensures.row x told plan s m t o h runs ready))
+
+pub returns-in-Absent-clause-row : goal.returns-in-Absent-clause-row
+returns-in-Absent-clause-row g c = λ x told plan s m t o h runs ready.
+    let w = was_absent x told plan s m t c.args.machine.now c.make.new.machine o runs c.in-Absent.found (code_area x plan m t) refl (c.in-Absent.ensures.row x told plan s m t o h runs ready) in
+    (w.0, w.1, w.2, w.3, refl)
+
+pub returns-in-Fault-clause-row : goal.returns-in-Fault-clause-row
+returns-in-Fault-clause-row g c = λ x told plan s m t o h runs ready.
+    let w = was_fault x told plan s m t c.args.machine.now c.make.new.machine c.in-Fault.fault (code_area x plan m t) (c.in-Fault.ensures.row x told plan s m t o h runs ready) in
+    (w.0, w.1, refl)
+
+pub returns-in-Ended-clause-row : goal.returns-in-Ended-clause-row
+returns-in-Ended-clause-row g c = λ x told plan s m t o h runs ready.
+    let w = was_ended x told plan s m t c.args.machine.now c.make.new.machine (code_area x plan m t) (c.in-Ended.ensures.row x told plan s m t o h runs ready) in
+    (w.0, w.1, refl)
+
+pub returns-in-Ok-Done-clause-row : goal.returns-in-Ok-Done-clause-row
+returns-in-Ok-Done-clause-row g c = λ x told plan s m t o h runs ready.
+    let it = was_call x told plan s m t c.args.machine.now c.make.new.machine c.in-Call.n (code_area x plan m t) refl (c.in-Call.ensures.row x told plan s m t o h runs ready) in
+    let k = stays x told plan s c.args.machine.now c.make.new.machine it.2 h in
+    (rw c.in-Ok-Done.field-0-is at c.in-Ok-Done.ensures.row) x told plan s m t o k runs it.0 it.1
+
+pub returns-in-Ok-Absent-clause-row : goal.returns-in-Ok-Absent-clause-row
+returns-in-Ok-Absent-clause-row g c = λ x told plan s m t o h runs ready.
+    let it = was_call x told plan s m t c.args.machine.now c.make.new.machine c.in-Call.n (code_area x plan m t) refl (c.in-Call.ensures.row x told plan s m t o h runs ready) in
+    let k = stays x told plan s c.args.machine.now c.make.new.machine it.2 h in
+    let r = (rw c.in-Ok-Absent.field-0-is at c.in-Ok-Absent.ensures.row) x told plan s m t o k runs it.0 it.1 in
+    let w = wants_array x plan m t c.in-Ok-Absent.found c.args.machine.now c.intrinsic.new.machine it.0 r.0 (r.1 ∙ it.2) in
+    (w.0, w.1, w.2, w.3, r.2)
+
+pub returns-in-Ok-Fault-clause-row : goal.returns-in-Ok-Fault-clause-row
+returns-in-Ok-Fault-clause-row g c = λ x told plan s m t o h runs ready.
+    let it = was_call x told plan s m t c.args.machine.now c.make.new.machine c.in-Call.n (code_area x plan m t) refl (c.in-Call.ensures.row x told plan s m t o h runs ready) in
+    let k = stays x told plan s c.args.machine.now c.make.new.machine it.2 h in
+    let r = (rw c.in-Ok-Fault.field-0-is at c.in-Ok-Fault.ensures.row) x told plan s m t o k runs it.0 it.1 in
+    (r.0, r.1 ∙ it.2, r.2)
+
+pub returns-in-Err-clause-row : goal.returns-in-Err-clause-row
+returns-in-Err-clause-row g c = λ x told plan s m t o h runs ready.
+    let it = was_call x told plan s m t c.args.machine.now c.make.new.machine c.in-Call.n (code_area x plan m t) refl (c.in-Call.ensures.row x told plan s m t o h runs ready) in
+    let k = stays x told plan s c.args.machine.now c.make.new.machine it.2 h in
+    stops_so g.K.Sink.taken x told plan s m t c.in-Call.n c.in-Err.stop c.args.machine.now c.make.new.machine c.intrinsic.new.machine c.args.paper.now c.intrinsic.new.paper it.1 it.2 (c.in-Err.ensures.row x told plan s m t o k runs it.0 it.1)

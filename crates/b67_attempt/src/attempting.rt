@@ -1,0 +1,122 @@
+//! The next operator, with what it wants brought into core.
+
+ghost use Rattle.std.specs.Prelude.{◌≡◌, ◌≢◌, ℕ, ◌+◌, ◌≤◌, List, Option, Some, None, Err, length};
+ghost use Rattle.b67_io.specs.Causes.{Rose};
+ghost use Rattle.b67_model.specs.State.{Ready, Task, Member};
+ghost use Rattle.b67_model.specs.Schedule.{Session};
+ghost use Rattle.b67_model.specs.InOrder.{IsInOrderButPlaces};
+ghost use Rattle.b67_stack.specs.Stands.{Storage};
+ghost use Rattle.b67_storage.specs.Machine.{Served, retold};
+ghost use Rattle.b67_layout.specs.Plan.{Plan};
+ghost use Rattle.b67_layout.specs.Session.{IsRunning};
+ghost use Rattle.b67_code.specs.Running.{code_area};
+ghost use Rattle.b67_task.specs.Tables.{MachineStands};
+ghost use Rattle.b67_bring.specs.Bringing.{StandsOver};
+ghost use Rattle.b67_intrinsics.specs.Called.{AreCountable};
+ghost use Rattle.b67_intrinsics.specs.declared.ends.Stop.TheVariants.{BackingFault, PrintFault};
+ghost use Rattle.b67_attempt.specs.Tries.{ReadyRuns};
+ghost use Rattle.b67_attempt.specs.Brought.{WantsNothing};
+ghost use Rattle.b67_attempt.specs.Attempts.{RunsOver, Attempts};
+
+use crate::attempts::Attempt;
+use crate::bringing::bring_wanted;
+use crate::tries::{Tried, try_once};
+use b67_backing::Backing;
+use b67_intrinsics::Stop;
+use b67_io::Sink;
+use b67_task::Machine;
+use b67_word::{Ending, Fault};
+
+/// Makes the next operator, whose segment and array are present. Over a device that doesn't tell what its sectors hold, the
+/// code that was read back may want another array: it then ends its task by INVALID OPERATOR.
+fn last_try<K: Sink>(machine: &mut Machine, paper: &mut K) -> Result<Attempt, Stop>
+    requires runs { ReadyRuns machine.old }
+    requires countable { AreCountable machine.old.tasks.jobs }
+    ensures row { (x : Storage) (core count : ℕ) (plan : Plan) (s : Session) (m : Member) (t : Task) → IsInOrderButPlaces s → MachineStands x x.device machine.old plan s
+        → IsRunning plan s.jobs m t → t.condition ≡ Ready → (x.device ≢ None → WantsNothing x plan m t)
+        → Attempts K.taken x x.device core count plan s t result machine.new paper.old paper.new }
+    ensures full { result ≢ Err BackingFault }
+    ensures print_cause { result ≡ Err PrintFault → Rose K.faults paper.old paper.new }
+    ensures later { K.faults paper.old ≤ K.faults paper.new }
+    ensures countable { AreCountable machine.new.tasks.jobs }
+    ensures len { length machine.new.cpu.core ≡ length machine.old.cpu.core }
+    ensures count { length machine.new.sectors.links ≡ length machine.old.sectors.links }
+    ensures halt { machine.new.tasks.halt ≡ machine.old.tasks.halt }
+{
+    match try_once(machine, paper) {
+        Ok(Tried::Made) => Ok(Attempt::Made),
+        Ok(Tried::Ends(ending)) => Ok(Attempt::Ends(ending)),
+        Ok(Tried::Absent(_)) => Ok(Attempt::Ends(Ending::Faulted(Fault::InvalidOperator))),
+        Err(stop) => Err(stop),
+    }
+}
+
+/// Makes the next operator, whose segment is present, with the array that it touches brought in first.
+fn with_code<B: Backing, K: Sink>(
+    machine: &mut Machine,
+    backing: &mut B,
+    paper: &mut K,
+) -> Result<Attempt, Stop>
+    requires runs { RunsOver machine.old (B.holds backing.old) }
+    requires countable { AreCountable machine.old.tasks.jobs }
+    requires same { B.size backing.old + 1 ≡ length machine.old.sectors.links }
+    ensures row { (x : Storage) (plan : Plan) (s : Session) (m : Member) (t : Task) → IsInOrderButPlaces s → StandsOver x (B.holds backing.old) machine.old plan s
+        → IsRunning plan s.jobs m t → t.condition ≡ Ready → code_area x plan m t ≢ None
+        → Attempts K.taken x (retold x.device (B.holds backing.new)) (length machine.old.cpu.core) (B.size backing.old) plan s t result machine.new paper.old paper.new }
+    ensures full_cause { result ≡ Err BackingFault → Rose B.faults backing.old backing.new }
+    ensures print_cause { result ≡ Err PrintFault → Rose K.faults paper.old paper.new }
+    ensures later { K.faults paper.old ≤ K.faults paper.new }
+    ensures countable { AreCountable machine.new.tasks.jobs }
+    ensures len { length machine.new.cpu.core ≡ length machine.old.cpu.core }
+    ensures count { length machine.new.sectors.links ≡ length machine.old.sectors.links }
+    ensures halt { machine.new.tasks.halt ≡ machine.old.tasks.halt }
+    ensures device { Served B.holds B.size B.calls B.faults backing.old backing.new }
+{
+    match try_once(machine, paper) {
+        Ok(Tried::Made) => Ok(Attempt::Made),
+        Ok(Tried::Ends(ending)) => Ok(Attempt::Ends(ending)),
+        Ok(Tried::Absent(wanted)) => match bring_wanted(machine, backing, wanted) {
+            Ok(()) => last_try(machine, paper),
+            Err(stop) => Err(stop),
+        },
+        Err(stop) => Err(stop),
+    }
+}
+
+/// Makes the next operator of the running task, an intrinsic's call included. The running segment and the array that it
+/// touches are brought into core first, whatever has to give way.
+///
+/// `NoCore` only where the step's need exceeds core, with both; `BackingFull` only where the session takes more sectors
+/// than the device has, with both; `BackingFault` and `PrintFault` only where that device failed. After each of them, and
+/// where the operator ends its task, the machine stands for the same session. Over a device that doesn't tell what its
+/// sectors hold, the words that it gave back may be others, and as many.
+pub fn attempt<B: Backing, K: Sink>(
+    machine: &mut Machine,
+    backing: &mut B,
+    paper: &mut K,
+) -> Result<Attempt, Stop>
+    requires runs { RunsOver machine.old (B.holds backing.old) }
+    requires countable { AreCountable machine.old.tasks.jobs }
+    requires same { B.size backing.old + 1 ≡ length machine.old.sectors.links }
+    ensures row { (x : Storage) (plan : Plan) (s : Session) (m : Member) (t : Task) → IsInOrderButPlaces s → StandsOver x (B.holds backing.old) machine.old plan s
+        → IsRunning plan s.jobs m t → t.condition ≡ Ready
+        → Attempts K.taken x (retold x.device (B.holds backing.new)) (length machine.old.cpu.core) (B.size backing.old) plan s t result machine.new paper.old paper.new }
+    ensures full_cause { result ≡ Err BackingFault → Rose B.faults backing.old backing.new }
+    ensures print_cause { result ≡ Err PrintFault → Rose K.faults paper.old paper.new }
+    ensures later { K.faults paper.old ≤ K.faults paper.new }
+    ensures countable { AreCountable machine.new.tasks.jobs }
+    ensures len { length machine.new.cpu.core ≡ length machine.old.cpu.core }
+    ensures count { length machine.new.sectors.links ≡ length machine.old.sectors.links }
+    ensures halt { machine.new.tasks.halt ≡ machine.old.tasks.halt }
+    ensures device { Served B.holds B.size B.calls B.faults backing.old backing.new }
+{
+    match try_once(machine, paper) {
+        Ok(Tried::Made) => Ok(Attempt::Made),
+        Ok(Tried::Ends(ending)) => Ok(Attempt::Ends(ending)),
+        Ok(Tried::Absent(wanted)) => match bring_wanted(machine, backing, wanted) {
+            Ok(()) => with_code(machine, backing, paper),
+            Err(stop) => Err(stop),
+        },
+        Err(stop) => Err(stop),
+    }
+}

@@ -1,0 +1,34 @@
+-- The values of a row in core, and the text of its lines.
+use Rattle.std.specs.Prelude.{◌≡◌, ℕ, ◌+◌, ◌*◌, ◌≤◌, ℤ, List, [], ◌∷◌, ◌++◌, length, Bool, true, false, Option, Some, None}
+use Rattle.b67_word.specs.Tagged.{Tagged}
+use Rattle.b67_word.specs.Operands.{number_of}
+use Rattle.b67_io.specs.Told.{Took}
+use Rattle.b67_model.specs.Lines.{row_text}
+
+-- a number, and those of the words behind it
+abbrev pub joined : Option ℤ → Option (List ℤ) → Option (List ℤ)
+joined (Some v) (Some vs) = Some (v ∷ vs)
+joined _ _ = None
+
+-- the numbers of words, if each word is a whole operand
+abbrev pub values_of : List Tagged → Option (List ℤ)
+values_of [] = Some []
+values_of (w ∷ ws) = joined (number_of w) (values_of ws)
+
+abbrev pub is_some : Option (List ℤ) → Bool
+is_some None = false
+is_some (Some vs) = true
+
+-- what is still to be printed where a line has begun, on which so many values have room
+abbrev pub still : List ℕ → List ℕ → ℕ → List ℤ → List ℕ
+still name line room vs = line ++ row_text name room vs
+
+-- the values that have room fit in a line of 192 bytes
+abbrev pub IsShort : List ℕ → ℕ → Type 0
+IsShort line room = length line + 14 * room ≤ 181
+
+-- a value was added, and what was printed is what is still to be printed no more
+pub record Adds {K : Type 0} (taken : K → Option (List ℕ)) (old new : K) (name : List ℕ) (value : ℤ) (line : List ℕ) (room : ℕ) (line' : List ℕ) (room' : ℕ) : Type 0 where
+  pub printed : List ℕ
+  pub took : Took taken old new printed
+  pub same : (vs : List ℤ) → still name line room (value ∷ vs) ≡ printed ++ still name line' room' vs

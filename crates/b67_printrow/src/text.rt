@@ -1,0 +1,93 @@
+//! The lines of a row, of at most ten values each.
+
+ghost use Rattle.std.specs.Prelude.{◌≡◌, ◌+◌, ◌*◌, ◌<◌, ◌≤◌, ◌^◌, ℤ, List, ◌∷◌, ◌++◌, length, nat_abs, Some, OnOk, OnErr};
+ghost use Rattle.b67_io.specs.Causes.{HasCause};
+ghost use Rattle.b67_io.specs.Told.{Took, TookPart};
+ghost use Rattle.b67_model.specs.Lines.{task_name, value_text, line_text};
+ghost use Rattle.b67_model.specs.Steps.{Values};
+ghost use Rattle.b67_printrow.specs.Texts.{values_of, still, IsShort, Adds};
+
+use crate::whole::value_in;
+use b67_io::{Line, Sink, put_line};
+use b67_lines::{with_number, with_text};
+use b67_word::{Failed, Word};
+
+/// A line that has begun, and how many values more it takes.
+#[derive(Drop)]
+struct Begun {
+    line: Line,
+    room: u8,
+}
+
+/// The front of a line of a task.
+fn name_line(job: u8, task: u32) -> Line
+    ensures text { result ≡ task_name job task }
+    ensures short { length result ≤ 41 }
+{
+    let line = with_text(with_number(Line::new(), u64::from(job)), ".");
+    with_number(line, u64::from(task))
+}
+
+/// Appends a value of at most twelve digits.
+fn add_value(line: &mut Line, value: i64)
+    requires small { nat_abs value < 2 ^ 39 }
+    requires room { length line.old + 14 ≤ 192 }
+    ensures text { line.new ≡ line.old ++ value_text value }
+    ensures short { length line.new ≤ length line.old + 14 }
+{
+    let _ = line.text(" ");
+    let _ = line.number(value);
+}
+
+/// Adds a value to a line that has begun; where that takes no more, it is printed and another one begins.
+fn add<K: Sink>(
+    begun: &mut Begun,
+    job: u8,
+    task: u32,
+    value: i64,
+    paper: &mut K,
+) -> Result<(), Failed>
+    requires small { nat_abs value < 2 ^ 39 }
+    requires short { IsShort begun.old.line begun.old.room }
+    ensures adds { OnOk result (Adds K.taken paper.old paper.new (task_name job task) value begun.old.line begun.old.room begun.new.line begun.new.room) }
+    ensures part { OnErr result ((vs : List ℤ) → TookPart K.taken paper.old paper.new (still (task_name job task) begun.old.line begun.old.room (value ∷ vs))) }
+    ensures short { OnOk result (IsShort begun.new.line begun.new.room) }
+    ensures cause { HasCause K.faults paper.old paper.new result }
+{
+    if begun.room > 0 {
+        add_value(&mut begun.line, value);
+        begun.room -= 1;
+        return Ok(());
+    }
+    match put_line(paper, &begun.line, 0) {
+        Ok(()) => {}
+        Err(_) => return Err(Failed),
+    }
+    begun.line = name_line(job, task);
+    add_value(&mut begun.line, value);
+    begun.room = 9;
+    Ok(())
+}
+
+/// Prints the lines of a row that a task prints.
+pub fn say_row<K: Sink>(row: &[Word], job: u8, task: u32, paper: &mut K) -> Result<(), Failed>
+    requires { (values : List ℤ) × (values_of row.now ≡ Some values) }
+    ensures whole { OnOk result ((values : List ℤ) → values_of row.now ≡ Some values → Took K.taken paper.old paper.new (line_text job (task, Values values))) }
+    ensures part { OnErr result ((values : List ℤ) → values_of row.now ≡ Some values → TookPart K.taken paper.old paper.new (line_text job (task, Values values))) }
+    ensures cause { HasCause K.faults paper.old paper.new result }
+{
+    let mut begun = Begun {
+        line: name_line(job, task),
+        room: 10,
+    };
+    for w in row {
+        match add(&mut begun, job, task, value_in(*w), paper) {
+            Ok(()) => {}
+            Err(failed) => return Err(failed),
+        }
+    }
+    match put_line(paper, &begun.line, 0) {
+        Ok(()) => Ok(()),
+        Err(_) => Err(Failed),
+    }
+}

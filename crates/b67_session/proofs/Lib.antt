@@ -1,0 +1,9 @@
+pub mod Built
+pub mod Lone
+pub mod Moments
+pub mod Texts
+pub mod Rooms
+pub mod Turned
+pub mod Stepping
+pub mod Going
+pub mod Pausing

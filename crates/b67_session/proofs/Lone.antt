@@ -1,0 +1,137 @@
+-- A session of one job with one ready task: what there is of it, and which task is chosen.
+use Rattle.std.proofs.Common.{◌≡◌, ℕ, ◌<◌, List, [], ◌∷◌, ◌++◌, map, reverse, Option, Some, Ok, Err, refl, sym, ap, ◌∙◌, subst, ⊎_elim, inl, inr, true, false}
+use Rattle.std.specs.Prelude.{◌==◌, filter}
+use Rattle.std.specs.List.{slice_get}
+use Rattle.std.proofs.lemmas.Bool.{cases_Bool, eq-eqb}
+use Rattle.std.proofs.lemmas.Option.{same_Some, none-some}
+use Rattle.b67_model.specs.Lists.{Has}
+use Rattle.b67_model.specs.Endings.{is_ready}
+use Rattle.b67_model.specs.State.{Condition, Task, Job, Member, Here}
+use Rattle.b67_model.specs.Keyed.{keyed}
+use Rattle.b67_model.specs.Operators.{Reading}
+use Rattle.b67_model.specs.Steps.{Line, Goes}
+use Rattle.b67_model.specs.Rows.{reading_of, step, step_by}
+use Rattle.b67_model.specs.Run.{number_of}
+use Rattle.b67_model.specs.Schedule.{Who, Session, ready_of, ready, choice}
+use Rattle.b67_layout.specs.Plan.{Plan, slot_of}
+use Rattle.b67_layout.specs.Rows.{TaskShows}
+use Rattle.b67_layout.specs.Session.{IsRunning}
+use Rattle.b67_layout.specs.Meets.{here}
+use Rattle.b67_order_weaker.specs.Weaker.{OtherNumbers, AllOtherNumbers}
+use Rattle.b67_profiles.specs.Profiles.{Profile, profiles, IsKnown}
+use Rattle.b67_exec.specs.Operators.{called_by}
+use Rattle.b67_switch.specs.Turns.{with_running}
+use Rattle.b67_single.specs.Single.{IsSingle}
+use Rattle.b67_task.specs.declared.tables.TaskRow.{TaskRow}
+use Rattle.b67_task.specs.declared.tables.Tasks.{Tasks}
+use Rattle.b67_task.specs.Tables.{task_row, TasksShow}
+use Rattle.b67_schedule.specs.declared.counting.Chosen.{Chosen}
+use Rattle.b67_schedule.specs.Counted.{choice_of}
+use Rattle.b67_schedule.specs.Chosen.{IsReadyAt}
+use Rattle.b67_turn.proofs.Lists.{at_has, at_mapped}
+use Rattle.b67_intrinsics.specs.Called.{CallsBuilt}
+use Rattle.b67_session.proofs.Built.{built_keep}
+
+module _ (s : Session) (m : Member) (t : Task) (single : IsSingle s m t) where
+  pub has_member : Has s.jobs m
+  has_member = subst (λ (ms : List Member). Has ms m) (sym single.jobs) (inl refl)
+
+  pub has_task : Has m.course.job.tasks t
+  has_task = subst (λ (ts : List Task). Has ts t) (sym single.tasks) (inl refl)
+
+  pub found : keyed number_of m.setting.number s.jobs ≡ Some m
+  found = ap (keyed number_of m.setting.number) single.jobs ∙ rw (eq-eqb m.setting.number m.setting.number refl) refl
+
+  pub task_found : keyed (λ (u : Task). u.number) t.number m.course.job.tasks ≡ Some t
+  task_found = ap (keyed (λ (u : Task). u.number) t.number) single.tasks ∙ rw (eq-eqb t.number t.number refl) refl
+
+  -- what holds of some member and some task of it holds of these
+  pub only : (Q : Member → Task → Type 0) (y : Member) (u : Task) → Has s.jobs y → Has y.course.job.tasks u → Q y u → Q m t
+  only Q y u iny inu q =
+      let one : Has (m ∷ []) y = subst (λ (ms : List Member). Has ms y) single.jobs iny in
+      elim one [
+        | inl e ↦ subst (λ (z : Member). Has z.course.job.tasks u → Q z u → Q m t) e
+            (λ k r. let two : Has (t ∷ []) u = subst (λ (ts : List Task). Has ts u) single.tasks k in
+            elim two [ inl f ↦ subst (λ (v : Task). Q m v → Q m t) f (λ x. x) r | inr none ↦ absurd none ])
+            inu q
+        | inr none ↦ absurd none
+      ]
+
+  pub some_ready : ready s ≡ [] → ⊥
+  some_ready e =
+      let name : Task → Who = λ u. record { job = m.setting.number; task = u.number } in
+      let of_member : ready_of m ++ [] ≡ [] = ap (λ (ms : List Member). ready (record s { jobs = ms })) (sym single.jobs) ∙ e in
+      let of_task : map name (filter is_ready (reverse (t ∷ []))) ++ [] ≡ [] = ap (λ (ts : List Task). map name (filter is_ready (reverse ts)) ++ []) (sym single.tasks) ∙ of_member in
+      let of_ready : name t ∷ [] ≡ [] = ap (λ (c : Condition). map name (filter is_ready (reverse (record t { condition = c } ∷ []))) ++ []) (sym single.ready) ∙ of_task in
+      absurd cc
+
+  -- a step that calls no intrinsic, or one that is built, keeps what is known of the task
+  kept_by : (read : Reading) → reading_of m.setting t ≡ read → ((n : ℕ) → called_by m t read ≡ Some n → n < 12) → (job : Job) (printed : List Line) (touched : Option ℕ)
+      → step_by m.setting m.course.job t read ≡ Ok (Goes job printed touched) → profiles job.tasks ≡ profiles m.course.job.tasks
+  kept_by (Err why) at built job printed touched e = absurd cc
+  kept_by (Ok read) at built job printed touched e =
+      let h : Here = here m t read.1 in
+      let known : IsKnown h =
+      ap (λ (ts : List Task). keyed (λ (p : Profile). p.number) t.number (profiles ts)) single.tasks
+      ∙ rw (eq-eqb t.number t.number refl) refl in
+      built_keep read.0 h known built job printed touched e
+
+  pub kept : CallsBuilt m t → (job : Job) (printed : List Line) (touched : Option ℕ) → step m.setting m.course.job t ≡ Ok (Goes job printed touched)
+      → profiles job.tasks ≡ profiles m.course.job.tasks
+  unfolding step
+  kept built job printed touched e = kept_by (reading_of m.setting t) refl built job printed touched e
+
+-- the chosen task is the one that there is
+pub record Chose (plan : Plan) (tasks : Tasks) (m : Member) (t : Task) (c : Chosen) : Type 0 where
+  pub row : TaskRow
+  pub at : slice_get tasks.rows.items c.row ≡ Some row
+  pub slot : row.slot ≡ slot_of plan m.setting.number t.number
+  pub job : c.job ≡ m.setting.number
+  pub number : c.number ≡ t.number
+
+pub chose : (plan : Plan) (s : Session) (m : Member) (t : Task) → IsSingle s m t → (tasks : Tasks) → TasksShow plan s tasks → (c : Chosen) → IsReadyAt tasks.rows.items c.row (choice_of c).who → Chose plan tasks m t c
+chose plan s m t single tasks shows c a =
+    let (y, u, iny, inu, w) = shows.tasks (task_row a.row) (at_has (map task_row tasks.rows.items) c.row (task_row a.row) (at_mapped task_row tasks.rows.items c.row a.row a.at)) in
+    let sh : TaskShows plan m t (task_row a.row) = only s m t single (λ (y : Member) (u : Task). TaskShows plan y u (task_row a.row)) y u iny inu w in
+    record {
+      row = a.row;
+      at = a.at;
+      slot = sh.slot;
+      job = ap (λ (w : Who). w.job) (sym a.is) ∙ sh.job;
+      number = ap (λ (w : Who). w.task) (sym a.is) ∙ sh.number;
+    }
+
+pub runs_then : (plan : Plan) (s : Session) (m : Member) (t : Task) → IsSingle s m t → (k : ℕ) → k ≡ slot_of plan m.setting.number t.number → IsRunning (with_running plan k) s.jobs m t
+runs_then plan s m t single k e = record { member = found s m t single; task = task_found s m t single; slot = e }
+
+-- with other numbers in the segments and arrays it is one too, and the same task is chosen
+pub record Other (s : Session) (jobs : List Member) (m n : Member) (t : Task) : Type 0 where
+  pub single : IsSingle (record s { jobs = jobs }) n t
+  pub number : n.setting.number ≡ m.setting.number
+  pub choice : choice (record s { jobs = jobs }) ≡ choice s
+
+one_other : (m n : Member) (jobs : List Member) → AllOtherNumbers (m ∷ []) jobs → keyed number_of n.setting.number jobs ≡ Some n → (jobs ≡ n ∷ []) × OtherNumbers m n
+one_other m n [] o k = absurd o
+one_other m n (y ∷ []) o k = ⊎_elim
+    (λ (q : (number_of y == n.setting.number) ≡ true). let e : y ≡ n = same_Some y n (rw q at k) in (ap (λ (z : Member). z ∷ []) e, subst (OtherNumbers m) e o.0))
+    (λ (q : (number_of y == n.setting.number) ≡ false). absurd (none-some n (rw q at k)))
+    (cases_Bool (number_of y == n.setting.number))
+one_other m n (y ∷ z ∷ more) o k = absurd o.1
+
+pub other : (plan : Plan) (s : Session) (m n : Member) (t : Task) (jobs : List Member) → IsSingle s m t → AllOtherNumbers s.jobs jobs → IsRunning plan jobs n t → Other s jobs m n t
+other plan s m n t jobs single all runs =
+    let (is, o) = one_other m n jobs (subst (λ (ms : List Member). AllOtherNumbers ms jobs) single.jobs all) runs.member in
+    record {
+      single = record {
+        jobs = is;
+        tasks = ap (λ (y : Member). y.course.job.tasks) o.rest ∙ single.tasks;
+        ready = single.ready;
+        first = single.first;
+        peak = single.peak;
+      };
+      number = ap (λ (y : Member). y.setting.number) o.rest;
+      choice =
+          ap (λ (ms : List Member). choice (record s { jobs = ms })) is
+          ∙ ap (λ (y : Member). choice (record s { jobs = y ∷ [] })) o.rest
+          ∙ ap (λ (ms : List Member). choice (record s { jobs = ms })) (sym single.jobs);
+    }

@@ -1,0 +1,71 @@
+-- The next step of a session whose chosen task is known, and the lines with which it begins.
+use Rattle.std.proofs.Common.{◌≡◌, ℕ, ◌+◌, List, [], ◌∷◌, ◌++◌, map, Option, Some, Ok, refl, sym, ap, ◌∙◌}
+use Rattle.std.proofs.lemmas.Bool.{eq-eqb}
+use Rattle.std.proofs.lemmas.List.{map-append}
+use Rattle.std.proofs.lemmas.Option.{same_Some}
+use Rattle.b67_word.specs.declared.faults.Ending.{Ending}
+use Rattle.b67_model.specs.Answers.{Answer}
+use Rattle.b67_model.specs.State.{Task, Job, Course, Member}
+use Rattle.b67_model.specs.Keyed.{keyed, change_keyed}
+use Rattle.b67_model.specs.Steps.{Line, Ends, Done, Goes}
+use Rattle.b67_model.specs.Rows.{step}
+use Rattle.b67_model.specs.Endings.{settles, stepped, limited}
+use Rattle.b67_model.specs.Alone.{JobMoment, moment_with, whole, by_task, step_of}
+use Rattle.b67_model.specs.Run.{RunLine, Moment, next, moment_for, moment_by, with_moment, number_of, of_job}
+use Rattle.b67_model.specs.Schedule.{Session, Choice, choice}
+use Rattle.b67_single.specs.Single.{IsSingle, GoesOn, member_after, task_lines}
+use Rattle.b67_session.proofs.Lone.{found, task_found}
+
+module _ (s : Session) (m : Member) (t : Task) (single : IsSingle s m t) (c : Choice) (chosen : choice s ≡ Some c) (chosen_job : c.who.job ≡ m.setting.number) (chosen_task : c.who.task ≡ t.number) where
+  abbrev pub jm : JobMoment
+  jm = step_of m.setting m.course c.who.task
+
+  pub found_by : keyed number_of c.who.job s.jobs ≡ Some m
+  found_by = ap (λ (n : ℕ). keyed number_of n s.jobs) chosen_job ∙ found s m t single
+
+  pub moment_is : next s ≡ Some (record { session = with_moment s c m jm; lines = of_job c.who.job jm.lines })
+  unfolding next
+  moment_is = ap (moment_for s) chosen ∙ ap (moment_by s c) found_by
+
+  -- where it goes on
+  pub record Follows (j : Job) (after : Session) : Type 0 where
+    pub job : jm.course.job ≡ j
+    pub made : jm.course.made ≡ m.course.made + 1
+    pub session : with_moment s c m jm ≡ after
+
+  pub follows : (j : Job) (printed : List Line) (g : GoesOn s m t j printed) → Follows j g.moment.session
+  follows j printed g =
+      let here : Moment = record { session = with_moment s c m jm; lines = of_job c.who.job jm.lines } in
+      let same : here ≡ g.moment = same_Some here g.moment (sym moment_is ∙ g.is) in
+      let after : with_moment s c m jm ≡ g.moment.session = ap (λ (x : Moment). x.session) same in
+      let put : Member → Member = λ y. record y { course = jm.course } in
+      let changed : change_keyed number_of c.who.job put s.jobs ≡ record m { course = jm.course } ∷ [] =
+      ap (change_keyed number_of c.who.job put) single.jobs ∙ ap (λ (n : ℕ). change_keyed number_of n put (m ∷ [])) chosen_job ∙ rw (eq-eqb m.setting.number m.setting.number refl) refl in
+      let jobs : record m { course = jm.course } ∷ [] ≡ member_after m j ∷ [] = sym changed ∙ ap (λ (x : Session). x.jobs) after ∙ g.single.jobs in
+      let first : List Member → Course = λ ms. elim ms [ [] ↦ m.course | y ∷ more ↦ y.course ] in
+      let course : jm.course ≡ record m.course { job = j; made = m.course.made + 1 } = ap first jobs in
+      record { job = ap (λ (x : Course). x.job) course; made = ap (λ (x : Course). x.made) course; session = after }
+
+  -- the lines of a step that goes on begin with what it printed
+  lines_by : (j : Job) (printed : List Line) (touched : Option ℕ) → step m.setting m.course.job t ≡ Ok (Goes j printed touched)
+      → (rest : List (ℕ × Line)) × ((whole m.setting m.course t).lines ≡ map (λ line. (t.number, line)) printed ++ rest)
+  unfolding stepped
+  lines_by j printed touched e =
+      let lines : Answer Done → List (ℕ × Line) = λ a. (moment_with m.course t (settles m.course.job t a) (limited m.setting.limit (m.course.made + 1) (settles m.course.job t a).settled)).lines in
+      let ended = limited m.setting.limit (m.course.made + 1) (settles m.course.job t (Ok (Goes j printed touched))).settled in
+      (map (λ (x : ℕ × Ending). (x.0, Ends x.1)) ended.endings, ap lines e)
+
+  of_whole : jm ≡ whole m.setting m.course t
+  unfolding step_of
+  of_whole = ap (λ (n : ℕ). by_task m.setting m.course (keyed (λ (u : Task). u.number) n m.course.job.tasks)) chosen_task ∙ ap (by_task m.setting m.course) (task_found s m t single)
+
+  pub lines_begin : (j : Job) (printed : List Line) (touched : Option ℕ) → step m.setting m.course.job t ≡ Ok (Goes j printed touched)
+      → (moment : Moment) × (rest : List RunLine) × (next s ≡ Some moment) × (moment.lines ≡ task_lines m t printed ++ rest)
+  lines_begin j printed touched e =
+      let (rest, is) = lines_by j printed touched e in (
+        record { session = with_moment s c m jm; lines = of_job c.who.job jm.lines },
+        of_job m.setting.number rest,
+        moment_is,
+        ap (λ (n : ℕ). of_job n jm.lines) chosen_job ∙ ap (of_job m.setting.number) (ap (λ (x : JobMoment). x.lines) of_whole ∙ is)
+            ∙ map-append (λ (line : ℕ × Line). (m.setting.number, line.0, line.1)) (map (λ line. (t.number, line)) printed) rest,
+      )

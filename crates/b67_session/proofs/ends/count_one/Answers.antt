@@ -1,0 +1,11 @@
+use Rattle.std.proofs.Common.{◌-◌}
+use Rattle.b67_session.proofs.Rooms.{countable_counted}
+use Rattle.b67_session.proofs.ends.count_one.Goals as goal
+
+pub returns : goal.returns
+returns c = record {
+  shows = c.count.ensures.moment;
+  made = cc;
+  halt = cc;
+  countable = λ all. rw (c.count.ensures.jobs c.requires.job c.requires.at) (countable_counted c.args.tasks.now.jobs (c.args.chosen.job - 1) c.requires.job c.requires.at all);
+}

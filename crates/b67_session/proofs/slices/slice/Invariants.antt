@@ -1,0 +1,20 @@
+use Rattle.std.proofs.Common.{◌≡◌, ◌≢◌, ◌≤◌, ℕ, List, Option, None, length}
+use Rattle.b67_model.specs.State.{Task, Member}
+use Rattle.b67_model.specs.Schedule.{Session}
+use Rattle.b67_storage.specs.Machine.{Says, Served, retold}
+use Rattle.b67_intrinsics.specs.Called.{AreCountable}
+use Rattle.b67_session.specs.Slices.{IsLone}
+use Rattle.b67_session.proofs.Going.{Going}
+use Rattle.b67_session.proofs.slices.slice.Given as goal
+
+abbrev pub invariant-step : goal.invariant-step
+invariant-step g l = record {
+  later : g.K.Sink.faults l.initial.paper ≤ g.K.Sink.faults l.paper;
+  device : Served g.B.Backing.holds g.B.Backing.size g.B.Backing.calls g.B.Backing.faults l.initial.backing l.backing;
+  countable : AreCountable l.machine.tasks.jobs;
+  len : length l.machine.cpu.core ≡ length l.initial.machine.cpu.core;
+  count : length l.machine.sectors.links ≡ length l.initial.machine.sectors.links;
+  halt : l.machine.tasks.halt ≡ l.initial.machine.tasks.halt;
+  going : (known : Option (List (List ℕ))) (s : Session) (m : Member) (t : Task) → Says known (g.B.Backing.holds l.initial.backing) → IsLone known l.initial.machine s m t
+      → Going g.K.Sink.taken (known ≢ None) (retold known (g.B.Backing.holds l.backing)) l._made s l.initial.machine l.machine l.initial.paper l.paper;
+}

@@ -1,0 +1,53 @@
+//! One step of a session of one job with one task.
+
+ghost use Rattle.std.specs.Prelude.{◌≡◌, ◌≢◌, ℕ, ◌+◌, ◌≤◌, List, Option, Some, None, Err, length};
+ghost use Rattle.b67_io.specs.Causes.{Rose};
+ghost use Rattle.b67_model.specs.State.{Task, Member};
+ghost use Rattle.b67_model.specs.Schedule.{Session};
+ghost use Rattle.b67_storage.specs.Machine.{Says, Served, retold};
+ghost use Rattle.b67_intrinsics.specs.Called.{AreCountable};
+ghost use Rattle.b67_intrinsics.specs.declared.ends.Stop.TheVariants.{BackingFault, PrintFault};
+ghost use Rattle.b67_session.specs.Slices.{LivesOn, IsLone};
+ghost use Rattle.b67_session.specs.Steps.{Steps};
+
+use crate::ends::{StepEnd, advance, close};
+use crate::turns::give_turn;
+use b67_attempt::{Attempt, attempt};
+use b67_backing::Backing;
+use b67_intrinsics::Stop;
+use b67_io::Sink;
+use b67_schedule::choose;
+use b67_task::Machine;
+
+/// Makes one step, with its text printed and its operator counted. After a `Stop` it isn't counted, and but after
+/// `PrintFault` the machine stands for the state before it.
+pub(crate) fn step<B: Backing, K: Sink>(
+    machine: &mut Machine,
+    backing: &mut B,
+    paper: &mut K,
+) -> Result<StepEnd, Stop>
+    requires lives { LivesOn (B.holds backing.old) machine.old }
+    requires countable { AreCountable machine.old.tasks.jobs }
+    requires same { B.size backing.old + 1 ≡ length machine.old.sectors.links }
+    ensures row { (known : Option (List (List ℕ))) (s : Session) (m : Member) (t : Task) → Says known (B.holds backing.old) → IsLone known machine.old s m t
+        → Steps K.taken (retold known (B.holds backing.new)) (known ≢ None) (B.size backing.old) s result machine.old machine.new paper.old paper.new }
+    ensures backing_cause { result ≡ Err BackingFault → Rose B.faults backing.old backing.new }
+    ensures print_cause { result ≡ Err PrintFault → Rose K.faults paper.old paper.new }
+    ensures later { K.faults paper.old ≤ K.faults paper.new }
+    ensures device { Served B.holds B.size B.calls B.faults backing.old backing.new }
+    ensures countable { AreCountable machine.new.tasks.jobs }
+    ensures len { length machine.new.cpu.core ≡ length machine.old.cpu.core }
+    ensures count { length machine.new.sectors.links ≡ length machine.old.sectors.links }
+    ensures halt { machine.new.tasks.halt ≡ machine.old.tasks.halt }
+{
+    let chosen = match choose(&machine.tasks) {
+        Some(chosen) => chosen,
+        None => return Ok(StepEnd::Over),
+    };
+    give_turn(machine, chosen.row);
+    match attempt(machine, backing, paper) {
+        Ok(Attempt::Made) => advance(&mut machine.tasks, chosen, paper),
+        Ok(Attempt::Ends(ending)) => close(&mut machine.tasks, chosen, ending, paper),
+        Err(stop) => Err(stop),
+    }
+}

@@ -1,0 +1,29 @@
+//! The chosen task is the running one.
+
+ghost use Rattle.std.specs.Prelude.{◌≡◌, ℕ, List, length, Option, Some, slice_get};
+ghost use Rattle.b67_model.specs.Schedule.{Session};
+ghost use Rattle.b67_model.specs.InOrder.{IsInOrderButPlaces};
+ghost use Rattle.b67_stack.specs.Stands.{Storage};
+ghost use Rattle.b67_layout.specs.Plan.{Plan};
+ghost use Rattle.b67_switch.specs.Turns.{with_running};
+ghost use Rattle.b67_task.specs.declared.tables.TaskRow.{TaskRow};
+ghost use Rattle.b67_task.specs.Tables.{MachineStands};
+ghost use Rattle.b67_turn.specs.Standing.{HasRow};
+
+use b67_task::Machine;
+use b67_turn::switch_to;
+
+/// The task of a row is then the running one, if it wasn't. The session's state stays.
+pub(crate) fn give_turn(machine: &mut Machine, row: u8)
+    requires { HasRow machine.old row }
+    ensures stands { (x : Storage) (told : Option (List (List ℕ))) (plan : Plan) (s : Session) (r : TaskRow) → IsInOrderButPlaces s
+        → MachineStands x told machine.old plan s → slice_get machine.old.tasks.rows.items row ≡ Some r
+        → MachineStands x told machine.new (with_running plan r.slot) s }
+    ensures tables { machine.new.tasks ≡ record machine.old.tasks { rows = machine.new.tasks.rows; running = row } }
+    ensures len { length machine.new.cpu.core ≡ length machine.old.cpu.core }
+    ensures sectors { machine.new.sectors ≡ machine.old.sectors }
+{
+    if machine.tasks.running != row {
+        switch_to(machine, row);
+    }
+}
