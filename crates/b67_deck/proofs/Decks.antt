@@ -31,6 +31,7 @@ use Rattle.b67_open.specs.declared.fault.OpenFault.TheVariants as faults
 use Rattle.b67_open.specs.Decks.{openings_of, session_of, DeckInRange, IsLoaded}
 use Rattle.b67_open.specs.Opens.{need_of, sectors_of_all, OpensAs, IsOpened}
 use Rattle.b67_open.proofs.Decks.{deck_within}
+use Rattle.b67_storage.specs.Machine.{Says, retold}
 use Rattle.b67_initial.specs.Stored.{told_after}
 use Rattle.b67_session.specs.Slices.{IsLone, LivesOn, SliceMeets}
 use Rattle.b67_lines.specs.Stops.{live_after}
@@ -39,7 +40,7 @@ use Rattle.b67_ends.specs.Device.{Device, device_of, Tells, Failed}
 use Rattle.b67_ends.specs.Lines.{no_core_line, backing_full_line}
 use Rattle.b67_deck.specs.Finishing.{refused_status, refused_line, steps_of, JobRan}
 use Rattle.b67_ends.specs.Runs.{run_of, IsDone, HasRoom, memory_refused, opening_wants_core, opening_wants_sectors, opening_fails, all_end, RunStops, unopened, opened, RunEnds, run_stops}
-use Rattle.b67_deck.proofs.Opened.{member_of, task_of, single_opens, lone_opens}
+use Rattle.b67_deck.proofs.Opened.{member_of, task_of, single_opens, says_after, lone_opens, known_after, retold_after}
 use Rattle.b67_deck.proofs.Ran.{ran}
 
 -- ---- lists of one item
@@ -124,33 +125,38 @@ from_none made before steps e f = omega (arith, e, f)
 module _ {K B : Type 0} (taken : K → Option (List ℕ)) (failures : K → ℕ) (holds : B → Option (List (List ℕ))) (size broken : B → ℕ) (d : Deck) (f : Codefile) (core : ℕ)
     (range : DeckInRange d) (loaded : IsLoaded f) (built : uses_built (program_of f) ≡ true) (j : Job) (one : d.jobs ≡ j ∷ [])
     (b b' b'' : B) (k0 k : Machine) (o : IsOpened holds size broken d (program_of f ∷ []) core b b' (Ok k0)) where
-  lone : IsLone (holds b') k0 (session_of d (program_of f ∷ [])) (member_of d.stack j (program_of f)) task_of
-  lone = lone_opens d j f (holds b) (holds b') core k0 one range loaded o.2
+  abbrev known : Option (List (List ℕ))
+  known = told_after (holds b) (holds b')
+
+  lone : IsLone known k0 (session_of d (program_of f ∷ [])) (member_of d.stack j (program_of f)) task_of
+  lone = lone_opens d j f known core k0 one range loaded o.2
 
   pub lives_on : LivesOn (holds b') k0
-  lives_on = record { session = session_of d (program_of f ∷ []); member = member_of d.stack j (program_of f); task = task_of; lone = lone }
+  lives_on = record { known = known; says = says_after (holds b) (holds b'); session = session_of d (program_of f ∷ []); member = member_of d.stack j (program_of f); task = task_of; lone = lone }
 
   pub one_run : (steps : ℕ) (old new : K) (answer : ℕ) → Changes holds b b' (λ before after. length after ≡ length before) → size b' ≡ size b → broken b ≤ broken b'
       → steps ≡ steps_of d.halt j.limit → k.tasks.halt ≡ k0.tasks.halt
-      → ((s : Session) (m : Member) (t : Task) → IsLone (holds b') k0 s m t
-      → JobRan taken failures (holds b'') (holds b' ≢ None) (Rose broken b' b'') (size b') steps j.body_card s k0 k old new answer)
+      → ((x : Option (List (List ℕ))) (s : Session) (m : Member) (t : Task) → Says x (holds b') → IsLone x k0 s m t
+      → JobRan taken failures (retold x (holds b'')) (x ≢ None) (Rose broken b' b'') (size b') steps j.body_card s k0 k old new answer)
       → RunEnds taken failures (device_of holds size broken b b'') core (d, program_of f ∷ []) (Some k) old new answer
   one_run steps old new answer tells same later all halt rans =
       let first = session_of d (program_of f ∷ []) in
-      let r = rans first (member_of d.stack j (program_of f)) task_of lone in
+      let r = rans known first (member_of d.stack j (program_of f)) task_of (says_after (holds b) (holds b')) lone in
       let begun : k0.tasks.made ≡ 0 = o.2.stands.tables.counts.made in
       let made : k.tasks.made ≡ r.slices.steps = from_none k.tasks.made k0.tasks.made r.slices.steps begun r.slices.made in
+      let exact = λ (told : holds b ≢ None). known_after (holds b) (holds b') told (still_told holds b b' tells told) in
       ran taken failures (device_of holds size broken b b'') core (d, program_of f ∷ []) j.body_card j.limit k (member_of d.stack j (program_of f)) (o.0, o.1)
       (single_opens d j (program_of f) one).jobs refl (halt ∙ o.2.halt)
-      (holds b' ≢ None) (still_told holds b b' tells)
-      r.slices.steps r.slices.session r.slices.printed (subst (λ n. r.slices.steps ≤ n) all r.slices.few) made (λ told. r.slices.leads (still_told holds b b' tells told))
+      (known ≢ None) exact
+      (retold known (holds b'')) (λ told. retold_after (holds b) (holds b') (holds b'') told (still_told holds b b' tells told))
+      r.slices.steps r.slices.session r.slices.printed (subst (λ n. r.slices.steps ≤ n) all r.slices.few) made (λ told. r.slices.leads (exact told))
       (λ told m t n single calls.
           never_unbuilt d (f ∷ []) range (loaded, tt) (built, tt) r.slices.steps m t n
-          (subst (λ (z : Session). IsSingle z m t) (sym (r.slices.leads (still_told holds b b' tells told)).session) single) calls)
+          (subst (λ (z : Session). IsSingle z m t) (sym (r.slices.leads (exact told)).session) single) calls)
       r.answered old r.between new answer
-      (subst (λ n. SliceMeets taken (holds b'') (holds b' ≢ None) n (size b) (steps_of d.halt j.limit) r.slices.steps r.slices.session r.slices.printed r.answered k old r.between) o.2.core_size
-      (subst (λ n. SliceMeets taken (holds b'') (holds b' ≢ None) (length k0.cpu.core) n (steps_of d.halt j.limit) r.slices.steps r.slices.session r.slices.printed r.answered k old r.between) same
-      (subst (λ n. SliceMeets taken (holds b'') (holds b' ≢ None) (length k0.cpu.core) (size b') n r.slices.steps r.slices.session r.slices.printed r.answered k old r.between) all r.slices.meets)))
+      (subst (λ n. SliceMeets taken (retold known (holds b'')) (known ≢ None) n (size b) (steps_of d.halt j.limit) r.slices.steps r.slices.session r.slices.printed r.answered k old r.between) o.2.core_size
+      (subst (λ n. SliceMeets taken (retold known (holds b'')) (known ≢ None) (length k0.cpu.core) n (steps_of d.halt j.limit) r.slices.steps r.slices.session r.slices.printed r.answered k old r.between) same
+      (subst (λ n. SliceMeets taken (retold known (holds b'')) (known ≢ None) (length k0.cpu.core) (size b') n r.slices.steps r.slices.session r.slices.printed r.answered k old r.between) all r.slices.meets)))
       r.finishes
       (λ e. let rose = r.device_failed e in omega (arith, later, rose))
       r.printer_failed r.later

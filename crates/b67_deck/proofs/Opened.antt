@@ -22,7 +22,8 @@ use Rattle.b67_task.specs.Tables.{MachineStands, switch_of}
 use Rattle.b67_open.specs.Decks.{opening_of, openings_of, session_of, DeckInRange, IsLoaded}
 use Rattle.b67_open.specs.Opens.{OpensAs}
 use Rattle.b67_open.proofs.Decks.{deck_within}
-use Rattle.b67_session.specs.Slices.{IsLone, LivesOn}
+use Rattle.b67_storage.specs.Machine.{Says, retold}
+use Rattle.b67_session.specs.Slices.{IsLone}
 
 -- the first job of a deck, and its first task
 abbrev pub member_of : ℕ → Job → Program → Member
@@ -51,17 +52,28 @@ pub ordered_opens : (d : Deck) (fs : List Codefile) → DeckInRange d → AllByR
 ordered_opens d fs range loaded =
     starts_are_segments (session_of d (map program_of fs)) (opens_in_order d.stack d.quantum (map switch_of d.switches) (openings_of d.jobs (map program_of fs)) (deck_within d fs range loaded))
 
--- what a device tells that told something before
-pub told_still : (before now : Option (List (List ℕ))) → before ≢ None → told_after before now ≡ now
-told_still None now some = absurd (some refl)
-told_still (Some all) now some = refl
+-- what is known of the sectors is what the device tells, if anything is known
+pub says_after : (before now : Option (List (List ℕ))) → Says (told_after before now) now
+says_after None now = tt
+says_after (Some all) None = tt
+says_after (Some all) (Some other) = refl
 
-pub lone_opens : (d : Deck) (j : Job) (f : Codefile) (before now : Option (List (List ℕ))) (core : ℕ) (k : Machine) → d.jobs ≡ j ∷ [] → DeckInRange d → IsLoaded f
-    → OpensAs (told_after before now) d (program_of f ∷ []) core k → IsLone now k (session_of d (program_of f ∷ [])) (member_of d.stack j (program_of f)) task_of
-lone_opens d j f before now core k e range loaded o = record {
+pub lone_opens : (d : Deck) (j : Job) (f : Codefile) (known : Option (List (List ℕ))) (core : ℕ) (k : Machine) → d.jobs ≡ j ∷ [] → DeckInRange d → IsLoaded f
+    → OpensAs known d (program_of f ∷ []) core k → IsLone known k (session_of d (program_of f ∷ [])) (member_of d.stack j (program_of f)) task_of
+lone_opens d j f known core k e range loaded o = record {
   storage = o.storage;
   plan = opening_plan d.stack (program_of f ∷ []);
   ordered = ordered_opens d (f ∷ []) range (loaded, tt);
   single = single_opens d j (program_of f) e;
-  stands = ?;
+  stands = o.stands;
 }
+
+-- where the device told its sectors, and still does, these are known, and then known again
+pub known_after : (before now : Option (List (List ℕ))) → before ≢ None → now ≢ None → told_after before now ≢ None
+known_after None now some other e = some refl
+known_after (Some all) now some other e = other e
+
+pub retold_after : (before now later : Option (List (List ℕ))) → before ≢ None → now ≢ None → retold (told_after before now) later ≡ later
+retold_after None now later some other = absurd (some refl)
+retold_after (Some all) None later some other = absurd (other refl)
+retold_after (Some all) (Some more) later some other = refl

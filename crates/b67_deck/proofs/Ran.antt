@@ -93,7 +93,7 @@ within (Some count) limit steps le = le
 
 module _ {K : Type 0} (taken : K → Option (List ℕ)) (faults : K → ℕ) (d : Device) (core : ℕ) (p : Prepared) (card limit : ℕ) (k : Machine) (w : Member) (room : HasRoom d core p)
     (one : (run_of p).session.jobs ≡ w ∷ []) (limited : w.setting.limit ≡ limit) (halt : k.tasks.halt ≡ p.0.halt)
-    (E : Type 0) (exact : Tells d → E) (steps : ℕ) (s : Session) (printed : List RunLine) (few : steps ≤ steps_of p.0.halt limit) (made : k.tasks.made ≡ steps) (leads : Tells d → Leads (run_of p).session steps s printed)
+    (E : Type 0) (exact : Tells d → E) (known : Option (List (List ℕ))) (told : Tells d → known ≡ d.now) (steps : ℕ) (s : Session) (printed : List RunLine) (few : steps ≤ steps_of p.0.halt limit) (made : k.tasks.made ≡ steps) (leads : Tells d → Leads (run_of p).session steps s printed)
     (built : Tells d → (m : Member) (t : Task) (n : ℕ) → IsSingle s m t → called_in m t ≡ Some n → n < 12) where
   abbrev first : Session
   first = (run_of p).session
@@ -104,13 +104,13 @@ module _ {K : Type 0} (taken : K → Option (List ℕ)) (faults : K → ℕ) (d 
   text : Tells d → run_text printed ≡ run_text (lines k.tasks.made first)
   text tells = ap run_text (sym (ap (λ n. lines n first) made ∙ (leads tells).printed_are))
 
-  lone_led : Tells d → (m : Member) (t : Task) → IsLone d.now k s m t → IsLone d.now k (after k.tasks.made first) m t
-  lone_led tells m t lone = subst (λ (z : Session). IsLone d.now k z m t) (sym (led tells)) lone
+  lone_led : Tells d → (m : Member) (t : Task) → IsLone known k s m t → IsLone d.now k (after k.tasks.made first) m t
+  lone_led tells m t lone = subst (λ (x : Option (List (List ℕ))). IsLone x k (after k.tasks.made first) m t) (told tells) (subst (λ (z : Session). IsLone known k z m t) (sym (led tells)) lone)
 
-  abbrev stops_at : Tells d → (m : Member) (t : Task) → IsLone d.now k s m t → StopsAt d.now first k
+  abbrev stops_at : Tells d → (m : Member) (t : Task) → IsLone known k s m t → StopsAt d.now first k
   stops_at tells m t lone = record { member = m; task = t; lone = lone_led tells m t lone }
 
-  lived : (m : Member) (t : Task) → IsLone d.now k s m t → 0 < live_tasks s.jobs
+  lived : (m : Member) (t : Task) → IsLone known k s m t → 0 < live_tasks s.jobs
   lived m t lone = rw (lone.single.jobs, lone.single.tasks) (omega arith)
 
   with_line : Tells d → (line : List ℕ) → run_text printed ++ ended line ≡ text_to k.tasks.made first line
@@ -128,7 +128,7 @@ module _ {K : Type 0} (taken : K → Option (List ℕ)) (faults : K → ℕ) (d 
 
   -- by what the steps answered
   pub ran : (answered : Result Progress Stop) (old between new : K) (answer : ℕ)
-      → SliceMeets taken d.now E core d.sectors (steps_of p.0.halt limit) steps s printed answered k old between
+      → SliceMeets taken known E core d.sectors (steps_of p.0.halt limit) steps s printed answered k old between
       → Finishes taken faults card k.tasks.made answered between new answer
       → (answered ≡ Err stops.BackingFault → Failed d) → (answered ≡ Err stops.PrintFault → Rose faults old between) → faults old ≤ faults between
       → RunEnds taken faults d core p (Some k) old new answer
@@ -137,7 +137,7 @@ module _ {K : Type 0} (taken : K → Option (List ℕ)) (faults : K → ℕ) (d 
   ran (Ok progress.More) old between new answer meets end failed rose later =
       let lives = meets.2 in
       stopped (run_text printed)
-      (all_end refl (λ tells. absurd (more_is_no_end p.0.halt limit d.now k first s lives.0 w lives.1 steps halt made meets.0 meets.1 lives.2 (leads tells).session one limited)))
+      (all_end refl (λ tells. absurd (more_is_no_end p.0.halt limit known k first s lives.0 w lives.1 steps halt made meets.0 meets.1 lives.2 (leads tells).session one limited)))
       (whole end.0 (subst (λ (z : K). Took taken old z (run_text printed)) (sym end.1) meets.3))
   ran (Ok progress.Halted) old between new answer meets end failed rose later =
       let lives = meets.1 in

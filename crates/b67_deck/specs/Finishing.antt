@@ -46,11 +46,12 @@ Finishes taken faults card made (Err stops.BackingFault) old new answer = Ends t
 Finishes taken faults card made (Err stops.PrintFault) old new answer = (answer ≡ 8) × (new ≡ old)
 Finishes taken faults card made (Err stops.Unbuilt) old new answer = Ends taken faults old new 2 (ended (refusal_line (refusals.Deck card 90))) answer
 
--- the steps of a job, and then the last line. `failed` is whether the device did
-pub record JobRan {K : Type 0} (taken : K → Option (List ℕ)) (faults : K → ℕ) (told : Option (List (List ℕ))) (exact failed : Type 0) (count steps card : ℕ) (first : Session) (old new : Machine) (paper paper' : K) (answer : ℕ) : Type 0 where
+-- the steps of a job, and then the last line. `exact` is whether it was known what the device's sectors hold, of which this
+-- is known now; `failed` is whether the device did
+pub record JobRan {K : Type 0} (taken : K → Option (List ℕ)) (faults : K → ℕ) (known : Option (List (List ℕ))) (exact failed : Type 0) (count steps card : ℕ) (first : Session) (old new : Machine) (paper paper' : K) (answer : ℕ) : Type 0 where
   pub answered : Result Progress Stop
   pub between : K
-  pub slices : Slices taken told exact count steps first answered old new paper between
+  pub slices : Slices taken known exact count steps first answered old new paper between
   pub finishes : Finishes taken faults card new.tasks.made answered between paper' answer
   pub device_failed : answered ≡ Err stops.BackingFault → failed
   pub printer_failed : answered ≡ Err stops.PrintFault → Rose faults paper between

@@ -2,6 +2,5 @@
 #![tactic(auto)]
 
 mod runs;
-mod standin;
 
 pub use runs::run_deck;

@@ -1,10 +1,11 @@
 //! The run of a deck over core.
 
-ghost use Rattle.std.specs.Prelude.{◌≡◌, ◌≢◌, ◌+◌, ◌<◌, ◌≤◌, ◌^◌, length, map, true, None};
+ghost use Rattle.std.specs.Prelude.{◌≡◌, ◌≢◌, ◌+◌, ◌<◌, ◌≤◌, ◌^◌, ℕ, List, length, map, true, Option, None};
 ghost use Rattle.std.specs.List.{AllByRecursion};
 ghost use Rattle.b67_io.specs.Line.{ended};
 ghost use Rattle.b67_io.specs.Causes.{Rose};
 ghost use Rattle.b67_codefile.specs.Meaning.{program_of};
+ghost use Rattle.b67_storage.specs.Machine.{Says, retold};
 ghost use Rattle.b67_model.specs.State.{Task, Member};
 ghost use Rattle.b67_model.specs.Schedule.{Session};
 ghost use Rattle.b67_lines.specs.Ends.{Ends};
@@ -17,7 +18,6 @@ ghost use Rattle.b67_deck.specs.Finishing.{refused_status, refused_line, steps_o
 ghost use Rattle.b67_ends.specs.Lines.{backing_fault_line};
 ghost use Rattle.b67_ends.specs.Runs.{RunEnds};
 
-use crate::standin::slice;
 use b67_admit::Refusal;
 use b67_backing::Backing;
 use b67_ends::{Outcome, backing_full_line, no_core_line, refusal_line};
@@ -26,7 +26,7 @@ use b67_io::Sink;
 use b67_lines::{halted_line, line_of, say};
 use b67_load::Admitted;
 use b67_open::{OpenFault, open};
-use b67_session::Progress;
+use b67_session::{Progress, slice};
 use b67_task::Machine;
 use b67_text::Deck;
 use std::alloc::Global;
@@ -86,8 +86,8 @@ fn run_job<K: Sink, B: Backing>(
     requires lives { LivesOn (B.holds backing.old) machine.old }
     requires countable { AreCountable machine.old.tasks.jobs }
     requires same { B.size backing.old + 1 ≡ length machine.old.sectors.links }
-    ensures ran { (s : Session) (m : Member) (t : Task) → IsLone (B.holds backing.old) machine.old s m t
-        → JobRan K.taken K.faults (B.holds backing.new) (B.holds backing.old ≢ None) (Rose B.faults backing.old backing.new) (B.size backing.old) steps card
+    ensures ran { (known : Option (List (List ℕ))) (s : Session) (m : Member) (t : Task) → Says known (B.holds backing.old) → IsLone known machine.old s m t
+        → JobRan K.taken K.faults (retold known (B.holds backing.new)) (known ≢ None) (Rose B.faults backing.old backing.new) (B.size backing.old) steps card
         s machine.old machine.new printer.old printer.new result }
     ensures halt { machine.new.tasks.halt ≡ machine.old.tasks.halt }
 {
