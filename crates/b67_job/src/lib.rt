@@ -3,10 +3,11 @@
 
 mod command;
 mod planning;
-mod standin;
 #[cfg(test)]
 mod tests;
 mod top;
+#[cfg(test)]
+mod worked;
 
 pub use b67_ends::Outcome;
 pub use command::{CommandLine, backing_path, command_of};

@@ -21,10 +21,10 @@ ghost use Rattle.b67_job.specs.Due.{Answered, Serves, RefusalEnds, TextEnds, Dec
 
 use crate::command::{CommandLine, command_of};
 use crate::planning::missing_card;
-use crate::standin::run_deck;
 use b67_admit::{AdmitFault, Loaded, Refusal, admit};
 use b67_backing::Backing;
 use b67_commands::{asm_text, check_text};
+use b67_deck::run_deck;
 use b67_ends::{Outcome, refusal_line, say_text};
 use b67_io::{Sink, Source};
 use b67_lines::{line_of, say};
