@@ -5,6 +5,7 @@ use Rattle.b67_word.specs.Tagged.{Tagged, word}
 use Rattle.b67_area.specs.declared.Areas.{Areas}
 use Rattle.b67_area.specs.Spans.{left}
 use Rattle.b67_area.specs.Directory.{IsDirectory}
+use Rattle.b67_backing.specs.Held.{Changes, SameBut}
 use Rattle.b67_backing.specs.Shelf.{Shelf, IsShelf}
 use Rattle.b67_model.specs.Lists.{Has}
 use Rattle.b67_model.specs.Program.{Program}
@@ -122,3 +123,7 @@ laid_out mid cpu areas stack stacks jobs programs at count mcp slots vector kept
       stack_size = size;
       peak = peak ∙ count;
     }
+
+-- a device that told its sectors still does
+pub still_tells : {D : Type 0} (tell : D → Option (List (List ℕ))) (old new : D) (free : List ℕ) → Changes tell old new (SameBut free) → Changes tell old new (λ before after. length after ≡ length before)
+still_tells tell old new free c = record { told = λ x e. let h = c.told x e in (h.0, h.1, h.2.count) }

@@ -1,8 +1,9 @@
 //! The machine of a session that opens.
 
-ghost use Rattle.std.specs.Prelude.{◌≡◌, ◌+◌, ◌*◌, ◌≤◌, [], length, map, replicate, IfOk, IfErr};
+ghost use Rattle.std.specs.Prelude.{◌≡◌, ◌+◌, ◌*◌, ◌≤◌, [], length, map, replicate, IfOk, OnOk, IfErr};
 ghost use Rattle.b67_word.specs.Tagged.{word};
 ghost use Rattle.b67_io.specs.Causes.{HasCause};
+ghost use Rattle.b67_backing.specs.Held.{Changes};
 ghost use Rattle.b67_backing.specs.Shelf.{Shelf, IsShelf};
 ghost use Rattle.b67_backing.specs.declared.refusals.SpaceFault.TheVariants.{BackingFault};
 ghost use Rattle.b67_codefile.specs.Meaning.{program_of};
@@ -81,6 +82,7 @@ pub fn set_up<B: Backing>(
         (absent_storage m.cpu.core m.areas.low (stocked (things_from 160 (map program_of programs.now)) st) (told_after (B.holds backing.old) (B.holds backing.new)))
         m.cpu stack (map program_of programs.now)) }
     ensures len { IfOk result (λ m. length m.cpu.core ≡ length core) }
+    ensures tells { OnOk result (Changes B.holds backing.old backing.new (λ before after. length after ≡ length before)) }
     ensures size { B.size backing.new ≡ B.size backing.old }
     ensures count { length sectors.new.links ≡ length sectors.old.links }
     ensures refusal { IfErr result (λ fault. fault ≡ BackingFault) }

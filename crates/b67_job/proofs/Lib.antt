@@ -1,2 +1,3 @@
-pub mod Lone
-pub mod Judged
+pub mod Served
+pub mod Status
+pub mod Causes

@@ -1,19 +1,31 @@
--- What a run is due to answer and to print, by its cause.
-use Rattle.std.specs.Prelude.{ℕ, ◌≡◌, ◌<◌, ◌⊎◌, true, false, List, length, codes, Option, Some, Result, Ok, Err, is_some}
+-- What a call of the program is due to answer and to print, by its cause.
+use Rattle.std.specs.Prelude.{ℕ, ◌≡◌, ◌<◌, ◌≤◌, ◌⊎◌, true, false, List, length, codes, Option, Some, None, Result, Ok, Err, is_some}
 use denote.Ref.{Bor}
 use Rattle.b67_io.specs.Line.{ended}
-use Rattle.b67_io.specs.Told.{Gave, GaveAll}
+use Rattle.b67_io.specs.Told.{Gave, GaveAll, TookPart}
 use Rattle.b67_io.specs.Causes.{Rose}
 use Rattle.b67_text.specs.Deck.{limit}
-use Rattle.b67_job.specs.Command.{command_of}
-use Rattle.b67_job.specs.declared.command.CommandLine.{CommandLine}
-use Rattle.b67_job.specs.Judgement.{Judgement, Refused, Runs, Prints, asked}
+use Rattle.b67_model.specs.State.{Task, Member}
+use Rattle.b67_model.specs.Need.{need}
+use Rattle.b67_model.specs.Sectors.{sectors}
+use Rattle.b67_model.specs.Run.{after}
+use Rattle.b67_single.specs.Single.{IsSingle}
+use Rattle.b67_task.specs.declared.tables.Machine.{Machine}
 use Rattle.b67_admit.specs.declared.refusal.Refusal.{Refusal}
 use Rattle.b67_admit.specs.declared.fault.AdmitFault.{AdmitFault}
 use Rattle.b67_admit.specs.declared.fault.AdmitFault.TheVariants as admits
+use Rattle.b67_admit.specs.Admitting.{Prepared}
 use Rattle.b67_admit.specs.Told.{refusal_text}
 use Rattle.b67_lines.specs.Ends.{Ends}
-use Rattle.b67_lines.specs.Stops.{Run, IsFinished, IsHalted}
+use Rattle.b67_lines.specs.Stops.{IsFinished, IsHalted}
+use Rattle.b67_open.specs.Opens.{need_of, sectors_of_all}
+use Rattle.b67_ends.specs.Device.{Device, Tells, Failed}
+use Rattle.b67_ends.specs.Lines.{no_core_line, backing_full_line, backing_fault_line, memory_text}
+use Rattle.b67_ends.specs.Runs.{run_of, WantsCore, WantsSectors, IsCutOff, HasRoom, RunStops, IsPrinting, RunEnds}
+use Rattle.b67_job.specs.Command.{command_of}
+use Rattle.b67_job.specs.declared.command.CommandLine.{CommandLine}
+use Rattle.b67_job.specs.declared.command.CommandLine.TheVariants as lines
+use Rattle.b67_job.specs.Judgement.{Judgement, Refused, Runs, Prints, judgement, asked}
 
 abbrev pub usage_text : List ℕ
 usage_text = ended (codes "USAGE: b67 run --core N --backing PATH")
@@ -21,60 +33,68 @@ usage_text = ended (codes "USAGE: b67 run --core N --backing PATH")
 abbrev pub reading_text : List ℕ
 reading_text = ended (codes "READING FAULT")
 
-abbrev pub memory_text : List ℕ
-memory_text = ended (codes "NO MEMORY")
-
--- the text that a judgement asks for where it is done: that of a whole run, or the one to print
-abbrev pub IsDone : Judgement → List ℕ → Type 0
-IsDone (Refused refusal) text = ⊥
-IsDone (Runs r) text = IsFinished r text
-IsDone (Prints whole) text = text ≡ whole
-
--- what a judgement asks for: the line of its refusal with status 2, the text of what is done with status 0, or that of a
--- run that halts with status 3. Memory may be refused.
-pub data IsAsked (j : Judgement) (status : ℕ) (text : List ℕ) : Type 0 where
-  refusal_asked : (refusal : Refusal) → j ≡ Refused refusal → status ≡ 2 → text ≡ refusal_text refusal → IsAsked j status text
-  done_asked : IsDone j text → status ≡ 0 → IsAsked j status text
-  halt_asked : (r : Run) → j ≡ Runs r → IsHalted r text → status ≡ 3 → IsAsked j status text
-  memory_asked : status ≡ 9 → text ≡ memory_text → IsAsked j status text
-
--- a judgement is answered, unless the printer fails
-pub record AnswersTo {K : Type 0} (j : Judgement) (taken : K → Option (List ℕ)) (faults : K → ℕ) (old new : K) (answer : ℕ) : Type 0 where
-  pub status : ℕ
-  pub text : List ℕ
-  pub asked : IsAsked j status text
-  pub ends : Ends taken faults old new status text answer
-
 -- these bytes were read: all that there were, or more than a deck may have
 abbrev pub WasRead : {S : Type 0} → (S → Option (List ℕ)) → S → S → List ℕ → Type 0
 WasRead left deck deck' bytes = GaveAll left deck deck' bytes ⊎ (Gave left deck deck' bytes × (limit < length bytes))
 
--- the status and the text that are due, by their cause
-pub data IsDue {S : Type 0} (words : List (Bor (List ℕ))) (left : S → Option (List ℕ)) (faults : S → ℕ) (deck deck' : S) (status : ℕ) (text : List ℕ) : Type 0 where
-  usage_due : is_some (command_of words) ≡ false → deck' ≡ deck
-      → status ≡ 1 → text ≡ usage_text → IsDue words left faults deck deck' status text
-  refusal_due : (command : CommandLine) (bytes : List ℕ) (refusal : Refusal) → command_of words ≡ Some command → WasRead left deck deck' bytes
-      → asked command bytes ≡ Refused refusal → status ≡ 2 → text ≡ refusal_text refusal → IsDue words left faults deck deck' status text
-  done_due : (command : CommandLine) (bytes : List ℕ) → command_of words ≡ Some command → GaveAll left deck deck' bytes
-      → IsDone (asked command bytes) text → status ≡ 0 → IsDue words left faults deck deck' status text
-  halt_due : (command : CommandLine) (bytes : List ℕ) (r : Run) → command_of words ≡ Some command → GaveAll left deck deck' bytes
-      → asked command bytes ≡ Runs r → IsHalted r text → status ≡ 3 → IsDue words left faults deck deck' status text
-  reading_due : is_some (command_of words) ≡ true → Rose faults deck deck'
-      → status ≡ 7 → text ≡ reading_text → IsDue words left faults deck deck' status text
-  memory_due : is_some (command_of words) ≡ true → status ≡ 9 → text ≡ memory_text → IsDue words left faults deck deck' status text
+-- the words ask for a run over so much core, and the deck, read to its end, is this one with these programs
+pub record IsRun {S : Type 0} (words : List (Bor (List ℕ))) (left : S → Option (List ℕ)) (deck deck' : S) (core : ℕ) (p : Prepared) : Type 0 where
+  pub bytes : List ℕ
+  pub command : command_of words ≡ Some (lines.Run core)
+  pub read : GaveAll left deck deck' bytes
+  pub judged : judgement bytes ≡ Runs p
 
--- a run: what was due, and how it ended
-pub record Answered {S K : Type 0} (words : List (Bor (List ℕ))) (left : S → Option (List ℕ)) (source_faults : S → ℕ) (deck deck' : S)
+-- the status, the text and the machine that are due, by their cause
+pub data IsDue {S : Type 0} (words : List (Bor (List ℕ))) (left : S → Option (List ℕ)) (faults : S → ℕ) (deck deck' : S) (d : Device) (machine : Option Machine) (status : ℕ) (text : List ℕ) : Type 0 where
+  usage_due : is_some (command_of words) ≡ false → deck' ≡ deck → machine ≡ None
+      → status ≡ 1 → text ≡ usage_text → IsDue words left faults deck deck' d machine status text
+  refusal_due : (command : CommandLine) (bytes : List ℕ) (refusal : Refusal) → command_of words ≡ Some command → WasRead left deck deck' bytes
+      → asked command bytes ≡ Refused refusal → machine ≡ None → status ≡ 2 → text ≡ refusal_text refusal → IsDue words left faults deck deck' d machine status text
+  print_due : (command : CommandLine) (bytes : List ℕ) → command_of words ≡ Some command → GaveAll left deck deck' bytes
+      → asked command bytes ≡ Prints text → machine ≡ None → status ≡ 0 → IsDue words left faults deck deck' d machine status text
+  run_due : (core : ℕ) (p : Prepared) → IsRun words left deck deck' core p → RunStops d core p machine status text → IsDue words left faults deck deck' d machine status text
+  reading_due : is_some (command_of words) ≡ true → Rose faults deck deck' → machine ≡ None
+      → status ≡ 7 → text ≡ reading_text → IsDue words left faults deck deck' d machine status text
+  memory_due : is_some (command_of words) ≡ true → machine ≡ None → status ≡ 9 → text ≡ memory_text → IsDue words left faults deck deck' d machine status text
+
+-- what was due, and how the call ended. A printer may also fail in the text of a step
+pub data Answered {S K : Type 0} (words : List (Bor (List ℕ))) (left : S → Option (List ℕ)) (source_faults : S → ℕ) (deck deck' : S) (d : Device) (machine : Option Machine)
     (taken : K → Option (List ℕ)) (printer_faults : K → ℕ) (old new : K) (answer : ℕ) : Type 0 where
-  pub status : ℕ
-  pub text : List ℕ
-  pub due : IsDue words left source_faults deck deck' status text
-  pub ends : Ends taken printer_faults old new status text answer
+  answered : (status : ℕ) (text : List ℕ) → IsDue words left source_faults deck deck' d machine status text → Ends taken printer_faults old new status text answer
+      → Answered words left source_faults deck deck' d machine taken printer_faults old new answer
+  cut_in_step : (core : ℕ) (p : Prepared) (text : List ℕ) → IsRun words left deck deck' core p → IsPrinting d core p machine text
+      → answer ≡ 8 → Rose printer_faults old new → TookPart taken old new text → Answered words left source_faults deck deck' d machine taken printer_faults old new answer
 
 -- how a call ends that carries out a command
-abbrev pub Serves : {S K : Type 0} → CommandLine → (S → Option (List ℕ)) → (S → ℕ) → S → S → (K → Option (List ℕ)) → (K → ℕ) → K → K → ℕ → Type 0
-Serves command left source_faults deck deck' taken printer_faults old new answer =
-    (words : List (Bor (List ℕ))) → command_of words ≡ Some command → Answered words left source_faults deck deck' taken printer_faults old new answer
+abbrev pub Serves : {S K : Type 0} → CommandLine → (S → Option (List ℕ)) → (S → ℕ) → S → S → Device → Option Machine → (K → Option (List ℕ)) → (K → ℕ) → K → K → ℕ → Type 0
+Serves command left source_faults deck deck' d machine taken printer_faults old new answer =
+    (words : List (Bor (List ℕ))) → command_of words ≡ Some command → Answered words left source_faults deck deck' d machine taken printer_faults old new answer
+
+-- ---- the causes of a status
+
+-- the text of what is done: that of a whole run, where the device tells what its sectors hold, or the one to print
+abbrev pub IsDone : Device → Judgement → List ℕ → Type 0
+IsDone d (Refused refusal) text = ⊥
+IsDone d (Runs p) text = Tells d → IsFinished (run_of p) text
+IsDone d (Prints whole) text = text ≡ whole
+
+-- core is too small: for the session that opens, or for a step
+abbrev pub IsShortOfCore : Device → ℕ → Prepared → List ℕ → Type 0
+IsShortOfCore d core p text =
+    ((core < need_of p.0 p.1) × (text ≡ ended (no_core_line (need_of p.0 p.1) core)))
+    ⊎ (HasRoom d core p × (Tells d → (k : Machine) × WantsCore d.now core (run_of p).session k text))
+
+-- the device has too few sectors: for the programs of the session that opens, or for the session that steps led to
+abbrev pub IsShortOfSectors : Device → ℕ → Prepared → List ℕ → Type 0
+IsShortOfSectors d core p text =
+    ((need_of p.0 p.1 ≤ core) × (d.sectors < sectors_of_all p.0 p.1) × (text ≡ ended (backing_full_line (sectors_of_all p.0 p.1) d.sectors)))
+    ⊎ (HasRoom d core p × (Tells d → (k : Machine) × WantsSectors d.now d.sectors (run_of p).session k text))
+
+-- the device failed: as the session opened, or at a step
+abbrev pub IsFailedBy : Device → ℕ → Prepared → List ℕ → Type 0
+IsFailedBy d core p text = HasRoom d core p × ((text ≡ ended backing_fault_line) ⊎ (Tells d → (k : Machine) × IsCutOff d.now (run_of p).session k text))
+
+-- ---- answers to a fault, to a text and to a deck
 
 -- how the answer to a refusal, or to a fault of reading, ends
 abbrev pub RefusalEnds : {K : Type 0} → AdmitFault → (K → Option (List ℕ)) → (K → ℕ) → K → K → ℕ → Type 0
@@ -86,3 +106,23 @@ RefusalEnds admits.Memory taken faults old new answer = Ends taken faults old ne
 abbrev pub TextEnds : {K : Type 0} → Result (List ℕ) AdmitFault → (K → Option (List ℕ)) → (K → ℕ) → K → K → ℕ → Type 0
 TextEnds (Ok text) taken faults old new answer = Ends taken faults old new 0 text answer
 TextEnds (Err fault) taken faults old new answer = RefusalEnds fault taken faults old new answer
+
+-- how the answer to a deck ends that is judged so: it is refused, or it runs
+abbrev pub DeckEnds : {K : Type 0} → Judgement → (K → Option (List ℕ)) → (K → ℕ) → Device → ℕ → Option Machine → K → K → ℕ → Type 0
+DeckEnds (Refused refusal) taken faults d core machine old new answer = (machine ≡ None) × Ends taken faults old new 2 (refusal_text refusal) answer
+DeckEnds (Runs p) taken faults d core machine old new answer = RunEnds taken faults d core p machine old new answer
+DeckEnds (Prints text) taken faults d core machine old new answer = ⊥
+
+-- ---- a run for which core and device are large enough
+
+-- the session opens, and no state of its run needs more
+pub record Suffices (d : Device) (core : ℕ) (p : Prepared) : Type 0 where
+  pub room : HasRoom d core p
+  pub core_suffices : (steps : ℕ) (m : Member) (t : Task) → IsSingle (after steps (run_of p).session) m t → need core (after steps (run_of p).session) m t ≤ core
+  pub sectors_suffice : (steps : ℕ) → sectors (after steps (run_of p).session).jobs ≤ d.sectors
+
+-- a run is told and has room; the other commands need neither
+abbrev pub IsAmple : Device → CommandLine → List ℕ → Type 0
+IsAmple d (lines.Run core) text = Tells d × ((p : Prepared) → judgement text ≡ Runs p → Suffices d core p)
+IsAmple d lines.Asm text = Unit {0}
+IsAmple d lines.Check text = Unit {0}

@@ -1,39 +1,22 @@
 -- What a command and a text ask for.
-use Rattle.std.specs.Prelude.{ℕ, List, [], ◌∷◌, map, Option, Some, None, Ok, Err, if◌then◌else◌}
+use Rattle.std.specs.Prelude.{ℕ, List, [], ◌∷◌, Option, Some, None, Ok, Err, if◌then◌else◌}
 use Rattle.b67_model.specs.Program.{Program}
-use Rattle.b67_model.specs.Schedule.{Switch}
-use Rattle.b67_opening.specs.Opening.{Opening, opening}
-use Rattle.b67_text.specs.declared.deck.Switch as declared
 use Rattle.b67_text.specs.declared.deck.Job.{Job}
-use Rattle.b67_text.specs.declared.deck.Deck.{Deck}
 use Rattle.b67_admit.specs.declared.refusal.Refusal.{Refusal}
 use Rattle.b67_admit.specs.declared.refusal.Refusal.TheVariants as refusals
 use Rattle.b67_admit.specs.Admitting.{Answer, Prepared, deck_prepared}
 use Rattle.b67_commands.specs.Verdicts.{Verdict, check_verdict, asm_verdict}
-use Rattle.b67_lines.specs.Stops.{Run, run_status}
-use Rattle.b67_straight.specs.Served.{is_served}
+use Rattle.b67_lines.specs.Stops.{run_status}
+use Rattle.b67_uncalled.specs.Uncalled.{uses_built}
+use Rattle.b67_ends.specs.Runs.{run_of}
 use Rattle.b67_job.specs.declared.command.CommandLine.{CommandLine}
 use Rattle.b67_job.specs.declared.command.CommandLine.TheVariants as lines
 
--- a refusal, or a run, or a text is printed
+-- a refusal, or a deck with its programs runs, or a text is printed
 pub data Judgement : Type 0 where
   Refused : (refusal : Refusal) → Judgement
-  Runs : (run : Run) → Judgement
+  Runs : (prepared : Prepared) → Judgement
   Prints : (text : List ℕ) → Judgement
-
--- ---- the run that a deck asks for
-
-abbrev pub switch_of : declared.Switch → Switch
-switch_of s = record { count = s.count; to = record { job = s.job; task = s.task } }
-
--- each job with its program, its limit of operators and its numbers for READ
-abbrev pub openings : List Job → List Program → List Opening
-openings (j ∷ jobs) (p ∷ ps) = record { program = p; limit = j.limit; numbers = j.numbers } ∷ openings jobs ps
-openings _ _ = []
-
--- the session under the deck's stack size, quantum and switches, and the deck's halt
-abbrev pub run_of : Deck → List Program → Run
-run_of d ps = record { session = opening d.stack d.quantum (map switch_of d.switches) (openings d.jobs ps); halt = d.halt }
 
 -- ---- what isn't built
 
@@ -42,21 +25,21 @@ abbrev pub second_card : List Job → Option ℕ
 second_card [] = None
 second_card (j ∷ more) = Some j.card
 
--- The card of the first thing in a deck that the step loop doesn't have yet: that of a job's body, if it is in its
--- program, or of a second job.
+-- The card of the first thing in a deck that the machine doesn't have yet: that of a job's body, if its program names an
+-- intrinsic on tasks, or of a second job.
 abbrev pub missing : List Job → List Program → Option ℕ
-missing (j ∷ jobs) (p ∷ ps) = if is_served p then second_card jobs else Some j.body_card
+missing (j ∷ jobs) (p ∷ ps) = if uses_built p then second_card jobs else Some j.body_card
 missing _ _ = None
 
 -- ---- judgements
 
-abbrev pub runs_unless : Option ℕ → Run → Judgement
-runs_unless None r = Runs r
-runs_unless (Some card) r = Refused (refusals.Deck card 90)
+abbrev pub runs_unless : Option ℕ → Prepared → Judgement
+runs_unless None p = Runs p
+runs_unless (Some card) p = Refused (refusals.Deck card 90)
 
 -- by a deck with its admitted programs
 abbrev pub deck_judgement : Prepared → Judgement
-deck_judgement p = runs_unless (missing p.0.jobs p.1) (run_of p.0 p.1)
+deck_judgement p = runs_unless (missing p.0.jobs p.1) p
 
 abbrev pub prepared_judgement : Answer Prepared → Judgement
 prepared_judgement (Ok p) = deck_judgement p
@@ -79,5 +62,5 @@ asked lines.Check text = printed (check_verdict text)
 
 abbrev pub judged_status : Judgement → ℕ
 judged_status (Refused refusal) = 2
-judged_status (Runs r) = run_status r
+judged_status (Runs p) = run_status (run_of p)
 judged_status (Prints text) = 0

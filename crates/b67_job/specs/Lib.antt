@@ -1,5 +1,4 @@
 pub mod Command
 pub mod Seen
 pub mod Judgement
-pub mod Planned
 pub mod Due

@@ -1,9 +1,9 @@
 //! The words of a command.
 
-ghost use Rattle.std.specs.Prelude.{◌≡◌};
+ghost use Rattle.std.specs.Prelude.{◌≡◌, ◌≤◌, ◌<◌, ◌^◌, ℕ, IfSome, Some};
 ghost use Rattle.std.specs.Option.{option_map};
 ghost use Rattle.b67_job.specs.Command.{options, is_path, requested, request, one_word, command_of, backing_path};
-ghost use Rattle.b67_job.specs.Seen.{seen_options, seen_request};
+ghost use Rattle.b67_job.specs.Seen.{seen_options, seen_request, HasCore};
 
 use b67_card::number_in;
 
@@ -54,7 +54,8 @@ fn is_path(word: &str) -> bool
 }
 
 fn check_options(options: Options<'_>) -> Option<Request<'_>>
-    ensures { option_map seen_request result ≡ requested (seen_options options.entry) }
+    ensures request { option_map seen_request result ≡ requested (seen_options options.entry) }
+    ensures core { IfSome result (λ r. (256 ≤ r.core) × (r.core < 2 ^ 20)) }
 {
     if !is_path(options.path) {
         return None;
@@ -69,7 +70,8 @@ fn check_options(options: Options<'_>) -> Option<Request<'_>>
 }
 
 fn read_request<'a>(words: &[&'a str]) -> Option<Request<'a>>
-    ensures { option_map seen_request result ≡ request words.now }
+    ensures request { option_map seen_request result ≡ request words.now }
+    ensures core { IfSome result (λ r. (256 ≤ r.core) × (r.core < 2 ^ 20)) }
 {
     match words {
         [run, first, a, second, b] => {
@@ -105,7 +107,8 @@ fn one_word(words: &[&str]) -> Option<CommandLine>
 /// The command that the words are: `run --core N --backing PATH`, the two options in either order, `asm` or `check`. N is 256 to
 /// 1,048,575 in decimal without sign or leading zero; PATH isn't empty and doesn't begin with `-`.
 pub fn command_of(words: &[&str]) -> Option<CommandLine>
-    ensures { result ≡ command_of words.now }
+    ensures command { result ≡ command_of words.now }
+    ensures core { IfSome result HasCore }
 {
     match one_word(words) {
         Some(command) => Some(command),

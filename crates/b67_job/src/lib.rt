@@ -2,11 +2,13 @@
 #![tactic(auto)]
 
 mod command;
-mod lines;
 mod planning;
 #[cfg(test)]
 mod tests;
 mod top;
+#[cfg(test)]
+mod worked;
 
+pub use b67_ends::Outcome;
 pub use command::{CommandLine, backing_path, command_of};
-pub use top::{Outcome, refuse_memory, run};
+pub use top::{refuse_memory, run};

@@ -1,43 +1,36 @@
-//! What is to be done for a deck with its admitted programs.
+//! What a deck has that isn't built.
 
-ghost use Rattle.std.specs.Prelude.{map};
+ghost use Rattle.std.specs.Prelude.{◌≡◌, ◌≤◌, length, map, true, None};
+ghost use Rattle.std.specs.List.{AllByRecursion};
 ghost use Rattle.b67_codefile.specs.Meaning.{program_of};
-ghost use Rattle.b67_job.specs.Planned.{IsPlanned};
+ghost use Rattle.b67_uncalled.specs.Uncalled.{uses_built};
+ghost use Rattle.b67_open.specs.Decks.{IsLoaded};
+ghost use Rattle.b67_job.specs.Judgement.{missing};
 
 use b67_load::Admitted;
-use b67_straight::served_code;
+use b67_served::uses_built;
 use b67_text::Job;
-use b67_word::Word;
 
-/// A deck has no job; or the step loop doesn't have something yet that is used at this card; or one job runs, under its
-/// limit of operators.
-#[derive(Clone, Copy)]
-pub enum Plan<'a> {
-    Idle,
-    Missing { card: u32 },
-    Runs { limit: u64, code: &'a [Word] },
-}
-
-/// What is to be done for jobs with their programs.
-pub fn plan_of<'a>(jobs: &[Job], programs: &'a [Admitted]) -> Plan<'a>
-    ensures { IsPlanned result jobs.now (map program_of programs.now) }
+/// The card of the first thing in a deck that the machine doesn't have yet: a program that names an intrinsic on tasks, at
+/// the card of its body, or a second job.
+pub fn missing_card(jobs: &[Job], programs: &[Admitted]) -> Option<u32>
+    requires each { length programs.now ≡ length jobs.now }
+    ensures card { result ≡ missing jobs.now (map program_of programs.now) }
+    ensures few { result ≡ None → length jobs.now ≤ 1 }
+    ensures loaded { result ≡ None → AllByRecursion IsLoaded programs.now }
+    ensures built { result ≡ None → AllByRecursion (λ f. uses_built (program_of f) ≡ true) programs.now }
 {
     let [job, others @ ..] = jobs else {
-        return Plan::Idle;
+        return None;
     };
     let [program, ..] = programs else {
-        return Plan::Idle;
+        return None;
     };
-    let Some(code) = served_code(program.file()) else {
-        return Plan::Missing {
-            card: job.body_card,
-        };
-    };
+    if !uses_built(program.file()) {
+        return Some(job.body_card);
+    }
     match others {
-        [] => Plan::Runs {
-            limit: job.limit,
-            code,
-        },
-        [second, ..] => Plan::Missing { card: second.card },
+        [] => None,
+        [second, ..] => Some(second.card),
     }
 }

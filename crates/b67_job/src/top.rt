@@ -1,37 +1,35 @@
 //! The top call.
 
-ghost use Rattle.std.specs.Prelude.{◌≡◌, ◌⊎◌, ◌≤◌, ℕ, List, length, true, false, is_some, Some};
-ghost use Rattle.b67_word.specs.Tagged.{contents};
+ghost use Rattle.std.specs.Prelude.{◌≡◌, ◌≢◌, ◌⊎◌, ◌≤◌, ◌<◌, ◌^◌, ℕ, List, length, map, true, false, is_some, Some, None};
 ghost use Rattle.b67_io.specs.Told.{Took, TookPart, GaveAll};
 ghost use Rattle.b67_io.specs.Causes.{Rose, Stayed};
+ghost use Rattle.b67_task.specs.declared.tables.Machine.{Machine};
 ghost use Rattle.b67_admit.specs.declared.refusal.Refusal.{Refusal};
 ghost use Rattle.b67_admit.specs.Told.{refusal_text};
+ghost use Rattle.b67_admit.specs.Admitting.{Prepared};
 ghost use Rattle.b67_admit.specs.Meets.{prepared_of};
+ghost use Rattle.b67_open.specs.Decks.{DeckInRange};
 ghost use Rattle.b67_lines.specs.Ends.{Ends};
-ghost use Rattle.b67_lines.specs.Stops.{Run, IsHalted};
-ghost use Rattle.b67_straight.specs.Listed.{is_built_code};
-ghost use Rattle.b67_straight.specs.Lone.{Unread, run_of};
+ghost use Rattle.b67_lines.specs.Stops.{IsHalted};
+ghost use Rattle.b67_ends.specs.Device.{Device, device_of};
+ghost use Rattle.b67_ends.specs.Lines.{memory_text};
+ghost use Rattle.b67_ends.specs.Runs.{run_of, HasRoom, StopsAt, IsPrinting};
 ghost use Rattle.b67_job.specs.Command.{command_of};
 ghost use Rattle.b67_job.specs.declared.command.CommandLine.{CommandLine};
-ghost use Rattle.b67_job.specs.Judgement.{deck_judgement, asked, Refused, Runs, judged_status};
-ghost use Rattle.b67_job.specs.Due.{Answered, AnswersTo, Serves, RefusalEnds, TextEnds, IsDue, IsDone, WasRead, usage_text, reading_text, memory_text};
+ghost use Rattle.b67_job.specs.Judgement.{deck_judgement, asked, Refused, judged_status};
+ghost use Rattle.b67_job.specs.Due.{Answered, Serves, RefusalEnds, TextEnds, DeckEnds, IsDue, IsRun, IsDone, IsShortOfCore, IsShortOfSectors, IsFailedBy, IsAmple, WasRead, usage_text, reading_text};
 
 use crate::command::{CommandLine, command_of};
-use crate::lines::{refusal_line, say_text};
-use crate::planning::{Plan, plan_of};
+use crate::planning::missing_card;
 use b67_admit::{AdmitFault, Loaded, Refusal, admit};
+use b67_backing::Backing;
 use b67_commands::{asm_text, check_text};
+use b67_deck::run_deck;
+use b67_ends::{Outcome, refusal_line, say_text};
 use b67_io::{Sink, Source};
 use b67_lines::{line_of, say};
-use b67_straight::{Terms, run_code};
-use b67_word::{Bytes, Word};
+use b67_word::Bytes;
 use std::alloc::Global;
-
-/// How a run ended.
-#[derive(Clone, Copy, Debug, PartialEq, Eq)]
-pub struct Outcome {
-    pub status: u8,
-}
 
 fn refuse<K: Sink>(printer: &mut K, refusal: Refusal) -> u8
     ensures { Ends K.taken K.faults printer.old printer.new 2 (refusal_text refusal) result }
@@ -51,48 +49,74 @@ fn say_no_memory<K: Sink>(printer: &mut K) -> u8
     say(printer, 9, &line_of("NO MEMORY"))
 }
 
-/// Answers that memory was refused, for a program that has no memory for its words.
+/// Answers that memory was refused, for a program that has no memory for its words or for its backing.
 pub fn refuse_memory<K: Sink>(printer: &mut K) -> Outcome
-    ensures { Ends K.taken K.faults printer.old printer.new 9 memory_text result.status }
+    ensures ends { Ends K.taken K.faults printer.old printer.new 9 memory_text result.status }
+    ensures machine { result.machine ≡ None }
+{
+    without_machine(say_no_memory(printer))
+}
+
+fn without_machine(status: u8) -> Outcome
+    ensures status { result.status ≡ status }
+    ensures machine { result.machine ≡ None }
 {
     Outcome {
-        status: say_no_memory(printer),
+        status,
+        machine: None,
     }
 }
 
-fn answer<S: Source, K: Sink>(alloc: Global, words: &[&str], deck: &mut S, printer: &mut K) -> u8
-    ensures { Answered words.now S.left S.faults deck.old deck.new K.taken K.faults printer.old printer.new result }
+fn answer<S: Source, K: Sink, B: Backing>(
+    alloc: Global,
+    words: &[&str],
+    deck: &mut S,
+    printer: &mut K,
+    backing: &mut B,
+) -> Outcome
+    ensures answered { Answered words.now S.left S.faults deck.old deck.new (device_of B.holds B.size B.faults backing.old backing.new)
+        result.machine K.taken K.faults printer.old printer.new result.status }
+    ensures untouched { ((core : ℕ) → command_of words.now ≡ Some (CommandLine.Run core) → ⊥) → backing.new ≡ backing.old }
 {
     match command_of(words) {
-        Some(CommandLine::Run { core }) => answer_run(alloc, core, deck, printer),
-        Some(CommandLine::Asm) => answer_asm(alloc, deck, printer),
-        Some(CommandLine::Check) => answer_check(alloc, deck, printer),
-        None => say(
+        Some(CommandLine::Run { core }) => answer_run(alloc, core, deck, printer, backing),
+        Some(CommandLine::Asm) => without_machine(answer_asm(alloc, deck, printer)),
+        Some(CommandLine::Check) => without_machine(answer_check(alloc, deck, printer)),
+        None => without_machine(say(
             printer,
             1,
             &line_of("USAGE: b67 run --core N --backing PATH"),
-        ),
+        )),
     }
 }
 
-fn answer_run<S: Source, K: Sink>(alloc: Global, core: u32, deck: &mut S, printer: &mut K) -> u8
-    ensures { Serves (CommandLine.Run core) S.left S.faults deck.old deck.new K.taken K.faults printer.old printer.new result }
+fn answer_run<S: Source, K: Sink, B: Backing>(
+    alloc: Global,
+    core: u32,
+    deck: &mut S,
+    printer: &mut K,
+    backing: &mut B,
+) -> Outcome
+    requires low { 256 ≤ core }
+    requires high { core < 2 ^ 20 }
+    ensures { Serves (CommandLine.Run core) S.left S.faults deck.old deck.new (device_of B.holds B.size B.faults backing.old backing.new)
+        result.machine K.taken K.faults printer.old printer.new result.status }
 {
     match admit(alloc, deck) {
-        Ok(loaded) => answer_deck(alloc, &loaded, printer),
-        Err(fault) => refuse_program(fault, printer),
+        Ok(loaded) => answer_deck(alloc, core, &loaded, printer, backing),
+        Err(fault) => without_machine(refuse_program(fault, printer)),
     }
 }
 
 fn answer_asm<S: Source, K: Sink>(alloc: Global, deck: &mut S, printer: &mut K) -> u8
-    ensures { Serves CommandLine.Asm S.left S.faults deck.old deck.new K.taken K.faults printer.old printer.new result }
+    ensures { (d : Device) → Serves CommandLine.Asm S.left S.faults deck.old deck.new d None K.taken K.faults printer.old printer.new result }
 {
     let text = asm_text(alloc, deck);
     answer_text(&text, printer)
 }
 
 fn answer_check<S: Source, K: Sink>(alloc: Global, deck: &mut S, printer: &mut K) -> u8
-    ensures { Serves CommandLine.Check S.left S.faults deck.old deck.new K.taken K.faults printer.old printer.new result }
+    ensures { (d : Device) → Serves CommandLine.Check S.left S.faults deck.old deck.new d None K.taken K.faults printer.old printer.new result }
 {
     let text = check_text(alloc, deck);
     answer_text(&text, printer)
@@ -107,32 +131,25 @@ fn answer_text<K: Sink>(text: &Result<Bytes, AdmitFault>, printer: &mut K) -> u8
     }
 }
 
-fn answer_deck<K: Sink>(alloc: Global, loaded: &Loaded, printer: &mut K) -> u8
-    ensures { AnswersTo (deck_judgement (prepared_of loaded.now)) K.taken K.faults printer.old printer.new result }
+fn answer_deck<K: Sink, B: Backing>(
+    alloc: Global,
+    core: u32,
+    loaded: &Loaded,
+    printer: &mut K,
+    backing: &mut B,
+) -> Outcome
+    requires range { DeckInRange loaded.now.deck }
+    requires each { length loaded.now.programs ≡ length loaded.now.deck.jobs }
+    requires low { 256 ≤ core }
+    requires high { core < 2 ^ 20 }
+    ensures { DeckEnds (deck_judgement (prepared_of loaded.now)) K.taken K.faults (device_of B.holds B.size B.faults backing.old backing.new) core
+        result.machine printer.old printer.new result.status }
 {
     let deck = &loaded.deck;
-    match plan_of(deck.jobs.as_slice(), loaded.programs.as_slice()) {
-        Plan::Idle => 0,
-        Plan::Missing { card } => refuse(printer, Refusal::Deck { card, reason: 90 }),
-        Plan::Runs { limit, code } => {
-            let terms = Terms {
-                stack: deck.stack,
-                limit,
-                halt: deck.halt,
-            };
-            answer_code(alloc, code, terms, printer)
-        }
-    }
-}
-
-fn answer_code<K: Sink>(alloc: Global, code: &[Word], terms: Terms, printer: &mut K) -> u8
-    requires short { length code.now ≤ 8191 }
-    requires built { is_built_code (contents code.now) ≡ true }
-    ensures { (unread : Unread) → AnswersTo (Runs (run_of (contents code.now) terms unread)) K.taken K.faults printer.old printer.new result }
-{
-    match run_code(alloc, printer, code, terms) {
-        Ok(status) => status,
-        Err(_) => say_no_memory(printer),
+    let programs = loaded.programs.as_slice();
+    match missing_card(deck.jobs.as_slice(), programs) {
+        Some(card) => without_machine(refuse(printer, Refusal::Deck { card, reason: 90 })),
+        None => run_deck(alloc, deck, programs, core, printer, backing),
     }
 }
 
@@ -148,59 +165,85 @@ fn refuse_program<K: Sink>(fault: AdmitFault, printer: &mut K) -> u8
 
 /// Carries out the command that the words are, on the deck that is read, and prints what it asks for.
 ///
-/// - `run --core N --backing PATH` prints the lines of the deck's run, up to its halt; the core and the backing aren't used
-///   yet. What the step loop doesn't have is refused with reason 90, once all programs are admitted.
+/// - `run --core N --backing PATH` opens the deck's session in a core of N words over the backing, and prints the lines of
+///   its run, up to its halt. What the machine doesn't have is refused with reason 90, once all programs are admitted.
 /// - `asm` prints the codefile of assembly cards as hexadecimal cards, 32 bytes to a card, in lower case.
 /// - `check` prints `name ADMITTED s r` for each job of the deck, with its numbers of segments and of data rows.
 ///
-/// Status 0 is that all is done, 1 the usage, 2 a refused deck, 3 a run that halted, 7 a source that failed, 8 a printer
-/// that failed, 9 want of memory.
-pub fn run<S: Source, K: Sink>(
+/// Status 0 is that all is done, 1 the usage, 2 a refused deck, 3 a run that halted, 4 a core that is too small, 5 a backing
+/// that is full, 6 a backing that failed, 7 a source that failed, 8 a printer that failed, 9 want of memory. The machine is
+/// there exactly where a session was opened.
+pub fn run<S: Source, K: Sink, B: Backing>(
     alloc: Global,
     words: &[&str],
     deck: &mut S,
     printer: &mut K,
+    backing: &mut B,
 ) -> Outcome
-    // The status and the text are those that are due by their cause, or the printer failed and the status is 8.
-    ensures due { Answered words.now S.left S.faults deck.old deck.new K.taken K.faults printer.old printer.new result.status }
+    // The status, the text and the machine are those that are due by their cause, or the printer failed and the status is 8.
+    ensures due { Answered words.now S.left S.faults deck.old deck.new (device_of B.holds B.size B.faults backing.old backing.new)
+        result.machine K.taken K.faults printer.old printer.new result.status }
+
+    // Only a run touches the backing.
+    ensures untouched { ((core : ℕ) → command_of words.now ≡ Some (CommandLine.Run core) → ⊥) → backing.new ≡ backing.old }
 
     // No words of a command: nothing is read, and the usage line is printed.
     ensures usage { result.status ≡ 1 → (is_some (command_of words.now) ≡ false) × (deck.new ≡ deck.old)
         × Took K.taken printer.old printer.new usage_text }
     ensures no_command { is_some (command_of words.now) ≡ false → (result.status ≡ 1) ⊎ (result.status ≡ 8) }
 
-    // A text that was read and is refused by the command: the line of its first refusal is printed.
-    ensures refused { result.status ≡ 2 → (command : CommandLine) × (bytes : List ℕ) × (refusal : Refusal)
+    // A text that was read and is refused by the command: the line of its first refusal is printed. A device that tells
+    // nothing may give back code that calls what isn't built.
+    ensures refused { result.status ≡ 2 → ((command : CommandLine) × (bytes : List ℕ) × (refusal : Refusal)
         × (command_of words.now ≡ Some command) × WasRead S.left deck.old deck.new bytes × (asked command bytes ≡ Refused refusal)
-        × Took K.taken printer.old printer.new (refusal_text refusal) }
+        × Took K.taken printer.old printer.new (refusal_text refusal)) ⊎ (B.holds backing.old ≡ None) }
 
     // The deck was read to its end, and the command's work is done: the whole text of its run is printed, at the halt at the
     // latest, or the text that it is to print.
     ensures done { result.status ≡ 0 → (command : CommandLine) × (bytes : List ℕ) × (text : List ℕ)
-        × (command_of words.now ≡ Some command) × GaveAll S.left deck.old deck.new bytes × IsDone (asked command bytes) text
+        × (command_of words.now ≡ Some command) × GaveAll S.left deck.old deck.new bytes
+        × IsDone (device_of B.holds B.size B.faults backing.old backing.new) (asked command bytes) text
         × Took K.taken printer.old printer.new text }
 
-    // The deck was read to its end, and its run halted: tasks live at the count of its halt, and the text up to there is
-    // printed, with the line of the halt behind it.
-    ensures halted { result.status ≡ 3 → (command : CommandLine) × (bytes : List ℕ) × (r : Run) × (text : List ℕ)
-        × (command_of words.now ≡ Some command) × GaveAll S.left deck.old deck.new bytes × (asked command bytes ≡ Runs r) × IsHalted r text
-        × Took K.taken printer.old printer.new text }
+    // The run halted: tasks live at the count of its halt, and the text up to there is printed, with the line of the halt
+    // behind it.
+    ensures halted { result.status ≡ 3 → (core : ℕ) × (p : Prepared) × (text : List ℕ) × IsRun words.now S.left deck.old deck.new core p
+        × (is_some p.0.halt ≡ true) × (B.holds backing.old ≢ None → IsHalted (run_of p) text) × Took K.taken printer.old printer.new text }
+
+    // Core is too small for the session that opens or for a step, or the device has too few sectors for it.
+    ensures core_wanted { result.status ≡ 4 → (core : ℕ) × (p : Prepared) × (text : List ℕ) × IsRun words.now S.left deck.old deck.new core p
+        × IsShortOfCore (device_of B.holds B.size B.faults backing.old backing.new) core p text × Took K.taken printer.old printer.new text }
+    ensures sectors_wanted { result.status ≡ 5 → (core : ℕ) × (p : Prepared) × (text : List ℕ) × IsRun words.now S.left deck.old deck.new core p
+        × IsShortOfSectors (device_of B.holds B.size B.faults backing.old backing.new) core p text × Took K.taken printer.old printer.new text }
 
     // A device failed.
+    ensures backing_fault { result.status ≡ 6 → Rose B.faults backing.old backing.new
+        × ((core : ℕ) × (p : Prepared) × (text : List ℕ) × IsRun words.now S.left deck.old deck.new core p
+        × IsFailedBy (device_of B.holds B.size B.faults backing.old backing.new) core p text × Took K.taken printer.old printer.new text) }
     ensures reading_fault { result.status ≡ 7 → Rose S.faults deck.old deck.new
         × Took K.taken printer.old printer.new reading_text }
-    ensures printing_fault { result.status ≡ 8 → Rose K.faults printer.old printer.new × ((status : ℕ) × (text : List ℕ)
-        × IsDue words.now S.left S.faults deck.old deck.new status text × TookPart K.taken printer.old printer.new text) }
+    ensures printing_fault { result.status ≡ 8 → Rose K.faults printer.old printer.new × ((text : List ℕ)
+        × (((status : ℕ) × IsDue words.now S.left S.faults deck.old deck.new (device_of B.holds B.size B.faults backing.old backing.new) result.machine status text)
+        ⊎ ((core : ℕ) × (p : Prepared) × IsRun words.now S.left deck.old deck.new core p
+        × IsPrinting (device_of B.holds B.size B.faults backing.old backing.new) core p result.machine text))
+        × TookPart K.taken printer.old printer.new text) }
 
-    // Memory was refused.
-    ensures memory { result.status ≡ 9 → Took K.taken printer.old printer.new memory_text }
+    // Memory was refused, and no session is open.
+    ensures memory { result.status ≡ 9 → (result.machine ≡ None) × Took K.taken printer.old printer.new memory_text }
 
-    // Where no count rises, the command and the deck decide, or memory was refused.
+    // The machine is that of a session that was opened. Where the run stopped with a task alive it stands for the session
+    // after as many steps as it counts.
+    ensures opened { (k : Machine) → result.machine ≡ Some k → (core : ℕ) × (p : Prepared) × IsRun words.now S.left deck.old deck.new core p
+        × HasRoom (device_of B.holds B.size B.faults backing.old backing.new) core p }
+    ensures stands { (k : Machine) → result.machine ≡ Some k → B.holds backing.old ≢ None → 3 ≤ result.status → result.status ≤ 6
+        → (core : ℕ) × (p : Prepared) × IsRun words.now S.left deck.old deck.new core p × StopsAt (B.holds backing.new) (run_of p).session k }
+
+    // Where no count rises, core and device suffice and the device tells what its sectors hold, the command and the deck
+    // decide, or memory was refused.
     ensures complete { (command : CommandLine) → (bytes : List ℕ) → S.left deck.old ≡ Some bytes → command_of words.now ≡ Some command
-        → Stayed S.faults deck.old deck.new → Stayed K.faults printer.old printer.new
+        → IsAmple (device_of B.holds B.size B.faults backing.old backing.new) command bytes
+        → Stayed S.faults deck.old deck.new → Stayed K.faults printer.old printer.new → Stayed B.faults backing.old backing.new
         → (result.status ≡ judged_status (asked command bytes)) ⊎ (result.status ≡ 9) }
 {
-    Outcome {
-        status: answer(alloc, words, deck, printer),
-    }
+    answer(alloc, words, deck, printer, backing)
 }

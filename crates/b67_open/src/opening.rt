@@ -1,6 +1,7 @@
 //! Opening a session.
 
-ghost use Rattle.std.specs.Prelude.{◌≡◌, ◌+◌, ◌<◌, ◌≤◌, ◌^◌, IfOk, length, map};
+ghost use Rattle.std.specs.Prelude.{◌≡◌, ◌+◌, ◌<◌, ◌≤◌, ◌^◌, IfOk, OnOk, length, map};
+ghost use Rattle.b67_backing.specs.Held.{Changes};
 ghost use Rattle.b67_codefile.specs.Meaning.{program_of};
 ghost use Rattle.b67_model.specs.Lists.{Has};
 ghost use Rattle.b67_task.specs.declared.tables.JobRow.{JobRow};
@@ -34,6 +35,7 @@ pub fn open<B: Backing>(
     requires core_low { 256 ≤ core_words }
     requires core_high { core_words < 2 ^ 20 }
     ensures opens { IsOpened B.holds B.size B.faults deck.now (map program_of programs.now) core_words backing.old backing.new result }
+    ensures tells { OnOk result (Changes B.holds backing.old backing.new (λ before after. length after ≡ length before)) }
     ensures size { B.size backing.new ≡ B.size backing.old }
     ensures count { IfOk result (λ k. length k.sectors.links ≡ B.size backing.old + 1) }
     ensures countable { IfOk result (λ k. (r : JobRow) → Has k.tasks.jobs r → length r.numbers < 2 ^ 32) }

@@ -3,7 +3,7 @@ use Rattle.b67_codefile.specs.Meaning.{program_of}
 use Rattle.std.specs.List.{slice_get}
 use Rattle.std.proofs.lemmas.List.{length-map}
 use Rattle.b67_stack.specs.declared.Cpu.{Cpu}
-use Rattle.b67_initial.proofs.Opens.{each_is, laid_out, opens}
+use Rattle.b67_initial.proofs.Opens.{each_is, laid_out, opens, still_tells}
 use Rattle.b67_initial.proofs.opening.set_up.Goals as goal
 
 pub returns-clause-opens : goal.returns-clause-opens
@@ -20,3 +20,8 @@ returns-clause-opens g c =
     c.lay_core-areas.ensures.areas c.lay_core-areas.ensures.directory c.lay_core-areas.ensures.len (omega (arith, c.requires.inside, c.in_ok-stacks.ensures.end, c.install_all.ensures.spares.len))
     (λ k h. ap (λ (z : Cpu). slice_get z.critical k) c.install_all.ensures.cpu ∙ each_is 0 120 k h)
     c.idle_registers-cpu.ensures.slot c.idle_registers-cpu.ensures.stacks c.idle_registers-cpu.ensures.size c.idle_registers-cpu.ensures.peak)
+
+pub returns-clause-tells : goal.returns-clause-tells
+returns-clause-tells g c =
+    let known = c.requires.known in
+    still_tells g.B.Backing.holds c.args.backing.now c.install_all.new.backing known.0.free (c.install_all.ensures.spares.others known.0 known.1)

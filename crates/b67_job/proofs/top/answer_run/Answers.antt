@@ -1,8 +1,22 @@
-use Rattle.b67_job.proofs.Judged.{served_deck, served_refusal}
+use Rattle.b67_ends.specs.Device.{device_of}
+use Rattle.b67_job.specs.declared.command.CommandLine.TheVariants as lines
+use Rattle.b67_job.proofs.Served.{loaded_in_range, served_deck, served_refusal, without}
 use Rattle.b67_job.proofs.top.answer_run.Goals as goal
 
+pub answer_deck-requires-clause-range : goal.answer_deck-requires-clause-range
+answer_deck-requires-clause-range g c = (loaded_in_range g.S.Source.left g.S.Source.faults c.args.deck.now c.admit.new.source c.in-Ok.loaded c.in-Ok.ensures.answer).0
+
+pub answer_deck-requires-clause-each : goal.answer_deck-requires-clause-each
+answer_deck-requires-clause-each g c = (loaded_in_range g.S.Source.left g.S.Source.faults c.args.deck.now c.admit.new.source c.in-Ok.loaded c.in-Ok.ensures.answer).1
+
 pub returns-in-Ok : goal.returns-in-Ok
-returns-in-Ok g c = served_deck c.args.core c.in-Ok.loaded c.answer_deck.result c.in-Ok.ensures.answer c.answer_deck.ensures
+returns-in-Ok g c =
+    served_deck (device_of g.B.Backing.holds g.B.Backing.size g.B.Backing.faults c.args.backing.now c.answer_deck.new.backing) c.args.core c.in-Ok.loaded c.answer_deck.result.machine c.answer_deck.result.status
+    c.in-Ok.ensures.answer c.answer_deck.ensures
 
 pub returns-in-Err : goal.returns-in-Err
-returns-in-Err g c = served_refusal c.args.core c.in-Err.fault c.refuse_program.result c.in-Err.ensures.answer c.refuse_program.ensures
+returns-in-Err g c = λ words e.
+    let d = device_of g.B.Backing.holds g.B.Backing.size g.B.Backing.faults c.args.backing.now c.args.backing.now in
+    without words g.S.Source.left g.S.Source.faults c.args.deck.now c.admit.new.source d g.K.Sink.taken g.K.Sink.faults c.args.printer.now c.refuse_program.new.printer
+    c.without_machine.result.machine c.without_machine.result.status c.refuse_program.result c.without_machine.ensures.machine c.without_machine.ensures.status
+    (served_refusal d c.args.core c.in-Err.fault c.refuse_program.result c.in-Err.ensures.answer c.refuse_program.ensures words e)

@@ -1,0 +1,4 @@
+pub mod Stays
+pub mod Opened
+pub mod Ran
+pub mod Decks

@@ -1,0 +1,12 @@
+use Rattle.b67_deck.proofs.runs.run_job.Goals as goal
+
+pub returns-clause-ran : goal.returns-clause-ran
+returns-clause-ran g c = λ known s m t says lone. record {
+  answered = c.slice-answered.result;
+  between = c.slice-answered.new.paper;
+  slices = c.slice-answered.ensures.row known s m t says lone;
+  finishes = c.finish.ensures;
+  device_failed = c.slice-answered.ensures.backing_cause;
+  printer_failed = c.slice-answered.ensures.print_cause;
+  later = c.slice-answered.ensures.later;
+}

@@ -1,0 +1,109 @@
+-- The status of a call for which core, the device and the printer suffice.
+use Rattle.std.proofs.Common.{◌≡◌, ◌≢◌, ◌≤◌, ◌<◌, ◌+◌, ◌⊎◌, inl, inr, true, false, ℕ, List, length, ◌++◌, refl, sym, ap, ◌∙◌, subst, arith, Option, Some, None}
+use Rattle.std.specs.Prelude.{is_some}
+use Rattle.std.proofs.lemmas.Bool.{false≢true}
+use Rattle.std.proofs.lemmas.List.{length-append}
+use denote.Ref.{Bor}
+use Rattle.b67_io.specs.Causes.{Stayed}
+use Rattle.b67_text.specs.Deck.{limit}
+use Rattle.b67_task.specs.declared.tables.Machine.{Machine}
+use Rattle.b67_admit.specs.Admitting.{Prepared}
+use Rattle.b67_commands.specs.Verdicts.{Verdict}
+use Rattle.b67_commands.proofs.Judged.{check_long, asm_long}
+use Rattle.b67_lines.specs.Ends.{Ends, whole, cut}
+use Rattle.b67_lines.specs.Stops.{IsFinished, IsHalted}
+use Rattle.b67_lines.proofs.Statuses.{finished-status, halted-status}
+use Rattle.b67_ends.specs.Device.{Device, Tells, Worked}
+use Rattle.b67_ends.specs.Runs.{run_of, IsDone, IsHaltedAt, memory_refused, opening_wants_core, opening_wants_sectors, opening_fails, all_end, halt_comes, step_wants_core, step_wants_sectors, step_fails, code_is_strange, RunStops, unopened, opened}
+use Rattle.b67_job.specs.Command.{command_of}
+use Rattle.b67_job.specs.declared.command.CommandLine.{CommandLine}
+use Rattle.b67_job.specs.declared.command.CommandLine.TheVariants as lines
+use Rattle.b67_job.specs.Judgement.{Judgement, Runs, printed, asked, judgement, judged_status}
+use Rattle.b67_job.specs.Due.{WasRead, IsRun, IsDue, usage_due, refusal_due, print_due, run_due, reading_due, memory_due, Answered, answered, cut_in_step, Suffices, IsAmple}
+use Rattle.b67_job.proofs.Served.{judged_long}
+
+-- the text of a run that is done or halts, as the run alone gives it
+pub is_finished : (p : Prepared) (k : Machine) (text : List ℕ) → IsDone (run_of p) k text → IsFinished (run_of p) text
+is_finished p k text d = record { steps = k.tasks.made; within = d.within; over = d.over; printed = d.printed }
+
+pub is_halted : (told : Option (List (List ℕ))) (p : Prepared) (k : Machine) (text : List ℕ) → IsHaltedAt told (run_of p) k text → IsHalted (run_of p) text
+is_halted told p k text h = record { count = k.tasks.made; halt = h.halt; lives = h.lives; printed = h.printed }
+
+-- ---- texts that begin alike past the limit are judged alike
+
+long_status : (command : CommandLine) (text : List ℕ) → limit < length text → judged_status (asked command text) ≡ 2
+long_status (lines.Run core) text long = ap judged_status (judged_long text long)
+long_status lines.Asm text long = ap (λ (v : Verdict). judged_status (printed v)) (asm_long text long)
+long_status lines.Check text long = ap (λ (v : Verdict). judged_status (printed v)) (check_long text long)
+
+read_status : {S : Type 0} {left : S → Option (List ℕ)} {deck deck' : S} (command : CommandLine) (bytes told : List ℕ) → left deck ≡ Some told → WasRead left deck deck' bytes
+    → judged_status (asked command told) ≡ judged_status (asked command bytes)
+read_status command bytes told e (inl all) = ap (λ (text : List ℕ). judged_status (asked command text)) (all.told told e).0
+read_status command bytes told e (inr front) =
+    let f = front.0.told told e in
+    let long = front.1 in
+    let longer : limit < length told = rw f.1 (omega (arith, length-append bytes f.0)) in
+    long_status command told longer ∙ sym (long_status command bytes long)
+
+-- ---- the status that is due
+
+same_command : (o : Option CommandLine) (a b : CommandLine) → o ≡ Some a → o ≡ Some b → a ≡ b
+same_command o a b e f = cc
+
+core_of : CommandLine → ℕ
+core_of (lines.Run core) = core
+core_of lines.Asm = 0
+core_of lines.Check = 0
+
+run_status_is : (d : Device) (core : ℕ) (p : Prepared) (machine : Option Machine) (status : ℕ) (text : List ℕ) → Tells d → Suffices d core p → Worked d → RunStops d core p machine status text
+    → (status ≡ judged_status (Runs p)) ⊎ (status ≡ 9)
+run_status_is d core p machine status text tells ample worked (unopened none (memory_refused s t)) = inr s
+run_status_is d core p machine status text tells ample worked (unopened none (opening_wants_core more s t)) = let room = ample.room.0 in absurd (omega (arith, more, room))
+run_status_is d core p machine status text tells ample worked (unopened none (opening_wants_sectors fits more s t)) = let room = ample.room.1 in absurd (omega (arith, more, room))
+run_status_is d core p machine status text tells ample worked (unopened none (opening_fails room failed s t)) = absurd (omega (arith, failed, worked))
+run_status_is d core p machine status text tells ample worked (opened k is room (all_end s h)) = inl (s ∙ sym (finished-status (run_of p) text (is_finished p k text (h tells))))
+run_status_is d core p machine status text tells ample worked (opened k is room (halt_comes s some h)) = inl (s ∙ sym (halted-status (run_of p) text (is_halted d.now p k text (h tells))))
+run_status_is d core p machine status text tells ample worked (opened k is room (step_wants_core s h)) =
+    let w = h tells in
+    let less = ample.core_suffices k.tasks.made w.stop.member w.stop.task w.stop.lone.single in
+    let more = w.exceeds in
+    absurd (omega (arith, more, less))
+run_status_is d core p machine status text tells ample worked (opened k is room (step_wants_sectors s h)) =
+    let w = h tells in
+    let less = ample.sectors_suffice k.tasks.made in
+    let more = w.exceeds in
+    absurd (omega (arith, more, less))
+run_status_is d core p machine status text tells ample worked (opened k is room (step_fails s failed h)) = absurd (omega (arith, failed, worked))
+run_status_is d core p machine status text tells ample worked (opened k is room (code_is_strange s h)) = absurd (h tells)
+
+commanded : (words : List (Bor (List ℕ))) (command : CommandLine) → command_of words ≡ Some command → is_some (command_of words) ≡ true
+commanded words command e = ap is_some e
+
+module _ {S : Type 0} {words : List (Bor (List ℕ))} {left : S → Option (List ℕ)} {source_faults : S → ℕ} {deck deck' : S} {d : Device} {machine : Option Machine} where
+  due_status : {status : ℕ} {text : List ℕ} (command : CommandLine) (told : List ℕ) → left deck ≡ Some told → command_of words ≡ Some command → IsAmple d command told → Worked d → Stayed source_faults deck deck'
+      → IsDue words left source_faults deck deck' d machine status text → (status ≡ judged_status (asked command told)) ⊎ (status ≡ 9)
+  due_status command told e is ample worked stayed (usage_due c g m s t) = absurd (false≢true (sym c ∙ commanded words command is))
+  due_status command told e is ample worked stayed (refusal_due other b refusal c r j m s t) =
+      let same : other ≡ command = same_command (command_of words) other command c is in
+      inl (s ∙ sym (ap (λ (x : CommandLine). judged_status (asked x told)) (sym same) ∙ read_status other b told e r ∙ ap judged_status j))
+  due_status command told e is ample worked stayed (print_due other b c r j m s) =
+      let same : other ≡ command = same_command (command_of words) other command c is in
+      inl (s ∙ sym (ap (λ (x : CommandLine). judged_status (asked x told)) (sym same) ∙ read_status other b told e (inl r) ∙ ap judged_status j))
+  due_status {status = status} {text = text} command told e is ample worked stayed (run_due core p run stops) =
+      let same : lines.Run core ≡ command = same_command (command_of words) (lines.Run core) command run.command is in
+      let all : told ≡ run.bytes = (run.read.told told e).0 in
+      let judged : judgement told ≡ Runs p = ap judgement all ∙ run.judged in
+      let ample' = subst (λ (x : CommandLine). IsAmple d x told) (sym same) ample in
+      subst (λ (x : CommandLine). (status ≡ judged_status (asked x told)) ⊎ (status ≡ 9)) same
+      (subst (λ (j : Judgement). (status ≡ judged_status j) ⊎ (status ≡ 9)) (sym judged)
+      (run_status_is d core p machine status text ample'.0 (ample'.1 p judged) worked stops))
+  due_status command told e is ample worked stayed (reading_due c r m s t) = absurd (omega (arith, r, stayed))
+  due_status command told e is ample worked stayed (memory_due c m s t) = inr s
+
+  pub completed : {K : Type 0} (taken : K → Option (List ℕ)) (faults : K → ℕ) (old new : K) (answer : ℕ) (command : CommandLine) (told : List ℕ) → left deck ≡ Some told → command_of words ≡ Some command
+      → IsAmple d command told → Stayed source_faults deck deck' → Stayed faults old new → Worked d → Answered words left source_faults deck deck' d machine taken faults old new answer
+      → (answer ≡ judged_status (asked command told)) ⊎ (answer ≡ 9)
+  completed taken faults old new answer command told e is ample stayed calm worked (answered status text due (whole a took)) =
+      subst (λ (n : ℕ). (n ≡ judged_status (asked command told)) ⊎ (n ≡ 9)) (sym a) (due_status command told e is ample worked stayed due)
+  completed taken faults old new answer command told e is ample stayed calm worked (answered status text due (cut a rose part)) = absurd (omega (arith, rose, calm))
+  completed taken faults old new answer command told e is ample stayed calm worked (cut_in_step core p text run printing a rose part) = absurd (omega (arith, rose, calm))

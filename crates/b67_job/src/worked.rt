@@ -1,0 +1,338 @@
+//! Worked runs, with the lines that the rules give.
+
+use crate::run;
+use crate::tests::{bytes_of, numbers_of};
+use b67_backing::{Backing, HonestBacking, MemoryBacking};
+use b67_ends::Outcome;
+use b67_io::{Paper, Tape};
+use std::alloc::{AllocError, Global};
+use std::process::Abort;
+use std::test::Fail;
+
+/// Jensen's device: the sum of the squares of 1 to 10.
+const JENSEN: &str =
+    "?JOB JENSEN\n?ASM\nSEGMENT MAIN 2\nZERO\nMPCW SUM\nMPCW SQ\nMPCW IREF\nMKST\nNAMC 0,9\nMKST\nNAMC 2,3\nNAMC 2,5\nSTFF\nNAMC 2,4\nSTFF\nENTR\nENTR\nEXIT\nSEGMENT SUM 3\nZERO\nONE\nNAMC 3,2\nSTOD\nL: VALC 3,2\nLT8 10\nGRTR\nBRTR D\nVALC 3,4\nVALC 3,3\nADD\nNAMC 3,4\nSTOD\nVALC 3,2\nONE\nADD\nNAMC 3,2\nSTOD\nBRUN L\nD: VALC 3,4\nRETN\nSEGMENT SQ 3\nVALC 2,2\nVALC 2,2\nMULT\nRETN\nSEGMENT IREF 3\nNAMC 2,2\nSTFF\nRETN\n?END\n";
+
+/// Man or boy, with k of 8.
+const MANBOY: &str =
+    "?JOB MANBOY\n?ASM\nSEGMENT MAIN 2\nMPCW A\nMKST\nNAMC 0,9\nMKST\nNAMC 2,2\nLT8 8\nONE\nONE\nCHSN\nONE\nCHSN\nONE\nZERO\nENTR\nENTR\nEXIT\nSEGMENT A 3\nMPCW B\nVALC 3,2\nZERO\nGRTR\nBRTR C\nVALC 3,6\nVALC 3,7\nADD\nRETN\nC: MKST\nNAMC 3,8\nENTR\nRETN\nSEGMENT B 4\nVALC 3,2\nONE\nSUBT\nNAMC 3,2\nSTOD\nMKST\nNAMC 2,2\nVALC 3,2\nNAMC 3,8\nSTFF\nNAMC 3,3\nSTFF\nNAMC 3,4\nSTFF\nNAMC 3,5\nSTFF\nNAMC 3,6\nSTFF\nENTR\nRETN\n?END\n";
+
+/// Three calls whose arrays live in turn beside the first one.
+const LEAVE: &str =
+    "?JOB LEAVE\n?ASM\nSEGMENT MAIN 2\nMPCW P\nMKST\nNAMC 0,8\nLT8 200\nENTR\nMKST\nNAMC 2,2\nENTR\nMKST\nNAMC 2,2\nENTR\nMKST\nNAMC 2,2\nENTR\nMKST\nNAMC 0,9\nNAMC 2,3\nZERO\nNXLV\nENTR\nEXIT\nSEGMENT P 3\nMKST\nNAMC 0,8\nLT8 200\nENTR\nONE\nNAMC 3,2\nZERO\nINDX\nSTOD\nNAMC 2,3\nZERO\nNXLV\nNAMC 3,2\nZERO\nNXLV\nADD\nNAMC 2,3\nZERO\nINDX\nSTOD\nEXIT\n?END\n";
+
+/// Two arrays, of which core has room for one.
+const TWO: &str =
+    "?JOB TWO\n?ASM\nSEGMENT MAIN 2\nMKST\nNAMC 0,8\nLT8 200\nENTR\nMKST\nNAMC 0,8\nLT8 200\nENTR\nNAMC 2,2\nLT8 5\nINDX\nNAMC 2,3\nLT8 6\nINDX\nLT8 11\nNAMC 2,4\nSTOD\nLT8 12\nNAMC 2,5\nSTOD\nMKST\nNAMC 0,9\nVALC 2,4\nVALC 2,5\nADD\nENTR\nEXIT\n?END\n";
+
+/// Three segments of which no two fit in 27 words.
+const SMALL: &str =
+    "?JOB A\n?ASM\nSEGMENT MAIN 2\nMPCW P\nMPCW Q\nMKST\nNAMC 2,2\nENTR\nMKST\nNAMC 2,3\nENTR\nEXIT\nSEGMENT P 3\nNOOP\nNOOP\nNOOP\nNOOP\nNOOP\nNOOP\nNOOP\nNOOP\nNOOP\nNOOP\nNOOP\nNOOP\nNOOP\nNOOP\nNOOP\nNOOP\nNOOP\nNOOP\nNOOP\nNOOP\nNOOP\nNOOP\nNOOP\nNOOP\nNOOP\nNOOP\nNOOP\nNOOP\nNOOP\nNOOP\nNOOP\nNOOP\nNOOP\nNOOP\nNOOP\nNOOP\nNOOP\nNOOP\nNOOP\nNOOP\nNOOP\nNOOP\nNOOP\nNOOP\nNOOP\nNOOP\nNOOP\nNOOP\nNOOP\nNOOP\nNOOP\nNOOP\nNOOP\nNOOP\nNOOP\nNOOP\nNOOP\nNOOP\nNOOP\nNOOP\nEXIT\nSEGMENT Q 3\nNOOP\nNOOP\nNOOP\nNOOP\nNOOP\nNOOP\nNOOP\nNOOP\nNOOP\nNOOP\nNOOP\nNOOP\nNOOP\nNOOP\nNOOP\nNOOP\nNOOP\nNOOP\nNOOP\nNOOP\nNOOP\nNOOP\nNOOP\nNOOP\nNOOP\nNOOP\nNOOP\nNOOP\nNOOP\nNOOP\nNOOP\nNOOP\nNOOP\nNOOP\nNOOP\nNOOP\nNOOP\nNOOP\nNOOP\nNOOP\nNOOP\nNOOP\nNOOP\nNOOP\nNOOP\nNOOP\nNOOP\nNOOP\nNOOP\nNOOP\nNOOP\nNOOP\nNOOP\nNOOP\nNOOP\nNOOP\nNOOP\nNOOP\nNOOP\nNOOP\nEXIT\n?END\n";
+
+/// Runs a deck of these cards and this job in so much core over a backing. What is printed, and the outcome.
+fn run_over<B: Backing>(
+    alloc: Global,
+    core: &str,
+    cards: &str,
+    job: &str,
+    backing: &mut B,
+) -> Result<(Vec<u8>, Outcome), AllocError> {
+    let mut deck = bytes_of(alloc, cards.as_bytes())?;
+    deck.extend(job.as_bytes())?;
+    let mut tape = Tape::new(deck, 4096, numbers_of(alloc, &[])?);
+    let mut paper = Paper::new(alloc, 1000, numbers_of(alloc, &[])?)?;
+    let words = ["run", "--core", core, "--backing", "b"];
+    let outcome = run(alloc, &words, &mut tape, &mut paper, backing);
+    Ok((Vec::from_slice(alloc, paper.bytes())?, outcome))
+}
+
+/// Core, sectors, the run's cards, the job, the status and the lines.
+type Row = (&'static str, u32, &'static str, &'static str, u8, &'static str);
+
+fn check_rows(rt: &impl Abort, alloc: Global, rows: &[Row]) -> Result<(), Fail> {
+    for (core, sectors, cards, job, status, lines) in rows {
+        let mut backing = HonestBacking::new(alloc, (*sectors).clamp(1, 65_536))?;
+        let (printed, outcome) = run_over(alloc, core, cards, job, &mut backing)?;
+        assert_eq!(rt; printed.as_slice(), lines.as_bytes(), "{cards}{job}");
+        assert_eq!(rt; outcome.status, *status, "{cards}{job}");
+    }
+    Ok(())
+}
+
+// Numbers, limits and numbers for READ.
+#[test]
+fn arithmetic(rt: HostRuntime) -> Result<(), Fail> {
+    let rows = [
+        (
+            "4096",
+            4096,
+            "",
+            "?JOB A\n?ASM\nSEGMENT MAIN 2\nMKST\nNAMC 0,9\nLT48 549755813887\nENTR\nMKST\nNAMC 0,9\nZERO\nCHSN\nENTR\nLT48 549755813887\nONE\nADD\nEXIT\n?END\n",
+            0,
+            "1.1 549755813887\n1.1 0\n1.1 INTEGER OVERFLOW\n",
+        ),
+        (
+            "4096",
+            4096,
+            "",
+            "?JOB A\n?ASM\nSEGMENT MAIN 2\nZERO\nLNOT\nONE\nADD\nEXIT\n?END\n",
+            0,
+            "1.1 EXPONENT\n",
+        ),
+        (
+            "677",
+            4096,
+            "",
+            "?JOB A\n?ASM\nSEGMENT MAIN 2\nZERO\nLNOT\nONE\nADD\nEXIT\n?END\n",
+            4,
+            "NO CORE 678 677\n",
+        ),
+        (
+            "674",
+            4096,
+            "",
+            "?JOB A\n?ASM\nSEGMENT MAIN 2\nZERO\nLNOT\nONE\nADD\nEXIT\n?END\n",
+            4,
+            "NO CORE 675 674\n",
+        ),
+        (
+            "4096",
+            4096,
+            "",
+            "?JOB A\n?ASM\nSEGMENT MAIN 2\nMKST\nNAMC 0,9\nLT8 7\nCHSN\nLT8 2\nIDIV\nENTR\nMKST\nNAMC 0,9\nLT8 7\nCHSN\nLT8 2\nRDIV\nENTR\nMKST\nNAMC 0,9\nLT8 165\nISOL 7,4\nENTR\nONE\nZERO\nIDIV\nEXIT\n?END\n",
+            0,
+            "1.1 -3\n1.1 -1\n1.1 10\n1.1 DIVIDE BY ZERO\n",
+        ),
+        (
+            "4096",
+            4096,
+            "",
+            "?JOB A\n?LIMIT 5\n?ASM\nSEGMENT MAIN 2\nL: BRUN L\n?END\n",
+            0,
+            "1.1 LIMIT\n",
+        ),
+        (
+            "4096",
+            4096,
+            "",
+            "?JOB A\n?ASM\nSEGMENT MAIN 2\nMKST\nNAMC 0,9\nMKST\nNAMC 0,11\nENTR\nMKST\nNAMC 0,11\nENTR\nADD\nENTR\nMKST\nNAMC 0,9\nMKST\nNAMC 0,11\nENTR\nLT48 #800000000000\nSAME\nENTR\nEXIT\n?DATA\n7 -2\n?END\n",
+            0,
+            "1.1 5\n1.1 1\n1.1 ENDED\n",
+        ),
+    ];
+    check_rows(&rt, rt.alloc(), &rows)
+}
+
+// Procedures, references and accidental entry.
+#[test]
+fn procedures(rt: HostRuntime) -> Result<(), Fail> {
+    let rows = [
+        (
+            "4096",
+            4096,
+            "",
+            JENSEN,
+            0,
+            "1.1 385\n1.1 ENDED\n",
+        ),
+        (
+            "32768",
+            4096,
+            "?STACK 16383\n",
+            MANBOY,
+            0,
+            "1.1 -10\n1.1 ENDED\n",
+        ),
+        (
+            "4096",
+            4096,
+            "",
+            "?JOB A\n?ASM\nSEGMENT MAIN 2\nLT8 7\nMPCW P\nMPCW Q\nMKST\nNAMC 0,9\nMKST\nNAMC 2,4\nENTR\nLOAD\nENTR\nMKST\nNAMC 2,3\nENTR\nEXIT\nSEGMENT P 3\nONE\nNAMC 3,2\nSTFF\nRETN\nSEGMENT Q 3\nNAMC 2,2\nSTFF\nRETN\n?END\n",
+            0,
+            "1.1 7\n1.1 UPLEVEL\n",
+        ),
+        (
+            "4096",
+            4096,
+            "",
+            "?JOB A\n?ASM\nSEGMENT MAIN 2\nZERO\nMKST\nVALC 2,3\nEXIT\n?END\n",
+            0,
+            "1.1 INVALID ADDRESS\n",
+        ),
+        (
+            "4096",
+            4096,
+            "",
+            "?JOB A\n?ASM\nSEGMENT MAIN 2\nMPCW P\nMKST\nNAMC 0,9\nMKST\nNAMC 2,2\nLT8 4\nENTR\nENTR\nEXIT\nSEGMENT P 3\nONE\nRETN\n?END\n",
+            0,
+            "1.1 1\n1.1 ENDED\n",
+        ),
+        (
+            "4096",
+            4096,
+            "",
+            "?JOB A\n?ASM\nSEGMENT MAIN 2\nNAMC 2,2\nMKST\nNAMC 2,2\nENTR\nEXIT\n?END\n",
+            0,
+            "1.1 LOOP\n",
+        ),
+        (
+            "4096",
+            4096,
+            "",
+            "?JOB A\n?ASM\nSEGMENT MAIN 2\nNAMC 2,2\nVALC 2,2\nEXIT\n?END\n",
+            0,
+            "1.1 LOOP\n",
+        ),
+        (
+            "4096",
+            4096,
+            "",
+            "?JOB A\n?ASM\nSEGMENT MAIN 2\nMPCW Q\nMKST\nNAMC 2,2\nENTR\nEXIT\nSEGMENT Q 3\nONE\nNAMC 3,2\nSTFF\nRETN\n?END\n",
+            0,
+            "1.1 UPLEVEL\n",
+        ),
+        (
+            "4096",
+            4096,
+            "",
+            "?JOB A\n?ASM\nSEGMENT MAIN 2\nMPCW P\nMKST\nNAMC 2,2\nMPCW P\nENTR\nEXIT\nSEGMENT P 3\nMKST\nNAMC 3,2\nENTR\nEXIT\n?END\n",
+            0,
+            "1.1 INVALID OPERAND\n",
+        ),
+    ];
+    check_rows(&rt, rt.alloc(), &rows)
+}
+
+// Arrays, and segments that share little core.
+#[test]
+fn paging(rt: HostRuntime) -> Result<(), Fail> {
+    let rows = [
+        (
+            "4096",
+            4096,
+            "",
+            "?JOB A\n?ASM\nSEGMENT MAIN 2\nMKST\nNAMC 0,8\nLT8 100\nENTR\nMKST\nNAMC 0,9\nNAMC 2,2\nLT8 99\nNXLV\nENTR\nNAMC 2,2\nLT8 100\nNXLV\nEXIT\n?END\n",
+            0,
+            "1.1 0\n1.1 INVALID INDEX\n",
+        ),
+        (
+            "4096",
+            4096,
+            "",
+            "?JOB A\n?ASM\nSEGMENT MAIN 2\nMKST\nNAMC 0,8\nLT8 12\nENTR\nLT8 5\nNAMC 2,2\nLT8 10\nINDX\nSTOD\nMKST\nNAMC 0,10\nNAMC 2,2\nLOAD\nENTR\nEXIT\n?END\n",
+            0,
+            "1.1 0 0 0 0 0 0 0 0 0 0\n1.1 5 0\n1.1 ENDED\n",
+        ),
+        (
+            "533",
+            4096,
+            "?STACK 256\n",
+            "?JOB A\n?HEX\n423637434f4445310001000002000a\n0003ae4008b264ab0003ae40095002b2000363adaba3ffff\n0003ffffffffffff0003ffffffffffff0003ffffffffffff0003ffffffffffff\n0003ffffffffffff0003ffffffffffff0003ffffffffffff\n?END\n",
+            0,
+            "1.1 0\n1.1 ENDED\n",
+        ),
+        (
+            "532",
+            4096,
+            "?STACK 256\n",
+            "?JOB A\n?HEX\n423637434f4445310001000002000a\n0003ae4008b264ab0003ae40095002b2000363adaba3ffff\n0003ffffffffffff0003ffffffffffff0003ffffffffffff0003ffffffffffff\n0003ffffffffffff0003ffffffffffff0003ffffffffffff\n?END\n",
+            4,
+            "NO CORE 533 532\n",
+        ),
+        (
+            "631",
+            16,
+            "?STACK 256\n",
+            LEAVE,
+            0,
+            "1.1 3\n1.1 ENDED\n",
+        ),
+        (
+            "631",
+            15,
+            "?STACK 256\n",
+            LEAVE,
+            5,
+            "BACKING FULL 16 15\n",
+        ),
+        (
+            "630",
+            4096,
+            "?STACK 256\n",
+            TWO,
+            0,
+            "1.1 23\n1.1 ENDED\n",
+        ),
+        (
+            "629",
+            4096,
+            "?STACK 256\n",
+            TWO,
+            4,
+            "NO CORE 630 629\n",
+        ),
+        (
+            "630",
+            15,
+            "?STACK 256\n",
+            TWO,
+            0,
+            "1.1 23\n1.1 ENDED\n",
+        ),
+        (
+            "630",
+            14,
+            "?STACK 256\n",
+            TWO,
+            5,
+            "BACKING FULL 15 14\n",
+        ),
+        (
+            "256",
+            4096,
+            "?STACK 64\n",
+            SMALL,
+            0,
+            "1.1 ENDED\n",
+        ),
+        (
+            "256",
+            2,
+            "?STACK 64\n",
+            SMALL,
+            5,
+            "BACKING FULL 3 2\n",
+        ),
+    ];
+    check_rows(&rt, rt.alloc(), &rows)
+}
+
+// Three segments in 27 words, halted at the second operator: the machine is there, and has counted so.
+#[test]
+fn halted_machine(rt: HostRuntime) -> Result<(), Fail> {
+    let alloc = rt.alloc();
+    let mut backing = HonestBacking::new(alloc, 4096)?;
+    let job = SMALL;
+    let cards = "?STACK 64\n?HALT 2\n";
+    let (printed, outcome) = run_over(alloc, "256", cards, job, &mut backing)?;
+    assert_eq!(rt; outcome.status, 3);
+    assert_eq!(rt; printed.as_slice(), b"HALTED 2\n".as_slice());
+    assert_eq!(rt; outcome.machine.as_ref().map(|k| k.tasks.made), Some(2));
+    Ok(())
+}
+
+// The third write, which brings an array out, fails; and the first one, which opening makes.
+#[test]
+fn backing_fails(rt: HostRuntime) -> Result<(), Fail> {
+    let alloc = rt.alloc();
+    for (write, opened) in [(1, false), (3, true)] {
+        let fails = numbers_of(alloc, &[write])?;
+        let none = numbers_of(alloc, &[])?;
+        let mut backing = MemoryBacking::new(alloc, 4096, none, fails)?;
+        let (printed, outcome) = run_over(alloc, "630", "?STACK 256\n", TWO, &mut backing)?;
+        assert_eq!(rt; outcome.status, 6);
+        assert_eq!(rt; printed.as_slice(), b"BACKING FAULT\n".as_slice());
+        assert_eq!(rt; outcome.machine.is_some(), opened);
+    }
+    Ok(())
+}

@@ -1,6 +1,0 @@
-pub mod Stack
-pub mod Listed
-pub mod Served
-pub mod Frames
-pub mod Lone
-pub mod Printing
