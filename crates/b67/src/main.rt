@@ -1,8 +1,10 @@
-//! The program: it reads a deck from standard input and prints to standard output.
+//! The program: it reads a deck from standard input, prints to standard output and pages to the file of its words.
 #![tactic(auto)]
 
+use b67_backing::{FileBacking, MemoryBacking};
 use b67_io::{StdSink, StdSource};
-use b67_job::{Outcome, refuse_memory, run};
+use b67_job::{Outcome, backing_path, refuse_memory, run};
+use b67_word::Numbers;
 use std::alloc::Global;
 use std::io;
 use std::process::ExitCode;
@@ -23,6 +25,7 @@ fn words(rt: &HostRuntime) -> io::Result<Vec<String>> {
     Ok(words)
 }
 
+// Calls `run` over the file that the words name, or over sectors in memory where they name none.
 fn run_words(rt: &HostRuntime, alloc: Global, owned: &[String]) -> Option<Outcome> {
     let mut words = Vec::new(alloc);
     for word in owned {
@@ -30,7 +33,29 @@ fn run_words(rt: &HostRuntime, alloc: Global, owned: &[String]) -> Option<Outcom
     }
     let mut deck = StdSource::new(rt.stdin());
     let mut printer = StdSink::new(rt.stdout());
-    Some(run(alloc, words.as_slice(), &mut deck, &mut printer))
+    match backing_path(words.as_slice()) {
+        Some(path) => {
+            let mut backing = FileBacking::at(rt, path);
+            Some(run(
+                alloc,
+                words.as_slice(),
+                &mut deck,
+                &mut printer,
+                &mut backing,
+            ))
+        }
+        None => {
+            let none = Numbers::new(alloc);
+            let mut backing = MemoryBacking::new(alloc, 4096, none, Numbers::new(alloc)).ok()?;
+            Some(run(
+                alloc,
+                words.as_slice(),
+                &mut deck,
+                &mut printer,
+                &mut backing,
+            ))
+        }
+    }
 }
 
 fn main(rt: HostRuntime) -> ExitCode {

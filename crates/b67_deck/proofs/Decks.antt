@@ -1,5 +1,5 @@
 -- The run of a deck of no job or of one.
-use Rattle.std.proofs.Common.{◌≡◌, ◌≢◌, ℕ, ◌+◌, ◌-◌, ◌^◌, ◌<◌, ◌≤◌, min, true, List, [], ◌∷◌, length, map, get_or, refl, sym, ap, ◌∙◌, subst, arith, Option, Some, None, Result, Ok, Err, inl}
+use Rattle.std.proofs.Common.{◌≡◌, ◌≢◌, ℕ, ◌+◌, ◌<◌, ◌≤◌, true, List, [], ◌∷◌, length, map, get_or, refl, sym, ap, ◌∙◌, subst, arith, Option, Some, None, Ok, Err, inl}
 use Rattle.std.specs.Prelude.{IfSome}
 use Rattle.std.specs.List.{AllByRecursion}
 use Rattle.std.proofs.lemmas.Option.{none-some}
@@ -29,17 +29,17 @@ use Rattle.b67_task.specs.Tables.{switch_of}
 use Rattle.b67_open.specs.declared.fault.OpenFault.{OpenFault}
 use Rattle.b67_open.specs.declared.fault.OpenFault.TheVariants as faults
 use Rattle.b67_open.specs.Decks.{openings_of, session_of, DeckInRange, IsLoaded}
-use Rattle.b67_open.specs.Opens.{need_of, sectors_of_all, OpensAs, IsOpened}
+use Rattle.b67_open.specs.Opens.{need_of, sectors_of_all, IsOpened}
 use Rattle.b67_open.proofs.Decks.{deck_within}
 use Rattle.b67_storage.specs.Machine.{Says, retold}
 use Rattle.b67_initial.specs.Stored.{told_after}
 use Rattle.b67_session.specs.Slices.{IsLone, LivesOn, SliceMeets}
 use Rattle.b67_lines.specs.Stops.{live_after}
 use Rattle.b67_lines.specs.Ends.{Ends, whole}
-use Rattle.b67_ends.specs.Device.{Device, device_of, Tells, Failed}
+use Rattle.b67_ends.specs.Device.{device_of}
 use Rattle.b67_ends.specs.Lines.{no_core_line, backing_full_line}
 use Rattle.b67_deck.specs.Finishing.{refused_status, refused_line, steps_of, JobRan}
-use Rattle.b67_ends.specs.Runs.{run_of, IsDone, HasRoom, memory_refused, opening_wants_core, opening_wants_sectors, opening_fails, all_end, RunStops, unopened, opened, RunEnds, run_stops}
+use Rattle.b67_ends.specs.Runs.{run_of, IsDone, memory_refused, opening_wants_core, opening_wants_sectors, opening_fails, all_end, unopened, opened, RunEnds, run_stops}
 use Rattle.b67_deck.proofs.Opened.{member_of, task_of, single_opens, says_after, lone_opens, known_after, retold_after}
 use Rattle.b67_deck.proofs.Ran.{ran}
 
@@ -151,8 +151,8 @@ module _ {K B : Type 0} (taken : K → Option (List ℕ)) (failures : K → ℕ)
       (retold known (holds b'')) (λ told. retold_after (holds b) (holds b') (holds b'') told (still_told holds b b' tells told))
       r.slices.steps r.slices.session r.slices.printed (subst (λ n. r.slices.steps ≤ n) all r.slices.few) made (λ told. r.slices.leads (exact told))
       (λ told m t n single calls.
-          never_unbuilt d (f ∷ []) range (loaded, tt) (built, tt) r.slices.steps m t n
-          (subst (λ (z : Session). IsSingle z m t) (sym (r.slices.leads (exact told)).session) single) calls)
+      never_unbuilt d (f ∷ []) range (loaded, tt) (built, tt) r.slices.steps m t n
+      (subst (λ (z : Session). IsSingle z m t) (sym (r.slices.leads (exact told)).session) single) calls)
       r.answered old r.between new answer
       (subst (λ n. SliceMeets taken (retold known (holds b'')) (known ≢ None) n (size b) (steps_of d.halt j.limit) r.slices.steps r.slices.session r.slices.printed r.answered k old r.between) o.2.core_size
       (subst (λ n. SliceMeets taken (retold known (holds b'')) (known ≢ None) (length k0.cpu.core) n (steps_of d.halt j.limit) r.slices.steps r.slices.session r.slices.printed r.answered k old r.between) same

@@ -1,5 +1,5 @@
 -- The steps of a job and the last line, as the run of its deck.
-use Rattle.std.proofs.Common.{◌≡◌, ◌≢◌, ℕ, zero, suc, ◌+◌, ◌<◌, ◌≤◌, true, false, List, [], ◌∷◌, ◌++◌, length, map, refl, sym, ap, ◌∙◌, subst, arith, Option, Some, None, Result, Ok, Err}
+use Rattle.std.proofs.Common.{◌≡◌, ◌≢◌, ℕ, ◌+◌, ◌<◌, ◌≤◌, List, [], ◌∷◌, ◌++◌, refl, sym, ap, ◌∙◌, subst, arith, Option, Some, None, Result, Ok, Err}
 use Rattle.std.specs.Prelude.{is_some, IfSome, sum_by}
 use Rattle.std.proofs.lemmas.Grind.{flat_map-append}
 use Rattle.std.specs.List.{AllByRecursion}
@@ -13,7 +13,7 @@ use Rattle.b67_model.specs.Sectors.{sectors}
 use Rattle.b67_model.specs.Lines.{run_text}
 use Rattle.b67_model.specs.Schedule.{Session}
 use Rattle.b67_model.specs.InOrder.{JobInOrder, IsSegment}
-use Rattle.b67_model.specs.Run.{RunLine, Moment, next, lines, after, live_tasks}
+use Rattle.b67_model.specs.Run.{RunLine, lines, after, live_tasks}
 use Rattle.b67_admit.specs.declared.refusal.Refusal.TheVariants as refusals
 use Rattle.b67_admit.specs.Admitting.{Prepared}
 use Rattle.b67_admit.specs.Told.{refusal_line}
@@ -25,13 +25,13 @@ use Rattle.b67_single.proofs.Runs.{Came, came-more}
 use Rattle.b67_task.specs.declared.tables.Machine.{Machine}
 use Rattle.b67_session.specs.declared.slices.Progress.{Progress}
 use Rattle.b67_session.specs.declared.slices.Progress.TheVariants as progress
-use Rattle.b67_session.specs.Slices.{IsLone, Leads, SliceMeets, Slices}
+use Rattle.b67_session.specs.Slices.{IsLone, Leads, SliceMeets}
 use Rattle.b67_lines.specs.Stops.{halted_line}
 use Rattle.b67_lines.specs.Ends.{Ends, whole, cut}
 use Rattle.b67_ends.specs.Device.{Device, Tells, Failed}
 use Rattle.b67_ends.specs.Lines.{no_core_line, backing_full_line, backing_fault_line}
-use Rattle.b67_deck.specs.Finishing.{steps_of, Finishes, JobRan}
-use Rattle.b67_ends.specs.Runs.{run_of, text_to, IsDone, StopsAt, IsHaltedAt, WantsCore, WantsSectors, IsCutOff, HasRoom, StopsOpened, all_end, halt_comes, step_wants_core, step_wants_sectors, step_fails, code_is_strange, RunStops, unopened, opened, IsPrinting, RunEnds, run_stops, step_is_cut}
+use Rattle.b67_deck.specs.Finishing.{steps_of, Finishes}
+use Rattle.b67_ends.specs.Runs.{run_of, text_to, IsDone, StopsAt, HasRoom, StopsOpened, all_end, halt_comes, step_wants_core, step_wants_sectors, step_fails, code_is_strange, opened, RunEnds, run_stops, step_is_cut}
 use Rattle.b67_deck.proofs.Stays.{settings, settings_stay}
 
 -- one text is printed, and then the call ends that prints another

@@ -6,7 +6,7 @@ use Rattle.b67_model.specs.Keyed.{keyed, change_keyed}
 use Rattle.b67_model.specs.State.{Setting, Course, Member}
 use Rattle.b67_model.specs.Alone.{JobMoment, step_of}
 use Rattle.b67_model.specs.Schedule.{Session, Choice, choice}
-use Rattle.b67_model.specs.Run.{Moment, number_of, with_moment, moment_by, moment_for, next, after_from, after}
+use Rattle.b67_model.specs.Run.{Moment, number_of, moment_by, moment_for, next, after_from, after}
 
 abbrev pub settings : List Member → List Setting
 settings jobs = map (λ (m : Member). m.setting) jobs

@@ -1,5 +1,5 @@
 -- The last line of a run, and its status.
-use Rattle.std.specs.Prelude.{◌≡◌, ◌≢◌, ℕ, ◌≤◌, List, [], Option, Some, None, Result, Ok, Err}
+use Rattle.std.specs.Prelude.{◌≡◌, ℕ, ◌≤◌, List, Option, Some, None, Result, Ok, Err}
 use Rattle.b67_io.specs.Line.{ended}
 use Rattle.b67_io.specs.Causes.{Rose}
 use Rattle.b67_model.specs.Schedule.{Session}

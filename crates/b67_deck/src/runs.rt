@@ -44,7 +44,11 @@ fn refuse_opening<K: Sink>(fault: OpenFault, printer: &mut K) -> u8
     match fault {
         OpenFault::Memory => say(printer, 9, &line_of("NO MEMORY")),
         OpenFault::NoCore { need, core } => say(printer, 4, &no_core_line(need, core)),
-        OpenFault::BackingFull { sum, sectors } => say(printer, 5, &backing_full_line(sum, sectors)),
+        OpenFault::BackingFull { sum, sectors } => say(
+            printer,
+            5,
+            &backing_full_line(sum, sectors),
+        ),
         OpenFault::BackingFault => say_backing_fault(printer),
     }
 }
@@ -58,10 +62,18 @@ fn finish<K: Sink>(answered: Result<Progress, Stop>, card: u32, made: u64, print
         Ok(Progress::More) => 0,
         Ok(Progress::Halted) => say(printer, 3, &halted_line(made)),
         Err(Stop::NoCore { need, core }) => say(printer, 4, &no_core_line(need, core)),
-        Err(Stop::BackingFull { sum, sectors }) => say(printer, 5, &backing_full_line(sum, sectors)),
+        Err(Stop::BackingFull { sum, sectors }) => say(
+            printer,
+            5,
+            &backing_full_line(sum, sectors),
+        ),
         Err(Stop::BackingFault) => say_backing_fault(printer),
         Err(Stop::PrintFault) => 8,
-        Err(Stop::Unbuilt) => say(printer, 2, &refusal_line(Refusal::Deck { card, reason: 90 })),
+        Err(Stop::Unbuilt) => say(
+            printer,
+            2,
+            &refusal_line(Refusal::Deck { card, reason: 90 }),
+        ),
     }
 }
 

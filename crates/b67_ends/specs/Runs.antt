@@ -1,6 +1,6 @@
 -- How the run of a deck over core stops: with which status and text, after how many steps of the session that the deck
 -- opens, and with which machine.
-use Rattle.std.specs.Prelude.{◌≡◌, ℕ, ◌+◌, ◌<◌, ◌≤◌, Bool, true, List, [], ◌∷◌, ◌++◌, Option, Some, None, is_some, IfSome}
+use Rattle.std.specs.Prelude.{◌≡◌, ℕ, ◌+◌, ◌<◌, ◌≤◌, true, List, ◌++◌, Option, Some, None, is_some, IfSome}
 use Rattle.b67_io.specs.Line.{ended}
 use Rattle.b67_io.specs.Told.{TookPart}
 use Rattle.b67_io.specs.Causes.{Rose}

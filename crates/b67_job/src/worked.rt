@@ -47,7 +47,14 @@ fn run_over<B: Backing>(
 }
 
 /// Core, sectors, the run's cards, the job, the status and the lines.
-type Row = (&'static str, u32, &'static str, &'static str, u8, &'static str);
+type Row = (
+    &'static str,
+    u32,
+    &'static str,
+    &'static str,
+    u8,
+    &'static str,
+);
 
 fn check_rows(rt: &impl Abort, alloc: Global, rows: &[Row]) -> Result<(), Fail> {
     for (core, sectors, cards, job, status, lines) in rows {
@@ -127,14 +134,7 @@ fn arithmetic(rt: HostRuntime) -> Result<(), Fail> {
 #[test]
 fn procedures(rt: HostRuntime) -> Result<(), Fail> {
     let rows = [
-        (
-            "4096",
-            4096,
-            "",
-            JENSEN,
-            0,
-            "1.1 385\n1.1 ENDED\n",
-        ),
+        ("4096", 4096, "", JENSEN, 0, "1.1 385\n1.1 ENDED\n"),
         (
             "32768",
             4096,
@@ -239,70 +239,14 @@ fn paging(rt: HostRuntime) -> Result<(), Fail> {
             4,
             "NO CORE 533 532\n",
         ),
-        (
-            "631",
-            16,
-            "?STACK 256\n",
-            LEAVE,
-            0,
-            "1.1 3\n1.1 ENDED\n",
-        ),
-        (
-            "631",
-            15,
-            "?STACK 256\n",
-            LEAVE,
-            5,
-            "BACKING FULL 16 15\n",
-        ),
-        (
-            "630",
-            4096,
-            "?STACK 256\n",
-            TWO,
-            0,
-            "1.1 23\n1.1 ENDED\n",
-        ),
-        (
-            "629",
-            4096,
-            "?STACK 256\n",
-            TWO,
-            4,
-            "NO CORE 630 629\n",
-        ),
-        (
-            "630",
-            15,
-            "?STACK 256\n",
-            TWO,
-            0,
-            "1.1 23\n1.1 ENDED\n",
-        ),
-        (
-            "630",
-            14,
-            "?STACK 256\n",
-            TWO,
-            5,
-            "BACKING FULL 15 14\n",
-        ),
-        (
-            "256",
-            4096,
-            "?STACK 64\n",
-            SMALL,
-            0,
-            "1.1 ENDED\n",
-        ),
-        (
-            "256",
-            2,
-            "?STACK 64\n",
-            SMALL,
-            5,
-            "BACKING FULL 3 2\n",
-        ),
+        ("631", 16, "?STACK 256\n", LEAVE, 0, "1.1 3\n1.1 ENDED\n"),
+        ("631", 15, "?STACK 256\n", LEAVE, 5, "BACKING FULL 16 15\n"),
+        ("630", 4096, "?STACK 256\n", TWO, 0, "1.1 23\n1.1 ENDED\n"),
+        ("629", 4096, "?STACK 256\n", TWO, 4, "NO CORE 630 629\n"),
+        ("630", 15, "?STACK 256\n", TWO, 0, "1.1 23\n1.1 ENDED\n"),
+        ("630", 14, "?STACK 256\n", TWO, 5, "BACKING FULL 15 14\n"),
+        ("256", 4096, "?STACK 64\n", SMALL, 0, "1.1 ENDED\n"),
+        ("256", 2, "?STACK 64\n", SMALL, 5, "BACKING FULL 3 2\n"),
     ];
     check_rows(&rt, rt.alloc(), &rows)
 }

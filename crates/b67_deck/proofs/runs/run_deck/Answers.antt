@@ -1,4 +1,4 @@
-use Rattle.std.proofs.Common.{◌≡◌, ◌∷◌, [], length, map, true, sym, subst, arith, Ok, Some, None}
+use Rattle.std.proofs.Common.{◌≡◌, map, true, sym, subst, Ok, Some}
 use Rattle.std.specs.List.{AllByRecursion}
 use Rattle.std.specs.Prelude.{List}
 use Rattle.b67_codefile.specs.declared.file.Codefile.{Codefile}
@@ -36,7 +36,7 @@ returns-in-len1-up g c =
     let file = one_file c.args.deck.now.jobs c.args.programs.now c.job-item.result one c.requires.each in
     let opens = subst (λ (fs : List Codefile). IsOpened g.B.Backing.holds g.B.Backing.size g.B.Backing.faults c.args.deck.now (map program_of fs) c.args.core c.args.backing.now c.open.new.backing (Ok c.in-Ok.machine)) file.1 c.in-Ok.ensures.opens in
     subst (λ (fs : List Codefile). RunEnds g.K.Sink.taken g.K.Sink.faults (device_of g.B.Backing.holds g.B.Backing.size g.B.Backing.faults c.args.backing.now c.run_job-status.new.backing) c.args.core
-        (c.args.deck.now, map program_of fs) (Some c.run_job-status.new.machine) c.args.printer.now c.run_job-status.new.printer c.run_job-status.result) (sym file.1)
+    (c.args.deck.now, map program_of fs) (Some c.run_job-status.new.machine) c.args.printer.now c.run_job-status.new.printer c.run_job-status.result) (sym file.1)
     (one_run g.K.Sink.taken g.K.Sink.faults g.B.Backing.holds g.B.Backing.size g.B.Backing.faults c.args.deck.now file.0 c.args.core
     c.requires.range (subst (AllByRecursion IsLoaded) file.1 c.requires.loaded).0 (subst (AllByRecursion (λ (f : Codefile). uses_built (program_of f) ≡ true)) file.1 c.requires.built).0 c.job-item.result one
     c.args.backing.now c.open.new.backing c.run_job-status.new.backing c.in-Ok.machine c.run_job-status.new.machine opens

@@ -12,4 +12,4 @@ returns-in-None g c =
     let none = sym (rw (c.as_slice.ensures, c.as_slice-programs.ensures) at c.in-None.ensures.card) in
     let ends = rw c.as_slice-programs.ensures at c.run_deck.ensures in
     subst (λ (j : Judgement). DeckEnds j g.K.Sink.taken g.K.Sink.faults (device_of g.B.Backing.holds g.B.Backing.size g.B.Backing.faults c.args.backing.now c.run_deck.new.backing) c.args.core
-        c.run_deck.result.machine c.args.printer.now c.run_deck.new.printer c.run_deck.result.status) (sym (nothing_missing p none)) ends
+    c.run_deck.result.machine c.args.printer.now c.run_deck.new.printer c.run_deck.result.status) (sym (nothing_missing p none)) ends
