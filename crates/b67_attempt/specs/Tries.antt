@@ -18,7 +18,7 @@ use Rattle.b67_exec.specs.Operators.{called_in}
 use Rattle.b67_bring.specs.Bringing.{IsWanted}
 use Rattle.b67_task.specs.declared.tables.Machine.{Machine}
 use Rattle.b67_task.specs.Tables.{MachineStands}
-use Rattle.b67_intrinsics.specs.Called.{IsCalled, IsCut}
+use Rattle.b67_intrinsics.specs.Called.{IsCalled, IsCut, OnlyPrinted}
 use Rattle.b67_intrinsics.specs.declared.ends.Stop.{Stop}
 use Rattle.b67_intrinsics.specs.declared.ends.Stop.TheVariants as stops
 use Rattle.b67_attempt.specs.declared.tries.Tried.{Tried}
@@ -50,19 +50,20 @@ EndsSo m t Ended = step m.setting m.course.job t ≡ Ok Leaves
 EndsSo m t (Faulted fault) = step m.setting m.course.job t ≡ Err fault
 EndsSo m t _ = ⊥
 
--- by what was answered. Where the step wasn't made nothing has changed
+-- by what was answered. Where the step wasn't made nothing has changed but, after a printer's failure, how much is printed
 abbrev pub TryMeets : {K : Type 0} → (K → Option (List ℕ)) → Storage → Option (List (List ℕ)) → Plan → Session → Member → Task → Result Tried Stop → Machine → Machine → K → K → Type 0
-TryMeets taken x told plan s m t (Ok tries.Made) old new paper paper' = IsCalled taken paper paper' told s m t new
+TryMeets taken x told plan s m t (Ok tries.Made) old new paper paper' = IsCalled taken paper paper' told s m t old.tasks.printed new
 TryMeets taken x told plan s m t (Ok (tries.Absent found)) old new paper paper' =
     (words : ℕ) × IsWanted x plan m t found words × IsTouched plan m t found words × (new ≡ old) × (paper' ≡ paper)
 TryMeets taken x told plan s m t (Ok (tries.Ends ending)) old new paper paper' = EndsSo m t ending × (new ≡ old) × (paper' ≡ paper)
-TryMeets taken x told plan s m t (Err stops.PrintFault) old new paper paper' = IsCut taken paper paper' m t × (new ≡ old)
+TryMeets taken x told plan s m t (Err stops.PrintFault) old new paper paper' = IsCut taken paper paper' m t old.tasks.printed new.tasks.printed × OnlyPrinted old new
 TryMeets taken x told plan s m t (Err stops.Unbuilt) old new paper paper' = (n : ℕ) × (called_in m t ≡ Some n) × (12 ≤ n) × (new ≡ old) × (paper' ≡ paper)
 TryMeets taken x told plan s m t (Err _) old new paper paper' = ⊥
 
--- a step that was made, or ends its task, needs no more words than core has
+-- a step that was made, ends its task, or couldn't be printed needs no more words than core has
 abbrev pub TryFits : ℕ → Session → Member → Task → Result Tried Stop → Type 0
 TryFits core s m t (Ok tries.Made) = need core s m t ≤ core
 TryFits core s m t (Ok (tries.Absent found)) = Unit {0}
 TryFits core s m t (Ok (tries.Ends ending)) = need core s m t ≤ core
+TryFits core s m t (Err stops.PrintFault) = need core s m t ≤ core
 TryFits core s m t (Err stop) = Unit {0}

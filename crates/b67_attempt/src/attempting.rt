@@ -16,7 +16,7 @@ ghost use Rattle.b67_intrinsics.specs.Called.{AreCountable};
 ghost use Rattle.b67_intrinsics.specs.declared.ends.Stop.TheVariants.{BackingFault, PrintFault};
 ghost use Rattle.b67_attempt.specs.Tries.{ReadyRuns};
 ghost use Rattle.b67_attempt.specs.Brought.{WantsNothing};
-ghost use Rattle.b67_attempt.specs.Attempts.{RunsOver, Attempts, AttemptFits};
+ghost use Rattle.b67_attempt.specs.Attempts.{RunsOver, Attempts, AttemptFits, TablesStay};
 
 use crate::attempts::Attempt;
 use crate::bringing::bring_wanted;
@@ -34,7 +34,7 @@ fn last_try<K: Sink>(machine: &mut Machine, paper: &mut K) -> Result<Attempt, St
     requires countable { AreCountable machine.old.tasks.jobs }
     ensures row { (x : Storage) (core count : ℕ) (plan : Plan) (s : Session) (m : Member) (t : Task) → IsInOrderButPlaces s → MachineStands x x.device machine.old plan s
         → IsRunning plan s.jobs m t → t.condition ≡ Ready → (x.device ≢ None → WantsNothing x plan m t)
-        → Attempts K.taken x x.device core count plan s t result machine.new paper.old paper.new }
+        → Attempts K.taken x x.device core count machine.old.tasks.printed plan s t result machine.new paper.old paper.new }
     ensures fits { (x : Storage) (plan : Plan) (s : Session) (m : Member) (t : Task) → IsInOrderButPlaces s → MachineStands x x.device machine.old plan s
         → IsRunning plan s.jobs m t → t.condition ≡ Ready → WantsNothing x plan m t → AttemptFits (length machine.old.cpu.core) s m t result }
     ensures full { result ≢ Err BackingFault }
@@ -44,6 +44,7 @@ fn last_try<K: Sink>(machine: &mut Machine, paper: &mut K) -> Result<Attempt, St
     ensures len { length machine.new.cpu.core ≡ length machine.old.cpu.core }
     ensures count { length machine.new.sectors.links ≡ length machine.old.sectors.links }
     ensures halt { machine.new.tasks.halt ≡ machine.old.tasks.halt }
+    ensures tables { TablesStay result machine.old.tasks machine.new.tasks }
 {
     match try_once(machine, paper) {
         Ok(Tried::Made) => Ok(Attempt::Made),
@@ -64,7 +65,7 @@ fn with_code<B: Backing, K: Sink>(
     requires same { B.size backing.old + 1 ≡ length machine.old.sectors.links }
     ensures row { (x : Storage) (plan : Plan) (s : Session) (m : Member) (t : Task) → IsInOrderButPlaces s → StandsOver x (B.holds backing.old) machine.old plan s
         → IsRunning plan s.jobs m t → t.condition ≡ Ready → code_area x plan m t ≢ None
-        → Attempts K.taken x (retold x.device (B.holds backing.new)) (length machine.old.cpu.core) (B.size backing.old) plan s t result machine.new paper.old paper.new }
+        → Attempts K.taken x (retold x.device (B.holds backing.new)) (length machine.old.cpu.core) (B.size backing.old) machine.old.tasks.printed plan s t result machine.new paper.old paper.new }
     ensures fits { (x : Storage) (plan : Plan) (s : Session) (m : Member) (t : Task) → IsInOrderButPlaces s → StandsOver x (B.holds backing.old) machine.old plan s
         → IsRunning plan s.jobs m t → t.condition ≡ Ready → code_area x plan m t ≢ None → x.device ≢ None → AttemptFits (length machine.old.cpu.core) s m t result }
     ensures full_cause { result ≡ Err BackingFault → Rose B.faults backing.old backing.new }
@@ -74,6 +75,7 @@ fn with_code<B: Backing, K: Sink>(
     ensures len { length machine.new.cpu.core ≡ length machine.old.cpu.core }
     ensures count { length machine.new.sectors.links ≡ length machine.old.sectors.links }
     ensures halt { machine.new.tasks.halt ≡ machine.old.tasks.halt }
+    ensures tables { TablesStay result machine.old.tasks machine.new.tasks }
     ensures device { Served B.holds B.size B.calls B.faults backing.old backing.new }
 {
     match try_once(machine, paper) {
@@ -90,10 +92,12 @@ fn with_code<B: Backing, K: Sink>(
 /// Makes the next operator of the running task, an intrinsic's call included. The running segment and the array that it
 /// touches are brought into core first, whatever has to give way.
 ///
-/// `NoCore` only where the step's need exceeds core, with both; and over a device that tells what its sectors hold, a step
-/// that is made or ends its task never needs more than core has. `BackingFull` only where the session takes more sectors
-/// than the device has, with both; `BackingFault` and `PrintFault` only where that device failed. After each of them, and
-/// where the operator ends its task, the machine stands for the same session. Over a device that doesn't tell what its
+/// `NoCore` exactly where the step's need exceeds core, with both, unless the running segment is absent and the device is
+/// full or fails as it is brought in. `BackingFull` only where the session takes more sectors than the device has, with both,
+/// and a present array that keeps no chain wants more than are free; `BackingFault` and `PrintFault` only where that device
+/// failed. After each of them, and where the operator ends its task, the machine stands for the same session; after want of
+/// sectors and a failure of the backing its segment or its array is absent. Where both are present the backing isn't
+/// called. After `PrintFault` `printed` is raised by the bytes that were taken. Over a device that doesn't tell what its
 /// sectors hold, the words that it gave back may be others, and as many.
 pub fn attempt<B: Backing, K: Sink>(
     machine: &mut Machine,
@@ -105,9 +109,11 @@ pub fn attempt<B: Backing, K: Sink>(
     requires same { B.size backing.old + 1 ≡ length machine.old.sectors.links }
     ensures row { (x : Storage) (plan : Plan) (s : Session) (m : Member) (t : Task) → IsInOrderButPlaces s → StandsOver x (B.holds backing.old) machine.old plan s
         → IsRunning plan s.jobs m t → t.condition ≡ Ready
-        → Attempts K.taken x (retold x.device (B.holds backing.new)) (length machine.old.cpu.core) (B.size backing.old) plan s t result machine.new paper.old paper.new }
+        → Attempts K.taken x (retold x.device (B.holds backing.new)) (length machine.old.cpu.core) (B.size backing.old) machine.old.tasks.printed plan s t result machine.new paper.old paper.new }
     ensures fits { (x : Storage) (plan : Plan) (s : Session) (m : Member) (t : Task) → IsInOrderButPlaces s → StandsOver x (B.holds backing.old) machine.old plan s
         → IsRunning plan s.jobs m t → t.condition ≡ Ready → x.device ≢ None → AttemptFits (length machine.old.cpu.core) s m t result }
+    ensures quiet { (x : Storage) (plan : Plan) (s : Session) (m : Member) (t : Task) → IsInOrderButPlaces s → StandsOver x (B.holds backing.old) machine.old plan s
+        → IsRunning plan s.jobs m t → t.condition ≡ Ready → WantsNothing x plan m t → backing.new ≡ backing.old }
     ensures full_cause { result ≡ Err BackingFault → Rose B.faults backing.old backing.new }
     ensures print_cause { result ≡ Err PrintFault → Rose K.faults paper.old paper.new }
     ensures later { K.faults paper.old ≤ K.faults paper.new }
@@ -115,6 +121,7 @@ pub fn attempt<B: Backing, K: Sink>(
     ensures len { length machine.new.cpu.core ≡ length machine.old.cpu.core }
     ensures count { length machine.new.sectors.links ≡ length machine.old.sectors.links }
     ensures halt { machine.new.tasks.halt ≡ machine.old.tasks.halt }
+    ensures tables { TablesStay result machine.old.tasks machine.new.tasks }
     ensures device { Served B.holds B.size B.calls B.faults backing.old backing.new }
 {
     match try_once(machine, paper) {

@@ -1,5 +1,5 @@
 -- What is wanted in core, and the machine once it was brought in or refused.
-use Rattle.std.specs.Prelude.{◌≡◌, ◌≢◌, ℕ, ◌+◌, List, length, Option, None}
+use Rattle.std.specs.Prelude.{◌≡◌, ◌≢◌, ℕ, ◌+◌, ◌<◌, ◌⊎◌, List, length, Option, None}
 use Rattle.b67_model.specs.Lists.{Has}
 use Rattle.b67_model.specs.State.{Array, Task, Member}
 use Rattle.b67_model.specs.Schedule.{Session}
@@ -14,7 +14,9 @@ use Rattle.b67_code.specs.Running.{code_area}
 use Rattle.b67_order_weaker.specs.Weaker.{AllOtherNumbers}
 use Rattle.b67_task.specs.declared.tables.Machine.{Machine}
 use Rattle.b67_task.specs.Tables.{MachineStands}
-use Rattle.b67_storage.specs.Machine.{Says, retold}
+use Rattle.b67_storage.specs.Machine.{Says, retold, HasRoom}
+use Rattle.b67_backing.specs.Held.{sectors_for}
+use Rattle.b67_model.specs.Rows.{code_of}
 
 -- the whole machine over a device that tells this: what the storage says of the sectors, if anything, is what the device
 -- tells
@@ -70,3 +72,49 @@ pub record Brings (x : Storage) (told : Option (List (List ℕ))) (k : Machine) 
   pub again : StandsAgain x told k plan s
   pub code : code_area again.storage plan m t ≢ None
   pub there : IsThere again.storage absent plan m
+
+-- a refusal leaves the running segment or what was wanted absent
+abbrev pub Lacks : Storage → What → Plan → Member → Task → Type 0
+Lacks x (what.Code displacement) plan m t = code_area x plan m t ≡ None
+Lacks x (what.Array home) plan m t = (code_area x plan m t ≡ None) ⊎ ((x.held home).area ≡ None)
+
+-- the machine stands for the session again, and in it the running segment or what was wanted is absent
+pub record Refused (x : Storage) (told : Option (List (List ℕ))) (k : Machine) (plan : Plan) (s : Session) (m : Member) (t : Task) (absent : What) : Type 0 where
+  pub again : StandsAgain x told k plan s
+  pub lacks : Lacks again.storage absent plan m t
+
+-- a present array of a job of the session keeps no chain, needs so many sectors, and fewer are free
+pub record IsShortOf (x : Storage) (plan : Plan) (jobs : List Member) (wants free : ℕ) : Type 0 where
+  pub member : Member
+  pub in_session : Has jobs member
+  pub array : Array
+  pub among : Has member.course.job.arrays array
+  pub present : area_held x plan member.setting.number array.identity ≢ None
+  pub unkept : (x.held (plan.home member.setting.number array.identity)).chain ≡ 0
+  pub wants_is : wants ≡ sectors_for (length array.numbers)
+  pub free_is : free ≡ length x.shelf.free
+  pub fewer : free < wants
+
+-- there was no hole for what is wanted, whose area has so many words
+abbrev pub words_wanted : Member → Task → What → ℕ → ℕ
+words_wanted m t (what.Code displacement) words = length (code_of m.setting t.segment) + 2
+words_wanted m t (what.Array home) words = words + 2
+
+-- the machine that a want of sectors leaves: it stands for the session, and is short of them by these numbers
+pub record RefusedFull (x : Storage) (told : Option (List (List ℕ))) (k : Machine) (plan : Plan) (s : Session) (m : Member) (t : Task) (absent : What) (wants free : ℕ) : Type 0 where
+  pub refused : Refused x told k plan s m t absent
+  pub short : IsShortOf refused.again.storage plan refused.again.jobs wants free
+
+-- every area that was there is there
+abbrev pub AreasStay : Storage → Storage → Type 0
+AreasStay x y = (home : ℕ) → (x.held home).area ≢ None → (y.held home).area ≡ (x.held home).area
+
+-- the machine stands for the session again, and no area has moved
+pub record StaysIn (x : Storage) (told : Option (List (List ℕ))) (k : Machine) (plan : Plan) (s : Session) : Type 0 where
+  pub again : StandsAgain x told k plan s
+  pub areas : AreasStay x again.storage
+
+-- what is wanted keeps no chain: an array of zeros that was never touched
+abbrev pub IsUntouched : Storage → What → Type 0
+IsUntouched x (what.Code displacement) = ⊥
+IsUntouched x (what.Array home) = (x.held home).chain ≡ 0

@@ -1,18 +1,19 @@
 //! What an operator wants is brought in.
 
-ghost use Rattle.std.specs.Prelude.{◌≡◌, ◌≢◌, ℕ, ◌+◌, ◌<◌, ◌↔◌, List, Option, OnOk, OnErr, Err, length};
+ghost use Rattle.std.specs.Prelude.{◌≡◌, ◌≢◌, ℕ, ◌+◌, ◌<◌, ◌↔◌, List, Option, OnOk, OnErr, IsOk, Err, length};
+ghost use Rattle.b67_backing.specs.Held.{Becomes};
 ghost use Rattle.b67_io.specs.Causes.{Rose};
 ghost use Rattle.b67_model.specs.State.{Task, Member};
 ghost use Rattle.b67_model.specs.Sectors.{sectors};
 ghost use Rattle.b67_model.specs.Schedule.{Session};
 ghost use Rattle.b67_model.specs.InOrder.{IsInOrderButPlaces};
 ghost use Rattle.b67_stack.specs.Stands.{Storage};
-ghost use Rattle.b67_storage.specs.Machine.{Served};
+ghost use Rattle.b67_storage.specs.Machine.{Served, HasRoom};
 ghost use Rattle.b67_layout.specs.Plan.{Plan};
 ghost use Rattle.b67_layout.specs.Session.{IsRunning};
 ghost use Rattle.b67_backing.specs.declared.SpaceFault.TheVariants.{NoCore, BackingFull, BackingFault};
 ghost use Rattle.b67_needs.specs.Needing.{need_with};
-ghost use Rattle.b67_bring.specs.Bringing.{StandsOver, WantsSome, IsWanted, StandsAgain, Brings};
+ghost use Rattle.b67_bring.specs.Bringing.{StandsOver, WantsSome, IsWanted, Brings, Refused, RefusedFull, StaysIn, IsUntouched, words_wanted};
 
 use b67_backing::{Backing, SpaceFault};
 use b67_presence::{bring_code, bring_data};
@@ -21,10 +22,12 @@ use b67_task::Machine;
 
 /// Brings the running segment, or an array that the running task's operator touches, into core; the running segment is
 /// then present too. `NoCore`, with nothing changed, exactly where the MCP, dictionaries, stacks, the running segment and
-/// that array need more words than core has. `BackingFull` only where the session takes more sectors than the device has.
-/// `BackingFault` only where the device failed. After a refusal the machine stands for the same session, and the call may
-/// be made again, for an array once the running segment is present. Over a device that doesn't tell what its sectors hold,
-/// the words that it gave back may be others, and as many.
+/// that array need more words than core has. `BackingFull` only where the session takes more sectors than the device has,
+/// there was no hole, and a present array without a chain wants more sectors than the free ones, by these two numbers.
+/// `BackingFault` only where the device failed. After a refusal the machine stands for the same session, with what is
+/// wanted or the running segment absent, and the call may be made again, for an array once the running segment is present.
+/// Where a hole has room, no area moves and nothing is written; an array that was never touched calls no device then. Over a
+/// device that doesn't tell what its sectors hold, the words that it gave back may be others, and as many.
 pub fn bring<B: Backing>(
     machine: &mut Machine,
     backing: &mut B,
@@ -41,14 +44,22 @@ pub fn bring<B: Backing>(
         → Brings x (B.holds backing.new) machine.new plan s m t absent) }
     ensures refused { OnErr result ((x : Storage) (plan : Plan) (s : Session) (m : Member) (t : Task) (words : ℕ) → IsInOrderButPlaces s
         → StandsOver x (B.holds backing.old) machine.old plan s → IsRunning plan s.jobs m t → IsWanted x plan m t absent words
-        → StandsAgain x (B.holds backing.new) machine.new plan s) }
+        → Refused x (B.holds backing.new) machine.new plan s m t absent) }
+    ensures hole { (x : Storage) (plan : Plan) (s : Session) (m : Member) (t : Task) (words : ℕ) → IsInOrderButPlaces s
+        → StandsOver x (B.holds backing.old) machine.old plan s → IsRunning plan s.jobs m t → IsWanted x plan m t absent words
+        → HasRoom (words_wanted m t absent words) x.spans → (machine.new.sectors ≡ machine.old.sectors) × Becomes B.holds backing.old backing.new (λ all. all)
+        × StaysIn x (B.holds backing.new) machine.new plan s }
+    ensures zeros { (x : Storage) (plan : Plan) (s : Session) (m : Member) (t : Task) (words : ℕ) → IsInOrderButPlaces s
+        → StandsOver x (B.holds backing.old) machine.old plan s → IsRunning plan s.jobs m t → IsWanted x plan m t absent words
+        → HasRoom (words_wanted m t absent words) x.spans → IsUntouched x absent → IsOk result × (backing.new ≡ backing.old) }
     ensures no_core { (x : Storage) (plan : Plan) (s : Session) (m : Member) (t : Task) (words need size : ℕ) → IsInOrderButPlaces s
         → StandsOver x (B.holds backing.old) machine.old plan s → IsRunning plan s.jobs m t → IsWanted x plan m t absent words
         → (result ≡ Err (NoCore need size)) ↔ ((length machine.old.cpu.core < need_with s m t 0 words) × (need ≡ need_with s m t 0 words) × (size ≡ length machine.old.cpu.core)) }
     ensures unchanged { (need size : ℕ) → result ≡ Err (NoCore need size) → (machine.new ≡ machine.old) × (backing.new ≡ backing.old) }
     ensures full { (x : Storage) (plan : Plan) (s : Session) (m : Member) (t : Task) (words wants free : ℕ) → IsInOrderButPlaces s
         → StandsOver x (B.holds backing.old) machine.old plan s → IsRunning plan s.jobs m t → IsWanted x plan m t absent words
-        → result ≡ Err (BackingFull wants free) → B.size backing.old < sectors s.jobs }
+        → result ≡ Err (BackingFull wants free) → (B.size backing.old < sectors s.jobs) × (HasRoom (words_wanted m t absent words) x.spans → ⊥)
+        × RefusedFull x (B.holds backing.new) machine.new plan s m t absent wants free }
     ensures cause { result ≡ Err BackingFault → Rose B.faults backing.old backing.new }
     ensures device { Served B.holds B.size B.calls B.faults backing.old backing.new }
 {

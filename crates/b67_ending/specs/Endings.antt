@@ -15,6 +15,7 @@ use Rattle.b67_layout.specs.Plan.{Slotted, Plan, slot_of}
 use Rattle.b67_layout.specs.Meets.{with_job}
 use Rattle.b67_layout.specs.Session.{SessionStands, StorageStands}
 use Rattle.b67_task.specs.declared.tables.Machine.{Machine}
+use Rattle.b67_task.specs.declared.tables.Tasks.{Tasks}
 use Rattle.b67_task.specs.Tables.{MachineStands}
 
 -- the plan without the row of a slot, whose task's registers aren't in use any more
@@ -49,8 +50,15 @@ pub record HasSlot (cpu : Cpu) (areas : Areas) (table : Table) (k : ℕ) : Type 
   pub single : IsSingle session member task
   pub slot : k ≡ slot_of plan member.setting.number task.number
 
--- the whole machine does
+-- tables with the same rows, and the same one running. Their counts may be others
+pub record HasRowsOf (machine : Machine) (u : Tasks) : Type 0 where
+  pub rows : u.rows ≡ machine.tasks.rows
+  pub running : u.running ≡ machine.tasks.running
+
+-- the whole machine does, with the counts of these tables in the place of its own
 pub record HasOne (machine : Machine) : Type 0 where
+  pub tables : Tasks
+  pub same : HasRowsOf machine tables
   pub storage : Storage
   pub told : Option (List (List ℕ))
   pub plan : Plan
@@ -58,7 +66,7 @@ pub record HasOne (machine : Machine) : Type 0 where
   pub member : Member
   pub task : Task
   pub ordered : IsInOrderButPlaces session
-  pub stands : MachineStands storage told machine plan session
+  pub stands : MachineStands storage told (record machine { tasks = tables }) plan session
   pub single : IsSingle session member task
 
 -- the machine without its tables stands for the session after the task's end

@@ -18,7 +18,7 @@ use Rattle.b67_io.specs.Causes.{Rose}
 use Rattle.b67_intrinsics.specs.declared.ends.CallEnd.{CallEnd}
 use Rattle.b67_intrinsics.specs.declared.ends.Stop.{Stop}
 use Rattle.b67_intrinsics.specs.declared.ends.Stop.TheVariants.{PrintFault}
-use Rattle.b67_intrinsics.specs.Called.{AreCountable}
+use Rattle.b67_intrinsics.specs.Called.{AreCountable, ChangesStack}
 
 -- for each session in order that the machine stands for, with its running task, whose segment is present
 abbrev pub ForRuns : Machine → (Storage → Option (List (List ℕ)) → Plan → Session → Member → Task → Type 0) → Type 0
@@ -54,10 +54,11 @@ pub record CutsSome (k : Machine) : Type 0 where
   pub reads : Reads k
   pub may : MayCut reads.member reads.task
 
--- what a call keeps: the size of core, the sectors, the halt, and that the numbers for READ are few
+-- what a call keeps: core outside the running stack, the sectors, the halt, and that the numbers for READ are few
 pub record Kept (old new : Machine) : Type 0 where
   pub countable : AreCountable old.tasks.jobs → AreCountable new.tasks.jobs
   pub len : length new.cpu.core ≡ length old.cpu.core
+  pub changed : ChangesStack old new
   pub sectors : new.sectors ≡ old.sectors
   pub halt : new.tasks.halt ≡ old.tasks.halt
 

@@ -20,7 +20,7 @@ ghost use Rattle.b67_code.specs.Running.{code_area};
 ghost use Rattle.b67_exec.specs.Operators.{called_in};
 ghost use Rattle.b67_task.specs.Tables.{MachineStands};
 ghost use Rattle.b67_intrinsics.specs.declared.ends.Stop.TheVariants.{PrintFault};
-ghost use Rattle.b67_intrinsics.specs.Called.{CallsSome, CallMeets, CallTouches, AreCountable};
+ghost use Rattle.b67_intrinsics.specs.Called.{CallsSome, CallMeets, CallTouches, ChangesStack, AreCountable};
 ghost use Rattle.b67_intrinsics.specs.Answers.{end_of};
 ghost use Rattle.b67_intrinsics.specs.Running.{ForCalls, IsHeard, Kept};
 
@@ -64,10 +64,11 @@ fn call<K: Sink>(machine: &mut Machine, n: u8, paper: &mut K) -> Result<CallEnd,
 /// Makes the call of an intrinsic at which the running task stands: ARRAYDEC, PRINT, PRINTROW or READ by their rows; the
 /// others aren't built: `Unbuilt`, with nothing changed.
 ///
-/// Where its row prints, the text is taken by the printer before anything is changed; `PrintFault`, with nothing else
-/// changed and a proper part of the text taken, comes only where the printer failed. `Absent`, with nothing changed, comes
-/// exactly where PRINTROW touches an absent array. `Fault` changes nothing and prints nothing. Where the call was made or
-/// faults, what its row touches is present.
+/// Where its row prints, what isn't printed yet of its text (past the first `printed` bytes) is taken by the printer before
+/// anything is changed, and `printed` is then 0. `PrintFault`, with nothing changed but that `printed` is raised by the
+/// bytes that were taken, which aren't all, comes only where the printer failed. `Absent`, with nothing changed, comes
+/// exactly where PRINTROW touches an absent array. `Fault` changes nothing and prints nothing. Where the call was made,
+/// faults, or can't be printed, what its row touches is present. Of core only words of the running stack may change.
 pub fn intrinsic<K: Sink>(machine: &mut Machine, n: u8, paper: &mut K) -> Result<CallEnd, Stop>
     requires calls { CallsSome machine.old n }
     requires countable { AreCountable machine.old.tasks.jobs }
@@ -77,6 +78,7 @@ pub fn intrinsic<K: Sink>(machine: &mut Machine, n: u8, paper: &mut K) -> Result
     ensures present { (x : Storage) (told : Option (List (List ℕ))) (plan : Plan) (s : Session) (m : Member) (t : Task) → IsInOrderButPlaces s
         → MachineStands x told machine.old plan s → IsRunning plan s.jobs m t → code_area x plan m t ≢ None → called_in m t ≡ Some n
         → CallTouches x plan m t result }
+    ensures changed { ChangesStack machine.old machine.new }
     ensures cause { result ≡ Err PrintFault → Rose K.faults paper.old paper.new }
     ensures later { K.faults paper.old ≤ K.faults paper.new }
     ensures countable { AreCountable machine.new.tasks.jobs }

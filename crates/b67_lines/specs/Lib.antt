@@ -1,2 +1,4 @@
 pub mod Ends
 pub mod Stops
+pub mod Parts
+pub mod Moments

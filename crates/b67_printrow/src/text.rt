@@ -69,11 +69,19 @@ fn add<K: Sink>(
     Ok(())
 }
 
-/// Prints the lines of a row that a task prints.
-pub fn say_row<K: Sink>(row: &[Word], job: u8, task: u32, paper: &mut K) -> Result<(), Failed>
-    requires { (values : List ℤ) × (values_of row.now ≡ Some values) }
-    ensures whole { OnOk result ((values : List ℤ) → values_of row.now ≡ Some values → Took K.taken paper.old paper.new (line_text job (task, Values values))) }
-    ensures part { OnErr result ((values : List ℤ) → values_of row.now ≡ Some values → TookPart K.taken paper.old paper.new (line_text job (task, Values values))) }
+/// Prints what isn't printed yet of the lines of a row that a task prints. `printed` counts how many first bytes of them are
+/// printed; it is raised by those that are taken.
+pub fn say_row<K: Sink>(
+    row: &[Word],
+    job: u8,
+    task: u32,
+    printed: &mut u64,
+    paper: &mut K,
+) -> Result<(), Failed>
+    requires row { (values : List ℤ) × (values_of row.now ≡ Some values) }
+    requires short { length row.now < 2 ^ 32 }
+    ensures whole { OnOk result ((values : List ℤ) → values_of row.now ≡ Some values → TookRest K.taken paper.old paper.new (line_text job (task, Values values)) printed.old) }
+    ensures part { OnErr result ((values : List ℤ) → values_of row.now ≡ Some values → TookMore K.taken paper.old paper.new (line_text job (task, Values values)) printed.old printed.new) }
     ensures cause { HasCause K.faults paper.old paper.new result }
 {
     let mut begun = Begun {

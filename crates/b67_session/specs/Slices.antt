@@ -1,25 +1,32 @@
 -- What a slice of a run answers, prints and leaves: a session of one job with one task.
-use Rattle.std.specs.Prelude.{◌≡◌, ◌≢◌, ℕ, ◌+◌, ◌<◌, ◌≤◌, List, [], length, Option, Some, None, Result, Ok, Err}
-use Rattle.b67_io.specs.Told.{Took, TookPart}
+use Rattle.std.specs.Prelude.{◌≡◌, ◌≢◌, ℕ, ◌+◌, ◌<◌, ◌≤◌, ◌⊎◌, List, [], ◌++◌, length, take, Option, Some, None, Result, Ok, Err}
+use Rattle.b67_io.specs.Told.{Took}
 use Rattle.b67_model.specs.State.{Task, Member}
 use Rattle.b67_model.specs.Need.{need, need_next}
 use Rattle.b67_model.specs.Sectors.{sectors}
 use Rattle.b67_model.specs.Lines.{run_text}
 use Rattle.b67_model.specs.Schedule.{Session}
 use Rattle.b67_model.specs.InOrder.{IsInOrderButPlaces}
-use Rattle.b67_model.specs.Run.{RunLine, Moment, next, after, lines, live_tasks}
+use Rattle.b67_model.specs.Run.{RunLine, Moment, after, lines, live_tasks}
+use Rattle.b67_lines.specs.Moments.{first_part, last_part, due}
 use Rattle.b67_stack.specs.Stands.{Storage}
 use Rattle.b67_storage.specs.Machine.{Says}
 use Rattle.b67_layout.specs.Plan.{Plan}
+use Rattle.b67_code.specs.Running.{code_area}
 use Rattle.b67_exec.specs.Operators.{called_in}
 use Rattle.b67_single.specs.Single.{IsSingle}
 use Rattle.b67_task.specs.declared.tables.Tasks.{Tasks}
 use Rattle.b67_task.specs.declared.tables.Machine.{Machine}
 use Rattle.b67_task.specs.Tables.{MachineStands}
+use Rattle.b67_ending.specs.Endings.{HasRowsOf}
+use Rattle.b67_bring.specs.Bringing.{IsShortOf}
+use Rattle.b67_attempt.specs.Attempts.{IsLacking}
 use Rattle.b67_intrinsics.specs.declared.ends.Stop.{Stop}
 use Rattle.b67_intrinsics.specs.declared.ends.Stop.TheVariants as stops
 use Rattle.b67_session.specs.declared.slices.Progress.{Progress}
 use Rattle.b67_session.specs.declared.slices.Progress.TheVariants as progress
+
+-- ---- machines
 
 -- the machine stands for a session in order, of one job with one ready task, and this is known of what the device's
 -- sectors hold
@@ -39,6 +46,44 @@ pub record LivesOn (told : Option (List (List ℕ))) (k : Machine) : Type 0 wher
   pub task : Task
   pub lone : IsLone known k session member task
 
+-- the machine stands for a session whose one task has just made the last operator that its job may make, and is to end by
+-- LIMIT. With one operator less the session is in order, and stands with the counts of other tables
+pub record IsLimited (known : Option (List (List ℕ))) (k : Machine) (h : Session) (m : Member) (t : Task) : Type 0 where
+  pub storage : Storage
+  pub plan : Plan
+  pub single : IsSingle h m t
+  pub limit : m.course.made ≡ m.setting.limit
+  pub last : h.last.job ≡ m.setting.number
+  pub stands : MachineStands storage known k plan h
+  pub session : Session
+  pub member : Member
+  pub ordered : IsInOrderButPlaces session
+  pub single_before : IsSingle session member t
+  pub counted : h ≡ record session { jobs = h.jobs; made = h.made; last = h.last; turn = h.turn }
+  pub course : m ≡ record member { course = record member.course { made = m.course.made } }
+  pub tables : Tasks
+  pub same : HasRowsOf k tables
+  pub stands_before : MachineStands storage known (record k { tasks = tables }) plan session
+
+pub record StandsLimited (told : Option (List (List ℕ))) (k : Machine) : Type 0 where
+  pub known : Option (List (List ℕ))
+  pub says : Says known told
+  pub session : Session
+  pub member : Member
+  pub task : Task
+  pub limited : IsLimited known k session member task
+
+-- the machine stands for a session that no task is left of, and this is known of what the device's sectors hold
+pub record Rests (known : Option (List (List ℕ))) (k : Machine) (s : Session) : Type 0 where
+  pub storage : Storage
+  pub plan : Plan
+  pub stands : MachineStands storage known k plan s
+  pub none : live_tasks s.jobs ≡ 0
+
+-- a slice may set out from it: a task lives, or is to end by LIMIT
+abbrev pub IsOpen : Option (List (List ℕ)) → Machine → Type 0
+IsOpen told k = LivesOn told k ⊎ StandsLimited told k
+
 -- why a slice goes no further: no task lives, or the count of the halt is reached
 abbrev pub Pauses : Tasks → Option Progress → Type 0
 Pauses tasks None = tasks.halt ≢ Some tasks.made
@@ -46,30 +91,47 @@ Pauses tasks (Some progress.Ended) = tasks.rows.items ≡ []
 Pauses tasks (Some progress.Halted) = tasks.halt ≡ Some tasks.made
 Pauses tasks (Some progress.More) = ⊥
 
--- so many steps lead to a session, and these are their lines
-pub record Leads (first : Session) (steps : ℕ) (s : Session) (printed : List RunLine) : Type 0 where
-  pub session : after steps first ≡ s
-  pub printed_are : lines steps first ≡ printed
+-- ---- steps and their text
 
--- how a slice ended after whole steps that led to a session and printed these lines, over a core of so many words and a
--- device of so many sectors, of which this is known. `exact` is whether anything was known of them at the start
-abbrev pub SliceMeets : {K : Type 0} → (K → Option (List ℕ)) → Option (List (List ℕ)) → Type 0 → ℕ → ℕ → ℕ → ℕ → Session → List RunLine → Result Progress Stop → Machine → K → K → Type 0
-SliceMeets taken known exact core count n steps s printed (Ok progress.Ended) new paper paper' =
-    (exact → live_tasks s.jobs ≡ 0) × Took taken paper paper' (run_text printed)
-SliceMeets taken known exact core count n steps s printed (Ok progress.Halted) new paper paper' =
-    (new.tasks.halt ≡ Some new.tasks.made) × ((m : Member) × (t : Task) × IsLone known new s m t) × Took taken paper paper' (run_text printed)
-SliceMeets taken known exact core count n steps s printed (Ok progress.More) new paper paper' =
-    (steps ≡ n) × (new.tasks.halt ≢ Some new.tasks.made) × ((m : Member) × (t : Task) × IsLone known new s m t) × Took taken paper paper' (run_text printed)
-SliceMeets taken known exact core count n steps s printed (Err (stops.NoCore words size)) new paper paper' =
-    ((m : Member) × (t : Task) × IsLone known new s m t × (words ≡ need core s m t)) × (size ≡ core) × (core < words) × Took taken paper paper' (run_text printed)
-SliceMeets taken known exact core count n steps s printed (Err (stops.BackingFull sum size)) new paper paper' =
-    ((m : Member) × (t : Task) × IsLone known new s m t) × (sum ≡ sectors s.jobs) × (size ≡ count) × (count < sum) × Took taken paper paper' (run_text printed)
-SliceMeets taken known exact core count n steps s printed (Err stops.BackingFault) new paper paper' =
-    ((m : Member) × (t : Task) × IsLone known new s m t) × Took taken paper paper' (run_text printed)
-SliceMeets {K} taken known exact core count n steps s printed (Err stops.PrintFault) new paper paper' =
-    (between : K) × (moment : Moment) × (exact → next s ≡ Some moment) × Took taken paper between (run_text printed) × TookPart taken between paper' (run_text moment.lines)
-SliceMeets taken known exact core count n steps s printed (Err stops.Unbuilt) new paper paper' =
-    ((m : Member) × (t : Task) × IsLone known new s m t × (called : ℕ) × (called_in m t ≡ Some called) × (12 ≤ called)) × Took taken paper paper' (run_text printed)
+-- so many steps lead from a session to another and these are their lines: whole steps, or the last one but for LIMIT's part
+pub data Reaches (first : Session) (steps : ℕ) (s : Session) (printed : List RunLine) : Type 0 where
+  whole : after steps first ≡ s → lines steps first ≡ printed → Reaches first steps s printed
+  but_limit : (k : ℕ) (part : Moment) → steps ≡ k + 1 → first_part (after k first) ≡ Some part → part.session ≡ s → last_part s ≢ None
+      → lines k first ++ part.lines ≡ printed → Reaches first steps s printed
+
+-- Of the text that was due before, so many first bytes were printed before. What is printed now is the rest of the text of
+-- these lines, and so many first bytes of the text that is due next.
+pub record Prints {K : Type 0} (taken : K → Option (List ℕ)) (paper paper' : K) (was_due : List ℕ) (before : ℕ) (printed : List RunLine) (is_due : List ℕ) (now : ℕ) : Type 0 where
+  pub text : List ℕ
+  pub took : Took taken paper paper' text
+  pub same : take before was_due ++ text ≡ run_text printed ++ take now is_due
+
+-- ---- what is answered
+
+-- the next step lacks its segment or its array; it needs no more words than core has, or its segment is absent
+pub record Lacks (exact : Type 0) (core : ℕ) (x : Storage) (plan : Plan) (s : Session) (m : Member) (t : Task) : Type 0 where
+  pub lacks : exact → IsLacking x plan m t
+  pub room : exact → (need core s m t ≤ core) ⊎ (code_area x plan m t ≡ None)
+
+-- how a slice ended after whole steps that led to a session, over a core of so many words and a device of so many sectors,
+-- of which this is known. `exact` is whether anything was known of them at the start
+abbrev pub SliceMeets : Option (List (List ℕ)) → Type 0 → ℕ → ℕ → ℕ → ℕ → Session → List ℕ → Result Progress Stop → Machine → Type 0
+SliceMeets known exact core count n steps s is_due (Ok progress.Ended) new = exact → live_tasks s.jobs ≡ 0
+SliceMeets known exact core count n steps s is_due (Ok progress.Halted) new =
+    (new.tasks.halt ≡ Some new.tasks.made) × ((m : Member) × (t : Task) × IsLone known new s m t)
+SliceMeets known exact core count n steps s is_due (Ok progress.More) new =
+    (steps ≡ n) × (new.tasks.halt ≢ Some new.tasks.made) × ((m : Member) × (t : Task) × IsLone known new s m t)
+SliceMeets known exact core count n steps s is_due (Err (stops.NoCore words size)) new =
+    ((m : Member) × (t : Task) × IsLone known new s m t × (words ≡ need core s m t)) × (size ≡ core) × (core < words)
+SliceMeets known exact core count n steps s is_due (Err (stops.BackingFull sum size)) new =
+    ((m : Member) × (t : Task) × (h : IsLone known new s m t) × Lacks exact core h.storage h.plan s m t
+    × ((wants : ℕ) × (free : ℕ) × IsShortOf h.storage h.plan s.jobs wants free)) × (sum ≡ sectors s.jobs) × (size ≡ count) × (count < sum)
+SliceMeets known exact core count n steps s is_due (Err stops.BackingFault) new =
+    (m : Member) × (t : Task) × (h : IsLone known new s m t) × Lacks exact core h.storage h.plan s m t
+SliceMeets known exact core count n steps s is_due (Err stops.PrintFault) new =
+    (new.tasks.printed < length is_due) × (((m : Member) × (t : Task) × IsLone known new s m t) ⊎ ((m : Member) × (t : Task) × IsLimited known new s m t))
+SliceMeets known exact core count n steps s is_due (Err stops.Unbuilt) new =
+    (m : Member) × (t : Task) × IsLone known new s m t × (called : ℕ) × (called_in m t ≡ Some called) × (12 ≤ called)
 
 -- Where it is known what the device's sectors hold, the steps are those of the session from which the slice set out. Where
 -- nothing is known, they are those of a machine that had some code and some numbers.
@@ -78,16 +140,24 @@ pub record Slices {K : Type 0} (taken : K → Option (List ℕ)) (known : Option
   pub few : steps ≤ n
   pub session : Session
   pub printed : List RunLine
-  pub leads : exact → Leads first steps session printed
+  pub leads : exact → Reaches first steps session printed
   pub made : new.tasks.made ≡ old.tasks.made + steps
-  pub meets : SliceMeets taken known exact (length old.cpu.core) count n steps session printed answered new paper paper'
+  pub was_due : List ℕ
+  pub is_due : List ℕ
+  pub was : exact → was_due ≡ due first
+  pub next : exact → is_due ≡ due session
+  pub prints : Prints taken paper paper' was_due old.tasks.printed printed is_due new.tasks.printed
+  pub meets : SliceMeets known exact (length old.cpu.core) count n steps session is_due answered new
 
--- the machine stands for a session that no task is left of, and this is known of what the device's sectors hold
-pub record Rests (known : Option (List (List ℕ))) (k : Machine) (s : Session) : Type 0 where
-  pub storage : Storage
-  pub plan : Plan
-  pub stands : MachineStands storage known k plan s
-  pub none : live_tasks s.jobs ≡ 0
+-- From a session whose task is to end by LIMIT: it ends, with the rest of its line printed; or the printer has failed again.
+abbrev pub Resumes : {K : Type 0} → (K → Option (List ℕ)) → Option (List (List ℕ)) → Session → Member → Task → Result Progress Stop → Machine → Machine → K → K → Type 0
+Resumes taken known h m t (Ok progress.Ended) old new paper paper' =
+    (part : Moment) × (last_part h ≡ Some part) × (new.tasks.made ≡ old.tasks.made) × Rests known new part.session
+    × Prints taken paper paper' (due h) old.tasks.printed part.lines [] 0
+Resumes taken known h m t (Err stops.PrintFault) old new paper paper' =
+    (new ≡ record old { tasks = record old.tasks { printed = new.tasks.printed } }) × (new.tasks.printed < length (due h))
+    × Prints taken paper paper' (due h) old.tasks.printed [] (due h) new.tasks.printed
+Resumes taken known h m t answered old new paper paper' = ⊥
 
 -- after a run that has ended, the machine rests. Where it was known what the device's sectors hold, its session is the one
 -- after as many steps as were counted

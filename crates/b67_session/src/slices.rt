@@ -8,7 +8,8 @@ ghost use Rattle.b67_storage.specs.Machine.{Says, Served, retold};
 ghost use Rattle.b67_intrinsics.specs.Called.{AreCountable};
 ghost use Rattle.b67_intrinsics.specs.declared.ends.Stop.TheVariants.{BackingFault, PrintFault};
 ghost use Rattle.b67_session.specs.declared.slices.Progress.TheVariants.{Ended};
-ghost use Rattle.b67_session.specs.Slices.{LivesOn, IsLone, Slices, Pauses, Over, StepsFit};
+ghost use Rattle.b67_attempt.specs.Brought.{WantsNothing};
+ghost use Rattle.b67_session.specs.Slices.{IsOpen, IsLone, IsLimited, Slices, Resumes, Pauses, Over, StepsFit};
 
 use crate::ends::StepEnd;
 use crate::steps::step;
@@ -41,23 +42,34 @@ fn pause(tasks: &Tasks) -> Option<Progress>
 /// Makes steps of a session of one job with one task until that has ended, the count of the halt is reached, or `n` were
 /// made, looked at in this order. Each step's text is printed as the step is made.
 ///
-/// After a `Stop` the step isn't counted, and but after `PrintFault` the machine stands for the state before it. `NoCore`
-/// only where the step's need exceeds core, with both; and where it is known what the device's sectors hold, no step that was
-/// made needs more than core has. `BackingFull` only where the session takes more sectors than the
-/// device has, with both; `BackingFault` and `PrintFault` only where that device failed. Where nothing is known of what the
-/// device's sectors hold, the words that it gives back may be others, and as many. After `Ended` the machine stands for the
-/// session without a task; where it was known what the sectors hold, for the one after the steps.
+/// After a `Stop` the step isn't made, and the machine stands for the state before it; but where the printer failed in the
+/// line of LIMIT, the step is made and counted but for that line and the task's end, and the next call begins with them. The
+/// call may be made again after every stop. `printed` counts the bytes of the text in hand that were taken, and the next call
+/// skips these: no byte is printed twice.
+///
+/// `NoCore` exactly where the step's need exceeds core, with both, unless its segment is absent and the device is full or
+/// fails as it is brought in. `BackingFull` only where the session takes more sectors than the device has, with both, where
+/// the step's segment or array is absent, and a present array that keeps no chain wants more sectors than are free;
+/// `BackingFault` and `PrintFault` only where that device failed. A single step whose segment and array are present doesn't
+/// call the backing. Where nothing is known of what the device's sectors hold, the words that it gives back may be others,
+/// and as many. After `Ended` the machine stands for the session without a task; where it was known what the sectors hold,
+/// for the one after the steps.
 pub fn slice<B: Backing, K: Sink>(
     machine: &mut Machine,
     n: u64,
     backing: &mut B,
     paper: &mut K,
 ) -> Result<Progress, Stop>
-    requires lives { LivesOn (B.holds backing.old) machine.old }
+    requires lives { IsOpen (B.holds backing.old) machine.old }
     requires countable { AreCountable machine.old.tasks.jobs }
     requires same { B.size backing.old + 1 ≡ length machine.old.sectors.links }
     ensures row { (known : Option (List (List ℕ))) (s : Session) (m : Member) (t : Task) → Says known (B.holds backing.old) → IsLone known machine.old s m t
         → Slices K.taken (retold known (B.holds backing.new)) (known ≢ None) (B.size backing.old) n s result machine.old machine.new paper.old paper.new }
+    ensures resumed { (known : Option (List (List ℕ))) (h : Session) (m : Member) (t : Task) → Says known (B.holds backing.old) → IsLimited known machine.old h m t
+        → Resumes K.taken known h m t result machine.old machine.new paper.old paper.new × (backing.new ≡ backing.old) }
+    ensures quiet { (known : Option (List (List ℕ))) (s : Session) (m : Member) (t : Task) (h : IsLone known machine.old s m t) → Says known (B.holds backing.old)
+        → n ≤ 1 → WantsNothing h.storage h.plan m t → backing.new ≡ backing.old }
+    ensures unprinted { result ≢ Err PrintFault → machine.old.tasks.printed ≡ 0 → machine.new.tasks.printed ≡ 0 }
     ensures over { (known : Option (List (List ℕ))) (s : Session) (m : Member) (t : Task) → Says known (B.holds backing.old) → IsLone known machine.old s m t
         → result ≡ Ok Ended → Over (retold known (B.holds backing.new)) (known ≢ None) s machine.old machine.new }
     ensures fits { (known : Option (List (List ℕ))) (s : Session) (m : Member) (t : Task) → Says known (B.holds backing.old) → known ≢ None → IsLone known machine.old s m t

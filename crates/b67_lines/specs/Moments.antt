@@ -1,0 +1,72 @@
+-- A step prints in two parts: its text with the lines of the endings but LIMIT's, before the session changes; and LIMIT's
+-- lines, once the rest of the step is made and counted. What is due next to be printed.
+use Rattle.std.specs.Prelude.{ℕ, ◌==◌, ◌&&◌, Bool, true, false, List, [], ◌∷◌, ◌++◌, map, Option, Some, None}
+use Rattle.std.specs.Option.{option_or}
+use Rattle.b67_word.specs.declared.faults.Ending.TheVariants.{Limit}
+use Rattle.b67_model.specs.Keyed.{keyed, change_keyed}
+use Rattle.b67_model.specs.State.{Task, Member}
+use Rattle.b67_model.specs.Steps.{Ends}
+use Rattle.b67_model.specs.Endings.{ends_each_if, unsettled}
+use Rattle.b67_model.specs.Alone.{up_to_deadlock}
+use Rattle.b67_model.specs.Schedule.{Session, Choice, choice}
+use Rattle.b67_model.specs.Run.{Moment, number_of, of_job, with_moment}
+use Rattle.b67_model.specs.Lines.{run_text}
+
+-- ---- the first part
+
+abbrev pub first_part_of : Session → Choice → Member → Option Task → Option Moment
+first_part_of s c m None = None
+first_part_of s c m (Some task) =
+    let made = up_to_deadlock m.setting m.course task in
+    Some (record { session = with_moment s c m made; lines = of_job c.who.job made.lines })
+
+abbrev pub first_part_in : Session → Choice → Option Member → Option Moment
+first_part_in s c None = None
+first_part_in s c (Some m) = first_part_of s c m (keyed (λ (t : Task). t.number) c.who.task m.course.job.tasks)
+
+abbrev pub first_part_by : Session → Option Choice → Option Moment
+first_part_by s None = None
+first_part_by s (Some c) = first_part_in s c (keyed number_of c.who.job s.jobs)
+
+-- the session in which a job may stand at its limit, and the lines up to it
+unfoldable pub first_part : Session → Option Moment
+first_part s = first_part_by s (choice s)
+
+-- ---- the last part
+
+abbrev pub has_tasks : List Task → Bool
+has_tasks [] = false
+has_tasks (t ∷ more) = true
+
+-- a job with live tasks has made as many operators as it may
+abbrev pub is_at_limit : Member → Bool
+is_at_limit m = (m.course.made == m.setting.limit) && has_tasks m.course.job.tasks
+
+-- all its tasks end
+abbrev pub last_part_if : Bool → Session → Member → Option Moment
+last_part_if false s m = None
+last_part_if true s m =
+    let ended = ends_each_if true Limit (unsettled m.course.job) in
+    Some (record {
+      session = record s { jobs = change_keyed number_of m.setting.number
+          (λ (y : Member). record y { course = record y.course { job = ended.job; ended = y.course.ended ++ ended.endings } }) s.jobs };
+      lines = of_job m.setting.number (map (λ e. (e.0, Ends e.1)) ended.endings);
+    })
+
+abbrev pub last_part_by : Session → Option Member → Option Moment
+last_part_by s None = None
+last_part_by s (Some m) = last_part_if (is_at_limit m) s m
+
+-- that of the job that made the last operator, where it stands at its limit
+unfoldable pub last_part : Session → Option Moment
+last_part s = last_part_by s (keyed number_of s.last.job s.jobs)
+
+-- ---- what is due
+
+abbrev pub text_of : Option Moment → List ℕ
+text_of None = []
+text_of (Some m) = run_text m.lines
+
+-- the text that is printed next: the rest of a step, or the first part of the next one
+abbrev pub due : Session → List ℕ
+due s = text_of (option_or (last_part s) (first_part s))
