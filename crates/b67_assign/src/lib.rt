@@ -19,6 +19,8 @@ use b67_evaluate::{enter_in_place, procedure_cell};
 use b67_stack::{Cpu, Step};
 use b67_word::{Place, Word};
 
+pub use b67_evaluate::{evaluate, load};
+
 /// Enters the procedure to which the second cell from the top leads, where the value on top takes that cell's place.
 fn enter_under(cpu: &mut Cpu, lower: Word, upper: Word) -> Step
     requires { (a : RunsSome cpu.old) × (q : Place) × ValueOver cpu.old a.storage a.plan a.member a.task q lower upper }

@@ -14,7 +14,7 @@ use Rattle.b67_stack.specs.declared.Step.TheVariants as answers
 use Rattle.b67_stack.specs.Stands.{Storage}
 use Rattle.b67_layout.specs.Plan.{Plan}
 use Rattle.b67_layout.specs.Meets.{here}
-use Rattle.b67_entry.specs.Procedures.{CallsOrMeets}
+pub use Rattle.b67_entry.specs.Procedures.{CallsOrMeets}
 use Rattle.b67_code.specs.Running.{code_area}
 
 -- an operator's parameters have their bits: 14 of a couple, 48 of a literal

@@ -18,7 +18,7 @@ use Rattle.b67_layout.specs.Layout.{array_thing}
 use Rattle.b67_layout.specs.Meets.{here, things_gone, with_job, IsAbsent, IsMade, Meets}
 use Rattle.b67_layout.specs.Session.{IsRunning, SessionStands, SessionStandsBut}
 use Rattle.b67_profiles.specs.Profiles.{called}
-use Rattle.b67_entry.specs.Procedures.{CallsOrMeets}
+use Rattle.b67_exec.specs.Operators.{CallsOrMeets}
 use Rattle.b67_keeping.specs.Keeping.{is_leaving}
 use Rattle.b67_task.specs.declared.tables.Machine.{Machine}
 use Rattle.b67_task.specs.Tables.{TasksShow, task_row, job_row, counts_of, MachineStands}

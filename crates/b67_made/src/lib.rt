@@ -21,11 +21,9 @@ ghost use Rattle.b67_task.specs.Tables.{MachineStands};
 ghost use Rattle.b67_made.specs.Makes.{StepMakes, CallsOrMakes, MakesOperator, ForEachReady};
 
 use b67_code::reading;
-use b67_exec::perform;
-use b67_leave::exit;
+use b67_exec::{exit, perform, retn};
 use b67_model::{Code, Op};
 use b67_release::release;
-use b67_return::retn;
 use b67_stack::{Step, What};
 use b67_task::Machine;
 use b67_word::{Fault, Place};
