@@ -175,6 +175,8 @@ pub fn page_in<B: Backing>(
     ensures unchanged { result ≡ Err NoHole → (cpu.new ≡ cpu.old) × (backing.new ≡ backing.old) }
     ensures untouched { (x : Storage) (p : Picture) (t : Thing) → MachineStands x cpu.old areas.old sectors.now (B.holds backing.old) p
         → IsAbsent x p home t → (x.held home).chain ≡ 0 → backing.new ≡ backing.old }
+    ensures zeros { (x : Storage) (p : Picture) (t : Thing) → MachineStands x cpu.old areas.old sectors.now (B.holds backing.old) p
+        → IsAbsent x p home t → (x.held home).chain ≡ 0 → result ≢ Err BackingFault }
     ensures device { Becomes B.holds backing.old backing.new (λ all. all) }
     ensures size { B.size backing.new ≡ B.size backing.old }
     ensures calls { B.calls backing.old ≤ B.calls backing.new }
