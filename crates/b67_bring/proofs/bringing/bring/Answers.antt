@@ -119,8 +119,8 @@ returns-in-Code-clause-full g c = λ x plan s m t words wants free o h runs want
       short_full waits.storage new.cpu new.areas new.sectors now plan s wants free (g.B.Backing.size c.args.backing.now) waits.stands short (c.requires.same ∙ sym c.bring_code.ensures.count),
       λ room. none (room_code x plan s m t c.args.absent words d found c.in-Code.is room),
       full_as x now (machine_of new.cpu new.areas new.sectors k.tasks) plan s m t c.args.absent (what.Code d) wants free c.in-Code.is
-      (refused_full x told now k plan s o h new.cpu new.areas new.sectors c.bring_code.ensures.rest c.bring_code.ensures.len c.bring_code.ensures.areas (c.bring_code.ensures.outside x p code mx a) m t (what.Code d) 0
-      waits (λ y sheds. code_lacks x y plan m t d 0 w.1 sheds) wants free short),
+          (refused_full x told now k plan s o h new.cpu new.areas new.sectors c.bring_code.ensures.rest c.bring_code.ensures.len c.bring_code.ensures.areas (c.bring_code.ensures.outside x p code mx a) m t (what.Code d) 0
+          waits (λ y sheds. code_lacks x y plan m t d 0 w.1 sheds) wants free short),
     )
 
 pub returns-in-Code-clause-hole : goal.returns-in-Code-clause-hole
@@ -211,8 +211,8 @@ returns-in-Array-clause-full g c = λ x plan s m t words wants free o h runs wan
       short_full waits.storage new.cpu new.areas new.sectors now plan s wants free (g.B.Backing.size c.args.backing.now) waits.stands short (c.requires.same ∙ sym c.bring_data.ensures.count),
       λ room. none (room_array x m t c.args.absent words home (length w.array.numbers) c.in-Array.is w.words_are room),
       full_as x now (machine_of new.cpu new.areas new.sectors k.tasks) plan s m t c.args.absent (what.Array home) wants free c.in-Array.is
-      (refused_full x told now k plan s o h new.cpu new.areas new.sectors c.bring_data.ensures.rest c.bring_data.ensures.len c.bring_data.ensures.areas (c.bring_data.ensures.outside x p thing code at mx a present) m t (what.Array home) at
-      waits (λ y sheds. array_lacks x y plan m t home words at w sheds) wants free short),
+          (refused_full x told now k plan s o h new.cpu new.areas new.sectors c.bring_data.ensures.rest c.bring_data.ensures.len c.bring_data.ensures.areas (c.bring_data.ensures.outside x p thing code at mx a present) m t (what.Array home) at
+          waits (λ y sheds. array_lacks x y plan m t home words at w sheds) wants free short),
     )
 
 pub returns-in-Array-clause-hole : goal.returns-in-Array-clause-hole
