@@ -146,7 +146,7 @@ fn data(read_only: bool, words: u32, at: u32) -> Word
 }
 
 /// Brings the array, data row or segment of an absent original or segment descriptor into the lowest hole with room for it.
-/// No area moves. Where it was never touched, no device is called.
+/// No area moves. Where it was never touched, no device is called, and only want of a hole refuses it.
 pub fn page_in<B: Backing>(
     cpu: &mut Cpu,
     areas: &mut Areas,
