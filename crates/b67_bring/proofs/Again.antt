@@ -92,5 +92,5 @@ module _ (x y : Storage) (told now : Option (List (List ℕ))) (k : Machine) (pl
     };
   }
 
-  pub again : (a : StandsAgain x now (machine_of cpu areas table k.tasks) plan s) × (a.storage ≡ y)
-  again = (it, refl)
+  pub again : (a : StandsAgain x now (machine_of cpu areas table k.tasks) plan s) × (a.storage ≡ y) × (a.jobs ≡ sees.seen)
+  again = (it, refl, refl)

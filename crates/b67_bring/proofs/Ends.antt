@@ -12,13 +12,14 @@ use Rattle.b67_stack.specs.declared.What.TheVariants as what
 use Rattle.b67_stack.specs.Shapes.{Held}
 use Rattle.b67_stack.specs.Picture.{Thing}
 use Rattle.b67_stack.specs.Stands.{Storage}
+use Rattle.b67_storage.specs.Machine as storage
 use Rattle.b67_storage.specs.Machine.{Stayed}
 use Rattle.b67_storage.proofs.Helds.{held-same}
 use Rattle.b67_layout.specs.Plan.{Plan}
 use Rattle.b67_layout.specs.Layout.{things_of, array_thing, picture}
 use Rattle.b67_layout.specs.Session.{IsRunning}
 use Rattle.b67_presence.specs.Brought.{brought}
-use Rattle.b67_presence.specs.Brings.{Came, Waits, BothIn, MayWait}
+use Rattle.b67_presence.specs.Brings.{ReadIn, Came, Waits, BothIn, MayWait}
 use Rattle.b67_task.specs.declared.tables.Machine.{Machine}
 use Rattle.b67_bring.specs.Bringing.{StandsOver, StandsAgain, Brings, IsArrayWanted}
 use Rattle.b67_bring.proofs.Seen.{Sees, sees_none, sees_read, sees_both, fitting, thing_bits}
@@ -27,26 +28,41 @@ use Rattle.b67_bring.proofs.Wants.{code_found, array_absent}
 
 module _ (x : Storage) (told now : Option (List (List ℕ))) (k : Machine) (plan : Plan) (s : Session) (o : IsInOrderButPlaces s) (h : StandsOver x told k plan s) (cpu : Cpu) (areas : Areas) (table : Table)
     (rest : cpu ≡ record k.cpu { core = cpu.core }) (len : length cpu.core ≡ length k.cpu.core) (same_areas : areas ≡ k.areas) (stayed : Stayed (picture plan s.jobs) k.cpu.core cpu.core) where
-  pub waits_again : (spare : ℕ) → Waits x (picture plan s.jobs) spare cpu areas table now → StandsAgain x now (machine_of cpu areas table k.tasks) plan s
-  waits_again spare w = (again x w.storage told now k plan s h cpu areas table rest len same_areas stayed (picture plan s.jobs) (sees_none x plan s o) w.stands w.sheds.untold w.sheds.told).0
+  pub waits_again : (spare : ℕ) (w : Waits x (picture plan s.jobs) spare cpu areas table now) → (a : StandsAgain x now (machine_of cpu areas table k.tasks) plan s) × (a.storage ≡ w.storage) × (a.jobs ≡ s.jobs)
+  waits_again spare w = again x w.storage told now k plan s h cpu areas table rest len same_areas stayed (picture plan s.jobs) (sees_none x plan s o) w.stands w.sheds.untold w.sheds.told
+
+  pub stays_again : storage.MachineStands x cpu areas table now (picture plan s.jobs) → (a : StandsAgain x now (machine_of cpu areas table k.tasks) plan s) × (a.storage ≡ x)
+  stays_again m =
+      let a = again x x told now k plan s h cpu areas table rest len same_areas stayed (picture plan s.jobs) (sees_none x plan s o) m (λ e. e) (λ n. n) in
+      (a.0, a.1)
 
   module _ (t : Thing) (int : Has (flat_map (things_of plan) s.jobs) t) where
-    pub may_again : MayWait x (picture plan s.jobs) t cpu areas table now → StandsAgain x now (machine_of cpu areas table k.tasks) plan s
-    may_again w =
+    pub may_again : (c : Thing) (w : MayWait x (picture plan s.jobs) t c cpu areas table now) → (a : StandsAgain x now (machine_of cpu areas table k.tasks) plan s) × (a.storage ≡ w.storage)
+    may_again c w =
         let fits = fitting x k.cpu.core k.cpu.regs (picture plan s.jobs) h.stands.session.holds.memory t int w.reads.numbers w.reads.count in
         let sees : Sees x plan s.jobs w.picture = sees_read x plan s o w.picture t w.reads fits (thing_bits plan s o t int) in
-        (again x w.storage told now k plan s h cpu areas table rest len same_areas stayed w.picture sees w.stands w.untold w.told_still).0
+        let a = again x w.storage told now k plan s h cpu areas table rest len same_areas stayed w.picture sees w.stands w.untold w.told_still in
+        (a.0, a.1)
+
+    pub read_again : (w : ReadIn x (picture plan s.jobs) t cpu areas table now) → (a : StandsAgain x now (machine_of cpu areas table k.tasks) plan s) × (a.storage ≡ brought x t w.at)
+    read_again w =
+        let fits = fitting x k.cpu.core k.cpu.regs (picture plan s.jobs) h.stands.session.holds.memory t int w.reads.numbers w.reads.count in
+        let sees : Sees x plan s.jobs w.picture = sees_read x plan s o w.picture t w.reads fits (thing_bits plan s o t int) in
+        let a = again x (brought x t w.at) told now k plan s h cpu areas table rest len same_areas stayed w.picture sees w.stands (λ e. e) (λ n. n) in
+        (a.0, a.1)
 
     pub came_again : (spare : ℕ) (w : Came x (picture plan s.jobs) t spare cpu areas table now) → (a : StandsAgain x now (machine_of cpu areas table k.tasks) plan s) × (a.storage ≡ brought w.storage t w.at)
     came_again spare w =
         let fits = fitting x k.cpu.core k.cpu.regs (picture plan s.jobs) h.stands.session.holds.memory t int w.reads.numbers w.reads.count in
         let sees : Sees x plan s.jobs w.picture = sees_read x plan s o w.picture t w.reads fits (thing_bits plan s o t int) in
-        again x (brought w.storage t w.at) told now k plan s h cpu areas table rest len same_areas stayed w.picture sees w.stands w.sheds.untold w.sheds.told
+        let a = again x (brought w.storage t w.at) told now k plan s h cpu areas table rest len same_areas stayed w.picture sees w.stands w.sheds.untold w.sheds.told in
+        (a.0, a.1)
 
     pub both_again : (c : Thing) → Has (flat_map (things_of plan) s.jobs) c → (w : BothIn x (picture plan s.jobs) t c cpu areas table now) → (a : StandsAgain x now (machine_of cpu areas table k.tasks) plan s) × (a.storage ≡ w.storage)
     both_again c inc w =
         let sees : Sees x plan s.jobs w.picture = sees_both x k.cpu.core k.cpu.regs plan s o h.stands.session.holds.memory t c int inc w.read w.picture w.reads w.reads_code in
-        again x w.storage told now k plan s h cpu areas table rest len same_areas stayed w.picture sees w.stands w.untold w.told_still
+        let a = again x w.storage told now k plan s h cpu areas table rest len same_areas stayed w.picture sees w.stands w.untold w.told_still in
+        (a.0, a.1)
 
   module _ (m : Member) (t : Task) (runs : IsRunning plan s.jobs m t) where
     abbrev code : Thing

@@ -3,3 +3,5 @@ pub mod Seen
 pub mod Again
 pub mod Wants
 pub mod Ends
+pub mod Shortage
+pub mod Refusals

@@ -97,7 +97,7 @@ pub record Sees (x : Storage) (plan : Plan) (jobs : List Member) (q : Picture) :
   pub is : q ≡ picture plan seen
   pub settled : Settled (picture plan jobs) → Settled q
 
-pub sees_none : (x : Storage) (plan : Plan) (s : Session) → IsInOrderButPlaces s → Sees x plan s.jobs (picture plan s.jobs)
+abbrev pub sees_none : (x : Storage) (plan : Plan) (s : Session) → IsInOrderButPlaces s → Sees x plan s.jobs (picture plan s.jobs)
 sees_none x plan s o = record { seen = s.jobs; others = others_same s o; same = λ n. refl; is = refl; settled = λ z. z }
 
 none_or : (o : Option (List (List ℕ))) → (o ≡ None) ⊎ (o ≢ None)

@@ -14,7 +14,7 @@ use Rattle.b67_code.specs.Running.{code_area}
 use Rattle.b67_order_weaker.specs.Weaker.{AllOtherNumbers}
 use Rattle.b67_task.specs.declared.tables.Machine.{Machine}
 use Rattle.b67_task.specs.Tables.{MachineStands}
-use Rattle.b67_storage.specs.Machine.{Says, retold, HasRoom}
+use Rattle.b67_storage.specs.Machine.{Says, retold}
 use Rattle.b67_backing.specs.Held.{sectors_for}
 use Rattle.b67_model.specs.Rows.{code_of}
 

@@ -1,5 +1,5 @@
 -- What stands where make_way ended.
-use Rattle.std.proofs.Common.{◌≡◌, ℕ, ◌+◌, ◌≤◌, List, length, Option, Some, Result, Err, refl, sym, ◌∙◌, ap, arith}
+use Rattle.std.proofs.Common.{◌≡◌, ℕ, ◌+◌, ◌≤◌, List, length, Option, Some, Result, Err, inl, refl, sym, ◌∙◌, ap, arith}
 use Rattle.b67_backing.specs.declared.SpaceFault.{SpaceFault}
 use Rattle.b67_backing.specs.declared.SpaceFault.TheVariants.{NoCore}
 use Rattle.std.proofs.lemmas.Option.{none-some}
@@ -51,13 +51,14 @@ both_came x cpu areas table told p home code spare t c m a k new after table' no
     }
 
 -- areas were given back, and the thing didn't come in
-pub may_wait : (x : Storage) (p : Picture) (home spare : ℕ) (t : Thing) → IsAbsent x p home t → (new : Cpu) (after : Areas) (table' : Table) (now : Option (List (List ℕ))) → Waits x p spare new after table' now → MayWait x p t new after table' now
-may_wait x p home spare t a new after table' now w = record {
+pub may_wait : (x : Storage) (p : Picture) (home spare : ℕ) (t c : Thing) → IsAbsent x p home t → (new : Cpu) (after : Areas) (table' : Table) (now : Option (List (List ℕ))) → Waits x p spare new after table' now → MayWait x p t c new after table' now
+may_wait x p home spare t c a new after table' now w = record {
   storage = w.storage;
   picture = p;
   low = w.sheds.low;
   untold = w.sheds.untold;
   told_still = w.sheds.told;
+  lacks = inl (ap (λ (q : ℕ). (w.storage.held q).area) a.is ∙ ap (λ (h : Held). h.area) (w.sheds.resting home a.absent) ∙ a.absent);
   reads = Reads-none x w.storage new.core new.regs p t w.stands.stands a.there;
   stands = w.stands;
 }
@@ -78,13 +79,14 @@ both_before x y p spare t c new after table' now s b = record {
   stands = b.stands;
 }
 
-pub wait_before : (x y : Storage) (p : Picture) (spare : ℕ) (t : Thing) (new : Cpu) (after : Areas) (table' : Table) (now : Option (List (List ℕ))) → Sheds x y spare → MayWait y p t new after table' now → MayWait x p t new after table' now
-wait_before x y p spare t new after table' now s b = record {
+pub wait_before : (x y : Storage) (p : Picture) (spare : ℕ) (t c : Thing) (new : Cpu) (after : Areas) (table' : Table) (now : Option (List (List ℕ))) → Sheds x y spare → MayWait y p t c new after table' now → MayWait x p t c new after table' now
+wait_before x y p spare t c new after table' now s b = record {
   storage = b.storage;
   picture = b.picture;
   low = b.low ∙ s.low;
   untold = λ e. b.untold (s.untold e);
   told_still = λ n. b.told_still (s.told n);
+  lacks = b.lacks;
   reads = record { numbers = b.reads.numbers; count = b.reads.count; bits = b.reads.bits; is = b.reads.is; same = λ n. b.reads.same (s.told n) };
   stands = b.stands;
 }

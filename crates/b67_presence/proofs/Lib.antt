@@ -6,3 +6,4 @@ pub mod Ways
 pub mod Rooms
 pub mod Resort
 pub mod Forcing
+mod Beside

@@ -14,7 +14,7 @@ use Rattle.b67_model.specs.Lists.{Has}
 use Rattle.b67_stack.specs.declared.Cpu.{Cpu}
 use Rattle.b67_stack.specs.Shapes.{Held}
 use Rattle.b67_stack.specs.Picture.{Thing, Picture}
-use Rattle.b67_stack.specs.Stands.{Storage, Stands}
+use Rattle.b67_stack.specs.Stands.{Storage, Stands, info_of}
 use Rattle.b67_storage.specs.Machine.{MachineStands, IsAbsent, IsPresent, HasRoom, AreBits, Stayed}
 use Rattle.b67_storage.proofs.Helds.{held-same, held-other}
 use Rattle.b67_storage.proofs.Renumbered.{renumbered-same, kept_there, Stayed-renumbered}
@@ -22,6 +22,7 @@ use Rattle.b67_overlay.specs.Overlaid.{overlaid, chain_out}
 use Rattle.b67_overlay.proofs.Chains.{retold-same}
 use Rattle.b67_presence.specs.Brought.{brought}
 use Rattle.b67_presence.specs.Brings.{IsReadable, Reads, ReadIn, IsCode, BothIn, MayWait, need_both, IsAlone}
+use Rattle.b67_presence.proofs.Beside.{both_fit}
 use Rattle.b67_presence.proofs.Rooms.{one_hole, first_room, second_room}
 
 pub Reads-none : (x y : Storage) (core : List Tagged) (r : Regs) (p : Picture) (c : Thing) → Stands y core r p → Has p.things c → Reads x p p c
@@ -56,6 +57,14 @@ module _ (x : Storage) (cpu : Cpu) (areas : Areas) (table : Table) (told : Optio
 
   pub no_array : c.kind ≢ Array
   no_array e = let z : Array ≡ Code = sym e ∙ k.kind in absurd (let b : ⊥ = cc in b)
+
+  -- an area for the code and a hole for the thing are in core
+  pub room_beside : HasRoom (length t.numbers + 2) x.spans → need_both x c t ≤ length cpu.core
+  room_beside room =
+      let f = m.stands.owned.of_held c.home spare present_code.present in
+      let same : f.0 ≡ c = m.stands.slots.laid.differ f.0 c f.1 k.there f.2 in
+      let is : area_at x.low x.spans spare ≡ Some (info_of x c) = f.3 ∙ ap (λ (u : Thing). Some (info_of x u)) same in
+      omega (arith, both_fit x.low (length t.numbers + 2) x.spans spare (info_of x c) is room, m.stands.directory.all)
 
   abbrev pub y : Storage
   y = overlaid x c spare told
@@ -98,13 +107,14 @@ module _ (x : Storage) (cpu : Cpu) (areas : Areas) (table : Table) (told : Optio
     pub readable_z : IsReadable x p → IsReadable (brought (overlaid x c spare told) t rd.at) rd.picture
     readable_z r = readable_on x (brought (overlaid x c spare told) t rd.at) p rd.picture t reads_x (λ e. device_same ∙ e) r
 
-    pub waits_second : (last : Cpu) (done : Areas) (end : Option (List (List ℕ))) → MachineStands (brought (overlaid x c spare told) t rd.at) last done table end rd.picture → MayWait x p t last done table end
+    pub waits_second : (last : Cpu) (done : Areas) (end : Option (List (List ℕ))) → MachineStands (brought (overlaid x c spare told) t rd.at) last done table end rd.picture → MayWait x p t c last done table end
     waits_second last done end ms = record {
       storage = brought (overlaid x c spare told) t rd.at;
       picture = rd.picture;
       low = refl;
       untold = λ e. device_same ∙ e;
       told_still = λ n e. n (sym device_same ∙ e);
+      lacks = inr (ap (λ (q : ℕ). ((brought (overlaid x c spare told) t rd.at).held q).area) k.is ∙ absent_z.absent);
       reads = reads_x;
       stands = ms;
     }
@@ -145,13 +155,14 @@ module _ (x : Storage) (cpu : Cpu) (areas : Areas) (table : Table) (told : Optio
     pub room_c : (at : ℕ) → HasRoom (length c.numbers + 2) (brought (overlaid x c spare told) t at).spans
     room_c at = let (h, is, e) = hole in second_room (length c.numbers + 2) x.low at ((overlaid x c spare told).held t.home).chain h (fresh t.kind (length t.numbers) t.home) (without x.low spare x.spans) is (omega arith) (omega (arith, size))
 
-  pub waits_first : (last : Cpu) (done : Areas) (end : Option (List (List ℕ))) → MachineStands (overlaid x c spare told) last done table end p → MayWait x p t last done table end
+  pub waits_first : (last : Cpu) (done : Areas) (end : Option (List (List ℕ))) → MachineStands (overlaid x c spare told) last done table end p → MayWait x p t c last done table end
   waits_first last done end ms = record {
     storage = overlaid x c spare told;
     picture = p;
     low = refl;
     untold = λ e. device_same ∙ e;
     told_still = λ n e. n (sym device_same ∙ e);
+    lacks = inl (ap (λ (q : ℕ). ((overlaid x c spare told).held q).area) a.is ∙ absent_t.absent);
     reads = Reads-none x (overlaid x c spare told) last.core last.regs p t ms.stands a.there;
     stands = ms;
   }

@@ -70,13 +70,14 @@ pub record BothIn (x : Storage) (p : Picture) (t c : Thing) (cpu : Cpu) (areas :
   pub reads_code : Reads x read picture c
   pub stands : MachineStands storage cpu areas table told picture
 
--- the thing may be in core, and the running code may not
-pub record MayWait (x : Storage) (p : Picture) (t : Thing) (cpu : Cpu) (areas : Areas) (table : Table) (told : Option (List (List ℕ))) : Type 0 where
+-- the thing may be in core, and the running code may not: one of them isn't
+pub record MayWait (x : Storage) (p : Picture) (t c : Thing) (cpu : Cpu) (areas : Areas) (table : Table) (told : Option (List (List ℕ))) : Type 0 where
   pub storage : Storage
   pub picture : Picture
   pub low : storage.low ≡ x.low
   pub untold : x.device ≡ None → storage.device ≡ None
   pub told_still : x.device ≢ None → storage.device ≢ None
+  pub lacks : ((storage.held t.home).area ≡ None) ⊎ ((storage.held c.home).area ≡ None)
   pub reads : Reads x p picture t
   pub stands : MachineStands storage cpu areas table told picture
 

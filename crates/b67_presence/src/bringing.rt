@@ -1,6 +1,6 @@
 //! Things that are brought into core, whatever has to give way.
 
-ghost use Rattle.std.specs.Prelude.{◌≡◌, ◌≢◌, ◌↔◌, ℕ, ◌+◌, ◌<◌, ◌≤◌, Some, None, Ok, Err, OnOk, OnErr, length, true, false};
+ghost use Rattle.std.specs.Prelude.{◌≡◌, ◌≢◌, ◌↔◌, ℕ, ◌+◌, ◌<◌, ◌≤◌, Some, None, Ok, Err, OnOk, OnErr, IsOk, length, true, false};
 ghost use Rattle.b67_backing.specs.Held.{Becomes};
 ghost use Rattle.b67_backing.specs.declared.SpaceFault.TheVariants.{NoCore, BackingFull, BackingFault};
 ghost use Rattle.b67_ctl.specs.declared.registers.Regs.{Regs};
@@ -84,7 +84,7 @@ fn last_resort<B: Backing>(
     ensures both { OnOk result ((x : Storage) (p : Picture) (t c : Thing) → MachineStands x cpu.old areas.old sectors.now (B.holds backing.old) p → IsAbsent x p home t
         → IsCode x p code spare c → IsAlone x spare → IsReadable x p → BothIn x p t c cpu.new areas.new sectors.now (B.holds backing.new)) }
     ensures waits { OnErr result ((x : Storage) (p : Picture) (t c : Thing) → MachineStands x cpu.old areas.old sectors.now (B.holds backing.old) p → IsAbsent x p home t
-        → IsCode x p code spare c → IsAlone x spare → IsReadable x p → MayWait x p t cpu.new areas.new sectors.now (B.holds backing.new)) }
+        → IsCode x p code spare c → IsAlone x spare → IsReadable x p → MayWait x p t c cpu.new areas.new sectors.now (B.holds backing.new)) }
     ensures no_core { (need size : ℕ) → result ≢ Err (NoCore need size) }
     ensures not_full { (wants free : ℕ) → result ≢ Err (BackingFull wants free) }
     ensures device { Served B.holds B.size B.calls B.faults backing.old backing.new }
@@ -151,7 +151,7 @@ fn force_data<B: Backing>(
     ensures both { OnOk result ((x : Storage) (p : Picture) (t c : Thing) → MachineStands x cpu.old areas.old sectors.old (B.holds backing.old) p → IsAbsent x p home t
         → IsCode x p code spare c → IsReadable x p → BothIn x p t c cpu.new areas.new sectors.new (B.holds backing.new)) }
     ensures refused { OnErr result ((x : Storage) (p : Picture) (t c : Thing) → MachineStands x cpu.old areas.old sectors.old (B.holds backing.old) p → IsAbsent x p home t
-        → IsCode x p code spare c → IsReadable x p → MayWait x p t cpu.new areas.new sectors.new (B.holds backing.new)) }
+        → IsCode x p code spare c → IsReadable x p → MayWait x p t c cpu.new areas.new sectors.new (B.holds backing.new)) }
     ensures full { (x : Storage) (p : Picture) (t : Thing) (wants free : ℕ) → MachineStands x cpu.old areas.old sectors.old (B.holds backing.old) p → IsAbsent x p home t
         → result ≡ Err (BackingFull wants free) → (w : Waits x p spare cpu.new areas.new sectors.new (B.holds backing.new)) × IsShortBy w.storage p wants free }
     ensures no_core { (need size : ℕ) → result ≢ Err (NoCore need size) }
@@ -169,7 +169,7 @@ fn force_data<B: Backing>(
 /// Brings the code of an absent segment descriptor into core. Where a hole has room for it no area moves and nothing is
 /// written to the device; else areas are written out, from the lowest up, until one has. Refused: core has not the words
 /// that the stacks and the code need; an array that must be written out finds too few free sectors; the device failed. After
-/// a refusal the same picture stands.
+/// a refusal the same picture stands, and where a hole has room no area has moved.
 pub fn bring_code<B: Backing>(
     cpu: &mut Cpu,
     areas: &mut Areas,
@@ -187,7 +187,8 @@ pub fn bring_code<B: Backing>(
         → IsReadable x p → Came x p t 0 cpu.new areas.new sectors.new (B.holds backing.new)) }
     ensures hole { (x : Storage) (p : Picture) (t : Thing) → MachineStands x cpu.old areas.old sectors.old (B.holds backing.old) p → IsAbsent x p code t
         → HasRoom (length t.numbers + 2) x.spans → (sectors.new ≡ sectors.old) × Becomes B.holds backing.old backing.new (λ all. all)
-        × OnOk result (IsReadable x p → ReadIn x p t cpu.new areas.new sectors.new (B.holds backing.new)) }
+        × OnOk result (IsReadable x p → ReadIn x p t cpu.new areas.new sectors.new (B.holds backing.new))
+        × OnErr result (MachineStands x cpu.new areas.new sectors.new (B.holds backing.new) p) }
     ensures refused { OnErr result ((x : Storage) (p : Picture) (t : Thing) → MachineStands x cpu.old areas.old sectors.old (B.holds backing.old) p → IsAbsent x p code t
         → Waits x p 0 cpu.new areas.new sectors.new (B.holds backing.new)) }
     ensures full { (x : Storage) (p : Picture) (t : Thing) (wants free : ℕ) → MachineStands x cpu.old areas.old sectors.old (B.holds backing.old) p → IsAbsent x p code t
@@ -215,7 +216,8 @@ pub fn bring_code<B: Backing>(
 /// room for it no area moves and nothing is written to the device; else areas are written out, from the lowest up, until one
 /// has; at last the running code gives way too and comes back behind the array. Refused: core has not the words that the
 /// stacks, the code and the array need; an array that must be written out finds too few free sectors; the device failed.
-/// After a refusal the same picture stands, and the running code may be absent.
+/// After a refusal the same picture stands, and the array or the running code is absent. An array of zeros that was never
+/// touched is never refused where a hole has room, and calls no device.
 pub fn bring_data<B: Backing>(
     cpu: &mut Cpu,
     areas: &mut Areas,
@@ -235,9 +237,12 @@ pub fn bring_data<B: Backing>(
         → IsCode x p code at c → IsReadable x p → BothIn x p t c cpu.new areas.new sectors.new (B.holds backing.new)) }
     ensures hole { (x : Storage) (p : Picture) (t : Thing) → MachineStands x cpu.old areas.old sectors.old (B.holds backing.old) p → IsAbsent x p home t
         → HasRoom (length t.numbers + 2) x.spans → (sectors.new ≡ sectors.old) × Becomes B.holds backing.old backing.new (λ all. all)
-        × OnOk result (IsReadable x p → ReadIn x p t cpu.new areas.new sectors.new (B.holds backing.new)) }
+        × OnOk result (IsReadable x p → ReadIn x p t cpu.new areas.new sectors.new (B.holds backing.new))
+        × OnErr result (MachineStands x cpu.new areas.new sectors.new (B.holds backing.new) p) }
+    ensures zeros { (x : Storage) (p : Picture) (t c : Thing) (at : ℕ) → MachineStands x cpu.old areas.old sectors.old (B.holds backing.old) p → IsAbsent x p home t → IsCode x p code at c
+        → HasRoom (length t.numbers + 2) x.spans → (x.held home).chain ≡ 0 → IsOk result × (backing.new ≡ backing.old) }
     ensures refused { OnErr result ((x : Storage) (p : Picture) (t c : Thing) (at : ℕ) → MachineStands x cpu.old areas.old sectors.old (B.holds backing.old) p → IsAbsent x p home t
-        → IsCode x p code at c → IsReadable x p → MayWait x p t cpu.new areas.new sectors.new (B.holds backing.new)) }
+        → IsCode x p code at c → IsReadable x p → MayWait x p t c cpu.new areas.new sectors.new (B.holds backing.new)) }
     ensures full { (x : Storage) (p : Picture) (t c : Thing) (at wants free : ℕ) → MachineStands x cpu.old areas.old sectors.old (B.holds backing.old) p → IsAbsent x p home t → IsCode x p code at c
         → result ≡ Err (BackingFull wants free) → (HasRoom (length t.numbers + 2) x.spans → ⊥) × (w : Waits x p at cpu.new areas.new sectors.new (B.holds backing.new)) × IsShortBy w.storage p wants free }
     ensures no_core { (x : Storage) (p : Picture) (t c : Thing) (at need size : ℕ) → MachineStands x cpu.old areas.old sectors.old (B.holds backing.old) p → IsAbsent x p home t → IsCode x p code at c

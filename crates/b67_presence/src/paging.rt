@@ -146,7 +146,7 @@ fn data(read_only: bool, words: u32, at: u32) -> Word
 }
 
 /// Brings the array, data row or segment of an absent original or segment descriptor into the lowest hole with room for it.
-/// No area moves. Where it was never touched, no device is called.
+/// No area moves. Where it was never touched, no device is called, and only want of a hole refuses it.
 pub fn page_in<B: Backing>(
     cpu: &mut Cpu,
     areas: &mut Areas,
@@ -175,6 +175,8 @@ pub fn page_in<B: Backing>(
     ensures unchanged { result ≡ Err NoHole → (cpu.new ≡ cpu.old) × (backing.new ≡ backing.old) }
     ensures untouched { (x : Storage) (p : Picture) (t : Thing) → MachineStands x cpu.old areas.old sectors.now (B.holds backing.old) p
         → IsAbsent x p home t → (x.held home).chain ≡ 0 → backing.new ≡ backing.old }
+    ensures zeros { (x : Storage) (p : Picture) (t : Thing) → MachineStands x cpu.old areas.old sectors.now (B.holds backing.old) p
+        → IsAbsent x p home t → (x.held home).chain ≡ 0 → result ≢ Err BackingFault }
     ensures device { Becomes B.holds backing.old backing.new (λ all. all) }
     ensures size { B.size backing.new ≡ B.size backing.old }
     ensures calls { B.calls backing.old ≤ B.calls backing.new }

@@ -70,7 +70,7 @@ pub returns-in-Ok-clause-came : goal.returns-in-Ok-clause-came
 returns-in-Ok-clause-came g c = λ x p t m a r. came_of x x p t 0 c.page_in.new.cpu c.page_in.new.areas c.args.sectors.now (g.B.Backing.holds c.page_in.new.backing) (Sheds-none x 0) (read_in x c.args.cpu.now.core c.args.cpu.now.regs p c.args.code t c.page_in.new.cpu c.page_in.new.areas c.args.sectors.now (g.B.Backing.holds c.page_in.new.backing) m.stands a r (λ q. c.in-Ok.ensures.known x p t m a q) (λ q. c.in-Ok.ensures.untold x p t m a q))
 
 pub returns-in-Ok-clause-hole : goal.returns-in-Ok-clause-hole
-returns-in-Ok-clause-hole g c = λ x p t m a room. (refl, c.page_in.ensures.device, λ r. read_in x c.args.cpu.now.core c.args.cpu.now.regs p c.args.code t c.page_in.new.cpu c.page_in.new.areas c.args.sectors.now (g.B.Backing.holds c.page_in.new.backing) m.stands a r (λ q. c.in-Ok.ensures.known x p t m a q) (λ q. c.in-Ok.ensures.untold x p t m a q))
+returns-in-Ok-clause-hole g c = λ x p t m a room. (refl, c.page_in.ensures.device, λ r. read_in x c.args.cpu.now.core c.args.cpu.now.regs p c.args.code t c.page_in.new.cpu c.page_in.new.areas c.args.sectors.now (g.B.Backing.holds c.page_in.new.backing) m.stands a r (λ q. c.in-Ok.ensures.known x p t m a q) (λ q. c.in-Ok.ensures.untold x p t m a q), tt)
 
 pub returns-in-Err-NoHole-clause-hole : goal.returns-in-Err-NoHole-clause-hole
 returns-in-Err-NoHole-clause-hole g c = λ x p t m a room.

@@ -4,11 +4,12 @@ use Rattle.b67_storage.proofs.Below.{Stayed-then}
 use Rattle.b67_storage.proofs.Devices.{Served-then, Served-same}
 use Rattle.b67_overlay.specs.Sheds.{IsShortBy}
 use Rattle.b67_overlay.proofs.Shedding.{Sheds-none}
-use Rattle.b67_presence.specs.declared.paging.Refusal.TheVariants.{NoHole}
+use Rattle.b67_presence.specs.declared.paging.Refusal.TheVariants.{NoHole, BackingFault}
 use Rattle.b67_presence.specs.declared.paging.Resting.{Resting}
 use Rattle.b67_presence.specs.Brings.{Waits, IsCode, need_both}
 use Rattle.b67_presence.proofs.Descriptors.{rest_here}
 use Rattle.b67_presence.proofs.Ways.{read_in, came_of}
+use Rattle.b67_presence.proofs.Resort.{room_beside}
 use Rattle.b67_presence.proofs.Forcing.{both_came, may_wait, same_need, need_is}
 use Rattle.b67_presence.proofs.bringing.bring_data.Goals as goal
 
@@ -93,7 +94,7 @@ force_data-requires-clause-machine g c =
     (x, p, t, d, mx, a, ks, omega (arith, c.if-need-size.false, need_same, c.size-size.ensures.value, c.page_in.ensures.len))
 
 pub returns-then-need-size-clause-refused : goal.returns-then-need-size-clause-refused
-returns-then-need-size-clause-refused g c = λ x p t d at m a k r. may_wait x p c.args.home 0 t a c.args.cpu.now c.args.areas.now c.args.sectors.now (g.B.Backing.holds c.args.backing.now) (record { storage = x; sheds = Sheds-none x 0; stands = m })
+returns-then-need-size-clause-refused g c = λ x p t d at m a k r. may_wait x p c.args.home 0 t d a c.args.cpu.now c.args.areas.now c.args.sectors.now (g.B.Backing.holds c.args.backing.now) (record { storage = x; sheds = Sheds-none x 0; stands = m })
 
 pub returns-in-Ok-clause-outside : goal.returns-in-Ok-clause-outside
 returns-in-Ok-clause-outside g c = λ x p t d at m a k. c.page_in.ensures.outside x p t m a
@@ -105,10 +106,10 @@ pub returns-in-Ok-clause-both : goal.returns-in-Ok-clause-both
 returns-in-Ok-clause-both g c = λ x p t d at m a k r. both_came x c.args.cpu.now c.args.areas.now c.args.sectors.now (g.B.Backing.holds c.args.backing.now) p c.args.home c.args.code at t d m a k c.page_in.new.cpu c.page_in.new.areas c.args.sectors.now (g.B.Backing.holds c.page_in.new.backing) (came_of x x p t at c.page_in.new.cpu c.page_in.new.areas c.args.sectors.now (g.B.Backing.holds c.page_in.new.backing) (Sheds-none x at) (read_in x c.args.cpu.now.core c.args.cpu.now.regs p c.args.home t c.page_in.new.cpu c.page_in.new.areas c.args.sectors.now (g.B.Backing.holds c.page_in.new.backing) m.stands a r (λ q. c.in-Ok.ensures.known x p t m a q) (λ q. c.in-Ok.ensures.untold x p t m a q)))
 
 pub returns-in-Err-BackingFault-clause-refused : goal.returns-in-Err-BackingFault-clause-refused
-returns-in-Err-BackingFault-clause-refused g c = λ x p t d at m a k r. may_wait x p c.args.home 0 t a c.page_in.new.cpu c.page_in.new.areas c.args.sectors.now (g.B.Backing.holds c.page_in.new.backing) (record { storage = x; sheds = Sheds-none x 0; stands = c.in-Err-BackingFault.ensures.refused x p t m a })
+returns-in-Err-BackingFault-clause-refused g c = λ x p t d at m a k r. may_wait x p c.args.home 0 t d a c.page_in.new.cpu c.page_in.new.areas c.args.sectors.now (g.B.Backing.holds c.page_in.new.backing) (record { storage = x; sheds = Sheds-none x 0; stands = c.in-Err-BackingFault.ensures.refused x p t m a })
 
 pub returns-in-Ok-clause-hole : goal.returns-in-Ok-clause-hole
-returns-in-Ok-clause-hole g c = λ x p t m a room. (refl, c.page_in.ensures.device, λ r. read_in x c.args.cpu.now.core c.args.cpu.now.regs p c.args.home t c.page_in.new.cpu c.page_in.new.areas c.args.sectors.now (g.B.Backing.holds c.page_in.new.backing) m.stands a r (λ q. c.in-Ok.ensures.known x p t m a q) (λ q. c.in-Ok.ensures.untold x p t m a q))
+returns-in-Ok-clause-hole g c = λ x p t m a room. (refl, c.page_in.ensures.device, λ r. read_in x c.args.cpu.now.core c.args.cpu.now.regs p c.args.home t c.page_in.new.cpu c.page_in.new.areas c.args.sectors.now (g.B.Backing.holds c.page_in.new.backing) m.stands a r (λ q. c.in-Ok.ensures.known x p t m a q) (λ q. c.in-Ok.ensures.untold x p t m a q), tt)
 
 pub returns-in-Err-NoHole-clause-hole : goal.returns-in-Err-NoHole-clause-hole
 returns-in-Err-NoHole-clause-hole g c = λ x p t m a room.
@@ -161,3 +162,24 @@ returns-in-Err-NoHole-clause-device g c =
     Served-then g.B.Backing.holds g.B.Backing.size g.B.Backing.calls g.B.Backing.faults c.args.backing.now c.page_in.new.backing c.force_data.new.backing
     (Served-same g.B.Backing.holds g.B.Backing.size g.B.Backing.calls g.B.Backing.faults c.args.backing.now c.page_in.new.backing c.page_in.ensures.size c.page_in.ensures.calls c.page_in.ensures.later c.page_in.ensures.device)
     c.force_data.ensures.device
+
+pub returns-in-Err-BackingFault-clause-hole : goal.returns-in-Err-BackingFault-clause-hole
+returns-in-Err-BackingFault-clause-hole g c = λ x p t m a room. (refl, c.page_in.ensures.device, tt, c.in-Err-BackingFault.ensures.refused x p t m a)
+
+-- an area for the code and a hole for the thing are in core
+pub returns-then-need-size-clause-zeros : goal.returns-then-need-size-clause-zeros
+returns-then-need-size-clause-zeros g c = λ x p t d at m a k room z.
+    let is = c.at.ensures x c.args.cpu.now.regs p t m.stands a in
+    let words : c.at.result.words ≡ length t.numbers = ap (λ (z : Resting). z.words) is in
+    let seg = c.segment_at-segment.ensures x c.args.cpu.now.regs p d at m.stands k in
+    let need_same : c.args.areas.now.low + (c.segment_at-segment.result.words + 2) + (c.at.result.words + 2) ≡ need_both x d t = omega (arith, m.low, words, seg.0) in
+    absurd (omega (arith, c.if-need-size.true, need_same, c.size-size.ensures.value, room_beside x c.args.cpu.now c.args.areas.now c.args.sectors.now (g.B.Backing.holds c.args.backing.now) p c.args.home c.args.code at t d m a k room))
+
+pub returns-in-Err-BackingFault-clause-zeros : goal.returns-in-Err-BackingFault-clause-zeros
+returns-in-Err-BackingFault-clause-zeros g c = λ x p t d at m a k room z.
+    absurd (c.page_in.ensures.zeros x p t m a z (let e : c.page_in.result ≡ Err BackingFault = cc in e))
+
+pub returns-in-Err-NoHole-clause-zeros : goal.returns-in-Err-NoHole-clause-zeros
+returns-in-Err-NoHole-clause-zeros g c = λ x p t d at m a k room z.
+    let none : c.page_in.result ≡ Err NoHole = cc in
+    absurd ((c.page_in.ensures.full x p t m a).0 none room)

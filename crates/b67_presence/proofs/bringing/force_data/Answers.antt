@@ -27,7 +27,7 @@ pub returns-in-Ok-true-clause-both : goal.returns-in-Ok-true-clause-both
 returns-in-Ok-true-clause-both g c = λ x p t d m a k r. both_came x c.args.cpu.now c.args.areas.now c.args.sectors.now (g.B.Backing.holds c.args.backing.now) p c.args.home c.args.code c.args.spare t d m a k c.make_way.new.cpu c.make_way.new.areas c.make_way.new.sectors (g.B.Backing.holds c.make_way.new.backing) (c.make_way.ensures.came (c.in-Ok-true.is ∙ ap Ok c.in-Ok-true.field-0-test) x p t m a r)
 
 pub returns-in-Err-clause-refused : goal.returns-in-Err-clause-refused
-returns-in-Err-clause-refused g c = λ x p t d m a k r. may_wait x p c.args.home c.args.spare t a c.make_way.new.cpu c.make_way.new.areas c.make_way.new.sectors (g.B.Backing.holds c.make_way.new.backing) (c.in-Err.ensures.refused x p t m a)
+returns-in-Err-clause-refused g c = λ x p t d m a k r. may_wait x p c.args.home c.args.spare t d a c.make_way.new.cpu c.make_way.new.areas c.make_way.new.sectors (g.B.Backing.holds c.make_way.new.backing) (c.in-Err.ensures.refused x p t m a)
 
 pub returns-in-Ok-false-clause-outside : goal.returns-in-Ok-false-clause-outside
 returns-in-Ok-false-clause-outside g c = λ x p t d m a k.
@@ -51,7 +51,7 @@ returns-in-Ok-false-clause-refused g c = on_err_weaker c.last_resort.result (λ 
     let y = w.storage in
     let ay = absent_after x y p c.args.home c.args.spare t w.sheds a in
     let ky = code_after x y p c.args.code c.args.spare d w.sheds k in
-    wait_before x y p c.args.spare t c.last_resort.new.cpu c.last_resort.new.areas c.make_way.new.sectors (g.B.Backing.holds c.last_resort.new.backing) w.sheds (waits y p t d w.stands ay ky alone (readable_after x y p c.args.spare w.sheds r))) c.last_resort.ensures.waits
+    wait_before x y p c.args.spare t d c.last_resort.new.cpu c.last_resort.new.areas c.make_way.new.sectors (g.B.Backing.holds c.last_resort.new.backing) w.sheds (waits y p t d w.stands ay ky alone (readable_after x y p c.args.spare w.sheds r))) c.last_resort.ensures.waits
 
 pub returns-in-Ok-false-clause-device : goal.returns-in-Ok-false-clause-device
 returns-in-Ok-false-clause-device g c =

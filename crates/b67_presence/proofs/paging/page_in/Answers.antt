@@ -1,4 +1,4 @@
-use Rattle.std.proofs.Common.{◌≡◌, ℕ, ◌+◌, List, length, Some, refl, sym, ◌∙◌, ap, arith, subst, slice_set}
+use Rattle.std.proofs.Common.{◌≡◌, ℕ, ◌+◌, List, length, Some, IsOk, refl, sym, ◌∙◌, ap, arith, subst, slice_set}
 use Rattle.b67_word.specs.Tagged.{Tagged}
 use Rattle.b67_area.specs.Spans.{area_at, fresh, fill, without}
 use Rattle.b67_area.specs.Directory.{IsDirectory}
@@ -320,3 +320,11 @@ returns-in-Err-clause-outside g c =
     let F : Areas → Type 0 = λ z. Freed z.low (without z.low c.in-Some.at ss) c.load.new.core c.free.new.core in
     let low : c.free.new.self.low ≡ c.args.areas.now.low = ap (λ (z : Areas). z.low) (c.free.ensures.same ∙ c.in-Some.ensures.same) in
     back_below x c.args.cpu.now c.args.areas.now c.free.new.self c.args.sectors.now (g.B.Backing.holds c.args.backing.now) (g.B.Backing.holds c.load.new.backing) p c.args.home t m a low c.load.ensures.device.told c.in-Some.at c.place.new.core c.load.new.core c.free.new.core c.at-thing.result is pl fl (subst F c.in-Some.ensures.same fr)
+
+pub returns-in-Err-clause-zeros : goal.returns-in-Err-clause-zeros
+returns-in-Err-clause-zeros g c =
+    λ x p t m a z e.
+    let is = c.at-thing.ensures x c.args.cpu.now.regs p t m.stands a in
+    let ok = subst (λ r. IsOk r) c.in-Err.is (c.load.ensures.zeros (ap (λ (y : Resting). y.first) is ∙ ap (λ q. (x.held q).chain) a.is ∙ z)).0 in
+    let b : ⊥ = cc in
+    b
