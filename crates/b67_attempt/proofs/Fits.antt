@@ -1,5 +1,5 @@
 -- A step that was made, or ends its task, needs no more words than core has.
-use Rattle.std.proofs.Common.{◌≡◌, ◌≢◌, ℕ, ◌+◌, ◌≤◌, List, [], ◌∷◌, reverse, length, Option, Some, None, Ok, Err, refl, sym, ◌∙◌, ap, subst}
+use Rattle.std.proofs.Common.{◌≡◌, ◌≢◌, ℕ, ◌+◌, ◌<◌, ◌≤◌, List, [], ◌∷◌, reverse, length, Option, Some, None, Ok, Err, refl, sym, ◌∙◌, ap, arith, subst}
 use Rattle.std.proofs.lemmas.Option.{none-some}
 use Rattle.b67_word.specs.declared.faults.Fault.{Fault}
 use Rattle.b67_word.specs.declared.couples.Place.{Place}
@@ -12,7 +12,7 @@ use Rattle.b67_model.specs.Words.{Word}
 use Rattle.b67_model.specs.Chase.{AtIntrinsic, follow_reference}
 use Rattle.b67_model.specs.Operators.{Reading}
 use Rattle.b67_model.specs.State.{Standing, Marked, Entered, Task, Member, Here, top}
-use Rattle.b67_model.specs.Steps.{Done, Goes, Leaves}
+use Rattle.b67_model.specs.Steps.{Line, Done, Goes, Leaves}
 use Rattle.b67_model.specs.Need.{touched_of, touched_at_mark, touched_before_fault, started_by, need}
 use Rattle.b67_model.specs.Rows.{reading_of, step}
 use Rattle.b67_model.specs.Run.{number_of}
@@ -36,12 +36,16 @@ use Rattle.b67_keeping.proofs.Laws.{touches_arrays}
 use Rattle.b67_fits.specs.Fits.{IsOfJob}
 use Rattle.b67_fits.proofs.Made.{made_fit}
 use Rattle.b67_made.specs.Makes.{Makes, CallsOrMakes, MakesAt}
-use Rattle.b67_intrinsics.specs.Called.{CallsBuilt, IsThere, TouchesPresent}
+use Rattle.b67_intrinsics.specs.declared.ends.Stop.{Stop}
+use Rattle.b67_intrinsics.specs.declared.ends.Stop.TheVariants as stops
+use Rattle.b67_intrinsics.specs.Called.{CallsBuilt, IsCut, CallMeets, CallTouches, printed_text, IsThere, TouchesPresent}
 use Rattle.b67_intrinsics.proofs.Callings.{calling}
 use Rattle.b67_intrinsics.proofs.Low.{from_eight}
 use Rattle.b67_intrinsics.proofs.Touched.{reference_same}
 use Rattle.b67_intrinsics.proofs.Present.{row_only}
+use Rattle.b67_attempt.specs.Tries.{TryFits}
 use Rattle.b67_attempt.proofs.Still.{operator_starts, call_starts}
+use Rattle.b67_attempt.proofs.Mute.{printing_built}
 
 -- before a fault an operator touches nothing that calls no intrinsic
 module _ (m : Member) (t : Task) (a : ℕ) where
@@ -130,3 +134,22 @@ module _ (x : Storage) (told : Option (List (List ℕ))) (plan : Plan) (s : Sess
 
     pub fault_fits : (k : Machine) (fault : Fault) → MachineStands x told k plan s → code_area x plan m t ≢ None → step m.setting m.course.job t ≡ Err fault → TouchesPresent x plan m t → need (length k.cpu.core) s m t ≤ length k.cpu.core
     fault_fits k fault h code is touches = step_fits k o h runs code touches (ap (started_by m.course.job) is)
+
+    -- what is cut prints something, so its call is built
+    cut_built : {K : Type 0} (taken : K → Option (List ℕ)) (paper paper' : K) (n before after : ℕ) → called_in m t ≡ Some n → IsCut taken paper paper' m t before after → CallsBuilt m t
+    cut_built taken paper paper' n before after called cut i e =
+        let none : cut.printed ≢ [] = λ nothing. by cut.printed nothing cut.text.proper in
+        printing_built m t i cut.job cut.printed cut.touched (calling m t i e) cut.is none
+      where
+        by : (printed : List Line) → printed ≡ [] → after < length (printed_text m t printed) → ⊥
+        by [] e low = omega (arith, low)
+        by (line ∷ more) e low = absurd cc
+
+    pub stop_fits : {K : Type 0} (taken : K → Option (List ℕ)) (k new : Machine) (paper paper' : K) (n : ℕ) (stop : Stop) → MachineStands x told k plan s → code_area x plan m t ≢ None → called_in m t ≡ Some n
+        → CallMeets taken x told plan s m t n (Err stop) k new paper paper' → CallTouches x plan m t (Err stop) → TryFits (length k.cpu.core) s m t (Err stop)
+    stop_fits taken k new paper paper' n stops.PrintFault h code called meets touches =
+        call_fits k n h code called (cut_built taken paper paper' n k.tasks.printed new.tasks.printed called meets.0) touches
+    stop_fits taken k new paper paper' n stops.Unbuilt h code called meets touches = tt
+    stop_fits taken k new paper paper' n (stops.NoCore need core) h code called meets touches = tt
+    stop_fits taken k new paper paper' n (stops.BackingFull sum sectors) h code called meets touches = tt
+    stop_fits taken k new paper paper' n stops.BackingFault h code called meets touches = tt

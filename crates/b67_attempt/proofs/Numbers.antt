@@ -79,13 +79,9 @@ module _ (x : Storage) (told : Option (List (List ℕ))) (k : Machine) (plan : P
       let none : array_area 0 ≡ 0 = refl in
       omega (arith, low, high, need_is, none, h.storage.low)
 
-  -- what is wanted has the number of the step's need
-  pub need_of : (found : What) (words : ℕ) → IsWanted x plan m t found words → IsTouched plan m t found words → length k.cpu.core < need_with s m t 0 words → need (length k.cpu.core) s m t ≡ need_with s m t 0 words
-  need_of (what.Code displacement) words wanted touched above =
-      let W : ℕ → Type 0 = λ n. length k.cpu.core < need_with s m t 0 n in
-      let code : length k.cpu.core < need_with s m t 0 0 = subst W wanted.2 above in
-      need_code (length k.cpu.core) s m t o.peak_low code ∙ ap (need_with s m t 0) (sym wanted.2)
-  need_of (what.Array home) words wanted touched above =
+  -- the need of a step whose segment is there, and whose array is wanted
+  array_need : (home words : ℕ) → IsWanted x plan m t (what.Array home) words → IsTouched plan m t (what.Array home) words → need (length k.cpu.core) s m t ≡ need_with s m t 0 words
+  array_need home words wanted touched =
       let (a, among, home_is, is, count) = touched in
       let order = (running_in_order plan s m t o runs).0.tasks in
       let some = (all_in ArrayInOrder m.course.job.arrays a order.arrays among).length_low in
@@ -96,3 +92,15 @@ module _ (x : Storage) (told : Option (List (List ℕ))) (k : Machine) (plan : P
       let zero_area : array_area 0 ≡ 0 = refl in
       need_array (length k.cpu.core) s m t o.peak_low a.identity room (none_started plan s.jobs m t a.identity runs is) is
       ∙ (let z : need_with s m t 0 0 + (length (array m.course.job a.identity).numbers + 2) ≡ need_with s m t 0 words = omega (arith, n, area, zero_area) in z)
+
+  -- what is wanted has the number of the step's need
+  pub need_of : (found : What) (words : ℕ) → IsWanted x plan m t found words → IsTouched plan m t found words → length k.cpu.core < need_with s m t 0 words → need (length k.cpu.core) s m t ≡ need_with s m t 0 words
+  need_of (what.Code displacement) words wanted touched above =
+      let W : ℕ → Type 0 = λ n. length k.cpu.core < need_with s m t 0 n in
+      let code : length k.cpu.core < need_with s m t 0 0 = subst W wanted.2 above in
+      need_code (length k.cpu.core) s m t o.peak_low code ∙ ap (need_with s m t 0) (sym wanted.2)
+  need_of (what.Array home) words wanted touched above = array_need home words wanted touched
+
+  -- core has room for the step where it has for the array that is wanted
+  pub need_fits : (home words : ℕ) → IsWanted x plan m t (what.Array home) words → IsTouched plan m t (what.Array home) words → need_with s m t 0 words ≤ length k.cpu.core → need (length k.cpu.core) s m t ≤ length k.cpu.core
+  need_fits home words wanted touched low = let is = array_need home words wanted touched in let N : ℕ → Type 0 = λ n. n ≤ length k.cpu.core in subst N (sym is) low

@@ -1,5 +1,5 @@
 -- What one try answers, from what the operator or the intrinsic answered.
-use Rattle.std.proofs.Common.{◌≡◌, ◌≢◌, ℕ, ◌+◌, List, [], length, Option, Some, None, Ok, Err, refl, sym, ◌∙◌, ap, subst}
+use Rattle.std.proofs.Common.{◌≡◌, ◌≢◌, ℕ, zero, suc, ◌+◌, List, [], ◌++◌, length, take, Option, Some, None, Ok, Err, refl, sym, ◌∙◌, ap, subst}
 use Rattle.std.proofs.lemmas.List.{append-nil}
 use Rattle.std.proofs.lemmas.Option.{none-some}
 use Rattle.b67_word.specs.declared.faults.Fault.{Fault}
@@ -22,11 +22,12 @@ use Rattle.b67_layout.proofs.Others.{keyed-has}
 use Rattle.b67_code.specs.Running.{code_area}
 use Rattle.b67_exec.specs.Operators.{called_in}
 use Rattle.b67_task.specs.declared.tables.Machine.{Machine}
+use Rattle.b67_task.specs.declared.tables.Tasks.{Tasks}
 use Rattle.b67_keeping.proofs.Laws.{touches_arrays}
 use Rattle.b67_made.specs.Makes.{Makes, CallsOrMakes, MakesAt}
 use Rattle.b67_intrinsics.specs.declared.ends.Stop.{Stop}
 use Rattle.b67_intrinsics.specs.declared.ends.Stop.TheVariants as stops
-use Rattle.b67_intrinsics.specs.Called.{CallsBuilt, IsCalled, TouchesAbsent, CallMeets}
+use Rattle.b67_intrinsics.specs.Called.{CallsBuilt, IsCalled, IsCut, OnlyPrinted, TouchesAbsent, CallMeets}
 use Rattle.b67_bring.specs.Bringing.{IsWanted}
 use Rattle.b67_attempt.specs.Tries.{IsTouched, TryMeets}
 
@@ -107,8 +108,13 @@ module _ (x : Storage) (told : Option (List (List ℕ))) (plan : Plan) (s : Sess
       by None h = wants_array x plan m t found old new (λ none. (let e : None ≡ Some at = sym none ∙ is in absurd cc)) (touches found h.0) h.1
 
 -- an operator prints nothing
-pub called_made : {K : Type 0} (taken : K → Option (List ℕ)) (paper : K) (x : Storage) (told : Option (List (List ℕ))) (plan : Plan) (s : Session) (m : Member) (t : Task) (new : Machine) → CallsBuilt m t → Makes x told plan s m t new → IsCalled taken paper paper told s m t new
-called_made taken paper x told plan s m t new built h = record {
+nothing_left : (n : ℕ) → take {A = ℕ} n [] ++ [] ≡ []
+nothing_left zero = refl
+nothing_left (suc n) = refl
+
+pub called_made : {K : Type 0} (taken : K → Option (List ℕ)) (paper : K) (x : Storage) (told : Option (List (List ℕ))) (plan : Plan) (s : Session) (m : Member) (t : Task) (old new : Machine) → CallsBuilt m t → new.tasks ≡ old.tasks → Makes x told plan s m t new
+    → IsCalled taken paper paper told s m t old.tasks.printed new
+called_made taken paper x told plan s m t old new built tables h = record {
   job = h.job;
   printed = [];
   touched = h.touched;
@@ -117,13 +123,19 @@ called_made taken paper x told plan s m t new built h = record {
   storage = h.storage;
   plan = plan;
   stands = h.stands;
-  text = record { told = λ before e. e ∙ ap Some (sym (append-nil before)) };
+  text = record { rest = []; took = record { told = λ before e. e ∙ ap Some (sym (append-nil before)) }; same = nothing_left old.tasks.printed };
+  reset = ap (λ (k : Tasks). k.printed) tables;
 }
+
+-- an intrinsic's call is the try's
+pub called_so : {K : Type 0} (taken : K → Option (List ℕ)) (told : Option (List (List ℕ))) (s : Session) (m : Member) (t : Task) (first old new : Machine) (paper paper' : K) → old ≡ first → IsCalled taken paper paper' told s m t old.tasks.printed new → IsCalled taken paper paper' told s m t first.tasks.printed new
+called_so taken told s m t first old new paper paper' same h = let P : Machine → Type 0 = λ k. IsCalled taken paper paper' told s m t k.tasks.printed new in subst P same h
 
 -- an intrinsic's stop is the try's
 pub stops_so : {K : Type 0} (taken : K → Option (List ℕ)) (x : Storage) (told : Option (List (List ℕ))) (plan : Plan) (s : Session) (m : Member) (t : Task) (n : ℕ) (stop : Stop) (first old new : Machine) (paper paper' : K) → called_in m t ≡ Some n → old ≡ first
     → CallMeets taken x told plan s m t n (Err stop) old new paper paper' → TryMeets taken x told plan s m t (Err stop) first new paper paper'
-stops_so taken x told plan s m t n stops.PrintFault first old new paper paper' called same h = (h.0, h.1 ∙ same)
+stops_so taken x told plan s m t n stops.PrintFault first old new paper paper' called same h =
+    let P : Machine → Type 0 = λ k. IsCut taken paper paper' m t k.tasks.printed new.tasks.printed × OnlyPrinted k new in subst P same h
 stops_so taken x told plan s m t n stops.Unbuilt first old new paper paper' called same h = (n, called, h.0, h.1 ∙ same, h.2)
 stops_so taken x told plan s m t n (stops.NoCore need core) first old new paper paper' called same h = absurd h
 stops_so taken x told plan s m t n (stops.BackingFull sum sectors) first old new paper paper' called same h = absurd h

@@ -21,7 +21,7 @@ use Rattle.b67_task.specs.Tables.{MachineStands}
 use Rattle.b67_bring.specs.Bringing.{Brings}
 use Rattle.b67_intrinsics.specs.declared.ends.Stop.{Stop}
 use Rattle.b67_intrinsics.specs.declared.ends.Stop.TheVariants as stops
-use Rattle.b67_attempt.specs.Attempts.{StillStands}
+use Rattle.b67_attempt.specs.Attempts.{StillStands, StandsLacking, StandsShort}
 
 -- the running segment and the array that the step touches are in core
 pub record WantsNothing (x : Storage) (plan : Plan) (m : Member) (t : Task) : Type 0 where
@@ -40,12 +40,12 @@ StopsFor k (space.BackingFull wants free) stop =
     (sum : ℕ) × (count : ℕ) × (stop ≡ stops.BackingFull sum count) × SumsTo k sum × (count + 1 ≡ length k.sectors.links)
 StopsFor k space.BackingFault stop = stop ≡ stops.BackingFault
 
--- by the reason
-abbrev pub StopMeets : Option (List (List ℕ)) → ℕ → ℕ → Plan → Session → Member → Task → Stop → Machine → Type 0
-StopMeets told core count plan s m t (stops.NoCore words size) new = (words ≡ need core s m t) × (size ≡ core) × (core < words) × StillStands told new plan s
-StopMeets told core count plan s m t (stops.BackingFull sum size) new = (sum ≡ sectors s.jobs) × (size ≡ count) × (count < sum) × StillStands told new plan s
-StopMeets told core count plan s m t stops.BackingFault new = StillStands told new plan s
-StopMeets told core count plan s m t _ new = ⊥
+-- by the reason, as an attempt's: what was wanted is absent where sectors were missing or the device failed
+abbrev pub StopMeets : Option (List (List ℕ)) → Type 0 → ℕ → ℕ → Plan → Session → Member → Task → Stop → Machine → Type 0
+StopMeets told exact core count plan s m t (stops.NoCore words size) new = (words ≡ need core s m t) × (size ≡ core) × (core < words) × StillStands told new plan s
+StopMeets told exact core count plan s m t (stops.BackingFull sum size) new = (sum ≡ sectors s.jobs) × (size ≡ count) × (count < sum) × StandsShort exact told core new plan s m t
+StopMeets told exact core count plan s m t stops.BackingFault new = StandsLacking exact told core new plan s m t
+StopMeets told exact core count plan s m t _ new = ⊥
 
 -- the session, or over a device that tells nothing one with other numbers, and why it goes no further
 pub record Stopped (x : Storage) (told : Option (List (List ℕ))) (core count : ℕ) (plan : Plan) (s : Session) (t : Task) (stop : Stop) (new : Machine) : Type 0 where
@@ -54,7 +54,7 @@ pub record Stopped (x : Storage) (told : Option (List (List ℕ))) (core count :
   pub same : x.device ≢ None → jobs ≡ s.jobs
   pub member : Member
   pub running : IsRunning plan jobs member t
-  pub meets : StopMeets told core count plan (record s { jobs = jobs }) member t stop new
+  pub meets : StopMeets told (x.device ≢ None) core count plan (record s { jobs = jobs }) member t stop new
 
 -- by what was answered
 abbrev pub BroughtMeets : Storage → Option (List (List ℕ)) → ℕ → ℕ → Plan → Session → Member → Task → What → Result (Unit {0}) Stop → Machine → Type 0

@@ -92,13 +92,13 @@ fn with_code<B: Backing, K: Sink>(
 /// Makes the next operator of the running task, an intrinsic's call included. The running segment and the array that it
 /// touches are brought into core first, whatever has to give way.
 ///
-/// `NoCore` exactly where the step's need exceeds core, with both, unless the running segment is absent and the device is
-/// full or fails as it is brought in. `BackingFull` only where the session takes more sectors than the device has, with both,
-/// and a present array that keeps no chain wants more than are free; `BackingFault` and `PrintFault` only where that device
-/// failed. After each of them, and where the operator ends its task, the machine stands for the same session; after want of
-/// sectors and a failure of the backing its segment or its array is absent. Where both are present the backing isn't
-/// called. After `PrintFault` `printed` is raised by the bytes that were taken. Over a device that doesn't tell what its
-/// sectors hold, the words that it gave back may be others, and as many.
+/// `NoCore` exactly where the step's need exceeds core, with both, unless its call isn't built, or the running segment is
+/// absent and the device is full or fails as it is brought in. `BackingFull` only where the session takes more sectors than
+/// the device has, with both, and a present array that keeps no chain wants more than are free; `BackingFault` and
+/// `PrintFault` only where that device failed. After each of them, and where the operator ends its task, the machine stands
+/// for the same session; after want of sectors and a failure of the backing its segment or its array is absent. Where both
+/// are present the backing isn't called. After `PrintFault` `printed` is raised by the bytes that were taken. Over a device
+/// that doesn't tell what its sectors hold, the words that it gave back may be others, and as many.
 pub fn attempt<B: Backing, K: Sink>(
     machine: &mut Machine,
     backing: &mut B,

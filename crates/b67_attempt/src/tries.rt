@@ -29,8 +29,9 @@ pub enum Tried {
 }
 
 /// Makes the next operator of the running task, an intrinsic's call included, unless what it wants is absent. Nothing has
-/// changed but where it was made. `PrintFault`, with a proper part of its text taken, only where the printer failed. A step
-/// that was made, or ends its task, needs no more words than core has.
+/// changed but where it was made. `PrintFault`, with nothing changed but that `printed` is raised by the bytes of its text
+/// that were taken, which aren't all, only where the printer failed. A step that was made, ends its task, or can't be printed
+/// needs no more words than core has.
 pub fn try_once<K: Sink>(machine: &mut Machine, paper: &mut K) -> Result<Tried, Stop>
     requires runs { ReadyRuns machine.old }
     requires countable { AreCountable machine.old.tasks.jobs }

@@ -20,17 +20,18 @@ use Rattle.b67_task.specs.Tables.{job_row, MachineStands}
 use Rattle.b67_intrinsics.specs.declared.ends.CallEnd.{CallEnd}
 use Rattle.b67_intrinsics.specs.declared.ends.CallEnd.TheVariants as ends
 
--- the call was made, and the machine stands for what its row makes
-pub record IsAnswered (told : Option (List (List ℕ))) (s : Session) (m : Member) (t : Task) (new : Machine) : Type 0 where
+-- the call was made, and the machine stands for what its row makes; how much of the next text is printed stays
+pub record IsAnswered (told : Option (List (List ℕ))) (s : Session) (m : Member) (t : Task) (old new : Machine) : Type 0 where
   pub job : Job
   pub is : step m.setting m.course.job t ≡ Ok (Goes job [] None)
   pub storage : Storage
   pub plan : Plan
   pub stands : MachineStands storage told new plan (with_job s m job)
+  pub printed : new.tasks.printed ≡ old.tasks.printed
 
 -- or it faults, and nothing has changed
 abbrev pub AnswerMeets : Option (List (List ℕ)) → Session → Member → Task → Result (Unit {0}) Fault → Machine → Machine → Type 0
-AnswerMeets told s m t (Ok done) old new = IsAnswered told s m t new
+AnswerMeets told s m t (Ok done) old new = IsAnswered told s m t old new
 AnswerMeets told s m t (Err fault) old new = (step m.setting m.course.job t ≡ Err fault) × (new ≡ old)
 
 -- of the rows of jobs one was changed, as READ does

@@ -37,13 +37,16 @@ pub(crate) fn running_row(machine: &Machine) -> TaskRow
     machine.tasks.rows[machine.tasks.running as usize]
 }
 
-/// Cuts the call at which the running task stands off its stack.
+/// Cuts the call at which the running task stands off its stack, once its text is printed. Of what is printed next nothing is
+/// printed yet.
 pub(crate) fn cut(machine: &mut Machine)
     requires { CutsSome machine.old }
     ensures stands { ForRuns machine.old (λ x told plan s m t. MayCut m t → (next : Place) → IsBehind m t next
         → MachineStands x told machine.new plan (with_job s m (job_cut m t next))) }
+    ensures printed { machine.new.tasks.printed ≡ 0 }
     ensures kept { Kept machine.old machine.new }
 {
     let next = next_place(machine);
     cut_call(&mut machine.cpu, next);
+    machine.tasks.printed = 0;
 }

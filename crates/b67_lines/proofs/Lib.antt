@@ -1,2 +1,4 @@
 pub mod Stopped
 pub mod Statuses
+pub mod Rests
+pub mod Joins

@@ -1,6 +1,6 @@
 -- A step prints in two parts: its text with the lines of the endings but LIMIT's, before the session changes; and LIMIT's
 -- lines, once the rest of the step is made and counted. What is due next to be printed.
-use Rattle.std.specs.Prelude.{ℕ, ◌==◌, ◌&&◌, Bool, true, false, List, [], ◌∷◌, ◌++◌, map, Option, Some, None}
+use Rattle.std.specs.Prelude.{◌≡◌, ℕ, ◌==◌, ◌&&◌, Bool, true, false, List, [], ◌∷◌, ◌++◌, map, Option, Some, None}
 use Rattle.std.specs.Option.{option_or}
 use Rattle.b67_word.specs.declared.faults.Ending.TheVariants.{Limit}
 use Rattle.b67_model.specs.Keyed.{keyed, change_keyed}
@@ -9,7 +9,7 @@ use Rattle.b67_model.specs.Steps.{Ends}
 use Rattle.b67_model.specs.Endings.{ends_each_if, unsettled}
 use Rattle.b67_model.specs.Alone.{up_to_deadlock}
 use Rattle.b67_model.specs.Schedule.{Session, Choice, choice}
-use Rattle.b67_model.specs.Run.{Moment, number_of, of_job, with_moment}
+use Rattle.b67_model.specs.Run.{Moment, number_of, of_job, with_moment, next}
 use Rattle.b67_model.specs.Lines.{run_text}
 
 -- ---- the first part
@@ -48,8 +48,10 @@ last_part_if false s m = None
 last_part_if true s m =
     let ended = ends_each_if true Limit (unsettled m.course.job) in
     Some (record {
-      session = record s { jobs = change_keyed number_of m.setting.number
-          (λ (y : Member). record y { course = record y.course { job = ended.job; ended = y.course.ended ++ ended.endings } }) s.jobs };
+      session = record s {
+        jobs = change_keyed number_of m.setting.number
+            (λ (y : Member). record y { course = record y.course { job = ended.job; ended = y.course.ended ++ ended.endings } }) s.jobs;
+      };
       lines = of_job m.setting.number (map (λ e. (e.0, Ends e.1)) ended.endings);
     })
 
@@ -70,3 +72,14 @@ text_of (Some m) = run_text m.lines
 -- the text that is printed next: the rest of a step, or the first part of the next one
 abbrev pub due : Session → List ℕ
 due s = text_of (option_or (last_part s) (first_part s))
+
+-- ---- the parts are the step
+
+-- a step of these parts
+abbrev pub joined : Moment → Option Moment → Moment
+joined part None = part
+joined part (Some rest) = record { session = rest.session; lines = part.lines ++ rest.lines }
+
+-- the next step is its first part, and then its last part where there is one
+abbrev pub StepsHaveParts : Type 0
+StepsHaveParts = (s : Session) (part : Moment) → first_part s ≡ Some part → next s ≡ Some (joined part (last_part part.session))

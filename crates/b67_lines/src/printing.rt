@@ -38,7 +38,11 @@ pub fn put_rest<K: Sink>(
     if *printed >= end {
         return Ok(());
     }
-    let from = if *printed > start { *printed - start } else { 0 };
+    let from = if *printed > start {
+        *printed - start
+    } else {
+        0
+    };
     match put_line(sink, line, from as usize) {
         Ok(()) => {
             *printed = end;

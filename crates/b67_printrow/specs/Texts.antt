@@ -2,7 +2,7 @@
 use Rattle.std.specs.Prelude.{◌≡◌, ℕ, ◌+◌, ◌*◌, ◌≤◌, ℤ, List, [], ◌∷◌, ◌++◌, length, Bool, true, false, Option, Some, None}
 use Rattle.b67_word.specs.Tagged.{Tagged}
 use Rattle.b67_word.specs.Operands.{number_of}
-use Rattle.b67_io.specs.Told.{Took}
+use Rattle.b67_io.specs.Told.{Continues}
 use Rattle.b67_model.specs.Lines.{row_text}
 
 -- a number, and those of the words behind it
@@ -27,8 +27,12 @@ still name line room vs = line ++ row_text name room vs
 abbrev pub IsShort : List ℕ → ℕ → Type 0
 IsShort line room = length line + 14 * room ≤ 181
 
--- a value was added, and what was printed is what is still to be printed no more
-pub record Adds {K : Type 0} (taken : K → Option (List ℕ)) (old new : K) (name : List ℕ) (value : ℤ) (line : List ℕ) (room : ℕ) (line' : List ℕ) (room' : ℕ) : Type 0 where
-  pub printed : List ℕ
-  pub took : Took taken old new printed
-  pub same : (vs : List ℤ) → still name line room (value ∷ vs) ≡ printed ++ still name line' room' vs
+-- Of a text so many first bytes were printed before, and so many are now. The lines before the one that has begun are printed,
+-- and have so many bytes; what follows them is still to come.
+pub record IsPrinting {K : Type 0} (taken : K → Option (List ℕ)) (old now : K) (text : List ℕ) (before printed start : ℕ) (rest : List ℕ) : Type 0 where
+  pub lines : List ℕ
+  pub long : length lines ≡ start
+  pub past : start ≤ printed
+  pub later : before ≤ printed
+  pub continues : Continues taken old now text before printed
+  pub same : text ≡ lines ++ rest

@@ -1,22 +1,23 @@
 //! The lines of a row, of at most ten values each.
 
-ghost use Rattle.std.specs.Prelude.{◌≡◌, ◌+◌, ◌*◌, ◌<◌, ◌≤◌, ◌^◌, ℤ, List, ◌∷◌, ◌++◌, length, nat_abs, Some, OnOk, OnErr};
+ghost use Rattle.std.specs.Prelude.{◌≡◌, ◌+◌, ◌*◌, ◌<◌, ◌≤◌, ◌^◌, ℕ, ℤ, List, ◌∷◌, ◌++◌, length, nat_abs, Some, OnOk, OnErr};
 ghost use Rattle.b67_io.specs.Causes.{HasCause};
-ghost use Rattle.b67_io.specs.Told.{Took, TookPart};
+ghost use Rattle.b67_lines.specs.Parts.{TookRest, TookMore};
 ghost use Rattle.b67_model.specs.Lines.{task_name, value_text, line_text};
 ghost use Rattle.b67_model.specs.Steps.{Values};
-ghost use Rattle.b67_printrow.specs.Texts.{values_of, still, IsShort, Adds};
+ghost use Rattle.b67_printrow.specs.Texts.{values_of, still, IsShort, IsPrinting};
 
 use crate::whole::value_in;
-use b67_io::{Line, Sink, put_line};
-use b67_lines::{with_number, with_text};
+use b67_io::{Line, Sink};
+use b67_lines::{put_rest, with_number, with_text};
 use b67_word::{Failed, Word};
 
-/// A line that has begun, and how many values more it takes.
+/// A line that has begun, how many values more it takes, and how many bytes the lines before it have.
 #[derive(Drop)]
 struct Begun {
     line: Line,
     room: u8,
+    start: u64,
 }
 
 /// The front of a line of a task.
@@ -39,19 +40,25 @@ fn add_value(line: &mut Line, value: i64)
     let _ = line.number(value);
 }
 
-/// Adds a value to a line that has begun; where that takes no more, it is printed and another one begins.
+/// Adds a value to a line that has begun; where that takes no more, what isn't printed yet of it is printed and another one
+/// begins.
 fn add<K: Sink>(
     begun: &mut Begun,
     job: u8,
     task: u32,
     value: i64,
+    printed: &mut u64,
     paper: &mut K,
 ) -> Result<(), Failed>
     requires small { nat_abs value < 2 ^ 39 }
     requires short { IsShort begun.old.line begun.old.room }
-    ensures adds { OnOk result (Adds K.taken paper.old paper.new (task_name job task) value begun.old.line begun.old.room begun.new.line begun.new.room) }
-    ensures part { OnErr result ((vs : List ℤ) → TookPart K.taken paper.old paper.new (still (task_name job task) begun.old.line begun.old.room (value ∷ vs))) }
+    requires start { begun.old.start < 2 ^ 61 }
+    ensures adds { OnOk result ((before : List ℕ) (vs : List ℤ) → length before ≡ begun.old.start → begun.old.start ≤ printed.old
+        → IsPrinting K.taken paper.old paper.new (before ++ still (task_name job task) begun.old.line begun.old.room (value ∷ vs)) printed.old printed.new begun.new.start (still (task_name job task) begun.new.line begun.new.room vs)) }
+    ensures part { OnErr result ((before : List ℕ) (vs : List ℤ) → length before ≡ begun.old.start → begun.old.start ≤ printed.old
+        → TookMore K.taken paper.old paper.new (before ++ still (task_name job task) begun.old.line begun.old.room (value ∷ vs)) printed.old printed.new) }
     ensures short { OnOk result (IsShort begun.new.line begun.new.room) }
+    ensures start { OnOk result (begun.new.start ≤ begun.old.start + 182) }
     ensures cause { HasCause K.faults paper.old paper.new result }
 {
     if begun.room > 0 {
@@ -59,10 +66,11 @@ fn add<K: Sink>(
         begun.room -= 1;
         return Ok(());
     }
-    match put_line(paper, &begun.line, 0) {
+    match put_rest(paper, &begun.line, begun.start, printed) {
         Ok(()) => {}
-        Err(_) => return Err(Failed),
+        Err(failed) => return Err(failed),
     }
+    begun.start += begun.line.len() as u64 + 1;
     begun.line = name_line(job, task);
     add_value(&mut begun.line, value);
     begun.room = 9;
@@ -87,15 +95,13 @@ pub fn say_row<K: Sink>(
     let mut begun = Begun {
         line: name_line(job, task),
         room: 10,
+        start: 0,
     };
     for w in row {
-        match add(&mut begun, job, task, value_in(*w), paper) {
+        match add(&mut begun, job, task, value_in(*w), printed, paper) {
             Ok(()) => {}
             Err(failed) => return Err(failed),
         }
     }
-    match put_line(paper, &begun.line, 0) {
-        Ok(()) => Ok(()),
-        Err(_) => Err(Failed),
-    }
+    put_rest(paper, &begun.line, begun.start, printed)
 }

@@ -1,8 +1,8 @@
-use Rattle.std.proofs.Common.{◌≡◌}
+use Rattle.std.proofs.Common.{◌≡◌, length}
 use Rattle.b67_word.specs.declared.faults.Fault.TheVariants.{InvalidOperator}
 use Rattle.b67_word.specs.declared.faults.Ending.TheVariants.{Faulted}
 use Rattle.b67_intrinsics.specs.declared.ends.Stop.TheVariants.{BackingFault}
-use Rattle.b67_attempt.proofs.Composed.{made_once, ends_once, stops_once, gives_up_once, no_device_fault, never}
+use Rattle.b67_attempt.proofs.Composed.{made_once, ends_once, stops_once, gives_up_once, no_device_fault, never, tables_after_end, tables_after_want, tables_after_stop, room_after_stop}
 use Rattle.b67_attempt.proofs.attempting.last_try.Goals as goal
 
 pub returns-in-Ok-Made-clause-row : goal.returns-in-Ok-Made-clause-row
@@ -42,3 +42,24 @@ pub returns-in-Ok-Absent-clause-fits : goal.returns-in-Ok-Absent-clause-fits
 returns-in-Ok-Absent-clause-fits g c = λ x plan s m t o h runs ready none.
     absurd (never g.K.Sink.taken x plan s m t c.args.machine.now c.try_once.new.machine c.args.paper.now c.try_once.new.paper c.in-Ok-Absent.field-0-0 none
     ((rw c.in-Ok-Absent.field-0-is at c.in-Ok-Absent.ensures.row) x x.device plan s m t o h runs ready))
+
+pub returns-in-Err-clause-fits : goal.returns-in-Err-clause-fits
+returns-in-Err-clause-fits g c = λ x plan s m t o h runs ready none. room_after_stop (length c.args.machine.now.cpu.core) s m t c.in-Err.stop (c.in-Err.ensures.fits x x.device plan s m t o h runs ready)
+
+pub returns-in-Ok-Ends-clause-tables : goal.returns-in-Ok-Ends-clause-tables
+returns-in-Ok-Ends-clause-tables g c =
+    let r = c.requires.runs in
+    tables_after_end g.K.Sink.taken r.storage r.told r.plan r.session r.member r.task c.in-Ok-Ends.ending c.args.machine.now c.try_once.new.machine c.args.paper.now c.try_once.new.paper
+    ((rw c.in-Ok-Ends.field-0-is at c.in-Ok-Ends.ensures.row) r.storage r.told r.plan r.session r.member r.task r.ordered r.stands r.running r.ready)
+
+pub returns-in-Ok-Absent-clause-tables : goal.returns-in-Ok-Absent-clause-tables
+returns-in-Ok-Absent-clause-tables g c =
+    let r = c.requires.runs in
+    tables_after_want g.K.Sink.taken r.storage r.told r.plan r.session r.member r.task c.in-Ok-Absent.field-0-0 c.args.machine.now c.try_once.new.machine c.args.paper.now c.try_once.new.paper
+    ((rw c.in-Ok-Absent.field-0-is at c.in-Ok-Absent.ensures.row) r.storage r.told r.plan r.session r.member r.task r.ordered r.stands r.running r.ready)
+
+pub returns-in-Err-clause-tables : goal.returns-in-Err-clause-tables
+returns-in-Err-clause-tables g c =
+    let r = c.requires.runs in
+    tables_after_stop g.K.Sink.taken r.storage r.told r.plan r.session r.member r.task c.in-Err.stop c.args.machine.now c.try_once.new.machine c.args.paper.now c.try_once.new.paper
+    (c.in-Err.ensures.row r.storage r.told r.plan r.session r.member r.task r.ordered r.stands r.running r.ready)

@@ -1,4 +1,4 @@
-use Rattle.std.proofs.Common.{◌∙◌, ◌≡◌, ℕ, List, Option, sym, subst, refl}
+use Rattle.std.proofs.Common.{◌∙◌, ◌≡◌, ℕ, List, length, Option, Err, sym, subst, refl}
 use Rattle.b67_model.specs.Schedule.{Session}
 use Rattle.b67_stack.specs.declared.Step.TheVariants as answers
 use Rattle.b67_stack.specs.Stands.{Storage}
@@ -6,8 +6,9 @@ use Rattle.b67_layout.specs.Plan.{Plan}
 use Rattle.b67_code.specs.Running.{code_area}
 use Rattle.b67_task.specs.declared.tables.Machine.{Machine}
 use Rattle.b67_task.specs.Tables.{MachineStands}
-use Rattle.b67_attempt.proofs.Trying.{wants_array, was_made, was_built, was_fault, was_ended, was_call, was_absent, called_made, stops_so}
-use Rattle.b67_attempt.proofs.Fits.{was_operator, fault_touches, leaves_touches, made_touches, operator_fits, call_fits, fault_fits}
+use Rattle.b67_attempt.specs.Tries.{TryFits}
+use Rattle.b67_attempt.proofs.Trying.{wants_array, was_made, was_built, was_fault, was_ended, was_call, was_absent, called_made, called_so, stops_so}
+use Rattle.b67_attempt.proofs.Fits.{was_operator, fault_touches, leaves_touches, made_touches, operator_fits, call_fits, fault_fits, stop_fits}
 use Rattle.b67_attempt.proofs.tries.try_once.Goals as goal
 
 -- the machine after an operator that calls an intrinsic
@@ -34,7 +35,7 @@ intrinsic-requires-clause-calls g c =
 
 pub returns-in-Done-clause-row : goal.returns-in-Done-clause-row
 returns-in-Done-clause-row g c = λ x told plan s m t o h runs ready.
-    called_made g.K.Sink.taken c.args.paper.now x told plan s m t c.make.new.machine (was_built x told plan s m t c.args.machine.now c.make.new.machine (code_area x plan m t) (c.in-Done.ensures.row x told plan s m t o h runs ready)) (was_made x told plan s m t c.args.machine.now c.make.new.machine (code_area x plan m t) (c.in-Done.ensures.row x told plan s m t o h runs ready))
+    called_made g.K.Sink.taken c.args.paper.now x told plan s m t c.args.machine.now c.make.new.machine (was_built x told plan s m t c.args.machine.now c.make.new.machine (code_area x plan m t) (c.in-Done.ensures.row x told plan s m t o h runs ready)) c.make.ensures.tasks (was_made x told plan s m t c.args.machine.now c.make.new.machine (code_area x plan m t) (c.in-Done.ensures.row x told plan s m t o h runs ready))
 
 pub returns-in-Absent-clause-row : goal.returns-in-Absent-clause-row
 returns-in-Absent-clause-row g c = λ x told plan s m t o h runs ready.
@@ -55,7 +56,8 @@ pub returns-in-Ok-Done-clause-row : goal.returns-in-Ok-Done-clause-row
 returns-in-Ok-Done-clause-row g c = λ x told plan s m t o h runs ready.
     let it = was_call x told plan s m t c.args.machine.now c.make.new.machine c.in-Call.n (code_area x plan m t) refl (c.in-Call.ensures.row x told plan s m t o h runs ready) in
     let k = stays x told plan s c.args.machine.now c.make.new.machine it.2 h in
-    (rw c.in-Ok-Done.field-0-is at c.in-Ok-Done.ensures.row) x told plan s m t o k runs it.0 it.1
+    called_so g.K.Sink.taken told s m t c.args.machine.now c.make.new.machine c.intrinsic.new.machine c.args.paper.now c.intrinsic.new.paper it.2
+    ((rw c.in-Ok-Done.field-0-is at c.in-Ok-Done.ensures.row) x told plan s m t o k runs it.0 it.1)
 
 pub returns-in-Ok-Absent-clause-row : goal.returns-in-Ok-Absent-clause-row
 returns-in-Ok-Absent-clause-row g c = λ x told plan s m t o h runs ready.
@@ -119,3 +121,13 @@ returns-in-Ok-Fault-clause-fits g c = λ x told plan s m t o h runs ready.
     let row = (rw c.in-Ok-Fault.field-0-is at c.in-Ok-Fault.ensures.row) x told plan s m t o k runs it.0 it.1 in
     let present = (rw c.in-Ok-Fault.field-0-is at c.in-Ok-Fault.ensures.present) x told plan s m t o k runs it.0 it.1 in
     fault_fits x told plan s m t o runs old c.in-Ok-Fault.fault h it.0 row.0 present
+
+pub returns-in-Err-clause-fits : goal.returns-in-Err-clause-fits
+returns-in-Err-clause-fits g c = λ x told plan s m t o h runs ready.
+    let old = c.args.machine.now in
+    let new = c.make.new.machine in
+    let it = was_call x told plan s m t old new c.in-Call.n (code_area x plan m t) refl (c.in-Call.ensures.row x told plan s m t o h runs ready) in
+    let k = stays x told plan s old new it.2 h in
+    let F : Machine → Type 0 = λ z. TryFits (length z.cpu.core) s m t (Err c.in-Err.stop) in
+    subst F it.2 (stop_fits x told plan s m t o runs g.K.Sink.taken new c.intrinsic.new.machine c.args.paper.now c.intrinsic.new.paper c.in-Call.n c.in-Err.stop k it.0 it.1
+    (c.in-Err.ensures.row x told plan s m t o k runs it.0 it.1) (c.in-Err.ensures.present x told plan s m t o k runs it.0 it.1))

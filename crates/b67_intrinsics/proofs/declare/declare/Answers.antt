@@ -65,6 +65,7 @@ returns-clause-row c = λ x told plan s m t o h runs code called.
         storage = record { low = h.storage.low; size = h.storage.size ∙ sym size; shelf = h.storage.shelf; device = h.storage.device };
         tables = tables_declared plan s m t o runs r.2 q n cpu.regs.s old.tasks h.tables;
       });
+      printed = refl;
     })
 
 pub returns-clause-kept : goal.returns-clause-kept
@@ -78,6 +79,7 @@ returns-clause-kept c =
     record {
       countable = λ few. few;
       len = same_size q.storage (without q.storage cpu.regs.s) old.cpu cpu q.plan (with_home q.plan q.member.setting.number q.member.course.job.next_array cpu.regs.s) q.session (with_job q.session q.member (job_declared q.member q.task c.in-Ok.length c.next_place-next.result)) q.stands.session session refl refl;
+      changed = c.answer_array.ensures.changed q.storage q.plan q.session q.member q.task q.ordered q.stands.session q.running r.2;
       sectors = refl;
       halt = refl;
     }

@@ -10,6 +10,7 @@ use Rattle.b67_intrinsics.proofs.Built.{built_of}
 use Rattle.b67_intrinsics.proofs.Callings.{calling, reads_of, call_some}
 use Rattle.b67_intrinsics.proofs.Touched.{touched_by_row}
 use Rattle.b67_intrinsics.proofs.Present.{row_faults, row_made}
+use Rattle.b67_intrinsics.proofs.Sizes.{kept_printed}
 use Rattle.b67_intrinsics.proofs.print_row.print_row.Goals as goal
 
 pub row_to_print-requires : goal.row_to_print-requires
@@ -68,6 +69,7 @@ returns-in-Ok-say_words-clause-row g c = λ x told plan s m t o h runs code call
       plan = plan;
       stands = c.cut.ensures.stands x told plan s m t o h runs code row.may k.next (Plain Entr, k.reading);
       text = c.in-Ok-say_words.ensures.whole x told plan s m t o h runs code row.values row.lies;
+      reset = c.cut.ensures.printed;
     })
 
 pub returns-in-Err-say_words-clause-row : goal.returns-in-Err-say_words-clause-row
@@ -90,3 +92,15 @@ returns-in-Ok-say_words-clause-present g c = λ x told plan s m t o h runs code 
     let row = subst P c.in-Words.is (c.in-Ok.ensures.row x plan s m t o h.session runs k.reference k.arguments k.call) in
     let present = subst Q c.in-Words.is (c.in-Ok.ensures.present x plan s m t o h.session runs k.reference k.arguments k.call) in
     row_made m t x plan k present (Goes (job_cut m t k.next) (Values row.values ∷ []) (Some row.array)) (row.makes k.next))
+
+pub returns-in-Err-say_words-clause-present : goal.returns-in-Err-say_words-clause-present
+returns-in-Err-say_words-clause-present g c = λ x told plan s m t o h runs code called.
+    (let k = calling m t 10 called in
+    let P : Found → Type 0 = λ f. RowMeets x plan m t c.args.machine.now.cpu.core k.arguments (Ok f) in
+    let Q : Found → Type 0 = λ f. RowTouches x plan m k.arguments (Ok f) in
+    let row = subst P c.in-Words.is (c.in-Ok.ensures.row x plan s m t o h.session runs k.reference k.arguments k.call) in
+    let present = subst Q c.in-Words.is (c.in-Ok.ensures.present x plan s m t o h.session runs k.reference k.arguments k.call) in
+    row_made m t x plan k present (Goes (job_cut m t k.next) (Values row.values ∷ []) (Some row.array)) (row.makes k.next))
+
+pub returns-in-Err-say_words-clause-kept : goal.returns-in-Err-say_words-clause-kept
+returns-in-Err-say_words-clause-kept g c = kept_printed c.args.machine.now c.say_words.new.printed

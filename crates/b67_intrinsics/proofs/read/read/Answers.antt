@@ -101,6 +101,7 @@ returns-clause-row c = λ x told plan s m t o h runs code called.
         storage = record { low = h.storage.low; size = h.storage.size ∙ sym size; shelf = h.storage.shelf; device = h.storage.device };
         tables = tables_read plan s m t o runs q k.arguments old.tasks tasks h.tables j.row did.new c.in-Ok.number j.at is c.take_number.ensures.rest meets;
       });
+      printed = ap (λ (z : Tasks). z.printed) c.take_number.ensures.rest;
     })
 
 pub returns-clause-kept : goal.returns-clause-kept
@@ -118,6 +119,7 @@ returns-clause-kept c =
     record {
       countable = countable_read q.plan q.member q.task k.arguments old.tasks.jobs c.take_number.new.tasks.jobs (c.running_row.result.job - 1) j.row did.new (Ok c.in-Ok.number) at did.is meets;
       len = same_size q.storage q.storage old.cpu cpu q.plan q.plan q.session (with_job q.session q.member (job_read q.member q.task c.next_place-next.result)) q.stands.session session refl refl;
+      changed = c.answer_call.ensures.changed q.storage q.plan q.session q.member q.task q.ordered q.stands.session q.running meets.may;
       sectors = refl;
       halt = ap (λ (z : Tasks). z.halt) c.take_number.ensures.rest;
     }
