@@ -28,8 +28,8 @@ use Rattle.b67_layout.specs.Meets.{here, area_held, IsPresent}
 use Rattle.b67_layout.proofs.Others.{keyed-has}
 use Rattle.b67_profiles.specs.Profiles.{called_on, called}
 use Rattle.b67_code.specs.Running.{code_area}
-use Rattle.b67_exec.specs.Operators as operators
-use Rattle.b67_exec.specs.Operators.{called_in}
+use Rattle.b67_code.specs.Called as operators
+use Rattle.b67_code.specs.Called.{called_in}
 use Rattle.b67_task.specs.declared.tables.Machine.{Machine}
 use Rattle.b67_task.specs.Tables.{MachineStands}
 use Rattle.b67_keeping.proofs.Laws.{touches_arrays}

@@ -16,8 +16,8 @@ use Rattle.b67_order.proofs.Members.{length_change}
 use Rattle.b67_order.proofs.Posts.{Post, post_ok, post_err, post_any, post_then, post_more, post_is}
 use Rattle.b67_profiles.specs.Profiles.{profile, called, IsKnown}
 use Rattle.b67_profiles.proofs.Lemmas.{rows_keep}
-use Rattle.b67_exec.specs.Operators as operators
-use Rattle.b67_exec.specs.Operators.{called_in}
+use Rattle.b67_code.specs.Called as operators
+use Rattle.b67_code.specs.Called.{called_in}
 use Rattle.b67_layout.specs.Meets.{here}
 use Rattle.b67_intrinsics.proofs.Callings.{Calling}
 use Rattle.b67_attempt.proofs.Started.{known_in}

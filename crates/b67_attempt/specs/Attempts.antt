@@ -9,7 +9,7 @@ use Rattle.b67_model.specs.InOrder.{IsInOrderButPlaces}
 use Rattle.b67_stack.specs.Stands.{Storage}
 use Rattle.b67_layout.specs.Plan.{Plan}
 use Rattle.b67_layout.specs.Session.{IsRunning}
-use Rattle.b67_exec.specs.Operators.{called_in}
+use Rattle.b67_code.specs.Called.{called_in}
 use Rattle.b67_order_weaker.specs.Weaker.{AllOtherNumbers}
 use Rattle.b67_bring.specs.Bringing.{StandsOver, IsShortOf}
 use Rattle.b67_layout.specs.Meets.{area_held}

@@ -14,7 +14,7 @@ use Rattle.b67_stack.specs.declared.What.TheVariants as what
 use Rattle.b67_stack.specs.Stands.{Storage}
 use Rattle.b67_layout.specs.Plan.{Plan}
 use Rattle.b67_layout.specs.Session.{IsRunning}
-use Rattle.b67_exec.specs.Operators.{called_in}
+use Rattle.b67_code.specs.Called.{called_in}
 use Rattle.b67_bring.specs.Bringing.{IsWanted}
 use Rattle.b67_task.specs.declared.tables.Machine.{Machine}
 use Rattle.b67_task.specs.Tables.{MachineStands}

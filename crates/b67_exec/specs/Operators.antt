@@ -16,6 +16,7 @@ use Rattle.b67_layout.specs.Plan.{Plan}
 use Rattle.b67_layout.specs.Meets.{here}
 pub use Rattle.b67_entry.specs.Procedures.{CallsOrMeets}
 use Rattle.b67_code.specs.Running.{code_area}
+pub use Rattle.b67_code.specs.Called.{called_by, called_in}
 
 -- an operator's parameters have their bits: 14 of a couple, 48 of a literal
 abbrev pub ParametersFit : Op → Type 0
@@ -23,14 +24,6 @@ ParametersFit (Valc couple) = couple < 2 ^ 14
 ParametersFit (Namc couple) = couple < 2 ^ 14
 ParametersFit (Lt48 bits) = bits < 2 ^ 48
 ParametersFit _ = Unit {0}
-
--- the intrinsic that an operator calls that was read, if it calls one; and the operator at the running place
-abbrev pub called_by : Member → Task → Reading → Option ℕ
-called_by m t (Err why) = None
-called_by m t (Ok read) = called read.0 (here m t read.1)
-
-abbrev pub called_in : Member → Task → Option ℕ
-called_in m t = called_by m t (reading_of m.setting t)
 
 -- where the running segment is absent, nothing has changed; where it calls an intrinsic, neither; else its row was made
 abbrev pub OperatorAt : Storage → Plan → Session → Member → Task → Step → Cpu → Cpu → Option ℕ → Type 0

@@ -15,8 +15,8 @@ use Rattle.b67_model.specs.Intrinsics.{is_original, intrinsic}
 use Rattle.b67_model.specs.Rows.{entr_at, entr_with, entr, step_by, reading_of, step}
 use Rattle.b67_model.specs.Steps.{Done}
 use Rattle.b67_profiles.specs.Profiles.{called_at, called_by, called_on, called}
-use Rattle.b67_exec.specs.Operators as operators
-use Rattle.b67_exec.specs.Operators.{called_in}
+use Rattle.b67_code.specs.Called as operators
+use Rattle.b67_code.specs.Called.{called_in}
 use Rattle.b67_layout.specs.Meets.{here}
 use Rattle.b67_mcp.specs.Calls.{IsCall, CallSome}
 use Rattle.b67_task.specs.declared.tables.Machine.{Machine}

@@ -1,3 +1,4 @@
+mod Behind
 pub mod Tables
 pub mod Frames
 pub mod Rows

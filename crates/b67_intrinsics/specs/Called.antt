@@ -15,7 +15,7 @@ use Rattle.b67_layout.specs.Plan.{Plan}
 use Rattle.b67_layout.specs.Session.{IsRunning}
 use Rattle.b67_layout.specs.Meets.{with_job, area_held, IsInStack}
 use Rattle.b67_code.specs.Running.{code_area}
-use Rattle.b67_exec.specs.Operators.{called_in}
+use Rattle.b67_code.specs.Called.{called_in}
 use Rattle.b67_single.specs.Single.{task_lines}
 use Rattle.b67_lines.specs.Parts.{TookRest, TookMore}
 use Rattle.b67_task.specs.declared.tables.JobRow.{JobRow}

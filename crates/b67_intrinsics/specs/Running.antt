@@ -13,7 +13,7 @@ use Rattle.b67_code.specs.Running.{code_area}
 use Rattle.b67_mcp.specs.Calls.{MayCut}
 use Rattle.b67_task.specs.declared.tables.Machine.{Machine}
 use Rattle.b67_task.specs.Tables.{MachineStands}
-use Rattle.b67_exec.specs.Operators.{called_in}
+use Rattle.b67_code.specs.Called.{called_in}
 use Rattle.b67_io.specs.Causes.{Rose}
 use Rattle.b67_intrinsics.specs.declared.ends.CallEnd.{CallEnd}
 use Rattle.b67_intrinsics.specs.declared.ends.Stop.{Stop}

@@ -17,7 +17,7 @@ ghost use Rattle.b67_stack.specs.Stands.{Storage};
 ghost use Rattle.b67_layout.specs.Plan.{Plan};
 ghost use Rattle.b67_layout.specs.Session.{IsRunning};
 ghost use Rattle.b67_code.specs.Running.{code_area};
-ghost use Rattle.b67_exec.specs.Operators.{called_in};
+ghost use Rattle.b67_code.specs.Called.{called_in};
 ghost use Rattle.b67_task.specs.Tables.{MachineStands};
 ghost use Rattle.b67_intrinsics.specs.declared.ends.Stop.TheVariants.{PrintFault};
 ghost use Rattle.b67_intrinsics.specs.Called.{CallsSome, CallMeets, CallTouches, ChangesStack, AreCountable};

@@ -8,7 +8,7 @@ use Rattle.b67_stack.specs.declared.Step.{Step}
 use Rattle.b67_stack.specs.Stands.{Storage}
 use Rattle.b67_layout.specs.Plan.{Plan}
 use Rattle.b67_code.specs.Running.{code_area}
-use Rattle.b67_exec.specs.Operators.{called_by}
+use Rattle.b67_code.specs.Called.{called_by}
 use Rattle.b67_task.specs.declared.tables.Machine.{Machine}
 use Rattle.b67_made.specs.Makes.{CallsOrMakes, MakesAt, MakesOperator}
 

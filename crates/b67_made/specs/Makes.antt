@@ -14,7 +14,7 @@ use Rattle.b67_layout.specs.Plan.{Plan}
 use Rattle.b67_layout.specs.Session.{IsRunning}
 use Rattle.b67_layout.specs.Meets.{with_job, IsAbsent, IsPresent}
 use Rattle.b67_code.specs.Running.{code_area}
-use Rattle.b67_exec.specs.Operators.{called_in}
+use Rattle.b67_code.specs.Called.{called_in}
 use Rattle.b67_task.specs.declared.tables.Machine.{Machine}
 use Rattle.b67_task.specs.Tables.{MachineStands}
 
