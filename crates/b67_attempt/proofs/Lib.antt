@@ -6,3 +6,4 @@ pub mod Fits
 pub mod Numbers
 pub mod Stops
 pub mod Composed
+pub mod Passed

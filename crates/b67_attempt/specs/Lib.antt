@@ -1,3 +1,5 @@
 pub mod Tries
 pub mod Attempts
 pub mod Brought
+pub mod Stops
+pub mod Passed

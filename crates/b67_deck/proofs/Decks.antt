@@ -22,7 +22,7 @@ use Rattle.b67_model.specs.Run.{after, lines, live_tasks}
 use Rattle.b67_opening.specs.Opening.{Opening, opening}
 use Rattle.b67_uncalled.specs.Uncalled.{uses_built}
 use Rattle.b67_uncalled.proofs.Runs.{unbuilt_is_never_called}
-use Rattle.b67_exec.specs.Operators.{called_by, called_in}
+use Rattle.b67_code.specs.Called.{called_by, called_in}
 use Rattle.b67_single.specs.Single.{IsSingle}
 use Rattle.b67_task.specs.declared.tables.Machine.{Machine}
 use Rattle.b67_task.specs.Tables.{switch_of}
@@ -33,15 +33,18 @@ use Rattle.b67_open.specs.Opens.{need_of, sectors_of_all, IsOpened}
 use Rattle.b67_open.proofs.Decks.{deck_within}
 use Rattle.b67_storage.specs.Machine.{Says, retold}
 use Rattle.b67_initial.specs.Stored.{told_after}
-use Rattle.b67_session.specs.Slices.{IsLone, LivesOn, SliceMeets}
+use Rattle.b67_initial.specs.Opened.{opening_plan}
+use Rattle.b67_session.specs.Slices.{IsLone, LivesOn, SliceMeets, Rests, StepsFit}
 use Rattle.b67_lines.specs.Stops.{live_after}
-use Rattle.b67_lines.specs.Ends.{Ends, whole}
-use Rattle.b67_ends.specs.Device.{device_of}
-use Rattle.b67_ends.specs.Lines.{no_core_line, backing_full_line}
+use Rattle.b67_lines.specs.Ends.{Ends}
+use Rattle.b67_deck.specs.Device.{device_of}
+use Rattle.b67_deck.specs.Lines.{no_core_line, backing_full_line}
+use Rattle.b67_deck.specs.Texts.{only, all_taken}
+use Rattle.b67_deck.specs.States.{StatesInOrder}
 use Rattle.b67_deck.specs.Finishing.{refused_status, refused_line, steps_of, JobRan}
-use Rattle.b67_ends.specs.Runs.{run_of, IsDone, memory_refused, opening_wants_core, opening_wants_sectors, opening_fails, all_end, unopened, opened, RunEnds, run_stops}
-use Rattle.b67_deck.proofs.Opened.{member_of, task_of, single_opens, says_after, lone_opens, known_after, retold_after}
-use Rattle.b67_deck.proofs.Ran.{ran}
+use Rattle.b67_deck.specs.Runs.{run_of, IsDone, WasOpened, memory_refused, opening_wants_core, opening_wants_sectors, opening_fails, all_end, unopened, opened, RunEnds, run_stops}
+use Rattle.b67_deck.proofs.Opened.{member_of, task_of, single_opens, states_in_order, says_after, lone_opens, known_after, told_is, retold_after}
+use Rattle.b67_deck.proofs.Ran.{closes_only, ran}
 
 -- ---- lists of one item
 
@@ -80,21 +83,25 @@ module _ {K B : Type 0} (taken : K → Option (List ℕ)) (failures : K → ℕ)
   -- no session was opened
   pub refused : (b b' : B) (fault : OpenFault) (old new : K) (answer : ℕ) → IsOpened holds size broken d ps core b b' (Err fault)
       → Ends taken failures old new (refused_status fault) (ended (refused_line fault)) answer → RunEnds taken failures (device_of holds size broken b b') core (d, ps) None old new answer
-  refused b b' faults.Memory old new answer o ends = run_stops 9 _ (unopened refl (memory_refused refl refl)) ends
+  refused b b' faults.Memory old new answer o ends = run_stops 9 _ (unopened refl (memory_refused refl refl)) (closes_only ends)
   refused b b' (faults.NoCore need words) old new answer o ends =
       let line : no_core_line need words ≡ no_core_line (need_of d ps) core = ap (λ n. no_core_line n words) o.0 ∙ ap (λ n. no_core_line (need_of d ps) n) o.1 in
-      run_stops 4 _ (unopened refl (opening_wants_core o.2 refl (ap ended line))) ends
+      run_stops 4 _ (unopened refl (opening_wants_core o.2 refl (ap (λ (x : List ℕ). only (ended x)) line))) (closes_only ends)
   refused b b' (faults.BackingFull sum count) old new answer o ends =
       let line : backing_full_line sum count ≡ backing_full_line (sectors_of_all d ps) (size b) = ap (λ n. backing_full_line n count) o.1 ∙ ap (λ n. backing_full_line (sectors_of_all d ps) n) o.2 in
-      run_stops 5 _ (unopened refl (opening_wants_sectors o.0 o.3 refl (ap ended line))) ends
-  refused b b' faults.BackingFault old new answer o ends = run_stops 6 _ (unopened refl (opening_fails (o.0, o.1) o.2 refl refl)) ends
+      run_stops 5 _ (unopened refl (opening_wants_sectors o.0 o.3 refl (ap (λ (x : List ℕ). only (ended x)) line))) (closes_only ends)
+  refused b b' faults.BackingFault old new answer o ends = run_stops 6 _ (unopened refl (opening_fails (o.0, o.1) o.2 refl refl)) (closes_only ends)
 
   -- no job
-  pub idle : (b b' : B) (k : Machine) (now : K) → d.jobs ≡ [] → IsOpened holds size broken d ps core b b' (Ok k) → RunEnds taken failures (device_of holds size broken b b') core (d, ps) (Some k) now now 0
-  idle b b' k now none o = run_stops 0 [] (opened k refl (o.0, o.1) (all_end refl (λ tells. done))) (whole refl (Took-none taken now))
+  pub idle : (b b' : B) (k : Machine) (now : K) → ((n : ℕ) → StatesInOrder n (session_of d ps)) → d.jobs ≡ [] → IsOpened holds size broken d ps core b b' (Ok k)
+      → RunEnds taken failures (device_of holds size broken b b') core (d, ps) (Some k) now now 0
+  idle b b' k now in_order none o = run_stops 0 (only []) (opened k refl opens o.2.printed (all_end refl done)) (all_taken refl (Took-none taken now))
     where
       made : k.tasks.made ≡ 0
       made = o.2.stands.tables.counts.made
+
+      opens : WasOpened (device_of holds size broken b b') core (d, ps) k
+      opens = record { room = (o.0, o.1); in_order = in_order k.tasks.made; fitted = λ tells j low. absurd (omega (arith, low, made)) }
 
       within : (halt : Option ℕ) → IfSome halt (λ count. k.tasks.made ≤ count)
       within None = tt
@@ -103,11 +110,16 @@ module _ {K B : Type 0} (taken : K → Option (List ℕ)) (failures : K → ℕ)
       none_live : live_tasks (session_of d ps).jobs ≡ 0
       none_live = ap (λ (js : List Job). live_tasks (opening d.stack d.quantum (map switch_of d.switches) (openings_of js ps)).jobs) none
 
-      done : IsDone (run_of (d, ps)) k []
-      done = record {
+      rests : holds b ≢ None → Rests (holds b') k (session_of d ps)
+      rests tells = subst (λ (x : Option (List (List ℕ))). Rests x k (session_of d ps)) (told_is (holds b) (holds b') tells)
+          (record { storage = o.2.storage; plan = opening_plan d.stack ps; stands = o.2.stands; none = none_live })
+
+      done : holds b ≢ None → IsDone (holds b') (run_of (d, ps)) k (only [])
+      done tells = record {
         within = within d.halt;
         over = subst (λ n. live_after n (session_of d ps) ≡ 0) (sym made) none_live;
-        printed = subst (λ n. [] ≡ run_text (lines n (session_of d ps))) (sym made) refl;
+        rests = subst (λ n. Rests (holds b') k (after n (session_of d ps))) (sym made) (rests tells);
+        printed = subst (λ n. only [] ≡ record { front = run_text (lines n (session_of d ps)); last = [] }) (sym made) refl;
       }
 
 still_told : {B : Type 0} (holds : B → Option (List (List ℕ))) (b b' : B) → Changes holds b b' (λ before after. length after ≡ length before) → holds b ≢ None → holds b' ≢ None
@@ -144,20 +156,26 @@ module _ {K B : Type 0} (taken : K → Option (List ℕ)) (failures : K → ℕ)
       let r = rans known first (member_of d.stack j (program_of f)) task_of (says_after (holds b) (holds b')) lone in
       let begun : k0.tasks.made ≡ 0 = o.2.stands.tables.counts.made in
       let made : k.tasks.made ≡ r.slices.steps = from_none k.tasks.made k0.tasks.made r.slices.steps begun r.slices.made in
+      let all_made : k.tasks.made ≡ k0.tasks.made + k.tasks.made = omega (arith, begun) in
       let exact = λ (told : holds b ≢ None). known_after (holds b) (holds b') told (still_told holds b b' tells told) in
-      ran taken failures (device_of holds size broken b b'') core (d, program_of f ∷ []) j.body_card j.limit k (member_of d.stack j (program_of f)) (o.0, o.1)
+      ran taken failures (device_of holds size broken b b'') core (d, program_of f ∷ []) j.body_card j.limit k (member_of d.stack j (program_of f))
+      (record {
+        room = (o.0, o.1);
+        in_order = states_in_order d (f ∷ []) k.tasks.made range (loaded, tt);
+        fitted = λ told. subst (λ n. StepsFit n k.tasks.made first) o.2.core_size (r.fits (exact told) k.tasks.made all_made);
+      })
       (single_opens d j (program_of f) one).jobs refl (halt ∙ o.2.halt)
       (known ≢ None) exact
       (retold known (holds b'')) (λ told. retold_after (holds b) (holds b') (holds b'') told (still_told holds b b' tells told))
       r.slices.steps r.slices.session r.slices.printed (subst (λ n. r.slices.steps ≤ n) all r.slices.few) made (λ told. r.slices.leads (exact told))
-      (λ told m t n single calls.
-      never_unbuilt d (f ∷ []) range (loaded, tt) (built, tt) r.slices.steps m t n
-      (subst (λ (z : Session). IsSingle z m t) (sym (r.slices.leads (exact told)).session) single) calls)
+      r.slices.was_due r.slices.is_due (λ told. r.slices.next (exact told)) k0.tasks.printed o.2.printed
+      (λ m t n single calls. never_unbuilt d (f ∷ []) range (loaded, tt) (built, tt) r.slices.steps m t n single calls)
       r.answered old r.between new answer
-      (subst (λ n. SliceMeets taken (retold known (holds b'')) (known ≢ None) n (size b) (steps_of d.halt j.limit) r.slices.steps r.slices.session r.slices.printed r.answered k old r.between) o.2.core_size
-      (subst (λ n. SliceMeets taken (retold known (holds b'')) (known ≢ None) (length k0.cpu.core) n (steps_of d.halt j.limit) r.slices.steps r.slices.session r.slices.printed r.answered k old r.between) same
-      (subst (λ n. SliceMeets taken (retold known (holds b'')) (known ≢ None) (length k0.cpu.core) (size b') n r.slices.steps r.slices.session r.slices.printed r.answered k old r.between) all r.slices.meets)))
-      r.finishes
+      (subst (λ n. SliceMeets (retold known (holds b'')) (known ≢ None) n (size b) (steps_of d.halt j.limit) r.slices.steps r.slices.session r.slices.is_due r.answered k) o.2.core_size
+      (subst (λ n. SliceMeets (retold known (holds b'')) (known ≢ None) (length k0.cpu.core) n (steps_of d.halt j.limit) r.slices.steps r.slices.session r.slices.is_due r.answered k) same
+      (subst (λ n. SliceMeets (retold known (holds b'')) (known ≢ None) (length k0.cpu.core) (size b') n r.slices.steps r.slices.session r.slices.is_due r.answered k) all r.slices.meets)))
+      r.finishes r.slices.prints (λ other. r.unprinted other o.2.printed)
+      (λ e told. let h = r.over e in subst (λ (z : Session). Rests (retold known (holds b'')) k z) (sym (h.is (exact told) k.tasks.made all_made)) h.rests)
       (λ e. let rose = r.device_failed e in omega (arith, later, rose))
       r.printer_failed r.later
 

@@ -1,4 +1,6 @@
 pub mod Stays
+pub mod Parts
+pub mod Reached
 pub mod Opened
 pub mod Ran
 pub mod Decks

@@ -11,6 +11,8 @@ use Rattle.b67_model.specs.Schedule.{Switch}
 use Rattle.b67_model.specs.InOrder.{IsInOrderButPlaces}
 use Rattle.b67_opening.specs.Opening.{opening}
 use Rattle.b67_opening.proofs.Opens.{opens_in_order}
+use Rattle.b67_runs.proofs.Sessions.{runs_stay_in_order}
+use Rattle.b67_run_faults.proofs.Makers.{runs_make_their_words}
 use Rattle.b67_order_weaker.proofs.Sessions.{starts_are_segments}
 use Rattle.b67_single.specs.Single.{IsSingle}
 use Rattle.b67_initial.specs.Stored.{told_after}
@@ -22,6 +24,7 @@ use Rattle.b67_open.specs.Opens.{OpensAs}
 use Rattle.b67_open.proofs.Decks.{deck_within}
 use Rattle.b67_storage.specs.Machine.{Says, retold}
 use Rattle.b67_session.specs.Slices.{IsLone}
+use Rattle.b67_deck.specs.States.{StatesInOrder}
 
 -- the first job of a deck, and its first task
 abbrev pub member_of : ℕ → Job → Program → Member
@@ -50,6 +53,13 @@ pub ordered_opens : (d : Deck) (fs : List Codefile) → DeckInRange d → AllByR
 ordered_opens d fs range loaded =
     starts_are_segments (session_of d (map program_of fs)) (opens_in_order d.stack d.quantum (map switch_of d.switches) (openings_of d.jobs (map program_of fs)) (deck_within d fs range loaded))
 
+-- every state of the run is in order, and its words were made by operators or by the loader
+pub states_in_order : (d : Deck) (fs : List Codefile) (n : ℕ) → DeckInRange d → AllByRecursion IsLoaded fs → StatesInOrder n (session_of d (map program_of fs))
+states_in_order d fs n range loaded = record {
+  ordered = λ j low. runs_stay_in_order j d.stack d.quantum (map switch_of d.switches) (openings_of d.jobs (map program_of fs)) (deck_within d fs range loaded);
+  made = λ j low m t f. runs_make_their_words j d.stack d.quantum (map switch_of d.switches) (openings_of d.jobs (map program_of fs)) m t f;
+}
+
 -- what is known of the sectors is what the device tells, if anything is known
 pub says_after : (before now : Option (List (List ℕ))) → Says (told_after before now) now
 says_after None now = tt
@@ -70,6 +80,11 @@ lone_opens d j f known core k e range loaded o = record {
 pub known_after : (before now : Option (List (List ℕ))) → before ≢ None → now ≢ None → told_after before now ≢ None
 known_after None now some other e = some refl
 known_after (Some all) now some other e = other e
+
+pub told_is : (before now : Option (List (List ℕ))) → before ≢ None → told_after before now ≡ now
+told_is None now some = absurd (some refl)
+told_is (Some all) None some = refl
+told_is (Some all) (Some other) some = refl
 
 pub retold_after : (before now later : Option (List (List ℕ))) → before ≢ None → now ≢ None → retold (told_after before now) later ≡ later
 retold_after None now later some other = absurd (some refl)

@@ -1,21 +1,21 @@
 -- The last line of a run, and its status.
-use Rattle.std.specs.Prelude.{◌≡◌, ℕ, ◌≤◌, List, Option, Some, None, Result, Ok, Err}
+use Rattle.std.specs.Prelude.{◌≡◌, ◌≢◌, ℕ, ◌+◌, ◌≤◌, List, length, Option, Some, None, Result, Ok, Err}
 use Rattle.b67_io.specs.Line.{ended}
 use Rattle.b67_io.specs.Causes.{Rose}
 use Rattle.b67_model.specs.Schedule.{Session}
 use Rattle.b67_admit.specs.declared.refusal.Refusal.TheVariants as refusals
 use Rattle.b67_admit.specs.Told.{refusal_line}
-use Rattle.b67_intrinsics.specs.declared.ends.Stop.{Stop}
-use Rattle.b67_intrinsics.specs.declared.ends.Stop.TheVariants as stops
+use Rattle.b67_session.specs.Stops.{Stop}
+use Rattle.b67_session.specs.Stops as stops
 use Rattle.b67_open.specs.declared.fault.OpenFault.{OpenFault}
 use Rattle.b67_open.specs.declared.fault.OpenFault.TheVariants as faults
 use Rattle.b67_task.specs.declared.tables.Machine.{Machine}
 use Rattle.b67_session.specs.declared.slices.Progress.{Progress}
 use Rattle.b67_session.specs.declared.slices.Progress.TheVariants as progress
-use Rattle.b67_session.specs.Slices.{Slices}
+use Rattle.b67_session.specs.Slices.{Slices, Over, StepsFit}
 use Rattle.b67_lines.specs.Stops.{halted_line}
 use Rattle.b67_lines.specs.Ends.{Ends}
-use Rattle.b67_ends.specs.Lines.{no_core_line, backing_full_line, backing_fault_line, memory_line}
+use Rattle.b67_deck.specs.Lines.{no_core_line, backing_full_line, backing_fault_line, memory_line}
 
 -- where no session is opened
 abbrev pub refused_status : OpenFault → ℕ
@@ -52,6 +52,9 @@ pub record JobRan {K : Type 0} (taken : K → Option (List ℕ)) (faults : K →
   pub answered : Result Progress Stop
   pub between : K
   pub slices : Slices taken known exact count steps first answered old new paper between
+  pub over : answered ≡ Ok progress.Ended → Over known exact first old new
+  pub fits : exact → (n : ℕ) → new.tasks.made ≡ old.tasks.made + n → StepsFit (length old.cpu.core) n first
+  pub unprinted : answered ≢ Err stops.PrintFault → old.tasks.printed ≡ 0 → new.tasks.printed ≡ 0
   pub finishes : Finishes taken faults card new.tasks.made answered between paper' answer
   pub device_failed : answered ≡ Err stops.BackingFault → failed
   pub printer_failed : answered ≡ Err stops.PrintFault → Rose faults paper between

@@ -10,18 +10,19 @@ ghost use Rattle.b67_model.specs.State.{Task, Member};
 ghost use Rattle.b67_model.specs.Schedule.{Session};
 ghost use Rattle.b67_lines.specs.Ends.{Ends};
 ghost use Rattle.b67_open.specs.Decks.{DeckInRange, IsLoaded};
-ghost use Rattle.b67_intrinsics.specs.Called.{AreCountable};
+ghost use Rattle.b67_session.specs.Passed.{AreCountable};
 ghost use Rattle.b67_session.specs.Slices.{LivesOn, IsLone};
 ghost use Rattle.b67_uncalled.specs.Uncalled.{uses_built};
-ghost use Rattle.b67_ends.specs.Device.{device_of};
+ghost use Rattle.b67_deck.specs.Device.{device_of};
 ghost use Rattle.b67_deck.specs.Finishing.{refused_status, refused_line, steps_of, Finishes, JobRan};
-ghost use Rattle.b67_ends.specs.Lines.{backing_fault_line};
-ghost use Rattle.b67_ends.specs.Runs.{RunEnds};
+ghost use Rattle.b67_deck.specs.Lines.{backing_fault_line};
+ghost use Rattle.b67_deck.specs.Runs.{RunEnds};
 
 use b67_admit::Refusal;
 use b67_backing::Backing;
-use b67_ends::{Outcome, backing_full_line, no_core_line, refusal_line};
-use b67_intrinsics::Stop;
+use crate::lines::{backing_full_line, no_core_line, refusal_line};
+use crate::outcome::Outcome;
+use b67_session::Stop;
 use b67_io::Sink;
 use b67_lines::{halted_line, line_of, say};
 use b67_load::Admitted;
@@ -113,7 +114,9 @@ fn run_job<K: Sink, B: Backing>(
 /// Status 0 is that all tasks ended, 3 that the halt's count was reached while a task lives. Else the run stops before a
 /// step, or before the first one: 4 where core is too small, 5 where the device has too few sectors, 6 where it failed, 8
 /// where the printer failed, 9 where memory was refused, and 2 where the step calls an intrinsic that isn't built. The
-/// machine is there where a session was opened; where the run stopped with a task alive it stands for the session then.
+/// machine is there where a session was opened; where the run stopped with a task alive it stands for the session then, and
+/// where all tasks ended for the session without a task. A printer that fails in the text of a step stops the run too, and
+/// the machine counts the bytes that it took of it.
 pub fn run_deck<K: Sink, B: Backing>(
     alloc: Global,
     deck: &Deck,

@@ -13,6 +13,7 @@ use Rattle.b67_layout.specs.Plan.{Plan, slot_of}
 use Rattle.b67_layout.specs.Rows.{TaskRow, JobRow, Counts, JobsShow, RunningRow, TablesShow}
 use Rattle.b67_layout.specs.Session.{RowsFit, SessionStands}
 use Rattle.b67_task.specs.declared.tables.TaskRow as kept
+use Rattle.b67_task.specs.declared.tables.Tasks.{Tasks}
 use Rattle.b67_task.specs.Tables.{task_row}
 use Rattle.b67_ending.specs.Endings.{without_slot, ended}
 use Rattle.b67_ending.proofs.Ends.{left_job, alone, ended_left}
@@ -63,6 +64,10 @@ module _ (plan : Plan) (s : Session) (m : Member) (t : Task) (single : IsSingle 
             subst (λ (w : Option TaskRow). RunningRow (bare_plan plan s m t single fit) w 255) (sym none) (refl, refl);
       };
     }
+
+-- tables with the same rows
+pub row_items : (u k : Tasks) → u.rows ≡ k.rows → u.rows.items ≡ k.rows.items
+row_items u k e = ap (λ r. r.items) e
 
 -- the first row of the machine's table, whatever stands for a row that isn't there
 module _ (plan : Plan) (s : Session) (m : Member) (t : Task) (single : IsSingle s m t) (job_rows : List JobRow) (c : Counts) where

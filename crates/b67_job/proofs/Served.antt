@@ -1,11 +1,10 @@
 -- How a text and a deck are judged, and how a judgement is answered.
-use Rattle.std.proofs.Common.{◌≡◌, ◌≢◌, ◌≤◌, ◌<◌, ◌+◌, ◌⊎◌, inl, inr, true, false, ℕ, List, [], ◌∷◌, length, map, take, drop, min, ◌++◌, Bool, Result, refl, sym, ap, ◌∙◌, subst, arith, Option, Some, None, Ok, Err}
+use Rattle.std.proofs.Common.{◌≡◌, ◌≤◌, ◌<◌, ◌+◌, inl, inr, true, false, ℕ, List, length, map, take, drop, min, ◌++◌, Bool, Result, refl, sym, ap, ◌∙◌, subst, arith, Option, Some, None, Ok, Err}
 use Rattle.std.specs.Prelude.{nat_lt, is_some}
 use Rattle.std.proofs.lemmas.Bool.{lt-ltb}
 use Rattle.std.proofs.lemmas.Bool.Decides.{nat_tests}
-use Rattle.std.proofs.lemmas.List.{length-append, length-take, length-map, take_all, drop_all, take-append-drop}
+use Rattle.std.proofs.lemmas.List.{length-take, length-map, take_all, drop_all, take-append-drop}
 use denote.Ref.{Bor}
-use Rattle.b67_io.specs.Told.{GaveAll}
 use Rattle.b67_io.specs.Causes.{Rose}
 use Rattle.b67_codefile.specs.Meaning.{program_of}
 use Rattle.b67_text.specs.Deck.{limit}
@@ -24,15 +23,16 @@ use Rattle.b67_commands.specs.Meets.{IsJudged}
 use Rattle.b67_commands.proofs.Judged.{too_long}
 use Rattle.b67_open.specs.Decks.{DeckInRange}
 use Rattle.b67_ranges.proofs.Prepared.{prepared_in_range}
-use Rattle.b67_lines.specs.Ends.{Ends}
-use Rattle.b67_ends.specs.Device.{Device}
-use Rattle.b67_ends.specs.Lines.{memory_text}
-use Rattle.b67_ends.specs.Runs.{RunEnds, run_stops, step_is_cut}
+use Rattle.b67_deck.specs.Device.{Device}
+use Rattle.b67_deck.specs.Lines.{memory_text}
+use Rattle.b67_deck.specs.Texts.{only}
+use Rattle.b67_deck.specs.Runs.{run_stops, step_is_cut}
+use Rattle.b67_deck.proofs.Ran.{closes_only}
 use Rattle.b67_job.specs.Command.{command_of}
 use Rattle.b67_job.specs.declared.command.CommandLine.{CommandLine}
 use Rattle.b67_job.specs.declared.command.CommandLine.TheVariants as lines
 use Rattle.b67_job.specs.Judgement.{Judgement, Refused, Runs, Prints, missing, runs_unless, deck_judgement, judgement, printed, asked}
-use Rattle.b67_job.specs.Due.{WasRead, IsRun, refusal_due, print_due, run_due, reading_due, memory_due, Answered, answered, cut_in_step, Serves, RefusalEnds, TextEnds, DeckEnds, reading_text}
+use Rattle.b67_job.specs.Due.{WasRead, refusal_due, print_due, run_due, reading_due, memory_due, Answered, answered, cut_in_step, Serves, RefusalEnds, TextEnds, DeckEnds, reading_text}
 
 -- ---- decks
 
@@ -106,9 +106,9 @@ IsUnserved left source_faults deck deck' command admits.Memory = Unit {0}
 module _ {S K : Type 0} {left : S → Option (List ℕ)} {source_faults : S → ℕ} {deck deck' : S} {taken : K → Option (List ℕ)} {faults : K → ℕ} {old new : K} where
   unserved : (d : Device) (command : CommandLine) (fault : AdmitFault) (answer : ℕ) → IsUnserved left source_faults deck deck' command fault → RefusalEnds fault taken faults old new answer
       → Serves command left source_faults deck deck' d None taken faults old new answer
-  unserved d command (admits.Refused r) answer h ends = λ words e. answered 2 (refusal_text r) (refusal_due command h.0 r e (was_read h.1) h.2 refl refl refl) ends
-  unserved d command admits.SourceFault answer rose ends = λ words e. answered 7 reading_text (reading_due (commanded words command e) rose refl refl refl) ends
-  unserved d command admits.Memory answer free ends = λ words e. answered 9 memory_text (memory_due (commanded words command e) refl refl refl) ends
+  unserved d command (admits.Refused r) answer h ends = λ words e. answered 2 (only (refusal_text r)) (refusal_due command h.0 r e (was_read h.1) h.2 refl refl refl) (closes_only ends)
+  unserved d command admits.SourceFault answer rose ends = λ words e. answered 7 (only reading_text) (reading_due (commanded words command e) rose refl refl refl) (closes_only ends)
+  unserved d command admits.Memory answer free ends = λ words e. answered 9 (only memory_text) (memory_due (commanded words command e) refl refl refl) (closes_only ends)
 
   -- a deck that was loaded, or wasn't
   pub served_deck : (d : Device) (core : ℕ) (loaded : Loaded) (machine : Option Machine) (answer : ℕ) → IsLoaded left source_faults deck deck' (Ok loaded)
@@ -116,9 +116,9 @@ module _ {S K : Type 0} {left : S → Option (List ℕ)} {source_faults : S → 
   served_deck d core loaded machine answer h ends = by_judgement (deck_judgement (prepared_of loaded)) (prepared_is h.0 (prepared_of loaded) h.2) ends
     where
       by_judgement : (j : Judgement) → judgement h.0 ≡ j → DeckEnds j taken faults d core machine old new answer → Serves (lines.Run core) left source_faults deck deck' d machine taken faults old new answer
-      by_judgement (Refused r) is ends = λ words e. answered 2 (refusal_text r) (refusal_due (lines.Run core) h.0 r e (inl h.1) is ends.0 refl refl) ends.1
+      by_judgement (Refused r) is ends = λ words e. answered 2 (only (refusal_text r)) (refusal_due (lines.Run core) h.0 r e (inl h.1) is ends.0 refl refl) (closes_only ends.1)
       by_judgement (Runs p) is (run_stops status text stops ends) = λ words e. answered status text (run_due core p (record { bytes = h.0; command = e; read = h.1; judged = is }) stops) ends
-      by_judgement (Runs p) is (step_is_cut text printing a rose part) = λ words e. cut_in_step core p text (record { bytes = h.0; command = e; read = h.1; judged = is }) printing a rose part
+      by_judgement (Runs p) is (step_is_cut text count printing a rose part) = λ words e. cut_in_step core p text count (record { bytes = h.0; command = e; read = h.1; judged = is }) printing a rose part
       by_judgement (Prints text) is ends = absurd ends
 
   pub served_refusal : (d : Device) (core : ℕ) (fault : AdmitFault) (answer : ℕ) → IsLoaded left source_faults deck deck' (Err fault) → RefusalEnds fault taken faults old new answer
@@ -133,7 +133,7 @@ module _ {S K : Type 0} {left : S → Option (List ℕ)} {source_faults : S → 
   -- a text that was made, or wasn't
   pub served_text : (d : Device) (command : CommandLine) (verdict : List ℕ → Verdict) (made : Result (List ℕ) AdmitFault) (answer : ℕ) → ((bytes : List ℕ) → asked command bytes ≡ printed (verdict bytes))
       → IsJudged left source_faults deck deck' verdict made → TextEnds made taken faults old new answer → Serves command left source_faults deck deck' d None taken faults old new answer
-  served_text d command verdict (Ok text) answer same j ends = λ words e. answered 0 text (print_due command j.0 e j.1 (same j.0 ∙ ap printed j.2) refl refl) ends
+  served_text d command verdict (Ok text) answer same j ends = λ words e. answered 0 (only text) (print_due command j.0 text e j.1 (same j.0 ∙ ap printed j.2) refl refl refl) (closes_only ends)
   served_text d command verdict (Err fault) answer same j ends = unserved d command fault answer (by_fault fault j) ends
     where
       by_fault : (fault : AdmitFault) → IsJudged left source_faults deck deck' verdict (Err fault) → IsUnserved left source_faults deck deck' command fault

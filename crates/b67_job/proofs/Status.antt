@@ -1,5 +1,5 @@
 -- The status of a call for which core, the device and the printer suffice.
-use Rattle.std.proofs.Common.{◌≡◌, ◌≢◌, ◌≤◌, ◌<◌, ◌+◌, ◌⊎◌, inl, inr, true, false, ℕ, List, length, ◌++◌, refl, sym, ap, ◌∙◌, subst, arith, Option, Some, None}
+use Rattle.std.proofs.Common.{◌≡◌, ◌<◌, ◌⊎◌, inl, inr, true, ℕ, List, length, append-nil, sym, ap, ◌∙◌, subst, arith, Option, Some}
 use Rattle.std.specs.Prelude.{is_some}
 use Rattle.std.proofs.lemmas.Bool.{false≢true}
 use Rattle.std.proofs.lemmas.List.{length-append}
@@ -10,24 +10,26 @@ use Rattle.b67_task.specs.declared.tables.Machine.{Machine}
 use Rattle.b67_admit.specs.Admitting.{Prepared}
 use Rattle.b67_commands.specs.Verdicts.{Verdict}
 use Rattle.b67_commands.proofs.Judged.{check_long, asm_long}
-use Rattle.b67_lines.specs.Ends.{Ends, whole, cut}
+use Rattle.b67_model.specs.Lines.{run_text}
+use Rattle.b67_model.specs.Run.{lines as lines_of}
 use Rattle.b67_lines.specs.Stops.{IsFinished, IsHalted}
 use Rattle.b67_lines.proofs.Statuses.{finished-status, halted-status}
-use Rattle.b67_ends.specs.Device.{Device, Tells, Worked}
-use Rattle.b67_ends.specs.Runs.{run_of, IsDone, IsHaltedAt, memory_refused, opening_wants_core, opening_wants_sectors, opening_fails, all_end, halt_comes, step_wants_core, step_wants_sectors, step_fails, code_is_strange, RunStops, unopened, opened}
+use Rattle.b67_deck.specs.Device.{Device, Tells, Worked}
+use Rattle.b67_deck.specs.Texts.{Text, whole_of, all_taken, cut_short}
+use Rattle.b67_deck.specs.Runs.{run_of, IsDone, IsHaltedAt, memory_refused, opening_wants_core, opening_wants_sectors, opening_fails, all_end, halt_comes, step_wants_core, step_wants_sectors, step_fails, code_is_strange, RunStops, unopened, opened}
 use Rattle.b67_job.specs.Command.{command_of}
 use Rattle.b67_job.specs.declared.command.CommandLine.{CommandLine}
 use Rattle.b67_job.specs.declared.command.CommandLine.TheVariants as lines
 use Rattle.b67_job.specs.Judgement.{Judgement, Runs, printed, asked, judgement, judged_status}
-use Rattle.b67_job.specs.Due.{WasRead, IsRun, IsDue, usage_due, refusal_due, print_due, run_due, reading_due, memory_due, Answered, answered, cut_in_step, Suffices, IsAmple}
+use Rattle.b67_job.specs.Due.{WasRead, IsDue, usage_due, refusal_due, print_due, run_due, reading_due, memory_due, Answered, answered, cut_in_step, Suffices, IsAmple}
 use Rattle.b67_job.proofs.Served.{judged_long}
 
 -- the text of a run that is done or halts, as the run alone gives it
-pub is_finished : (p : Prepared) (k : Machine) (text : List ℕ) → IsDone (run_of p) k text → IsFinished (run_of p) text
-is_finished p k text d = record { steps = k.tasks.made; within = d.within; over = d.over; printed = d.printed }
+pub is_finished : (told : Option (List (List ℕ))) (p : Prepared) (k : Machine) (text : Text) → IsDone told (run_of p) k text → IsFinished (run_of p) (whole_of text)
+is_finished told p k text d = record { steps = k.tasks.made; within = d.within; over = d.over; printed = ap whole_of d.printed ∙ append-nil (run_text (lines_of k.tasks.made (run_of p).session)) }
 
-pub is_halted : (told : Option (List (List ℕ))) (p : Prepared) (k : Machine) (text : List ℕ) → IsHaltedAt told (run_of p) k text → IsHalted (run_of p) text
-is_halted told p k text h = record { count = k.tasks.made; halt = h.halt; lives = h.lives; printed = h.printed }
+pub is_halted : (told : Option (List (List ℕ))) (p : Prepared) (k : Machine) (text : Text) → IsHaltedAt told (run_of p) k text → IsHalted (run_of p) (whole_of text)
+is_halted told p k text h = record { count = k.tasks.made; halt = h.halt; lives = h.lives; printed = ap whole_of h.printed }
 
 -- ---- texts that begin alike past the limit are judged alike
 
@@ -55,38 +57,38 @@ core_of (lines.Run core) = core
 core_of lines.Asm = 0
 core_of lines.Check = 0
 
-run_status_is : (d : Device) (core : ℕ) (p : Prepared) (machine : Option Machine) (status : ℕ) (text : List ℕ) → Tells d → Suffices d core p → Worked d → RunStops d core p machine status text
+run_status_is : (d : Device) (core : ℕ) (p : Prepared) (machine : Option Machine) (status : ℕ) (text : Text) → Tells d → Suffices d core p → Worked d → RunStops d core p machine status text
     → (status ≡ judged_status (Runs p)) ⊎ (status ≡ 9)
 run_status_is d core p machine status text tells ample worked (unopened none (memory_refused s t)) = inr s
 run_status_is d core p machine status text tells ample worked (unopened none (opening_wants_core more s t)) = let room = ample.room.0 in absurd (omega (arith, more, room))
 run_status_is d core p machine status text tells ample worked (unopened none (opening_wants_sectors fits more s t)) = let room = ample.room.1 in absurd (omega (arith, more, room))
 run_status_is d core p machine status text tells ample worked (unopened none (opening_fails room failed s t)) = absurd (omega (arith, failed, worked))
-run_status_is d core p machine status text tells ample worked (opened k is room (all_end s h)) = inl (s ∙ sym (finished-status (run_of p) text (is_finished p k text (h tells))))
-run_status_is d core p machine status text tells ample worked (opened k is room (halt_comes s some h)) = inl (s ∙ sym (halted-status (run_of p) text (is_halted d.now p k text (h tells))))
-run_status_is d core p machine status text tells ample worked (opened k is room (step_wants_core s h)) =
+run_status_is d core p machine status text tells ample worked (opened k is opens none (all_end s h)) = inl (s ∙ sym (finished-status (run_of p) (whole_of text) (is_finished d.now p k text (h tells))))
+run_status_is d core p machine status text tells ample worked (opened k is opens none (halt_comes s some h)) = inl (s ∙ sym (halted-status (run_of p) (whole_of text) (is_halted d.now p k text (h tells))))
+run_status_is d core p machine status text tells ample worked (opened k is opens none (step_wants_core s h)) =
     let w = h tells in
     let less = ample.core_suffices k.tasks.made w.stop.member w.stop.task w.stop.lone.single in
     let more = w.exceeds in
     absurd (omega (arith, more, less))
-run_status_is d core p machine status text tells ample worked (opened k is room (step_wants_sectors s h)) =
+run_status_is d core p machine status text tells ample worked (opened k is opens none (step_wants_sectors s h)) =
     let w = h tells in
     let less = ample.sectors_suffice k.tasks.made in
     let more = w.exceeds in
     absurd (omega (arith, more, less))
-run_status_is d core p machine status text tells ample worked (opened k is room (step_fails s failed h)) = absurd (omega (arith, failed, worked))
-run_status_is d core p machine status text tells ample worked (opened k is room (code_is_strange s h)) = absurd (h tells)
+run_status_is d core p machine status text tells ample worked (opened k is opens none (step_fails s failed h)) = absurd (omega (arith, failed, worked))
+run_status_is d core p machine status text tells ample worked (opened k is opens none (code_is_strange s h)) = absurd (h tells)
 
 commanded : (words : List (Bor (List ℕ))) (command : CommandLine) → command_of words ≡ Some command → is_some (command_of words) ≡ true
 commanded words command e = ap is_some e
 
 module _ {S : Type 0} {words : List (Bor (List ℕ))} {left : S → Option (List ℕ)} {source_faults : S → ℕ} {deck deck' : S} {d : Device} {machine : Option Machine} where
-  due_status : {status : ℕ} {text : List ℕ} (command : CommandLine) (told : List ℕ) → left deck ≡ Some told → command_of words ≡ Some command → IsAmple d command told → Worked d → Stayed source_faults deck deck'
+  due_status : {status : ℕ} {text : Text} (command : CommandLine) (told : List ℕ) → left deck ≡ Some told → command_of words ≡ Some command → IsAmple d command told → Worked d → Stayed source_faults deck deck'
       → IsDue words left source_faults deck deck' d machine status text → (status ≡ judged_status (asked command told)) ⊎ (status ≡ 9)
   due_status command told e is ample worked stayed (usage_due c g m s t) = absurd (false≢true (sym c ∙ commanded words command is))
   due_status command told e is ample worked stayed (refusal_due other b refusal c r j m s t) =
       let same : other ≡ command = same_command (command_of words) other command c is in
       inl (s ∙ sym (ap (λ (x : CommandLine). judged_status (asked x told)) (sym same) ∙ read_status other b told e r ∙ ap judged_status j))
-  due_status command told e is ample worked stayed (print_due other b c r j m s) =
+  due_status command told e is ample worked stayed (print_due other b printed c r j m s t) =
       let same : other ≡ command = same_command (command_of words) other command c is in
       inl (s ∙ sym (ap (λ (x : CommandLine). judged_status (asked x told)) (sym same) ∙ read_status other b told e (inl r) ∙ ap judged_status j))
   due_status {status = status} {text = text} command told e is ample worked stayed (run_due core p run stops) =
@@ -103,7 +105,7 @@ module _ {S : Type 0} {words : List (Bor (List ℕ))} {left : S → Option (List
   pub completed : {K : Type 0} (taken : K → Option (List ℕ)) (faults : K → ℕ) (old new : K) (answer : ℕ) (command : CommandLine) (told : List ℕ) → left deck ≡ Some told → command_of words ≡ Some command
       → IsAmple d command told → Stayed source_faults deck deck' → Stayed faults old new → Worked d → Answered words left source_faults deck deck' d machine taken faults old new answer
       → (answer ≡ judged_status (asked command told)) ⊎ (answer ≡ 9)
-  completed taken faults old new answer command told e is ample stayed calm worked (answered status text due (whole a took)) =
+  completed taken faults old new answer command told e is ample stayed calm worked (answered status text due (all_taken a took)) =
       subst (λ (n : ℕ). (n ≡ judged_status (asked command told)) ⊎ (n ≡ 9)) (sym a) (due_status command told e is ample worked stayed due)
-  completed taken faults old new answer command told e is ample stayed calm worked (answered status text due (cut a rose part)) = absurd (omega (arith, rose, calm))
-  completed taken faults old new answer command told e is ample stayed calm worked (cut_in_step core p text run printing a rose part) = absurd (omega (arith, rose, calm))
+  completed taken faults old new answer command told e is ample stayed calm worked (answered status text due (cut_short count a rose part)) = absurd (omega (arith, rose, calm))
+  completed taken faults old new answer command told e is ample stayed calm worked (cut_in_step core p text count run printing a rose part) = absurd (omega (arith, rose, calm))

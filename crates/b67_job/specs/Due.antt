@@ -2,7 +2,7 @@
 use Rattle.std.specs.Prelude.{ℕ, ◌≡◌, ◌<◌, ◌≤◌, ◌⊎◌, true, false, List, length, codes, Option, Some, None, Result, Ok, Err, is_some}
 use denote.Ref.{Bor}
 use Rattle.b67_io.specs.Line.{ended}
-use Rattle.b67_io.specs.Told.{Gave, GaveAll, TookPart}
+use Rattle.b67_io.specs.Told.{Gave, GaveAll}
 use Rattle.b67_io.specs.Causes.{Rose}
 use Rattle.b67_text.specs.Deck.{limit}
 use Rattle.b67_model.specs.State.{Task, Member}
@@ -17,11 +17,12 @@ use Rattle.b67_admit.specs.declared.fault.AdmitFault.TheVariants as admits
 use Rattle.b67_admit.specs.Admitting.{Prepared}
 use Rattle.b67_admit.specs.Told.{refusal_text}
 use Rattle.b67_lines.specs.Ends.{Ends}
-use Rattle.b67_lines.specs.Stops.{IsFinished, IsHalted}
+use Rattle.b67_lines.specs.Stops.{IsFinished}
 use Rattle.b67_open.specs.Opens.{need_of, sectors_of_all}
-use Rattle.b67_ends.specs.Device.{Device, Tells, Failed}
-use Rattle.b67_ends.specs.Lines.{no_core_line, backing_full_line, backing_fault_line, memory_text}
-use Rattle.b67_ends.specs.Runs.{run_of, WantsCore, WantsSectors, IsCutOff, HasRoom, RunStops, IsPrinting, RunEnds}
+use Rattle.b67_deck.specs.Device.{Device, Tells}
+use Rattle.b67_deck.specs.Lines.{no_core_line, backing_full_line, backing_fault_line, memory_text}
+use Rattle.b67_deck.specs.Texts.{Text, only, TookUpTo, Closes}
+use Rattle.b67_deck.specs.Runs.{run_of, WantsCore, WantsSectors, IsCutOff, HasRoom, RunStops, IsPrinting, RunEnds}
 use Rattle.b67_job.specs.Command.{command_of}
 use Rattle.b67_job.specs.declared.command.CommandLine.{CommandLine}
 use Rattle.b67_job.specs.declared.command.CommandLine.TheVariants as lines
@@ -45,25 +46,25 @@ pub record IsRun {S : Type 0} (words : List (Bor (List ℕ))) (left : S → Opti
   pub judged : judgement bytes ≡ Runs p
 
 -- the status, the text and the machine that are due, by their cause
-pub data IsDue {S : Type 0} (words : List (Bor (List ℕ))) (left : S → Option (List ℕ)) (faults : S → ℕ) (deck deck' : S) (d : Device) (machine : Option Machine) (status : ℕ) (text : List ℕ) : Type 0 where
+pub data IsDue {S : Type 0} (words : List (Bor (List ℕ))) (left : S → Option (List ℕ)) (faults : S → ℕ) (deck deck' : S) (d : Device) (machine : Option Machine) (status : ℕ) (text : Text) : Type 0 where
   usage_due : is_some (command_of words) ≡ false → deck' ≡ deck → machine ≡ None
-      → status ≡ 1 → text ≡ usage_text → IsDue words left faults deck deck' d machine status text
+      → status ≡ 1 → text ≡ only usage_text → IsDue words left faults deck deck' d machine status text
   refusal_due : (command : CommandLine) (bytes : List ℕ) (refusal : Refusal) → command_of words ≡ Some command → WasRead left deck deck' bytes
-      → asked command bytes ≡ Refused refusal → machine ≡ None → status ≡ 2 → text ≡ refusal_text refusal → IsDue words left faults deck deck' d machine status text
-  print_due : (command : CommandLine) (bytes : List ℕ) → command_of words ≡ Some command → GaveAll left deck deck' bytes
-      → asked command bytes ≡ Prints text → machine ≡ None → status ≡ 0 → IsDue words left faults deck deck' d machine status text
+      → asked command bytes ≡ Refused refusal → machine ≡ None → status ≡ 2 → text ≡ only (refusal_text refusal) → IsDue words left faults deck deck' d machine status text
+  print_due : (command : CommandLine) (bytes printed : List ℕ) → command_of words ≡ Some command → GaveAll left deck deck' bytes
+      → asked command bytes ≡ Prints printed → machine ≡ None → status ≡ 0 → text ≡ only printed → IsDue words left faults deck deck' d machine status text
   run_due : (core : ℕ) (p : Prepared) → IsRun words left deck deck' core p → RunStops d core p machine status text → IsDue words left faults deck deck' d machine status text
   reading_due : is_some (command_of words) ≡ true → Rose faults deck deck' → machine ≡ None
-      → status ≡ 7 → text ≡ reading_text → IsDue words left faults deck deck' d machine status text
-  memory_due : is_some (command_of words) ≡ true → machine ≡ None → status ≡ 9 → text ≡ memory_text → IsDue words left faults deck deck' d machine status text
+      → status ≡ 7 → text ≡ only reading_text → IsDue words left faults deck deck' d machine status text
+  memory_due : is_some (command_of words) ≡ true → machine ≡ None → status ≡ 9 → text ≡ only memory_text → IsDue words left faults deck deck' d machine status text
 
 -- what was due, and how the call ended. A printer may also fail in the text of a step
 pub data Answered {S K : Type 0} (words : List (Bor (List ℕ))) (left : S → Option (List ℕ)) (source_faults : S → ℕ) (deck deck' : S) (d : Device) (machine : Option Machine)
     (taken : K → Option (List ℕ)) (printer_faults : K → ℕ) (old new : K) (answer : ℕ) : Type 0 where
-  answered : (status : ℕ) (text : List ℕ) → IsDue words left source_faults deck deck' d machine status text → Ends taken printer_faults old new status text answer
+  answered : (status : ℕ) (text : Text) → IsDue words left source_faults deck deck' d machine status text → Closes taken printer_faults old new status text answer
       → Answered words left source_faults deck deck' d machine taken printer_faults old new answer
-  cut_in_step : (core : ℕ) (p : Prepared) (text : List ℕ) → IsRun words left deck deck' core p → IsPrinting d core p machine text
-      → answer ≡ 8 → Rose printer_faults old new → TookPart taken old new text → Answered words left source_faults deck deck' d machine taken printer_faults old new answer
+  cut_in_step : (core : ℕ) (p : Prepared) (text : Text) (count : ℕ) → IsRun words left deck deck' core p → IsPrinting d core p machine text count
+      → answer ≡ 8 → Rose printer_faults old new → TookUpTo taken old new text count → Answered words left source_faults deck deck' d machine taken printer_faults old new answer
 
 -- how a call ends that carries out a command
 abbrev pub Serves : {S K : Type 0} → CommandLine → (S → Option (List ℕ)) → (S → ℕ) → S → S → Device → Option Machine → (K → Option (List ℕ)) → (K → ℕ) → K → K → ℕ → Type 0
@@ -78,21 +79,23 @@ IsDone d (Refused refusal) text = ⊥
 IsDone d (Runs p) text = Tells d → IsFinished (run_of p) text
 IsDone d (Prints whole) text = text ≡ whole
 
--- core is too small: for the session that opens, or for a step
-abbrev pub IsShortOfCore : Device → ℕ → Prepared → List ℕ → Type 0
-IsShortOfCore d core p text =
-    ((core < need_of p.0 p.1) × (text ≡ ended (no_core_line (need_of p.0 p.1) core)))
-    ⊎ (HasRoom d core p × (Tells d → (k : Machine) × WantsCore d.now core (run_of p).session k text))
+-- core is too small: for the session that opens, or for the next step of the machine that is left
+abbrev pub IsShortOfCore : Device → ℕ → Prepared → Option Machine → Text → Type 0
+IsShortOfCore d core p machine text =
+    ((machine ≡ None) × (core < need_of p.0 p.1) × (text ≡ only (ended (no_core_line (need_of p.0 p.1) core))))
+    ⊎ ((k : Machine) × (machine ≡ Some k) × HasRoom d core p × (Tells d → WantsCore d.now core (run_of p).session k text))
 
--- the device has too few sectors: for the programs of the session that opens, or for the session that steps led to
-abbrev pub IsShortOfSectors : Device → ℕ → Prepared → List ℕ → Type 0
-IsShortOfSectors d core p text =
-    ((need_of p.0 p.1 ≤ core) × (d.sectors < sectors_of_all p.0 p.1) × (text ≡ ended (backing_full_line (sectors_of_all p.0 p.1) d.sectors)))
-    ⊎ (HasRoom d core p × (Tells d → (k : Machine) × WantsSectors d.now d.sectors (run_of p).session k text))
+-- the device has too few sectors: for the programs of the session that opens, or for the session of the machine that is left,
+-- which lacks what its next step wants
+abbrev pub IsShortOfSectors : Device → ℕ → Prepared → Option Machine → Text → Type 0
+IsShortOfSectors d core p machine text =
+    ((machine ≡ None) × (need_of p.0 p.1 ≤ core) × (d.sectors < sectors_of_all p.0 p.1) × (text ≡ only (ended (backing_full_line (sectors_of_all p.0 p.1) d.sectors))))
+    ⊎ ((k : Machine) × (machine ≡ Some k) × HasRoom d core p × (Tells d → WantsSectors d.now core d.sectors (run_of p).session k text))
 
--- the device failed: as the session opened, or at a step
-abbrev pub IsFailedBy : Device → ℕ → Prepared → List ℕ → Type 0
-IsFailedBy d core p text = HasRoom d core p × ((text ≡ ended backing_fault_line) ⊎ (Tells d → (k : Machine) × IsCutOff d.now (run_of p).session k text))
+-- the device failed: as the session opened, or at a step of the machine that is left, which lacks what it wants
+abbrev pub IsFailedBy : Device → ℕ → Prepared → Option Machine → Text → Type 0
+IsFailedBy d core p machine text =
+    HasRoom d core p × (((machine ≡ None) × (text ≡ only (ended backing_fault_line))) ⊎ ((k : Machine) × (machine ≡ Some k) × (Tells d → IsCutOff d.now core (run_of p).session k text)))
 
 -- ---- answers to a fault, to a text and to a deck
 

@@ -8,7 +8,7 @@ use Rattle.b67_admit.specs.Admitting.{Answer, Prepared, deck_prepared}
 use Rattle.b67_commands.specs.Verdicts.{Verdict, check_verdict, asm_verdict}
 use Rattle.b67_lines.specs.Stops.{run_status}
 use Rattle.b67_uncalled.specs.Uncalled.{uses_built}
-use Rattle.b67_ends.specs.Runs.{run_of}
+use Rattle.b67_deck.specs.Runs.{run_of}
 use Rattle.b67_job.specs.declared.command.CommandLine.{CommandLine}
 use Rattle.b67_job.specs.declared.command.CommandLine.TheVariants as lines
 

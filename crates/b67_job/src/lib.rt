@@ -9,6 +9,6 @@ mod top;
 #[cfg(test)]
 mod worked;
 
-pub use b67_ends::Outcome;
+pub use b67_deck::Outcome;
 pub use command::{CommandLine, backing_path, command_of};
 pub use top::{refuse_memory, run};

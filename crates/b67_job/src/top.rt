@@ -1,7 +1,7 @@
 //! The top call.
 
 ghost use Rattle.std.specs.Prelude.{◌≡◌, ◌≢◌, ◌⊎◌, ◌≤◌, ◌<◌, ◌^◌, ℕ, List, length, map, true, false, is_some, Some, None};
-ghost use Rattle.b67_io.specs.Told.{Took, TookPart, GaveAll};
+ghost use Rattle.b67_io.specs.Told.{Took, GaveAll};
 ghost use Rattle.b67_io.specs.Causes.{Rose, Stayed};
 ghost use Rattle.b67_task.specs.declared.tables.Machine.{Machine};
 ghost use Rattle.b67_admit.specs.declared.refusal.Refusal.{Refusal};
@@ -11,9 +11,13 @@ ghost use Rattle.b67_admit.specs.Meets.{prepared_of};
 ghost use Rattle.b67_open.specs.Decks.{DeckInRange};
 ghost use Rattle.b67_lines.specs.Ends.{Ends};
 ghost use Rattle.b67_lines.specs.Stops.{IsHalted};
-ghost use Rattle.b67_ends.specs.Device.{Device, device_of};
-ghost use Rattle.b67_ends.specs.Lines.{memory_text};
-ghost use Rattle.b67_ends.specs.Runs.{run_of, HasRoom, StopsAt, IsPrinting};
+ghost use Rattle.b67_model.specs.Run.{after};
+ghost use Rattle.b67_deck.specs.Device.{Device, device_of};
+ghost use Rattle.b67_deck.specs.Lines.{memory_text};
+ghost use Rattle.b67_deck.specs.Texts.{Text, whole_of, TookUpTo};
+ghost use Rattle.b67_deck.specs.States.{StatesInOrder};
+ghost use Rattle.b67_deck.specs.Runs.{run_of, HasRoom, StopsAt, IsPrinting};
+ghost use Rattle.b67_deck.specs.Runs.{Rests, StepsFit};
 ghost use Rattle.b67_job.specs.Command.{command_of};
 ghost use Rattle.b67_job.specs.declared.command.CommandLine.{CommandLine};
 ghost use Rattle.b67_job.specs.Judgement.{deck_judgement, asked, Refused, judged_status};
@@ -24,8 +28,8 @@ use crate::planning::missing_card;
 use b67_admit::{AdmitFault, Loaded, Refusal, admit};
 use b67_backing::Backing;
 use b67_commands::{asm_text, check_text};
-use b67_deck::run_deck;
-use b67_ends::{Outcome, refusal_line, say_text};
+
+use b67_deck::{Outcome, refusal_line, run_deck, say_text};
 use b67_io::{Sink, Source};
 use b67_lines::{line_of, say};
 use b67_word::Bytes;
@@ -172,7 +176,8 @@ fn refuse_program<K: Sink>(fault: AdmitFault, printer: &mut K) -> u8
 ///
 /// Status 0 is that all is done, 1 the usage, 2 a refused deck, 3 a run that halted, 4 a core that is too small, 5 a backing
 /// that is full, 6 a backing that failed, 7 a source that failed, 8 a printer that failed, 9 want of memory. The machine is
-/// there exactly where a session was opened.
+/// there exactly where a session was opened. Where the run stopped before a step, or the printer failed in one, it stands for
+/// the session there, and counts the bytes of the step's text that are printed.
 pub fn run<S: Source, K: Sink, B: Backing>(
     alloc: Global,
     words: &[&str],
@@ -210,33 +215,44 @@ pub fn run<S: Source, K: Sink, B: Backing>(
     ensures halted { result.status ≡ 3 → (core : ℕ) × (p : Prepared) × (text : List ℕ) × IsRun words.now S.left deck.old deck.new core p
         × (is_some p.0.halt ≡ true) × (B.holds backing.old ≢ None → IsHalted (run_of p) text) × Took K.taken printer.old printer.new text }
 
-    // Core is too small for the session that opens or for a step, or the device has too few sectors for it.
-    ensures core_wanted { result.status ≡ 4 → (core : ℕ) × (p : Prepared) × (text : List ℕ) × IsRun words.now S.left deck.old deck.new core p
-        × IsShortOfCore (device_of B.holds B.size B.faults backing.old backing.new) core p text × Took K.taken printer.old printer.new text }
-    ensures sectors_wanted { result.status ≡ 5 → (core : ℕ) × (p : Prepared) × (text : List ℕ) × IsRun words.now S.left deck.old deck.new core p
-        × IsShortOfSectors (device_of B.holds B.size B.faults backing.old backing.new) core p text × Took K.taken printer.old printer.new text }
+    // Core is too small for the session that opens or for a step, or the device has too few sectors for it. The machine stands
+    // before that step, which lacks its segment or its array where sectors are wanted.
+    ensures core_wanted { result.status ≡ 4 → (core : ℕ) × (p : Prepared) × (text : Text) × IsRun words.now S.left deck.old deck.new core p
+        × IsShortOfCore (device_of B.holds B.size B.faults backing.old backing.new) core p result.machine text × Took K.taken printer.old printer.new (whole_of text) }
+    ensures sectors_wanted { result.status ≡ 5 → (core : ℕ) × (p : Prepared) × (text : Text) × IsRun words.now S.left deck.old deck.new core p
+        × IsShortOfSectors (device_of B.holds B.size B.faults backing.old backing.new) core p result.machine text × Took K.taken printer.old printer.new (whole_of text) }
 
-    // A device failed.
+    // A device failed. A printer that fails has taken all lines of the steps and a part of what was printed behind them: of the
+    // last line of what was due; or of the first part of the next step, or of the line of LIMIT, as the machine counts.
     ensures backing_fault { result.status ≡ 6 → Rose B.faults backing.old backing.new
-        × ((core : ℕ) × (p : Prepared) × (text : List ℕ) × IsRun words.now S.left deck.old deck.new core p
-        × IsFailedBy (device_of B.holds B.size B.faults backing.old backing.new) core p text × Took K.taken printer.old printer.new text) }
+        × ((core : ℕ) × (p : Prepared) × (text : Text) × IsRun words.now S.left deck.old deck.new core p
+        × IsFailedBy (device_of B.holds B.size B.faults backing.old backing.new) core p result.machine text × Took K.taken printer.old printer.new (whole_of text)) }
     ensures reading_fault { result.status ≡ 7 → Rose S.faults deck.old deck.new
         × Took K.taken printer.old printer.new reading_text }
-    ensures printing_fault { result.status ≡ 8 → Rose K.faults printer.old printer.new × ((text : List ℕ)
+    ensures printing_fault { result.status ≡ 8 → Rose K.faults printer.old printer.new × ((text : Text) × (count : ℕ)
         × (((status : ℕ) × IsDue words.now S.left S.faults deck.old deck.new (device_of B.holds B.size B.faults backing.old backing.new) result.machine status text)
         ⊎ ((core : ℕ) × (p : Prepared) × IsRun words.now S.left deck.old deck.new core p
-        × IsPrinting (device_of B.holds B.size B.faults backing.old backing.new) core p result.machine text))
-        × TookPart K.taken printer.old printer.new text) }
+        × IsPrinting (device_of B.holds B.size B.faults backing.old backing.new) core p result.machine text count))
+        × TookUpTo K.taken printer.old printer.new text count) }
 
     // Memory was refused, and no session is open.
     ensures memory { result.status ≡ 9 → (result.machine ≡ None) × Took K.taken printer.old printer.new memory_text }
 
-    // The machine is that of a session that was opened. Where the run stopped with a task alive it stands for the session
-    // after as many steps as it counts.
+    // The machine is that of a session that was opened. Each state of its run up to as many steps as the machine counts is in
+    // order, with words that operators of earlier steps and the loader made; and none of these steps needed more words than
+    // core has.
     ensures opened { (k : Machine) → result.machine ≡ Some k → (core : ℕ) × (p : Prepared) × IsRun words.now S.left deck.old deck.new core p
         × HasRoom (device_of B.holds B.size B.faults backing.old backing.new) core p }
+    ensures in_order { (k : Machine) → result.machine ≡ Some k → (core : ℕ) × (p : Prepared) × IsRun words.now S.left deck.old deck.new core p × StatesInOrder k.tasks.made (run_of p).session }
+    ensures fitted { (k : Machine) → result.machine ≡ Some k → B.holds backing.old ≢ None → (core : ℕ) × (p : Prepared) × IsRun words.now S.left deck.old deck.new core p
+        × StepsFit core k.tasks.made (run_of p).session }
+
+    // Where the run stopped with a task alive it stands for the session after these steps, and nothing of the next one is
+    // printed. Where all tasks ended it stands for the session without a task.
     ensures stands { (k : Machine) → result.machine ≡ Some k → B.holds backing.old ≢ None → 3 ≤ result.status → result.status ≤ 6
-        → (core : ℕ) × (p : Prepared) × IsRun words.now S.left deck.old deck.new core p × StopsAt (B.holds backing.new) (run_of p).session k }
+        → (core : ℕ) × (p : Prepared) × IsRun words.now S.left deck.old deck.new core p × StopsAt (B.holds backing.new) (run_of p).session k × (k.tasks.printed ≡ 0) }
+    ensures ended { (k : Machine) → result.machine ≡ Some k → B.holds backing.old ≢ None → result.status ≡ 0
+        → (core : ℕ) × (p : Prepared) × IsRun words.now S.left deck.old deck.new core p × Rests (B.holds backing.new) k (after k.tasks.made (run_of p).session) }
 
     // Where no count rises, core and device suffice and the device tells what its sectors hold, the command and the deck
     // decide, or memory was refused.

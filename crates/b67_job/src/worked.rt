@@ -3,7 +3,7 @@
 use crate::run;
 use crate::tests::{bytes_of, numbers_of};
 use b67_backing::{Backing, HonestBacking, MemoryBacking};
-use b67_ends::Outcome;
+use b67_deck::Outcome;
 use b67_io::{Paper, Tape};
 use std::alloc::{AllocError, Global};
 use std::process::Abort;

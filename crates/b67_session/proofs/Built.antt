@@ -21,7 +21,7 @@ use Rattle.b67_order.proofs.Posts.{Post, post_ok, post_err, post_any, post_then,
 use Rattle.b67_profiles.specs.Profiles.{Profile, profile, profiles, called_at, called_by, called_on, called, IsKnown}
 use Rattle.b67_profiles.proofs.Lemmas.{rows_keep}
 use Rattle.b67_layout.specs.Meets.{here}
-use Rattle.b67_made.proofs.Keeps.{row_keeps}
+use Rattle.b67_attempt.proofs.Passed.{row_keeps}
 
 -- another task of the same profile in a task's place
 put : (n : ℕ) (t : Task) (ts : List Task) → keyed (λ (p : Profile). p.number) n (profiles ts) ≡ Some (profile t)

@@ -1,27 +1,29 @@
--- The machine after the step that ended the only task.
-use Rattle.std.proofs.Common.{◌≡◌, ℕ, ◌+◌, true, List, [], ◌∷◌, length, Option, Some, Ok, Err, refl, sym, ap, ◌∙◌, subst}
+-- The machine after the step that ended the only task, and after one but for its last part.
+use Rattle.std.proofs.Common.{◌≡◌, ℕ, ◌+◌, Bool, true, List, [], ◌∷◌, ◌++◌, map, length, Option, Some, Ok, Err, refl, sym, ap, ◌∙◌, subst, append-nil}
 use Rattle.std.specs.Prelude.{◌==◌}
+use Rattle.std.proofs.lemmas.List.{map-append}
 use Rattle.b67_word.specs.declared.faults.Ending.{Ending}
 use Rattle.b67_word.specs.declared.faults.Ending.TheVariants.{Ended, Parent, Deadlock, Limit, Faulted}
 use Rattle.b67_model.specs.Answers.{Answer}
 use Rattle.b67_model.specs.State.{Task, Job, Course, Member}
-use Rattle.b67_model.specs.Steps.{Line, Done, Goes, Leaves}
-use Rattle.b67_model.specs.Endings.{Stepped, ends_task, ends_with, settles, limited}
+use Rattle.b67_model.specs.Steps.{Line, Ends, Done, Goes, Leaves}
+use Rattle.b67_model.specs.Endings.{Settled, Stepped, ends_task, ends_with, ends_each_if, goes_on, settles, deadlocked, unsettled, limited}
 use Rattle.b67_model.specs.Alone.{JobMoment, moment_with}
 use Rattle.b67_model.specs.Keyed.{keyed}
 use Rattle.b67_model.specs.Rows.{step}
-use Rattle.b67_model.specs.Run.{Moment, next, number_of, with_moment, of_job}
+use Rattle.b67_model.specs.Run.{RunLine, Moment, next, number_of, with_moment, of_job}
 use Rattle.b67_model.specs.Schedule.{Session, choice}
 use Rattle.b67_model.specs.InOrder.{IsInOrderButPlaces}
+use Rattle.b67_lines.specs.Moments.{first_part}
 use Rattle.b67_stack.specs.declared.Cpu.{Cpu}
-use Rattle.b67_stack.specs.Picture.{Picture, Settled}
+use Rattle.b67_stack.specs.Picture.{Picture, Settled as Calm}
 use Rattle.b67_stack.specs.Stands.{Storage, Stands}
 use Rattle.b67_profiles.specs.Profiles.{profiles}
 use Rattle.b67_layout.specs.Plan.{Plan, slot_of}
 use Rattle.b67_layout.specs.Layout.{picture}
 use Rattle.b67_layout.specs.Session.{SessionStands, with_things}
 use Rattle.b67_layout.specs.Meets.{with_job}
-use Rattle.b67_single.specs.Single.{IsSingle}
+use Rattle.b67_single.specs.Single.{IsSingle, task_lines}
 use Rattle.b67_step.proofs.Alike.{AllAlike}
 use Rattle.b67_step.proofs.Counted.{SameJobs, same_picture}
 use Rattle.b67_step.proofs.Paged.{SessionStands-over}
@@ -29,24 +31,19 @@ use Rattle.b67_task.specs.declared.tables.Tasks.{Tasks}
 use Rattle.b67_task.specs.declared.tables.Machine.{Machine}
 use Rattle.b67_task.specs.Tables.{TasksShow, MachineStands}
 use Rattle.b67_schedule.specs.declared.counting.Chosen.{Chosen}
-use Rattle.b67_schedule.specs.Counted.{choice_of, HasRoom}
+use Rattle.b67_schedule.specs.Counted.{choice_of}
 use Rattle.b67_attempt.specs.Tries.{EndsSo}
 use Rattle.b67_ending.specs.Endings.{without_slot, HasOne, EndsIn}
 use Rattle.b67_session.specs.declared.ends.StepEnd.TheVariants as ends
-use Rattle.b67_session.specs.Steps.{IsCounted, Finishes, StepOver, finished}
+use Rattle.b67_session.specs.Slices.{IsLimited, Rests}
+use Rattle.b67_session.specs.Steps.{IsCounted, Finishes, finished}
 use Rattle.b67_session.proofs.Lone.{found}
-use Rattle.b67_session.proofs.Moments.{jm, moment_is, of_answer}
+use Rattle.b67_session.proofs.Moments.{jm, moment_is, of_answer, first_of_answer}
 use Rattle.b67_session.proofs.Rooms.{with_is}
-use Rattle.b67_session.proofs.Finishing.{OneTask, one, single_with, ordered_with, none_lives, finished_is, none_left, limit_ends, ends_rest}
-
--- the tables after the end have as much room
-pub room_left : (c : Chosen) (old new : Tasks) → new ≡ record old { rows = new.rows; running = 255 } → HasRoom old c → HasRoom new c
-room_left c old new is r =
-    let P : Tasks → Type 0 = λ z. HasRoom z c in
-    subst P (sym is) (record { job = r.job; from_one = r.from_one; at = r.at; of_job = r.of_job; made = r.made; turn = r.turn; next = r.next })
+use Rattle.b67_session.proofs.Finishing.{OneTask, one, single_with, ordered_with, none_lives, finished_is, none_left, ends_by, not_deadlocked, limit_ends, last_settled, limited_none}
 
 -- what the machine stands for doesn't show the counts
-stands_with : (s : Session) (m : Member) (t : Task) → IsSingle s m t → (x : Storage) (cpu : Cpu) (plan : Plan) (course : Course) (after : Session) → after.jobs ≡ record m { course = course } ∷ [] → after.peak ≡ s.peak
+pub stands_with : (s : Session) (m : Member) (t : Task) → IsSingle s m t → (x : Storage) (cpu : Cpu) (plan : Plan) (course : Course) (after : Session) → after.jobs ≡ record m { course = course } ∷ [] → after.peak ≡ s.peak
     → SessionStands x cpu plan (with_job s m course.job) → SessionStands x cpu plan after
 stands_with s m t single x cpu plan course after is peak h =
     let one : Member = record m { course = record m.course { job = course.job } } in
@@ -60,7 +57,7 @@ stands_with s m t single x cpu plan course after is peak h =
     subst (λ (a : List Member). A a after.jobs) (sym jobs) (subst (A (one ∷ [])) (sym is) (record { number = refl; stack_size = refl; dictionary = refl; count = refl; tasks = refl }, tt)) in
     SessionStands-over [] [] x x cpu cpu plan (with_job s m course.job) after h alike peak refl refl refl
     (subst (λ (p : Picture). Stands x cpu.core cpu.regs (with_things [] p)) (sym pictures) h.holds.memory)
-    (subst Settled (sym pictures) h.holds.settled)
+    (subst Calm (sym pictures) h.holds.settled)
     (λ i low other homes. refl)
 
 -- the task has ended and the step was counted
@@ -81,98 +78,122 @@ finish c told plan s m t ending mid tasks course o single e counted job made is 
       },
     )
 
--- of a session that is the same wherever that matters
-pub over_same : (known : Option (List (List ℕ))) (exact : Type 0) (s z : Session) (k : Machine) → (exact → z ≡ s) → StepOver known exact z k → StepOver known exact s k
-over_same known exact s z k same h = record {
-  session = h.session;
-  is = λ tells. let (moment, is, e) = h.is tells in (moment, ap next (sym (same tells)) ∙ is, e);
-  rests = h.rests;
-}
-
 module _ (known : Option (List (List ℕ))) (exact : Type 0) (s : Session) (m : Member) (t : Task) (o : IsInOrderButPlaces s) (single : IsSingle s m t) (c : Chosen) (chosen : choice s ≡ Some (choice_of c)) (job : c.job ≡ m.setting.number) (number : c.number ≡ t.number) where
   abbrev last : JobMoment
   last = jm s m t single (choice_of c) chosen job number
 
-  -- the course after the step, with the job that its end leaves
-  abbrev course_of : Job → Course
-  course_of left = record last.course { job = left; made = m.course.made + 1 }
+  -- the whole step, by what is made of its job
+  step_made : (made : JobMoment) → last ≡ made → made.alive ≡ 1 → next s ≡ Some (record { session = finished s m (choice_of c) made.course; lines = of_job m.setting.number made.lines })
+  step_made made is alive =
+      moment_is s m t single (choice_of c) chosen job number
+      ∙ ap (λ (x : JobMoment). Some (record { session = with_moment s (choice_of c) m x; lines = of_job c.job x.lines })) is
+      ∙ ap (λ (z : Session). Some (record { session = z; lines = of_job c.job made.lines })) (finished_is s m t single (choice_of c) job made alive)
+      ∙ ap (λ (n : ℕ). Some (record { session = finished s m (choice_of c) made.course; lines = of_job n made.lines })) job
 
-  -- what the step makes of the job where it is the last one
-  pub record IsEnd (left : Job) : Type 0 where
-    pub alive : last.alive ≡ 1
-    pub made : last.course.made ≡ m.course.made + 1
-    pub leaves : last.course.job ≡ left
-
-  course_is : (left : Job) → IsEnd left → last.course ≡ course_of left
-  course_is left e = ap (λ (j : Job). record last.course { job = j }) e.leaves ∙ ap (λ (n : ℕ). record last.course { job = left; made = n }) e.made
-
-  -- the machine rests, and its session is the one after the step
-  rests : (left : Job) (k : Machine) → left.tasks ≡ [] → (exact → IsEnd left) → (y : Storage) × (q : Plan) × MachineStands y known k q (finished s m (choice_of c) (course_of left)) → StepOver known exact s k
-  rests left k none end h =
-      let after = finished s m (choice_of c) (course_of left) in
-      record {
-        session = after;
-        is = λ tells.
-            let e = end tells in
-            let moment : Moment = record { session = with_moment s (choice_of c) m last; lines = of_job c.job last.lines } in (
-              moment,
-              moment_is s m t single (choice_of c) chosen job number,
-              finished_is s m t single (choice_of c) job last e.alive ∙ ap (finished s m (choice_of c)) (course_is left e),
-            );
-        rests = record { storage = h.0; plan = h.1; stands = h.2; none = none_lives after (record m { course = course_of left }) refl none };
-      }
+  first_made : (answer : Answer Done) → step m.setting m.course.job t ≡ answer → (made : JobMoment) → moment_with m.course t (settles m.course.job t answer) (settles m.course.job t answer).settled ≡ made → made.alive ≡ 1
+      → first_part s ≡ Some (record { session = finished s m (choice_of c) made.course; lines = of_job m.setting.number made.lines })
+  first_made answer e made is alive =
+      first_of_answer s m t single (choice_of c) chosen job number answer e made is
+      ∙ ap (λ (z : Session). Some (record { session = z; lines = of_job c.job made.lines })) (finished_is s m t single (choice_of c) job made alive)
+      ∙ ap (λ (n : ℕ). Some (record { session = finished s m (choice_of c) made.course; lines = of_job n made.lines })) job
 
   -- the step that ended the task by itself
-  by_itself : (ending : Ending) → EndsSo m t ending → IsEnd (ends_task m.course.job t.number ending).job
-  by_itself ending so = by ending so
-    where
-      ended_by : (e : Ending) (answer : Answer Done) → step m.setting m.course.job t ≡ answer
-          → (settles m.course.job t answer ≡ ends_with m.course.job t.number e) → IsEnd (ends_task m.course.job t.number e).job
-      ended_by e answer at is =
-          let of : last ≡ moment_with m.course t (ends_with m.course.job t.number e) (limited m.setting.limit (m.course.made + 1) (ends_with m.course.job t.number e).settled) =
-          of_answer s m t single (choice_of c) chosen job number answer at ∙ ap (λ (p : Stepped). moment_with m.course t p (limited m.setting.limit (m.course.made + 1) p.settled)) is in
-          record {
-            alive = ap (λ (x : JobMoment). x.alive) of ∙ ap (λ (ts : List Task). length ts) single.tasks;
-            made = ap (λ (x : JobMoment). x.course.made) of;
-            leaves = ap (λ (x : JobMoment). x.course.job) of ∙ ends_rest (ends_task m.course.job t.number e) m.setting.limit (m.course.made + 1) (none_left m.course.job t e single.tasks single.ready single.first);
-          }
+  abbrev pub left_course : Ending → Course
+  left_course ending = record m.course { job = (ends_task m.course.job t.number ending).job; made = m.course.made + 1; ended = m.course.ended ++ (t.number, ending) ∷ [] }
 
-      by : (e : Ending) → EndsSo m t e → IsEnd (ends_task m.course.job t.number e).job
-      by Ended at = ended_by Ended (Ok Leaves) at refl
-      by (Faulted fault) at = ended_by (Faulted fault) (Err fault) at refl
-      by Parent at = absurd at
-      by Deadlock at = absurd at
-      by Limit at = absurd at
+  abbrev pub left_moment : Ending → Moment
+  left_moment ending = record { session = finished s m (choice_of c) (left_course ending); lines = task_lines m t (Ends ending ∷ []) }
 
-  pub ends_over : (k new : Machine) (x : Storage) (plan : Plan) (ending : Ending) → MachineStands x known k plan s → (exact → EndsSo m t ending) → Finishes c ending (Ok ends.Over) k new → StepOver known exact s new
-  ends_over k new x plan ending h so f =
-      let left = (ends_task m.course.job t.number ending).job in
-      rests left new (none_left m.course.job t ending single.tasks single.ready single.first) (λ tells. by_itself ending (so tells))
-      (f x known plan s m t (course_of left) o h single job refl refl)
+  abbrev left_by : Ending → JobMoment
+  left_by ending = record { course = left_course ending; alive = 1; lines = (t.number, Ends ending) ∷ [] }
 
-  -- the operator that was the last that its job may make
+  one_alive : length m.course.job.tasks ≡ 1
+  one_alive = ap (λ (ts : List Task). length ts) single.tasks
+
+  -- the endings of a step with these endings and this job
+  closed : (e : Ending) (z : Settled) → z ≡ ends_by e m.course.job t → moment_with m.course t (ends_with m.course.job t.number e) z ≡ left_by e
+  closed e z is =
+      ap (moment_with m.course t (ends_with m.course.job t.number e)) is
+      ∙ ap (λ (n : ℕ). record { course = left_course e; alive = n; lines = (t.number, Ends e) ∷ [] }) one_alive
+
+  by_answer : (e : Ending) (answer : Answer Done) → step m.setting m.course.job t ≡ answer → settles m.course.job t answer ≡ ends_with m.course.job t.number e
+      → (next s ≡ Some (left_moment e)) × (first_part s ≡ Some (left_moment e))
+  by_answer e answer at is =
+      let z : Settled = deadlocked (ends_task m.course.job t.number e) in
+      let settled : z ≡ ends_by e m.course.job t = last_settled m.course.job t e single.tasks single.ready single.first in
+      let none = none_left m.course.job t e single.tasks single.ready single.first in
+      let limit : limited m.setting.limit (m.course.made + 1) z ≡ ends_by e m.course.job t =
+      ap (limited m.setting.limit (m.course.made + 1)) settled ∙ limited_none m.setting.limit (m.course.made + 1) (ends_by e m.course.job t) none in
+      let of : last ≡ left_by e =
+      of_answer s m t single (choice_of c) chosen job number answer at
+      ∙ ap (λ (p : Stepped). moment_with m.course t p (limited m.setting.limit (m.course.made + 1) p.settled)) is ∙ closed e (limited m.setting.limit (m.course.made + 1) z) limit in
+      (
+        step_made (left_by e) of refl,
+        first_made answer at (left_by e) (ap (λ (p : Stepped). moment_with m.course t p p.settled) is ∙ closed e z settled) refl,
+      )
+
+  pub by_itself : (ending : Ending) → EndsSo m t ending → (next s ≡ Some (left_moment ending)) × (first_part s ≡ Some (left_moment ending))
+  by_itself Ended at = by_answer Ended (Ok Leaves) at refl
+  by_itself (Faulted fault) at = by_answer (Faulted fault) (Err fault) at refl
+  by_itself Parent at = absurd at
+  by_itself Deadlock at = absurd at
+  by_itself Limit at = absurd at
+
+  pub ends_rests : (k new : Machine) (x : Storage) (plan : Plan) (ending : Ending) → MachineStands x known k plan s → Finishes c ending (Ok ends.Over) k new → Rests known new (left_moment ending).session
+  ends_rests k new x plan ending h f =
+      let (y, q, stands) = f x known plan s m t (left_course ending) o h single job refl refl in
+      record { storage = y; plan = q; stands = stands; none = none_lives (left_moment ending).session (record m { course = left_course ending }) refl (none_left m.course.job t ending single.tasks single.ready single.first) }
+
+  -- the operator that was made
   module _ (made : Job) (printed : List Line) (touched : Option ℕ) (is : step m.setting m.course.job t ≡ Ok (Goes made printed touched)) (same : profiles made.tasks ≡ profiles m.course.job.tasks) (next_is : made.next_task ≡ m.course.job.next_task) where
-    abbrev one_left : OneTask t made.tasks
+    abbrev pub one_left : OneTask t made.tasks
     one_left = one s m t single o made printed touched is same next_is
 
-    at_limit : (m.course.made + 1 == m.setting.limit) ≡ true → IsEnd (ends_task made one_left.task.number Limit).job
-    at_limit at =
-        let of = of_answer s m t single (choice_of c) chosen job number (Ok (Goes made printed touched)) is in
-        record {
-          alive = ap (λ (x : JobMoment). x.alive) of ∙ ap (λ (ts : List Task). length ts) one_left.is;
-          made = ap (λ (x : JobMoment). x.course.made) of;
-          leaves = ap (λ (x : JobMoment). x.course.job) of ∙ limit_ends made one_left.task m.setting.limit (m.course.made + 1) one_left.is one_left.ready one_left.first at;
-        }
+    abbrev pub half_member : Member
+    half_member = record m { course = record m.course { job = made; made = m.course.made + 1 } }
 
-    pub limit_over : (k new : Machine) (x : Storage) (plan : Plan) → MachineStands x known k plan (with_job s m made) → (m.course.made + 1 == m.setting.limit) ≡ true → Finishes c Limit (Ok ends.Over) k new → StepOver known exact s new
-    limit_over k new x plan h at f =
-        let left = (ends_task made one_left.task.number Limit).job in
-        rests left new (none_left made one_left.task Limit one_left.is one_left.ready one_left.first) (λ tells. at_limit at)
-        (f x known plan (with_job s m made) (record m { course = record m.course { job = made } }) one_left.task (course_of left)
-        (ordered_with s m t single o made printed touched is same next_is) h (single_with s m t single o made printed touched is same next_is) job refl refl)
+    abbrev pub half : Session
+    half = finished s m (choice_of c) half_member.course
 
-    pub limit_one : (k : Machine) (x : Storage) (plan : Plan) → MachineStands x known k plan (with_job s m made) → HasOne k
-    limit_one k x plan h = record {
+    alive : length made.tasks ≡ 1
+    alive = ap (λ (ts : List Task). length ts) one_left.is
+
+    open_job : deadlocked (unsettled made) ≡ unsettled made
+    open_job = not_deadlocked made one_left.task one_left.is one_left.ready one_left.first
+
+    abbrev half_by : JobMoment
+    half_by = record { course = half_member.course; alive = 1; lines = map (λ line. (t.number, line)) printed }
+
+    half_made : moment_with m.course t (goes_on made printed touched) (deadlocked (unsettled made)) ≡ half_by
+    half_made =
+        ap (λ (z : Settled). moment_with m.course t (goes_on made printed touched) z) open_job
+        ∙ ap (λ (n : ℕ). record { course = record m.course { job = made; made = m.course.made + 1; ended = m.course.ended ++ [] }; alive = n; lines = map (λ line. (t.number, line)) printed ++ [] }) alive
+        ∙ ap (λ (es : List (ℕ × Ending)). record { course = record m.course { job = made; made = m.course.made + 1; ended = es }; alive = 1; lines = map (λ line. (t.number, line)) printed ++ [] }) (append-nil m.course.ended)
+        ∙ ap (λ (ls : List (ℕ × Line)). record { course = half_member.course; alive = 1; lines = ls }) (append-nil (map (λ line. (t.number, line)) printed))
+
+    pub half_first : first_part s ≡ Some (record { session = half; lines = task_lines m t printed })
+    half_first = first_made (Ok (Goes made printed touched)) is half_by half_made refl
+
+    pub half_single : IsSingle half half_member one_left.task
+    half_single = record { jobs = refl; tasks = one_left.is; ready = one_left.ready; first = one_left.first; peak = single.peak }
+
+    pub half_tables : (plan : Plan) (old new : Tasks) → TasksShow plan (with_job s m made) old → IsCounted c old new → TasksShow plan half new
+    half_tables plan old new shows counted =
+        let moment : JobMoment = record { course = half_member.course; alive = 1; lines = [] } in
+        let there : keyed number_of c.job s.jobs ≡ Some m = ap (λ (n : ℕ). keyed number_of n s.jobs) job ∙ found s m t single in
+        subst (λ (z : Session). TasksShow plan z new) (finished_is s m t single (choice_of c) job moment refl) (counted.shows plan s m moment o.numbered there refl shows)
+
+    pub half_stands : (k : Machine) (x : Storage) (plan : Plan) (tasks : Tasks) → MachineStands x known k plan (with_job s m made) → IsCounted c k.tasks tasks → MachineStands x known (record k { tasks = tasks }) plan half
+    half_stands k x plan tasks h counted = record {
+      session = stands_with s m t single x k.cpu plan half_member.course half refl refl h.session;
+      storage = h.storage;
+      tables = half_tables plan k.tasks tasks h.tables counted;
+    }
+
+    pub made_one : (k : Machine) (x : Storage) (plan : Plan) → MachineStands x known k plan (with_job s m made) → HasOne k
+    made_one k x plan h = record {
+      tables = k.tasks;
+      same = record { rows = refl; running = refl };
       storage = x;
       told = known;
       plan = plan;
@@ -183,3 +204,41 @@ module _ (known : Option (List (List ℕ))) (exact : Type 0) (s : Session) (m : 
       stands = h;
       single = single_with s m t single o made printed touched is same next_is;
     }
+
+    -- it was the last that its job may make
+    pub half_limited : (k new : Machine) (x : Storage) (plan : Plan) → MachineStands x known k plan (with_job s m made) → MachineStands x known new plan half → new.tasks.rows ≡ k.tasks.rows → new.tasks.running ≡ k.tasks.running
+        → new ≡ record k { tasks = new.tasks } → m.course.made + 1 ≡ m.setting.limit → IsLimited known new half half_member one_left.task
+    half_limited k new x plan before h rows running rest limit = record {
+      storage = x;
+      plan = plan;
+      single = half_single;
+      limit = limit;
+      last = job;
+      named = number ∙ sym one_left.number;
+      stands = h;
+      session = with_job s m made;
+      made = m.course.made;
+      ordered = ordered_with s m t single o made printed touched is same next_is;
+      single_before = single_with s m t single o made printed touched is same next_is;
+      peak = refl;
+      tables = k.tasks;
+      same = record { rows = sym rows; running = sym running };
+      stands_before = subst (λ (z : Machine). MachineStands x known (record z { tasks = k.tasks }) plan (with_job s m made)) (sym rest) (record { session = before.session; storage = before.storage; tables = before.tables });
+    }
+
+    abbrev limit_course : Course
+    limit_course = record m.course { job = (ends_task made one_left.task.number Limit).job; made = m.course.made + 1; ended = m.course.ended ++ (one_left.task.number, Limit) ∷ [] }
+
+    abbrev limit_by : JobMoment
+    limit_by = record { course = limit_course; alive = 1; lines = map (λ line. (t.number, line)) printed ++ (one_left.task.number, Ends Limit) ∷ [] }
+
+    pub limit_next : (m.course.made + 1 == m.setting.limit) ≡ true → next s ≡ Some (record { session = finished s m (choice_of c) limit_course; lines = task_lines m t printed ++ task_lines half_member one_left.task (Ends Limit ∷ []) })
+    limit_next at =
+        let ended : limited m.setting.limit (m.course.made + 1) (deadlocked (unsettled made)) ≡ ends_by Limit made one_left.task =
+        ap (limited m.setting.limit (m.course.made + 1)) open_job ∙ ap (λ (b : Bool). ends_each_if b Limit (unsettled made)) at ∙ limit_ends made one_left.task one_left.is one_left.ready one_left.first in
+        let of : last ≡ limit_by =
+        of_answer s m t single (choice_of c) chosen job number (Ok (Goes made printed touched)) is
+        ∙ ap (moment_with m.course t (goes_on made printed touched)) ended
+        ∙ ap (λ (n : ℕ). record { course = limit_course; alive = n; lines = limit_by.lines }) alive in
+        step_made limit_by of refl
+        ∙ ap (λ (ls : List RunLine). Some (record { session = finished s m (choice_of c) limit_course; lines = ls })) (map-append (λ (x : ℕ × Line). (m.setting.number, x.0, x.1)) (map (λ line. (t.number, line)) printed) ((one_left.task.number, Ends Limit) ∷ []))

@@ -1,5 +1,5 @@
 -- The session of one job before and after the step that ends its only task, and the machine that stands for it.
-use Rattle.std.proofs.Common.{◌≡◌, ◌≢◌, ℕ, ◌+◌, ◌-◌, max, Bool, true, false, List, [], ◌∷◌, length, Option, Ok, refl, sym, ap, ◌∙◌, subst, arith, inl}
+use Rattle.std.proofs.Common.{◌≡◌, ◌≢◌, ℕ, ◌+◌, ◌-◌, max, Bool, true, false, List, [], ◌∷◌, ◌++◌, length, Option, Ok, refl, sym, ap, ◌∙◌, subst, arith, inl, append-nil}
 use Rattle.std.specs.Prelude.{◌==◌, filter}
 use Rattle.std.specs.Bool.{IsTrue}
 use Rattle.std.proofs.lemmas.Bool.{eq-eqb}
@@ -129,28 +129,45 @@ none_left job t ending tasks ready first =
     let same : (t.number == t.number) ≡ true = eq-eqb t.number t.number refl in
     subst Q (sym (job_is job t tasks ready first)) (rw same refl)
 
+-- what its end makes of it
+abbrev pub ends_by : Ending → Job → Task → Settled
+ends_by ending job t = record { job = (ends_task job t.number ending).job; endings = (t.number, ending) ∷ [] }
+
+-- a ready task is no deadlock
+pub not_deadlocked : (job : Job) (t : Task) → job.tasks ≡ t ∷ [] → t.condition ≡ Ready → t.parents ≡ [] → deadlocked (unsettled job) ≡ unsettled job
+not_deadlocked job t tasks ready first =
+    let Q : Job → Type 0 = λ z. deadlocked (unsettled z) ≡ unsettled z in
+    subst Q (sym (job_is job t tasks ready first)) refl
+
 -- at the limit it ends as by itself
-pub limit_ends : (job : Job) (t : Task) (limit made : ℕ) → job.tasks ≡ t ∷ [] → t.condition ≡ Ready → t.parents ≡ [] → (made == limit) ≡ true
-    → (limited limit made (deadlocked (unsettled job))).job ≡ (ends_task job t.number Limit).job
-limit_ends job t limit made tasks ready first at =
-    let Q : Job → Type 0 = λ z. (limited limit made (deadlocked (unsettled z))).job ≡ (ends_task z t.number Limit).job in
+pub limit_ends : (job : Job) (t : Task) → job.tasks ≡ t ∷ [] → t.condition ≡ Ready → t.parents ≡ [] → ends_each_if true Limit (unsettled job) ≡ ends_by Limit job t
+limit_ends job t tasks ready first =
+    let Q : Job → Type 0 = λ z. ends_each_if true Limit (unsettled z) ≡ ends_by Limit z t in
     let same : (t.number == t.number) ≡ true = eq-eqb t.number t.number refl in
-    subst Q (sym (job_is job t tasks ready first)) (rw at (rw same refl))
+    subst Q (sym (job_is job t tasks ready first)) (rw same refl)
 
 filter_all : (xs : List Array) → filter (λ (a : Array). true) xs ≡ xs
 filter_all [] = refl
 filter_all (x ∷ xs) = ap (λ (ys : List Array). x ∷ ys) (filter_all xs)
 
 -- where a job has no task, no more of it ends
-each_none : (test : Bool) (ending : Ending) (s : Settled) → s.job.tasks ≡ [] → (ends_each_if test ending s).job ≡ s.job
+pub each_none : (test : Bool) (ending : Ending) (s : Settled) → s.job.tasks ≡ [] → ends_each_if test ending s ≡ s
 each_none false ending s none = refl
 each_none true ending s none =
-    let Q : Job → Type 0 = λ z. (ends_each_if true ending (record s { job = z })).job ≡ z in
-    let bare : Q (record s.job { tasks = [] }) = ap (λ (xs : List Array). record s.job { tasks = []; arrays = xs }) (filter_all s.job.arrays) in
+    let Q : Job → Type 0 = λ z. ends_each_if true ending (record s { job = z }) ≡ record s { job = z } in
+    let bare : Q (record s.job { tasks = [] }) =
+    ap (λ (xs : List Array). record s { job = record s.job { tasks = []; arrays = xs }; endings = s.endings ++ [] }) (filter_all s.job.arrays)
+    ∙ ap (λ (es : List (ℕ × Ending)). record s { job = record s.job { tasks = [] }; endings = es }) (append-nil s.endings) in
     subst Q (ap (λ (ts : List Task). record s.job { tasks = ts }) (sym none)) bare
 
--- the rest of the end of the step changes nothing
-pub ends_rest : (s : Settled) (limit made : ℕ) → s.job.tasks ≡ [] → (limited limit made (deadlocked s)).job ≡ s.job
-ends_rest s limit made none =
-    let one : (deadlocked s).job ≡ s.job = each_none _ Deadlock s none in
-    each_none (made == limit) Limit (deadlocked s) (ap (λ (j : Job). j.tasks) one ∙ none) ∙ one
+pub limited_none : (limit made : ℕ) (s : Settled) → s.job.tasks ≡ [] → limited limit made s ≡ s
+limited_none limit made s none = each_none (made == limit) Limit s none
+
+-- and there is no deadlock after it
+pub last_settled : (job : Job) (t : Task) (ending : Ending) → job.tasks ≡ t ∷ [] → t.condition ≡ Ready → t.parents ≡ [] → deadlocked (ends_task job t.number ending) ≡ ends_by ending job t
+last_settled job t ending tasks ready first =
+    let Q : Job → Type 0 = λ z. ends_task z t.number ending ≡ ends_by ending z t in
+    let same : (t.number == t.number) ≡ true = eq-eqb t.number t.number refl in
+    let ends : Q job = subst Q (sym (job_is job t tasks ready first)) (rw same refl) in
+    let none = none_left job t ending tasks ready first in
+    ap deadlocked ends ∙ each_none _ Deadlock (ends_by ending job t) none

@@ -1,17 +1,15 @@
 -- The core that the steps of a slice need.
-use Rattle.std.proofs.Common.{◌≡◌, ◌≢◌, ℕ, zero, suc, ◌+◌, ◌<◌, ◌≤◌, List, length, Option, Some, None, Result, Ok, Err, inl, inr, refl, sym, ◌∙◌, ap, arith, subst}
+use Rattle.std.proofs.Common.{◌≡◌, ◌≢◌, ℕ, zero, suc, ◌+◌, ◌<◌, ◌≤◌, List, length, Option, Some, None, inl, inr, refl, sym, ◌∙◌, ap, arith, subst}
 use Rattle.std.specs.Prelude.{◌⊎◌, option_map}
 use Rattle.b67_model.specs.Keyed.{keyed}
 use Rattle.b67_model.specs.Need.{need, need_of_job, need_by}
 use Rattle.b67_model.specs.Run.{after}
 use Rattle.b67_model.specs.Schedule.{Session, Choice, choice}
 use Rattle.b67_model.specs.State.{Task, Member}
-use Rattle.b67_intrinsics.specs.declared.ends.Stop.{Stop}
 use Rattle.b67_schedule.specs.declared.counting.Chosen.{Chosen}
 use Rattle.b67_schedule.specs.Counted.{choice_of}
 use Rattle.b67_single.specs.Single.{IsSingle}
 use Rattle.b67_task.specs.declared.tables.Machine.{Machine}
-use Rattle.b67_session.specs.declared.ends.StepEnd.{StepEnd}
 use Rattle.b67_session.specs.Slices.{NextFits, StepsFit}
 use Rattle.b67_session.specs.Steps.{StepFits}
 use Rattle.b67_session.proofs.Lone.{task_found}
@@ -31,10 +29,9 @@ next_fits core s m t single c chosen job task fits =
 
 -- a step over which the attempt was made or ends its task
 pub turned_fits : (known : Option (List (List ℕ))) (k turned : Machine) (s : Session) (m : Member) (t : Task) (c : Chosen) → Turned known turned s m t c → length turned.cpu.core ≡ length k.cpu.core
-    → need (length turned.cpu.core) s m t ≤ length turned.cpu.core → (answered : Result StepEnd Stop) → StepFits (length k.cpu.core) s answered
-turned_fits known k turned s m t c h len fits (Ok end) =
+    → need (length turned.cpu.core) s m t ≤ length turned.cpu.core → NextFits (length k.cpu.core) s
+turned_fits known k turned s m t c h len fits =
     next_fits (length k.cpu.core) s m t h.single (choice_of c) h.choice h.job h.number (subst (λ (n : ℕ). need n s m t ≤ n) len fits)
-turned_fits known k turned s m t c h len fits (Err stop) = tt
 
 pub device_told : (known : Option (List (List ℕ))) (turned : Machine) (s : Session) (m : Member) (t : Task) (c : Chosen) (h : Turned known turned s m t c) → known ≢ None → h.storage.device ≢ None
 device_told known turned s m t c h tells = subst (λ (d : Option (List (List ℕ))). d ≢ None) h.stands.storage.device tells
@@ -60,3 +57,11 @@ pub counted_fits : (core total steps old new : ℕ) (first : Session) → new �
 counted_fits core total steps old new first is counted each =
     let same : total ≡ steps = omega (arith, is, counted) in
     subst (λ (n : ℕ). StepsFit core n first) same each
+
+-- after one step more, or none
+pub last_fits : (core size many more steps : ℕ) (first s : Session) (old now new : Machine) → size ≡ core → after many first ≡ s → now.tasks.made ≡ old.tasks.made + many → new.tasks.made ≡ now.tasks.made + more → more ≤ 1 → new.tasks.made ≡ old.tasks.made + steps
+    → StepsFit core many first → StepFits size s now new → StepsFit core steps first
+last_fits core size many more steps first s old now new len came made last few counted each (inl same) = counted_fits core many steps old.tasks.made now.tasks.made first made (omega (arith, same, counted)) each
+last_fits core size many more steps first s old now new len came made last few counted each (inr fits) = λ k low.
+    let all = fits_more core size many first s len came each fits in
+    all k (omega (arith, low, made, last, few, counted))

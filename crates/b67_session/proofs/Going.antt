@@ -1,37 +1,41 @@
 -- A slice that has made so many steps, and how it ends.
-use Rattle.std.proofs.Common.{◌≡◌, ◌≢◌, ℕ, ◌+◌, ◌≤◌, List, [], ◌++◌, length, map, Option, Some, None, Ok, Err, refl, sym, ap, ◌∙◌, subst, arith}
-use Rattle.b67_io.specs.Told.{Took}
-use Rattle.b67_io.proofs.Joined.{Took-none, Took-then, Took-kept}
+use Rattle.std.proofs.Common.{◌≡◌, ◌≢◌, ℕ, zero, suc, ◌+◌, ◌≤◌, List, [], ◌++◌, length, map, Option, Some, None, Ok, Err, refl, sym, ap, ◌∙◌, subst, arith, inl, inr, append-nil}
 use Rattle.b67_model.specs.Lists.{Has}
 use Rattle.b67_model.specs.State.{Task, Member}
-use Rattle.b67_model.specs.Lines.{run_text}
-use Rattle.b67_model.specs.Run.{RunLine, Moment, next, after}
+use Rattle.b67_model.specs.Run.{RunLine, Moment, next, after, lines}
 use Rattle.b67_model.specs.Schedule.{Session}
+use Rattle.b67_lines.specs.Moments.{first_part, due}
 use Rattle.b67_stack.specs.Stands.{Storage}
 use Rattle.b67_storage.specs.Machine.{Says}
 use Rattle.b67_layout.specs.Plan.{Plan}
-use Rattle.b67_single.proofs.Runs.{Came, came-more}
+use Rattle.b67_single.proofs.Runs.{Came, came-none, came-more}
 use Rattle.b67_task.specs.declared.tables.TaskRow.{TaskRow}
 use Rattle.b67_task.specs.declared.tables.Machine.{Machine}
 use Rattle.b67_task.specs.Tables.{task_row, MachineStands}
-use Rattle.b67_intrinsics.specs.declared.ends.Stop.{Stop}
-use Rattle.b67_intrinsics.specs.declared.ends.Stop.TheVariants as stops
+use Rattle.b67_attempt.specs.Stops.{Stop}
+use Rattle.b67_attempt.specs.Stops as stops
 use Rattle.b67_session.specs.declared.ends.StepEnd.TheVariants as ends
 use Rattle.b67_session.specs.declared.slices.Progress.TheVariants as progress
-use Rattle.b67_session.specs.Slices.{IsLone, LivesOn, Leads, SliceMeets, Slices, Over}
-use Rattle.b67_session.specs.Steps.{Steps, StepOver}
+use Rattle.b67_session.specs.Slices.{IsLone, LivesOn, Reaches, whole, but_limit, Prints, Lacks, SliceMeets, Slices, Over}
+use Rattle.b67_session.specs.Steps.{Makes, Leads, stays, makes, halves, Steps}
 use Rattle.b67_session.proofs.Lone.{has_member, has_task}
-use Rattle.b67_session.proofs.Texts.{run_text-append}
+use Rattle.b67_session.proofs.Printing.{prints_none, prints_then, prints_before}
+
+-- what was printed up to a session, of whose text so much is printed
+pub record PrintsTo {K : Type 0} (taken : K → Option (List ℕ)) (exact : Type 0) (first : Session) (paper paper' : K) (before : ℕ) (printed : List RunLine) (is_due : List ℕ) (now : ℕ) : Type 0 where
+  pub was_due : List ℕ
+  pub was : exact → was_due ≡ due first
+  pub prints : Prints taken paper paper' was_due before printed is_due now
 
 pub record Going {K : Type 0} (taken : K → Option (List ℕ)) (exact : Type 0) (known : Option (List (List ℕ))) (steps : ℕ) (first : Session) (old now : Machine) (paper paper' : K) : Type 0 where
   pub session : Session
   pub member : Member
   pub task : Task
   pub printed : List RunLine
-  pub leads : exact → Leads first steps session printed
+  pub came : exact → Came first steps session printed
   pub made : now.tasks.made ≡ old.tasks.made + steps
   pub lone : IsLone known now session member task
-  pub took : Took taken paper paper' (run_text printed)
+  pub prints : (is_due : List ℕ) → (exact → is_due ≡ due session) → PrintsTo taken exact first paper paper' old.tasks.printed printed is_due now.tasks.printed
 
 pub going-begins : {K : Type 0} (taken : K → Option (List ℕ)) (exact : Type 0) (known : Option (List (List ℕ))) (s : Session) (m : Member) (t : Task) (now : Machine) (paper : K) → IsLone known now s m t → Going taken exact known 0 s now now paper paper
 going-begins taken exact known s m t now paper lone = record {
@@ -39,10 +43,10 @@ going-begins taken exact known s m t now paper lone = record {
   member = m;
   task = t;
   printed = [];
-  leads = λ tells. record { session = refl; printed_are = refl };
+  came = λ tells. came-none s;
   made = omega arith;
   lone = lone;
-  took = Took-none taken paper;
+  prints = λ is_due same. record { was_due = is_due; was = same; prints = prints_none taken paper paper is_due now.tasks.printed now.tasks.printed refl refl };
 }
 
 -- a machine that stands for such a session has a row
@@ -52,21 +56,36 @@ some_row known now s m t lone none =
     subst (λ (rs : List TaskRow). Has (map task_row rs) row) none among
 
 -- one step further
-one_more : (first : Session) (steps : ℕ) (s s' : Session) (printed : List RunLine) (moment : Moment) → Leads first steps s printed → s' ≡ s → next s' ≡ Some moment → Leads first (steps + 1) moment.session (printed ++ moment.lines)
-one_more first steps s s' printed moment leads same is =
-    let came : Came first steps s printed = record { session = leads.session; lines_are = leads.printed_are } in
-    let more = came-more first steps s printed moment came (ap next (sym same) ∙ is) in
-    record { session = more.session; printed_are = more.lines_are }
+one_more : (first : Session) (steps : ℕ) (s was after : Session) (printed more : List RunLine) → Came first steps s printed → was ≡ s → Makes was after more → Came first (steps + 1) after (printed ++ more)
+one_more first steps s was after printed more came same m =
+    let c = came-more first steps s printed m.moment came (ap next (sym same) ∙ m.is) in
+    subst (λ (z : Session). Came first (steps + 1) z (printed ++ more)) m.session (subst (λ (ls : List RunLine). Came first (steps + 1) m.moment.session (printed ++ ls)) m.lines_are c)
+
+-- a step, or its first part, after steps
+leads_then : (first : Session) (steps n : ℕ) (s was now : Session) (printed more : List RunLine) → Came first steps s printed → was ≡ s → Leads was n now more → Reaches first (steps + n) now (printed ++ more)
+leads_then first steps n s was now printed more came same (stays none is nothing) =
+    let P : ℕ → List RunLine → Type 0 = λ k ls. Reaches first k now ls in
+    let same_steps : steps ≡ steps + n = omega (arith, none) in
+    subst (λ (k : ℕ). P k (printed ++ more)) same_steps
+    (subst (P steps) (sym (ap (λ (ls : List RunLine). printed ++ ls) nothing ∙ append-nil printed)) (whole (came.session ∙ sym same ∙ sym is) came.lines_are))
+leads_then first steps n s was now printed more came same (makes one m) =
+    let c = one_more first steps s was now printed more came same m in
+    subst (λ (k : ℕ). Reaches first (steps + k) now (printed ++ more)) (sym one) (whole c.session c.lines_are)
+leads_then first steps n s was now printed more came same (halves part one is session last lines_are) =
+    let at : first_part (after steps first) ≡ Some part = ap first_part (came.session ∙ sym same) ∙ is in
+    let all : lines steps first ++ part.lines ≡ printed ++ more = ap (λ (ls : List RunLine). ls ++ part.lines) came.lines_are ∙ ap (λ (ls : List RunLine). printed ++ ls) lines_are in
+    subst (λ (k : ℕ). Reaches first (steps + k) now (printed ++ more)) (sym one) (but_limit steps part refl at session last all)
 
 -- the step that wasn't made, after steps that were
-stop_meets : {K : Type 0} (taken : K → Option (List ℕ)) (known : Option (List (List ℕ))) (exact sure : Type 0) (core count n steps : ℕ) (s : Session) (printed : List RunLine) (stop : Stop) (new : Machine) (paper paper' paper'' : K)
-    → (exact → sure) → Took taken paper paper' (run_text printed) → SliceMeets taken known sure core count 0 0 s [] (Err stop) new paper' paper'' → SliceMeets taken known exact core count n steps s printed (Err stop) new paper paper''
-stop_meets taken known exact sure core count n steps s printed (stops.NoCore words size) new paper paper' paper'' up took m = (m.0, m.1, m.2, Took-kept took m.3)
-stop_meets taken known exact sure core count n steps s printed (stops.BackingFull sum size) new paper paper' paper'' up took m = (m.0, m.1, m.2, m.3, Took-kept took m.4)
-stop_meets taken known exact sure core count n steps s printed stops.BackingFault new paper paper' paper'' up took m = (m.0, Took-kept took m.1)
-stop_meets taken known exact sure core count n steps s printed stops.PrintFault new paper paper' paper'' up took m =
-    let (between, moment, is, none, part) = m in (between, moment, λ e. is (up e), Took-kept took none, part)
-stop_meets taken known exact sure core count n steps s printed stops.Unbuilt new paper paper' paper'' up took m = (m.0, Took-kept took m.1)
+stop_meets : (known : Option (List (List ℕ))) (exact sure : Type 0) (core count n steps : ℕ) (s : Session) (is_due : List ℕ) (stop : Stop) (new : Machine) → (exact → sure) → SliceMeets known sure core count 0 0 s is_due (Err stop) new
+    → SliceMeets known exact core count n steps s is_due (Err stop) new
+stop_meets known exact sure core count n steps s is_due (stops.NoCore words size) new up m = m
+stop_meets known exact sure core count n steps s is_due (stops.BackingFull sum size) new up m =
+    let ((y, t, h, lacks, short), is, of, few) = m in ((y, t, h, record { lacks = λ e. lacks.lacks (up e); room = λ e. lacks.room (up e) }, short), is, of, few)
+stop_meets known exact sure core count n steps s is_due stops.BackingFault new up m =
+    let (y, t, h, lacks) = m in (y, t, h, record { lacks = λ e. lacks.lacks (up e); room = λ e. lacks.room (up e) })
+stop_meets known exact sure core count n steps s is_due stops.PrintFault new up m = m
+stop_meets known exact sure core count n steps s is_due stops.Unbuilt new up m = m
 
 module _ {K : Type 0} (taken : K → Option (List ℕ)) (exact : Type 0) (known : Option (List (List ℕ))) (count n steps : ℕ) (first : Session) (old now : Machine) (paper paper' : K) (g : Going taken exact known steps first old now paper paper') where
   pub going-lives : (told : Option (List (List ℕ))) → Says known told → LivesOn told now
@@ -74,10 +93,40 @@ module _ {K : Type 0} (taken : K → Option (List ℕ)) (exact : Type 0) (known 
 
   -- it goes no further
   pub going-halted : steps ≤ n → now.tasks.halt ≡ Some now.tasks.made → Slices taken known exact count n first (Ok progress.Halted) old now paper paper'
-  going-halted few halt = record { steps = steps; few = few; session = g.session; printed = g.printed; leads = g.leads; made = g.made; meets = (halt, (g.member, g.task, g.lone), g.took) }
+  going-halted few halt =
+      let p = g.prints (due g.session) (λ tells. refl) in
+      record {
+        steps = steps;
+        few = few;
+        session = g.session;
+        printed = g.printed;
+        leads = λ tells. let c = g.came tells in whole c.session c.lines_are;
+        made = g.made;
+        was_due = p.was_due;
+        is_due = due g.session;
+        was = p.was;
+        next = λ tells. refl;
+        prints = p.prints;
+        meets = (halt, (g.member, g.task, g.lone));
+      }
 
   pub going-more : steps ≡ n → now.tasks.halt ≢ Some now.tasks.made → Slices taken known exact count n first (Ok progress.More) old now paper paper'
-  going-more all halt = record { steps = steps; few = omega (arith, all); session = g.session; printed = g.printed; leads = g.leads; made = g.made; meets = (all, halt, (g.member, g.task, g.lone), g.took) }
+  going-more all halt =
+      let p = g.prints (due g.session) (λ tells. refl) in
+      record {
+        steps = steps;
+        few = omega (arith, all);
+        session = g.session;
+        printed = g.printed;
+        leads = λ tells. let c = g.came tells in whole c.session c.lines_are;
+        made = g.made;
+        was_due = p.was_due;
+        is_due = due g.session;
+        was = p.was;
+        next = λ tells. refl;
+        prints = p.prints;
+        meets = (all, halt, (g.member, g.task, g.lone));
+      }
 
   pub going-ended : {A : Type 0} → now.tasks.rows.items ≡ [] → A
   going-ended none = absurd (some_row known now g.session g.member g.task g.lone none)
@@ -86,54 +135,83 @@ module _ {K : Type 0} (taken : K → Option (List ℕ)) (exact : Type 0) (known 
   module _ (known' : Option (List (List ℕ))) (up : exact → known ≢ None) (new : Machine) (paper'' : K) where
     pub going-steps : Steps taken known' (known ≢ None) count g.session (Ok ends.GoesOn) now new paper' paper'' → Going taken exact known' (steps + 1) first old new paper paper''
     going-steps s =
-        let (moment, is, (m, t, lone), took) = s.meets in record {
-          session = moment.session;
+        let (one, made, (m, t, lone), none) = s.meets in
+        let p = g.prints s.was_due (λ tells. s.was_is (up tells) ∙ ap due (s.same (up tells))) in
+        record {
+          session = s.session;
           member = m;
           task = t;
-          printed = g.printed ++ moment.lines;
-          leads = λ tells. one_more first steps g.session s.session g.printed moment (g.leads tells) (s.same (up tells)) is;
-          made = omega (arith, s.made, g.made);
+          printed = g.printed ++ s.printed;
+          came = λ tells. one_more first steps g.session s.was s.session g.printed s.printed (g.came tells) (s.same (up tells)) made;
+          made = omega (arith, s.made, g.made, one);
           lone = lone;
-          took = subst (Took taken paper paper'') (sym (run_text-append g.printed moment.lines)) (Took-then g.took took);
+          prints = λ is_due same. record {
+            was_due = p.was_due;
+            was = p.was;
+            prints = prints_before taken paper paper'' p.was_due s.is_due is_due old.tasks.printed new.tasks.printed (g.printed ++ s.printed) none
+                (prints_then taken paper paper' paper'' p.was_due s.was_due s.is_due old.tasks.printed now.tasks.printed new.tasks.printed g.printed s.printed p.prints s.prints);
+          };
         }
 
     pub going-over : steps + 1 ≤ n → Steps taken known' (known ≢ None) count g.session (Ok ends.Over) now new paper' paper'' → Slices taken known' exact count n first (Ok progress.Ended) old new paper paper''
     going-over few s =
-        let (moment, is, took) = s.meets in record {
-          steps = steps + 1;
-          few = few;
-          session = moment.session;
-          printed = g.printed ++ moment.lines;
-          leads = λ tells. one_more first steps g.session s.session g.printed moment (g.leads tells) (s.same (up tells)) (is (up tells)).0;
+        let (one, made, rests) = s.meets in
+        let p = g.prints s.was_due (λ tells. s.was_is (up tells) ∙ ap due (s.same (up tells))) in
+        record {
+          steps = steps + s.steps;
+          few = omega (arith, few, one);
+          session = s.session;
+          printed = g.printed ++ s.printed;
+          leads = λ tells. leads_then first steps s.steps g.session s.was s.session g.printed s.printed (g.came tells) (s.same (up tells)) (s.leads (up tells));
           made = omega (arith, s.made, g.made);
-          meets = (λ tells. (is (up tells)).1, subst (Took taken paper paper'') (sym (run_text-append g.printed moment.lines)) (Took-then g.took took));
+          was_due = p.was_due;
+          is_due = s.is_due;
+          was = p.was;
+          next = λ tells. s.next_is (up tells);
+          prints = prints_then taken paper paper' paper'' p.was_due s.was_due s.is_due old.tasks.printed now.tasks.printed new.tasks.printed g.printed s.printed p.prints s.prints;
+          meets = λ tells. rests.none;
         }
 
-    pub going-rests : Steps taken known' (known ≢ None) count g.session (Ok ends.Over) now new paper' paper'' → StepOver known' (known ≢ None) g.session new → Over known' exact first old new
-    going-rests s over = record {
-      session = over.session;
-      is = λ tells all made.
-          let (moment, is, e) = over.is (up tells) in
-          let more = one_more first steps g.session g.session g.printed moment (g.leads tells) refl is in
-          let same : steps + 1 ≡ all = omega (arith, made, s.made, g.made) in
-          subst (λ (k : ℕ). after k first ≡ over.session) same (more.session ∙ e);
-      rests = over.rests;
-    }
+    pub going-rests : Steps taken known' (known ≢ None) count g.session (Ok ends.Over) now new paper' paper'' → Over known' exact first old new
+    going-rests s =
+        let (one, made, rests) = s.meets in
+        record {
+          session = s.session;
+          is = λ tells all counted.
+              let more = one_more first steps g.session s.was s.session g.printed s.printed (g.came tells) (s.same (up tells)) (made (up tells)) in
+              let same : steps + 1 ≡ all = omega (arith, counted, s.made, g.made, one) in
+              subst (λ (k : ℕ). after k first ≡ s.session) same more.session;
+          rests = rests;
+        }
 
-    pub going-stops : (stop : Stop) → steps ≤ n → length now.cpu.core ≡ length old.cpu.core → Steps taken known' (known ≢ None) count g.session (Err stop) now new paper' paper'' → Slices taken known' exact count n first (Err stop) old new paper paper''
-    going-stops stop few len s = record {
-      steps = steps;
-      few = few;
-      session = s.session;
-      printed = g.printed;
-      leads = λ tells. subst (λ (z : Session). Leads first steps z g.printed) (sym (s.same (up tells))) (g.leads tells);
-      made = omega (arith, s.made, g.made);
-      meets = stop_meets taken known' exact (known ≢ None) (length old.cpu.core) count n steps s.session g.printed stop new paper paper' paper'' up g.took
-          (subst (λ (size : ℕ). SliceMeets taken known' (known ≢ None) size count 0 0 s.session [] (Err stop) new paper' paper'') len s.meets);
-    }
+    pub going-stops : (stop : Stop) → steps + 1 ≤ n → length now.cpu.core ≡ length old.cpu.core → Steps taken known' (known ≢ None) count g.session (Err stop) now new paper' paper'' → Slices taken known' exact count n first (Err stop) old new paper paper''
+    going-stops stop few len s =
+        let p = g.prints s.was_due (λ tells. s.was_is (up tells) ∙ ap due (s.same (up tells))) in
+        record {
+          steps = steps + s.steps;
+          few = omega (arith, few, s.few);
+          session = s.session;
+          printed = g.printed ++ s.printed;
+          leads = λ tells. leads_then first steps s.steps g.session s.was s.session g.printed s.printed (g.came tells) (s.same (up tells)) (s.leads (up tells));
+          made = omega (arith, s.made, g.made);
+          was_due = p.was_due;
+          is_due = s.is_due;
+          was = p.was;
+          next = λ tells. s.next_is (up tells);
+          prints = prints_then taken paper paper' paper'' p.was_due s.was_due s.is_due old.tasks.printed now.tasks.printed new.tasks.printed g.printed s.printed p.prints s.prints;
+          meets = stop_meets known' exact (known ≢ None) (length old.cpu.core) count n (steps + s.steps) s.session s.is_due stop new up
+              (subst (λ (size : ℕ). SliceMeets known' (known ≢ None) size count 0 0 s.session s.is_due (Err stop) new) len s.meets);
+        }
 
 -- the machine after a run that has ended stands for the session after its steps
 pub over_stands : (known : Option (List (List ℕ))) (exact : Type 0) (first : Session) (old new : Machine) → Over known exact first old new → exact → (steps : ℕ) → new.tasks.made ≡ old.tasks.made + steps
     → (x : Storage) × (plan : Plan) × MachineStands x known new plan (after steps first)
 over_stands known exact first old new h tells steps made =
     (h.rests.storage, h.rests.plan, subst (λ (z : Session). MachineStands h.rests.storage known new h.rests.plan z) (sym (h.is tells steps made)) h.rests.stands)
+
+-- at the beginning of a slice nothing has changed
+pub begun_quiet : {D : Type 0} (known : Option (List (List ℕ))) (k k' : Machine) (s : Session) (m : Member) (t : Task) (d d' e : D) (Wants : Storage → Plan → Type 0) → k' ≡ k → d' ≡ d
+    → ((h : IsLone known k' s m t) → Wants h.storage h.plan → e ≡ d') → (h : IsLone known k s m t) → Wants h.storage h.plan → e ≡ d
+begun_quiet {D} known k k' s m t d d' e Wants same same' quiet =
+    let P : Machine → D → Type 0 = λ z x. (h : IsLone known z s m t) → Wants h.storage h.plan → e ≡ x in
+    subst (λ (z : Machine). P z d) same (subst (P k') same' quiet)

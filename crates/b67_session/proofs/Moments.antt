@@ -13,6 +13,7 @@ use Rattle.b67_model.specs.Endings.{settles, stepped, limited}
 use Rattle.b67_model.specs.Alone.{JobMoment, moment_with, whole, by_task, step_of}
 use Rattle.b67_model.specs.Run.{RunLine, Moment, next, moment_for, moment_by, with_moment, number_of, of_job}
 use Rattle.b67_model.specs.Schedule.{Session, Choice, choice}
+use Rattle.b67_lines.specs.Moments.{first_part, first_part_by, first_part_in, first_part_of}
 use Rattle.b67_single.specs.Single.{IsSingle, GoesOn, member_after, task_lines}
 use Rattle.b67_session.proofs.Lone.{found, task_found}
 
@@ -46,15 +47,6 @@ module _ (s : Session) (m : Member) (t : Task) (single : IsSingle s m t) (c : Ch
       let course : jm.course ≡ record m.course { job = j; made = m.course.made + 1 } = ap first jobs in
       record { job = ap (λ (x : Course). x.job) course; made = ap (λ (x : Course). x.made) course; session = after }
 
-  -- the lines of a step that goes on begin with what it printed
-  lines_by : (j : Job) (printed : List Line) (touched : Option ℕ) → step m.setting m.course.job t ≡ Ok (Goes j printed touched)
-      → (rest : List (ℕ × Line)) × ((whole m.setting m.course t).lines ≡ map (λ line. (t.number, line)) printed ++ rest)
-  unfolding stepped
-  lines_by j printed touched e =
-      let lines : Answer Done → List (ℕ × Line) = λ a. (moment_with m.course t (settles m.course.job t a) (limited m.setting.limit (m.course.made + 1) (settles m.course.job t a).settled)).lines in
-      let ended = limited m.setting.limit (m.course.made + 1) (settles m.course.job t (Ok (Goes j printed touched))).settled in
-      (map (λ (x : ℕ × Ending). (x.0, Ends x.1)) ended.endings, ap lines e)
-
   of_whole : jm ≡ whole m.setting m.course t
   unfolding step_of
   of_whole = ap (λ (n : ℕ). by_task m.setting m.course (keyed (λ (u : Task). u.number) n m.course.job.tasks)) chosen_task ∙ ap (by_task m.setting m.course) (task_found s m t single)
@@ -64,13 +56,24 @@ module _ (s : Session) (m : Member) (t : Task) (single : IsSingle s m t) (c : Ch
   unfolding stepped
   of_answer answer e = of_whole ∙ ap (λ (a : Answer Done). moment_with m.course t (settles m.course.job t a) (limited m.setting.limit (m.course.made + 1) (settles m.course.job t a).settled)) e
 
-  pub lines_begin : (j : Job) (printed : List Line) (touched : Option ℕ) → step m.setting m.course.job t ≡ Ok (Goes j printed touched)
-      → (moment : Moment) × (rest : List RunLine) × (next s ≡ Some moment) × (moment.lines ≡ task_lines m t printed ++ rest)
-  lines_begin j printed touched e =
-      let (rest, is) = lines_by j printed touched e in (
-        record { session = with_moment s c m jm; lines = of_job c.who.job jm.lines },
+  -- the first part of the step, by what the step answers
+  pub first_of_answer : (answer : Answer Done) → step m.setting m.course.job t ≡ answer → (made : JobMoment) → moment_with m.course t (settles m.course.job t answer) (settles m.course.job t answer).settled ≡ made
+      → first_part s ≡ Some (record { session = with_moment s c m made; lines = of_job c.who.job made.lines })
+  unfolding first_part stepped
+  first_of_answer answer e made is =
+      let of_made : JobMoment → Option Moment = λ x. Some (record { session = with_moment s c m x; lines = of_job c.who.job x.lines }) in
+      ap (first_part_by s) chosen ∙ ap (first_part_in s c) found_by
+      ∙ ap (λ (n : ℕ). first_part_of s c m (keyed (λ (u : Task). u.number) n m.course.job.tasks)) chosen_task ∙ ap (first_part_of s c m) (task_found s m t single)
+      ∙ ap (λ (a : Answer Done). of_made (moment_with m.course t (settles m.course.job t a) (settles m.course.job t a).settled)) e ∙ ap of_made is
+
+  -- it begins with what the operator printed
+  pub first_begins : (j : Job) (printed : List Line) (touched : Option ℕ) → step m.setting m.course.job t ≡ Ok (Goes j printed touched)
+      → (part : Moment) × (rest : List RunLine) × (first_part s ≡ Some part) × (part.lines ≡ task_lines m t printed ++ rest)
+  first_begins j printed touched e =
+      let made = moment_with m.course t (settles m.course.job t (Ok (Goes j printed touched))) (settles m.course.job t (Ok (Goes j printed touched))).settled in
+      let rest : List (ℕ × Line) = map (λ (x : ℕ × Ending). (x.0, Ends x.1)) (settles m.course.job t (Ok (Goes j printed touched))).settled.endings in (
+        record { session = with_moment s c m made; lines = of_job c.who.job made.lines },
         of_job m.setting.number rest,
-        moment_is,
-        ap (λ (n : ℕ). of_job n jm.lines) chosen_job ∙ ap (of_job m.setting.number) (ap (λ (x : JobMoment). x.lines) of_whole ∙ is)
-            ∙ map-append (λ (line : ℕ × Line). (m.setting.number, line.0, line.1)) (map (λ line. (t.number, line)) printed) rest,
+        first_of_answer (Ok (Goes j printed touched)) e made refl,
+        ap (λ (n : ℕ). of_job n made.lines) chosen_job ∙ map-append (λ (line : ℕ × Line). (m.setting.number, line.0, line.1)) (map (λ line. (t.number, line)) printed) rest,
       )

@@ -1,6 +1,5 @@
 -- One operator more fits the counts, and which the last is, after the operator was made.
-use Rattle.std.proofs.Common.{◌≡◌, ℕ, zero, suc, ◌+◌, ◌-◌, ◌<◌, ◌^◌, List, [], ◌∷◌, length, map, Some, refl, sym, ap, ◌∙◌, subst, arith, Bool, inl, inr}
-use Rattle.std.specs.Prelude.{◌==◌}
+use Rattle.std.proofs.Common.{◌≡◌, ℕ, zero, suc, ◌+◌, ◌-◌, ◌<◌, ◌^◌, List, [], ◌∷◌, length, map, Some, refl, sym, ap, ◌∙◌, subst, arith, inl, inr}
 use Rattle.std.specs.List.{slice_get, slice_set}
 use Rattle.std.proofs.lemmas.List.{length-map}
 use Rattle.std.proofs.lemmas.Option.{same_Some}
@@ -23,8 +22,7 @@ use Rattle.b67_schedule.specs.Counted.{counted_row, HasRoom}
 use Rattle.b67_schedule.proofs.Rooms.{made_few, all_few}
 use Rattle.b67_turn.proofs.Lists.{mapped_at}
 use Rattle.b67_turn.proofs.Tables.{job_at}
-use Rattle.b67_intrinsics.specs.Called.{AreCountable}
-use Rattle.b67_session.specs.Steps.{IsLast}
+use Rattle.b67_attempt.specs.Passed.{AreCountable}
 use Rattle.b67_session.proofs.Lone.{has_member}
 
 -- the tables show these settings and counts
@@ -87,9 +85,6 @@ module _ (s : Session) (m : Member) (t : Task) (single : IsSingle s m t) where
           turn = turn;
           next = omega (arith, k.shows.counts.next, length-map tasks.switches switch_of);
         }
-
-    pub last_is : (b : Bool) → IsLast c tasks b → (m.course.made + 1 == m.setting.limit) ≡ b
-    last_is b last = let r = row_of in ap (λ (n : ℕ). n + 1 == m.setting.limit) (sym r.made) ∙ ap (λ (n : ℕ). r.row.made + 1 == n) (sym r.limit) ∙ last r.row r.at
 
 -- the numbers of jobs stay as many
 counted_in : (rows : List JobRow) (i : ℕ) (r q : JobRow) → slice_get rows i ≡ Some r → Has (slice_set rows i (counted_row r)) q → (y : JobRow) × Has rows y × (length y.numbers ≡ length q.numbers)

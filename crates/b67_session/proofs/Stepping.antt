@@ -1,102 +1,116 @@
 -- The step by what the attempt at its operator answered.
-use Rattle.std.proofs.Common.{◌≡◌, ◌≢◌, ℕ, ◌+◌, Bool, true, false, List, [], ◌∷◌, ◌++◌, length, Option, Some, None, Result, Ok, Err, sym, ap, ◌∙◌, subst, arith}
-use Rattle.std.specs.Prelude.{◌==◌, unwrap_or}
+use Rattle.std.proofs.Common.{◌≡◌, ◌≢◌, ℕ, ◌+◌, ◌<◌, Bool, true, false, List, [], ◌∷◌, ◌++◌, length, Option, Some, None, Result, Ok, Err, refl, sym, ap, ◌∙◌, subst, arith, inl, inr, append-nil}
+use Rattle.std.specs.Prelude.{◌==◌}
+use Rattle.std.proofs.lemmas.Bool.{eqb-true}
+use Rattle.std.proofs.lemmas.Option.{none-some}
 use Rattle.b67_word.specs.declared.faults.Ending.{Ending}
-use Rattle.b67_word.specs.declared.faults.Ending.TheVariants.{Ended, Parent, Deadlock, Limit, Faulted}
-use Rattle.b67_io.specs.Told.{Took, TookPart}
-use Rattle.b67_io.proofs.Joined.{Took-none, Took-then, TookPart-then}
-use Rattle.b67_model.specs.State.{Job}
+use Rattle.b67_word.specs.declared.faults.Ending.TheVariants.{Limit}
+use Rattle.b67_model.specs.State.{Task, Job, Member}
 use Rattle.b67_model.specs.Steps.{Ends}
 use Rattle.b67_model.specs.Lines.{run_text}
-use Rattle.b67_model.specs.Run.{RunLine, Moment, next, live_tasks}
+use Rattle.b67_model.specs.Run.{RunLine, Moment, next}
 use Rattle.b67_model.specs.Schedule.{Session}
+use Rattle.b67_lines.specs.Parts.{TookRest, TookMore}
+use Rattle.b67_lines.specs.Moments.{first_part, last_part, due}
 use Rattle.b67_runs.proofs.Sessions.{sessions_stay_in_order_but_places}
 use Rattle.b67_profiles.specs.Profiles.{profiles}
 use Rattle.b67_layout.specs.Meets.{with_job}
-use Rattle.b67_single.specs.Single.{GoesOn, IsOver, member_after, task_lines}
-use Rattle.b67_single.proofs.Nexts.{goes, reaches_limit, leaves, faults}
+use Rattle.b67_single.specs.Single.{GoesOn, member_after, task_lines}
+use Rattle.b67_single.proofs.Nexts.{goes}
 use Rattle.b67_step.proofs.Stepped.{stands_after}
 use Rattle.b67_task.specs.declared.tables.Tasks.{Tasks}
 use Rattle.b67_task.specs.declared.tables.Machine.{Machine}
-use Rattle.b67_task.specs.Tables.{TasksShow}
+use Rattle.b67_task.specs.Tables.{TasksShow, MachineStands}
 use Rattle.b67_schedule.specs.declared.counting.Chosen.{Chosen}
 use Rattle.b67_schedule.specs.Counted.{choice_of, HasRoom}
-use Rattle.b67_intrinsics.specs.Called.{IsCalled}
-use Rattle.b67_intrinsics.specs.declared.ends.Stop.{Stop}
-use Rattle.b67_intrinsics.specs.declared.ends.Stop.TheVariants as stops
+use Rattle.b67_attempt.specs.Passed.{IsCalled, OnlyPrinted, printed_text}
+use Rattle.b67_attempt.specs.Stops.{Stop}
+use Rattle.b67_attempt.specs.Stops as stops
 use Rattle.b67_attempt.specs.declared.attempts.Attempt.{Attempt}
 use Rattle.b67_attempt.specs.declared.attempts.Attempt.TheVariants as attempts
-use Rattle.b67_attempt.specs.Tries.{EndsSo}
-use Rattle.b67_attempt.specs.Attempts.{StillStands}
+use Rattle.b67_attempt.specs.Attempts.{StillStands, StandsLacking}
 use Rattle.b67_ending.specs.Endings.{HasOne}
 use Rattle.b67_session.specs.declared.ends.StepEnd.{StepEnd}
 use Rattle.b67_session.specs.declared.ends.StepEnd.TheVariants as ends
-use Rattle.b67_session.specs.Slices.{IsLone}
-use Rattle.b67_session.specs.Steps.{IsCounted, IsLast, Closes, Advances, Finishes, StepMeets, Steps, StepOver, ending_text}
+use Rattle.b67_session.specs.Slices.{IsLone, IsLimited, Prints, Rests, Lacks, SliceMeets}
+use Rattle.b67_session.specs.Steps.{IsCounted, AtLimit, IsEmptied, LimitEnds, Closes, Advances, Finishes, Makes, stays, makes, halves, Steps, ending_text}
 use Rattle.b67_session.proofs.Lone.{kept}
-use Rattle.b67_session.proofs.Moments.{jm, found_by, follows, lines_begin}
-use Rattle.b67_session.proofs.Rooms.{counts_as, counts_with, room_after, last_is}
-use Rattle.b67_session.proofs.Texts.{run_text-append, ending_is, with_ending, TookPart-more}
+use Rattle.b67_session.proofs.Moments.{jm, found_by, follows, first_begins}
+use Rattle.b67_session.proofs.Rooms.{counts_as, counts_with, room_after}
+use Rattle.b67_session.proofs.Texts.{run_text-append, ending_is}
+use Rattle.b67_session.proofs.Printing.{prints_none, prints_rest, prints_more, prints_then, TookMore-more}
 use Rattle.b67_session.proofs.Turned.{Attempted}
-use Rattle.b67_session.proofs.Finishing.{none_lives}
-use Rattle.b67_session.proofs.Finished.{over_same, ends_over, limit_over, limit_one}
+use Rattle.b67_session.proofs.Finishing.{OneTask, none_lives, none_left}
+use Rattle.b67_session.proofs.Finished.{left_moment, by_itself, ends_rests, one_left, half_member, half, half_first, half_single, half_tables, half_stands, made_one, half_limited, limit_next}
+use Rattle.b67_session.proofs.Limits.{is_one, at_limit_is, due_first, limit_member, limit_part, limited_part, due_limit, limit_stands}
 
-Took-as : {K : Type 0} {taken : K → Option (List ℕ)} {a b : K} {x y : List ℕ} → x ≡ y → Took taken a b x → Took taken a b y
-Took-as {taken = taken} {a = a} {b = b} e t = subst (Took taken a b) e t
+-- nothing but the count of what is printed has changed
+only_stands : (known : Option (List (List ℕ))) (k new : Machine) (s : Session) (m : Member) (t : Task) → OnlyPrinted k new → IsLone known k s m t → IsLone known new s m t
+only_stands known k new s m t only h =
+    subst (λ (z : Machine). IsLone known z s m t) (sym only)
+    (record { storage = h.storage; plan = h.plan; ordered = h.ordered; single = h.single; stands = record { session = h.stands.session; storage = h.stands.storage; tables = h.stands.tables } })
 
-TookPart-as : {K : Type 0} {taken : K → Option (List ℕ)} {a b : K} {x y : List ℕ} → x ≡ y → TookPart taken a b x → TookPart taken a b y
-TookPart-as {taken = taken} {a = a} {b = b} e t = subst (TookPart taken a b) e t
+module _ {K : Type 0} (taken : K → Option (List ℕ)) (known known' : Option (List (List ℕ))) (core count before : ℕ) (s : Session) (c : Chosen) (k : Machine) (paper paper' : K) where
+  -- ---- the step that was made
+  module _ (h : Attempted taken known known' core count before s c (Ok attempts.Made) k paper paper') where
+    abbrev called : IsCalled taken paper paper' known' h.session h.member h.task before k
+    called = h.meets
 
--- nothing was printed
-Took-same : {K : Type 0} (taken : K → Option (List ℕ)) (now new : K) → new ≡ now → Took taken now new []
-Took-same taken now new e = subst (λ z. Took taken now z []) (sym e) (Took-none taken now)
+    pub made_room : HasRoom k.tasks c
+    made_room = room_after h.session h.member h.task h.single h.ordered called.plan k.tasks c (counts_with h.session h.member h.task h.single called.plan k.tasks called.job called.stands.tables) h.job h.turn
 
--- the last operator that a job may make was closed
-pub closes_advances : {K : Type 0} (taken : K → Option (List ℕ)) (c : Chosen) (answered : Result StepEnd Stop) (old new : Machine) (paper paper' : K) → IsLast c old.tasks true → Closes taken c Limit answered old.tasks new.tasks paper paper' → Advances taken c answered old new paper paper'
-closes_advances taken c (Ok ends.GoesOn) old new paper paper' last h = absurd h
-closes_advances taken c (Ok ends.Over) old new paper paper' last h = (last, h)
-closes_advances taken c (Err stop) old new paper paper' last h = (last, h)
+    keeps : (profiles called.job.tasks ≡ profiles h.member.course.job.tasks) × (called.job.next_task ≡ h.member.course.job.next_task)
+    keeps = kept h.session h.member h.task h.single h.ordered called.built called.job called.printed called.touched called.is
 
-module _ {K : Type 0} (taken : K → Option (List ℕ)) (known known' : Option (List (List ℕ))) (core count : ℕ) (s : Session) (c : Chosen) where
-  module _ (k : Machine) (paper paper' : K) where
-    -- the step that was made
-    module _ (h : Attempted taken known known' core count s c (Ok attempts.Made) k paper paper') where
-      abbrev called : IsCalled taken paper paper' known' h.session h.member h.task k
-      called = h.meets
+    pub has_one : HasOne k
+    has_one =
+        made_one known' (known ≢ None) h.session h.member h.task h.ordered h.single c h.choice h.job h.number called.job called.printed called.touched called.is keeps.0 keeps.1
+        k called.storage called.plan called.stands
 
-      pub made_room : HasRoom k.tasks c
-      made_room = room_after h.session h.member h.task h.single h.ordered called.plan k.tasks c (counts_with h.session h.member h.task h.single called.plan k.tasks called.job called.stands.tables) h.job h.turn
+    made_count : k.tasks.made ≡ s.made
+    made_count = called.stands.tables.counts.made ∙ h.same_made
 
-      below : (b : Bool) → IsLast c k.tasks b → (h.member.course.made + 1 == h.member.setting.limit) ≡ b
-      below b last = last_is h.session h.member h.task h.single h.ordered called.plan k.tasks c (counts_with h.session h.member h.task h.single called.plan k.tasks called.job called.stands.tables) h.job b last
+    abbrev lines : List RunLine
+    lines = task_lines h.member h.task called.printed
 
-      keeps : (profiles called.job.tasks ≡ profiles h.member.course.job.tasks) × (called.job.next_task ≡ h.member.course.job.next_task)
-      keeps = kept h.session h.member h.task h.single h.ordered called.built called.job called.printed called.touched called.is
+    abbrev middle : Session
+    middle = half known' (known ≢ None) h.session h.member h.task h.ordered h.single c h.choice h.job h.number called.job called.printed called.touched called.is keeps.0 keeps.1
 
-      pub made_one : HasOne k
-      made_one =
-          limit_one known' (known ≢ None) h.session h.member h.task h.ordered h.single c h.choice h.job h.number called.job called.printed called.touched called.is keeps.0 keeps.1
-          k called.storage called.plan called.stands
+    abbrev middle_member : Member
+    middle_member = half_member known' (known ≢ None) h.session h.member h.task h.ordered h.single c h.choice h.job h.number called.job called.printed called.touched called.is keeps.0 keeps.1
 
-      pub made_count : k.tasks.made ≡ s.made
-      made_count = called.stands.tables.counts.made ∙ h.same_made
+    abbrev left : OneTask h.task called.job.tasks
+    left = one_left known' (known ≢ None) h.session h.member h.task h.ordered h.single c h.choice h.job h.number called.job called.printed called.touched called.is keeps.0 keeps.1
 
-      module _ (tasks : Tasks) (counted : IsCounted c k.tasks tasks) (last : IsLast c k.tasks false) where
+    first_half : first_part h.session ≡ Some (record { session = middle; lines = lines })
+    first_half = half_first known' (known ≢ None) h.session h.member h.task h.ordered h.single c h.choice h.job h.number called.job called.printed called.touched called.is keeps.0 keeps.1
+
+    due_is : due h.session ≡ run_text lines
+    due_is = due_first h.session h.member h.task h.single h.ordered (record { session = middle; lines = lines }) first_half
+
+    -- its own text
+    prints_lines : (is_due : List ℕ) (after : ℕ) → after ≡ 0 → Prints taken paper paper' (due h.session) before lines is_due after
+    prints_lines is_due after none = prints_rest taken paper paper' (printed_text h.member h.task called.printed) (due h.session) is_due before after lines due_is refl none called.text
+
+    module _ (tasks : Tasks) (counted : IsCounted c k.tasks tasks) where
+      at_limit : (at : Bool) → AtLimit tasks at → (h.member.course.made + 1 == h.member.setting.limit) ≡ at
+      at_limit at a =
+          at_limit_is called.plan middle middle_member tasks refl
+          (half_tables known' (known ≢ None) h.session h.member h.task h.ordered h.single c h.choice h.job h.number called.job called.printed called.touched called.is keeps.0 keeps.1 called.plan k.tasks tasks called.stands.tables counted)
+          (is_one h.session h.member h.task h.single h.ordered) h.job at a
+
+      abbrev after : Machine
+      after = record k { tasks = tasks }
+
+      stands_half : MachineStands called.storage known' after called.plan middle
+      stands_half =
+          half_stands known' (known ≢ None) h.session h.member h.task h.ordered h.single c h.choice h.job h.number called.job called.printed called.touched called.is keeps.0 keeps.1
+          k called.storage called.plan tasks called.stands counted
+
+      -- it goes on
+      module _ (below : AtLimit tasks false) where
         goes_on : GoesOn h.session h.member h.task called.job called.printed
-        goes_on =
-            goes h.session h.member h.task h.single called.job called.printed called.touched called.is
-            keeps.0 (below false last)
-
-        abbrev after : Machine
-        after = record k { tasks = tasks }
-
-        tables : TasksShow called.plan goes_on.moment.session tasks
-        tables =
-            let f = follows h.session h.member h.task h.single (choice_of c) h.choice h.job h.number called.job called.printed goes_on in
-            let j = jm h.session h.member h.task h.single (choice_of c) h.choice h.job h.number in
-            subst (λ (z : Session). TasksShow called.plan z tasks) f.session
-            (counted.shows called.plan h.session h.member j h.ordered.numbered (found_by h.session h.member h.task h.single (choice_of c) h.choice h.job h.number) f.made
-            (subst (λ (z : Job). TasksShow called.plan (with_job h.session h.member z) k.tasks) (sym f.job) called.stands.tables))
+        goes_on = goes h.session h.member h.task h.single called.job called.printed called.touched called.is keeps.0 (at_limit false below)
 
         lone : IsLone known' after goes_on.moment.session (member_after h.member called.job) goes_on.task
         lone = record {
@@ -107,188 +121,310 @@ module _ {K : Type 0} (taken : K → Option (List ℕ)) (known known' : Option (
           stands = record {
             session = stands_after h.session h.member h.task h.single [] called.storage k.cpu called.plan called.job goes_on.moment.session goes_on.single.jobs goes_on.same_peak called.stands.session;
             storage = called.stands.storage;
-            tables = tables;
+            tables = goes_tables;
           };
+        } where
+            goes_tables : TasksShow called.plan goes_on.moment.session tasks
+            goes_tables =
+                let j = jm h.session h.member h.task h.single (choice_of c) h.choice h.job h.number in
+                let f = follows h.session h.member h.task h.single (choice_of c) h.choice h.job h.number called.job called.printed goes_on in
+                subst (λ (z : Session). TasksShow called.plan z tasks) f.session
+                (counted.shows called.plan h.session h.member j h.ordered.numbered (found_by h.session h.member h.task h.single (choice_of c) h.choice h.job h.number) f.made
+                (subst (λ (z : Job). TasksShow called.plan (with_job h.session h.member z) k.tasks) (sym f.job) called.stands.tables))
+
+      -- it was the last that its job may make
+      module _ (at : AtLimit tasks true) where
+        limit_made : h.member.course.made + 1 ≡ h.member.setting.limit
+        limit_made = eqb-true (h.member.course.made + 1) h.member.setting.limit (at_limit true at)
+
+        limited_at : (new : Machine) → MachineStands called.storage known' new called.plan middle → new.tasks.rows ≡ tasks.rows → new.tasks.running ≡ tasks.running → new ≡ record k { tasks = new.tasks } → IsLimited known' new middle middle_member left.task
+        limited_at new stands rows running rest =
+            half_limited known' (known ≢ None) h.session h.member h.task h.ordered h.single c h.choice h.job h.number called.job called.printed called.touched called.is keeps.0 keeps.1
+            k new called.storage called.plan called.stands stands (rows ∙ counted.rows) (running ∙ counted.running) rest limit_made
+
+        limited : IsLimited known' after middle middle_member left.task
+        limited = limited_at after stands_half refl refl refl
+
+        abbrev end_lines : List RunLine
+        end_lines = task_lines middle_member left.task (Ends Limit ∷ [])
+
+        end_text : ending_text tasks.last_job tasks.last_number Limit ≡ run_text end_lines
+        end_text = ending_is middle_member left.task tasks.last_job tasks.last_number Limit (counted.last_job ∙ h.job) (counted.last_number ∙ h.number ∙ sym left.number)
+
+        abbrev over : Session
+        over = (limit_part middle middle_member left.task limited.single).session
+
+        makes_over : Makes h.session over (lines ++ end_lines)
+        makes_over = record {
+          moment = record { session = over; lines = lines ++ end_lines };
+          is = limit_next known' (known ≢ None) h.session h.member h.task h.ordered h.single c h.choice h.job h.number called.job called.printed called.touched called.is keeps.0 keeps.1 (at_limit true at);
+          session = refl;
+          lines_are = refl;
         }
 
-        made_meets : (paper'' : K) → paper'' ≡ paper' → StepMeets taken known' (known ≢ None) core count h.session (Ok ends.GoesOn) after paper paper''
-        made_meets paper'' e = (
-          goes_on.moment,
-          goes_on.is,
-          (member_after h.member called.job, goes_on.task, lone),
-          subst (λ z. Took taken paper z (run_text goes_on.moment.lines)) (sym e) (Took-as (ap run_text (sym goes_on.lines)) called.text),
-        )
+        over_rests : (new : Machine) → IsEmptied after new → Rests known' new over
+        over_rests new e =
+            let (y, q, stands) = limit_stands known' after middle middle_member left.task limited new e in
+            record { storage = y; plan = q; stands = stands; none = none_lives over (limit_member middle middle_member left.task limited.single) refl (none_left called.job left.task Limit left.is left.ready left.first) }
 
-      is_over : IsLast c k.tasks true → IsOver h.session h.member h.task called.printed Limit
-      is_over last =
-          reaches_limit h.session h.member h.task h.single called.job called.printed called.touched called.is
-          keeps.0 (below true last)
+        prints_over : (new : Machine) (paper'' : K) → new.tasks.printed ≡ 0 → TookRest taken paper' paper'' (ending_text tasks.last_job tasks.last_number Limit) tasks.printed
+            → Prints taken paper paper'' (due h.session) before (lines ++ end_lines) (due over) new.tasks.printed
+        prints_over new paper'' none text =
+            let d = ending_text tasks.last_job tasks.last_number Limit in
+            prints_then taken paper paper' paper'' (due h.session) d (due over) before tasks.printed new.tasks.printed lines end_lines
+            (prints_lines d tasks.printed counted.printed) (prints_rest taken paper' paper'' d d (due over) tasks.printed new.tasks.printed end_lines refl end_text none text)
 
-      -- what was printed and the line of the limit
-      limit_text : (last : IsLast c k.tasks true) → run_text (task_lines h.member h.task called.printed) ++ ending_text c Limit ≡ run_text (is_over last).moment.lines
-      limit_text last = with_ending h.member h.task c Limit called.printed h.job h.number ∙ ap run_text (sym (is_over last).lines)
+        due_half : due middle ≡ ending_text tasks.last_job tasks.last_number Limit
+        due_half = due_limit middle middle_member left.task limited.single (limited_part known' after middle middle_member left.task limited) ∙ sym end_text
 
-      pub made_steps : (answered : Result StepEnd Stop) (old new : Machine) (paper'' : K) → old.tasks.made ≡ s.made → length old.cpu.core ≡ core
-          → Advances taken c answered k new paper' paper'' → Steps taken known' (known ≢ None) count s answered old new paper paper''
-      made_steps (Ok ends.GoesOn) old new paper'' om size a = record {
-        session = h.session;
-        same = h.same;
-        made = omega (arith, om, made_count, a.1.made);
-        meets = (
-            let P : ℕ → Machine → Type 0 = λ n z. StepMeets taken known' (known ≢ None) n count h.session (Ok ends.GoesOn) z paper paper'' in
-            subst (P (length old.cpu.core)) (sym a.2) (subst (λ (n : ℕ). P n (record k { tasks = new.tasks })) (sym size) (made_meets new.tasks a.1 a.0 paper'' a.3))
-            );
-      }
-      made_steps (Ok ends.Over) old new paper'' om size a =
-          let o = is_over a.0 in record {
-            session = h.session;
-            same = h.same;
-            made = omega (arith, om, made_count, a.1.0);
-            meets = (o.moment, λ tells. (o.is, none_lives o.moment.session (record h.member { course = o.course }) o.jobs o.over), Took-as (limit_text a.0) (Took-then called.text a.1.1));
-          }
-      made_steps (Err stops.PrintFault) old new paper'' om size a =
-          let o = is_over a.0 in record {
-            session = h.session;
-            same = h.same;
-            made = omega (arith, om, made_count, a.1.0);
-            meets = (paper, o.moment, λ tells. o.is, Took-none taken paper, TookPart-as (limit_text a.0) (TookPart-then called.text a.1.1));
-          }
-      made_steps (Err (stops.NoCore words size')) old new paper'' om size a = absurd a.1
-      made_steps (Err (stops.BackingFull sum size')) old new paper'' om size a = absurd a.1
-      made_steps (Err stops.BackingFault) old new paper'' om size a = absurd a.1
-      made_steps (Err stops.Unbuilt) old new paper'' om size a = absurd a.1
+        prints_half : (new : Machine) (paper'' : K) → TookMore taken paper' paper'' (ending_text tasks.last_job tasks.last_number Limit) tasks.printed new.tasks.printed
+            → Prints taken paper paper'' (due h.session) before lines (due middle) new.tasks.printed
+        prints_half new paper'' text =
+            let P : List RunLine → Type 0 = λ ls. Prints taken paper paper'' (due h.session) before ls (due middle) new.tasks.printed in
+            subst P (append-nil lines)
+            (prints_then taken paper paper' paper'' (due h.session) (due middle) (due middle) before tasks.printed new.tasks.printed lines []
+            (prints_lines (due middle) tasks.printed counted.printed) (prints_more taken paper' paper'' (ending_text tasks.last_job tasks.last_number Limit) (due middle) tasks.printed new.tasks.printed due_half text))
 
-      made_over : (new : Machine) (paper'' : K) → Advances taken c (Ok ends.Over) k new paper' paper'' → Finishes c Limit (Ok ends.Over) k new → StepOver known' (known ≢ None) s new
-      made_over new paper'' a f =
-          over_same known' (known ≢ None) s h.session new h.same
-          (limit_over known' (known ≢ None) h.session h.member h.task h.ordered h.single c h.choice h.job h.number called.job called.printed called.touched called.is keeps.0 keeps.1
-          k new called.storage called.plan called.stands (below true a.0) f)
+        limited_after : (new : Machine) → OnlyPrinted after new → IsLimited known' new middle middle_member left.task
+        limited_after new only =
+            let put : Machine → Type 0 = λ z. MachineStands called.storage known' z called.plan middle in
+            let stands : put new = subst put (sym only) (record { session = stands_half.session; storage = stands_half.storage; tables = stands_half.tables }) in
+            limited_at new stands (ap (λ (z : Machine). z.tasks.rows) only) (ap (λ (z : Machine). z.tasks.running) only)
+            (only ∙ ap (λ (z : Tasks). record k { tasks = z }) (sym (ap (λ (z : Machine). z.tasks) only)))
 
-      pub made_steps_over : (answered : Result StepEnd Stop) (new : Machine) (paper'' : K) → answered ≡ Ok ends.Over → Advances taken c answered k new paper' paper'' → Finishes c Limit answered k new → StepOver known' (known ≢ None) s new
-      made_steps_over answered new paper'' e a f =
-          made_over new paper'' (subst (λ (r : Result StepEnd Stop). Advances taken c r k new paper' paper'') e a) (subst (λ (r : Result StepEnd Stop). Finishes c Limit r k new) e f)
+        half_left : last_part middle ≢ None
+        half_left none = none-some (limit_part middle middle_member left.task limited.single) (sym none ∙ limited_part known' after middle middle_member left.task limited)
 
-    -- the step that ends the task by itself
-    module _ (ending : Ending) (h : Attempted taken known known' core count s c (Ok (attempts.Ends ending)) k paper paper') where
-      abbrev still : StillStands known' k h.plan h.session
-      still = h.meets.1
-
-      abbrev shown : TasksShow h.plan h.session k.tasks
-      shown = still.1.tables
-
-      pub ends_room : HasRoom k.tasks c
-      ends_room = room_after h.session h.member h.task h.single h.ordered h.plan k.tasks c (counts_as h.session h.member h.task h.single h.plan k.tasks shown) h.job h.turn
-
-      pub ends_count : k.tasks.made ≡ s.made
-      ends_count = shown.counts.made ∙ h.same_made
-
-      over_by : (e : Ending) → EndsSo h.member h.task e → IsOver h.session h.member h.task [] e
-      over_by Ended so = leaves h.session h.member h.task h.single so
-      over_by (Faulted fault) so = faults h.session h.member h.task fault h.single so
-      over_by Parent so = absurd so
-      over_by Deadlock so = absurd so
-      over_by Limit so = absurd so
-
-      -- the step's moment, with the line of the ending, whatever the session is
-      ends_moment : Moment
-      ends_moment = record { session = (unwrap_or (next h.session) (record { session = h.session; lines = [] })).session; lines = task_lines h.member h.task (Ends ending ∷ []) }
-
-      ends_next : known ≢ None → (next h.session ≡ Some ends_moment) × (live_tasks ends_moment.session.jobs ≡ 0)
-      unfolding ends_moment
-      ends_next tells =
-          let o = over_by ending (h.meets.0 tells) in
-          let session : (unwrap_or (next h.session) (record { session = h.session; lines = [] })).session ≡ o.moment.session = ap (λ (x : Option Moment). (unwrap_or x (record { session = h.session; lines = [] })).session) o.is in
-          let lines : List RunLine = task_lines h.member h.task (Ends ending ∷ []) in
-          let is : o.moment ≡ ends_moment = ap (λ (ls : List RunLine). record o.moment { lines = ls }) o.lines ∙ ap (λ (z : Session). record { session = z; lines = lines }) (sym session) in
-          (o.is ∙ ap Some is, ap (λ (z : Session). live_tasks z.jobs) session ∙ none_lives o.moment.session (record h.member { course = o.course }) o.jobs o.over)
-
-      ends_text : ending_text c ending ≡ run_text ends_moment.lines
-      unfolding ends_moment
-      ends_text = ending_is h.member h.task c ending h.job h.number
-
-      pub ends_one : HasOne k
-      ends_one = record { storage = still.0; told = known'; plan = h.plan; session = h.session; member = h.member; task = h.task; ordered = h.ordered; stands = still.1; single = h.single }
-
-      pub ends_steps_over : (answered : Result StepEnd Stop) (new : Machine) → answered ≡ Ok ends.Over → Finishes c ending answered k new → StepOver known' (known ≢ None) s new
-      ends_steps_over answered new e f =
-          over_same known' (known ≢ None) s h.session new h.same
-          (ends_over known' (known ≢ None) h.session h.member h.task h.ordered h.single c h.choice h.job h.number k new still.0 h.plan ending still.1 h.meets.0
-          (subst (λ (r : Result StepEnd Stop). Finishes c ending r k new) e f))
-
-      pub ends_steps : (answered : Result StepEnd Stop) (old new : Machine) (paper'' : K) → old.tasks.made ≡ s.made → length old.cpu.core ≡ core
-          → Closes taken c ending answered k.tasks new.tasks paper' paper'' → Steps taken known' (known ≢ None) count s answered old new paper paper''
-      ends_steps (Ok ends.Over) old new paper'' om size a = record {
-        session = h.session;
-        same = h.same;
-        made = omega (arith, om, ends_count, a.0);
-        meets = (ends_moment, ends_next, Took-as ends_text (subst (λ z. Took taken z paper'' (ending_text c ending)) h.meets.2 a.1));
-      }
-      ends_steps (Err stops.PrintFault) old new paper'' om size a = record {
-        session = h.session;
-        same = h.same;
-        made = omega (arith, om, ends_count, a.0);
-        meets = (paper, ends_moment, λ tells. (ends_next tells).0, Took-none taken paper, TookPart-as ends_text (subst (λ z. TookPart taken z paper'' (ending_text c ending)) h.meets.2 a.1));
-      }
-      ends_steps (Ok ends.GoesOn) old new paper'' om size a = absurd a
-      ends_steps (Err (stops.NoCore words size')) old new paper'' om size a = absurd a
-      ends_steps (Err (stops.BackingFull sum size')) old new paper'' om size a = absurd a
-      ends_steps (Err stops.BackingFault) old new paper'' om size a = absurd a
-      ends_steps (Err stops.Unbuilt) old new paper'' om size a = absurd a
-
-    -- the step that wasn't made
-    still_lone : (answered : Result Attempt Stop) (h : Attempted taken known known' core count s c answered k paper paper') → StillStands known' k h.plan h.session → IsLone known' k h.session h.member h.task
-    still_lone answered h still = record { storage = still.0; plan = h.plan; ordered = h.ordered; single = h.single; stands = still.1 }
-
-    still_made : (answered : Result Attempt Stop) (h : Attempted taken known known' core count s c answered k paper paper') (old : Machine) → old.tasks.made ≡ s.made → StillStands known' k h.plan h.session → k.tasks.made ≡ old.tasks.made + 0
-    still_made answered h old om still = omega (arith, om, still.1.tables.counts.made, h.same_made)
-
-    pub stop_steps : (stop : Stop) (h : Attempted taken known known' core count s c (Err stop) k paper paper') (old : Machine) → old.tasks.made ≡ s.made → length old.cpu.core ≡ core
-        → Steps taken known' (known ≢ None) count s (Err stop) old k paper paper'
-    stop_steps (stops.NoCore words size') h old om size =
-        let (is, of, small, still, printed) = h.meets in
-        let P : ℕ → Type 0 = λ n. StepMeets taken known' (known ≢ None) n count h.session (Err (stops.NoCore words size')) k paper paper' in
+    pub made_steps : (answered : Result StepEnd Stop) (old new : Machine) (paper'' : K) → old.tasks.made ≡ s.made → old.tasks.printed ≡ before → length old.cpu.core ≡ core
+        → Advances taken c answered k new paper' paper'' → Steps taken known' (known ≢ None) count s answered old new paper paper''
+    made_steps (Ok ends.GoesOn) old new paper'' om op size a =
+        let (counted, below, rest, same) = a in
+        let g = goes_on new.tasks counted below in
+        let printed : new.tasks.printed ≡ 0 = counted.printed in
+        let P : K → ℕ → Type 0 = λ z n. Prints taken paper z (due h.session) n g.moment.lines (due g.moment.session) new.tasks.printed in
+        let lines_are : List RunLine → Type 0 = λ ls. Prints taken paper paper' (due h.session) before ls (due g.moment.session) new.tasks.printed in
+        let whole : Makes h.session g.moment.session g.moment.lines = record { moment = g.moment; is = g.is; session = refl; lines_are = refl } in
         record {
-          session = h.session;
+          was = h.session;
           same = h.same;
-          made = still_made (Err (stops.NoCore words size')) h old om still;
-          meets = subst P (sym size) ((h.member, h.task, still_lone (Err (stops.NoCore words size')) h still, is), of, small, Took-same taken paper paper' printed);
-        }
-    stop_steps (stops.BackingFull sum size') h old om size =
-        let (is, of, small, still, printed) = h.meets in
-        record {
-          session = h.session;
-          same = h.same;
-          made = still_made (Err (stops.BackingFull sum size')) h old om still;
-          meets = ((h.member, h.task, still_lone (Err (stops.BackingFull sum size')) h still), is, of, small, Took-same taken paper paper' printed);
-        }
-    stop_steps stops.BackingFault h old om size =
-        let (still, printed) = h.meets in
-        record {
-          session = h.session;
-          same = h.same;
-          made = still_made (Err stops.BackingFault) h old om still;
-          meets = ((h.member, h.task, still_lone (Err stops.BackingFault) h still), Took-same taken paper paper' printed);
-        }
-    stop_steps stops.PrintFault h old om size =
-        let (cut, still) = h.meets in
-        let (moment, rest, is, lines) = lines_begin h.session h.member h.task h.single (choice_of c) h.choice h.job h.number cut.job cut.printed cut.touched cut.is in
-        record {
-          session = h.session;
-          same = h.same;
-          made = still_made (Err stops.PrintFault) h old om still;
+          steps = 1;
+          few = omega arith;
+          session = g.moment.session;
+          printed = g.moment.lines;
+          leads = λ tells. makes refl whole;
+          made = counted.made ∙ ap (λ (n : ℕ). n + 1) (made_count ∙ sym om);
+          was_due = due h.session;
+          is_due = due g.moment.session;
+          was_is = λ tells. refl;
+          next_is = λ tells. refl;
+          prints = subst (λ z. P z old.tasks.printed) (sym same) (subst (P paper') (sym op) (subst lines_are (sym g.lines) (prints_lines (due g.moment.session) new.tasks.printed printed)));
           meets = (
-            paper,
-            moment,
-            λ tells. is,
-            Took-none taken paper,
-            TookPart-as (sym (run_text-append (task_lines h.member h.task cut.printed) rest) ∙ ap run_text (sym lines)) (TookPart-more (run_text (task_lines h.member h.task cut.printed)) (run_text rest) cut.text),
+            refl,
+            whole,
+            (member_after h.member called.job, g.task, subst (λ (z : Machine). IsLone known' z g.moment.session (member_after h.member called.job) g.task) (sym rest) (lone new.tasks counted below)),
+            printed,
           );
         }
-    stop_steps stops.Unbuilt h old om size =
-        let (n, calls, high, still, printed) = h.meets in
+    made_steps (Ok ends.Over) old new paper'' om op size a =
+        let (tasks, counted, at, both) = a in
+        let (text, emptied) = both in
+        let none : new.tasks.printed ≡ 0 = ap (λ (z : Tasks). z.printed) emptied.tasks in
         record {
-          session = h.session;
+          was = h.session;
           same = h.same;
-          made = still_made (Err stops.Unbuilt) h old om still;
-          meets = ((h.member, h.task, still_lone (Err stops.Unbuilt) h still, n, calls, high), Took-same taken paper paper' printed);
+          steps = 1;
+          few = omega arith;
+          session = over tasks counted at;
+          printed = lines ++ end_lines tasks counted at;
+          leads = λ tells. makes refl (makes_over tasks counted at);
+          made = ap (λ (z : Tasks). z.made) emptied.tasks ∙ counted.made ∙ ap (λ (n : ℕ). n + 1) (made_count ∙ sym om);
+          was_due = due h.session;
+          is_due = due (over tasks counted at);
+          was_is = λ tells. refl;
+          next_is = λ tells. refl;
+          prints = subst (λ (n : ℕ). Prints taken paper paper'' (due h.session) n (lines ++ end_lines tasks counted at) (due (over tasks counted at)) new.tasks.printed) (sym op) (prints_over tasks counted at new paper'' none text);
+          meets = (refl, λ tells. makes_over tasks counted at, over_rests tasks counted at new emptied);
         }
+    made_steps (Err stops.PrintFault) old new paper'' om op size a =
+        let (tasks, counted, at, both) = a in
+        let (text, only) = both in
+        let made : new.tasks.made ≡ tasks.made = ap (λ (z : Machine). z.tasks.made) only in
+        record {
+          was = h.session;
+          same = h.same;
+          steps = 1;
+          few = omega arith;
+          session = middle;
+          printed = lines;
+          leads = λ tells. halves (record { session = middle; lines = lines }) refl first_half refl (half_left tasks counted at) refl;
+          made = made ∙ counted.made ∙ ap (λ (n : ℕ). n + 1) (made_count ∙ sym om);
+          was_due = due h.session;
+          is_due = due middle;
+          was_is = λ tells. refl;
+          next_is = λ tells. refl;
+          prints = subst (λ (n : ℕ). Prints taken paper paper'' (due h.session) n lines (due middle) new.tasks.printed) (sym op) (prints_half tasks counted at new paper'' text);
+          meets = (subst (λ (d : List ℕ). new.tasks.printed < length d) (sym (due_half tasks counted at)) text.proper, inr (middle_member, left.task, limited_after tasks counted at new only));
+        }
+    made_steps (Err (stops.NoCore words size')) old new paper'' om op size a = absurd a.3
+    made_steps (Err (stops.BackingFull sum size')) old new paper'' om op size a = absurd a.3
+    made_steps (Err stops.BackingFault) old new paper'' om op size a = absurd a.3
+    made_steps (Err stops.Unbuilt) old new paper'' om op size a = absurd a.3
+
+  -- ---- the step that ends the task by itself
+  module _ (ending : Ending) (h : Attempted taken known known' core count before s c (Ok (attempts.Ends ending)) k paper paper') where
+    abbrev still : StillStands known' k h.plan h.session
+    still = h.meets.1
+
+    abbrev shown : TasksShow h.plan h.session k.tasks
+    shown = still.1.tables
+
+    pub ends_room : HasRoom k.tasks c
+    ends_room = room_after h.session h.member h.task h.single h.ordered h.plan k.tasks c (counts_as h.session h.member h.task h.single h.plan k.tasks shown) h.job h.turn
+
+    ends_count : k.tasks.made ≡ s.made
+    ends_count = shown.counts.made ∙ h.same_made
+
+    pub ends_one : HasOne k
+    ends_one = record {
+      tables = k.tasks;
+      same = record { rows = refl; running = refl };
+      storage = still.0;
+      told = known';
+      plan = h.plan;
+      session = h.session;
+      member = h.member;
+      task = h.task;
+      ordered = h.ordered;
+      stands = still.1;
+      single = h.single;
+    }
+
+    abbrev end_moment : Moment
+    end_moment = left_moment known' (known ≢ None) h.session h.member h.task h.ordered h.single c h.choice h.job h.number ending
+
+    abbrev text : List ℕ
+    text = ending_text c.job c.number ending
+
+    text_is : text ≡ run_text end_moment.lines
+    text_is = ending_is h.member h.task c.job c.number ending h.job h.number
+
+    end_parts : known ≢ None → (next h.session ≡ Some end_moment) × (first_part h.session ≡ Some end_moment)
+    end_parts tells = by_itself known' (known ≢ None) h.session h.member h.task h.ordered h.single c h.choice h.job h.number ending (h.meets.0 tells)
+
+    text_due : known ≢ None → text ≡ due h.session
+    text_due tells = text_is ∙ sym (due_first h.session h.member h.task h.single h.ordered end_moment (end_parts tells).1)
+
+    end_makes : known ≢ None → Makes h.session end_moment.session end_moment.lines
+    end_makes tells = record { moment = end_moment; is = (end_parts tells).0; session = refl; lines_are = refl }
+
+    pub ends_steps : (answered : Result StepEnd Stop) (old new : Machine) (paper'' : K) → old.tasks.made ≡ s.made → old.tasks.printed ≡ before → k.tasks.printed ≡ before → length old.cpu.core ≡ core
+        → Closes taken c ending answered k new paper' paper'' → Finishes c ending answered k new → Steps taken known' (known ≢ None) count s answered old new paper paper''
+    ends_steps (Ok ends.Over) old new paper'' om op kp size a f =
+        let (made, none, rest) = a in
+        let P : K → ℕ → Type 0 = λ z n. Prints taken z paper'' text n end_moment.lines (due end_moment.session) new.tasks.printed in
+        record {
+          was = h.session;
+          same = h.same;
+          steps = 1;
+          few = omega arith;
+          session = end_moment.session;
+          printed = end_moment.lines;
+          leads = λ tells. makes refl (end_makes tells);
+          made = made ∙ ap (λ (n : ℕ). n + 1) (ends_count ∙ sym om);
+          was_due = text;
+          is_due = due end_moment.session;
+          was_is = text_due;
+          next_is = λ tells. refl;
+          prints = subst (P paper) (kp ∙ sym op) (subst (λ z. P z k.tasks.printed) h.meets.2 (prints_rest taken paper' paper'' text text (due end_moment.session) k.tasks.printed new.tasks.printed end_moment.lines refl text_is none rest));
+          meets = (refl, end_makes, ends_rests known' (known ≢ None) h.session h.member h.task h.ordered h.single c h.choice h.job h.number k new still.0 h.plan ending still.1 f);
+        }
+    ends_steps (Err stops.PrintFault) old new paper'' om op kp size a f =
+        let (more, only) = a in
+        let P : K → ℕ → Type 0 = λ z n. Prints taken z paper'' text n [] text new.tasks.printed in
+        let made : new.tasks.made ≡ k.tasks.made = ap (λ (z : Machine). z.tasks.made) only in
+        record {
+          was = h.session;
+          same = h.same;
+          steps = 0;
+          few = omega arith;
+          session = h.session;
+          printed = [];
+          leads = λ tells. stays refl refl refl;
+          made = made ∙ ends_count ∙ sym om ∙ omega arith;
+          was_due = text;
+          is_due = text;
+          was_is = text_due;
+          next_is = text_due;
+          prints = subst (P paper) (kp ∙ sym op) (subst (λ z. P z k.tasks.printed) h.meets.2 (prints_more taken paper' paper'' text text k.tasks.printed new.tasks.printed refl more));
+          meets = (more.proper, inl (h.member, h.task, only_stands known' k new h.session h.member h.task only (record { storage = still.0; plan = h.plan; ordered = h.ordered; single = h.single; stands = still.1 })));
+        }
+    ends_steps (Ok ends.GoesOn) old new paper'' om op kp size a f = absurd a
+    ends_steps (Err (stops.NoCore words size')) old new paper'' om op kp size a f = absurd a
+    ends_steps (Err (stops.BackingFull sum size')) old new paper'' om op kp size a f = absurd a
+    ends_steps (Err stops.BackingFault) old new paper'' om op kp size a f = absurd a
+    ends_steps (Err stops.Unbuilt) old new paper'' om op kp size a f = absurd a
+
+  -- ---- the step that wasn't made
+  module _ (stop : Stop) (h : Attempted taken known known' core count before s c (Err stop) k paper paper') (old : Machine) (om : old.tasks.made ≡ s.made) (size : length old.cpu.core ≡ core) where
+    abbrev here : Session
+    here = h.session
+
+    still_made : StillStands known' k h.plan here → k.tasks.made ≡ old.tasks.made + 0
+    still_made still = omega (arith, om, still.1.tables.counts.made, h.same_made)
+
+    abbrev lone_of : StillStands known' k h.plan here → IsLone known' k here h.member h.task
+    lone_of still = record { storage = still.0; plan = h.plan; ordered = h.ordered; single = h.single; stands = still.1 }
+
+    stayed : StillStands known' k h.plan here → Prints taken paper paper' (due here) old.tasks.printed [] (due here) k.tasks.printed → SliceMeets known' (known ≢ None) core count 0 0 here (due here) (Err stop) k
+        → Steps taken known' (known ≢ None) count s (Err stop) old k paper paper'
+    stayed still prints meets = record {
+      was = here;
+      same = h.same;
+      steps = 0;
+      few = omega arith;
+      session = here;
+      printed = [];
+      leads = λ tells. stays refl refl refl;
+      made = still_made still;
+      was_due = due here;
+      is_due = due here;
+      was_is = λ tells. refl;
+      next_is = λ tells. refl;
+      prints = prints;
+      meets = subst (λ (n : ℕ). SliceMeets known' (known ≢ None) n count 0 0 here (due here) (Err stop) k) (sym size) meets;
+    }
+
+    lacks : (L : StandsLacking (known ≢ None) known' core k h.plan here h.member h.task) → Lacks (known ≢ None) core L.storage h.plan here h.member h.task
+    lacks L = record { lacks = L.lacks; room = L.room }
+
+  pub stop_steps : (stop : Stop) (h : Attempted taken known known' core count before s c (Err stop) k paper paper') (old : Machine) → old.tasks.made ≡ s.made → old.tasks.printed ≡ before → length old.cpu.core ≡ core
+      → (stop ≢ stops.PrintFault → k.tasks.printed ≡ old.tasks.printed) → Steps taken known' (known ≢ None) count s (Err stop) old k paper paper'
+  stop_steps (stops.NoCore words size') h old om op size kp =
+      let (is, of, small, still, printed) = h.meets in
+      stayed (stops.NoCore words size') h old om size still (prints_none taken paper paper' (due h.session) old.tasks.printed k.tasks.printed printed (kp (λ e. absurd cc)))
+      ((h.member, h.task, lone_of (stops.NoCore words size') h old om size still, is), of, small)
+  stop_steps (stops.BackingFull sum size') h old om op size kp =
+      let (is, of, small, short, printed) = h.meets in
+      let L = short.lacking in
+      let still : StillStands known' k h.plan h.session = (L.storage, L.stands) in
+      stayed (stops.BackingFull sum size') h old om size still (prints_none taken paper paper' (due h.session) old.tasks.printed k.tasks.printed printed (kp (λ e. absurd cc)))
+      ((h.member, h.task, lone_of (stops.BackingFull sum size') h old om size still, lacks (stops.BackingFull sum size') h old om size L, (short.wants, short.free, short.short)), is, of, small)
+  stop_steps stops.BackingFault h old om op size kp =
+      let (L, printed) = h.meets in
+      let still : StillStands known' k h.plan h.session = (L.storage, L.stands) in
+      stayed stops.BackingFault h old om size still (prints_none taken paper paper' (due h.session) old.tasks.printed k.tasks.printed printed (kp (λ e. absurd cc)))
+      (h.member, h.task, lone_of stops.BackingFault h old om size still, lacks stops.BackingFault h old om size L)
+  stop_steps stops.PrintFault h old om op size kp =
+      let (cut, still) = h.meets in
+      let (part, rest, is, lines) = first_begins h.session h.member h.task h.single (choice_of c) h.choice h.job h.number cut.job cut.printed cut.touched cut.is in
+      let own = run_text (task_lines h.member h.task cut.printed) in
+      let text = own ++ run_text rest in
+      let due_is : due h.session ≡ text = due_first h.session h.member h.task h.single h.ordered part is ∙ ap run_text lines ∙ run_text-append (task_lines h.member h.task cut.printed) rest in
+      let more : TookMore taken paper paper' text before k.tasks.printed = TookMore-more own (run_text rest) before k.tasks.printed cut.text in
+      stayed stops.PrintFault h old om size still
+      (subst (λ (n : ℕ). Prints taken paper paper' (due h.session) n [] (due h.session) k.tasks.printed) (sym op) (prints_more taken paper paper' text (due h.session) before k.tasks.printed due_is more))
+      (subst (λ (d : List ℕ). k.tasks.printed < length d) (sym due_is) more.proper, inl (h.member, h.task, lone_of stops.PrintFault h old om size still))
+  stop_steps stops.Unbuilt h old om op size kp =
+      let (n, calls, high, still, printed) = h.meets in
+      stayed stops.Unbuilt h old om size still (prints_none taken paper paper' (due h.session) old.tasks.printed k.tasks.printed printed (kp (λ e. absurd cc)))
+      (h.member, h.task, lone_of stops.Unbuilt h old om size still, n, calls, high)

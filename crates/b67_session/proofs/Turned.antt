@@ -2,12 +2,12 @@
 use Rattle.std.proofs.Common.{◌≡◌, ◌≢◌, ℕ, ◌+◌, ◌<◌, ◌^◌, List, map, Option, Some, None, Result, refl, sym, ap, ◌∙◌, subst}
 use Rattle.std.specs.List.{slice_get}
 use Rattle.std.proofs.lemmas.Option.{slice_get_within}
-use Rattle.b67_model.specs.State.{Task, Member}
+use Rattle.b67_model.specs.State.{Ready, Task, Member}
 use Rattle.b67_model.specs.Schedule.{Session, choice}
 use Rattle.b67_model.specs.InOrder.{IsInOrderButPlaces}
 use Rattle.b67_stack.specs.Stands.{Storage}
 use Rattle.b67_storage.specs.Machine.{Says, retold}
-use Rattle.b67_bring.specs.Bringing.{StandsOver}
+use Rattle.b67_attempt.specs.Passed.{StandsOver}
 use Rattle.b67_layout.specs.Plan.{Plan}
 use Rattle.b67_layout.specs.Rows as rows
 use Rattle.b67_layout.specs.Rows.{RunningRow}
@@ -23,8 +23,9 @@ use Rattle.b67_schedule.specs.Chosen.{Chooses}
 use Rattle.b67_schedule.proofs.Rooms.{none_ready}
 use Rattle.b67_turn.specs.Standing.{HasRow}
 use Rattle.b67_turn.proofs.Lists.{at_mapped}
-use Rattle.b67_intrinsics.specs.declared.ends.Stop.{Stop}
+use Rattle.b67_attempt.specs.Stops.{Stop}
 use Rattle.b67_attempt.specs.declared.attempts.Attempt.{Attempt}
+use Rattle.b67_attempt.specs.Brought.{WantsNothing}
 use Rattle.b67_attempt.specs.Attempts.{RunsOver, AttemptMeets, Attempts}
 use Rattle.b67_single.specs.Single.{IsSingle}
 use Rattle.b67_session.specs.Slices.{IsLone}
@@ -92,7 +93,7 @@ pub runs_over : (known told : Option (List (List ℕ))) → Says known told → 
 runs_over known told says k s m t c h = record { storage = h.storage; plan = h.plan; session = s; member = m; task = t; ordered = h.ordered; stands = over h.storage known told k h.plan s says h.stands; running = h.running; ready = h.single.ready }
 
 -- what the attempt answered, for the session or where nothing is known of the sectors for one with other numbers
-pub record Attempted {K : Type 0} (taken : K → Option (List ℕ)) (known known' : Option (List (List ℕ))) (core count : ℕ) (s : Session) (c : Chosen) (answered : Result Attempt Stop) (k : Machine) (paper paper' : K) : Type 0 where
+pub record Attempted {K : Type 0} (taken : K → Option (List ℕ)) (known known' : Option (List (List ℕ))) (core count before : ℕ) (s : Session) (c : Chosen) (answered : Result Attempt Stop) (k : Machine) (paper paper' : K) : Type 0 where
   pub session : Session
   pub same : known ≢ None → session ≡ s
   pub same_made : session.made ≡ s.made
@@ -105,11 +106,11 @@ pub record Attempted {K : Type 0} (taken : K → Option (List ℕ)) (known known
   pub job : c.job ≡ member.setting.number
   pub number : c.number ≡ task.number
   pub turn : c.turn + 1 < 2 ^ 32
-  pub meets : AttemptMeets taken known' (known ≢ None) core count plan session member task answered k paper paper'
+  pub meets : AttemptMeets taken known' (known ≢ None) core count before plan session member task answered k paper paper'
 
-pub attempted : {K : Type 0} (taken : K → Option (List ℕ)) (known told' : Option (List (List ℕ))) (core count : ℕ) (s : Session) (m : Member) (t : Task) (c : Chosen) (answered : Result Attempt Stop) (old new : Machine) (paper paper' : K)
-    → (h : Turned known old s m t c) → Attempts taken h.storage (retold h.storage.device told') core count h.plan s t answered new paper paper' → Attempted taken known (retold known told') core count s c answered new paper paper'
-attempted taken known told' core count s m t c answered old new paper paper' h a =
+pub attempted : {K : Type 0} (taken : K → Option (List ℕ)) (known told' : Option (List (List ℕ))) (core count before : ℕ) (s : Session) (m : Member) (t : Task) (c : Chosen) (answered : Result Attempt Stop) (old new : Machine) (paper paper' : K)
+    → (h : Turned known old s m t c) → Attempts taken h.storage (retold h.storage.device told') core count before h.plan s t answered new paper paper' → Attempted taken known (retold known told') core count before s c answered new paper paper'
+attempted taken known told' core count before s m t c answered old new paper paper' h a =
     let device : known ≡ h.storage.device = h.stands.storage.device in
     let session : Session = record s { jobs = a.jobs } in
     let o = other h.plan s m a.member t a.jobs h.single a.others a.running in
@@ -126,5 +127,35 @@ attempted taken known told' core count s m t c answered old new paper paper' h a
       job = h.job ∙ sym o.number;
       number = h.number;
       turn = h.turn;
-      meets = subst (λ (d : Option (List (List ℕ))). AttemptMeets taken (retold d told') (d ≢ None) core count h.plan session a.member t answered new paper paper') (sym device) a.meets;
+      meets = subst (λ (d : Option (List (List ℕ))). AttemptMeets taken (retold d told') (d ≢ None) core count before h.plan session a.member t answered new paper paper') (sym device) a.meets;
     }
+
+-- what the attempt promises of each session for which the machine stands
+abbrev pub AttemptRow : {K : Type 0} → (K → Option (List ℕ)) → Option (List (List ℕ)) → Option (List (List ℕ)) → ℕ → ℕ → Machine → Result Attempt Stop → Machine → K → K → Type 0
+AttemptRow taken told told' core count old answered new paper paper' =
+    (x : Storage) (plan : Plan) (s : Session) (m : Member) (t : Task) → IsInOrderButPlaces s → StandsOver x told old plan s → IsRunning plan s.jobs m t → t.condition ≡ Ready
+    → Attempts taken x (retold x.device told') core count old.tasks.printed plan s t answered new paper paper'
+
+-- the chosen task's row, and what the machine then stands for
+abbrev pub GivesTurn : Machine → ℕ → Machine → Type 0
+GivesTurn k row new =
+    (x : Storage) (known : Option (List (List ℕ))) (plan : Plan) (s : Session) (r : TaskRow) → IsInOrderButPlaces s → MachineStands x known k plan s → slice_get k.tasks.rows.items row ≡ Some r → MachineStands x known new (with_running plan r.slot) s
+
+module _ {K : Type 0} (taken : K → Option (List ℕ)) (known told told' : Option (List (List ℕ))) (core count : ℕ) (k mid new : Machine) (s : Session) (m : Member) (t : Task) (h : IsLone known k s m t) (c : Chosen)
+    (chooses : Chooses k.tasks.rows.items (Some c) (choice s)) (gives : GivesTurn k c.row mid) where
+  pub attempted_here : HasRoom k.tasks c → Says known told → (answered : Result Attempt Stop) (paper paper' : K) → AttemptRow taken told told' core count mid answered new paper paper'
+      → Attempted taken known (retold known told') core count mid.tasks.printed s c answered new paper paper'
+  attempted_here room says answered paper paper' row =
+      let r = turned known k s m t h c chooses mid gives room in
+      attempted taken known told' core count mid.tasks.printed s m t c answered mid new paper paper' r
+      (row r.storage r.plan s m t r.ordered (over r.storage known told mid r.plan s says r.stands) r.running r.single.ready)
+
+  -- what the attempt promises where nothing is wanted
+  pub quiet_here : {A : Type 0} → Says known told
+      → ((x : Storage) (plan : Plan) (s : Session) (m : Member) (t : Task) → IsInOrderButPlaces s → StandsOver x told mid plan s → IsRunning plan s.jobs m t → t.condition ≡ Ready → WantsNothing x plan m t → A)
+      → WantsNothing h.storage h.plan m t → A
+  quiet_here says quiet wants =
+      let r = chose h.plan s m t h.single k.tasks h.stands.tables c chooses.0 in
+      quiet h.storage (with_running h.plan r.row.slot) s m t h.ordered
+      (over h.storage known told mid (with_running h.plan r.row.slot) s says (gives h.storage known h.plan s r.row h.ordered h.stands r.at))
+      (runs_then h.plan s m t h.single r.row.slot r.slot) h.single.ready (record { code = wants.code; array = wants.array })

@@ -1,2 +1,4 @@
 pub mod Slices
 pub mod Steps
+pub mod Stops
+pub mod Passed

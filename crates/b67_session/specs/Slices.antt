@@ -13,16 +13,16 @@ use Rattle.b67_stack.specs.Stands.{Storage}
 use Rattle.b67_storage.specs.Machine.{Says}
 use Rattle.b67_layout.specs.Plan.{Plan}
 use Rattle.b67_code.specs.Running.{code_area}
-use Rattle.b67_exec.specs.Operators.{called_in}
+use Rattle.b67_code.specs.Called.{called_in}
 use Rattle.b67_single.specs.Single.{IsSingle}
 use Rattle.b67_task.specs.declared.tables.Tasks.{Tasks}
 use Rattle.b67_task.specs.declared.tables.Machine.{Machine}
 use Rattle.b67_task.specs.Tables.{MachineStands}
 use Rattle.b67_ending.specs.Endings.{HasRowsOf}
-use Rattle.b67_bring.specs.Bringing.{IsShortOf}
+use Rattle.b67_attempt.specs.Passed.{IsShortOf}
 use Rattle.b67_attempt.specs.Attempts.{IsLacking}
-use Rattle.b67_intrinsics.specs.declared.ends.Stop.{Stop}
-use Rattle.b67_intrinsics.specs.declared.ends.Stop.TheVariants as stops
+use Rattle.b67_attempt.specs.Stops.{Stop}
+use Rattle.b67_attempt.specs.Stops as stops
 use Rattle.b67_session.specs.declared.slices.Progress.{Progress}
 use Rattle.b67_session.specs.declared.slices.Progress.TheVariants as progress
 
@@ -54,13 +54,13 @@ pub record IsLimited (known : Option (List (List ℕ))) (k : Machine) (h : Sessi
   pub single : IsSingle h m t
   pub limit : m.course.made ≡ m.setting.limit
   pub last : h.last.job ≡ m.setting.number
+  pub named : h.last.task ≡ t.number
   pub stands : MachineStands storage known k plan h
   pub session : Session
-  pub member : Member
+  pub made : ℕ
   pub ordered : IsInOrderButPlaces session
-  pub single_before : IsSingle session member t
-  pub counted : h ≡ record session { jobs = h.jobs; made = h.made; last = h.last; turn = h.turn }
-  pub course : m ≡ record member { course = record member.course { made = m.course.made } }
+  pub single_before : IsSingle session (record m { course = record m.course { made = made } }) t
+  pub peak : session.peak ≡ h.peak
   pub tables : Tasks
   pub same : HasRowsOf k tables
   pub stands_before : MachineStands storage known (record k { tasks = tables }) plan session

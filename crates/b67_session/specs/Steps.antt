@@ -1,15 +1,16 @@
 -- What a step of a session's one task answers, prints and leaves; what its end makes of the tables.
-use Rattle.std.specs.Prelude.{◌≡◌, ℕ, ◌+◌, ◌-◌, ◌==◌, Bool, true, false, List, [], ◌∷◌, ◌++◌, length, codes, Option, Some, Result, Ok, Err, slice_get}
+use Rattle.std.specs.Prelude.{◌≡◌, ◌≢◌, ◌⊎◌, ℕ, ◌+◌, ◌-◌, ◌==◌, ◌≤◌, Bool, true, false, List, [], ◌∷◌, ◌++◌, length, codes, Option, Some, None, Result, Ok, Err, slice_get}
 use Rattle.b67_word.specs.declared.faults.Ending.{Ending}
 use Rattle.b67_word.specs.declared.faults.Ending.TheVariants.{Limit}
 use Rattle.b67_io.specs.Line.{ended}
-use Rattle.b67_io.specs.Told.{Took, TookPart}
+use Rattle.b67_lines.specs.Parts.{TookRest, TookMore}
+use Rattle.b67_lines.specs.Moments.{first_part, last_part, due}
 use Rattle.b67_model.specs.Alone.{JobMoment}
 use Rattle.b67_model.specs.Endings.{ends_task}
 use Rattle.b67_model.specs.InOrder.{NumberedFrom, IsInOrderButPlaces}
 use Rattle.b67_model.specs.Keyed.{keyed}
-use Rattle.b67_model.specs.Lines.{run_text, task_name, ending_name}
-use Rattle.b67_model.specs.Run.{Moment, next, number_of, with_moment, live_tasks}
+use Rattle.b67_model.specs.Lines.{task_name, ending_name}
+use Rattle.b67_model.specs.Run.{RunLine, Moment, next, number_of, with_moment}
 use Rattle.b67_model.specs.Schedule.{Choice, Session}
 use Rattle.b67_model.specs.State.{Course, Task, Member}
 use Rattle.b67_single.specs.Single.{IsSingle}
@@ -22,12 +23,15 @@ use Rattle.b67_task.specs.declared.tables.Machine.{Machine}
 use Rattle.b67_task.specs.Tables.{TasksShow, MachineStands}
 use Rattle.b67_schedule.specs.declared.counting.Chosen.{Chosen}
 use Rattle.b67_schedule.specs.Counted.{choice_of}
-use Rattle.b67_intrinsics.specs.Called.{AreCountable}
-use Rattle.b67_intrinsics.specs.declared.ends.Stop.{Stop}
-use Rattle.b67_intrinsics.specs.declared.ends.Stop.TheVariants as stops
+use Rattle.b67_ending.specs.Endings.{HasRowsOf, EndsIn}
+use Rattle.b67_attempt.specs.Passed.{AreCountable, OnlyPrinted}
+use Rattle.b67_attempt.specs.Stops.{Stop}
+use Rattle.b67_attempt.specs.Stops as stops
 use Rattle.b67_session.specs.declared.ends.StepEnd.{StepEnd}
 use Rattle.b67_session.specs.declared.ends.StepEnd.TheVariants as ends
-use Rattle.b67_session.specs.Slices.{IsLone, SliceMeets, Rests, NextFits}
+use Rattle.b67_session.specs.Slices.{IsLone, Prints, SliceMeets, Rests, NextFits}
+
+-- ---- counts
 
 -- one operator of the chosen task was counted: tables that show what it made of its job show the session after the step
 pub record IsCounted (c : Chosen) (old new : Tasks) : Type 0 where
@@ -35,16 +39,51 @@ pub record IsCounted (c : Chosen) (old new : Tasks) : Type 0 where
       → TasksShow plan (with_job s m made.course.job) old → TasksShow plan (with_moment s (choice_of c) m made) new
   pub made : new.made ≡ old.made + 1
   pub halt : new.halt ≡ old.halt
+  pub rows : new.rows ≡ old.rows
+  pub running : new.running ≡ old.running
+  pub last_job : new.last_job ≡ c.job
+  pub last_number : new.last_number ≡ c.number
+  pub printed : new.printed ≡ 0
   pub countable : AreCountable old.jobs → AreCountable new.jobs
 
--- the line of how the chosen task ended
-abbrev pub ending_text : Chosen → Ending → List ℕ
-ending_text c ending = ended (task_name c.job c.number ++ codes " " ++ ending_name ending)
+-- whether the job that made the last operator has made as many as it may
+pub record AtLimit (tasks : Tasks) (at : Bool) : Type 0 where
+  pub is : (r : JobRow) → 1 ≤ tasks.last_job → slice_get tasks.jobs (tasks.last_job - 1) ≡ Some r → (r.made == r.limit) ≡ at
+  pub there : at ≡ true → (r : JobRow) × (1 ≤ tasks.last_job) × (slice_get tasks.jobs (tasks.last_job - 1) ≡ Some r)
 
--- the line of the ending was printed and the step counted; or, where the printer took it in part, nothing has changed
-abbrev pub Closes : {K : Type 0} → (K → Option (List ℕ)) → Chosen → Ending → Result StepEnd Stop → Tasks → Tasks → K → K → Type 0
-Closes taken c ending (Ok ends.Over) old new paper paper' = (new.made ≡ old.made + 1) × Took taken paper paper' (ending_text c ending)
-Closes taken c ending (Err stops.PrintFault) old new paper paper' = (new.made ≡ old.made) × TookPart taken paper paper' (ending_text c ending)
+-- ---- endings
+
+-- the line of how a task ended
+abbrev pub ending_text : ℕ → ℕ → Ending → List ℕ
+ending_text job number ending = ended (task_name job number ++ codes " " ++ ending_name ending)
+
+-- of a text so many first bytes were printed before; the rest was printed, or the printer has failed
+abbrev pub PutsText : {K : Type 0} → (K → Option (List ℕ)) → List ℕ → Result (Unit {0}) Stop → ℕ → ℕ → K → K → Type 0
+PutsText taken text (Ok done) before after paper paper' = TookRest taken paper paper' text before
+PutsText taken text (Err stops.PrintFault) before after paper paper' = TookMore taken paper paper' text before after
+PutsText taken text (Err _) before after paper paper' = ⊥
+
+-- the only task's row is gone, its slot is free, and its arrays are given back, whatever the counts are
+pub record IsEmptied (old new : Machine) : Type 0 where
+  pub stands : (u : Tasks) (x : Storage) (told : Option (List (List ℕ))) (plan : Plan) (s : Session) (m : Member) (t : Task) (ending : Ending) → HasRowsOf old u → IsInOrderButPlaces s
+      → MachineStands x told (record old { tasks = u }) plan s → IsSingle s m t → EndsIn told plan s m t ending (record new { tasks = record u { rows = new.tasks.rows; running = 255 } })
+  pub tasks : new.tasks ≡ record old.tasks { rows = new.tasks.rows; running = 255; printed = 0 }
+  pub rows : new.tasks.rows.items ≡ []
+
+-- the rest of LIMIT's line was printed and the task has ended; or nothing has changed but how much of it is printed
+abbrev pub LimitEnds : {K : Type 0} → (K → Option (List ℕ)) → Result (Unit {0}) Stop → Machine → Machine → K → K → Type 0
+LimitEnds taken (Ok done) old new paper paper' =
+    TookRest taken paper paper' (ending_text old.tasks.last_job old.tasks.last_number Limit) old.tasks.printed × IsEmptied old new
+LimitEnds taken (Err stops.PrintFault) old new paper paper' =
+    TookMore taken paper paper' (ending_text old.tasks.last_job old.tasks.last_number Limit) old.tasks.printed new.tasks.printed × OnlyPrinted old new
+LimitEnds taken (Err _) old new paper paper' = ⊥
+
+-- the rest of the ending's line was printed and the step counted; or nothing has changed but how much of it is printed
+abbrev pub Closes : {K : Type 0} → (K → Option (List ℕ)) → Chosen → Ending → Result StepEnd Stop → Machine → Machine → K → K → Type 0
+Closes taken c ending (Ok ends.Over) old new paper paper' =
+    (new.tasks.made ≡ old.tasks.made + 1) × (new.tasks.printed ≡ 0) × TookRest taken paper paper' (ending_text c.job c.number ending) old.tasks.printed
+Closes taken c ending (Err stops.PrintFault) old new paper paper' =
+    TookMore taken paper paper' (ending_text c.job c.number ending) old.tasks.printed new.tasks.printed × OnlyPrinted old new
 Closes taken c ending _ old new paper paper' = ⊥
 
 -- the session after the last step of its only job, with the course that the job then has
@@ -59,46 +98,57 @@ Finishes c ending (Ok ends.Over) old new =
     → (y : Storage) × (q : Plan) × MachineStands y told new q (finished s m (choice_of c) course)
 Finishes c ending _ old new = Unit {0}
 
--- whether the chosen task's job, with one operator more, has made as many as it may
-abbrev pub IsLast : Chosen → Tasks → Bool → Type 0
-IsLast c tasks last = (r : JobRow) → slice_get tasks.jobs (c.job - 1) ≡ Some r → (r.made + 1 == r.limit) ≡ last
-
--- an operator that was made is counted; or it was the last that its job may make
+-- an operator that was made is counted; where it was the last that its job may make, the task ends then
 abbrev pub Advances : {K : Type 0} → (K → Option (List ℕ)) → Chosen → Result StepEnd Stop → Machine → Machine → K → K → Type 0
-Advances taken c (Ok ends.GoesOn) old new paper paper' = IsLast c old.tasks false × IsCounted c old.tasks new.tasks × (new ≡ record old { tasks = new.tasks }) × (paper' ≡ paper)
-Advances taken c (Ok ends.Over) old new paper paper' = IsLast c old.tasks true × Closes taken c Limit (Ok ends.Over) old.tasks new.tasks paper paper'
-Advances taken c (Err stop) old new paper paper' = IsLast c old.tasks true × Closes taken c Limit (Err stop) old.tasks new.tasks paper paper'
+Advances taken c (Ok ends.GoesOn) old new paper paper' =
+    IsCounted c old.tasks new.tasks × AtLimit new.tasks false × (new ≡ record old { tasks = new.tasks }) × (paper' ≡ paper)
+Advances taken c (Ok ends.Over) old new paper paper' =
+    (counted : Tasks) × IsCounted c old.tasks counted × AtLimit counted true × LimitEnds taken (Ok tt) (record old { tasks = counted }) new paper paper'
+Advances taken c (Err stop) old new paper paper' =
+    (counted : Tasks) × IsCounted c old.tasks counted × AtLimit counted true × LimitEnds taken (Err stop) (record old { tasks = counted }) new paper paper'
 
--- how a step ended that set out from a session, over a core of so many words and a device of so many sectors, of which this
--- is known. One that wasn't made ends as a slice of no steps. `exact` is whether anything was known of them at the start
-abbrev pub StepMeets : {K : Type 0} → (K → Option (List ℕ)) → Option (List (List ℕ)) → Type 0 → ℕ → ℕ → Session → Result StepEnd Stop → Machine → K → K → Type 0
-StepMeets taken known exact core count s (Ok ends.GoesOn) new paper paper' =
-    (moment : Moment) × (next s ≡ Some moment) × ((m : Member) × (t : Task) × IsLone known new moment.session m t) × Took taken paper paper' (run_text moment.lines)
-StepMeets taken known exact core count s (Ok ends.Over) new paper paper' =
-    (moment : Moment) × (exact → (next s ≡ Some moment) × (live_tasks moment.session.jobs ≡ 0)) × Took taken paper paper' (run_text moment.lines)
-StepMeets taken known exact core count s (Err stop) new paper paper' = SliceMeets taken known exact core count 0 0 s [] (Err stop) new paper paper'
+-- ---- steps
 
--- how many steps were made
-abbrev pub steps_of : Result StepEnd Stop → ℕ
-steps_of (Ok end) = 1
-steps_of (Err stop) = 0
+-- a whole step leads from a session to another, and these are its lines
+pub record Makes (s after : Session) (printed : List RunLine) : Type 0 where
+  pub moment : Moment
+  pub is : next s ≡ Some moment
+  pub session : moment.session ≡ after
+  pub lines_are : moment.lines ≡ printed
+
+-- no step does, a whole one, or one but for LIMIT's part
+pub data Leads (s : Session) (steps : ℕ) (after : Session) (printed : List RunLine) : Type 0 where
+  stays : steps ≡ 0 → after ≡ s → printed ≡ [] → Leads s steps after printed
+  makes : steps ≡ 1 → Makes s after printed → Leads s steps after printed
+  halves : (part : Moment) → steps ≡ 1 → first_part s ≡ Some part → part.session ≡ after → last_part after ≢ None → part.lines ≡ printed → Leads s steps after printed
+
+-- how a step ended that led from a session to another, over a core of so many words and a device of so many sectors, of
+-- which this is known. One that wasn't made ends as a slice of no steps. `exact` is whether anything was known of them at
+-- the start
+abbrev pub StepMeets : Option (List (List ℕ)) → Type 0 → ℕ → ℕ → ℕ → Session → Session → List RunLine → List ℕ → Result StepEnd Stop → Machine → Type 0
+StepMeets known exact core count steps was s printed is_due (Ok ends.GoesOn) new =
+    (steps ≡ 1) × Makes was s printed × ((m : Member) × (t : Task) × IsLone known new s m t) × (new.tasks.printed ≡ 0)
+StepMeets known exact core count steps was s printed is_due (Ok ends.Over) new = (steps ≡ 1) × (exact → Makes was s printed) × Rests known new s
+StepMeets known exact core count steps was s printed is_due (Err stop) new = SliceMeets known exact core count 0 0 s is_due (Err stop) new
 
 -- Where it is known what the device's sectors hold, the step is that of the session. Where nothing is known, it is that of
 -- a session with some other code and some other numbers.
 pub record Steps {K : Type 0} (taken : K → Option (List ℕ)) (known : Option (List (List ℕ))) (exact : Type 0) (count : ℕ) (s : Session) (answered : Result StepEnd Stop) (old new : Machine) (paper paper' : K) : Type 0 where
+  pub was : Session
+  pub same : exact → was ≡ s
+  pub steps : ℕ
+  pub few : steps ≤ 1
   pub session : Session
-  pub same : exact → session ≡ s
-  pub made : new.tasks.made ≡ old.tasks.made + steps_of answered
-  pub meets : StepMeets taken known exact (length old.cpu.core) count session answered new paper paper'
+  pub printed : List RunLine
+  pub leads : exact → Leads was steps session printed
+  pub made : new.tasks.made ≡ old.tasks.made + steps
+  pub was_due : List ℕ
+  pub is_due : List ℕ
+  pub was_is : exact → was_due ≡ due was
+  pub next_is : exact → is_due ≡ due session
+  pub prints : Prints taken paper paper' was_due old.tasks.printed printed is_due new.tasks.printed
+  pub meets : StepMeets known exact (length old.cpu.core) count steps was session printed is_due answered new
 
--- after the last step the machine rests. Where it was known what the device's sectors hold, its session is the one after the
--- step
-pub record StepOver (known : Option (List (List ℕ))) (exact : Type 0) (s : Session) (new : Machine) : Type 0 where
-  pub session : Session
-  pub is : exact → (moment : Moment) × (next s ≡ Some moment) × (moment.session ≡ session)
-  pub rests : Rests known new session
-
--- core has the words that a step needs which was made
-abbrev pub StepFits : ℕ → Session → Result StepEnd Stop → Type 0
-StepFits core s (Ok end) = NextFits core s
-StepFits core s (Err stop) = Unit {0}
+-- a step was not made, or core has the words that it needs
+abbrev pub StepFits : ℕ → Session → Machine → Machine → Type 0
+StepFits core s old new = (new.tasks.made ≡ old.tasks.made) ⊎ NextFits core s

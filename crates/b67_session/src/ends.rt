@@ -1,19 +1,18 @@
-//! The end of a step: its operator is counted, and the line of an ending is printed first.
+//! The end of a step: its operator is counted, and the line of an ending is printed.
 
 ghost use Rattle.std.specs.Prelude.{◌≡◌, ℕ, ◌+◌, ◌-◌, ◌≤◌, ◌==◌, Err, Some, length, slice_get};
-ghost use Rattle.b67_word.specs.declared.faults.Ending.TheVariants.{Limit};
 ghost use Rattle.b67_io.specs.Causes.{Rose};
 ghost use Rattle.b67_task.specs.declared.tables.JobRow.{JobRow};
 ghost use Rattle.b67_schedule.specs.Counted.{HasRoom};
 ghost use Rattle.b67_ending.specs.Endings.{HasOne};
-ghost use Rattle.b67_intrinsics.specs.Called.{AreCountable};
-ghost use Rattle.b67_intrinsics.specs.declared.ends.Stop.TheVariants.{PrintFault};
-ghost use Rattle.b67_session.specs.Steps.{IsCounted, IsLast, Closes, Advances, Finishes};
+ghost use Rattle.b67_attempt.specs.Passed.{AreCountable};
+ghost use Rattle.b67_attempt.specs.Stops.{PrintFault};
+ghost use Rattle.b67_session.specs.Steps.{IsCounted, AtLimit, PutsText, ending_text, LimitEnds, Closes, Advances, Finishes};
 
 use b67_ending::end_last;
-use b67_intrinsics::Stop;
-use b67_io::{Sink, put_line};
-use b67_lines::ending_line;
+use b67_attempt::Stop;
+use b67_io::Sink;
+use b67_lines::{ending_line, put_rest};
 use b67_schedule::{Chosen, count};
 use b67_task::{Machine, Tasks};
 use b67_word::Ending;
@@ -25,25 +24,76 @@ pub(crate) enum StepEnd {
     Over,
 }
 
-/// Counts one operator of the chosen task.
+/// Counts one operator of the chosen task. Nothing is printed yet then of what comes next.
 fn count_one(tasks: &mut Tasks, chosen: Chosen)
     requires { HasRoom tasks.old chosen }
     ensures { IsCounted chosen tasks.old tasks.new }
 {
     count(tasks, chosen);
+    tasks.printed = 0;
 }
 
-/// Whether the chosen task's job, with one operator more, has made as many as it may.
-fn is_last(tasks: &Tasks, chosen: Chosen) -> bool
-    requires { HasRoom tasks.now chosen }
-    ensures { IsLast chosen tasks.now result }
+/// Whether the job that made the last operator has made as many as it may.
+pub(crate) fn is_at_limit(tasks: &Tasks) -> bool
+    ensures { AtLimit tasks.now result }
 {
-    let row = &tasks.jobs.as_slice()[chosen.job as usize - 1];
-    row.made + 1 == row.limit
+    if tasks.last_job == 0 {
+        return false;
+    }
+    let rows = tasks.jobs.as_slice();
+    let at = tasks.last_job as usize - 1;
+    at < rows.len() && rows[at].made == rows[at].limit
 }
 
-/// Prints the line of how the chosen task ended, which is the only one. Then the task ends, the step is counted, and the
-/// machine stands for the session without it. Where the printer fails, the machine stays.
+/// Puts what isn't printed yet of the line of how a task ended.
+fn put_ending<K: Sink>(
+    paper: &mut K,
+    job: u8,
+    number: u32,
+    ending: Ending,
+    printed: &mut u64,
+) -> Result<(), Stop>
+    ensures text { PutsText K.taken (ending_text job number ending) result printed.old printed.new paper.old paper.new }
+    ensures cause { result ≡ Err PrintFault → Rose K.faults paper.old paper.new }
+    ensures later { K.faults paper.old ≤ K.faults paper.new }
+{
+    match put_rest(paper, &ending_line(job, number, ending), 0, printed) {
+        Ok(()) => Ok(()),
+        Err(_failed) => Err(Stop::PrintFault),
+    }
+}
+
+/// The last task, whose job has made as many operators as it may, ends by LIMIT: what isn't printed yet of its line is
+/// printed, and the machine stands for the session without it. Where the printer fails, the machine stays.
+pub(crate) fn end_by_limit<K: Sink>(machine: &mut Machine, paper: &mut K) -> Result<(), Stop>
+    requires { HasOne machine.old }
+    ensures ends { LimitEnds K.taken result machine.old machine.new paper.old paper.new }
+    ensures cause { result ≡ Err PrintFault → Rose K.faults paper.old paper.new }
+    ensures later { K.faults paper.old ≤ K.faults paper.new }
+    ensures jobs { machine.new.tasks.jobs ≡ machine.old.tasks.jobs }
+    ensures halt { machine.new.tasks.halt ≡ machine.old.tasks.halt }
+    ensures len { length machine.new.cpu.core ≡ length machine.old.cpu.core }
+    ensures count { length machine.new.sectors.links ≡ length machine.old.sectors.links }
+{
+    let job = machine.tasks.last_job;
+    let number = machine.tasks.last_number;
+    match put_ending(
+        paper,
+        job,
+        number,
+        Ending::Limit,
+        &mut machine.tasks.printed,
+    ) {
+        Ok(()) => {}
+        Err(stop) => return Err(stop),
+    }
+    end_last(machine);
+    machine.tasks.printed = 0;
+    Ok(())
+}
+
+/// Prints what isn't printed yet of the line of how the chosen task ended, which is the only one. Then the task ends, the
+/// step is counted, and the machine stands for the session without it. Where the printer fails, the machine stays.
 pub(crate) fn close<K: Sink>(
     machine: &mut Machine,
     chosen: Chosen,
@@ -52,7 +102,7 @@ pub(crate) fn close<K: Sink>(
 ) -> Result<StepEnd, Stop>
     requires room { HasRoom machine.old.tasks chosen }
     requires one { HasOne machine.old }
-    ensures closes { Closes K.taken chosen ending result machine.old.tasks machine.new.tasks paper.old paper.new }
+    ensures closes { Closes K.taken chosen ending result machine.old machine.new paper.old paper.new }
     ensures over { Finishes chosen ending result machine.old machine.new }
     ensures halt { machine.new.tasks.halt ≡ machine.old.tasks.halt }
     ensures countable { AreCountable machine.old.tasks.jobs → AreCountable machine.new.tasks.jobs }
@@ -61,9 +111,15 @@ pub(crate) fn close<K: Sink>(
     ensures len { length machine.new.cpu.core ≡ length machine.old.cpu.core }
     ensures count { length machine.new.sectors.links ≡ length machine.old.sectors.links }
 {
-    match put_line(paper, &ending_line(chosen.job, chosen.number, ending), 0) {
+    match put_ending(
+        paper,
+        chosen.job,
+        chosen.number,
+        ending,
+        &mut machine.tasks.printed,
+    ) {
         Ok(()) => {}
-        Err(_taken) => return Err(Stop::PrintFault),
+        Err(stop) => return Err(stop),
     }
     end_last(machine);
     count_one(&mut machine.tasks, chosen);
@@ -71,7 +127,7 @@ pub(crate) fn close<K: Sink>(
 }
 
 /// Counts an operator of the chosen task that was made, which is the only one. Where its job has then made as many as it
-/// may, the line of that ending is printed first, and the task ends.
+/// may, the line of that ending is printed, and the task ends.
 pub(crate) fn advance<K: Sink>(
     machine: &mut Machine,
     chosen: Chosen,
@@ -80,7 +136,6 @@ pub(crate) fn advance<K: Sink>(
     requires room { HasRoom machine.old.tasks chosen }
     requires one { HasOne machine.old }
     ensures advances { Advances K.taken chosen result machine.old machine.new paper.old paper.new }
-    ensures over { Finishes chosen Limit result machine.old machine.new }
     ensures halt { machine.new.tasks.halt ≡ machine.old.tasks.halt }
     ensures countable { AreCountable machine.old.tasks.jobs → AreCountable machine.new.tasks.jobs }
     ensures cause { result ≡ Err PrintFault → Rose K.faults paper.old paper.new }
@@ -88,9 +143,12 @@ pub(crate) fn advance<K: Sink>(
     ensures len { length machine.new.cpu.core ≡ length machine.old.cpu.core }
     ensures count { length machine.new.sectors.links ≡ length machine.old.sectors.links }
 {
-    if is_last(&machine.tasks, chosen) {
-        return close(machine, chosen, Ending::Limit, paper);
-    }
     count_one(&mut machine.tasks, chosen);
-    Ok(StepEnd::GoesOn)
+    if !is_at_limit(&machine.tasks) {
+        return Ok(StepEnd::GoesOn);
+    }
+    match end_by_limit(machine, paper) {
+        Ok(()) => Ok(StepEnd::Over),
+        Err(stop) => Err(stop),
+    }
 }

@@ -5,16 +5,16 @@ ghost use Rattle.b67_io.specs.Causes.{Rose};
 ghost use Rattle.b67_model.specs.State.{Task, Member};
 ghost use Rattle.b67_model.specs.Schedule.{Session};
 ghost use Rattle.b67_storage.specs.Machine.{Says, Served, retold};
-ghost use Rattle.b67_intrinsics.specs.Called.{AreCountable};
-ghost use Rattle.b67_intrinsics.specs.declared.ends.Stop.TheVariants.{BackingFault, PrintFault};
+ghost use Rattle.b67_attempt.specs.Passed.{AreCountable};
+ghost use Rattle.b67_attempt.specs.Stops.{BackingFault, PrintFault};
 ghost use Rattle.b67_session.specs.declared.slices.Progress.TheVariants.{Ended};
 ghost use Rattle.b67_attempt.specs.Brought.{WantsNothing};
-ghost use Rattle.b67_session.specs.Slices.{IsOpen, IsLone, IsLimited, Slices, Resumes, Pauses, Over, StepsFit};
+ghost use Rattle.b67_session.specs.Slices.{IsOpen, LivesOn, IsLone, IsLimited, Slices, Resumes, Pauses, Over, StepsFit};
 
-use crate::ends::StepEnd;
+use crate::ends::{StepEnd, end_by_limit, is_at_limit};
 use crate::steps::step;
 use b67_backing::Backing;
-use b67_intrinsics::Stop;
+use b67_attempt::Stop;
 use b67_io::Sink;
 use b67_task::{Machine, Tasks};
 
@@ -36,6 +36,51 @@ fn pause(tasks: &Tasks) -> Option<Progress>
     match tasks.halt {
         Some(count) if count == tasks.made => Some(Progress::Halted),
         _ => None,
+    }
+}
+
+/// Makes steps of a session of one job with one ready task until that has ended, the count of the halt is reached, or `n`
+/// were made, looked at in this order.
+fn go_on<B: Backing, K: Sink>(
+    machine: &mut Machine,
+    n: u64,
+    backing: &mut B,
+    paper: &mut K,
+) -> Result<Progress, Stop>
+    requires lives { LivesOn (B.holds backing.old) machine.old }
+    requires countable { AreCountable machine.old.tasks.jobs }
+    requires same { B.size backing.old + 1 ≡ length machine.old.sectors.links }
+    ensures row { (known : Option (List (List ℕ))) (s : Session) (m : Member) (t : Task) → Says known (B.holds backing.old) → IsLone known machine.old s m t
+        → Slices K.taken (retold known (B.holds backing.new)) (known ≢ None) (B.size backing.old) n s result machine.old machine.new paper.old paper.new }
+    ensures quiet { (known : Option (List (List ℕ))) (s : Session) (m : Member) (t : Task) (h : IsLone known machine.old s m t) → Says known (B.holds backing.old)
+        → n ≤ 1 → WantsNothing h.storage h.plan m t → backing.new ≡ backing.old }
+    ensures unprinted { result ≢ Err PrintFault → machine.old.tasks.printed ≡ 0 → machine.new.tasks.printed ≡ 0 }
+    ensures over { (known : Option (List (List ℕ))) (s : Session) (m : Member) (t : Task) → Says known (B.holds backing.old) → IsLone known machine.old s m t
+        → result ≡ Ok Ended → Over (retold known (B.holds backing.new)) (known ≢ None) s machine.old machine.new }
+    ensures fits { (known : Option (List (List ℕ))) (s : Session) (m : Member) (t : Task) → Says known (B.holds backing.old) → known ≢ None → IsLone known machine.old s m t
+        → (steps : ℕ) → machine.new.tasks.made ≡ machine.old.tasks.made + steps → StepsFit (length machine.old.cpu.core) steps s }
+    ensures backing_cause { result ≡ Err BackingFault → Rose B.faults backing.old backing.new }
+    ensures print_cause { result ≡ Err PrintFault → Rose K.faults paper.old paper.new }
+    ensures later { K.faults paper.old ≤ K.faults paper.new }
+    ensures device { Served B.holds B.size B.calls B.faults backing.old backing.new }
+    ensures countable { AreCountable machine.new.tasks.jobs }
+    ensures len { length machine.new.cpu.core ≡ length machine.old.cpu.core }
+    ensures count { length machine.new.sectors.links ≡ length machine.old.sectors.links }
+    ensures halt { machine.new.tasks.halt ≡ machine.old.tasks.halt }
+{
+    'step: for _made in 0..n {
+        if let Some(progress) = pause(&machine.tasks) {
+            return Ok(progress);
+        }
+        match step(machine, backing, paper) {
+            Ok(StepEnd::GoesOn) => {}
+            Ok(StepEnd::Over) => return Ok(Progress::Ended),
+            Err(stop) => return Err(stop),
+        }
+    }
+    match pause(&machine.tasks) {
+        Some(progress) => Ok(progress),
+        None => Ok(Progress::More),
     }
 }
 
@@ -83,18 +128,11 @@ pub fn slice<B: Backing, K: Sink>(
     ensures count { length machine.new.sectors.links ≡ length machine.old.sectors.links }
     ensures halt { machine.new.tasks.halt ≡ machine.old.tasks.halt }
 {
-    'step: for _made in 0..n {
-        if let Some(progress) = pause(&machine.tasks) {
-            return Ok(progress);
-        }
-        match step(machine, backing, paper) {
-            Ok(StepEnd::GoesOn) => {}
-            Ok(StepEnd::Over) => return Ok(Progress::Ended),
-            Err(stop) => return Err(stop),
-        }
+    if !is_at_limit(&machine.tasks) {
+        return go_on(machine, n, backing, paper);
     }
-    match pause(&machine.tasks) {
-        Some(progress) => Ok(progress),
-        None => Ok(Progress::More),
+    match end_by_limit(machine, paper) {
+        Ok(()) => Ok(Progress::Ended),
+        Err(stop) => Err(stop),
     }
 }

@@ -5,23 +5,24 @@ ghost use Rattle.b67_io.specs.Causes.{Rose};
 ghost use Rattle.b67_model.specs.State.{Task, Member};
 ghost use Rattle.b67_model.specs.Schedule.{Session};
 ghost use Rattle.b67_storage.specs.Machine.{Says, Served, retold};
-ghost use Rattle.b67_intrinsics.specs.Called.{AreCountable};
-ghost use Rattle.b67_intrinsics.specs.declared.ends.Stop.TheVariants.{BackingFault, PrintFault};
-ghost use Rattle.b67_session.specs.declared.ends.StepEnd.TheVariants.{Over};
+ghost use Rattle.b67_attempt.specs.Passed.{AreCountable};
+ghost use Rattle.b67_attempt.specs.Stops.{BackingFault, PrintFault};
+ghost use Rattle.b67_attempt.specs.Brought.{WantsNothing};
 ghost use Rattle.b67_session.specs.Slices.{LivesOn, IsLone};
-ghost use Rattle.b67_session.specs.Steps.{Steps, StepOver, StepFits};
+ghost use Rattle.b67_session.specs.Steps.{Steps, StepFits};
 
 use crate::ends::{StepEnd, advance, close};
 use crate::turns::give_turn;
 use b67_attempt::{Attempt, attempt};
 use b67_backing::Backing;
-use b67_intrinsics::Stop;
+use b67_attempt::Stop;
 use b67_io::Sink;
 use b67_schedule::choose;
 use b67_task::Machine;
 
-/// Makes one step, with its text printed and its operator counted. After a `Stop` it isn't counted, and but after
-/// `PrintFault` the machine stands for the state before it. After the last step it stands for the session without a task.
+/// Makes one step, with its text printed and its operator counted. After a `Stop` it isn't counted, and the machine stands
+/// for the state before it; but where the printer failed in the line of LIMIT, the step is made and counted but for that line
+/// and the task's end. After the last step the machine stands for the session without a task.
 pub(crate) fn step<B: Backing, K: Sink>(
     machine: &mut Machine,
     backing: &mut B,
@@ -32,10 +33,11 @@ pub(crate) fn step<B: Backing, K: Sink>(
     requires same { B.size backing.old + 1 ≡ length machine.old.sectors.links }
     ensures row { (known : Option (List (List ℕ))) (s : Session) (m : Member) (t : Task) → Says known (B.holds backing.old) → IsLone known machine.old s m t
         → Steps K.taken (retold known (B.holds backing.new)) (known ≢ None) (B.size backing.old) s result machine.old machine.new paper.old paper.new }
-    ensures over { (known : Option (List (List ℕ))) (s : Session) (m : Member) (t : Task) → Says known (B.holds backing.old) → IsLone known machine.old s m t
-        → result ≡ Ok Over → StepOver (retold known (B.holds backing.new)) (known ≢ None) s machine.new }
+    ensures quiet { (known : Option (List (List ℕ))) (s : Session) (m : Member) (t : Task) (h : IsLone known machine.old s m t) → Says known (B.holds backing.old)
+        → WantsNothing h.storage h.plan m t → backing.new ≡ backing.old }
+    ensures unprinted { result ≢ Err PrintFault → machine.old.tasks.printed ≡ 0 → machine.new.tasks.printed ≡ 0 }
     ensures fits { (known : Option (List (List ℕ))) (s : Session) (m : Member) (t : Task) → Says known (B.holds backing.old) → known ≢ None → IsLone known machine.old s m t
-        → StepFits (length machine.old.cpu.core) s result }
+        → StepFits (length machine.old.cpu.core) s machine.old machine.new }
     ensures backing_cause { result ≡ Err BackingFault → Rose B.faults backing.old backing.new }
     ensures print_cause { result ≡ Err PrintFault → Rose K.faults paper.old paper.new }
     ensures later { K.faults paper.old ≤ K.faults paper.new }

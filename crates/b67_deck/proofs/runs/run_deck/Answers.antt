@@ -6,8 +6,9 @@ use Rattle.b67_codefile.specs.Meaning.{program_of}
 use Rattle.b67_uncalled.specs.Uncalled.{uses_built}
 use Rattle.b67_open.specs.Decks.{IsLoaded}
 use Rattle.b67_open.specs.Opens.{IsOpened}
-use Rattle.b67_ends.specs.Device.{device_of}
-use Rattle.b67_ends.specs.Runs.{RunEnds}
+use Rattle.b67_deck.specs.Device.{device_of}
+use Rattle.b67_deck.specs.Runs.{RunEnds}
+use Rattle.b67_deck.proofs.Opened.{states_in_order}
 use Rattle.b67_deck.proofs.Decks.{none_in, one_in, one_file, refused, idle, lives_on, one_run}
 use Rattle.b67_deck.proofs.runs.run_deck.Goals as goal
 
@@ -28,7 +29,7 @@ run_job-status-requires-clause-lives g c =
 pub returns-in-empty : goal.returns-in-empty
 returns-in-empty g c =
     idle g.K.Sink.taken g.K.Sink.faults g.B.Backing.holds g.B.Backing.size g.B.Backing.faults c.args.deck.now (map program_of c.args.programs.now) c.args.core
-    c.args.backing.now c.open.new.backing c.in-Ok.machine c.args.printer.now (none_in c.as_slice.result.now c.args.deck.now.jobs c.as_slice.ensures c.in-empty.len_below) c.in-Ok.ensures.opens
+    c.args.backing.now c.open.new.backing c.in-Ok.machine c.args.printer.now (λ n. states_in_order c.args.deck.now c.args.programs.now n c.requires.range c.requires.loaded) (none_in c.as_slice.result.now c.args.deck.now.jobs c.as_slice.ensures c.in-empty.len_below) c.in-Ok.ensures.opens
 
 pub returns-in-len1-up : goal.returns-in-len1-up
 returns-in-len1-up g c =

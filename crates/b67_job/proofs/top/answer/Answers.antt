@@ -1,6 +1,8 @@
 use Rattle.std.proofs.Common.{sym, ap, ◌∙◌, refl, Some}
 use Rattle.std.specs.Prelude.{is_some}
-use Rattle.b67_ends.specs.Device.{device_of}
+use Rattle.b67_deck.specs.Device.{device_of}
+use Rattle.b67_deck.specs.Texts.{only}
+use Rattle.b67_deck.proofs.Ran.{closes_only}
 use Rattle.b67_job.specs.Due.{answered, usage_due, usage_text}
 use Rattle.b67_job.proofs.Served.{without}
 use Rattle.b67_job.proofs.top.answer.Goals as goal
@@ -27,4 +29,4 @@ returns-in-None-clause-answered g c =
     let d = device_of g.B.Backing.holds g.B.Backing.size g.B.Backing.faults c.args.backing.now c.args.backing.now in
     without c.args.words.now g.S.Source.left g.S.Source.faults c.args.deck.now c.args.deck.now d g.K.Sink.taken g.K.Sink.faults c.args.printer.now c.say.new.printer
     c.without_machine-in-None.result.machine c.without_machine-in-None.result.status c.say.result c.without_machine-in-None.ensures.machine c.without_machine-in-None.ensures.status
-    (answered 1 usage_text (usage_due (ap is_some (sym c.command_of.ensures.command ∙ c.in-None.is)) refl refl refl refl) (rw c.line_of.ensures at c.say.ensures))
+    (answered 1 (only usage_text) (usage_due (ap is_some (sym c.command_of.ensures.command ∙ c.in-None.is)) refl refl refl refl) (closes_only (rw c.line_of.ensures at c.say.ensures)))

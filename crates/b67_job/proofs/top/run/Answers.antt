@@ -1,5 +1,5 @@
 use Rattle.b67_job.proofs.Status.{completed}
-use Rattle.b67_job.proofs.Causes.{is_done, is_halt, is_core, is_sectors, is_fault, is_cut, is_opened, is_standing}
+use Rattle.b67_job.proofs.Causes.{is_done, is_halt, is_core, is_sectors, is_fault, is_cut, is_opened, is_in_order, is_fitted, is_standing, is_resting}
 use Rattle.b67_job.proofs.top.run.Goals as goal
 
 pub returns-clause-done : goal.returns-clause-done
@@ -29,3 +29,12 @@ returns-clause-stands g c = is_standing g.K.Sink.taken g.K.Sink.faults c.args.pr
 pub returns-clause-complete : goal.returns-clause-complete
 returns-clause-complete g c = λ command bytes e is ample stayed calm worked.
     completed g.K.Sink.taken g.K.Sink.faults c.args.printer.now c.answer.new.printer c.answer.result.status command bytes e is ample stayed calm worked c.answer.ensures.answered
+
+pub returns-clause-in_order : goal.returns-clause-in_order
+returns-clause-in_order g c = is_in_order g.K.Sink.taken g.K.Sink.faults c.args.printer.now c.answer.new.printer c.answer.result.status c.answer.ensures.answered
+
+pub returns-clause-fitted : goal.returns-clause-fitted
+returns-clause-fitted g c = is_fitted g.K.Sink.taken g.K.Sink.faults c.args.printer.now c.answer.new.printer c.answer.result.status c.answer.ensures.answered
+
+pub returns-clause-ended : goal.returns-clause-ended
+returns-clause-ended g c = is_resting g.K.Sink.taken g.K.Sink.faults c.args.printer.now c.answer.new.printer c.answer.result.status c.answer.ensures.answered

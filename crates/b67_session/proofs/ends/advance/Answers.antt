@@ -1,6 +1,14 @@
-use Rattle.b67_session.proofs.Stepping.{closes_advances}
+use Rattle.std.proofs.Common.{List, sym, subst}
+use Rattle.b67_task.specs.declared.tables.JobRow.{JobRow}
+use Rattle.b67_attempt.specs.Passed.{AreCountable}
+use Rattle.b67_session.proofs.Emptying.{one_same}
 use Rattle.b67_session.proofs.ends.advance.Goals as goal
 
-pub returns-then-is_last-clause-advances : goal.returns-then-is_last-clause-advances
-returns-then-is_last-clause-advances g c =
-    closes_advances g.K.Sink.taken c.args.chosen c.close.result c.args.machine.now c.close.new.machine c.args.paper.now c.close.new.paper (rw c.if-is_last.true at c.is_last.ensures) c.close.ensures.closes
+pub end_by_limit-requires : goal.end_by_limit-requires
+end_by_limit-requires g c = one_same c.args.machine.now c.count_one.new.tasks c.count_one.ensures.rows c.count_one.ensures.running c.requires.one
+
+pub returns-in-Ok-clause-countable : goal.returns-in-Ok-clause-countable
+returns-in-Ok-clause-countable g c = λ all. subst (λ (js : List JobRow). AreCountable js) (sym c.in-Ok.ensures.jobs) (c.count_one.ensures.countable all)
+
+pub returns-in-Err-clause-countable : goal.returns-in-Err-clause-countable
+returns-in-Err-clause-countable g c = λ all. subst (λ (js : List JobRow). AreCountable js) (sym c.in-Err.ensures.jobs) (c.count_one.ensures.countable all)

@@ -7,5 +7,10 @@ returns c = record {
   shows = c.count.ensures.moment;
   made = cc;
   halt = cc;
+  rows = cc;
+  running = cc;
+  last_job = cc;
+  last_number = cc;
+  printed = cc;
   countable = λ all. rw (c.count.ensures.jobs c.requires.job c.requires.at) (countable_counted c.args.tasks.now.jobs (c.args.chosen.job - 1) c.requires.job c.requires.at all);
 }

@@ -1,169 +1,48 @@
-use Rattle.std.proofs.Common.{◌≢◌, ℕ, List, Option, None, Ok, Err, refl, sym, ap, ◌∙◌, subst, arith, ◌≡◌, ◌+◌, length}
-use Rattle.b67_storage.specs.Machine.{retold}
-use Rattle.b67_overlay.proofs.Chains.{retold-same}
-use Rattle.b67_storage.proofs.Devices.{Served-none, Served-then}
-use Rattle.b67_session.specs.declared.ends.StepEnd.{StepEnd}
-use Rattle.b67_session.specs.declared.ends.StepEnd.TheVariants as ends
-use Rattle.b67_session.specs.Steps.{Steps, StepOver}
-use Rattle.b67_session.proofs.Going.{Going, going-begins, going-lives, going-more, going-steps, going-over, going-rests, going-stops}
-use Rattle.b67_session.proofs.Pausing.{says_retold, still_told, known_still, retold_twice, pause_slices, pause_over}
-use Rattle.b67_session.proofs.Fitting.{fits_more, counted_fits}
+use Rattle.std.proofs.Common.{Err, refl, ap}
+use Rattle.b67_storage.proofs.Devices.{Served-none}
+use Rattle.b67_attempt.specs.Stops.{Stop}
+use Rattle.b67_session.proofs.Resuming.{open_lives, open_one, lone_not, resumes_whole, resumes_more, stops_printing}
+use Rattle.b67_session.proofs.Limits.{limited_not}
 use Rattle.b67_session.proofs.slices.slice.Goals as goal
 
-pub step-init : goal.step-init
-step-init g c = record {
-  later = omega arith;
-  device = Served-none g.B.Backing.holds g.B.Backing.size g.B.Backing.calls g.B.Backing.faults c.args.backing.now;
-  countable = c.requires.countable;
-  len = refl;
-  count = refl;
-  halt = refl;
-  going = λ known s m t says h.
-      let P : Option (List (List ℕ)) → Type 0 = λ d. Going g.K.Sink.taken (known ≢ None) d 0 s c.args.machine.now c.args.machine.now c.args.paper.now c.args.paper.now in
-      subst P (sym (retold-same known (g.B.Backing.holds c.args.backing.now) says)) (going-begins g.K.Sink.taken (known ≢ None) known s m t c.args.machine.now c.args.paper.now h);
-  fits = λ known s m t says tells h k low. absurd (omega (arith, low));
-}
+pub go_on-requires-clause-lives : goal.go_on-requires-clause-lives
+go_on-requires-clause-lives g c = open_lives (g.B.Backing.holds c.args.backing.now) c.args.machine.now c.requires.lives c.if-not-is_at_limit.ensures
 
-pub step-requires-clause-lives : goal.step-requires-clause-lives
-step-requires-clause-lives g c =
-    let l = c.requires.lives in
-    going-lives g.K.Sink.taken (l.known ≢ None) (retold l.known (g.B.Backing.holds c.step.backing)) 0 c.args.n c.step._made l.session c.args.machine.now c.step.machine c.args.paper.now c.step.paper
-    (c.step.invariant.going l.known l.session l.member l.task l.says l.lone) (g.B.Backing.holds c.step.backing) (says_retold l.known (g.B.Backing.holds c.step.backing))
+pub end_by_limit-requires : goal.end_by_limit-requires
+end_by_limit-requires g c = open_one (g.B.Backing.holds c.args.backing.now) c.args.machine.now c.requires.lives c.if-not-is_at_limit.ensures
 
-pub returns-in-Some-clause-row : goal.returns-in-Some-clause-row
-returns-in-Some-clause-row g c = λ known s m t says h.
-    pause_slices g.K.Sink.taken (known ≢ None) (retold known (g.B.Backing.holds c.step.backing)) (g.B.Backing.size c.args.backing.now) c.args.n c.step._made s c.args.machine.now c.step.machine c.args.paper.now c.step.paper
-    (c.step.invariant.going known s m t says h) (omega arith) c.in-Some.progress c.in-Some.ensures
+pub returns-then-not-is_at_limit-clause-resumed : goal.returns-then-not-is_at_limit-clause-resumed
+returns-then-not-is_at_limit-clause-resumed g c = λ known h m t says l. absurd (limited_not known c.args.machine.now h m t l c.if-not-is_at_limit.ensures)
 
-pub returns-in-Some-pause-clause-row : goal.returns-in-Some-pause-clause-row
-returns-in-Some-pause-clause-row g c = λ known s m t says h.
-    pause_slices g.K.Sink.taken (known ≢ None) (retold known (g.B.Backing.holds c.step.backing)) (g.B.Backing.size c.args.backing.now) c.args.n c.step._made s c.args.machine.now c.step.machine c.args.paper.now c.step.paper
-    (c.step.invariant.going known s m t says h) (omega arith) c.in-Some-pause.progress c.in-Some-pause.ensures
+pub returns-in-Ok-clause-row : goal.returns-in-Ok-clause-row
+returns-in-Ok-clause-row g c = λ known s m t says h. absurd (lone_not known c.args.machine.now s m t h c.if-not-is_at_limit.ensures)
 
-pub returns-in-Some-clause-over : goal.returns-in-Some-clause-over
-returns-in-Some-clause-over g c = λ known s m t says h e.
-    pause_over g.K.Sink.taken (known ≢ None) (retold known (g.B.Backing.holds c.step.backing)) (g.B.Backing.size c.args.backing.now) c.args.n c.step._made s c.args.machine.now c.step.machine c.args.paper.now c.step.paper
-    (c.step.invariant.going known s m t says h) c.in-Some.progress c.in-Some.ensures cc
+pub returns-in-Ok-clause-resumed : goal.returns-in-Ok-clause-resumed
+returns-in-Ok-clause-resumed g c = λ known h m t says l.
+    (resumes_whole g.K.Sink.taken known h m t c.args.machine.now c.end_by_limit.new.machine c.args.paper.now c.end_by_limit.new.paper l c.in-Ok.field-0 c.in-Ok.ensures.ends, refl)
 
-pub returns-in-Some-pause-clause-over : goal.returns-in-Some-pause-clause-over
-returns-in-Some-pause-clause-over g c = λ known s m t says h e.
-    pause_over g.K.Sink.taken (known ≢ None) (retold known (g.B.Backing.holds c.step.backing)) (g.B.Backing.size c.args.backing.now) c.args.n c.step._made s c.args.machine.now c.step.machine c.args.paper.now c.step.paper
-    (c.step.invariant.going known s m t says h) c.in-Some-pause.progress c.in-Some-pause.ensures cc
+pub returns-in-Ok-clause-over : goal.returns-in-Ok-clause-over
+returns-in-Ok-clause-over g c = λ known s m t says h e. absurd (lone_not known c.args.machine.now s m t h c.if-not-is_at_limit.ensures)
 
-pub returns-in-None-clause-row : goal.returns-in-None-clause-row
-returns-in-None-clause-row g c = λ known s m t says h.
-    going-more g.K.Sink.taken (known ≢ None) (retold known (g.B.Backing.holds c.step.backing)) (g.B.Backing.size c.args.backing.now) c.args.n c.step._made s c.args.machine.now c.step.machine c.args.paper.now c.step.paper
-    (c.step.invariant.going known s m t says h) (omega arith) c.in-None.ensures
+pub returns-in-Ok-clause-fits : goal.returns-in-Ok-clause-fits
+returns-in-Ok-clause-fits g c = λ known s m t says tells h. absurd (lone_not known c.args.machine.now s m t h c.if-not-is_at_limit.ensures)
 
-pub returns-in-Ok-Over-clause-device : goal.returns-in-Ok-Over-clause-device
-returns-in-Ok-Over-clause-device g c =
-    Served-then g.B.Backing.holds g.B.Backing.size g.B.Backing.calls g.B.Backing.faults c.args.backing.now c.step.backing c.step-in-step.new.backing c.step.invariant.device c.step-in-step.ensures.device
-
-pub returns-in-Err-clause-device : goal.returns-in-Err-clause-device
-returns-in-Err-clause-device g c =
-    Served-then g.B.Backing.holds g.B.Backing.size g.B.Backing.calls g.B.Backing.faults c.args.backing.now c.step.backing c.step-in-step.new.backing c.step.invariant.device c.step-in-step.ensures.device
-
-pub returns-in-Ok-Over-clause-row : goal.returns-in-Ok-Over-clause-row
-returns-in-Ok-Over-clause-row g c = λ known s m t says h.
-    let now = retold known (g.B.Backing.holds c.step.backing) in
-    let after = g.B.Backing.holds c.step-in-step.new.backing in
-    let tells = still_told g.B.Backing.holds g.B.Backing.size g.B.Backing.calls g.B.Backing.faults c.args.backing.now c.step.backing known says c.step.invariant.device in
-    let going = c.step.invariant.going known s m t says h in
-    let P : Option (List (List ℕ)) → ℕ → Type 0 = λ d n. Steps g.K.Sink.taken d (now ≢ None) n going.session (Ok ends.Over) c.step.machine c.step-in-step.new.machine c.step.paper c.step-in-step.new.paper in
-    let made : P (retold now after) (g.B.Backing.size c.step.backing) = rw c.in-Ok-Over.field-0-is at (c.in-Ok-Over.ensures.row now going.session going.member going.task (says_retold known (g.B.Backing.holds c.step.backing)) going.lone) in
-    let sized : P (retold known after) (g.B.Backing.size c.args.backing.now) =
-    subst (λ (d : Option (List (List ℕ))). P d (g.B.Backing.size c.args.backing.now)) (retold_twice known (g.B.Backing.holds c.step.backing) after tells) (subst (P (retold now after)) c.step.invariant.device.size made) in
-    going-over g.K.Sink.taken (known ≢ None) now (g.B.Backing.size c.args.backing.now) c.args.n c.step._made s c.args.machine.now c.step.machine c.args.paper.now c.step.paper going
-    (retold known after) (known_still known (g.B.Backing.holds c.step.backing) tells) c.step-in-step.new.machine c.step-in-step.new.paper (omega arith) sized
-
-pub returns-in-Ok-Over-clause-over : goal.returns-in-Ok-Over-clause-over
-returns-in-Ok-Over-clause-over g c = λ known s m t says h e.
-    let now = retold known (g.B.Backing.holds c.step.backing) in
-    let after = g.B.Backing.holds c.step-in-step.new.backing in
-    let tells = still_told g.B.Backing.holds g.B.Backing.size g.B.Backing.calls g.B.Backing.faults c.args.backing.now c.step.backing known says c.step.invariant.device in
-    let going = c.step.invariant.going known s m t says h in
-    let P : Option (List (List ℕ)) → ℕ → Type 0 = λ d n. Steps g.K.Sink.taken d (now ≢ None) n going.session (Ok ends.Over) c.step.machine c.step-in-step.new.machine c.step.paper c.step-in-step.new.paper in
-    let made : P (retold now after) (g.B.Backing.size c.step.backing) = rw c.in-Ok-Over.field-0-is at (c.in-Ok-Over.ensures.row now going.session going.member going.task (says_retold known (g.B.Backing.holds c.step.backing)) going.lone) in
-    let sized : P (retold known after) (g.B.Backing.size c.args.backing.now) =
-    subst (λ (d : Option (List (List ℕ))). P d (g.B.Backing.size c.args.backing.now)) (retold_twice known (g.B.Backing.holds c.step.backing) after tells) (subst (P (retold now after)) c.step.invariant.device.size made) in
-    let last : StepOver (retold now after) (now ≢ None) going.session c.step-in-step.new.machine =
-    c.in-Ok-Over.ensures.over now going.session going.member going.task (says_retold known (g.B.Backing.holds c.step.backing)) going.lone (ap (λ (r : StepEnd). Ok r) c.in-Ok-Over.field-0-is) in
-    let rests : StepOver (retold known after) (now ≢ None) going.session c.step-in-step.new.machine =
-    subst (λ (d : Option (List (List ℕ))). StepOver d (now ≢ None) going.session c.step-in-step.new.machine) (retold_twice known (g.B.Backing.holds c.step.backing) after tells) last in
-    going-rests g.K.Sink.taken (known ≢ None) now (g.B.Backing.size c.args.backing.now) c.args.n c.step._made s c.args.machine.now c.step.machine c.args.paper.now c.step.paper going
-    (retold known after) (known_still known (g.B.Backing.holds c.step.backing) tells) c.step-in-step.new.machine c.step-in-step.new.paper sized rests
+pub returns-in-Ok-clause-device : goal.returns-in-Ok-clause-device
+returns-in-Ok-clause-device g c = Served-none g.B.Backing.holds g.B.Backing.size g.B.Backing.calls g.B.Backing.faults c.args.backing.now
 
 pub returns-in-Err-clause-row : goal.returns-in-Err-clause-row
-returns-in-Err-clause-row g c = λ known s m t says h.
-    let now = retold known (g.B.Backing.holds c.step.backing) in
-    let after = g.B.Backing.holds c.step-in-step.new.backing in
-    let tells = still_told g.B.Backing.holds g.B.Backing.size g.B.Backing.calls g.B.Backing.faults c.args.backing.now c.step.backing known says c.step.invariant.device in
-    let going = c.step.invariant.going known s m t says h in
-    let P : Option (List (List ℕ)) → ℕ → Type 0 = λ d n. Steps g.K.Sink.taken d (now ≢ None) n going.session (Err c.in-Err.stop) c.step.machine c.step-in-step.new.machine c.step.paper c.step-in-step.new.paper in
-    let made : P (retold now after) (g.B.Backing.size c.step.backing) = c.in-Err.ensures.row now going.session going.member going.task (says_retold known (g.B.Backing.holds c.step.backing)) going.lone in
-    let sized : P (retold known after) (g.B.Backing.size c.args.backing.now) =
-    subst (λ (d : Option (List (List ℕ))). P d (g.B.Backing.size c.args.backing.now)) (retold_twice known (g.B.Backing.holds c.step.backing) after tells) (subst (P (retold now after)) c.step.invariant.device.size made) in
-    going-stops g.K.Sink.taken (known ≢ None) now (g.B.Backing.size c.args.backing.now) c.args.n c.step._made s c.args.machine.now c.step.machine c.args.paper.now c.step.paper going
-    (retold known after) (known_still known (g.B.Backing.holds c.step.backing) tells) c.step-in-step.new.machine c.step-in-step.new.paper c.in-Err.stop (omega arith) c.step.invariant.len sized
+returns-in-Err-clause-row g c = λ known s m t says h. absurd (lone_not known c.args.machine.now s m t h c.if-not-is_at_limit.ensures)
 
-pub step-preserved : goal.step-preserved
-step-preserved g c = record {
-  later = omega (arith, c.step.invariant.later, c.step-in-step.ensures.later);
-  device = Served-then g.B.Backing.holds g.B.Backing.size g.B.Backing.calls g.B.Backing.faults c.args.backing.now c.step.backing c.step-in-step.new.backing c.step.invariant.device c.step-in-step.ensures.device;
-  countable = c.step-in-step.ensures.countable;
-  len = c.step-in-step.ensures.len ∙ c.step.invariant.len;
-  count = c.step-in-step.ensures.count ∙ c.step.invariant.count;
-  halt = c.step-in-step.ensures.halt ∙ c.step.invariant.halt;
-  going = λ known s m t says h.
-      let now = retold known (g.B.Backing.holds c.step.backing) in
-      let after = g.B.Backing.holds c.step-in-step.new.backing in
-      let tells = still_told g.B.Backing.holds g.B.Backing.size g.B.Backing.calls g.B.Backing.faults c.args.backing.now c.step.backing known says c.step.invariant.device in
-      let going = c.step.invariant.going known s m t says h in
-      let P : Option (List (List ℕ)) → ℕ → Type 0 = λ d n. Steps g.K.Sink.taken d (now ≢ None) n going.session (Ok ends.GoesOn) c.step.machine c.step-in-step.new.machine c.step.paper c.step-in-step.new.paper in
-      let made : P (retold now after) (g.B.Backing.size c.step.backing) = rw c.in-Ok-GoesOn.field-0-is at (c.in-Ok-GoesOn.ensures.row now going.session going.member going.task (says_retold known (g.B.Backing.holds c.step.backing)) going.lone) in
-      let sized : P (retold known after) (g.B.Backing.size c.args.backing.now) =
-      subst (λ (d : Option (List (List ℕ))). P d (g.B.Backing.size c.args.backing.now)) (retold_twice known (g.B.Backing.holds c.step.backing) after tells) (subst (P (retold now after)) c.step.invariant.device.size made) in
-      going-steps g.K.Sink.taken (known ≢ None) now (g.B.Backing.size c.args.backing.now) c.args.n c.step._made s c.args.machine.now c.step.machine c.args.paper.now c.step.paper going
-      (retold known after) (known_still known (g.B.Backing.holds c.step.backing) tells) c.step-in-step.new.machine c.step-in-step.new.paper sized;
-  fits = λ known s m t says tells h.
-      let now = retold known (g.B.Backing.holds c.step.backing) in
-      let still = still_told g.B.Backing.holds g.B.Backing.size g.B.Backing.calls g.B.Backing.faults c.args.backing.now c.step.backing known says c.step.invariant.device in
-      let going = c.step.invariant.going known s m t says h in
-      fits_more (length c.args.machine.now.cpu.core) (length c.step.machine.cpu.core) c.step._made s going.session c.step.invariant.len (going.leads tells).session (c.step.invariant.fits known s m t says tells h)
-      (c.in-Ok-GoesOn.ensures.fits now going.session going.member going.task (says_retold known (g.B.Backing.holds c.step.backing)) (known_still known (g.B.Backing.holds c.step.backing) still tells) going.lone);
-}
-
-pub returns-in-Some-clause-fits : goal.returns-in-Some-clause-fits
-returns-in-Some-clause-fits g c = λ known s m t says tells h steps counted.
-    counted_fits (length c.args.machine.now.cpu.core) c.step._made steps c.args.machine.now.tasks.made c.step.machine.tasks.made s (c.step.invariant.going known s m t says h).made counted (c.step.invariant.fits known s m t says tells h)
-
-pub returns-in-Some-pause-clause-fits : goal.returns-in-Some-pause-clause-fits
-returns-in-Some-pause-clause-fits g c = λ known s m t says tells h steps counted.
-    counted_fits (length c.args.machine.now.cpu.core) c.step._made steps c.args.machine.now.tasks.made c.step.machine.tasks.made s (c.step.invariant.going known s m t says h).made counted (c.step.invariant.fits known s m t says tells h)
-
-pub returns-in-None-clause-fits : goal.returns-in-None-clause-fits
-returns-in-None-clause-fits g c = λ known s m t says tells h steps counted.
-    counted_fits (length c.args.machine.now.cpu.core) c.step._made steps c.args.machine.now.tasks.made c.step.machine.tasks.made s (c.step.invariant.going known s m t says h).made counted (c.step.invariant.fits known s m t says tells h)
-
-pub returns-in-Ok-Over-clause-fits : goal.returns-in-Ok-Over-clause-fits
-returns-in-Ok-Over-clause-fits g c = λ known s m t says tells h steps counted.
-    let first = c.args.machine.now.tasks.made in
-    let last = c.step-in-step.new.machine.tasks.made in
-    let going = c.step.invariant.going known s m t says h in
-    let now = retold known (g.B.Backing.holds c.step.backing) in
-    let still = still_told g.B.Backing.holds g.B.Backing.size g.B.Backing.calls g.B.Backing.faults c.args.backing.now c.step.backing known says c.step.invariant.device in
-    let made = (c.in-Ok-Over.ensures.row now going.session going.member going.task (says_retold known (g.B.Backing.holds c.step.backing)) going.lone).made in
-    let all : last ≡ first + (c.step._made + 1) = omega (arith, made, going.made) in
-    counted_fits (length c.args.machine.now.cpu.core) (c.step._made + 1) steps first last s all counted
-    (fits_more (length c.args.machine.now.cpu.core) (length c.step.machine.cpu.core) c.step._made s going.session c.step.invariant.len (going.leads tells).session (c.step.invariant.fits known s m t says tells h)
-    (c.in-Ok-Over.ensures.fits now going.session going.member going.task (says_retold known (g.B.Backing.holds c.step.backing)) (known_still known (g.B.Backing.holds c.step.backing) still tells) going.lone))
+pub returns-in-Err-clause-resumed : goal.returns-in-Err-clause-resumed
+returns-in-Err-clause-resumed g c = λ known h m t says l.
+    (resumes_more g.K.Sink.taken known h m t c.args.machine.now c.end_by_limit.new.machine c.args.paper.now c.end_by_limit.new.paper l c.in-Err.stop c.in-Err.ensures.ends, refl)
 
 pub returns-in-Err-clause-fits : goal.returns-in-Err-clause-fits
-returns-in-Err-clause-fits g c = λ known s m t says tells h steps counted.
-    let first = c.args.machine.now.tasks.made in
-    let last = c.step-in-step.new.machine.tasks.made in
-    let going = c.step.invariant.going known s m t says h in
-    let now = retold known (g.B.Backing.holds c.step.backing) in
-    let made = (c.in-Err.ensures.row now going.session going.member going.task (says_retold known (g.B.Backing.holds c.step.backing)) going.lone).made in
-    let all : last ≡ first + c.step._made = omega (arith, made, going.made) in
-    counted_fits (length c.args.machine.now.cpu.core) c.step._made steps first last s all counted (c.step.invariant.fits known s m t says tells h)
+returns-in-Err-clause-fits g c = λ known s m t says tells h. absurd (lone_not known c.args.machine.now s m t h c.if-not-is_at_limit.ensures)
+
+pub returns-in-Err-clause-device : goal.returns-in-Err-clause-device
+returns-in-Err-clause-device g c = Served-none g.B.Backing.holds g.B.Backing.size g.B.Backing.calls g.B.Backing.faults c.args.backing.now
+
+pub returns-in-Err-clause-unprinted : goal.returns-in-Err-clause-unprinted
+returns-in-Err-clause-unprinted g c = λ fine zero.
+    stops_printing g.K.Sink.taken c.args.machine.now c.end_by_limit.new.machine c.args.paper.now c.end_by_limit.new.paper c.in-Err.stop c.in-Err.ensures.ends (λ e. fine (ap (λ (x : Stop). Err x) e))

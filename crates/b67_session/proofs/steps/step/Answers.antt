@@ -1,10 +1,13 @@
-use Rattle.std.proofs.Common.{length, Ok, Err, sym, subst}
+use Rattle.std.proofs.Common.{◌≡◌, ◌≢◌, ℕ, length, Result, Ok, Err, sym, ap, ◌∙◌, subst, inl, inr}
 use Rattle.b67_storage.specs.Machine.{retold}
 use Rattle.b67_task.specs.declared.tables.Tasks.{Tasks}
-use Rattle.b67_intrinsics.specs.Called.{AreCountable}
+use Rattle.b67_attempt.specs.Passed.{AreCountable}
+use Rattle.b67_attempt.specs.Stops.{Stop}
+use Rattle.b67_attempt.specs.declared.attempts.Attempt.{Attempt}
 use Rattle.b67_attempt.specs.declared.attempts.Attempt.TheVariants as attempts
-use Rattle.b67_session.proofs.Turned.{Attempted, chooses_one, has_row, turned, over, runs_over, attempted}
-use Rattle.b67_session.proofs.Stepping.{made_room, made_one, made_steps, made_steps_over, ends_room, ends_one, ends_steps, ends_steps_over, stop_steps}
+use Rattle.b67_session.proofs.Turned.{Attempted, chooses_one, has_row, turned, over, runs_over, attempted_here, quiet_here}
+use Rattle.b67_session.proofs.Stepping.{made_room, has_one, made_steps, ends_room, ends_one, ends_steps, stop_steps}
+use Rattle.b67_session.proofs.Tabled.{advanced_unprinted, stop_printed, stop_made, ended_printed}
 use Rattle.b67_session.proofs.Fitting.{turned_fits, device_told}
 use Rattle.b67_session.proofs.steps.step.Goals as goal
 
@@ -13,8 +16,8 @@ returns-in-None-clause-row g c = λ known s m t says h.
     let k = c.args.machine.now in
     absurd (chooses_one known k s m t h (c.in-None.ensures.choice h.plan s h.ordered h.stands.tables))
 
-pub returns-in-None-clause-over : goal.returns-in-None-clause-over
-returns-in-None-clause-over g c = λ known s m t says h e.
+pub returns-in-None-clause-fits : goal.returns-in-None-clause-fits
+returns-in-None-clause-fits g c = λ known s m t says tells h.
     let k = c.args.machine.now in
     absurd (chooses_one known k s m t h (c.in-None.ensures.choice h.plan s h.ordered h.stands.tables))
 
@@ -38,132 +41,96 @@ attempt-requires-clause-countable g c = subst (λ (z : Tasks). AreCountable z.jo
 pub advance-requires-clause-room : goal.advance-requires-clause-room
 advance-requires-clause-room g c =
     let l = c.requires.lives in
-    let known = l.known in
-    let s = l.session in
-    let m = l.member in
-    let t = l.task in
     let h = l.lone in
-    let k = c.args.machine.now in
-    let after = c.give_turn.new.machine in
-    let r = turned known k s m t h c.in-Some.chosen (c.in-Some.ensures.choice h.plan s h.ordered h.stands.tables) after c.give_turn.ensures.stands (c.in-Some.ensures.room h.plan s h.ordered h.stands.tables) in
-    let a : Attempted g.K.Sink.taken known (retold known (g.B.Backing.holds c.attempt.new.backing)) (length after.cpu.core) (g.B.Backing.size c.args.backing.now) s c.in-Some.chosen (Ok (attempts.Made)) c.attempt.new.machine c.args.paper.now c.attempt.new.paper = rw c.in-Ok-Made.field-0-is at (attempted g.K.Sink.taken known (g.B.Backing.holds c.attempt.new.backing) (length after.cpu.core) (g.B.Backing.size c.args.backing.now) s m t c.in-Some.chosen (Ok c.in-Ok-Made.field-0) after c.attempt.new.machine c.args.paper.now c.attempt.new.paper r
-    (c.in-Ok-Made.ensures.row r.storage r.plan s m t r.ordered (over r.storage known (g.B.Backing.holds c.args.backing.now) after r.plan s l.says r.stands) r.running r.single.ready)) in
-    made_room g.K.Sink.taken known (retold known (g.B.Backing.holds c.attempt.new.backing)) (length after.cpu.core) (g.B.Backing.size c.args.backing.now) s c.in-Some.chosen c.attempt.new.machine c.args.paper.now c.attempt.new.paper a
+    let a : Attempted g.K.Sink.taken l.known (retold l.known (g.B.Backing.holds c.attempt.new.backing)) (length c.give_turn.new.machine.cpu.core) (g.B.Backing.size c.args.backing.now) c.give_turn.new.machine.tasks.printed l.session c.in-Some.chosen (Ok (attempts.Made)) c.attempt.new.machine c.args.paper.now c.attempt.new.paper = rw c.in-Ok-Made.field-0-is at
+    (attempted_here g.K.Sink.taken l.known (g.B.Backing.holds c.args.backing.now) (g.B.Backing.holds c.attempt.new.backing) (length c.give_turn.new.machine.cpu.core) (g.B.Backing.size c.args.backing.now) c.args.machine.now c.give_turn.new.machine c.attempt.new.machine l.session l.member l.task h c.in-Some.chosen (c.in-Some.ensures.choice h.plan l.session h.ordered h.stands.tables) c.give_turn.ensures.stands (c.in-Some.ensures.room h.plan l.session h.ordered h.stands.tables) l.says (Ok c.in-Ok-Made.field-0) c.args.paper.now c.attempt.new.paper c.in-Ok-Made.ensures.row) in
+    made_room g.K.Sink.taken l.known (retold l.known (g.B.Backing.holds c.attempt.new.backing)) (length c.give_turn.new.machine.cpu.core) (g.B.Backing.size c.args.backing.now) c.give_turn.new.machine.tasks.printed l.session c.in-Some.chosen c.attempt.new.machine c.args.paper.now c.attempt.new.paper a
 
 pub advance-requires-clause-one : goal.advance-requires-clause-one
 advance-requires-clause-one g c =
     let l = c.requires.lives in
-    let known = l.known in
-    let s = l.session in
-    let m = l.member in
-    let t = l.task in
     let h = l.lone in
-    let k = c.args.machine.now in
-    let after = c.give_turn.new.machine in
-    let r = turned known k s m t h c.in-Some.chosen (c.in-Some.ensures.choice h.plan s h.ordered h.stands.tables) after c.give_turn.ensures.stands (c.in-Some.ensures.room h.plan s h.ordered h.stands.tables) in
-    let a : Attempted g.K.Sink.taken known (retold known (g.B.Backing.holds c.attempt.new.backing)) (length after.cpu.core) (g.B.Backing.size c.args.backing.now) s c.in-Some.chosen (Ok (attempts.Made)) c.attempt.new.machine c.args.paper.now c.attempt.new.paper = rw c.in-Ok-Made.field-0-is at (attempted g.K.Sink.taken known (g.B.Backing.holds c.attempt.new.backing) (length after.cpu.core) (g.B.Backing.size c.args.backing.now) s m t c.in-Some.chosen (Ok c.in-Ok-Made.field-0) after c.attempt.new.machine c.args.paper.now c.attempt.new.paper r
-    (c.in-Ok-Made.ensures.row r.storage r.plan s m t r.ordered (over r.storage known (g.B.Backing.holds c.args.backing.now) after r.plan s l.says r.stands) r.running r.single.ready)) in
-    made_one g.K.Sink.taken known (retold known (g.B.Backing.holds c.attempt.new.backing)) (length after.cpu.core) (g.B.Backing.size c.args.backing.now) s c.in-Some.chosen c.attempt.new.machine c.args.paper.now c.attempt.new.paper a
+    let a : Attempted g.K.Sink.taken l.known (retold l.known (g.B.Backing.holds c.attempt.new.backing)) (length c.give_turn.new.machine.cpu.core) (g.B.Backing.size c.args.backing.now) c.give_turn.new.machine.tasks.printed l.session c.in-Some.chosen (Ok (attempts.Made)) c.attempt.new.machine c.args.paper.now c.attempt.new.paper = rw c.in-Ok-Made.field-0-is at
+    (attempted_here g.K.Sink.taken l.known (g.B.Backing.holds c.args.backing.now) (g.B.Backing.holds c.attempt.new.backing) (length c.give_turn.new.machine.cpu.core) (g.B.Backing.size c.args.backing.now) c.args.machine.now c.give_turn.new.machine c.attempt.new.machine l.session l.member l.task h c.in-Some.chosen (c.in-Some.ensures.choice h.plan l.session h.ordered h.stands.tables) c.give_turn.ensures.stands (c.in-Some.ensures.room h.plan l.session h.ordered h.stands.tables) l.says (Ok c.in-Ok-Made.field-0) c.args.paper.now c.attempt.new.paper c.in-Ok-Made.ensures.row) in
+    has_one g.K.Sink.taken l.known (retold l.known (g.B.Backing.holds c.attempt.new.backing)) (length c.give_turn.new.machine.cpu.core) (g.B.Backing.size c.args.backing.now) c.give_turn.new.machine.tasks.printed l.session c.in-Some.chosen c.attempt.new.machine c.args.paper.now c.attempt.new.paper a
 
 pub close-requires-clause-room : goal.close-requires-clause-room
 close-requires-clause-room g c =
     let l = c.requires.lives in
-    let known = l.known in
-    let s = l.session in
-    let m = l.member in
-    let t = l.task in
     let h = l.lone in
-    let k = c.args.machine.now in
-    let after = c.give_turn.new.machine in
-    let r = turned known k s m t h c.in-Some.chosen (c.in-Some.ensures.choice h.plan s h.ordered h.stands.tables) after c.give_turn.ensures.stands (c.in-Some.ensures.room h.plan s h.ordered h.stands.tables) in
-    let a : Attempted g.K.Sink.taken known (retold known (g.B.Backing.holds c.attempt.new.backing)) (length after.cpu.core) (g.B.Backing.size c.args.backing.now) s c.in-Some.chosen (Ok (attempts.Ends c.in-Ok-Ends.ending)) c.attempt.new.machine c.args.paper.now c.attempt.new.paper = rw c.in-Ok-Ends.field-0-is at (attempted g.K.Sink.taken known (g.B.Backing.holds c.attempt.new.backing) (length after.cpu.core) (g.B.Backing.size c.args.backing.now) s m t c.in-Some.chosen (Ok c.in-Ok-Ends.field-0) after c.attempt.new.machine c.args.paper.now c.attempt.new.paper r
-    (c.in-Ok-Ends.ensures.row r.storage r.plan s m t r.ordered (over r.storage known (g.B.Backing.holds c.args.backing.now) after r.plan s l.says r.stands) r.running r.single.ready)) in
-    ends_room g.K.Sink.taken known (retold known (g.B.Backing.holds c.attempt.new.backing)) (length after.cpu.core) (g.B.Backing.size c.args.backing.now) s c.in-Some.chosen c.attempt.new.machine c.args.paper.now c.attempt.new.paper c.in-Ok-Ends.ending a
+    let a : Attempted g.K.Sink.taken l.known (retold l.known (g.B.Backing.holds c.attempt.new.backing)) (length c.give_turn.new.machine.cpu.core) (g.B.Backing.size c.args.backing.now) c.give_turn.new.machine.tasks.printed l.session c.in-Some.chosen (Ok (attempts.Ends c.in-Ok-Ends.ending)) c.attempt.new.machine c.args.paper.now c.attempt.new.paper = rw c.in-Ok-Ends.field-0-is at
+    (attempted_here g.K.Sink.taken l.known (g.B.Backing.holds c.args.backing.now) (g.B.Backing.holds c.attempt.new.backing) (length c.give_turn.new.machine.cpu.core) (g.B.Backing.size c.args.backing.now) c.args.machine.now c.give_turn.new.machine c.attempt.new.machine l.session l.member l.task h c.in-Some.chosen (c.in-Some.ensures.choice h.plan l.session h.ordered h.stands.tables) c.give_turn.ensures.stands (c.in-Some.ensures.room h.plan l.session h.ordered h.stands.tables) l.says (Ok c.in-Ok-Ends.field-0) c.args.paper.now c.attempt.new.paper c.in-Ok-Ends.ensures.row) in
+    ends_room g.K.Sink.taken l.known (retold l.known (g.B.Backing.holds c.attempt.new.backing)) (length c.give_turn.new.machine.cpu.core) (g.B.Backing.size c.args.backing.now) c.give_turn.new.machine.tasks.printed l.session c.in-Some.chosen c.attempt.new.machine c.args.paper.now c.attempt.new.paper c.in-Ok-Ends.ending a
 
 pub close-requires-clause-one : goal.close-requires-clause-one
 close-requires-clause-one g c =
     let l = c.requires.lives in
-    let known = l.known in
-    let s = l.session in
-    let m = l.member in
-    let t = l.task in
     let h = l.lone in
-    let k = c.args.machine.now in
-    let after = c.give_turn.new.machine in
-    let r = turned known k s m t h c.in-Some.chosen (c.in-Some.ensures.choice h.plan s h.ordered h.stands.tables) after c.give_turn.ensures.stands (c.in-Some.ensures.room h.plan s h.ordered h.stands.tables) in
-    let a : Attempted g.K.Sink.taken known (retold known (g.B.Backing.holds c.attempt.new.backing)) (length after.cpu.core) (g.B.Backing.size c.args.backing.now) s c.in-Some.chosen (Ok (attempts.Ends c.in-Ok-Ends.ending)) c.attempt.new.machine c.args.paper.now c.attempt.new.paper = rw c.in-Ok-Ends.field-0-is at (attempted g.K.Sink.taken known (g.B.Backing.holds c.attempt.new.backing) (length after.cpu.core) (g.B.Backing.size c.args.backing.now) s m t c.in-Some.chosen (Ok c.in-Ok-Ends.field-0) after c.attempt.new.machine c.args.paper.now c.attempt.new.paper r
-    (c.in-Ok-Ends.ensures.row r.storage r.plan s m t r.ordered (over r.storage known (g.B.Backing.holds c.args.backing.now) after r.plan s l.says r.stands) r.running r.single.ready)) in
-    ends_one g.K.Sink.taken known (retold known (g.B.Backing.holds c.attempt.new.backing)) (length after.cpu.core) (g.B.Backing.size c.args.backing.now) s c.in-Some.chosen c.attempt.new.machine c.args.paper.now c.attempt.new.paper c.in-Ok-Ends.ending a
+    let a : Attempted g.K.Sink.taken l.known (retold l.known (g.B.Backing.holds c.attempt.new.backing)) (length c.give_turn.new.machine.cpu.core) (g.B.Backing.size c.args.backing.now) c.give_turn.new.machine.tasks.printed l.session c.in-Some.chosen (Ok (attempts.Ends c.in-Ok-Ends.ending)) c.attempt.new.machine c.args.paper.now c.attempt.new.paper = rw c.in-Ok-Ends.field-0-is at
+    (attempted_here g.K.Sink.taken l.known (g.B.Backing.holds c.args.backing.now) (g.B.Backing.holds c.attempt.new.backing) (length c.give_turn.new.machine.cpu.core) (g.B.Backing.size c.args.backing.now) c.args.machine.now c.give_turn.new.machine c.attempt.new.machine l.session l.member l.task h c.in-Some.chosen (c.in-Some.ensures.choice h.plan l.session h.ordered h.stands.tables) c.give_turn.ensures.stands (c.in-Some.ensures.room h.plan l.session h.ordered h.stands.tables) l.says (Ok c.in-Ok-Ends.field-0) c.args.paper.now c.attempt.new.paper c.in-Ok-Ends.ensures.row) in
+    ends_one g.K.Sink.taken l.known (retold l.known (g.B.Backing.holds c.attempt.new.backing)) (length c.give_turn.new.machine.cpu.core) (g.B.Backing.size c.args.backing.now) c.give_turn.new.machine.tasks.printed l.session c.in-Some.chosen c.attempt.new.machine c.args.paper.now c.attempt.new.paper c.in-Ok-Ends.ending a
 
 pub returns-in-Ok-Made-clause-row : goal.returns-in-Ok-Made-clause-row
 returns-in-Ok-Made-clause-row g c = λ known s m t says h.
-    let k = c.args.machine.now in
-    let after = c.give_turn.new.machine in
-    let r = turned known k s m t h c.in-Some.chosen (c.in-Some.ensures.choice h.plan s h.ordered h.stands.tables) after c.give_turn.ensures.stands (c.in-Some.ensures.room h.plan s h.ordered h.stands.tables) in
-    let a : Attempted g.K.Sink.taken known (retold known (g.B.Backing.holds c.attempt.new.backing)) (length after.cpu.core) (g.B.Backing.size c.args.backing.now) s c.in-Some.chosen (Ok (attempts.Made)) c.attempt.new.machine c.args.paper.now c.attempt.new.paper = rw c.in-Ok-Made.field-0-is at (attempted g.K.Sink.taken known (g.B.Backing.holds c.attempt.new.backing) (length after.cpu.core) (g.B.Backing.size c.args.backing.now) s m t c.in-Some.chosen (Ok c.in-Ok-Made.field-0) after c.attempt.new.machine c.args.paper.now c.attempt.new.paper r
-    (c.in-Ok-Made.ensures.row r.storage r.plan s m t r.ordered (over r.storage known (g.B.Backing.holds c.args.backing.now) after r.plan s says r.stands) r.running r.single.ready)) in
-    made_steps g.K.Sink.taken known (retold known (g.B.Backing.holds c.attempt.new.backing)) (length after.cpu.core) (g.B.Backing.size c.args.backing.now) s c.in-Some.chosen c.attempt.new.machine c.args.paper.now c.attempt.new.paper a c.advance.result k c.advance.new.machine c.advance.new.paper h.stands.tables.counts.made (sym c.give_turn.ensures.len) c.advance.ensures.advances
+    let a : Attempted g.K.Sink.taken known (retold known (g.B.Backing.holds c.attempt.new.backing)) (length c.give_turn.new.machine.cpu.core) (g.B.Backing.size c.args.backing.now) c.give_turn.new.machine.tasks.printed s c.in-Some.chosen (Ok (attempts.Made)) c.attempt.new.machine c.args.paper.now c.attempt.new.paper = rw c.in-Ok-Made.field-0-is at
+    (attempted_here g.K.Sink.taken known (g.B.Backing.holds c.args.backing.now) (g.B.Backing.holds c.attempt.new.backing) (length c.give_turn.new.machine.cpu.core) (g.B.Backing.size c.args.backing.now) c.args.machine.now c.give_turn.new.machine c.attempt.new.machine s m t h c.in-Some.chosen (c.in-Some.ensures.choice h.plan s h.ordered h.stands.tables) c.give_turn.ensures.stands (c.in-Some.ensures.room h.plan s h.ordered h.stands.tables) says (Ok c.in-Ok-Made.field-0) c.args.paper.now c.attempt.new.paper c.in-Ok-Made.ensures.row) in
+    made_steps g.K.Sink.taken known (retold known (g.B.Backing.holds c.attempt.new.backing)) (length c.give_turn.new.machine.cpu.core) (g.B.Backing.size c.args.backing.now) c.give_turn.new.machine.tasks.printed s c.in-Some.chosen c.attempt.new.machine c.args.paper.now c.attempt.new.paper a c.advance.result c.args.machine.now c.advance.new.machine c.advance.new.paper h.stands.tables.counts.made (sym (ap (λ (z : Tasks). z.printed) c.give_turn.ensures.tables)) (sym c.give_turn.ensures.len) c.advance.ensures.advances
 
-pub returns-in-Ok-Made-clause-over : goal.returns-in-Ok-Made-clause-over
-returns-in-Ok-Made-clause-over g c = λ known s m t says h e.
-    let k = c.args.machine.now in
-    let after = c.give_turn.new.machine in
-    let r = turned known k s m t h c.in-Some.chosen (c.in-Some.ensures.choice h.plan s h.ordered h.stands.tables) after c.give_turn.ensures.stands (c.in-Some.ensures.room h.plan s h.ordered h.stands.tables) in
-    let a : Attempted g.K.Sink.taken known (retold known (g.B.Backing.holds c.attempt.new.backing)) (length after.cpu.core) (g.B.Backing.size c.args.backing.now) s c.in-Some.chosen (Ok (attempts.Made)) c.attempt.new.machine c.args.paper.now c.attempt.new.paper = rw c.in-Ok-Made.field-0-is at (attempted g.K.Sink.taken known (g.B.Backing.holds c.attempt.new.backing) (length after.cpu.core) (g.B.Backing.size c.args.backing.now) s m t c.in-Some.chosen (Ok c.in-Ok-Made.field-0) after c.attempt.new.machine c.args.paper.now c.attempt.new.paper r
-    (c.in-Ok-Made.ensures.row r.storage r.plan s m t r.ordered (over r.storage known (g.B.Backing.holds c.args.backing.now) after r.plan s says r.stands) r.running r.single.ready)) in
-    made_steps_over g.K.Sink.taken known (retold known (g.B.Backing.holds c.attempt.new.backing)) (length after.cpu.core) (g.B.Backing.size c.args.backing.now) s c.in-Some.chosen c.attempt.new.machine c.args.paper.now c.attempt.new.paper a c.advance.result c.advance.new.machine c.advance.new.paper e c.advance.ensures.advances c.advance.ensures.over
+pub returns-in-Ok-Made-clause-quiet : goal.returns-in-Ok-Made-clause-quiet
+returns-in-Ok-Made-clause-quiet g c = λ known s m t h says wants.
+    quiet_here g.K.Sink.taken known (g.B.Backing.holds c.args.backing.now) (g.B.Backing.holds c.attempt.new.backing) (length c.give_turn.new.machine.cpu.core) (g.B.Backing.size c.args.backing.now) c.args.machine.now c.give_turn.new.machine c.attempt.new.machine s m t h c.in-Some.chosen (c.in-Some.ensures.choice h.plan s h.ordered h.stands.tables) c.give_turn.ensures.stands says c.attempt.ensures.quiet wants
 
-pub returns-in-Ok-Made-clause-countable : goal.returns-in-Ok-Made-clause-countable
-returns-in-Ok-Made-clause-countable g c = c.advance.ensures.countable c.attempt.ensures.countable
-
-pub returns-in-Ok-Ends-clause-row : goal.returns-in-Ok-Ends-clause-row
-returns-in-Ok-Ends-clause-row g c = λ known s m t says h.
-    let k = c.args.machine.now in
-    let after = c.give_turn.new.machine in
-    let r = turned known k s m t h c.in-Some.chosen (c.in-Some.ensures.choice h.plan s h.ordered h.stands.tables) after c.give_turn.ensures.stands (c.in-Some.ensures.room h.plan s h.ordered h.stands.tables) in
-    let a : Attempted g.K.Sink.taken known (retold known (g.B.Backing.holds c.attempt.new.backing)) (length after.cpu.core) (g.B.Backing.size c.args.backing.now) s c.in-Some.chosen (Ok (attempts.Ends c.in-Ok-Ends.ending)) c.attempt.new.machine c.args.paper.now c.attempt.new.paper = rw c.in-Ok-Ends.field-0-is at (attempted g.K.Sink.taken known (g.B.Backing.holds c.attempt.new.backing) (length after.cpu.core) (g.B.Backing.size c.args.backing.now) s m t c.in-Some.chosen (Ok c.in-Ok-Ends.field-0) after c.attempt.new.machine c.args.paper.now c.attempt.new.paper r
-    (c.in-Ok-Ends.ensures.row r.storage r.plan s m t r.ordered (over r.storage known (g.B.Backing.holds c.args.backing.now) after r.plan s says r.stands) r.running r.single.ready)) in
-    ends_steps g.K.Sink.taken known (retold known (g.B.Backing.holds c.attempt.new.backing)) (length after.cpu.core) (g.B.Backing.size c.args.backing.now) s c.in-Some.chosen c.attempt.new.machine c.args.paper.now c.attempt.new.paper c.in-Ok-Ends.ending a c.close.result k c.close.new.machine c.close.new.paper h.stands.tables.counts.made (sym c.give_turn.ensures.len) c.close.ensures.closes
-
-pub returns-in-Ok-Ends-clause-over : goal.returns-in-Ok-Ends-clause-over
-returns-in-Ok-Ends-clause-over g c = λ known s m t says h e.
-    let k = c.args.machine.now in
-    let after = c.give_turn.new.machine in
-    let r = turned known k s m t h c.in-Some.chosen (c.in-Some.ensures.choice h.plan s h.ordered h.stands.tables) after c.give_turn.ensures.stands (c.in-Some.ensures.room h.plan s h.ordered h.stands.tables) in
-    let a : Attempted g.K.Sink.taken known (retold known (g.B.Backing.holds c.attempt.new.backing)) (length after.cpu.core) (g.B.Backing.size c.args.backing.now) s c.in-Some.chosen (Ok (attempts.Ends c.in-Ok-Ends.ending)) c.attempt.new.machine c.args.paper.now c.attempt.new.paper = rw c.in-Ok-Ends.field-0-is at (attempted g.K.Sink.taken known (g.B.Backing.holds c.attempt.new.backing) (length after.cpu.core) (g.B.Backing.size c.args.backing.now) s m t c.in-Some.chosen (Ok c.in-Ok-Ends.field-0) after c.attempt.new.machine c.args.paper.now c.attempt.new.paper r
-    (c.in-Ok-Ends.ensures.row r.storage r.plan s m t r.ordered (over r.storage known (g.B.Backing.holds c.args.backing.now) after r.plan s says r.stands) r.running r.single.ready)) in
-    ends_steps_over g.K.Sink.taken known (retold known (g.B.Backing.holds c.attempt.new.backing)) (length after.cpu.core) (g.B.Backing.size c.args.backing.now) s c.in-Some.chosen c.attempt.new.machine c.args.paper.now c.attempt.new.paper c.in-Ok-Ends.ending a c.close.result c.close.new.machine e c.close.ensures.over
-
-pub returns-in-Ok-Ends-clause-countable : goal.returns-in-Ok-Ends-clause-countable
-returns-in-Ok-Ends-clause-countable g c = c.close.ensures.countable c.attempt.ensures.countable
-
-pub returns-in-Err-clause-row : goal.returns-in-Err-clause-row
-returns-in-Err-clause-row g c = λ known s m t says h.
-    let k = c.args.machine.now in
-    let after = c.give_turn.new.machine in
-    let r = turned known k s m t h c.in-Some.chosen (c.in-Some.ensures.choice h.plan s h.ordered h.stands.tables) after c.give_turn.ensures.stands (c.in-Some.ensures.room h.plan s h.ordered h.stands.tables) in
-    stop_steps g.K.Sink.taken known (retold known (g.B.Backing.holds c.attempt.new.backing)) (length after.cpu.core) (g.B.Backing.size c.args.backing.now) s c.in-Some.chosen c.attempt.new.machine c.args.paper.now c.attempt.new.paper c.in-Err.stop
-    (attempted g.K.Sink.taken known (g.B.Backing.holds c.attempt.new.backing) (length after.cpu.core) (g.B.Backing.size c.args.backing.now) s m t c.in-Some.chosen (Err c.in-Err.stop) after c.attempt.new.machine c.args.paper.now c.attempt.new.paper r
-    (c.in-Err.ensures.row r.storage r.plan s m t r.ordered (over r.storage known (g.B.Backing.holds c.args.backing.now) after r.plan s says r.stands) r.running r.single.ready))
-    k h.stands.tables.counts.made (sym c.give_turn.ensures.len)
-
-pub returns-in-None-clause-fits : goal.returns-in-None-clause-fits
-returns-in-None-clause-fits g c = λ known s m t says tells h.
-    let k = c.args.machine.now in
-    absurd (chooses_one known k s m t h (c.in-None.ensures.choice h.plan s h.ordered h.stands.tables))
+pub returns-in-Ok-Made-clause-unprinted : goal.returns-in-Ok-Made-clause-unprinted
+returns-in-Ok-Made-clause-unprinted g c = λ fine zero. advanced_unprinted g.K.Sink.taken c.in-Some.chosen c.advance.result c.attempt.new.machine c.advance.new.machine c.attempt.new.paper c.advance.new.paper c.advance.ensures.advances fine
 
 pub returns-in-Ok-Made-clause-fits : goal.returns-in-Ok-Made-clause-fits
 returns-in-Ok-Made-clause-fits g c = λ known s m t says tells h.
     let k = c.args.machine.now in
     let after = c.give_turn.new.machine in
     let r = turned known k s m t h c.in-Some.chosen (c.in-Some.ensures.choice h.plan s h.ordered h.stands.tables) after c.give_turn.ensures.stands (c.in-Some.ensures.room h.plan s h.ordered h.stands.tables) in
-    turned_fits known k after s m t c.in-Some.chosen r c.give_turn.ensures.len
-    (c.in-Ok-Made.ensures.fits r.storage r.plan s m t r.ordered (over r.storage known (g.B.Backing.holds c.args.backing.now) after r.plan s says r.stands) r.running r.single.ready (device_told known after s m t c.in-Some.chosen r tells)) c.advance.result
+    inr (turned_fits known k after s m t c.in-Some.chosen r c.give_turn.ensures.len
+    (c.in-Ok-Made.ensures.fits r.storage r.plan s m t r.ordered (over r.storage known (g.B.Backing.holds c.args.backing.now) after r.plan s says r.stands) r.running r.single.ready (device_told known after s m t c.in-Some.chosen r tells)))
+
+pub returns-in-Ok-Made-clause-countable : goal.returns-in-Ok-Made-clause-countable
+returns-in-Ok-Made-clause-countable g c = c.advance.ensures.countable c.attempt.ensures.countable
+
+pub returns-in-Ok-Ends-clause-row : goal.returns-in-Ok-Ends-clause-row
+returns-in-Ok-Ends-clause-row g c = λ known s m t says h.
+    let a : Attempted g.K.Sink.taken known (retold known (g.B.Backing.holds c.attempt.new.backing)) (length c.give_turn.new.machine.cpu.core) (g.B.Backing.size c.args.backing.now) c.give_turn.new.machine.tasks.printed s c.in-Some.chosen (Ok (attempts.Ends c.in-Ok-Ends.ending)) c.attempt.new.machine c.args.paper.now c.attempt.new.paper = rw c.in-Ok-Ends.field-0-is at
+    (attempted_here g.K.Sink.taken known (g.B.Backing.holds c.args.backing.now) (g.B.Backing.holds c.attempt.new.backing) (length c.give_turn.new.machine.cpu.core) (g.B.Backing.size c.args.backing.now) c.args.machine.now c.give_turn.new.machine c.attempt.new.machine s m t h c.in-Some.chosen (c.in-Some.ensures.choice h.plan s h.ordered h.stands.tables) c.give_turn.ensures.stands (c.in-Some.ensures.room h.plan s h.ordered h.stands.tables) says (Ok c.in-Ok-Ends.field-0) c.args.paper.now c.attempt.new.paper c.in-Ok-Ends.ensures.row) in
+    let printed = ap (λ (z : Tasks). z.printed) c.give_turn.ensures.tables in
+    ends_steps g.K.Sink.taken known (retold known (g.B.Backing.holds c.attempt.new.backing)) (length c.give_turn.new.machine.cpu.core) (g.B.Backing.size c.args.backing.now) c.give_turn.new.machine.tasks.printed s c.in-Some.chosen c.attempt.new.machine c.args.paper.now c.attempt.new.paper c.in-Ok-Ends.ending a c.close.result c.args.machine.now c.close.new.machine c.close.new.paper h.stands.tables.counts.made (sym printed) (ended_printed c.in-Ok-Ends.ending c.give_turn.new.machine.tasks c.attempt.new.machine.tasks (rw c.in-Ok-Ends.field-0-is at c.in-Ok-Ends.ensures.tables)) (sym c.give_turn.ensures.len) c.close.ensures.closes c.close.ensures.over
+
+pub returns-in-Ok-Ends-clause-quiet : goal.returns-in-Ok-Ends-clause-quiet
+returns-in-Ok-Ends-clause-quiet g c = λ known s m t h says wants.
+    quiet_here g.K.Sink.taken known (g.B.Backing.holds c.args.backing.now) (g.B.Backing.holds c.attempt.new.backing) (length c.give_turn.new.machine.cpu.core) (g.B.Backing.size c.args.backing.now) c.args.machine.now c.give_turn.new.machine c.attempt.new.machine s m t h c.in-Some.chosen (c.in-Some.ensures.choice h.plan s h.ordered h.stands.tables) c.give_turn.ensures.stands says c.attempt.ensures.quiet wants
 
 pub returns-in-Ok-Ends-clause-fits : goal.returns-in-Ok-Ends-clause-fits
 returns-in-Ok-Ends-clause-fits g c = λ known s m t says tells h.
     let k = c.args.machine.now in
     let after = c.give_turn.new.machine in
     let r = turned known k s m t h c.in-Some.chosen (c.in-Some.ensures.choice h.plan s h.ordered h.stands.tables) after c.give_turn.ensures.stands (c.in-Some.ensures.room h.plan s h.ordered h.stands.tables) in
-    turned_fits known k after s m t c.in-Some.chosen r c.give_turn.ensures.len
-    (c.in-Ok-Ends.ensures.fits r.storage r.plan s m t r.ordered (over r.storage known (g.B.Backing.holds c.args.backing.now) after r.plan s says r.stands) r.running r.single.ready (device_told known after s m t c.in-Some.chosen r tells)) c.close.result
+    inr (turned_fits known k after s m t c.in-Some.chosen r c.give_turn.ensures.len
+    (c.in-Ok-Ends.ensures.fits r.storage r.plan s m t r.ordered (over r.storage known (g.B.Backing.holds c.args.backing.now) after r.plan s says r.stands) r.running r.single.ready (device_told known after s m t c.in-Some.chosen r tells)))
+
+pub returns-in-Ok-Ends-clause-countable : goal.returns-in-Ok-Ends-clause-countable
+returns-in-Ok-Ends-clause-countable g c = c.close.ensures.countable c.attempt.ensures.countable
+
+pub returns-in-Err-clause-row : goal.returns-in-Err-clause-row
+returns-in-Err-clause-row g c = λ known s m t says h.
+    let a : Attempted g.K.Sink.taken known (retold known (g.B.Backing.holds c.attempt.new.backing)) (length c.give_turn.new.machine.cpu.core) (g.B.Backing.size c.args.backing.now) c.give_turn.new.machine.tasks.printed s c.in-Some.chosen (Err c.in-Err.stop) c.attempt.new.machine c.args.paper.now c.attempt.new.paper =
+    attempted_here g.K.Sink.taken known (g.B.Backing.holds c.args.backing.now) (g.B.Backing.holds c.attempt.new.backing) (length c.give_turn.new.machine.cpu.core) (g.B.Backing.size c.args.backing.now) c.args.machine.now c.give_turn.new.machine c.attempt.new.machine s m t h c.in-Some.chosen (c.in-Some.ensures.choice h.plan s h.ordered h.stands.tables) c.give_turn.ensures.stands (c.in-Some.ensures.room h.plan s h.ordered h.stands.tables) says (Err c.in-Err.stop) c.args.paper.now c.attempt.new.paper c.in-Err.ensures.row in
+    let printed = ap (λ (z : Tasks). z.printed) c.give_turn.ensures.tables in
+    stop_steps g.K.Sink.taken known (retold known (g.B.Backing.holds c.attempt.new.backing)) (length c.give_turn.new.machine.cpu.core) (g.B.Backing.size c.args.backing.now) c.give_turn.new.machine.tasks.printed s c.in-Some.chosen c.attempt.new.machine c.args.paper.now c.attempt.new.paper c.in-Err.stop a c.args.machine.now h.stands.tables.counts.made (sym printed) (sym c.give_turn.ensures.len) (λ other. stop_printed c.in-Err.stop c.give_turn.new.machine.tasks c.attempt.new.machine.tasks c.in-Err.ensures.tables other ∙ printed)
+
+pub returns-in-Err-clause-quiet : goal.returns-in-Err-clause-quiet
+returns-in-Err-clause-quiet g c = λ known s m t h says wants.
+    quiet_here g.K.Sink.taken known (g.B.Backing.holds c.args.backing.now) (g.B.Backing.holds c.attempt.new.backing) (length c.give_turn.new.machine.cpu.core) (g.B.Backing.size c.args.backing.now) c.args.machine.now c.give_turn.new.machine c.attempt.new.machine s m t h c.in-Some.chosen (c.in-Some.ensures.choice h.plan s h.ordered h.stands.tables) c.give_turn.ensures.stands says c.attempt.ensures.quiet wants
+
+pub returns-in-Err-clause-unprinted : goal.returns-in-Err-clause-unprinted
+returns-in-Err-clause-unprinted g c = λ fine zero.
+    stop_printed c.in-Err.stop c.give_turn.new.machine.tasks c.attempt.new.machine.tasks c.in-Err.ensures.tables (λ e. fine (ap (λ (x : Stop). Err x) e)) ∙ ap (λ (z : Tasks). z.printed) c.give_turn.ensures.tables ∙ zero
+
+pub returns-in-Err-clause-fits : goal.returns-in-Err-clause-fits
+returns-in-Err-clause-fits g c = λ known s m t says tells h.
+    inl (stop_made c.in-Err.stop c.give_turn.new.machine.tasks c.attempt.new.machine.tasks c.in-Err.ensures.tables ∙ ap (λ (z : Tasks). z.made) c.give_turn.ensures.tables)

@@ -3,7 +3,7 @@
 ghost use Rattle.std.specs.Prelude.{◌≡◌, ◌≤◌, ◌++◌, length, codes, decimal};
 ghost use Rattle.b67_admit.specs.Told.{card_text, refusal_line};
 ghost use Rattle.b67_lines.specs.Ends.{Ends};
-ghost use Rattle.b67_ends.specs.Lines.{no_core_line, backing_full_line};
+ghost use Rattle.b67_deck.specs.Lines.{no_core_line, backing_full_line};
 
 use b67_admit::Refusal;
 use b67_commands::put_text;

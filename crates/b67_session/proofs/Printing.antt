@@ -1,0 +1,83 @@
+-- Texts that are printed in parts, one after the other.
+use Rattle.std.proofs.Common.{◌≡◌, ℕ, ◌+◌, ◌<◌, ◌≤◌, List, [], ◌∷◌, ◌++◌, length, max, take, Option, sym, ap, ◌∙◌, subst, arith, append-nil, append_assoc, length-append}
+use Rattle.std.proofs.lemmas.List.{take_all, take-append-le}
+use Rattle.b67_io.specs.Line.{ended}
+use Rattle.b67_io.specs.Told.{Took, Continues}
+use Rattle.b67_io.proofs.Joined.{Took-none, Took-then}
+use Rattle.b67_lines.specs.Parts.{TookRest, TookMore}
+use Rattle.b67_model.specs.Lines.{run_text}
+use Rattle.b67_model.specs.Run.{RunLine}
+use Rattle.b67_session.specs.Slices.{Prints}
+use Rattle.b67_session.proofs.Texts.{run_text-append}
+
+-- nothing was printed
+pub prints_none : {K : Type 0} (taken : K → Option (List ℕ)) (now new : K) (text : List ℕ) (before after : ℕ) → new ≡ now → after ≡ before → Prints taken now new text before [] text after
+prints_none taken now new text before after e same = record {
+  text = [];
+  took = subst (λ z. Took taken now z []) (sym e) (Took-none taken now);
+  same = append-nil (take before text) ∙ ap (λ (n : ℕ). take n text) (sym same);
+}
+
+-- the rest of these lines
+pub prints_rest : {K : Type 0} (taken : K → Option (List ℕ)) (old new : K) (text was_due is_due : List ℕ) (before after : ℕ) (printed : List RunLine) → was_due ≡ text → text ≡ run_text printed → after ≡ 0
+    → TookRest taken old new text before → Prints taken old new was_due before printed is_due after
+prints_rest taken old new text was_due is_due before after printed was is none h = record {
+  text = h.rest;
+  took = h.took;
+  same = ap (λ (xs : List ℕ). take before xs ++ h.rest) was ∙ h.same ∙ is ∙ sym (ap (λ (n : ℕ). run_text printed ++ take n is_due) none ∙ append-nil (run_text printed));
+}
+
+-- a part of what is due
+pub prints_more : {K : Type 0} (taken : K → Option (List ℕ)) (old new : K) (text due : List ℕ) (before after : ℕ) → due ≡ text → TookMore taken old new text before after → Prints taken old new due before [] due after
+prints_more taken old new text due before after is h = record {
+  text = h.continues.printed;
+  took = h.continues.took;
+  same = ap (λ (xs : List ℕ). take before xs ++ h.continues.printed) is ∙ h.continues.same ∙ ap (λ (xs : List ℕ). take after xs) (sym is);
+}
+
+-- one after the other
+pub prints_then : {K : Type 0} (taken : K → Option (List ℕ)) (a b c : K) (x y z : List ℕ) (i j k : ℕ) (one two : List RunLine) → Prints taken a b x i one y j → Prints taken b c y j two z k → Prints taken a c x i (one ++ two) z k
+prints_then taken a b c x y z i j k one two p q = record {
+  text = p.text ++ q.text;
+  took = Took-then p.took q.took;
+  same = sym (append_assoc (take i x) p.text q.text) ∙ ap (λ (xs : List ℕ). xs ++ q.text) p.same ∙ append_assoc (run_text one) (take j y) q.text
+      ∙ ap (λ (xs : List ℕ). run_text one ++ xs) q.same ∙ sym (append_assoc (run_text one) (run_text two) (take k z)) ∙ ap (λ (xs : List ℕ). xs ++ take k z) (sym (run_text-append one two));
+}
+
+-- where nothing of what is due next is printed, that may be anything
+pub prints_before : {K : Type 0} (taken : K → Option (List ℕ)) (a b : K) (x y z : List ℕ) (i j : ℕ) (one : List RunLine) → j ≡ 0 → Prints taken a b x i one y j → Prints taken a b x i one z j
+prints_before taken a b x y z i j one none p = record { text = p.text; took = p.took; same = p.same ∙ ap (λ (n : ℕ). run_text one ++ take n y) none ∙ sym (ap (λ (n : ℕ). run_text one ++ take n z) none) }
+
+-- a line and its end that were put from so many bytes on
+pub line_rest : {K : Type 0} (taken : K → Option (List ℕ)) (old new : K) (line : List ℕ) (before after : ℕ) → Continues taken old new ([] ++ ended line ++ []) before after → after ≡ max before (0 + (length line + 1)) → TookRest taken old new (ended line) before
+line_rest taken old new line before after c whole =
+    let text : [] ++ ended line ++ [] ≡ ended line = append-nil (ended line) in
+    let long : length (ended line) ≤ after = omega (arith, whole, length-append line (10 ∷ [])) in
+    record {
+      rest = c.printed;
+      took = c.took;
+      same = ap (λ (xs : List ℕ). take before xs ++ c.printed) (sym text) ∙ c.same ∙ ap (λ (xs : List ℕ). take after xs) text ∙ take_all after (ended line) long;
+    }
+
+pub line_more : {K : Type 0} (taken : K → Option (List ℕ)) (old new : K) (line : List ℕ) (before after : ℕ) → Continues taken old new ([] ++ ended line ++ []) before after → before ≤ after → after < 0 + (length line + 1)
+    → TookMore taken old new (ended line) before after
+line_more taken old new line before after c later proper = record {
+  continues = subst (λ (xs : List ℕ). Continues taken old new xs before after) (append-nil (ended line)) c;
+  later = later;
+  proper = omega (arith, proper, length-append line (10 ∷ []));
+}
+
+-- a part of a text is a part of one that goes on
+pub TookMore-more : {K : Type 0} {taken : K → Option (List ℕ)} {a b : K} (x y : List ℕ) (before after : ℕ) → TookMore taken a b x before after → TookMore taken a b (x ++ y) before after
+TookMore-more x y before after p =
+    let later = p.later in
+    let proper = p.proper in
+    record {
+      continues = record {
+        printed = p.continues.printed;
+        took = p.continues.took;
+        same = ap (λ (xs : List ℕ). xs ++ p.continues.printed) (take-append-le before x y (omega arith)) ∙ p.continues.same ∙ sym (take-append-le after x y (omega arith));
+      };
+      later = later;
+      proper = omega (arith, length-append x y);
+    }

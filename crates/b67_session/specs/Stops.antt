@@ -1,0 +1,2 @@
+-- Why a step isn't made, for the crates above.
+pub use Rattle.b67_attempt.specs.Stops.{Stop, NoCore, BackingFull, BackingFault, PrintFault, Unbuilt}
