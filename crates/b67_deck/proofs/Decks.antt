@@ -34,6 +34,7 @@ use Rattle.b67_open.proofs.Decks.{deck_within}
 use Rattle.b67_storage.specs.Machine.{Says, retold}
 use Rattle.b67_initial.specs.Stored.{told_after}
 use Rattle.b67_initial.specs.Opened.{opening_plan}
+use Rattle.b67_session.specs.Passed.{AreCountable}
 use Rattle.b67_session.specs.Slices.{IsLone, LivesOn, SliceMeets, Rests, StepsFit}
 use Rattle.b67_lines.specs.Stops.{live_after}
 use Rattle.b67_lines.specs.Ends.{Ends}
@@ -93,15 +94,15 @@ module _ {K B : Type 0} (taken : K → Option (List ℕ)) (failures : K → ℕ)
   refused b b' faults.BackingFault old new answer o ends = run_stops 6 _ (unopened refl (opening_fails (o.0, o.1) o.2 refl refl)) (closes_only ends)
 
   -- no job
-  pub idle : (b b' : B) (k : Machine) (now : K) → ((n : ℕ) → StatesInOrder n (session_of d ps)) → d.jobs ≡ [] → IsOpened holds size broken d ps core b b' (Ok k)
+  pub idle : (b b' : B) (k : Machine) (now : K) → ((n : ℕ) → StatesInOrder n (session_of d ps)) → AreCountable k.tasks.jobs → size b' ≡ size b → length k.sectors.links ≡ size b + 1 → d.jobs ≡ [] → IsOpened holds size broken d ps core b b' (Ok k)
       → RunEnds taken failures (device_of holds size broken b b') core (d, ps) (Some k) now now 0
-  idle b b' k now in_order none o = run_stops 0 (only []) (opened k refl opens o.2.printed (all_end refl done)) (all_taken refl (Took-none taken now))
+  idle b b' k now in_order countable same links none o = run_stops 0 (only []) (opened k refl opens o.2.printed (all_end refl done)) (all_taken refl (Took-none taken now))
     where
       made : k.tasks.made ≡ 0
       made = o.2.stands.tables.counts.made
 
       opens : WasOpened (device_of holds size broken b b') core (d, ps) k
-      opens = record { room = (o.0, o.1); in_order = in_order k.tasks.made; fitted = λ tells j low. absurd (omega (arith, low, made)) }
+      opens = record { room = (o.0, o.1); in_order = in_order k.tasks.made; fitted = λ tells j low. absurd (omega (arith, low, made)); countable = countable; sized = omega (arith, same, links) }
 
       within : (halt : Option ℕ) → IfSome halt (λ count. k.tasks.made ≤ count)
       within None = tt
@@ -147,11 +148,11 @@ module _ {K B : Type 0} (taken : K → Option (List ℕ)) (failures : K → ℕ)
   lives_on = record { known = known; says = says_after (holds b) (holds b'); session = session_of d (program_of f ∷ []); member = member_of d.stack j (program_of f); task = task_of; lone = lone }
 
   pub one_run : (steps : ℕ) (old new : K) (answer : ℕ) → Changes holds b b' (λ before after. length after ≡ length before) → size b' ≡ size b → broken b ≤ broken b'
-      → steps ≡ steps_of d.halt j.limit → k.tasks.halt ≡ k0.tasks.halt
+      → steps ≡ steps_of d.halt j.limit → k.tasks.halt ≡ k0.tasks.halt → AreCountable k.tasks.jobs → length k0.sectors.links ≡ size b + 1 → length k.sectors.links ≡ length k0.sectors.links → size b'' ≡ size b'
       → ((x : Option (List (List ℕ))) (s : Session) (m : Member) (t : Task) → Says x (holds b') → IsLone x k0 s m t
       → JobRan taken failures (retold x (holds b'')) (x ≢ None) (Rose broken b' b'') (size b') steps j.body_card s k0 k old new answer)
       → RunEnds taken failures (device_of holds size broken b b'') core (d, program_of f ∷ []) (Some k) old new answer
-  one_run steps old new answer tells same later all halt rans =
+  one_run steps old new answer tells same later all halt countable begun_links links again rans =
       let first = session_of d (program_of f ∷ []) in
       let r = rans known first (member_of d.stack j (program_of f)) task_of (says_after (holds b) (holds b')) lone in
       let begun : k0.tasks.made ≡ 0 = o.2.stands.tables.counts.made in
@@ -163,6 +164,8 @@ module _ {K B : Type 0} (taken : K → Option (List ℕ)) (failures : K → ℕ)
         room = (o.0, o.1);
         in_order = states_in_order d (f ∷ []) k.tasks.made range (loaded, tt);
         fitted = λ told. subst (λ n. StepsFit n k.tasks.made first) o.2.core_size (r.fits (exact told) k.tasks.made all_made);
+        countable = countable;
+        sized = omega (arith, begun_links, links, again, same);
       })
       (single_opens d j (program_of f) one).jobs refl (halt ∙ o.2.halt)
       (known ≢ None) exact

@@ -2,18 +2,19 @@
 use Rattle.std.specs.Prelude.{◌≢◌, ℕ, List, Option, None}
 use Rattle.b67_io.specs.Causes.{Rose, Stayed}
 
--- what it told of its sectors before and what it tells now, how many sectors it has, and how often it had failed before
--- and has failed now
+-- what it told of its sectors before and what it tells now, how many sectors it had and has, and how often it had failed
+-- before and has failed now
 pub record Device : Type 0 where
   pub before : Option (List (List ℕ))
   pub now : Option (List (List ℕ))
   pub sectors : ℕ
+  pub sectors_now : ℕ
   pub failed_before : ℕ
   pub failed_now : ℕ
 
 abbrev pub device_of : {B : Type 0} → (B → Option (List (List ℕ))) → (B → ℕ) → (B → ℕ) → B → B → Device
 device_of holds size faults old new =
-    record { before = holds old; now = holds new; sectors = size old; failed_before = faults old; failed_now = faults new }
+    record { before = holds old; now = holds new; sectors = size old; sectors_now = size new; failed_before = faults old; failed_now = faults new }
 
 -- it told what its sectors hold
 abbrev pub Tells : Device → Type 0

@@ -1,6 +1,6 @@
 -- How the run of a deck over core stops: with which status and text, after how many steps of the session that the deck
 -- opens, and with which machine.
-use Rattle.std.specs.Prelude.{◌≡◌, ℕ, ◌+◌, ◌<◌, ◌≤◌, ◌⊎◌, true, List, [], ◌++◌, Option, Some, None, is_some, IfSome}
+use Rattle.std.specs.Prelude.{◌≡◌, ℕ, ◌+◌, ◌<◌, ◌≤◌, ◌⊎◌, true, List, [], ◌++◌, length, Option, Some, None, is_some, IfSome}
 use Rattle.b67_io.specs.Line.{ended}
 use Rattle.b67_io.specs.Causes.{Rose}
 use Rattle.b67_model.specs.State.{Task, Member}
@@ -11,6 +11,7 @@ use Rattle.b67_model.specs.Schedule.{Session}
 use Rattle.b67_model.specs.Run.{Moment, lines, after}
 use Rattle.b67_code.specs.Running.{code_area}
 use Rattle.b67_session.specs.Passed.{IsShortOf}
+pub use Rattle.b67_session.specs.Passed.{AreCountable}
 use Rattle.b67_session.specs.Passed.{IsLacking}
 use Rattle.b67_admit.specs.Admitting.{Prepared}
 use Rattle.b67_open.specs.Decks.{session_of}
@@ -119,11 +120,14 @@ pub data StopsUnopened (d : Device) (core : ℕ) (p : Prepared) (status : ℕ) (
   opening_fails : HasRoom d core p → Failed d → status ≡ 6 → text ≡ only (ended backing_fault_line) → StopsUnopened d core p status text
 
 -- A session was opened, for which there is room. Each state up to the count of the machine is in order; and where the device
--- told what its sectors hold, none of the steps up to there needed more words than core has.
+-- told what its sectors hold, none of the steps up to there needed more words than core has. The machine may be given to a
+-- slice again: its numbers can be counted, and its table of sectors has one for each of the device.
 pub record WasOpened (d : Device) (core : ℕ) (p : Prepared) (k : Machine) : Type 0 where
   pub room : HasRoom d core p
   pub in_order : StatesInOrder k.tasks.made (run_of p).session
   pub fitted : Tells d → StepsFit core k.tasks.made (run_of p).session
+  pub countable : AreCountable k.tasks.jobs
+  pub sized : d.sectors_now + 1 ≡ length k.sectors.links
 
 -- Then it stopped so. What is said of steps is said where the device told what its sectors hold. One that tells nothing may
 -- give back other code than was written, even the call of an intrinsic that isn't built.

@@ -103,6 +103,9 @@ fn run_job<K: Sink, B: Backing>(
         → JobRan K.taken K.faults (retold known (B.holds backing.new)) (known ≢ None) (Rose B.faults backing.old backing.new) (B.size backing.old) steps card
         s machine.old machine.new printer.old printer.new result }
     ensures halt { machine.new.tasks.halt ≡ machine.old.tasks.halt }
+    ensures countable { AreCountable machine.new.tasks.jobs }
+    ensures links { length machine.new.sectors.links ≡ length machine.old.sectors.links }
+    ensures size { B.size backing.new ≡ B.size backing.old }
 {
     let answered = slice(machine, steps, backing, printer);
     finish(answered, card, machine.tasks.made, printer)

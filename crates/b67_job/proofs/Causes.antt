@@ -1,5 +1,5 @@
 -- The causes of a status.
-use Rattle.std.proofs.Common.{◌≡◌, ◌≢◌, ◌≤◌, ◌⊎◌, inl, inr, true, ℕ, List, sym, ap, ◌∙◌, subst, arith, Option, Some}
+use Rattle.std.proofs.Common.{◌≡◌, ◌≢◌, ◌≤◌, ◌+◌, ◌⊎◌, inl, inr, true, ℕ, List, length, sym, ap, ◌∙◌, subst, arith, Option, Some}
 use Rattle.std.specs.Prelude.{is_some}
 use Rattle.std.proofs.lemmas.Option.{none-some, same_Some}
 use denote.Ref.{Bor}
@@ -9,6 +9,7 @@ use Rattle.b67_task.specs.declared.tables.Machine.{Machine}
 use Rattle.b67_admit.specs.Admitting.{Prepared}
 use Rattle.b67_model.specs.Run.{after}
 use Rattle.b67_deck.specs.Runs.{Rests, StepsFit}
+use Rattle.b67_deck.specs.Runs.{AreCountable}
 use Rattle.b67_lines.specs.Stops.{IsFinished, IsHalted}
 use Rattle.b67_deck.specs.Device.{Device, Tells, Failed}
 use Rattle.b67_deck.specs.Texts.{Text, whole_of, TookUpTo, all_taken, cut_short}
@@ -269,6 +270,9 @@ module _ {S : Type 0} {words : List (Bor (List ℕ))} {left : S → Option (List
 
     pub is_fitted : (k : Machine) → machine ≡ Some k → Tells d → (core : ℕ) × (p : Prepared) × IsRun words left deck deck' core p × StepsFit core k.tasks.made (run_of p).session
     is_fitted k e tells = let z = was_opened k e in (z.0, z.1, z.2, z.3.fitted tells)
+
+    pub is_again : (k : Machine) → machine ≡ Some k → AreCountable k.tasks.jobs × (d.sectors_now + 1 ≡ length k.sectors.links)
+    is_again k e = let z = was_opened k e in (z.3.countable, z.3.sized)
 
     pub is_standing : (k : Machine) → machine ≡ Some k → Tells d → 3 ≤ answer → answer ≤ 6
         → (core : ℕ) × (p : Prepared) × IsRun words left deck deck' core p × StopsAt d.now (run_of p).session k × (k.tasks.printed ≡ 0)

@@ -1,6 +1,6 @@
 //! The top call.
 
-ghost use Rattle.std.specs.Prelude.{◌≡◌, ◌≢◌, ◌⊎◌, ◌≤◌, ◌<◌, ◌^◌, ℕ, List, length, map, true, false, is_some, Some, None};
+ghost use Rattle.std.specs.Prelude.{◌≡◌, ◌≢◌, ◌⊎◌, ◌+◌, ◌≤◌, ◌<◌, ◌^◌, ℕ, List, length, map, true, false, is_some, Some, None};
 ghost use Rattle.b67_io.specs.Told.{Took, GaveAll};
 ghost use Rattle.b67_io.specs.Causes.{Rose, Stayed};
 ghost use Rattle.b67_task.specs.declared.tables.Machine.{Machine};
@@ -18,6 +18,7 @@ ghost use Rattle.b67_deck.specs.Texts.{Text, whole_of, TookUpTo};
 ghost use Rattle.b67_deck.specs.States.{StatesInOrder};
 ghost use Rattle.b67_deck.specs.Runs.{run_of, HasRoom, StopsAt, IsPrinting};
 ghost use Rattle.b67_deck.specs.Runs.{Rests, StepsFit};
+ghost use Rattle.b67_deck.specs.Runs.{AreCountable};
 ghost use Rattle.b67_job.specs.Command.{command_of};
 ghost use Rattle.b67_job.specs.declared.command.CommandLine.{CommandLine};
 ghost use Rattle.b67_job.specs.Judgement.{deck_judgement, asked, Refused, judged_status};
@@ -222,13 +223,15 @@ pub fn run<S: Source, K: Sink, B: Backing>(
     ensures sectors_wanted { result.status ≡ 5 → (core : ℕ) × (p : Prepared) × (text : Text) × IsRun words.now S.left deck.old deck.new core p
         × IsShortOfSectors (device_of B.holds B.size B.faults backing.old backing.new) core p result.machine text × Took K.taken printer.old printer.new (whole_of text) }
 
-    // A device failed. A printer that fails has taken all lines of the steps and a part of what was printed behind them: of the
-    // last line of what was due; or of the first part of the next step, or of the line of LIMIT, as the machine counts.
+    // A device failed. At a step the machine stands before it, and lacks its segment or its array.
     ensures backing_fault { result.status ≡ 6 → Rose B.faults backing.old backing.new
         × ((core : ℕ) × (p : Prepared) × (text : Text) × IsRun words.now S.left deck.old deck.new core p
         × IsFailedBy (device_of B.holds B.size B.faults backing.old backing.new) core p result.machine text × Took K.taken printer.old printer.new (whole_of text)) }
     ensures reading_fault { result.status ≡ 7 → Rose S.faults deck.old deck.new
         × Took K.taken printer.old printer.new reading_text }
+
+    // The printer failed. It has taken all lines of the steps, and a part of what stands behind them: of the last line that was
+    // due; or, as the machine counts, of the first part of the next step, or of the line of LIMIT of the last one.
     ensures printing_fault { result.status ≡ 8 → Rose K.faults printer.old printer.new × ((text : Text) × (count : ℕ)
         × (((status : ℕ) × IsDue words.now S.left S.faults deck.old deck.new (device_of B.holds B.size B.faults backing.old backing.new) result.machine status text)
         ⊎ ((core : ℕ) × (p : Prepared) × IsRun words.now S.left deck.old deck.new core p
@@ -248,11 +251,12 @@ pub fn run<S: Source, K: Sink, B: Backing>(
         × StepsFit core k.tasks.made (run_of p).session }
 
     // Where the run stopped with a task alive it stands for the session after these steps, and nothing of the next one is
-    // printed. Where all tasks ended it stands for the session without a task.
+    // printed. Where all tasks ended it stands for the session without a task. It is within what a slice of more steps asks.
     ensures stands { (k : Machine) → result.machine ≡ Some k → B.holds backing.old ≢ None → 3 ≤ result.status → result.status ≤ 6
         → (core : ℕ) × (p : Prepared) × IsRun words.now S.left deck.old deck.new core p × StopsAt (B.holds backing.new) (run_of p).session k × (k.tasks.printed ≡ 0) }
     ensures ended { (k : Machine) → result.machine ≡ Some k → B.holds backing.old ≢ None → result.status ≡ 0
         → (core : ℕ) × (p : Prepared) × IsRun words.now S.left deck.old deck.new core p × Rests (B.holds backing.new) k (after k.tasks.made (run_of p).session) }
+    ensures again { (k : Machine) → result.machine ≡ Some k → AreCountable k.tasks.jobs × (B.size backing.new + 1 ≡ length k.sectors.links) }
 
     // Where no count rises, core and device suffice and the device tells what its sectors hold, the command and the deck
     // decide, or memory was refused.

@@ -1,5 +1,5 @@
 -- The machine whose only task's slot was emptied, with other counts in its tables.
-use Rattle.std.proofs.Common.{◌≡◌, ◌≢◌, ℕ, List, [], Option, refl, sym, ap, ◌∙◌, subst}
+use Rattle.std.proofs.Common.{◌≡◌, ℕ, List, [], Option, refl, sym, ap, ◌∙◌, subst}
 use Rattle.b67_word.specs.declared.faults.Ending.{Ending}
 use Rattle.b67_model.specs.State.{Task, Member}
 use Rattle.b67_model.specs.Schedule.{Session}

@@ -126,8 +126,7 @@ module _ (known : Option (List (List ℕ))) (exact : Type 0) (s : Session) (m : 
       ap (limited m.setting.limit (m.course.made + 1)) settled ∙ limited_none m.setting.limit (m.course.made + 1) (ends_by e m.course.job t) none in
       let of : last ≡ left_by e =
       of_answer s m t single (choice_of c) chosen job number answer at
-      ∙ ap (λ (p : Stepped). moment_with m.course t p (limited m.setting.limit (m.course.made + 1) p.settled)) is ∙ closed e (limited m.setting.limit (m.course.made + 1) z) limit in
-      (
+      ∙ ap (λ (p : Stepped). moment_with m.course t p (limited m.setting.limit (m.course.made + 1) p.settled)) is ∙ closed e (limited m.setting.limit (m.course.made + 1) z) limit in (
         step_made (left_by e) of refl,
         first_made answer at (left_by e) (ap (λ (p : Stepped). moment_with m.course t p p.settled) is ∙ closed e z settled) refl,
       )

@@ -15,3 +15,4 @@ pub mod Going
 pub mod Fitting
 pub mod Pausing
 pub mod Resuming
+mod Again

@@ -1,7 +1,7 @@
 -- A job that stands at its limit: the tables say so, its task ends in the last part of the step, and then the machine stands
 -- for the session without it.
-use Rattle.std.proofs.Common.{◌≡◌, ℕ, zero, suc, ◌-◌, ◌≤◌, ◌<◌, Bool, true, false, List, [], ◌∷◌, ◌++◌, map, Option, Some, None, refl, sym, ap, ◌∙◌, subst, arith, inl, inr, ⊎_elim}
-use Rattle.std.specs.Prelude.{◌==◌, ◌&&◌}
+use Rattle.std.proofs.Common.{◌≡◌, ℕ, zero, suc, ◌-◌, ◌<◌, Bool, true, false, List, [], ◌∷◌, ◌++◌, map, Option, Some, None, refl, sym, ap, ◌∙◌, subst, arith, inl, inr, ⊎_elim}
+use Rattle.std.specs.Prelude.{◌==◌}
 use Rattle.std.specs.List.{slice_get}
 use Rattle.std.specs.Option.{option_or}
 use Rattle.std.proofs.lemmas.Bool.{cases_Bool, eqb-true, eq-eqb}
@@ -9,12 +9,12 @@ use Rattle.std.proofs.lemmas.Option.{same_Some, none-some, slice_get_past}
 use Rattle.b67_word.specs.declared.faults.Ending.{Ending}
 use Rattle.b67_word.specs.declared.faults.Ending.TheVariants.{Limit}
 use Rattle.b67_model.specs.Lists.{Has}
-use Rattle.b67_model.specs.State.{Task, Job, Course, Member}
-use Rattle.b67_model.specs.Steps.{Line, Ends}
-use Rattle.b67_model.specs.Endings.{Settled, ends_task, ends_each_if, unsettled}
+use Rattle.b67_model.specs.State.{Task, Course, Member}
+use Rattle.b67_model.specs.Steps.{Ends}
+use Rattle.b67_model.specs.Endings.{Settled, ends_task}
 use Rattle.b67_model.specs.Keyed.{keyed, change_keyed}
 use Rattle.b67_model.specs.Lines.{run_text}
-use Rattle.b67_model.specs.Run.{RunLine, Moment, number_of, of_job}
+use Rattle.b67_model.specs.Run.{Moment, number_of, of_job}
 use Rattle.b67_model.specs.Schedule.{Session}
 use Rattle.b67_model.specs.InOrder.{NumberedFrom, IsInOrderButPlaces}
 use Rattle.b67_lines.specs.Moments.{first_part, last_part, last_part_by, last_part_if, is_at_limit, has_tasks, text_of, due}
@@ -31,7 +31,7 @@ use Rattle.b67_task.specs.Tables.{task_row, job_row, counts_of, TasksShow, Machi
 use Rattle.b67_ending.specs.Endings.{without_slot, ended, HasOne}
 use Rattle.b67_ending.proofs.Ends.{ended_alone}
 use Rattle.b67_ending.proofs.Tables.{tables_ended}
-use Rattle.b67_session.specs.Slices.{IsLone, IsLimited}
+use Rattle.b67_session.specs.Slices.{IsLimited}
 use Rattle.b67_session.specs.Steps.{AtLimit, IsEmptied}
 use Rattle.b67_session.proofs.Lone.{found, job_ordered}
 use Rattle.b67_session.proofs.Finishing.{ends_by, limit_ends}
@@ -91,8 +91,8 @@ module _ (s : Session) (m : Member) (t : Task) (single : IsSingle s m t) where
   unfolding last_part
   no_last o = ⊎_elim
       (λ (e : (number_of m == s.last.job) ≡ true).
-          let below : (m.course.made == m.setting.limit) ≡ false = not_equal (m.course.made == m.setting.limit) refl in
-          ap (λ (ms : List Member). last_part_by s (keyed number_of s.last.job ms)) single.jobs ∙ rw e (rw below refl))
+      let below : (m.course.made == m.setting.limit) ≡ false = not_equal (m.course.made == m.setting.limit) refl in
+      ap (λ (ms : List Member). last_part_by s (keyed number_of s.last.job ms)) single.jobs ∙ rw e (rw below refl))
       (λ (e : (number_of m == s.last.job) ≡ false). ap (λ (ms : List Member). last_part_by s (keyed number_of s.last.job ms)) single.jobs ∙ rw e refl)
       (cases_Bool (number_of m == s.last.job))
     where
@@ -217,8 +217,7 @@ module _ (known : Option (List (List ℕ))) (k : Machine) (h : Session) (m : Mem
       let before : Member = record m { course = record m.course { made = l.made } } in
       let after = (limit_part h m t l.single).session in
       let course : Course = record m.course { job = (ends_task m.course.job t.number Limit).job; ended = m.course.ended ++ (t.number, Limit) ∷ [] } in
-      let d = e.stands l.tables l.storage known l.plan l.session before t Limit l.same l.ordered l.stands_before l.single_before in
-      (
+      let d = e.stands l.tables l.storage known l.plan l.session before t Limit l.same l.ordered l.stands_before l.single_before in (
         d.storage,
         q,
         record {

@@ -26,14 +26,13 @@ use Rattle.b67_schedule.specs.Counted.{choice_of, HasRoom}
 use Rattle.b67_attempt.specs.Passed.{IsCalled, OnlyPrinted, printed_text}
 use Rattle.b67_attempt.specs.Stops.{Stop}
 use Rattle.b67_attempt.specs.Stops as stops
-use Rattle.b67_attempt.specs.declared.attempts.Attempt.{Attempt}
 use Rattle.b67_attempt.specs.declared.attempts.Attempt.TheVariants as attempts
 use Rattle.b67_attempt.specs.Attempts.{StillStands, StandsLacking}
 use Rattle.b67_ending.specs.Endings.{HasOne}
 use Rattle.b67_session.specs.declared.ends.StepEnd.{StepEnd}
 use Rattle.b67_session.specs.declared.ends.StepEnd.TheVariants as ends
 use Rattle.b67_session.specs.Slices.{IsLone, IsLimited, Prints, Rests, Lacks, SliceMeets}
-use Rattle.b67_session.specs.Steps.{IsCounted, AtLimit, IsEmptied, LimitEnds, Closes, Advances, Finishes, Makes, stays, makes, halves, Steps, ending_text}
+use Rattle.b67_session.specs.Steps.{IsCounted, AtLimit, IsEmptied, Closes, Advances, Finishes, Makes, stays, makes, halves, Steps, ending_text}
 use Rattle.b67_session.proofs.Lone.{kept}
 use Rattle.b67_session.proofs.Moments.{jm, found_by, follows, first_begins}
 use Rattle.b67_session.proofs.Rooms.{counts_as, counts_with, room_after}
@@ -41,7 +40,7 @@ use Rattle.b67_session.proofs.Texts.{run_text-append, ending_is}
 use Rattle.b67_session.proofs.Printing.{prints_none, prints_rest, prints_more, prints_then, TookMore-more}
 use Rattle.b67_session.proofs.Turned.{Attempted}
 use Rattle.b67_session.proofs.Finishing.{OneTask, none_lives, none_left}
-use Rattle.b67_session.proofs.Finished.{left_moment, by_itself, ends_rests, one_left, half_member, half, half_first, half_single, half_tables, half_stands, made_one, half_limited, limit_next}
+use Rattle.b67_session.proofs.Finished.{left_moment, by_itself, ends_rests, one_left, half_member, half, half_first, half_tables, half_stands, made_one, half_limited, limit_next}
 use Rattle.b67_session.proofs.Limits.{is_one, at_limit_is, due_first, limit_member, limit_part, limited_part, due_limit, limit_stands}
 
 -- nothing but the count of what is printed has changed
@@ -124,13 +123,13 @@ module _ {K : Type 0} (taken : K → Option (List ℕ)) (known known' : Option (
             tables = goes_tables;
           };
         } where
-            goes_tables : TasksShow called.plan goes_on.moment.session tasks
-            goes_tables =
-                let j = jm h.session h.member h.task h.single (choice_of c) h.choice h.job h.number in
-                let f = follows h.session h.member h.task h.single (choice_of c) h.choice h.job h.number called.job called.printed goes_on in
-                subst (λ (z : Session). TasksShow called.plan z tasks) f.session
-                (counted.shows called.plan h.session h.member j h.ordered.numbered (found_by h.session h.member h.task h.single (choice_of c) h.choice h.job h.number) f.made
-                (subst (λ (z : Job). TasksShow called.plan (with_job h.session h.member z) k.tasks) (sym f.job) called.stands.tables))
+          goes_tables : TasksShow called.plan goes_on.moment.session tasks
+          goes_tables =
+              let j = jm h.session h.member h.task h.single (choice_of c) h.choice h.job h.number in
+              let f = follows h.session h.member h.task h.single (choice_of c) h.choice h.job h.number called.job called.printed goes_on in
+              subst (λ (z : Session). TasksShow called.plan z tasks) f.session
+              (counted.shows called.plan h.session h.member j h.ordered.numbered (found_by h.session h.member h.task h.single (choice_of c) h.choice h.job h.number) f.made
+              (subst (λ (z : Job). TasksShow called.plan (with_job h.session h.member z) k.tasks) (sym f.job) called.stands.tables))
 
       -- it was the last that its job may make
       module _ (at : AtLimit tasks true) where

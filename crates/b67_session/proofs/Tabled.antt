@@ -39,3 +39,10 @@ stop_made stops.Unbuilt old new same = ap (λ (z : Tasks). z.made) same
 
 pub ended_printed : (ending : Ending) (old new : Tasks) → TablesStay (Ok (attempts.Ends ending)) old new → new.printed ≡ old.printed
 ended_printed ending old new same = ap (λ (z : Tasks). z.printed) same
+
+-- another row runs, with the same counts
+pub turned_printed : (old new : Tasks) (row : ℕ) → new ≡ record old { rows = new.rows; running = row } → new.printed ≡ old.printed
+turned_printed old new row same = ap (λ (z : Tasks). z.printed) same
+
+pub turned_made : (old new : Tasks) (row : ℕ) → new ≡ record old { rows = new.rows; running = row } → new.made ≡ old.made
+turned_made old new row same = ap (λ (z : Tasks). z.made) same

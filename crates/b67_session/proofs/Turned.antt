@@ -55,8 +55,8 @@ pub record Turned (known : Option (List (List ℕ))) (k : Machine) (s : Session)
 
 module _ (known : Option (List (List ℕ))) (k : Machine) (s : Session) (m : Member) (t : Task) (h : IsLone known k s m t) where
   -- a task is chosen
-  pub chooses_one : Chooses k.tasks.rows.items None (choice s) → ⊥
-  chooses_one none = some_ready s m t h.single (none_ready s none)
+  pub chooses_one : {A : Type 0} → Chooses k.tasks.rows.items None (choice s) → A
+  chooses_one none = absurd (some_ready s m t h.single (none_ready s none))
 
   module _ (c : Chosen) (chooses : Chooses k.tasks.rows.items (Some c) (choice s)) where
     the_row : Chose h.plan k.tasks m t c

@@ -47,7 +47,7 @@ pub record LivesOn (told : Option (List (List ℕ))) (k : Machine) : Type 0 wher
   pub lone : IsLone known k session member task
 
 -- the machine stands for a session whose one task has just made the last operator that its job may make, and is to end by
--- LIMIT. With one operator less the session is in order, and stands with the counts of other tables
+-- LIMIT. With so many operators made (`made`) the job was in order before, in a session that stands with the counts of other tables
 pub record IsLimited (known : Option (List (List ℕ))) (k : Machine) (h : Session) (m : Member) (t : Task) : Type 0 where
   pub storage : Storage
   pub plan : Plan

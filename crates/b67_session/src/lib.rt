@@ -2,8 +2,11 @@
 #![tactic(auto)]
 
 mod ends;
+mod running;
 mod slices;
 mod steps;
 mod turns;
 
+pub use running::Session;
+pub use b67_attempt::Stop;
 pub use slices::{Progress, slice};

@@ -89,7 +89,7 @@ fn go_on<B: Backing, K: Sink>(
 ///
 /// After a `Stop` the step isn't made, and the machine stands for the state before it; but where the printer failed in the
 /// line of LIMIT, the step is made and counted but for that line and the task's end, and the next call begins with them. The
-/// call may be made again after every stop. `printed` counts the bytes of the text in hand that were taken, and the next call
+/// call may be made again after every stop, halt and slice of steps. `printed` counts the bytes of the text in hand that were taken, and the next call
 /// skips these: no byte is printed twice.
 ///
 /// `NoCore` exactly where the step's need exceeds core, with both, unless its segment is absent and the device is full or
@@ -114,6 +114,7 @@ pub fn slice<B: Backing, K: Sink>(
         → Resumes K.taken known h m t result machine.old machine.new paper.old paper.new × (backing.new ≡ backing.old) }
     ensures quiet { (known : Option (List (List ℕ))) (s : Session) (m : Member) (t : Task) (h : IsLone known machine.old s m t) → Says known (B.holds backing.old)
         → n ≤ 1 → WantsNothing h.storage h.plan m t → backing.new ≡ backing.old }
+    ensures again { result ≢ Ok Ended → IsOpen (B.holds backing.new) machine.new }
     ensures unprinted { result ≢ Err PrintFault → machine.old.tasks.printed ≡ 0 → machine.new.tasks.printed ≡ 0 }
     ensures over { (known : Option (List (List ℕ))) (s : Session) (m : Member) (t : Task) → Says known (B.holds backing.old) → IsLone known machine.old s m t
         → result ≡ Ok Ended → Over (retold known (B.holds backing.new)) (known ≢ None) s machine.old machine.new }

@@ -29,7 +29,7 @@ run_job-status-requires-clause-lives g c =
 pub returns-in-empty : goal.returns-in-empty
 returns-in-empty g c =
     idle g.K.Sink.taken g.K.Sink.faults g.B.Backing.holds g.B.Backing.size g.B.Backing.faults c.args.deck.now (map program_of c.args.programs.now) c.args.core
-    c.args.backing.now c.open.new.backing c.in-Ok.machine c.args.printer.now (λ n. states_in_order c.args.deck.now c.args.programs.now n c.requires.range c.requires.loaded) (none_in c.as_slice.result.now c.args.deck.now.jobs c.as_slice.ensures c.in-empty.len_below) c.in-Ok.ensures.opens
+    c.args.backing.now c.open.new.backing c.in-Ok.machine c.args.printer.now (λ n. states_in_order c.args.deck.now c.args.programs.now n c.requires.range c.requires.loaded) c.in-Ok.ensures.countable c.in-Ok.ensures.size c.in-Ok.ensures.count (none_in c.as_slice.result.now c.args.deck.now.jobs c.as_slice.ensures c.in-empty.len_below) c.in-Ok.ensures.opens
 
 pub returns-in-len1-up : goal.returns-in-len1-up
 returns-in-len1-up g c =
@@ -42,4 +42,4 @@ returns-in-len1-up g c =
     c.requires.range (subst (AllByRecursion IsLoaded) file.1 c.requires.loaded).0 (subst (AllByRecursion (λ (f : Codefile). uses_built (program_of f) ≡ true)) file.1 c.requires.built).0 c.job-item.result one
     c.args.backing.now c.open.new.backing c.run_job-status.new.backing c.in-Ok.machine c.run_job-status.new.machine opens
     c.steps_of-steps.result c.args.printer.now c.run_job-status.new.printer c.run_job-status.result c.in-Ok.ensures.tells c.in-Ok.ensures.size c.in-Ok.ensures.later
-    c.steps_of-steps.ensures c.run_job-status.ensures.halt c.run_job-status.ensures.ran)
+    c.steps_of-steps.ensures c.run_job-status.ensures.halt c.run_job-status.ensures.countable c.in-Ok.ensures.count c.run_job-status.ensures.links c.run_job-status.ensures.size c.run_job-status.ensures.ran)

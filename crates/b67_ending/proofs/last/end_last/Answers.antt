@@ -2,7 +2,6 @@ use Rattle.std.proofs.Common.{List, map, sym, subst, ◌∙◌}
 use Rattle.b67_layout.specs.Plan.{slot_of}
 use Rattle.b67_layout.specs.Rows.{TablesShow}
 use Rattle.b67_task.specs.declared.tables.TaskRow.{TaskRow}
-use Rattle.b67_task.specs.declared.tables.Tasks.{Tasks}
 use Rattle.b67_task.specs.Tables.{task_row, job_row, counts_of}
 use Rattle.b67_ending.specs.Endings.{without_slot, ended}
 use Rattle.b67_ending.proofs.Tables.{has_first, first_slot, tables_ended, row_items}

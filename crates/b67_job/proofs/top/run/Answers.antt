@@ -1,5 +1,5 @@
 use Rattle.b67_job.proofs.Status.{completed}
-use Rattle.b67_job.proofs.Causes.{is_done, is_halt, is_core, is_sectors, is_fault, is_cut, is_opened, is_in_order, is_fitted, is_standing, is_resting}
+use Rattle.b67_job.proofs.Causes.{is_done, is_halt, is_core, is_sectors, is_fault, is_cut, is_opened, is_in_order, is_fitted, is_again, is_standing, is_resting}
 use Rattle.b67_job.proofs.top.run.Goals as goal
 
 pub returns-clause-done : goal.returns-clause-done
@@ -38,3 +38,6 @@ returns-clause-fitted g c = is_fitted g.K.Sink.taken g.K.Sink.faults c.args.prin
 
 pub returns-clause-ended : goal.returns-clause-ended
 returns-clause-ended g c = is_resting g.K.Sink.taken g.K.Sink.faults c.args.printer.now c.answer.new.printer c.answer.result.status c.answer.ensures.answered
+
+pub returns-clause-again : goal.returns-clause-again
+returns-clause-again g c = is_again g.K.Sink.taken g.K.Sink.faults c.args.printer.now c.answer.new.printer c.answer.result.status c.answer.ensures.answered

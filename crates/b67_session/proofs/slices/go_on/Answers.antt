@@ -1,11 +1,10 @@
-use Rattle.std.proofs.Common.{◌≢◌, ℕ, List, Option, None, Ok, Err, refl, sym, ap, ◌∙◌, subst, arith, ◌≡◌, ◌+◌, length}
+use Rattle.std.proofs.Common.{◌≢◌, ℕ, List, Option, None, Ok, Err, refl, sym, ◌∙◌, subst, arith, ◌≡◌, ◌+◌, length}
 use Rattle.b67_storage.specs.Machine.{Says, retold}
 use Rattle.b67_attempt.specs.Brought.{WantsNothing}
 use Rattle.b67_overlay.proofs.Chains.{retold-same}
 use Rattle.b67_storage.proofs.Devices.{Served-none, Served-then}
-use Rattle.b67_session.specs.declared.ends.StepEnd.{StepEnd}
 use Rattle.b67_session.specs.declared.ends.StepEnd.TheVariants as ends
-use Rattle.b67_session.specs.Steps.{Steps, StepFits}
+use Rattle.b67_session.specs.Steps.{Steps}
 use Rattle.b67_session.proofs.Going.{Going, going-begins, going-lives, going-more, going-steps, going-over, going-rests, going-stops, begun_quiet}
 use Rattle.b67_session.proofs.Pausing.{says_retold, still_told, known_still, retold_twice, pause_slices, pause_over}
 use Rattle.b67_session.proofs.Fitting.{last_fits, counted_fits}
@@ -179,16 +178,16 @@ returns-in-Err-clause-fits g c = λ known s m t says tells h steps counted.
 
 pub returns-in-Ok-Over-clause-quiet : goal.returns-in-Ok-Over-clause-quiet
 returns-in-Ok-Over-clause-quiet g c = λ known s m t h says few wants.
-      let none : c.step._made ≡ 0 = omega (arith, few) in
-      let begun = c.step.invariant.begun none in
-      let known_says : Says known (g.B.Backing.holds c.step.backing) = subst (λ d. Says known (g.B.Backing.holds d)) (sym begun.1) says in
-      begun_quiet known c.args.machine.now c.step.machine s m t c.args.backing.now c.step.backing c.step-in-step.new.backing (λ x plan. WantsNothing x plan m t) begun.0 begun.1
-      (λ l w. c.in-Ok-Over.ensures.quiet known s m t l known_says w) h wants
+    let none : c.step._made ≡ 0 = omega (arith, few) in
+    let begun = c.step.invariant.begun none in
+    let known_says : Says known (g.B.Backing.holds c.step.backing) = subst (λ d. Says known (g.B.Backing.holds d)) (sym begun.1) says in
+    begun_quiet known c.args.machine.now c.step.machine s m t c.args.backing.now c.step.backing c.step-in-step.new.backing (λ x plan. WantsNothing x plan m t) begun.0 begun.1
+    (λ l w. c.in-Ok-Over.ensures.quiet known s m t l known_says w) h wants
 
 pub returns-in-Err-clause-quiet : goal.returns-in-Err-clause-quiet
 returns-in-Err-clause-quiet g c = λ known s m t h says few wants.
-      let none : c.step._made ≡ 0 = omega (arith, few) in
-      let begun = c.step.invariant.begun none in
-      let known_says : Says known (g.B.Backing.holds c.step.backing) = subst (λ d. Says known (g.B.Backing.holds d)) (sym begun.1) says in
-      begun_quiet known c.args.machine.now c.step.machine s m t c.args.backing.now c.step.backing c.step-in-step.new.backing (λ x plan. WantsNothing x plan m t) begun.0 begun.1
-      (λ l w. c.in-Err.ensures.quiet known s m t l known_says w) h wants
+    let none : c.step._made ≡ 0 = omega (arith, few) in
+    let begun = c.step.invariant.begun none in
+    let known_says : Says known (g.B.Backing.holds c.step.backing) = subst (λ d. Says known (g.B.Backing.holds d)) (sym begun.1) says in
+    begun_quiet known c.args.machine.now c.step.machine s m t c.args.backing.now c.step.backing c.step-in-step.new.backing (λ x plan. WantsNothing x plan m t) begun.0 begun.1
+    (λ l w. c.in-Err.ensures.quiet known s m t l known_says w) h wants

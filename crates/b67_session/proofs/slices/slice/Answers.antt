@@ -1,8 +1,11 @@
-use Rattle.std.proofs.Common.{Err, refl, ap}
+use Rattle.std.proofs.Common.{◌≢◌, None, Err, inl, inr, refl, ap}
+use Rattle.b67_storage.specs.Machine.{retold}
 use Rattle.b67_storage.proofs.Devices.{Served-none}
 use Rattle.b67_attempt.specs.Stops.{Stop}
 use Rattle.b67_session.proofs.Resuming.{open_lives, open_one, lone_not, resumes_whole, resumes_more, stops_printing}
 use Rattle.b67_session.proofs.Limits.{limited_not}
+use Rattle.b67_session.proofs.Pausing.{says_retold}
+use Rattle.b67_session.proofs.Again.{open_again, open_limited}
 use Rattle.b67_session.proofs.slices.slice.Goals as goal
 
 pub go_on-requires-clause-lives : goal.go_on-requires-clause-lives
@@ -46,3 +49,14 @@ returns-in-Err-clause-device g c = Served-none g.B.Backing.holds g.B.Backing.siz
 pub returns-in-Err-clause-unprinted : goal.returns-in-Err-clause-unprinted
 returns-in-Err-clause-unprinted g c = λ fine zero.
     stops_printing g.K.Sink.taken c.args.machine.now c.end_by_limit.new.machine c.args.paper.now c.end_by_limit.new.paper c.in-Err.stop c.in-Err.ensures.ends (λ e. fine (ap (λ (x : Stop). Err x) e))
+
+pub returns-then-not-is_at_limit-clause-again : goal.returns-then-not-is_at_limit-clause-again
+returns-then-not-is_at_limit-clause-again g c = λ goes.
+    let l = open_lives (g.B.Backing.holds c.args.backing.now) c.args.machine.now c.requires.lives c.if-not-is_at_limit.ensures in
+    open_again g.K.Sink.taken (retold l.known (g.B.Backing.holds c.go_on.new.backing)) (g.B.Backing.holds c.go_on.new.backing) (l.known ≢ None) (g.B.Backing.size c.args.backing.now) c.args.n l.session c.go_on.result
+    c.args.machine.now c.go_on.new.machine c.args.paper.now c.go_on.new.paper (says_retold l.known (g.B.Backing.holds c.go_on.new.backing)) goes (c.go_on.ensures.row l.known l.session l.member l.task l.says l.lone)
+
+pub returns-in-Err-clause-again : goal.returns-in-Err-clause-again
+returns-in-Err-clause-again g c = λ goes.
+    open_limited g.K.Sink.taken (g.B.Backing.holds c.args.backing.now) c.args.machine.now c.end_by_limit.new.machine c.args.paper.now c.end_by_limit.new.paper c.requires.lives c.if-not-is_at_limit.ensures
+    c.in-Err.stop (λ known h m t l. resumes_more g.K.Sink.taken known h m t c.args.machine.now c.end_by_limit.new.machine c.args.paper.now c.end_by_limit.new.paper l c.in-Err.stop c.in-Err.ensures.ends)

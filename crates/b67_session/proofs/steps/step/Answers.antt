@@ -1,25 +1,22 @@
-use Rattle.std.proofs.Common.{◌≡◌, ◌≢◌, ℕ, length, Result, Ok, Err, sym, ap, ◌∙◌, subst, inl, inr}
+use Rattle.std.proofs.Common.{length, Ok, Err, sym, ap, ◌∙◌, subst, inl, inr}
 use Rattle.b67_storage.specs.Machine.{retold}
 use Rattle.b67_task.specs.declared.tables.Tasks.{Tasks}
 use Rattle.b67_attempt.specs.Passed.{AreCountable}
 use Rattle.b67_attempt.specs.Stops.{Stop}
-use Rattle.b67_attempt.specs.declared.attempts.Attempt.{Attempt}
 use Rattle.b67_attempt.specs.declared.attempts.Attempt.TheVariants as attempts
 use Rattle.b67_session.proofs.Turned.{Attempted, chooses_one, has_row, turned, over, runs_over, attempted_here, quiet_here}
 use Rattle.b67_session.proofs.Stepping.{made_room, has_one, made_steps, ends_room, ends_one, ends_steps, stop_steps}
-use Rattle.b67_session.proofs.Tabled.{advanced_unprinted, stop_printed, stop_made, ended_printed}
+use Rattle.b67_session.proofs.Tabled.{advanced_unprinted, stop_printed, stop_made, ended_printed, turned_printed, turned_made}
 use Rattle.b67_session.proofs.Fitting.{turned_fits, device_told}
 use Rattle.b67_session.proofs.steps.step.Goals as goal
 
 pub returns-in-None-clause-row : goal.returns-in-None-clause-row
 returns-in-None-clause-row g c = λ known s m t says h.
-    let k = c.args.machine.now in
-    absurd (chooses_one known k s m t h (c.in-None.ensures.choice h.plan s h.ordered h.stands.tables))
+    chooses_one known c.args.machine.now s m t h (c.in-None.ensures.choice h.plan s h.ordered h.stands.tables)
 
 pub returns-in-None-clause-fits : goal.returns-in-None-clause-fits
 returns-in-None-clause-fits g c = λ known s m t says tells h.
-    let k = c.args.machine.now in
-    absurd (chooses_one known k s m t h (c.in-None.ensures.choice h.plan s h.ordered h.stands.tables))
+    chooses_one known c.args.machine.now s m t h (c.in-None.ensures.choice h.plan s h.ordered h.stands.tables)
 
 pub give_turn-requires : goal.give_turn-requires
 give_turn-requires g c =
@@ -74,7 +71,7 @@ pub returns-in-Ok-Made-clause-row : goal.returns-in-Ok-Made-clause-row
 returns-in-Ok-Made-clause-row g c = λ known s m t says h.
     let a : Attempted g.K.Sink.taken known (retold known (g.B.Backing.holds c.attempt.new.backing)) (length c.give_turn.new.machine.cpu.core) (g.B.Backing.size c.args.backing.now) c.give_turn.new.machine.tasks.printed s c.in-Some.chosen (Ok (attempts.Made)) c.attempt.new.machine c.args.paper.now c.attempt.new.paper = rw c.in-Ok-Made.field-0-is at
     (attempted_here g.K.Sink.taken known (g.B.Backing.holds c.args.backing.now) (g.B.Backing.holds c.attempt.new.backing) (length c.give_turn.new.machine.cpu.core) (g.B.Backing.size c.args.backing.now) c.args.machine.now c.give_turn.new.machine c.attempt.new.machine s m t h c.in-Some.chosen (c.in-Some.ensures.choice h.plan s h.ordered h.stands.tables) c.give_turn.ensures.stands (c.in-Some.ensures.room h.plan s h.ordered h.stands.tables) says (Ok c.in-Ok-Made.field-0) c.args.paper.now c.attempt.new.paper c.in-Ok-Made.ensures.row) in
-    made_steps g.K.Sink.taken known (retold known (g.B.Backing.holds c.attempt.new.backing)) (length c.give_turn.new.machine.cpu.core) (g.B.Backing.size c.args.backing.now) c.give_turn.new.machine.tasks.printed s c.in-Some.chosen c.attempt.new.machine c.args.paper.now c.attempt.new.paper a c.advance.result c.args.machine.now c.advance.new.machine c.advance.new.paper h.stands.tables.counts.made (sym (ap (λ (z : Tasks). z.printed) c.give_turn.ensures.tables)) (sym c.give_turn.ensures.len) c.advance.ensures.advances
+    made_steps g.K.Sink.taken known (retold known (g.B.Backing.holds c.attempt.new.backing)) (length c.give_turn.new.machine.cpu.core) (g.B.Backing.size c.args.backing.now) c.give_turn.new.machine.tasks.printed s c.in-Some.chosen c.attempt.new.machine c.args.paper.now c.attempt.new.paper a c.advance.result c.args.machine.now c.advance.new.machine c.advance.new.paper h.stands.tables.counts.made (sym (turned_printed c.args.machine.now.tasks c.give_turn.new.machine.tasks c.in-Some.chosen.row c.give_turn.ensures.tables)) (sym c.give_turn.ensures.len) c.advance.ensures.advances
 
 pub returns-in-Ok-Made-clause-quiet : goal.returns-in-Ok-Made-clause-quiet
 returns-in-Ok-Made-clause-quiet g c = λ known s m t h says wants.
@@ -98,7 +95,7 @@ pub returns-in-Ok-Ends-clause-row : goal.returns-in-Ok-Ends-clause-row
 returns-in-Ok-Ends-clause-row g c = λ known s m t says h.
     let a : Attempted g.K.Sink.taken known (retold known (g.B.Backing.holds c.attempt.new.backing)) (length c.give_turn.new.machine.cpu.core) (g.B.Backing.size c.args.backing.now) c.give_turn.new.machine.tasks.printed s c.in-Some.chosen (Ok (attempts.Ends c.in-Ok-Ends.ending)) c.attempt.new.machine c.args.paper.now c.attempt.new.paper = rw c.in-Ok-Ends.field-0-is at
     (attempted_here g.K.Sink.taken known (g.B.Backing.holds c.args.backing.now) (g.B.Backing.holds c.attempt.new.backing) (length c.give_turn.new.machine.cpu.core) (g.B.Backing.size c.args.backing.now) c.args.machine.now c.give_turn.new.machine c.attempt.new.machine s m t h c.in-Some.chosen (c.in-Some.ensures.choice h.plan s h.ordered h.stands.tables) c.give_turn.ensures.stands (c.in-Some.ensures.room h.plan s h.ordered h.stands.tables) says (Ok c.in-Ok-Ends.field-0) c.args.paper.now c.attempt.new.paper c.in-Ok-Ends.ensures.row) in
-    let printed = ap (λ (z : Tasks). z.printed) c.give_turn.ensures.tables in
+    let printed = turned_printed c.args.machine.now.tasks c.give_turn.new.machine.tasks c.in-Some.chosen.row c.give_turn.ensures.tables in
     ends_steps g.K.Sink.taken known (retold known (g.B.Backing.holds c.attempt.new.backing)) (length c.give_turn.new.machine.cpu.core) (g.B.Backing.size c.args.backing.now) c.give_turn.new.machine.tasks.printed s c.in-Some.chosen c.attempt.new.machine c.args.paper.now c.attempt.new.paper c.in-Ok-Ends.ending a c.close.result c.args.machine.now c.close.new.machine c.close.new.paper h.stands.tables.counts.made (sym printed) (ended_printed c.in-Ok-Ends.ending c.give_turn.new.machine.tasks c.attempt.new.machine.tasks (rw c.in-Ok-Ends.field-0-is at c.in-Ok-Ends.ensures.tables)) (sym c.give_turn.ensures.len) c.close.ensures.closes c.close.ensures.over
 
 pub returns-in-Ok-Ends-clause-quiet : goal.returns-in-Ok-Ends-clause-quiet
@@ -120,7 +117,7 @@ pub returns-in-Err-clause-row : goal.returns-in-Err-clause-row
 returns-in-Err-clause-row g c = λ known s m t says h.
     let a : Attempted g.K.Sink.taken known (retold known (g.B.Backing.holds c.attempt.new.backing)) (length c.give_turn.new.machine.cpu.core) (g.B.Backing.size c.args.backing.now) c.give_turn.new.machine.tasks.printed s c.in-Some.chosen (Err c.in-Err.stop) c.attempt.new.machine c.args.paper.now c.attempt.new.paper =
     attempted_here g.K.Sink.taken known (g.B.Backing.holds c.args.backing.now) (g.B.Backing.holds c.attempt.new.backing) (length c.give_turn.new.machine.cpu.core) (g.B.Backing.size c.args.backing.now) c.args.machine.now c.give_turn.new.machine c.attempt.new.machine s m t h c.in-Some.chosen (c.in-Some.ensures.choice h.plan s h.ordered h.stands.tables) c.give_turn.ensures.stands (c.in-Some.ensures.room h.plan s h.ordered h.stands.tables) says (Err c.in-Err.stop) c.args.paper.now c.attempt.new.paper c.in-Err.ensures.row in
-    let printed = ap (λ (z : Tasks). z.printed) c.give_turn.ensures.tables in
+    let printed = turned_printed c.args.machine.now.tasks c.give_turn.new.machine.tasks c.in-Some.chosen.row c.give_turn.ensures.tables in
     stop_steps g.K.Sink.taken known (retold known (g.B.Backing.holds c.attempt.new.backing)) (length c.give_turn.new.machine.cpu.core) (g.B.Backing.size c.args.backing.now) c.give_turn.new.machine.tasks.printed s c.in-Some.chosen c.attempt.new.machine c.args.paper.now c.attempt.new.paper c.in-Err.stop a c.args.machine.now h.stands.tables.counts.made (sym printed) (sym c.give_turn.ensures.len) (λ other. stop_printed c.in-Err.stop c.give_turn.new.machine.tasks c.attempt.new.machine.tasks c.in-Err.ensures.tables other ∙ printed)
 
 pub returns-in-Err-clause-quiet : goal.returns-in-Err-clause-quiet
@@ -129,8 +126,8 @@ returns-in-Err-clause-quiet g c = λ known s m t h says wants.
 
 pub returns-in-Err-clause-unprinted : goal.returns-in-Err-clause-unprinted
 returns-in-Err-clause-unprinted g c = λ fine zero.
-    stop_printed c.in-Err.stop c.give_turn.new.machine.tasks c.attempt.new.machine.tasks c.in-Err.ensures.tables (λ e. fine (ap (λ (x : Stop). Err x) e)) ∙ ap (λ (z : Tasks). z.printed) c.give_turn.ensures.tables ∙ zero
+    stop_printed c.in-Err.stop c.give_turn.new.machine.tasks c.attempt.new.machine.tasks c.in-Err.ensures.tables (λ e. fine (ap (λ (x : Stop). Err x) e)) ∙ turned_printed c.args.machine.now.tasks c.give_turn.new.machine.tasks c.in-Some.chosen.row c.give_turn.ensures.tables ∙ zero
 
 pub returns-in-Err-clause-fits : goal.returns-in-Err-clause-fits
 returns-in-Err-clause-fits g c = λ known s m t says tells h.
-    inl (stop_made c.in-Err.stop c.give_turn.new.machine.tasks c.attempt.new.machine.tasks c.in-Err.ensures.tables ∙ ap (λ (z : Tasks). z.made) c.give_turn.ensures.tables)
+    inl (stop_made c.in-Err.stop c.give_turn.new.machine.tasks c.attempt.new.machine.tasks c.in-Err.ensures.tables ∙ turned_made c.args.machine.now.tasks c.give_turn.new.machine.tasks c.in-Some.chosen.row c.give_turn.ensures.tables)
