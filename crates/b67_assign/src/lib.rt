@@ -16,10 +16,9 @@ use b67_cells::two_cells;
 use b67_ctl::Regs;
 use b67_entry::accident_on;
 use b67_evaluate::{enter_in_place, procedure_cell};
+pub use b67_evaluate::{evaluate, load};
 use b67_stack::{Cpu, Step};
 use b67_word::{Place, Word};
-
-pub use b67_evaluate::{evaluate, load};
 
 /// Enters the procedure to which the second cell from the top leads, where the value on top takes that cell's place.
 fn enter_under(cpu: &mut Cpu, lower: Word, upper: Word) -> Step

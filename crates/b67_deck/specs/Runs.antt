@@ -18,7 +18,7 @@ use Rattle.b67_open.specs.Decks.{session_of}
 use Rattle.b67_open.specs.Opens.{need_of, sectors_of_all}
 use Rattle.b67_task.specs.declared.tables.Machine.{Machine}
 use Rattle.b67_session.specs.Slices.{IsLone, IsLimited}
-pub use Rattle.b67_session.specs.Slices.{Rests, StepsFit}
+pub use Rattle.b67_session.specs.Slices.{LivesOn, IsOpen, Rests, StepsFit}
 use Rattle.b67_lines.specs.Moments.{first_part, due}
 use Rattle.b67_lines.specs.Stops.{Run, live_after, halted_line}
 use Rattle.b67_deck.specs.Device.{Device, Tells, Failed}

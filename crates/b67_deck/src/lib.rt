@@ -6,6 +6,7 @@ mod lines;
 mod outcome;
 mod runs;
 
+pub use b67_session::{Progress, Session};
 pub use lines::{backing_full_line, no_core_line, refusal_line, say_text};
 pub use outcome::Outcome;
 pub use runs::run_deck;

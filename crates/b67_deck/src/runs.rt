@@ -18,16 +18,15 @@ ghost use Rattle.b67_deck.specs.Finishing.{refused_status, refused_line, steps_o
 ghost use Rattle.b67_deck.specs.Lines.{backing_fault_line};
 ghost use Rattle.b67_deck.specs.Runs.{RunEnds};
 
-use b67_admit::Refusal;
-use b67_backing::Backing;
 use crate::lines::{backing_full_line, no_core_line, refusal_line};
 use crate::outcome::Outcome;
-use b67_session::Stop;
+use b67_admit::Refusal;
+use b67_backing::Backing;
 use b67_io::Sink;
 use b67_lines::{halted_line, line_of, say};
 use b67_load::Admitted;
 use b67_open::{OpenFault, open};
-use b67_session::{Progress, slice};
+use b67_session::{Progress, Stop, slice};
 use b67_task::Machine;
 use b67_text::Deck;
 use std::alloc::Global;

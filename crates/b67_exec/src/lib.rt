@@ -14,16 +14,15 @@ use b67_assign::{evaluate, load, stod, ston};
 use b67_code::reading;
 use b67_entry::{entr, mkst};
 use b67_index::{indx, nxlv};
+pub use b67_leave::exit;
 use b67_model::{Code, Op};
 use b67_operands::{
     Binary, Unary, branch_if, dlet, dupl, exch, go_on, literal, mpcw, namc, on_one, on_two,
 };
+pub use b67_return::retn;
 use b67_stack::{Cpu, Step, What};
 use b67_stuff::stff;
 use b67_word::{Fault, Place};
-
-pub use b67_leave::exit;
-pub use b67_return::retn;
 
 /// An operator without parameters, behind which the task goes on at `next`.
 fn plain(cpu: &mut Cpu, code: Code, next: Place) -> Step

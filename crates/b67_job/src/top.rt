@@ -29,7 +29,6 @@ use crate::planning::missing_card;
 use b67_admit::{AdmitFault, Loaded, Refusal, admit};
 use b67_backing::Backing;
 use b67_commands::{asm_text, check_text};
-
 use b67_deck::{Outcome, refusal_line, run_deck, say_text};
 use b67_io::{Sink, Source};
 use b67_lines::{line_of, say};

@@ -1,11 +1,16 @@
 //! Worked runs, with the lines that the rules give.
 
+ghost use Rattle.std.specs.Prelude.{◌≡◌, ◌≢◌, ◌+◌, length, None, IfSome, IfOk};
+ghost use Rattle.b67_deck.specs.Runs.{AreCountable, IsOpen};
+
 use crate::run;
 use crate::tests::{bytes_of, numbers_of};
-use b67_backing::{Backing, HonestBacking, MemoryBacking};
-use b67_deck::Outcome;
+use b67_backing::{Backing, FileBacking, HonestBacking, MemoryBacking};
+use b67_deck::{Outcome, Progress, Session};
 use b67_io::{Paper, Tape};
+use b67_task::Machine;
 use std::alloc::{AllocError, Global};
+use std::fs;
 use std::process::Abort;
 use std::test::Fail;
 
@@ -278,5 +283,76 @@ fn backing_fails(rt: HostRuntime) -> Result<(), Fail> {
         assert_eq!(rt; printed.as_slice(), b"BACKING FAULT\n".as_slice());
         assert_eq!(rt; outcome.machine.is_some(), opened);
     }
+    Ok(())
+}
+
+/// The outer part of EIGHT by itself: eight arrays of 200 words, of which core has room for one.
+const EIGHT_ALONE: &str =
+    "?JOB EIGHT\n?ASM\nSEGMENT MAIN 2\nMKST\nNAMC 0,8\nLT8 200\nENTR\nMKST\nNAMC 0,8\nLT8 200\nENTR\nMKST\nNAMC 0,8\nLT8 200\nENTR\nMKST\nNAMC 0,8\nLT8 200\nENTR\nMKST\nNAMC 0,8\nLT8 200\nENTR\nMKST\nNAMC 0,8\nLT8 200\nENTR\nMKST\nNAMC 0,8\nLT8 200\nENTR\nMKST\nNAMC 0,8\nLT8 200\nENTR\nNAMC 2,2\nLT8 0\nINDX\nNAMC 2,3\nLT8 1\nINDX\nNAMC 2,4\nLT8 2\nINDX\nNAMC 2,5\nLT8 3\nINDX\nNAMC 2,6\nLT8 4\nINDX\nNAMC 2,7\nLT8 5\nINDX\nNAMC 2,8\nLT8 6\nINDX\nNAMC 2,9\nLT8 7\nINDX\nLT8 11\nNAMC 2,10\nSTOD\nLT8 12\nNAMC 2,11\nSTOD\nLT8 13\nNAMC 2,12\nSTOD\nLT8 14\nNAMC 2,13\nSTOD\nLT8 15\nNAMC 2,14\nSTOD\nLT8 16\nNAMC 2,15\nSTOD\nLT8 17\nNAMC 2,16\nSTOD\nLT8 18\nNAMC 2,17\nSTOD\nMKST\nNAMC 0,9\nVALC 2,10\nVALC 2,11\nADD\nVALC 2,12\nADD\nVALC 2,13\nADD\nVALC 2,14\nADD\nVALC 2,15\nADD\nVALC 2,16\nADD\nVALC 2,17\nADD\nENTR\nEXIT\n?END\n";
+
+// The rows of paging over a file, which is made anew for each. The segment of EIGHT's outer part has 26 words, so its need
+// is 160 + 3 + 256 + 28 + 202.
+#[test]
+fn paging_over_a_file(rt: HostRuntime) -> Result<(), Fail> {
+    let alloc = rt.alloc();
+    let name = format!(in alloc; "b67_job_{}.sectors", std::process::id(rt.process()))?;
+    let rows = [
+        ("631", "?STACK 256\n", LEAVE, 0, "1.1 3\n1.1 ENDED\n"),
+        ("630", "?STACK 256\n", TWO, 0, "1.1 23\n1.1 ENDED\n"),
+        ("629", "?STACK 256\n", TWO, 4, "NO CORE 630 629\n"),
+        ("256", "?STACK 64\n", SMALL, 0, "1.1 ENDED\n"),
+        ("256", "?STACK 64\n?HALT 2\n", SMALL, 3, "HALTED 2\n"),
+        (
+            "649",
+            "?STACK 256\n",
+            EIGHT_ALONE,
+            0,
+            "1.1 116\n1.1 ENDED\n",
+        ),
+        ("648", "?STACK 256\n", EIGHT_ALONE, 4, "NO CORE 649 648\n"),
+    ];
+    for (core, cards, job, status, lines) in rows {
+        let mut backing = FileBacking::at(&rt, name.as_str());
+        let (printed, outcome) = run_over(alloc, core, cards, job, &mut backing)?;
+        assert_eq!(rt; printed.as_slice(), lines.as_bytes(), "{cards}{job}");
+        assert_eq!(rt; outcome.status, status, "{cards}{job}");
+        fs::remove_file(&rt, name.as_str())?;
+    }
+    Ok(())
+}
+
+/// Runs TWO in the least core over a backing of which a write fails: the machine that is left.
+fn stopped_two<B: Backing>(alloc: Global, backing: &mut B) -> Result<Option<Machine>, AllocError>
+    requires { B.holds backing.old ≢ None }
+    ensures open { IfOk result (λ found. IfSome found (λ k. IsOpen (B.holds backing.new) k)) }
+    ensures countable { IfOk result (λ found. IfSome found (λ k. AreCountable k.tasks.jobs)) }
+    ensures same { IfOk result (λ found. IfSome found (λ k. B.size backing.new + 1 ≡ length k.sectors.links)) }
+{
+    let mut deck = bytes_of(alloc, b"?STACK 256\n")?;
+    deck.extend(TWO.as_bytes())?;
+    let mut tape = Tape::new(deck, 4096, numbers_of(alloc, &[])?);
+    let mut paper = Paper::new(alloc, 1000, numbers_of(alloc, &[])?)?;
+    let words = ["run", "--core", "630", "--backing", "b"];
+    let outcome = run(alloc, &words, &mut tape, &mut paper, backing);
+    if outcome.status != 6 {
+        return Ok(None);
+    }
+    Ok(outcome.machine)
+}
+
+// After a write that failed the session goes on, where it stopped.
+#[test]
+fn a_stopped_session_goes_on(rt: HostRuntime) -> Result<(), Fail> {
+    let alloc = rt.alloc();
+    let none = numbers_of(alloc, &[])?;
+    let mut backing = MemoryBacking::new(alloc, 4096, none, numbers_of(alloc, &[3])?)?;
+    let machine = stopped_two(alloc, &mut backing)?.expect(&rt, "a session was opened");
+    let mut session = Session::of(machine);
+    let mut paper = Paper::new(alloc, 1000, numbers_of(alloc, &[])?)?;
+    let progress = session.slice(1000, &mut backing, &mut paper);
+    assert!(rt; matches!(progress, Ok(Progress::Ended)));
+    assert_eq!(rt; paper.bytes(), b"1.1 23\n1.1 ENDED\n".as_slice());
+    assert_eq!(rt; session.machine().tasks.made, 27);
+    assert!(rt; session.into_machine().tasks.rows.is_empty());
     Ok(())
 }

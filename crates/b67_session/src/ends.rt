@@ -9,8 +9,8 @@ ghost use Rattle.b67_attempt.specs.Passed.{AreCountable};
 ghost use Rattle.b67_attempt.specs.Stops.{PrintFault};
 ghost use Rattle.b67_session.specs.Steps.{IsCounted, AtLimit, PutsText, ending_text, LimitEnds, Closes, Advances, Finishes};
 
-use b67_ending::end_last;
 use b67_attempt::Stop;
+use b67_ending::end_last;
 use b67_io::Sink;
 use b67_lines::{ending_line, put_rest};
 use b67_schedule::{Chosen, count};

@@ -7,6 +7,6 @@ mod slices;
 mod steps;
 mod turns;
 
-pub use running::Session;
 pub use b67_attempt::Stop;
+pub use running::Session;
 pub use slices::{Progress, slice};

@@ -13,8 +13,8 @@ ghost use Rattle.b67_session.specs.Slices.{IsOpen, LivesOn, IsLone, IsLimited, S
 
 use crate::ends::{StepEnd, end_by_limit, is_at_limit};
 use crate::steps::step;
-use b67_backing::Backing;
 use b67_attempt::Stop;
+use b67_backing::Backing;
 use b67_io::Sink;
 use b67_task::{Machine, Tasks};
 
