@@ -87,18 +87,19 @@ fn go_on<B: Backing, K: Sink>(
 /// Makes steps of a session of one job with one task until that has ended, the count of the halt is reached, or `n` were
 /// made, looked at in this order. Each step's text is printed as the step is made.
 ///
-/// After a `Stop` the step isn't made, and the machine stands for the state before it; but where the printer failed in the
-/// line of LIMIT, the step is made and counted but for that line and the task's end, and the next call begins with them. The
-/// call may be made again after every stop, halt and slice of steps. `printed` counts the bytes of the text in hand that were taken, and the next call
-/// skips these: no byte is printed twice.
+/// After a `Stop` the step isn't made, and the machine stands for the state before it; but where the printer failed in
+/// the line of LIMIT, the step is made and counted but for that line and the task's end, and the next call begins with
+/// them. The call may be made again after every stop, halt and slice of steps. `printed` counts the bytes of the text in
+/// hand that were taken, and the next call skips these: no byte is printed twice.
 ///
-/// `NoCore` exactly where the step's need exceeds core, with both, unless its segment is absent and the device is full or
-/// fails as it is brought in. `BackingFull` only where the session takes more sectors than the device has, with both, where
-/// the step's segment or array is absent, and a present array that keeps no chain wants more sectors than are free;
-/// `BackingFault` and `PrintFault` only where that device failed. A single step whose segment and array are present doesn't
-/// call the backing. Where nothing is known of what the device's sectors hold, the words that it gives back may be others,
-/// and as many. After `Ended` the machine stands for the session without a task; where it was known what the sectors hold,
-/// for the one after the steps.
+/// `NoCore` only where the step's need exceeds core, with both; no step that was made needs more. A step that does ends
+/// in another stop only where its segment is absent and the device is full or fails as it is brought in, or by
+/// `PrintFault`. `BackingFull` only where the session takes more sectors than the device has, with both, where the step's
+/// segment or array is absent, and a present array that keeps no chain wants more sectors than are free; `BackingFault`
+/// and `PrintFault` only where that device failed. A single step whose segment and array are present doesn't call the
+/// backing. Where nothing is known of what the device's sectors hold, the words that it gives back may be others, and as
+/// many. After `Ended` the machine stands for the session without a task; where it was known what the sectors hold, for
+/// the one after the steps.
 pub fn slice<B: Backing, K: Sink>(
     machine: &mut Machine,
     n: u64,
