@@ -19,7 +19,7 @@ use Rattle.b67_model.specs.Schedule.{Session}
 use Rattle.b67_model.specs.State.{Frame, Entered, Array, Task, Job, Course, Member, top, with_top_cells, with_task, height, frame}
 use Rattle.b67_model.specs.Steps.{Done, Goes, cells_of}
 use Rattle.b67_model.specs.Words.{Word, Proc}
-use Rattle.b67_order.proofs.Members.{change_twice}
+use Rattle.b67_law_order.proofs.Members.{change_twice}
 use Rattle.b67_stack.specs.declared.Cpu.{Cpu}
 use Rattle.b67_stack.specs.declared.Step.{Step}
 use Rattle.b67_stack.specs.declared.Step.TheVariants as step
@@ -37,8 +37,8 @@ use Rattle.b67_layout.proofs.Gone.{no_things_gone}
 use Rattle.b67_refer.specs.Scene.{Scene}
 use Rattle.b67_refer.specs.Ends.{IsProcAt}
 use Rattle.b67_refer.proofs.Scenes.{scene}
-use Rattle.b67_entering.proofs.Heads.{clear_settled}
-use Rattle.b67_entry.specs.Procedures.{CanEnter, IsEntered, EntersOrFaults}
+use Rattle.b67_layout_enter.proofs.Heads.{clear_settled}
+use Rattle.b67_entry_enter.specs.Procedures.{CanEnter, IsEntered, EntersOrFaults}
 use Rattle.b67_accidents.proofs.Looks.{spots-same, reach-same, level-same, cell-same}
 
 cells-back : (fs : List Frame) (cs : List Word) → with_top_cells (with_top_cells fs cs) (top (with_top_cells fs cs)).cells ≡ with_top_cells fs cs

@@ -19,7 +19,7 @@ use Rattle.b67_model.specs.Environment.{level_of_frame}
 use Rattle.b67_model.specs.Cells.{cell, cell_of, first_offset}
 use Rattle.b67_model.specs.InOrder.{Known, known_of, from_frame, frames_of_task, critical_of, outer_reach, reach_of, IsInOrderButPlaces}
 use Rattle.b67_model.specs.Schedule.{Session}
-use Rattle.b67_order.proofs.Members.{has_get, has_reverse_back}
+use Rattle.b67_law_order.proofs.Members.{has_get, has_reverse_back}
 use Rattle.b67_stack.specs.Stacks.{Spot}
 use Rattle.b67_layout.specs.Plan.{Plan, slot_of, spot_in, outer_spots, spots}
 use Rattle.b67_layout.specs.Session.{IsRunning}

@@ -5,11 +5,11 @@ use Rattle.b67_word.specs.Tagged.{Tagged, contents}
 use Rattle.b67_codefile.specs.Meaning.{segment_of}
 use Rattle.b67_model.specs.State as state
 use Rattle.b67_model.specs.declared.operators.Op.{Op}
-use Rattle.b67_text.specs.declared.assembly.Line.{Line}
-use Rattle.b67_text.specs.Answers.{Answer, ◌>>=◌, ◌>>◌, needs}
-use Rattle.b67_text.specs.Deck.{Refusal, of_card}
-use Rattle.b67_text.specs.Encoding.{code_of, packed, laid}
-use Rattle.b67_text.specs.Asm as asm
+use Rattle.b67_model_text.specs.declared.assembly.Line.{Line}
+use Rattle.b67_model_text.specs.Answers.{Answer, ◌>>=◌, ◌>>◌, needs}
+use Rattle.b67_model_text.specs.Deck.{Refusal, of_card}
+use Rattle.b67_model_text.specs.Encoding.{code_of, packed, laid}
+use Rattle.b67_model_text.specs.Asm as asm
 use Rattle.b67_asm.specs.Blocks.{segment_head, row_head}
 use Rattle.b67_asm.specs.Putting.{syllables_behind, IsCode}
 use Rattle.b67_asm.specs.Scope.{scope_at}

@@ -6,10 +6,10 @@ use Rattle.b67_model.specs.State as state
 use Rattle.b67_model.specs.Program.{Program}
 use Rattle.b67_codefile.specs.declared.file.Codefile.{Codefile}
 use Rattle.b67_codefile.specs.Meaning.{segment_of, program_of}
-use Rattle.b67_text.specs.declared.assembly.Line.{Line}
-use Rattle.b67_text.specs.Answers.{◌>>=◌}
-use Rattle.b67_text.specs.Deck.{Refusal}
-use Rattle.b67_text.specs.Asm as asm
+use Rattle.b67_model_text.specs.declared.assembly.Line.{Line}
+use Rattle.b67_model_text.specs.Answers.{◌>>=◌}
+use Rattle.b67_model_text.specs.Deck.{Refusal}
+use Rattle.b67_model_text.specs.Asm as asm
 use Rattle.b67_asm.specs.Blocks.{with_program, Extends}
 
 pub rest_is : {A : Type 0} (n : ℕ) (s : List A) → take (length s - n) (drop n s) ≡ drop n s

@@ -4,7 +4,7 @@ use Rattle.std.specs.List.{AllByRecursion}
 use Rattle.std.proofs.lemmas.List.{take_all, length-drop, length-append, map-append}
 use Rattle.b67_word.specs.Tagged.{Tagged, contents}
 use Rattle.b67_codefile.specs.Spelling.{Bears}
-use Rattle.b67_text.specs.Encoding.{packed}
+use Rattle.b67_model_text.specs.Encoding.{packed}
 
 pub six_more : (xs : List ℕ) → 6 ≤ length xs → packed xs ≡ (((((get_or xs 0 0 * 256 + get_or xs 1 0) * 256 + get_or xs 2 0) * 256 + get_or xs 3 0) * 256 + get_or xs 4 0) * 256 + get_or xs 5 0) ∷ packed (drop 6 xs)
 six_more [] le = absurd (omega arith)

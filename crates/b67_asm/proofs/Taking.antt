@@ -3,9 +3,9 @@ use Rattle.std.proofs.Common.{◌≡◌, ◌<◌, ◌+◌, ℕ, zero, suc, Bool,
 use Rattle.std.proofs.Math.Seq.{drop-cons}
 use Rattle.std.specs.Option.{option_or}
 use Rattle.std.specs.List.{cons_option, list_any}
-use Rattle.b67_text.specs.declared.assembly.Line.{Line}
-use Rattle.b67_text.specs.declared.assembly.Named.{Named}
-use Rattle.b67_text.specs.Asm.{meaning, definition, definitions, segments_behind, rows_behind, labels, label_at, reach, is_word}
+use Rattle.b67_model_text.specs.declared.assembly.Line.{Line}
+use Rattle.b67_model_text.specs.declared.assembly.Named.{Named}
+use Rattle.b67_model_text.specs.Asm.{meaning, definition, definitions, segments_behind, rows_behind, labels, label_at, reach, is_word}
 use Rattle.b67_asm.proofs.NamesLaw.{grown}
 
 pub drop_item : {A : Type 0} (xs : List A) (i : ℕ) (x : A) → i < length xs → x ≡ get_or xs i x → drop i xs ≡ x ∷ drop (i + 1) xs

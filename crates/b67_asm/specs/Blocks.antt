@@ -8,10 +8,10 @@ use Rattle.b67_codefile.specs.declared.file.Segment.{Segment}
 use Rattle.b67_codefile.specs.declared.file.Codefile.{Codefile}
 use Rattle.b67_codefile.specs.Spelling.{IsSegment, IsRow, IsWithin}
 use Rattle.b67_codefile.specs.Meaning.{segment_of, program_of}
-use Rattle.b67_text.specs.declared.assembly.Line.{Line}
-use Rattle.b67_text.specs.Answers.{Answer, ◌>>=◌, ◌>>◌, needs, or_reason}
-use Rattle.b67_text.specs.Deck.{Refusal}
-use Rattle.b67_text.specs.Asm as asm
+use Rattle.b67_model_text.specs.declared.assembly.Line.{Line}
+use Rattle.b67_model_text.specs.Answers.{Answer, ◌>>=◌, ◌>>◌, needs, or_reason}
+use Rattle.b67_model_text.specs.Deck.{Refusal}
+use Rattle.b67_model_text.specs.Asm as asm
 use Rattle.b67_asm.specs.declared.fault.AsmFault.{AsmFault}
 use Rattle.b67_asm.specs.declared.fault.AsmFault.TheVariants.{Card, Memory}
 

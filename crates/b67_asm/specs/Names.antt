@@ -1,7 +1,7 @@
 -- The entries of maps of names, without where their keys lie.
 use denote.Bor.{Bor}
 use Rattle.std.specs.Prelude.{ℕ, List, map}
-use Rattle.b67_text.specs.declared.assembly.Named.{Named}
+use Rattle.b67_model_text.specs.declared.assembly.Named.{Named}
 
 abbrev pub name_entry : Bor (List ℕ) × Named → List ℕ × Named
 name_entry e = (e.0.now, e.1)

@@ -3,10 +3,10 @@ use Rattle.std.specs.Prelude.{◌≡◌, ◌≤◌, ◌<◌, ◌+◌, not, nat_l
 use Rattle.std.specs.List.{AllByRecursion, list_any}
 use Rattle.b67_word.specs.Tagged.{Tagged, contents}
 use Rattle.b67_codefile.specs.Spelling.{Bears}
-use Rattle.b67_text.specs.declared.assembly.Line.{Line}
-use Rattle.b67_text.specs.Answers.{Answer, ◌>>=◌, ◌>>◌, needs}
-use Rattle.b67_text.specs.Deck.{Refusal}
-use Rattle.b67_text.specs.Asm as asm
+use Rattle.b67_model_text.specs.declared.assembly.Line.{Line}
+use Rattle.b67_model_text.specs.Answers.{Answer, ◌>>=◌, ◌>>◌, needs}
+use Rattle.b67_model_text.specs.Deck.{Refusal}
+use Rattle.b67_model_text.specs.Asm as asm
 use Rattle.b67_asm.specs.declared.fault.AsmFault.{AsmFault}
 use Rattle.b67_asm.specs.declared.fault.AsmFault.TheVariants as faults
 use Rattle.b67_asm.specs.declared.fault.Refused.{Refused}

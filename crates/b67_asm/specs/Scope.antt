@@ -1,11 +1,11 @@
 -- What the operators of a segment may name, as the assembler holds it.
 use denote.Bor.{Bor}
 use Rattle.std.specs.Prelude.{◌≡◌, ℕ, List, Option, Result, Ok, Err}
-use Rattle.b67_text.specs.declared.assembly.Named.{Named}
+use Rattle.b67_model_text.specs.declared.assembly.Named.{Named}
 use Rattle.b67_model.specs.declared.operators.Op.{Op}
-use Rattle.b67_text.specs.declared.assembly.Line.{Line}
-use Rattle.b67_text.specs.declared.assembly.Statement as statement
-use Rattle.b67_text.specs.Asm as asm
+use Rattle.b67_model_text.specs.declared.assembly.Line.{Line}
+use Rattle.b67_model_text.specs.declared.assembly.Statement as statement
+use Rattle.b67_model_text.specs.Asm as asm
 use Rattle.b67_asm.specs.Names.{name_entries, label_entries}
 use Rattle.b67_asm.specs.declared.operator.Scope.{Scope}
 

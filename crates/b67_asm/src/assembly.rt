@@ -1,7 +1,7 @@
 //! The codefile of assembly cards.
 
 ghost use Rattle.std.specs.Prelude.{◌≡◌, ◌+◌, ◌≤◌, ◌<◌, ◌^◌, length, drop, [], ◌∷◌};
-ghost use Rattle.b67_text.specs.Asm as asm;
+ghost use Rattle.b67_model_text.specs.Asm as asm;
 ghost use Rattle.b67_asm.specs.Scope.{names_in};
 ghost use Rattle.b67_asm.specs.Blocks.{IsAssembled, IsChecked, assembled_lines, with_names};
 
@@ -11,7 +11,7 @@ use crate::names::{names_of, segments_behind};
 use crate::operator::misplaced;
 use crate::statement::lines_of;
 use b67_codefile::{Codefile, Rows, Segments};
-use b67_text::{Cards, Line, Named};
+use b67_model_text::{Cards, Line, Named};
 use indexmap::IndexMap;
 use std::alloc::Global;
 

@@ -1,7 +1,7 @@
 // Segments and data rows, each from its card and the cards behind it.
 ghost use Rattle.std.specs.Prelude.{◌≡◌, ◌+◌, ◌≤◌, ◌<◌, ◌^◌, not, length, [], OnOk, IfOk};
 ghost use Rattle.std.specs.List.{list_any};
-ghost use Rattle.b67_text.specs.Asm as asm;
+ghost use Rattle.b67_model_text.specs.Asm as asm;
 ghost use Rattle.b67_asm.specs.Scope.{names_in, scope_at};
 ghost use Rattle.b67_asm.specs.Putting.{CodePut, syllables_behind};
 ghost use Rattle.b67_asm.specs.Blocks.{segment_head, row_head, SegmentPut, RowPartPut, SegmentAdded, RowAdded, PartPut, Grows};
@@ -12,7 +12,7 @@ use crate::operator::{Scope, misplaced};
 use crate::row::words_in;
 use crate::segment::code_in;
 use b67_codefile::{Codefile, Segment};
-use b67_text::{Kind, Line, Named, Statement};
+use b67_model_text::{Kind, Line, Named, Statement};
 use b67_word::Words;
 use indexmap::IndexMap;
 use std::alloc::Global;

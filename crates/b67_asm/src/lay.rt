@@ -4,7 +4,7 @@ ghost use Rattle.b67_word.specs.Tagged.{contents};
 ghost use Rattle.std.specs.List.{AllByRecursion};
 ghost use Rattle.b67_codefile.specs.Spelling.{Bears};
 ghost use Rattle.b67_model.specs.Encoding.{has_bits};
-ghost use Rattle.b67_text.specs.Encoding.{filling, literal_part, laid_one, packed};
+ghost use Rattle.b67_model_text.specs.Encoding.{filling, literal_part, laid_one, packed};
 
 use arrayvec::ArrayVec;
 use b67_model::Op;

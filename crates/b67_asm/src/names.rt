@@ -3,11 +3,11 @@ ghost use Rattle.std.specs.Prelude.{◌≡◌, ◌+◌, ◌<◌, ◌≤◌, ◌^
 ghost use Rattle.std.specs.Option.{option_or};
 ghost use Rattle.std.specs.List.{cons_option};
 ghost use Rattle.b67_model.specs.Encoding.{syllable_after};
-ghost use Rattle.b67_text.specs.Asm.{meaning, definition, definitions, segments_behind, rows_behind, labels, label_at, behind, reach};
+ghost use Rattle.b67_model_text.specs.Asm.{meaning, definition, definitions, segments_behind, rows_behind, labels, label_at, behind, reach};
 ghost use Rattle.b67_asm.specs.Names.{name_entries, label_entries};
 
 use b67_model::Op;
-use b67_text::{Line, Named, Sketch, Statement};
+use b67_model_text::{Line, Named, Sketch, Statement};
 use indexmap::IndexMap;
 use std::alloc::{AllocError, Global};
 

@@ -3,7 +3,7 @@ ghost use Rattle.std.specs.Prelude.{◌≡◌, ◌∷◌, ◌+◌, ◌*◌, ◌<
 ghost use Rattle.b67_word.specs.Couples.{couple_bits};
 ghost use Rattle.b67_model.specs.Encoding.{has_bits};
 ghost use Rattle.b67_model.specs.declared.operators.Op.TheVariants.{Mpcw};
-ghost use Rattle.b67_text.specs.Asm as asm;
+ghost use Rattle.b67_model_text.specs.Asm as asm;
 ghost use Rattle.std.specs.List.{list_any};
 ghost use Rattle.std.specs.Option.{option_map, option_and_then};
 ghost use Rattle.b67_model.specs.Operators.{place_at};
@@ -12,7 +12,7 @@ ghost use Rattle.b67_asm.specs.Scope.{names_in, scope_of, IsOperator};
 
 use crate::names::{meaning_of, place_of};
 use b67_model::Op;
-use b67_text::{Branch, Call, Name, Named, Sketch, Statement, Values};
+use b67_model_text::{Branch, Call, Name, Named, Sketch, Statement, Values};
 use b67_word::{Couple, Place, bits_of};
 use indexmap::IndexMap;
 

@@ -3,13 +3,13 @@ ghost use Rattle.std.specs.Prelude.{◌≡◌, ◌∷◌, ◌++◌, ◌≤◌, �
 ghost use Rattle.std.specs.List.{list_any, AllByRecursion};
 ghost use Rattle.b67_word.specs.Tagged.{word, contents};
 ghost use Rattle.b67_codefile.specs.Spelling.{Bears};
-ghost use Rattle.b67_text.specs.Asm as asm;
+ghost use Rattle.b67_model_text.specs.Asm as asm;
 ghost use Rattle.b67_asm.specs.Scope.{names_in};
 ghost use Rattle.b67_asm.specs.RowPutting.{WordsPut, RowPut, line_words, checked_values};
 
 use crate::fault::{AsmFault, Refused};
 use crate::operator::{is_bad, misplaced};
-use b67_text::{Line, Named, Statement};
+use b67_model_text::{Line, Named, Statement};
 use b67_word::{Word, Words};
 use indexmap::IndexMap;
 use std::alloc::{AllocError, Global};

@@ -1,16 +1,16 @@
 // What an assembly card says by itself.
 ghost use Rattle.std.specs.Prelude.{◌≡◌, ◌-◌, [], ◌∷◌, ◌≤◌, map, take, IfOk, IfSome, length};
 ghost use Rattle.std.specs.Option.{option_and_then};
-ghost use Rattle.b67_text.specs.declared.assembly.Mnemonic.TheVariants as names;
-ghost use Rattle.b67_text.specs.Answers.{or_reason};
-ghost use Rattle.b67_text.specs.Command.{row_of, parted};
-ghost use Rattle.b67_text.specs.Statements as spec;
+ghost use Rattle.b67_model_text.specs.declared.assembly.Mnemonic.TheVariants as names;
+ghost use Rattle.b67_model_text.specs.Answers.{or_reason};
+ghost use Rattle.b67_model_text.specs.Command.{row_of, parted};
+ghost use Rattle.b67_model_text.specs.Statements as spec;
 ghost use Rattle.b67_asm.specs.Rows.{keyed, ValuesPut};
 
 use crate::number::{bits_in, numeral_up_to};
 use b67_card::{name, parted, words};
 use b67_model::{Code, Op};
-use b67_text::{Branch, Call, Card, Kind, Line, Lines, Mnemonic, Name, Sketch, Statement, Values};
+use b67_model_text::{Branch, Call, Card, Kind, Line, Lines, Mnemonic, Name, Sketch, Statement, Values};
 use b67_word::Couple;
 use std::alloc::{AllocError, Global};
 

@@ -4,7 +4,7 @@ use crate::{AsmFault, assemble};
 use b67_card::read_cards;
 use b67_codefile::write;
 use b67_io::FreeTape;
-use b67_text::Cards;
+use b67_model_text::Cards;
 use b67_word::Bytes;
 use std::alloc::Global;
 use std::test::Fail;

@@ -17,7 +17,7 @@ use Rattle.b67_stack.specs.declared.Cpu.{Cpu}
 use Rattle.b67_stack.specs.Stands.{Storage}
 use Rattle.b67_layout.specs.Plan.{Plan}
 use Rattle.b67_layout.specs.Meets.{here}
-use Rattle.b67_cells.specs.Tops.{IsWordOf, IsAt, cells, GivesTwo}
+use Rattle.b67_exec_cells.specs.Tops.{IsWordOf, IsAt, cells, GivesTwo}
 use Rattle.b67_fetch.specs.Fetches.{enters_at, top_end}
 use Rattle.b67_store.specs.Stores.{store_end}
 use Rattle.b67_evaluate.proofs.Entered.{AtProcedure, at_procedure}

@@ -30,13 +30,13 @@ use Rattle.b67_layout.specs.Session.{IsRunning, SessionHoldsBut, SessionStands}
 use Rattle.b67_layout.specs.Meets.{here, with_job, Meets}
 use Rattle.b67_layout.proofs.Whole.{task_with}
 use Rattle.b67_layout.proofs.Fresh.{running_in_order}
-use Rattle.b67_cells.specs.Tops.{IsWordOf, IsAt, cells}
-use Rattle.b67_cells.proofs.Replaced.{height-with}
-use Rattle.b67_cells.proofs.Put.{room, replaced_stands}
+use Rattle.b67_exec_cells.specs.Tops.{IsWordOf, IsAt, cells}
+use Rattle.b67_exec_cells.proofs.Replaced.{height-with}
+use Rattle.b67_exec_cells.proofs.Put.{room, replaced_stands}
 use Rattle.b67_ordering.proofs.Cells.{cells_in_order}
 use Rattle.b67_refer.specs.Scene.{Scene}
 use Rattle.b67_refer.specs.Ends.{IsProcAt}
-use Rattle.b67_entry.specs.Procedures.{CanEnter, EntersOrFaults}
+use Rattle.b67_entry_enter.specs.Procedures.{CanEnter, EntersOrFaults}
 use Rattle.b67_fetch.proofs.Values.{here_scene}
 use Rattle.b67_accidents.proofs.Entries.{EntersOver, scene0, member0, task0, proc_moves, can_enter, entered}
 use Rattle.b67_evaluate.proofs.Entered.{AtProcedure}

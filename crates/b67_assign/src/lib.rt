@@ -6,15 +6,15 @@ ghost use Rattle.b67_word.specs.declared.couples.Place.{Place};
 ghost use Rattle.b67_model.specs.Rows as rows;
 ghost use Rattle.b67_model.specs.Steps.{cells_of};
 ghost use Rattle.b67_layout.specs.Meets.{here, Meets, RunsSome, ForEach};
-ghost use Rattle.b67_cells.specs.Tops.{cells};
+ghost use Rattle.b67_exec_cells.specs.Tops.{cells};
 ghost use Rattle.b67_fetch.specs.Fetches.{enters_at};
 ghost use Rattle.b67_store.specs.Stores.{store_end};
 ghost use Rattle.b67_refer.specs.Ends.{IsProcAt};
 ghost use Rattle.b67_assign.specs.Stores.{ValueOver, StoresInProc};
 
-use b67_cells::two_cells;
+use b67_exec_cells::two_cells;
 use b67_ctl::Regs;
-use b67_entry::accident_on;
+use b67_entry_enter::accident_on;
 use b67_evaluate::{enter_in_place, procedure_cell};
 pub use b67_evaluate::{evaluate, load};
 use b67_stack::{Cpu, Step};

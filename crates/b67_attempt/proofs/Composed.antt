@@ -10,19 +10,19 @@ use Rattle.b67_model.specs.InOrder.{IsInOrderButPlaces}
 use Rattle.b67_stack.specs.declared.What.{What}
 use Rattle.b67_stack.specs.declared.What.TheVariants as what
 use Rattle.b67_stack.specs.Stands.{Storage}
-use Rattle.b67_storage.specs.Machine.{Says, retold}
+use Rattle.b67_layout_storage.specs.Machine.{Says, retold}
 use Rattle.b67_layout.specs.Plan.{Plan}
 use Rattle.b67_layout.specs.Session.{IsRunning}
 use Rattle.b67_code.specs.Running.{code_area}
 use Rattle.b67_order_weaker.proofs.Sessions.{other_numbers_keep_order}
-use Rattle.b67_task.specs.declared.tables.Machine.{Machine}
-use Rattle.b67_task.specs.declared.tables.Tasks.{Tasks}
-use Rattle.b67_task.specs.Tables.{MachineStands}
-use Rattle.b67_intrinsics.specs.Called.{OnlyPrinted}
-use Rattle.b67_intrinsics.specs.declared.ends.Stop.{Stop}
-use Rattle.b67_intrinsics.specs.declared.ends.Stop.TheVariants as stops
-use Rattle.b67_bring.specs.Bringing.{StandsOver, IsWanted, WantsSome, StandsAgain, Brings}
-use Rattle.b67_bring.proofs.Others.{others_same, others_then, others_running, RunsOther}
+use Rattle.b67_task_tables.specs.declared.tables.Machine.{Machine}
+use Rattle.b67_task_tables.specs.declared.tables.Tasks.{Tasks}
+use Rattle.b67_task_tables.specs.Tables.{MachineStands}
+use Rattle.b67_mcp.specs.Called.{OnlyPrinted}
+use Rattle.b67_mcp.specs.declared.ends.Stop.{Stop}
+use Rattle.b67_mcp.specs.declared.ends.Stop.TheVariants as stops
+use Rattle.b67_presence.specs.Bringing.{StandsOver, IsWanted, WantsSome, StandsAgain, Brings}
+use Rattle.b67_presence.proofs.Others.{others_same, others_then, others_running, RunsOther}
 use Rattle.b67_attempt.specs.declared.attempts.Attempt.{Attempt}
 use Rattle.b67_attempt.specs.declared.attempts.Attempt.TheVariants as attempts
 use Rattle.b67_attempt.specs.declared.tries.Tried.TheVariants as tries

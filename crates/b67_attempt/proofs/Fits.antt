@@ -30,19 +30,19 @@ use Rattle.b67_profiles.specs.Profiles.{called_on, called}
 use Rattle.b67_code.specs.Running.{code_area}
 use Rattle.b67_code.specs.Called as operators
 use Rattle.b67_code.specs.Called.{called_in}
-use Rattle.b67_task.specs.declared.tables.Machine.{Machine}
-use Rattle.b67_task.specs.Tables.{MachineStands}
+use Rattle.b67_task_tables.specs.declared.tables.Machine.{Machine}
+use Rattle.b67_task_tables.specs.Tables.{MachineStands}
 use Rattle.b67_keeping.proofs.Laws.{touches_arrays}
 use Rattle.b67_fits.specs.Fits.{IsOfJob}
 use Rattle.b67_fits.proofs.Made.{made_fit}
-use Rattle.b67_made.specs.Makes.{Makes, CallsOrMakes, MakesAt}
-use Rattle.b67_intrinsics.specs.declared.ends.Stop.{Stop}
-use Rattle.b67_intrinsics.specs.declared.ends.Stop.TheVariants as stops
-use Rattle.b67_intrinsics.specs.Called.{CallsBuilt, IsCut, CallMeets, CallTouches, printed_text, IsThere, TouchesPresent}
-use Rattle.b67_intrinsics.proofs.Callings.{calling}
-use Rattle.b67_intrinsics.proofs.Low.{from_eight}
-use Rattle.b67_intrinsics.proofs.Touched.{reference_same}
-use Rattle.b67_intrinsics.proofs.Present.{row_only}
+use Rattle.b67_session_attempt.specs.Makes.{Makes, CallsOrMakes, MakesAt}
+use Rattle.b67_mcp.specs.declared.ends.Stop.{Stop}
+use Rattle.b67_mcp.specs.declared.ends.Stop.TheVariants as stops
+use Rattle.b67_mcp.specs.Called.{CallsBuilt, IsCut, CallMeets, CallTouches, printed_text, IsThere, TouchesPresent}
+use Rattle.b67_mcp.proofs.Callings.{calling}
+use Rattle.b67_mcp.proofs.Low.{from_eight}
+use Rattle.b67_mcp.proofs.Touched.{reference_same}
+use Rattle.b67_mcp.proofs.Present.{row_only}
 use Rattle.b67_attempt.specs.Tries.{TryFits}
 use Rattle.b67_attempt.proofs.Still.{operator_starts, call_starts}
 use Rattle.b67_attempt.proofs.Mute.{printing_built}

@@ -7,9 +7,9 @@ use Rattle.b67_model.specs.Chase.{End, AtCell, AtElement, AtArray, AtProc, AtInt
 use Rattle.b67_model.specs.Steps.{Line, Done, Goes, Leaves, Waits}
 use Rattle.b67_model.specs.Intrinsics.{answers, child_of, starts, process, is_live, awaits, await, status_of, status, waits_at, wait, causes, cause, Call, call_in, calls, intrinsic}
 use Rattle.b67_model.specs.Rows.{step}
-use Rattle.b67_order.proofs.Posts.{Post, post_ok, post_err, post_any, post_then, post_if, post_if_is, post_at}
+use Rattle.b67_law_order.proofs.Posts.{Post, post_ok, post_err, post_any, post_then, post_if, post_if_is, post_at}
 use Rattle.b67_layout.specs.Meets.{here}
-use Rattle.b67_intrinsics.proofs.Callings.{Calling}
+use Rattle.b67_mcp.proofs.Callings.{Calling}
 
 -- nothing is printed
 abbrev Mute : Done → Type 0

@@ -11,7 +11,7 @@ use Rattle.b67_model.specs.Rows.{code_of, step}
 use Rattle.b67_model.specs.Run.{live_tasks}
 use Rattle.b67_model.specs.Schedule.{Session}
 use Rattle.b67_model.specs.InOrder.{ArrayInOrder, IsInOrderButPlaces}
-use Rattle.b67_order.proofs.Members.{all_in, keyed_falls}
+use Rattle.b67_law_order.proofs.Members.{all_in, keyed_falls}
 use Rattle.b67_stack.specs.declared.What.{What}
 use Rattle.b67_stack.specs.declared.What.TheVariants as what
 use Rattle.b67_stack.specs.Stands.{Storage, info_of}
@@ -20,12 +20,12 @@ use Rattle.b67_layout.specs.Session.{IsRunning}
 use Rattle.b67_layout.proofs.Fresh.{running_in_order}
 use Rattle.b67_code.specs.Running.{code_area}
 use Rattle.b67_code.proofs.Codes.{area-inside}
-use Rattle.b67_needs.specs.Needing.{array_area, need_with}
-use Rattle.b67_needs.proofs.Needs.{need_above_low}
-use Rattle.b67_task.specs.declared.tables.Machine.{Machine}
-use Rattle.b67_task.specs.Tables.{MachineStands}
-use Rattle.b67_bring.specs.Bringing.{IsWanted}
-use Rattle.b67_bring.proofs.Wants.{array_area-some}
+use Rattle.b67_task_need.specs.Needing.{array_area, need_with}
+use Rattle.b67_task_need.proofs.Needs.{need_above_low}
+use Rattle.b67_task_tables.specs.declared.tables.Machine.{Machine}
+use Rattle.b67_task_tables.specs.Tables.{MachineStands}
+use Rattle.b67_presence.specs.Bringing.{IsWanted}
+use Rattle.b67_presence.proofs.Wants.{array_area-some}
 use Rattle.b67_attempt.specs.Tries.{IsTouched}
 use Rattle.b67_attempt.proofs.Started.{none_started}
 

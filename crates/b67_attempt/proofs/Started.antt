@@ -18,8 +18,8 @@ use Rattle.b67_model.specs.Entry.{needs_level, back_to}
 use Rattle.b67_model.specs.Intrinsics.{answered, answers, array_length, arraydec, print, numbers_of, row_copy, printrow, read_from, read, child_of, starts, process, awaits, await, status_of, status, waits_at, wait, causes, cause, intrinsic}
 use Rattle.b67_model.specs.Need.{touched_of, started_by}
 use Rattle.b67_model.specs.Rows.{entr_at, entr_with, entr, row, reading_of, step_by, step}
-use Rattle.b67_order.proofs.Members.{length_change}
-use Rattle.b67_order.proofs.Posts.{Post, post_ok, post_err, post_any, post_then, post_if, post_more, post_is}
+use Rattle.b67_law_order.proofs.Members.{length_change}
+use Rattle.b67_law_order.proofs.Posts.{Post, post_ok, post_err, post_any, post_then, post_if, post_more, post_is}
 use Rattle.b67_layout.specs.Plan.{Plan}
 use Rattle.b67_layout.specs.Session.{IsRunning}
 use Rattle.b67_profiles.specs.Profiles.{Profile, profile, profiles, called, IsKnown}

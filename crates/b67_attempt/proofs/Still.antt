@@ -12,14 +12,14 @@ use Rattle.b67_model.specs.Steps.{Line, Value, Values, Done, Goes, Leaves, Waits
 use Rattle.b67_model.specs.Intrinsics.{answered, answers, array_length, arraydec, print, numbers_of, row_copy, printrow, read_from, read, intrinsic}
 use Rattle.b67_model.specs.Need.{started_by}
 use Rattle.b67_model.specs.Rows.{row, reading_of, step_by, step}
-use Rattle.b67_order.proofs.Members.{length_change}
-use Rattle.b67_order.proofs.Posts.{Post, post_ok, post_err, post_any, post_then, post_more, post_is}
+use Rattle.b67_law_order.proofs.Members.{length_change}
+use Rattle.b67_law_order.proofs.Posts.{Post, post_ok, post_err, post_any, post_then, post_more, post_is}
 use Rattle.b67_profiles.specs.Profiles.{profile, called, IsKnown}
 use Rattle.b67_profiles.proofs.Lemmas.{rows_keep}
 use Rattle.b67_code.specs.Called as operators
 use Rattle.b67_code.specs.Called.{called_in}
 use Rattle.b67_layout.specs.Meets.{here}
-use Rattle.b67_intrinsics.proofs.Callings.{Calling}
+use Rattle.b67_mcp.proofs.Callings.{Calling}
 use Rattle.b67_attempt.proofs.Started.{known_in}
 
 -- there are as many tasks

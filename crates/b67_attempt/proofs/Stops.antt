@@ -11,18 +11,18 @@ use Rattle.b67_backing.specs.declared.refusals.SpaceFault.TheVariants as space
 use Rattle.b67_stack.specs.declared.What.{What}
 use Rattle.b67_stack.specs.declared.What.TheVariants as what
 use Rattle.b67_stack.specs.Stands.{Storage}
-use Rattle.b67_storage.specs.Machine.{retold}
+use Rattle.b67_layout_storage.specs.Machine.{retold}
 use Rattle.b67_layout.specs.Plan.{Plan}
 use Rattle.b67_layout.specs.Session.{IsRunning}
 use Rattle.b67_code.specs.Running.{code_area}
-use Rattle.b67_needs.specs.Needing.{need_with}
+use Rattle.b67_task_need.specs.Needing.{need_with}
 use Rattle.b67_order_weaker.proofs.Sessions.{other_numbers_keep_order}
-use Rattle.b67_task.specs.declared.tables.Machine.{Machine}
-use Rattle.b67_task.specs.Tables.{MachineStands}
-use Rattle.b67_intrinsics.specs.declared.ends.Stop.{Stop}
-use Rattle.b67_intrinsics.specs.declared.ends.Stop.TheVariants as stops
-use Rattle.b67_bring.specs.Bringing.{StandsOver, IsWanted, StandsAgain, Lacks, Refused, RefusedFull}
-use Rattle.b67_bring.proofs.Others.{others_same, others_running, others_sectors, RunsOther}
+use Rattle.b67_task_tables.specs.declared.tables.Machine.{Machine}
+use Rattle.b67_task_tables.specs.Tables.{MachineStands}
+use Rattle.b67_mcp.specs.declared.ends.Stop.{Stop}
+use Rattle.b67_mcp.specs.declared.ends.Stop.TheVariants as stops
+use Rattle.b67_presence.specs.Bringing.{StandsOver, IsWanted, StandsAgain, Lacks, Refused, RefusedFull}
+use Rattle.b67_presence.proofs.Others.{others_same, others_running, others_sectors, RunsOther}
 use Rattle.b67_attempt.specs.Tries.{IsTouched}
 use Rattle.b67_attempt.specs.Attempts.{IsLacking}
 use Rattle.b67_attempt.specs.Brought.{StopsFor, Stopped}

@@ -21,14 +21,14 @@ use Rattle.b67_layout.specs.Meets.{IsAbsent}
 use Rattle.b67_layout.proofs.Others.{keyed-has}
 use Rattle.b67_code.specs.Running.{code_area}
 use Rattle.b67_code.specs.Called.{called_in}
-use Rattle.b67_task.specs.declared.tables.Machine.{Machine}
-use Rattle.b67_task.specs.declared.tables.Tasks.{Tasks}
+use Rattle.b67_task_tables.specs.declared.tables.Machine.{Machine}
+use Rattle.b67_task_tables.specs.declared.tables.Tasks.{Tasks}
 use Rattle.b67_keeping.proofs.Laws.{touches_arrays}
-use Rattle.b67_made.specs.Makes.{Makes, CallsOrMakes, MakesAt}
-use Rattle.b67_intrinsics.specs.declared.ends.Stop.{Stop}
-use Rattle.b67_intrinsics.specs.declared.ends.Stop.TheVariants as stops
-use Rattle.b67_intrinsics.specs.Called.{CallsBuilt, IsCalled, IsCut, OnlyPrinted, TouchesAbsent, CallMeets}
-use Rattle.b67_bring.specs.Bringing.{IsWanted}
+use Rattle.b67_session_attempt.specs.Makes.{Makes, CallsOrMakes, MakesAt}
+use Rattle.b67_mcp.specs.declared.ends.Stop.{Stop}
+use Rattle.b67_mcp.specs.declared.ends.Stop.TheVariants as stops
+use Rattle.b67_mcp.specs.Called.{CallsBuilt, IsCalled, IsCut, OnlyPrinted, TouchesAbsent, CallMeets}
+use Rattle.b67_presence.specs.Bringing.{IsWanted}
 use Rattle.b67_attempt.specs.Tries.{IsTouched, TryMeets}
 
 -- what is wanted, and that the step touches it, where nothing has changed

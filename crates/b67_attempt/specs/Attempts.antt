@@ -11,15 +11,15 @@ use Rattle.b67_layout.specs.Plan.{Plan}
 use Rattle.b67_layout.specs.Session.{IsRunning}
 use Rattle.b67_code.specs.Called.{called_in}
 use Rattle.b67_order_weaker.specs.Weaker.{AllOtherNumbers}
-use Rattle.b67_bring.specs.Bringing.{StandsOver, IsShortOf}
+use Rattle.b67_presence.specs.Bringing.{StandsOver, IsShortOf}
 use Rattle.b67_layout.specs.Meets.{area_held}
 use Rattle.b67_code.specs.Running.{code_area}
-use Rattle.b67_task.specs.declared.tables.Machine.{Machine}
-use Rattle.b67_task.specs.declared.tables.Tasks.{Tasks}
-use Rattle.b67_task.specs.Tables.{MachineStands}
-use Rattle.b67_intrinsics.specs.Called.{IsCalled, IsCut}
-use Rattle.b67_intrinsics.specs.declared.ends.Stop.{Stop}
-use Rattle.b67_intrinsics.specs.declared.ends.Stop.TheVariants as stops
+use Rattle.b67_task_tables.specs.declared.tables.Machine.{Machine}
+use Rattle.b67_task_tables.specs.declared.tables.Tasks.{Tasks}
+use Rattle.b67_task_tables.specs.Tables.{MachineStands}
+use Rattle.b67_mcp.specs.Called.{IsCalled, IsCut}
+use Rattle.b67_mcp.specs.declared.ends.Stop.{Stop}
+use Rattle.b67_mcp.specs.declared.ends.Stop.TheVariants as stops
 use Rattle.b67_attempt.specs.declared.attempts.Attempt.{Attempt}
 use Rattle.b67_attempt.specs.declared.attempts.Attempt.TheVariants as attempts
 use Rattle.b67_attempt.specs.Tries.{EndsSo}

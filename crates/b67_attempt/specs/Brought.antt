@@ -10,17 +10,17 @@ use Rattle.b67_backing.specs.declared.refusals.SpaceFault.{SpaceFault}
 use Rattle.b67_backing.specs.declared.refusals.SpaceFault.TheVariants as space
 use Rattle.b67_stack.specs.declared.What.{What}
 use Rattle.b67_stack.specs.Stands.{Storage}
-use Rattle.b67_storage.specs.Machine.{retold}
+use Rattle.b67_layout_storage.specs.Machine.{retold}
 use Rattle.b67_layout.specs.Plan.{Plan}
 use Rattle.b67_layout.specs.Session.{IsRunning}
 use Rattle.b67_layout.specs.Meets.{area_held}
 use Rattle.b67_code.specs.Running.{code_area}
 use Rattle.b67_order_weaker.specs.Weaker.{AllOtherNumbers}
-use Rattle.b67_task.specs.declared.tables.Machine.{Machine}
-use Rattle.b67_task.specs.Tables.{MachineStands}
-use Rattle.b67_bring.specs.Bringing.{Brings}
-use Rattle.b67_intrinsics.specs.declared.ends.Stop.{Stop}
-use Rattle.b67_intrinsics.specs.declared.ends.Stop.TheVariants as stops
+use Rattle.b67_task_tables.specs.declared.tables.Machine.{Machine}
+use Rattle.b67_task_tables.specs.Tables.{MachineStands}
+use Rattle.b67_presence.specs.Bringing.{Brings}
+use Rattle.b67_mcp.specs.declared.ends.Stop.{Stop}
+use Rattle.b67_mcp.specs.declared.ends.Stop.TheVariants as stops
 use Rattle.b67_attempt.specs.Attempts.{StillStands, StandsLacking, StandsShort}
 
 -- the running segment and the array that the step touches are in core

@@ -15,12 +15,12 @@ use Rattle.b67_stack.specs.Stands.{Storage}
 use Rattle.b67_layout.specs.Plan.{Plan}
 use Rattle.b67_layout.specs.Session.{IsRunning}
 use Rattle.b67_code.specs.Called.{called_in}
-use Rattle.b67_bring.specs.Bringing.{IsWanted}
-use Rattle.b67_task.specs.declared.tables.Machine.{Machine}
-use Rattle.b67_task.specs.Tables.{MachineStands}
-use Rattle.b67_intrinsics.specs.Called.{IsCalled, IsCut, OnlyPrinted}
-use Rattle.b67_intrinsics.specs.declared.ends.Stop.{Stop}
-use Rattle.b67_intrinsics.specs.declared.ends.Stop.TheVariants as stops
+use Rattle.b67_presence.specs.Bringing.{IsWanted}
+use Rattle.b67_task_tables.specs.declared.tables.Machine.{Machine}
+use Rattle.b67_task_tables.specs.Tables.{MachineStands}
+use Rattle.b67_mcp.specs.Called.{IsCalled, IsCut, OnlyPrinted}
+use Rattle.b67_mcp.specs.declared.ends.Stop.{Stop}
+use Rattle.b67_mcp.specs.declared.ends.Stop.TheVariants as stops
 use Rattle.b67_attempt.specs.declared.tries.Tried.{Tried}
 use Rattle.b67_attempt.specs.declared.tries.Tried.TheVariants as tries
 

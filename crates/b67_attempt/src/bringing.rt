@@ -6,21 +6,21 @@ ghost use Rattle.b67_model.specs.State.{Task, Member};
 ghost use Rattle.b67_model.specs.Schedule.{Session};
 ghost use Rattle.b67_model.specs.InOrder.{IsInOrderButPlaces};
 ghost use Rattle.b67_stack.specs.Stands.{Storage};
-ghost use Rattle.b67_storage.specs.Machine.{Served};
+ghost use Rattle.b67_layout_storage.specs.Machine.{Served};
 ghost use Rattle.b67_layout.specs.Plan.{Plan};
 ghost use Rattle.b67_layout.specs.Session.{IsRunning};
-ghost use Rattle.b67_needs.specs.Needing.{StandsInOrder};
-ghost use Rattle.b67_bring.specs.Bringing.{StandsOver, WantsSome, IsWanted};
-ghost use Rattle.b67_intrinsics.specs.declared.ends.Stop.TheVariants.{BackingFault, PrintFault};
+ghost use Rattle.b67_task_need.specs.Needing.{StandsInOrder};
+ghost use Rattle.b67_presence.specs.Bringing.{StandsOver, WantsSome, IsWanted};
+ghost use Rattle.b67_mcp.specs.declared.ends.Stop.TheVariants.{BackingFault, PrintFault};
 ghost use Rattle.b67_attempt.specs.Tries.{IsTouched};
 ghost use Rattle.b67_attempt.specs.Brought.{StopsFor, BroughtMeets};
 
 use b67_backing::{Backing, SpaceFault};
-use b67_bring::bring;
-use b67_intrinsics::Stop;
-use b67_needs::sector_sum;
+use b67_presence::bring;
+use b67_mcp::Stop;
+use b67_task_need::sector_sum;
 use b67_stack::What;
-use b67_task::Machine;
+use b67_task_tables::Machine;
 
 /// The stop for a want of space, with the sectors that the session takes and those of the device where too few are free.
 fn stopped(machine: &Machine, fault: SpaceFault) -> Stop

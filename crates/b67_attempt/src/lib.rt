@@ -8,5 +8,5 @@ mod tries;
 
 pub use attempting::attempt;
 pub use attempts::Attempt;
-pub use b67_intrinsics::Stop;
+pub use b67_mcp::Stop;
 pub use tries::{Tried, try_once};

@@ -8,16 +8,16 @@ ghost use Rattle.b67_model.specs.InOrder.{IsInOrderButPlaces};
 ghost use Rattle.b67_stack.specs.Stands.{Storage};
 ghost use Rattle.b67_layout.specs.Plan.{Plan};
 ghost use Rattle.b67_layout.specs.Session.{IsRunning};
-ghost use Rattle.b67_task.specs.Tables.{MachineStands};
-ghost use Rattle.b67_intrinsics.specs.Called.{AreCountable};
-ghost use Rattle.b67_intrinsics.specs.declared.ends.Stop.TheVariants.{PrintFault};
+ghost use Rattle.b67_task_tables.specs.Tables.{MachineStands};
+ghost use Rattle.b67_mcp.specs.Called.{AreCountable};
+ghost use Rattle.b67_mcp.specs.declared.ends.Stop.TheVariants.{PrintFault};
 ghost use Rattle.b67_attempt.specs.Tries.{ReadyRuns, TryMeets, TryFits};
 
-use b67_intrinsics::{CallEnd, Stop, intrinsic};
+use b67_mcp::{CallEnd, Stop, intrinsic};
 use b67_io::Sink;
-use b67_made::make;
+use b67_session_attempt::make;
 use b67_stack::{Step, What};
-use b67_task::Machine;
+use b67_task_tables::Machine;
 use b67_word::Ending;
 
 /// The operator was made, with its text printed; it wants something in core; or it ends its task.

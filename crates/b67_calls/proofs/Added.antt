@@ -8,7 +8,7 @@ use Rattle.b67_model.specs.Lists.{Has}
 use Rattle.b67_stack.specs.Shapes.{Held}
 use Rattle.b67_stack.specs.Picture.{Thing, Picture, Slot, Free, Running, Waiting, SlotFits, AreZero, home_word, slot_base}
 use Rattle.b67_stack.specs.Stands.{Storage, SlotStands, Content, ThingStands, Stands}
-use Rattle.b67_leaving.proofs.Things.{of_things}
+use Rattle.b67_layout_leave.proofs.Things.{of_things}
 use Rattle.b67_calls.specs.Declared.{nowhere}
 
 -- an array of zeros that was never touched, at an address where no thing is known

@@ -11,7 +11,7 @@ use Rattle.b67_model.specs.State.{Frame, Task, Job, Member, height, top, below_t
 use Rattle.b67_model.specs.Intrinsics.{answered}
 use Rattle.b67_model.specs.Schedule.{Session}
 use Rattle.b67_model.specs.InOrder.{IsInOrderButPlaces}
-use Rattle.b67_order.proofs.Members.{change_twice}
+use Rattle.b67_law_order.proofs.Members.{change_twice}
 use Rattle.b67_stack.specs.declared.Cpu.{Cpu}
 use Rattle.b67_stack.specs.Shapes.{Fits}
 use Rattle.b67_stack.specs.Stands.{Storage}
@@ -27,9 +27,9 @@ use Rattle.b67_layout.proofs.Pictures.{member-same}
 use Rattle.b67_layout.proofs.Frames.{height-is}
 use Rattle.b67_layout.proofs.Fresh.{fresh}
 use Rattle.b67_layout.proofs.Steps.{IsFree}
-use Rattle.b67_entering.proofs.Awaits.{with_job-twice}
-use Rattle.b67_mcp.specs.Calls.{MayCut, job_cut}
-use Rattle.b67_mcp.proofs.Cuts.{cut_of}
+use Rattle.b67_layout_enter.proofs.Awaits.{with_job-twice}
+use Rattle.b67_mcp_calls.specs.Calls.{MayCut, job_cut}
+use Rattle.b67_mcp_calls.proofs.Cuts.{cut_of}
 use Rattle.b67_calls.specs.Answered.{job_answered}
 use Rattle.b67_calls.proofs.Pushed.{stack, shaped, on_slot, registers, stands_pushed}
 

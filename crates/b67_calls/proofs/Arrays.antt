@@ -15,7 +15,7 @@ use Rattle.b67_model.specs.Run.{number_of}
 use Rattle.b67_model.specs.Schedule.{Session}
 use Rattle.b67_model.specs.Intrinsics.{answered}
 use Rattle.b67_model.specs.InOrder.{IsSegment, JobInOrder, IsInOrderButPlaces}
-use Rattle.b67_order.proofs.Members.{change_twice}
+use Rattle.b67_law_order.proofs.Members.{change_twice}
 use Rattle.b67_stack.specs.declared.Cpu.{Cpu}
 use Rattle.b67_stack.specs.Shapes.{IsOriginal}
 use Rattle.b67_stack.specs.Picture.{AreZero, home_desc, home_word_of}
@@ -27,9 +27,9 @@ use Rattle.b67_layout.specs.Meets.{here, with_job}
 use Rattle.b67_layout.proofs.Fresh.{running_in_order}
 use Rattle.b67_layout.proofs.Others.{keyed-has}
 use Rattle.b67_layout.proofs.Sessions.{change-has}
-use Rattle.b67_leaving.proofs.Settles.{keyed_member}
-use Rattle.b67_entering.proofs.Awaits.{with_job-twice}
-use Rattle.b67_mcp.specs.Calls.{MayCut, job_cut}
+use Rattle.b67_layout_leave.proofs.Settles.{keyed_member}
+use Rattle.b67_layout_enter.proofs.Awaits.{with_job-twice}
+use Rattle.b67_mcp_calls.specs.Calls.{MayCut, job_cut}
 use Rattle.b67_calls.specs.Declared.{nowhere, without, with_home, new_array, job_declared}
 use Rattle.b67_calls.proofs.Answering.{task_cut, member_cut, runs_cut, higher}
 use Rattle.b67_calls.proofs.Avoiding.{FramesAvoid, JobAvoids, job_avoids, row_avoids}

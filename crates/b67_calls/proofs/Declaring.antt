@@ -16,7 +16,7 @@ use Rattle.b67_model.specs.Keyed.{keyed, change_keyed}
 use Rattle.b67_model.specs.Run.{number_of}
 use Rattle.b67_model.specs.Schedule.{Session}
 use Rattle.b67_model.specs.InOrder.{known_of}
-use Rattle.b67_order.proofs.Members.{has_append_left, has_append_right, has_append_cases, has_flat}
+use Rattle.b67_law_order.proofs.Members.{has_append_left, has_append_right, has_append_cases, has_flat}
 use Rattle.b67_stack.specs.declared.Cpu.{Cpu}
 use Rattle.b67_stack.specs.Shapes as Shapes
 use Rattle.b67_stack.specs.Shapes.{Shape, IsOriginal}
@@ -26,7 +26,7 @@ use Rattle.b67_stack.specs.Stands.{Storage, RunningStands, Stands}
 use Rattle.b67_stack.specs.Changes.{pushed, with_stack, with_cells, top_cells}
 use Rattle.b67_stack.proofs.Bases.{base-apart}
 use Rattle.b67_stack.proofs.Slots.{by_slot, running_fits}
-use Rattle.b67_storage.proofs.Helds.{held-same}
+use Rattle.b67_layout_storage.proofs.Helds.{held-same}
 use Rattle.b67_layout.specs.Plan.{Plan, slot_of, spot_in, outer_spots, spots}
 use Rattle.b67_layout.specs.Layout.{shape, stack_of_task, slot_at, code_things, array_thing, things_of, picture}
 use Rattle.b67_layout.specs.Session.{TaskStands, IsRunning, Shows, critical_mark, SessionHolds, SessionStands}
@@ -37,12 +37,12 @@ use Rattle.b67_layout.proofs.Rows.{row_of}
 use Rattle.b67_layout.proofs.Sessions.{change-has, change-kept}
 use Rattle.b67_layout.proofs.Steps.{activations-with, seen-with}
 use Rattle.b67_layout.proofs.Displays.{Shows-same}
-use Rattle.b67_leaving.proofs.Things.{of_things, has_flat_back}
-use Rattle.b67_leaving.proofs.Nowhere.{SameArray, SameArrays, activations-same}
-use Rattle.b67_leaving.proofs.Slots.{Replaces, OthersSame, outer_spots-after, stack-after, slots-after}
-use Rattle.b67_leaving.proofs.Holds.{SessionHoldsBut-after, for_running}
-use Rattle.b67_cells.specs.Tops.{cells}
-use Rattle.b67_cells.proofs.Replaced.{cells-are}
+use Rattle.b67_layout_leave.proofs.Things.{of_things, has_flat_back}
+use Rattle.b67_layout_leave.proofs.Nowhere.{SameArray, SameArrays, activations-same}
+use Rattle.b67_layout_leave.proofs.Slots.{Replaces, OthersSame, outer_spots-after, stack-after, slots-after}
+use Rattle.b67_layout_leave.proofs.Holds.{SessionHoldsBut-after, for_running}
+use Rattle.b67_exec_cells.specs.Tops.{cells}
+use Rattle.b67_exec_cells.proofs.Replaced.{cells-are}
 use Rattle.b67_calls.specs.Declared.{nowhere, without}
 use Rattle.b67_calls.proofs.Pushed.{stack, on_slot, registers, room}
 use Rattle.b67_calls.proofs.Avoiding.{Avoids, FramesAvoid, JobAvoids}

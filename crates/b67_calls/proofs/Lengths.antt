@@ -16,10 +16,10 @@ use Rattle.b67_stack.specs.declared.Cpu.{Cpu}
 use Rattle.b67_stack.specs.Stands.{Storage}
 use Rattle.b67_layout.specs.Plan.{Plan}
 use Rattle.b67_layout.specs.Meets.{here}
-use Rattle.b67_cells.specs.Tops.{cells, GivesTop, NoOriginals}
-use Rattle.b67_operands.proofs.Rows.{plain_operand}
-use Rattle.b67_mcp.specs.Calls.{IsCall}
-use Rattle.b67_mcp.proofs.Prints.{one, value_is}
+use Rattle.b67_exec_cells.specs.Tops.{cells, GivesTop, NoOriginals}
+use Rattle.b67_exec_operands.proofs.Rows.{plain_operand}
+use Rattle.b67_mcp_calls.specs.Calls.{IsCall}
+use Rattle.b67_mcp_calls.proofs.Prints.{one, value_is}
 use Rattle.b67_calls.specs.Declared.{new_array, length_in, LengthMeets}
 use Rattle.b67_calls.proofs.Answering.{no_higher}
 

@@ -24,9 +24,9 @@ use Rattle.b67_layout.proofs.Displays.{Shows-same}
 use Rattle.b67_layout.proofs.Sessions.{running_only}
 use Rattle.b67_layout.proofs.Starts.{slot_is, runs_here}
 use Rattle.b67_layout.proofs.Steps.{IsFree, activations-with, seen-with}
-use Rattle.b67_entering.proofs.Tops.{SessionHolds-top, still_running, outer-same}
-use Rattle.b67_cells.specs.Tops.{cells}
-use Rattle.b67_cells.proofs.Replaced.{cells-are, Stands-put}
+use Rattle.b67_layout_enter.proofs.Tops.{SessionHolds-top, still_running, outer-same}
+use Rattle.b67_exec_cells.specs.Tops.{cells}
+use Rattle.b67_exec_cells.proofs.Replaced.{cells-are, Stands-put}
 
 module _ (x : Storage) (cpu : Cpu) (plan : Plan) (s : Session) (m : Member) (t : Task) (h : SessionStands x cpu plan s) (runs : IsRunning plan s.jobs m t) where
   abbrev pub stack : List Activation

@@ -12,10 +12,10 @@ use Rattle.b67_model.specs.Intrinsics.{is_original, read_from, read}
 use Rattle.b67_layout.specs.Plan.{Plan}
 use Rattle.b67_layout.specs.Rows.{JobShows}
 use Rattle.b67_layout.specs.Meets.{here}
-use Rattle.b67_task.specs.declared.tables.JobRow.{JobRow}
-use Rattle.b67_task.specs.Tables.{job_row}
-use Rattle.b67_cells.specs.Tops.{cells, NoOriginals}
-use Rattle.b67_mcp.specs.Calls.{IsCall}
+use Rattle.b67_task_tables.specs.declared.tables.JobRow.{JobRow}
+use Rattle.b67_task_tables.specs.Tables.{job_row}
+use Rattle.b67_exec_cells.specs.Tops.{cells, NoOriginals}
+use Rattle.b67_mcp_calls.specs.Calls.{IsCall}
 use Rattle.b67_calls.proofs.Answering.{no_higher}
 use Rattle.b67_calls.specs.Reads.{left_in, ReadMeets}
 

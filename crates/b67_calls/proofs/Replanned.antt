@@ -14,7 +14,7 @@ use Rattle.b67_model.specs.Keyed.{keyed}
 use Rattle.b67_model.specs.Run.{number_of}
 use Rattle.b67_model.specs.Schedule.{Session}
 use Rattle.b67_model.specs.InOrder.{from_frame, frames_of_task, critical_of}
-use Rattle.b67_order.proofs.Members.{keyed_has}
+use Rattle.b67_law_order.proofs.Members.{keyed_has}
 use Rattle.b67_stack.specs.declared.Cpu.{Cpu}
 use Rattle.b67_stack.specs.Shapes as Shapes
 use Rattle.b67_stack.specs.Shapes.{Shape, Copy}

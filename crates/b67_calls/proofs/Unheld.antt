@@ -11,9 +11,9 @@ use Rattle.b67_stack.specs.Stacks.{words}
 use Rattle.b67_stack.specs.Picture.{Thing, Picture, home_word, slot_base, stack_of}
 use Rattle.b67_stack.specs.Stands.{Storage, Content, StacksLie, ThingStands, Owned, Stands, info_of}
 use Rattle.b67_stack.proofs.Lies.{Lie-each}
-use Rattle.b67_storage.proofs.Helds.{held-other, held-same}
-use Rattle.b67_storage.proofs.Words.{copy_other}
-use Rattle.b67_storage.proofs.Reheld.{Content-stays}
+use Rattle.b67_layout_storage.proofs.Helds.{held-other, held-same}
+use Rattle.b67_layout_storage.proofs.Words.{copy_other}
+use Rattle.b67_layout_storage.proofs.Reheld.{Content-stays}
 use Rattle.b67_calls.specs.Declared.{nowhere, without}
 
 module _ (x : Storage) (core : List Tagged) (r : Regs) (p : Picture) (at : ℕ) (s : Stands x core r p) (apart : (t : Thing) → Has p.things t → t.home ≢ at) where

@@ -10,10 +10,10 @@ use Rattle.b67_model.specs.Steps.{Goes}
 use Rattle.b67_model.specs.Intrinsics.{answered, array_length, arraydec}
 use Rattle.b67_stack.specs.Shapes.{Held}
 use Rattle.b67_stack.specs.Stands.{Storage}
-use Rattle.b67_storage.specs.Machine.{holding}
+use Rattle.b67_layout_storage.specs.Machine.{holding}
 use Rattle.b67_layout.specs.Plan.{Plan}
 use Rattle.b67_layout.specs.Meets.{here}
-use Rattle.b67_mcp.specs.Calls.{MayCut, number_in}
+use Rattle.b67_mcp_calls.specs.Calls.{MayCut, number_in}
 
 -- an array of zeros, which ends with the frame below the call
 abbrev pub new_array : Member → Task → ℕ → Array

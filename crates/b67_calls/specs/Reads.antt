@@ -12,9 +12,9 @@ use Rattle.b67_stack.specs.declared.Cpu.{Cpu}
 use Rattle.b67_layout.specs.Plan.{Plan}
 use Rattle.b67_layout.specs.Rows.{JobShows}
 use Rattle.b67_layout.specs.Meets.{here}
-use Rattle.b67_task.specs.declared.tables.JobRow.{JobRow}
-use Rattle.b67_task.specs.Tables.{job_row}
-use Rattle.b67_mcp.specs.Calls.{CallSome, MayCut}
+use Rattle.b67_task_tables.specs.declared.tables.JobRow.{JobRow}
+use Rattle.b67_task_tables.specs.Tables.{job_row}
+use Rattle.b67_mcp_calls.specs.Calls.{CallSome, MayCut}
 use Rattle.b67_calls.specs.Answered.{job_answered}
 
 -- the numbers that a row says are left to read

@@ -7,10 +7,10 @@ ghost use Rattle.b67_model.specs.Words as words;
 ghost use Rattle.b67_stack.specs.Changes.{pushed};
 ghost use Rattle.b67_layout.specs.Session.{SessionStands};
 ghost use Rattle.b67_layout.specs.Meets.{ForEach, with_job, IsInStack};
-ghost use Rattle.b67_mcp.specs.Calls.{CutSome, MayCut};
+ghost use Rattle.b67_mcp_calls.specs.Calls.{CutSome, MayCut};
 ghost use Rattle.b67_calls.specs.Answered.{job_answered};
 
-use b67_mcp::cut_call;
+use b67_mcp_calls::cut_call;
 use b67_stack::Cpu;
 use b67_word::{Place, Word};
 

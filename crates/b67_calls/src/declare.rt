@@ -4,16 +4,16 @@ ghost use Rattle.std.specs.Prelude.{◌≡◌, ℕ, ◌+◌, ◌<◌, ◌^◌, L
 ghost use Rattle.b67_ctl.specs.Layout.{IsPlace};
 ghost use Rattle.b67_layout.specs.Session.{SessionStands};
 ghost use Rattle.b67_layout.specs.Meets.{ForEach, with_job, IsInStack};
-ghost use Rattle.b67_mcp.specs.Calls.{CutSome, CallSome, IsCall, MayCut};
+ghost use Rattle.b67_mcp_calls.specs.Calls.{CutSome, CallSome, IsCall, MayCut};
 ghost use Rattle.b67_model.specs.Words as words;
 ghost use Rattle.b67_calls.specs.Declared as definition;
 ghost use Rattle.b67_calls.specs.Declared.{job_declared, with_home, without, LengthMeets};
 
 use crate::answer::put;
-use b67_cells::{count_cells, top_cell};
+use b67_exec_cells::{count_cells, top_cell};
 use b67_ctl::DataDesc;
 use b67_leave::is_critical;
-use b67_mcp::cut_call;
+use b67_mcp_calls::cut_call;
 use b67_stack::Cpu;
 use b67_word::{Fault, Place, Word};
 

@@ -6,14 +6,14 @@ ghost use Rattle.b67_model.specs.Words as words;
 ghost use Rattle.b67_model.specs.Intrinsics.{read_from};
 ghost use Rattle.b67_layout.specs.Rows.{JobShows};
 ghost use Rattle.b67_layout.specs.Meets.{ForEach};
-ghost use Rattle.b67_task.specs.Tables.{job_row};
-ghost use Rattle.b67_mcp.specs.Calls.{IsCall};
+ghost use Rattle.b67_task_tables.specs.Tables.{job_row};
+ghost use Rattle.b67_mcp_calls.specs.Calls.{IsCall};
 ghost use Rattle.b67_calls.specs.Reads.{left_in, AreOperands, ReadSome, ReadMeets};
 
-use b67_cells::count_cells;
+use b67_exec_cells::count_cells;
 use b67_leave::is_critical;
 use b67_stack::Cpu;
-use b67_task::JobRow;
+use b67_task_tables::JobRow;
 use b67_word::{Fault, Word};
 
 /// Takes the next of the numbers that are left to read, as an operand; #800000000000 where none is left.

@@ -4,8 +4,8 @@ use Rattle.std.proofs.lemmas.Bool.Decides.{nat_tests}
 use Rattle.std.specs.List.{list_all}
 use Rattle.std.specs.Cmp.Derive.{both_true}
 use Rattle.std.specs.Char.{is_ascii, is_ascii_uppercase, is_ascii_digit}
-use Rattle.b67_text.specs.Cards.{is_name}
-use Rattle.b67_text.specs.Command.{is_printable}
+use Rattle.b67_model_text.specs.Cards.{is_name}
+use Rattle.b67_model_text.specs.Command.{is_printable}
 
 both : (a b : Bool) → (a && b) ≡ true → (a ≡ true) × (b ≡ true)
 both true b e = (refl, e)

@@ -1,6 +1,6 @@
 -- The bytes of digits, two digits at a time.
 use Rattle.std.proofs.Common.{◌≡◌, ℕ, ◌+◌, ◌*◌, ◌<◌, ◌≤◌, List, [], ◌∷◌, length, drop, get_or, refl, arith}
-use Rattle.b67_text.specs.Hex.{digit_value, digit_bytes}
+use Rattle.b67_model_text.specs.Hex.{digit_value, digit_bytes}
 
 pub two_digits : (xs : List ℕ) → 2 ≤ length xs → digit_bytes xs ≡ (16 * digit_value (get_or xs 0 0) + digit_value (get_or xs 1 0)) ∷ digit_bytes (drop 2 xs)
 two_digits [] le = absurd (omega arith)

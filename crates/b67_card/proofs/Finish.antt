@@ -5,11 +5,11 @@ use Rattle.std.specs.List.{filter_map, cons_option}
 use Rattle.std.specs.Option.{option_to_list}
 use Rattle.std.proofs.lemmas.List.{reverse-append, reverse-reverse, append-nil}
 use Rattle.std.proofs.lemmas.List.Elements.{filter_map-append}
-use Rattle.b67_text.specs.declared.deck.Job as declared
-use Rattle.b67_text.specs.Command.{Command}
+use Rattle.b67_model_text.specs.declared.deck.Job as declared
+use Rattle.b67_model_text.specs.Command.{Command}
 use Rattle.b67_card.specs.Meaning.{deck_behind}
-use Rattle.b67_text.specs.Placing.{stand, first_of, stack_in, quantum_in, halt_in, switch_in}
-use Rattle.b67_text.specs.Deck.{Said, command_in, is_between, jobs, deck}
+use Rattle.b67_model_text.specs.Placing.{stand, first_of, stack_in, quantum_in, halt_in, switch_in}
+use Rattle.b67_model_text.specs.Deck.{Said, command_in, is_between, jobs, deck}
 use Rattle.b67_card.specs.Shape.{Shows, deck_of}
 use Rattle.b67_card.specs.Contents.{jobs_told}
 use Rattle.b67_card.specs.Reader.{IsAccepted, Knows}

@@ -2,16 +2,16 @@
 use Rattle.std.proofs.Common.{◌≡◌, ℕ, Bool, true, false, ◌||◌, not, List, [], ◌∷◌, ◌++◌, map, ℤ, Ok, Err, refl, sym, ap, subst, ◌∙◌, append_assoc}
 use Rattle.std.specs.Prelude.{reverse, unwrap_or, ⊤}
 use Rattle.std.proofs.lemmas.List.{reverse-append, reverse-reverse, append-nil}
-use Rattle.b67_text.specs.declared.card.Card.{Card}
-use Rattle.b67_text.specs.declared.deck.Stand.{Stand}
-use Rattle.b67_text.specs.declared.deck.Stand.TheVariants.{Front, Begun, Limited, InAsm, InHex, InData, Ended}
-use Rattle.b67_text.specs.declared.deck.Job as declared
-use Rattle.b67_text.specs.declared.deck.Body.{Body}
-use Rattle.b67_text.specs.declared.deck.Body.TheVariants.{Cards, Bytes}
-use Rattle.b67_text.specs.Answers.{Answer, ◌>>=◌, ◌>>◌, needs}
-use Rattle.b67_text.specs.Command.{Command, Stack, Quantum, Halt, Switch, Job, Limit, Asm, Hex, Data, End, Plain}
-use Rattle.b67_text.specs.Placing.{stand_after, stand, may_stand, lacks_program, is_repeated, rises, has_room, arranged, numbers}
-use Rattle.b67_text.specs.Deck.{Said, command_in, body, bytes_in, numbers_in, program, data_numbers, limit_behind, job_of, own_cards, jobs}
+use Rattle.b67_model_text.specs.declared.card.Card.{Card}
+use Rattle.b67_model_text.specs.declared.deck.Stand.{Stand}
+use Rattle.b67_model_text.specs.declared.deck.Stand.TheVariants.{Front, Begun, Limited, InAsm, InHex, InData, Ended}
+use Rattle.b67_model_text.specs.declared.deck.Job as declared
+use Rattle.b67_model_text.specs.declared.deck.Body.{Body}
+use Rattle.b67_model_text.specs.declared.deck.Body.TheVariants.{Cards, Bytes}
+use Rattle.b67_model_text.specs.Answers.{Answer, ◌>>=◌, ◌>>◌, needs}
+use Rattle.b67_model_text.specs.Command.{Command, Stack, Quantum, Halt, Switch, Job, Limit, Asm, Hex, Data, End, Plain}
+use Rattle.b67_model_text.specs.Placing.{stand_after, stand, may_stand, lacks_program, is_repeated, rises, has_room, arranged, numbers}
+use Rattle.b67_model_text.specs.Deck.{Said, command_in, body, bytes_in, numbers_in, program, data_numbers, limit_behind, job_of, own_cards, jobs}
 use Rattle.b67_card.specs.Contents.{to_newest, new_job, with_card, with_text, with_limit, with_program, told, jobs_told}
 use Rattle.b67_card.specs.Reader.{IsAccepted}
 

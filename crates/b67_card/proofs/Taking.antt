@@ -1,10 +1,10 @@
 -- What a reader knows behind one more card.
 use Rattle.std.proofs.Common.{◌≡◌, ℕ, List, ◌∷◌, map, Result, Ok, Err, refl}
 use Rattle.std.specs.Prelude.{⊤}
-use Rattle.b67_text.specs.declared.card.Card.{Card}
-use Rattle.b67_text.specs.Command.{Command, said}
-use Rattle.b67_text.specs.Placing.{stand, arranged, is_well_formed}
-use Rattle.b67_text.specs.Deck.{Said, command_in, said_after}
+use Rattle.b67_model_text.specs.declared.card.Card.{Card}
+use Rattle.b67_model_text.specs.Command.{Command, said}
+use Rattle.b67_model_text.specs.Placing.{stand, arranged, is_well_formed}
+use Rattle.b67_model_text.specs.Deck.{Said, command_in, said_after}
 use Rattle.b67_card.specs.Shape.{Shows}
 use Rattle.b67_card.specs.Contents.{Told, jobs_told}
 use Rattle.b67_card.specs.Reader.{IsAccepted, Took}

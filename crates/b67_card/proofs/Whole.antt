@@ -4,7 +4,7 @@ use Rattle.std.specs.Prelude.{count_by, ◌==◌}
 use Rattle.std.proofs.lemmas.List.{take_all, drop_all}
 use Rattle.std.proofs.Math.Seq.{take-append_seam, drop-append_seam}
 use Rattle.b67_io.specs.Told.{Gave, GaveAll}
-use Rattle.b67_text.specs.Deck.{Refusal, limit, within_limit}
+use Rattle.b67_model_text.specs.Deck.{Refusal, limit, within_limit}
 use Rattle.b67_card.specs.Reading.{IsAnswer, IsRead, GaveFirst}
 use Rattle.b67_card.specs.Meaning.{IsMeaning}
 use Rattle.b67_card.specs.Faults.{fault_of}

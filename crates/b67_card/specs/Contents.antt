@@ -1,16 +1,16 @@
 -- What cards add to a deck's jobs, the newest job first.
 use Rattle.std.specs.Prelude.{◌≡◌, ℕ, ℤ, List, [], ◌∷◌, ◌++◌, map, reverse, unwrap_or, Option, Some, None, Result, Ok, Err, ⊤}
 use Rattle.std.specs.Option.{option_to_list}
-use Rattle.b67_text.specs.Hex.{digit_bytes}
-use Rattle.b67_text.specs.declared.card.Card.{Card}
-use Rattle.b67_text.specs.declared.deck.Stand.{Stand}
-use Rattle.b67_text.specs.declared.deck.Stand.TheVariants.{InData}
-use Rattle.b67_text.specs.declared.deck.Job as declared
-use Rattle.b67_text.specs.declared.deck.Body.{Body}
-use Rattle.b67_text.specs.declared.deck.Body.TheVariants.{Cards, Bytes}
-use Rattle.b67_text.specs.Command.{Command, Job, Limit, Asm, Hex, Plain}
-use Rattle.b67_text.specs.Placing.{stand, numbers, is_well_formed}
-use Rattle.b67_text.specs.Deck.{Said, command_in}
+use Rattle.b67_model_text.specs.Hex.{digit_bytes}
+use Rattle.b67_model_text.specs.declared.card.Card.{Card}
+use Rattle.b67_model_text.specs.declared.deck.Stand.{Stand}
+use Rattle.b67_model_text.specs.declared.deck.Stand.TheVariants.{InData}
+use Rattle.b67_model_text.specs.declared.deck.Job as declared
+use Rattle.b67_model_text.specs.declared.deck.Body.{Body}
+use Rattle.b67_model_text.specs.declared.deck.Body.TheVariants.{Cards, Bytes}
+use Rattle.b67_model_text.specs.Command.{Command, Job, Limit, Asm, Hex, Plain}
+use Rattle.b67_model_text.specs.Placing.{stand, numbers, is_well_formed}
+use Rattle.b67_model_text.specs.Deck.{Said, command_in}
 use Rattle.b67_card.specs.declared.command.Refused.{Refused}
 use Rattle.b67_card.specs.declared.command.Refused.TheVariants.{Reason, Memory}
 use Rattle.b67_card.specs.declared.contents.Contents.{Contents}

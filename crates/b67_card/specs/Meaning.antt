@@ -1,9 +1,9 @@
 -- What reading answers: the meaning of the text, or a fault.
 use Rattle.std.specs.Prelude.{◌≡◌, List, Result, Ok, Err}
-use Rattle.b67_text.specs.Deck.{Said, Refusal, ended, deck}
+use Rattle.b67_model_text.specs.Deck.{Said, Refusal, ended, deck}
 use Rattle.b67_card.specs.Reader.{Knows}
-use Rattle.b67_text.specs.Answers.{◌>>=◌}
-use Rattle.b67_text.specs.declared.deck.Deck.{Deck}
+use Rattle.b67_model_text.specs.Answers.{◌>>=◌}
+use Rattle.b67_model_text.specs.declared.deck.Deck.{Deck}
 use Rattle.b67_card.specs.declared.fault.DeckFault.{DeckFault}
 use Rattle.b67_card.specs.declared.fault.DeckFault.TheVariants.{Card, SourceFault, Memory}
 use Rattle.b67_card.specs.declared.deck.Reader.{Reader}

@@ -1,9 +1,9 @@
 -- What the reader of a deck knows of the cards before, the nearest first.
 use Rattle.std.specs.Prelude.{◌≡◌, List, [], ◌∷◌, map, Result, Ok, Err, ⊤}
-use Rattle.b67_text.specs.declared.card.Card.{Card}
-use Rattle.b67_text.specs.Command.{Command}
-use Rattle.b67_text.specs.Placing.{arranged}
-use Rattle.b67_text.specs.Deck.{Said, command_in, number_of_last, said_after}
+use Rattle.b67_model_text.specs.declared.card.Card.{Card}
+use Rattle.b67_model_text.specs.Command.{Command}
+use Rattle.b67_model_text.specs.Placing.{arranged}
+use Rattle.b67_model_text.specs.Deck.{Said, command_in, number_of_last, said_after}
 use Rattle.b67_card.specs.Shape.{Shows}
 use Rattle.b67_card.specs.Contents.{Holds, jobs_told}
 use Rattle.b67_card.specs.declared.command.Refused.{Refused}

@@ -1,8 +1,8 @@
 -- What a card was understood to say.
 use Rattle.std.specs.Prelude.{◌≡◌, ℕ, List, Result, Ok, Err, ⊤}
-use Rattle.b67_text.specs.declared.deck.Switch.{Switch}
-use Rattle.b67_text.specs.Answers.{Answer}
-use Rattle.b67_text.specs.Command as text
+use Rattle.b67_model_text.specs.declared.deck.Switch.{Switch}
+use Rattle.b67_model_text.specs.Answers.{Answer}
+use Rattle.b67_model_text.specs.Command as text
 use Rattle.b67_card.specs.declared.command.Command as command
 use Rattle.b67_card.specs.declared.command.Command.TheVariants as says
 use Rattle.b67_card.specs.declared.command.Refused.{Refused}

@@ -3,14 +3,14 @@ ghost use Rattle.std.specs.Prelude.{◌≡◌, ◌<◌, ◌≤◌, ◌^◌, ◌&
 ghost use Rattle.std.specs.Option.{option_map};
 ghost use Rattle.std.specs.List.{list_all};
 ghost use Rattle.std.specs.Char.{is_ascii};
-ghost use Rattle.b67_text.specs.Cards.{is_name};
-ghost use Rattle.b67_text.specs.Command as card;
-ghost use Rattle.b67_text.specs.declared.deck.Keyword.TheVariants as keywords;
+ghost use Rattle.b67_model_text.specs.Cards.{is_name};
+ghost use Rattle.b67_model_text.specs.Command as card;
+ghost use Rattle.b67_model_text.specs.declared.deck.Keyword.TheVariants as keywords;
 ghost use Rattle.b67_card.specs.Said.{Says, IsPlain, command_of};
 ghost use Rattle.b67_card.specs.declared.command.Refused.TheVariants.{Memory};
 
 use crate::word::{name, number_in, parted, words};
-use b67_text::{Keyword, Name, Switch, Text};
+use b67_model_text::{Keyword, Name, Switch, Text};
 use std::alloc::{AllocError, Global};
 
 /// What a card says.

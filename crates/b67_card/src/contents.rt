@@ -1,16 +1,16 @@
 // What the cards of a deck add to its jobs.
 ghost use Rattle.std.specs.Prelude.{◌≡◌, ℕ, List, [], ◌∷◌, ◌++◌, map, reverse, OnOk, IfOk, None};
-ghost use Rattle.b67_text.specs.declared.deck.Job as job;
-ghost use Rattle.b67_text.specs.declared.deck.Stand.TheVariants.{Front};
-ghost use Rattle.b67_text.specs.Command as text;
-ghost use Rattle.b67_text.specs.Placing.{numbers, operands_in};
+ghost use Rattle.b67_model_text.specs.declared.deck.Job as job;
+ghost use Rattle.b67_model_text.specs.declared.deck.Stand.TheVariants.{Front};
+ghost use Rattle.b67_model_text.specs.Command as text;
+ghost use Rattle.b67_model_text.specs.Placing.{numbers, operands_in};
 ghost use Rattle.b67_card.specs.Said.{command_of};
 ghost use Rattle.b67_card.specs.Contents.{Holds, Told, Filled, Appended, with_card, with_text, with_limit, with_program, new_job, to_newest};
 
 use crate::command::{Command, Refused};
 use crate::hex::{is_hex, put_digits};
 use crate::word::{operand_in, words};
-use b67_text::{Body, Card, Cards, Job, Jobs, Name, Stand};
+use b67_model_text::{Body, Card, Cards, Job, Jobs, Name, Stand};
 use b67_word::{Bytes, Numbers};
 use std::alloc::{AllocError, Global};
 

@@ -1,7 +1,7 @@
 // The lines of a text.
 ghost use Rattle.std.specs.Prelude.{◌≡◌, ◌==◌, ◌<◌, ◌≤◌, ◌+◌, ◌∷◌, length, position, count_by};
 ghost use Rattle.std.specs.Str.Lines.{lines, strip_carriage_return};
-ghost use Rattle.b67_text.specs.Cards.{trimmed};
+ghost use Rattle.b67_model_text.specs.Cards.{trimmed};
 
 fn without_carriage_return(line: &[u8]) -> &[u8]
     ensures { result.now ≡ strip_carriage_return line.now }

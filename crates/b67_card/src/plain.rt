@@ -1,7 +1,7 @@
 //! The plain cards of a source.
 
 ghost use Rattle.std.specs.Prelude.{◌≡◌, ◌<◌, ◌≤◌, ◌^◌, length};
-ghost use Rattle.b67_text.specs.Deck.{plain_cards};
+ghost use Rattle.b67_model_text.specs.Deck.{plain_cards};
 ghost use Rattle.b67_card.specs.Reading.{IsRead};
 ghost use Rattle.b67_card.specs.Meaning.{IsMeaning};
 
@@ -10,7 +10,7 @@ use crate::fault::DeckFault;
 use crate::line::{first_line, trimmed};
 use crate::reading::{LIMIT, read_all};
 use b67_io::Source;
-use b67_text::{Card, Cards};
+use b67_model_text::{Card, Cards};
 use std::alloc::Global;
 
 // The cards of a text that is within the limit.

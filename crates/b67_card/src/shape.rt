@@ -1,12 +1,12 @@
 // Where the cards of a deck may stand.
 ghost use Rattle.std.specs.Prelude.{◌≡◌, ◌-◌, slice_get, length, [], ℕ, List};
-ghost use Rattle.b67_text.specs.Command as card;
-ghost use Rattle.b67_text.specs.Placing.{is_above};
+ghost use Rattle.b67_model_text.specs.Command as card;
+ghost use Rattle.b67_model_text.specs.Placing.{is_above};
 ghost use Rattle.b67_card.specs.Said.{command_of};
 ghost use Rattle.b67_card.specs.Shape.{Shows, Placed, deck_of};
 
 use crate::command::{Command, Refused};
-use b67_text::{Deck, Jobs, Stand, Switch, Switches};
+use b67_model_text::{Deck, Jobs, Stand, Switch, Switches};
 use std::alloc::Global;
 
 /// What the cards so far have said.

@@ -15,7 +15,7 @@ use Rattle.b67_model.specs.Rows.{code_of, reading_of}
 use Rattle.b67_model.specs.Run.{number_of}
 use Rattle.b67_model.specs.Schedule.{Session}
 use Rattle.b67_model.specs.InOrder.{SegmentInOrder, IsInOrderButPlaces}
-use Rattle.b67_order.proofs.Members.{all_in, has_get}
+use Rattle.b67_law_order.proofs.Members.{all_in, has_get}
 use Rattle.b67_stack.specs.declared.Cpu.{Cpu}
 use Rattle.b67_stack.specs.Shapes.{Upward}
 use Rattle.b67_stack.specs.Picture.{Thing, is_present, address_or}
@@ -26,7 +26,7 @@ use Rattle.b67_layout.specs.Layout.{code_things, things_of, array_thing}
 use Rattle.b67_layout.specs.Session.{IsRunning, SessionStands}
 use Rattle.b67_layout.proofs.Others.{keyed-has}
 use Rattle.b67_layout.proofs.Fresh.{running_in_order}
-use Rattle.b67_cells.proofs.Replaced.{member_things, before}
+use Rattle.b67_exec_cells.proofs.Replaced.{member_things, before}
 use Rattle.b67_code.specs.Running.{code_held, code_area, code_desc}
 
 get_within : {A : Type 0} (xs : List A) (i : ℕ) → i < length xs → (x : A) × (slice_get xs i ≡ Some x)

@@ -10,9 +10,9 @@ use Rattle.b67_codefile.specs.declared.file.Segment.{Segment}
 use Rattle.b67_codefile.specs.declared.file.Codefile.{Codefile}
 use Rattle.b67_codefile.specs.Spelling.{spelling, Bears, IsSegment, IsRow, IsWithin}
 use Rattle.b67_codefile.specs.Meaning.{segment_of, program_of}
-use Rattle.b67_text.specs.declared.card.Card.{Card}
-use Rattle.b67_text.specs.Hex.{hex_text}
-use Rattle.b67_text.specs.Asm.{assembled}
+use Rattle.b67_model_text.specs.declared.card.Card.{Card}
+use Rattle.b67_model_text.specs.Hex.{hex_text}
+use Rattle.b67_model_text.specs.Asm.{assembled}
 use Rattle.b67_commands.specs.Verdicts.{segment_file, codefile_of, hex_lines, asm_of}
 
 words_back : (tag : ℕ) (words : List Tagged) → AllByRecursion (Bears tag) words → map (word tag) (contents words) ≡ words

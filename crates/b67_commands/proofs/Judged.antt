@@ -4,22 +4,22 @@ use Rattle.std.specs.Prelude.{count_by, ◌==◌}
 use Rattle.std.proofs.lemmas.Bool.{ltb-false, lt-ltb}
 use Rattle.std.proofs.lemmas.List.{take_all, drop_all}
 use Rattle.b67_io.specs.Told.{GaveAll}
-use Rattle.b67_text.specs.declared.card.Card.{Card}
-use Rattle.b67_text.specs.declared.deck.Job.{Job}
+use Rattle.b67_model_text.specs.declared.card.Card.{Card}
+use Rattle.b67_model_text.specs.declared.deck.Job.{Job}
 use Rattle.b67_codefile.specs.declared.file.Codefile.{Codefile}
 use Rattle.b67_codefile.specs.Meaning.{program_of}
-use Rattle.b67_text.specs.Deck as deck
-use Rattle.b67_text.specs.Deck.{plain_cards, limit}
+use Rattle.b67_model_text.specs.Deck as deck
+use Rattle.b67_model_text.specs.Deck.{plain_cards, limit}
 use Rattle.b67_card.specs.Reading.{GaveFirst, IsRead}
 use Rattle.b67_card.specs.declared.fault.DeckFault.{DeckFault}
 use Rattle.b67_card.specs.declared.fault.DeckFault.TheVariants as fault
-use Rattle.b67_admit.specs.declared.refusal.Refusal.{Refusal}
-use Rattle.b67_admit.specs.declared.refusal.Refusal.TheVariants as refusal
-use Rattle.b67_admit.specs.declared.programs.Loaded.{Loaded}
-use Rattle.b67_admit.specs.declared.fault.AdmitFault.{AdmitFault}
-use Rattle.b67_admit.specs.declared.fault.AdmitFault.TheVariants as admits
-use Rattle.b67_admit.specs.Admitting.{Prepared, deck_prepared}
-use Rattle.b67_admit.specs.Meets.{IsLoaded, prepared_of, of_deck_fault}
+use Rattle.b67_job_admit.specs.declared.refusal.Refusal.{Refusal}
+use Rattle.b67_job_admit.specs.declared.refusal.Refusal.TheVariants as refusal
+use Rattle.b67_job_admit.specs.declared.programs.Loaded.{Loaded}
+use Rattle.b67_job_admit.specs.declared.fault.AdmitFault.{AdmitFault}
+use Rattle.b67_job_admit.specs.declared.fault.AdmitFault.TheVariants as admits
+use Rattle.b67_job_admit.specs.Admitting.{Prepared, deck_prepared}
+use Rattle.b67_job_admit.specs.Meets.{IsLoaded, prepared_of, of_deck_fault}
 use Rattle.b67_commands.specs.Verdicts.{Verdict, job_lines, check_verdict, asm_of, asm_verdict}
 use Rattle.b67_commands.specs.Meets.{IsJudged}
 

@@ -2,11 +2,11 @@
 use Rattle.std.specs.Prelude.{◌≡◌, ℕ, ◌+◌, List, Option, Result, Ok, Err}
 use Rattle.b67_io.specs.Told.{GaveAll}
 use Rattle.b67_io.specs.Causes.{Rose}
-use Rattle.b67_text.specs.Deck.{limit}
+use Rattle.b67_model_text.specs.Deck.{limit}
 use Rattle.b67_card.specs.Reading.{GaveFirst}
-use Rattle.b67_admit.specs.declared.fault.AdmitFault.{AdmitFault}
-use Rattle.b67_admit.specs.declared.fault.AdmitFault.TheVariants.{Refused, SourceFault, Memory}
-use Rattle.b67_admit.specs.Meets as admit
+use Rattle.b67_job_admit.specs.declared.fault.AdmitFault.{AdmitFault}
+use Rattle.b67_job_admit.specs.declared.fault.AdmitFault.TheVariants.{Refused, SourceFault, Memory}
+use Rattle.b67_job_admit.specs.Meets as admit
 use Rattle.b67_commands.specs.Verdicts.{Verdict}
 
 -- the answer is this verdict, unless memory ran out

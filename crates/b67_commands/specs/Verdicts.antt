@@ -8,12 +8,12 @@ use Rattle.b67_model.specs.Program.{Program}
 use Rattle.b67_codefile.specs.declared.file.Segment.{Segment}
 use Rattle.b67_codefile.specs.declared.file.Codefile.{Codefile}
 use Rattle.b67_codefile.specs.Spelling.{spelling}
-use Rattle.b67_text.specs.declared.card.Card.{Card}
-use Rattle.b67_text.specs.declared.deck.Job.{Job}
-use Rattle.b67_text.specs.Hex.{hex_cards}
-use Rattle.b67_text.specs.Deck.{plain_cards}
-use Rattle.b67_text.specs.Asm.{assembled}
-use Rattle.b67_admit.specs.Admitting.{Answer, ◌>>=◌, of_deck, of_cards, deck_prepared}
+use Rattle.b67_model_text.specs.declared.card.Card.{Card}
+use Rattle.b67_model_text.specs.declared.deck.Job.{Job}
+use Rattle.b67_model_text.specs.Hex.{hex_cards}
+use Rattle.b67_model_text.specs.Deck.{plain_cards}
+use Rattle.b67_model_text.specs.Asm.{assembled}
+use Rattle.b67_job_admit.specs.Admitting.{Answer, ◌>>=◌, of_deck, of_cards, deck_prepared}
 
 -- the text to print, or the first refusal
 abbrev pub Verdict : Type 0

@@ -3,16 +3,16 @@
 ghost use Rattle.std.specs.Prelude.{◌≡◌, ◌≤◌, IfOk};
 ghost use Rattle.b67_codefile.specs.Spelling.{IsWithin, spelling};
 ghost use Rattle.b67_commands.specs.Verdicts.{asm_verdict, asm_of, hex_lines};
-ghost use Rattle.b67_admit.specs.Meets.{of_deck_fault};
+ghost use Rattle.b67_job_admit.specs.Meets.{of_deck_fault};
 ghost use Rattle.b67_commands.specs.Meets.{IsJudged, Meets};
 
 use crate::hex::put_cards;
-use b67_admit::{AdmitFault, Refusal};
+use b67_job_admit::{AdmitFault, Refusal};
 use b67_asm::{AsmFault, assemble};
 use b67_card::{DeckFault, read_cards};
 use b67_codefile::{Codefile, write};
 use b67_io::Source;
-use b67_text::Cards;
+use b67_model_text::Cards;
 use b67_word::Bytes;
 use std::alloc::{AllocError, Global};
 

@@ -6,11 +6,11 @@ ghost use Rattle.b67_codefile.specs.Meaning.{program_of};
 ghost use Rattle.b67_commands.specs.Verdicts.{job_line, job_lines, check_verdict};
 ghost use Rattle.b67_commands.specs.Meets.{IsJudged};
 
-use b67_admit::{AdmitFault, admit};
+use b67_job_admit::{AdmitFault, admit};
 use b67_codefile::Codefile;
 use b67_io::Source;
-use b67_load::Admitted;
-use b67_text::Job;
+use b67_load_verify::Admitted;
+use b67_model_text::Job;
 use b67_word::Bytes;
 use itoa::Buffer;
 use std::alloc::{AllocError, Global};

@@ -1,7 +1,7 @@
 //! Bytes as hexadecimal cards.
 
 ghost use Rattle.std.specs.Prelude.{◌≡◌, ◌<◌, ◌++◌, OnOk};
-ghost use Rattle.b67_text.specs.Hex.{hex_char, hex_text};
+ghost use Rattle.b67_model_text.specs.Hex.{hex_char, hex_text};
 ghost use Rattle.b67_io.specs.Line.{ended};
 ghost use Rattle.b67_commands.specs.Verdicts.{hex_lines};
 

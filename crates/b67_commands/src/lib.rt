@@ -9,6 +9,6 @@ mod put;
 mod tests;
 
 pub use asm::asm_text;
-pub use b67_admit::{AdmitFault, Refusal};
+pub use b67_job_admit::{AdmitFault, Refusal};
 pub use check::check_text;
 pub use put::put_text;

@@ -9,8 +9,8 @@ use Rattle.b67_io.proofs.Joined.{Took-none}
 use Rattle.b67_backing.specs.Held.{Changes}
 use Rattle.b67_codefile.specs.declared.file.Codefile.{Codefile}
 use Rattle.b67_codefile.specs.Meaning.{program_of}
-use Rattle.b67_text.specs.declared.deck.Job.{Job}
-use Rattle.b67_text.specs.declared.deck.Deck.{Deck}
+use Rattle.b67_model_text.specs.declared.deck.Job.{Job}
+use Rattle.b67_model_text.specs.declared.deck.Deck.{Deck}
 use Rattle.b67_model.specs.Lists.{Has}
 use Rattle.b67_model.specs.State.{Task, Member}
 use Rattle.b67_model.specs.Program.{Program}
@@ -24,20 +24,20 @@ use Rattle.b67_uncalled.specs.Uncalled.{uses_built}
 use Rattle.b67_uncalled.proofs.Runs.{unbuilt_is_never_called}
 use Rattle.b67_code.specs.Called.{called_by, called_in}
 use Rattle.b67_single.specs.Single.{IsSingle}
-use Rattle.b67_task.specs.declared.tables.Machine.{Machine}
-use Rattle.b67_task.specs.Tables.{switch_of}
-use Rattle.b67_open.specs.declared.fault.OpenFault.{OpenFault}
-use Rattle.b67_open.specs.declared.fault.OpenFault.TheVariants as faults
-use Rattle.b67_open.specs.Decks.{openings_of, session_of, DeckInRange, IsLoaded}
-use Rattle.b67_open.specs.Opens.{need_of, sectors_of_all, IsOpened}
-use Rattle.b67_open.proofs.Decks.{deck_within}
-use Rattle.b67_storage.specs.Machine.{Says, retold}
+use Rattle.b67_task_tables.specs.declared.tables.Machine.{Machine}
+use Rattle.b67_task_tables.specs.Tables.{switch_of}
+use Rattle.b67_session_open.specs.declared.fault.OpenFault.{OpenFault}
+use Rattle.b67_session_open.specs.declared.fault.OpenFault.TheVariants as faults
+use Rattle.b67_session_open.specs.Decks.{openings_of, session_of, DeckInRange, IsLoaded}
+use Rattle.b67_session_open.specs.Opens.{need_of, sectors_of_all, IsOpened}
+use Rattle.b67_session_open.proofs.Decks.{deck_within}
+use Rattle.b67_layout_storage.specs.Machine.{Says, retold}
 use Rattle.b67_initial.specs.Stored.{told_after}
 use Rattle.b67_initial.specs.Opened.{opening_plan}
 use Rattle.b67_session.specs.Passed.{AreCountable}
 use Rattle.b67_session.specs.Slices.{IsLone, LivesOn, SliceMeets, Rests, StepsFit}
-use Rattle.b67_lines.specs.Stops.{live_after}
-use Rattle.b67_lines.specs.Ends.{Ends}
+use Rattle.b67_session_lines.specs.Stops.{live_after}
+use Rattle.b67_session_lines.specs.Ends.{Ends}
 use Rattle.b67_deck.specs.Device.{device_of}
 use Rattle.b67_deck.specs.Lines.{no_core_line, backing_full_line}
 use Rattle.b67_deck.specs.Texts.{only, all_taken}

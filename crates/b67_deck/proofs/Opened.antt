@@ -3,26 +3,26 @@ use Rattle.std.proofs.Common.{◌≡◌, ◌≢◌, ℕ, List, [], ◌∷◌, ma
 use Rattle.std.specs.List.{AllByRecursion}
 use Rattle.b67_codefile.specs.declared.file.Codefile.{Codefile}
 use Rattle.b67_codefile.specs.Meaning.{program_of}
-use Rattle.b67_text.specs.declared.deck.Job.{Job}
-use Rattle.b67_text.specs.declared.deck.Deck.{Deck}
+use Rattle.b67_model_text.specs.declared.deck.Job.{Job}
+use Rattle.b67_model_text.specs.declared.deck.Deck.{Deck}
 use Rattle.b67_model.specs.State.{Entered, Ready, Task, Member}
 use Rattle.b67_model.specs.Program.{Program, opened}
 use Rattle.b67_model.specs.Schedule.{Switch}
 use Rattle.b67_model.specs.InOrder.{IsInOrderButPlaces}
 use Rattle.b67_opening.specs.Opening.{opening}
 use Rattle.b67_opening.proofs.Opens.{opens_in_order}
-use Rattle.b67_runs.proofs.Sessions.{runs_stay_in_order}
+use Rattle.b67_law_order_runs.proofs.Sessions.{runs_stay_in_order}
 use Rattle.b67_run_faults.proofs.Makers.{runs_make_their_words}
 use Rattle.b67_order_weaker.proofs.Sessions.{starts_are_segments}
 use Rattle.b67_single.specs.Single.{IsSingle}
 use Rattle.b67_initial.specs.Stored.{told_after}
 use Rattle.b67_initial.specs.Opened.{opening_plan}
-use Rattle.b67_task.specs.declared.tables.Machine.{Machine}
-use Rattle.b67_task.specs.Tables.{switch_of}
-use Rattle.b67_open.specs.Decks.{opening_of, openings_of, session_of, DeckInRange, IsLoaded}
-use Rattle.b67_open.specs.Opens.{OpensAs}
-use Rattle.b67_open.proofs.Decks.{deck_within}
-use Rattle.b67_storage.specs.Machine.{Says, retold}
+use Rattle.b67_task_tables.specs.declared.tables.Machine.{Machine}
+use Rattle.b67_task_tables.specs.Tables.{switch_of}
+use Rattle.b67_session_open.specs.Decks.{opening_of, openings_of, session_of, DeckInRange, IsLoaded}
+use Rattle.b67_session_open.specs.Opens.{OpensAs}
+use Rattle.b67_session_open.proofs.Decks.{deck_within}
+use Rattle.b67_layout_storage.specs.Machine.{Says, retold}
 use Rattle.b67_session.specs.Slices.{IsLone}
 use Rattle.b67_deck.specs.States.{StatesInOrder}
 

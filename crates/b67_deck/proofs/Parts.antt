@@ -15,8 +15,8 @@ use Rattle.b67_model.specs.Endings.{Settled, Stepped, ends_each_if, unsettled, s
 use Rattle.b67_model.specs.Alone.{JobMoment, by_task, step_of, up_to_deadlock, whole}
 use Rattle.b67_model.specs.Schedule.{Session, Choice, choice}
 use Rattle.b67_model.specs.Run.{RunLine, Moment, next, moment_by, moment_for, with_moment, number_of, of_job, live_tasks}
-use Rattle.b67_order.proofs.Members.{keyed_has}
-use Rattle.b67_lines.specs.Moments.{first_part, first_part_of, first_part_in, first_part_by, last_part, last_part_if, last_part_by, is_at_limit, has_tasks}
+use Rattle.b67_law_order.proofs.Members.{keyed_has}
+use Rattle.b67_session_lines.specs.Moments.{first_part, first_part_of, first_part_in, first_part_by, last_part, last_part_if, last_part_by, is_at_limit, has_tasks}
 
 -- ---- no last part
 

@@ -15,21 +15,21 @@ use Rattle.b67_model.specs.Lines.{run_text}
 use Rattle.b67_model.specs.Schedule.{Session}
 use Rattle.b67_model.specs.InOrder.{IsStart, IsSegment}
 use Rattle.b67_model.specs.Run.{RunLine, lines, after, live_tasks}
-use Rattle.b67_admit.specs.declared.refusal.Refusal.TheVariants as refusals
-use Rattle.b67_admit.specs.Admitting.{Prepared}
-use Rattle.b67_admit.specs.Told.{refusal_line}
+use Rattle.b67_job_admit.specs.declared.refusal.Refusal.TheVariants as refusals
+use Rattle.b67_job_admit.specs.Admitting.{Prepared}
+use Rattle.b67_job_admit.specs.Told.{refusal_line}
 use Rattle.b67_session.specs.Stops.{Stop}
 use Rattle.b67_session.specs.Stops as stops
 use Rattle.b67_code.specs.Called.{called_in}
 use Rattle.b67_single.specs.Single.{IsSingle}
 use Rattle.b67_single.proofs.Runs.{Came}
-use Rattle.b67_task.specs.declared.tables.Machine.{Machine}
+use Rattle.b67_task_tables.specs.declared.tables.Machine.{Machine}
 use Rattle.b67_session.specs.declared.slices.Progress.{Progress}
 use Rattle.b67_session.specs.declared.slices.Progress.TheVariants as progress
 use Rattle.b67_session.specs.Slices.{IsLone, IsLimited, Rests, Reaches, Prints, SliceMeets}
-use Rattle.b67_lines.specs.Moments.{last_part, due}
-use Rattle.b67_lines.specs.Stops.{halted_line}
-use Rattle.b67_lines.specs.Ends.{Ends, whole, cut}
+use Rattle.b67_session_lines.specs.Moments.{last_part, due}
+use Rattle.b67_session_lines.specs.Stops.{halted_line}
+use Rattle.b67_session_lines.specs.Ends.{Ends, whole, cut}
 use Rattle.b67_deck.specs.Device.{Device, Tells, Failed}
 use Rattle.b67_deck.specs.Lines.{no_core_line, backing_full_line, backing_fault_line}
 use Rattle.b67_deck.specs.Texts.{Text, only, Closes, all_taken, cut_short}

@@ -10,7 +10,7 @@ use Rattle.b67_model.specs.Run.{RunLine, Moment, lines, after}
 use Rattle.b67_single.specs.Single.{IsSingle}
 use Rattle.b67_single.proofs.Runs.{Came, came-more}
 use Rattle.b67_session.specs.Slices.{Reaches, whole, but_limit}
-use Rattle.b67_lines.specs.Moments.{first_part, last_part, due}
+use Rattle.b67_session_lines.specs.Moments.{first_part, last_part, due}
 use Rattle.b67_deck.proofs.Parts.{no_last, below_is_not_at, is_at, parts}
 
 pub run_text-then : (xs ys : List RunLine) → run_text (xs ++ ys) ≡ run_text xs ++ run_text ys

@@ -3,18 +3,18 @@ use Rattle.std.specs.Prelude.{◌≡◌, ◌≢◌, ℕ, ◌+◌, ◌≤◌, Lis
 use Rattle.b67_io.specs.Line.{ended}
 use Rattle.b67_io.specs.Causes.{Rose}
 use Rattle.b67_model.specs.Schedule.{Session}
-use Rattle.b67_admit.specs.declared.refusal.Refusal.TheVariants as refusals
-use Rattle.b67_admit.specs.Told.{refusal_line}
+use Rattle.b67_job_admit.specs.declared.refusal.Refusal.TheVariants as refusals
+use Rattle.b67_job_admit.specs.Told.{refusal_line}
 use Rattle.b67_session.specs.Stops.{Stop}
 use Rattle.b67_session.specs.Stops as stops
-use Rattle.b67_open.specs.declared.fault.OpenFault.{OpenFault}
-use Rattle.b67_open.specs.declared.fault.OpenFault.TheVariants as faults
-use Rattle.b67_task.specs.declared.tables.Machine.{Machine}
+use Rattle.b67_session_open.specs.declared.fault.OpenFault.{OpenFault}
+use Rattle.b67_session_open.specs.declared.fault.OpenFault.TheVariants as faults
+use Rattle.b67_task_tables.specs.declared.tables.Machine.{Machine}
 use Rattle.b67_session.specs.declared.slices.Progress.{Progress}
 use Rattle.b67_session.specs.declared.slices.Progress.TheVariants as progress
 use Rattle.b67_session.specs.Slices.{Slices, Over, StepsFit}
-use Rattle.b67_lines.specs.Stops.{halted_line}
-use Rattle.b67_lines.specs.Ends.{Ends}
+use Rattle.b67_session_lines.specs.Stops.{halted_line}
+use Rattle.b67_session_lines.specs.Ends.{Ends}
 use Rattle.b67_deck.specs.Lines.{no_core_line, backing_full_line, backing_fault_line, memory_line}
 
 -- where no session is opened

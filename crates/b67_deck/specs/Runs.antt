@@ -13,14 +13,14 @@ use Rattle.b67_code.specs.Running.{code_area}
 use Rattle.b67_session.specs.Passed.{IsShortOf}
 pub use Rattle.b67_session.specs.Passed.{AreCountable}
 use Rattle.b67_session.specs.Passed.{IsLacking}
-use Rattle.b67_admit.specs.Admitting.{Prepared}
-use Rattle.b67_open.specs.Decks.{session_of}
-use Rattle.b67_open.specs.Opens.{need_of, sectors_of_all}
-use Rattle.b67_task.specs.declared.tables.Machine.{Machine}
+use Rattle.b67_job_admit.specs.Admitting.{Prepared}
+use Rattle.b67_session_open.specs.Decks.{session_of}
+use Rattle.b67_session_open.specs.Opens.{need_of, sectors_of_all}
+use Rattle.b67_task_tables.specs.declared.tables.Machine.{Machine}
 use Rattle.b67_session.specs.Slices.{IsLone, IsLimited}
 pub use Rattle.b67_session.specs.Slices.{LivesOn, IsOpen, Rests, StepsFit}
-use Rattle.b67_lines.specs.Moments.{first_part, due}
-use Rattle.b67_lines.specs.Stops.{Run, live_after, halted_line}
+use Rattle.b67_session_lines.specs.Moments.{first_part, due}
+use Rattle.b67_session_lines.specs.Stops.{Run, live_after, halted_line}
 use Rattle.b67_deck.specs.Device.{Device, Tells, Failed}
 use Rattle.b67_deck.specs.Lines.{no_core_line, backing_full_line, backing_fault_line, memory_text}
 use Rattle.b67_deck.specs.Texts.{Text, whole_of, only, TookUpTo, Closes}

@@ -1,14 +1,14 @@
 //! The last lines of runs.
 
 ghost use Rattle.std.specs.Prelude.{◌≡◌, ◌≤◌, ◌++◌, length, codes, decimal};
-ghost use Rattle.b67_admit.specs.Told.{card_text, refusal_line};
-ghost use Rattle.b67_lines.specs.Ends.{Ends};
+ghost use Rattle.b67_job_admit.specs.Told.{card_text, refusal_line};
+ghost use Rattle.b67_session_lines.specs.Ends.{Ends};
 ghost use Rattle.b67_deck.specs.Lines.{no_core_line, backing_full_line};
 
-use b67_admit::Refusal;
+use b67_job_admit::Refusal;
 use b67_commands::put_text;
 use b67_io::{Line, Sink};
-use b67_lines::{line_of, with_number, with_text};
+use b67_session_lines::{line_of, with_number, with_text};
 use b67_word::Place;
 
 // A card and its reason.

@@ -5,11 +5,11 @@ ghost use Rattle.std.specs.List.{AllByRecursion};
 ghost use Rattle.b67_io.specs.Line.{ended};
 ghost use Rattle.b67_io.specs.Causes.{Rose};
 ghost use Rattle.b67_codefile.specs.Meaning.{program_of};
-ghost use Rattle.b67_storage.specs.Machine.{Says, retold};
+ghost use Rattle.b67_layout_storage.specs.Machine.{Says, retold};
 ghost use Rattle.b67_model.specs.State.{Task, Member};
 ghost use Rattle.b67_model.specs.Schedule.{Session};
-ghost use Rattle.b67_lines.specs.Ends.{Ends};
-ghost use Rattle.b67_open.specs.Decks.{DeckInRange, IsLoaded};
+ghost use Rattle.b67_session_lines.specs.Ends.{Ends};
+ghost use Rattle.b67_session_open.specs.Decks.{DeckInRange, IsLoaded};
 ghost use Rattle.b67_session.specs.Passed.{AreCountable};
 ghost use Rattle.b67_session.specs.Slices.{LivesOn, IsLone};
 ghost use Rattle.b67_uncalled.specs.Uncalled.{uses_built};
@@ -20,15 +20,15 @@ ghost use Rattle.b67_deck.specs.Runs.{RunEnds};
 
 use crate::lines::{backing_full_line, no_core_line, refusal_line};
 use crate::outcome::Outcome;
-use b67_admit::Refusal;
+use b67_job_admit::Refusal;
 use b67_backing::Backing;
 use b67_io::Sink;
-use b67_lines::{halted_line, line_of, say};
-use b67_load::Admitted;
-use b67_open::{OpenFault, open};
+use b67_session_lines::{halted_line, line_of, say};
+use b67_load_verify::Admitted;
+use b67_session_open::{OpenFault, open};
 use b67_session::{Progress, Stop, slice};
-use b67_task::Machine;
-use b67_text::Deck;
+use b67_task_tables::Machine;
+use b67_model_text::Deck;
 use std::alloc::Global;
 
 fn say_backing_fault<K: Sink>(printer: &mut K) -> u8

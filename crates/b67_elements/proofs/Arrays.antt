@@ -17,7 +17,7 @@ use Rattle.b67_model.specs.State.{Array, Task, Member}
 use Rattle.b67_model.specs.Run.{number_of}
 use Rattle.b67_model.specs.Schedule.{Session}
 use Rattle.b67_model.specs.InOrder.{IsInOrderButPlaces}
-use Rattle.b67_order.proofs.Members.{keyed_falls}
+use Rattle.b67_law_order.proofs.Members.{keyed_falls}
 use Rattle.b67_stack.specs.declared.Cpu.{Cpu}
 use Rattle.b67_stack.specs.Shapes.{Held, Upward}
 use Rattle.b67_stack.specs.Picture.{Thing, is_present, address_or, home_desc, home_word, tag_of}
@@ -29,8 +29,8 @@ use Rattle.b67_layout.specs.Session.{IsRunning, SessionStands}
 use Rattle.b67_layout.specs.Meets.{area_held}
 use Rattle.b67_layout.proofs.Others.{keyed-has}
 use Rattle.b67_layout.proofs.Fresh.{running_in_order}
-use Rattle.b67_cells.specs.Tops.{IsWordOf}
-use Rattle.b67_cells.proofs.Replaced.{array_thing-has}
+use Rattle.b67_exec_cells.specs.Tops.{IsWordOf}
+use Rattle.b67_exec_cells.proofs.Replaced.{array_thing-has}
 use Rattle.b67_elements.specs.Elements.{HasElement, original_desc}
 
 home_by : (plan : Plan) (j : ℕ) (a : Array) (b : Bool) (h : Held) → a.writable ≡ b → home_word (array_thing plan j a) h ≡ data_word (home_desc (not a.writable) (length a.numbers) h)

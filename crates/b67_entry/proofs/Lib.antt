@@ -1,7 +1,5 @@
-pub mod Marking
-pub mod Leads
-pub mod Firsts
-pub mod Called
-pub mod Unasked
-pub mod Plain
-pub mod Accidental
+pub mod Retning
+pub mod Putting
+pub mod Evaluating
+pub mod Calling
+pub mod Candidates

@@ -36,11 +36,11 @@ use Rattle.b67_layout.proofs.Gone.{no_things_gone}
 use Rattle.b67_layout.proofs.Fresh.{running_in_order, fresh}
 use Rattle.b67_refer.specs.Scene.{Scene}
 use Rattle.b67_refer.proofs.Scenes.{scene, member_in_order}
-use Rattle.b67_entering.proofs.Heads.{entered_mark_fits, top_size_high}
-use Rattle.b67_entering.proofs.Orders.{start, enter, ready_with, below_marked, below_some, top_apart, cells_front, originals_entered, height_entered}
-use Rattle.b67_entering.proofs.Rooms.{written_twice}
-use Rattle.b67_entering.proofs.Enters as Enters
-use Rattle.b67_entering.proofs.Enters.{IsMarkedWith, entered_frames, marked_stack, IsRunning-entered, SessionHolds-entered, SessionStands-entered}
+use Rattle.b67_layout_enter.proofs.Heads.{entered_mark_fits, top_size_high}
+use Rattle.b67_layout_enter.proofs.Orders.{start, enter, ready_with, below_marked, below_some, top_apart, cells_front, originals_entered, height_entered}
+use Rattle.b67_layout_enter.proofs.Rooms.{written_twice}
+use Rattle.b67_layout_enter.proofs.Enters as Enters
+use Rattle.b67_layout_enter.proofs.Enters.{IsMarkedWith, entered_frames, marked_stack, IsRunning-entered, SessionHolds-entered, SessionStands-entered}
 use Rattle.b67_environments.proofs.Sites.{Site, site}
 use Rattle.b67_environments.proofs.Segments.{few_segments}
 

@@ -9,12 +9,12 @@ ghost use Rattle.b67_model.specs.Steps.{cells_of};
 ghost use Rattle.b67_layout.specs.Meets.{here, Meets, RunsSome, ForEach};
 ghost use Rattle.b67_refer.specs.Scene.{Scene};
 ghost use Rattle.b67_refer.specs.Ends.{IsProcAt};
-ghost use Rattle.b67_cells.specs.Tops.{cells};
+ghost use Rattle.b67_exec_cells.specs.Tops.{cells};
 ghost use Rattle.b67_fetch.specs.Fetches.{enters_at, top_end};
 ghost use Rattle.b67_evaluate.specs.Procedures.{Leads, EntersTop};
 
 use b67_ctl::{Irw, Regs};
-use b67_entry::{accident, accident_on};
+use b67_entry_enter::{accident, accident_on};
 use b67_fetch::valc;
 use b67_refer::{End, chase};
 use b67_stack::{Cpu, Step};

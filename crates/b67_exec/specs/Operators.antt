@@ -14,7 +14,7 @@ use Rattle.b67_stack.specs.declared.Step.TheVariants as answers
 use Rattle.b67_stack.specs.Stands.{Storage}
 use Rattle.b67_layout.specs.Plan.{Plan}
 use Rattle.b67_layout.specs.Meets.{here}
-pub use Rattle.b67_entry.specs.Procedures.{CallsOrMeets}
+pub use Rattle.b67_entry_enter.specs.Procedures.{CallsOrMeets}
 use Rattle.b67_code.specs.Running.{code_area}
 pub use Rattle.b67_code.specs.Called.{called_by, called_in}
 

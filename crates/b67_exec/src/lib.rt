@@ -7,19 +7,19 @@ ghost use Rattle.b67_model.specs.declared.operators.Op.TheVariants.{Plain};
 ghost use Rattle.b67_model.specs.Rows.{row, plain as plain_row};
 ghost use Rattle.b67_profiles.specs.Profiles.{called};
 ghost use Rattle.b67_layout.specs.Meets.{here, RunsSome, ForEach};
-ghost use Rattle.b67_entry.specs.Procedures.{CallsOrMeets};
+ghost use Rattle.b67_entry_enter.specs.Procedures.{CallsOrMeets};
 ghost use Rattle.b67_exec.specs.Operators.{ParametersFit, OperatorMeets};
 
 use b67_assign::{evaluate, load, stod, ston};
 use b67_code::reading;
-use b67_entry::{entr, mkst};
+use b67_entry_enter::{entr, mkst};
 use b67_index::{indx, nxlv};
 pub use b67_leave::exit;
 use b67_model::{Code, Op};
-use b67_operands::{
+use b67_exec_operands::{
     Binary, Unary, branch_if, dlet, dupl, exch, go_on, literal, mpcw, namc, on_one, on_two,
 };
-pub use b67_return::retn;
+pub use b67_entry::retn;
 use b67_stack::{Cpu, Step, What};
 use b67_stuff::stff;
 use b67_word::{Fault, Place};

@@ -20,7 +20,7 @@ use Rattle.b67_stack.specs.declared.Step.TheVariants as step
 use Rattle.b67_stack.specs.Stands.{Storage}
 use Rattle.b67_layout.specs.Plan.{Plan}
 use Rattle.b67_layout.specs.Meets.{Meets, RunsSome}
-use Rattle.b67_cells.specs.Tops.{IsWordOf}
+use Rattle.b67_exec_cells.specs.Tops.{IsWordOf}
 use Rattle.b67_elements.specs.Elements.{HasElement}
 
 -- a word that the running task may follow: it is that of a state's word in order

@@ -12,11 +12,11 @@ ghost use Rattle.b67_model.specs.Chase.{End as ModelEnd, chase as chase_of, foll
 ghost use Rattle.b67_model.specs.Steps.{leaves_cells, cells_of};
 ghost use Rattle.b67_model.specs.Rows as rows;
 ghost use Rattle.b67_layout.specs.Meets.{here, Meets, RunsSome, ForEach};
-ghost use Rattle.b67_cells.specs.Tops.{cells, NoOriginals};
+ghost use Rattle.b67_exec_cells.specs.Tops.{cells, NoOriginals};
 ghost use Rattle.b67_elements.specs.Elements.{HasElement, HoldsElement};
 ghost use Rattle.b67_fetch.specs.Fetches.{IsFollowed, MayFollow, IsEnd, FindsEnd, SomeEnd, value_of, enters, enters_at, EntersOrMeets, top_end};
 
-use b67_cells::{replace_cells, top_cell};
+use b67_exec_cells::{replace_cells, top_cell};
 use b67_ctl::Irw;
 use b67_elements::{element, row_copy};
 use b67_refer::{End, chase};

@@ -11,7 +11,7 @@ use Rattle.b67_model.specs.Rows.{step}
 use Rattle.b67_model.specs.Need.{touched_of, started_by, need}
 use Rattle.b67_model.specs.Schedule.{Session}
 use Rattle.b67_model.specs.InOrder.{ArrayInOrder, IsInOrderButPlaces}
-use Rattle.b67_order.proofs.Members.{all_in, keyed_falls}
+use Rattle.b67_law_order.proofs.Members.{all_in, keyed_falls}
 use Rattle.b67_stack.specs.declared.Cpu.{Cpu}
 use Rattle.b67_stack.specs.Stands.{Storage}
 use Rattle.b67_layout.specs.Plan.{Plan}
@@ -19,8 +19,8 @@ use Rattle.b67_layout.specs.Session.{IsRunning, SessionStands}
 use Rattle.b67_layout.specs.Meets.{area_held, IsPresent}
 use Rattle.b67_layout.proofs.Fresh.{running_in_order}
 use Rattle.b67_code.specs.Running.{code_area}
-use Rattle.b67_needs.specs.Needing.{need_with, touched_words, HasWords}
-use Rattle.b67_needs.proofs.Needs.{need_whole}
+use Rattle.b67_task_need.specs.Needing.{need_with, touched_words, HasWords}
+use Rattle.b67_task_need.proofs.Needs.{need_whole}
 use Rattle.b67_fits.specs.Fits.{HasSpace, IsOfJob, MadeFits}
 use Rattle.b67_fits.proofs.Space.{has_space}
 

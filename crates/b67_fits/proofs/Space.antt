@@ -15,7 +15,7 @@ use Rattle.b67_model.specs.Need.{fixed}
 use Rattle.b67_model.specs.Run.{live_tasks, number_of}
 use Rattle.b67_model.specs.Schedule.{Session}
 use Rattle.b67_model.specs.InOrder.{ArrayInOrder, IsInOrderButPlaces}
-use Rattle.b67_order.proofs.Members.{all_in}
+use Rattle.b67_law_order.proofs.Members.{all_in}
 use Rattle.b67_stack.specs.declared.Cpu.{Cpu}
 use Rattle.b67_stack.specs.Picture.{Thing}
 use Rattle.b67_stack.specs.Stands.{Storage, info_of}
@@ -25,10 +25,10 @@ use Rattle.b67_layout.specs.Session.{DictionariesFollow, IsRunning, SessionStand
 use Rattle.b67_layout.specs.Meets.{area_held}
 use Rattle.b67_layout.proofs.Others.{keyed-has}
 use Rattle.b67_layout.proofs.Fresh.{running_in_order}
-use Rattle.b67_cells.proofs.Replaced.{array_thing-has, member_things, before}
+use Rattle.b67_exec_cells.proofs.Replaced.{array_thing-has, member_things, before}
 use Rattle.b67_code.specs.Running.{code_area}
 use Rattle.b67_code.proofs.Codes.{code_thing}
-use Rattle.b67_needs.specs.Needing.{array_area, need_with}
+use Rattle.b67_task_need.specs.Needing.{array_area, need_with}
 use Rattle.b67_fits.specs.Fits.{HasSpace, PresentFits}
 use Rattle.b67_fits.proofs.Areas.{one_fits, two_fit}
 

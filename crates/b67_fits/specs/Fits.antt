@@ -10,7 +10,7 @@ use Rattle.b67_stack.specs.Stands.{Storage}
 use Rattle.b67_layout.specs.Plan.{Plan}
 use Rattle.b67_layout.specs.Meets.{area_held, IsPresent, ForEach}
 use Rattle.b67_code.specs.Running.{code_area}
-use Rattle.b67_needs.specs.Needing.{need_with}
+use Rattle.b67_task_need.specs.Needing.{need_with}
 
 -- a core of so many words has room for the running segment beside the MCP, the dictionaries and the stacks, and for each
 -- present array of the running task's job with it

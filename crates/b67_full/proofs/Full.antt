@@ -12,11 +12,11 @@ use Rattle.b67_model.specs.Lists.{Has, total}
 use Rattle.b67_model.specs.State as State
 use Rattle.b67_model.specs.State.{Segment, Member}
 use Rattle.b67_model.specs.Sectors.{sectors_of, sectors}
-use Rattle.b67_order.proofs.Members.{has_map, total_same, total_append, total_map, total_flat}
+use Rattle.b67_law_order.proofs.Members.{has_map, total_same, total_append, total_map, total_flat}
 use Rattle.b67_stack.specs.declared.Cpu.{Cpu}
 use Rattle.b67_stack.specs.Picture.{Thing, Picture}
 use Rattle.b67_stack.specs.Stands.{Storage, Keeps, Content}
-use Rattle.b67_storage.specs.Machine.{MachineStands}
+use Rattle.b67_layout_storage.specs.Machine.{MachineStands}
 use Rattle.b67_overlay.specs.Sheds.{IsShortBy}
 use Rattle.b67_layout.specs.Plan.{Plan}
 use Rattle.b67_layout.specs.Layout.{array_thing, code_things, things_of, picture}

@@ -6,7 +6,7 @@ use Rattle.b67_model.specs.Sectors.{sectors}
 use Rattle.b67_model.specs.Schedule.{Session}
 use Rattle.b67_stack.specs.declared.Cpu.{Cpu}
 use Rattle.b67_stack.specs.Stands.{Storage}
-use Rattle.b67_storage.specs.Machine.{MachineStands}
+use Rattle.b67_layout_storage.specs.Machine.{MachineStands}
 use Rattle.b67_overlay.specs.Sheds.{IsShortBy}
 use Rattle.b67_layout.specs.Plan.{Plan}
 use Rattle.b67_layout.specs.Layout.{picture}

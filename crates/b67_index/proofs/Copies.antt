@@ -11,7 +11,7 @@ use Rattle.b67_stack.specs.declared.Cpu.{Cpu}
 use Rattle.b67_stack.specs.Stands.{Storage}
 use Rattle.b67_layout.specs.Plan.{Plan}
 use Rattle.b67_layout.specs.Session.{IsRunning, SessionStands}
-use Rattle.b67_cells.specs.Tops.{IsWordOf}
+use Rattle.b67_exec_cells.specs.Tops.{IsWordOf}
 use Rattle.b67_elements.specs.Elements.{HasElement, original_desc}
 use Rattle.b67_elements.proofs.Arrays as arrays
 

@@ -25,8 +25,8 @@ use Rattle.b67_layout.specs.Plan.{Plan}
 use Rattle.b67_layout.specs.Session.{IsRunning, SessionStands}
 use Rattle.b67_layout.specs.Meets.{here, Meets, RunsSome}
 use Rattle.b67_layout.proofs.Fresh.{running_in_order}
-use Rattle.b67_cells.specs.Tops.{IsWordOf, cells, GivesTwo, NoOriginals}
-use Rattle.b67_operands.proofs.Rows.{plain_operand}
+use Rattle.b67_exec_cells.specs.Tops.{IsWordOf, cells, GivesTwo, NoOriginals}
+use Rattle.b67_exec_operands.proofs.Rows.{plain_operand}
 use Rattle.b67_elements.specs.Elements.{HasElement, HoldsElement, original_desc}
 use Rattle.b67_elements.proofs.Arrays.{array_is}
 use Rattle.b67_fetch.specs.Fetches.{IsFollowed}

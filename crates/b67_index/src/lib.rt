@@ -10,12 +10,12 @@ ghost use Rattle.b67_model.specs.Rows as rows;
 ghost use Rattle.b67_model.specs.Steps.{cells_of};
 ghost use Rattle.b67_arith.specs.OnWords.{bits_in};
 ghost use Rattle.b67_layout.specs.Meets.{here, Meets, RunsSome, ForEach};
-ghost use Rattle.b67_cells.specs.Tops.{IsWordOf};
+ghost use Rattle.b67_exec_cells.specs.Tops.{IsWordOf};
 ghost use Rattle.b67_elements.specs.Elements.{HasElement, HoldsElement};
 ghost use Rattle.b67_fetch.specs.Fetches.{IsFollowed, MayFollow};
 ghost use Rattle.b67_index.specs.Indexes.{array_in, FindsArray, index_in, FindsItem, FindsTopItem};
 
-use b67_cells::{replace_cells, two_cells};
+use b67_exec_cells::{replace_cells, two_cells};
 use b67_ctl::DataDesc;
 use b67_elements::descriptor;
 use b67_fetch::put_element;

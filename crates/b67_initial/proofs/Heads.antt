@@ -10,11 +10,11 @@ use Rattle.b67_codefile.specs.declared.file.Codefile.{Codefile}
 use Rattle.b67_codefile.specs.Meaning.{program_of}
 use Rattle.b67_model.specs.Lists.{total}
 use Rattle.b67_model.specs.Program.{Program}
-use Rattle.b67_install.specs.Things.{things_of, entries_of, sectors_of_program}
-use Rattle.b67_install.specs.Resting.{stocked, DictionaryIs, Stocks}
-use Rattle.b67_install.specs.Writing.{Parts, Spares, Writes}
-use Rattle.b67_install.proofs.Steps.{sectors-things}
-use Rattle.b67_install.proofs.Writing.{writes_none, writes_both, spares-refl, spares_both, spares_wider}
+use Rattle.b67_load.specs.Things.{things_of, entries_of, sectors_of_program}
+use Rattle.b67_load.specs.Resting.{stocked, DictionaryIs, Stocks}
+use Rattle.b67_load.specs.Writing.{Parts, Spares, Writes}
+use Rattle.b67_load.proofs.Steps.{sectors-things}
+use Rattle.b67_load.proofs.Writing.{writes_none, writes_both, spares-refl, spares_both, spares_wider}
 use Rattle.b67_initial.specs.Opened.{dictionary_words, dictionaries, things_from}
 use Rattle.b67_initial.specs.Words.{HeadLies, HeadsLie}
 use Rattle.b67_initial.proofs.Things.{things_within}

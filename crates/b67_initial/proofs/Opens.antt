@@ -13,9 +13,9 @@ use Rattle.b67_model.specs.Schedule.{Switch}
 use Rattle.b67_opening.specs.Opening.{Opening, DeckWithin, opening}
 use Rattle.b67_stack.specs.declared.Cpu.{Cpu}
 use Rattle.b67_layout.specs.Session.{McpStands, SessionStands}
-use Rattle.b67_install.specs.Resting.{stocked}
-use Rattle.b67_install.specs.Writing.{Parts as Writing_parts, Spares, Writes}
-use Rattle.b67_install.proofs.Shelves.{placed_thing}
+use Rattle.b67_load.specs.Resting.{stocked}
+use Rattle.b67_load.specs.Writing.{Parts as Writing_parts, Spares, Writes}
+use Rattle.b67_load.proofs.Shelves.{placed_thing}
 use Rattle.b67_initial.specs.Opened.{dictionaries, things_from, opening_plan, programs_of}
 use Rattle.b67_initial.specs.Words.{SlotsLie, HeadsLie}
 use Rattle.b67_initial.specs.Stored.{absent_storage, told_after}

@@ -6,9 +6,9 @@ use Rattle.b67_backing.specs.Shelf.{Table, Shelf, IsShelf, AreChains, one, times
 use Rattle.b67_backing.proofs.Links.{chain_there, one-same, uses-split}
 use Rattle.b67_model.specs.Lists.{Has}
 use Rattle.b67_stack.specs.Picture.{Thing}
-use Rattle.b67_install.specs.Things.{sectors_of, sectors_of_all}
-use Rattle.b67_install.specs.Resting.{Resting, placed, stocked}
-use Rattle.b67_install.proofs.Shelves.{Apart, chain_apart, has_uses, has_times, times-take_drop}
+use Rattle.b67_load.specs.Things.{sectors_of, sectors_of_all}
+use Rattle.b67_load.specs.Resting.{Resting, placed, stocked}
+use Rattle.b67_load.proofs.Shelves.{Apart, chain_apart, has_uses, has_times, times-take_drop}
 
 -- a chain has a first sector
 chain_some : (links : List ℕ) (ks : List (List ℕ)) (k : List ℕ) → AreChains links ks → Has ks k → 1 ≤ length k

@@ -11,9 +11,9 @@ use Rattle.b67_backing.specs.Shelf.{Table, Shelf, IsShelf, first, chain_of}
 use Rattle.b67_model.specs.Lists.{Has}
 use Rattle.b67_stack.specs.Picture.{Thing, home_word_of, home_word, words_of}
 use Rattle.b67_stack.specs.Stands.{Storage, Told, HoldsIn, ThingStands, Owned}
-use Rattle.b67_install.specs.Things.{sectors_of, sectors_of_all}
-use Rattle.b67_install.specs.Resting.{Resting, placed, stocked, at_rest, DescriptorsStand, Stocks}
-use Rattle.b67_install.proofs.Shelves.{Apart, placed_chain, placed_thing}
+use Rattle.b67_load.specs.Things.{sectors_of, sectors_of_all}
+use Rattle.b67_load.specs.Resting.{Resting, placed, stocked, at_rest, DescriptorsStand, Stocks}
+use Rattle.b67_load.proofs.Shelves.{Apart, placed_chain, placed_thing}
 use Rattle.b67_initial.specs.Stored.{sector_named, absent_storage, told_after}
 use Rattle.b67_initial.proofs.Resting.{first_apart, chain_found, no_zero, chain_begins, placed_length, placed_has, chain_placed, Alone, one_place}
 

@@ -11,7 +11,7 @@ use Rattle.b67_model.specs.Sectors.{sectors_of, sectors}
 use Rattle.b67_opening.specs.Opening.{Opening, opened_from}
 use Rattle.b67_opening.proofs.Rows.{entries_count}
 use Rattle.b67_opening.proofs.Turned.{total_reverse}
-use Rattle.b67_install.specs.Things.{sectors_of_program}
+use Rattle.b67_load.specs.Things.{sectors_of_program}
 use Rattle.b67_initial.specs.Opened.{dictionaries, programs_of}
 use Rattle.b67_initial.proofs.Plans.{count_is, length_opened}
 

@@ -13,7 +13,7 @@ use Rattle.b67_opening.specs.Opening.{Opening, RowWithin, OpeningWithin, opened_
 use Rattle.b67_stack.specs.Picture.{Thing}
 use Rattle.b67_layout.specs.Plan.{Plan}
 use Rattle.b67_layout.specs.Layout.{array_thing, code_things, things_of}
-use Rattle.b67_install.specs.Things.{code_from, rows_from, things_of as things_at}
+use Rattle.b67_load.specs.Things.{code_from, rows_from, things_of as things_at}
 use Rattle.b67_initial.specs.Opened.{dictionary_words, dictionaries, segments_in, opening_plan, things_from, programs_of}
 use Rattle.b67_initial.proofs.Lists.{total_before, total_within, mapped, from_mapped, has_split, has_left, has_right, has_turned, has_reverse, has_mapped, has_map, has_flat, has_flat_map}
 use Rattle.b67_initial.proofs.Members.{member, for_members, has_member}

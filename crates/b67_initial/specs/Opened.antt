@@ -7,7 +7,7 @@ use Rattle.b67_opening.specs.Opening.{Opening}
 use Rattle.b67_stack.specs.Stacks.{Entered, Activation}
 use Rattle.b67_stack.specs.Picture.{Thing}
 use Rattle.b67_layout.specs.Plan.{Slotted, Plan}
-use Rattle.b67_install.specs.Things.{entries_of, things_of}
+use Rattle.b67_load.specs.Things.{entries_of, things_of}
 
 -- the words of a program's dictionary, and of the dictionaries of programs
 abbrev pub dictionary_words : Program → ℕ

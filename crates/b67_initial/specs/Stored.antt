@@ -6,7 +6,7 @@ use Rattle.b67_backing.specs.Shelf.{Shelf}
 use Rattle.std.specs.List.{slice_get}
 use Rattle.b67_stack.specs.Shapes.{Map}
 use Rattle.b67_stack.specs.Stands.{Storage}
-use Rattle.b67_install.specs.Resting.{at_rest}
+use Rattle.b67_load.specs.Resting.{at_rest}
 
 -- the sector that an absent descriptor names
 abbrev pub sector_named : Option Tagged → ℕ

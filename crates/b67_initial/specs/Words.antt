@@ -2,8 +2,8 @@
 use Rattle.std.specs.Prelude.{◌≡◌, ℕ, ◌+◌, ◌*◌, ◌^◌, ◌<◌, List, [], ◌∷◌, Some, slice_get}
 use Rattle.b67_word.specs.Tagged.{Tagged, word}
 use Rattle.b67_model.specs.Program.{Program}
-use Rattle.b67_install.specs.Things.{entries_of}
-use Rattle.b67_install.specs.Resting.{dictionary_mark}
+use Rattle.b67_load.specs.Things.{entries_of}
+use Rattle.b67_load.specs.Resting.{dictionary_mark}
 use Rattle.b67_initial.specs.Opened.{dictionary_words}
 
 -- the slot of a first task that hasn't run: the top of its stack, the mark of its outer block on the job's dictionary,

@@ -7,14 +7,14 @@ ghost use Rattle.b67_backing.specs.declared.refusals.SpaceFault.TheVariants.{Bac
 ghost use Rattle.b67_codefile.specs.Meaning.{program_of};
 ghost use Rattle.b67_model.specs.Lists.{total};
 ghost use Rattle.b67_stack.specs.declared.Cpu.{Cpu};
-ghost use Rattle.b67_install.specs.Things.{sectors_of_program};
-ghost use Rattle.b67_install.specs.Writing.{Parts, Spares, Writes};
+ghost use Rattle.b67_load.specs.Things.{sectors_of_program};
+ghost use Rattle.b67_load.specs.Writing.{Parts, Spares, Writes};
 ghost use Rattle.b67_initial.specs.Opened.{dictionary_words as words_of_dictionary, dictionaries, things_from};
 ghost use Rattle.b67_initial.specs.Words.{HeadsLie};
 
 use b67_backing::{Backing, Sectors, SpaceFault};
-use b67_install::install;
-use b67_load::Admitted;
+use b67_load::install;
+use b67_load_verify::Admitted;
 use b67_stack::Cpu;
 
 /// The words of a program's dictionary: two and one for each segment and data row.

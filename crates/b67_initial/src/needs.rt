@@ -11,12 +11,12 @@ ghost use Rattle.b67_model.specs.State.{Segment as ModelSegment};
 ghost use Rattle.b67_model.specs.Need.{need_at_opening};
 ghost use Rattle.b67_model.specs.Sectors.{sectors};
 ghost use Rattle.b67_opening.specs.Opening.{Opening, opened_from};
-ghost use Rattle.b67_install.specs.Things.{sectors_of_program};
+ghost use Rattle.b67_load.specs.Things.{sectors_of_program};
 ghost use Rattle.b67_initial.specs.Opened.{dictionaries, programs_of};
 
 use crate::dictionaries::dictionary_words;
 use b67_codefile::Segment;
-use b67_load::Admitted;
+use b67_load_verify::Admitted;
 use b67_word::Words;
 
 /// The core words that a session of these programs needs to open, with stacks of `stack` words: those of the MCP, all

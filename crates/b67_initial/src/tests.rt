@@ -4,7 +4,7 @@ use super::*;
 use b67_backing::{MemoryBacking, Sectors, SpaceFault};
 use b67_codefile::read;
 use b67_core::Core;
-use b67_load::{Admitted, verify};
+use b67_load_verify::{Admitted, verify};
 use b67_word::{Numbers, Word};
 use std::alloc::Global;
 use std::test::Fail;

@@ -5,12 +5,12 @@ use Rattle.std.proofs.lemmas.Option.{none-some, same_Some}
 use denote.Ref.{Bor}
 use Rattle.b67_io.specs.Told.{Took, GaveAll}
 use Rattle.b67_io.specs.Causes.{Rose}
-use Rattle.b67_task.specs.declared.tables.Machine.{Machine}
-use Rattle.b67_admit.specs.Admitting.{Prepared}
+use Rattle.b67_task_tables.specs.declared.tables.Machine.{Machine}
+use Rattle.b67_job_admit.specs.Admitting.{Prepared}
 use Rattle.b67_model.specs.Run.{after}
 use Rattle.b67_deck.specs.Runs.{Rests, StepsFit}
 use Rattle.b67_deck.specs.Runs.{AreCountable}
-use Rattle.b67_lines.specs.Stops.{IsFinished, IsHalted}
+use Rattle.b67_session_lines.specs.Stops.{IsFinished, IsHalted}
 use Rattle.b67_deck.specs.Device.{Device, Tells, Failed}
 use Rattle.b67_deck.specs.Texts.{Text, whole_of, TookUpTo, all_taken, cut_short}
 use Rattle.b67_deck.specs.States.{StatesInOrder}

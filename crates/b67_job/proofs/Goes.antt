@@ -1,9 +1,9 @@
 -- A run that a device has stopped may go on.
 use Rattle.std.proofs.Common.{◌≡◌, ◌≢◌, ◌≤◌, ℕ, List, Option, None, Some, IfSome, refl, inl, arith}
 use Rattle.b67_model.specs.Schedule.{Session}
-use Rattle.b67_admit.specs.Admitting.{Prepared}
-use Rattle.b67_storage.specs.Machine.{Says}
-use Rattle.b67_task.specs.declared.tables.Machine.{Machine}
+use Rattle.b67_job_admit.specs.Admitting.{Prepared}
+use Rattle.b67_layout_storage.specs.Machine.{Says}
+use Rattle.b67_task_tables.specs.declared.tables.Machine.{Machine}
 use Rattle.b67_deck.specs.Runs.{run_of, StopsAt, AreCountable, IsOpen}
 
 says_itself : (told : Option (List (List ℕ))) → Says told told

@@ -7,21 +7,21 @@ use Rattle.std.proofs.lemmas.List.{length-take, length-map, take_all, drop_all, 
 use denote.Ref.{Bor}
 use Rattle.b67_io.specs.Causes.{Rose}
 use Rattle.b67_codefile.specs.Meaning.{program_of}
-use Rattle.b67_text.specs.Deck.{limit}
+use Rattle.b67_model_text.specs.Deck.{limit}
 use Rattle.b67_card.specs.Reading.{GaveFirst}
-use Rattle.b67_task.specs.declared.tables.Machine.{Machine}
-use Rattle.b67_admit.specs.declared.refusal.Refusal.{Refusal}
-use Rattle.b67_admit.specs.declared.refusal.Refusal.TheVariants as refusals
-use Rattle.b67_admit.specs.declared.fault.AdmitFault.{AdmitFault}
-use Rattle.b67_admit.specs.declared.fault.AdmitFault.TheVariants as admits
-use Rattle.b67_admit.specs.declared.programs.Loaded.{Loaded}
-use Rattle.b67_admit.specs.Admitting.{Prepared, deck_prepared}
-use Rattle.b67_admit.specs.Meets.{IsLoaded, prepared_of}
-use Rattle.b67_admit.specs.Told.{refusal_text}
+use Rattle.b67_task_tables.specs.declared.tables.Machine.{Machine}
+use Rattle.b67_job_admit.specs.declared.refusal.Refusal.{Refusal}
+use Rattle.b67_job_admit.specs.declared.refusal.Refusal.TheVariants as refusals
+use Rattle.b67_job_admit.specs.declared.fault.AdmitFault.{AdmitFault}
+use Rattle.b67_job_admit.specs.declared.fault.AdmitFault.TheVariants as admits
+use Rattle.b67_job_admit.specs.declared.programs.Loaded.{Loaded}
+use Rattle.b67_job_admit.specs.Admitting.{Prepared, deck_prepared}
+use Rattle.b67_job_admit.specs.Meets.{IsLoaded, prepared_of}
+use Rattle.b67_job_admit.specs.Told.{refusal_text}
 use Rattle.b67_commands.specs.Verdicts.{Verdict}
 use Rattle.b67_commands.specs.Meets.{IsJudged}
 use Rattle.b67_commands.proofs.Judged.{too_long}
-use Rattle.b67_open.specs.Decks.{DeckInRange}
+use Rattle.b67_session_open.specs.Decks.{DeckInRange}
 use Rattle.b67_ranges.proofs.Prepared.{prepared_in_range}
 use Rattle.b67_deck.specs.Device.{Device}
 use Rattle.b67_deck.specs.Lines.{memory_text}

@@ -4,21 +4,21 @@ use denote.Ref.{Bor}
 use Rattle.b67_io.specs.Line.{ended}
 use Rattle.b67_io.specs.Told.{Gave, GaveAll}
 use Rattle.b67_io.specs.Causes.{Rose}
-use Rattle.b67_text.specs.Deck.{limit}
+use Rattle.b67_model_text.specs.Deck.{limit}
 use Rattle.b67_model.specs.State.{Task, Member}
 use Rattle.b67_model.specs.Need.{need}
 use Rattle.b67_model.specs.Sectors.{sectors}
 use Rattle.b67_model.specs.Run.{after}
 use Rattle.b67_single.specs.Single.{IsSingle}
-use Rattle.b67_task.specs.declared.tables.Machine.{Machine}
-use Rattle.b67_admit.specs.declared.refusal.Refusal.{Refusal}
-use Rattle.b67_admit.specs.declared.fault.AdmitFault.{AdmitFault}
-use Rattle.b67_admit.specs.declared.fault.AdmitFault.TheVariants as admits
-use Rattle.b67_admit.specs.Admitting.{Prepared}
-use Rattle.b67_admit.specs.Told.{refusal_text}
-use Rattle.b67_lines.specs.Ends.{Ends}
-use Rattle.b67_lines.specs.Stops.{IsFinished}
-use Rattle.b67_open.specs.Opens.{need_of, sectors_of_all}
+use Rattle.b67_task_tables.specs.declared.tables.Machine.{Machine}
+use Rattle.b67_job_admit.specs.declared.refusal.Refusal.{Refusal}
+use Rattle.b67_job_admit.specs.declared.fault.AdmitFault.{AdmitFault}
+use Rattle.b67_job_admit.specs.declared.fault.AdmitFault.TheVariants as admits
+use Rattle.b67_job_admit.specs.Admitting.{Prepared}
+use Rattle.b67_job_admit.specs.Told.{refusal_text}
+use Rattle.b67_session_lines.specs.Ends.{Ends}
+use Rattle.b67_session_lines.specs.Stops.{IsFinished}
+use Rattle.b67_session_open.specs.Opens.{need_of, sectors_of_all}
 use Rattle.b67_deck.specs.Device.{Device, Tells}
 use Rattle.b67_deck.specs.Lines.{no_core_line, backing_full_line, backing_fault_line, memory_text}
 use Rattle.b67_deck.specs.Texts.{Text, only, TookUpTo, Closes}

@@ -4,12 +4,12 @@ ghost use Rattle.std.specs.Prelude.{◌≡◌, ◌≤◌, length, map, true, Non
 ghost use Rattle.std.specs.List.{AllByRecursion};
 ghost use Rattle.b67_codefile.specs.Meaning.{program_of};
 ghost use Rattle.b67_uncalled.specs.Uncalled.{uses_built};
-ghost use Rattle.b67_open.specs.Decks.{IsLoaded};
+ghost use Rattle.b67_session_open.specs.Decks.{IsLoaded};
 ghost use Rattle.b67_job.specs.Judgement.{missing};
 
-use b67_load::Admitted;
+use b67_load_verify::Admitted;
 use b67_served::uses_built;
-use b67_text::Job;
+use b67_model_text::Job;
 
 /// The card of the first thing in a deck that the machine doesn't have yet: a program that names an intrinsic on tasks, at
 /// the card of its body, or a second job.

@@ -3,14 +3,14 @@
 ghost use Rattle.std.specs.Prelude.{◌≡◌, ◌≢◌, ◌⊎◌, ◌+◌, ◌≤◌, ◌<◌, ◌^◌, ℕ, List, length, map, true, false, is_some, Some, None};
 ghost use Rattle.b67_io.specs.Told.{Took, GaveAll};
 ghost use Rattle.b67_io.specs.Causes.{Rose, Stayed};
-ghost use Rattle.b67_task.specs.declared.tables.Machine.{Machine};
-ghost use Rattle.b67_admit.specs.declared.refusal.Refusal.{Refusal};
-ghost use Rattle.b67_admit.specs.Told.{refusal_text};
-ghost use Rattle.b67_admit.specs.Admitting.{Prepared};
-ghost use Rattle.b67_admit.specs.Meets.{prepared_of};
-ghost use Rattle.b67_open.specs.Decks.{DeckInRange};
-ghost use Rattle.b67_lines.specs.Ends.{Ends};
-ghost use Rattle.b67_lines.specs.Stops.{IsHalted};
+ghost use Rattle.b67_task_tables.specs.declared.tables.Machine.{Machine};
+ghost use Rattle.b67_job_admit.specs.declared.refusal.Refusal.{Refusal};
+ghost use Rattle.b67_job_admit.specs.Told.{refusal_text};
+ghost use Rattle.b67_job_admit.specs.Admitting.{Prepared};
+ghost use Rattle.b67_job_admit.specs.Meets.{prepared_of};
+ghost use Rattle.b67_session_open.specs.Decks.{DeckInRange};
+ghost use Rattle.b67_session_lines.specs.Ends.{Ends};
+ghost use Rattle.b67_session_lines.specs.Stops.{IsHalted};
 ghost use Rattle.b67_model.specs.Run.{after};
 ghost use Rattle.b67_deck.specs.Device.{Device, device_of};
 ghost use Rattle.b67_deck.specs.Lines.{memory_text};
@@ -26,12 +26,12 @@ ghost use Rattle.b67_job.specs.Due.{Answered, Serves, RefusalEnds, TextEnds, Dec
 
 use crate::command::{CommandLine, command_of};
 use crate::planning::missing_card;
-use b67_admit::{AdmitFault, Loaded, Refusal, admit};
+use b67_job_admit::{AdmitFault, Loaded, Refusal, admit};
 use b67_backing::Backing;
 use b67_commands::{asm_text, check_text};
 use b67_deck::{Outcome, refusal_line, run_deck, say_text};
 use b67_io::{Sink, Source};
-use b67_lines::{line_of, say};
+use b67_session_lines::{line_of, say};
 use b67_word::Bytes;
 use std::alloc::Global;
 

@@ -8,7 +8,7 @@ use crate::tests::{bytes_of, numbers_of};
 use b67_backing::{Backing, FileBacking, HonestBacking, MemoryBacking};
 use b67_deck::{Outcome, Progress, Session};
 use b67_io::{Paper, Tape};
-use b67_task::Machine;
+use b67_task_tables::Machine;
 use std::alloc::{AllocError, Global};
 use std::fs;
 use std::process::Abort;

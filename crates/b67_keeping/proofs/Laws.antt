@@ -10,9 +10,9 @@ use Rattle.b67_model.specs.Operators.{Reading}
 use Rattle.b67_model.specs.Steps.{Line, Goes}
 use Rattle.b67_model.specs.Rows.{row, reading_of, step_by, step}
 use Rattle.b67_model.specs.InOrder.{Starts, IsSegment, Known, known_of, WordInOrder, EntryInOrder, FramesInOrder, TaskInOrder, TasksInOrder, JobInOrder, outer_of}
-use Rattle.b67_order.proofs.Members.{all_in}
-use Rattle.b67_order.proofs.Posts.{Post, post_err, post_at}
-use Rattle.b67_order_rows.proofs.Kept.{here}
+use Rattle.b67_law_order.proofs.Members.{all_in}
+use Rattle.b67_law_order.proofs.Posts.{Post, post_err, post_at}
+use Rattle.b67_law_order_rows.proofs.Kept.{here}
 use Rattle.b67_keeping.specs.Keeping.{RowsKeepArrays, StepsTouchArrays}
 use Rattle.b67_keeping.proofs.Words.{Names, AllName, FramesName, Holds}
 use Rattle.b67_keeping.proofs.Rows.{Stands, stands_in, Keeps, Source, row_good}

@@ -12,9 +12,9 @@ use Rattle.b67_model.specs.Words.{Word, Operand, Name, Ref, Row, Element, Origin
 use Rattle.b67_model.specs.State.{Frame, Task, Here, mcp, no_frame, all_frames, frame, top, below_top}
 use Rattle.b67_model.specs.Cells.{first_offset, cell_of, cell, place_of}
 use Rattle.b67_model.specs.Chase.{End, AtCell, AtElement, AtArray, AtProc, AtIntrinsic, Link, Stops, Leads, link_at, link_in, link_from, link, chase_on, chase, follow}
-use Rattle.b67_order.proofs.Members.{has_append_cases, has_get, has_reverse_back, keyed_has, all_in}
-use Rattle.b67_order.proofs.Posts.{Post, post_ok, post_err, post_bind, post_any}
-use Rattle.b67_order.proofs.Chases.{some_ok}
+use Rattle.b67_law_order.proofs.Members.{has_append_cases, has_get, has_reverse_back, keyed_has, all_in}
+use Rattle.b67_law_order.proofs.Posts.{Post, post_ok, post_err, post_bind, post_any}
+use Rattle.b67_law_order.proofs.Chases.{some_ok}
 
 -- an item of joined lists stands in one of them
 pub has_flat_back : (ts : List Task) (f : Frame) → Has (flat_map (λ (t : Task). t.frames) ts) f → (t : Task) × Has ts t × Has t.frames f

@@ -1,5 +1,3 @@
-pub mod Operator
-pub mod Listed
-pub mod Starts
-pub mod FirstRefusal
-pub mod InOrder
+pub mod Shelves
+pub mod Writing
+pub mod Steps

@@ -1,3 +1,3 @@
-pub mod Listing
-pub mod Broken
-pub mod Order
+pub mod Things
+pub mod Resting
+pub mod Writing

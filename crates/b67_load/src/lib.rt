@@ -1,15 +1,6 @@
-//! Admitting programs: the ten rules of the loader.
+//! Installing admitted programs: their dictionaries in core, their code and data rows in sectors.
 #![tactic(auto)]
 
-mod admission;
-mod admitted;
-mod entry;
-mod fault;
-mod listing;
-mod rules;
-#[cfg(test)]
-mod tests;
+mod installing;
 
-pub use admission::verify;
-pub use admitted::Admitted;
-pub use fault::LoadFault;
+pub use installing::install;

@@ -1,3 +1,15 @@
-pub mod Owned
-pub mod Cuts
-pub mod Prints
+mod Behind
+pub mod Tables
+pub mod Frames
+pub mod Rows
+pub mod Cut
+pub mod Callings
+pub mod Texts
+pub mod Present
+pub mod Sizes
+pub mod Numbers
+pub mod Answered
+pub mod Low
+pub mod Built
+pub mod Quiet
+pub mod Touched

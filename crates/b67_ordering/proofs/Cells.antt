@@ -10,9 +10,9 @@ use Rattle.b67_model.specs.Environment.{level_of_frame, running, running_from}
 use Rattle.b67_model.specs.Endings.{is_ready}
 use Rattle.b67_model.specs.Schedule.{Session}
 use Rattle.b67_model.specs.InOrder.{Starts, IsSegment, Known, known_of, known_numbers, from_frame, outer_of, identities, is_original_of, originals_in, originals_of, frames_named, FramesInOrder, StackInOrder, CellsInOrder, ConditionInOrder, TaskInOrder, TasksInOrder, JobInOrder, IsInOrderButPlaces}
-use Rattle.b67_order.proofs.Members.{all_in, length_change}
-use Rattle.b67_order.proofs.Reaches.{Alike, alike_same}
-use Rattle.b67_order.proofs.Replaced.{replaced}
+use Rattle.b67_law_order.proofs.Members.{all_in, length_change}
+use Rattle.b67_law_order.proofs.Reaches.{Alike, alike_same}
+use Rattle.b67_law_order.proofs.Replaced.{replaced}
 use Rattle.b67_layout.specs.Plan.{Plan}
 use Rattle.b67_layout.specs.Session.{IsRunning}
 use Rattle.b67_layout.specs.Meets.{with_job}

@@ -9,7 +9,7 @@ use Rattle.b67_model.specs.State.{Job, Member}
 use Rattle.b67_model.specs.Run.{number_of}
 use Rattle.b67_model.specs.Schedule.{Session}
 use Rattle.b67_model.specs.InOrder.{IsSegment, NumberedFrom, JobInOrder, IsInOrderButPlaces}
-use Rattle.b67_order.proofs.Members.{all_in, keyed_has, total_change, length_change}
+use Rattle.b67_law_order.proofs.Members.{all_in, keyed_has, total_change, length_change}
 use Rattle.b67_layout.specs.Meets.{with_job}
 
 sum_total : {A : Type 0} (f : A → ℕ) (xs : List A) → sum_by f xs ≡ total f xs

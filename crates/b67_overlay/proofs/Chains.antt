@@ -9,7 +9,7 @@ use Rattle.b67_backing.proofs.News.{chain_of-others}
 use Rattle.b67_backing.proofs.Tallies.{AllBelow}
 use Rattle.b67_backing.proofs.Walks.{all_below}
 use Rattle.b67_stack.specs.Stands.{Told}
-use Rattle.b67_storage.specs.Machine.{Says, retold}
+use Rattle.b67_layout_storage.specs.Machine.{Says, retold}
 use Rattle.b67_overlay.specs.Overlaid.{sectors_out}
 
 first_take : (n : ℕ) (fs : List ℕ) → 1 ≤ n → first (take n fs) ≡ first fs

@@ -20,11 +20,11 @@ use Rattle.b67_stack.specs.Picture.{Thing, Picture, stack_of, slot_base, home_wo
 use Rattle.b67_stack.specs.Stands.{Storage, StacksLie, HoldsIn, info_of, Stands}
 use Rattle.b67_stack.proofs.Heights.{words-length}
 use Rattle.b67_stack.proofs.Lies.{Lie-each}
-use Rattle.b67_storage.specs.Machine.{IsPresent, with_held, Stayed}
-use Rattle.b67_storage.proofs.Below.{stacks_low, not_heads}
-use Rattle.b67_storage.proofs.Unchanged.{area_of_thing, home_below, slot_below, base_low}
-use Rattle.b67_storage.proofs.Reheld.{Reheld, HoldsIn-stays, storage_with, Stands-reheld}
-use Rattle.b67_storage.proofs.Words.{shape_home, no_code_above, original_word}
+use Rattle.b67_layout_storage.specs.Machine.{IsPresent, with_held, Stayed}
+use Rattle.b67_layout_storage.proofs.Below.{stacks_low, not_heads}
+use Rattle.b67_layout_storage.proofs.Unchanged.{area_of_thing, home_below, slot_below, base_low}
+use Rattle.b67_layout_storage.proofs.Reheld.{Reheld, HoldsIn-stays, storage_with, Stands-reheld}
+use Rattle.b67_layout_storage.proofs.Words.{shape_home, no_code_above, original_word}
 use Rattle.b67_overlay.specs.Turns.{Hides}
 use Rattle.b67_overlay.specs.Overlaid.{IsOut, dropped}
 

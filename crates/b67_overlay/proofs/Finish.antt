@@ -7,7 +7,7 @@ use Rattle.b67_backing.specs.Shelf.{Table, IsShelf}
 use Rattle.b67_stack.specs.declared.Cpu.{Cpu}
 use Rattle.b67_stack.specs.Picture.{Thing, Picture}
 use Rattle.b67_stack.specs.Stands.{Storage, Stands}
-use Rattle.b67_storage.specs.Machine.{MachineStands, IsPresent}
+use Rattle.b67_layout_storage.specs.Machine.{MachineStands, IsPresent}
 use Rattle.b67_overlay.specs.Overlaid.{shelf_out, overlaid, dropped, retelling}
 use Rattle.b67_overlay.proofs.Chains.{Says-retold}
 use Rattle.b67_overlay.proofs.Sectors.{overlaid_clean}

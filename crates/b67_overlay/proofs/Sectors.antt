@@ -18,10 +18,10 @@ use Rattle.b67_stack.specs.Shapes.{Map, Upward}
 use Rattle.b67_stack.specs.Picture.{Thing, Picture, words_of}
 use Rattle.b67_stack.specs.Stands.{Storage, Stands, Content, Keeps, HasChain, HoldsIn, Told, StacksLie, info_of}
 use Rattle.b67_stack.proofs.Homes.{chain_small}
-use Rattle.b67_storage.specs.Machine.{IsPresent, Says, retold}
-use Rattle.b67_storage.proofs.Helds.{held-back}
-use Rattle.b67_storage.proofs.Reheld.{Reheld, storage_with, Stands-reheld}
-use Rattle.b67_storage.proofs.Unchanged.{area_of_thing, area_bounds}
+use Rattle.b67_layout_storage.specs.Machine.{IsPresent, Says, retold}
+use Rattle.b67_layout_storage.proofs.Helds.{held-back}
+use Rattle.b67_layout_storage.proofs.Reheld.{Reheld, storage_with, Stands-reheld}
+use Rattle.b67_layout_storage.proofs.Unchanged.{area_of_thing, area_bounds}
 use Rattle.b67_overlay.specs.Overlaid.{chain_out, shelf_out, sectors_out, retelling, overlaid, dropped, IsOut}
 use Rattle.b67_overlay.proofs.Chains.{Apart, chains_apart, free_apart, free_first, Told-same, Told-stored, retold-same}
 

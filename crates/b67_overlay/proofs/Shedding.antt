@@ -11,8 +11,8 @@ use Rattle.b67_stack.specs.declared.Cpu.{Cpu}
 use Rattle.b67_stack.specs.Shapes.{Held}
 use Rattle.b67_stack.specs.Picture.{Thing, Picture}
 use Rattle.b67_stack.specs.Stands.{Storage}
-use Rattle.b67_storage.specs.Machine.{MachineStands, IsPresent, Says, retold}
-use Rattle.b67_storage.proofs.Helds.{held-other}
+use Rattle.b67_layout_storage.specs.Machine.{MachineStands, IsPresent, Says, retold}
+use Rattle.b67_layout_storage.proofs.Helds.{held-other}
 use Rattle.b67_overlay.specs.Overlaid.{overlaid, retelling, chain_out, IsShort}
 use Rattle.b67_backing.specs.Held.{sectors_for}
 use Rattle.b67_overlay.specs.Sheds.{Sheds, Remains, IsShortBy}

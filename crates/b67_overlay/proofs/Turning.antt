@@ -13,8 +13,8 @@ use Rattle.b67_stack.specs.Picture.{Picture, Slot, Free, Running, Waiting, SlotF
 use Rattle.b67_stack.specs.Stands.{Storage, SlotStands, Stands}
 use Rattle.b67_stack.proofs.Bases.{base-apart}
 use Rattle.b67_stack.proofs.Tops.{level-small}
-use Rattle.b67_storage.proofs.Reheld.{SlotsStand-same}
-use Rattle.b67_storage.proofs.Unchanged.{base_low}
+use Rattle.b67_layout_storage.proofs.Reheld.{SlotsStand-same}
+use Rattle.b67_layout_storage.proofs.Unchanged.{base_low}
 use Rattle.b67_overlay.specs.Turns.{Turns, TurnsAt, InStack, Searched, Lies}
 
 pub lies_of : (x : Storage) (core : List Tagged) (r : Regs) (p : Picture) → Stands x core r p → Lies core r x.low p

@@ -7,7 +7,7 @@ use Rattle.b67_backing.specs.Held.{sectors_for}
 use Rattle.b67_model.specs.Lists.{Has}
 use Rattle.b67_stack.specs.Picture.{Thing, Picture}
 use Rattle.b67_stack.specs.Stands.{Storage, HoldsIn}
-use Rattle.b67_storage.specs.Machine.{with_held, retold, ChainStays}
+use Rattle.b67_layout_storage.specs.Machine.{with_held, retold, ChainStays}
 
 -- the first sector of the chain to which so many words go, and the shelf then: the chain that is kept, or a new one
 abbrev pub chain_out : Shelf → ℕ → ℕ

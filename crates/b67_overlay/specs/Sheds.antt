@@ -5,7 +5,7 @@ use Rattle.b67_area.specs.Spans.{Span, area_at}
 use Rattle.b67_backing.specs.Held.{sectors_for}
 use Rattle.b67_stack.specs.Picture.{Thing, Picture}
 use Rattle.b67_stack.specs.Stands.{Storage}
-use Rattle.b67_storage.specs.Machine.{IsPresent}
+use Rattle.b67_layout_storage.specs.Machine.{IsPresent}
 use Rattle.b67_overlay.specs.Overlaid.{IsShort}
 
 -- areas were given back, but not the one at `spare`: what was not in core is where it was

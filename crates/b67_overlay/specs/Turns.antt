@@ -9,7 +9,7 @@ use Rattle.b67_stack.specs.Shapes.{Held, Shape, Fits}
 use Rattle.b67_stack.specs.Stacks.{high, words}
 use Rattle.b67_stack.specs.Picture.{Thing, Picture, slot_base, stack_of}
 use Rattle.b67_stack.specs.Stands.{Storage, SlotsStand}
-use Rattle.b67_storage.specs.Machine.{with_held, Stayed}
+use Rattle.b67_layout_storage.specs.Machine.{with_held, Stayed}
 
 abbrev pub IsCopyOf : ℕ → DataDesc → Type 0
 IsCopyOf area d = (d.present ≡ true) × (d.copy ≡ true) × (d.address ≡ area)

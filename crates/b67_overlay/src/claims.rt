@@ -7,7 +7,7 @@ ghost use Rattle.b67_backing.specs.declared.SpaceFault.TheVariants.{NoCore, Back
 ghost use Rattle.b67_io.specs.Causes.{Rose};
 ghost use Rattle.b67_stack.specs.Picture.{Picture};
 ghost use Rattle.b67_stack.specs.Stands.{Storage};
-ghost use Rattle.b67_storage.specs.Machine.{MachineStands, Served, Stayed};
+ghost use Rattle.b67_layout_storage.specs.Machine.{MachineStands, Served, Stayed};
 ghost use Rattle.b67_overlay.specs.Sheds.{Sheds, IsShortBy};
 
 use crate::overlays::overlay;

@@ -10,7 +10,7 @@ ghost use Rattle.b67_io.specs.Causes.{Rose};
 ghost use Rattle.b67_stack.specs.Shapes.{Held};
 ghost use Rattle.b67_stack.specs.Picture.{Thing, Picture, home_desc, home_word_of};
 ghost use Rattle.b67_stack.specs.Stands.{Storage, Stands, info_of};
-ghost use Rattle.b67_storage.specs.Machine.{MachineStands, IsPresent, Served, Stayed};
+ghost use Rattle.b67_layout_storage.specs.Machine.{MachineStands, IsPresent, Served, Stayed};
 ghost use Rattle.b67_overlay.specs.Turns.{Hides};
 ghost use Rattle.b67_overlay.specs.Overlaid.{overlaid, dropped, retelling, IsOut, IsShort};
 

@@ -4,7 +4,7 @@ ghost use Rattle.std.specs.Prelude.{◌≡◌, ◌⊎◌, ℕ, ◌+◌, ◌^◌,
 ghost use Rattle.b67_stack.specs.Stacks.{high};
 ghost use Rattle.b67_stack.specs.Picture.{Thing, Picture, slot_base, stack_of};
 ghost use Rattle.b67_stack.specs.Stands.{Storage, Stands};
-ghost use Rattle.b67_storage.specs.Machine.{IsPresent};
+ghost use Rattle.b67_layout_storage.specs.Machine.{IsPresent};
 ghost use Rattle.b67_overlay.specs.Turns.{Turns, TurnsAt, Searched, Lies};
 
 use b67_core::Core;

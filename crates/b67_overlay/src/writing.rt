@@ -6,7 +6,7 @@ ghost use Rattle.b67_backing.specs.Shelf.{Shelf, IsShelf, HasChain};
 ghost use Rattle.b67_backing.specs.Held.{Changes, SameBut, Stores, sectors_for};
 ghost use Rattle.b67_backing.specs.declared.SpaceFault.TheVariants.{NoCore, BackingFull, BackingFault};
 ghost use Rattle.b67_io.specs.Causes.{Rose};
-ghost use Rattle.b67_storage.specs.Machine.{Served};
+ghost use Rattle.b67_layout_storage.specs.Machine.{Served};
 ghost use Rattle.b67_overlay.specs.Overlaid.{chain_out, shelf_out, sectors_out};
 
 use b67_backing::{Backing, Sectors, SpaceFault};

@@ -1,9 +1,6 @@
-//! Arrays, data rows and segments brought into core.
+//! What an operator of the running task wants in core is brought in.
 #![tactic(auto)]
 
 mod bringing;
-mod paging;
-mod way;
 
-pub use bringing::{bring_code, bring_data};
-pub use paging::{Refusal, page_in};
+pub use bringing::bring;

@@ -11,11 +11,11 @@ use Rattle.b67_model.specs.Intrinsics.{row_copy, printrow}
 use Rattle.b67_stack.specs.Stands.{Storage}
 use Rattle.b67_layout.specs.Plan.{Plan}
 use Rattle.b67_layout.specs.Meets.{here}
-use Rattle.b67_cells.specs.Tops.{cells}
+use Rattle.b67_exec_cells.specs.Tops.{cells}
 use Rattle.b67_fetch.proofs.Values.{TopFollowed}
 use Rattle.b67_index.specs.Indexes.{FindsArray}
-use Rattle.b67_mcp.specs.Calls.{IsCall}
-use Rattle.b67_mcp.proofs.Prints.{one}
+use Rattle.b67_mcp_calls.specs.Calls.{IsCall}
+use Rattle.b67_mcp_calls.proofs.Prints.{one}
 use Rattle.b67_printrow.specs.Calls.{CopyMeets, MissesCopy}
 
 module _ (plan : Plan) (m : Member) (t : Task) (r : Word) (arguments : List Word) (call : IsCall t r arguments) where

@@ -17,9 +17,9 @@ use Rattle.b67_stack.specs.Stands.{Storage}
 use Rattle.b67_layout.specs.Plan.{Plan}
 use Rattle.b67_layout.specs.Meets.{here, area_held}
 use Rattle.b67_elements.specs.Elements.{HasElement}
-use Rattle.b67_cells.specs.Tops.{cells}
-use Rattle.b67_mcp.specs.Calls.{IsCall}
-use Rattle.b67_mcp.proofs.Prints.{one}
+use Rattle.b67_exec_cells.specs.Tops.{cells}
+use Rattle.b67_mcp_calls.specs.Calls.{IsCall}
+use Rattle.b67_mcp_calls.proofs.Prints.{one}
 use Rattle.b67_printrow.specs.Texts.{values_of, is_some}
 use Rattle.b67_printrow.specs.Calls.{Copies, CopiesPresent, IsRow}
 use Rattle.b67_printrow.proofs.Words.{answer_of, numbers_are}

@@ -5,7 +5,7 @@ use Rattle.std.proofs.lemmas.List.{take_all}
 use Rattle.b67_io.specs.Line.{ended}
 use Rattle.b67_io.specs.Told.{Continues}
 use Rattle.b67_io.proofs.Joined.{Continues-none, Continues-then}
-use Rattle.b67_lines.specs.Parts.{TookRest, TookMore}
+use Rattle.b67_session_lines.specs.Parts.{TookRest, TookMore}
 use Rattle.b67_model.specs.Lines.{value_text, row_text}
 use Rattle.b67_printrow.specs.Texts.{still, IsPrinting}
 

@@ -25,7 +25,7 @@ use Rattle.b67_layout.specs.Layout.{array_thing}
 use Rattle.b67_layout.specs.Session.{IsRunning, SessionStands}
 use Rattle.b67_layout.specs.Meets.{area_held}
 use Rattle.b67_layout.proofs.Others.{keyed-has}
-use Rattle.b67_cells.proofs.Replaced.{array_thing-has}
+use Rattle.b67_exec_cells.proofs.Replaced.{array_thing-has}
 use Rattle.b67_elements.specs.Elements.{HasElement}
 use Rattle.b67_elements.proofs.Arrays.{array_is}
 use Rattle.b67_printrow.specs.Texts.{joined, values_of}

@@ -12,7 +12,7 @@ use Rattle.b67_stack.specs.Stands.{Storage}
 use Rattle.b67_layout.specs.Plan.{Plan}
 use Rattle.b67_layout.specs.Meets.{here, area_held}
 use Rattle.b67_elements.specs.Elements.{HasElement}
-use Rattle.b67_mcp.specs.Calls.{MayCut, job_cut}
+use Rattle.b67_mcp_calls.specs.Calls.{MayCut, job_cut}
 use Rattle.b67_printrow.specs.Texts.{values_of}
 use Rattle.b67_printrow.specs.declared.row.Found.{Found}
 use Rattle.b67_printrow.specs.declared.row.Found.TheVariants as found

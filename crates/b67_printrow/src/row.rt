@@ -6,11 +6,11 @@ ghost use Rattle.b67_model.specs.Intrinsics.{row_copy};
 ghost use Rattle.b67_layout.specs.Meets.{ForEach};
 ghost use Rattle.b67_fetch.specs.Fetches.{IsFollowed, MayFollow};
 ghost use Rattle.b67_index.specs.Indexes.{FindsArray};
-ghost use Rattle.b67_mcp.specs.Calls.{CallSome, IsCall};
+ghost use Rattle.b67_mcp_calls.specs.Calls.{CallSome, IsCall};
 ghost use Rattle.b67_printrow.specs.Calls.{CopyMeets, MissesCopy, RowMeets, RowTouches};
 
 use crate::whole::are_whole;
-use b67_cells::{count_cells, top_cell};
+use b67_exec_cells::{count_cells, top_cell};
 use b67_ctl::DataDesc;
 use b67_elements::descriptor;
 use b67_leave::is_critical;

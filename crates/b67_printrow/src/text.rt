@@ -2,14 +2,14 @@
 
 ghost use Rattle.std.specs.Prelude.{◌≡◌, ◌+◌, ◌*◌, ◌<◌, ◌≤◌, ◌^◌, ℕ, ℤ, List, ◌∷◌, ◌++◌, length, nat_abs, Some, OnOk, OnErr};
 ghost use Rattle.b67_io.specs.Causes.{HasCause};
-ghost use Rattle.b67_lines.specs.Parts.{TookRest, TookMore};
+ghost use Rattle.b67_session_lines.specs.Parts.{TookRest, TookMore};
 ghost use Rattle.b67_model.specs.Lines.{task_name, value_text, line_text};
 ghost use Rattle.b67_model.specs.Steps.{Values};
 ghost use Rattle.b67_printrow.specs.Texts.{values_of, still, IsShort, IsPrinting};
 
 use crate::whole::value_in;
 use b67_io::{Line, Sink};
-use b67_lines::{put_rest, with_number, with_text};
+use b67_session_lines::{put_rest, with_number, with_text};
 use b67_word::{Failed, Word};
 
 /// A line that has begun, how many values more it takes, and how many bytes the lines before it have.

@@ -20,7 +20,7 @@ use Rattle.b67_model.specs.Steps.{Line, Value, Done, Goes, Leaves, Waits, top_of
 use Rattle.b67_model.specs.Entry.{accident, needs_level, back_to, evaluates, enters, left, leaves, returnable, returned, retn_word}
 use Rattle.b67_model.specs.Intrinsics.{answered, print}
 use Rattle.b67_model.specs.Rows.{CellRow, on_one, on_two, dlet, exch, dupl, on_cells, branches, branch_if, stff, load_at, load, indx, nxlv, store_at, store, entr_at, entr_with, entr, plain, row}
-use Rattle.b67_order.proofs.Posts.{Post, post_ok, post_err, post_any, post_then, post_at}
+use Rattle.b67_law_order.proofs.Posts.{Post, post_ok, post_err, post_any, post_then, post_at}
 use Rattle.b67_profiles.specs.Profiles.{Profile, profile, profiles, called_at, called_by, called_on, called, RowsKeepProfiles, PrintKeepsProfiles}
 
 -- another task of the same profile in a task's place

@@ -6,11 +6,11 @@ use Rattle.std.specs.Char.{is_ascii, is_ascii_uppercase, is_ascii_digit}
 use Rattle.std.specs.Option.{option_map, option_and_then}
 use Rattle.std.proofs.lemmas.Option.{same_Some, none-some}
 use Rattle.std.proofs.lemmas.Bool.{and_parts, and_from, or_cases, leb-true, ltb-true, lt-ltb}
-use Rattle.b67_text.specs.declared.deck.Keyword as keyword
-use Rattle.b67_text.specs.declared.deck.Keyword.TheVariants as keywords
-use Rattle.b67_text.specs.Answers.{Answer, ◌>>=◌, ◌>>◌, needs, or_reason}
-use Rattle.b67_text.specs.Cards.{words, natural, is_name, name_in, is_empty}
-use Rattle.b67_text.specs.Command.{Command, Stack, Quantum, Halt, Switch, Job, Limit, Asm, Hex, Data, End, Plain, keyword_of, number_in, one_number, target, switch, says, job_named, job, alone, command_of, is_command, plain, said}
+use Rattle.b67_model_text.specs.declared.deck.Keyword as keyword
+use Rattle.b67_model_text.specs.declared.deck.Keyword.TheVariants as keywords
+use Rattle.b67_model_text.specs.Answers.{Answer, ◌>>=◌, ◌>>◌, needs, or_reason}
+use Rattle.b67_model_text.specs.Cards.{words, natural, is_name, name_in, is_empty}
+use Rattle.b67_model_text.specs.Command.{Command, Stack, Quantum, Halt, Switch, Job, Limit, Asm, Hex, Data, End, Plain, keyword_of, number_in, one_number, target, switch, says, job_named, job, alone, command_of, is_command, plain, said}
 
 pub record NumberWithin (low high n : ℕ) : Type 0 where
   pub from : low ≤ n

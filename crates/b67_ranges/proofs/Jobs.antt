@@ -4,14 +4,14 @@ use Rattle.std.specs.Prelude.{nat_abs, pos, neg_ℤ, not, unwrap_or, slice_get, 
 use Rattle.std.specs.List.{AllByRecursion, filter_map, cons_option}
 use Rattle.std.specs.Option.{option_map, option_and_then, option_or, option_to_list}
 use Rattle.std.proofs.lemmas.Option.{same_Some, none-some}
-use Rattle.b67_text.specs.declared.card.Card.{Card}
-use Rattle.b67_text.specs.declared.deck.Deck.{Deck}
-use Rattle.b67_text.specs.Cards.{cards, words, leading}
-use Rattle.b67_text.specs.Command.{Command, Stack, Job, Limit, Data, number_in}
-use Rattle.b67_text.specs.Placing.{stack_in, switch_in, name_in, first_of, operand_in, operands_in, numbers}
-use Rattle.b67_text.specs.Answers.{◌>>=◌}
-use Rattle.b67_text.specs.Deck.{Said, command_in, within_limit, sayings, limit_in, body, numbers_in, numbers_at, data_numbers, limit_behind, job_of, is_job, own_cards, jobs, deck, deck_of}
-use Rattle.b67_open.specs.Decks.{JobInRange, DeckInRange}
+use Rattle.b67_model_text.specs.declared.card.Card.{Card}
+use Rattle.b67_model_text.specs.declared.deck.Deck.{Deck}
+use Rattle.b67_model_text.specs.Cards.{cards, words, leading}
+use Rattle.b67_model_text.specs.Command.{Command, Stack, Job, Limit, Data, number_in}
+use Rattle.b67_model_text.specs.Placing.{stack_in, switch_in, name_in, first_of, operand_in, operands_in, numbers}
+use Rattle.b67_model_text.specs.Answers.{◌>>=◌}
+use Rattle.b67_model_text.specs.Deck.{Said, command_in, within_limit, sayings, limit_in, body, numbers_in, numbers_at, data_numbers, limit_behind, job_of, is_job, own_cards, jobs, deck, deck_of}
+use Rattle.b67_session_open.specs.Decks.{JobInRange, DeckInRange}
 use Rattle.b67_ranges.proofs.Commands.{NumberWithin, NameWithin, CommandInRange, number_within, after_both}
 use Rattle.b67_ranges.proofs.Sayings.{Read, read, in_range_onto, follows_none, rise_onto, jobs_in, few_jobs, jobs_onto}
 

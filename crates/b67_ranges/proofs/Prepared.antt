@@ -2,12 +2,12 @@
 use Rattle.std.proofs.Common.{◌≡◌, ℕ, suc, List, [], ◌∷◌, length, Ok, Err, Result, refl, sym, ◌∙◌, ap, subst}
 use Rattle.std.specs.Prelude.{⊤}
 use Rattle.b67_model.specs.Program.{Program}
-use Rattle.b67_text.specs.declared.deck.Deck.{Deck}
-use Rattle.b67_text.specs.declared.deck.Job.{Job}
-use Rattle.b67_text.specs.Deck as deck
-use Rattle.b67_text.specs.Deck.{deck_of}
-use Rattle.b67_admit.specs.Admitting.{Answer, ◌>>=◌, of_deck, program_in, programs, admitted, prepared, Prepared, deck_prepared}
-use Rattle.b67_open.specs.Decks.{DeckInRange}
+use Rattle.b67_model_text.specs.declared.deck.Deck.{Deck}
+use Rattle.b67_model_text.specs.declared.deck.Job.{Job}
+use Rattle.b67_model_text.specs.Deck as deck
+use Rattle.b67_model_text.specs.Deck.{deck_of}
+use Rattle.b67_job_admit.specs.Admitting.{Answer, ◌>>=◌, of_deck, program_in, programs, admitted, prepared, Prepared, deck_prepared}
+use Rattle.b67_session_open.specs.Decks.{DeckInRange}
 use Rattle.b67_ranges.proofs.Commands.{err-ok}
 use Rattle.b67_ranges.proofs.Jobs.{decks_in_range}
 

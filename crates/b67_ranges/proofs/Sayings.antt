@@ -5,14 +5,14 @@ use Rattle.std.specs.List.{AllByRecursion, filter_map, cons_option}
 use mathlib.Core.List.{reverse_aux}
 use Rattle.std.proofs.lemmas.Option.{same_Some, none-some}
 use Rattle.std.proofs.lemmas.Bool.{ltb-true}
-use Rattle.b67_text.specs.declared.card.Card.{Card}
-use Rattle.b67_text.specs.declared.deck.Switch as text
-use Rattle.b67_text.specs.Answers.{Answer, ◌>>=◌, ◌>>◌, needs}
-use Rattle.b67_text.specs.Command.{Command, Switch, Job, said}
-use Rattle.b67_text.specs.Placing.{stand, may_stand, lacks_program, is_repeated, rises, has_room, arranged, is_well_formed, placed, is_above, first_of, switch_in, name_in}
-use Rattle.b67_text.specs.Deck.{Said, Refusal, of_card, command_in, said_after, sayings, is_between, number_of_last}
+use Rattle.b67_model_text.specs.declared.card.Card.{Card}
+use Rattle.b67_model_text.specs.declared.deck.Switch as text
+use Rattle.b67_model_text.specs.Answers.{Answer, ◌>>=◌, ◌>>◌, needs}
+use Rattle.b67_model_text.specs.Command.{Command, Switch, Job, said}
+use Rattle.b67_model_text.specs.Placing.{stand, may_stand, lacks_program, is_repeated, rises, has_room, arranged, is_well_formed, placed, is_above, first_of, switch_in, name_in}
+use Rattle.b67_model_text.specs.Deck.{Said, Refusal, of_card, command_in, said_after, sayings, is_between, number_of_last}
 use Rattle.b67_model.specs.InOrder.{SwitchesRise}
-use Rattle.b67_task.specs.Tables.{switch_of}
+use Rattle.b67_task_tables.specs.Tables.{switch_of}
 use Rattle.b67_ranges.proofs.Commands.{CommandInRange, said_in_range, err-ok, after_both, after_needs}
 
 -- a card behind those before it

@@ -1,10 +1,10 @@
 -- Every deck that is read is within the ranges of its cards.
 use Rattle.std.specs.Prelude.{◌≡◌, ℕ, List, length, Ok}
 use Rattle.b67_model.specs.Program.{Program}
-use Rattle.b67_text.specs.declared.deck.Deck.{Deck}
-use Rattle.b67_text.specs.Deck.{deck_of}
-use Rattle.b67_admit.specs.Admitting.{deck_prepared}
-use Rattle.b67_open.specs.Decks.{DeckInRange}
+use Rattle.b67_model_text.specs.declared.deck.Deck.{Deck}
+use Rattle.b67_model_text.specs.Deck.{deck_of}
+use Rattle.b67_job_admit.specs.Admitting.{deck_prepared}
+use Rattle.b67_session_open.specs.Decks.{DeckInRange}
 
 abbrev pub DecksInRange : Type 0
 DecksInRange = (text : List ℕ) (d : Deck) → deck_of text ≡ Ok d → DeckInRange d

@@ -13,7 +13,7 @@ use Rattle.b67_model.specs.State as State
 use Rattle.b67_model.specs.State.{Frame, Standing, Here, frame}
 use Rattle.b67_model.specs.Environment.{level_of_standing, level_of_frame, environment_of, running, running_from, running_level, outward, frame_at}
 use Rattle.b67_model.specs.InOrder.{Starts, Known, known_of, outer_of, reach_of, IsEntered, StackInOrder, ReturnsInOrder, IsSegment}
-use Rattle.b67_order.proofs.Members.{has_append_left, has_map}
+use Rattle.b67_law_order.proofs.Members.{has_append_left, has_map}
 use Rattle.b67_stack.specs.Stacks as Stacks
 use Rattle.b67_stack.proofs.Tops.{level-small}
 use Rattle.b67_layout.specs.Plan.{slot_of, outer_spots, address_of}

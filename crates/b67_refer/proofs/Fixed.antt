@@ -20,7 +20,7 @@ use Rattle.b67_model.specs.Words.{Word, Operand, Name, Ref, Row, Element, Origin
 use Rattle.b67_model.specs.State.{Frame, Entered, Segment, Member, mcp}
 use Rattle.b67_model.specs.Cells.{first_offset, cell_of, cell}
 use Rattle.b67_model.specs.InOrder.{OwnsArray, EntryInOrder, rows_after, DictionaryWords}
-use Rattle.b67_order.proofs.Members.{has_append_left, has_append_right, has_map, has_flat, has_reverse_back, has_get, all_in}
+use Rattle.b67_law_order.proofs.Members.{has_append_left, has_append_right, has_map, has_flat, has_reverse_back, has_get, all_in}
 use Rattle.b67_stack.specs.Shapes.{Held, IsOriginal}
 use Rattle.b67_stack.specs.Picture.{Thing, Picture, home_desc, home_word_of}
 use Rattle.b67_stack.specs.Stands.{Storage, Stands, info_of}

@@ -13,7 +13,7 @@ use Rattle.b67_model.specs.Words.{Word, Operand, Name, Ref, Row, Element, Origin
 use Rattle.b67_model.specs.State.{Segment}
 use Rattle.b67_model.specs.Chase.{link_at}
 use Rattle.b67_model.specs.InOrder.{NamesEntered, NamesArray, OwnsArray, ArrayInOrder, DictionaryWords}
-use Rattle.b67_order.proofs.Members.{all_in}
+use Rattle.b67_law_order.proofs.Members.{all_in}
 use Rattle.b67_stack.specs.Shapes.{Copied, copy_desc, IsCopy}
 use Rattle.b67_refer.specs.declared.ends.End.TheVariants as end
 use Rattle.b67_refer.specs.Scene.{Scene}

@@ -14,8 +14,8 @@ use Rattle.b67_model.specs.State.{Frame, Standing, Marked, Entered, Task, Here, 
 use Rattle.b67_model.specs.Environment.{level_of_standing, environment_of}
 use Rattle.b67_model.specs.InOrder.{Known, known_of, known_numbers, from_frame, frames_of_task, critical_of, base as base_known, reach_of, IsEntered, ParentInOrder, BirthInOrder, StandsInOrder, EnvironmentInOrder, IsSegment, frames_named}
 use Rattle.b67_stack.specs.Stacks.{Spot}
-use Rattle.b67_order.proofs.Members.{has_append_right, has_append_cases, has_map, has_map_back, keyed_has, keyed_left, keyed_right, total_flat, total_zero, none_pass}
-use Rattle.b67_order.proofs.Looks.{Line, line_of, above_one, found_frame}
+use Rattle.b67_law_order.proofs.Members.{has_append_right, has_append_cases, has_map, has_map_back, keyed_has, keyed_left, keyed_right, total_flat, total_zero, none_pass}
+use Rattle.b67_law_order.proofs.Looks.{Line, line_of, above_one, found_frame}
 use Rattle.b67_layout.specs.Plan.{slot_of, spot_in, base_spot, outer_spots, spots, address_of}
 use Rattle.b67_layout.specs.Session.{frame_address}
 use Rattle.b67_layout.specs.Meets.{here}

@@ -18,8 +18,8 @@ use Rattle.b67_model.specs.State.{Frame, mcp, frame}
 use Rattle.b67_model.specs.Cells.{first_offset, cell_of}
 use Rattle.b67_model.specs.InOrder.{EntryInOrder, IsSegment}
 use Rattle.b67_model.specs.Chase.{link_at}
-use Rattle.b67_order.proofs.Members.{has_reverse_back, has_get, all_in}
-use Rattle.b67_order.proofs.Chases.{some_ok}
+use Rattle.b67_law_order.proofs.Members.{has_reverse_back, has_get, all_in}
+use Rattle.b67_law_order.proofs.Chases.{some_ok}
 use Rattle.b67_layout.specs.Meets.{here}
 use Rattle.b67_refer.specs.declared.ends.End.TheVariants as end
 use Rattle.b67_refer.specs.Scene.{Scene}

@@ -19,8 +19,8 @@ use Rattle.b67_model.specs.State as State
 use Rattle.b67_model.specs.State.{Frame, Standing, Array, Job, height, frame}
 use Rattle.b67_model.specs.Cells.{first_offset, cell_of, cell}
 use Rattle.b67_model.specs.InOrder.{Starts, Known, known_of, known_numbers, reach_of, IsEntered, IsSegment, WordInOrder}
-use Rattle.b67_order.proofs.Members.{reverse_cons, has_reverse_back, has_get, all_in, has_map}
-use Rattle.b67_order.proofs.Reaches.{Wider, word_wider}
+use Rattle.b67_law_order.proofs.Members.{reverse_cons, has_reverse_back, has_get, all_in, has_map}
+use Rattle.b67_law_order.proofs.Reaches.{Wider, word_wider}
 use Rattle.b67_stack.specs.Shapes.{Map, Shape, Is, Fits, Lie}
 use Rattle.b67_stack.specs.Stacks as Stacks
 use Rattle.b67_stack.specs.Stacks.{Spot, Head, Activation, head_size, high, headed, words}

@@ -8,9 +8,9 @@ use Rattle.b67_model.specs.Keyed.{keyed}
 use Rattle.b67_model.specs.State.{Frame, Standing, Task, height}
 use Rattle.b67_model.specs.InOrder.{Known, known_of, known_numbers, from_frame, frames_of_task, critical_of, base as base_known, outer_reach, outer_of, reach_of, FramesInOrder, ParentInOrder, BirthInOrder, TaskInOrder, IsSegment}
 use Rattle.b67_stack.specs.Stacks.{Spot}
-use Rattle.b67_order.proofs.Members.{has_append_right, has_append_cases, has_map, has_map_back, all_in, keyed_has, falls_low}
-use Rattle.b67_order.proofs.Looks.{IsFrame}
-use Rattle.b67_order.proofs.Replaced.{numbers_append}
+use Rattle.b67_law_order.proofs.Members.{has_append_right, has_append_cases, has_map, has_map_back, all_in, keyed_has, falls_low}
+use Rattle.b67_law_order.proofs.Looks.{IsFrame}
+use Rattle.b67_law_order.proofs.Replaced.{numbers_append}
 use Rattle.b67_layout.specs.Plan.{slot_of, spot_in, outer_spots, spots}
 use Rattle.b67_refer.specs.Scene.{Scene}
 use Rattle.b67_refer.specs.Cells.{IsTop}

@@ -12,7 +12,7 @@ use Rattle.b67_model.specs.Words.{Word, Operand, Name, Ref, Row, Element, Origin
 use Rattle.b67_model.specs.State.{Frame, Array, Task, Job, Member, top}
 use Rattle.b67_model.specs.Arrays.{array, no_array, owner_of}
 use Rattle.b67_model.specs.Keyed.{keyed}
-use Rattle.b67_order.proofs.Members.{keyed_falls}
+use Rattle.b67_law_order.proofs.Members.{keyed_falls}
 use Rattle.b67_model.specs.Entry.{returnable}
 use Rattle.b67_model.specs.Run.{number_of}
 use Rattle.b67_model.specs.Schedule.{Session}
@@ -31,7 +31,7 @@ use Rattle.b67_layout.proofs.Others.{keyed-has}
 use Rattle.b67_layout.proofs.Fresh.{running_in_order}
 use Rattle.b67_layout.proofs.Starts.{slot_is, runs_here}
 use Rattle.b67_refer.specs.Ends.{IsCopyOf}
-use Rattle.b67_leaving.proofs.Settles.{under, all, homes_low, homes_high}
+use Rattle.b67_layout_leave.proofs.Settles.{under, all, homes_low, homes_high}
 use Rattle.b67_refusals.specs.Words.{IsTopWord, Refuses}
 
 -- the array that a word names is found

@@ -28,7 +28,7 @@ use Rattle.b67_layout.proofs.Others.{keyed-has}
 use Rattle.b67_layout.proofs.Fresh.{running_in_order}
 use Rattle.b67_layout.proofs.Starts.{slot_is, runs_here}
 use Rattle.b67_refer.proofs.Scenes.{member_in_order}
-use Rattle.b67_leaving.proofs.Apart.{spot_apart, spot_top, spot_fits}
+use Rattle.b67_layout_leave.proofs.Apart.{spot_apart, spot_top, spot_fits}
 use Rattle.b67_refusals.specs.Words.{IsTopWord, Refuses}
 
 -- the mark at F lies in the stack

@@ -11,8 +11,8 @@ use Rattle.b67_model.specs.Arrays.{owner_of}
 use Rattle.b67_model.specs.Entry.{returnable}
 use Rattle.b67_model.specs.Schedule.{Session}
 use Rattle.b67_model.specs.InOrder.{IsSegment, IsEntered, Known, known_of, outer_of, reach_of, NamesEntered, NamesArray, WordInOrder, IsInOrderButPlaces}
-use Rattle.b67_order.proofs.Members.{has_filter_in}
-use Rattle.b67_order.proofs.Reaches.{Alike, alike_has, alike_under}
+use Rattle.b67_law_order.proofs.Members.{has_filter_in}
+use Rattle.b67_law_order.proofs.Reaches.{Alike, alike_has, alike_under}
 use Rattle.b67_stack.specs.declared.Cpu.{Cpu}
 use Rattle.b67_stack.specs.Shapes.{Shape, Fits}
 use Rattle.b67_stack.specs.Stacks.{Spot}
@@ -23,10 +23,10 @@ use Rattle.b67_layout.specs.Session.{IsRunning, SessionStands}
 use Rattle.b67_layout.proofs.Others.{keyed-has}
 use Rattle.b67_layout.proofs.Fresh.{running_in_order}
 use Rattle.b67_refer.specs.Cells.{StandsFor}
-use Rattle.b67_leaving.proofs.Nowhere.{shape-same}
-use Rattle.b67_leaving.proofs.Slots.{outer_spots-after}
-use Rattle.b67_leaving.proofs.Leaves.{may_leave, Frames-below, replaces}
-use Rattle.b67_leaving.proofs.Orders.{left_outer}
+use Rattle.b67_layout_leave.proofs.Nowhere.{shape-same}
+use Rattle.b67_layout_leave.proofs.Slots.{outer_spots-after}
+use Rattle.b67_layout_leave.proofs.Leaves.{may_leave, Frames-below, replaces}
+use Rattle.b67_layout_leave.proofs.Orders.{left_outer}
 use Rattle.b67_leave.specs.Left.{Returns}
 use Rattle.b67_returning.specs.Returned.{ReturnsWord}
 use Rattle.b67_leave.proofs.Leaving.{some_first, may, outer, job_at, task_left, scene_left}

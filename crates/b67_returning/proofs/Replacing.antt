@@ -11,7 +11,7 @@ use Rattle.b67_model.specs.State.{Frame, Condition, Ready, Task, Job, Member, wi
 use Rattle.b67_model.specs.Steps.{without_arrays_of}
 use Rattle.b67_model.specs.Schedule.{Session}
 use Rattle.b67_model.specs.InOrder.{IsSegment, WordInOrder, reach_of, IsInOrderButPlaces}
-use Rattle.b67_order.proofs.Members.{has_append_left, has_map, change_twice}
+use Rattle.b67_law_order.proofs.Members.{has_append_left, has_map, change_twice}
 use Rattle.b67_stack.specs.declared.Cpu.{Cpu}
 use Rattle.b67_stack.specs.Shapes.{Shape, Fits}
 use Rattle.b67_stack.specs.Stacks.{Spot, Activation, high, IsStack, headed, words}
@@ -30,10 +30,10 @@ use Rattle.b67_layout.proofs.Sessions.{change-has}
 use Rattle.b67_layout.proofs.Displays.{Shows-same}
 use Rattle.b67_layout.proofs.Fresh.{fresh, running_in_order}
 use Rattle.b67_layout.proofs.Starts.{slot_is}
-use Rattle.b67_leaving.proofs.Nowhere.{SameArray, SameArrays, activations-same}
+use Rattle.b67_layout_leave.proofs.Nowhere.{SameArray, SameArrays, activations-same}
 use Rattle.b67_returning.proofs.Returned.{Stands-returned, size_entered, fits_anywhere}
-use Rattle.b67_leaving.proofs.Things.{others}
-use Rattle.b67_leaving.proofs.Leaves.{task_at, below-same, Frames, Frames-below, holds_after, for_running_after}
+use Rattle.b67_layout_leave.proofs.Things.{others}
+use Rattle.b67_layout_leave.proofs.Leaves.{task_at, below-same, Frames, Frames-below, holds_after, for_running_after}
 use Rattle.b67_leave.specs.Left.{Returns}
 use Rattle.b67_returning.specs.Returned.{ReturnsWord}
 use Rattle.b67_leave.proofs.Leaving.{may, outer, under, on_top, on_stack, may_return, regs_left, member_at, task_left, shown_left}

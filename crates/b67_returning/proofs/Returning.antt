@@ -18,8 +18,8 @@ use Rattle.b67_stack.specs.Picture.{Thing, CopiesName}
 use Rattle.b67_stack.specs.Changes.{MayPush}
 use Rattle.b67_layout.specs.Plan.{Plan, spot_in}
 use Rattle.b67_layout.specs.Layout.{shape}
-use Rattle.b67_leaving.proofs.Nowhere.{SameArray, array_stays}
-use Rattle.b67_leaving.proofs.Things.{others}
+use Rattle.b67_layout_leave.proofs.Nowhere.{SameArray, array_stays}
+use Rattle.b67_layout_leave.proofs.Things.{others}
 use Rattle.b67_refusals.proofs.CopyRefusals.{found_array}
 
 -- a word that may be returned from a frame

@@ -17,10 +17,10 @@ use Rattle.b67_model.specs.Run.{Moment, number_of, of_job, with_moment, moment_b
 use Rattle.b67_model.specs.InOrder.{IsInOrder}
 use Rattle.b67_opening.specs.Opening.{Opening, opened_from, opening}
 use Rattle.b67_opening.proofs.Opens.{opens_in_order}
-use Rattle.b67_order.proofs.Members.{keyed_has, change_found, change_other}
-use Rattle.b67_runs.specs.Runs.{RunsAdmitted}
-use Rattle.b67_runs.proofs.Totals.{change_is}
-use Rattle.b67_runs.proofs.Sessions.{sessions_stay_in_order}
+use Rattle.b67_law_order.proofs.Members.{keyed_has, change_found, change_other}
+use Rattle.b67_law_order_runs.specs.Runs.{RunsAdmitted}
+use Rattle.b67_law_order_runs.proofs.Totals.{change_is}
+use Rattle.b67_law_order_runs.proofs.Sessions.{sessions_stay_in_order}
 use Rattle.b67_run_faults.specs.Faults.{ChosenFaultsAtNvld}
 use Rattle.b67_run_faults.specs.Made.{Runs}
 use Rattle.b67_run_faults.specs.Ended.{SteppedAtNvld, RunsEndExactlyAtNvld}

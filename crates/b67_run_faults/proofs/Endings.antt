@@ -13,7 +13,7 @@ use Rattle.b67_model.specs.Steps.{Done, Goes, Leaves, Waits}
 use Rattle.b67_model.specs.Rows.{step}
 use Rattle.b67_model.specs.Endings.{Settled, is_ready, all_with, deepest_first, descendants, ends_task, ends_each_if, unsettled, settles, stepped}
 use Rattle.b67_model.specs.Alone.{by_task, step_of}
-use Rattle.b67_order.proofs.Members.{has_append_left, has_append_right, has_append_cases, has_map_back}
+use Rattle.b67_law_order.proofs.Members.{has_append_left, has_append_right, has_append_cases, has_map_back}
 
 abbrev pub FaultIn : List (ℕ × Ending) → ℕ → Type 0
 FaultIn endings x = Has endings (x, Faulted InvalidOperator)

@@ -15,10 +15,10 @@ use Rattle.b67_model.specs.Operators.{Reading}
 use Rattle.b67_model.specs.Rows.{row, reading_of, step_by, step}
 use Rattle.b67_model.specs.Endings.{Settled, among, released, ends_all, ends_task, ends_each_if, unsettled, settles, stepped}
 use Rattle.b67_model.specs.Alone.{by_task, step_of}
-use Rattle.b67_order.proofs.Members.{has_map_back, has_filter, keyed_has}
-use Rattle.b67_order_rows.proofs.Kept.{here}
-use Rattle.b67_order_made.specs.Made.{Makes, MakesMark, StandsIn}
-use Rattle.b67_order_made.proofs.Rows.{each_row_makes_its_words}
+use Rattle.b67_law_order.proofs.Members.{has_map_back, has_filter, keyed_has}
+use Rattle.b67_law_order_rows.proofs.Kept.{here}
+use Rattle.b67_law_made.specs.Made.{Makes, MakesMark, StandsIn}
+use Rattle.b67_law_made.proofs.Rows.{each_row_makes_its_words}
 
 -- an item of a list with one item changed
 pub record Changed {A : Type 0} (key : A → ℕ) (n : ℕ) (change : A → A) (xs : List A) (x : A) : Type 0 where

@@ -11,8 +11,8 @@ use Rattle.b67_model.specs.Alone.{step_of}
 use Rattle.b67_model.specs.Schedule.{Session, Choice, choice}
 use Rattle.b67_model.specs.Run.{Moment, number_of, of_job, with_moment, moment_by, moment_for, next, after_from, after}
 use Rattle.b67_opening.specs.Opening.{opening}
-use Rattle.b67_order.proofs.Members.{keyed_has}
-use Rattle.b67_order_made.specs.Made.{Makes, MakesMark}
+use Rattle.b67_law_order.proofs.Members.{keyed_has}
+use Rattle.b67_law_made.specs.Made.{Makes, MakesMark}
 use Rattle.b67_run_faults.specs.Made.{Runs, EarlierStep, RunsMakeTheirWords}
 use Rattle.b67_run_faults.proofs.Opened.{openings_are_made_by_the_loader}
 use Rattle.b67_run_faults.proofs.Keeping.{has_changed, TasksMade, Maker, step_kept}

@@ -14,9 +14,9 @@ use Rattle.b67_model.specs.Program.{Program}
 use Rattle.b67_model.specs.Loader.{At, origin, listing, is_off, IsAdmitted}
 use Rattle.b67_model.specs.Rows.{is_proc, row, reading_of, step_by, step}
 use Rattle.b67_model.specs.InOrder.{IsStart, TaskInOrder, TasksInOrder}
-use Rattle.b67_order.proofs.Members.{all_in, keyed_has}
-use Rattle.b67_order_rows.proofs.Kept.{here}
-use Rattle.b67_order_steps.proofs.Admitted.{listed, Sound, admitted_sound, Entered, entered}
+use Rattle.b67_law_order.proofs.Members.{all_in, keyed_has}
+use Rattle.b67_law_order_rows.proofs.Kept.{here}
+use Rattle.b67_law_order_steps.proofs.Admitted.{listed, Sound, admitted_sound, Entered, entered}
 use Rattle.b67_order_faults.proofs.Rows.{invalid_operator_is_nvld}
 use Rattle.b67_run_faults.specs.Faults.{FaultsAtNvld, InvalidOperatorExactlyAtNvld}
 use Rattle.b67_run_faults.proofs.Literals.{literal_passes}

@@ -6,7 +6,7 @@ use Rattle.b67_model.specs.Words.{Word, Operand, Name, Ref, Row, Element, Origin
 use Rattle.b67_model.specs.State.{Frame, Task, Segment, Member}
 use Rattle.b67_model.specs.Program.{Program, segment_words, originals, opened}
 use Rattle.b67_opening.specs.Opening.{Opening, opened_from}
-use Rattle.b67_order.proofs.Members.{has_append_left, has_append_right, has_append_cases, has_reverse, has_reverse_back}
+use Rattle.b67_law_order.proofs.Members.{has_append_left, has_append_right, has_append_cases, has_reverse, has_reverse_back}
 use Rattle.b67_run_faults.specs.Opened.{LoaderMakes, MadeByLoader, OpenedByLoader, OpeningsMadeByLoader}
 
 -- a number of these

@@ -9,10 +9,10 @@ use Rattle.b67_model.specs.Run.{Moment, number_of, next, after_from, after}
 use Rattle.b67_model.specs.InOrder.{IsStart, JobInOrder, IsInOrder}
 use Rattle.b67_opening.specs.Opening.{Opening, OpeningWithin, opened_from, opening}
 use Rattle.b67_opening.proofs.Opens.{opens_in_order}
-use Rattle.b67_order.proofs.Members.{all_in, keyed_falls}
-use Rattle.b67_runs.specs.Runs.{RunsAdmitted}
-use Rattle.b67_runs.proofs.Chosen.{chosen, keyed_numbered}
-use Rattle.b67_runs.proofs.Sessions.{sessions_stay_in_order}
+use Rattle.b67_law_order.proofs.Members.{all_in, keyed_falls}
+use Rattle.b67_law_order_runs.specs.Runs.{RunsAdmitted}
+use Rattle.b67_law_order_runs.proofs.Chosen.{chosen, keyed_numbered}
+use Rattle.b67_law_order_runs.proofs.Sessions.{sessions_stay_in_order}
 use Rattle.b67_run_faults.specs.Faults.{FaultsAtNvld, StateFaultsAtNvld, SessionsFaultExactlyAtNvld, RunsFaultExactlyAtNvld}
 use Rattle.b67_run_faults.proofs.Nvld.{task_faults}
 

@@ -16,7 +16,7 @@ use Rattle.b67_model.specs.Schedule.{Switch, Session, Choice, choice}
 use Rattle.b67_model.specs.Run.{number_of, after}
 use Rattle.b67_model.specs.InOrder.{IsStart, TasksInOrder, IsInOrder}
 use Rattle.b67_opening.specs.Opening.{Opening, DeckWithin, opening}
-use Rattle.b67_runs.specs.Runs.{RunsAdmitted}
+use Rattle.b67_law_order_runs.specs.Runs.{RunsAdmitted}
 
 -- an operator stands at the task's place, and the task's step faults INVALID OPERATOR exactly where it is NVLD
 pub record FaultsAtNvld (setting : Setting) (job : Job) (task : Task) : Type 0 where

@@ -10,7 +10,7 @@ use Rattle.b67_model.specs.Rows.{reading_of}
 use Rattle.b67_model.specs.Schedule.{Switch, Session, Choice, choice}
 use Rattle.b67_model.specs.Run.{number_of, after}
 use Rattle.b67_opening.specs.Opening.{Opening, opening}
-use Rattle.b67_order_made.specs.Made.{Makes, MakesMark}
+use Rattle.b67_law_made.specs.Made.{Makes, MakesMark}
 
 -- a task of a job makes the next step of a session, and stands at this operator
 pub record Runs (s : Session) (job number : ℕ) (op : Op) : Type 0 where

@@ -5,7 +5,7 @@ ghost use Rattle.b67_word.specs.Tagged.{contents};
 ghost use Rattle.b67_model.specs.Loader.{listing};
 ghost use Rattle.b67_codefile.specs.Spelling.{IsWithin};
 ghost use Rattle.b67_codefile.specs.Meaning.{program_of};
-ghost use Rattle.b67_load.specs.Listing.{CoupleFits};
+ghost use Rattle.b67_load_verify.specs.Listing.{CoupleFits};
 ghost use Rattle.b67_uncalled.specs.Uncalled.{names_unbuilt, op_uses_built, entries_use_built, uses_built};
 
 use b67_codefile::Codefile;

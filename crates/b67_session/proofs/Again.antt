@@ -2,8 +2,8 @@
 use Rattle.std.proofs.Common.{true, ◌≡◌, ◌≢◌, ℕ, List, [], length, Option, Result, Ok, Err, refl, subst, sym, inl, inr}
 use Rattle.b67_model.specs.State.{Task, Member}
 use Rattle.b67_model.specs.Schedule.{Session}
-use Rattle.b67_storage.specs.Machine.{Says}
-use Rattle.b67_task.specs.declared.tables.Machine.{Machine}
+use Rattle.b67_layout_storage.specs.Machine.{Says}
+use Rattle.b67_task_tables.specs.declared.tables.Machine.{Machine}
 use Rattle.b67_attempt.specs.Stops.{Stop}
 use Rattle.b67_attempt.specs.Stops as stops
 use Rattle.b67_session.specs.declared.slices.Progress.{Progress}

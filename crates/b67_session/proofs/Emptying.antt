@@ -7,10 +7,10 @@ use Rattle.b67_model.specs.InOrder.{IsInOrderButPlaces}
 use Rattle.b67_single.specs.Single.{IsSingle}
 use Rattle.b67_stack.specs.Stands.{Storage}
 use Rattle.b67_layout.specs.Plan.{Plan}
-use Rattle.b67_task.specs.declared.tables.Tasks.{Tasks}
-use Rattle.b67_task.specs.declared.tables.Machine.{Machine}
-use Rattle.b67_task.specs.Tables.{MachineStands}
-use Rattle.b67_ending.specs.Endings.{HasOne, HasRowsOf, EndsIn}
+use Rattle.b67_task_tables.specs.declared.tables.Tasks.{Tasks}
+use Rattle.b67_task_tables.specs.declared.tables.Machine.{Machine}
+use Rattle.b67_task_tables.specs.Tables.{MachineStands}
+use Rattle.b67_task.specs.Endings.{HasOne, HasRowsOf, EndsIn}
 use Rattle.b67_session.specs.Steps.{IsEmptied}
 
 -- what ending the last task promises of it

@@ -14,7 +14,7 @@ use Rattle.b67_model.specs.Rows.{step}
 use Rattle.b67_model.specs.Run.{RunLine, Moment, next, number_of, with_moment, of_job}
 use Rattle.b67_model.specs.Schedule.{Session, choice}
 use Rattle.b67_model.specs.InOrder.{IsInOrderButPlaces}
-use Rattle.b67_lines.specs.Moments.{first_part}
+use Rattle.b67_session_lines.specs.Moments.{first_part}
 use Rattle.b67_stack.specs.declared.Cpu.{Cpu}
 use Rattle.b67_stack.specs.Picture.{Picture, Settled as Calm}
 use Rattle.b67_stack.specs.Stands.{Storage, Stands}
@@ -24,16 +24,16 @@ use Rattle.b67_layout.specs.Layout.{picture}
 use Rattle.b67_layout.specs.Session.{SessionStands, with_things}
 use Rattle.b67_layout.specs.Meets.{with_job}
 use Rattle.b67_single.specs.Single.{IsSingle, task_lines}
-use Rattle.b67_step.proofs.Alike.{AllAlike}
-use Rattle.b67_step.proofs.Counted.{SameJobs, same_picture}
-use Rattle.b67_step.proofs.Paged.{SessionStands-over}
-use Rattle.b67_task.specs.declared.tables.Tasks.{Tasks}
-use Rattle.b67_task.specs.declared.tables.Machine.{Machine}
-use Rattle.b67_task.specs.Tables.{TasksShow, MachineStands}
-use Rattle.b67_schedule.specs.declared.counting.Chosen.{Chosen}
-use Rattle.b67_schedule.specs.Counted.{choice_of}
+use Rattle.b67_layout_step.proofs.Alike.{AllAlike}
+use Rattle.b67_layout_step.proofs.Counted.{SameJobs, same_picture}
+use Rattle.b67_layout_step.proofs.Paged.{SessionStands-over}
+use Rattle.b67_task_tables.specs.declared.tables.Tasks.{Tasks}
+use Rattle.b67_task_tables.specs.declared.tables.Machine.{Machine}
+use Rattle.b67_task_tables.specs.Tables.{TasksShow, MachineStands}
+use Rattle.b67_session_schedule.specs.declared.counting.Chosen.{Chosen}
+use Rattle.b67_session_schedule.specs.Counted.{choice_of}
 use Rattle.b67_attempt.specs.Tries.{EndsSo}
-use Rattle.b67_ending.specs.Endings.{without_slot, HasOne, EndsIn}
+use Rattle.b67_task.specs.Endings.{without_slot, HasOne, EndsIn}
 use Rattle.b67_session.specs.declared.ends.StepEnd.TheVariants as ends
 use Rattle.b67_session.specs.Slices.{IsLimited, Rests}
 use Rattle.b67_session.specs.Steps.{IsCounted, Finishes, finished}

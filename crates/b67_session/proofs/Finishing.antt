@@ -17,9 +17,9 @@ use Rattle.b67_model.specs.Rows.{step}
 use Rattle.b67_model.specs.Run.{number_of, with_moment, live_tasks}
 use Rattle.b67_model.specs.Schedule.{Session, Choice}
 use Rattle.b67_model.specs.InOrder.{IsSegment, JobInOrder, IsInOrderButPlaces}
-use Rattle.b67_order.specs.Ends.{StepsFrom}
-use Rattle.b67_order_rows.specs.Keeping.{KeepsOrder}
-use Rattle.b67_order_steps.proofs.Segments.{rows_keep_order_but_places}
+use Rattle.b67_law_order.specs.Ends.{StepsFrom}
+use Rattle.b67_law_order_rows.specs.Keeping.{KeepsOrder}
+use Rattle.b67_law_order_steps.proofs.Segments.{rows_keep_order_but_places}
 use Rattle.b67_ordering.proofs.Members.{member_kept}
 use Rattle.b67_profiles.specs.Profiles.{Profile, profile, profiles}
 use Rattle.b67_layout.specs.Meets.{with_job}

@@ -6,10 +6,10 @@ use Rattle.b67_model.specs.Need.{need, need_of_job, need_by}
 use Rattle.b67_model.specs.Run.{after}
 use Rattle.b67_model.specs.Schedule.{Session, Choice, choice}
 use Rattle.b67_model.specs.State.{Task, Member}
-use Rattle.b67_schedule.specs.declared.counting.Chosen.{Chosen}
-use Rattle.b67_schedule.specs.Counted.{choice_of}
+use Rattle.b67_session_schedule.specs.declared.counting.Chosen.{Chosen}
+use Rattle.b67_session_schedule.specs.Counted.{choice_of}
 use Rattle.b67_single.specs.Single.{IsSingle}
-use Rattle.b67_task.specs.declared.tables.Machine.{Machine}
+use Rattle.b67_task_tables.specs.declared.tables.Machine.{Machine}
 use Rattle.b67_session.specs.Slices.{NextFits, StepsFit}
 use Rattle.b67_session.specs.Steps.{StepFits}
 use Rattle.b67_session.proofs.Lone.{task_found}

@@ -4,14 +4,14 @@ use Rattle.b67_model.specs.Lists.{Has}
 use Rattle.b67_model.specs.State.{Task, Member}
 use Rattle.b67_model.specs.Run.{RunLine, next, after, lines}
 use Rattle.b67_model.specs.Schedule.{Session}
-use Rattle.b67_lines.specs.Moments.{first_part, due}
+use Rattle.b67_session_lines.specs.Moments.{first_part, due}
 use Rattle.b67_stack.specs.Stands.{Storage}
-use Rattle.b67_storage.specs.Machine.{Says}
+use Rattle.b67_layout_storage.specs.Machine.{Says}
 use Rattle.b67_layout.specs.Plan.{Plan}
 use Rattle.b67_single.proofs.Runs.{Came, came-none, came-more}
-use Rattle.b67_task.specs.declared.tables.TaskRow.{TaskRow}
-use Rattle.b67_task.specs.declared.tables.Machine.{Machine}
-use Rattle.b67_task.specs.Tables.{task_row, MachineStands}
+use Rattle.b67_task_tables.specs.declared.tables.TaskRow.{TaskRow}
+use Rattle.b67_task_tables.specs.declared.tables.Machine.{Machine}
+use Rattle.b67_task_tables.specs.Tables.{task_row, MachineStands}
 use Rattle.b67_attempt.specs.Stops.{Stop}
 use Rattle.b67_attempt.specs.Stops as stops
 use Rattle.b67_session.specs.declared.ends.StepEnd.TheVariants as ends

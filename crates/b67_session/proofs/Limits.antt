@@ -17,20 +17,20 @@ use Rattle.b67_model.specs.Lines.{run_text}
 use Rattle.b67_model.specs.Run.{Moment, number_of, of_job}
 use Rattle.b67_model.specs.Schedule.{Session}
 use Rattle.b67_model.specs.InOrder.{NumberedFrom, IsInOrderButPlaces}
-use Rattle.b67_lines.specs.Moments.{first_part, last_part, last_part_by, last_part_if, is_at_limit, has_tasks, text_of, due}
+use Rattle.b67_session_lines.specs.Moments.{first_part, last_part, last_part_by, last_part_if, is_at_limit, has_tasks, text_of, due}
 use Rattle.b67_stack.specs.Stands.{Storage}
 use Rattle.b67_layout.specs.Plan.{Plan, slot_of}
 use Rattle.b67_layout.specs.Rows.{Counts, TaskShows, JobsShow, TablesShow}
 use Rattle.b67_layout.specs.Rows as rows
 use Rattle.b67_single.specs.Single.{IsSingle, task_lines}
-use Rattle.b67_task.specs.declared.tables.JobRow.{JobRow}
-use Rattle.b67_task.specs.declared.tables.TaskRow.{TaskRow}
-use Rattle.b67_task.specs.declared.tables.Tasks.{Tasks}
-use Rattle.b67_task.specs.declared.tables.Machine.{Machine}
-use Rattle.b67_task.specs.Tables.{task_row, job_row, counts_of, TasksShow, MachineStands}
-use Rattle.b67_ending.specs.Endings.{without_slot, ended, HasOne}
-use Rattle.b67_ending.proofs.Ends.{ended_alone}
-use Rattle.b67_ending.proofs.Tables.{tables_ended}
+use Rattle.b67_task_tables.specs.declared.tables.JobRow.{JobRow}
+use Rattle.b67_task_tables.specs.declared.tables.TaskRow.{TaskRow}
+use Rattle.b67_task_tables.specs.declared.tables.Tasks.{Tasks}
+use Rattle.b67_task_tables.specs.declared.tables.Machine.{Machine}
+use Rattle.b67_task_tables.specs.Tables.{task_row, job_row, counts_of, TasksShow, MachineStands}
+use Rattle.b67_task.specs.Endings.{without_slot, ended, HasOne}
+use Rattle.b67_task.proofs.Ends.{ended_alone}
+use Rattle.b67_task.proofs.Tables.{tables_ended}
 use Rattle.b67_session.specs.Slices.{IsLimited}
 use Rattle.b67_session.specs.Steps.{AtLimit, IsEmptied}
 use Rattle.b67_session.proofs.Lone.{found, job_ordered}

@@ -14,7 +14,7 @@ use Rattle.b67_model.specs.Rows.{reading_of, step, step_by}
 use Rattle.b67_model.specs.InOrder.{IsSegment, TaskInOrder, JobInOrder, IsInOrderButPlaces}
 use Rattle.b67_model.specs.Run.{number_of}
 use Rattle.b67_model.specs.Schedule.{Who, Session, ready_of, ready, choice}
-use Rattle.b67_order.proofs.Members.{all_in}
+use Rattle.b67_law_order.proofs.Members.{all_in}
 use Rattle.b67_layout.specs.Plan.{Plan, slot_of}
 use Rattle.b67_layout.specs.Rows.{TaskShows}
 use Rattle.b67_layout.specs.Session.{IsRunning}
@@ -22,14 +22,14 @@ use Rattle.b67_layout.specs.Meets.{here}
 use Rattle.b67_order_weaker.specs.Weaker.{OtherNumbers, AllOtherNumbers}
 use Rattle.b67_profiles.specs.Profiles.{Profile, profiles, IsKnown}
 use Rattle.b67_code.specs.Called.{called_by}
-use Rattle.b67_switch.specs.Turns.{with_running}
+use Rattle.b67_task_switch.specs.Turns.{with_running}
 use Rattle.b67_single.specs.Single.{IsSingle}
-use Rattle.b67_task.specs.declared.tables.TaskRow.{TaskRow}
-use Rattle.b67_task.specs.declared.tables.Tasks.{Tasks}
-use Rattle.b67_task.specs.Tables.{task_row, TasksShow}
-use Rattle.b67_schedule.specs.declared.counting.Chosen.{Chosen}
-use Rattle.b67_schedule.specs.Counted.{choice_of}
-use Rattle.b67_schedule.specs.Chosen.{IsReadyAt}
+use Rattle.b67_task_tables.specs.declared.tables.TaskRow.{TaskRow}
+use Rattle.b67_task_tables.specs.declared.tables.Tasks.{Tasks}
+use Rattle.b67_task_tables.specs.Tables.{task_row, TasksShow}
+use Rattle.b67_session_schedule.specs.declared.counting.Chosen.{Chosen}
+use Rattle.b67_session_schedule.specs.Counted.{choice_of}
+use Rattle.b67_session_schedule.specs.Chosen.{IsReadyAt}
 use Rattle.b67_turn.proofs.Lists.{at_has, at_mapped}
 use Rattle.b67_attempt.specs.Passed.{CallsBuilt}
 use Rattle.b67_session.proofs.Built.{built_keep}

@@ -13,7 +13,7 @@ use Rattle.b67_model.specs.Endings.{settles, stepped, limited}
 use Rattle.b67_model.specs.Alone.{JobMoment, moment_with, whole, by_task, step_of}
 use Rattle.b67_model.specs.Run.{RunLine, Moment, next, moment_for, moment_by, with_moment, number_of, of_job}
 use Rattle.b67_model.specs.Schedule.{Session, Choice, choice}
-use Rattle.b67_lines.specs.Moments.{first_part, first_part_by, first_part_in, first_part_of}
+use Rattle.b67_session_lines.specs.Moments.{first_part, first_part_by, first_part_in, first_part_of}
 use Rattle.b67_single.specs.Single.{IsSingle, GoesOn, member_after, task_lines}
 use Rattle.b67_session.proofs.Lone.{found, task_found}
 

@@ -1,10 +1,10 @@
 -- A slice that pauses, and what is still known of the sectors.
 use Rattle.std.proofs.Common.{◌≡◌, ◌≢◌, ℕ, ◌≤◌, List, Option, Some, None, Ok, refl, sym, ◌∙◌}
 use Rattle.std.proofs.lemmas.Option.{none-some}
-use Rattle.b67_storage.specs.Machine.{Says, Served, retold}
-use Rattle.b67_storage.proofs.Devices.{still_tells}
+use Rattle.b67_layout_storage.specs.Machine.{Says, Served, retold}
+use Rattle.b67_layout_storage.proofs.Devices.{still_tells}
 use Rattle.b67_model.specs.Schedule.{Session}
-use Rattle.b67_task.specs.declared.tables.Machine.{Machine}
+use Rattle.b67_task_tables.specs.declared.tables.Machine.{Machine}
 use Rattle.b67_session.specs.declared.slices.Progress.{Progress}
 use Rattle.b67_session.specs.declared.slices.Progress.TheVariants as progress
 use Rattle.b67_session.specs.Slices.{Pauses, Slices, Over}

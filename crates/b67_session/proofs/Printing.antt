@@ -4,7 +4,7 @@ use Rattle.std.proofs.lemmas.List.{take_all, take-append-le}
 use Rattle.b67_io.specs.Line.{ended}
 use Rattle.b67_io.specs.Told.{Took, Continues}
 use Rattle.b67_io.proofs.Joined.{Took-none, Took-then}
-use Rattle.b67_lines.specs.Parts.{TookRest, TookMore}
+use Rattle.b67_session_lines.specs.Parts.{TookRest, TookMore}
 use Rattle.b67_model.specs.Lines.{run_text}
 use Rattle.b67_model.specs.Run.{RunLine}
 use Rattle.b67_session.specs.Slices.{Prints}

@@ -6,11 +6,11 @@ use Rattle.b67_model.specs.Steps.{Ends}
 use Rattle.b67_model.specs.Lines.{run_text}
 use Rattle.b67_model.specs.Run.{RunLine}
 use Rattle.b67_model.specs.Schedule.{Session}
-use Rattle.b67_lines.specs.Moments.{due}
+use Rattle.b67_session_lines.specs.Moments.{due}
 use Rattle.b67_single.specs.Single.{task_lines}
-use Rattle.b67_task.specs.declared.tables.Tasks.{Tasks}
-use Rattle.b67_task.specs.declared.tables.Machine.{Machine}
-use Rattle.b67_ending.specs.Endings.{HasOne}
+use Rattle.b67_task_tables.specs.declared.tables.Tasks.{Tasks}
+use Rattle.b67_task_tables.specs.declared.tables.Machine.{Machine}
+use Rattle.b67_task.specs.Endings.{HasOne}
 use Rattle.b67_attempt.specs.Stops.{Stop}
 use Rattle.b67_attempt.specs.Stops as stops
 use Rattle.b67_session.specs.declared.slices.Progress.TheVariants as progress

@@ -14,12 +14,12 @@ use Rattle.b67_layout.specs.Plan.{Plan}
 use Rattle.b67_layout.specs.Rows as rows
 use Rattle.b67_layout.specs.Meets.{with_job}
 use Rattle.b67_single.specs.Single.{IsSingle}
-use Rattle.b67_task.specs.declared.tables.JobRow.{JobRow}
-use Rattle.b67_task.specs.declared.tables.Tasks.{Tasks}
-use Rattle.b67_task.specs.Tables.{job_row, switch_of, TasksShow}
-use Rattle.b67_schedule.specs.declared.counting.Chosen.{Chosen}
-use Rattle.b67_schedule.specs.Counted.{counted_row, HasRoom}
-use Rattle.b67_schedule.proofs.Rooms.{made_few, all_few}
+use Rattle.b67_task_tables.specs.declared.tables.JobRow.{JobRow}
+use Rattle.b67_task_tables.specs.declared.tables.Tasks.{Tasks}
+use Rattle.b67_task_tables.specs.Tables.{job_row, switch_of, TasksShow}
+use Rattle.b67_session_schedule.specs.declared.counting.Chosen.{Chosen}
+use Rattle.b67_session_schedule.specs.Counted.{counted_row, HasRoom}
+use Rattle.b67_session_schedule.proofs.Rooms.{made_few, all_few}
 use Rattle.b67_turn.proofs.Lists.{mapped_at}
 use Rattle.b67_turn.proofs.Tables.{job_at}
 use Rattle.b67_attempt.specs.Passed.{AreCountable}

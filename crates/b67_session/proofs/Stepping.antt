@@ -10,25 +10,25 @@ use Rattle.b67_model.specs.Steps.{Ends}
 use Rattle.b67_model.specs.Lines.{run_text}
 use Rattle.b67_model.specs.Run.{RunLine, Moment, next}
 use Rattle.b67_model.specs.Schedule.{Session}
-use Rattle.b67_lines.specs.Parts.{TookRest, TookMore}
-use Rattle.b67_lines.specs.Moments.{first_part, last_part, due}
-use Rattle.b67_runs.proofs.Sessions.{sessions_stay_in_order_but_places}
+use Rattle.b67_session_lines.specs.Parts.{TookRest, TookMore}
+use Rattle.b67_session_lines.specs.Moments.{first_part, last_part, due}
+use Rattle.b67_law_order_runs.proofs.Sessions.{sessions_stay_in_order_but_places}
 use Rattle.b67_profiles.specs.Profiles.{profiles}
 use Rattle.b67_layout.specs.Meets.{with_job}
 use Rattle.b67_single.specs.Single.{GoesOn, member_after, task_lines}
 use Rattle.b67_single.proofs.Nexts.{goes}
-use Rattle.b67_step.proofs.Stepped.{stands_after}
-use Rattle.b67_task.specs.declared.tables.Tasks.{Tasks}
-use Rattle.b67_task.specs.declared.tables.Machine.{Machine}
-use Rattle.b67_task.specs.Tables.{TasksShow, MachineStands}
-use Rattle.b67_schedule.specs.declared.counting.Chosen.{Chosen}
-use Rattle.b67_schedule.specs.Counted.{choice_of, HasRoom}
+use Rattle.b67_layout_step.proofs.Stepped.{stands_after}
+use Rattle.b67_task_tables.specs.declared.tables.Tasks.{Tasks}
+use Rattle.b67_task_tables.specs.declared.tables.Machine.{Machine}
+use Rattle.b67_task_tables.specs.Tables.{TasksShow, MachineStands}
+use Rattle.b67_session_schedule.specs.declared.counting.Chosen.{Chosen}
+use Rattle.b67_session_schedule.specs.Counted.{choice_of, HasRoom}
 use Rattle.b67_attempt.specs.Passed.{IsCalled, OnlyPrinted, printed_text}
 use Rattle.b67_attempt.specs.Stops.{Stop}
 use Rattle.b67_attempt.specs.Stops as stops
 use Rattle.b67_attempt.specs.declared.attempts.Attempt.TheVariants as attempts
 use Rattle.b67_attempt.specs.Attempts.{StillStands, StandsLacking}
-use Rattle.b67_ending.specs.Endings.{HasOne}
+use Rattle.b67_task.specs.Endings.{HasOne}
 use Rattle.b67_session.specs.declared.ends.StepEnd.{StepEnd}
 use Rattle.b67_session.specs.declared.ends.StepEnd.TheVariants as ends
 use Rattle.b67_session.specs.Slices.{IsLone, IsLimited, Prints, Rests, Lacks, SliceMeets}

@@ -1,9 +1,9 @@
 -- What a step leaves of the tables' counts.
 use Rattle.std.proofs.Common.{◌≡◌, ◌≢◌, ℕ, List, Option, Result, Ok, Err, refl, ap}
 use Rattle.b67_word.specs.declared.faults.Ending.{Ending}
-use Rattle.b67_task.specs.declared.tables.Tasks.{Tasks}
-use Rattle.b67_task.specs.declared.tables.Machine.{Machine}
-use Rattle.b67_schedule.specs.declared.counting.Chosen.{Chosen}
+use Rattle.b67_task_tables.specs.declared.tables.Tasks.{Tasks}
+use Rattle.b67_task_tables.specs.declared.tables.Machine.{Machine}
+use Rattle.b67_session_schedule.specs.declared.counting.Chosen.{Chosen}
 use Rattle.b67_attempt.specs.Stops.{Stop}
 use Rattle.b67_attempt.specs.Stops as stops
 use Rattle.b67_attempt.specs.declared.attempts.Attempt.TheVariants as attempts

@@ -6,21 +6,21 @@ use Rattle.b67_model.specs.State.{Ready, Task, Member}
 use Rattle.b67_model.specs.Schedule.{Session, choice}
 use Rattle.b67_model.specs.InOrder.{IsInOrderButPlaces}
 use Rattle.b67_stack.specs.Stands.{Storage}
-use Rattle.b67_storage.specs.Machine.{Says, retold}
+use Rattle.b67_layout_storage.specs.Machine.{Says, retold}
 use Rattle.b67_attempt.specs.Passed.{StandsOver}
 use Rattle.b67_layout.specs.Plan.{Plan}
 use Rattle.b67_layout.specs.Rows as rows
 use Rattle.b67_layout.specs.Rows.{RunningRow}
 use Rattle.b67_layout.specs.Session.{IsRunning}
 use Rattle.b67_order_weaker.proofs.Sessions.{other_numbers_keep_order}
-use Rattle.b67_switch.specs.Turns.{with_running}
-use Rattle.b67_task.specs.declared.tables.TaskRow.{TaskRow}
-use Rattle.b67_task.specs.declared.tables.Machine.{Machine}
-use Rattle.b67_task.specs.Tables.{task_row, MachineStands}
-use Rattle.b67_schedule.specs.declared.counting.Chosen.{Chosen}
-use Rattle.b67_schedule.specs.Counted.{choice_of, HasRoom}
-use Rattle.b67_schedule.specs.Chosen.{Chooses}
-use Rattle.b67_schedule.proofs.Rooms.{none_ready}
+use Rattle.b67_task_switch.specs.Turns.{with_running}
+use Rattle.b67_task_tables.specs.declared.tables.TaskRow.{TaskRow}
+use Rattle.b67_task_tables.specs.declared.tables.Machine.{Machine}
+use Rattle.b67_task_tables.specs.Tables.{task_row, MachineStands}
+use Rattle.b67_session_schedule.specs.declared.counting.Chosen.{Chosen}
+use Rattle.b67_session_schedule.specs.Counted.{choice_of, HasRoom}
+use Rattle.b67_session_schedule.specs.Chosen.{Chooses}
+use Rattle.b67_session_schedule.proofs.Rooms.{none_ready}
 use Rattle.b67_turn.specs.Standing.{HasRow}
 use Rattle.b67_turn.proofs.Lists.{at_mapped}
 use Rattle.b67_attempt.specs.Stops.{Stop}

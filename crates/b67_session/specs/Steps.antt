@@ -3,8 +3,8 @@ use Rattle.std.specs.Prelude.{◌≡◌, ◌≢◌, ◌⊎◌, ℕ, ◌+◌, ◌
 use Rattle.b67_word.specs.declared.faults.Ending.{Ending}
 use Rattle.b67_word.specs.declared.faults.Ending.TheVariants.{Limit}
 use Rattle.b67_io.specs.Line.{ended}
-use Rattle.b67_lines.specs.Parts.{TookRest, TookMore}
-use Rattle.b67_lines.specs.Moments.{first_part, last_part, due}
+use Rattle.b67_session_lines.specs.Parts.{TookRest, TookMore}
+use Rattle.b67_session_lines.specs.Moments.{first_part, last_part, due}
 use Rattle.b67_model.specs.Alone.{JobMoment}
 use Rattle.b67_model.specs.Endings.{ends_task}
 use Rattle.b67_model.specs.InOrder.{NumberedFrom, IsInOrderButPlaces}
@@ -17,13 +17,13 @@ use Rattle.b67_single.specs.Single.{IsSingle}
 use Rattle.b67_stack.specs.Stands.{Storage}
 use Rattle.b67_layout.specs.Meets.{with_job}
 use Rattle.b67_layout.specs.Plan.{Plan}
-use Rattle.b67_task.specs.declared.tables.JobRow.{JobRow}
-use Rattle.b67_task.specs.declared.tables.Tasks.{Tasks}
-use Rattle.b67_task.specs.declared.tables.Machine.{Machine}
-use Rattle.b67_task.specs.Tables.{TasksShow, MachineStands}
-use Rattle.b67_schedule.specs.declared.counting.Chosen.{Chosen}
-use Rattle.b67_schedule.specs.Counted.{choice_of}
-use Rattle.b67_ending.specs.Endings.{HasRowsOf, EndsIn}
+use Rattle.b67_task_tables.specs.declared.tables.JobRow.{JobRow}
+use Rattle.b67_task_tables.specs.declared.tables.Tasks.{Tasks}
+use Rattle.b67_task_tables.specs.declared.tables.Machine.{Machine}
+use Rattle.b67_task_tables.specs.Tables.{TasksShow, MachineStands}
+use Rattle.b67_session_schedule.specs.declared.counting.Chosen.{Chosen}
+use Rattle.b67_session_schedule.specs.Counted.{choice_of}
+use Rattle.b67_task.specs.Endings.{HasRowsOf, EndsIn}
 use Rattle.b67_attempt.specs.Passed.{AreCountable, OnlyPrinted}
 use Rattle.b67_attempt.specs.Stops.{Stop}
 use Rattle.b67_attempt.specs.Stops as stops

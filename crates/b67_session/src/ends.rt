@@ -2,19 +2,19 @@
 
 ghost use Rattle.std.specs.Prelude.{◌≡◌, ℕ, ◌+◌, ◌-◌, ◌≤◌, ◌==◌, Err, Some, length, slice_get};
 ghost use Rattle.b67_io.specs.Causes.{Rose};
-ghost use Rattle.b67_task.specs.declared.tables.JobRow.{JobRow};
-ghost use Rattle.b67_schedule.specs.Counted.{HasRoom};
-ghost use Rattle.b67_ending.specs.Endings.{HasOne};
+ghost use Rattle.b67_task_tables.specs.declared.tables.JobRow.{JobRow};
+ghost use Rattle.b67_session_schedule.specs.Counted.{HasRoom};
+ghost use Rattle.b67_task.specs.Endings.{HasOne};
 ghost use Rattle.b67_attempt.specs.Passed.{AreCountable};
 ghost use Rattle.b67_attempt.specs.Stops.{PrintFault};
 ghost use Rattle.b67_session.specs.Steps.{IsCounted, AtLimit, PutsText, ending_text, LimitEnds, Closes, Advances, Finishes};
 
 use b67_attempt::Stop;
-use b67_ending::end_last;
+use b67_task::end_last;
 use b67_io::Sink;
-use b67_lines::{ending_line, put_rest};
-use b67_schedule::{Chosen, count};
-use b67_task::{Machine, Tasks};
+use b67_session_lines::{ending_line, put_rest};
+use b67_session_schedule::{Chosen, count};
+use b67_task_tables::{Machine, Tasks};
 use b67_word::Ending;
 
 /// A step was made: the session goes on, or its task has ended.

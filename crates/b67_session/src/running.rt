@@ -4,7 +4,7 @@ ghost use Rattle.std.specs.Prelude.{◌≡◌, ◌≢◌, ℕ, ◌+◌, ◌≤�
 ghost use Rattle.b67_io.specs.Causes.{Rose};
 ghost use Rattle.b67_model.specs.State.{Task, Member};
 ghost use Rattle.b67_model.specs.Schedule as schedule;
-ghost use Rattle.b67_storage.specs.Machine.{Says, Served, retold};
+ghost use Rattle.b67_layout_storage.specs.Machine.{Says, Served, retold};
 ghost use Rattle.b67_attempt.specs.Passed.{AreCountable};
 ghost use Rattle.b67_attempt.specs.Stops.{BackingFault, PrintFault};
 ghost use Rattle.b67_session.specs.declared.slices.Progress.TheVariants.{Ended};
@@ -15,7 +15,7 @@ use crate::slices::{Progress, slice};
 use b67_attempt::Stop;
 use b67_backing::Backing;
 use b67_io::Sink;
-use b67_task::Machine;
+use b67_task_tables::Machine;
 use std::marker::Model;
 
 /// A machine whose session is run a slice at a time. It is seen as the machine.
@@ -25,7 +25,7 @@ pub struct Session {
 }
 
 impl Model for Session {
-    ghost use Rattle.b67_task.specs.declared.tables.Machine as tables;
+    ghost use Rattle.b67_task_tables.specs.declared.tables.Machine as tables;
 
     ghost Value = { tables.Machine };
 

@@ -4,7 +4,7 @@ ghost use Rattle.std.specs.Prelude.{◌≡◌, ◌≢◌, ℕ, ◌+◌, ◌≤�
 ghost use Rattle.b67_io.specs.Causes.{Rose};
 ghost use Rattle.b67_model.specs.State.{Task, Member};
 ghost use Rattle.b67_model.specs.Schedule.{Session};
-ghost use Rattle.b67_storage.specs.Machine.{Says, Served, retold};
+ghost use Rattle.b67_layout_storage.specs.Machine.{Says, Served, retold};
 ghost use Rattle.b67_attempt.specs.Passed.{AreCountable};
 ghost use Rattle.b67_attempt.specs.Stops.{BackingFault, PrintFault};
 ghost use Rattle.b67_session.specs.declared.slices.Progress.TheVariants.{Ended};
@@ -16,7 +16,7 @@ use crate::steps::step;
 use b67_attempt::Stop;
 use b67_backing::Backing;
 use b67_io::Sink;
-use b67_task::{Machine, Tasks};
+use b67_task_tables::{Machine, Tasks};
 
 /// How far a slice came: no task lives; the count of the halt is reached and a task lives; all its steps were made.
 #[derive(Clone, Copy, Debug, PartialEq, Eq)]

@@ -4,7 +4,7 @@ ghost use Rattle.std.specs.Prelude.{◌≡◌, ◌≢◌, ℕ, ◌+◌, ◌≤�
 ghost use Rattle.b67_io.specs.Causes.{Rose};
 ghost use Rattle.b67_model.specs.State.{Task, Member};
 ghost use Rattle.b67_model.specs.Schedule.{Session};
-ghost use Rattle.b67_storage.specs.Machine.{Says, Served, retold};
+ghost use Rattle.b67_layout_storage.specs.Machine.{Says, Served, retold};
 ghost use Rattle.b67_attempt.specs.Passed.{AreCountable};
 ghost use Rattle.b67_attempt.specs.Stops.{BackingFault, PrintFault};
 ghost use Rattle.b67_attempt.specs.Brought.{WantsNothing};
@@ -16,8 +16,8 @@ use crate::turns::give_turn;
 use b67_attempt::{Attempt, Stop, attempt};
 use b67_backing::Backing;
 use b67_io::Sink;
-use b67_schedule::choose;
-use b67_task::Machine;
+use b67_session_schedule::choose;
+use b67_task_tables::Machine;
 
 /// Makes one step, with its text printed and its operator counted. After a `Stop` it isn't counted, and the machine stands
 /// for the state before it; but where the printer failed in the line of LIMIT, the step is made and counted but for that line

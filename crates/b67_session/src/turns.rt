@@ -5,12 +5,12 @@ ghost use Rattle.b67_model.specs.Schedule.{Session};
 ghost use Rattle.b67_model.specs.InOrder.{IsInOrderButPlaces};
 ghost use Rattle.b67_stack.specs.Stands.{Storage};
 ghost use Rattle.b67_layout.specs.Plan.{Plan};
-ghost use Rattle.b67_switch.specs.Turns.{with_running};
-ghost use Rattle.b67_task.specs.declared.tables.TaskRow.{TaskRow};
-ghost use Rattle.b67_task.specs.Tables.{MachineStands};
+ghost use Rattle.b67_task_switch.specs.Turns.{with_running};
+ghost use Rattle.b67_task_tables.specs.declared.tables.TaskRow.{TaskRow};
+ghost use Rattle.b67_task_tables.specs.Tables.{MachineStands};
 ghost use Rattle.b67_turn.specs.Standing.{HasRow};
 
-use b67_task::Machine;
+use b67_task_tables::Machine;
 use b67_turn::switch_to;
 
 /// The task of a row is then the running one, if it wasn't. The session's state stays.

@@ -14,7 +14,7 @@ use Rattle.b67_model.specs.Intrinsics.{is_original}
 use Rattle.b67_model.specs.Schedule.{Session}
 use Rattle.b67_model.specs.Steps.{Goes, with_cells}
 use Rattle.b67_model.specs.InOrder.{IsInOrderButPlaces}
-use Rattle.b67_order.proofs.Members.{has_map_back, keyed_has}
+use Rattle.b67_law_order.proofs.Members.{has_map_back, keyed_has}
 use Rattle.b67_stack.specs.declared.Cpu.{Cpu}
 use Rattle.b67_stack.specs.Picture.{Thing}
 use Rattle.b67_stack.specs.Stands.{Storage}
@@ -29,13 +29,13 @@ use Rattle.b67_layout.proofs.Whole.{task_with}
 use Rattle.b67_refer.specs.Scene.{Scene}
 use Rattle.b67_refer.specs.Cells.{IsCellAt}
 use Rattle.b67_refer.proofs.Scenes as Scenes
-use Rattle.b67_cells.specs.Tops.{cells, NoOriginals}
-use Rattle.b67_cells.proofs.Put.{room, registers}
-use Rattle.b67_storing.proofs.Puts.{put}
-use Rattle.b67_storing.proofs.Frames.{put_frames, put_job, with_cell_is, frame_found}
-use Rattle.b67_storing.proofs.Mapped.{put_task}
-use Rattle.b67_storing.proofs.Stored as Stored
-use Rattle.b67_storing.proofs.Stored.{SessionStands-store, still_runs}
+use Rattle.b67_exec_cells.specs.Tops.{cells, NoOriginals}
+use Rattle.b67_exec_cells.proofs.Put.{room, registers}
+use Rattle.b67_layout_store.proofs.Puts.{put}
+use Rattle.b67_layout_store.proofs.Frames.{put_frames, put_job, with_cell_is, frame_found}
+use Rattle.b67_layout_store.proofs.Mapped.{put_task}
+use Rattle.b67_layout_store.proofs.Stored as Stored
+use Rattle.b67_layout_store.proofs.Stored.{SessionStands-store, still_runs}
 use Rattle.b67_store.proofs.Finishes.{course_twice, finish_drop, finish_keep}
 
 change_map : {A : Type 0} (key : A → ℕ) (f : A → A) (n : ℕ) (a a' : A) (xs : List A) → ((x : A) → key (f x) ≡ key x) → f a ≡ a' → change_keyed key n (λ y. a') (map f xs) ≡ map f (change_keyed key n (λ y. a) xs)

@@ -24,8 +24,8 @@ use Rattle.b67_layout.proofs.Gone.{no_things_gone}
 use Rattle.b67_layout.proofs.Pictures.{with_course}
 use Rattle.b67_layout.proofs.Steps.{IsFree}
 use Rattle.b67_layout.proofs.Whole.{task_with}
-use Rattle.b67_cells.specs.Tops.{cells, NoOriginals}
-use Rattle.b67_cells.proofs.Put.{room, registers}
+use Rattle.b67_exec_cells.specs.Tops.{cells, NoOriginals}
+use Rattle.b67_exec_cells.proofs.Put.{room, registers}
 use Rattle.b67_storing_elements.proofs.Things.{identities_kept}
 use Rattle.b67_storing_elements.proofs.Machine.{SessionStands-element, still_runs}
 use Rattle.b67_store.proofs.Finishes.{course_twice, finish_drop, finish_keep}

@@ -24,8 +24,8 @@ use Rattle.b67_layout.proofs.Pictures.{with_course}
 use Rattle.b67_layout.proofs.Rows.{runs_on}
 use Rattle.b67_layout.proofs.Steps.{IsFree}
 use Rattle.b67_layout.proofs.Whole.{session_with, SessionStands-cells}
-use Rattle.b67_cells.specs.Tops.{cells, NoOriginals}
-use Rattle.b67_cells.proofs.Replaced.{cells-are, shapes_plain, Stands-less, Stands-put}
+use Rattle.b67_exec_cells.specs.Tops.{cells, NoOriginals}
+use Rattle.b67_exec_cells.proofs.Replaced.{cells-are, shapes_plain, Stands-less, Stands-put}
 
 -- the last of two changes of a member's course
 pub course_twice : (jobs : List Member) (j : ℕ) (c d : Course) → with_course (with_course jobs j c) j d ≡ with_course jobs j d

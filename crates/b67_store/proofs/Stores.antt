@@ -19,7 +19,7 @@ use Rattle.b67_model.specs.Schedule.{Session}
 use Rattle.b67_model.specs.Steps.{Done, Goes, cells_of, with_cells}
 use Rattle.b67_model.specs.Rows as rows
 use Rattle.b67_model.specs.Rows.{store_at}
-use Rattle.b67_order.proofs.Members.{keyed_falls}
+use Rattle.b67_law_order.proofs.Members.{keyed_falls}
 use Rattle.b67_stack.specs.declared.Cpu.{Cpu}
 use Rattle.b67_stack.specs.declared.Step.{Step}
 use Rattle.b67_stack.specs.declared.Step.TheVariants as step
@@ -33,8 +33,8 @@ use Rattle.b67_refer.specs.declared.ends.End.TheVariants as end
 use Rattle.b67_refer.specs.Scene.{Scene}
 use Rattle.b67_refer.specs.Cells.{IsCellAt}
 use Rattle.b67_refer.specs.Ends.{EndMeets}
-use Rattle.b67_cells.specs.Tops.{cells, GivesTwo, NoOriginals}
-use Rattle.b67_cells.proofs.Put.{fitting, room}
+use Rattle.b67_exec_cells.specs.Tops.{cells, GivesTwo, NoOriginals}
+use Rattle.b67_exec_cells.proofs.Put.{fitting, room}
 use Rattle.b67_elements.specs.Elements.{HasElement, HoldsElement}
 use Rattle.b67_elements.proofs.Arrays.{area-inside}
 use Rattle.b67_fetch.specs.Fetches.{enters_at, EntersOrMeets}

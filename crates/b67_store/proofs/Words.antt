@@ -11,13 +11,13 @@ use Rattle.b67_model.specs.Words as Words
 use Rattle.b67_model.specs.Words.{Word, Operand, Name, Ref, Row, Element, Original, Proc, Intrinsic, operand}
 use Rattle.b67_model.specs.Schedule.{Session}
 use Rattle.b67_model.specs.State.{Frame, Task, Member, Here, top}
-use Rattle.b67_order.proofs.Members.{all_in}
+use Rattle.b67_law_order.proofs.Members.{all_in}
 use Rattle.b67_stack.specs.declared.Cpu.{Cpu}
 use Rattle.b67_stack.specs.Stands.{Storage}
 use Rattle.b67_layout.specs.Plan.{Plan}
 use Rattle.b67_layout.specs.Session.{IsRunning}
 use Rattle.b67_layout.proofs.Fresh.{running_in_order}
-use Rattle.b67_cells.specs.Tops.{IsWordOf, IsAt, cells, GivesTwo, NoOriginals}
+use Rattle.b67_exec_cells.specs.Tops.{IsWordOf, IsAt, cells, GivesTwo, NoOriginals}
 use Rattle.b67_fetch.specs.Fetches.{IsFollowed}
 
 -- which of two words is followed, and which one is stored: the upper one is stored where it is an operand's

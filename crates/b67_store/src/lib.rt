@@ -11,7 +11,7 @@ ghost use Rattle.b67_elements.specs.Elements.{HasElement, HoldsElement};
 ghost use Rattle.b67_fetch.specs.Fetches.{enters_at, EntersOrMeets};
 ghost use Rattle.b67_store.specs.Stores.{store_end, ElementAt, stored};
 
-use b67_cells::two_cells;
+use b67_exec_cells::two_cells;
 use b67_elements::descriptor;
 use b67_refer::{End, chase};
 use b67_stack::{Cpu, Step, What};

@@ -12,7 +12,7 @@ use Rattle.b67_model.specs.State.{Frame, Array, Task, Job, Member}
 use Rattle.b67_model.specs.Run.{number_of}
 use Rattle.b67_model.specs.Schedule.{Session}
 use Rattle.b67_model.specs.InOrder.{IsSegment, JobInOrder, IsInOrderButPlaces}
-use Rattle.b67_order.proofs.Members.{has_append_left, has_map, has_reverse, keyed_falls, falls_same}
+use Rattle.b67_law_order.proofs.Members.{has_append_left, has_map, has_reverse, keyed_falls, falls_same}
 use Rattle.b67_stack.specs.Shapes as Shapes
 use Rattle.b67_stack.specs.Shapes.{Shape, Fits, Lie}
 use Rattle.b67_stack.specs.Stacks.{Spot, Head, Marked, Entered, Activation, high, headed, words}
@@ -26,8 +26,8 @@ use Rattle.b67_layout.specs.Layout.{shape, head, activations, stack_of_task, slo
 use Rattle.b67_layout.specs.Session.{DictionariesFollow, PlanFits}
 use Rattle.b67_layout.proofs.Fresh.{job_in_order}
 use Rattle.b67_layout.proofs.Rows.{task_row, slot_below}
-use Rattle.b67_leaving.proofs.Originals.{lies_at, lies_over, original_word, InFrame, original_of, entry_number}
-use Rattle.b67_leaving.proofs.Settles.{keyed_member, stack_in_slot}
+use Rattle.b67_layout_leave.proofs.Originals.{lies_at, lies_over, original_word, InFrame, original_of, entry_number}
+use Rattle.b67_layout_leave.proofs.Settles.{keyed_member, stack_in_slot}
 
 -- two words of one address are one word
 module _ (x : Storage) (core : List Tagged) (plan : Plan) (j : ℕ) (job : Job) (k from : ℕ) (outer : ℕ → Spot) where

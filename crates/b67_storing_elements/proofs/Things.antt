@@ -13,7 +13,7 @@ use Rattle.b67_model.specs.Arrays.{with_element}
 use Rattle.b67_model.specs.Run.{number_of}
 use Rattle.b67_model.specs.Schedule.{Session}
 use Rattle.b67_model.specs.InOrder.{IsInOrderButPlaces}
-use Rattle.b67_order.proofs.Members.{has_append_left, has_append_right, has_append_cases, has_map, has_map_back, has_flat, falls_same}
+use Rattle.b67_law_order.proofs.Members.{has_append_left, has_append_right, has_append_cases, has_map, has_map_back, has_flat, falls_same}
 use Rattle.b67_stack.specs.Picture.{Thing}
 use Rattle.b67_stack.specs.Stands.{Storage, Stands}
 use Rattle.b67_layout.specs.Plan.{Plan}
@@ -23,8 +23,8 @@ use Rattle.b67_layout.proofs.Others.{keyed-has}
 use Rattle.b67_layout.proofs.Fresh.{job_in_order}
 use Rattle.b67_layout.proofs.Pictures.{with_course, member-same}
 use Rattle.b67_layout.proofs.Sessions.{change-has, change-kept}
-use Rattle.b67_leaving.proofs.Settles.{keyed_member, numbered_course}
-use Rattle.b67_leaving.proofs.Things.{has_flat_back}
+use Rattle.b67_layout_leave.proofs.Settles.{keyed_member, numbered_course}
+use Rattle.b67_layout_leave.proofs.Things.{has_flat_back}
 use Rattle.b67_storing_elements.proofs.Elements.{with_number, Replaces}
 use Rattle.b67_storing_elements.proofs.Homes.{one_home}
 

@@ -28,14 +28,14 @@ use Rattle.b67_stack.specs.Stands.{Storage}
 use Rattle.b67_layout.specs.Plan.{Plan}
 use Rattle.b67_layout.specs.Session.{IsRunning, SessionStands, frame_address}
 use Rattle.b67_layout.specs.Meets.{here, Meets}
-use Rattle.b67_cells.specs.Tops.{cells}
+use Rattle.b67_exec_cells.specs.Tops.{cells}
 use Rattle.b67_refer.specs.Cells.{StandsFor, FindsCell, CellMeets, view}
 use Rattle.b67_refer.specs.Ends.{IsReference}
 use Rattle.b67_refer.proofs.Chains.{level_is}
 use Rattle.b67_refer.proofs.Follows.{is_reference}
 use Rattle.b67_refer.proofs.Names.{irw_is, stuffed}
 use Rattle.b67_refer.proofs.Unders.{named_above, named_at, names_level, display_at}
-use Rattle.b67_operands.proofs.Rows.{Replaces}
+use Rattle.b67_exec_operands.proofs.Rows.{Replaces}
 use Rattle.b67_fetch.proofs.Values.{TopFollowed, here_scene, here_shown, followed_stands}
 
 module _ (x : Storage) (cpu : Cpu) (plan : Plan) (s : Session) (m : Member) (t : Task) (ordered : IsInOrderButPlaces s) (h : SessionStands x cpu plan s) (runs : IsRunning plan s.jobs m t) (q : Place) (w : Tagged) (top : TopFollowed x plan m t w) where

@@ -1,6 +1,7 @@
-//! The machine with the tables of its tasks and jobs.
+//! The end of a session's last task.
 #![tactic(auto)]
 
-pub mod tables;
+mod last;
+mod slots;
 
-pub use crate::tables::{JobRow, JobRows, Machine, TaskRow, TaskState, Tasks};
+pub use last::end_last;

@@ -12,15 +12,15 @@ use Rattle.b67_model.specs.Keyed.{keyed}
 use Rattle.b67_model.specs.Run.{number_of}
 use Rattle.b67_model.specs.Schedule.{Session}
 use Rattle.b67_model.specs.InOrder.{JobInOrder, IsSegment, NumberedFrom, IsInOrderButPlaces}
-use Rattle.b67_order.proofs.Members.{all_in, keyed_falls}
+use Rattle.b67_law_order.proofs.Members.{all_in, keyed_falls}
 use Rattle.b67_stack.specs.Stands.{Storage}
 use Rattle.b67_stack.specs.Stacks.{Spot}
 use Rattle.b67_layout.specs.Plan.{Plan, slot_of, address_of}
 use Rattle.b67_layout.specs.Rows.{WaitsAtCell, TaskRow, JobRow, Counts, shown, parent_slot, critical_disp, TaskShows, JobShows, JobsShow, RunningRow, Differ, TablesShow}
 use Rattle.b67_layout.specs.Session.{RowsFit, IsRunning, SessionHolds}
 use Rattle.b67_layout.proofs.Rows.{slot_below}
-use Rattle.b67_switch.specs.Turns.{with_running}
-use Rattle.b67_switch.proofs.Replans.{spots-replan}
+use Rattle.b67_task_switch.specs.Turns.{with_running}
+use Rattle.b67_task_switch.proofs.Replans.{spots-replan}
 use Rattle.b67_turn.proofs.Lists.{at_has, has_at, differ_at, same_mapped}
 
 keyed-head : {A : Type 0} (key : A → ℕ) (y : A) (more : List A) → keyed key (key y) (y ∷ more) ≡ Some y

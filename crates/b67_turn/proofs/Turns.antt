@@ -8,19 +8,19 @@ use Rattle.b67_ctl.specs.declared.registers.Regs.{Regs}
 use Rattle.b67_model.specs.State.{Task, Member}
 use Rattle.b67_model.specs.Schedule.{Session}
 use Rattle.b67_model.specs.InOrder.{JobInOrder, IsSegment, IsInOrderButPlaces}
-use Rattle.b67_order.proofs.Members.{all_in}
+use Rattle.b67_law_order.proofs.Members.{all_in}
 use Rattle.b67_stack.specs.Stands.{Storage}
 use Rattle.b67_layout.specs.Plan.{Plan}
 use Rattle.b67_layout.specs.Rows as rows
 use Rattle.b67_layout.specs.Rows.{RunningRow, TablesShow}
 use Rattle.b67_layout.specs.Session.{SessionHolds}
-use Rattle.b67_switch.proofs.Replans.{fit_replan}
-use Rattle.b67_switch.specs.Turns.{with_running, IsTurnOf}
-use Rattle.b67_switch.specs.declared.switching.Turn.{Turn}
-use Rattle.b67_task.specs.declared.tables.TaskRow.{TaskRow}
-use Rattle.b67_task.specs.declared.tables.JobRow.{JobRow}
-use Rattle.b67_task.specs.declared.tables.Tasks.{Tasks}
-use Rattle.b67_task.specs.Tables.{task_row, job_row, counts_of, TasksShow}
+use Rattle.b67_task_switch.proofs.Replans.{fit_replan}
+use Rattle.b67_task_switch.specs.Turns.{with_running, IsTurnOf}
+use Rattle.b67_task_switch.specs.declared.switching.Turn.{Turn}
+use Rattle.b67_task_tables.specs.declared.tables.TaskRow.{TaskRow}
+use Rattle.b67_task_tables.specs.declared.tables.JobRow.{JobRow}
+use Rattle.b67_task_tables.specs.declared.tables.Tasks.{Tasks}
+use Rattle.b67_task_tables.specs.Tables.{task_row, job_row, counts_of, TasksShow}
 use Rattle.b67_turn.specs.Standing.{Rests}
 use Rattle.b67_turn.proofs.Lists.{at_has, mapped_at, at_mapped, map-slice_set, same_mapped, came_back}
 use Rattle.b67_turn.proofs.Tables.{first_member, numbered_low, live_in_order, paused, resumed, goes_on, job_at}

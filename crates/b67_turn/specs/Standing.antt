@@ -7,9 +7,9 @@ use Rattle.b67_model.specs.InOrder.{IsInOrderButPlaces}
 use Rattle.b67_stack.specs.Stands.{Storage}
 use Rattle.b67_layout.specs.Plan.{Plan}
 use Rattle.b67_layout.specs.Session.{RowsFit, SessionHolds}
-use Rattle.b67_task.specs.declared.tables.Tasks.{Tasks}
-use Rattle.b67_task.specs.declared.tables.Machine.{Machine}
-use Rattle.b67_task.specs.Tables.{TasksShow, MachineStands}
+use Rattle.b67_task_tables.specs.declared.tables.Tasks.{Tasks}
+use Rattle.b67_task_tables.specs.declared.tables.Machine.{Machine}
+use Rattle.b67_task_tables.specs.Tables.{TasksShow, MachineStands}
 
 -- the machine stands for some session in order, and has a row of this number
 pub record HasRow (k : Machine) (row : ℕ) : Type 0 where

@@ -8,15 +8,15 @@ ghost use Rattle.b67_model.specs.InOrder.{IsInOrderButPlaces};
 ghost use Rattle.b67_stack.specs.Stands.{Storage};
 ghost use Rattle.b67_layout.specs.Plan.{Plan};
 ghost use Rattle.b67_layout.specs.Session.{SessionHolds};
-ghost use Rattle.b67_switch.specs.Turns.{with_running, IsTurnOf};
-ghost use Rattle.b67_task.specs.declared.tables.TaskRow.{TaskRow};
-ghost use Rattle.b67_task.specs.declared.tables.Tasks.{Tasks};
-ghost use Rattle.b67_task.specs.Tables.{TasksShow, MachineStands};
+ghost use Rattle.b67_task_switch.specs.Turns.{with_running, IsTurnOf};
+ghost use Rattle.b67_task_tables.specs.declared.tables.TaskRow.{TaskRow};
+ghost use Rattle.b67_task_tables.specs.declared.tables.Tasks.{Tasks};
+ghost use Rattle.b67_task_tables.specs.Tables.{TasksShow, MachineStands};
 ghost use Rattle.b67_turn.specs.Standing.{HasRow, InUse, Rests};
 
 use b67_ctl::Regs;
-use b67_switch::Turn;
-use b67_task::{Machine, TaskRow, Tasks};
+use b67_task_switch::Turn;
+use b67_task_tables::{Machine, TaskRow, Tasks};
 
 /// Notes in a row where its task goes on.
 fn note(rows: &mut [TaskRow], at: u8, regs: &Regs)
@@ -78,6 +78,6 @@ pub fn switch_to(machine: &mut Machine, row: u8)
 {
     pause(&mut machine.tasks, &machine.cpu.regs);
     let turn = turn_of(&machine.tasks, row);
-    b67_switch::switch_to(&mut machine.cpu, turn);
+    b67_task_switch::switch_to(&mut machine.cpu, turn);
     machine.tasks.running = row;
 }

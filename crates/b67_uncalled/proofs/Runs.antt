@@ -11,10 +11,10 @@ use Rattle.b67_model.specs.Run.{Moment, number_of, of_job, with_moment, moment_b
 use Rattle.b67_model.specs.InOrder.{IsStart, JobInOrder, IsInOrder}
 use Rattle.b67_opening.specs.Opening.{Opening, OpeningWithin, opened_from, opening}
 use Rattle.b67_opening.proofs.Opens.{opens_in_order}
-use Rattle.b67_order.proofs.Members.{all_in, keyed_has}
-use Rattle.b67_order_rows.proofs.Kept.{here}
-use Rattle.b67_runs.specs.Runs.{RunsAdmitted}
-use Rattle.b67_runs.proofs.Sessions.{sessions_stay_in_order}
+use Rattle.b67_law_order.proofs.Members.{all_in, keyed_has}
+use Rattle.b67_law_order_rows.proofs.Kept.{here}
+use Rattle.b67_law_order_runs.specs.Runs.{RunsAdmitted}
+use Rattle.b67_law_order_runs.proofs.Sessions.{sessions_stay_in_order}
 use Rattle.b67_uncalled.specs.Uncalled.{segments_use_built, uses_built, UnbuiltIsNeverCalled}
 use Rattle.b67_uncalled.proofs.Safe.{AllSafe}
 use Rattle.b67_uncalled.proofs.Chains.{called_low}

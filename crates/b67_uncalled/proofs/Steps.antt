@@ -23,15 +23,15 @@ use Rattle.b67_model.specs.Rows.{stff, row, reading_of, step_by, step}
 use Rattle.b67_model.specs.Endings.{Settled, among, released, ends_all, ends_task, ends_each_if, unsettled, settles, stepped}
 use Rattle.b67_model.specs.Alone.{by_task, step_of}
 use Rattle.b67_model.specs.InOrder.{IsStart, SettingInOrder, TaskInOrder, TasksInOrder}
-use Rattle.b67_order.proofs.Members.{all_in, has_map_back, has_filter, keyed_has}
-use Rattle.b67_order.proofs.Posts.{post_at}
-use Rattle.b67_order_rows.proofs.Kept.{here}
-use Rattle.b67_order_steps.proofs.Readings.{ReadFits}
-use Rattle.b67_order_steps.proofs.Segments.{reading_fits}
-use Rattle.b67_order_steps.proofs.Admitted.{Entered, entered}
-use Rattle.b67_order_made.specs.Made.{Makes, StandsIn}
-use Rattle.b67_order_made.proofs.Rows.{each_row_makes_its_words}
-use Rattle.b67_order_made.proofs.Steps as S
+use Rattle.b67_law_order.proofs.Members.{all_in, has_map_back, has_filter, keyed_has}
+use Rattle.b67_law_order.proofs.Posts.{post_at}
+use Rattle.b67_law_order_rows.proofs.Kept.{here}
+use Rattle.b67_law_order_steps.proofs.Readings.{ReadFits}
+use Rattle.b67_law_order_steps.proofs.Segments.{reading_fits}
+use Rattle.b67_law_order_steps.proofs.Admitted.{Entered, entered}
+use Rattle.b67_law_made.specs.Made.{Makes, StandsIn}
+use Rattle.b67_law_made.proofs.Rows.{each_row_makes_its_words}
+use Rattle.b67_law_made.proofs.Steps as S
 use Rattle.b67_uncalled.specs.Uncalled.{op_uses_built, entries_use_built, segments_use_built}
 use Rattle.b67_uncalled.proofs.Couples.{apart_by}
 use Rattle.b67_uncalled.proofs.Safe.{Safe, AllSafe}

@@ -5,7 +5,7 @@ use Rattle.b67_model.specs.Rows.{plain, entr}
 use Rattle.b67_model.specs.Steps.{top_of}
 use Rattle.b67_layout.specs.Meets.{here}
 use Rattle.b67_profiles.specs.Profiles.{called}
-use Rattle.b67_entry.specs.Procedures.{CallsOrMeets}
+use Rattle.b67_entry_enter.specs.Procedures.{CallsOrMeets}
 use Rattle.b67_exec.proofs.Readings.{same_called}
 use Rattle.b67_exec.proofs.plain.Goals as goal
 

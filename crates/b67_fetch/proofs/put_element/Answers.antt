@@ -1,7 +1,7 @@
 use Rattle.std.proofs.Common.{◌+◌, ◌-◌, ◌∷◌, refl, arith}
 use Rattle.b67_model.specs.Words.{Operand}
 use Rattle.b67_model.specs.Arrays.{element as element_of}
-use Rattle.b67_cells.proofs.Put.{overflows}
+use Rattle.b67_exec_cells.proofs.Put.{overflows}
 use Rattle.b67_fetch.proofs.Values.{overflow_touching, absent_element, meets_touching}
 use Rattle.b67_fetch.proofs.put_element.Goals as goal
 

@@ -1,5 +1,5 @@
 use Rattle.std.proofs.Common.{sym, ◌∙◌}
-use Rattle.b67_operands.proofs.Rows.{operand_seen}
+use Rattle.b67_exec_operands.proofs.Rows.{operand_seen}
 use Rattle.b67_index.proofs.Items.{two_followed, above, below, fewer}
 use Rattle.b67_index.proofs.top_item.Goals as goal
 

@@ -12,11 +12,11 @@ use Rattle.b67_stack.specs.declared.Cpu.{Cpu}
 use Rattle.b67_stack.specs.declared.Step.{Step}
 use Rattle.b67_stack.specs.declared.Step.TheVariants as step
 use Rattle.b67_layout.specs.Meets.{here}
-use Rattle.b67_cells.proofs.Put.{room}
+use Rattle.b67_exec_cells.proofs.Put.{room}
 use Rattle.b67_refer.specs.declared.ends.End.{End}
 use Rattle.b67_refer.specs.Ends.{EndMeets}
 use Rattle.b67_fetch.proofs.Values.{here_scene, here_shown, followed_stands}
-use Rattle.b67_cells.specs.Tops.{cells, GivesTwo}
+use Rattle.b67_exec_cells.specs.Tops.{cells, GivesTwo}
 use Rattle.b67_elements.specs.Elements.{HasElement}
 use Rattle.b67_fetch.specs.Fetches.{enters_at, EntersOrMeets}
 use Rattle.b67_store.specs.Stores.{ElementAt, stored}

@@ -1,5 +1,5 @@
 use Rattle.std.proofs.Common.{◌≡◌, List, ℕ, Option, subst}
-use Rattle.b67_text.specs.Asm as asm
+use Rattle.b67_model_text.specs.Asm as asm
 use Rattle.b67_asm.specs.Scope.{names_in}
 use Rattle.b67_asm.specs.Blocks.{IsAssembled, with_names}
 use Rattle.b67_asm.proofs.assembly.assemble_lines.Goals as goal

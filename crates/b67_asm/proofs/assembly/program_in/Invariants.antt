@@ -1,5 +1,5 @@
 use Rattle.std.proofs.Common.{◌≡◌, length, drop}
-use Rattle.b67_text.specs.Asm.{program_from}
+use Rattle.b67_model_text.specs.Asm.{program_from}
 use Rattle.b67_asm.specs.Scope.{names_in}
 use Rattle.b67_asm.specs.Blocks.{Grows, with_program}
 use Rattle.b67_asm.proofs.assembly.program_in.Given as goal

@@ -1,5 +1,5 @@
 use Rattle.std.proofs.Common.{◌≡◌, ◌≤◌, drop}
-use Rattle.b67_text.specs.Asm.{segment_count}
+use Rattle.b67_model_text.specs.Asm.{segment_count}
 use Rattle.b67_asm.proofs.assembly.segment_count.Given as goal
 
 abbrev pub invariant-loop-line : goal.invariant-loop-line

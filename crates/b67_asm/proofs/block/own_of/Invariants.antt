@@ -1,5 +1,5 @@
 use Rattle.std.proofs.Common.{◌≡◌, ◌≤◌, ◌-◌, ◌++◌, length, take, drop}
-use Rattle.b67_text.specs.Asm.{own}
+use Rattle.b67_model_text.specs.Asm.{own}
 use Rattle.b67_asm.proofs.block.own_of.Given as goal
 
 abbrev pub invariant-loop-count : goal.invariant-loop-count

@@ -1,5 +1,5 @@
 use Rattle.std.proofs.Common.{◌≡◌, [], length, List, ℕ, Option, ap, subst}
-use Rattle.b67_text.specs.Asm as asm
+use Rattle.b67_model_text.specs.Asm as asm
 use Rattle.b67_asm.specs.Names.{label_entries}
 use Rattle.b67_asm.specs.Scope.{names_in}
 use Rattle.b67_asm.specs.Putting.{CodePut, syllables_behind}

@@ -1,5 +1,5 @@
 use Rattle.std.proofs.Common.{◌≡◌, ◌++◌, ◌≤◌, ◌-◌, ◌*◌, ◌%◌, length}
-use Rattle.b67_text.specs.Encoding.{filling}
+use Rattle.b67_model_text.specs.Encoding.{filling}
 use Rattle.b67_asm.proofs.lay.fill.Given as goal
 
 abbrev pub invariant-loop-out : goal.invariant-loop-out

@@ -2,7 +2,7 @@ use Rattle.std.proofs.Common.{◌≡◌, ◌≤◌, ◌+◌, ◌*◌, ◌++◌, 
 use Rattle.std.specs.List.{AllByRecursion}
 use Rattle.b67_word.specs.Tagged.{contents}
 use Rattle.b67_codefile.specs.Spelling.{Bears}
-use Rattle.b67_text.specs.Encoding.{packed}
+use Rattle.b67_model_text.specs.Encoding.{packed}
 use Rattle.b67_asm.proofs.lay.pack.Given as goal
 
 abbrev pub invariant-loop-rest : goal.invariant-loop-rest

@@ -1,6 +1,6 @@
 use Rattle.std.proofs.Common.{◌≡◌, ◌∷◌, [], ◌++◌, is_some, None, sym, ap, ◌∙◌}
 use Rattle.indexmap.proofs.CallerLemmas.{insert_entry-new}
-use Rattle.b67_text.specs.Asm.{meaning}
+use Rattle.b67_model_text.specs.Asm.{meaning}
 use Rattle.b67_asm.specs.Names.{label_entries}
 use Rattle.b67_asm.proofs.NamesLaw.{lookup_seen, known_name, copied_some, name_behind, none_copied}
 use Rattle.b67_asm.proofs.names.define_at.Goals as goal

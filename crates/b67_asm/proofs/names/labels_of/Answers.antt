@@ -1,5 +1,5 @@
 use Rattle.std.proofs.Common.{arith}
-use Rattle.b67_text.specs.Asm.{labels}
+use Rattle.b67_model_text.specs.Asm.{labels}
 use Rattle.b67_asm.specs.Names.{label_entries}
 use Rattle.b67_asm.proofs.Taking.{labels_grown}
 use Rattle.b67_asm.proofs.names.labels_of.Goals as goal

@@ -1,6 +1,6 @@
 use Rattle.std.proofs.Common.{◌≡◌, ◌≤◌, ◌*◌, ℕ, List, drop}
 use Rattle.std.specs.Option.{option_or}
-use Rattle.b67_text.specs.Asm.{meaning, labels}
+use Rattle.b67_model_text.specs.Asm.{meaning, labels}
 use Rattle.b67_asm.specs.Names.{label_entries}
 use Rattle.b67_asm.proofs.names.labels_of.Given as goal
 

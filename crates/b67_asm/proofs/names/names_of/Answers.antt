@@ -1,5 +1,5 @@
 use Rattle.std.proofs.Common.{arith}
-use Rattle.b67_text.specs.Asm.{definitions}
+use Rattle.b67_model_text.specs.Asm.{definitions}
 use Rattle.b67_asm.specs.Names.{name_entries}
 use Rattle.b67_asm.proofs.Taking.{names_grown}
 use Rattle.b67_asm.proofs.names.names_of.Goals as goal

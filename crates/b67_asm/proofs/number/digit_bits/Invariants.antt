@@ -1,5 +1,5 @@
 use Rattle.std.proofs.Common.{◌≡◌, ◌<◌, ◌^◌, take}
-use Rattle.b67_text.specs.Statements.{digit_bits}
+use Rattle.b67_model_text.specs.Statements.{digit_bits}
 use Rattle.b67_asm.proofs.number.digit_bits.Given as goal
 
 abbrev pub invariant-loop-digit : goal.invariant-loop-digit

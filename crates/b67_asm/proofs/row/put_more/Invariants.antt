@@ -2,7 +2,7 @@ use Rattle.std.proofs.Common.{◌≡◌, ◌++◌, not, false, map, drop}
 use Rattle.std.specs.List.{list_any, AllByRecursion}
 use Rattle.b67_word.specs.Tagged.{contents}
 use Rattle.b67_codefile.specs.Spelling.{Bears}
-use Rattle.b67_text.specs.Asm.{is_word, value_in}
+use Rattle.b67_model_text.specs.Asm.{is_word, value_in}
 use Rattle.b67_asm.proofs.row.put_more.Given as goal
 
 abbrev pub invariant-loop-value : goal.invariant-loop-value

@@ -2,7 +2,7 @@ use Rattle.std.proofs.Common.{◌≡◌, ◌≤◌, [], length, drop}
 use Rattle.std.specs.List.{AllByRecursion}
 use Rattle.b67_word.specs.Tagged.{contents}
 use Rattle.b67_codefile.specs.Spelling.{Bears}
-use Rattle.b67_text.specs.Asm.{row_words}
+use Rattle.b67_model_text.specs.Asm.{row_words}
 use Rattle.b67_asm.specs.Scope.{names_in}
 use Rattle.b67_asm.specs.RowPutting.{words_behind}
 use Rattle.b67_asm.proofs.row.words_in.Given as goal

@@ -1,5 +1,5 @@
 use Rattle.std.proofs.Common.{◌≡◌, map, drop}
-use Rattle.b67_text.specs.Command.{row_of}
+use Rattle.b67_model_text.specs.Command.{row_of}
 use Rattle.b67_asm.specs.Rows.{keyed}
 use Rattle.b67_asm.proofs.statement.look_up.Given as goal
 

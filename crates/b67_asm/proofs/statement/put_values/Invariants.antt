@@ -1,6 +1,6 @@
 use Rattle.std.proofs.Common.{◌≡◌, ◌++◌, map, drop}
 use Rattle.std.specs.Option.{option_map}
-use Rattle.b67_text.specs.Statements.{all_bits}
+use Rattle.b67_model_text.specs.Statements.{all_bits}
 use Rattle.b67_asm.proofs.statement.put_values.Given as goal
 
 abbrev pub invariant-loop-word : goal.invariant-loop-word

@@ -1,9 +1,9 @@
 use Rattle.std.proofs.Common.{◌≡◌, ◌∙◌, Err, Ok, refl, sym, ap, length}
-use Rattle.b67_storage.specs.Machine.{retold}
-use Rattle.b67_storage.proofs.Devices.{still_tells}
-use Rattle.b67_task.specs.declared.tables.Machine.{Machine}
-use Rattle.b67_task.specs.declared.tables.Tasks.{Tasks}
-use Rattle.b67_intrinsics.specs.declared.ends.Stop.TheVariants.{BackingFault}
+use Rattle.b67_layout_storage.specs.Machine.{retold}
+use Rattle.b67_layout_storage.proofs.Devices.{still_tells}
+use Rattle.b67_task_tables.specs.declared.tables.Machine.{Machine}
+use Rattle.b67_task_tables.specs.declared.tables.Tasks.{Tasks}
+use Rattle.b67_mcp.specs.declared.ends.Stop.TheVariants.{BackingFault}
 use Rattle.b67_attempt.specs.declared.attempts.Attempt.TheVariants.{Made, Ends}
 use Rattle.b67_attempt.proofs.Composed.{made_once, ends_once, stops_once, no_device_fault, never, unchanged_over, told_is, goes_on_telling, stopped_attempt, runs_over, wants_some, tables_after_end, tables_after_want, tables_after_stop, tables_stay, tables_from, room_after_stop, no_room_asked, attempt_as, same_needs, still_told, other, in_order, code_there, then_coded}
 use Rattle.b67_attempt.proofs.attempting.attempt.Goals as goal

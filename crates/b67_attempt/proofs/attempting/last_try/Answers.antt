@@ -1,7 +1,7 @@
 use Rattle.std.proofs.Common.{◌≡◌, length}
 use Rattle.b67_word.specs.declared.faults.Fault.TheVariants.{InvalidOperator}
 use Rattle.b67_word.specs.declared.faults.Ending.TheVariants.{Faulted}
-use Rattle.b67_intrinsics.specs.declared.ends.Stop.TheVariants.{BackingFault}
+use Rattle.b67_mcp.specs.declared.ends.Stop.TheVariants.{BackingFault}
 use Rattle.b67_attempt.proofs.Composed.{made_once, ends_once, stops_once, gives_up_once, no_device_fault, never, tables_after_end, tables_after_want, tables_after_stop, room_after_stop}
 use Rattle.b67_attempt.proofs.attempting.last_try.Goals as goal
 

@@ -1,7 +1,7 @@
 use Rattle.std.proofs.Common.{◌≡◌, Err, length, refl, ap, arith}
 use Rattle.b67_order_weaker.proofs.Sessions.{other_numbers_keep_order}
 use Rattle.b67_backing.specs.declared.refusals.SpaceFault.TheVariants.{NoCore}
-use Rattle.b67_needs.specs.Needing.{need_with}
+use Rattle.b67_task_need.specs.Needing.{need_with}
 use Rattle.b67_attempt.proofs.Stops.{stopped_so}
 use Rattle.b67_attempt.proofs.bringing.bring_wanted.Goals as goal
 

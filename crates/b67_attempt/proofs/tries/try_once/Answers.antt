@@ -4,8 +4,8 @@ use Rattle.b67_stack.specs.declared.Step.TheVariants as answers
 use Rattle.b67_stack.specs.Stands.{Storage}
 use Rattle.b67_layout.specs.Plan.{Plan}
 use Rattle.b67_code.specs.Running.{code_area}
-use Rattle.b67_task.specs.declared.tables.Machine.{Machine}
-use Rattle.b67_task.specs.Tables.{MachineStands}
+use Rattle.b67_task_tables.specs.declared.tables.Machine.{Machine}
+use Rattle.b67_task_tables.specs.Tables.{MachineStands}
 use Rattle.b67_attempt.specs.Tries.{TryFits}
 use Rattle.b67_attempt.proofs.Trying.{wants_array, was_made, was_built, was_fault, was_ended, was_call, was_absent, called_made, called_so, stops_so}
 use Rattle.b67_attempt.proofs.Fits.{was_operator, fault_touches, leaves_touches, made_touches, operator_fits, call_fits, fault_fits, stop_fits}

@@ -4,7 +4,7 @@ use Rattle.b67_model.specs.Words.{Operand}
 use Rattle.b67_stack.specs.declared.Cpu.{Cpu}
 use Rattle.b67_layout.specs.Meets.{with_job, IsInStack}
 use Rattle.b67_layout.specs.Session.{SessionStands}
-use Rattle.b67_mcp.specs.Calls.{job_cut}
+use Rattle.b67_mcp_calls.specs.Calls.{job_cut}
 use Rattle.b67_calls.specs.Answered.{job_answered}
 use Rattle.b67_calls.proofs.Pushed.{room}
 use Rattle.b67_calls.proofs.Answering.{task_cut, member_cut, runs_cut, higher, changed, stands_answered}

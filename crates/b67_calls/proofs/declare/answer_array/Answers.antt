@@ -3,7 +3,7 @@ use Rattle.std.specs.List.{slice_get}
 use Rattle.b67_stack.specs.declared.Cpu.{Cpu}
 use Rattle.b67_layout.specs.Meets.{with_job, IsInStack}
 use Rattle.b67_layout.specs.Session.{SessionStands}
-use Rattle.b67_mcp.specs.Calls.{job_cut}
+use Rattle.b67_mcp_calls.specs.Calls.{job_cut}
 use Rattle.b67_calls.specs.Declared.{job_declared, with_home, without}
 use Rattle.b67_calls.proofs.Pushed.{room}
 use Rattle.b67_calls.proofs.Answering.{task_cut, member_cut, runs_cut, higher, changed}

@@ -3,7 +3,7 @@ use Rattle.std.specs.Prelude.{IfOk}
 use Rattle.std.specs.Result.{is_ok}
 use Rattle.b67_word.specs.declared.faults.Fault.{Fault}
 use Rattle.b67_layout.proofs.Fresh.{running_in_order}
-use Rattle.b67_mcp.proofs.Prints.{no_fault}
+use Rattle.b67_mcp_calls.proofs.Prints.{no_fault}
 use Rattle.b67_calls.proofs.Lengths.{not_one, length_is, decided, decided_critical}
 use Rattle.b67_calls.proofs.declare.array_length.Goals.{else-is_ok-via-then-is_ok+else-is_critical, else-is_ok-via-else-is_ok}
 use Rattle.b67_calls.proofs.declare.array_length.Goals as goal

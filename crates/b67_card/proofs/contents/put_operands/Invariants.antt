@@ -1,6 +1,6 @@
 use Rattle.std.proofs.Common.{◌≡◌, ◌++◌, map, drop}
 use Rattle.std.specs.Option.{option_map}
-use Rattle.b67_text.specs.Placing.{operands_in}
+use Rattle.b67_model_text.specs.Placing.{operands_in}
 use Rattle.b67_card.proofs.contents.put_operands.Given as goal
 
 abbrev pub invariant-loop-word : goal.invariant-loop-word

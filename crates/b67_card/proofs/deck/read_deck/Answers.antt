@@ -1,5 +1,5 @@
 use Rattle.std.proofs.Common.{◌≡◌, ℕ, List, Err, refl, sym, subst}
-use Rattle.b67_text.specs.Deck.{Refusal, within_limit, deck_of}
+use Rattle.b67_model_text.specs.Deck.{Refusal, within_limit, deck_of}
 use Rattle.b67_card.specs.Reading.{IsRead}
 use Rattle.b67_card.specs.Meaning.{IsMeaning}
 use Rattle.b67_card.specs.declared.fault.DeckFault.{DeckFault}

@@ -1,6 +1,6 @@
 use Rattle.std.proofs.Common.{◌≡◌, ◌≤◌, ◌+◌, List, [], length}
-use Rattle.b67_text.specs.Cards.{cards}
-use Rattle.b67_text.specs.Deck.{Said, sayings}
+use Rattle.b67_model_text.specs.Cards.{cards}
+use Rattle.b67_model_text.specs.Deck.{Said, sayings}
 use Rattle.b67_card.specs.Reader.{Knows}
 use Rattle.b67_card.proofs.Lines.{cards_from}
 use Rattle.b67_card.proofs.deck.read_text.Given as goal

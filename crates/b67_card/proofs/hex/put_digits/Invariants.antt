@@ -1,5 +1,5 @@
 use Rattle.std.proofs.Common.{◌≡◌, ◌++◌, length}
-use Rattle.b67_text.specs.Hex.{digit_bytes}
+use Rattle.b67_model_text.specs.Hex.{digit_bytes}
 use Rattle.b67_card.proofs.hex.put_digits.Given as goal
 
 abbrev pub invariant-loop-rest : goal.invariant-loop-rest

@@ -1,6 +1,6 @@
 use Rattle.std.proofs.Common.{◌≡◌, ◌≤◌, ◌+◌, ◌++◌, length}
-use Rattle.b67_text.specs.Cards.{cards}
-use Rattle.b67_text.specs.Deck.{all_plain}
+use Rattle.b67_model_text.specs.Cards.{cards}
+use Rattle.b67_model_text.specs.Deck.{all_plain}
 use Rattle.b67_card.proofs.Lines.{cards_from}
 use Rattle.b67_card.proofs.plain.plain_cards.Given as goal
 

@@ -1,5 +1,5 @@
 use Rattle.std.proofs.Common.{◌≡◌, ◌++◌, take}
-use Rattle.b67_text.specs.Hex.{hex_text}
+use Rattle.b67_model_text.specs.Hex.{hex_text}
 use Rattle.b67_commands.proofs.hex.put_digits.Given as goal
 
 abbrev pub invariant-loop-byte : goal.invariant-loop-byte

@@ -4,8 +4,8 @@ use Rattle.std.specs.Prelude.{List}
 use Rattle.b67_codefile.specs.declared.file.Codefile.{Codefile}
 use Rattle.b67_codefile.specs.Meaning.{program_of}
 use Rattle.b67_uncalled.specs.Uncalled.{uses_built}
-use Rattle.b67_open.specs.Decks.{IsLoaded}
-use Rattle.b67_open.specs.Opens.{IsOpened}
+use Rattle.b67_session_open.specs.Decks.{IsLoaded}
+use Rattle.b67_session_open.specs.Opens.{IsOpened}
 use Rattle.b67_deck.specs.Device.{device_of}
 use Rattle.b67_deck.specs.Runs.{RunEnds}
 use Rattle.b67_deck.proofs.Opened.{states_in_order}

@@ -1,6 +1,6 @@
 use Rattle.std.proofs.Common.{List, ℕ, subst}
 use Rattle.b67_io.specs.Line.{ended}
-use Rattle.b67_lines.specs.Ends.{Ends}
+use Rattle.b67_session_lines.specs.Ends.{Ends}
 use Rattle.b67_deck.proofs.runs.say_backing_fault.Goals as goal
 
 pub returns : goal.returns

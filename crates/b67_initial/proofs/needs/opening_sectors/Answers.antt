@@ -1,7 +1,7 @@
 use Rattle.std.proofs.Common.{◌≡◌, map, ap, ◌∙◌, arith}
 use Rattle.b67_codefile.specs.Meaning.{program_of}
 use Rattle.b67_model.specs.Lists.{total}
-use Rattle.b67_install.specs.Things.{sectors_of_program}
+use Rattle.b67_load.specs.Things.{sectors_of_program}
 use Rattle.b67_initial.proofs.Heads.{programs_end}
 use Rattle.b67_initial.proofs.Sums.{sectors_is}
 use Rattle.b67_initial.proofs.needs.opening_sectors.Goals as goal

@@ -1,6 +1,6 @@
 use Rattle.std.proofs.Common.{List, ℕ, subst}
 use Rattle.b67_io.specs.Line.{ended}
-use Rattle.b67_lines.specs.Ends.{Ends}
+use Rattle.b67_session_lines.specs.Ends.{Ends}
 use Rattle.b67_job.proofs.top.say_reading_fault.Goals as goal
 
 pub returns : goal.returns

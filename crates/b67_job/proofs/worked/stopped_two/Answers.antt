@@ -1,5 +1,5 @@
 use Rattle.std.proofs.Common.{ℕ, length, ◌+◌, ◌≡◌}
-use Rattle.b67_admit.specs.Admitting.{Prepared}
+use Rattle.b67_job_admit.specs.Admitting.{Prepared}
 use Rattle.b67_job.proofs.Goes.{stopped_if, counted_if}
 use Rattle.b67_job.proofs.worked.stopped_two.Goals as goal
 

@@ -1,9 +1,9 @@
 use Rattle.std.proofs.Common.{◌≡◌, ◌≢◌, ℕ, ◌≤◌, List, Option, Some, None, refl, sym, ◌∙◌, ap, arith, ⊎_elim, subst}
 use Rattle.b67_stack.specs.declared.Cpu.{Cpu}
-use Rattle.b67_storage.proofs.Devices.{Served-none, Served-then, still_tells}
+use Rattle.b67_layout_storage.proofs.Devices.{Served-none, Served-then, still_tells}
 use Rattle.std.proofs.lemmas.Option.{none-some}
 use Rattle.b67_area.proofs.Laws.{area_inside}
-use Rattle.b67_storage.proofs.Below.{Stayed-none, Stayed-then}
+use Rattle.b67_layout_storage.proofs.Below.{Stayed-none, Stayed-then}
 use Rattle.b67_overlay.specs.Overlaid.{overlaid, retelling}
 use Rattle.b67_overlay.specs.Sheds.{Remains}
 use Rattle.b67_overlay.proofs.Shedding.{Sheds-none, Sheds-then, Sheds-retelling, Sheds-overlaid, here, directory_here, thing_here, small_here, after_here, falls_here, gone_here, first_here, short_by}

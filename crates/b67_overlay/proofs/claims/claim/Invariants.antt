@@ -1,7 +1,7 @@
 use Rattle.std.proofs.Common.{◌≡◌, length}
 use Rattle.b67_stack.specs.Picture.{Picture}
 use Rattle.b67_stack.specs.Stands.{Storage}
-use Rattle.b67_storage.specs.Machine.{MachineStands, Served, Stayed}
+use Rattle.b67_layout_storage.specs.Machine.{MachineStands, Served, Stayed}
 use Rattle.b67_overlay.specs.Sheds.{Sheds, Remains}
 use Rattle.b67_overlay.proofs.Visits.{left_of}
 use Rattle.b67_overlay.proofs.claims.claim.Given as goal

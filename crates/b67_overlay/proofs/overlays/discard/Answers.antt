@@ -4,7 +4,7 @@ use Rattle.b67_area.specs.declared.Info.{Info}
 use Rattle.b67_area.specs.Spans.{area_at}
 use Rattle.b67_area.specs.Directory.{IsDirectory}
 use Rattle.b67_stack.specs.Stands.{Stands, info_of}
-use Rattle.b67_storage.specs.Machine.{MachineStands}
+use Rattle.b67_layout_storage.specs.Machine.{MachineStands}
 use Rattle.b67_overlay.specs.Overlaid.{overlaid, dropped, IsOut}
 use Rattle.b67_overlay.proofs.Sectors.{about, out_clean}
 use Rattle.b67_ctl.specs.declared.registers.Regs.{Regs}

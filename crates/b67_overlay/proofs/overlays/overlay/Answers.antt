@@ -11,7 +11,7 @@ use Rattle.b67_backing.specs.Shelf.{IsShelf, HasChain as ChainIs}
 use Rattle.b67_backing.specs.Held.{sectors_for, Stores, SameBut, Changes}
 use Rattle.b67_stack.specs.Picture.{words_of, tag_of}
 use Rattle.b67_stack.specs.Stands.{Storage, Stands, HasChain, info_of}
-use Rattle.b67_storage.specs.Machine.{MachineStands, retold}
+use Rattle.b67_layout_storage.specs.Machine.{MachineStands, retold}
 use Rattle.std.proofs.lemmas.List.{length-map}
 use Rattle.b67_overlay.specs.Overlaid.{chain_out, shelf_out, sectors_out, overlaid, dropped, IsOut}
 use Rattle.b67_overlay.proofs.Sectors.{about, kept_chain, out_written, Stands-retold, range_up}

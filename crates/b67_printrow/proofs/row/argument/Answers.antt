@@ -1,7 +1,7 @@
 use Rattle.std.proofs.Common.{sym, ◌∙◌}
 use Rattle.b67_word.specs.declared.faults.Fault.TheVariants.{InvalidOperand}
 use Rattle.b67_fetch.proofs.Values.{top_followed}
-use Rattle.b67_mcp.proofs.Prints.{no_fault}
+use Rattle.b67_mcp_calls.proofs.Prints.{no_fault}
 use Rattle.b67_printrow.proofs.Arguments.{not_one, argument_meets, misses_not_one, argument_misses}
 use Rattle.b67_printrow.proofs.row.argument.Goals as goal
 

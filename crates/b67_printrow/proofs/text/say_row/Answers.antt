@@ -2,7 +2,7 @@ use Rattle.std.proofs.Common.{◌≡◌, ℤ, List, [], ◌∷◌, ◌++◌, len
 use Rattle.std.proofs.lemmas.Int.{to_z-of_z}
 use Rattle.std.proofs.lemmas.Option.{same_Some}
 use Rattle.b67_io.specs.Line.{ended}
-use Rattle.b67_lines.specs.Parts.{TookMore}
+use Rattle.b67_session_lines.specs.Parts.{TookMore}
 use Rattle.b67_model.specs.Lines.{task_name, row_text}
 use Rattle.b67_printrow.specs.Texts.{still, IsPrinting}
 use Rattle.b67_printrow.proofs.Values.{splits, none_behind}

@@ -1,7 +1,7 @@
 use Rattle.std.proofs.Common.{◌∙◌, Bool, sym, ap, arith}
 use Rattle.std.specs.Prelude.{◌&&◌}
 use Rattle.b67_word.specs.Tagged.{contents}
-use Rattle.b67_load.proofs.Operator.{operator_at-is}
+use Rattle.b67_load_verify.proofs.Operator.{operator_at-is}
 use Rattle.b67_uncalled.specs.Uncalled.{entries_use_built}
 use Rattle.b67_served.proofs.Places.{listing_from, listing-step, listing-err, operator-behind}
 use Rattle.b67_served.proofs.program.code_uses_built.Goals as goal

@@ -1,6 +1,6 @@
 use Rattle.std.proofs.Common.{List, ℕ, [], refl, arith, subst}
 use Rattle.b67_io.specs.Line.{ended}
-use Rattle.b67_lines.specs.Parts.{TookRest, TookMore}
+use Rattle.b67_session_lines.specs.Parts.{TookRest, TookMore}
 use Rattle.b67_session.proofs.Printing.{line_rest, line_more}
 use Rattle.b67_session.proofs.ends.put_ending.Goals as goal
 

@@ -1,8 +1,8 @@
 use Rattle.std.proofs.Common.{◌≢◌, ℕ, List, Option, None, Ok, Err, refl, sym, ◌∙◌, subst, arith, ◌≡◌, ◌+◌, length}
-use Rattle.b67_storage.specs.Machine.{Says, retold}
+use Rattle.b67_layout_storage.specs.Machine.{Says, retold}
 use Rattle.b67_attempt.specs.Brought.{WantsNothing}
 use Rattle.b67_overlay.proofs.Chains.{retold-same}
-use Rattle.b67_storage.proofs.Devices.{Served-none, Served-then}
+use Rattle.b67_layout_storage.proofs.Devices.{Served-none, Served-then}
 use Rattle.b67_session.specs.declared.ends.StepEnd.TheVariants as ends
 use Rattle.b67_session.specs.Steps.{Steps}
 use Rattle.b67_session.proofs.Going.{Going, going-begins, going-lives, going-more, going-steps, going-over, going-rests, going-stops, begun_quiet}

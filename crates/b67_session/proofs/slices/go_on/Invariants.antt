@@ -1,7 +1,7 @@
 use Rattle.std.proofs.Common.{◌≡◌, ◌≢◌, ◌≤◌, ℕ, List, Option, None, length}
 use Rattle.b67_model.specs.State.{Task, Member}
 use Rattle.b67_model.specs.Schedule.{Session}
-use Rattle.b67_storage.specs.Machine.{Says, Served, retold}
+use Rattle.b67_layout_storage.specs.Machine.{Says, Served, retold}
 use Rattle.b67_attempt.specs.Passed.{AreCountable}
 use Rattle.b67_attempt.specs.Brought.{WantsNothing}
 use Rattle.b67_session.specs.Slices.{IsLone, StepsFit}

@@ -1,6 +1,6 @@
 use Rattle.std.proofs.Common.{◌≢◌, None, Err, inl, inr, refl, ap}
-use Rattle.b67_storage.specs.Machine.{retold}
-use Rattle.b67_storage.proofs.Devices.{Served-none}
+use Rattle.b67_layout_storage.specs.Machine.{retold}
+use Rattle.b67_layout_storage.proofs.Devices.{Served-none}
 use Rattle.b67_attempt.specs.Stops.{Stop}
 use Rattle.b67_session.proofs.Resuming.{open_lives, open_one, lone_not, resumes_whole, resumes_more, stops_printing}
 use Rattle.b67_session.proofs.Limits.{limited_not}

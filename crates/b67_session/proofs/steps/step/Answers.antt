@@ -1,6 +1,6 @@
 use Rattle.std.proofs.Common.{length, Ok, Err, sym, ap, ◌∙◌, subst, inl, inr}
-use Rattle.b67_storage.specs.Machine.{retold}
-use Rattle.b67_task.specs.declared.tables.Tasks.{Tasks}
+use Rattle.b67_layout_storage.specs.Machine.{retold}
+use Rattle.b67_task_tables.specs.declared.tables.Tasks.{Tasks}
 use Rattle.b67_attempt.specs.Passed.{AreCountable}
 use Rattle.b67_attempt.specs.Stops.{Stop}
 use Rattle.b67_attempt.specs.declared.attempts.Attempt.TheVariants as attempts

@@ -1,8 +1,8 @@
 use Rattle.std.proofs.Common.{◌∙◌, ℕ, sym, subst, map}
 use Rattle.b67_layout.specs.Session.{SessionStands}
 use Rattle.b67_layout.specs.Rows.{TablesShow}
-use Rattle.b67_switch.specs.Turns.{with_running}
-use Rattle.b67_task.specs.Tables.{task_row, job_row, counts_of}
+use Rattle.b67_task_switch.specs.Turns.{with_running}
+use Rattle.b67_task_tables.specs.Tables.{task_row, job_row, counts_of}
 use Rattle.b67_turn.proofs.Lists.{there}
 use Rattle.b67_turn.proofs.Turns.{rests_is, turn_out, slot_same, inside_same, in_use_again}
 use Rattle.b67_turn.proofs.turning.switch_to.Goals as goal

@@ -1,5 +1,5 @@
 use Rattle.std.proofs.Common.{ap, arith}
-use Rattle.b67_task.specs.declared.tables.TaskRow.{TaskRow}
+use Rattle.b67_task_tables.specs.declared.tables.TaskRow.{TaskRow}
 use Rattle.b67_turn.proofs.Lists.{there}
 use Rattle.b67_turn.proofs.Turns.{turn_known, seen_row, seen_one, seen_inside, seen_fits, seen_turn}
 use Rattle.b67_turn.proofs.turning.turn_of.Goals as goal

@@ -1,6 +1,6 @@
 use Rattle.std.proofs.Common.{map, refl, subst, ◌∙◌}
-use Rattle.b67_text.specs.declared.deck.Stand.{Stand}
-use Rattle.b67_text.specs.Deck.{command_in}
+use Rattle.b67_model_text.specs.declared.deck.Stand.{Stand}
+use Rattle.b67_model_text.specs.Deck.{command_in}
 use Rattle.b67_card.specs.Said.{command_of}
 use Rattle.b67_card.specs.Contents.{Told, jobs_told}
 use Rattle.b67_card.proofs.JobsLaw.{front_of_none}

@@ -1,7 +1,7 @@
 use Rattle.std.proofs.Common.{◌≡◌, ◌∷◌, ◌++◌, [], ap, sym, ◌∙◌, rules, arith}
 use Rattle.std.specs.List.{filter_map}
-use Rattle.b67_text.specs.Placing as deck
-use Rattle.b67_text.specs.declared.deck.Stand.TheVariants.{Front}
+use Rattle.b67_model_text.specs.Placing as deck
+use Rattle.b67_model_text.specs.declared.deck.Stand.TheVariants.{Front}
 use Rattle.b67_card.proofs.Switching.{too_low, too_many, well_placed, above_is, count_is, reverse-cons}
 use Rattle.b67_card.proofs.shape.Shape.switch.Goals as goal
 

@@ -1,7 +1,0 @@
-pub mod Others
-pub mod Seen
-pub mod Again
-pub mod Wants
-pub mod Ends
-pub mod Shortage
-pub mod Refusals

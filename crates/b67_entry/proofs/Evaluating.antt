@@ -1,0 +1,193 @@
+-- The word that is returned is evaluated in the state without the frame.
+use Rattle.std.proofs.Common.{◌≡◌, ◌≢◌, ℕ, ◌<◌, List, [], ◌∷◌, ◌++◌, length, Option, Some, None, Ok, Err, refl, sym, ◌∙◌, ap, arith, true, not, inl, inr, ⊎_elim, subst, slice_index}
+use Rattle.std.specs.Prelude.{◌==◌}
+use Rattle.std.specs.List.{slice_get}
+use Rattle.std.proofs.lemmas.Bool.{true≢false, le-leb}
+use Rattle.std.proofs.lemmas.Bool.Decides.{eqb_tells}
+use Rattle.std.proofs.lemmas.Option.{same_Some, slice_get_within}
+use Rattle.b67_word.specs.Tagged.{Tagged, word}
+use Rattle.b67_word.specs.declared.couples.Place.{Place}
+use Rattle.b67_word.specs.declared.faults.Fault.{Fault}
+use Rattle.b67_word.specs.declared.faults.Fault.TheVariants.{InvalidOperand}
+use Rattle.b67_ctl.specs.declared.registers.Regs.{Regs}
+use Rattle.b67_model.specs.Answers.{Answer, ◌>>=◌}
+use Rattle.b67_model.specs.Words as Words
+use Rattle.b67_model.specs.Words.{Word, Operand, Name, Ref, Row, Element, Original, Proc, Intrinsic}
+use Rattle.b67_model.specs.State.{Ready, Frame, Array, Task, Job, Here, Member, all_frames, mcp, height, with_task}
+use Rattle.b67_model.specs.Arrays.{element}
+use Rattle.b67_model.specs.Chase as Chase
+use Rattle.b67_model.specs.Chase.{AtCell, AtElement, AtArray, AtProc, AtIntrinsic, follow}
+use Rattle.b67_model.specs.Entry.{evaluates, returned}
+use Rattle.b67_model.specs.Steps.{Done, Goes, pushes, without_arrays_of}
+use Rattle.b67_model.specs.Schedule.{Session}
+use Rattle.b67_model.specs.InOrder.{IsInOrderButPlaces}
+use Rattle.b67_law_order.proofs.Members.{change_twice, has_filter}
+use Rattle.b67_stack.specs.declared.Cpu.{Cpu}
+use Rattle.b67_stack.specs.declared.What.TheVariants as what
+use Rattle.b67_stack.specs.Stands.{Storage}
+use Rattle.b67_layout.specs.Plan.{Plan}
+use Rattle.b67_layout.specs.Session.{IsRunning, SessionStands}
+use Rattle.b67_layout.specs.Meets.{IsMade, IsAbsent, IsPresent, area_held, here}
+use Rattle.b67_layout.proofs.Fresh.{running_in_order}
+use Rattle.b67_refer.specs.declared.ends.End.TheVariants as end
+use Rattle.b67_refer.specs.Scene.{Scene, IsShown}
+use Rattle.b67_refer.specs.Cells.{IsCellAt}
+use Rattle.b67_refer.specs.Ends.{IsArrayOf, IsProcAt, EndMeets}
+use Rattle.b67_elements.specs.Elements.{HasElement}
+use Rattle.b67_layout_leave.proofs.Nowhere.{array_stays}
+use Rattle.b67_leave.specs.Left.{Returns, here_left}
+use Rattle.b67_returning.specs.Returned.{with_word}
+use Rattle.b67_returning.specs.Returned.{ReturnsWord}
+use Rattle.b67_returning.proofs.Heres.{flat_same, follow_same}
+use Rattle.b67_leave.proofs.Leaving.{member_at, task_left, regs_left, scene_left}
+use Rattle.b67_entry.proofs.Putting.{height_left}
+use Rattle.b67_returning.proofs.Replacing.{frames_with, job_with, Puts, puts_operand, stands_with, changed_with}
+use Rattle.b67_returning.proofs.Retns.{IsOperand}
+
+-- a word that isn't an operand is followed
+follows : (h : Here) (v : Word) → (IsOperand v → ⊥) → returned h v true ≡ (follow h v >>= evaluates h)
+follows h (Operand bits) n = absurd (n tt)
+follows h (Name couple) n = refl
+follows h (Ref f offset) n = refl
+follows h (Row a) n = refl
+follows h (Element a index) n = refl
+follows h (Original a) n = refl
+follows h (Proc segment level place) n = refl
+follows h (Intrinsic number) n = refl
+follows h (Words.Segment number) n = refl
+
+-- what was found tells the end
+module _ {core : List Tagged} {r : Regs} (c : Scene core r) (q : Place) where
+  pub fault_end : (f : Fault) (a : Answer Chase.End) → EndMeets c q (Err f) a → a ≡ Err f
+  fault_end f (Ok e) k = absurd k
+  fault_end f (Err g) k = ap Err (sym k)
+
+  pub cell_end : (at : ℕ) (a : Answer Chase.End) → EndMeets c q (Ok (end.Cell at)) a → (f : ℕ) × (offset : ℕ) × (bits : ℕ) × (a ≡ Ok (AtCell f offset bits)) × IsCellAt c q at f offset (Operand bits)
+  cell_end at (Ok (AtCell f offset bits)) k = (f, offset, bits, refl, k)
+  cell_end at (Ok (AtElement n i)) k = absurd k
+  cell_end at (Ok (AtArray n)) k = absurd k
+  cell_end at (Ok (AtProc f segment level place)) k = absurd k
+  cell_end at (Ok (AtIntrinsic n)) k = absurd k
+  cell_end at (Err g) k = absurd k
+
+  pub element_end : (original index : ℕ) (a : Answer Chase.End) → EndMeets c q (Ok (end.Element original index)) a → (n : ℕ) × (a ≡ Ok (AtElement n index)) × IsArrayOf c q original n index
+  element_end original index (Ok (AtElement n i)) k = (n, ap (λ (z : ℕ). Ok (AtElement n z)) (sym k.0), subst (λ (z : ℕ). IsArrayOf c q original n z) (sym k.0) k.1)
+  element_end original index (Ok (AtCell f offset bits)) k = absurd k
+  element_end original index (Ok (AtArray n)) k = absurd k
+  element_end original index (Ok (AtProc f segment level place)) k = absurd k
+  element_end original index (Ok (AtIntrinsic n)) k = absurd k
+  element_end original index (Err g) k = absurd k
+
+  pub proc_end : (at : ℕ) (a : Answer Chase.End) → EndMeets c q (Ok (end.Proc at)) a → (f : ℕ) × (segment : ℕ) × (level : ℕ) × (place : Place) × (a ≡ Ok (AtProc f segment level place)) × IsProcAt c q at f segment level place
+  proc_end at (Ok (AtProc f segment level place)) k = (f, segment, level, place, refl, k)
+  proc_end at (Ok (AtCell f offset bits)) k = absurd k
+  proc_end at (Ok (AtElement n i)) k = absurd k
+  proc_end at (Ok (AtArray n)) k = absurd k
+  proc_end at (Ok (AtIntrinsic n)) k = absurd k
+  proc_end at (Err g) k = absurd k
+
+  array_end : (h : Here) (original : ℕ) (a : Answer Chase.End) → EndMeets c q (Ok (end.Array original)) a → (a >>= evaluates h) ≡ Err InvalidOperand
+  array_end h original (Ok (AtArray n)) k = refl
+  array_end h original (Ok (AtCell f offset bits)) k = absurd k
+  array_end h original (Ok (AtElement n i)) k = absurd k
+  array_end h original (Ok (AtProc f segment level place)) k = absurd k
+  array_end h original (Ok (AtIntrinsic n)) k = absurd k
+  array_end h original (Err g) k = absurd k
+
+  intrinsic_end : (h : Here) (number : ℕ) (a : Answer Chase.End) → EndMeets c q (Ok (end.Intrinsic number)) a → (a >>= evaluates h) ≡ Err InvalidOperand
+  intrinsic_end h number (Ok (AtIntrinsic n)) k = refl
+  intrinsic_end h number (Ok (AtCell f offset bits)) k = absurd k
+  intrinsic_end h number (Ok (AtElement n i)) k = absurd k
+  intrinsic_end h number (Ok (AtProc f segment level place)) k = absurd k
+  intrinsic_end h number (Ok (AtArray n)) k = absurd k
+  intrinsic_end h number (Err g) k = absurd k
+
+module _ (x : Storage) (old : Cpu) (plan : Plan) (s : Session) (m : Member) (t : Task) (o : IsInOrderButPlaces s) (h : SessionStands x old plan s) (runs : IsRunning plan s.jobs m t) (a : Returns m t) where
+  abbrev pub scene : Scene old.core (regs_left x old plan s m t o h runs a)
+  scene = scene_left x old plan s m t o h runs a
+
+  -- where references are followed
+  abbrev pub seen : Here
+  seen = here (member_at x old plan s m t o h runs a Ready) (task_left x old plan s m t o h runs a Ready) a.back.place
+
+  pub frames_same : all_frames (here_left m t a) ≡ all_frames seen
+  frames_same = ap (λ (fs : List Frame). fs ++ (m.setting.dictionary ∷ mcp ∷ [])) (flat_same t.number (here_left m t a).task (task_left x old plan s m t o h runs a Ready) m.course.job.tasks refl)
+
+  pub answer_is : (v : Word) → (IsOperand v → ⊥) → returned (here_left m t a) v true ≡ (follow seen v >>= evaluates (here_left m t a))
+  answer_is v n = follows (here_left m t a) v n ∙ ap (λ (e : Answer Chase.End). e >>= evaluates (here_left m t a)) (follow_same (here_left m t a) seen frames_same refl v)
+
+  -- a word that is pushed there
+  pushes_there : (u : Word) (touched : Option ℕ) → pushes (here_left m t a) u touched ≡ Ok (Goes (job_with x old plan s m t o h runs a (frames_with x old plan s m t o h runs a (u ∷ a.next.cells)) t.condition) [] touched)
+  pushes_there u touched =
+      let T : Task = (here_left m t a).task in
+      let fs = frames_with x old plan s m t o h runs a (u ∷ a.next.cells) in
+      let U : Task = record t { frames = fs; segment = a.back.segment; place = a.back.place } in
+      let twice : with_task (here_left m t a).job U ≡ with_task (without_arrays_of a.f.identity m.course.job) U = ap (λ (ts : List Task). record (without_arrays_of a.f.identity m.course.job) { tasks = ts }) (change_twice (λ (z : Task). z.number) t.number T U m.course.job.tasks refl) in
+      rw (le-leb (height fs) m.setting.stack_size (omega (arith, height_left x old plan s m t o h runs a))) (ap (λ (j : Job). Ok (Goes j [] touched)) twice)
+
+  pub put_made : (u : Word) (w : Tagged) → Puts x old plan s m t o h runs a u w → (touched : Option ℕ) → IsPresent x plan m.setting.number touched → (display : List ℕ) → IsShown scene display → (answer : Answer Done) → answer ≡ pushes (here_left m t a) u touched
+      → IsMade x plan s m old (with_word old (regs_left x old plan s m t o h runs a) display w) answer
+  put_made u w put touched present display shown answer is = record {
+    job = job_with x old plan s m t o h runs a (frames_with x old plan s m t o h runs a (u ∷ a.next.cells)) t.condition;
+    touched = touched;
+    is = is ∙ pushes_there u touched;
+    present = present;
+    stands = stands_with x old plan s m t o h runs a u w put display shown;
+    changed = λ i. ⊎_elim (λ z. inl z) (λ z. inr (inl z)) (changed_with x old plan s m t o h runs a u w put i);
+  }
+
+  module _ (v : Word) (w : Tagged) (b : ReturnsWord x plan m t old a v w) (not_operand : IsOperand v → ⊥) where
+    -- at the cell of an operand
+    module _ (at : ℕ) (k : EndMeets scene a.back.place (Ok (end.Cell at)) (follow seen v)) where
+      pub cell_inside : at < length old.core
+      cell_inside = let c = (cell_end scene a.back.place at (follow seen v) k).4 in slice_get_within old.core at c.word c.there
+
+      pub cell_made : (value : Tagged) (display : List ℕ) → slice_get old.core at ≡ Some value → IsShown scene display → IsMade x plan s m old (with_word old (regs_left x old plan s m t o h runs a) display value) (returned (here_left m t a) v true)
+      cell_made value display there shown =
+          let (f, offset, bits, is, c) = cell_end scene a.back.place at (follow seen v) k in
+          let same : value ≡ word 0 bits = same_Some value c.word (sym there ∙ c.there) ∙ c.stands.0.0 in
+          let Q : Tagged → Type 0 = λ z. IsMade x plan s m old (with_word old (regs_left x old plan s m t o h runs a) display z) (returned (here_left m t a) v true) in
+          subst Q (sym same) (put_made (Operand bits) (word 0 bits) (puts_operand x old plan s m t o h runs a bits) None tt display shown (returned (here_left m t a) v true)
+          (answer_is v not_operand ∙ ap (λ (e : Answer Chase.End). e >>= evaluates (here_left m t a)) is))
+
+    -- at an element of an array
+    module _ (original number index : ℕ) (is : follow seen v ≡ Ok (AtElement number index)) (q : IsArrayOf scene a.back.place original number index) where
+      -- the array, with its element
+      pub element_there : HasElement m.course.job number index
+      element_there = record { item = q.names.item; live = (has_filter (λ (z : Array). not (z.owner == a.f.identity)) m.course.job.arrays q.names.item q.names.live).0; named = q.names.named; inside = q.names.inside }
+
+      element_same : element (here_left m t a).job number index ≡ element m.course.job number index
+      element_same =
+          let live = has_filter (λ (z : Array). not (z.owner == a.f.identity)) m.course.job.arrays q.names.item q.names.live in
+          let apart : q.names.item.owner ≢ a.f.identity = λ e. elim (eqb_tells q.names.item.owner a.f.identity) [ inl z ↦ true≢false (sym live.1 ∙ ap not z.0) | inr z ↦ z.1 e ] in
+          let same = array_stays (here_left m t a).job m.course.job a.f.identity refl (running_in_order plan s m t o runs).0.tasks.names q.names.item live.0 apart in
+          ap (λ (n : ℕ). element (here_left m t a).job n index) (sym q.names.named) ∙ ap (λ (z : Array). slice_index z.numbers index) same ∙ ap (λ (n : ℕ). element m.course.job n index) q.names.named
+
+      element_answer : returned (here_left m t a) v true ≡ pushes (here_left m t a) (Operand (element m.course.job number index)) (Some number)
+      element_answer =
+          answer_is v not_operand ∙ ap (λ (z : Answer Chase.End). z >>= evaluates (here_left m t a)) is
+          ∙ ap (λ (z : ℕ). pushes (here_left m t a) (Operand z) (Some number)) element_same
+
+      pub element_made : (at : ℕ) (value : Tagged) (display : List ℕ) → area_held x plan m.setting.number number ≡ Some at → value ≡ word 0 (element m.course.job number index) → IsShown scene display
+          → IsMade x plan s m old (with_word old (regs_left x old plan s m t o h runs a) display value) (returned (here_left m t a) v true)
+      element_made at value display held same shown =
+          let Q : Tagged → Type 0 = λ z. IsMade x plan s m old (with_word old (regs_left x old plan s m t o h runs a) display z) (returned (here_left m t a) v true) in
+          subst Q (sym same) (put_made (Operand (element m.course.job number index)) (word 0 (element m.course.job number index)) (puts_operand x old plan s m t o h runs a (element m.course.job number index)) (Some number) (at, held) display shown (returned (here_left m t a) v true) element_answer)
+
+      pub element_absent : area_held x plan m.setting.number number ≡ None → IsAbsent x plan m (what.Array original) (returned (here_left m t a) v true)
+      element_absent none = record {
+        job = job_with x old plan s m t o h runs a (frames_with x old plan s m t o h runs a (Operand (element m.course.job number index) ∷ a.next.cells)) t.condition;
+        touched = number;
+        is = element_answer ∙ pushes_there (Operand (element m.course.job number index)) (Some number);
+        absent = none;
+        named = ap what.Array q.home;
+      }
+
+    pub array_refused : (original : ℕ) → EndMeets scene a.back.place (Ok (end.Array original)) (follow seen v) → returned (here_left m t a) v true ≡ Err InvalidOperand
+    array_refused original k = answer_is v not_operand ∙ array_end scene a.back.place (here_left m t a) original (follow seen v) k
+
+    pub intrinsic_refused : (number : ℕ) → EndMeets scene a.back.place (Ok (end.Intrinsic number)) (follow seen v) → returned (here_left m t a) v true ≡ Err InvalidOperand
+    intrinsic_refused number k = answer_is v not_operand ∙ intrinsic_end scene a.back.place (here_left m t a) number (follow seen v) k
+
+    pub fault_refused : (fault : Fault) → EndMeets scene a.back.place (Err fault) (follow seen v) → returned (here_left m t a) v true ≡ Err fault
+    fault_refused fault k = answer_is v not_operand ∙ ap (λ (z : Answer Chase.End). z >>= evaluates (here_left m t a)) (fault_end scene a.back.place fault (follow seen v) k)

@@ -1,0 +1,113 @@
+//! Operators on numbers and bits.
+
+ghost use Rattle.std.specs.Prelude.{◌≡◌};
+ghost use Rattle.b67_model.specs.Rows as rows;
+ghost use Rattle.b67_arith.specs.OnWords.{on_word, on_words};
+ghost use Rattle.b67_layout.specs.Meets.{here, Meets, RunsSome, ForEach};
+ghost use Rattle.b67_exec_operands.specs.Meanings.{of_one, of_two};
+
+use b67_arith::{
+    add, brst, bset, chsn, equl, greq, grtr, idiv, insr, isol, land, leqv, less, lnot, lor, lseq,
+    mult, neql, rdiv, same, subt,
+};
+use b67_exec_cells::{replace_cells, top_cell, two_cells};
+use b67_stack::{Cpu, Step};
+use b67_word::{Fault, Place, Word};
+
+/// An operator of two operands. Of INSR the highest bit and the width of its field.
+#[derive(Clone, Copy, Debug, PartialEq, Eq)]
+pub enum Binary {
+    Add,
+    Subt,
+    Mult,
+    Idiv,
+    Rdiv,
+    Less,
+    Greq,
+    Grtr,
+    Lseq,
+    Equl,
+    Neql,
+    Land,
+    Lor,
+    Leqv,
+    Same,
+    Insr(u8, u8),
+}
+
+/// An operator of one operand. Of BSET and BRST the bit, of ISOL the highest bit and the width of its field.
+#[derive(Clone, Copy, Debug, PartialEq, Eq)]
+pub enum Unary {
+    Chsn,
+    Lnot,
+    Bset(u8),
+    Brst(u8),
+    Isol(u8, u8),
+}
+
+fn compute(op: Binary, a: Word, b: Word) -> Result<Word, Fault>
+    ensures { result ≡ on_words (of_two op) a b }
+{
+    match op {
+        Binary::Add => add(a, b),
+        Binary::Subt => subt(a, b),
+        Binary::Mult => mult(a, b),
+        Binary::Idiv => idiv(a, b),
+        Binary::Rdiv => rdiv(a, b),
+        Binary::Less => less(a, b),
+        Binary::Greq => greq(a, b),
+        Binary::Grtr => grtr(a, b),
+        Binary::Lseq => lseq(a, b),
+        Binary::Equl => equl(a, b),
+        Binary::Neql => neql(a, b),
+        Binary::Land => land(a, b),
+        Binary::Lor => lor(a, b),
+        Binary::Leqv => leqv(a, b),
+        Binary::Same => same(a, b),
+        Binary::Insr(high, width) => insr(a, b, high, width),
+    }
+}
+
+fn change(op: Unary, a: Word) -> Result<Word, Fault>
+    ensures { result ≡ on_word (of_one op) a }
+{
+    match op {
+        Unary::Chsn => chsn(a),
+        Unary::Lnot => lnot(a),
+        Unary::Bset(n) => bset(a, n),
+        Unary::Brst(n) => brst(a, n),
+        Unary::Isol(high, width) => isol(a, high, width),
+    }
+}
+
+/// Puts what an operator makes of the two top cells in their place, and goes on at `next`. STACK UNDERFLOW where there
+/// are fewer, then the operator's faults.
+pub fn on_two(cpu: &mut Cpu, op: Binary, next: Place) -> Step
+    requires { RunsSome cpu.old }
+    ensures row { ForEach cpu.old (λ x plan s m t. Meets x plan s m result cpu.old cpu.new (rows.on_cells (rows.on_two (of_two op)) (here m t next))) }
+{
+    let (a, b) = match two_cells(cpu) {
+        Ok(words) => words,
+        Err(fault) => return Step::Fault(fault),
+    };
+    match compute(op, a, b) {
+        Ok(w) => replace_cells(cpu, 2, w, next),
+        Err(fault) => Step::Fault(fault),
+    }
+}
+
+/// Puts what an operator makes of the top cell in its place, and goes on at `next`. STACK UNDERFLOW where there is
+/// none, then the operator's faults.
+pub fn on_one(cpu: &mut Cpu, op: Unary, next: Place) -> Step
+    requires { RunsSome cpu.old }
+    ensures row { ForEach cpu.old (λ x plan s m t. Meets x plan s m result cpu.old cpu.new (rows.on_cells (rows.on_one (of_one op)) (here m t next))) }
+{
+    let a = match top_cell(cpu) {
+        Ok(word) => word,
+        Err(fault) => return Step::Fault(fault),
+    };
+    match change(op, a) {
+        Ok(w) => replace_cells(cpu, 1, w, next),
+        Err(fault) => Step::Fault(fault),
+    }
+}

@@ -1,0 +1,88 @@
+//! What jobs with several tasks or arrays print, and several jobs.
+
+ghost use Rattle.std.specs.Prelude.{◌≡◌, [], ◌∷◌, pos};
+ghost use Rattle.b67_word.specs.declared.faults.Fault.TheVariants.{CriticalBlock, Exponent};
+ghost use Rattle.b67_word.specs.declared.faults.Ending.TheVariants.{Deadlock, Ended, Faulted, Parent};
+ghost use Rattle.b67_model.specs.Steps.{Ends};
+ghost use Rattle.b67_model.specs.Run.{after, lines, live_tasks};
+ghost use Rattle.b67_law_examples.specs.Sessions.{alone, ends, faults, one_job, switch, two_jobs, value, with_stack, without_rows};
+ghost use Rattle.b67_law_examples.specs.Programs.{critical_block, critical_mark, eight, event, fifteen, leave, never_started, popped_cell, three_segments, two, two_tasks, wait_at_zero};
+
+/// Without a switch the parent stores first, and both additions count.
+pub fn two_tasks_share_a_cell()
+    ensures { lines 60 (alone two_tasks) ≡ ends 2 Ended ∷ value 1 (pos 2) ∷ ends 1 Ended ∷ [] }
+{}
+
+/// A switch between the parent's reading and its store makes the child's addition vanish.
+pub fn switch_loses_an_addition()
+    ensures { lines 60 (one_job (without_rows two_tasks) 512 1000000 [] (switch 7 2 ∷ [])) ≡ ends 2 Ended ∷ value 1 (pos 1) ∷ ends 1 Ended ∷ [] }
+{}
+
+/// The outer block may not end under a task that depends on it.
+pub fn critical_block_may_not_end()
+    ensures { lines 30 (alone critical_block) ≡ ends 2 Parent ∷ faults 1 CriticalBlock ∷ [] }
+{}
+
+/// A mark on which a task depends may not be cut, and nothing is printed.
+pub fn critical_mark_may_not_be_cut()
+    ensures { lines 30 (alone critical_mark) ≡ ends 2 Parent ∷ faults 1 CriticalBlock ∷ [] }
+{}
+
+/// Eight arrays and a child: 174 operators.
+pub fn eight_is_printed()
+    ensures printed { lines 200 (with_stack 256 eight) ≡ ends 2 Ended ∷ value 1 (pos 916) ∷ ends 1 Ended ∷ [] }
+    ensures made { (after 200 (with_stack 256 eight)).made ≡ 174 }
+    ensures halted { live_tasks (after 100 (with_stack 256 eight)).jobs ≡ 2 }
+{}
+
+/// An array of a left activation record is gone.
+pub fn leave_is_printed()
+    ensures { lines 200 (with_stack 256 leave) ≡ value 1 (pos 3) ∷ ends 1 Ended ∷ [] }
+{}
+
+/// An element of each of two arrays: 27 operators.
+pub fn two_is_printed()
+    ensures printed { lines 40 (with_stack 256 two) ≡ value 1 (pos 23) ∷ ends 1 Ended ∷ [] }
+    ensures made { (after 40 (with_stack 256 two)).made ≡ 27 }
+{}
+
+/// Two procedures of sixty operators that do nothing; after two operators the task lives.
+pub fn three_segments_run()
+    ensures printed { lines 200 (with_stack 64 three_segments) ≡ ends 1 Ended ∷ [] }
+    ensures halted { live_tasks (after 2 (with_stack 64 three_segments)).jobs ≡ 1 }
+{}
+
+/// A job without a ready task ends with DEADLOCK.
+pub fn waiting_alone_is_deadlock()
+    ensures { lines 20 (alone wait_at_zero) ≡ ends 1 Deadlock ∷ [] }
+{}
+
+/// STATUS of a task that was never started is 0.
+pub fn status_of_no_task_is_zero()
+    ensures { lines 20 (alone never_started) ≡ value 1 (pos 0) ∷ ends 1 Ended ∷ [] }
+{}
+
+/// A CAUSE makes the waiting task ready, and the cell is then 1.
+pub fn cause_wakes()
+    ensures { lines 60 (alone event) ≡ ends 2 Ended ∷ value 1 (pos 1) ∷ ends 1 Ended ∷ [] }
+{}
+
+/// A cell of another activation record isn't the waited one, though it takes its place in core.
+pub fn popped_cell_is_not_caused()
+    ensures { lines 100 (one_job (without_rows popped_cell) 512 1000000 [] (switch 9 2 ∷ [])) ≡ ends 2 Deadlock ∷ ends 1 Deadlock ∷ [] }
+{}
+
+/// PROCESS answers 0 where fifteen tasks live, and the children end in order.
+pub fn fifteen_tasks_live()
+    ensures { lines 200 (with_stack 64 fifteen) ≡ value 1 (pos 0) ∷ ends 2 Parent ∷ ends 3 Parent ∷ ends 4 Parent ∷ ends 5 Parent ∷ ends 6 Parent ∷ ends 7 Parent ∷ ends 8 Parent ∷ ends 9 Parent ∷ ends 10 Parent ∷ ends 11 Parent ∷ ends 12 Parent ∷ ends 13 Parent ∷ ends 14 Parent ∷ ends 15 Parent ∷ faults 1 CriticalBlock ∷ [] }
+{}
+
+/// Two jobs: the second runs when the first has ended.
+pub fn jobs_run_in_order()
+    ensures { lines 40 (two_jobs 1000) ≡ value 1 (pos 5) ∷ ends 1 Ended ∷ (2, 1, Ends (Faulted Exponent)) ∷ [] }
+{}
+
+/// With turns of one operator the shorter job ends first.
+pub fn jobs_take_turns()
+    ensures { lines 40 (two_jobs 1) ≡ (2, 1, Ends (Faulted Exponent)) ∷ value 1 (pos 5) ∷ ends 1 Ended ∷ [] }
+{}

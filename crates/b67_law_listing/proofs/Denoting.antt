@@ -1,0 +1,134 @@
+-- The operators that cards denote: their numbers are within their bits, and their lengths are known beforehand.
+use Rattle.std.proofs.Common.{◌≡◌, ℕ, zero, suc, ◌+◌, ◌-◌, ◌*◌, ◌/◌, ◌%◌, ◌^◌, ◌≤◌, ◌<◌, Bool, true, false, refl, sym, ◌∙◌, ap, subst, arith, cond, Option, Some, None, List, [], ◌∷◌, min}
+use Rattle.std.specs.Prelude.{nat_lt, nat_le, ◌&&◌}
+use Rattle.std.specs.Option.{option_map, option_and_then}
+use Rattle.std.specs.List.{AllByRecursion}
+use Rattle.std.proofs.lemmas.Bool.{and_parts, and_from, ltb-true, leb-true, lt-ltb}
+use Rattle.std.proofs.lemmas.Option.{same_Some, none-some}
+use Rattle.b67_word.specs.declared.couples.Couple.{Couple}
+use Rattle.b67_word.specs.Couples.{splits, bits_in, level_bits, fits_split, reversed_bits, couple_bits}
+use Rattle.b67_model.specs.declared.operators.Op.{Op}
+use Rattle.b67_model.specs.declared.operators.Op.TheVariants.{Mpcw}
+use Rattle.b67_model.specs.Encoding.{syllable_after}
+use Rattle.b67_model_text.specs.declared.assembly.Call as call
+use Rattle.b67_model_text.specs.declared.assembly.Call.TheVariants as calls
+use Rattle.b67_model_text.specs.declared.assembly.Branch as branch
+use Rattle.b67_model_text.specs.declared.assembly.Branch.TheVariants as branches
+use Rattle.b67_model_text.specs.declared.assembly.Sketch as sketch
+use Rattle.b67_model_text.specs.declared.assembly.Sketch.TheVariants.{Whole, OutOfRange, Couple as Coupled, Row as RowCoupled, Jump, Pcw}
+use Rattle.b67_model_text.specs.declared.assembly.Named as named
+use Rattle.b67_model_text.specs.declared.assembly.Named.TheVariants as means
+use Rattle.b67_model_text.specs.Asm.{Names, Scope, behind, is_in_range, pcw_in, row_in, called, branch_to, denoted}
+use Rattle.b67_law_listing.specs.Operators.{HasBits}
+
+pub mapped : {A B : Type 0} (f : A → B) (o : Option A) (b : B) → option_map f o ≡ Some b → (a : A) × (o ≡ Some a) × (f a ≡ b)
+mapped f None b e = absurd (none-some b e)
+mapped f (Some a) b e = (a, refl, same_Some (f a) b e)
+
+chained : {A B : Type 0} (f : A → Option B) (o : Option A) (b : B) → option_and_then f o ≡ Some b → (a : A) × (o ≡ Some a) × (f a ≡ Some b)
+chained f None b e = absurd (none-some b e)
+chained f (Some a) b e = (a, refl, e)
+
+-- couples have 14 bits
+bits_in_small : (rows : List (ℕ × ℕ)) (level : ℕ) → AllByRecursion (λ (row : ℕ × ℕ). row.1 ≤ 5) rows → bits_in rows level ≤ 5
+bits_in_small [] level h = omega arith
+bits_in_small (row ∷ rows) level h = by_test (bits_in_small rows level h.1) (nat_le level row.0)
+  where
+    by_test : bits_in rows level ≤ 5 → (b : Bool) → cond b row.1 (bits_in rows level) ≤ 5
+    by_test more true = h.0
+    by_test more false = more
+
+split_small : (level : ℕ) → level_bits level ≤ 5
+split_small level = bits_in_small splits level (omega arith, (omega arith, (omega arith, (omega arith, (omega arith, tt)))))
+
+reversed_small : (k level disp : ℕ) → k ≤ 5 → disp < 2 ^ (14 - k) → reversed_bits k level + disp < 2 ^ 14
+reversed_small zero level disp le lt = omega arith
+reversed_small (suc zero) level disp le lt = omega arith
+reversed_small (suc (suc zero)) level disp le lt = omega arith
+reversed_small (suc (suc (suc zero))) level disp le lt = omega arith
+reversed_small (suc (suc (suc (suc zero)))) level disp le lt = omega arith
+reversed_small (suc (suc (suc (suc (suc zero))))) level disp le lt = omega arith
+reversed_small (suc (suc (suc (suc (suc (suc k)))))) level disp le lt = absurd (omega arith)
+
+couple_small : (running : ℕ) (c : Couple) (bits : ℕ) → couple_bits running c ≡ Some bits → bits < 2 ^ 14
+couple_small running c bits e = by_test (fits_split running c) refl e
+  where
+    by_test : (b : Bool) → fits_split running c ≡ b → cond b (Some (reversed_bits (level_bits running) c.level + c.disp)) None ≡ Some bits → bits < 2 ^ 14
+    by_test true t e =
+        let both = and_parts (nat_lt c.level (2 ^ level_bits running)) (nat_lt c.disp (2 ^ (14 - level_bits running))) t in
+        subst (λ (n : ℕ). n < 2 ^ 14) (same_Some (reversed_bits (level_bits running) c.level + c.disp) bits e) (reversed_small (level_bits running) c.level c.disp (split_small running) (ltb-true c.disp (2 ^ (14 - level_bits running)) both.1))
+    by_test false t e = absurd (none-some bits e)
+
+-- segments that are named have small numbers
+abbrev pub IsSmall : Option named.Named → Type 0
+IsSmall o = (number : ℕ) (level : Option ℕ) → o ≡ Some (means.Segment number level) → number < 255
+
+abbrev pub AreSmall : Names → Type 0
+AreSmall names = (q : List ℕ) → IsSmall (names q)
+
+pcw_small : (o : Option named.Named) (bits : ℕ) → IsSmall o → pcw_in o ≡ Some bits → bits < 2 ^ 48
+pcw_small None bits h e = absurd (none-some bits e)
+pcw_small (Some (means.Row number)) bits h e = absurd (none-some bits e)
+pcw_small (Some (means.Segment number None)) bits h e = absurd (none-some bits e)
+pcw_small (Some (means.Segment number (Some level))) bits h e = by_test (nat_le level 31) refl e
+  where
+    by_test : (b : Bool) → nat_le level 31 ≡ b → cond b (Some (level * 2 ^ 14 + (number + 2))) None ≡ Some bits → bits < 2 ^ 48
+    by_test true t e = omega (arith, same_Some (level * 2 ^ 14 + (number + 2)) bits e, leb-true level 31 t, h number (Some level) refl)
+    by_test false t e = absurd (none-some bits e)
+
+called_bits : (c : call.Call) (bits : ℕ) → bits < 2 ^ 14 → HasBits (called c bits)
+called_bits calls.Value bits h = lt-ltb bits (2 ^ 14) h
+called_bits calls.Name bits h = lt-ltb bits (2 ^ 14) h
+
+target_bits : (n : ℕ) → n ≤ 6 * 8191 → (nat_lt (n % 6) 8 && nat_lt (n / 6) (2 ^ 13)) ≡ true
+target_bits n h = and_from (nat_lt (n % 6) 8) (nat_lt (n / 6) (2 ^ 13)) (lt-ltb (n % 6) 8 (omega arith)) (lt-ltb (n / 6) (2 ^ 13) (omega arith))
+
+branch_bits : (b : branch.Branch) (n : ℕ) → HasBits (branch_to b n)
+branch_bits branches.Always n = target_bits (min n (6 * 8191)) (omega arith)
+branch_bits branches.IfTrue n = target_bits (min n (6 * 8191)) (omega arith)
+branch_bits branches.IfFalse n = target_bits (min n (6 * 8191)) (omega arith)
+
+pub denoted_bits : (x : Scope) (s : sketch.Sketch) (op : Op) → AreSmall x.names → is_in_range s ≡ true → denoted x s ≡ Some op → HasBits op
+denoted_bits x (Whole own) op small h e = subst HasBits (same_Some own op e) h
+denoted_bits x OutOfRange op small h e = absurd (none-some op e)
+denoted_bits x (Coupled c couple) op small h e =
+    let m = mapped (called c) (option_and_then (couple_bits (min x.level 31)) couple) op e in
+    let k = chained (couple_bits (min x.level 31)) couple m.0 m.1 in
+    subst HasBits m.2 (called_bits c m.0 (couple_small (min x.level 31) k.0 m.0 k.2))
+denoted_bits x (RowCoupled c row) op small h e =
+    let f : ℕ → Option ℕ = λ number. couple_bits (min x.level 31) (record { level = 1; disp = x.segments + number + 2 }) in
+    let m = mapped (called c) (option_and_then f (row_in (x.names row))) op e in
+    let k = chained f (row_in (x.names row)) m.0 m.1 in
+    subst HasBits m.2 (called_bits c m.0 (couple_small (min x.level 31) (record { level = 1; disp = x.segments + k.0 + 2 }) m.0 k.2))
+denoted_bits x (Jump b label) op small h e =
+    let m = mapped (branch_to b) (x.labels label) op e in
+    subst HasBits m.2 (branch_bits b m.0)
+denoted_bits x (Pcw segment) op small h e =
+    let m = mapped Mpcw (pcw_in (x.names segment)) op e in
+    subst HasBits m.2 (lt-ltb m.0 (2 ^ 48) (pcw_small (x.names segment) m.0 (small segment) m.1))
+
+called_after : (c : call.Call) (bits n : ℕ) → syllable_after (called c bits) n ≡ n + 2
+called_after calls.Value bits n = refl
+called_after calls.Name bits n = refl
+
+branch_after : (b : branch.Branch) (m n : ℕ) → syllable_after (branch_to b m) n ≡ n + 3
+branch_after branches.Always m n = refl
+branch_after branches.IfTrue m n = refl
+branch_after branches.IfFalse m n = refl
+
+-- the syllable behind an operator, before and after its names are known
+pub behind_is : (x : Scope) (s : sketch.Sketch) (op : Op) (n : ℕ) → denoted x s ≡ Some op → behind s n ≡ syllable_after op n
+behind_is x (Whole own) op n e = ap (λ o. syllable_after o n) (same_Some own op e)
+behind_is x OutOfRange op n e = absurd (none-some op e)
+behind_is x (Coupled c couple) op n e =
+    let m = mapped (called c) (option_and_then (couple_bits (min x.level 31)) couple) op e in
+    sym (called_after c m.0 n) ∙ ap (λ o. syllable_after o n) m.2
+behind_is x (RowCoupled c row) op n e =
+    let m = mapped (called c) (option_and_then (λ number. couple_bits (min x.level 31) (record { level = 1; disp = x.segments + number + 2 })) (row_in (x.names row))) op e in
+    sym (called_after c m.0 n) ∙ ap (λ o. syllable_after o n) m.2
+behind_is x (Jump b label) op n e =
+    let m = mapped (branch_to b) (x.labels label) op e in
+    sym (branch_after b m.0 n) ∙ ap (λ o. syllable_after o n) m.2
+behind_is x (Pcw segment) op n e =
+    let m = mapped Mpcw (pcw_in (x.names segment)) op e in
+    ap (λ o. syllable_after o n) m.2

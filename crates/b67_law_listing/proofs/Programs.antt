@@ -1,0 +1,219 @@
+-- What is read for a program's cards.
+use Rattle.std.proofs.Common.{◌≡◌, ℕ, ◌+◌, ◌<◌, Bool, true, false, not, refl, sym, subst, arith, cond, Option, Some, None, List, [], ◌∷◌, length, take, Result, Ok, Err}
+use Rattle.std.specs.Prelude.{nat_lt, ◌-◌, ⊤}
+use Rattle.std.specs.Option.{option_map, option_and_then}
+use Rattle.std.specs.List.{AllByRecursion, cons_option, list_any}
+use Rattle.std.specs.Str.{bytes_eq}
+use Rattle.std.proofs.lemmas.Bool.{ltb-true}
+use Rattle.std.proofs.lemmas.Option.{none-some}
+use Rattle.b67_model.specs.declared.operators.Op.{Op}
+use Rattle.b67_model.specs.Program.{Program}
+use Rattle.b67_model_text.specs.declared.card.Card.{Card}
+use Rattle.b67_model_text.specs.declared.assembly.Mnemonic.{Mnemonic}
+use Rattle.b67_model_text.specs.declared.assembly.Sketch as sketch
+use Rattle.b67_model_text.specs.declared.assembly.Statement as statement
+use Rattle.b67_model_text.specs.declared.assembly.Statement.TheVariants as statements
+use Rattle.b67_model_text.specs.declared.assembly.Kind as kind
+use Rattle.b67_model_text.specs.declared.assembly.Kind.TheVariants as kinds
+use Rattle.b67_model_text.specs.declared.assembly.Named as named
+use Rattle.b67_model_text.specs.declared.assembly.Named.TheVariants as means
+use Rattle.b67_model_text.specs.declared.assembly.Line.{Line}
+use Rattle.b67_model_text.specs.Answers.{Answer, ◌>>=◌, ◌>>◌, needs, or_reason}
+use Rattle.b67_model_text.specs.Cards.{words, name_in}
+use Rattle.b67_model_text.specs.Command.{row_of}
+use Rattle.b67_model_text.specs.Deck.{Refusal, of_card}
+use Rattle.b67_model_text.specs.Encoding.{code_of}
+use Rattle.b67_model_text.specs.Statements.{mnemonics, sketch_of, bits_in, all_bits, num, operator, kind_of, is_label, with_label, labelled, says, without_comment, line_with, lines_of}
+use Rattle.b67_model_text.specs.Asm.{Names, Scope, Part, CodePart, RowPart, meaning, definition, definitions, segments_behind, rows_behind, segment_count, labels, operators, misplaced, is_head, is_numbers, own, is_segment_number, is_row_number, segment_part, row_part, part_of, row_words, with_part, program_from, no_strays, assembled}
+use Rattle.b67_law_listing.specs.Listing.{scope_in, with_cards, cards_of_segments, SegmentsAreListed}
+use Rattle.b67_law_listing.proofs.Denoting.{IsSmall, AreSmall}
+use Rattle.b67_law_listing.proofs.Cards.{err-ok, same_Ok, after_both, segment_read}
+
+-- ---- only cards of segments and rows define names
+
+abbrev defines : Answer statement.Statement → Bool
+defines (Ok (statements.Segment name level)) = true
+defines (Ok (statements.Row name)) = true
+defines _ = false
+
+num_defines : (o : Option (Option ℕ)) (p : Option (List (Option ℕ))) → defines (or_reason (option_and_then (λ first. option_map (statements.Values first) p) o) 2) ≡ false
+num_defines None p = refl
+num_defines (Some first) None = refl
+num_defines (Some first) (Some more) = refl
+
+numbers_define : (more : List (List ℕ)) → defines (or_reason (num more) 2) ≡ false
+numbers_define [] = refl
+numbers_define (word ∷ more) = num_defines (bits_in word) (all_bits more)
+
+sketch_defines : (label : Option (List ℕ)) (o : Option sketch.Sketch) → defines (or_reason o 2 >>= λ s. Ok (statements.Operator label s)) ≡ false
+sketch_defines label None = refl
+sketch_defines label (Some s) = refl
+
+mnemonic_defines : (label : Option (List ℕ)) (o : Option Mnemonic) (f : Mnemonic → Option sketch.Sketch) → defines (or_reason o 1 >>= λ m. or_reason (f m) 2 >>= λ s. Ok (statements.Operator label s)) ≡ false
+mnemonic_defines label None f = refl
+mnemonic_defines label (Some m) f = sketch_defines label (f m)
+
+operator_defines : (label : Option (List ℕ)) (ws : List (List ℕ)) → defines (operator label ws) ≡ false
+operator_defines label [] = refl
+operator_defines label (key ∷ operands) = mnemonic_defines label (row_of key mnemonics) (λ m. sketch_of m operands)
+
+label_defines : (o : Option (List ℕ)) (more : List (List ℕ)) → defines (with_label o more) ≡ false
+label_defines None more = refl
+label_defines (Some label) more = operator_defines (Some label) more
+
+labelled_defines : (ws : List (List ℕ)) → defines (labelled ws) ≡ false
+labelled_defines [] = refl
+labelled_defines (word ∷ more) = by_test (is_label word)
+  where
+    by_test : (b : Bool) → defines (cond b (with_label (name_in (take (length word - 1) word)) more) (operator None (word ∷ more))) ≡ false
+    by_test true = label_defines (name_in (take (length word - 1) word)) more
+    by_test false = operator_defines None (word ∷ more)
+
+-- a line that is no head defines no name
+abbrev IsKnown : Line → Type 0
+IsKnown l = is_head l.kind ≡ false → defines l.says ≡ false
+
+says_known : (k : kind.Kind) (more all : List (List ℕ)) → is_head k ≡ false → defines (says k more all) ≡ false
+says_known kinds.Segment more all e = absurd (let z : ⊥ = cc in z)
+says_known kinds.Row more all e = absurd (let z : ⊥ = cc in z)
+says_known kinds.Numbers more all e = numbers_define more
+says_known kinds.Operator more all e = labelled_defines all
+
+abbrev AllKnown : List Line → Type 0
+AllKnown lines = AllByRecursion IsKnown lines
+
+one_known : (number : ℕ) (ws : List (List ℕ)) (more : List Line) → AllKnown more → AllKnown (cons_option (line_with number ws) more)
+one_known number [] more h = h
+one_known number (word ∷ rest) more h = (says_known (kind_of word) rest (word ∷ rest), h)
+
+lines_known : (cards : List Card) → AllKnown (lines_of cards)
+lines_known [] = tt
+lines_known (card ∷ more) = one_known card.number (words (without_comment card.text)) (lines_of more) (lines_known more)
+
+-- ---- one part
+
+-- the part that a card begins
+record IsSegment (names : Names) (segments s r : ℕ) (lines : List Line) (part : Part) : Type 0 where
+  level : ℕ
+  ops : List Op
+  taken : operators (record { names = names; segments = segments; level = level; labels = λ label. meaning (labels 0 lines) label }) 0 lines ≡ Ok ops
+  is : CodePart (record { level = level; code = code_of ops }) ≡ part
+  few : s + r < 255
+
+after_card : {B : Type 0} (number : ℕ) (t : Bool) (reason : ℕ) (rest : Result B Refusal) (b : B) → (of_card number (needs t reason) >> rest) ≡ Ok b → (t ≡ true) × (rest ≡ Ok b)
+after_card number true reason rest b e = (refl, e)
+after_card number false reason rest b e = err-ok (record { card = number; reason = reason }) b _ e
+
+segment_is : (names : Names) (segments s r number : ℕ) (name : List ℕ) (level : Option ℕ) (lines : List Line) (part : Part) → segment_part names segments s r number name level lines ≡ Ok part → IsSegment names segments s r lines part
+segment_is names segments s r number name None lines part e = err-ok (record { card = number; reason = 3 }) part _ e
+segment_is names segments s r number name (Some level) lines part e =
+    let scope : Scope = record { names = names; segments = segments; level = level; labels = λ label. meaning (labels 0 lines) label } in
+    let put : Result Part Refusal = operators scope 0 lines >>= λ ops. Ok (CodePart (record { level = level; code = code_of ops })) in
+    let a = after_card number (is_segment_number s (names name)) 4 (of_card number (needs (list_any (λ l. not (is_numbers l.kind)) lines) 7) >> (of_card number (needs (nat_lt (s + r) 255) 9) >> put)) part e in
+    let b = after_card number (list_any (λ l. not (is_numbers l.kind)) lines) 7 (of_card number (needs (nat_lt (s + r) 255) 9) >> put) part a.1 in
+    let c = after_card number (nat_lt (s + r) 255) 9 put part b.1 in
+    let d = after_both (operators scope 0 lines) (λ ops. Ok (CodePart (record { level = level; code = code_of ops }))) part c.1 in
+    record { level = level; ops = d.0; taken = d.1; is = same_Ok (CodePart (record { level = level; code = code_of d.0 })) part d.2; few = ltb-true (s + r) 255 c.0 }
+
+row_is : (names : Names) (s r number : ℕ) (name : List ℕ) (lines : List Line) (part : Part) → row_part names s r number name lines ≡ Ok part → (words : List ℕ) × (RowPart words ≡ part)
+row_is names s r number name lines part e =
+    let put : Result Part Refusal = row_words names 0 lines >>= λ words. Ok (RowPart words) in
+    let a = after_card number (is_row_number r (names name)) 4 (of_card number (needs (list_any (λ l. is_numbers l.kind) lines) 7) >> (of_card number (needs (nat_lt (s + r) 255) 9) >> put)) part e in
+    let b = after_card number (list_any (λ l. is_numbers l.kind) lines) 7 (of_card number (needs (nat_lt (s + r) 255) 9) >> put) part a.1 in
+    let c = after_card number (nat_lt (s + r) 255) 9 put part b.1 in
+    let d = after_both (row_words names 0 lines) (λ words. Ok (RowPart words)) part c.1 in
+    (d.0, same_Ok (RowPart d.0) part d.2)
+
+-- ---- segments that are named have numbers below 255
+
+small_none : IsSmall None
+small_none number level e = absurd (none-some (means.Segment number level) e)
+
+head_small : (names : Names) (segments s r number : ℕ) (says : Answer statement.Statement) (lines : List Line) (part : Part) → part_of names segments s r number says lines ≡ Ok part → (rest : List (List ℕ × named.Named)) (q : List ℕ) → IsSmall (meaning rest q) → IsSmall (meaning (cons_option (definition s r says) rest) q)
+head_small names segments s r number (Ok (statements.Segment name level)) lines part e rest q h = by_test (bytes_eq q name)
+  where
+    low : s < 255
+    low = omega (arith, (segment_is names segments s r number name level lines part e).few)
+
+    by_test : (b : Bool) → IsSmall (cond b (Some (means.Segment s level)) (meaning rest q))
+    by_test true = λ n l is. let same : s ≡ n = cc in omega (arith, same, low)
+    by_test false = h
+head_small names segments s r number (Ok (statements.Row name)) lines part e rest q h = by_test (bytes_eq q name)
+  where
+    by_test : (b : Bool) → IsSmall (cond b (Some (means.Row r)) (meaning rest q))
+    by_test true = λ n l is. absurd (let z : ⊥ = cc in z)
+    by_test false = h
+head_small names segments s r number (Ok (statements.Values first more)) lines part e rest q h = h
+head_small names segments s r number (Ok (statements.Operator label own)) lines part e rest q h = h
+head_small names segments s r number (Err reason) lines part e rest q h = h
+
+no_definition : (s r : ℕ) (says : Answer statement.Statement) → defines says ≡ false → (definition s r says ≡ None) × (segments_behind s says ≡ s) × (rows_behind r says ≡ r)
+no_definition s r (Ok (statements.Segment name level)) e = absurd (let z : ⊥ = cc in z)
+no_definition s r (Ok (statements.Row name)) e = absurd (let z : ⊥ = cc in z)
+no_definition s r (Ok (statements.Values first more)) e = (refl, refl, refl)
+no_definition s r (Ok (statements.Operator label own)) e = (refl, refl, refl)
+no_definition s r (Err reason) e = (refl, refl, refl)
+
+-- what follows a line
+abbrev go_on : Names → (segments s r : ℕ) → Line → List Line → Part → Result Program Refusal
+go_on names segments s r l more part = program_from names segments (segments_behind s l.says) (rows_behind r l.says) more >>= λ rest. Ok (with_part part rest)
+
+pub names_small : (names : Names) (segments s r : ℕ) (lines : List Line) (p : Program) → AllKnown lines → program_from names segments s r lines ≡ Ok p → (q : List ℕ) → IsSmall (meaning (definitions s r lines) q)
+names_small names segments s r [] p known e q = small_none
+names_small names segments s r (l ∷ more) p known e q =
+    by_head (λ p e. names_small names segments (segments_behind s l.says) (rows_behind r l.says) more p known.1 e q) (λ e. names_small names segments s r more p known.1 e q) (is_head l.kind) refl e
+  where
+    by_head : ((p : Program) → program_from names segments (segments_behind s l.says) (rows_behind r l.says) more ≡ Ok p → IsSmall (meaning (definitions (segments_behind s l.says) (rows_behind r l.says) more) q))
+        → (program_from names segments s r more ≡ Ok p → IsSmall (meaning (definitions s r more) q))
+        → (b : Bool) → is_head l.kind ≡ b
+        → cond b (part_of names segments s r l.number l.says (own more) >>= go_on names segments s r l more) (program_from names segments s r more) ≡ Ok p
+        → IsSmall (meaning (definitions s r (l ∷ more)) q)
+    by_head part skip true t e =
+        let a = after_both (part_of names segments s r l.number l.says (own more)) (go_on names segments s r l more) p e in
+        let b = after_both (program_from names segments (segments_behind s l.says) (rows_behind r l.says) more) (λ rest. Ok (with_part a.0 rest)) p a.2 in
+        head_small names segments s r l.number l.says (own more) a.0 a.1 (definitions (segments_behind s l.says) (rows_behind r l.says) more) q (part b.0 b.1)
+    by_head part skip false t e =
+        let none = no_definition s r l.says (known.0 t) in
+        subst (λ (o : Option (List ℕ × named.Named)). IsSmall (meaning (cons_option o (definitions (segments_behind s l.says) (rows_behind r l.says) more)) q)) (sym none.0)
+        (subst (λ (n : ℕ). IsSmall (meaning (definitions n (rows_behind r l.says) more) q)) (sym none.1)
+        (subst (λ (n : ℕ). IsSmall (meaning (definitions s n more) q)) (sym none.2) (skip e)))
+
+-- ---- all segments
+
+head_read : (all : List Line) (s r number : ℕ) (says : Answer statement.Statement) (lines : List Line) (part : Part) → AreSmall (λ name. meaning (definitions 0 0 all) name) → part_of (λ name. meaning (definitions 0 0 all) name) (segment_count 0 all) s r number says lines ≡ Ok part
+    → (cards : List (List Line)) (rest : Program) → SegmentsAreListed all cards rest.segments → SegmentsAreListed all (with_cards says lines cards) (with_part part rest).segments
+head_read all s r number (Ok (statements.Segment name level)) lines part small e cards rest h =
+    let i = segment_is (λ name. meaning (definitions 0 0 all) name) (segment_count 0 all) s r number name level lines part e in
+    subst (λ (part : Part). SegmentsAreListed all (lines ∷ cards) (with_part part rest).segments) i.is (segment_read (scope_in all lines i.level) lines i.ops small refl i.taken, h)
+head_read all s r number (Ok (statements.Row name)) lines part small e cards rest h =
+    let i = row_is (λ name. meaning (definitions 0 0 all) name) s r number name lines part e in
+    subst (λ (part : Part). SegmentsAreListed all cards (with_part part rest).segments) i.1 h
+head_read all s r number (Ok (statements.Values first more)) lines part small e cards rest h = err-ok (record { card = number; reason = misplaced (λ name. meaning (definitions 0 0 all) name) (statements.Values first more) }) part _ e
+head_read all s r number (Ok (statements.Operator label own)) lines part small e cards rest h = err-ok (record { card = number; reason = misplaced (λ name. meaning (definitions 0 0 all) name) (statements.Operator label own) }) part _ e
+head_read all s r number (Err reason) lines part small e cards rest h = err-ok (record { card = number; reason = reason }) part _ e
+
+segments_read : (all : List Line) (s r : ℕ) (lines : List Line) (p : Program) → AreSmall (λ name. meaning (definitions 0 0 all) name) → program_from (λ name. meaning (definitions 0 0 all) name) (segment_count 0 all) s r lines ≡ Ok p → SegmentsAreListed all (cards_of_segments lines) p.segments
+segments_read all s r [] p small e =
+    let is : record { segments = []; rows = [] } ≡ p = same_Ok (record { segments = []; rows = [] }) p e in
+    subst (λ (p : Program). SegmentsAreListed all [] p.segments) is tt
+segments_read all s r (l ∷ more) p small e =
+    by_head (λ p e. segments_read all (segments_behind s l.says) (rows_behind r l.says) more p small e) (λ e. segments_read all s r more p small e) (is_head l.kind) e
+  where
+    by_head : ((p : Program) → program_from (λ name. meaning (definitions 0 0 all) name) (segment_count 0 all) (segments_behind s l.says) (rows_behind r l.says) more ≡ Ok p → SegmentsAreListed all (cards_of_segments more) p.segments)
+        → (program_from (λ name. meaning (definitions 0 0 all) name) (segment_count 0 all) s r more ≡ Ok p → SegmentsAreListed all (cards_of_segments more) p.segments)
+        → (b : Bool)
+        → cond b (part_of (λ name. meaning (definitions 0 0 all) name) (segment_count 0 all) s r l.number l.says (own more) >>= go_on (λ name. meaning (definitions 0 0 all) name) (segment_count 0 all) s r l more) (program_from (λ name. meaning (definitions 0 0 all) name) (segment_count 0 all) s r more) ≡ Ok p
+        → SegmentsAreListed all (cond b (with_cards l.says (own more) (cards_of_segments more)) (cards_of_segments more)) p.segments
+    by_head part skip true e =
+        let a = after_both (part_of (λ name. meaning (definitions 0 0 all) name) (segment_count 0 all) s r l.number l.says (own more)) (go_on (λ name. meaning (definitions 0 0 all) name) (segment_count 0 all) s r l more) p e in
+        let b = after_both (program_from (λ name. meaning (definitions 0 0 all) name) (segment_count 0 all) (segments_behind s l.says) (rows_behind r l.says) more) (λ rest. Ok (with_part a.0 rest)) p a.2 in
+        subst (λ (p : Program). SegmentsAreListed all (with_cards l.says (own more) (cards_of_segments more)) p.segments) (same_Ok (with_part a.0 b.0) p b.2)
+        (head_read all s r l.number l.says (own more) a.0 small a.1 (cards_of_segments more) b.0 (part b.0 b.1))
+    by_head part skip false e = skip e
+
+pub cards_read : (cards : List Card) (p : Program) → assembled cards ≡ Ok p → SegmentsAreListed (lines_of cards) (cards_of_segments (lines_of cards)) p.segments
+cards_read cards p e =
+    let all : List Line = lines_of cards in
+    let names : Names = λ name. meaning (definitions 0 0 all) name in
+    let a = after_both (no_strays names all) (λ (u : ⊤). program_from names (segment_count 0 all) 0 0 all) p e in
+    segments_read all 0 0 all p (names_small names (segment_count 0 all) 0 0 all p (lines_known cards) a.2) a.2

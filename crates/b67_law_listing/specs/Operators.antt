@@ -1,0 +1,32 @@
+-- What is read in the code of operators.
+use Rattle.std.specs.Prelude.{◌≡◌, ℕ, ◌-◌, ◌%◌, List, [], ◌∷◌, replicate, IsTrue}
+use Rattle.std.specs.List.{AllByRecursion}
+use Rattle.b67_model.specs.declared.operators.Op.{Op}
+use Rattle.b67_model.specs.declared.operators.Op.TheVariants.{Plain}
+use Rattle.b67_model.specs.declared.operators.Code.TheVariants.{Nvld}
+use Rattle.b67_model.specs.Operators.{place_at}
+use Rattle.b67_model.specs.Encoding.{has_bits}
+use Rattle.b67_model.specs.Loader.{Entry, At, listing}
+use Rattle.b67_model_text.specs.Encoding.{code_of}
+use Rattle.b67_model_text.specs.Asm.{next}
+
+abbrev pub HasBits : Op → Type 0
+HasBits op = IsTrue (has_bits op)
+
+-- each number within the bits that its operator has for it
+abbrev pub AllHaveBits : List Op → Type 0
+AllHaveBits ops = AllByRecursion HasBits ops
+
+-- operators from syllable n on, and NVLD behind them up to a whole word
+abbrev pub filled : ℕ → List Op → List Op
+filled n [] = replicate ((6 - n % 6) % 6) (Plain Nvld)
+filled n (op ∷ more) = op ∷ filled (next n op) more
+
+-- each at the place behind the one before
+abbrev pub entries_of : ℕ → List Op → List Entry
+entries_of n [] = []
+entries_of n (op ∷ more) = At (place_at n) op ∷ entries_of (next n op) more
+
+-- the code of operators is read as these operators
+abbrev pub OperatorsAreRead : Type 0
+OperatorsAreRead = (ops : List Op) → AllHaveBits ops → listing (code_of ops) ≡ entries_of 0 (filled 0 ops)

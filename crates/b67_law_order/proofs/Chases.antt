@@ -1,0 +1,219 @@
+-- Where references of the running task lead.
+use Rattle.std.proofs.Common.{◌≡◌, ◌≢◌, ℕ, zero, suc, ◌-◌, ◌^◌, ◌<◌, ◌≤◌, ltb, leb, List, [], ◌∷◌, map, reverse, length, ℤ, pos, negsuc, Option, Some, None, unwrap_or, Ok, Err, refl, sym, ap, subst, inl, inr, arith}
+use Rattle.std.specs.Option.{ok_or}
+use Rattle.std.proofs.lemmas.Bool.{cases_Bool, leb-true, ltb-true}
+use Rattle.b67_word.specs.declared.couples.Couple.{Couple}
+use Rattle.b67_word.specs.declared.faults.Fault.{Fault}
+use Rattle.b67_word.specs.declared.faults.Fault.TheVariants.{InvalidAddress}
+use Rattle.b67_word.specs.Couples.{couple}
+use Rattle.b67_model.specs.Answers.{Answer}
+use Rattle.b67_model.specs.Keyed.{keyed}
+use Rattle.b67_model.specs.Lists.{Has}
+use Rattle.b67_model.specs.Arrays.{no_array, array, array_at, array_of, index_below, indexed}
+use Rattle.b67_model.specs.Words as Words
+use Rattle.b67_model.specs.Words.{Word, Operand, Name, Ref, Row, Element, Original, Proc, Intrinsic, operand, number}
+use Rattle.b67_model.specs.State.{Frame, Standing, Marked, Entered, Array, Here, frame}
+use Rattle.b67_model.specs.Environment.{level_of_standing, level_of_frame, environment_of, running, running_from, outward, running_level}
+use Rattle.b67_model.specs.Cells.{first_offset, cell_of, cell, named, place_of}
+use Rattle.b67_model.specs.Chase.{End, AtCell, AtElement, AtArray, AtProc, AtIntrinsic, Link, Stops, Leads, link_at, link_in, link_from, link, chase_on, chase, follow, follow_reference}
+use Rattle.b67_model.specs.InOrder.{Starts, Known, known_of, IsEntered, NamesEntered, NamesArray, OwnsArray, WordInOrder, StackInOrder, ReturnsInOrder, ArrayInOrder}
+use Rattle.b67_law_order.specs.Ends.{EndInOrder}
+use Rattle.b67_law_order.proofs.Members.{has_append_left, has_map, has_get, has_reverse_back, all_in, keyed_falls}
+use Rattle.b67_law_order.proofs.Looks.{SeenWord, Run, reach, own_order, see, closed, level_low, own_high}
+use Rattle.b67_law_order.proofs.Posts.{Post, post_ok, post_err, post_bind, post_any, post_if_is}
+
+-- what a reference may be
+abbrev pub RefInOrder : List Known → Word → Type 0
+RefInOrder reach (Name couple) = couple < 2 ^ 14
+RefInOrder reach (Ref identity offset) = NamesEntered reach identity × (offset < 2 ^ 12)
+RefInOrder reach _ = Unit {0}
+
+abbrev pub PlaceInOrder : List Known → (ℕ × ℕ) → Type 0
+PlaceInOrder reach at = NamesEntered reach at.0 × (at.1 < 2 ^ 12)
+
+abbrev LinkInOrder : Starts → Here → Link → Type 0
+LinkInOrder P h (Stops end) = Post (EndInOrder P h) end
+LinkInOrder P h (Leads w) = RefInOrder (reach h) w
+
+running_in : (P : Starts) (fs : List Frame) → StackInOrder P fs → fs ≢ [] → Has fs (running fs) × IsEntered (running fs).standing
+running_in P [] g some = absurd (some refl)
+running_in P (f ∷ below) g some = by f.standing refl g.0 (λ more. running_in P below g.1 more) where
+  by : (s : Standing) → f.standing ≡ s → ReturnsInOrder P s below → (below ≢ [] → Has below (running below) × IsEntered (running below).standing) → Has (f ∷ below) (running_from s f (running below)) × IsEntered (running_from s f (running below)).standing
+  by Marked e g under = let r = under g in (inr r.0, r.1)
+  by (Entered level environment back) e g under = (inl refl, rw e tt)
+
+-- couples of a task reach offsets of twelve bits
+disp_low : (bits level : ℕ) → 2 ≤ level → (couple bits level).disp < 2 ^ 12
+disp_low bits level low = elim (cases_Bool (leb level 1)) [
+  | inl t ↦ absurd (omega (arith, leb-true level 1 t, low))
+  | inr t ↦ rw t (elim (cases_Bool (leb level 3)) [
+    | inl u ↦ rw u (omega arith)
+    | inr u ↦ rw u (elim (cases_Bool (leb level 7)) [
+      | inl v ↦ rw v (omega arith)
+      | inr v ↦ rw v (elim (cases_Bool (leb level 15)) [
+        | inl w ↦ rw w (omega arith)
+        | inr w ↦ rw w (elim (cases_Bool (leb level 31)) [ inl x ↦ rw x (omega arith) | inr x ↦ rw x (omega arith) ])
+      ])
+    ])
+  ])
+]
+
+pub some_ok : {A : Type 0} (o : Option A) (fault : Fault) (x : A) → ok_or o fault ≡ Ok x → o ≡ Some x
+some_ok None fault x e = cc
+some_ok (Some y) fault x e = let same : y ≡ x = cc in ap Some same
+
+cell_has : (f : Frame) (offset : ℕ) (w : Word) → ok_or (cell_of f offset) InvalidAddress ≡ Ok w → Has f.cells w
+cell_has f offset w e =
+    let some : cell_of f offset ≡ Some w = some_ok (cell_of f offset) InvalidAddress w e in
+    elim (cases_Bool (ltb offset (first_offset f))) [
+      | inl t ↦ let no : None ≡ Some w = rw t at some in cc
+      | inr t ↦ has_reverse_back f.cells w (has_get (reverse f.cells) (offset - first_offset f) w (rw t at some))
+    ]
+
+module _ (P : Starts) (h : Here) (run : Run P h) where
+  pub running_known : Has (reach h) (known_of (running h.task.frames)) × IsEntered (running h.task.frames).standing
+  running_known =
+      let own = own_order P h run in
+      let r = running_in P h.task.frames own.returns own.some in
+      (has_append_left (map known_of h.task.frames) _ (known_of (running h.task.frames)) (has_map known_of h.task.frames (running h.task.frames) r.0), r.1)
+
+  pub running_low : 2 ≤ running_level h
+  running_low =
+      let own = own_order P h run in
+      let r = running_in P h.task.frames own.returns own.some in
+      level_low P h run (running h.task.frames).identity (running h.task.frames).standing running_known.0 running_known.1 (own_high P h run (running h.task.frames) r.0)
+
+  -- environment links stay in reach
+  outward_in : (links : ℕ) (f : Frame) → Has (reach h) (known_of f) → IsEntered f.standing → links ≤ level_of_frame f → NamesEntered (reach h) (outward h links f).identity
+  outward_in zero f k e low = record { standing = f.standing; among = k; entered = e }
+  outward_in (suc links) f k e low =
+      let out = closed P h run f.identity f.standing k e (omega (arith, low)) in
+      let environment = environment_of f.standing in
+      let seen = see P h run environment out.standing out.among in
+      let is : (environment, out.standing) ≡ known_of (frame h environment) = λ i. (sym seen.identity i, sym seen.standing i) in
+      let known : Has (reach h) (known_of (frame h environment)) = subst (Has (reach h)) is out.among in
+      let entered : IsEntered (frame h environment).standing = subst IsEntered (sym seen.standing) out.entered in
+      let level : level_of_frame (frame h environment) ≡ level_of_standing out.standing = ap level_of_standing seen.standing in
+      outward_in links (frame h environment) known entered (omega (arith, low, level, out.level_below))
+
+  pub named_in : (c : Couple) → c.disp < 2 ^ 12 → Post (PlaceInOrder (reach h)) (named h c)
+  named_in c low = post_if_is (PlaceInOrder (reach h)) (leb c.level (running_level h)) _ _
+      (λ t. post_ok (PlaceInOrder (reach h)) _ (outward_in (running_level h - c.level) (running h.task.frames) running_known.0 running_known.1 (omega arith), low))
+      (λ t. post_err (PlaceInOrder (reach h)) _)
+
+  pub place_in : (w : Word) → RefInOrder (reach h) w → Post (PlaceInOrder (reach h)) (place_of h w)
+  place_in (Name bits) g = named_in (couple bits (running_level h)) (disp_low bits (running_level h) running_low)
+  place_in (Ref identity offset) g = post_ok (PlaceInOrder (reach h)) _ g
+  place_in (Operand bits) g = post_err (PlaceInOrder (reach h)) _
+  place_in (Row array) g = post_err (PlaceInOrder (reach h)) _
+  place_in (Element array index) g = post_err (PlaceInOrder (reach h)) _
+  place_in (Original array) g = post_err (PlaceInOrder (reach h)) _
+  place_in (Proc segment level place) g = post_err (PlaceInOrder (reach h)) _
+  place_in (Intrinsic number) g = post_err (PlaceInOrder (reach h)) _
+  place_in (Words.Segment number) g = post_err (PlaceInOrder (reach h)) _
+
+  -- an original that is seen in an entered frame
+  owned_named : (f array : ℕ) → NamesEntered (reach h) f → OwnsArray h.job.arrays f array → NamesArray h.job.arrays (reach h) array 0
+  owned_named f array names g = record {
+    item = g.item;
+    live = g.live;
+    named = g.named;
+    owner = subst (NamesEntered (reach h)) (sym g.owned) names;
+    inside = (all_in ArrayInOrder h.job.arrays g.item run.order.arrays g.live).length_low;
+  }
+
+  link_word : (f offset : ℕ) → PlaceInOrder (reach h) (f, offset) → (w : Word) → cell h f offset ≡ Ok w → SeenWord P h.job.arrays (reach h) f w → LinkInOrder P h (link_at f offset w)
+  link_word f offset at (Operand bits) e g = post_ok (EndInOrder P h) (AtCell f offset bits) (record { names = at.0; low = at.1; bound = g; found = e })
+  link_word f offset at (Name couple) e g = g
+  link_word f offset at (Ref identity other) e g = g
+  link_word f offset at (Element array index) e g = post_ok (EndInOrder P h) (AtElement array index) g
+  link_word f offset at (Original array) e g = post_ok (EndInOrder P h) (AtArray array) (owned_named f array at.0 g)
+  link_word f offset at (Row array) e g = post_ok (EndInOrder P h) (AtArray array) g
+  link_word f offset at (Proc segment level place) e g = post_ok (EndInOrder P h) (AtProc f segment level place) (record { names = at.0; own = g.2; high = g.0; starts = g.1 })
+  link_word f offset at (Intrinsic number) e g = post_ok (EndInOrder P h) (AtIntrinsic number) tt
+  link_word f offset at (Words.Segment number) e g = post_err (EndInOrder P h) _
+
+  link_cell : (f offset : ℕ) → PlaceInOrder (reach h) (f, offset) → (a : Answer Word) → cell h f offset ≡ a → LinkInOrder P h (link_in f offset a)
+  link_cell f offset at (Err fault) e = post_err (EndInOrder P h) fault
+  link_cell f offset at (Ok w) e = link_word f offset at w e ((see P h run f at.0.standing at.0.among).words w (cell_has (frame h f) offset w e))
+
+  link_place : (a : Answer (ℕ × ℕ)) → Post (PlaceInOrder (reach h)) a → LinkInOrder P h (link_from h a)
+  link_place (Err fault) g = post_err (EndInOrder P h) fault
+  link_place (Ok at) g = link_cell at.0 at.1 g.by (cell h at.0 at.1) refl
+
+  chase_links : (links : ℕ) (l : Link) → LinkInOrder P h l → Post (EndInOrder P h) (chase_on h links l)
+  chase_links links (Stops end) g = g
+  chase_links zero (Leads w) g = post_err (EndInOrder P h) _
+  chase_links (suc links) (Leads w) g = chase_links links (link h w) (link_place (place_of h w) (place_in w g))
+
+  pub chase_in : (w : Word) → RefInOrder (reach h) w → Post (EndInOrder P h) (chase h w)
+  chase_in w g = chase_links 1024 (Leads w) g
+
+  pub follow_in : (owner : ℕ) (w : Word) → WordInOrder P h.job.arrays (reach h) owner w → Post (EndInOrder P h) (follow h w)
+  follow_in owner (Name couple) g = chase_in (Name couple) g
+  follow_in owner (Ref f offset) g = chase_in (Ref f offset) g
+  follow_in owner (Element array index) g = post_ok (EndInOrder P h) (AtElement array index) g
+  follow_in owner (Operand bits) g = post_err (EndInOrder P h) _
+  follow_in owner (Row array) g = post_err (EndInOrder P h) _
+  follow_in owner (Original array) g = post_err (EndInOrder P h) _
+  follow_in owner (Proc segment level place) g = post_err (EndInOrder P h) _
+  follow_in owner (Intrinsic number) g = post_err (EndInOrder P h) _
+  follow_in owner (Words.Segment number) g = post_err (EndInOrder P h) _
+
+  pub follow_reference_in : (owner : ℕ) (w : Word) → WordInOrder P h.job.arrays (reach h) owner w → Post (EndInOrder P h) (follow_reference h w)
+  follow_reference_in owner (Name couple) g = chase_in (Name couple) g
+  follow_reference_in owner (Ref f offset) g = chase_in (Ref f offset) g
+  follow_reference_in owner (Element array index) g = post_err (EndInOrder P h) _
+  follow_reference_in owner (Operand bits) g = post_err (EndInOrder P h) _
+  follow_reference_in owner (Row array) g = post_err (EndInOrder P h) _
+  follow_reference_in owner (Original array) g = post_err (EndInOrder P h) _
+  follow_reference_in owner (Proc segment level place) g = post_err (EndInOrder P h) _
+  follow_reference_in owner (Intrinsic number) g = post_err (EndInOrder P h) _
+  follow_reference_in owner (Words.Segment number) g = post_err (EndInOrder P h) _
+
+  abbrev pub IsArray : ℕ → Type 0
+  IsArray array = NamesArray h.job.arrays (reach h) array 0
+
+  array_at_in : (end : End) → EndInOrder P h end → Post IsArray (array_at end)
+  array_at_in (AtArray array) g = post_ok IsArray array g
+  array_at_in (AtCell f offset bits) g = post_err IsArray _
+  array_at_in (AtElement array index) g = post_err IsArray _
+  array_at_in (AtProc f segment level place) g = post_err IsArray _
+  array_at_in (AtIntrinsic n) g = post_err IsArray _
+
+  pub array_of_in : (owner : ℕ) (w : Word) → WordInOrder P h.job.arrays (reach h) owner w → Post IsArray (array_of h w)
+  array_of_in owner (Row array) g = post_ok IsArray array g
+  array_of_in owner (Name couple) g = post_bind (EndInOrder P h) IsArray (chase h (Name couple)) _ (chase_in (Name couple) g) array_at_in
+  array_of_in owner (Ref f offset) g = post_bind (EndInOrder P h) IsArray (chase h (Ref f offset)) _ (chase_in (Ref f offset) g) array_at_in
+  array_of_in owner (Operand bits) g = post_err IsArray _
+  array_of_in owner (Element array index) g = post_err IsArray _
+  array_of_in owner (Original array) g = post_err IsArray _
+  array_of_in owner (Proc segment level place) g = post_err IsArray _
+  array_of_in owner (Intrinsic number) g = post_err IsArray _
+  array_of_in owner (Words.Segment number) g = post_err IsArray _
+
+  -- the array of an identity is the one that is named
+  pub array_is : (n index : ℕ) (a : NamesArray h.job.arrays (reach h) n index) → array h.job n ≡ a.item
+  array_is n index a =
+      let e : keyed (λ (x : Array). x.identity) n h.job.arrays ≡ Some a.item =
+      subst (λ m. keyed (λ (x : Array). x.identity) m h.job.arrays ≡ Some a.item) a.named (keyed_falls (λ (x : Array). x.identity) h.job.next_array h.job.arrays a.item run.order.names a.live) in
+      ap (λ o. unwrap_or o no_array) e
+
+  abbrev pub IsElement : (ℕ × ℕ) → Type 0
+  IsElement at = NamesArray h.job.arrays (reach h) at.0 at.1
+
+  index_in : (a : ℕ) (g : IsArray a) (n : ℤ) → Post (λ index. IsElement (a, index)) (index_below (length (array h.job a).numbers) n)
+  index_in a g (negsuc n) = post_err (λ index. IsElement (a, index)) _
+  index_in a g (pos n) = post_if_is (λ index. IsElement (a, index)) (ltb n (length (array h.job a).numbers)) _ _
+      (λ t. post_ok (λ index. IsElement (a, index)) n (record {
+        item = g.item;
+        live = g.live;
+        named = g.named;
+        owner = g.owner;
+        inside = let low : n < length (array h.job a).numbers = ltb-true n _ t in let is = array_is a 0 g in subst (λ (x : Array). n < length x.numbers) is low;
+      }))
+      (λ t. post_err (λ index. IsElement (a, index)) _)
+
+  pub indexed_in : (owner : ℕ) (r i : Word) → WordInOrder P h.job.arrays (reach h) owner r → Post IsElement (indexed h r i)
+  indexed_in owner r i g = post_any IsElement (operand i) _ (λ bits. post_bind IsArray IsElement (array_of h r) _ (array_of_in owner r g)
+      (λ a is. post_any IsElement (number bits) _ (λ n. post_bind (λ index. IsElement (a, index)) IsElement (index_below (length (array h.job a).numbers) n) _ (index_in a is n) (λ index e. post_ok IsElement (a, index) e))))

@@ -1,0 +1,130 @@
+-- Where the original of an array stands: in the dictionary, or in the frame that owns the array, at the array's home.
+use Rattle.std.proofs.Common.{◌≡◌, ◌≢◌, ℕ, ◌+◌, ◌<◌, ◌≤◌, List, [], ◌∷◌, ◌++◌, map, length, Some, refl, sym, ◌∙◌, ap, arith, length-append, true, false, cond, inl, inr, ◌⊎◌, subst}
+use Rattle.std.specs.List.{slice_get}
+use Rattle.std.proofs.lemmas.Bool.{cases_Bool, cases_eq}
+use Rattle.std.proofs.lemmas.Bool.Decides.{eqb_tells}
+use Rattle.b67_word.specs.Tagged.{Tagged}
+use Rattle.b67_model.specs.Lists.{Has, total, how_many}
+use Rattle.b67_model.specs.Words as Words
+use Rattle.b67_model.specs.Words.{Word, Operand, Name, Ref, Row, Element, Original, Proc, Intrinsic}
+use Rattle.b67_model.specs.State.{Frame, Array, Segment, Task, Setting, Job}
+use Rattle.b67_model.specs.InOrder.{Starts, Known, known_of, OwnsArray, WordInOrder, FramesInOrder, is_original_of, originals_in, originals_of, IsSegment, outer_of, rows_after, DictionaryWords, TaskInOrder, TasksInOrder}
+use Rattle.b67_law_order.proofs.Members.{has_append_left, has_append_right, has_map, all_in, falls_same}
+use Rattle.b67_stack.specs.Shapes as Shapes
+use Rattle.b67_stack.specs.Shapes.{Shape, Lie}
+use Rattle.b67_stack.specs.Stacks.{Spot, Head, Marked, Entered, Activation, headed, words}
+use Rattle.b67_layout.specs.Plan.{Plan, spot_in}
+use Rattle.b67_layout.specs.Layout.{shape, head, activations}
+
+-- a word of a shape lies at a place
+pub record LiesAt (R : Shape → ℕ → Tagged → Type 0) (core : List Tagged) (from : ℕ) (xs : List Shape) (c : Shape) : Type 0 where
+  pub at : ℕ
+  pub low : from ≤ at
+  pub up : at < from + length xs
+  pub word : Tagged
+  pub there : slice_get core at ≡ Some word
+  pub fits : R c at word
+
+pub lies_at : (R : Shape → ℕ → Tagged → Type 0) (core : List Tagged) (from : ℕ) (xs : List Shape) (c : Shape) → Lie R core from xs → Has xs c → LiesAt R core from xs c
+lies_at R core from [] c l h = absurd h
+lies_at R core from (a ∷ more) c l (inl e) =
+    record { at = from + length more; low = omega arith; up = omega arith; word = l.0.0; there = l.0.1; fits = subst (λ (z : Shape). R z (from + length more) l.0.0) e l.0.2 }
+lies_at R core from (a ∷ more) c l (inr h) =
+    let r = lies_at R core from more c l.1 h in
+    record { at = r.at; low = r.low; up = (let u : r.at < from + length (a ∷ more) = omega (arith, r.up) in u); word = r.word; there = r.there; fits = r.fits }
+
+-- one of the upper words
+pub lies_over : (R : Shape → ℕ → Tagged → Type 0) (core : List Tagged) (from : ℕ) (xs ys : List Shape) (c : Shape) → Lie R core from (xs ++ ys) → Has xs c → LiesAt R core (from + length ys) xs c
+lies_over R core from [] ys c l h = absurd h
+lies_over R core from (a ∷ more) ys c l (inl e) =
+    record { at = from + length (more ++ ys); low = omega (arith, length-append more ys); up = omega (arith, length-append more ys); word = l.0.0; there = l.0.1; fits = subst (λ (z : Shape). R z (from + length (more ++ ys)) l.0.0) e l.0.2 }
+lies_over R core from (a ∷ more) ys c l (inr h) =
+    let r = lies_over R core from more ys c l.1 h in
+    record { at = r.at; low = r.low; up = (let u : r.at < from + length ys + length (a ∷ more) = omega (arith, r.up) in u); word = r.word; there = r.there; fits = r.fits }
+
+pub has_headed : (k : ℕ) (h : Head) (below : List Activation) (under : List Shape) (z : Shape) → Has under z → Has (headed k h below under) z
+has_headed k Marked below under z o = inr o
+has_headed k (Entered level environment back) below under z o = inr (inr o)
+
+-- the shape of an original is among the words of its stack
+pub original_word : (plan : Plan) (j : ℕ) (job : Job) (k : ℕ) (outer : ℕ → Spot) (fs : List Frame) (g : Frame) (a : ℕ) → Has fs g → Has g.cells (Original a) → Has (words k (activations plan j job k outer fs)) (Shapes.Original (plan.home j a))
+original_word plan j job k outer [] g a h w = absurd h
+original_word plan j job k outer (f ∷ below) g a (inl e) w =
+    let h : Head = head (spot_in k outer below) f.standing in
+    let bs : List Activation = activations plan j job k outer below in
+    has_append_left (map (shape plan j job (spot_in k outer (f ∷ below))) f.cells) (headed k h bs (words k bs)) (Shapes.Original (plan.home j a))
+    (has_map (shape plan j job (spot_in k outer (f ∷ below))) f.cells (Original a) (subst (λ (x : Frame). Has x.cells (Original a)) (sym e) w))
+original_word plan j job k outer (f ∷ below) g a (inr i) w =
+    let h : Head = head (spot_in k outer below) f.standing in
+    let bs : List Activation = activations plan j job k outer below in
+    has_append_right (map (shape plan j job (spot_in k outer (f ∷ below))) f.cells) (headed k h bs (words k bs)) (Shapes.Original (plan.home j a))
+    (has_headed k h bs (words k bs) (Shapes.Original (plan.home j a)) (original_word plan j job k outer below g a i w))
+
+-- a total that isn't 0 has an item that isn't
+some_item : {A : Type 0} (weight : A → ℕ) (xs : List A) → total weight xs ≢ 0 → (x : A) × Has xs x × (weight x ≢ 0)
+some_item weight [] ne = absurd (ne refl)
+some_item weight (x ∷ xs) ne = elim (cases_eq (weight x) 0) [
+  | inl e ↦ let r = some_item weight xs (λ z. ne (omega (arith, e, z))) in (r.0, inr r.1, r.2)
+  | inr n ↦ (x, inl refl, n)
+]
+
+is_original : (a : ℕ) (w : Word) → is_original_of a w ≡ true → w ≡ Original a
+is_original a (Original b) t = elim (eqb_tells b a) [ inl e ↦ ap Original e.1 | inr e ↦ absurd (let z : false ≡ true = sym e.0 ∙ t in let f : ⊥ = cc in f) ]
+is_original a (Operand bits) t = absurd (let f : ⊥ = cc in f)
+is_original a (Name couple) t = absurd (let f : ⊥ = cc in f)
+is_original a (Ref identity offset) t = absurd (let f : ⊥ = cc in f)
+is_original a (Row b) t = absurd (let f : ⊥ = cc in f)
+is_original a (Element b index) t = absurd (let f : ⊥ = cc in f)
+is_original a (Proc segment level place) t = absurd (let f : ⊥ = cc in f)
+is_original a (Intrinsic number) t = absurd (let f : ⊥ = cc in f)
+is_original a (Words.Segment number) t = absurd (let f : ⊥ = cc in f)
+
+some_original : (a : ℕ) (ws : List Word) → how_many (is_original_of a) ws ≢ 0 → Has ws (Original a)
+some_original a ws ne =
+    let r = some_item (λ (w : Word). cond (is_original_of a w) 1 0) ws ne in
+    elim (cases_Bool (is_original_of a r.0)) [
+      | inl t ↦ subst (Has ws) (is_original a r.0 t) r.1
+      | inr t ↦ absurd (r.2 (rw t refl))
+    ]
+
+owns : (P : Starts) (arrays : List Array) (outer : List Known) (fs : List Frame) (g : Frame) (a : ℕ) → FramesInOrder P arrays outer fs → Has fs g → Has g.cells (Original a) → OwnsArray arrays g.identity a
+owns P arrays outer [] g a o h w = absurd h
+owns P arrays outer (f ∷ below) g a o (inl e) w =
+    subst (λ (x : Frame). OwnsArray arrays x.identity a) e (all_in (WordInOrder P arrays (map known_of (f ∷ below) ++ outer) f.identity) f.cells (Original a) o.0.0 (subst (λ (x : Frame). Has x.cells (Original a)) (sym e) w))
+owns P arrays outer (f ∷ below) g a o (inr h) w = owns P arrays outer below g a o.2 h w
+
+-- an original in the frame that owns the array
+pub record InFrame (job : Job) (a : Array) : Type 0 where
+  pub task : Task
+  pub live : Has job.tasks task
+  pub frame : Frame
+  pub among : Has task.frames frame
+  pub word : Has frame.cells (Original a.identity)
+  pub owned : a.owner ≡ frame.identity
+
+pub original_of : (setting : Setting) (job : Job) → TasksInOrder (IsSegment setting) setting job → (a : Array) → Has job.arrays a → Has setting.dictionary.cells (Original a.identity) ⊎ InFrame job a
+original_of setting job o a h =
+    let one = all_in (λ (b : Array). originals_of b.identity setting job ≡ 1) job.arrays a o.once h in
+    elim (cases_eq (how_many (is_original_of a.identity) setting.dictionary.cells) 0) [
+      | inl z ↦
+          let t = some_item (λ (u : Task). originals_in a.identity u.frames) job.tasks (λ e. omega (arith, one, z, e)) in
+          let g = some_item (λ (f : Frame). how_many (is_original_of a.identity) f.cells) t.0.frames t.2 in
+          let w = some_original a.identity g.0.cells g.2 in
+          let task = all_in (TaskInOrder (IsSegment setting) setting job) job.tasks t.0 o.tasks t.1 in
+          let own = owns (IsSegment setting) job.arrays (outer_of job t.0) t.0.frames g.0 a.identity task.frames g.1 w in
+          let same : own.item ≡ a = falls_same (λ (b : Array). b.identity) job.next_array job.arrays own.item a o.names own.live h own.named in
+          inr (record { task = t.0; live = t.1; frame = g.0; among = g.1; word = w; owned = ap (λ (b : Array). b.owner) (sym same) ∙ own.owned })
+      | inr n ↦ inl (some_original a.identity setting.dictionary.cells n)
+    ]
+
+row_number : (n a : ℕ) (ws : List Word) → rows_after n ws → Has ws (Original a) → (n ≤ a) × (a < n + length ws)
+row_number n a [] r h = absurd h
+row_number n a (w ∷ more) r (inl e) = let same : Original n ≡ Original a = sym r.0 ∙ e in let k : n ≡ a = cc in (omega arith, omega arith)
+row_number n a (w ∷ more) r (inr h) = let i = row_number (n + 1) a more r.1 h in (omega arith, omega arith)
+
+-- the number of a data row by the words of its dictionary
+pub entry_number : (n : ℕ) (segments : List Segment) (words : List Word) (a : ℕ) → DictionaryWords n segments words → Has words (Original a) → (1 ≤ a) × (a + length segments ≤ length words)
+entry_number n [] words a d h = let i = row_number 1 a words d h in (i.0, omega (arith, i.1))
+entry_number n (s ∷ more) [] a d h = absurd d
+entry_number n (s ∷ more) (w ∷ words) a d (inl e) = absurd (let z : Words.Segment n ≡ Original a = sym d.0 ∙ e in let f : ⊥ = cc in f)
+entry_number n (s ∷ more) (w ∷ words) a d (inr h) = let i = entry_number (n + 1) more words a d.1 h in (i.0, omega (arith, i.1))

@@ -1,0 +1,158 @@
+-- Whose frame it is that the running task names, and where it lies in its task's stack.
+use Rattle.std.proofs.Common.{◌≡◌, ◌≢◌, ℕ, ◌+◌, ◌<◌, ◌≤◌, List, [], ◌∷◌, ◌++◌, map, Option, Some, refl, sym, ◌∙◌, ap, arith, true, false, ◌==◌, ⊎_elim, inl, inr, subst}
+use Rattle.std.proofs.lemmas.Bool.{cases_Bool, eq-eqb, ne_eqb}
+use Rattle.b67_word.specs.Tagged.{Tagged}
+use Rattle.b67_ctl.specs.declared.registers.Regs.{Regs}
+use Rattle.b67_model.specs.Lists.{Has, Falls, total}
+use Rattle.b67_model.specs.Keyed.{keyed}
+use Rattle.b67_model.specs.State.{Frame, Standing, Task, height}
+use Rattle.b67_model.specs.InOrder.{Known, known_of, known_numbers, identities, from_frame, frames_of_task, critical_of, base, outer_reach, outer_of, reach_of, NamesEntered, ParentInOrder, BirthInOrder, frames_named}
+use Rattle.b67_law_order.proofs.Members.{has_append_right, has_append_cases, has_map, keyed_has, falls_low, total_has}
+use Rattle.b67_law_order.proofs.Replaced.{numbers_append}
+use Rattle.b67_stack.specs.Stacks.{Spot}
+use Rattle.b67_layout.specs.Plan.{slot_of, spot_in, outer_spots, spots}
+use Rattle.b67_refer.specs.Scene.{Scene}
+use Rattle.b67_refer.proofs.Seats.{order_of, has_task}
+use Rattle.b67_layout_store.proofs.Frames.{frames_under}
+
+identity_has : (fs : List Frame) (id : ℕ) (s : Standing) → Has (map known_of fs) (id, s) → Has (identities fs) id
+identity_has [] id s h = absurd h
+identity_has (f ∷ fs) id s (inl e) = inl (ap (λ (k : Known). k.0) e)
+identity_has (f ∷ fs) id s (inr h) = inr (identity_has fs id s h)
+
+number_has : (fs : List Frame) (known : List Known) (id : ℕ) → Has (identities fs) id → Has (known_numbers (map known_of fs ++ known)) id
+number_has [] known id h = absurd h
+number_has (f ∷ fs) known id (inl e) = inl e
+number_has (f ∷ fs) known id (inr h) = inr (number_has fs known id h)
+
+pub spot_under : (k : ℕ) (outer : ℕ → Spot) (fs : List Frame) (id : ℕ) → Has (identities fs) id → spot_in k outer fs id ≡ record { stack = k; disp = height (frames_under id fs) }
+spot_under k outer [] id h = absurd h
+spot_under k outer (f ∷ fs) id h = ⊎_elim
+    (λ (t : (f.identity == id) ≡ true). rw t refl)
+    (λ (t : (f.identity == id) ≡ false).
+    let more : Has (identities fs) id = ⊎_elim (λ z. absurd (let y : ⊥ = (let q : (f.identity == id) ≡ true = eq-eqb f.identity id z in let u : false ≡ true = sym t ∙ q in cc) in y)) (λ q. q) h in
+    rw t (spot_under k outer fs id more))
+    (cases_Bool (f.identity == id))
+
+from_identity : (c : ℕ) (fs : List Frame) (id : ℕ) → Has (identities (from_frame c fs)) id → Has (identities fs) id
+from_identity c [] id h = h
+from_identity c (f ∷ fs) id h = ⊎_elim
+    (λ (t : (f.identity == c) ≡ true). rw t at h)
+    (λ (t : (f.identity == c) ≡ false). inr (from_identity c fs id (rw t at h)))
+    (cases_Bool (f.identity == c))
+
+-- a frame at or under the critical one is found under the same frames
+from_under : (bound c : ℕ) (fs : List Frame) (known : List Known) (id : ℕ) → Falls bound (known_numbers (map known_of fs ++ known)) → Has (identities (from_frame c fs)) id → frames_under id (from_frame c fs) ≡ frames_under id fs
+from_under bound c [] known id falls h = refl
+from_under bound c (f ∷ fs) known id falls h = ⊎_elim
+    (λ (t : (f.identity == c) ≡ true). rw t refl)
+    (λ (t : (f.identity == c) ≡ false).
+    let more : Has (identities (from_frame c fs)) id = rw t at h in
+    let low = falls_low f.identity (known_numbers (map known_of fs ++ known)) id falls.1 (number_has fs known id (from_identity c fs id more)) in
+    let ne : (f.identity == id) ≡ false = ne_eqb f.identity id (λ e. omega (arith, e, low)) in
+    rw t (rw ne (from_under f.identity c fs known id falls.1 more)))
+    (cases_Bool (f.identity == c))
+
+apart : (bound : ℕ) (fs : List Frame) (known : List Known) (g : ℕ) → Falls bound (known_numbers (map known_of fs ++ known)) → Has (known_numbers known) g → (k : ℕ) (outer : ℕ → Spot) → spot_in k outer fs g ≡ outer g
+apart bound [] known g falls h k outer = refl
+apart bound (f ∷ fs) known g falls h k outer =
+    let there : Has (known_numbers (map known_of fs ++ known)) g = rw numbers_append (has_append_right (known_numbers (map known_of fs)) (known_numbers known) g h) in
+    let low = falls_low f.identity (known_numbers (map known_of fs ++ known)) g falls.1 there in
+    let ne : (f.identity == g) ≡ false = ne_eqb f.identity g (λ e. omega (arith, e, low)) in
+    rw ne (apart f.identity fs known g falls.1 h k outer)
+
+falls_from : (bound c : ℕ) (fs : List Frame) (known : List Known) → Falls bound (known_numbers (map known_of fs ++ known)) → (b : ℕ) × Falls b (known_numbers (map known_of (from_frame c fs) ++ known))
+falls_from bound c [] known g = (bound, g)
+falls_from bound c (f ∷ fs) known g = ⊎_elim
+    (λ (t : (f.identity == c) ≡ true). (bound, rw t g))
+    (λ (t : (f.identity == c) ≡ false). (let q = falls_from f.identity c fs known g.1 in (q.0, rw t q.1)))
+    (cases_Bool (f.identity == c))
+
+no_base : (id : ℕ) (s : Standing) → Has base (id, s) → 1 < id → ⊥
+no_base id s (inl e) high = omega (arith, ap (λ (q : Known). q.0) e, high)
+no_base id s (inr (inl e)) high = omega (arith, ap (λ (q : Known). q.0) e, high)
+no_base id s (inr (inr z)) high = z
+
+module _ (core : List Tagged) (r : Regs) (a : Scene core r) where
+  pub record OwnerAt (view : ℕ → Spot) (id : ℕ) : Type 0 where
+    pub task : Task
+    pub there : keyed (λ (v : Task). v.number) task.number a.member.course.job.tasks ≡ Some task
+    pub has : Has (identities task.frames) id
+    pub spot : view id ≡ record { stack = slot_of a.plan a.member.setting.number task.number; disp = height (frames_under id task.frames) }
+
+  owner_outer : (u : Task) → Has a.member.course.job.tasks u → (parents : List ℕ) → u.parents ≡ parents → (id : ℕ) (s : Standing) → 1 < id
+      → Has (outer_reach a.member.course.job u.critical parents) (id, s) → OwnerAt (outer_spots a.plan a.member.setting.number a.member.course.job u.critical parents) id
+  owner_outer u here [] line id s high h = absurd (no_base id s h high)
+  owner_outer u here (n ∷ more) line id s high h =
+      let job = a.member.course.job in
+      let birth : ParentInOrder job u n more = subst (BirthInOrder job u) line (order_of core r a u here).birth in
+      let q = birth.parent in
+      let at = keyed_has (λ (v : Task). v.number) n job.tasks q birth.found in
+      let found : keyed (λ (v : Task). v.number) q.number job.tasks ≡ Some q = subst (λ (i : ℕ). keyed (λ (v : Task). v.number) i job.tasks ≡ Some q) (sym at.1) birth.found in
+      let k = slot_of a.plan a.member.setting.number q.number in
+      let slot_is : slot_of a.plan a.member.setting.number n ≡ k = ap (slot_of a.plan a.member.setting.number) (sym at.1) in
+      let known = outer_reach job q.critical more in
+      let outer = outer_spots a.plan a.member.setting.number job q.critical more in
+      let falls : Falls job.next_frame (known_numbers (map known_of q.frames ++ known)) = subst (λ (ps : List ℕ). Falls job.next_frame (known_numbers (map known_of q.frames ++ outer_reach job q.critical ps))) birth.line (order_of core r a q at.0).falls in
+      let fs = from_frame u.critical q.frames in
+      let h' : Has (map known_of fs ++ known) (id, s) = rw birth.found at h in
+      let F : Option Task → ℕ → Type 0 = λ v i. OwnerAt (λ g. spot_in i (outer_spots a.plan a.member.setting.number job (critical_of v) more) (from_frame u.critical (frames_of_task v)) g) id in
+      let G : ℕ → Type 0 = λ i. F (Some q) i in
+      let H : Option Task → Type 0 = λ v. F v (slot_of a.plan a.member.setting.number n) in
+      let result : OwnerAt (λ g. spot_in k outer fs g) id = ⊎_elim
+      (λ m.
+      (let inside = identity_has fs id s m in
+      let o : OwnerAt (λ g. spot_in k outer fs g) id = record {
+        task = q;
+        there = found;
+        has = from_identity u.critical q.frames id inside;
+        spot = spot_under k outer fs id inside ∙ ap (λ gs. let z : Spot = record { stack = k; disp = height gs } in z) (from_under job.next_frame u.critical q.frames known id falls inside);
+      } in o))
+      (λ m.
+      (let o = owner_outer q at.0 more birth.line id s high m in
+      let down = falls_from job.next_frame u.critical q.frames known falls in
+      let p : OwnerAt (λ g. spot_in k outer fs g) id = record { task = o.task; there = o.there; has = o.has; spot = apart down.0 fs known id down.1 (has_map (λ (z : Known). z.0) known (id, s) m) k outer ∙ o.spot } in p))
+      (has_append_cases (map known_of fs) known (id, s) h') in
+      subst H (sym birth.found) (subst G (sym slot_is) result)
+
+  -- the owner of a frame of a task that is named
+  pub owner : (id : ℕ) → NamesEntered (reach_of a.member.course.job a.task) id → 1 < id → OwnerAt (spots a.plan a.member.setting.number a.member.course.job a.task) id
+  owner id n high =
+      let job = a.member.course.job in
+      let t = a.task in
+      let k = slot_of a.plan a.member.setting.number t.number in
+      let outer = outer_spots a.plan a.member.setting.number job t.critical t.parents in
+      let falls = (order_of core r a t (has_task core r a)).falls in
+      ⊎_elim
+      (λ m. (let inside = identity_has t.frames id n.standing m in
+      let o : OwnerAt (spots a.plan a.member.setting.number a.member.course.job a.task) id = record { task = t; there = a.running.task; has = inside; spot = spot_under k outer t.frames id inside } in o))
+      (λ m. (let o = owner_outer t (has_task core r a) t.parents refl id n.standing high m in
+      let p : OwnerAt (spots a.plan a.member.setting.number a.member.course.job a.task) id = record { task = o.task; there = o.there; has = o.has; spot = apart job.next_frame t.frames (outer_of job t) id falls (has_map (λ (z : Known). z.0) (outer_of job t) (id, n.standing) m) k outer ∙ o.spot } in p))
+      (has_append_cases (map known_of t.frames) (outer_of job t) (id, n.standing) n.among)
+
+-- a frame's identity is one task's alone
+named_once : (fs : List Frame) (id : ℕ) → Has (identities fs) id → 1 ≤ frames_named id fs
+named_once [] id h = absurd h
+named_once (f ∷ fs) id h = ⊎_elim
+    (λ (t : (f.identity == id) ≡ true). (let e : frames_named id (f ∷ fs) ≡ 1 + frames_named id fs = rw t refl in omega (arith, e)))
+    (λ (t : (f.identity == id) ≡ false).
+    let more : Has (identities fs) id = ⊎_elim (λ z. absurd (let y : ⊥ = (let q : (f.identity == id) ≡ true = eq-eqb f.identity id z in let u : false ≡ true = sym t ∙ q in cc) in y)) (λ q. q) h in
+    let e : frames_named id (f ∷ fs) ≡ 0 + frames_named id fs = rw t refl in
+    let l = named_once fs id more in
+    omega (arith, e, l))
+    (cases_Bool (f.identity == id))
+
+pub others_none : (xs : List Task) (u v : Task) (id : ℕ) → Has xs u → Has xs v → u.number ≢ v.number → Has (identities u.frames) id → total (λ (t : Task). frames_named id t.frames) xs ≤ 1 → frames_named id v.frames ≡ 0
+others_none [] u v id hu hv ne has low = absurd hu
+others_none (x ∷ xs) u v id (inl eu) (inl ev) ne has low = absurd (ne (ap (λ (t : Task). t.number) (sym eu ∙ ev)))
+others_none (x ∷ xs) u v id (inl eu) (inr hv) ne has low =
+    let one = named_once u.frames id has in
+    let e : frames_named id x.frames ≡ frames_named id u.frames = ap (λ (t : Task). frames_named id t.frames) eu in
+    let m = total_has (λ (t : Task). frames_named id t.frames) xs v hv in
+    omega (arith, one, e, m, low)
+others_none (x ∷ xs) u v id (inr hu) (inl ev) ne has low =
+    let one = named_once u.frames id has in
+    let e : frames_named id x.frames ≡ frames_named id v.frames = ap (λ (t : Task). frames_named id t.frames) ev in
+    let m = total_has (λ (t : Task). frames_named id t.frames) xs u hu in
+    omega (arith, one, e, m, low)
+others_none (x ∷ xs) u v id (inr hu) (inr hv) ne has low = others_none xs u v id hu hv ne has (omega (arith, low))

@@ -1,5 +1,0 @@
-use Rattle.b67_lines.proofs.Statuses.{stops-once}
-use Rattle.b67_lines.proofs.laws.runs_stop_once.Goals as goal
-
-pub returns : goal.returns
-returns c = stops-once

@@ -1,0 +1,42 @@
+use Rattle.std.proofs.Common.{ℕ, List, length, map, arith, subst}
+use Rattle.b67_core.specs.Numbers.{number}
+use Rattle.b67_backing.specs.Shelf.{taken}
+use Rattle.b67_backing.specs.Held.{Changes, SameBut, Stores, sectors_for}
+use Rattle.b67_load.proofs.Shelves.{first_small, last_taken}
+use Rattle.b67_load.proofs.installing.shelve.Goals as goal
+
+pub unreachable-requires : goal.unreachable-requires
+unreachable-requires g c =
+    let (st, s) = c.requires.known in
+    omega (arith, c.in-None.ensures.row st s, s.count, c.requires.room)
+
+pub store-requires-clause-chain : goal.store-requires-clause-chain
+store-requires-clause-chain g c =
+    let (st, s) = c.requires.known in
+    (taken (sectors_for (length c.args.words.now)) st, c.in-Some.ensures.chain st s)
+
+pub returns-in-Ok-clause-small : goal.returns-in-Ok-clause-small
+returns-in-Ok-clause-small g c =
+    let (st, s) = c.requires.known in
+    first_small c.take.new.self (taken (sectors_for (length c.args.words.now)) st) c.in-Some.first (sectors_for (length c.args.words.now)) (c.in-Some.ensures.chain st s) (omega (arith, c.requires.some))
+
+pub returns-in-Ok-clause-stores : goal.returns-in-Ok-clause-stores
+returns-in-Ok-clause-stores g c = λ st s.
+    let n : ℕ = sectors_for (length c.args.words.now) in
+    subst (λ (k : List ℕ). Changes g.B.Backing.holds c.args.backing.now c.store.new.backing (Stores k (map number c.args.words.now)))
+    (last_taken c.in-Some.first n st (c.in-Some.ensures.chains st c.in-Some.first s))
+    (c.in-Ok.ensures.stores (taken n st) (c.in-Some.ensures.chain st s))
+
+pub returns-in-Ok-clause-others : goal.returns-in-Ok-clause-others
+returns-in-Ok-clause-others g c = λ st s.
+    let n : ℕ = sectors_for (length c.args.words.now) in
+    subst (λ (k : List ℕ). Changes g.B.Backing.holds c.args.backing.now c.store.new.backing (SameBut k))
+    (last_taken c.in-Some.first n st (c.in-Some.ensures.chains st c.in-Some.first s))
+    (c.in-Ok.ensures.others (taken n st) (c.in-Some.ensures.chain st s))
+
+pub returns-in-Err-clause-others : goal.returns-in-Err-clause-others
+returns-in-Err-clause-others g c = λ st s.
+    let n : ℕ = sectors_for (length c.args.words.now) in
+    subst (λ (k : List ℕ). Changes g.B.Backing.holds c.args.backing.now c.store.new.backing (SameBut k))
+    (last_taken c.in-Some.first n st (c.in-Some.ensures.chains st c.in-Some.first s))
+    (c.in-Err.ensures.others (taken n st) (c.in-Some.ensures.chain st s))

@@ -1,0 +1,280 @@
+//! A program's dictionary, and where its segments and data rows rest.
+
+ghost use Rattle.std.specs.Prelude.{◌≡◌, ℕ, ◌+◌, ◌<◌, ◌≤◌, ◌^◌, ◌∷◌, [], length, map, take, OnOk, OnErr, IfErr, IfOk};
+ghost use Rattle.std.specs.List.{AllByRecursion};
+ghost use Rattle.b67_word.specs.Tagged.{contents};
+ghost use Rattle.b67_core.specs.Numbers.{number};
+ghost use Rattle.b67_area.specs.declared.Kind.TheVariants.{Code, Row};
+ghost use Rattle.b67_io.specs.Causes.{HasCause};
+ghost use Rattle.b67_backing.specs.Shelf.{Shelf, IsShelf, first as first_of, taken};
+ghost use Rattle.b67_backing.specs.Held.{Changes, SameBut, Stores, sectors_for};
+ghost use Rattle.b67_backing.specs.declared.refusals.SpaceFault.TheVariants.{BackingFault};
+ghost use Rattle.b67_codefile.specs.Spelling.{IsSegment, IsRow, IsWithin};
+ghost use Rattle.b67_codefile.specs.Meaning.{segment_of, program_of};
+ghost use Rattle.b67_stack.specs.declared.Cpu.{Cpu};
+ghost use Rattle.b67_load.specs.Things.{code_from, rows_from, things_of, entries_of, sectors_of_all, sectors_of_program};
+ghost use Rattle.b67_load.specs.Resting.{stocked, DictionaryIs, Stocks, SameOutside, KeepsChains};
+ghost use Rattle.b67_load.specs.Writing.{Parts, Spares, Writes};
+
+use b67_backing::{Backing, Sectors, SpaceFault};
+use b67_codefile::{Codefile, Segment};
+use b67_core::Core;
+use b67_ctl::{DataDesc, Mscw, SegDesc};
+use b67_load_verify::Admitted;
+use b67_stack::Cpu;
+use b67_word::{Word, Words};
+
+/// Writes words to a chain of free sectors, and answers its first.
+fn shelve<B: Backing>(
+    sectors: &mut Sectors,
+    backing: &mut B,
+    words: &[Word],
+) -> Result<u32, SpaceFault>
+    requires known { (st : Shelf) × IsShelf sectors.old st }
+    requires some { 1 ≤ length words.now }
+    requires few { length words.now < 2 ^ 16 }
+    requires room { sectors_for (length words.now) ≤ sectors.old.free }
+    requires same { B.size backing.old + 1 ≡ length sectors.old.links }
+    ensures first { IfOk result (λ x. (st : Shelf) → IsShelf sectors.old st → x ≡ first_of st.free) }
+    ensures small { IfOk result (λ x. x < 2 ^ 20) }
+    ensures shelf { (st : Shelf) → IsShelf sectors.old st → IsShelf sectors.new (taken (sectors_for (length words.now)) st) }
+    ensures stores { OnOk result ((st : Shelf) → IsShelf sectors.old st
+        → Changes B.holds backing.old backing.new (Stores (take (sectors_for (length words.now)) st.free) (map number words.now))) }
+    ensures others { (st : Shelf) → IsShelf sectors.old st
+        → Changes B.holds backing.old backing.new (SameBut (take (sectors_for (length words.now)) st.free)) }
+    ensures count { length sectors.new.links ≡ length sectors.old.links }
+    ensures size { B.size backing.new ≡ B.size backing.old }
+    ensures refusal { IfErr result (λ fault. fault ≡ BackingFault) }
+    ensures cause { HasCause B.faults backing.old backing.new result }
+{
+    let first = match sectors.take((words.len() as u32 + 29) / 30) {
+        Some(first) => first,
+        None => unreachable!(),
+    };
+    match sectors.store(first, words, backing) {
+        Ok(()) => Ok(first),
+        Err(_) => Err(SpaceFault::BackingFault),
+    }
+}
+
+/// Writes a segment to sectors, and its descriptor to core.
+fn install_segment<B: Backing>(
+    core: &mut Core,
+    sectors: &mut Sectors,
+    backing: &mut B,
+    at: u32,
+    segment: &Segment,
+) -> Result<(), SpaceFault>
+    requires known { (st : Shelf) × IsShelf sectors.old st }
+    requires inside { at < length core.old }
+    requires within { IsSegment segment.now }
+    requires room { sectors_for (length segment.now.code) ≤ sectors.old.free }
+    requires same { B.size backing.old + 1 ≡ length sectors.old.links }
+    ensures writes { OnOk result (Writes B.holds (record { home = at; kind = Code; numbers = contents segment.now.code } ∷ [])
+        (record { core = core.old; table = sectors.old; device = backing.old })
+        (record { core = core.new; table = sectors.new; device = backing.new })) }
+    ensures spares { Spares B.holds at 1
+        (record { core = core.old; table = sectors.old; device = backing.old })
+        (record { core = core.new; table = sectors.new; device = backing.new }) }
+    ensures size { B.size backing.new ≡ B.size backing.old }
+    ensures refusal { IfErr result (λ fault. fault ≡ BackingFault) }
+    ensures cause { HasCause B.faults backing.old backing.new result }
+{
+    let code = segment.code.as_slice();
+    let first = shelve(sectors, backing, code)?;
+    let descriptor = SegDesc {
+        present: false,
+        words: code.len() as u32,
+        address: first,
+    };
+    core.set(at, descriptor.word());
+    Ok(())
+}
+
+/// Writes a data row to sectors, and its original to core.
+fn install_row<B: Backing>(
+    core: &mut Core,
+    sectors: &mut Sectors,
+    backing: &mut B,
+    at: u32,
+    row: &Words,
+) -> Result<(), SpaceFault>
+    requires known { (st : Shelf) × IsShelf sectors.old st }
+    requires inside { at < length core.old }
+    requires within { IsRow row.now }
+    requires room { sectors_for (length row.now) ≤ sectors.old.free }
+    requires same { B.size backing.old + 1 ≡ length sectors.old.links }
+    ensures writes { OnOk result (Writes B.holds (record { home = at; kind = Row; numbers = contents row.now } ∷ [])
+        (record { core = core.old; table = sectors.old; device = backing.old })
+        (record { core = core.new; table = sectors.new; device = backing.new })) }
+    ensures spares { Spares B.holds at 1
+        (record { core = core.old; table = sectors.old; device = backing.old })
+        (record { core = core.new; table = sectors.new; device = backing.new }) }
+    ensures size { B.size backing.new ≡ B.size backing.old }
+    ensures refusal { IfErr result (λ fault. fault ≡ BackingFault) }
+    ensures cause { HasCause B.faults backing.old backing.new result }
+{
+    let words = row.as_slice();
+    let first = shelve(sectors, backing, words)?;
+    let original = DataDesc {
+        present: false,
+        copy: false,
+        indexed: false,
+        read_only: true,
+        length: words.len() as u32,
+        address: first,
+    };
+    core.set(at, original.word());
+    Ok(())
+}
+
+/// Writes segments to sectors, and their descriptors to core, one after the other.
+fn install_segments<B: Backing>(
+    core: &mut Core,
+    sectors: &mut Sectors,
+    backing: &mut B,
+    base: u32,
+    segments: &[Segment],
+) -> Result<(), SpaceFault>
+    requires known { (st : Shelf) × IsShelf sectors.old st }
+    requires inside { base + length segments.now ≤ length core.old }
+    requires within { AllByRecursion IsSegment segments.now }
+    requires room { sectors_of_all (code_from base (map segment_of segments.now)) ≤ sectors.old.free }
+    requires same { B.size backing.old + 1 ≡ length sectors.old.links }
+    ensures writes { OnOk result (Writes B.holds (code_from base (map segment_of segments.now))
+        (record { core = core.old; table = sectors.old; device = backing.old })
+        (record { core = core.new; table = sectors.new; device = backing.new })) }
+    ensures spares { Spares B.holds base (length segments.now)
+        (record { core = core.old; table = sectors.old; device = backing.old })
+        (record { core = core.new; table = sectors.new; device = backing.new }) }
+    ensures size { B.size backing.new ≡ B.size backing.old }
+    ensures refusal { IfErr result (λ fault. fault ≡ BackingFault) }
+    ensures cause { HasCause B.faults backing.old backing.new result }
+{
+    let _size = core.size();
+    let mut at = base;
+    for segment in segments {
+        install_segment(core, sectors, backing, at, segment)?;
+        at += 1;
+    }
+    Ok(())
+}
+
+/// Writes data rows to sectors, and their originals to core, one after the other.
+fn install_rows<B: Backing>(
+    core: &mut Core,
+    sectors: &mut Sectors,
+    backing: &mut B,
+    base: u32,
+    rows: &[Words],
+) -> Result<(), SpaceFault>
+    requires known { (st : Shelf) × IsShelf sectors.old st }
+    requires inside { base + length rows.now ≤ length core.old }
+    requires within { AllByRecursion IsRow rows.now }
+    requires room { sectors_of_all (rows_from base (map contents rows.now)) ≤ sectors.old.free }
+    requires same { B.size backing.old + 1 ≡ length sectors.old.links }
+    ensures writes { OnOk result (Writes B.holds (rows_from base (map contents rows.now))
+        (record { core = core.old; table = sectors.old; device = backing.old })
+        (record { core = core.new; table = sectors.new; device = backing.new })) }
+    ensures spares { Spares B.holds base (length rows.now)
+        (record { core = core.old; table = sectors.old; device = backing.old })
+        (record { core = core.new; table = sectors.new; device = backing.new }) }
+    ensures size { B.size backing.new ≡ B.size backing.old }
+    ensures refusal { IfErr result (λ fault. fault ≡ BackingFault) }
+    ensures cause { HasCause B.faults backing.old backing.new result }
+{
+    let _size = core.size();
+    let mut at = base;
+    for row in rows {
+        install_row(core, sectors, backing, at, row)?;
+        at += 1;
+    }
+    Ok(())
+}
+
+/// Writes a program's segments and data rows to sectors, and the entries of its dictionary at `base` to core.
+fn install_things<B: Backing>(
+    core: &mut Core,
+    sectors: &mut Sectors,
+    backing: &mut B,
+    base: u32,
+    file: &Codefile,
+) -> Result<(), SpaceFault>
+    requires known { (st : Shelf) × IsShelf sectors.old st }
+    requires inside { base + (2 + entries_of (program_of file.now)) ≤ length core.old }
+    requires within { IsWithin file.now }
+    requires room { sectors_of_all (things_of base (program_of file.now)) ≤ sectors.old.free }
+    requires same { B.size backing.old + 1 ≡ length sectors.old.links }
+    ensures writes { OnOk result (Writes B.holds (things_of base (program_of file.now))
+        (record { core = core.old; table = sectors.old; device = backing.old })
+        (record { core = core.new; table = sectors.new; device = backing.new })) }
+    ensures spares { Spares B.holds (base + 2) (entries_of (program_of file.now))
+        (record { core = core.old; table = sectors.old; device = backing.old })
+        (record { core = core.new; table = sectors.new; device = backing.new }) }
+    ensures size { B.size backing.new ≡ B.size backing.old }
+    ensures refusal { IfErr result (λ fault. fault ≡ BackingFault) }
+    ensures cause { HasCause B.faults backing.old backing.new result }
+{
+    let _size = core.size();
+    let segments = file.segments.as_slice();
+    let rows = file.rows.as_slice();
+    install_segments(core, sectors, backing, base + 2, segments)?;
+    install_rows(
+        core,
+        sectors,
+        backing,
+        base + (2 + segments.len() as u32),
+        rows,
+    )
+}
+
+/// Writes the dictionary of a program at `base`, and its code and data rows to sectors that were free: in the order of
+/// the file, each to a chain of its own, so that each descriptor in the dictionary is absent. The code's words have tag 3
+/// there, those of data rows tag 0. Refused with `BackingFault` alone, where the device failed; then the dictionary's
+/// words and the sectors that were free may hold anything, and maybe fewer sectors are free.
+pub fn install<B: Backing>(
+    cpu: &mut Cpu,
+    sectors: &mut Sectors,
+    backing: &mut B,
+    base: u32,
+    program: &Admitted,
+) -> Result<(), SpaceFault>
+    requires known { (st : Shelf) × IsShelf sectors.old st }
+    requires inside { base + (2 + entries_of (program_of program.now)) ≤ length cpu.old.core }
+    requires room { sectors_of_program (program_of program.now) ≤ sectors.old.free }
+    requires same { B.size backing.old + 1 ≡ length sectors.old.links }
+    ensures dictionary { OnOk result ((st : Shelf) → IsShelf sectors.old st
+        → DictionaryIs cpu.new.core base (program_of program.now) st.free) }
+    ensures shelf { OnOk result ((st : Shelf) → IsShelf sectors.old st
+        → IsShelf sectors.new (stocked (things_of base (program_of program.now)) st)) }
+    ensures stocks { OnOk result ((st : Shelf) → IsShelf sectors.old st
+        → Changes B.holds backing.old backing.new (Stocks (things_of base (program_of program.now)) st.free)) }
+    ensures left { OnOk result (sectors.new.free + sectors_of_program (program_of program.now) ≡ sectors.old.free) }
+    // Whatever is answered, the chains that were there and what they hold stay.
+    ensures chains { (st : Shelf) → IsShelf sectors.old st
+        → (after : Shelf) × IsShelf sectors.new after × KeepsChains st after }
+    ensures others { (st : Shelf) → IsShelf sectors.old st → Changes B.holds backing.old backing.new (SameBut st.free) }
+    ensures outside { SameOutside base (base + (2 + entries_of (program_of program.now))) cpu.old.core cpu.new.core }
+    ensures len { length cpu.new.core ≡ length cpu.old.core }
+    ensures cpu { cpu.new ≡ record cpu.old { core = cpu.new.core } }
+    ensures count { length sectors.new.links ≡ length sectors.old.links }
+    ensures size { B.size backing.new ≡ B.size backing.old }
+    ensures refusal { IfErr result (λ fault. fault ≡ BackingFault) }
+    ensures cause { HasCause B.faults backing.old backing.new result }
+{
+    let _size = cpu.core.size();
+    let file = program.file();
+    let mark = Mscw {
+        far: true,
+        entered: true,
+        env_stack: 136,
+        env_disp: 0,
+        value: false,
+        level: 1,
+        back: 0,
+    };
+    let entries = file.segments.as_slice().len() + file.rows.as_slice().len();
+    cpu.core.set(base, mark.word());
+    cpu.core.set(base + 1, Word::of(0, entries as u64));
+    install_things(&mut cpu.core, sectors, backing, base, file)
+}

@@ -1,0 +1,5 @@
+pub mod Operator
+pub mod Listed
+pub mod Starts
+pub mod FirstRefusal
+pub mod InOrder

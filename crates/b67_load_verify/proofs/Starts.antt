@@ -1,0 +1,119 @@
+-- The marks of a listing's starts, and its last entry.
+use Rattle.std.proofs.Common.{◌≡◌, ◌⊎◌, ℕ, zero, suc, ◌+◌, ◌-◌, ◌*◌, ◌<◌, Bool, true, false, eqb, ◌&&◌, ◌||◌, List, [], ◌∷◌, ◌++◌, length, map, get_or, set, take, replicate, Option, Some, Result, Ok, Err, refl, sym, ap, ◌∙◌, arith, inl, inr}
+use Rattle.std.specs.Prelude.{slice_get}
+use Rattle.std.specs.Option.{option_map_or}
+use Rattle.std.specs.List.{AllByRecursion}
+use Rattle.std.proofs.lemmas.Bool.{cases_lt, cases_eq, ne_eqb, eq-eqb}
+use Rattle.std.proofs.lemmas.List.{get_or-set_same, get_or-set_other, get_or_past, get_or-replicate, length-replicate, length-set, map-append, take_more}
+use Rattle.std.proofs.lemmas.List.Folds.{list_any-append}
+use Rattle.b67_word.specs.declared.couples.Place.{Place}
+use Rattle.b67_model.specs.declared.operators.Op.{Op}
+use Rattle.b67_model.specs.declared.operators.Undecodable.{Undecodable}
+use Rattle.b67_model.specs.Operators.{count_at}
+use Rattle.b67_model.specs.Loader as loader
+use Rattle.b67_model.specs.Loader.{place_of_entry, same_place, is_start, is_last}
+use Rattle.b67_load_verify.specs.declared.entry.Entry.{Entry}
+use Rattle.b67_load_verify.specs.Listing.{entry_at, seen, IsInside, Marks}
+
+place_of-entry_at : (place : Place) (read : Result Op Undecodable) → place_of_entry (entry_at place read) ≡ place
+place_of-entry_at place (Ok op) = refl
+place_of-entry_at place (Err why) = refl
+
+pub place_of-seen : (e : Entry) → place_of_entry (seen e) ≡ e.place
+place_of-seen e = place_of-entry_at e.place e.read
+
+-- what holds of each item holds of the one at an index
+pub at_index : (P : loader.Entry → Type 0) (entries : List Entry) (i : ℕ) (d : Entry) → i < length entries → AllByRecursion P (map seen entries) → P (seen (get_or entries i d))
+at_index P [] i d lt h = absurd (omega arith)
+at_index P (x ∷ xs) zero d lt h = h.0
+at_index P (x ∷ xs) (suc i) d lt h = at_index P xs i d (omega arith) h.1
+
+-- ---- marks
+
+get_or-all : (n i : ℕ) (a : Bool) → get_or (replicate n a) i a ≡ a
+get_or-all n i a = elim (cases_lt i n) [
+  | inl lt ↦ get_or-replicate n i a a lt
+  | inr le ↦ get_or_past (replicate n a) i a (omega (arith, length-replicate n a))
+]
+
+pub no_marks : (n : ℕ) → Marks (replicate n false) []
+no_marks n = record { at = λ place small. get_or-all n (count_at place) false }
+
+same_place-count : (a b : Place) → a.syllable < 6 → b.syllable < 6 → same_place a b ≡ eqb (count_at a) (count_at b)
+same_place-count a b sa sb = elim (cases_eq (count_at a) (count_at b)) [
+  | inl e ↦
+      let w : a.word ≡ b.word = omega arith in
+      let s : a.syllable ≡ b.syllable = omega arith in
+      rw (eq-eqb (count_at a) (count_at b) e, eq-eqb a.word b.word w, eq-eqb a.syllable b.syllable s) refl
+  | inr ne ↦ rw (ne_eqb (count_at a) (count_at b) ne) (differ (cases_eq a.word b.word) (cases_eq a.syllable b.syllable) ne)
+]
+  where
+    differ : (a.word ≡ b.word) ⊎ (a.word ≡ b.word → ⊥) → (a.syllable ≡ b.syllable) ⊎ (a.syllable ≡ b.syllable → ⊥) → (count_at a ≡ count_at b → ⊥) → (eqb a.word b.word && eqb a.syllable b.syllable) ≡ false
+    differ (inr w) s ne = rw (ne_eqb a.word b.word w) refl
+    differ (inl w) (inr s) ne = rw (eq-eqb a.word b.word w, ne_eqb a.syllable b.syllable s) refl
+    differ (inl w) (inl s) ne = absurd (ne (omega arith))
+
+-- one mark more
+set-any : (starts : List Bool) (k j : ℕ) → k < length starts → get_or (set starts k true) j false ≡ (get_or starts j false || (eqb k j || false))
+set-any starts k j lt = elim (cases_eq j k) [
+  | inl e ↦
+      let t : eqb k j ≡ true = eq-eqb k j (sym e) in
+      rw (t, e, get_or-set_same starts k true false lt) (sym (or_true (get_or starts k false)))
+  | inr ne ↦
+      let f : eqb k j ≡ false = ne_eqb k j (λ e. ne (sym e)) in
+      rw (f, get_or-set_other starts k j true false ne) (sym (or_false (get_or starts j false)))
+]
+  where
+    or_true : (b : Bool) → (b || true) ≡ true
+    or_true true = refl
+    or_true false = refl
+
+    or_false : (b : Bool) → (b || false) ≡ b
+    or_false true = refl
+    or_false false = refl
+
+marks-push : (words : ℕ) (starts : List Bool) (entries : List loader.Entry) (e : loader.Entry) → length starts ≡ 6 * words → IsInside words e → Marks starts entries → Marks (set starts (count_at (place_of_entry e)) true) (entries ++ e ∷ [])
+marks-push words starts entries e len inside m = record {
+  at = λ place small.
+      let k : ℕ = count_at (place_of_entry e) in
+      let lt : count_at (place_of_entry e) < length starts = omega (arith, inside.word, inside.syllable) in
+      let before : get_or starts (count_at place) false ≡ is_start entries place = m.at place small in
+      let same : same_place (place_of_entry e) place ≡ eqb (count_at (place_of_entry e)) (count_at place) = same_place-count (place_of_entry e) place inside.syllable small in
+      set-any starts (count_at (place_of_entry e)) (count_at place) lt ∙ rw (list_any-append (λ x. same_place (place_of_entry x) place) entries (e ∷ []), before, ← same) refl;
+}
+
+-- the marks of a loop over the entries
+pub record Marked (words : ℕ) (starts : List Bool) (entries : List loader.Entry) : Type 0 where
+  pub room : length starts ≡ 6 * words
+  pub marks : Marks starts entries
+
+pub marked-more : (words : ℕ) (starts : List Bool) (entries : List Entry) (i : ℕ) (d : Entry) → i < length entries → AllByRecursion (IsInside words) (map seen entries)
+    → Marked words starts (map seen (take i entries)) → Marked words (set starts (count_at (get_or entries i d).place) true) (map seen (take (i + 1) entries))
+marked-more words starts entries i d lt all m =
+    let e : Entry = get_or entries i d in
+    let inside : IsInside words (seen e) = at_index (IsInside words) entries i d lt all in
+    let more : map seen (take (i + 1) entries) ≡ map seen (take i entries) ++ seen e ∷ [] = rw (take_more entries i d lt) (map-append seen (take i entries) (e ∷ [])) in
+    let at : count_at (place_of_entry (seen e)) ≡ count_at e.place = ap count_at (place_of-seen e) in
+    record {
+      room = length-set starts (count_at e.place) true ∙ m.room;
+      marks = rw (more, ← at) (marks-push words starts (map seen (take i entries)) (seen e) m.room inside m.marks);
+    }
+
+pub mark-within : (words : ℕ) (entries : List Entry) (i : ℕ) (d : Entry) (k room : ℕ) → i < length entries → AllByRecursion (IsInside words) (map seen entries) → room ≡ 6 * words → k ≡ count_at (get_or entries i d).place → k < room
+mark-within words entries i d k room lt all len is =
+    let inside : IsInside words (seen (get_or entries i d)) = at_index (IsInside words) entries i d lt all in
+    let at : count_at (place_of_entry (seen (get_or entries i d))) ≡ count_at (get_or entries i d).place = ap count_at (place_of-seen (get_or entries i d)) in
+    omega (arith, inside.word, inside.syllable, at, len, is)
+
+-- ---- the last entry
+
+is_last-map : (entries : List Entry) (place : Place) → is_last (map seen entries) place ≡ option_map_or (λ e. same_place e.place place) (slice_get entries (length entries - 1)) false
+is_last-map [] place = refl
+is_last-map (x ∷ []) place = ap (λ (p : Place). same_place p place) (place_of-seen x)
+is_last-map (x ∷ y ∷ more) place =
+    let k : length (x ∷ y ∷ more) - 1 ≡ suc (length (y ∷ more) - 1) = omega arith in
+    rw k (is_last-map (y ∷ more) place)
+
+pub last_found : (entries : List Entry) (listing : List loader.Entry) (place : Place) (e : Entry) → map seen entries ≡ listing → Some e ≡ slice_get entries (length entries - 1) → same_place e.place place ≡ is_last listing place
+last_found entries listing place e seen_is found =
+    ap (λ (o : Option Entry). option_map_or (λ x. same_place x.place place) o false) found ∙ sym (is_last-map entries place) ∙ ap (λ (x : List loader.Entry). is_last x place) seen_is

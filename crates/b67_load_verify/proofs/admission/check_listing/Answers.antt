@@ -1,0 +1,18 @@
+use Rattle.std.proofs.Common.{sym, refl}
+use Rattle.b67_load_verify.proofs.FirstRefusal.{goes_on, refuses, couple-fits, is_done}
+use Rattle.b67_load_verify.proofs.admission.check_listing.Goals as goal
+
+pub entries-init : goal.entries-init
+entries-init c = rw c.entries-entry-items.ensures.same (record { refusals = refl; couples = c.entries-entry-items.ensures.couples })
+
+pub broken_rule-requires : goal.broken_rule-requires
+broken_rule-requires c = couple-fits _ _ c.entries-entry-items.result.now c.entries.entry-index _ c.entries-test.true c.entries.invariant
+
+pub returns-in-Some : goal.returns-in-Some
+returns-in-Some c = refuses _ _ c.entries-entry-items.result.now c.entries.entry-index _ c.in-Some.reason c.entries-test.true (sym c.in-Some.ensures) c.entries.invariant
+
+pub entries-preserved : goal.entries-preserved
+entries-preserved c = goes_on _ _ c.entries-entry-items.result.now c.entries.entry-index _ c.entries-test.true (sym c.in_default.ensures) c.entries.invariant
+
+pub returns : goal.returns
+returns c = is_done _ _ c.entries-entry-items.result.now c.entries.entry-index c.entries-test.false c.entries.invariant

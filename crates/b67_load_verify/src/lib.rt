@@ -1,0 +1,15 @@
+//! Admitting programs: the ten rules of the loader.
+#![tactic(auto)]
+
+mod admission;
+mod admitted;
+mod entry;
+mod fault;
+mod listing;
+mod rules;
+#[cfg(test)]
+mod tests;
+
+pub use admission::verify;
+pub use admitted::Admitted;
+pub use fault::LoadFault;

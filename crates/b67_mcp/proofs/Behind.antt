@@ -1,0 +1,16 @@
+-- The place behind an operator that was read.
+use Rattle.std.proofs.Common.{◌≡◌, Ok, sym, subst}
+use Rattle.b67_word.specs.declared.couples.Place.{Place}
+use Rattle.b67_ctl.specs.Layout.{IsPlace}
+use Rattle.b67_model.specs.declared.operators.Op.{Op}
+use Rattle.b67_model.specs.Operators.{Reading}
+use Rattle.b67_model.specs.Rows.{reading_of}
+use Rattle.b67_model.specs.State.{Task, Setting}
+use Rattle.b67_model.specs.InOrder.{SettingInOrder}
+use Rattle.b67_law_order_steps.proofs.Readings.{ReadFits}
+use Rattle.b67_law_order_steps.proofs.Segments.{reading_fits}
+
+pub behind_fits : (setting : Setting) (t : Task) (op : Op) (next : Place) → SettingInOrder setting → ◌≡◌ {A = Reading} (Ok (op, next)) (reading_of setting t) → IsPlace next
+behind_fits setting t op next g is =
+    let r : ReadFits (Ok (op, next)) = subst ReadFits (sym is) (reading_fits setting t g) in
+    record { syllable = r.1.1; word = r.1.0 }

@@ -1,0 +1,142 @@
+-- The intrinsics that the MCP's cells hold have numbers from 8 on.
+use Rattle.std.proofs.Common.{◌≡◌, ℕ, zero, suc, ◌-◌, ◌≤◌, ltb, List, [], ◌∷◌, reverse, flat_map, Option, Some, None, unwrap_or, Ok, Err, refl, sym, ◌∙◌, ap, subst, inl, inr, arith}
+use Rattle.std.specs.Option.{ok_or}
+use Rattle.std.proofs.lemmas.Bool.{cases_Bool}
+use Rattle.b67_model.specs.Answers.{Answer}
+use Rattle.b67_model.specs.Keyed.{keyed}
+use Rattle.b67_model.specs.Lists.{Has}
+use Rattle.b67_word.specs.declared.faults.Fault.TheVariants.{InvalidAddress}
+use Rattle.b67_model.specs.Words as Words
+use Rattle.b67_model.specs.Words.{Word, Operand, Name, Ref, Row, Element, Original, Proc, Intrinsic}
+use Rattle.b67_model.specs.State.{Frame, Array, Task, Setting, Member, Here, mcp, no_frame, all_frames, frame}
+use Rattle.b67_model.specs.Cells.{first_offset, cell_of, cell, place_of}
+use Rattle.b67_model.specs.Chase.{End, AtIntrinsic, Link, Stops, Leads, link_at, link_in, link_from, link, chase_on, follow_reference}
+use Rattle.b67_model.specs.Schedule.{Session}
+use Rattle.b67_model.specs.InOrder.{Starts, IsSegment, Known, outer_of, WordInOrder, EntryInOrder, FramesInOrder, TaskInOrder, TasksInOrder, IsInOrderButPlaces}
+use Rattle.b67_law_order.proofs.Members.{all_in, keyed_has, has_append_cases, Part, has_get, has_reverse_back}
+use Rattle.b67_layout.specs.Plan.{Plan}
+use Rattle.b67_layout.specs.Session.{IsRunning}
+use Rattle.b67_layout.specs.Meets.{here}
+use Rattle.b67_layout.proofs.Fresh.{running_in_order}
+use Rattle.b67_code.specs.Called.{called_in}
+use Rattle.b67_mcp.proofs.Callings.{calling}
+
+abbrev IsLow : Word → Type 0
+IsLow (Intrinsic n) = 8 ≤ n
+IsLow _ = Unit {0}
+
+abbrev EndLow : Answer End → Type 0
+EndLow (Ok (AtIntrinsic n)) = 8 ≤ n
+EndLow _ = Unit {0}
+
+abbrev LinkLow : Link → Type 0
+LinkLow (Stops end) = EndLow end
+LinkLow (Leads w) = Unit {0}
+
+of_task : (P : Starts) (arrays : List Array) (reach : List Known) (owner : ℕ) (w : Word) → WordInOrder P arrays reach owner w → IsLow w
+of_task P arrays reach owner (Operand bits) g = tt
+of_task P arrays reach owner (Name c) g = tt
+of_task P arrays reach owner (Ref f o) g = tt
+of_task P arrays reach owner (Row a) g = tt
+of_task P arrays reach owner (Element a i) g = tt
+of_task P arrays reach owner (Original a) g = tt
+of_task P arrays reach owner (Proc s l p) g = tt
+of_task P arrays reach owner (Intrinsic n) g = absurd g
+of_task P arrays reach owner (Words.Segment n) g = tt
+
+of_entry : (arrays : List Array) (w : Word) → EntryInOrder arrays w → IsLow w
+of_entry arrays (Operand bits) g = tt
+of_entry arrays (Name c) g = tt
+of_entry arrays (Ref f o) g = tt
+of_entry arrays (Row a) g = tt
+of_entry arrays (Element a i) g = tt
+of_entry arrays (Original a) g = tt
+of_entry arrays (Proc s l p) g = tt
+of_entry arrays (Intrinsic n) g = absurd g
+of_entry arrays (Words.Segment n) g = tt
+
+of_frames : (P : Starts) (arrays : List Array) (outer : List Known) (fs : List Frame) (f : Frame) (w : Word) → FramesInOrder P arrays outer fs → Has fs f → Has f.cells w → IsLow w
+of_frames P arrays outer [] f w g h k = absurd h
+of_frames P arrays outer (y ∷ ys) f w g (inl e) k =
+    let there : Has y.cells w = subst (λ (z : Frame). Has z.cells w) (sym e) k in
+    of_task P arrays _ y.identity w (all_in (WordInOrder P arrays _ y.identity) y.cells w g.0.0 there)
+of_frames P arrays outer (y ∷ ys) f w g (inr h) k = of_frames P arrays outer ys f w g.2 h k
+
+has_flat_back : {A B : Type 0} (f : A → List B) (xs : List A) (y : B) → Has (flat_map f xs) y → Part f xs y
+has_flat_back f [] y h = absurd h
+has_flat_back f (x ∷ xs) y h = elim (has_append_cases (f x) (flat_map f xs) y h) [
+  | inl k ↦ record { item = x; among = inl refl; inside = k }
+  | inr k ↦ let p = has_flat_back f xs y k in record { item = p.item; among = inr p.among; inside = p.inside }
+]
+
+some_ok : (o : Option Word) (w : Word) → ok_or o InvalidAddress ≡ Ok w → o ≡ Some w
+some_ok None w e = absurd cc
+some_ok (Some v) w e = let same : v ≡ w = cc in ap Some same
+
+cell_has : (f : Frame) (offset : ℕ) (w : Word) → ok_or (cell_of f offset) InvalidAddress ≡ Ok w → Has f.cells w
+cell_has f offset w e =
+    let some : cell_of f offset ≡ Some w = some_ok (cell_of f offset) w e in
+    elim (cases_Bool (ltb offset (first_offset f))) [
+      | inl t ↦ absurd (let z : None ≡ Some w = rw t at some in cc)
+      | inr t ↦ has_reverse_back f.cells w (has_get (reverse f.cells) (offset - first_offset f) w (rw t at some))
+    ]
+
+module _ (setting : Setting) (h : Here) (same : h.setting ≡ setting) (o : TasksInOrder (IsSegment setting) setting h.job) where
+  in_frames : (f : Frame) (w : Word) → Has (all_frames h) f → Has f.cells w → IsLow w
+  in_frames f w k c = elim (has_append_cases (flat_map (λ (t : Task). t.frames) h.job.tasks) (h.setting.dictionary ∷ mcp ∷ []) f k) [
+    | inl a ↦
+        let p = has_flat_back (λ (t : Task). t.frames) h.job.tasks f a in
+        let own = all_in (TaskInOrder (IsSegment setting) setting h.job) h.job.tasks p.item o.tasks p.among in
+        of_frames (IsSegment setting) h.job.arrays (outer_of h.job p.item) p.item.frames f w own.frames p.inside c
+    | inr (inl e) ↦
+        let there : Has setting.dictionary.cells w = subst (λ (z : Frame). Has z.cells w) (sym e ∙ ap (λ (z : Setting). z.dictionary) same) c in
+        of_entry h.job.arrays w (all_in (EntryInOrder h.job.arrays) setting.dictionary.cells w o.entries there)
+    | inr (inr (inl e)) ↦
+        let there : Has mcp.cells w = subst (λ (z : Frame). Has z.cells w) (sym e) c in
+        all_in IsLow mcp.cells w (omega arith, (omega arith, (omega arith, (omega arith, (omega arith, (omega arith, (omega arith, (omega arith, (omega arith, tt))))))))) there
+    | inr (inr (inr z)) ↦ absurd z
+  ]
+
+  in_frame : (id : ℕ) (q : Option Frame) → keyed (λ (f : Frame). f.identity) id (all_frames h) ≡ q → (w : Word) → Has (unwrap_or q no_frame).cells w → IsLow w
+  in_frame id None e w c = absurd c
+  in_frame id (Some f) e w c = in_frames f w (keyed_has (λ (f : Frame). f.identity) id (all_frames h) f e).0 c
+
+  at_word : (f offset : ℕ) (w : Word) → IsLow w → LinkLow (link_at f offset w)
+  at_word f offset (Operand bits) g = tt
+  at_word f offset (Name c) g = tt
+  at_word f offset (Ref i k) g = tt
+  at_word f offset (Row a) g = tt
+  at_word f offset (Element a i) g = tt
+  at_word f offset (Original a) g = tt
+  at_word f offset (Proc s l p) g = tt
+  at_word f offset (Intrinsic n) g = g
+  at_word f offset (Words.Segment n) g = tt
+
+  at_cell : (f offset : ℕ) (a : Answer Word) → cell h f offset ≡ a → LinkLow (link_in f offset a)
+  at_cell f offset (Err fault) e = tt
+  at_cell f offset (Ok w) e = at_word f offset w (in_frame f (keyed (λ (g : Frame). g.identity) f (all_frames h)) refl w (cell_has (frame h f) offset w e))
+
+  at_place : (a : Answer (ℕ × ℕ)) → LinkLow (link_from h a)
+  at_place (Err fault) = tt
+  at_place (Ok at) = at_cell at.0 at.1 (cell h at.0 at.1) refl
+
+  chased : (links : ℕ) (l : Link) → LinkLow l → EndLow (chase_on h links l)
+  chased links (Stops end) g = g
+  chased zero (Leads w) g = tt
+  chased (suc links) (Leads w) g = chased links (link h w) (at_place (place_of h w))
+
+  followed : (w : Word) → EndLow (follow_reference h w)
+  followed (Name c) = chased 1024 (Leads (Name c)) tt
+  followed (Ref f offset) = chased 1024 (Leads (Ref f offset)) tt
+  followed (Operand bits) = tt
+  followed (Row a) = tt
+  followed (Element a i) = tt
+  followed (Original a) = tt
+  followed (Proc s l p) = tt
+  followed (Intrinsic n) = tt
+  followed (Words.Segment n) = tt
+
+pub from_eight : (plan : Plan) (s : Session) (m : Member) (t : Task) (n : ℕ) → IsInOrderButPlaces s → IsRunning plan s.jobs m t → called_in m t ≡ Some n → 8 ≤ n
+from_eight plan s m t n o runs c =
+    let k = calling m t n c in
+    subst EndLow k.ends (followed m.setting (here m t k.next) refl (running_in_order plan s m t o runs).0.tasks k.reference)

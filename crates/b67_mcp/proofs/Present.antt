@@ -1,0 +1,127 @@
+-- What the call of an intrinsic touches is present: PRINTROW alone touches an array.
+use Rattle.std.proofs.Common.{◌≡◌, ◌≢◌, ℕ, ◌==◌, List, [], ◌∷◌, reverse, Option, Some, None, Result, Ok, Err, inl, inr, refl, sym, ◌∙◌, ap, subst}
+use Rattle.std.proofs.lemmas.Bool.{cases_Bool, eqb-true}
+use Rattle.std.proofs.lemmas.Option.{same_Some, none-some}
+use Rattle.b67_word.specs.declared.faults.Fault.{Fault}
+use Rattle.b67_model.specs.Answers.{Answer}
+use Rattle.b67_model.specs.Chase.{End, AtCell, AtElement, AtArray, AtProc, AtIntrinsic}
+use Rattle.b67_model.specs.Intrinsics.{printrow}
+use Rattle.b67_model.specs.Need.{touched_of, touched_by_call, touched_at_mark, touched_before_fault}
+use Rattle.b67_model.specs.Operators.{Reading}
+use Rattle.b67_model.specs.Rows.{reading_of, step}
+use Rattle.b67_model.specs.State.{Standing, Marked, Task, Job, Member, Here, top}
+use Rattle.b67_model.specs.Steps.{Line, Done, Goes}
+use Rattle.b67_model.specs.Words as Words
+use Rattle.b67_model.specs.Words.{Word, Operand, Name, Ref, Row, Element, Original, Proc, Intrinsic}
+use Rattle.b67_model.specs.Schedule.{Session}
+use Rattle.b67_stack.specs.Stands.{Storage}
+use Rattle.b67_layout.specs.Plan.{Plan}
+use Rattle.b67_layout.specs.Meets.{here}
+use Rattle.b67_printrow.specs.Calls.{CopiesPresent}
+use Rattle.b67_task_tables.specs.declared.tables.Machine.{Machine}
+use Rattle.b67_mcp.specs.Called.{IsThere, TouchesPresent, CallTouches}
+use Rattle.b67_mcp.specs.Answers.{AnswerMeets, end_of}
+use Rattle.b67_mcp.proofs.Callings.{Calling}
+use Rattle.b67_mcp.proofs.Touched.{reference_same, touched_by_row}
+
+-- two arguments are no array
+many : (r v w : Word) (more : List Word) (e : Answer End) → touched_by_call (r ∷ v ∷ w ∷ more) e ≡ None
+many r (Row b) w more e = refl
+many r (Operand bits) w more e = refl
+many r (Name c) w more e = refl
+many r (Ref f o) w more e = refl
+many r (Element b i) w more e = refl
+many r (Original b) w more e = refl
+many r (Proc s l p) w more e = refl
+many r (Intrinsic i) w more e = refl
+many r (Words.Segment i) w more e = refl
+
+-- the one call that touches an array before a fault
+pub record TouchesRow (arguments : List Word) (e : Answer End) (a : ℕ) : Type 0 where
+  pub called : e ≡ Ok (AtIntrinsic 10)
+  pub are : arguments ≡ Row a ∷ []
+
+pub row_only : (r : Word) (arguments : List Word) (e : Answer End) (a : ℕ) → touched_by_call (r ∷ arguments) e ≡ Some a → TouchesRow arguments e a
+row_only r [] e a q = absurd (none-some a q)
+row_only r (Row b ∷ []) (Ok (AtIntrinsic n)) a q = elim (cases_Bool (n == 10)) [
+  | inl y ↦ record { called = ap (λ (i : ℕ). Ok (AtIntrinsic i)) (eqb-true n 10 y); are = ap (λ (i : ℕ). Row i ∷ []) (same_Some b a (rw y at q)) }
+  | inr z ↦ absurd (none-some a (rw z at q))
+]
+row_only r (Row b ∷ []) (Ok (AtCell f o bits)) a q = absurd (none-some a q)
+row_only r (Row b ∷ []) (Ok (AtElement c i)) a q = absurd (none-some a q)
+row_only r (Row b ∷ []) (Ok (AtArray c)) a q = absurd (none-some a q)
+row_only r (Row b ∷ []) (Ok (AtProc f s l p)) a q = absurd (none-some a q)
+row_only r (Row b ∷ []) (Err fault) a q = absurd (none-some a q)
+row_only r (Operand bits ∷ []) e a q = absurd (none-some a q)
+row_only r (Name c ∷ []) e a q = absurd (none-some a q)
+row_only r (Ref f o ∷ []) e a q = absurd (none-some a q)
+row_only r (Element b i ∷ []) e a q = absurd (none-some a q)
+row_only r (Original b ∷ []) e a q = absurd (none-some a q)
+row_only r (Proc s l p ∷ []) e a q = absurd (none-some a q)
+row_only r (Intrinsic i ∷ []) e a q = absurd (none-some a q)
+row_only r (Words.Segment i ∷ []) e a q = absurd (none-some a q)
+row_only r (v ∷ w ∷ more) e a q = absurd (none-some a (sym (many r v w more e) ∙ q))
+
+-- PRINTROW is made with a whole copy alone
+made_row : (h : Here) (arguments : List Word) (done : Done) → printrow h arguments ≡ Ok done → (a : ℕ) × (arguments ≡ Row a ∷ [])
+made_row h [] done e = absurd cc
+made_row h (Row a ∷ []) done e = (a, refl)
+made_row h (Operand bits ∷ []) done e = absurd cc
+made_row h (Name c ∷ []) done e = absurd cc
+made_row h (Ref f o ∷ []) done e = absurd cc
+made_row h (Element b i ∷ []) done e = absurd cc
+made_row h (Original b ∷ []) done e = absurd cc
+made_row h (Proc s l p ∷ []) done e = absurd cc
+made_row h (Intrinsic i ∷ []) done e = absurd cc
+made_row h (Words.Segment i ∷ []) done e = absurd cc
+made_row h (v ∷ w ∷ more) done e = absurd cc
+
+module _ (m : Member) (t : Task) where
+  abbrev touched : Answer Done → Option ℕ
+  touched answer = touched_of m.setting m.course.job t answer
+
+  module _ (n : ℕ) (k : Calling m t n) where
+    abbrev at_call : Here
+    at_call = record { setting = m.setting; job = m.course.job; task = t; at = t.place }
+
+    before : touched_before_fault m.setting m.course.job t (reading_of m.setting t) ≡ touched_by_call (k.reference ∷ k.arguments) (Ok (AtIntrinsic n))
+    before =
+        let by_reading : Reading → Option ℕ = λ r. touched_before_fault m.setting m.course.job t r in
+        let by_mark : Standing → Option ℕ = λ st. touched_at_mark at_call st (reverse (top t.frames).cells) in
+        let by_cells : List Word → Option ℕ = λ cs. touched_at_mark at_call Marked cs in
+        let by_end : Answer End → Option ℕ = λ e. touched_by_call (k.reference ∷ k.arguments) e in
+        ap by_reading k.reading ∙ ap by_mark k.call.marked ∙ ap by_cells k.call.cells
+        ∙ ap by_end (reference_same at_call (here m t k.next) refl refl k.reference ∙ k.ends)
+
+    -- a call that faults
+    fault_touches : (fault : Fault) → step m.setting m.course.job t ≡ Err fault → (a : ℕ) → touched (step m.setting m.course.job t) ≡ Some a → (n ≡ 10) × (k.arguments ≡ Row a ∷ [])
+    fault_touches fault is a e =
+        let f = row_only k.reference k.arguments (Ok (AtIntrinsic n)) a (sym before ∙ sym (ap touched is) ∙ e) in
+        ((let both : Ok (AtIntrinsic n) ≡ Ok (AtIntrinsic 10) = f.called in cc), f.are)
+
+  module _ (x : Storage) (plan : Plan) where
+    -- a call of another intrinsic that faults
+    pub faults_untouched : (n : ℕ) → n ≢ 10 → Calling m t n → (fault : Fault) → step m.setting m.course.job t ≡ Err fault → TouchesPresent x plan m t
+    faults_untouched n ne k fault is a e = absurd (ne (fault_touches n k fault is a e).0)
+
+    -- a call that is made, and touches nothing
+    pub made_untouched : (job : Job) (printed : List Line) → step m.setting m.course.job t ≡ Ok (Goes job printed None) → TouchesPresent x plan m t
+    made_untouched job printed is a e = absurd (none-some a (sym (ap touched is) ∙ e))
+
+    pub silent_untouched : (n : ℕ) → n ≢ 10 → Calling m t n → (told : Option (List (List ℕ))) (s : Session) (old new : Machine) (done : Result (Unit {0}) Fault) → AnswerMeets told s m t done old new → CallTouches x plan m t (Ok (end_of done))
+    silent_untouched n ne k told s old new (Ok done) h = made_untouched h.job [] h.is
+    silent_untouched n ne k told s old new (Err fault) h = faults_untouched n ne k fault h.0
+
+    -- PRINTROW
+    module _ (k : Calling m t 10) (present : CopiesPresent x plan m k.arguments) where
+      copied : (a : ℕ) → k.arguments ≡ Row a ∷ [] → IsThere x plan m a
+      copied a are = let p = present a are in record { array = p.0.item; among = p.0.live; named = p.0.named; there = p.1 }
+
+      pub row_faults : (fault : Fault) → step m.setting m.course.job t ≡ Err fault → TouchesPresent x plan m t
+      row_faults fault is a e = copied a (fault_touches 10 k fault is a e).1
+
+      pub row_made : (done : Done) → printrow (here m t k.next) k.arguments ≡ Ok done → TouchesPresent x plan m t
+      row_made done is a e =
+          let (b, are) = made_row (here m t k.next) k.arguments done is in
+          let same : b ≡ a = same_Some b a (sym (touched_by_row m t k b are) ∙ e) in
+          subst (IsThere x plan m) same (copied b are)

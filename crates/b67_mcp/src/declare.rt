@@ -1,0 +1,25 @@
+//! ARRAYDEC.
+
+ghost use Rattle.b67_mcp.specs.Answers.{AnswerMeets};
+ghost use Rattle.b67_mcp.specs.Called.{CallsSome};
+ghost use Rattle.b67_mcp.specs.Running.{ForCalls, Kept};
+
+use crate::running::next_place;
+use b67_calls::{answer_array, array_length};
+use b67_task_tables::Machine;
+use b67_word::Fault;
+
+/// ARRAYDEC: the call is cut and answers with the original of a new array. Its fault changes nothing.
+pub(crate) fn declare(machine: &mut Machine) -> Result<(), Fault>
+    requires { CallsSome machine.old 8 }
+    ensures row { ForCalls machine.old 8 (λ x told plan s m t. AnswerMeets told s m t result machine.old machine.new) }
+    ensures kept { Kept machine.old machine.new }
+{
+    let length = match array_length(&machine.cpu) {
+        Ok(length) => length,
+        Err(fault) => return Err(fault),
+    };
+    let next = next_place(machine);
+    answer_array(&mut machine.cpu, length, next);
+    Ok(())
+}

@@ -1,0 +1,52 @@
+//! The running task, and the operator at which it stands.
+
+ghost use Rattle.std.specs.Prelude.{◌≡◌};
+ghost use Rattle.b67_ctl.specs.Layout.{IsPlace};
+ghost use Rattle.b67_layout.specs.Meets.{with_job};
+ghost use Rattle.b67_mcp_calls.specs.Calls.{MayCut, job_cut};
+ghost use Rattle.b67_word.specs.declared.couples.Place.{Place};
+ghost use Rattle.b67_task_tables.specs.Tables.{MachineStands};
+ghost use Rattle.b67_mcp.specs.Running.{ForRuns, IsBehind, Reads, CutsSome, Kept};
+
+use b67_code::reading;
+use b67_mcp_calls::cut_call;
+use b67_task_tables::{Machine, TaskRow};
+use b67_word::Place;
+
+/// The place behind the operator at the running place.
+pub(crate) fn next_place(machine: &Machine) -> Place
+    requires { Reads machine.now }
+    ensures place { IsPlace result }
+    ensures behind { ForRuns machine.now (λ x told plan s m t. IsBehind m t result) }
+{
+    match reading(&machine.cpu) {
+        Some(read) => match read {
+            Ok((_, next)) => next,
+            Err(_) => unreachable!(),
+        },
+        None => unreachable!(),
+    }
+}
+
+/// The row of the running task.
+pub(crate) fn running_row(machine: &Machine) -> TaskRow
+    requires { Reads machine.now }
+    ensures job { ForRuns machine.now (λ x told plan s m t. result.job ≡ m.setting.number) }
+    ensures number { ForRuns machine.now (λ x told plan s m t. result.number ≡ t.number) }
+{
+    machine.tasks.rows[machine.tasks.running as usize]
+}
+
+/// Cuts the call at which the running task stands off its stack, once its text is printed. Of what is printed next nothing is
+/// printed yet.
+pub(crate) fn cut(machine: &mut Machine)
+    requires { CutsSome machine.old }
+    ensures stands { ForRuns machine.old (λ x told plan s m t. MayCut m t → (next : Place) → IsBehind m t next
+        → MachineStands x told machine.new plan (with_job s m (job_cut m t next))) }
+    ensures printed { machine.new.tasks.printed ≡ 0 }
+    ensures kept { Kept machine.old machine.new }
+{
+    let next = next_place(machine);
+    cut_call(&mut machine.cpu, next);
+    machine.tasks.printed = 0;
+}

@@ -1,0 +1,41 @@
+//! PRINT.
+
+ghost use Rattle.std.specs.Prelude.{◌≡◌, List};
+ghost use Rattle.b67_model.specs.Words as words;
+ghost use Rattle.b67_layout.specs.Meets.{ForEach};
+ghost use Rattle.b67_mcp_calls.specs.Calls.{CallSome, IsCall, number_in, PrintMeets};
+
+use b67_exec_cells::{count_cells, top_cell};
+use b67_leave::is_critical;
+use b67_stack::Cpu;
+use b67_word::{Fault, Word};
+
+/// The number of a whole operand. INVALID OPERAND where a word is none, EXPONENT where it isn't whole.
+fn whole(w: Word) -> Result<i64, Fault>
+    ensures { result ≡ number_in w }
+{
+    if w.tag() != 0 {
+        return Err(Fault::InvalidOperand);
+    }
+    w.value().ok_or(Fault::Exponent)
+}
+
+/// The value that a call of PRINT on the running stack prints, or the call's fault. Nothing is changed: the line is printed
+/// first, and then the call is cut.
+pub fn print_value(cpu: &Cpu) -> Result<i64, Fault>
+    requires { CallSome cpu.now }
+    ensures row { ForEach cpu.now (λ x plan s m t. (reference : words.Word) (arguments : List words.Word) → IsCall t reference arguments → PrintMeets m t arguments result) }
+{
+    if count_cells(cpu) != 2 {
+        return Err(Fault::InvalidOperand);
+    }
+    let w = match top_cell(cpu) {
+        Ok(w) => w,
+        Err(fault) => return Err(fault),
+    };
+    let value = whole(w);
+    if value.is_ok() && is_critical(cpu) {
+        return Err(Fault::CriticalBlock);
+    }
+    value
+}

@@ -1,0 +1,173 @@
+//! Assembly: what its cards say.
+
+ghost use Rattle.std.specs.Prelude.{◌≡◌, [], ◌∷◌, ◌++◌, OnOk, OnErr};
+
+use crate::text::Name;
+use b67_model::{Code, Op};
+use b67_word::Couple;
+use std::alloc::{AllocError, Global};
+use std::marker::Model;
+
+/// What an operator's name stands for.
+#[derive(Clone, Copy, Debug)]
+pub enum Mnemonic {
+    Plain(Code),
+    Valc,
+    Namc,
+    Brun,
+    Brtr,
+    Brfl,
+    Lt8,
+    Lt16,
+    Lt48,
+    Mpcw,
+    Bset,
+    Brst,
+    Isol,
+    Insr,
+}
+
+/// The operators that name a cell.
+#[derive(Clone, Copy, Debug)]
+pub enum Call {
+    Value,
+    Name,
+}
+
+/// The operators that name a label.
+#[derive(Clone, Copy, Debug)]
+pub enum Branch {
+    Always,
+    IfTrue,
+    IfFalse,
+}
+
+/// An operator as a card writes it.
+#[derive(Drop)]
+pub enum Sketch {
+    Whole(Op),
+    /// With a number out of its range.
+    OutOfRange,
+    /// A couple, unless a part of it is out of every range.
+    Couple { call: Call, couple: Option<Couple> },
+    /// A data row at level 1.
+    Row { call: Call, row: Name },
+    Jump { branch: Branch, label: Name },
+    Pcw { segment: Name },
+}
+
+/// Words of a data row, None for one out of its range.
+#[derive(Drop)]
+pub struct Values {
+    items: Vec<Option<u64>>,
+}
+
+impl Model for Values {
+    ghost use Rattle.std.specs.Prelude.{List, ℕ, Option};
+
+    ghost Value = { List (Option ℕ) };
+
+    ghost view = { λ v. v.items.items };
+}
+
+impl Values {
+    /// The empty list.
+    pub fn new(alloc: Global) -> Self
+        ensures { result ≡ [] }
+    {
+        Values {
+            items: Vec::new(alloc),
+        }
+    }
+
+    /// Appends a word. A refusal changes nothing.
+    pub fn push(&mut self, x: Option<u64>) -> Result<(), AllocError>
+        ensures ok { OnOk result (self.new ≡ self.old ++ x ∷ []) }
+        ensures err { OnErr result (self.new ≡ self.old) }
+    {
+        self.items.push(x)?;
+        Ok(())
+    }
+
+    pub fn as_slice(&self) -> &[Option<u64>]
+        ensures { result.now ≡ self.now }
+    {
+        self.items.as_slice()
+    }
+}
+
+/// What a card says.
+#[derive(Drop)]
+pub enum Statement {
+    /// Begins a segment, at no level where that is out of its range.
+    Segment { name: Name, level: Option<u8> },
+    Row { name: Name },
+    /// One word of a data row or more.
+    Values { first: Option<u64>, more: Values },
+    Operator { label: Option<Name>, sketch: Sketch },
+}
+
+/// What a card is by its first word.
+#[derive(Clone, Copy, Debug, PartialEq, Eq)]
+pub enum Kind {
+    Segment,
+    Row,
+    Numbers,
+    Operator,
+}
+
+/// A card that isn't ignored: its number, its kind, and what it says or the reason, 1 or 2, why it says nothing.
+#[derive(Drop)]
+pub struct Line {
+    pub number: u32,
+    pub kind: Kind,
+    pub says: Result<Statement, u8>,
+}
+
+/// A list of such cards.
+#[derive(Drop)]
+pub struct Lines {
+    items: Vec<Line>,
+}
+
+impl Model for Lines {
+    ghost use Rattle.std.specs.Prelude.{List};
+    ghost use Rattle.b67_model_text.specs.declared.assembly.Line.{Line};
+
+    ghost Value = { List Line };
+
+    ghost view = { λ c. c.items.items };
+}
+
+impl Lines {
+    /// The empty list.
+    pub fn new(alloc: Global) -> Self
+        ensures { result ≡ [] }
+    {
+        Lines {
+            items: Vec::new(alloc),
+        }
+    }
+
+    /// Appends a card. A refusal changes nothing.
+    pub fn push(&mut self, x: Line) -> Result<(), AllocError>
+        ensures ok { OnOk result (self.new ≡ self.old ++ x ∷ []) }
+        ensures err { OnErr result (self.new ≡ self.old) }
+    {
+        self.items.push(x)?;
+        Ok(())
+    }
+
+    pub fn as_slice(&self) -> &[Line]
+        ensures { result.now ≡ self.now }
+    {
+        self.items.as_slice()
+    }
+}
+
+/// What a name means: a segment or a data row, by its place among those of its kind, counted from 0.
+#[derive(Clone, Copy, Debug)]
+pub enum Named {
+    Segment { number: u32, level: Option<u8> },
+    Row { number: u32 },
+}

@@ -1,6 +1,0 @@
-use Rattle.std.proofs.Common.{◌≡◌, ◌-◌, ◌*◌, ◌≤◌}
-use Rattle.b67_needs.specs.Sums.{sectors_from}
-use Rattle.b67_needs.proofs.sums.range_sectors.Given as goal
-
-abbrev pub invariant-loop-at : goal.invariant-loop-at
-invariant-loop-at l = record { value : l.sum ≡ sectors_from l.code l.core l.from (l.at - l.from); low : l.sum ≤ 2185 * (l.at - l.from) }

@@ -1,0 +1,87 @@
+-- What the descriptor of an absent thing tells.
+use Rattle.std.proofs.Common.{◌≡◌, ℕ, ◌<◌, ◌^◌, List, length, Option, Some, None, refl, sym, ◌∙◌, ap, arith, Bool, true, false, subst}
+use Rattle.std.specs.List.{slice_get}
+use Rattle.std.proofs.lemmas.Option.{same_Some}
+use Rattle.std.proofs.lemmas.Bool.{false≢true}
+use Rattle.b67_word.specs.Tagged.{Tagged}
+use Rattle.b67_ctl.specs.declared.descriptors.DataDesc.{DataDesc}
+use Rattle.b67_ctl.specs.declared.descriptors.SegDesc.{SegDesc}
+use Rattle.b67_ctl.specs.declared.registers.Regs.{Regs}
+use Rattle.b67_ctl.specs.Descriptors.{data_word, seg_word, IsDataDesc, IsSegDesc}
+use Rattle.b67_area.specs.declared.Kind.{Kind}
+use Rattle.b67_area.specs.declared.Kind.TheVariants.{Array, Row, Code}
+use Rattle.b67_stack.specs.Shapes.{Held}
+use Rattle.b67_stack.specs.Picture.{Thing, Picture, home_desc, home_word_of}
+use Rattle.b67_stack.specs.Stands.{Storage, Stands}
+use Rattle.b67_stack.proofs.Homes.{chain_small}
+use Rattle.b67_layout_storage.specs.Machine.{IsAbsent}
+use Rattle.b67_layout_storage.proofs.Unchanged.{area_bounds}
+use Rattle.b67_presence_page.specs.Brings.{IsCode}
+
+abbrev pub at_rest : ℕ → Held
+at_rest first = record { area = None; chain = first }
+
+abbrev pub rest_desc : Bool → ℕ → ℕ → DataDesc
+rest_desc read_only n first = home_desc read_only n (at_rest first)
+
+abbrev pub rest_seg : ℕ → ℕ → SegDesc
+rest_seg n first = record { present = false; words = n; address = first }
+
+-- the word of an absent thing, and what it needs to be read
+pub record AtRest (core : List Tagged) (home : ℕ) (k : Kind) (n first : ℕ) : Type 0 where
+  pub word : slice_get core home ≡ Some (home_word_of k n (at_rest first))
+  pub some : 0 < n
+  pub few : n < 2 ^ 16
+  pub small : first < 2 ^ 20
+
+module _ (x : Storage) (core : List Tagged) (r : Regs) (p : Picture) (home : ℕ) (t : Thing) (s : Stands x core r p) (a : IsAbsent x p home t) where
+  none : (x.held t.home).area ≡ None
+  none = ap (λ q. (x.held q).area) a.is ∙ a.absent
+
+  pub rest_here : AtRest core home t.kind (length t.numbers) (x.held t.home).chain
+  rest_here =
+      let it = s.things t a.there in
+      let l = s.slots.laid.lengths t a.there in
+      record {
+        word = ap (slice_get core) (sym a.is) ∙ it.home ∙ ap (λ (o : Option ℕ). Some (home_word_of t.kind (length t.numbers) (record { area = o; chain = (x.held t.home).chain }))) none;
+        some = l.0;
+        few = l.1;
+        small = chain_small x core t (x.held t.home).area (x.held t.home).chain it.content;
+      }
+
+module _ (core : List Tagged) (home : ℕ) (w : Tagged) (get : slice_get core home ≡ Some w) (n first : ℕ) where
+  is : (k : Kind) → AtRest core home k n first → w ≡ home_word_of k n (at_rest first)
+  is k h = same_Some _ _ (sym get ∙ h.word)
+
+  -- one of the two readers knows it
+  pub no_reader : (k : Kind) → AtRest core home k n first → ((d : SegDesc) → IsSegDesc d → w ≡ seg_word d → ⊥) → ((d : DataDesc) → IsDataDesc d → w ≡ data_word d → ⊥) → ⊥
+  no_reader Array h no_seg no_data = no_data (rest_desc false n first) (record { words = omega (arith, h.few); address = h.small; indexed = λ z. absurd (false≢true z) }) (is Array h)
+  no_reader Row h no_seg no_data = no_data (rest_desc true n first) (record { words = omega (arith, h.few); address = h.small; indexed = λ z. absurd (false≢true z) }) (is Row h)
+  no_reader Code h no_seg no_data = no_seg (rest_seg n first) (record { words = omega (arith, h.few); address = h.small }) (is Code h)
+
+-- the segment descriptor of code that is in core
+pub record Segment (core : List Tagged) (code n at : ℕ) : Type 0 where
+  pub desc : SegDesc
+  pub fits : IsSegDesc desc
+  pub word : slice_get core code ≡ Some (seg_word desc)
+  pub words : desc.words ≡ n
+  pub address : desc.address ≡ at
+  pub inside : code < length core
+
+pub segment_here : (x : Storage) (core : List Tagged) (r : Regs) (p : Picture) (code at : ℕ) (c : Thing) → Stands x core r p → IsCode x p code at c → Segment core code (length c.numbers) at
+segment_here x core r p code at c s k =
+    let it = s.things c k.there in
+    let present : (x.held c.home).area ≡ Some at = ap (λ q. (x.held q).area) k.is ∙ k.present in
+    let l = s.slots.laid.lengths c k.there in
+    let b = area_bounds x core r p s c k.there at present in
+    let H : Kind → Type 0 = λ q. slice_get core c.home ≡ Some (home_word_of q (length c.numbers) (x.held c.home)) in
+    let w : slice_get core c.home ≡ Some (home_word_of Code (length c.numbers) (x.held c.home)) = subst H k.kind it.home in
+    let A : Option ℕ → Type 0 = λ o. slice_get core c.home ≡ Some (home_word_of Code (length c.numbers) (record { area = o; chain = (x.held c.home).chain })) in
+    record {
+      desc = record { present = true; words = length c.numbers; address = at };
+      fits = record { words = omega (arith, l.1); address = omega (arith, b.1, s.directory.small) };
+      word = ap (slice_get core) (sym k.is) ∙ subst A present w;
+      words = refl;
+      address = refl;
+      inside = omega (arith, (s.slots.laid.homes c k.there).1, s.inside, k.is);
+    }

@@ -1,0 +1,117 @@
+use Rattle.std.proofs.Common.{◌≡◌, ◌≢◌, ℕ, List, Option, Some, None, sym, ◌∙◌, ap, subst, Result, Err}
+use Rattle.std.proofs.lemmas.Option.{none-some}
+use Rattle.b67_stack.specs.Stands.{Storage}
+use Rattle.b67_layout_storage.specs.Machine.{MachineStands}
+use Rattle.b67_layout_storage.proofs.Below.{Stayed-then}
+use Rattle.b67_layout_storage.proofs.Devices.{still_tells}
+use Rattle.b67_overlay.specs.Overlaid.{overlaid, retelling}
+use Rattle.b67_overlay.specs.Sheds.{Sheds}
+use Rattle.b67_overlay.proofs.Shedding.{Sheds-retelling, Sheds-overlaid, short_by}
+use Rattle.b67_presence_page.specs.Brings.{Waits}
+use Rattle.b67_presence_page.proofs.Ways.{absent_after, readable_after, read_in, came_of}
+use Rattle.b67_backing.specs.declared.SpaceFault.{SpaceFault}
+use Rattle.b67_backing.specs.declared.SpaceFault.TheVariants.{BackingFull}
+use Rattle.b67_presence_page.specs.declared.paging.Refusal.TheVariants.{NoHole}
+use Rattle.b67_presence_page.proofs.way.give_way.Goals as goal
+
+pub page_in-requires-clause-machine : goal.page_in-requires-clause-machine
+page_in-requires-clause-machine g c =
+    let (x, p, t, u, m, a, pr) = c.requires.machine in
+    let spare = c.args.spare in
+    let n = c.if-at-spare.false in
+    let tells : (all : List (List ℕ)) → g.B.Backing.holds c.args.backing.now ≡ Some all → g.B.Backing.holds c.overlay.new.backing ≢ None = λ all e n. let (q, i) = still_tells g.B.Backing.holds g.B.Backing.size g.B.Backing.calls g.B.Backing.faults c.args.backing.now c.overlay.new.backing c.overlay.ensures.device all e in none-some q (sym n ∙ i) in
+    let y : Storage = overlaid x u c.args.at (g.B.Backing.holds c.overlay.new.backing) in
+    let my = c.in-Ok.ensures.stands x p u m pr in
+    let sh : Sheds x y spare = Sheds-overlaid x (g.B.Backing.holds c.args.backing.now) (g.B.Backing.holds c.overlay.new.backing) m.device tells u c.args.at spare pr.present n in
+    let ay = absent_after x y p c.args.home spare t sh a in
+    (y, p, t, my, ay)
+
+pub returns-in-Err-clause-refused : goal.returns-in-Err-clause-refused
+returns-in-Err-clause-refused g c = λ x p t u m a pr.
+    let spare = c.args.spare in
+    let n = c.if-at-spare.false in
+    let tells : (all : List (List ℕ)) → g.B.Backing.holds c.args.backing.now ≡ Some all → g.B.Backing.holds c.overlay.new.backing ≢ None = λ all e n. let (q, i) = still_tells g.B.Backing.holds g.B.Backing.size g.B.Backing.calls g.B.Backing.faults c.args.backing.now c.overlay.new.backing c.overlay.ensures.device all e in none-some q (sym n ∙ i) in
+    let sh = Sheds-retelling x (g.B.Backing.holds c.args.backing.now) (g.B.Backing.holds c.overlay.new.backing) m.device tells spare in
+    let w : Waits x p spare c.overlay.new.cpu c.overlay.new.areas c.overlay.new.sectors (g.B.Backing.holds c.overlay.new.backing) = record { storage = retelling x (g.B.Backing.holds c.overlay.new.backing); sheds = sh; stands = c.in-Err.ensures.refused x p u m pr } in
+    w
+
+pub returns-in-Err-clause-full : goal.returns-in-Err-clause-full
+returns-in-Err-clause-full g c = λ x p t u wants free m a pr e.
+    let spare = c.args.spare in
+    let n = c.if-at-spare.false in
+    let tells : (all : List (List ℕ)) → g.B.Backing.holds c.args.backing.now ≡ Some all → g.B.Backing.holds c.overlay.new.backing ≢ None = λ all e n. let (q, i) = still_tells g.B.Backing.holds g.B.Backing.size g.B.Backing.calls g.B.Backing.faults c.args.backing.now c.overlay.new.backing c.overlay.ensures.device all e in none-some q (sym n ∙ i) in
+    let sh = Sheds-retelling x (g.B.Backing.holds c.args.backing.now) (g.B.Backing.holds c.overlay.new.backing) m.device tells spare in
+    let w : Waits x p spare c.overlay.new.cpu c.overlay.new.areas c.overlay.new.sectors (g.B.Backing.holds c.overlay.new.backing) = record { storage = retelling x (g.B.Backing.holds c.overlay.new.backing); sheds = sh; stands = c.in-Err.ensures.refused x p u m pr } in
+    (w, short_by x p u c.args.at wants free (g.B.Backing.holds c.overlay.new.backing) pr ((c.in-Err.ensures.full x p u wants free m pr).0 (let z : ◌≡◌ {A = Result (Unit {0}) SpaceFault} (Err c.in-Err.fault) (Err (BackingFull wants free)) = cc in z)))
+
+pub returns-in-Ok-page_in-clause-came : goal.returns-in-Ok-page_in-clause-came
+returns-in-Ok-page_in-clause-came g c = λ _ x p t u m a pr readable.
+    let spare = c.args.spare in
+    let n = c.if-at-spare.false in
+    let tells : (all : List (List ℕ)) → g.B.Backing.holds c.args.backing.now ≡ Some all → g.B.Backing.holds c.overlay.new.backing ≢ None = λ all e n. let (q, i) = still_tells g.B.Backing.holds g.B.Backing.size g.B.Backing.calls g.B.Backing.faults c.args.backing.now c.overlay.new.backing c.overlay.ensures.device all e in none-some q (sym n ∙ i) in
+    let y : Storage = overlaid x u c.args.at (g.B.Backing.holds c.overlay.new.backing) in
+    let my = c.in-Ok.ensures.stands x p u m pr in
+    let sh : Sheds x y spare = Sheds-overlaid x (g.B.Backing.holds c.args.backing.now) (g.B.Backing.holds c.overlay.new.backing) m.device tells u c.args.at spare pr.present n in
+    let ay = absent_after x y p c.args.home spare t sh a in
+    came_of x y p t spare c.page_in.new.cpu c.page_in.new.areas c.overlay.new.sectors (g.B.Backing.holds c.page_in.new.backing) sh
+    (read_in y c.overlay.new.cpu.core c.overlay.new.cpu.regs p c.args.home t c.page_in.new.cpu c.page_in.new.areas c.overlay.new.sectors (g.B.Backing.holds c.page_in.new.backing) my.stands ay (readable_after x y p spare sh readable)
+    (λ k. c.in-Ok-page_in.ensures.known y p t my ay k) (λ k. c.in-Ok-page_in.ensures.untold y p t my ay k))
+
+pub returns-in-Err-NoHole-clause-gone : goal.returns-in-Err-NoHole-clause-gone
+returns-in-Err-NoHole-clause-gone g c = λ _ x p t u m a pr.
+    let spare = c.args.spare in
+    let n = c.if-at-spare.false in
+    let tells : (all : List (List ℕ)) → g.B.Backing.holds c.args.backing.now ≡ Some all → g.B.Backing.holds c.overlay.new.backing ≢ None = λ all e n. let (q, i) = still_tells g.B.Backing.holds g.B.Backing.size g.B.Backing.calls g.B.Backing.faults c.args.backing.now c.overlay.new.backing c.overlay.ensures.device all e in none-some q (sym n ∙ i) in
+    let y : Storage = overlaid x u c.args.at (g.B.Backing.holds c.overlay.new.backing) in
+    let my = c.in-Ok.ensures.stands x p u m pr in
+    let sh : Sheds x y spare = Sheds-overlaid x (g.B.Backing.holds c.args.backing.now) (g.B.Backing.holds c.overlay.new.backing) m.device tells u c.args.at spare pr.present n in
+    let ay = absent_after x y p c.args.home spare t sh a in
+    let P : Option (List (List ℕ)) → Type 0 = λ d. MachineStands (overlaid x u c.args.at d) c.page_in.new.cpu c.page_in.new.areas c.overlay.new.sectors (g.B.Backing.holds c.page_in.new.backing) p in
+    (λ e. absurd (n e), λ _. subst P (ap g.B.Backing.holds (sym (c.page_in.ensures.unchanged (let z : c.page_in.result ≡ Err NoHole = cc in z)).1)) (c.in-Err-NoHole.ensures.refused y p t my ay))
+
+pub returns-in-Err-BackingFault-clause-refused : goal.returns-in-Err-BackingFault-clause-refused
+returns-in-Err-BackingFault-clause-refused g c = λ x p t u m a pr.
+    let spare = c.args.spare in
+    let n = c.if-at-spare.false in
+    let tells : (all : List (List ℕ)) → g.B.Backing.holds c.args.backing.now ≡ Some all → g.B.Backing.holds c.overlay.new.backing ≢ None = λ all e n. let (q, i) = still_tells g.B.Backing.holds g.B.Backing.size g.B.Backing.calls g.B.Backing.faults c.args.backing.now c.overlay.new.backing c.overlay.ensures.device all e in none-some q (sym n ∙ i) in
+    let y : Storage = overlaid x u c.args.at (g.B.Backing.holds c.overlay.new.backing) in
+    let my = c.in-Ok.ensures.stands x p u m pr in
+    let sh : Sheds x y spare = Sheds-overlaid x (g.B.Backing.holds c.args.backing.now) (g.B.Backing.holds c.overlay.new.backing) m.device tells u c.args.at spare pr.present n in
+    let ay = absent_after x y p c.args.home spare t sh a in
+    record { storage = y; sheds = sh; stands = c.in-Err-BackingFault.ensures.refused y p t my ay }
+
+pub returns-in-Err-clause-outside : goal.returns-in-Err-clause-outside
+returns-in-Err-clause-outside g c = λ x p t u m a pr. c.overlay.ensures.outside x p u m pr
+
+pub returns-in-Ok-page_in-clause-outside : goal.returns-in-Ok-page_in-clause-outside
+returns-in-Ok-page_in-clause-outside g c = λ x p t u m a pr.
+    let spare = c.args.spare in
+    let n = c.if-at-spare.false in
+    let tells : (all : List (List ℕ)) → g.B.Backing.holds c.args.backing.now ≡ Some all → g.B.Backing.holds c.overlay.new.backing ≢ None = λ all e n. let (q, i) = still_tells g.B.Backing.holds g.B.Backing.size g.B.Backing.calls g.B.Backing.faults c.args.backing.now c.overlay.new.backing c.overlay.ensures.device all e in none-some q (sym n ∙ i) in
+    let y : Storage = overlaid x u c.args.at (g.B.Backing.holds c.overlay.new.backing) in
+    let my = c.in-Ok.ensures.stands x p u m pr in
+    let sh : Sheds x y spare = Sheds-overlaid x (g.B.Backing.holds c.args.backing.now) (g.B.Backing.holds c.overlay.new.backing) m.device tells u c.args.at spare pr.present n in
+    let ay = absent_after x y p c.args.home spare t sh a in
+    Stayed-then p c.args.cpu.now.core c.overlay.new.cpu.core c.page_in.new.cpu.core (c.overlay.ensures.outside x p u m pr) (c.page_in.ensures.outside y p t my ay)
+
+pub returns-in-Err-NoHole-clause-outside : goal.returns-in-Err-NoHole-clause-outside
+returns-in-Err-NoHole-clause-outside g c = λ x p t u m a pr.
+    let spare = c.args.spare in
+    let n = c.if-at-spare.false in
+    let tells : (all : List (List ℕ)) → g.B.Backing.holds c.args.backing.now ≡ Some all → g.B.Backing.holds c.overlay.new.backing ≢ None = λ all e n. let (q, i) = still_tells g.B.Backing.holds g.B.Backing.size g.B.Backing.calls g.B.Backing.faults c.args.backing.now c.overlay.new.backing c.overlay.ensures.device all e in none-some q (sym n ∙ i) in
+    let y : Storage = overlaid x u c.args.at (g.B.Backing.holds c.overlay.new.backing) in
+    let my = c.in-Ok.ensures.stands x p u m pr in
+    let sh : Sheds x y spare = Sheds-overlaid x (g.B.Backing.holds c.args.backing.now) (g.B.Backing.holds c.overlay.new.backing) m.device tells u c.args.at spare pr.present n in
+    let ay = absent_after x y p c.args.home spare t sh a in
+    Stayed-then p c.args.cpu.now.core c.overlay.new.cpu.core c.page_in.new.cpu.core (c.overlay.ensures.outside x p u m pr) (c.page_in.ensures.outside y p t my ay)
+
+pub returns-in-Err-BackingFault-clause-outside : goal.returns-in-Err-BackingFault-clause-outside
+returns-in-Err-BackingFault-clause-outside g c = λ x p t u m a pr.
+    let spare = c.args.spare in
+    let n = c.if-at-spare.false in
+    let tells : (all : List (List ℕ)) → g.B.Backing.holds c.args.backing.now ≡ Some all → g.B.Backing.holds c.overlay.new.backing ≢ None = λ all e n. let (q, i) = still_tells g.B.Backing.holds g.B.Backing.size g.B.Backing.calls g.B.Backing.faults c.args.backing.now c.overlay.new.backing c.overlay.ensures.device all e in none-some q (sym n ∙ i) in
+    let y : Storage = overlaid x u c.args.at (g.B.Backing.holds c.overlay.new.backing) in
+    let my = c.in-Ok.ensures.stands x p u m pr in
+    let sh : Sheds x y spare = Sheds-overlaid x (g.B.Backing.holds c.args.backing.now) (g.B.Backing.holds c.overlay.new.backing) m.device tells u c.args.at spare pr.present n in
+    let ay = absent_after x y p c.args.home spare t sh a in
+    Stayed-then p c.args.cpu.now.core c.overlay.new.cpu.core c.page_in.new.cpu.core (c.overlay.ensures.outside x p u m pr) (c.page_in.ensures.outside y p t my ay)

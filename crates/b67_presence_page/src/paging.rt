@@ -1,0 +1,201 @@
+//! An absent array, data row or segment brought into a hole.
+
+ghost use Rattle.std.specs.Prelude.{◌≡◌, ◌≢◌, ◌↔◌, ◌⊎◌, ℕ, ◌+◌, ◌^◌, ◌<◌, ◌≤◌, List, Option, Some, None, Err, OnOk, OnErr, IsOk, length, slice_get, if◌then◌else◌};
+ghost use Rattle.b67_word.specs.Tagged.{Tagged, word};
+ghost use Rattle.b67_area.specs.declared.Kind.TheVariants.{Array, Row};
+ghost use Rattle.b67_backing.specs.Shelf.{Shelf, HasChain};
+ghost use Rattle.b67_backing.specs.Held.{Becomes, Counts, sectors_for};
+ghost use Rattle.b67_io.specs.Causes.{HasCause, Rose};
+ghost use Rattle.b67_ctl.specs.declared.registers.Regs.{Regs};
+ghost use Rattle.b67_stack.specs.Picture.{Thing, Picture, home_word_of, home_desc, tag_of};
+ghost use Rattle.b67_ctl.specs.Descriptors.{data_word};
+ghost use Rattle.b67_stack.specs.Stands.{Storage, Stands};
+ghost use Rattle.b67_layout_storage.specs.Machine.{MachineStands, IsAbsent, AreBits, HasRoom, Stayed, renumbered};
+ghost use Rattle.b67_presence_page.specs.declared.paging.Refusal.TheVariants.{NoHole, BackingFault};
+ghost use Rattle.b67_presence_page.specs.Brought.{brought, IsPlace, IsKnown, resting, Reads};
+
+use b67_area::{Areas, Kind};
+use b67_backing::{Backing, Sectors};
+use b67_core::Core;
+use b67_ctl::{DataDesc, SegDesc};
+use b67_stack::Cpu;
+use b67_word::{Failed, Word};
+
+/// Why nothing was brought in: no hole has room, or the device failed.
+#[derive(Clone, Copy, Debug, PartialEq, Eq)]
+pub enum Refusal {
+    NoHole,
+    BackingFault,
+}
+
+/// What an absent original or segment descriptor says: the words, and the first sector of the chain that holds them, 0 for
+/// zeros.
+#[derive(Clone, Copy, Debug, PartialEq, Eq)]
+pub struct Resting {
+    pub kind: Kind,
+    pub words: u32,
+    pub first: u32,
+}
+
+/// The kind of a descriptor in a stack or in a dictionary.
+fn data_kind(read_only: bool) -> Kind
+    ensures { result ≡ (if read_only then Row else Array) }
+{
+    if read_only { Kind::Row } else { Kind::Array }
+}
+
+impl Resting {
+    /// What the descriptor at an address says.
+    pub fn at(core: &Core, home: u32) -> Resting
+        requires { (x : Storage) × (r : Regs) × (p : Picture) × (t : Thing) × Stands x core.now r p × IsAbsent x p home t }
+        ensures { (x : Storage) (r : Regs) (p : Picture) (t : Thing) → Stands x core.now r p → IsAbsent x p home t → result ≡ resting x t }
+    {
+        let w = core.get(home);
+        match SegDesc::from_word(w) {
+            Some(segment) => Resting {
+                kind: Kind::Code,
+                words: segment.words,
+                first: segment.address,
+            },
+            None => match DataDesc::from_word(w) {
+                Some(data) => Resting {
+                    kind: data_kind(data.read_only),
+                    words: data.length,
+                    first: data.address,
+                },
+                None => unreachable!(),
+            },
+        }
+    }
+
+    /// The tag of the words.
+    fn tag(self) -> u8
+        ensures value { result ≡ tag_of self.kind }
+        ensures small { result < 8 }
+    {
+        match self.kind {
+            Kind::Array | Kind::Row => 0,
+            Kind::Code => 3,
+        }
+    }
+
+    /// The descriptor's word where the words lie in an area.
+    fn present(self, at: u32) -> Word
+        requires words { self.words < 2 ^ 20 }
+        requires address { at < 2 ^ 20 }
+        ensures { result ≡ home_word_of self.kind self.words (record { area = Some at; chain = self.first }) }
+    {
+        match self.kind {
+            Kind::Array => data(false, self.words, at),
+            Kind::Row => data(true, self.words, at),
+            Kind::Code => SegDesc {
+                present: true,
+                words: self.words,
+                address: at,
+            }
+            .word(),
+        }
+    }
+
+    /// Puts the words into an area.
+    fn load<B: Backing>(
+        self,
+        core: &mut Core,
+        at: u32,
+        sectors: &Sectors,
+        backing: &mut B,
+    ) -> Result<(), Failed>
+        requires some { 1 ≤ self.words }
+        requires inside { at + self.words ≤ length core.old }
+        requires chain { (self.first ≡ 0) ⊎ ((st : Shelf) × HasChain sectors.now st self.first (sectors_for self.words)) }
+        requires same { B.size backing.old + 1 ≡ length sectors.now.links }
+        ensures reads { OnOk result (self.first ≢ 0 → Reads (B.holds backing.old) sectors.now self.first at self.words (tag_of self.kind) core.new) }
+        ensures zeros { self.first ≡ 0 → IsOk result × (backing.new ≡ backing.old) × ((i : ℕ) → at ≤ i → i < at + self.words → slice_get core.new i ≡ Some (word 0 0)) }
+        ensures tags { OnOk result (self.first ≢ 0 → (i : ℕ) → i < self.words → (w : Tagged) × (slice_get core.new (at + i) ≡ Some w) × (w.tag ≡ tag_of self.kind)) }
+        ensures low { OnOk result (self.first ≢ 0 → (i : ℕ) → i < self.words → (w : Tagged) × (slice_get core.new (at + i) ≡ Some w) × (w.bits < 2 ^ 48)) }
+        ensures outside { (i : ℕ) → (i < at) ⊎ (at + self.words ≤ i) → slice_get core.new i ≡ slice_get core.old i }
+        ensures len { length core.new ≡ length core.old }
+        ensures device { Becomes B.holds backing.old backing.new (λ all. all) }
+        ensures size { B.size backing.new ≡ B.size backing.old }
+        ensures calls { B.calls backing.old ≤ B.calls backing.new }
+        ensures cause { HasCause B.faults backing.old backing.new result }
+    {
+        if self.first == 0 {
+            core.fill(at, self.words, Word::of(0, 0));
+            return Ok(());
+        }
+        sectors.restore(self.first, core, at, self.words, self.tag(), backing)
+    }
+}
+
+/// The word of a present original.
+fn data(read_only: bool, words: u32, at: u32) -> Word
+    requires words { words < 2 ^ 20 }
+    requires address { at < 2 ^ 20 }
+    ensures { result ≡ data_word (home_desc read_only words (record { area = Some at; chain = 0 })) }
+{
+    DataDesc {
+        present: true,
+        copy: false,
+        indexed: false,
+        read_only,
+        length: words,
+        address: at,
+    }
+    .word()
+}
+
+/// Brings the array, data row or segment of an absent original or segment descriptor into the lowest hole with room for it.
+/// No area moves. Where it was never touched, no device is called, and only want of a hole refuses it.
+pub fn page_in<B: Backing>(
+    cpu: &mut Cpu,
+    areas: &mut Areas,
+    sectors: &Sectors,
+    backing: &mut B,
+    home: u32,
+) -> Result<(), Refusal>
+    requires machine { (x : Storage) × (p : Picture) × (t : Thing) × MachineStands x cpu.old areas.old sectors.now (B.holds backing.old) p × IsAbsent x p home t }
+    requires same { B.size backing.old + 1 ≡ length sectors.now.links }
+    ensures rest { cpu.new ≡ record cpu.old { core = cpu.new.core } }
+    ensures len { length cpu.new.core ≡ length cpu.old.core }
+    ensures areas { areas.new ≡ areas.old }
+    ensures outside { (x : Storage) (p : Picture) (t : Thing) → MachineStands x cpu.old areas.old sectors.now (B.holds backing.old) p → IsAbsent x p home t
+        → Stayed p cpu.old.core cpu.new.core }
+    ensures known { OnOk result ((x : Storage) (p : Picture) (t : Thing) → MachineStands x cpu.old areas.old sectors.now (B.holds backing.old) p
+        → IsAbsent x p home t → IsKnown x t
+        → (at : ℕ) × IsPlace x t at × MachineStands (brought x t at) cpu.new areas.new sectors.now (B.holds backing.new) p) }
+    ensures untold { OnOk result ((x : Storage) (p : Picture) (t : Thing) → MachineStands x cpu.old areas.old sectors.now (B.holds backing.old) p
+        → IsAbsent x p home t → x.device ≡ None
+        → (at : ℕ) × (ns : List ℕ) × IsPlace x t at × (length ns ≡ length t.numbers) × AreBits ns
+        × MachineStands (brought x t at) cpu.new areas.new sectors.now (B.holds backing.new) (renumbered p home ns)) }
+    ensures refused { OnErr result ((x : Storage) (p : Picture) (t : Thing) → MachineStands x cpu.old areas.old sectors.now (B.holds backing.old) p
+        → IsAbsent x p home t → MachineStands x cpu.new areas.new sectors.now (B.holds backing.new) p) }
+    ensures full { (x : Storage) (p : Picture) (t : Thing) → MachineStands x cpu.old areas.old sectors.now (B.holds backing.old) p
+        → IsAbsent x p home t → (result ≡ Err NoHole) ↔ (HasRoom (length t.numbers + 2) x.spans → ⊥) }
+    ensures unchanged { result ≡ Err NoHole → (cpu.new ≡ cpu.old) × (backing.new ≡ backing.old) }
+    ensures untouched { (x : Storage) (p : Picture) (t : Thing) → MachineStands x cpu.old areas.old sectors.now (B.holds backing.old) p
+        → IsAbsent x p home t → (x.held home).chain ≡ 0 → backing.new ≡ backing.old }
+    ensures zeros { (x : Storage) (p : Picture) (t : Thing) → MachineStands x cpu.old areas.old sectors.now (B.holds backing.old) p
+        → IsAbsent x p home t → (x.held home).chain ≡ 0 → result ≢ Err BackingFault }
+    ensures device { Becomes B.holds backing.old backing.new (λ all. all) }
+    ensures size { B.size backing.new ≡ B.size backing.old }
+    ensures calls { B.calls backing.old ≤ B.calls backing.new }
+    ensures later { B.faults backing.old ≤ B.faults backing.new }
+    ensures cause { result ≡ Err BackingFault → Rose B.faults backing.old backing.new }
+{
+    let thing = Resting::at(&cpu.core, home);
+    match areas.place(&mut cpu.core, thing.kind, thing.words, home) {
+        None => Err(Refusal::NoHole),
+        Some(at) => match thing.load(&mut cpu.core, at, sectors, backing) {
+            Ok(()) => {
+                areas.keep(&mut cpu.core, at, thing.first);
+                cpu.core.set(home, thing.present(at));
+                Ok(())
+            }
+            Err(_) => {
+                areas.free(&mut cpu.core, at);
+                Err(Refusal::BackingFault)
+            }
+        },
+    }
+}

@@ -1,0 +1,107 @@
+//! Areas that give way to a thing.
+
+ghost use Rattle.std.specs.Prelude.{◌≡◌, ◌≢◌, ℕ, ◌+◌, ◌<◌, ◌≤◌, Some, None, Ok, Err, OnOk, OnErr, length, true, false};
+ghost use Rattle.b67_area.specs.declared.Info.{Info};
+ghost use Rattle.b67_area.specs.Spans.{area_at};
+ghost use Rattle.b67_backing.specs.declared.SpaceFault.TheVariants.{NoCore, BackingFull, BackingFault};
+ghost use Rattle.b67_io.specs.Causes.{Rose};
+ghost use Rattle.b67_stack.specs.Picture.{Thing, Picture};
+ghost use Rattle.b67_stack.specs.Stands.{Storage};
+ghost use Rattle.b67_layout_storage.specs.Machine.{MachineStands, IsAbsent, IsPresent, Served, HasRoom, Stayed};
+ghost use Rattle.b67_overlay.specs.Overlaid.{overlaid};
+ghost use Rattle.b67_overlay.specs.Sheds.{IsShortBy};
+ghost use Rattle.b67_presence_page.specs.Brings.{IsReadable, Came, Waits};
+
+use crate::paging::{Refusal, page_in};
+use b67_area::Areas;
+use b67_backing::{Backing, Sectors, SpaceFault};
+use b67_overlay::overlay;
+use b67_stack::Cpu;
+
+/// Takes an area out of core, if it isn't the one at `spare`, and tries to bring the thing of an absent descriptor in. False
+/// is where there is still no hole for it, or nothing was done.
+fn give_way<B: Backing>(
+    cpu: &mut Cpu,
+    areas: &mut Areas,
+    sectors: &mut Sectors,
+    backing: &mut B,
+    home: u32,
+    at: u32,
+    spare: u32,
+) -> Result<bool, SpaceFault>
+    requires machine { (x : Storage) × (p : Picture) × (t : Thing) × (u : Thing) × MachineStands x cpu.old areas.old sectors.old (B.holds backing.old) p × IsAbsent x p home t × IsPresent x p at u }
+    requires same { B.size backing.old + 1 ≡ length sectors.old.links }
+    ensures rest { cpu.new ≡ record cpu.old { core = cpu.new.core } }
+    ensures len { length cpu.new.core ≡ length cpu.old.core }
+    ensures areas { areas.new ≡ areas.old }
+    ensures outside { (x : Storage) (p : Picture) (t u : Thing) → MachineStands x cpu.old areas.old sectors.old (B.holds backing.old) p → IsAbsent x p home t → IsPresent x p at u
+        → Stayed p cpu.old.core cpu.new.core }
+    ensures came { result ≡ Ok true → (x : Storage) (p : Picture) (t u : Thing) → MachineStands x cpu.old areas.old sectors.old (B.holds backing.old) p
+        → IsAbsent x p home t → IsPresent x p at u → IsReadable x p → Came x p t spare cpu.new areas.new sectors.new (B.holds backing.new) }
+    ensures gone { result ≡ Ok false → (x : Storage) (p : Picture) (t u : Thing) → MachineStands x cpu.old areas.old sectors.old (B.holds backing.old) p
+        → IsAbsent x p home t → IsPresent x p at u
+        → (at ≡ spare → MachineStands x cpu.new areas.new sectors.new (B.holds backing.new) p)
+        × (at ≢ spare → MachineStands (overlaid x u at (B.holds backing.new)) cpu.new areas.new sectors.new (B.holds backing.new) p) }
+    ensures refused { OnErr result ((x : Storage) (p : Picture) (t u : Thing) → MachineStands x cpu.old areas.old sectors.old (B.holds backing.old) p
+        → IsAbsent x p home t → IsPresent x p at u → Waits x p spare cpu.new areas.new sectors.new (B.holds backing.new)) }
+    ensures full { (x : Storage) (p : Picture) (t u : Thing) (wants free : ℕ) → MachineStands x cpu.old areas.old sectors.old (B.holds backing.old) p → IsAbsent x p home t → IsPresent x p at u
+        → result ≡ Err (BackingFull wants free) → (w : Waits x p spare cpu.new areas.new sectors.new (B.holds backing.new)) × IsShortBy w.storage p wants free }
+    ensures no_core { (need size : ℕ) → result ≢ Err (NoCore need size) }
+    ensures count { length sectors.new.links ≡ length sectors.old.links }
+    ensures device { Served B.holds B.size B.calls B.faults backing.old backing.new }
+    ensures cause { result ≡ Err BackingFault → Rose B.faults backing.old backing.new }
+{
+    if at == spare {
+        return Ok(false);
+    }
+    match overlay(cpu, areas, sectors, backing, at) {
+        Err(fault) => Err(fault),
+        Ok(()) => match page_in(cpu, areas, sectors, backing, home) {
+            Ok(()) => Ok(true),
+            Err(Refusal::NoHole) => Ok(false),
+            Err(Refusal::BackingFault) => Err(SpaceFault::BackingFault),
+        },
+    }
+}
+
+/// Takes areas out of core, from the lowest up, but not the one at `spare`, until the thing of an absent descriptor is
+/// brought in. False is where no other area is left and there is no hole for it.
+pub fn make_way<B: Backing>(
+    cpu: &mut Cpu,
+    areas: &mut Areas,
+    sectors: &mut Sectors,
+    backing: &mut B,
+    home: u32,
+    spare: u32,
+) -> Result<bool, SpaceFault>
+    requires machine { (x : Storage) × (p : Picture) × (t : Thing) × MachineStands x cpu.old areas.old sectors.old (B.holds backing.old) p × IsAbsent x p home t }
+    requires same { B.size backing.old + 1 ≡ length sectors.old.links }
+    ensures rest { cpu.new ≡ record cpu.old { core = cpu.new.core } }
+    ensures len { length cpu.new.core ≡ length cpu.old.core }
+    ensures areas { areas.new ≡ areas.old }
+    ensures outside { (x : Storage) (p : Picture) (t : Thing) → MachineStands x cpu.old areas.old sectors.old (B.holds backing.old) p → IsAbsent x p home t
+        → Stayed p cpu.old.core cpu.new.core }
+    ensures came { result ≡ Ok true → (x : Storage) (p : Picture) (t : Thing) → MachineStands x cpu.old areas.old sectors.old (B.holds backing.old) p
+        → IsAbsent x p home t → IsReadable x p → Came x p t spare cpu.new areas.new sectors.new (B.holds backing.new) }
+    ensures clear { result ≡ Ok false → (x : Storage) (p : Picture) (t : Thing) → MachineStands x cpu.old areas.old sectors.old (B.holds backing.old) p → IsAbsent x p home t
+        → (w : Waits x p spare cpu.new areas.new sectors.new (B.holds backing.new)) × ((at : ℕ) (a : Info) → area_at w.storage.low w.storage.spans at ≡ Some a → at ≡ spare) }
+    ensures refused { OnErr result ((x : Storage) (p : Picture) (t : Thing) → MachineStands x cpu.old areas.old sectors.old (B.holds backing.old) p
+        → IsAbsent x p home t → Waits x p spare cpu.new areas.new sectors.new (B.holds backing.new)) }
+    ensures full { (x : Storage) (p : Picture) (t : Thing) (wants free : ℕ) → MachineStands x cpu.old areas.old sectors.old (B.holds backing.old) p → IsAbsent x p home t
+        → result ≡ Err (BackingFull wants free) → (w : Waits x p spare cpu.new areas.new sectors.new (B.holds backing.new)) × IsShortBy w.storage p wants free }
+    ensures no_core { (need size : ℕ) → result ≢ Err (NoCore need size) }
+    ensures count { length sectors.new.links ≡ length sectors.old.links }
+    ensures device { Served B.holds B.size B.calls B.faults backing.old backing.new }
+    ensures cause { result ≡ Err BackingFault → Rose B.faults backing.old backing.new }
+{
+    let mut next = areas.first(&cpu.core);
+    'areas: while let Some(at) = next {
+        next = areas.after(&cpu.core, at);
+        match give_way(cpu, areas, sectors, backing, home, at, spare) {
+            Ok(false) => {}
+            Ok(true) => return Ok(true),
+            Err(fault) => return Err(fault),
+        }
+    }
+    Ok(false)
+}

@@ -1,5 +1,0 @@
-pub mod Retning
-pub mod Putting
-pub mod Evaluating
-pub mod Calling
-pub mod Candidates

@@ -1,0 +1,61 @@
+-- How a run stops, and what it prints.
+use Rattle.std.specs.Prelude.{ℕ, ◌≡◌, ◌<◌, ◌≤◌, ◌==◌, List, ◌++◌, codes, decimal, Option, Some, None, IfSome, if◌then◌else◌}
+use Rattle.b67_io.specs.Line.{ended}
+use Rattle.b67_model.specs.Schedule.{Session}
+use Rattle.b67_model.specs.Lines.{run_text}
+use Rattle.b67_model.specs.Run.{live_tasks, lines, after}
+use Rattle.b67_session_lines.specs.Ends.{Ends}
+
+-- a run that is asked for: the session at its opening, and the count of operators at which it halts, where there is one
+pub record Run : Type 0 where
+  pub session : Session
+  pub halt : Option ℕ
+
+abbrev pub live_after : ℕ → Session → ℕ
+live_after steps s = live_tasks (after steps s).jobs
+
+abbrev pub halted_line : ℕ → List ℕ
+halted_line count = codes "HALTED " ++ decimal count
+
+-- The whole text of a run: after so many steps no task lives, and this is what they print. That isn't past the halt.
+pub record IsFinished (r : Run) (text : List ℕ) : Type 0 where
+  pub steps : ℕ
+  pub within : IfSome r.halt (λ count. steps ≤ count)
+  pub over : live_after steps r.session ≡ 0
+  pub printed : text ≡ run_text (lines steps r.session)
+
+-- The text of a run that halts: tasks live after as many steps as the halt's count. It is what these steps print, and the
+-- line of the halt.
+pub record IsHalted (r : Run) (text : List ℕ) : Type 0 where
+  pub count : ℕ
+  pub halt : r.halt ≡ Some count
+  pub lives : 0 < live_after count r.session
+  pub printed : text ≡ run_text (lines count r.session) ++ ended (halted_line count)
+
+-- a run stops with this status and this text
+pub data Stops (r : Run) (status : ℕ) (text : List ℕ) : Type 0 where
+  finished : status ≡ 0 → IsFinished r text → Stops r status text
+  halted : status ≡ 3 → IsHalted r text → Stops r status text
+
+-- the status with which a run stops
+abbrev pub run_status : Run → ℕ
+run_status r = by_halt r.halt
+  where
+    by_halt : Option ℕ → ℕ
+    by_halt None = 0
+    by_halt (Some count) = if live_after count r.session == 0 then 0 else 3
+
+-- a run stops with one status and one text
+abbrev pub StopsOnce : Type 0
+StopsOnce = (r : Run) (status status' : ℕ) (text text' : List ℕ) → Stops r status text → Stops r status' text' → (status ≡ status') × (text ≡ text')
+
+-- and this is the status
+abbrev pub StopsWithStatus : Type 0
+StopsWithStatus = (r : Run) (status : ℕ) (text : List ℕ) → Stops r status text → status ≡ run_status r
+
+-- a run stops, and its text is printed, unless the printer fails
+pub record RunEnds {K : Type 0} (r : Run) (taken : K → Option (List ℕ)) (faults : K → ℕ) (old new : K) (answer : ℕ) : Type 0 where
+  pub status : ℕ
+  pub text : List ℕ
+  pub stops : Stops r status text
+  pub ends : Ends taken faults old new status text answer

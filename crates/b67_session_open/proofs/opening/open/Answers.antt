@@ -1,0 +1,55 @@
+use Rattle.std.proofs.Common.{◌≡◌, length, map, refl, ap, ◌∙◌, arith}
+use Rattle.std.proofs.lemmas.List.{length-replicate}
+use Rattle.b67_word.specs.Tagged.{word}
+use Rattle.b67_backing.specs.Shelf.{all_free}
+use Rattle.b67_codefile.specs.Meaning.{program_of}
+use Rattle.b67_session_open.specs.Decks.{openings_of}
+use Rattle.b67_session_open.specs.Opens.{need_of, sectors_of_all}
+use Rattle.b67_session_open.proofs.Decks.{each_countable}
+use Rattle.b67_session_open.proofs.Opens.{programs_are, free_are, machine_opens}
+use Rattle.b67_session_open.proofs.opening.open.Goals as goal
+
+pub returns-then-need-core_words-clause-opens : goal.returns-then-need-core_words-clause-opens
+returns-then-need-core_words-clause-opens g c =
+    let need : c.opening_need-need.result ≡ need_of c.args.deck.now (map program_of c.args.programs.now) =
+    c.opening_need-need.ensures.need (openings_of c.args.deck.now.jobs (map program_of c.args.programs.now)) (programs_are c.args.deck.now c.args.programs.now c.requires.each) in
+    (need, refl, omega (arith, need, c.if-need-core_words.true))
+
+pub returns-then-sum-count-clause-opens : goal.returns-then-sum-count-clause-opens
+returns-then-sum-count-clause-opens g c =
+    let os = openings_of c.args.deck.now.jobs (map program_of c.args.programs.now) in
+    let same = programs_are c.args.deck.now c.args.programs.now c.requires.each in
+    let need : c.opening_need-need.result ≡ need_of c.args.deck.now (map program_of c.args.programs.now) = c.opening_need-need.ensures.need os same in
+    let sum : c.opening_sectors-sum.result ≡ sectors_of_all c.args.deck.now (map program_of c.args.programs.now) = c.opening_sectors-sum.ensures.sum c.args.deck.now.stack os same in
+    (omega (arith, need, c.if-need-core_words.false), sum, c.sectors-count.ensures.value, omega (arith, sum, c.if-sum-count.true, c.sectors-count.ensures.value))
+
+pub set_up-requires-clause-room : goal.set_up-requires-clause-room
+set_up-requires-clause-room g c =
+    omega (arith, c.opening_sectors-sum.ensures.value, c.if-sum-count.false, free_are c.in_ok-sectors.sectors c.sectors-count.result c.in_ok-sectors.ensures.1)
+
+pub returns-in-Ok-clause-opens : goal.returns-in-Ok-clause-opens
+returns-in-Ok-clause-opens g c =
+    let os = openings_of c.args.deck.now.jobs (map program_of c.args.programs.now) in
+    let same = programs_are c.args.deck.now c.args.programs.now c.requires.each in
+    let need : c.opening_need-need.result ≡ need_of c.args.deck.now (map program_of c.args.programs.now) = c.opening_need-need.ensures.need os same in
+    let sum : c.opening_sectors-sum.result ≡ sectors_of_all c.args.deck.now (map program_of c.args.programs.now) = c.opening_sectors-sum.ensures.sum c.args.deck.now.stack os same in (
+      omega (arith, need, c.if-need-core_words.false),
+      omega (arith, sum, c.if-sum-count.false, c.sectors-count.ensures.value),
+      machine_opens c.args.deck.now c.args.programs.now _ _
+          (record { cpu = c.in-Ok.initial.cpu; areas = c.in-Ok.initial.areas; sectors = c.set_up.new.sectors; tasks = c.in_ok-tasks.tasks })
+          c.args.core_words c.requires.range c.requires.each c.in_ok-tasks.ensures.loaded
+          (c.in-Ok.ensures.opens (all_free c.sectors-count.result) c.in_ok-sectors.ensures.1 refl)
+          c.in_ok-tasks.ensures.shows c.in_ok-tasks.ensures.names c.in_ok-tasks.ensures.halt c.in_ok-tasks.ensures.printed
+          (c.in-Ok.ensures.len ∙ (ap length c.in_ok-core.ensures ∙ length-replicate c.args.core_words (word 0 0))),
+    )
+
+pub returns-in-Err-clause-opens : goal.returns-in-Err-clause-opens
+returns-in-Err-clause-opens g c =
+    let os = openings_of c.args.deck.now.jobs (map program_of c.args.programs.now) in
+    let same = programs_are c.args.deck.now c.args.programs.now c.requires.each in
+    let need : c.opening_need-need.result ≡ need_of c.args.deck.now (map program_of c.args.programs.now) = c.opening_need-need.ensures.need os same in
+    let sum : c.opening_sectors-sum.result ≡ sectors_of_all c.args.deck.now (map program_of c.args.programs.now) = c.opening_sectors-sum.ensures.sum c.args.deck.now.stack os same in
+    (omega (arith, need, c.if-need-core_words.false), omega (arith, sum, c.if-sum-count.false, c.sectors-count.ensures.value), c.in-Err.ensures.cause.failed)
+
+pub returns-in-Ok-clause-countable : goal.returns-in-Ok-clause-countable
+returns-in-Ok-clause-countable g c = each_countable c.in_ok-tasks.tasks.jobs c.in_ok-tasks.ensures.countable

@@ -1,0 +1,15 @@
+use Rattle.std.proofs.Common.{map, ◌∙◌, ap}
+use Rattle.std.proofs.lemmas.List.{length-map}
+use Rattle.b67_codefile.specs.Meaning.{program_of}
+use Rattle.b67_initial.specs.Tables.{opening_rows}
+use Rattle.b67_session_open.specs.Decks.{openings_of}
+use Rattle.b67_session_open.proofs.Decks.{tables_given}
+use Rattle.b67_session_open.proofs.tables.opening_tasks.Goals as goal
+
+pub returns-clause-shows : goal.returns-clause-shows
+returns-clause-shows c =
+    tables_given c.args.deck.now (map program_of c.args.programs.now) _ _ c.in_ok-switches.switches c.requires.range
+    (length-map c.args.programs.now program_of ∙ c.requires.each)
+    c.first_rows.ensures
+    (c.in_ok-jobs.ensures.rows ∙ ap (λ js. opening_rows 160 (openings_of js (map program_of c.args.programs.now))) c.as_slice.ensures)
+    c.in_ok-switches.ensures

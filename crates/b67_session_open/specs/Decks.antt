@@ -1,0 +1,60 @@
+-- The session that a deck and its programs open.
+use Rattle.std.specs.Prelude.{ℕ, ℤ, ◌^◌, ◌<◌, ◌≤◌, nat_abs, IsTrue, List, [], ◌∷◌, length, map}
+use Rattle.std.specs.List.{AllByRecursion, list_all}
+use Rattle.std.specs.Char.{is_ascii}
+use Rattle.b67_model_text.specs.declared.deck.Deck.{Deck}
+use Rattle.b67_model_text.specs.declared.deck.Job.{Job}
+use Rattle.b67_codefile.specs.declared.file.Codefile.{Codefile}
+use Rattle.b67_codefile.specs.Spelling.{IsWithin}
+use Rattle.b67_codefile.specs.Meaning.{program_of}
+use Rattle.b67_model.specs.Loader.{IsAdmitted}
+use Rattle.b67_model.specs.Program.{Program}
+use Rattle.b67_model.specs.Schedule.{Session}
+use Rattle.b67_model.specs.InOrder.{SwitchesRise}
+use Rattle.b67_opening.specs.Opening.{Opening, opening}
+use Rattle.b67_task_tables.specs.declared.tables.JobRow.{JobRow}
+use Rattle.b67_task_tables.specs.Tables.{switch_of}
+
+-- a job with its program
+abbrev pub opening_of : Job → Program → Opening
+opening_of j p = record { program = p; limit = j.limit; numbers = j.numbers }
+
+abbrev pub openings_of : List Job → List Program → List Opening
+openings_of [] ps = []
+openings_of (j ∷ js) [] = []
+openings_of (j ∷ js) (p ∷ ps) = opening_of j p ∷ openings_of js ps
+
+-- the state in which a deck's session opens, with a program for each job
+abbrev pub session_of : Deck → List Program → Session
+session_of d ps = opening d.stack d.quantum (map switch_of d.switches) (openings_of d.jobs ps)
+
+-- within the ranges of cards
+pub record JobInRange (j : Job) : Type 0 where
+  pub name_short : length j.name ≤ 16
+  pub name_ascii : IsTrue (list_all is_ascii j.name)
+  pub limit_low : 0 < j.limit
+  pub limit_high : j.limit ≤ 100000000
+  pub numbers : AllByRecursion (λ (v : ℤ). nat_abs v < 2 ^ 39) j.numbers
+
+pub record DeckInRange (d : Deck) : Type 0 where
+  pub stack_low : 64 ≤ d.stack
+  pub stack_high : d.stack < 2 ^ 14
+  pub rise : SwitchesRise (map switch_of d.switches)
+  pub few : length d.jobs ≤ 8
+  pub each : AllByRecursion JobInRange d.jobs
+
+-- the names of jobs
+abbrev pub job_names : List Job → List (List ℕ)
+job_names jobs = map (λ (j : Job). j.name) jobs
+
+abbrev pub row_names : List JobRow → List (List ℕ)
+row_names rows = map (λ (r : JobRow). r.name) rows
+
+-- a file as the loader admits it
+pub record IsLoaded (f : Codefile) : Type 0 where
+  pub within : IsWithin f
+  pub admitted : IsAdmitted (program_of f)
+
+-- a job with fewer numbers than the tables can count
+abbrev pub IsCountable : JobRow → Type 0
+IsCountable r = length r.numbers < 2 ^ 32

@@ -1,0 +1,51 @@
+-- When the machine with its tables stands for a session.
+use Rattle.std.specs.Prelude.{ℕ, List, map, Option}
+use Rattle.b67_model_text.specs.declared.deck.Switch as text
+use Rattle.b67_model.specs.Schedule.{Switch, Session}
+use Rattle.b67_stack.specs.Stands.{Storage}
+use Rattle.b67_layout.specs.Plan.{Plan}
+use Rattle.b67_layout.specs.Rows as rows
+use Rattle.b67_layout.specs.Rows.{RowState, IsReady, AwaitsTask, WaitsAtCell, Counts, TablesShow}
+use Rattle.b67_layout.specs.Session.{SessionStands, StorageStands}
+use Rattle.b67_task_tables.specs.declared.tables.TaskState.{TaskState}
+use Rattle.b67_task_tables.specs.declared.tables.TaskState.TheVariants.{Ready, Awaits, WaitsAt}
+use Rattle.b67_task_tables.specs.declared.tables.TaskRow.{TaskRow}
+use Rattle.b67_task_tables.specs.declared.tables.JobRow.{JobRow}
+use Rattle.b67_task_tables.specs.declared.tables.Tasks.{Tasks}
+use Rattle.b67_task_tables.specs.declared.tables.Machine.{Machine}
+
+abbrev pub state_of : TaskState → RowState
+state_of Ready = IsReady
+state_of (Awaits n) = AwaitsTask n
+state_of (WaitsAt mark offset) = WaitsAtCell mark offset
+
+abbrev pub task_row : TaskRow → rows.TaskRow
+task_row r = record { job = r.job; number = r.number; slot = r.slot; parent = r.parent; critical = r.critical; state = state_of r.state; segment = r.segment; place = r.place }
+
+abbrev pub job_row : JobRow → rows.JobRow
+job_row r = record { dictionary = r.dict; segments = r.segments; rows = r.rows; limit = r.limit; made = r.made; next_task = r.next_task; numbers = r.numbers; next_number = r.next_number }
+
+abbrev pub switch_of : text.Switch → Switch
+switch_of w = record { count = w.count; to = record { job = w.job; task = w.task } }
+
+abbrev pub counts_of : Tasks → Counts
+counts_of t = record {
+  quantum = t.quantum;
+  made = t.made;
+  turn = t.turn;
+  last_job = t.last_job;
+  last_number = t.last_number;
+  switches = map switch_of t.switches;
+  next_switch = t.next_switch;
+  running = t.running;
+}
+
+-- the tables of tasks and jobs, and the counts
+abbrev pub TasksShow : Plan → Session → Tasks → Type 0
+TasksShow plan s t = TablesShow plan s (map task_row t.rows.items) (map job_row t.jobs) (counts_of t)
+
+-- the whole machine, over a device that tells what its sectors hold or doesn't
+pub record MachineStands (x : Storage) (told : Option (List (List ℕ))) (k : Machine) (plan : Plan) (s : Session) : Type 0 where
+  pub session : SessionStands x k.cpu plan s
+  pub storage : StorageStands k.areas k.sectors told k.cpu.core x
+  pub tables : TasksShow plan s k.tasks

@@ -1,0 +1,6 @@
+//! The machine with the tables of its tasks and jobs.
+#![tactic(auto)]
+
+pub mod tables;
+
+pub use crate::tables::{JobRow, JobRows, Machine, TaskRow, TaskState, Tasks};
