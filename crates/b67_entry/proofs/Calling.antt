@@ -37,13 +37,13 @@ use Rattle.b67_refer.specs.Ends.{IsProcAt}
 use Rattle.b67_layout_enter.proofs.Awaits.{with_job-twice, SessionStands-condition}
 use Rattle.b67_entry_enter.specs.Procedures.{CanEnter, IsEntered, EntersOrFaults}
 use Rattle.b67_layout_leave.proofs.Things.{things-after}
-use Rattle.b67_returning.proofs.Returned.{clear_mark, clear_return}
+use Rattle.b67_entry.proofs.Returned.{clear_mark, clear_return}
 use Rattle.b67_layout_leave.proofs.Leaves.{task_at}
-use Rattle.b67_leave.specs.Left.{Returns, here_left}
-use Rattle.b67_returning.proofs.Heres.{frame_same}
-use Rattle.b67_leave.proofs.Leaving.{under, on_top, on_stack, may_return, regs_left, job_at, member_at, task_left}
+use Rattle.b67_entry.specs.Left.{Returns, here_left}
+use Rattle.b67_entry.proofs.Heres.{frame_same}
+use Rattle.b67_entry.proofs.Leaving.{under, on_top, on_stack, may_return, regs_left, job_at, member_at, task_left}
 use Rattle.b67_entry.proofs.Evaluating.{scene, seen, frames_same, answer_is}
-use Rattle.b67_returning.proofs.Retns.{IsOperand}
+use Rattle.b67_entry.proofs.Retns.{IsOperand}
 
 -- an accidental entry by whether the procedure's level is the next one
 accident_at : (h : Here) (cells : List Word) (back : Return) (f segment level : ℕ) (place : Place) (b : Bool) → (level_of_frame (frame h f) + 1 == level) ≡ b

@@ -23,11 +23,11 @@ use Rattle.b67_refer.specs.Scene.{Scene, IsShown}
 use Rattle.b67_refer.specs.Cells.{StandsFor}
 use Rattle.b67_refer.specs.Ends.{IsProcAt, EndMeets}
 use Rattle.b67_entry_enter.specs.Procedures.{CanEnter, EntersOrFaults}
-use Rattle.b67_leave.specs.Left.{Returns, caller_regs, caller_stack}
-use Rattle.b67_returning.specs.Returned.{with_word}
-use Rattle.b67_returning.specs.Returned.{ReturnsWord}
-use Rattle.b67_leave.proofs.Leaving.{regs_left}
-use Rattle.b67_returning.proofs.Moved.{stands_for}
+use Rattle.b67_entry.specs.Left.{Returns, caller_regs, caller_stack}
+use Rattle.b67_entry.specs.Returned.{with_word}
+use Rattle.b67_entry.specs.Returned.{ReturnsWord}
+use Rattle.b67_entry.proofs.Leaving.{regs_left}
+use Rattle.b67_entry.proofs.Moved.{stands_for}
 use Rattle.b67_entry.proofs.Evaluating.{scene, seen}
 use Rattle.b67_entry.proofs.Calling.{can_enter}
 

@@ -33,16 +33,16 @@ use Rattle.b67_refer.specs.declared.ends.End.TheVariants as end
 use Rattle.b67_refer.specs.Scene.{Scene, IsShown}
 use Rattle.b67_refer.specs.Cells.{IsCellAt}
 use Rattle.b67_refer.specs.Ends.{IsArrayOf, IsProcAt, EndMeets}
-use Rattle.b67_elements.specs.Elements.{HasElement}
+use Rattle.b67_exec_cells.specs.Elements.{HasElement}
 use Rattle.b67_layout_leave.proofs.Nowhere.{array_stays}
-use Rattle.b67_leave.specs.Left.{Returns, here_left}
-use Rattle.b67_returning.specs.Returned.{with_word}
-use Rattle.b67_returning.specs.Returned.{ReturnsWord}
-use Rattle.b67_returning.proofs.Heres.{flat_same, follow_same}
-use Rattle.b67_leave.proofs.Leaving.{member_at, task_left, regs_left, scene_left}
+use Rattle.b67_entry.specs.Left.{Returns, here_left}
+use Rattle.b67_entry.specs.Returned.{with_word}
+use Rattle.b67_entry.specs.Returned.{ReturnsWord}
+use Rattle.b67_entry.proofs.Heres.{flat_same, follow_same}
+use Rattle.b67_entry.proofs.Leaving.{member_at, task_left, regs_left, scene_left}
 use Rattle.b67_entry.proofs.Putting.{height_left}
-use Rattle.b67_returning.proofs.Replacing.{frames_with, job_with, Puts, puts_operand, stands_with, changed_with}
-use Rattle.b67_returning.proofs.Retns.{IsOperand}
+use Rattle.b67_entry.proofs.Replacing.{frames_with, job_with, Puts, puts_operand, stands_with, changed_with}
+use Rattle.b67_entry.proofs.Retns.{IsOperand}
 
 -- a word that isn't an operand is followed
 follows : (h : Here) (v : Word) → (IsOperand v → ⊥) → returned h v true ≡ (follow h v >>= evaluates h)

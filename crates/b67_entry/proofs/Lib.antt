@@ -1,3 +1,17 @@
+pub mod Callers
+pub mod Criticals
+pub mod Exits
+pub mod Leaving
+pub mod Sorted
+pub mod Tops
+pub mod WordRefusals
+pub mod CopyRefusals
+pub mod Returning
+pub mod Replacing
+pub mod Moved
+pub mod Heres
+pub mod Retns
+pub mod Returned
 pub mod Retning
 pub mod Putting
 pub mod Evaluating

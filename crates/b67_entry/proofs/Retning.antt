@@ -31,12 +31,12 @@ use Rattle.b67_layout.specs.Session.{IsRunning, SessionStands}
 use Rattle.b67_layout.specs.Meets.{here}
 use Rattle.b67_layout.proofs.Fresh.{running_in_order}
 use Rattle.b67_layout.proofs.Starts.{runs_here}
-use Rattle.b67_leave.specs.Left.{Returns}
-use Rattle.b67_refusals.specs.Words.{IsTopWord, Refuses}
-use Rattle.b67_returning.specs.Returned.{ReturnsWord}
-use Rattle.b67_leave.proofs.Exits.{leaves_critical, leaves_last}
-use Rattle.b67_returning.proofs.Retns.{IsOperand, retn_pending, retn_empty, retn_refused, retn_passed}
-use Rattle.b67_leave.proofs.Sorted.{IsEntered, is_pending, is_entered, is_last, returns_of}
+use Rattle.b67_entry.specs.Left.{Returns}
+use Rattle.b67_entry.specs.Words.{IsTopWord, Refuses}
+use Rattle.b67_entry.specs.Returned.{ReturnsWord}
+use Rattle.b67_entry.proofs.Exits.{leaves_critical, leaves_last}
+use Rattle.b67_entry.proofs.Retns.{IsOperand, retn_pending, retn_empty, retn_refused, retn_passed}
+use Rattle.b67_entry.proofs.Sorted.{IsEntered, is_pending, is_entered, is_last, returns_of}
 
 no_cells : {A B : Type 0} (f : A → B) (xs : List A) → map f xs ≡ [] → xs ≡ []
 no_cells f [] e = refl

@@ -39,8 +39,8 @@ use Rattle.b67_law_order.proofs.Members.{all_in}
 use Rattle.b67_core.proofs.Writes.{slice_get-set_other}
 use Rattle.b67_model.specs.Lists.{Has}
 use Rattle.b67_entry_enter.specs.Procedures.{IsEntered}
-use Rattle.b67_environments.proofs.Sites.{Site, site}
-use Rattle.b67_environments.proofs.Segments.{few_segments}
+use Rattle.b67_entry_enter.proofs.Sites.{Site, site}
+use Rattle.b67_entry_enter.proofs.Segments.{few_segments}
 
 same_cells : (fs : List Frame) → with_top_cells fs (top fs).cells ≡ fs
 same_cells [] = refl

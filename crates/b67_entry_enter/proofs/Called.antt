@@ -27,7 +27,7 @@ use Rattle.b67_refer.specs.declared.activation.Activation.{Activation}
 use Rattle.b67_refer.specs.Ends.{IsReference}
 use Rattle.b67_entry_enter.specs.Procedures.{ReachesProc, Calls}
 use Rattle.b67_entry_enter.proofs.Unasked.{pcw, environment, starts, high}
-use Rattle.b67_environments.proofs.Entering as Entering
+use Rattle.b67_entry_enter.proofs.Entering as Entering
 
 -- a reference is no original
 pub plain_reference : (w : Word) → IsReference w → (n : ℕ) → is_original_of n w ≡ false

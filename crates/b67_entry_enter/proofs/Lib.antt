@@ -5,3 +5,6 @@ pub mod Called
 pub mod Unasked
 pub mod Plain
 pub mod Accidental
+pub mod Segments
+pub mod Sites
+pub mod Entering

@@ -28,9 +28,9 @@ use Rattle.b67_refer.specs.Ends.{IsProcAt}
 use Rattle.b67_refer.specs.Scene.{Scene, IsShown}
 use Rattle.b67_refer.specs.declared.activation.Activation.{Activation}
 use Rattle.b67_entry_enter.specs.Procedures.{IsEntered}
-use Rattle.b67_environments.proofs.Sites.{site}
+use Rattle.b67_entry_enter.proofs.Sites.{site}
 use Rattle.b67_entry_enter.proofs.Accidental as Accidental
-use Rattle.b67_environments.proofs.Segments.{few_segments}
+use Rattle.b67_entry_enter.proofs.Segments.{few_segments}
 
 module _ (cpu : Cpu) (r : Regs) (a : Scene cpu.core r) (q : Place) (at f segment level : ℕ) (place : Place) (e : IsProcAt a q at f segment level place) where
   abbrev pub pcw : Pcw

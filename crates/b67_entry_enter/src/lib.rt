@@ -1,4 +1,4 @@
-//! Marking and entering activation records.
+//! MKST, ENTR, and the accidental entry of a procedure.
 #![tactic(auto)]
 
 ghost use Rattle.std.specs.Prelude.{◌≡◌, ℕ, not, ◌==◌, ◌+◌, ◌<◌, true, List, Some, slice_get};

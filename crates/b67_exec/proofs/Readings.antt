@@ -15,12 +15,12 @@ use Rattle.b67_model.specs.Schedule.{Session}
 use Rattle.b67_model.specs.InOrder.{SettingInOrder}
 use Rattle.b67_law_order_steps.proofs.Readings.{OpBits, ReadFits}
 use Rattle.b67_law_order_steps.proofs.Segments.{reading_fits}
-use Rattle.b67_profiles.specs.Profiles as profiles
+use Rattle.b67_law_order_steps.specs.Profiles as profiles
 use Rattle.b67_stack.specs.declared.Cpu.{Cpu}
 use Rattle.b67_stack.specs.declared.Step.{Step}
 use Rattle.b67_stack.specs.Stands.{Storage}
 use Rattle.b67_layout.specs.Plan.{Plan}
-use Rattle.b67_code.specs.Running.{code_area}
+use Rattle.b67_exec_cells.specs.Running.{code_area}
 use Rattle.b67_entry_enter.specs.Procedures as procedures
 use Rattle.b67_entry_enter.specs.Procedures.{CallsOrMeets}
 use Rattle.b67_exec.specs.Operators.{ParametersFit, called_by, OperatorAt, OperatorMeets}

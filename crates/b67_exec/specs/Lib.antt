@@ -1,1 +1,3 @@
+pub mod Procedures
+pub mod Stores
 pub mod Operators

@@ -6,7 +6,7 @@ use Rattle.b67_model.specs.Operators.{Reading}
 use Rattle.b67_model.specs.Rows.{reading_of, step}
 use Rattle.b67_model.specs.State.{Task, Member}
 use Rattle.b67_model.specs.Schedule.{Session}
-use Rattle.b67_profiles.specs.Profiles.{called}
+use Rattle.b67_law_order_steps.specs.Profiles.{called}
 use Rattle.b67_stack.specs.declared.Cpu.{Cpu}
 use Rattle.b67_stack.specs.declared.What.TheVariants as what
 use Rattle.b67_stack.specs.declared.Step.{Step}
@@ -15,8 +15,8 @@ use Rattle.b67_stack.specs.Stands.{Storage}
 use Rattle.b67_layout.specs.Plan.{Plan}
 use Rattle.b67_layout.specs.Meets.{here}
 pub use Rattle.b67_entry_enter.specs.Procedures.{CallsOrMeets}
-use Rattle.b67_code.specs.Running.{code_area}
-pub use Rattle.b67_code.specs.Called.{called_by, called_in}
+use Rattle.b67_exec_cells.specs.Running.{code_area}
+pub use Rattle.b67_exec_cells.specs.Called.{called_by, called_in}
 
 -- an operator's parameters have their bits: 14 of a couple, 48 of a literal
 abbrev pub ParametersFit : Op → Type 0

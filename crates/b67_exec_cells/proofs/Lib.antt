@@ -1,2 +1,4 @@
 pub mod Replaced
 pub mod Put
+pub mod Arrays
+pub mod Codes

@@ -1,1 +1,4 @@
 pub mod Tops
+pub mod Elements
+pub mod Running
+pub mod Called

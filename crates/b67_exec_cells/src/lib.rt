@@ -1,76 +1,10 @@
-//! The cells of the running task's top activation record: the top ones as words, and others in their place. What
-//! operators on these cells, and pushes, have in common.
+//! What an operator reads and writes: the cells on top, the elements of arrays, the code at the running place.
 #![tactic(auto)]
 
-ghost use Rattle.std.specs.Prelude.{◌≡◌, ℕ, ◌+◌, ◌-◌, ◌<◌, ◌≤◌, IfOk, OnOk, List, length, ◌++◌, ◌∷◌, None};
-ghost use Rattle.b67_model.specs.Words as words;
-ghost use Rattle.b67_model.specs.Steps.{leaves_cells};
-ghost use Rattle.b67_layout.specs.Meets.{here, Meets, IsMade, RunsSome, ForEach};
-ghost use Rattle.b67_exec_cells.specs.Tops.{IsWordOf, cells as cells_of, GivesTop, GivesTwo, MayStand, NoOriginals};
+mod cells;
+mod code;
+pub mod elements;
 
-use b67_stack::{Cpu, Step};
-use b67_word::{Fault, Place, Word};
-
-/// How many cells the top activation record has.
-pub fn count_cells(cpu: &Cpu) -> u32
-    requires { RunsSome cpu.now }
-    ensures count { ForEach cpu.now (λ x plan s m t. result ≡ length (cells_of t)) }
-    ensures above { cpu.now.regs.f + result ≤ cpu.now.regs.s }
-{
-    let mark = cpu.top_mark();
-    cpu.regs.s - cpu.regs.f - u32::from(mark.entered)
-}
-
-/// The top cell. STACK UNDERFLOW where the top activation record has none.
-pub fn top_cell(cpu: &Cpu) -> Result<Word, Fault>
-    requires { RunsSome cpu.now }
-    ensures cell { ForEach cpu.now (λ x plan s m t. GivesTop x plan m t cpu.now (cells_of t) result) }
-    ensures above { OnOk result (cpu.now.regs.f + 1 ≤ cpu.now.regs.s) }
-{
-    if count_cells(cpu) < 1 {
-        return Err(Fault::StackUnderflow);
-    }
-    Ok(cpu.core.get(cpu.regs.s))
-}
-
-/// The second cell from the top and the top one. STACK UNDERFLOW where the top activation record has fewer.
-pub fn two_cells(cpu: &Cpu) -> Result<(Word, Word), Fault>
-    requires { RunsSome cpu.now }
-    ensures cells { ForEach cpu.now (λ x plan s m t. GivesTwo x plan m t cpu.now (cells_of t) result) }
-    ensures above { OnOk result (cpu.now.regs.f + 2 ≤ cpu.now.regs.s) }
-{
-    if count_cells(cpu) < 2 {
-        return Err(Fault::StackUnderflow);
-    }
-    Ok((cpu.core.get(cpu.regs.s - 1), cpu.core.get(cpu.regs.s)))
-}
-
-/// Takes the `count` top cells off, and goes on at `next`.
-pub fn drop_cells(cpu: &mut Cpu, count: u32, next: Place)
-    requires runs { RunsSome cpu.old }
-    requires cells { cpu.old.regs.f + count ≤ cpu.old.regs.s }
-    ensures row { ForEach cpu.old (λ x plan s m t. (gone rest : List words.Word) → cells_of t ≡ gone ++ rest → length gone ≡ count
-        → NoOriginals gone → IsMade x plan s m cpu.old cpu.new (leaves_cells (here m t next) rest None)) }
-{
-    cpu.regs.s -= count;
-    cpu.regs.place = next;
-}
-
-/// Puts a word in the place of the `count` top cells, and goes on at `next`. STACK OVERFLOW where the stack would be
-/// higher than its slot.
-pub fn replace_cells(cpu: &mut Cpu, count: u32, w: Word, next: Place) -> Step
-    requires runs { RunsSome cpu.old }
-    requires cells { cpu.old.regs.f + count ≤ cpu.old.regs.s }
-    ensures row { ForEach cpu.old (λ x plan s m t. (gone rest : List words.Word) (v : words.Word) → cells_of t ≡ gone ++ rest → length gone ≡ count
-        → NoOriginals gone → MayStand m.course.job v → IsWordOf x plan m t v (cpu.old.regs.s - count + 1) w
-        → Meets x plan s m result cpu.old cpu.new (leaves_cells (here m t next) (v ∷ rest) None)) }
-{
-    let at = cpu.regs.s - count + 1;
-    if at > cpu.regs.losr {
-        return Step::Fault(Fault::StackOverflow);
-    }
-    cpu.core.set(at, w);
-    cpu.regs.s = at;
-    cpu.regs.place = next;
-    Step::Done
-}
+pub use cells::{count_cells, drop_cells, replace_cells, top_cell, two_cells};
+pub use code::{descriptor, reading};
+pub use elements::{element, row_copy};

@@ -1,1 +1,11 @@
 pub mod Values
+pub mod Found
+pub mod Items
+pub mod Copies
+pub mod Spots
+pub mod StuffedWords
+pub mod Finishes
+pub mod Cells
+pub mod Elements
+pub mod Words
+pub mod Stores

@@ -21,7 +21,7 @@ use Rattle.b67_stack.specs.Stands.{Storage}
 use Rattle.b67_layout.specs.Plan.{Plan}
 use Rattle.b67_layout.specs.Meets.{Meets, RunsSome}
 use Rattle.b67_exec_cells.specs.Tops.{IsWordOf}
-use Rattle.b67_elements.specs.Elements.{HasElement}
+use Rattle.b67_exec_cells.specs.Elements.{HasElement}
 
 -- a word that the running task may follow: it is that of a state's word in order
 pub record IsFollowed (x : Storage) (plan : Plan) (m : Member) (t : Task) (w : Tagged) (v : Word) : Type 0 where

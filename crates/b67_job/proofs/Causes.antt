@@ -8,13 +8,13 @@ use Rattle.b67_io.specs.Causes.{Rose}
 use Rattle.b67_task_tables.specs.declared.tables.Machine.{Machine}
 use Rattle.b67_job_admit.specs.Admitting.{Prepared}
 use Rattle.b67_model.specs.Run.{after}
-use Rattle.b67_deck.specs.Runs.{Rests, StepsFit}
-use Rattle.b67_deck.specs.Runs.{AreCountable}
+use Rattle.b67_job.specs.Runs.{Rests, StepsFit}
+use Rattle.b67_job.specs.Runs.{AreCountable}
 use Rattle.b67_session_lines.specs.Stops.{IsFinished, IsHalted}
-use Rattle.b67_deck.specs.Device.{Device, Tells, Failed}
-use Rattle.b67_deck.specs.Texts.{Text, whole_of, TookUpTo, all_taken, cut_short}
-use Rattle.b67_deck.specs.States.{StatesInOrder}
-use Rattle.b67_deck.specs.Runs.{run_of, HasRoom, WasOpened, StopsAt, memory_refused, opening_wants_core, opening_wants_sectors, opening_fails, StopsOpened, all_end, halt_comes, step_wants_core, step_wants_sectors, step_fails, code_is_strange, RunStops, unopened, opened, IsPrinting}
+use Rattle.b67_job.specs.Device.{Device, Tells, Failed}
+use Rattle.b67_job.specs.Texts.{Text, whole_of, TookUpTo, all_taken, cut_short}
+use Rattle.b67_job.specs.States.{StatesInOrder}
+use Rattle.b67_job.specs.Runs.{run_of, HasRoom, WasOpened, StopsAt, memory_refused, opening_wants_core, opening_wants_sectors, opening_fails, StopsOpened, all_end, halt_comes, step_wants_core, step_wants_sectors, step_fails, code_is_strange, RunStops, unopened, opened, IsPrinting}
 use Rattle.b67_job.specs.Command.{command_of}
 use Rattle.b67_job.specs.declared.command.CommandLine.{CommandLine}
 use Rattle.b67_job.specs.declared.command.CommandLine.TheVariants as lines

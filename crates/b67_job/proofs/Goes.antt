@@ -4,7 +4,7 @@ use Rattle.b67_model.specs.Schedule.{Session}
 use Rattle.b67_job_admit.specs.Admitting.{Prepared}
 use Rattle.b67_layout_storage.specs.Machine.{Says}
 use Rattle.b67_task_tables.specs.declared.tables.Machine.{Machine}
-use Rattle.b67_deck.specs.Runs.{run_of, StopsAt, AreCountable, IsOpen}
+use Rattle.b67_job.specs.Runs.{run_of, StopsAt, AreCountable, IsOpen}
 
 says_itself : (told : Option (List (List ℕ))) → Says told told
 says_itself None = tt

@@ -1,3 +1,13 @@
+pub mod Commands
+pub mod Sayings
+pub mod Jobs
+pub mod Prepared
+pub mod Stays
+pub mod Parts
+pub mod Reached
+pub mod Opened
+pub mod Ran
+pub mod Decks
 pub mod Served
 pub mod Status
 pub mod Causes

@@ -18,16 +18,16 @@ use Rattle.b67_job_admit.specs.declared.programs.Loaded.{Loaded}
 use Rattle.b67_job_admit.specs.Admitting.{Prepared, deck_prepared}
 use Rattle.b67_job_admit.specs.Meets.{IsLoaded, prepared_of}
 use Rattle.b67_job_admit.specs.Told.{refusal_text}
-use Rattle.b67_commands.specs.Verdicts.{Verdict}
-use Rattle.b67_commands.specs.Meets.{IsJudged}
-use Rattle.b67_commands.proofs.Judged.{too_long}
+use Rattle.b67_job_admit.specs.Verdicts.{Verdict}
+use Rattle.b67_job_admit.specs.CommandMeets.{IsJudged}
+use Rattle.b67_job_admit.proofs.Judged.{too_long}
 use Rattle.b67_session_open.specs.Decks.{DeckInRange}
-use Rattle.b67_ranges.proofs.Prepared.{prepared_in_range}
-use Rattle.b67_deck.specs.Device.{Device}
-use Rattle.b67_deck.specs.Lines.{memory_text}
-use Rattle.b67_deck.specs.Texts.{only}
-use Rattle.b67_deck.specs.Runs.{run_stops, step_is_cut}
-use Rattle.b67_deck.proofs.Ran.{closes_only}
+use Rattle.b67_job.proofs.Prepared.{prepared_in_range}
+use Rattle.b67_job.specs.Device.{Device}
+use Rattle.b67_job.specs.Lines.{memory_text}
+use Rattle.b67_job.specs.Texts.{only}
+use Rattle.b67_job.specs.Runs.{run_stops, step_is_cut}
+use Rattle.b67_job.proofs.Ran.{closes_only}
 use Rattle.b67_job.specs.Command.{command_of}
 use Rattle.b67_job.specs.declared.command.CommandLine.{CommandLine}
 use Rattle.b67_job.specs.declared.command.CommandLine.TheVariants as lines

@@ -8,15 +8,15 @@ use Rattle.b67_io.specs.Causes.{Stayed}
 use Rattle.b67_model_text.specs.Deck.{limit}
 use Rattle.b67_task_tables.specs.declared.tables.Machine.{Machine}
 use Rattle.b67_job_admit.specs.Admitting.{Prepared}
-use Rattle.b67_commands.specs.Verdicts.{Verdict}
-use Rattle.b67_commands.proofs.Judged.{check_long, asm_long}
+use Rattle.b67_job_admit.specs.Verdicts.{Verdict}
+use Rattle.b67_job_admit.proofs.Judged.{check_long, asm_long}
 use Rattle.b67_model.specs.Lines.{run_text}
 use Rattle.b67_model.specs.Run.{lines as lines_of}
 use Rattle.b67_session_lines.specs.Stops.{IsFinished, IsHalted}
 use Rattle.b67_session_lines.proofs.Statuses.{finished-status, halted-status}
-use Rattle.b67_deck.specs.Device.{Device, Tells, Worked}
-use Rattle.b67_deck.specs.Texts.{Text, whole_of, all_taken, cut_short}
-use Rattle.b67_deck.specs.Runs.{run_of, IsDone, IsHaltedAt, memory_refused, opening_wants_core, opening_wants_sectors, opening_fails, all_end, halt_comes, step_wants_core, step_wants_sectors, step_fails, code_is_strange, RunStops, unopened, opened}
+use Rattle.b67_job.specs.Device.{Device, Tells, Worked}
+use Rattle.b67_job.specs.Texts.{Text, whole_of, all_taken, cut_short}
+use Rattle.b67_job.specs.Runs.{run_of, IsDone, IsHaltedAt, memory_refused, opening_wants_core, opening_wants_sectors, opening_fails, all_end, halt_comes, step_wants_core, step_wants_sectors, step_fails, code_is_strange, RunStops, unopened, opened}
 use Rattle.b67_job.specs.Command.{command_of}
 use Rattle.b67_job.specs.declared.command.CommandLine.{CommandLine}
 use Rattle.b67_job.specs.declared.command.CommandLine.TheVariants as lines

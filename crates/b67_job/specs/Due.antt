@@ -19,10 +19,10 @@ use Rattle.b67_job_admit.specs.Told.{refusal_text}
 use Rattle.b67_session_lines.specs.Ends.{Ends}
 use Rattle.b67_session_lines.specs.Stops.{IsFinished}
 use Rattle.b67_session_open.specs.Opens.{need_of, sectors_of_all}
-use Rattle.b67_deck.specs.Device.{Device, Tells}
-use Rattle.b67_deck.specs.Lines.{no_core_line, backing_full_line, backing_fault_line, memory_text}
-use Rattle.b67_deck.specs.Texts.{Text, only, TookUpTo, Closes}
-use Rattle.b67_deck.specs.Runs.{run_of, WantsCore, WantsSectors, IsCutOff, HasRoom, RunStops, IsPrinting, RunEnds}
+use Rattle.b67_job.specs.Device.{Device, Tells}
+use Rattle.b67_job.specs.Lines.{no_core_line, backing_full_line, backing_fault_line, memory_text}
+use Rattle.b67_job.specs.Texts.{Text, only, TookUpTo, Closes}
+use Rattle.b67_job.specs.Runs.{run_of, WantsCore, WantsSectors, IsCutOff, HasRoom, RunStops, IsPrinting, RunEnds}
 use Rattle.b67_job.specs.Command.{command_of}
 use Rattle.b67_job.specs.declared.command.CommandLine.{CommandLine}
 use Rattle.b67_job.specs.declared.command.CommandLine.TheVariants as lines

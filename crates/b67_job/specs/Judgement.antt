@@ -5,10 +5,10 @@ use Rattle.b67_model_text.specs.declared.deck.Job.{Job}
 use Rattle.b67_job_admit.specs.declared.refusal.Refusal.{Refusal}
 use Rattle.b67_job_admit.specs.declared.refusal.Refusal.TheVariants as refusals
 use Rattle.b67_job_admit.specs.Admitting.{Answer, Prepared, deck_prepared}
-use Rattle.b67_commands.specs.Verdicts.{Verdict, check_verdict, asm_verdict}
+use Rattle.b67_job_admit.specs.Verdicts.{Verdict, check_verdict, asm_verdict}
 use Rattle.b67_session_lines.specs.Stops.{run_status}
 use Rattle.b67_uncalled.specs.Uncalled.{uses_built}
-use Rattle.b67_deck.specs.Runs.{run_of}
+use Rattle.b67_job.specs.Runs.{run_of}
 use Rattle.b67_job.specs.declared.command.CommandLine.{CommandLine}
 use Rattle.b67_job.specs.declared.command.CommandLine.TheVariants as lines
 

@@ -1,3 +1,10 @@
+pub mod Ranges
+pub mod Device
+pub mod Lines
+pub mod Texts
+pub mod States
+pub mod Runs
+pub mod Finishing
 pub mod Command
 pub mod Seen
 pub mod Judgement

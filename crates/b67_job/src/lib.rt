@@ -1,14 +1,22 @@
-//! The top call: the words of a command, the deck that is read, and the run that is printed.
+//! A whole run: the command, the deck, its session and its status.
 #![tactic(auto)]
 
 mod command;
+mod lines;
+mod outcome;
 mod planning;
+mod ranges;
+mod runs;
 #[cfg(test)]
 mod tests;
 mod top;
 #[cfg(test)]
 mod worked;
 
-pub use b67_deck::Outcome;
 pub use command::{CommandLine, backing_path, command_of};
+pub use lines::{backing_full_line, no_core_line, refusal_line, say_text};
+pub use outcome::Outcome;
+pub use ranges::{decks_are_in_range, prepared_decks_are_in_range};
+pub use runs::run_deck;
 pub use top::{refuse_memory, run};
+pub use b67_session::{Progress, Session};

@@ -1,6 +1,7 @@
 //! Decks as tables, with the answers that the rules give.
 
-use crate::{CommandLine, backing_path, command_of, refuse_memory, run};
+use crate::command::{CommandLine, backing_path, command_of};
+use crate::top::{refuse_memory, run};
 use b67_backing::HonestBacking;
 use b67_io::{Paper, Tape};
 use b67_word::{Bytes, Numbers};

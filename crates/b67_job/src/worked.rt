@@ -1,12 +1,13 @@
 //! Worked runs, with the lines that the rules give.
 
 ghost use Rattle.std.specs.Prelude.{◌≡◌, ◌≢◌, ◌+◌, length, None, IfSome, IfOk};
-ghost use Rattle.b67_deck.specs.Runs.{AreCountable, IsOpen};
+ghost use Rattle.b67_job.specs.Runs.{AreCountable, IsOpen};
 
-use crate::run;
+use crate::top::run;
 use crate::tests::{bytes_of, numbers_of};
 use b67_backing::{Backing, FileBacking, HonestBacking, MemoryBacking};
-use b67_deck::{Outcome, Progress, Session};
+use crate::outcome::Outcome;
+use b67_session::{Progress, Session};
 use b67_io::{Paper, Tape};
 use b67_task_tables::Machine;
 use std::alloc::{AllocError, Global};

@@ -1,2 +1,4 @@
 pub mod Behind
 pub mod Loads
+pub mod Cards
+pub mod Judged

@@ -1,3 +1,5 @@
 pub mod Admitting
 pub mod Told
 pub mod Meets
+pub mod Verdicts
+pub mod CommandMeets

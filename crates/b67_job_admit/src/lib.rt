@@ -1,14 +1,23 @@
-//! From the bytes of a deck to admitted programs, or to the first refusal.
+//! From the bytes of a deck to admitted programs, and what asm and check print of a text.
 #![tactic(auto)]
 
 mod admission;
+mod asm;
+mod check;
 mod fault;
+mod hex;
 mod programs;
+mod put;
 mod refusal;
 #[cfg(test)]
 mod tests;
+#[cfg(test)]
+mod text_tests;
 
 pub use admission::{admit, file_of};
+pub use asm::asm_text;
+pub use check::check_text;
 pub use fault::AdmitFault;
 pub use programs::{Loaded, Programs};
+pub use put::put_text;
 pub use refusal::Refusal;

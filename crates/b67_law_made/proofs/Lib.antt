@@ -1,2 +1,11 @@
 pub mod Steps
 pub mod Rows
+pub mod FaultRows
+pub mod Literals
+pub mod Nvld
+pub mod States
+pub mod Opened
+pub mod Keeping
+pub mod Makers
+pub mod Endings
+pub mod Ended

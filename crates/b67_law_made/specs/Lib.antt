@@ -1,1 +1,6 @@
 pub mod Made
+pub mod Faults
+pub mod RunFaults
+pub mod Opened
+pub mod RunMade
+pub mod Ended

@@ -1,10 +1,10 @@
-//! What made each word, mark and return word of a state.
+//! Every word of a run was made by the loader or by its own operator, and INVALID OPERATOR comes exactly at NVLD.
 #![tactic(auto)]
 
-ghost use Rattle.b67_law_made.specs.Made.{EachRowMakesItsWords};
+mod faults;
+mod runs;
+mod words;
 
-/// After the row of any operator, intrinsics included, each word of a frame, each mark and each
-/// return was there before, unchanged, or is one that this operator makes.
-pub fn each_row_makes_its_words()
-    ensures { EachRowMakesItsWords }
-{}
+pub use faults::invalid_operator_is_nvld;
+pub use runs::{invalid_operator_exactly_at_nvld, openings_are_made_by_the_loader, runs_end_exactly_at_nvld, runs_fault_exactly_at_nvld, runs_make_their_words, sessions_fault_exactly_at_nvld};
+pub use words::each_row_makes_its_words;

@@ -1,3 +1,7 @@
+pub mod Turned
+pub mod Rows
+pub mod First
+pub mod Opens
 pub mod Chosen
 pub mod Totals
 pub mod Moments

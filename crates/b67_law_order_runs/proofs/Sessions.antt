@@ -9,8 +9,8 @@ use Rattle.b67_model.specs.Alone.{JobMoment, step_of}
 use Rattle.b67_model.specs.Schedule.{Session, Choice, choice}
 use Rattle.b67_model.specs.Run.{Moment, number_of, of_job, with_moment, moment_by, moment_for, next, after_from, after}
 use Rattle.b67_model.specs.InOrder.{Starts, IsSegment, IsStart, JobInOrder, SessionInOrder, IsInOrder}
-use Rattle.b67_opening.specs.Opening.{Opening, OpeningWithin, opened_from, opening}
-use Rattle.b67_opening.proofs.Opens.{opens_in_order}
+use Rattle.b67_law_order_runs.specs.Opening.{Opening, OpeningWithin, opened_from, opening}
+use Rattle.b67_law_order_runs.proofs.Opens.{opens_in_order}
 use Rattle.b67_law_order.proofs.Members.{all_in, keyed_has, keyed_falls, total_change, total_has, length_change}
 use Rattle.b67_law_order_steps.proofs.Settles.{steps_keep_order, steps_keep_order_but_places}
 use Rattle.b67_law_order_steps.proofs.Segments.{rows_keep_order_but_places}

@@ -7,7 +7,7 @@ use Rattle.b67_model.specs.Loader.{IsAdmitted}
 use Rattle.b67_model.specs.Schedule.{Switch, Session}
 use Rattle.b67_model.specs.Run.{Moment, next, after}
 use Rattle.b67_model.specs.InOrder.{IsInOrder, IsInOrderButPlaces}
-use Rattle.b67_opening.specs.Opening.{Opening, DeckWithin, opening}
+use Rattle.b67_law_order_runs.specs.Opening.{Opening, DeckWithin, opening}
 
 -- the job runs an admitted program
 pub record RunsAdmitted (m : Member) : Type 0 where

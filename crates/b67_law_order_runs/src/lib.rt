@@ -1,19 +1,8 @@
-//! Every state of a run is in order.
+//! The opening state of an admitted deck is in order, and so is every state of its run.
 #![tactic(auto)]
 
-ghost use Rattle.b67_law_order_runs.specs.Runs.{RunsStayInOrder, SessionsStayInOrder, SessionsStayInOrderButPlaces};
+mod opening;
+mod runs;
 
-/// Each step of a session over admitted programs keeps it in order.
-pub fn sessions_stay_in_order()
-    ensures { SessionsStayInOrder }
-{}
-
-/// Over any code words each step of a session keeps all but the items on places.
-pub fn sessions_stay_in_order_but_places()
-    ensures { SessionsStayInOrderButPlaces }
-{}
-
-/// Every state of the run of an admitted deck is in order.
-pub fn runs_stay_in_order()
-    ensures { RunsStayInOrder }
-{}
+pub use opening::opening_is_in_order;
+pub use runs::{runs_stay_in_order, sessions_stay_in_order, sessions_stay_in_order_but_places};

@@ -6,3 +6,6 @@ pub mod Places
 pub mod Deaths
 pub mod NextTask
 pub mod Settles
+pub mod Maps
+pub mod Sessions
+pub mod Lemmas

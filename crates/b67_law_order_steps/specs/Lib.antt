@@ -1,1 +1,3 @@
 pub mod Laws
+pub mod Weaker
+pub mod Profiles

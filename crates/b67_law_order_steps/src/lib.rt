@@ -1,32 +1,10 @@
-//! Every step of the machine's model keeps its state in order.
+//! Every whole step keeps the state in order, over admitted programs and, but for places, over any code; and what it keeps of tasks and arrays.
 #![tactic(auto)]
 
-ghost use Rattle.b67_law_order_steps.specs.Laws.{RowsKeepOrderButPlaces, RowsKeepOrder, StepsKeepOrderButPlaces, StepsKeepOrder, PlacesHaveOperators};
+mod profiles;
+mod steps;
+mod weaker;
 
-/// Over any code words each operator and each intrinsic keeps all items of the order but those on
-/// places and on counts.
-pub fn rows_keep_order_but_places()
-    ensures { RowsKeepOrderButPlaces }
-{}
-
-/// Over an admitted codefile each operator and each intrinsic keeps all items of the order but
-/// those on counts.
-pub fn rows_keep_order()
-    ensures { RowsKeepOrder }
-{}
-
-/// Over any code words a whole step, with its endings and counts, keeps a job in order but for the
-/// items on places.
-pub fn steps_keep_order_but_places()
-    ensures { StepsKeepOrderButPlaces }
-{}
-
-/// Over an admitted codefile a whole step, with its endings and counts, keeps a job in order.
-pub fn steps_keep_order()
-    ensures { StepsKeepOrder }
-{}
-
-/// Over an admitted codefile an operator stands at the place of every live task.
-pub fn places_have_operators()
-    ensures { PlacesHaveOperators }
-{}
+pub use profiles::{print_keeps_profiles, rows_keep_profiles};
+pub use steps::{places_have_operators, rows_keep_order, rows_keep_order_but_places, steps_keep_order, steps_keep_order_but_places};
+pub use weaker::{other_numbers_keep_order, starts_are_segments};

@@ -11,3 +11,5 @@ pub mod Starts
 pub mod Fresh
 pub mod Gone
 pub mod Witness
+pub mod Members
+pub mod Cells

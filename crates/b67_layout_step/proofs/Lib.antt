@@ -3,3 +3,6 @@ pub mod Paged
 pub mod Renumbered
 pub mod Counted
 pub mod Stepped
+pub mod Words
+pub mod Rows
+pub mod Laws

@@ -8,8 +8,8 @@ use Rattle.std.specs.List.{AllByRecursion}
 use Rattle.b67_model.specs.Lists.{Has}
 use Rattle.b67_model.specs.Schedule.{Session}
 use Rattle.b67_model.specs.InOrder.{IsSegment, SegmentInOrder, ArrayInOrder, JobInOrder, IsInOrderButPlaces}
-use Rattle.b67_order_weaker.specs.Weaker.{Renumbers, Recoded, RefilledArray, Refilled, AllOtherNumbers}
-use Rattle.b67_order_weaker.proofs.Sessions.{other_numbers_keep_order}
+use Rattle.b67_law_order_steps.specs.Weaker.{Renumbers, Recoded, RefilledArray, Refilled, AllOtherNumbers}
+use Rattle.b67_law_order_steps.proofs.Sessions.{other_numbers_keep_order}
 use Rattle.b67_model.specs.Words as Words
 use Rattle.b67_model.specs.Words.{Word, Operand, Name, Ref, Row, Element, Original, Proc, Intrinsic}
 use Rattle.b67_model.specs.State.{Frame, Array, Task, Segment, Setting, Job, Member}

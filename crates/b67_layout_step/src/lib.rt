@@ -1,2 +1,14 @@
-//! One step of the machine over core.
+//! The session that stands after a step: lemmas, and two laws on the arrays that rows keep and touch.
 #![tactic(auto)]
+
+ghost use Rattle.b67_layout_step.specs.Keeping.{RowsKeepArrays, StepsTouchArrays};
+
+/// An operator other than EXIT and RETN keeps each array of its job.
+pub fn rows_keep_arrays()
+    ensures { RowsKeepArrays }
+{}
+
+/// The array that a step touches is one of its job.
+pub fn steps_touch_arrays()
+    ensures { StepsTouchArrays }
+{}

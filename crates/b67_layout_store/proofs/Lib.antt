@@ -4,3 +4,8 @@ pub mod Frames
 pub mod Owners
 pub mod Mapped
 pub mod Stored
+pub mod Elements
+pub mod Homes
+pub mod Arrays
+pub mod Things
+pub mod Machine

@@ -1,2 +1,2 @@
-//! A store into a cell of any frame of the job, in whichever stack: what else the machine stands for stays. Lemmas.
+//! A store into a cell of any frame of a job, or into an element of an array: lemmas.
 #![tactic(auto)]

@@ -3,4 +3,5 @@
 
 mod installing;
 
+pub use b67_load_verify::{Admitted, LoadFault, verify};
 pub use installing::install;

@@ -11,8 +11,8 @@ use Rattle.b67_layout.specs.Rows.{TablesShow}
 use Rattle.b67_layout.specs.Session.{IsRunning}
 use Rattle.b67_layout.specs.Meets.{here, with_job}
 use Rattle.b67_mcp_calls.specs.Calls.{MayCut}
-use Rattle.b67_calls.specs.Declared.{job_declared, with_home}
-use Rattle.b67_calls.proofs.Tables.{tables-there}
+use Rattle.b67_mcp_calls.specs.Declaring.{job_declared, with_home}
+use Rattle.b67_mcp_calls.proofs.Tables.{tables-there}
 use Rattle.b67_task_tables.specs.declared.tables.Tasks.{Tasks}
 use Rattle.b67_task_tables.specs.Tables.{task_row, job_row, counts_of, TasksShow}
 use Rattle.b67_mcp.proofs.Tables.{jobs_kept, tables_after}

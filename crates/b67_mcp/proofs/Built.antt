@@ -2,7 +2,7 @@
 use Rattle.std.proofs.Common.{◌≡◌, ℕ, ◌<◌, Some, sym, ◌∙◌, arith}
 use Rattle.std.proofs.lemmas.Option.{same_Some}
 use Rattle.b67_model.specs.State.{Task, Member}
-use Rattle.b67_code.specs.Called.{called_in}
+use Rattle.b67_exec_cells.specs.Called.{called_in}
 use Rattle.b67_mcp.specs.Called.{CallsBuilt}
 
 pub built_of : (m : Member) (t : Task) (n : ℕ) → called_in m t ≡ Some n → n < 12 → CallsBuilt m t

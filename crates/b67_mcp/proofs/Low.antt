@@ -18,7 +18,7 @@ use Rattle.b67_layout.specs.Plan.{Plan}
 use Rattle.b67_layout.specs.Session.{IsRunning}
 use Rattle.b67_layout.specs.Meets.{here}
 use Rattle.b67_layout.proofs.Fresh.{running_in_order}
-use Rattle.b67_code.specs.Called.{called_in}
+use Rattle.b67_exec_cells.specs.Called.{called_in}
 use Rattle.b67_mcp.proofs.Callings.{calling}
 
 abbrev IsLow : Word → Type 0

@@ -18,12 +18,12 @@ use Rattle.b67_layout.specs.Rows.{JobShows, TablesShow}
 use Rattle.b67_layout.specs.Session.{IsRunning}
 use Rattle.b67_layout.specs.Meets.{here, with_job}
 use Rattle.b67_layout.proofs.Others.{keyed-has}
-use Rattle.b67_calls.specs.Reads.{job_read, IsRead, ReadMeets}
+use Rattle.b67_mcp_calls.specs.Reads.{job_read, IsRead, ReadMeets}
 use Rattle.b67_task_tables.specs.declared.tables.JobRow.{JobRow}
 use Rattle.b67_task_tables.specs.declared.tables.Tasks.{Tasks}
 use Rattle.b67_task_tables.specs.Tables.{task_row, job_row, counts_of, TasksShow}
-use Rattle.b67_turn.proofs.Lists.{at_has, mapped_at, at_mapped, map-slice_set}
-use Rattle.b67_turn.proofs.Tables.{numbered_low, job_at}
+use Rattle.b67_task_switch.proofs.Lists.{at_has, mapped_at, at_mapped, map-slice_set}
+use Rattle.b67_task_switch.proofs.Tables.{numbered_low, job_at}
 use Rattle.b67_mcp.specs.Called.{AreCountable}
 use Rattle.b67_mcp.proofs.Tables.{jobs_put, tables_after}
 use Rattle.b67_mcp.proofs.Frames.{replaces_answered, waits_answered}

@@ -17,7 +17,7 @@ use Rattle.b67_model.specs.Schedule.{Session}
 use Rattle.b67_stack.specs.Stands.{Storage}
 use Rattle.b67_layout.specs.Plan.{Plan}
 use Rattle.b67_layout.specs.Meets.{here}
-use Rattle.b67_printrow.specs.Calls.{CopiesPresent}
+use Rattle.b67_mcp_calls.specs.RowCalls.{CopiesPresent}
 use Rattle.b67_task_tables.specs.declared.tables.Machine.{Machine}
 use Rattle.b67_mcp.specs.Called.{IsThere, TouchesPresent, CallTouches}
 use Rattle.b67_mcp.specs.Answers.{AnswerMeets, end_of}

@@ -17,8 +17,8 @@ use Rattle.b67_layout.proofs.Sessions.{running_only}
 use Rattle.b67_task_tables.specs.declared.tables.TaskRow.{TaskRow}
 use Rattle.b67_task_tables.specs.declared.tables.Tasks.{Tasks}
 use Rattle.b67_task_tables.specs.Tables.{task_row, TasksShow}
-use Rattle.b67_turn.proofs.Lists.{at_has, mapped_at}
-use Rattle.b67_turn.proofs.Tables.{first_member, live_in_order}
+use Rattle.b67_task_switch.proofs.Lists.{at_has, mapped_at}
+use Rattle.b67_task_switch.proofs.Tables.{first_member, live_in_order}
 
 pub record RowOf (tasks : Tasks) (m : Member) (t : Task) : Type 0 where
   pub row : TaskRow

@@ -21,7 +21,7 @@ use Rattle.b67_layout.proofs.Fresh.{running_in_order}
 use Rattle.b67_layout.proofs.Pictures.{member-same}
 use Rattle.b67_layout.proofs.Sessions.{change-has, change-kept}
 use Rattle.b67_layout_leave.proofs.Slots.{IsDependedOn, Replaces, task-same, task-other, outer_spots-after}
-use Rattle.b67_turn.proofs.Tables.{first_member, live_in_order}
+use Rattle.b67_task_switch.proofs.Tables.{first_member, live_in_order}
 
 -- a frame stands among those from it down where it stands among all
 from-same : (k c : ℕ) (o : ℕ → Spot) (fs : List Frame) → spot_in k o (from_frame c fs) c ≡ spot_in k o fs c

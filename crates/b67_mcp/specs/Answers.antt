@@ -13,7 +13,7 @@ use Rattle.b67_layout.specs.Plan.{Plan}
 use Rattle.b67_layout.specs.Rows.{JobShows}
 use Rattle.b67_layout.specs.Meets.{ForEach, with_job}
 use Rattle.b67_mcp_calls.specs.Calls.{IsCall}
-use Rattle.b67_calls.specs.Reads.{ReadMeets}
+use Rattle.b67_mcp_calls.specs.Reads.{ReadMeets}
 use Rattle.b67_task_tables.specs.declared.tables.JobRow.{JobRow}
 use Rattle.b67_task_tables.specs.declared.tables.Machine.{Machine}
 use Rattle.b67_task_tables.specs.Tables.{job_row, MachineStands}

@@ -14,8 +14,8 @@ use Rattle.b67_stack.specs.Stands.{Storage}
 use Rattle.b67_layout.specs.Plan.{Plan}
 use Rattle.b67_layout.specs.Session.{IsRunning}
 use Rattle.b67_layout.specs.Meets.{with_job, area_held, IsInStack}
-use Rattle.b67_code.specs.Running.{code_area}
-use Rattle.b67_code.specs.Called.{called_in}
+use Rattle.b67_exec_cells.specs.Running.{code_area}
+use Rattle.b67_exec_cells.specs.Called.{called_in}
 use Rattle.b67_single.specs.Single.{task_lines}
 use Rattle.b67_session_lines.specs.Parts.{TookRest, TookMore}
 use Rattle.b67_task_tables.specs.declared.tables.JobRow.{JobRow}

@@ -9,11 +9,11 @@ use Rattle.b67_model.specs.InOrder.{IsInOrderButPlaces}
 use Rattle.b67_stack.specs.Stands.{Storage}
 use Rattle.b67_layout.specs.Plan.{Plan}
 use Rattle.b67_layout.specs.Session.{IsRunning}
-use Rattle.b67_code.specs.Running.{code_area}
+use Rattle.b67_exec_cells.specs.Running.{code_area}
 use Rattle.b67_mcp_calls.specs.Calls.{MayCut}
 use Rattle.b67_task_tables.specs.declared.tables.Machine.{Machine}
 use Rattle.b67_task_tables.specs.Tables.{MachineStands}
-use Rattle.b67_code.specs.Called.{called_in}
+use Rattle.b67_exec_cells.specs.Called.{called_in}
 use Rattle.b67_io.specs.Causes.{Rose}
 use Rattle.b67_mcp.specs.declared.ends.CallEnd.{CallEnd}
 use Rattle.b67_mcp.specs.declared.ends.Stop.{Stop}

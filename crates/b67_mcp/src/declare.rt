@@ -5,7 +5,7 @@ ghost use Rattle.b67_mcp.specs.Called.{CallsSome};
 ghost use Rattle.b67_mcp.specs.Running.{ForCalls, Kept};
 
 use crate::running::next_place;
-use b67_calls::{answer_array, array_length};
+use b67_mcp_calls::{answer_array, array_length};
 use b67_task_tables::Machine;
 use b67_word::Fault;
 

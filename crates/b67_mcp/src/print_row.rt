@@ -4,14 +4,14 @@ ghost use Rattle.std.specs.Prelude.{◌≡◌, ◌≤◌, ◌+◌, ℤ, List, []
 ghost use Rattle.b67_io.specs.Causes.{HasCause};
 ghost use Rattle.b67_session_lines.specs.Parts.{TookRest, TookMore};
 ghost use Rattle.b67_model.specs.Steps.{Values};
-ghost use Rattle.b67_printrow.specs.Texts.{values_of};
+ghost use Rattle.b67_mcp_calls.specs.Texts.{values_of};
 ghost use Rattle.b67_mcp.specs.Called.{printed_text, CallsSome, CallMeets, CallTouches};
 ghost use Rattle.b67_mcp.specs.Running.{ForRuns, ForCalls, Reads, Kept, IsHeard};
 
 use crate::running::{cut, running_row};
 use crate::{CallEnd, Stop};
 use b67_io::Sink;
-use b67_printrow::{Found, row_to_print, say_row};
+use b67_mcp_calls::{Found, row_to_print, say_row};
 use b67_stack::What;
 use b67_task_tables::Machine;
 use b67_word::Failed;

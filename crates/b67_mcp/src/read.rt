@@ -2,13 +2,13 @@
 
 ghost use Rattle.std.specs.Prelude.{◌≡◌, ◌<◌, ◌^◌, length, Some, slice_get};
 ghost use Rattle.b67_task_tables.specs.declared.tables.JobRow.{JobRow};
-ghost use Rattle.b67_calls.specs.Reads.{ReadSome};
+ghost use Rattle.b67_mcp_calls.specs.Reads.{ReadSome};
 ghost use Rattle.b67_mcp.specs.Answers.{AnswerMeets, Takes};
 ghost use Rattle.b67_mcp.specs.Called.{AreCountable, CallsSome};
 ghost use Rattle.b67_mcp.specs.Running.{ForCalls, Kept};
 
 use crate::running::{next_place, running_row};
-use b67_calls::{answer_call, read_number};
+use b67_mcp_calls::{answer_call, read_number};
 use b67_stack::Cpu;
 use b67_task_tables::{JobRow, Machine, Tasks};
 use b67_word::{Fault, Word};

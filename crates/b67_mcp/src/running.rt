@@ -8,7 +8,7 @@ ghost use Rattle.b67_word.specs.declared.couples.Place.{Place};
 ghost use Rattle.b67_task_tables.specs.Tables.{MachineStands};
 ghost use Rattle.b67_mcp.specs.Running.{ForRuns, IsBehind, Reads, CutsSome, Kept};
 
-use b67_code::reading;
+use b67_exec_cells::reading;
 use b67_mcp_calls::cut_call;
 use b67_task_tables::{Machine, TaskRow};
 use b67_word::Place;

@@ -1,8 +1,19 @@
-//! Intrinsics over core.
+//! The intrinsics on the running stack: PRINT, READ, ARRAYDEC, PRINTROW, and the call that is cut or answered.
 #![tactic(auto)]
 
+mod answer;
 mod calls;
+mod declare;
 mod print;
+mod read;
+mod row;
+mod text;
+mod whole;
 
+pub use answer::answer_call;
 pub use calls::cut_call;
+pub use declare::{answer_array, array_length};
 pub use print::print_value;
+pub use read::read_number;
+pub use row::{Found, row_to_print};
+pub use text::say_row;

@@ -5,3 +5,5 @@ pub mod Wants
 pub mod Ends
 pub mod Shortage
 pub mod Refusals
+pub mod Covers
+pub mod FullDevice

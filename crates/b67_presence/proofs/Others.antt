@@ -13,7 +13,7 @@ use Rattle.b67_model.specs.Run.{live_tasks, number_of}
 use Rattle.b67_model.specs.Schedule.{Session}
 use Rattle.b67_model.specs.Sectors.{sectors_for, sectors_of, sectors}
 use Rattle.b67_model.specs.InOrder.{IsSegment, SegmentInOrder, ArrayInOrder, JobInOrder, IsInOrderButPlaces}
-use Rattle.b67_order_weaker.specs.Weaker.{Renumbers, Recoded, Refilled, OtherNumbers, AllOtherNumbers}
+use Rattle.b67_law_order_steps.specs.Weaker.{Renumbers, Recoded, Refilled, OtherNumbers, AllOtherNumbers}
 use Rattle.b67_stack.specs.Stacks.{Spot}
 use Rattle.b67_layout.specs.Plan.{Plan, slot_of, spot_in, address_of}
 use Rattle.b67_layout.specs.Rows.{WaitsAtCell, TaskRow, JobRow, shown, critical_disp, TaskShows, JobShows, JobsShow}

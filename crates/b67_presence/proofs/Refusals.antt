@@ -20,7 +20,7 @@ use Rattle.b67_overlay.specs.Sheds.{Sheds, IsShortBy}
 use Rattle.b67_layout.specs.Plan.{Plan}
 use Rattle.b67_layout.specs.Layout.{array_thing, picture}
 use Rattle.b67_layout.specs.Session.{IsRunning}
-use Rattle.b67_code.specs.Running.{code_area}
+use Rattle.b67_exec_cells.specs.Running.{code_area}
 use Rattle.b67_presence_page.specs.Brought.{brought}
 use Rattle.b67_presence_page.specs.Brings.{IsReadable, ReadIn, Waits, MayWait}
 use Rattle.b67_task_tables.specs.declared.tables.Machine.{Machine}

@@ -12,8 +12,8 @@ use Rattle.b67_model.specs.State.{Array, Segment, Member}
 use Rattle.b67_model.specs.Schedule.{Session}
 use Rattle.b67_model.specs.InOrder.{IsSegment, SegmentInOrder, ArrayInOrder, JobInOrder, IsInOrderButPlaces}
 use Rattle.b67_law_order.proofs.Members.{has_append_left, has_append_right, has_append_cases, has_map_back}
-use Rattle.b67_order_weaker.specs.Weaker.{Renumbers, Recoded, RefilledArray, Refilled, AllOtherNumbers}
-use Rattle.b67_order_weaker.proofs.Sessions.{other_numbers_keep_order}
+use Rattle.b67_law_order_steps.specs.Weaker.{Renumbers, Recoded, RefilledArray, Refilled, AllOtherNumbers}
+use Rattle.b67_law_order_steps.proofs.Sessions.{other_numbers_keep_order}
 use Rattle.b67_stack.specs.Picture.{Thing, Picture, Settled}
 use Rattle.b67_stack.specs.Stands.{Storage, Stands}
 use Rattle.b67_layout_storage.specs.Machine.{AreBits, renumber, renumbered}

@@ -21,8 +21,8 @@ use Rattle.b67_layout.specs.Session.{IsRunning}
 use Rattle.b67_layout.proofs.Others.{keyed-has}
 use Rattle.b67_layout.proofs.Fresh.{running_in_order}
 use Rattle.b67_exec_cells.proofs.Replaced.{array_thing-has, member_things, before}
-use Rattle.b67_code.specs.Running.{code_area}
-use Rattle.b67_code.proofs.Codes.{code_thing, at-is, at-small, bound}
+use Rattle.b67_exec_cells.specs.Running.{code_area}
+use Rattle.b67_exec_cells.proofs.Codes.{code_thing, at-is, at-small, bound}
 use Rattle.b67_task_need.specs.Needing.{array_area, need_with}
 use Rattle.b67_task_need.proofs.Needs.{need_above_low}
 use Rattle.b67_presence_page.specs.Brings.{IsCode, need_one, need_both}

@@ -10,8 +10,8 @@ use Rattle.b67_stack.specs.Stands.{Storage}
 use Rattle.b67_layout.specs.Plan.{Plan}
 use Rattle.b67_layout.specs.Session.{IsRunning}
 use Rattle.b67_layout.specs.Meets.{area_held}
-use Rattle.b67_code.specs.Running.{code_area}
-use Rattle.b67_order_weaker.specs.Weaker.{AllOtherNumbers}
+use Rattle.b67_exec_cells.specs.Running.{code_area}
+use Rattle.b67_law_order_steps.specs.Weaker.{AllOtherNumbers}
 use Rattle.b67_task_tables.specs.declared.tables.Machine.{Machine}
 use Rattle.b67_task_tables.specs.Tables.{MachineStands}
 use Rattle.b67_layout_storage.specs.Machine.{Says, retold}

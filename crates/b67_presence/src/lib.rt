@@ -1,6 +1,8 @@
-//! What an operator of the running task wants in core is brought in.
+//! The running segment or the array that is touched is brought in; want of sectors is told exactly.
 #![tactic(auto)]
 
 mod bringing;
+mod full;
 
 pub use bringing::bring;
+pub use full::short_is_full;

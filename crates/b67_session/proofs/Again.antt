@@ -4,8 +4,8 @@ use Rattle.b67_model.specs.State.{Task, Member}
 use Rattle.b67_model.specs.Schedule.{Session}
 use Rattle.b67_layout_storage.specs.Machine.{Says}
 use Rattle.b67_task_tables.specs.declared.tables.Machine.{Machine}
-use Rattle.b67_attempt.specs.Stops.{Stop}
-use Rattle.b67_attempt.specs.Stops as stops
+use Rattle.b67_session_attempt.specs.Stops.{Stop}
+use Rattle.b67_session_attempt.specs.Stops as stops
 use Rattle.b67_session.specs.declared.slices.Progress.{Progress}
 use Rattle.b67_session.specs.declared.slices.Progress.TheVariants as progress
 use Rattle.b67_session.specs.Slices.{IsLone, IsLimited, IsOpen, SliceMeets, Slices, Resumes}

@@ -18,7 +18,7 @@ use Rattle.b67_session_lines.specs.Moments.{first_part}
 use Rattle.b67_stack.specs.declared.Cpu.{Cpu}
 use Rattle.b67_stack.specs.Picture.{Picture, Settled as Calm}
 use Rattle.b67_stack.specs.Stands.{Storage, Stands}
-use Rattle.b67_profiles.specs.Profiles.{profiles}
+use Rattle.b67_law_order_steps.specs.Profiles.{profiles}
 use Rattle.b67_layout.specs.Plan.{Plan, slot_of}
 use Rattle.b67_layout.specs.Layout.{picture}
 use Rattle.b67_layout.specs.Session.{SessionStands, with_things}
@@ -32,7 +32,7 @@ use Rattle.b67_task_tables.specs.declared.tables.Machine.{Machine}
 use Rattle.b67_task_tables.specs.Tables.{TasksShow, MachineStands}
 use Rattle.b67_session_schedule.specs.declared.counting.Chosen.{Chosen}
 use Rattle.b67_session_schedule.specs.Counted.{choice_of}
-use Rattle.b67_attempt.specs.Tries.{EndsSo}
+use Rattle.b67_session_attempt.specs.Tries.{EndsSo}
 use Rattle.b67_task.specs.Endings.{without_slot, HasOne, EndsIn}
 use Rattle.b67_session.specs.declared.ends.StepEnd.TheVariants as ends
 use Rattle.b67_session.specs.Slices.{IsLimited, Rests}

@@ -20,8 +20,8 @@ use Rattle.b67_model.specs.InOrder.{IsSegment, JobInOrder, IsInOrderButPlaces}
 use Rattle.b67_law_order.specs.Ends.{StepsFrom}
 use Rattle.b67_law_order_rows.specs.Keeping.{KeepsOrder}
 use Rattle.b67_law_order_steps.proofs.Segments.{rows_keep_order_but_places}
-use Rattle.b67_ordering.proofs.Members.{member_kept}
-use Rattle.b67_profiles.specs.Profiles.{Profile, profile, profiles}
+use Rattle.b67_layout.proofs.Members.{member_kept}
+use Rattle.b67_law_order_steps.specs.Profiles.{Profile, profile, profiles}
 use Rattle.b67_layout.specs.Meets.{with_job}
 use Rattle.b67_single.specs.Single.{IsSingle}
 use Rattle.b67_session.specs.Steps.{finished}

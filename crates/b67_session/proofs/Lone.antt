@@ -19,9 +19,9 @@ use Rattle.b67_layout.specs.Plan.{Plan, slot_of}
 use Rattle.b67_layout.specs.Rows.{TaskShows}
 use Rattle.b67_layout.specs.Session.{IsRunning}
 use Rattle.b67_layout.specs.Meets.{here}
-use Rattle.b67_order_weaker.specs.Weaker.{OtherNumbers, AllOtherNumbers}
-use Rattle.b67_profiles.specs.Profiles.{Profile, profiles, IsKnown}
-use Rattle.b67_code.specs.Called.{called_by}
+use Rattle.b67_law_order_steps.specs.Weaker.{OtherNumbers, AllOtherNumbers}
+use Rattle.b67_law_order_steps.specs.Profiles.{Profile, profiles, IsKnown}
+use Rattle.b67_exec_cells.specs.Called.{called_by}
 use Rattle.b67_task_switch.specs.Turns.{with_running}
 use Rattle.b67_single.specs.Single.{IsSingle}
 use Rattle.b67_task_tables.specs.declared.tables.TaskRow.{TaskRow}
@@ -30,8 +30,8 @@ use Rattle.b67_task_tables.specs.Tables.{task_row, TasksShow}
 use Rattle.b67_session_schedule.specs.declared.counting.Chosen.{Chosen}
 use Rattle.b67_session_schedule.specs.Counted.{choice_of}
 use Rattle.b67_session_schedule.specs.Chosen.{IsReadyAt}
-use Rattle.b67_turn.proofs.Lists.{at_has, at_mapped}
-use Rattle.b67_attempt.specs.Passed.{CallsBuilt}
+use Rattle.b67_task_switch.proofs.Lists.{at_has, at_mapped}
+use Rattle.b67_session_attempt.specs.Passed.{CallsBuilt}
 use Rattle.b67_session.proofs.Built.{built_keep}
 
 module _ (s : Session) (m : Member) (t : Task) (single : IsSingle s m t) where

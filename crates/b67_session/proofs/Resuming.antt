@@ -11,8 +11,8 @@ use Rattle.b67_single.specs.Single.{task_lines}
 use Rattle.b67_task_tables.specs.declared.tables.Tasks.{Tasks}
 use Rattle.b67_task_tables.specs.declared.tables.Machine.{Machine}
 use Rattle.b67_task.specs.Endings.{HasOne}
-use Rattle.b67_attempt.specs.Stops.{Stop}
-use Rattle.b67_attempt.specs.Stops as stops
+use Rattle.b67_session_attempt.specs.Stops.{Stop}
+use Rattle.b67_session_attempt.specs.Stops as stops
 use Rattle.b67_session.specs.declared.slices.Progress.TheVariants as progress
 use Rattle.b67_session.specs.Slices.{IsLone, IsLimited, IsOpen, LivesOn, Rests, Resumes}
 use Rattle.b67_session.specs.Steps.{AtLimit, IsEmptied, LimitEnds, ending_text}

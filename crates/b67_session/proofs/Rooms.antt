@@ -20,9 +20,9 @@ use Rattle.b67_task_tables.specs.Tables.{job_row, switch_of, TasksShow}
 use Rattle.b67_session_schedule.specs.declared.counting.Chosen.{Chosen}
 use Rattle.b67_session_schedule.specs.Counted.{counted_row, HasRoom}
 use Rattle.b67_session_schedule.proofs.Rooms.{made_few, all_few}
-use Rattle.b67_turn.proofs.Lists.{mapped_at}
-use Rattle.b67_turn.proofs.Tables.{job_at}
-use Rattle.b67_attempt.specs.Passed.{AreCountable}
+use Rattle.b67_task_switch.proofs.Lists.{mapped_at}
+use Rattle.b67_task_switch.proofs.Tables.{job_at}
+use Rattle.b67_session_attempt.specs.Passed.{AreCountable}
 use Rattle.b67_session.proofs.Lone.{has_member}
 
 -- the tables show these settings and counts

@@ -13,7 +13,7 @@ use Rattle.b67_model.specs.Schedule.{Session}
 use Rattle.b67_session_lines.specs.Parts.{TookRest, TookMore}
 use Rattle.b67_session_lines.specs.Moments.{first_part, last_part, due}
 use Rattle.b67_law_order_runs.proofs.Sessions.{sessions_stay_in_order_but_places}
-use Rattle.b67_profiles.specs.Profiles.{profiles}
+use Rattle.b67_law_order_steps.specs.Profiles.{profiles}
 use Rattle.b67_layout.specs.Meets.{with_job}
 use Rattle.b67_single.specs.Single.{GoesOn, member_after, task_lines}
 use Rattle.b67_single.proofs.Nexts.{goes}
@@ -23,11 +23,11 @@ use Rattle.b67_task_tables.specs.declared.tables.Machine.{Machine}
 use Rattle.b67_task_tables.specs.Tables.{TasksShow, MachineStands}
 use Rattle.b67_session_schedule.specs.declared.counting.Chosen.{Chosen}
 use Rattle.b67_session_schedule.specs.Counted.{choice_of, HasRoom}
-use Rattle.b67_attempt.specs.Passed.{IsCalled, OnlyPrinted, printed_text}
-use Rattle.b67_attempt.specs.Stops.{Stop}
-use Rattle.b67_attempt.specs.Stops as stops
-use Rattle.b67_attempt.specs.declared.attempts.Attempt.TheVariants as attempts
-use Rattle.b67_attempt.specs.Attempts.{StillStands, StandsLacking}
+use Rattle.b67_session_attempt.specs.Passed.{IsCalled, OnlyPrinted, printed_text}
+use Rattle.b67_session_attempt.specs.Stops.{Stop}
+use Rattle.b67_session_attempt.specs.Stops as stops
+use Rattle.b67_session_attempt.specs.declared.attempts.Attempt.TheVariants as attempts
+use Rattle.b67_session_attempt.specs.Attempts.{StillStands, StandsLacking}
 use Rattle.b67_task.specs.Endings.{HasOne}
 use Rattle.b67_session.specs.declared.ends.StepEnd.{StepEnd}
 use Rattle.b67_session.specs.declared.ends.StepEnd.TheVariants as ends

@@ -7,12 +7,12 @@ use Rattle.b67_model.specs.Schedule.{Session, choice}
 use Rattle.b67_model.specs.InOrder.{IsInOrderButPlaces}
 use Rattle.b67_stack.specs.Stands.{Storage}
 use Rattle.b67_layout_storage.specs.Machine.{Says, retold}
-use Rattle.b67_attempt.specs.Passed.{StandsOver}
+use Rattle.b67_session_attempt.specs.Passed.{StandsOver}
 use Rattle.b67_layout.specs.Plan.{Plan}
 use Rattle.b67_layout.specs.Rows as rows
 use Rattle.b67_layout.specs.Rows.{RunningRow}
 use Rattle.b67_layout.specs.Session.{IsRunning}
-use Rattle.b67_order_weaker.proofs.Sessions.{other_numbers_keep_order}
+use Rattle.b67_law_order_steps.proofs.Sessions.{other_numbers_keep_order}
 use Rattle.b67_task_switch.specs.Turns.{with_running}
 use Rattle.b67_task_tables.specs.declared.tables.TaskRow.{TaskRow}
 use Rattle.b67_task_tables.specs.declared.tables.Machine.{Machine}
@@ -21,12 +21,12 @@ use Rattle.b67_session_schedule.specs.declared.counting.Chosen.{Chosen}
 use Rattle.b67_session_schedule.specs.Counted.{choice_of, HasRoom}
 use Rattle.b67_session_schedule.specs.Chosen.{Chooses}
 use Rattle.b67_session_schedule.proofs.Rooms.{none_ready}
-use Rattle.b67_turn.specs.Standing.{HasRow}
-use Rattle.b67_turn.proofs.Lists.{at_mapped}
-use Rattle.b67_attempt.specs.Stops.{Stop}
-use Rattle.b67_attempt.specs.declared.attempts.Attempt.{Attempt}
-use Rattle.b67_attempt.specs.Brought.{WantsNothing}
-use Rattle.b67_attempt.specs.Attempts.{RunsOver, AttemptMeets, Attempts}
+use Rattle.b67_task_switch.specs.Standing.{HasRow}
+use Rattle.b67_task_switch.proofs.Lists.{at_mapped}
+use Rattle.b67_session_attempt.specs.Stops.{Stop}
+use Rattle.b67_session_attempt.specs.declared.attempts.Attempt.{Attempt}
+use Rattle.b67_session_attempt.specs.Brought.{WantsNothing}
+use Rattle.b67_session_attempt.specs.Attempts.{RunsOver, AttemptMeets, Attempts}
 use Rattle.b67_single.specs.Single.{IsSingle}
 use Rattle.b67_session.specs.Slices.{IsLone}
 use Rattle.b67_session.proofs.Lone.{Chose, chose, runs_then, other, some_ready}

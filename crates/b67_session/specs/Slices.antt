@@ -12,17 +12,17 @@ use Rattle.b67_session_lines.specs.Moments.{first_part, last_part, due}
 use Rattle.b67_stack.specs.Stands.{Storage}
 use Rattle.b67_layout_storage.specs.Machine.{Says}
 use Rattle.b67_layout.specs.Plan.{Plan}
-use Rattle.b67_code.specs.Running.{code_area}
-use Rattle.b67_code.specs.Called.{called_in}
+use Rattle.b67_exec_cells.specs.Running.{code_area}
+use Rattle.b67_exec_cells.specs.Called.{called_in}
 use Rattle.b67_single.specs.Single.{IsSingle}
 use Rattle.b67_task_tables.specs.declared.tables.Tasks.{Tasks}
 use Rattle.b67_task_tables.specs.declared.tables.Machine.{Machine}
 use Rattle.b67_task_tables.specs.Tables.{MachineStands}
 use Rattle.b67_task.specs.Endings.{HasRowsOf}
-use Rattle.b67_attempt.specs.Passed.{IsShortOf}
-use Rattle.b67_attempt.specs.Attempts.{IsLacking}
-use Rattle.b67_attempt.specs.Stops.{Stop}
-use Rattle.b67_attempt.specs.Stops as stops
+use Rattle.b67_session_attempt.specs.Passed.{IsShortOf}
+use Rattle.b67_session_attempt.specs.Attempts.{IsLacking}
+use Rattle.b67_session_attempt.specs.Stops.{Stop}
+use Rattle.b67_session_attempt.specs.Stops as stops
 use Rattle.b67_session.specs.declared.slices.Progress.{Progress}
 use Rattle.b67_session.specs.declared.slices.Progress.TheVariants as progress
 

@@ -24,9 +24,9 @@ use Rattle.b67_task_tables.specs.Tables.{TasksShow, MachineStands}
 use Rattle.b67_session_schedule.specs.declared.counting.Chosen.{Chosen}
 use Rattle.b67_session_schedule.specs.Counted.{choice_of}
 use Rattle.b67_task.specs.Endings.{HasRowsOf, EndsIn}
-use Rattle.b67_attempt.specs.Passed.{AreCountable, OnlyPrinted}
-use Rattle.b67_attempt.specs.Stops.{Stop}
-use Rattle.b67_attempt.specs.Stops as stops
+use Rattle.b67_session_attempt.specs.Passed.{AreCountable, OnlyPrinted}
+use Rattle.b67_session_attempt.specs.Stops.{Stop}
+use Rattle.b67_session_attempt.specs.Stops as stops
 use Rattle.b67_session.specs.declared.ends.StepEnd.{StepEnd}
 use Rattle.b67_session.specs.declared.ends.StepEnd.TheVariants as ends
 use Rattle.b67_session.specs.Slices.{IsLone, Prints, SliceMeets, Rests, NextFits}

@@ -5,11 +5,11 @@ ghost use Rattle.b67_io.specs.Causes.{Rose};
 ghost use Rattle.b67_task_tables.specs.declared.tables.JobRow.{JobRow};
 ghost use Rattle.b67_session_schedule.specs.Counted.{HasRoom};
 ghost use Rattle.b67_task.specs.Endings.{HasOne};
-ghost use Rattle.b67_attempt.specs.Passed.{AreCountable};
-ghost use Rattle.b67_attempt.specs.Stops.{PrintFault};
+ghost use Rattle.b67_session_attempt.specs.Passed.{AreCountable};
+ghost use Rattle.b67_session_attempt.specs.Stops.{PrintFault};
 ghost use Rattle.b67_session.specs.Steps.{IsCounted, AtLimit, PutsText, ending_text, LimitEnds, Closes, Advances, Finishes};
 
-use b67_attempt::Stop;
+use b67_session_attempt::Stop;
 use b67_task::end_last;
 use b67_io::Sink;
 use b67_session_lines::{ending_line, put_rest};

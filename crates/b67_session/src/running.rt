@@ -5,14 +5,14 @@ ghost use Rattle.b67_io.specs.Causes.{Rose};
 ghost use Rattle.b67_model.specs.State.{Task, Member};
 ghost use Rattle.b67_model.specs.Schedule as schedule;
 ghost use Rattle.b67_layout_storage.specs.Machine.{Says, Served, retold};
-ghost use Rattle.b67_attempt.specs.Passed.{AreCountable};
-ghost use Rattle.b67_attempt.specs.Stops.{BackingFault, PrintFault};
+ghost use Rattle.b67_session_attempt.specs.Passed.{AreCountable};
+ghost use Rattle.b67_session_attempt.specs.Stops.{BackingFault, PrintFault};
 ghost use Rattle.b67_session.specs.declared.slices.Progress.TheVariants.{Ended};
-ghost use Rattle.b67_attempt.specs.Brought.{WantsNothing};
+ghost use Rattle.b67_session_attempt.specs.Brought.{WantsNothing};
 ghost use Rattle.b67_session.specs.Slices.{IsOpen, IsLone, IsLimited, Slices, Resumes, Over, StepsFit};
 
 use crate::slices::{Progress, slice};
-use b67_attempt::Stop;
+use b67_session_attempt::Stop;
 use b67_backing::Backing;
 use b67_io::Sink;
 use b67_task_tables::Machine;

@@ -8,10 +8,10 @@ ghost use Rattle.b67_layout.specs.Plan.{Plan};
 ghost use Rattle.b67_task_switch.specs.Turns.{with_running};
 ghost use Rattle.b67_task_tables.specs.declared.tables.TaskRow.{TaskRow};
 ghost use Rattle.b67_task_tables.specs.Tables.{MachineStands};
-ghost use Rattle.b67_turn.specs.Standing.{HasRow};
+ghost use Rattle.b67_task_switch.specs.Standing.{HasRow};
 
 use b67_task_tables::Machine;
-use b67_turn::switch_to;
+use b67_task_switch::switch_to;
 
 /// The task of a row is then the running one, if it wasn't. The session's state stays.
 pub(crate) fn give_turn(machine: &mut Machine, row: u8)

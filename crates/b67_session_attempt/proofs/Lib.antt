@@ -10,3 +10,15 @@ pub mod Releasing
 pub mod Gives
 pub mod Made
 pub mod Read
+pub mod Areas
+pub mod Space
+pub mod FittingMade
+pub mod Trying
+pub mod Started
+pub mod Still
+pub mod Mute
+pub mod AttemptFits
+pub mod Numbers
+pub mod Stops
+pub mod Composed
+pub mod Passed

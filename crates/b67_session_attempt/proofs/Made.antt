@@ -17,16 +17,16 @@ use Rattle.b67_layout.specs.Plan.{Plan}
 use Rattle.b67_layout.specs.Layout.{array_thing}
 use Rattle.b67_layout.specs.Meets.{here, things_gone, with_job, IsAbsent, IsMade, Meets}
 use Rattle.b67_layout.specs.Session.{IsRunning, SessionStands, SessionStandsBut}
-use Rattle.b67_profiles.specs.Profiles.{called}
+use Rattle.b67_law_order_steps.specs.Profiles.{called}
 use Rattle.b67_exec.specs.Operators.{CallsOrMeets}
-use Rattle.b67_keeping.specs.Keeping.{is_leaving}
+use Rattle.b67_layout_step.specs.Keeping.{is_leaving}
 use Rattle.b67_task_tables.specs.declared.tables.Machine.{Machine}
 use Rattle.b67_task_tables.specs.Tables.{TasksShow, task_row, job_row, counts_of, MachineStands}
 use Rattle.b67_session_attempt.specs.Makes.{Makes, StepMakes, CallsOrMakes}
 use Rattle.b67_session_attempt.proofs.Releasing.{same_length, storage_over}
 use Rattle.b67_session_attempt.proofs.Steps.{row_kept}
 use Rattle.b67_session_attempt.proofs.Tables.{tables_after}
-use Rattle.b67_keeping.proofs.Laws.{keeps_arrays}
+use Rattle.b67_layout_step.proofs.Laws.{keeps_arrays}
 
 -- after all answers but Done nothing has changed
 pub unchanged : (x : Storage) (told : Option (List (List ℕ))) (plan : Plan) (s : Session) (m : Member) (t : Task) (answered : Step) (old : Machine) (new : Cpu) (answer : Answer Result)

@@ -11,7 +11,7 @@ use Rattle.b67_model.specs.State.{Standing, Frame, Task, height, words_of, with_
 use Rattle.b67_model.specs.Cells.{with_cell_of}
 use Rattle.b67_model.specs.Keyed.{keyed, change_keyed}
 use Rattle.b67_model.specs.InOrder.{from_frame}
-use Rattle.b67_profiles.specs.Profiles.{Profile, profile}
+use Rattle.b67_law_order_steps.specs.Profiles.{Profile, profile}
 
 -- the identity of each frame, and how high its mark stands
 abbrev pub At : Type 0

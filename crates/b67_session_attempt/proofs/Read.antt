@@ -7,8 +7,8 @@ use Rattle.b67_model.specs.Schedule.{Session}
 use Rattle.b67_stack.specs.declared.Step.{Step}
 use Rattle.b67_stack.specs.Stands.{Storage}
 use Rattle.b67_layout.specs.Plan.{Plan}
-use Rattle.b67_code.specs.Running.{code_area}
-use Rattle.b67_code.specs.Called.{called_by}
+use Rattle.b67_exec_cells.specs.Running.{code_area}
+use Rattle.b67_exec_cells.specs.Called.{called_by}
 use Rattle.b67_task_tables.specs.declared.tables.Machine.{Machine}
 use Rattle.b67_session_attempt.specs.Makes.{CallsOrMakes, MakesAt, MakesOperator}
 

@@ -12,7 +12,7 @@ use Rattle.b67_model.specs.InOrder.{IsSegment, known_of, from_frame, originals_o
 use Rattle.b67_law_order.proofs.Members.{all_in, length_change}
 use Rattle.b67_law_order.proofs.Reaches.{alike_same}
 use Rattle.b67_law_order.proofs.Replaced.{Replaced, replaced}
-use Rattle.b67_ordering.proofs.Members.{member_kept}
+use Rattle.b67_layout.proofs.Members.{member_kept}
 use Rattle.b67_stack.specs.declared.Cpu.{Cpu}
 use Rattle.b67_stack.specs.Stands.{Storage}
 use Rattle.b67_layout.specs.Plan.{Plan}

@@ -10,7 +10,7 @@ use Rattle.b67_model.specs.Run.{number_of}
 use Rattle.b67_model.specs.Schedule.{Session}
 use Rattle.b67_model.specs.InOrder.{from_frame, frames_of_task, critical_of, IsInOrderButPlaces}
 use Rattle.b67_law_order.proofs.Members.{falls_same}
-use Rattle.b67_profiles.specs.Profiles.{Profile, profile}
+use Rattle.b67_law_order_steps.specs.Profiles.{Profile, profile}
 use Rattle.b67_stack.specs.Stacks.{Spot}
 use Rattle.b67_layout.specs.Plan.{Plan, slot_of, spot_in, base_spot, outer_spots, spots, address_of}
 use Rattle.b67_layout.specs.Rows.{WaitsAtCell, TaskRow, JobRow, Counts, shown, parent_slot, critical_disp, TaskShows, JobShows, JobsShow, TablesShow}

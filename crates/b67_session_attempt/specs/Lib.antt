@@ -1,1 +1,7 @@
 pub mod Makes
+pub mod Fits
+pub mod Tries
+pub mod Attempts
+pub mod Brought
+pub mod Stops
+pub mod Passed

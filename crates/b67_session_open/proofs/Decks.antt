@@ -13,12 +13,12 @@ use Rattle.b67_codefile.specs.Meaning.{segment_of, program_of}
 use Rattle.b67_model.specs.Lists.{Has}
 use Rattle.b67_model.specs.Program.{Program}
 use Rattle.b67_model.specs.InOrder.{SegmentInOrder}
-use Rattle.b67_opening.specs.Opening.{RowWithin, OpeningWithin, DeckWithin}
+use Rattle.b67_law_order_runs.specs.Opening.{RowWithin, OpeningWithin, DeckWithin}
 use Rattle.b67_layout.specs.Rows.{JobRow, TaskRow, TablesShow}
-use Rattle.b67_initial.specs.Opened.{opening_plan, programs_of}
-use Rattle.b67_initial.specs.Tables.{first_row, first_rows, opening_rows, opening_counts}
-use Rattle.b67_initial.proofs.Lists.{item_at}
-use Rattle.b67_initial.proofs.Tables.{tables_show}
+use Rattle.b67_session_open.specs.Opened.{opening_plan, programs_of}
+use Rattle.b67_session_open.specs.Tables.{first_row, first_rows, opening_rows, opening_counts}
+use Rattle.b67_session_open.proofs.Lists.{item_at}
+use Rattle.b67_session_open.proofs.InitialTables.{tables_show}
 use Rattle.b67_task_tables.specs.declared.tables.JobRow as kept
 use Rattle.b67_task_tables.specs.declared.tables.TaskRow as task
 use Rattle.b67_task_tables.specs.Tables.{switch_of, task_row}

@@ -1,2 +1,15 @@
+pub mod Lists
+pub mod Writes
+pub mod Members
+pub mod Things
+pub mod Heads
+pub mod Slots
+pub mod Plans
+pub mod Whole
+pub mod Resting
+pub mod Rests
+pub mod InitialOpens
+pub mod Sums
+pub mod InitialTables
 pub mod Decks
 pub mod Opens

@@ -7,8 +7,8 @@ use Rattle.b67_model_text.specs.declared.deck.Deck.{Deck}
 use Rattle.b67_codefile.specs.declared.file.Codefile.{Codefile}
 use Rattle.b67_codefile.specs.Meaning.{program_of}
 use Rattle.b67_stack.specs.Stands.{Storage}
-use Rattle.b67_initial.specs.Opened.{opening_plan, programs_of}
-use Rattle.b67_initial.specs.Opens.{Opens}
+use Rattle.b67_session_open.specs.Opened.{opening_plan, programs_of}
+use Rattle.b67_session_open.specs.InitialOpens.{Opens}
 use Rattle.b67_task_tables.specs.declared.tables.Machine.{Machine}
 use Rattle.b67_task_tables.specs.Tables.{switch_of, TasksShow}
 use Rattle.b67_session_open.specs.Decks.{openings_of, session_of, job_names, row_names, DeckInRange, IsLoaded}

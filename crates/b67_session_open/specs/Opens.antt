@@ -6,8 +6,8 @@ use Rattle.b67_model.specs.Program.{Program}
 use Rattle.b67_model.specs.Need.{need_at_opening}
 use Rattle.b67_model.specs.Sectors.{sectors}
 use Rattle.b67_stack.specs.Stands.{Storage}
-use Rattle.b67_initial.specs.Opened.{opening_plan}
-use Rattle.b67_initial.specs.Stored.{told_after}
+use Rattle.b67_session_open.specs.Opened.{opening_plan}
+use Rattle.b67_session_open.specs.Stored.{told_after}
 use Rattle.b67_task_tables.specs.declared.tables.Machine.{Machine}
 use Rattle.b67_task_tables.specs.Tables.{MachineStands}
 use Rattle.b67_session_open.specs.declared.fault.OpenFault.{OpenFault}

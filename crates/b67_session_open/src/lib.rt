@@ -1,12 +1,21 @@
-//! Opening a session: its memory, its need of core and of sectors, and the machine that stands for its opening state.
+//! The opening of a deck: its refusals in their order, else the machine that stands.
 #![tactic(auto)]
 
 mod copies;
+mod dictionaries;
 mod fault;
+mod laying;
+mod needs;
 mod opening;
+mod setting;
+#[cfg(test)]
+mod setting_tests;
 mod tables;
 #[cfg(test)]
 mod tests;
 
+pub use dictionaries::dictionary_words;
 pub use fault::OpenFault;
+pub use needs::{opening_need, opening_sectors};
 pub use opening::open;
+pub use setting::{Initial, set_up};

@@ -3,14 +3,14 @@
 ghost use Rattle.std.specs.Prelude.{◌≡◌, ◌<◌, ◌≤◌, ◌^◌, OnOk, IfOk, length, map};
 ghost use Rattle.std.specs.List.{AllByRecursion};
 ghost use Rattle.b67_codefile.specs.Meaning.{program_of};
-ghost use Rattle.b67_initial.specs.Opened.{opening_plan};
-ghost use Rattle.b67_initial.specs.Tables.{first_row as first_row_of, first_rows as first_rows_of, opening_row as opening_row_of, opening_rows as opening_rows_of};
+ghost use Rattle.b67_session_open.specs.Opened.{opening_plan};
+ghost use Rattle.b67_session_open.specs.Tables.{first_row as first_row_of, first_rows as first_rows_of, opening_row as opening_row_of, opening_rows as opening_rows_of};
 ghost use Rattle.b67_task_tables.specs.Tables.{task_row, job_row, TasksShow};
 ghost use Rattle.b67_session_open.specs.Decks.{opening_of, openings_of, session_of, job_names, row_names, JobInRange, DeckInRange, IsLoaded, IsCountable};
 
 use crate::copies::{copied_name, copied_numbers, copied_switches};
 use arrayvec::ArrayVec;
-use b67_initial::dictionary_words;
+use crate::dictionaries::dictionary_words;
 use b67_load_verify::Admitted;
 use b67_task_tables::{JobRow, JobRows, TaskRow, TaskState, Tasks};
 use b67_model_text::{Deck, Job};

@@ -20,7 +20,7 @@ use Rattle.b67_task_tables.specs.declared.tables.Tasks.{Tasks}
 use Rattle.b67_task_tables.specs.Tables.{task_row, job_row, switch_of, counts_of, TasksShow}
 use Rattle.b67_session_schedule.specs.declared.counting.Chosen.{Chosen}
 use Rattle.b67_session_schedule.specs.Counted.{choice_of, counted_member, counted_row, counted, HasRoom, Past}
-use Rattle.b67_turn.proofs.Lists.{mapped_at, at_mapped, map-slice_set}
+use Rattle.b67_task_switch.proofs.Lists.{mapped_at, at_mapped, map-slice_set}
 
 -- one switch more is past
 pub past_grown : (xs : List text.Switch) (from made n : ℕ) (d : text.Switch) → from < length xs → (get_or xs from d).count < made → n ≤ from + 1 → Past from made (map switch_of xs) → Past n made (map switch_of xs)

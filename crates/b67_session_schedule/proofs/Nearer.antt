@@ -7,7 +7,7 @@ use Rattle.b67_model.specs.Schedule.{Who, is_before, is_same}
 use Rattle.b67_task_tables.specs.declared.tables.TaskRow.{TaskRow}
 use Rattle.b67_session_schedule.specs.Chosen.{who_of, is_ready, comes, is_row_of, IsReadyAt, IsNextAt, NextRow}
 use Rattle.b67_session_schedule.proofs.Orders.{before_same, before_after, same_is, is_self}
-use Rattle.b67_turn.proofs.Lists.{there}
+use Rattle.b67_task_switch.proofs.Lists.{there}
 
 -- the item that is read at a place within a list
 pub seen : {A : Type 0} (xs : List A) (i : ℕ) (d : A) → i < length xs → slice_get xs i ≡ Some (get_or xs i d)

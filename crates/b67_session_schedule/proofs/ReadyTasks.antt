@@ -18,8 +18,8 @@ use Rattle.b67_task_tables.specs.declared.tables.TaskRow.{TaskRow}
 use Rattle.b67_task_tables.specs.Tables.{state_of, task_row}
 use Rattle.b67_session_schedule.specs.Chosen.{who_of, is_ready, IsReadyAt}
 use Rattle.b67_session_schedule.proofs.Orders.{before_job, before_task}
-use Rattle.b67_turn.proofs.Lists.{at_has, has_at, mapped_at, at_mapped}
-use Rattle.b67_turn.proofs.Tables.{numbered_low}
+use Rattle.b67_task_switch.proofs.Lists.{at_has, has_at, mapped_at, at_mapped}
+use Rattle.b67_task_switch.proofs.Tables.{numbered_low}
 
 -- tasks in order
 abbrev pub Rises : List Who → Type 0

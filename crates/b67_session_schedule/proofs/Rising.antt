@@ -15,7 +15,7 @@ use Rattle.b67_session_schedule.specs.Chosen.{SwitchesTo}
 use Rattle.b67_task_tables.specs.Tables.{switch_of}
 use Rattle.b67_session_schedule.proofs.Nearer.{seen}
 use Rattle.b67_session_schedule.proofs.Orders.{same_is, is_self}
-use Rattle.b67_turn.proofs.Lists.{at_has, has_at, at_mapped, mapped_at, there}
+use Rattle.b67_task_switch.proofs.Lists.{at_has, has_at, at_mapped, mapped_at, there}
 
 rise_rest : (a : Switch) (more : List Switch) → SwitchesRise (a ∷ more) → SwitchesRise more
 rise_rest a [] h = h

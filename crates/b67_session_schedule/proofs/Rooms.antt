@@ -20,8 +20,8 @@ use Rattle.b67_session_schedule.specs.Counted.{choice_of, HasRoom}
 use Rattle.b67_session_schedule.specs.Chosen.{IsReadyAt, Chooses}
 use Rattle.b67_session_schedule.proofs.ReadyTasks.{among_members, among_tasks, row_ready}
 use Rattle.b67_session_schedule.proofs.Choices.{cyclic}
-use Rattle.b67_turn.proofs.Lists.{mapped_at}
-use Rattle.b67_turn.proofs.Tables.{numbered_low, job_at}
+use Rattle.b67_task_switch.proofs.Lists.{mapped_at}
+use Rattle.b67_task_switch.proofs.Tables.{numbered_low, job_at}
 
 -- a list in which none comes next is empty
 first_cons : (xs ys : List Who) (w : Who) → first (xs ++ (w ∷ ys)) ≡ None → ⊥

@@ -16,7 +16,7 @@ use Rattle.b67_model.specs.Rows.{step}
 use Rattle.b67_model.specs.Schedule.{Who, Switch, Session, Choice, ready, first, switched, goes_on, next_after, is_same, is_before, afresh, choice, choice_by}
 use Rattle.b67_model.specs.Keyed.{keyed, change_keyed}
 use Rattle.b67_model.specs.Run.{Moment, next, with_moment, moment_by, moment_for, number_of, of_job}
-use Rattle.b67_profiles.specs.Profiles.{Profile, profile, profiles}
+use Rattle.b67_law_order_steps.specs.Profiles.{Profile, profile, profiles}
 use Rattle.b67_single.specs.Single.{IsSingle, GoesOn, IsOver}
 
 abbrev pub who_of : Member → Task → Who

@@ -20,7 +20,7 @@ use Rattle.b67_layout.specs.Session.{DictionariesFollow, IsRunning}
 use Rattle.b67_layout.proofs.Others.{keyed-has}
 use Rattle.b67_task_tables.specs.declared.tables.Machine.{Machine}
 use Rattle.b67_task_tables.specs.Tables.{MachineStands, task_row, job_row, counts_of}
-use Rattle.b67_code.proofs.Codes.{short}
+use Rattle.b67_exec_cells.proofs.Codes.{short}
 use Rattle.b67_task_need.specs.Needing.{array_area, need_with, touched_words, HasWords}
 use Rattle.b67_task_need.proofs.Counts.{rows_live}
 

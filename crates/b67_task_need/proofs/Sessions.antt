@@ -34,7 +34,7 @@ use Rattle.b67_exec_cells.proofs.Replaced.{array_thing-has, member_things, befor
 use Rattle.b67_layout_leave.proofs.Settles.{keyed_member, stack_in_slot}
 use Rattle.b67_layout_leave.proofs.Originals.{entry_number}
 use Rattle.b67_law_order.proofs.Members.{keyed_falls, has_map, has_map_back, has_flat}
-use Rattle.b67_code.proofs.Codes.{code_thing}
+use Rattle.b67_exec_cells.proofs.Codes.{code_thing}
 use Rattle.b67_task_need.specs.Sums.{sectors_at, sectors_from, sectors_of_slot, sectors_of_slots}
 use Rattle.b67_task_need.proofs.Counts.{slots_of, jobs_differ, part_of}
 use Rattle.b67_task_need.proofs.Totals.{upto, slots_total, range_split, range_first, kept, total_plus, kept_once, kept_original}

@@ -10,7 +10,7 @@ ghost use Rattle.b67_layout.specs.Session.{IsRunning};
 ghost use Rattle.b67_task_tables.specs.Tables.{MachineStands};
 ghost use Rattle.b67_task_need.specs.Needing.{MachineRuns, need_with, array_area};
 
-use b67_code::descriptor;
+use b67_exec_cells::descriptor;
 use b67_task_tables::Machine;
 
 /// The words of the area of an array of that many words; 0 for no array, whose length is given as 0.

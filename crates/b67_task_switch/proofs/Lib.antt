@@ -1,5 +1,8 @@
 pub mod Replans
-pub mod Turning
+pub mod StackTurns
 pub mod Words
 pub mod Saving
 pub mod Loading
+pub mod Lists
+pub mod Tables
+pub mod Turns

@@ -20,7 +20,7 @@ use Rattle.b67_layout.proofs.Sessions.{running_only}
 use Rattle.b67_task_switch.specs.declared.switching.Turn.{Turn}
 use Rattle.b67_task_switch.specs.Turns.{with_running, IsTurnOf, WaitsOn, loaded}
 use Rattle.b67_task_switch.proofs.Replans.{fit_replan, stack-replan, slot_here, picture-turned}
-use Rattle.b67_task_switch.proofs.Turning.{Turned, Stands-turned, Settled-turned, SessionHolds-turned}
+use Rattle.b67_task_switch.proofs.StackTurns.{Turned, Stands-turned, Settled-turned, SessionHolds-turned}
 use Rattle.b67_task_switch.proofs.Words.{waiting_fits}
 
 module _ (x : Storage) (core : List Tagged) (r : Regs) (marks : List ℕ) (plan : Plan) (s : Session) (m : Member) (t : Task) (turn : Turn)

@@ -22,7 +22,7 @@ use Rattle.b67_layout.proofs.Others.{keyed-has}
 use Rattle.b67_layout.proofs.Rows.{runs_on, slot_below}
 use Rattle.b67_task_switch.specs.Turns.{with_running}
 use Rattle.b67_task_switch.proofs.Replans.{fit_replan, stack-replan, slot_here, picture-turned}
-use Rattle.b67_task_switch.proofs.Turning.{Turned, Stands-turned, Settled-turned, SessionHolds-turned}
+use Rattle.b67_task_switch.proofs.StackTurns.{Turned, Stands-turned, Settled-turned, SessionHolds-turned}
 use Rattle.b67_task_switch.proofs.Words.{running_inside}
 
 -- registers are in use where the slot is one, and then a task runs

@@ -1,6 +1,8 @@
-//! Which task's registers are in use.
+//! Another task runs, and the same session stands.
 #![tactic(auto)]
 
-mod switching;
+pub mod switching;
+mod turning;
 
-pub use switching::{Turn, switch_to};
+pub use switching::Turn;
+pub use turning::switch_to;

@@ -20,7 +20,7 @@ use Rattle.b67_model.specs.Chase.{End, AtCell, AtElement, AtArray, AtProc, AtInt
 use Rattle.b67_model.specs.Steps.{top_of, cells_of}
 use Rattle.b67_model.specs.Rows.{stff_word, stff}
 use Rattle.b67_model.specs.InOrder.{Starts, EntryInOrder, SettingInOrder, TasksInOrder}
-use Rattle.b67_profiles.specs.Profiles.{called_at, called_by, called_on, called}
+use Rattle.b67_law_order_steps.specs.Profiles.{called_at, called_by, called_on, called}
 use Rattle.b67_law_order.proofs.Members.{all_in, keyed_has, has_get, has_reverse_back}
 use Rattle.b67_law_order.proofs.Posts.{Post, post_ok, post_err, post_bind, post_any, post_if_is}
 use Rattle.b67_law_order.proofs.Chases.{some_ok}

@@ -13,8 +13,8 @@ use Rattle.b67_model.specs.Loader.{Entry, At, Break, listing}
 use Rattle.b67_model.specs.Rows.{reading_of}
 use Rattle.b67_model.specs.Schedule.{Switch}
 use Rattle.b67_model.specs.Run.{after}
-use Rattle.b67_profiles.specs.Profiles.{called}
-use Rattle.b67_opening.specs.Opening.{Opening, DeckWithin, opening}
+use Rattle.b67_law_order_steps.specs.Profiles.{called}
+use Rattle.b67_law_order_runs.specs.Opening.{Opening, DeckWithin, opening}
 
 -- the cells of the MCP's record from 12 to 16
 abbrev pub names_unbuilt : Couple → Bool

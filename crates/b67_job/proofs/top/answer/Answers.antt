@@ -1,8 +1,8 @@
 use Rattle.std.proofs.Common.{sym, ap, ◌∙◌, refl, Some}
 use Rattle.std.specs.Prelude.{is_some}
-use Rattle.b67_deck.specs.Device.{device_of}
-use Rattle.b67_deck.specs.Texts.{only}
-use Rattle.b67_deck.proofs.Ran.{closes_only}
+use Rattle.b67_job.specs.Device.{device_of}
+use Rattle.b67_job.specs.Texts.{only}
+use Rattle.b67_job.proofs.Ran.{closes_only}
 use Rattle.b67_job.specs.Due.{answered, usage_due, usage_text}
 use Rattle.b67_job.proofs.Served.{without}
 use Rattle.b67_job.proofs.top.answer.Goals as goal

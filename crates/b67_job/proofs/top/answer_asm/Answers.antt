@@ -1,5 +1,5 @@
 use Rattle.std.proofs.Common.{refl}
-use Rattle.b67_commands.specs.Verdicts.{asm_verdict}
+use Rattle.b67_job_admit.specs.Verdicts.{asm_verdict}
 use Rattle.b67_job.specs.declared.command.CommandLine.TheVariants as lines
 use Rattle.b67_job.proofs.Served.{served_text}
 use Rattle.b67_job.proofs.top.answer_asm.Goals as goal

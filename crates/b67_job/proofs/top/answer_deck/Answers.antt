@@ -1,6 +1,6 @@
 use Rattle.std.proofs.Common.{sym, subst}
 use Rattle.b67_job_admit.specs.Meets.{prepared_of}
-use Rattle.b67_deck.specs.Device.{device_of}
+use Rattle.b67_job.specs.Device.{device_of}
 use Rattle.b67_job.specs.Judgement.{Judgement}
 use Rattle.b67_job.specs.Due.{DeckEnds}
 use Rattle.b67_job.proofs.Served.{nothing_missing}

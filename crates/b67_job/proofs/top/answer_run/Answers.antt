@@ -1,4 +1,4 @@
-use Rattle.b67_deck.specs.Device.{device_of}
+use Rattle.b67_job.specs.Device.{device_of}
 use Rattle.b67_job.proofs.Served.{loaded_in_range, served_deck, served_refusal, without}
 use Rattle.b67_job.proofs.top.answer_run.Goals as goal
 

@@ -3,7 +3,7 @@ use Rattle.b67_word.specs.declared.couples.Place.{Place}
 use Rattle.b67_layout.specs.Meets.{with_job}
 use Rattle.b67_model.specs.declared.operators.Op.TheVariants.{Plain}
 use Rattle.b67_model.specs.declared.operators.Code.TheVariants.{Entr}
-use Rattle.b67_calls.specs.Declared.{job_declared, with_home, without}
+use Rattle.b67_mcp_calls.specs.Declaring.{job_declared, with_home, without}
 use Rattle.b67_task_tables.specs.declared.tables.Machine.{Machine}
 use Rattle.b67_task_tables.specs.Tables.{MachineStands}
 use Rattle.b67_mcp.proofs.Callings.{calling, reads_of, call_some}

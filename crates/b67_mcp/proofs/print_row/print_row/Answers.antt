@@ -4,8 +4,8 @@ use Rattle.b67_model.specs.declared.operators.Code.TheVariants.{Entr}
 use Rattle.b67_model.specs.Steps.{Values, Goes}
 use Rattle.b67_stack.specs.declared.What.TheVariants as what
 use Rattle.b67_mcp_calls.specs.Calls.{job_cut}
-use Rattle.b67_printrow.specs.declared.row.Found.{Found}
-use Rattle.b67_printrow.specs.Calls.{RowMeets, RowTouches}
+use Rattle.b67_mcp_calls.specs.declared.row.Found.{Found}
+use Rattle.b67_mcp_calls.specs.RowCalls.{RowMeets, RowTouches}
 use Rattle.b67_mcp.proofs.Built.{built_of}
 use Rattle.b67_mcp.proofs.Callings.{calling, reads_of, call_some}
 use Rattle.b67_mcp.proofs.Touched.{touched_by_row}

@@ -5,11 +5,11 @@ use Rattle.b67_model.specs.declared.operators.Op.TheVariants.{Plain}
 use Rattle.b67_model.specs.declared.operators.Code.TheVariants.{Entr}
 use Rattle.b67_model.specs.Intrinsics.{read_from}
 use Rattle.b67_layout.specs.Meets.{with_job}
-use Rattle.b67_calls.specs.Reads.{job_read}
+use Rattle.b67_mcp_calls.specs.Reads.{job_read}
 use Rattle.b67_task_tables.specs.declared.tables.Machine.{Machine}
 use Rattle.b67_task_tables.specs.declared.tables.Tasks.{Tasks}
 use Rattle.b67_task_tables.specs.Tables.{MachineStands}
-use Rattle.b67_turn.proofs.Lists.{at_has}
+use Rattle.b67_task_switch.proofs.Lists.{at_has}
 use Rattle.b67_mcp.proofs.Callings.{calling, reads_of, call_some}
 use Rattle.b67_mcp.proofs.Cut.{one_behind}
 use Rattle.b67_mcp.proofs.Sizes.{same_size, kept_same}

@@ -1,6 +1,6 @@
 use Rattle.std.proofs.Common.{List, sym, subst}
 use Rattle.b67_task_tables.specs.declared.tables.JobRow.{JobRow}
-use Rattle.b67_attempt.specs.Passed.{AreCountable}
+use Rattle.b67_session_attempt.specs.Passed.{AreCountable}
 use Rattle.b67_session.proofs.Emptying.{one_same}
 use Rattle.b67_session.proofs.ends.advance.Goals as goal
 

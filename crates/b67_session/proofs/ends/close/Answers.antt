@@ -1,6 +1,6 @@
 use Rattle.std.proofs.Common.{refl, sym, subst}
 use Rattle.b67_task_tables.specs.declared.tables.Tasks.{Tasks}
-use Rattle.b67_attempt.specs.Passed.{AreCountable}
+use Rattle.b67_session_attempt.specs.Passed.{AreCountable}
 use Rattle.b67_session.proofs.Emptying.{one_same, ends_in}
 use Rattle.b67_session.proofs.Finished.{finish}
 use Rattle.b67_session.proofs.ends.close.Goals as goal

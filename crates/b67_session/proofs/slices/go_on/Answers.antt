@@ -1,6 +1,6 @@
 use Rattle.std.proofs.Common.{◌≢◌, ℕ, List, Option, None, Ok, Err, refl, sym, ◌∙◌, subst, arith, ◌≡◌, ◌+◌, length}
 use Rattle.b67_layout_storage.specs.Machine.{Says, retold}
-use Rattle.b67_attempt.specs.Brought.{WantsNothing}
+use Rattle.b67_session_attempt.specs.Brought.{WantsNothing}
 use Rattle.b67_overlay.proofs.Chains.{retold-same}
 use Rattle.b67_layout_storage.proofs.Devices.{Served-none, Served-then}
 use Rattle.b67_session.specs.declared.ends.StepEnd.TheVariants as ends

@@ -2,8 +2,8 @@ use Rattle.std.proofs.Common.{◌≡◌, ◌≢◌, ◌≤◌, ℕ, List, Option
 use Rattle.b67_model.specs.State.{Task, Member}
 use Rattle.b67_model.specs.Schedule.{Session}
 use Rattle.b67_layout_storage.specs.Machine.{Says, Served, retold}
-use Rattle.b67_attempt.specs.Passed.{AreCountable}
-use Rattle.b67_attempt.specs.Brought.{WantsNothing}
+use Rattle.b67_session_attempt.specs.Passed.{AreCountable}
+use Rattle.b67_session_attempt.specs.Brought.{WantsNothing}
 use Rattle.b67_session.specs.Slices.{IsLone, StepsFit}
 use Rattle.b67_session.proofs.Going.{Going}
 use Rattle.b67_session.proofs.slices.go_on.Given as goal

@@ -1,7 +1,7 @@
 use Rattle.std.proofs.Common.{◌≢◌, None, Err, inl, inr, refl, ap}
 use Rattle.b67_layout_storage.specs.Machine.{retold}
 use Rattle.b67_layout_storage.proofs.Devices.{Served-none}
-use Rattle.b67_attempt.specs.Stops.{Stop}
+use Rattle.b67_session_attempt.specs.Stops.{Stop}
 use Rattle.b67_session.proofs.Resuming.{open_lives, open_one, lone_not, resumes_whole, resumes_more, stops_printing}
 use Rattle.b67_session.proofs.Limits.{limited_not}
 use Rattle.b67_session.proofs.Pausing.{says_retold}

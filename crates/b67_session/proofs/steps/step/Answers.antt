@@ -1,9 +1,9 @@
 use Rattle.std.proofs.Common.{length, Ok, Err, sym, ap, ◌∙◌, subst, inl, inr}
 use Rattle.b67_layout_storage.specs.Machine.{retold}
 use Rattle.b67_task_tables.specs.declared.tables.Tasks.{Tasks}
-use Rattle.b67_attempt.specs.Passed.{AreCountable}
-use Rattle.b67_attempt.specs.Stops.{Stop}
-use Rattle.b67_attempt.specs.declared.attempts.Attempt.TheVariants as attempts
+use Rattle.b67_session_attempt.specs.Passed.{AreCountable}
+use Rattle.b67_session_attempt.specs.Stops.{Stop}
+use Rattle.b67_session_attempt.specs.declared.attempts.Attempt.TheVariants as attempts
 use Rattle.b67_session.proofs.Turned.{Attempted, chooses_one, has_row, turned, over, runs_over, attempted_here, quiet_here}
 use Rattle.b67_session.proofs.Stepping.{made_room, has_one, made_steps, ends_room, ends_one, ends_steps, stop_steps}
 use Rattle.b67_session.proofs.Tabled.{advanced_unprinted, stop_printed, stop_made, ended_printed, turned_printed, turned_made}

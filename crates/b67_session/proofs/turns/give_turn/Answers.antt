@@ -2,7 +2,7 @@ use Rattle.std.proofs.Common.{sym, ap, ◌∙◌}
 use Rattle.std.specs.List.{slice_get}
 use Rattle.b67_area.specs.declared.Areas.{Areas}
 use Rattle.b67_session.proofs.Turned.{runs_already}
-use Rattle.b67_turn.proofs.Lists.{there}
+use Rattle.b67_task_switch.proofs.Lists.{there}
 use Rattle.b67_session.proofs.turns.give_turn.Goals as goal
 
 pub returns-then-machine-row-clause-len : goal.returns-then-machine-row-clause-len

@@ -1,7 +1,7 @@
 use Rattle.std.proofs.Common.{◌≡◌, ◌+◌, ◌*◌, ◌≤◌, ◌++◌, map, drop}
 use Rattle.std.specs.List.{AllByRecursion}
 use Rattle.b67_codefile.specs.Meaning.{program_of}
-use Rattle.b67_initial.specs.Tables.{opening_rows}
+use Rattle.b67_session_open.specs.Tables.{opening_rows}
 use Rattle.b67_task_tables.specs.Tables.{job_row}
 use Rattle.b67_session_open.specs.Decks.{openings_of, job_names, row_names, IsLoaded, IsCountable}
 use Rattle.b67_session_open.proofs.tables.opening_rows.Given as goal

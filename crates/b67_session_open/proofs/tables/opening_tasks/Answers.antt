@@ -1,7 +1,7 @@
 use Rattle.std.proofs.Common.{map, ◌∙◌, ap}
 use Rattle.std.proofs.lemmas.List.{length-map}
 use Rattle.b67_codefile.specs.Meaning.{program_of}
-use Rattle.b67_initial.specs.Tables.{opening_rows}
+use Rattle.b67_session_open.specs.Tables.{opening_rows}
 use Rattle.b67_session_open.specs.Decks.{openings_of}
 use Rattle.b67_session_open.proofs.Decks.{tables_given}
 use Rattle.b67_session_open.proofs.tables.opening_tasks.Goals as goal

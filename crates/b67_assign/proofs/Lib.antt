@@ -1,3 +1,0 @@
-pub mod Unders
-pub mod Cases
-pub mod Overs

@@ -1,9 +1,0 @@
-pub mod Trying
-pub mod Started
-pub mod Still
-pub mod Mute
-pub mod Fits
-pub mod Numbers
-pub mod Stops
-pub mod Composed
-pub mod Passed

@@ -1,5 +1,0 @@
-pub mod Tries
-pub mod Attempts
-pub mod Brought
-pub mod Stops
-pub mod Passed

@@ -1,0 +1,88 @@
+-- The frame is left and a word is put on the caller's: the machine stands for the session afterwards.
+use Rattle.std.proofs.Common.{◌≡◌, ◌≢◌, ℕ, List, ◌∷◌, map, Ok, refl, sym, ◌∙◌, ap, Bool, true, false, not, inl, inr, subst}
+use Rattle.std.specs.Prelude.{◌==◌}
+use Rattle.std.proofs.lemmas.Bool.{true≢false}
+use Rattle.std.proofs.lemmas.Bool.Decides.{eqb_tells}
+use Rattle.b67_word.specs.declared.faults.Fault.TheVariants.{Uplevel}
+use Rattle.b67_model.specs.Lists.{Has, Falls}
+use Rattle.b67_model.specs.Answers.{◌>>◌, needs}
+use Rattle.b67_model.specs.Words as Words
+use Rattle.b67_model.specs.Words.{Word, Operand, Name, Ref, Row, Element, Original, Proc, Intrinsic}
+use Rattle.b67_model.specs.State.{Frame, Array, Setting, Job}
+use Rattle.b67_model.specs.Arrays.{array, owner_of}
+use Rattle.b67_model.specs.Entry.{returnable}
+use Rattle.b67_model.specs.InOrder.{IsSegment, Known, NamesArray, WordInOrder}
+use Rattle.b67_stack.specs.Shapes.{Shape}
+use Rattle.b67_stack.specs.Stacks.{Spot}
+use Rattle.b67_stack.specs.Picture.{Thing, CopiesName}
+use Rattle.b67_stack.specs.Changes.{MayPush}
+use Rattle.b67_layout.specs.Plan.{Plan, spot_in}
+use Rattle.b67_layout.specs.Layout.{shape}
+use Rattle.b67_layout_leave.proofs.Nowhere.{SameArray, array_stays}
+use Rattle.b67_layout_leave.proofs.Things.{others}
+use Rattle.b67_entry.proofs.CopyRefusals.{found_array}
+
+-- a word that may be returned from a frame
+module _ (job : Job) (id : ℕ) where
+  abbrev Passes : Word → Type 0
+  Passes v = returnable job id v ≡ Ok v
+
+  needed : (b : Bool) (v : Word) → (needs (not b) Uplevel >> Ok v) ≡ Ok v → b ≡ false
+  needed true v e = let z : ⊥ = cc in absurd z
+  needed false v e = refl
+
+  -- it isn't a reference into the frame
+  pub other_frame : (g offset : ℕ) → returnable job id (Ref g offset) ≡ Ok (Ref g offset) → g ≢ id
+  other_frame g offset e z = elim (eqb_tells g id) [ inl s ↦ true≢false (sym s.0 ∙ needed (g == id) (Ref g offset) e) | inr s ↦ s.1 z ]
+
+  -- nor a copy of an array of the frame
+  pub other_row : (a : ℕ) → returnable job id (Row a) ≡ Ok (Row a) → owner_of job a ≢ id
+  other_row a e z = elim (eqb_tells (owner_of job a) id) [ inl s ↦ true≢false (sym s.0 ∙ needed (owner_of job a == id) (Row a) e) | inr s ↦ s.1 z ]
+
+  pub other_element : (a i : ℕ) → returnable job id (Element a i) ≡ Ok (Element a i) → owner_of job a ≢ id
+  other_element a i e z = elim (eqb_tells (owner_of job a) id) [ inl s ↦ true≢false (sym s.0 ∙ needed (owner_of job a == id) (Element a i) e) | inr s ↦ s.1 z ]
+
+  -- it is seen from the frames below as from the frame
+  pub shape_below : (plan : Plan) (j k : ℕ) (outer : ℕ → Spot) (f : Frame) (below : List Frame) (v : Word) → f.identity ≡ id → returnable job id v ≡ Ok v
+      → shape plan j job (spot_in k outer (f ∷ below)) v ≡ shape plan j job (spot_in k outer below) v
+  shape_below plan j k outer f below (Ref g offset) is e =
+      let same : spot_in k outer (f ∷ below) g ≡ spot_in k outer below g = elim (eqb_tells f.identity g) [ inl s ↦ absurd (other_frame g offset e (sym s.1 ∙ is)) | inr s ↦ rw s.0 refl ] in
+      let S : Spot → Shape = λ s. shape plan j job (λ i. s) (Ref g offset) in
+      ap S same
+  shape_below plan j k outer f below (Operand bits) is e = refl
+  shape_below plan j k outer f below (Name couple) is e = refl
+  shape_below plan j k outer f below (Row a) is e = refl
+  shape_below plan j k outer f below (Element a index) is e = refl
+  shape_below plan j k outer f below (Original a) is e = refl
+  shape_below plan j k outer f below (Proc segment level place) is e = refl
+  shape_below plan j k outer f below (Intrinsic number) is e = refl
+  shape_below plan j k outer f below (Words.Segment number) is e = refl
+
+  -- it may be put on a stack
+  pub may_push : (plan : Plan) (j : ℕ) (spot : ℕ → Spot) (things : List Thing) (shapes : List Shape) (v : Word) → CopiesName things shapes → Has shapes (shape plan j job spot v) → returnable job id v ≡ Ok v → MayPush things (shape plan j job spot v)
+  may_push plan j spot things shapes (Row a) copies h e = copies _ (plan.home j a) h
+  may_push plan j spot things shapes (Element a index) copies h e = copies _ (plan.home j a) h
+  may_push plan j spot things shapes (Original a) copies h e = let z : ⊥ = cc in absurd z
+  may_push plan j spot things shapes (Operand bits) copies h e = tt
+  may_push plan j spot things shapes (Name couple) copies h e = tt
+  may_push plan j spot things shapes (Ref g offset) copies h e = tt
+  may_push plan j spot things shapes (Proc segment level place) copies h e = tt
+  may_push plan j spot things shapes (Intrinsic number) copies h e = tt
+  may_push plan j spot things shapes (Words.Segment number) copies h e = tt
+
+  -- and its array stays
+  kept : (new : Job) (reach : List Known) (a index : ℕ) → NamesArray job.arrays reach a index → new.arrays ≡ others id job.arrays → Falls job.next_array (map (λ (b : Array). b.identity) job.arrays) → owner_of job a ≢ id → array new a ≡ array job a
+  kept new reach a index n is falls ne =
+      let same = found_array job reach a index n falls in
+      subst (λ (i : ℕ). array new i ≡ array job i) n.named (array_stays new job id is falls n.item n.live (λ e. ne (ap (λ (b : Array). b.owner) same ∙ e)))
+
+  pub array_kept : (new : Job) (setting : Setting) (reach : List Known) (v : Word) → WordInOrder (IsSegment setting) job.arrays reach id v → new.arrays ≡ others id job.arrays → Falls job.next_array (map (λ (b : Array). b.identity) job.arrays) → returnable job id v ≡ Ok v → SameArray new job v
+  array_kept new setting reach (Row a) g is falls e = kept new reach a 0 g is falls (other_row a e)
+  array_kept new setting reach (Element a index) g is falls e = kept new reach a index g is falls (other_element a index e)
+  array_kept new setting reach (Operand bits) g is falls e = tt
+  array_kept new setting reach (Name couple) g is falls e = tt
+  array_kept new setting reach (Ref h offset) g is falls e = tt
+  array_kept new setting reach (Original a) g is falls e = tt
+  array_kept new setting reach (Proc segment level place) g is falls e = tt
+  array_kept new setting reach (Intrinsic number) g is falls e = tt
+  array_kept new setting reach (Words.Segment number) g is falls e = tt

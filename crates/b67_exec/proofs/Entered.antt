@@ -1,0 +1,91 @@
+-- Ends at procedures, and what entering them makes.
+use Rattle.std.proofs.Common.{◌≡◌, ◌≢◌, ℕ, ◌<◌, ◌^◌, List, Ok, Err, refl, sym, Bool, true, false, subst}
+use Rattle.b67_word.specs.Tagged.{Tagged}
+use Rattle.b67_word.specs.declared.couples.Place.{Place}
+use Rattle.b67_word.specs.declared.faults.Fault.{Fault}
+use Rattle.b67_ctl.specs.Layout.{irw_word}
+use Rattle.b67_ctl.specs.declared.registers.Regs.{Regs}
+use Rattle.b67_model.specs.Answers.{Answer, ◌>>=◌}
+use Rattle.b67_model.specs.Chase as Chase
+use Rattle.b67_model.specs.Chase.{AtCell, AtElement, AtArray, AtProc, AtIntrinsic, chase, follow}
+use Rattle.b67_model.specs.Words.{Name}
+use Rattle.b67_model.specs.Entry.{accident, back_to, evaluates}
+use Rattle.b67_model.specs.Rows as rows
+use Rattle.b67_model.specs.State.{Task, Member}
+use Rattle.b67_model.specs.Steps.{Done, cells_of}
+use Rattle.b67_model.specs.Schedule.{Session}
+use Rattle.b67_model.specs.InOrder.{IsInOrderButPlaces}
+use Rattle.b67_stack.specs.declared.Cpu.{Cpu}
+use Rattle.b67_stack.specs.declared.Step.{Step}
+use Rattle.b67_stack.specs.declared.Step.TheVariants as step
+use Rattle.b67_stack.specs.Stands.{Storage}
+use Rattle.b67_layout.specs.Plan.{Plan}
+use Rattle.b67_layout.specs.Session.{IsRunning, SessionStands}
+use Rattle.b67_layout.specs.Meets.{here, Meets}
+use Rattle.b67_refer.specs.declared.ends.End.{End}
+use Rattle.b67_refer.specs.declared.ends.End.TheVariants as end
+use Rattle.b67_refer.specs.Scene.{Scene}
+use Rattle.b67_refer.specs.Ends.{EndMeets, IsProcAt}
+use Rattle.b67_entry_enter.specs.Procedures.{ReachesProc}
+use Rattle.b67_fetch.specs.Fetches.{enters, enters_at, EntersOrMeets}
+use Rattle.b67_fetch.proofs.Values.{here_scene, here_shown, followed_stands, couple_followed}
+use Rattle.b67_exec.specs.Procedures.{Leads}
+
+-- an end that is a procedure's
+pub record AtProcedure (e : Answer Chase.End) : Type 0 where
+  pub frame : ℕ
+  pub segment : ℕ
+  pub level : ℕ
+  pub place : Place
+  pub is : e ≡ Ok (AtProc frame segment level place)
+
+at_by : (e : Chase.End) → enters e ≡ true → AtProcedure (Ok e)
+at_by (AtProc f segment level place) is = record { frame = f; segment = segment; level = level; place = place; is = refl }
+at_by (AtCell f offset bits) is = absurd (let z : ⊥ = cc in z)
+at_by (AtElement n i) is = absurd (let z : ⊥ = cc in z)
+at_by (AtArray n) is = absurd (let z : ⊥ = cc in z)
+at_by (AtIntrinsic n) is = absurd (let z : ⊥ = cc in z)
+
+pub at_procedure : (e : Answer Chase.End) → enters_at e ≡ true → AtProcedure e
+at_procedure (Ok e) is = at_by e is
+at_procedure (Err f) is = absurd (let z : ⊥ = cc in z)
+
+module _ {core : List Tagged} {r : Regs} (a : Scene core r) (q : Place) where
+  -- what was found where the end is a procedure's
+  found_by : (found : End) (f segment level : ℕ) (place : Place) → EndMeets a q (Ok found) (Ok (AtProc f segment level place)) → (cell : ℕ) × (found ≡ end.Proc cell) × IsProcAt a q cell f segment level place
+  found_by (end.Proc cell) f segment level place i = (cell, refl, i)
+  found_by (end.Cell at) f segment level place i = absurd i
+  found_by (end.Element original index) f segment level place i = absurd i
+  found_by (end.Array original) f segment level place i = absurd i
+  found_by (end.Intrinsic n) f segment level place i = absurd i
+
+  pub found_proc : (found : End) (e : Answer Chase.End) (f segment level : ℕ) (place : Place) → e ≡ Ok (AtProc f segment level place) → EndMeets a q (Ok found) e → (cell : ℕ) × (found ≡ end.Proc cell) × IsProcAt a q cell f segment level place
+  found_proc found e f segment level place is i = let P : Answer Chase.End → Type 0 = λ z. EndMeets a q (Ok found) z in found_by found f segment level place (subst P is i)
+
+  pub no_fault : (fault : Fault) (e : Answer Chase.End) (f segment level : ℕ) (place : Place) → e ≡ Ok (AtProc f segment level place) → EndMeets a q (Err fault) e → ⊥
+  no_fault fault e f segment level place is i = let P : Answer Chase.End → Type 0 = λ z. EndMeets a q (Err fault) z in subst P is i
+
+-- an answer other than a call's, and a call's
+pub met_by : (x : Storage) (plan : Plan) (s : Session) (m : Member) (r : Step) (old new : Cpu) (b : Bool) (answer : Answer Done) → ((n : ℕ) → r ≢ step.Call n) → EntersOrMeets x plan s m r old new b answer → Meets x plan s m r old new answer
+met_by x plan s m r old new true answer other i = absurd (other 255 i.0)
+met_by x plan s m r old new false answer other i = i
+
+pub called_by : (x : Storage) (plan : Plan) (s : Session) (m : Member) (n : ℕ) (old new : Cpu) (b : Bool) (answer : Answer Done) → EntersOrMeets x plan s m (step.Call n) old new b answer → (b ≡ true) × (new ≡ old)
+called_by x plan s m n old new true answer i = (refl, i.1)
+called_by x plan s m n old new false answer i = absurd i
+
+module _ (x : Storage) (cpu : Cpu) (plan : Plan) (s : Session) (m : Member) (t : Task) (ordered : IsInOrderButPlaces s) (h : SessionStands x cpu plan s) (runs : IsRunning plan s.jobs m t) where
+  -- a couple that leads to a procedure
+  pub couple_leads : (q : Place) (couple : ℕ) (w : Tagged) → couple < 2 ^ 14 → w ≡ irw_word (record { couple = couple }) → (p : AtProcedure (chase (here m t q) (Name couple)))
+      → Leads cpu (here_scene x cpu plan s m t ordered h runs) q w p.frame p.segment p.level p.place
+  couple_leads q couple w small is p =
+      let i = couple_followed x plan m t couple w small is in
+      record { shown = here_shown x cpu plan s m t ordered h runs; at = i.at; owner = i.owner; word = Name couple; stands = followed_stands x cpu plan s m t ordered h runs w (Name couple) i; ends = p.is }
+
+  pub reaches : (q : Place) (cell f segment level : ℕ) (place : Place) → IsProcAt (here_scene x cpu plan s m t ordered h runs) q cell f segment level place → ReachesProc cpu (here_scene x cpu plan s m t ordered h runs) q cell f segment level place
+  reaches q cell f segment level place i = record { ordered = ordered; stands = h; procedure = i }
+
+  -- VALC by the entry
+  pub valc_enters : (q : Place) (couple : ℕ) (r : Step) (new : Cpu) (p : AtProcedure (chase (here m t q) (Name couple)))
+      → Meets x plan s m r cpu new (accident (here m t q) (cells_of (here m t q)) (back_to (here m t q) true q) (AtProc p.frame p.segment p.level p.place)) → Meets x plan s m r cpu new (rows.valc (here m t q) couple)
+  valc_enters q couple r new p i = let P : Answer Chase.End → Type 0 = λ e. Meets x plan s m r cpu new (e >>= λ f. evaluates (here m t q) f) in subst P (sym p.is) i

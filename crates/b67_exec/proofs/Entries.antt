@@ -1,0 +1,160 @@
+-- A procedure is entered over other cells on top of the running task.
+use Rattle.std.proofs.Common.{◌≡◌, ℕ, ◌+◌, ◌<◌, ◌≤◌, List, [], ◌∷◌, ◌++◌, map, Some, None, Ok, Err, refl, sym, ◌∙◌, ap, arith, Bool, ◌==◌, ◌⊎◌, inl, inr, ⊎_elim, subst}
+use Rattle.std.specs.Prelude.{nat_le}
+use Rattle.std.specs.List.{slice_get}
+use Rattle.std.proofs.lemmas.Bool.{cases_eq}
+use Rattle.std.proofs.lemmas.Bool.Decides.{eqb_tells}
+use Rattle.b67_word.specs.Tagged.{Tagged}
+use Rattle.b67_word.specs.declared.couples.Place.{Place}
+use Rattle.b67_word.specs.declared.faults.Fault.TheVariants.{InvalidOperand, StackOverflow}
+use Rattle.b67_model.specs.Answers.{Answer, ◌>>◌, needs}
+use Rattle.b67_model.specs.Chase.{AtProc}
+use Rattle.b67_model.specs.Entry.{accident, back_to}
+use Rattle.b67_model.specs.Environment.{level_of_frame}
+use Rattle.b67_model.specs.InOrder.{NamesEntered, IsInOrderButPlaces}
+use Rattle.b67_model.specs.Keyed.{change_keyed}
+use Rattle.b67_model.specs.Lists.{Has}
+use Rattle.b67_model.specs.Run.{number_of}
+use Rattle.b67_model.specs.Schedule.{Session}
+use Rattle.b67_model.specs.State.{Frame, Entered, Array, Task, Job, Course, Member, top, with_top_cells, with_task, height, frame}
+use Rattle.b67_model.specs.Steps.{Done, Goes, cells_of}
+use Rattle.b67_model.specs.Words.{Word, Proc}
+use Rattle.b67_law_order.proofs.Members.{change_twice}
+use Rattle.b67_stack.specs.declared.Cpu.{Cpu}
+use Rattle.b67_stack.specs.declared.Step.{Step}
+use Rattle.b67_stack.specs.declared.Step.TheVariants as step
+use Rattle.b67_stack.specs.Picture.{Thing}
+use Rattle.b67_stack.specs.Stands.{Storage}
+use Rattle.b67_layout.specs.Plan.{Plan, address_of}
+use Rattle.b67_layout.specs.Layout.{picture, stack_of_task}
+use Rattle.b67_layout.specs.Session.{IsRunning, SessionHoldsBut, SessionStands, SessionStandsBut}
+use Rattle.b67_layout.specs.Meets.{here, with_job, IsMade}
+use Rattle.b67_layout.proofs.Others.{keyed-has, keyed-put_same}
+use Rattle.b67_layout.proofs.Pictures.{member-same}
+use Rattle.b67_layout.proofs.Rows.{runs_on}
+use Rattle.b67_layout.proofs.Whole.{task_with}
+use Rattle.b67_layout.proofs.Gone.{no_things_gone}
+use Rattle.b67_refer.specs.Scene.{Scene}
+use Rattle.b67_refer.specs.Ends.{IsProcAt}
+use Rattle.b67_refer.proofs.Scenes.{scene}
+use Rattle.b67_layout_enter.proofs.Heads.{clear_settled}
+use Rattle.b67_entry_enter.specs.Procedures.{CanEnter, IsEntered, EntersOrFaults}
+use Rattle.b67_exec.proofs.Looks.{spots-same, reach-same, level-same, cell-same}
+
+cells-back : (fs : List Frame) (cs : List Word) → with_top_cells (with_top_cells fs cs) (top (with_top_cells fs cs)).cells ≡ with_top_cells fs cs
+cells-back [] cs = refl
+cells-back (f ∷ below) cs = refl
+
+-- a procedure was entered over other cells, or nothing has changed since these were there
+abbrev pub EntersOver : Storage → Plan → Session → Member → Step → Cpu → Cpu → Cpu → Answer Done → Type 0
+EntersOver x plan s m step.Done old between new answer = IsMade x plan s m old new answer
+EntersOver x plan s m (step.Fault fault) old between new answer = (answer ≡ Err fault) × (new ≡ between)
+EntersOver x plan s m _ old between new answer = ⊥
+
+-- a member that is changed twice
+jobs-twice : (n : ℕ) (a b : Course) (xs : List Member) → change_keyed number_of n (λ (y : Member). record y { course = b }) (change_keyed number_of n (λ (y : Member). record y { course = a }) xs) ≡ change_keyed number_of n (λ (y : Member). record y { course = b }) xs
+jobs-twice n a b [] = refl
+jobs-twice n a b (y ∷ ys) = elim (eqb_tells (number_of y) n) [
+  | inl e ↦ rw e.0 (rw e.0 refl)
+  | inr e ↦ rw e.0 (rw e.0 (ap (λ (more : List Member). y ∷ more) (jobs-twice n a b ys)))
+]
+
+-- the answer of an entry, by what it reads
+abbrev entered_by : Job → Task → (size level wanted segment : ℕ) → Place → Frame → List Frame → List Task → Answer Done
+entered_by job t size level wanted segment place f below tasks =
+    let T : Task = record t { frames = f ∷ below; segment = segment; place = place } in
+    needs (level + 1 == wanted) InvalidOperand >> (needs (nat_le (height (f ∷ below)) size) StackOverflow >> Ok (Goes (record job { next_frame = job.next_frame + 1; tasks = change_keyed (λ (u : Task). u.number) t.number (λ (u : Task). T) tasks }) [] None))
+
+module _ (x : Storage) (old : Cpu) (plan : Plan) (s : Session) (m : Member) (t : Task) (ordered : IsInOrderButPlaces s) (h : SessionStands x old plan s) (runs : IsRunning plan s.jobs m t) (cs : List Word)
+    (ordered0 : IsInOrderButPlaces (with_job s m (with_task m.course.job (task_with t cs t.place)))) (cpu0 : Cpu) (level0 : ℕ)
+    (critical : cpu0.critical ≡ old.critical)
+    (holds0 : SessionHoldsBut [] x cpu0.core (record old.regs { s = level0 }) old.critical plan (with_job s m (with_task m.course.job (task_with t cs t.place)))) where
+  abbrev pub task0 : Task
+  task0 = task_with t cs t.place
+
+  abbrev pub member0 : Member
+  member0 = record m { course = record m.course { job = with_task m.course.job (task_with t cs t.place) } }
+
+  abbrev pub session0 : Session
+  session0 = with_job s m (with_task m.course.job (task_with t cs t.place))
+
+  pub runs0 : IsRunning plan (with_job s m (with_task m.course.job (task_with t cs t.place))).jobs (record m { course = record m.course { job = with_task m.course.job (task_with t cs t.place) } }) (task_with t cs t.place)
+  runs0 = record {
+    member = member-same s.jobs m.setting.number (record m.course { job = with_task m.course.job (task_with t cs t.place) }) m runs.member;
+    task = keyed-put_same (λ (u : Task). u.number) t.number (task_with t cs t.place) t refl m.course.job.tasks runs.task;
+    slot = runs.slot;
+  }
+
+  -- the scene with these cells
+  abbrev pub scene0 : Scene cpu0.core (record old.regs { s = level0 })
+  scene0 = scene [] x cpu0.core (record old.regs { s = level0 }) old.critical plan session0 member0 task0 ordered0 holds0 runs0
+
+  -- the procedure's cell is the same one there
+  pub proc_moves : (q : Place) (gone rest put : List Word) (at f segment level : ℕ) (place : Place) → (top t.frames).cells ≡ gone ++ rest → cs ≡ put ++ rest
+      → ((g l : ℕ) (p : Place) → Has gone (Proc g l p) → ⊥) → ((i : ℕ) (w : Tagged) → slice_get old.core i ≡ Some w → w.tag ≡ 7 → slice_get cpu0.core i ≡ Some w)
+      → IsProcAt (scene [] x old.core old.regs old.critical plan s m t ordered h.holds runs) q at f segment level place → IsProcAt scene0 q at f segment level place
+  proc_moves q gone rest put at f segment level place e new plain kept i =
+      let c = i.cell in
+      record {
+        own = i.own;
+        offset = i.offset;
+        cell = record {
+          address = c.address ∙ ap (λ z. address_of plan z + i.offset) (sym (spots-same plan s m t ordered runs cs t.place f));
+          names = subst (λ ks. NamesEntered ks f) (sym (reach-same plan s m t ordered runs cs t.place)) c.names;
+          found = cell-same plan s m t ordered runs cs t.place q gone rest put f i.offset (Proc segment level place) e new c.found (plain segment level place);
+          word = c.word;
+          there = kept at c.word c.there (ap (λ (w : Tagged). w.tag) c.stands.0.0);
+          stands = (c.stands.0, c.stands.1);
+        };
+      }
+
+  pub can_enter : (q : Place) (at f segment level : ℕ) (place : Place) → IsProcAt scene0 q at f segment level place → CanEnter cpu0 (record old.regs { s = level0 }) scene0 q at f segment level place
+  can_enter q at f segment level place i = record {
+    marks = critical;
+    clear = λ fits. clear_settled x cpu0.core (record old.regs { s = level0 }) (picture plan session0.jobs) plan.running (stack_of_task plan m.setting.number (with_task m.course.job (task_with t cs t.place)) plan.running task0) holds0.memory
+        (runs_on plan session0.jobs member0 task0 holds0.fits.rows (keyed-has number_of m.setting.number session0.jobs member0 runs0.member) (keyed-has (λ (u : Task). u.number) t.number (with_task m.course.job (task_with t cs t.place)).tasks task0 runs0.task) runs0.slot runs0.member runs0.task)
+        fits holds0.settled;
+    procedure = i;
+  }
+
+  -- the answers are one
+  pub same_answer : (q : Place) (value : Bool) (back : Place) (f segment level : ℕ) (place : Place)
+      → accident (here member0 task0 q) (cells_of (here member0 task0 q)) (back_to (here member0 task0 q) value back) (AtProc f segment level place) ≡ accident (here m t q) cs (back_to (here m t q) value back) (AtProc f segment level place)
+  same_answer q value back f segment level place =
+      let fr : Frame = record { identity = m.course.job.next_frame; standing = Entered level f (Some (back_to (here m t q) value back)); cells = [] } in
+      let A : ℕ → List Frame → List Task → Answer Done = λ lv below ts. entered_by m.course.job t m.setting.stack_size lv level segment place fr below ts in
+      let n : level_of_frame (frame (here member0 task0 q) f) ≡ level_of_frame (frame (here m t q) f) = level-same plan s m t ordered runs cs t.place q f in
+      let T : Task = record t { frames = fr ∷ with_top_cells t.frames cs; segment = segment; place = place } in
+      let tasks : change_keyed (λ (u : Task). u.number) t.number (λ (u : Task). T) (with_task m.course.job (task_with t cs t.place)).tasks ≡ change_keyed (λ (u : Task). u.number) t.number (λ (u : Task). T) m.course.job.tasks =
+      change_twice (λ (u : Task). u.number) t.number (task_with t cs t.place) T m.course.job.tasks refl in
+      let last : List Task → Answer Done = λ ts. needs (level_of_frame (frame (here m t q) f) + 1 == level) InvalidOperand >> (needs (nat_le (height (fr ∷ with_top_cells t.frames cs)) m.setting.stack_size) StackOverflow >> Ok (Goes (record m.course.job { next_frame = m.course.job.next_frame + 1; tasks = ts }) [] None)) in
+      ap (λ (lv : ℕ). A lv (with_top_cells (with_top_cells t.frames cs) (top (with_top_cells t.frames cs)).cells) (with_task m.course.job (task_with t cs t.place)).tasks) n
+      ∙ ap (λ (fs : List Frame). A (level_of_frame (frame (here m t q) f)) fs (with_task m.course.job (task_with t cs t.place)).tasks) (cells-back t.frames cs)
+      ∙ ap last tasks
+
+  module _ (within : (i : ℕ) → (slice_get cpu0.core i ≡ slice_get old.core i) ⊎ ((old.regs.bosr < i) × (i ≤ old.regs.losr))) where
+    made : (new : Cpu) (answer other : Answer Done) → answer ≡ other → IsEntered scene0 new answer → IsMade x plan s m old new other
+    made new answer other e i =
+        let S : List Member → Session = λ js. record s { jobs = js } in
+        let jobs = jobs-twice m.setting.number (record m.course { job = with_task m.course.job (task_with t cs t.place) }) (record m.course { job = i.job }) s.jobs in
+        let stands : SessionStandsBut [] x new plan (with_job s m i.job) = subst (λ (js : List Member). SessionStandsBut [] x new plan (S js)) jobs i.stands in
+        record {
+          job = i.job;
+          touched = None;
+          is = sym e ∙ i.is;
+          present = tt;
+          stands = subst (λ (left : List Thing). SessionStandsBut left x new plan (with_job s m i.job)) (sym (no_things_gone plan m i.job (ap (map (λ (b : Array). b.identity)) i.arrays))) stands;
+          changed = λ k. ⊎_elim (λ (z : k ≡ level0 + 1). inr (inl (omega (arith, z, i.low), omega (arith, z, i.room))))
+              (λ (z : k ≡ level0 + 1 → ⊥). ⊎_elim (λ (y : k ≡ level0 + 2). inr (inl (omega (arith, y, i.low), omega (arith, y, i.room))))
+              (λ (y : k ≡ level0 + 2 → ⊥). ⊎_elim (λ w. inl (i.changed k z y ∙ w)) (λ w. inr (inl w)) (within k)) (cases_eq k (level0 + 2))) (cases_eq k (level0 + 1));
+        }
+
+    -- the entry by what was answered
+    pub entered : (r : Step) (new : Cpu) (q : Place) (value : Bool) (back : Place) (f segment level : ℕ) (place : Place)
+        → EntersOrFaults scene0 r cpu0 new (accident (here member0 task0 q) (cells_of (here member0 task0 q)) (back_to (here member0 task0 q) value back) (AtProc f segment level place))
+        → EntersOver x plan s m r old cpu0 new (accident (here m t q) cs (back_to (here m t q) value back) (AtProc f segment level place))
+    entered step.Done new q value back f segment level place i = made new _ _ (same_answer q value back f segment level place) i
+    entered (step.Fault fault) new q value back f segment level place i = (sym (same_answer q value back f segment level place) ∙ i.0, i.1)
+    entered (step.Absent w) new q value back f segment level place i = i
+    entered (step.Call n) new q value back f segment level place i = i
+    entered step.Ended new q value back f segment level place i = i

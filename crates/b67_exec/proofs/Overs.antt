@@ -1,0 +1,113 @@
+-- The entry where the value stands over the reference, by what was read.
+use Rattle.std.proofs.Common.{◌≡◌, ◌≢◌, ℕ, ◌-◌, ◌<◌, ◌≤◌, List, [], ◌∷◌, ◌++◌, map, length, Err, sym, ◌∙◌, ap, arith, Bool, false, subst, slice_set}
+use Rattle.std.specs.List.{AllByRecursion}
+use Rattle.b67_word.specs.Tagged.{Tagged}
+use Rattle.b67_word.specs.declared.couples.Place.{Place}
+use Rattle.b67_word.specs.declared.faults.Fault.{Fault}
+use Rattle.b67_ctl.specs.Layout.{IsPlace}
+use Rattle.b67_ctl.specs.declared.registers.Regs.{Regs}
+use Rattle.b67_model.specs.Chase.{AtProc, follow}
+use Rattle.b67_model.specs.Entry.{accident, back_to}
+use Rattle.b67_model.specs.InOrder.{Starts, IsSegment, Known, known_of, outer_of, FramesInOrder, WordInOrder, IsInOrderButPlaces}
+use Rattle.b67_model.specs.Rows as rows
+use Rattle.b67_model.specs.Schedule.{Session}
+use Rattle.b67_model.specs.State.{Frame, Array, Task, Member, top}
+use Rattle.b67_model.specs.Steps.{cells_of}
+use Rattle.b67_model.specs.Words.{Word, Operand}
+use Rattle.b67_stack.specs.declared.Cpu.{Cpu}
+use Rattle.b67_stack.specs.declared.Step.{Step}
+use Rattle.b67_stack.specs.declared.Step.TheVariants as step
+use Rattle.b67_stack.specs.Stands.{Storage}
+use Rattle.b67_layout.specs.Plan.{Plan}
+use Rattle.b67_layout.specs.Session.{IsRunning, SessionStands}
+use Rattle.b67_layout.specs.Meets.{here, Meets}
+use Rattle.b67_layout.proofs.Fresh.{running_in_order}
+use Rattle.b67_exec_cells.specs.Tops.{cells}
+use Rattle.b67_exec_cells.proofs.Put.{room}
+use Rattle.b67_refer.specs.Scene.{Scene}
+use Rattle.b67_refer.specs.Ends.{IsProcAt}
+use Rattle.b67_entry_enter.specs.Procedures.{CanEnter, EntersOrFaults}
+use Rattle.b67_fetch.specs.Fetches.{IsFollowed}
+use Rattle.b67_fetch.proofs.Values.{here_scene, here_shown, followed_stands}
+use Rattle.b67_exec.specs.Procedures.{Leads}
+use Rattle.b67_exec.proofs.Entered.{AtProcedure}
+use Rattle.b67_exec.specs.Stores.{ValueOver}
+use Rattle.b67_exec.proofs.Unders.{under_scene, under_enters, under_made, under_fault}
+
+second_order : (P : Starts) (arrays : List Array) (outer : List Known) (fs : List Frame) (b a : Word) (rest : List Word) → FramesInOrder P arrays outer fs → (top fs).cells ≡ b ∷ a ∷ rest → WordInOrder P arrays (map known_of fs ++ outer) (top fs).identity a
+second_order P arrays outer [] b a rest o e = absurd (let z : ⊥ = cc in z)
+second_order P arrays outer (f ∷ below) b a rest o e =
+    let A : List Word → Type 0 = λ cs. AllByRecursion (WordInOrder P arrays (map known_of (f ∷ below) ++ outer) f.identity) cs in
+    (subst A e o.0.0).1.0
+
+-- what accidental entry requires and answers on other registers
+abbrev pub MayEnter : Cpu → Regs → ℕ → Type 0
+MayEnter cpu r cell = (a : Scene cpu.core r) × (q : Place) × (f : ℕ) × (segment : ℕ) × (level : ℕ) × (place : Place) × CanEnter cpu r a q cell f segment level place
+
+abbrev pub Enters : Cpu → Regs → ℕ → Place → Step → Cpu → Type 0
+Enters cpu r cell back result new =
+    (a : Scene cpu.core r) (q : Place) (f segment level : ℕ) (place : Place) → CanEnter cpu r a q cell f segment level place
+    → EntersOrFaults a result cpu new (accident (here a.member a.task q) (cells_of (here a.member a.task q)) (back_to (here a.member a.task q) false back) (AtProc f segment level place))
+
+module _ (x : Storage) (cpu : Cpu) (plan : Plan) (s : Session) (m : Member) (t : Task) (ordered : IsInOrderButPlaces s) (h : SessionStands x cpu plan s) (runs : IsRunning plan s.jobs m t) (q : Place) (u v : Tagged) (o : ValueOver cpu x plan m t q u v) where
+  abbrev pub proc_of : AtProcedure (follow (here m t q) o.reference)
+  proc_of = record { frame = o.frame; segment = o.segment; level = o.level; place = o.place; is = o.ends }
+
+  pub leads_under : Leads cpu (here_scene x cpu plan s m t ordered h runs) q u o.frame o.segment o.level o.place
+  leads_under =
+      let i : IsFollowed x plan m t u o.reference = record {
+        at = cpu.regs.s - 1;
+        owner = (top t.frames).identity;
+        is = o.under.is;
+        ordered = second_order (IsSegment m.setting) m.course.job.arrays (outer_of m.course.job t) t.frames (Operand o.bits) o.reference o.rest (running_in_order plan s m t ordered runs).1.frames o.is;
+      } in
+      record { shown = here_shown x cpu plan s m t ordered h runs; at = i.at; owner = i.owner; word = o.reference; stands = followed_stands x cpu plan s m t ordered h runs u o.reference i; ends = o.ends }
+
+  pub bounds : (cpu.regs.s - 1 < length cpu.core) × (1 ≤ cpu.regs.s)
+  bounds = let r = room x cpu plan s m t ordered h runs in let e = o.enough in (omega (arith, r.last, r.under, r.inside), omega (arith, e))
+
+  pub place_fits : IsPlace cpu.regs.place
+  place_fits =
+      let i = (running_in_order plan s m t ordered runs).1.place in
+      subst IsPlace (sym (h.holds.running m t runs).place) (record { syllable = i.syllable_fits; word = i.word_fits })
+
+  pub may_enter : (cell : ℕ) (core : List Tagged) → core ≡ slice_set cpu.core (cpu.regs.s - 1) v → IsProcAt (here_scene x cpu plan s m t ordered h runs) q cell o.frame o.segment o.level o.place
+      → MayEnter (record cpu { core = core }) (record cpu.regs { s = cpu.regs.s - 1 }) cell
+  may_enter cell core is i =
+      let P : List Tagged → Type 0 = λ z. MayEnter (record cpu { core = z }) (record cpu.regs { s = cpu.regs.s - 1 }) cell in
+      subst P (sym is) (
+        under_scene x cpu plan s m t ordered h runs q o.bits o.reference o.rest o.is proc_of u v o.under o.over o.enough,
+        q,
+        o.frame,
+        o.segment,
+        o.level,
+        o.place,
+        under_enters x cpu plan s m t ordered h runs q o.bits o.reference o.rest o.is proc_of u v o.under o.over o.enough cell i,
+      )
+
+  module _ (cell : ℕ) (core : List Tagged) (set : core ≡ slice_set cpu.core (cpu.regs.s - 1) v) (proc : IsProcAt (here_scene x cpu plan s m t ordered h runs) q cell o.frame o.segment o.level o.place) (new : Cpu) where
+    pub stored_made : (keeps : Bool) (r : Step) → ((n : Fault) → r ≢ step.Fault n) → Enters (record cpu { core = core }) (record cpu.regs { s = cpu.regs.s - 1 }) cell cpu.regs.place r new → Meets x plan s m r cpu new (rows.store keeps (here m t q) (cells t))
+    stored_made keeps r other i =
+        let Q : List Tagged → Type 0 = λ z. Enters (record cpu { core = z }) (record cpu.regs { s = cpu.regs.s - 1 }) cell cpu.regs.place r new in
+        let k = subst Q set i in
+        under_made x cpu plan s m t ordered h runs q o.bits o.reference o.rest o.is proc_of u v o.under o.over o.enough keeps r new other
+        (k (under_scene x cpu plan s m t ordered h runs q o.bits o.reference o.rest o.is proc_of u v o.under o.over o.enough) q o.frame o.segment o.level o.place (under_enters x cpu plan s m t ordered h runs q o.bits o.reference o.rest o.is proc_of u v o.under o.over o.enough cell proc))
+
+    pub stored_fault : (keeps : Bool) (fault : Fault) → Enters (record cpu { core = core }) (record cpu.regs { s = cpu.regs.s - 1 }) cell cpu.regs.place (step.Fault fault) new
+        → (rows.store keeps (here m t q) (cells t) ≡ Err fault) × (new ≡ record cpu { core = slice_set cpu.core (cpu.regs.s - 1) v }) × (slice_set (slice_set cpu.core (cpu.regs.s - 1) v) (cpu.regs.s - 1) u ≡ cpu.core)
+    stored_fault keeps fault i =
+        let Q : List Tagged → Type 0 = λ z. Enters (record cpu { core = z }) (record cpu.regs { s = cpu.regs.s - 1 }) cell cpu.regs.place (step.Fault fault) new in
+        let k = subst Q set i in
+        under_fault x cpu plan s m t ordered h runs q o.bits o.reference o.rest o.is proc_of u v o.under o.over o.enough keeps fault new
+        (k (under_scene x cpu plan s m t ordered h runs q o.bits o.reference o.rest o.is proc_of u v o.under o.over o.enough) q o.frame o.segment o.level o.place (under_enters x cpu plan s m t ordered h runs q o.bits o.reference o.rest o.is proc_of u v o.under o.over o.enough cell proc))
+
+    -- the word that goes back
+    pub restored : (written : List Tagged) (keeps : Bool) (fault : Fault) → Enters (record cpu { core = core }) (record cpu.regs { s = cpu.regs.s - 1 }) cell cpu.regs.place (step.Fault fault) new → written ≡ slice_set new.core (new.regs.s - 1) u
+        → record new { core = written } ≡ cpu
+    restored written keeps fault i is =
+        let f = stored_fault keeps fault i in
+        let W : Cpu → List Tagged = λ z. slice_set z.core (z.regs.s - 1) u in
+        let e : written ≡ cpu.core = is ∙ ap W f.1 ∙ f.2 in
+        let R : Cpu → Cpu = λ z. record z { core = written } in
+        let C : List Tagged → Cpu = λ z. record cpu { core = z } in
+        ap R f.1 ∙ ap C e

@@ -1,0 +1,190 @@
+-- A store into a procedure: the value stays, the reference goes, and the procedure is entered.
+use Rattle.std.proofs.Common.{◌≡◌, ◌≢◌, ℕ, zero, suc, ◌+◌, ◌-◌, ◌<◌, ◌≤◌, List, [], ◌∷◌, ◌++◌, map, length, Some, Ok, Err, refl, sym, ◌∙◌, ap, arith, Bool, false, inl, inr, ◌⊎◌, ⊎_elim, subst, slice_set}
+use Rattle.std.specs.Prelude.{if◌then◌else◌}
+use Rattle.std.specs.List.{slice_get}
+use Rattle.std.proofs.lemmas.Bool.{cases_eq}
+use Rattle.std.proofs.lemmas.Option.{same_Some}
+use Rattle.b67_word.specs.Tagged.{Tagged}
+use Rattle.b67_word.specs.declared.couples.Place.{Place}
+use Rattle.b67_word.specs.declared.faults.Fault.{Fault}
+use Rattle.b67_core.proofs.Writes.{slice_get-set_other}
+use Rattle.b67_model.specs.Answers.{Answer, ◌>>=◌}
+use Rattle.b67_model.specs.Chase as Chase
+use Rattle.b67_model.specs.Chase.{AtProc, follow}
+use Rattle.b67_model.specs.Entry.{accident, back_to}
+use Rattle.b67_model.specs.InOrder.{Starts, Known, known_of, outer_of, is_original_of, IsSegment, CellsInOrder, FramesInOrder, IsInOrderButPlaces}
+use Rattle.b67_model.specs.Intrinsics.{is_original}
+use Rattle.b67_model.specs.Lists.{Has, how_many}
+use Rattle.b67_model.specs.Rows as rows
+use Rattle.b67_model.specs.Schedule.{Session}
+use Rattle.b67_model.specs.State.{Frame, Array, Task, Member, Here, top, with_task}
+use Rattle.b67_model.specs.Steps.{Done, cells_of}
+use Rattle.b67_model.specs.Words as Words
+use Rattle.b67_model.specs.Words.{Word, Operand, Name, Ref, Row, Element, Original, Proc, Intrinsic, operand}
+use Rattle.b67_stack.specs.declared.Cpu.{Cpu}
+use Rattle.b67_stack.specs.declared.Step.{Step}
+use Rattle.b67_stack.specs.declared.Step.TheVariants as step
+use Rattle.b67_stack.specs.Stands.{Storage}
+use Rattle.b67_layout.specs.Plan.{Plan}
+use Rattle.b67_layout.specs.Session.{IsRunning, SessionHoldsBut, SessionStands}
+use Rattle.b67_layout.specs.Meets.{here, with_job, Meets}
+use Rattle.b67_layout.proofs.Whole.{task_with}
+use Rattle.b67_layout.proofs.Fresh.{running_in_order}
+use Rattle.b67_exec_cells.specs.Tops.{IsWordOf, IsAt, cells}
+use Rattle.b67_exec_cells.proofs.Replaced.{height-with}
+use Rattle.b67_exec_cells.proofs.Put.{room, replaced_stands}
+use Rattle.b67_layout.proofs.Cells.{cells_in_order}
+use Rattle.b67_refer.specs.Scene.{Scene}
+use Rattle.b67_refer.specs.Ends.{IsProcAt}
+use Rattle.b67_entry_enter.specs.Procedures.{CanEnter, EntersOrFaults}
+use Rattle.b67_fetch.proofs.Values.{here_scene}
+use Rattle.b67_exec.proofs.Entries.{EntersOver, scene0, member0, task0, proc_moves, can_enter, entered}
+use Rattle.b67_exec.proofs.Entered.{AtProcedure}
+
+-- the value of an operand
+pub is_operand : (b : Word) (bits : ℕ) → operand b ≡ Ok bits → b ≡ Operand bits
+is_operand (Operand n) bits e = cc
+is_operand (Name c) bits e = cc
+is_operand (Ref f o) bits e = cc
+is_operand (Row a) bits e = cc
+is_operand (Element a i) bits e = cc
+is_operand (Original a) bits e = cc
+is_operand (Proc g l p) bits e = cc
+is_operand (Intrinsic n) bits e = cc
+is_operand (Words.Segment n) bits e = cc
+
+-- what leads to a procedure is a reference
+leads_plain : (h : Here) (a : Word) (f segment level : ℕ) (place : Place) → follow h a ≡ Ok (AtProc f segment level place) → is_original a ≡ false
+leads_plain h (Operand n) f segment level place e = refl
+leads_plain h (Name c) f segment level place e = refl
+leads_plain h (Ref g o) f segment level place e = refl
+leads_plain h (Row b) f segment level place e = refl
+leads_plain h (Element b i) f segment level place e = refl
+leads_plain h (Original b) f segment level place e = cc
+leads_plain h (Proc g l p) f segment level place e = refl
+leads_plain h (Intrinsic n) f segment level place e = refl
+leads_plain h (Words.Segment n) f segment level place e = refl
+
+leads_tag : (x : Storage) (plan : Plan) (m : Member) (t : Task) (h : Here) (a : Word) (at : ℕ) (u : Tagged) (f segment level : ℕ) (place : Place) → follow h a ≡ Ok (AtProc f segment level place) → IsWordOf x plan m t a at u → u.tag ≡ 1
+leads_tag x plan m t h (Operand n) at u f segment level place e i = cc
+leads_tag x plan m t h (Name c) at u f segment level place e i = ap (λ (w : Tagged). w.tag) i.0
+leads_tag x plan m t h (Ref g o) at u f segment level place e i = ap (λ (w : Tagged). w.tag) i.0
+leads_tag x plan m t h (Row b) at u f segment level place e i = cc
+leads_tag x plan m t h (Element b k) at u f segment level place e i = cc
+leads_tag x plan m t h (Original b) at u f segment level place e i = cc
+leads_tag x plan m t h (Proc g l p) at u f segment level place e i = cc
+leads_tag x plan m t h (Intrinsic n) at u f segment level place e i = cc
+leads_tag x plan m t h (Words.Segment n) at u f segment level place e i = cc
+
+-- the cells with the value in the reference's place
+value_order : (P : Starts) (arrays : List Array) (outer : List Known) (fs : List Frame) (bits : ℕ) (a : Word) (rest : List Word) → FramesInOrder P arrays outer fs → (top fs).cells ≡ Operand bits ∷ a ∷ rest
+    → CellsInOrder P arrays (map known_of fs ++ outer) (top fs).identity (Operand bits ∷ rest)
+value_order P arrays outer [] bits a rest o e = absurd (let z : ⊥ = cc in z)
+value_order P arrays outer (f ∷ below) bits a rest o e =
+    let A : List Word → Type 0 = λ cs. CellsInOrder P arrays (map known_of (f ∷ below) ++ outer) f.identity cs in
+    let all = subst A e o.0 in
+    ((all.0.0, all.0.1.1), (tt, all.1.1.1))
+
+originals_without : (n bits : ℕ) (a : Word) (rest : List Word) → is_original a ≡ false → how_many (is_original_of n) (Operand bits ∷ rest) ≡ how_many (is_original_of n) (Operand bits ∷ a ∷ rest)
+originals_without n bits (Operand k) rest e = omega arith
+originals_without n bits (Name c) rest e = omega arith
+originals_without n bits (Ref f o) rest e = omega arith
+originals_without n bits (Row b) rest e = omega arith
+originals_without n bits (Element b i) rest e = omega arith
+originals_without n bits (Original b) rest e = cc
+originals_without n bits (Proc g l p) rest e = omega arith
+originals_without n bits (Intrinsic k) rest e = omega arith
+originals_without n bits (Words.Segment k) rest e = omega arith
+
+no_proc : (h : Here) (bits : ℕ) (a : Word) (f segment level : ℕ) (place : Place) → follow h a ≡ Ok (AtProc f segment level place) → (g l : ℕ) (p : Place) → Has (Operand bits ∷ a ∷ []) (Proc g l p) → ⊥
+no_proc h bits a f segment level place e g l p (inl z) = cc
+no_proc h bits a f segment level place e g l p (inr (inl z)) = let k : follow h (Proc g l p) ≡ Ok (AtProc f segment level place) = ap (follow h) (sym z) ∙ e in let b : ⊥ = cc in b
+no_proc h bits a f segment level place e g l p (inr (inr z)) = z
+
+-- a word that is written and written back
+set-back : {A : Type 0} (xs : List A) (i : ℕ) (v w : A) → slice_get xs i ≡ Some w → slice_set (slice_set xs i v) i w ≡ xs
+set-back [] i v w e = cc
+set-back (x ∷ xs) zero v w e = ap (λ y. y ∷ xs) (sym (same_Some x w e))
+set-back (x ∷ xs) (suc i) v w e = ap (λ ys. x ∷ ys) (set-back xs i v w e)
+
+module _ (x : Storage) (cpu : Cpu) (plan : Plan) (s : Session) (m : Member) (t : Task) (ordered : IsInOrderButPlaces s) (h : SessionStands x cpu plan s) (runs : IsRunning plan s.jobs m t) (q : Place)
+    (bits : ℕ) (a : Word) (rest : List Word) (e : cells t ≡ Operand bits ∷ a ∷ rest) (p : AtProcedure (follow (here m t q) a)) (u v : Tagged)
+    (at_u : IsAt x plan m t cpu.core a (cpu.regs.s - 1) u) (at_v : IsAt x plan m t cpu.core (Operand bits) cpu.regs.s v) (enough : cpu.regs.f + 2 ≤ cpu.regs.s) where
+  plain : is_original a ≡ false
+  plain = leads_plain (here m t q) a p.frame p.segment p.level p.place p.is
+
+  pub under_ordered : IsInOrderButPlaces (with_job s m (with_task m.course.job (task_with t (Operand bits ∷ rest) t.place)))
+  under_ordered =
+      let i = running_in_order plan s m t ordered runs in
+      let tall = height-with t.frames (Operand bits ∷ rest) i.1.some in
+      let low = i.1.not_higher in
+      cells_in_order plan s m t ordered runs (Operand bits ∷ rest) t.place (value_order (IsSegment m.setting) m.course.job.arrays (outer_of m.course.job t) t.frames bits a rest i.1.frames e)
+      (λ n. originals_without n bits a rest plain ∙ ap (how_many (is_original_of n)) (sym e)) (omega (arith, tall, low, ap length e)) i.1.place.word_fits i.1.place.syllable_fits
+
+  abbrev pub under_cpu : Cpu
+  under_cpu = record cpu { core = slice_set cpu.core (cpu.regs.s - 1) v }
+
+  pub under_holds : SessionHoldsBut [] x (slice_set cpu.core (cpu.regs.s - 1) v) (record cpu.regs { s = cpu.regs.s - 1 }) cpu.critical plan (with_job s m (with_task m.course.job (task_with t (Operand bits ∷ rest) t.place)))
+  under_holds =
+      let r = room x cpu plan s m t ordered h runs in
+      let d = (replaced_stands x cpu plan s m t ordered h runs 2 (cpu.regs.s - 1) v t.place (Operand bits ∷ a ∷ []) rest (Operand bits) e refl enough (omega (arith, enough)) (omega (arith, r.last)) (refl, (plain, tt)) tt at_v.is).holds in
+      let P : Place → Type 0 = λ z. SessionHoldsBut [] x (slice_set cpu.core (cpu.regs.s - 1) v) (record cpu.regs { s = cpu.regs.s - 1; place = z }) cpu.critical plan (with_job s m (with_task m.course.job (task_with t (Operand bits ∷ rest) t.place))) in
+      subst P (sym (h.holds.running m t runs).place) d
+
+  abbrev pub under_scene : Scene (slice_set cpu.core (cpu.regs.s - 1) v) (record cpu.regs { s = cpu.regs.s - 1 })
+  under_scene = scene0 x cpu plan s m t ordered h runs (Operand bits ∷ rest) under_ordered under_cpu (cpu.regs.s - 1) refl under_holds
+
+  pub under_enters : (cell : ℕ) → IsProcAt (here_scene x cpu plan s m t ordered h runs) q cell p.frame p.segment p.level p.place → CanEnter under_cpu (record cpu.regs { s = cpu.regs.s - 1 }) under_scene q cell p.frame p.segment p.level p.place
+  under_enters cell i =
+      can_enter x cpu plan s m t ordered h runs (Operand bits ∷ rest) under_ordered under_cpu (cpu.regs.s - 1) refl under_holds q cell p.frame p.segment p.level p.place
+      (proc_moves x cpu plan s m t ordered h runs (Operand bits ∷ rest) under_ordered under_cpu (cpu.regs.s - 1) refl under_holds q (Operand bits ∷ a ∷ []) rest (Operand bits ∷ []) cell p.frame p.segment p.level p.place e refl
+      (λ g l z k. no_proc (here m t q) bits a p.frame p.segment p.level p.place p.is g l z k)
+      (λ k w there tag. ⊎_elim
+      (λ (z : k ≡ cpu.regs.s - 1). absurd (let one = leads_tag x plan m t (here m t q) a (cpu.regs.s - 1) u p.frame p.segment p.level p.place p.is at_u.is in
+      let same : u ≡ w = same_Some u w (sym at_u.found ∙ ap (slice_get cpu.core) (sym z) ∙ there) in let seven : u.tag ≡ 7 = ap (λ (y : Tagged). y.tag) same ∙ tag in omega (arith, one, seven)))
+      (λ (z : k ≡ cpu.regs.s - 1 → ⊥). slice_get-set_other cpu.core (cpu.regs.s - 1) k v z ∙ there) (cases_eq k (cpu.regs.s - 1)))
+      i)
+
+  under_within : (i : ℕ) → (slice_get (slice_set cpu.core (cpu.regs.s - 1) v) i ≡ slice_get cpu.core i) ⊎ ((cpu.regs.bosr < i) × (i ≤ cpu.regs.losr))
+  under_within i =
+      let r = room x cpu plan s m t ordered h runs in
+      ⊎_elim (λ (z : i ≡ cpu.regs.s - 1). inr (omega (arith, z, enough, r.mark), omega (arith, z, r.last))) (λ (z : i ≡ cpu.regs.s - 1 → ⊥). inl (slice_get-set_other cpu.core (cpu.regs.s - 1) i v z)) (cases_eq i (cpu.regs.s - 1))
+
+  -- the row of a store
+  store_row : (keeps : Bool) → rows.store keeps (here m t q) (Operand bits ∷ a ∷ rest) ≡ accident (here m t q) (Operand bits ∷ rest) (back_to (here m t q) false t.place) (AtProc p.frame p.segment p.level p.place)
+  store_row keeps =
+      let E : Answer Chase.End → Answer Done = λ z. z >>= λ f. rows.store_at (here m t q) rest (if keeps then Operand bits ∷ rest else rest) bits f in
+      ap E p.is
+
+  -- what was answered, against the row
+  pub under_made : (keeps : Bool) (r : Step) (new : Cpu) → ((n : Fault) → r ≢ step.Fault n)
+      → EntersOrFaults under_scene r under_cpu new (accident (here (member0 x cpu plan s m t ordered h runs (Operand bits ∷ rest) under_ordered under_cpu (cpu.regs.s - 1) refl under_holds) (task0 x cpu plan s m t ordered h runs (Operand bits ∷ rest) under_ordered under_cpu (cpu.regs.s - 1) refl under_holds) q)
+      (cells_of (here (member0 x cpu plan s m t ordered h runs (Operand bits ∷ rest) under_ordered under_cpu (cpu.regs.s - 1) refl under_holds) (task0 x cpu plan s m t ordered h runs (Operand bits ∷ rest) under_ordered under_cpu (cpu.regs.s - 1) refl under_holds) q))
+      (back_to (here (member0 x cpu plan s m t ordered h runs (Operand bits ∷ rest) under_ordered under_cpu (cpu.regs.s - 1) refl under_holds) (task0 x cpu plan s m t ordered h runs (Operand bits ∷ rest) under_ordered under_cpu (cpu.regs.s - 1) refl under_holds) q) false cpu.regs.place)
+      (AtProc p.frame p.segment p.level p.place))
+      → Meets x plan s m r cpu new (rows.store keeps (here m t q) (cells t))
+  under_made keeps r new other i =
+      let over = entered x cpu plan s m t ordered h runs (Operand bits ∷ rest) under_ordered under_cpu (cpu.regs.s - 1) refl under_holds under_within r new q false cpu.regs.place p.frame p.segment p.level p.place i in
+      let B : Place → Type 0 = λ z. EntersOver x plan s m r cpu under_cpu new (accident (here m t q) (Operand bits ∷ rest) (back_to (here m t q) false z) (AtProc p.frame p.segment p.level p.place)) in
+      let O : Answer Done → Type 0 = λ z. EntersOver x plan s m r cpu under_cpu new z in
+      let C : List Word → Type 0 = λ cs. Meets x plan s m r cpu new (rows.store keeps (here m t q) cs) in
+      subst C (sym e) (by_step r other (subst O (sym (store_row keeps)) (subst B (h.holds.running m t runs).place over))) where
+        by_step : (z : Step) → ((n : Fault) → z ≢ step.Fault n) → EntersOver x plan s m z cpu under_cpu new (rows.store keeps (here m t q) (Operand bits ∷ a ∷ rest)) → Meets x plan s m z cpu new (rows.store keeps (here m t q) (Operand bits ∷ a ∷ rest))
+        by_step step.Done other i = i
+        by_step (step.Fault n) other i = absurd (other n refl)
+        by_step (step.Absent w) other i = absurd i
+        by_step (step.Call n) other i = i
+        by_step step.Ended other i = absurd i
+
+  -- a fault: the word that was moved goes back
+  pub under_fault : (keeps : Bool) (fault : Fault) (new : Cpu)
+      → EntersOrFaults under_scene (step.Fault fault) under_cpu new (accident (here (member0 x cpu plan s m t ordered h runs (Operand bits ∷ rest) under_ordered under_cpu (cpu.regs.s - 1) refl under_holds) (task0 x cpu plan s m t ordered h runs (Operand bits ∷ rest) under_ordered under_cpu (cpu.regs.s - 1) refl under_holds) q)
+      (cells_of (here (member0 x cpu plan s m t ordered h runs (Operand bits ∷ rest) under_ordered under_cpu (cpu.regs.s - 1) refl under_holds) (task0 x cpu plan s m t ordered h runs (Operand bits ∷ rest) under_ordered under_cpu (cpu.regs.s - 1) refl under_holds) q))
+      (back_to (here (member0 x cpu plan s m t ordered h runs (Operand bits ∷ rest) under_ordered under_cpu (cpu.regs.s - 1) refl under_holds) (task0 x cpu plan s m t ordered h runs (Operand bits ∷ rest) under_ordered under_cpu (cpu.regs.s - 1) refl under_holds) q) false cpu.regs.place)
+      (AtProc p.frame p.segment p.level p.place))
+      → (rows.store keeps (here m t q) (cells t) ≡ Err fault) × (new ≡ record cpu { core = slice_set cpu.core (cpu.regs.s - 1) v }) × (slice_set (slice_set cpu.core (cpu.regs.s - 1) v) (cpu.regs.s - 1) u ≡ cpu.core)
+  under_fault keeps fault new i =
+      let over = entered x cpu plan s m t ordered h runs (Operand bits ∷ rest) under_ordered under_cpu (cpu.regs.s - 1) refl under_holds under_within (step.Fault fault) new q false cpu.regs.place p.frame p.segment p.level p.place i in
+      let B : Place → Type 0 = λ z. EntersOver x plan s m (step.Fault fault) cpu under_cpu new (accident (here m t q) (Operand bits ∷ rest) (back_to (here m t q) false z) (AtProc p.frame p.segment p.level p.place)) in
+      let met = subst B (h.holds.running m t runs).place over in
+      (ap (rows.store keeps (here m t q)) e ∙ store_row keeps ∙ met.0, met.1, set-back cpu.core (cpu.regs.s - 1) v u at_u.found)

@@ -1,0 +1,81 @@
+//! Operators that store through references, where a procedure at the end of one is entered.
+
+ghost use Rattle.std.specs.Prelude.{◌≡◌, ℕ, Bool, true, false};
+ghost use Rattle.b67_word.specs.declared.couples.Place.{Place};
+ghost use Rattle.b67_model.specs.Rows as rows;
+ghost use Rattle.b67_model.specs.Steps.{cells_of};
+ghost use Rattle.b67_layout.specs.Meets.{here, Meets, RunsSome, ForEach};
+ghost use Rattle.b67_exec_cells.specs.Tops.{cells};
+ghost use Rattle.b67_fetch.specs.Fetches.{enters_at};
+ghost use Rattle.b67_fetch.specs.Stores.{store_end};
+ghost use Rattle.b67_refer.specs.Ends.{IsProcAt};
+ghost use Rattle.b67_exec.specs.Stores.{ValueOver, StoresInProc};
+
+use b67_exec_cells::two_cells;
+use b67_ctl::Regs;
+use b67_entry_enter::accident_on;
+use crate::evaluating::{enter_in_place, evaluate, load, procedure_cell};
+use b67_stack::{Cpu, Step};
+use b67_word::{Place, Word};
+
+/// Enters the procedure to which the second cell from the top leads, where the value on top takes that cell's place.
+fn enter_under(cpu: &mut Cpu, lower: Word, upper: Word) -> Step
+    requires { (a : RunsSome cpu.old) × (q : Place) × ValueOver cpu.old a.storage a.plan a.member a.task q lower upper }
+    ensures row { ForEach cpu.old (λ x plan s m t. (q : Place) (keeps : Bool) → ValueOver cpu.old x plan m t q lower upper → Meets x plan s m result cpu.old cpu.new (rows.store keeps (here m t q) (cells t))) }
+{
+    let cell = procedure_cell(cpu, lower);
+    cpu.core.set(cpu.regs.s - 1, upper);
+    let without = Regs {
+        s: cpu.regs.s - 1,
+        ..cpu.regs
+    };
+    match accident_on(cpu, without, cell, false, cpu.regs.place) {
+        Step::Fault(fault) => {
+            cpu.core.set(cpu.regs.s - 1, lower);
+            Step::Fault(fault)
+        }
+        step => step,
+    }
+}
+
+/// Enters the procedure to which one of the two top cells leads; the other one, a value, stays.
+fn enter(cpu: &mut Cpu) -> Step
+    requires { StoresInProc cpu.old }
+    ensures row { ForEach cpu.old (λ x plan s m t. (q : Place) (keeps : Bool) → enters_at (store_end (here m t q) (cells t)) ≡ true → Meets x plan s m result cpu.old cpu.new (rows.store keeps (here m t q) (cells t))) }
+{
+    let (lower, upper) = match two_cells(cpu) {
+        Ok(two) => two,
+        Err(_) => unreachable!(),
+    };
+    if upper.tag() == 0 {
+        enter_under(cpu, lower, upper)
+    } else {
+        enter_in_place(cpu)
+    }
+}
+
+/// Stores the operand of the two top cells where the other one leads, takes both off, and goes on at `next`. A procedure
+/// there is entered in the reference's place, and the operator is made again with what it returns. STACK UNDERFLOW,
+/// INVALID OPERAND where none of the two is an operand or the procedure's level doesn't fit, the faults of references,
+/// MEMORY PROTECT where it ends at a read-only element, an array or an intrinsic, STACK OVERFLOW. Where an element's array
+/// is absent nothing is changed.
+pub fn stod(cpu: &mut Cpu, next: Place) -> Step
+    requires { RunsSome cpu.old }
+    ensures row { ForEach cpu.old (λ x plan s m t. let h = here m t next in Meets x plan s m result cpu.old cpu.new (rows.store false h (cells_of h))) }
+{
+    match b67_fetch::stod(cpu, next) {
+        Step::Call(_) => enter(cpu),
+        step => step,
+    }
+}
+
+/// The same, but the operand stays on the stack.
+pub fn ston(cpu: &mut Cpu, next: Place) -> Step
+    requires { RunsSome cpu.old }
+    ensures row { ForEach cpu.old (λ x plan s m t. let h = here m t next in Meets x plan s m result cpu.old cpu.new (rows.store true h (cells_of h))) }
+{
+    match b67_fetch::ston(cpu, next) {
+        Step::Call(_) => enter(cpu),
+        step => step,
+    }
+}

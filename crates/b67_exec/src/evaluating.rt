@@ -1,0 +1,80 @@
+//! Operators that read through references, where a procedure at the end of one is entered.
+
+ghost use Rattle.std.specs.Prelude.{◌≡◌, ℕ, true, ◌^◌, ◌<◌};
+ghost use Rattle.b67_ctl.specs.Layout.{IsPlace};
+ghost use Rattle.b67_word.specs.declared.couples.Place.{Place};
+ghost use Rattle.b67_model.specs.Rows as rows;
+ghost use Rattle.b67_model.specs.Steps.{cells_of};
+ghost use Rattle.b67_layout.specs.Meets.{here, Meets, RunsSome, ForEach};
+ghost use Rattle.b67_refer.specs.Scene.{Scene};
+ghost use Rattle.b67_refer.specs.Ends.{IsProcAt};
+ghost use Rattle.b67_exec_cells.specs.Tops.{cells};
+ghost use Rattle.b67_fetch.specs.Fetches.{enters_at, top_end};
+ghost use Rattle.b67_exec.specs.Procedures.{Leads, EntersTop};
+
+use b67_ctl::{Irw, Regs};
+use b67_entry_enter::{accident, accident_on};
+use b67_fetch::valc;
+use b67_refer::{End, chase};
+use b67_stack::{Cpu, Step};
+use b67_word::{Place, Word};
+
+/// The core address of the cell of the procedure to which a word leads.
+pub fn procedure_cell(cpu: &Cpu, w: Word) -> u32
+    requires { (a : Scene cpu.now.core cpu.now.regs) × (q : Place) × (f : ℕ) × (segment : ℕ) × (level : ℕ) × (place : Place) × Leads cpu.now a q w f segment level place }
+    ensures { (a : Scene cpu.now.core cpu.now.regs) (q : Place) (f segment level : ℕ) (place : Place) → Leads cpu.now a q w f segment level place → IsProcAt a q result f segment level place }
+{
+    match chase(&cpu.core, &cpu.regs, &cpu.display, w) {
+        Ok(end) => match end {
+            End::Proc(cell) => cell,
+            _ => unreachable!(),
+        },
+        Err(_) => unreachable!(),
+    }
+}
+
+/// Pushes the value to which a couple of 14 bits leads, and goes on at `next`; a procedure there is entered, and its
+/// value pushed when it returns. The faults of references, INVALID OPERAND where it ends at an array or an intrinsic or
+/// where the procedure's level doesn't fit, STACK OVERFLOW. Where an array is absent nothing is changed.
+pub fn evaluate(cpu: &mut Cpu, couple: u16, next: Place) -> Step
+    requires runs { RunsSome cpu.old }
+    requires couple { couple < 2 ^ 14 }
+    requires next { IsPlace next }
+    ensures row { ForEach cpu.old (λ x plan s m t. Meets x plan s m result cpu.old cpu.new (rows.valc (here m t next) couple)) }
+{
+    match valc(cpu, couple, next) {
+        Step::Call(_) => {
+            let cell = procedure_cell(cpu, Irw { couple }.word());
+            accident(cpu, cell, true, next)
+        }
+        step => step,
+    }
+}
+
+/// Enters the procedure to which the top cell leads, in that cell's place. It returns to the running operator. INVALID
+/// OPERAND where its level doesn't fit, STACK OVERFLOW.
+pub fn enter_in_place(cpu: &mut Cpu) -> Step
+    requires { EntersTop cpu.old }
+    ensures row { ForEach cpu.old (λ x plan s m t. (q : Place) → enters_at (top_end (here m t q) (cells t)) ≡ true → Meets x plan s m result cpu.old cpu.new (rows.load (here m t q) (cells t))) }
+{
+    let cell = procedure_cell(cpu, cpu.core.get(cpu.regs.s));
+    let without = Regs {
+        s: cpu.regs.s - 1,
+        ..cpu.regs
+    };
+    accident_on(cpu, without, cell, false, cpu.regs.place)
+}
+
+/// Puts the value or the row copy to which the top cell leads in its place, and goes on at `next`; a procedure there is
+/// entered in its place, and the operator is made again with what it returns. STACK UNDERFLOW, the faults of references,
+/// INVALID OPERAND where it ends at an intrinsic or where the procedure's level doesn't fit, STACK OVERFLOW. Where an
+/// element's array is absent nothing is changed.
+pub fn load(cpu: &mut Cpu, next: Place) -> Step
+    requires { RunsSome cpu.old }
+    ensures row { ForEach cpu.old (λ x plan s m t. let h = here m t next in Meets x plan s m result cpu.old cpu.new (rows.load h (cells_of h))) }
+{
+    match b67_fetch::load(cpu, next) {
+        Step::Call(_) => enter_in_place(cpu),
+        step => step,
+    }
+}

@@ -1,0 +1,111 @@
+//! One operator of the running task over core, by its row.
+
+ghost use Rattle.std.specs.Prelude.{◌≡◌, Ok};
+ghost use Rattle.b67_ctl.specs.Layout.{IsPlace};
+ghost use Rattle.b67_model.specs.declared.operators.Op.TheVariants.{Plain};
+ghost use Rattle.b67_model.specs.Rows.{row, plain as plain_row};
+ghost use Rattle.b67_law_order_steps.specs.Profiles.{called};
+ghost use Rattle.b67_layout.specs.Meets.{here, RunsSome, ForEach};
+ghost use Rattle.b67_entry_enter.specs.Procedures.{CallsOrMeets};
+ghost use Rattle.b67_exec.specs.Operators.{ParametersFit, OperatorMeets};
+
+use crate::evaluating::{evaluate, load};
+use crate::assigning::{stod, ston};
+use b67_exec_cells::reading;
+use b67_entry_enter::{entr, mkst};
+use b67_fetch::{indx, nxlv, stff};
+use b67_entry::{exit, retn};
+use b67_model::{Code, Op};
+use b67_exec_operands::{
+    Binary, Unary, branch_if, dlet, dupl, exch, go_on, literal, mpcw, namc, on_one, on_two,
+};
+use b67_stack::{Cpu, Step, What};
+use b67_word::{Fault, Place};
+
+/// An operator without parameters, behind which the task goes on at `next`.
+fn plain(cpu: &mut Cpu, code: Code, next: Place) -> Step
+    requires runs { RunsSome cpu.old }
+    requires next { IsPlace next }
+    ensures row { ForEach cpu.old (λ x plan s m t. CallsOrMeets x plan s m result cpu.old cpu.new (called (Plain code) (here m t next)) (plain_row code (here m t next))) }
+{
+    match code {
+        Code::Add => on_two(cpu, Binary::Add, next),
+        Code::Subt => on_two(cpu, Binary::Subt, next),
+        Code::Mult => on_two(cpu, Binary::Mult, next),
+        Code::Idiv => on_two(cpu, Binary::Idiv, next),
+        Code::Rdiv => on_two(cpu, Binary::Rdiv, next),
+        Code::Less => on_two(cpu, Binary::Less, next),
+        Code::Greq => on_two(cpu, Binary::Greq, next),
+        Code::Grtr => on_two(cpu, Binary::Grtr, next),
+        Code::Lseq => on_two(cpu, Binary::Lseq, next),
+        Code::Equl => on_two(cpu, Binary::Equl, next),
+        Code::Neql => on_two(cpu, Binary::Neql, next),
+        Code::Chsn => on_one(cpu, Unary::Chsn, next),
+        Code::Land => on_two(cpu, Binary::Land, next),
+        Code::Lor => on_two(cpu, Binary::Lor, next),
+        Code::Leqv => on_two(cpu, Binary::Leqv, next),
+        Code::Lnot => on_one(cpu, Unary::Lnot, next),
+        Code::Same => on_two(cpu, Binary::Same, next),
+        Code::Exit => exit(cpu),
+        Code::Indx => indx(cpu, next),
+        Code::Retn => retn(cpu),
+        Code::Entr => entr(cpu, next),
+        Code::Nxlv => nxlv(cpu, next),
+        Code::Mkst => mkst(cpu, next),
+        Code::Stff => stff(cpu, next),
+        Code::Zero => literal(cpu, 0, next),
+        Code::One => literal(cpu, 1, next),
+        Code::Push | Code::Noop => go_on(cpu, next),
+        Code::Dlet => dlet(cpu, next),
+        Code::Exch => exch(cpu, next),
+        Code::Dupl => dupl(cpu, next),
+        Code::Stod => stod(cpu, next),
+        Code::Ston => ston(cpu, next),
+        Code::Load => load(cpu, next),
+        Code::Nvld => Step::Fault(Fault::InvalidOperator),
+    }
+}
+
+/// An operator, behind which the task goes on at `next`.
+pub fn perform(cpu: &mut Cpu, op: Op, next: Place) -> Step
+    requires runs { RunsSome cpu.old }
+    requires parameters { ParametersFit op }
+    requires next { IsPlace next }
+    ensures row { ForEach cpu.old (λ x plan s m t. CallsOrMeets x plan s m result cpu.old cpu.new (called op (here m t next)) (row op (here m t next))) }
+{
+    match op {
+        Op::Valc(couple) => evaluate(cpu, couple, next),
+        Op::Namc(couple) => namc(cpu, couple, next),
+        Op::Lt8(n) => literal(cpu, u64::from(n), next),
+        Op::Lt16(n) => literal(cpu, u64::from(n), next),
+        Op::Lt48(bits) => literal(cpu, bits, next),
+        Op::Mpcw(bits) => mpcw(cpu, bits, next),
+        Op::Brun(target) => go_on(cpu, target),
+        Op::Brtr(target) => branch_if(cpu, true, target, next),
+        Op::Brfl(target) => branch_if(cpu, false, target, next),
+        Op::Bset(n) => on_one(cpu, Unary::Bset(n), next),
+        Op::Brst(n) => on_one(cpu, Unary::Brst(n), next),
+        Op::Isol(high, width) => on_one(cpu, Unary::Isol(high, width), next),
+        Op::Insr(high, width) => on_two(cpu, Binary::Insr(high, width), next),
+        Op::Plain(code) => plain(cpu, code, next),
+    }
+}
+
+/// Makes the operator at the running place.
+///
+/// `Absent(Code(..))`, with nothing changed, exactly where the running segment is absent, and `Call(n)`, with nothing
+/// changed, exactly where the operator calls intrinsic n. INVALID OPERATOR where no operator is read. Else `Done`,
+/// `Absent(Array(..))`, `Fault` and `Ended` are by the operator's row; nothing is changed but at `Done`.
+pub fn operator(cpu: &mut Cpu) -> Step
+    requires { RunsSome cpu.old }
+    ensures row { ForEach cpu.old (λ x plan s m t. OperatorMeets x plan s m t result cpu.old cpu.new) }
+{
+    let read = match reading(cpu) {
+        Some(read) => read,
+        None => return Step::Absent(What::Code(cpu.regs.segment)),
+    };
+    match read {
+        Ok((op, next)) => perform(cpu, op, next),
+        Err(_) => Step::Fault(Fault::InvalidOperator),
+    }
+}

@@ -1,0 +1,37 @@
+//! The code of the running segment in core, and the operator at the running place.
+
+ghost use Rattle.std.specs.Prelude.{◌≡◌};
+ghost use Rattle.b67_layout.specs.Meets.{RunsSome, ForEach};
+ghost use Rattle.b67_exec_cells.specs.Running.{code_desc, GivesReading};
+
+use b67_ctl::SegDesc;
+use b67_model::{Op, Undecodable};
+use b67_stack::Cpu;
+use b67_syllable::decode;
+use b67_word::Place;
+
+/// The descriptor of the running segment.
+pub fn descriptor(cpu: &Cpu) -> SegDesc
+    requires { RunsSome cpu.now }
+    ensures { ForEach cpu.now (λ x plan s m t. result ≡ code_desc x plan m t) }
+{
+    let at = cpu.regs.dict + u32::from(cpu.regs.segment);
+    match SegDesc::from_word(cpu.core.get(at)) {
+        Some(desc) => desc,
+        None => unreachable!(),
+    }
+}
+
+/// The operator at the running place and the place after it, or why there is none. None exactly where the running
+/// segment is absent.
+pub fn reading(cpu: &Cpu) -> Option<Result<(Op, Place), Undecodable>>
+    requires { RunsSome cpu.now }
+    ensures { ForEach cpu.now (λ x plan s m t. GivesReading x plan m t result) }
+{
+    let desc = descriptor(cpu);
+    if !desc.present {
+        return None;
+    }
+    let code = cpu.core.words(desc.address, desc.words);
+    Some(decode(code, cpu.regs.place))
+}

@@ -1,0 +1,99 @@
+-- A number stored into an element, and the operands off the stack: what STOD and STON make at an element.
+use Rattle.std.proofs.Common.{◌≡◌, ℕ, ◌+◌, ◌-◌, ◌<◌, ◌≤◌, List, [], ◌∷◌, length, Some, Ok, refl, sym, ◌∙◌, ap, arith, true, ⊎_elim, inl, inr, ◌⊎◌, subst, slice_set}
+use Rattle.std.specs.Prelude.{unwrap_or}
+use Rattle.std.specs.List.{slice_get}
+use Rattle.std.proofs.lemmas.Bool.{cases_eq}
+use Rattle.b67_core.proofs.Writes.{slice_get-set_other}
+use Rattle.b67_word.specs.Tagged.{word}
+use Rattle.b67_word.specs.declared.couples.Place.{Place}
+use Rattle.b67_model.specs.Keyed.{keyed}
+use Rattle.b67_model.specs.Words.{Word, Operand}
+use Rattle.b67_model.specs.State.{Array, Task, Job, Member, with_task}
+use Rattle.b67_model.specs.Arrays.{array, no_array, with_element}
+use Rattle.b67_model.specs.Schedule.{Session}
+use Rattle.b67_model.specs.Steps.{Goes, with_cells}
+use Rattle.b67_model.specs.InOrder.{IsInOrderButPlaces}
+use Rattle.b67_stack.specs.declared.Cpu.{Cpu}
+use Rattle.b67_stack.specs.Picture.{Thing}
+use Rattle.b67_stack.specs.Stands.{Storage}
+use Rattle.b67_layout.specs.Plan.{Plan}
+use Rattle.b67_layout.specs.Session.{IsRunning, SessionStands, SessionStandsBut}
+use Rattle.b67_layout.specs.Meets.{here, with_job, IsMade}
+use Rattle.b67_layout.proofs.Fresh.{fresh}
+use Rattle.b67_layout.proofs.Gone.{no_things_gone}
+use Rattle.b67_layout.proofs.Pictures.{with_course}
+use Rattle.b67_layout.proofs.Steps.{IsFree}
+use Rattle.b67_layout.proofs.Whole.{task_with}
+use Rattle.b67_exec_cells.specs.Tops.{cells, NoOriginals}
+use Rattle.b67_exec_cells.proofs.Put.{room, registers}
+use Rattle.b67_layout_store.proofs.Things.{identities_kept}
+use Rattle.b67_layout_store.proofs.Machine.{SessionStands-element, still_runs}
+use Rattle.b67_fetch.proofs.Finishes.{course_twice, finish_drop, finish_keep}
+
+module _ (x : Storage) (old : Cpu) (plan : Plan) (s : Session) (m : Member) (t : Task) (o : IsInOrderButPlaces s) (h : SessionStands x old plan s) (runs : IsRunning plan s.jobs m t) (q : Place)
+    (a : Array) (found : keyed (λ (z : Array). z.identity) a.identity m.course.job.arrays ≡ Some a) (writable : a.writable ≡ true) (i bits b : ℕ) (low : i < length a.numbers) (held : (x.held (plan.home m.setting.number a.identity)).area ≡ Some b) where
+  abbrev job1 : Job
+  job1 = with_element m.course.job a.identity i bits
+
+  abbrev m1 : Member
+  m1 = record m { course = record m.course { job = with_element m.course.job a.identity i bits } }
+
+  abbrev s1 : Session
+  s1 = record s { jobs = with_course s.jobs m.setting.number (record m.course { job = with_element m.course.job a.identity i bits }) }
+
+  abbrev mid : Cpu
+  mid = record old { core = slice_set old.core (b + i) (word 0 bits) }
+
+  stands1 : SessionStands x (record old { core = slice_set old.core (b + i) (word 0 bits) }) plan s1
+  stands1 = SessionStands-element x old plan s m t o h runs a found writable i bits b low held
+
+  runs1 : IsRunning plan s1.jobs m1 t
+  runs1 = still_runs x old plan s m t o h runs a found writable i bits b low held
+
+  free1 : IsFree (with_element m.course.job a.identity i bits) m.course.job.next_frame
+  free1 = let f0 = fresh plan s m t o runs in record { some = f0.some; uncritical = f0.uncritical }
+
+  -- the job that the row makes
+  abbrev pub made : List Word → Job
+  made kept = with_task (with_element m.course.job a.identity i bits) (with_cells (here m t q) kept)
+
+  finish : (new : Cpu) (kept : List Word) → SessionStands x new plan (record s1 { jobs = with_course s1.jobs m.setting.number (record m1.course { job = with_task job1 (task_with t kept q) }) })
+      → ((k : ℕ) → (slice_get new.core k ≡ slice_get old.core k) ⊎ (((old.regs.bosr < k) × (k ≤ old.regs.losr)) ⊎ (k ≡ b + i))) → IsMade x plan s m old new (Ok (Goes (made kept) [] (Some a.identity)))
+  finish new kept stands changed =
+      let J1 = with_task job1 (task_with t kept q) in
+      let S : List Member → Session = λ jobs. record s { jobs = jobs } in
+      let P : List Member → Type 0 = λ jobs. SessionStands x new plan (S jobs) in
+      let whole : SessionStands x new plan (with_job s m (made kept)) = subst P (course_twice s.jobs m.setting.number (record m.course { job = job1 }) (record m.course { job = J1 })) stands in
+      let L : List Thing → Type 0 = λ left. SessionStandsBut left x new plan (with_job s m (made kept)) in
+      let same : array m.course.job a.identity ≡ a = ap (λ q. unwrap_or q no_array) found in
+      let long = ap (λ (z : Array). length z.numbers) same in
+      record {
+        job = made kept;
+        touched = Some a.identity;
+        is = refl;
+        present = (b, held);
+        stands = subst L (sym (no_things_gone plan m (made kept) (identities_kept a.identity i bits m.course.job.arrays))) whole;
+        changed = λ k. ⊎_elim inl (λ c. inr (⊎_elim inl (λ e. inr (inr (b, held, omega (arith, e), omega (arith, e, low, long)))) c)) (changed k);
+      }
+
+  -- STOD
+  pub dropped : (u w : Word) (rest : List Word) → cells t ≡ u ∷ w ∷ rest → NoOriginals (u ∷ w ∷ [])
+      → IsMade x plan s m old (record old { core = slice_set old.core (b + i) (word 0 bits); regs = record old.regs { s = old.regs.s - 2; place = q } }) (Ok (Goes (made rest) [] (Some a.identity)))
+  dropped u w rest e plain =
+      let stands = finish_drop x mid plan s1 m1 t stands1 runs1 m.course.job.next_frame free1 q (u ∷ w ∷ []) rest e plain in
+      finish (record old { core = slice_set old.core (b + i) (word 0 bits); regs = record old.regs { s = old.regs.s - 2; place = q } }) rest stands
+      (λ k. ⊎_elim (λ (z : k ≡ b + i). inr (inr z)) (λ (z : k ≡ b + i → ⊥). inl (slice_get-set_other old.core (b + i) k (word 0 bits) z)) (cases_eq k (b + i)))
+
+  -- STON
+  pub kept : (u w : Word) (rest : List Word) → cells t ≡ u ∷ w ∷ rest → NoOriginals (u ∷ w ∷ []) → old.regs.f + 2 ≤ old.regs.s
+      → IsMade x plan s m old (record old { core = slice_set (slice_set old.core (b + i) (word 0 bits)) (old.regs.s - 1) (word 0 bits); regs = record old.regs { s = old.regs.s - 1; place = q } }) (Ok (Goes (made (Operand bits ∷ rest)) [] (Some a.identity)))
+  kept u w rest e plain enough =
+      let g = room x old plan s m t o h runs in
+      let first = (registers x old plan s m t o h runs).first in
+      let stands = finish_keep x mid plan s1 m1 t stands1 runs1 m.course.job.next_frame free1 q (u ∷ w ∷ []) rest bits (old.regs.s - 1) e plain
+      (omega (arith, enough)) (omega (arith, g.last)) (omega (arith, enough, g.mark, first)) in
+      let N : Cpu = record old { core = slice_set (slice_set old.core (b + i) (word 0 bits)) (old.regs.s - 1) (word 0 bits); regs = record old.regs { s = old.regs.s - 1; place = q } } in
+      finish N (Operand bits ∷ rest) stands
+      (λ k. ⊎_elim (λ (z : k ≡ old.regs.s - 1). inr (inl (omega (arith, z, enough, g.mark), omega (arith, z, g.last))))
+      (λ (z : k ≡ old.regs.s - 1 → ⊥). ⊎_elim (λ (y : k ≡ b + i). inr (inr y)) (λ (y : k ≡ b + i → ⊥). inl (slice_get-set_other (slice_set old.core (b + i) (word 0 bits)) (old.regs.s - 1) k (word 0 bits) z ∙ slice_get-set_other old.core (b + i) k (word 0 bits) y)) (cases_eq k (b + i)))
+      (cases_eq k (old.regs.s - 1)))

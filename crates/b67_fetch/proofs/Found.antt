@@ -1,0 +1,117 @@
+-- The array that a word leads to.
+use Rattle.std.proofs.Common.{◌≡◌, ◌≢◌, ℕ, List, Ok, Err, Some, refl, sym, ◌∙◌, ap, true, false, subst}
+use Rattle.std.proofs.lemmas.Bool.{true≢false, false≢true}
+use Rattle.std.proofs.lemmas.Option.{same_Some}
+use Rattle.b67_word.specs.Tagged.{Tagged}
+use Rattle.b67_word.specs.declared.couples.Place.{Place}
+use Rattle.b67_word.specs.declared.faults.Fault.{Fault}
+use Rattle.b67_word.specs.declared.faults.Fault.TheVariants.{InvalidOperand}
+use Rattle.b67_ctl.specs.declared.descriptors.DataDesc.{DataDesc}
+use Rattle.b67_ctl.specs.Descriptors.{data_word, IsDataDesc}
+use Rattle.b67_model.specs.Answers.{Answer, ◌>>=◌}
+use Rattle.b67_model.specs.Words as Words
+use Rattle.b67_model.specs.Words.{Word, Operand, Name, Ref, Row, Element, Original, Proc, Intrinsic}
+use Rattle.b67_model.specs.State.{Task, Member}
+use Rattle.b67_model.specs.Chase as Chase
+use Rattle.b67_model.specs.Chase.{AtCell, AtElement, AtArray, AtProc, AtIntrinsic, follow}
+use Rattle.b67_model.specs.Arrays.{array_of, array_at}
+use Rattle.b67_model.specs.Schedule.{Session}
+use Rattle.b67_model.specs.InOrder.{IsInOrderButPlaces}
+use Rattle.b67_refer.specs.declared.ends.End.{End}
+use Rattle.b67_refer.specs.declared.ends.End.TheVariants as end
+use Rattle.b67_refer.specs.Ends.{IsCopyOf}
+use Rattle.b67_refer.proofs.Links.{Described, own, row, item, described}
+use Rattle.b67_stack.specs.declared.Cpu.{Cpu}
+use Rattle.b67_stack.specs.Stands.{Storage}
+use Rattle.b67_layout.specs.Plan.{Plan}
+use Rattle.b67_layout.specs.Session.{IsRunning, SessionStands}
+use Rattle.b67_layout.specs.Meets.{here}
+use Rattle.b67_fetch.specs.Fetches.{IsFollowed, FindsEnd}
+use Rattle.b67_fetch.proofs.Values.{here_scene, followed_stands}
+use Rattle.b67_fetch.specs.Indexes.{array_in, FindsArray}
+
+module _ (x : Storage) (plan : Plan) (m : Member) (t : Task) (q : Place) where
+  -- a word that is no descriptor is followed
+  not_row : (w : Tagged) (v : Word) → IsFollowed x plan m t w v → w.tag ≢ 5 → array_of (here m t q) v ≡ (follow (here m t q) v >>= array_at)
+  not_row w (Operand bits) i ne = refl
+  not_row w (Name c) i ne = refl
+  not_row w (Ref f o) i ne = refl
+  not_row w (Row a) i ne = absurd (ne (ap (λ (z : Tagged). z.tag) i.is.is))
+  not_row w (Element a k) i ne = absurd (ne (ap (λ (z : Tagged). z.tag) i.is.is))
+  not_row w (Original a) i ne = refl
+  not_row w (Proc g l p) i ne = refl
+  not_row w (Intrinsic n) i ne = refl
+  not_row w (Words.Segment n) i ne = refl
+
+  -- by the end of the reference
+  at_end : (core : List Tagged) (found : End) (e : Answer Chase.End) → FindsEnd plan m core (Ok found) e → FindsArray plan m (array_in found) (e >>= array_at)
+  at_end core (end.Cell at) (Ok (AtCell f offset bits)) i = refl
+  at_end core (end.Cell at) (Ok (AtElement n j)) i = absurd i
+  at_end core (end.Cell at) (Ok (AtArray n)) i = absurd i
+  at_end core (end.Cell at) (Ok (AtProc f segment level place)) i = absurd i
+  at_end core (end.Cell at) (Ok (AtIntrinsic c)) i = absurd i
+  at_end core (end.Element o k) (Ok (AtCell f offset bits)) i = absurd i
+  at_end core (end.Element o k) (Ok (AtElement n j)) i = refl
+  at_end core (end.Element o k) (Ok (AtArray n)) i = absurd i
+  at_end core (end.Element o k) (Ok (AtProc f segment level place)) i = absurd i
+  at_end core (end.Element o k) (Ok (AtIntrinsic c)) i = absurd i
+  at_end core (end.Array o) (Ok (AtCell f offset bits)) i = absurd i
+  at_end core (end.Array o) (Ok (AtElement n j)) i = absurd i
+  at_end core (end.Array o) (Ok (AtArray n)) i = i
+  at_end core (end.Array o) (Ok (AtProc f segment level place)) i = absurd i
+  at_end core (end.Array o) (Ok (AtIntrinsic c)) i = absurd i
+  at_end core (end.Proc at) (Ok (AtCell f offset bits)) i = absurd i
+  at_end core (end.Proc at) (Ok (AtElement n j)) i = absurd i
+  at_end core (end.Proc at) (Ok (AtArray n)) i = absurd i
+  at_end core (end.Proc at) (Ok (AtProc f segment level place)) i = refl
+  at_end core (end.Proc at) (Ok (AtIntrinsic c)) i = absurd i
+  at_end core (end.Intrinsic b) (Ok (AtCell f offset bits)) i = absurd i
+  at_end core (end.Intrinsic b) (Ok (AtElement n j)) i = absurd i
+  at_end core (end.Intrinsic b) (Ok (AtArray n)) i = absurd i
+  at_end core (end.Intrinsic b) (Ok (AtProc f segment level place)) i = absurd i
+  at_end core (end.Intrinsic b) (Ok (AtIntrinsic c)) i = refl
+  at_end core (end.Cell at) (Err g) i = absurd i
+  at_end core (end.Element o k) (Err g) i = absurd i
+  at_end core (end.Array o) (Err g) i = absurd i
+  at_end core (end.Proc at) (Err g) i = absurd i
+  at_end core (end.Intrinsic b) (Err g) i = absurd i
+
+  refused : (core : List Tagged) (fault : Fault) (e : Answer Chase.End) → FindsEnd plan m core (Err fault) e → FindsArray plan m (Err fault) (e >>= array_at)
+  refused core fault (Err g) i = i
+  refused core fault (Ok end) i = absurd i
+
+  pub found_end : (core : List Tagged) (w : Tagged) (v : Word) (found : End) → IsFollowed x plan m t w v → w.tag ≢ 5 → FindsEnd plan m core (Ok found) (follow (here m t q) v) → FindsArray plan m (array_in found) (array_of (here m t q) v)
+  found_end core w v found i ne e = subst (FindsArray plan m (array_in found)) (sym (not_row w v i ne)) (at_end core found (follow (here m t q) v) e)
+
+  pub found_fault : (core : List Tagged) (w : Tagged) (v : Word) (fault : Fault) → IsFollowed x plan m t w v → w.tag ≢ 5 → FindsEnd plan m core (Err fault) (follow (here m t q) v) → FindsArray plan m (Err fault) (array_of (here m t q) v)
+  found_fault core w v fault i ne e = subst (FindsArray plan m (Err fault)) (sym (not_row w v i ne)) (refused core fault (follow (here m t q) v) e)
+
+-- a descriptor
+module _ (x : Storage) (cpu : Cpu) (plan : Plan) (s : Session) (m : Member) (t : Task) (ordered : IsInOrderButPlaces s) (h : SessionStands x cpu plan s) (runs : IsRunning plan s.jobs m t) (w : Tagged) (v : Word) (i : IsFollowed x plan m t w v) (five : w.tag ≡ 5) where
+  abbrev pub Desc : DataDesc → Type 0
+  Desc d = Described cpu.core cpu.regs (here_scene x cpu plan s m t ordered h runs) i.at i.owner v d
+
+  pub desc : (d : DataDesc) × IsDataDesc d × (w ≡ data_word d) × Desc d
+  desc = described cpu.core cpu.regs (here_scene x cpu plan s m t ordered h runs) i.at i.owner w v (followed_stands x cpu plan s m t ordered h runs w v i) five
+
+  -- the one that is read
+  pub desc_is : (d : DataDesc) → IsDataDesc d → w ≡ data_word d → ((e : DataDesc) → IsDataDesc e → w ≡ data_word e → Some d ≡ Some e) → Desc d
+  desc_is d fits is known = subst Desc (sym (same_Some d desc.0 (known desc.0 desc.1 desc.2))) desc.3
+
+  pub row_copied : (d : DataDesc) → Desc d → d.copy ≡ true → d.indexed ≡ false → (home : ℕ) × IsCopyOf cpu.core d home
+  row_copied d (own b e c k o) z y = absurd (false≢true (sym c ∙ z))
+  row_copied d (row b e c j k o) z y = (plan.home m.setting.number b, k)
+  row_copied d (item b n e c j k l o) z y = absurd (true≢false (sym j ∙ y))
+
+  pub row_found : (q : Place) (d : DataDesc) (original : ℕ) → Desc d → d.copy ≡ true → d.indexed ≡ false → ((home : ℕ) → IsCopyOf cpu.core d home → original ≡ home) → FindsArray plan m (Ok original) (array_of (here m t q) v)
+  row_found q d original (own b e c k o) z y found = absurd (false≢true (sym c ∙ z))
+  row_found q d original (item b n e c j k l o) z y found = absurd (true≢false (sym j ∙ y))
+  row_found q d original (row b e c j k o) z y found =
+      let P : Word → Type 0 = λ u. FindsArray plan m (Ok original) (array_of (here m t q) u) in
+      subst P (sym e) (found (plan.home m.setting.number b) k, record { item = o.item; live = o.live; named = o.named; inside = o.inside })
+
+  -- no row copy
+  pub no_row : (q : Place) (d : DataDesc) → Desc d → (d.copy ≡ true → d.indexed ≡ false → ⊥) → FindsArray plan m (Err InvalidOperand) (array_of (here m t q) v)
+  no_row q d (own b e c k o) none = let P : Word → Type 0 = λ u. FindsArray plan m (Err InvalidOperand) (array_of (here m t q) u) in subst P (sym e) refl
+  no_row q d (row b e c j k o) none = absurd (none c j)
+  no_row q d (item b n e c j k l o) none = let P : Word → Type 0 = λ u. FindsArray plan m (Err InvalidOperand) (array_of (here m t q) u) in subst P (sym e) refl

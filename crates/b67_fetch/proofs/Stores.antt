@@ -1,0 +1,271 @@
+-- What STOD and STON do by the end that was found, against their rows.
+use Rattle.std.proofs.Common.{◌≡◌, ℕ, ◌+◌, ◌-◌, ◌<◌, ◌≤◌, List, [], ◌∷◌, length, Option, Some, Result, Ok, Err, refl, sym, ◌∙◌, ap, arith, Bool, true, false, subst}
+use Rattle.std.specs.Prelude.{if◌then◌else◌, nat_le, unwrap_or}
+use Rattle.std.proofs.lemmas.Bool.Decides.{nat_tests}
+use Rattle.std.proofs.lemmas.Option.{slice_get_within}
+use Rattle.b67_word.specs.Tagged.{Tagged, word}
+use Rattle.b67_word.specs.declared.couples.Place.{Place}
+use Rattle.b67_word.specs.declared.faults.Fault.{Fault}
+use Rattle.b67_word.specs.declared.faults.Fault.TheVariants.{InvalidOperand, MemoryProtect, StackOverflow}
+use Rattle.b67_model.specs.Answers.{Answer, ◌>>=◌}
+use Rattle.b67_model.specs.Arrays.{array, no_array, in_order, with_element}
+use Rattle.b67_model.specs.Keyed.{keyed}
+use Rattle.b67_model.specs.Chase as Chase
+use Rattle.b67_model.specs.Chase.{AtCell, AtElement, AtArray, AtProc, AtIntrinsic, follow}
+use Rattle.b67_model.specs.InOrder.{IsInOrderButPlaces}
+use Rattle.b67_model.specs.Words.{Word, Operand, operand}
+use Rattle.b67_model.specs.State.{Frame, Array, Task, Member, height, with_top_cells, with_task}
+use Rattle.b67_model.specs.Schedule.{Session}
+use Rattle.b67_model.specs.Steps.{Done, Goes, cells_of, with_cells}
+use Rattle.b67_model.specs.Rows as rows
+use Rattle.b67_model.specs.Rows.{store_at}
+use Rattle.b67_law_order.proofs.Members.{keyed_falls}
+use Rattle.b67_stack.specs.declared.Cpu.{Cpu}
+use Rattle.b67_stack.specs.declared.Step.{Step}
+use Rattle.b67_stack.specs.declared.Step.TheVariants as step
+use Rattle.b67_stack.specs.declared.What.TheVariants as what
+use Rattle.b67_stack.specs.Stands.{Storage}
+use Rattle.b67_layout.specs.Plan.{Plan}
+use Rattle.b67_layout.specs.Session.{IsRunning, SessionStands}
+use Rattle.b67_layout.specs.Meets.{here, IsMade, Meets}
+use Rattle.b67_layout.proofs.Fresh.{running_in_order}
+use Rattle.b67_refer.specs.declared.ends.End.TheVariants as end
+use Rattle.b67_refer.specs.Scene.{Scene}
+use Rattle.b67_refer.specs.Cells.{IsCellAt}
+use Rattle.b67_refer.specs.Ends.{EndMeets}
+use Rattle.b67_exec_cells.specs.Tops.{cells, GivesTwo, NoOriginals}
+use Rattle.b67_exec_cells.proofs.Put.{fitting, room}
+use Rattle.b67_exec_cells.specs.Elements.{HasElement, HoldsElement}
+use Rattle.b67_exec_cells.proofs.Arrays.{area-inside}
+use Rattle.b67_fetch.specs.Fetches.{enters_at, EntersOrMeets}
+use Rattle.b67_fetch.proofs.Values.{here_scene}
+use Rattle.b67_fetch.specs.Stores.{store_end, ElementAt, stored}
+use Rattle.b67_fetch.proofs.Cells as Cells
+use Rattle.b67_fetch.proofs.Elements as Elements
+use Rattle.b67_fetch.proofs.Words.{Given, plain_two}
+
+module _ (x : Storage) (old : Cpu) (plan : Plan) (s : Session) (m : Member) (t : Task) (o : IsInOrderButPlaces s) (h : SessionStands x old plan s) (runs : IsRunning plan s.jobs m t) (q : Place) (keeps : Bool) where
+  abbrev a : Scene old.core old.regs
+  a = here_scene x old plan s m t o h runs
+
+  -- the cells that are left
+  abbrev kept : ℕ → List Word → List Word
+  kept bits rest = if keeps then Operand bits ∷ rest else rest
+
+  -- what is shown, for the cells of the task, and for the word that is followed
+  abbrev ForCells : Step → Cpu → List Word → Type 0
+  ForCells r new ws = EntersOrMeets x plan s m r old new (enters_at (store_end (here m t q) ws)) (rows.store keeps (here m t q) ws)
+
+  abbrev ForEnd : Step → Cpu → List Word → ℕ → Answer Chase.End → Type 0
+  ForEnd r new rest bits e = EntersOrMeets x plan s m r old new (enters_at e) (e >>= store_at (here m t q) rest (kept bits rest) bits)
+
+  abbrev ForPair : Step → Cpu → List Word → Word × Word → Type 0
+  ForPair r new rest p = EntersOrMeets x plan s m r old new (enters_at (operand p.1 >>= λ bits. follow (here m t q) p.0))
+      (operand p.1 >>= λ bits. (follow (here m t q) p.0 >>= store_at (here m t q) rest (if keeps then p.1 ∷ rest else rest) bits))
+
+  by_pair : (r : Step) (new : Cpu) (rest : List Word) (p : Word × Word) (bits : ℕ) → p.1 ≡ Operand bits → ForEnd r new rest bits (follow (here m t q) p.0) → ForPair r new rest p
+  by_pair r new rest p bits e f = let P : Word → Type 0 = λ w. ForPair r new rest (p.0, w) in subst P (sym e) f
+
+  -- no cells to store
+  pub missing : (new : Cpu) (fault : Fault) → new ≡ old → GivesTwo x plan m t old (cells t) (Err fault) → ForCells (step.Fault fault) new (cells_of (here m t q))
+  missing new fault same g = by (cells t) g where
+    by : (ws : List Word) → GivesTwo x plan m t old ws (Err fault) → ForCells (step.Fault fault) new ws
+    by [] g = (let e : ◌≡◌ {A = Fault} Rattle.b67_word.specs.declared.faults.Fault.TheVariants.StackUnderflow fault = cc in (ap Err e, same))
+    by (b ∷ []) g = (let e : ◌≡◌ {A = Fault} Rattle.b67_word.specs.declared.faults.Fault.TheVariants.StackUnderflow fault = cc in (ap Err e, same))
+    by (b ∷ a ∷ rest) (u, v, is, ia, ib) = absurd (let z : ⊥ = cc in z)
+
+  module _ (chosen : Tagged × Tagged) (g : Given x plan m t old chosen) where
+    -- none of the two is an operand
+    pub refused : (new : Cpu) → new ≡ old → operand (in_order g.first g.second).1 ≡ Err InvalidOperand → ForCells (step.Fault InvalidOperand) new (cells_of (here m t q))
+    refused new same e =
+        let p : Word × Word = in_order g.first g.second in
+        let F : Answer ℕ → Type 0 = λ y. EntersOrMeets x plan s m (step.Fault InvalidOperand) old new (enters_at (y >>= λ bits. follow (here m t q) p.0))
+        (y >>= λ bits. (follow (here m t q) p.0 >>= store_at (here m t q) g.rest (if keeps then p.1 ∷ g.rest else g.rest) bits)) in
+        subst (ForCells (step.Fault InvalidOperand) new) (sym g.is) (subst F (sym e) (refl, same))
+
+    -- one is
+    pub followed_end : (r : Step) (new : Cpu) (bits : ℕ) → (in_order g.first g.second).1 ≡ Operand bits → ForEnd r new g.rest bits (follow (here m t q) (in_order g.first g.second).0) → ForCells r new (cells_of (here m t q))
+    followed_end r new bits e f = subst (ForCells r new) (sym g.is) (by_pair r new g.rest (in_order g.first g.second) bits e f)
+
+  -- by the end that was found
+  module _ (r : Step) (new : Cpu) (rest : List Word) (bits : ℕ) where
+    pub at_fault : (fault : Fault) (y : Answer Chase.End) → EndMeets (here_scene x old plan s m t o h runs) q (Err fault) y → r ≡ step.Fault fault → new ≡ old → ForEnd r new rest bits y
+    at_fault fault (Err y) e is same = let P : Step → Type 0 = λ z. Meets x plan s m z old new (Err y) in subst P (sym is) (ap Err (sym e), same)
+    at_fault fault (Ok (AtCell f offset b)) e is same = absurd e
+    at_fault fault (Ok (AtElement n i)) e is same = absurd e
+    at_fault fault (Ok (AtArray n)) e is same = absurd e
+    at_fault fault (Ok (AtProc f segment level place)) e is same = absurd e
+    at_fault fault (Ok (AtIntrinsic n)) e is same = absurd e
+
+    pub at_proc : (at : ℕ) (y : Answer Chase.End) → EndMeets (here_scene x old plan s m t o h runs) q (Ok (end.Proc at)) y → r ≡ step.Call 255 → new ≡ old → ForEnd r new rest bits y
+    at_proc at (Ok (AtProc f segment level place)) e is same = (is, same)
+    at_proc at (Ok (AtCell f offset b)) e is same = absurd e
+    at_proc at (Ok (AtElement n i)) e is same = absurd e
+    at_proc at (Ok (AtArray n)) e is same = absurd e
+    at_proc at (Ok (AtIntrinsic n)) e is same = absurd e
+    at_proc at (Err y) e is same = absurd e
+
+    pub at_array : (original : ℕ) (y : Answer Chase.End) → EndMeets (here_scene x old plan s m t o h runs) q (Ok (end.Array original)) y → r ≡ step.Fault MemoryProtect → new ≡ old → ForEnd r new rest bits y
+    at_array original (Ok (AtArray n)) e is same = let P : Step → Type 0 = λ z. Meets x plan s m z old new (Err MemoryProtect) in subst P (sym is) (refl, same)
+    at_array original (Ok (AtCell f offset b)) e is same = absurd e
+    at_array original (Ok (AtElement n i)) e is same = absurd e
+    at_array original (Ok (AtProc f segment level place)) e is same = absurd e
+    at_array original (Ok (AtIntrinsic n)) e is same = absurd e
+    at_array original (Err y) e is same = absurd e
+
+    pub at_intrinsic : (k : ℕ) (y : Answer Chase.End) → EndMeets (here_scene x old plan s m t o h runs) q (Ok (end.Intrinsic k)) y → r ≡ step.Fault MemoryProtect → new ≡ old → ForEnd r new rest bits y
+    at_intrinsic k (Ok (AtIntrinsic n)) e is same = let P : Step → Type 0 = λ z. Meets x plan s m z old new (Err MemoryProtect) in subst P (sym is) (refl, same)
+    at_intrinsic k (Ok (AtCell f offset b)) e is same = absurd e
+    at_intrinsic k (Ok (AtElement n i)) e is same = absurd e
+    at_intrinsic k (Ok (AtArray n)) e is same = absurd e
+    at_intrinsic k (Ok (AtProc f segment level place)) e is same = absurd e
+    at_intrinsic k (Err y) e is same = absurd e
+
+    at_cell : (at : ℕ) (w : Word) (y : Answer Chase.End) → follow (here m t q) w ≡ y → EndMeets (here_scene x old plan s m t o h runs) q (Ok (end.Cell at)) y
+        → ((f offset b : ℕ) → follow (here m t q) w ≡ Ok (AtCell f offset b) → IsCellAt (here_scene x old plan s m t o h runs) q at f offset (Operand b) → Meets x plan s m r old new (store_at (here m t q) rest (kept bits rest) bits (AtCell f offset b))) → ForEnd r new rest bits y
+    at_cell at w (Ok (AtCell f offset b)) z e done = done f offset b z e
+    at_cell at w (Ok (AtElement n i)) z e done = absurd e
+    at_cell at w (Ok (AtArray n)) z e done = absurd e
+    at_cell at w (Ok (AtProc f segment level place)) z e done = absurd e
+    at_cell at w (Ok (AtIntrinsic n)) z e done = absurd e
+    at_cell at w (Err y) z e done = absurd e
+
+    at_element : (original index : ℕ) (w : Word) (y : Answer Chase.End) → follow (here m t q) w ≡ y → EndMeets (here_scene x old plan s m t o h runs) q (Ok (end.Element original index)) y
+        → ((n : ℕ) → follow (here m t q) w ≡ Ok (AtElement n index) → original ≡ plan.home m.setting.number n → HasElement m.course.job n index → Meets x plan s m r old new (store_at (here m t q) rest (kept bits rest) bits (AtElement n index))) → ForEnd r new rest bits y
+    at_element original index w (Ok (AtElement n i)) z e done =
+        let P : ℕ → Type 0 = λ k. follow (here m t q) w ≡ Ok (AtElement n k) → (HasElement m.course.job n k) → Meets x plan s m r old new (store_at (here m t q) rest (kept bits rest) bits (AtElement n k)) in
+        let a = e.1.names in
+        subst P e.0 (λ z has. done n z e.1.home has) z (record { item = a.item; live = a.live; named = a.named; inside = a.inside })
+    at_element original index w (Ok (AtCell f offset b)) z e done = absurd e
+    at_element original index w (Ok (AtArray n)) z e done = absurd e
+    at_element original index w (Ok (AtProc f segment level place)) z e done = absurd e
+    at_element original index w (Ok (AtIntrinsic n)) z e done = absurd e
+    at_element original index w (Err y) z e done = absurd e
+
+  -- an array of the job, by its identity
+  found : (n index : ℕ) (e : HasElement m.course.job n index) → keyed (λ (z : Array). z.identity) e.item.identity m.course.job.arrays ≡ Some e.item
+  found n index e = keyed_falls (λ (z : Array). z.identity) m.course.job.next_array m.course.job.arrays e.item (running_in_order plan s m t o runs).0.tasks.names e.live
+
+  array_is : (n index : ℕ) (e : HasElement m.course.job n index) → array m.course.job n ≡ e.item
+  array_is n index e = ap (λ (k : ℕ). array m.course.job k) (sym e.named) ∙ ap (λ (z : Option Array). unwrap_or z no_array) (found n index e)
+
+  -- where the word goes lies in core
+  pub cell_inside : (at : ℕ) (y : Answer Chase.End) → EndMeets (here_scene x old plan s m t o h runs) q (Ok (end.Cell at)) y → at < length old.core
+  cell_inside at (Ok (AtCell f offset b)) e = slice_get_within old.core at e.word e.there
+  cell_inside at (Ok (AtElement n i)) e = absurd e
+  cell_inside at (Ok (AtArray n)) e = absurd e
+  cell_inside at (Ok (AtProc f segment level place)) e = absurd e
+  cell_inside at (Ok (AtIntrinsic n)) e = absurd e
+  cell_inside at (Err y) e = absurd e
+
+  element_in : (n index original at : ℕ) (e : HasElement m.course.job n index) → ElementAt x plan m n original index (Ok at) → at < length old.core
+  element_in n index original at e (w, (area, held, is)) =
+      let i = area-inside x old plan s m t o h runs n index e area held in
+      let long = ap (λ (z : Array). length z.numbers) (array_is n index e) in
+      omega (arith, i, long, is, e.inside)
+
+  -- the element that was found
+  record Named (original index : ℕ) : Type 0 where
+    number : ℕ
+    home : original ≡ plan.home m.setting.number number
+    element : HasElement m.course.job number index
+
+  named : (original index : ℕ) (y : Answer Chase.End) → EndMeets (here_scene x old plan s m t o h runs) q (Ok (end.Element original index)) y → Named original index
+  named original index (Ok (AtElement n i)) e =
+      let a = e.1.names in
+      let P : ℕ → Type 0 = λ k. HasElement m.course.job n k in
+      let has : HasElement m.course.job n i = record { item = a.item; live = a.live; named = a.named; inside = a.inside } in
+      record { number = n; home = e.1.home; element = subst P (sym e.0) has }
+  named original index (Ok (AtCell f offset b)) e = absurd e
+  named original index (Ok (AtArray n)) e = absurd e
+  named original index (Ok (AtProc f segment level place)) e = absurd e
+  named original index (Ok (AtIntrinsic n)) e = absurd e
+  named original index (Err y) e = absurd e
+
+  pub holds : (original index : ℕ) (y : Answer Chase.End) → EndMeets (here_scene x old plan s m t o h runs) q (Ok (end.Element original index)) y → HoldsElement old original index
+  holds original index y e =
+      let n = named original index y e in
+      record { runs = record { storage = x; plan = plan; session = s; member = m; task = t; ordered = o; stands = h; running = runs }; number = n.number; home = n.home; element = n.element }
+
+  -- what was answered for the element's place
+  abbrev Places : ℕ → ℕ → Result ℕ Step → Type 0
+  Places original index result = (n : ℕ) → original ≡ plan.home m.setting.number n → HasElement m.course.job n index → ElementAt x plan m n original index result
+
+  pub element_inside : (original index at : ℕ) (y : Answer Chase.End) → EndMeets (here_scene x old plan s m t o h runs) q (Ok (end.Element original index)) y
+      → ((n : ℕ) → original ≡ plan.home m.setting.number n → HasElement m.course.job n index → ElementAt x plan m n original index (Ok at)) → at < length old.core
+  element_inside original index at y e places = let n = named original index y e in element_in n.number index original at n.element (places n.number n.home n.element)
+
+  -- the height of the stack with fewer cells
+  height_drop : (fs : List Frame) (w : Word) (cs : List Word) → height (with_top_cells fs cs) ≤ height (with_top_cells fs (w ∷ cs))
+  height_drop [] w cs = omega arith
+  height_drop (f ∷ below) w cs = omega arith
+
+  module _ (b c : Word) (rest : List Word) (is : cells t ≡ b ∷ c ∷ rest) (enough : old.regs.f + 2 ≤ old.regs.s) (bits : ℕ) where
+    fits_kept : nat_le (height (with_top_cells t.frames (Operand bits ∷ rest))) m.setting.stack_size ≡ true
+    fits_kept = let g = room x old plan s m t o h runs in let low = g.last in fitting x old plan s m t o h runs 2 (old.regs.s - 2 + 1) (b ∷ c ∷ []) rest (Operand bits) is refl enough refl (omega (arith, low, enough))
+
+    fits : (k : Bool) → nat_le (height (with_top_cells t.frames (if k then Operand bits ∷ rest else rest))) m.setting.stack_size ≡ true
+    fits true = fits_kept
+    fits false =
+        let d = height_drop t.frames (Operand bits) rest in
+        let low : height (with_top_cells t.frames (Operand bits ∷ rest)) ≤ m.setting.stack_size = (let f = fits_kept in grind (arith, nat_tests)) in
+        let less : height (with_top_cells t.frames rest) ≤ m.setting.stack_size = omega (arith, d, low) in
+        grind (arith, nat_tests)
+
+    cell_made : (k : Bool) (at f offset w : ℕ) → IsCellAt (here_scene x old plan s m t o h runs) q at f offset (Operand w) → NoOriginals (b ∷ c ∷ [])
+        → IsMade x plan s m old (stored old at (word 0 bits) k q) (store_at (here m t q) rest (if k then Operand bits ∷ rest else rest) bits (AtCell f offset w))
+    cell_made false at f offset w cell plain = Cells.dropped x old plan s m t o h runs q at f offset w bits cell b c rest is plain
+    cell_made true at f offset w cell plain = Cells.kept x old plan s m t o h runs q at f offset w bits cell b c rest is plain enough
+
+    -- the job that is left by a store into an element
+    abbrev Answered : Bool → ℕ → ℕ → Answer Done
+    Answered k n i = Ok (Goes (with_task (with_element m.course.job n i bits) (with_cells (here m t q) (if k then Operand bits ∷ rest else rest))) [] (Some n))
+
+    made_by_array : (k : Bool) (z : Array) → keyed (λ (w : Array). w.identity) z.identity m.course.job.arrays ≡ Some z → z.writable ≡ true → (i area : ℕ) → i < length z.numbers → (x.held (plan.home m.setting.number z.identity)).area ≡ Some area → NoOriginals (b ∷ c ∷ [])
+        → IsMade x plan s m old (stored old (area + i) (word 0 bits) k q) (Answered k z.identity i)
+    made_by_array false z there writable i area low held plain = Elements.dropped x old plan s m t o h runs q z there writable i bits area low held b c rest is plain
+    made_by_array true z there writable i area low held plain = Elements.kept x old plan s m t o h runs q z there writable i bits area low held b c rest is plain enough
+
+    answered : (n i : ℕ) → (array m.course.job n).writable ≡ true → store_at (here m t q) rest (if keeps then Operand bits ∷ rest else rest) bits (AtElement n i) ≡ Answered keeps n i
+    answered n i w = rw w (rw (fits keeps) refl)
+
+    refused_element : (n i : ℕ) → (array m.course.job n).writable ≡ false → store_at (here m t q) rest (if keeps then Operand bits ∷ rest else rest) bits (AtElement n i) ≡ Err MemoryProtect
+    refused_element n i w = rw w refl
+
+    element_made : (n index original at : ℕ) (e : HasElement m.course.job n index) → ElementAt x plan m n original index (Ok at) → NoOriginals (b ∷ c ∷ [])
+        → IsMade x plan s m old (stored old at (word 0 bits) keeps q) (store_at (here m t q) rest (kept bits rest) bits (AtElement n index))
+    element_made n index original at e (w, (area, held, place)) plain =
+        let writable : e.item.writable ≡ true = ap (λ (z : Array). z.writable) (sym (array_is n index e)) ∙ w in
+        let held' : (x.held (plan.home m.setting.number e.item.identity)).area ≡ Some area = ap (λ (k : ℕ). (x.held (plan.home m.setting.number k)).area) e.named ∙ held in
+        let made = made_by_array keeps e.item (found n index e) writable index area e.inside held' plain in
+        let P : ℕ → Type 0 = λ k. IsMade x plan s m old (stored old (area + index) (word 0 bits) keeps q) (Answered keeps k index) in
+        let Q : ℕ → Type 0 = λ k. IsMade x plan s m old (stored old k (word 0 bits) keeps q) (Answered keeps n index) in
+        let R : Answer Done → Type 0 = λ y. IsMade x plan s m old (stored old at (word 0 bits) keeps q) y in
+        subst R (sym (answered n index w)) (subst Q (sym place) (subst P e.named made))
+
+    element_refused : (n index original : ℕ) (r : Step) (new : Cpu) → new ≡ old → original ≡ plan.home m.setting.number n → ElementAt x plan m n original index (Err r)
+        → Meets x plan s m r old new (store_at (here m t q) rest (kept bits rest) bits (AtElement n index))
+    element_refused n index original (step.Fault fault) new same home (w, f) = (refused_element n index w ∙ ap Err (sym f), same)
+    element_refused n index original (step.Absent thing) new same home (w, none, is) =
+        (record { job = with_task (with_element m.course.job n index bits) (with_cells (here m t q) (kept bits rest)); touched = n; is = answered n index w; absent = none; named = is ∙ ap what.Array home }, same)
+    element_refused n index original step.Done new same home z = absurd z
+    element_refused n index original (step.Call k) new same home z = absurd z
+    element_refused n index original step.Ended new same home z = absurd z
+
+    module _ (op : (in_order b c).1 ≡ Operand bits) where
+      pub cell_done : (at : ℕ) → EndMeets (here_scene x old plan s m t o h runs) q (Ok (end.Cell at)) (follow (here m t q) (in_order b c).0)
+          → EntersOrMeets x plan s m step.Done old (stored old at (word 0 bits) keeps q) (enters_at (follow (here m t q) (in_order b c).0)) (follow (here m t q) (in_order b c).0 >>= store_at (here m t q) rest (if keeps then Operand bits ∷ rest else rest) bits)
+      cell_done at e = at_cell step.Done (stored old at (word 0 bits) keeps q) rest bits at (in_order b c).0 (follow (here m t q) (in_order b c).0) refl e
+          (λ f offset w z cell. cell_made keeps at f offset w cell (plain_two (here m t q) b c (AtCell f offset w) bits z op))
+
+      pub element_done : (original index at : ℕ) → EndMeets (here_scene x old plan s m t o h runs) q (Ok (end.Element original index)) (follow (here m t q) (in_order b c).0)
+          → ((n : ℕ) → original ≡ plan.home m.setting.number n → HasElement m.course.job n index → ElementAt x plan m n original index (Ok at))
+          → EntersOrMeets x plan s m step.Done old (stored old at (word 0 bits) keeps q) (enters_at (follow (here m t q) (in_order b c).0)) (follow (here m t q) (in_order b c).0 >>= store_at (here m t q) rest (if keeps then Operand bits ∷ rest else rest) bits)
+      element_done original index at e places = at_element step.Done (stored old at (word 0 bits) keeps q) rest bits original index (in_order b c).0 (follow (here m t q) (in_order b c).0) refl e
+          (λ n z home has. element_made n index original at has (places n home has) (plain_two (here m t q) b c (AtElement n index) bits z op))
+
+      pub element_not : (original index : ℕ) (r : Step) (new : Cpu) → new ≡ old → EndMeets (here_scene x old plan s m t o h runs) q (Ok (end.Element original index)) (follow (here m t q) (in_order b c).0)
+          → ((n : ℕ) → original ≡ plan.home m.setting.number n → HasElement m.course.job n index → ElementAt x plan m n original index (Err r))
+          → EntersOrMeets x plan s m r old new (enters_at (follow (here m t q) (in_order b c).0)) (follow (here m t q) (in_order b c).0 >>= store_at (here m t q) rest (if keeps then Operand bits ∷ rest else rest) bits)
+      element_not original index r new same e places = at_element r new rest bits original index (in_order b c).0 (follow (here m t q) (in_order b c).0) refl e
+          (λ n z home has. element_refused n index original r new same home (places n home has))

@@ -1,0 +1,48 @@
+use Rattle.std.proofs.Common.{Ok, Err, sym, subst, ◌∙◌}
+use Rattle.std.proofs.lemmas.Bool.{not-true}
+use Rattle.std.proofs.lemmas.Option.{none-some}
+use Rattle.b67_model.specs.Chase.{follow}
+use Rattle.b67_layout.specs.Meets.{here}
+use Rattle.b67_fetch.proofs.Values.{here_scene, here_shown, followed_stands, finds_end}
+use Rattle.b67_fetch.specs.Indexes.{FindsArray}
+use Rattle.b67_model.specs.Arrays.{array_of}
+use Rattle.b67_fetch.proofs.Found.{found_end, found_fault, desc, desc_is, row_found}
+use Rattle.b67_fetch.proofs.indexing.array_of.Goals as goal
+
+pub chase-requires : goal.chase-requires
+chase-requires c =
+    let q = c.requires.runs in
+    let f = c.requires.followed in (
+      here_scene q.storage c.args.cpu.now q.plan q.session q.member q.task q.ordered q.stands q.running,
+      here_shown q.storage c.args.cpu.now q.plan q.session q.member q.task q.ordered q.stands q.running,
+      f.at,
+      f.owner,
+      c.requires.word,
+      followed_stands q.storage c.args.cpu.now q.plan q.session q.member q.task q.ordered q.stands q.running c.args.w c.requires.word f,
+    )
+
+pub returns-in-Ok : goal.returns-in-Ok
+returns-in-Ok c = λ x plan s m t o h runs q v i.
+    (let e = c.in-Ok.ensures (here_scene x c.args.cpu.now plan s m t o h runs) q (here_shown x c.args.cpu.now plan s m t o h runs) i.at i.owner v (followed_stands x c.args.cpu.now plan s m t o h runs c.args.w v i) in
+    subst (λ z. FindsArray plan m z (array_of (here m t q) v)) (sym c.array_in.ensures)
+    (found_end x plan m t q c.args.cpu.now.core c.args.w v c.in-Ok.end i (λ z. c.if-tag-ne5.true (c.tag.ensures.value ∙ z))
+    (finds_end x c.args.cpu.now plan s m t o h runs q (Ok c.in-Ok.end) (follow (here m t q) v) e)))
+
+pub returns-in-Err : goal.returns-in-Err
+returns-in-Err c = λ x plan s m t o h runs q v i.
+    found_fault x plan m t q c.args.cpu.now.core c.args.w v c.in-Err.fault i (λ z. c.if-tag-ne5.true (c.tag.ensures.value ∙ z))
+    (finds_end x c.args.cpu.now plan s m t o h runs q (Err c.in-Err.fault) (follow (here m t q) v) (c.in-Err.ensures (here_scene x c.args.cpu.now plan s m t o h runs) q (here_shown x c.args.cpu.now plan s m t o h runs) i.at i.owner v (followed_stands x c.args.cpu.now plan s m t o h runs c.args.w v i)))
+
+pub unreachable-requires : goal.unreachable-requires
+unreachable-requires c =
+    let q = c.requires.runs in
+    let d = desc q.storage c.args.cpu.now q.plan q.session q.member q.task q.ordered q.stands q.running c.args.w c.requires.word c.requires.followed (sym c.tag.ensures.value ∙ c.if-tag-ne5.false) in
+    none-some d.0 (sym c.in-None.is ∙ c.from_word.ensures.known d.0 d.1 d.2)
+
+pub returns-then-not-copy : goal.returns-then-not-copy
+returns-then-not-copy c = λ x plan s m t o h runs q v i.
+    (let d = c.in-Some.copy in
+    let five = sym c.tag.ensures.value ∙ c.if-tag-ne5.false in
+    let told = c.in-Some.ensures.some in
+    let is = desc_is x c.args.cpu.now plan s m t o h runs c.args.w v i five d told.0 told.1 (λ e fits same. sym c.in-Some.is ∙ c.from_word.ensures.known e fits same) in
+    row_found x c.args.cpu.now plan s m t o h runs c.args.w v i five q d c.owner.result is c.if-copy.true (not-true d.indexed c.if-not-copy.true) c.owner.ensures)

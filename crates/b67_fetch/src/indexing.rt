@@ -1,0 +1,163 @@
+//! Operators that index arrays.
+
+ghost use Rattle.std.specs.Prelude.{◌≡◌, ℕ, ◌+◌, ◌<◌, ◌≤◌, OnOk};
+ghost use Rattle.b67_word.specs.declared.couples.Place.{Place};
+ghost use Rattle.b67_model.specs.Words as words;
+ghost use Rattle.b67_model.specs.Words.{Element, operand};
+ghost use Rattle.b67_model.specs.Arrays.{array_of as array_of_row, indexed as indexed_row};
+ghost use Rattle.b67_model.specs.Rows as rows;
+ghost use Rattle.b67_model.specs.Steps.{cells_of};
+ghost use Rattle.b67_arith.specs.OnWords.{bits_in};
+ghost use Rattle.b67_layout.specs.Meets.{here, Meets, RunsSome, ForEach};
+ghost use Rattle.b67_exec_cells.specs.Tops.{IsWordOf};
+ghost use Rattle.b67_exec_cells.specs.Elements.{HasElement, HoldsElement};
+ghost use Rattle.b67_fetch.specs.Fetches.{IsFollowed, MayFollow};
+ghost use Rattle.b67_fetch.specs.Indexes.{array_in, FindsArray, index_in, FindsItem, FindsTopItem};
+
+use b67_exec_cells::{replace_cells, two_cells};
+use b67_ctl::DataDesc;
+use b67_exec_cells::elements::descriptor;
+use crate::loading::put_element;
+use b67_refer::{End, chase, owner};
+use b67_stack::{Cpu, Step};
+use b67_word::{Fault, Place, Word};
+
+/// The original's address of the array at an end. INVALID OPERAND at any other end.
+fn array_in(end: End) -> Result<u32, Fault>
+    ensures { result ≡ array_in end }
+{
+    match end {
+        End::Array(original) => Ok(original),
+        End::Cell(_) | End::Element { .. } | End::Proc(_) | End::Intrinsic(_) => {
+            Err(Fault::InvalidOperand)
+        }
+    }
+}
+
+/// The original's address of the array that a reference or a row copy leads to. The faults of `chase`; INVALID OPERAND for
+/// any other word, and where a reference ends elsewhere.
+fn array_of(cpu: &Cpu, w: Word) -> Result<u32, Fault>
+    requires { MayFollow cpu.now w }
+    ensures { ForEach cpu.now (λ x plan s m t. (q : Place) (v : words.Word) → IsFollowed x plan m t w v → FindsArray plan m result (array_of_row (here m t q) v)) }
+{
+    if w.tag() != 5 {
+        return match chase(&cpu.core, &cpu.regs, &cpu.display, w) {
+            Ok(end) => array_in(end),
+            Err(fault) => Err(fault),
+        };
+    }
+    match DataDesc::from_word(w) {
+        Some(copy) => {
+            if copy.copy && !copy.indexed {
+                Ok(owner(&cpu.core, copy))
+            } else {
+                Err(Fault::InvalidOperand)
+            }
+        }
+        None => unreachable!(),
+    }
+}
+
+/// The index that an operand is in an array of so many elements. EXPONENT where it isn't whole, INVALID INDEX where it is
+/// none of them.
+fn index_below(index: Word, length: u32) -> Result<u32, Fault>
+    requires { index.tag ≡ 0 }
+    ensures { result ≡ index_in length index.bits }
+{
+    let n = match index.value() {
+        Some(n) => n,
+        None => return Err(Fault::Exponent),
+    };
+    if n < 0 || n >= i64::from(length) {
+        return Err(Fault::InvalidIndex);
+    }
+    Ok(n as u32)
+}
+
+/// The original and the index of the element that a word's array and an operand give. INVALID OPERAND where the index is
+/// none, the faults of `array_of`, those of `index_below`.
+fn item_at(cpu: &Cpu, reference: Word, index: Word) -> Result<(u32, u32), Fault>
+    requires { MayFollow cpu.now reference }
+    ensures { ForEach cpu.now (λ x plan s m t. (q : Place) (v i : words.Word) → IsFollowed x plan m t reference v → bits_in index ≡ operand i
+        → FindsItem plan m result (indexed_row (here m t q) v i)) }
+{
+    if index.tag() != 0 {
+        return Err(Fault::InvalidOperand);
+    }
+    let original = match array_of(cpu, reference) {
+        Ok(original) => original,
+        Err(fault) => return Err(fault),
+    };
+    match index_below(index, descriptor(cpu, original).length) {
+        Ok(n) => Ok((original, n)),
+        Err(fault) => Err(fault),
+    }
+}
+
+/// The element that the two top cells give, in either order. STACK UNDERFLOW, the faults of `item_at`.
+fn top_item(cpu: &Cpu) -> Result<(u32, u32), Fault>
+    requires { RunsSome cpu.now }
+    ensures item { ForEach cpu.now (λ x plan s m t. (q : Place) → FindsTopItem plan m (here m t q) (cells_of (here m t q)) result) }
+    ensures above { OnOk result (cpu.now.regs.f + 2 ≤ cpu.now.regs.s) }
+{
+    let (lower, upper) = match two_cells(cpu) {
+        Ok(words) => words,
+        Err(fault) => return Err(fault),
+    };
+    if upper.tag() == 0 {
+        item_at(cpu, lower, upper)
+    } else {
+        item_at(cpu, upper, lower)
+    }
+}
+
+/// The word of a copy of an array's descriptor, of one element.
+fn item_copy(cpu: &Cpu, original: u32, index: u32) -> Word
+    requires { HoldsElement cpu.now original index }
+    ensures { ForEach cpu.now (λ x plan s m t. (n at : ℕ) → original ≡ plan.home m.setting.number n → HasElement m.course.job n index → IsWordOf x plan m t (Element n index) at result) }
+{
+    let desc = descriptor(cpu, original);
+    if desc.present {
+        DataDesc {
+            copy: true,
+            indexed: true,
+            length: index,
+            ..desc
+        }
+        .word()
+    } else {
+        DataDesc {
+            copy: true,
+            indexed: true,
+            length: index,
+            address: original,
+            ..desc
+        }
+        .word()
+    }
+}
+
+/// INDX: an element's copy of its array's descriptor, in the place of the two top cells, goes on at `next`.
+pub fn indx(cpu: &mut Cpu, next: Place) -> Step
+    requires { RunsSome cpu.old }
+    ensures row { ForEach cpu.old (λ x plan s m t. let h = here m t next in Meets x plan s m result cpu.old cpu.new (rows.indx h (cells_of h))) }
+{
+    match top_item(cpu) {
+        Ok((original, index)) => {
+            let copy = item_copy(cpu, original, index);
+            replace_cells(cpu, 2, copy, next)
+        }
+        Err(fault) => Step::Fault(fault),
+    }
+}
+
+/// NXLV: an element in the place of the two top cells, goes on at `next`. Where its array is absent nothing is changed.
+pub fn nxlv(cpu: &mut Cpu, next: Place) -> Step
+    requires { RunsSome cpu.old }
+    ensures row { ForEach cpu.old (λ x plan s m t. let h = here m t next in Meets x plan s m result cpu.old cpu.new (rows.nxlv h (cells_of h))) }
+{
+    match top_item(cpu) {
+        Ok((original, index)) => put_element(cpu, 2, original, index, next),
+        Err(fault) => Step::Fault(fault),
+    }
+}

@@ -1,0 +1,103 @@
+//! Operators that store through references.
+//!
+//! Where a reference ends at a procedure the answer is `Step::Call(255)`, with nothing changed: the caller then enters it.
+
+ghost use Rattle.std.specs.Prelude.{◌≡◌, ℕ, ◌+◌, ◌-◌, ◌<◌, ◌≤◌, length, true, false};
+ghost use Rattle.b67_model.specs.Steps.{cells_of};
+ghost use Rattle.b67_model.specs.Rows as rows;
+ghost use Rattle.b67_layout.specs.Meets.{here, RunsSome, ForEach};
+ghost use Rattle.b67_exec_cells.specs.Elements.{HasElement, HoldsElement};
+ghost use Rattle.b67_fetch.specs.Fetches.{enters_at, EntersOrMeets};
+ghost use Rattle.b67_fetch.specs.Stores.{store_end, ElementAt, stored};
+
+use b67_exec_cells::two_cells;
+use b67_exec_cells::elements::descriptor;
+use b67_refer::{End, chase};
+use b67_stack::{Cpu, Step, What};
+use b67_word::{Fault, Place, Word};
+
+/// The core address of an element that is to be stored into. Else what the operator answers: MEMORY PROTECT where the
+/// array is read-only, then that it is absent.
+fn element_at(cpu: &Cpu, original: u32, index: u32) -> Result<u32, Step>
+    requires { HoldsElement cpu.now original index }
+    ensures { ForEach cpu.now (λ x plan s m t. (n : ℕ) → original ≡ plan.home m.setting.number n → HasElement m.course.job n index → ElementAt x plan m n original index result) }
+{
+    let desc = descriptor(cpu, original);
+    if desc.read_only {
+        return Err(Step::Fault(Fault::MemoryProtect));
+    }
+    if !desc.present {
+        return Err(Step::Absent(What::Array(original)));
+    }
+    Ok(desc.address + index)
+}
+
+/// Stores a word, takes the two top cells off, keeps the word in their place or not, and goes on at `next`.
+fn put(cpu: &mut Cpu, at: u32, w: Word, keeps: bool, next: Place)
+    requires at { at < length cpu.old.core }
+    requires top { cpu.old.regs.s < length cpu.old.core }
+    requires cells { 2 ≤ cpu.old.regs.s }
+    ensures { cpu.new ≡ stored cpu.old at w keeps next }
+{
+    cpu.core.set(at, w);
+    if keeps {
+        cpu.regs.s -= 1;
+        cpu.core.set(cpu.regs.s, w);
+    } else {
+        cpu.regs.s -= 2;
+    }
+    cpu.regs.place = next;
+}
+
+/// Stores the operand of the two top cells where the other one leads, and takes both off, or the other one where the
+/// operand is kept.
+fn store(cpu: &mut Cpu, keeps: bool, next: Place) -> Step
+    requires { RunsSome cpu.old }
+    ensures row { ForEach cpu.old (λ x plan s m t. let h = here m t next in EntersOrMeets x plan s m result cpu.old cpu.new (enters_at (store_end h (cells_of h))) (rows.store keeps h (cells_of h))) }
+{
+    let (lower, upper) = match two_cells(cpu) {
+        Ok(two) => two,
+        Err(fault) => return Step::Fault(fault),
+    };
+    let (reference, value) = if upper.tag() == 0 {
+        (lower, upper)
+    } else {
+        (upper, lower)
+    };
+    if value.tag() != 0 {
+        return Step::Fault(Fault::InvalidOperand);
+    }
+    let end = match chase(&cpu.core, &cpu.regs, &cpu.display, reference) {
+        Ok(end) => end,
+        Err(fault) => return Step::Fault(fault),
+    };
+    let at = match end {
+        End::Cell(at) => at,
+        End::Element { original, index } => match element_at(cpu, original, index) {
+            Ok(at) => at,
+            Err(step) => return step,
+        },
+        End::Array(_) | End::Intrinsic(_) => return Step::Fault(Fault::MemoryProtect),
+        End::Proc(_) => return Step::Call(255),
+    };
+    put(cpu, at, value, keeps, next);
+    Step::Done
+}
+
+/// Stores the operand of the two top cells where the other one leads, takes both off, and goes on at `next`. STACK
+/// UNDERFLOW, INVALID OPERAND where none of the two is an operand, the faults of references, MEMORY PROTECT where it ends
+/// at a read-only element, an array or an intrinsic. Where an element's array is absent nothing is changed.
+pub fn stod(cpu: &mut Cpu, next: Place) -> Step
+    requires { RunsSome cpu.old }
+    ensures row { ForEach cpu.old (λ x plan s m t. let h = here m t next in EntersOrMeets x plan s m result cpu.old cpu.new (enters_at (store_end h (cells_of h))) (rows.store false h (cells_of h))) }
+{
+    store(cpu, false, next)
+}
+
+/// The same, but the operand stays on the stack.
+pub fn ston(cpu: &mut Cpu, next: Place) -> Step
+    requires { RunsSome cpu.old }
+    ensures row { ForEach cpu.old (λ x plan s m t. let h = here m t next in EntersOrMeets x plan s m result cpu.old cpu.new (enters_at (store_end h (cells_of h))) (rows.store true h (cells_of h))) }
+{
+    store(cpu, true, next)
+}

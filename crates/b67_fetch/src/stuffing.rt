@@ -1,0 +1,77 @@
+//! The operator that stuffs a reference: a couple becomes the name of its cell's activation record.
+
+ghost use Rattle.std.specs.Prelude.{◌≡◌, ℕ, ◌^◌, ◌<◌};
+ghost use Rattle.b67_ctl.specs.Layout.{IsSirw};
+ghost use Rattle.b67_model.specs.InOrder.{NamesEntered};
+ghost use Rattle.b67_model.specs.Rows as rows;
+ghost use Rattle.b67_layout.specs.Meets.{here, Meets, RunsSome, ForEach};
+ghost use Rattle.b67_refer.specs.Scene.{Scene};
+ghost use Rattle.b67_refer.specs.Cells.{reach, view, frame_at_core};
+
+use b67_exec_cells::{replace_cells, top_cell};
+use b67_core::Core;
+use b67_ctl::{Irw, Regs, Sirw};
+use b67_exec_operands::go_on;
+use b67_refer::cell_of;
+use b67_stack::{Cpu, Step};
+use b67_word::{Fault, Place, couple_of};
+
+/// The stuffed reference to an offset of the activation record whose mark is at an address: in a slot, the dictionary's
+/// or the MCP's.
+fn stuffed(core: &Core, regs: &Regs, base: u32, offset: u16) -> Sirw
+    requires frame { (a : Scene core.now regs.now) × (f : ℕ) × NamesEntered (reach a) f × (base ≡ frame_at_core a f) }
+    requires offset { offset < 2 ^ 13 }
+    ensures fits { IsSirw result }
+    ensures spot { (a : Scene core.now regs.now) (f : ℕ) → NamesEntered (reach a) f → base ≡ frame_at_core a f
+        → result ≡ record { stack = (view a f).stack; disp = (view a f).disp; offset = offset } }
+{
+    if base == 0 {
+        return Sirw {
+            stack: 136,
+            disp: 0,
+            offset,
+        };
+    }
+    if base == regs.dict {
+        let job = core.get(32 + u32::from(regs.slot)).part(16, 4);
+        return Sirw {
+            stack: 127 + job as u16,
+            disp: 0,
+            offset,
+        };
+    }
+    let distance = base - regs.stacks;
+    let size = u32::from(regs.stack_size);
+    Sirw {
+        stack: (distance / size) as u16,
+        disp: (distance % size) as u16,
+        offset,
+    }
+}
+
+/// Puts the stuffed reference of the cell that the couple on top names in its place, and goes on at `next`. A stuffed
+/// one stays. STACK UNDERFLOW, INVALID OPERAND where it is no reference, INVALID ADDRESS.
+pub fn stff(cpu: &mut Cpu, next: Place) -> Step
+    requires { RunsSome cpu.old }
+    ensures row { ForEach cpu.old (λ x plan s m t. let h = here m t next in Meets x plan s m result cpu.old cpu.new (rows.on_cells (rows.stff h) h)) }
+{
+    let w = match top_cell(cpu) {
+        Ok(word) => word,
+        Err(fault) => return Step::Fault(fault),
+    };
+    if w.tag() != 1 {
+        return Step::Fault(Fault::InvalidOperand);
+    }
+    let couple = match Irw::from_word(w) {
+        Some(name) => couple_of(name.couple, cpu.regs.level),
+        None => return go_on(cpu, next),
+    };
+    match cell_of(&cpu.core, &cpu.regs, &cpu.display, couple) {
+        Ok(_) => {
+            let base = cpu.display[usize::from(couple.level)];
+            let reference = stuffed(&cpu.core, &cpu.regs, base, couple.disp);
+            replace_cells(cpu, 1, reference.word(), next)
+        }
+        Err(fault) => Step::Fault(fault),
+    }
+}

@@ -1,0 +1,61 @@
+-- The last line of a run, and its status.
+use Rattle.std.specs.Prelude.{◌≡◌, ◌≢◌, ℕ, ◌+◌, ◌≤◌, List, length, Option, Some, None, Result, Ok, Err}
+use Rattle.b67_io.specs.Line.{ended}
+use Rattle.b67_io.specs.Causes.{Rose}
+use Rattle.b67_model.specs.Schedule.{Session}
+use Rattle.b67_job_admit.specs.declared.refusal.Refusal.TheVariants as refusals
+use Rattle.b67_job_admit.specs.Told.{refusal_line}
+use Rattle.b67_session.specs.Stops.{Stop}
+use Rattle.b67_session.specs.Stops as stops
+use Rattle.b67_session_open.specs.declared.fault.OpenFault.{OpenFault}
+use Rattle.b67_session_open.specs.declared.fault.OpenFault.TheVariants as faults
+use Rattle.b67_task_tables.specs.declared.tables.Machine.{Machine}
+use Rattle.b67_session.specs.declared.slices.Progress.{Progress}
+use Rattle.b67_session.specs.declared.slices.Progress.TheVariants as progress
+use Rattle.b67_session.specs.Slices.{Slices, Over, StepsFit}
+use Rattle.b67_session_lines.specs.Stops.{halted_line}
+use Rattle.b67_session_lines.specs.Ends.{Ends}
+use Rattle.b67_job.specs.Lines.{no_core_line, backing_full_line, backing_fault_line, memory_line}
+
+-- where no session is opened
+abbrev pub refused_status : OpenFault → ℕ
+refused_status faults.Memory = 9
+refused_status (faults.NoCore need core) = 4
+refused_status (faults.BackingFull sum sectors) = 5
+refused_status faults.BackingFault = 6
+
+abbrev pub refused_line : OpenFault → List ℕ
+refused_line faults.Memory = memory_line
+refused_line (faults.NoCore need core) = no_core_line need core
+refused_line (faults.BackingFull sum sectors) = backing_full_line sum sectors
+refused_line faults.BackingFault = backing_fault_line
+
+-- how many steps a run may make: up to the halt, or else as many as the job may
+abbrev pub steps_of : Option ℕ → ℕ → ℕ
+steps_of None limit = limit
+steps_of (Some count) limit = count
+
+-- behind the steps that were made: nothing where all tasks ended or the printer failed, else a line
+abbrev pub Finishes : {K : Type 0} → (K → Option (List ℕ)) → (K → ℕ) → ℕ → ℕ → Result Progress Stop → K → K → ℕ → Type 0
+Finishes taken faults card made (Ok progress.Ended) old new answer = (answer ≡ 0) × (new ≡ old)
+Finishes taken faults card made (Ok progress.More) old new answer = (answer ≡ 0) × (new ≡ old)
+Finishes taken faults card made (Ok progress.Halted) old new answer = Ends taken faults old new 3 (ended (halted_line made)) answer
+Finishes taken faults card made (Err (stops.NoCore need core)) old new answer = Ends taken faults old new 4 (ended (no_core_line need core)) answer
+Finishes taken faults card made (Err (stops.BackingFull sum sectors)) old new answer = Ends taken faults old new 5 (ended (backing_full_line sum sectors)) answer
+Finishes taken faults card made (Err stops.BackingFault) old new answer = Ends taken faults old new 6 (ended backing_fault_line) answer
+Finishes taken faults card made (Err stops.PrintFault) old new answer = (answer ≡ 8) × (new ≡ old)
+Finishes taken faults card made (Err stops.Unbuilt) old new answer = Ends taken faults old new 2 (ended (refusal_line (refusals.Deck card 90))) answer
+
+-- the steps of a job, and then the last line. `exact` is whether it was known what the device's sectors hold, of which this
+-- is known now; `failed` is whether the device did
+pub record JobRan {K : Type 0} (taken : K → Option (List ℕ)) (faults : K → ℕ) (known : Option (List (List ℕ))) (exact failed : Type 0) (count steps card : ℕ) (first : Session) (old new : Machine) (paper paper' : K) (answer : ℕ) : Type 0 where
+  pub answered : Result Progress Stop
+  pub between : K
+  pub slices : Slices taken known exact count steps first answered old new paper between
+  pub over : answered ≡ Ok progress.Ended → Over known exact first old new
+  pub fits : exact → (n : ℕ) → new.tasks.made ≡ old.tasks.made + n → StepsFit (length old.cpu.core) n first
+  pub unprinted : answered ≢ Err stops.PrintFault → old.tasks.printed ≡ 0 → new.tasks.printed ≡ 0
+  pub finishes : Finishes taken faults card new.tasks.made answered between paper' answer
+  pub device_failed : answered ≡ Err stops.BackingFault → failed
+  pub printer_failed : answered ≡ Err stops.PrintFault → Rose faults paper between
+  pub later : faults paper ≤ faults between

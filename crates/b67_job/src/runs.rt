@@ -1,0 +1,163 @@
+//! The run of a deck over core.
+
+ghost use Rattle.std.specs.Prelude.{◌≡◌, ◌≢◌, ◌+◌, ◌<◌, ◌≤◌, ◌^◌, ℕ, List, length, map, true, Option, None};
+ghost use Rattle.std.specs.List.{AllByRecursion};
+ghost use Rattle.b67_io.specs.Line.{ended};
+ghost use Rattle.b67_io.specs.Causes.{Rose};
+ghost use Rattle.b67_codefile.specs.Meaning.{program_of};
+ghost use Rattle.b67_layout_storage.specs.Machine.{Says, retold};
+ghost use Rattle.b67_model.specs.State.{Task, Member};
+ghost use Rattle.b67_model.specs.Schedule.{Session};
+ghost use Rattle.b67_session_lines.specs.Ends.{Ends};
+ghost use Rattle.b67_session_open.specs.Decks.{DeckInRange, IsLoaded};
+ghost use Rattle.b67_session.specs.Passed.{AreCountable};
+ghost use Rattle.b67_session.specs.Slices.{LivesOn, IsLone};
+ghost use Rattle.b67_uncalled.specs.Uncalled.{uses_built};
+ghost use Rattle.b67_job.specs.Device.{device_of};
+ghost use Rattle.b67_job.specs.Finishing.{refused_status, refused_line, steps_of, Finishes, JobRan};
+ghost use Rattle.b67_job.specs.Lines.{backing_fault_line};
+ghost use Rattle.b67_job.specs.Runs.{RunEnds};
+
+use crate::lines::{backing_full_line, no_core_line, refusal_line};
+use crate::outcome::Outcome;
+use b67_job_admit::Refusal;
+use b67_backing::Backing;
+use b67_io::Sink;
+use b67_session_lines::{halted_line, line_of, say};
+use b67_load_verify::Admitted;
+use b67_session_open::{OpenFault, open};
+use b67_session::{Progress, Stop, slice};
+use b67_task_tables::Machine;
+use b67_model_text::Deck;
+use std::alloc::Global;
+
+fn say_backing_fault<K: Sink>(printer: &mut K) -> u8
+    ensures { Ends K.taken K.faults printer.old printer.new 6 (ended backing_fault_line) result }
+{
+    say(printer, 6, &line_of("BACKING FAULT"))
+}
+
+// Prints why no session is opened.
+fn refuse_opening<K: Sink>(fault: OpenFault, printer: &mut K) -> u8
+    ensures { Ends K.taken K.faults printer.old printer.new (refused_status fault) (ended (refused_line fault)) result }
+{
+    match fault {
+        OpenFault::Memory => say(printer, 9, &line_of("NO MEMORY")),
+        OpenFault::NoCore { need, core } => say(printer, 4, &no_core_line(need, core)),
+        OpenFault::BackingFull { sum, sectors } => say(
+            printer,
+            5,
+            &backing_full_line(sum, sectors),
+        ),
+        OpenFault::BackingFault => say_backing_fault(printer),
+    }
+}
+
+// Prints the last line behind the steps that were made.
+fn finish<K: Sink>(answered: Result<Progress, Stop>, card: u32, made: u64, printer: &mut K) -> u8
+    ensures { Finishes K.taken K.faults card made answered printer.old printer.new result }
+{
+    match answered {
+        Ok(Progress::Ended) => 0,
+        Ok(Progress::More) => 0,
+        Ok(Progress::Halted) => say(printer, 3, &halted_line(made)),
+        Err(Stop::NoCore { need, core }) => say(printer, 4, &no_core_line(need, core)),
+        Err(Stop::BackingFull { sum, sectors }) => say(
+            printer,
+            5,
+            &backing_full_line(sum, sectors),
+        ),
+        Err(Stop::BackingFault) => say_backing_fault(printer),
+        Err(Stop::PrintFault) => 8,
+        Err(Stop::Unbuilt) => say(
+            printer,
+            2,
+            &refusal_line(Refusal::Deck { card, reason: 90 }),
+        ),
+    }
+}
+
+// How many steps a run may make.
+fn steps_of(halt: Option<u64>, limit: u64) -> u64
+    ensures { result ≡ steps_of halt limit }
+{
+    match halt {
+        Some(count) => count,
+        None => limit,
+    }
+}
+
+// Makes the steps of a session of one job, and prints the last line.
+fn run_job<K: Sink, B: Backing>(
+    machine: &mut Machine,
+    steps: u64,
+    card: u32,
+    printer: &mut K,
+    backing: &mut B,
+) -> u8
+    requires lives { LivesOn (B.holds backing.old) machine.old }
+    requires countable { AreCountable machine.old.tasks.jobs }
+    requires same { B.size backing.old + 1 ≡ length machine.old.sectors.links }
+    ensures ran { (known : Option (List (List ℕ))) (s : Session) (m : Member) (t : Task) → Says known (B.holds backing.old) → IsLone known machine.old s m t
+        → JobRan K.taken K.faults (retold known (B.holds backing.new)) (known ≢ None) (Rose B.faults backing.old backing.new) (B.size backing.old) steps card
+        s machine.old machine.new printer.old printer.new result }
+    ensures halt { machine.new.tasks.halt ≡ machine.old.tasks.halt }
+    ensures countable { AreCountable machine.new.tasks.jobs }
+    ensures links { length machine.new.sectors.links ≡ length machine.old.sectors.links }
+    ensures size { B.size backing.new ≡ B.size backing.old }
+{
+    let answered = slice(machine, steps, backing, printer);
+    finish(answered, card, machine.tasks.made, printer)
+}
+
+/// Opens a deck's session over a core of so many words and a device, runs it to its end or to its halt, and prints its
+/// lines.
+///
+/// Status 0 is that all tasks ended, 3 that the halt's count was reached while a task lives. Else the run stops before a
+/// step, or before the first one: 4 where core is too small, 5 where the device has too few sectors, 6 where it failed, 8
+/// where the printer failed, 9 where memory was refused, and 2 where the step calls an intrinsic that isn't built. The
+/// machine is there where a session was opened; where the run stopped with a task alive it stands for the session then, and
+/// where all tasks ended for the session without a task. A printer that fails in the text of a step stops the run too, and
+/// the machine counts the bytes that it took of it.
+pub fn run_deck<K: Sink, B: Backing>(
+    alloc: Global,
+    deck: &Deck,
+    programs: &[Admitted],
+    core: u32,
+    printer: &mut K,
+    backing: &mut B,
+) -> Outcome
+    requires range { DeckInRange deck.now }
+    requires each { length programs.now ≡ length deck.now.jobs }
+    requires few { length deck.now.jobs ≤ 1 }
+    requires loaded { AllByRecursion IsLoaded programs.now }
+    requires built { AllByRecursion (λ f. uses_built (program_of f) ≡ true) programs.now }
+    requires core_low { 256 ≤ core }
+    requires core_high { core < 2 ^ 20 }
+    ensures { RunEnds K.taken K.faults (device_of B.holds B.size B.faults backing.old backing.new) core (deck.now, map program_of programs.now)
+        result.machine printer.old printer.new result.status }
+{
+    let mut machine = match open(alloc, deck, programs, core, backing) {
+        Ok(machine) => machine,
+        Err(fault) => {
+            return Outcome {
+                status: refuse_opening(fault, printer),
+                machine: None,
+            };
+        }
+    };
+    match deck.jobs.as_slice() {
+        [] => Outcome {
+            status: 0,
+            machine: Some(machine),
+        },
+        [job, ..] => {
+            let steps = steps_of(deck.halt, job.limit);
+            let status = run_job(&mut machine, steps, job.body_card, printer, backing);
+            Outcome {
+                status,
+                machine: Some(machine),
+            }
+        }
+    }
+}

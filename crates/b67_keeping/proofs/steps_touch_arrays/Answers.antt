@@ -1,5 +1,0 @@
-use Rattle.b67_keeping.proofs.Laws.{touches_arrays}
-use Rattle.b67_keeping.proofs.steps_touch_arrays.Goals as goal
-
-pub returns : goal.returns
-returns c = touches_arrays

@@ -1,0 +1,107 @@
+-- The laws: what a row keeps, and which array a step touches.
+use Rattle.std.proofs.Common.{◌≡◌, ℕ, true, false, not, List, [], ◌∷◌, ◌++◌, map, filter, Some, Ok, Err, refl, inl, inr, ◌==◌}
+use Rattle.std.specs.List.{list_any}
+use Rattle.b67_word.specs.declared.couples.Place.{Place}
+use Rattle.b67_model.specs.Lists.{Has}
+use Rattle.b67_model.specs.Words as Words
+use Rattle.b67_model.specs.Words.{Word, Operand, Name, Ref, Row, Element, Original, Proc, Intrinsic}
+use Rattle.b67_model.specs.State.{Frame, Array, Task, Setting, Job, Member, Here}
+use Rattle.b67_model.specs.Operators.{Reading}
+use Rattle.b67_model.specs.Steps.{Line, Goes}
+use Rattle.b67_model.specs.Rows.{row, reading_of, step_by, step}
+use Rattle.b67_model.specs.InOrder.{Starts, IsSegment, Known, known_of, WordInOrder, EntryInOrder, FramesInOrder, TaskInOrder, TasksInOrder, JobInOrder, outer_of}
+use Rattle.b67_law_order.proofs.Members.{all_in}
+use Rattle.b67_law_order.proofs.Posts.{Post, post_err, post_at}
+use Rattle.b67_law_order_rows.proofs.Kept.{here}
+use Rattle.b67_layout_step.specs.Keeping.{RowsKeepArrays, StepsTouchArrays}
+use Rattle.b67_layout_step.proofs.Words.{Names, AllName, FramesName, Holds}
+use Rattle.b67_layout_step.proofs.Rows.{Stands, stands_in, Keeps, Source, row_good}
+
+none_gone : (new old : List Array) → ((a : Array) → Has old a → Stands new a.identity) → filter (λ (a : Array). not (list_any (λ (b : Array). b.identity == a.identity) new)) old ≡ []
+none_gone new [] all = refl
+none_gone new (a ∷ more) all = rw (all a (inl refl)) (none_gone new more (λ b k. all b (inr k)))
+
+-- nothing is said of the arrays that are touched
+abbrev Any : ℕ → Type 0
+Any n = Unit {0}
+
+any_names : (w : Word) → Names Any w
+any_names (Operand bits) = tt
+any_names (Name couple) = tt
+any_names (Ref f offset) = tt
+any_names (Row a) = tt
+any_names (Element a index) = tt
+any_names (Original a) = tt
+any_names (Proc segment level place) = tt
+any_names (Intrinsic n) = tt
+any_names (Words.Segment n) = tt
+
+any_source : (h : Here) → Source Any h.job.arrays (Unit {0}) h
+any_source h = record {
+  words = record { tasks = λ t k f m w i. any_names w; own = λ f m w i. any_names w; dictionary = λ w i. any_names w };
+  arrays = λ k n there. there;
+}
+
+pub keeps_arrays : RowsKeepArrays
+keeps_arrays op h e after printed touched is =
+    let kept = post_at (Keeps Any h.job.arrays (Unit {0})) (row op h) (Goes after printed touched) is (row_good Any h.job.arrays (Unit {0}) op h (any_source h) (λ k. e)) in
+    none_gone after.arrays h.job.arrays (λ a k. kept.1 tt a.identity (stands_in h.job.arrays a k))
+
+-- an array of the job
+abbrev pub IsOf : Job → ℕ → Type 0
+IsOf job n = (a : Array) × Has job.arrays a × (a.identity ≡ n)
+
+word_names : (P : Starts) (job : Job) (reach : List Known) (owner : ℕ) (w : Word) → WordInOrder P job.arrays reach owner w → Names (IsOf job) w
+word_names P job reach owner (Row a) g = (g.item, g.live, g.named)
+word_names P job reach owner (Element a index) g = (g.item, g.live, g.named)
+word_names P job reach owner (Original a) g = (g.item, g.live, g.named)
+word_names P job reach owner (Operand bits) g = tt
+word_names P job reach owner (Name couple) g = tt
+word_names P job reach owner (Ref f offset) g = tt
+word_names P job reach owner (Proc segment level place) g = tt
+word_names P job reach owner (Intrinsic n) g = tt
+word_names P job reach owner (Words.Segment n) g = tt
+
+entry_names : (job : Job) (w : Word) → EntryInOrder job.arrays w → Names (IsOf job) w
+entry_names job (Original a) g = (g.item, g.live, g.named)
+entry_names job (Row a) g = absurd g
+entry_names job (Element a index) g = absurd g
+entry_names job (Operand bits) g = tt
+entry_names job (Name couple) g = tt
+entry_names job (Ref f offset) g = tt
+entry_names job (Proc segment level place) g = tt
+entry_names job (Intrinsic n) g = tt
+entry_names job (Words.Segment n) g = tt
+
+frames_name : (P : Starts) (job : Job) (outer : List Known) (frames : List Frame) → FramesInOrder P job.arrays outer frames → FramesName (IsOf job) frames
+frames_name P job outer [] g f k = absurd k
+frames_name P job outer (x ∷ below) g f k = elim k [
+  | inl e ↦ λ w m. let words : AllName (IsOf job) x.cells = λ v i. word_names P job (map known_of (x ∷ below) ++ outer) x.identity v (all_in (WordInOrder P job.arrays (map known_of (x ∷ below) ++ outer) x.identity) x.cells v g.0.0 i) in
+      (rw e at words) w m
+  | inr m ↦ frames_name P job outer below g.2 f m
+]
+
+-- every word of a job in order names an array of it
+pub order_holds : (P : Starts) (setting : Setting) (job : Job) (t : Task) (next : Place) → TasksInOrder P setting job → Has job.tasks t → Holds (IsOf job) (here setting job t next)
+order_holds P setting job t next g k =
+    let each : (u : Task) → Has job.tasks u → FramesName (IsOf job) u.frames = λ u m. frames_name P job (outer_of job u) u.frames (all_in (TaskInOrder P setting job) job.tasks u g.tasks m).frames in
+    record {
+      tasks = each;
+      own = each t k;
+      dictionary = λ w m. entry_names job w (all_in (EntryInOrder job.arrays) setting.dictionary.cells w g.entries m);
+    }
+
+by_reading : (P : Starts) (setting : Setting) (job : Job) (t : Task) → TasksInOrder P setting job → Has job.tasks t → (r : Reading) → Post (Keeps (IsOf job) job.arrays (true ≡ false)) (step_by setting job t r)
+by_reading P setting job t g k (Err why) = post_err (Keeps (IsOf job) job.arrays (true ≡ false)) _
+by_reading P setting job t g k (Ok read) = row_good (IsOf job) job.arrays (true ≡ false) read.0 (here setting job t read.1) (record { words = order_holds P setting job t read.1 g k; arrays = λ e n there. there }) (λ e. absurd cc)
+
+-- the array that a step of a job in order touches
+pub step_touches : (P : Starts) (setting : Setting) (job : Job) (t : Task) → TasksInOrder P setting job → Has job.tasks t → (after : Job) (printed : List Line) (touched : ℕ) → step setting job t ≡ Ok (Goes after printed (Some touched)) → IsOf job touched
+unfolding step
+step_touches P setting job t g k after printed touched is =
+    (post_at (Keeps (IsOf job) job.arrays (true ≡ false)) (step_by setting job t (reading_of setting t)) (Goes after printed (Some touched)) is (by_reading P setting job t g k (reading_of setting t))).0
+
+pub touches_arrays : StepsTouchArrays
+touches_arrays s m t order here task after printed touched is =
+    let g = all_in (λ (x : Member). JobInOrder (IsSegment x.setting) x.setting x.course) s.jobs m order.jobs here in
+    step_touches (IsSegment m.setting) m.setting m.course.job t g.tasks task after printed touched is

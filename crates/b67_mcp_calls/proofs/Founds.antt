@@ -1,0 +1,82 @@
+-- What PRINTROW makes of the array that it found.
+use Rattle.std.proofs.Common.{◌≡◌, ◌≢◌, ℕ, ◌+◌, ◌≤◌, ℤ, List, [], ◌∷◌, map, length, Option, Some, None, Err, refl, sym, ◌∙◌, ap, arith, true, false, subst}
+use Rattle.std.specs.List.{AllByRecursion, slice_range}
+use Rattle.std.proofs.lemmas.Bool.{le-leb, false≢true}
+use Rattle.std.proofs.lemmas.Option.{none-some}
+use Rattle.std.proofs.lemmas.List.{length-reverse}
+use Rattle.b67_word.specs.Tagged.{Tagged, word}
+use Rattle.b67_word.specs.declared.couples.Place.{Place}
+use Rattle.b67_word.specs.declared.faults.Fault.TheVariants.{Exponent, CriticalBlock}
+use Rattle.b67_model.specs.Answers.{Answer, ◌>>=◌}
+use Rattle.b67_model.specs.Words.{Word, Row}
+use Rattle.b67_model.specs.Arrays.{array}
+use Rattle.b67_model.specs.State.{Frame, Task, Member, Here, height, top, below_top}
+use Rattle.b67_model.specs.Steps.{Values, Done, is_critical}
+use Rattle.b67_model.specs.Intrinsics.{is_original, answers, printrow}
+use Rattle.b67_stack.specs.Stands.{Storage}
+use Rattle.b67_layout.specs.Plan.{Plan}
+use Rattle.b67_layout.specs.Meets.{here, area_held}
+use Rattle.b67_exec_cells.specs.Elements.{HasElement}
+use Rattle.b67_exec_cells.specs.Tops.{cells}
+use Rattle.b67_mcp_calls.specs.Calls.{IsCall}
+use Rattle.b67_mcp_calls.proofs.Prints.{one}
+use Rattle.b67_mcp_calls.specs.Texts.{values_of, is_some}
+use Rattle.b67_mcp_calls.specs.RowCalls.{Copies, CopiesPresent, IsRow}
+use Rattle.b67_mcp_calls.proofs.Words.{answer_of, numbers_are}
+
+-- the values, if they are some
+pub some_of : (o : Option (List ℤ)) → is_some o ≡ true → (vs : List ℤ) × (o ≡ Some vs)
+some_of None e = absurd (false≢true e)
+some_of (Some vs) e = (vs, refl)
+
+pub none_of : (o : Option (List ℤ)) → is_some o ≡ false → o ≡ None
+none_of None e = refl
+none_of (Some vs) e = absurd (false≢true (sym e))
+
+pub two_cells : (t : Task) (r : Word) (arguments : List Word) (a : ℕ) → IsCall t r arguments → arguments ≡ Row a ∷ [] → length (cells t) ≡ 2
+two_cells t r arguments a call are = sym (length-reverse (cells t)) ∙ ap length call.cells ∙ ap (λ (ws : List Word). length (r ∷ ws)) are
+
+-- the array that was copied is the only one that the arguments can be
+pub copies_present : (x : Storage) (plan : Plan) (m : Member) (arguments : List Word) (original at : ℕ) (k : Copies plan m arguments original) → area_held x plan m.setting.number k.array ≡ Some at → CopiesPresent x plan m arguments
+copies_present x plan m arguments original at k on a e =
+    let both : Row k.array ∷ [] ≡ Row a ∷ [] = sym k.are ∙ e in
+    let same : k.array ≡ a = cc in
+    let P : ℕ → Type 0 = λ n. HasElement m.course.job n 0 × (area_held x plan m.setting.number n ≢ None) in
+    subst P same (k.some, λ none. none-some at (sym none ∙ on))
+
+lower : (fs : List Frame) → height (below_top fs) ≤ height fs
+lower [] = omega arith
+lower (f ∷ below) = omega arith
+
+module _ (plan : Plan) (m : Member) (t : Task) (r : Word) (arguments : List Word) (call : IsCall t r arguments) (original : ℕ) (c : Copies plan m arguments original)
+    (core : List Tagged) (at count : ℕ) (lies : slice_range core at (at + count) ≡ map (word 0) (array m.course.job c.array).numbers) where
+  abbrev row_by : Here → Answer (List ℤ) → Answer Done
+  row_by h a = a >>= λ vs. answers h h.job [] (Values vs ∷ []) (Some c.array)
+
+  printed : (next : Place) → printrow (here m t next) arguments ≡ row_by (here m t next) (answer_of (values_of (slice_range core at (at + count))))
+  printed next = ap (printrow (here m t next)) c.are ∙ ap (row_by (here m t next)) (numbers_are (array m.course.job c.array).numbers ∙ ap (λ (ws : List Tagged). answer_of (values_of ws)) (sym lies))
+
+  pub not_whole : is_some (values_of (slice_range core at (at + count))) ≡ false → (next : Place) → printrow (here m t next) arguments ≡ Err Exponent
+  not_whole e next = printed next ∙ ap (λ (o : Option (List ℤ)). row_by (here m t next) (answer_of o)) (none_of (values_of (slice_range core at (at + count))) e)
+
+  pub critical : is_some (values_of (slice_range core at (at + count))) ≡ true → is_critical m.course.job (top t.frames).identity ≡ true → (next : Place) → printrow (here m t next) arguments ≡ Err CriticalBlock
+  critical e z next =
+      let (vs, is) = some_of (values_of (slice_range core at (at + count))) e in
+      printed next ∙ ap (λ (o : Option (List ℤ)). row_by (here m t next) (answer_of o)) is ∙ rw z refl
+
+  pub row_is : at + count ≤ length core → is_some (values_of (slice_range core at (at + count))) ≡ true → is_critical m.course.job (top t.frames).identity ≡ false → height t.frames ≤ m.setting.stack_size → length (cells t) ≡ 2
+      → IsRow m t core arguments at count
+  row_is inside e z fits two =
+      let (vs, is) = some_of (values_of (slice_range core at (at + count))) e in
+      let low : height (below_top t.frames) ≤ m.setting.stack_size = omega (arith, lower t.frames, fits) in
+      let o = one m t r arguments call two in
+      let copy : o.argument ≡ Row c.array = (let same : o.argument ∷ [] ≡ Row c.array ∷ [] = sym o.arguments_are ∙ c.are in cc) in
+      let P : List Word → Type 0 = λ ws. AllByRecursion (λ (w : Word). is_original w ≡ false) ws in
+      record {
+        inside = inside;
+        values = vs;
+        lies = is;
+        may = record { marked = call.marked; free = z; plain = subst P (sym o.cells_are) (ap is_original copy, (call.plain, tt)) };
+        array = c.array;
+        makes = λ next. printed next ∙ ap (λ (q : Option (List ℤ)). row_by (here m t next) (answer_of q)) is ∙ rw z (rw (le-leb (height (below_top t.frames)) m.setting.stack_size low) refl);
+      }

@@ -1,0 +1,65 @@
+-- The tables of tasks and jobs don't show where an array's original stands.
+use Rattle.std.proofs.Common.{◌≡◌, ℕ, List, [], ◌∷◌, Option, Some, None, refl, sym, ◌∙◌, ap}
+use Rattle.std.specs.List.{slice_get}
+use Rattle.b67_model.specs.State.{Condition, Ready, Awaits, WaitsAt, Task, Job, Member}
+use Rattle.b67_model.specs.Schedule.{Session}
+use Rattle.b67_stack.specs.Stacks.{Spot}
+use Rattle.b67_layout.specs.Plan.{Plan, slot_of, spot_in, outer_spots, address_of}
+use Rattle.b67_layout.specs.Rows.{WaitsAtCell, TaskRow, JobRow, Counts, shown, parent_slot, critical_disp, TaskShows, JobShows, JobsShow, RunningRow, TablesShow}
+use Rattle.b67_mcp_calls.specs.Declaring.{with_home}
+use Rattle.b67_mcp_calls.proofs.Replanned.{outer_spots-there}
+
+module _ (plan : Plan) (j n at : ℕ) where
+  abbrev there : Plan
+  there = with_home plan j n at
+
+  parent-there : (i : ℕ) (parents : List ℕ) → parent_slot plan i parents ≡ parent_slot there i parents
+  parent-there i [] = refl
+  parent-there i (parent ∷ more) = refl
+
+  critical-there : (i : ℕ) (job : Job) (c : ℕ) (parents : List ℕ) → critical_disp plan i job c parents ≡ critical_disp there i job c parents
+  critical-there i job c [] = refl
+  critical-there i job c (parent ∷ more) = refl
+
+  shown-there : (i : ℕ) (job : Job) (t : Task) (d : Condition) → shown plan i job t d ≡ shown there i job t d
+  shown-there i job t Ready = refl
+  shown-there i job t (Awaits k) = refl
+  shown-there i job t (WaitsAt frame offset) =
+      let outer : outer_spots plan i job t.critical t.parents ≡ outer_spots there i job t.critical t.parents = λ z x. sym (outer_spots-there plan j n at i job t.parents t.critical x) z in
+      ap (λ (o : ℕ → Spot). WaitsAtCell (address_of plan (spot_in (slot_of plan i t.number) o t.frames frame)) offset) outer
+
+  task-there : (m : Member) (t : Task) (row : TaskRow) → TaskShows plan m t row → TaskShows there m t row
+  task-there m t row h = record {
+    job = h.job;
+    number = h.number;
+    slot = h.slot;
+    parent = h.parent ∙ parent-there m.setting.number t.parents;
+    critical = h.critical ∙ critical-there m.setting.number m.course.job t.critical t.parents;
+    state = h.state ∙ shown-there m.setting.number m.course.job t t.condition;
+    segment = h.segment;
+    place = h.place;
+  }
+
+  pub job-there : (m : Member) (row : JobRow) → JobShows plan m row → JobShows (with_home plan j n at) m row
+  job-there m row h = record { dictionary = h.dictionary; segments = h.segments; rows = h.rows; limit = h.limit; made = h.made; next_task = h.next_task; numbers = h.numbers }
+
+  jobs-there : (jobs : List Member) (rows : List JobRow) → JobsShow plan jobs rows → JobsShow there jobs rows
+  jobs-there [] [] h = h
+  jobs-there (m ∷ ms) (row ∷ rows) h = (job-there m row h.0, jobs-there ms rows h.1)
+  jobs-there [] (row ∷ rows) h = absurd h
+  jobs-there (m ∷ ms) [] h = absurd h
+
+  running-there : (o : Option TaskRow) (k : ℕ) → RunningRow plan o k → RunningRow there o k
+  running-there None k h = h
+  running-there (Some row) k h = h
+
+  pub tables-there : (s : Session) (rows : List TaskRow) (job_rows : List JobRow) (c : Counts) → TablesShow plan s rows job_rows c → TablesShow (with_home plan j n at) s rows job_rows c
+  tables-there s rows job_rows c h = record {
+    tasks = λ row i. let (m, t, a, b, e) = h.tasks row i in (m, t, a, b, task-there m t row e);
+    each = λ m t a b. let (row, i, e) = h.each m t a b in (row, i, task-there m t row e);
+    once = h.once;
+    jobs = jobs-there s.jobs job_rows h.jobs;
+    counts =
+        let o = h.counts in
+        record { quantum = o.quantum; made = o.made; turn = o.turn; last_job = o.last_job; last_number = o.last_number; switches = o.switches; next = o.next; past = o.past; running = running-there (slice_get rows c.running) c.running o.running };
+  }

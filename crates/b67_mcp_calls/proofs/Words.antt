@@ -1,0 +1,84 @@
+-- The words of a live array in core, and their values.
+use Rattle.std.proofs.Common.{◌≡◌, ℕ, zero, suc, ◌+◌, ◌-◌, ℤ, List, [], ◌∷◌, map, length, take, drop, Option, Some, None, Ok, Err, refl, sym, ◌∙◌, ap, arith, Bool, true, false, subst}
+use Rattle.std.specs.Prelude.{if◌then◌else◌}
+use Rattle.std.specs.List.{slice_get, slice_range}
+use Rattle.std.proofs.lemmas.Option.{same_Some, none-some}
+use Rattle.std.proofs.lemmas.List.{length-map}
+use Rattle.b67_word.specs.Tagged.{Tagged, word}
+use Rattle.b67_word.specs.Operands.{is_whole, number_of}
+use Rattle.b67_word.specs.declared.faults.Fault.TheVariants.{Exponent}
+use Rattle.b67_area.specs.declared.Kind.TheVariants as kind
+use Rattle.b67_model.specs.Answers.{Answer, ◌>>=◌}
+use Rattle.b67_model.specs.Words.{number}
+use Rattle.b67_model.specs.Arrays.{array}
+use Rattle.b67_model.specs.State.{Array, Task, Member}
+use Rattle.b67_model.specs.Intrinsics.{numbers_of}
+use Rattle.b67_model.specs.Run.{number_of as number_of_member}
+use Rattle.b67_model.specs.Schedule.{Session}
+use Rattle.b67_model.specs.InOrder.{IsInOrderButPlaces}
+use Rattle.b67_stack.specs.declared.Cpu.{Cpu}
+use Rattle.b67_stack.specs.Shapes.{Upward}
+use Rattle.b67_stack.specs.Picture.{tag_of}
+use Rattle.b67_stack.specs.Stands.{Storage, Content}
+use Rattle.b67_layout.specs.Plan.{Plan}
+use Rattle.b67_layout.specs.Layout.{array_thing}
+use Rattle.b67_layout.specs.Session.{IsRunning, SessionStands}
+use Rattle.b67_layout.specs.Meets.{area_held}
+use Rattle.b67_layout.proofs.Others.{keyed-has}
+use Rattle.b67_exec_cells.proofs.Replaced.{array_thing-has}
+use Rattle.b67_exec_cells.specs.Elements.{HasElement}
+use Rattle.b67_exec_cells.proofs.Arrays.{array_is}
+use Rattle.b67_mcp_calls.specs.Texts.{joined, values_of}
+
+-- the values of a row's numbers, or EXPONENT
+abbrev pub answer_of : Option (List ℤ) → Answer (List ℤ)
+answer_of None = Err Exponent
+answer_of (Some vs) = Ok vs
+
+joins : (b : Bool) (v : ℤ) (o : Option (List ℤ)) → ((if b then Ok v else Err Exponent) >>= λ n. answer_of o >>= λ ns. Ok (n ∷ ns)) ≡ answer_of (joined (if b then Some v else None) o)
+joins true v None = refl
+joins true v (Some vs) = refl
+joins false v None = refl
+joins false v (Some vs) = refl
+
+pub numbers_are : (ns : List ℕ) → numbers_of ns ≡ answer_of (values_of (map (word 0) ns))
+numbers_are [] = refl
+numbers_are (n ∷ ns) =
+    ap (λ (a : Answer (List ℤ)). number n >>= λ v. a >>= λ vs. Ok (v ∷ vs)) (numbers_are ns)
+    ∙ joins (is_whole n) (Rattle.b67_word.specs.Operands.value_of n) (values_of (map (word 0) ns))
+
+drop-get : {A : Type 0} (xs : List A) (i : ℕ) (v : A) → slice_get xs i ≡ Some v → drop i xs ≡ v ∷ drop (suc i) xs
+drop-get [] i v e = absurd (none-some v e)
+drop-get (x ∷ xs) zero v e = ap (λ y. y ∷ xs) (same_Some x v e)
+drop-get (x ∷ xs) (suc i) v e = drop-get xs i v e
+
+upward-take : (core : List Tagged) (at : ℕ) (ws : List Tagged) → Upward core at ws → take (length ws) (drop at core) ≡ ws
+upward-take core at [] u = refl
+upward-take core at (w ∷ ws) u =
+    let next : at + 1 ≡ suc at = omega arith in
+    let rest : take (length ws) (drop (suc at) core) ≡ ws = subst (λ n. take (length ws) (drop n core) ≡ ws) next (upward-take core (at + 1) ws u.1) in
+    rw (drop-get core at w u.0) (ap (λ ys. w ∷ ys) rest)
+
+upward-range : (core : List Tagged) (at n : ℕ) (ws : List Tagged) → n ≡ length ws → Upward core at ws → slice_range core at (at + n) ≡ ws
+upward-range core at n ws e u =
+    let count : at + n - at ≡ length ws = omega (arith, e) in
+    ap (λ k. take k (drop at core)) count ∙ upward-take core at ws u
+
+tag_by : (a : Array) (b : Bool) → a.writable ≡ b → tag_of (if a.writable then kind.Array else kind.Row) ≡ 0
+tag_by a true e = rw e refl
+tag_by a false e = rw e refl
+
+module _ (x : Storage) (cpu : Cpu) (plan : Plan) (s : Session) (m : Member) (t : Task) (ordered : IsInOrderButPlaces s) (h : SessionStands x cpu plan s) (runs : IsRunning plan s.jobs m t) (n : ℕ) (e : HasElement m.course.job n 0) where
+  pub row_words : (at : ℕ) → area_held x plan m.setting.number n ≡ Some at → slice_range cpu.core at (at + length (array m.course.job n).numbers) ≡ map (word 0) (array m.course.job n).numbers
+  row_words at held =
+      let thing = array_thing plan m.setting.number e.item in
+      let there = array_thing-has plan s.jobs m e.item (keyed-has number_of_member m.setting.number s.jobs m runs.member) e.live in
+      let stands = h.holds.memory.things thing there in
+      let C : Option ℕ → Type 0 = λ o. Content x cpu.core thing o (x.held thing.home).chain in
+      let area : (x.held thing.home).area ≡ Some at = ap (λ (i : ℕ). (x.held (plan.home m.setting.number i)).area) e.named ∙ held in
+      let up = (subst C area stands.content).0 in
+      let U : ℕ → Type 0 = λ g. Upward cpu.core at (map (word g) e.item.numbers) in
+      let up0 = subst U (tag_by e.item e.item.writable refl) up in
+      let one : slice_range cpu.core at (at + length e.item.numbers) ≡ map (word 0) e.item.numbers = upward-range cpu.core at (length e.item.numbers) (map (word 0) e.item.numbers) (sym (length-map e.item.numbers (word 0))) up0 in
+      let P : Array → Type 0 = λ a. slice_range cpu.core at (at + length a.numbers) ≡ map (word 0) a.numbers in
+      subst P (sym (array_is x cpu plan s m t ordered h runs n 0 e)) one

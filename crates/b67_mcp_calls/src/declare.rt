@@ -1,0 +1,77 @@
+//! ARRAYDEC.
+
+ghost use Rattle.std.specs.Prelude.{◌≡◌, ℕ, ◌+◌, ◌<◌, ◌^◌, List, ◌⊎◌, slice_get, IfOk};
+ghost use Rattle.b67_ctl.specs.Layout.{IsPlace};
+ghost use Rattle.b67_layout.specs.Session.{SessionStands};
+ghost use Rattle.b67_layout.specs.Meets.{ForEach, with_job, IsInStack};
+ghost use Rattle.b67_mcp_calls.specs.Calls.{CutSome, CallSome, IsCall, MayCut};
+ghost use Rattle.b67_model.specs.Words as words;
+ghost use Rattle.b67_mcp_calls.specs.Declaring as definition;
+ghost use Rattle.b67_mcp_calls.specs.Declaring.{job_declared, with_home, without, LengthMeets};
+
+use crate::answer::put;
+use b67_exec_cells::{count_cells, top_cell};
+use b67_ctl::DataDesc;
+use b67_entry::is_critical;
+use crate::calls::cut_call;
+use b67_stack::Cpu;
+use b67_word::{Fault, Place, Word};
+
+/// The length that a word says: INVALID OPERAND where it is no operand, EXPONENT where it isn't whole, INVALID INDEX where
+/// no array has that length.
+fn length_in(w: Word) -> Result<u32, Fault>
+    ensures value { result ≡ definition.length_in w }
+    ensures bounds { IfOk result (λ n. (0 < n) × (n < 2 ^ 16)) }
+{
+    if w.tag() != 0 {
+        return Err(Fault::InvalidOperand);
+    }
+    match w.value() {
+        Some(number) if (1..65536).contains(&number) => Ok(number as u32),
+        Some(_) => Err(Fault::InvalidIndex),
+        None => Err(Fault::Exponent),
+    }
+}
+
+/// The length of the array that a call of ARRAYDEC on the running stack declares, or the call's fault. Nothing is changed.
+pub fn array_length(cpu: &Cpu) -> Result<u32, Fault>
+    requires { CallSome cpu.now }
+    ensures row { ForEach cpu.now (λ x plan s m t. (reference : words.Word) (arguments : List words.Word) → IsCall t reference arguments → LengthMeets m t arguments result) }
+{
+    if count_cells(cpu) != 2 {
+        return Err(Fault::InvalidOperand);
+    }
+    let w = match top_cell(cpu) {
+        Ok(w) => w,
+        Err(fault) => return Err(fault),
+    };
+    let length = length_in(w);
+    if length.is_ok() && is_critical(cpu) {
+        return Err(Fault::CriticalBlock);
+    }
+    length
+}
+
+/// Cuts the call of ARRAYDEC off the running stack, and puts the original of a new array of so many zeros on the
+/// activation record below. The array is in no area and in no chain. The task goes on at a place of its segment.
+pub fn answer_array(cpu: &mut Cpu, length: u32, next: Place)
+    requires call { CutSome cpu.old }
+    requires place { IsPlace next }
+    requires some { 0 < length }
+    requires small { length < 2 ^ 16 }
+    ensures stands { ForEach cpu.old (λ x plan s m t. MayCut m t
+        → SessionStands (without x cpu.new.regs.s) cpu.new (with_home plan m.setting.number m.course.job.next_array cpu.new.regs.s) (with_job s m (job_declared m t length next))) }
+    ensures changed { ForEach cpu.old (λ x plan s m t. MayCut m t → (i : ℕ)
+        → (slice_get cpu.new.core i ≡ slice_get cpu.old.core i) ⊎ IsInStack cpu.old.regs i) }
+{
+    cut_call(cpu, next);
+    let original = DataDesc {
+        present: false,
+        copy: false,
+        indexed: false,
+        read_only: false,
+        length,
+        address: 0,
+    };
+    put(cpu, original.word());
+}

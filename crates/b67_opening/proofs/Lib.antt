@@ -1,4 +1,0 @@
-pub mod Turned
-pub mod Rows
-pub mod First
-pub mod Opens

@@ -1,2 +1,0 @@
-//! A session whose running task has other cells on top is in order: lemmas.
-#![tactic(auto)]

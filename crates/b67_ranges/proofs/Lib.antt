@@ -1,4 +1,0 @@
-pub mod Commands
-pub mod Sayings
-pub mod Jobs
-pub mod Prepared

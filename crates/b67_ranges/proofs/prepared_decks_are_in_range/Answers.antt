@@ -1,5 +1,0 @@
-use Rattle.b67_ranges.proofs.Prepared.{prepared_in_range}
-use Rattle.b67_ranges.proofs.prepared_decks_are_in_range.Goals as goal
-
-pub returns : goal.returns
-returns c = λ text d ps e. prepared_in_range text d ps e

@@ -1,2 +1,0 @@
-//! An activation record is left with a word: lemmas alone.
-#![tactic(auto)]

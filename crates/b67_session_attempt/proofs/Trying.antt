@@ -1,0 +1,142 @@
+-- What one try answers, from what the operator or the intrinsic answered.
+use Rattle.std.proofs.Common.{◌≡◌, ◌≢◌, ℕ, zero, suc, ◌+◌, List, [], ◌++◌, length, take, Option, Some, None, Ok, Err, refl, sym, ◌∙◌, ap, subst}
+use Rattle.std.proofs.lemmas.List.{append-nil}
+use Rattle.std.proofs.lemmas.Option.{none-some}
+use Rattle.b67_word.specs.declared.faults.Fault.{Fault}
+use Rattle.b67_model.specs.State.{Task, Member}
+use Rattle.b67_model.specs.Answers.{Answer}
+use Rattle.b67_model.specs.Steps.{Done, Leaves}
+use Rattle.b67_model.specs.Rows.{step}
+use Rattle.b67_model.specs.Need.{touched_of}
+use Rattle.b67_model.specs.Run.{number_of}
+use Rattle.b67_model.specs.Schedule.{Session}
+use Rattle.b67_model.specs.InOrder.{IsInOrderButPlaces}
+use Rattle.b67_stack.specs.declared.What.{What}
+use Rattle.b67_stack.specs.declared.What.TheVariants as what
+use Rattle.b67_stack.specs.declared.Step.TheVariants as answers
+use Rattle.b67_stack.specs.Stands.{Storage}
+use Rattle.b67_layout.specs.Plan.{Plan}
+use Rattle.b67_layout.specs.Session.{IsRunning}
+use Rattle.b67_layout.specs.Meets.{IsAbsent}
+use Rattle.b67_layout.proofs.Others.{keyed-has}
+use Rattle.b67_exec_cells.specs.Running.{code_area}
+use Rattle.b67_exec_cells.specs.Called.{called_in}
+use Rattle.b67_task_tables.specs.declared.tables.Machine.{Machine}
+use Rattle.b67_task_tables.specs.declared.tables.Tasks.{Tasks}
+use Rattle.b67_layout_step.proofs.Laws.{touches_arrays}
+use Rattle.b67_session_attempt.specs.Makes.{Makes, CallsOrMakes, MakesAt}
+use Rattle.b67_mcp.specs.declared.ends.Stop.{Stop}
+use Rattle.b67_mcp.specs.declared.ends.Stop.TheVariants as stops
+use Rattle.b67_mcp.specs.Called.{CallsBuilt, IsCalled, IsCut, OnlyPrinted, TouchesAbsent, CallMeets}
+use Rattle.b67_presence.specs.Bringing.{IsWanted}
+use Rattle.b67_session_attempt.specs.Tries.{IsTouched, TryMeets}
+
+-- what is wanted, and that the step touches it, where nothing has changed
+abbrev pub Wants : Storage → Plan → Member → Task → What → Machine → Machine → Type 0
+Wants x plan m t found old new = (words : ℕ) × IsWanted x plan m t found words × IsTouched plan m t found words × (new ≡ old)
+
+pub wants_array : (x : Storage) (plan : Plan) (m : Member) (t : Task) (found : What) (old new : Machine) → code_area x plan m t ≢ None → TouchesAbsent x plan m t found → new ≡ old → Wants x plan m t found old new
+wants_array x plan m t found old new code a same =
+    let W : What → Type 0 = λ f. Wants x plan m t f old new in
+    let it : Wants x plan m t (what.Array (plan.home m.setting.number a.array.identity)) old new = (
+      length a.array.numbers,
+      record { array = a.array; among = a.among; home_is = refl; absent = a.absent; words_are = refl; code = code },
+      (a.array, a.among, refl, a.touched, refl),
+      same,
+    ) in
+    subst W (sym a.named) it
+
+module _ (x : Storage) (told : Option (List (List ℕ))) (plan : Plan) (s : Session) (m : Member) (t : Task) (old new : Machine) where
+  pub was_made : (area : Option ℕ) → MakesAt x told plan s m t answers.Done old new area → Makes x told plan s m t new
+  was_made None h = let e = h.0 in absurd cc
+  was_made (Some at) h = by (called_in m t) h where
+    by : (called : Option ℕ) → CallsOrMakes x told plan s m t answers.Done old new called → Makes x told plan s m t new
+    by (Some n) h = let e = h.0 in absurd cc
+    by None h = h
+
+  pub was_built : (area : Option ℕ) → MakesAt x told plan s m t answers.Done old new area → CallsBuilt m t
+  was_built None h = let e = h.0 in absurd cc
+  was_built (Some at) h = by (called_in m t) refl h where
+    by : (called : Option ℕ) → called_in m t ≡ called → CallsOrMakes x told plan s m t answers.Done old new called → CallsBuilt m t
+    by (Some n) is h = let e = h.0 in absurd cc
+    by None is h = λ k e. absurd (none-some k (sym is ∙ e))
+
+  pub was_fault : (fault : Fault) (area : Option ℕ) → MakesAt x told plan s m t (answers.Fault fault) old new area → (step m.setting m.course.job t ≡ Err fault) × (new ≡ old)
+  was_fault fault None h = let e = h.0 in absurd cc
+  was_fault fault (Some at) h = by (called_in m t) h where
+    by : (called : Option ℕ) → CallsOrMakes x told plan s m t (answers.Fault fault) old new called → (step m.setting m.course.job t ≡ Err fault) × (new ≡ old)
+    by (Some n) h = let e = h.0 in absurd cc
+    by None h = h
+
+  pub was_ended : (area : Option ℕ) → MakesAt x told plan s m t answers.Ended old new area → (step m.setting m.course.job t ≡ Ok Leaves) × (new ≡ old)
+  was_ended None h = let e = h.0 in absurd cc
+  was_ended (Some at) h = by (called_in m t) h where
+    by : (called : Option ℕ) → CallsOrMakes x told plan s m t answers.Ended old new called → (step m.setting m.course.job t ≡ Ok Leaves) × (new ≡ old)
+    by (Some n) h = let e = h.0 in absurd cc
+    by None h = h
+
+  pub was_call : (n : ℕ) (area : Option ℕ) → code_area x plan m t ≡ area → MakesAt x told plan s m t (answers.Call n) old new area → (code_area x plan m t ≢ None) × (called_in m t ≡ Some n) × (new ≡ old)
+  was_call n None is h = let e = h.0 in absurd cc
+  was_call n (Some at) is h = by (called_in m t) refl h where
+    by : (called : Option ℕ) → called_in m t ≡ called → CallsOrMakes x told plan s m t (answers.Call n) old new called → (code_area x plan m t ≢ None) × (called_in m t ≡ Some n) × (new ≡ old)
+    by (Some k) at_k h = (λ none. (let e : None ≡ Some at = sym none ∙ is in absurd cc), (let e = h.0 in cc), h.1)
+    by None at_k h = absurd h
+
+  module _ (o : IsInOrderButPlaces s) (runs : IsRunning plan s.jobs m t) where
+    touches : (found : What) → IsAbsent x plan m found (step m.setting m.course.job t) → TouchesAbsent x plan m t found
+    touches found a =
+        let T : Answer Done → Option ℕ = touched_of m.setting m.course.job t in
+        let (array, among, named) = touches_arrays s m t o (keyed-has number_of m.setting.number s.jobs m runs.member) (keyed-has (λ (u : Task). u.number) t.number m.course.job.tasks t runs.task) a.job [] a.touched a.is in
+        let H : ℕ → ℕ = plan.home m.setting.number in
+        record {
+          array = array;
+          among = among;
+          touched = ap T a.is ∙ ap Some (sym named);
+          absent = ap (λ (i : ℕ). (x.held (H i)).area) named ∙ a.absent;
+          named = a.named ∙ ap (λ (i : ℕ). what.Array (H i)) (sym named);
+        }
+
+    pub was_absent : (found : What) (area : Option ℕ) → code_area x plan m t ≡ area → MakesAt x told plan s m t (answers.Absent found) old new area → Wants x plan m t found old new
+    was_absent found None is h =
+        let named : found ≡ what.Code (t.segment + 1) = (let e = h.0 in cc) in
+        let W : What → Type 0 = λ f. Wants x plan m t f old new in
+        let it : Wants x plan m t (what.Code (t.segment + 1)) old new = (0, (refl, is, refl), tt, h.1) in
+        subst W (sym named) it
+    was_absent found (Some at) is h = by (called_in m t) h where
+      by : (called : Option ℕ) → CallsOrMakes x told plan s m t (answers.Absent found) old new called → Wants x plan m t found old new
+      by (Some n) h = let e = h.0 in absurd cc
+      by None h = wants_array x plan m t found old new (λ none. (let e : None ≡ Some at = sym none ∙ is in absurd cc)) (touches found h.0) h.1
+
+-- an operator prints nothing
+nothing_left : (n : ℕ) → take {A = ℕ} n [] ++ [] ≡ []
+nothing_left zero = refl
+nothing_left (suc n) = refl
+
+pub called_made : {K : Type 0} (taken : K → Option (List ℕ)) (paper : K) (x : Storage) (told : Option (List (List ℕ))) (plan : Plan) (s : Session) (m : Member) (t : Task) (old new : Machine) → CallsBuilt m t → new.tasks ≡ old.tasks → Makes x told plan s m t new
+    → IsCalled taken paper paper told s m t old.tasks.printed new
+called_made taken paper x told plan s m t old new built tables h = record {
+  job = h.job;
+  printed = [];
+  touched = h.touched;
+  is = h.is;
+  built = built;
+  storage = h.storage;
+  plan = plan;
+  stands = h.stands;
+  text = record { rest = []; took = record { told = λ before e. e ∙ ap Some (sym (append-nil before)) }; same = nothing_left old.tasks.printed };
+  reset = ap (λ (k : Tasks). k.printed) tables;
+}
+
+-- an intrinsic's call is the try's
+pub called_so : {K : Type 0} (taken : K → Option (List ℕ)) (told : Option (List (List ℕ))) (s : Session) (m : Member) (t : Task) (first old new : Machine) (paper paper' : K) → old ≡ first → IsCalled taken paper paper' told s m t old.tasks.printed new → IsCalled taken paper paper' told s m t first.tasks.printed new
+called_so taken told s m t first old new paper paper' same h = let P : Machine → Type 0 = λ k. IsCalled taken paper paper' told s m t k.tasks.printed new in subst P same h
+
+-- an intrinsic's stop is the try's
+pub stops_so : {K : Type 0} (taken : K → Option (List ℕ)) (x : Storage) (told : Option (List (List ℕ))) (plan : Plan) (s : Session) (m : Member) (t : Task) (n : ℕ) (stop : Stop) (first old new : Machine) (paper paper' : K) → called_in m t ≡ Some n → old ≡ first
+    → CallMeets taken x told plan s m t n (Err stop) old new paper paper' → TryMeets taken x told plan s m t (Err stop) first new paper paper'
+stops_so taken x told plan s m t n stops.PrintFault first old new paper paper' called same h =
+    let P : Machine → Type 0 = λ k. IsCut taken paper paper' m t k.tasks.printed new.tasks.printed × OnlyPrinted k new in subst P same h
+stops_so taken x told plan s m t n stops.Unbuilt first old new paper paper' called same h = (n, called, h.0, h.1 ∙ same, h.2)
+stops_so taken x told plan s m t n (stops.NoCore need core) first old new paper paper' called same h = absurd h
+stops_so taken x told plan s m t n (stops.BackingFull sum sectors) first old new paper paper' called same h = absurd h
+stops_so taken x told plan s m t n stops.BackingFault first old new paper paper' called same h = absurd h

@@ -1,0 +1,133 @@
+use Rattle.std.proofs.Common.{◌∙◌, ◌≡◌, ℕ, List, length, Option, Err, sym, subst, refl}
+use Rattle.b67_model.specs.Schedule.{Session}
+use Rattle.b67_stack.specs.declared.Step.TheVariants as answers
+use Rattle.b67_stack.specs.Stands.{Storage}
+use Rattle.b67_layout.specs.Plan.{Plan}
+use Rattle.b67_exec_cells.specs.Running.{code_area}
+use Rattle.b67_task_tables.specs.declared.tables.Machine.{Machine}
+use Rattle.b67_task_tables.specs.Tables.{MachineStands}
+use Rattle.b67_session_attempt.specs.Tries.{TryFits}
+use Rattle.b67_session_attempt.proofs.Trying.{wants_array, was_made, was_built, was_fault, was_ended, was_call, was_absent, called_made, called_so, stops_so}
+use Rattle.b67_session_attempt.proofs.AttemptFits.{was_operator, fault_touches, leaves_touches, made_touches, operator_fits, call_fits, fault_fits, stop_fits}
+use Rattle.b67_session_attempt.proofs.tries.try_once.Goals as goal
+
+-- the machine after an operator that calls an intrinsic
+stays : (x : Storage) (told : Option (List (List ℕ))) (plan : Plan) (s : Session) (old new : Machine) → new ≡ old → MachineStands x told old plan s → MachineStands x told new plan s
+stays x told plan s old new same h = let P : Machine → Type 0 = λ k. MachineStands x told k plan s in subst P (sym same) h
+
+pub intrinsic-requires-clause-calls : goal.intrinsic-requires-clause-calls
+intrinsic-requires-clause-calls g c =
+    let r = c.requires.runs in
+    let it = was_call r.storage r.told r.plan r.session r.member r.task c.args.machine.now c.make.new.machine c.in-Call.n (code_area r.storage r.plan r.member r.task) refl (c.in-Call.ensures.row r.storage r.told r.plan r.session r.member r.task r.ordered r.stands r.running r.ready) in
+    record {
+      storage = r.storage;
+      told = r.told;
+      plan = r.plan;
+      session = r.session;
+      member = r.member;
+      task = r.task;
+      ordered = r.ordered;
+      stands = stays r.storage r.told r.plan r.session c.args.machine.now c.make.new.machine it.2 r.stands;
+      running = r.running;
+      code = it.0;
+      called = it.1;
+    }
+
+pub returns-in-Done-clause-row : goal.returns-in-Done-clause-row
+returns-in-Done-clause-row g c = λ x told plan s m t o h runs ready.
+    called_made g.K.Sink.taken c.args.paper.now x told plan s m t c.args.machine.now c.make.new.machine (was_built x told plan s m t c.args.machine.now c.make.new.machine (code_area x plan m t) (c.in-Done.ensures.row x told plan s m t o h runs ready)) c.make.ensures.tasks (was_made x told plan s m t c.args.machine.now c.make.new.machine (code_area x plan m t) (c.in-Done.ensures.row x told plan s m t o h runs ready))
+
+pub returns-in-Absent-clause-row : goal.returns-in-Absent-clause-row
+returns-in-Absent-clause-row g c = λ x told plan s m t o h runs ready.
+    let w = was_absent x told plan s m t c.args.machine.now c.make.new.machine o runs c.in-Absent.found (code_area x plan m t) refl (c.in-Absent.ensures.row x told plan s m t o h runs ready) in
+    (w.0, w.1, w.2, w.3, refl)
+
+pub returns-in-Fault-clause-row : goal.returns-in-Fault-clause-row
+returns-in-Fault-clause-row g c = λ x told plan s m t o h runs ready.
+    let w = was_fault x told plan s m t c.args.machine.now c.make.new.machine c.in-Fault.fault (code_area x plan m t) (c.in-Fault.ensures.row x told plan s m t o h runs ready) in
+    (w.0, w.1, refl)
+
+pub returns-in-Ended-clause-row : goal.returns-in-Ended-clause-row
+returns-in-Ended-clause-row g c = λ x told plan s m t o h runs ready.
+    let w = was_ended x told plan s m t c.args.machine.now c.make.new.machine (code_area x plan m t) (c.in-Ended.ensures.row x told plan s m t o h runs ready) in
+    (w.0, w.1, refl)
+
+pub returns-in-Ok-Done-clause-row : goal.returns-in-Ok-Done-clause-row
+returns-in-Ok-Done-clause-row g c = λ x told plan s m t o h runs ready.
+    let it = was_call x told plan s m t c.args.machine.now c.make.new.machine c.in-Call.n (code_area x plan m t) refl (c.in-Call.ensures.row x told plan s m t o h runs ready) in
+    let k = stays x told plan s c.args.machine.now c.make.new.machine it.2 h in
+    called_so g.K.Sink.taken told s m t c.args.machine.now c.make.new.machine c.intrinsic.new.machine c.args.paper.now c.intrinsic.new.paper it.2
+    ((rw c.in-Ok-Done.field-0-is at c.in-Ok-Done.ensures.row) x told plan s m t o k runs it.0 it.1)
+
+pub returns-in-Ok-Absent-clause-row : goal.returns-in-Ok-Absent-clause-row
+returns-in-Ok-Absent-clause-row g c = λ x told plan s m t o h runs ready.
+    let it = was_call x told plan s m t c.args.machine.now c.make.new.machine c.in-Call.n (code_area x plan m t) refl (c.in-Call.ensures.row x told plan s m t o h runs ready) in
+    let k = stays x told plan s c.args.machine.now c.make.new.machine it.2 h in
+    let r = (rw c.in-Ok-Absent.field-0-is at c.in-Ok-Absent.ensures.row) x told plan s m t o k runs it.0 it.1 in
+    let w = wants_array x plan m t c.in-Ok-Absent.found c.args.machine.now c.intrinsic.new.machine it.0 r.0 (r.1 ∙ it.2) in
+    (w.0, w.1, w.2, w.3, r.2)
+
+pub returns-in-Ok-Fault-clause-row : goal.returns-in-Ok-Fault-clause-row
+returns-in-Ok-Fault-clause-row g c = λ x told plan s m t o h runs ready.
+    let it = was_call x told plan s m t c.args.machine.now c.make.new.machine c.in-Call.n (code_area x plan m t) refl (c.in-Call.ensures.row x told plan s m t o h runs ready) in
+    let k = stays x told plan s c.args.machine.now c.make.new.machine it.2 h in
+    let r = (rw c.in-Ok-Fault.field-0-is at c.in-Ok-Fault.ensures.row) x told plan s m t o k runs it.0 it.1 in
+    (r.0, r.1 ∙ it.2, r.2)
+
+pub returns-in-Err-clause-row : goal.returns-in-Err-clause-row
+returns-in-Err-clause-row g c = λ x told plan s m t o h runs ready.
+    let it = was_call x told plan s m t c.args.machine.now c.make.new.machine c.in-Call.n (code_area x plan m t) refl (c.in-Call.ensures.row x told plan s m t o h runs ready) in
+    let k = stays x told plan s c.args.machine.now c.make.new.machine it.2 h in
+    stops_so g.K.Sink.taken x told plan s m t c.in-Call.n c.in-Err.stop c.args.machine.now c.make.new.machine c.intrinsic.new.machine c.args.paper.now c.intrinsic.new.paper it.1 it.2 (c.in-Err.ensures.row x told plan s m t o k runs it.0 it.1)
+
+pub returns-in-Done-clause-fits : goal.returns-in-Done-clause-fits
+returns-in-Done-clause-fits g c = λ x told plan s m t o h runs ready.
+    let old = c.args.machine.now in
+    let new = c.make.new.machine in
+    let row = c.in-Done.ensures.row x told plan s m t o h runs ready in
+    let is = was_operator x told plan s m t answers.Done old new (code_area x plan m t) refl (λ e. absurd cc) (λ n e. absurd cc) row in
+    operator_fits x told plan s m t o runs old h is (made_touches x told plan s m t o runs new (was_made x told plan s m t old new (code_area x plan m t) row))
+
+pub returns-in-Fault-clause-fits : goal.returns-in-Fault-clause-fits
+returns-in-Fault-clause-fits g c = λ x told plan s m t o h runs ready.
+    let old = c.args.machine.now in
+    let new = c.make.new.machine in
+    let row = c.in-Fault.ensures.row x told plan s m t o h runs ready in
+    let is = was_operator x told plan s m t (answers.Fault c.in-Fault.fault) old new (code_area x plan m t) refl (λ e. absurd cc) (λ n e. absurd cc) row in
+    operator_fits x told plan s m t o runs old h is (fault_touches x told plan s m t c.in-Fault.fault is.1 (was_fault x told plan s m t old new c.in-Fault.fault (code_area x plan m t) row).0)
+
+pub returns-in-Ended-clause-fits : goal.returns-in-Ended-clause-fits
+returns-in-Ended-clause-fits g c = λ x told plan s m t o h runs ready.
+    let old = c.args.machine.now in
+    let new = c.make.new.machine in
+    let row = c.in-Ended.ensures.row x told plan s m t o h runs ready in
+    let is = was_operator x told plan s m t answers.Ended old new (code_area x plan m t) refl (λ e. absurd cc) (λ n e. absurd cc) row in
+    operator_fits x told plan s m t o runs old h is (leaves_touches x told plan s m t (was_ended x told plan s m t old new (code_area x plan m t) row).0)
+
+pub returns-in-Ok-Done-clause-fits : goal.returns-in-Ok-Done-clause-fits
+returns-in-Ok-Done-clause-fits g c = λ x told plan s m t o h runs ready.
+    let old = c.args.machine.now in
+    let it = was_call x told plan s m t old c.make.new.machine c.in-Call.n (code_area x plan m t) refl (c.in-Call.ensures.row x told plan s m t o h runs ready) in
+    let k = stays x told plan s old c.make.new.machine it.2 h in
+    let row = (rw c.in-Ok-Done.field-0-is at c.in-Ok-Done.ensures.row) x told plan s m t o k runs it.0 it.1 in
+    let present = (rw c.in-Ok-Done.field-0-is at c.in-Ok-Done.ensures.present) x told plan s m t o k runs it.0 it.1 in
+    call_fits x told plan s m t o runs old c.in-Call.n h it.0 it.1 row.built present
+
+pub returns-in-Ok-Fault-clause-fits : goal.returns-in-Ok-Fault-clause-fits
+returns-in-Ok-Fault-clause-fits g c = λ x told plan s m t o h runs ready.
+    let old = c.args.machine.now in
+    let it = was_call x told plan s m t old c.make.new.machine c.in-Call.n (code_area x plan m t) refl (c.in-Call.ensures.row x told plan s m t o h runs ready) in
+    let k = stays x told plan s old c.make.new.machine it.2 h in
+    let row = (rw c.in-Ok-Fault.field-0-is at c.in-Ok-Fault.ensures.row) x told plan s m t o k runs it.0 it.1 in
+    let present = (rw c.in-Ok-Fault.field-0-is at c.in-Ok-Fault.ensures.present) x told plan s m t o k runs it.0 it.1 in
+    fault_fits x told plan s m t o runs old c.in-Ok-Fault.fault h it.0 row.0 present
+
+pub returns-in-Err-clause-fits : goal.returns-in-Err-clause-fits
+returns-in-Err-clause-fits g c = λ x told plan s m t o h runs ready.
+    let old = c.args.machine.now in
+    let new = c.make.new.machine in
+    let it = was_call x told plan s m t old new c.in-Call.n (code_area x plan m t) refl (c.in-Call.ensures.row x told plan s m t o h runs ready) in
+    let k = stays x told plan s old new it.2 h in
+    let F : Machine → Type 0 = λ z. TryFits (length z.cpu.core) s m t (Err c.in-Err.stop) in
+    subst F it.2 (stop_fits x told plan s m t o runs g.K.Sink.taken new c.intrinsic.new.machine c.args.paper.now c.intrinsic.new.paper c.in-Call.n c.in-Err.stop k it.0 it.1
+    (c.in-Err.ensures.row x told plan s m t o k runs it.0 it.1) (c.in-Err.ensures.present x told plan s m t o k runs it.0 it.1))

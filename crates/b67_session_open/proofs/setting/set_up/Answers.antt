@@ -1,0 +1,27 @@
+use Rattle.std.proofs.Common.{◌∙◌, map, ap, arith}
+use Rattle.b67_codefile.specs.Meaning.{program_of}
+use Rattle.std.specs.List.{slice_get}
+use Rattle.std.proofs.lemmas.List.{length-map}
+use Rattle.b67_stack.specs.declared.Cpu.{Cpu}
+use Rattle.b67_session_open.proofs.InitialOpens.{each_is, laid_out, opens, still_tells}
+use Rattle.b67_session_open.proofs.setting.set_up.Goals as goal
+
+pub returns-clause-opens : goal.returns-clause-opens
+returns-clause-opens g c =
+    opens g.B.Backing.holds
+    (record { core = c.args.core; table = c.args.sectors.now; device = c.args.backing.now })
+    (record { core = c.install_all.new.cpu.core; table = c.install_all.new.sectors; device = c.install_all.new.backing })
+    (record { core = c.lay_core-areas.new.core; regs = c.idle_registers-cpu.result; display = c.install_all.new.cpu.display; critical = c.install_all.new.cpu.critical })
+    c.lay_core-areas.result c.args.stack (map program_of c.args.programs.now)
+    c.requires.zeros (omega (arith, c.requires.inside)) c.in_ok-stacks.ensures.heads c.in_ok-stacks.ensures.writes c.install_all.ensures.spares
+    (laid_out c.install_all.new.cpu.core _ c.lay_core-areas.result c.args.stack c.in_ok-stacks.stacks _ (map program_of c.args.programs.now)
+    c.in_ok-stacks.ensures.end (omega (arith, length-map c.args.programs.now program_of, c.requires.few))
+    c.lay_core-areas.ensures.mcp c.lay_core-areas.ensures.slots c.lay_core-areas.ensures.vector c.lay_core-areas.ensures.dictionaries
+    c.lay_core-areas.ensures.areas c.lay_core-areas.ensures.directory c.lay_core-areas.ensures.len (omega (arith, c.requires.inside, c.in_ok-stacks.ensures.end, c.install_all.ensures.spares.len))
+    (λ k h. ap (λ (z : Cpu). slice_get z.critical k) c.install_all.ensures.cpu ∙ each_is 0 120 k h)
+    c.idle_registers-cpu.ensures.slot c.idle_registers-cpu.ensures.stacks c.idle_registers-cpu.ensures.size c.idle_registers-cpu.ensures.peak)
+
+pub returns-clause-tells : goal.returns-clause-tells
+returns-clause-tells g c =
+    let known = c.requires.known in
+    still_tells g.B.Backing.holds c.args.backing.now c.install_all.new.backing known.0.free (c.install_all.ensures.spares.others known.0 known.1)

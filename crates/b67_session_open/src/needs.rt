@@ -1,0 +1,95 @@
+//! The core words and the sectors that programs take when their session opens.
+
+ghost use Rattle.std.specs.Prelude.{◌≡◌, ℕ, ◌+◌, ◌*◌, ◌<◌, ◌≤◌, ◌^◌, List, length, map};
+ghost use Rattle.std.specs.List.{AllByRecursion};
+ghost use Rattle.b67_word.specs.Tagged.{contents};
+ghost use Rattle.b67_backing.specs.Held.{sectors_for as sectors_of_words};
+ghost use Rattle.b67_codefile.specs.Spelling.{IsSegment, IsRow};
+ghost use Rattle.b67_codefile.specs.Meaning.{segment_of, program_of};
+ghost use Rattle.b67_model.specs.Lists.{total};
+ghost use Rattle.b67_model.specs.State.{Segment as ModelSegment};
+ghost use Rattle.b67_model.specs.Need.{need_at_opening};
+ghost use Rattle.b67_model.specs.Sectors.{sectors};
+ghost use Rattle.b67_law_order_runs.specs.Opening.{Opening, opened_from};
+ghost use Rattle.b67_load.specs.Things.{sectors_of_program};
+ghost use Rattle.b67_session_open.specs.Opened.{dictionaries, programs_of};
+
+use crate::dictionaries::dictionary_words;
+use b67_codefile::Segment;
+use b67_load_verify::Admitted;
+use b67_word::Words;
+
+/// The core words that a session of these programs needs to open, with stacks of `stack` words: those of the MCP, all
+/// dictionaries, and one stack for each program.
+pub fn opening_need(stack: u16, programs: &[Admitted]) -> u32
+    requires few { length programs.now ≤ 8 }
+    ensures value { result ≡ 160 + dictionaries (map program_of programs.now) + length programs.now * stack }
+    ensures need { (openings : List Opening) → programs_of openings ≡ map program_of programs.now
+        → result ≡ need_at_opening stack (opened_from 1 stack openings) }
+{
+    let mut words = 160;
+    'programs: for program in programs {
+        words += dictionary_words(program);
+    }
+    words + programs.len() as u32 * u32::from(stack)
+}
+
+/// The sectors that so many words take, 30 words in each.
+fn sectors_for(words: usize) -> u32
+    requires { words < 2 ^ 16 }
+    ensures value { result ≡ sectors_of_words words }
+    ensures few { result ≤ 2185 }
+{
+    (words as u32 + 29) / 30
+}
+
+/// The sectors of segments.
+fn sectors_of_segments(segments: &[Segment]) -> u32
+    requires within { AllByRecursion IsSegment segments.now }
+    requires few { length segments.now ≤ 255 }
+    ensures value { result ≡ total (λ (s : ModelSegment). sectors_of_words (length s.code)) (map segment_of segments.now) }
+    ensures few { result ≤ length segments.now * 2185 }
+{
+    let mut sectors = 0;
+    'segments: for segment in segments {
+        sectors += sectors_for(segment.code.as_slice().len());
+    }
+    sectors
+}
+
+/// The sectors of data rows.
+fn sectors_of_rows(rows: &[Words]) -> u32
+    requires within { AllByRecursion IsRow rows.now }
+    requires few { length rows.now ≤ 255 }
+    ensures value { result ≡ total (λ (r : List ℕ). sectors_of_words (length r)) (map contents rows.now) }
+    ensures few { result ≤ length rows.now * 2185 }
+{
+    let mut sectors = 0;
+    'rows: for row in rows {
+        sectors += sectors_for(row.as_slice().len());
+    }
+    sectors
+}
+
+/// The sectors of a program.
+fn sectors_of(program: &Admitted) -> u32
+    ensures value { result ≡ sectors_of_program (program_of program.now) }
+    ensures few { result ≤ 557175 }
+{
+    let file = program.file();
+    sectors_of_segments(file.segments.as_slice()) + sectors_of_rows(file.rows.as_slice())
+}
+
+/// The sectors that the segments and data rows of these programs take.
+pub fn opening_sectors(programs: &[Admitted]) -> u32
+    requires few { length programs.now ≤ 8 }
+    ensures value { result ≡ total sectors_of_program (map program_of programs.now) }
+    ensures sum { (stack : ℕ) (openings : List Opening) → programs_of openings ≡ map program_of programs.now
+        → result ≡ sectors (opened_from 1 stack openings) }
+{
+    let mut sum = 0;
+    'programs: for program in programs {
+        sum += sectors_of(program);
+    }
+    sum
+}

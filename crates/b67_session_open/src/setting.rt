@@ -1,0 +1,102 @@
+//! The machine of a session that opens.
+
+ghost use Rattle.std.specs.Prelude.{◌≡◌, ◌+◌, ◌*◌, ◌≤◌, [], length, map, replicate, IfOk, OnOk, IfErr};
+ghost use Rattle.b67_word.specs.Tagged.{word};
+ghost use Rattle.b67_io.specs.Causes.{HasCause};
+ghost use Rattle.b67_backing.specs.Held.{Changes};
+ghost use Rattle.b67_backing.specs.Shelf.{Shelf, IsShelf};
+ghost use Rattle.b67_backing.specs.declared.refusals.SpaceFault.TheVariants.{BackingFault};
+ghost use Rattle.b67_codefile.specs.Meaning.{program_of};
+ghost use Rattle.b67_model.specs.Lists.{total};
+ghost use Rattle.b67_load.specs.Things.{sectors_of_program};
+ghost use Rattle.b67_load.specs.Resting.{stocked};
+ghost use Rattle.b67_session_open.specs.Opened.{dictionaries, things_from};
+ghost use Rattle.b67_session_open.specs.Stored.{absent_storage, told_after};
+ghost use Rattle.b67_session_open.specs.InitialOpens.{Opens};
+
+use crate::dictionaries::install_all;
+use crate::laying::lay_core;
+use b67_area::Areas;
+use b67_backing::{Backing, Sectors, SpaceFault};
+use b67_core::Core;
+use b67_ctl::Regs;
+use b67_load_verify::Admitted;
+use b67_stack::Cpu;
+use b67_word::Place;
+
+/// Core with its registers, and the areas, of a session that hasn't begun: no task runs and there is no area.
+#[derive(Drop)]
+pub struct Initial {
+    pub cpu: Cpu,
+    pub areas: Areas,
+}
+
+/// The registers where no task's registers are loaded.
+fn idle_registers(stacks: u32, stack_size: u16, peak: u8) -> Regs
+    ensures slot { result.slot ≡ 255 }
+    ensures stacks { result.stacks ≡ stacks }
+    ensures size { result.stack_size ≡ stack_size }
+    ensures peak { result.peak ≡ peak }
+{
+    let place = Place {
+        word: 0,
+        syllable: 0,
+    };
+    Regs {
+        s: 0,
+        f: 0,
+        bosr: 0,
+        losr: 0,
+        slot: 255,
+        level: 0,
+        segment: 0,
+        place,
+        dict: 0,
+        entries: 0,
+        stacks,
+        stack_size,
+        peak,
+    }
+}
+
+/// Sets up core and sectors for a session of these programs, one for each job in order, with stacks of `stack` words:
+/// the words of the MCP, each program's dictionary, and the stack of each job's first task, which waits in the slot
+/// before the job's number. Code and data rows are in sectors alone. Refused with `BackingFault` alone, where the device
+/// failed.
+pub fn set_up<B: Backing>(
+    core: Core,
+    sectors: &mut Sectors,
+    backing: &mut B,
+    stack: u16,
+    programs: &[Admitted],
+) -> Result<Initial, SpaceFault>
+    requires zeros { core ≡ replicate (length core) (word 0 0) }
+    requires stack_low { 64 ≤ stack }
+    requires few { length programs.now ≤ 8 }
+    requires inside { 160 + dictionaries (map program_of programs.now) + length programs.now * stack ≤ length core }
+    requires known { (st : Shelf) × IsShelf sectors.old st }
+    requires room { total sectors_of_program (map program_of programs.now) ≤ sectors.old.free }
+    requires same { B.size backing.old + 1 ≡ length sectors.old.links }
+    ensures opens { IfOk result (λ m. (st : Shelf) → IsShelf sectors.old st → st.chains ≡ []
+        → Opens m.areas sectors.new (told_after (B.holds backing.old) (B.holds backing.new))
+        (absent_storage m.cpu.core m.areas.low (stocked (things_from 160 (map program_of programs.now)) st) (told_after (B.holds backing.old) (B.holds backing.new)))
+        m.cpu stack (map program_of programs.now)) }
+    ensures len { IfOk result (λ m. length m.cpu.core ≡ length core) }
+    ensures tells { OnOk result (Changes B.holds backing.old backing.new (λ before after. length after ≡ length before)) }
+    ensures size { B.size backing.new ≡ B.size backing.old }
+    ensures count { length sectors.new.links ≡ length sectors.old.links }
+    ensures refusal { IfErr result (λ fault. fault ≡ BackingFault) }
+    ensures cause { HasCause B.faults backing.old backing.new result }
+{
+    let jobs = programs.len() as u8;
+    let mut cpu = Cpu {
+        core,
+        regs: idle_registers(0, stack, jobs),
+        display: [0; 32],
+        critical: [0; 120],
+    };
+    let stacks = install_all(&mut cpu, sectors, backing, programs)?;
+    cpu.regs = idle_registers(stacks, stack, jobs);
+    let areas = lay_core(&mut cpu.core, stacks, stack, jobs);
+    Ok(Initial { cpu, areas })
+}

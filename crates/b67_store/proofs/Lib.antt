@@ -1,5 +1,0 @@
-pub mod Finishes
-pub mod Cells
-pub mod Elements
-pub mod Words
-pub mod Stores

@@ -1,5 +1,0 @@
-pub mod Elements
-pub mod Homes
-pub mod Arrays
-pub mod Things
-pub mod Machine

@@ -1,0 +1,189 @@
+-- The tables of a session, as its registers are put away and come into use.
+use Rattle.std.proofs.Common.{◌≡◌, ◌≢◌, ℕ, zero, suc, ◌+◌, ◌-◌, ◌≤◌, List, [], ◌∷◌, length, Option, Some, None, refl, sym, ◌∙◌, ap, arith, inl, inr, ⊎_elim, slice_set, subst, length-set}
+use Rattle.std.specs.List.{slice_get}
+use Rattle.std.proofs.lemmas.Option.{same_Some, slice_get_within, slice_get_past}
+use Rattle.std.proofs.lemmas.Bool.{cases_eq, eq-eqb, ne_eqb}
+use Rattle.b67_core.proofs.Writes.{slice_get-set_same, slice_get-set_other}
+use Rattle.b67_word.specs.Tagged.{Tagged}
+use Rattle.b67_ctl.specs.declared.registers.Regs.{Regs}
+use Rattle.b67_model.specs.Lists.{Has}
+use Rattle.b67_model.specs.State.{Condition, Ready, Awaits, WaitsAt, Task, Job, Member}
+use Rattle.b67_model.specs.Keyed.{keyed}
+use Rattle.b67_model.specs.Run.{number_of}
+use Rattle.b67_model.specs.Schedule.{Session}
+use Rattle.b67_model.specs.InOrder.{JobInOrder, IsSegment, NumberedFrom, IsInOrderButPlaces}
+use Rattle.b67_law_order.proofs.Members.{all_in, keyed_falls}
+use Rattle.b67_stack.specs.Stands.{Storage}
+use Rattle.b67_stack.specs.Stacks.{Spot}
+use Rattle.b67_layout.specs.Plan.{Plan, slot_of, address_of}
+use Rattle.b67_layout.specs.Rows.{WaitsAtCell, TaskRow, JobRow, Counts, shown, parent_slot, critical_disp, TaskShows, JobShows, JobsShow, RunningRow, Differ, TablesShow}
+use Rattle.b67_layout.specs.Session.{RowsFit, IsRunning, SessionHolds}
+use Rattle.b67_layout.proofs.Rows.{slot_below}
+use Rattle.b67_task_switch.specs.Turns.{with_running}
+use Rattle.b67_task_switch.proofs.Replans.{spots-replan}
+use Rattle.b67_task_switch.proofs.Lists.{at_has, has_at, differ_at, same_mapped}
+
+keyed-head : {A : Type 0} (key : A → ℕ) (y : A) (more : List A) → keyed key (key y) (y ∷ more) ≡ Some y
+keyed-head key y more = rw (eq-eqb (key y) (key y) refl) refl
+
+-- a job of a session in order is the first of its number, and a task the first of its number in its job
+pub numbered_low : (n : ℕ) (jobs : List Member) (m : Member) → NumberedFrom n jobs → Has jobs m → n ≤ m.setting.number
+numbered_low n [] m d h = absurd h
+numbered_low n (y ∷ more) m d (inl e) = let P : Member → Type 0 = λ z. n ≤ z.setting.number in subst P e (omega (arith, d.0))
+numbered_low n (y ∷ more) m d (inr h) = omega (arith, numbered_low (n + 1) more m d.1 h)
+
+pub first_member : (n : ℕ) (jobs : List Member) (m : Member) → NumberedFrom n jobs → Has jobs m → keyed number_of m.setting.number jobs ≡ Some m
+first_member n [] m d h = absurd h
+first_member n (y ∷ more) m d (inl e) = let P : Member → Type 0 = λ z. keyed number_of z.setting.number (y ∷ more) ≡ Some z in subst P e (keyed-head number_of y more)
+first_member n (y ∷ more) m d (inr h) =
+    let low = numbered_low (n + 1) more m d.1 h in
+    rw (ne_eqb y.setting.number m.setting.number (λ e. omega (arith, e, d.0, low))) (first_member (n + 1) more m d.1 h)
+
+pub live_in_order : (s : Session) (m : Member) (t : Task) → IsInOrderButPlaces s → Has s.jobs m → Has m.course.job.tasks t → keyed (λ (u : Task). u.number) t.number m.course.job.tasks ≡ Some t
+live_in_order s m t o inm int =
+    let j = all_in (λ (y : Member). JobInOrder (IsSegment y.setting) y.setting y.course) s.jobs m o.jobs inm in
+    keyed_falls (λ (u : Task). u.number) m.course.job.next_task m.course.job.tasks t j.tasks.numbers int
+
+-- a row of a task, whatever registers are in use
+module _ (plan : Plan) (k : ℕ) where
+  parent_slot-replan : (j : ℕ) (parents : List ℕ) → parent_slot (with_running plan k) j parents ≡ parent_slot plan j parents
+  parent_slot-replan j [] = refl
+  parent_slot-replan j (p ∷ more) = refl
+
+  critical-replan : (j : ℕ) (job : Job) (critical : ℕ) (parents : List ℕ) → critical_disp (with_running plan k) j job critical parents ≡ critical_disp plan j job critical parents
+  critical-replan j job critical [] = refl
+  critical-replan j job critical (p ∷ more) = refl
+
+  shown-replan : (j : ℕ) (job : Job) (t : Task) (c : Condition) → shown (with_running plan k) j job t c ≡ shown plan j job t c
+  shown-replan j job t Ready = refl
+  shown-replan j job t (Awaits n) = refl
+  shown-replan j job t (WaitsAt frame offset) = ap (λ (w : Spot). WaitsAtCell (address_of plan w) offset) (spots-replan plan k j job t frame)
+
+  -- a row that is another but for segment and place
+  pub TaskShows-replan : (m : Member) (t : Task) (old row : TaskRow) → TaskShows plan m t old → row.job ≡ old.job → row.number ≡ old.number → row.slot ≡ old.slot → row.parent ≡ old.parent → row.critical ≡ old.critical → row.state ≡ old.state
+      → (row.slot ≢ k → row.segment ≡ t.segment + 1) → (row.slot ≢ k → row.place ≡ t.place) → TaskShows (with_running plan k) m t row
+  TaskShows-replan m t old row h ej en es ep ec et segment place = record {
+    job = ej ∙ h.job;
+    number = en ∙ h.number;
+    slot = es ∙ h.slot;
+    parent = ep ∙ h.parent ∙ sym (parent_slot-replan m.setting.number t.parents);
+    critical = ec ∙ h.critical ∙ sym (critical-replan m.setting.number m.course.job t.critical t.parents);
+    state = et ∙ h.state ∙ sym (shown-replan m.setting.number m.course.job t t.condition);
+    segment = segment;
+    place = place;
+  }
+
+  pub JobsShow-replan : (jobs : List Member) (rows : List JobRow) → JobsShow plan jobs rows → JobsShow (with_running plan k) jobs rows
+  JobsShow-replan [] [] h = h
+  JobsShow-replan [] (r ∷ rows) h = absurd h
+  JobsShow-replan (m ∷ more) [] h = absurd h
+  JobsShow-replan (m ∷ more) (r ∷ rows) h =
+      (record { dictionary = h.0.dictionary; segments = h.0.segments; rows = h.0.rows; limit = h.0.limit; made = h.0.made; next_task = h.0.next_task; numbers = h.0.numbers }, JobsShow-replan more rows h.1)
+
+module _ (x : Storage) (core : List Tagged) (r : Regs) (marks : List ℕ) (plan : Plan) (s : Session) (o : IsInOrderButPlaces s) (h : SessionHolds x core r marks plan s)
+    (rows : List TaskRow) (job_rows : List JobRow) (c : Counts) (shows : TablesShow plan s rows job_rows c) (few : length rows ≤ 120) where
+  is_running : (m : Member) (t : Task) → Has s.jobs m → Has m.course.job.tasks t → plan.running ≡ slot_of plan m.setting.number t.number → IsRunning plan s.jobs m t
+  is_running m t inm int e = record { member = first_member 1 s.jobs m o.numbered inm; task = live_in_order s m t o inm int; slot = e }
+
+  module _ (row : TaskRow) (at : slice_get rows c.running ≡ Some row) where
+    abbrev pub noted : TaskRow
+    noted = record row { segment = r.segment; place = r.place }
+
+    in_use : row.slot ≡ plan.running
+    in_use = let P : Option TaskRow → Type 0 = λ y. RunningRow plan y c.running in (subst P at shows.counts.running).1
+
+    -- the row shows the running task, also under the plan where its registers aren't in use
+    noted_shows : (m : Member) (t : Task) → Has s.jobs m → Has m.course.job.tasks t → TaskShows plan m t row → TaskShows (with_running plan 255) m t noted
+    noted_shows m t inm int w =
+        let stands = h.running m t (is_running m t inm int (sym in_use ∙ w.slot)) in
+        TaskShows-replan plan 255 m t row noted w refl refl refl refl refl refl (λ ne. stands.segment) (λ ne. stands.place)
+
+    other_shows : (k : ℕ) (y : TaskRow) (m : Member) (t : Task) → k ≢ c.running → slice_get rows k ≡ Some y → TaskShows plan m t y → TaskShows (with_running plan 255) m t y
+    other_shows k y m t ne at_k w =
+        let apart : y.slot ≢ plan.running = λ e. ne (differ_at (λ (z : TaskRow). z.slot) rows k c.running y row shows.once at_k at (e ∙ sym in_use)) in
+        TaskShows-replan plan 255 m t y y w refl refl refl refl refl refl (λ z. w.segment apart) (λ z. w.place apart)
+
+    abbrev pub new_rows : List TaskRow
+    new_rows = slice_set rows c.running noted
+
+    here : slice_get new_rows c.running ≡ Some noted
+    here = slice_get-set_same rows c.running noted (slice_get_within rows c.running row at)
+
+    none : slice_get new_rows 255 ≡ None
+    none = slice_get_past new_rows 255 (omega (arith, few, length-set rows c.running noted))
+
+    pub paused : TablesShow (with_running plan 255) s (slice_set rows c.running (record row { segment = r.segment; place = r.place })) job_rows (record c { running = 255 })
+    paused = record {
+      tasks = λ y in_y.
+          let (k, at_k) = has_at new_rows y in_y in
+          ⊎_elim
+          (λ (e : k ≡ c.running).
+          let same : noted ≡ y = same_Some noted y (sym here ∙ ap (slice_get new_rows) (sym e) ∙ at_k) in
+          let (m, t, inm, int, w) = shows.tasks row (at_has rows c.running row at) in
+          (m, t, inm, int, subst (λ (z : TaskRow). TaskShows (with_running plan 255) m t z) same (noted_shows m t inm int w)))
+          (λ (ne : k ≡ c.running → ⊥).
+          let old : slice_get rows k ≡ Some y = sym (slice_get-set_other rows c.running k noted ne) ∙ at_k in
+          let (m, t, inm, int, w) = shows.tasks y (at_has rows k y old) in
+          (m, t, inm, int, other_shows k y m t ne old w))
+          (cases_eq k c.running);
+      each = λ m t inm int.
+          let (y, in_y, w) = shows.each m t inm int in
+          let (k, at_k) = has_at rows y in_y in
+          ⊎_elim
+          (λ (e : k ≡ c.running).
+          let same : y ≡ row = same_Some y row (sym at_k ∙ ap (slice_get rows) e ∙ at) in
+          (noted, at_has new_rows c.running noted here, noted_shows m t inm int (subst (λ (z : TaskRow). TaskShows plan m t z) same w)))
+          (λ (ne : k ≡ c.running → ⊥). (y, at_has new_rows k y (slice_get-set_other rows c.running k noted ne ∙ at_k), other_shows k y m t ne at_k w))
+          (cases_eq k c.running);
+      once = subst Differ (sym (same_mapped (λ (z : TaskRow). z.slot) rows c.running row noted at refl)) shows.once;
+      jobs = JobsShow-replan plan 255 s.jobs job_rows shows.jobs;
+      counts = record { quantum = shows.counts.quantum; made = shows.counts.made; turn = shows.counts.turn; last_job = shows.counts.last_job; last_number = shows.counts.last_number; switches = shows.counts.switches; next = shows.counts.next; past = shows.counts.past; running = subst (λ (y : Option TaskRow). RunningRow (with_running plan 255) y 255) (sym none) (refl, refl) };
+    }
+
+  -- no registers are in use where the tables say so
+  pub rests : c.running ≡ 255 → plan.running ≡ 255
+  rests e =
+      let none : slice_get rows c.running ≡ None = ap (slice_get rows) e ∙ slice_get_past rows 255 (omega (arith, few)) in
+      let P : Option TaskRow → Type 0 = λ y. RunningRow plan y c.running in (subst P none shows.counts.running).1
+
+module _ (plan : Plan) (s : Session) (fit : RowsFit plan s.jobs) (small : plan.peak ≤ 120) (idle : plan.running ≡ 255)
+    (rows : List TaskRow) (job_rows : List JobRow) (c : Counts) (shows : TablesShow plan s rows job_rows c) where
+  -- every row says where its task goes on
+  pub goes_on : (m : Member) (t : Task) (y : TaskRow) → Has s.jobs m → Has m.course.job.tasks t → TaskShows plan m t y → (y.segment ≡ t.segment + 1) × (y.place ≡ t.place)
+  goes_on m t y inm int w =
+      let apart : y.slot ≢ plan.running = λ e. omega (arith, e, idle, w.slot, slot_below plan s.jobs m t fit inm int) in
+      (w.segment apart, w.place apart)
+
+  again : (k : ℕ) (m : Member) (t : Task) (y : TaskRow) → Has s.jobs m → Has m.course.job.tasks t → TaskShows plan m t y → TaskShows (with_running plan k) m t y
+  again k m t y inm int w =
+      let on = goes_on m t y inm int w in
+      TaskShows-replan plan k m t y y w refl refl refl refl refl refl (λ ne. on.0) (λ ne. on.1)
+
+  -- the registers of a row's task come into use
+  pub resumed : (i : ℕ) (row : TaskRow) → slice_get rows i ≡ Some row → i ≢ 255 → TablesShow (with_running plan row.slot) s rows job_rows (record c { running = i })
+  resumed i row at ne = record {
+    tasks = λ y in_y. let (m, t, inm, int, w) = shows.tasks y in_y in (m, t, inm, int, again row.slot m t y inm int w);
+    each = λ m t inm int. let (y, in_y, w) = shows.each m t inm int in (y, in_y, again row.slot m t y inm int w);
+    once = shows.once;
+    jobs = JobsShow-replan plan row.slot s.jobs job_rows shows.jobs;
+    counts = record { quantum = shows.counts.quantum; made = shows.counts.made; turn = shows.counts.turn; last_job = shows.counts.last_job; last_number = shows.counts.last_number; switches = shows.counts.switches; next = shows.counts.next; past = shows.counts.past; running = subst (λ (y : Option TaskRow). RunningRow (with_running plan row.slot) y i) (sym at) (ne, refl) };
+  }
+
+-- a job's row
+pub record JobAt (plan : Plan) (rows : List JobRow) (i : ℕ) (m : Member) : Type 0 where
+  pub row : JobRow
+  pub at : slice_get rows i ≡ Some row
+  pub shows : JobShows plan m row
+
+pub job_at : (plan : Plan) (n : ℕ) (jobs : List Member) (rows : List JobRow) (m : Member) → NumberedFrom n jobs → JobsShow plan jobs rows → Has jobs m → JobAt plan rows (m.setting.number - n) m
+job_at plan n [] rows m d h inm = absurd inm
+job_at plan n (y ∷ more) [] m d h inm = absurd h
+job_at plan n (y ∷ more) (r ∷ rows) m d h (inl e) =
+    let P : Member → Type 0 = λ z. JobAt plan (r ∷ rows) (z.setting.number - n) z in
+    let first : y.setting.number - n ≡ zero = omega (arith, d.0) in
+    subst P e (record { row = r; at = ap (slice_get (r ∷ rows)) first; shows = h.0 })
+job_at plan n (y ∷ more) (r ∷ rows) m d h (inr k) =
+    let b = job_at plan (n + 1) more rows m d.1 h.1 k in
+    let low = numbered_low (n + 1) more m d.1 k in
+    let next : m.setting.number - n ≡ suc (m.setting.number - (n + 1)) = omega (arith, low) in
+    record { row = b.row; at = ap (slice_get (r ∷ rows)) next ∙ b.at; shows = b.shows }
