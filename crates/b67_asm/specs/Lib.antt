@@ -1,5 +1,3 @@
-pub mod Bounds
-pub mod Rows
 pub mod Names
 pub mod Scope
 pub mod Putting

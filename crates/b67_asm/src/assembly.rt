@@ -9,7 +9,7 @@ use crate::block::{is_head, own_of, put_part};
 use crate::fault::AsmFault;
 use crate::names::{names_of, segments_behind};
 use crate::operator::misplaced;
-use crate::statement::lines_of;
+use b67_asm_read::lines_of;
 use b67_codefile::{Codefile, Rows, Segments};
 use b67_model_text::{Cards, Line, Named};
 use indexmap::IndexMap;

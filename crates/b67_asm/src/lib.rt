@@ -6,11 +6,9 @@ mod block;
 mod fault;
 mod lay;
 mod names;
-mod number;
 mod operator;
 mod row;
 mod segment;
-mod statement;
 #[cfg(test)]
 mod tests;
 

@@ -37,7 +37,7 @@ use Rattle.b67_layout_enter.proofs.Heads.{IsClear}
 use Rattle.b67_layout.proofs.Steps.{IsFree}
 use Rattle.b67_law_order.proofs.Members.{all_in}
 use Rattle.b67_core.proofs.Writes.{slice_get-set_other}
-use Rattle.b67_model.specs.Lists.{Has}
+use Rattle.b67_lemmas.specs.Lists.{Has}
 use Rattle.b67_entry_enter.specs.Procedures.{IsEntered}
 use Rattle.b67_entry_enter.proofs.Sites.{Site, site}
 use Rattle.b67_entry_enter.proofs.Segments.{few_segments}

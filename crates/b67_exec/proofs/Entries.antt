@@ -13,7 +13,7 @@ use Rattle.b67_model.specs.Entry.{accident, back_to}
 use Rattle.b67_model.specs.Environment.{level_of_frame}
 use Rattle.b67_model.specs.InOrder.{NamesEntered, IsInOrderButPlaces}
 use Rattle.b67_model.specs.Keyed.{change_keyed}
-use Rattle.b67_model.specs.Lists.{Has}
+use Rattle.b67_lemmas.specs.Lists.{Has}
 use Rattle.b67_model.specs.Run.{number_of}
 use Rattle.b67_model.specs.Schedule.{Session}
 use Rattle.b67_model.specs.State.{Frame, Entered, Array, Task, Job, Course, Member, top, with_top_cells, with_task, height, frame}

@@ -10,7 +10,7 @@ use Rattle.b67_model.specs.Chase.{AtProc, follow}
 use Rattle.b67_model.specs.Entry.{accident, back_to}
 use Rattle.b67_model.specs.InOrder.{Starts, Known, known_of, outer_of, is_original_of, IsSegment, CellsInOrder, FramesInOrder, IsInOrderButPlaces}
 use Rattle.b67_model.specs.Intrinsics.{is_original}
-use Rattle.b67_model.specs.Lists.{how_many}
+use Rattle.b67_lemmas.specs.Lists.{how_many}
 use Rattle.b67_model.specs.Rows as rows
 use Rattle.b67_model.specs.Schedule.{Session}
 use Rattle.b67_model.specs.State.{Frame, Array, Task, Member, top, with_task}

@@ -11,7 +11,7 @@ use Rattle.b67_word.specs.declared.couples.Place.{Place}
 use Rattle.b67_word.specs.declared.faults.Fault.TheVariants.{InvalidAddress}
 use Rattle.b67_model.specs.Answers.{Answer}
 use Rattle.b67_model.specs.Keyed.{keyed, change_keyed}
-use Rattle.b67_model.specs.Lists.{Has}
+use Rattle.b67_lemmas.specs.Lists.{Has}
 use Rattle.b67_model.specs.Words.{Word}
 use Rattle.b67_model.specs.State as State
 use Rattle.b67_model.specs.State.{Frame, Task, Job, Member, Here, top, with_top_cells, with_task, all_frames, frame, no_frame}

@@ -4,7 +4,7 @@ ghost use Rattle.std.specs.Prelude.{◌≡◌, Ok};
 ghost use Rattle.b67_ctl.specs.Layout.{IsPlace};
 ghost use Rattle.b67_model.specs.declared.operators.Op.TheVariants.{Plain};
 ghost use Rattle.b67_model.specs.Rows.{row, plain as plain_row};
-ghost use Rattle.b67_law_order_steps.specs.Profiles.{called};
+ghost use Rattle.b67_model.specs.Called.{called};
 ghost use Rattle.b67_layout.specs.Meets.{here, RunsSome, ForEach};
 ghost use Rattle.b67_entry_enter.specs.Procedures.{CallsOrMeets};
 ghost use Rattle.b67_exec.specs.Operators.{ParametersFit, OperatorMeets};

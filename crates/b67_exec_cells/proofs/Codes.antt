@@ -8,7 +8,7 @@ use Rattle.b67_area.specs.declared.Kind.TheVariants as kind
 use Rattle.b67_area.proofs.Laws.{area_inside}
 use Rattle.b67_ctl.specs.declared.descriptors.SegDesc.{SegDesc}
 use Rattle.b67_ctl.specs.Descriptors.{seg_word, IsSegDesc}
-use Rattle.b67_model.specs.Lists.{Has}
+use Rattle.b67_lemmas.specs.Lists.{Has}
 use Rattle.b67_model.specs.State.{Segment, Task, Member}
 use Rattle.b67_model.specs.Operators.{Reading, operator_at}
 use Rattle.b67_model.specs.Rows.{code_of, reading_of}

@@ -3,7 +3,7 @@ use Rattle.std.specs.Prelude.{ℕ, Option, None, Ok, Err}
 use Rattle.b67_model.specs.State.{Task, Member}
 use Rattle.b67_model.specs.Operators.{Reading}
 use Rattle.b67_model.specs.Rows.{reading_of}
-use Rattle.b67_law_order_steps.specs.Profiles.{called}
+use Rattle.b67_model.specs.Called.{called}
 use Rattle.b67_layout.specs.Meets.{here}
 
 -- the intrinsic that an operator calls that was read, if it calls one; and the operator at the running place

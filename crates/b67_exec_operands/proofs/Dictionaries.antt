@@ -12,7 +12,7 @@ use Rattle.b67_word.specs.declared.couples.Place.{Place}
 use Rattle.b67_area.specs.declared.Kind.{Kind}
 use Rattle.b67_area.specs.declared.Kind.TheVariants as kind
 use Rattle.b67_ctl.specs.Layout.{pcw_word}
-use Rattle.b67_model.specs.Lists.{Has}
+use Rattle.b67_lemmas.specs.Lists.{Has}
 use Rattle.b67_model.specs.Words.{Word, Original}
 use Rattle.b67_model.specs.State.{Array, Segment, Task, Member}
 use Rattle.b67_model.specs.Run.{number_of}

@@ -6,7 +6,7 @@ use Rattle.b67_model.specs.Arrays.{in_order}
 use Rattle.b67_model.specs.Chase.{End, follow}
 use Rattle.b67_model.specs.InOrder.{IsSegment, known_of, outer_of, FramesInOrder, WordInOrder, IsInOrderButPlaces}
 use Rattle.b67_model.specs.Intrinsics.{is_original}
-use Rattle.b67_model.specs.Lists.{Has}
+use Rattle.b67_lemmas.specs.Lists.{Has}
 use Rattle.b67_model.specs.Words as Words
 use Rattle.b67_model.specs.Words.{Word, Operand, Name, Ref, Row, Element, Original, Proc, Intrinsic, operand}
 use Rattle.b67_model.specs.Schedule.{Session}

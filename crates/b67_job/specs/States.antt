@@ -1,6 +1,6 @@
 -- The states of a run: in order, and with what made their words.
 use Rattle.std.specs.Prelude.{ℕ, ◌≤◌}
-use Rattle.b67_model.specs.Lists.{Has}
+use Rattle.b67_lemmas.specs.Lists.{Has}
 use Rattle.b67_model.specs.State.{Frame, Task, Member}
 use Rattle.b67_model.specs.Schedule.{Session}
 use Rattle.b67_model.specs.InOrder.{IsInOrder}

@@ -7,7 +7,7 @@ use Rattle.b67_word.specs.declared.faults.Ending.TheVariants.{Ended, Deadlock, L
 use Rattle.b67_model.specs.declared.operators.Op.{Op}
 use Rattle.b67_model.specs.Answers.{Answer}
 use Rattle.b67_model.specs.Keyed.{keyed, change_keyed}
-use Rattle.b67_model.specs.Lists.{Has}
+use Rattle.b67_lemmas.specs.Lists.{Has}
 use Rattle.b67_model.specs.Words.{Word}
 use Rattle.b67_model.specs.State.{Frame, Standing, Task, Setting, Job, Course, with_task}
 use Rattle.b67_model.specs.Steps.{Line, Done, Goes, Leaves, Waits}

@@ -6,7 +6,7 @@ use Rattle.b67_model.specs.declared.operators.Op.TheVariants.{Valc, Namc, Lt8, L
 use Rattle.b67_model.specs.declared.operators.Code.{Code}
 use Rattle.b67_model.specs.declared.operators.Code.TheVariants.{Add, Subt, Mult, Idiv, Rdiv, Less, Greq, Grtr, Lseq, Equl, Neql, Chsn, Land, Lor, Leqv, Lnot, Same, Exit, Indx, Retn, Entr, Nxlv, Mkst, Stff, Zero, One, Push, Dlet, Exch, Dupl, Stod, Ston, Load, Noop, Nvld}
 use Rattle.b67_model.specs.Answers.{Answer, needs}
-use Rattle.b67_model.specs.Lists.{Has}
+use Rattle.b67_lemmas.specs.Lists.{Has}
 use Rattle.b67_model.specs.Arithmetic.{Binary, add, subt, mult, idiv, rdiv, less, greq, grtr, lseq, equl, neql, land, lor, leqv, same, chsn, lnot, bset, brst, isol, insr}
 use Rattle.b67_model.specs.Words.{Word, Operand, Name, Ref, Row, Element, Original, operand, whole}
 use Rattle.b67_model.specs.State.{Frame, Standing, Marked, Entered, Task, Here, top, below_top, with_task}

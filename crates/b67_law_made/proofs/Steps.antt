@@ -3,7 +3,7 @@ use Rattle.std.proofs.Common.{◌≡◌, ℕ, zero, suc, ◌+◌, ◌-◌, Bool,
 use Rattle.std.proofs.lemmas.Bool.{cases_Bool}
 use Rattle.b67_model.specs.Answers.{Answer}
 use Rattle.b67_model.specs.Keyed.{change_keyed}
-use Rattle.b67_model.specs.Lists.{Has}
+use Rattle.b67_lemmas.specs.Lists.{Has}
 use Rattle.b67_model.specs.Words as Words
 use Rattle.b67_model.specs.Words.{Word, Operand, Name, Ref, Row, Element, Original, Proc, Intrinsic, operand, whole}
 use Rattle.b67_model.specs.State.{Frame, Standing, Marked, Entered, Return, Task, Job, Here, top, below_top, with_top_cells, with_task}

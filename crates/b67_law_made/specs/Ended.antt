@@ -5,7 +5,7 @@ use Rattle.b67_word.specs.declared.faults.Ending.TheVariants.{Faulted}
 use Rattle.b67_model.specs.declared.operators.Op.TheVariants.{Plain}
 use Rattle.b67_model.specs.declared.operators.Code.TheVariants.{Nvld}
 use Rattle.b67_model.specs.Keyed.{keyed}
-use Rattle.b67_model.specs.Lists.{Has}
+use Rattle.b67_lemmas.specs.Lists.{Has}
 use Rattle.b67_model.specs.State.{Member}
 use Rattle.b67_model.specs.Schedule.{Switch, Session}
 use Rattle.b67_model.specs.Run.{number_of, after}

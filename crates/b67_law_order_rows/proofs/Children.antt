@@ -5,7 +5,7 @@ use Rattle.std.proofs.lemmas.Bool.Decides.{eqb_tells}
 use Rattle.std.proofs.lemmas.Bool.{true≢false}
 use Rattle.b67_word.specs.declared.couples.Place.{Place}
 use Rattle.b67_model.specs.Keyed.{keyed}
-use Rattle.b67_model.specs.Lists.{Has, Falls}
+use Rattle.b67_lemmas.specs.Lists.{Has, Falls}
 use Rattle.b67_model.specs.Words as Words
 use Rattle.b67_model.specs.Words.{Word, Operand, Name, Ref, Row, Element, Original, Proc, Intrinsic}
 use Rattle.b67_model.specs.State.{Frame, Standing, Marked, Entered, Array, Ready, Task, Setting, Job, Here, frame, top, below_top, with_top_cells, height, with_task}

@@ -3,7 +3,7 @@ use Rattle.std.proofs.Common.{◌≡◌, ◌≢◌, ℕ, ◌+◌, ◌<◌, ◌�
 use Rattle.std.specs.List.{AllByRecursion}
 use Rattle.std.proofs.lemmas.List.{reverse-reverse, length-reverse}
 use Rattle.std.proofs.lemmas.Bool.Decides.{eqb_tells}
-use Rattle.b67_model.specs.Lists.{Has, how_many, Falls}
+use Rattle.b67_lemmas.specs.Lists.{Has, how_many, Falls}
 use Rattle.b67_model.specs.Words.{Word}
 use Rattle.b67_model.specs.State.{Array, Segment}
 use Rattle.b67_model.specs.Program.{segment_words, originals, row_arrays}

@@ -21,7 +21,8 @@ use Rattle.b67_model.specs.Entry.{accident, needs_level, back_to, evaluates, ent
 use Rattle.b67_model.specs.Intrinsics.{answered, print}
 use Rattle.b67_model.specs.Rows.{CellRow, on_one, on_two, dlet, exch, dupl, on_cells, branches, branch_if, stff, load_at, load, indx, nxlv, store_at, store, entr_at, entr_with, entr, plain, row}
 use Rattle.b67_law_order.proofs.Posts.{Post, post_ok, post_err, post_any, post_then, post_at}
-use Rattle.b67_law_order_steps.specs.Profiles.{Profile, profile, profiles, called_at, called_by, called_on, called, RowsKeepProfiles, PrintKeepsProfiles}
+use Rattle.b67_model.specs.Called.{called_at, called_by, called_on, called}
+use Rattle.b67_law_order_steps.specs.Profiles.{Profile, profile, profiles, RowsKeepProfiles, PrintKeepsProfiles}
 
 -- another task of the same profile in a task's place
 put : (n : ℕ) (t : Task) (ts : List Task) → keyed (λ (p : Profile). p.number) n (profiles ts) ≡ Some (profile t)

@@ -1,16 +1,13 @@
 -- What a step leaves of all tasks: their numbers, parents, critical frames and conditions; and that it makes no array.
-use Rattle.std.specs.Prelude.{◌≡◌, ℕ, List, [], ◌∷◌, map, reverse, Option, Some, None, Ok}
+use Rattle.std.specs.Prelude.{◌≡◌, ℕ, List, [], map, Option, Some, None, Ok}
 use Rattle.b67_model.specs.declared.operators.Op.{Op}
-use Rattle.b67_model.specs.declared.operators.Op.TheVariants.{Plain}
-use Rattle.b67_model.specs.declared.operators.Code.TheVariants.{Entr}
-use Rattle.b67_model.specs.Answers.{Answer}
 use Rattle.b67_model.specs.Words.{Word}
-use Rattle.b67_model.specs.State.{Standing, Marked, Condition, Task, Job, Here}
+use Rattle.b67_model.specs.State.{Condition, Task, Job, Here}
 use Rattle.b67_model.specs.Keyed.{keyed}
-use Rattle.b67_model.specs.Chase.{End, AtIntrinsic, follow_reference}
-use Rattle.b67_model.specs.Steps.{Line, Goes, top_of, cells_of}
+use Rattle.b67_model.specs.Steps.{Line, Goes}
 use Rattle.b67_model.specs.Intrinsics.{print}
 use Rattle.b67_model.specs.Rows.{row}
+use Rattle.b67_model.specs.Called.{called}
 
 pub record Profile : Type 0 where
   pub number : ℕ
@@ -23,23 +20,6 @@ profile t = record { number = t.number; parents = t.parents; critical = t.critic
 
 abbrev pub profiles : List Task → List Profile
 profiles tasks = map profile tasks
-
--- the intrinsic that an operator calls, if it is an ENTR that ends at one
-abbrev pub called_at : Answer End → Option ℕ
-called_at (Ok (AtIntrinsic n)) = Some n
-called_at _ = None
-
-abbrev pub called_by : Here → List Word → Option ℕ
-called_by h [] = None
-called_by h (r ∷ arguments) = called_at (follow_reference h r)
-
-abbrev pub called_on : Here → Standing → Option ℕ
-called_on h Marked = called_by h (reverse (cells_of h))
-called_on h _ = None
-
-abbrev pub called : Op → Here → Option ℕ
-called (Plain Entr) h = called_on h (top_of h).standing
-called _ h = None
 
 -- the task that makes the operator stands in the job as it is known
 abbrev pub IsKnown : Here → Type 0

@@ -2,7 +2,7 @@
 use Rattle.std.proofs.Common.{◌≡◌, ◌≢◌, ℕ, ◌<◌, List, [], ◌∷◌, ◌++◌, map, refl, arith, false, ◌==◌, inl, inr, subst}
 use Rattle.std.specs.List.{AllByRecursion, list_any}
 use Rattle.std.proofs.lemmas.Bool.{ne_eqb}
-use Rattle.b67_model.specs.Lists.{Has, Falls}
+use Rattle.b67_lemmas.specs.Lists.{Has, Falls}
 use Rattle.b67_model.specs.State.{Frame, Task, Setting, Job, Member}
 use Rattle.b67_model.specs.Steps.{is_critical}
 use Rattle.b67_model.specs.Run.{number_of}

@@ -13,7 +13,7 @@ use Rattle.b67_area.specs.Words.{head_word, tail_word, link_word, hole_high}
 use Rattle.b67_area.specs.Directory.{IsDirectory}
 use Rattle.b67_backing.specs.Shelf.{chain_of}
 use Rattle.b67_ctl.specs.declared.registers.Regs.{Regs}
-use Rattle.b67_model.specs.Lists.{Has}
+use Rattle.b67_lemmas.specs.Lists.{Has}
 use Rattle.b67_core.specs.Numbers.{number}
 use Rattle.b67_model.specs.State.{Entered, Ready, Task, Member}
 use Rattle.b67_model.specs.Environment.{frame_at}

@@ -4,7 +4,7 @@ use Rattle.b67_word.specs.Tagged.{Tagged, word}
 use Rattle.b67_area.specs.declared.Areas.{Areas}
 use Rattle.b67_backing.specs.Shelf.{Table, IsShelf}
 use Rattle.b67_ctl.specs.declared.registers.Regs.{Regs}
-use Rattle.b67_model.specs.Lists.{Has}
+use Rattle.b67_lemmas.specs.Lists.{Has}
 use Rattle.b67_model.specs.State.{Frame, Task, Job, Member, height}
 use Rattle.b67_model.specs.Keyed.{keyed}
 use Rattle.b67_model.specs.Environment.{level_of_frame, running, frame_at}

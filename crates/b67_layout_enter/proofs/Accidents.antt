@@ -31,7 +31,7 @@ use Rattle.b67_layout_enter.proofs.Tops.{task_on, SessionHolds-top, still_runnin
 use Rattle.b67_layout_enter.proofs.Conditions.{Shows-condition}
 use Rattle.b67_layout.proofs.Sessions.{running_only}
 use Rattle.b67_stack.specs.declared.Cpu.{Cpu}
-use Rattle.b67_model.specs.Lists.{Has}
+use Rattle.b67_lemmas.specs.Lists.{Has}
 
 -- the frame that is entered
 abbrev pub new_frame : ℕ → ℕ → ℕ → Return → Frame

@@ -7,7 +7,7 @@ use Rattle.b67_word.specs.declared.couples.Place.{Place}
 use Rattle.b67_ctl.specs.declared.registers.Regs.{Regs}
 use Rattle.b67_ctl.specs.Layout.{mscw_word, IsMscw, rcw_word}
 use Rattle.b67_core.proofs.Writes.{slice_get-set_other}
-use Rattle.b67_model.specs.Lists.{Has}
+use Rattle.b67_lemmas.specs.Lists.{Has}
 use Rattle.b67_model.specs.State.{Return}
 use Rattle.b67_stack.specs.Shapes.{Shape, Is, Original, Copy, Fits, Lie}
 use Rattle.b67_stack.specs.Stacks.{Spot, Marked, Entered, Activation, IsStack, HeadFits, top_size, high, mark_of, return_of, words}

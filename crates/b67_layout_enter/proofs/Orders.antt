@@ -5,7 +5,7 @@ use Rattle.std.specs.List.{AllByRecursion}
 use Rattle.std.proofs.lemmas.Bool.Decides.{eqb_tells}
 use Rattle.b67_word.specs.declared.couples.Place.{Place}
 use Rattle.b67_model.specs.Keyed.{keyed}
-use Rattle.b67_model.specs.Lists.{Has, Falls, total}
+use Rattle.b67_lemmas.specs.Lists.{Has, Falls, total}
 use Rattle.b67_model.specs.Words as Words
 use Rattle.b67_model.specs.Words.{Word, Operand, Name, Ref, Row, Element, Original, Proc, Intrinsic}
 use Rattle.b67_model.specs.State.{Frame, Standing, Marked, Entered, Return, Array, Ready, Task, Setting, Job, Here, top, below_top, head_words, height, with_task}

@@ -2,7 +2,7 @@
 use Rattle.std.proofs.Common.{◌≡◌, ◌≢◌, ℕ, ◌+◌, ◌<◌, ◌≤◌, ◌^◌, List, [], ◌∷◌, find, Option, Some, None, refl, sym, ◌∙◌, ap, arith, true, false, inl, inr, subst, unwrap_or}
 use Rattle.std.specs.Prelude.{option_map}
 use Rattle.std.proofs.lemmas.Bool.Decides.{eqb_tells}
-use Rattle.b67_model.specs.Lists.{Has}
+use Rattle.b67_lemmas.specs.Lists.{Has}
 use Rattle.b67_model.specs.State.{Frame, Standing, Marked, Entered, Task, Setting, Job, Member, head_words, height}
 use Rattle.b67_model.specs.Keyed.{keyed}
 use Rattle.b67_model.specs.InOrder.{IsSegment, from_frame, frames_of_task, critical_of, BirthInOrder, TaskInOrder, TasksInOrder}

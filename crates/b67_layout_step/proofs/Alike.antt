@@ -5,7 +5,7 @@ use Rattle.std.specs.List.{slice_get, list_any}
 use Rattle.std.proofs.lemmas.Bool.{cases_Bool}
 use Rattle.b67_word.specs.Tagged.{Tagged, word}
 use Rattle.b67_ctl.specs.declared.registers.Regs.{Regs}
-use Rattle.b67_model.specs.Lists.{Has}
+use Rattle.b67_lemmas.specs.Lists.{Has}
 use Rattle.b67_model.specs.State as State
 use Rattle.b67_model.specs.State.{Frame, Setting, Task, Job, Course, Member, Here, all_frames, frame}
 use Rattle.b67_model.specs.Environment.{environment_of, outward, running_level, running, frame_at}

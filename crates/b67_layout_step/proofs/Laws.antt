@@ -2,7 +2,7 @@
 use Rattle.std.proofs.Common.{◌≡◌, ℕ, true, false, not, List, [], ◌∷◌, ◌++◌, map, filter, Some, Ok, Err, refl, inl, inr, ◌==◌}
 use Rattle.std.specs.List.{list_any}
 use Rattle.b67_word.specs.declared.couples.Place.{Place}
-use Rattle.b67_model.specs.Lists.{Has}
+use Rattle.b67_lemmas.specs.Lists.{Has}
 use Rattle.b67_model.specs.Words as Words
 use Rattle.b67_model.specs.Words.{Word, Operand, Name, Ref, Row, Element, Original, Proc, Intrinsic}
 use Rattle.b67_model.specs.State.{Frame, Array, Task, Setting, Job, Member, Here}

@@ -8,7 +8,7 @@ use Rattle.b67_area.specs.declared.kinds.Kind.{Kind}
 use Rattle.b67_area.specs.declared.kinds.Kind.TheVariants.{Array, Row, Code}
 use Rattle.b67_area.proofs.Laws.{area_inside}
 use Rattle.b67_ctl.specs.declared.registers.Regs.{Regs}
-use Rattle.b67_model.specs.Lists.{Has}
+use Rattle.b67_lemmas.specs.Lists.{Has}
 use Rattle.b67_model.specs.State.{Member}
 use Rattle.b67_model.specs.Schedule.{Session}
 use Rattle.b67_stack.specs.declared.Cpu.{Cpu}

@@ -10,7 +10,7 @@ use Rattle.b67_model.specs.declared.operators.Code.{Code}
 use Rattle.b67_model.specs.declared.operators.Code.TheVariants.{Add, Subt, Mult, Idiv, Rdiv, Less, Greq, Grtr, Lseq, Equl, Neql, Chsn, Land, Lor, Leqv, Lnot, Same, Exit, Indx, Retn, Entr, Nxlv, Mkst, Stff, Zero, One, Push, Dlet, Exch, Dupl, Stod, Ston, Load, Noop, Nvld}
 use Rattle.b67_model.specs.Answers.{Answer, needs}
 use Rattle.b67_model.specs.Keyed.{change_keyed}
-use Rattle.b67_model.specs.Lists.{Has}
+use Rattle.b67_lemmas.specs.Lists.{Has}
 use Rattle.b67_model.specs.Arithmetic.{add, subt, mult, idiv, rdiv, less, greq, grtr, lseq, equl, neql, land, lor, leqv, same, chsn, lnot, bset, brst, isol, insr}
 use Rattle.b67_model.specs.Words as Words
 use Rattle.b67_model.specs.Words.{Word, Operand, Name, Ref, Row, Element, Original, Proc, Intrinsic, operand, whole}

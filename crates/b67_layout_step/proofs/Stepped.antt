@@ -20,7 +20,8 @@ use Rattle.b67_layout.specs.Plan.{Plan, slot_of}
 use Rattle.b67_layout.specs.Layout.{array_thing, picture}
 use Rattle.b67_layout.specs.Session.{IsRunning, SessionStands, SessionStandsBut, with_things}
 use Rattle.b67_layout.specs.Meets.{here, with_job, things_gone, IsMade}
-use Rattle.b67_law_order_steps.specs.Profiles.{Profile, profiles, called, IsKnown}
+use Rattle.b67_model.specs.Called.{called}
+use Rattle.b67_law_order_steps.specs.Profiles.{Profile, profiles, IsKnown}
 use Rattle.b67_law_order_steps.proofs.Lemmas.{rows_keep}
 use Rattle.b67_single.specs.Single.{IsSingle, member_after, GoesOn, IsOver}
 use Rattle.b67_single.proofs.Nexts.{goes, reaches_limit}

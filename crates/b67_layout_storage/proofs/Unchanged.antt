@@ -10,7 +10,7 @@ use Rattle.b67_area.specs.Words.{hole_high}
 use Rattle.b67_area.specs.Directory.{IsDirectory, Laid}
 use Rattle.b67_area.proofs.Cuts.{pending}
 use Rattle.b67_area.proofs.Laws.{area_inside, areas_apart}
-use Rattle.b67_model.specs.Lists.{Has}
+use Rattle.b67_lemmas.specs.Lists.{Has}
 use Rattle.b67_ctl.specs.declared.registers.Regs.{Regs}
 use Rattle.b67_stack.specs.Shapes.{Fits}
 use Rattle.b67_stack.specs.Stacks.{Activation, high, words}

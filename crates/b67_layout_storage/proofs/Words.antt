@@ -8,7 +8,7 @@ use Rattle.b67_word.specs.Tagged.{Tagged}
 use Rattle.b67_area.specs.declared.Kind.{Kind}
 use Rattle.b67_area.specs.declared.Kind.TheVariants.{Array, Row, Code}
 use Rattle.b67_ctl.specs.declared.registers.Regs.{Regs}
-use Rattle.b67_model.specs.Lists.{Has}
+use Rattle.b67_lemmas.specs.Lists.{Has}
 use Rattle.b67_stack.specs.Shapes.{Held, Map, Shape, Is, Original, Copy, IsOriginal, Fits}
 use Rattle.b67_stack.specs.Stacks.{words}
 use Rattle.b67_stack.specs.Picture.{Thing, Picture, stack_of, slot_base, home_desc, home_word, home_word_of}

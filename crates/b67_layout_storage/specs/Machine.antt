@@ -6,7 +6,7 @@ use Rattle.b67_area.specs.declared.Areas.{Areas}
 use Rattle.b67_area.specs.Spans.{Span, Area, Hole}
 use Rattle.b67_backing.specs.Shelf.{Table, IsShelf, chain_of}
 use Rattle.b67_backing.specs.Held.{Changes}
-use Rattle.b67_model.specs.Lists.{Has}
+use Rattle.b67_lemmas.specs.Lists.{Has}
 use Rattle.b67_stack.specs.declared.Cpu.{Cpu}
 use Rattle.b67_stack.specs.Shapes.{Held, Map}
 use Rattle.b67_stack.specs.Picture.{Thing, Picture}

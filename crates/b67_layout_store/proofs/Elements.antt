@@ -13,7 +13,7 @@ use Rattle.b67_area.specs.declared.Kind.TheVariants as kind
 use Rattle.b67_area.specs.Spans.{area_at}
 use Rattle.b67_area.proofs.Laws.{area_inside, areas_apart}
 use Rattle.b67_area.proofs.Separation.{IsDirectory-set_area}
-use Rattle.b67_model.specs.Lists.{Has}
+use Rattle.b67_lemmas.specs.Lists.{Has}
 use Rattle.b67_ctl.specs.declared.registers.Regs.{Regs}
 use Rattle.b67_stack.specs.Shapes.{Fits, Upward}
 use Rattle.b67_stack.specs.Stacks.{high, words}

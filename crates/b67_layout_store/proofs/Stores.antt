@@ -9,7 +9,7 @@ use Rattle.b67_core.proofs.Writes.{slice_get-set_other}
 use Rattle.b67_area.specs.Spans.{Span, Area, Hole}
 use Rattle.b67_area.proofs.Climbs.{area_at-low}
 use Rattle.b67_area.proofs.Separation.{Controls, IsDirectory-same}
-use Rattle.b67_model.specs.Lists.{Has}
+use Rattle.b67_lemmas.specs.Lists.{Has}
 use Rattle.b67_ctl.specs.declared.registers.Regs.{Regs}
 use Rattle.b67_stack.specs.Shapes.{Copied, Shape, Copy, Fits, Lie}
 use Rattle.b67_stack.specs.Stacks.{Activation, IsStack, high, words}

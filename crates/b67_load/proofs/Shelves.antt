@@ -5,7 +5,7 @@ use Rattle.std.proofs.lemmas.List.{take-append-drop}
 use Rattle.b67_backing.specs.Shelf.{Table, Shelf, HasChain, IsShelf, Linked, AreChains, one, times, uses, first, chain_of, taken}
 use Rattle.b67_backing.specs.Held.{Holds, SameBut}
 use Rattle.b67_backing.proofs.Links.{Chain, chain_there, linked_within, rest, one-same, one-other, times-append, uses-split}
-use Rattle.b67_model.specs.Lists.{Has}
+use Rattle.b67_lemmas.specs.Lists.{Has}
 use Rattle.b67_stack.specs.Picture.{Thing}
 use Rattle.b67_load.specs.Things.{sectors_of, sectors_of_all}
 use Rattle.b67_load.specs.Resting.{Resting, placed, stocked, KeepsChains}

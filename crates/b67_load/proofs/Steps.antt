@@ -7,7 +7,7 @@ use Rattle.b67_codefile.specs.declared.file.Segment.{Segment}
 use Rattle.b67_codefile.specs.Meaning.{segment_of, program_of}
 use Rattle.b67_model.specs.State as state
 use Rattle.b67_backing.specs.Held.{sectors_for}
-use Rattle.b67_model.specs.Lists.{Has, total}
+use Rattle.b67_lemmas.specs.Lists.{Has, total}
 use Rattle.b67_model.specs.Program.{Program}
 use Rattle.b67_stack.specs.Picture.{Thing}
 use Rattle.b67_load.specs.Things.{code_from, rows_from, things_of, entries_of, sectors_of, sectors_of_all, sectors_of_program}

@@ -7,7 +7,7 @@ use Rattle.b67_core.proofs.Writes.{slice_get-set_same, slice_get-set_other}
 use Rattle.b67_codefile.specs.Spelling.{Bears}
 use Rattle.b67_backing.specs.Shelf.{Shelf, IsShelf, first, taken}
 use Rattle.b67_backing.specs.Held.{Changes, SameBut, Stores, Holds, sectors_for}
-use Rattle.b67_model.specs.Lists.{Has, total}
+use Rattle.b67_lemmas.specs.Lists.{Has, total}
 use Rattle.b67_stack.specs.Picture.{Thing, words_of, home_word}
 use Rattle.b67_load.specs.Things.{sectors_of, sectors_of_all}
 use Rattle.b67_load.specs.Resting.{Resting, placed, stocked, at_rest, descriptor, DescriptorsStand, WordsRest, Stocks, SameOutside}

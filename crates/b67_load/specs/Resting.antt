@@ -4,7 +4,7 @@ use Rattle.b67_word.specs.Tagged.{Tagged, word}
 use Rattle.b67_core.specs.Numbers.{number}
 use Rattle.b67_backing.specs.Shelf.{Shelf, first, chain_of, taken}
 use Rattle.b67_backing.specs.Held.{Holds, SameBut}
-use Rattle.b67_model.specs.Lists.{Has}
+use Rattle.b67_lemmas.specs.Lists.{Has}
 use Rattle.b67_model.specs.Program.{Program}
 use Rattle.b67_stack.specs.Shapes.{Held}
 use Rattle.b67_stack.specs.Picture.{Thing, home_word, words_of}

@@ -2,7 +2,7 @@
 use Rattle.std.specs.Prelude.{ℕ, ◌+◌, List, [], ◌∷◌, ◌++◌, length}
 use Rattle.b67_area.specs.declared.Kind.TheVariants.{Row, Code}
 use Rattle.b67_backing.specs.Held.{sectors_for}
-use Rattle.b67_model.specs.Lists.{total}
+use Rattle.b67_lemmas.specs.Lists.{total}
 use Rattle.b67_model.specs.State.{Segment}
 use Rattle.b67_model.specs.Program.{Program}
 use Rattle.b67_stack.specs.Picture.{Thing}

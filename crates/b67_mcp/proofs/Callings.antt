@@ -14,7 +14,7 @@ use Rattle.b67_model.specs.Chase.{End, AtCell, AtElement, AtArray, AtProc, AtInt
 use Rattle.b67_model.specs.Intrinsics.{is_original, intrinsic}
 use Rattle.b67_model.specs.Rows.{entr_at, entr_with, entr, step_by, reading_of, step}
 use Rattle.b67_model.specs.Steps.{Done}
-use Rattle.b67_law_order_steps.specs.Profiles.{called_at, called_by, called_on, called}
+use Rattle.b67_model.specs.Called.{called_at, called_by, called_on, called}
 use Rattle.b67_exec_cells.specs.Called as operators
 use Rattle.b67_exec_cells.specs.Called.{called_in}
 use Rattle.b67_layout.specs.Meets.{here}

@@ -2,7 +2,7 @@
 use Rattle.std.proofs.Common.{◌≡◌, ◌≢◌, ℕ, ◌<◌, List, [], ◌∷◌, ◌++◌, map, refl, sym, ◌∙◌, ap, arith, inl, inr, subst}
 use Rattle.std.proofs.lemmas.Bool.{ne_eqb}
 use Rattle.b67_word.specs.declared.couples.Place.{Place}
-use Rattle.b67_model.specs.Lists.{Has, Falls}
+use Rattle.b67_lemmas.specs.Lists.{Has, Falls}
 use Rattle.b67_model.specs.Words.{Word}
 use Rattle.b67_model.specs.State.{Frame, Marked, Condition, Ready, Awaits, WaitsAt, Task, Job, Member, top, below_top, with_top_cells}
 use Rattle.b67_model.specs.Keyed.{change_keyed}

@@ -7,7 +7,7 @@ use Rattle.b67_word.specs.Tagged.{Tagged}
 use Rattle.b67_word.specs.declared.couples.Place.{Place}
 use Rattle.b67_area.specs.declared.Kind.TheVariants.{Array}
 use Rattle.b67_ctl.specs.Descriptors.{data_word}
-use Rattle.b67_model.specs.Lists.{Has}
+use Rattle.b67_lemmas.specs.Lists.{Has}
 use Rattle.b67_model.specs.Words.{Original}
 use Rattle.b67_model.specs.State.{Frame, Task, Member, below_top}
 use Rattle.b67_model.specs.Keyed.{keyed}

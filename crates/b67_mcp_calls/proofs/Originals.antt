@@ -4,7 +4,7 @@ use Rattle.std.proofs.Math.ListN.{length-set}
 use Rattle.b67_word.specs.Tagged.{Tagged}
 use Rattle.b67_ctl.specs.declared.registers.Regs.{Regs}
 use Rattle.b67_core.proofs.Writes.{slice_get-set_other}
-use Rattle.b67_model.specs.Lists.{Has}
+use Rattle.b67_lemmas.specs.Lists.{Has}
 use Rattle.b67_stack.specs.Shapes.{Original, Copy, IsOriginal, Fits}
 use Rattle.b67_stack.specs.Stacks.{Activation, IsStack, high, words}
 use Rattle.b67_stack.specs.Picture.{Thing, Slot, Picture, stack_of, RunsOn, Settled, slot_base, CopiesName}

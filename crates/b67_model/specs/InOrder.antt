@@ -7,7 +7,7 @@ use Rattle.std.specs.List.{AllByRecursion}
 use Rattle.b67_word.specs.declared.couples.Place.{Place}
 use Rattle.b67_model.specs.declared.operators.Op.{Op}
 use Rattle.b67_model.specs.Keyed.{keyed}
-use Rattle.b67_model.specs.Lists.{Has, total, how_many, Falls}
+use Rattle.b67_lemmas.specs.Lists.{Has, total, how_many, Falls}
 use Rattle.b67_model.specs.Words as Words
 use Rattle.b67_model.specs.Words.{Word, Operand, Name, Ref, Row, Element, Original, Proc, Intrinsic}
 use Rattle.b67_model.specs.State.{Frame, Standing, Marked, Entered, Return, Array, Condition, Ready, Awaits, WaitsAt, Task, Segment, Setting, Job, Course, Member, height}

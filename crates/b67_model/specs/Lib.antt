@@ -3,7 +3,6 @@ pub mod Words
 pub mod Operators
 pub mod Encoding
 pub mod Keyed
-pub mod Lists
 pub mod State
 pub mod Environment
 pub mod Cells
@@ -26,3 +25,4 @@ pub mod Sectors
 pub mod Apart
 pub mod InOrder
 pub mod Kinds
+pub mod Called

@@ -13,7 +13,7 @@ use Rattle.b67_area.proofs.Climbs.{area_at-low}
 use Rattle.b67_area.proofs.Laws.{OnlyHoles-area, OnlyHoles-below}
 use Rattle.b67_area.proofs.Separation.{IsDirectory-below_words, IsDirectory-set_below}
 use Rattle.b67_ctl.specs.declared.registers.Regs.{Regs}
-use Rattle.b67_model.specs.Lists.{Has}
+use Rattle.b67_lemmas.specs.Lists.{Has}
 use Rattle.b67_stack.specs.Shapes.{Held, Shape, Original, IsOriginal, Fits}
 use Rattle.b67_stack.specs.Stacks.{high, words}
 use Rattle.b67_stack.specs.Picture.{Thing, Picture, stack_of, slot_base, home_word_of}

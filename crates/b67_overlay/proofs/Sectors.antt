@@ -13,7 +13,7 @@ use Rattle.b67_backing.specs.Shelf.{Shelf, Table, IsShelf, first, taken, chain_o
 use Rattle.b67_backing.specs.Held.{sectors_for, SameBut, Stores}
 use Rattle.b67_backing.proofs.News.{chain_of-taken}
 use Rattle.b67_ctl.specs.declared.registers.Regs.{Regs}
-use Rattle.b67_model.specs.Lists.{Has}
+use Rattle.b67_lemmas.specs.Lists.{Has}
 use Rattle.b67_stack.specs.Shapes.{Map, Upward}
 use Rattle.b67_stack.specs.Picture.{Thing, Picture, words_of}
 use Rattle.b67_stack.specs.Stands.{Storage, Stands, Content, Keeps, HasChain, HoldsIn, Told, StacksLie, info_of}

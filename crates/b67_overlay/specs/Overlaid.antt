@@ -4,7 +4,7 @@ use Rattle.b67_area.specs.Spans.{without}
 use Rattle.b67_area.specs.declared.Kind.TheVariants.{Array}
 use Rattle.b67_backing.specs.Shelf.{Shelf, first, taken, chain_of}
 use Rattle.b67_backing.specs.Held.{sectors_for}
-use Rattle.b67_model.specs.Lists.{Has}
+use Rattle.b67_lemmas.specs.Lists.{Has}
 use Rattle.b67_stack.specs.Picture.{Thing, Picture}
 use Rattle.b67_stack.specs.Stands.{Storage, HoldsIn}
 use Rattle.b67_layout_storage.specs.Machine.{with_held, retold, ChainStays}

@@ -4,7 +4,7 @@ use Rattle.b67_word.specs.Tagged.{Tagged}
 use Rattle.b67_ctl.specs.declared.descriptors.DataDesc.{DataDesc}
 use Rattle.b67_ctl.specs.Descriptors.{data_word, IsDataDesc}
 use Rattle.b67_ctl.specs.declared.registers.Regs.{Regs}
-use Rattle.b67_model.specs.Lists.{Has}
+use Rattle.b67_lemmas.specs.Lists.{Has}
 use Rattle.b67_stack.specs.Shapes.{Held, Shape, Fits}
 use Rattle.b67_stack.specs.Stacks.{high, words}
 use Rattle.b67_stack.specs.Picture.{Thing, Picture, slot_base, stack_of}

@@ -3,7 +3,7 @@ use Rattle.std.proofs.Common.{◌≡◌, ◌≢◌, ℕ, zero, suc, ◌+◌, ◌
 use Rattle.std.proofs.lemmas.Bool.{cases_Bool, cases_eq, eq-eqb, ne_eqb}
 use Rattle.b67_backing.specs.Shelf.{Table, Shelf, AreChains, IsShelf, one, times, uses, first, chain_of}
 use Rattle.b67_backing.proofs.Links.{one-same, one-apart, one-other, linked_within}
-use Rattle.b67_model.specs.Lists.{Has, total}
+use Rattle.b67_lemmas.specs.Lists.{Has, total}
 
 -- a function of the numbers from 1 to n
 abbrev upto : (ℕ → ℕ) → ℕ → ℕ

@@ -8,7 +8,7 @@ use Rattle.b67_area.specs.declared.Kind.TheVariants.{Array, Row, Code}
 use Rattle.b67_area.specs.declared.Areas.{Areas}
 use Rattle.b67_backing.specs.Shelf.{Table, chain_of}
 use Rattle.b67_backing.specs.Held.{sectors_for}
-use Rattle.b67_model.specs.Lists.{Has, total}
+use Rattle.b67_lemmas.specs.Lists.{Has, total}
 use Rattle.b67_model.specs.State as State
 use Rattle.b67_model.specs.State.{Segment, Member}
 use Rattle.b67_model.specs.Sectors.{sectors_of, sectors}

@@ -8,7 +8,7 @@ use Rattle.b67_word.specs.Tagged.{Tagged}
 use Rattle.b67_ctl.specs.declared.registers.Regs.{Regs}
 use Rattle.b67_ctl.specs.declared.marks.Mscw.{Mscw}
 use Rattle.b67_ctl.specs.Layout.{mscw_word, IsMscw}
-use Rattle.b67_model.specs.Lists.{Has, how_many}
+use Rattle.b67_lemmas.specs.Lists.{Has, how_many}
 use Rattle.b67_model.specs.Keyed.{keyed}
 use Rattle.b67_model.specs.State.{Frame, Standing, Marked, Entered, Task, Here, height, mcp, no_frame, frame}
 use Rattle.b67_model.specs.Environment.{level_of_standing, environment_of}

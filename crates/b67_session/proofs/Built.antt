@@ -18,7 +18,8 @@ use Rattle.b67_model.specs.Steps.{Line, Value, Values, Done, Goes, Leaves, Waits
 use Rattle.b67_model.specs.Intrinsics.{answered, answers, array_length, arraydec, print, numbers_of, row_copy, printrow, read_from, read, process, await, status, wait, cause, intrinsic}
 use Rattle.b67_model.specs.Rows.{entr_at, entr_with, entr, row}
 use Rattle.b67_law_order.proofs.Posts.{Post, post_ok, post_err, post_any, post_then, post_if, post_if_is, post_at}
-use Rattle.b67_law_order_steps.specs.Profiles.{Profile, profile, profiles, called_at, called_by, called_on, called, IsKnown}
+use Rattle.b67_model.specs.Called.{called_at, called_by, called_on, called}
+use Rattle.b67_law_order_steps.specs.Profiles.{Profile, profile, profiles, IsKnown}
 use Rattle.b67_law_order_steps.proofs.Lemmas.{rows_keep}
 use Rattle.b67_layout.specs.Meets.{here}
 use Rattle.b67_session_attempt.proofs.Passed.{row_keeps}

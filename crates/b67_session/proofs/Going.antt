@@ -1,6 +1,6 @@
 -- A slice that has made so many steps, and how it ends.
 use Rattle.std.proofs.Common.{◌≡◌, ◌≢◌, ℕ, ◌+◌, ◌≤◌, List, [], ◌++◌, length, map, Option, Some, None, Ok, Err, refl, sym, ap, ◌∙◌, subst, arith, append-nil}
-use Rattle.b67_model.specs.Lists.{Has}
+use Rattle.b67_lemmas.specs.Lists.{Has}
 use Rattle.b67_model.specs.State.{Task, Member}
 use Rattle.b67_model.specs.Run.{RunLine, next, after, lines}
 use Rattle.b67_model.specs.Schedule.{Session}

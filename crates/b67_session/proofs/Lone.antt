@@ -4,7 +4,7 @@ use Rattle.std.specs.Prelude.{◌==◌, filter}
 use Rattle.std.specs.List.{slice_get}
 use Rattle.std.proofs.lemmas.Bool.{cases_Bool, eq-eqb}
 use Rattle.std.proofs.lemmas.Option.{same_Some, none-some}
-use Rattle.b67_model.specs.Lists.{Has}
+use Rattle.b67_lemmas.specs.Lists.{Has}
 use Rattle.b67_model.specs.Endings.{is_ready}
 use Rattle.b67_model.specs.State.{Condition, Task, Job, Member}
 use Rattle.b67_model.specs.Keyed.{keyed}

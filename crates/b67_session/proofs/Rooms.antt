@@ -4,7 +4,7 @@ use Rattle.std.specs.List.{slice_get, slice_set}
 use Rattle.std.proofs.lemmas.List.{length-map}
 use Rattle.std.proofs.lemmas.Option.{same_Some}
 use Rattle.std.proofs.lemmas.Bool.{eq-eqb}
-use Rattle.b67_model.specs.Lists.{Has}
+use Rattle.b67_lemmas.specs.Lists.{Has}
 use Rattle.b67_model.specs.State.{Task, Job, Member}
 use Rattle.b67_model.specs.Keyed.{change_keyed}
 use Rattle.b67_model.specs.Run.{number_of}

@@ -26,7 +26,7 @@ use Rattle.b67_layout.specs.Plan.{Plan}
 use Rattle.b67_layout.specs.Session.{IsRunning}
 use Rattle.b67_layout.specs.Meets.{here, area_held, IsPresent}
 use Rattle.b67_layout.proofs.Others.{keyed-has}
-use Rattle.b67_law_order_steps.specs.Profiles.{called_on, called}
+use Rattle.b67_model.specs.Called.{called_on, called}
 use Rattle.b67_exec_cells.specs.Running.{code_area}
 use Rattle.b67_exec_cells.specs.Called as operators
 use Rattle.b67_exec_cells.specs.Called.{called_in}

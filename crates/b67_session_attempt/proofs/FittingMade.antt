@@ -2,7 +2,7 @@
 use Rattle.std.proofs.Common.{◌≡◌, ℕ, ◌≤◌, length, Option, Some, None, sym, ◌∙◌, ap, arith, ⊎_elim, subst, refl}
 use Rattle.std.specs.Prelude.{nat_lt, unwrap_or, if◌then◌else◌}
 use Rattle.std.proofs.lemmas.Bool.{cases_Bool}
-use Rattle.b67_model.specs.Lists.{Has}
+use Rattle.b67_lemmas.specs.Lists.{Has}
 use Rattle.b67_model.specs.State.{Array, Task, Member}
 use Rattle.b67_model.specs.Answers.{Answer}
 use Rattle.b67_model.specs.Steps.{Done}

@@ -20,7 +20,8 @@ use Rattle.b67_model.specs.Entry.{accident, needs_level, back_to, evaluates, ent
 use Rattle.b67_model.specs.Rows.{CellRow, on_one, on_two, dlet, exch, dupl, on_cells, branches, branch_if, stff, load_at, load, indx, nxlv, store_at, store, entr_at, entr_with, entr, plain, row}
 use Rattle.b67_model.specs.InOrder.{from_frame}
 use Rattle.b67_law_order.proofs.Posts.{Post, post_ok, post_err, post_any, post_then, post_needs, post_at}
-use Rattle.b67_law_order_steps.specs.Profiles.{Profile, profile, called_at, called_by, called_on, called}
+use Rattle.b67_model.specs.Called.{called_at, called_by, called_on, called}
+use Rattle.b67_law_order_steps.specs.Profiles.{Profile, profile}
 use Rattle.b67_layout.specs.Meets.{here}
 use Rattle.b67_session_attempt.proofs.Places.{places, top_from, push_from, drop_from, enter_from, Same, AllSame, all_same, put, store_same}
 

@@ -10,7 +10,7 @@ use Rattle.b67_model.specs.Loader.{may_be_last}
 use Rattle.b67_model.specs.Rows.{row}
 use Rattle.b67_model.specs.InOrder.{IsSegment}
 use Rattle.b67_law_order_rows.specs.Parameters.{ParametersFit}
-use Rattle.b67_law_order_steps.specs.Profiles.{called}
+use Rattle.b67_model.specs.Called.{called}
 use Rattle.b67_layout.specs.Meets.{here}
 use Rattle.b67_session_attempt.proofs.Inversion.{LeftFrame, exit_frame, retn_frame}
 

@@ -17,7 +17,7 @@ use Rattle.b67_layout.specs.Plan.{Plan}
 use Rattle.b67_layout.specs.Layout.{array_thing}
 use Rattle.b67_layout.specs.Meets.{here, things_gone, with_job, IsAbsent, IsMade, Meets}
 use Rattle.b67_layout.specs.Session.{IsRunning, SessionStands, SessionStandsBut}
-use Rattle.b67_law_order_steps.specs.Profiles.{called}
+use Rattle.b67_model.specs.Called.{called}
 use Rattle.b67_exec.specs.Operators.{CallsOrMeets}
 use Rattle.b67_layout_step.specs.Keeping.{is_leaving}
 use Rattle.b67_task_tables.specs.declared.tables.Machine.{Machine}

@@ -8,7 +8,7 @@ use Rattle.std.proofs.lemmas.List.Sums.{sum_by-cons}
 use Rattle.b67_area.specs.declared.kinds.Info.{Info}
 use Rattle.b67_area.specs.declared.kinds.Kind.TheVariants as kind
 use Rattle.b67_area.specs.Spans.{area_at}
-use Rattle.b67_model.specs.Lists.{Has}
+use Rattle.b67_lemmas.specs.Lists.{Has}
 use Rattle.b67_model.specs.State.{Array, Task, Member}
 use Rattle.b67_model.specs.Rows.{code_of}
 use Rattle.b67_model.specs.Need.{fixed}

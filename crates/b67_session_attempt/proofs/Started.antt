@@ -22,7 +22,8 @@ use Rattle.b67_law_order.proofs.Members.{length_change}
 use Rattle.b67_law_order.proofs.Posts.{Post, post_ok, post_err, post_any, post_then, post_if, post_more, post_is}
 use Rattle.b67_layout.specs.Plan.{Plan}
 use Rattle.b67_layout.specs.Session.{IsRunning}
-use Rattle.b67_law_order_steps.specs.Profiles.{Profile, profile, profiles, called, IsKnown}
+use Rattle.b67_model.specs.Called.{called}
+use Rattle.b67_law_order_steps.specs.Profiles.{Profile, profile, profiles, IsKnown}
 use Rattle.b67_law_order_steps.proofs.Lemmas.{rows_keep}
 
 -- where an array is touched there are as many tasks

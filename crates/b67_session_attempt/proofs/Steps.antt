@@ -8,7 +8,7 @@ use Rattle.b67_model.specs.Steps.{Line, Goes, is_critical}
 use Rattle.b67_model.specs.Rows.{row, reading_of, step, step_by}
 use Rattle.b67_model.specs.Schedule.{Session}
 use Rattle.b67_model.specs.InOrder.{IsSegment, IsInOrderButPlaces}
-use Rattle.b67_law_order_steps.specs.Profiles.{called}
+use Rattle.b67_model.specs.Called.{called}
 use Rattle.b67_layout.specs.Plan.{Plan}
 use Rattle.b67_layout.specs.Session.{IsRunning}
 use Rattle.b67_layout.specs.Meets.{here}

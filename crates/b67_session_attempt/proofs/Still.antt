@@ -14,7 +14,8 @@ use Rattle.b67_model.specs.Need.{started_by}
 use Rattle.b67_model.specs.Rows.{row, reading_of, step_by, step}
 use Rattle.b67_law_order.proofs.Members.{length_change}
 use Rattle.b67_law_order.proofs.Posts.{Post, post_ok, post_err, post_any, post_then, post_more, post_is}
-use Rattle.b67_law_order_steps.specs.Profiles.{profile, called, IsKnown}
+use Rattle.b67_model.specs.Called.{called}
+use Rattle.b67_law_order_steps.specs.Profiles.{profile, IsKnown}
 use Rattle.b67_law_order_steps.proofs.Lemmas.{rows_keep}
 use Rattle.b67_exec_cells.specs.Called as operators
 use Rattle.b67_exec_cells.specs.Called.{called_in}

@@ -1,6 +1,6 @@
 -- Core has room for what is present beside the stacks.
 use Rattle.std.specs.Prelude.{◌≡◌, ℕ, ◌≤◌, length, Option, Some, None}
-use Rattle.b67_model.specs.Lists.{Has}
+use Rattle.b67_lemmas.specs.Lists.{Has}
 use Rattle.b67_model.specs.State.{Array, Task, Job, Member}
 use Rattle.b67_model.specs.Rows.{step}
 use Rattle.b67_model.specs.Schedule.{Session}

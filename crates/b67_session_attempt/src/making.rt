@@ -12,7 +12,7 @@ ghost use Rattle.b67_stack.specs.Stands.{Storage};
 ghost use Rattle.b67_layout.specs.Plan.{Plan};
 ghost use Rattle.b67_layout.specs.Session.{IsRunning};
 ghost use Rattle.b67_layout.specs.Meets.{here};
-ghost use Rattle.b67_law_order_steps.specs.Profiles.{called};
+ghost use Rattle.b67_model.specs.Called.{called};
 ghost use Rattle.b67_exec.specs.Operators.{ParametersFit};
 ghost use Rattle.b67_layout_step.specs.Keeping.{is_leaving};
 ghost use Rattle.b67_task_need.specs.Needing.{MachineRuns};

@@ -10,7 +10,7 @@ use Rattle.b67_codefile.specs.declared.file.Segment.{Segment}
 use Rattle.b67_codefile.specs.declared.file.Codefile.{Codefile}
 use Rattle.b67_codefile.specs.Spelling.{Bears, IsSegment, IsRow}
 use Rattle.b67_codefile.specs.Meaning.{segment_of, program_of}
-use Rattle.b67_model.specs.Lists.{Has}
+use Rattle.b67_lemmas.specs.Lists.{Has}
 use Rattle.b67_model.specs.Program.{Program}
 use Rattle.b67_model.specs.InOrder.{SegmentInOrder}
 use Rattle.b67_law_order_runs.specs.Opening.{RowWithin, OpeningWithin, DeckWithin}

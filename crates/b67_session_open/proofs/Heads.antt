@@ -8,7 +8,7 @@ use Rattle.b67_backing.specs.Shelf.{Shelf, IsShelf}
 use Rattle.b67_backing.specs.Held.{Changes}
 use Rattle.b67_codefile.specs.declared.file.Codefile.{Codefile}
 use Rattle.b67_codefile.specs.Meaning.{program_of}
-use Rattle.b67_model.specs.Lists.{total}
+use Rattle.b67_lemmas.specs.Lists.{total}
 use Rattle.b67_model.specs.Program.{Program}
 use Rattle.b67_load.specs.Things.{things_of, entries_of, sectors_of_program}
 use Rattle.b67_load.specs.Resting.{stocked, DictionaryIs, Stocks}

@@ -7,7 +7,7 @@ use Rattle.b67_area.specs.Spans.{left}
 use Rattle.b67_area.specs.Directory.{IsDirectory}
 use Rattle.b67_backing.specs.Held.{Changes, SameBut}
 use Rattle.b67_backing.specs.Shelf.{Shelf, IsShelf}
-use Rattle.b67_model.specs.Lists.{Has}
+use Rattle.b67_lemmas.specs.Lists.{Has}
 use Rattle.b67_model.specs.Program.{Program}
 use Rattle.b67_model.specs.Schedule.{Switch}
 use Rattle.b67_law_order_runs.specs.Opening.{Opening, DeckWithin, opening}

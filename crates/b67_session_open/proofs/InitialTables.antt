@@ -2,7 +2,7 @@
 use Rattle.std.proofs.Common.{◌≡◌, ℕ, zero, suc, ◌+◌, ◌<◌, ◌≤◌, List, [], ◌∷◌, length, map, take, Some, refl, sym, ◌∙◌, ap, subst, arith, inl, inr}
 use Rattle.std.specs.List.{slice_get}
 use Rattle.std.proofs.lemmas.Option.{none-some, slice_get_past, slice_get_within}
-use Rattle.b67_model.specs.Lists.{Has}
+use Rattle.b67_lemmas.specs.Lists.{Has}
 use Rattle.b67_model.specs.State.{Task, Member}
 use Rattle.b67_model.specs.Program.{Program}
 use Rattle.b67_model.specs.Schedule.{Switch}

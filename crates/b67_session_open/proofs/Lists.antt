@@ -4,7 +4,7 @@ use Rattle.std.specs.List.{slice_get, flat_map}
 use Rattle.std.specs.Prelude.{◌⊎◌}
 use Rattle.std.proofs.lemmas.Option.{same_Some, none-some}
 use Rattle.std.proofs.lemmas.Grind.{reverse_onto}
-use Rattle.b67_model.specs.Lists.{Has, total}
+use Rattle.b67_lemmas.specs.Lists.{Has, total}
 
 pub total_before : {A : Type 0} (f : A → ℕ) (xs : List A) (k l : ℕ) (x : A) → slice_get xs k ≡ Some x → k < l → total f (take k xs) + f x ≤ total f (take l xs)
 total_before f [] k l x e h = absurd (none-some x e)

@@ -4,7 +4,7 @@ use Rattle.std.specs.List.{slice_get}
 use Rattle.std.specs.Prelude.{find}
 use Rattle.std.proofs.lemmas.Option.{same_Some, none-some}
 use Rattle.std.proofs.lemmas.Bool.{eq-eqb, ne_eqb}
-use Rattle.b67_model.specs.Lists.{Has}
+use Rattle.b67_lemmas.specs.Lists.{Has}
 use Rattle.b67_model.specs.Keyed.{keyed}
 use Rattle.b67_model.specs.State.{Member}
 use Rattle.b67_model.specs.Program.{Program, opened}

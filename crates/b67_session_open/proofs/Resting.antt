@@ -4,7 +4,7 @@ use Rattle.std.proofs.lemmas.Bool.{eq-eqb, ne_eqb, cases_eq, cases_lt}
 use Rattle.std.proofs.lemmas.List.{length-take, nil_from_length}
 use Rattle.b67_backing.specs.Shelf.{Table, Shelf, IsShelf, AreChains, one, times, uses, first, chain_of, taken}
 use Rattle.b67_backing.proofs.Links.{chain_there, one-same, uses-split}
-use Rattle.b67_model.specs.Lists.{Has}
+use Rattle.b67_lemmas.specs.Lists.{Has}
 use Rattle.b67_stack.specs.Picture.{Thing}
 use Rattle.b67_load.specs.Things.{sectors_of, sectors_of_all}
 use Rattle.b67_load.specs.Resting.{Resting, placed, stocked}

@@ -8,7 +8,7 @@ use Rattle.b67_area.specs.Spans.{area_at, left}
 use Rattle.b67_area.specs.declared.Kind.{Kind}
 use Rattle.b67_area.specs.declared.Kind.TheVariants.{Array, Row, Code}
 use Rattle.b67_backing.specs.Shelf.{Table, Shelf, IsShelf, first, chain_of}
-use Rattle.b67_model.specs.Lists.{Has}
+use Rattle.b67_lemmas.specs.Lists.{Has}
 use Rattle.b67_stack.specs.Picture.{Thing, home_word_of, home_word, words_of}
 use Rattle.b67_stack.specs.Stands.{Storage, Told, HoldsIn, ThingStands, Owned}
 use Rattle.b67_load.specs.Things.{sectors_of, sectors_of_all}

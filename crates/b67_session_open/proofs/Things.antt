@@ -5,7 +5,7 @@ use Rattle.std.specs.Prelude.{◌⊎◌}
 use Rattle.std.proofs.lemmas.Option.{same_Some, none-some}
 use Rattle.std.proofs.lemmas.Bool.{cases_order}
 use Rattle.b67_area.specs.declared.Kind.TheVariants as kind
-use Rattle.b67_model.specs.Lists.{Has}
+use Rattle.b67_lemmas.specs.Lists.{Has}
 use Rattle.b67_model.specs.State.{Segment, Member}
 use Rattle.b67_model.specs.Program.{Program, row_arrays}
 use Rattle.b67_model.specs.InOrder.{SegmentInOrder}

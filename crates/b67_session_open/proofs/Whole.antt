@@ -5,7 +5,7 @@ use Rattle.std.proofs.lemmas.Bool.{cases_lt}
 use Rattle.std.proofs.lemmas.Option.{slice_get_within}
 use Rattle.b67_word.specs.Tagged.{word}
 use Rattle.b67_area.specs.Directory.{IsDirectory}
-use Rattle.b67_model.specs.Lists.{Has}
+use Rattle.b67_lemmas.specs.Lists.{Has}
 use Rattle.b67_model.specs.State.{Task, Member}
 use Rattle.b67_model.specs.Program.{Program}
 use Rattle.b67_model.specs.Schedule.{Switch}

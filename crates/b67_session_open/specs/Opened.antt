@@ -1,7 +1,7 @@
 -- Where a machine keeps the things of a session that opens: the dictionaries lie in a row, the first task of each job has
 -- the slot before the job's number, and no task runs.
 use Rattle.std.specs.Prelude.{ℕ, ◌+◌, ◌-◌, List, [], ◌∷◌, ◌++◌, length, map, take, Option, Some, None, slice_get}
-use Rattle.b67_model.specs.Lists.{total}
+use Rattle.b67_lemmas.specs.Lists.{total}
 use Rattle.b67_model.specs.Program.{Program}
 use Rattle.b67_law_order_runs.specs.Opening.{Opening}
 use Rattle.b67_stack.specs.Stacks.{Entered, Activation}

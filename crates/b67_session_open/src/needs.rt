@@ -6,7 +6,7 @@ ghost use Rattle.b67_word.specs.Tagged.{contents};
 ghost use Rattle.b67_backing.specs.Held.{sectors_for as sectors_of_words};
 ghost use Rattle.b67_codefile.specs.Spelling.{IsSegment, IsRow};
 ghost use Rattle.b67_codefile.specs.Meaning.{segment_of, program_of};
-ghost use Rattle.b67_model.specs.Lists.{total};
+ghost use Rattle.b67_lemmas.specs.Lists.{total};
 ghost use Rattle.b67_model.specs.State.{Segment as ModelSegment};
 ghost use Rattle.b67_model.specs.Need.{need_at_opening};
 ghost use Rattle.b67_model.specs.Sectors.{sectors};

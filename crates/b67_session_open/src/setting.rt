@@ -7,7 +7,7 @@ ghost use Rattle.b67_backing.specs.Held.{Changes};
 ghost use Rattle.b67_backing.specs.Shelf.{Shelf, IsShelf};
 ghost use Rattle.b67_backing.specs.declared.refusals.SpaceFault.TheVariants.{BackingFault};
 ghost use Rattle.b67_codefile.specs.Meaning.{program_of};
-ghost use Rattle.b67_model.specs.Lists.{total};
+ghost use Rattle.b67_lemmas.specs.Lists.{total};
 ghost use Rattle.b67_load.specs.Things.{sectors_of_program};
 ghost use Rattle.b67_load.specs.Resting.{stocked};
 ghost use Rattle.b67_session_open.specs.Opened.{dictionaries, things_from};

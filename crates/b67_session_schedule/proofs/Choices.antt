@@ -4,7 +4,7 @@ use Rattle.std.specs.Prelude.{find, IfSome}
 use Rattle.std.proofs.lemmas.Option.{slice_get_within}
 use Rattle.std.specs.List.{list_any}
 use Rattle.std.proofs.lemmas.Bool.{cases_Bool, true≢false}
-use Rattle.b67_model.specs.Lists.{Has}
+use Rattle.b67_lemmas.specs.Lists.{Has}
 use Rattle.b67_model.specs.Schedule.{Who, Switch, Session, Choice, is_same, is_before, ready, switched, goes_on, first, next_after, afresh, choice_by, choice}
 use Rattle.b67_model.specs.InOrder.{SwitchesRise, IsInOrderButPlaces}
 use Rattle.b67_layout.specs.Plan.{Plan}

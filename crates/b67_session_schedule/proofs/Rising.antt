@@ -6,7 +6,7 @@ use Rattle.std.proofs.lemmas.Bool.{cases_lt, cases_Bool, true≢false, lt-ltb, l
 use Rattle.std.proofs.lemmas.Bool.Decides.{eqb_tells}
 use Rattle.std.proofs.lemmas.List.{length-map}
 use Rattle.b67_model_text.specs.declared.deck.Switch as text
-use Rattle.b67_model.specs.Lists.{Has}
+use Rattle.b67_lemmas.specs.Lists.{Has}
 use Rattle.b67_model.specs.InOrder.{SwitchesRise}
 use Rattle.b67_model.specs.Schedule.{Who, Switch, is_same}
 use Rattle.b67_law_order.proofs.Members.{any_some, any_has}

@@ -5,7 +5,7 @@ use Rattle.std.specs.List.{slice_get}
 use Rattle.b67_word.specs.Tagged.{Tagged}
 use Rattle.b67_word.specs.declared.couples.Place.{Place}
 use Rattle.b67_ctl.specs.declared.registers.Regs.{Regs}
-use Rattle.b67_model.specs.Lists.{Has}
+use Rattle.b67_lemmas.specs.Lists.{Has}
 use Rattle.b67_stack.specs.Shapes.{Shape, Copy, Fits, Lie}
 use Rattle.b67_stack.specs.Stacks.{Activation, IsStack, headed, words}
 use Rattle.b67_stack.specs.Picture.{Picture, Slot, Running, RunsOn, slot_base, CopiesName, Settled}

@@ -11,7 +11,7 @@ use Rattle.b67_ctl.specs.Descriptors.{data_word, IsDataDesc}
 use Rattle.b67_area.specs.declared.Kind.{Kind}
 use Rattle.b67_area.specs.declared.Kind.TheVariants.{Array, Row, Code}
 use Rattle.b67_area.proofs.Laws.{area_inside}
-use Rattle.b67_model.specs.Lists.{Has}
+use Rattle.b67_lemmas.specs.Lists.{Has}
 use Rattle.b67_stack.specs.Shapes.{Held, Shape, Is, Original, Copy, copy_desc, Fits}
 use Rattle.b67_stack.specs.Picture.{Thing, Picture, home_desc, home_word_of}
 use Rattle.b67_stack.specs.Stands.{Storage, Content, Keeps, Stands, info_of}

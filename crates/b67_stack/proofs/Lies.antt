@@ -4,7 +4,7 @@ use Rattle.std.proofs.lemmas.Bool.{cases_eq}
 use Rattle.std.specs.List.{slice_get}
 use Rattle.b67_word.specs.Tagged.{Tagged}
 use Rattle.b67_core.proofs.Writes.{slice_get-set_same, slice_get-set_other}
-use Rattle.b67_model.specs.Lists.{Has}
+use Rattle.b67_lemmas.specs.Lists.{Has}
 use Rattle.b67_stack.specs.Shapes.{Shape, Lie, Upward}
 
 -- words in another core, or by another relation: at each place, what fitted fits

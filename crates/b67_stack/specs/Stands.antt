@@ -10,7 +10,7 @@ use Rattle.b67_area.specs.Spans.{Span, area_at}
 use Rattle.b67_area.specs.Directory.{IsDirectory}
 use Rattle.b67_backing.specs.Shelf.{Shelf, chain_of}
 use Rattle.b67_backing.specs.Held.{Holds, sectors_for}
-use Rattle.b67_model.specs.Lists.{Has}
+use Rattle.b67_lemmas.specs.Lists.{Has}
 use Rattle.b67_ctl.specs.declared.registers.Regs.{Regs}
 use Rattle.b67_stack.specs.Shapes.{Map, Fits, Lie, Upward}
 use Rattle.b67_stack.specs.Stacks.{Activation, high, mark_place, running_level, words, toscw_of}

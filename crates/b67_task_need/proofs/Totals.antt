@@ -4,7 +4,7 @@ use Rattle.std.specs.Prelude.{if◌then◌else◌}
 use Rattle.std.specs.List.{slice_get}
 use Rattle.std.proofs.lemmas.Bool.{cases_Bool, cases_eq, eq-eqb, ne_eqb}
 use Rattle.b67_word.specs.Tagged.{Tagged}
-use Rattle.b67_model.specs.Lists.{Has, Falls, total, how_many}
+use Rattle.b67_lemmas.specs.Lists.{Has, Falls, total, how_many}
 use Rattle.b67_model.specs.Words.{Word}
 use Rattle.b67_model.specs.State.{Array}
 use Rattle.b67_model.specs.Sectors.{sectors_for}

@@ -6,7 +6,7 @@ use Rattle.b67_word.specs.Tagged.{Tagged, bits_at}
 use Rattle.b67_area.specs.declared.Kind.{Kind}
 use Rattle.b67_area.specs.declared.Kind.TheVariants.{Array, Row, Code}
 use Rattle.b67_ctl.specs.Layout.{bit}
-use Rattle.b67_model.specs.Lists.{total}
+use Rattle.b67_lemmas.specs.Lists.{total}
 use Rattle.b67_model.specs.Sectors.{sectors_for}
 use Rattle.b67_stack.specs.Shapes as Shapes
 use Rattle.b67_stack.specs.Shapes.{Held, Map, Shape, Is, Copy, Fits, Lie}

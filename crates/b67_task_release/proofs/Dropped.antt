@@ -12,7 +12,7 @@ use Rattle.b67_area.specs.Spans.{area_at}
 use Rattle.b67_backing.specs.Shelf.{Shelf, Table, IsShelf, chain_of}
 use Rattle.b67_backing.proofs.News.{chain_of-others, chain_of-given}
 use Rattle.b67_ctl.specs.declared.registers.Regs.{Regs}
-use Rattle.b67_model.specs.Lists.{Has}
+use Rattle.b67_lemmas.specs.Lists.{Has}
 use Rattle.b67_stack.specs.Shapes.{Held, Map, Shape, Is, Original, Copy, Copied, Fits}
 use Rattle.b67_stack.specs.Stacks.{words}
 use Rattle.b67_stack.specs.Picture.{Thing, Picture, Slot, Free, Running, Waiting, stack_of, slot_base, SlotFits, CopiesName, home_word}

@@ -11,7 +11,7 @@ use Rattle.b67_backing.specs.Shelf.{Table, IsShelf, chain_of}
 use Rattle.b67_ctl.specs.declared.descriptors.DataDesc.{DataDesc}
 use Rattle.b67_ctl.specs.declared.registers.Regs.{Regs}
 use Rattle.b67_ctl.specs.Descriptors.{data_word, IsDataDesc}
-use Rattle.b67_model.specs.Lists.{Has}
+use Rattle.b67_lemmas.specs.Lists.{Has}
 use Rattle.b67_law_order.proofs.Members.{has_append_left, has_append_right, has_append_cases}
 use Rattle.b67_stack.specs.declared.Cpu.{Cpu}
 use Rattle.b67_stack.specs.Shapes.{Held, IsOriginal}

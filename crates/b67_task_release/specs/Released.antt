@@ -7,7 +7,7 @@ use Rattle.b67_area.specs.Directory.{IsDirectory}
 use Rattle.b67_area.specs.declared.Kind.TheVariants.{Code}
 use Rattle.b67_backing.specs.Shelf.{Shelf, given, chain_of}
 use Rattle.b67_ctl.specs.declared.descriptors.DataDesc.{DataDesc}
-use Rattle.b67_model.specs.Lists.{Has}
+use Rattle.b67_lemmas.specs.Lists.{Has}
 use Rattle.b67_stack.specs.Shapes.{Held, IsOriginal}
 use Rattle.b67_stack.specs.Picture.{Thing, Picture, SlotFits, slot_base, is_present, address_or}
 use Rattle.b67_stack.specs.Stands.{Storage}

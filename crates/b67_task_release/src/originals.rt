@@ -4,7 +4,7 @@ ghost use Rattle.std.specs.Prelude.{◌≡◌, ◌⊎◌, ℕ, ◌≤◌, List, 
 ghost use Rattle.b67_area.specs.Spans.{Span};
 ghost use Rattle.b67_area.specs.Directory.{IsDirectory};
 ghost use Rattle.b67_backing.specs.Shelf.{Shelf, IsShelf, chain_of};
-ghost use Rattle.b67_model.specs.Lists.{Has};
+ghost use Rattle.b67_lemmas.specs.Lists.{Has};
 ghost use Rattle.b67_stack.specs.Shapes.{Held};
 ghost use Rattle.b67_stack.specs.Picture.{Thing, Picture};
 ghost use Rattle.b67_stack.specs.Stands.{Storage};

@@ -2,7 +2,7 @@
 use Rattle.std.proofs.Common.{◌≡◌, ◌≢◌, ℕ, zero, suc, ◌+◌, ◌-◌, ◌≤◌, List, [], ◌∷◌, ◌++◌, map, flat_map, Some, unwrap_or, refl, sym, ap, ◌∙◌, subst, inl, inr, ◌⊎◌, arith}
 use Rattle.std.proofs.lemmas.Bool.Decides.{eqb_tells}
 use Rattle.b67_model.specs.Keyed.{keyed}
-use Rattle.b67_model.specs.Lists.{Has}
+use Rattle.b67_lemmas.specs.Lists.{Has}
 use Rattle.b67_model.specs.State.{Frame, Standing, Marked, Entered, Array, Task, Here, mcp, no_frame, all_frames, frame}
 use Rattle.b67_model.specs.Environment.{level_of_standing, level_of_frame, environment_of, running_from, running, outward, running_level, frame_at}
 use Rattle.b67_model.specs.InOrder.{Starts, Known, known_of, base, outer_of, reach_of, StandsInOrder, FramesInOrder, TaskInOrder, SettingInOrder, TasksInOrder}

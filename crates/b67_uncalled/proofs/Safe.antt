@@ -1,6 +1,6 @@
 -- Words that lead to none of the intrinsics 12 to 16.
 use Rattle.std.proofs.Common.{◌≡◌, ◌^◌, ◌<◌, List}
-use Rattle.b67_model.specs.Lists.{Has}
+use Rattle.b67_lemmas.specs.Lists.{Has}
 use Rattle.b67_model.specs.Words as Words
 use Rattle.b67_model.specs.Words.{Word, Operand, Name, Ref, Row, Element, Original, Proc, Intrinsic}
 use Rattle.b67_model.specs.State.{Frame, Task, Array}

@@ -11,7 +11,7 @@ use Rattle.b67_model.specs.declared.operators.Op.TheVariants.{Namc, Plain}
 use Rattle.b67_model.specs.declared.operators.Code.TheVariants.{Stff}
 use Rattle.b67_model.specs.Answers.{Answer}
 use Rattle.b67_model.specs.Keyed.{keyed, change_keyed}
-use Rattle.b67_model.specs.Lists.{Has}
+use Rattle.b67_lemmas.specs.Lists.{Has}
 use Rattle.b67_model.specs.Words as Words
 use Rattle.b67_model.specs.Words.{Word, Operand, Name, Ref, Row, Element, Original, Proc, Intrinsic}
 use Rattle.b67_model.specs.State.{Frame, Standing, Task, Segment, Setting, Job, Course, Here, with_task}

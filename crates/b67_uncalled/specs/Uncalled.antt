@@ -6,14 +6,14 @@ use Rattle.b67_word.specs.declared.couples.Couple.{Couple}
 use Rattle.b67_word.specs.Couples.{couple}
 use Rattle.b67_model.specs.declared.operators.Op.{Op}
 use Rattle.b67_model.specs.declared.operators.Op.TheVariants.{Namc}
-use Rattle.b67_model.specs.Lists.{Has}
+use Rattle.b67_lemmas.specs.Lists.{Has}
 use Rattle.b67_model.specs.State.{Task, Segment, Member, Here}
 use Rattle.b67_model.specs.Program.{Program}
 use Rattle.b67_model.specs.Loader.{Entry, At, Break, listing}
 use Rattle.b67_model.specs.Rows.{reading_of}
 use Rattle.b67_model.specs.Schedule.{Switch}
 use Rattle.b67_model.specs.Run.{after}
-use Rattle.b67_law_order_steps.specs.Profiles.{called}
+use Rattle.b67_model.specs.Called.{called}
 use Rattle.b67_law_order_runs.specs.Opening.{Opening, DeckWithin, opening}
 
 -- the cells of the MCP's record from 12 to 16

@@ -2,7 +2,7 @@ use Rattle.std.proofs.Common.{sym, subst}
 use Rattle.b67_model.specs.declared.operators.Op.{Op}
 use Rattle.b67_model.specs.Rows.{row}
 use Rattle.b67_layout.specs.Meets.{here}
-use Rattle.b67_law_order_steps.specs.Profiles.{called}
+use Rattle.b67_model.specs.Called.{called}
 use Rattle.b67_entry_enter.specs.Procedures.{CallsOrMeets}
 use Rattle.b67_exec.proofs.operators.perform.Goals as goal
 

@@ -4,7 +4,7 @@ use Rattle.b67_model.specs.declared.operators.Op.TheVariants.{Plain}
 use Rattle.b67_model.specs.Rows.{plain, entr}
 use Rattle.b67_model.specs.Steps.{top_of}
 use Rattle.b67_layout.specs.Meets.{here}
-use Rattle.b67_law_order_steps.specs.Profiles.{called}
+use Rattle.b67_model.specs.Called.{called}
 use Rattle.b67_entry_enter.specs.Procedures.{CallsOrMeets}
 use Rattle.b67_exec.proofs.Readings.{same_called}
 use Rattle.b67_exec.proofs.operators.plain.Goals as goal

@@ -1,6 +1,6 @@
 use Rattle.b67_model.specs.Rows.{row}
 use Rattle.b67_layout.specs.Meets.{here}
-use Rattle.b67_law_order_steps.specs.Profiles.{called}
+use Rattle.b67_model.specs.Called.{called}
 use Rattle.b67_session_attempt.proofs.Made.{called_length, operator_made}
 use Rattle.b67_session_attempt.proofs.making.go_on.Goals as goal
 

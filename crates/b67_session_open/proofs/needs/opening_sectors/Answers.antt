@@ -1,6 +1,6 @@
 use Rattle.std.proofs.Common.{◌≡◌, map, ap, ◌∙◌, arith}
 use Rattle.b67_codefile.specs.Meaning.{program_of}
-use Rattle.b67_model.specs.Lists.{total}
+use Rattle.b67_lemmas.specs.Lists.{total}
 use Rattle.b67_load.specs.Things.{sectors_of_program}
 use Rattle.b67_session_open.proofs.Heads.{programs_end}
 use Rattle.b67_session_open.proofs.Sums.{sectors_is}

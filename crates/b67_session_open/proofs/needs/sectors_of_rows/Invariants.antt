@@ -1,7 +1,7 @@
 use Rattle.std.proofs.Common.{◌≡◌, ℕ, ◌+◌, ◌*◌, ◌≤◌, List, length, map, drop}
 use Rattle.b67_word.specs.Tagged.{contents}
 use Rattle.b67_backing.specs.Held.{sectors_for}
-use Rattle.b67_model.specs.Lists.{total}
+use Rattle.b67_lemmas.specs.Lists.{total}
 use Rattle.b67_session_open.proofs.needs.sectors_of_rows.Given as goal
 
 abbrev pub invariant-rows : goal.invariant-rows

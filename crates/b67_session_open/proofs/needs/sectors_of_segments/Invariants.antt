@@ -1,7 +1,7 @@
 use Rattle.std.proofs.Common.{◌≡◌, ◌+◌, ◌*◌, ◌≤◌, length, map, drop}
 use Rattle.b67_backing.specs.Held.{sectors_for}
 use Rattle.b67_codefile.specs.Meaning.{segment_of}
-use Rattle.b67_model.specs.Lists.{total}
+use Rattle.b67_lemmas.specs.Lists.{total}
 use Rattle.b67_model.specs.State.{Segment}
 use Rattle.b67_session_open.proofs.needs.sectors_of_segments.Given as goal
 

@@ -5,7 +5,7 @@ ghost use Rattle.b67_model_text.specs.declared.assembly.Mnemonic.TheVariants as 
 ghost use Rattle.b67_model_text.specs.Answers.{or_reason};
 ghost use Rattle.b67_model_text.specs.Command.{row_of, parted};
 ghost use Rattle.b67_model_text.specs.Statements as spec;
-ghost use Rattle.b67_asm.specs.Rows.{keyed, ValuesPut};
+ghost use Rattle.b67_asm_read.specs.Rows.{keyed, ValuesPut};
 
 use crate::number::{bits_in, numeral_up_to};
 use b67_card::{name, parted, words};

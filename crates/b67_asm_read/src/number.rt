@@ -3,7 +3,7 @@ ghost use Rattle.std.specs.Prelude.{◌≡◌, ◌+◌, ◌*◌, ◌%◌, ◌^�
 ghost use Rattle.std.specs.List.{list_all};
 ghost use Rattle.b67_model_text.specs.Hex.{hex_digit, digit_value};
 ghost use Rattle.b67_model_text.specs.Statements.{numeral_up_to, negative_bits, are_hex, digit_bits, hex_bits, bits_in};
-ghost use Rattle.b67_asm.specs.Bounds.{IfInRange};
+ghost use Rattle.b67_asm_read.specs.Bounds.{IfInRange};
 
 use b67_card::natural;
 
