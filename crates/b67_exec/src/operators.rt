@@ -23,6 +23,7 @@ use b67_stack::{Cpu, Step, What};
 use b67_word::{Fault, Place};
 
 /// An operator without parameters, behind which the task goes on at `next`.
+#[inline(always)]
 fn plain(cpu: &mut Cpu, code: Code, next: Place) -> Step
     requires runs { RunsSome cpu.old }
     requires next { IsPlace next }
@@ -67,6 +68,7 @@ fn plain(cpu: &mut Cpu, code: Code, next: Place) -> Step
 }
 
 /// An operator, behind which the task goes on at `next`.
+#[inline(always)]
 pub fn perform(cpu: &mut Cpu, op: Op, next: Place) -> Step
     requires runs { RunsSome cpu.old }
     requires parameters { ParametersFit op }
@@ -96,6 +98,7 @@ pub fn perform(cpu: &mut Cpu, op: Op, next: Place) -> Step
 /// `Absent(Code(..))`, with nothing changed, exactly where the running segment is absent, and `Call(n)`, with nothing
 /// changed, exactly where the operator calls intrinsic n. INVALID OPERATOR where no operator is read. Else `Done`,
 /// `Absent(Array(..))`, `Fault` and `Ended` are by the operator's row; nothing is changed but at `Done`.
+#[inline(always)]
 pub fn operator(cpu: &mut Cpu) -> Step
     requires { RunsSome cpu.old }
     ensures row { ForEach cpu.old (λ x plan s m t. OperatorMeets x plan s m t result cpu.old cpu.new) }

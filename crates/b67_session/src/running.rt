@@ -34,18 +34,21 @@ impl Model for Session {
 
 impl Session {
     /// The session for which a machine stands.
+    #[inline(always)]
     pub fn of(machine: Machine) -> Self
         ensures { result ≡ machine }
     {
         Session { machine }
     }
 
+    #[inline(always)]
     pub fn machine(&self) -> &Machine
         ensures { result.now ≡ self.now }
     {
         &self.machine
     }
 
+    #[inline(always)]
     pub fn into_machine(self) -> Machine
         ensures { result ≡ self }
     {
@@ -54,6 +57,7 @@ impl Session {
 
     /// Makes steps until the session has ended, the count of the halt is reached, or `n` were made, looked at in this order;
     /// as `slice` does. It may be called again after every stop, and prints nothing twice.
+    #[inline(always)]
     pub fn slice<B: Backing, K: Sink>(
         &mut self,
         n: u64,

@@ -27,6 +27,7 @@ pub enum Progress {
 }
 
 /// Whether a slice goes no further: no task lives, or else the count of the halt is reached.
+#[inline(always)]
 fn pause(tasks: &Tasks) -> Option<Progress>
     ensures { Pauses tasks.now result }
 {
@@ -41,6 +42,7 @@ fn pause(tasks: &Tasks) -> Option<Progress>
 
 /// Makes steps of a session of one job with one ready task until that has ended, the count of the halt is reached, or `n`
 /// were made, looked at in this order.
+#[inline(always)]
 fn go_on<B: Backing, K: Sink>(
     machine: &mut Machine,
     n: u64,
@@ -100,6 +102,7 @@ fn go_on<B: Backing, K: Sink>(
 /// backing. Where nothing is known of what the device's sectors hold, the words that it gives back may be others, and as
 /// many. After `Ended` the machine stands for the session without a task; where it was known what the sectors hold, for
 /// the one after the steps.
+#[inline(always)]
 pub fn slice<B: Backing, K: Sink>(
     machine: &mut Machine,
     n: u64,

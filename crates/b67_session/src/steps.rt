@@ -22,6 +22,7 @@ use b67_task_tables::Machine;
 /// Makes one step, with its text printed and its operator counted. After a `Stop` it isn't counted, and the machine stands
 /// for the state before it; but where the printer failed in the line of LIMIT, the step is made and counted but for that line
 /// and the task's end. After the last step the machine stands for the session without a task.
+#[inline(always)]
 pub(crate) fn step<B: Backing, K: Sink>(
     machine: &mut Machine,
     backing: &mut B,

@@ -14,6 +14,7 @@ use b67_task_tables::Machine;
 use b67_task_switch::switch_to;
 
 /// The task of a row is then the running one, if it wasn't. The session's state stays.
+#[inline(always)]
 pub(crate) fn give_turn(machine: &mut Machine, row: u8)
     requires { HasRow machine.old row }
     ensures stands { (x : Storage) (told : Option (List (List ℕ))) (plan : Plan) (s : Session) (r : TaskRow) → IsInOrderButPlaces s

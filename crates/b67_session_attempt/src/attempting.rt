@@ -29,6 +29,7 @@ use b67_word::{Ending, Fault};
 
 /// Makes the next operator, whose segment and array are present. Over a device that doesn't tell what its sectors hold, the
 /// code that was read back may want another array: it then ends its task by INVALID OPERATOR.
+#[inline(always)]
 fn last_try<K: Sink>(machine: &mut Machine, paper: &mut K) -> Result<Attempt, Stop>
     requires runs { ReadyRuns machine.old }
     requires countable { AreCountable machine.old.tasks.jobs }
@@ -55,6 +56,7 @@ fn last_try<K: Sink>(machine: &mut Machine, paper: &mut K) -> Result<Attempt, St
 }
 
 /// Makes the next operator, whose segment is present, with the array that it touches brought in first.
+#[inline(always)]
 fn with_code<B: Backing, K: Sink>(
     machine: &mut Machine,
     backing: &mut B,
@@ -99,6 +101,7 @@ fn with_code<B: Backing, K: Sink>(
 /// for the same session; after want of sectors and a failure of the backing its segment or its array is absent. Where both
 /// are present the backing isn't called. After `PrintFault` `printed` is raised by the bytes that were taken. Over a device
 /// that doesn't tell what its sectors hold, the words that it gave back may be others, and as many.
+#[inline(always)]
 pub fn attempt<B: Backing, K: Sink>(
     machine: &mut Machine,
     backing: &mut B,

@@ -23,6 +23,7 @@ use b67_stack::What;
 use b67_task_tables::Machine;
 
 /// The stop for a want of space, with the sectors that the session takes and those of the device where too few are free.
+#[inline(always)]
 fn stopped(machine: &Machine, fault: SpaceFault) -> Stop
     requires { StandsInOrder machine.now }
     ensures { StopsFor machine.now fault result }
@@ -39,6 +40,7 @@ fn stopped(machine: &Machine, fault: SpaceFault) -> Stop
 
 /// Brings in what the next operator wants, whatever has to give way; the running segment is then present too. After a
 /// stop the machine stands for the same session.
+#[inline(always)]
 pub fn bring_wanted<B: Backing>(
     machine: &mut Machine,
     backing: &mut B,

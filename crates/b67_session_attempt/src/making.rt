@@ -28,6 +28,7 @@ use b67_task_tables::Machine;
 use b67_word::{Fault, Place};
 
 /// EXIT, with the arrays given back of the activation record that it leaves.
+#[inline(always)]
 fn leave_by_exit(machine: &mut Machine) -> Step
     requires runs { MachineRuns machine.old }
     ensures row { ForEachReady machine.old (λ x told plan s m t. (next : Place) → step m.setting m.course.job t ≡ rows.exit (here m t next) → StepMakes x told plan s m t result machine.old machine.new) }
@@ -47,6 +48,7 @@ fn leave_by_exit(machine: &mut Machine) -> Step
 }
 
 /// RETN, in the same way.
+#[inline(always)]
 fn leave_by_retn(machine: &mut Machine) -> Step
     requires runs { MachineRuns machine.old }
     ensures row { ForEachReady machine.old (λ x told plan s m t. (next : Place) → step m.setting m.course.job t ≡ rows.retn (here m t next) → StepMakes x told plan s m t result machine.old machine.new) }
@@ -66,6 +68,7 @@ fn leave_by_retn(machine: &mut Machine) -> Step
 }
 
 /// An operator that leaves no activation record, behind which the task goes on at `next`.
+#[inline(always)]
 fn go_on(machine: &mut Machine, op: Op, next: Place) -> Step
     requires runs { MachineRuns machine.old }
     requires parameters { ParametersFit op }
@@ -80,6 +83,7 @@ fn go_on(machine: &mut Machine, op: Op, next: Place) -> Step
 }
 
 /// An operator, behind which the task goes on at `next`, with the arrays given back of an activation record that it leaves.
+#[inline(always)]
 fn operate(machine: &mut Machine, op: Op, next: Place) -> Step
     requires runs { MachineRuns machine.old }
     requires parameters { ParametersFit op }
@@ -102,6 +106,7 @@ fn operate(machine: &mut Machine, op: Op, next: Place) -> Step
 /// `Absent(Code(..))` exactly where the running segment is absent, and `Call(n)` exactly where the operator calls
 /// intrinsic n. Else `Done`, `Absent(Array(..))`, `Fault` and `Ended` are by the operator's row. Nothing is changed but at
 /// `Done`.
+#[inline(always)]
 pub fn make(machine: &mut Machine) -> Step
     requires runs { MachineRuns machine.old }
     ensures row { (x : Storage) (told : Option (List (List ℕ))) (plan : Plan) (s : Session) (m : Member) (t : Task) → IsInOrderButPlaces s

@@ -32,6 +32,7 @@ pub enum Tried {
 /// changed but where it was made. `PrintFault`, with nothing changed but that `printed` is raised by the bytes of its text
 /// that were taken, which aren't all, only where the printer failed. A step that was made, ends its task, or can't be printed
 /// needs no more words than core has.
+#[inline(always)]
 pub fn try_once<K: Sink>(machine: &mut Machine, paper: &mut K) -> Result<Tried, Stop>
     requires runs { ReadyRuns machine.old }
     requires countable { AreCountable machine.old.tasks.jobs }

@@ -14,6 +14,7 @@ use crate::ready::{Who, next_row, ready_row};
 use crate::switches::{is_left, switch_to};
 use b67_task_tables::Tasks;
 
+#[inline(always)]
 fn last_of(tasks: &Tasks) -> Who
     ensures { who_is result ≡ record { job = tasks.now.last_job; task = tasks.now.last_number } }
 {
@@ -24,6 +25,7 @@ fn last_of(tasks: &Tasks) -> Who
 }
 
 /// The row of the ready task that a switch of this count names.
+#[inline(always)]
 fn switched_row(tasks: &Tasks) -> Option<u8>
     ensures row { (plan : Plan) (s : Session) → IsInOrderButPlaces s → TasksShow plan s tasks.now → RowOf tasks.now.rows.items result (switched s) }
     ensures inside { IfSome result (λ row. row < length tasks.now.rows.items) }
@@ -35,6 +37,7 @@ fn switched_row(tasks: &Tasks) -> Option<u8>
 }
 
 /// Whether the last task's turn goes on, if it is ready.
+#[inline(always)]
 fn lasts(tasks: &Tasks) -> bool
     ensures { (plan : Plan) (s : Session) → IsInOrderButPlaces s → TasksShow plan s tasks.now → result ≡ turn_lasts s }
 {
@@ -42,6 +45,7 @@ fn lasts(tasks: &Tasks) -> bool
 }
 
 /// The row of the last task, where it goes on.
+#[inline(always)]
 fn last_row(tasks: &Tasks) -> Option<u8>
     ensures row { (plan : Plan) (s : Session) → IsInOrderButPlaces s → TasksShow plan s tasks.now → GoesOnAt tasks.now.rows.items result s }
     ensures inside { IfSome result (λ row. row < length tasks.now.rows.items) }
@@ -54,6 +58,7 @@ fn last_row(tasks: &Tasks) -> Option<u8>
 }
 
 /// The row of the next ready task in the cyclic order.
+#[inline(always)]
 fn row_after(tasks: &Tasks) -> Option<u8>
     ensures row { (plan : Plan) (s : Session) → IsInOrderButPlaces s → TasksShow plan s tasks.now → RowOf tasks.now.rows.items result (next_after s) }
     ensures inside { IfSome result (λ row. row < length tasks.now.rows.items) }
@@ -66,6 +71,7 @@ fn row_after(tasks: &Tasks) -> Option<u8>
 }
 
 /// The task of a row, with how many operators of its turn it has made.
+#[inline(always)]
 fn chosen_at(tasks: &Tasks, row: u8, turn: u32) -> Chosen
     requires { row < length tasks.now.rows.items }
     ensures who { (who : schedule.Who) → IsReadyAt tasks.now.rows.items row who → choice_of result ≡ record { who = who; turn = turn } }
@@ -81,6 +87,7 @@ fn chosen_at(tasks: &Tasks, row: u8, turn: u32) -> Chosen
 }
 
 /// The task that the rules choose.
+#[inline(always)]
 fn by_rules(tasks: &Tasks) -> Option<Chosen>
     ensures { (plan : Plan) (s : Session) → IsInOrderButPlaces s → TasksShow plan s tasks.now → Chooses tasks.now.rows.items result (choice s) }
 {
@@ -97,6 +104,7 @@ fn by_rules(tasks: &Tasks) -> Option<Chosen>
 }
 
 /// The task that makes the next operator; None exactly where no task is ready.
+#[inline(always)]
 pub fn choose(tasks: &Tasks) -> Option<Chosen>
     ensures choice { (plan : Plan) (s : Session) → IsInOrderButPlaces s → TasksShow plan s tasks.now → Chooses tasks.now.rows.items result (choice s) }
     ensures none { (plan : Plan) (s : Session) → IsInOrderButPlaces s → TasksShow plan s tasks.now → (result ≡ None) ↔ (ready s ≡ []) }
@@ -107,6 +115,7 @@ pub fn choose(tasks: &Tasks) -> Option<Chosen>
 }
 
 /// The row of the task that makes the next operator; None exactly where no task is ready.
+#[inline(always)]
 pub fn schedule(tasks: &Tasks) -> Option<u8>
     ensures row { (plan : Plan) (s : Session) → IsInOrderButPlaces s → TasksShow plan s tasks.now → RowOf tasks.now.rows.items result (option_map (λ c. c.who) (choice s)) }
     ensures none { (plan : Plan) (s : Session) → IsInOrderButPlaces s → TasksShow plan s tasks.now → (result ≡ None) ↔ (ready s ≡ []) }

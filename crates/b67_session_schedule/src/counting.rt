@@ -27,6 +27,7 @@ pub struct Chosen {
 }
 
 /// A job has made one operator more.
+#[inline(always)]
 fn count_of_job(rows: &mut [JobRow], at: usize)
     requires { (r : JobRow) × (slice_get rows.old at ≡ Some r) × (r.made + 1 < 2 ^ 64) }
     ensures { (r : JobRow) → slice_get rows.old at ≡ Some r → rows.new ≡ slice_set rows.old at (counted_row r) }
@@ -36,6 +37,7 @@ fn count_of_job(rows: &mut [JobRow], at: usize)
 }
 
 /// The first switch that is left, where that was `from` before one operator more was made.
+#[inline(always)]
 fn first_left(switches: &[Switch], from: u32, made: u64) -> u32
     requires { from ≤ length switches.now }
     ensures within { result ≤ length switches.now }
@@ -51,6 +53,7 @@ fn first_left(switches: &[Switch], from: u32, made: u64) -> u32
 
 /// Counts one operator of the chosen task, in the session, in its job and in its turn; that task is then the last one.
 /// All else of the tables stays.
+#[inline(always)]
 pub fn count(tasks: &mut Tasks, chosen: Chosen)
     requires { HasRoom tasks.old chosen }
     ensures counted { (plan : Plan) (s : Session) → NumberedFrom 1 s.jobs → TasksShow plan s tasks.old → TasksShow plan (counted s (choice_of chosen)) tasks.new }

@@ -62,6 +62,15 @@ impl Cpu {
         }
     }
 
+    /// Whether the top activation record is entered.
+    pub fn is_top_entered(&self) -> bool
+        requires { Runs self.now }
+        ensures { (x : Storage) (p : Picture) (stack : List Activation) → Stands x self.now.core self.now.regs p
+            → RunsOn p self.now.regs.slot stack → result ≡ (top_mark_of self.now.regs.slot stack).entered }
+    {
+        Mscw::is_entered(self.core.get(self.regs.f))
+    }
+
     /// The running level without the top activation record.
     fn level_below(&self) -> u8
         requires { Runs self.now }

@@ -10,7 +10,10 @@ use Rattle.b67_word.specs.Tagged.{Tagged, bits_at, contents}
 use Rattle.b67_model.specs.Operators.{Form, Alone, OneMore, TwoMore, Literal, form_of, syllable, count_at, place_at, ends_at, reads, operator_at, Reading}
 use Rattle.b67_model.specs.declared.operators.Op.{Op}
 use Rattle.b67_model.specs.declared.operators.Undecodable.TheVariants.{PastEnd}
+use Rattle.b67_model.specs.declared.operators.Code.{Code}
+use Rattle.b67_model.specs.declared.operators.Op.TheVariants.{Plain}
 use Rattle.b67_syllable.specs.declared.kinds.Kind.{Kind}
+use Rattle.b67_syllable.specs.declared.kinds.Kind.TheVariants.{Lone}
 use Rattle.b67_syllable.specs.Kinds.{form, end_of, operator_of}
 
 weight : (k : ℕ) → 256 ^ k ≡ 2 ^ (8 * k)
@@ -25,6 +28,14 @@ syllable_is code n w within is =
     let inside : n / 6 < length code = omega arith in
     let bits : get_or (contents code) (n / 6) 0 ≡ w.bits = get_or-map (λ (v : Tagged). v.bits) code (n / 6) w 0 inside ∙ ap (λ (v : Tagged). v.bits) (sym is) in
     rw (bits, weight (5 - n % 6)) refl
+
+-- the same by the place
+pub first_is : (code : List Tagged) (at : Place) (w : Tagged) → at.syllable < 6 → at.word < length code → w ≡ get_or code at.word w → bits_at w (8 * (5 - at.syllable)) 8 ≡ syllable (contents code) (count_at at)
+first_is code at w in_word inside is =
+    let word : (6 * at.word + at.syllable) / 6 ≡ at.word = omega arith in
+    let rest : (6 * at.word + at.syllable) % 6 ≡ at.syllable = omega arith in
+    let bits : get_or (contents code) at.word 0 ≡ w.bits = get_or-map (λ (v : Tagged). v.bits) code at.word w 0 inside ∙ ap (λ (v : Tagged). v.bits) (sym is) in
+    rw (word, rest, bits, weight (5 - at.syllable)) refl
 
 reads_is : (code : List ℕ) (n : ℕ) (f : Form) → reads code n (Some f) ≡ ends_at code (end_of n f) (operator_of code n f)
 reads_is code n (Alone op) = refl
@@ -65,3 +76,11 @@ pub past_end : (code : List Tagged) (at : Place) (n : ℕ) (kind : Kind) → Beg
 past_end code at n kind b end end_is past =
     let test : nat_le end (6 * length (contents code)) ≡ false = rw (length-map code (λ (v : Tagged). v.bits)) (grind (arith, nat_tests)) in
     rw (found code at n kind b, ← end_is, test) refl
+
+-- an operator that is its first syllable alone
+pub alone : (code : List Tagged) (at : Place) (operator : Code) (first : ℕ) (place : Place) → at.syllable < 6 → at.word < length code →
+    first ≡ syllable (contents code) (count_at at) → form_of first ≡ Some (Alone operator) → place ≡ place_at (count_at at + 1) →
+    ◌≡◌ {A = Reading} (Ok (Plain operator, place)) (operator_at (contents code) at)
+alone code at operator first place in_word inside first_is form_is place_is =
+    let b : Begins code at (count_at at) (Lone operator) = record { in_word = in_word; inside = omega arith; count = refl; first = first; first_is = first_is; form_is = form_is } in
+    ends code at (count_at at) (Lone operator) b (count_at at + 1) (Plain operator) place refl refl place_is (omega arith)
