@@ -10,12 +10,12 @@ ghost use Rattle.b67_refer.specs.Scene.{Scene, IsShown};
 ghost use Rattle.b67_entry.specs.Left.{Returns, caller_regs, caller_stack, here_left};
 ghost use Rattle.b67_entry.specs.Returned.{ReturnsWord, with_word};
 
-use b67_ctl::Regs;
-use b67_exec_cells::element;
-use b67_entry_enter::accident_on;
 use crate::leave::{caller, is_critical};
-use b67_refer::{End, chase, rebuild};
 use crate::refusals::refusal;
+use b67_ctl::Regs;
+use b67_entry_enter::accident_on;
+use b67_exec_cells::element;
+use b67_refer::{End, chase, rebuild};
 use b67_stack::{Cpu, Step, What};
 use b67_word::{Fault, Word};
 

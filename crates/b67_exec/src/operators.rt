@@ -9,16 +9,16 @@ ghost use Rattle.b67_layout.specs.Meets.{here, RunsSome, ForEach};
 ghost use Rattle.b67_entry_enter.specs.Procedures.{CallsOrMeets};
 ghost use Rattle.b67_exec.specs.Operators.{ParametersFit, OperatorMeets};
 
-use crate::evaluating::{evaluate, load};
 use crate::assigning::{stod, ston};
-use b67_exec_cells::reading;
-use b67_entry_enter::{entr, mkst};
-use b67_fetch::{indx, nxlv, stff};
+use crate::evaluating::{evaluate, load};
 use b67_entry::{exit, retn};
-use b67_model::{Code, Op};
+use b67_entry_enter::{entr, mkst};
+use b67_exec_cells::reading;
 use b67_exec_operands::{
     Binary, Unary, branch_if, dlet, dupl, exch, go_on, literal, mpcw, namc, on_one, on_two,
 };
+use b67_fetch::{indx, nxlv, stff};
+use b67_model::{Code, Op};
 use b67_stack::{Cpu, Step, What};
 use b67_word::{Fault, Place};
 

@@ -14,10 +14,10 @@ ghost use Rattle.b67_exec_cells.specs.Elements.{HasElement, HoldsElement};
 ghost use Rattle.b67_fetch.specs.Fetches.{IsFollowed, MayFollow};
 ghost use Rattle.b67_fetch.specs.Indexes.{array_in, FindsArray, index_in, FindsItem, FindsTopItem};
 
-use b67_exec_cells::{replace_cells, two_cells};
+use crate::loading::put_element;
 use b67_ctl::DataDesc;
 use b67_exec_cells::elements::descriptor;
-use crate::loading::put_element;
+use b67_exec_cells::{replace_cells, two_cells};
 use b67_refer::{End, chase, owner};
 use b67_stack::{Cpu, Step};
 use b67_word::{Fault, Place, Word};

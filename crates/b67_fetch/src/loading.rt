@@ -15,8 +15,8 @@ ghost use Rattle.b67_exec_cells.specs.Tops.{cells, NoOriginals};
 ghost use Rattle.b67_exec_cells.specs.Elements.{HasElement, HoldsElement};
 ghost use Rattle.b67_fetch.specs.Fetches.{IsFollowed, MayFollow, IsEnd, FindsEnd, SomeEnd, value_of, enters, enters_at, EntersOrMeets, top_end};
 
-use b67_exec_cells::{element, replace_cells, row_copy, top_cell};
 use b67_ctl::Irw;
+use b67_exec_cells::{element, replace_cells, row_copy, top_cell};
 use b67_refer::{End, chase};
 use b67_stack::{Cpu, Step, What};
 use b67_word::{Fault, Place, Word};

@@ -10,8 +10,8 @@ ghost use Rattle.b67_exec_cells.specs.Elements.{HasElement, HoldsElement};
 ghost use Rattle.b67_fetch.specs.Fetches.{enters_at, EntersOrMeets};
 ghost use Rattle.b67_fetch.specs.Stores.{store_end, ElementAt, stored};
 
-use b67_exec_cells::two_cells;
 use b67_exec_cells::elements::descriptor;
+use b67_exec_cells::two_cells;
 use b67_refer::{End, chase};
 use b67_stack::{Cpu, Step, What};
 use b67_word::{Fault, Place, Word};

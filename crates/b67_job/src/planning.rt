@@ -8,8 +8,8 @@ ghost use Rattle.b67_session_open.specs.Decks.{IsLoaded};
 ghost use Rattle.b67_job.specs.Judgement.{missing};
 
 use b67_load_verify::Admitted;
-use b67_served::uses_built;
 use b67_model_text::Job;
+use b67_served::uses_built;
 
 /// The card of the first thing in a deck that the machine doesn't have yet: a program that names an intrinsic on tasks, at
 /// the card of its body, or a second job.

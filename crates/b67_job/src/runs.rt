@@ -20,15 +20,15 @@ ghost use Rattle.b67_job.specs.Runs.{RunEnds};
 
 use crate::lines::{backing_full_line, no_core_line, refusal_line};
 use crate::outcome::Outcome;
-use b67_job_admit::Refusal;
 use b67_backing::Backing;
 use b67_io::Sink;
-use b67_session_lines::{halted_line, line_of, say};
+use b67_job_admit::Refusal;
 use b67_load_verify::Admitted;
-use b67_session_open::{OpenFault, open};
-use b67_session::{Progress, Stop, slice};
-use b67_task_tables::Machine;
 use b67_model_text::Deck;
+use b67_session::{Progress, Stop, slice};
+use b67_session_lines::{halted_line, line_of, say};
+use b67_session_open::{OpenFault, open};
+use b67_task_tables::Machine;
 use std::alloc::Global;
 
 fn say_backing_fault<K: Sink>(printer: &mut K) -> u8

@@ -25,13 +25,13 @@ ghost use Rattle.b67_job.specs.Judgement.{deck_judgement, asked, Refused, judged
 ghost use Rattle.b67_job.specs.Due.{Answered, Serves, RefusalEnds, TextEnds, DeckEnds, IsDue, IsRun, IsDone, IsShortOfCore, IsShortOfSectors, IsFailedBy, IsAmple, WasRead, usage_text, reading_text};
 
 use crate::command::{CommandLine, command_of};
-use crate::planning::missing_card;
-use b67_job_admit::{AdmitFault, Loaded, Refusal, admit, asm_text, check_text};
-use b67_backing::Backing;
-use crate::outcome::Outcome;
 use crate::lines::{refusal_line, say_text};
+use crate::outcome::Outcome;
+use crate::planning::missing_card;
 use crate::runs::run_deck;
+use b67_backing::Backing;
 use b67_io::{Sink, Source};
+use b67_job_admit::{AdmitFault, Loaded, Refusal, admit, asm_text, check_text};
 use b67_session_lines::{line_of, say};
 use b67_word::Bytes;
 use std::alloc::Global;

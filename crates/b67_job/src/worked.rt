@@ -3,12 +3,12 @@
 ghost use Rattle.std.specs.Prelude.{◌≡◌, ◌≢◌, ◌+◌, length, None, IfSome, IfOk};
 ghost use Rattle.b67_job.specs.Runs.{AreCountable, IsOpen};
 
-use crate::top::run;
-use crate::tests::{bytes_of, numbers_of};
-use b67_backing::{Backing, FileBacking, HonestBacking, MemoryBacking};
 use crate::outcome::Outcome;
-use b67_session::{Progress, Session};
+use crate::tests::{bytes_of, numbers_of};
+use crate::top::run;
+use b67_backing::{Backing, FileBacking, HonestBacking, MemoryBacking};
 use b67_io::{Paper, Tape};
+use b67_session::{Progress, Session};
 use b67_task_tables::Machine;
 use std::alloc::{AllocError, Global};
 use std::fs;

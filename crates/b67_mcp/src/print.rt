@@ -10,8 +10,8 @@ ghost use Rattle.b67_mcp.specs.Running.{ForRuns, ForCalls, Reads, Kept, IsHeard}
 use crate::running::{cut, running_row};
 use crate::{CallEnd, Stop};
 use b67_io::Sink;
-use b67_session_lines::{put_rest, value_line};
 use b67_mcp_calls::print_value;
+use b67_session_lines::{put_rest, value_line};
 use b67_task_tables::Machine;
 use b67_word::Failed;
 

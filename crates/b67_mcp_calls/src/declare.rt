@@ -10,10 +10,10 @@ ghost use Rattle.b67_mcp_calls.specs.Declaring as definition;
 ghost use Rattle.b67_mcp_calls.specs.Declaring.{job_declared, with_home, without, LengthMeets};
 
 use crate::answer::put;
-use b67_exec_cells::{count_cells, top_cell};
+use crate::calls::cut_call;
 use b67_ctl::DataDesc;
 use b67_entry::is_critical;
-use crate::calls::cut_call;
+use b67_exec_cells::{count_cells, top_cell};
 use b67_stack::Cpu;
 use b67_word::{Fault, Place, Word};
 

@@ -10,10 +10,10 @@ ghost use Rattle.b67_mcp_calls.specs.Calls.{CallSome, IsCall};
 ghost use Rattle.b67_mcp_calls.specs.RowCalls.{CopyMeets, MissesCopy, RowMeets, RowTouches};
 
 use crate::whole::are_whole;
-use b67_exec_cells::{count_cells, top_cell};
 use b67_ctl::DataDesc;
-use b67_exec_cells::elements::descriptor;
 use b67_entry::is_critical;
+use b67_exec_cells::elements::descriptor;
+use b67_exec_cells::{count_cells, top_cell};
 use b67_refer::owner;
 use b67_stack::Cpu;
 use b67_word::{Fault, Word};

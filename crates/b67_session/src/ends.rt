@@ -9,11 +9,11 @@ ghost use Rattle.b67_session_attempt.specs.Passed.{AreCountable};
 ghost use Rattle.b67_session_attempt.specs.Stops.{PrintFault};
 ghost use Rattle.b67_session.specs.Steps.{IsCounted, AtLimit, PutsText, ending_text, LimitEnds, Closes, Advances, Finishes};
 
-use b67_session_attempt::Stop;
-use b67_task::end_last;
 use b67_io::Sink;
+use b67_session_attempt::Stop;
 use b67_session_lines::{ending_line, put_rest};
 use b67_session_schedule::{Chosen, count};
+use b67_task::end_last;
 use b67_task_tables::{Machine, Tasks};
 use b67_word::Ending;
 

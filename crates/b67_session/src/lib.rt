@@ -7,7 +7,7 @@ mod slices;
 mod steps;
 mod turns;
 
-pub use b67_session_schedule::schedule;
 pub use b67_session_attempt::Stop;
+pub use b67_session_schedule::schedule;
 pub use running::Session;
 pub use slices::{Progress, slice};

@@ -12,9 +12,9 @@ ghost use Rattle.b67_session_attempt.specs.Brought.{WantsNothing};
 ghost use Rattle.b67_session.specs.Slices.{IsOpen, IsLone, IsLimited, Slices, Resumes, Over, StepsFit};
 
 use crate::slices::{Progress, slice};
-use b67_session_attempt::Stop;
 use b67_backing::Backing;
 use b67_io::Sink;
+use b67_session_attempt::Stop;
 use b67_task_tables::Machine;
 use std::marker::Model;
 

@@ -13,9 +13,9 @@ ghost use Rattle.b67_session.specs.Slices.{IsOpen, LivesOn, IsLone, IsLimited, S
 
 use crate::ends::{StepEnd, end_by_limit, is_at_limit};
 use crate::steps::step;
-use b67_session_attempt::Stop;
 use b67_backing::Backing;
 use b67_io::Sink;
+use b67_session_attempt::Stop;
 use b67_task_tables::{Machine, Tasks};
 
 /// How far a slice came: no task lives; the count of the halt is reached and a task lives; all its steps were made.

@@ -13,9 +13,9 @@ ghost use Rattle.b67_session.specs.Steps.{Steps, StepFits};
 
 use crate::ends::{StepEnd, advance, close};
 use crate::turns::give_turn;
-use b67_session_attempt::{Attempt, Stop, attempt};
 use b67_backing::Backing;
 use b67_io::Sink;
+use b67_session_attempt::{Attempt, Stop, attempt};
 use b67_session_schedule::choose;
 use b67_task_tables::Machine;
 

@@ -10,8 +10,8 @@ ghost use Rattle.b67_task_tables.specs.declared.tables.TaskRow.{TaskRow};
 ghost use Rattle.b67_task_tables.specs.Tables.{MachineStands};
 ghost use Rattle.b67_task_switch.specs.Standing.{HasRow};
 
-use b67_task_tables::Machine;
 use b67_task_switch::switch_to;
+use b67_task_tables::Machine;
 
 /// The task of a row is then the running one, if it wasn't. The session's state stays.
 #[inline(always)]

@@ -22,8 +22,8 @@ use crate::attempts::Attempt;
 use crate::bringing::bring_wanted;
 use crate::tries::{Tried, try_once};
 use b67_backing::Backing;
-use b67_mcp::Stop;
 use b67_io::Sink;
+use b67_mcp::Stop;
 use b67_task_tables::Machine;
 use b67_word::{Ending, Fault};
 

@@ -16,10 +16,10 @@ ghost use Rattle.b67_session_attempt.specs.Tries.{IsTouched};
 ghost use Rattle.b67_session_attempt.specs.Brought.{StopsFor, BroughtMeets};
 
 use b67_backing::{Backing, SpaceFault};
-use b67_presence::bring;
 use b67_mcp::Stop;
-use b67_task_need::sector_sum;
+use b67_presence::bring;
 use b67_stack::What;
+use b67_task_need::sector_sum;
 use b67_task_tables::Machine;
 
 /// The stop for a want of space, with the sectors that the session takes and those of the device where too few are free.

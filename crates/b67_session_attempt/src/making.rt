@@ -19,11 +19,11 @@ ghost use Rattle.b67_task_need.specs.Needing.{MachineRuns};
 ghost use Rattle.b67_task_tables.specs.Tables.{MachineStands};
 ghost use Rattle.b67_session_attempt.specs.Makes.{StepMakes, CallsOrMakes, MakesOperator, ForEachReady};
 
-use b67_exec_cells::reading;
 use b67_exec::{exit, perform, retn};
+use b67_exec_cells::reading;
 use b67_model::{Code, Op};
-use b67_task_release::release;
 use b67_stack::{Step, What};
+use b67_task_release::release;
 use b67_task_tables::Machine;
 use b67_word::{Fault, Place};
 

@@ -13,9 +13,9 @@ ghost use Rattle.b67_mcp.specs.Called.{AreCountable};
 ghost use Rattle.b67_mcp.specs.declared.ends.Stop.TheVariants.{PrintFault};
 ghost use Rattle.b67_session_attempt.specs.Tries.{ReadyRuns, TryMeets, TryFits};
 
-use b67_mcp::{CallEnd, Stop, intrinsic};
-use b67_io::Sink;
 use crate::making::make;
+use b67_io::Sink;
+use b67_mcp::{CallEnd, Stop, intrinsic};
 use b67_stack::{Step, What};
 use b67_task_tables::Machine;
 use b67_word::Ending;

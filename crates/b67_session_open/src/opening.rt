@@ -9,14 +9,14 @@ ghost use Rattle.b67_session_open.specs.Decks.{DeckInRange};
 ghost use Rattle.b67_session_open.specs.Opens.{IsOpened};
 
 use crate::fault::OpenFault;
+use crate::needs::{opening_need, opening_sectors};
+use crate::setting::set_up;
 use crate::tables::opening_tasks;
 use b67_backing::{Backing, Sectors};
 use b67_core::Core;
-use crate::needs::{opening_need, opening_sectors};
-use crate::setting::set_up;
 use b67_load_verify::Admitted;
-use b67_task_tables::Machine;
 use b67_model_text::Deck;
+use b67_task_tables::Machine;
 use std::alloc::Global;
 
 /// Opens a deck's session with a program for each job, in a core of so many words over a device: the machine stands for

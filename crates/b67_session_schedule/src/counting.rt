@@ -13,8 +13,8 @@ ghost use Rattle.b67_task_tables.specs.declared.tables.JobRow.{JobRow};
 ghost use Rattle.b67_task_tables.specs.Tables.{switch_of, TasksShow};
 ghost use Rattle.b67_session_schedule.specs.Counted.{choice_of, counted, counted_row, HasRoom, Past, IsLeft};
 
-use b67_task_tables::{JobRow, Tasks};
 use b67_model_text::Switch;
+use b67_task_tables::{JobRow, Tasks};
 
 /// The task that makes the next operator: its row; its job and number, from 1 on; and how many operators of its turn it
 /// has made.

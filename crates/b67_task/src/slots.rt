@@ -14,8 +14,8 @@ ghost use Rattle.b67_task.specs.Endings.{vacated, HasSlot, HasEnded};
 use b67_area::Areas;
 use b67_backing::Sectors;
 use b67_overlay::stack_top;
-use b67_task_release::release_words;
 use b67_stack::Cpu;
+use b67_task_release::release_words;
 use b67_word::Word;
 
 /// Makes a slot's base word and its word in the stack vector zeros; no task's registers are in use then.

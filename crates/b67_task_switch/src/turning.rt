@@ -14,8 +14,8 @@ ghost use Rattle.b67_task_tables.specs.declared.tables.Tasks.{Tasks};
 ghost use Rattle.b67_task_tables.specs.Tables.{TasksShow, MachineStands};
 ghost use Rattle.b67_task_switch.specs.Standing.{HasRow, InUse, Rests};
 
-use b67_ctl::Regs;
 use crate::switching::Turn;
+use b67_ctl::Regs;
 use b67_task_tables::{Machine, TaskRow, Tasks};
 
 /// Notes in a row where its task goes on.
