@@ -3,7 +3,7 @@ use Rattle.std.proofs.Common.{◌≡◌, ℕ, ◌+◌, ◌-◌, ◌*◌, ◌^◌
 use Rattle.std.specs.List.{AllByRecursion}
 use Rattle.std.proofs.lemmas.List.{take_all, length-drop, length-append, map-append}
 use Rattle.b67_word.specs.Tagged.{Tagged, contents}
-use Rattle.b67_codefile.specs.Spelling.{Bears}
+use Rattle.b67_codefile.specs.Spelling.{HasTag}
 use Rattle.b67_model_text.specs.Encoding.{packed}
 
 pub six_more : (xs : List ℕ) → 6 ≤ length xs → packed xs ≡ (((((get_or xs 0 0 * 256 + get_or xs 1 0) * 256 + get_or xs 2 0) * 256 + get_or xs 3 0) * 256 + get_or xs 4 0) * 256 + get_or xs 5 0) ∷ packed (drop 6 xs)
@@ -37,8 +37,8 @@ all_one : (P : Tagged → Type 0) (xs : List Tagged) (x : Tagged) → AllByRecur
 all_one P [] x h p = (p, tt)
 all_one P (y ∷ ys) x h p = (h.0, all_one P ys x h.1 p)
 
-pub all_behind : (xs : List Tagged) (x : Tagged) (new : List Tagged) → new ≡ xs ++ x ∷ [] → AllByRecursion (Bears 3) xs → Bears 3 x → AllByRecursion (Bears 3) new
-all_behind xs x new e h p = subst (AllByRecursion (Bears 3)) (sym e) (all_one (Bears 3) xs x h p)
+pub all_behind : (xs : List Tagged) (x : Tagged) (new : List Tagged) → new ≡ xs ++ x ∷ [] → AllByRecursion (HasTag 3) xs → HasTag 3 x → AllByRecursion (HasTag 3) new
+all_behind xs x new e h p = subst (AllByRecursion (HasTag 3)) (sym e) (all_one (HasTag 3) xs x h p)
 
 pub fewer : (xs : List Tagged) (x : Tagged) (rest : List ℕ) (new : List Tagged) (n : ℕ) → 6 ≤ length rest → new ≡ xs ++ x ∷ [] → 6 * length xs + length rest ≡ n → 6 * length new + length (take (length rest - 6) (drop 6 rest)) ≡ n
 fewer xs x rest new n le e h = omega (arith, ap length e, length-append xs (x ∷ []), ap length (rest_is 6 rest), length-drop 6 rest)

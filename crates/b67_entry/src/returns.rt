@@ -6,7 +6,7 @@ ghost use Rattle.b67_model.specs.Words as Words;
 ghost use Rattle.b67_model.specs.Entry as rows;
 ghost use Rattle.b67_stack.specs.declared.Step.TheVariants.{Done};
 ghost use Rattle.b67_layout.specs.Meets.{RunsSome, ForEach, Meets, here};
-ghost use Rattle.b67_refer.specs.Scene.{Scene, IsShown};
+ghost use Rattle.b67_refer.specs.RunningContext.{RunningContext, IsShown};
 ghost use Rattle.b67_entry.specs.Left.{Returns, caller_regs, caller_stack, here_left};
 ghost use Rattle.b67_entry.specs.Returned.{ReturnsWord, with_word};
 
@@ -35,7 +35,7 @@ fn put(cpu: &mut Cpu, regs: Regs, display: [u32; 32], word: Word)
 fn evaluate(cpu: &mut Cpu, regs: Regs, display: [u32; 32], word: Word) -> Step
     requires run { (r : RunsSome cpu.old) × (a : Returns r.member r.task) × (v : Words.Word) × ReturnsWord r.storage r.plan r.member r.task cpu.old a v word
         × (regs ≡ caller_regs cpu.old.regs (caller_stack r.plan r.member r.task a) a.back) }
-    requires shown { (b : Scene cpu.old.core regs) → IsShown b display }
+    requires shown { (b : RunningContext cpu.old.core regs) → IsShown b display }
     requires tag { word.tag ≢ 0 }
     ensures row { ForEach cpu.old (λ x plan s m t. (a : Returns m t) (v : Words.Word) → ReturnsWord x plan m t cpu.old a v word
         → regs ≡ caller_regs cpu.old.regs (caller_stack plan m t a) a.back

@@ -66,7 +66,7 @@ pub fn replace_cells(cpu: &mut Cpu, count: u32, w: Word, next: Place) -> Step
     requires runs { RunsSome cpu.old }
     requires cells { cpu.old.regs.f + count ≤ cpu.old.regs.s }
     ensures row { ForEach cpu.old (λ x plan s m t. (gone rest : List words.Word) (v : words.Word) → cells_of t ≡ gone ++ rest → length gone ≡ count
-        → NoOriginals gone → MayStand m.course.job v → IsWordOf x plan m t v (cpu.old.regs.s - count + 1) w
+        → NoOriginals gone → MayStand m.progress.job v → IsWordOf x plan m t v (cpu.old.regs.s - count + 1) w
         → Meets x plan s m result cpu.old cpu.new (leaves_cells (here m t next) (v ∷ rest) None)) }
 {
     let at = cpu.regs.s - count + 1;

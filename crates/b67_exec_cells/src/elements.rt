@@ -13,7 +13,7 @@ use b67_word::Word;
 /// The descriptor in the original of an array of the running job.
 pub fn descriptor(cpu: &Cpu, original: u32) -> DataDesc
     requires { (index : ℕ) × HoldsElement cpu.now original index }
-    ensures { ForEach cpu.now (λ x plan s m t. (n index : ℕ) → original ≡ plan.home m.setting.number n → HasElement m.course.job n index → result ≡ original_desc x plan m n) }
+    ensures { ForEach cpu.now (λ x plan s m t. (n index : ℕ) → original ≡ plan.home m.constants.number n → HasElement m.progress.job n index → result ≡ original_desc x plan m n) }
 {
     match DataDesc::from_word(cpu.core.get(original)) {
         Some(desc) => desc,
@@ -24,7 +24,7 @@ pub fn descriptor(cpu: &Cpu, original: u32) -> DataDesc
 /// The word of an element of an array of the running job. None exactly where the array is absent.
 pub fn element(cpu: &Cpu, original: u32, index: u32) -> Option<Word>
     requires { HoldsElement cpu.now original index }
-    ensures { ForEach cpu.now (λ x plan s m t. (n : ℕ) → original ≡ plan.home m.setting.number n → HasElement m.course.job n index → GivesElement x plan m n index result) }
+    ensures { ForEach cpu.now (λ x plan s m t. (n : ℕ) → original ≡ plan.home m.constants.number n → HasElement m.progress.job n index → GivesElement x plan m n index result) }
 {
     let desc = descriptor(cpu, original);
     if !desc.present {
@@ -36,7 +36,7 @@ pub fn element(cpu: &Cpu, original: u32, index: u32) -> Option<Word>
 /// The word of a copy of an array's descriptor, of the whole array.
 pub fn row_copy(cpu: &Cpu, original: u32) -> Word
     requires { (index : ℕ) × HoldsElement cpu.now original index }
-    ensures { ForEach cpu.now (λ x plan s m t. (n index at : ℕ) → original ≡ plan.home m.setting.number n → HasElement m.course.job n index → IsWordOf x plan m t (Row n) at result) }
+    ensures { ForEach cpu.now (λ x plan s m t. (n index at : ℕ) → original ≡ plan.home m.constants.number n → HasElement m.progress.job n index → IsWordOf x plan m t (Row n) at result) }
 {
     let desc = descriptor(cpu, original);
     if desc.present {

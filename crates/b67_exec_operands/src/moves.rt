@@ -2,11 +2,11 @@
 
 ghost use Rattle.std.specs.Prelude.{◌≡◌, ℕ};
 ghost use Rattle.b67_model.specs.Words as words;
-ghost use Rattle.b67_model.specs.State.{Task, Member};
+ghost use Rattle.b67_model.specs.State.{Task, SessionJob};
 ghost use Rattle.b67_model.specs.Intrinsics.{is_original as is_original_word};
 ghost use Rattle.b67_model.specs.Rows as rows;
-ghost use Rattle.b67_stack.specs.Stands.{Storage};
-ghost use Rattle.b67_layout.specs.Plan.{Plan};
+ghost use Rattle.b67_stack.specs.Represents.{Storage};
+ghost use Rattle.b67_layout.specs.Placement.{Placement};
 ghost use Rattle.b67_layout.specs.Meets.{here, Meets, RunsSome, ForEach};
 ghost use Rattle.b67_exec_cells.specs.Tops.{IsWordOf};
 
@@ -18,7 +18,7 @@ use b67_word::{Fault, Place, Word};
 /// Whether a word is the original of an array, which is never moved or copied.
 #[inline(always)]
 fn is_original(w: Word) -> bool
-    ensures { (x : Storage) (plan : Plan) (m : Member) (t : Task) (v : words.Word) (at : ℕ) → IsWordOf x plan m t v at w → result ≡ is_original_word v }
+    ensures { (x : Storage) (plan : Placement) (m : SessionJob) (t : Task) (v : words.Word) (at : ℕ) → IsWordOf x plan m t v at w → result ≡ is_original_word v }
 {
     match DataDesc::from_word(w) {
         Some(desc) => !desc.copy,

@@ -114,7 +114,7 @@ fn top_item(cpu: &Cpu) -> Result<(u32, u32), Fault>
 /// The word of a copy of an array's descriptor, of one element.
 fn item_copy(cpu: &Cpu, original: u32, index: u32) -> Word
     requires { HoldsElement cpu.now original index }
-    ensures { ForEach cpu.now (λ x plan s m t. (n at : ℕ) → original ≡ plan.home m.setting.number n → HasElement m.course.job n index → IsWordOf x plan m t (Element n index) at result) }
+    ensures { ForEach cpu.now (λ x plan s m t. (n at : ℕ) → original ≡ plan.home m.constants.number n → HasElement m.progress.job n index → IsWordOf x plan m t (Element n index) at result) }
 {
     let desc = descriptor(cpu, original);
     if desc.present {

@@ -35,8 +35,8 @@ pub fn put_element(cpu: &mut Cpu, count: u32, original: u32, index: u32, next: P
     requires holds { HoldsElement cpu.old original index }
     requires cells { cpu.old.regs.f + count ≤ cpu.old.regs.s }
     ensures row { ForEach cpu.old (λ x plan s m t. (gone rest : List words.Word) (n : ℕ) → cells t ≡ gone ++ rest → length gone ≡ count → NoOriginals gone
-        → original ≡ plan.home m.setting.number n → HasElement m.course.job n index
-        → Meets x plan s m result cpu.old cpu.new (leaves_cells (here m t next) (Operand (element_of m.course.job n index) ∷ rest) (Some n))) }
+        → original ≡ plan.home m.constants.number n → HasElement m.progress.job n index
+        → Meets x plan s m result cpu.old cpu.new (leaves_cells (here m t next) (Operand (element_of m.progress.job n index) ∷ rest) (Some n))) }
 {
     if cpu.regs.s - count >= cpu.regs.losr {
         return Step::Fault(Fault::StackOverflow);

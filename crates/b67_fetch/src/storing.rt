@@ -20,7 +20,7 @@ use b67_word::{Fault, Place, Word};
 /// array is read-only, then that it is absent.
 fn element_at(cpu: &Cpu, original: u32, index: u32) -> Result<u32, Step>
     requires { HoldsElement cpu.now original index }
-    ensures { ForEach cpu.now (λ x plan s m t. (n : ℕ) → original ≡ plan.home m.setting.number n → HasElement m.course.job n index → ElementAt x plan m n original index result) }
+    ensures { ForEach cpu.now (λ x plan s m t. (n : ℕ) → original ≡ plan.home m.constants.number n → HasElement m.progress.job n index → ElementAt x plan m n original index result) }
 {
     let desc = descriptor(cpu, original);
     if desc.read_only {

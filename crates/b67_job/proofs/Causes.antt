@@ -8,13 +8,13 @@ use Rattle.b67_io.specs.Causes.{Rose}
 use Rattle.b67_task_tables.specs.declared.tables.Machine.{Machine}
 use Rattle.b67_job_admit.specs.Admitting.{Prepared}
 use Rattle.b67_model.specs.Run.{after}
-use Rattle.b67_job.specs.Runs.{Rests, StepsFit}
+use Rattle.b67_job.specs.Runs.{RepresentsWithoutTasks, StepsFit}
 use Rattle.b67_job.specs.Runs.{AreCountable}
 use Rattle.b67_session_lines.specs.Stops.{IsFinished, IsHalted}
 use Rattle.b67_job.specs.Device.{Device, Tells, Failed}
 use Rattle.b67_job.specs.Texts.{Text, whole_of, TookUpTo, all_taken, cut_short}
 use Rattle.b67_job.specs.States.{StatesInOrder}
-use Rattle.b67_job.specs.Runs.{run_of, HasRoom, WasOpened, StopsAt, memory_refused, opening_wants_core, opening_wants_sectors, opening_fails, StopsOpened, all_end, halt_comes, step_wants_core, step_wants_sectors, step_fails, code_is_strange, RunStops, unopened, opened, IsPrinting}
+use Rattle.b67_job.specs.Runs.{run_of, RoomSuffices, WasOpened, StopsAt, memory_refused, opening_wants_core, opening_wants_sectors, opening_fails, StopsOpened, all_end, halt_comes, step_wants_core, step_wants_sectors, step_fails, code_is_strange, RunStops, unopened, opened, IsPrinting}
 use Rattle.b67_job.specs.Command.{command_of}
 use Rattle.b67_job.specs.declared.command.CommandLine.{CommandLine}
 use Rattle.b67_job.specs.declared.command.CommandLine.TheVariants as lines
@@ -103,7 +103,7 @@ module _ (d : Device) (core : ℕ) (p : Prepared) (machine : Option Machine) (st
   run_stands k e low high tells (opened k' is opens none stops) =
       subst (λ (x : Machine). StopsAt d.now (run_of p).session x × (x.tasks.printed ≡ 0)) (same_Some k' k (sym is ∙ e)) (stop_of low high tells stops, none)
 
-  rests_of : {k : Machine} → status ≡ 0 → Tells d → StopsOpened d core p k status text → Rests d.now k (after k.tasks.made (run_of p).session)
+  rests_of : {k : Machine} → status ≡ 0 → Tells d → StopsOpened d core p k status text → RepresentsWithoutTasks d.now k (after k.tasks.made (run_of p).session)
   rests_of e tells (all_end s h) = (h tells).rests
   rests_of e tells (halt_comes s some h) = absurd (omega (arith, e, s))
   rests_of e tells (step_wants_core s h) = absurd (omega (arith, e, s))
@@ -111,10 +111,10 @@ module _ (d : Device) (core : ℕ) (p : Prepared) (machine : Option Machine) (st
   rests_of e tells (step_fails s failed h) = absurd (omega (arith, e, s))
   rests_of e tells (code_is_strange s h) = absurd (h tells)
 
-  pub run_rests : (k : Machine) → machine ≡ Some k → status ≡ 0 → Tells d → RunStops d core p machine status text → Rests d.now k (after k.tasks.made (run_of p).session)
+  pub run_rests : (k : Machine) → machine ≡ Some k → status ≡ 0 → Tells d → RunStops d core p machine status text → RepresentsWithoutTasks d.now k (after k.tasks.made (run_of p).session)
   run_rests k e zero tells (unopened none stops) = absurd (none-some k (sym none ∙ e))
   run_rests k e zero tells (opened k' is opens none stops) =
-      subst (λ (x : Machine). Rests d.now x (after x.tasks.made (run_of p).session)) (same_Some k' k (sym is ∙ e)) (rests_of zero tells stops)
+      subst (λ (x : Machine). RepresentsWithoutTasks d.now x (after x.tasks.made (run_of p).session)) (same_Some k' k (sym is ∙ e)) (rests_of zero tells stops)
 
 -- a run stops with no status 8
 run_not_8 : {d : Device} {core : ℕ} {p : Prepared} {machine : Option Machine} {n : ℕ} {text : Text} → RunStops d core p machine n text → n ≢ 8
@@ -190,7 +190,7 @@ module _ {S : Type 0} {words : List (Bor (List ℕ))} {left : S → Option (List
   due_stands k e low high tells (memory_due c m s t) = absurd (none-some k (sym m ∙ e))
 
   due_rests : {n : ℕ} {text : Text} (k : Machine) → machine ≡ Some k → n ≡ 0 → Tells d → IsDue words left source_faults deck deck' d machine n text
-      → (core : ℕ) × (p : Prepared) × IsRun words left deck deck' core p × Rests d.now k (after k.tasks.made (run_of p).session)
+      → (core : ℕ) × (p : Prepared) × IsRun words left deck deck' core p × RepresentsWithoutTasks d.now k (after k.tasks.made (run_of p).session)
   due_rests k e zero tells (usage_due c g m s t) = absurd (none-some k (sym m ∙ e))
   due_rests k e zero tells (refusal_due command b r c w j m s t) = absurd (none-some k (sym m ∙ e))
   due_rests k e zero tells (print_due command b printed c r j m s t) = absurd (none-some k (sym m ∙ e))
@@ -262,7 +262,7 @@ module _ {S : Type 0} {words : List (Bor (List ℕ))} {left : S → Option (List
         by_end (answered status text due ends) = due_opened k e due
         by_end (cut_in_step core p text count run printing a rose part) = (core, p, run, subst (WasOpened d core p) (same_Some printing.left k (sym printing.is ∙ e)) printing.opens)
 
-    pub is_opened : (k : Machine) → machine ≡ Some k → (core : ℕ) × (p : Prepared) × IsRun words left deck deck' core p × HasRoom d core p
+    pub is_opened : (k : Machine) → machine ≡ Some k → (core : ℕ) × (p : Prepared) × IsRun words left deck deck' core p × RoomSuffices d core p
     is_opened k e = let z = was_opened k e in (z.0, z.1, z.2, z.3.room)
 
     pub is_in_order : (k : Machine) → machine ≡ Some k → (core : ℕ) × (p : Prepared) × IsRun words left deck deck' core p × StatesInOrder k.tasks.made (run_of p).session
@@ -281,7 +281,7 @@ module _ {S : Type 0} {words : List (Bor (List ℕ))} {left : S → Option (List
         due_stands k e low high tells u.1
 
     pub is_resting : (k : Machine) → machine ≡ Some k → Tells d → answer ≡ 0
-        → (core : ℕ) × (p : Prepared) × IsRun words left deck deck' core p × Rests d.now k (after k.tasks.made (run_of p).session)
+        → (core : ℕ) × (p : Prepared) × IsRun words left deck deck' core p × RepresentsWithoutTasks d.now k (after k.tasks.made (run_of p).session)
     is_resting k e tells zero =
         let u = due_at (λ z. omega (arith, zero, z)) in
         due_rests k e zero tells u.1

@@ -12,7 +12,7 @@ use Rattle.b67_codefile.specs.Meaning.{program_of}
 use Rattle.b67_model_text.specs.declared.deck.Job.{Job}
 use Rattle.b67_model_text.specs.declared.deck.Deck.{Deck}
 use Rattle.b67_lemmas.specs.Lists.{Has}
-use Rattle.b67_model.specs.State.{Task, Member}
+use Rattle.b67_model.specs.State.{Task, SessionJob}
 use Rattle.b67_model.specs.Program.{Program}
 use Rattle.b67_model.specs.Operators.{Reading}
 use Rattle.b67_model.specs.Rows.{reading_of}
@@ -31,11 +31,11 @@ use Rattle.b67_session_open.specs.declared.fault.OpenFault.TheVariants as faults
 use Rattle.b67_session_open.specs.Decks.{openings_of, session_of, DeckInRange, IsLoaded}
 use Rattle.b67_session_open.specs.Opens.{need_of, sectors_of_all, IsOpened}
 use Rattle.b67_session_open.proofs.Decks.{deck_within}
-use Rattle.b67_layout_storage.specs.Machine.{Says, retold}
+use Rattle.b67_layout_storage.specs.Machine.{Says, content_after}
 use Rattle.b67_session_open.specs.Stored.{told_after}
 use Rattle.b67_session_open.specs.Opened.{opening_plan}
 use Rattle.b67_session.specs.Passed.{AreCountable}
-use Rattle.b67_session.specs.Slices.{IsLone, LivesOn, SliceMeets, Rests, StepsFit}
+use Rattle.b67_session.specs.Slices.{IsLone, LivesOn, SliceMeets, RepresentsWithoutTasks, StepsFit}
 use Rattle.b67_session_lines.specs.Stops.{live_after}
 use Rattle.b67_session_lines.specs.Ends.{Ends}
 use Rattle.b67_job.specs.Device.{device_of}
@@ -69,14 +69,14 @@ has_only : {X : Type 0} (xs : List X) (x : X) → xs ≡ x ∷ [] → Has xs x
 has_only {X = X} xs x e = subst (λ (ys : List X). Has ys x) (sym e) (inl refl)
 
 pub never_unbuilt : (d : Deck) (fs : List Codefile) → DeckInRange d → AllByRecursion IsLoaded fs → AllByRecursion (λ (f : Codefile). uses_built (program_of f) ≡ true) fs
-    → (n : ℕ) (m : Member) (t : Task) (k : ℕ) → IsSingle (after n (session_of d (map program_of fs))) m t → called_in m t ≡ Some k → k < 12
-never_unbuilt d fs range loaded built n m t k single calls = by_reading (reading_of m.setting t) refl calls
+    → (n : ℕ) (m : SessionJob) (t : Task) (k : ℕ) → IsSingle (after n (session_of d (map program_of fs))) m t → called_in m t ≡ Some k → k < 12
+never_unbuilt d fs range loaded built n m t k single calls = by_reading (reading_of m.constants t) refl calls
   where
-    by_reading : (r : Reading) → reading_of m.setting t ≡ r → called_by m t r ≡ Some k → k < 12
+    by_reading : (r : Reading) → reading_of m.constants t ≡ r → called_by m t r ≡ Some k → k < 12
     by_reading (Err why) e calls = absurd (none-some k calls)
     by_reading (Ok read) e calls =
         unbuilt_is_never_called n d.stack d.quantum (map switch_of d.switches) (openings_of d.jobs (map program_of fs)) (deck_within d fs range loaded) (all_built d.jobs fs built)
-        m t (has_only (after n (session_of d (map program_of fs))).jobs m single.jobs) (has_only m.course.job.tasks t single.tasks) read.0 read.1 e k calls
+        m t (has_only (after n (session_of d (map program_of fs))).jobs m single.jobs) (has_only m.progress.job.tasks t single.tasks) read.0 read.1 e k calls
 
 -- ---- the run of a deck
 
@@ -111,15 +111,15 @@ module _ {K B : Type 0} (taken : K → Option (List ℕ)) (failures : K → ℕ)
       none_live : live_tasks (session_of d ps).jobs ≡ 0
       none_live = ap (λ (js : List Job). live_tasks (opening d.stack d.quantum (map switch_of d.switches) (openings_of js ps)).jobs) none
 
-      rests : holds b ≢ None → Rests (holds b') k (session_of d ps)
-      rests tells = subst (λ (x : Option (List (List ℕ))). Rests x k (session_of d ps)) (told_is (holds b) (holds b') tells)
+      rests : holds b ≢ None → RepresentsWithoutTasks (holds b') k (session_of d ps)
+      rests tells = subst (λ (x : Option (List (List ℕ))). RepresentsWithoutTasks x k (session_of d ps)) (told_is (holds b) (holds b') tells)
           (record { storage = o.2.storage; plan = opening_plan d.stack ps; stands = o.2.stands; none = none_live })
 
       done : holds b ≢ None → IsDone (holds b') (run_of (d, ps)) k (only [])
       done tells = record {
         within = within d.halt;
         over = subst (λ n. live_after n (session_of d ps) ≡ 0) (sym made) none_live;
-        rests = subst (λ n. Rests (holds b') k (after n (session_of d ps))) (sym made) (rests tells);
+        rests = subst (λ n. RepresentsWithoutTasks (holds b') k (after n (session_of d ps))) (sym made) (rests tells);
         printed = subst (λ n. only [] ≡ record { front = run_text (lines n (session_of d ps)); last = [] }) (sym made) refl;
       }
 
@@ -149,8 +149,8 @@ module _ {K B : Type 0} (taken : K → Option (List ℕ)) (failures : K → ℕ)
 
   pub one_run : (steps : ℕ) (old new : K) (answer : ℕ) → Changes holds b b' (λ before after. length after ≡ length before) → size b' ≡ size b → broken b ≤ broken b'
       → steps ≡ steps_of d.halt j.limit → k.tasks.halt ≡ k0.tasks.halt → AreCountable k.tasks.jobs → length k0.sectors.links ≡ size b + 1 → length k.sectors.links ≡ length k0.sectors.links → size b'' ≡ size b'
-      → ((x : Option (List (List ℕ))) (s : Session) (m : Member) (t : Task) → Says x (holds b') → IsLone x k0 s m t
-      → JobRan taken failures (retold x (holds b'')) (x ≢ None) (Rose broken b' b'') (size b') steps j.body_card s k0 k old new answer)
+      → ((x : Option (List (List ℕ))) (s : Session) (m : SessionJob) (t : Task) → Says x (holds b') → IsLone x k0 s m t
+      → JobRan taken failures (content_after x (holds b'')) (x ≢ None) (Rose broken b' b'') (size b') steps j.body_card s k0 k old new answer)
       → RunEnds taken failures (device_of holds size broken b b'') core (d, program_of f ∷ []) (Some k) old new answer
   one_run steps old new answer tells same later all halt countable begun_links links again rans =
       let first = session_of d (program_of f ∷ []) in
@@ -169,16 +169,16 @@ module _ {K B : Type 0} (taken : K → Option (List ℕ)) (failures : K → ℕ)
       })
       (single_opens d j (program_of f) one).jobs refl (halt ∙ o.2.halt)
       (known ≢ None) exact
-      (retold known (holds b'')) (λ told. retold_after (holds b) (holds b') (holds b'') told (still_told holds b b' tells told))
+      (content_after known (holds b'')) (λ told. retold_after (holds b) (holds b') (holds b'') told (still_told holds b b' tells told))
       r.slices.steps r.slices.session r.slices.printed (subst (λ n. r.slices.steps ≤ n) all r.slices.few) made (λ told. r.slices.leads (exact told))
       r.slices.was_due r.slices.is_due (λ told. r.slices.next (exact told)) k0.tasks.printed o.2.printed
       (λ m t n single calls. never_unbuilt d (f ∷ []) range (loaded, tt) (built, tt) r.slices.steps m t n single calls)
       r.answered old r.between new answer
-      (subst (λ n. SliceMeets (retold known (holds b'')) (known ≢ None) n (size b) (steps_of d.halt j.limit) r.slices.steps r.slices.session r.slices.is_due r.answered k) o.2.core_size
-      (subst (λ n. SliceMeets (retold known (holds b'')) (known ≢ None) (length k0.cpu.core) n (steps_of d.halt j.limit) r.slices.steps r.slices.session r.slices.is_due r.answered k) same
-      (subst (λ n. SliceMeets (retold known (holds b'')) (known ≢ None) (length k0.cpu.core) (size b') n r.slices.steps r.slices.session r.slices.is_due r.answered k) all r.slices.meets)))
+      (subst (λ n. SliceMeets (content_after known (holds b'')) (known ≢ None) n (size b) (steps_of d.halt j.limit) r.slices.steps r.slices.session r.slices.is_due r.answered k) o.2.core_size
+      (subst (λ n. SliceMeets (content_after known (holds b'')) (known ≢ None) (length k0.cpu.core) n (steps_of d.halt j.limit) r.slices.steps r.slices.session r.slices.is_due r.answered k) same
+      (subst (λ n. SliceMeets (content_after known (holds b'')) (known ≢ None) (length k0.cpu.core) (size b') n r.slices.steps r.slices.session r.slices.is_due r.answered k) all r.slices.meets)))
       r.finishes r.slices.prints (λ other. r.unprinted other o.2.printed)
-      (λ e told. let h = r.over e in subst (λ (z : Session). Rests (retold known (holds b'')) k z) (sym (h.is (exact told) k.tasks.made all_made)) h.rests)
+      (λ e told. let h = r.over e in subst (λ (z : Session). RepresentsWithoutTasks (content_after known (holds b'')) k z) (sym (h.is (exact told) k.tasks.made all_made)) h.rests)
       (λ e. let rose = r.device_failed e in omega (arith, later, rose))
       r.printer_failed r.later
 

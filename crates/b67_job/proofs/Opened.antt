@@ -5,7 +5,7 @@ use Rattle.b67_codefile.specs.declared.file.Codefile.{Codefile}
 use Rattle.b67_codefile.specs.Meaning.{program_of}
 use Rattle.b67_model_text.specs.declared.deck.Job.{Job}
 use Rattle.b67_model_text.specs.declared.deck.Deck.{Deck}
-use Rattle.b67_model.specs.State.{Entered, Ready, Task, Member}
+use Rattle.b67_model.specs.State.{Entered, Ready, Task, SessionJob}
 use Rattle.b67_model.specs.Program.{Program, opened}
 use Rattle.b67_model.specs.Schedule.{Switch}
 use Rattle.b67_model.specs.InOrder.{IsInOrderButPlaces}
@@ -22,12 +22,12 @@ use Rattle.b67_task_tables.specs.Tables.{switch_of}
 use Rattle.b67_session_open.specs.Decks.{opening_of, openings_of, session_of, DeckInRange, IsLoaded}
 use Rattle.b67_session_open.specs.Opens.{OpensAs}
 use Rattle.b67_session_open.proofs.Decks.{deck_within}
-use Rattle.b67_layout_storage.specs.Machine.{Says, retold}
+use Rattle.b67_layout_storage.specs.Machine.{Says, content_after}
 use Rattle.b67_session.specs.Slices.{IsLone}
 use Rattle.b67_job.specs.States.{StatesInOrder}
 
 -- the first job of a deck, and its first task
-abbrev pub member_of : ℕ → Job → Program → Member
+abbrev pub member_of : ℕ → Job → Program → SessionJob
 member_of stack j p = opened 1 p stack j.limit j.numbers
 
 abbrev pub task_of : Task
@@ -86,7 +86,7 @@ told_is None now some = absurd (some refl)
 told_is (Some all) None some = refl
 told_is (Some all) (Some other) some = refl
 
-pub retold_after : (before now later : Option (List (List ℕ))) → before ≢ None → now ≢ None → retold (told_after before now) later ≡ later
+pub retold_after : (before now later : Option (List (List ℕ))) → before ≢ None → now ≢ None → content_after (told_after before now) later ≡ later
 retold_after None now later some other = absurd (some refl)
 retold_after (Some all) None later some other = absurd (other refl)
 retold_after (Some all) (Some more) later some other = refl

@@ -8,7 +8,7 @@ use Rattle.b67_io.proofs.Joined.{Took-then}
 use Rattle.b67_exec_cells.specs.Running.{code_area}
 use Rattle.b67_session.specs.Passed.{IsShortOf}
 use Rattle.b67_session.specs.Passed.{IsLacking}
-use Rattle.b67_model.specs.State.{Setting, Task, Member}
+use Rattle.b67_model.specs.State.{JobConstants, Task, SessionJob}
 use Rattle.b67_model.specs.Need.{need}
 use Rattle.b67_model.specs.Sectors.{sectors}
 use Rattle.b67_model.specs.Lines.{run_text}
@@ -26,7 +26,7 @@ use Rattle.b67_single.proofs.Runs.{Came}
 use Rattle.b67_task_tables.specs.declared.tables.Machine.{Machine}
 use Rattle.b67_session.specs.declared.slices.Progress.{Progress}
 use Rattle.b67_session.specs.declared.slices.Progress.TheVariants as progress
-use Rattle.b67_session.specs.Slices.{IsLone, IsLimited, Rests, Reaches, Prints, SliceMeets}
+use Rattle.b67_session.specs.Slices.{IsLone, IsLimited, RepresentsWithoutTasks, Reaches, Prints, SliceMeets}
 use Rattle.b67_session_lines.specs.Moments.{last_part, due}
 use Rattle.b67_session_lines.specs.Stops.{halted_line}
 use Rattle.b67_session_lines.specs.Ends.{Ends, whole, cut}
@@ -62,32 +62,32 @@ module _ {K : Type 0} {taken : K → Option (List ℕ)} {old between : K} {was i
 
 -- ---- the steps that one job may make
 
-one_made : (m : Member) → sum_by (λ (m : Member). m.course.made) (m ∷ []) ≡ m.course.made
+one_made : (m : SessionJob) → sum_by (λ (m : SessionJob). m.progress.made) (m ∷ []) ≡ m.progress.made
 one_made m = omega arith
 
 -- a session whose one task lives has made fewer operators than the limit of its job
-fewer : (told : Option (List (List ℕ))) (k : Machine) (s : Session) (m : Member) (t : Task) → IsLone told k s m t → k.tasks.made < m.setting.limit
+fewer : (told : Option (List (List ℕ))) (k : Machine) (s : Session) (m : SessionJob) (t : Task) → IsLone told k s m t → k.tasks.made < m.constants.limit
 fewer told k s m t lone =
-    let counted : s.made ≡ m.course.made = lone.ordered.counted ∙ ap (λ (ms : List Member). sum_by (λ (m : Member). m.course.made) ms) lone.single.jobs ∙ one_made m in
+    let counted : s.made ≡ m.progress.made = lone.ordered.counted ∙ ap (λ (ms : List SessionJob). sum_by (λ (m : SessionJob). m.progress.made) ms) lone.single.jobs ∙ one_made m in
     let shown : k.tasks.made ≡ s.made = lone.stands.tables.counts.made in
-    let some : m.course.made < m.setting.limit = below IsSegment s m t lone.ordered lone.single in
+    let some : m.progress.made < m.constants.limit = below IsSegment s m t lone.ordered lone.single in
     omega (arith, counted, shown, some)
 
-abbrev limit_in : List Setting → ℕ
+abbrev limit_in : List JobConstants → ℕ
 limit_in [] = 0
 limit_in (x ∷ more) = x.limit
 
 -- the limit of the one job after so many steps is that of the first session's
-same_limit : (steps : ℕ) (first s : Session) (m w : Member) → after steps first ≡ s → s.jobs ≡ m ∷ [] → first.jobs ≡ w ∷ [] → m.setting.limit ≡ w.setting.limit
+same_limit : (steps : ℕ) (first s : Session) (m w : SessionJob) → after steps first ≡ s → s.jobs ≡ m ∷ [] → first.jobs ≡ w ∷ [] → m.constants.limit ≡ w.constants.limit
 same_limit steps first s m w leads one one' =
-    sym (ap (λ (ms : List Member). limit_in (settings ms)) one)
+    sym (ap (λ (ms : List SessionJob). limit_in (settings ms)) one)
     ∙ ap (λ (z : Session). limit_in (settings z.jobs)) (sym leads)
     ∙ ap limit_in (settings_stay steps first)
-    ∙ ap (λ (ms : List Member). limit_in (settings ms)) one'
+    ∙ ap (λ (ms : List SessionJob). limit_in (settings ms)) one'
 
 -- as many steps as a run may make end it or bring it to its halt
-more_is_no_end : (halt : Option ℕ) (limit : ℕ) (told : Option (List (List ℕ))) (k : Machine) (first s : Session) (m w : Member) (t : Task) (steps : ℕ)
-    → k.tasks.halt ≡ halt → k.tasks.made ≡ steps → steps ≡ steps_of halt limit → k.tasks.halt ≢ Some k.tasks.made → IsLone told k s m t → after steps first ≡ s → first.jobs ≡ w ∷ [] → w.setting.limit ≡ limit → ⊥
+more_is_no_end : (halt : Option ℕ) (limit : ℕ) (told : Option (List (List ℕ))) (k : Machine) (first s : Session) (m w : SessionJob) (t : Task) (steps : ℕ)
+    → k.tasks.halt ≡ halt → k.tasks.made ≡ steps → steps ≡ steps_of halt limit → k.tasks.halt ≢ Some k.tasks.made → IsLone told k s m t → after steps first ≡ s → first.jobs ≡ w ∷ [] → w.constants.limit ≡ limit → ⊥
 more_is_no_end (Some count) limit told k first s m w t steps is made all over lone leads one limited = over (is ∙ ap Some (sym (made ∙ all)))
 more_is_no_end None limit told k first s m w t steps is made all over lone leads one limited =
     let less = fewer told k s m t lone in
@@ -101,21 +101,21 @@ within (Some count) limit steps le = le
 -- ---- what a step lacks
 
 -- a machine that stands for a session, whose next step lacks its segment or its array
-abbrev Lacking : ℕ → Machine → Member → Task → Option (List (List ℕ)) → Session → Type 0
+abbrev Lacking : ℕ → Machine → SessionJob → Task → Option (List (List ℕ)) → Session → Type 0
 Lacking core k m t told z = (h : IsLone told k z m t) × IsLacking h.storage h.plan m t × ((need core z m t ≤ core) ⊎ (code_area h.storage h.plan m t ≡ None))
 
 -- and which is short of sectors
-abbrev Short : ℕ → Machine → Member → Task → ℕ → ℕ → Option (List (List ℕ)) → Session → Type 0
+abbrev Short : ℕ → Machine → SessionJob → Task → ℕ → ℕ → Option (List (List ℕ)) → Session → Type 0
 Short core k m t wants free told z =
     (h : IsLone told k z m t) × IsLacking h.storage h.plan m t × ((need core z m t ≤ core) ⊎ (code_area h.storage h.plan m t ≡ None)) × IsShortOf h.storage h.plan z.jobs wants free
 
 -- ---- how a job's steps ended, as the run of its deck
 
-module _ {K : Type 0} (taken : K → Option (List ℕ)) (faults : K → ℕ) (d : Device) (core : ℕ) (p : Prepared) (card limit : ℕ) (k : Machine) (w : Member) (opens : WasOpened d core p k)
-    (one : (run_of p).session.jobs ≡ w ∷ []) (limited : w.setting.limit ≡ limit) (halt : k.tasks.halt ≡ p.0.halt)
+module _ {K : Type 0} (taken : K → Option (List ℕ)) (faults : K → ℕ) (d : Device) (core : ℕ) (p : Prepared) (card limit : ℕ) (k : Machine) (w : SessionJob) (opens : WasOpened d core p k)
+    (one : (run_of p).session.jobs ≡ w ∷ []) (limited : w.constants.limit ≡ limit) (halt : k.tasks.halt ≡ p.0.halt)
     (E : Type 0) (exact : Tells d → E) (known : Option (List (List ℕ))) (told : Tells d → known ≡ d.now) (steps : ℕ) (s : Session) (printed : List RunLine) (few : steps ≤ steps_of p.0.halt limit) (made : k.tasks.made ≡ steps)
     (leads : Tells d → Reaches (run_of p).session steps s printed) (was is : List ℕ) (due_is : Tells d → is ≡ due s) (before : ℕ) (begun : before ≡ 0)
-    (built : (m : Member) (t : Task) (n : ℕ) → IsSingle (after steps (run_of p).session) m t → called_in m t ≡ Some n → n < 12) where
+    (built : (m : SessionJob) (t : Task) (n : ℕ) → IsSingle (after steps (run_of p).session) m t → called_in m t ≡ Some n → n < 12) where
   abbrev first : Session
   first = (run_of p).session
 
@@ -128,20 +128,20 @@ module _ {K : Type 0} (taken : K → Option (List ℕ)) (faults : K → ℕ) (d 
   text : Arrived → run_text printed ≡ run_text (lines k.tasks.made first)
   text c = ap run_text (sym (ap (λ n. lines n first) made ∙ c.lines_are))
 
-  none_due : (m : Member) (t : Task) → IsLone known k s m t → last_part s ≡ None
+  none_due : (m : SessionJob) (t : Task) → IsLone known k s m t → last_part s ≡ None
   none_due m t lone = single_below s m t lone.single (below IsSegment s m t lone.ordered lone.single)
 
-  lone_came : Tells d → (m : Member) (t : Task) → IsLone known k s m t → Arrived
+  lone_came : Tells d → (m : SessionJob) (t : Task) → IsLone known k s m t → Arrived
   lone_came tells m t lone = came_whole first steps s printed (leads tells) (none_due m t lone)
 
   -- what is known now of the session is what the device tells of the one after the steps
   carry : (P : Option (List (List ℕ)) → Session → Type 0) → Tells d → Arrived → P known s → P d.now (after k.tasks.made first)
   carry P tells c h = subst (λ (x : Option (List (List ℕ))). P x (after k.tasks.made first)) (told tells) (subst (P known) (sym (led c)) h)
 
-  abbrev stops_at : Tells d → (m : Member) (t : Task) → IsLone known k s m t → StopsAt d.now first k
+  abbrev stops_at : Tells d → (m : SessionJob) (t : Task) → IsLone known k s m t → StopsAt d.now first k
   stops_at tells m t lone = record { member = m; task = t; lone = carry (λ x z. IsLone x k z m t) tells (lone_came tells m t lone) lone }
 
-  lived : (m : Member) (t : Task) → IsLone known k s m t → 0 < live_tasks s.jobs
+  lived : (m : SessionJob) (t : Task) → IsLone known k s m t → 0 < live_tasks s.jobs
   lived m t lone = rw (lone.single.jobs, lone.single.tasks) (omega arith)
 
   abbrev ending : List ℕ → Text
@@ -151,18 +151,18 @@ module _ {K : Type 0} (taken : K → Option (List ℕ)) (faults : K → ℕ) (d 
   with_line c line = ap (λ (x : List ℕ). let y : Text = record { front = x; last = ended line } in y) (text c)
 
   -- all tasks ended
-  done : Tells d → live_tasks s.jobs ≡ 0 → Rests known k (after k.tasks.made first) → IsDone d.now (run_of p) k (record { front = run_text printed; last = [] })
+  done : Tells d → live_tasks s.jobs ≡ 0 → RepresentsWithoutTasks known k (after k.tasks.made first) → IsDone d.now (run_of p) k (record { front = run_text printed; last = [] })
   done tells none rests =
       let c = came_whole first steps s printed (leads tells) (over_has_no_last s none) in
       record {
         within = subst (λ n. IfSome p.0.halt (λ count. n ≤ count)) (sym made) (within p.0.halt limit steps few);
         over = ap (λ (z : Session). live_tasks z.jobs) (led c) ∙ none;
-        rests = subst (λ (x : Option (List (List ℕ))). Rests x k (after k.tasks.made first)) (told tells) rests;
+        rests = subst (λ (x : Option (List (List ℕ))). RepresentsWithoutTasks x k (after k.tasks.made first)) (told tells) rests;
         printed = ap (λ (x : List ℕ). let y : Text = record { front = x; last = [] } in y) (text c);
       }
 
   -- the printer failed in the text of a step
-  in_step : Tells d → k.tasks.printed < length is → (m : Member) (t : Task) → IsLone known k s m t → IsCutInStep d.now first k (record { front = run_text printed; last = is })
+  in_step : Tells d → k.tasks.printed < length is → (m : SessionJob) (t : Task) → IsLone known k s m t → IsCutInStep d.now first k (record { front = run_text printed; last = is })
   in_step tells proper m t lone =
       let c = lone_came tells m t lone in
       let long : length is ≡ length (due s) = ap length (due_is tells) in
@@ -175,7 +175,7 @@ module _ {K : Type 0} (taken : K → Option (List ℕ)) (faults : K → ℕ) (d 
         begins = ap (λ (x : List ℕ). (run_text printed ++ x) ++ begins.0) (due_is tells) ∙ begins.1 ∙ ap (λ n. run_text (lines (n + 1) first)) (sym made);
       }
 
-  in_limit : Tells d → (m : Member) (t : Task) → IsLimited known k s m t → IsCutInLimit d.now first k (record { front = run_text printed; last = is })
+  in_limit : Tells d → (m : SessionJob) (t : Task) → IsLimited known k s m t → IsCutInLimit d.now first k (record { front = run_text printed; last = is })
   in_limit tells m t h =
       let order = opens.in_order.ordered steps (omega (arith, made)) in
       let l = came_limited IsStart first steps s printed m t order h.single h.limit (leads tells) in
@@ -205,7 +205,7 @@ module _ {K : Type 0} (taken : K → Option (List ℕ)) (faults : K → ℕ) (d 
       → SliceMeets known E core d.sectors (steps_of p.0.halt limit) steps s is answered k
       → Finishes taken faults card k.tasks.made answered between new answer
       → Prints taken old between was before printed is k.tasks.printed → (answered ≢ Err stops.PrintFault → k.tasks.printed ≡ 0)
-      → (answered ≡ Ok progress.Ended → Tells d → Rests known k (after k.tasks.made first))
+      → (answered ≡ Ok progress.Ended → Tells d → RepresentsWithoutTasks known k (after k.tasks.made first))
       → (answered ≡ Err stops.BackingFault → Failed d) → (answered ≡ Err stops.PrintFault → Rose faults old between) → faults old ≤ faults between
       → RunEnds taken faults d core p (Some k) old new answer
   ran (Ok progress.Ended) old between new answer meets end prints unprinted over failed rose later =
@@ -288,7 +288,7 @@ module _ {K : Type 0} (taken : K → Option (List ℕ)) (faults : K → ℕ) (d 
       (subst (λ (z : K). Rose faults old z) (sym end.1) (rose refl))
       (record { proper = meets.0; took = subst (λ (z : K). Took taken old z (run_text printed ++ take k.tasks.printed is)) (sym end.1) (front_took prints begun) })
     where
-      by_machine : Tells d → ((m : Member) × (t : Task) × IsLone known k s m t) ⊎ ((m : Member) × (t : Task) × IsLimited known k s m t)
+      by_machine : Tells d → ((m : SessionJob) × (t : Task) × IsLone known k s m t) ⊎ ((m : SessionJob) × (t : Task) × IsLimited known k s m t)
           → IsCutInStep d.now first k (record { front = run_text printed; last = is }) ⊎ IsCutInLimit d.now first k (record { front = run_text printed; last = is })
       by_machine tells (inl h) = inl (in_step tells meets.0 h.0 h.1 h.2)
       by_machine tells (inr h) = inr (in_limit tells h.0 h.1 h.2)

@@ -5,7 +5,7 @@ use Rattle.b67_io.specs.Line.{ended}
 use Rattle.b67_io.specs.Told.{Gave, GaveAll}
 use Rattle.b67_io.specs.Causes.{Rose}
 use Rattle.b67_model_text.specs.Deck.{limit}
-use Rattle.b67_model.specs.State.{Task, Member}
+use Rattle.b67_model.specs.State.{Task, SessionJob}
 use Rattle.b67_model.specs.Need.{need}
 use Rattle.b67_model.specs.Sectors.{sectors}
 use Rattle.b67_model.specs.Run.{after}
@@ -22,7 +22,7 @@ use Rattle.b67_session_open.specs.Opens.{need_of, sectors_of_all}
 use Rattle.b67_job.specs.Device.{Device, Tells}
 use Rattle.b67_job.specs.Lines.{no_core_line, backing_full_line, backing_fault_line, memory_text}
 use Rattle.b67_job.specs.Texts.{Text, only, TookUpTo, Closes}
-use Rattle.b67_job.specs.Runs.{run_of, WantsCore, WantsSectors, IsCutOff, HasRoom, RunStops, IsPrinting, RunEnds}
+use Rattle.b67_job.specs.Runs.{run_of, WantsCore, WantsSectors, IsCutOff, RoomSuffices, RunStops, IsPrinting, RunEnds}
 use Rattle.b67_job.specs.Command.{command_of}
 use Rattle.b67_job.specs.declared.command.CommandLine.{CommandLine}
 use Rattle.b67_job.specs.declared.command.CommandLine.TheVariants as lines
@@ -83,19 +83,19 @@ IsDone d (Prints whole) text = text ≡ whole
 abbrev pub IsShortOfCore : Device → ℕ → Prepared → Option Machine → Text → Type 0
 IsShortOfCore d core p machine text =
     ((machine ≡ None) × (core < need_of p.0 p.1) × (text ≡ only (ended (no_core_line (need_of p.0 p.1) core))))
-    ⊎ ((k : Machine) × (machine ≡ Some k) × HasRoom d core p × (Tells d → WantsCore d.now core (run_of p).session k text))
+    ⊎ ((k : Machine) × (machine ≡ Some k) × RoomSuffices d core p × (Tells d → WantsCore d.now core (run_of p).session k text))
 
 -- the device has too few sectors: for the programs of the session that opens, or for the session of the machine that is left,
 -- which lacks what its next step wants
 abbrev pub IsShortOfSectors : Device → ℕ → Prepared → Option Machine → Text → Type 0
 IsShortOfSectors d core p machine text =
     ((machine ≡ None) × (need_of p.0 p.1 ≤ core) × (d.sectors < sectors_of_all p.0 p.1) × (text ≡ only (ended (backing_full_line (sectors_of_all p.0 p.1) d.sectors))))
-    ⊎ ((k : Machine) × (machine ≡ Some k) × HasRoom d core p × (Tells d → WantsSectors d.now core d.sectors (run_of p).session k text))
+    ⊎ ((k : Machine) × (machine ≡ Some k) × RoomSuffices d core p × (Tells d → WantsSectors d.now core d.sectors (run_of p).session k text))
 
 -- the device failed: as the session opened, or at a step of the machine that is left, which lacks what it wants
 abbrev pub IsFailedBy : Device → ℕ → Prepared → Option Machine → Text → Type 0
 IsFailedBy d core p machine text =
-    HasRoom d core p × (((machine ≡ None) × (text ≡ only (ended backing_fault_line))) ⊎ ((k : Machine) × (machine ≡ Some k) × (Tells d → IsCutOff d.now core (run_of p).session k text)))
+    RoomSuffices d core p × (((machine ≡ None) × (text ≡ only (ended backing_fault_line))) ⊎ ((k : Machine) × (machine ≡ Some k) × (Tells d → IsCutOff d.now core (run_of p).session k text)))
 
 -- ---- answers to a fault, to a text and to a deck
 
@@ -120,8 +120,8 @@ DeckEnds (Prints text) taken faults d core machine old new answer = ⊥
 
 -- the session opens, and no state of its run needs more
 pub record Suffices (d : Device) (core : ℕ) (p : Prepared) : Type 0 where
-  pub room : HasRoom d core p
-  pub core_suffices : (steps : ℕ) (m : Member) (t : Task) → IsSingle (after steps (run_of p).session) m t → need core (after steps (run_of p).session) m t ≤ core
+  pub room : RoomSuffices d core p
+  pub core_suffices : (steps : ℕ) (m : SessionJob) (t : Task) → IsSingle (after steps (run_of p).session) m t → need core (after steps (run_of p).session) m t ≤ core
   pub sectors_suffice : (steps : ℕ) → sectors (after steps (run_of p).session).jobs ≤ d.sectors
 
 -- a run is told and has room; the other commands need neither

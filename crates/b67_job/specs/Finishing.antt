@@ -12,7 +12,7 @@ use Rattle.b67_session_open.specs.declared.fault.OpenFault.TheVariants as faults
 use Rattle.b67_task_tables.specs.declared.tables.Machine.{Machine}
 use Rattle.b67_session.specs.declared.slices.Progress.{Progress}
 use Rattle.b67_session.specs.declared.slices.Progress.TheVariants as progress
-use Rattle.b67_session.specs.Slices.{Slices, Over, StepsFit}
+use Rattle.b67_session.specs.Slices.{Slices, EndsWithoutTasks, StepsFit}
 use Rattle.b67_session_lines.specs.Stops.{halted_line}
 use Rattle.b67_session_lines.specs.Ends.{Ends}
 use Rattle.b67_job.specs.Lines.{no_core_line, backing_full_line, backing_fault_line, memory_line}
@@ -52,7 +52,7 @@ pub record JobRan {K : Type 0} (taken : K → Option (List ℕ)) (faults : K →
   pub answered : Result Progress Stop
   pub between : K
   pub slices : Slices taken known exact count steps first answered old new paper between
-  pub over : answered ≡ Ok progress.Ended → Over known exact first old new
+  pub over : answered ≡ Ok progress.Ended → EndsWithoutTasks known exact first old new
   pub fits : exact → (n : ℕ) → new.tasks.made ≡ old.tasks.made + n → StepsFit (length old.cpu.core) n first
   pub unprinted : answered ≢ Err stops.PrintFault → old.tasks.printed ≡ 0 → new.tasks.printed ≡ 0
   pub finishes : Finishes taken faults card new.tasks.made answered between paper' answer

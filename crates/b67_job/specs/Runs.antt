@@ -3,12 +3,12 @@
 use Rattle.std.specs.Prelude.{◌≡◌, ℕ, ◌+◌, ◌<◌, ◌≤◌, ◌⊎◌, true, List, [], ◌++◌, length, Option, Some, None, is_some, IfSome}
 use Rattle.b67_io.specs.Line.{ended}
 use Rattle.b67_io.specs.Causes.{Rose}
-use Rattle.b67_model.specs.State.{Task, Member}
+use Rattle.b67_model.specs.State.{Task, SessionJob}
 use Rattle.b67_model.specs.Need.{need}
 use Rattle.b67_model.specs.Sectors.{sectors}
 use Rattle.b67_model.specs.Lines.{run_text}
 use Rattle.b67_model.specs.Schedule.{Session}
-use Rattle.b67_model.specs.Run.{Moment, lines, after}
+use Rattle.b67_model.specs.Run.{StepResult, lines, after}
 use Rattle.b67_exec_cells.specs.Running.{code_area}
 use Rattle.b67_session.specs.Passed.{IsShortOf}
 pub use Rattle.b67_session.specs.Passed.{AreCountable}
@@ -18,7 +18,7 @@ use Rattle.b67_session_open.specs.Decks.{session_of}
 use Rattle.b67_session_open.specs.Opens.{need_of, sectors_of_all}
 use Rattle.b67_task_tables.specs.declared.tables.Machine.{Machine}
 use Rattle.b67_session.specs.Slices.{IsLone, IsLimited}
-pub use Rattle.b67_session.specs.Slices.{LivesOn, IsOpen, Rests, StepsFit}
+pub use Rattle.b67_session.specs.Slices.{LivesOn, IsOpen, RepresentsWithoutTasks, StepsFit}
 use Rattle.b67_session_lines.specs.Moments.{first_part, due}
 use Rattle.b67_session_lines.specs.Stops.{Run, live_after, halted_line}
 use Rattle.b67_job.specs.Device.{Device, Tells, Failed}
@@ -40,12 +40,12 @@ text_to steps first line = record { front = run_text (lines steps first); last =
 pub record IsDone (told : Option (List (List ℕ))) (r : Run) (k : Machine) (text : Text) : Type 0 where
   pub within : IfSome r.halt (λ count. k.tasks.made ≤ count)
   pub over : live_after k.tasks.made r.session ≡ 0
-  pub rests : Rests told k (after k.tasks.made r.session)
+  pub rests : RepresentsWithoutTasks told k (after k.tasks.made r.session)
   pub printed : text ≡ record { front = run_text (lines k.tasks.made r.session); last = [] }
 
 -- a task lives, and the machine stands for the session that these steps lead to
 pub record StopsAt (told : Option (List (List ℕ))) (first : Session) (k : Machine) : Type 0 where
-  pub member : Member
+  pub member : SessionJob
   pub task : Task
   pub lone : IsLone told k (after k.tasks.made first) member task
 
@@ -97,9 +97,9 @@ pub record IsCutInStep (told : Option (List (List ℕ))) (first : Session) (k : 
 pub record IsCutInLimit (told : Option (List (List ℕ))) (first : Session) (k : Machine) (text : Text) : Type 0 where
   pub before : ℕ
   pub counted : k.tasks.made ≡ before + 1
-  pub part : Moment
+  pub part : StepResult
   pub is_first : first_part (after before first) ≡ Some part
-  pub member : Member
+  pub member : SessionJob
   pub task : Task
   pub limited : IsLimited told k part.session member task
   pub printed : text ≡ record { front = run_text (lines before first) ++ run_text part.lines; last = due part.session }
@@ -108,8 +108,8 @@ pub record IsCutInLimit (told : Option (List (List ℕ))) (first : Session) (k :
 -- ---- the status and the text
 
 -- core and device have room for the session that opens
-abbrev pub HasRoom : Device → ℕ → Prepared → Type 0
-HasRoom d core p = (need_of p.0 p.1 ≤ core) × (sectors_of_all p.0 p.1 ≤ d.sectors)
+abbrev pub RoomSuffices : Device → ℕ → Prepared → Type 0
+RoomSuffices d core p = (need_of p.0 p.1 ≤ core) × (sectors_of_all p.0 p.1 ≤ d.sectors)
 
 -- no session was opened: memory was refused, or core or the device has no room for it, or the device failed
 pub data StopsUnopened (d : Device) (core : ℕ) (p : Prepared) (status : ℕ) (text : Text) : Type 0 where
@@ -117,13 +117,13 @@ pub data StopsUnopened (d : Device) (core : ℕ) (p : Prepared) (status : ℕ) (
   opening_wants_core : core < need_of p.0 p.1 → status ≡ 4 → text ≡ only (ended (no_core_line (need_of p.0 p.1) core)) → StopsUnopened d core p status text
   opening_wants_sectors : need_of p.0 p.1 ≤ core → d.sectors < sectors_of_all p.0 p.1
       → status ≡ 5 → text ≡ only (ended (backing_full_line (sectors_of_all p.0 p.1) d.sectors)) → StopsUnopened d core p status text
-  opening_fails : HasRoom d core p → Failed d → status ≡ 6 → text ≡ only (ended backing_fault_line) → StopsUnopened d core p status text
+  opening_fails : RoomSuffices d core p → Failed d → status ≡ 6 → text ≡ only (ended backing_fault_line) → StopsUnopened d core p status text
 
 -- A session was opened, for which there is room. Each state up to the count of the machine is in order; and where the device
 -- told what its sectors hold, none of the steps up to there needed more words than core has. The machine may be given to a
 -- slice again: its numbers can be counted, and its table of sectors has one for each of the device.
 pub record WasOpened (d : Device) (core : ℕ) (p : Prepared) (k : Machine) : Type 0 where
-  pub room : HasRoom d core p
+  pub room : RoomSuffices d core p
   pub in_order : StatesInOrder k.tasks.made (run_of p).session
   pub fitted : Tells d → StepsFit core k.tasks.made (run_of p).session
   pub countable : AreCountable k.tasks.jobs

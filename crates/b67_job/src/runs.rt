@@ -5,8 +5,8 @@ ghost use Rattle.std.specs.List.{AllByRecursion};
 ghost use Rattle.b67_io.specs.Line.{ended};
 ghost use Rattle.b67_io.specs.Causes.{Rose};
 ghost use Rattle.b67_codefile.specs.Meaning.{program_of};
-ghost use Rattle.b67_layout_storage.specs.Machine.{Says, retold};
-ghost use Rattle.b67_model.specs.State.{Task, Member};
+ghost use Rattle.b67_layout_storage.specs.Machine.{Says, content_after};
+ghost use Rattle.b67_model.specs.State.{Task, SessionJob};
 ghost use Rattle.b67_model.specs.Schedule.{Session};
 ghost use Rattle.b67_session_lines.specs.Ends.{Ends};
 ghost use Rattle.b67_session_open.specs.Decks.{DeckInRange, IsLoaded};
@@ -98,8 +98,8 @@ fn run_job<K: Sink, B: Backing>(
     requires lives { LivesOn (B.holds backing.old) machine.old }
     requires countable { AreCountable machine.old.tasks.jobs }
     requires same { B.size backing.old + 1 ≡ length machine.old.sectors.links }
-    ensures ran { (known : Option (List (List ℕ))) (s : Session) (m : Member) (t : Task) → Says known (B.holds backing.old) → IsLone known machine.old s m t
-        → JobRan K.taken K.faults (retold known (B.holds backing.new)) (known ≢ None) (Rose B.faults backing.old backing.new) (B.size backing.old) steps card
+    ensures ran { (known : Option (List (List ℕ))) (s : Session) (m : SessionJob) (t : Task) → Says known (B.holds backing.old) → IsLone known machine.old s m t
+        → JobRan K.taken K.faults (content_after known (B.holds backing.new)) (known ≢ None) (Rose B.faults backing.old backing.new) (B.size backing.old) steps card
         s machine.old machine.new printer.old printer.new result }
     ensures halt { machine.new.tasks.halt ≡ machine.old.tasks.halt }
     ensures countable { AreCountable machine.new.tasks.jobs }

@@ -16,8 +16,8 @@ ghost use Rattle.b67_job.specs.Device.{Device, device_of};
 ghost use Rattle.b67_job.specs.Lines.{memory_text};
 ghost use Rattle.b67_job.specs.Texts.{Text, whole_of, TookUpTo};
 ghost use Rattle.b67_job.specs.States.{StatesInOrder};
-ghost use Rattle.b67_job.specs.Runs.{run_of, HasRoom, StopsAt, IsPrinting};
-ghost use Rattle.b67_job.specs.Runs.{Rests, StepsFit};
+ghost use Rattle.b67_job.specs.Runs.{run_of, RoomSuffices, StopsAt, IsPrinting};
+ghost use Rattle.b67_job.specs.Runs.{RepresentsWithoutTasks, StepsFit};
 ghost use Rattle.b67_job.specs.Runs.{AreCountable};
 ghost use Rattle.b67_job.specs.Command.{command_of};
 ghost use Rattle.b67_job.specs.declared.command.CommandLine.{CommandLine};
@@ -245,7 +245,7 @@ pub fn run<S: Source, K: Sink, B: Backing>(
     // order, with words that operators of earlier steps and the loader made; and none of these steps needed more words than
     // core has.
     ensures opened { (k : Machine) → result.machine ≡ Some k → (core : ℕ) × (p : Prepared) × IsRun words.now S.left deck.old deck.new core p
-        × HasRoom (device_of B.holds B.size B.faults backing.old backing.new) core p }
+        × RoomSuffices (device_of B.holds B.size B.faults backing.old backing.new) core p }
     ensures in_order { (k : Machine) → result.machine ≡ Some k → (core : ℕ) × (p : Prepared) × IsRun words.now S.left deck.old deck.new core p × StatesInOrder k.tasks.made (run_of p).session }
     ensures fitted { (k : Machine) → result.machine ≡ Some k → B.holds backing.old ≢ None → (core : ℕ) × (p : Prepared) × IsRun words.now S.left deck.old deck.new core p
         × StepsFit core k.tasks.made (run_of p).session }
@@ -255,7 +255,7 @@ pub fn run<S: Source, K: Sink, B: Backing>(
     ensures stands { (k : Machine) → result.machine ≡ Some k → B.holds backing.old ≢ None → 3 ≤ result.status → result.status ≤ 6
         → (core : ℕ) × (p : Prepared) × IsRun words.now S.left deck.old deck.new core p × StopsAt (B.holds backing.new) (run_of p).session k × (k.tasks.printed ≡ 0) }
     ensures ended { (k : Machine) → result.machine ≡ Some k → B.holds backing.old ≢ None → result.status ≡ 0
-        → (core : ℕ) × (p : Prepared) × IsRun words.now S.left deck.old deck.new core p × Rests (B.holds backing.new) k (after k.tasks.made (run_of p).session) }
+        → (core : ℕ) × (p : Prepared) × IsRun words.now S.left deck.old deck.new core p × RepresentsWithoutTasks (B.holds backing.new) k (after k.tasks.made (run_of p).session) }
     ensures again { (k : Machine) → result.machine ≡ Some k → AreCountable k.tasks.jobs × (B.size backing.new + 1 ≡ length k.sectors.links) }
 
     // Where no count rises, core and device suffice and the device tells what its sectors hold, the command and the deck

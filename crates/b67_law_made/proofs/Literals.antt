@@ -3,9 +3,9 @@ use Rattle.std.proofs.Common.{◌≡◌, ℕ, ◌+◌, ◌-◌, ◌/◌, ◌%◌
 use Rattle.std.specs.List.{slice_get}
 use Rattle.std.proofs.lemmas.Bool.{cases_Bool, lt-ltb, ltb-false, true≢false}
 use Rattle.std.proofs.lemmas.Option.{slice_get_within}
-use Rattle.b67_model.specs.State.{Segment, Here}
+use Rattle.b67_model.specs.State.{Segment, OperatorContext}
 use Rattle.b67_model.specs.Program.{Program}
-use Rattle.b67_model.specs.Loader.{holds_of, named_level, is_off}
+use Rattle.b67_model.specs.Loader.{holds_of, named_level, has_stray_bits}
 use Rattle.b67_model.specs.Rows.{is_proc}
 
 or_false : (a b : Bool) → (a || b) ≡ false → (a ≡ false) × (b ≡ false)
@@ -38,7 +38,7 @@ named_within p disp e = elim (cases_Bool (ltb disp 2)) [
 ]
 
 -- a literal that the rules let pass is one that MPCW takes
-pub literal_passes : (p : Program) (h : Here) (bits : ℕ) → h.setting.segments ≡ p.segments → is_off p bits ≡ false → is_proc h bits ≡ true
+pub literal_passes : (p : Program) (h : OperatorContext) (bits : ℕ) → h.constants.segments ≡ p.segments → has_stray_bits p bits ≡ false → is_proc h bits ≡ true
 literal_passes p h bits same passes =
     let disp = bits % 2 ^ 14 in
     let short = ltb bits (2 ^ 36) in
@@ -47,6 +47,6 @@ literal_passes p h bits same passes =
     let first = or_false (not short || not clear) (not names) passes in
     let second = or_false (not short) (not clear) first.0 in
     let within = named_within p disp (not_false names first.1) in
-    let high : ltb disp (length h.setting.segments + 2) ≡ true = subst (λ ss. ltb disp (length ss + 2) ≡ true) (sym same) (lt-ltb disp (length p.segments + 2) within.1) in
-    and_true (short && clear && ltb 1 disp) (ltb disp (length h.setting.segments + 2))
+    let high : ltb disp (length h.constants.segments + 2) ≡ true = subst (λ ss. ltb disp (length ss + 2) ≡ true) (sym same) (lt-ltb disp (length p.segments + 2) within.1) in
+    and_true (short && clear && ltb 1 disp) (ltb disp (length h.constants.segments + 2))
     (and_true (short && clear) (ltb 1 disp) (and_true short clear (not_false short second.0) (not_false clear second.1)) (lt-ltb 1 disp within.0)) high

@@ -6,22 +6,22 @@ use Rattle.b67_model.specs.declared.operators.Code.TheVariants.{Mkst, Entr, Retn
 use Rattle.b67_lemmas.specs.Lists.{Has}
 use Rattle.b67_model.specs.Words as Words
 use Rattle.b67_model.specs.Words.{Word, Operand, Name, Ref, Row, Element, Original, Proc, Intrinsic}
-use Rattle.b67_model.specs.State.{Frame, Standing, Marked, Task, Job, Here}
+use Rattle.b67_model.specs.State.{Frame, Standing, Marked, Task, Job, OperatorContext}
 use Rattle.b67_model.specs.Steps.{Line, Goes}
 use Rattle.b67_model.specs.Rows.{proc_of, row}
 
 -- the operators that make a word, by its kind. An Original is made by the ENTR of ARRAYDEC; the loader alone makes an
 -- Intrinsic and a Segment
-abbrev pub Makes : Op → Word → Type 0
-Makes op (Operand bits) = Unit {0}
-Makes op (Name couple) = op ≡ Namc couple
-Makes op (Ref frame offset) = op ≡ Plain Stff
-Makes op (Row array) = op ≡ Plain Load
-Makes op (Element array index) = op ≡ Plain Indx
-Makes op (Original array) = op ≡ Plain Entr
-Makes op (Proc segment level place) = (bits : ℕ) × (op ≡ Mpcw bits) × (proc_of bits ≡ Proc segment level place)
-Makes op (Intrinsic number) = ⊥
-Makes op (Words.Segment number) = ⊥
+abbrev pub OperatorMakes : Op → Word → Type 0
+OperatorMakes op (Operand bits) = Unit {0}
+OperatorMakes op (Name couple) = op ≡ Namc couple
+OperatorMakes op (Ref frame offset) = op ≡ Plain Stff
+OperatorMakes op (Row array) = op ≡ Plain Load
+OperatorMakes op (Element array index) = op ≡ Plain Indx
+OperatorMakes op (Original array) = op ≡ Plain Entr
+OperatorMakes op (Proc segment level place) = (bits : ℕ) × (op ≡ Mpcw bits) × (proc_of bits ≡ Proc segment level place)
+OperatorMakes op (Intrinsic number) = ⊥
+OperatorMakes op (Words.Segment number) = ⊥
 
 -- the operators that make a mark, or a mark with its return: MKST; ENTR, also by PROCESS; and accidental entry
 pub data MakesMark (op : Op) : Standing → Type 0 where
@@ -53,11 +53,11 @@ pub record HasMark (tasks : List Task) (identity : ℕ) (standing : Standing) : 
 
 -- each word, mark and return of a frame was there before, unchanged, or the operator made it
 pub record FrameMade (before : List Task) (op : Op) (f : Frame) : Type 0 where
-  pub words : (w : Word) → Has f.cells w → HasWord before w ⊎ Makes op w
+  pub words : (w : Word) → Has f.cells w → HasWord before w ⊎ OperatorMakes op w
   pub mark : HasMark before f.identity f.standing ⊎ MakesMark op f.standing
 
 -- after the row of an operator, made by a task that stands in the job
 abbrev pub EachRowMakesItsWords : Type 0
 EachRowMakesItsWords =
-    (op : Op) (h : Here) (found : Task) (after : Job) (printed : List Line) (touched : Option ℕ) → Has h.job.tasks found → found.frames ≡ h.task.frames →
+    (op : Op) (h : OperatorContext) (found : Task) (after : Job) (printed : List Line) (touched : Option ℕ) → Has h.job.tasks found → found.frames ≡ h.task.frames →
     row op h ≡ Ok (Goes after printed touched) → (f : Frame) → StandsIn after.tasks f → FrameMade h.job.tasks op f

@@ -5,12 +5,12 @@ use Rattle.b67_model.specs.declared.operators.Op.{Op}
 use Rattle.b67_model.specs.Keyed.{keyed}
 use Rattle.b67_lemmas.specs.Lists.{Has}
 use Rattle.b67_model.specs.Words.{Word}
-use Rattle.b67_model.specs.State.{Frame, Entered, Task, Member}
+use Rattle.b67_model.specs.State.{Frame, Entered, Task, SessionJob}
 use Rattle.b67_model.specs.Rows.{reading_of}
 use Rattle.b67_model.specs.Schedule.{Switch, Session, Choice, choice}
 use Rattle.b67_model.specs.Run.{number_of, after}
 use Rattle.b67_law_order_runs.specs.Opening.{Opening, opening}
-use Rattle.b67_law_made.specs.Made.{Makes, MakesMark}
+use Rattle.b67_law_made.specs.Made.{OperatorMakes, MakesMark}
 
 -- a task of a job makes the next step of a session, and stands at this operator
 pub record Runs (s : Session) (job number : ℕ) (op : Op) : Type 0 where
@@ -18,12 +18,12 @@ pub record Runs (s : Session) (job number : ℕ) (op : Op) : Type 0 where
   pub chooses : choice s ≡ Some chosen
   pub of_job : chosen.who.job ≡ job
   pub of_task : chosen.who.task ≡ number
-  pub member : Member
+  pub member : SessionJob
   pub found : keyed number_of chosen.who.job s.jobs ≡ Some member
   pub task : Task
-  pub live : keyed (λ t. t.number) chosen.who.task member.course.job.tasks ≡ Some task
+  pub live : keyed (λ t. t.number) chosen.who.task member.progress.job.tasks ≡ Some task
   pub next : Place
-  pub stands : reading_of member.setting task ≡ Ok (op, next)
+  pub stands : reading_of member.constants task ≡ Ok (op, next)
 
 -- one of the first n steps of a run was that of a task of the job, and its operator made this
 pub record EarlierStep (s : Session) (n job : ℕ) (Made : Op → Type 0) : Type 0 where
@@ -37,11 +37,11 @@ pub record EarlierStep (s : Session) (n job : ℕ) (Made : Op → Type 0) : Type
 -- each word of a frame was made by an earlier step of its job, and so were its mark and return, but for the mark of the
 -- outer block's frame, which the loader made
 pub record FrameMadeInRun (s : Session) (n job : ℕ) (f : Frame) : Type 0 where
-  pub words : (w : Word) → Has f.cells w → EarlierStep s n job (λ op. Makes op w)
+  pub words : (w : Word) → Has f.cells w → EarlierStep s n job (λ op. OperatorMakes op w)
   pub mark : ((f.identity ≡ 2) × (f.standing ≡ Entered 2 1 None)) ⊎ EarlierStep s n job (λ op. MakesMark op f.standing)
 
 -- each frame of a live task, after any number of steps of a deck's run
 abbrev pub RunsMakeTheirWords : Type 0
 RunsMakeTheirWords =
-    (n stack quantum : ℕ) (switches : List Switch) (openings : List Opening) (m : Member) (task : Task) (f : Frame) → let s = opening stack quantum switches openings in
-    Has (after n s).jobs m → Has m.course.job.tasks task → Has task.frames f → FrameMadeInRun s n (number_of m) f
+    (n stack quantum : ℕ) (switches : List Switch) (openings : List Opening) (m : SessionJob) (task : Task) (f : Frame) → let s = opening stack quantum switches openings in
+    Has (after n s).jobs m → Has m.progress.job.tasks task → Has task.frames f → FrameMadeInRun s n (number_of m) f

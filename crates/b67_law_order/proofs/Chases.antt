@@ -12,7 +12,7 @@ use Rattle.b67_lemmas.specs.Lists.{Has}
 use Rattle.b67_model.specs.Arrays.{no_array, array, array_at, array_of, index_below, indexed}
 use Rattle.b67_model.specs.Words as Words
 use Rattle.b67_model.specs.Words.{Word, Operand, Name, Ref, Row, Element, Original, Proc, Intrinsic, operand, number}
-use Rattle.b67_model.specs.State.{Frame, Standing, Marked, Entered, Array, Here, frame}
+use Rattle.b67_model.specs.State.{Frame, Standing, Marked, Entered, Array, OperatorContext, frame}
 use Rattle.b67_model.specs.Environment.{level_of_standing, level_of_frame, environment_of, running, running_from, outward, running_level}
 use Rattle.b67_model.specs.Cells.{first_offset, cell_of, cell, named, place_of}
 use Rattle.b67_model.specs.Chase.{End, AtCell, AtElement, AtArray, AtProc, AtIntrinsic, Link, Stops, Leads, link_at, link_in, link_from, link, chase_on, chase, follow, follow_reference}
@@ -31,7 +31,7 @@ RefInOrder reach _ = Unit {0}
 abbrev pub PlaceInOrder : List Known → (ℕ × ℕ) → Type 0
 PlaceInOrder reach at = NamesEntered reach at.0 × (at.1 < 2 ^ 12)
 
-abbrev LinkInOrder : Starts → Here → Link → Type 0
+abbrev LinkInOrder : Starts → OperatorContext → Link → Type 0
 LinkInOrder P h (Stops end) = Post (EndInOrder P h) end
 LinkInOrder P h (Leads w) = RefInOrder (reach h) w
 
@@ -70,7 +70,7 @@ cell_has f offset w e =
       | inr t ↦ has_reverse_back f.cells w (has_get (reverse f.cells) (offset - first_offset f) w (rw t at some))
     ]
 
-module _ (P : Starts) (h : Here) (run : Run P h) where
+module _ (P : Starts) (h : OperatorContext) (run : Run P h) where
   pub running_known : Has (reach h) (known_of (running h.task.frames)) × IsEntered (running h.task.frames).standing
   running_known =
       let own = own_order P h run in

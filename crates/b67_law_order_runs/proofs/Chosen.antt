@@ -5,7 +5,7 @@ use Rattle.std.proofs.lemmas.Bool.{cases_Bool, true≢false, eqb-true}
 use Rattle.std.proofs.lemmas.Bool.Decides.{eqb_tells}
 use Rattle.b67_model.specs.Keyed.{keyed}
 use Rattle.b67_lemmas.specs.Lists.{Has}
-use Rattle.b67_model.specs.State.{Condition, Ready, Awaits, WaitsAt, Task, Member}
+use Rattle.b67_model.specs.State.{Condition, Ready, Awaits, WaitsAt, Task, SessionJob}
 use Rattle.b67_model.specs.Endings.{is_ready}
 use Rattle.b67_model.specs.Schedule.{Who, Session, Choice, is_same, is_before, ready_of, ready, afresh, switched, goes_on, first, next_after, choice_by, choice}
 use Rattle.b67_model.specs.Run.{number_of}
@@ -37,11 +37,11 @@ first_has (y ∷ ys) x e = let same : y ≡ x = cc in inl same
 
 -- a ready task of a job, by their numbers
 pub record IsReady (s : Session) (job number : ℕ) : Type 0 where
-  pub member : Member
+  pub member : SessionJob
   pub among : Has s.jobs member
   pub named : number_of member ≡ job
   pub task : Task
-  pub lives : Has member.course.job.tasks task
+  pub lives : Has member.progress.job.tasks task
   pub numbered : task.number ≡ number
   pub ready : task.condition ≡ Ready
 
@@ -53,14 +53,14 @@ by_condition (WaitsAt f offset) e = absurd (true≢false (sym e))
 of_ready : (s : Session) (who : Who) → Has (ready s) who → IsReady s who.job who.task
 of_ready s who h =
     let m = has_flat_back ready_of s.jobs who h in
-    let t = has_map_back (λ (t : Task). let w : Who = record { job = m.item.setting.number; task = t.number } in w) (filter is_ready (reverse m.item.course.job.tasks)) who m.inside in
-    let f = has_filter is_ready (reverse m.item.course.job.tasks) t.item t.among in
+    let t = has_map_back (λ (t : Task). let w : Who = record { job = m.item.constants.number; task = t.number } in w) (filter is_ready (reverse m.item.progress.job.tasks)) who m.inside in
+    let f = has_filter is_ready (reverse m.item.progress.job.tasks) t.item t.among in
     record {
       member = m.item;
       among = m.among;
       named = ap (λ (w : Who). w.job) t.is;
       task = t.item;
-      lives = has_reverse_back m.item.course.job.tasks t.item f.0;
+      lives = has_reverse_back m.item.progress.job.tasks t.item f.0;
       numbered = ap (λ (w : Who). w.task) t.is;
       ready = by_condition t.item.condition f.1;
     }
@@ -114,14 +114,14 @@ pub chosen : (s : Session) (c : Choice) → choice s ≡ Some c → IsChosen s c
 chosen s c e = by_rules s c (switched s) (goes_on s) refl refl e
 
 -- jobs are found by their numbers
-numbered_low : (k : ℕ) (jobs : List Member) (m : Member) → NumberedFrom k jobs → Has jobs m → k ≤ number_of m
+numbered_low : (k : ℕ) (jobs : List SessionJob) (m : SessionJob) → NumberedFrom k jobs → Has jobs m → k ≤ number_of m
 numbered_low k [] m n h = absurd h
 numbered_low k (x ∷ jobs) m n h = elim h [
   | inl e ↦ omega (arith, n.0, ap number_of e)
   | inr r ↦ omega (arith, numbered_low (k + 1) jobs m n.1 r)
 ]
 
-pub keyed_numbered : (k : ℕ) (jobs : List Member) (m : Member) → NumberedFrom k jobs → Has jobs m → keyed number_of (number_of m) jobs ≡ Some m
+pub keyed_numbered : (k : ℕ) (jobs : List SessionJob) (m : SessionJob) → NumberedFrom k jobs → Has jobs m → keyed number_of (number_of m) jobs ≡ Some m
 keyed_numbered k [] m n h = absurd h
 keyed_numbered k (x ∷ jobs) m n h = elim h [
   | inl e ↦ elim (eqb_tells (number_of x) (number_of m)) [ inl t ↦ rw t.0 (ap Some e) | inr t ↦ absurd (t.1 (ap number_of e)) ]

@@ -5,7 +5,7 @@ use Rattle.std.proofs.lemmas.List.Sums.{sum_by-cons}
 use Rattle.std.proofs.lemmas.Bool.Decides.{eqb_tells}
 use Rattle.b67_model.specs.Keyed.{keyed, change_keyed}
 use Rattle.b67_lemmas.specs.Lists.{Has, total}
-use Rattle.b67_model.specs.State.{Member}
+use Rattle.b67_model.specs.State.{SessionJob}
 use Rattle.b67_model.specs.Run.{number_of}
 use Rattle.b67_model.specs.InOrder.{NumberedFrom}
 
@@ -29,7 +29,7 @@ all_change P key n new (y ∷ ys) a q = elim (eqb_tells (key y) n) [
   | inr t ↦ rw t.0 (a.0, all_change P key n new ys a.1 q)
 ]
 
-pub numbered_change : (k n : ℕ) (new : Member) (jobs : List Member) → NumberedFrom k jobs → number_of new ≡ n → NumberedFrom k (change_keyed number_of n (λ y. new) jobs)
+pub numbered_change : (k n : ℕ) (new : SessionJob) (jobs : List SessionJob) → NumberedFrom k jobs → number_of new ≡ n → NumberedFrom k (change_keyed number_of n (λ y. new) jobs)
 numbered_change k n new [] a e = tt
 numbered_change k n new (y ∷ ys) a e = elim (eqb_tells (number_of y) n) [
   | inl t ↦ rw t.0 (e ∙ sym t.1 ∙ a.0, a.1)

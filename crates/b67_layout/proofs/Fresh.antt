@@ -3,12 +3,12 @@ use Rattle.std.proofs.Common.{◌≡◌, ◌≢◌, ℕ, ◌<◌, List, [], ◌�
 use Rattle.std.specs.List.{AllByRecursion, list_any}
 use Rattle.std.proofs.lemmas.Bool.{ne_eqb}
 use Rattle.b67_lemmas.specs.Lists.{Has, Falls}
-use Rattle.b67_model.specs.State.{Frame, Task, Setting, Job, Member}
+use Rattle.b67_model.specs.State.{Frame, Task, JobConstants, Job, SessionJob}
 use Rattle.b67_model.specs.Steps.{is_critical}
 use Rattle.b67_model.specs.Run.{number_of}
 use Rattle.b67_model.specs.Schedule.{Session}
 use Rattle.b67_model.specs.InOrder.{Starts, IsSegment, Known, known_of, known_numbers, identities, outer_of, reach_of, BirthInOrder, TaskInOrder, TasksInOrder, JobInOrder, IsInOrderButPlaces}
-use Rattle.b67_layout.specs.Plan.{Plan}
+use Rattle.b67_layout.specs.Placement.{Placement}
 use Rattle.b67_layout.specs.Session.{IsRunning}
 use Rattle.b67_layout.proofs.Others.{keyed-has}
 use Rattle.b67_layout.proofs.Steps.{IsFree}
@@ -33,17 +33,17 @@ first-below bound [] outer some f = absurd (some refl)
 first-below bound (g ∷ below) outer some f = omega (arith, f.0)
 
 -- a member of a session in order is in order, and so are the tasks of one
-pub job_in_order : (s : Session) (m : Member) → IsInOrderButPlaces s → Has s.jobs m → JobInOrder (IsSegment m.setting) m.setting m.course
-job_in_order s m o h = each (λ (y : Member). JobInOrder (IsSegment y.setting) y.setting y.course) s.jobs m o.jobs h
+pub job_in_order : (s : Session) (m : SessionJob) → IsInOrderButPlaces s → Has s.jobs m → JobInOrder (IsSegment m.constants) m.constants m.progress
+job_in_order s m o h = each (λ (y : SessionJob). JobInOrder (IsSegment y.constants) y.constants y.progress) s.jobs m o.jobs h
 
-pub running_in_order : (plan : Plan) (s : Session) (m : Member) (t : Task) → IsInOrderButPlaces s → IsRunning plan s.jobs m t → JobInOrder (IsSegment m.setting) m.setting m.course × TaskInOrder (IsSegment m.setting) m.setting m.course.job t
+pub running_in_order : (plan : Placement) (s : Session) (m : SessionJob) (t : Task) → IsInOrderButPlaces s → IsRunning plan s.jobs m t → JobInOrder (IsSegment m.constants) m.constants m.progress × TaskInOrder (IsSegment m.constants) m.constants m.progress.job t
 running_in_order plan s m t o runs =
-    let j = job_in_order s m o (keyed-has number_of m.setting.number s.jobs m runs.member) in
-    (j, each (TaskInOrder (IsSegment m.setting) m.setting m.course.job) m.course.job.tasks t j.tasks.tasks (keyed-has (λ (u : Task). u.number) t.number m.course.job.tasks t runs.task))
+    let j = job_in_order s m o (keyed-has number_of m.constants.number s.jobs m runs.member) in
+    (j, each (TaskInOrder (IsSegment m.constants) m.constants m.progress.job) m.progress.job.tasks t j.tasks.tasks (keyed-has (λ (u : Task). u.number) t.number m.progress.job.tasks t runs.task))
 
-module _ (P : Starts) (setting : Setting) (job : Job) (o : TasksInOrder P setting job) where
-  task_in_order : (u : Task) → Has job.tasks u → TaskInOrder P setting job u
-  task_in_order u h = each (TaskInOrder P setting job) job.tasks u o.tasks h
+module _ (P : Starts) (constants : JobConstants) (job : Job) (o : TasksInOrder P constants job) where
+  task_in_order : (u : Task) → Has job.tasks u → TaskInOrder P constants job u
+  task_in_order u h = each (TaskInOrder P constants job) job.tasks u o.tasks h
 
   by_birth : (u : Task) (parents : List ℕ) → 0 < job.next_frame → BirthInOrder job u parents → u.critical < job.next_frame
   by_birth u [] low b = omega (arith, b.1)
@@ -69,6 +69,6 @@ pub free-uncritical : (job : Job) (n : ℕ) → IsFree job n → is_critical job
 free-uncritical job n free = none_critical n job.tasks free.uncritical
 
 -- in a session in order
-pub fresh : (plan : Plan) (s : Session) (m : Member) (t : Task) → IsInOrderButPlaces s → IsRunning plan s.jobs m t → IsFree m.course.job m.course.job.next_frame
+pub fresh : (plan : Placement) (s : Session) (m : SessionJob) (t : Task) → IsInOrderButPlaces s → IsRunning plan s.jobs m t → IsFree m.progress.job m.progress.job.next_frame
 fresh plan s m t o runs =
-    next_is_free (IsSegment m.setting) m.setting m.course.job (job_in_order s m o (keyed-has number_of m.setting.number s.jobs m runs.member)).tasks t (keyed-has (λ (u : Task). u.number) t.number m.course.job.tasks t runs.task)
+    next_is_free (IsSegment m.constants) m.constants m.progress.job (job_in_order s m o (keyed-has number_of m.constants.number s.jobs m runs.member)).tasks t (keyed-has (λ (u : Task). u.number) t.number m.progress.job.tasks t runs.task)

@@ -8,7 +8,7 @@ use Rattle.b67_model.specs.Keyed.{keyed}
 use Rattle.b67_lemmas.specs.Lists.{Has, Falls, total}
 use Rattle.b67_model.specs.Words as Words
 use Rattle.b67_model.specs.Words.{Word, Operand, Name, Ref, Row, Element, Original, Proc, Intrinsic}
-use Rattle.b67_model.specs.State.{Frame, Standing, Marked, Entered, Return, Array, Ready, Task, Setting, Job, Here, top, below_top, head_words, height, with_task}
+use Rattle.b67_model.specs.State.{Frame, Standing, Marked, Entered, Return, Array, Ready, Task, JobConstants, Job, OperatorContext, top, below_top, head_words, height, with_task}
 use Rattle.b67_model.specs.Environment.{level_of_frame, running}
 use Rattle.b67_model.specs.InOrder.{Starts, Known, IsEntered, WordInOrder, NoCopyUnder, CopiesAbove, StackInOrder, is_copy_of, is_original_of, known_numbers, known_of, from_frame, outer_of, EnvironmentInOrder, StandsInOrder, ReturnsInOrder, CellsInOrder, TaskInOrder, originals_in, originals_of, TasksInOrder}
 use Rattle.b67_law_order.proofs.Members.{all_in, keyed_has, falls_low, total_append}
@@ -77,15 +77,15 @@ height_entered (f ∷ below) level environment back xs y some marked e =
     let one : head_words f.standing ≡ 1 = ap head_words marked in
     omega (arith, one, ap length e, length-append xs (y ∷ []))
 
-module _ (P : Starts) (setting : Setting) (job : Job) (t : Task) (g : TasksInOrder P setting job) (found : keyed (λ (u : Task). u.number) t.number job.tasks ≡ Some t) where
-  abbrev pub at : Here
-  at = record { setting = setting; job = job; task = t; at = t.place }
+module _ (P : Starts) (constants : JobConstants) (job : Job) (t : Task) (g : TasksInOrder P constants job) (found : keyed (λ (u : Task). u.number) t.number job.tasks ≡ Some t) where
+  abbrev pub at : OperatorContext
+  at = record { constants = constants; job = job; task = t; at = t.place }
 
-  own : TaskInOrder P setting job t
-  own = all_in (TaskInOrder P setting job) job.tasks t g.tasks (keyed_has (λ (u : Task). u.number) t.number job.tasks t found).0
+  own : TaskInOrder P constants job t
+  own = all_in (TaskInOrder P constants job) job.tasks t g.tasks (keyed_has (λ (u : Task). u.number) t.number job.tasks t found).0
 
   -- the task's frames as they are
-  pub start : Change P (record { setting = setting; job = job; task = t; at = t.place }) job.arrays t.frames job.next_frame
+  pub start : Change P (record { constants = constants; job = job; task = t; at = t.place }) job.arrays t.frames job.next_frame
   start = record {
     order = own.frames;
     returns = own.returns;
@@ -107,7 +107,7 @@ module _ (P : Starts) (setting : Setting) (job : Job) (t : Task) (g : TasksInOrd
     falls = (omega arith, c.falls);
     up = omega arith;
     alike = λ u k. elim (eqb_tells job.next_frame u.critical) [
-      | inl e ↦ absurd (omega (arith, e.1, critical-below P setting job g u k))
+      | inl e ↦ absurd (omega (arith, e.1, critical-below P constants job g u k))
       | inr e ↦ rw e.0 (c.alike u k)
     ];
     stays = λ u k i. inr (c.stays u k i);
@@ -126,10 +126,10 @@ module _ (P : Starts) (setting : Setting) (job : Job) (t : Task) (g : TasksInOrd
       change_enter P at job.arrays (record f { cells = cells }) below next level environment back (change_cells P at job.arrays (f ∷ below) next cells c words) marked stands returns
 
   -- the job with the task that goes on with these frames, and is ready
-  pub ready_with : (frames : List Frame) (next segment : ℕ) (place : Place) → Change P at job.arrays frames next → height frames ≤ setting.stack_size
+  pub ready_with : (frames : List Frame) (next segment : ℕ) (place : Place) → Change P at job.arrays frames next → height frames ≤ constants.stack_size
       → P segment (level_of_frame (running frames)) place → ((n : ℕ) → originals_in n frames ≡ originals_in n t.frames)
-      → TasksInOrder P setting (with_task (record job { next_frame = next }) (task_on t frames segment place Ready))
-  ready_with frames next segment place c low starts same = replaced P setting job t (with_task (record job { next_frame = next }) (task_on t frames segment place Ready)) (task_on t frames segment place Ready) g found (record {
+      → TasksInOrder P constants (with_task (record job { next_frame = next }) (task_on t frames segment place Ready))
+  ready_with frames next segment place c low starts same = replaced P constants job t (with_task (record job { next_frame = next }) (task_on t frames segment place Ready)) (task_on t frames segment place Ready) g found (record {
     number = refl;
     line = refl;
     critical = refl;
@@ -148,7 +148,7 @@ module _ (P : Starts) (setting : Setting) (job : Job) (t : Task) (g : TasksInOrd
     fewer = c.fewer;
     kept = λ a k. record { case = inl (record { item = a; live = k; named = refl; owned = refl; long = omega arith }) };
     arrays = g.arrays;
-    once = λ a k. omega (arith, same a.identity, all_in (λ (b : Array). originals_of b.identity setting job ≡ 1) job.arrays a g.once k);
+    once = λ a k. omega (arith, same a.identity, all_in (λ (b : Array). originals_of b.identity constants job ≡ 1) job.arrays a g.once k);
     names = g.names;
     reads = g.reads;
   })

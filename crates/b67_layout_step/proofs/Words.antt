@@ -9,7 +9,7 @@ use Rattle.b67_lemmas.specs.Lists.{Has}
 use Rattle.b67_model.specs.Arrays.{array, array_at, array_of, index_below, indexed}
 use Rattle.b67_model.specs.Words as Words
 use Rattle.b67_model.specs.Words.{Word, Operand, Name, Ref, Row, Element, Original, Proc, Intrinsic, operand, number}
-use Rattle.b67_model.specs.State.{Frame, Task, Here, mcp, no_frame, all_frames, frame, top, below_top}
+use Rattle.b67_model.specs.State.{Frame, Task, OperatorContext, mcp, no_frame, all_frames, frame, top, below_top}
 use Rattle.b67_model.specs.Cells.{first_offset, cell_of, cell, place_of}
 use Rattle.b67_model.specs.Chase.{End, AtCell, AtElement, AtArray, AtProc, AtIntrinsic, Link, Stops, Leads, link_at, link_in, link_from, link, chase_on, chase, follow}
 use Rattle.b67_law_order.proofs.Members.{has_append_cases, has_get, has_reverse_back, keyed_has, all_in}
@@ -55,10 +55,10 @@ module _ (T : ℕ → Type 0) where
   FramesName frames = (f : Frame) → Has frames f → AllName f.cells
 
   -- the words of all frames that the running task could name
-  pub record Holds (h : Here) : Type 0 where
+  pub record Holds (h : OperatorContext) : Type 0 where
     pub tasks : (t : Task) → Has h.job.tasks t → FramesName t.frames
     pub own : FramesName h.task.frames
-    pub dictionary : AllName h.setting.dictionary.cells
+    pub dictionary : AllName h.constants.dictionary.cells
 
   pub below_names : (frames : List Frame) → FramesName frames → FramesName (below_top frames)
   below_names [] all f k = absurd k
@@ -74,8 +74,8 @@ module _ (T : ℕ → Type 0) where
   mcp_names : AllName mcp.cells
   mcp_names w k = all_in Names mcp.cells w (tt, (tt, (tt, (tt, (tt, (tt, (tt, (tt, (tt, tt))))))))) k
 
-  frame_names : (h : Here) → Holds h → FramesName (all_frames h)
-  frame_names h s f k = elim (has_append_cases (flat_map (λ (t : Task). t.frames) h.job.tasks) (h.setting.dictionary ∷ mcp ∷ []) f k) [
+  frame_names : (h : OperatorContext) → Holds h → FramesName (all_frames h)
+  frame_names h s f k = elim (has_append_cases (flat_map (λ (t : Task). t.frames) h.job.tasks) (h.constants.dictionary ∷ mcp ∷ []) f k) [
     | inl m ↦ let r = has_flat_back h.job.tasks f m in s.tasks r.0 r.1 f r.2
     | inr m ↦ elim m [
       | inl e ↦ subst (λ (x : Frame). AllName x.cells) e s.dictionary
@@ -83,11 +83,11 @@ module _ (T : ℕ → Type 0) where
     ]
   ]
 
-  found_names : (h : Here) → Holds h → (n : ℕ) (o : Option Frame) → keyed (λ (f : Frame). f.identity) n (all_frames h) ≡ o → AllName (unwrap_or o no_frame).cells
+  found_names : (h : OperatorContext) → Holds h → (n : ℕ) (o : Option Frame) → keyed (λ (f : Frame). f.identity) n (all_frames h) ≡ o → AllName (unwrap_or o no_frame).cells
   found_names h s n None e w k = absurd k
   found_names h s n (Some f) e w k = frame_names h s f (keyed_has (λ (x : Frame). x.identity) n (all_frames h) f e).0 w k
 
-  cell_names : (h : Here) → Holds h → (n offset : ℕ) (w : Word) → cell h n offset ≡ Ok w → Names w
+  cell_names : (h : OperatorContext) → Holds h → (n offset : ℕ) (w : Word) → cell h n offset ≡ Ok w → Names w
   cell_names h s n offset w e = found_names h s n (keyed (λ (f : Frame). f.identity) n (all_frames h)) refl w (cell_has (frame h n) offset w e)
 
   abbrev pub EndNames : End → Type 0
@@ -110,7 +110,7 @@ module _ (T : ℕ → Type 0) where
   link_word f offset (Intrinsic n) g = post_ok EndNames _ tt
   link_word f offset (Words.Segment n) g = post_err EndNames _
 
-  module _ (h : Here) (s : Holds h) where
+  module _ (h : OperatorContext) (s : Holds h) where
     link_cell : (f offset : ℕ) (a : Answer Word) → cell h f offset ≡ a → LinkNames (link_in f offset a)
     link_cell f offset (Err fault) e = post_err EndNames fault
     link_cell f offset (Ok w) e = link_word f offset w (cell_names h s f offset w e)

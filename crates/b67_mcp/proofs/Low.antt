@@ -8,13 +8,13 @@ use Rattle.b67_lemmas.specs.Lists.{Has}
 use Rattle.b67_word.specs.declared.faults.Fault.TheVariants.{InvalidAddress}
 use Rattle.b67_model.specs.Words as Words
 use Rattle.b67_model.specs.Words.{Word, Operand, Name, Ref, Row, Element, Original, Proc, Intrinsic}
-use Rattle.b67_model.specs.State.{Frame, Array, Task, Setting, Member, Here, mcp, no_frame, all_frames, frame}
+use Rattle.b67_model.specs.State.{Frame, Array, Task, JobConstants, SessionJob, OperatorContext, mcp, no_frame, all_frames, frame}
 use Rattle.b67_model.specs.Cells.{first_offset, cell_of, cell, place_of}
 use Rattle.b67_model.specs.Chase.{End, AtIntrinsic, Link, Stops, Leads, link_at, link_in, link_from, link, chase_on, follow_reference}
 use Rattle.b67_model.specs.Schedule.{Session}
 use Rattle.b67_model.specs.InOrder.{Starts, IsSegment, Known, outer_of, WordInOrder, EntryInOrder, FramesInOrder, TaskInOrder, TasksInOrder, IsInOrderButPlaces}
 use Rattle.b67_law_order.proofs.Members.{all_in, keyed_has, has_append_cases, Part, has_get, has_reverse_back}
-use Rattle.b67_layout.specs.Plan.{Plan}
+use Rattle.b67_layout.specs.Placement.{Placement}
 use Rattle.b67_layout.specs.Session.{IsRunning}
 use Rattle.b67_layout.specs.Meets.{here}
 use Rattle.b67_layout.proofs.Fresh.{running_in_order}
@@ -81,16 +81,16 @@ cell_has f offset w e =
       | inr t ↦ has_reverse_back f.cells w (has_get (reverse f.cells) (offset - first_offset f) w (rw t at some))
     ]
 
-module _ (setting : Setting) (h : Here) (same : h.setting ≡ setting) (o : TasksInOrder (IsSegment setting) setting h.job) where
+module _ (constants : JobConstants) (h : OperatorContext) (same : h.constants ≡ constants) (o : TasksInOrder (IsSegment constants) constants h.job) where
   in_frames : (f : Frame) (w : Word) → Has (all_frames h) f → Has f.cells w → IsLow w
-  in_frames f w k c = elim (has_append_cases (flat_map (λ (t : Task). t.frames) h.job.tasks) (h.setting.dictionary ∷ mcp ∷ []) f k) [
+  in_frames f w k c = elim (has_append_cases (flat_map (λ (t : Task). t.frames) h.job.tasks) (h.constants.dictionary ∷ mcp ∷ []) f k) [
     | inl a ↦
         let p = has_flat_back (λ (t : Task). t.frames) h.job.tasks f a in
-        let own = all_in (TaskInOrder (IsSegment setting) setting h.job) h.job.tasks p.item o.tasks p.among in
-        of_frames (IsSegment setting) h.job.arrays (outer_of h.job p.item) p.item.frames f w own.frames p.inside c
+        let own = all_in (TaskInOrder (IsSegment constants) constants h.job) h.job.tasks p.item o.tasks p.among in
+        of_frames (IsSegment constants) h.job.arrays (outer_of h.job p.item) p.item.frames f w own.frames p.inside c
     | inr (inl e) ↦
-        let there : Has setting.dictionary.cells w = subst (λ (z : Frame). Has z.cells w) (sym e ∙ ap (λ (z : Setting). z.dictionary) same) c in
-        of_entry h.job.arrays w (all_in (EntryInOrder h.job.arrays) setting.dictionary.cells w o.entries there)
+        let there : Has constants.dictionary.cells w = subst (λ (z : Frame). Has z.cells w) (sym e ∙ ap (λ (z : JobConstants). z.dictionary) same) c in
+        of_entry h.job.arrays w (all_in (EntryInOrder h.job.arrays) constants.dictionary.cells w o.entries there)
     | inr (inr (inl e)) ↦
         let there : Has mcp.cells w = subst (λ (z : Frame). Has z.cells w) (sym e) c in
         all_in IsLow mcp.cells w (omega arith, (omega arith, (omega arith, (omega arith, (omega arith, (omega arith, (omega arith, (omega arith, (omega arith, tt))))))))) there
@@ -136,7 +136,7 @@ module _ (setting : Setting) (h : Here) (same : h.setting ≡ setting) (o : Task
   followed (Intrinsic n) = tt
   followed (Words.Segment n) = tt
 
-pub from_eight : (plan : Plan) (s : Session) (m : Member) (t : Task) (n : ℕ) → IsInOrderButPlaces s → IsRunning plan s.jobs m t → called_in m t ≡ Some n → 8 ≤ n
+pub from_eight : (plan : Placement) (s : Session) (m : SessionJob) (t : Task) (n : ℕ) → IsInOrderButPlaces s → IsRunning plan s.jobs m t → called_in m t ≡ Some n → 8 ≤ n
 from_eight plan s m t n o runs c =
     let k = calling m t n c in
-    subst EndLow k.ends (followed m.setting (here m t k.next) refl (running_in_order plan s m t o runs).0.tasks k.reference)
+    subst EndLow k.ends (followed m.constants (here m t k.next) refl (running_in_order plan s m t o runs).0.tasks k.reference)

@@ -7,12 +7,12 @@ use Rattle.b67_word.specs.declared.faults.Fault.{Fault}
 use Rattle.b67_word.specs.declared.couples.Place.{Place}
 use Rattle.b67_lemmas.specs.Lists.{Has}
 use Rattle.b67_model.specs.Words.{Word, Operand}
-use Rattle.b67_model.specs.State.{Task, Member, top, below_top}
+use Rattle.b67_model.specs.State.{Task, SessionJob, top, below_top}
 use Rattle.b67_model.specs.Intrinsics.{answered, read_from}
 use Rattle.b67_model.specs.Run.{number_of}
 use Rattle.b67_model.specs.Schedule.{Session}
 use Rattle.b67_model.specs.InOrder.{IsInOrderButPlaces}
-use Rattle.b67_layout.specs.Plan.{Plan}
+use Rattle.b67_layout.specs.Placement.{Placement}
 use Rattle.b67_layout.specs.Rows as rows
 use Rattle.b67_layout.specs.Rows.{JobShows, TablesShow}
 use Rattle.b67_layout.specs.Session.{IsRunning}
@@ -29,17 +29,17 @@ use Rattle.b67_mcp.proofs.Tables.{jobs_put, tables_after}
 use Rattle.b67_mcp.proofs.Frames.{replaces_answered, waits_answered}
 
 -- the row of a job
-pub record JobIn (tasks : Tasks) (plan : Plan) (m : Member) : Type 0 where
+pub record JobIn (tasks : Tasks) (plan : Placement) (m : SessionJob) : Type 0 where
   pub row : JobRow
-  pub at : slice_get tasks.jobs (m.setting.number - 1) ≡ Some row
+  pub at : slice_get tasks.jobs (m.constants.number - 1) ≡ Some row
   pub shows : JobShows plan m (job_row row)
-  pub from_one : 1 ≤ m.setting.number
+  pub from_one : 1 ≤ m.constants.number
 
-pub job_in : (tasks : Tasks) (plan : Plan) (s : Session) (m : Member) (t : Task) → IsInOrderButPlaces s → TasksShow plan s tasks → IsRunning plan s.jobs m t → JobIn tasks plan m
+pub job_in : (tasks : Tasks) (plan : Placement) (s : Session) (m : SessionJob) (t : Task) → IsInOrderButPlaces s → TasksShow plan s tasks → IsRunning plan s.jobs m t → JobIn tasks plan m
 job_in tasks plan s m t o h runs =
-    let inm = keyed-has number_of m.setting.number s.jobs m runs.member in
+    let inm = keyed-has number_of m.constants.number s.jobs m runs.member in
     let b = job_at plan 1 s.jobs (map job_row tasks.jobs) m o.numbered h.jobs inm in
-    let (row, at, same) = mapped_at job_row tasks.jobs (m.setting.number - 1) b.row b.at in
+    let (row, at, same) = mapped_at job_row tasks.jobs (m.constants.number - 1) b.row b.at in
     record { row = row; at = at; shows = subst (λ (r : rows.JobRow). JobShows plan m r) (sym same) b.shows; from_one = numbered_low 1 s.jobs m o.numbered inm }
 
 -- an item put where it stands
@@ -67,11 +67,11 @@ tasks_same tasks tasks' i row new at is same rest =
     rest ∙ ap (λ (l : List JobRow). record tasks { jobs = l }) (is ∙ ap (λ (r : JobRow). slice_set tasks.jobs i r) same ∙ put_back tasks.jobs i row at)
 
 -- READ changes no list of numbers
-same_numbers : (plan : Plan) (m : Member) (t : Task) (arguments : List Word) (old new : JobRow) (answer : Result Tagged Fault) → ReadMeets plan m t arguments old new answer → new.numbers ≡ old.numbers
+same_numbers : (plan : Placement) (m : SessionJob) (t : Task) (arguments : List Word) (old new : JobRow) (answer : Result Tagged Fault) → ReadMeets plan m t arguments old new answer → new.numbers ≡ old.numbers
 same_numbers plan m t arguments old new (Ok w) h = ap (λ (r : JobRow). r.numbers) h.same
 same_numbers plan m t arguments old new (Err fault) h = ap (λ (r : JobRow). r.numbers) h.1
 
-pub countable_read : (plan : Plan) (m : Member) (t : Task) (arguments : List Word) (jobs jobs' : List JobRow) (i : ℕ) (old new : JobRow) (answer : Result Tagged Fault) → slice_get jobs i ≡ Some old → jobs' ≡ slice_set jobs i new
+pub countable_read : (plan : Placement) (m : SessionJob) (t : Task) (arguments : List Word) (jobs jobs' : List JobRow) (i : ℕ) (old new : JobRow) (answer : Result Tagged Fault) → slice_get jobs i ≡ Some old → jobs' ≡ slice_set jobs i new
     → ReadMeets plan m t arguments old new answer → AreCountable jobs → AreCountable jobs'
 countable_read plan m t arguments jobs jobs' i old new answer at is meets few = λ row h.
     (elim (has_put jobs i new row (subst (λ (l : List JobRow). Has l row) is h)) [
@@ -81,17 +81,17 @@ countable_read plan m t arguments jobs jobs' i old new answer at is meets few = 
           subst (λ (r : JobRow). length r.numbers < 2 ^ 32) e (omega (arith, low, ap length (same_numbers plan m t arguments old new answer meets)))
     ])
 
-module _ (plan : Plan) (s : Session) (m : Member) (t : Task) (o : IsInOrderButPlaces s) (runs : IsRunning plan s.jobs m t) (q : Place) (arguments : List Word) (tasks tasks' : Tasks) (h : TasksShow plan s tasks) (old new : JobRow) (w : Tagged)
-    (at : slice_get tasks.jobs (m.setting.number - 1) ≡ Some old) (is : tasks'.jobs ≡ slice_set tasks.jobs (m.setting.number - 1) new) (rest : tasks' ≡ record tasks { jobs = tasks'.jobs }) (did : IsRead plan m t arguments old new w) where
+module _ (plan : Placement) (s : Session) (m : SessionJob) (t : Task) (o : IsInOrderButPlaces s) (runs : IsRunning plan s.jobs m t) (q : Place) (arguments : List Word) (tasks tasks' : Tasks) (h : TasksShow plan s tasks) (old new : JobRow) (w : Tagged)
+    (at : slice_get tasks.jobs (m.constants.number - 1) ≡ Some old) (is : tasks'.jobs ≡ slice_set tasks.jobs (m.constants.number - 1) new) (rest : tasks' ≡ record tasks { jobs = tasks'.jobs }) (did : IsRead plan m t arguments old new w) where
   pub tables_read : TasksShow plan (with_job s m (job_read m t q)) tasks'
   tables_read =
-      let word : Word = Operand (read_from m.course.job.numbers).0 in
-      let low = numbered_low 1 s.jobs m o.numbered (keyed-has number_of m.setting.number s.jobs m runs.member) in
-      let jobs = jobs_put plan 1 (m.setting.number - 1) m.setting.number m (record m.course { job = job_read m t q }) s.jobs (map job_row tasks.jobs) (job_row old) (job_row new) (omega (arith, low)) o.numbered runs.member
-      (at_mapped job_row tasks.jobs (m.setting.number - 1) old at) (did.shows q) h.jobs in
-      let shown : TablesShow plan (with_job s m (job_read m t q)) (map task_row tasks.rows.items) (slice_set (map job_row tasks.jobs) (m.setting.number - 1) (job_row new)) (counts_of tasks) =
+      let word : Word = Operand (read_from m.progress.job.numbers).0 in
+      let low = numbered_low 1 s.jobs m o.numbered (keyed-has number_of m.constants.number s.jobs m runs.member) in
+      let jobs = jobs_put plan 1 (m.constants.number - 1) m.constants.number m (record m.progress { job = job_read m t q }) s.jobs (map job_row tasks.jobs) (job_row old) (job_row new) (omega (arith, low)) o.numbered runs.member
+      (at_mapped job_row tasks.jobs (m.constants.number - 1) old at) (did.shows q) h.jobs in
+      let shown : TablesShow plan (with_job s m (job_read m t q)) (map task_row tasks.rows.items) (slice_set (map job_row tasks.jobs) (m.constants.number - 1) (job_row new)) (counts_of tasks) =
       tables_after plan s m t (answered (here m t q) (word ∷ [])) (job_read m t q) o runs (replaces_answered plan s m t o runs did.may q word (job_read m t q) refl) refl (waits_answered plan s m t o runs did.may (word ∷ (top (below_top t.frames)).cells))
-      (map task_row tasks.rows.items) (map job_row tasks.jobs) (slice_set (map job_row tasks.jobs) (m.setting.number - 1) (job_row new)) (counts_of tasks) h jobs in
-      let made : map job_row tasks'.jobs ≡ slice_set (map job_row tasks.jobs) (m.setting.number - 1) (job_row new) = ap (map job_row) is ∙ map-slice_set job_row tasks.jobs (m.setting.number - 1) new in
+      (map task_row tasks.rows.items) (map job_row tasks.jobs) (slice_set (map job_row tasks.jobs) (m.constants.number - 1) (job_row new)) (counts_of tasks) h jobs in
+      let made : map job_row tasks'.jobs ≡ slice_set (map job_row tasks.jobs) (m.constants.number - 1) (job_row new) = ap (map job_row) is ∙ map-slice_set job_row tasks.jobs (m.constants.number - 1) new in
       subst (λ (z : Tasks). TasksShow plan (with_job s m (job_read m t q)) z) (sym rest)
       (subst (λ (l : List rows.JobRow). TablesShow plan (with_job s m (job_read m t q)) (map task_row tasks.rows.items) l (counts_of tasks)) (sym made) shown)

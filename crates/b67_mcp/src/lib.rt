@@ -10,15 +10,15 @@ mod running;
 
 ghost use Rattle.std.specs.Prelude.{◌≡◌, ◌≢◌, ℕ, ◌≤◌, List, Option, Some, None, Err, length};
 ghost use Rattle.b67_io.specs.Causes.{Rose};
-ghost use Rattle.b67_model.specs.State.{Task, Member};
+ghost use Rattle.b67_model.specs.State.{Task, SessionJob};
 ghost use Rattle.b67_model.specs.Schedule.{Session};
 ghost use Rattle.b67_model.specs.InOrder.{IsInOrderButPlaces};
-ghost use Rattle.b67_stack.specs.Stands.{Storage};
-ghost use Rattle.b67_layout.specs.Plan.{Plan};
+ghost use Rattle.b67_stack.specs.Represents.{Storage};
+ghost use Rattle.b67_layout.specs.Placement.{Placement};
 ghost use Rattle.b67_layout.specs.Session.{IsRunning};
 ghost use Rattle.b67_exec_cells.specs.Running.{code_area};
 ghost use Rattle.b67_exec_cells.specs.Called.{called_in};
-ghost use Rattle.b67_task_tables.specs.Tables.{MachineStands};
+ghost use Rattle.b67_task_tables.specs.Tables.{MachineRepresents};
 ghost use Rattle.b67_mcp.specs.declared.ends.Stop.TheVariants.{PrintFault};
 ghost use Rattle.b67_mcp.specs.Called.{CallsSome, CallMeets, CallTouches, ChangesStack, AreCountable};
 ghost use Rattle.b67_mcp.specs.Answers.{end_of};
@@ -72,11 +72,11 @@ fn call<K: Sink>(machine: &mut Machine, n: u8, paper: &mut K) -> Result<CallEnd,
 pub fn intrinsic<K: Sink>(machine: &mut Machine, n: u8, paper: &mut K) -> Result<CallEnd, Stop>
     requires calls { CallsSome machine.old n }
     requires countable { AreCountable machine.old.tasks.jobs }
-    ensures row { (x : Storage) (told : Option (List (List ℕ))) (plan : Plan) (s : Session) (m : Member) (t : Task) → IsInOrderButPlaces s
-        → MachineStands x told machine.old plan s → IsRunning plan s.jobs m t → code_area x plan m t ≢ None → called_in m t ≡ Some n
+    ensures row { (x : Storage) (told : Option (List (List ℕ))) (plan : Placement) (s : Session) (m : SessionJob) (t : Task) → IsInOrderButPlaces s
+        → MachineRepresents x told machine.old plan s → IsRunning plan s.jobs m t → code_area x plan m t ≢ None → called_in m t ≡ Some n
         → CallMeets K.taken x told plan s m t n result machine.old machine.new paper.old paper.new }
-    ensures present { (x : Storage) (told : Option (List (List ℕ))) (plan : Plan) (s : Session) (m : Member) (t : Task) → IsInOrderButPlaces s
-        → MachineStands x told machine.old plan s → IsRunning plan s.jobs m t → code_area x plan m t ≢ None → called_in m t ≡ Some n
+    ensures present { (x : Storage) (told : Option (List (List ℕ))) (plan : Placement) (s : Session) (m : SessionJob) (t : Task) → IsInOrderButPlaces s
+        → MachineRepresents x told machine.old plan s → IsRunning plan s.jobs m t → code_area x plan m t ≢ None → called_in m t ≡ Some n
         → CallTouches x plan m t result }
     ensures changed { ChangesStack machine.old machine.new }
     ensures cause { result ≡ Err PrintFault → Rose K.faults paper.old paper.new }

@@ -6,7 +6,7 @@ use Rattle.b67_word.specs.declared.couples.Place.{Place}
 use Rattle.b67_word.specs.declared.faults.Fault.{Fault}
 use Rattle.b67_model.specs.Answers.{Answer, ◌>>=◌}
 use Rattle.b67_model.specs.Words.{Word, number}
-use Rattle.b67_model.specs.State.{Marked, Task, Job, Member, top, with_task}
+use Rattle.b67_model.specs.State.{Marked, Task, Job, SessionJob, top, with_task}
 use Rattle.b67_model.specs.Steps.{Value, Goes, is_critical}
 use Rattle.b67_model.specs.Intrinsics.{is_original, answered, print}
 use Rattle.b67_arith.specs.OnWords.{bits_in}
@@ -20,14 +20,14 @@ pub record IsCall (t : Task) (reference : Word) (arguments : List Word) : Type 0
   pub cells : reverse (top t.frames).cells ≡ reference ∷ arguments
 
 -- a call that may be cut off the stack: no live task depends on it, and it holds no original
-pub record MayCut (m : Member) (t : Task) : Type 0 where
+pub record MayCut (m : SessionJob) (t : Task) : Type 0 where
   pub marked : (top t.frames).standing ≡ Marked
   pub plain : AllByRecursion (λ (w : Word). is_original w ≡ false) (top t.frames).cells
-  pub free : is_critical m.course.job (top t.frames).identity ≡ false
+  pub free : is_critical m.progress.job (top t.frames).identity ≡ false
 
 -- the job without the call, whose task goes on at a place
-abbrev pub job_cut : Member → Task → Place → Job
-job_cut m t next = with_task m.course.job (answered (here m t next) [])
+abbrev pub job_cut : SessionJob → Task → Place → Job
+job_cut m t next = with_task m.progress.job (answered (here m t next) [])
 
 -- a machine with such a call on its running stack
 pub record CutSome (cpu : Cpu) : Type 0 where
@@ -46,7 +46,7 @@ abbrev pub number_in : Tagged → Answer ℤ
 number_in w = bits_in w >>= number
 
 -- what PRINT is to print is the value of its row's line, or the row's fault
-abbrev pub PrintMeets : Member → Task → List Word → Result ℤ Fault → Type 0
+abbrev pub PrintMeets : SessionJob → Task → List Word → Result ℤ Fault → Type 0
 PrintMeets m t arguments (Ok v) =
     ((next : Place) → print (here m t next) arguments ≡ Ok (Goes (job_cut m t next) (Value v ∷ []) None)) × MayCut m t
 PrintMeets m t arguments (Err fault) = (next : Place) → print (here m t next) arguments ≡ Err fault

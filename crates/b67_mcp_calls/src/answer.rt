@@ -5,7 +5,7 @@ ghost use Rattle.b67_word.specs.Tagged.{word};
 ghost use Rattle.b67_ctl.specs.Layout.{IsPlace};
 ghost use Rattle.b67_model.specs.Words as words;
 ghost use Rattle.b67_stack.specs.Changes.{pushed};
-ghost use Rattle.b67_layout.specs.Session.{SessionStands};
+ghost use Rattle.b67_layout.specs.Session.{RepresentsSession};
 ghost use Rattle.b67_layout.specs.Meets.{ForEach, with_job, IsInStack};
 ghost use Rattle.b67_mcp_calls.specs.Calls.{CutSome, MayCut};
 ghost use Rattle.b67_mcp_calls.specs.Answered.{job_answered};
@@ -32,7 +32,7 @@ pub fn answer_call(cpu: &mut Cpu, w: Word, next: Place)
     requires call { CutSome cpu.old }
     requires place { IsPlace next }
     ensures stands { ForEach cpu.old (λ x plan s m t. (bits : ℕ) (numbers : List ℤ) → MayCut m t → w ≡ word 0 bits
-        → SessionStands x cpu.new plan (with_job s m (job_answered m t (words.Operand bits) next numbers))) }
+        → RepresentsSession x cpu.new plan (with_job s m (job_answered m t (words.Operand bits) next numbers))) }
     ensures changed { ForEach cpu.old (λ x plan s m t. MayCut m t → (i : ℕ)
         → (slice_get cpu.new.core i ≡ slice_get cpu.old.core i) ⊎ IsInStack cpu.old.regs i) }
 {

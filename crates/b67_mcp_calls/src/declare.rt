@@ -2,7 +2,7 @@
 
 ghost use Rattle.std.specs.Prelude.{◌≡◌, ℕ, ◌+◌, ◌<◌, ◌^◌, List, ◌⊎◌, slice_get, IfOk};
 ghost use Rattle.b67_ctl.specs.Layout.{IsPlace};
-ghost use Rattle.b67_layout.specs.Session.{SessionStands};
+ghost use Rattle.b67_layout.specs.Session.{RepresentsSession};
 ghost use Rattle.b67_layout.specs.Meets.{ForEach, with_job, IsInStack};
 ghost use Rattle.b67_mcp_calls.specs.Calls.{CutSome, CallSome, IsCall, MayCut};
 ghost use Rattle.b67_model.specs.Words as words;
@@ -60,7 +60,7 @@ pub fn answer_array(cpu: &mut Cpu, length: u32, next: Place)
     requires some { 0 < length }
     requires small { length < 2 ^ 16 }
     ensures stands { ForEach cpu.old (λ x plan s m t. MayCut m t
-        → SessionStands (without x cpu.new.regs.s) cpu.new (with_home plan m.setting.number m.course.job.next_array cpu.new.regs.s) (with_job s m (job_declared m t length next))) }
+        → RepresentsSession (without x cpu.new.regs.s) cpu.new (with_home plan m.constants.number m.progress.job.next_array cpu.new.regs.s) (with_job s m (job_declared m t length next))) }
     ensures changed { ForEach cpu.old (λ x plan s m t. MayCut m t → (i : ℕ)
         → (slice_get cpu.new.core i ≡ slice_get cpu.old.core i) ⊎ IsInStack cpu.old.regs i) }
 {

@@ -22,7 +22,7 @@ use Rattle.b67_law_order.proofs.Members.{has_reverse_back, has_get, all_in}
 use Rattle.b67_law_order.proofs.Chases.{some_ok}
 use Rattle.b67_layout.specs.Meets.{here}
 use Rattle.b67_refer.specs.declared.ends.End.TheVariants as end
-use Rattle.b67_refer.specs.Scene.{Scene}
+use Rattle.b67_refer.specs.RunningContext.{RunningContext}
 use Rattle.b67_refer.specs.Cells.{StandsFor, IsCellAt}
 use Rattle.b67_refer.specs.Ends.{LinkMeets}
 use Rattle.b67_refer.proofs.Marks.{frame_dictionary, frame_mcp}
@@ -44,7 +44,7 @@ cell_has g offset w e =
 no_entry : (arrays : List Rattle.b67_model.specs.State.Array) (segment level : ℕ) (place : Place) → EntryInOrder arrays (Proc segment level place) → ⊥
 no_entry arrays segment level place e = e
 
-module _ (core : List Tagged) (r : Regs) (a : Scene core r) (q : Place) where
+module _ (core : List Tagged) (r : Regs) (a : RunningContext core r) (q : Place) where
   -- a procedure's cell lies in a frame of a task
   pub proc_own : (at f offset segment level : ℕ) (place : Place) → IsCellAt a q at f offset (Proc segment level place) → 1 < f
   proc_own at f offset segment level place c = ⊎_elim
@@ -56,16 +56,16 @@ module _ (core : List Tagged) (r : Regs) (a : Scene core r) (q : Place) where
       all_in IsNoProc mcp.cells (Proc segment level place) (tt, (tt, (tt, (tt, (tt, (tt, (tt, (tt, (tt, tt))))))))) h))
       (λ (z : 1 ≤ f).
       (let is : f ≡ 1 = omega (arith, z, low) in
-      let h = cell_has a.member.setting.dictionary offset (Proc segment level place) (sym (ap (λ (g : Frame). ok_or (cell_of g offset) InvalidAddress) (ap (frame (here a.member a.task q)) is ∙ frame_dictionary core r a q)) ∙ c.found) in
-      no_entry a.member.course.job.arrays segment level place (all_in (EntryInOrder a.member.course.job.arrays) a.member.setting.dictionary.cells (Proc segment level place) a.ordered.tasks.entries h)))
+      let h = cell_has a.member.constants.dictionary offset (Proc segment level place) (sym (ap (λ (g : Frame). ok_or (cell_of g offset) InvalidAddress) (ap (frame (here a.member a.task q)) is ∙ frame_dictionary core r a q)) ∙ c.found) in
+      no_entry a.member.progress.job.arrays segment level place (all_in (EntryInOrder a.member.progress.job.arrays) a.member.constants.dictionary.cells (Proc segment level place) a.ordered.tasks.entries h)))
       (cases_lt f 1)))
       (cases_lt 1 f)
 
-  pub segments_few : length a.member.setting.segments ≤ 255
+  pub segments_few : length a.member.constants.segments ≤ 255
   segments_few =
-      let s = segments_low 1 a.member.setting.segments (reverse a.member.setting.dictionary.cells) a.ordered.setting.dictionary in
-      let n = length_reverse a.member.setting.dictionary.cells in
-      let e = a.ordered.setting.entries in
+      let s = segments_low 1 a.member.constants.segments (reverse a.member.constants.dictionary.cells) a.ordered.constants.dictionary in
+      let n = length_reverse a.member.constants.dictionary.cells in
+      let e = a.ordered.constants.entries in
       omega (arith, s, n, e)
 
   -- a word that is that of an intrinsic
@@ -78,7 +78,7 @@ module _ (core : List Tagged) (r : Regs) (a : Scene core r) (q : Place) where
   intrinsic_is at owner v (Original b) p s i e = absurd (let z = ap (λ (x : Tagged). x.tag) s.0.1.is in let y = ap (λ (x : Tagged). x.tag) e in omega (arith, z, y))
   intrinsic_is at owner v (Proc segment level place) p s i e =
       let z = ap (λ (x : Tagged). x.bits) (sym s.0.0 ∙ e) in
-      let o : IsSegment a.member.setting segment level place = s.1.1 in
+      let o : IsSegment a.member.constants segment level place = s.1.1 in
       let few = segments_few in
       absurd (not_intrinsic place.syllable place.word level (segment + 1) p.number (omega (arith, o.syllable_fits)) o.word_fits s.1.0 (omega (arith, o.within, few)) i.number z)
   intrinsic_is at owner v (Intrinsic n) p s i e =

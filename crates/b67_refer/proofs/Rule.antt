@@ -21,17 +21,17 @@ use Rattle.b67_model.specs.Cells.{first_offset, cell_of, cell}
 use Rattle.b67_model.specs.InOrder.{Starts, Known, known_of, known_numbers, reach_of, IsEntered, IsSegment, WordInOrder}
 use Rattle.b67_law_order.proofs.Members.{reverse_cons, has_reverse_back, has_get, all_in, has_map}
 use Rattle.b67_law_order.proofs.Reaches.{Wider, word_wider}
-use Rattle.b67_stack.specs.Shapes.{Map, Shape, Is, Fits, Lie}
+use Rattle.b67_stack.specs.Shapes.{Locations, Shape, Is, Fits, LieDownward}
 use Rattle.b67_stack.specs.Stacks as Stacks
-use Rattle.b67_stack.specs.Stacks.{Spot, Head, Activation, head_size, high, headed, words}
+use Rattle.b67_stack.specs.Stacks.{StackPlace, Head, Activation, head_size, stack_words, headed, words}
 use Rattle.b67_stack.proofs.Lies.{Lie-under}
 use Rattle.b67_stack.proofs.Heights.{words-length}
-use Rattle.b67_layout.specs.Plan.{Plan, spot_in, spots, address_of}
+use Rattle.b67_layout.specs.Placement.{Placement, spot_in, spots, address_of}
 use Rattle.b67_layout.specs.Layout.{shape, head}
 use Rattle.b67_layout.specs.Session.{frame_address}
 use Rattle.b67_layout.specs.Meets.{here}
 use Rattle.b67_layout.proofs.Frames.{height-is}
-use Rattle.b67_refer.specs.Scene.{Scene}
+use Rattle.b67_refer.specs.RunningContext.{RunningContext}
 use Rattle.b67_refer.specs.Cells.{StandsFor, IsCellAt, CellMeets}
 use Rattle.b67_refer.proofs.Slots.{base, acts}
 use Rattle.b67_refer.proofs.Seats.{Seat}
@@ -79,11 +79,11 @@ end_some (x ∷ xs) i low = ⊎_elim
 end_none : {A : Type 0} (xs : List A) (i : ℕ) → length xs ≤ i → from_end xs i ≡ None
 end_none [] i high = refl
 end_none (x ∷ xs) i high =
-    let ne : (i == length xs) ≡ false = ne_eqb i (length xs) (λ e. omega (arith, e, high)) in
-    rw ne (end_none xs i (omega (arith, high)))
+    let ne : (i == length xs) ≡ false = ne_eqb i (length xs) (λ e. omega (arith, e, stack_words)) in
+    rw ne (end_none xs i (omega (arith, stack_words)))
 
 -- the word of a cell that lies over others
-end_lies : {A : Type 0} (R : Shape → ℕ → Tagged → Type 0) (core : List Tagged) (from : ℕ) (g : A → Shape) (xs : List A) (under : List Shape) (i : ℕ) (x : A) → Lie R core from (map g xs ++ under) → from_end xs i ≡ Some x
+end_lies : {A : Type 0} (R : Shape → ℕ → Tagged → Type 0) (core : List Tagged) (from : ℕ) (g : A → Shape) (xs : List A) (under : List Shape) (i : ℕ) (x : A) → LieDownward R core from (map g xs ++ under) → from_end xs i ≡ Some x
     → (v : Tagged) × (slice_get core (from + length under + i) ≡ Some v) × R (g x) (from + length under + i) v
 end_lies R core from g [] under i x l e = absurd (none-some x e)
 end_lies R core from g (y ∷ xs) under i x l e = ⊎_elim
@@ -96,7 +96,7 @@ end_lies R core from g (y ∷ xs) under i x l e = ⊎_elim
     (cases_Bool (i == length xs))
 
 -- no word that a cell may hold has tag 3
-word_tag : (P : Starts) (arrays : List Array) (reach : List Known) (owner : ℕ) (held : Map) (plan : Plan) (j : ℕ) (job : Job) (spot : ℕ → Spot) (w : Word) (i : ℕ) (v : Tagged) → WordInOrder P arrays reach owner w → Fits held (shape plan j job spot w) i v → v.tag ≡ 3 → ⊥
+word_tag : (P : Starts) (arrays : List Array) (reach : List Known) (owner : ℕ) (held : Locations) (plan : Placement) (j : ℕ) (job : Job) (spot : ℕ → StackPlace) (w : Word) (i : ℕ) (v : Tagged) → WordInOrder P arrays reach owner w → Fits held (shape plan j job spot w) i v → v.tag ≡ 3 → ⊥
 word_tag P arrays reach owner held plan j job spot (Operand bits) i v o f e = let z = ap (λ (x : Tagged). x.tag) f.0 in absurd (omega (arith, z, e))
 word_tag P arrays reach owner held plan j job spot (Name couple) i v o f e = let z = ap (λ (x : Tagged). x.tag) f.0 in absurd (omega (arith, z, e))
 word_tag P arrays reach owner held plan j job spot (Ref g d) i v o f e = let z = ap (λ (x : Tagged). x.tag) f.0 in absurd (omega (arith, z, e))
@@ -108,13 +108,13 @@ word_tag P arrays reach owner held plan j job spot (Intrinsic n) i v o f e = o
 word_tag P arrays reach owner held plan j job spot (Words.Segment n) i v o f e = o
 
 -- a shape reads the spots of the frame that its word names alone
-same_shape : (P : Starts) (arrays : List Array) (reach : List Known) (owner : ℕ) (plan : Plan) (j : ℕ) (job : Job) (spot spot' : ℕ → Spot) (w : Word) → WordInOrder P arrays reach owner w → ((g : ℕ) → Has (known_numbers reach) g → spot g ≡ spot' g)
+same_shape : (P : Starts) (arrays : List Array) (reach : List Known) (owner : ℕ) (plan : Placement) (j : ℕ) (job : Job) (spot spot' : ℕ → StackPlace) (w : Word) → WordInOrder P arrays reach owner w → ((g : ℕ) → Has (known_numbers reach) g → spot g ≡ spot' g)
     → shape plan j job spot' w ≡ shape plan j job spot w
 same_shape P arrays reach owner plan j job spot spot' (Operand bits) o same = refl
 same_shape P arrays reach owner plan j job spot spot' (Name couple) o same = refl
 same_shape P arrays reach owner plan j job spot spot' (Ref g d) o same =
     let there : Has (known_numbers reach) g = has_map (λ (k : Known). k.0) reach (g, o.0.standing) o.0.among in
-    ap (λ (z : Spot). Is (sirw_word (record { stack = z.stack; disp = z.disp; offset = d }))) (sym (same g there))
+    ap (λ (z : StackPlace). Is (sirw_word (record { stack = z.stack; disp = z.disp; offset = d }))) (sym (same g there))
 same_shape P arrays reach owner plan j job spot spot' (Row b) o same = refl
 same_shape P arrays reach owner plan j job spot spot' (Element b d) o same = refl
 same_shape P arrays reach owner plan j job spot spot' (Original b) o same = refl
@@ -122,10 +122,10 @@ same_shape P arrays reach owner plan j job spot spot' (Proc s l p) o same = refl
 same_shape P arrays reach owner plan j job spot spot' (Intrinsic n) o same = refl
 same_shape P arrays reach owner plan j job spot spot' (Words.Segment n) o same = refl
 
-module _ (core : List Tagged) (r : Regs) (a : Scene core r) where
+module _ (core : List Tagged) (r : Regs) (a : RunningContext core r) where
   -- a word in order stands for itself
-  pub word_stands : (at owner : ℕ) (v : Tagged) (w : Word) → Fits a.storage.held (shape a.plan a.member.setting.number a.member.course.job (spots a.plan a.member.setting.number a.member.course.job a.task) w) at v
-      → WordInOrder (IsSegment a.member.setting) a.member.course.job.arrays (reach_of a.member.course.job a.task) owner w → StandsFor a at owner v w
+  pub word_stands : (at owner : ℕ) (v : Tagged) (w : Word) → Fits a.storage.held (shape a.plan a.member.constants.number a.member.progress.job (spots a.plan a.member.constants.number a.member.progress.job a.task) w) at v
+      → WordInOrder (IsSegment a.member.constants) a.member.progress.job.arrays (reach_of a.member.progress.job a.task) owner w → StandsFor a at owner v w
   word_stands at owner v (Operand bits) f o = (f, o)
   word_stands at owner v (Name couple) f o = (f, o)
   word_stands at owner v (Ref g d) f o = (f, o)
@@ -136,7 +136,7 @@ module _ (core : List Tagged) (r : Regs) (a : Scene core r) where
   word_stands at owner v (Intrinsic n) f o = absurd o
   word_stands at owner v (Words.Segment n) f o = absurd o
 
-  head_high : (k : ℕ) (outer : ℕ → Spot) (s : Standing) (below : List Activation) (under : List Frame) → IsEntered s → head_size (head (spot_in k outer under) s) ≡ 2
+  head_high : (k : ℕ) (outer : ℕ → StackPlace) (s : Standing) (below : List Activation) (under : List Frame) → IsEntered s → head_size (head (spot_in k outer under) s) ≡ 2
   head_high k outer State.Marked below under e = absurd e
   head_high k outer (State.Entered level environment back) below under e = refl
 
@@ -144,7 +144,7 @@ module _ (core : List Tagged) (r : Regs) (a : Scene core r) where
   headed_high k Stacks.Marked below under = omega arith
   headed_high k (Stacks.Entered level environment back) below under = omega arith
 
-  module _ (q : Place) (f : ℕ) (s : Standing) (b : Seat core r a (spots a.plan a.member.setting.number a.member.course.job a.task) (reach_of a.member.course.job a.task) f s) (e : IsEntered s) (own : 1 < f) where
+  module _ (q : Place) (f : ℕ) (s : Standing) (b : Seat core r a (spots a.plan a.member.constants.number a.member.progress.job a.task) (reach_of a.member.progress.job a.task) f s) (e : IsEntered s) (own : 1 < f) where
     -- the address of the frame's mark
     pub seat_address : frame_address a.plan a.member a.task f ≡ base core r a b.slot + height b.below
     seat_address = ap (address_of a.plan) b.spot ∙ slot_address core r a b.slot (height b.below) b.top_is.used
@@ -162,18 +162,18 @@ module _ (core : List Tagged) (r : Regs) (a : Scene core r) where
         let n = headed_high k (head (spot_in k b.outer b.below) b.frame.standing) below (words k below) in
         let m = head_high k b.outer b.frame.standing below b.below entered in
         let w = words-length k below in
-        let h = height-is a.plan a.member.setting.number a.member.course.job k b.outer b.below in
+        let h = height-is a.plan a.member.constants.number a.member.progress.job k b.outer b.below in
         let z = seat_address in
         omega (arith, n, m, w, h, z)
 
     -- where the cells end
-    cells_end : base core r a b.slot + high (acts core r a b.slot b.outer (b.frame ∷ b.below)) + 1 ≡ frame_address a.plan a.member a.task f + 2 + length b.frame.cells
+    cells_end : base core r a b.slot + stack_words (acts core r a b.slot b.outer (b.frame ∷ b.below)) + 1 ≡ frame_address a.plan a.member a.task f + 2 + length b.frame.cells
     cells_end =
         let k = b.slot in
         let m = head_high k b.outer b.frame.standing (acts core r a k b.outer b.below) b.below entered in
-        let h = height-is a.plan a.member.setting.number a.member.course.job k b.outer b.below in
+        let h = height-is a.plan a.member.constants.number a.member.progress.job k b.outer b.below in
         let z = seat_address in
-        let n = length-map b.frame.cells (shape a.plan a.member.setting.number a.member.course.job (spot_in k b.outer (b.frame ∷ b.below))) in
+        let n = length-map b.frame.cells (shape a.plan a.member.constants.number a.member.progress.job (spot_in k b.outer (b.frame ∷ b.below))) in
         omega (arith, m, h, z, n)
 
     -- the word of a cell
@@ -183,33 +183,33 @@ module _ (core : List Tagged) (r : Regs) (a : Scene core r) where
       pub stands : StandsFor a (frame_address a.plan a.member a.task f + offset) f word w
       pub no_mark : word.tag ≡ 3 → ⊥
 
-    wide : Wider (map known_of (b.frame ∷ b.below) ++ b.known) (reach_of a.member.course.job a.task) a.member.course.job.arrays a.member.course.job.arrays
+    wide : Wider (map known_of (b.frame ∷ b.below) ++ b.known) (reach_of a.member.progress.job a.task) a.member.progress.job.arrays a.member.progress.job.arrays
     wide = record { entered = λ n z i k. b.among (n, z) k; kept = λ x k at. record { item = x; live = k; named = refl; owned = refl; long = omega arith } }
 
-    here_known : Has (known_numbers (reach_of a.member.course.job a.task)) b.frame.identity
-    here_known = has_map (λ (k : Known). k.0) (reach_of a.member.course.job a.task) (known_of b.frame) (b.among (known_of b.frame) (inl refl))
+    here_known : Has (known_numbers (reach_of a.member.progress.job a.task)) b.frame.identity
+    here_known = has_map (λ (k : Known). k.0) (reach_of a.member.progress.job a.task) (known_of b.frame) (b.among (known_of b.frame) (inl refl))
 
     pub cell_in : (i : ℕ) (w : Word) → from_end b.frame.cells i ≡ Some w → CellWord (2 + i) w
     cell_in i w there =
-        let arrays = a.member.course.job.arrays in
-        let P = IsSegment a.member.setting in
+        let arrays = a.member.progress.job.arrays in
+        let P = IsSegment a.member.constants in
         let known = map known_of (b.frame ∷ b.below) ++ b.known in
-        let reach = reach_of a.member.course.job a.task in
+        let reach = reach_of a.member.progress.job a.task in
         let spot = spot_in b.slot b.outer (b.frame ∷ b.below) in
         let has : Has b.frame.cells w = has_reverse_back b.frame.cells w (has_get (reverse b.frame.cells) i w (get_reverse b.frame.cells i ∙ there)) in
         let first : WordInOrder P arrays known b.frame.identity w = all_in (WordInOrder P arrays known b.frame.identity) b.frame.cells w b.order.0.0 has in
         let order : WordInOrder P arrays reach f w = subst (λ (n : ℕ). WordInOrder P arrays reach n w) b.named (word_wider P known reach arrays arrays b.frame.identity wide here_known w first) in
-        let l = end_lies (Fits a.storage.held) core (suc (base core r a b.slot)) (shape a.plan a.member.setting.number a.member.course.job spot) b.frame.cells under i w b.part.lies there in
+        let l = end_lies (Fits a.storage.held) core (suc (base core r a b.slot)) (shape a.plan a.member.constants.number a.member.progress.job spot) b.frame.cells under i w b.part.lies there in
         let at : suc (base core r a b.slot) + length under + i ≡ frame_address a.plan a.member a.task f + (2 + i) = (let u = under_high in omega (arith, u)) in
-        let shapes : shape a.plan a.member.setting.number a.member.course.job spot w ≡ shape a.plan a.member.setting.number a.member.course.job (spots a.plan a.member.setting.number a.member.course.job a.task) w =
-        sym (same_shape P arrays known b.frame.identity a.plan a.member.setting.number a.member.course.job spot (spots a.plan a.member.setting.number a.member.course.job a.task) w first (λ g h. sym (b.sees g h))) in
-        let fits : Fits a.storage.held (shape a.plan a.member.setting.number a.member.course.job (spots a.plan a.member.setting.number a.member.course.job a.task) w) (frame_address a.plan a.member a.task f + (2 + i)) l.0 =
-        subst (λ (z : Shape). Fits a.storage.held z (frame_address a.plan a.member a.task f + (2 + i)) l.0) shapes (subst (λ (n : ℕ). Fits a.storage.held (shape a.plan a.member.setting.number a.member.course.job spot w) n l.0) at l.2) in
+        let shapes : shape a.plan a.member.constants.number a.member.progress.job spot w ≡ shape a.plan a.member.constants.number a.member.progress.job (spots a.plan a.member.constants.number a.member.progress.job a.task) w =
+        sym (same_shape P arrays known b.frame.identity a.plan a.member.constants.number a.member.progress.job spot (spots a.plan a.member.constants.number a.member.progress.job a.task) w first (λ g h. sym (b.sees g h))) in
+        let fits : Fits a.storage.held (shape a.plan a.member.constants.number a.member.progress.job (spots a.plan a.member.constants.number a.member.progress.job a.task) w) (frame_address a.plan a.member a.task f + (2 + i)) l.0 =
+        subst (λ (z : Shape). Fits a.storage.held z (frame_address a.plan a.member a.task f + (2 + i)) l.0) shapes (subst (λ (n : ℕ). Fits a.storage.held (shape a.plan a.member.constants.number a.member.progress.job spot w) n l.0) at l.2) in
         record {
           word = l.0;
           there = ap (slice_get core) (sym at) ∙ l.1;
           stands = word_stands (frame_address a.plan a.member a.task f + (2 + i)) f l.0 w fits order;
-          no_mark = word_tag P arrays reach f a.storage.held a.plan a.member.setting.number a.member.course.job (spots a.plan a.member.setting.number a.member.course.job a.task) w (frame_address a.plan a.member a.task f + (2 + i)) l.0 order fits;
+          no_mark = word_tag P arrays reach f a.storage.held a.plan a.member.constants.number a.member.progress.job (spots a.plan a.member.constants.number a.member.progress.job a.task) w (frame_address a.plan a.member a.task f + (2 + i)) l.0 order fits;
         }
 
     -- the model's look-up by the number from the frame's end
@@ -259,7 +259,7 @@ module _ (core : List Tagged) (r : Regs) (a : Scene core r) where
         let d : CellWord offset x.0 = subst (λ (n : ℕ). CellWord n x.0) at c in
         let is : IsCellAt a q (frame_address a.plan a.member a.task f + offset) f offset x.0 = record {
           address = refl;
-          names = record { standing = s; among = subst (λ (k : Known). Has (reach_of a.member.course.job a.task) k) (λ i. (b.named i, b.stands i)) (b.among (known_of b.frame) (inl refl)); entered = e };
+          names = record { standing = s; among = subst (λ (k : Known). Has (reach_of a.member.progress.job a.task) k) (λ i. (b.named i, b.stands i)) (b.among (known_of b.frame) (inl refl)); entered = e };
           found = found;
           word = d.word;
           there = d.there;
@@ -268,9 +268,9 @@ module _ (core : List Tagged) (r : Regs) (a : Scene core r) where
         let F : Answer Word → Type 0 = λ y. CellMeets a q f offset (Ok (frame_address a.plan a.member a.task f + offset)) y in
         subst F (sym found) is))
         (λ (past : 2 + length b.frame.cells ≤ offset). absurd (⊎_elim
-        (λ (z : base core r a b.slot + high (acts core r a b.slot b.outer (b.frame ∷ b.below)) ≡ b.top). (let y = cells_end in omega (arith, z, y, past, up)))
-        (λ z. (let y = cells_end in let at : suc (base core r a b.slot) + high (acts core r a b.slot b.outer (b.frame ∷ b.below)) ≡ frame_address a.plan a.member a.task f + 2 + length b.frame.cells = omega (arith, y) in
-        plain (suc (base core r a b.slot) + high (acts core r a b.slot b.outer (b.frame ∷ b.below))) z.0 (omega (arith, at)) (omega (arith, at, past)) z.1 z.2))
+        (λ (z : base core r a b.slot + stack_words (acts core r a b.slot b.outer (b.frame ∷ b.below)) ≡ b.top). (let y = cells_end in omega (arith, z, y, past, up)))
+        (λ z. (let y = cells_end in let at : suc (base core r a b.slot) + stack_words (acts core r a b.slot b.outer (b.frame ∷ b.below)) ≡ frame_address a.plan a.member a.task f + 2 + length b.frame.cells = omega (arith, y) in
+        plain (suc (base core r a b.slot) + stack_words (acts core r a b.slot b.outer (b.frame ∷ b.below))) z.0 (omega (arith, at)) (omega (arith, at, past)) z.1 z.2))
         b.part.above))
         (cases_lt offset (2 + length b.frame.cells))
 
@@ -279,16 +279,16 @@ module _ (core : List Tagged) (r : Regs) (a : Scene core r) where
     return_tag =
         let k = b.slot in
         let below = acts core r a k b.outer b.below in
-        let cells = map (shape a.plan a.member.setting.number a.member.course.job (spot_in k b.outer (b.frame ∷ b.below))) b.frame.cells in
+        let cells = map (shape a.plan a.member.constants.number a.member.progress.job (spot_in k b.outer (b.frame ∷ b.below))) b.frame.cells in
         by_standing b.frame.standing entered (Lie-under (Fits a.storage.held) core (suc (base core r a k)) cells (headed k (head (spot_in k b.outer b.below) b.frame.standing) below (words k below)) b.part.lies) where
           at : suc (base core r a b.slot) + suc (length (words b.slot (acts core r a b.slot b.outer b.below))) ≡ frame_address a.plan a.member a.task f + 1
           at =
               let n = words-length b.slot (acts core r a b.slot b.outer b.below) in
-              let h = height-is a.plan a.member.setting.number a.member.course.job b.slot b.outer b.below in
+              let h = height-is a.plan a.member.constants.number a.member.progress.job b.slot b.outer b.below in
               let z = seat_address in
               omega (arith, n, h, z)
 
-          by_standing : (z : Standing) → IsEntered z → Lie (Fits a.storage.held) core (suc (base core r a b.slot)) (headed b.slot (head (spot_in b.slot b.outer b.below) z) (acts core r a b.slot b.outer b.below) (words b.slot (acts core r a b.slot b.outer b.below)))
+          by_standing : (z : Standing) → IsEntered z → LieDownward (Fits a.storage.held) core (suc (base core r a b.slot)) (headed b.slot (head (spot_in b.slot b.outer b.below) z) (acts core r a b.slot b.outer b.below) (words b.slot (acts core r a b.slot b.outer b.below)))
               → (w : Tagged) × (slice_get core (frame_address a.plan a.member a.task f + 1) ≡ Some w) × (w.tag ≡ 3)
           by_standing State.Marked i l = absurd i
           by_standing (State.Entered level environment back) i l = (l.0.0, ap (slice_get core) (sym at) ∙ l.0.1, ap (λ (x : Tagged). x.tag) l.0.2.0)
@@ -296,8 +296,8 @@ module _ (core : List Tagged) (r : Regs) (a : Scene core r) where
     -- a cell that is there lies among the cells
     pub inside : (offset : ℕ) (w : Word) → cell (here a.member a.task q) f offset ≡ Ok w → (2 ≤ offset) × (offset < 2 + length b.frame.cells)
     inside offset w found = (
-      ⊎_elim (λ (low : offset < 2). absurd (refused (none offset (inl low)))) (λ (high : 2 ≤ offset). high) (cases_lt offset 2),
-      ⊎_elim (λ (low : offset < 2 + length b.frame.cells). low) (λ (high : 2 + length b.frame.cells ≤ offset). absurd (refused (none offset (inr high)))) (cases_lt offset (2 + length b.frame.cells)),
+      ⊎_elim (λ (low : offset < 2). absurd (refused (none offset (inl low)))) (λ (stack_words : 2 ≤ offset). stack_words) (cases_lt offset 2),
+      ⊎_elim (λ (low : offset < 2 + length b.frame.cells). low) (λ (stack_words : 2 + length b.frame.cells ≤ offset). absurd (refused (none offset (inr stack_words)))) (cases_lt offset (2 + length b.frame.cells)),
     ) where
       refused : cell (here a.member a.task q) f offset ≡ Err InvalidAddress → ⊥
       refused e = err_ok w (sym e ∙ found)

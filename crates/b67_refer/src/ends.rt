@@ -6,7 +6,7 @@ ghost use Rattle.b67_model.specs.Words as Words;
 ghost use Rattle.b67_model.specs.Cells.{place_of};
 ghost use Rattle.b67_model.specs.Chase.{link_at, chase as chase_of, follow};
 ghost use Rattle.b67_layout.specs.Meets.{here};
-ghost use Rattle.b67_refer.specs.Scene.{Scene, IsShown};
+ghost use Rattle.b67_refer.specs.RunningContext.{RunningContext, IsShown};
 ghost use Rattle.b67_refer.specs.Cells.{StandsFor, IsCellAt, FindsCell};
 ghost use Rattle.b67_refer.specs.Ends.{IsCopyOf, HasTag, IsReference, EndMeets, LinkMeets};
 
@@ -42,8 +42,8 @@ pub fn owner(core: &Core, copy: DataDesc) -> u32
 
 /// The end at an array's descriptor in a cell.
 fn array_end(core: &Core, regs: &Regs, at: u32) -> End
-    requires { (a : Scene core.now regs.now) × (q : Place) × (f : ℕ) × (offset : ℕ) × (w : Words.Word) × IsCellAt a q at f offset w × HasTag core.now at 5 }
-    ensures { (a : Scene core.now regs.now) (q : Place) (f offset : ℕ) (w : Words.Word) → IsCellAt a q at f offset w → HasTag core.now at 5
+    requires { (a : RunningContext core.now regs.now) × (q : Place) × (f : ℕ) × (offset : ℕ) × (w : Words.Word) × IsCellAt a q at f offset w × HasTag core.now at 5 }
+    ensures { (a : RunningContext core.now regs.now) (q : Place) (f offset : ℕ) (w : Words.Word) → IsCellAt a q at f offset w → HasTag core.now at 5
         → LinkMeets a q (Ok (Some result)) (link_at f offset w) }
 {
     let d = match DataDesc::from_word(core.get(at)) {
@@ -66,8 +66,8 @@ fn array_end(core: &Core, regs: &Regs, at: u32) -> End
 /// What the word in a cell comes to: an end, or None where it is a reference. INVALID OPERAND exactly where it is
 /// neither.
 fn end_at(core: &Core, regs: &Regs, at: u32) -> Result<Option<End>, Fault>
-    requires { (a : Scene core.now regs.now) × (q : Place) × (f : ℕ) × (offset : ℕ) × (w : Words.Word) × IsCellAt a q at f offset w }
-    ensures { (a : Scene core.now regs.now) (q : Place) (f offset : ℕ) (w : Words.Word) → IsCellAt a q at f offset w
+    requires { (a : RunningContext core.now regs.now) × (q : Place) × (f : ℕ) × (offset : ℕ) × (w : Words.Word) × IsCellAt a q at f offset w }
+    ensures { (a : RunningContext core.now regs.now) (q : Place) (f offset : ℕ) (w : Words.Word) → IsCellAt a q at f offset w
         → LinkMeets a q result (link_at f offset w) }
 {
     let w = core.get(at);
@@ -94,8 +94,8 @@ fn end_at(core: &Core, regs: &Regs, at: u32) -> Result<Option<End>, Fault>
 
 /// The cell that a reference word names.
 fn named_cell(core: &Core, regs: &Regs, display: &[u32; 32], w: Word) -> Result<u32, Fault>
-    requires { (a : Scene core.now regs.now) × IsShown a display.now × (at : ℕ) × (owner : ℕ) × (v : Words.Word) × StandsFor a at owner w v × IsReference v }
-    ensures { (a : Scene core.now regs.now) (q : Place) → IsShown a display.now → (at owner : ℕ) (v : Words.Word) → StandsFor a at owner w v
+    requires { (a : RunningContext core.now regs.now) × IsShown a display.now × (at : ℕ) × (owner : ℕ) × (v : Words.Word) × StandsFor a at owner w v × IsReference v }
+    ensures { (a : RunningContext core.now regs.now) (q : Place) → IsShown a display.now → (at owner : ℕ) (v : Words.Word) → StandsFor a at owner w v
         → IsReference v → FindsCell a q result (place_of (here a.member a.task q) v) }
 {
     match Irw::from_word(w) {
@@ -109,8 +109,8 @@ fn named_cell(core: &Core, regs: &Regs, display: &[u32; 32], w: Word) -> Result<
 
 /// Follows a chain of references, of at most 1,024 links.
 fn chase_reference(core: &Core, regs: &Regs, display: &[u32; 32], w: Word) -> Result<End, Fault>
-    requires { (a : Scene core.now regs.now) × IsShown a display.now × (at : ℕ) × (owner : ℕ) × (v : Words.Word) × StandsFor a at owner w v × IsReference v }
-    ensures { (a : Scene core.now regs.now) (q : Place) → IsShown a display.now → (at owner : ℕ) (v : Words.Word) → StandsFor a at owner w v
+    requires { (a : RunningContext core.now regs.now) × IsShown a display.now × (at : ℕ) × (owner : ℕ) × (v : Words.Word) × StandsFor a at owner w v × IsReference v }
+    ensures { (a : RunningContext core.now regs.now) (q : Place) → IsShown a display.now → (at owner : ℕ) (v : Words.Word) → StandsFor a at owner w v
         → IsReference v → EndMeets a q result (chase_of (here a.member a.task q) v) }
 {
     let mut w = w;
@@ -133,8 +133,8 @@ fn chase_reference(core: &Core, regs: &Regs, display: &[u32; 32], w: Word) -> Re
 /// itself is neither a reference nor an element copy, and LOOP where a link after the 1,024th would be followed. The
 /// word is one of the running task's, and the display shows its environment.
 pub fn chase(core: &Core, regs: &Regs, display: &[u32; 32], w: Word) -> Result<End, Fault>
-    requires { (a : Scene core.now regs.now) × IsShown a display.now × (at : ℕ) × (owner : ℕ) × (v : Words.Word) × StandsFor a at owner w v }
-    ensures { (a : Scene core.now regs.now) (q : Place) → IsShown a display.now → (at owner : ℕ) (v : Words.Word) → StandsFor a at owner w v
+    requires { (a : RunningContext core.now regs.now) × IsShown a display.now × (at : ℕ) × (owner : ℕ) × (v : Words.Word) × StandsFor a at owner w v }
+    ensures { (a : RunningContext core.now regs.now) (q : Place) → IsShown a display.now → (at owner : ℕ) (v : Words.Word) → StandsFor a at owner w v
         → EndMeets a q result (follow (here a.member a.task q) v) }
 {
     if w.tag() == 1 {

@@ -5,7 +5,7 @@ use Rattle.b67_model.specs.Keyed.{keyed}
 use Rattle.b67_model.specs.Need.{need, need_of_job, need_by}
 use Rattle.b67_model.specs.Run.{after}
 use Rattle.b67_model.specs.Schedule.{Session, Choice, choice}
-use Rattle.b67_model.specs.State.{Task, Member}
+use Rattle.b67_model.specs.State.{Task, SessionJob}
 use Rattle.b67_session_schedule.specs.declared.counting.Chosen.{Chosen}
 use Rattle.b67_session_schedule.specs.Counted.{choice_of}
 use Rattle.b67_single.specs.Single.{IsSingle}
@@ -17,23 +17,23 @@ use Rattle.b67_session.proofs.Moments.{found_by}
 use Rattle.b67_session.proofs.Turned.{Turned}
 
 -- the need of the chosen task is the session's
-next_fits : (core : ℕ) (s : Session) (m : Member) (t : Task) (single : IsSingle s m t) (c : Choice) → choice s ≡ Some c → c.who.job ≡ m.setting.number → c.who.task ≡ t.number → need core s m t ≤ core → NextFits core s
+next_fits : (core : ℕ) (s : Session) (m : SessionJob) (t : Task) (single : IsSingle s m t) (c : Choice) → choice s ≡ Some c → c.who.job ≡ m.constants.number → c.who.task ≡ t.number → need core s m t ≤ core → NextFits core s
 next_fits core s m t single c chosen job task fits =
     let by_task : Option Task → Option ℕ = λ o. option_map (need core s m) o in
     record {
       words = need core s m t;
       needs = ap (need_by core s) chosen ∙ ap (need_of_job core s c.who.task) (found_by s m t single c chosen job task)
-          ∙ ap (λ (n : ℕ). by_task (keyed (λ (u : Task). u.number) n m.course.job.tasks)) task ∙ ap by_task (task_found s m t single);
+          ∙ ap (λ (n : ℕ). by_task (keyed (λ (u : Task). u.number) n m.progress.job.tasks)) task ∙ ap by_task (task_found s m t single);
       fits = fits;
     }
 
 -- a step over which the attempt was made or ends its task
-pub turned_fits : (known : Option (List (List ℕ))) (k turned : Machine) (s : Session) (m : Member) (t : Task) (c : Chosen) → Turned known turned s m t c → length turned.cpu.core ≡ length k.cpu.core
+pub turned_fits : (known : Option (List (List ℕ))) (k turned : Machine) (s : Session) (m : SessionJob) (t : Task) (c : Chosen) → Turned known turned s m t c → length turned.cpu.core ≡ length k.cpu.core
     → need (length turned.cpu.core) s m t ≤ length turned.cpu.core → NextFits (length k.cpu.core) s
 turned_fits known k turned s m t c h len fits =
     next_fits (length k.cpu.core) s m t h.single (choice_of c) h.choice h.job h.number (subst (λ (n : ℕ). need n s m t ≤ n) len fits)
 
-pub device_told : (known : Option (List (List ℕ))) (turned : Machine) (s : Session) (m : Member) (t : Task) (c : Chosen) (h : Turned known turned s m t c) → known ≢ None → h.storage.device ≢ None
+pub device_told : (known : Option (List (List ℕ))) (turned : Machine) (s : Session) (m : SessionJob) (t : Task) (c : Chosen) (h : Turned known turned s m t c) → known ≢ None → h.storage.device ≢ None
 device_told known turned s m t c h tells = subst (λ (d : Option (List (List ℕ))). d ≢ None) h.stands.storage.device tells
 
 below : (k n : ℕ) → k < n + 1 → (k < n) ⊎ (k ≡ n)

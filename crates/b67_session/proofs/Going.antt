@@ -1,23 +1,23 @@
 -- A slice that has made so many steps, and how it ends.
 use Rattle.std.proofs.Common.{◌≡◌, ◌≢◌, ℕ, ◌+◌, ◌≤◌, List, [], ◌++◌, length, map, Option, Some, None, Ok, Err, refl, sym, ap, ◌∙◌, subst, arith, append-nil}
 use Rattle.b67_lemmas.specs.Lists.{Has}
-use Rattle.b67_model.specs.State.{Task, Member}
+use Rattle.b67_model.specs.State.{Task, SessionJob}
 use Rattle.b67_model.specs.Run.{RunLine, next, after, lines}
 use Rattle.b67_model.specs.Schedule.{Session}
 use Rattle.b67_session_lines.specs.Moments.{first_part, due}
-use Rattle.b67_stack.specs.Stands.{Storage}
+use Rattle.b67_stack.specs.Represents.{Storage}
 use Rattle.b67_layout_storage.specs.Machine.{Says}
-use Rattle.b67_layout.specs.Plan.{Plan}
+use Rattle.b67_layout.specs.Placement.{Placement}
 use Rattle.b67_single.proofs.Runs.{Came, came-none, came-more}
 use Rattle.b67_task_tables.specs.declared.tables.TaskRow.{TaskRow}
 use Rattle.b67_task_tables.specs.declared.tables.Machine.{Machine}
-use Rattle.b67_task_tables.specs.Tables.{task_row, MachineStands}
+use Rattle.b67_task_tables.specs.Tables.{task_row, MachineRepresents}
 use Rattle.b67_session_attempt.specs.Stops.{Stop}
 use Rattle.b67_session_attempt.specs.Stops as stops
 use Rattle.b67_session.specs.declared.ends.StepEnd.TheVariants as ends
 use Rattle.b67_session.specs.declared.slices.Progress.TheVariants as progress
-use Rattle.b67_session.specs.Slices.{IsLone, LivesOn, Reaches, whole, but_limit, Prints, SliceMeets, Slices, Over}
-use Rattle.b67_session.specs.Steps.{Makes, Leads, stays, makes, halves, Steps}
+use Rattle.b67_session.specs.Slices.{IsLone, LivesOn, Reaches, whole, but_limit, Prints, SliceMeets, Slices, EndsWithoutTasks}
+use Rattle.b67_session.specs.Steps.{StepGives, Leads, stays, makes, halves, Steps}
 use Rattle.b67_session.proofs.Lone.{has_member, has_task}
 use Rattle.b67_session.proofs.Printing.{prints_none, prints_then, prints_before}
 
@@ -29,7 +29,7 @@ pub record PrintsTo {K : Type 0} (taken : K → Option (List ℕ)) (exact : Type
 
 pub record Going {K : Type 0} (taken : K → Option (List ℕ)) (exact : Type 0) (known : Option (List (List ℕ))) (steps : ℕ) (first : Session) (old now : Machine) (paper paper' : K) : Type 0 where
   pub session : Session
-  pub member : Member
+  pub member : SessionJob
   pub task : Task
   pub printed : List RunLine
   pub came : exact → Came first steps session printed
@@ -37,7 +37,7 @@ pub record Going {K : Type 0} (taken : K → Option (List ℕ)) (exact : Type 0)
   pub lone : IsLone known now session member task
   pub prints : (is_due : List ℕ) → (exact → is_due ≡ due session) → PrintsTo taken exact first paper paper' old.tasks.printed printed is_due now.tasks.printed
 
-pub going-begins : {K : Type 0} (taken : K → Option (List ℕ)) (exact : Type 0) (known : Option (List (List ℕ))) (s : Session) (m : Member) (t : Task) (now : Machine) (paper : K) → IsLone known now s m t → Going taken exact known 0 s now now paper paper
+pub going-begins : {K : Type 0} (taken : K → Option (List ℕ)) (exact : Type 0) (known : Option (List (List ℕ))) (s : Session) (m : SessionJob) (t : Task) (now : Machine) (paper : K) → IsLone known now s m t → Going taken exact known 0 s now now paper paper
 going-begins taken exact known s m t now paper lone = record {
   session = s;
   member = m;
@@ -50,13 +50,13 @@ going-begins taken exact known s m t now paper lone = record {
 }
 
 -- a machine that stands for such a session has a row
-pub some_row : (known : Option (List (List ℕ))) (now : Machine) (s : Session) (m : Member) (t : Task) → IsLone known now s m t → now.tasks.rows.items ≡ [] → ⊥
+pub some_row : (known : Option (List (List ℕ))) (now : Machine) (s : Session) (m : SessionJob) (t : Task) → IsLone known now s m t → now.tasks.rows.items ≡ [] → ⊥
 some_row known now s m t lone none =
     let (row, among, shows) = lone.stands.tables.each m t (has_member s m t lone.single) (has_task s m t lone.single) in
     subst (λ (rs : List TaskRow). Has (map task_row rs) row) none among
 
 -- one step further
-one_more : (first : Session) (steps : ℕ) (s was after : Session) (printed more : List RunLine) → Came first steps s printed → was ≡ s → Makes was after more → Came first (steps + 1) after (printed ++ more)
+one_more : (first : Session) (steps : ℕ) (s was after : Session) (printed more : List RunLine) → Came first steps s printed → was ≡ s → StepGives was after more → Came first (steps + 1) after (printed ++ more)
 one_more first steps s was after printed more came same m =
     let c = came-more first steps s printed m.moment came (ap next (sym same) ∙ m.is) in
     subst (λ (z : Session). Came first (steps + 1) z (printed ++ more)) m.session (subst (λ (ls : List RunLine). Came first (steps + 1) m.moment.session (printed ++ ls)) m.lines_are c)
@@ -153,7 +153,7 @@ module _ {K : Type 0} (taken : K → Option (List ℕ)) (exact : Type 0) (known 
           };
         }
 
-    pub going-over : steps + 1 ≤ n → Steps taken known' (known ≢ None) count g.session (Ok ends.Over) now new paper' paper'' → Slices taken known' exact count n first (Ok progress.Ended) old new paper paper''
+    pub going-over : steps + 1 ≤ n → Steps taken known' (known ≢ None) count g.session (Ok ends.EndsWithoutTasks) now new paper' paper'' → Slices taken known' exact count n first (Ok progress.Ended) old new paper paper''
     going-over few s =
         let (one, made, rests) = s.meets in
         let p = g.prints s.was_due (λ tells. s.was_is (up tells) ∙ ap due (s.same (up tells))) in
@@ -172,7 +172,7 @@ module _ {K : Type 0} (taken : K → Option (List ℕ)) (exact : Type 0) (known 
           meets = λ tells. rests.none;
         }
 
-    pub going-rests : Steps taken known' (known ≢ None) count g.session (Ok ends.Over) now new paper' paper'' → Over known' exact first old new
+    pub going-rests : Steps taken known' (known ≢ None) count g.session (Ok ends.EndsWithoutTasks) now new paper' paper'' → EndsWithoutTasks known' exact first old new
     going-rests s =
         let (one, made, rests) = s.meets in
         record {
@@ -204,13 +204,13 @@ module _ {K : Type 0} (taken : K → Option (List ℕ)) (exact : Type 0) (known 
         }
 
 -- the machine after a run that has ended stands for the session after its steps
-pub over_stands : (known : Option (List (List ℕ))) (exact : Type 0) (first : Session) (old new : Machine) → Over known exact first old new → exact → (steps : ℕ) → new.tasks.made ≡ old.tasks.made + steps
-    → (x : Storage) × (plan : Plan) × MachineStands x known new plan (after steps first)
+pub over_stands : (known : Option (List (List ℕ))) (exact : Type 0) (first : Session) (old new : Machine) → EndsWithoutTasks known exact first old new → exact → (steps : ℕ) → new.tasks.made ≡ old.tasks.made + steps
+    → (x : Storage) × (plan : Placement) × MachineRepresents x known new plan (after steps first)
 over_stands known exact first old new h tells steps made =
-    (h.rests.storage, h.rests.plan, subst (λ (z : Session). MachineStands h.rests.storage known new h.rests.plan z) (sym (h.is tells steps made)) h.rests.stands)
+    (h.rests.storage, h.rests.plan, subst (λ (z : Session). MachineRepresents h.rests.storage known new h.rests.plan z) (sym (h.is tells steps made)) h.rests.stands)
 
 -- at the beginning of a slice nothing has changed
-pub begun_quiet : {D : Type 0} (known : Option (List (List ℕ))) (k k' : Machine) (s : Session) (m : Member) (t : Task) (d d' e : D) (Wants : Storage → Plan → Type 0) → k' ≡ k → d' ≡ d
+pub begun_quiet : {D : Type 0} (known : Option (List (List ℕ))) (k k' : Machine) (s : Session) (m : SessionJob) (t : Task) (d d' e : D) (Wants : Storage → Placement → Type 0) → k' ≡ k → d' ≡ d
     → ((h : IsLone known k' s m t) → Wants h.storage h.plan → e ≡ d') → (h : IsLone known k s m t) → Wants h.storage h.plan → e ≡ d
 begun_quiet {D} known k k' s m t d d' e Wants same same' quiet =
     let P : Machine → D → Type 0 = λ z x. (h : IsLone known z s m t) → Wants h.storage h.plan → e ≡ x in

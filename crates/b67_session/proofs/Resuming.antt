@@ -1,7 +1,7 @@
 -- A slice that begins with the line of LIMIT.
 use Rattle.std.proofs.Common.{◌≡◌, ◌<◌, ℕ, true, false, List, [], ◌∷◌, length, Option, Ok, Err, refl, sym, ap, ◌∙◌, subst, inl, inr}
 use Rattle.b67_word.specs.declared.faults.Ending.TheVariants.{Limit}
-use Rattle.b67_model.specs.State.{Task, Member}
+use Rattle.b67_model.specs.State.{Task, SessionJob}
 use Rattle.b67_model.specs.Steps.{Ends}
 use Rattle.b67_model.specs.Lines.{run_text}
 use Rattle.b67_model.specs.Run.{RunLine}
@@ -14,7 +14,7 @@ use Rattle.b67_task.specs.Endings.{HasOne}
 use Rattle.b67_session_attempt.specs.Stops.{Stop}
 use Rattle.b67_session_attempt.specs.Stops as stops
 use Rattle.b67_session.specs.declared.slices.Progress.TheVariants as progress
-use Rattle.b67_session.specs.Slices.{IsLone, IsLimited, IsOpen, LivesOn, Rests, Resumes}
+use Rattle.b67_session.specs.Slices.{IsLone, IsLimited, IsOpen, LivesOn, RepresentsWithoutTasks, Resumes}
 use Rattle.b67_session.specs.Steps.{AtLimit, IsEmptied, LimitEnds, ending_text}
 use Rattle.b67_session.proofs.Texts.{ending_is}
 use Rattle.b67_session.proofs.Printing.{prints_rest, prints_more}
@@ -26,14 +26,14 @@ pub open_lives : (told : Option (List (List ℕ))) (k : Machine) → IsOpen told
 open_lives told k (inl l) a = l
 open_lives told k (inr l) a = absurd (limited_not l.known k l.session l.member l.task l.limited a)
 
-pub lone_not : (known : Option (List (List ℕ))) (k : Machine) (s : Session) (m : Member) (t : Task) → IsLone known k s m t → AtLimit k.tasks true → ⊥
+pub lone_not : (known : Option (List (List ℕ))) (k : Machine) (s : Session) (m : SessionJob) (t : Task) → IsLone known k s m t → AtLimit k.tasks true → ⊥
 lone_not known k s m t h a = not_at_limit s m t h.single h.plan k.tasks h.ordered h.stands.tables a
 
 pub open_one : (told : Option (List (List ℕ))) (k : Machine) → IsOpen told k → AtLimit k.tasks true → HasOne k
 open_one told k (inl l) a = absurd (lone_not l.known k l.session l.member l.task l.lone a)
 open_one told k (inr l) a = limited_one l.known k l.session l.member l.task l.limited
 
-module _ {K : Type 0} (taken : K → Option (List ℕ)) (known : Option (List (List ℕ))) (h : Session) (m : Member) (t : Task) (old new : Machine) (paper paper' : K) (l : IsLimited known old h m t) where
+module _ {K : Type 0} (taken : K → Option (List ℕ)) (known : Option (List (List ℕ))) (h : Session) (m : SessionJob) (t : Task) (old new : Machine) (paper paper' : K) (l : IsLimited known old h m t) where
   abbrev lines : List RunLine
   lines = task_lines m t (Ends Limit ∷ [])
 
@@ -46,10 +46,10 @@ module _ {K : Type 0} (taken : K → Option (List ℕ)) (known : Option (List (L
   due_is : due h ≡ text
   due_is = due_limit h m t l.single (limited_part known old h m t l) ∙ sym text_is
 
-  rests : IsEmptied old new → Rests known new (limit_part h m t l.single).session
+  rests : IsEmptied old new → RepresentsWithoutTasks known new (limit_part h m t l.single).session
   rests e =
       let (y, q, stands) = limit_stands known old h m t l new e in
-      record { storage = y; plan = q; stands = stands; none = none_lives (limit_part h m t l.single).session (limit_member h m t l.single) refl (none_left m.course.job t Limit l.single.tasks l.single.ready l.single.first) }
+      record { storage = y; plan = q; stands = stands; none = none_lives (limit_part h m t l.single).session (limit_member h m t l.single) refl (none_left m.progress.job t Limit l.single.tasks l.single.ready l.single.first) }
 
   pub resumes_whole : (done : Unit {0}) → LimitEnds taken (Ok done) old new paper paper' → Resumes taken known h m t (Ok progress.Ended) old new paper paper'
   resumes_whole done (rest, emptied) = (

@@ -5,10 +5,10 @@ use Rattle.std.proofs.lemmas.Bool.{eqb-true}
 use Rattle.std.proofs.lemmas.Option.{none-some}
 use Rattle.b67_word.specs.declared.faults.Ending.{Ending}
 use Rattle.b67_word.specs.declared.faults.Ending.TheVariants.{Limit}
-use Rattle.b67_model.specs.State.{Task, Job, Member}
+use Rattle.b67_model.specs.State.{Task, Job, SessionJob}
 use Rattle.b67_model.specs.Steps.{Ends}
 use Rattle.b67_model.specs.Lines.{run_text}
-use Rattle.b67_model.specs.Run.{RunLine, Moment, next}
+use Rattle.b67_model.specs.Run.{RunLine, StepResult, next}
 use Rattle.b67_model.specs.Schedule.{Session}
 use Rattle.b67_session_lines.specs.Parts.{TookRest, TookMore}
 use Rattle.b67_session_lines.specs.Moments.{first_part, last_part, due}
@@ -20,9 +20,9 @@ use Rattle.b67_single.proofs.Nexts.{goes}
 use Rattle.b67_layout_step.proofs.Stepped.{stands_after}
 use Rattle.b67_task_tables.specs.declared.tables.Tasks.{Tasks}
 use Rattle.b67_task_tables.specs.declared.tables.Machine.{Machine}
-use Rattle.b67_task_tables.specs.Tables.{TasksShow, MachineStands}
+use Rattle.b67_task_tables.specs.Tables.{TasksShow, MachineRepresents}
 use Rattle.b67_session_schedule.specs.declared.counting.Chosen.{Chosen}
-use Rattle.b67_session_schedule.specs.Counted.{choice_of, HasRoom}
+use Rattle.b67_session_schedule.specs.Counted.{choice_of, CountsHaveRoom}
 use Rattle.b67_session_attempt.specs.Passed.{IsCalled, OnlyPrinted, printed_text}
 use Rattle.b67_session_attempt.specs.Stops.{Stop}
 use Rattle.b67_session_attempt.specs.Stops as stops
@@ -31,8 +31,8 @@ use Rattle.b67_session_attempt.specs.Attempts.{StillStands, StandsLacking}
 use Rattle.b67_task.specs.Endings.{HasOne}
 use Rattle.b67_session.specs.declared.ends.StepEnd.{StepEnd}
 use Rattle.b67_session.specs.declared.ends.StepEnd.TheVariants as ends
-use Rattle.b67_session.specs.Slices.{IsLone, IsLimited, Prints, Rests, Lacks, SliceMeets}
-use Rattle.b67_session.specs.Steps.{IsCounted, AtLimit, IsEmptied, Closes, Advances, Finishes, Makes, stays, makes, halves, Steps, ending_text}
+use Rattle.b67_session.specs.Slices.{IsLone, IsLimited, Prints, RepresentsWithoutTasks, Lacks, SliceMeets}
+use Rattle.b67_session.specs.Steps.{IsCounted, AtLimit, IsEmptied, Closes, Advances, Finishes, StepGives, stays, makes, halves, Steps, ending_text}
 use Rattle.b67_session.proofs.Lone.{kept}
 use Rattle.b67_session.proofs.Moments.{jm, found_by, follows, first_begins}
 use Rattle.b67_session.proofs.Rooms.{counts_as, counts_with, room_after}
@@ -44,7 +44,7 @@ use Rattle.b67_session.proofs.Finished.{left_moment, by_itself, ends_rests, one_
 use Rattle.b67_session.proofs.Limits.{is_one, at_limit_is, due_first, limit_member, limit_part, limited_part, due_limit, limit_stands}
 
 -- nothing but the count of what is printed has changed
-only_stands : (known : Option (List (List ℕ))) (k new : Machine) (s : Session) (m : Member) (t : Task) → OnlyPrinted k new → IsLone known k s m t → IsLone known new s m t
+only_stands : (known : Option (List (List ℕ))) (k new : Machine) (s : Session) (m : SessionJob) (t : Task) → OnlyPrinted k new → IsLone known k s m t → IsLone known new s m t
 only_stands known k new s m t only h =
     subst (λ (z : Machine). IsLone known z s m t) (sym only)
     (record { storage = h.storage; plan = h.plan; ordered = h.ordered; single = h.single; stands = record { session = h.stands.session; storage = h.stands.storage; tables = h.stands.tables } })
@@ -55,10 +55,10 @@ module _ {K : Type 0} (taken : K → Option (List ℕ)) (known known' : Option (
     abbrev called : IsCalled taken paper paper' known' h.session h.member h.task before k
     called = h.meets
 
-    pub made_room : HasRoom k.tasks c
+    pub made_room : CountsHaveRoom k.tasks c
     made_room = room_after h.session h.member h.task h.single h.ordered called.plan k.tasks c (counts_with h.session h.member h.task h.single called.plan k.tasks called.job called.stands.tables) h.job h.turn
 
-    keeps : (profiles called.job.tasks ≡ profiles h.member.course.job.tasks) × (called.job.next_task ≡ h.member.course.job.next_task)
+    keeps : (profiles called.job.tasks ≡ profiles h.member.progress.job.tasks) × (called.job.next_task ≡ h.member.progress.job.next_task)
     keeps = kept h.session h.member h.task h.single h.ordered called.built called.job called.printed called.touched called.is
 
     pub has_one : HasOne k
@@ -75,7 +75,7 @@ module _ {K : Type 0} (taken : K → Option (List ℕ)) (known known' : Option (
     abbrev middle : Session
     middle = half known' (known ≢ None) h.session h.member h.task h.ordered h.single c h.choice h.job h.number called.job called.printed called.touched called.is keeps.0 keeps.1
 
-    abbrev middle_member : Member
+    abbrev middle_member : SessionJob
     middle_member = half_member known' (known ≢ None) h.session h.member h.task h.ordered h.single c h.choice h.job h.number called.job called.printed called.touched called.is keeps.0 keeps.1
 
     abbrev left : OneTask h.task called.job.tasks
@@ -92,7 +92,7 @@ module _ {K : Type 0} (taken : K → Option (List ℕ)) (known known' : Option (
     prints_lines is_due after none = prints_rest taken paper paper' (printed_text h.member h.task called.printed) (due h.session) is_due before after lines due_is refl none called.text
 
     module _ (tasks : Tasks) (counted : IsCounted c k.tasks tasks) where
-      at_limit : (at : Bool) → AtLimit tasks at → (h.member.course.made + 1 == h.member.setting.limit) ≡ at
+      at_limit : (at : Bool) → AtLimit tasks at → (h.member.progress.made + 1 == h.member.constants.limit) ≡ at
       at_limit at a =
           at_limit_is called.plan middle middle_member tasks refl
           (half_tables known' (known ≢ None) h.session h.member h.task h.ordered h.single c h.choice h.job h.number called.job called.printed called.touched called.is keeps.0 keeps.1 called.plan k.tasks tasks called.stands.tables counted)
@@ -101,7 +101,7 @@ module _ {K : Type 0} (taken : K → Option (List ℕ)) (known known' : Option (
       abbrev after : Machine
       after = record k { tasks = tasks }
 
-      stands_half : MachineStands called.storage known' after called.plan middle
+      stands_half : MachineRepresents called.storage known' after called.plan middle
       stands_half =
           half_stands known' (known ≢ None) h.session h.member h.task h.ordered h.single c h.choice h.job h.number called.job called.printed called.touched called.is keeps.0 keeps.1
           k called.storage called.plan tasks called.stands counted
@@ -133,10 +133,10 @@ module _ {K : Type 0} (taken : K → Option (List ℕ)) (known known' : Option (
 
       -- it was the last that its job may make
       module _ (at : AtLimit tasks true) where
-        limit_made : h.member.course.made + 1 ≡ h.member.setting.limit
-        limit_made = eqb-true (h.member.course.made + 1) h.member.setting.limit (at_limit true at)
+        limit_made : h.member.progress.made + 1 ≡ h.member.constants.limit
+        limit_made = eqb-true (h.member.progress.made + 1) h.member.constants.limit (at_limit true at)
 
-        limited_at : (new : Machine) → MachineStands called.storage known' new called.plan middle → new.tasks.rows ≡ tasks.rows → new.tasks.running ≡ tasks.running → new ≡ record k { tasks = new.tasks } → IsLimited known' new middle middle_member left.task
+        limited_at : (new : Machine) → MachineRepresents called.storage known' new called.plan middle → new.tasks.rows ≡ tasks.rows → new.tasks.running ≡ tasks.running → new ≡ record k { tasks = new.tasks } → IsLimited known' new middle middle_member left.task
         limited_at new stands rows running rest =
             half_limited known' (known ≢ None) h.session h.member h.task h.ordered h.single c h.choice h.job h.number called.job called.printed called.touched called.is keeps.0 keeps.1
             k new called.storage called.plan called.stands stands (rows ∙ counted.rows) (running ∙ counted.running) rest limit_made
@@ -153,7 +153,7 @@ module _ {K : Type 0} (taken : K → Option (List ℕ)) (known known' : Option (
         abbrev over : Session
         over = (limit_part middle middle_member left.task limited.single).session
 
-        makes_over : Makes h.session over (lines ++ end_lines)
+        makes_over : StepGives h.session over (lines ++ end_lines)
         makes_over = record {
           moment = record { session = over; lines = lines ++ end_lines };
           is = limit_next known' (known ≢ None) h.session h.member h.task h.ordered h.single c h.choice h.job h.number called.job called.printed called.touched called.is keeps.0 keeps.1 (at_limit true at);
@@ -161,7 +161,7 @@ module _ {K : Type 0} (taken : K → Option (List ℕ)) (known known' : Option (
           lines_are = refl;
         }
 
-        over_rests : (new : Machine) → IsEmptied after new → Rests known' new over
+        over_rests : (new : Machine) → IsEmptied after new → RepresentsWithoutTasks known' new over
         over_rests new e =
             let (y, q, stands) = limit_stands known' after middle middle_member left.task limited new e in
             record { storage = y; plan = q; stands = stands; none = none_lives over (limit_member middle middle_member left.task limited.single) refl (none_left called.job left.task Limit left.is left.ready left.first) }
@@ -186,7 +186,7 @@ module _ {K : Type 0} (taken : K → Option (List ℕ)) (known known' : Option (
 
         limited_after : (new : Machine) → OnlyPrinted after new → IsLimited known' new middle middle_member left.task
         limited_after new only =
-            let put : Machine → Type 0 = λ z. MachineStands called.storage known' z called.plan middle in
+            let put : Machine → Type 0 = λ z. MachineRepresents called.storage known' z called.plan middle in
             let stands : put new = subst put (sym only) (record { session = stands_half.session; storage = stands_half.storage; tables = stands_half.tables }) in
             limited_at new stands (ap (λ (z : Machine). z.tasks.rows) only) (ap (λ (z : Machine). z.tasks.running) only)
             (only ∙ ap (λ (z : Tasks). record k { tasks = z }) (sym (ap (λ (z : Machine). z.tasks) only)))
@@ -202,7 +202,7 @@ module _ {K : Type 0} (taken : K → Option (List ℕ)) (known known' : Option (
         let printed : new.tasks.printed ≡ 0 = counted.printed in
         let P : K → ℕ → Type 0 = λ z n. Prints taken paper z (due h.session) n g.moment.lines (due g.moment.session) new.tasks.printed in
         let lines_are : List RunLine → Type 0 = λ ls. Prints taken paper paper' (due h.session) before ls (due g.moment.session) new.tasks.printed in
-        let whole : Makes h.session g.moment.session g.moment.lines = record { moment = g.moment; is = g.is; session = refl; lines_are = refl } in
+        let whole : StepGives h.session g.moment.session g.moment.lines = record { moment = g.moment; is = g.is; session = refl; lines_are = refl } in
         record {
           was = h.session;
           same = h.same;
@@ -277,7 +277,7 @@ module _ {K : Type 0} (taken : K → Option (List ℕ)) (known known' : Option (
     abbrev shown : TasksShow h.plan h.session k.tasks
     shown = still.1.tables
 
-    pub ends_room : HasRoom k.tasks c
+    pub ends_room : CountsHaveRoom k.tasks c
     ends_room = room_after h.session h.member h.task h.single h.ordered h.plan k.tasks c (counts_as h.session h.member h.task h.single h.plan k.tasks shown) h.job h.turn
 
     ends_count : k.tasks.made ≡ s.made
@@ -298,7 +298,7 @@ module _ {K : Type 0} (taken : K → Option (List ℕ)) (known known' : Option (
       single = h.single;
     }
 
-    abbrev end_moment : Moment
+    abbrev end_moment : StepResult
     end_moment = left_moment known' (known ≢ None) h.session h.member h.task h.ordered h.single c h.choice h.job h.number ending
 
     abbrev text : List ℕ
@@ -313,7 +313,7 @@ module _ {K : Type 0} (taken : K → Option (List ℕ)) (known known' : Option (
     text_due : known ≢ None → text ≡ due h.session
     text_due tells = text_is ∙ sym (due_first h.session h.member h.task h.single h.ordered end_moment (end_parts tells).1)
 
-    end_makes : known ≢ None → Makes h.session end_moment.session end_moment.lines
+    end_makes : known ≢ None → StepGives h.session end_moment.session end_moment.lines
     end_makes tells = record { moment = end_moment; is = (end_parts tells).0; session = refl; lines_are = refl }
 
     pub ends_steps : (answered : Result StepEnd Stop) (old new : Machine) (paper'' : K) → old.tasks.made ≡ s.made → old.tasks.printed ≡ before → k.tasks.printed ≡ before → length old.cpu.core ≡ core

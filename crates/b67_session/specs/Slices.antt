@@ -1,23 +1,23 @@
 -- What a slice of a run answers, prints and leaves: a session of one job with one task.
 use Rattle.std.specs.Prelude.{◌≡◌, ◌≢◌, ℕ, ◌+◌, ◌<◌, ◌≤◌, ◌⊎◌, List, [], ◌++◌, length, take, Option, Some, None, Result, Ok, Err}
 use Rattle.b67_io.specs.Told.{Took}
-use Rattle.b67_model.specs.State.{Task, Member}
+use Rattle.b67_model.specs.State.{Task, SessionJob}
 use Rattle.b67_model.specs.Need.{need, need_next}
 use Rattle.b67_model.specs.Sectors.{sectors}
 use Rattle.b67_model.specs.Lines.{run_text}
 use Rattle.b67_model.specs.Schedule.{Session}
 use Rattle.b67_model.specs.InOrder.{IsInOrderButPlaces}
-use Rattle.b67_model.specs.Run.{RunLine, Moment, after, lines, live_tasks}
+use Rattle.b67_model.specs.Run.{RunLine, StepResult, after, lines, live_tasks}
 use Rattle.b67_session_lines.specs.Moments.{first_part, last_part, due}
-use Rattle.b67_stack.specs.Stands.{Storage}
+use Rattle.b67_stack.specs.Represents.{Storage}
 use Rattle.b67_layout_storage.specs.Machine.{Says}
-use Rattle.b67_layout.specs.Plan.{Plan}
+use Rattle.b67_layout.specs.Placement.{Placement}
 use Rattle.b67_exec_cells.specs.Running.{code_area}
 use Rattle.b67_exec_cells.specs.Called.{called_in}
 use Rattle.b67_single.specs.Single.{IsSingle}
 use Rattle.b67_task_tables.specs.declared.tables.Tasks.{Tasks}
 use Rattle.b67_task_tables.specs.declared.tables.Machine.{Machine}
-use Rattle.b67_task_tables.specs.Tables.{MachineStands}
+use Rattle.b67_task_tables.specs.Tables.{MachineRepresents}
 use Rattle.b67_task.specs.Endings.{HasRowsOf}
 use Rattle.b67_session_attempt.specs.Passed.{IsShortOf}
 use Rattle.b67_session_attempt.specs.Attempts.{IsLacking}
@@ -30,54 +30,54 @@ use Rattle.b67_session.specs.declared.slices.Progress.TheVariants as progress
 
 -- the machine stands for a session in order, of one job with one ready task, and this is known of what the device's
 -- sectors hold
-pub record IsLone (known : Option (List (List ℕ))) (k : Machine) (s : Session) (m : Member) (t : Task) : Type 0 where
+pub record IsLone (known : Option (List (List ℕ))) (k : Machine) (s : Session) (m : SessionJob) (t : Task) : Type 0 where
   pub storage : Storage
-  pub plan : Plan
+  pub plan : Placement
   pub ordered : IsInOrderButPlaces s
   pub single : IsSingle s m t
-  pub stands : MachineStands storage known k plan s
+  pub stands : MachineRepresents storage known k plan s
 
 -- for some such session, over a device that tells this
 pub record LivesOn (told : Option (List (List ℕ))) (k : Machine) : Type 0 where
   pub known : Option (List (List ℕ))
   pub says : Says known told
   pub session : Session
-  pub member : Member
+  pub member : SessionJob
   pub task : Task
   pub lone : IsLone known k session member task
 
 -- the machine stands for a session whose one task has just made the last operator that its job may make, and is to end by
 -- LIMIT. With so many operators made (`made`) the job was in order before, in a session that stands with the counts of other tables
-pub record IsLimited (known : Option (List (List ℕ))) (k : Machine) (h : Session) (m : Member) (t : Task) : Type 0 where
+pub record IsLimited (known : Option (List (List ℕ))) (k : Machine) (h : Session) (m : SessionJob) (t : Task) : Type 0 where
   pub storage : Storage
-  pub plan : Plan
+  pub plan : Placement
   pub single : IsSingle h m t
-  pub limit : m.course.made ≡ m.setting.limit
-  pub last : h.last.job ≡ m.setting.number
+  pub limit : m.progress.made ≡ m.constants.limit
+  pub last : h.last.job ≡ m.constants.number
   pub named : h.last.task ≡ t.number
-  pub stands : MachineStands storage known k plan h
+  pub stands : MachineRepresents storage known k plan h
   pub session : Session
   pub made : ℕ
   pub ordered : IsInOrderButPlaces session
-  pub single_before : IsSingle session (record m { course = record m.course { made = made } }) t
+  pub single_before : IsSingle session (record m { progress = record m.progress { made = made } }) t
   pub peak : session.peak ≡ h.peak
   pub tables : Tasks
   pub same : HasRowsOf k tables
-  pub stands_before : MachineStands storage known (record k { tasks = tables }) plan session
+  pub stands_before : MachineRepresents storage known (record k { tasks = tables }) plan session
 
 pub record StandsLimited (told : Option (List (List ℕ))) (k : Machine) : Type 0 where
   pub known : Option (List (List ℕ))
   pub says : Says known told
   pub session : Session
-  pub member : Member
+  pub member : SessionJob
   pub task : Task
   pub limited : IsLimited known k session member task
 
 -- the machine stands for a session that no task is left of, and this is known of what the device's sectors hold
-pub record Rests (known : Option (List (List ℕ))) (k : Machine) (s : Session) : Type 0 where
+pub record RepresentsWithoutTasks (known : Option (List (List ℕ))) (k : Machine) (s : Session) : Type 0 where
   pub storage : Storage
-  pub plan : Plan
-  pub stands : MachineStands storage known k plan s
+  pub plan : Placement
+  pub stands : MachineRepresents storage known k plan s
   pub none : live_tasks s.jobs ≡ 0
 
 -- a slice may set out from it: a task lives, or is to end by LIMIT
@@ -96,7 +96,7 @@ Pauses tasks (Some progress.More) = ⊥
 -- so many steps lead from a session to another and these are their lines: whole steps, or the last one but for LIMIT's part
 pub data Reaches (first : Session) (steps : ℕ) (s : Session) (printed : List RunLine) : Type 0 where
   whole : after steps first ≡ s → lines steps first ≡ printed → Reaches first steps s printed
-  but_limit : (k : ℕ) (part : Moment) → steps ≡ k + 1 → first_part (after k first) ≡ Some part → part.session ≡ s → last_part s ≢ None
+  but_limit : (k : ℕ) (part : StepResult) → steps ≡ k + 1 → first_part (after k first) ≡ Some part → part.session ≡ s → last_part s ≢ None
       → lines k first ++ part.lines ≡ printed → Reaches first steps s printed
 
 -- Of the text that was due before, so many first bytes were printed before. What is printed now is the rest of the text of
@@ -109,7 +109,7 @@ pub record Prints {K : Type 0} (taken : K → Option (List ℕ)) (paper paper' :
 -- ---- what is answered
 
 -- the next step lacks its segment or its array; it needs no more words than core has, or its segment is absent
-pub record Lacks (exact : Type 0) (core : ℕ) (x : Storage) (plan : Plan) (s : Session) (m : Member) (t : Task) : Type 0 where
+pub record Lacks (exact : Type 0) (core : ℕ) (x : Storage) (plan : Placement) (s : Session) (m : SessionJob) (t : Task) : Type 0 where
   pub lacks : exact → IsLacking x plan m t
   pub room : exact → (need core s m t ≤ core) ⊎ (code_area x plan m t ≡ None)
 
@@ -118,20 +118,20 @@ pub record Lacks (exact : Type 0) (core : ℕ) (x : Storage) (plan : Plan) (s : 
 abbrev pub SliceMeets : Option (List (List ℕ)) → Type 0 → ℕ → ℕ → ℕ → ℕ → Session → List ℕ → Result Progress Stop → Machine → Type 0
 SliceMeets known exact core count n steps s is_due (Ok progress.Ended) new = exact → live_tasks s.jobs ≡ 0
 SliceMeets known exact core count n steps s is_due (Ok progress.Halted) new =
-    (new.tasks.halt ≡ Some new.tasks.made) × ((m : Member) × (t : Task) × IsLone known new s m t)
+    (new.tasks.halt ≡ Some new.tasks.made) × ((m : SessionJob) × (t : Task) × IsLone known new s m t)
 SliceMeets known exact core count n steps s is_due (Ok progress.More) new =
-    (steps ≡ n) × (new.tasks.halt ≢ Some new.tasks.made) × ((m : Member) × (t : Task) × IsLone known new s m t)
+    (steps ≡ n) × (new.tasks.halt ≢ Some new.tasks.made) × ((m : SessionJob) × (t : Task) × IsLone known new s m t)
 SliceMeets known exact core count n steps s is_due (Err (stops.NoCore words size)) new =
-    ((m : Member) × (t : Task) × IsLone known new s m t × (words ≡ need core s m t)) × (size ≡ core) × (core < words)
+    ((m : SessionJob) × (t : Task) × IsLone known new s m t × (words ≡ need core s m t)) × (size ≡ core) × (core < words)
 SliceMeets known exact core count n steps s is_due (Err (stops.BackingFull sum size)) new =
-    ((m : Member) × (t : Task) × (h : IsLone known new s m t) × Lacks exact core h.storage h.plan s m t
+    ((m : SessionJob) × (t : Task) × (h : IsLone known new s m t) × Lacks exact core h.storage h.plan s m t
     × ((wants : ℕ) × (free : ℕ) × IsShortOf h.storage h.plan s.jobs wants free)) × (sum ≡ sectors s.jobs) × (size ≡ count) × (count < sum)
 SliceMeets known exact core count n steps s is_due (Err stops.BackingFault) new =
-    (m : Member) × (t : Task) × (h : IsLone known new s m t) × Lacks exact core h.storage h.plan s m t
+    (m : SessionJob) × (t : Task) × (h : IsLone known new s m t) × Lacks exact core h.storage h.plan s m t
 SliceMeets known exact core count n steps s is_due (Err stops.PrintFault) new =
-    (new.tasks.printed < length is_due) × (((m : Member) × (t : Task) × IsLone known new s m t) ⊎ ((m : Member) × (t : Task) × IsLimited known new s m t))
+    (new.tasks.printed < length is_due) × (((m : SessionJob) × (t : Task) × IsLone known new s m t) ⊎ ((m : SessionJob) × (t : Task) × IsLimited known new s m t))
 SliceMeets known exact core count n steps s is_due (Err stops.Unbuilt) new =
-    (m : Member) × (t : Task) × IsLone known new s m t × (called : ℕ) × (called_in m t ≡ Some called) × (12 ≤ called)
+    (m : SessionJob) × (t : Task) × IsLone known new s m t × (called : ℕ) × (called_in m t ≡ Some called) × (12 ≤ called)
 
 -- Where it is known what the device's sectors hold, the steps are those of the session from which the slice set out. Where
 -- nothing is known, they are those of a machine that had some code and some numbers.
@@ -150,9 +150,9 @@ pub record Slices {K : Type 0} (taken : K → Option (List ℕ)) (known : Option
   pub meets : SliceMeets known exact (length old.cpu.core) count n steps session is_due answered new
 
 -- From a session whose task is to end by LIMIT: it ends, with the rest of its line printed; or the printer has failed again.
-abbrev pub Resumes : {K : Type 0} → (K → Option (List ℕ)) → Option (List (List ℕ)) → Session → Member → Task → Result Progress Stop → Machine → Machine → K → K → Type 0
+abbrev pub Resumes : {K : Type 0} → (K → Option (List ℕ)) → Option (List (List ℕ)) → Session → SessionJob → Task → Result Progress Stop → Machine → Machine → K → K → Type 0
 Resumes taken known h m t (Ok progress.Ended) old new paper paper' =
-    (part : Moment) × (last_part h ≡ Some part) × (new.tasks.made ≡ old.tasks.made) × Rests known new part.session
+    (part : StepResult) × (last_part h ≡ Some part) × (new.tasks.made ≡ old.tasks.made) × RepresentsWithoutTasks known new part.session
     × Prints taken paper paper' (due h) old.tasks.printed part.lines [] 0
 Resumes taken known h m t (Err stops.PrintFault) old new paper paper' =
     (new ≡ record old { tasks = record old.tasks { printed = new.tasks.printed } }) × (new.tasks.printed < length (due h))
@@ -161,10 +161,10 @@ Resumes taken known h m t answered old new paper paper' = ⊥
 
 -- after a run that has ended, the machine rests. Where it was known what the device's sectors hold, its session is the one
 -- after as many steps as were counted
-pub record Over (known : Option (List (List ℕ))) (exact : Type 0) (first : Session) (old new : Machine) : Type 0 where
+pub record EndsWithoutTasks (known : Option (List (List ℕ))) (exact : Type 0) (first : Session) (old new : Machine) : Type 0 where
   pub session : Session
   pub is : exact → (steps : ℕ) → new.tasks.made ≡ old.tasks.made + steps → after steps first ≡ session
-  pub rests : Rests known new session
+  pub rests : RepresentsWithoutTasks known new session
 
 -- core has the words that the session's next step needs
 pub record NextFits (core : ℕ) (s : Session) : Type 0 where

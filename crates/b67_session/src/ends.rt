@@ -3,7 +3,7 @@
 ghost use Rattle.std.specs.Prelude.{◌≡◌, ℕ, ◌+◌, ◌-◌, ◌≤◌, ◌==◌, Err, Some, length, slice_get};
 ghost use Rattle.b67_io.specs.Causes.{Rose};
 ghost use Rattle.b67_task_tables.specs.declared.tables.JobRow.{JobRow};
-ghost use Rattle.b67_session_schedule.specs.Counted.{HasRoom};
+ghost use Rattle.b67_session_schedule.specs.Counted.{CountsHaveRoom};
 ghost use Rattle.b67_task.specs.Endings.{HasOne};
 ghost use Rattle.b67_session_attempt.specs.Passed.{AreCountable};
 ghost use Rattle.b67_session_attempt.specs.Stops.{PrintFault};
@@ -27,7 +27,7 @@ pub(crate) enum StepEnd {
 /// Counts one operator of the chosen task. Nothing is printed yet then of what comes next.
 #[inline(always)]
 fn count_one(tasks: &mut Tasks, chosen: Chosen)
-    requires { HasRoom tasks.old chosen }
+    requires { CountsHaveRoom tasks.old chosen }
     ensures { IsCounted chosen tasks.old tasks.new }
 {
     count(tasks, chosen);
@@ -105,7 +105,7 @@ pub(crate) fn close<K: Sink>(
     ending: Ending,
     paper: &mut K,
 ) -> Result<StepEnd, Stop>
-    requires room { HasRoom machine.old.tasks chosen }
+    requires room { CountsHaveRoom machine.old.tasks chosen }
     requires one { HasOne machine.old }
     ensures closes { Closes K.taken chosen ending result machine.old machine.new paper.old paper.new }
     ensures over { Finishes chosen ending result machine.old machine.new }
@@ -139,7 +139,7 @@ pub(crate) fn advance<K: Sink>(
     chosen: Chosen,
     paper: &mut K,
 ) -> Result<StepEnd, Stop>
-    requires room { HasRoom machine.old.tasks chosen }
+    requires room { CountsHaveRoom machine.old.tasks chosen }
     requires one { HasOne machine.old }
     ensures advances { Advances K.taken chosen result machine.old machine.new paper.old paper.new }
     ensures halt { machine.new.tasks.halt ≡ machine.old.tasks.halt }

@@ -2,14 +2,14 @@
 
 ghost use Rattle.std.specs.Prelude.{◌≡◌, ◌≢◌, ℕ, ◌+◌, ◌≤◌, List, Option, Some, None, Ok, Err, length};
 ghost use Rattle.b67_io.specs.Causes.{Rose};
-ghost use Rattle.b67_model.specs.State.{Task, Member};
+ghost use Rattle.b67_model.specs.State.{Task, SessionJob};
 ghost use Rattle.b67_model.specs.Schedule.{Session};
-ghost use Rattle.b67_layout_storage.specs.Machine.{Says, Served, retold};
+ghost use Rattle.b67_layout_storage.specs.Machine.{Says, DeviceAfterCalls, content_after};
 ghost use Rattle.b67_session_attempt.specs.Passed.{AreCountable};
 ghost use Rattle.b67_session_attempt.specs.Stops.{BackingFault, PrintFault};
 ghost use Rattle.b67_session.specs.declared.slices.Progress.TheVariants.{Ended};
 ghost use Rattle.b67_session_attempt.specs.Brought.{WantsNothing};
-ghost use Rattle.b67_session.specs.Slices.{IsOpen, LivesOn, IsLone, IsLimited, Slices, Resumes, Pauses, Over, StepsFit};
+ghost use Rattle.b67_session.specs.Slices.{IsOpen, LivesOn, IsLone, IsLimited, Slices, Resumes, Pauses, EndsWithoutTasks, StepsFit};
 
 use crate::ends::{StepEnd, end_by_limit, is_at_limit};
 use crate::steps::step;
@@ -52,19 +52,19 @@ fn go_on<B: Backing, K: Sink>(
     requires lives { LivesOn (B.holds backing.old) machine.old }
     requires countable { AreCountable machine.old.tasks.jobs }
     requires same { B.size backing.old + 1 ≡ length machine.old.sectors.links }
-    ensures row { (known : Option (List (List ℕ))) (s : Session) (m : Member) (t : Task) → Says known (B.holds backing.old) → IsLone known machine.old s m t
-        → Slices K.taken (retold known (B.holds backing.new)) (known ≢ None) (B.size backing.old) n s result machine.old machine.new paper.old paper.new }
-    ensures quiet { (known : Option (List (List ℕ))) (s : Session) (m : Member) (t : Task) (h : IsLone known machine.old s m t) → Says known (B.holds backing.old)
+    ensures row { (known : Option (List (List ℕ))) (s : Session) (m : SessionJob) (t : Task) → Says known (B.holds backing.old) → IsLone known machine.old s m t
+        → Slices K.taken (content_after known (B.holds backing.new)) (known ≢ None) (B.size backing.old) n s result machine.old machine.new paper.old paper.new }
+    ensures quiet { (known : Option (List (List ℕ))) (s : Session) (m : SessionJob) (t : Task) (h : IsLone known machine.old s m t) → Says known (B.holds backing.old)
         → n ≤ 1 → WantsNothing h.storage h.plan m t → backing.new ≡ backing.old }
     ensures unprinted { result ≢ Err PrintFault → machine.old.tasks.printed ≡ 0 → machine.new.tasks.printed ≡ 0 }
-    ensures over { (known : Option (List (List ℕ))) (s : Session) (m : Member) (t : Task) → Says known (B.holds backing.old) → IsLone known machine.old s m t
-        → result ≡ Ok Ended → Over (retold known (B.holds backing.new)) (known ≢ None) s machine.old machine.new }
-    ensures fits { (known : Option (List (List ℕ))) (s : Session) (m : Member) (t : Task) → Says known (B.holds backing.old) → known ≢ None → IsLone known machine.old s m t
+    ensures over { (known : Option (List (List ℕ))) (s : Session) (m : SessionJob) (t : Task) → Says known (B.holds backing.old) → IsLone known machine.old s m t
+        → result ≡ Ok Ended → EndsWithoutTasks (content_after known (B.holds backing.new)) (known ≢ None) s machine.old machine.new }
+    ensures fits { (known : Option (List (List ℕ))) (s : Session) (m : SessionJob) (t : Task) → Says known (B.holds backing.old) → known ≢ None → IsLone known machine.old s m t
         → (steps : ℕ) → machine.new.tasks.made ≡ machine.old.tasks.made + steps → StepsFit (length machine.old.cpu.core) steps s }
     ensures backing_cause { result ≡ Err BackingFault → Rose B.faults backing.old backing.new }
     ensures print_cause { result ≡ Err PrintFault → Rose K.faults paper.old paper.new }
     ensures later { K.faults paper.old ≤ K.faults paper.new }
-    ensures device { Served B.holds B.size B.calls B.faults backing.old backing.new }
+    ensures device { DeviceAfterCalls B.holds B.size B.calls B.faults backing.old backing.new }
     ensures countable { AreCountable machine.new.tasks.jobs }
     ensures len { length machine.new.cpu.core ≡ length machine.old.cpu.core }
     ensures count { length machine.new.sectors.links ≡ length machine.old.sectors.links }
@@ -76,7 +76,7 @@ fn go_on<B: Backing, K: Sink>(
         }
         match step(machine, backing, paper) {
             Ok(StepEnd::GoesOn) => {}
-            Ok(StepEnd::Over) => return Ok(Progress::Ended),
+            Ok(StepEnd::EndsWithoutTasks) => return Ok(Progress::Ended),
             Err(stop) => return Err(stop),
         }
     }
@@ -112,22 +112,22 @@ pub fn slice<B: Backing, K: Sink>(
     requires lives { IsOpen (B.holds backing.old) machine.old }
     requires countable { AreCountable machine.old.tasks.jobs }
     requires same { B.size backing.old + 1 ≡ length machine.old.sectors.links }
-    ensures row { (known : Option (List (List ℕ))) (s : Session) (m : Member) (t : Task) → Says known (B.holds backing.old) → IsLone known machine.old s m t
-        → Slices K.taken (retold known (B.holds backing.new)) (known ≢ None) (B.size backing.old) n s result machine.old machine.new paper.old paper.new }
-    ensures resumed { (known : Option (List (List ℕ))) (h : Session) (m : Member) (t : Task) → Says known (B.holds backing.old) → IsLimited known machine.old h m t
+    ensures row { (known : Option (List (List ℕ))) (s : Session) (m : SessionJob) (t : Task) → Says known (B.holds backing.old) → IsLone known machine.old s m t
+        → Slices K.taken (content_after known (B.holds backing.new)) (known ≢ None) (B.size backing.old) n s result machine.old machine.new paper.old paper.new }
+    ensures resumed { (known : Option (List (List ℕ))) (h : Session) (m : SessionJob) (t : Task) → Says known (B.holds backing.old) → IsLimited known machine.old h m t
         → Resumes K.taken known h m t result machine.old machine.new paper.old paper.new × (backing.new ≡ backing.old) }
-    ensures quiet { (known : Option (List (List ℕ))) (s : Session) (m : Member) (t : Task) (h : IsLone known machine.old s m t) → Says known (B.holds backing.old)
+    ensures quiet { (known : Option (List (List ℕ))) (s : Session) (m : SessionJob) (t : Task) (h : IsLone known machine.old s m t) → Says known (B.holds backing.old)
         → n ≤ 1 → WantsNothing h.storage h.plan m t → backing.new ≡ backing.old }
     ensures again { result ≢ Ok Ended → IsOpen (B.holds backing.new) machine.new }
     ensures unprinted { result ≢ Err PrintFault → machine.old.tasks.printed ≡ 0 → machine.new.tasks.printed ≡ 0 }
-    ensures over { (known : Option (List (List ℕ))) (s : Session) (m : Member) (t : Task) → Says known (B.holds backing.old) → IsLone known machine.old s m t
-        → result ≡ Ok Ended → Over (retold known (B.holds backing.new)) (known ≢ None) s machine.old machine.new }
-    ensures fits { (known : Option (List (List ℕ))) (s : Session) (m : Member) (t : Task) → Says known (B.holds backing.old) → known ≢ None → IsLone known machine.old s m t
+    ensures over { (known : Option (List (List ℕ))) (s : Session) (m : SessionJob) (t : Task) → Says known (B.holds backing.old) → IsLone known machine.old s m t
+        → result ≡ Ok Ended → EndsWithoutTasks (content_after known (B.holds backing.new)) (known ≢ None) s machine.old machine.new }
+    ensures fits { (known : Option (List (List ℕ))) (s : Session) (m : SessionJob) (t : Task) → Says known (B.holds backing.old) → known ≢ None → IsLone known machine.old s m t
         → (steps : ℕ) → machine.new.tasks.made ≡ machine.old.tasks.made + steps → StepsFit (length machine.old.cpu.core) steps s }
     ensures backing_cause { result ≡ Err BackingFault → Rose B.faults backing.old backing.new }
     ensures print_cause { result ≡ Err PrintFault → Rose K.faults paper.old paper.new }
     ensures later { K.faults paper.old ≤ K.faults paper.new }
-    ensures device { Served B.holds B.size B.calls B.faults backing.old backing.new }
+    ensures device { DeviceAfterCalls B.holds B.size B.calls B.faults backing.old backing.new }
     ensures countable { AreCountable machine.new.tasks.jobs }
     ensures len { length machine.new.cpu.core ≡ length machine.old.cpu.core }
     ensures count { length machine.new.sectors.links ≡ length machine.old.sectors.links }

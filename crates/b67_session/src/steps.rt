@@ -2,9 +2,9 @@
 
 ghost use Rattle.std.specs.Prelude.{◌≡◌, ◌≢◌, ℕ, ◌+◌, ◌≤◌, List, Option, Some, None, Ok, Err, length};
 ghost use Rattle.b67_io.specs.Causes.{Rose};
-ghost use Rattle.b67_model.specs.State.{Task, Member};
+ghost use Rattle.b67_model.specs.State.{Task, SessionJob};
 ghost use Rattle.b67_model.specs.Schedule.{Session};
-ghost use Rattle.b67_layout_storage.specs.Machine.{Says, Served, retold};
+ghost use Rattle.b67_layout_storage.specs.Machine.{Says, DeviceAfterCalls, content_after};
 ghost use Rattle.b67_session_attempt.specs.Passed.{AreCountable};
 ghost use Rattle.b67_session_attempt.specs.Stops.{BackingFault, PrintFault};
 ghost use Rattle.b67_session_attempt.specs.Brought.{WantsNothing};
@@ -31,17 +31,17 @@ pub(crate) fn step<B: Backing, K: Sink>(
     requires lives { LivesOn (B.holds backing.old) machine.old }
     requires countable { AreCountable machine.old.tasks.jobs }
     requires same { B.size backing.old + 1 ≡ length machine.old.sectors.links }
-    ensures row { (known : Option (List (List ℕ))) (s : Session) (m : Member) (t : Task) → Says known (B.holds backing.old) → IsLone known machine.old s m t
-        → Steps K.taken (retold known (B.holds backing.new)) (known ≢ None) (B.size backing.old) s result machine.old machine.new paper.old paper.new }
-    ensures quiet { (known : Option (List (List ℕ))) (s : Session) (m : Member) (t : Task) (h : IsLone known machine.old s m t) → Says known (B.holds backing.old)
+    ensures row { (known : Option (List (List ℕ))) (s : Session) (m : SessionJob) (t : Task) → Says known (B.holds backing.old) → IsLone known machine.old s m t
+        → Steps K.taken (content_after known (B.holds backing.new)) (known ≢ None) (B.size backing.old) s result machine.old machine.new paper.old paper.new }
+    ensures quiet { (known : Option (List (List ℕ))) (s : Session) (m : SessionJob) (t : Task) (h : IsLone known machine.old s m t) → Says known (B.holds backing.old)
         → WantsNothing h.storage h.plan m t → backing.new ≡ backing.old }
     ensures unprinted { result ≢ Err PrintFault → machine.old.tasks.printed ≡ 0 → machine.new.tasks.printed ≡ 0 }
-    ensures fits { (known : Option (List (List ℕ))) (s : Session) (m : Member) (t : Task) → Says known (B.holds backing.old) → known ≢ None → IsLone known machine.old s m t
+    ensures fits { (known : Option (List (List ℕ))) (s : Session) (m : SessionJob) (t : Task) → Says known (B.holds backing.old) → known ≢ None → IsLone known machine.old s m t
         → StepFits (length machine.old.cpu.core) s machine.old machine.new }
     ensures backing_cause { result ≡ Err BackingFault → Rose B.faults backing.old backing.new }
     ensures print_cause { result ≡ Err PrintFault → Rose K.faults paper.old paper.new }
     ensures later { K.faults paper.old ≤ K.faults paper.new }
-    ensures device { Served B.holds B.size B.calls B.faults backing.old backing.new }
+    ensures device { DeviceAfterCalls B.holds B.size B.calls B.faults backing.old backing.new }
     ensures countable { AreCountable machine.new.tasks.jobs }
     ensures len { length machine.new.cpu.core ≡ length machine.old.cpu.core }
     ensures count { length machine.new.sectors.links ≡ length machine.old.sectors.links }

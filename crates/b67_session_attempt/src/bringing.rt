@@ -2,12 +2,12 @@
 
 ghost use Rattle.std.specs.Prelude.{◌≡◌, ◌≢◌, ℕ, ◌+◌, List, Option, Err, length};
 ghost use Rattle.b67_io.specs.Causes.{Rose};
-ghost use Rattle.b67_model.specs.State.{Task, Member};
+ghost use Rattle.b67_model.specs.State.{Task, SessionJob};
 ghost use Rattle.b67_model.specs.Schedule.{Session};
 ghost use Rattle.b67_model.specs.InOrder.{IsInOrderButPlaces};
-ghost use Rattle.b67_stack.specs.Stands.{Storage};
-ghost use Rattle.b67_layout_storage.specs.Machine.{Served};
-ghost use Rattle.b67_layout.specs.Plan.{Plan};
+ghost use Rattle.b67_stack.specs.Represents.{Storage};
+ghost use Rattle.b67_layout_storage.specs.Machine.{DeviceAfterCalls};
+ghost use Rattle.b67_layout.specs.Placement.{Placement};
 ghost use Rattle.b67_layout.specs.Session.{IsRunning};
 ghost use Rattle.b67_task_need.specs.Needing.{StandsInOrder};
 ghost use Rattle.b67_presence.specs.Bringing.{StandsOver, WantsSome, IsWanted};
@@ -48,7 +48,7 @@ pub fn bring_wanted<B: Backing>(
 ) -> Result<(), Stop>
     requires wants { WantsSome machine.old (B.holds backing.old) wanted }
     requires same { B.size backing.old + 1 ≡ length machine.old.sectors.links }
-    ensures row { (x : Storage) (plan : Plan) (s : Session) (m : Member) (t : Task) (words : ℕ) → IsInOrderButPlaces s
+    ensures row { (x : Storage) (plan : Placement) (s : Session) (m : SessionJob) (t : Task) (words : ℕ) → IsInOrderButPlaces s
         → StandsOver x (B.holds backing.old) machine.old plan s → IsRunning plan s.jobs m t → IsWanted x plan m t wanted words → IsTouched plan m t wanted words
         → BroughtMeets x (B.holds backing.new) (length machine.old.cpu.core) (B.size backing.old) plan s m t wanted result machine.new }
     ensures cause { result ≡ Err BackingFault → Rose B.faults backing.old backing.new }
@@ -56,7 +56,7 @@ pub fn bring_wanted<B: Backing>(
     ensures tasks { machine.new.tasks ≡ machine.old.tasks }
     ensures len { length machine.new.cpu.core ≡ length machine.old.cpu.core }
     ensures count { length machine.new.sectors.links ≡ length machine.old.sectors.links }
-    ensures device { Served B.holds B.size B.calls B.faults backing.old backing.new }
+    ensures device { DeviceAfterCalls B.holds B.size B.calls B.faults backing.old backing.new }
 {
     match bring(machine, backing, wanted) {
         Ok(()) => Ok(()),

@@ -3,20 +3,20 @@
 ghost use Rattle.std.specs.Prelude.{◌≡◌, ℕ, List, Option, length, false};
 ghost use Rattle.b67_ctl.specs.Layout.{IsPlace};
 ghost use Rattle.b67_word.specs.declared.couples.Place.{Place};
-ghost use Rattle.b67_model.specs.State.{Ready, Task, Member};
+ghost use Rattle.b67_model.specs.State.{Ready, Task, SessionJob};
 ghost use Rattle.b67_model.specs.Entry as rows;
 ghost use Rattle.b67_model.specs.Rows.{row, step};
 ghost use Rattle.b67_model.specs.Schedule.{Session};
 ghost use Rattle.b67_model.specs.InOrder.{IsInOrderButPlaces};
-ghost use Rattle.b67_stack.specs.Stands.{Storage};
-ghost use Rattle.b67_layout.specs.Plan.{Plan};
+ghost use Rattle.b67_stack.specs.Represents.{Storage};
+ghost use Rattle.b67_layout.specs.Placement.{Placement};
 ghost use Rattle.b67_layout.specs.Session.{IsRunning};
 ghost use Rattle.b67_layout.specs.Meets.{here};
 ghost use Rattle.b67_model.specs.Called.{called};
 ghost use Rattle.b67_exec.specs.Operators.{ParametersFit};
 ghost use Rattle.b67_layout_step.specs.Keeping.{is_leaving};
 ghost use Rattle.b67_task_need.specs.Needing.{MachineRuns};
-ghost use Rattle.b67_task_tables.specs.Tables.{MachineStands};
+ghost use Rattle.b67_task_tables.specs.Tables.{MachineRepresents};
 ghost use Rattle.b67_session_attempt.specs.Makes.{StepMakes, CallsOrMakes, MakesOperator, ForEachReady};
 
 use b67_exec::{exit, perform, retn};
@@ -31,7 +31,7 @@ use b67_word::{Fault, Place};
 #[inline(always)]
 fn leave_by_exit(machine: &mut Machine) -> Step
     requires runs { MachineRuns machine.old }
-    ensures row { ForEachReady machine.old (λ x told plan s m t. (next : Place) → step m.setting m.course.job t ≡ rows.exit (here m t next) → StepMakes x told plan s m t result machine.old machine.new) }
+    ensures row { ForEachReady machine.old (λ x told plan s m t. (next : Place) → step m.constants m.progress.job t ≡ rows.exit (here m t next) → StepMakes x told plan s m t result machine.old machine.new) }
     ensures len { length machine.new.cpu.core ≡ length machine.old.cpu.core }
     ensures tasks { machine.new.tasks ≡ machine.old.tasks }
     ensures count { length machine.new.sectors.links ≡ length machine.old.sectors.links }
@@ -51,7 +51,7 @@ fn leave_by_exit(machine: &mut Machine) -> Step
 #[inline(always)]
 fn leave_by_retn(machine: &mut Machine) -> Step
     requires runs { MachineRuns machine.old }
-    ensures row { ForEachReady machine.old (λ x told plan s m t. (next : Place) → step m.setting m.course.job t ≡ rows.retn (here m t next) → StepMakes x told plan s m t result machine.old machine.new) }
+    ensures row { ForEachReady machine.old (λ x told plan s m t. (next : Place) → step m.constants m.progress.job t ≡ rows.retn (here m t next) → StepMakes x told plan s m t result machine.old machine.new) }
     ensures len { length machine.new.cpu.core ≡ length machine.old.cpu.core }
     ensures tasks { machine.new.tasks ≡ machine.old.tasks }
     ensures count { length machine.new.sectors.links ≡ length machine.old.sectors.links }
@@ -74,7 +74,7 @@ fn go_on(machine: &mut Machine, op: Op, next: Place) -> Step
     requires parameters { ParametersFit op }
     requires next { IsPlace next }
     requires stays { is_leaving op ≡ false }
-    ensures row { ForEachReady machine.old (λ x told plan s m t. step m.setting m.course.job t ≡ row op (here m t next) → CallsOrMakes x told plan s m t result machine.old machine.new (called op (here m t next))) }
+    ensures row { ForEachReady machine.old (λ x told plan s m t. step m.constants m.progress.job t ≡ row op (here m t next) → CallsOrMakes x told plan s m t result machine.old machine.new (called op (here m t next))) }
     ensures len { length machine.new.cpu.core ≡ length machine.old.cpu.core }
     ensures tasks { machine.new.tasks ≡ machine.old.tasks }
     ensures count { length machine.new.sectors.links ≡ length machine.old.sectors.links }
@@ -88,7 +88,7 @@ fn operate(machine: &mut Machine, op: Op, next: Place) -> Step
     requires runs { MachineRuns machine.old }
     requires parameters { ParametersFit op }
     requires next { IsPlace next }
-    ensures row { ForEachReady machine.old (λ x told plan s m t. step m.setting m.course.job t ≡ row op (here m t next) → CallsOrMakes x told plan s m t result machine.old machine.new (called op (here m t next))) }
+    ensures row { ForEachReady machine.old (λ x told plan s m t. step m.constants m.progress.job t ≡ row op (here m t next) → CallsOrMakes x told plan s m t result machine.old machine.new (called op (here m t next))) }
     ensures len { length machine.new.cpu.core ≡ length machine.old.cpu.core }
     ensures tasks { machine.new.tasks ≡ machine.old.tasks }
     ensures count { length machine.new.sectors.links ≡ length machine.old.sectors.links }
@@ -109,8 +109,8 @@ fn operate(machine: &mut Machine, op: Op, next: Place) -> Step
 #[inline(always)]
 pub fn make(machine: &mut Machine) -> Step
     requires runs { MachineRuns machine.old }
-    ensures row { (x : Storage) (told : Option (List (List ℕ))) (plan : Plan) (s : Session) (m : Member) (t : Task) → IsInOrderButPlaces s
-        → MachineStands x told machine.old plan s → IsRunning plan s.jobs m t → t.condition ≡ Ready → MakesOperator x told plan s m t result machine.old machine.new }
+    ensures row { (x : Storage) (told : Option (List (List ℕ))) (plan : Placement) (s : Session) (m : SessionJob) (t : Task) → IsInOrderButPlaces s
+        → MachineRepresents x told machine.old plan s → IsRunning plan s.jobs m t → t.condition ≡ Ready → MakesOperator x told plan s m t result machine.old machine.new }
     ensures len { length machine.new.cpu.core ≡ length machine.old.cpu.core }
     ensures tasks { machine.new.tasks ≡ machine.old.tasks }
     ensures count { length machine.new.sectors.links ≡ length machine.old.sectors.links }

@@ -2,13 +2,13 @@
 
 ghost use Rattle.std.specs.Prelude.{◌≡◌, ◌≢◌, ℕ, ◌≤◌, List, Option, Err, length};
 ghost use Rattle.b67_io.specs.Causes.{Rose};
-ghost use Rattle.b67_model.specs.State.{Ready, Task, Member};
+ghost use Rattle.b67_model.specs.State.{Ready, Task, SessionJob};
 ghost use Rattle.b67_model.specs.Schedule.{Session};
 ghost use Rattle.b67_model.specs.InOrder.{IsInOrderButPlaces};
-ghost use Rattle.b67_stack.specs.Stands.{Storage};
-ghost use Rattle.b67_layout.specs.Plan.{Plan};
+ghost use Rattle.b67_stack.specs.Represents.{Storage};
+ghost use Rattle.b67_layout.specs.Placement.{Placement};
 ghost use Rattle.b67_layout.specs.Session.{IsRunning};
-ghost use Rattle.b67_task_tables.specs.Tables.{MachineStands};
+ghost use Rattle.b67_task_tables.specs.Tables.{MachineRepresents};
 ghost use Rattle.b67_mcp.specs.Called.{AreCountable};
 ghost use Rattle.b67_mcp.specs.declared.ends.Stop.TheVariants.{PrintFault};
 ghost use Rattle.b67_session_attempt.specs.Tries.{ReadyRuns, TryMeets, TryFits};
@@ -36,10 +36,10 @@ pub enum Tried {
 pub fn try_once<K: Sink>(machine: &mut Machine, paper: &mut K) -> Result<Tried, Stop>
     requires runs { ReadyRuns machine.old }
     requires countable { AreCountable machine.old.tasks.jobs }
-    ensures row { (x : Storage) (told : Option (List (List ℕ))) (plan : Plan) (s : Session) (m : Member) (t : Task) → IsInOrderButPlaces s
-        → MachineStands x told machine.old plan s → IsRunning plan s.jobs m t → t.condition ≡ Ready → TryMeets K.taken x told plan s m t result machine.old machine.new paper.old paper.new }
-    ensures fits { (x : Storage) (told : Option (List (List ℕ))) (plan : Plan) (s : Session) (m : Member) (t : Task) → IsInOrderButPlaces s
-        → MachineStands x told machine.old plan s → IsRunning plan s.jobs m t → t.condition ≡ Ready → TryFits (length machine.old.cpu.core) s m t result }
+    ensures row { (x : Storage) (told : Option (List (List ℕ))) (plan : Placement) (s : Session) (m : SessionJob) (t : Task) → IsInOrderButPlaces s
+        → MachineRepresents x told machine.old plan s → IsRunning plan s.jobs m t → t.condition ≡ Ready → TryMeets K.taken x told plan s m t result machine.old machine.new paper.old paper.new }
+    ensures fits { (x : Storage) (told : Option (List (List ℕ))) (plan : Placement) (s : Session) (m : SessionJob) (t : Task) → IsInOrderButPlaces s
+        → MachineRepresents x told machine.old plan s → IsRunning plan s.jobs m t → t.condition ≡ Ready → TryFits (length machine.old.cpu.core) s m t result }
     ensures cause { result ≡ Err PrintFault → Rose K.faults paper.old paper.new }
     ensures later { K.faults paper.old ≤ K.faults paper.new }
     ensures countable { AreCountable machine.new.tasks.jobs }

@@ -8,7 +8,7 @@ use Rattle.b67_model_text.specs.declared.deck.Job.{Job}
 use Rattle.b67_model_text.specs.declared.deck.Switch as text
 use Rattle.b67_codefile.specs.declared.file.Segment.{Segment}
 use Rattle.b67_codefile.specs.declared.file.Codefile.{Codefile}
-use Rattle.b67_codefile.specs.Spelling.{Bears, IsSegment, IsRow}
+use Rattle.b67_codefile.specs.Spelling.{HasTag, IsSegment, IsRow}
 use Rattle.b67_codefile.specs.Meaning.{segment_of, program_of}
 use Rattle.b67_lemmas.specs.Lists.{Has}
 use Rattle.b67_model.specs.Program.{Program}
@@ -24,7 +24,7 @@ use Rattle.b67_task_tables.specs.declared.tables.TaskRow as task
 use Rattle.b67_task_tables.specs.Tables.{switch_of, task_row}
 use Rattle.b67_session_open.specs.Decks.{openings_of, session_of, JobInRange, DeckInRange, IsLoaded, IsCountable}
 
-bits_fit : (tag : ℕ) (ws : List Tagged) → AllByRecursion (Bears tag) ws → AllByRecursion (λ (n : ℕ). n < 2 ^ 48) (contents ws)
+bits_fit : (tag : ℕ) (ws : List Tagged) → AllByRecursion (HasTag tag) ws → AllByRecursion (λ (n : ℕ). n < 2 ^ 48) (contents ws)
 bits_fit tag [] h = tt
 bits_fit tag (w ∷ ws) h = (h.0.bits, bits_fit tag ws h.1)
 

@@ -6,7 +6,7 @@ use Rattle.b67_backing.specs.Shelf.{Table, IsShelf, row, all_free}
 use Rattle.b67_model_text.specs.declared.deck.Deck.{Deck}
 use Rattle.b67_codefile.specs.declared.file.Codefile.{Codefile}
 use Rattle.b67_codefile.specs.Meaning.{program_of}
-use Rattle.b67_stack.specs.Stands.{Storage}
+use Rattle.b67_stack.specs.Represents.{Storage}
 use Rattle.b67_session_open.specs.Opened.{opening_plan, programs_of}
 use Rattle.b67_session_open.specs.InitialOpens.{Opens}
 use Rattle.b67_task_tables.specs.declared.tables.Machine.{Machine}

@@ -5,11 +5,11 @@ use Rattle.b67_model_text.specs.declared.deck.Deck.{Deck}
 use Rattle.b67_model.specs.Program.{Program}
 use Rattle.b67_model.specs.Need.{need_at_opening}
 use Rattle.b67_model.specs.Sectors.{sectors}
-use Rattle.b67_stack.specs.Stands.{Storage}
+use Rattle.b67_stack.specs.Represents.{Storage}
 use Rattle.b67_session_open.specs.Opened.{opening_plan}
 use Rattle.b67_session_open.specs.Stored.{told_after}
 use Rattle.b67_task_tables.specs.declared.tables.Machine.{Machine}
-use Rattle.b67_task_tables.specs.Tables.{MachineStands}
+use Rattle.b67_task_tables.specs.Tables.{MachineRepresents}
 use Rattle.b67_session_open.specs.declared.fault.OpenFault.{OpenFault}
 use Rattle.b67_session_open.specs.declared.fault.OpenFault.TheVariants.{Memory, NoCore, BackingFull, BackingFault}
 use Rattle.b67_session_open.specs.Decks.{session_of, job_names, row_names}
@@ -24,7 +24,7 @@ sectors_of_all d ps = sectors (session_of d ps).jobs
 -- the machine stands for the opening state of a deck's session, over a device that tells this
 pub record OpensAs (told : Option (List (List ℕ))) (d : Deck) (ps : List Program) (core : ℕ) (k : Machine) : Type 0 where
   pub storage : Storage
-  pub stands : MachineStands storage told k (opening_plan d.stack ps) (session_of d ps)
+  pub stands : MachineRepresents storage told k (opening_plan d.stack ps) (session_of d ps)
   pub names : row_names k.tasks.jobs ≡ job_names d.jobs
   pub halt : k.tasks.halt ≡ d.halt
   pub printed : k.tasks.printed ≡ 0

@@ -4,8 +4,8 @@ use Rattle.b67_word.specs.Tagged.{Tagged}
 use Rattle.b67_area.specs.Spans.{left}
 use Rattle.b67_backing.specs.Shelf.{Shelf}
 use Rattle.std.specs.List.{slice_get}
-use Rattle.b67_stack.specs.Shapes.{Map}
-use Rattle.b67_stack.specs.Stands.{Storage}
+use Rattle.b67_stack.specs.Shapes.{Locations}
+use Rattle.b67_stack.specs.Represents.{Storage}
 use Rattle.b67_load.specs.Resting.{at_rest}
 
 -- the sector that an absent descriptor names
@@ -13,8 +13,8 @@ abbrev pub sector_named : Option Tagged → ℕ
 sector_named None = 0
 sector_named (Some w) = w.bits % 2 ^ 20
 
--- each thing is held where its descriptor says
-abbrev pub held_in : List Tagged → Map
+-- each object is held where its descriptor says
+abbrev pub held_in : List Tagged → Locations
 held_in core home = at_rest (sector_named (slice_get core home))
 
 -- one hole from `low` to the end of core, if there is a word left, and no area

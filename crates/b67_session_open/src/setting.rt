@@ -8,9 +8,9 @@ ghost use Rattle.b67_backing.specs.Shelf.{Shelf, IsShelf};
 ghost use Rattle.b67_backing.specs.declared.refusals.SpaceFault.TheVariants.{BackingFault};
 ghost use Rattle.b67_codefile.specs.Meaning.{program_of};
 ghost use Rattle.b67_lemmas.specs.Lists.{total};
-ghost use Rattle.b67_load.specs.Things.{sectors_of_program};
+ghost use Rattle.b67_load.specs.Objects.{sectors_of_program};
 ghost use Rattle.b67_load.specs.Resting.{stocked};
-ghost use Rattle.b67_session_open.specs.Opened.{dictionaries, things_from};
+ghost use Rattle.b67_session_open.specs.Opened.{dictionaries, objects_from};
 ghost use Rattle.b67_session_open.specs.Stored.{absent_storage, told_after};
 ghost use Rattle.b67_session_open.specs.InitialOpens.{Opens};
 
@@ -79,7 +79,7 @@ pub fn set_up<B: Backing>(
     requires same { B.size backing.old + 1 ≡ length sectors.old.links }
     ensures opens { IfOk result (λ m. (st : Shelf) → IsShelf sectors.old st → st.chains ≡ []
         → Opens m.areas sectors.new (told_after (B.holds backing.old) (B.holds backing.new))
-        (absent_storage m.cpu.core m.areas.low (stocked (things_from 160 (map program_of programs.now)) st) (told_after (B.holds backing.old) (B.holds backing.new)))
+        (absent_storage m.cpu.core m.areas.low (stocked (objects_from 160 (map program_of programs.now)) st) (told_after (B.holds backing.old) (B.holds backing.new)))
         m.cpu stack (map program_of programs.now)) }
     ensures len { IfOk result (λ m. length m.cpu.core ≡ length core) }
     ensures tells { OnOk result (Changes B.holds backing.old backing.new (λ before after. length after ≡ length before)) }

@@ -4,9 +4,9 @@ ghost use Rattle.std.specs.Prelude.{◌≡◌, ◌<◌, ◌↔◌, [], length, N
 ghost use Rattle.b67_model.specs.InOrder.{IsInOrderButPlaces};
 ghost use Rattle.b67_model.specs.Schedule as schedule;
 ghost use Rattle.b67_model.specs.Schedule.{Session, ready, switched, next_after, choice};
-ghost use Rattle.b67_layout.specs.Plan.{Plan};
+ghost use Rattle.b67_layout.specs.Placement.{Placement};
 ghost use Rattle.b67_task_tables.specs.Tables.{TasksShow};
-ghost use Rattle.b67_session_schedule.specs.Counted.{choice_of, HasRoom};
+ghost use Rattle.b67_session_schedule.specs.Counted.{choice_of, CountsHaveRoom};
 ghost use Rattle.b67_session_schedule.specs.Chosen.{who_is, turn_lasts, IsReadyAt, RowOf, GoesOnAt, Chooses};
 
 use crate::counting::Chosen;
@@ -27,7 +27,7 @@ fn last_of(tasks: &Tasks) -> Who
 /// The row of the ready task that a switch of this count names.
 #[inline(always)]
 fn switched_row(tasks: &Tasks) -> Option<u8>
-    ensures row { (plan : Plan) (s : Session) → IsInOrderButPlaces s → TasksShow plan s tasks.now → RowOf tasks.now.rows.items result (switched s) }
+    ensures row { (plan : Placement) (s : Session) → IsInOrderButPlaces s → TasksShow plan s tasks.now → RowOf tasks.now.rows.items result (switched s) }
     ensures inside { IfSome result (λ row. row < length tasks.now.rows.items) }
 {
     match switch_to(tasks.switches.as_slice(), tasks.next_switch, tasks.made) {
@@ -39,7 +39,7 @@ fn switched_row(tasks: &Tasks) -> Option<u8>
 /// Whether the last task's turn goes on, if it is ready.
 #[inline(always)]
 fn lasts(tasks: &Tasks) -> bool
-    ensures { (plan : Plan) (s : Session) → IsInOrderButPlaces s → TasksShow plan s tasks.now → result ≡ turn_lasts s }
+    ensures { (plan : Placement) (s : Session) → IsInOrderButPlaces s → TasksShow plan s tasks.now → result ≡ turn_lasts s }
 {
     is_left(tasks.switches.as_slice(), tasks.made) || tasks.turn < tasks.quantum
 }
@@ -47,7 +47,7 @@ fn lasts(tasks: &Tasks) -> bool
 /// The row of the last task, where it goes on.
 #[inline(always)]
 fn last_row(tasks: &Tasks) -> Option<u8>
-    ensures row { (plan : Plan) (s : Session) → IsInOrderButPlaces s → TasksShow plan s tasks.now → GoesOnAt tasks.now.rows.items result s }
+    ensures row { (plan : Placement) (s : Session) → IsInOrderButPlaces s → TasksShow plan s tasks.now → GoesOnAt tasks.now.rows.items result s }
     ensures inside { IfSome result (λ row. row < length tasks.now.rows.items) }
 {
     if lasts(tasks) {
@@ -60,7 +60,7 @@ fn last_row(tasks: &Tasks) -> Option<u8>
 /// The row of the next ready task in the cyclic order.
 #[inline(always)]
 fn row_after(tasks: &Tasks) -> Option<u8>
-    ensures row { (plan : Plan) (s : Session) → IsInOrderButPlaces s → TasksShow plan s tasks.now → RowOf tasks.now.rows.items result (next_after s) }
+    ensures row { (plan : Placement) (s : Session) → IsInOrderButPlaces s → TasksShow plan s tasks.now → RowOf tasks.now.rows.items result (next_after s) }
     ensures inside { IfSome result (λ row. row < length tasks.now.rows.items) }
 {
     let rows = tasks.rows.as_slice();
@@ -89,7 +89,7 @@ fn chosen_at(tasks: &Tasks, row: u8, turn: u32) -> Chosen
 /// The task that the rules choose.
 #[inline(always)]
 fn by_rules(tasks: &Tasks) -> Option<Chosen>
-    ensures { (plan : Plan) (s : Session) → IsInOrderButPlaces s → TasksShow plan s tasks.now → Chooses tasks.now.rows.items result (choice s) }
+    ensures { (plan : Placement) (s : Session) → IsInOrderButPlaces s → TasksShow plan s tasks.now → Chooses tasks.now.rows.items result (choice s) }
 {
     match switched_row(tasks) {
         Some(row) => Some(chosen_at(tasks, row, 0)),
@@ -106,10 +106,10 @@ fn by_rules(tasks: &Tasks) -> Option<Chosen>
 /// The task that makes the next operator; None exactly where no task is ready.
 #[inline(always)]
 pub fn choose(tasks: &Tasks) -> Option<Chosen>
-    ensures choice { (plan : Plan) (s : Session) → IsInOrderButPlaces s → TasksShow plan s tasks.now → Chooses tasks.now.rows.items result (choice s) }
-    ensures none { (plan : Plan) (s : Session) → IsInOrderButPlaces s → TasksShow plan s tasks.now → (result ≡ None) ↔ (ready s ≡ []) }
+    ensures choice { (plan : Placement) (s : Session) → IsInOrderButPlaces s → TasksShow plan s tasks.now → Chooses tasks.now.rows.items result (choice s) }
+    ensures none { (plan : Placement) (s : Session) → IsInOrderButPlaces s → TasksShow plan s tasks.now → (result ≡ None) ↔ (ready s ≡ []) }
     // One operator more of that task then fits the counts.
-    ensures room { (plan : Plan) (s : Session) → IsInOrderButPlaces s → TasksShow plan s tasks.now → IfSome result (HasRoom tasks.now) }
+    ensures room { (plan : Placement) (s : Session) → IsInOrderButPlaces s → TasksShow plan s tasks.now → IfSome result (CountsHaveRoom tasks.now) }
 {
     by_rules(tasks)
 }
@@ -117,8 +117,8 @@ pub fn choose(tasks: &Tasks) -> Option<Chosen>
 /// The row of the task that makes the next operator; None exactly where no task is ready.
 #[inline(always)]
 pub fn schedule(tasks: &Tasks) -> Option<u8>
-    ensures row { (plan : Plan) (s : Session) → IsInOrderButPlaces s → TasksShow plan s tasks.now → RowOf tasks.now.rows.items result (option_map (λ c. c.who) (choice s)) }
-    ensures none { (plan : Plan) (s : Session) → IsInOrderButPlaces s → TasksShow plan s tasks.now → (result ≡ None) ↔ (ready s ≡ []) }
+    ensures row { (plan : Placement) (s : Session) → IsInOrderButPlaces s → TasksShow plan s tasks.now → RowOf tasks.now.rows.items result (option_map (λ c. c.who) (choice s)) }
+    ensures none { (plan : Placement) (s : Session) → IsInOrderButPlaces s → TasksShow plan s tasks.now → (result ≡ None) ↔ (ready s ≡ []) }
 {
     Some(choose(tasks)?.row)
 }

@@ -3,9 +3,9 @@ use Rattle.std.proofs.lemmas.Bool.{not-false, not-true}
 use Rattle.b67_ctl.specs.declared.registers.Regs.{Regs}
 use Rattle.b67_model.specs.State.{top}
 use Rattle.b67_model.specs.Entry.{returnable}
-use Rattle.b67_layout.specs.Layout.{picture, stack_of_task}
+use Rattle.b67_layout.specs.Layout.{machine_view, stack_of_task}
 use Rattle.b67_layout.proofs.Starts.{meets_runs, runs_here}
-use Rattle.b67_refer.specs.Scene.{Scene}
+use Rattle.b67_refer.specs.RunningContext.{RunningContext}
 use Rattle.b67_stack.specs.declared.Cpu.{Cpu}
 use Rattle.b67_entry.proofs.Callers.{below_mark}
 use Rattle.b67_entry.proofs.Leaving.{under, on_top, on_stack, may_return, scene_left}
@@ -22,7 +22,7 @@ pub returns-then-not-mark : goal.returns-then-not-mark
 returns-then-not-mark c = record {
   row = λ x plan s m t o h runs next.
       (let cpu = c.args.cpu.now in
-      let is = c.top_mark-mark.ensures x (picture plan s.jobs) (stack_of_task plan m.setting.number m.course.job plan.running t) h.holds.memory (runs_here x cpu plan s m t h runs) in
+      let is = c.top_mark-mark.ensures x (machine_view plan s.jobs) (stack_of_task plan m.constants.number m.progress.job plan.running t) h.holds.memory (runs_here x cpu plan s m t h runs) in
       (pending x cpu plan s m t o h runs c.top_mark-mark.result is next (not-true _ c.if-not-mark.true), refl));
   above = λ i low. refl;
   top = λ e. cc;
@@ -40,14 +40,14 @@ overflow_add-cpu c =
     let h = r.stands in
     let runs = r.running in
     (let cpu = c.args.cpu.now in
-    let is = c.top_mark-mark.ensures x (picture plan s.jobs) (stack_of_task plan m.setting.number m.course.job plan.running t) h.holds.memory (runs_here x cpu plan s m t h runs) in
+    let is = c.top_mark-mark.ensures x (machine_view plan s.jobs) (stack_of_task plan m.constants.number m.progress.job plan.running t) h.holds.memory (runs_here x cpu plan s m t h runs) in
     let g = room x cpu plan s m t o h runs in omega (arith, g.top, g.last, g.under, g.inside, g.bound))
 
 pub returns-then-cpu : goal.returns-then-cpu
 returns-then-cpu c = record {
   row = λ x plan s m t o h runs next.
       (let cpu = c.args.cpu.now in
-      let is = c.top_mark-mark.ensures x (picture plan s.jobs) (stack_of_task plan m.setting.number m.course.job plan.running t) h.holds.memory (runs_here x cpu plan s m t h runs) in
+      let is = c.top_mark-mark.ensures x (machine_view plan s.jobs) (stack_of_task plan m.constants.number m.progress.job plan.running t) h.holds.memory (runs_here x cpu plan s m t h runs) in
       let n = not-false _ c.if-not-mark.false in
       (empty x cpu plan s m t o h runs c.top_mark-mark.result is n next c.if-cpu.true, refl));
   above = λ i low. refl;
@@ -66,7 +66,7 @@ get-word-requires c =
     let h = r.stands in
     let runs = r.running in
     (let cpu = c.args.cpu.now in
-    let is = c.top_mark-mark.ensures x (picture plan s.jobs) (stack_of_task plan m.setting.number m.course.job plan.running t) h.holds.memory (runs_here x cpu plan s m t h runs) in
+    let is = c.top_mark-mark.ensures x (machine_view plan s.jobs) (stack_of_task plan m.constants.number m.progress.job plan.running t) h.holds.memory (runs_here x cpu plan s m t h runs) in
     let g = room x cpu plan s m t o h runs in omega (arith, g.last, g.under, g.inside))
 
 pub refusal-requires : goal.refusal-requires
@@ -81,7 +81,7 @@ refusal-requires c =
     let h = r.stands in
     let runs = r.running in
     (let cpu = c.args.cpu.now in
-    let is = c.top_mark-mark.ensures x (picture plan s.jobs) (stack_of_task plan m.setting.number m.course.job plan.running t) h.holds.memory (runs_here x cpu plan s m t h runs) in
+    let is = c.top_mark-mark.ensures x (machine_view plan s.jobs) (stack_of_task plan m.constants.number m.progress.job plan.running t) h.holds.memory (runs_here x cpu plan s m t h runs) in
     let n = not-false _ c.if-not-mark.false in
     let v = word_at x cpu plan s m t o h runs c.top_mark-mark.result is n c.get-word.result c.get-word.ensures c.if-cpu.false in
     (r, v.0, v.1))
@@ -90,10 +90,10 @@ pub returns-in-Some : goal.returns-in-Some
 returns-in-Some c = record {
   row = λ x plan s m t o h runs next.
       (let cpu = c.args.cpu.now in
-      let is = c.top_mark-mark.ensures x (picture plan s.jobs) (stack_of_task plan m.setting.number m.course.job plan.running t) h.holds.memory (runs_here x cpu plan s m t h runs) in
+      let is = c.top_mark-mark.ensures x (machine_view plan s.jobs) (stack_of_task plan m.constants.number m.progress.job plan.running t) h.holds.memory (runs_here x cpu plan s m t h runs) in
       let n = not-false _ c.if-not-mark.false in
       let v = word_at x cpu plan s m t o h runs c.top_mark-mark.result is n c.get-word.result c.get-word.ensures c.if-cpu.false in
-      (refused x cpu plan s m t o h runs c.top_mark-mark.result is n v.0 c.get-word.result v.1 next c.in-Some.fault (refusal_faults c.refusal.result c.in-Some.fault v.0 (returnable m.course.job (top t.frames).identity v.0) c.in-Some.is (c.refusal.ensures x plan s m t o h runs v.0 v.1)), refl));
+      (refused x cpu plan s m t o h runs c.top_mark-mark.result is n v.0 c.get-word.result v.1 next c.in-Some.fault (refusal_faults c.refusal.result c.in-Some.fault v.0 (returnable m.progress.job (top t.frames).identity v.0) c.in-Some.is (c.refusal.ensures x plan s m t o h runs v.0 v.1)), refl));
   above = λ i low. refl;
   top = λ e. cc;
 }
@@ -102,10 +102,10 @@ pub returns-then-is_critical : goal.returns-then-is_critical
 returns-then-is_critical c = record {
   row = λ x plan s m t o h runs next.
       (let cpu = c.args.cpu.now in
-      let is = c.top_mark-mark.ensures x (picture plan s.jobs) (stack_of_task plan m.setting.number m.course.job plan.running t) h.holds.memory (runs_here x cpu plan s m t h runs) in
+      let is = c.top_mark-mark.ensures x (machine_view plan s.jobs) (stack_of_task plan m.constants.number m.progress.job plan.running t) h.holds.memory (runs_here x cpu plan s m t h runs) in
       let n = not-false _ c.if-not-mark.false in
       let v = word_at x cpu plan s m t o h runs c.top_mark-mark.result is n c.get-word.result c.get-word.ensures c.if-cpu.false in
-      let passes = refusal_passes c.refusal.result v.0 (returnable m.course.job (top t.frames).identity v.0) c.in-None.is (c.refusal.ensures x plan s m t o h runs v.0 v.1) in
+      let passes = refusal_passes c.refusal.result v.0 (returnable m.progress.job (top t.frames).identity v.0) c.in-None.is (c.refusal.ensures x plan s m t o h runs v.0 v.1) in
       (critical x cpu plan s m t o h runs c.top_mark-mark.result is n v.0 c.get-word.result v.1 passes next (sym (c.is_critical.ensures x plan s m t o h runs) ∙ c.if-is_critical.true), refl));
   above = λ i low. refl;
   top = λ e. cc;
@@ -115,10 +115,10 @@ pub returns-then-mark-eq0 : goal.returns-then-mark-eq0
 returns-then-mark-eq0 c = record {
   row = λ x plan s m t o h runs next.
       (let cpu = c.args.cpu.now in
-      let is = c.top_mark-mark.ensures x (picture plan s.jobs) (stack_of_task plan m.setting.number m.course.job plan.running t) h.holds.memory (runs_here x cpu plan s m t h runs) in
+      let is = c.top_mark-mark.ensures x (machine_view plan s.jobs) (stack_of_task plan m.constants.number m.progress.job plan.running t) h.holds.memory (runs_here x cpu plan s m t h runs) in
       let n = not-false _ c.if-not-mark.false in
       let v = word_at x cpu plan s m t o h runs c.top_mark-mark.result is n c.get-word.result c.get-word.ensures c.if-cpu.false in
-      let passes = refusal_passes c.refusal.result v.0 (returnable m.course.job (top t.frames).identity v.0) c.in-None.is (c.refusal.ensures x plan s m t o h runs v.0 v.1) in
+      let passes = refusal_passes c.refusal.result v.0 (returnable m.progress.job (top t.frames).identity v.0) c.in-None.is (c.refusal.ensures x plan s m t o h runs v.0 v.1) in
       let free = sym (c.is_critical.ensures x plan s m t o h runs) ∙ c.if-is_critical.false in
       (ended x cpu plan s m t o h runs c.top_mark-mark.result is n v.0 c.get-word.result v.1 passes free next c.if-mark-eq0.true, refl));
   above = λ i low. refl;
@@ -137,15 +137,15 @@ caller-regs-requires c =
     let h = r.stands in
     let runs = r.running in
     (let cpu = c.args.cpu.now in
-    let is = c.top_mark-mark.ensures x (picture plan s.jobs) (stack_of_task plan m.setting.number m.course.job plan.running t) h.holds.memory (runs_here x cpu plan s m t h runs) in
+    let is = c.top_mark-mark.ensures x (machine_view plan s.jobs) (stack_of_task plan m.constants.number m.progress.job plan.running t) h.holds.memory (runs_here x cpu plan s m t h runs) in
     let n = not-false _ c.if-not-mark.false in
     let v = word_at x cpu plan s m t o h runs c.top_mark-mark.result is n c.get-word.result c.get-word.ensures c.if-cpu.false in
-    let passes = refusal_passes c.refusal.result v.0 (returnable m.course.job (top t.frames).identity v.0) c.in-None.is (c.refusal.ensures x plan s m t o h runs v.0 v.1) in
+    let passes = refusal_passes c.refusal.result v.0 (returnable m.progress.job (top t.frames).identity v.0) c.in-None.is (c.refusal.ensures x plan s m t o h runs v.0 v.1) in
     let free = sym (c.is_critical.ensures x plan s m t o h runs) ∙ c.if-is_critical.false in
     let M = c.top_mark-mark.result in
     let a = leaver x cpu plan s m t o h runs M is n v.0 c.get-word.result v.1 passes free c.if-mark-eq0.false in
     let b = with_its_word x cpu plan s m t o h runs M is n v.0 c.get-word.result v.1 passes free c.if-mark-eq0.false in
-    let top_is = c.top_mark-mark.ensures x (picture plan s.jobs) (on_top x cpu plan s m t o h runs a ∷ under x cpu plan s m t o h runs a) h.holds.memory (on_stack x cpu plan s m t o h runs a) in
+    let top_is = c.top_mark-mark.ensures x (machine_view plan s.jobs) (on_top x cpu plan s m t o h runs a ∷ under x cpu plan s m t o h runs a) h.holds.memory (on_stack x cpu plan s m t o h runs a) in
     (may_return x cpu plan s m t o h runs a, top_is))
 
 pub rebuild-requires : goal.rebuild-requires
@@ -160,17 +160,17 @@ rebuild-requires c =
     let h = r.stands in
     let runs = r.running in
     (let cpu = c.args.cpu.now in
-    let is = c.top_mark-mark.ensures x (picture plan s.jobs) (stack_of_task plan m.setting.number m.course.job plan.running t) h.holds.memory (runs_here x cpu plan s m t h runs) in
+    let is = c.top_mark-mark.ensures x (machine_view plan s.jobs) (stack_of_task plan m.constants.number m.progress.job plan.running t) h.holds.memory (runs_here x cpu plan s m t h runs) in
     let n = not-false _ c.if-not-mark.false in
     let v = word_at x cpu plan s m t o h runs c.top_mark-mark.result is n c.get-word.result c.get-word.ensures c.if-cpu.false in
-    let passes = refusal_passes c.refusal.result v.0 (returnable m.course.job (top t.frames).identity v.0) c.in-None.is (c.refusal.ensures x plan s m t o h runs v.0 v.1) in
+    let passes = refusal_passes c.refusal.result v.0 (returnable m.progress.job (top t.frames).identity v.0) c.in-None.is (c.refusal.ensures x plan s m t o h runs v.0 v.1) in
     let free = sym (c.is_critical.ensures x plan s m t o h runs) ∙ c.if-is_critical.false in
     let M = c.top_mark-mark.result in
     let a = leaver x cpu plan s m t o h runs M is n v.0 c.get-word.result v.1 passes free c.if-mark-eq0.false in
     let b = with_its_word x cpu plan s m t o h runs M is n v.0 c.get-word.result v.1 passes free c.if-mark-eq0.false in
-    let top_is = c.top_mark-mark.ensures x (picture plan s.jobs) (on_top x cpu plan s m t o h runs a ∷ under x cpu plan s m t o h runs a) h.holds.memory (on_stack x cpu plan s m t o h runs a) in
+    let top_is = c.top_mark-mark.ensures x (machine_view plan s.jobs) (on_top x cpu plan s m t o h runs a ∷ under x cpu plan s m t o h runs a) h.holds.memory (on_stack x cpu plan s m t o h runs a) in
     let regs_is = c.caller-regs.ensures (may_return x cpu plan s m t o h runs a) top_is in
-    subst (λ (z : Regs). Scene cpu.core z) (sym regs_is) (scene_left x cpu plan s m t o h runs a))
+    subst (λ (z : Regs). RunningContext cpu.core z) (sym regs_is) (scene_left x cpu plan s m t o h runs a))
 
 pub evaluate-requires-clause-run : goal.evaluate-requires-clause-run
 evaluate-requires-clause-run c =
@@ -184,15 +184,15 @@ evaluate-requires-clause-run c =
     let h = r.stands in
     let runs = r.running in
     (let cpu = c.args.cpu.now in
-    let is = c.top_mark-mark.ensures x (picture plan s.jobs) (stack_of_task plan m.setting.number m.course.job plan.running t) h.holds.memory (runs_here x cpu plan s m t h runs) in
+    let is = c.top_mark-mark.ensures x (machine_view plan s.jobs) (stack_of_task plan m.constants.number m.progress.job plan.running t) h.holds.memory (runs_here x cpu plan s m t h runs) in
     let n = not-false _ c.if-not-mark.false in
     let v = word_at x cpu plan s m t o h runs c.top_mark-mark.result is n c.get-word.result c.get-word.ensures c.if-cpu.false in
-    let passes = refusal_passes c.refusal.result v.0 (returnable m.course.job (top t.frames).identity v.0) c.in-None.is (c.refusal.ensures x plan s m t o h runs v.0 v.1) in
+    let passes = refusal_passes c.refusal.result v.0 (returnable m.progress.job (top t.frames).identity v.0) c.in-None.is (c.refusal.ensures x plan s m t o h runs v.0 v.1) in
     let free = sym (c.is_critical.ensures x plan s m t o h runs) ∙ c.if-is_critical.false in
     let M = c.top_mark-mark.result in
     let a = leaver x cpu plan s m t o h runs M is n v.0 c.get-word.result v.1 passes free c.if-mark-eq0.false in
     let b = with_its_word x cpu plan s m t o h runs M is n v.0 c.get-word.result v.1 passes free c.if-mark-eq0.false in
-    let top_is = c.top_mark-mark.ensures x (picture plan s.jobs) (on_top x cpu plan s m t o h runs a ∷ under x cpu plan s m t o h runs a) h.holds.memory (on_stack x cpu plan s m t o h runs a) in
+    let top_is = c.top_mark-mark.ensures x (machine_view plan s.jobs) (on_top x cpu plan s m t o h runs a ∷ under x cpu plan s m t o h runs a) h.holds.memory (on_stack x cpu plan s m t o h runs a) in
     let regs_is = c.caller-regs.ensures (may_return x cpu plan s m t o h runs a) top_is in
     (r, a, v.0, b, regs_is))
 
@@ -200,15 +200,15 @@ pub returns-then-tag-ne0 : goal.returns-then-tag-ne0
 returns-then-tag-ne0 c = record {
   row = λ x plan s m t o h runs next.
       (let cpu = c.args.cpu.now in
-      let is = c.top_mark-mark.ensures x (picture plan s.jobs) (stack_of_task plan m.setting.number m.course.job plan.running t) h.holds.memory (runs_here x cpu plan s m t h runs) in
+      let is = c.top_mark-mark.ensures x (machine_view plan s.jobs) (stack_of_task plan m.constants.number m.progress.job plan.running t) h.holds.memory (runs_here x cpu plan s m t h runs) in
       let n = not-false _ c.if-not-mark.false in
       let v = word_at x cpu plan s m t o h runs c.top_mark-mark.result is n c.get-word.result c.get-word.ensures c.if-cpu.false in
-      let passes = refusal_passes c.refusal.result v.0 (returnable m.course.job (top t.frames).identity v.0) c.in-None.is (c.refusal.ensures x plan s m t o h runs v.0 v.1) in
+      let passes = refusal_passes c.refusal.result v.0 (returnable m.progress.job (top t.frames).identity v.0) c.in-None.is (c.refusal.ensures x plan s m t o h runs v.0 v.1) in
       let free = sym (c.is_critical.ensures x plan s m t o h runs) ∙ c.if-is_critical.false in
       let M = c.top_mark-mark.result in
       let a = leaver x cpu plan s m t o h runs M is n v.0 c.get-word.result v.1 passes free c.if-mark-eq0.false in
       let b = with_its_word x cpu plan s m t o h runs M is n v.0 c.get-word.result v.1 passes free c.if-mark-eq0.false in
-      let top_is = c.top_mark-mark.ensures x (picture plan s.jobs) (on_top x cpu plan s m t o h runs a ∷ under x cpu plan s m t o h runs a) h.holds.memory (on_stack x cpu plan s m t o h runs a) in
+      let top_is = c.top_mark-mark.ensures x (machine_view plan s.jobs) (on_top x cpu plan s m t o h runs a ∷ under x cpu plan s m t o h runs a) h.holds.memory (on_stack x cpu plan s m t o h runs a) in
       let regs_is = c.caller-regs.ensures (may_return x cpu plan s m t o h runs a) top_is in
       evaluated x cpu plan s m t o h runs a v.0 c.get-word.result b next c.evaluate.result c.evaluate.new.cpu (sym (value_is x cpu plan s m t o h runs M is a) ∙ c.if-mark.true) (c.evaluate.ensures.row x plan s m t o h runs a v.0 b regs_is));
   above = c.evaluate.ensures.above;
@@ -223,15 +223,15 @@ returns-then-tag-ne0 c = record {
       let h = r.stands in
       let runs = r.running in
       (let cpu = c.args.cpu.now in
-      let is = c.top_mark-mark.ensures x (picture plan s.jobs) (stack_of_task plan m.setting.number m.course.job plan.running t) h.holds.memory (runs_here x cpu plan s m t h runs) in
+      let is = c.top_mark-mark.ensures x (machine_view plan s.jobs) (stack_of_task plan m.constants.number m.progress.job plan.running t) h.holds.memory (runs_here x cpu plan s m t h runs) in
       let n = not-false _ c.if-not-mark.false in
       let v = word_at x cpu plan s m t o h runs c.top_mark-mark.result is n c.get-word.result c.get-word.ensures c.if-cpu.false in
-      let passes = refusal_passes c.refusal.result v.0 (returnable m.course.job (top t.frames).identity v.0) c.in-None.is (c.refusal.ensures x plan s m t o h runs v.0 v.1) in
+      let passes = refusal_passes c.refusal.result v.0 (returnable m.progress.job (top t.frames).identity v.0) c.in-None.is (c.refusal.ensures x plan s m t o h runs v.0 v.1) in
       let free = sym (c.is_critical.ensures x plan s m t o h runs) ∙ c.if-is_critical.false in
       let M = c.top_mark-mark.result in
       let a = leaver x cpu plan s m t o h runs M is n v.0 c.get-word.result v.1 passes free c.if-mark-eq0.false in
       let b = with_its_word x cpu plan s m t o h runs M is n v.0 c.get-word.result v.1 passes free c.if-mark-eq0.false in
-      let top_is = c.top_mark-mark.ensures x (picture plan s.jobs) (on_top x cpu plan s m t o h runs a ∷ under x cpu plan s m t o h runs a) h.holds.memory (on_stack x cpu plan s m t o h runs a) in
+      let top_is = c.top_mark-mark.ensures x (machine_view plan s.jobs) (on_top x cpu plan s m t o h runs a ∷ under x cpu plan s m t o h runs a) h.holds.memory (on_stack x cpu plan s m t o h runs a) in
       let regs_is = c.caller-regs.ensures (may_return x cpu plan s m t o h runs a) top_is in
       let k = c.evaluate.ensures.top e in
       let z = ap (λ (v : Regs). v.s) regs_is in
@@ -251,15 +251,15 @@ put-requires c =
     let h = r.stands in
     let runs = r.running in
     (let cpu = c.args.cpu.now in
-    let is = c.top_mark-mark.ensures x (picture plan s.jobs) (stack_of_task plan m.setting.number m.course.job plan.running t) h.holds.memory (runs_here x cpu plan s m t h runs) in
+    let is = c.top_mark-mark.ensures x (machine_view plan s.jobs) (stack_of_task plan m.constants.number m.progress.job plan.running t) h.holds.memory (runs_here x cpu plan s m t h runs) in
     let n = not-false _ c.if-not-mark.false in
     let v = word_at x cpu plan s m t o h runs c.top_mark-mark.result is n c.get-word.result c.get-word.ensures c.if-cpu.false in
-    let passes = refusal_passes c.refusal.result v.0 (returnable m.course.job (top t.frames).identity v.0) c.in-None.is (c.refusal.ensures x plan s m t o h runs v.0 v.1) in
+    let passes = refusal_passes c.refusal.result v.0 (returnable m.progress.job (top t.frames).identity v.0) c.in-None.is (c.refusal.ensures x plan s m t o h runs v.0 v.1) in
     let free = sym (c.is_critical.ensures x plan s m t o h runs) ∙ c.if-is_critical.false in
     let M = c.top_mark-mark.result in
     let a = leaver x cpu plan s m t o h runs M is n v.0 c.get-word.result v.1 passes free c.if-mark-eq0.false in
     let b = with_its_word x cpu plan s m t o h runs M is n v.0 c.get-word.result v.1 passes free c.if-mark-eq0.false in
-    let top_is = c.top_mark-mark.ensures x (picture plan s.jobs) (on_top x cpu plan s m t o h runs a ∷ under x cpu plan s m t o h runs a) h.holds.memory (on_stack x cpu plan s m t o h runs a) in
+    let top_is = c.top_mark-mark.ensures x (machine_view plan s.jobs) (on_top x cpu plan s m t o h runs a ∷ under x cpu plan s m t o h runs a) h.holds.memory (on_stack x cpu plan s m t o h runs a) in
     let regs_is = c.caller-regs.ensures (may_return x cpu plan s m t o h runs a) top_is in
     room_left x cpu plan s m t o h runs a c.caller-regs.result regs_is)
 
@@ -267,15 +267,15 @@ pub returns : goal.returns
 returns c = record {
   row = λ x plan s m t o h runs next.
       (let cpu = c.args.cpu.now in
-      let is = c.top_mark-mark.ensures x (picture plan s.jobs) (stack_of_task plan m.setting.number m.course.job plan.running t) h.holds.memory (runs_here x cpu plan s m t h runs) in
+      let is = c.top_mark-mark.ensures x (machine_view plan s.jobs) (stack_of_task plan m.constants.number m.progress.job plan.running t) h.holds.memory (runs_here x cpu plan s m t h runs) in
       let n = not-false _ c.if-not-mark.false in
       let v = word_at x cpu plan s m t o h runs c.top_mark-mark.result is n c.get-word.result c.get-word.ensures c.if-cpu.false in
-      let passes = refusal_passes c.refusal.result v.0 (returnable m.course.job (top t.frames).identity v.0) c.in-None.is (c.refusal.ensures x plan s m t o h runs v.0 v.1) in
+      let passes = refusal_passes c.refusal.result v.0 (returnable m.progress.job (top t.frames).identity v.0) c.in-None.is (c.refusal.ensures x plan s m t o h runs v.0 v.1) in
       let free = sym (c.is_critical.ensures x plan s m t o h runs) ∙ c.if-is_critical.false in
       let M = c.top_mark-mark.result in
       let a = leaver x cpu plan s m t o h runs M is n v.0 c.get-word.result v.1 passes free c.if-mark-eq0.false in
       let b = with_its_word x cpu plan s m t o h runs M is n v.0 c.get-word.result v.1 passes free c.if-mark-eq0.false in
-      let top_is = c.top_mark-mark.ensures x (picture plan s.jobs) (on_top x cpu plan s m t o h runs a ∷ under x cpu plan s m t o h runs a) h.holds.memory (on_stack x cpu plan s m t o h runs a) in
+      let top_is = c.top_mark-mark.ensures x (machine_view plan s.jobs) (on_top x cpu plan s m t o h runs a ∷ under x cpu plan s m t o h runs a) h.holds.memory (on_stack x cpu plan s m t o h runs a) in
       let regs_is = c.caller-regs.ensures (may_return x cpu plan s m t o h runs a) top_is in
       let once : (a.back.value ≡ false) ⊎ IsOperand v.0 = elim c.else-mark.branch [
         | else-mark-via-then-mark+else-tag-ne0 w ↦ inr (operand_is x cpu plan s m t o h runs v.0 c.get-word.result v.1 (sym w.tag.ensures.value ∙ w.if-tag-ne0.false))
@@ -294,15 +294,15 @@ returns c = record {
       let h = r.stands in
       let runs = r.running in
       (let cpu = c.args.cpu.now in
-      let is = c.top_mark-mark.ensures x (picture plan s.jobs) (stack_of_task plan m.setting.number m.course.job plan.running t) h.holds.memory (runs_here x cpu plan s m t h runs) in
+      let is = c.top_mark-mark.ensures x (machine_view plan s.jobs) (stack_of_task plan m.constants.number m.progress.job plan.running t) h.holds.memory (runs_here x cpu plan s m t h runs) in
       let n = not-false _ c.if-not-mark.false in
       let v = word_at x cpu plan s m t o h runs c.top_mark-mark.result is n c.get-word.result c.get-word.ensures c.if-cpu.false in
-      let passes = refusal_passes c.refusal.result v.0 (returnable m.course.job (top t.frames).identity v.0) c.in-None.is (c.refusal.ensures x plan s m t o h runs v.0 v.1) in
+      let passes = refusal_passes c.refusal.result v.0 (returnable m.progress.job (top t.frames).identity v.0) c.in-None.is (c.refusal.ensures x plan s m t o h runs v.0 v.1) in
       let free = sym (c.is_critical.ensures x plan s m t o h runs) ∙ c.if-is_critical.false in
       let M = c.top_mark-mark.result in
       let a = leaver x cpu plan s m t o h runs M is n v.0 c.get-word.result v.1 passes free c.if-mark-eq0.false in
       let b = with_its_word x cpu plan s m t o h runs M is n v.0 c.get-word.result v.1 passes free c.if-mark-eq0.false in
-      let top_is = c.top_mark-mark.ensures x (picture plan s.jobs) (on_top x cpu plan s m t o h runs a ∷ under x cpu plan s m t o h runs a) h.holds.memory (on_stack x cpu plan s m t o h runs a) in
+      let top_is = c.top_mark-mark.ensures x (machine_view plan s.jobs) (on_top x cpu plan s m t o h runs a ∷ under x cpu plan s m t o h runs a) h.holds.memory (on_stack x cpu plan s m t o h runs a) in
       let regs_is = c.caller-regs.ensures (may_return x cpu plan s m t o h runs a) top_is in
       let k : c.put.new.cpu.regs.s ≡ c.caller-regs.result.s + 1 = ap (λ (v : Cpu). v.regs.s) c.put.ensures in
       let z = ap (λ (v : Regs). v.s) regs_is in

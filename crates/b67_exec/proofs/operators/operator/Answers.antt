@@ -7,13 +7,13 @@ pub perform-requires-clause-parameters : goal.perform-requires-clause-parameters
 perform-requires-clause-parameters c =
     let q = c.requires in
     let r = c.in-Some.ensures q.storage q.plan q.session q.member q.task q.ordered q.stands q.running in
-    (read_fits q.member.setting q.task c.in-Ok.op c.in-Ok.next (running_in_order q.plan q.session q.member q.task q.ordered q.running).0.unchanging (sym c.in-Ok.is ∙ r.2)).0
+    (read_fits q.member.constants q.task c.in-Ok.op c.in-Ok.next (running_in_order q.plan q.session q.member q.task q.ordered q.running).0.unchanging (sym c.in-Ok.is ∙ r.2)).0
 
 pub perform-requires-clause-next : goal.perform-requires-clause-next
 perform-requires-clause-next c =
     let q = c.requires in
     let r = c.in-Some.ensures q.storage q.plan q.session q.member q.task q.ordered q.stands q.running in
-    (read_fits q.member.setting q.task c.in-Ok.op c.in-Ok.next (running_in_order q.plan q.session q.member q.task q.ordered q.running).0.unchanging (sym c.in-Ok.is ∙ r.2)).1
+    (read_fits q.member.constants q.task c.in-Ok.op c.in-Ok.next (running_in_order q.plan q.session q.member q.task q.ordered q.running).0.unchanging (sym c.in-Ok.is ∙ r.2)).1
 
 pub returns-in-Ok : goal.returns-in-Ok
 returns-in-Ok c = record {

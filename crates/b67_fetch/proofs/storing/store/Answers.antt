@@ -106,7 +106,7 @@ returns-in-Err-element_at c = record {
       let a = here_scene x old plan s m t o h runs in
       let met = c.chase.ensures a q (here_shown x old plan s m t o h runs) f.at f.owner w (followed_stands x old plan s m t o h runs p.0 w f) in
       let M : Result End Fault → Type 0 = λ r. EndMeets a q r (follow (here m t q) w) in
-      let E : Result ℕ Step → Type 0 = λ r. (n : ℕ) → c.in-Element.original ≡ plan.home m.setting.number n → HasElement m.course.job n c.in-Element.index → ElementAt x plan m n c.in-Element.original c.in-Element.index r in
+      let E : Result ℕ Step → Type 0 = λ r. (n : ℕ) → c.in-Element.original ≡ plan.home m.constants.number n → HasElement m.progress.job n c.in-Element.index → ElementAt x plan m n c.in-Element.original c.in-Element.index r in
       followed_end x old plan s m t o h runs q c.args.keeps p g c.in-Err-element_at.step old op.0 op.1
       (element_not x old plan s m t o h runs q c.args.keeps g.first g.second g.rest g.is c.in-Ok.ensures.above op.0 op.1 c.in-Element.original c.in-Element.index c.in-Err-element_at.step old refl (subst M (c.in-Ok-chase.is ∙ ap Ok c.in-Element.is) met)
       (subst E c.in-Err-element_at.is (c.element_at.ensures x plan s m t o h runs)));
@@ -172,7 +172,7 @@ put-requires-clause-at c =
     elim c.match-end.branch [
       | in-Cell k ↦ let low = cell_inside x old plan s m t o h runs q c.args.keeps k.in-Cell.at (follow (here m t q) w) (subst M (c.in-Ok-chase.is ∙ ap Ok k.in-Cell.is) met) in omega (arith, low, k.at-is)
       | in-Element+in-Ok-element_at k ↦
-          let E : Result ℕ Step → Type 0 = λ r. (n : ℕ) → k.in-Element.original ≡ plan.home m.setting.number n → HasElement m.course.job n k.in-Element.index → ElementAt x plan m n k.in-Element.original k.in-Element.index r in
+          let E : Result ℕ Step → Type 0 = λ r. (n : ℕ) → k.in-Element.original ≡ plan.home m.constants.number n → HasElement m.progress.job n k.in-Element.index → ElementAt x plan m n k.in-Element.original k.in-Element.index r in
           let low = element_inside x old plan s m t o h runs q c.args.keeps k.in-Element.original k.in-Element.index k.in-Ok-element_at.at (follow (here m t q) w) (subst M (c.in-Ok-chase.is ∙ ap Ok k.in-Element.is) met) (subst E k.in-Ok-element_at.is (k.element_at.ensures x plan s m t o h runs)) in
           omega (arith, low, k.at-is)
     ]
@@ -202,7 +202,7 @@ returns c = record {
       (elim c.match-end.branch [
         | in-Cell k ↦ back k.in-Cell.at k.at-is (cell_done x old plan s m t o h runs q c.args.keeps g.first g.second g.rest g.is c.in-Ok.ensures.above op.0 op.1 k.in-Cell.at (subst M (c.in-Ok-chase.is ∙ ap Ok k.in-Cell.is) met))
         | in-Element+in-Ok-element_at k ↦
-            let E : Result ℕ Step → Type 0 = λ r. (n : ℕ) → k.in-Element.original ≡ plan.home m.setting.number n → HasElement m.course.job n k.in-Element.index → ElementAt x plan m n k.in-Element.original k.in-Element.index r in
+            let E : Result ℕ Step → Type 0 = λ r. (n : ℕ) → k.in-Element.original ≡ plan.home m.constants.number n → HasElement m.progress.job n k.in-Element.index → ElementAt x plan m n k.in-Element.original k.in-Element.index r in
             back k.in-Ok-element_at.at k.at-is (element_done x old plan s m t o h runs q c.args.keeps g.first g.second g.rest g.is c.in-Ok.ensures.above op.0 op.1 k.in-Element.original k.in-Element.index k.in-Ok-element_at.at
             (subst M (c.in-Ok-chase.is ∙ ap Ok k.in-Element.is) met) (subst E k.in-Ok-element_at.is (k.element_at.ensures x plan s m t o h runs)))
       ]);

@@ -1,6 +1,6 @@
 use Rattle.std.proofs.Common.{◌≡◌, ◌≤◌, length, map, drop}
 use Rattle.b67_word.specs.Tagged.{contents}
-use Rattle.b67_load.specs.Things.{rows_from}
+use Rattle.b67_load.specs.Objects.{rows_from}
 use Rattle.b67_load.proofs.Writing.{Going}
 use Rattle.b67_load.proofs.installing.install_rows.Given as goal
 

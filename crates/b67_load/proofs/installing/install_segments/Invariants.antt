@@ -1,6 +1,6 @@
 use Rattle.std.proofs.Common.{◌≡◌, ◌≤◌, length, map, drop}
 use Rattle.b67_codefile.specs.Meaning.{segment_of}
-use Rattle.b67_load.specs.Things.{code_from}
+use Rattle.b67_load.specs.Objects.{code_from}
 use Rattle.b67_load.proofs.Writing.{Going}
 use Rattle.b67_load.proofs.installing.install_segments.Given as goal
 

@@ -8,7 +8,7 @@ use Rattle.b67_layout.specs.Meets.{with_job}
 use Rattle.b67_mcp_calls.specs.Reads.{job_read}
 use Rattle.b67_task_tables.specs.declared.tables.Machine.{Machine}
 use Rattle.b67_task_tables.specs.declared.tables.Tasks.{Tasks}
-use Rattle.b67_task_tables.specs.Tables.{MachineStands}
+use Rattle.b67_task_tables.specs.Tables.{MachineRepresents}
 use Rattle.b67_task_switch.proofs.Lists.{at_has}
 use Rattle.b67_mcp.proofs.Callings.{calling, reads_of, call_some}
 use Rattle.b67_mcp.proofs.Cut.{one_behind}
@@ -38,7 +38,7 @@ take_number-requires c =
       j.row,
       ap (λ (n : ℕ). slice_get tasks.jobs (n - 1)) e ∙ j.at,
       record { some = call_some c.args.machine.now 11 q; shows = j.shows },
-      c.requires.countable j.row (at_has tasks.jobs (q.member.setting.number - 1) j.row j.at),
+      c.requires.countable j.row (at_has tasks.jobs (q.member.constants.number - 1) j.row j.at),
     )
 
 pub returns-in-Err-clause-row : goal.returns-in-Err-clause-row
@@ -84,13 +84,13 @@ returns-clause-row c = λ x told plan s m t o h runs code called.
     let at = ap (λ (n : ℕ). slice_get old.tasks.jobs (n - 1)) ej ∙ j.at in
     let did = c.in-Ok.ensures.takes j.row at in
     let meets = did.takes x plan s m t o h.session runs k.reference k.arguments k.call j.shows in
-    let taken = read_from m.course.job.numbers in
+    let taken = read_from m.progress.job.numbers in
     let q = c.next_place-next.result in
     let same = one_behind m t q k.next (c.next_place-next.ensures.behind x told plan s m t o h runs code) (Plain Entr, k.reading) in
     let session = c.answer_call.ensures.stands x plan s m t o h.session runs taken.0 taken.1 meets.may meets.is in
     let size = same_size x x old.cpu cpu plan plan s (with_job s m (job_read m t q)) h.session session refl refl in
     let is = did.is ∙ ap (λ (n : ℕ). slice_set old.tasks.jobs (n - 1) did.new) ej in
-    let P : Place → Type 0 = λ p. MachineStands x told new plan (with_job s m (job_read m t p)) in
+    let P : Place → Type 0 = λ p. MachineRepresents x told new plan (with_job s m (job_read m t p)) in
     record {
       job = job_read m t k.next;
       is = k.is ∙ meets.makes k.next;
@@ -114,7 +114,7 @@ returns-clause-kept c =
     let at = ap (λ (n : ℕ). slice_get old.tasks.jobs (n - 1)) (c.running_row.ensures.job q.storage q.told q.plan q.session q.member q.task q.ordered q.stands q.running q.code) ∙ j.at in
     let did = c.in-Ok.ensures.takes j.row at in
     let meets = did.takes q.storage q.plan q.session q.member q.task q.ordered q.stands.session q.running k.reference k.arguments k.call j.shows in
-    let taken = read_from q.member.course.job.numbers in
+    let taken = read_from q.member.progress.job.numbers in
     let session = c.answer_call.ensures.stands q.storage q.plan q.session q.member q.task q.ordered q.stands.session q.running taken.0 taken.1 meets.may meets.is in
     record {
       countable = countable_read q.plan q.member q.task k.arguments old.tasks.jobs c.take_number.new.tasks.jobs (c.running_row.result.job - 1) j.row did.new (Ok c.in-Ok.number) at did.is meets;

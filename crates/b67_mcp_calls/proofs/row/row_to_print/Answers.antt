@@ -27,8 +27,8 @@ returns-then-not-desc-clause-row c = λ x plan s m t o h runs r arguments call.
       array = k.some.item;
       among = k.some.live;
       are = k.are ∙ ap (λ (i : ℕ). Row i ∷ []) (sym k.some.named);
-      home = k.home ∙ ap (plan.home m.setting.number) (sym k.some.named);
-      absent = ap (area_held x plan m.setting.number) k.some.named ∙ absent x c.args.cpu.now plan s m t o h runs k.array 0 k.some d is (not-true d.present c.if-not-desc.true);
+      home = k.home ∙ ap (plan.home m.constants.number) (sym k.some.named);
+      absent = ap (area_held x plan m.constants.number) k.some.named ∙ absent x c.args.cpu.now plan s m t o h runs k.array 0 k.some d is (not-true d.present c.if-not-desc.true);
     })
 
 pub words-requires : goal.words-requires

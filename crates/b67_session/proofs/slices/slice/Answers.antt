@@ -1,5 +1,5 @@
 use Rattle.std.proofs.Common.{◌≢◌, None, Err, inl, inr, refl, ap}
-use Rattle.b67_layout_storage.specs.Machine.{retold}
+use Rattle.b67_layout_storage.specs.Machine.{content_after}
 use Rattle.b67_layout_storage.proofs.Devices.{Served-none}
 use Rattle.b67_session_attempt.specs.Stops.{Stop}
 use Rattle.b67_session.proofs.Resuming.{open_lives, open_one, lone_not, resumes_whole, resumes_more, stops_printing}
@@ -53,7 +53,7 @@ returns-in-Err-clause-unprinted g c = λ fine zero.
 pub returns-then-not-is_at_limit-clause-again : goal.returns-then-not-is_at_limit-clause-again
 returns-then-not-is_at_limit-clause-again g c = λ goes.
     let l = open_lives (g.B.Backing.holds c.args.backing.now) c.args.machine.now c.requires.lives c.if-not-is_at_limit.ensures in
-    open_again g.K.Sink.taken (retold l.known (g.B.Backing.holds c.go_on.new.backing)) (g.B.Backing.holds c.go_on.new.backing) (l.known ≢ None) (g.B.Backing.size c.args.backing.now) c.args.n l.session c.go_on.result
+    open_again g.K.Sink.taken (content_after l.known (g.B.Backing.holds c.go_on.new.backing)) (g.B.Backing.holds c.go_on.new.backing) (l.known ≢ None) (g.B.Backing.size c.args.backing.now) c.args.n l.session c.go_on.result
     c.args.machine.now c.go_on.new.machine c.args.paper.now c.go_on.new.paper (says_retold l.known (g.B.Backing.holds c.go_on.new.backing)) goes (c.go_on.ensures.row l.known l.session l.member l.task l.says l.lone)
 
 pub returns-in-Err-clause-again : goal.returns-in-Err-clause-again

@@ -1,5 +1,5 @@
 use Rattle.std.proofs.Common.{length, Ok, Err, sym, ap, ◌∙◌, subst, inl, inr}
-use Rattle.b67_layout_storage.specs.Machine.{retold}
+use Rattle.b67_layout_storage.specs.Machine.{content_after}
 use Rattle.b67_task_tables.specs.declared.tables.Tasks.{Tasks}
 use Rattle.b67_session_attempt.specs.Passed.{AreCountable}
 use Rattle.b67_session_attempt.specs.Stops.{Stop}
@@ -39,39 +39,39 @@ pub advance-requires-clause-room : goal.advance-requires-clause-room
 advance-requires-clause-room g c =
     let l = c.requires.lives in
     let h = l.lone in
-    let a : Attempted g.K.Sink.taken l.known (retold l.known (g.B.Backing.holds c.attempt.new.backing)) (length c.give_turn.new.machine.cpu.core) (g.B.Backing.size c.args.backing.now) c.give_turn.new.machine.tasks.printed l.session c.in-Some.chosen (Ok (attempts.Made)) c.attempt.new.machine c.args.paper.now c.attempt.new.paper = rw c.in-Ok-Made.field-0-is at
+    let a : Attempted g.K.Sink.taken l.known (content_after l.known (g.B.Backing.holds c.attempt.new.backing)) (length c.give_turn.new.machine.cpu.core) (g.B.Backing.size c.args.backing.now) c.give_turn.new.machine.tasks.printed l.session c.in-Some.chosen (Ok (attempts.Made)) c.attempt.new.machine c.args.paper.now c.attempt.new.paper = rw c.in-Ok-Made.field-0-is at
     (attempted_here g.K.Sink.taken l.known (g.B.Backing.holds c.args.backing.now) (g.B.Backing.holds c.attempt.new.backing) (length c.give_turn.new.machine.cpu.core) (g.B.Backing.size c.args.backing.now) c.args.machine.now c.give_turn.new.machine c.attempt.new.machine l.session l.member l.task h c.in-Some.chosen (c.in-Some.ensures.choice h.plan l.session h.ordered h.stands.tables) c.give_turn.ensures.stands (c.in-Some.ensures.room h.plan l.session h.ordered h.stands.tables) l.says (Ok c.in-Ok-Made.field-0) c.args.paper.now c.attempt.new.paper c.in-Ok-Made.ensures.row) in
-    made_room g.K.Sink.taken l.known (retold l.known (g.B.Backing.holds c.attempt.new.backing)) (length c.give_turn.new.machine.cpu.core) (g.B.Backing.size c.args.backing.now) c.give_turn.new.machine.tasks.printed l.session c.in-Some.chosen c.attempt.new.machine c.args.paper.now c.attempt.new.paper a
+    made_room g.K.Sink.taken l.known (content_after l.known (g.B.Backing.holds c.attempt.new.backing)) (length c.give_turn.new.machine.cpu.core) (g.B.Backing.size c.args.backing.now) c.give_turn.new.machine.tasks.printed l.session c.in-Some.chosen c.attempt.new.machine c.args.paper.now c.attempt.new.paper a
 
 pub advance-requires-clause-one : goal.advance-requires-clause-one
 advance-requires-clause-one g c =
     let l = c.requires.lives in
     let h = l.lone in
-    let a : Attempted g.K.Sink.taken l.known (retold l.known (g.B.Backing.holds c.attempt.new.backing)) (length c.give_turn.new.machine.cpu.core) (g.B.Backing.size c.args.backing.now) c.give_turn.new.machine.tasks.printed l.session c.in-Some.chosen (Ok (attempts.Made)) c.attempt.new.machine c.args.paper.now c.attempt.new.paper = rw c.in-Ok-Made.field-0-is at
+    let a : Attempted g.K.Sink.taken l.known (content_after l.known (g.B.Backing.holds c.attempt.new.backing)) (length c.give_turn.new.machine.cpu.core) (g.B.Backing.size c.args.backing.now) c.give_turn.new.machine.tasks.printed l.session c.in-Some.chosen (Ok (attempts.Made)) c.attempt.new.machine c.args.paper.now c.attempt.new.paper = rw c.in-Ok-Made.field-0-is at
     (attempted_here g.K.Sink.taken l.known (g.B.Backing.holds c.args.backing.now) (g.B.Backing.holds c.attempt.new.backing) (length c.give_turn.new.machine.cpu.core) (g.B.Backing.size c.args.backing.now) c.args.machine.now c.give_turn.new.machine c.attempt.new.machine l.session l.member l.task h c.in-Some.chosen (c.in-Some.ensures.choice h.plan l.session h.ordered h.stands.tables) c.give_turn.ensures.stands (c.in-Some.ensures.room h.plan l.session h.ordered h.stands.tables) l.says (Ok c.in-Ok-Made.field-0) c.args.paper.now c.attempt.new.paper c.in-Ok-Made.ensures.row) in
-    has_one g.K.Sink.taken l.known (retold l.known (g.B.Backing.holds c.attempt.new.backing)) (length c.give_turn.new.machine.cpu.core) (g.B.Backing.size c.args.backing.now) c.give_turn.new.machine.tasks.printed l.session c.in-Some.chosen c.attempt.new.machine c.args.paper.now c.attempt.new.paper a
+    has_one g.K.Sink.taken l.known (content_after l.known (g.B.Backing.holds c.attempt.new.backing)) (length c.give_turn.new.machine.cpu.core) (g.B.Backing.size c.args.backing.now) c.give_turn.new.machine.tasks.printed l.session c.in-Some.chosen c.attempt.new.machine c.args.paper.now c.attempt.new.paper a
 
 pub close-requires-clause-room : goal.close-requires-clause-room
 close-requires-clause-room g c =
     let l = c.requires.lives in
     let h = l.lone in
-    let a : Attempted g.K.Sink.taken l.known (retold l.known (g.B.Backing.holds c.attempt.new.backing)) (length c.give_turn.new.machine.cpu.core) (g.B.Backing.size c.args.backing.now) c.give_turn.new.machine.tasks.printed l.session c.in-Some.chosen (Ok (attempts.Ends c.in-Ok-Ends.ending)) c.attempt.new.machine c.args.paper.now c.attempt.new.paper = rw c.in-Ok-Ends.field-0-is at
+    let a : Attempted g.K.Sink.taken l.known (content_after l.known (g.B.Backing.holds c.attempt.new.backing)) (length c.give_turn.new.machine.cpu.core) (g.B.Backing.size c.args.backing.now) c.give_turn.new.machine.tasks.printed l.session c.in-Some.chosen (Ok (attempts.Ends c.in-Ok-Ends.ending)) c.attempt.new.machine c.args.paper.now c.attempt.new.paper = rw c.in-Ok-Ends.field-0-is at
     (attempted_here g.K.Sink.taken l.known (g.B.Backing.holds c.args.backing.now) (g.B.Backing.holds c.attempt.new.backing) (length c.give_turn.new.machine.cpu.core) (g.B.Backing.size c.args.backing.now) c.args.machine.now c.give_turn.new.machine c.attempt.new.machine l.session l.member l.task h c.in-Some.chosen (c.in-Some.ensures.choice h.plan l.session h.ordered h.stands.tables) c.give_turn.ensures.stands (c.in-Some.ensures.room h.plan l.session h.ordered h.stands.tables) l.says (Ok c.in-Ok-Ends.field-0) c.args.paper.now c.attempt.new.paper c.in-Ok-Ends.ensures.row) in
-    ends_room g.K.Sink.taken l.known (retold l.known (g.B.Backing.holds c.attempt.new.backing)) (length c.give_turn.new.machine.cpu.core) (g.B.Backing.size c.args.backing.now) c.give_turn.new.machine.tasks.printed l.session c.in-Some.chosen c.attempt.new.machine c.args.paper.now c.attempt.new.paper c.in-Ok-Ends.ending a
+    ends_room g.K.Sink.taken l.known (content_after l.known (g.B.Backing.holds c.attempt.new.backing)) (length c.give_turn.new.machine.cpu.core) (g.B.Backing.size c.args.backing.now) c.give_turn.new.machine.tasks.printed l.session c.in-Some.chosen c.attempt.new.machine c.args.paper.now c.attempt.new.paper c.in-Ok-Ends.ending a
 
 pub close-requires-clause-one : goal.close-requires-clause-one
 close-requires-clause-one g c =
     let l = c.requires.lives in
     let h = l.lone in
-    let a : Attempted g.K.Sink.taken l.known (retold l.known (g.B.Backing.holds c.attempt.new.backing)) (length c.give_turn.new.machine.cpu.core) (g.B.Backing.size c.args.backing.now) c.give_turn.new.machine.tasks.printed l.session c.in-Some.chosen (Ok (attempts.Ends c.in-Ok-Ends.ending)) c.attempt.new.machine c.args.paper.now c.attempt.new.paper = rw c.in-Ok-Ends.field-0-is at
+    let a : Attempted g.K.Sink.taken l.known (content_after l.known (g.B.Backing.holds c.attempt.new.backing)) (length c.give_turn.new.machine.cpu.core) (g.B.Backing.size c.args.backing.now) c.give_turn.new.machine.tasks.printed l.session c.in-Some.chosen (Ok (attempts.Ends c.in-Ok-Ends.ending)) c.attempt.new.machine c.args.paper.now c.attempt.new.paper = rw c.in-Ok-Ends.field-0-is at
     (attempted_here g.K.Sink.taken l.known (g.B.Backing.holds c.args.backing.now) (g.B.Backing.holds c.attempt.new.backing) (length c.give_turn.new.machine.cpu.core) (g.B.Backing.size c.args.backing.now) c.args.machine.now c.give_turn.new.machine c.attempt.new.machine l.session l.member l.task h c.in-Some.chosen (c.in-Some.ensures.choice h.plan l.session h.ordered h.stands.tables) c.give_turn.ensures.stands (c.in-Some.ensures.room h.plan l.session h.ordered h.stands.tables) l.says (Ok c.in-Ok-Ends.field-0) c.args.paper.now c.attempt.new.paper c.in-Ok-Ends.ensures.row) in
-    ends_one g.K.Sink.taken l.known (retold l.known (g.B.Backing.holds c.attempt.new.backing)) (length c.give_turn.new.machine.cpu.core) (g.B.Backing.size c.args.backing.now) c.give_turn.new.machine.tasks.printed l.session c.in-Some.chosen c.attempt.new.machine c.args.paper.now c.attempt.new.paper c.in-Ok-Ends.ending a
+    ends_one g.K.Sink.taken l.known (content_after l.known (g.B.Backing.holds c.attempt.new.backing)) (length c.give_turn.new.machine.cpu.core) (g.B.Backing.size c.args.backing.now) c.give_turn.new.machine.tasks.printed l.session c.in-Some.chosen c.attempt.new.machine c.args.paper.now c.attempt.new.paper c.in-Ok-Ends.ending a
 
 pub returns-in-Ok-Made-clause-row : goal.returns-in-Ok-Made-clause-row
 returns-in-Ok-Made-clause-row g c = λ known s m t says h.
-    let a : Attempted g.K.Sink.taken known (retold known (g.B.Backing.holds c.attempt.new.backing)) (length c.give_turn.new.machine.cpu.core) (g.B.Backing.size c.args.backing.now) c.give_turn.new.machine.tasks.printed s c.in-Some.chosen (Ok (attempts.Made)) c.attempt.new.machine c.args.paper.now c.attempt.new.paper = rw c.in-Ok-Made.field-0-is at
+    let a : Attempted g.K.Sink.taken known (content_after known (g.B.Backing.holds c.attempt.new.backing)) (length c.give_turn.new.machine.cpu.core) (g.B.Backing.size c.args.backing.now) c.give_turn.new.machine.tasks.printed s c.in-Some.chosen (Ok (attempts.Made)) c.attempt.new.machine c.args.paper.now c.attempt.new.paper = rw c.in-Ok-Made.field-0-is at
     (attempted_here g.K.Sink.taken known (g.B.Backing.holds c.args.backing.now) (g.B.Backing.holds c.attempt.new.backing) (length c.give_turn.new.machine.cpu.core) (g.B.Backing.size c.args.backing.now) c.args.machine.now c.give_turn.new.machine c.attempt.new.machine s m t h c.in-Some.chosen (c.in-Some.ensures.choice h.plan s h.ordered h.stands.tables) c.give_turn.ensures.stands (c.in-Some.ensures.room h.plan s h.ordered h.stands.tables) says (Ok c.in-Ok-Made.field-0) c.args.paper.now c.attempt.new.paper c.in-Ok-Made.ensures.row) in
-    made_steps g.K.Sink.taken known (retold known (g.B.Backing.holds c.attempt.new.backing)) (length c.give_turn.new.machine.cpu.core) (g.B.Backing.size c.args.backing.now) c.give_turn.new.machine.tasks.printed s c.in-Some.chosen c.attempt.new.machine c.args.paper.now c.attempt.new.paper a c.advance.result c.args.machine.now c.advance.new.machine c.advance.new.paper h.stands.tables.counts.made (sym (turned_printed c.args.machine.now.tasks c.give_turn.new.machine.tasks c.in-Some.chosen.row c.give_turn.ensures.tables)) (sym c.give_turn.ensures.len) c.advance.ensures.advances
+    made_steps g.K.Sink.taken known (content_after known (g.B.Backing.holds c.attempt.new.backing)) (length c.give_turn.new.machine.cpu.core) (g.B.Backing.size c.args.backing.now) c.give_turn.new.machine.tasks.printed s c.in-Some.chosen c.attempt.new.machine c.args.paper.now c.attempt.new.paper a c.advance.result c.args.machine.now c.advance.new.machine c.advance.new.paper h.stands.tables.counts.made (sym (turned_printed c.args.machine.now.tasks c.give_turn.new.machine.tasks c.in-Some.chosen.row c.give_turn.ensures.tables)) (sym c.give_turn.ensures.len) c.advance.ensures.advances
 
 pub returns-in-Ok-Made-clause-quiet : goal.returns-in-Ok-Made-clause-quiet
 returns-in-Ok-Made-clause-quiet g c = λ known s m t h says wants.
@@ -93,10 +93,10 @@ returns-in-Ok-Made-clause-countable g c = c.advance.ensures.countable c.attempt.
 
 pub returns-in-Ok-Ends-clause-row : goal.returns-in-Ok-Ends-clause-row
 returns-in-Ok-Ends-clause-row g c = λ known s m t says h.
-    let a : Attempted g.K.Sink.taken known (retold known (g.B.Backing.holds c.attempt.new.backing)) (length c.give_turn.new.machine.cpu.core) (g.B.Backing.size c.args.backing.now) c.give_turn.new.machine.tasks.printed s c.in-Some.chosen (Ok (attempts.Ends c.in-Ok-Ends.ending)) c.attempt.new.machine c.args.paper.now c.attempt.new.paper = rw c.in-Ok-Ends.field-0-is at
+    let a : Attempted g.K.Sink.taken known (content_after known (g.B.Backing.holds c.attempt.new.backing)) (length c.give_turn.new.machine.cpu.core) (g.B.Backing.size c.args.backing.now) c.give_turn.new.machine.tasks.printed s c.in-Some.chosen (Ok (attempts.Ends c.in-Ok-Ends.ending)) c.attempt.new.machine c.args.paper.now c.attempt.new.paper = rw c.in-Ok-Ends.field-0-is at
     (attempted_here g.K.Sink.taken known (g.B.Backing.holds c.args.backing.now) (g.B.Backing.holds c.attempt.new.backing) (length c.give_turn.new.machine.cpu.core) (g.B.Backing.size c.args.backing.now) c.args.machine.now c.give_turn.new.machine c.attempt.new.machine s m t h c.in-Some.chosen (c.in-Some.ensures.choice h.plan s h.ordered h.stands.tables) c.give_turn.ensures.stands (c.in-Some.ensures.room h.plan s h.ordered h.stands.tables) says (Ok c.in-Ok-Ends.field-0) c.args.paper.now c.attempt.new.paper c.in-Ok-Ends.ensures.row) in
     let printed = turned_printed c.args.machine.now.tasks c.give_turn.new.machine.tasks c.in-Some.chosen.row c.give_turn.ensures.tables in
-    ends_steps g.K.Sink.taken known (retold known (g.B.Backing.holds c.attempt.new.backing)) (length c.give_turn.new.machine.cpu.core) (g.B.Backing.size c.args.backing.now) c.give_turn.new.machine.tasks.printed s c.in-Some.chosen c.attempt.new.machine c.args.paper.now c.attempt.new.paper c.in-Ok-Ends.ending a c.close.result c.args.machine.now c.close.new.machine c.close.new.paper h.stands.tables.counts.made (sym printed) (ended_printed c.in-Ok-Ends.ending c.give_turn.new.machine.tasks c.attempt.new.machine.tasks (rw c.in-Ok-Ends.field-0-is at c.in-Ok-Ends.ensures.tables)) (sym c.give_turn.ensures.len) c.close.ensures.closes c.close.ensures.over
+    ends_steps g.K.Sink.taken known (content_after known (g.B.Backing.holds c.attempt.new.backing)) (length c.give_turn.new.machine.cpu.core) (g.B.Backing.size c.args.backing.now) c.give_turn.new.machine.tasks.printed s c.in-Some.chosen c.attempt.new.machine c.args.paper.now c.attempt.new.paper c.in-Ok-Ends.ending a c.close.result c.args.machine.now c.close.new.machine c.close.new.paper h.stands.tables.counts.made (sym printed) (ended_printed c.in-Ok-Ends.ending c.give_turn.new.machine.tasks c.attempt.new.machine.tasks (rw c.in-Ok-Ends.field-0-is at c.in-Ok-Ends.ensures.tables)) (sym c.give_turn.ensures.len) c.close.ensures.closes c.close.ensures.over
 
 pub returns-in-Ok-Ends-clause-quiet : goal.returns-in-Ok-Ends-clause-quiet
 returns-in-Ok-Ends-clause-quiet g c = λ known s m t h says wants.
@@ -115,10 +115,10 @@ returns-in-Ok-Ends-clause-countable g c = c.close.ensures.countable c.attempt.en
 
 pub returns-in-Err-clause-row : goal.returns-in-Err-clause-row
 returns-in-Err-clause-row g c = λ known s m t says h.
-    let a : Attempted g.K.Sink.taken known (retold known (g.B.Backing.holds c.attempt.new.backing)) (length c.give_turn.new.machine.cpu.core) (g.B.Backing.size c.args.backing.now) c.give_turn.new.machine.tasks.printed s c.in-Some.chosen (Err c.in-Err.stop) c.attempt.new.machine c.args.paper.now c.attempt.new.paper =
+    let a : Attempted g.K.Sink.taken known (content_after known (g.B.Backing.holds c.attempt.new.backing)) (length c.give_turn.new.machine.cpu.core) (g.B.Backing.size c.args.backing.now) c.give_turn.new.machine.tasks.printed s c.in-Some.chosen (Err c.in-Err.stop) c.attempt.new.machine c.args.paper.now c.attempt.new.paper =
     attempted_here g.K.Sink.taken known (g.B.Backing.holds c.args.backing.now) (g.B.Backing.holds c.attempt.new.backing) (length c.give_turn.new.machine.cpu.core) (g.B.Backing.size c.args.backing.now) c.args.machine.now c.give_turn.new.machine c.attempt.new.machine s m t h c.in-Some.chosen (c.in-Some.ensures.choice h.plan s h.ordered h.stands.tables) c.give_turn.ensures.stands (c.in-Some.ensures.room h.plan s h.ordered h.stands.tables) says (Err c.in-Err.stop) c.args.paper.now c.attempt.new.paper c.in-Err.ensures.row in
     let printed = turned_printed c.args.machine.now.tasks c.give_turn.new.machine.tasks c.in-Some.chosen.row c.give_turn.ensures.tables in
-    stop_steps g.K.Sink.taken known (retold known (g.B.Backing.holds c.attempt.new.backing)) (length c.give_turn.new.machine.cpu.core) (g.B.Backing.size c.args.backing.now) c.give_turn.new.machine.tasks.printed s c.in-Some.chosen c.attempt.new.machine c.args.paper.now c.attempt.new.paper c.in-Err.stop a c.args.machine.now h.stands.tables.counts.made (sym printed) (sym c.give_turn.ensures.len) (λ other. stop_printed c.in-Err.stop c.give_turn.new.machine.tasks c.attempt.new.machine.tasks c.in-Err.ensures.tables other ∙ printed)
+    stop_steps g.K.Sink.taken known (content_after known (g.B.Backing.holds c.attempt.new.backing)) (length c.give_turn.new.machine.cpu.core) (g.B.Backing.size c.args.backing.now) c.give_turn.new.machine.tasks.printed s c.in-Some.chosen c.attempt.new.machine c.args.paper.now c.attempt.new.paper c.in-Err.stop a c.args.machine.now h.stands.tables.counts.made (sym printed) (sym c.give_turn.ensures.len) (λ other. stop_printed c.in-Err.stop c.give_turn.new.machine.tasks c.attempt.new.machine.tasks c.in-Err.ensures.tables other ∙ printed)
 
 pub returns-in-Err-clause-quiet : goal.returns-in-Err-clause-quiet
 returns-in-Err-clause-quiet g c = λ known s m t h says wants.

@@ -1,5 +1,5 @@
 use Rattle.std.proofs.Common.{◌≡◌, ◌∙◌, Err, Ok, refl, sym, ap, length}
-use Rattle.b67_layout_storage.specs.Machine.{retold}
+use Rattle.b67_layout_storage.specs.Machine.{content_after}
 use Rattle.b67_layout_storage.proofs.Devices.{still_tells}
 use Rattle.b67_task_tables.specs.declared.tables.Machine.{Machine}
 use Rattle.b67_task_tables.specs.declared.tables.Tasks.{Tasks}
@@ -29,7 +29,7 @@ returns-in-Ok-Made-clause-row g c = λ x plan s m t o h runs ready.
     let told = g.B.Backing.holds c.args.backing.now in
     let core = length c.args.machine.now.cpu.core in
     let count = g.B.Backing.size c.args.backing.now in
-    attempt_as g.K.Sink.taken x x.device (retold x.device told) core core count count c.args.machine.now.tasks.printed c.args.machine.now.tasks.printed plan s t (Ok Made) c.try_once.new.machine c.args.paper.now c.args.paper.now c.try_once.new.paper (sym (told_is x.device told h.says)) refl refl refl refl
+    attempt_as g.K.Sink.taken x x.device (content_after x.device told) core core count count c.args.machine.now.tasks.printed c.args.machine.now.tasks.printed plan s t (Ok Made) c.try_once.new.machine c.args.paper.now c.args.paper.now c.try_once.new.paper (sym (told_is x.device told h.says)) refl refl refl refl
     (made_once g.K.Sink.taken x core count plan s m t o runs c.args.machine.now c.try_once.new.machine h.stands c.args.paper.now c.try_once.new.paper
     ((rw c.in-Ok-Made.field-0-is at c.in-Ok-Made.ensures.row) x x.device plan s m t o h.stands runs ready))
 
@@ -38,7 +38,7 @@ returns-in-Ok-Ends-clause-row g c = λ x plan s m t o h runs ready.
     let told = g.B.Backing.holds c.args.backing.now in
     let core = length c.args.machine.now.cpu.core in
     let count = g.B.Backing.size c.args.backing.now in
-    attempt_as g.K.Sink.taken x x.device (retold x.device told) core core count count c.args.machine.now.tasks.printed c.args.machine.now.tasks.printed plan s t (Ok (Ends c.in-Ok-Ends.ending)) c.try_once.new.machine c.args.paper.now c.args.paper.now c.try_once.new.paper (sym (told_is x.device told h.says)) refl refl refl refl
+    attempt_as g.K.Sink.taken x x.device (content_after x.device told) core core count count c.args.machine.now.tasks.printed c.args.machine.now.tasks.printed plan s t (Ok (Ends c.in-Ok-Ends.ending)) c.try_once.new.machine c.args.paper.now c.args.paper.now c.try_once.new.paper (sym (told_is x.device told h.says)) refl refl refl refl
     (ends_once g.K.Sink.taken x core count plan s m t o runs c.args.machine.now c.try_once.new.machine h.stands c.args.paper.now c.try_once.new.paper c.in-Ok-Ends.ending
     ((rw c.in-Ok-Ends.field-0-is at c.in-Ok-Ends.ensures.row) x x.device plan s m t o h.stands runs ready))
 
@@ -47,7 +47,7 @@ returns-in-Err-clause-row g c = λ x plan s m t o h runs ready.
     let told = g.B.Backing.holds c.args.backing.now in
     let core = length c.args.machine.now.cpu.core in
     let count = g.B.Backing.size c.args.backing.now in
-    attempt_as g.K.Sink.taken x x.device (retold x.device told) core core count count c.args.machine.now.tasks.printed c.args.machine.now.tasks.printed plan s t (Err c.in-Err.stop) c.try_once.new.machine c.args.paper.now c.args.paper.now c.try_once.new.paper (sym (told_is x.device told h.says)) refl refl refl refl
+    attempt_as g.K.Sink.taken x x.device (content_after x.device told) core core count count c.args.machine.now.tasks.printed c.args.machine.now.tasks.printed plan s t (Err c.in-Err.stop) c.try_once.new.machine c.args.paper.now c.args.paper.now c.try_once.new.paper (sym (told_is x.device told h.says)) refl refl refl refl
     (stops_once g.K.Sink.taken x core count plan s m t o runs c.args.machine.now c.try_once.new.machine h.stands c.args.paper.now c.try_once.new.paper c.in-Err.stop
     (c.in-Err.ensures.row x x.device plan s m t o h.stands runs ready))
 
@@ -66,9 +66,9 @@ returns-in-Err-bring_wanted-clause-row g c = λ x plan s m t o h runs ready.
     let w = (rw c.in-Ok-Absent.field-0-is at c.in-Ok-Absent.ensures.row) x x.device plan s m t o h.stands runs ready in
     let k = unchanged_over x told plan s c.args.machine.now c.try_once.new.machine w.3 h in
     let stop = c.in-Err-bring_wanted.stop in
-    attempt_as g.K.Sink.taken x (retold x.device told') (retold x.device told') (length c.try_once.new.machine.cpu.core) (length c.args.machine.now.cpu.core) (g.B.Backing.size c.args.backing.now) (g.B.Backing.size c.args.backing.now) c.args.machine.now.tasks.printed c.args.machine.now.tasks.printed plan s t (Err stop) c.bring_wanted.new.machine
+    attempt_as g.K.Sink.taken x (content_after x.device told') (content_after x.device told') (length c.try_once.new.machine.cpu.core) (length c.args.machine.now.cpu.core) (g.B.Backing.size c.args.backing.now) (g.B.Backing.size c.args.backing.now) c.args.machine.now.tasks.printed c.args.machine.now.tasks.printed plan s t (Err stop) c.bring_wanted.new.machine
     c.args.paper.now c.try_once.new.paper c.try_once.new.paper refl (ap (λ (z : Machine). length z.cpu.core) w.3) refl refl w.4
-    (stopped_attempt g.K.Sink.taken x (retold x.device told') (length c.try_once.new.machine.cpu.core) (g.B.Backing.size c.args.backing.now) c.args.machine.now.tasks.printed plan s t stop c.bring_wanted.new.machine c.try_once.new.paper
+    (stopped_attempt g.K.Sink.taken x (content_after x.device told') (length c.try_once.new.machine.cpu.core) (g.B.Backing.size c.args.backing.now) c.args.machine.now.tasks.printed plan s t stop c.bring_wanted.new.machine c.try_once.new.paper
     (c.in-Err-bring_wanted.ensures.row x plan s m t w.0 o k runs w.1 w.2))
 
 pub returns-in-Ok-clause-row : goal.returns-in-Ok-clause-row

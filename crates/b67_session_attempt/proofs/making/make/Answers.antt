@@ -8,13 +8,13 @@ pub operate-requires-clause-parameters : goal.operate-requires-clause-parameters
 operate-requires-clause-parameters c =
     let q = c.requires.runs in
     let r = c.in-Some.ensures q.storage q.plan q.session q.member q.task q.ordered q.stands.session q.running in
-    (read_fits q.member.setting q.task c.in-Ok.op c.in-Ok.next (running_in_order q.plan q.session q.member q.task q.ordered q.running).0.unchanging (sym c.in-Ok.is ∙ r.2)).0
+    (read_fits q.member.constants q.task c.in-Ok.op c.in-Ok.next (running_in_order q.plan q.session q.member q.task q.ordered q.running).0.unchanging (sym c.in-Ok.is ∙ r.2)).0
 
 pub operate-requires-clause-next : goal.operate-requires-clause-next
 operate-requires-clause-next c =
     let q = c.requires.runs in
     let r = c.in-Some.ensures q.storage q.plan q.session q.member q.task q.ordered q.stands.session q.running in
-    (read_fits q.member.setting q.task c.in-Ok.op c.in-Ok.next (running_in_order q.plan q.session q.member q.task q.ordered q.running).0.unchanging (sym c.in-Ok.is ∙ r.2)).1
+    (read_fits q.member.constants q.task c.in-Ok.op c.in-Ok.next (running_in_order q.plan q.session q.member q.task q.ordered q.running).0.unchanging (sym c.in-Ok.is ∙ r.2)).1
 
 pub returns-in-Ok-clause-row : goal.returns-in-Ok-clause-row
 returns-in-Ok-clause-row c = λ x told plan s m t o h runs ready.

@@ -1,19 +1,19 @@
 use Rattle.std.proofs.Common.{◌∙◌, ◌≡◌, ℕ, List, length, Option, Err, sym, subst, refl}
 use Rattle.b67_model.specs.Schedule.{Session}
 use Rattle.b67_stack.specs.declared.Step.TheVariants as answers
-use Rattle.b67_stack.specs.Stands.{Storage}
-use Rattle.b67_layout.specs.Plan.{Plan}
+use Rattle.b67_stack.specs.Represents.{Storage}
+use Rattle.b67_layout.specs.Placement.{Placement}
 use Rattle.b67_exec_cells.specs.Running.{code_area}
 use Rattle.b67_task_tables.specs.declared.tables.Machine.{Machine}
-use Rattle.b67_task_tables.specs.Tables.{MachineStands}
+use Rattle.b67_task_tables.specs.Tables.{MachineRepresents}
 use Rattle.b67_session_attempt.specs.Tries.{TryFits}
 use Rattle.b67_session_attempt.proofs.Trying.{wants_array, was_made, was_built, was_fault, was_ended, was_call, was_absent, called_made, called_so, stops_so}
 use Rattle.b67_session_attempt.proofs.AttemptFits.{was_operator, fault_touches, leaves_touches, made_touches, operator_fits, call_fits, fault_fits, stop_fits}
 use Rattle.b67_session_attempt.proofs.tries.try_once.Goals as goal
 
 -- the machine after an operator that calls an intrinsic
-stays : (x : Storage) (told : Option (List (List ℕ))) (plan : Plan) (s : Session) (old new : Machine) → new ≡ old → MachineStands x told old plan s → MachineStands x told new plan s
-stays x told plan s old new same h = let P : Machine → Type 0 = λ k. MachineStands x told k plan s in subst P (sym same) h
+stays : (x : Storage) (told : Option (List (List ℕ))) (plan : Placement) (s : Session) (old new : Machine) → new ≡ old → MachineRepresents x told old plan s → MachineRepresents x told new plan s
+stays x told plan s old new same h = let P : Machine → Type 0 = λ k. MachineRepresents x told k plan s in subst P (sym same) h
 
 pub intrinsic-requires-clause-calls : goal.intrinsic-requires-clause-calls
 intrinsic-requires-clause-calls g c =

@@ -1,5 +1,5 @@
 use Rattle.std.proofs.Common.{◌∙◌, ℕ, sym, subst, map}
-use Rattle.b67_layout.specs.Session.{SessionStands}
+use Rattle.b67_layout.specs.Session.{RepresentsSession}
 use Rattle.b67_layout.specs.Rows.{TablesShow}
 use Rattle.b67_task_switch.specs.Turns.{with_running}
 use Rattle.b67_task_tables.specs.Tables.{task_row, job_row, counts_of}
@@ -33,7 +33,7 @@ returns-clause-stands c = λ x told plan s r o stands at.
     let (n, at_new) = there c.pause.new.tasks.rows.items c.args.row inside in
     let same = slot_same c.args.machine.now.tasks.rows.items c.pause.new.tasks.rows.items c.args.row r n c.pause.ensures.slots at at_new in
     record {
-      session = subst (λ (i : ℕ). SessionStands x c.switch_to.new.cpu (with_running plan i) s) (c.turn_of-turn.ensures.slot n at_new ∙ same) (c.switch_to.ensures.stands x plan s m t o stands.session (turn_out plan 255 s m t c.turn_of-turn.result turn));
+      session = subst (λ (i : ℕ). RepresentsSession x c.switch_to.new.cpu (with_running plan i) s) (c.turn_of-turn.ensures.slot n at_new ∙ same) (c.switch_to.ensures.stands x plan s m t o stands.session (turn_out plan 255 s m t c.turn_of-turn.result turn));
       storage = record { low = stands.storage.low; size = stands.storage.size ∙ sym c.switch_to.ensures.len; shelf = stands.storage.shelf; device = stands.storage.device };
       tables = subst (λ (i : ℕ). TablesShow (with_running plan i) s (map task_row c.pause.new.tasks.rows.items) (map job_row c.pause.new.tasks.jobs) (record (counts_of c.pause.new.tasks) { running = c.args.row })) same
           (in_use_again c.pause.new.tasks plan s rests c.args.row n at_new c.turn_of-turn.ensures.few);

@@ -3,13 +3,13 @@ use Rattle.std.specs.Prelude.{◌≡◌, ◌≢◌, ℕ, ◌≤◌, ◌⊎◌, L
 use Rattle.b67_area.specs.declared.Info.{Info}
 use Rattle.b67_area.specs.Spans.{Span, area_at}
 use Rattle.b67_backing.specs.Held.{sectors_for}
-use Rattle.b67_stack.specs.Picture.{Thing, Picture}
-use Rattle.b67_stack.specs.Stands.{Storage}
+use Rattle.b67_stack.specs.MachineView.{PagedObject, MachineView}
+use Rattle.b67_stack.specs.Represents.{Storage}
 use Rattle.b67_layout_storage.specs.Machine.{IsPresent}
 use Rattle.b67_overlay.specs.Overlaid.{IsShort}
 
 -- areas were given back, but not the one at `spare`: what was not in core is where it was
-pub record Sheds (x y : Storage) (spare : ℕ) : Type 0 where
+pub record AreasEvicted (x y : Storage) (spare : ℕ) : Type 0 where
   pub low : y.low ≡ x.low
   pub resting : (home : ℕ) → (x.held home).area ≡ None → y.held home ≡ x.held home
   pub spared : (home : ℕ) → (x.held home).area ≡ Some spare → y.held home ≡ x.held home
@@ -23,10 +23,10 @@ Remains low spans spare (Some next) =
     ((a : Info) × (area_at low spans next ≡ Some a)) × ((at : ℕ) (a : Info) → area_at low spans at ≡ Some a → (at ≡ spare) ⊎ (next ≤ at))
 
 -- a present array that keeps no chain needs so many sectors, and no more than that are free
-pub record IsShortBy (x : Storage) (p : Picture) (wants free : ℕ) : Type 0 where
-  pub thing : Thing
+pub record IsShortBy (x : Storage) (p : MachineView) (wants free : ℕ) : Type 0 where
+  pub object : PagedObject
   pub at : ℕ
-  pub present : IsPresent x p at thing
-  pub short : IsShort x thing
-  pub wants_is : wants ≡ sectors_for (length thing.numbers)
+  pub present : IsPresent x p at object
+  pub short : IsShort x object
+  pub wants_is : wants ≡ sectors_for (length object.numbers)
   pub free_is : free ≡ length x.shelf.free

@@ -1,7 +1,7 @@
 use Rattle.std.proofs.Common.{arith}
 use Rattle.std.proofs.lemmas.Result.{on_ok_weaker}
 use Rattle.b67_load.proofs.Steps.{sectors-parts, all_written, all_spared}
-use Rattle.b67_load.proofs.installing.install_things.Goals as goal
+use Rattle.b67_load.proofs.installing.install_objects.Goals as goal
 
 pub install_segments-requires-clause-room : goal.install_segments-requires-clause-room
 install_segments-requires-clause-room g c =

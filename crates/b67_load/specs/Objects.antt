@@ -5,32 +5,32 @@ use Rattle.b67_backing.specs.Held.{sectors_for}
 use Rattle.b67_lemmas.specs.Lists.{total}
 use Rattle.b67_model.specs.State.{Segment}
 use Rattle.b67_model.specs.Program.{Program}
-use Rattle.b67_stack.specs.Picture.{Thing}
+use Rattle.b67_stack.specs.MachineView.{PagedObject}
 
 -- segments whose descriptors follow each other from an address on
-abbrev pub code_from : ℕ → List Segment → List Thing
+abbrev pub code_from : ℕ → List Segment → List PagedObject
 code_from at [] = []
 code_from at (s ∷ more) = record { home = at; kind = Code; numbers = s.code } ∷ code_from (at + 1) more
 
 -- and data rows
-abbrev pub rows_from : ℕ → List (List ℕ) → List Thing
+abbrev pub rows_from : ℕ → List (List ℕ) → List PagedObject
 rows_from at [] = []
 rows_from at (r ∷ more) = record { home = at; kind = Row; numbers = r } ∷ rows_from (at + 1) more
 
--- the things of a program whose dictionary begins at base: its segments, and then its data rows, after two words
-abbrev pub things_of : ℕ → Program → List Thing
-things_of base p = code_from (base + 2) p.segments ++ rows_from (base + (2 + length p.segments)) p.rows
+-- the objects of a program whose dictionary begins at base: its segments, and then its data rows, after two words
+abbrev pub objects_of : ℕ → Program → List PagedObject
+objects_of base p = code_from (base + 2) p.segments ++ rows_from (base + (2 + length p.segments)) p.rows
 
 -- how many entries a dictionary has
 abbrev pub entries_of : Program → ℕ
 entries_of p = length p.segments + length p.rows
 
--- the sectors of a thing, and of all
-abbrev pub sectors_of : Thing → ℕ
+-- the sectors of a object, and of all
+abbrev pub sectors_of : PagedObject → ℕ
 sectors_of t = sectors_for (length t.numbers)
 
-abbrev pub sectors_of_all : List Thing → ℕ
-sectors_of_all things = total sectors_of things
+abbrev pub sectors_of_all : List PagedObject → ℕ
+sectors_of_all objects = total sectors_of objects
 
 -- the sectors that a program takes
 abbrev pub sectors_of_program : Program → ℕ
