@@ -40,7 +40,3 @@ abbrev pub alone_lines : JobConstants → List ℕ → JobProgress → List (ℕ
 alone_lines constants [] c = []
 alone_lines constants (number ∷ more) c =
     (step_of constants c number).lines ++ alone_lines constants more (step_of constants c number).progress
-
-abbrev pub alone_states : JobConstants → List ℕ → JobProgress → List JobProgress
-alone_states constants [] c = c ∷ []
-alone_states constants (number ∷ more) c = c ∷ alone_states constants more (step_of constants c number).progress

@@ -253,9 +253,3 @@ step_by constants job task (Ok read) =
 -- the operator at the task's place
 unfoldable pub step : JobConstants → Job → Task → Answer Done
 step constants job task = step_by constants job task (reading_of constants task)
-
--- no operator takes an identity back
-abbrev pub IdentitiesGrow : Type 0
-IdentitiesGrow =
-    (op : Op) (h : OperatorContext) (after : Job) (printed : List Line) (touched : Option ℕ) →
-    row op h ≡ Ok (Goes after printed touched) → h.job.next_frame ≤ after.next_frame

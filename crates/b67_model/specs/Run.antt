@@ -1,9 +1,9 @@
 -- The run of a session: its steps, their lines, and its states.
-use Rattle.std.specs.Prelude.{ℕ, zero, suc, ◌+◌, ◌-◌, max, List, [], ◌∷◌, ◌++◌, map, length, sum_by, Option, Some, None, option_map}
+use Rattle.std.specs.Prelude.{ℕ, zero, suc, ◌+◌, ◌-◌, max, List, [], ◌∷◌, ◌++◌, map, length, sum_by, Option, Some, None}
 use Rattle.b67_model.specs.Keyed.{keyed, change_keyed}
 use Rattle.b67_model.specs.State.{SessionJob}
 use Rattle.b67_model.specs.Steps.{Line}
-use Rattle.b67_model.specs.Alone.{JobMoment, up_to_deadlock, step_of}
+use Rattle.b67_model.specs.Alone.{JobMoment, step_of}
 use Rattle.b67_model.specs.Schedule.{Switch, Session, Choice, choice}
 
 -- a line of a run, with its job's number
@@ -74,15 +74,6 @@ states_from (suc n) s (Some m) = s ∷ states_from n m.session (next m.session)
 
 abbrev pub states : ℕ → Session → List Session
 states n s = states_from n s (next s)
-
--- the state of a step before the last part of its end, in which a job may stand at its limit
-abbrev pub before_limit_by : Session → Choice → Option SessionJob → Option Session
-before_limit_by s c None = None
-before_limit_by s c (Some m) =
-    option_map (λ task. with_moment s c m (up_to_deadlock m.constants m.progress task)) (keyed (λ t. t.number) c.who.task m.progress.job.tasks)
-
-abbrev pub before_limit : Session → Choice → Option Session
-before_limit s c = before_limit_by s c (keyed number_of c.who.job s.jobs)
 
 abbrev pub start : List SessionJob → List Switch → ℕ → Session
 start jobs switches quantum = record {
