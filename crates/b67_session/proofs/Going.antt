@@ -153,7 +153,7 @@ module _ {K : Type 0} (taken : K → Option (List ℕ)) (exact : Type 0) (known 
           };
         }
 
-    pub going-over : steps + 1 ≤ n → Steps taken known' (known ≢ None) count g.session (Ok ends.EndsWithoutTasks) now new paper' paper'' → Slices taken known' exact count n first (Ok progress.Ended) old new paper paper''
+    pub going-over : steps + 1 ≤ n → Steps taken known' (known ≢ None) count g.session (Ok ends.Over) now new paper' paper'' → Slices taken known' exact count n first (Ok progress.Ended) old new paper paper''
     going-over few s =
         let (one, made, rests) = s.meets in
         let p = g.prints s.was_due (λ tells. s.was_is (up tells) ∙ ap due (s.same (up tells))) in
@@ -172,7 +172,7 @@ module _ {K : Type 0} (taken : K → Option (List ℕ)) (exact : Type 0) (known 
           meets = λ tells. rests.none;
         }
 
-    pub going-rests : Steps taken known' (known ≢ None) count g.session (Ok ends.EndsWithoutTasks) now new paper' paper'' → EndsWithoutTasks known' exact first old new
+    pub going-rests : Steps taken known' (known ≢ None) count g.session (Ok ends.Over) now new paper' paper'' → EndsWithoutTasks known' exact first old new
     going-rests s =
         let (one, made, rests) = s.meets in
         record {

@@ -76,7 +76,7 @@ fn go_on<B: Backing, K: Sink>(
         }
         match step(machine, backing, paper) {
             Ok(StepEnd::GoesOn) => {}
-            Ok(StepEnd::EndsWithoutTasks) => return Ok(Progress::Ended),
+            Ok(StepEnd::Over) => return Ok(Progress::Ended),
             Err(stop) => return Err(stop),
         }
     }
