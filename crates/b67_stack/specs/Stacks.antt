@@ -35,7 +35,7 @@ abbrev pub top_size : List Activation → ℕ
 top_size [] = 0
 top_size (a ∷ below) = size a
 
-abbrev pub high : List Activation → ℕ
+abbrev pub stack_words : List Activation → ℕ
 stack_words [] = 0
 stack_words (a ∷ below) = stack_words below + size a
 
