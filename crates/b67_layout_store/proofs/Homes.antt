@@ -37,9 +37,9 @@ module _ (x : Storage) (core : List Tagged) (plan : Placement) (j : ℕ) (job : 
   head_tail : (spot : ℕ → StackPlace) (rest : List Shape) (w : Word) (ws : List Word) (a b : ℕ) → LieDownward (Fits x.held) core from (map (shape plan j job spot) (w ∷ ws) ++ rest) → w ≡ Original a → Has ws (Original b) → plan.home j a ≡ plan.home j b → ⊥
   head_tail spot rest w ws a b l wa hb e =
       let under = map (shape plan j job spot) ws ++ rest in
-      let stack_words : Fits x.held (Shapes.Original (plan.home j a)) (from + length under) l.0.0 = subst (λ (z : Word). Fits x.held (shape plan j job spot z) (from + length under) l.0.0) wa l.0.2 in
+      let there : Fits x.held (Shapes.Original (plan.home j a)) (from + length under) l.0.0 = subst (λ (z : Word). Fits x.held (shape plan j job spot z) (from + length under) l.0.0) wa l.0.2 in
       let low = lies_at (Fits x.held) core from under (Shapes.Original (plan.home j b)) l.1 (has_append_left (map (shape plan j job spot) ws) rest (Shapes.Original (plan.home j b)) (has_map (shape plan j job spot) ws (Original b) hb)) in
-      omega (arith, stack_words.0, low.up, low.fits.0, e)
+      omega (arith, there.0, low.up, low.fits.0, e)
 
   cells_one : (spot : ℕ → StackPlace) (rest : List Shape) (ws : List Word) (a b : ℕ) → LieDownward (Fits x.held) core from (map (shape plan j job spot) ws ++ rest) → Has ws (Original a) → Has ws (Original b) → plan.home j a ≡ plan.home j b → a ≡ b
   cells_one spot rest [] a b l ha hb e = absurd ha
@@ -128,7 +128,7 @@ module _ (x : Storage) (core : List Tagged) (r : Regs) (plan : Placement) (s : S
   -- an original in a dictionary
   record InDictionary (y : SessionJob) (b : ℕ) : Type 0 where
     low : plan.dictionary y.constants.number ≤ plan.home y.constants.number b
-    stack_words : plan.home y.constants.number b < dictionary_top plan y
+    high : plan.home y.constants.number b < dictionary_top plan y
     is : plan.home y.constants.number b ≡ plan.dictionary y.constants.number + 1 + length y.constants.segments + b
 
   in_dictionary : (y : SessionJob) (b : ℕ) → Has s.jobs y → Has y.constants.dictionary.cells (Original b) → InDictionary y b

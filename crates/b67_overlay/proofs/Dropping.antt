@@ -118,7 +118,7 @@ module _ (x y : Storage) (core : List Tagged) (r : Regs) (p : MachineView) (s : 
       content = inl rests3;
       others = λ u inu m. record {
         word = low3 u.home (home_below x core r p s u inu).0 (home_below x core r p s u inu).1 m ∙ hd.homes u inu;
-        body = λ b e q low stack_words. body3 b (info_of x u) (area_of_object x core r p s u inu b e) (other_area u inu m b e) q low stack_words;
+        body = λ b e q low high. body3 b (info_of x u) (area_of_object x core r p s u inu b e) (other_area u inu m b e) q low high;
         chain = let c = o.others u inu m in record { chain = c.chain; told = c.told };
       };
       area_of = λ b i e. inr (⊎_elim

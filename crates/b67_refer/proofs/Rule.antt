@@ -296,8 +296,8 @@ module _ (core : List Tagged) (r : Regs) (a : RunningContext core r) where
     -- a cell that is there lies among the cells
     pub inside : (offset : ℕ) (w : Word) → cell (here a.member a.task q) f offset ≡ Ok w → (2 ≤ offset) × (offset < 2 + length b.frame.cells)
     inside offset w found = (
-      ⊎_elim (λ (low : offset < 2). absurd (refused (none offset (inl low)))) (λ (stack_words : 2 ≤ offset). stack_words) (cases_lt offset 2),
-      ⊎_elim (λ (low : offset < 2 + length b.frame.cells). low) (λ (stack_words : 2 + length b.frame.cells ≤ offset). absurd (refused (none offset (inr stack_words)))) (cases_lt offset (2 + length b.frame.cells)),
+      ⊎_elim (λ (low : offset < 2). absurd (refused (none offset (inl low)))) (λ (high : 2 ≤ offset). high) (cases_lt offset 2),
+      ⊎_elim (λ (low : offset < 2 + length b.frame.cells). low) (λ (high : 2 + length b.frame.cells ≤ offset). absurd (refused (none offset (inr high)))) (cases_lt offset (2 + length b.frame.cells)),
     ) where
       refused : cell (here a.member a.task q) f offset ≡ Err InvalidAddress → ⊥
       refused e = err_ok w (sym e ∙ found)
