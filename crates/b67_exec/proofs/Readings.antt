@@ -15,7 +15,7 @@ use Rattle.b67_model.specs.Schedule.{Session}
 use Rattle.b67_model.specs.InOrder.{SettingInOrder}
 use Rattle.b67_law_order_steps.proofs.Readings.{OpBits, ReadFits}
 use Rattle.b67_law_order_steps.proofs.Segments.{reading_fits}
-use Rattle.b67_law_order_steps.specs.Profiles as profiles
+use Rattle.b67_model.specs.Called as calls
 use Rattle.b67_stack.specs.declared.Cpu.{Cpu}
 use Rattle.b67_stack.specs.declared.Step.{Step}
 use Rattle.b67_stack.specs.Represents.{Storage}
@@ -26,7 +26,7 @@ use Rattle.b67_entry_enter.specs.Procedures.{CallsOrMeets}
 use Rattle.b67_exec.specs.Operators.{ParametersFit, called_by, OperatorAt, OperatorMeets}
 
 -- both definitions of what ENTR calls agree
-same_at : (e : Answer End) → procedures.called_at e ≡ profiles.called_at e
+same_at : (e : Answer End) → procedures.called_at e ≡ calls.called_at e
 same_at (Ok (AtIntrinsic n)) = refl
 same_at (Ok (AtCell f offset bits)) = refl
 same_at (Ok (AtElement n i)) = refl
@@ -34,11 +34,11 @@ same_at (Ok (AtArray n)) = refl
 same_at (Ok (AtProc f segment level place)) = refl
 same_at (Err fault) = refl
 
-same_with : (h : OperatorContext) (cs : List Word) → procedures.called_with h cs ≡ profiles.called_by h cs
+same_with : (h : OperatorContext) (cs : List Word) → procedures.called_with h cs ≡ calls.called_by h cs
 same_with h [] = refl
 same_with h (r ∷ arguments) = same_at (follow_reference h r)
 
-pub same_called : (h : OperatorContext) (s : Standing) → procedures.called h s ≡ profiles.called_on h s
+pub same_called : (h : OperatorContext) (s : Standing) → procedures.called h s ≡ calls.called_on h s
 same_called h Marked = same_with h (reverse (cells_of h))
 same_called h (Entered level environment back) = refl
 
