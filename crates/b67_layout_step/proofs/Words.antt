@@ -1,20 +1,18 @@
 -- The array that a word names, a reference leads to, or an end is in.
-use Rattle.std.proofs.Common.{◌≡◌, ℕ, zero, suc, ◌-◌, ltb, List, [], ◌∷◌, flat_map, reverse, length, Option, Some, None, unwrap_or, Ok, Err, refl, subst, inl, inr, ◌⊎◌, ◌==◌}
-use Rattle.std.specs.Option.{ok_or}
+use Rattle.std.proofs.Common.{◌≡◌, ℕ, zero, suc, List, [], ◌∷◌, flat_map, length, Option, Some, None, unwrap_or, Ok, Err, refl, subst, inl, inr, ◌⊎◌, ◌==◌}
 use Rattle.std.proofs.lemmas.Bool.{cases_Bool}
-use Rattle.b67_word.specs.declared.faults.Fault.TheVariants.{InvalidAddress}
 use Rattle.b67_model.specs.Answers.{Answer}
 use Rattle.b67_model.specs.Keyed.{keyed, change_keyed}
 use Rattle.b67_lemmas.specs.Lists.{Has}
+use Rattle.b67_lemmas.proofs.Members.{all_in, has_append_cases, keyed_has}
 use Rattle.b67_model.specs.Arrays.{array, array_at, array_of, index_below, indexed}
 use Rattle.b67_model.specs.Words as Words
 use Rattle.b67_model.specs.Words.{Word, Operand, Name, Ref, Row, Element, Original, Proc, Intrinsic, operand, number}
 use Rattle.b67_model.specs.State.{Frame, Task, OperatorContext, mcp, no_frame, all_frames, frame, top, below_top}
-use Rattle.b67_model.specs.Cells.{first_offset, cell_of, cell, place_of}
+use Rattle.b67_model.specs.Cells.{cell, place_of}
 use Rattle.b67_model.specs.Chase.{End, AtCell, AtElement, AtArray, AtProc, AtIntrinsic, Link, Stops, Leads, link_at, link_in, link_from, link, chase_on, chase, follow}
-use Rattle.b67_law_order.proofs.Members.{has_append_cases, has_get, has_reverse_back, keyed_has, all_in}
 use Rattle.b67_law_order.proofs.Posts.{Post, post_ok, post_err, post_bind, post_any}
-use Rattle.b67_law_order.proofs.Chases.{some_ok}
+use Rattle.b67_law_order.proofs.Chases.{cell_has}
 
 -- an item of joined lists stands in one of them
 pub has_flat_back : (ts : List Task) (f : Frame) → Has (flat_map (λ (t : Task). t.frames) ts) f → (t : Task) × Has ts t × Has t.frames f
@@ -31,14 +29,6 @@ has_put n new (u ∷ us) t h = elim (cases_Bool (u.number == n)) [
   | inl q ↦ elim (rw q at h) [ inl e ↦ inl e | inr m ↦ inr (inr m) ]
   | inr q ↦ elim (rw q at h) [ inl e ↦ inr (inl e) | inr m ↦ elim (has_put n new us t m) [ inl e ↦ inl e | inr k ↦ inr (inr k) ] ]
 ]
-
-cell_has : (f : Frame) (offset : ℕ) (w : Word) → ok_or (cell_of f offset) InvalidAddress ≡ Ok w → Has f.cells w
-cell_has f offset w e =
-    let some : cell_of f offset ≡ Some w = some_ok (cell_of f offset) InvalidAddress w e in
-    elim (cases_Bool (ltb offset (first_offset f))) [
-      | inl t ↦ let no : None ≡ Some w = rw t at some in cc
-      | inr t ↦ has_reverse_back f.cells w (has_get (reverse f.cells) (offset - first_offset f) w (rw t at some))
-    ]
 
 -- a fact of the arrays that words name
 module _ (T : ℕ → Type 0) where

@@ -3,10 +3,10 @@ use Rattle.std.proofs.Common.{◌≡◌, ◌≢◌, ℕ, zero, suc, ◌+◌, ◌
 use Rattle.std.proofs.lemmas.Bool.Decides.{eqb_tells}
 use Rattle.b67_model.specs.Keyed.{keyed}
 use Rattle.b67_lemmas.specs.Lists.{Has}
+use Rattle.b67_lemmas.proofs.Members.{all_in, has_append_cases, has_append_left, has_append_right, has_flat, has_map_back, keyed_has, keyed_left}
 use Rattle.b67_model.specs.State.{Frame, Standing, Marked, Entered, Array, Task, OperatorContext, mcp, no_frame, all_frames, frame}
 use Rattle.b67_model.specs.Environment.{level_of_standing, level_of_frame, environment_of, running_from, running, outward, running_level, frame_at}
 use Rattle.b67_model.specs.InOrder.{Starts, Known, known_of, base, outer_of, reach_of, StandsInOrder, FramesInOrder, TaskInOrder, SettingInOrder, TasksInOrder}
-use Rattle.b67_law_order.proofs.Members.{has_append_left, has_append_right, has_append_cases, has_map_back, has_flat, all_in, keyed_has, keyed_left}
 use Rattle.b67_law_order.proofs.Reaches.{stands_wider}
 use Rattle.b67_law_order.proofs.Looks.{IsFrame, line_of, above_one, found_frame}
 

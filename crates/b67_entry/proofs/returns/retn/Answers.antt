@@ -10,10 +10,10 @@ use Rattle.b67_stack.specs.declared.Cpu.{Cpu}
 use Rattle.b67_entry.proofs.Callers.{below_mark}
 use Rattle.b67_entry.proofs.Leaving.{under, on_top, on_stack, may_return, scene_left}
 use Rattle.b67_entry.proofs.Retning.{room, pending, empty, word_at, refused, refusal_passes, refusal_faults, critical, ended, leaver, with_its_word, value_is, operand_is}
-use Rattle.b67_entry.proofs.Retns.{IsOperand}
 use Rattle.b67_entry.proofs.Putting.{room_left, put_above, put_done, evaluated}
 use Rattle.b67_entry.proofs.returns.retn.Goals as goal
 use Rattle.b67_entry.proofs.returns.retn.Goals.{else-mark-via-then-mark+else-tag-ne0, else-mark-via-else-mark}
+use Rattle.b67_law_order.proofs.Maps.{IsOperand}
 
 pub top_mark-mark-requires : goal.top_mark-mark-requires
 top_mark-mark-requires c = let r = c.requires in meets_runs r.storage c.args.cpu.now r.plan r.session r.member r.task r.stands r.running

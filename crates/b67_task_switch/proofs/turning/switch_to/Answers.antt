@@ -3,9 +3,9 @@ use Rattle.b67_layout.specs.Session.{RepresentsSession}
 use Rattle.b67_layout.specs.Rows.{TablesShow}
 use Rattle.b67_task_switch.specs.Turns.{with_running}
 use Rattle.b67_task_tables.specs.Tables.{task_row, job_row, counts_of}
-use Rattle.b67_task_switch.proofs.Lists.{there}
 use Rattle.b67_task_switch.proofs.Turns.{rests_is, turn_out, slot_same, inside_same, in_use_again}
 use Rattle.b67_task_switch.proofs.turning.switch_to.Goals as goal
+use Rattle.b67_lemmas.proofs.Places.{get_within}
 
 pub turn_of-turn-requires-clause-known : goal.turn_of-turn-requires-clause-known
 turn_of-turn-requires-clause-known c =
@@ -30,7 +30,7 @@ returns-clause-stands c = λ x told plan s r o stands at.
     let rests = rests_is x k.core k.regs k.critical plan s c.pause.new.tasks o h (c.pause.ensures.rests x k.core k.critical plan s o h stands.tables) in
     let (m, t, turn) = c.turn_of-turn.ensures.turn (with_running plan 255) s rests in
     let inside = inside_same c.args.machine.now.tasks.rows.items c.pause.new.tasks.rows.items c.args.row c.pause.ensures.slots c.requires.inside in
-    let (n, at_new) = there c.pause.new.tasks.rows.items c.args.row inside in
+    let (n, at_new) = get_within c.pause.new.tasks.rows.items c.args.row inside in
     let same = slot_same c.args.machine.now.tasks.rows.items c.pause.new.tasks.rows.items c.args.row r n c.pause.ensures.slots at at_new in
     record {
       session = subst (λ (i : ℕ). RepresentsSession x c.switch_to.new.cpu (with_running plan i) s) (c.turn_of-turn.ensures.slot n at_new ∙ same) (c.switch_to.ensures.stands x plan s m t o stands.session (turn_out plan 255 s m t c.turn_of-turn.result turn));
