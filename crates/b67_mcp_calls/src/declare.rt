@@ -9,7 +9,6 @@ ghost use Rattle.b67_model.specs.Words as words;
 ghost use Rattle.b67_mcp_calls.specs.Declaring as definition;
 ghost use Rattle.b67_mcp_calls.specs.Declaring.{job_declared, with_home, without, LengthMeets};
 
-use crate::answer::put;
 use crate::calls::cut_call;
 use b67_ctl::DataDesc;
 use b67_entry::is_critical;
@@ -73,5 +72,5 @@ pub fn answer_array(cpu: &mut Cpu, length: u32, next: Place)
         length,
         address: 0,
     };
-    put(cpu, original.word());
+    cpu.put(original.word());
 }

@@ -12,8 +12,7 @@ ghost use Rattle.b67_mcp_calls.specs.RowCalls.{CopyMeets, MissesCopy, RowMeets, 
 use crate::whole::are_whole;
 use b67_ctl::DataDesc;
 use b67_entry::is_critical;
-use b67_exec_cells::elements::descriptor;
-use b67_exec_cells::{count_cells, top_cell};
+use b67_exec_cells::{array_descriptor, count_cells, top_cell};
 use b67_refer::owner;
 use b67_stack::Cpu;
 use b67_word::{Fault, Word};
@@ -72,7 +71,7 @@ pub fn row_to_print(cpu: &Cpu) -> Result<Found, Fault>
         Ok(original) => original,
         Err(fault) => return Err(fault),
     };
-    let desc = descriptor(cpu, original);
+    let desc = array_descriptor(cpu, original);
     if !desc.present {
         return Ok(Found::Absent(original));
     }
