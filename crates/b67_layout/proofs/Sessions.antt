@@ -23,7 +23,7 @@ use Rattle.b67_layout.specs.Session.{RowsFit, DictionariesFollow, RowHomes, Plan
 use Rattle.b67_layout.proofs.Others.{OnTop, task-same}
 use Rattle.b67_layout.proofs.MachineViews.{with_course, member-same}
 use Rattle.b67_layout.proofs.Rows.{task_row, slot_below}
-use Rattle.b67_area.specs.declared.Kind.{TheVariants as kind}
+use Rattle.b67_area.specs.declared.Kind.TheVariants as kind
 
 -- the items after the first one of a number changed
 module _ {A : Type 0} (key : A → ℕ) (n : ℕ) (f : A → A) where

@@ -1,7 +1,7 @@
 -- A machine that stands for a session: one job whose only segment adds and prints, at its first operator, with its code
 -- in core and in a sector. So the conditions of operators can be met.
-use Rattle.std.proofs.Common.{◌≡◌, ◌≢◌, ℕ, zero, suc, ◌+◌, ◌-◌, ◌*◌, ◌<◌, ◌≤◌, ◌^◌, List, [], ◌∷◌, ◌++◌, length, Some, None, refl, sym, ◌∙◌, ap, arith, inl, inr, ⊎_elim, subst, replicate}
-use Rattle.std.specs.Prelude.{map}
+use Rattle.std.proofs.Common.{◌≡◌, ◌≢◌, ℕ, zero, suc, ◌+◌, ◌-◌, ◌*◌, ◌<◌, ◌≤◌, ◌^◌, ◌==◌, List, [], ◌∷◌, ◌++◌, length, Some, None, refl, sym, ◌∙◌, ap, arith, inl, inr, ⊎_elim, subst, replicate}
+use Rattle.std.specs.Prelude.{if◌then◌else◌, map}
 use Rattle.std.specs.List.{slice_get}
 use Rattle.std.proofs.lemmas.Option.{none-some, same_Some}
 use Rattle.std.proofs.lemmas.Bool.{cases_eq, eq-eqb, ne_eqb}
@@ -14,7 +14,6 @@ use Rattle.b67_area.specs.Directory.{IsDirectory}
 use Rattle.b67_backing.specs.Shelf.{chain_of}
 use Rattle.b67_ctl.specs.declared.registers.Regs.{Regs}
 use Rattle.b67_lemmas.specs.Lists.{Has}
-use Rattle.b67_lemmas.proofs.Members.{keyed-has}
 use Rattle.b67_core.specs.Numbers.{number}
 use Rattle.b67_model.specs.State.{Entered, Ready, Task, SessionJob}
 use Rattle.b67_model.specs.Environment.{frame_at}
@@ -22,10 +21,11 @@ use Rattle.b67_model.specs.Program.{Program, opened}
 use Rattle.b67_model.specs.Run.{number_of, start}
 use Rattle.b67_model.specs.Schedule.{Session}
 use Rattle.b67_stack.specs.declared.Cpu.{Cpu}
-use Rattle.b67_stack.specs.Shapes.{Location, Fits, LieDownward, at_rest}
+use Rattle.b67_stack.specs.Shapes.{Location, nowhere, Fits, LieDownward}
 use Rattle.b67_stack.specs.Stacks.{stack_words, words}
 use Rattle.b67_stack.specs.MachineView.{PagedObject, words_of, MachineView, stack_of, Laid, SlotFits, slot_base, CopiesName}
 use Rattle.b67_stack.specs.Represents.{Storage, RepresentsSlots, RepresentsSlot, StacksLie, RepresentsObjects, RepresentsObject, Owned, Represents, HoldsIn, info_of}
+use Rattle.b67_lemmas.proofs.Members.{keyed-has}
 use Rattle.b67_layout.specs.Placement.{Placement, Slotted, slot_of}
 use Rattle.b67_layout.specs.Layout.{machine_view}
 use Rattle.b67_layout.specs.Session.{PlanFits, RowsFit, RepresentsDictionary, RepresentsVector, RepresentsCritical, RepresentsTask, vector_word, critical_mark, frame_address, ShowsDisplay, SessionHolds, RepresentsSession}
@@ -55,9 +55,12 @@ spans = Area info ∷ Hole 25 ∷ []
 abbrev here : Location
 here = record { area = Some 228; chain = 1 }
 
+abbrev held : ℕ → Location
+held q = if q == 162 then here else nowhere
+
 abbrev pub storage : Storage
 storage = record {
-  at_rest = at_rest;
+  held = held;
   low = 227;
   spans = spans;
   shelf = record { free = []; chains = (1 ∷ []) ∷ [] };
@@ -156,8 +159,8 @@ slots = record {
   slots = first_slot (λ k. RepresentsSlot core regs p k (p.slots k)) (record { slot = refl; first = refl; last = refl; top = refl; mark = refl; level = refl });
 }
 
-stacks : StacksLie at_rest core p
-stacks = first_slot (λ k. LieDownward (Fits at_rest) core (suc (slot_base p k)) (words k (stack_of (p.slots k))))
+stacks : StacksLie held core p
+stacks = first_slot (λ k. LieDownward (Fits held) core (suc (slot_base p k)) (words k (stack_of (p.slots k))))
     ((word 3 0, refl, (refl, λ e. omega (arith, e))), ((word 3 (2 ^ 47 + 2 ^ 46 + 128 * 2 ^ 36 + 2 * 2 ^ 14), refl, (refl, λ e. omega (arith, e))), tt))
 
 held_in : HoldsIn storage object 1
@@ -176,20 +179,20 @@ held_in = record {
 objects : RepresentsObjects storage core p.objects
 objects = only object (λ u. RepresentsObject storage core u) (record { home = refl; content = ((refl, (refl, tt)), held_in) })
 
-areas : (at : ℕ) (a : Info) → area_at 227 spans at ≡ Some a → (t : PagedObject) × Has p.objects t × ((at_rest t.home).area ≡ Some at) × (a ≡ info_of storage t)
+areas : (at : ℕ) (a : Info) → area_at 227 spans at ≡ Some a → (t : PagedObject) × Has p.objects t × ((held t.home).area ≡ Some at) × (a ≡ info_of storage t)
 areas at a e = ⊎_elim
     (λ (z : 228 ≡ at). let there : Some info ≡ Some a = rw (eq-eqb 228 at z) at e in (object, inl refl, ap Some z, sym (same_Some info a there)))
     (λ (z : 228 ≡ at → ⊥). let none : None ≡ Some a = rw (ne_eqb 228 at z) at e in absurd (none-some a none))
     (cases_eq 228 at)
 
-by_held : (home at : ℕ) → (at_rest home).area ≡ Some at → (t : PagedObject) × Has p.objects t × (t.home ≡ home) × (area_at 227 spans at ≡ Some (info_of storage t))
+by_held : (home at : ℕ) → (held home).area ≡ Some at → (t : PagedObject) × Has p.objects t × (t.home ≡ home) × (area_at 227 spans at ≡ Some (info_of storage t))
 by_held home at e = ⊎_elim
-    (λ (z : home ≡ 162). let there : (at_rest 162).area ≡ Some at = ap (λ n. (at_rest n).area) (sym z) ∙ e in
+    (λ (z : home ≡ 162). let there : (held 162).area ≡ Some at = ap (λ n. (held n).area) (sym z) ∙ e in
     let is : 228 ≡ at = same_Some 228 at there in (object, inl refl, sym z, ap (area_at 227 spans) (sym is)))
     (λ (z : home ≡ 162 → ⊥). let absent : None ≡ Some at = rw (ne_eqb home 162 z) at e in absurd (none-some at absent))
     (cases_eq home 162)
 
-chains : (first : ℕ) → 0 < length (chain_of first storage.shelf.chains) → (t : PagedObject) × Has p.objects t × ((at_rest t.home).chain ≡ first)
+chains : (first : ℕ) → 0 < length (chain_of first storage.shelf.chains) → (t : PagedObject) × Has p.objects t × ((held t.home).chain ≡ first)
 chains first some = ⊎_elim
     (λ (z : 1 ≡ first). (object, inl refl, z))
     (λ (z : 1 ≡ first → ⊥). let none : 0 < 0 = rw (ne_eqb 1 first z) at some in absurd (omega arith))
