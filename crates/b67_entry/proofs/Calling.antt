@@ -7,6 +7,7 @@ use Rattle.b67_word.specs.declared.faults.Fault.{Fault}
 use Rattle.b67_word.specs.declared.faults.Fault.TheVariants.{InvalidOperand}
 use Rattle.b67_model.specs.Answers.{Answer, ◌>>=◌}
 use Rattle.b67_lemmas.specs.Lists.{Has}
+use Rattle.b67_lemmas.proofs.Members.{change_twice, change_found, keyed-has}
 use Rattle.b67_model.specs.Words.{Word}
 use Rattle.b67_model.specs.State as State
 use Rattle.b67_model.specs.State.{Standing, Return, Ready, Frame, Array, Condition, Task, Job, OperatorContext, SessionJob, frame, head_words, height, with_top_cells, with_task}
@@ -17,7 +18,6 @@ use Rattle.b67_model.specs.Entry.{accident, back_to, evaluates, returned}
 use Rattle.b67_model.specs.Steps.{Done, Goes, cells_of, without_arrays_of}
 use Rattle.b67_model.specs.Schedule.{Session}
 use Rattle.b67_model.specs.InOrder.{IsInOrderButPlaces}
-use Rattle.b67_law_order.proofs.Members.{change_twice}
 use Rattle.b67_stack.specs.declared.Cpu.{Cpu}
 use Rattle.b67_stack.specs.declared.Step.{Step}
 use Rattle.b67_stack.specs.declared.Step.TheVariants as step
@@ -28,7 +28,6 @@ use Rattle.b67_layout.specs.Placement.{Placement}
 use Rattle.b67_layout.specs.Layout.{machine_view}
 use Rattle.b67_layout.specs.Session.{IsRunning, RepresentsSession, RepresentsSessionBut}
 use Rattle.b67_layout.specs.Meets.{IsMade, Meets, with_job}
-use Rattle.b67_layout.proofs.Others.{keyed-has, keyed-put_same}
 use Rattle.b67_layout.proofs.MachineViews.{member-same}
 use Rattle.b67_layout.proofs.Steps.{IsFree}
 use Rattle.b67_layout.proofs.Sessions.{change-has}
@@ -43,7 +42,7 @@ use Rattle.b67_entry.specs.Left.{Returns, here_left}
 use Rattle.b67_entry.proofs.Heres.{frame_same}
 use Rattle.b67_entry.proofs.Leaving.{under, on_top, on_stack, may_return, regs_left, job_at, member_at, task_left}
 use Rattle.b67_entry.proofs.Evaluating.{scene, seen, frames_same, answer_is}
-use Rattle.b67_entry.proofs.Retns.{IsOperand}
+use Rattle.b67_law_order.proofs.Maps.{IsOperand}
 
 -- an accidental entry by whether the procedure's level is the next one
 accident_at : (h : OperatorContext) (cells : List Word) (back : Return) (f segment level : ℕ) (place : Place) (b : Bool) → (level_of_frame (frame h f) + 1 == level) ≡ b
@@ -127,7 +126,7 @@ module _ (x : Storage) (old : Cpu) (plan : Placement) (s : Session) (m : Session
   running_on : (d : Condition) → IsRunning plan (with_job s m (job_on d)).jobs (member_on d) (task_on d)
   running_on d = record {
     member = member-same s.jobs m.constants.number (record m.progress { job = job_on d }) m runs.member;
-    task = keyed-put_same (λ (u : Task). u.number) t.number (task_on d) t refl m.progress.job.tasks runs.task;
+    task = change_found (λ (u : Task). u.number) t.number t (task_on d) m.progress.job.tasks refl runs.task;
     slot = runs.slot;
   }
 

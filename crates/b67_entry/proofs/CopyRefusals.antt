@@ -7,12 +7,12 @@ use Rattle.b67_word.specs.declared.faults.Fault.TheVariants.{InvalidOperand, Upl
 use Rattle.b67_ctl.specs.Descriptors.{data_word, IsDataDesc}
 use Rattle.b67_ctl.specs.declared.descriptors.DataDesc.{DataDesc}
 use Rattle.b67_lemmas.specs.Lists.{Has, Falls}
+use Rattle.b67_lemmas.proofs.Members.{keyed_falls, keyed-has}
 use Rattle.b67_model.specs.Words as Words
 use Rattle.b67_model.specs.Words.{Word, Operand, Name, Ref, Row, Element, Original, Proc, Intrinsic}
 use Rattle.b67_model.specs.State.{Frame, Array, Task, Job, SessionJob, top}
 use Rattle.b67_model.specs.Arrays.{array, no_array, owner_of}
 use Rattle.b67_model.specs.Keyed.{keyed}
-use Rattle.b67_law_order.proofs.Members.{keyed_falls}
 use Rattle.b67_model.specs.Entry.{returnable}
 use Rattle.b67_model.specs.Run.{number_of}
 use Rattle.b67_model.specs.Schedule.{Session}
@@ -27,7 +27,6 @@ use Rattle.b67_stack.proofs.Slots.{running_slot, running_fits}
 use Rattle.b67_layout.specs.Placement.{Placement, spot_in, outer_spots}
 use Rattle.b67_layout.specs.Layout.{shape, activations, machine_view}
 use Rattle.b67_layout.specs.Session.{IsRunning, RepresentsSession}
-use Rattle.b67_layout.proofs.Others.{keyed-has}
 use Rattle.b67_layout.proofs.Fresh.{running_in_order}
 use Rattle.b67_layout.proofs.Starts.{slot_is, runs_here}
 use Rattle.b67_refer.specs.Ends.{IsCopyOf}

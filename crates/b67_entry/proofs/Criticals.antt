@@ -4,7 +4,7 @@ use Rattle.std.specs.Prelude.{if◌then◌else◌}
 use Rattle.std.specs.List.{slice_get}
 use Rattle.std.proofs.lemmas.Bool.{eq-eqb, ne_eqb}
 use Rattle.std.proofs.lemmas.Option.{get_or_from_slice_get}
-use Rattle.b67_model.specs.State.{Frame, Standing, Marked, Entered, Task, Job, SessionJob, head_words, words_of, height, top}
+use Rattle.b67_model.specs.State.{Frame, Task, Job, SessionJob, words_of, height, top}
 use Rattle.b67_model.specs.Run.{number_of}
 use Rattle.b67_model.specs.Steps.{is_critical}
 use Rattle.b67_model.specs.Schedule.{Session}
@@ -17,14 +17,11 @@ use Rattle.b67_layout.specs.Placement.{Placement, outer_spots}
 use Rattle.b67_layout.specs.Layout.{activations, stack_of_task, machine_view}
 use Rattle.b67_layout.specs.Session.{IsRunning, RepresentsSession, critical_mark}
 use Rattle.b67_layout.proofs.Frames.{height-is}
-use Rattle.b67_layout.proofs.Others.{keyed-has}
 use Rattle.b67_layout.proofs.Fresh.{running_in_order}
 use Rattle.b67_layout.proofs.Rows.{slot_below}
 use Rattle.b67_layout.proofs.Starts.{runs_here}
-
-some_words : (s : Standing) → 1 ≤ head_words s
-some_words Marked = omega arith
-some_words (Entered level environment back) = omega arith
+use Rattle.b67_lemmas.proofs.Members.{keyed-has}
+use Rattle.b67_layout_leave.proofs.Apart.{some_words}
 
 mark_under : (job : Job) (fs : List Frame) → critical_mark job fs < height fs
 mark_under job [] = omega arith

@@ -21,7 +21,6 @@ use Rattle.b67_model.specs.Entry.{evaluates, returned}
 use Rattle.b67_model.specs.Steps.{Done, Goes, pushes, without_arrays_of}
 use Rattle.b67_model.specs.Schedule.{Session}
 use Rattle.b67_model.specs.InOrder.{IsInOrderButPlaces}
-use Rattle.b67_law_order.proofs.Members.{change_twice, has_filter}
 use Rattle.b67_stack.specs.declared.Cpu.{Cpu}
 use Rattle.b67_stack.specs.declared.What.TheVariants as what
 use Rattle.b67_stack.specs.Represents.{Storage}
@@ -42,7 +41,8 @@ use Rattle.b67_entry.proofs.Heres.{flat_same, follow_same}
 use Rattle.b67_entry.proofs.Leaving.{member_at, task_left, regs_left, scene_left}
 use Rattle.b67_entry.proofs.Putting.{height_left}
 use Rattle.b67_entry.proofs.Replacing.{frames_with, job_with, Puts, puts_operand, stands_with, changed_with}
-use Rattle.b67_entry.proofs.Retns.{IsOperand}
+use Rattle.b67_lemmas.proofs.Members.{change_twice, has_filter}
+use Rattle.b67_law_order.proofs.Maps.{IsOperand}
 
 -- a word that isn't an operand is followed
 follows : (h : OperatorContext) (v : Word) → (IsOperand v → ⊥) → returned h v true ≡ (follow h v >>= evaluates h)

@@ -8,9 +8,9 @@ use Rattle.b67_model.specs.State as State
 use Rattle.b67_model.specs.State.{Standing, Return, Frame, Condition, Task, Job, OperatorContext, SessionJob, height, top, with_task}
 use Rattle.b67_model.specs.Steps.{Done, Goes, Leaves, top_of, result, is_critical, without_arrays_of}
 use Rattle.b67_model.specs.Entry.{left, leaves, exit}
-use Rattle.b67_law_order.proofs.Members.{change_twice}
 use Rattle.b67_layout.specs.Meets.{here}
 use Rattle.b67_layout_leave.proofs.Leaves.{task_at}
+use Rattle.b67_lemmas.proofs.Members.{change_twice}
 
 -- the job without the frame and its arrays
 abbrev pub job_left : Job → Task → Frame → List Frame → Return → Job

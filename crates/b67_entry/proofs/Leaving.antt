@@ -18,7 +18,6 @@ use Rattle.b67_layout.specs.Placement.{Placement, spot_in, outer_spots}
 use Rattle.b67_layout.specs.Layout.{shape, head, activations, machine_view}
 use Rattle.b67_layout.specs.Session.{RepresentsTask, IsRunning, ShowsDisplay, RepresentsSession, SessionHoldsBut}
 use Rattle.b67_layout.specs.Meets.{objects_gone, with_job, IsMade, here}
-use Rattle.b67_layout.proofs.Others.{keyed-has}
 use Rattle.b67_layout.proofs.Fresh.{fresh, running_in_order}
 use Rattle.b67_layout.proofs.Starts.{slot_is, runs_here}
 use Rattle.b67_refer.specs.RunningContext.{RunningContext, IsShown}
@@ -29,6 +28,7 @@ use Rattle.b67_layout_leave.proofs.Leaves.{Leaver, task_at, may_leave, below-sam
 use Rattle.b67_layout_leave.proofs.Orders.{left_ready}
 use Rattle.b67_entry.specs.Left.{MayReturn, caller_regs, Returns}
 use Rattle.b67_entry.proofs.Exits.{exit_left}
+use Rattle.b67_lemmas.proofs.Members.{keyed-has}
 
 pub some_first : {A : Type 0} (x : A) (xs : List A) → x ∷ xs ≢ []
 some_first x xs e = cc

@@ -4,6 +4,7 @@ use Rattle.std.specs.Prelude.{◌==◌}
 use Rattle.std.proofs.lemmas.Bool.Decides.{eqb_tells}
 use Rattle.b67_word.specs.Tagged.{Tagged}
 use Rattle.b67_lemmas.specs.Lists.{Has}
+use Rattle.b67_lemmas.proofs.Members.{has_filter_in, keyed-has}
 use Rattle.b67_model.specs.Words as Words
 use Rattle.b67_model.specs.Words.{Word, Operand, Name, Ref, Row, Element, Original, Proc, Intrinsic}
 use Rattle.b67_model.specs.State.{Ready, Frame, Standing, Array, Task, Job, SessionJob}
@@ -11,7 +12,6 @@ use Rattle.b67_model.specs.Arrays.{owner_of}
 use Rattle.b67_model.specs.Entry.{returnable}
 use Rattle.b67_model.specs.Schedule.{Session}
 use Rattle.b67_model.specs.InOrder.{IsSegment, IsEntered, Known, known_of, outer_of, reach_of, NamesEntered, NamesArray, WordInOrder, IsInOrderButPlaces}
-use Rattle.b67_law_order.proofs.Members.{has_filter_in}
 use Rattle.b67_law_order.proofs.Reaches.{Alike, alike_has, alike_under}
 use Rattle.b67_stack.specs.declared.Cpu.{Cpu}
 use Rattle.b67_stack.specs.Shapes.{Shape, Fits}
@@ -20,7 +20,6 @@ use Rattle.b67_stack.specs.Represents.{Storage}
 use Rattle.b67_layout.specs.Placement.{Placement, spot_in, outer_spots, spots}
 use Rattle.b67_layout.specs.Layout.{shape}
 use Rattle.b67_layout.specs.Session.{IsRunning, RepresentsSession}
-use Rattle.b67_layout.proofs.Others.{keyed-has}
 use Rattle.b67_layout.proofs.Fresh.{running_in_order}
 use Rattle.b67_refer.specs.Cells.{StandsFor}
 use Rattle.b67_layout_leave.proofs.Nowhere.{shape-same}

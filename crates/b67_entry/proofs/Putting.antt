@@ -7,7 +7,7 @@ use Rattle.b67_core.proofs.Writes.{slice_get-set_other}
 use Rattle.b67_ctl.specs.declared.registers.Regs.{Regs}
 use Rattle.b67_model.specs.Answers.{Answer}
 use Rattle.b67_model.specs.Words.{Word}
-use Rattle.b67_model.specs.State.{Standing, Marked, Entered, Frame, Task, SessionJob, head_words, height, top}
+use Rattle.b67_model.specs.State.{Frame, Task, SessionJob, height, top}
 use Rattle.b67_model.specs.Entry.{returnable, returned, retn}
 use Rattle.b67_model.specs.Steps.{Done, is_critical}
 use Rattle.b67_model.specs.Schedule.{Session}
@@ -28,7 +28,9 @@ use Rattle.b67_entry.specs.Returned.{with_word}
 use Rattle.b67_entry.specs.Returned.{ReturnsWord}
 use Rattle.b67_entry.proofs.Leaving.{scene_left}
 use Rattle.b67_entry.proofs.Replacing.{frames_with, job_with, puts_word, top_inside, stands_with, changed_with}
-use Rattle.b67_entry.proofs.Retns.{IsOperand, retn_left, retn_pushed}
+use Rattle.b67_entry.proofs.Retns.{retn_left, retn_pushed}
+use Rattle.b67_law_order.proofs.Maps.{IsOperand}
+use Rattle.b67_layout_leave.proofs.Apart.{some_words}
 
 -- a word was put on the stack: those above it stay, and the top is one higher
 pub put_above : (old : Cpu) (r : Regs) (display : List ℕ) (w : Tagged) (new : Cpu) → new ≡ with_word old r display w → (i : ℕ) → new.regs.s < i → slice_get new.core i ≡ slice_get old.core i
@@ -37,10 +39,6 @@ put_above old r display w new e i low =
 
 pub put_top : (old : Cpu) (r : Regs) (display : List ℕ) (w : Tagged) (new : Cpu) → new ≡ with_word old r display w → (r.s < new.regs.s) × (new.regs.s ≤ r.s + 2)
 put_top old r display w new e = let top = ap (λ (k : Cpu). k.regs.s) e in (omega arith, omega arith)
-
-some_words : (s : Standing) → 1 ≤ head_words s
-some_words Marked = omega arith
-some_words (Entered level environment back) = omega arith
 
 module _ (x : Storage) (old : Cpu) (plan : Placement) (s : Session) (m : SessionJob) (t : Task) (o : IsInOrderButPlaces s) (h : RepresentsSession x old plan s) (runs : IsRunning plan s.jobs m t) (a : Returns m t) where
   -- no live task depends on the frame, which is the top one

@@ -6,12 +6,12 @@ use Rattle.b67_word.specs.Tagged.{Tagged, word}
 use Rattle.b67_ctl.specs.declared.registers.Regs.{Regs}
 use Rattle.b67_core.proofs.Writes.{slice_get-set_other}
 use Rattle.b67_lemmas.specs.Lists.{Has}
+use Rattle.b67_lemmas.proofs.Members.{change_twice, has_append_left, has_map, change_found, keyed-has}
 use Rattle.b67_model.specs.Words.{Word, Operand}
 use Rattle.b67_model.specs.State.{Frame, Condition, Ready, Task, Job, SessionJob, with_top_cells, with_task}
 use Rattle.b67_model.specs.Steps.{without_arrays_of}
 use Rattle.b67_model.specs.Schedule.{Session}
 use Rattle.b67_model.specs.InOrder.{IsSegment, WordInOrder, reach_of, IsInOrderButPlaces}
-use Rattle.b67_law_order.proofs.Members.{has_append_left, has_map, change_twice}
 use Rattle.b67_stack.specs.declared.Cpu.{Cpu}
 use Rattle.b67_stack.specs.Shapes.{Shape, Fits}
 use Rattle.b67_stack.specs.Stacks.{StackPlace, Activation, stack_words, IsStack, headed, words}
@@ -23,7 +23,7 @@ use Rattle.b67_layout.specs.Placement.{Placement, spot_in, outer_spots, slot_of}
 use Rattle.b67_layout.specs.Layout.{shape, head, activations, machine_view}
 use Rattle.b67_layout.specs.Session.{RepresentsTask, IsRunning, ShowsDisplay, RepresentsSession, SessionHoldsBut, RepresentsSessionBut}
 use Rattle.b67_layout.specs.Meets.{objects_gone, with_job, IsInStack}
-use Rattle.b67_layout.proofs.Others.{OnTop, keyed-has, keyed-put_same, outer_spots-after}
+use Rattle.b67_layout.proofs.Others.{OnTop, outer_spots-after}
 use Rattle.b67_layout.proofs.Steps.{IsFree, seen-with}
 use Rattle.b67_model.specs.Keyed.{keyed, change_keyed}
 use Rattle.b67_layout.proofs.Sessions.{change-has}
@@ -74,7 +74,7 @@ module _ (x : Storage) (old : Cpu) (plan : Placement) (s : Session) (m : Session
         in_t = keyed-has (λ (u : Task). u.number) t.number m.progress.job.tasks t runs.task
 
         there : keyed (λ (u : Task). u.number) t.number (job_with (a.next ∷ a.more) d).tasks ≡ Some (task_with (a.next ∷ a.more) d)
-        there = keyed-put_same (λ (u : Task). u.number) t.number (task_with (a.next ∷ a.more) d) t refl m.progress.job.tasks runs.task
+        there = change_found (λ (u : Task). u.number) t.number t (task_with (a.next ∷ a.more) d) m.progress.job.tasks refl runs.task
 
         tasks : (job_with (frames_with cells) d).tasks ≡ change_keyed (λ (u : Task). u.number) t.number (λ (u : Task). task_with (frames_with cells) d) (job_with (a.next ∷ a.more) d).tasks
         tasks = sym (change_twice (λ (u : Task). u.number) t.number (task_with (a.next ∷ a.more) d) (task_with (frames_with cells) d) m.progress.job.tasks refl)

@@ -35,8 +35,9 @@ use Rattle.b67_entry.specs.Left.{Returns}
 use Rattle.b67_entry.specs.Words.{IsTopWord, Refuses}
 use Rattle.b67_entry.specs.Returned.{ReturnsWord}
 use Rattle.b67_entry.proofs.Exits.{leaves_critical, leaves_last}
-use Rattle.b67_entry.proofs.Retns.{IsOperand, retn_pending, retn_empty, retn_refused, retn_passed}
+use Rattle.b67_entry.proofs.Retns.{retn_pending, retn_empty, retn_refused, retn_passed}
 use Rattle.b67_entry.proofs.Sorted.{IsEntered, is_pending, is_entered, is_last, returns_of}
+use Rattle.b67_law_order.proofs.Maps.{IsOperand}
 
 no_cells : {A B : Type 0} (f : A → B) (xs : List A) → map f xs ≡ [] → xs ≡ []
 no_cells f [] e = refl

@@ -11,15 +11,11 @@ use Rattle.b67_model.specs.State as State
 use Rattle.b67_model.specs.State.{Standing, Return, Frame, Condition, Task, Job, OperatorContext, SessionJob, height, top, with_top_cells, with_task}
 use Rattle.b67_model.specs.Steps.{Goes, top_of, is_critical, without_arrays_of, pushes}
 use Rattle.b67_model.specs.Entry.{returnable, returned, leaves, retn_word, retn}
-use Rattle.b67_law_order.proofs.Members.{change_twice}
 use Rattle.b67_layout.specs.Meets.{here}
 use Rattle.b67_layout_leave.proofs.Leaves.{task_at}
 use Rattle.b67_entry.proofs.Exits.{job_left, leaves_inner}
-
--- the word that is to be pushed on the caller's frame at once
-abbrev pub IsOperand : Word → Type 0
-IsOperand (Operand bits) = Unit {0}
-IsOperand _ = ⊥
+use Rattle.b67_lemmas.proofs.Members.{change_twice}
+use Rattle.b67_law_order.proofs.Maps.{IsOperand}
 
 at_once : (h : OperatorContext) (v : Word) (value : Bool) → (value ≡ false) ⊎ IsOperand v → returned h v value ≡ pushes h v None
 at_once h (Operand bits) false e = refl

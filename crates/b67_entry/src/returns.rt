@@ -24,11 +24,9 @@ fn put(cpu: &mut Cpu, regs: Regs, display: [u32; 32], word: Word)
     requires { regs.s + 1 < length cpu.old.core }
     ensures { cpu.new ≡ with_word cpu.old regs display word }
 {
-    let _size = cpu.core.size();
-    let top = regs.s + 1;
-    cpu.core.set(top, word);
-    cpu.regs = Regs { s: top, ..regs };
+    cpu.regs = regs;
     cpu.display = display;
+    cpu.put(word);
 }
 
 /// Evaluates the word that is returned to a caller who wants a value, in the state without the top activation record.

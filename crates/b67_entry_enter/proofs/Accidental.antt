@@ -20,24 +20,23 @@ use Rattle.b67_stack.specs.Stacks.{StackPlace, Activation, Entered, HeadFits, Is
 use Rattle.b67_stack.specs.MachineView.{CopiesName}
 use Rattle.b67_stack.specs.Represents.{RepresentsRunning}
 use Rattle.b67_stack.proofs.Slots.{running_slot, running_fits}
-use Rattle.b67_stack.proofs.Tops.{level-small}
+use Rattle.b67_stack.proofs.Tops.{level-small, top_size-high}
 use Rattle.b67_layout.specs.Placement.{spot_in, outer_spots, spots}
 use Rattle.b67_layout.specs.Layout.{machine_view, stack_of_task}
 use Rattle.b67_layout.specs.Meets.{here, with_job}
 use Rattle.b67_layout.specs.Session.{ShowsDisplay, with_objects, SessionHoldsBut}
-use Rattle.b67_layout.proofs.Others.{keyed-has}
 use Rattle.b67_layout.proofs.Fresh.{next_is_free}
 use Rattle.b67_refer.specs.RunningContext.{RunningContext}
-use Rattle.b67_layout_enter.proofs.Heads.{entered_mark_fits, top_size_high}
+use Rattle.b67_layout_enter.proofs.Heads.{entered_mark_fits}
 use Rattle.b67_layout_enter.proofs.Orders.{start, push, ready_with}
 use Rattle.b67_layout_enter.proofs.Rooms.{height_room}
 use Rattle.b67_layout_enter.proofs.Accidents as Accidents
 use Rattle.b67_layout_enter.proofs.Accidents.{new_frame, IsRunning-accident, SessionHolds-accident, RepresentsSession-accident}
 use Rattle.b67_layout_enter.proofs.Heads.{IsClear}
 use Rattle.b67_layout.proofs.Steps.{IsFree}
-use Rattle.b67_law_order.proofs.Members.{all_in}
 use Rattle.b67_core.proofs.Writes.{slice_get-set_other}
 use Rattle.b67_lemmas.specs.Lists.{Has}
+use Rattle.b67_lemmas.proofs.Members.{all_in, keyed-has}
 use Rattle.b67_entry_enter.specs.Procedures.{IsEntered}
 use Rattle.b67_entry_enter.proofs.Sites.{Site, site}
 use Rattle.b67_entry_enter.proofs.Segments.{few_segments}
@@ -107,7 +106,7 @@ module _ (core : List Tagged) (r : Regs) (a : RunningContext core r) (q : Place)
   pub mark_good : IsMscw mark
   mark_good =
       let room = a.holds.memory.slots.laid.room in
-      subst IsMscw (sym mark_is) (entered_mark_fits a.plan.running level spot (Some back) stack fit (omega (arith, top_size_high stack, fits.0.fits, room)))
+      subst IsMscw (sym mark_is) (entered_mark_fits a.plan.running level spot (Some back) stack fit (omega (arith, top_size-high stack, fits.0.fits, room)))
 
   pub rcw_good : IsRcw rcw
   rcw_good = subst IsRcw (sym rcw_is) (record { place = good; level = level-small stack fits.0.heads; segment = fit.3.1 })

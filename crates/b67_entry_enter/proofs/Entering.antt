@@ -9,6 +9,7 @@ use Rattle.b67_ctl.specs.declared.marks.Mscw.{Mscw}
 use Rattle.b67_ctl.specs.declared.marks.Rcw.{Rcw}
 use Rattle.b67_ctl.specs.Layout.{IsPlace, IsMscw, mscw_word, IsRcw, rcw_word}
 use Rattle.b67_lemmas.specs.Lists.{Has}
+use Rattle.b67_lemmas.proofs.Members.{keyed-has}
 use Rattle.b67_model.specs.Words.{Word}
 use Rattle.b67_model.specs.State as State
 use Rattle.b67_model.specs.State.{Frame, Return, Ready, Task, Job, SessionJob, top, below_top, height, frame}
@@ -24,25 +25,25 @@ use Rattle.b67_stack.specs.Stacks.{StackPlace, Activation, Entered, HeadFits, Is
 use Rattle.b67_stack.specs.MachineView.{PagedObject, CopiesName}
 use Rattle.b67_stack.specs.Represents.{Storage, RepresentsRunning}
 use Rattle.b67_stack.proofs.Slots.{running_slot, running_fits}
-use Rattle.b67_stack.proofs.Tops.{level-small}
+use Rattle.b67_stack.proofs.Tops.{level-small, top_size-high}
 use Rattle.b67_stack.proofs.Pushes.{Room, room_of}
 use Rattle.b67_layout.specs.Placement.{Placement, spot_in, outer_spots, spots}
 use Rattle.b67_layout.specs.Layout.{shape, machine_view, stack_of_task}
 use Rattle.b67_layout.specs.Meets.{IsMade, here, with_job}
 use Rattle.b67_layout.specs.Session.{IsRunning, ShowsDisplay, SessionHolds, RepresentsSession, RepresentsSessionBut}
-use Rattle.b67_layout.proofs.Others.{keyed-has}
 use Rattle.b67_layout.proofs.Starts.{slot_is}
 use Rattle.b67_layout.proofs.Gone.{no_objects_gone}
 use Rattle.b67_layout.proofs.Fresh.{running_in_order, fresh}
 use Rattle.b67_refer.specs.RunningContext.{RunningContext}
 use Rattle.b67_refer.proofs.Scenes.{scene, member_in_order}
-use Rattle.b67_layout_enter.proofs.Heads.{entered_mark_fits, top_size_high}
-use Rattle.b67_layout_enter.proofs.Orders.{start, enter, ready_with, below_marked, below_some, top_apart, cells_front, originals_entered, height_entered}
+use Rattle.b67_layout_enter.proofs.Heads.{entered_mark_fits}
+use Rattle.b67_layout_enter.proofs.Orders.{start, enter, ready_with, top_apart, cells_front, originals_entered, height_entered}
 use Rattle.b67_layout_enter.proofs.Rooms.{written_twice}
 use Rattle.b67_layout_enter.proofs.Enters as Enters
 use Rattle.b67_layout_enter.proofs.Enters.{IsMarkedWith, entered_frames, marked_stack, IsRunning-entered, SessionHolds-entered, RepresentsSession-entered}
 use Rattle.b67_entry_enter.proofs.Sites.{Site, site}
 use Rattle.b67_entry_enter.proofs.Segments.{few_segments}
+use Rattle.b67_law_order.proofs.Looks.{below_marked, below_some}
 
 top_cells_in_order : (P : (ℕ → ℕ → Place → Type 0)) (arrays : List State.Array) (outer : List (ℕ × State.Standing)) (fs : List Frame) → FramesInOrder P arrays outer fs → CellsInOrder P arrays (map known_of fs ++ outer) (top fs).identity (top fs).cells
 top_cells_in_order P arrays outer [] g = (tt, tt)
@@ -116,7 +117,7 @@ module _ (x : Storage) (old : Cpu) (plan : Placement) (s : Session) (m : Session
   pub mark_good : IsMscw mark
   mark_good =
       let small = h.holds.memory.slots.laid.room in
-      subst IsMscw (sym mark_is) (entered_mark_fits plan.running level spot (Some back) under fit (omega (arith, top_size_high under, fits.0.fits, small)))
+      subst IsMscw (sym mark_is) (entered_mark_fits plan.running level spot (Some back) under fit (omega (arith, top_size-high under, fits.0.fits, small)))
 
   pub rcw_good : IsRcw rcw
   rcw_good = subst IsRcw (sym rcw_is) (record { place = good; level = level-small under fits.0.heads.1; segment = fit.3.1 })

@@ -11,6 +11,7 @@ use Rattle.b67_ctl.specs.declared.marks.Mscw.{Mscw}
 use Rattle.b67_model.specs.Answers.{Answer, ◌>>=◌}
 use Rattle.b67_ctl.specs.declared.registers.Regs.{Regs}
 use Rattle.b67_lemmas.specs.Lists.{Has}
+use Rattle.b67_lemmas.proofs.Members.{all_in, reverse_cons}
 use Rattle.b67_model.specs.Words as Words
 use Rattle.b67_model.specs.Words.{Word, Operand, Name, Ref, Row, Element, Proc, Intrinsic}
 use Rattle.b67_model.specs.State as State
@@ -20,6 +21,7 @@ use Rattle.b67_model.specs.Steps.{cells_of, top_of}
 use Rattle.b67_model.specs.Rows.{entr, entr_at, entr_with}
 use Rattle.b67_model.specs.Schedule.{Session}
 use Rattle.b67_model.specs.InOrder.{Starts, Known, IsSegment, IsInOrderButPlaces, WordInOrder, FramesInOrder, known_of, outer_of, reach_of}
+use Rattle.b67_model.specs.Called.{called_at, called_by, called_on}
 use Rattle.b67_stack.specs.declared.Cpu.{Cpu}
 use Rattle.b67_stack.specs.Shapes.{Shape, Fits}
 use Rattle.b67_stack.specs.Stacks.{StackPlace, Marked, Activation, mark_of, top_mark}
@@ -35,17 +37,16 @@ use Rattle.b67_layout.specs.Meets.{here}
 use Rattle.b67_layout.specs.Session.{IsRunning, RepresentsSession}
 use Rattle.b67_layout.proofs.Starts.{slot_is, runs_here}
 use Rattle.b67_layout.proofs.Fresh.{running_in_order}
-use Rattle.b67_law_order.proofs.Members.{reverse_cons, all_in}
 use Rattle.b67_refer.specs.RunningContext.{RunningContext}
 use Rattle.b67_refer.specs.Cells.{StandsFor}
 use Rattle.b67_refer.proofs.Scenes.{scene}
 use Rattle.b67_layout_enter.proofs.Enters.{IsMarkedWith, marked_stack}
 use Rattle.b67_refer.specs.Ends.{IsReference}
-use Rattle.b67_entry_enter.specs.Procedures.{Calls, called, called_at, called_with}
+use Rattle.b67_entry_enter.specs.Procedures.{Calls}
 
 -- what the mark says of how the frame stands
 module _ (plan : Placement) (j : ℕ) (job : Job) (k : ℕ) (outer : ℕ → StackPlace) where
-  entered_by : (h : OperatorContext) (st : Standing) (spot : ℕ → StackPlace) (below : List Activation) → (mark_of k (head spot st) below).entered ≡ true → (entr h st ≡ Err InvalidOperand) × (called h st ≡ None)
+  entered_by : (h : OperatorContext) (st : Standing) (spot : ℕ → StackPlace) (below : List Activation) → (mark_of k (head spot st) below).entered ≡ true → (entr h st ≡ Err InvalidOperand) × (called_on h st ≡ None)
   entered_by h State.Marked spot below e = absurd (false≢true e)
   entered_by h (State.Entered level environment back) spot below e = (refl, refl)
 
@@ -53,7 +54,7 @@ module _ (plan : Placement) (j : ℕ) (job : Job) (k : ℕ) (outer : ℕ → Sta
   marked_by State.Marked spot below e = refl
   marked_by (State.Entered level environment back) spot below e = absurd (false≢true (sym e))
 
-  entered_top : (h : OperatorContext) (fs : List Frame) → (top_mark k (activations plan j job k outer fs)).entered ≡ true → (entr h (top fs).standing ≡ Err InvalidOperand) × (called h (top fs).standing ≡ None)
+  entered_top : (h : OperatorContext) (fs : List Frame) → (top_mark k (activations plan j job k outer fs)).entered ≡ true → (entr h (top fs).standing ≡ Err InvalidOperand) × (called_on h (top fs).standing ≡ None)
   entered_top h [] e = absurd (false≢true e)
   entered_top h (f ∷ below) e = entered_by h f.standing (spot_in k outer below) (activations plan j job k outer below) e
 
@@ -137,12 +138,12 @@ top_words P arrays outer (f ∷ below) g = g.0.0
 
 -- the row, by where the first cell leads
 pub entr_goes : (h : OperatorContext) (st : Standing) (first : Word) (arguments : List Word) (end : Answer End) → st ≡ State.Marked → reverse (cells_of h) ≡ first ∷ arguments → follow_reference h first ≡ end
-    → (entr h st ≡ (end >>= entr_at h arguments)) × (called h st ≡ called_at end)
+    → (entr h st ≡ (end >>= entr_at h arguments)) × (called_on h st ≡ called_at end)
 entr_goes h st first arguments end marked up leads =
-    (ap (entr h) marked ∙ ap (entr_with h) up ∙ ap (λ (e : Answer End). e >>= entr_at h arguments) leads, ap (called h) marked ∙ ap (called_with h) up ∙ ap called_at leads)
+    (ap (entr h) marked ∙ ap (entr_with h) up ∙ ap (λ (e : Answer End). e >>= entr_at h arguments) leads, ap (called_on h) marked ∙ ap (called_by h) up ∙ ap called_at leads)
 
-pub entr_empty : (h : OperatorContext) (st : Standing) → st ≡ State.Marked → cells_of h ≡ [] → (entr h st ≡ Err StackUnderflow) × (called h st ≡ None)
-entr_empty h st marked none = (ap (entr h) marked ∙ ap (λ (cs : List Word). entr_with h (reverse cs)) none, ap (called h) marked ∙ ap (λ (cs : List Word). called_with h (reverse cs)) none)
+pub entr_empty : (h : OperatorContext) (st : Standing) → st ≡ State.Marked → cells_of h ≡ [] → (entr h st ≡ Err StackUnderflow) × (called_on h st ≡ None)
+entr_empty h st marked none = (ap (entr h) marked ∙ ap (λ (cs : List Word). entr_with h (reverse cs)) none, ap (called_on h) marked ∙ ap (λ (cs : List Word). called_by h (reverse cs)) none)
 
 module _ (x : Storage) (old : Cpu) (plan : Placement) (s : Session) (m : SessionJob) (t : Task) (q : Place) (o : IsInOrderButPlaces s) (h : RepresentsSession x old plan s) (runs : IsRunning plan s.jobs m t) where
   abbrev pub stack_now : List Activation
@@ -151,7 +152,7 @@ module _ (x : Storage) (old : Cpu) (plan : Placement) (s : Session) (m : Session
   mark_now : (top_mark old.regs.slot stack_now).entered ≡ (top_mark plan.running stack_now).entered
   mark_now = ap (λ (k : ℕ). (top_mark k stack_now).entered) (slot_is x old plan s m t h runs)
 
-  pub faults_entered : (k : Mscw) → k ≡ top_mark old.regs.slot stack_now → k.entered ≡ true → (entr (here m t q) (top_of (here m t q)).standing ≡ Err InvalidOperand) × (called (here m t q) (top_of (here m t q)).standing ≡ None)
+  pub faults_entered : (k : Mscw) → k ≡ top_mark old.regs.slot stack_now → k.entered ≡ true → (entr (here m t q) (top_of (here m t q)).standing ≡ Err InvalidOperand) × (called_on (here m t q) (top_of (here m t q)).standing ≡ None)
   faults_entered k is e = entered_top plan m.constants.number m.progress.job plan.running (outer_spots plan m.constants.number m.progress.job t.critical t.parents) (here m t q) t.frames (sym mark_now ∙ ap (λ (z : Mscw). z.entered) (sym is) ∙ e)
 
   module _ (k : Mscw) (is : k ≡ top_mark old.regs.slot stack_now) (unentered : k.entered ≡ false) where
@@ -170,7 +171,7 @@ module _ (x : Storage) (old : Cpu) (plan : Placement) (s : Session) (m : Session
     no_cells g [] e = refl
     no_cells g (c ∷ cs) e = cc
 
-    pub faults_empty : old.regs.s ≡ old.regs.f → (entr (here m t q) (top_of (here m t q)).standing ≡ Err StackUnderflow) × (called (here m t q) (top_of (here m t q)).standing ≡ None)
+    pub faults_empty : old.regs.s ≡ old.regs.f → (entr (here m t q) (top_of (here m t q)).standing ≡ Err StackUnderflow) × (called_on (here m t q) (top_of (here m t q)).standing ≡ None)
     faults_empty e = entr_empty (here m t q) (top t.frames).standing marked (no_cells _ (top t.frames).cells (sym cells_is ∙ empty.0 e))
 
     -- the first cell
@@ -214,7 +215,7 @@ module _ (x : Storage) (old : Cpu) (plan : Placement) (s : Session) (m : Session
           order = all_in (WordInOrder (IsSegment m.constants) job.arrays (map known_of t.frames ++ outer_of job t) (top t.frames).identity) cs p.first (top_words (IsSegment m.constants) job.arrays (outer_of job t) t.frames g.frames) (subst (λ (ws : List Word). Has ws p.first) (sym p.down) (last_has (reverse p.arguments) p.first));
         }
 
-    pub faults_other : (some : old.regs.s ≢ old.regs.f) → (facing some).word.tag ≢ 1 → (entr (here m t q) (top_of (here m t q)).standing ≡ Err InvalidOperand) × (called (here m t q) (top_of (here m t q)).standing ≡ None)
+    pub faults_other : (some : old.regs.s ≢ old.regs.f) → (facing some).word.tag ≢ 1 → (entr (here m t q) (top_of (here m t q)).standing ≡ Err InvalidOperand) × (called_on (here m t q) (top_of (here m t q)).standing ≡ None)
     faults_other some ne =
         let f = facing some in
         entr_goes (here m t q) (top t.frames).standing f.first f.arguments (Err InvalidOperand) marked f.up
@@ -232,5 +233,5 @@ module _ (x : Storage) (old : Cpu) (plan : Placement) (s : Session) (m : Session
 
       -- the row, by where its reference leads
       pub goes : (end : Answer End) → follow (here m t q) (facing some).first ≡ end
-          → (entr (here m t q) (top_of (here m t q)).standing ≡ (end >>= entr_at (here m t q) (facing some).arguments)) × (called (here m t q) (top_of (here m t q)).standing ≡ called_at end)
+          → (entr (here m t q) (top_of (here m t q)).standing ≡ (end >>= entr_at (here m t q) (facing some).arguments)) × (called_on (here m t q) (top_of (here m t q)).standing ≡ called_at end)
       goes end leads = let f = facing some in entr_goes (here m t q) (top t.frames).standing f.first f.arguments end marked f.up (same_follow (here m t q) f.first is_reference ∙ leads)

@@ -13,6 +13,7 @@ use Rattle.b67_model.specs.Chase.{AtCell, AtElement, AtArray, AtProc, AtIntrinsi
 use Rattle.b67_model.specs.Steps.{Done}
 use Rattle.b67_model.specs.Rows.{entr_at}
 use Rattle.b67_model.specs.Schedule.{Session}
+use Rattle.b67_model.specs.Called.{called_at}
 use Rattle.b67_stack.specs.declared.Cpu.{Cpu}
 use Rattle.b67_stack.specs.declared.Step.{Step}
 use Rattle.b67_stack.specs.declared.Step.TheVariants as step
@@ -22,7 +23,7 @@ use Rattle.b67_layout.specs.Meets.{Meets}
 use Rattle.b67_refer.specs.RunningContext.{RunningContext}
 use Rattle.b67_refer.specs.declared.ends.End.TheVariants as end
 use Rattle.b67_refer.specs.Ends.{EndMeets, IsProcAt}
-use Rattle.b67_entry_enter.specs.Procedures.{called_at, CallsOrMeets}
+use Rattle.b67_entry_enter.specs.Procedures.{CallsOrMeets}
 
 -- the answer and the call, where both are known
 pub meets_plain : (x : Storage) (plan : Placement) (s : Session) (m : SessionJob) (answered : Step) (old new : Cpu) (call : Option ℕ) (answer is : Answer Done) → call ≡ None → answer ≡ is → Meets x plan s m answered old new is → CallsOrMeets x plan s m answered old new call answer

@@ -20,13 +20,13 @@ use Rattle.b67_layout.specs.Placement.{Placement}
 use Rattle.b67_layout.specs.Layout.{machine_view, stack_of_task}
 use Rattle.b67_layout.specs.Meets.{IsMade, here, with_job}
 use Rattle.b67_layout.specs.Session.{IsRunning, RepresentsSession, RepresentsSessionBut}
-use Rattle.b67_layout.proofs.Others.{keyed-has}
 use Rattle.b67_layout.proofs.Starts.{slot_is, runs_here}
 use Rattle.b67_layout.proofs.Settles.{Settled-more}
 use Rattle.b67_layout.proofs.Gone.{no_objects_gone}
 use Rattle.b67_layout.proofs.Fresh.{job_in_order}
 use Rattle.b67_layout_enter.proofs.Marks.{job_marked, RepresentsSession-mark}
 use Rattle.b67_layout_enter.proofs.Rooms.{height_room, written}
+use Rattle.b67_lemmas.proofs.Members.{keyed-has}
 
 -- the machine after it
 abbrev pub marked_at : Cpu → Place → Cpu

@@ -6,9 +6,8 @@ use Rattle.b67_ctl.specs.declared.registers.Regs.{Regs}
 use Rattle.b67_model.specs.Answers.{Answer}
 use Rattle.b67_lemmas.specs.Lists.{Has}
 use Rattle.b67_model.specs.Words.{Word}
-use Rattle.b67_model.specs.State.{Standing, Marked, Entered, Task, Job, SessionJob, OperatorContext, top}
-use Rattle.b67_model.specs.Chase.{End, AtIntrinsic, follow_reference}
-use Rattle.b67_model.specs.Steps.{Done, Goes, cells_of}
+use Rattle.b67_model.specs.State.{Marked, Task, Job, SessionJob, top}
+use Rattle.b67_model.specs.Steps.{Done, Goes}
 use Rattle.b67_model.specs.InOrder.{IsInOrderButPlaces}
 use Rattle.b67_model.specs.Schedule.{Session}
 use Rattle.b67_stack.specs.declared.Cpu.{Cpu}
@@ -58,19 +57,6 @@ pub record Calls (t : Task) (reference : Word) (arguments : List Word) : Type 0 
   pub marked : (top t.frames).standing ≡ Marked
   pub cells : (top t.frames).cells ≡ reverse arguments ++ reference ∷ []
   pub refers : IsReference reference
-
--- the intrinsic that an end, the cells of a mark, and ENTR call, if they call one
-abbrev pub called_at : Answer End → Option ℕ
-called_at (Ok (AtIntrinsic n)) = Some n
-called_at _ = None
-
-abbrev pub called_with : OperatorContext → List Word → Option ℕ
-called_with h [] = None
-called_with h (reference ∷ arguments) = called_at (follow_reference h reference)
-
-abbrev pub called : OperatorContext → Standing → Option ℕ
-called h (Entered level environment back) = None
-called h Marked = called_with h (reverse (cells_of h))
 
 -- an operator that may call an intrinsic: where it does nothing has changed, else it is made by its row
 abbrev pub CallsOrMeets : Storage → Placement → Session → SessionJob → Step → Cpu → Cpu → Option ℕ → Answer Done → Type 0

@@ -7,6 +7,7 @@ ghost use Rattle.b67_ctl.specs.declared.programs.Pcw.{Pcw};
 ghost use Rattle.b67_ctl.specs.declared.registers.Regs.{Regs};
 ghost use Rattle.b67_word.specs.declared.couples.Place.{Place};
 ghost use Rattle.b67_model.specs.Steps.{cells_of, top_of};
+ghost use Rattle.b67_model.specs.Called.{called_on};
 ghost use Rattle.b67_model.specs.Chase.{AtProc};
 ghost use Rattle.b67_model.specs.Entry as rows;
 ghost use Rattle.b67_model.specs.Entry.{back_to};
@@ -14,7 +15,7 @@ ghost use Rattle.b67_model.specs.Rows as operators;
 ghost use Rattle.b67_stack.specs.declared.Step.TheVariants.{Done};
 ghost use Rattle.b67_layout.specs.Meets.{RunsSome, ForEach, Meets, here};
 ghost use Rattle.b67_refer.specs.RunningContext.{RunningContext, IsShown};
-ghost use Rattle.b67_entry_enter.specs.Procedures.{ReachesProc, CanEnter, EntersOrFaults, Calls, called, CallsOrMeets};
+ghost use Rattle.b67_entry_enter.specs.Procedures.{ReachesProc, CanEnter, EntersOrFaults, Calls, CallsOrMeets};
 ghost use Rattle.b67_model.specs.Words.{Word};
 
 use b67_core::Core;
@@ -111,7 +112,7 @@ fn enter(cpu: &mut Cpu, cell: u32, next: Place) -> Step
 pub fn entr(cpu: &mut Cpu, next: Place) -> Step
     requires runs { RunsSome cpu.old }
     requires next { IsPlace next }
-    ensures row { ForEach cpu.old (λ x plan s m t. CallsOrMeets x plan s m result cpu.old cpu.new (called (here m t next) (top_of (here m t next)).standing) (operators.entr (here m t next) (top_of (here m t next)).standing)) }
+    ensures row { ForEach cpu.old (λ x plan s m t. CallsOrMeets x plan s m result cpu.old cpu.new (called_on (here m t next) (top_of (here m t next)).standing) (operators.entr (here m t next) (top_of (here m t next)).standing)) }
 {
     if cpu.top_mark().entered {
         return Step::Fault(Fault::InvalidOperand);

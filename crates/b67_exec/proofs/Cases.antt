@@ -1,5 +1,5 @@
 -- Which of the two top cells is the value, where a store leads to a procedure.
-use Rattle.std.proofs.Common.{◌≡◌, ◌≢◌, ℕ, ◌+◌, ◌-◌, ◌≤◌, List, [], ◌∷◌, Ok, Err, refl, sym, ◌∙◌, ap, arith, Bool, true, subst}
+use Rattle.std.proofs.Common.{◌≡◌, ◌≢◌, ℕ, ◌+◌, ◌-◌, ◌≤◌, List, [], ◌∷◌, Ok, Err, refl, sym, ◌∙◌, ap, Bool, true, subst}
 use Rattle.std.specs.Prelude.{if◌then◌else◌}
 use Rattle.b67_word.specs.Tagged.{Tagged}
 use Rattle.b67_word.specs.declared.couples.Place.{Place}
@@ -23,18 +23,7 @@ use Rattle.b67_fetch.specs.Stores.{store_end}
 use Rattle.b67_exec.proofs.Entered.{AtProcedure, at_procedure}
 use Rattle.b67_exec.specs.Stores.{ValueOver}
 use Rattle.b67_exec.proofs.Unders.{is_operand}
-
--- the word of an operand has tag 0, and no other has
-operand_by : (x : Storage) (plan : Placement) (m : SessionJob) (t : Task) (w : Word) (at : ℕ) (v : Tagged) → IsWordOf x plan m t w at v → v.tag ≡ 0 → operand w ≡ Ok v.bits
-operand_by x plan m t (Operand n) at v i e = ap Ok (sym (ap (λ (z : Tagged). z.bits) i.0))
-operand_by x plan m t (Name c) at v i e = absurd (let k = ap (λ (z : Tagged). z.tag) i.0 in omega (arith, k, e))
-operand_by x plan m t (Ref f o) at v i e = absurd (let k = ap (λ (z : Tagged). z.tag) i.0 in omega (arith, k, e))
-operand_by x plan m t (Row a) at v i e = absurd (let k = ap (λ (z : Tagged). z.tag) i.is in omega (arith, k, e))
-operand_by x plan m t (Element a d) at v i e = absurd (let k = ap (λ (z : Tagged). z.tag) i.is in omega (arith, k, e))
-operand_by x plan m t (Original a) at v i e = absurd (let k = ap (λ (z : Tagged). z.tag) i.1.is in omega (arith, k, e))
-operand_by x plan m t (Proc g l p) at v i e = absurd (let k = ap (λ (z : Tagged). z.tag) i.0 in omega (arith, k, e))
-operand_by x plan m t (Intrinsic n) at v i e = absurd (let k = ap (λ (z : Tagged). z.tag) i.0 in omega (arith, k, e))
-operand_by x plan m t (Words.Segment n) at v i e = absurd (let k = ap (λ (z : Tagged). z.tag) i.0 in omega (arith, k, e))
+use Rattle.b67_exec_operands.proofs.Rows.{an_operand}
 
 other_by : (x : Storage) (plan : Placement) (m : SessionJob) (t : Task) (w lower : Word) (at : ℕ) (v : Tagged) → IsWordOf x plan m t w at v → v.tag ≢ 0 → in_order w lower ≡ (w, lower)
 other_by x plan m t (Operand n) lower at v i ne = absurd (ne (ap (λ (z : Tagged). z.tag) i.0))
@@ -79,7 +68,7 @@ module _ (x : Storage) (cpu : Cpu) (plan : Placement) (m : SessionJob) (t : Task
         let V : Tagged → Type 0 = λ z. IsAt x plan m t cpu.core b cpu.regs.s z in
         let at_u = subst U same_u g.3 in
         let at_v = subst V same_v g.4 in
-        let o : operand b ≡ Ok v.bits = operand_by x plan m t b cpu.regs.s v at_v.is zero in
+        let o : operand b ≡ Ok v.bits = an_operand x plan m t b cpu.regs.s v at_v.is zero in
         let bw : b ≡ Operand v.bits = is_operand b v.bits o in
         let E : Word → Type 0 = λ z. enters_at (store_end (here m t q) (z ∷ a ∷ rest)) ≡ true in
         let p = at_procedure (follow (here m t q) a) (subst E bw e) in

@@ -14,12 +14,12 @@ use Rattle.b67_model.specs.Environment.{level_of_frame}
 use Rattle.b67_model.specs.InOrder.{NamesEntered, IsInOrderButPlaces}
 use Rattle.b67_model.specs.Keyed.{change_keyed}
 use Rattle.b67_lemmas.specs.Lists.{Has}
+use Rattle.b67_lemmas.proofs.Members.{change_twice, change_found, keyed-has}
 use Rattle.b67_model.specs.Run.{number_of}
 use Rattle.b67_model.specs.Schedule.{Session}
 use Rattle.b67_model.specs.State.{Frame, Entered, Array, Task, Job, JobProgress, SessionJob, top, with_top_cells, with_task, height, frame}
 use Rattle.b67_model.specs.Steps.{Done, Goes, cells_of}
 use Rattle.b67_model.specs.Words.{Word, Proc}
-use Rattle.b67_law_order.proofs.Members.{change_twice}
 use Rattle.b67_stack.specs.declared.Cpu.{Cpu}
 use Rattle.b67_stack.specs.declared.Step.{Step}
 use Rattle.b67_stack.specs.declared.Step.TheVariants as step
@@ -29,7 +29,6 @@ use Rattle.b67_layout.specs.Placement.{Placement, address_of}
 use Rattle.b67_layout.specs.Layout.{machine_view, stack_of_task}
 use Rattle.b67_layout.specs.Session.{IsRunning, SessionHoldsBut, RepresentsSession, RepresentsSessionBut}
 use Rattle.b67_layout.specs.Meets.{here, with_job, IsMade}
-use Rattle.b67_layout.proofs.Others.{keyed-has, keyed-put_same}
 use Rattle.b67_layout.proofs.MachineViews.{member-same}
 use Rattle.b67_layout.proofs.Rows.{runs_on}
 use Rattle.b67_layout.proofs.Whole.{task_with}
@@ -81,7 +80,7 @@ module _ (x : Storage) (old : Cpu) (plan : Placement) (s : Session) (m : Session
   pub runs0 : IsRunning plan (with_job s m (with_task m.progress.job (task_with t cs t.place))).jobs (record m { progress = record m.progress { job = with_task m.progress.job (task_with t cs t.place) } }) (task_with t cs t.place)
   runs0 = record {
     member = member-same s.jobs m.constants.number (record m.progress { job = with_task m.progress.job (task_with t cs t.place) }) m runs.member;
-    task = keyed-put_same (λ (u : Task). u.number) t.number (task_with t cs t.place) t refl m.progress.job.tasks runs.task;
+    task = change_found (λ (u : Task). u.number) t.number t (task_with t cs t.place) m.progress.job.tasks refl runs.task;
     slot = runs.slot;
   }
 

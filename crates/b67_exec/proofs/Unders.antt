@@ -1,5 +1,5 @@
 -- A store into a procedure: the value stays, the reference goes, and the procedure is entered.
-use Rattle.std.proofs.Common.{◌≡◌, ◌≢◌, ℕ, zero, suc, ◌+◌, ◌-◌, ◌<◌, ◌≤◌, List, [], ◌∷◌, ◌++◌, map, length, Some, Ok, Err, refl, sym, ◌∙◌, ap, arith, Bool, false, inl, inr, ◌⊎◌, ⊎_elim, subst, slice_set}
+use Rattle.std.proofs.Common.{◌≡◌, ◌≢◌, ℕ, ◌+◌, ◌-◌, ◌<◌, ◌≤◌, List, [], ◌∷◌, ◌++◌, map, length, Ok, Err, refl, sym, ◌∙◌, ap, arith, Bool, false, inl, inr, ◌⊎◌, ⊎_elim, subst, slice_set}
 use Rattle.std.specs.Prelude.{if◌then◌else◌}
 use Rattle.std.specs.List.{slice_get}
 use Rattle.std.proofs.lemmas.Bool.{cases_eq}
@@ -15,6 +15,7 @@ use Rattle.b67_model.specs.Entry.{accident, back_to}
 use Rattle.b67_model.specs.InOrder.{Starts, Known, known_of, outer_of, is_original_of, IsSegment, CellsInOrder, FramesInOrder, IsInOrderButPlaces}
 use Rattle.b67_model.specs.Intrinsics.{is_original}
 use Rattle.b67_lemmas.specs.Lists.{Has, how_many}
+use Rattle.b67_lemmas.proofs.Places.{set-back}
 use Rattle.b67_model.specs.Rows as rows
 use Rattle.b67_model.specs.Schedule.{Session}
 use Rattle.b67_model.specs.State.{Frame, Array, Task, SessionJob, OperatorContext, top, with_task}
@@ -100,12 +101,6 @@ no_proc : (h : OperatorContext) (bits : ℕ) (a : Word) (f segment level : ℕ) 
 no_proc h bits a f segment level place e g l p (inl z) = cc
 no_proc h bits a f segment level place e g l p (inr (inl z)) = let k : follow h (Proc g l p) ≡ Ok (AtProc f segment level place) = ap (follow h) (sym z) ∙ e in let b : ⊥ = cc in b
 no_proc h bits a f segment level place e g l p (inr (inr z)) = z
-
--- a word that is written and written back
-set-back : {A : Type 0} (xs : List A) (i : ℕ) (v w : A) → slice_get xs i ≡ Some w → slice_set (slice_set xs i v) i w ≡ xs
-set-back [] i v w e = cc
-set-back (x ∷ xs) zero v w e = ap (λ y. y ∷ xs) (sym (same_Some x w e))
-set-back (x ∷ xs) (suc i) v w e = ap (λ ys. x ∷ ys) (set-back xs i v w e)
 
 module _ (x : Storage) (cpu : Cpu) (plan : Placement) (s : Session) (m : SessionJob) (t : Task) (ordered : IsInOrderButPlaces s) (h : RepresentsSession x cpu plan s) (runs : IsRunning plan s.jobs m t) (q : Place)
     (bits : ℕ) (a : Word) (rest : List Word) (e : cells t ≡ Operand bits ∷ a ∷ rest) (p : AtProcedure (follow (here m t q) a)) (u v : Tagged)

@@ -10,6 +10,7 @@ use Rattle.b67_area.proofs.Laws.{area_inside}
 use Rattle.b67_ctl.specs.declared.descriptors.DataDesc.{DataDesc}
 use Rattle.b67_ctl.specs.Descriptors.{data_word, IsDataDesc}
 use Rattle.b67_lemmas.specs.Lists.{Has}
+use Rattle.b67_lemmas.proofs.Members.{keyed_falls, keyed-has}
 use Rattle.b67_model.specs.Words.{Row}
 use Rattle.b67_model.specs.Arrays.{array, element, no_array}
 use Rattle.b67_model.specs.Keyed.{keyed}
@@ -17,7 +18,6 @@ use Rattle.b67_model.specs.State.{Array, Task, SessionJob}
 use Rattle.b67_model.specs.Run.{number_of}
 use Rattle.b67_model.specs.Schedule.{Session}
 use Rattle.b67_model.specs.InOrder.{IsInOrderButPlaces}
-use Rattle.b67_law_order.proofs.Members.{keyed_falls}
 use Rattle.b67_stack.specs.declared.Cpu.{Cpu}
 use Rattle.b67_stack.specs.Shapes.{Location, LieUpward}
 use Rattle.b67_stack.specs.MachineView.{PagedObject, is_present, address_or, home_desc, home_word, tag_of}
@@ -27,7 +27,6 @@ use Rattle.b67_layout.specs.Placement.{Placement}
 use Rattle.b67_layout.specs.Layout.{array_object, objects_of}
 use Rattle.b67_layout.specs.Session.{IsRunning, RepresentsSession}
 use Rattle.b67_layout.specs.Meets.{area_held}
-use Rattle.b67_layout.proofs.Others.{keyed-has}
 use Rattle.b67_layout.proofs.Fresh.{running_in_order}
 use Rattle.b67_exec_cells.specs.Tops.{IsWordOf}
 use Rattle.b67_exec_cells.proofs.Replaced.{array_object-has}
@@ -37,7 +36,7 @@ home_by : (plan : Placement) (j : ℕ) (a : Array) (b : Bool) (h : Location) →
 home_by plan j a true h e = rw e refl
 home_by plan j a false h e = rw e refl
 
-tag_by : (a : Array) (b : Bool) → a.writable ≡ b → tag_of (if a.writable then kind.Array else kind.Row) ≡ 0
+pub tag_by : (a : Array) (b : Bool) → a.writable ≡ b → tag_of (if a.writable then kind.Array else kind.Row) ≡ 0
 tag_by a true e = rw e refl
 tag_by a false e = rw e refl
 

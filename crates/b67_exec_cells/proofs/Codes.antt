@@ -1,5 +1,5 @@
 -- The running segment is a object of the view: its descriptor and its words in core.
-use Rattle.std.proofs.Common.{◌≡◌, ℕ, zero, suc, ◌+◌, ◌-◌, ◌<◌, ◌^◌, List, [], ◌∷◌, map, flat_map, length, Option, Some, None, refl, sym, ◌∙◌, ap, arith, inl, inr, true, false, subst, take, drop}
+use Rattle.std.proofs.Common.{◌≡◌, ℕ, zero, suc, ◌+◌, ◌-◌, ◌<◌, ◌^◌, List, [], ◌∷◌, map, flat_map, length, Option, Some, None, refl, sym, ◌∙◌, ap, arith, inl, inr, true, false, subst}
 use Rattle.std.specs.List.{slice_get, slice_range}
 use Rattle.std.proofs.lemmas.Option.{same_Some, none-some, slice_get_within}
 use Rattle.std.proofs.lemmas.List.{length-map}
@@ -9,30 +9,25 @@ use Rattle.b67_area.proofs.Laws.{area_inside}
 use Rattle.b67_ctl.specs.declared.descriptors.SegDesc.{SegDesc}
 use Rattle.b67_ctl.specs.Descriptors.{seg_word, IsSegDesc}
 use Rattle.b67_lemmas.specs.Lists.{Has}
+use Rattle.b67_lemmas.proofs.Members.{all_in, has_get, keyed-has}
+use Rattle.b67_lemmas.proofs.Places.{get_within}
 use Rattle.b67_model.specs.State.{Segment, Task, SessionJob}
 use Rattle.b67_model.specs.Operators.{Reading, operator_at}
 use Rattle.b67_model.specs.Rows.{code_of, reading_of}
 use Rattle.b67_model.specs.Run.{number_of}
 use Rattle.b67_model.specs.Schedule.{Session}
 use Rattle.b67_model.specs.InOrder.{SegmentInOrder, IsInOrderButPlaces}
-use Rattle.b67_law_order.proofs.Members.{all_in, has_get}
 use Rattle.b67_stack.specs.declared.Cpu.{Cpu}
-use Rattle.b67_stack.specs.Shapes.{LieUpward}
 use Rattle.b67_stack.specs.MachineView.{PagedObject, is_present, address_or}
 use Rattle.b67_stack.specs.Represents.{Storage, Content, RepresentsObject, info_of}
 use Rattle.b67_stack.proofs.Homes.{chain_small}
+use Rattle.b67_stack.proofs.Lies.{upward-range}
 use Rattle.b67_layout.specs.Placement.{Placement}
 use Rattle.b67_layout.specs.Layout.{code_objects, objects_of, array_object}
 use Rattle.b67_layout.specs.Session.{IsRunning, RepresentsSession}
-use Rattle.b67_layout.proofs.Others.{keyed-has}
 use Rattle.b67_layout.proofs.Fresh.{running_in_order}
 use Rattle.b67_exec_cells.proofs.Replaced.{member_objects, before}
 use Rattle.b67_exec_cells.specs.Running.{code_held, code_area, code_desc}
-
-get_within : {A : Type 0} (xs : List A) (i : ℕ) → i < length xs → (x : A) × (slice_get xs i ≡ Some x)
-get_within [] i low = absurd (omega (arith, low))
-get_within (x ∷ xs) zero low = (x, refl)
-get_within (x ∷ xs) (suc i) low = get_within xs i (omega (arith, low))
 
 pub code_object : (plan : Placement) (j n : ℕ) (ss : List Segment) (i at : ℕ) (g : Segment) → slice_get ss i ≡ Some g → at ≡ plan.dictionary j + 1 + (n + i) → Has (code_objects plan j n ss) (record { home = at; kind = kind.Code; numbers = g.code })
 code_object plan j n [] i at g e is = absurd (none-some g e)
@@ -41,24 +36,6 @@ code_object plan j n (s ∷ ss) zero at g e is =
     let U : ℕ → PagedObject = λ z. record { home = z; kind = kind.Code; numbers = g.code } in
     inl (ap T (same_Some s g e) ∙ ap U (sym (is ∙ (let z : plan.dictionary j + 1 + (n + 0) ≡ plan.dictionary j + 1 + n = omega arith in z))))
 code_object plan j n (s ∷ ss) (suc i) at g e is = inr (code_object plan j (n + 1) ss i at g e (is ∙ (let z : plan.dictionary j + 1 + (n + suc i) ≡ plan.dictionary j + 1 + (n + 1 + i) = omega arith in z)))
-
--- words that lie from an address on are read from there
-drop-get : {A : Type 0} (xs : List A) (i : ℕ) (v : A) → slice_get xs i ≡ Some v → drop i xs ≡ v ∷ drop (suc i) xs
-drop-get [] i v e = absurd (none-some v e)
-drop-get (x ∷ xs) zero v e = ap (λ y. y ∷ xs) (same_Some x v e)
-drop-get (x ∷ xs) (suc i) v e = drop-get xs i v e
-
-upward-take : (core : List Tagged) (at : ℕ) (ws : List Tagged) → LieUpward core at ws → take (length ws) (drop at core) ≡ ws
-upward-take core at [] u = refl
-upward-take core at (w ∷ ws) u =
-    let next : at + 1 ≡ suc at = omega arith in
-    let rest : take (length ws) (drop (suc at) core) ≡ ws = subst (λ n. take (length ws) (drop n core) ≡ ws) next (upward-take core (at + 1) ws u.1) in
-    rw (drop-get core at w u.0) (ap (λ ys. w ∷ ys) rest)
-
-upward-range : (core : List Tagged) (at n : ℕ) (ws : List Tagged) → n ≡ length ws → LieUpward core at ws → slice_range core at (at + n) ≡ ws
-upward-range core at n ws e u =
-    let count : at + n - at ≡ length ws = omega (arith, e) in
-    ap (λ k. take k (drop at core)) count ∙ upward-take core at ws u
 
 contents-words : (tag : ℕ) (ns : List ℕ) → contents (map (word tag) ns) ≡ ns
 contents-words tag [] = refl

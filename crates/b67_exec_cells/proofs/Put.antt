@@ -31,7 +31,6 @@ use Rattle.b67_layout.specs.Placement.{Placement, spot_in, outer_spots}
 use Rattle.b67_layout.specs.Layout.{shape, stack_of_task, machine_view}
 use Rattle.b67_layout.specs.Session.{IsRunning, RepresentsSession, RepresentsSessionBut}
 use Rattle.b67_layout.specs.Meets.{here, with_job, IsMade}
-use Rattle.b67_layout.proofs.Others.{keyed-has}
 use Rattle.b67_layout.proofs.Frames.{height-is}
 use Rattle.b67_layout.proofs.Rows.{runs_on}
 use Rattle.b67_layout.proofs.Steps.{GoesOn}
@@ -41,6 +40,7 @@ use Rattle.b67_layout.proofs.Fresh.{fresh, running_in_order}
 use Rattle.b67_layout.proofs.Gone.{no_objects_gone}
 use Rattle.b67_exec_cells.specs.Tops.{IsWordOf, IsAt, cells, GivesTop, GivesTwo, MayStand, NoOriginals}
 use Rattle.b67_exec_cells.proofs.Replaced.{cells-are, height-with, shapes_plain, may_push, Represents-less, Represents-put, word_under}
+use Rattle.b67_lemmas.proofs.Members.{keyed-has}
 
 module _ (x : Storage) (old : Cpu) (plan : Placement) (s : Session) (m : SessionJob) (t : Task) (ordered : IsInOrderButPlaces s) (h : RepresentsSession x old plan s) (runs : IsRunning plan s.jobs m t) where
   -- the running stack, and the shapes of its top cells

@@ -28,13 +28,13 @@ use Rattle.b67_layout.specs.Placement.{Placement, spot_in, outer_spots}
 use Rattle.b67_layout.specs.Layout.{machine_view}
 use Rattle.b67_layout.specs.Session.{IsRunning, RepresentsSession}
 use Rattle.b67_layout.specs.Meets.{here, IsMade}
-use Rattle.b67_layout.proofs.Others.{keyed-has}
 use Rattle.b67_layout.proofs.Settles as Settles
 use Rattle.b67_exec_cells.specs.Tops.{IsWordOf, cells, GivesTwo, MayStand}
 use Rattle.b67_exec_cells.proofs.Replaced.{Represents-put, shapes_plain, may_push, height-with}
 use Rattle.b67_exec_cells.proofs.Put.{stack, shaped, runs_here, room, tops, seen, made_cells}
 use Rattle.b67_layout.proofs.Fresh.{running_in_order}
 use Rattle.b67_exec_operands.proofs.Rows.{elsewhere, two_may_stand}
+use Rattle.b67_lemmas.proofs.Members.{keyed-has}
 
 cells-twice : (st : List Activation) (cs ds : List Shape) → with_cells (with_cells st cs) ds ≡ with_cells st ds
 cells-twice [] cs ds = refl

@@ -1,12 +1,11 @@
 -- A number stored into a cell, and the operands off the stack: what STOD and STON make at a cell.
-use Rattle.std.proofs.Common.{◌≡◌, ℕ, ◌+◌, ◌-◌, ◌<◌, ◌≤◌, List, [], ◌∷◌, ◌++◌, map, length, None, Ok, refl, sym, ◌∙◌, ap, arith, Bool, true, false, ◌==◌, ⊎_elim, inl, inr, ◌⊎◌, subst, slice_set}
+use Rattle.std.proofs.Common.{◌≡◌, ℕ, ◌+◌, ◌-◌, ◌<◌, ◌≤◌, List, [], ◌∷◌, ◌++◌, length, None, Ok, refl, sym, ◌∙◌, ap, arith, Bool, true, false, ◌==◌, ⊎_elim, inl, inr, ◌⊎◌, subst, slice_set}
 use Rattle.std.specs.Prelude.{if◌then◌else◌}
 use Rattle.std.specs.List.{slice_get}
 use Rattle.std.proofs.lemmas.Bool.{cases_Bool, cases_eq}
 use Rattle.b67_core.proofs.Writes.{slice_get-set_other}
 use Rattle.b67_word.specs.Tagged.{word}
 use Rattle.b67_word.specs.declared.couples.Place.{Place}
-use Rattle.b67_model.specs.Keyed.{change_keyed}
 use Rattle.b67_model.specs.Words.{Word, Operand}
 use Rattle.b67_model.specs.State.{Frame, Task, Job, SessionJob, top, with_top_cells, with_task}
 use Rattle.b67_model.specs.Cells.{with_cell}
@@ -14,7 +13,6 @@ use Rattle.b67_model.specs.Intrinsics.{is_original}
 use Rattle.b67_model.specs.Schedule.{Session}
 use Rattle.b67_model.specs.Steps.{Goes, with_cells}
 use Rattle.b67_model.specs.InOrder.{IsInOrderButPlaces}
-use Rattle.b67_law_order.proofs.Members.{has_map_back, keyed_has}
 use Rattle.b67_stack.specs.declared.Cpu.{Cpu}
 use Rattle.b67_stack.specs.MachineView.{PagedObject}
 use Rattle.b67_stack.specs.Represents.{Storage}
@@ -26,6 +24,7 @@ use Rattle.b67_layout.proofs.Gone.{no_objects_gone}
 use Rattle.b67_layout.proofs.MachineViews.{with_course}
 use Rattle.b67_layout.proofs.Steps.{IsFree}
 use Rattle.b67_layout.proofs.Whole.{task_with}
+use Rattle.b67_layout.proofs.Sessions.{course_twice}
 use Rattle.b67_refer.specs.RunningContext.{RunningContext}
 use Rattle.b67_refer.specs.Cells.{IsCellAt}
 use Rattle.b67_refer.proofs.Scenes as Scenes
@@ -36,14 +35,9 @@ use Rattle.b67_layout_store.proofs.Frames.{put_frames, put_job, with_cell_is, fr
 use Rattle.b67_layout_store.proofs.Mapped.{put_task}
 use Rattle.b67_layout_store.proofs.Stored as Stored
 use Rattle.b67_layout_store.proofs.Stored.{RepresentsSession-store, still_runs}
-use Rattle.b67_fetch.proofs.Finishes.{course_twice, finish_drop, finish_keep}
-
-change_map : {A : Type 0} (key : A → ℕ) (f : A → A) (n : ℕ) (a a' : A) (xs : List A) → ((x : A) → key (f x) ≡ key x) → f a ≡ a' → change_keyed key n (λ y. a') (map f xs) ≡ map f (change_keyed key n (λ y. a) xs)
-change_map key f n a a' [] keep e = refl
-change_map key f n a a' (x ∷ xs) keep e = ⊎_elim
-    (λ (t : (key x == n) ≡ true). let u : (key (f x) == n) ≡ true = ap (λ k. k == n) (keep x) ∙ t in rw t (rw u (ap (λ z. z ∷ map f xs) (sym e))))
-    (λ (t : (key x == n) ≡ false). let u : (key (f x) == n) ≡ false = ap (λ k. k == n) (keep x) ∙ t in rw t (rw u (ap (λ zs. f x ∷ zs) (change_map key f n a a' xs keep e))))
-    (cases_Bool (key x == n))
+use Rattle.b67_fetch.proofs.Finishes.{finish_drop, finish_keep}
+use Rattle.b67_lemmas.proofs.Members.{has_map_back, keyed_has}
+use Rattle.b67_lemmas.proofs.Keyed.{change_map}
 
 -- the top frame's cells, where the word may be stored in one of them
 abbrev stored : Bool → ℕ → Word → List Word → List Word

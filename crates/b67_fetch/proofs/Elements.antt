@@ -24,11 +24,12 @@ use Rattle.b67_layout.proofs.Gone.{no_objects_gone}
 use Rattle.b67_layout.proofs.MachineViews.{with_course}
 use Rattle.b67_layout.proofs.Steps.{IsFree}
 use Rattle.b67_layout.proofs.Whole.{task_with}
+use Rattle.b67_layout.proofs.Sessions.{course_twice}
 use Rattle.b67_exec_cells.specs.Tops.{cells, NoOriginals}
 use Rattle.b67_exec_cells.proofs.Put.{room, registers}
 use Rattle.b67_layout_store.proofs.Objects.{identities_kept}
 use Rattle.b67_layout_store.proofs.Machine.{RepresentsSession-element, still_runs}
-use Rattle.b67_fetch.proofs.Finishes.{course_twice, finish_drop, finish_keep}
+use Rattle.b67_fetch.proofs.Finishes.{finish_drop, finish_keep}
 
 module _ (x : Storage) (old : Cpu) (plan : Placement) (s : Session) (m : SessionJob) (t : Task) (o : IsInOrderButPlaces s) (h : RepresentsSession x old plan s) (runs : IsRunning plan s.jobs m t) (q : Place)
     (a : Array) (found : keyed (λ (z : Array). z.identity) a.identity m.progress.job.arrays ≡ Some a) (writable : a.writable ≡ true) (i bits b : ℕ) (low : i < length a.numbers) (held : (x.held (plan.home m.constants.number a.identity)).area ≡ Some b) where

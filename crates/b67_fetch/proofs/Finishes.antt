@@ -1,12 +1,11 @@
 -- Cells dropped or replaced on top, after the job itself has changed.
-use Rattle.std.proofs.Common.{◌≡◌, ℕ, ◌+◌, ◌-◌, ◌≤◌, List, [], ◌∷◌, ◌++◌, map, length, refl, sym, ◌∙◌, ap, arith, true, false, ◌==◌, ⊎_elim, subst, slice_set}
-use Rattle.std.proofs.lemmas.Bool.{cases_Bool}
+use Rattle.std.proofs.Common.{◌≡◌, ℕ, ◌+◌, ◌-◌, ◌≤◌, List, ◌∷◌, ◌++◌, map, length, refl, sym, ◌∙◌, ap, arith, subst, slice_set}
 use Rattle.std.proofs.lemmas.List.{map-append, length-map}
 use Rattle.b67_core.proofs.Writes.{slice_get-set_other}
 use Rattle.b67_word.specs.Tagged.{word}
 use Rattle.b67_word.specs.declared.couples.Place.{Place}
 use Rattle.b67_model.specs.Words.{Word, Operand}
-use Rattle.b67_model.specs.State.{Task, JobProgress, SessionJob}
+use Rattle.b67_model.specs.State.{Task, SessionJob}
 use Rattle.b67_model.specs.Run.{number_of}
 use Rattle.b67_model.specs.Schedule.{Session}
 use Rattle.b67_stack.specs.declared.Cpu.{Cpu}
@@ -19,21 +18,12 @@ use Rattle.b67_stack.proofs.Slots.{running_slot}
 use Rattle.b67_layout.specs.Placement.{Placement, spot_in, outer_spots}
 use Rattle.b67_layout.specs.Layout.{shape, stack_of_task, machine_view}
 use Rattle.b67_layout.specs.Session.{IsRunning, RepresentsSession}
-use Rattle.b67_layout.proofs.Others.{keyed-has}
-use Rattle.b67_layout.proofs.MachineViews.{with_course}
 use Rattle.b67_layout.proofs.Rows.{runs_on}
 use Rattle.b67_layout.proofs.Steps.{IsFree}
 use Rattle.b67_layout.proofs.Whole.{session_with, RepresentsSession-cells}
 use Rattle.b67_exec_cells.specs.Tops.{cells, NoOriginals}
 use Rattle.b67_exec_cells.proofs.Replaced.{cells-are, shapes_plain, Represents-less, Represents-put}
-
--- the last of two changes of a member's course
-pub course_twice : (jobs : List SessionJob) (j : ℕ) (c d : JobProgress) → with_course (with_course jobs j c) j d ≡ with_course jobs j d
-course_twice [] j c d = refl
-course_twice (y ∷ more) j c d = ⊎_elim
-    (λ (t : (number_of y == j) ≡ true). rw t (rw t refl))
-    (λ (t : (number_of y == j) ≡ false). rw t (rw t (ap (λ ys. y ∷ ys) (course_twice more j c d))))
-    (cases_Bool (number_of y == j))
+use Rattle.b67_lemmas.proofs.Members.{keyed-has}
 
 module _ (x : Storage) (cpu : Cpu) (plan : Placement) (s : Session) (m : SessionJob) (t : Task) (h : RepresentsSession x cpu plan s) (runs : IsRunning plan s.jobs m t) (n : ℕ) (free : IsFree m.progress.job n) (q : Place) where
   abbrev stack : List Activation

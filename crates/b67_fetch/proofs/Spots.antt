@@ -12,7 +12,6 @@ use Rattle.b67_model.specs.Run.{number_of}
 use Rattle.b67_stack.specs.Stacks.{StackPlace}
 use Rattle.b67_layout.specs.Placement.{Placement}
 use Rattle.b67_layout.specs.Session.{vector_word}
-use Rattle.b67_layout.proofs.Others.{keyed-has}
 use Rattle.b67_refer.specs.RunningContext.{RunningContext}
 use Rattle.b67_refer.specs.Cells.{view, frame_at_core}
 use Rattle.b67_refer.proofs.Seats.{seat}
@@ -20,6 +19,7 @@ use Rattle.b67_refer.proofs.Bases.{stacks_is, size_is}
 use Rattle.b67_refer.proofs.Marks.{view_low}
 use Rattle.b67_refer.proofs.Rule.{seat_address}
 use Rattle.b67_refer.proofs.Unders.{seat_low, high_address, is_mcp, is_dictionary, is_task}
+use Rattle.b67_lemmas.proofs.Members.{keyed-has}
 
 vector_job : (plan : Placement) (j : ℕ) (parents : List ℕ) → j < 16 → bits_at (vector_word plan j parents) 16 4 ≡ j
 vector_job plan j parents small = by parents where

@@ -19,7 +19,6 @@ use Rattle.b67_model.specs.Schedule.{Session}
 use Rattle.b67_model.specs.Steps.{Done, Goes, cells_of, with_cells}
 use Rattle.b67_model.specs.Rows as rows
 use Rattle.b67_model.specs.Rows.{store_at}
-use Rattle.b67_law_order.proofs.Members.{keyed_falls}
 use Rattle.b67_stack.specs.declared.Cpu.{Cpu}
 use Rattle.b67_stack.specs.declared.Step.{Step}
 use Rattle.b67_stack.specs.declared.Step.TheVariants as step
@@ -43,6 +42,7 @@ use Rattle.b67_fetch.specs.Stores.{store_end, ElementAt, stored}
 use Rattle.b67_fetch.proofs.Cells as Cells
 use Rattle.b67_fetch.proofs.Elements as Elements
 use Rattle.b67_fetch.proofs.Words.{Given, plain_two}
+use Rattle.b67_lemmas.proofs.Members.{keyed_falls}
 
 module _ (x : Storage) (old : Cpu) (plan : Placement) (s : Session) (m : SessionJob) (t : Task) (o : IsInOrderButPlaces s) (h : RepresentsSession x old plan s) (runs : IsRunning plan s.jobs m t) (q : Place) (keeps : Bool) where
   abbrev a : RunningContext old.core old.regs

@@ -7,11 +7,11 @@ use Rattle.b67_model.specs.Chase.{End, follow}
 use Rattle.b67_model.specs.InOrder.{IsSegment, known_of, outer_of, FramesInOrder, WordInOrder, IsInOrderButPlaces}
 use Rattle.b67_model.specs.Intrinsics.{is_original}
 use Rattle.b67_lemmas.specs.Lists.{Has}
+use Rattle.b67_lemmas.proofs.Members.{all_in}
 use Rattle.b67_model.specs.Words as Words
 use Rattle.b67_model.specs.Words.{Word, Operand, Name, Ref, Row, Element, Original, Proc, Intrinsic, operand}
 use Rattle.b67_model.specs.Schedule.{Session}
 use Rattle.b67_model.specs.State.{Frame, Task, SessionJob, OperatorContext, top}
-use Rattle.b67_law_order.proofs.Members.{all_in}
 use Rattle.b67_stack.specs.declared.Cpu.{Cpu}
 use Rattle.b67_stack.specs.Represents.{Storage}
 use Rattle.b67_layout.specs.Placement.{Placement}

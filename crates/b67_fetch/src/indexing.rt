@@ -16,7 +16,7 @@ ghost use Rattle.b67_fetch.specs.Indexes.{array_in, FindsArray, index_in, FindsI
 
 use crate::loading::put_element;
 use b67_ctl::DataDesc;
-use b67_exec_cells::elements::descriptor;
+use b67_exec_cells::array_descriptor;
 use b67_exec_cells::{replace_cells, two_cells};
 use b67_refer::{End, chase, owner};
 use b67_stack::{Cpu, Step};
@@ -88,7 +88,7 @@ fn item_at(cpu: &Cpu, reference: Word, index: Word) -> Result<(u32, u32), Fault>
         Ok(original) => original,
         Err(fault) => return Err(fault),
     };
-    match index_below(index, descriptor(cpu, original).length) {
+    match index_below(index, array_descriptor(cpu, original).length) {
         Ok(n) => Ok((original, n)),
         Err(fault) => Err(fault),
     }
@@ -116,7 +116,7 @@ fn item_copy(cpu: &Cpu, original: u32, index: u32) -> Word
     requires { HoldsElement cpu.now original index }
     ensures { ForEach cpu.now (λ x plan s m t. (n at : ℕ) → original ≡ plan.home m.constants.number n → HasElement m.progress.job n index → IsWordOf x plan m t (Element n index) at result) }
 {
-    let desc = descriptor(cpu, original);
+    let desc = array_descriptor(cpu, original);
     if desc.present {
         DataDesc {
             copy: true,

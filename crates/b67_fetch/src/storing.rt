@@ -10,7 +10,7 @@ ghost use Rattle.b67_exec_cells.specs.Elements.{HasElement, HoldsElement};
 ghost use Rattle.b67_fetch.specs.Fetches.{enters_at, EntersOrMeets};
 ghost use Rattle.b67_fetch.specs.Stores.{store_end, ElementAt, stored};
 
-use b67_exec_cells::elements::descriptor;
+use b67_exec_cells::array_descriptor;
 use b67_exec_cells::two_cells;
 use b67_refer::{End, chase};
 use b67_stack::{Cpu, Step, What};
@@ -22,7 +22,7 @@ fn element_at(cpu: &Cpu, original: u32, index: u32) -> Result<u32, Step>
     requires { HoldsElement cpu.now original index }
     ensures { ForEach cpu.now (λ x plan s m t. (n : ℕ) → original ≡ plan.home m.constants.number n → HasElement m.progress.job n index → ElementAt x plan m n original index result) }
 {
-    let desc = descriptor(cpu, original);
+    let desc = array_descriptor(cpu, original);
     if desc.read_only {
         return Err(Step::Fault(Fault::MemoryProtect));
     }

@@ -2,16 +2,12 @@
 use Rattle.std.proofs.Common.{◌≡◌, ◌≢◌, ◌≤◌, ℕ, List, Option, None, Some, IfSome, refl, inl, arith}
 use Rattle.b67_model.specs.Schedule.{Session}
 use Rattle.b67_job_admit.specs.Admitting.{Prepared}
-use Rattle.b67_layout_storage.specs.Machine.{Says}
 use Rattle.b67_task_tables.specs.declared.tables.Machine.{Machine}
 use Rattle.b67_job.specs.Runs.{run_of, StopsAt, AreCountable, IsOpen}
-
-says_itself : (told : Option (List (List ℕ))) → Says told told
-says_itself None = tt
-says_itself (Some all) = refl
+use Rattle.b67_layout_storage.proofs.Devices.{says_self}
 
 stopped_open : (told : Option (List (List ℕ))) (first : Session) (k : Machine) → StopsAt told first k → IsOpen told k
-stopped_open told first k x = inl (record { known = told; says = says_itself told; session = _; member = x.member; task = x.task; lone = x.lone })
+stopped_open told first k x = inl (record { known = told; says = says_self told; session = _; member = x.member; task = x.task; lone = x.lone })
 
 -- how a run stands, by its clause, that was cut off while its device told its sectors
 abbrev Stands : Option (List (List ℕ)) → Option (List (List ℕ)) → (ℕ → Prepared → Type 0) → ℕ → Option Machine → Type 0

@@ -9,13 +9,13 @@ use Rattle.b67_word.specs.declared.faults.Ending.{Ending}
 use Rattle.b67_word.specs.declared.faults.Ending.TheVariants.{Limit}
 use Rattle.b67_model.specs.Keyed.{keyed, change_keyed}
 use Rattle.b67_lemmas.specs.Lists.{Has}
+use Rattle.b67_lemmas.proofs.Members.{keyed_has}
 use Rattle.b67_model.specs.State.{Task, JobProgress, SessionJob}
 use Rattle.b67_model.specs.Steps.{Line, Ends}
 use Rattle.b67_model.specs.Endings.{Settled, Stepped, ends_each_if, unsettled, step_lines, stepped}
 use Rattle.b67_model.specs.Alone.{JobMoment, by_task, step_of, up_to_deadlock, whole}
 use Rattle.b67_model.specs.Schedule.{Session, Choice, choice}
 use Rattle.b67_model.specs.Run.{RunLine, StepResult, next, moment_by, moment_for, with_moment, number_of, of_job, live_tasks}
-use Rattle.b67_law_order.proofs.Members.{keyed_has}
 use Rattle.b67_session_lines.specs.Moments.{first_part, first_part_of, first_part_in, first_part_by, last_part, last_part_if, last_part_by, is_at_limit, has_tasks}
 
 -- ---- no last part

@@ -27,6 +27,7 @@ use Rattle.b67_task_tables.specs.declared.tables.Machine.{Machine}
 use Rattle.b67_session.specs.declared.slices.Progress.{Progress}
 use Rattle.b67_session.specs.declared.slices.Progress.TheVariants as progress
 use Rattle.b67_session.specs.Slices.{IsLone, IsLimited, RepresentsWithoutTasks, Reaches, Prints, SliceMeets}
+use Rattle.b67_session.proofs.Texts.{run_text-append}
 use Rattle.b67_session_lines.specs.Moments.{last_part, due}
 use Rattle.b67_session_lines.specs.Stops.{halted_line}
 use Rattle.b67_session_lines.specs.Ends.{Ends, whole, cut}
@@ -37,9 +38,7 @@ use Rattle.b67_job.specs.Runs.{run_of, text_to, IsDone, StopsAt, IsCutInStep, Is
 use Rattle.b67_job.specs.Finishing.{steps_of, Finishes}
 use Rattle.b67_job.proofs.Parts.{over_has_no_last}
 use Rattle.b67_job.proofs.Stays.{settings, settings_stay}
-use Rattle.b67_job.proofs.Reached.{run_text-then, below, single_below, came_whole, came_limited, begins_step, ends_step}
-
--- ---- what is printed
+use Rattle.b67_job.proofs.Reached.{below, single_below, came_whole, came_limited, begins_step, ends_step}
 
 -- one text is printed, and then the call ends that prints another behind it
 pub closes_then : {K : Type 0} {taken : K → Option (List ℕ)} {faults : K → ℕ} {a b c : K} {x y : List ℕ} {status answer : ℕ} → Took taken a b x → faults a ≤ faults b
@@ -179,7 +178,7 @@ module _ {K : Type 0} (taken : K → Option (List ℕ)) (faults : K → ℕ) (d 
   in_limit tells m t h =
       let order = opens.in_order.ordered steps (omega (arith, made)) in
       let l = came_limited IsStart first steps s printed m t order h.single h.limit (leads tells) in
-      let front : run_text printed ≡ run_text (lines l.before first) ++ run_text l.part.lines = ap run_text (sym l.lines_are) ∙ run_text-then (lines l.before first) l.part.lines in
+      let front : run_text printed ≡ run_text (lines l.before first) ++ run_text l.part.lines = ap run_text (sym l.lines_are) ∙ run_text-append (lines l.before first) l.part.lines in
       let last : is ≡ due l.part.session = due_is tells ∙ ap due (sym l.session) in
       record {
         before = l.before;

@@ -1,6 +1,5 @@
 -- How far the steps of a slice came: whole steps, or all but the line of LIMIT.
 use Rattle.std.proofs.Common.{◌≡◌, ◌≢◌, ℕ, ◌+◌, ◌<◌, List, [], ◌∷◌, ◌++◌, length, refl, sym, ap, ◌∙◌, subst, arith, append_assoc, Option, Some, None}
-use Rattle.std.proofs.lemmas.Grind.{flat_map-append}
 use Rattle.std.specs.List.{AllByRecursion}
 use Rattle.b67_model.specs.State.{JobConstants, Task, SessionJob}
 use Rattle.b67_model.specs.Lines.{run_text}
@@ -10,11 +9,9 @@ use Rattle.b67_model.specs.Run.{RunLine, StepResult, lines, after}
 use Rattle.b67_single.specs.Single.{IsSingle}
 use Rattle.b67_single.proofs.Runs.{Came, came-more}
 use Rattle.b67_session.specs.Slices.{Reaches, whole, but_limit}
+use Rattle.b67_session.proofs.Texts.{run_text-append}
 use Rattle.b67_session_lines.specs.Moments.{first_part, last_part, due}
 use Rattle.b67_job.proofs.Parts.{no_last, below_is_not_at, is_at, parts}
-
-pub run_text-then : (xs ys : List RunLine) → run_text (xs ++ ys) ≡ run_text xs ++ run_text ys
-run_text-then xs ys = flat_map-append _ xs ys
 
 not_none : {A : Type 0} (x : A) → x ∷ [] ≢ []
 not_none x e = cc
@@ -65,9 +62,9 @@ begins_step first steps s printed c none some =
       run_text p.more,
       ap (λ (x : List ℕ). (run_text printed ++ x) ++ run_text p.more) d.2
           ∙ append_assoc (run_text printed) (run_text d.0.lines) (run_text p.more)
-          ∙ ap (λ (x : List ℕ). run_text printed ++ x) (sym (run_text-then d.0.lines p.more))
+          ∙ ap (λ (x : List ℕ). run_text printed ++ x) (sym (run_text-append d.0.lines p.more))
           ∙ ap (λ (x : List RunLine). run_text printed ++ run_text x) (sym p.begins)
-          ∙ sym (run_text-then printed p.moment.lines)
+          ∙ sym (run_text-append printed p.moment.lines)
           ∙ ap run_text (sym one_more.lines_are),
     )
 
@@ -85,7 +82,7 @@ ends_step first before part e some =
     let printed = run_text (lines before first) in
     ap (λ (x : List ℕ). (printed ++ run_text part.lines) ++ x) l.2
     ∙ append_assoc printed (run_text part.lines) (run_text l.0.lines)
-    ∙ ap (λ (x : List ℕ). printed ++ x) (sym (run_text-then part.lines l.0.lines))
+    ∙ ap (λ (x : List ℕ). printed ++ x) (sym (run_text-append part.lines l.0.lines))
     ∙ ap (λ (x : List RunLine). printed ++ run_text x) (sym (p.both l.0 l.1))
-    ∙ sym (run_text-then (lines before first) p.moment.lines)
+    ∙ sym (run_text-append (lines before first) p.moment.lines)
     ∙ ap run_text (sym one_more.lines_are)

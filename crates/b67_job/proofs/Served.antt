@@ -86,7 +86,7 @@ was_read {left = left} {deck = deck} {deck' = deck'} {bytes = bytes} first = by_
 
 -- ---- commands
 
-commanded : (words : List (Bor (List ℕ))) (command : CommandLine) → command_of words ≡ Some command → is_some (command_of words) ≡ true
+pub commanded : (words : List (Bor (List ℕ))) (command : CommandLine) → command_of words ≡ Some command → is_some (command_of words) ≡ true
 commanded words command e = ap is_some e
 
 -- the same of a result that has this status and no machine

@@ -1,6 +1,5 @@
 -- The status of a call for which core, the device and the printer suffice.
-use Rattle.std.proofs.Common.{◌≡◌, ◌<◌, ◌⊎◌, inl, inr, true, ℕ, List, length, append-nil, sym, ap, ◌∙◌, subst, arith, Option, Some}
-use Rattle.std.specs.Prelude.{is_some}
+use Rattle.std.proofs.Common.{◌≡◌, ◌<◌, ◌⊎◌, inl, inr, ℕ, List, length, append-nil, sym, ap, ◌∙◌, subst, arith, Option, Some}
 use Rattle.std.proofs.lemmas.Bool.{false≢true}
 use Rattle.std.proofs.lemmas.List.{length-append}
 use denote.Ref.{Bor}
@@ -22,7 +21,7 @@ use Rattle.b67_job.specs.declared.command.CommandLine.{CommandLine}
 use Rattle.b67_job.specs.declared.command.CommandLine.TheVariants as lines
 use Rattle.b67_job.specs.Judgement.{Judgement, Runs, printed, asked, judgement, judged_status}
 use Rattle.b67_job.specs.Due.{WasRead, IsDue, usage_due, refusal_due, print_due, run_due, reading_due, memory_due, Answered, answered, cut_in_step, Suffices, IsAmple}
-use Rattle.b67_job.proofs.Served.{judged_long}
+use Rattle.b67_job.proofs.Served.{judged_long, commanded}
 
 -- the text of a run that is done or halts, as the run alone gives it
 pub is_finished : (told : Option (List (List ℕ))) (p : Prepared) (k : Machine) (text : Text) → IsDone told (run_of p) k text → IsFinished (run_of p) (whole_of text)
@@ -77,9 +76,6 @@ run_status_is d core p machine status text tells ample worked (opened k is opens
     absurd (omega (arith, more, less))
 run_status_is d core p machine status text tells ample worked (opened k is opens none (step_fails s failed h)) = absurd (omega (arith, failed, worked))
 run_status_is d core p machine status text tells ample worked (opened k is opens none (code_is_strange s h)) = absurd (h tells)
-
-commanded : (words : List (Bor (List ℕ))) (command : CommandLine) → command_of words ≡ Some command → is_some (command_of words) ≡ true
-commanded words command e = ap is_some e
 
 module _ {S : Type 0} {words : List (Bor (List ℕ))} {left : S → Option (List ℕ)} {source_faults : S → ℕ} {deck deck' : S} {d : Device} {machine : Option Machine} where
   due_status : {status : ℕ} {text : Text} (command : CommandLine) (told : List ℕ) → left deck ≡ Some told → command_of words ≡ Some command → IsAmple d command told → Worked d → Stayed source_faults deck deck'

@@ -11,7 +11,7 @@ use Rattle.b67_model.specs.Run.{RunLine, StepResult, of_job, number_of, with_mom
 use Rattle.b67_model.specs.Alone.{step_of, alone_lines}
 use Rattle.b67_model.specs.Apart.{lines_of_job, makers_from, tasks_of_job, JobsApart}
 use Rattle.b67_law_jobs.specs.JobsApart.{alone_after, JobStatesApart}
-use Rattle.b67_law_jobs.proofs.KeyedLemmas.{keyed-change_same, keyed-change_other}
+use Rattle.b67_lemmas.proofs.Keyed.{keyed-change_other, keyed-change_same}
 
 lines_of_job-append : (job : ℕ) (xs ys : List RunLine) → lines_of_job job (xs ++ ys) ≡ lines_of_job job xs ++ lines_of_job job ys
 lines_of_job-append job xs ys =

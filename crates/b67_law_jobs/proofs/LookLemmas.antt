@@ -7,7 +7,7 @@ use Rattle.b67_model.specs.Words.{Word}
 use Rattle.b67_model.specs.State.{Frame, Task, mcp, no_frame, top, with_top_cells}
 use Rattle.b67_model.specs.Steps.{with_cells}
 use Rattle.b67_law_jobs.specs.Looks.{OthersLookTheSame}
-use Rattle.b67_law_jobs.proofs.KeyedLemmas.{keyed-append, keyed-flat_map-change}
+use Rattle.b67_lemmas.proofs.Keyed.{keyed-append, keyed-flat_map-change}
 
 unseen_in : (i : ℕ) (frames : List Frame) (cells : List Word) → (top frames).identity ≢ i → keyed (λ f. f.identity) i (with_top_cells frames cells) ≡ keyed (λ f. f.identity) i frames
 unseen_in i [] cells ne = refl

@@ -8,6 +8,8 @@ use Rattle.b67_model.specs.declared.operators.Op.TheVariants.{Plain}
 use Rattle.b67_model.specs.declared.operators.Code.TheVariants.{Nvld}
 use Rattle.b67_model.specs.Keyed.{keyed, change_keyed}
 use Rattle.b67_lemmas.specs.Lists.{Has}
+use Rattle.b67_lemmas.proofs.Members.{change_found, change_other, keyed_has}
+use Rattle.b67_lemmas.proofs.Keyed.{change_is}
 use Rattle.b67_model.specs.State.{Task, SessionJob}
 use Rattle.b67_model.specs.Operators.{Reading}
 use Rattle.b67_model.specs.Rows.{reading_of}
@@ -17,14 +19,12 @@ use Rattle.b67_model.specs.Run.{StepResult, number_of, of_job, with_moment, mome
 use Rattle.b67_model.specs.InOrder.{IsInOrder}
 use Rattle.b67_law_order_runs.specs.Opening.{Opening, opened_from, opening}
 use Rattle.b67_law_order_runs.proofs.Opens.{opens_in_order}
-use Rattle.b67_law_order.proofs.Members.{keyed_has, change_found, change_other}
 use Rattle.b67_law_order_runs.specs.Runs.{RunsAdmitted}
-use Rattle.b67_law_order_runs.proofs.Totals.{change_is}
-use Rattle.b67_law_order_runs.proofs.Sessions.{sessions_stay_in_order}
+use Rattle.b67_law_order_runs.proofs.Sessions.{sessions_stay_in_order, opened_admitted}
 use Rattle.b67_law_made.specs.RunFaults.{ChosenFaultsAtNvld}
 use Rattle.b67_law_made.specs.RunMade.{Runs}
 use Rattle.b67_law_made.specs.Ended.{SteppedAtNvld, RunsEndExactlyAtNvld}
-use Rattle.b67_law_made.proofs.States.{sessions_fault_exactly_at_nvld, opened_admitted}
+use Rattle.b67_law_made.proofs.States.{sessions_fault_exactly_at_nvld}
 use Rattle.b67_law_made.proofs.Makers.{after_more}
 use Rattle.b67_law_made.proofs.Endings.{FaultIn, step_exact}
 
@@ -34,7 +34,7 @@ pub record TheSame (c : Choice) (job x : ℕ) (op chosen : Op) : Type 0 where
   pub of_task : c.who.task ≡ x
   pub op_is : op ≡ chosen
 
-op_read : (a b : Op) (m n : Place) → (let first : Reading = Ok (a, m) in first ≡ Ok (b, n)) → a ≡ b
+pub op_read : (a b : Op) (m n : Place) → (let first : Reading = Ok (a, m) in first ≡ Ok (b, n)) → a ≡ b
 op_read a b m n e = let pair : (a, m) ≡ (b, n) = cc in ap (λ (y : Op × Place). y.0) pair
 
 the_same : (s : Session) (c : Choice) (job x : ℕ) (op : Op) (t : ChosenFaultsAtNvld s c) → choice s ≡ Some c → Runs s job x op → TheSame c job x op t.at_nvld.op

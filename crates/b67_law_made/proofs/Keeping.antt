@@ -8,6 +8,7 @@ use Rattle.b67_model.specs.declared.operators.Op.{Op}
 use Rattle.b67_model.specs.Answers.{Answer}
 use Rattle.b67_model.specs.Keyed.{keyed, change_keyed}
 use Rattle.b67_lemmas.specs.Lists.{Has}
+use Rattle.b67_lemmas.proofs.Members.{has_filter, has_map_back, keyed_has}
 use Rattle.b67_model.specs.Words.{Word}
 use Rattle.b67_model.specs.State.{Frame, Standing, Task, JobConstants, Job, JobProgress, with_task}
 use Rattle.b67_model.specs.Steps.{Line, Done, Goes, Leaves, Waits}
@@ -15,7 +16,6 @@ use Rattle.b67_model.specs.Operators.{Reading}
 use Rattle.b67_model.specs.Rows.{row, reading_of, step_by, step}
 use Rattle.b67_model.specs.Endings.{Settled, among, released, ends_all, ends_task, ends_each_if, unsettled, settles, stepped}
 use Rattle.b67_model.specs.Alone.{by_task, step_of}
-use Rattle.b67_law_order.proofs.Members.{has_map_back, has_filter, keyed_has}
 use Rattle.b67_law_order_rows.proofs.Kept.{here}
 use Rattle.b67_law_made.specs.Made.{OperatorMakes, MakesMark, StandsIn}
 use Rattle.b67_law_made.proofs.Rows.{each_row_makes_its_words}

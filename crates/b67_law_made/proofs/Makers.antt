@@ -4,6 +4,7 @@ use Rattle.b67_word.specs.declared.couples.Place.{Place}
 use Rattle.b67_model.specs.declared.operators.Op.{Op}
 use Rattle.b67_model.specs.Keyed.{keyed}
 use Rattle.b67_lemmas.specs.Lists.{Has}
+use Rattle.b67_lemmas.proofs.Members.{keyed_has}
 use Rattle.b67_model.specs.Words.{Word}
 use Rattle.b67_model.specs.State.{Standing, Entered, Task, SessionJob}
 use Rattle.b67_model.specs.Rows.{reading_of}
@@ -11,7 +12,6 @@ use Rattle.b67_model.specs.Alone.{step_of}
 use Rattle.b67_model.specs.Schedule.{Session, Choice, choice}
 use Rattle.b67_model.specs.Run.{StepResult, number_of, of_job, with_moment, moment_by, moment_for, next, after_from, after}
 use Rattle.b67_law_order_runs.specs.Opening.{opening}
-use Rattle.b67_law_order.proofs.Members.{keyed_has}
 use Rattle.b67_law_made.specs.Made.{OperatorMakes, MakesMark}
 use Rattle.b67_law_made.specs.RunMade.{Runs, EarlierStep, RunsMakeTheirWords}
 use Rattle.b67_law_made.proofs.Opened.{openings_are_made_by_the_loader}

@@ -7,6 +7,7 @@ use Rattle.b67_model.specs.declared.operators.Code.{Code}
 use Rattle.b67_model.specs.declared.operators.Code.TheVariants.{Add, Subt, Mult, Idiv, Rdiv, Less, Greq, Grtr, Lseq, Equl, Neql, Chsn, Land, Lor, Leqv, Lnot, Same, Exit, Indx, Retn, Entr, Nxlv, Mkst, Stff, Zero, One, Push, Dlet, Exch, Dupl, Stod, Ston, Load, Noop, Nvld}
 use Rattle.b67_model.specs.Answers.{Answer, needs}
 use Rattle.b67_lemmas.specs.Lists.{Has}
+use Rattle.b67_lemmas.proofs.Members.{has_reverse_back}
 use Rattle.b67_model.specs.Arithmetic.{Binary, add, subt, mult, idiv, rdiv, less, greq, grtr, lseq, equl, neql, land, lor, leqv, same, chsn, lnot, bset, brst, isol, insr}
 use Rattle.b67_model.specs.Words.{Word, Operand, Name, Ref, Row, Element, Original, operand, whole}
 use Rattle.b67_model.specs.State.{Frame, Standing, Marked, Entered, Task, OperatorContext, top, below_top, with_task}
@@ -18,7 +19,6 @@ use Rattle.b67_model.specs.Entry.{back_to, needs_level}
 use Rattle.b67_word.specs.declared.faults.Fault.TheVariants.{StackOverflow}
 use Rattle.b67_model.specs.Intrinsics.{answered, answers, array_length, arraydec, print, row_copy, numbers_of, printrow, read_from, read, child_of, starts, process, awaits, await, status_of, status, waits_at, wait, causes, cause, intrinsic}
 use Rattle.b67_model.specs.Rows.{on_one, on_two, dlet, exch, dupl, on_cells, branches, branch_if, stff_word, stff, load_at, load, indx, nxlv, store_at, store, entr_at, entr_with, entr, proc_of, plain, row}
-use Rattle.b67_law_order.proofs.Members.{has_reverse_back}
 use Rattle.b67_law_order.proofs.Posts.{Post, post_ok, post_err, post_bind, post_any, post_then, post_if, post_at}
 use Rattle.b67_law_made.specs.Made.{OperatorMakes, MakesMark, by_mkst, by_entr, by_retn, by_load, by_stod, by_ston, by_valc, StandsIn, HasWord, HasMark, EachRowMakesItsWords}
 use Rattle.b67_law_made.proofs.Steps as S

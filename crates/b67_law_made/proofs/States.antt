@@ -1,18 +1,18 @@
 -- Every state of a run faults INVALID OPERATOR exactly at NVLD.
-use Rattle.std.proofs.Common.{◌≡◌, ℕ, zero, suc, ◌+◌, List, [], ◌∷◌, Option, Some, None, refl, subst}
+use Rattle.std.proofs.Common.{◌≡◌, ℕ, zero, suc, Option, Some, None, refl, subst}
 use Rattle.std.specs.List.{AllByRecursion}
 use Rattle.b67_model.specs.Keyed.{keyed}
 use Rattle.b67_lemmas.specs.Lists.{Has}
+use Rattle.b67_lemmas.proofs.Members.{all_in, keyed_falls}
 use Rattle.b67_model.specs.State.{Task, SessionJob}
 use Rattle.b67_model.specs.Schedule.{Session}
 use Rattle.b67_model.specs.Run.{StepResult, number_of, next, after_from, after}
 use Rattle.b67_model.specs.InOrder.{IsStart, JobInOrder, IsInOrder}
-use Rattle.b67_law_order_runs.specs.Opening.{Opening, OpeningWithin, opened_from, opening}
+use Rattle.b67_law_order_runs.specs.Opening.{opening}
 use Rattle.b67_law_order_runs.proofs.Opens.{opens_in_order}
-use Rattle.b67_law_order.proofs.Members.{all_in, keyed_falls}
 use Rattle.b67_law_order_runs.specs.Runs.{RunsAdmitted}
 use Rattle.b67_law_order_runs.proofs.Chosen.{chosen, keyed_numbered}
-use Rattle.b67_law_order_runs.proofs.Sessions.{sessions_stay_in_order}
+use Rattle.b67_law_order_runs.proofs.Sessions.{sessions_stay_in_order, opened_admitted}
 use Rattle.b67_law_made.specs.RunFaults.{FaultsAtNvld, StateFaultsAtNvld, SessionsFaultExactlyAtNvld, RunsFaultExactlyAtNvld}
 use Rattle.b67_law_made.proofs.Nvld.{task_faults}
 
@@ -50,10 +50,6 @@ follows (suc n) s o a = go (λ s' o' a'. follows n s' o' a') (next s) refl
     go : ((s' : Session) → IsInOrder s' → AllByRecursion RunsAdmitted s'.jobs → StateFaultsAtNvld (after n s')) → (m : Option StepResult) → next s ≡ m → StateFaultsAtNvld (after_from (suc n) s m)
     go rest None e = sessions_fault_exactly_at_nvld s o a
     go rest (Some m) e = let both = sessions_stay_in_order s m o a e in rest m.session both.0 both.1
-
-pub opened_admitted : (number stack : ℕ) (openings : List Opening) → AllByRecursion OpeningWithin openings → AllByRecursion RunsAdmitted (opened_from number stack openings)
-opened_admitted number stack [] each = tt
-opened_admitted number stack (o ∷ more) each = (record { program = o.program; admitted = each.0.admitted; segments = refl }, opened_admitted (number + 1) stack more each.1)
 
 pub runs_fault_exactly_at_nvld : RunsFaultExactlyAtNvld
 runs_fault_exactly_at_nvld n stack quantum switches openings within =

@@ -4,6 +4,7 @@ use Rattle.std.proofs.lemmas.Bool.{cases_Bool}
 use Rattle.b67_model.specs.Answers.{Answer}
 use Rattle.b67_model.specs.Keyed.{change_keyed}
 use Rattle.b67_lemmas.specs.Lists.{Has}
+use Rattle.b67_lemmas.proofs.Members.{has_map_back, has_reverse_back}
 use Rattle.b67_model.specs.Words as Words
 use Rattle.b67_model.specs.Words.{Word, Operand, Name, Ref, Row, Element, Original, Proc, Intrinsic, operand, whole}
 use Rattle.b67_model.specs.State.{Frame, Standing, Marked, Entered, Return, Task, Job, OperatorContext, top, below_top, with_top_cells, with_task}
@@ -15,7 +16,6 @@ use Rattle.b67_model.specs.Steps.{Line, Done, Goes, Leaves, Waits, top_of, cells
 use Rattle.b67_model.specs.Entry.{mkst, accident, back_to, evaluates, enters, left, leaves, exit, returnable, returned, retn_word}
 use Rattle.b67_model.specs.Intrinsics.{answered, answers, woken_at, wakes}
 use Rattle.b67_model.specs.Rows.{CellRow, on_one, on_two, movable, dlet, exch, dupl, on_cells}
-use Rattle.b67_law_order.proofs.Members.{has_map_back, has_reverse_back}
 use Rattle.b67_law_order.proofs.Posts.{Post, post_ok, post_err, post_bind, post_any, post_then}
 
 has_changed : {A : Type 0} (key : A → ℕ) (n : ℕ) (change : A → A) (xs : List A) (x : A) → Has (change_keyed key n change xs) x → ((y : A) × Has xs y × (change y ≡ x)) ⊎ Has xs x

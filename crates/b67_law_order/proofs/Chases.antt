@@ -9,6 +9,7 @@ use Rattle.b67_word.specs.Couples.{couple}
 use Rattle.b67_model.specs.Answers.{Answer}
 use Rattle.b67_model.specs.Keyed.{keyed}
 use Rattle.b67_lemmas.specs.Lists.{Has}
+use Rattle.b67_lemmas.proofs.Members.{all_in, has_append_left, has_get, has_map, has_reverse_back, keyed_falls}
 use Rattle.b67_model.specs.Arrays.{no_array, array, array_at, array_of, index_below, indexed}
 use Rattle.b67_model.specs.Words as Words
 use Rattle.b67_model.specs.Words.{Word, Operand, Name, Ref, Row, Element, Original, Proc, Intrinsic, operand, number}
@@ -18,7 +19,6 @@ use Rattle.b67_model.specs.Cells.{first_offset, cell_of, cell, named, place_of}
 use Rattle.b67_model.specs.Chase.{End, AtCell, AtElement, AtArray, AtProc, AtIntrinsic, Link, Stops, Leads, link_at, link_in, link_from, link, chase_on, chase, follow, follow_reference}
 use Rattle.b67_model.specs.InOrder.{Starts, Known, known_of, IsEntered, NamesEntered, NamesArray, OwnsArray, WordInOrder, StackInOrder, ReturnsInOrder, ArrayInOrder}
 use Rattle.b67_law_order.specs.Ends.{EndInOrder}
-use Rattle.b67_law_order.proofs.Members.{has_append_left, has_map, has_get, has_reverse_back, all_in, keyed_falls}
 use Rattle.b67_law_order.proofs.Looks.{SeenWord, Run, reach, own_order, see, closed, level_low, own_high}
 use Rattle.b67_law_order.proofs.Posts.{Post, post_ok, post_err, post_bind, post_any, post_if_is}
 
@@ -35,7 +35,7 @@ abbrev LinkInOrder : Starts → OperatorContext → Link → Type 0
 LinkInOrder P h (Stops end) = Post (EndInOrder P h) end
 LinkInOrder P h (Leads w) = RefInOrder (reach h) w
 
-running_in : (P : Starts) (fs : List Frame) → StackInOrder P fs → fs ≢ [] → Has fs (running fs) × IsEntered (running fs).standing
+pub running_in : (P : Starts) (fs : List Frame) → StackInOrder P fs → fs ≢ [] → Has fs (running fs) × IsEntered (running fs).standing
 running_in P [] g some = absurd (some refl)
 running_in P (f ∷ below) g some = by f.standing refl g.0 (λ more. running_in P below g.1 more) where
   by : (s : Standing) → f.standing ≡ s → ReturnsInOrder P s below → (below ≢ [] → Has below (running below) × IsEntered (running below).standing) → Has (f ∷ below) (running_from s f (running below)) × IsEntered (running_from s f (running below)).standing
@@ -62,7 +62,7 @@ pub some_ok : {A : Type 0} (o : Option A) (fault : Fault) (x : A) → ok_or o fa
 some_ok None fault x e = cc
 some_ok (Some y) fault x e = let same : y ≡ x = cc in ap Some same
 
-cell_has : (f : Frame) (offset : ℕ) (w : Word) → ok_or (cell_of f offset) InvalidAddress ≡ Ok w → Has f.cells w
+pub cell_has : (f : Frame) (offset : ℕ) (w : Word) → ok_or (cell_of f offset) InvalidAddress ≡ Ok w → Has f.cells w
 cell_has f offset w e =
     let some : cell_of f offset ≡ Some w = some_ok (cell_of f offset) InvalidAddress w e in
     elim (cases_Bool (ltb offset (first_offset f))) [
@@ -217,3 +217,7 @@ module _ (P : Starts) (h : OperatorContext) (run : Run P h) where
   pub indexed_in : (owner : ℕ) (r i : Word) → WordInOrder P h.job.arrays (reach h) owner r → Post IsElement (indexed h r i)
   indexed_in owner r i g = post_any IsElement (operand i) _ (λ bits. post_bind IsArray IsElement (array_of h r) _ (array_of_in owner r g)
       (λ a is. post_any IsElement (number bits) _ (λ n. post_bind (λ index. IsElement (a, index)) IsElement (index_below (length (array h.job a).numbers) n) _ (index_in a is n) (λ index e. post_ok IsElement (a, index) e))))
+
+pub ok_some : (o : Option Word) (w : Word) → ok_or o InvalidAddress ≡ Ok w → o ≡ Some w
+ok_some None w e = cc
+ok_some (Some v) w e = cc

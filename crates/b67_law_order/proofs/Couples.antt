@@ -6,10 +6,10 @@ use Rattle.b67_model.specs.State.{Task, JobConstants, Job, OperatorContext}
 use Rattle.b67_model.specs.Chase.{End, chase}
 use Rattle.b67_model.specs.InOrder.{Starts, IsSegment, IsStart, TaskInOrder}
 use Rattle.b67_law_order.specs.Ends.{EndInOrder, StepsFrom, EndsInOrder, CouplesEndInOrder}
-use Rattle.b67_law_order.proofs.Members.{all_in, keyed_has}
 use Rattle.b67_law_order.proofs.Posts.{Post}
 use Rattle.b67_law_order.proofs.Looks.{Run}
 use Rattle.b67_law_order.proofs.Chases.{chase_in}
+use Rattle.b67_lemmas.proofs.Members.{all_in, keyed_has}
 
 abbrev pub at_place : JobConstants → Job → Task → OperatorContext
 at_place constants job task = record { constants = constants; job = job; task = task; at = task.place }

@@ -1,16 +1,16 @@
 -- What the running task sees: the frames of its reach, by their identities.
-use Rattle.std.proofs.Common.{◌≡◌, ℕ, ◌+◌, ◌^◌, ◌<◌, ◌≤◌, cond, eqb, List, [], ◌∷◌, ◌++◌, map, flat_map, Some, None, unwrap_or, refl, sym, ap, ◌∙◌, subst, inl, inr, arith}
+use Rattle.std.proofs.Common.{◌≡◌, ℕ, ◌+◌, ◌^◌, ◌<◌, ◌≤◌, cond, eqb, List, [], ◌∷◌, ◌++◌, map, flat_map, Some, None, unwrap_or, refl, sym, ap, ◌∙◌, subst, inl, inr, arith, ◌≢◌}
 use Rattle.std.specs.List.{AllByRecursion}
 use Rattle.std.proofs.lemmas.Bool.Decides.{eqb_tells}
 use Rattle.b67_model.specs.Keyed.{keyed}
 use Rattle.b67_lemmas.specs.Lists.{Has, how_many}
+use Rattle.b67_lemmas.proofs.Members.{all_in, falls_above, has_append_cases, has_append_left, has_append_right, has_flat, has_map, has_map_back, keyed_has, keyed_left, keyed_once, keyed_right, none_pass, total_flat, total_zero}
 use Rattle.b67_model.specs.Words as Words
 use Rattle.b67_model.specs.Words.{Word, Operand, Name, Ref, Row, Element, Original, Proc, Intrinsic}
-use Rattle.b67_model.specs.State.{Frame, Standing, Marked, Entered, Array, Ready, Task, JobConstants, Job, OperatorContext, mcp, no_frame, all_frames, frame}
+use Rattle.b67_model.specs.State.{Frame, Standing, Marked, Entered, Array, Ready, Task, JobConstants, Job, OperatorContext, mcp, no_frame, all_frames, frame, with_top_cells, top, below_top}
 use Rattle.b67_model.specs.Environment as Environment
-use Rattle.b67_model.specs.Environment.{level_of_standing, level_of_frame, environment_of, running_from, outward, running_level, frame_at}
-use Rattle.b67_model.specs.InOrder.{Starts, Known, known_of, from_frame, base, outer_reach, outer_of, reach_of, known_numbers, IsEntered, NamesEntered, NamesArray, OwnsArray, WordInOrder, StandsInOrder, CellsInOrder, FramesInOrder, ParentInOrder, BirthInOrder, TaskInOrder, EntryInOrder, frames_named, SettingInOrder, TasksInOrder}
-use Rattle.b67_law_order.proofs.Members.{has_append_left, has_append_right, has_append_cases, has_map, has_map_back, has_flat, all_in, keyed_has, keyed_once, keyed_left, keyed_right, total_flat, total_zero, none_pass, falls_above}
+use Rattle.b67_model.specs.Environment.{level_of_standing, level_of_frame, environment_of, running_from, outward, running_level, frame_at, running}
+use Rattle.b67_model.specs.InOrder.{Starts, Known, known_of, from_frame, base, outer_reach, outer_of, reach_of, known_numbers, IsEntered, NamesEntered, NamesArray, OwnsArray, WordInOrder, StandsInOrder, CellsInOrder, FramesInOrder, ParentInOrder, BirthInOrder, TaskInOrder, EntryInOrder, frames_named, SettingInOrder, TasksInOrder, StackInOrder, ReturnsInOrder}
 use Rattle.b67_law_order.proofs.Reaches.{Wider, words_wider, stands_wider, known_number}
 use Rattle.b67_law_order.proofs.Replaced.{numbers_append, birth_same}
 
@@ -44,7 +44,7 @@ from_order : (P : Starts) (arrays : List Array) (outer : List Known) (c : ℕ) (
 from_order P arrays outer c [] g = tt
 from_order P arrays outer c (f ∷ fs) g = elim (eqb_tells f.identity c) [ inl t ↦ rw t.0 g | inr t ↦ rw t.0 (from_order P arrays outer c fs g.2) ]
 
-from_has : (c : ℕ) (fs : List Frame) (f : Frame) → Has (from_frame c fs) f → Has fs f
+pub from_has : (c : ℕ) (fs : List Frame) (f : Frame) → Has (from_frame c fs) f → Has fs f
 from_has c [] f h = h
 from_has c (g ∷ fs) f h = elim (eqb_tells g.identity c) [ inl t ↦ rw t.0 at h | inr t ↦ inr (from_has c fs f (rw t.0 at h)) ]
 
@@ -307,3 +307,32 @@ module _ (P : Starts) (h : OperatorContext) (run : Run P h) where
   own_high f k =
       let there : Has run.found.frames f = subst (λ (t : Task). Has t.frames f) (sym run.same) k in
       above_one P h.constants h.job run.order run.found (keyed_has (λ t. t.number) h.task.number h.job.tasks run.found run.running).0 f there
+
+pub known_cells : (fs : List Frame) (cells : List Word) → map known_of (with_top_cells fs cells) ≡ map known_of fs
+known_cells [] cells = refl
+known_cells (f ∷ below) cells = refl
+
+pub some_cells : (fs : List Frame) (cells : List Word) → fs ≢ [] → with_top_cells fs cells ≢ []
+some_cells [] cells some = some
+some_cells (f ∷ below) cells some = λ e. cc
+
+-- a frame's cells don't count where it runs, nor in what is known of it
+pub level_from : (s : Standing) (f g r : Frame) → level_of_frame f ≡ level_of_frame g → level_of_frame (running_from s f r) ≡ level_of_frame (running_from s g r)
+level_from Marked f g r e = refl
+level_from (Entered level environment back) f g r e = e
+
+pub running_cells : (fs : List Frame) (cells : List Word) → level_of_frame (running (with_top_cells fs cells)) ≡ level_of_frame (running fs)
+running_cells [] cells = refl
+running_cells (f ∷ below) cells = level_from f.standing (record f { cells = cells }) f (running below) refl
+
+pub below_some : (P : Starts) (fs : List Frame) → StackInOrder P fs → fs ≢ [] → (top fs).standing ≡ Marked → below_top fs ≢ []
+below_some P [] g some marked = absurd (some refl)
+below_some P (f ∷ below) g some marked = subst (λ s. ReturnsInOrder P s below) marked g.0
+
+-- what an entered frame is in reach of a marked one lies below it
+pub below_marked : (fs : List Frame) (outer : List Known) (n : ℕ) (s : Standing) → (top fs).standing ≡ Marked → IsEntered s → Has (map known_of fs ++ outer) (n, s) → Has (map known_of (below_top fs) ++ outer) (n, s)
+below_marked [] outer n s marked e k = k
+below_marked (f ∷ below) outer n s marked e k = elim k [
+  | inl is ↦ let no : f.standing ≡ s = ap (λ (x : Known). x.1) is in absurd (subst IsEntered (sym no ∙ marked) e)
+  | inr m ↦ m
+]

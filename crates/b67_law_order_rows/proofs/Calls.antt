@@ -4,6 +4,7 @@ use Rattle.std.specs.List.{AllByRecursion}
 use Rattle.std.proofs.lemmas.Bool.Decides.{eqb_tells}
 use Rattle.std.proofs.lemmas.Bool.{true≢false}
 use Rattle.b67_lemmas.specs.Lists.{Has, how_many}
+use Rattle.b67_lemmas.proofs.Members.{all_in, falls_low, has_change, has_map, none_pass, total_zero}
 use Rattle.b67_model.specs.Words as Words
 use Rattle.b67_model.specs.Words.{Word, Operand, Name, Ref, Row, Element, Original, Proc, Intrinsic}
 use Rattle.b67_model.specs.State.{Frame, Array, Condition, Ready, Awaits, WaitsAt, Task, JobConstants, Job, OperatorContext, top, below_top, with_top_cells, height, with_task}
@@ -11,15 +12,14 @@ use Rattle.b67_model.specs.Arrays.{array}
 use Rattle.b67_model.specs.Chase.{End, AtCell, AtElement, AtArray, AtProc, AtIntrinsic, follow_reference}
 use Rattle.b67_model.specs.Steps.{Waits, top_of, is_critical}
 use Rattle.b67_model.specs.InOrder.{Starts, Known, known_of, outer_of, OwnsArray, WordInOrder, FramesInOrder, ConditionInOrder, TaskInOrder, is_original_of, originals_in, originals_of, TasksInOrder}
-use Rattle.b67_law_order.proofs.Members.{has_map, all_in, has_change, total_zero, falls_low, none_pass}
 use Rattle.b67_law_order.proofs.Reaches.{Stays}
-use Rattle.b67_law_order.proofs.Looks.{reach, own_order, own_high}
+use Rattle.b67_law_order.proofs.Looks.{reach, own_order, own_high, running_cells}
 use Rattle.b67_law_order.proofs.Changes.{Change, outside, change_arrays, change_cells, run_replaced}
 use Rattle.b67_law_order.specs.Ends.{EndInOrder}
 use Rattle.b67_law_order.proofs.Posts.{Post, post_ok, post_err, post_bind, post_any, post_needs, post_if, post_if_is}
 use Rattle.b67_model.specs.Words.{operand}
 use Rattle.b67_model.specs.Cells.{cell, with_cell}
-use Rattle.b67_law_order_rows.proofs.Steps.{Keeps, Good, top_words, AllFit, originals, running_cells, result_good}
+use Rattle.b67_law_order_rows.proofs.Steps.{Keeps, Good, top_words, AllFit, originals, result_good}
 use Rattle.std.proofs.Common.{ℤ, pos, negsuc, nat_abs, replicate, ltb, ◌&&◌}
 use Rattle.std.proofs.lemmas.Bool.{ltb-true}
 use Rattle.b67_word.specs.Operands.{bits_of}

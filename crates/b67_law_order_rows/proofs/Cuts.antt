@@ -10,17 +10,17 @@ use Rattle.b67_model.specs.Steps.{Line, Waits, top_of, cells_of, with_frames, is
 use Rattle.b67_model.specs.Intrinsics as Intrinsics
 use Rattle.b67_model.specs.Intrinsics.{is_original}
 use Rattle.b67_model.specs.InOrder.{Starts, known_of, outer_of, ConditionInOrder, originals_in, originals_of, TasksInOrder}
-use Rattle.b67_law_order.proofs.Members.{all_in}
 use Rattle.b67_law_order.proofs.Reaches.{Alike}
-use Rattle.b67_law_order.proofs.Looks.{Run, own_order}
+use Rattle.b67_law_order.proofs.Looks.{Run, own_order, below_some, running_cells}
 use Rattle.b67_law_order.proofs.Changes.{Change, TopWords, outside, change_cells, change_drop, run_replaced}
 use Rattle.b67_law_order.proofs.Posts.{post_ok, post_err, post_any, post_needs, post_if}
-use Rattle.b67_law_order_rows.proofs.Steps.{Keeps, Good, top_words, originals, running_cells, originals_cells, result_good}
+use Rattle.b67_law_order_rows.proofs.Steps.{Keeps, Good, top_words, originals, originals_cells, result_good}
 use Rattle.std.proofs.Common.{ℤ, pos, negsuc, nat_abs, ltb, ◌&&◌}
 use Rattle.b67_model.specs.Steps.{Value, Values}
 use Rattle.b67_model.specs.Intrinsics.{answered, needs_free, answers, array_length, arraydec, print, printrow, row_copy, numbers_of, read_from, read, child_of, starts, process, awaits, await, status_of, status, waits_at, wait, woken_at, wakes, causes, cause}
 use Rattle.b67_model.specs.Words.{whole}
-use Rattle.b67_law_order_rows.proofs.Entries.{taken_apart, parted, below_is, top_is, free_by, running_marked, below_some}
+use Rattle.b67_law_order_rows.proofs.Entries.{taken_apart, parted, below_is, top_is, free_by, running_marked}
+use Rattle.b67_lemmas.proofs.Members.{all_in}
 
 -- the marked frame on top, whose cells hold no original
 pub record Cut (P : Starts) (h : OperatorContext) : Type 0 where

@@ -1,9 +1,10 @@
 -- Entering and leaving keep order.
-use Rattle.std.proofs.Common.{◌≡◌, ◌≢◌, ℕ, ◌+◌, ◌≤◌, Bool, true, false, not, eqb, List, [], ◌∷◌, ◌++◌, map, filter, reverse, Some, None, refl, sym, ap, ◌∙◌, subst, inl, inr, arith}
+use Rattle.std.proofs.Common.{◌≡◌, ◌≢◌, ℕ, ◌+◌, ◌≤◌, true, false, not, eqb, List, [], ◌∷◌, ◌++◌, map, filter, reverse, Some, None, refl, sym, ap, ◌∙◌, subst, inl, inr, arith}
 use Rattle.std.proofs.lemmas.Bool.Decides.{eqb_tells}
-use Rattle.std.proofs.lemmas.Bool.{true≢false}
+use Rattle.std.proofs.lemmas.Bool.{true≢false, not-true}
 use Rattle.b67_model.specs.Keyed.{keyed}
 use Rattle.b67_lemmas.specs.Lists.{Has, Falls}
+use Rattle.b67_lemmas.proofs.Members.{all_from, all_in, any_none, change_found, falls_filter, falls_low, falls_same, has_filter, has_filter_in, none_pass}
 use Rattle.b67_model.specs.Words as Words
 use Rattle.b67_model.specs.Words.{Word, Operand, Name, Ref, Row, Element, Original, Proc, Intrinsic}
 use Rattle.b67_model.specs.State.{Frame, Standing, Marked, Entered, Return, Array, Task, Job, OperatorContext, frame, top, below_top, height, with_task}
@@ -12,11 +13,10 @@ use Rattle.b67_model.specs.Arrays.{array}
 use Rattle.b67_model.specs.Chase.{End, AtCell, AtElement, AtArray, AtProc, AtIntrinsic}
 use Rattle.b67_model.specs.Steps.{top_of, cells_of, is_critical}
 use Rattle.b67_model.specs.Entry.{back_to, enters, left}
-use Rattle.b67_model.specs.InOrder.{Starts, Known, known_of, known_numbers, IsEntered, WordInOrder, EnvironmentInOrder, CopiesAbove, StackInOrder, ReturnsInOrder, ConditionInOrder, ArrayInOrder, is_original_of, originals_in, originals_of, frames_named}
-use Rattle.b67_law_order.proofs.Members.{has_filter, has_filter_in, all_in, all_from, any_none, change_found, falls_low, falls_filter, falls_same, none_pass}
+use Rattle.b67_model.specs.InOrder.{Starts, Known, known_of, known_numbers, WordInOrder, EnvironmentInOrder, CopiesAbove, ReturnsInOrder, ConditionInOrder, ArrayInOrder, is_original_of, originals_in, originals_of, frames_named}
 use Rattle.b67_law_order.proofs.Reaches.{Alike, Stays}
 use Rattle.b67_law_order.proofs.Replaced.{Replaced}
-use Rattle.b67_law_order.proofs.Looks.{Run, reach, own_order, own_high}
+use Rattle.b67_law_order.proofs.Looks.{Run, reach, own_order, own_high, below_marked, below_some}
 use Rattle.b67_law_order.proofs.Changes.{Change, TopWords, outside, no_change, change_arrays, change_cells, change_drop, change_enter, changed, run_replaced}
 use Rattle.b67_law_order.specs.Ends.{EndInOrder}
 use Rattle.b67_law_order.proofs.Posts.{post_err, post_needs}
@@ -30,21 +30,9 @@ enter_top P h [] next level environment back cells c words marked stands returns
 enter_top P h (f ∷ below) next level environment back cells c words marked stands returns =
     change_enter P h h.job.arrays (record f { cells = cells }) below next level environment back (change_cells P h h.job.arrays (f ∷ below) next cells c words) marked stands returns
 
--- what an entered frame is in reach of a marked one lies below it
-pub below_marked : (fs : List Frame) (outer : List Known) (n : ℕ) (s : Standing) → (top fs).standing ≡ Marked → IsEntered s → Has (map known_of fs ++ outer) (n, s) → Has (map known_of (below_top fs) ++ outer) (n, s)
-below_marked [] outer n s marked e k = k
-below_marked (f ∷ below) outer n s marked e k = elim k [
-  | inl is ↦ let no : f.standing ≡ s = ap (λ (x : Known). x.1) is in absurd (subst IsEntered (sym no ∙ marked) e)
-  | inr m ↦ m
-]
-
 pub running_marked : (fs : List Frame) → (top fs).standing ≡ Marked → level_of_frame (running fs) ≡ level_of_frame (running (below_top fs))
 running_marked [] marked = refl
 running_marked (f ∷ below) marked = rw marked refl
-
-pub below_some : (P : Starts) (fs : List Frame) → StackInOrder P fs → fs ≢ [] → (top fs).standing ≡ Marked → below_top fs ≢ []
-below_some P [] g some marked = absurd (some refl)
-below_some P (f ∷ below) g some marked = subst (λ s. ReturnsInOrder P s below) marked g.0
 
 originals_top : (n : ℕ) (fs : List Frame) (standing : Standing) (cells : List Word) → fs ≢ [] → originals n cells ≡ originals n (top fs).cells → originals_in n (record (top fs) { standing = standing; cells = cells } ∷ below_top fs) ≡ originals_in n fs
 originals_top n [] standing cells some e = absurd (some refl)
@@ -88,12 +76,8 @@ free_of job n none t k e = let no = any_none (λ (u : Task). eqb u.critical n) j
   | inr s ↦ s.1 e
 ]
 
-pub not_true : (b : Bool) → not b ≡ true → b ≡ false
-not_true true e = absurd (true≢false (sym e))
-not_true false e = refl
-
 pub free_by : (job : Job) (n : ℕ) → not (is_critical job n) ≡ true → (t : Task) → Has job.tasks t → t.critical ≢ n
-free_by job n test = free_of job n (not_true (is_critical job n) test)
+free_by job n test = free_of job n (not-true (is_critical job n) test)
 
 -- the originals of other arrays don't lie in a frame
 pub none_original : (job : Job) (P : Starts) (reach : List Known) (n : ℕ) (a : Array) → Falls job.next_array (map (λ x. x.identity) job.arrays) → Has job.arrays a → a.owner ≢ n → (w : Word) → WordInOrder P job.arrays reach n w → is_original_of a.identity w ≡ false

@@ -7,12 +7,12 @@ use Rattle.b67_model.specs.Steps.{Done, Goes, Leaves, Waits}
 use Rattle.b67_model.specs.Rows.{branches, row}
 use Rattle.b67_model.specs.InOrder.{Starts, IsSegment, IsStart, TaskInOrder}
 use Rattle.b67_law_order.specs.Ends.{StepsFrom}
-use Rattle.b67_law_order.proofs.Members.{all_in, keyed_has}
 use Rattle.b67_law_order.proofs.Posts.{Post}
 use Rattle.b67_law_order.proofs.Looks.{Run}
 use Rattle.b67_law_order_rows.proofs.Steps.{Keeps}
 use Rattle.b67_law_order_rows.proofs.Rows.{row_good}
 use Rattle.b67_law_order_rows.specs.Keeping.{KeepsOrder, RowKeepsOrder, EachRowKeepsOrder}
+use Rattle.b67_lemmas.proofs.Members.{all_in, keyed_has}
 
 -- where an operator is made
 abbrev pub here : JobConstants → Job → Task → Place → OperatorContext

@@ -1,8 +1,9 @@
 -- Every row keeps order.
 use Rattle.std.proofs.Common.{◌≡◌, ℕ, ◌+◌, ◌^◌, ◌<◌, ◌≤◌, true, false, not, cond, eqb, leb, List, [], ◌∷◌, ◌++◌, reverse, length, None, Ok, refl, sym, ap, ◌∙◌, subst, arith}
 use Rattle.std.specs.List.{list_any}
-use Rattle.std.proofs.lemmas.Bool.{leb-true}
+use Rattle.std.proofs.lemmas.Bool.{leb-true, not-true}
 use Rattle.b67_lemmas.specs.Lists.{Has}
+use Rattle.b67_lemmas.proofs.Members.{all_from, all_in, any_none, has_reverse_back, none_pass, reverse_cons, total_append, total_reverse}
 use Rattle.b67_model.specs.Words as Words
 use Rattle.b67_model.specs.Words.{Word, Operand, Name, Ref, Row, Element, Original, Proc, Intrinsic}
 use Rattle.b67_model.specs.State.{Standing, Marked, Entered, OperatorContext, frame}
@@ -12,7 +13,6 @@ use Rattle.b67_model.specs.Chase.{End, AtCell, AtElement, AtArray, AtProc, AtInt
 use Rattle.b67_model.specs.Steps.{top_of, cells_of, leaves_cells, pushes, is_critical}
 use Rattle.b67_model.specs.Intrinsics.{is_original}
 use Rattle.b67_model.specs.InOrder.{Starts, WordInOrder, CopiesAbove, NoCopyUnder, is_original_of}
-use Rattle.b67_law_order.proofs.Members.{has_reverse_back, all_in, all_from, any_none, none_pass, total_reverse}
 use Rattle.b67_law_order.proofs.Looks.{Run, reach}
 use Rattle.b67_law_order.specs.Ends.{EndInOrder}
 use Rattle.b67_law_order.proofs.Posts.{Post, post_err, post_bind, post_needs, post_if, post_if_is, post_more, post_both, post_any_at}
@@ -30,10 +30,8 @@ use Rattle.b67_law_order.proofs.Chases.{follow_reference_in}
 use Rattle.b67_model.specs.InOrder.{is_copy_of}
 use Rattle.std.specs.List.{list_any}
 use Rattle.b67_law_order_rows.proofs.Cells.{plain_word}
-use Rattle.b67_law_order.proofs.Members.{reverse_cons, total_append}
 use Rattle.std.proofs.lemmas.List.{reverse-reverse}
 use Rattle.b67_law_order_rows.proofs.Cells.{followed, Followed}
-use Rattle.b67_law_order_rows.proofs.Entries.{not_true}
 use Rattle.b67_model.specs.declared.operators.Op.{Op}
 use Rattle.b67_model.specs.declared.operators.Op.TheVariants.{Valc, Namc, Lt8, Lt16, Lt48, Mpcw, Brun, Brtr, Brfl, Bset, Brst, Isol, Insr, Plain}
 use Rattle.b67_model.specs.declared.operators.Code.{Code}
@@ -123,7 +121,7 @@ module _ (P : Starts) (h : OperatorContext) where
   process_good : (arguments : List Word) → Call P h arguments → Good P h (process h arguments)
   process_good [] c = post_err (Keeps P h) _
   process_good (r ∷ words) c = post_needs (Keeps P h) (not (list_any is_original words)) _ _ (λ t.
-      let plain : list_any is_original words ≡ false = not_true (list_any is_original words) t in
+      let plain : list_any is_original words ≡ false = not-true (list_any is_original words) t in
       let none : (n : ℕ) → originals n words ≡ 0 = λ n. none_pass (is_original_of n) words (λ w k. plain_word w (any_none is_original words w plain k) n) in
       post_bind (Followed P h r) (Keeps P h) (follow_reference h r) _ (reference_followed P h c.run (top_of h).identity r c.fit.0) (λ end g.
       starts_good words end (record { run = c.run; marked = c.marked; fit = c.fit.1; above = above_init words r (subst CopiesAbove (reverse_cons r words) c.above); counts = λ n. c.counts n ∙ Cells.none_of r words n g.plain; next = c.next }) none plain g.is c.fit.1))

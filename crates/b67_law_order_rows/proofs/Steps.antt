@@ -1,5 +1,5 @@
 -- The common parts of rows keep order.
-use Rattle.std.proofs.Common.{◌≡◌, ◌≢◌, ℕ, zero, suc, ◌+◌, ◌^◌, ◌<◌, ◌≤◌, true, false, eqb, leb, List, [], ◌∷◌, ◌++◌, map, Option, Some, None, get_or, refl, sym, ap, ◌∙◌, inl, inr, arith}
+use Rattle.std.proofs.Common.{◌≡◌, ℕ, zero, suc, ◌+◌, ◌^◌, ◌<◌, ◌≤◌, true, false, eqb, leb, List, [], ◌∷◌, ◌++◌, map, Option, Some, None, get_or, refl, sym, ap, ◌∙◌, inl, inr, arith}
 use Rattle.std.specs.List.{AllByRecursion}
 use Rattle.std.proofs.lemmas.Bool.Decides.{eqb_tells}
 use Rattle.std.proofs.lemmas.Bool.{true≢false, leb-true, eqb-true}
@@ -7,17 +7,17 @@ use Rattle.b67_word.specs.declared.couples.Place.{Place}
 use Rattle.b67_word.specs.declared.faults.Fault.TheVariants.{StackOverflow}
 use Rattle.b67_model.specs.Answers.{Answer}
 use Rattle.b67_lemmas.specs.Lists.{Has, how_many}
+use Rattle.b67_lemmas.proofs.Members.{all_in}
 use Rattle.b67_model.specs.Words as Words
 use Rattle.b67_model.specs.Words.{Word, Operand, Name, Ref, Row, Element, Original, Proc, Intrinsic}
 use Rattle.b67_model.specs.State.{Frame, Standing, Marked, Entered, Return, Array, Task, Job, OperatorContext, frame, top, with_top_cells, height, with_task}
-use Rattle.b67_model.specs.Environment.{level_of_standing, level_of_frame, running, running_from}
+use Rattle.b67_model.specs.Environment.{level_of_standing, level_of_frame, running}
 use Rattle.b67_model.specs.Arrays.{array, element}
 use Rattle.b67_model.specs.Chase.{End, AtCell, AtElement, AtArray, AtProc, AtIntrinsic}
 use Rattle.b67_model.specs.Steps.{Line, Done, Goes, Leaves, Waits, top_of, cells_of, result, with_cells, leaves_cells, pushes}
 use Rattle.b67_model.specs.Entry.{mkst, accident, back_to, evaluates}
 use Rattle.b67_model.specs.InOrder.{Starts, Known, known_of, IsEntered, NamesArray, WordInOrder, EnvironmentInOrder, CellsInOrder, CopiesAbove, NoCopyUnder, FramesInOrder, ConditionInOrder, ArrayInOrder, is_original_of, originals_in, TasksInOrder}
-use Rattle.b67_law_order.proofs.Members.{all_in}
-use Rattle.b67_law_order.proofs.Looks.{Run, reach, own_order, see, level_low}
+use Rattle.b67_law_order.proofs.Looks.{Run, reach, own_order, see, level_low, known_cells, running_cells, some_cells}
 use Rattle.b67_law_order.proofs.Changes.{outside, no_change, change_cells, change_push, changed, fresh_frame}
 use Rattle.b67_law_order.specs.Ends.{EndInOrder, IsProcOf}
 use Rattle.b67_law_order.proofs.Chases.{array_is}
@@ -68,26 +68,9 @@ plain_above (Proc segment level place) below plain = tt
 plain_above (Intrinsic number) below plain = tt
 plain_above (Words.Segment number) below plain = tt
 
--- a frame's cells don't count where it runs, nor in what is known of it
-level_from : (s : Standing) (f g r : Frame) → level_of_frame f ≡ level_of_frame g → level_of_frame (running_from s f r) ≡ level_of_frame (running_from s g r)
-level_from Marked f g r e = refl
-level_from (Entered level environment back) f g r e = e
-
-pub running_cells : (fs : List Frame) (cells : List Word) → level_of_frame (running (with_top_cells fs cells)) ≡ level_of_frame (running fs)
-running_cells [] cells = refl
-running_cells (f ∷ below) cells = level_from f.standing (record f { cells = cells }) f (running below) refl
-
-pub known_cells : (fs : List Frame) (cells : List Word) → map known_of (with_top_cells fs cells) ≡ map known_of fs
-known_cells [] cells = refl
-known_cells (f ∷ below) cells = refl
-
 pub originals_cells : (n : ℕ) (fs : List Frame) (cells : List Word) → originals n cells ≡ originals n (top fs).cells → originals_in n (with_top_cells fs cells) ≡ originals_in n fs
 originals_cells n [] cells e = refl
 originals_cells n (f ∷ below) cells e = omega (arith, e)
-
-pub some_cells : (fs : List Frame) (cells : List Word) → fs ≢ [] → with_top_cells fs cells ≢ []
-some_cells [] cells some = some
-some_cells (f ∷ below) cells some = λ e. cc
 
 -- the result of a row
 pub result_good : (P : Starts) (h k : OperatorContext) (job : Job) (task : Task) (printed : List Line) (touched : Option ℕ) → (height task.frames ≤ k.constants.stack_size → TasksInOrder P h.constants (with_task job task)) →

@@ -5,6 +5,7 @@ use Rattle.std.proofs.lemmas.Bool.Decides.{eqb_tells}
 use Rattle.std.proofs.lemmas.Bool.{cases_Bool}
 use Rattle.b67_model.specs.Keyed.{change_keyed}
 use Rattle.b67_lemmas.specs.Lists.{Has}
+use Rattle.b67_lemmas.proofs.Members.{all_in, has_change, has_get, has_map, has_map_back, keyed_has, keyed_left}
 use Rattle.b67_model.specs.Words.{Word, Operand}
 use Rattle.b67_model.specs.State.{Frame, Array, Task, OperatorContext, frame, top, with_top_cells, height, with_task}
 use Rattle.b67_model.specs.Environment.{level_of_frame, running}
@@ -13,16 +14,15 @@ use Rattle.b67_model.specs.Chase.{End, AtCell, AtElement, AtArray, AtProc, AtInt
 use Rattle.b67_model.specs.Steps.{top_of, cells_of, result, with_cells}
 use Rattle.b67_model.specs.Entry.{back_to}
 use Rattle.b67_model.specs.InOrder.{Starts, known_of, CopiesAbove, ConditionInOrder, ArrayInOrder, is_original_of, originals_of, TasksInOrder}
-use Rattle.b67_law_order.proofs.Members.{has_map, all_in, keyed_has, has_change, has_get, keyed_left, has_map_back}
 use Rattle.b67_law_order.proofs.Reaches.{Stays}
-use Rattle.b67_law_order.proofs.Looks.{Run, own_order}
+use Rattle.b67_law_order.proofs.Looks.{Run, own_order, running_cells}
 use Rattle.b67_law_order.proofs.Changes.{Change, outside, no_change, change_arrays, change_cells, changed, run_replaced}
 use Rattle.b67_law_order.specs.Ends.{EndInOrder}
 use Rattle.b67_law_order.proofs.Posts.{Post, post_ok, post_err, post_bind, post_needs}
 use Rattle.b67_model.specs.Words.{operand}
 use Rattle.b67_model.specs.Cells.{cell}
 use Rattle.b67_model.specs.Arrays.{in_order}
-use Rattle.b67_law_order_rows.proofs.Steps.{Keeps, Good, Fit, AllFit, originals, SameOriginals, own_fit, own_copies, plain_above, running_cells, originals_cells, result_good, accident_good}
+use Rattle.b67_law_order_rows.proofs.Steps.{Keeps, Good, Fit, AllFit, originals, SameOriginals, own_fit, own_copies, plain_above, originals_cells, result_good, accident_good}
 use Rattle.b67_model.specs.Cells.{first_offset, cell_of}
 use Rattle.b67_model.specs.Arrays.{with_number, with_element}
 use Rattle.b67_model.specs.Rows.{store_at, store}

@@ -1,34 +1,22 @@
 -- The chosen task is a ready task of its job.
-use Rattle.std.proofs.Common.{◌≡◌, ℕ, ◌+◌, ◌≤◌, Bool, true, false, not, eqb, ◌&&◌, List, [], ◌∷◌, ◌++◌, filter, flat_map, reverse, Option, Some, None, refl, sym, ap, ◌∙◌, subst, inl, inr, ◌⊎◌, arith}
+use Rattle.std.proofs.Common.{◌≡◌, ℕ, ◌+◌, ◌≤◌, Bool, true, false, not, eqb, List, [], ◌∷◌, ◌++◌, filter, reverse, Option, Some, None, refl, sym, ap, ◌∙◌, subst, inl, inr, ◌⊎◌, arith}
 use Rattle.std.specs.List.{find, list_any}
-use Rattle.std.proofs.lemmas.Bool.{cases_Bool, true≢false, eqb-true}
+use Rattle.std.proofs.lemmas.Bool.{cases_Bool, true≢false, eqb-true, and_parts}
 use Rattle.std.proofs.lemmas.Bool.Decides.{eqb_tells}
 use Rattle.b67_model.specs.Keyed.{keyed}
 use Rattle.b67_lemmas.specs.Lists.{Has}
+use Rattle.b67_lemmas.proofs.Members.{any_has, has_append_cases, has_filter, has_flat_back, has_map_back, has_reverse_back}
 use Rattle.b67_model.specs.State.{Condition, Ready, Awaits, WaitsAt, Task, SessionJob}
 use Rattle.b67_model.specs.Endings.{is_ready}
 use Rattle.b67_model.specs.Schedule.{Who, Session, Choice, is_same, is_before, ready_of, ready, afresh, switched, goes_on, first, next_after, choice_by, choice}
 use Rattle.b67_model.specs.Run.{number_of}
 use Rattle.b67_model.specs.InOrder.{NumberedFrom}
-use Rattle.b67_law_order.proofs.Members.{has_append_cases, has_map_back, has_filter, has_reverse_back, any_has}
 
 find_has : {A : Type 0} (test : A → Bool) (xs : List A) (x : A) → find test xs ≡ Some x → Has xs x
 find_has test [] x e = cc
 find_has test (y ∷ ys) x e = elim (cases_Bool (test y)) [
   | inl t ↦ let at : Some y ≡ Some x = rw t at e in let same : y ≡ x = cc in inl same
   | inr t ↦ inr (find_has test ys x (rw t at e))
-]
-
-pub record Inside {A B : Type 0} (f : A → List B) (xs : List A) (y : B) : Type 0 where
-  pub item : A
-  pub among : Has xs item
-  pub inside : Has (f item) y
-
-has_flat_back : {A B : Type 0} (f : A → List B) (xs : List A) (y : B) → Has (flat_map f xs) y → Inside f xs y
-has_flat_back f [] y h = absurd h
-has_flat_back f (x ∷ xs) y h = elim (has_append_cases (f x) (flat_map f xs) y h) [
-  | inl a ↦ record { item = x; among = inl refl; inside = a }
-  | inr b ↦ let r = has_flat_back f xs y b in record { item = r.item; among = inr r.among; inside = r.inside }
 ]
 
 first_has : (xs : List Who) (x : Who) → first xs ≡ Some x → Has xs x
@@ -65,11 +53,6 @@ of_ready s who h =
       ready = by_condition t.item.condition f.1;
     }
 
-same_both : (a b : Bool) → (a && b) ≡ true → (a ≡ true) × (b ≡ true)
-same_both true true e = (refl, refl)
-same_both true false e = absurd (true≢false (sym e))
-same_both false b e = absurd (true≢false (sym e))
-
 -- the chosen task, and how long its turn may have lasted
 pub record IsChosen (s : Session) (c : Choice) : Type 0 where
   pub who : IsReady s c.who.job c.who.task
@@ -85,9 +68,9 @@ by_afresh s (Some w) c each e =
 
 last_ready : (s : Session) → goes_on s ≡ true → IsReady s s.last.job s.last.task
 last_ready s e =
-    let found = any_has (is_same s.last) (ready s) (same_both (list_any (is_same s.last) (ready s)) _ e).0 in
+    let found = any_has (is_same s.last) (ready s) (and_parts (list_any (is_same s.last) (ready s)) _ e).0 in
     let r = of_ready s found.0 found.1 in
-    let both = same_both (eqb s.last.job found.0.job) (eqb s.last.task found.0.task) found.2 in
+    let both = and_parts (eqb s.last.job found.0.job) (eqb s.last.task found.0.task) found.2 in
     let job : s.last.job ≡ found.0.job = eqb-true s.last.job found.0.job both.0 in
     let task : s.last.task ≡ found.0.task = eqb-true s.last.task found.0.task both.1 in
     record { member = r.member; among = r.among; named = r.named ∙ sym job; task = r.task; lives = r.lives; numbered = r.numbered ∙ sym task; ready = r.ready }

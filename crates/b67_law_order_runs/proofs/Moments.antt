@@ -12,10 +12,10 @@ use Rattle.b67_model.specs.Rows.{step}
 use Rattle.b67_model.specs.Endings.{Settled, among, released, is_ready, ends_all, ends_task, ends_each_if, unsettled, settles, stepped}
 use Rattle.b67_model.specs.Alone.{JobMoment, whole, by_task, step_of}
 use Rattle.b67_model.specs.InOrder.{Starts, TasksInOrder, JobInOrder}
-use Rattle.b67_law_order.proofs.Members.{length_change, length_filter}
 use Rattle.b67_law_order.specs.Ends.{StepsFrom}
 use Rattle.b67_law_order_rows.specs.Keeping.{KeepsOrder}
 use Rattle.b67_law_order_steps.specs.Laws.{KeptBySteps}
+use Rattle.b67_lemmas.proofs.Members.{length_change, length_filter}
 
 ends_fewer : (s : Settled) (endings : List (ℕ × Ending)) → length (ends_all s endings).job.tasks ≤ length s.job.tasks
 ends_fewer s endings =

@@ -121,7 +121,7 @@ of_one_size : (number stack : ℕ) (openings : List Opening) → AllByRecursion 
 of_one_size number stack [] = tt
 of_one_size number stack (o ∷ more) = (refl, of_one_size (number + 1) stack more)
 
-jobs_count : (number stack : ℕ) (openings : List Opening) → length (opened_from number stack openings) ≡ length openings
+pub jobs_count : (number stack : ℕ) (openings : List Opening) → length (opened_from number stack openings) ≡ length openings
 jobs_count number stack [] = refl
 jobs_count number stack (o ∷ more) = omega (arith, jobs_count (number + 1) stack more)
 

@@ -4,6 +4,9 @@ use Rattle.std.specs.List.{AllByRecursion, sum_by}
 use Rattle.std.proofs.lemmas.Bool.Decides.{eqb_tells}
 use Rattle.b67_model.specs.Keyed.{keyed, change_keyed}
 use Rattle.b67_lemmas.specs.Lists.{Has}
+use Rattle.b67_lemmas.proofs.Members.{all_in, keyed_falls, keyed_has, length_change, total_change, total_has}
+use Rattle.b67_lemmas.proofs.Keyed.{all_change, change_is}
+use Rattle.b67_lemmas.proofs.Sums.{sum_total}
 use Rattle.b67_model.specs.State.{Task, JobConstants, JobProgress, SessionJob}
 use Rattle.b67_model.specs.Alone.{JobMoment, step_of}
 use Rattle.b67_model.specs.Schedule.{Session, Choice, choice}
@@ -11,20 +14,14 @@ use Rattle.b67_model.specs.Run.{StepResult, number_of, of_job, with_moment, mome
 use Rattle.b67_model.specs.InOrder.{Starts, IsSegment, IsStart, JobInOrder, SessionInOrder, IsInOrder}
 use Rattle.b67_law_order_runs.specs.Opening.{Opening, OpeningWithin, opened_from, opening}
 use Rattle.b67_law_order_runs.proofs.Opens.{opens_in_order}
-use Rattle.b67_law_order.proofs.Members.{all_in, keyed_has, keyed_falls, total_change, total_has, length_change}
 use Rattle.b67_law_order_steps.proofs.Settles.{steps_keep_order, steps_keep_order_but_places}
 use Rattle.b67_law_order_steps.proofs.Segments.{rows_keep_order_but_places}
 use Rattle.b67_law_order_steps.proofs.Places.{rows_keep_order}
 use Rattle.b67_law_order_runs.specs.Runs.{RunsAdmitted, SessionsStayInOrder, SessionsStayInOrderButPlaces, RunsStayInOrder}
 use Rattle.b67_law_order_runs.proofs.Chosen.{chosen, keyed_numbered}
-use Rattle.b67_law_order_runs.proofs.Totals.{sum_total, change_is, all_change, numbered_change, others_fifteen, peak_low_of, peak_high_of}
+use Rattle.b67_law_order_runs.proofs.Totals.{others_fifteen, peak_low_of, peak_high_of}
 use Rattle.b67_law_order_runs.proofs.Moments.{Made, Keeping, step_made}
-
-abbrev tasks_of : SessionJob → ℕ
-tasks_of m = length m.progress.job.tasks
-
-abbrev made_of : SessionJob → ℕ
-made_of m = m.progress.made
+use Rattle.b67_law_order.proofs.Numbered.{numbered_change, made_of, tasks_of}
 
 -- the session after a step, with these jobs
 abbrev session_with : Session → Choice → SessionJob → JobMoment → List SessionJob → Session
@@ -145,7 +142,7 @@ follows (suc n) s o a = go (λ s' o' a'. follows n s' o' a') (next s) refl
     go rest None e = o
     go rest (Some m) e = let both = sessions_stay_in_order s m o a e in rest m.session both.0 both.1
 
-opened_admitted : (number stack : ℕ) (openings : List Opening) → AllByRecursion OpeningWithin openings → AllByRecursion RunsAdmitted (opened_from number stack openings)
+pub opened_admitted : (number stack : ℕ) (openings : List Opening) → AllByRecursion OpeningWithin openings → AllByRecursion RunsAdmitted (opened_from number stack openings)
 opened_admitted number stack [] each = tt
 opened_admitted number stack (o ∷ more) each = (record { program = o.program; admitted = each.0.admitted; segments = refl }, opened_admitted (number + 1) stack more each.1)
 

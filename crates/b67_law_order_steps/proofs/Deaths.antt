@@ -2,16 +2,16 @@
 use Rattle.std.proofs.Common.{◌≡◌, ◌≢◌, ℕ, zero, suc, ◌+◌, ◌<◌, ◌≤◌, Bool, true, false, not, cond, eqb, List, [], ◌∷◌, ◌++◌, map, filter, reverse, length, Some, refl, sym, ap, ◌∙◌, subst, inl, inr, ◌⊎◌, arith}
 use Rattle.std.specs.List.{list_any}
 use Rattle.std.proofs.lemmas.Bool.Decides.{eqb_tells}
-use Rattle.std.proofs.lemmas.Bool.{cases_Bool, true≢false}
+use Rattle.std.proofs.lemmas.Bool.{cases_Bool, true≢false, not-true, not_from_false}
 use Rattle.std.proofs.lemmas.List.{length-map, map-append}
 use Rattle.b67_model.specs.Keyed.{keyed}
 use Rattle.b67_lemmas.specs.Lists.{Has, total, Falls}
+use Rattle.b67_lemmas.proofs.Members.{all_from, all_in, any_has, any_none, any_some, falls_filter, falls_short, has_append_cases, has_append_left, has_append_right, has_filter, has_filter_in, has_map, has_map_back, has_reverse, has_reverse_back, keyed_falls, keyed_filter, keyed_has, length_filter, none_pass, total_has, total_split, total_zero}
 use Rattle.b67_model.specs.State.{Frame, Array, Condition, Ready, Awaits, WaitsAt, Task, JobConstants, Job}
 use Rattle.b67_word.specs.declared.faults.Ending.{Ending}
 use Rattle.b67_word.specs.declared.faults.Ending.TheVariants.{Parent}
 use Rattle.b67_model.specs.Endings.{among, is_owned_by, released, at_depth, deepest_below, deepest_first, descendants, all_with, Settled, ends_all, ends_task, unsettled}
 use Rattle.b67_model.specs.InOrder.{Starts, Known, known_of, from_frame, outer_of, known_numbers, WordInOrder, FramesInOrder, BirthInOrder, ParentInOrder, TaskInOrder, ArrayInOrder, EntryInOrder, is_original_of, originals_in, originals_of, frames_named, frames_in_job, TasksInOrder}
-use Rattle.b67_law_order.proofs.Members.{has_map, has_filter, has_filter_in, all_in, all_from, any_none, any_some, any_has, keyed_has, keyed_filter, falls_filter, none_pass, total_has, total_split, total_zero, length_filter, falls_short, keyed_falls, has_append_left, has_append_right, has_append_cases, has_map_back, has_reverse, has_reverse_back}
 use Rattle.b67_law_order.proofs.Reaches.{alike_same, Stays, Follows}
 use Rattle.b67_law_order.proofs.Replaced.{task_kept, entry_kept, IsLive, reach_live, has_counts}
 use Rattle.b67_law_order.proofs.Looks.{above_one}
@@ -38,14 +38,6 @@ without numbers job = record job {
   arrays = filter (λ a. not (is_owned_by (gone_of numbers job) a)) job.arrays;
 }
 
-not_true_is : (b : Bool) → not b ≡ true → b ≡ false
-not_true_is true e = absurd (true≢false (sym e))
-not_true_is false e = refl
-
-not_false_is : (b : Bool) → b ≡ false → not b ≡ true
-not_false_is true e = absurd (true≢false e)
-not_false_is false e = refl
-
 module _ (P : Starts) (constants : JobConstants) (job : Job) (numbers : List ℕ) (g : TasksInOrder P constants job) (closed : IsClosed job numbers) where
   abbrev job' : Job
   job' = without numbers job
@@ -59,7 +51,7 @@ module _ (P : Starts) (constants : JobConstants) (job : Job) (numbers : List ℕ
   follows : Follows job job' Lives
   follows n q lives e =
       let number = (keyed_has (λ t. t.number) n job.tasks q e).1 in
-      let test : stays numbers q ≡ true = not_false_is (among numbers q.number) (subst (λ m. among numbers m ≡ false) (sym number) lives) in
+      let test : stays numbers q ≡ true = not_from_false (among numbers q.number) (subst (λ m. among numbers m ≡ false) (sym number) lives) in
       record {
         item = q;
         found = keyed_filter (λ (t : Task). t.number) n (stays numbers) job.tasks q e test (λ y k. let same : y.number ≡ q.number = k ∙ sym number in ap (λ m. not (among numbers m)) same);
@@ -91,7 +83,7 @@ module _ (P : Starts) (constants : JobConstants) (job : Job) (numbers : List ℕ
       ]
 
   in_arrays : (a : Array) → Has job.arrays a → is_owned_by (gone_of numbers job) a ≡ false → Stays job'.arrays a
-  in_arrays a k e = record { item = a; live = has_filter_in (λ (x : Array). not (is_owned_by (gone_of numbers job) x)) job.arrays a k (not_false_is (is_owned_by (gone_of numbers job) a) e); named = refl; owned = refl; long = omega arith }
+  in_arrays a k e = record { item = a; live = has_filter_in (λ (x : Array). not (is_owned_by (gone_of numbers job) x)) job.arrays a k (not_from_false (is_owned_by (gone_of numbers job) a) e); named = refl; owned = refl; long = omega arith }
 
   array_stays : (a : Array) → Has job.arrays a → IsLive job' a.owner → Stays job'.arrays a
   array_stays a k live = elim (cases_Bool (is_owned_by (gone_of numbers job) a)) [
@@ -102,7 +94,7 @@ module _ (P : Starts) (constants : JobConstants) (job : Job) (numbers : List ℕ
   task_stays : (t : Task) → Has job'.tasks t → TaskInOrder P constants job' t
   task_stays t h =
       let r = has_filter (stays numbers) job.tasks t h in
-      let lives : among numbers t.number ≡ false = not_true_is (among numbers t.number) r.1 in
+      let lives : among numbers t.number ≡ false = not-true (among numbers t.number) r.1 in
       task_kept P constants job job' Lives follows (λ u k. (order u k).birth) (omega arith) t r.0
       (λ n k. elim (cases_Bool (among numbers n)) [ inl y ↦ absurd (true≢false (sym (closed t r.0 n k y) ∙ lives)) | inr z ↦ z ])
       (λ a k at. array_stays a k (reach_live job' t a.owner h at)) (order t r.0)
@@ -127,7 +119,7 @@ module _ (P : Starts) (constants : JobConstants) (job : Job) (numbers : List ℕ
   rest_once : (a : Array) → Has job'.arrays a → originals_of a.identity constants job' ≡ 1
   rest_once a h =
       let r = has_filter (λ (x : Array). not (is_owned_by (gone_of numbers job) x)) job.arrays a h in
-      let free = not_true_is (is_owned_by (gone_of numbers job) a) r.1 in
+      let free = not-true (is_owned_by (gone_of numbers job) a) r.1 in
       let parts = total_split (λ (t : Task). originals_in a.identity t.frames) (stays numbers) job.tasks in
       let none : total (λ (t : Task). originals_in a.identity t.frames) (filter (λ t. not (stays numbers t)) job.tasks) ≡ 0 =
       total_zero (λ (t : Task). originals_in a.identity t.frames) (filter (λ t. not (stays numbers t)) job.tasks) (λ t k.

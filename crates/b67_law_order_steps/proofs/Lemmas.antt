@@ -25,12 +25,12 @@ use Rattle.b67_model.specs.Called.{called_at, called_by, called_on, called}
 use Rattle.b67_law_order_steps.specs.Profiles.{Profile, profile, profiles, RowsKeepProfiles, PrintKeepsProfiles}
 
 -- another task of the same profile in a task's place
-put : (n : ℕ) (t : Task) (ts : List Task) → keyed (λ (p : Profile). p.number) n (profiles ts) ≡ Some (profile t)
+pub profiles_put : (n : ℕ) (t : Task) (ts : List Task) → keyed (λ (p : Profile). p.number) n (profiles ts) ≡ Some (profile t)
     → profiles (change_keyed (λ (u : Task). u.number) n (λ (u : Task). t) ts) ≡ profiles ts
-put n t [] e = refl
-put n t (u ∷ us) e = ⊎_elim
+profiles_put n t [] e = refl
+profiles_put n t (u ∷ us) e = ⊎_elim
     (λ (q : (u.number == n) ≡ true). let same : profile u ≡ profile t = same_Some (profile u) (profile t) (rw q at e) in rw q (ap (λ (p : Profile). p ∷ profiles us) (sym same)))
-    (λ (q : (u.number == n) ≡ false). let at : keyed (λ (p : Profile). p.number) n (profiles us) ≡ Some (profile t) = rw q at e in rw q (ap (λ (ps : List Profile). profile u ∷ ps) (put n t us at)))
+    (λ (q : (u.number == n) ≡ false). let at : keyed (λ (p : Profile). p.number) n (profiles us) ≡ Some (profile t) = rw q at e in rw q (ap (λ (ps : List Profile). profile u ∷ ps) (profiles_put n t us at)))
     (cases_Bool (u.number == n))
 
 -- a store changes no profile
@@ -58,7 +58,7 @@ module _ (none : Type 0) (first : List Profile) (own : Profile) (known : keyed (
   with_good job task tasks same =
       let K : List Profile → Profile → Type 0 = λ ps p. keyed (λ (q : Profile). q.number) p.number ps ≡ Some p in
       let there : K (profiles job.tasks) (profile task) = subst (λ (p : Profile). K (profiles job.tasks) p) (sym same) (subst (λ (ps : List Profile). K ps own) (sym tasks) known) in
-      put task.number task job.tasks there ∙ tasks
+      profiles_put task.number task job.tasks there ∙ tasks
 
   result_good : (h : OperatorContext) (job : Job) (task : Task) (printed : List Line) (touched : Option ℕ) → profiles job.tasks ≡ first → profile task ≡ own → (none → job.arrays ≡ []) → Good (result h job task printed touched)
   result_good h job task printed touched tasks same arrays = post_then Keeps _ _ (post_ok Keeps _ (with_good job task tasks same, arrays))

@@ -1,11 +1,12 @@
 -- What an admitted codefile keeps: an operator stands wherever one may go on.
 use Rattle.std.proofs.Common.{◌≡◌, ℕ, ◌+◌, ◌-◌, ◌/◌, ◌%◌, ◌^◌, ◌≤◌, Bool, true, false, not, eqb, ltb, ◌&&◌, ◌||◌, Option, Some, None, Ok, refl, sym, ap, ◌∙◌, subst, inl, inr, arith}
 use Rattle.std.specs.List.{slice_get}
-use Rattle.std.proofs.lemmas.Bool.{cases_Bool, ltb-false, true≢false, eqb-true}
+use Rattle.std.proofs.lemmas.Bool.{cases_Bool, ltb-false, true≢false, eqb-true, not-false, or_parts}
 use Rattle.b67_word.specs.declared.couples.Place.{Place}
 use Rattle.b67_model.specs.declared.operators.Op.{Op}
 use Rattle.b67_model.specs.declared.operators.Op.TheVariants.{Valc, Namc, Lt8, Lt16, Lt48, Mpcw, Brun, Brtr, Brfl, Bset, Brst, Isol, Insr, Plain}
 use Rattle.b67_lemmas.specs.Lists.{Has}
+use Rattle.b67_lemmas.proofs.Members.{all_in, has_get, keyed_has}
 use Rattle.b67_model.specs.State.{Segment, Task, JobConstants, OperatorContext}
 use Rattle.b67_model.specs.Environment.{level_of_frame, running}
 use Rattle.b67_model.specs.Operators.{operator_at}
@@ -15,20 +16,11 @@ use Rattle.b67_model.specs.Rows.{reading_of, proc_of}
 use Rattle.b67_model.specs.InOrder.{IsStart, SegmentInOrder, SettingInOrder, TaskInOrder}
 use Rattle.b67_law_order_rows.specs.Parameters.{StartsAt, ParametersFit}
 use Rattle.b67_law_order_steps.specs.Laws.{RowsKeepOrder, PlacesHaveOperators}
-use Rattle.b67_law_order.proofs.Members.{all_in, keyed_has, has_get}
 use Rattle.b67_law_order_steps.proofs.Readings.{OpBits, ReadFits}
 use Rattle.b67_law_order_steps.proofs.Segments.{reading_fits}
 use Rattle.b67_law_order_rows.proofs.Kept.{here}
 use Rattle.b67_law_order_steps.proofs.Whole.{step_good}
 use Rattle.b67_law_order_steps.proofs.Admitted.{listed, Sound, admitted_sound, Entered, entered, StandsAt, stands_sound, start_stands, origin_stands}
-
-or_false : (a b : Bool) → (a || b) ≡ false → (a ≡ false) × (b ≡ false)
-or_false true b e = absurd (true≢false e)
-or_false false b e = (refl, e)
-
-not_false : (a : Bool) → not a ≡ false → a ≡ true
-not_false true e = refl
-not_false false e = absurd (true≢false e)
 
 and_false : (a b : Bool) → (a && not b) ≡ false → a ≡ true → b ≡ true
 and_false a true e t = refl
@@ -42,7 +34,7 @@ pub record Named (p : Program) (disp level : ℕ) : Type 0 where
   pub found : slice_get p.segments (disp - 2) ≡ Some code
   pub of_level : code.level ≡ level
 
-abbrev level_of_segment : Option Segment → Option ℕ
+abbrev pub level_of_segment : Option Segment → Option ℕ
 level_of_segment None = None
 level_of_segment (Some s) = Some s.level
 
@@ -117,10 +109,10 @@ module _ (p : Program) (constants : JobConstants) (admitted : IsAdmitted p) (sam
         let level' = (bits / 2 ^ 14) % 2 ^ 5 in
         let stands : Has (listing at.code.code) (At task.place (Mpcw bits)) = subst (λ o. Has (listing at.code.code) (At task.place o)) is at.stands in
         let eight = sound_here.1 (At task.place (Mpcw bits)) stands (8, breaks_rule_8 l bits) (inr (inr (inr (inr (inr (inl refl)))))) in
-        let first = or_false (not (holds_of (named_level p disp) (λ n. eqb n level')) || not (eqb level' (at.code.level + 1))) (not (eqb (bits / 2 ^ 20) 0)) eight in
-        let second = or_false (not (holds_of (named_level p disp) (λ n. eqb n level'))) (not (eqb level' (at.code.level + 1))) first.0 in
-        let named = named_by p disp level' (not_false (holds_of (named_level p disp) (λ n. eqb n level')) second.0) in
-        let short : bits / 2 ^ 20 ≡ 0 = eqb-true (bits / 2 ^ 20) 0 (not_false (eqb (bits / 2 ^ 20) 0) first.1) in
+        let first = or_parts (not (holds_of (named_level p disp) (λ n. eqb n level')) || not (eqb level' (at.code.level + 1))) (not (eqb (bits / 2 ^ 20) 0)) eight in
+        let second = or_parts (not (holds_of (named_level p disp) (λ n. eqb n level'))) (not (eqb level' (at.code.level + 1))) first.0 in
+        let named = named_by p disp level' (not-false (holds_of (named_level p disp) (λ n. eqb n level')) second.0) in
+        let short : bits / 2 ^ 20 ≡ 0 = eqb-true (bits / 2 ^ 20) 0 (not-false (eqb (bits / 2 ^ 20) 0) first.1) in
         let word : (bits / 2 ^ 20) % 2 ^ 13 ≡ 0 = rw short refl in
         let syllable : (bits / 2 ^ 33) % 2 ^ 3 ≡ 0 = omega (arith, short) in
         let here : record { word = (bits / 2 ^ 20) % 2 ^ 13; syllable = (bits / 2 ^ 33) % 2 ^ 3 } ≡ origin = λ i. record { word = word i; syllable = syllable i } in

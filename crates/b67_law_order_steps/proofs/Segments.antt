@@ -1,7 +1,7 @@
 -- What any code words keep.
-use Rattle.std.proofs.Common.{◌≡◌, ℕ, ◌+◌, ◌-◌, ◌/◌, ◌%◌, ◌^◌, ◌<◌, Bool, true, false, eqb, ltb, ◌&&◌, length, Option, Some, None, Ok, refl, sym, subst, arith}
+use Rattle.std.proofs.Common.{◌≡◌, ℕ, ◌+◌, ◌-◌, ◌/◌, ◌%◌, ◌^◌, ◌<◌, true, eqb, ltb, ◌&&◌, length, Option, Some, None, Ok, refl, subst, arith}
 use Rattle.std.specs.List.{AllByRecursion, slice_get}
-use Rattle.std.proofs.lemmas.Bool.{ltb-true, true≢false}
+use Rattle.std.proofs.lemmas.Bool.{ltb-true, and_parts}
 use Rattle.b67_model.specs.declared.operators.Op.{Op}
 use Rattle.b67_model.specs.declared.operators.Op.TheVariants.{Valc, Namc, Lt8, Lt16, Lt48, Mpcw, Brun, Brtr, Brfl, Bset, Brst, Isol, Insr, Plain}
 use Rattle.b67_model.specs.State as State
@@ -10,10 +10,10 @@ use Rattle.b67_model.specs.Rows.{code_of, reading_of, is_proc, proc_of}
 use Rattle.b67_model.specs.InOrder.{IsSegment, SegmentInOrder, SettingInOrder, TaskInOrder}
 use Rattle.b67_law_order_rows.specs.Parameters.{StartsAt, ParametersFit}
 use Rattle.b67_law_order_steps.specs.Laws.{RowsKeepOrderButPlaces}
-use Rattle.b67_law_order.proofs.Members.{all_in, keyed_has, has_get}
 use Rattle.b67_law_order_steps.proofs.Readings.{OpBits, ReadFits, operator_fits}
 use Rattle.b67_law_order_rows.proofs.Kept.{here}
 use Rattle.b67_law_order_steps.proofs.Whole.{step_good}
+use Rattle.b67_lemmas.proofs.Members.{all_in, has_get, keyed_has}
 
 -- the code of a segment has its bits
 code_fits : (constants : JobConstants) (segment : ℕ) → SettingInOrder constants → (length (code_of constants segment) < 2 ^ 13) × AllByRecursion (λ (w : ℕ). w < 2 ^ 48) (code_of constants segment)
@@ -25,15 +25,11 @@ code_fits constants segment g = by (slice_get constants.segments (segment - 1)) 
 pub reading_fits : (constants : JobConstants) (task : Task) → SettingInOrder constants → ReadFits (reading_of constants task)
 reading_fits constants task g = let code = code_fits constants task.segment g in operator_fits (code_of constants task.segment) task.place code.0 code.1
 
-both : (a b : Bool) → (a && b) ≡ true → (a ≡ true) × (b ≡ true)
-both true b e = (refl, e)
-both false b e = absurd (true≢false (sym e))
-
 -- a literal's fields
 pub proc_fits : (h : OperatorContext) (bits : ℕ) → is_proc h bits ≡ true → StartsAt (IsSegment h.constants) (proc_of bits)
 proc_fits h bits test =
-    let one = both (ltb bits (2 ^ 36) && (eqb ((bits / 2 ^ 19) % 2) 0) && ltb 1 (bits % 2 ^ 14)) (ltb (bits % 2 ^ 14) (length h.constants.segments + 2)) test in
-    let two = both (ltb bits (2 ^ 36) && (eqb ((bits / 2 ^ 19) % 2) 0)) (ltb 1 (bits % 2 ^ 14)) one.0 in
+    let one = and_parts (ltb bits (2 ^ 36) && (eqb ((bits / 2 ^ 19) % 2) 0) && ltb 1 (bits % 2 ^ 14)) (ltb (bits % 2 ^ 14) (length h.constants.segments + 2)) test in
+    let two = and_parts (ltb bits (2 ^ 36) && (eqb ((bits / 2 ^ 19) % 2) 0)) (ltb 1 (bits % 2 ^ 14)) one.0 in
     let low = ltb-true 1 (bits % 2 ^ 14) two.1 in
     let high = ltb-true (bits % 2 ^ 14) (length h.constants.segments + 2) one.1 in
     record { from_one = omega (arith, low); within = omega (arith, high, low); word_fits = omega arith; syllable_fits = omega arith }

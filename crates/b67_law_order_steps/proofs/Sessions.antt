@@ -83,7 +83,7 @@ starts_are_segments s h = record {
 }
 
 -- other numbers: segments
-recoded_count : (xs ys : List Segment) → Recoded xs ys → length ys ≡ length xs
+pub recoded_count : (xs ys : List Segment) → Recoded xs ys → length ys ≡ length xs
 recoded_count [] [] h = refl
 recoded_count (x ∷ xs) (y ∷ ys) h = ap suc (recoded_count xs ys h.1)
 recoded_count [] (y ∷ ys) h = absurd h

@@ -8,6 +8,7 @@ use Rattle.b67_word.specs.declared.faults.Ending.TheVariants.{Ended, Deadlock, L
 use Rattle.b67_model.specs.Answers.{Answer}
 use Rattle.b67_model.specs.Keyed.{keyed}
 use Rattle.b67_lemmas.specs.Lists.{Has}
+use Rattle.b67_lemmas.proofs.Members.{all_in, keyed_has, filter_none}
 use Rattle.b67_model.specs.State.{Array, Condition, Ready, Task, JobConstants, Job, JobProgress, with_task}
 use Rattle.b67_model.specs.Steps.{Done, Goes, Leaves, Waits}
 use Rattle.b67_model.specs.Operators.{Reading}
@@ -19,14 +20,14 @@ use Rattle.b67_model.specs.InOrder.{Starts, IsSegment, IsStart, known_of, from_f
 use Rattle.b67_law_order.specs.Ends.{StepsFrom}
 use Rattle.b67_law_order_rows.specs.Keeping.{KeepsOrder}
 use Rattle.b67_law_order_steps.specs.Laws.{StepsKeepOrderButPlaces, StepsKeepOrder}
-use Rattle.b67_law_order.proofs.Members.{all_in, keyed_has}
 use Rattle.b67_law_order.proofs.Reaches.{alike_same}
 use Rattle.b67_law_order.proofs.Changes.{run_replaced}
 use Rattle.b67_law_order_rows.proofs.Kept.{starts_run}
 use Rattle.b67_law_order_steps.proofs.Deaths.{ends_good, ends_task_good, all_closed, all_among}
 use Rattle.b67_law_order_steps.proofs.Segments.{rows_keep_order_but_places}
 use Rattle.b67_law_order_steps.proofs.Places.{rows_keep_order}
-use Rattle.b67_law_order_steps.proofs.NextTask as NextTask
+use Rattle.b67_law_order.proofs.Posts.{Post}
+use Rattle.b67_law_order_steps.proofs.Identities as Identities
 
 -- a task that waits
 waits_good : (P : Starts) (constants : JobConstants) (job : Job) (task : Task) (condition : Condition) → StepsFrom P constants job task → ConditionInOrder (reach_of job task) condition → TasksInOrder P constants (with_task job (record task { condition = condition }))
@@ -83,8 +84,8 @@ NextLow job (Ok Leaves) = Unit {0}
 NextLow job (Ok (Waits condition)) = Unit {0}
 NextLow job (Err fault) = Unit {0}
 
-next_of : (job : Job) (a : Answer Done) → NextTask.Post (NextTask.Keeps job) a → NextLow job a
-next_of job (Ok (Goes after printed touched)) g = g.by.tasks
+next_of : (job : Job) (a : Answer Done) → Post (Identities.Keeps job) a → NextLow job a
+next_of job (Ok (Goes after printed touched)) g = g.by.one
 next_of job (Ok Leaves) g = tt
 next_of job (Ok (Waits condition)) g = tt
 next_of job (Err fault) g = tt
@@ -97,16 +98,11 @@ settles_next job task (Err fault) g = let e = each_next (list_all (λ t. not (is
 
 step_next : (constants : JobConstants) (job : Job) (task : Task) (r : Reading) → NextLow job (step_by constants job task r)
 step_next constants job task (Err why) = tt
-step_next constants job task (Ok read) = next_of job _ (NextTask.row_good read.0 (record { constants = constants; job = job; task = record task { place = read.1 }; at = task.place }))
+step_next constants job task (Ok read) = next_of job _ (Identities.row_good read.0 (record { constants = constants; job = job; task = record task { place = read.1 }; at = task.place }))
 
 pub stepped_next : (constants : JobConstants) (job : Job) (task : Task) → (stepped constants job task).settled.job.next_task ≤ job.next_task + 1
 unfolding step stepped
 stepped_next constants job task = settles_next job task (step constants job task) (step_next constants job task (reading_of constants task))
-
--- all tasks end
-filter_none : {A : Type 0} (p : A → Bool) (xs : List A) → ((x : A) → Has xs x → p x ≡ false) → filter p xs ≡ []
-filter_none p [] none = refl
-filter_none p (x ∷ xs) none = let t = none x (inl refl) in rw t (filter_none p xs (λ y h. none y (inr h)))
 
 all_gone : (P : Starts) (constants : JobConstants) (s : Settled) (ending : Ending) → TasksInOrder P constants s.job → (ends_each_if true ending s).job.tasks ≡ []
 all_gone P constants s ending g =

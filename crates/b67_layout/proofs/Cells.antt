@@ -4,15 +4,15 @@ use Rattle.std.proofs.lemmas.Bool.Decides.{eqb_tells}
 use Rattle.b67_word.specs.declared.couples.Place.{Place}
 use Rattle.b67_model.specs.Keyed.{change_keyed}
 use Rattle.b67_lemmas.specs.Lists.{Has, Falls, how_many}
+use Rattle.b67_lemmas.proofs.Members.{all_in, length_change}
 use Rattle.b67_model.specs.Words.{Word}
-use Rattle.b67_model.specs.State.{Frame, Standing, Marked, Entered, Array, Task, Job, SessionJob, top, with_top_cells, height, with_task}
-use Rattle.b67_model.specs.Environment.{level_of_frame, running, running_from}
+use Rattle.b67_model.specs.State.{Frame, Array, Task, Job, SessionJob, top, with_top_cells, height, with_task}
 use Rattle.b67_model.specs.Endings.{is_ready}
 use Rattle.b67_model.specs.Schedule.{Session}
 use Rattle.b67_model.specs.InOrder.{Starts, IsSegment, Known, known_of, known_numbers, from_frame, outer_of, identities, is_original_of, originals_in, originals_of, frames_named, FramesInOrder, StackInOrder, CellsInOrder, ConditionInOrder, TaskInOrder, TasksInOrder, JobInOrder, IsInOrderButPlaces}
-use Rattle.b67_law_order.proofs.Members.{all_in, length_change}
 use Rattle.b67_law_order.proofs.Reaches.{Alike, alike_same}
 use Rattle.b67_law_order.proofs.Replaced.{replaced}
+use Rattle.b67_law_order.proofs.Looks.{some_cells}
 use Rattle.b67_layout.specs.Placement.{Placement}
 use Rattle.b67_layout.specs.Session.{IsRunning}
 use Rattle.b67_layout.specs.Meets.{with_job}
@@ -36,17 +36,6 @@ frames_with P arrays outer (f ∷ below) cs o words = (words, o.1, o.2)
 returns_with : (P : Starts) (fs : List Frame) (cs : List Word) → StackInOrder P fs → StackInOrder P (with_top_cells fs cs)
 returns_with P [] cs o = o
 returns_with P (f ∷ below) cs o = o
-
-some_with : (fs : List Frame) (cs : List Word) → fs ≢ [] → with_top_cells fs cs ≢ []
-some_with [] cs some = some
-some_with (f ∷ below) cs some = λ e. cc
-
-level_with : (fs : List Frame) (cs : List Word) → level_of_frame (running (with_top_cells fs cs)) ≡ level_of_frame (running fs)
-level_with [] cs = refl
-level_with (f ∷ below) cs = by f.standing where
-  by : (s : Standing) → level_of_frame (running_from s (record f { standing = s; cells = cs }) (running below)) ≡ level_of_frame (running_from s (record f { standing = s }) (running below))
-  by Marked = refl
-  by (Entered level environment back) = refl
 
 alike_with : (n : ℕ) (fs : List Frame) (cs : List Word) → Alike (map known_of (from_frame n fs)) (map known_of (from_frame n (with_top_cells fs cs)))
 alike_with n [] cs = alike_same []
@@ -90,7 +79,7 @@ module _ (plan : Placement) (s : Session) (m : SessionJob) (t : Task) (ordered :
     next_frame = omega arith;
     frames = frames_with (IsSegment m.constants) m.progress.job.arrays (outer_of m.progress.job t) t.frames cs own.frames words;
     returns = returns_with (IsSegment m.constants) t.frames cs own.returns;
-    some = some_with t.frames cs own.some;
+    some = some_cells t.frames cs own.some;
     falls = subst (λ ks. Falls m.progress.job.next_frame (known_numbers ks)) (sym reach-same) own.falls;
     not_higher = fits;
     place = record { from_one = own.place.from_one; within = own.place.within; word_fits = word_fits; syllable_fits = syllable_fits };

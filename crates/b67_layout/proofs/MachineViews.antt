@@ -12,7 +12,8 @@ use Rattle.b67_stack.specs.Changes.{with_stack}
 use Rattle.b67_stack.proofs.Slots.{slot-same, slot-other}
 use Rattle.b67_layout.specs.Placement.{Slotted, Placement, outer_spots}
 use Rattle.b67_layout.specs.Layout.{activations, stack_of_task, slot_with, slot_in, slot_by, slot_at, objects_of, array_object, code_objects, machine_view}
-use Rattle.b67_layout.proofs.Others.{OnTop, task-same, task-other, slot_with-after, outer_spots-after, activations-job, keyed-has}
+use Rattle.b67_layout.proofs.Others.{OnTop, task-same, task-other, slot_with-after, outer_spots-after, activations-job}
+use Rattle.b67_lemmas.proofs.Members.{keyed-has}
 
 -- the jobs with another course of job j
 abbrev pub with_course : List SessionJob → ℕ → JobProgress → List SessionJob

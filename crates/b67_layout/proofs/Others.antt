@@ -1,9 +1,9 @@
 -- What other tasks see of a task that changed on top of a frame that none of them depends on.
-use Rattle.std.proofs.Common.{◌≡◌, ◌≢◌, ℕ, List, [], ◌∷◌, map, Option, Some, None, refl, sym, ◌∙◌, ap, true, false, cond, ◌==◌, ⊎_elim, inl, inr}
+use Rattle.std.proofs.Common.{◌≡◌, ◌≢◌, ℕ, List, [], ◌∷◌, map, Option, Some, None, refl, sym, ◌∙◌, ap, cond, ◌==◌, ⊎_elim}
 use Rattle.std.specs.Prelude.{if◌then◌else◌}
-use Rattle.std.proofs.lemmas.Option.{same_Some, none-some}
-use Rattle.std.proofs.lemmas.Bool.{cases_eq, cases_Bool, eq-eqb, ne_eqb, eqb-true}
+use Rattle.std.proofs.lemmas.Bool.{cases_eq, cases_Bool, ne_eqb}
 use Rattle.b67_lemmas.specs.Lists.{Has}
+use Rattle.b67_lemmas.proofs.Members.{change_found, change_other, keyed-has}
 use Rattle.b67_model.specs.Words as Words
 use Rattle.b67_model.specs.Words.{Word, Operand, Name, Ref, Row, Element, Original, Proc, Intrinsic}
 use Rattle.b67_model.specs.State.{Frame, Array, Task, Job, height}
@@ -15,32 +15,7 @@ use Rattle.b67_stack.specs.MachineView.{Slot, Running, Waiting}
 use Rattle.b67_layout.specs.Placement.{Placement, slot_of, spot_in, outer_spots}
 use Rattle.b67_layout.specs.Layout.{shape, head, activations, slot_with}
 
--- the first item of a number, where another takes its place
-pub keyed-put_same : {A : Type 0} (key : A → ℕ) (n : ℕ) (y x : A) → key y ≡ n → (xs : List A) → keyed key n xs ≡ Some x → keyed key n (change_keyed key n (λ z. y) xs) ≡ Some y
-keyed-put_same key n y x k [] e = cc
-keyed-put_same key n y x k (z ∷ zs) e = ⊎_elim
-    (λ (t : (key z == n) ≡ true). rw t (rw (eq-eqb (key y) n k) refl))
-    (λ (t : (key z == n) ≡ false). let at : keyed key n zs ≡ Some x = rw t at e in rw (t, t) (keyed-put_same key n y x k zs at))
-    (cases_Bool (key z == n))
-
-pub keyed-put_other : {A : Type 0} (key : A → ℕ) (m n : ℕ) (y : A) → key y ≡ n → m ≢ n → (xs : List A) → keyed key m (change_keyed key n (λ z. y) xs) ≡ keyed key m xs
-keyed-put_other key m n y k ne [] = refl
-keyed-put_other key m n y k ne (z ∷ zs) = ⊎_elim
-    (λ (t : (key z == n) ≡ true).
-    let a : (key y == m) ≡ false = ne_eqb (key y) m (λ e. ne (sym e ∙ k)) in
-    let b : (key z == m) ≡ false = ne_eqb (key z) m (λ e. ne (sym e ∙ eqb-true (key z) n t)) in
-    rw t (rw (a, b) refl))
-    (λ (t : (key z == n) ≡ false). rw t (ap (λ r. cond (key z == m) (Some z) r) (keyed-put_other key m n y k ne zs)))
-    (cases_Bool (key z == n))
-
-pub keyed-has : {A : Type 0} (key : A → ℕ) (n : ℕ) (xs : List A) (x : A) → keyed key n xs ≡ Some x → Has xs x
-keyed-has key n [] x e = absurd (none-some x e)
-keyed-has key n (z ∷ zs) x e = ⊎_elim
-    (λ (t : (key z == n) ≡ true). inl (same_Some z x (rw t at e)))
-    (λ (t : (key z == n) ≡ false). inr (keyed-has key n zs x (rw t at e)))
-    (cases_Bool (key z == n))
-
-spot_in-outer : (s : ℕ) (o o' : ℕ → StackPlace) → ((id : ℕ) → o' id ≡ o id) → (fs : List Frame) (id : ℕ) → spot_in s o' fs id ≡ spot_in s o fs id
+pub spot_in-outer : (s : ℕ) (o o' : ℕ → StackPlace) → ((id : ℕ) → o' id ≡ o id) → (fs : List Frame) (id : ℕ) → spot_in s o' fs id ≡ spot_in s o fs id
 spot_in-outer s o o' e [] id = e id
 spot_in-outer s o o' e (f ∷ fs) id = ap (λ r. cond (f.identity == id) (let p : StackPlace = record { stack = s; disp = height fs } in p) r) (spot_in-outer s o o' e fs id)
 
@@ -64,10 +39,10 @@ module _ (plan : Placement) (j : ℕ) (job job' : Job) (t t' : Task) (n : ℕ) (
   any m (Some u) e = top.uncritical u (keyed-has (λ (u : Task). u.number) m job.tasks u e)
 
   pub task-same : keyed (λ (u : Task). u.number) t.number job'.tasks ≡ Some t'
-  task-same = ap (λ ts. keyed (λ (u : Task). u.number) t.number ts) top.tasks ∙ keyed-put_same (λ (u : Task). u.number) t.number t' t top.number job.tasks top.there
+  task-same = ap (λ ts. keyed (λ (u : Task). u.number) t.number ts) top.tasks ∙ change_found (λ (u : Task). u.number) t.number t t' job.tasks top.number top.there
 
   pub task-other : (m : ℕ) → m ≢ t.number → keyed (λ (u : Task). u.number) m job'.tasks ≡ keyed (λ (u : Task). u.number) m job.tasks
-  task-other m ne = ap (λ ts. keyed (λ (u : Task). u.number) m ts) top.tasks ∙ keyed-put_other (λ (u : Task). u.number) m t.number t' top.number ne job.tasks
+  task-other m ne = ap (λ ts. keyed (λ (u : Task). u.number) m ts) top.tasks ∙ change_other (λ (u : Task). u.number) m t.number t' job.tasks top.number ne
 
   pub outer_spots-after : (parents : List ℕ) (c : ℕ) → c ≢ n → (id : ℕ) → outer_spots plan j job' c parents id ≡ outer_spots plan j job c parents id
   outer_spots-after [] c ne id = refl

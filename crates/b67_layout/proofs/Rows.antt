@@ -1,9 +1,9 @@
 -- The row and the slot of a live task.
 use Rattle.std.proofs.Common.{◌≡◌, ℕ, ◌<◌, List, [], ◌∷◌, find, Option, Some, refl, sym, ◌∙◌, ap, Bool, true, false, ◌==◌, ⊎_elim, inl, inr, subst}
 use Rattle.std.specs.Prelude.{if◌then◌else◌, option_map, unwrap_or}
-use Rattle.std.proofs.lemmas.Option.{same_Some, none-some}
 use Rattle.std.proofs.lemmas.Bool.{cases_Bool, eq-eqb, eqb-true}
 use Rattle.b67_lemmas.specs.Lists.{Has}
+use Rattle.b67_lemmas.proofs.Members.{found-has}
 use Rattle.b67_model.specs.State.{Task, SessionJob}
 use Rattle.b67_model.specs.Keyed.{keyed}
 use Rattle.b67_model.specs.Run.{number_of}
@@ -38,13 +38,6 @@ row-true job task r e = ⊎_elim
     (λ (t : (r.job == job) ≡ true). let at : (r.task == task) ≡ true = rw t at e in (eqb-true r.job job t, eqb-true r.task task at))
     (λ (t : (r.job == job) ≡ false). absurd (let z : ⊥ = (let at : false ≡ true = rw t at e in cc) in z))
     (cases_Bool (r.job == job))
-
-pub found-has : {A : Type 0} (test : A → Bool) (xs : List A) (x : A) → find test xs ≡ Some x → Has xs x × (test x ≡ true)
-found-has test [] x e = absurd (none-some x e)
-found-has test (y ∷ ys) x e = ⊎_elim
-    (λ (t : test y ≡ true). let same : y ≡ x = same_Some y x (rw t at e) in (inl same, ap test (sym same) ∙ t))
-    (λ (t : test y ≡ false). let r = found-has test ys x (rw t at e) in (inr r.0, r.1))
-    (cases_Bool (test y))
 
 -- a live task's row
 pub record TaskRow (plan : Placement) (j task : ℕ) : Type 0 where

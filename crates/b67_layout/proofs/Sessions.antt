@@ -1,25 +1,29 @@
 -- A step of the running task on top of its stack: what else the machine stands for stays.
-use Rattle.std.proofs.Common.{◌≡◌, ℕ, ◌+◌, ◌<◌, ◌≤◌, List, [], ◌∷◌, length, Some, refl, sym, ◌∙◌, ap, arith, Bool, true, false, ◌==◌, ⊎_elim, inl, inr, ◌⊎◌, subst}
+use Rattle.std.proofs.Common.{◌≡◌, ℕ, ◌+◌, ◌<◌, ◌≤◌, List, [], ◌∷◌, length, Some, refl, sym, ◌∙◌, ap, arith, Bool, true, false, ◌==◌, ⊎_elim, inl, inr, ◌⊎◌, subst, zero, suc}
 use Rattle.std.specs.Prelude.{if◌then◌else◌, ◌||◌}
 use Rattle.std.specs.List.{slice_get, list_any}
-use Rattle.std.proofs.lemmas.Option.{same_Some}
+use Rattle.std.proofs.lemmas.Option.{same_Some, none-some}
 use Rattle.std.proofs.lemmas.Bool.{cases_Bool}
 use Rattle.b67_word.specs.Tagged.{Tagged}
 use Rattle.b67_ctl.specs.declared.registers.Regs.{Regs}
 use Rattle.b67_lemmas.specs.Lists.{Has}
-use Rattle.b67_model.specs.State.{Frame, Task, Job, JobProgress, SessionJob, height}
+use Rattle.b67_lemmas.proofs.Members.{keyed-has}
+use Rattle.b67_model.specs.State.{Frame, Task, Job, JobProgress, SessionJob, height, Segment}
 use Rattle.b67_model.specs.Keyed.{keyed, change_keyed}
 use Rattle.b67_model.specs.Run.{number_of}
 use Rattle.b67_model.specs.Steps.{is_critical}
 use Rattle.b67_model.specs.Schedule.{Session}
-use Rattle.b67_stack.specs.MachineView.{NoOriginalAboveTop}
+use Rattle.b67_model.specs.Words.{Word, Original}
+use Rattle.b67_model.specs.InOrder.{rows_after, DictionaryWords}
+use Rattle.b67_stack.specs.MachineView.{NoOriginalAboveTop, PagedObject}
 use Rattle.b67_stack.specs.Represents.{Storage, Represents}
 use Rattle.b67_layout.specs.Placement.{Placement, Slotted, slot_of}
-use Rattle.b67_layout.specs.Layout.{machine_view}
+use Rattle.b67_layout.specs.Layout.{machine_view, code_objects}
 use Rattle.b67_layout.specs.Session.{RowsFit, DictionariesFollow, RowHomes, PlanFits, RepresentsDictionary, vector_word, critical_mark, RepresentsTask, IsRunning, SessionHolds}
-use Rattle.b67_layout.proofs.Others.{OnTop, keyed-has, task-same}
+use Rattle.b67_layout.proofs.Others.{OnTop, task-same}
 use Rattle.b67_layout.proofs.MachineViews.{with_course, member-same}
 use Rattle.b67_layout.proofs.Rows.{task_row, slot_below}
+use Rattle.b67_area.specs.declared.Kind.TheVariants as kind
 
 -- the items after the first one of a number changed
 module _ {A : Type 0} (key : A → ℕ) (n : ℕ) (f : A → A) where
@@ -48,7 +52,7 @@ module _ {A : Type 0} (key : A → ℕ) (n : ℕ) (f : A → A) where
       (cases_Bool (key y == n))
 
 -- which frames are critical is the same
-any-change : (id n : ℕ) (t t' : Task) → t'.critical ≡ t.critical → (xs : List Task) → keyed (λ (u : Task). u.number) n xs ≡ Some t
+pub any-change : (id n : ℕ) (t t' : Task) → t'.critical ≡ t.critical → (xs : List Task) → keyed (λ (u : Task). u.number) n xs ≡ Some t
     → list_any (λ (u : Task). u.critical == id) (change_keyed (λ (u : Task). u.number) n (λ u. t') xs) ≡ list_any (λ (u : Task). u.critical == id) xs
 any-change id n t t' c [] e = refl
 any-change id n t t' c (y ∷ ys) e = ⊎_elim
@@ -60,12 +64,12 @@ any-change id n t t' c (y ∷ ys) e = ⊎_elim
     rw q (ap (λ (b : Bool). (y.critical == id) || b) (any-change id n t t' c ys at)))
     (cases_Bool (y.number == n))
 
-critical_mark-same : (job job' : Job) → ((id : ℕ) → is_critical job' id ≡ is_critical job id) → (fs : List Frame) → critical_mark job' fs ≡ critical_mark job fs
+pub critical_mark-same : (job job' : Job) → ((id : ℕ) → is_critical job' id ≡ is_critical job id) → (fs : List Frame) → critical_mark job' fs ≡ critical_mark job fs
 critical_mark-same job job' e [] = refl
 critical_mark-same job job' e (f ∷ below) =
     ap (λ (b : Bool). if b then height below else critical_mark job' below) (e f.identity) ∙ ap (λ (i : ℕ). if is_critical job f.identity then height below else i) (critical_mark-same job job' e below)
 
-follow-up : (plan : Placement) (at : ℕ) (jobs : List SessionJob) → DictionariesFollow plan at jobs → at ≤ plan.stacks
+pub follow-up : (plan : Placement) (at : ℕ) (jobs : List SessionJob) → DictionariesFollow plan at jobs → at ≤ plan.stacks
 follow-up plan at [] d = omega arith
 follow-up plan at (m ∷ more) d = omega (arith, follow-up plan (at + (2 + length m.constants.dictionary.cells)) more d.1)
 
@@ -77,7 +81,7 @@ dictionary_below plan at (m ∷ more) y d (inl e) =
     subst P e (omega (arith, d.0, follow-up plan (at + (2 + length m.constants.dictionary.cells)) more d.1))
 dictionary_below plan at (m ∷ more) y d (inr k) = dictionary_below plan (at + (2 + length m.constants.dictionary.cells)) more y d.1 k
 
-follow-course : (plan : Placement) (at j : ℕ) (c : JobProgress) (jobs : List SessionJob) → DictionariesFollow plan at jobs → DictionariesFollow plan at (with_course jobs j c)
+pub follow-course : (plan : Placement) (at j : ℕ) (c : JobProgress) (jobs : List SessionJob) → DictionariesFollow plan at jobs → DictionariesFollow plan at (with_course jobs j c)
 follow-course plan at j c [] d = d
 follow-course plan at j c (m ∷ more) d = ⊎_elim
     (λ (q : (number_of m == j) ≡ true). rw q d)
@@ -212,3 +216,35 @@ module _ (x : Storage) (core new : List Tagged) (r r' : Regs) (marks : List ℕ)
 
     vector : (y : SessionJob) (u : Task) → Has s.jobs y → Has y.progress.job.tasks u → slice_get new (32 + slot_of plan y.constants.number u.number) ≡ Some (vector_word plan y.constants.number u.parents)
     vector y u in_y in_u = same (32 + slot_of plan y.constants.number u.number) (omega (arith, slot_below plan s.jobs y u h.fits.rows in_y in_u, h.fits.few)) ∙ h.vector.live y u in_y in_u
+
+-- dictionaries don't overlap
+pub dictionary_above : (plan : Placement) (at : ℕ) (ms : List SessionJob) (y : SessionJob) → DictionariesFollow plan at ms → Has ms y → at ≤ plan.dictionary y.constants.number
+dictionary_above plan at [] y d h = absurd h
+dictionary_above plan at (m ∷ more) y d (inl e) = omega (arith, d.0, ap (λ (z : SessionJob). plan.dictionary z.constants.number) e)
+dictionary_above plan at (m ∷ more) y d (inr h) = omega (arith, dictionary_above plan (at + (2 + length m.constants.dictionary.cells)) more y d.1 h)
+
+-- a job that is changed twice
+pub course_twice : (jobs : List SessionJob) (j : ℕ) (c d : JobProgress) → with_course (with_course jobs j c) j d ≡ with_course jobs j d
+course_twice [] j c d = refl
+course_twice (x ∷ xs) j c d = ⊎_elim
+    (λ (t : (number_of x == j) ≡ true). rw t (rw t refl))
+    (λ (t : (number_of x == j) ≡ false). rw t (rw t (ap (λ (more : List SessionJob). x ∷ more) (course_twice xs j c d))))
+    (cases_Bool (number_of x == j))
+
+-- the objects of segments
+pub code_object : (plan : Placement) (j n : ℕ) (ss : List Segment) (i : ℕ) → i < length ss → (t : PagedObject) × Has (code_objects plan j n ss) t × (t.home ≡ plan.dictionary j + 1 + (n + i)) × (t.kind ≡ kind.Code)
+code_object plan j n [] i low = absurd (omega (arith, low))
+code_object plan j n (s ∷ ss) zero low = (record { home = plan.dictionary j + 1 + n; kind = kind.Code; numbers = s.code }, inl refl, omega arith, refl)
+code_object plan j n (s ∷ ss) (suc i) low = let r = code_object plan j (n + 1) ss i (omega (arith, low)) in (r.0, inr r.1, r.2 ∙ (let z : plan.dictionary j + 1 + (n + 1 + i) ≡ plan.dictionary j + 1 + (n + suc i) = omega arith in z), r.3)
+
+-- the words of a dictionary by their numbers
+pub entry_row : (n : ℕ) (ws : List Word) (i : ℕ) (w : Word) → rows_after n ws → slice_get ws i ≡ Some w → w ≡ Original (n + i)
+entry_row n [] i w d e = absurd (none-some w e)
+entry_row n (v ∷ ws) zero w d e = sym (same_Some v w e) ∙ d.0 ∙ ap Original (let z : n ≡ n + 0 = omega arith in z)
+entry_row n (v ∷ ws) (suc i) w d e = entry_row (n + 1) ws i w d.1 e ∙ ap Original (let z : n + 1 + i ≡ n + suc i = omega arith in z)
+
+-- a job has at most as many segments as entries in its dictionary
+pub words_enough : (n : ℕ) (segments : List Segment) (words : List Word) → DictionaryWords n segments words → length segments ≤ length words
+words_enough n [] words d = omega arith
+words_enough n (s ∷ more) [] d = absurd d
+words_enough n (s ∷ more) (w ∷ words) d = omega (arith, words_enough (n + 1) more words d.1)

@@ -6,6 +6,7 @@ use Rattle.b67_word.specs.Tagged.{Tagged}
 use Rattle.b67_word.specs.declared.couples.Place.{Place}
 use Rattle.b67_ctl.specs.declared.registers.Regs.{Regs}
 use Rattle.b67_lemmas.specs.Lists.{Has}
+use Rattle.b67_lemmas.proofs.Members.{keyed-has}
 use Rattle.b67_model.specs.Words.{Word}
 use Rattle.b67_model.specs.State as State
 use Rattle.b67_model.specs.State.{Frame, Task, Job, JobProgress, SessionJob, height, with_top_cells, with_task}
@@ -19,7 +20,7 @@ use Rattle.b67_stack.specs.Changes.{with_stack, with_cells, new_mark}
 use Rattle.b67_layout.specs.Placement.{Placement, spot_in, outer_spots}
 use Rattle.b67_layout.specs.Layout.{shape, activations, stack_of_task, machine_view}
 use Rattle.b67_layout.specs.Session.{RepresentsTask, IsRunning, critical_mark, SessionHolds}
-use Rattle.b67_layout.proofs.Others.{OnTop, seen-cells, seen-mark, keyed-has}
+use Rattle.b67_layout.proofs.Others.{OnTop, seen-cells, seen-mark}
 use Rattle.b67_layout.proofs.MachineViews.{with_course, machine_view-after, stack-after}
 use Rattle.b67_layout.proofs.Rows.{row_of}
 use Rattle.b67_layout.proofs.Sessions.{SessionHolds-after}
@@ -35,7 +36,7 @@ pub seen-with : (fs : List Frame) (cells : List Word) (c s : ℕ) (outer : ℕ �
 seen-with [] cells c s outer id = refl
 seen-with (f ∷ below) cells c s outer id = seen-cells f below cells c s outer id
 
-critical-with : (job : Job) (fs : List Frame) (cells : List Word) → critical_mark job (with_top_cells fs cells) ≡ critical_mark job fs
+pub critical-with : (job : Job) (fs : List Frame) (cells : List Word) → critical_mark job (with_top_cells fs cells) ≡ critical_mark job fs
 critical-with job [] cells = refl
 critical-with job (f ∷ below) cells = refl
 

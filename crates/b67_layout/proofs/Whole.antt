@@ -4,7 +4,6 @@ use Rattle.std.specs.List.{slice_get}
 use Rattle.b67_word.specs.declared.couples.Place.{Place}
 use Rattle.b67_model.specs.Words.{Word}
 use Rattle.b67_model.specs.State.{Frame, Task, JobProgress, SessionJob, with_top_cells, with_task}
-use Rattle.b67_model.specs.InOrder.{known_of}
 use Rattle.b67_model.specs.Schedule.{Session}
 use Rattle.b67_stack.specs.declared.Cpu.{Cpu}
 use Rattle.b67_stack.specs.Stacks.{StackPlace}
@@ -14,17 +13,15 @@ use Rattle.b67_stack.specs.Changes.{with_stack, with_cells}
 use Rattle.b67_layout.specs.Placement.{Placement, slot_of, spot_in, outer_spots, spots}
 use Rattle.b67_layout.specs.Layout.{shape, stack_of_task, machine_view}
 use Rattle.b67_layout.specs.Session.{IsRunning, ShowsDisplay, SessionHolds, RepresentsSession}
-use Rattle.b67_layout.proofs.Others.{OnTop, outer_spots-after, task-same, keyed-has}
+use Rattle.b67_layout.proofs.Others.{OnTop, outer_spots-after, task-same}
 use Rattle.b67_layout.proofs.MachineViews.{with_course, member-same}
 use Rattle.b67_layout.proofs.Sessions.{running_only}
 use Rattle.b67_layout.proofs.Steps.{IsFree, GoesOn, seen-with, SessionHolds-cells}
 use Rattle.b67_layout.proofs.Displays.{Shows-same}
+use Rattle.b67_lemmas.proofs.Members.{keyed-has}
+use Rattle.b67_law_order.proofs.Looks.{known_cells}
 
-known-with : (fs : List Frame) (cells : List Word) → map known_of (with_top_cells fs cells) ≡ map known_of fs
-known-with [] cells = refl
-known-with (f ∷ below) cells = refl
-
-spots-with : (k : ℕ) (outer : ℕ → StackPlace) (fs : List Frame) (cells : List Word) (id : ℕ) → spot_in k outer (with_top_cells fs cells) id ≡ spot_in k outer fs id
+pub spots-with : (k : ℕ) (outer : ℕ → StackPlace) (fs : List Frame) (cells : List Word) (id : ℕ) → spot_in k outer (with_top_cells fs cells) id ≡ spot_in k outer fs id
 spots-with k outer [] cells id = refl
 spots-with k outer (f ∷ below) cells id = refl
 
@@ -66,5 +63,5 @@ module _ (x : Storage) (old new : Cpu) (plan : Placement) (s : Session) (m : Ses
       ap (λ (o : ℕ → StackPlace). spot_in (slot_of plan m.constants.number t.number) o (with_top_cells t.frames cells) id) outer
       ∙ spots-with (slot_of plan m.constants.number t.number) (outer_spots plan m.constants.number m.progress.job t.critical t.parents) t.frames cells id) in
       let shown : ShowsDisplay new.display plan moved t' = (let D : List ℕ → Type 0 = λ d. ShowsDisplay d plan moved t' in
-      subst D (sym display) (Shows-same old.display plan m c t t' runs.task refl (known-with t.frames cells) places (h.shows m t runs))) in
+      subst D (sym display) (Shows-same old.display plan m c t t' runs.task refl (known_cells t.frames cells) places (h.shows m t runs))) in
       record { holds = holds; shows = λ y u r. running_only plan (with_course s.jobs m.constants.number c) moved y t' u (ShowsDisplay new.display plan) holds.fits.rows still r shown }

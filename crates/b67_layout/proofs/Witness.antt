@@ -21,11 +21,11 @@ use Rattle.b67_model.specs.Program.{Program, opened}
 use Rattle.b67_model.specs.Run.{number_of, start}
 use Rattle.b67_model.specs.Schedule.{Session}
 use Rattle.b67_stack.specs.declared.Cpu.{Cpu}
-use Rattle.b67_stack.specs.Shapes.{Location, Fits, LieDownward}
+use Rattle.b67_stack.specs.Shapes.{Location, nowhere, Fits, LieDownward}
 use Rattle.b67_stack.specs.Stacks.{stack_words, words}
 use Rattle.b67_stack.specs.MachineView.{PagedObject, words_of, MachineView, stack_of, Laid, SlotFits, slot_base, CopiesName}
 use Rattle.b67_stack.specs.Represents.{Storage, RepresentsSlots, RepresentsSlot, StacksLie, RepresentsObjects, RepresentsObject, Owned, Represents, HoldsIn, info_of}
-use Rattle.b67_layout.proofs.Others.{keyed-has}
+use Rattle.b67_lemmas.proofs.Members.{keyed-has}
 use Rattle.b67_layout.specs.Placement.{Placement, Slotted, slot_of}
 use Rattle.b67_layout.specs.Layout.{machine_view}
 use Rattle.b67_layout.specs.Session.{PlanFits, RowsFit, RepresentsDictionary, RepresentsVector, RepresentsCritical, RepresentsTask, vector_word, critical_mark, frame_address, ShowsDisplay, SessionHolds, RepresentsSession}
@@ -54,9 +54,6 @@ spans = Area info ∷ Hole 25 ∷ []
 
 abbrev here : Location
 here = record { area = Some 228; chain = 1 }
-
-abbrev nowhere : Location
-nowhere = record { area = None; chain = 0 }
 
 abbrev held : ℕ → Location
 held q = if q == 162 then here else nowhere

@@ -21,7 +21,7 @@ use Rattle.b67_layout.specs.Placement.{Placement, spot_in, outer_spots}
 use Rattle.b67_layout.specs.Layout.{activations, stack_of_task, machine_view}
 use Rattle.b67_layout.specs.Meets.{with_job}
 use Rattle.b67_layout.specs.Session.{IsRunning, ShowsDisplay, critical_mark, with_objects, SessionHoldsBut, RepresentsSessionBut}
-use Rattle.b67_layout.proofs.Others.{OnTop, keyed-has, seen-mark}
+use Rattle.b67_layout.proofs.Others.{OnTop, seen-mark}
 use Rattle.b67_layout.proofs.Steps.{IsFree}
 use Rattle.b67_layout.proofs.Fresh.{free-uncritical}
 use Rattle.b67_layout.proofs.Rows.{runs_on}
@@ -32,6 +32,7 @@ use Rattle.b67_layout_enter.proofs.Conditions.{Shows-condition}
 use Rattle.b67_layout.proofs.Sessions.{running_only}
 use Rattle.b67_stack.specs.declared.Cpu.{Cpu}
 use Rattle.b67_lemmas.specs.Lists.{Has}
+use Rattle.b67_lemmas.proofs.Members.{keyed-has}
 
 -- the frame that is entered
 abbrev pub new_frame : ℕ → ℕ → ℕ → Return → Frame

@@ -1,11 +1,10 @@
 -- What the machine stands for doesn't depend on what the running task waits for.
-use Rattle.std.proofs.Common.{◌≡◌, ℕ, List, [], ◌∷◌, refl, sym, ◌∙◌, ap, subst, true, false, ◌==◌, ⊎_elim}
+use Rattle.std.proofs.Common.{◌≡◌, ℕ, List, refl, sym, ◌∙◌, ap, subst, true, false, ◌==◌, ⊎_elim}
 use Rattle.std.proofs.lemmas.Bool.{cases_Bool, eqb-true}
 use Rattle.b67_model.specs.Keyed.{change_keyed}
-use Rattle.b67_model.specs.State.{Condition, Task, Job, JobProgress, SessionJob, with_task}
+use Rattle.b67_model.specs.State.{Condition, Task, Job, SessionJob, with_task}
 use Rattle.b67_model.specs.Run.{number_of}
 use Rattle.b67_model.specs.Schedule.{Session}
-use Rattle.b67_law_order.proofs.Members.{change_twice}
 use Rattle.b67_stack.specs.declared.Cpu.{Cpu}
 use Rattle.b67_stack.specs.Stacks.{StackPlace, Activation}
 use Rattle.b67_stack.specs.MachineView.{PagedObject, Slot, Running, MachineView, NoOriginalAboveTop}
@@ -16,21 +15,13 @@ use Rattle.b67_layout.specs.Layout.{machine_view, stack_of_task}
 use Rattle.b67_layout.specs.Meets.{with_job}
 use Rattle.b67_layout.specs.Session.{IsRunning, ShowsDisplay, with_objects, SessionHoldsBut, RepresentsSessionBut}
 use Rattle.b67_layout.proofs.Displays.{Shows-same}
-use Rattle.b67_layout.proofs.Others.{OnTop, keyed-has}
-use Rattle.b67_layout.proofs.MachineViews.{with_course}
+use Rattle.b67_layout.proofs.Others.{OnTop}
 use Rattle.b67_layout.proofs.Rows.{runs_on}
-use Rattle.b67_layout.proofs.Sessions.{running_only}
+use Rattle.b67_layout.proofs.Sessions.{running_only, course_twice}
 use Rattle.b67_layout.proofs.Steps.{IsFree}
 use Rattle.b67_layout_enter.proofs.Conditions.{waiting}
 use Rattle.b67_layout_enter.proofs.Tops.{SessionHolds-top, still_running, outer-same}
-
--- a job that is changed twice
-course_twice : (jobs : List SessionJob) (j : ℕ) (c d : JobProgress) → with_course (with_course jobs j c) j d ≡ with_course jobs j d
-course_twice [] j c d = refl
-course_twice (x ∷ xs) j c d = ⊎_elim
-    (λ (t : (number_of x == j) ≡ true). rw t (rw t refl))
-    (λ (t : (number_of x == j) ≡ false). rw t (rw t (ap (λ (more : List SessionJob). x ∷ more) (course_twice xs j c d))))
-    (cases_Bool (number_of x == j))
+use Rattle.b67_lemmas.proofs.Members.{change_twice, keyed-has}
 
 pub with_job-twice : (s : Session) (m : SessionJob) (one two : Job) → with_job (with_job s m one) (record m { progress = record m.progress { job = one } }) two ≡ with_job s m two
 with_job-twice s m one two = ap (λ (js : List SessionJob). record s { jobs = js }) (course_twice s.jobs m.constants.number (record m.progress { job = one }) (record m.progress { job = two }))

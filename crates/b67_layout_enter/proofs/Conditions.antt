@@ -2,14 +2,14 @@
 use Rattle.std.proofs.Common.{◌≡◌, ◌≢◌, ℕ, List, Some, refl, sym, ap, subst, ⊎_elim}
 use Rattle.b67_model.specs.Keyed.{keyed, change_keyed}
 use Rattle.b67_model.specs.State.{Condition, Task, Job, SessionJob, with_task}
-use Rattle.b67_law_order.proofs.Members.{change_twice}
 use Rattle.b67_stack.specs.Stacks.{StackPlace}
 use Rattle.b67_layout.specs.Placement.{Placement, slot_of, spot_in, outer_spots}
 use Rattle.b67_layout.specs.Session.{ShowsDisplay}
 use Rattle.b67_layout.proofs.Displays.{Shows-same}
-use Rattle.b67_layout.proofs.Others.{OnTop, keyed-put_same, outer_spots-after}
+use Rattle.b67_layout.proofs.Others.{OnTop, outer_spots-after}
 use Rattle.b67_layout.proofs.Sessions.{change-has}
 use Rattle.b67_layout.proofs.Steps.{IsFree}
+use Rattle.b67_lemmas.proofs.Members.{change_twice, change_found}
 
 -- the task that waits for this
 abbrev pub waiting : Task → Condition → Task
@@ -23,7 +23,7 @@ module _ (display : List ℕ) (plan : Placement) (m : SessionJob) (job : Job) (u
   with_condition e = record m { progress = record m.progress { job = with_task job (waiting u e) } }
 
   found : keyed (λ (v : Task). v.number) u.number (with_task job (waiting u c)).tasks ≡ Some (waiting u c)
-  found = keyed-put_same (λ (v : Task). v.number) u.number (waiting u c) old refl job.tasks there
+  found = change_found (λ (v : Task). v.number) u.number old (waiting u c) job.tasks refl there
 
   tasks : (with_task job (waiting u d)).tasks ≡ change_keyed (λ (v : Task). v.number) u.number (λ (v : Task). waiting u d) (with_task job (waiting u c)).tasks
   tasks = sym (change_twice (λ (v : Task). v.number) u.number (waiting u c) (waiting u d) job.tasks refl)

@@ -24,7 +24,7 @@ use Rattle.b67_layout.specs.Placement.{Placement, spot_in, outer_spots}
 use Rattle.b67_layout.specs.Layout.{shape, head, activations, stack_of_task, machine_view}
 use Rattle.b67_layout.specs.Meets.{with_job}
 use Rattle.b67_layout.specs.Session.{IsRunning, ShowsDisplay, critical_mark, SessionHolds, RepresentsSession}
-use Rattle.b67_layout.proofs.Others.{OnTop, keyed-has}
+use Rattle.b67_layout.proofs.Others.{OnTop}
 use Rattle.b67_layout.proofs.Steps.{IsFree}
 use Rattle.b67_layout.proofs.Rows.{runs_on}
 use Rattle.b67_layout.proofs.Settles.{Settled-more}
@@ -33,6 +33,7 @@ use Rattle.b67_layout_enter.proofs.Tops.{task_on, SessionHolds-top, still_runnin
 use Rattle.b67_layout_enter.proofs.Conditions.{Shows-condition}
 use Rattle.b67_layout.proofs.Sessions.{running_only}
 use Rattle.b67_stack.specs.declared.Cpu.{Cpu}
+use Rattle.b67_lemmas.proofs.Members.{keyed-has}
 
 -- the frames with the top one entered, with these cells
 abbrev pub entered_frames : List Frame → ℕ → ℕ → Return → List Word → List Frame

@@ -36,10 +36,6 @@ Lie-put R core from i (c ∷ above) a b w under e h r l =
 pub entered_mark_fits : (k level : ℕ) (environment : StackPlace) (back : Option Return) (below : List Activation) → HeadFits (Entered level environment back) below → top_size below < 2 ^ 14 → IsMscw (mark_of k (Entered level environment back) below)
 entered_mark_fits k level environment back below f small = record { env_stack = f.1; env_disp = f.2; level = f.0; back = small; marked = λ e. absurd (let z : ⊥ = cc in z) }
 
-pub top_size_high : (stack : List Activation) → top_size stack ≤ stack_words stack
-top_size_high [] = omega arith
-top_size_high (b ∷ below) = omega arith
-
 -- what stands among these words stood there before, but for two plain words
 copies_stay : (cells : List Shape) (first mark : Shape) (under : List Shape) (v w : Tagged) (z : Shape) → Has (cells ++ Is v ∷ Is w ∷ under) z → (Is v ≢ z) → (Is w ≢ z) → Has ((cells ++ first ∷ []) ++ mark ∷ under) z
 copies_stay [] first mark under v w z (inl e) n o = absurd (n e)

@@ -1,14 +1,12 @@
 -- A step of the running task on top of its stack, where arrays are still to be released: what else the machine stands for
 -- stays.
-use Rattle.std.proofs.Common.{◌≡◌, ℕ, ◌+◌, ◌<◌, ◌≤◌, List, [], ◌∷◌, length, Some, refl, sym, ◌∙◌, ap, arith, Bool, true, false, ◌==◌, ⊎_elim, subst}
-use Rattle.std.specs.Prelude.{if◌then◌else◌, ◌||◌}
+use Rattle.std.proofs.Common.{◌≡◌, ℕ, ◌+◌, ◌<◌, ◌≤◌, List, Some, sym, ◌∙◌, ap, arith, ◌==◌, ⊎_elim, subst}
 use Rattle.std.specs.List.{slice_get, list_any}
-use Rattle.std.proofs.lemmas.Option.{same_Some}
-use Rattle.std.proofs.lemmas.Bool.{cases_Bool}
 use Rattle.b67_word.specs.Tagged.{Tagged}
 use Rattle.b67_ctl.specs.declared.registers.Regs.{Regs}
 use Rattle.b67_lemmas.specs.Lists.{Has}
-use Rattle.b67_model.specs.State.{Frame, Task, Job, JobProgress, SessionJob, height}
+use Rattle.b67_lemmas.proofs.Members.{keyed-has}
+use Rattle.b67_model.specs.State.{Task, JobProgress, SessionJob}
 use Rattle.b67_model.specs.Keyed.{keyed, change_keyed}
 use Rattle.b67_model.specs.Run.{number_of}
 use Rattle.b67_model.specs.Steps.{is_critical}
@@ -17,36 +15,11 @@ use Rattle.b67_stack.specs.MachineView.{PagedObject, NoOriginalAboveTop}
 use Rattle.b67_stack.specs.Represents.{Storage, Represents}
 use Rattle.b67_layout.specs.Placement.{Placement, Slotted, slot_of}
 use Rattle.b67_layout.specs.Layout.{machine_view}
-use Rattle.b67_layout.specs.Session.{RowsFit, DictionariesFollow, RowHomes, PlanFits, RepresentsDictionary, vector_word, critical_mark, RepresentsTask, IsRunning, with_objects, SessionHoldsBut}
-use Rattle.b67_layout.proofs.Others.{OnTop, keyed-has, task-same}
+use Rattle.b67_layout.specs.Session.{RowsFit, RowHomes, PlanFits, RepresentsDictionary, vector_word, critical_mark, RepresentsTask, IsRunning, with_objects, SessionHoldsBut}
+use Rattle.b67_layout.proofs.Others.{OnTop, task-same}
 use Rattle.b67_layout.proofs.MachineViews.{with_course, member-same}
 use Rattle.b67_layout.proofs.Rows.{slot_below}
-use Rattle.b67_layout.proofs.Sessions.{change-has, change-kept, dictionary_below, running_only}
-
--- which frames are critical is the same
-any-change : (id n : ℕ) (t t' : Task) → t'.critical ≡ t.critical → (xs : List Task) → keyed (λ (u : Task). u.number) n xs ≡ Some t
-    → list_any (λ (u : Task). u.critical == id) (change_keyed (λ (u : Task). u.number) n (λ u. t') xs) ≡ list_any (λ (u : Task). u.critical == id) xs
-any-change id n t t' c [] e = refl
-any-change id n t t' c (y ∷ ys) e = ⊎_elim
-    (λ (q : (y.number == n) ≡ true).
-    let same : y ≡ t = same_Some y t (rw q at e) in
-    rw q (ap (λ (i : ℕ). (i == id) || list_any (λ (u : Task). u.critical == id) ys) (c ∙ ap (λ (u : Task). u.critical) (sym same))))
-    (λ (q : (y.number == n) ≡ false).
-    let at : keyed (λ (u : Task). u.number) n ys ≡ Some t = rw q at e in
-    rw q (ap (λ (b : Bool). (y.critical == id) || b) (any-change id n t t' c ys at)))
-    (cases_Bool (y.number == n))
-
-critical_mark-same : (job job' : Job) → ((id : ℕ) → is_critical job' id ≡ is_critical job id) → (fs : List Frame) → critical_mark job' fs ≡ critical_mark job fs
-critical_mark-same job job' e [] = refl
-critical_mark-same job job' e (f ∷ below) =
-    ap (λ (b : Bool). if b then height below else critical_mark job' below) (e f.identity) ∙ ap (λ (i : ℕ). if is_critical job f.identity then height below else i) (critical_mark-same job job' e below)
-
-follow-course : (plan : Placement) (at j : ℕ) (c : JobProgress) (jobs : List SessionJob) → DictionariesFollow plan at jobs → DictionariesFollow plan at (with_course jobs j c)
-follow-course plan at j c [] d = d
-follow-course plan at j c (m ∷ more) d = ⊎_elim
-    (λ (q : (number_of m == j) ≡ true). rw q d)
-    (λ (q : (number_of m == j) ≡ false). rw q (d.0, follow-course plan (at + (2 + length m.constants.dictionary.cells)) j c more d.1))
-    (cases_Bool (number_of m == j))
+use Rattle.b67_layout.proofs.Sessions.{change-has, change-kept, dictionary_below, running_only, any-change, critical_mark-same, follow-course}
 
 module _ (left : List PagedObject) (x : Storage) (core new : List Tagged) (r r' : Regs) (marks : List ℕ) (plan : Placement) (s : Session) (m : SessionJob) (c : JobProgress) (t t' : Task) (n : ℕ)
     (h : SessionHoldsBut left x core r marks plan s) (runs : IsRunning plan s.jobs m t) (top : OnTop m.progress.job c.job t t' n) where

@@ -4,6 +4,7 @@ use Rattle.std.specs.List.{slice_get}
 use Rattle.std.proofs.lemmas.Bool.{ne_eqb}
 use Rattle.b67_word.specs.declared.couples.Place.{Place}
 use Rattle.b67_lemmas.specs.Lists.{Has}
+use Rattle.b67_lemmas.proofs.Members.{keyed-has}
 use Rattle.b67_model.specs.State as State
 use Rattle.b67_model.specs.State.{Frame, Task, JobConstants, Job, SessionJob, OperatorContext, mcp, no_frame, all_frames, frame, with_task}
 use Rattle.b67_model.specs.Environment.{frame_at}
@@ -18,7 +19,7 @@ use Rattle.b67_layout.specs.Placement.{Placement, slot_of, spot_in, outer_spots,
 use Rattle.b67_layout.specs.Layout.{stack_of_task, machine_view}
 use Rattle.b67_layout.specs.Meets.{with_job}
 use Rattle.b67_layout.specs.Session.{IsRunning, ShowsDisplay, SessionHolds, RepresentsSession}
-use Rattle.b67_layout.proofs.Others.{OnTop, keyed-has, seen-mark}
+use Rattle.b67_layout.proofs.Others.{OnTop, seen-mark}
 use Rattle.b67_layout.proofs.Sessions.{running_only}
 use Rattle.b67_layout.proofs.Steps.{IsFree, GoesOn, SessionHolds-mark}
 use Rattle.b67_layout.proofs.Fresh.{next_is_free, free-uncritical}

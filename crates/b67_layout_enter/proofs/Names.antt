@@ -3,12 +3,12 @@ use Rattle.std.proofs.Common.{◌≡◌, ◌≢◌, ℕ, zero, suc, ◌-◌, ◌
 use Rattle.std.proofs.lemmas.Bool.{cases_Bool, ne_eqb}
 use Rattle.std.proofs.lemmas.Option.{same_Some}
 use Rattle.b67_lemmas.specs.Lists.{Has}
+use Rattle.b67_lemmas.proofs.Members.{all_in, falls_low, has_append_cases, has_append_right, keyed_has, has_flat_back}
 use Rattle.b67_model.specs.Keyed.{keyed, change_keyed}
 use Rattle.b67_model.specs.State as State
 use Rattle.b67_model.specs.State.{Frame, Standing, Array, Task, JobConstants, Job, OperatorContext, mcp, no_frame, all_frames, frame}
 use Rattle.b67_model.specs.Environment.{environment_of, level_of_frame, running_from, running, outward, running_level, frame_at}
 use Rattle.b67_model.specs.InOrder.{Starts, Known, known_of, base, outer_of, reach_of, known_numbers, FramesInOrder, StandsInOrder, TaskInOrder, SettingInOrder, TasksInOrder}
-use Rattle.b67_law_order.proofs.Members.{has_append_right, has_append_cases, all_in, keyed_has, falls_low}
 use Rattle.b67_law_order.proofs.Reaches.{known_number}
 use Rattle.b67_law_order.proofs.Looks.{Line, line_of}
 
@@ -49,13 +49,6 @@ module _ (P : Starts) (constants : JobConstants) (job : Job) (g : TasksInOrder P
   pub frames_low : (t : Task) → Has job.tasks t → (f : Frame) → Has t.frames f → Low job.next_frame f
   frames_low t here f k = let n = some_identity t here in own_low P job.arrays job.next_frame (outer_of job t) t.frames (λ id i. reach_low t here id i) (omega (arith, n)) (order_of t here).frames f k
 
-has_flat_back : (ts : List Task) (f : Frame) → Has (flat_map (λ (t : Task). t.frames) ts) f → (t : Task) × Has ts t × Has t.frames f
-has_flat_back [] f k = absurd k
-has_flat_back (t ∷ ts) f k = ⊎_elim
-    (λ i. (t, inl refl, i))
-    (λ i. let r = has_flat_back ts f i in (r.0, inr r.1, r.2))
-    (has_append_cases t.frames (flat_map (λ (u : Task). u.frames) ts) f k)
-
 found_or_none : (o : Option Frame) (P : Frame → Type 0) → ((f : Frame) → o ≡ Some f → P f) → P no_frame → P (unwrap_or o no_frame)
 found_or_none None P some none = none
 found_or_none (Some f) P some none = some f refl
@@ -77,7 +70,7 @@ module _ (P : Starts) (h : OperatorContext) (unchanging : SettingInOrder h.const
 
   all_low : (f : Frame) → Has (all_frames h) f → Low h.job.next_frame f
   all_low f k = ⊎_elim
-      (λ i. let r = has_flat_back h.job.tasks f i in frames_low P h.constants h.job g r.0 r.1 f r.2)
+      (λ i. let r = has_flat_back (λ (t : Task). t.frames) h.job.tasks f i in frames_low P h.constants h.job g r.item r.among f r.inside)
       (λ i. base_case i)
       (has_append_cases (flat_map (λ (t : Task). t.frames) h.job.tasks) (h.constants.dictionary ∷ mcp ∷ []) f k) where
         dictionary : Low h.job.next_frame h.constants.dictionary

@@ -1,33 +1,22 @@
 -- The running task is in order with its marked frame entered, or with an entered one more, where it is ready then.
-use Rattle.std.proofs.Common.{◌≡◌, ◌≢◌, ℕ, ◌+◌, ◌≤◌, List, [], ◌∷◌, ◌++◌, map, length, Some, refl, sym, ◌∙◌, ap, subst, inl, inr, arith, false, length-append}
+use Rattle.std.proofs.Common.{◌≡◌, ◌≢◌, ℕ, ◌+◌, ◌≤◌, List, [], ◌∷◌, ◌++◌, map, length, Some, refl, ap, inl, inr, arith, false, length-append}
 use Rattle.std.specs.Prelude.{if◌then◌else◌}
 use Rattle.std.specs.List.{AllByRecursion}
 use Rattle.std.proofs.lemmas.Bool.Decides.{eqb_tells}
 use Rattle.b67_word.specs.declared.couples.Place.{Place}
 use Rattle.b67_model.specs.Keyed.{keyed}
 use Rattle.b67_lemmas.specs.Lists.{Has, Falls, total}
+use Rattle.b67_lemmas.proofs.Members.{all_in, falls_low, keyed_has, total_append}
 use Rattle.b67_model.specs.Words as Words
 use Rattle.b67_model.specs.Words.{Word, Operand, Name, Ref, Row, Element, Original, Proc, Intrinsic}
 use Rattle.b67_model.specs.State.{Frame, Standing, Marked, Entered, Return, Array, Ready, Task, JobConstants, Job, OperatorContext, top, below_top, head_words, height, with_task}
 use Rattle.b67_model.specs.Environment.{level_of_frame, running}
-use Rattle.b67_model.specs.InOrder.{Starts, Known, IsEntered, WordInOrder, NoCopyUnder, CopiesAbove, StackInOrder, is_copy_of, is_original_of, known_numbers, known_of, from_frame, outer_of, EnvironmentInOrder, StandsInOrder, ReturnsInOrder, CellsInOrder, TaskInOrder, originals_in, originals_of, TasksInOrder}
-use Rattle.b67_law_order.proofs.Members.{all_in, keyed_has, falls_low, total_append}
+use Rattle.b67_model.specs.InOrder.{Starts, Known, WordInOrder, NoCopyUnder, CopiesAbove, is_copy_of, is_original_of, known_numbers, known_of, from_frame, outer_of, EnvironmentInOrder, StandsInOrder, ReturnsInOrder, CellsInOrder, TaskInOrder, originals_in, originals_of, TasksInOrder}
 use Rattle.b67_law_order.proofs.Reaches.{alike_same, known_number}
 use Rattle.b67_law_order.proofs.Replaced.{replaced}
 use Rattle.b67_law_order.proofs.Changes.{Change, fresh_frame, change_cells, change_enter}
 use Rattle.b67_layout.proofs.Fresh.{critical-below}
 use Rattle.b67_layout_enter.proofs.Tops.{task_on}
-
--- what an entered frame is in reach of a marked one lies below it
-pub below_marked : (fs : List Frame) (outer : List Known) (n : ℕ) (s : Standing) → (top fs).standing ≡ Marked → IsEntered s → Has (map known_of fs ++ outer) (n, s) → Has (map known_of (below_top fs) ++ outer) (n, s)
-below_marked [] outer n s marked e k = k
-below_marked (f ∷ below) outer n s marked e (inl is) = let no : f.standing ≡ s = ap (λ (x : Known). x.1) is in absurd (subst IsEntered (sym no ∙ marked) e)
-below_marked (f ∷ below) outer n s marked e (inr m) = m
-
--- a marked frame stands on others
-pub below_some : (P : Starts) (fs : List Frame) → StackInOrder P fs → fs ≢ [] → (top fs).standing ≡ Marked → below_top fs ≢ []
-below_some P [] g some marked = absurd (some refl)
-below_some P (f ∷ below) g some marked = subst (λ s. ReturnsInOrder P s below) marked g.0
 
 -- its identity isn't that of what lies in its reach
 pub top_apart : (bound : ℕ) (fs : List Frame) (outer : List Known) (n : ℕ) (s : Standing) → fs ≢ [] → Falls bound (known_numbers (map known_of fs ++ outer)) → Has (map known_of (below_top fs) ++ outer) (n, s) → (top fs).identity ≢ n

@@ -16,8 +16,8 @@ use Rattle.b67_layout.specs.Layout.{machine_view, stack_of_task}
 use Rattle.b67_layout.specs.Meets.{IsInStack}
 use Rattle.b67_layout.specs.Session.{IsRunning, with_objects, SessionHoldsBut}
 use Rattle.b67_layout.proofs.Frames.{height-is}
-use Rattle.b67_layout.proofs.Others.{keyed-has}
 use Rattle.b67_layout.proofs.Rows.{runs_on}
+use Rattle.b67_lemmas.proofs.Members.{keyed-has}
 
 -- the words left over the top
 pub height_room : (left : List PagedObject) (x : Storage) (core : List Tagged) (r : Regs) (marks : List ℕ) (plan : Placement) (s : Session) (m : SessionJob) (t : Task) → SessionHoldsBut left x core r marks plan s → IsRunning plan s.jobs m t

@@ -5,6 +5,7 @@ use Rattle.b67_word.specs.Tagged.{Tagged}
 use Rattle.b67_word.specs.declared.couples.Place.{Place}
 use Rattle.b67_ctl.specs.declared.registers.Regs.{Regs}
 use Rattle.b67_lemmas.specs.Lists.{Has}
+use Rattle.b67_lemmas.proofs.Members.{keyed-has}
 use Rattle.b67_model.specs.State.{Frame, Condition, Task, Job, JobProgress, SessionJob}
 use Rattle.b67_model.specs.Run.{number_of}
 use Rattle.b67_model.specs.Schedule.{Session}
@@ -16,7 +17,7 @@ use Rattle.b67_layout.specs.Placement.{Placement, outer_spots}
 use Rattle.b67_layout.specs.Layout.{activations, machine_view}
 use Rattle.b67_layout.specs.Meets.{with_job}
 use Rattle.b67_layout.specs.Session.{RepresentsTask, IsRunning, critical_mark, with_objects, SessionHoldsBut}
-use Rattle.b67_layout.proofs.Others.{OnTop, keyed-has, task-same, outer_spots-after}
+use Rattle.b67_layout.proofs.Others.{OnTop, task-same, outer_spots-after}
 use Rattle.b67_layout.proofs.MachineViews.{with_course, member-same, machine_view-after, stack-after}
 use Rattle.b67_layout.proofs.Rows.{row_of}
 use Rattle.b67_layout_enter.proofs.Holds.{SessionHoldsBut-after}

@@ -7,12 +7,12 @@ use Rattle.b67_word.specs.Tagged.{Tagged}
 use Rattle.b67_word.specs.declared.couples.Place.{Place}
 use Rattle.b67_ctl.specs.declared.registers.Regs.{Regs}
 use Rattle.b67_lemmas.specs.Lists.{Falls}
+use Rattle.b67_lemmas.proofs.Members.{all_in, keyed-has}
 use Rattle.b67_model.specs.State.{Frame, Array, Condition, Task, Job, JobProgress, SessionJob, height}
 use Rattle.b67_model.specs.Keyed.{change_keyed}
 use Rattle.b67_model.specs.Steps.{is_critical}
 use Rattle.b67_model.specs.Schedule.{Session}
 use Rattle.b67_model.specs.InOrder.{IsSegment, from_frame, FramesInOrder, outer_of, TaskInOrder, JobInOrder, IsInOrderButPlaces}
-use Rattle.b67_law_order.proofs.Members.{all_in}
 use Rattle.b67_stack.specs.Stacks.{StackPlace, Activation, stack_words}
 use Rattle.b67_stack.specs.Represents.{Storage, Represents}
 use Rattle.b67_stack.specs.Changes.{with_stack}
@@ -20,7 +20,6 @@ use Rattle.b67_layout.specs.Placement.{Placement, spot_in, outer_spots}
 use Rattle.b67_layout.specs.Layout.{activations, machine_view}
 use Rattle.b67_layout.specs.Session.{critical_mark, RepresentsTask, IsRunning, SessionHolds, SessionHoldsBut}
 use Rattle.b67_layout.specs.Meets.{objects_gone, with_job}
-use Rattle.b67_layout.proofs.Others.{keyed-has}
 use Rattle.b67_layout.proofs.Fresh.{running_in_order}
 use Rattle.b67_layout.proofs.MachineViews.{member-same}
 use Rattle.b67_layout.proofs.Rows.{row_of}

@@ -1,11 +1,12 @@
 -- A frame that no live task depends on is in nobody's reach but its own, so nobody else names its arrays.
-use Rattle.std.proofs.Common.{◌≡◌, ◌≢◌, ℕ, ◌+◌, ◌<◌, ◌≤◌, List, [], ◌∷◌, ◌++◌, map, Option, Some, None, refl, sym, ◌∙◌, ap, arith, true, false, not, inl, inr, subst, unwrap_or}
+use Rattle.std.proofs.Common.{◌≡◌, ◌≢◌, ℕ, ◌+◌, ◌<◌, List, [], ◌∷◌, ◌++◌, map, Option, Some, None, refl, sym, ◌∙◌, ap, arith, true, false, not, inl, inr, subst, unwrap_or}
 use Rattle.std.specs.Prelude.{◌==◌}
 use Rattle.std.specs.List.{AllByRecursion}
 use Rattle.std.proofs.lemmas.Bool.{true≢false}
 use Rattle.std.proofs.lemmas.Bool.Decides.{eqb_tells}
 use Rattle.std.proofs.lemmas.Option.{same_Some}
 use Rattle.b67_lemmas.specs.Lists.{Has, Falls}
+use Rattle.b67_lemmas.proofs.Members.{any_none, falls_filter, has_append_cases, has_filter_in, has_map, keyed_falls, keyed_has, total_change, total_has}
 use Rattle.b67_model.specs.Words as Words
 use Rattle.b67_model.specs.Words.{Word, Operand, Name, Ref, Row, Element, Original, Proc, Intrinsic}
 use Rattle.b67_model.specs.State.{Frame, Array, Task, JobConstants, Job}
@@ -13,8 +14,7 @@ use Rattle.b67_model.specs.Keyed.{keyed, change_keyed}
 use Rattle.b67_model.specs.Arrays.{array, no_array}
 use Rattle.b67_model.specs.Steps.{is_critical}
 use Rattle.b67_model.specs.InOrder.{Starts, Known, known_of, from_frame, frames_of_task, critical_of, outer_reach, known_numbers, NamesArray, WordInOrder, FramesInOrder, frames_named, IsSegment, TasksInOrder}
-use Rattle.b67_law_order.proofs.Members.{has_append_cases, has_map, has_filter_in, keyed_has, keyed_falls, falls_filter, total_has, total_change, any_none}
-use Rattle.b67_law_order.proofs.Replaced.{numbers_append, has_counts}
+use Rattle.b67_law_order.proofs.Replaced.{numbers_append, has_counts, from_counts}
 use Rattle.b67_law_order.proofs.Looks.{above_one}
 use Rattle.b67_stack.specs.Shapes.{Shape}
 use Rattle.b67_stack.specs.Stacks.{StackPlace, Activation}
@@ -33,10 +33,6 @@ pub record IsOnTop (constants : JobConstants) (job : Job) (t : Task) (f : Frame)
 pub record MayLeave (constants : JobConstants) (job : Job) (t : Task) (f : Frame) (below : List Frame) : Type 0 where
   pub top : IsOnTop constants job t f below
   pub free : is_critical job f.identity ≡ false
-
-from_counts : (n c : ℕ) (frames : List Frame) → frames_named n (from_frame c frames) ≤ frames_named n frames
-from_counts n c [] = omega arith
-from_counts n c (f ∷ below) = elim (eqb_tells f.identity c) [ inl t ↦ rw t.0 (omega arith) | inr t ↦ rw t.0 (omega (arith, from_counts n c below)) ]
 
 named_first : (f : Frame) (below : List Frame) → frames_named f.identity (f ∷ below) ≡ 1 + frames_named f.identity below
 named_first f below = elim (eqb_tells f.identity f.identity) [ inl e ↦ rw e.0 refl | inr e ↦ absurd (e.1 refl) ]

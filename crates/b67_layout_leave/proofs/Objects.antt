@@ -1,31 +1,23 @@
 -- Where a job has fewer arrays, the objects of those that it has no more and all others are the objects of before.
-use Rattle.std.proofs.Common.{◌≡◌, ℕ, List, [], ◌∷◌, ◌++◌, map, flat_map, Some, refl, sym, ◌∙◌, ap, Bool, true, false, not, inl, inr, subst}
+use Rattle.std.proofs.Common.{◌≡◌, ℕ, List, ◌++◌, map, flat_map, Some, sym, ◌∙◌, not, inl, inr, subst}
 use Rattle.std.specs.Prelude.{filter, ◌==◌}
 use Rattle.std.specs.List.{list_any}
-use Rattle.std.proofs.lemmas.Bool.{cases_Bool, true≢false}
+use Rattle.std.proofs.lemmas.Bool.{cases_Bool, true≢false, not_from_false}
 use Rattle.std.proofs.lemmas.Bool.Decides.{eqb_tells}
 use Rattle.b67_word.specs.Tagged.{Tagged}
 use Rattle.b67_ctl.specs.declared.registers.Regs.{Regs}
 use Rattle.b67_lemmas.specs.Lists.{Has, Falls}
+use Rattle.b67_lemmas.proofs.Members.{any_has, falls_same, has_append_cases, has_append_left, has_append_right, has_filter, has_filter_in, has_flat, has_flat_back, has_map, has_map_back, keyed-has}
 use Rattle.b67_model.specs.State.{Array, Job, JobProgress, SessionJob}
 use Rattle.b67_model.specs.Keyed.{keyed}
 use Rattle.b67_model.specs.Run.{number_of}
-use Rattle.b67_law_order.proofs.Members.{has_append_left, has_append_right, has_append_cases, has_map, has_map_back, Part, has_flat, has_filter, has_filter_in, any_has, falls_same}
 use Rattle.b67_stack.specs.MachineView.{PagedObject, MachineView, Slot, Free, Running, Waiting, SlotFits}
 use Rattle.b67_stack.specs.Represents.{Storage, RepresentsSlot, Represents}
 use Rattle.b67_layout.specs.Placement.{Placement}
 use Rattle.b67_layout.specs.Layout.{objects_of, array_object, code_objects}
 use Rattle.b67_layout.specs.Meets.{gone, objects_gone}
-use Rattle.b67_layout.proofs.Others.{keyed-has}
 use Rattle.b67_layout.proofs.MachineViews.{with_course, member-same}
 use Rattle.b67_layout.proofs.Sessions.{change-has, change-kept}
-
-pub has_flat_back : {A B : Type 0} (f : A → List B) (xs : List A) (y : B) → Has (flat_map f xs) y → Part f xs y
-has_flat_back f [] y h = absurd h
-has_flat_back f (x ∷ xs) y h = elim (has_append_cases (f x) (flat_map f xs) y h) [
-  | inl a ↦ record { item = x; among = inl refl; inside = a }
-  | inr b ↦ let r = has_flat_back f xs y b in record { item = r.item; among = inr r.among; inside = r.inside }
-]
 
 -- the same objects, in another order or number
 pub record SameObjects (old new : List PagedObject) : Type 0 where
@@ -82,9 +74,6 @@ module _ (x : Storage) (core : List Tagged) (r : Regs) (p : MachineView) (new : 
 abbrev pub others : ℕ → List Array → List Array
 others owner arrays = filter (λ (a : Array). not (a.owner == owner)) arrays
 
-not-false : (b : Bool) → b ≡ false → not b ≡ true
-not-false b e = ap not e
-
 -- an array is among the others or gone
 other_or_gone : (owner bound : ℕ) (old new : Job) → Falls bound (map (λ (a : Array). a.identity) old.arrays) → new.arrays ≡ others owner old.arrays → (a : Array) → Has old.arrays a → Has (gone old new ++ new.arrays) a
 other_or_gone owner bound old new falls is a h = elim (cases_Bool (list_any (λ (b : Array). b.identity == a.identity) new.arrays)) [
@@ -93,7 +82,7 @@ other_or_gone owner bound old new falls is a h = elim (cases_Bool (list_any (λ 
       let old_b : Has old.arrays f.0 = (has_filter (λ (b : Array). not (b.owner == owner)) old.arrays f.0 (subst (λ (xs : List Array). Has xs f.0) is f.1)).0 in
       let same : f.0 ≡ a = falls_same (λ (b : Array). b.identity) bound old.arrays f.0 a falls old_b h (elim (eqb_tells f.0.identity a.identity) [ inl e ↦ e.1 | inr e ↦ absurd (true≢false (sym f.2 ∙ e.0)) ]) in
       has_append_right (gone old new) new.arrays a (subst (Has new.arrays) same f.1)
-  | inr t ↦ has_append_left (gone old new) new.arrays a (has_filter_in (λ (b : Array). not (list_any (λ (c : Array). c.identity == b.identity) new.arrays)) old.arrays a h (not-false (list_any (λ (b : Array). b.identity == a.identity) new.arrays) t))
+  | inr t ↦ has_append_left (gone old new) new.arrays a (has_filter_in (λ (b : Array). not (list_any (λ (c : Array). c.identity == b.identity) new.arrays)) old.arrays a h (not_from_false (list_any (λ (b : Array). b.identity == a.identity) new.arrays) t))
 ]
 
 module _ (plan : Placement) (jobs : List SessionJob) (m : SessionJob) (c : JobProgress) (owner bound : ℕ) (found : keyed number_of m.constants.number jobs ≡ Some m)

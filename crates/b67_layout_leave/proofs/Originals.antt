@@ -5,11 +5,11 @@ use Rattle.std.proofs.lemmas.Bool.{cases_Bool, cases_eq}
 use Rattle.std.proofs.lemmas.Bool.Decides.{eqb_tells}
 use Rattle.b67_word.specs.Tagged.{Tagged}
 use Rattle.b67_lemmas.specs.Lists.{Has, total, how_many}
+use Rattle.b67_lemmas.proofs.Members.{all_in, falls_same, has_append_left, has_append_right, has_map}
 use Rattle.b67_model.specs.Words as Words
 use Rattle.b67_model.specs.Words.{Word, Operand, Name, Ref, Row, Element, Original, Proc, Intrinsic}
 use Rattle.b67_model.specs.State.{Frame, Array, Segment, Task, JobConstants, Job}
 use Rattle.b67_model.specs.InOrder.{Starts, Known, known_of, OwnsArray, WordInOrder, FramesInOrder, is_original_of, originals_in, originals_of, IsSegment, outer_of, rows_after, DictionaryWords, TaskInOrder, TasksInOrder}
-use Rattle.b67_law_order.proofs.Members.{has_append_left, has_append_right, has_map, all_in, falls_same}
 use Rattle.b67_stack.specs.Shapes as Shapes
 use Rattle.b67_stack.specs.Shapes.{Shape, LieDownward}
 use Rattle.b67_stack.specs.Stacks.{StackPlace, Head, Marked, Entered, Activation, headed, words}

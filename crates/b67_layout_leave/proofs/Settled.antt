@@ -8,12 +8,12 @@ use Rattle.b67_word.specs.Tagged.{Tagged}
 use Rattle.b67_area.specs.declared.Kind.TheVariants as kind
 use Rattle.b67_ctl.specs.declared.registers.Regs.{Regs}
 use Rattle.b67_lemmas.specs.Lists.{Has, Falls}
+use Rattle.b67_lemmas.proofs.Members.{has_append_cases, has_append_right, has_filter, has_flat_back, has_map_back, keyed-has}
 use Rattle.b67_model.specs.State.{Frame, Array, Segment, Task, JobProgress, SessionJob}
 use Rattle.b67_model.specs.Keyed.{keyed}
 use Rattle.b67_model.specs.Run.{number_of}
 use Rattle.b67_model.specs.Schedule.{Session}
 use Rattle.b67_model.specs.InOrder.{IsInOrderButPlaces}
-use Rattle.b67_law_order.proofs.Members.{has_append_cases, has_append_right, has_map_back, has_filter}
 use Rattle.b67_stack.specs.Stacks.{stack_words}
 use Rattle.b67_stack.specs.MachineView.{PagedObject, Slot, Running, stack_of, slot_base, NoOriginalAboveTop}
 use Rattle.b67_stack.specs.Represents.{Storage}
@@ -22,14 +22,14 @@ use Rattle.b67_layout.specs.Placement.{Placement}
 use Rattle.b67_layout.specs.Layout.{stack_of_task, slot_at, objects_of, array_object, code_objects, machine_view}
 use Rattle.b67_layout.specs.Session.{IsRunning, SessionHolds}
 use Rattle.b67_layout.specs.Meets.{objects_gone}
-use Rattle.b67_layout.proofs.Others.{keyed-has}
 use Rattle.b67_layout.proofs.MachineViews.{with_course, member-same, RowOf}
 use Rattle.b67_layout.proofs.Sessions.{change-has}
-use Rattle.b67_layout_leave.proofs.Objects.{has_flat_back, others, objects-after}
+use Rattle.b67_layout_leave.proofs.Objects.{others, objects-after}
 use Rattle.b67_layout_leave.proofs.Slots.{Replaces, OthersSame, slots-after}
-use Rattle.b67_layout_leave.proofs.Settles.{keyed_member, numbered_course, under, homes_low}
+use Rattle.b67_layout_leave.proofs.Settles.{numbered_course, under, homes_low}
+use Rattle.b67_law_order.proofs.Numbered.{keyed_member}
 
-code_kind : (plan : Placement) (j n : ℕ) (segments : List Segment) (t : PagedObject) → Has (code_objects plan j n segments) t → t.kind ≡ kind.Code
+pub code_kind : (plan : Placement) (j n : ℕ) (segments : List Segment) (t : PagedObject) → Has (code_objects plan j n segments) t → t.kind ≡ kind.Code
 code_kind plan j n [] t h = absurd h
 code_kind plan j n (s ∷ more) t (inl e) = ap (λ (z : PagedObject). z.kind) (sym e)
 code_kind plan j n (s ∷ more) t (inr h) = code_kind plan j (n + 1) more t h

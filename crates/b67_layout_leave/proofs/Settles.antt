@@ -8,46 +8,33 @@ use Rattle.std.proofs.lemmas.List.{length-reverse}
 use Rattle.b67_word.specs.Tagged.{Tagged}
 use Rattle.b67_ctl.specs.declared.registers.Regs.{Regs}
 use Rattle.b67_lemmas.specs.Lists.{Has}
+use Rattle.b67_lemmas.proofs.Members.{all_in, falls_same, has_map, has_reverse, keyed_falls, keyed-has}
 use Rattle.b67_model.specs.Words.{Original}
 use Rattle.b67_model.specs.State.{Frame, Array, Task, Job, JobProgress, SessionJob}
 use Rattle.b67_model.specs.Keyed.{keyed}
 use Rattle.b67_model.specs.Run.{number_of}
 use Rattle.b67_model.specs.Schedule.{Session}
 use Rattle.b67_model.specs.InOrder.{Known, known_of, OwnsArray, EntryInOrder, frames_named, IsSegment, NumberedFrom, JobInOrder, IsInOrderButPlaces}
-use Rattle.b67_law_order.proofs.Members.{has_reverse, has_map, keyed_falls, falls_same, all_in}
 use Rattle.b67_law_order.proofs.Replaced.{has_counts}
+use Rattle.b67_law_order.proofs.Numbered.{keyed_member}
 use Rattle.b67_stack.specs.Shapes as Shapes
 use Rattle.b67_stack.specs.Shapes.{Fits, LieDownward}
 use Rattle.b67_stack.specs.Stacks as Stacks
 use Rattle.b67_stack.specs.Stacks.{StackPlace, Head, Activation, stack_words, headed, words}
-use Rattle.b67_stack.specs.MachineView.{Slot, Free, Running, Waiting, stack_of, MachineView, SlotFits, slot_base, RunsOn}
+use Rattle.b67_stack.specs.MachineView.{Slot, Running, Waiting, stack_of, slot_base, RunsOn}
 use Rattle.b67_stack.specs.Represents.{Storage}
 use Rattle.b67_stack.proofs.Bases.{base-apart}
 use Rattle.b67_stack.proofs.Heights.{words-length}
 use Rattle.b67_stack.proofs.Lies.{Lie-under}
-use Rattle.b67_stack.proofs.Slots.{running_fits, running_lies}
+use Rattle.b67_stack.proofs.Slots.{running_fits, running_lies, slot_room}
 use Rattle.b67_layout.specs.Placement.{Slotted, Placement, slot_of, spot_in, outer_spots}
 use Rattle.b67_layout.specs.Layout.{shape, head, activations, stack_of_task, slot_with, slot_in, slot_by, slot_at, machine_view}
 use Rattle.b67_layout.specs.Session.{RowsFit, DictionariesFollow, IsRunning, SessionHolds}
-use Rattle.b67_layout.proofs.Others.{keyed-has}
 use Rattle.b67_layout.proofs.MachineViews.{with_course}
 use Rattle.b67_layout.proofs.Rows.{task_row, slot_below, finds, runs_on}
-use Rattle.b67_layout.proofs.Sessions.{running_only}
+use Rattle.b67_layout.proofs.Sessions.{running_only, follow-up}
 use Rattle.b67_layout_leave.proofs.Nowhere.{IsOnTop, high as identity_high, under as once_only, elsewhere}
 use Rattle.b67_layout_leave.proofs.Originals.{lies_over, lies_at, original_word, InFrame, original_of, entry_number}
-
--- jobs in order of their numbers are found by these
-later : (n : ℕ) (xs : List SessionJob) (y : SessionJob) → NumberedFrom n xs → Has xs y → n ≤ y.constants.number
-later n [] y o h = absurd h
-later n (x ∷ xs) y o (inl e) = subst (λ (z : SessionJob). n ≤ z.constants.number) e (omega (arith, o.0))
-later n (x ∷ xs) y o (inr h) = omega (arith, later (n + 1) xs y o.1 h)
-
-pub keyed_member : (n : ℕ) (xs : List SessionJob) (y : SessionJob) → NumberedFrom n xs → Has xs y → keyed number_of y.constants.number xs ≡ Some y
-keyed_member n [] y o h = absurd h
-keyed_member n (x ∷ xs) y o (inl e) = elim (eqb_tells x.constants.number y.constants.number) [ inl t ↦ rw t.0 (ap Some e) | inr t ↦ absurd (t.1 (ap (λ (z : SessionJob). z.constants.number) e)) ]
-keyed_member n (x ∷ xs) y o (inr h) =
-    let low = later (n + 1) xs y o.1 h in
-    elim (eqb_tells x.constants.number y.constants.number) [ inl t ↦ absurd (omega (arith, low, t.1, o.0)) | inr t ↦ rw t.0 (keyed_member (n + 1) xs y o.1 h) ]
 
 pub numbered_course : (n j : ℕ) (c : JobProgress) (xs : List SessionJob) → NumberedFrom n xs → NumberedFrom n (with_course xs j c)
 numbered_course n j c [] o = tt
@@ -73,15 +60,6 @@ stack_in_slot plan jobs y u fit in_y in_u ky ku =
       either : {S : List Activation} (b : Bool) → stack_of (if b then Running S else Waiting S) ≡ S
       either true = refl
       either false = refl
-
-slot_room : (p : MachineView) (k : ℕ) (s : Slot) → SlotFits p k s → 0 < p.size → stack_words (stack_of s) < p.size
-slot_room p k Free f some = some
-slot_room p k (Running stack) f some = f.0.fits
-slot_room p k (Waiting stack) f some = f.0.fits
-
-follow-up : (plan : Placement) (at : ℕ) (jobs : List SessionJob) → DictionariesFollow plan at jobs → at ≤ plan.stacks
-follow-up plan at [] d = omega arith
-follow-up plan at (m ∷ more) d = omega (arith, follow-up plan (at + (2 + length m.constants.dictionary.cells)) more d.1)
 
 -- a dictionary lies below slot 0
 dictionary_end : (plan : Placement) (at : ℕ) (jobs : List SessionJob) (y : SessionJob) → DictionariesFollow plan at jobs → Has jobs y → plan.dictionary y.constants.number + (2 + length y.constants.dictionary.cells) ≤ plan.stacks

@@ -1,12 +1,13 @@
 -- A task is replaced by one of whose frames others see the same: the view changes in that task's slot, and its objects are
 -- those of before.
-use Rattle.std.proofs.Common.{◌≡◌, ◌≢◌, ℕ, List, [], ◌∷◌, ◌++◌, map, Option, Some, None, refl, sym, ◌∙◌, ap, Bool, cond, ⊎_elim, inl, inr, ◌⊎◌, subst}
+use Rattle.std.proofs.Common.{◌≡◌, ◌≢◌, ℕ, List, [], ◌∷◌, ◌++◌, map, Option, Some, None, refl, sym, ◌∙◌, ap, Bool, ⊎_elim, inl, inr, ◌⊎◌, subst}
 use Rattle.std.specs.Prelude.{if◌then◌else◌, flat_map, ◌==◌}
 use Rattle.std.proofs.lemmas.Bool.{cases_eq, eq-eqb}
 use Rattle.b67_word.specs.Tagged.{Tagged}
 use Rattle.b67_ctl.specs.declared.registers.Regs.{Regs}
 use Rattle.b67_lemmas.specs.Lists.{Has, Falls}
-use Rattle.b67_model.specs.State.{Frame, Array, Task, Job, JobProgress, SessionJob, height}
+use Rattle.b67_lemmas.proofs.Members.{keyed_has, change_found, change_other, keyed-has}
+use Rattle.b67_model.specs.State.{Array, Task, Job, JobProgress, SessionJob}
 use Rattle.b67_model.specs.Keyed.{keyed, change_keyed}
 use Rattle.b67_model.specs.Run.{number_of}
 use Rattle.b67_model.specs.InOrder.{from_frame, frames_of_task, critical_of}
@@ -19,19 +20,14 @@ use Rattle.b67_layout.specs.Placement.{Slotted, Placement, slot_of, spot_in, out
 use Rattle.b67_layout.specs.Layout.{activations, stack_of_task, slot_with, slot_in, slot_by, slot_at, objects_of, machine_view}
 use Rattle.b67_layout.specs.Session.{with_objects}
 use Rattle.b67_layout.specs.Meets.{objects_gone}
-use Rattle.b67_law_order.proofs.Members.{keyed_has}
-use Rattle.b67_layout.proofs.Others.{keyed-has, keyed-put_same, keyed-put_other}
 use Rattle.b67_layout.proofs.MachineViews.{with_course, member-same, member-other, RowOf}
+use Rattle.b67_layout.proofs.Others.{spot_in-outer}
 use Rattle.b67_layout_leave.proofs.Objects.{Represents-objects, others, objects-after}
 use Rattle.b67_layout_leave.proofs.Nowhere.{SameArrays, activations-same}
 
 -- the MCP's frame, or one that a live task depends on
 abbrev pub IsDependedOn : Job → ℕ → Type 0
 IsDependedOn job c = (c ≡ 0) ⊎ ((u : Task) × Has job.tasks u × (u.critical ≡ c))
-
-spot_in-outer : (s : ℕ) (o o' : ℕ → StackPlace) → ((id : ℕ) → o' id ≡ o id) → (fs : List Frame) (id : ℕ) → spot_in s o' fs id ≡ spot_in s o fs id
-spot_in-outer s o o' e [] id = e id
-spot_in-outer s o o' e (f ∷ fs) id = ap (λ r. cond (f.identity == id) (let p : StackPlace = record { stack = s; disp = height fs } in p) r) (spot_in-outer s o o' e fs id)
 
 -- a task is replaced, and others find the frames on which they depend, and what lies below these, where they were
 pub record Replaces (job job' : Job) (t t' : Task) : Type 0 where
@@ -48,10 +44,10 @@ module _ (plan : Placement) (j : ℕ) (job job' : Job) (t t' : Task) (by : Repla
   depended m (Some u) e = inr (u, keyed-has (λ (u : Task). u.number) m job.tasks u e, refl)
 
   pub task-same : keyed (λ (u : Task). u.number) t.number job'.tasks ≡ Some t'
-  task-same = ap (λ (ts : List Task). keyed (λ (u : Task). u.number) t.number ts) by.tasks ∙ keyed-put_same (λ (u : Task). u.number) t.number t' t by.number job.tasks by.there
+  task-same = ap (λ (ts : List Task). keyed (λ (u : Task). u.number) t.number ts) by.tasks ∙ change_found (λ (u : Task). u.number) t.number t t' job.tasks by.number by.there
 
   pub task-other : (m : ℕ) → m ≢ t.number → keyed (λ (u : Task). u.number) m job'.tasks ≡ keyed (λ (u : Task). u.number) m job.tasks
-  task-other m ne = ap (λ (ts : List Task). keyed (λ (u : Task). u.number) m ts) by.tasks ∙ keyed-put_other (λ (u : Task). u.number) m t.number t' by.number ne job.tasks
+  task-other m ne = ap (λ (ts : List Task). keyed (λ (u : Task). u.number) m ts) by.tasks ∙ change_other (λ (u : Task). u.number) m t.number t' job.tasks by.number ne
 
   pub outer_spots-after : (parents : List ℕ) (c : ℕ) → IsDependedOn job c → (id : ℕ) → outer_spots plan j job' c parents id ≡ outer_spots plan j job c parents id
   outer_spots-after [] c d id = refl

@@ -1,5 +1,5 @@
 -- A machine stands for a session that is alike, where areas came or went or operators were counted.
-use Rattle.std.proofs.Common.{◌≡◌, ◌≢◌, ℕ, ◌+◌, ◌*◌, ◌<◌, ◌≤◌, ◌^◌, List, [], ◌∷◌, length, Option, Some, None, refl, sym, ◌∙◌, ap, arith, Bool, true, false, subst, inl, inr, ◌⊎◌}
+use Rattle.std.proofs.Common.{◌≡◌, ◌≢◌, ℕ, ◌+◌, ◌*◌, ◌<◌, ◌≤◌, ◌^◌, List, length, Option, Some, None, refl, sym, ◌∙◌, ap, arith, Bool, true, false, subst, inl, inr}
 use Rattle.std.specs.List.{slice_get}
 use Rattle.std.proofs.lemmas.Option.{same_Some}
 use Rattle.b67_word.specs.Tagged.{Tagged, word}
@@ -19,9 +19,10 @@ use Rattle.b67_stack.proofs.Homes.{chain_small}
 use Rattle.b67_layout.specs.Placement.{Placement, slot_of}
 use Rattle.b67_layout.specs.Layout.{machine_view}
 use Rattle.b67_layout.proofs.Rows.{slot_below}
-use Rattle.b67_layout.proofs.Sessions.{dictionary_below}
-use Rattle.b67_layout.specs.Session.{DictionariesFollow, RepresentsDictionary, vector_word, with_objects, ShowsDisplay, SessionHoldsBut, RepresentsSessionBut}
+use Rattle.b67_layout.proofs.Sessions.{dictionary_below, dictionary_above}
+use Rattle.b67_layout.specs.Session.{RepresentsDictionary, vector_word, with_objects, ShowsDisplay, SessionHoldsBut, RepresentsSessionBut}
 use Rattle.b67_layout_step.proofs.Alike.{AllAlike, backs, twin, has_task, dictionary_alike, row_homes_alike, task_stands_alike, shows_alike, critical_same, rows_alike, dictionaries_alike, running_twin}
+use Rattle.b67_layout_storage.specs.Machine.{Stayed}
 
 -- the mark of a dictionary, and its number of entries, are no originals and no segment descriptors
 abbrev mark_bits : ℕ
@@ -57,18 +58,6 @@ module _ (x : Storage) (core : List Tagged) (r : Regs) (p : MachineView) (s : Re
 
   no_operand : (i b : ℕ) → slice_get core i ≡ Some (word 0 b) → t.home ≢ i
   no_operand i b get e = not_operand t.kind (length t.numbers) b (x.held t.home) (same_Some _ _ (sym (s.objects t int).home ∙ ap (slice_get core) e ∙ get))
-
--- a dictionary lies above the first one's address
-dictionary_above : (plan : Placement) (at : ℕ) (jobs : List SessionJob) (y : SessionJob) → DictionariesFollow plan at jobs → Has jobs y → at ≤ plan.dictionary y.constants.number
-dictionary_above plan at [] y d k = absurd k
-dictionary_above plan at (m ∷ ms) y d (inl e) =
-    let P : SessionJob → Type 0 = λ z. at ≤ plan.dictionary z.constants.number in
-    subst P e (omega (arith, d.0))
-dictionary_above plan at (m ∷ ms) y d (inr k) = omega (arith, dictionary_above plan (at + (2 + length m.constants.dictionary.cells)) ms y d.1 k)
-
--- words below slot 0 that are no originals and no segment descriptors stayed, but for the directory's heads
-abbrev pub Stayed : MachineView → List Tagged → List Tagged → Type 0
-Stayed p core new = (i : ℕ) → i < p.stacks → (i < 152) ⊎ (160 ≤ i) → ((t : PagedObject) → Has p.objects t → t.home ≢ i) → slice_get new i ≡ slice_get core i
 
 module _ (left left' : List PagedObject) (x x' : Storage) (cpu cpu' : Cpu) (plan : Placement) (s s' : Session)
     (h : RepresentsSessionBut left x cpu plan s) (alike : AllAlike s.jobs s'.jobs) (peak : s'.peak ≡ s.peak)

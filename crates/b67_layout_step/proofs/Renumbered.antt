@@ -1,11 +1,11 @@
 -- The session whose view has other numbers in a object: what a device that tells nothing may have given back.
 use Rattle.std.proofs.Common.{◌≡◌, ℕ, suc, ◌+◌, ◌<◌, ◌≤◌, ◌^◌, ◌++◌, ◌==◌, List, [], ◌∷◌, length, map, Option, Some, None, refl, sym, ◌∙◌, ap, Bool, true, false, subst, inl, inr, ⊎_elim, unwrap_or}
 use Rattle.std.specs.Prelude.{if◌then◌else◌, flat_map, not, option_map}
-use Rattle.std.proofs.lemmas.Option.{none-some, same_Some}
 use Rattle.std.proofs.lemmas.Bool.{cases_Bool, eqb-true}
 use Rattle.std.proofs.lemmas.List.{map-append}
 use Rattle.std.specs.List.{AllByRecursion}
 use Rattle.b67_lemmas.specs.Lists.{Has}
+use Rattle.b67_lemmas.proofs.Members.{has_append_left, has_append_right, keyed_has, keyed-has}
 use Rattle.b67_model.specs.Schedule.{Session}
 use Rattle.b67_model.specs.InOrder.{IsSegment, SegmentInOrder, ArrayInOrder, JobInOrder, IsInOrderButPlaces}
 use Rattle.b67_law_order_steps.specs.Weaker.{Renumbers, Recoded, RefilledArray, Refilled, AllOtherNumbers}
@@ -18,8 +18,6 @@ use Rattle.b67_model.specs.Arrays.{array, no_array}
 use Rattle.b67_model.specs.Run.{number_of}
 use Rattle.b67_stack.specs.Shapes.{Shape, Copy}
 use Rattle.b67_stack.specs.Stacks.{StackPlace, Activation, stack_words}
-use Rattle.b67_law_order.proofs.Members.{has_append_left, has_append_right}
-use Rattle.b67_layout.proofs.Others.{keyed-has}
 use Rattle.b67_layout_step.proofs.Alike.{AllAlike, outer_same}
 use Rattle.b67_area.specs.declared.kinds.Kind.TheVariants as kind
 use Rattle.b67_stack.specs.MachineView.{PagedObject, Slot, Running, Waiting, MachineView, slot_base, stack_of, NoOriginalAboveTop}
@@ -155,13 +153,6 @@ module _ (plan : Placement) (j home : ℕ) (ns : List ℕ) where
         let outer = outer_same plan j job (job_refilled plan j home ns job) refl t.critical t.parents in
         ap S (activations_same k (outer_spots plan j (job_refilled plan j home ns job) t.critical t.parents) t.frames ∙ ap (λ (o : ℕ → StackPlace). activations plan j job k o t.frames) outer)
 
-keyed-key : {A : Type 0} (key : A → ℕ) (n : ℕ) (xs : List A) (x : A) → keyed key n xs ≡ Some x → key x ≡ n
-keyed-key key n [] x e = absurd (none-some x e)
-keyed-key key n (z ∷ zs) x e = ⊎_elim
-    (λ (t : (key z == n) ≡ true). let same : z ≡ x = same_Some z x (rw t at e) in ap key (sym same) ∙ eqb-true (key z) n t)
-    (λ (t : (key z == n) ≡ false). keyed-key key n zs x (rw t at e))
-    (cases_Bool (key z == n))
-
 keyed_with : (plan : Placement) (home : ℕ) (ns : List ℕ) (j : ℕ) (jobs : List SessionJob)
     → keyed number_of j (map (member_with plan home ns) jobs) ≡ option_map (member_with plan home ns) (keyed number_of j jobs)
 keyed_with plan home ns j [] = refl
@@ -182,7 +173,7 @@ module _ (plan : Placement) (home : ℕ) (ns : List ℕ) (jobs : List SessionJob
   slot_in_same : (k j task : ℕ) (o : Option SessionJob) → keyed number_of j jobs ≡ o → slot_in plan k j task (option_map (member_with plan home ns) o) ≡ slot_in plan k j task o
   slot_in_same k j task None e = refl
   slot_in_same k j task (Some m) e =
-      let number : m.constants.number ≡ j = keyed-key number_of j jobs m e in
+      let number : m.constants.number ≡ j = (keyed_has number_of j jobs m e).1 in
       let among : Has jobs m = keyed-has number_of j jobs m e in
       let own : Fitting home ns (map (array_object plan m.constants.number) m.progress.job.arrays) = λ t int. fits t (array_among plan jobs m among t int) in
       let o = keyed (λ (t : Task). t.number) task m.progress.job.tasks in

@@ -11,6 +11,7 @@ use Rattle.b67_model.specs.declared.operators.Code.TheVariants.{Add, Subt, Mult,
 use Rattle.b67_model.specs.Answers.{Answer, needs}
 use Rattle.b67_model.specs.Keyed.{change_keyed}
 use Rattle.b67_lemmas.specs.Lists.{Has}
+use Rattle.b67_lemmas.proofs.Members.{any_some, has_reverse_back}
 use Rattle.b67_model.specs.Arithmetic.{add, subt, mult, idiv, rdiv, less, greq, grtr, lseq, equl, neql, land, lor, leqv, same, chsn, lnot, bset, brst, isol, insr}
 use Rattle.b67_model.specs.Words as Words
 use Rattle.b67_model.specs.Words.{Word, Operand, Name, Ref, Row, Element, Original, Proc, Intrinsic, operand, whole}
@@ -21,7 +22,6 @@ use Rattle.b67_model.specs.Steps.{Line, Value, Values, Done, Goes, Leaves, Waits
 use Rattle.b67_model.specs.Entry.{accident, needs_level, back_to, evaluates, enters, left, leaves, returnable, returned, retn_word}
 use Rattle.b67_model.specs.Intrinsics.{answered, needs_free, answers, array_length, arraydec, print, row_copy, numbers_of, printrow, read_from, read, child_of, starts, process, awaits, await, status_of, status, waits_at, wait, causes, cause, intrinsic}
 use Rattle.b67_model.specs.Rows.{CellRow, on_one, on_two, dlet, exch, dupl, on_cells, branches, branch_if, stff, load_at, load, indx, nxlv, store_at, store, entr_at, entr_with, entr, proc_of, plain, row}
-use Rattle.b67_law_order.proofs.Members.{has_reverse_back, any_some}
 use Rattle.b67_law_order.proofs.Posts.{Post, post_ok, post_err, post_bind, post_any, post_then, post_if}
 use Rattle.b67_layout_step.specs.Keeping.{is_leaving}
 use Rattle.b67_layout_step.proofs.Words as W

@@ -7,6 +7,7 @@ use Rattle.b67_area.specs.declared.Kind.{Kind}
 use Rattle.b67_area.specs.declared.Kind.TheVariants.{Code}
 use Rattle.b67_backing.specs.Held.{sectors_for}
 use Rattle.b67_lemmas.specs.Lists.{Has}
+use Rattle.b67_lemmas.proofs.Members.{has_map}
 use Rattle.b67_ctl.specs.declared.registers.Regs.{Regs}
 use Rattle.b67_stack.specs.MachineView.{PagedObject, MachineView, Slot, Free, Running, Waiting, SlotFits, IsArrayAt, Laid, slot_base, home_word_of}
 use Rattle.b67_stack.specs.Represents.{Storage, RepresentsSlot, RepresentsObjects, RepresentsObject, Content, AbsentContent, Told, Owned, info_of, Represents}
@@ -22,11 +23,6 @@ Has-map : {A B : Type 0} (f : A → B) (xs : List A) (y : B) → Has (map f xs) 
 Has-map f [] y h = absurd h
 Has-map f (x ∷ xs) y (inl e) = (x, inl refl, e)
 Has-map f (x ∷ xs) y (inr h) = let r = Has-map f xs y h in (r.0, inr r.1, r.2)
-
-map-Has : {A B : Type 0} (f : A → B) (xs : List A) (x : A) → Has xs x → Has (map f xs) (f x)
-map-Has f [] x h = absurd h
-map-Has f (y ∷ xs) x (inl e) = inl (ap f e)
-map-Has f (y ∷ xs) x (inr h) = inr (map-Has f xs x h)
 
 pub renumber-there : (home : ℕ) (ns : List ℕ) (t : PagedObject) → t.home ≡ home → renumber home ns t ≡ record t { numbers = ns }
 renumber-there home ns t e = rw (eq-eqb t.home home e) refl
@@ -56,7 +52,7 @@ module _ (x : Storage) (core : List Tagged) (r : Regs) (p : MachineView) (s : Re
   each P h v inv = let o = Has-map f p.objects v inv in subst P o.2 (h o.0 o.1)
 
   named : (home : ℕ) → IsArrayAt p.objects home → IsArrayAt p'.objects home
-  named home a = (f a.0, map-Has f p.objects a.0 a.1, (alike a.0 a.1).home ∙ a.2, λ e. a.3 (sym (alike a.0 a.1).kind ∙ e))
+  named home a = (f a.0, has_map f p.objects a.0 a.1, (alike a.0 a.1).home ∙ a.2, λ e. a.3 (sym (alike a.0 a.1).kind ∙ e))
 
   fits : (k : ℕ) (y : Slot) → SlotFits p k y → SlotFits p' k y
   fits k Free h = h
@@ -90,9 +86,9 @@ module _ (x : Storage) (core : List Tagged) (r : Regs) (p : MachineView) (s : Re
 
   owned : Owned x p'.objects
   owned = record {
-    of_area = λ at a e. let o = s.owned.of_area at a e in (f o.0, map-Has f p.objects o.0 o.1, ap (λ q. (x.held q).area) (alike o.0 o.1).home ∙ o.2, o.3 ∙ info_alike o.0 o.1);
-    of_held = λ q at e. let o = s.owned.of_held q at e in (f o.0, map-Has f p.objects o.0 o.1, (alike o.0 o.1).home ∙ o.2, o.3 ∙ ap Some (info_alike o.0 o.1));
-    of_chain = λ first some. let o = s.owned.of_chain first some in (f o.0, map-Has f p.objects o.0 o.1, ap (λ q. (x.held q).chain) (alike o.0 o.1).home ∙ o.2);
+    of_area = λ at a e. let o = s.owned.of_area at a e in (f o.0, has_map f p.objects o.0 o.1, ap (λ q. (x.held q).area) (alike o.0 o.1).home ∙ o.2, o.3 ∙ info_alike o.0 o.1);
+    of_held = λ q at e. let o = s.owned.of_held q at e in (f o.0, has_map f p.objects o.0 o.1, (alike o.0 o.1).home ∙ o.2, o.3 ∙ ap Some (info_alike o.0 o.1));
+    of_chain = λ first some. let o = s.owned.of_chain first some in (f o.0, has_map f p.objects o.0 o.1, ap (λ q. (x.held q).chain) (alike o.0 o.1).home ∙ o.2);
     no_zero = s.owned.no_zero;
     one_chain = λ v w inv inw. each (λ v. 0 < (x.held v.home).chain → (x.held v.home).chain ≡ (x.held w.home).chain → v.home ≡ w.home)
         (λ u inu. each (λ w. 0 < (x.held (f u).home).chain → (x.held (f u).home).chain ≡ (x.held w.home).chain → (f u).home ≡ w.home)
@@ -139,7 +135,7 @@ module _ (x : Storage) (core : List Tagged) (r : Regs) (p : MachineView) (s : Re
     }
 
   pub there_renumbered : Has (renumbered p t.home ns).objects (record t { numbers = ns })
-  there_renumbered = let Q : PagedObject → Type 0 = λ v. Has (map f p.objects) v in subst Q (renumber-there t.home ns t refl) (map-Has f p.objects t int)
+  there_renumbered = let Q : PagedObject → Type 0 = λ v. Has (map f p.objects) v in subst Q (renumber-there t.home ns t refl) (has_map f p.objects t int)
 
 map-id : {A : Type 0} (f : A → A) (xs : List A) → ((x : A) → Has xs x → f x ≡ x) → map f xs ≡ xs
 map-id {A} f [] h = refl
@@ -156,7 +152,7 @@ renumbered-same x core r p s t int =
 
 -- another object is still there
 pub kept_there : (p : MachineView) (home : ℕ) (ns : List ℕ) (c : PagedObject) → Has p.objects c → c.home ≢ home → Has (renumbered p home ns).objects c
-kept_there p home ns c int n = let Q : PagedObject → Type 0 = λ v. Has (map (renumber home ns) p.objects) v in subst Q (renumber-other home ns c n) (map-Has (renumber home ns) p.objects c int)
+kept_there p home ns c int n = let Q : PagedObject → Type 0 = λ v. Has (map (renumber home ns) p.objects) v in subst Q (renumber-other home ns c n) (has_map (renumber home ns) p.objects c int)
 
 pub Stayed-renumbered : (p : MachineView) (home : ℕ) (ns : List ℕ) (core new : List Tagged) → Stayed (renumbered p home ns) core new → Stayed p core new
 Stayed-renumbered p home ns core new s i low out apart = s i low out (λ v inv e. let o = Has-map (renumber home ns) p.objects v inv in apart o.0 o.1 (sym (home_is o.0) ∙ ap (λ (u : PagedObject). u.home) o.2 ∙ e)) where

@@ -1,28 +1,23 @@
 -- A task's frames with another word in a cell of one of them.
 use Rattle.std.proofs.Common.{◌≡◌, ℕ, zero, suc, ◌+◌, ◌-◌, ◌<◌, List, [], ◌∷◌, ◌++◌, map, reverse, length, refl, sym, ◌∙◌, ap, arith, Bool, true, false, cond, ◌==◌, ⊎_elim, subst, slice_set}
 use Rattle.std.specs.Prelude.{if◌then◌else◌}
-use Rattle.std.proofs.lemmas.Bool.{cases_Bool, cases_eq, eq-eqb, ne_eqb}
+use Rattle.std.proofs.lemmas.Bool.{cases_Bool, eq-eqb, ne_eqb}
 use Rattle.std.proofs.lemmas.List.{length-map, length-reverse}
 use Rattle.b67_word.specs.Tagged.{word}
 use Rattle.b67_model.specs.Keyed.{change_keyed}
 use Rattle.b67_lemmas.specs.Lists.{Has}
+use Rattle.b67_lemmas.proofs.Members.{reverse_cons}
+use Rattle.b67_lemmas.proofs.Places.{same_test}
 use Rattle.b67_model.specs.Words.{Word, Operand}
 use Rattle.b67_model.specs.State as State
 use Rattle.b67_model.specs.State.{Frame, Standing, Task, Job, no_frame, height}
 use Rattle.b67_model.specs.Cells.{with_cell_of, with_cell}
 use Rattle.b67_model.specs.InOrder.{known_of, identities, from_frame, IsEntered, frames_named}
-use Rattle.b67_law_order.proofs.Members.{reverse_cons}
 use Rattle.b67_stack.specs.Shapes.{Shape, Is}
 use Rattle.b67_stack.specs.Stacks.{StackPlace, Activation, head_size, stack_words}
 use Rattle.b67_layout.specs.Placement.{Placement, spot_in}
 use Rattle.b67_layout.specs.Layout.{shape, head, activations}
 use Rattle.b67_layout_store.proofs.Puts.{put, put_length, put_map, Puts, within, lower}
-
-same_test : (i n : ℕ) → (i == n) ≡ (suc i == suc n)
-same_test i n = ⊎_elim
-    (λ (e : i ≡ n). eq-eqb i n e ∙ sym (eq-eqb (suc i) (suc n) (ap suc e)))
-    (λ (e : i ≡ n → ⊥). ne_eqb i n e ∙ sym (ne_eqb (suc i) (suc n) (λ z. e (omega (arith, z)))))
-    (cases_eq i n)
 
 set_last : {A : Type 0} (ys : List A) (x w : A) (i : ℕ) → slice_set (ys ++ x ∷ []) i w ≡ slice_set ys i w ++ (if i == length ys then w else x) ∷ []
 set_last [] x w zero = refl

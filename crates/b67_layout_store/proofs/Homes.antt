@@ -6,13 +6,13 @@ use Rattle.std.proofs.lemmas.Option.{same_Some}
 use Rattle.b67_word.specs.Tagged.{Tagged}
 use Rattle.b67_ctl.specs.declared.registers.Regs.{Regs}
 use Rattle.b67_lemmas.specs.Lists.{Has}
+use Rattle.b67_lemmas.proofs.Members.{falls_same, has_append_left, has_map, has_reverse, keyed_falls}
 use Rattle.b67_model.specs.Keyed.{keyed}
 use Rattle.b67_model.specs.Words.{Word, Original}
 use Rattle.b67_model.specs.State.{Frame, Array, Task, Job, SessionJob}
 use Rattle.b67_model.specs.Run.{number_of}
 use Rattle.b67_model.specs.Schedule.{Session}
 use Rattle.b67_model.specs.InOrder.{IsSegment, JobInOrder, IsInOrderButPlaces}
-use Rattle.b67_law_order.proofs.Members.{has_append_left, has_map, has_reverse, keyed_falls, falls_same}
 use Rattle.b67_stack.specs.Shapes as Shapes
 use Rattle.b67_stack.specs.Shapes.{Shape, Fits, LieDownward}
 use Rattle.b67_stack.specs.Stacks.{StackPlace, Head, Marked, Entered, Activation, stack_words, headed, words}
@@ -26,8 +26,10 @@ use Rattle.b67_layout.specs.Layout.{shape, head, activations, stack_of_task, slo
 use Rattle.b67_layout.specs.Session.{DictionariesFollow, PlanFits}
 use Rattle.b67_layout.proofs.Fresh.{job_in_order}
 use Rattle.b67_layout.proofs.Rows.{task_row, slot_below}
+use Rattle.b67_layout.proofs.Sessions.{dictionary_above, follow-up}
 use Rattle.b67_layout_leave.proofs.Originals.{lies_at, lies_over, original_word, InFrame, original_of, entry_number}
-use Rattle.b67_layout_leave.proofs.Settles.{keyed_member, stack_in_slot}
+use Rattle.b67_layout_leave.proofs.Settles.{stack_in_slot}
+use Rattle.b67_law_order.proofs.Numbered.{keyed_member}
 
 -- two words of one address are one word
 module _ (x : Storage) (core : List Tagged) (plan : Placement) (j : ℕ) (job : Job) (k from : ℕ) (outer : ℕ → StackPlace) where
@@ -80,35 +82,25 @@ module _ (x : Storage) (core : List Tagged) (plan : Placement) (j : ℕ) (job : 
       let under = lie_head fh bs (words k bs) (Lie-under (Fits x.held) core from (map (shape plan j job (spot_in k outer (y ∷ below))) y.cells) (headed k fh bs (words k bs)) l) in
       frames_one below f g a b under hf ha hg hb e
 
--- dictionaries don't overlap
-dictionary_low : (plan : Placement) (at : ℕ) (ms : List SessionJob) (y : SessionJob) → DictionariesFollow plan at ms → Has ms y → at ≤ plan.dictionary y.constants.number
-dictionary_low plan at [] y d h = absurd h
-dictionary_low plan at (m ∷ more) y d (inl e) = omega (arith, d.0, ap (λ (z : SessionJob). plan.dictionary z.constants.number) e)
-dictionary_low plan at (m ∷ more) y d (inr h) = omega (arith, dictionary_low plan (at + (2 + length m.constants.dictionary.cells)) more y d.1 h)
-
 abbrev dictionary_top : Placement → SessionJob → ℕ
 dictionary_top plan y = plan.dictionary y.constants.number + (2 + length y.constants.dictionary.cells)
-
-follow_up : (plan : Placement) (at : ℕ) (ms : List SessionJob) → DictionariesFollow plan at ms → at ≤ plan.stacks
-follow_up plan at [] d = omega (arith, d)
-follow_up plan at (m ∷ more) d = omega (arith, follow_up plan (at + (2 + length m.constants.dictionary.cells)) more d.1)
 
 dictionary_under : (plan : Placement) (at : ℕ) (ms : List SessionJob) (y : SessionJob) → DictionariesFollow plan at ms → Has ms y → dictionary_top plan y ≤ plan.stacks
 dictionary_under plan at [] y d h = absurd h
 dictionary_under plan at (m ∷ more) y d (inl e) =
     let P : SessionJob → Type 0 = λ z. dictionary_top plan z ≤ plan.stacks in
-    subst P e (omega (arith, d.0, follow_up plan (at + (2 + length m.constants.dictionary.cells)) more d.1))
+    subst P e (omega (arith, d.0, follow-up plan (at + (2 + length m.constants.dictionary.cells)) more d.1))
 dictionary_under plan at (m ∷ more) y d (inr h) = dictionary_under plan (at + (2 + length m.constants.dictionary.cells)) more y d.1 h
 
 dictionaries_apart : (plan : Placement) (at : ℕ) (ms : List SessionJob) (y z : SessionJob) → DictionariesFollow plan at ms → Has ms y → Has ms z → (y ≡ z) ⊎ ((dictionary_top plan y ≤ plan.dictionary z.constants.number) ⊎ (dictionary_top plan z ≤ plan.dictionary y.constants.number))
 dictionaries_apart plan at [] y z d hy hz = absurd hy
 dictionaries_apart plan at (m ∷ more) y z d (inl ey) (inl ez) = inl (sym ey ∙ ez)
 dictionaries_apart plan at (m ∷ more) y z d (inl ey) (inr hz) =
-    let low = dictionary_low plan (at + (2 + length m.constants.dictionary.cells)) more z d.1 hz in
+    let low = dictionary_above plan (at + (2 + length m.constants.dictionary.cells)) more z d.1 hz in
     let same = ap (λ (v : SessionJob). dictionary_top plan v) ey in
     inr (inl (omega (arith, low, d.0, same)))
 dictionaries_apart plan at (m ∷ more) y z d (inr hy) (inl ez) =
-    let low = dictionary_low plan (at + (2 + length m.constants.dictionary.cells)) more y d.1 hy in
+    let low = dictionary_above plan (at + (2 + length m.constants.dictionary.cells)) more y d.1 hy in
     let same = ap (λ (v : SessionJob). dictionary_top plan v) ez in
     inr (inr (omega (arith, low, d.0, same)))
 dictionaries_apart plan at (m ∷ more) y z d (inr hy) (inr hz) = dictionaries_apart plan (at + (2 + length m.constants.dictionary.cells)) more y z d.1 hy hz

@@ -7,6 +7,7 @@ use Rattle.b67_word.specs.Tagged.{Tagged, word}
 use Rattle.b67_area.specs.declared.Kind.TheVariants as kind
 use Rattle.b67_area.proofs.Laws.{area_inside}
 use Rattle.b67_lemmas.specs.Lists.{Has}
+use Rattle.b67_lemmas.proofs.Members.{keyed-has}
 use Rattle.b67_model.specs.Keyed.{keyed}
 use Rattle.b67_model.specs.State.{Array, Task, Job, JobProgress, SessionJob, OperatorContext}
 use Rattle.b67_model.specs.Environment.{frame_at}
@@ -20,7 +21,6 @@ use Rattle.b67_stack.specs.Represents.{Storage, Represents, info_of}
 use Rattle.b67_layout.specs.Placement.{Placement, slot_of, spots, address_of}
 use Rattle.b67_layout.specs.Layout.{array_object, objects_of, machine_view}
 use Rattle.b67_layout.specs.Session.{RowsFit, DictionariesFollow, RowHomes, PlanFits, RepresentsDictionary, vector_word, critical_mark, RepresentsTask, IsRunning, ShowsDisplay, SessionHolds, RepresentsSession}
-use Rattle.b67_layout.proofs.Others.{keyed-has}
 use Rattle.b67_layout.proofs.Displays.{same_frame_at}
 use Rattle.b67_layout.proofs.MachineViews.{with_course, member-same}
 use Rattle.b67_layout.proofs.Rows.{slot_below}

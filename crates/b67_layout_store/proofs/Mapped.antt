@@ -5,6 +5,7 @@ use Rattle.std.specs.List.{slice_get, list_any}
 use Rattle.std.proofs.lemmas.Bool.{cases_Bool, cases_eq, eqb-true}
 use Rattle.std.proofs.lemmas.List.{map-append}
 use Rattle.b67_lemmas.specs.Lists.{Has}
+use Rattle.b67_lemmas.proofs.Members.{has_map, has_map_back, found-has, keyed-has}
 use Rattle.b67_model.specs.Keyed.{keyed}
 use Rattle.b67_model.specs.Words.{Word}
 use Rattle.b67_model.specs.State as State
@@ -13,16 +14,15 @@ use Rattle.b67_model.specs.Environment.{level_of_standing, level_of_frame, runni
 use Rattle.b67_model.specs.Steps.{is_critical}
 use Rattle.b67_model.specs.Run.{number_of}
 use Rattle.b67_model.specs.InOrder.{Known, known_of, identities, from_frame, frames_of_task, critical_of, frames_named, frames_in_job}
-use Rattle.b67_law_order.proofs.Members.{has_map, has_map_back}
 use Rattle.b67_stack.specs.Stacks.{StackPlace, Activation}
 use Rattle.b67_stack.specs.MachineView.{PagedObject, Slot, Running, Waiting, MachineView, with_slot}
 use Rattle.b67_stack.proofs.Slots.{slot-same, slot-other}
 use Rattle.b67_layout.specs.Placement.{Slotted, Placement, slot_of, spot_in, outer_spots, spots, address_of}
 use Rattle.b67_layout.specs.Layout.{activations, stack_of_task, slot_with, slot_in, slot_by, slot_at, objects_of, machine_view}
 use Rattle.b67_layout.specs.Session.{RowsFit, critical_mark, ShowsDisplay}
-use Rattle.b67_layout.proofs.Others.{activations-job, keyed-has}
+use Rattle.b67_layout.proofs.Others.{activations-job}
 use Rattle.b67_layout.proofs.MachineViews.{with_course, member-same, member-other, objects-after}
-use Rattle.b67_layout.proofs.Rows.{task_row, found-has}
+use Rattle.b67_layout.proofs.Rows.{task_row}
 use Rattle.b67_layout.proofs.Sessions.{change-has, change-kept}
 use Rattle.b67_layout.proofs.Displays.{same_running, same_frame_at}
 use Rattle.b67_refer.proofs.Slots.{live_slot}

@@ -1,39 +1,33 @@
 -- The objects of a session with another number in an array: one of them is replaced.
-use Rattle.std.proofs.Common.{◌≡◌, ◌≢◌, ℕ, ◌+◌, List, [], ◌∷◌, map, flat_map, Some, refl, sym, ◌∙◌, ap, Bool, true, false, ◌==◌, ⊎_elim, inl, inr, ◌⊎◌, subst}
+use Rattle.std.proofs.Common.{◌≡◌, ◌≢◌, ℕ, List, [], ◌∷◌, map, flat_map, Some, refl, sym, ◌∙◌, ap, Bool, true, false, ◌==◌, ⊎_elim, inl, inr, ◌⊎◌, subst}
 use Rattle.std.proofs.lemmas.Bool.{cases_Bool, cases_eq}
 use Rattle.std.proofs.lemmas.Option.{same_Some}
 use Rattle.b67_word.specs.Tagged.{Tagged}
 use Rattle.b67_area.specs.declared.Kind.TheVariants as kind
 use Rattle.b67_ctl.specs.declared.registers.Regs.{Regs}
 use Rattle.b67_lemmas.specs.Lists.{Has, Falls}
+use Rattle.b67_lemmas.proofs.Members.{falls_same, has_append_cases, has_append_left, has_append_right, has_flat, has_flat_back, has_map, has_map_back, keyed-has}
+use Rattle.b67_lemmas.proofs.Keyed.{changed_there}
 use Rattle.b67_model.specs.Keyed.{keyed, change_keyed}
-use Rattle.b67_model.specs.State.{Array, Segment, Job, JobProgress, SessionJob}
+use Rattle.b67_model.specs.State.{Array, Job, JobProgress, SessionJob}
 use Rattle.b67_model.specs.Arrays as Arrays
 use Rattle.b67_model.specs.Arrays.{with_element}
 use Rattle.b67_model.specs.Run.{number_of}
 use Rattle.b67_model.specs.Schedule.{Session}
 use Rattle.b67_model.specs.InOrder.{IsInOrderButPlaces}
-use Rattle.b67_law_order.proofs.Members.{has_append_left, has_append_right, has_append_cases, has_map, has_map_back, has_flat, falls_same}
 use Rattle.b67_stack.specs.MachineView.{PagedObject}
 use Rattle.b67_stack.specs.Represents.{Storage, Represents}
 use Rattle.b67_layout.specs.Placement.{Placement}
 use Rattle.b67_layout.specs.Layout.{array_object, code_objects, objects_of, machine_view}
 use Rattle.b67_layout.specs.Session.{PlanFits}
-use Rattle.b67_layout.proofs.Others.{keyed-has}
 use Rattle.b67_layout.proofs.Fresh.{job_in_order}
 use Rattle.b67_layout.proofs.MachineViews.{with_course, member-same}
 use Rattle.b67_layout.proofs.Sessions.{change-has, change-kept}
-use Rattle.b67_layout_leave.proofs.Settles.{keyed_member, numbered_course}
-use Rattle.b67_layout_leave.proofs.Objects.{has_flat_back}
+use Rattle.b67_layout_leave.proofs.Settles.{numbered_course}
+use Rattle.b67_layout_leave.proofs.Settled.{code_kind}
 use Rattle.b67_layout_store.proofs.Elements.{with_number, Replaces}
 use Rattle.b67_layout_store.proofs.Homes.{one_home}
-
-changed_there : {A : Type 0} (key : A → ℕ) (n : ℕ) (f : A → A) (xs : List A) (x : A) → keyed key n xs ≡ Some x → Has (change_keyed key n f xs) (f x)
-changed_there key n f [] x e = absurd (let z : ⊥ = cc in z)
-changed_there key n f (y ∷ ys) x e = ⊎_elim
-    (λ (t : (key y == n) ≡ true). let same : y ≡ x = same_Some y x (rw t at e) in rw t (inl (ap f same)))
-    (λ (t : (key y == n) ≡ false). let at : keyed key n ys ≡ Some x = rw t at e in rw t (inr (changed_there key n f ys x at)))
-    (cases_Bool (key y == n))
+use Rattle.b67_law_order.proofs.Numbered.{keyed_member}
 
 pub identities_kept : (id i v : ℕ) (xs : List Array) → map (λ (a : Array). a.identity) (change_keyed (λ (a : Array). a.identity) id (Arrays.with_number i v) xs) ≡ map (λ (a : Array). a.identity) xs
 identities_kept id i v [] = refl
@@ -41,12 +35,6 @@ identities_kept id i v (x ∷ xs) = ⊎_elim
     (λ (t : (x.identity == id) ≡ true). rw t refl)
     (λ (t : (x.identity == id) ≡ false). rw t (ap (λ (ns : List ℕ). x.identity ∷ ns) (identities_kept id i v xs)))
     (cases_Bool (x.identity == id))
-
--- segments are objects of code
-code_kind : (plan : Placement) (j n : ℕ) (xs : List Segment) (u : PagedObject) → Has (code_objects plan j n xs) u → u.kind ≡ kind.Code
-code_kind plan j n [] u h = absurd h
-code_kind plan j n (x ∷ xs) u (inl e) = ap (λ (z : PagedObject). z.kind) (sym e)
-code_kind plan j n (x ∷ xs) u (inr h) = code_kind plan j (n + 1) xs u h
 
 array_kind : (plan : Placement) (j : ℕ) (a : Array) → (array_object plan j a).kind ≢ kind.Code
 array_kind plan j a = by a.writable where

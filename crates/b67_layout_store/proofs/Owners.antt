@@ -4,13 +4,14 @@ use Rattle.std.proofs.lemmas.Bool.{cases_Bool, eq-eqb, ne_eqb}
 use Rattle.b67_word.specs.Tagged.{Tagged}
 use Rattle.b67_ctl.specs.declared.registers.Regs.{Regs}
 use Rattle.b67_lemmas.specs.Lists.{Has, Falls, total}
+use Rattle.b67_lemmas.proofs.Members.{falls_low, has_append_cases, has_append_right, has_map, keyed_has, total_has}
 use Rattle.b67_model.specs.Keyed.{keyed}
 use Rattle.b67_model.specs.State.{Frame, Standing, Task, height}
 use Rattle.b67_model.specs.InOrder.{Known, known_of, known_numbers, identities, from_frame, frames_of_task, critical_of, base, outer_reach, outer_of, reach_of, NamesEntered, ParentInOrder, BirthInOrder, frames_named}
-use Rattle.b67_law_order.proofs.Members.{has_append_right, has_append_cases, has_map, keyed_has, falls_low, total_has}
 use Rattle.b67_law_order.proofs.Replaced.{numbers_append}
 use Rattle.b67_stack.specs.Stacks.{StackPlace}
 use Rattle.b67_layout.specs.Placement.{slot_of, spot_in, outer_spots, spots}
+use Rattle.b67_layout.proofs.Fresh.{has-number}
 use Rattle.b67_refer.specs.RunningContext.{RunningContext}
 use Rattle.b67_refer.proofs.Seats.{order_of, has_task}
 use Rattle.b67_layout_store.proofs.Frames.{frames_under}
@@ -19,11 +20,6 @@ identity_has : (fs : List Frame) (id : ℕ) (s : Standing) → Has (map known_of
 identity_has [] id s h = absurd h
 identity_has (f ∷ fs) id s (inl e) = inl (ap (λ (k : Known). k.0) e)
 identity_has (f ∷ fs) id s (inr h) = inr (identity_has fs id s h)
-
-number_has : (fs : List Frame) (known : List Known) (id : ℕ) → Has (identities fs) id → Has (known_numbers (map known_of fs ++ known)) id
-number_has [] known id h = absurd h
-number_has (f ∷ fs) known id (inl e) = inl e
-number_has (f ∷ fs) known id (inr h) = inr (number_has fs known id h)
 
 pub spot_under : (k : ℕ) (outer : ℕ → StackPlace) (fs : List Frame) (id : ℕ) → Has (identities fs) id → spot_in k outer fs id ≡ record { stack = k; disp = height (frames_under id fs) }
 spot_under k outer [] id h = absurd h
@@ -48,7 +44,7 @@ from_under bound c (f ∷ fs) known id falls h = ⊎_elim
     (λ (t : (f.identity == c) ≡ true). rw t refl)
     (λ (t : (f.identity == c) ≡ false).
     let more : Has (identities (from_frame c fs)) id = rw t at h in
-    let low = falls_low f.identity (known_numbers (map known_of fs ++ known)) id falls.1 (number_has fs known id (from_identity c fs id more)) in
+    let low = falls_low f.identity (known_numbers (map known_of fs ++ known)) id falls.1 (has-number fs known id (from_identity c fs id more)) in
     let ne : (f.identity == id) ≡ false = ne_eqb f.identity id (λ e. omega (arith, e, low)) in
     rw t (rw ne (from_under f.identity c fs known id falls.1 more)))
     (cases_Bool (f.identity == c))

@@ -12,7 +12,7 @@ use Rattle.b67_ctl.specs.Layout.{mscw_word, rcw_word}
 use Rattle.b67_stack.specs.Shapes.{Copied, Shape, Is, Copy, LieDownward}
 use Rattle.b67_stack.specs.Stacks.{Head, Marked, Entered, Activation, head_size, top_size, stack_words, mark_place, level_from, running_level, mark_of, return_of, headed, words, ReturnFits, HeadFits, HeadsFit}
 use Rattle.b67_stack.proofs.Lies.{Lie-same, Lie-under}
-use Rattle.b67_stack.proofs.Heights.{words-length}
+use Rattle.b67_stack.proofs.Heights.{words-length, headed-length}
 
 -- the items with another one of this number, counted from the end
 abbrev pub put : {A : Type 0} → ℕ → A → List A → List A
@@ -127,10 +127,6 @@ puts_headed {st = st} {st' = st'} k (Entered level environment (Some r)) under p
     ap (λ (n : ℕ). Is (rcw_word (record { place = r.place; level = n; segment = r.segment + 1 })) ∷ Is (mscw_word (record { far = not (environment.stack == k); entered = true; env_stack = environment.stack; env_disp = environment.disp; value = r.value; level = level; back = top_size st' })) ∷ under) (puts_level p)
     ∙ ap (λ (n : ℕ). Is (rcw_word (record { place = r.place; level = running_level st; segment = r.segment + 1 })) ∷ Is (mscw_word (record { far = not (environment.stack == k); entered = true; env_stack = environment.stack; env_disp = environment.disp; value = r.value; level = level; back = n })) ∷ under) (puts_top p)
 
-headed_high : (k : ℕ) (h : Head) (below : List Activation) (under : List Shape) → length (headed k h below under) ≡ head_size h + length under
-headed_high k Marked below under = omega arith
-headed_high k (Entered level environment back) below under = omega arith
-
 -- a word over others, where those others are as many
 moved : (R : Shape → ℕ → Tagged → Type 0) (core : List Tagged) (from i : ℕ) (v : Tagged) (sh : Shape) (n n' : ℕ) → n' ≡ n → i < from + n
     → (w : Tagged) × (slice_get core (from + n) ≡ Some w) × R sh (from + n) w → (w : Tagged) × (slice_get (slice_set core i v) (from + n') ≡ Some w) × R sh (from + n') w
@@ -164,7 +160,7 @@ Lie-down R core from k (Entered level environment back) below l = l.1.1
 pub puts_lies : {c : Shape} {at : ℕ} {st st' : List Activation} (R : Shape → ℕ → Tagged → Type 0) (core : List Tagged) (from k : ℕ) (v : Tagged) → Puts c at st st' → from + at < length core → R c (from + at) v → LieDownward R core from (words k st) → LieDownward R (slice_set core (from + at) v) from (words k st')
 puts_lies {c = c} R core from k v (within a below i low) inside fit l =
     let under = headed k a.head below (words k below) in
-    let n = headed_high k a.head below (words k below) in
+    let n = headed-length k a.head below (words k below) in
     let m = words-length k below in
     let at : from + length under + i ≡ from + (stack_words below + head_size a.head + i) = omega (arith, n, m) in
     let P : ℕ → Type 0 = λ q. LieDownward R (slice_set core q v) from (put i c a.cells ++ under) in
@@ -178,8 +174,8 @@ puts_lies {c = c} {at = at} R core from k v (lower {below = below} {below' = bel
     let rest = puts_lies R core from k v p inside fit (Lie-down R core from k a.head below (Lie-under R core from a.cells (headed k a.head below (words k below)) l)) in
     let same : length (words k below') ≡ length (words k below) = omega (arith, n, n', h) in
     let head = Lie-head R core from (from + at) v k a.head below (words k below) (words k below') same (omega (arith, low, n)) rest (Lie-under R core from a.cells (headed k a.head below (words k below)) l) in
-    let g = headed_high k a.head below (words k below) in
-    let g' = headed_high k a.head below (words k below') in
+    let g = headed-length k a.head below (words k below) in
+    let g' = headed-length k a.head below (words k below') in
     let whole = Lie-tops R core from (from + at) v a.cells (headed k a.head below (words k below)) (headed k a.head below (words k below')) (omega (arith, g, g', same)) (omega (arith, low, n, g)) head l in
     let P : List Shape → Type 0 = λ ys. LieDownward R (slice_set core (from + at) v) from (a.cells ++ ys) in
     subst P (sym (puts_headed k a.head (words k below') p)) whole

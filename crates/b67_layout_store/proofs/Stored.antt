@@ -1,25 +1,24 @@
 -- A number stored into a cell that the running task names: the machine stands for the session with that cell changed.
-use Rattle.std.proofs.Common.{◌≡◌, ◌≢◌, ℕ, suc, ◌+◌, ◌-◌, ◌*◌, ◌<◌, ◌≤◌, List, [], ◌∷◌, flat_map, reverse, length, Some, Ok, unwrap_or, refl, sym, ◌∙◌, ap, arith, Bool, true, false, ◌==◌, ⊎_elim, inl, inr, subst, slice_set}
-use Rattle.std.specs.Prelude.{if◌then◌else◌, nat_lt}
+use Rattle.std.proofs.Common.{◌≡◌, ◌≢◌, ℕ, suc, ◌+◌, ◌-◌, ◌*◌, ◌<◌, ◌≤◌, List, [], ◌∷◌, flat_map, length, Some, unwrap_or, refl, sym, ◌∙◌, ap, arith, Bool, true, false, ◌==◌, ⊎_elim, inl, inr, subst, slice_set}
+use Rattle.std.specs.Prelude.{if◌then◌else◌}
 use Rattle.std.specs.List.{slice_get}
 use Rattle.std.specs.Option.{ok_or}
 use Rattle.std.proofs.lemmas.Bool.{cases_Bool, cases_lt, eq-eqb}
-use Rattle.std.proofs.lemmas.Option.{none-some}
 use Rattle.b67_core.proofs.Writes.{slice_get-set_other}
 use Rattle.b67_word.specs.Tagged.{Tagged, word}
 use Rattle.b67_word.specs.declared.couples.Place.{Place}
 use Rattle.b67_word.specs.declared.faults.Fault.TheVariants.{InvalidAddress}
 use Rattle.b67_ctl.specs.declared.registers.Regs.{Regs}
 use Rattle.b67_lemmas.specs.Lists.{Has}
+use Rattle.b67_lemmas.proofs.Members.{all_in, has_map_back, keyed_has, keyed_left, keyed-has}
 use Rattle.b67_model.specs.Keyed.{keyed}
 use Rattle.b67_model.specs.Words.{Word, Operand}
 use Rattle.b67_model.specs.State.{Frame, Task, Job, JobProgress, SessionJob, mcp, no_frame, frame, height}
-use Rattle.b67_model.specs.Cells.{first_offset, cell_of}
+use Rattle.b67_model.specs.Cells.{cell_of}
 use Rattle.b67_model.specs.Run.{number_of}
 use Rattle.b67_model.specs.Schedule.{Session}
 use Rattle.b67_model.specs.InOrder.{Known, known_of, identities, IsEntered, IsSegment, NamesEntered, EntryInOrder, IsInOrderButPlaces}
-use Rattle.b67_law_order.proofs.Members.{all_in, keyed_has, keyed_left, has_map_back, has_get, has_reverse_back}
-use Rattle.b67_law_order.proofs.Chases.{some_ok}
+use Rattle.b67_law_order.proofs.Chases.{cell_has}
 use Rattle.b67_law_order.proofs.Looks.{IsFrame, found_frame}
 use Rattle.b67_stack.specs.declared.Cpu.{Cpu}
 use Rattle.b67_stack.specs.Shapes.{Shape, Is}
@@ -31,7 +30,6 @@ use Rattle.b67_layout.specs.Placement.{Placement, slot_of, outer_spots, spots, a
 use Rattle.b67_layout.specs.Layout.{activations, stack_of_task, slot_with, machine_view}
 use Rattle.b67_layout.specs.Session.{RepresentsDictionary, RowHomes, PlanFits, vector_word, critical_mark, RepresentsTask, IsRunning, frame_address, ShowsDisplay, SessionHolds, RepresentsSession}
 use Rattle.b67_layout.specs.Meets.{here}
-use Rattle.b67_layout.proofs.Others.{keyed-has}
 use Rattle.b67_layout.proofs.Frames.{height-is}
 use Rattle.b67_layout.proofs.MachineViews.{with_course, member-same}
 use Rattle.b67_layout.proofs.Rows.{slot_below}
@@ -62,14 +60,6 @@ found_in id (f ∷ fs) h = ⊎_elim
     let r = found_in id fs more in
     rw t (inr r.0, r.1))
     (cases_Bool (f.identity == id))
-
-cell_has : (g : Frame) (offset : ℕ) (w : Word) → ok_or (cell_of g offset) InvalidAddress ≡ Ok w → Has g.cells w
-cell_has g offset w e =
-    let some : cell_of g offset ≡ Some w = some_ok (cell_of g offset) InvalidAddress w e in
-    ⊎_elim
-    (λ (t : nat_lt offset (first_offset g) ≡ true). absurd (none-some w (rw t at some)))
-    (λ (t : nat_lt offset (first_offset g) ≡ false). has_reverse_back g.cells w (has_get (reverse g.cells) (offset - first_offset g) w (rw t at some)))
-    (cases_Bool (nat_lt offset (first_offset g)))
 
 slot_puts : (c : Shape) (at : ℕ) (st st' : List Activation) (b : Bool) → Puts c at st st' → SlotPuts c at (if b then Running st else Waiting st) (if b then Running st' else Waiting st')
 slot_puts c at st st' true p = runs p

@@ -1,24 +1,23 @@
 -- The machine after a store into a cell of some slot's stack.
-use Rattle.std.proofs.Common.{◌≡◌, ◌≢◌, ℕ, suc, ◌+◌, ◌<◌, ◌≤◌, List, [], ◌∷◌, length, Option, Some, None, refl, sym, ◌∙◌, ap, arith, inl, inr, ◌⊎◌, ⊎_elim, subst, slice_set}
+use Rattle.std.proofs.Common.{◌≡◌, ◌≢◌, ℕ, suc, ◌+◌, ◌<◌, ◌≤◌, List, length, Some, refl, sym, ◌∙◌, ap, arith, inl, inr, ◌⊎◌, ⊎_elim, subst, slice_set}
 use Rattle.std.specs.List.{slice_get}
 use Rattle.std.proofs.Math.ListN.{length-set}
 use Rattle.std.proofs.lemmas.Bool.{cases_lt}
 use Rattle.b67_word.specs.Tagged.{Tagged}
 use Rattle.b67_ctl.specs.Layout.{toscw_word}
 use Rattle.b67_core.proofs.Writes.{slice_get-set_other}
-use Rattle.b67_area.specs.Spans.{Span, Area, Hole}
 use Rattle.b67_area.proofs.Climbs.{area_at-low}
-use Rattle.b67_area.proofs.Separation.{Controls, IsDirectory-same}
+use Rattle.b67_area.proofs.Separation.{IsDirectory-same, controls_above}
 use Rattle.b67_lemmas.specs.Lists.{Has}
 use Rattle.b67_ctl.specs.declared.registers.Regs.{Regs}
 use Rattle.b67_stack.specs.Shapes.{Copied, Shape, Copy, Fits, LieDownward}
 use Rattle.b67_stack.specs.Stacks.{Activation, IsStack, stack_words, words}
-use Rattle.b67_stack.specs.MachineView.{PagedObject, MachineView, Slot, Free, Running, Waiting, stack_of, slot_base, SlotFits, CopiesName, Laid, NoOriginalAboveTop, with_slot, words_of}
-use Rattle.b67_stack.specs.Represents.{Storage, RepresentsSlot, Content, Represents, info_of}
+use Rattle.b67_stack.specs.MachineView.{PagedObject, MachineView, Slot, Free, Running, Waiting, stack_of, slot_base, SlotFits, CopiesName, Laid, NoOriginalAboveTop, with_slot}
+use Rattle.b67_stack.specs.Represents.{Storage, RepresentsSlot, Represents, info_of}
 use Rattle.b67_stack.proofs.Bases.{base-apart}
-use Rattle.b67_stack.proofs.Lies.{Lie-same, Upward-same}
+use Rattle.b67_stack.proofs.Lies.{Lie-same}
 use Rattle.b67_stack.proofs.Heights.{words-length}
-use Rattle.b67_stack.proofs.Slots.{by_slot}
+use Rattle.b67_stack.proofs.Slots.{by_slot, Content-areas, slot_room}
 use Rattle.b67_layout_store.proofs.Puts.{Puts, puts_high, puts_mark, puts_level, puts_some, puts_heads, puts_lies, puts_has, puts_low}
 
 -- a live task's slot with another shape in a cell
@@ -48,25 +47,9 @@ slot_fits : {c : Shape} {at : ℕ} {y y' : Slot} (p : MachineView) (k : ℕ) →
 slot_fits p k plain (runs q) f = (stack_fits p.size q f.0, copies_name p.objects k plain q f.1)
 slot_fits p k plain (waits q) f = (stack_fits p.size q f.0, copies_name p.objects k plain q f.1)
 
-slot_room : (p : MachineView) (k : ℕ) (y : Slot) → SlotFits p k y → 0 < p.size → stack_words (stack_of y) < p.size
-slot_room p k Free f some = some
-slot_room p k (Running stack) f some = f.0.fits
-slot_room p k (Waiting stack) f some = f.0.fits
-
 slot_size : {c : Shape} {at : ℕ} {y y' : Slot} (p : MachineView) (k : ℕ) → SlotPuts c at y y' → SlotFits p k y → stack_words (stack_of y) < p.size
 slot_size p k (runs q) f = f.0.fits
 slot_size p k (waits q) f = f.0.fits
-
--- heads and tails of areas, and the first words of holes, lie above the slots
-controls_above : (at : ℕ) (ss : List Span) (i : ℕ) → Controls at ss i → at ≤ i
-controls_above at [] i c = absurd c
-controls_above at (Area a ∷ ss) i c = ⊎_elim (λ e. omega arith) (λ d. ⊎_elim (λ e. omega arith) (λ r. omega (arith, controls_above (at + (a.words + 2)) ss i r)) d) c
-controls_above at (Hole n ∷ ss) i c = ⊎_elim (λ e. omega arith) (λ r. omega (arith, controls_above (at + n) ss i r)) c
-
-Content-areas : (x : Storage) (old new : List Tagged) (t : PagedObject) (a : Option ℕ) (f : ℕ)
-    → ((b : ℕ) → a ≡ Some b → x.low ≤ b) → ((q : ℕ) → x.low ≤ q → slice_get new q ≡ slice_get old q) → Content x old t a f → Content x new t a f
-Content-areas x old new t (Some a) f up same c = (Upward-same old new a (words_of t) (λ q above below. same q (omega (arith, up a refl))) c.0, c.1)
-Content-areas x old new t None f up same c = c
 
 slot_stands : (old new : List Tagged) (r : Regs) (p p' : MachineView) (j : ℕ) (y : Slot) → slot_base p' j ≡ slot_base p j → p'.size ≡ p.size → slice_get new (slot_base p j) ≡ slice_get old (slot_base p j) → RepresentsSlot old r p j y → RepresentsSlot new r p' j y
 slot_stands old new r p p' j Free b z same t = (t.0, ap (slice_get new) b ∙ same ∙ t.1)

@@ -5,6 +5,7 @@ use Rattle.std.proofs.lemmas.List.{take-append-drop}
 use Rattle.b67_backing.specs.Shelf.{Table, Shelf, HasChain, IsShelf, Linked, AreChains, one, times, uses, first, chain_of, taken}
 use Rattle.b67_backing.specs.Held.{Holds, SameBut}
 use Rattle.b67_backing.proofs.Links.{Chain, chain_there, linked_within, rest, one-same, one-other, times-append, uses-split}
+use Rattle.b67_backing.proofs.News.{first_take}
 use Rattle.b67_lemmas.specs.Lists.{Has}
 use Rattle.b67_stack.specs.MachineView.{PagedObject}
 use Rattle.b67_load.specs.Objects.{sectors_of, sectors_of_all}
@@ -86,11 +87,6 @@ free_first t s x is has = ⊎_elim
 
       some : 1 ≤ times x (chain_of x s.chains)
       some = rw k.is (omega (arith, one-same x))
-
-pub first_take : (n : ℕ) (fs : List ℕ) → 1 ≤ n → first (take n fs) ≡ first fs
-first_take zero fs h = absurd (omega arith)
-first_take (suc n) [] h = refl
-first_take (suc n) (c ∷ cs) h = refl
 
 has_drop : (n : ℕ) (xs : List ℕ) (x : ℕ) → Has (drop n xs) x → Has xs x
 has_drop zero xs x h = h

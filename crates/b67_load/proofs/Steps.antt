@@ -8,6 +8,7 @@ use Rattle.b67_codefile.specs.Meaning.{segment_of, program_of}
 use Rattle.b67_model.specs.State as state
 use Rattle.b67_backing.specs.Held.{sectors_for}
 use Rattle.b67_lemmas.specs.Lists.{Has, total}
+use Rattle.b67_lemmas.proofs.Members.{total_append}
 use Rattle.b67_model.specs.Program.{Program}
 use Rattle.b67_stack.specs.MachineView.{PagedObject}
 use Rattle.b67_load.specs.Objects.{code_from, rows_from, objects_of, entries_of, sectors_of, sectors_of_all, sectors_of_program}
@@ -15,7 +16,7 @@ use Rattle.b67_load.specs.Resting.{placed, dictionary_mark, DescriptorsStand, Di
 use Rattle.b67_backing.specs.Shelf.{Shelf, IsShelf}
 use Rattle.b67_load.specs.Writing.{Parts, Spares, Writes}
 use Rattle.b67_codefile.specs.declared.file.Codefile.{Codefile}
-use Rattle.b67_load.proofs.Writing.{total-append, word_set, outside_set, writes_both, spares_both, spares_wider}
+use Rattle.b67_load.proofs.Writing.{word_set, outside_set, writes_both, spares_both, spares_wider}
 
 pub length-code_from : (at : ℕ) (segments : List state.Segment) → length (code_from at segments) ≡ length segments
 length-code_from at [] = refl
@@ -60,7 +61,7 @@ total-rows_from at (r ∷ more) = ap (λ (n : ℕ). sectors_for (length r) + n) 
 
 pub sectors-objects : (base : ℕ) (p : Program) → sectors_of_all (objects_of base p) ≡ sectors_of_program p
 sectors-objects base p =
-    omega (arith, total-append sectors_of (code_from (base + 2) p.segments) (rows_from (base + (2 + length p.segments)) p.rows), total-code_from (base + 2) p.segments, total-rows_from (base + (2 + length p.segments)) p.rows)
+    omega (arith, total_append sectors_of (code_from (base + 2) p.segments) (rows_from (base + (2 + length p.segments)) p.rows), total-code_from (base + 2) p.segments, total-rows_from (base + (2 + length p.segments)) p.rows)
 
 -- segments lie where they begin and below their end
 pub code_low : (at : ℕ) (segments : List state.Segment) (t : PagedObject) → Has (code_from at segments) t → (at ≤ t.home) × (t.home < at + length segments)
@@ -71,7 +72,7 @@ code_low at (s ∷ more) t (inr h) = let (low, high) = code_low (at + 1) more t 
 pub sectors-parts : (base : ℕ) (f : Codefile) (segments : List Segment) (rows : List (List Tagged)) → segments ≡ f.segments → rows ≡ f.rows
     → sectors_of_all (code_from (base + 2) (map segment_of segments)) + sectors_of_all (rows_from (base + (2 + length segments)) (map contents rows)) ≡ sectors_of_all (objects_of base (program_of f))
 sectors-parts base f segments rows e q =
-    rw (← e, ← q, length-map segments segment_of) (sym (total-append sectors_of (code_from (base + 2) (map segment_of segments)) (rows_from (base + (2 + length segments)) (map contents rows))))
+    rw (← e, ← q, length-map segments segment_of) (sym (total_append sectors_of (code_from (base + 2) (map segment_of segments)) (rows_from (base + (2 + length segments)) (map contents rows))))
 
 -- segments and then rows
 pub all_written : {D : Type 0} (tell : D → Option (List (List ℕ))) (base : ℕ) (f : Codefile) (segments : List Segment) (rows : List (List Tagged)) (a b c : Parts D) → segments ≡ f.segments → rows ≡ f.rows

@@ -7,24 +7,18 @@ use Rattle.b67_core.proofs.Writes.{slice_get-set_same, slice_get-set_other}
 use Rattle.b67_codefile.specs.Spelling.{HasTag}
 use Rattle.b67_backing.specs.Shelf.{Shelf, IsShelf, first, taken}
 use Rattle.b67_backing.specs.Held.{Changes, SameBut, Stores, Holds, sectors_for}
-use Rattle.b67_lemmas.specs.Lists.{Has, total}
+use Rattle.b67_backing.proofs.News.{first_take}
+use Rattle.b67_lemmas.specs.Lists.{Has}
+use Rattle.b67_lemmas.proofs.Members.{has_append_cases, total_append}
 use Rattle.b67_stack.specs.MachineView.{PagedObject, words_of, home_word}
+use Rattle.b67_stack.specs.Shapes.{at_rest}
 use Rattle.b67_load.specs.Objects.{sectors_of, sectors_of_all}
-use Rattle.b67_load.specs.Resting.{Resting, placed, stocked, at_rest, descriptor, DescriptorsStand, WordsRest, WritesFreeSectors, SameOutside}
+use Rattle.b67_load.specs.Resting.{Resting, placed, stocked, descriptor, DescriptorsStand, WordsRest, WritesFreeSectors, SameOutside}
 use Rattle.b67_load.specs.Writing.{Parts, Spares, Writes}
-use Rattle.b67_load.proofs.Shelves.{first_take, keeps_taken, keeps-refl, keeps_both, stocked-append, placed-append, stocked_has, placed_chain, placed_object, holds_stay, chain_apart, times-take_drop, none_more}
+use Rattle.b67_load.proofs.Shelves.{keeps_taken, keeps-refl, keeps_both, stocked-append, placed-append, stocked_has, placed_chain, placed_object, holds_stay, chain_apart, times-take_drop, none_more}
 
 same_but_both : (ms ns : List ℕ) (a b c : List (List ℕ)) → ((m : ℕ) → Has ns m → Has ms m) → SameBut ms a b → SameBut ns b c → SameBut ms a c
 same_but_both ms ns a b c more s t = record { count = t.count ∙ s.count; others = λ m low out. t.others m low (none_more ms ns m (more m) out) ∙ s.others m low out }
-
-pub total-append : {A : Type 0} (f : A → ℕ) (xs ys : List A) → total f (xs ++ ys) ≡ total f xs + total f ys
-total-append f [] ys = omega arith
-total-append f (x ∷ xs) ys = omega (arith, total-append f xs ys)
-
-pub has_parts : {A : Type 0} (xs ys : List A) (x : A) → Has (xs ++ ys) x → Has xs x ⊎ Has ys x
-has_parts [] ys x h = inr h
-has_parts (y ∷ xs) ys x (inl e) = inl (inl e)
-has_parts (y ∷ xs) ys x (inr h) = ⊎_elim (λ k. inl (inr k)) (λ k. inr k) (has_parts xs ys x h)
 
 -- the words of a list with one tag are those of their bits
 pub words_back : (tag : ℕ) (ws : List Tagged) → AllByRecursion (HasTag tag) ws → map (word tag) (contents ws) ≡ ws
@@ -161,13 +155,13 @@ module _ {D : Type 0} (tell : D → Option (List (List ℕ))) where
             },
           );
     };
-    left = omega (arith, w.left, v.left, total-append sectors_of xs ys);
+    left = omega (arith, w.left, v.left, total_append sectors_of xs ys);
   } where
     both_stand : (st : Shelf) → IsShelf a.table st → DescriptorsStand c.core (placed xs st.free ++ placed ys (stocked xs st).free)
     both_stand st is r h = ⊎_elim
         (λ (k : Has (placed xs st.free) r). s.outside r.object.home (apart r.object (placed_object xs st.free r k)) ∙ w.descriptors st is r k)
         (λ (k : Has (placed ys (stocked xs st).free) r). v.descriptors (stocked xs st) (w.shelf st is) r k)
-        (has_parts (placed xs st.free) (placed ys (stocked xs st).free) r h)
+        (has_append_cases (placed xs st.free) (placed ys (stocked xs st).free) r h)
 
     both_rest : (st : Shelf) → IsShelf a.table st → (y z : List (List ℕ)) → {x : List (List ℕ)} → WritesFreeSectors xs st.free x y → WritesFreeSectors ys (stocked xs st).free y z
         → WordsRest z (placed xs st.free ++ placed ys (stocked xs st).free)
@@ -177,7 +171,7 @@ module _ {D : Type 0} (tell : D → Option (List (List ℕ))) where
         (λ d i. let p = chain_apart b.table (stocked xs st) r.chain d (w.shelf st is) (placed_chain xs st r k) i in (p.low, p.not_free))
         (one.rest r k))
         (λ (k : Has (placed ys (stocked xs st).free) r). two.rest r k)
-        (has_parts (placed xs st.free) (placed ys (stocked xs st).free) r h)
+        (has_append_cases (placed xs st.free) (placed ys (stocked xs st).free) r h)
 
   -- a loop over objects whose descriptors follow each other: what is written so far, with what is still written, is what
   -- all of it writes

@@ -1,12 +1,12 @@
 -- Objects that are in sectors alone.
-use Rattle.std.specs.Prelude.{◌≡◌, ℕ, ◌+◌, ◌*◌, ◌^◌, ◌<◌, ◌≤◌, ◌⊎◌, List, [], ◌∷◌, length, map, take, drop, Some, None, slice_get}
+use Rattle.std.specs.Prelude.{◌≡◌, ℕ, ◌+◌, ◌*◌, ◌^◌, ◌<◌, ◌≤◌, ◌⊎◌, List, [], ◌∷◌, length, map, take, drop, Some, slice_get}
 use Rattle.b67_word.specs.Tagged.{Tagged, word}
 use Rattle.b67_core.specs.Numbers.{number}
 use Rattle.b67_backing.specs.Shelf.{Shelf, first, chain_of, taken}
 use Rattle.b67_backing.specs.Held.{Holds, SameBut}
 use Rattle.b67_lemmas.specs.Lists.{Has}
 use Rattle.b67_model.specs.Program.{Program}
-use Rattle.b67_stack.specs.Shapes.{Location}
+use Rattle.b67_stack.specs.Shapes.{at_rest}
 use Rattle.b67_stack.specs.MachineView.{PagedObject, home_word, words_of}
 use Rattle.b67_load.specs.Objects.{sectors_of, objects_of, entries_of}
 
@@ -24,10 +24,6 @@ placed (t ∷ more) free = record { object = t; chain = take (sectors_of t) free
 abbrev pub stocked : List PagedObject → Shelf → Shelf
 stocked [] s = s
 stocked (t ∷ more) s = stocked more (taken (sectors_of t) s)
-
--- absent from core, in the chain that begins with a sector
-abbrev pub at_rest : ℕ → Location
-at_rest sector = record { area = None; chain = sector }
 
 -- the descriptor of a object that rests
 abbrev pub descriptor : Resting → Tagged

@@ -3,19 +3,20 @@ use Rattle.std.proofs.Common.{◌≡◌, ◌≢◌, ℕ, ◌<◌, List, [], ◌�
 use Rattle.std.proofs.lemmas.Bool.{ne_eqb}
 use Rattle.b67_word.specs.declared.couples.Place.{Place}
 use Rattle.b67_lemmas.specs.Lists.{Has, Falls}
+use Rattle.b67_lemmas.proofs.Members.{falls_low, has_map}
 use Rattle.b67_model.specs.Words.{Word}
 use Rattle.b67_model.specs.State.{Frame, Marked, Condition, Ready, Awaits, WaitsAt, Task, Job, SessionJob, top, below_top, with_top_cells}
 use Rattle.b67_model.specs.Keyed.{change_keyed}
 use Rattle.b67_model.specs.Intrinsics.{answered}
 use Rattle.b67_model.specs.Schedule.{Session}
 use Rattle.b67_model.specs.InOrder.{Known, known_of, known_numbers, from_frame, outer_of, reach_of, IsEntered, NamesEntered, ConditionInOrder, IsInOrderButPlaces}
-use Rattle.b67_law_order.proofs.Members.{has_map, falls_low}
 use Rattle.b67_stack.specs.Stacks.{StackPlace}
 use Rattle.b67_layout.specs.Placement.{Placement, spot_in}
 use Rattle.b67_layout.specs.Session.{IsRunning}
 use Rattle.b67_layout.specs.Meets.{here}
 use Rattle.b67_layout.proofs.Fresh.{running_in_order}
 use Rattle.b67_layout.proofs.Steps.{seen-with}
+use Rattle.b67_layout.proofs.Whole.{spots-with}
 use Rattle.b67_layout_leave.proofs.Slots.{IsDependedOn, Replaces}
 use Rattle.b67_layout_leave.proofs.Leaves.{Leaver, Frames-below}
 use Rattle.b67_mcp_calls.specs.Calls.{MayCut}
@@ -31,10 +32,6 @@ not_waited g rest bound f marked falls names e = by names.among
         let same : g.standing ≡ names.standing = ap (λ (k : Known). k.1) is in
         subst IsEntered (sym same ∙ marked) names.entered
     by (inr k) = let low : f < g.identity = falls_low g.identity (known_numbers rest) f falls.1 (has_map (λ (k : Known). k.0) rest (f, names.standing) k) in omega (arith, low, e)
-
-spots-with : (k : ℕ) (o : ℕ → StackPlace) (fs : List Frame) (cells : List Word) (id : ℕ) → spot_in k o (with_top_cells fs cells) id ≡ spot_in k o fs id
-spots-with k o [] cells id = refl
-spots-with k o (f ∷ below) cells id = refl
 
 module _ (plan : Placement) (s : Session) (m : SessionJob) (t : Task) (o : IsInOrderButPlaces s) (runs : IsRunning plan s.jobs m t) (may : MayCut m t) where
   cut : Cut m t

@@ -1,11 +1,12 @@
 -- The rows of jobs where READ took a number.
-use Rattle.std.proofs.Common.{◌≡◌, ℕ, zero, suc, ◌-◌, ◌<◌, ◌≤◌, ◌^◌, List, [], ◌∷◌, ◌++◌, length, map, take, drop, Some, Result, Ok, Err, refl, sym, ◌∙◌, ap, arith, inl, inr, ◌⊎◌, subst, slice_set}
+use Rattle.std.proofs.Common.{◌≡◌, ℕ, zero, suc, ◌-◌, ◌<◌, ◌≤◌, ◌^◌, List, [], ◌∷◌, length, map, Some, Result, Ok, Err, refl, sym, ◌∙◌, ap, arith, inl, inr, ◌⊎◌, subst, slice_set}
 use Rattle.std.specs.List.{slice_get}
-use Rattle.std.proofs.lemmas.Option.{same_Some, none-some}
 use Rattle.b67_word.specs.Tagged.{Tagged}
 use Rattle.b67_word.specs.declared.faults.Fault.{Fault}
 use Rattle.b67_word.specs.declared.couples.Place.{Place}
 use Rattle.b67_lemmas.specs.Lists.{Has}
+use Rattle.b67_lemmas.proofs.Members.{has_get, keyed-has}
+use Rattle.b67_lemmas.proofs.Places.{at_mapped, map-slice_set, mapped_at, put_back}
 use Rattle.b67_model.specs.Words.{Word, Operand}
 use Rattle.b67_model.specs.State.{Task, SessionJob, top, below_top}
 use Rattle.b67_model.specs.Intrinsics.{answered, read_from}
@@ -17,16 +18,15 @@ use Rattle.b67_layout.specs.Rows as rows
 use Rattle.b67_layout.specs.Rows.{JobShows, TablesShow}
 use Rattle.b67_layout.specs.Session.{IsRunning}
 use Rattle.b67_layout.specs.Meets.{here, with_job}
-use Rattle.b67_layout.proofs.Others.{keyed-has}
 use Rattle.b67_mcp_calls.specs.Reads.{job_read, IsRead, ReadMeets}
 use Rattle.b67_task_tables.specs.declared.tables.JobRow.{JobRow}
 use Rattle.b67_task_tables.specs.declared.tables.Tasks.{Tasks}
 use Rattle.b67_task_tables.specs.Tables.{task_row, job_row, counts_of, TasksShow}
-use Rattle.b67_task_switch.proofs.Lists.{at_has, mapped_at, at_mapped, map-slice_set}
-use Rattle.b67_task_switch.proofs.Tables.{numbered_low, job_at}
+use Rattle.b67_task_switch.proofs.Tables.{job_at}
 use Rattle.b67_mcp.specs.Called.{AreCountable}
 use Rattle.b67_mcp.proofs.Tables.{jobs_put, tables_after}
 use Rattle.b67_mcp.proofs.Frames.{replaces_answered, waits_answered}
+use Rattle.b67_law_order.proofs.Numbered.{numbered_low}
 
 -- the row of a job
 pub record JobIn (tasks : Tasks) (plan : Placement) (m : SessionJob) : Type 0 where
@@ -42,25 +42,12 @@ job_in tasks plan s m t o h runs =
     let (row, at, same) = mapped_at job_row tasks.jobs (m.constants.number - 1) b.row b.at in
     record { row = row; at = at; shows = subst (λ (r : rows.JobRow). JobShows plan m r) (sym same) b.shows; from_one = numbered_low 1 s.jobs m o.numbered inm }
 
--- an item put where it stands
-pub put_back : {A : Type 0} (xs : List A) (i : ℕ) (x : A) → slice_get xs i ≡ Some x → slice_set xs i x ≡ xs
-put_back [] i x e = absurd (none-some x e)
-put_back (y ∷ ys) zero x e = ap (λ z. z ∷ ys) (sym (same_Some y x e))
-put_back (y ∷ ys) (suc i) x e = ap (λ zs. y ∷ zs) (put_back ys i x e)
-
 has_put : {A : Type 0} (xs : List A) (i : ℕ) (x z : A) → Has (slice_set xs i x) z → Has xs z ⊎ (x ≡ z)
 has_put [] i x z h = absurd h
 has_put (y ∷ ys) zero x z (inl e) = inr e
 has_put (y ∷ ys) zero x z (inr k) = inl (inr k)
 has_put (y ∷ ys) (suc i) x z (inl e) = inl (inl e)
 has_put (y ∷ ys) (suc i) x z (inr k) = elim (has_put ys i x z k) [ inl h ↦ inl (inr h) | inr e ↦ inr e ]
-
--- a list that was lent and comes back with its length
-pub came_back : {A : Type 0} (xs ws : List A) → length ws ≡ length xs → take (length xs) (ws ++ drop (length ws) xs) ≡ ws
-came_back [] [] e = refl
-came_back [] (w ∷ ws) e = absurd (omega (arith, e))
-came_back (x ∷ xs) [] e = absurd (omega (arith, e))
-came_back (x ∷ xs) (w ∷ ws) e = ap (λ r. w ∷ r) (came_back xs ws (omega (arith, e)))
 
 pub tasks_same : (tasks tasks' : Tasks) (i : ℕ) (row new : JobRow) → slice_get tasks.jobs i ≡ Some row → tasks'.jobs ≡ slice_set tasks.jobs i new → new ≡ row → tasks' ≡ record tasks { jobs = tasks'.jobs } → tasks' ≡ tasks
 tasks_same tasks tasks' i row new at is same rest =
@@ -77,7 +64,7 @@ countable_read plan m t arguments jobs jobs' i old new answer at is meets few = 
     (elim (has_put jobs i new row (subst (λ (l : List JobRow). Has l row) is h)) [
       | inl k ↦ few row k
       | inr e ↦
-          let low : length old.numbers < 2 ^ 32 = few old (at_has jobs i old at) in
+          let low : length old.numbers < 2 ^ 32 = few old (has_get jobs i old at) in
           subst (λ (r : JobRow). length r.numbers < 2 ^ 32) e (omega (arith, low, ap length (same_numbers plan m t arguments old new answer meets)))
     ])
 

@@ -11,14 +11,15 @@ use Rattle.b67_layout.specs.Placement.{Placement}
 use Rattle.b67_layout.specs.Rows as rows
 use Rattle.b67_layout.specs.Rows.{RunningRow}
 use Rattle.b67_layout.specs.Session.{IsRunning, RepresentsSession}
-use Rattle.b67_layout.proofs.Others.{keyed-has}
 use Rattle.b67_layout.proofs.Rows.{slot_below}
 use Rattle.b67_layout.proofs.Sessions.{running_only}
 use Rattle.b67_task_tables.specs.declared.tables.TaskRow.{TaskRow}
 use Rattle.b67_task_tables.specs.declared.tables.Tasks.{Tasks}
 use Rattle.b67_task_tables.specs.Tables.{task_row, TasksShow}
-use Rattle.b67_task_switch.proofs.Lists.{at_has, mapped_at}
-use Rattle.b67_task_switch.proofs.Tables.{first_member, live_in_order}
+use Rattle.b67_task_switch.proofs.Tables.{live_in_order}
+use Rattle.b67_lemmas.proofs.Members.{has_get, keyed-has}
+use Rattle.b67_lemmas.proofs.Places.{mapped_at}
+use Rattle.b67_law_order.proofs.Numbered.{keyed_member}
 
 pub record RowOf (tasks : Tasks) (m : SessionJob) (t : Task) : Type 0 where
   pub row : TaskRow
@@ -38,8 +39,8 @@ row_of x cpu tasks plan s m t o h shows runs = by (slice_get (map task_row tasks
     by None e r = absurd (omega (arith, low, r.1))
     by (Some row) e r =
         let (found, at, same) = mapped_at task_row tasks.rows.items tasks.running row e in
-        let (y, u, iny, inu, w) = shows.tasks row (at_has (map task_row tasks.rows.items) tasks.running row e) in
-        let running : IsRunning plan s.jobs y u = record { member = first_member 1 s.jobs y o.numbered iny; task = live_in_order s y u o iny inu; slot = sym r.1 ∙ w.slot } in
+        let (y, u, iny, inu, w) = shows.tasks row (has_get (map task_row tasks.rows.items) tasks.running row e) in
+        let running : IsRunning plan s.jobs y u = record { member = keyed_member 1 s.jobs y o.numbered iny; task = live_in_order s y u o iny inu; slot = sym r.1 ∙ w.slot } in
         let P : SessionJob → Task → Type 0 = λ z v. (row.job ≡ z.constants.number) × (row.number ≡ v.number) in
         let is = running_only plan s.jobs y m u t P h.holds.fits.rows running runs (w.job, w.number) in
         record { row = found; at = at; job = ap (λ (z : rows.TaskRow). z.job) same ∙ is.0; number = ap (λ (z : rows.TaskRow). z.number) same ∙ is.1 }

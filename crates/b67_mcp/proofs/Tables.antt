@@ -5,23 +5,23 @@ use Rattle.std.proofs.lemmas.Option.{same_Some, none-some}
 use Rattle.std.proofs.lemmas.Bool.{cases_eq}
 use Rattle.std.proofs.lemmas.Bool.Decides.{eqb_tells}
 use Rattle.b67_lemmas.specs.Lists.{Has}
+use Rattle.b67_lemmas.proofs.Members.{has_change, keyed-has}
 use Rattle.b67_model.specs.State.{Frame, Condition, Ready, Awaits, WaitsAt, Task, Job, JobProgress, SessionJob}
 use Rattle.b67_model.specs.Keyed.{keyed, change_keyed}
 use Rattle.b67_model.specs.Run.{number_of}
 use Rattle.b67_model.specs.Schedule.{Session}
 use Rattle.b67_model.specs.InOrder.{from_frame, frames_of_task, NumberedFrom, IsInOrderButPlaces}
-use Rattle.b67_law_order.proofs.Members.{has_change}
 use Rattle.b67_stack.specs.Stacks.{StackPlace}
 use Rattle.b67_layout.specs.Placement.{Placement, slot_of, spot_in, base_spot, outer_spots, address_of}
 use Rattle.b67_layout.specs.Rows.{RowState, WaitsAtCell, TaskRow, JobRow, Counts, shown, critical_disp, TaskShows, JobShows, JobsShow, TablesShow}
 use Rattle.b67_layout.specs.Session.{IsRunning}
 use Rattle.b67_layout.specs.Meets.{with_job}
-use Rattle.b67_layout.proofs.Others.{keyed-has}
 use Rattle.b67_layout.proofs.Fresh.{running_in_order}
 use Rattle.b67_layout.proofs.MachineViews.{member-same}
 use Rattle.b67_layout.proofs.Sessions.{change-has, change-kept}
 use Rattle.b67_layout_leave.proofs.Slots.{IsDependedOn, Replaces, task-same, task-other, outer_spots-after}
-use Rattle.b67_task_switch.proofs.Tables.{first_member, live_in_order}
+use Rattle.b67_task_switch.proofs.Tables.{live_in_order}
+use Rattle.b67_law_order.proofs.Numbered.{keyed_member}
 
 -- a frame stands among those from it down where it stands among all
 from-same : (k c : ℕ) (o : ℕ → StackPlace) (fs : List Frame) → spot_in k o (from_frame c fs) c ≡ spot_in k o fs c
@@ -162,7 +162,7 @@ module _ (plan : Placement) (s : Session) (m : SessionJob) (t t' : Task) (job' :
     | inl k ↦ elim (cases_eq (number_of y) m.constants.number) [
       | inr ne ↦ inl (k, ne)
       | inl e ↦
-          let first = first_member 1 (with_job s m job').jobs y (numbered_change 1 m.constants.number (record m.progress { job = job' }) s.jobs o.numbered) h in
+          let first = keyed_member 1 (with_job s m job').jobs y (numbered_change 1 m.constants.number (record m.progress { job = job' }) s.jobs o.numbered) h in
           inr (same_Some y after (sym first ∙ ap (λ (n : ℕ). keyed number_of n (with_job s m job').jobs) e ∙ member-same s.jobs m.constants.number (record m.progress { job = job' }) m runs.member))
     ]
   ]
@@ -183,7 +183,7 @@ module _ (plan : Placement) (s : Session) (m : SessionJob) (t t' : Task) (job' :
   shown_by rows row y u iny inu w = elim (cases_eq (number_of y) m.constants.number) [
     | inr ne ↦ (y, u, kept_member y iny ne, inu, w)
     | inl e ↦
-        let same : m ≡ y = sym (same_Some y m (sym (first_member 1 s.jobs y o.numbered iny) ∙ ap (λ (n : ℕ). keyed number_of n s.jobs) e ∙ runs.member)) in
+        let same : m ≡ y = sym (same_Some y m (sym (keyed_member 1 s.jobs y o.numbered iny) ∙ ap (λ (n : ℕ). keyed number_of n s.jobs) e ∙ runs.member)) in
         let P : SessionJob → Type 0 = λ z. Has z.progress.job.tasks u × TaskShows plan z u row in
         let (int, shows) = subst P (sym same) (inu, w) in
         elim (cases_eq u.number t.number) [

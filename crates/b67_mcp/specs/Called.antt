@@ -1,5 +1,5 @@
 -- What the call of an intrinsic answers, prints and leaves.
-use Rattle.std.specs.Prelude.{◌≡◌, ◌≢◌, ℕ, ◌≤◌, ◌<◌, ◌^◌, ◌⊎◌, List, [], ◌∷◌, length, slice_get, Option, Some, None, Result, Ok, Err}
+use Rattle.std.specs.Prelude.{◌≡◌, ◌≢◌, ℕ, ◌≤◌, ◌<◌, ◌⊎◌, List, [], ◌∷◌, slice_get, Option, Some, None, Result, Ok, Err}
 use Rattle.b67_lemmas.specs.Lists.{Has}
 use Rattle.b67_model.specs.State.{Array, Task, Job, SessionJob}
 use Rattle.b67_model.specs.Steps.{Line, Goes}
@@ -18,17 +18,13 @@ use Rattle.b67_exec_cells.specs.Running.{code_area}
 use Rattle.b67_exec_cells.specs.Called.{called_in}
 use Rattle.b67_single.specs.Single.{task_lines}
 use Rattle.b67_session_lines.specs.Parts.{TookRest, TookMore}
-use Rattle.b67_task_tables.specs.declared.tables.JobRow.{JobRow}
 use Rattle.b67_task_tables.specs.declared.tables.Machine.{Machine}
 use Rattle.b67_task_tables.specs.Tables.{MachineRepresents}
+pub use Rattle.b67_task_tables.specs.Tables.{AreCountable}
 use Rattle.b67_mcp.specs.declared.ends.CallEnd.{CallEnd}
 use Rattle.b67_mcp.specs.declared.ends.CallEnd.TheVariants as ends
 use Rattle.b67_mcp.specs.declared.ends.Stop.{Stop}
 use Rattle.b67_mcp.specs.declared.ends.Stop.TheVariants as stops
-
--- each job has fewer numbers than the tables can count
-abbrev pub AreCountable : List JobRow → Type 0
-AreCountable rows = (r : JobRow) → Has rows r → length r.numbers < 2 ^ 32
 
 -- the operator calls no intrinsic, or one that is built
 abbrev pub CallsBuilt : SessionJob → Task → Type 0

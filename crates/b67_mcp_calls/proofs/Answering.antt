@@ -11,7 +11,6 @@ use Rattle.b67_model.specs.State.{Frame, Task, Job, SessionJob, height, top, bel
 use Rattle.b67_model.specs.Intrinsics.{answered}
 use Rattle.b67_model.specs.Schedule.{Session}
 use Rattle.b67_model.specs.InOrder.{IsInOrderButPlaces}
-use Rattle.b67_law_order.proofs.Members.{change_twice}
 use Rattle.b67_stack.specs.declared.Cpu.{Cpu}
 use Rattle.b67_stack.specs.Shapes.{Fits}
 use Rattle.b67_stack.specs.Represents.{Storage}
@@ -21,7 +20,6 @@ use Rattle.b67_layout.specs.Placement.{Placement, outer_spots}
 use Rattle.b67_layout.specs.Layout.{machine_view}
 use Rattle.b67_layout.specs.Session.{IsRunning, RepresentsSession}
 use Rattle.b67_layout.specs.Meets.{here, with_job, IsInStack}
-use Rattle.b67_layout.proofs.Others.{keyed-has, keyed-put_same}
 use Rattle.b67_layout.proofs.Sessions.{change-has}
 use Rattle.b67_layout.proofs.MachineViews.{member-same}
 use Rattle.b67_layout.proofs.Frames.{height-is}
@@ -32,6 +30,7 @@ use Rattle.b67_mcp_calls.specs.Calls.{MayCut, job_cut}
 use Rattle.b67_mcp_calls.proofs.Cuts.{cut_of}
 use Rattle.b67_mcp_calls.specs.Answered.{job_answered}
 use Rattle.b67_mcp_calls.proofs.Pushed.{stack, shaped, on_slot, registers, stands_pushed}
+use Rattle.b67_lemmas.proofs.Members.{change_twice, change_found, keyed-has}
 
 -- the task and the job's member without the call
 abbrev pub task_cut : SessionJob → Task → Place → Task
@@ -55,7 +54,7 @@ module _ (x : Storage) (old mid : Cpu) (plan : Placement) (s : Session) (m : Ses
   pub runs_cut : IsRunning plan (with_job s m (job_cut m t q)).jobs (member_cut m t q) (task_cut m t q)
   runs_cut = record {
     member = member-same s.jobs m.constants.number (record m.progress { job = job_cut m t q }) m runs.member;
-    task = keyed-put_same (λ (u : Task). u.number) t.number (task_cut m t q) t refl m.progress.job.tasks runs.task;
+    task = change_found (λ (u : Task). u.number) t.number t (task_cut m t q) m.progress.job.tasks refl runs.task;
     slot = runs.slot;
   }
 

@@ -8,6 +8,7 @@ use Rattle.b67_word.specs.declared.couples.Place.{Place}
 use Rattle.b67_area.specs.declared.Kind.TheVariants.{Array}
 use Rattle.b67_ctl.specs.Descriptors.{data_word}
 use Rattle.b67_lemmas.specs.Lists.{Has}
+use Rattle.b67_lemmas.proofs.Members.{change_twice, keyed-has}
 use Rattle.b67_model.specs.Words.{Original}
 use Rattle.b67_model.specs.State.{Frame, Task, SessionJob, below_top}
 use Rattle.b67_model.specs.Keyed.{keyed}
@@ -15,9 +16,8 @@ use Rattle.b67_model.specs.Run.{number_of}
 use Rattle.b67_model.specs.Schedule.{Session}
 use Rattle.b67_model.specs.Intrinsics.{answered}
 use Rattle.b67_model.specs.InOrder.{IsSegment, JobInOrder, IsInOrderButPlaces}
-use Rattle.b67_law_order.proofs.Members.{change_twice}
 use Rattle.b67_stack.specs.declared.Cpu.{Cpu}
-use Rattle.b67_stack.specs.Shapes.{IsOriginal}
+use Rattle.b67_stack.specs.Shapes.{IsOriginal, nowhere}
 use Rattle.b67_stack.specs.MachineView.{AreZero, home_desc, home_word_of}
 use Rattle.b67_stack.specs.Represents.{Storage}
 use Rattle.b67_stack.specs.Changes.{pushed}
@@ -25,16 +25,15 @@ use Rattle.b67_layout.specs.Placement.{Placement}
 use Rattle.b67_layout.specs.Session.{IsRunning, RepresentsSession}
 use Rattle.b67_layout.specs.Meets.{here, with_job}
 use Rattle.b67_layout.proofs.Fresh.{running_in_order}
-use Rattle.b67_layout.proofs.Others.{keyed-has}
 use Rattle.b67_layout.proofs.Sessions.{change-has}
-use Rattle.b67_layout_leave.proofs.Settles.{keyed_member}
 use Rattle.b67_layout_enter.proofs.Awaits.{with_job-twice}
 use Rattle.b67_mcp_calls.specs.Calls.{MayCut, job_cut}
-use Rattle.b67_mcp_calls.specs.Declaring.{nowhere, without, with_home, new_array, job_declared}
+use Rattle.b67_mcp_calls.specs.Declaring.{without, with_home, new_array, job_declared}
 use Rattle.b67_mcp_calls.proofs.Answering.{task_cut, member_cut, runs_cut, higher}
 use Rattle.b67_mcp_calls.proofs.Avoiding.{FramesAvoid, JobAvoids, job_avoids, row_avoids}
 use Rattle.b67_mcp_calls.proofs.Replanned.{stands-there}
 use Rattle.b67_mcp_calls.proofs.Declaring.{Declares, stands_declared}
+use Rattle.b67_law_order.proofs.Numbered.{keyed_member}
 
 home_here : (plan : Placement) (j n at : ℕ) → (with_home plan j n at).home j n ≡ at
 home_here plan j n at = rw (eq-eqb j j refl, eq-eqb n n refl) refl

@@ -23,7 +23,6 @@ use Rattle.b67_layout.specs.Placement.{Placement, spot_in, outer_spots}
 use Rattle.b67_layout.specs.Layout.{shape, head, activations, machine_view}
 use Rattle.b67_layout.specs.Session.{RepresentsTask, IsRunning, ShowsDisplay, RepresentsSession, SessionHoldsBut, RepresentsSessionBut}
 use Rattle.b67_layout.specs.Meets.{objects_gone, with_job}
-use Rattle.b67_layout.proofs.Others.{keyed-has}
 use Rattle.b67_layout.proofs.Fresh.{fresh, running_in_order}
 use Rattle.b67_layout.proofs.Gone.{no_objects_gone}
 use Rattle.b67_layout.proofs.Starts.{slot_is, runs_here}
@@ -36,6 +35,7 @@ use Rattle.b67_layout_leave.proofs.Leaves.{Leaver, task_at, may_leave, below-sam
 use Rattle.b67_layout_leave.proofs.Orders.{left_ready}
 use Rattle.b67_mcp_calls.specs.Calls.{MayCut, job_cut}
 use Rattle.b67_mcp_calls.proofs.Owned.{arrays_stay}
+use Rattle.b67_lemmas.proofs.Members.{keyed-has}
 
 -- a marked frame without an original on top, on which no live task depends
 pub record Cut (m : SessionJob) (t : Task) : Type 0 where

@@ -8,6 +8,7 @@ use Rattle.b67_area.specs.declared.Kind.TheVariants as kind
 use Rattle.b67_ctl.specs.declared.registers.Regs.{Regs}
 use Rattle.b67_core.proofs.Writes.{slice_get-set_same, slice_get-set_other}
 use Rattle.b67_lemmas.specs.Lists.{Has}
+use Rattle.b67_lemmas.proofs.Members.{has_append_cases, has_append_left, has_append_right, has_flat, has_flat_back, keyed-has}
 use Rattle.b67_model.specs.Words as Words
 use Rattle.b67_model.specs.Words.{Word, Operand, Name, Ref, Row, Element, Original, Proc, Intrinsic}
 use Rattle.b67_model.specs.State.{Frame, Array, Task, Job, JobProgress, SessionJob, top, with_top_cells}
@@ -15,11 +16,9 @@ use Rattle.b67_model.specs.Arrays.{array, no_array}
 use Rattle.b67_model.specs.Keyed.{keyed, change_keyed}
 use Rattle.b67_model.specs.Run.{number_of}
 use Rattle.b67_model.specs.Schedule.{Session}
-use Rattle.b67_model.specs.InOrder.{known_of}
-use Rattle.b67_law_order.proofs.Members.{has_append_left, has_append_right, has_append_cases, has_flat}
 use Rattle.b67_stack.specs.declared.Cpu.{Cpu}
 use Rattle.b67_stack.specs.Shapes as Shapes
-use Rattle.b67_stack.specs.Shapes.{Shape, IsOriginal}
+use Rattle.b67_stack.specs.Shapes.{Shape, IsOriginal, nowhere}
 use Rattle.b67_stack.specs.Stacks.{StackPlace, Activation, stack_words}
 use Rattle.b67_stack.specs.MachineView.{PagedObject, Slot, Running, stack_of, MachineView, NoOriginalAboveTop, AreZero, slot_base, home_word_of}
 use Rattle.b67_stack.specs.Represents.{Storage, RepresentsRunning, Represents}
@@ -29,26 +28,27 @@ use Rattle.b67_stack.proofs.Slots.{by_slot, running_fits}
 use Rattle.b67_layout_storage.proofs.Helds.{held-same}
 use Rattle.b67_layout.specs.Placement.{Placement, slot_of, spot_in, outer_spots, spots}
 use Rattle.b67_layout.specs.Layout.{shape, stack_of_task, slot_at, code_objects, array_object, objects_of, machine_view}
-use Rattle.b67_layout.specs.Session.{RepresentsTask, IsRunning, ShowsDisplay, critical_mark, SessionHolds, RepresentsSession}
+use Rattle.b67_layout.specs.Session.{RepresentsTask, IsRunning, ShowsDisplay, SessionHolds, RepresentsSession}
 use Rattle.b67_layout.specs.Meets.{with_job}
-use Rattle.b67_layout.proofs.Others.{keyed-has}
 use Rattle.b67_layout.proofs.MachineViews.{with_course, member-same}
 use Rattle.b67_layout.proofs.Rows.{row_of}
 use Rattle.b67_layout.proofs.Sessions.{change-has, change-kept}
-use Rattle.b67_layout.proofs.Steps.{activations-with, seen-with}
+use Rattle.b67_layout.proofs.Steps.{activations-with, seen-with, critical-with}
 use Rattle.b67_layout.proofs.Displays.{Shows-same}
-use Rattle.b67_layout_leave.proofs.Objects.{of_objects, has_flat_back}
+use Rattle.b67_layout.proofs.Whole.{spots-with}
+use Rattle.b67_layout_leave.proofs.Objects.{of_objects}
 use Rattle.b67_layout_leave.proofs.Nowhere.{SameArray, SameArrays, activations-same}
 use Rattle.b67_layout_leave.proofs.Slots.{Replaces, OthersSame, outer_spots-after, stack-after, slots-after}
 use Rattle.b67_layout_leave.proofs.Holds.{SessionHoldsBut-after, for_running}
 use Rattle.b67_exec_cells.specs.Tops.{cells}
 use Rattle.b67_exec_cells.proofs.Replaced.{cells-are}
-use Rattle.b67_mcp_calls.specs.Declaring.{nowhere, without}
+use Rattle.b67_mcp_calls.specs.Declaring.{without}
 use Rattle.b67_mcp_calls.proofs.Pushed.{stack, on_slot, registers, room}
 use Rattle.b67_mcp_calls.proofs.Avoiding.{Avoids, FramesAvoid, JobAvoids}
 use Rattle.b67_mcp_calls.proofs.Unheld.{Represents-unheld}
 use Rattle.b67_mcp_calls.proofs.Added.{Fresh, Added, each, Represents-added}
 use Rattle.b67_mcp_calls.proofs.Originals.{next_apart, Represents-original}
+use Rattle.b67_law_order.proofs.Looks.{known_cells}
 
 -- the task with the original of an array on top
 abbrev pub task_with : Task → ℕ → Task
@@ -97,18 +97,6 @@ original_same old new n (f ∷ fs) ws g h = ((tt, g), h.1)
 top_same : (old new : Job) (fs : List Frame) → SameArrays new old fs → AllByRecursion (SameArray new old) (top fs).cells
 top_same old new [] h = tt
 top_same old new (f ∷ fs) h = h.0
-
-critical-with : (j : Job) (fs : List Frame) (ws : List Word) → critical_mark j (with_top_cells fs ws) ≡ critical_mark j fs
-critical-with j [] ws = refl
-critical-with j (f ∷ below) ws = refl
-
-known-with : (fs : List Frame) (ws : List Word) → map known_of (with_top_cells fs ws) ≡ map known_of fs
-known-with [] ws = refl
-known-with (f ∷ below) ws = refl
-
-spots-with : (k : ℕ) (outer : ℕ → StackPlace) (fs : List Frame) (ws : List Word) (id : ℕ) → spot_in k outer (with_top_cells fs ws) id ≡ spot_in k outer fs id
-spots-with k outer [] ws id = refl
-spots-with k outer (f ∷ below) ws id = refl
 
 -- the objects with the array's
 module _ (plan : Placement) (jobs : List SessionJob) (m : SessionJob) (t : Task) (job : Job) (a : Array) (at : ℕ) (d : Declares plan m t job a at) (found : keyed number_of m.constants.number jobs ≡ Some m) where
@@ -310,7 +298,7 @@ module _ (x : Storage) (cpu : Cpu) (plan : Placement) (s : Session) (m : Session
       λ z i. outer_spots-after plan m.constants.number m.progress.job job t t' by t.parents t.critical (inr (t, has_t, refl)) i z in
       ap (λ (q : ℕ → StackPlace). spot_in (slot_of plan m.constants.number t.number) q t'.frames id) outer
       ∙ spots-with (slot_of plan m.constants.number t.number) (outer_spots plan m.constants.number m.progress.job t.critical t.parents) t.frames (Original a.identity ∷ cells t) id) in
-      let shown : ShowsDisplay cpu.display plan (record m { progress = c }) t' = Shows-same cpu.display plan m c t t' runs.task d.tasks (known-with t.frames (Original a.identity ∷ cells t)) places (h.shows m t runs) in
+      let shown : ShowsDisplay cpu.display plan (record m { progress = c }) t' = Shows-same cpu.display plan m c t t' runs.task d.tasks (known_cells t.frames (Original a.identity ∷ cells t)) places (h.shows m t runs) in
       record {
         holds = SessionHoldsBut-after [] [] y cpu.core core' cpu.regs regs' cpu.critical plan s m c t t' holds runs by low (critical-with m.progress.job t.frames (Original a.identity ∷ cells t)) memory (subst NoOriginalAboveTop (sym machine_view_is) settled') task_stands;
         shows = for_running [] [] y cpu.core core' cpu.regs regs' cpu.critical plan s m c t t' holds runs by (ShowsDisplay cpu.display plan) shown;

@@ -4,11 +4,11 @@ use Rattle.std.specs.List.{AllByRecursion}
 use Rattle.std.proofs.lemmas.Bool.{cases_eq}
 use Rattle.std.proofs.lemmas.Bool.Decides.{eqb_tells}
 use Rattle.b67_lemmas.specs.Lists.{Has}
+use Rattle.b67_lemmas.proofs.Members.{all_in, falls_same}
 use Rattle.b67_model.specs.Words.{Word, Original}
 use Rattle.b67_model.specs.State.{Frame, Array, Task, JobConstants, Job}
 use Rattle.b67_model.specs.Intrinsics.{is_original}
 use Rattle.b67_model.specs.InOrder.{EntryInOrder, frames_named}
-use Rattle.b67_law_order.proofs.Members.{all_in, falls_same}
 use Rattle.b67_layout_leave.proofs.Objects.{others}
 use Rattle.b67_layout_leave.proofs.Nowhere.{IsOnTop, high, live, under, elsewhere}
 use Rattle.b67_layout_leave.proofs.Originals.{original_of}

@@ -18,7 +18,13 @@ use Rattle.b67_layout.specs.Placement.{Placement}
 use Rattle.b67_layout.specs.Meets.{here}
 use Rattle.b67_exec_cells.specs.Tops.{cells, GivesTop}
 use Rattle.b67_exec_operands.proofs.Rows.{operand_seen, plain_operand}
-use Rattle.b67_mcp_calls.specs.Calls.{IsCall, PrintMeets, number_in}
+use Rattle.b67_mcp_calls.specs.Calls.{IsCall, OnlyCell, PrintMeets, number_in}
+
+-- the top one of two cells
+pub only_cell : (x : Storage) (plan : Placement) (m : SessionJob) (t : Task) (cpu : Cpu) (cs : List Word) → length cs ≡ 2 → (found : Result Tagged Fault) → GivesTop x plan m t cpu cs found → OnlyCell x plan m t cpu cs found
+only_cell x plan m t cpu [] two found g = absurd cc
+only_cell x plan m t cpu (b ∷ rest) two (Ok w) g = (two, g)
+only_cell x plan m t cpu (b ∷ rest) two (Err fault) (v, e, at) = absurd cc
 
 module _ (m : SessionJob) (t : Task) (r : Word) (arguments : List Word) (call : IsCall t r arguments) where
   count : length (cells t) ≡ suc (length arguments)
@@ -52,11 +58,6 @@ module _ (m : SessionJob) (t : Task) (r : Word) (arguments : List Word) (call : 
       by (b ∷ a ∷ w ∷ more) e two rev = absurd cc
 
   module _ (x : Storage) (plan : Placement) (cpu : Cpu) (two : length (cells t) ≡ 2) where
-    pub no_fault : (fault : Fault) → GivesTop x plan m t cpu (cells t) (Err fault) → ⊥
-    no_fault fault g =
-        let P : List Word → Type 0 = λ cs. GivesTop x plan m t cpu cs (Err fault) in
-        let (v, e, at) = subst P (one two).cells_are g in cc
-
     pub value_is : (v : Tagged) → GivesTop x plan m t cpu (cells t) (Ok v) → number_in v ≡ whole (one two).argument
     value_is v g =
         let P : List Word → Type 0 = λ cs. GivesTop x plan m t cpu cs (Ok v) in

@@ -6,7 +6,7 @@ use Rattle.b67_word.specs.Tagged.{Tagged}
 use Rattle.b67_area.specs.declared.Info.{Info}
 use Rattle.b67_ctl.specs.declared.registers.Regs.{Regs}
 use Rattle.b67_lemmas.specs.Lists.{Has}
-use Rattle.b67_stack.specs.Shapes.{Location, Fits}
+use Rattle.b67_stack.specs.Shapes.{Location, Fits, nowhere}
 use Rattle.b67_stack.specs.Stacks.{words}
 use Rattle.b67_stack.specs.MachineView.{PagedObject, MachineView, home_word, slot_base, stack_of}
 use Rattle.b67_stack.specs.Represents.{Storage, Content, StacksLie, RepresentsObject, Owned, Represents, info_of}
@@ -14,7 +14,7 @@ use Rattle.b67_stack.proofs.Lies.{Lie-each}
 use Rattle.b67_layout_storage.proofs.Helds.{held-other, held-same}
 use Rattle.b67_layout_storage.proofs.Words.{copy_other}
 use Rattle.b67_layout_storage.proofs.Reheld.{Content-stays}
-use Rattle.b67_mcp_calls.specs.Declaring.{nowhere, without}
+use Rattle.b67_mcp_calls.specs.Declaring.{without}
 
 module _ (x : Storage) (core : List Tagged) (r : Regs) (p : MachineView) (at : ℕ) (s : Represents x core r p) (apart : (t : PagedObject) → Has p.objects t → t.home ≢ at) where
   abbrev y : Storage

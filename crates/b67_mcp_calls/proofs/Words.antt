@@ -1,10 +1,9 @@
 -- The words of a live array in core, and their values.
-use Rattle.std.proofs.Common.{◌≡◌, ℕ, zero, suc, ◌+◌, ◌-◌, ℤ, List, [], ◌∷◌, map, length, take, drop, Option, Some, None, Ok, Err, refl, sym, ◌∙◌, ap, arith, Bool, true, false, subst}
+use Rattle.std.proofs.Common.{◌≡◌, ℕ, ◌+◌, ℤ, List, [], ◌∷◌, map, length, Option, Some, None, Ok, Err, refl, sym, ◌∙◌, ap, Bool, true, false, subst}
 use Rattle.std.specs.Prelude.{if◌then◌else◌}
-use Rattle.std.specs.List.{slice_get, slice_range}
-use Rattle.std.proofs.lemmas.Option.{same_Some, none-some}
+use Rattle.std.specs.List.{slice_range}
 use Rattle.std.proofs.lemmas.List.{length-map}
-use Rattle.b67_word.specs.Tagged.{Tagged, word}
+use Rattle.b67_word.specs.Tagged.{word}
 use Rattle.b67_word.specs.Operands.{is_whole, number_of}
 use Rattle.b67_word.specs.declared.faults.Fault.TheVariants.{Exponent}
 use Rattle.b67_area.specs.declared.Kind.TheVariants as kind
@@ -18,17 +17,17 @@ use Rattle.b67_model.specs.Schedule.{Session}
 use Rattle.b67_model.specs.InOrder.{IsInOrderButPlaces}
 use Rattle.b67_stack.specs.declared.Cpu.{Cpu}
 use Rattle.b67_stack.specs.Shapes.{LieUpward}
-use Rattle.b67_stack.specs.MachineView.{tag_of}
 use Rattle.b67_stack.specs.Represents.{Storage, Content}
+use Rattle.b67_stack.proofs.Lies.{upward-range}
 use Rattle.b67_layout.specs.Placement.{Placement}
 use Rattle.b67_layout.specs.Layout.{array_object}
 use Rattle.b67_layout.specs.Session.{IsRunning, RepresentsSession}
 use Rattle.b67_layout.specs.Meets.{area_held}
-use Rattle.b67_layout.proofs.Others.{keyed-has}
 use Rattle.b67_exec_cells.proofs.Replaced.{array_object-has}
 use Rattle.b67_exec_cells.specs.Elements.{HasElement}
-use Rattle.b67_exec_cells.proofs.Arrays.{array_is}
+use Rattle.b67_exec_cells.proofs.Arrays.{array_is, tag_by}
 use Rattle.b67_mcp_calls.specs.Texts.{joined, values_of}
+use Rattle.b67_lemmas.proofs.Members.{keyed-has}
 
 -- the values of a row's numbers, or EXPONENT
 abbrev pub answer_of : Option (List ℤ) → Answer (List ℤ)
@@ -46,27 +45,6 @@ numbers_are [] = refl
 numbers_are (n ∷ ns) =
     ap (λ (a : Answer (List ℤ)). number n >>= λ v. a >>= λ vs. Ok (v ∷ vs)) (numbers_are ns)
     ∙ joins (is_whole n) (Rattle.b67_word.specs.Operands.value_of n) (values_of (map (word 0) ns))
-
-drop-get : {A : Type 0} (xs : List A) (i : ℕ) (v : A) → slice_get xs i ≡ Some v → drop i xs ≡ v ∷ drop (suc i) xs
-drop-get [] i v e = absurd (none-some v e)
-drop-get (x ∷ xs) zero v e = ap (λ y. y ∷ xs) (same_Some x v e)
-drop-get (x ∷ xs) (suc i) v e = drop-get xs i v e
-
-upward-take : (core : List Tagged) (at : ℕ) (ws : List Tagged) → LieUpward core at ws → take (length ws) (drop at core) ≡ ws
-upward-take core at [] u = refl
-upward-take core at (w ∷ ws) u =
-    let next : at + 1 ≡ suc at = omega arith in
-    let rest : take (length ws) (drop (suc at) core) ≡ ws = subst (λ n. take (length ws) (drop n core) ≡ ws) next (upward-take core (at + 1) ws u.1) in
-    rw (drop-get core at w u.0) (ap (λ ys. w ∷ ys) rest)
-
-upward-range : (core : List Tagged) (at n : ℕ) (ws : List Tagged) → n ≡ length ws → LieUpward core at ws → slice_range core at (at + n) ≡ ws
-upward-range core at n ws e u =
-    let count : at + n - at ≡ length ws = omega (arith, e) in
-    ap (λ k. take k (drop at core)) count ∙ upward-take core at ws u
-
-tag_by : (a : Array) (b : Bool) → a.writable ≡ b → tag_of (if a.writable then kind.Array else kind.Row) ≡ 0
-tag_by a true e = rw e refl
-tag_by a false e = rw e refl
 
 module _ (x : Storage) (cpu : Cpu) (plan : Placement) (s : Session) (m : SessionJob) (t : Task) (ordered : IsInOrderButPlaces s) (h : RepresentsSession x cpu plan s) (runs : IsRunning plan s.jobs m t) (n : ℕ) (e : HasElement m.progress.job n 0) where
   pub row_words : (at : ℕ) → area_held x plan m.constants.number n ≡ Some at → slice_range cpu.core at (at + length (array m.progress.job n).numbers) ≡ map (word 0) (array m.progress.job n).numbers

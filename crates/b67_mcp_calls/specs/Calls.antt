@@ -1,9 +1,10 @@
 -- A call of an intrinsic: the marked activation record on top, with a reference and arguments in its cells.
-use Rattle.std.specs.Prelude.{◌≡◌, ℤ, false, List, [], ◌∷◌, reverse, None, Result, Ok, Err}
+use Rattle.std.specs.Prelude.{◌≡◌, ◌≢◌, ℤ, false, List, [], ◌∷◌, length, reverse, None, Result, Ok, Err}
 use Rattle.std.specs.List.{AllByRecursion}
 use Rattle.b67_word.specs.Tagged.{Tagged}
 use Rattle.b67_word.specs.declared.couples.Place.{Place}
 use Rattle.b67_word.specs.declared.faults.Fault.{Fault}
+use Rattle.b67_word.specs.declared.faults.Fault.TheVariants.{InvalidOperand}
 use Rattle.b67_model.specs.Answers.{Answer, ◌>>=◌}
 use Rattle.b67_model.specs.Words.{Word, number}
 use Rattle.b67_model.specs.State.{Marked, Task, Job, SessionJob, top, with_task}
@@ -11,7 +12,10 @@ use Rattle.b67_model.specs.Steps.{Value, Goes, is_critical}
 use Rattle.b67_model.specs.Intrinsics.{is_original, answered, print}
 use Rattle.b67_arith.specs.OnWords.{bits_in}
 use Rattle.b67_stack.specs.declared.Cpu.{Cpu}
+use Rattle.b67_stack.specs.Represents.{Storage}
+use Rattle.b67_layout.specs.Placement.{Placement}
 use Rattle.b67_layout.specs.Meets.{RunsSome, here}
+use Rattle.b67_exec_cells.specs.Tops.{GivesTop}
 
 -- the cells of a call from the first one up: the reference and the arguments
 pub record IsCall (t : Task) (reference : Word) (arguments : List Word) : Type 0 where
@@ -40,6 +44,11 @@ pub record CallSome (cpu : Cpu) : Type 0 where
   pub reference : Word
   pub arguments : List Word
   pub call : IsCall runs.task reference arguments
+
+-- two cells, the upper of which is the argument; or a call with another number of arguments
+abbrev pub OnlyCell : Storage → Placement → SessionJob → Task → Cpu → List Word → Result Tagged Fault → Type 0
+OnlyCell x plan m t cpu cs (Ok w) = (length cs ≡ 2) × GivesTop x plan m t cpu cs (Ok w)
+OnlyCell x plan m t cpu cs (Err fault) = (length cs ≢ 2) × (fault ≡ InvalidOperand)
 
 -- the number of a word, if it is a whole operand
 abbrev pub number_in : Tagged → Answer ℤ

@@ -8,7 +8,7 @@ use Rattle.b67_model.specs.Words.{Word, Original}
 use Rattle.b67_model.specs.State.{Array, Task, Job, SessionJob, top, below_top, with_task}
 use Rattle.b67_model.specs.Steps.{Goes}
 use Rattle.b67_model.specs.Intrinsics.{answered, array_length, arraydec}
-use Rattle.b67_stack.specs.Shapes.{Location}
+use Rattle.b67_stack.specs.Shapes.{nowhere}
 use Rattle.b67_stack.specs.Represents.{Storage}
 use Rattle.b67_layout_storage.specs.Machine.{holding}
 use Rattle.b67_layout.specs.Placement.{Placement}
@@ -28,10 +28,6 @@ job_declared m t n next =
 -- the plan in which the original of an array of a job stands at an address
 abbrev pub with_home : Placement → ℕ → ℕ → ℕ → Placement
 with_home plan j a at = record plan { home = λ i b. if (i == j) && (b == a) then at else plan.home i b }
-
--- in no area and in no chain
-abbrev pub nowhere : Location
-nowhere = record { area = None; chain = 0 }
 
 -- the storage that holds nothing of what is known by an address
 abbrev pub without : Storage → ℕ → Storage

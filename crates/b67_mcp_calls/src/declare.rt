@@ -9,11 +9,10 @@ ghost use Rattle.b67_model.specs.Words as words;
 ghost use Rattle.b67_mcp_calls.specs.Declaring as definition;
 ghost use Rattle.b67_mcp_calls.specs.Declaring.{job_declared, with_home, without, LengthMeets};
 
-use crate::answer::put;
 use crate::calls::cut_call;
+use crate::only::only_argument;
 use b67_ctl::DataDesc;
 use b67_entry::is_critical;
-use b67_exec_cells::{count_cells, top_cell};
 use b67_stack::Cpu;
 use b67_word::{Fault, Place, Word};
 
@@ -38,10 +37,7 @@ pub fn array_length(cpu: &Cpu) -> Result<u32, Fault>
     requires { CallSome cpu.now }
     ensures row { ForEach cpu.now (λ x plan s m t. (reference : words.Word) (arguments : List words.Word) → IsCall t reference arguments → LengthMeets m t arguments result) }
 {
-    if count_cells(cpu) != 2 {
-        return Err(Fault::InvalidOperand);
-    }
-    let w = match top_cell(cpu) {
+    let w = match only_argument(cpu) {
         Ok(w) => w,
         Err(fault) => return Err(fault),
     };
@@ -73,5 +69,5 @@ pub fn answer_array(cpu: &mut Cpu, length: u32, next: Place)
         length,
         address: 0,
     };
-    put(cpu, original.word());
+    cpu.put(original.word());
 }

@@ -5,17 +5,12 @@ use Rattle.std.proofs.lemmas.Bool.{cases_eq, cond-true, eq-eqb}
 use Rattle.b67_backing.specs.Shelf.{Shelf, Table, IsShelf, Linked, times, uses, first, taken, given, chain_of, others}
 use Rattle.b67_backing.specs.Held.{sectors_for, SameBut, Stores, Holds}
 use Rattle.b67_backing.proofs.Links.{one-same, one-other, times-append, uses-split, chain_there, rest, linked_within}
-use Rattle.b67_backing.proofs.News.{chain_of-others}
+use Rattle.b67_backing.proofs.News.{chain_of-others, first_take}
 use Rattle.b67_backing.proofs.Tallies.{AllBelow}
 use Rattle.b67_backing.proofs.Walks.{all_below}
 use Rattle.b67_stack.specs.Represents.{Told}
 use Rattle.b67_layout_storage.specs.Machine.{Says, content_after}
 use Rattle.b67_overlay.specs.Overlaid.{sectors_out}
-
-first_take : (n : ℕ) (fs : List ℕ) → 1 ≤ n → first (take n fs) ≡ first fs
-first_take zero fs h = absurd (omega arith)
-first_take (suc n) [] h = refl
-first_take (suc n) (c ∷ cs) h = refl
 
 -- a chain that is taken and given back
 pub given_taken : (n x : ℕ) (st : Shelf) → 1 ≤ n → n ≤ length st.free → x ≡ first st.free → given x (taken n st) ≡ st

@@ -1,9 +1,8 @@
 -- The sectors of objects after an array was written, or was not.
-use Rattle.std.proofs.Common.{◌≡◌, ◌≢◌, ℕ, zero, suc, ◌+◌, ◌-◌, ◌<◌, ◌≤◌, ◌^◌, ◌==◌, List, [], ◌∷◌, length, map, take, drop, Option, Some, None, refl, sym, ◌∙◌, ap, arith, inl, inr, ◌⊎◌, ⊎_elim, subst}
+use Rattle.std.proofs.Common.{◌≡◌, ◌≢◌, ℕ, zero, suc, ◌+◌, ◌-◌, ◌<◌, ◌≤◌, ◌^◌, ◌==◌, List, [], ◌∷◌, length, map, take, drop, Option, Some, refl, sym, ◌∙◌, ap, arith, inl, inr, ◌⊎◌, ⊎_elim, subst}
 use Rattle.std.specs.Prelude.{slice_range}
-use Rattle.std.specs.List.{slice_get}
 use Rattle.std.proofs.lemmas.Bool.{cases_eq, cond-true, cond-false, eq-eqb, ne_eqb}
-use Rattle.std.proofs.lemmas.Option.{same_Some, none-some}
+use Rattle.std.proofs.lemmas.Option.{same_Some}
 use Rattle.b67_word.specs.Tagged.{Tagged}
 use Rattle.b67_core.specs.Numbers.{number}
 use Rattle.b67_area.specs.declared.Kind.{Kind}
@@ -18,37 +17,17 @@ use Rattle.b67_stack.specs.Shapes.{Locations, LieUpward}
 use Rattle.b67_stack.specs.MachineView.{PagedObject, MachineView, words_of}
 use Rattle.b67_stack.specs.Represents.{Storage, Represents, Content, KeptChain, HasChain, HoldsIn, Told, StacksLie, info_of}
 use Rattle.b67_stack.proofs.Homes.{chain_small}
+use Rattle.b67_stack.proofs.Lies.{upward-take}
 use Rattle.b67_layout_storage.specs.Machine.{IsPresent, Says, content_after}
 use Rattle.b67_layout_storage.proofs.Helds.{held-back}
 use Rattle.b67_layout_storage.proofs.Reheld.{Reheld, storage_with, Represents-reheld}
 use Rattle.b67_layout_storage.proofs.Unchanged.{area_of_object, area_bounds}
+use Rattle.b67_layout_storage.proofs.Chained.{Content-chain}
 use Rattle.b67_overlay.specs.Overlaid.{chain_out, shelf_out, sectors_out, retelling, overlaid, dropped, IsOut}
 use Rattle.b67_overlay.proofs.Chains.{Apart, chains_apart, free_apart, free_first, Told-same, Told-stored, retold-same}
 
--- the words from a place on, as a list
-drop_get : {A : Type 0} (xs : List A) (i : ℕ) (v : A) → slice_get xs i ≡ Some v → drop i xs ≡ v ∷ drop (suc i) xs
-drop_get {A} [] i v e = absurd (none-some v e)
-drop_get {A} (x ∷ xs) zero v e = ap (λ (y : A). y ∷ xs) (same_Some x v e)
-drop_get {A} (x ∷ xs) (suc i) v e = drop_get xs i v e
-
-take_up : (core : List Tagged) (at : ℕ) (ws : List Tagged) → LieUpward core at ws → take (length ws) (drop at core) ≡ ws
-take_up core at [] u = refl
-take_up core at (w ∷ ws) u =
-    ap (take (suc (length ws))) (drop_get core at w u.0) ∙ ap (λ (r : List Tagged). w ∷ r) (ap (λ (i : ℕ). take (length ws) (drop i core)) (let e : suc at ≡ at + 1 = omega arith in e) ∙ take_up core (at + 1) ws u.1)
-
 pub range_up : (core : List Tagged) (at n : ℕ) (ws : List Tagged) → length ws ≡ n → LieUpward core at ws → slice_range core at (at + n) ≡ ws
-range_up core at n ws e u = ap (λ (k : ℕ). take k (drop at core)) (let z : at + n - at ≡ length ws = omega arith in z) ∙ take_up core at ws u
-
--- a object's chain, if it has one
-Keeps-chain : (x : Storage) (t : PagedObject) (k : Kind) (f : ℕ) → KeptChain x t k f → (f ≡ 0) ⊎ HasChain x t f
-Keeps-chain x t Array f c = c
-Keeps-chain x t Row f c = inr c.chain
-Keeps-chain x t Code f c = inr c.chain
-
-Content-chain : (x : Storage) (core : List Tagged) (t : PagedObject) (a : Option ℕ) (f : ℕ) → Content x core t a f → (f ≡ 0) ⊎ HasChain x t f
-Content-chain x core t (Some a) f c = Keeps-chain x t t.kind f c.1
-Content-chain x core t None f (inl h) = inr h.chain
-Content-chain x core t None f (inr z) = inl z.0
+range_up core at n ws e u = ap (λ (k : ℕ). take k (drop at core)) (let z : at + n - at ≡ length ws = omega arith in z) ∙ upward-take core at ws u
 
 pub sectors_some : (n : ℕ) → 0 < n → 1 ≤ sectors_for n
 sectors_some n h = omega arith

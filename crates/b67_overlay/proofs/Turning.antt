@@ -1,5 +1,5 @@
 -- The search, word by word and slot by slot.
-use Rattle.std.proofs.Common.{◌≡◌, ℕ, ◌+◌, ◌<◌, ◌≤◌, ◌^◌, List, [], ◌∷◌, length, Some, None, refl, sym, ◌∙◌, ap, arith, inl, inr, ◌⊎◌, ⊎_elim, slice_set}
+use Rattle.std.proofs.Common.{◌≡◌, ℕ, ◌+◌, ◌<◌, ◌≤◌, ◌^◌, List, length, Some, None, refl, sym, ◌∙◌, ap, arith, inl, inr, ◌⊎◌, ⊎_elim, slice_set}
 use Rattle.std.specs.List.{slice_get}
 use Rattle.std.proofs.lemmas.Bool.{cases_eq, cases_lt}
 use Rattle.std.proofs.lemmas.Option.{same_Some, none-some}
@@ -8,11 +8,11 @@ use Rattle.b67_core.proofs.Writes.{slice_get-set_same, slice_get-set_other}
 use Rattle.b67_ctl.specs.declared.marks.Toscw.{Toscw}
 use Rattle.b67_ctl.specs.declared.registers.Regs.{Regs}
 use Rattle.b67_ctl.specs.Layout.{toscw_word, IsToscw}
-use Rattle.b67_stack.specs.Stacks.{Activation, Head, Marked, Entered, stack_words, mark_place, toscw_of}
+use Rattle.b67_stack.specs.Stacks.{Activation, stack_words, toscw_of}
 use Rattle.b67_stack.specs.MachineView.{MachineView, Slot, Free, Running, Waiting, SlotFits, stack_of, slot_base}
 use Rattle.b67_stack.specs.Represents.{Storage, RepresentsSlot, Represents}
 use Rattle.b67_stack.proofs.Bases.{base-apart}
-use Rattle.b67_stack.proofs.Tops.{level-small}
+use Rattle.b67_stack.proofs.Tops.{level-small, mark_high}
 use Rattle.b67_layout_storage.proofs.Reheld.{RepresentsSlots-same}
 use Rattle.b67_layout_storage.proofs.Unchanged.{base_low}
 use Rattle.b67_overlay.specs.Turns.{Turns, TurnsAt, InStack, Searched, Lies}
@@ -29,7 +29,7 @@ top_low p low k (Waiting stack) f base end = omega (arith, f.0.fits)
 pub stack_low : (core : List Tagged) (r : Regs) (low : ℕ) (p : MachineView) (k : ℕ) → Lies core r low p → k < p.peak → slot_base p k + stack_words (stack_of (p.slots k)) < low
 stack_low core r low p k l h = top_low p low k (p.slots k) (l.slots.laid.slots k h) (l.base k h) (omega (arith, base-apart p k p.peak h, l.slots.laid.low))
 
-slot_high : (p : MachineView) (k : ℕ) (y : Slot) → SlotFits p k y → (stack_words (stack_of y) ≡ 0) ⊎ (stack_words (stack_of y) < p.size)
+pub slot_high : (p : MachineView) (k : ℕ) (y : Slot) → SlotFits p k y → (stack_words (stack_of y) ≡ 0) ⊎ (stack_words (stack_of y) < p.size)
 slot_high p k Free f = inl refl
 slot_high p k (Running stack) f = inr f.0.fits
 slot_high p k (Waiting stack) f = inr f.0.fits
@@ -108,13 +108,6 @@ Lies-turned old new r low p k hk size rest l = Lies-same old new r low p size sa
 
 pub Searched-none : (p : MachineView) (area original : ℕ) (core : List Tagged) → Searched p 0 area original core core
 Searched-none p area original core = record { size = refl; turned = λ k h. absurd (omega arith); others = λ i out. refl }
-
-mark_high : (stack : List Activation) → mark_place stack ≤ stack_words stack
-mark_high [] = omega arith
-mark_high (a ∷ below) = head a.head where
-  head : (h : Head) → stack_words below + 1 ≤ stack_words (record { head = h; cells = a.cells } ∷ below)
-  head Marked = omega arith
-  head (Entered level environment back) = omega arith
 
 -- the top of a stack that doesn't run, by its base word
 module _ (core : List Tagged) (r : Regs) (p : MachineView) (k : ℕ) (w : Tagged) (get : slice_get core (slot_base p k) ≡ Some w) (not : r.slot ≡ k → ⊥) (room : p.size < 2 ^ 14) where

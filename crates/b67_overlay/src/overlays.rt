@@ -22,23 +22,6 @@ use b67_ctl::{DataDesc, SegDesc};
 use b67_stack::Cpu;
 use b67_word::Word;
 
-/// The word of an absent original.
-fn original(read_only: bool, words: u32, first: u32) -> Word
-    requires words { words < 2 ^ 20 }
-    requires first { first < 2 ^ 20 }
-    ensures { result ≡ data_word (home_desc read_only words (record { area = None; chain = first })) }
-{
-    DataDesc {
-        present: false,
-        copy: false,
-        indexed: false,
-        read_only,
-        length: words,
-        address: first,
-    }
-    .word()
-}
-
 /// The word of the original or segment descriptor of a object that isn't in core.
 fn absent_word(info: Info, first: u32) -> Word
     requires words { info.words < 2 ^ 20 }
@@ -46,8 +29,8 @@ fn absent_word(info: Info, first: u32) -> Word
     ensures { result ≡ home_word_of info.kind info.words (record { area = None; chain = first }) }
 {
     match info.kind {
-        Kind::Array => original(false, info.words, first),
-        Kind::Row => original(true, info.words, first),
+        Kind::Array => DataDesc::original(false, false, info.words, first),
+        Kind::Row => DataDesc::original(false, true, info.words, first),
         Kind::Code => SegDesc {
             present: false,
             words: info.words,

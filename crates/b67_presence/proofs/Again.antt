@@ -10,6 +10,7 @@ use Rattle.b67_stack.specs.MachineView.{MachineView, NoOriginalAboveTop}
 use Rattle.b67_stack.specs.Represents.{Storage, Represents}
 use Rattle.b67_layout_storage.specs.Machine as storage
 use Rattle.b67_layout_storage.specs.Machine.{Says, content_after, Stayed}
+use Rattle.b67_layout_storage.proofs.Devices.{says_of}
 use Rattle.b67_layout.specs.Placement.{Placement}
 use Rattle.b67_layout.specs.Layout.{machine_view}
 use Rattle.b67_layout.specs.Session.{RepresentsSession}
@@ -20,10 +21,6 @@ use Rattle.b67_task_tables.specs.Tables.{MachineRepresents}
 use Rattle.b67_presence.specs.Bringing.{StandsOver, StandsAgain}
 use Rattle.b67_presence.proofs.Others.{others_alike, others_show}
 use Rattle.b67_presence.proofs.Seen.{Sees}
-
-says_of : (d told : Option (List (List ℕ))) → told ≡ d → Says d told
-says_of None told e = tt
-says_of (Some all) told e = e
 
 -- a machine over a device that tells what its storage says
 pub over : (x : Storage) (told : Option (List (List ℕ))) (k : Machine) (plan : Placement) (s : Session) → MachineRepresents x told k plan s → StandsOver x told k plan s

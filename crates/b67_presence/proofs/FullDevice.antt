@@ -1,7 +1,5 @@
 -- Where an array that keeps no chain needs more sectors than are free, a session takes more than there are.
 use Rattle.std.proofs.Common.{◌≡◌, ℕ, ◌+◌, ◌≤◌, List, [], ◌∷◌, map, flat_map, length, Option, Some, None, refl, sym, ◌∙◌, arith, inl, inr, subst}
-use Rattle.std.specs.Prelude.{sum_by}
-use Rattle.std.proofs.lemmas.List.Sums.{sum_by-cons}
 use Rattle.b67_word.specs.Tagged.{Tagged}
 use Rattle.b67_area.specs.declared.Kind.{Kind}
 use Rattle.b67_area.specs.declared.Kind.TheVariants.{Array, Row, Code}
@@ -9,10 +7,11 @@ use Rattle.b67_area.specs.declared.Areas.{Areas}
 use Rattle.b67_backing.specs.Shelf.{Table, chain_of}
 use Rattle.b67_backing.specs.Held.{sectors_for}
 use Rattle.b67_lemmas.specs.Lists.{Has, total}
+use Rattle.b67_lemmas.proofs.Members.{has_map, total_append, total_flat, total_map, total_same}
+use Rattle.b67_lemmas.proofs.Sums.{sum_total, total_gap}
 use Rattle.b67_model.specs.State as State
 use Rattle.b67_model.specs.State.{Segment, SessionJob}
 use Rattle.b67_model.specs.Sectors.{sectors_of, sectors}
-use Rattle.b67_law_order.proofs.Members.{has_map, total_same, total_append, total_map, total_flat}
 use Rattle.b67_stack.specs.declared.Cpu.{Cpu}
 use Rattle.b67_stack.specs.MachineView.{PagedObject, MachineView}
 use Rattle.b67_stack.specs.Represents.{Storage, KeptChain, Content}
@@ -21,7 +20,7 @@ use Rattle.b67_overlay.specs.AreasEvicted.{IsShortBy}
 use Rattle.b67_layout.specs.Placement.{Placement}
 use Rattle.b67_layout.specs.Layout.{array_object, code_objects, objects_of, machine_view}
 use Rattle.b67_presence.specs.Full.{ShortIsFull}
-use Rattle.b67_presence.proofs.Covers.{total_gap, covers}
+use Rattle.b67_presence.proofs.Covers.{covers}
 
 -- the sectors that a object takes
 abbrev pub sectors_of_object : PagedObject → ℕ
@@ -51,10 +50,6 @@ short x cpu areas table told p wants free m w =
     let gap = total_gap (λ u. kept (c u)) sectors_of_object p.objects w.object (sectors_of_object w.object)
     (λ u k. content_few x cpu.core u (x.held u.home).area (x.held u.home).chain o.no_zero (m.stands.objects u k).content) w.present.there (omega (arith, none)) in
     omega (arith, all, gap, total_map c kept p.objects, w.short.few)
-
-sum_total : {A : Type 0} (f : A → ℕ) (xs : List A) → sum_by f xs ≡ total f xs
-sum_total f [] = refl
-sum_total f (y ∷ xs) = omega (arith, sum_by-cons f y xs, sum_total f xs)
 
 code_total : (plan : Placement) (j n : ℕ) (segments : List Segment) → total sectors_of_object (code_objects plan j n segments) ≡ total (λ (g : Segment). sectors_for (length g.code)) segments
 code_total plan j n [] = refl

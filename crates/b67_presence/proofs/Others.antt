@@ -14,6 +14,7 @@ use Rattle.b67_model.specs.Schedule.{Session}
 use Rattle.b67_model.specs.Sectors.{sectors_for, sectors_of, sectors}
 use Rattle.b67_model.specs.InOrder.{IsSegment, SegmentInOrder, ArrayInOrder, JobInOrder, IsInOrderButPlaces}
 use Rattle.b67_law_order_steps.specs.Weaker.{Renumbers, Recoded, Refilled, OtherNumbers, AllOtherNumbers}
+use Rattle.b67_law_order_steps.proofs.Sessions.{recoded_count}
 use Rattle.b67_stack.specs.Stacks.{StackPlace}
 use Rattle.b67_layout.specs.Placement.{Placement, slot_of, spot_in, address_of}
 use Rattle.b67_layout.specs.Rows.{WaitsAtCell, TaskRow, JobRow, shown, critical_disp, TaskShows, JobShows, JobsShow}
@@ -89,19 +90,12 @@ others_then [] (n ∷ ns) ys h k = absurd h
 others_then (m ∷ ms) [] ys h k = absurd h
 others_then (m ∷ ms) (n ∷ ns) [] h k = absurd k
 
--- alike in what a view doesn't show
-pub recoded_length : (xs ys : List Segment) → Recoded xs ys → length ys ≡ length xs
-recoded_length [] [] h = refl
-recoded_length (x ∷ xs) (y ∷ ys) h = ap suc (recoded_length xs ys h.1)
-recoded_length [] (y ∷ ys) h = absurd h
-recoded_length (x ∷ xs) [] h = absurd h
-
 pub other_alike : (m n : SessionJob) → OtherNumbers m n → Alike m n
 other_alike m n h = record {
   number = ap (λ (z : SessionJob). z.constants.number) h.rest;
   stack_size = ap (λ (z : SessionJob). z.constants.stack_size) h.rest;
   dictionary = ap (λ (z : SessionJob). z.constants.dictionary) h.rest;
-  count = recoded_length m.constants.segments n.constants.segments h.segments;
+  count = recoded_count m.constants.segments n.constants.segments h.segments;
   tasks = ap (λ (z : SessionJob). z.progress.job.tasks) h.rest;
 }
 
@@ -197,7 +191,7 @@ module _ (plan : Placement) (m n : SessionJob) (h : OtherNumbers m n) where
       let P : SessionJob → Type 0 = λ z. JobShows plan z row in
       let it : JobShows plan (with_numbers m n.constants.segments n.progress.job.arrays) row = record {
         dictionary = s.dictionary;
-        segments = s.segments ∙ sym (recoded_length m.constants.segments n.constants.segments h.segments);
+        segments = s.segments ∙ sym (recoded_count m.constants.segments n.constants.segments h.segments);
         rows = s.rows;
         limit = s.limit;
         made = s.made;

@@ -1,17 +1,16 @@
 -- The session that a view shows after objects were read: with other numbers where the device tells nothing.
-use Rattle.std.proofs.Common.{◌≡◌, ◌≢◌, ℕ, ◌+◌, ◌==◌, List, [], ◌∷◌, length, map, Option, Some, None, refl, sym, ◌∙◌, ap, true, false, subst, inl, inr, ◌⊎◌, ⊎_elim}
+use Rattle.std.proofs.Common.{◌≡◌, ◌≢◌, ℕ, ◌+◌, ◌==◌, List, [], ◌∷◌, length, map, None, refl, sym, ◌∙◌, ap, true, false, subst, inl, inr, ⊎_elim}
 use Rattle.std.specs.Prelude.{if◌then◌else◌, flat_map}
 use Rattle.std.specs.List.{AllByRecursion}
 use Rattle.std.proofs.lemmas.Bool.{cases_Bool, eqb-true}
-use Rattle.std.proofs.lemmas.Option.{none-some}
 use Rattle.b67_word.specs.Tagged.{Tagged}
 use Rattle.b67_area.specs.declared.kinds.Kind.TheVariants as kind
 use Rattle.b67_ctl.specs.declared.registers.Regs.{Regs}
 use Rattle.b67_lemmas.specs.Lists.{Has}
+use Rattle.b67_lemmas.proofs.Members.{has_append_cases, has_append_left, has_append_right, has_map_back}
 use Rattle.b67_model.specs.State.{Array, Segment, SessionJob}
 use Rattle.b67_model.specs.Schedule.{Session}
 use Rattle.b67_model.specs.InOrder.{IsSegment, SegmentInOrder, ArrayInOrder, JobInOrder, IsInOrderButPlaces}
-use Rattle.b67_law_order.proofs.Members.{has_append_left, has_append_right, has_append_cases, has_map_back}
 use Rattle.b67_law_order_steps.specs.Weaker.{Renumbers, Recoded, RefilledArray, Refilled, AllOtherNumbers}
 use Rattle.b67_law_order_steps.proofs.Sessions.{other_numbers_keep_order}
 use Rattle.b67_stack.specs.MachineView.{PagedObject, MachineView, NoOriginalAboveTop}
@@ -21,6 +20,7 @@ use Rattle.b67_layout.specs.Placement.{Placement}
 use Rattle.b67_layout.specs.Layout.{array_object, code_objects, objects_of, machine_view}
 use Rattle.b67_layout_step.proofs.Renumbered.{recoded, refilled, member_with, Fitting, machine_view_renumbered, settled_renumbered}
 use Rattle.b67_presence_page.specs.Brings.{IsReadable, ReadBack}
+use Rattle.b67_presence_page.proofs.Ways.{none_or}
 use Rattle.b67_presence.proofs.Others.{others_same, others_then}
 
 -- each number of a session in order is one of a word
@@ -99,10 +99,6 @@ pub record Sees (x : Storage) (plan : Placement) (jobs : List SessionJob) (q : M
 
 abbrev pub sees_none : (x : Storage) (plan : Placement) (s : Session) → IsInOrderButPlaces s → Sees x plan s.jobs (machine_view plan s.jobs)
 sees_none x plan s o = record { seen = s.jobs; others = others_same s o; same = λ n. refl; is = refl; settled = λ z. z }
-
-none_or : (o : Option (List (List ℕ))) → (o ≡ None) ⊎ (o ≢ None)
-none_or None = inl refl
-none_or (Some all) = inr (λ e. none-some all (sym e))
 
 module _ (x : Storage) (plan : Placement) (s : Session) (o : IsInOrderButPlaces s) (q : MachineView) (t : PagedObject) (r : ReadBack x (machine_view plan s.jobs) q t)
     (fits : Fitting t.home r.numbers (flat_map (objects_of plan) s.jobs)) (bits : AreBits t.numbers) where

@@ -4,8 +4,8 @@ use Rattle.std.proofs.lemmas.Option.{none-some}
 use Rattle.b67_area.specs.declared.kinds.Kind.TheVariants as kind
 use Rattle.b67_backing.specs.Held.{sectors_for}
 use Rattle.b67_lemmas.specs.Lists.{Has}
+use Rattle.b67_lemmas.proofs.Members.{has_append_cases, has_map_back}
 use Rattle.b67_model.specs.State.{Array, Segment, SessionJob}
-use Rattle.b67_law_order.proofs.Members.{has_append_cases, has_map_back}
 use Rattle.b67_stack.specs.MachineView.{PagedObject}
 use Rattle.b67_stack.specs.Represents.{Storage}
 use Rattle.b67_overlay.specs.AreasEvicted.{IsShortBy}

@@ -1,15 +1,15 @@
 -- What is wanted, as a object of the view, and how much core it needs.
-use Rattle.std.proofs.Common.{◌≡◌, ◌≢◌, ℕ, zero, suc, ◌+◌, ◌-◌, ◌^◌, ◌<◌, ◌↔◌, List, [], ◌∷◌, length, map, flat_map, Option, Some, None, refl, sym, ◌∙◌, ap, arith, subst}
-use Rattle.std.specs.List.{slice_get}
+use Rattle.std.proofs.Common.{◌≡◌, ◌≢◌, ℕ, ◌+◌, ◌-◌, ◌^◌, ◌<◌, ◌↔◌, List, length, map, flat_map, Option, Some, None, refl, sym, ◌∙◌, ap, arith, subst}
 use Rattle.std.proofs.lemmas.Bool.{ne_eqb}
 use Rattle.b67_area.specs.declared.kinds.Kind.TheVariants.{Code}
 use Rattle.b67_lemmas.specs.Lists.{Has}
+use Rattle.b67_lemmas.proofs.Members.{all_in, keyed-has}
+use Rattle.b67_lemmas.proofs.Places.{get_within}
 use Rattle.b67_model.specs.State.{Task, SessionJob}
 use Rattle.b67_model.specs.Rows.{code_of}
 use Rattle.b67_model.specs.Run.{number_of}
 use Rattle.b67_model.specs.Schedule.{Session}
 use Rattle.b67_model.specs.InOrder.{ArrayInOrder, IsInOrderButPlaces}
-use Rattle.b67_law_order.proofs.Members.{all_in}
 use Rattle.b67_stack.specs.declared.What.{What}
 use Rattle.b67_stack.specs.declared.What.TheVariants as what
 use Rattle.b67_stack.specs.MachineView.{PagedObject}
@@ -18,7 +18,6 @@ use Rattle.b67_layout_storage.specs.Machine.{IsAbsent}
 use Rattle.b67_layout.specs.Placement.{Placement}
 use Rattle.b67_layout.specs.Layout.{code_objects, objects_of, array_object, machine_view}
 use Rattle.b67_layout.specs.Session.{IsRunning}
-use Rattle.b67_layout.proofs.Others.{keyed-has}
 use Rattle.b67_layout.proofs.Fresh.{running_in_order}
 use Rattle.b67_exec_cells.proofs.Replaced.{array_object-has, member_objects, before}
 use Rattle.b67_exec_cells.specs.Running.{code_area}
@@ -28,11 +27,6 @@ use Rattle.b67_task_need.proofs.Needs.{need_above_low}
 use Rattle.b67_presence_page.specs.Brings.{IsCode, need_one, need_both}
 use Rattle.b67_task_tables.specs.declared.tables.Machine.{Machine}
 use Rattle.b67_presence.specs.Bringing.{StandsOver, IsArrayWanted, IsWanted, Brings}
-
-get_within : {A : Type 0} (xs : List A) (i : ℕ) → i < length xs → (x : A) × (slice_get xs i ≡ Some x)
-get_within [] i low = absurd (omega (arith, low))
-get_within (x ∷ xs) zero low = (x, refl)
-get_within (x ∷ xs) (suc i) low = get_within xs i (omega (arith, low))
 
 some_of : (o : Option ℕ) → o ≢ None → (at : ℕ) × (o ≡ Some at)
 some_of None n = absurd (n refl)

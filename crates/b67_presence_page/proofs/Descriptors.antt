@@ -10,16 +10,13 @@ use Rattle.b67_ctl.specs.declared.registers.Regs.{Regs}
 use Rattle.b67_ctl.specs.Descriptors.{data_word, seg_word, IsDataDesc, IsSegDesc}
 use Rattle.b67_area.specs.declared.Kind.{Kind}
 use Rattle.b67_area.specs.declared.Kind.TheVariants.{Array, Row, Code}
-use Rattle.b67_stack.specs.Shapes.{Location}
+use Rattle.b67_stack.specs.Shapes.{at_rest}
 use Rattle.b67_stack.specs.MachineView.{PagedObject, MachineView, home_desc, home_word_of}
 use Rattle.b67_stack.specs.Represents.{Storage, Represents}
 use Rattle.b67_stack.proofs.Homes.{chain_small}
 use Rattle.b67_layout_storage.specs.Machine.{IsAbsent}
 use Rattle.b67_layout_storage.proofs.Unchanged.{area_bounds}
 use Rattle.b67_presence_page.specs.Brings.{IsCode}
-
-abbrev pub at_rest : ℕ → Location
-at_rest first = record { area = None; chain = first }
 
 abbrev pub rest_desc : Bool → ℕ → ℕ → DataDesc
 rest_desc read_only n first = home_desc read_only n (at_rest first)

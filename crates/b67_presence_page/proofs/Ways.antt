@@ -27,7 +27,7 @@ readable_after x y p spare s (inr f) = inr f
 pub Reads-before : (x y : Storage) (p q : MachineView) (t : PagedObject) (spare : ℕ) → AreasEvicted x y spare → ReadBack y p q t → ReadBack x p q t
 Reads-before x y p q t spare s r = record { numbers = r.numbers; count = r.count; bits = r.bits; is = r.is; same = λ n. r.same (s.told n) }
 
-none_or : (o : Option (List (List ℕ))) → (o ≡ None) ⊎ (o ≢ None)
+pub none_or : (o : Option (List (List ℕ))) → (o ≡ None) ⊎ (o ≢ None)
 none_or None = inl refl
 none_or (Some all) = inr (λ e. none-some all (sym e))
 

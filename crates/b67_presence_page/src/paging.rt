@@ -86,8 +86,8 @@ impl Resting {
         ensures { result ≡ home_word_of self.kind self.words (record { area = Some at; chain = self.first }) }
     {
         match self.kind {
-            Kind::Array => data(false, self.words, at),
-            Kind::Row => data(true, self.words, at),
+            Kind::Array => DataDesc::original(true, false, self.words, at),
+            Kind::Row => DataDesc::original(true, true, self.words, at),
             Kind::Code => SegDesc {
                 present: true,
                 words: self.words,
@@ -126,23 +126,6 @@ impl Resting {
         }
         sectors.restore(self.first, core, at, self.words, self.tag(), backing)
     }
-}
-
-/// The word of a present original.
-fn data(read_only: bool, words: u32, at: u32) -> Word
-    requires words { words < 2 ^ 20 }
-    requires address { at < 2 ^ 20 }
-    ensures { result ≡ data_word (home_desc read_only words (record { area = Some at; chain = 0 })) }
-{
-    DataDesc {
-        present: true,
-        copy: false,
-        indexed: false,
-        read_only,
-        length: words,
-        address: at,
-    }
-    .word()
 }
 
 /// Brings the array, data row or segment of an absent original or segment descriptor into the lowest hole with room for it.

@@ -10,8 +10,8 @@ use Rattle.b67_layout.specs.Placement.{base_of}
 use Rattle.b67_layout.specs.Layout.{machine_view}
 use Rattle.b67_layout.specs.Session.{with_objects}
 use Rattle.b67_layout.proofs.Sessions.{dictionary_below}
-use Rattle.b67_layout.proofs.Others.{keyed-has}
 use Rattle.b67_refer.specs.RunningContext.{RunningContext, IsStackOf}
+use Rattle.b67_lemmas.proofs.Members.{keyed-has}
 
 module _ (core : List Tagged) (r : Regs) (a : RunningContext core r) where
   abbrev pub pictured : MachineView

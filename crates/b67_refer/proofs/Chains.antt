@@ -1,5 +1,5 @@
 -- The environment of the running task, level by level.
-use Rattle.std.proofs.Common.{◌≡◌, ◌≢◌, ℕ, zero, suc, ◌+◌, ◌-◌, ◌<◌, ◌≤◌, List, [], ◌∷◌, map, Some, refl, sym, ◌∙◌, ap, arith, inl, inr, subst, length, slice_set, ⊎_elim}
+use Rattle.std.proofs.Common.{◌≡◌, ◌≢◌, ℕ, zero, suc, ◌+◌, ◌-◌, ◌<◌, ◌≤◌, List, map, Some, refl, sym, ◌∙◌, ap, arith, subst, length, slice_set, ⊎_elim}
 use Rattle.std.specs.List.{slice_get}
 use Rattle.std.proofs.lemmas.Bool.{cases_eq}
 use Rattle.b67_core.proofs.Writes.{slice_get-set_same, slice_get-set_other}
@@ -9,11 +9,11 @@ use Rattle.b67_ctl.specs.declared.registers.Regs.{Regs}
 use Rattle.b67_ctl.specs.declared.marks.Mscw.{Mscw}
 use Rattle.b67_ctl.specs.Layout.{mscw_word, IsMscw}
 use Rattle.b67_lemmas.specs.Lists.{Has}
+use Rattle.b67_lemmas.proofs.Members.{has_append_left, has_map}
 use Rattle.b67_model.specs.State as State
-use Rattle.b67_model.specs.State.{Frame, Standing, OperatorContext, frame}
-use Rattle.b67_model.specs.Environment.{level_of_standing, level_of_frame, environment_of, running, running_from, running_level, outward, frame_at}
-use Rattle.b67_model.specs.InOrder.{Starts, Known, known_of, outer_of, reach_of, IsEntered, StackInOrder, ReturnsInOrder, IsSegment}
-use Rattle.b67_law_order.proofs.Members.{has_append_left, has_map}
+use Rattle.b67_model.specs.State.{Frame, OperatorContext, frame}
+use Rattle.b67_model.specs.Environment.{level_of_standing, level_of_frame, environment_of, running, running_level, outward, frame_at}
+use Rattle.b67_model.specs.InOrder.{Known, known_of, outer_of, reach_of, IsEntered, IsSegment}
 use Rattle.b67_stack.specs.Stacks as Stacks
 use Rattle.b67_stack.proofs.Tops.{level-small}
 use Rattle.b67_layout.specs.Placement.{slot_of, outer_spots, address_of}
@@ -24,13 +24,7 @@ use Rattle.b67_refer.specs.RunningContext.{RunningContext, IsShown, IsStackOf}
 use Rattle.b67_refer.proofs.Slots.{whole, registers}
 use Rattle.b67_refer.proofs.Seats.{has_task, order_of}
 use Rattle.b67_refer.proofs.Marks.{MarkOf, mark, frame_known}
-
-running_in : (P : Starts) (fs : List Frame) → StackInOrder P fs → fs ≢ [] → Has fs (running fs) × IsEntered (running fs).standing
-running_in P [] g some = absurd (some refl)
-running_in P (f ∷ below) g some = by f.standing refl g.0 (λ more. running_in P below g.1 more) where
-  by : (s : Standing) → f.standing ≡ s → ReturnsInOrder P s below → (below ≢ [] → Has below (running below) × IsEntered (running below).standing) → Has (f ∷ below) (running_from s f (running below)) × IsEntered (running_from s f (running below)).standing
-  by State.Marked e g under = let r = under g in (inr r.0, r.1)
-  by (State.Entered level environment back) e g under = (inl refl, rw e tt)
+use Rattle.b67_law_order.proofs.Chases.{running_in}
 
 -- the last link of a chain
 outward_last : (h : OperatorContext) (links : ℕ) (f : Frame) → outward h (suc links) f ≡ frame h (environment_of (outward h links f).standing)

@@ -4,7 +4,8 @@ use Rattle.std.specs.Prelude.{if◌then◌else◌, nat_lt}
 use Rattle.std.specs.List.{slice_get}
 use Rattle.std.specs.Option.{ok_or}
 use Rattle.std.proofs.lemmas.Bool.{lt-ltb, le-ltb, false≢true}
-use Rattle.std.proofs.lemmas.Option.{same_Some, none-some}
+use Rattle.std.proofs.lemmas.Option.{same_Some, slice_get_past}
+use Rattle.std.proofs.lemmas.List.{length-reverse}
 use Rattle.b67_word.specs.Tagged.{Tagged}
 use Rattle.b67_word.specs.declared.couples.Place.{Place}
 use Rattle.b67_word.specs.declared.faults.Fault.TheVariants.{InvalidAddress}
@@ -15,26 +16,26 @@ use Rattle.b67_area.specs.declared.Kind.TheVariants as kind
 use Rattle.b67_area.proofs.Laws.{area_inside}
 use Rattle.b67_model.specs.Answers.{Answer}
 use Rattle.b67_lemmas.specs.Lists.{Has}
+use Rattle.b67_lemmas.proofs.Members.{all_in, has_append_left, has_append_right, has_flat, has_get, has_map, has_reverse_back, keyed-has}
+use Rattle.b67_lemmas.proofs.Places.{get_within}
 use Rattle.b67_model.specs.Words as Words
 use Rattle.b67_model.specs.Words.{Word, Operand, Name, Ref, Row, Element, Original, Proc, Intrinsic}
-use Rattle.b67_model.specs.State.{Frame, Entered, Segment, SessionJob, mcp}
+use Rattle.b67_model.specs.State.{Frame, Entered, Segment, mcp}
 use Rattle.b67_model.specs.Cells.{first_offset, cell_of, cell}
-use Rattle.b67_model.specs.InOrder.{OwnsArray, EntryInOrder, rows_after, DictionaryWords}
-use Rattle.b67_law_order.proofs.Members.{has_append_left, has_append_right, has_map, has_flat, has_reverse_back, has_get, all_in}
+use Rattle.b67_model.specs.InOrder.{OwnsArray, EntryInOrder, DictionaryWords}
 use Rattle.b67_stack.specs.Shapes.{Location, IsOriginal}
 use Rattle.b67_stack.specs.MachineView.{PagedObject, MachineView, home_desc, home_word_of}
 use Rattle.b67_stack.specs.Represents.{Storage, Represents, info_of}
 use Rattle.b67_stack.proofs.Homes.{chain_small}
-use Rattle.b67_layout.specs.Placement.{Placement, address_of}
+use Rattle.b67_layout.specs.Placement.{address_of}
 use Rattle.b67_layout.specs.Layout.{array_object, code_objects, objects_of}
-use Rattle.b67_layout.specs.Session.{DictionariesFollow, frame_address}
+use Rattle.b67_layout.specs.Session.{frame_address}
 use Rattle.b67_layout.specs.Meets.{here}
-use Rattle.b67_layout.proofs.Others.{keyed-has}
+use Rattle.b67_layout.proofs.Sessions.{code_object, dictionary_above, entry_row}
 use Rattle.b67_refer.specs.RunningContext.{RunningContext}
 use Rattle.b67_refer.specs.Cells.{StandsFor, IsCellAt, CellMeets}
 use Rattle.b67_refer.proofs.Bases.{pictured}
 use Rattle.b67_refer.proofs.Marks.{view_low, base_in, frame_dictionary, frame_mcp, dictionary_address}
-use Rattle.b67_refer.proofs.Rule.{length_reverse}
 
 mcp_get : (i : ℕ) → i < 9 → slice_get (reverse mcp.cells) i ≡ Some (Intrinsic (8 + i))
 mcp_get zero low = refl
@@ -48,22 +49,6 @@ mcp_get (suc (suc (suc (suc (suc (suc (suc zero))))))) low = refl
 mcp_get (suc (suc (suc (suc (suc (suc (suc (suc zero)))))))) low = refl
 mcp_get (suc (suc (suc (suc (suc (suc (suc (suc (suc i))))))))) low = absurd (omega (arith, low))
 
-get_past : {A : Type 0} (xs : List A) (i : ℕ) → length xs ≤ i → slice_get xs i ≡ None
-get_past [] i high = refl
-get_past (x ∷ xs) zero high = absurd (omega (arith, high))
-get_past (x ∷ xs) (suc i) high = get_past xs i (omega (arith, high))
-
-get_within : {A : Type 0} (xs : List A) (i : ℕ) → i < length xs → (x : A) × (slice_get xs i ≡ Some x)
-get_within [] i low = absurd (omega (arith, low))
-get_within (x ∷ xs) zero low = (x, refl)
-get_within (x ∷ xs) (suc i) low = get_within xs i (omega (arith, low))
-
--- the words of a dictionary by their numbers
-entry_row : (n : ℕ) (ws : List Word) (i : ℕ) (w : Word) → rows_after n ws → slice_get ws i ≡ Some w → w ≡ Original (n + i)
-entry_row n [] i w d e = absurd (none-some w e)
-entry_row n (v ∷ ws) zero w d e = sym (same_Some v w e) ∙ d.0 ∙ ap Original (let z : n ≡ n + 0 = omega arith in z)
-entry_row n (v ∷ ws) (suc i) w d e = entry_row (n + 1) ws i w d.1 e ∙ ap Original (let z : n + 1 + i ≡ n + suc i = omega arith in z)
-
 entry_is : (n : ℕ) (ss : List Segment) (ws : List Word) (i : ℕ) (w : Word) → DictionaryWords n ss ws → slice_get ws i ≡ Some w
     → ((i < length ss) × (w ≡ Words.Segment (n + i))) ⊎ ((length ss ≤ i) × (w ≡ Original (1 + (i - length ss))))
 entry_is n [] ws i w d e = inr (omega arith, entry_row 1 ws i w d e ∙ ap (λ k. Original (1 + k)) (let z : i ≡ i - 0 = omega arith in z))
@@ -73,17 +58,6 @@ entry_is n (s ∷ ss) (v ∷ ws) (suc i) w d e = ⊎_elim
     (λ l. inl (omega (arith, l.0), l.1 ∙ ap Words.Segment (let z : n + 1 + i ≡ n + suc i = omega arith in z)))
     (λ l. inr (omega (arith, l.0), l.1 ∙ ap (λ k. Original (1 + k)) (let z : i - length ss ≡ suc i - length (s ∷ ss) = omega arith in z)))
     (entry_is (n + 1) ss ws i w d.1 e)
-
--- the objects of segments
-code_object : (plan : Placement) (j n : ℕ) (ss : List Segment) (i : ℕ) → i < length ss → (t : PagedObject) × Has (code_objects plan j n ss) t × (t.home ≡ plan.dictionary j + 1 + (n + i)) × (t.kind ≡ kind.Code)
-code_object plan j n [] i low = absurd (omega (arith, low))
-code_object plan j n (s ∷ ss) zero low = (record { home = plan.dictionary j + 1 + n; kind = kind.Code; numbers = s.code }, inl refl, omega arith, refl)
-code_object plan j n (s ∷ ss) (suc i) low = let r = code_object plan j (n + 1) ss i (omega (arith, low)) in (r.0, inr r.1, r.2 ∙ (let z : plan.dictionary j + 1 + (n + 1 + i) ≡ plan.dictionary j + 1 + (n + suc i) = omega arith in z), r.3)
-
-dictionary_from : (plan : Placement) (at : ℕ) (jobs : List SessionJob) (m : SessionJob) → DictionariesFollow plan at jobs → Has jobs m → at ≤ plan.dictionary m.constants.number
-dictionary_from plan at [] m d h = absurd h
-dictionary_from plan at (y ∷ more) m d (inl e) = let P : SessionJob → Type 0 = λ z. at ≤ plan.dictionary z.constants.number in subst P e (omega (arith, d.0))
-dictionary_from plan at (y ∷ more) m d (inr h) = let r = dictionary_from plan (at + (2 + length y.constants.dictionary.cells)) more m d.1 h in omega (arith, r)
 
 module _ (x : Storage) (core : List Tagged) (r : Regs) (p : MachineView) (s : Represents x core r p) (t : PagedObject) (int : Has p.objects t) where
   area_small : (b : ℕ) → (x.held t.home).area ≡ Some b → b < 2 ^ 20
@@ -119,7 +93,7 @@ module _ (core : List Tagged) (r : Regs) (a : RunningContext core r) where
   has_member = keyed-has (λ m. m.constants.number) a.member.constants.number a.session.jobs a.member a.running.member
 
   pub dictionary_high : 160 ≤ a.plan.dictionary a.member.constants.number
-  dictionary_high = dictionary_from a.plan 160 a.session.jobs a.member a.holds.fits.dictionaries has_member
+  dictionary_high = dictionary_above a.plan 160 a.session.jobs a.member a.holds.fits.dictionaries has_member
 
   has_object : (t : PagedObject) → Has (objects_of a.plan a.member) t → Has (a.left ++ flat_map (objects_of a.plan) a.session.jobs) t
   has_object t h = has_append_right a.left (flat_map (objects_of a.plan) a.session.jobs) t (has_flat (objects_of a.plan) a.session.jobs a.member t has_member h)
@@ -132,7 +106,7 @@ module _ (core : List Tagged) (r : Regs) (a : RunningContext core r) where
     mcp_misses offset far = look_mcp offset ∙ ⊎_elim
         (λ (low : offset < 8). (let t : nat_lt offset 8 ≡ true = lt-ltb offset 8 low in rw t refl))
         (λ (past : 16 < offset). (let t : nat_lt offset 8 ≡ false = le-ltb offset 8 (omega (arith, past)) in
-        let n : slice_get (reverse mcp.cells) (offset - 8) ≡ None = get_past (reverse mcp.cells) (offset - 8) (omega (arith, past)) in
+        let n : slice_get (reverse mcp.cells) (offset - 8) ≡ None = slice_get_past (reverse mcp.cells) (offset - 8) (omega (arith, past)) in
         rw t (ap (λ (o : Option Word). ok_or o InvalidAddress) n)))
         far
 
@@ -162,7 +136,7 @@ module _ (core : List Tagged) (r : Regs) (a : RunningContext core r) where
     dictionary_misses offset far = look_dictionary offset ∙ ⊎_elim
         (λ (low : offset < 2). (let t : nat_lt offset 2 ≡ true = lt-ltb offset 2 low in rw t refl))
         (λ (past : 1 + length a.member.constants.dictionary.cells < offset). (let t : nat_lt offset 2 ≡ false = le-ltb offset 2 (omega (arith, past)) in
-        let n : slice_get (reverse a.member.constants.dictionary.cells) (offset - 2) ≡ None = get_past (reverse a.member.constants.dictionary.cells) (offset - 2) (let l = length_reverse a.member.constants.dictionary.cells in omega (arith, past, l)) in
+        let n : slice_get (reverse a.member.constants.dictionary.cells) (offset - 2) ≡ None = slice_get_past (reverse a.member.constants.dictionary.cells) (offset - 2) (let l = length-reverse a.member.constants.dictionary.cells in omega (arith, past, l)) in
         rw t (ap (λ (o : Option Word). ok_or o InvalidAddress) n)))
         far
 
@@ -208,7 +182,7 @@ module _ (core : List Tagged) (r : Regs) (a : RunningContext core r) where
     dictionary_lands offset low up =
         let t : nat_lt offset 2 ≡ false = le-ltb offset 2 low in
         let small : offset - 2 < length a.member.constants.dictionary.cells = omega (arith, low, up) in
-        let w = get_within (reverse a.member.constants.dictionary.cells) (offset - 2) (let l = length_reverse a.member.constants.dictionary.cells in omega (arith, small, l)) in
+        let w = get_within (reverse a.member.constants.dictionary.cells) (offset - 2) (let l = length-reverse a.member.constants.dictionary.cells in omega (arith, small, l)) in
         let found : cell (here a.member a.task q) 1 offset ≡ Ok w.0 = look_dictionary offset ∙ (rw t (ap (λ (o : Option Word). ok_or o InvalidAddress) w.1)) in
         let n = entry (offset - 2) w.0 small w.1 in
         let at : a.plan.dictionary a.member.constants.number + (2 + (offset - 2)) ≡ a.plan.dictionary a.member.constants.number + offset = omega (arith, low) in

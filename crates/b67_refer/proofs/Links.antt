@@ -1,5 +1,5 @@
 -- What the words of cells come to, and one turn of a chain of references.
-use Rattle.std.proofs.Common.{◌≡◌, ℕ, ◌+◌, ◌*◌, ◌<◌, ◌≤◌, ◌^◌, List, [], ◌∷◌, length, Option, Some, Ok, refl, sym, ◌∙◌, ap, arith, true, false, subst}
+use Rattle.std.proofs.Common.{◌≡◌, ℕ, ◌+◌, ◌*◌, ◌<◌, ◌≤◌, ◌^◌, List, length, Option, Some, Ok, refl, sym, ◌∙◌, ap, arith, true, false, subst}
 use Rattle.std.specs.List.{slice_get, AllByRecursion}
 use Rattle.std.proofs.lemmas.Bool.{true≢false, false≢true}
 use Rattle.std.proofs.lemmas.Option.{same_Some}
@@ -12,8 +12,7 @@ use Rattle.b67_model.specs.Words as Words
 use Rattle.b67_model.specs.Words.{Word, Operand, Name, Ref, Row, Element, Original, Proc, Intrinsic}
 use Rattle.b67_model.specs.State.{Segment}
 use Rattle.b67_model.specs.Chase.{link_at}
-use Rattle.b67_model.specs.InOrder.{NamesEntered, NamesArray, OwnsArray, ArrayInOrder, DictionaryWords}
-use Rattle.b67_law_order.proofs.Members.{all_in}
+use Rattle.b67_model.specs.InOrder.{NamesEntered, NamesArray, OwnsArray, ArrayInOrder}
 use Rattle.b67_stack.specs.Shapes.{Copied, copy_desc, IsCopy}
 use Rattle.b67_refer.specs.declared.ends.End.TheVariants as end
 use Rattle.b67_refer.specs.RunningContext.{RunningContext}
@@ -21,12 +20,7 @@ use Rattle.b67_refer.specs.Cells.{reach, StandsFor, IsCellAt}
 use Rattle.b67_refer.specs.Ends.{IsCopyOf, HasTag, LinkMeets}
 use Rattle.b67_refer.proofs.Bases.{pictured}
 use Rattle.b67_refer.proofs.Chains.{level}
-
--- the segments of a job are few
-pub segments_low : (n : ℕ) (ss : List Segment) (ws : List Word) → DictionaryWords n ss ws → length ss ≤ length ws
-segments_low n [] ws d = omega arith
-segments_low n (s ∷ ss) [] d = absurd d
-segments_low n (s ∷ ss) (w ∷ ws) d = omega (arith, segments_low (n + 1) ss ws d.1)
+use Rattle.b67_lemmas.proofs.Members.{all_in}
 
 -- the word of a procedure isn't that of an intrinsic
 pub not_intrinsic : (syllable place level segment number : ℕ) → syllable < 8 → place < 2 ^ 13 → level ≤ 31 → segment < 2 ^ 14 → number < 2 ^ 14 → syllable * 2 ^ 33 + place * 2 ^ 20 + level * 2 ^ 14 + segment ≡ 2 ^ 19 + number → ⊥

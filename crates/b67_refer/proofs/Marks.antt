@@ -9,23 +9,22 @@ use Rattle.b67_ctl.specs.declared.registers.Regs.{Regs}
 use Rattle.b67_ctl.specs.declared.marks.Mscw.{Mscw}
 use Rattle.b67_ctl.specs.Layout.{mscw_word, IsMscw}
 use Rattle.b67_lemmas.specs.Lists.{Has, how_many}
+use Rattle.b67_lemmas.proofs.Members.{has_append_cases, has_append_right, has_map, has_map_back, keyed_has, keyed_left, keyed_right, none_pass, total_flat, total_zero, keyed-has}
 use Rattle.b67_model.specs.Keyed.{keyed}
 use Rattle.b67_model.specs.State.{Frame, Standing, Marked, Entered, Task, OperatorContext, height, mcp, no_frame, frame}
 use Rattle.b67_model.specs.Environment.{level_of_standing, environment_of}
 use Rattle.b67_model.specs.InOrder.{Known, known_of, known_numbers, from_frame, frames_of_task, critical_of, base as base_known, reach_of, IsEntered, ParentInOrder, BirthInOrder, StandsInOrder, EnvironmentInOrder, IsSegment, frames_named}
 use Rattle.b67_stack.specs.Stacks.{StackPlace}
-use Rattle.b67_law_order.proofs.Members.{has_append_right, has_append_cases, has_map, has_map_back, keyed_has, keyed_left, keyed_right, total_flat, total_zero, none_pass}
-use Rattle.b67_law_order.proofs.Looks.{Line, line_of, above_one, found_frame}
+use Rattle.b67_law_order.proofs.Looks.{Line, line_of, above_one, found_frame, from_has}
 use Rattle.b67_layout.specs.Placement.{slot_of, spot_in, base_spot, outer_spots, spots, address_of}
 use Rattle.b67_layout.specs.Session.{frame_address}
 use Rattle.b67_layout.specs.Meets.{here}
-use Rattle.b67_layout.proofs.Others.{keyed-has}
 use Rattle.b67_word.specs.declared.couples.Place.{Place}
 use Rattle.b67_stack.specs.Stacks as Stacks
 use Rattle.b67_layout.specs.Layout.{head}
 use Rattle.b67_refer.specs.RunningContext.{RunningContext, IsStackOf}
 use Rattle.b67_refer.proofs.Slots.{mark_in, part_mark, base, acts}
-use Rattle.b67_refer.proofs.Seats.{spot_low, from_has, Seat, seat, has_task, order_of}
+use Rattle.b67_refer.proofs.Seats.{spot_low, Seat, seat, has_task, order_of}
 
 module _ (core : List Tagged) (r : Regs) (a : RunningContext core r) where
   high_frames : (u : Task) → Has a.member.progress.job.tasks u → (f : Frame) → Has u.frames f → 1 < f.identity

@@ -3,15 +3,17 @@ use Rattle.std.proofs.Common.{◌≡◌, ℕ, zero, suc, ◌+◌, ◌-◌, ◌<�
 use Rattle.std.specs.Prelude.{if◌then◌else◌, nat_lt}
 use Rattle.std.specs.List.{slice_get}
 use Rattle.std.specs.Option.{ok_or}
-use Rattle.std.proofs.lemmas.Bool.{cases_Bool, cases_eq, cases_lt, eq-eqb, eqb-true, eqb-false, ne_eqb, lt-ltb, le-ltb}
+use Rattle.std.proofs.lemmas.Bool.{cases_Bool, cases_lt, eqb-true, eqb-false, ne_eqb, lt-ltb, le-ltb}
 use Rattle.std.proofs.lemmas.Option.{same_Some, none-some}
-use Rattle.std.proofs.lemmas.List.{length-map}
+use Rattle.std.proofs.lemmas.List.{length-map, length-reverse}
 use Rattle.b67_word.specs.Tagged.{Tagged}
 use Rattle.b67_word.specs.declared.couples.Place.{Place}
 use Rattle.b67_word.specs.declared.faults.Fault.TheVariants.{InvalidAddress}
 use Rattle.b67_ctl.specs.declared.registers.Regs.{Regs}
 use Rattle.b67_ctl.specs.Layout.{sirw_word}
 use Rattle.b67_lemmas.specs.Lists.{Has}
+use Rattle.b67_lemmas.proofs.Members.{all_in, has_get, has_map, has_reverse_back, reverse_cons}
+use Rattle.b67_lemmas.proofs.Places.{same_test}
 use Rattle.b67_model.specs.Answers.{Answer}
 use Rattle.b67_model.specs.Words as Words
 use Rattle.b67_model.specs.Words.{Word, Operand, Name, Ref, Row, Element, Original, Proc, Intrinsic}
@@ -19,7 +21,6 @@ use Rattle.b67_model.specs.State as State
 use Rattle.b67_model.specs.State.{Frame, Standing, Array, Job, height, frame}
 use Rattle.b67_model.specs.Cells.{first_offset, cell_of, cell}
 use Rattle.b67_model.specs.InOrder.{Starts, Known, known_of, known_numbers, reach_of, IsEntered, IsSegment, WordInOrder}
-use Rattle.b67_law_order.proofs.Members.{reverse_cons, has_reverse_back, has_get, all_in, has_map}
 use Rattle.b67_law_order.proofs.Reaches.{Wider, word_wider}
 use Rattle.b67_stack.specs.Shapes.{Locations, Shape, Is, Fits, LieDownward}
 use Rattle.b67_stack.specs.Stacks as Stacks
@@ -45,27 +46,17 @@ abbrev from_end : {A : Type 0} → List A → ℕ → Option A
 from_end [] i = None
 from_end (x ∷ xs) i = if i == length xs then Some x else from_end xs i
 
-same_test : (i n : ℕ) → (i == n) ≡ (suc i == suc n)
-same_test i n = ⊎_elim
-    (λ (e : i ≡ n). eq-eqb i n e ∙ sym (eq-eqb (suc i) (suc n) (ap suc e)))
-    (λ (e : i ≡ n → ⊥). ne_eqb i n e ∙ sym (ne_eqb (suc i) (suc n) (λ z. e (omega (arith, z)))))
-    (cases_eq i n)
-
 get_last : {A : Type 0} (xs : List A) (y : A) (i : ℕ) → slice_get (xs ++ y ∷ []) i ≡ (if i == length xs then Some y else slice_get xs i)
 get_last [] y zero = refl
 get_last [] y (suc i) = let t = ne_eqb (suc i) 0 (λ e. omega (arith, e)) in rw t refl
 get_last (x ∷ xs) y zero = let t = ne_eqb 0 (suc (length xs)) (λ e. omega (arith, e)) in rw t refl
 get_last (x ∷ xs) y (suc i) = get_last xs y i ∙ ap (λ b. if b then Some y else slice_get xs i) (same_test i (length xs))
 
-pub length_reverse : {A : Type 0} (xs : List A) → length (reverse xs) ≡ length xs
-length_reverse [] = refl
-length_reverse (x ∷ xs) = ap length (reverse_cons x xs) ∙ length-append (reverse xs) (x ∷ []) ∙ (let e = length_reverse xs in omega (arith, e))
-
 get_reverse : {A : Type 0} (xs : List A) (i : ℕ) → slice_get (reverse xs) i ≡ from_end xs i
 get_reverse [] i = refl
 get_reverse (x ∷ xs) i =
     ap (λ ys. slice_get ys i) (reverse_cons x xs) ∙ get_last (reverse xs) x i
-    ∙ ap (λ n. if i == n then Some x else slice_get (reverse xs) i) (length_reverse xs)
+    ∙ ap (λ n. if i == n then Some x else slice_get (reverse xs) i) (length-reverse xs)
     ∙ ap (λ r. if i == length xs then Some x else r) (get_reverse xs i)
 
 -- each number below the length has an item, and no other

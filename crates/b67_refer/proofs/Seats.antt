@@ -4,12 +4,12 @@ use Rattle.std.proofs.lemmas.Bool.{cases_Bool, eq-eqb, ne_eqb}
 use Rattle.b67_word.specs.Tagged.{Tagged}
 use Rattle.b67_ctl.specs.declared.registers.Regs.{Regs}
 use Rattle.b67_lemmas.specs.Lists.{Has, Falls}
+use Rattle.b67_lemmas.proofs.Members.{all_in, falls_low, has_append_cases, has_append_right, has_map, has_map_back, keyed_has}
 use Rattle.b67_model.specs.Keyed.{keyed}
 use Rattle.b67_model.specs.State.{Frame, Standing, Task, height}
 use Rattle.b67_model.specs.InOrder.{Known, known_of, known_numbers, from_frame, frames_of_task, critical_of, base as base_known, outer_reach, outer_of, reach_of, FramesInOrder, ParentInOrder, BirthInOrder, TaskInOrder, IsSegment}
 use Rattle.b67_stack.specs.Stacks.{StackPlace}
-use Rattle.b67_law_order.proofs.Members.{has_append_right, has_append_cases, has_map, has_map_back, all_in, keyed_has, falls_low}
-use Rattle.b67_law_order.proofs.Looks.{IsFrame}
+use Rattle.b67_law_order.proofs.Looks.{IsFrame, from_has}
 use Rattle.b67_law_order.proofs.Replaced.{numbers_append}
 use Rattle.b67_layout.specs.Placement.{slot_of, spot_in, outer_spots, spots}
 use Rattle.b67_refer.specs.RunningContext.{RunningContext}
@@ -22,13 +22,6 @@ spot_low k outer [] id low high = refl
 spot_low k outer (f ∷ fs) id low high =
     let ne : (f.identity == id) ≡ false = ne_eqb f.identity id (λ e. omega (arith, e, low, high f (inl refl))) in
     rw ne (spot_low k outer fs id low (λ g h. high g (inr h)))
-
-pub from_has : (c : ℕ) (fs : List Frame) (f : Frame) → Has (from_frame c fs) f → Has fs f
-from_has c [] f h = h
-from_has c (g ∷ fs) f h = ⊎_elim
-    (λ (t : (g.identity == c) ≡ true). rw t at h)
-    (λ (t : (g.identity == c) ≡ false). inr (from_has c fs f (rw t at h)))
-    (cases_Bool (g.identity == c))
 
 module _ (core : List Tagged) (r : Regs) (a : RunningContext core r) where
   -- a frame of a reach, seen from the frame whose spots are view

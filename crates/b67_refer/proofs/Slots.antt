@@ -1,5 +1,5 @@
 -- Where a live task's stack lies, and its parts from a frame down.
-use Rattle.std.proofs.Common.{◌≡◌, ℕ, suc, ◌+◌, ◌*◌, ◌<◌, ◌≤◌, ◌^◌, List, [], ◌∷◌, length, map, Some, refl, sym, ◌∙◌, ap, arith, Bool, true, false, ◌==◌, ◌⊎◌, ⊎_elim, inl, inr, subst}
+use Rattle.std.proofs.Common.{◌≡◌, ℕ, suc, ◌+◌, ◌*◌, ◌<◌, ◌≤◌, List, [], ◌∷◌, map, Some, refl, sym, ◌∙◌, ap, arith, Bool, true, false, ◌==◌, ◌⊎◌, ⊎_elim, inl, inr, subst}
 use Rattle.std.specs.Prelude.{if◌then◌else◌}
 use Rattle.std.specs.List.{slice_get}
 use Rattle.std.proofs.lemmas.Bool.{cases_Bool, eq-eqb, eqb-true}
@@ -12,20 +12,20 @@ use Rattle.b67_model.specs.State.{Frame, Task, SessionJob, height}
 use Rattle.b67_model.specs.Run.{number_of}
 use Rattle.b67_model.specs.InOrder.{from_frame}
 use Rattle.b67_stack.specs.Shapes.{Locations, Fits, LieDownward}
-use Rattle.b67_stack.specs.Stacks.{StackPlace, Head, Marked, Entered, Activation, IsStack, HeadFits, HeadsFit, head_size, top_size, stack_words, mark_of, headed, words, toscw_of, mark_place}
+use Rattle.b67_stack.specs.Stacks.{StackPlace, Head, Marked, Entered, Activation, IsStack, HeadsFit, stack_words, mark_of, headed, words, toscw_of}
 use Rattle.b67_stack.specs.MachineView.{Slot, Running, Waiting, stack_of, SlotFits, MachineView}
 use Rattle.b67_stack.specs.Represents.{RepresentsSlot, RepresentsRunning}
 use Rattle.b67_stack.proofs.Lies.{Lie-under}
 use Rattle.b67_stack.proofs.Heights.{words-length}
-use Rattle.b67_stack.proofs.Tops.{level-small}
+use Rattle.b67_stack.proofs.Tops.{level-small, mark-fits, mark_high, top_size-high}
 use Rattle.b67_layout.specs.Placement.{Placement, Slotted, slot_of, spot_in, outer_spots}
 use Rattle.b67_layout.specs.Layout.{shape, head, activations, stack_of_task, slot_with, slot_in, slot_by, slot_at, machine_view}
 use Rattle.b67_layout.specs.Session.{RowsFit, with_objects}
-use Rattle.b67_layout.proofs.Others.{keyed-has}
 use Rattle.b67_layout.proofs.Rows.{finds, task_row}
 use Rattle.b67_layout.proofs.Frames.{height-is}
 use Rattle.b67_refer.specs.RunningContext.{RunningContext}
 use Rattle.b67_refer.specs.Cells.{IsTop}
+use Rattle.b67_lemmas.proofs.Members.{keyed-has}
 
 -- the slot of a live task, by its number
 pub live_slot : (plan : Placement) (jobs : List SessionJob) (m : SessionJob) (u : Task) → RowsFit plan jobs → keyed number_of m.constants.number jobs ≡ Some m → keyed (λ (v : Task). v.number) u.number m.progress.job.tasks ≡ Some u
@@ -49,21 +49,6 @@ pub head_lies : (R : Locations) (core : List Tagged) (from k : ℕ) (h : Head) (
     → LieDownward (Fits R) core from (words k below) × (slice_get core (from + stack_words below) ≡ Some (mscw_word (mark_of k h below)))
 head_lies R core from k Marked below l = (l.1, ap (λ n. slice_get core (from + n)) (sym (words-length k below)) ∙ l.0.1 ∙ ap Some l.0.2.0)
 head_lies R core from k (Entered level environment back) below l = (l.1.1, ap (λ n. slice_get core (from + n)) (sym (words-length k below)) ∙ l.1.0.1 ∙ ap Some l.1.0.2.0)
-
-mark_fits : (k : ℕ) (h : Head) (below : List Activation) → HeadFits h below → top_size below < 2 ^ 14 → IsMscw (mark_of k h below)
-mark_fits k Marked below f small = record { env_stack = omega arith; env_disp = omega arith; level = omega arith; back = small; marked = λ e. refl }
-mark_fits k (Entered level environment back) below f small = record { env_stack = f.1; env_disp = f.2; level = f.0; back = small; marked = λ e. absurd (let z : ⊥ = cc in z) }
-
-mark_high : (stack : List Activation) → mark_place stack ≤ stack_words stack
-mark_high [] = omega arith
-mark_high (b ∷ below) = by_head b.head where
-  by_head : (h : Head) → stack_words below + 1 ≤ stack_words below + (head_size h + length b.cells)
-  by_head Marked = omega arith
-  by_head (Entered level environment back) = omega arith
-
-top_size_high : (stack : List Activation) → top_size stack ≤ stack_words stack
-top_size_high [] = omega arith
-top_size_high (b ∷ below) = omega arith
 
 module _ (core : List Tagged) (r : Regs) (a : RunningContext core r) where
   -- the address of a slot
@@ -110,7 +95,7 @@ module _ (core : List Tagged) (r : Regs) (a : RunningContext core r) where
   part_mark k outer top f fs p =
       let l = head_lies a.storage.held core (suc (base k)) k (head (spot_in k outer fs) f.standing) (acts k outer fs) (Lie-under (Fits a.storage.held) core (suc (base k)) (map (shape a.plan a.member.constants.number a.member.progress.job (spot_in k outer (f ∷ fs))) f.cells) (headed k (head (spot_in k outer fs) f.standing) (acts k outer fs) (words k (acts k outer fs))) p.lies) in
       let small = a.holds.memory.slots.laid.room in (
-        mark_fits k (head (spot_in k outer fs) f.standing) (acts k outer fs) p.heads.0 (omega (arith, top_size_high (acts k outer fs), p.low, p.room, small)),
+        mark-fits k (head (spot_in k outer fs) f.standing) (acts k outer fs) p.heads.0 (omega (arith, top_size-high (acts k outer fs), p.low, p.room, small)),
         ap (slice_get core) (let e : base k + height fs ≡ suc (base k) + stack_words (acts k outer fs) = omega (arith, height-is a.plan a.member.constants.number a.member.progress.job k outer fs) in e) ∙ l.1,
       )
 

@@ -7,11 +7,11 @@ use Rattle.b67_ctl.specs.declared.registers.Regs.{Regs}
 use Rattle.b67_ctl.specs.declared.marks.Mscw.{Mscw}
 use Rattle.b67_ctl.specs.Layout.{mscw_word, IsMscw}
 use Rattle.b67_lemmas.specs.Lists.{Has, Falls}
+use Rattle.b67_lemmas.proofs.Members.{falls_low}
 use Rattle.b67_model.specs.State as State
 use Rattle.b67_model.specs.State.{Frame, Standing, Task, height}
 use Rattle.b67_model.specs.Environment.{running, running_from}
 use Rattle.b67_model.specs.InOrder.{known_of, known_numbers, outer_of, IsSegment, TaskInOrder, StackInOrder, ReturnsInOrder}
-use Rattle.b67_law_order.proofs.Members.{falls_low}
 use Rattle.b67_stack.specs.Stacks.{StackPlace, Activation, mark_of, top_size, mark_place}
 use Rattle.b67_layout.specs.Placement.{slot_of, spot_in, outer_spots, spots, address_of}
 use Rattle.b67_layout.specs.Layout.{head}

@@ -1,7 +1,7 @@
 -- The calls of ARRAYDEC, PRINT, PRINTROW and READ keep what is known of tasks; and so each operator that calls no other intrinsic.
-use Rattle.std.proofs.Common.{◌≡◌, ◌≢◌, ℕ, ◌+◌, ◌<◌, true, false, List, [], ◌∷◌, reverse, replicate, Option, Some, None, Ok, Err, refl, sym, ap, ◌∙◌, subst, arith, ⊎_elim, cond}
+use Rattle.std.proofs.Common.{◌≡◌, ◌≢◌, ℕ, ◌+◌, ◌<◌, true, List, [], ◌∷◌, reverse, replicate, Option, Some, None, Ok, Err, refl, sym, ◌∙◌, subst, arith, cond}
 use Rattle.std.specs.Prelude.{◌==◌}
-use Rattle.std.proofs.lemmas.Bool.{cases_Bool, eqb-true}
+use Rattle.std.proofs.lemmas.Bool.{eqb-true}
 use Rattle.std.proofs.lemmas.Option.{same_Some, none-some}
 use Rattle.b67_word.specs.declared.couples.Place.{Place}
 use Rattle.b67_word.specs.declared.faults.Fault.TheVariants.{InvalidOperand}
@@ -11,7 +11,7 @@ use Rattle.b67_model.specs.declared.operators.Code.TheVariants.{Entr}
 use Rattle.b67_model.specs.Answers.{Answer, ◌>>=◌}
 use Rattle.b67_model.specs.Words.{Word, Operand, Original, whole}
 use Rattle.b67_model.specs.State.{Array, Standing, Marked, Entered, Task, Job, SessionJob, OperatorContext, with_task, top, below_top}
-use Rattle.b67_model.specs.Keyed.{keyed, change_keyed}
+use Rattle.b67_model.specs.Keyed.{keyed}
 use Rattle.b67_model.specs.Arrays.{array}
 use Rattle.b67_model.specs.Chase.{End, AtCell, AtElement, AtArray, AtProc, AtIntrinsic, follow_reference}
 use Rattle.b67_model.specs.Steps.{Line, Value, Values, Done, Goes, Leaves, Waits, top_of, cells_of}
@@ -20,18 +20,9 @@ use Rattle.b67_model.specs.Rows.{entr_at, entr_with, entr, row}
 use Rattle.b67_law_order.proofs.Posts.{Post, post_ok, post_err, post_any, post_then, post_if, post_if_is, post_at}
 use Rattle.b67_model.specs.Called.{called_at, called_by, called_on, called}
 use Rattle.b67_law_order_steps.specs.Profiles.{Profile, profile, profiles, IsKnown}
-use Rattle.b67_law_order_steps.proofs.Lemmas.{rows_keep}
+use Rattle.b67_law_order_steps.proofs.Lemmas.{rows_keep, profiles_put}
 use Rattle.b67_layout.specs.Meets.{here}
 use Rattle.b67_session_attempt.proofs.Passed.{row_keeps}
-
--- another task of the same profile in a task's place
-put : (n : ℕ) (t : Task) (ts : List Task) → keyed (λ (p : Profile). p.number) n (profiles ts) ≡ Some (profile t)
-    → profiles (change_keyed (λ (u : Task). u.number) n (λ (u : Task). t) ts) ≡ profiles ts
-put n t [] e = refl
-put n t (u ∷ us) e = ⊎_elim
-    (λ (q : (u.number == n) ≡ true). let same : profile u ≡ profile t = same_Some (profile u) (profile t) (rw q at e) in rw q (ap (λ (p : Profile). p ∷ profiles us) (sym same)))
-    (λ (q : (u.number == n) ≡ false). let at : keyed (λ (p : Profile). p.number) n (profiles us) ≡ Some (profile t) = rw q at e in rw q (ap (λ (ps : List Profile). profile u ∷ ps) (put n t us at)))
-    (cases_Bool (u.number == n))
 
 module _ (first : List Profile) (next : ℕ) (own : Profile) (known : keyed (λ (p : Profile). p.number) own.number first ≡ Some own) where
   abbrev Keeps : Done → Type 0
@@ -51,7 +42,7 @@ module _ (first : List Profile) (next : ℕ) (own : Profile) (known : keyed (λ 
   with_good job task tasks same =
       let K : List Profile → Profile → Type 0 = λ ps p. keyed (λ (q : Profile). q.number) p.number ps ≡ Some p in
       let there : K (profiles job.tasks) (profile task) = subst (λ (p : Profile). K (profiles job.tasks) p) (sym same) (subst (λ (ps : List Profile). K ps own) (sym tasks) known) in
-      put task.number task job.tasks there ∙ tasks
+      profiles_put task.number task job.tasks there ∙ tasks
 
   answers_good : (h : OperatorContext) (job : Job) (words : List Word) (printed : List Line) (touched : Option ℕ) → Source h → profiles job.tasks ≡ first → job.next_task ≡ next → Good (answers h job words printed touched)
   answers_good h job words printed touched s tasks number = post_then Keeps _ _ (post_then Keeps _ _ (post_ok Keeps _ (with_good job (answered h words) tasks s.task, number)))

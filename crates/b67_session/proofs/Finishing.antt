@@ -24,6 +24,7 @@ use Rattle.b67_layout.proofs.Members.{member_kept}
 use Rattle.b67_law_order_steps.specs.Profiles.{Profile, profile, profiles}
 use Rattle.b67_layout.specs.Meets.{with_job}
 use Rattle.b67_single.specs.Single.{IsSingle}
+use Rattle.b67_single.proofs.Nexts.{first_task}
 use Rattle.b67_session.specs.Steps.{finished}
 use Rattle.b67_session.proofs.Lone.{found, task_found, job_ordered}
 use Rattle.b67_session.proofs.Rooms.{with_is}
@@ -108,10 +109,6 @@ finished_is s m t single c job made one =
     let peak : max s.peak (live_tasks s.jobs - length m.progress.job.tasks + made.alive) ≡ s.peak = omega (arith, lives, own, one, single.peak) in
     ap (λ (js : List SessionJob). record s { jobs = js; made = s.made + 1; last = c.who; turn = c.turn + 1; peak = max s.peak (live_tasks s.jobs - length m.progress.job.tasks + made.alive) }) jobs
     ∙ ap (λ (n : ℕ). record s { jobs = record m { progress = made.progress } ∷ []; made = s.made + 1; last = c.who; turn = c.turn + 1; peak = n }) peak
-
--- a job's task without a parent, which is ready
-abbrev first_task : Task → Task
-first_task t = record t { parents = []; condition = Ready }
 
 abbrev job_with : Job → Task → Job
 job_with job t = record job { tasks = first_task t ∷ [] }

@@ -5,6 +5,8 @@ use Rattle.std.specs.List.{slice_get}
 use Rattle.std.proofs.lemmas.Bool.{cases_Bool, eq-eqb}
 use Rattle.std.proofs.lemmas.Option.{same_Some, none-some}
 use Rattle.b67_lemmas.specs.Lists.{Has}
+use Rattle.b67_lemmas.proofs.Members.{all_in, has_get}
+use Rattle.b67_lemmas.proofs.Places.{at_mapped}
 use Rattle.b67_model.specs.Endings.{is_ready}
 use Rattle.b67_model.specs.State.{Condition, Task, Job, SessionJob}
 use Rattle.b67_model.specs.Keyed.{keyed}
@@ -14,7 +16,6 @@ use Rattle.b67_model.specs.Rows.{reading_of, step, step_by}
 use Rattle.b67_model.specs.InOrder.{IsSegment, TaskInOrder, JobInOrder, IsInOrderButPlaces}
 use Rattle.b67_model.specs.Run.{number_of}
 use Rattle.b67_model.specs.Schedule.{Who, Session, ready_of, ready, choice}
-use Rattle.b67_law_order.proofs.Members.{all_in}
 use Rattle.b67_layout.specs.Placement.{Placement, slot_of}
 use Rattle.b67_layout.specs.Rows.{TaskShows}
 use Rattle.b67_layout.specs.Session.{IsRunning}
@@ -30,7 +31,6 @@ use Rattle.b67_task_tables.specs.Tables.{task_row, TasksShow}
 use Rattle.b67_session_schedule.specs.declared.counting.Chosen.{Chosen}
 use Rattle.b67_session_schedule.specs.Counted.{choice_of}
 use Rattle.b67_session_schedule.specs.Chosen.{IsReadyAt}
-use Rattle.b67_task_switch.proofs.Lists.{at_has, at_mapped}
 use Rattle.b67_session_attempt.specs.Passed.{CallsBuilt}
 use Rattle.b67_session.proofs.Built.{built_keep}
 
@@ -99,7 +99,7 @@ pub record Chose (plan : Placement) (tasks : Tasks) (m : SessionJob) (t : Task) 
 
 pub chose : (plan : Placement) (s : Session) (m : SessionJob) (t : Task) → IsSingle s m t → (tasks : Tasks) → TasksShow plan s tasks → (c : Chosen) → IsReadyAt tasks.rows.items c.row (choice_of c).who → Chose plan tasks m t c
 chose plan s m t single tasks shows c a =
-    let (y, u, iny, inu, w) = shows.tasks (task_row a.row) (at_has (map task_row tasks.rows.items) c.row (task_row a.row) (at_mapped task_row tasks.rows.items c.row a.row a.at)) in
+    let (y, u, iny, inu, w) = shows.tasks (task_row a.row) (has_get (map task_row tasks.rows.items) c.row (task_row a.row) (at_mapped task_row tasks.rows.items c.row a.row a.at)) in
     let sh : TaskShows plan m t (task_row a.row) = only s m t single (λ (y : SessionJob) (u : Task). TaskShows plan y u (task_row a.row)) y u iny inu w in
     record {
       row = a.row;

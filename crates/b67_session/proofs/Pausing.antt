@@ -2,17 +2,13 @@
 use Rattle.std.proofs.Common.{◌≡◌, ◌≢◌, ℕ, ◌≤◌, List, Option, Some, None, Ok, refl, sym, ◌∙◌}
 use Rattle.std.proofs.lemmas.Option.{none-some}
 use Rattle.b67_layout_storage.specs.Machine.{Says, DeviceAfterCalls, content_after}
-use Rattle.b67_layout_storage.proofs.Devices.{still_tells}
+use Rattle.b67_layout_storage.proofs.Devices.{still_tells, says_self}
 use Rattle.b67_model.specs.Schedule.{Session}
 use Rattle.b67_task_tables.specs.declared.tables.Machine.{Machine}
 use Rattle.b67_session.specs.declared.slices.Progress.{Progress}
 use Rattle.b67_session.specs.declared.slices.Progress.TheVariants as progress
 use Rattle.b67_session.specs.Slices.{Pauses, Slices, EndsWithoutTasks}
 use Rattle.b67_session.proofs.Going.{Going, going-halted, going-ended}
-
-says_self : (told : Option (List (List ℕ))) → Says told told
-says_self None = tt
-says_self (Some all) = refl
 
 -- what is known later is what the device then tells, if anything
 pub says_retold : (known told : Option (List (List ℕ))) → Says (content_after known told) told

@@ -5,6 +5,7 @@ use Rattle.std.proofs.lemmas.List.{length-map}
 use Rattle.std.proofs.lemmas.Option.{same_Some}
 use Rattle.std.proofs.lemmas.Bool.{eq-eqb}
 use Rattle.b67_lemmas.specs.Lists.{Has}
+use Rattle.b67_lemmas.proofs.Places.{mapped_at}
 use Rattle.b67_model.specs.State.{Task, Job, SessionJob}
 use Rattle.b67_model.specs.Keyed.{change_keyed}
 use Rattle.b67_model.specs.Run.{number_of}
@@ -20,7 +21,6 @@ use Rattle.b67_task_tables.specs.Tables.{job_row, switch_of, TasksShow}
 use Rattle.b67_session_schedule.specs.declared.counting.Chosen.{Chosen}
 use Rattle.b67_session_schedule.specs.Counted.{counted_row, CountsHaveRoom}
 use Rattle.b67_session_schedule.proofs.Rooms.{made_few, all_few}
-use Rattle.b67_task_switch.proofs.Lists.{mapped_at}
 use Rattle.b67_task_switch.proofs.Tables.{job_at}
 use Rattle.b67_session_attempt.specs.Passed.{AreCountable}
 use Rattle.b67_session.proofs.Lone.{has_member}

@@ -22,7 +22,6 @@ use Rattle.b67_session_schedule.specs.Counted.{choice_of, CountsHaveRoom}
 use Rattle.b67_session_schedule.specs.Chosen.{Chooses}
 use Rattle.b67_session_schedule.proofs.Rooms.{none_ready}
 use Rattle.b67_task_switch.specs.Standing.{HasRow}
-use Rattle.b67_task_switch.proofs.Lists.{at_mapped}
 use Rattle.b67_session_attempt.specs.Stops.{Stop}
 use Rattle.b67_session_attempt.specs.declared.attempts.Attempt.{Attempt}
 use Rattle.b67_session_attempt.specs.Brought.{WantsNothing}
@@ -30,6 +29,7 @@ use Rattle.b67_session_attempt.specs.Attempts.{RunsOver, AttemptMeets, Attempts}
 use Rattle.b67_single.specs.Single.{IsSingle}
 use Rattle.b67_session.specs.Slices.{IsLone}
 use Rattle.b67_session.proofs.Lone.{Chose, chose, runs_then, other, some_ready}
+use Rattle.b67_lemmas.proofs.Places.{at_mapped}
 
 -- the running row's task is running already
 pub runs_already : (x : Storage) (told : Option (List (List ℕ))) (k : Machine) (plan : Placement) (s : Session) (r : TaskRow) → MachineRepresents x told k plan s → slice_get k.tasks.rows.items k.tasks.running ≡ Some r

@@ -25,7 +25,6 @@ use Rattle.b67_stack.specs.Represents.{Storage}
 use Rattle.b67_layout.specs.Placement.{Placement}
 use Rattle.b67_layout.specs.Session.{IsRunning}
 use Rattle.b67_layout.specs.Meets.{here, area_held, IsPresent}
-use Rattle.b67_layout.proofs.Others.{keyed-has}
 use Rattle.b67_model.specs.Called.{called_on, called}
 use Rattle.b67_exec_cells.specs.Running.{code_area}
 use Rattle.b67_exec_cells.specs.Called as operators
@@ -46,6 +45,7 @@ use Rattle.b67_mcp.proofs.Present.{row_only}
 use Rattle.b67_session_attempt.specs.Tries.{TryFits}
 use Rattle.b67_session_attempt.proofs.Still.{operator_starts, call_starts}
 use Rattle.b67_session_attempt.proofs.Mute.{printing_built}
+use Rattle.b67_lemmas.proofs.Members.{keyed-has}
 
 -- before a fault an operator touches nothing that calls no intrinsic
 module _ (m : SessionJob) (t : Task) (a : ℕ) where

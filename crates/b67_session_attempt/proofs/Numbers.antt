@@ -11,7 +11,6 @@ use Rattle.b67_model.specs.Rows.{code_of, step}
 use Rattle.b67_model.specs.Run.{live_tasks}
 use Rattle.b67_model.specs.Schedule.{Session}
 use Rattle.b67_model.specs.InOrder.{ArrayInOrder, IsInOrderButPlaces}
-use Rattle.b67_law_order.proofs.Members.{all_in, keyed_falls}
 use Rattle.b67_stack.specs.declared.What.{What}
 use Rattle.b67_stack.specs.declared.What.TheVariants as what
 use Rattle.b67_stack.specs.Represents.{Storage, info_of}
@@ -28,6 +27,7 @@ use Rattle.b67_presence.specs.Bringing.{IsWanted}
 use Rattle.b67_presence.proofs.Wants.{array_area-some}
 use Rattle.b67_session_attempt.specs.Tries.{IsTouched}
 use Rattle.b67_session_attempt.proofs.Started.{none_started}
+use Rattle.b67_lemmas.proofs.Members.{all_in, keyed_falls}
 
 module _ (core : ℕ) (s : Session) (m : SessionJob) (t : Task) (low : live_tasks s.jobs ≤ s.peak) where
   abbrev base : ℕ

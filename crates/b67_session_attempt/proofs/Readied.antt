@@ -1,15 +1,13 @@
 -- The session in which the running task is ready: it is in order, and the machine stands for it.
-use Rattle.std.proofs.Common.{◌≡◌, ◌≢◌, ℕ, List, [], ◌∷◌, map, Some, refl, sym, ◌∙◌, ap, arith, inl, inr, subst}
-use Rattle.std.specs.Prelude.{◌==◌}
-use Rattle.std.proofs.lemmas.Bool.{cases_Bool}
-use Rattle.std.proofs.lemmas.Option.{same_Some}
-use Rattle.b67_model.specs.Keyed.{keyed, change_keyed}
+use Rattle.std.proofs.Common.{◌≡◌, ◌≢◌, List, [], ◌∷◌, map, Some, refl, sym, ◌∙◌, ap, arith, inl, subst}
+use Rattle.b67_model.specs.Keyed.{keyed}
 use Rattle.b67_lemmas.specs.Lists.{Has}
+use Rattle.b67_lemmas.proofs.Members.{all_in, length_change, change_found, keyed-has}
+use Rattle.b67_lemmas.proofs.Keyed.{change_same}
 use Rattle.b67_model.specs.State.{Array, Ready, Task, Job, SessionJob, with_task}
 use Rattle.b67_model.specs.Run.{number_of}
 use Rattle.b67_model.specs.Schedule.{Session}
 use Rattle.b67_model.specs.InOrder.{IsSegment, known_of, from_frame, originals_of, JobInOrder, IsInOrderButPlaces}
-use Rattle.b67_law_order.proofs.Members.{all_in, length_change}
 use Rattle.b67_law_order.proofs.Reaches.{alike_same}
 use Rattle.b67_law_order.proofs.Replaced.{Replaced, replaced}
 use Rattle.b67_layout.proofs.Members.{member_kept}
@@ -19,18 +17,9 @@ use Rattle.b67_layout.specs.Placement.{Placement}
 use Rattle.b67_layout.specs.Session.{IsRunning, RepresentsSession}
 use Rattle.b67_layout.specs.Meets.{with_job}
 use Rattle.b67_layout.proofs.Fresh.{running_in_order, fresh}
-use Rattle.b67_layout.proofs.Others.{keyed-has, keyed-put_same}
 use Rattle.b67_layout.proofs.MachineViews.{member-same}
 use Rattle.b67_layout.proofs.Steps.{IsFree}
 use Rattle.b67_layout_enter.proofs.Awaits.{RepresentsSession-condition}
-
--- an item that is changed to itself
-change_same : {A : Type 0} (key : A → ℕ) (n : ℕ) (f : A → A) (xs : List A) (x : A) → keyed key n xs ≡ Some x → f x ≡ x → change_keyed key n f xs ≡ xs
-change_same key n f [] x e same = refl
-change_same key n f (y ∷ ys) x e same = elim (cases_Bool (key y == n)) [
-  | inl q ↦ let is : y ≡ x = same_Some y x (rw q at e) in rw q (ap (λ z. z ∷ ys) (ap f is ∙ same ∙ sym is))
-  | inr q ↦ rw q (ap (λ zs. y ∷ zs) (change_same key n f ys x (rw q at e) same))
-]
 
 not_empty : {A : Type 0} (x : A) (xs : List A) → Has xs x → xs ≢ []
 not_empty x [] h = absurd h
@@ -53,7 +42,7 @@ module _ (plan : Placement) (s : Session) (m : SessionJob) (t : Task) (o : IsInO
   in_t = keyed-has (λ (u : Task). u.number) t.number m.progress.job.tasks t runs.task
 
   there : keyed (λ (u : Task). u.number) t.number job.tasks ≡ Some task
-  there = keyed-put_same (λ (u : Task). u.number) t.number task t refl m.progress.job.tasks runs.task
+  there = change_found (λ (u : Task). u.number) t.number t task m.progress.job.tasks refl runs.task
 
   replaces : Replaced (IsSegment m.constants) m.constants m.progress.job t job task
   replaces =
@@ -117,7 +106,7 @@ module _ (plan : Placement) (s : Session) (m : SessionJob) (t : Task) (o : IsInO
       let there_is : RepresentsSession x cpu plan (with_job s m (with_task m.progress.job t)) = subst (RepresentsSession x cpu plan) (sym same_session) h in
       let run : IsRunning plan (with_job s m (with_task m.progress.job t)).jobs own t = record {
         member = member-same s.jobs m.constants.number (record m.progress { job = with_task m.progress.job t }) m runs.member;
-        task = keyed-put_same (λ (u : Task). u.number) t.number t t refl m.progress.job.tasks runs.task;
+        task = change_found (λ (u : Task). u.number) t.number t t m.progress.job.tasks refl runs.task;
         slot = runs.slot;
       } in
       let free : IsFree (with_task m.progress.job t) m.progress.job.next_frame = subst (λ (k : Job). IsFree k m.progress.job.next_frame) (sym same_job) (fresh plan s m t o runs) in

@@ -18,12 +18,12 @@ use Rattle.b67_layout.specs.Placement.{Placement, spot_in, outer_spots}
 use Rattle.b67_layout.specs.Layout.{shape, head, activations, stack_of_task, machine_view}
 use Rattle.b67_layout.specs.Meets.{objects_gone, with_job}
 use Rattle.b67_layout.specs.Session.{IsRunning, RepresentsSession, RepresentsSessionBut, RepresentsStorage, with_objects}
-use Rattle.b67_layout.proofs.Others.{keyed-has}
 use Rattle.b67_layout.proofs.Rows.{runs_on, slot_below}
 use Rattle.b67_task_release.specs.Left.{IsLeft}
 use Rattle.b67_task_release.proofs.Leavings.{new_top, left_after}
 use Rattle.b67_session_attempt.proofs.Inversion.{IsEntered, LeftFrame}
 use Rattle.b67_session_attempt.proofs.Ordered.{frames_after}
+use Rattle.b67_lemmas.proofs.Members.{keyed-has}
 
 -- a running task's stack, whatever objects are left
 on_objects : (left : List PagedObject) (plan : Placement) (s : Session) (m : SessionJob) (t : Task) (x : Storage) (cpu : Cpu) → RepresentsSessionBut left x cpu plan s → IsRunning plan s.jobs m t

@@ -1,49 +1,35 @@
 -- What is present lies in areas that are apart, above the stacks and within core.
-use Rattle.std.proofs.Common.{◌≡◌, ◌≢◌, ℕ, zero, suc, ◌+◌, ◌-◌, ◌*◌, ◌<◌, Bool, true, false, List, [], ◌∷◌, length, map, flat_map, Some, refl, sym, ◌∙◌, ap, arith}
-use Rattle.std.specs.Prelude.{sum_by, max, if◌then◌else◌}
-use Rattle.std.specs.List.{slice_get}
+use Rattle.std.proofs.Common.{◌≡◌, ◌≢◌, ℕ, ◌+◌, ◌-◌, ◌*◌, Bool, true, false, length, map, flat_map, Some, refl, sym, ◌∙◌, ap, arith}
+use Rattle.std.specs.Prelude.{max, if◌then◌else◌}
 use Rattle.std.proofs.lemmas.Bool.{ne_eqb}
 use Rattle.std.proofs.lemmas.Option.{same_Some}
-use Rattle.std.proofs.lemmas.List.Sums.{sum_by-cons}
 use Rattle.b67_area.specs.declared.kinds.Info.{Info}
 use Rattle.b67_area.specs.declared.kinds.Kind.TheVariants as kind
 use Rattle.b67_area.specs.Spans.{area_at}
 use Rattle.b67_lemmas.specs.Lists.{Has}
+use Rattle.b67_lemmas.proofs.Members.{all_in, keyed-has}
+use Rattle.b67_lemmas.proofs.Places.{get_within}
 use Rattle.b67_model.specs.State.{Array, Task, SessionJob}
 use Rattle.b67_model.specs.Rows.{code_of}
 use Rattle.b67_model.specs.Need.{fixed}
 use Rattle.b67_model.specs.Run.{live_tasks, number_of}
 use Rattle.b67_model.specs.Schedule.{Session}
 use Rattle.b67_model.specs.InOrder.{ArrayInOrder, IsInOrderButPlaces}
-use Rattle.b67_law_order.proofs.Members.{all_in}
 use Rattle.b67_stack.specs.declared.Cpu.{Cpu}
 use Rattle.b67_stack.specs.MachineView.{PagedObject}
 use Rattle.b67_stack.specs.Represents.{Storage, info_of}
 use Rattle.b67_layout.specs.Placement.{Placement}
 use Rattle.b67_layout.specs.Layout.{code_objects, objects_of, array_object}
-use Rattle.b67_layout.specs.Session.{DictionariesFollow, IsRunning, RepresentsSession}
+use Rattle.b67_layout.specs.Session.{IsRunning, RepresentsSession}
 use Rattle.b67_layout.specs.Meets.{area_held}
-use Rattle.b67_layout.proofs.Others.{keyed-has}
 use Rattle.b67_layout.proofs.Fresh.{running_in_order}
 use Rattle.b67_exec_cells.proofs.Replaced.{array_object-has, member_objects, before}
 use Rattle.b67_exec_cells.specs.Running.{code_area}
 use Rattle.b67_exec_cells.proofs.Codes.{code_object}
 use Rattle.b67_task_need.specs.Needing.{array_area, need_with}
+use Rattle.b67_task_need.proofs.Needs.{follow_all}
 use Rattle.b67_session_attempt.specs.Fits.{HasSpace, PresentFits}
 use Rattle.b67_session_attempt.proofs.Areas.{one_fits, two_fit}
-
-get_within : {A : Type 0} (xs : List A) (i : ℕ) → i < length xs → (x : A) × (slice_get xs i ≡ Some x)
-get_within [] i low = absurd (omega (arith, low))
-get_within (x ∷ xs) zero low = (x, refl)
-get_within (x ∷ xs) (suc i) low = get_within xs i (omega (arith, low))
-
-follow_all : (plan : Placement) (at : ℕ) (jobs : List SessionJob) → DictionariesFollow plan at jobs → at + sum_by (λ (m : SessionJob). 2 + length m.constants.dictionary.cells) jobs ≡ plan.stacks
-follow_all plan at [] d = omega (arith, d)
-follow_all plan at (m ∷ more) d = omega (
-  arith,
-  follow_all plan (at + (2 + length m.constants.dictionary.cells)) more d.1,
-  sum_by-cons (λ (y : SessionJob). 2 + length y.constants.dictionary.cells) m more,
-)
 
 -- an array is no segment
 not_code : (b : Bool) → kind.Code ≡ (if b then kind.Array else kind.Row) → ⊥

@@ -18,13 +18,13 @@ use Rattle.b67_model.specs.Entry.{needs_level, back_to}
 use Rattle.b67_model.specs.Intrinsics.{answered, answers, array_length, arraydec, print, numbers_of, row_copy, printrow, read_from, read, child_of, starts, process, awaits, await, status_of, status, waits_at, wait, causes, cause, intrinsic}
 use Rattle.b67_model.specs.Need.{touched_of, started_by}
 use Rattle.b67_model.specs.Rows.{entr_at, entr_with, entr, row, reading_of, step_by, step}
-use Rattle.b67_law_order.proofs.Members.{length_change}
 use Rattle.b67_law_order.proofs.Posts.{Post, post_ok, post_err, post_any, post_then, post_if, post_more, post_is}
 use Rattle.b67_layout.specs.Placement.{Placement}
 use Rattle.b67_layout.specs.Session.{IsRunning}
 use Rattle.b67_model.specs.Called.{called}
 use Rattle.b67_law_order_steps.specs.Profiles.{Profile, profile, profiles, IsKnown}
 use Rattle.b67_law_order_steps.proofs.Lemmas.{rows_keep}
+use Rattle.b67_lemmas.proofs.Members.{length_change}
 
 -- where an array is touched there are as many tasks
 abbrev Touching : ℕ → Job → Option ℕ → Type 0

@@ -12,7 +12,6 @@ use Rattle.b67_model.specs.Steps.{Line, Value, Values, Done, Goes, Leaves, Waits
 use Rattle.b67_model.specs.Intrinsics.{answered, answers, array_length, arraydec, print, numbers_of, row_copy, printrow, read_from, read, intrinsic}
 use Rattle.b67_model.specs.Need.{started_by}
 use Rattle.b67_model.specs.Rows.{row, reading_of, step_by, step}
-use Rattle.b67_law_order.proofs.Members.{length_change}
 use Rattle.b67_law_order.proofs.Posts.{Post, post_ok, post_err, post_any, post_then, post_more, post_is}
 use Rattle.b67_model.specs.Called.{called}
 use Rattle.b67_law_order_steps.specs.Profiles.{profile, IsKnown}
@@ -22,6 +21,7 @@ use Rattle.b67_exec_cells.specs.Called.{called_in}
 use Rattle.b67_layout.specs.Meets.{here}
 use Rattle.b67_mcp.proofs.Callings.{Calling}
 use Rattle.b67_session_attempt.proofs.Started.{known_in}
+use Rattle.b67_lemmas.proofs.Members.{length_change}
 
 -- there are as many tasks
 abbrev Still : ℕ → Done → Type 0

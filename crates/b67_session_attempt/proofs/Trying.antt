@@ -18,7 +18,6 @@ use Rattle.b67_stack.specs.Represents.{Storage}
 use Rattle.b67_layout.specs.Placement.{Placement}
 use Rattle.b67_layout.specs.Session.{IsRunning}
 use Rattle.b67_layout.specs.Meets.{IsAbsent}
-use Rattle.b67_layout.proofs.Others.{keyed-has}
 use Rattle.b67_exec_cells.specs.Running.{code_area}
 use Rattle.b67_exec_cells.specs.Called.{called_in}
 use Rattle.b67_task_tables.specs.declared.tables.Machine.{Machine}
@@ -30,6 +29,7 @@ use Rattle.b67_mcp.specs.declared.ends.Stop.TheVariants as stops
 use Rattle.b67_mcp.specs.Called.{CallsBuilt, IsCalled, IsCut, OnlyPrinted, TouchesAbsent, CallMeets}
 use Rattle.b67_presence.specs.Bringing.{IsWanted}
 use Rattle.b67_session_attempt.specs.Tries.{IsTouched, TryMeets}
+use Rattle.b67_lemmas.proofs.Members.{keyed-has}
 
 -- what is wanted, and that the step touches it, where nothing has changed
 abbrev pub Wants : Storage → Placement → SessionJob → Task → What → Machine → Machine → Type 0

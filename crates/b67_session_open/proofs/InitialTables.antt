@@ -3,6 +3,7 @@ use Rattle.std.proofs.Common.{◌≡◌, ℕ, zero, suc, ◌+◌, ◌<◌, ◌�
 use Rattle.std.specs.List.{slice_get}
 use Rattle.std.proofs.lemmas.Option.{none-some, slice_get_past, slice_get_within}
 use Rattle.b67_lemmas.specs.Lists.{Has}
+use Rattle.b67_lemmas.proofs.Places.{at_mapped, mapped_at}
 use Rattle.b67_model.specs.State.{Task, SessionJob}
 use Rattle.b67_model.specs.Program.{Program}
 use Rattle.b67_model.specs.Schedule.{Switch}
@@ -12,7 +13,6 @@ use Rattle.b67_layout.specs.Placement.{Placement}
 use Rattle.b67_layout.specs.Rows.{TaskRow, TaskShows, JobsShow, RunningRow, Differ, TablesShow}
 use Rattle.b67_session_open.specs.Opened.{dictionary_words, dictionaries, opening_plan, programs_of}
 use Rattle.b67_session_open.specs.Tables.{first_row, first_rows, opening_rows, opening_counts}
-use Rattle.b67_session_open.proofs.Lists.{mapped, from_mapped}
 use Rattle.b67_session_open.proofs.Members.{member, has_member}
 use Rattle.b67_session_open.proofs.Objects.{dictionary_is}
 use Rattle.b67_session_open.proofs.Slots.{slot_number}
@@ -79,13 +79,13 @@ module _ (stack quantum : ℕ) (switches : List Switch) (openings : List Opening
       record {
         tasks = for_rows (λ row. (m : SessionJob) × (t : Task) × Has jobs m × Has m.progress.job.tasks t × TaskShows plan m t row) 0 (programs_of openings)
             (λ k s p e f.
-            let o = from_mapped (λ (x : Opening). x.program) openings k p e in
+            let o = mapped_at (λ (x : Opening). x.program) openings k p e in
             let is : s ≡ k = omega (arith, f) in
             (member stack (s + 1) o.0, first_task, has_member stack 1 openings k (s + 1) o.0 o.1 (omega (arith, f)), inl refl, shows s o.0 (ap (slice_get openings) is ∙ o.1)));
         each = for_tasks (λ m t. (row : TaskRow) × Has rows row × TaskShows plan m t row) stack openings
             (λ k j o e f.
             let is : k + 1 ≡ j = omega (arith, f) in
-            (first_row k, has_row 0 (programs_of openings) k k o.program (mapped (λ (x : Opening). x.program) openings k o e) (omega arith), subst (λ i. TaskShows plan (member stack i o) first_task (first_row k)) is (shows k o e)));
+            (first_row k, has_row 0 (programs_of openings) k k o.program (at_mapped (λ (x : Opening). x.program) openings k o e) (omega arith), subst (λ i. TaskShows plan (member stack i o) first_task (first_row k)) is (shows k o e)));
         once = slots_differ 0 (programs_of openings);
         jobs = jobs_show plan stack 1 160 openings (λ k j o e f. dictionary_is stack openings k j o e f);
         counts = record {

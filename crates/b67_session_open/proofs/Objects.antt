@@ -6,6 +6,9 @@ use Rattle.std.proofs.lemmas.Option.{same_Some, none-some}
 use Rattle.std.proofs.lemmas.Bool.{cases_order}
 use Rattle.b67_area.specs.declared.Kind.TheVariants as kind
 use Rattle.b67_lemmas.specs.Lists.{Has}
+use Rattle.b67_lemmas.proofs.Members.{has_append_cases, has_append_left, has_append_right, has_flat as has_flat_map, has_map, has_reverse, has_reverse_back}
+use Rattle.b67_lemmas.proofs.Places.{at_mapped, mapped_at}
+use Rattle.b67_lemmas.proofs.Sums.{total_before, total_within}
 use Rattle.b67_model.specs.State.{Segment, SessionJob}
 use Rattle.b67_model.specs.Program.{Program, row_arrays}
 use Rattle.b67_model.specs.InOrder.{SegmentInOrder}
@@ -15,7 +18,7 @@ use Rattle.b67_layout.specs.Placement.{Placement}
 use Rattle.b67_layout.specs.Layout.{array_object, code_objects, objects_of}
 use Rattle.b67_load.specs.Objects.{code_from, rows_from, objects_of as objects_at}
 use Rattle.b67_session_open.specs.Opened.{dictionary_words, dictionaries, segments_in, opening_plan, objects_from, programs_of}
-use Rattle.b67_session_open.proofs.Lists.{total_before, total_within, mapped, from_mapped, has_split, has_left, has_right, has_turned, has_reverse, has_mapped, has_map, has_flat, has_flat_map}
+use Rattle.b67_session_open.proofs.Lists.{has_mapped, has_flat}
 use Rattle.b67_session_open.proofs.Members.{member, for_members, has_member}
 
 -- a object of one of these programs
@@ -44,7 +47,7 @@ pub objects_within : (at : ℕ) (p : Program) (t : PagedObject) → Has (objects
 objects_within at p t h = ⊎_elim
     (λ m. let w = segments_within (at + 2) p.segments t m in record { low = w.low; high = omega (arith, w.high) })
     (λ m. let w = rows_within (at + (2 + length p.segments)) p.rows t m in record { low = omega (arith, w.low); high = omega (arith, w.high) })
-    (has_split (code_from (at + 2) p.segments) (rows_from (at + (2 + length p.segments)) p.rows) t h)
+    (has_append_cases (code_from (at + 2) p.segments) (rows_from (at + (2 + length p.segments)) p.rows) t h)
 
 segments_differ : (at : ℕ) (ss : List Segment) (t u : PagedObject) → Has (code_from at ss) t → Has (code_from at ss) u → t.home ≡ u.home → t ≡ u
 segments_differ at [] t u h k e = absurd h
@@ -68,12 +71,12 @@ objects_differ at p t u h k e =
     (λ (a : Has ss t). ⊎_elim
     (λ (b : Has ss u). segments_differ (at + 2) p.segments t u a b e)
     (λ (b : Has rs u). absurd (omega (arith, e, (segments_within (at + 2) p.segments t a).high, (rows_within (at + (2 + length p.segments)) p.rows u b).low)))
-    (has_split ss rs u k))
+    (has_append_cases ss rs u k))
     (λ (a : Has rs t). ⊎_elim
     (λ (b : Has ss u). absurd (omega (arith, e, (segments_within (at + 2) p.segments u b).high, (rows_within (at + (2 + length p.segments)) p.rows t a).low)))
     (λ (b : Has rs u). rows_differ (at + (2 + length p.segments)) p.rows t u a b e)
-    (has_split ss rs u k))
-    (has_split ss rs t h)
+    (has_append_cases ss rs u k))
+    (has_append_cases ss rs t h)
 
 -- of several programs
 pub object_within : (programs : List Program) (t : PagedObject) → IsObject programs t → Within 162 (160 + dictionaries programs) t
@@ -122,9 +125,9 @@ pub among_all : (at : ℕ) (programs : List Program) (k : ℕ) (p : Program) (t 
 among_all at [] k p t e h = absurd (none-some p e)
 among_all at (q ∷ more) zero p t e h =
     let is : q ≡ p = same_Some q p e in
-    has_left (objects_at at q) (objects_from (at + dictionary_words q) more) t (subst (λ r. Has (objects_at at r) t) (sym is) (is_object_at (at + 0) at p t (omega arith) h))
+    has_append_left (objects_at at q) (objects_from (at + dictionary_words q) more) t (subst (λ r. Has (objects_at at r) t) (sym is) (is_object_at (at + 0) at p t (omega arith) h))
 among_all at (q ∷ more) (suc k) p t e h =
-    has_right (objects_at at q) (objects_from (at + dictionary_words q) more) t
+    has_append_right (objects_at at q) (objects_from (at + dictionary_words q) more) t
     (among_all (at + dictionary_words q) more k p t e (is_object_at (at + (dictionary_words q + dictionaries (take k more))) (at + dictionary_words q + dictionaries (take k more)) p t (omega arith) h))
 
 record Among (at : ℕ) (programs : List Program) (t : PagedObject) : Type 0 where
@@ -145,7 +148,7 @@ from_all at (p ∷ more) t h = ⊎_elim
       found = a.found;
       among = is_object_at (at + dictionary_words p + dictionaries (take a.place more)) (at + (dictionary_words p + dictionaries (take a.place more))) a.program t (omega arith) a.among;
     })
-    (has_split (objects_at at p) (objects_from (at + dictionary_words p) more) t h)
+    (has_append_cases (objects_at at p) (objects_from (at + dictionary_words p) more) t h)
 
 pub is_object : (programs : List Program) (t : PagedObject) → Has (objects_from 160 programs) t → IsObject programs t
 is_object programs t h = let a = from_all 160 programs t h in record { place = a.place; program = a.program; found = a.found; among = a.among }
@@ -159,7 +162,7 @@ module _ (stack : ℕ) (openings : List Opening) (k j : ℕ) (o : Opening) (foun
   dictionary_is = ap (λ n. 160 + dictionaries (take n (programs_of openings))) before
 
   segments_are : segments_in (slice_get (programs_of openings) (j - 1)) ≡ length o.program.segments
-  segments_are = ap (λ n. segments_in (slice_get (programs_of openings) n)) before ∙ ap segments_in (mapped (λ (x : Opening). x.program) openings k o found)
+  segments_are = ap (λ n. segments_in (slice_get (programs_of openings) n)) before ∙ ap segments_in (at_mapped (λ (x : Opening). x.program) openings k o found)
 
   pub home_is : (i : ℕ) → (opening_plan stack (programs_of openings)).home j i ≡ 160 + dictionaries (take k (programs_of openings)) + 1 + length o.program.segments + i
   home_is i = omega (arith, dictionary_is, segments_are)
@@ -177,12 +180,12 @@ module _ (stack : ℕ) (openings : List Opening) (k j : ℕ) (o : Opening) (foun
       let codes = code_from (at + 2) o.program.segments in
       let rows = rows_from (at + (2 + length o.program.segments)) o.program.rows in
       ⊎_elim
-      (λ (m : Has (code_objects plan j 1 o.program.segments) t). has_left codes rows t (subst (λ ts. Has ts t) codes_of m))
+      (λ (m : Has (code_objects plan j 1 o.program.segments) t). has_append_left codes rows t (subst (λ ts. Has ts t) codes_of m))
       (λ (m : Has (map (array_object plan j) (reverse (row_arrays 1 o.program.rows))) t).
       let a = has_mapped (array_object plan j) (reverse (row_arrays 1 o.program.rows)) t m in
-      let b : Has (map (array_object plan j) (row_arrays 1 o.program.rows)) (array_object plan j a.0) = has_map (array_object plan j) (row_arrays 1 o.program.rows) a.0 (has_turned (row_arrays 1 o.program.rows) a.0 a.1) in
-      has_right codes rows t (subst (λ u. Has rows u) a.2 (subst (λ ts. Has ts (array_object plan j a.0)) rows_of b)))
-      (has_split (code_objects plan j 1 o.program.segments) (map (array_object plan j) (reverse (row_arrays 1 o.program.rows))) t h)
+      let b : Has (map (array_object plan j) (row_arrays 1 o.program.rows)) (array_object plan j a.0) = has_map (array_object plan j) (row_arrays 1 o.program.rows) a.0 (has_reverse_back (row_arrays 1 o.program.rows) a.0 a.1) in
+      has_append_right codes rows t (subst (λ u. Has rows u) a.2 (subst (λ ts. Has ts (array_object plan j a.0)) rows_of b)))
+      (has_append_cases (code_objects plan j 1 o.program.segments) (map (array_object plan j) (reverse (row_arrays 1 o.program.rows))) t h)
 
   pub objects_member : (t : PagedObject) → Has (objects_at (160 + dictionaries (take k (programs_of openings))) o.program) t → Has (objects_of (opening_plan stack (programs_of openings)) (member stack j o)) t
   objects_member t h =
@@ -192,12 +195,12 @@ module _ (stack : ℕ) (openings : List Opening) (k j : ℕ) (o : Opening) (foun
       let rows = rows_from (at + (2 + length o.program.segments)) o.program.rows in
       let listed = map (array_object plan j) (reverse (row_arrays 1 o.program.rows)) in
       ⊎_elim
-      (λ (m : Has codes t). has_left (code_objects plan j 1 o.program.segments) listed t (subst (λ ts. Has ts t) (sym codes_of) m))
+      (λ (m : Has codes t). has_append_left (code_objects plan j 1 o.program.segments) listed t (subst (λ ts. Has ts t) (sym codes_of) m))
       (λ (m : Has rows t).
       let a = has_mapped (array_object plan j) (row_arrays 1 o.program.rows) t (subst (λ ts. Has ts t) (sym rows_of) m) in
-      has_right (code_objects plan j 1 o.program.segments) listed t
+      has_append_right (code_objects plan j 1 o.program.segments) listed t
       (subst (λ u. Has listed u) a.2 (has_map (array_object plan j) (reverse (row_arrays 1 o.program.rows)) a.0 (has_reverse (row_arrays 1 o.program.rows) a.0 a.1))))
-      (has_split codes rows t h)
+      (has_append_cases codes rows t h)
 
 -- the view's objects and those in a row are the same
 pub from_machine_view : (stack : ℕ) (openings : List Opening) (t : PagedObject) →
@@ -206,7 +209,7 @@ from_machine_view stack openings t h =
     let plan = opening_plan stack (programs_of openings) in
     let m = has_flat (objects_of plan) (opened_from 1 stack openings) t h in
     for_members (λ (x : SessionJob). Has (objects_of plan x) t → Has (objects_from 160 (programs_of openings)) t) stack 1 openings
-    (λ k j o e f i. among_all 160 (programs_of openings) k o.program t (mapped (λ (x : Opening). x.program) openings k o e) (member_objects stack openings k j o e f t i))
+    (λ k j o e f i. among_all 160 (programs_of openings) k o.program t (at_mapped (λ (x : Opening). x.program) openings k o e) (member_objects stack openings k j o e f t i))
     m.0 m.1 m.2
 
 pub to_machine_view : (stack : ℕ) (openings : List Opening) (t : PagedObject) →
@@ -214,7 +217,7 @@ pub to_machine_view : (stack : ℕ) (openings : List Opening) (t : PagedObject) 
 to_machine_view stack openings t h =
     let plan = opening_plan stack (programs_of openings) in
     let i = is_object (programs_of openings) t h in
-    let o = from_mapped (λ (x : Opening). x.program) openings i.place i.program i.found in
+    let o = mapped_at (λ (x : Opening). x.program) openings i.place i.program i.found in
     has_flat_map (objects_of plan) (opened_from 1 stack openings) (member stack (1 + i.place) o.0) t
     (has_member stack 1 openings i.place (1 + i.place) o.0 o.1 refl)
     (objects_member stack openings i.place (1 + i.place) o.0 o.1 refl t (subst (λ p. Has (objects_at (160 + dictionaries (take i.place (programs_of openings))) p) t) (sym o.2) i.among))
@@ -236,6 +239,6 @@ objects_long at (o ∷ more) t h k = ⊎_elim
     (λ (m : Has (objects_at at o.program) t). ⊎_elim
     (λ (a : Has (code_from (at + 2) o.program.segments) t). codes_long (at + 2) o.program.segments t h.0.segments a)
     (λ (a : Has (rows_from (at + (2 + length o.program.segments)) o.program.rows) t). rows_long (at + (2 + length o.program.segments)) o.program.rows t h.0.rows a)
-    (has_split (code_from (at + 2) o.program.segments) (rows_from (at + (2 + length o.program.segments)) o.program.rows) t m))
+    (has_append_cases (code_from (at + 2) o.program.segments) (rows_from (at + (2 + length o.program.segments)) o.program.rows) t m))
     (λ (m : Has (objects_from (at + dictionary_words o.program) (programs_of more)) t). objects_long (at + dictionary_words o.program) more t h.1 m)
-    (has_split (objects_at at o.program) (objects_from (at + dictionary_words o.program) (programs_of more)) t k)
+    (has_append_cases (objects_at at o.program) (objects_from (at + dictionary_words o.program) (programs_of more)) t k)

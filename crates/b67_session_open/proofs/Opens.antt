@@ -1,8 +1,9 @@
 -- The machine that was set up, with its tables, stands for the opening state of a deck's session.
-use Rattle.std.proofs.Common.{◌≡◌, ℕ, zero, suc, ◌+◌, List, length, map, Option, refl, ◌∙◌, ap}
+use Rattle.std.proofs.Common.{◌≡◌, ℕ, List, length, map, Option, ◌∙◌}
 use Rattle.std.specs.List.{AllByRecursion}
 use Rattle.std.proofs.lemmas.List.{length-map}
-use Rattle.b67_backing.specs.Shelf.{Table, IsShelf, row, all_free}
+use Rattle.b67_backing.specs.Shelf.{Table, IsShelf, all_free}
+use Rattle.b67_backing.proofs.News.{length-row}
 use Rattle.b67_model_text.specs.declared.deck.Deck.{Deck}
 use Rattle.b67_codefile.specs.declared.file.Codefile.{Codefile}
 use Rattle.b67_codefile.specs.Meaning.{program_of}
@@ -19,13 +20,9 @@ use Rattle.b67_session_open.proofs.Decks.{deck_within, programs_back}
 pub programs_are : (d : Deck) (fs : List Codefile) → length fs ≡ length d.jobs → programs_of (openings_of d.jobs (map program_of fs)) ≡ map program_of fs
 programs_are d fs each = programs_back d.jobs (map program_of fs) (length-map fs program_of ∙ each)
 
-row_length : (c n : ℕ) → length (row c n) ≡ n
-row_length c zero = refl
-row_length c (suc n) = ap suc (row_length (c + 1) n)
-
 -- all sectors are free
 pub free_are : (t : Table) (n : ℕ) → IsShelf t (all_free n) → t.free ≡ n
-free_are t n is = is.count ∙ row_length 1 n
+free_are t n is = is.count ∙ length-row 1 n
 
 pub machine_opens : (d : Deck) (fs : List Codefile) (told : Option (List (List ℕ))) (x : Storage) (k : Machine) (core : ℕ) → DeckInRange d → length fs ≡ length d.jobs → AllByRecursion IsLoaded fs
     → Opens k.areas k.sectors told x k.cpu d.stack (map program_of fs)

@@ -4,15 +4,16 @@ use Rattle.std.specs.List.{slice_get}
 use Rattle.std.proofs.lemmas.Option.{slice_get_within}
 use Rattle.std.proofs.lemmas.List.{length-map}
 use Rattle.b67_lemmas.specs.Lists.{Has}
+use Rattle.b67_lemmas.proofs.Places.{at_mapped, mapped_at}
 use Rattle.b67_model.specs.State.{Entered, Ready, Task, SessionJob}
 use Rattle.b67_model.specs.Program.{Program}
 use Rattle.b67_model.specs.Schedule.{Switch}
 use Rattle.b67_law_order_runs.specs.Opening.{Opening, opened_from, opening}
 use Rattle.b67_law_order_runs.proofs.Rows.{entries_count}
+use Rattle.b67_law_order_runs.proofs.Opens.{jobs_count}
 use Rattle.b67_layout.specs.Placement.{Slotted, Placement}
 use Rattle.b67_layout.specs.Session.{RowsFit, DictionariesFollow, RowHomes, PlanFits}
 use Rattle.b67_session_open.specs.Opened.{dictionary_words, dictionaries, opening_plan, programs_of}
-use Rattle.b67_session_open.proofs.Lists.{mapped, from_mapped}
 use Rattle.b67_session_open.proofs.Members.{member, for_members, has_member, slotted, for_slots, has_slot}
 use Rattle.b67_session_open.proofs.Objects.{dictionary_is, home_is}
 
@@ -32,10 +33,10 @@ for_tasks P stack openings h m t i = for_members (λ (x : SessionJob). (u : Task
 rows_fit : (stack : ℕ) (openings : List Opening) → RowsFit (opening_plan stack (programs_of openings)) (opened_from 1 stack openings)
 rows_fit stack openings = record {
   live = for_slots (λ r. (m : SessionJob) × (t : Task) × Has jobs m × (m.constants.number ≡ r.job) × Has m.progress.job.tasks t × (t.number ≡ r.task)) 0 programs
-      (λ k s p e f. let o = from_mapped (λ (x : Opening). x.program) openings k p e in
+      (λ k s p e f. let o = mapped_at (λ (x : Opening). x.program) openings k p e in
       (member stack (s + 1) o.0, first_task, has_member stack 1 openings k (s + 1) o.0 o.1 (omega (arith, f)), refl, inl refl, refl));
   slotted = for_tasks (λ m t. (r : Slotted) × Has (opening_plan stack programs).rows r × (r.job ≡ m.constants.number) × (r.task ≡ t.number)) stack openings
-      (λ k j o e f. (slotted k, has_slot 0 programs k k o.program (mapped (λ (x : Opening). x.program) openings k o e) (omega arith), omega (arith, f), refl));
+      (λ k j o e f. (slotted k, has_slot 0 programs k k o.program (at_mapped (λ (x : Opening). x.program) openings k o e) (omega arith), omega (arith, f), refl));
   below = for_slots (λ r. r.slot < length programs) 0 programs (λ k s p e f. omega (arith, f, slice_get_within programs k p e));
   differ = λ a b ina inb e. same a b ina inb e;
   tasks_differ = λ a b ina inb e g. same_job a b ina inb e;
@@ -62,17 +63,13 @@ follow plan stack n at (o ∷ more) h e = (
       (follow plan stack (n + 1) (at + dictionary_words o.program) more (λ k j q f g. omega (arith, h (suc k) j q f (omega (arith, g)))) (omega (arith, e))),
 )
 
-pub length_opened : (n stack : ℕ) (openings : List Opening) → length (opened_from n stack openings) ≡ length openings
-length_opened n stack [] = refl
-length_opened n stack (o ∷ more) = ap suc (length_opened (n + 1) stack more)
-
 pub count_is : (openings : List Opening) → length (programs_of openings) ≡ length openings
 count_is openings = length-map openings (λ (o : Opening). o.program)
 
 pub plan_fits : (stack quantum : ℕ) (switches : List Switch) (openings : List Opening) → length openings ≤ 8 → PlanFits (opening_plan stack (programs_of openings)) (opening stack quantum switches openings)
 plan_fits stack quantum switches openings few = record {
   rows = rows_fit stack openings;
-  peak = count_is openings ∙ sym (length_opened 1 stack openings);
+  peak = count_is openings ∙ sym (jobs_count 1 stack openings);
   few = omega (arith, count_is openings, few);
   sizes = for_members (λ m. m.constants.stack_size ≡ stack) stack 1 openings (λ k j o e f. refl);
   dictionaries = follow (opening_plan stack (programs_of openings)) stack 1 160 openings (λ k j o e f. dictionary_is stack openings k j o e f) refl;

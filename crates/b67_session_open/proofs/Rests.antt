@@ -11,8 +11,9 @@ use Rattle.b67_backing.specs.Shelf.{Table, Shelf, IsShelf, first, chain_of}
 use Rattle.b67_lemmas.specs.Lists.{Has}
 use Rattle.b67_stack.specs.MachineView.{PagedObject, home_word_of, home_word, words_of}
 use Rattle.b67_stack.specs.Represents.{Storage, Told, HoldsIn, RepresentsObject, Owned}
+use Rattle.b67_stack.specs.Shapes.{at_rest}
 use Rattle.b67_load.specs.Objects.{sectors_of, sectors_of_all}
-use Rattle.b67_load.specs.Resting.{Resting, placed, stocked, at_rest, DescriptorsStand, WritesFreeSectors}
+use Rattle.b67_load.specs.Resting.{Resting, placed, stocked, DescriptorsStand, WritesFreeSectors}
 use Rattle.b67_load.proofs.Shelves.{Apart, placed_chain, placed_object}
 use Rattle.b67_session_open.specs.Stored.{sector_named, absent_storage, told_after}
 use Rattle.b67_session_open.proofs.Resting.{first_apart, chain_found, no_zero, chain_begins, placed_length, placed_has, chain_placed, Alone, one_place}

@@ -6,6 +6,8 @@ use Rattle.std.proofs.lemmas.Option.{slice_get_within}
 use Rattle.b67_word.specs.Tagged.{word}
 use Rattle.b67_area.specs.Directory.{IsDirectory}
 use Rattle.b67_lemmas.specs.Lists.{Has}
+use Rattle.b67_lemmas.proofs.Members.{keyed-has}
+use Rattle.b67_lemmas.proofs.Places.{at_mapped, get_within}
 use Rattle.b67_model.specs.State.{Task, SessionJob}
 use Rattle.b67_model.specs.Program.{Program}
 use Rattle.b67_model.specs.Schedule.{Switch}
@@ -19,11 +21,9 @@ use Rattle.b67_stack.specs.Represents.{Storage, RepresentsSlot, RepresentsObject
 use Rattle.b67_layout.specs.Placement.{Placement, slot_of}
 use Rattle.b67_layout.specs.Layout.{machine_view}
 use Rattle.b67_layout.specs.Session.{RepresentsDictionary, RepresentsMcp, vector_word, RepresentsVector, RepresentsCritical, critical_mark, IsRunning, RepresentsSession}
-use Rattle.b67_layout.proofs.Others.{keyed-has}
 use Rattle.b67_model.specs.Run.{number_of}
 use Rattle.b67_session_open.specs.Opened.{dictionaries, opening_plan, objects_from, first_stack, programs_of}
 use Rattle.b67_session_open.specs.Words.{SlotLies, SlotsLie, HeadsLie}
-use Rattle.b67_session_open.proofs.Lists.{item_at, mapped}
 use Rattle.b67_session_open.proofs.Members.{member, for_members, slotted, has_slot}
 use Rattle.b67_session_open.proofs.Heads.{head_at}
 use Rattle.b67_session_open.proofs.Objects.{Within, object_within, is_object, homes_differ, dictionary_is, from_machine_view, to_machine_view, objects_long}
@@ -71,7 +71,7 @@ module _ (x : Storage) (cpu : Cpu) (stack quantum : ℕ) (switches : List Switch
   for_each_slot P h k low =
       let few : k < length openings = omega (arith, low, count_is openings) in
       let small : k < 8 = omega (arith, few, within.few) in
-      let o = item_at openings k few in
+      let o = get_within openings k few in
       subst (P k) (sym (slot_is stack openings k o.0 o.1 small)) (h k small ((parts.slots.tasks k low).slot))
 
   home_low : (t : PagedObject) → Has p.objects t → Within 162 (160 + dictionaries (programs_of openings)) t
@@ -112,7 +112,7 @@ module _ (x : Storage) (cpu : Cpu) (stack quantum : ℕ) (switches : List Switch
 
   dictionary : (m : SessionJob) → Has jobs m → RepresentsDictionary cpu.core plan m
   dictionary = for_members (RepresentsDictionary cpu.core plan) stack 1 openings (λ k j o e f.
-      let head = head_at cpu.core 160 (programs_of openings) k o.program parts.heads (mapped (λ (q : Opening). q.program) openings k o e) in
+      let head = head_at cpu.core 160 (programs_of openings) k o.program parts.heads (at_mapped (λ (q : Opening). q.program) openings k o e) in
       let at = dictionary_is stack openings k j o e f in
       record {
         mark = ap (slice_get cpu.core) at ∙ head.mark;
@@ -135,7 +135,7 @@ module _ (x : Storage) (cpu : Cpu) (stack quantum : ℕ) (switches : List Switch
     live = for_places (λ m t. slice_get cpu.core (32 + slot_of plan m.constants.number t.number) ≡ Some (vector_word plan m.constants.number t.parents))
         (λ k o e small low is. ap (λ i. slice_get cpu.core (32 + i)) is ∙ (parts.slots.tasks k low).vector);
     free = λ k small none. ⊎_elim
-        (λ (low : k < length (programs_of openings)). let q = item_at (programs_of openings) k low in absurd (none (slotted k) (has_slot 0 (programs_of openings) k k q.0 q.1 (omega arith)) refl))
+        (λ (low : k < length (programs_of openings)). let q = get_within (programs_of openings) k low in absurd (none (slotted k) (has_slot 0 (programs_of openings) k k q.0 q.1 (omega arith)) refl))
         (λ (past : length (programs_of openings) ≤ k). parts.free k past small)
         (cases_lt k (length (programs_of openings)));
   }

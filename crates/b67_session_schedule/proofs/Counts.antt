@@ -7,6 +7,7 @@ use Rattle.std.proofs.lemmas.Bool.{cases_lt}
 use Rattle.std.proofs.lemmas.Bool.Decides.{eqb_tells}
 use Rattle.b67_model_text.specs.declared.deck.Switch as text
 use Rattle.b67_lemmas.specs.Lists.{Has}
+use Rattle.b67_lemmas.proofs.Places.{at_mapped, came_back, map-slice_set, mapped_at}
 use Rattle.b67_model.specs.State.{Task, SessionJob}
 use Rattle.b67_model.specs.Keyed.{change_keyed}
 use Rattle.b67_model.specs.Run.{number_of}
@@ -20,7 +21,6 @@ use Rattle.b67_task_tables.specs.declared.tables.Tasks.{Tasks}
 use Rattle.b67_task_tables.specs.Tables.{task_row, job_row, switch_of, counts_of, TasksShow}
 use Rattle.b67_session_schedule.specs.declared.counting.Chosen.{Chosen}
 use Rattle.b67_session_schedule.specs.Counted.{choice_of, counted_member, counted_row, counted, CountsHaveRoom, Past}
-use Rattle.b67_task_switch.proofs.Lists.{mapped_at, at_mapped, map-slice_set}
 
 -- one switch more is past
 pub past_grown : (xs : List text.Switch) (from made n : ℕ) (d : text.Switch) → from < length xs → (get_or xs from d).count < made → n ≤ from + 1 → Past from made (map switch_of xs) → Past n made (map switch_of xs)
@@ -121,13 +121,6 @@ module _ (plan : Placement) (s : Session) (choice : Choice) (task_rows : List Ta
       running = shows.counts.running;
     };
   }
-
--- a list that was lent and comes back with its length
-came_back : {A : Type 0} (xs ws : List A) → length ws ≡ length xs → take (length xs) (ws ++ drop (length ws) xs) ≡ ws
-came_back [] [] e = refl
-came_back [] (w ∷ ws) e = absurd (omega (arith, e))
-came_back (x ∷ xs) [] e = absurd (omega (arith, e))
-came_back (x ∷ xs) (w ∷ ws) e = ap (λ r. w ∷ r) (came_back xs ws (omega (arith, e)))
 
 pub jobs_after : (xs lent new : List JobRow) (n : ℕ) (r : JobRow) → lent ≡ xs → (slice_get lent n ≡ Some r → new ≡ slice_set lent n (counted_row r)) → length new ≡ length lent → slice_get xs n ≡ Some r
     → take (length xs) (new ++ drop (length new) xs) ≡ slice_set xs n (counted_row r)

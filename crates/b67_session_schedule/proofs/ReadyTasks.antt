@@ -4,11 +4,12 @@ use Rattle.std.proofs.lemmas.List.{map-append}
 use Rattle.std.proofs.lemmas.List.Elements.{filter-append}
 use Rattle.std.proofs.lemmas.Bool.{cases_Bool, true≢false}
 use Rattle.b67_lemmas.specs.Lists.{Has, Falls}
+use Rattle.b67_lemmas.proofs.Members.{all_in, falls_low, has_append_cases, has_filter, has_filter_in, has_flat, has_get, has_map, has_map_back, has_reverse, has_reverse_back, reverse_cons}
+use Rattle.b67_lemmas.proofs.Places.{at_mapped, has_at, mapped_at}
 use Rattle.b67_model.specs.State.{Condition, Ready, Awaits, WaitsAt, Task, Job, SessionJob}
 use Rattle.b67_model.specs.Endings as model
 use Rattle.b67_model.specs.Schedule.{Who, Session, is_before, ready_of, ready}
 use Rattle.b67_model.specs.InOrder.{JobInOrder, IsSegment, NumberedFrom, IsInOrderButPlaces}
-use Rattle.b67_law_order.proofs.Members.{has_append_cases, has_map, has_map_back, has_flat, has_filter, has_filter_in, has_reverse, has_reverse_back, reverse_cons, falls_low, all_in}
 use Rattle.b67_layout.specs.Placement.{Placement}
 use Rattle.b67_layout.specs.Rows as rows
 use Rattle.b67_layout.specs.Rows.{IsReady, AwaitsTask, WaitsAtCell, shown, TaskShows, TablesShow}
@@ -18,8 +19,7 @@ use Rattle.b67_task_tables.specs.declared.tables.TaskRow.{TaskRow}
 use Rattle.b67_task_tables.specs.Tables.{state_of, task_row}
 use Rattle.b67_session_schedule.specs.Chosen.{who_of, is_ready, IsReadyAt}
 use Rattle.b67_session_schedule.proofs.Orders.{before_job, before_task}
-use Rattle.b67_task_switch.proofs.Lists.{at_has, has_at, mapped_at, at_mapped}
-use Rattle.b67_task_switch.proofs.Tables.{numbered_low}
+use Rattle.b67_law_order.proofs.Numbered.{numbered_low}
 
 -- tasks in order
 abbrev pub Rises : List Who → Type 0
@@ -119,7 +119,7 @@ module _ (plan : Placement) (s : Session) (o : IsInOrderButPlaces s) where
     -- a ready task's row is one of a ready task of the session
     pub row_ready : (i : ℕ) (w : Who) → IsReadyAt task_rows i w → Has (ready s) w
     row_ready i w a =
-        let (m, t, inm, int, sh) = shows.tasks (task_row a.row) (at_has (map task_row task_rows) i (task_row a.row) (at_mapped task_row task_rows i a.row a.at)) in
+        let (m, t, inm, int, sh) = shows.tasks (task_row a.row) (has_get (map task_row task_rows) i (task_row a.row) (at_mapped task_row task_rows i a.row a.at)) in
         let r = ready_condition plan m.constants.number m.progress.job t a.row.state t.condition a.ready sh.state in
         let is : named m.constants.number t ≡ w = sym (one_name a.row.job a.row.number m.constants.number t.number sh.job sh.number) ∙ a.is in
         subst (λ (v : Who). Has (ready s) v) is (has_flat ready_of s.jobs m (named m.constants.number t) inm (of_tasks m.constants.number m.progress.job.tasks t int r))

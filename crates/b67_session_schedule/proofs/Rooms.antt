@@ -7,10 +7,11 @@ use Rattle.std.proofs.lemmas.List.Sums.{sum_by-cons}
 use Rattle.std.proofs.lemmas.Option.{none-some}
 use Rattle.std.proofs.lemmas.Bool.{cases_Bool}
 use Rattle.b67_lemmas.specs.Lists.{Has}
+use Rattle.b67_lemmas.proofs.Members.{all_in}
+use Rattle.b67_lemmas.proofs.Places.{mapped_at}
 use Rattle.b67_model.specs.State.{SessionJob}
 use Rattle.b67_model.specs.InOrder.{JobInOrder, IsSegment, IsInOrderButPlaces}
 use Rattle.b67_model.specs.Schedule.{Who, Session, Choice, is_before, ready, switched, goes_on, first, next_after, afresh, choice_by, choice}
-use Rattle.b67_law_order.proofs.Members.{all_in}
 use Rattle.b67_layout.specs.Placement.{Placement}
 use Rattle.b67_layout.specs.Rows as rows
 use Rattle.b67_task_tables.specs.declared.tables.Tasks.{Tasks}
@@ -20,8 +21,8 @@ use Rattle.b67_session_schedule.specs.Counted.{choice_of, CountsHaveRoom}
 use Rattle.b67_session_schedule.specs.Chosen.{IsReadyAt, Chooses}
 use Rattle.b67_session_schedule.proofs.ReadyTasks.{among_members, among_tasks, row_ready}
 use Rattle.b67_session_schedule.proofs.Choices.{cyclic}
-use Rattle.b67_task_switch.proofs.Lists.{mapped_at}
-use Rattle.b67_task_switch.proofs.Tables.{numbered_low, job_at}
+use Rattle.b67_task_switch.proofs.Tables.{job_at}
+use Rattle.b67_law_order.proofs.Numbered.{numbered_low}
 
 -- a list in which none comes next is empty
 first_cons : (xs ys : List Who) (w : Who) → first (xs ++ (w ∷ ys)) ≡ None → ⊥

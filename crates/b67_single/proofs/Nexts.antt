@@ -199,7 +199,7 @@ module _ (s : Session) (m : SessionJob) (t : Task) (single : IsSingle s m t) whe
       limit_with job one.0 printed touched (e ∙ ap (λ (j : Job). Ok (Goes j printed touched)) is) at
 
 -- a task of no parents, written out
-abbrev first_task : Task → Task
+abbrev pub first_task : Task → Task
 first_task u = record u { parents = []; condition = Ready }
 
 module _ (s : Session) (m : SessionJob) (u : Task) (single : IsSingle s m (first_task u)) where

@@ -3,7 +3,7 @@ use Rattle.std.proofs.Common.{◌≡◌, ℕ, ◌+◌, List, [], ◌∷◌, leng
 use Rattle.b67_stack.specs.Shapes.{Shape}
 use Rattle.b67_stack.specs.Stacks.{Head, Marked, Entered, Activation, head_size, stack_words, headed, words}
 
-headed-length : (k : ℕ) (h : Head) (below : List Activation) (under : List Shape) → length (headed k h below under) ≡ head_size h + length under
+pub headed-length : (k : ℕ) (h : Head) (below : List Activation) (under : List Shape) → length (headed k h below under) ≡ head_size h + length under
 headed-length k Marked below under = omega arith
 headed-length k (Entered level environment back) below under = omega arith
 

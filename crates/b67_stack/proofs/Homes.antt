@@ -22,7 +22,7 @@ same_bit true false e = absurd (omega arith)
 same_bit false true e = absurd (omega arith)
 same_bit false false e = refl
 
-bit-lt : (a : Bool) → bit a < 2
+pub bit-lt : (a : Bool) → bit a < 2
 bit-lt true = omega arith
 bit-lt false = omega arith
 

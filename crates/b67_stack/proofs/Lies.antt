@@ -1,10 +1,11 @@
 -- Words that lie in core by their shapes.
-use Rattle.std.proofs.Common.{◌≡◌, ℕ, ◌+◌, ◌<◌, ◌≤◌, List, [], ◌∷◌, ◌++◌, length, Some, refl, ◌∙◌, arith, ⊎_elim, inl, inr, slice_set, subst}
+use Rattle.std.proofs.Common.{◌≡◌, ℕ, ◌+◌, ◌<◌, ◌≤◌, List, [], ◌∷◌, ◌++◌, length, Some, refl, ◌∙◌, arith, ⊎_elim, inl, inr, slice_set, subst, suc, ap, take, drop, ◌-◌}
 use Rattle.std.proofs.lemmas.Bool.{cases_eq}
-use Rattle.std.specs.List.{slice_get}
+use Rattle.std.specs.List.{slice_get, slice_range}
 use Rattle.b67_word.specs.Tagged.{Tagged}
 use Rattle.b67_core.proofs.Writes.{slice_get-set_same, slice_get-set_other}
 use Rattle.b67_lemmas.specs.Lists.{Has}
+use Rattle.b67_lemmas.proofs.Places.{drop-get}
 use Rattle.b67_stack.specs.Shapes.{Shape, LieDownward, LieUpward}
 
 -- words in another core, or by another relation: at each place, what fitted fits
@@ -51,3 +52,15 @@ Lie-at R core from (a ∷ more) i low high l = ⊎_elim
     (λ (e : i ≡ from + length more). rw e (let r : Found R core (from + length more) (a ∷ more) = record { shape = a; word = l.0.0; among = inl refl; there = l.0.1; fits = l.0.2 } in r))
     (λ (n : i ≡ from + length more → ⊥). let r = Lie-at R core from more i low (omega arith) l.1 in record { shape = r.shape; word = r.word; among = inr r.among; there = r.there; fits = r.fits })
     (cases_eq i (from + length more))
+
+pub upward-take : (core : List Tagged) (at : ℕ) (ws : List Tagged) → LieUpward core at ws → take (length ws) (drop at core) ≡ ws
+upward-take core at [] u = refl
+upward-take core at (w ∷ ws) u =
+    let next : at + 1 ≡ suc at = omega arith in
+    let rest : take (length ws) (drop (suc at) core) ≡ ws = subst (λ n. take (length ws) (drop n core) ≡ ws) next (upward-take core (at + 1) ws u.1) in
+    rw (drop-get core at w u.0) (ap (λ ys. w ∷ ys) rest)
+
+pub upward-range : (core : List Tagged) (at n : ℕ) (ws : List Tagged) → n ≡ length ws → LieUpward core at ws → slice_range core at (at + n) ≡ ws
+upward-range core at n ws e u =
+    let count : at + n - at ≡ length ws = omega (arith, e) in
+    ap (λ k. take k (drop at core)) count ∙ upward-take core at ws u

@@ -1,11 +1,10 @@
 -- A step that changes the running stack alone needs a proof for that stack alone.
-use Rattle.std.proofs.Common.{◌≡◌, ◌≢◌, ℕ, suc, ◌+◌, ◌<◌, ◌≤◌, List, [], ◌∷◌, length, Option, Some, None, refl, sym, ◌∙◌, arith, inl, inr, ◌⊎◌, ⊎_elim, subst}
+use Rattle.std.proofs.Common.{◌≡◌, ◌≢◌, ℕ, suc, ◌+◌, ◌<◌, ◌≤◌, List, length, Option, Some, None, refl, sym, ◌∙◌, arith, inl, inr, ◌⊎◌, ⊎_elim, subst}
 use Rattle.std.specs.List.{slice_get}
 use Rattle.std.proofs.lemmas.Bool.{cases_eq, cases_lt, eq-eqb, ne_eqb}
 use Rattle.b67_word.specs.Tagged.{Tagged}
-use Rattle.b67_area.specs.Spans.{Span, Area, Hole}
 use Rattle.b67_area.proofs.Climbs.{area_at-low}
-use Rattle.b67_area.proofs.Separation.{Controls, IsDirectory-same}
+use Rattle.b67_area.proofs.Separation.{IsDirectory-same, controls_above}
 use Rattle.b67_lemmas.specs.Lists.{Has}
 use Rattle.b67_ctl.specs.declared.registers.Regs.{Regs}
 use Rattle.b67_stack.specs.Shapes.{Fits, LieDownward}
@@ -35,14 +34,8 @@ slot_other old new r r' p k j slot Free n e e' same t = (λ z. n (sym z ∙ e'),
 slot_other old new r r' p k j slot (Running stack) n e e' same t = absurd (n (sym t.slot ∙ e))
 slot_other old new r r' p k j slot (Waiting stack) n e e' same t = (λ z. n (sym z ∙ e'), same ∙ t.1)
 
--- heads and tails of areas, and the first words of holes, lie above the slots
-controls_above : (at : ℕ) (ss : List Span) (i : ℕ) → Controls at ss i → at ≤ i
-controls_above at [] i c = absurd c
-controls_above at (Area a ∷ ss) i c = ⊎_elim (λ e. omega arith) (λ d. ⊎_elim (λ e. omega arith) (λ r. omega (arith, controls_above (at + (a.words + 2)) ss i r)) d) c
-controls_above at (Hole n ∷ ss) i c = ⊎_elim (λ e. omega arith) (λ r. omega (arith, controls_above (at + n) ss i r)) c
-
 -- a slot's words fit in it
-slot_room : (p : MachineView) (k : ℕ) (s : Slot) → SlotFits p k s → 0 < p.size → stack_words (stack_of s) < p.size
+pub slot_room : (p : MachineView) (k : ℕ) (s : Slot) → SlotFits p k s → 0 < p.size → stack_words (stack_of s) < p.size
 slot_room p k Free f some = some
 slot_room p k (Running stack) f some = f.0.fits
 slot_room p k (Waiting stack) f some = f.0.fits

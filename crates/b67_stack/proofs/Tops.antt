@@ -29,7 +29,7 @@ head-lies : (R : Locations) (core : List Tagged) (from k : ℕ) (h : Head) (belo
 head-lies R core from k Marked below l = ap (λ n. slice_get core (from + n)) (sym (words-length k below)) ∙ l.0.1 ∙ ap Some l.0.2.0
 head-lies R core from k (Entered level environment back) below l = ap (λ n. slice_get core (from + n)) (sym (words-length k below)) ∙ l.1.0.1 ∙ ap Some l.1.0.2.0
 
-mark-fits : (k : ℕ) (h : Head) (below : List Activation) → HeadFits h below → top_size below < 2 ^ 14 → IsMscw (mark_of k h below)
+pub mark-fits : (k : ℕ) (h : Head) (below : List Activation) → HeadFits h below → top_size below < 2 ^ 14 → IsMscw (mark_of k h below)
 mark-fits k Marked below f small = record { env_stack = omega arith; env_disp = omega arith; level = omega arith; back = small; marked = λ e. refl }
 mark-fits k (Entered level environment back) below f small = record { env_stack = f.1; env_disp = f.2; level = f.0; back = small; marked = λ e. absurd (let z : ⊥ = cc in z) }
 
@@ -37,7 +37,7 @@ mark-size : (k : ℕ) (h : Head) (below : List Activation) → bit (mark_of k h 
 mark-size k Marked below = refl
 mark-size k (Entered level environment back) below = refl
 
-top_size-high : (stack : List Activation) → top_size stack ≤ stack_words stack
+pub top_size-high : (stack : List Activation) → top_size stack ≤ stack_words stack
 top_size-high [] = omega arith
 top_size-high (a ∷ below) = omega arith
 
@@ -114,3 +114,10 @@ module _ (x : Storage) (core : List Tagged) (r : Regs) (p : MachineView) (k : �
 pub topped_by : (cpu : Cpu) (stack : List Activation) (t f l : ℕ) → t ≡ cpu.regs.bosr + stack_words stack → f ≡ cpu.regs.bosr + mark_place stack → l ≡ running_level stack
     → ◌≡◌ {A = Cpu} (record cpu { regs = record cpu.regs { s = t; f = f; level = l } }) (topped cpu stack)
 topped_by cpu stack t f l a b e = rw (a, b, e) refl
+
+pub mark_high : (stack : List Activation) → mark_place stack ≤ stack_words stack
+mark_high [] = omega arith
+mark_high (a ∷ below) = head a.head where
+  head : (h : Head) → stack_words below + 1 ≤ stack_words (record { head = h; cells = a.cells } ∷ below)
+  head Marked = omega arith
+  head (Entered level environment back) = omega arith

@@ -1,5 +1,5 @@
 -- What a word of a stack stands for, and when a word of core is such a word.
-use Rattle.std.specs.Prelude.{◌≡◌, ◌≢◌, ℕ, Bool, true, false, ◌+◌, List, [], ◌∷◌, length, Option, Some, MatchBool, slice_get}
+use Rattle.std.specs.Prelude.{◌≡◌, ◌≢◌, ℕ, Bool, true, false, ◌+◌, List, [], ◌∷◌, length, Option, Some, MatchBool, slice_get, None}
 use Rattle.b67_word.specs.Tagged.{Tagged}
 use Rattle.b67_ctl.specs.declared.descriptors.DataDesc.{DataDesc}
 use Rattle.b67_ctl.specs.Descriptors.{data_word, IsDataDesc}
@@ -62,3 +62,11 @@ LieDownward R core from (a ∷ more) =
 abbrev pub LieUpward : List Tagged → ℕ → List Tagged → Type 0
 LieUpward core at [] = Unit {0}
 LieUpward core at (w ∷ ws) = (slice_get core at ≡ Some w) × LieUpward core (at + 1) ws
+
+-- in no area and in no chain
+abbrev pub nowhere : Location
+nowhere = record { area = None; chain = 0 }
+
+-- absent from core, in the chain that begins with a sector
+abbrev pub at_rest : ℕ → Location
+at_rest sector = record { area = None; chain = sector }

@@ -86,6 +86,17 @@ impl Cpu {
         }
     }
 
+    /// Puts a word on the stack, where there is room.
+    pub fn put(&mut self, w: Word)
+        requires { self.old.regs.s + 1 < length self.old.core }
+        ensures { self.new ≡ pushed self.old w }
+    {
+        let _size = self.core.size();
+        let top = self.regs.s + 1;
+        self.core.set(top, w);
+        self.regs.s = top;
+    }
+
     /// Puts a word on the stack. Refused, with nothing changed, exactly where the stack's top is its slot's last word.
     pub fn push(&mut self, w: Word) -> Result<(), StackOverflow>
         requires { Runs self.old }

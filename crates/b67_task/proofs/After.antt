@@ -6,13 +6,13 @@ use Rattle.b67_word.specs.Tagged.{word}
 use Rattle.b67_area.specs.declared.Kind.TheVariants as kind
 use Rattle.b67_ctl.specs.declared.registers.Regs.{Regs}
 use Rattle.b67_lemmas.specs.Lists.{Has}
+use Rattle.b67_lemmas.proofs.Members.{all_in, keyed-has}
 use Rattle.b67_model.specs.State.{Frame, Segment, Task, Job, SessionJob}
 use Rattle.b67_model.specs.Steps.{is_critical}
 use Rattle.b67_model.specs.Run.{number_of}
 use Rattle.b67_model.specs.Schedule.{Session}
 use Rattle.b67_model.specs.InOrder.{IsSegment, BirthInOrder, TaskInOrder, JobInOrder, IsInOrderButPlaces}
 use Rattle.b67_single.specs.Single.{IsSingle}
-use Rattle.b67_law_order.proofs.Members.{all_in}
 use Rattle.b67_law_order.proofs.Looks.{above_one}
 use Rattle.b67_stack.specs.declared.Cpu.{Cpu}
 use Rattle.b67_stack.specs.MachineView.{PagedObject, Free, MachineView, NoOriginalAboveTop}
@@ -20,7 +20,6 @@ use Rattle.b67_stack.specs.Represents.{Storage, Represents}
 use Rattle.b67_layout.specs.Placement.{Placement, slot_of}
 use Rattle.b67_layout.specs.Layout.{code_objects, machine_view}
 use Rattle.b67_layout.specs.Session.{DictionariesFollow, PlanFits, RowHomes, RepresentsDictionary, IsRunning, critical_mark, RepresentsSession}
-use Rattle.b67_layout.proofs.Others.{keyed-has}
 use Rattle.b67_task.proofs.Ends.{left_job, alone}
 use Rattle.b67_task.proofs.Alone.{in_jobs, in_tasks, no_row, bare_plan, bare_member, arrays_of, kept}
 use Rattle.b67_task.proofs.Homes.{stays_low}

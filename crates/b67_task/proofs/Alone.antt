@@ -3,25 +3,20 @@ use Rattle.std.proofs.Common.{◌≡◌, ◌≢◌, ℕ, List, [], ◌∷◌, �
 use Rattle.std.specs.Prelude.{filter, flat_map, ◌==◌, if◌then◌else◌}
 use Rattle.std.proofs.lemmas.Bool.{cases_Bool, cases_eq, eq-eqb, eqb-true}
 use Rattle.b67_lemmas.specs.Lists.{Has}
+use Rattle.b67_lemmas.proofs.Members.{has_append_cases, has_append_left, has_append_right, has_filter, has_filter_in, has_flat, has_flat_back, has_map, has_map_back, filter_none, found-has, keyed-has}
 use Rattle.b67_model.specs.State.{Array, Task, SessionJob}
 use Rattle.b67_model.specs.Keyed.{keyed}
 use Rattle.b67_model.specs.Run.{number_of}
 use Rattle.b67_model.specs.Schedule.{Session}
 use Rattle.b67_single.specs.Single.{IsSingle}
-use Rattle.b67_law_order.proofs.Members.{has_append_left, has_append_right, has_append_cases, has_map, has_map_back, has_flat, has_filter, has_filter_in}
 use Rattle.b67_stack.specs.MachineView.{PagedObject, Free}
 use Rattle.b67_layout.specs.Placement.{Slotted, Placement, slot_of}
 use Rattle.b67_layout.specs.Layout.{slot_by, slot_at, array_object, code_objects, objects_of}
 use Rattle.b67_layout.specs.Session.{RowsFit, IsRunning}
-use Rattle.b67_layout.proofs.Others.{keyed-has}
-use Rattle.b67_layout.proofs.Rows.{task_row, found-has}
-use Rattle.b67_layout_leave.proofs.Objects.{SameObjects, has_flat_back}
+use Rattle.b67_layout.proofs.Rows.{task_row}
+use Rattle.b67_layout_leave.proofs.Objects.{SameObjects}
 use Rattle.b67_task.specs.Endings.{without_slot}
 use Rattle.b67_task.proofs.Ends.{owned, left_job}
-
-filter_none : {A : Type 0} (p : A → Bool) (xs : List A) → ((x : A) → Has xs x → p x ≡ false) → filter p xs ≡ []
-filter_none p [] h = refl
-filter_none p (x ∷ xs) h = rw (h x (inl refl)) (filter_none p xs (λ y i. h y (inr i)))
 
 only : {A : Type 0} (xs : List A) (x y : A) → xs ≡ x ∷ [] → Has xs y → x ≡ y
 only {A = A} xs x y e h = ⊎_elim (λ (z : x ≡ y). z) (λ (z : ⊥). absurd z) (subst (λ (zs : List A). Has zs y) e h)

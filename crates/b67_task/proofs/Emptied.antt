@@ -1,11 +1,10 @@
 -- The machine after the only slot with a task was emptied: it stands for the view without tasks.
-use Rattle.std.proofs.Common.{◌≡◌, ◌≢◌, ℕ, ◌+◌, ◌<◌, ◌≤◌, List, [], ◌∷◌, length, Some, refl, sym, ◌∙◌, ap, arith, ⊎_elim, subst}
+use Rattle.std.proofs.Common.{◌≡◌, ◌≢◌, ℕ, ◌+◌, ◌<◌, ◌≤◌, List, length, Some, refl, sym, ◌∙◌, ap, arith, ⊎_elim, subst}
 use Rattle.std.specs.List.{slice_get}
 use Rattle.std.proofs.lemmas.Bool.{cases_eq, cases_lt}
 use Rattle.b67_word.specs.Tagged.{Tagged, word}
-use Rattle.b67_area.specs.Spans.{Span, Area, Hole}
 use Rattle.b67_area.proofs.Climbs.{area_at-low}
-use Rattle.b67_area.proofs.Separation.{Controls, IsDirectory-same}
+use Rattle.b67_area.proofs.Separation.{IsDirectory-same, controls_above}
 use Rattle.b67_ctl.specs.declared.registers.Regs.{Regs}
 use Rattle.b67_stack.specs.MachineView.{PagedObject, Slot, Free, MachineView, slot_base, Laid}
 use Rattle.b67_stack.specs.Represents.{Storage, RepresentsSlot, RepresentsObjects, Represents, info_of}
@@ -27,12 +26,6 @@ pub record Emptied (core new : List Tagged) (r r' : Regs) (p : MachineView) (k :
   pub zero : slice_get new (slot_base p k) ≡ Some (word 0 0)
   pub outside : (i : ℕ) → i ≢ slot_base p k → i ≢ 32 + k → slice_get new i ≡ slice_get core i
   pub regs : r' ≡ record r { slot = 255 }
-
--- heads and tails of areas, and the first words of holes, lie above the slots
-controls_above : (at : ℕ) (ss : List Span) (i : ℕ) → Controls at ss i → at ≤ i
-controls_above at [] i c = absurd c
-controls_above at (Area a ∷ ss) i c = ⊎_elim (λ e. omega arith) (λ d. ⊎_elim (λ e. omega arith) (λ r. omega (arith, controls_above (at + (a.words + 2)) ss i r)) d) c
-controls_above at (Hole n ∷ ss) i c = ⊎_elim (λ e. omega arith) (λ r. omega (arith, controls_above (at + n) ss i r)) c
 
 module _ (x : Storage) (core new : List Tagged) (r : Regs) (p : MachineView) (k : ℕ) (rest : List PagedObject)
     (c : Emptied core new r (record r { slot = 255 }) p k) (same : SameObjects p.objects rest) (s : Represents x core r p) where

@@ -10,12 +10,12 @@ use Rattle.b67_word.specs.Tagged.{Tagged}
 use Rattle.b67_area.specs.declared.Kind.TheVariants.{Code}
 use Rattle.b67_ctl.specs.declared.registers.Regs.{Regs}
 use Rattle.b67_lemmas.specs.Lists.{Has}
+use Rattle.b67_lemmas.proofs.Members.{all_in, any_has, any_some, falls_same, has_append_right, has_reverse}
 use Rattle.b67_model.specs.Words.{Original}
 use Rattle.b67_model.specs.State.{Frame, Array, Segment, Task, SessionJob}
 use Rattle.b67_model.specs.Schedule.{Session}
 use Rattle.b67_model.specs.InOrder.{IsSegment, WordInOrder, OwnsArray, EntryInOrder, JobInOrder, IsInOrderButPlaces, outer_of}
 use Rattle.b67_single.specs.Single.{IsSingle}
-use Rattle.b67_law_order.proofs.Members.{has_append_right, has_reverse, any_some, any_has, falls_same, all_in}
 use Rattle.b67_law_order.proofs.Looks.{above_one}
 use Rattle.b67_stack.specs.Shapes as Shapes
 use Rattle.b67_stack.specs.Shapes.{Shape, Fits, LieDownward, IsOriginal}

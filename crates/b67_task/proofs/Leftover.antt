@@ -1,5 +1,5 @@
 -- After its slot was emptied the arrays of the only task are left, and nothing else is.
-use Rattle.std.proofs.Common.{◌≡◌, ◌≢◌, ℕ, ◌+◌, ◌<◌, ◌≤◌, List, ◌++◌, length, Option, Some, None, sym, ◌∙◌, ap, arith, slice_set, length-set}
+use Rattle.std.proofs.Common.{◌≡◌, ◌≢◌, ℕ, ◌+◌, ◌<◌, ◌≤◌, List, ◌++◌, length, Option, Some, sym, ◌∙◌, ap, arith, slice_set, length-set}
 use Rattle.std.specs.List.{slice_get}
 use Rattle.b67_word.specs.Tagged.{Tagged, word}
 use Rattle.b67_core.proofs.Writes.{slice_get-set_same, slice_get-set_other}
@@ -14,7 +14,8 @@ use Rattle.b67_stack.specs.Stacks.{stack_words}
 use Rattle.b67_stack.specs.MachineView.{PagedObject, MachineView, slot_base}
 use Rattle.b67_stack.specs.Represents.{Storage, Represents}
 use Rattle.b67_stack.proofs.Bases.{base-apart}
-use Rattle.b67_layout_storage.specs.Machine.{Says, MachineRepresentsView}
+use Rattle.b67_layout_storage.specs.Machine.{MachineRepresentsView}
+use Rattle.b67_layout_storage.proofs.Devices.{says_of}
 use Rattle.b67_layout.specs.Placement.{Placement, slot_of}
 use Rattle.b67_layout.specs.Layout.{machine_view}
 use Rattle.b67_layout.specs.Session.{with_objects, RepresentsSession, RepresentsStorage}
@@ -23,10 +24,6 @@ use Rattle.b67_task.specs.Endings.{vacated}
 use Rattle.b67_task.proofs.Alone.{others_free, left, stays, same_objects}
 use Rattle.b67_task.proofs.Homes.{stack, base, used, stack_fits, goes_each, left_between, stays_low}
 use Rattle.b67_task.proofs.Emptied.{bare, Emptied, Represents-emptied}
-
-says : (d told : Option (List (List ℕ))) → told ≡ d → Says d told
-says None told e = tt
-says (Some all) told e = e
 
 module _ (x : Storage) (cpu : Cpu) (plan : Placement) (s : Session) (m : SessionJob) (t : Task) (o : IsInOrderButPlaces s) (h : RepresentsSession x cpu plan s) (single : IsSingle s m t) where
   abbrev p : MachineView
@@ -128,4 +125,4 @@ module _ (x : Storage) (cpu : Cpu) (plan : Placement) (s : Session) (m : Session
     }
 
     pub machine_left : (areas : Areas) (table : Table) (told : Option (List (List ℕ))) → RepresentsStorage areas table told cpu.core x → MachineRepresentsView x new areas table told (with_objects gone bare_machine_view)
-    machine_left areas table told b = record { stands = stands; low = b.low; shelf = b.shelf; device = says x.device told b.device }
+    machine_left areas table told b = record { stands = stands; low = b.low; shelf = b.shelf; device = says_of x.device told b.device }

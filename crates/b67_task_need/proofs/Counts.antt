@@ -3,16 +3,17 @@ use Rattle.std.proofs.Common.{◌≡◌, ◌≢◌, ℕ, ◌+◌, ◌≤◌, Lis
 use Rattle.std.proofs.lemmas.List.{length-map}
 use Rattle.std.proofs.lemmas.List.Sums.{sum_by-cons}
 use Rattle.b67_lemmas.specs.Lists.{Has, Falls}
+use Rattle.b67_lemmas.proofs.Members.{falls_low, has_append_cases, has_flat, has_flat_back, has_map, has_map_back}
 use Rattle.b67_model.specs.State.{Task, SessionJob}
 use Rattle.b67_model.specs.Run.{live_tasks}
 use Rattle.b67_model.specs.Schedule.{Session}
 use Rattle.b67_model.specs.InOrder.{NumberedFrom, IsInOrderButPlaces}
-use Rattle.b67_law_order.proofs.Members.{has_append_cases, has_map, has_map_back, has_flat, Part, falls_low}
 use Rattle.b67_layout.specs.Placement.{Slotted, Placement, slot_of}
 use Rattle.b67_layout.specs.Rows.{TaskRow, JobRow, Counts, Differ, TablesShow}
 use Rattle.b67_layout.specs.Session.{RowsFit}
 use Rattle.b67_layout.proofs.Rows.{task_row}
 use Rattle.b67_layout.proofs.Fresh.{job_in_order}
+use Rattle.b67_law_order.proofs.Numbered.{numbered_low}
 
 -- a list without one of its numbers
 record Without (ys : List ℕ) (n : ℕ) : Type 0 where
@@ -39,18 +40,6 @@ differ_append : (xs ys : List ℕ) → Differ xs → Differ ys → ((n : ℕ) �
 differ_append [] ys d e apart = e
 differ_append (x ∷ xs) ys d e apart =
     (λ h. ⊎_elim (λ (i : Has xs x). d.0 i) (λ (i : Has ys x). apart x (inl refl) i) (has_append_cases xs ys x h), differ_append xs ys d.1 e (λ n h k. apart n (inr h) k))
-
-pub part_of : {A B : Type 0} (f : A → List B) (xs : List A) (y : B) → Has (flat_map f xs) y → Part f xs y
-part_of f [] y h = absurd h
-part_of f (x ∷ xs) y h = ⊎_elim
-    (λ (i : Has (f x) y). record { item = x; among = inl refl; inside = i })
-    (λ (i : Has (flat_map f xs) y). let p = part_of f xs y i in record { item = p.item; among = inr p.among; inside = p.inside })
-    (has_append_cases (f x) (flat_map f xs) y h)
-
-numbered_low : (n : ℕ) (jobs : List SessionJob) (m : SessionJob) → NumberedFrom n jobs → Has jobs m → n ≤ m.constants.number
-numbered_low n [] m d h = absurd h
-numbered_low n (y ∷ more) m d (inl e) = let P : SessionJob → Type 0 = λ z. n ≤ z.constants.number in subst P e (omega (arith, d.0))
-numbered_low n (y ∷ more) m d (inr h) = omega (arith, numbered_low (n + 1) more m d.1 h)
 
 -- the slots of a job's live tasks
 abbrev pub slots_of : Placement → SessionJob → List ℕ
@@ -97,7 +86,7 @@ module _ (plan : Placement) (s : Session) (o : IsInOrderButPlaces s) (fit : Rows
       (jobs_differ (n + 1) more d.1 (λ y h. inside y (inr h)))
       (λ k h i.
       let t = has_map_back (λ (v : Task). slot_of plan m.constants.number v.number) m.progress.job.tasks k h in
-      let y = part_of (slots_of plan) more k i in
+      let y = has_flat_back (slots_of plan) more k i in
       let u = has_map_back (λ (v : Task). slot_of plan y.item.constants.number v.number) y.item.progress.job.tasks k y.inside in
       let e = (slot_tells m y.item t.item u.item inm t.among (inside y.item (inr y.among)) u.among (t.is ∙ sym u.is)).0 in
       omega (arith, e, d.0, numbered_low (n + 1) more y.item d.1 y.among))
@@ -113,7 +102,7 @@ module _ (plan : Placement) (s : Session) (o : IsInOrderButPlaces s) (fit : Rows
       subst (Has live) (sym w.slot ∙ r.is)
       (has_flat (slots_of plan) s.jobs m (slot_of plan m.constants.number t.number) inm (has_map (λ (v : Task). slot_of plan m.constants.number v.number) m.progress.job.tasks t int))) in
       let down = not_more live slots (jobs_differ 1 s.jobs o.numbered (λ m h. h)) (λ n h.
-      let y = part_of (slots_of plan) s.jobs n h in
+      let y = has_flat_back (slots_of plan) s.jobs n h in
       let u = has_map_back (λ (v : Task). slot_of plan y.item.constants.number v.number) y.item.progress.job.tasks n y.inside in
       let (r, inr_, w) = shows.each y.item u.item y.among u.among in
       subst (Has slots) (w.slot ∙ u.is) (has_map (λ (q : TaskRow). q.slot) rows r inr_)) in

@@ -17,14 +17,14 @@ use Rattle.b67_model.specs.InOrder.{IsInOrderButPlaces}
 use Rattle.b67_stack.specs.Represents.{Storage}
 use Rattle.b67_layout.specs.Placement.{Placement}
 use Rattle.b67_layout.specs.Session.{DictionariesFollow, IsRunning}
-use Rattle.b67_layout.proofs.Others.{keyed-has}
 use Rattle.b67_task_tables.specs.declared.tables.Machine.{Machine}
 use Rattle.b67_task_tables.specs.Tables.{MachineRepresents, task_row, job_row, counts_of}
 use Rattle.b67_exec_cells.proofs.Codes.{short}
 use Rattle.b67_task_need.specs.Needing.{array_area, need_with, touched_words, HasWords}
 use Rattle.b67_task_need.proofs.Counts.{rows_live}
+use Rattle.b67_lemmas.proofs.Members.{keyed-has}
 
-follow_all : (plan : Placement) (at : ℕ) (jobs : List SessionJob) → DictionariesFollow plan at jobs → at + sum_by (λ (m : SessionJob). 2 + length m.constants.dictionary.cells) jobs ≡ plan.stacks
+pub follow_all : (plan : Placement) (at : ℕ) (jobs : List SessionJob) → DictionariesFollow plan at jobs → at + sum_by (λ (m : SessionJob). 2 + length m.constants.dictionary.cells) jobs ≡ plan.stacks
 follow_all plan at [] d = omega (arith, d)
 follow_all plan at (m ∷ more) d = omega (
   arith,

@@ -1,14 +1,15 @@
 -- What dictionaries and stacks keep is the sector sum of the session.
 use Rattle.std.proofs.Common.{◌≡◌, ◌≢◌, ℕ, zero, suc, ◌+◌, ◌-◌, ◌^◌, ◌<◌, ◌≤◌, ◌==◌, Bool, true, false, List, [], ◌∷◌, ◌++◌, map, flat_map, length, reverse, Option, Some, None, refl, sym, ◌∙◌, ap, arith, inl, inr, subst}
-use Rattle.std.specs.Prelude.{sum_by, if◌then◌else◌}
+use Rattle.std.specs.Prelude.{if◌then◌else◌}
 use Rattle.std.specs.List.{slice_get}
 use Rattle.std.proofs.lemmas.Bool.{eqb-true}
 use Rattle.std.proofs.lemmas.List.{length-reverse}
-use Rattle.std.proofs.lemmas.List.Sums.{sum_by-cons}
 use Rattle.b67_word.specs.Tagged.{Tagged}
 use Rattle.b67_area.specs.declared.Kind.TheVariants as kind
 use Rattle.b67_area.proofs.Laws.{area_inside}
 use Rattle.b67_lemmas.specs.Lists.{Has, total, how_many}
+use Rattle.b67_lemmas.proofs.Members.{all_in, has_flat, has_flat_back, has_map, has_map_back, has_reverse_back, keyed_falls, total_append, total_flat, total_map, total_reverse, total_same, total_zero, found-has}
+use Rattle.b67_lemmas.proofs.Sums.{sum_total, total_plus}
 use Rattle.b67_model.specs.Words as Words
 use Rattle.b67_model.specs.Words.{Word, Operand, Name, Ref, Row, Element, Original, Proc, Intrinsic}
 use Rattle.b67_model.specs.State.{Frame, Array, Segment, JobConstants, Task, Job, SessionJob}
@@ -16,7 +17,6 @@ use Rattle.b67_model.specs.Keyed.{keyed}
 use Rattle.b67_model.specs.Sectors.{sectors_for, sectors_of, sectors}
 use Rattle.b67_model.specs.Schedule.{Session}
 use Rattle.b67_model.specs.InOrder.{Starts, IsSegment, Known, known_of, OwnsArray, FramesInOrder, WordInOrder, EntryInOrder, is_original_of, originals_of, outer_of, rows_after, DictionaryWords, TaskInOrder, TasksInOrder, IsInOrderButPlaces}
-use Rattle.b67_law_order.proofs.Members.{all_in, total_same, total_zero, total_append, total_map, total_flat, total_reverse, has_reverse_back}
 use Rattle.b67_stack.specs.declared.Cpu.{Cpu}
 use Rattle.b67_stack.specs.Shapes as Shapes
 use Rattle.b67_stack.specs.Shapes.{Location}
@@ -28,17 +28,18 @@ use Rattle.b67_stack.proofs.Homes.{chain_small}
 use Rattle.b67_layout.specs.Placement.{Slotted, Placement, slot_of, spot_in, outer_spots}
 use Rattle.b67_layout.specs.Layout.{shape, head, activations, stack_of_task, slot_by, slot_at, array_object, code_objects, objects_of, machine_view}
 use Rattle.b67_layout.specs.Session.{DictionariesFollow, RepresentsSession}
-use Rattle.b67_layout.proofs.Rows.{task_row, slot_below, found-has}
+use Rattle.b67_layout.proofs.Rows.{task_row, slot_below}
 use Rattle.b67_layout.proofs.Fresh.{job_in_order}
+use Rattle.b67_layout.proofs.Sessions.{follow-up}
 use Rattle.b67_exec_cells.proofs.Replaced.{array_object-has, member_objects, before}
-use Rattle.b67_layout_leave.proofs.Settles.{keyed_member, stack_in_slot}
+use Rattle.b67_layout_leave.proofs.Settles.{stack_in_slot}
 use Rattle.b67_layout_leave.proofs.Originals.{entry_number}
-use Rattle.b67_law_order.proofs.Members.{keyed_falls, has_map, has_map_back, has_flat}
 use Rattle.b67_exec_cells.proofs.Codes.{code_object}
 use Rattle.b67_task_need.specs.Sums.{sectors_at, sectors_from, sectors_of_slot, sectors_of_slots}
-use Rattle.b67_task_need.proofs.Counts.{slots_of, jobs_differ, part_of}
-use Rattle.b67_task_need.proofs.Totals.{upto, slots_total, range_split, range_first, kept, total_plus, kept_once, kept_original}
+use Rattle.b67_task_need.proofs.Counts.{slots_of, jobs_differ}
+use Rattle.b67_task_need.proofs.Totals.{upto, slots_total, range_split, range_first, kept, kept_once, kept_original}
 use Rattle.b67_task_need.proofs.Words.{home_array, home_code, of_shape, lies_total, headed_total}
+use Rattle.b67_law_order.proofs.Numbered.{keyed_member}
 
 -- the sectors of segments, and of arrays
 abbrev of_segments : List Segment → ℕ
@@ -75,14 +76,6 @@ frame_owns P arrays outer (f ∷ below) g w o (inl z) i a e =
     subst (λ (y : Frame). OwnsArray arrays y.identity a) z
     (all_in (WordInOrder P arrays (map known_of (f ∷ below) ++ outer) f.identity) f.cells (Original a) o.0.0 (subst (Has f.cells) e (subst (λ (y : Frame). Has y.cells w) (sym z) i)))
 frame_owns P arrays outer (f ∷ below) g w o (inr h) i a e = frame_owns P arrays outer below g w o.2 h i a e
-
-sum_total : {A : Type 0} (f : A → ℕ) (xs : List A) → sum_by f xs ≡ total f xs
-sum_total f [] = refl
-sum_total f (y ∷ xs) = omega (arith, sum_by-cons f y xs, sum_total f xs)
-
-follow_up : (plan : Placement) (at : ℕ) (jobs : List SessionJob) → DictionariesFollow plan at jobs → at ≤ plan.stacks
-follow_up plan at [] d = omega (arith, d)
-follow_up plan at (m ∷ more) d = omega (arith, follow_up plan (at + (2 + length m.constants.dictionary.cells)) more d.1)
 
 -- words that begin with those of segments
 segments_kept : (core : List Tagged) (from : ℕ) (ss : List Segment) → ((i : ℕ) (g : Segment) → slice_get ss i ≡ Some g → sectors_at true (slice_get core (from + i)) ≡ sectors_for (length g.code)) → sectors_from true core from (length ss) ≡ of_segments ss
@@ -242,7 +235,7 @@ module _ (x : Storage) (cpu : Cpu) (plan : Placement) (s : Session) (o : IsInOrd
       slots_upto plan.peak
       ∙ slots_total slot_words plan.peak (flat_map (slots_of plan) s.jobs) (jobs_differ plan s o fit 1 s.jobs o.numbered (λ m there. there))
       (λ k there.
-      let y = part_of (slots_of plan) s.jobs k there in
+      let y = has_flat_back (slots_of plan) s.jobs k there in
       let u = has_map_back (λ (v : Task). slot_of plan y.item.constants.number v.number) y.item.progress.job.tasks k y.inside in
       subst (λ (i : ℕ). i < plan.peak) u.is (slot_below plan s.jobs y.item u.item fit y.among u.among))
       (λ k less some. some_slot k some)
@@ -301,7 +294,7 @@ module _ (x : Storage) (cpu : Cpu) (plan : Placement) (s : Session) (o : IsInOrd
   dictionaries_kept at n [] d e inside = ap (sectors_from true cpu.core at) (let z : n ≡ 0 = omega (arith, d, e) in z)
   dictionaries_kept at n (m ∷ more) d e inside =
       let size = 2 + length m.constants.dictionary.cells in
-      let up = follow_up plan (at + size) more d.1 in
+      let up = follow-up plan (at + size) more d.1 in
       let rest = n - size in
       let cut : n ≡ size + rest = omega (arith, e, up) in
       let first : sectors_from true cpu.core at size ≡ of_dictionary m = ap (λ (i : ℕ). sectors_from true cpu.core i size) (sym d.0) ∙ dictionary_kept m (inside m (inl refl)) in
@@ -310,7 +303,7 @@ module _ (x : Storage) (cpu : Cpu) (plan : Placement) (s : Session) (o : IsInOrd
   -- dictionaries and stacks keep the sector sum
   pub session_kept : sectors_from true cpu.core 160 (plan.stacks - 160) + sectors_of_slots cpu.core (machine_view plan s.jobs) plan.peak ≡ sectors s.jobs
   session_kept =
-      let up = follow_up plan 160 s.jobs h.holds.fits.dictionaries in
+      let up = follow-up plan 160 s.jobs h.holds.fits.dictionaries in
       let each = total_same (λ (m : SessionJob). of_dictionary m + of_tasks m) sectors_of s.jobs
       (λ m inm.
       let w = job_in_order s m o inm in

@@ -1,39 +1,27 @@
 -- The machine stands for the objects but one, whose area and chain are free.
-use Rattle.std.proofs.Common.{◌≡◌, ◌≢◌, ℕ, suc, ◌<◌, ◌≤◌, ◌==◌, List, [], length, Option, Some, None, refl, sym, ◌∙◌, ap, arith, inl, inr, ◌⊎◌, ⊎_elim, Bool, true, false, subst}
+use Rattle.std.proofs.Common.{◌≡◌, ◌≢◌, ℕ, suc, ◌<◌, ◌≤◌, ◌==◌, List, [], length, Some, refl, sym, ◌∙◌, ap, arith, inl, inr, ◌⊎◌, ⊎_elim, Bool, true, false, subst}
 use Rattle.std.specs.Prelude.{MatchBool}
 use Rattle.std.specs.List.{slice_get}
 use Rattle.std.proofs.lemmas.Bool.{cases_eq, cond-true, eq-eqb, ne_eqb}
 use Rattle.std.proofs.lemmas.Option.{same_Some, none-some}
 use Rattle.b67_word.specs.Tagged.{Tagged}
 use Rattle.b67_area.specs.declared.Info.{Info}
-use Rattle.b67_area.specs.declared.Kind.{Kind}
-use Rattle.b67_area.specs.declared.Kind.TheVariants.{Array, Row, Code}
 use Rattle.b67_area.specs.Spans.{area_at}
 use Rattle.b67_backing.specs.Shelf.{Shelf, Table, IsShelf, chain_of}
 use Rattle.b67_backing.proofs.News.{chain_of-others, chain_of-given}
 use Rattle.b67_ctl.specs.declared.registers.Regs.{Regs}
 use Rattle.b67_lemmas.specs.Lists.{Has}
-use Rattle.b67_stack.specs.Shapes.{Location, Locations, Shape, Is, Original, Copy, Copied, Fits}
+use Rattle.b67_stack.specs.Shapes.{Location, Locations, Shape, Is, Original, Copy, Copied, Fits, nowhere}
 use Rattle.b67_stack.specs.Stacks.{words}
 use Rattle.b67_stack.specs.MachineView.{PagedObject, MachineView, Slot, Free, Running, Waiting, stack_of, slot_base, SlotFits, CopiesName, home_word}
-use Rattle.b67_stack.specs.Represents.{Storage, RepresentsSlot, StacksLie, RepresentsObject, Content, KeptChain, HasChain, Owned, Represents, info_of}
+use Rattle.b67_stack.specs.Represents.{Storage, RepresentsSlot, StacksLie, RepresentsObject, Content, HasChain, Owned, Represents, info_of}
 use Rattle.b67_stack.proofs.Lies.{Lie-each}
 use Rattle.b67_layout_storage.specs.Machine.{with_held, ChainStays}
 use Rattle.b67_layout_storage.proofs.Helds.{held-other, held-same}
 use Rattle.b67_layout_storage.proofs.Reheld.{Content-stays}
 use Rattle.b67_layout_storage.proofs.Unchanged.{area_of_object, home_below, slot_below, base_low}
-use Rattle.b67_task_release.specs.Released.{nowhere, without_chain, released, of_objects, Drops, Vacated}
-
--- a object's chain, if it has one
-keeps_chain : (x : Storage) (t : PagedObject) (k : Kind) (f : ℕ) → KeptChain x t k f → (f ≡ 0) ⊎ HasChain x t f
-keeps_chain x t Array f c = c
-keeps_chain x t Row f c = inr c.chain
-keeps_chain x t Code f c = inr c.chain
-
-pub content_chain : (x : Storage) (core : List Tagged) (t : PagedObject) (a : Option ℕ) (f : ℕ) → Content x core t a f → (f ≡ 0) ⊎ HasChain x t f
-content_chain x core t (Some a) f c = keeps_chain x t t.kind f c.1
-content_chain x core t None f (inl h) = inr h.chain
-content_chain x core t None f (inr z) = inl z.0
+use Rattle.b67_layout_storage.proofs.Chained.{Content-chain}
+use Rattle.b67_task_release.specs.Released.{without_chain, released, of_objects, Drops, Vacated}
 
 sectors_some : (x : Storage) (t : PagedObject) (f : ℕ) → 0 < length t.numbers → HasChain x t f → 1 ≤ length (chain_of f x.shelf.chains)
 sectors_some x t f some h = omega (arith, h.sectors)
@@ -67,7 +55,7 @@ pub has_chain : (x : Storage) (core : List Tagged) (r : Regs) (p : MachineView) 
 has_chain x core r p s t int = ⊎_elim
     (λ (z : (x.held t.home).chain ≡ 0). inl z)
     (λ (h : HasChain x t (x.held t.home).chain). inr (sectors_some x t (x.held t.home).chain (s.slots.laid.lengths t int).0 h))
-    (content_chain x core t (x.held t.home).area (x.held t.home).chain (s.objects t int).content)
+    (Content-chain x core t (x.held t.home).area (x.held t.home).chain (s.objects t int).content)
 
 module _ (x : Storage) (core : List Tagged) (r : Regs) (p : MachineView) (s : Represents x core r p) (t : PagedObject) (objects : List PagedObject) (d : Drops p t objects)
     (table : Table) (sh : IsShelf table x.shelf) (new : List Tagged) (v : Vacated x.low (x.held t.home).area x.spans core new) where

@@ -7,13 +7,13 @@ use Rattle.std.proofs.lemmas.Option.{same_Some}
 use Rattle.b67_word.specs.Tagged.{Tagged}
 use Rattle.b67_area.specs.declared.Kind.TheVariants.{Code}
 use Rattle.b67_lemmas.specs.Lists.{Has, Falls}
+use Rattle.b67_lemmas.proofs.Members.{all_in, any_has, any_some, falls_same, has_append_right, has_filter, has_filter_in, has_flat, has_map, has_map_back, keyed-has}
 use Rattle.b67_model.specs.Words as Words
 use Rattle.b67_model.specs.Words.{Word, Operand, Name, Ref, Row, Element, Original, Proc, Intrinsic}
 use Rattle.b67_model.specs.State.{Standing, Entered, Return, Frame, Array, Task, Job, SessionJob}
 use Rattle.b67_model.specs.Run.{number_of}
 use Rattle.b67_model.specs.Schedule.{Session}
 use Rattle.b67_model.specs.InOrder.{Starts, IsSegment, Known, WordInOrder, FramesInOrder, JobInOrder, IsInOrderButPlaces, outer_of}
-use Rattle.b67_law_order.proofs.Members.{has_append_right, has_flat, has_map, has_map_back, has_filter, has_filter_in, any_some, any_has, falls_same, all_in}
 use Rattle.b67_stack.specs.declared.Cpu.{Cpu}
 use Rattle.b67_stack.specs.Shapes as Shapes
 use Rattle.b67_stack.specs.Shapes.{Locations, Shape, Is, Copy, IsOriginal, Fits, LieDownward, copy_desc}
@@ -29,7 +29,6 @@ use Rattle.b67_layout.specs.Placement.{Placement, spot_in, outer_spots}
 use Rattle.b67_layout.specs.Layout.{shape, head, activations, stack_of_task, array_object, code_objects, objects_of, machine_view}
 use Rattle.b67_layout.specs.Meets.{gone, objects_gone, with_job}
 use Rattle.b67_layout.specs.Session.{IsRunning, RepresentsSession, RepresentsSessionBut}
-use Rattle.b67_layout.proofs.Others.{keyed-has}
 use Rattle.b67_layout.proofs.Rows.{runs_on, slot_below}
 use Rattle.b67_layout_leave.proofs.Settles.{under, base, all, homes_low, homes_high}
 use Rattle.b67_layout_leave.proofs.Objects.{others}

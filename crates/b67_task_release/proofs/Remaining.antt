@@ -1,7 +1,7 @@
 -- The arrays that are left, one word after another.
 use Rattle.std.proofs.Common.{◌≡◌, ◌≢◌, ℕ, ◌+◌, ◌<◌, ◌^◌, ◌==◌, List, [], ◌∷◌, ◌++◌, length, Option, Some, None, refl, sym, ◌∙◌, ap, arith, inl, inr, ◌⊎◌, ⊎_elim, Bool, true, false, not, subst, if◌then◌else◌}
 use Rattle.std.specs.List.{slice_get}
-use Rattle.std.proofs.lemmas.Bool.{cases_eq, eq-eqb, ne_eqb, false≢true}
+use Rattle.std.proofs.lemmas.Bool.{cases_eq, eq-eqb, ne_eqb, false≢true, not-true}
 use Rattle.std.proofs.lemmas.Option.{same_Some, none-some}
 use Rattle.b67_word.specs.Tagged.{Tagged}
 use Rattle.b67_area.specs.declared.Areas.{Areas}
@@ -12,9 +12,9 @@ use Rattle.b67_ctl.specs.declared.descriptors.DataDesc.{DataDesc}
 use Rattle.b67_ctl.specs.declared.registers.Regs.{Regs}
 use Rattle.b67_ctl.specs.Descriptors.{data_word, IsDataDesc}
 use Rattle.b67_lemmas.specs.Lists.{Has}
-use Rattle.b67_law_order.proofs.Members.{has_append_left, has_append_right, has_append_cases}
+use Rattle.b67_lemmas.proofs.Members.{has_append_cases, has_append_left, has_append_right}
 use Rattle.b67_stack.specs.declared.Cpu.{Cpu}
-use Rattle.b67_stack.specs.Shapes.{Location, IsOriginal}
+use Rattle.b67_stack.specs.Shapes.{Location, IsOriginal, nowhere}
 use Rattle.b67_stack.specs.MachineView.{PagedObject, MachineView, Slot, Free, Running, Waiting, SlotFits, is_present, address_or, home_desc, home_word_of}
 use Rattle.b67_stack.specs.Represents.{Storage, Represents, info_of}
 use Rattle.b67_stack.proofs.Homes.{same_desc, chain_small}
@@ -23,7 +23,7 @@ use Rattle.b67_layout_storage.proofs.Helds.{held-other, held-same}
 use Rattle.b67_layout_storage.proofs.Unchanged.{area_of_object, area_bounds}
 use Rattle.b67_layout_storage.proofs.Words.{original_of_home}
 use Rattle.b67_layout.specs.Session.{with_objects}
-use Rattle.b67_task_release.specs.Released.{nowhere, released, of_objects, Drops, Finds, SameBelow, HasHome, Released, AreLeft, Remains}
+use Rattle.b67_task_release.specs.Released.{released, of_objects, Drops, Finds, SameBelow, HasHome, Released, AreLeft, Remains}
 use Rattle.b67_task_release.proofs.Dropped.{chains_other, chains_gone, has_chain}
 
 -- the word of an array's original, as a descriptor
@@ -57,10 +57,6 @@ module _ (x : Storage) (core : List Tagged) (r : Regs) (p : MachineView) (s : Re
   is_original w get =
       let P : Tagged → Type 0 = λ v. IsOriginal v in
       subst P (same_Some _ _ (sym (s.objects t int).home ∙ get)) (original_of_home x core r p s t int array)
-
-no_copy : (b : Bool) → not b ≡ true → b ≡ false
-no_copy false e = refl
-no_copy true e = absurd (false≢true e)
 
 -- a copy is no original
 pub copy_none : (w : Tagged) (d : DataDesc) → IsDataDesc d → w ≡ data_word d → not d.copy ≡ false → IsOriginal w → ⊥
@@ -192,7 +188,7 @@ module _ (x : Storage) (cpu : Cpu) (areas : Areas) (table : Table) (told : Optio
   pub one_left : (w : Tagged) (d : DataDesc) → slice_get cpu.core at ≡ Some w → IsDataDesc d → w ≡ data_word d → not d.copy ≡ true → at < upto
       → (t : PagedObject) × Has left t × (t.home ≡ at) × Finds x.low x.spans (x.held t.home) d
   one_left w d get fits is own inside =
-      let o : IsOriginal w = record { desc = d; fits = fits; own = no_copy d.copy own; is = is } in
+      let o : IsOriginal w = record { desc = d; fits = fits; own = not-true d.copy own; is = is } in
       let r = l.each at w (omega arith) inside get o in
       (r.0, r.1, r.2, finds x cpu.core cpu.regs (with_objects left p) m.stands r.0 (in_all r.0 r.1) (l.arrays r.0 r.1) w d (ap (slice_get cpu.core) r.2 ∙ get) fits is)
 

@@ -16,9 +16,9 @@ use Rattle.b67_stack.proofs.Slots.{slot-same, slot-other}
 use Rattle.b67_layout.specs.Placement.{Placement, Slotted, slot_of, spot_in, outer_spots, spots}
 use Rattle.b67_layout.specs.Layout.{shape, head, activations, stack_of_task, slot_with, slot_in, slot_by, slot_at, code_objects, array_object, objects_of, machine_view}
 use Rattle.b67_layout.specs.Session.{RowsFit}
-use Rattle.b67_layout.proofs.Others.{keyed-has}
-use Rattle.b67_layout.proofs.Rows.{row_of, found-has}
+use Rattle.b67_layout.proofs.Rows.{row_of}
 use Rattle.b67_task_switch.specs.Turns.{with_running}
+use Rattle.b67_lemmas.proofs.Members.{found-has, keyed-has}
 
 module _ (plan : Placement) (k : ℕ) where
   outer_spots-replan : (j : ℕ) (job : Job) (parents : List ℕ) (c id : ℕ) → outer_spots (with_running plan k) j job c parents id ≡ outer_spots plan j job c parents id

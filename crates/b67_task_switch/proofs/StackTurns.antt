@@ -3,9 +3,8 @@ use Rattle.std.proofs.Common.{◌≡◌, ◌≢◌, ℕ, suc, ◌+◌, ◌<◌, 
 use Rattle.std.specs.List.{slice_get}
 use Rattle.std.proofs.lemmas.Bool.{cases_eq, cases_lt}
 use Rattle.b67_word.specs.Tagged.{Tagged}
-use Rattle.b67_area.specs.Spans.{Span, Area, Hole}
 use Rattle.b67_area.proofs.Climbs.{area_at-low}
-use Rattle.b67_area.proofs.Separation.{Controls, IsDirectory-same}
+use Rattle.b67_area.proofs.Separation.{IsDirectory-same, controls_above}
 use Rattle.b67_ctl.specs.declared.registers.Regs.{Regs}
 use Rattle.b67_model.specs.State.{Task, SessionJob}
 use Rattle.b67_model.specs.Schedule.{Session}
@@ -16,7 +15,7 @@ use Rattle.b67_stack.specs.Represents.{Storage, RepresentsSlot, StacksLie, Repre
 use Rattle.b67_stack.proofs.Bases.{base-apart}
 use Rattle.b67_stack.proofs.Heights.{words-length}
 use Rattle.b67_stack.proofs.Lies.{Lie-same}
-use Rattle.b67_stack.proofs.Slots.{by_slot, Content-areas}
+use Rattle.b67_stack.proofs.Slots.{by_slot, Content-areas, slot_room}
 use Rattle.b67_layout.specs.Placement.{Placement, slot_of}
 use Rattle.b67_layout.specs.Layout.{machine_view}
 use Rattle.b67_layout.specs.Session.{DictionariesFollow, PlanFits, vector_word, IsRunning, RepresentsTask, SessionHolds}
@@ -50,18 +49,6 @@ fits_same : (p : MachineView) (k : ℕ) (slot : Slot) (j : ℕ) (y : Slot) → S
 fits_same p k slot j Free f = f
 fits_same p k slot j (Running q) f = f
 fits_same p k slot j (Waiting q) f = f
-
--- heads and tails of areas, and the first words of holes, lie above the slots
-controls_above : (at : ℕ) (ss : List Span) (i : ℕ) → Controls at ss i → at ≤ i
-controls_above at [] i c = absurd c
-controls_above at (Area a ∷ ss) i c = ⊎_elim (λ e. omega arith) (λ d. ⊎_elim (λ e. omega arith) (λ r. omega (arith, controls_above (at + (a.words + 2)) ss i r)) d) c
-controls_above at (Hole n ∷ ss) i c = ⊎_elim (λ e. omega arith) (λ r. omega (arith, controls_above (at + n) ss i r)) c
-
--- a slot's words fit in it
-slot_room : (p : MachineView) (k : ℕ) (s : Slot) → SlotFits p k s → 0 < p.size → stack_words (stack_of s) < p.size
-slot_room p k Free f some = some
-slot_room p k (Running stack) f some = f.0.fits
-slot_room p k (Waiting stack) f some = f.0.fits
 
 module _ (x : Storage) (core new : List Tagged) (r r' : Regs) (p : MachineView) (k : ℕ) (slot : Slot) (c : Turned x core new r r' p k slot) (room : 0 < p.size) (s : Represents x core r p) where
   abbrev p' : MachineView

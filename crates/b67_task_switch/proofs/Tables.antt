@@ -2,17 +2,17 @@
 use Rattle.std.proofs.Common.{◌≡◌, ◌≢◌, ℕ, zero, suc, ◌+◌, ◌-◌, ◌≤◌, List, [], ◌∷◌, length, Option, Some, None, refl, sym, ◌∙◌, ap, arith, inl, inr, ⊎_elim, slice_set, subst, length-set}
 use Rattle.std.specs.List.{slice_get}
 use Rattle.std.proofs.lemmas.Option.{same_Some, slice_get_within, slice_get_past}
-use Rattle.std.proofs.lemmas.Bool.{cases_eq, eq-eqb, ne_eqb}
+use Rattle.std.proofs.lemmas.Bool.{cases_eq, eq-eqb}
 use Rattle.b67_core.proofs.Writes.{slice_get-set_same, slice_get-set_other}
 use Rattle.b67_word.specs.Tagged.{Tagged}
 use Rattle.b67_ctl.specs.declared.registers.Regs.{Regs}
 use Rattle.b67_lemmas.specs.Lists.{Has}
+use Rattle.b67_lemmas.proofs.Members.{all_in, has_get, keyed_falls}
+use Rattle.b67_lemmas.proofs.Places.{has_at, same_mapped}
 use Rattle.b67_model.specs.State.{Condition, Ready, Awaits, WaitsAt, Task, Job, SessionJob}
 use Rattle.b67_model.specs.Keyed.{keyed}
-use Rattle.b67_model.specs.Run.{number_of}
 use Rattle.b67_model.specs.Schedule.{Session}
 use Rattle.b67_model.specs.InOrder.{JobInOrder, IsSegment, NumberedFrom, IsInOrderButPlaces}
-use Rattle.b67_law_order.proofs.Members.{all_in, keyed_falls}
 use Rattle.b67_stack.specs.Represents.{Storage}
 use Rattle.b67_stack.specs.Stacks.{StackPlace}
 use Rattle.b67_layout.specs.Placement.{Placement, slot_of, address_of}
@@ -21,23 +21,11 @@ use Rattle.b67_layout.specs.Session.{RowsFit, IsRunning, SessionHolds}
 use Rattle.b67_layout.proofs.Rows.{slot_below}
 use Rattle.b67_task_switch.specs.Turns.{with_running}
 use Rattle.b67_task_switch.proofs.Replans.{spots-replan}
-use Rattle.b67_task_switch.proofs.Lists.{at_has, has_at, differ_at, same_mapped}
+use Rattle.b67_task_switch.proofs.Lists.{differ_at}
+use Rattle.b67_law_order.proofs.Numbered.{keyed_member, numbered_low}
 
 keyed-head : {A : Type 0} (key : A → ℕ) (y : A) (more : List A) → keyed key (key y) (y ∷ more) ≡ Some y
 keyed-head key y more = rw (eq-eqb (key y) (key y) refl) refl
-
--- a job of a session in order is the first of its number, and a task the first of its number in its job
-pub numbered_low : (n : ℕ) (jobs : List SessionJob) (m : SessionJob) → NumberedFrom n jobs → Has jobs m → n ≤ m.constants.number
-numbered_low n [] m d h = absurd h
-numbered_low n (y ∷ more) m d (inl e) = let P : SessionJob → Type 0 = λ z. n ≤ z.constants.number in subst P e (omega (arith, d.0))
-numbered_low n (y ∷ more) m d (inr h) = omega (arith, numbered_low (n + 1) more m d.1 h)
-
-pub first_member : (n : ℕ) (jobs : List SessionJob) (m : SessionJob) → NumberedFrom n jobs → Has jobs m → keyed number_of m.constants.number jobs ≡ Some m
-first_member n [] m d h = absurd h
-first_member n (y ∷ more) m d (inl e) = let P : SessionJob → Type 0 = λ z. keyed number_of z.constants.number (y ∷ more) ≡ Some z in subst P e (keyed-head number_of y more)
-first_member n (y ∷ more) m d (inr h) =
-    let low = numbered_low (n + 1) more m d.1 h in
-    rw (ne_eqb y.constants.number m.constants.number (λ e. omega (arith, e, d.0, low))) (first_member (n + 1) more m d.1 h)
 
 pub live_in_order : (s : Session) (m : SessionJob) (t : Task) → IsInOrderButPlaces s → Has s.jobs m → Has m.progress.job.tasks t → keyed (λ (u : Task). u.number) t.number m.progress.job.tasks ≡ Some t
 live_in_order s m t o inm int =
@@ -83,7 +71,7 @@ module _ (plan : Placement) (k : ℕ) where
 module _ (x : Storage) (core : List Tagged) (r : Regs) (marks : List ℕ) (plan : Placement) (s : Session) (o : IsInOrderButPlaces s) (h : SessionHolds x core r marks plan s)
     (rows : List TaskRow) (job_rows : List JobRow) (c : Counts) (shows : TablesShow plan s rows job_rows c) (few : length rows ≤ 120) where
   is_running : (m : SessionJob) (t : Task) → Has s.jobs m → Has m.progress.job.tasks t → plan.running ≡ slot_of plan m.constants.number t.number → IsRunning plan s.jobs m t
-  is_running m t inm int e = record { member = first_member 1 s.jobs m o.numbered inm; task = live_in_order s m t o inm int; slot = e }
+  is_running m t inm int e = record { member = keyed_member 1 s.jobs m o.numbered inm; task = live_in_order s m t o inm int; slot = e }
 
   module _ (row : TaskRow) (at : slice_get rows c.running ≡ Some row) where
     abbrev pub noted : TaskRow
@@ -119,11 +107,11 @@ module _ (x : Storage) (core : List Tagged) (r : Regs) (marks : List ℕ) (plan 
           ⊎_elim
           (λ (e : k ≡ c.running).
           let same : noted ≡ y = same_Some noted y (sym here ∙ ap (slice_get new_rows) (sym e) ∙ at_k) in
-          let (m, t, inm, int, w) = shows.tasks row (at_has rows c.running row at) in
+          let (m, t, inm, int, w) = shows.tasks row (has_get rows c.running row at) in
           (m, t, inm, int, subst (λ (z : TaskRow). TaskShows (with_running plan 255) m t z) same (noted_shows m t inm int w)))
           (λ (ne : k ≡ c.running → ⊥).
           let old : slice_get rows k ≡ Some y = sym (slice_get-set_other rows c.running k noted ne) ∙ at_k in
-          let (m, t, inm, int, w) = shows.tasks y (at_has rows k y old) in
+          let (m, t, inm, int, w) = shows.tasks y (has_get rows k y old) in
           (m, t, inm, int, other_shows k y m t ne old w))
           (cases_eq k c.running);
       each = λ m t inm int.
@@ -132,8 +120,8 @@ module _ (x : Storage) (core : List Tagged) (r : Regs) (marks : List ℕ) (plan 
           ⊎_elim
           (λ (e : k ≡ c.running).
           let same : y ≡ row = same_Some y row (sym at_k ∙ ap (slice_get rows) e ∙ at) in
-          (noted, at_has new_rows c.running noted here, noted_shows m t inm int (subst (λ (z : TaskRow). TaskShows plan m t z) same w)))
-          (λ (ne : k ≡ c.running → ⊥). (y, at_has new_rows k y (slice_get-set_other rows c.running k noted ne ∙ at_k), other_shows k y m t ne at_k w))
+          (noted, has_get new_rows c.running noted here, noted_shows m t inm int (subst (λ (z : TaskRow). TaskShows plan m t z) same w)))
+          (λ (ne : k ≡ c.running → ⊥). (y, has_get new_rows k y (slice_get-set_other rows c.running k noted ne ∙ at_k), other_shows k y m t ne at_k w))
           (cases_eq k c.running);
       once = subst Differ (sym (same_mapped (λ (z : TaskRow). z.slot) rows c.running row noted at refl)) shows.once;
       jobs = JobsShow-replan plan 255 s.jobs job_rows shows.jobs;

@@ -8,7 +8,6 @@ use Rattle.b67_ctl.specs.declared.registers.Regs.{Regs}
 use Rattle.b67_model.specs.State.{Task, SessionJob}
 use Rattle.b67_model.specs.Schedule.{Session}
 use Rattle.b67_model.specs.InOrder.{JobInOrder, IsSegment, IsInOrderButPlaces}
-use Rattle.b67_law_order.proofs.Members.{all_in}
 use Rattle.b67_stack.specs.Represents.{Storage}
 use Rattle.b67_layout.specs.Placement.{Placement}
 use Rattle.b67_layout.specs.Rows as rows
@@ -22,8 +21,10 @@ use Rattle.b67_task_tables.specs.declared.tables.JobRow.{JobRow}
 use Rattle.b67_task_tables.specs.declared.tables.Tasks.{Tasks}
 use Rattle.b67_task_tables.specs.Tables.{task_row, job_row, counts_of, TasksShow}
 use Rattle.b67_task_switch.specs.Standing.{Rests}
-use Rattle.b67_task_switch.proofs.Lists.{at_has, mapped_at, at_mapped, map-slice_set, same_mapped, came_back}
-use Rattle.b67_task_switch.proofs.Tables.{first_member, numbered_low, live_in_order, paused, resumed, goes_on, job_at}
+use Rattle.b67_task_switch.proofs.Tables.{live_in_order, paused, resumed, goes_on, job_at}
+use Rattle.b67_lemmas.proofs.Members.{all_in, has_get}
+use Rattle.b67_lemmas.proofs.Places.{at_mapped, map-slice_set, mapped_at, refill_whole, same_mapped}
+use Rattle.b67_law_order.proofs.Numbered.{keyed_member, numbered_low}
 
 pub record TurnKnown (tasks : Tasks) (plan : Placement) (s : Session) (r : TaskRow) : Type 0 where
   pub member : SessionJob
@@ -36,7 +37,7 @@ pub record TurnKnown (tasks : Tasks) (plan : Placement) (s : Session) (r : TaskR
 
 pub turn_known : (tasks : Tasks) (plan : Placement) (s : Session) → Rests tasks plan s → (i : ℕ) (r : TaskRow) → slice_get tasks.rows.items i ≡ Some r → TurnKnown tasks plan s r
 turn_known tasks plan s q i r at =
-    let (m, t, inm, int, w) = q.shows.tasks (task_row r) (at_has (map task_row tasks.rows.items) i (task_row r) (at_mapped task_row tasks.rows.items i r at)) in
+    let (m, t, inm, int, w) = q.shows.tasks (task_row r) (has_get (map task_row tasks.rows.items) i (task_row r) (at_mapped task_row tasks.rows.items i r at)) in
     let b = job_at plan 1 s.jobs (map job_row tasks.jobs) m q.ordered.numbered q.shows.jobs inm in
     let (j, there_is, same) = mapped_at job_row tasks.jobs (m.constants.number - 1) b.row b.at in
     let in_order = all_in (λ (y : SessionJob). JobInOrder (IsSegment y.constants) y.constants y.progress) s.jobs m q.ordered.jobs inm in
@@ -51,7 +52,7 @@ turn_known tasks plan s q i r at =
       at = ap (λ (n : ℕ). slice_get tasks.jobs (n - 1)) w.job ∙ there_is;
       fits = omega (arith, entries, in_order.unchanging.entries);
       turn = record {
-        member = first_member 1 s.jobs m q.ordered.numbered inm;
+        member = keyed_member 1 s.jobs m q.ordered.numbered inm;
         task = live_in_order s m t q.ordered inm int;
         slot = w.slot;
         dict = ap (λ (y : rows.JobRow). y.dictionary) same ∙ b.shows.dictionary;
@@ -85,7 +86,7 @@ module _ (tasks : Tasks) (r : TaskRow) (at : slice_get tasks.rows.items tasks.ru
   noted_row = record r { segment = regs.segment; place = regs.place }
 
   back : refill (length tasks.rows.items) tasks.rows.items new ≡ slice_set tasks.rows.items tasks.running noted_row
-  back = came_back tasks.rows.items new len ∙ is
+  back = refill_whole tasks.rows.items new len ∙ is
 
   pub slots_stay : map (λ (z : TaskRow). z.slot) (refill (length tasks.rows.items) tasks.rows.items new) ≡ map (λ (z : TaskRow). z.slot) tasks.rows.items
   slots_stay = ap (map (λ (z : TaskRow). z.slot)) back ∙ same_mapped (λ (z : TaskRow). z.slot) tasks.rows.items tasks.running r noted_row at refl

@@ -1,5 +1,5 @@
 -- Top of stack words, and where they stand.
-use Rattle.std.proofs.Common.{◌≡◌, ℕ, ◌+◌, ◌-◌, ◌<◌, ◌≤◌, ◌^◌, List, [], ◌∷◌, length, Some, refl, arith, subst}
+use Rattle.std.proofs.Common.{◌≡◌, ℕ, ◌+◌, ◌-◌, ◌<◌, ◌≤◌, ◌^◌, List, length, Some, refl, arith, subst}
 use Rattle.std.specs.List.{slice_get}
 use Rattle.b67_word.specs.Tagged.{Tagged}
 use Rattle.b67_ctl.specs.declared.registers.Regs.{Regs}
@@ -8,7 +8,7 @@ use Rattle.b67_stack.specs.Stacks.{Activation, Head, Marked, Entered, IsStack, h
 use Rattle.b67_stack.specs.MachineView.{MachineView, Slot, slot_base, RunsOn, SlotFits, CopiesName}
 use Rattle.b67_stack.specs.Represents.{Storage, RepresentsSlot, Represents}
 use Rattle.b67_stack.proofs.Bases.{base-apart}
-use Rattle.b67_stack.proofs.Tops.{level-small}
+use Rattle.b67_stack.proofs.Tops.{level-small, mark_high}
 use Rattle.b67_stack.proofs.Slots.{running_slot, running_fits}
 use Rattle.b67_task_switch.specs.Turns.{WaitsOn}
 
@@ -16,12 +16,8 @@ head-some : (h : Head) → 1 ≤ head_size h
 head-some Marked = omega arith
 head-some (Entered level environment back) = omega arith
 
-mark_below : (stack : List Activation) → mark_place stack ≤ stack_words stack
-mark_below [] = omega arith
-mark_below (a ∷ below) = omega (arith, head-some a.head)
-
 pub toscw_fits : (size : ℕ) (stack : List Activation) → IsStack size stack → size < 2 ^ 14 → IsToscw (toscw_of stack)
-toscw_fits size stack f room = record { s = omega (arith, f.fits); level = level-small stack f.heads; f = omega (arith, f.fits, mark_below stack) }
+toscw_fits size stack f room = record { s = omega (arith, f.fits); level = level-small stack f.heads; f = omega (arith, f.fits, mark_high stack) }
 
 module _ (x : Storage) (core : List Tagged) (r : Regs) (p : MachineView) (s : Represents x core r p) where
   pub base_inside : (k : ℕ) → k < p.peak → 0 < p.size → slot_base p k + p.size ≤ length core

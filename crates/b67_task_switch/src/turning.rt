@@ -14,7 +14,7 @@ ghost use Rattle.b67_task_tables.specs.declared.tables.Tasks.{Tasks};
 ghost use Rattle.b67_task_tables.specs.Tables.{TasksShow, MachineRepresents};
 ghost use Rattle.b67_task_switch.specs.Standing.{HasRow, InUse, Rests};
 
-use crate::switching::Turn;
+use crate::switching::{Turn, switch_stack};
 use b67_ctl::Regs;
 use b67_task_tables::{Machine, TaskRow, Tasks};
 
@@ -78,6 +78,6 @@ pub fn switch_to(machine: &mut Machine, row: u8)
 {
     pause(&mut machine.tasks, &machine.cpu.regs);
     let turn = turn_of(&machine.tasks, row);
-    crate::switching::switch_to(&mut machine.cpu, turn);
+    switch_stack(&mut machine.cpu, turn);
     machine.tasks.running = row;
 }

@@ -1,5 +1,6 @@
 -- When the machine with its tables stands for a session.
-use Rattle.std.specs.Prelude.{ℕ, List, map, Option}
+use Rattle.std.specs.Prelude.{ℕ, ◌<◌, ◌^◌, List, length, map, Option}
+use Rattle.b67_lemmas.specs.Lists.{Has}
 use Rattle.b67_model_text.specs.declared.deck.Switch as text
 use Rattle.b67_model.specs.Schedule.{Switch, Session}
 use Rattle.b67_stack.specs.Represents.{Storage}
@@ -49,3 +50,10 @@ pub record MachineRepresents (x : Storage) (told : Option (List (List ℕ))) (k 
   pub session : RepresentsSession x k.cpu plan s
   pub storage : RepresentsStorage k.areas k.sectors told k.cpu.core x
   pub tables : TasksShow plan s k.tasks
+
+-- a job with fewer numbers than the tables can count
+abbrev pub IsCountable : JobRow → Type 0
+IsCountable r = length r.numbers < 2 ^ 32
+
+abbrev pub AreCountable : List JobRow → Type 0
+AreCountable rows = (r : JobRow) → Has rows r → IsCountable r

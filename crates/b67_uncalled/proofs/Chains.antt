@@ -11,6 +11,7 @@ use Rattle.b67_model.specs.declared.operators.Code.TheVariants.{Entr}
 use Rattle.b67_model.specs.Answers.{Answer}
 use Rattle.b67_model.specs.Keyed.{keyed}
 use Rattle.b67_lemmas.specs.Lists.{Has}
+use Rattle.b67_lemmas.proofs.Members.{all_in, has_get, has_reverse_back, keyed_has}
 use Rattle.b67_model.specs.Words as Words
 use Rattle.b67_model.specs.Words.{Word, Operand, Name, Ref, Row, Element, Original, Proc, Intrinsic}
 use Rattle.b67_model.specs.State.{Frame, Standing, Marked, Entered, Task, OperatorContext, top, mcp, no_frame, all_frames, frame}
@@ -21,7 +22,6 @@ use Rattle.b67_model.specs.Steps.{top_of, cells_of}
 use Rattle.b67_model.specs.Rows.{stff_word, stff}
 use Rattle.b67_model.specs.InOrder.{Starts, EntryInOrder, SettingInOrder, TasksInOrder}
 use Rattle.b67_model.specs.Called.{called_at, called_by, called_on, called}
-use Rattle.b67_law_order.proofs.Members.{all_in, keyed_has, has_get, has_reverse_back}
 use Rattle.b67_law_order.proofs.Posts.{Post, post_ok, post_err, post_bind, post_any, post_if_is}
 use Rattle.b67_law_order.proofs.Chases.{some_ok}
 use Rattle.b67_uncalled.proofs.Couples.{Apart, split_apart}

@@ -3,10 +3,10 @@ use Rattle.std.proofs.Common.{◌≡◌, ◌≢◌, ℕ, zero, suc, ◌+◌, ◌
 use Rattle.std.proofs.lemmas.Bool.Decides.{eqb_tells}
 use Rattle.b67_model.specs.Keyed.{keyed}
 use Rattle.b67_lemmas.specs.Lists.{Has}
+use Rattle.b67_lemmas.proofs.Members.{all_in, has_append_cases, has_append_left, has_append_right, has_flat, has_map_back, keyed_has, keyed_left, has_flat_back}
 use Rattle.b67_model.specs.State.{Frame, Standing, Marked, Entered, Array, Task, OperatorContext, mcp, no_frame, all_frames, frame}
 use Rattle.b67_model.specs.Environment.{level_of_standing, level_of_frame, environment_of, running_from, running, outward, running_level, frame_at}
 use Rattle.b67_model.specs.InOrder.{Starts, Known, known_of, base, outer_of, reach_of, StandsInOrder, FramesInOrder, TaskInOrder, SettingInOrder, TasksInOrder}
-use Rattle.b67_law_order.proofs.Members.{has_append_left, has_append_right, has_append_cases, has_map_back, has_flat, all_in, keyed_has, keyed_left}
 use Rattle.b67_law_order.proofs.Reaches.{stands_wider}
 use Rattle.b67_law_order.proofs.Looks.{IsFrame, line_of, above_one, found_frame}
 
@@ -16,16 +16,9 @@ pub data FrameOf (h : OperatorContext) (f : Frame) : Type 0 where
   is_dictionary : f ≡ h.constants.dictionary → FrameOf h f
   is_mcp : f ≡ mcp → FrameOf h f
 
-flat_back : (tasks : List Task) (f : Frame) → Has (flat_map (λ (t : Task). t.frames) tasks) f → (t : Task) × Has tasks t × Has t.frames f
-flat_back [] f k = absurd k
-flat_back (t ∷ tasks) f k = elim (has_append_cases t.frames (flat_map (λ (t : Task). t.frames) tasks) f k) [
-  | inl a ↦ (t, inl refl, a)
-  | inr b ↦ let r = flat_back tasks f b in (r.0, inr r.1, r.2)
-]
-
 pub frame_kind : (h : OperatorContext) (f : Frame) → Has (all_frames h) f → FrameOf h f
 frame_kind h f k = elim (has_append_cases (flat_map (λ (t : Task). t.frames) h.job.tasks) (h.constants.dictionary ∷ mcp ∷ []) f k) [
-  | inl a ↦ let r = flat_back h.job.tasks f a in of_task (record { task = r.0; live = r.1; among = r.2 })
+  | inl a ↦ let r = has_flat_back (λ (t : Task). t.frames) h.job.tasks f a in of_task (record { task = r.item; live = r.among; among = r.inside })
   | inr b ↦ elim b [ inl e ↦ is_dictionary (sym e) | inr m ↦ elim m [ inl e ↦ is_mcp (sym e) | inr x ↦ absurd x ] ]
 ]
 

@@ -3,18 +3,18 @@ use Rattle.std.proofs.Common.{◌≡◌, ℕ, zero, suc, ◌+◌, true, List, []
 use Rattle.std.specs.List.{AllByRecursion}
 use Rattle.b67_model.specs.Keyed.{keyed}
 use Rattle.b67_lemmas.specs.Lists.{Has}
+use Rattle.b67_lemmas.proofs.Members.{all_in, keyed_has}
 use Rattle.b67_model.specs.State.{Frame, Task, SessionJob}
 use Rattle.b67_model.specs.Program.{opened}
 use Rattle.b67_model.specs.Alone.{step_of}
 use Rattle.b67_model.specs.Schedule.{Session, Choice, choice}
 use Rattle.b67_model.specs.Run.{StepResult, number_of, of_job, with_moment, moment_by, moment_for, next, after_from, after}
 use Rattle.b67_model.specs.InOrder.{IsStart, JobInOrder, IsInOrder}
-use Rattle.b67_law_order_runs.specs.Opening.{Opening, OpeningWithin, opened_from, opening}
+use Rattle.b67_law_order_runs.specs.Opening.{Opening, opened_from, opening}
 use Rattle.b67_law_order_runs.proofs.Opens.{opens_in_order}
-use Rattle.b67_law_order.proofs.Members.{all_in, keyed_has}
 use Rattle.b67_law_order_rows.proofs.Kept.{here}
 use Rattle.b67_law_order_runs.specs.Runs.{RunsAdmitted}
-use Rattle.b67_law_order_runs.proofs.Sessions.{sessions_stay_in_order}
+use Rattle.b67_law_order_runs.proofs.Sessions.{sessions_stay_in_order, opened_admitted}
 use Rattle.b67_uncalled.specs.Uncalled.{segments_use_built, uses_built, UnbuiltIsNeverCalled}
 use Rattle.b67_uncalled.proofs.Safe.{AllSafe}
 use Rattle.b67_uncalled.proofs.Chains.{called_low}
@@ -66,10 +66,6 @@ follows (suc n) s order admitted all = go (λ s' o a g. follows n s' o a g) (nex
     go : ((s' : Session) → IsInOrder s' → AllByRecursion RunsAdmitted s'.jobs → SessionSafe s' → NeverCalled (after n s')) → (m : Option StepResult) → next s ≡ m → NeverCalled (after_from (suc n) s m)
     go rest None e = (order, all)
     go rest (Some m) e = let r = sessions_stay_in_order s m order admitted e in rest m.session r.0 r.1 (next_safe s m order all e)
-
-opened_admitted : (number stack : ℕ) (openings : List Opening) → AllByRecursion OpeningWithin openings → AllByRecursion RunsAdmitted (opened_from number stack openings)
-opened_admitted number stack [] each = tt
-opened_admitted number stack (o ∷ more) each = (record { program = o.program; admitted = each.0.admitted; segments = refl }, opened_admitted (number + 1) stack more each.1)
 
 -- the outer block's frame has no words
 first_safe : (number stack : ℕ) (o : Opening) → AllSafe (opened number o.program stack o.limit o.numbers).progress.job.tasks

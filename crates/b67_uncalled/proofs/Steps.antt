@@ -1,7 +1,7 @@
 -- Each step of a task leaves its job with safe words.
-use Rattle.std.proofs.Common.{◌≡◌, ℕ, zero, suc, ◌+◌, ◌-◌, Bool, true, false, not, eqb, ◌&&◌, List, [], ◌∷◌, map, filter, Option, Some, None, Ok, Err, refl, sym, ap, ◌∙◌, subst, inl, inr, ◌⊎◌}
+use Rattle.std.proofs.Common.{◌≡◌, ℕ, zero, suc, ◌+◌, ◌-◌, Bool, true, false, not, eqb, List, [], ◌∷◌, map, filter, Option, Some, None, Ok, Err, refl, sym, ◌∙◌, subst, inl, inr, ◌⊎◌}
 use Rattle.std.specs.List.{slice_get}
-use Rattle.std.proofs.lemmas.Bool.{true≢false}
+use Rattle.std.proofs.lemmas.Bool.{and_parts}
 use Rattle.std.proofs.lemmas.Bool.Decides.{eqb_tells}
 use Rattle.b67_word.specs.declared.couples.Place.{Place}
 use Rattle.b67_word.specs.declared.faults.Ending.{Ending}
@@ -12,6 +12,7 @@ use Rattle.b67_model.specs.declared.operators.Code.TheVariants.{Stff}
 use Rattle.b67_model.specs.Answers.{Answer}
 use Rattle.b67_model.specs.Keyed.{keyed, change_keyed}
 use Rattle.b67_lemmas.specs.Lists.{Has}
+use Rattle.b67_lemmas.proofs.Members.{all_in, has_filter, has_map_back, keyed_has}
 use Rattle.b67_model.specs.Words as Words
 use Rattle.b67_model.specs.Words.{Word, Operand, Name, Ref, Row, Element, Original, Proc, Intrinsic}
 use Rattle.b67_model.specs.State.{Frame, Standing, Task, Segment, JobConstants, Job, JobProgress, OperatorContext, with_task}
@@ -23,7 +24,6 @@ use Rattle.b67_model.specs.Rows.{stff, row, reading_of, step_by, step}
 use Rattle.b67_model.specs.Endings.{Settled, among, released, ends_all, ends_task, ends_each_if, unsettled, settles, stepped}
 use Rattle.b67_model.specs.Alone.{by_task, step_of}
 use Rattle.b67_model.specs.InOrder.{IsStart, SettingInOrder, TaskInOrder, TasksInOrder}
-use Rattle.b67_law_order.proofs.Members.{all_in, has_map_back, has_filter, keyed_has}
 use Rattle.b67_law_order.proofs.Posts.{post_at}
 use Rattle.b67_law_order_rows.proofs.Kept.{here}
 use Rattle.b67_law_order_steps.proofs.Readings.{ReadFits}
@@ -32,21 +32,17 @@ use Rattle.b67_law_order_steps.proofs.Admitted.{Entered, entered}
 use Rattle.b67_law_made.specs.Made.{OperatorMakes, StandsIn}
 use Rattle.b67_law_made.proofs.Rows.{each_row_makes_its_words}
 use Rattle.b67_law_made.proofs.Steps as S
+use Rattle.b67_law_made.proofs.Ended.{op_read}
 use Rattle.b67_uncalled.specs.Uncalled.{op_uses_built, entries_use_built, segments_use_built}
 use Rattle.b67_uncalled.proofs.Couples.{apart_by}
 use Rattle.b67_uncalled.proofs.Safe.{Safe, AllSafe}
 use Rattle.b67_uncalled.proofs.Chains.{stff_safe}
 
--- the operators of a segment
-both : (a b : Bool) → (a && b) ≡ true → (a ≡ true) × (b ≡ true)
-both true b e = (refl, e)
-both false b e = absurd (true≢false (sym e))
-
 entry_built : (level : ℕ) (entries : List Entry) (place : Place) (op : Op) → entries_use_built level entries ≡ true → Has entries (At place op) → op_uses_built level op ≡ true
 entry_built level [] place op e k = absurd k
 entry_built level (Break at why ∷ more) place op e k = elim k [ inl is ↦ absurd (let z : ⊥ = cc in z) | inr m ↦ entry_built level more place op e m ]
 entry_built level (At at other ∷ more) place op e k =
-    let r = both (op_uses_built level other) (entries_use_built level more) e in
+    let r = and_parts (op_uses_built level other) (entries_use_built level more) e in
     elim k [
       | inl is ↦ let same : other ≡ op = cc in subst (λ (o : Op). op_uses_built level o ≡ true) same r.0
       | inr m ↦ entry_built level more place op r.1 m
@@ -54,11 +50,8 @@ entry_built level (At at other ∷ more) place op e k =
 
 segment_built : (segments : List Segment) (i : ℕ) (s : Segment) → segments_use_built segments ≡ true → slice_get segments i ≡ Some s → entries_use_built s.level (listing s.code) ≡ true
 segment_built [] i s e found = cc
-segment_built (x ∷ more) zero s e found = let same : x ≡ s = cc in subst (λ (y : Segment). entries_use_built y.level (listing y.code) ≡ true) same (both (entries_use_built x.level (listing x.code)) (segments_use_built more) e).0
-segment_built (x ∷ more) (suc i) s e found = segment_built more i s (both (entries_use_built x.level (listing x.code)) (segments_use_built more) e).1 found
-
-op_read : (a b : Op) (m n : Place) → (let first : Reading = Ok (a, m) in first ≡ Ok (b, n)) → a ≡ b
-op_read a b m n e = let pair : (a, m) ≡ (b, n) = cc in ap (λ (y : Op × Place). y.0) pair
+segment_built (x ∷ more) zero s e found = let same : x ≡ s = cc in subst (λ (y : Segment). entries_use_built y.level (listing y.code) ≡ true) same (and_parts (entries_use_built x.level (listing x.code)) (segments_use_built more) e).0
+segment_built (x ∷ more) (suc i) s e found = segment_built more i s (and_parts (entries_use_built x.level (listing x.code)) (segments_use_built more) e).1 found
 
 -- the operator that is read at a start
 read_built : (constants : JobConstants) (task : Task) (level : ℕ) (op : Op) (next : Place) → segments_use_built constants.segments ≡ true → IsStart constants task.segment level task.place → reading_of constants task ≡ Ok (op, next) → (l : ℕ) × (op_uses_built l op ≡ true)

@@ -9,12 +9,12 @@ use Rattle.b67_mcp_calls.specs.Reads.{job_read}
 use Rattle.b67_task_tables.specs.declared.tables.Machine.{Machine}
 use Rattle.b67_task_tables.specs.declared.tables.Tasks.{Tasks}
 use Rattle.b67_task_tables.specs.Tables.{MachineRepresents}
-use Rattle.b67_task_switch.proofs.Lists.{at_has}
 use Rattle.b67_mcp.proofs.Callings.{calling, reads_of, call_some}
 use Rattle.b67_mcp.proofs.Cut.{one_behind}
 use Rattle.b67_mcp.proofs.Sizes.{same_size, kept_same}
 use Rattle.b67_mcp.proofs.Numbers.{job_in, tasks_same, countable_read, tables_read}
 use Rattle.b67_mcp.proofs.read.read.Goals as goal
+use Rattle.b67_lemmas.proofs.Members.{has_get}
 
 pub next_place-next-requires : goal.next_place-next-requires
 next_place-next-requires c = reads_of c.args.machine.now 11 c.requires.calls
@@ -38,7 +38,7 @@ take_number-requires c =
       j.row,
       ap (λ (n : ℕ). slice_get tasks.jobs (n - 1)) e ∙ j.at,
       record { some = call_some c.args.machine.now 11 q; shows = j.shows },
-      c.requires.countable j.row (at_has tasks.jobs (q.member.constants.number - 1) j.row j.at),
+      c.requires.countable j.row (has_get tasks.jobs (q.member.constants.number - 1) j.row j.at),
     )
 
 pub returns-in-Err-clause-row : goal.returns-in-Err-clause-row

@@ -2,9 +2,8 @@ use Rattle.std.proofs.Common.{◌≡◌, ℕ, suc, false, ◌+◌, ◌-◌, ◌<
 use Rattle.b67_stack.specs.Stacks.{stack_words}
 use Rattle.b67_stack.specs.MachineView.{slot_base, stack_of}
 use Rattle.b67_stack.proofs.Bases.{base-step}
-use Rattle.b67_overlay.proofs.Turning.{stack_low}
+use Rattle.b67_overlay.proofs.Turning.{stack_low, slot_high}
 use Rattle.b67_task_need.specs.Sums.{sectors_from, sectors_of_slots}
-use Rattle.b67_task_need.proofs.Words.{slot_high}
 use Rattle.b67_task_need.proofs.sums.core_sectors.Goals as goal
 
 pub range_sectors-sum-requires-in-loop-slot-clause-inside : goal.range_sectors-sum-requires-in-loop-slot-clause-inside

@@ -3,7 +3,7 @@ use Rattle.std.specs.List.{slice_get}
 use Rattle.std.proofs.lemmas.Option.{same_Some, none-some}
 use Rattle.b67_exec_cells.specs.Elements.{original_desc}
 use Rattle.b67_exec_cells.proofs.Arrays.{word-is, home-inside, desc-fits}
-use Rattle.b67_exec_cells.proofs.elements.descriptor.Goals as goal
+use Rattle.b67_exec_cells.proofs.elements.array_descriptor.Goals as goal
 
 pub get-requires : goal.get-requires
 get-requires c =

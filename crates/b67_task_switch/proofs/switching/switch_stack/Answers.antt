@@ -3,7 +3,7 @@ use Rattle.b67_layout.specs.Layout.{machine_view}
 use Rattle.b67_refer.proofs.Scenes.{scene}
 use Rattle.b67_task_switch.specs.Turns.{with_running}
 use Rattle.b67_task_switch.proofs.Loading.{stack_then, waits_then, runs_then, holds_then}
-use Rattle.b67_task_switch.proofs.switching.switch_to.Goals as goal
+use Rattle.b67_task_switch.proofs.switching.switch_stack.Goals as goal
 
 pub registers-cpu-requires : goal.registers-cpu-requires
 registers-cpu-requires c =

@@ -1,12 +1,11 @@
--- The next number of a task grows by one at most: a law of all rows, by one rule for each way in which rows are made.
-use Rattle.std.proofs.Common.{◌≡◌, ℕ, ◌+◌, ◌≤◌, Bool, true, false, ℤ, pos, negsuc, List, [], ◌∷◌, reverse, Option, Some, None, Ok, Err, refl, arith, cond}
-use Rattle.b67_word.specs.declared.faults.Fault.{Fault}
+-- Identities only grow, and the next number of a task by one at most: a law of all rows, by one rule for each way in which rows are made.
+use Rattle.std.proofs.Common.{◌≡◌, ℕ, ◌+◌, ◌≤◌, Bool, true, false, ℤ, pos, negsuc, List, [], ◌∷◌, reverse, Option, Some, None, refl, arith}
 use Rattle.b67_word.specs.declared.couples.Place.{Place}
 use Rattle.b67_model.specs.declared.operators.Op.{Op}
 use Rattle.b67_model.specs.declared.operators.Op.TheVariants.{Valc, Brun, Brtr, Brfl, Plain}
 use Rattle.b67_model.specs.declared.operators.Code.{Code}
 use Rattle.b67_model.specs.declared.operators.Code.TheVariants.{Exit, Indx, Retn, Entr, Nxlv, Mkst, Stod, Ston, Load}
-use Rattle.b67_model.specs.Answers.{Answer, ◌>>=◌, ◌>>◌}
+use Rattle.b67_model.specs.Answers.{Answer}
 use Rattle.b67_model.specs.Words.{Word, Operand}
 use Rattle.b67_model.specs.State.{Standing, Marked, Entered, Return, Task, Job, OperatorContext}
 use Rattle.b67_model.specs.Chase.{End, AtCell, AtElement, AtArray, AtProc, AtIntrinsic, follow}
@@ -14,32 +13,14 @@ use Rattle.b67_model.specs.Steps.{Line, Done, Goes, Leaves, Waits, top_of, cells
 use Rattle.b67_model.specs.Entry.{mkst, accident, evaluates, enters, left, leaves, exit, returnable, returned, retn_word}
 use Rattle.b67_model.specs.Intrinsics.{answers, arraydec, print, printrow, read, starts, process, awaits, await, status, waits_at, wait, causes, cause, intrinsic}
 use Rattle.b67_model.specs.Rows.{CellRow, on_cells, branch_if, valc, load_at, load, indx, nxlv, store_at, store, entr_at, entr_with, entr, plain, row}
-
--- the fact of an answer's value
-abbrev pub of_value : {A : Type 0} → (A → Type 0) → Answer A → Type 0
-of_value P (Ok x) = P x
-of_value P (Err fault) = Unit {0}
-
-pub record Post {A : Type 0} (P : A → Type 0) (a : Answer A) : Type 0 where
-  pub by : of_value P a
-
-pub post_bind : {A B : Type 0} (P : B → Type 0) (a : Answer A) (go : A → Answer B) → ((x : A) → Post P (go x)) → Post P (a >>= go)
-post_bind P (Ok x) go each = each x
-post_bind P (Err fault) go each = record { by = tt }
-
-pub post_then : {B : Type 0} (P : B → Type 0) (a : Answer (Unit {0})) (rest : Answer B) → Post P rest → Post P (a >> rest)
-post_then P (Ok x) rest holds = holds
-post_then P (Err fault) rest holds = record { by = tt }
-
-pub post_ok : {A : Type 0} (P : A → Type 0) (x : A) → P x → Post P (Ok x)
-post_ok P x holds = record { by = holds }
-
-pub post_err : {A : Type 0} (P : A → Type 0) (fault : Fault) → Post P (Err fault)
-post_err P fault = record { by = tt }
+use Rattle.b67_law_order.proofs.Posts.{Post, post_any, post_err, post_if, post_ok, post_then}
 
 -- what the law says of a step
 pub record Grown (before after : Job) : Type 0 where
-  pub tasks : after.next_task ≤ before.next_task + 1
+  pub frames : before.next_frame ≤ after.next_frame
+  pub arrays : before.next_array ≤ after.next_array
+  pub tasks : before.next_task ≤ after.next_task
+  pub one : after.next_task ≤ before.next_task + 1
 
 -- of a step's job
 abbrev pub Keeps : Job → Done → Type 0
@@ -51,24 +32,24 @@ abbrev pub Good : OperatorContext → Answer Done → Type 0
 Good h answer = Post (Keeps h.job) answer
 
 result_good : (h : OperatorContext) (k : OperatorContext) (job : Job) (task : Task) (printed : List Line) (touched : Option ℕ) → Grown h.job job → Good h (result k job task printed touched)
-result_good h k job task printed touched kept = post_then (Keeps h.job) _ _ (post_ok (Keeps h.job) _ (record { tasks = kept.tasks }))
+result_good h k job task printed touched kept = post_then (Keeps h.job) _ _ (post_ok (Keeps h.job) _ (record { frames = kept.frames; arrays = kept.arrays; tasks = kept.tasks; one = kept.one }))
 
 same : (job : Job) → Grown job job
-same job = record { tasks = omega arith }
+same job = record { frames = omega arith; arrays = omega arith; tasks = omega arith; one = omega arith }
 
 cells_good : (h k : OperatorContext) (cells : List Word) (touched : Option ℕ) → Grown h.job k.job → Good h (leaves_cells k cells touched)
 cells_good h k cells touched kept = result_good h k k.job (with_cells k cells) [] touched kept
 
 -- all rows on cells at once
 on_cells_good : (f : CellRow) (h : OperatorContext) → Good h (on_cells f h)
-on_cells_good f h = post_bind (Keeps h.job) (f (cells_of h)) _ (λ cells. cells_good h h cells None (same h.job))
+on_cells_good f h = post_any (Keeps h.job) (f (cells_of h)) _ (λ cells. cells_good h h cells None (same h.job))
 
 push_good : (h : OperatorContext) (w : Word) (touched : Option ℕ) → Good h (pushes h w touched)
 push_good h w touched = cells_good h h (w ∷ cells_of h) touched (same h.job)
 
 accident_good : (h k : OperatorContext) (cells : List Word) (back : Return) (end : End) → Grown h.job k.job → Good h (accident k cells back end)
 accident_good h k cells back (AtProc f segment level place) kept =
-    let up : Grown h.job (record k.job { next_frame = k.job.next_frame + 1 }) = record { tasks = kept.tasks } in search (post_then, result_good, up)
+    let up : Grown h.job (record k.job { next_frame = k.job.next_frame + 1 }) = record { frames = omega (arith, kept.frames); arrays = kept.arrays; tasks = kept.tasks; one = kept.one } in search (post_then, result_good, up)
 accident_good h k cells back (AtCell f offset bits) kept = post_err (Keeps h.job) _
 accident_good h k cells back (AtElement a index) kept = post_err (Keeps h.job) _
 accident_good h k cells back (AtArray a) kept = post_err (Keeps h.job) _
@@ -92,37 +73,33 @@ leaves_good : (h : OperatorContext) (standing : Standing) (go : OperatorContext 
 leaves_good h Marked go each = post_err (Keeps h.job) _
 leaves_good h (Entered level environment None) go each = post_then (Keeps h.job) _ _ (post_ok (Keeps h.job) _ tt)
 leaves_good h (Entered level environment (Some back)) go each =
-    post_then (Keeps h.job) _ _ (each (left h back) back.value (record { tasks = omega arith }))
+    post_then (Keeps h.job) _ _ (each (left h back) back.value (record { frames = omega arith; arrays = omega arith; tasks = omega arith; one = omega arith }))
 
 returned_good : (h k : OperatorContext) (w : Word) (value : Bool) → Grown h.job k.job → Good h (returned k w value)
 returned_good h k w false kept = cells_good h k _ None kept
 returned_good h k (Operand bits) true kept = cells_good h k _ None kept
-returned_good h k w true kept = post_bind (Keeps h.job) (follow k w) _ (λ end. evaluates_good h k end kept)
+returned_good h k w true kept = post_any (Keeps h.job) (follow k w) _ (λ end. evaluates_good h k end kept)
 
 retn_good : (h : OperatorContext) (standing : Standing) (cells : List Word) → Good h (retn_word h standing cells)
 retn_good h Marked cells = post_err (Keeps h.job) _
 retn_good h (Entered level environment back) [] = post_err (Keeps h.job) _
 retn_good h (Entered level environment back) (w ∷ cells) =
-    post_bind (Keeps h.job) (returnable h.job (top_of h).identity w) _
+    post_any (Keeps h.job) (returnable h.job (top_of h).identity w) _
     (λ v. leaves_good h (Entered level environment back) (λ after value. returned after v value) (λ k value kept. returned_good h k v value kept))
 
 grown_not : (job after : Job) → after.next_frame ≡ job.next_frame → after.next_array ≡ job.next_array → after.next_task ≡ job.next_task → Grown job after
-grown_not job after f a t = record { tasks = omega (arith, t) }
+grown_not job after f a t = record { frames = omega (arith, f); arrays = omega (arith, a); tasks = omega (arith, t); one = omega (arith, t) }
 
 grown_array : (job after : Job) → after.next_frame ≡ job.next_frame → after.next_array ≡ job.next_array + 1 → after.next_task ≡ job.next_task → Grown job after
-grown_array job after f a t = record { tasks = omega (arith, t) }
+grown_array job after f a t = record { frames = omega (arith, f); arrays = omega (arith, a); tasks = omega (arith, t); one = omega (arith, t) }
 
 grown_task : (job after : Job) → after.next_frame ≡ job.next_frame + 1 → after.next_array ≡ job.next_array → after.next_task ≡ job.next_task + 1 → Grown job after
-grown_task job after f a t = record { tasks = omega (arith, t) }
+grown_task job after f a t = record { frames = omega (arith, f); arrays = omega (arith, a); tasks = omega (arith, t); one = omega (arith, t) }
 
-post_if : {A : Type 0} (P : A → Type 0) (test : Bool) (a b : Answer A) → Post P a → Post P b → Post P (cond test a b)
-post_if P true a b x y = x
-post_if P false a b x y = y
-
-ruleset steps_rules = (refl, grown_not, grown_array, grown_task, post_if, post_then, post_bind, post_ok, post_err, result_good, cells_good, on_cells_good, push_good, accident_good, evaluates_good, enters_good, leaves_good, returned_good, retn_good, same)
+ruleset steps_rules = (refl, grown_not, grown_array, grown_task, post_if, post_then, post_any, post_ok, post_err, result_good, cells_good, on_cells_good, push_good, accident_good, evaluates_good, enters_good, leaves_good, returned_good, retn_good, same)
 
 mkst_good : (h : OperatorContext) → Good h (mkst h)
-mkst_good h = let up : Grown h.job (record h.job { next_frame = h.job.next_frame + 1 }) = record { tasks = omega arith } in search (steps_rules, up)
+mkst_good h = let up : Grown h.job (record h.job { next_frame = h.job.next_frame + 1 }) = record { frames = omega arith; arrays = omega arith; tasks = omega arith; one = omega arith } in search (steps_rules, up)
 
 exit_good : (h : OperatorContext) → Good h (exit h)
 exit_good h = leaves_good h (top_of h).standing _ (λ k value kept. result_good h k k.job k.task [] None kept)
@@ -156,7 +133,7 @@ nxlv_good h (b ∷ []) = search steps_rules
 nxlv_good h (b ∷ a ∷ rest) = search steps_rules
 
 store_at_good : (h : OperatorContext) (rest kept : List Word) (bits : ℕ) (end : End) → Good h (store_at h rest kept bits end)
-store_at_good h rest kept bits (AtCell f offset old) = post_ok (Keeps h.job) _ (record { tasks = omega arith })
+store_at_good h rest kept bits (AtCell f offset old) = post_ok (Keeps h.job) _ (record { frames = omega arith; arrays = omega arith; tasks = omega arith; one = omega arith })
 store_at_good h rest kept bits (AtElement a index) = search steps_rules
 store_at_good h rest kept bits (AtProc f segment level place) = search steps_rules
 store_at_good h rest kept bits (AtArray a) = search steps_rules

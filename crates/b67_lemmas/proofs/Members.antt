@@ -1,11 +1,13 @@
 -- Members of lists, look-ups by number, and totals.
-use Rattle.std.proofs.Common.{◌≡◌, ◌≢◌, ℕ, zero, suc, ◌+◌, ◌<◌, ◌≤◌, Bool, true, false, not, cond, eqb, List, [], ◌∷◌, ◌++◌, map, filter, flat_map, reverse, length, Some, refl, sym, ap, ◌∙◌, subst, inl, inr, ◌⊎◌, arith}
-use Rattle.std.specs.List.{AllByRecursion, slice_get, list_any}
-use Rattle.std.proofs.lemmas.List.{reverse-append, reverse-reverse}
-use Rattle.std.proofs.lemmas.Bool.Decides.{eqb_tells}
+use Rattle.std.proofs.Common.{List, [], ◌∷◌, ◌++◌, inl, inr, ◌⊎◌, map, ap, ◌≡◌, refl, flat_map, sym, subst, Bool, true, filter, ◌∙◌, ℕ, Some, ◌<◌, arith, ◌≤◌, ◌≢◌, ◌+◌, cond, eqb, suc, length, false, reverse, zero, not, None, find, ⊎_elim}
 use Rattle.std.proofs.lemmas.Bool.{cases_Bool, true≢false}
-use Rattle.b67_model.specs.Keyed.{keyed, change_keyed}
-use Rattle.b67_lemmas.specs.Lists.{Has, total, how_many, Falls}
+use Rattle.std.specs.List.{AllByRecursion, slice_get, list_any}
+use Rattle.std.proofs.lemmas.Bool.Decides.{eqb_tells}
+use Rattle.std.proofs.lemmas.List.{reverse-append, reverse-reverse}
+use Rattle.std.specs.Prelude.{find}
+use Rattle.std.proofs.lemmas.Option.{same_Some, none-some}
+use Rattle.b67_lemmas.specs.Lists.{Has, Falls, total, how_many}
+use Rattle.b67_lemmas.specs.Keyed.{keyed, change_keyed}
 
 pub has_append_left : {A : Type 0} (xs ys : List A) (x : A) → Has xs x → Has (xs ++ ys) x
 has_append_left [] ys x h = absurd h
@@ -48,6 +50,13 @@ has_flat f [] x y h inside = absurd h
 has_flat f (z ∷ xs) x y h inside = elim h [
   | inl e ↦ has_append_left (f z) (flat_map f xs) y (subst (λ w. Has (f w) y) (sym e) inside)
   | inr m ↦ has_append_right (f z) (flat_map f xs) y (has_flat f xs x y m inside)
+]
+
+pub has_flat_back : {A B : Type 0} (f : A → List B) (xs : List A) (y : B) → Has (flat_map f xs) y → Part f xs y
+has_flat_back f [] y h = absurd h
+has_flat_back f (x ∷ xs) y h = elim (has_append_cases (f x) (flat_map f xs) y h) [
+  | inl a ↦ record { item = x; among = inl refl; inside = a }
+  | inr b ↦ let r = has_flat_back f xs y b in record { item = r.item; among = inr r.among; inside = r.inside }
 ]
 
 pub has_filter : {A : Type 0} (p : A → Bool) (xs : List A) (x : A) → Has (filter p xs) x → Has xs x × (p x ≡ true)
@@ -370,3 +379,29 @@ any_has test (y ∷ xs) t = elim (cases_Bool (test y)) [
   | inl s ↦ (y, inl refl, s)
   | inr s ↦ let r = any_has test xs (rw s at t) in (r.0, inr r.1, r.2)
 ]
+
+-- all tasks end
+pub filter_none : {A : Type 0} (p : A → Bool) (xs : List A) → ((x : A) → Has xs x → p x ≡ false) → filter p xs ≡ []
+filter_none p [] none = refl
+filter_none p (x ∷ xs) none = let t = none x (inl refl) in rw t (filter_none p xs (λ y h. none y (inr h)))
+
+pub find_none : {A : Type 0} (p : A → Bool) (xs : List A) → ((x : A) → Has xs x → p x ≡ false) → find p xs ≡ None
+find_none p [] none = refl
+find_none p (x ∷ xs) none = let t = none x (inl refl) in rw t (find_none p xs (λ y k. none y (inr k)))
+
+pub find_one : {A : Type 0} (p : A → Bool) (xs : List A) (w : A) → Has xs w → p w ≡ true → ((x : A) → p x ≡ true → x ≡ w) → find p xs ≡ Some w
+find_one p [] w h t one = absurd h
+find_one p (x ∷ xs) w h t one = elim (cases_Bool (p x)) [
+  | inl e ↦ rw e (ap Some (one x e))
+  | inr e ↦ rw e (elim h [ inl is ↦ absurd (true≢false (sym t ∙ ap p (sym is) ∙ e)) | inr k ↦ find_one p xs w k t one ])
+]
+
+pub found-has : {A : Type 0} (test : A → Bool) (xs : List A) (x : A) → find test xs ≡ Some x → Has xs x × (test x ≡ true)
+found-has test [] x e = absurd (none-some x e)
+found-has test (y ∷ ys) x e = ⊎_elim
+    (λ (t : test y ≡ true). let same : y ≡ x = same_Some y x (rw t at e) in (inl same, ap test (sym same) ∙ t))
+    (λ (t : test y ≡ false). let r = found-has test ys x (rw t at e) in (inr r.0, r.1))
+    (cases_Bool (test y))
+
+pub keyed-has : {A : Type 0} (key : A → ℕ) (n : ℕ) (xs : List A) (x : A) → keyed key n xs ≡ Some x → Has xs x
+keyed-has key n xs x e = (keyed_has key n xs x e).0
