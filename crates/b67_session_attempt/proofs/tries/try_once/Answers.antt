@@ -86,7 +86,7 @@ returns-in-Done-clause-fits g c = λ x told plan s m t o h runs ready.
     let new = c.make.new.machine in
     let row = c.in-Done.ensures.row x told plan s m t o h runs ready in
     let is = was_operator x told plan s m t answers.Done old new (code_area x plan m t) refl (λ e. absurd cc) (λ n e. absurd cc) row in
-    operator_fits x told plan s m t o runs old h is (made_touches x told plan s m t o runs new (was_made x told plan s m t old new (code_area x plan m t) row))
+    operator_fits x told plan s m t o runs old h is (made_touches x told plan s m t o runs old new (was_made x told plan s m t old new (code_area x plan m t) row))
 
 pub returns-in-Fault-clause-fits : goal.returns-in-Fault-clause-fits
 returns-in-Fault-clause-fits g c = λ x told plan s m t o h runs ready.

@@ -4,7 +4,7 @@ use Rattle.b67_model.specs.Rows.{row}
 use Rattle.b67_layout.specs.Meets.{here}
 use Rattle.b67_model.specs.Called.{called}
 use Rattle.b67_entry_enter.specs.Procedures.{CallsOrMeets}
-use Rattle.b67_exec.proofs.operators.perform.Goals as goal
+use Rattle.b67_exec.proofs.operators.stay.Goals as goal
 
 pub returns-in-Valc : goal.returns-in-Valc
 returns-in-Valc c = record {

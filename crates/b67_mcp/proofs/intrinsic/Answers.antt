@@ -6,7 +6,7 @@ use Rattle.b67_mcp.proofs.Low.{from_eight}
 use Rattle.b67_mcp.proofs.Quiet.{silent_meets}
 use Rattle.b67_mcp.proofs.Callings.{calling}
 use Rattle.b67_mcp.proofs.Present.{silent_untouched}
-use Rattle.b67_mcp.proofs.call.Goals as goal
+use Rattle.b67_mcp.proofs.intrinsic.Goals as goal
 
 pub returns-in-8-clause-row : goal.returns-in-8-clause-row
 returns-in-8-clause-row g c = λ x told plan s m t o h runs code called.
