@@ -142,11 +142,10 @@ from_none made before steps e f = omega (arith, e, f)
 pub after_more : {B : Type 0} {holds : B → Option (List (List ℕ))} {size calls broken : B → ℕ} {b b' b'' : B} → DeviceAfterCalls holds size calls broken b b' → DeviceAfterCalls holds size calls broken b' b''
     → DeviceAfterCalls holds size calls broken b b''
 after_more f g =
-    let (fc, gc, ff, gf) = (f.calls, g.calls, f.faults, g.faults) in
     record {
       size = g.size ∙ f.size;
-      calls = omega (arith, fc, gc);
-      faults = omega (arith, ff, gf);
+      calls = let first = f.calls in let more = g.calls in omega (arith, first, more);
+      faults = let first = f.faults in let more = g.faults in omega (arith, first, more);
       tells = record { told = λ x e. let h = f.tells.told x e in let i = g.tells.told h.0 h.1 in (i.0, i.1, i.2 ∙ h.2) };
     }
 
@@ -179,7 +178,10 @@ module _ {K B : Type 0} (taken : K → Option (List ℕ)) (failures : K → ℕ)
       let made : k.tasks.made ≡ r.slices.steps = from_none k.tasks.made k0.tasks.made r.slices.steps begun r.slices.made in
       let all_made : k.tasks.made ≡ k0.tasks.made + k.tasks.made = omega (arith, begun) in
       let exact = λ (told : holds b ≢ None). known_after (holds b) (holds b') told (still told) in
-      let (begun_links, same, again, later) = (o.2.sized, first_calls.size, more_calls.size, first_calls.faults) in
+      let begun_links = o.2.sized in
+      let same = first_calls.size in
+      let again = more_calls.size in
+      let later = first_calls.faults in
       ran taken failures (device_of holds size broken b b'') core (d, program_of f ∷ []) j k
       (record {
         room = (o.0, o.1);
