@@ -30,10 +30,10 @@ refused_line (faults.NoCore need core) = no_core_line need core
 refused_line (faults.BackingFull sum sectors) = backing_full_line sum sectors
 refused_line faults.BackingFault = backing_fault_line
 
--- how many steps a run may make: up to the halt, or else as many as the job may
-abbrev pub steps_of : Option ℕ → ℕ → ℕ
-steps_of None limit = limit
-steps_of (Some count) limit = count
+-- how many steps a run may make: up to the halt, or else as many as any job may
+abbrev pub steps_of : Option ℕ → ℕ
+steps_of None = 100000000
+steps_of (Some count) = count
 
 -- behind the steps that were made: nothing where all tasks ended or the printer failed, else a line
 abbrev pub Finishes : {K : Type 0} → (K → Option (List ℕ)) → (K → ℕ) → ℕ → ℕ → Result Progress Stop → K → K → ℕ → Type 0

@@ -5,7 +5,7 @@ ghost use Rattle.std.specs.List.{AllByRecursion};
 ghost use Rattle.b67_io.specs.Line.{ended};
 ghost use Rattle.b67_io.specs.Causes.{Rose};
 ghost use Rattle.b67_codefile.specs.Meaning.{program_of};
-ghost use Rattle.b67_layout_storage.specs.Machine.{Says, content_after};
+ghost use Rattle.b67_layout_storage.specs.Machine.{Says, DeviceAfterCalls, content_after};
 ghost use Rattle.b67_model.specs.State.{Task, SessionJob};
 ghost use Rattle.b67_model.specs.Schedule.{Session};
 ghost use Rattle.b67_session_lines.specs.Ends.{Ends};
@@ -77,13 +77,13 @@ fn finish<K: Sink>(answered: Result<Progress, Stop>, card: u32, made: u64, print
     }
 }
 
-// How many steps a run may make.
-fn steps_of(halt: Option<u64>, limit: u64) -> u64
-    ensures { result ≡ steps_of halt limit }
+// How many steps a run may make: up to the halt, or else as many as any job may.
+fn steps_of(halt: Option<u64>) -> u64
+    ensures { result ≡ steps_of halt }
 {
     match halt {
         Some(count) => count,
-        None => limit,
+        None => 100_000_000,
     }
 }
 
@@ -104,7 +104,7 @@ fn run_job<K: Sink, B: Backing>(
     ensures halt { machine.new.tasks.halt ≡ machine.old.tasks.halt }
     ensures countable { AreCountable machine.new.tasks.jobs }
     ensures links { length machine.new.sectors.links ≡ length machine.old.sectors.links }
-    ensures size { B.size backing.new ≡ B.size backing.old }
+    ensures device { DeviceAfterCalls B.holds B.size B.calls B.faults backing.old backing.new }
 {
     let answered = slice(machine, steps, backing, printer);
     finish(answered, card, machine.tasks.made, printer)
@@ -114,11 +114,11 @@ fn run_job<K: Sink, B: Backing>(
 /// lines.
 ///
 /// Status 0 is that all tasks ended, 3 that the halt's count was reached while a task lives. Else the run stops before a
-/// step, or before the first one: 4 where core is too small, 5 where the device has too few sectors, 6 where it failed, 8
-/// where the printer failed, 9 where memory was refused, and 2 where the step calls an intrinsic that isn't built. The
-/// machine is there where a session was opened; where the run stopped with a task alive it stands for the session then, and
-/// where all tasks ended for the session without a task. A printer that fails in the text of a step stops the run too, and
-/// the machine counts the bytes that it took of it.
+/// step, or before the first one: 4 if core is too small, 5 if the device has too few sectors, 6 if it failed, 8 if the
+/// printer failed, 9 if memory was refused, and 2 if the step calls an intrinsic that isn't built. The machine is there if a
+/// session was opened; if the run stopped with a task alive it represents the session then, and if all tasks ended the
+/// session without a task. A printer that fails in the text of a step stops the run too, and the machine counts the bytes
+/// that it took of it. Without a machine the device is as it was, unless it failed as the session was opened.
 pub fn run_deck<K: Sink, B: Backing>(
     alloc: Global,
     deck: &Deck,
@@ -134,8 +134,9 @@ pub fn run_deck<K: Sink, B: Backing>(
     requires built { AllByRecursion (λ f. uses_built (program_of f) ≡ true) programs.now }
     requires core_low { 256 ≤ core }
     requires core_high { core < 2 ^ 20 }
-    ensures { RunEnds K.taken K.faults (device_of B.holds B.size B.faults backing.old backing.new) core (deck.now, map program_of programs.now)
+    ensures ends { RunEnds K.taken K.faults (device_of B.holds B.size B.faults backing.old backing.new) core (deck.now, map program_of programs.now)
         result.machine printer.old printer.new result.status }
+    ensures device { DeviceAfterCalls B.holds B.size B.calls B.faults backing.old backing.new }
 {
     let mut machine = match open(alloc, deck, programs, core, backing) {
         Ok(machine) => machine,
@@ -152,7 +153,7 @@ pub fn run_deck<K: Sink, B: Backing>(
             machine: Some(machine),
         },
         [job, ..] => {
-            let steps = steps_of(deck.halt, job.limit);
+            let steps = steps_of(deck.halt);
             let status = run_job(&mut machine, steps, job.body_card, printer, backing);
             Outcome {
                 status,

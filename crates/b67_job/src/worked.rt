@@ -324,7 +324,6 @@ fn paging_over_a_file(rt: HostRuntime) -> Result<(), Fail> {
 
 /// Runs TWO in the least core over a backing of which a write fails: the machine that is left.
 fn stopped_two<B: Backing>(alloc: Global, backing: &mut B) -> Result<Option<Machine>, AllocError>
-    requires { B.holds backing.old ≢ None }
     ensures open { IfOk result (λ found. IfSome found (λ k. IsOpen (B.holds backing.new) k)) }
     ensures countable { IfOk result (λ found. IfSome found (λ k. AreCountable k.tasks.jobs)) }
     ensures same { IfOk result (λ found. IfSome found (λ k. B.size backing.new + 1 ≡ length k.sectors.links)) }
