@@ -25,6 +25,7 @@ use Rattle.b67_task_tables.specs.declared.tables.Machine.{Machine}
 use Rattle.b67_session.specs.declared.slices.Progress.{Progress}
 use Rattle.b67_session.specs.declared.slices.Progress.TheVariants as progress
 use Rattle.b67_session.specs.Slices.{IsLone, IsLimited, RepresentsWithoutTasks, Reaches, Prints, SliceMeets}
+use Rattle.b67_session.proofs.Texts.{run_text-append}
 use Rattle.b67_session_lines.specs.Moments.{last_part, due}
 use Rattle.b67_session_lines.specs.Stops.{halted_line}
 use Rattle.b67_session_lines.specs.Ends.{Ends, whole, cut}
@@ -34,7 +35,7 @@ use Rattle.b67_job.specs.Texts.{Text, only, Closes, all_taken, cut_short}
 use Rattle.b67_job.specs.Runs.{run_of, text_to, ComesTo, StopsAt, IsCutInStep, IsCutInLimit, WasOpened, StopsOpened, all_end, halt_comes, step_wants_core, step_wants_sectors, step_fails, code_is_strange, opened, RunEnds, run_stops, step_is_cut}
 use Rattle.b67_job.specs.Finishing.{steps_of, Finishes}
 use Rattle.b67_job.proofs.Parts.{over_has_no_last}
-use Rattle.b67_job.proofs.Reached.{run_text-then, below, limit_high, single_below, came_whole, came_limited, begins_step, ends_step}
+use Rattle.b67_job.proofs.Reached.{below, limit_high, single_below, came_whole, came_limited, begins_step, ends_step}
 
 -- ---- what is printed
 
@@ -145,7 +146,7 @@ module _ {K B : Type 0} (taken : K → Option (List ℕ)) (faults : K → ℕ) (
     exact = λ tells.
         let order = opens.in_order.ordered steps (omega (arith, made)) in
         let l = came_limited IsStart first steps s printed m t order h.single h.limit (leads tells) in
-        let front : run_text printed ≡ run_text (lines l.before first) ++ run_text l.part.lines = ap run_text (sym l.lines_are) ∙ run_text-then (lines l.before first) l.part.lines in
+        let front : run_text printed ≡ run_text (lines l.before first) ++ run_text l.part.lines = ap run_text (sym l.lines_are) ∙ run_text-append (lines l.before first) l.part.lines in
         let last : is ≡ due l.part.session = due_is tells ∙ ap due (sym l.session) in
         record {
           before = l.before;

@@ -25,7 +25,6 @@ use Rattle.b67_stack.specs.Represents.{Storage}
 use Rattle.b67_layout.specs.Placement.{Placement}
 use Rattle.b67_layout.specs.Session.{IsRunning}
 use Rattle.b67_layout.specs.Meets.{here, area_held, IsPresent}
-use Rattle.b67_layout.proofs.Others.{keyed-has}
 use Rattle.b67_model.specs.Called.{called_at, called_by, called_on, called}
 use Rattle.b67_exec_cells.specs.Running.{code_area}
 use Rattle.b67_exec_cells.specs.Called as operators
@@ -46,6 +45,7 @@ use Rattle.b67_mcp.proofs.Present.{row_only}
 use Rattle.b67_session_attempt.specs.Tries.{TryFits}
 use Rattle.b67_session_attempt.proofs.Still.{operator_starts, call_starts}
 use Rattle.b67_session_attempt.proofs.Mute.{printing_built}
+use Rattle.b67_lemmas.proofs.Members.{keyed-has}
 
 -- before a fault an operator touches nothing that calls no intrinsic
 module _ (m : SessionJob) (t : Task) (a : ℕ) where
@@ -116,8 +116,8 @@ module _ (x : Storage) (told : Option (List (List ℕ))) (plan : Placement) (s :
   leaves_touches is a e = absurd (none-some a (sym (ap touched is) ∙ e))
 
   module _ (o : IsInOrderButPlaces s) (runs : IsRunning plan s.jobs m t) where
-    pub made_touches : (new : Machine) → OperatorMade x told plan s m t new → TouchesPresent x plan m t
-    made_touches new h a e =
+    pub made_touches : (old new : Machine) → OperatorMade x told plan s m t old new → TouchesPresent x plan m t
+    made_touches old new h a e =
         let same : h.touched ≡ Some a = sym (ap touched h.is) ∙ e in
         let is : step m.constants m.progress.job t ≡ Ok (Goes h.job [] (Some a)) = h.is ∙ ap (λ (q : Option ℕ). Ok (Goes h.job [] q)) same in
         let (array, among, named) = touches_arrays s m t o (keyed-has number_of m.constants.number s.jobs m runs.member) (keyed-has (λ (u : Task). u.number) t.number m.progress.job.tasks t runs.task) h.job [] a is in

@@ -13,7 +13,7 @@ use Rattle.b67_area.specs.Directory.{Laid}
 use Rattle.b67_area.proofs.Climbs.{area_at-low}
 use Rattle.b67_backing.specs.Shelf.{Table}
 use Rattle.b67_lemmas.specs.Lists.{Has}
-use Rattle.b67_law_order.proofs.Members.{has_append_right}
+use Rattle.b67_lemmas.proofs.Members.{has_append_right}
 use Rattle.b67_model.specs.Schedule.{Session}
 use Rattle.b67_stack.specs.declared.Cpu.{Cpu}
 use Rattle.b67_stack.specs.Shapes.{Location, LieUpward}
