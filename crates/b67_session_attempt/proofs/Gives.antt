@@ -16,9 +16,10 @@ use Rattle.b67_layout.specs.Meets.{here, objects_gone, with_job, ForEach, IsMade
 use Rattle.b67_layout.specs.Session.{IsRunning, RepresentsSession, RepresentsStorage}
 use Rattle.b67_layout.proofs.Fresh.{running_in_order}
 use Rattle.b67_task_tables.specs.declared.tables.Machine.{Machine}
+use Rattle.b67_task_tables.specs.declared.tables.Tasks.{Tasks}
 use Rattle.b67_task_tables.specs.Tables.{TasksShow, task_row, job_row, counts_of, MachineRepresents}
 use Rattle.b67_task_release.specs.Left.{IsLeft, AreReleased}
-use Rattle.b67_task_need.specs.Needing.{MachineRuns}
+use Rattle.b67_task_tables.specs.Runs.{RunsTask, Keeps}
 use Rattle.b67_session_attempt.specs.Makes.{OperatorMade, MakesOperator}
 use Rattle.b67_session_attempt.proofs.Inversion.{LeftFrame}
 use Rattle.b67_exec_cells.specs.Running.{code_area}
@@ -40,7 +41,7 @@ GivesBack old new after =
     → AreReleased left x new after.cpu after.areas after.sectors told plan s
 
 -- the top's address fits
-pub upto_fits : (old : Machine) → MachineRuns old → old.cpu.regs.s + 1 < 2 ^ 20
+pub upto_fits : (old : Machine) → RunsTask old → old.cpu.regs.s + 1 < 2 ^ 20
 upto_fits old r =
     let g = rooms r.storage old.cpu r.plan r.session r.member r.task r.ordered r.stands.session r.running in omega (arith, g.last, g.under, g.inside, g.bound)
 
@@ -99,7 +100,7 @@ module _ (old : Machine) (new : Cpu) (answered : Step) (left : Bool) (rows : Row
     under_old = top_under x old.cpu plan s m t o h runs ready made.job left_frame order new made.stands cuts.above cuts.low cuts.high
 
   -- what is asked
-  pub asks : MachineRuns old → (left : List PagedObject) × (x : Storage) × (told : Option (List (List ℕ))) × (plan : Placement) × (s : Session)
+  pub asks : RunsTask old → (left : List PagedObject) × (x : Storage) × (told : Option (List (List ℕ))) × (plan : Placement) × (s : Session)
       × IsLeft left x new plan s (new.regs.s + 1) (old.cpu.regs.s + 1) × RepresentsStorage old.areas old.sectors told new.core x
   asks r =
       let s = ready_one.session r.plan r.session r.member r.task r.ordered r.running in
@@ -118,7 +119,7 @@ module _ (old : Machine) (new : Cpu) (answered : Step) (left : Bool) (rows : Row
         storage_over r.storage old.areas old.sectors r.told old.cpu new (new_length r.storage r.plan s m t o h runs refl) r.stands.storage,
       )
 
-  pub in_turn : MachineRuns old → new.regs.s + 1 ≤ old.cpu.regs.s + 1
+  pub in_turn : RunsTask old → new.regs.s + 1 ≤ old.cpu.regs.s + 1
   in_turn r =
       let s = ready_one.session r.plan r.session r.member r.task r.ordered r.running in
       let m = ready_one.member r.plan r.session r.member r.task r.ordered r.running in
@@ -128,12 +129,12 @@ module _ (old : Machine) (new : Cpu) (answered : Step) (left : Bool) (rows : Row
       let runs = ready_one.running r.plan r.session r.member r.task r.ordered r.running in
       omega (arith, under_old r.storage r.plan s m t o h runs refl)
 
-  -- the length of core after giving back
-  pub length_after : MachineRuns old → (after : Machine) → after.areas ≡ old.areas → GivesBack old new after → length after.cpu.core ≡ length old.cpu.core
-  length_after r after areas released =
+  -- what giving back keeps
+  pub kept_after : RunsTask old → (after : Machine) → after.areas ≡ old.areas → after.tasks ≡ old.tasks → length after.sectors.links ≡ length old.sectors.links → GivesBack old new after → Keeps old after
+  kept_after r after areas tasks count released =
       let (left, x, told, plan, s, is, b) = asks r in
       let g = released left x told plan s is b in
-      sym g.beside.size ∙ ap (λ (a : Areas). a.size) areas ∙ r.stands.storage.size
+      record { core = sym g.beside.size ∙ ap (λ (a : Areas). a.size) areas ∙ r.stands.storage.size; sectors = count; halt = ap (λ (k : Tasks). k.halt) tasks }
 
   -- what is made
   pub gives : (after : Machine) → after.areas ≡ old.areas → after.tasks ≡ old.tasks → GivesBack old new after → (x : Storage) (told : Option (List (List ℕ))) (plan : Placement) (s : Session) (m : SessionJob) (t : Task) → IsInOrderButPlaces s

@@ -21,5 +21,6 @@ pub mod Mute
 pub mod AttemptFits
 pub mod Numbers
 pub mod Stops
+pub mod Runs
 pub mod Composed
 pub mod Passed

@@ -1,5 +1,6 @@
 -- What the next operator of the running task answers and leaves, with what it wants brought into core.
 use Rattle.std.specs.Prelude.{◌≡◌, ◌≢◌, ℕ, ◌<◌, ◌≤◌, ◌⊎◌, List, Option, Some, None, Result, Ok, Err}
+use Rattle.b67_io.specs.Causes.{Rose}
 use Rattle.b67_model.specs.State.{Ready, Task, SessionJob}
 use Rattle.b67_model.specs.Sectors.{sectors}
 use Rattle.b67_model.specs.Need.{touched_of, need}
@@ -18,6 +19,7 @@ use Rattle.b67_task_tables.specs.declared.tables.Machine.{Machine}
 use Rattle.b67_task_tables.specs.declared.tables.Tasks.{Tasks}
 use Rattle.b67_task_tables.specs.Tables.{MachineRepresents}
 use Rattle.b67_mcp.specs.Called.{IsCalled, IsCut}
+use Rattle.b67_mcp.specs.Running.{IsHeard}
 use Rattle.b67_mcp.specs.declared.ends.Stop.{Stop}
 use Rattle.b67_mcp.specs.declared.ends.Stop.TheVariants as stops
 use Rattle.b67_session_attempt.specs.declared.attempts.Attempt.{Attempt}
@@ -98,3 +100,8 @@ TablesStay (Ok attempts.Made) old new = Unit {0}
 TablesStay (Ok (attempts.Ends ending)) old new = new ≡ old
 TablesStay (Err stops.PrintFault) old new = new ≡ record old { printed = new.printed }
 TablesStay (Err stop) old new = new ≡ old
+
+-- the device's count of failures has risen where it failed; so has the printer's, which never falls
+pub record HaveCauses {B K : Type 0} (failed : B → ℕ) (unprinted : K → ℕ) (backing backing' : B) (paper paper' : K) (answered : Result Attempt Stop) : Type 0 where
+  pub device : answered ≡ Err stops.BackingFault → Rose failed backing backing'
+  pub printer : IsHeard unprinted paper paper' answered

@@ -6,13 +6,11 @@ use Rattle.b67_model.specs.State.{Ready, Task, Job, SessionJob}
 use Rattle.b67_model.specs.Steps.{Goes, Leaves}
 use Rattle.b67_model.specs.Rows.{reading_of, step}
 use Rattle.b67_model.specs.Schedule.{Session}
-use Rattle.b67_model.specs.InOrder.{IsInOrderButPlaces}
 use Rattle.b67_stack.specs.declared.What.TheVariants as what
 use Rattle.b67_stack.specs.declared.Step.{Step}
 use Rattle.b67_stack.specs.declared.Step.TheVariants as answers
 use Rattle.b67_stack.specs.Represents.{Storage}
 use Rattle.b67_layout.specs.Placement.{Placement}
-use Rattle.b67_layout.specs.Session.{IsRunning}
 use Rattle.b67_layout.specs.Meets.{with_job, objects_gone, IsAbsent, IsPresent, MayChange}
 use Rattle.b67_exec_cells.specs.Running.{code_area}
 use Rattle.b67_exec_cells.specs.Called.{called_in}
@@ -20,6 +18,7 @@ use Rattle.b67_exec.specs.Operators.{leaves_record}
 use Rattle.b67_task_release.specs.Released.{HasHome, Released}
 use Rattle.b67_task_tables.specs.declared.tables.Machine.{Machine}
 use Rattle.b67_task_tables.specs.Tables.{MachineRepresents}
+use Rattle.b67_task_tables.specs.Runs.{ForEachRun}
 
 -- a word that is written as areas are given back: the directory's first, or one of a hole
 abbrev pub MayFree : Storage → ℕ → Type 0
@@ -61,6 +60,4 @@ MakesOperator x told plan s m t answered old new = MakesAt x told plan s m t ans
 
 -- for each session in order that the machine stands for, with its running task, which is ready
 abbrev pub ForEachReady : Machine → (Storage → Option (List (List ℕ)) → Placement → Session → SessionJob → Task → Type 0) → Type 0
-ForEachReady k P =
-    (x : Storage) (told : Option (List (List ℕ))) (plan : Placement) (s : Session) (m : SessionJob) (t : Task) → IsInOrderButPlaces s → MachineRepresents x told k plan s
-    → IsRunning plan s.jobs m t → t.condition ≡ Ready → P x told plan s m t
+ForEachReady k P = ForEachRun k (λ x told plan s m t. t.condition ≡ Ready → P x told plan s m t)

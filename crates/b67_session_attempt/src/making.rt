@@ -1,15 +1,8 @@
 //! The operator at the running place, with the arrays given back of an activation record that it leaves.
 
-ghost use Rattle.std.specs.Prelude.{◌≡◌, ℕ, List, Option, length};
-ghost use Rattle.b67_model.specs.State.{Ready, Task, SessionJob};
-ghost use Rattle.b67_model.specs.Schedule.{Session};
-ghost use Rattle.b67_model.specs.InOrder.{IsInOrderButPlaces};
-ghost use Rattle.b67_stack.specs.Represents.{Storage};
-ghost use Rattle.b67_layout.specs.Placement.{Placement};
-ghost use Rattle.b67_layout.specs.Session.{IsRunning};
-ghost use Rattle.b67_task_need.specs.Needing.{MachineRuns};
-ghost use Rattle.b67_task_tables.specs.Tables.{MachineRepresents};
-ghost use Rattle.b67_session_attempt.specs.Makes.{MakesOperator};
+ghost use Rattle.std.specs.Prelude.{◌≡◌};
+ghost use Rattle.b67_task_tables.specs.Runs.{RunsTask, Keeps};
+ghost use Rattle.b67_session_attempt.specs.Makes.{MakesOperator, ForEachReady};
 
 use b67_exec::operate;
 use b67_stack::Step;
@@ -26,12 +19,10 @@ use b67_task_tables::Machine;
 /// holes.
 #[inline(always)]
 pub fn make(machine: &mut Machine) -> Step
-    requires runs { MachineRuns machine.old }
-    ensures row { (x : Storage) (told : Option (List (List ℕ))) (plan : Placement) (s : Session) (m : SessionJob) (t : Task) → IsInOrderButPlaces s
-        → MachineRepresents x told machine.old plan s → IsRunning plan s.jobs m t → t.condition ≡ Ready → MakesOperator x told plan s m t result machine.old machine.new }
-    ensures len { length machine.new.cpu.core ≡ length machine.old.cpu.core }
+    requires runs { RunsTask machine.old }
+    ensures row { ForEachReady machine.old (λ x told plan s m t. MakesOperator x told plan s m t result machine.old machine.new) }
+    ensures keeps { Keeps machine.old machine.new }
     ensures tasks { machine.new.tasks ≡ machine.old.tasks }
-    ensures count { length machine.new.sectors.links ≡ length machine.old.sectors.links }
 {
     let upto = machine.cpu.regs.s + 1;
     let made = operate(&mut machine.cpu);

@@ -6,7 +6,11 @@ use Rattle.b67_task_tables.specs.declared.tables.Tasks.{Tasks}
 use Rattle.b67_mcp.specs.declared.ends.Stop.TheVariants.{BackingFault}
 use Rattle.b67_session_attempt.specs.declared.attempts.Attempt.TheVariants.{Made, Ends}
 use Rattle.b67_session_attempt.proofs.Composed.{made_once, ends_once, stops_once, no_device_fault, unchanged_over, told_is, goes_on_telling, stopped_attempt, runs_over, wants_some, tables_after_end, tables_after_want, tables_after_stop, tables_stay, tables_from, room_after_stop, no_room_asked, attempt_as, same_needs, still_told, other, in_order, wants_nothing, then_last}
+use Rattle.b67_session_attempt.proofs.Runs.{ready_over}
 use Rattle.b67_session_attempt.proofs.attempting.with_code.Goals as goal
+
+pub try_once-requires-clause-runs : goal.try_once-requires-clause-runs
+try_once-requires-clause-runs g c = ready_over c.args.machine.now (g.B.Backing.holds c.args.backing.now) c.requires.runs
 
 pub bring_wanted-requires-clause-wants : goal.bring_wanted-requires-clause-wants
 bring_wanted-requires-clause-wants g c =
@@ -21,8 +25,8 @@ last_try-requires-clause-runs g c =
     let w = (rw c.in-Ok-Absent.field-0-is at c.in-Ok-Absent.ensures.row) r.storage r.storage.device r.plan r.session r.member r.task r.ordered r.stands.stands r.running r.ready in
     let k = unchanged_over r.storage told r.plan r.session c.args.machine.now c.try_once.new.machine w.3 r.stands in
     let b = c.in-Ok.ensures.row r.storage r.plan r.session r.member r.task w.0 r.ordered k r.running w.1 w.2 in
-    let over = runs_over r.storage (g.B.Backing.holds c.bring_wanted.new.backing) c.bring_wanted.new.machine r.plan r.session r.member r.task r.ordered r.running c.in-Ok-Absent.wanted b r.ready in
-    record { storage = over.storage; told = over.storage.device; plan = over.plan; session = over.session; member = over.member; task = over.task; ordered = over.ordered; stands = over.stands.stands; running = over.running; ready = over.ready }
+    let now = g.B.Backing.holds c.bring_wanted.new.backing in
+    ready_over c.bring_wanted.new.machine now (runs_over r.storage now c.bring_wanted.new.machine r.plan r.session r.member r.task r.ordered r.running c.in-Ok-Absent.wanted b r.ready)
 
 pub returns-in-Ok-Made-clause-row : goal.returns-in-Ok-Made-clause-row
 returns-in-Ok-Made-clause-row g c = λ x plan s m t o h runs ready code.

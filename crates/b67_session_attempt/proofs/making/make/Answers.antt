@@ -1,6 +1,6 @@
 use Rattle.std.proofs.Common.{arith, refl}
 use Rattle.b67_session_attempt.proofs.Made.{operator_made, not_made, operator_length}
-use Rattle.b67_session_attempt.proofs.Gives.{upto_fits, stays_so, asks, in_turn, length_after, gives}
+use Rattle.b67_session_attempt.proofs.Gives.{upto_fits, stays_so, asks, in_turn, kept_after, gives}
 use Rattle.b67_session_attempt.proofs.making.make.Goals as goal
 
 pub overflow_add-upto : goal.overflow_add-upto
@@ -12,11 +12,15 @@ returns-then-not-made-clause-row c = λ x told plan s m t o h runs ready.
     operator_made x told plan s m t c.args.machine.now o h runs ready c.operate-made.new.cpu c.operate-made.result.step
     (λ code. stays_so c.operate-made.result.left _ c.if-not-made.true (e.left x plan s m t o h.session runs code)) (e.row x plan s m t o h.session runs)
 
-pub returns-then-not-made-clause-len : goal.returns-then-not-made-clause-len
-returns-then-not-made-clause-len c =
+pub returns-then-not-made-clause-keeps : goal.returns-then-not-made-clause-keeps
+returns-then-not-made-clause-keeps c =
     let r = c.requires.runs in
-    operator_length r.storage r.plan r.session r.member r.task c.operate-made.result.step c.args.machine.now.cpu c.operate-made.new.cpu r.stands.session
-    (c.operate-made.ensures.row r.storage r.plan r.session r.member r.task r.ordered r.stands.session r.running)
+    record {
+      core = operator_length r.storage r.plan r.session r.member r.task c.operate-made.result.step c.args.machine.now.cpu c.operate-made.new.cpu r.stands.session
+          (c.operate-made.ensures.row r.storage r.plan r.session r.member r.task r.ordered r.stands.session r.running);
+      sectors = refl;
+      halt = refl;
+    }
 
 pub overflow_add-from : goal.overflow_add-from
 overflow_add-from c =
@@ -41,18 +45,20 @@ returns-in-Done-clause-row c =
     let r = c.release.ensures in
     gives c.args.machine.now c.operate-made.new.cpu c.operate-made.result.step c.operate-made.result.left e.row e.left e.cuts c.if-not-made.false c.in-Done.is c.release.new.machine r.areas r.tasks r.released
 
-pub returns-in-Done-clause-len : goal.returns-in-Done-clause-len
-returns-in-Done-clause-len c =
+pub returns-in-Done-clause-keeps : goal.returns-in-Done-clause-keeps
+returns-in-Done-clause-keeps c =
     let e = c.operate-made.ensures in
     let r = c.release.ensures in
-    length_after c.args.machine.now c.operate-made.new.cpu c.operate-made.result.step c.operate-made.result.left e.row e.left e.cuts c.if-not-made.false c.in-Done.is c.requires.runs c.release.new.machine r.areas r.released
+    kept_after c.args.machine.now c.operate-made.new.cpu c.operate-made.result.step c.operate-made.result.left e.row e.left e.cuts c.if-not-made.false c.in-Done.is c.requires.runs c.release.new.machine r.areas r.tasks r.count r.released
 
 pub returns-in_default : goal.returns-in_default
 returns-in_default c = record {
   row = λ x told plan s m t o h runs ready. not_made x told plan s m t c.args.machine.now o h runs ready c.operate-made.new.cpu c.operate-made.result.step c.in_default.not-Done (c.operate-made.ensures.row x plan s m t o h.session runs);
-  len = (let r = c.requires.runs in
-      operator_length r.storage r.plan r.session r.member r.task c.operate-made.result.step c.args.machine.now.cpu c.operate-made.new.cpu r.stands.session
-      (c.operate-made.ensures.row r.storage r.plan r.session r.member r.task r.ordered r.stands.session r.running));
+  keeps = (let r = c.requires.runs in record {
+    core = operator_length r.storage r.plan r.session r.member r.task c.operate-made.result.step c.args.machine.now.cpu c.operate-made.new.cpu r.stands.session
+        (c.operate-made.ensures.row r.storage r.plan r.session r.member r.task r.ordered r.stands.session r.running);
+    sectors = refl;
+    halt = refl;
+  });
   tasks = refl;
-  count = refl;
 }
