@@ -12,5 +12,3 @@ pub use bits::{brst, bset, insr, isol, land, leqv, lnot, lor, same};
 pub use compared::{equl, greq, grtr, less, lseq, neql};
 pub use numbers::{add, chsn, idiv, mult, rdiv, subt};
 
-#[cfg(test)]
-mod tests;

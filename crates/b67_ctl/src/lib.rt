@@ -18,5 +18,3 @@ pub use programs::{IntrinsicPcw, Pcw};
 pub use references::{Irw, Sirw};
 pub use registers::Regs;
 
-#[cfg(test)]
-mod tests;

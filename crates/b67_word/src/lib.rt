@@ -11,5 +11,3 @@ pub use faults::{Ending, Failed, Fault};
 pub use lists::{Bytes, Numbers, Words};
 pub use tagged::Word;
 
-#[cfg(test)]
-mod tests;

@@ -1,11 +1,7 @@
 //! What the commands print of small texts.
 
-use crate::asm::asm_text;
-use crate::check::check_text;
-use crate::fault::AdmitFault;
-use crate::put::put_text;
-use crate::refusal::Refusal;
 use b67_io::{Paper, Tape};
+use b67_job_admit::{AdmitFault, Refusal, asm_text, check_text, put_text};
 use b67_word::{Bytes, Numbers};
 use std::alloc::{AllocError, Global};
 use std::test::Fail;

@@ -1,7 +1,7 @@
 //! What the loader's examples give.
 
-use crate::{LoadFault, verify};
 use b67_codefile::read;
+use b67_load_verify::{LoadFault, verify};
 use b67_word::Place;
 use std::alloc::Global;
 use std::test::Fail;

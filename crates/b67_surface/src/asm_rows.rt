@@ -1,6 +1,6 @@
 //! What the assembler's examples give.
 
-use crate::{AsmFault, assemble};
+use b67_asm::{AsmFault, assemble};
 use b67_card::read_cards;
 use b67_codefile::write;
 use b67_io::FreeTape;

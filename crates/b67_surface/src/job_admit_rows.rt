@@ -1,9 +1,7 @@
 //! Decks as a table, with what is loaded of them or their first refusal.
 
-use crate::admission::{admit, file_of};
-use crate::fault::AdmitFault;
-use crate::refusal::Refusal;
 use b67_io::Tape;
+use b67_job_admit::{AdmitFault, Refusal, admit, file_of};
 use b67_word::{Bytes, Numbers, Place};
 use std::alloc::{AllocError, Global};
 use std::test::Fail;

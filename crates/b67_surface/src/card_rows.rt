@@ -1,6 +1,6 @@
 //! What the format's examples give.
 
-use crate::{Body, DeckFault, read_cards, read_deck};
+use b67_card::{Body, DeckFault, read_cards, read_deck};
 use b67_io::{FreeTape, Tape};
 use b67_word::{Bytes, Numbers};
 use std::alloc::{AllocError, Global};

@@ -1,8 +1,8 @@
 ghost use Rattle.std.specs.Prelude.{◌≡◌, IfOk};
 
-use super::*;
 use arrayvec::ArrayVec;
 use b67_model_text::{Name, Switch, Switches};
+use b67_session_schedule::*;
 use b67_task_tables::{JobRow, JobRows, TaskRow, TaskState, Tasks};
 use b67_word::{Numbers, Place};
 use std::alloc::Global;

@@ -5,7 +5,7 @@ use Rattle.b67_area.specs.declared.kinds.Kind.TheVariants.{Array, Row, Code}
 use Rattle.b67_area.specs.declared.directory.Areas.{Areas}
 use Rattle.b67_area.specs.Spans.{Span, Area, Hole, fresh, area_at, without}
 use Rattle.b67_area.specs.Directory.{IsDirectory}
-use Rattle.b67_area.proofs.tests.freed.Goals as goal
+use Rattle.b67_surface.proofs.area_rows.freed.Goals as goal
 
 here : (core : List Tagged) (low x : ℕ) (ss : List Span) (a : Info) → low ≡ 232 → IsDirectory core 232 ss → area_at 232 ss x ≡ Some a → (ts : List Span) × (b : Info) × IsDirectory core low ts × (area_at low ts x ≡ Some b)
 here core low x ss a e d r = let P : ℕ → Type 0 = λ k. (ts : List Span) × (b : Info) × IsDirectory core k ts × (area_at k ts x ≡ Some b) in subst P (sym e) (ss, a, d, r)

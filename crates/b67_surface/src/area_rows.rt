@@ -3,7 +3,7 @@ ghost use Rattle.b67_area.specs.declared.kinds.Kind.TheVariants.{Array, Row, Cod
 ghost use Rattle.b67_area.specs.Spans.{Area, Hole, fresh};
 ghost use Rattle.b67_area.specs.Directory.{IsDirectory};
 
-use super::*;
+use b67_area::*;
 use b67_core::Core;
 use std::process::Abort;
 use std::test::Fail;

@@ -1,6 +1,6 @@
 //! What the format's examples give.
 
-use crate::{BadFile, read, write};
+use b67_codefile::{BadFile, read, write};
 use std::alloc::Global;
 use std::test::Fail;
 
