@@ -26,7 +26,7 @@ use Rattle.b67_layout.specs.Placement.{Placement}
 use Rattle.b67_layout.specs.Session.{IsRunning}
 use Rattle.b67_layout.specs.Meets.{here, area_held, IsPresent}
 use Rattle.b67_layout.proofs.Others.{keyed-has}
-use Rattle.b67_model.specs.Called.{called_on, called}
+use Rattle.b67_model.specs.Called.{called_at, called_by, called_on, called}
 use Rattle.b67_exec_cells.specs.Running.{code_area}
 use Rattle.b67_exec_cells.specs.Called as operators
 use Rattle.b67_exec_cells.specs.Called.{called_in}
@@ -61,7 +61,7 @@ module _ (m : SessionJob) (t : Task) (a : ℕ) where
     where
       called_is : (next : Place) (r : Word) (arguments : List Word) → reverse (top t.frames).cells ≡ r ∷ arguments → follow_reference (here m t next) r ≡ Ok (AtIntrinsic 10) → called_on (here m t next) Marked ≡ Some 10
       called_is next r arguments is ends =
-          ap (Rattle.b67_law_order_steps.specs.Profiles.called_by (here m t next)) is ∙ ap Rattle.b67_law_order_steps.specs.Profiles.called_at ends
+          ap (called_by (here m t next)) is ∙ ap called_at ends
 
   by_code : (code : Code) (next : Place) → called (Plain code) (here m t next) ≡ None → touched_before_fault m.constants m.progress.job t (Ok (Plain code, next)) ≢ Some a
   by_code Entr next none e = by_standing next (top t.frames).standing (reverse (top t.frames).cells) refl none e
