@@ -1,5 +1,5 @@
 -- The core that the steps of a slice need, the halt before which they are made, and their whole texts.
-use Rattle.std.proofs.Common.{◌≡◌, ◌≢◌, ℕ, zero, suc, ◌+◌, ◌<◌, ◌≤◌, List, length, Option, Some, None, inl, inr, refl, sym, ◌∙◌, ap, arith, subst}
+use Rattle.std.proofs.Common.{◌≡◌, ◌≢◌, ℕ, zero, suc, ◌+◌, ◌<◌, ◌≤◌, Option, Some, inl, inr, refl, sym, ◌∙◌, ap, arith, subst}
 use Rattle.std.specs.Prelude.{◌⊎◌, option_map}
 use Rattle.b67_model.specs.Keyed.{keyed}
 use Rattle.b67_model.specs.Need.{need, need_of_job, need_by}
@@ -33,7 +33,7 @@ below (suc k) (suc n) low = up (below k n (omega (arith, low))) where
   up (inr same) = inr (ap suc same)
 
 -- one step more
-pub pub fits_more : (core size steps : ℕ) (first s : Session) → size ≡ core → after steps first ≡ s → StepsFit core steps first → NextFits size s → StepsFit core (steps + 1) first
+pub fits_more : (core size steps : ℕ) (first s : Session) → size ≡ core → after steps first ≡ s → StepsFit core steps first → NextFits size s → StepsFit core (steps + 1) first
 fits_more core size steps first s len came each next k low = by (below k steps low) where
   by : (k < steps) ⊎ (k ≡ steps) → NextFits core (after k first)
   by (inl less) = each k less

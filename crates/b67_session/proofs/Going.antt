@@ -5,18 +5,18 @@ use Rattle.b67_model.specs.State.{Task, SessionJob}
 use Rattle.b67_model.specs.Run.{RunLine, next, after, lines}
 use Rattle.b67_model.specs.Schedule.{Session}
 use Rattle.b67_session_lines.specs.Moments.{first_part, due}
-use Rattle.b67_stack.specs.Represents.{Storage}
 use Rattle.b67_layout_storage.specs.Machine.{Says}
-use Rattle.b67_layout.specs.Placement.{Placement}
 use Rattle.b67_single.proofs.Runs.{Came, came-none, came-more}
 use Rattle.b67_task_tables.specs.declared.tables.TaskRow.{TaskRow}
 use Rattle.b67_task_tables.specs.declared.tables.Machine.{Machine}
-use Rattle.b67_task_tables.specs.Tables.{task_row, MachineRepresents}
+use Rattle.b67_task_tables.specs.Tables.{task_row}
 use Rattle.b67_session_attempt.specs.Stops.{Stop}
 use Rattle.b67_session_attempt.specs.Stops as stops
+use Rattle.b67_session.specs.declared.ends.StepEnd.{StepEnd}
 use Rattle.b67_session.specs.declared.ends.StepEnd.TheVariants as ends
+use Rattle.b67_session.specs.declared.slices.Progress.{Progress}
 use Rattle.b67_session.specs.declared.slices.Progress.TheVariants as progress
-use Rattle.b67_session.specs.Slices.{IsLone, LivesOn, Keeps, Reaches, whole, but_limit, Prints, PrintsWhole, StepsFit, StopsWithRoom, IfPresent, StopsBefore, SliceMeets, Slices}
+use Rattle.b67_session.specs.Slices.{IsLone, LivesOn, Keeps, HasCauses, Reaches, whole, but_limit, Prints, PrintsWhole, StepsFit, StopsWithRoom, IfPresent, StopsBefore, SliceMeets, Slices}
 use Rattle.b67_session.specs.Steps.{StepGives, Leads, stays, makes, halves, Steps}
 use Rattle.b67_session.proofs.Lone.{has_member, has_task}
 use Rattle.b67_session.proofs.Printing.{prints_none, prints_then, prints_before}
@@ -242,3 +242,25 @@ begun_present {A} {B} {D} known core' core n made k k' new s m t d d' e step ans
       let (is, device) = begun none in
       let P : Machine → D → ℕ → Type 0 = λ z x size. (h : IsLone known z s m t) → IfPresent (known ≢ None) size 1 h.storage h.plan s m t step z new x e in
       subst (P k d) len (subst (λ (z : Machine). P z d core') is (subst (λ (x : D). P k' x core') device (present none)))
+
+-- a step makes none or one
+pub made_no_fewer : {K : Type 0} {taken : K → Option (List ℕ)} {known : Option (List (List ℕ))} {exact : Type 0} {count : ℕ} {s : Session} {answered : Result StepEnd Stop} {old new : Machine} {paper paper' : K} → Steps taken known exact count s answered old new paper paper' → old.tasks.made ≤ new.tasks.made
+made_no_fewer x = omega (arith, x.made)
+
+-- a step's stop is the slice's
+pub stop_rooms : (core : ℕ) (s : Session) (m : SessionJob) (t : Task) (stop : Stop) (step : Result StepEnd Stop) → step ≡ Err stop → StopsWithRoom core s m t step → StopsWithRoom {A = Progress} core s m t (Err stop)
+stop_rooms core s m t stop step is room = by stop (subst (λ (z : Result StepEnd Stop). StopsWithRoom core s m t z) is room) where
+  by : (why : Stop) → StopsWithRoom {A = StepEnd} core s m t (Err why) → StopsWithRoom {A = Progress} core s m t (Err why)
+  by (stops.NoCore words size) r = tt
+  by (stops.BackingFull sum size) r = r
+  by stops.BackingFault r = r
+  by stops.PrintFault r = tt
+  by stops.Unbuilt r = tt
+
+-- and what it says of a failure
+pub stop_causes : {D K : Type 0} (failed : D → ℕ) (refused : K → ℕ) (stop : Stop) (step : Result StepEnd Stop) (a b c : D) (p q r : K) → step ≡ Err stop → failed a ≤ failed b → refused p ≤ refused q → HasCauses failed refused step b c q r → HasCauses {A = Progress} failed refused (Err stop) a c p r
+stop_causes failed refused stop step a b c p q r is device printer h = record {
+  backing = λ e. let why : stop ≡ stops.BackingFault = cc in let rose = h.backing (is ∙ ap (λ (x : Stop). Err x) why) in omega (arith, rose, device);
+  print = λ e. let why : stop ≡ stops.PrintFault = cc in let rose = h.print (is ∙ ap (λ (x : Stop). Err x) why) in omega (arith, rose, printer);
+  later = omega (arith, h.later, printer);
+}

@@ -1,7 +1,9 @@
 -- A slice that begins with the line of LIMIT.
 use Rattle.std.proofs.Common.{◌≡◌, ◌≢◌, ◌<◌, ℕ, ◌+◌, arith, true, false, List, [], ◌∷◌, length, map, Option, Ok, Err, refl, sym, ap, ◌∙◌, subst, inl, inr, ◌⊎◌}
 use Rattle.b67_word.specs.declared.faults.Ending.TheVariants.{Limit}
-use Rattle.std.proofs.lemmas.Grind.{sum_by-cons}
+use Rattle.std.specs.Prelude.{◌==◌}
+use Rattle.std.proofs.lemmas.Bool.{eqb-true}
+use Rattle.std.proofs.lemmas.List.Sums.{sum_by-cons}
 use Rattle.b67_lemmas.specs.Lists.{Has}
 use Rattle.b67_model.specs.State.{Task, SessionJob}
 use Rattle.b67_model.specs.Steps.{Ends}
@@ -26,6 +28,16 @@ use Rattle.b67_session.proofs.Printing.{prints_rest, prints_more}
 use Rattle.b67_session.proofs.Finishing.{none_lives, none_left}
 use Rattle.b67_session.proofs.Limits.{not_at_limit, limit_member, limit_part, limited_one, limited_not, limited_part, limit_stands, due_limit}
 
+-- whether the tables have a row
+pub empty_rows : (k : Machine) → true ≡ (length k.tasks.rows.items == 0) → k.tasks.rows.items ≡ []
+empty_rows k e = by k.tasks.rows.items (eqb-true (length k.tasks.rows.items) 0 (sym e)) where
+  by : (rows : List TaskRow) → length rows ≡ 0 → rows ≡ []
+  by [] none = refl
+  by (row ∷ rows) none = absurd (omega (arith, none))
+
+pub some_rows : (k : Machine) → false ≡ (length k.tasks.rows.items == 0) → k.tasks.rows.items ≢ []
+some_rows k e none = let z : false ≡ true = subst (λ (rows : List TaskRow). false ≡ (length rows == 0)) none e in absurd cc
+
 -- where no task lives there is none
 no_task : (ts : List Task) (t : Task) → Has ts t → length ts ≡ 0 → ⊥
 no_task [] t among none = among
@@ -33,13 +45,12 @@ no_task (u ∷ ts) t among none = omega (arith, none)
 
 none_of : (jobs : List SessionJob) (m : SessionJob) (t : Task) → Has jobs m → Has m.progress.job.tasks t → live_tasks jobs ≡ 0 → ⊥
 none_of [] m t inm int none = inm
-none_of (y ∷ jobs) m t inm int none = by inm where
-  both : length y.progress.job.tasks + live_tasks jobs ≡ 0
-  both = sym (sum_by-cons (λ (z : SessionJob). length z.progress.job.tasks) y jobs) ∙ none
-
-  by : (y ≡ m) ⊎ Has jobs m → ⊥
-  by (inl e) = no_task y.progress.job.tasks t (subst (λ (z : SessionJob). Has z.progress.job.tasks t) (sym e) int) (omega (arith, both))
-  by (inr later) = none_of jobs m t later int (omega (arith, both))
+none_of (y ∷ jobs) m t (inl e) int none =
+    let both : length y.progress.job.tasks + live_tasks jobs ≡ 0 = sym (sum_by-cons (λ (z : SessionJob). length z.progress.job.tasks) y jobs) ∙ none in
+    no_task y.progress.job.tasks t (subst (λ (z : SessionJob). Has z.progress.job.tasks t) (sym e) int) (omega (arith, both))
+none_of (y ∷ jobs) m t (inr later) int none =
+    let both : length y.progress.job.tasks + live_tasks jobs ≡ 0 = sym (sum_by-cons (λ (z : SessionJob). length z.progress.job.tasks) y jobs) ∙ none in
+    none_of jobs m t later int (omega (arith, both))
 
 -- a machine without a task has no row, and one with a task has a row
 no_row : (known : Option (List (List ℕ))) (k : Machine) (s : Session) → RepresentsWithoutTasks known k s → k.tasks.rows.items ≡ []

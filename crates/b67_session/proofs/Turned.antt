@@ -1,5 +1,5 @@
 -- The chosen task is the running one, and what the attempt at its operator then answers.
-use Rattle.std.proofs.Common.{◌≡◌, ◌≢◌, ℕ, ◌+◌, ◌<◌, ◌^◌, List, [], ◌∷◌, length, map, Option, Some, None, Result, refl, sym, ap, ◌∙◌, subst}
+use Rattle.std.proofs.Common.{◌≡◌, ◌≢◌, ℕ, ◌+◌, ◌<◌, ◌^◌, List, [], ◌∷◌, length, map, Option, Some, None, Result, Ok, Err, refl, sym, ap, ◌∙◌, subst}
 use Rattle.std.specs.List.{slice_get}
 use Rattle.std.proofs.lemmas.Option.{slice_get_within}
 use Rattle.b67_model.specs.State.{Ready, Task, SessionJob}
@@ -25,6 +25,7 @@ use Rattle.b67_session_schedule.proofs.Rooms.{none_ready}
 use Rattle.b67_task_switch.specs.Standing.{HasRow}
 use Rattle.b67_task_switch.proofs.Lists.{at_mapped}
 use Rattle.b67_session_attempt.specs.Stops.{Stop}
+use Rattle.b67_session_attempt.specs.Stops as stops
 use Rattle.b67_session_attempt.specs.declared.attempts.Attempt.{Attempt}
 use Rattle.b67_session_attempt.specs.Brought.{WantsNothing}
 use Rattle.b67_session_attempt.specs.Attempts.{RunsOver, AttemptMeets, Attempts, AttemptFits, TablesStay}
@@ -61,7 +62,7 @@ module _ (known : Option (List (List ℕ))) (k : Machine) (s : Session) (m : Ses
   chooses_one none = absurd (some_ready s m t h.single (none_ready s none))
 
   module _ (c : Chosen) (chooses : Chooses k.tasks.rows.items (Some c) (choice s)) where
-    the_row : Chose h.plan k.tasks m t c
+    abbrev the_row : Chose h.plan k.tasks m t c
     the_row = chose h.plan s m t h.single k.tasks h.stands.tables c chooses.0
 
     pub has_row : HasRow k c.row
@@ -170,11 +171,26 @@ module _ {K : Type 0} {taken : K → Option (List ℕ)} {told told' : Option (Li
       let first : List SessionJob → SessionJob = λ ms. elim ms [ [] ↦ m | y ∷ more ↦ y ] in
       ap first (sym one.single.jobs ∙ jobs_same tells ∙ here.single.jobs)
 
-  room_here : known ≢ None → AttemptFits (length mid.cpu.core) here.storage here.plan (record s { jobs = a.jobs }) a.member t answered
-  room_here tells =
+  room_here : known ≢ None → AttemptFits (length mid.cpu.core) here.storage here.plan s m t answered
+  room_here tells = x.room here.storage here.plan s m t here.ordered stood here.running here.single.ready (device_told tells)
+
+  -- the same of the session that the machine represents again
+  room_again : known ≢ None → AttemptFits (length mid.cpu.core) here.storage here.plan (record s { jobs = a.jobs }) a.member t answered
+  room_again tells =
       let J : List SessionJob → Type 0 = λ jobs. AttemptFits (length mid.cpu.core) here.storage here.plan (record s { jobs = jobs }) m t answered in
       let M : SessionJob → Type 0 = λ z. AttemptFits (length mid.cpu.core) here.storage here.plan (record s { jobs = a.jobs }) z t answered in
-      subst M (sym (member_same tells)) (subst J (sym (jobs_same tells)) (x.room here.storage here.plan s m t here.ordered stood here.running here.single.ready (device_told tells)))
+      subst M (sym (member_same tells)) (subst J (sym (jobs_same tells)) (room_here tells))
+
+  -- and of the machine before
+  pub room_there : known ≢ None → AttemptFits (length k.cpu.core) h.storage h.plan s m t answered
+  room_there tells = subst (λ (n : ℕ). AttemptFits n h.storage h.plan s m t answered) x.core (room_over answered (room_here tells)) where
+    room_over : (other : Result Attempt Stop) → AttemptFits (length mid.cpu.core) here.storage here.plan s m t other → AttemptFits (length mid.cpu.core) h.storage h.plan s m t other
+    room_over (Ok attempted) fits = fits
+    room_over (Err (stops.NoCore words size)) fits = tt
+    room_over (Err (stops.BackingFull sum size)) fits = fits
+    room_over (Err stops.BackingFault) fits = fits
+    room_over (Err stops.PrintFault) fits = fits
+    room_over (Err stops.Unbuilt) fits = tt
 
   pub attempted : Attempted taken known (content_after known told') (length k.cpu.core) count k.tasks.printed s c answered new paper paper'
   attempted =
@@ -197,7 +213,7 @@ module _ {K : Type 0} {taken : K → Option (List ℕ)} {told told' : Option (Li
         };
         few = here.turn;
         meets = subst (λ (d : Option (List (List ℕ))). AttemptMeets taken (content_after d told') (d ≢ None) (length mid.cpu.core) count mid.tasks.printed here.plan (record s { jobs = a.jobs }) a.member t answered new paper paper') (sym device_is) a.meets;
-        room = room_here;
+        room = room_again;
       }))
 
   -- what the attempt promises where nothing is wanted
