@@ -86,11 +86,14 @@ pub record Attempts {K : Type 0} (taken : K → Option (List ℕ)) (x : Storage)
   pub running : IsRunning plan jobs member t
   pub meets : AttemptMeets taken told (x.device ≢ None) core count before plan (record s { jobs = jobs }) member t answered new paper paper'
 
--- a step that was made, ends its task, or couldn't be printed needs no more words than core has
-abbrev pub AttemptFits : ℕ → Session → SessionJob → Task → Result Attempt Stop → Type 0
-AttemptFits core s m t (Ok attempted) = need core s m t ≤ core
-AttemptFits core s m t (Err stops.PrintFault) = need core s m t ≤ core
-AttemptFits core s m t (Err stop) = Unit {0}
+-- A step that was made, ends its task, or couldn't be printed needs no more words than core has. Where its segment was
+-- present before, in this storage, a device that is full or fails stops it only if it doesn't either
+abbrev pub AttemptFits : ℕ → Storage → Placement → Session → SessionJob → Task → Result Attempt Stop → Type 0
+AttemptFits core x plan s m t (Ok attempted) = need core s m t ≤ core
+AttemptFits core x plan s m t (Err stops.PrintFault) = need core s m t ≤ core
+AttemptFits core x plan s m t (Err (stops.BackingFull sum size)) = code_area x plan m t ≢ None → need core s m t ≤ core
+AttemptFits core x plan s m t (Err stops.BackingFault) = code_area x plan m t ≢ None → need core s m t ≤ core
+AttemptFits core x plan s m t (Err stop) = Unit {0}
 
 -- the tables are as they were but where the operator was made; after a printer's failure it is counted how much is printed
 abbrev pub TablesStay : Result Attempt Stop → Tasks → Tasks → Type 0

@@ -37,7 +37,7 @@ fn last_try<K: Sink>(machine: &mut Machine, paper: &mut K) -> Result<Attempt, St
         → IsRunning plan s.jobs m t → t.condition ≡ Ready → (x.device ≢ None → WantsNothing x plan m t)
         → Attempts K.taken x x.device core count machine.old.tasks.printed plan s t result machine.new paper.old paper.new }
     ensures fits { (x : Storage) (plan : Placement) (s : Session) (m : SessionJob) (t : Task) → IsInOrderButPlaces s → MachineRepresents x x.device machine.old plan s
-        → IsRunning plan s.jobs m t → t.condition ≡ Ready → WantsNothing x plan m t → AttemptFits (length machine.old.cpu.core) s m t result }
+        → IsRunning plan s.jobs m t → t.condition ≡ Ready → WantsNothing x plan m t → AttemptFits (length machine.old.cpu.core) x plan s m t result }
     ensures full { result ≢ Err BackingFault }
     ensures print_cause { result ≡ Err PrintFault → Rose K.faults paper.old paper.new }
     ensures later { K.faults paper.old ≤ K.faults paper.new }
@@ -69,7 +69,7 @@ fn with_code<B: Backing, K: Sink>(
         → IsRunning plan s.jobs m t → t.condition ≡ Ready → code_area x plan m t ≢ None
         → Attempts K.taken x (content_after x.device (B.holds backing.new)) (length machine.old.cpu.core) (B.size backing.old) machine.old.tasks.printed plan s t result machine.new paper.old paper.new }
     ensures fits { (x : Storage) (plan : Placement) (s : Session) (m : SessionJob) (t : Task) → IsInOrderButPlaces s → StandsOver x (B.holds backing.old) machine.old plan s
-        → IsRunning plan s.jobs m t → t.condition ≡ Ready → code_area x plan m t ≢ None → x.device ≢ None → AttemptFits (length machine.old.cpu.core) s m t result }
+        → IsRunning plan s.jobs m t → t.condition ≡ Ready → code_area x plan m t ≢ None → x.device ≢ None → AttemptFits (length machine.old.cpu.core) x plan s m t result }
     ensures full_cause { result ≡ Err BackingFault → Rose B.faults backing.old backing.new }
     ensures print_cause { result ≡ Err PrintFault → Rose K.faults paper.old paper.new }
     ensures later { K.faults paper.old ≤ K.faults paper.new }
@@ -114,7 +114,7 @@ pub fn attempt<B: Backing, K: Sink>(
         → IsRunning plan s.jobs m t → t.condition ≡ Ready
         → Attempts K.taken x (content_after x.device (B.holds backing.new)) (length machine.old.cpu.core) (B.size backing.old) machine.old.tasks.printed plan s t result machine.new paper.old paper.new }
     ensures fits { (x : Storage) (plan : Placement) (s : Session) (m : SessionJob) (t : Task) → IsInOrderButPlaces s → StandsOver x (B.holds backing.old) machine.old plan s
-        → IsRunning plan s.jobs m t → t.condition ≡ Ready → x.device ≢ None → AttemptFits (length machine.old.cpu.core) s m t result }
+        → IsRunning plan s.jobs m t → t.condition ≡ Ready → x.device ≢ None → AttemptFits (length machine.old.cpu.core) x plan s m t result }
     ensures quiet { (x : Storage) (plan : Placement) (s : Session) (m : SessionJob) (t : Task) → IsInOrderButPlaces s → StandsOver x (B.holds backing.old) machine.old plan s
         → IsRunning plan s.jobs m t → t.condition ≡ Ready → WantsNothing x plan m t → backing.new ≡ backing.old }
     ensures full_cause { result ≡ Err BackingFault → Rose B.faults backing.old backing.new }

@@ -5,7 +5,7 @@ use Rattle.b67_task_tables.specs.declared.tables.Machine.{Machine}
 use Rattle.b67_task_tables.specs.declared.tables.Tasks.{Tasks}
 use Rattle.b67_mcp.specs.declared.ends.Stop.TheVariants.{BackingFault}
 use Rattle.b67_session_attempt.specs.declared.attempts.Attempt.TheVariants.{Made, Ends}
-use Rattle.b67_session_attempt.proofs.Composed.{made_once, ends_once, stops_once, no_device_fault, never, unchanged_over, told_is, goes_on_telling, stopped_attempt, runs_over, wants_some, tables_after_end, tables_after_want, tables_after_stop, tables_stay, tables_from, room_after_stop, no_room_asked, attempt_as, same_needs, still_told, other, in_order, code_there, then_coded}
+use Rattle.b67_session_attempt.proofs.Composed.{made_once, ends_once, stops_once, no_device_fault, never, unchanged_over, told_is, goes_on_telling, stopped_attempt, runs_over, wants_some, tables_after_end, tables_after_want, tables_after_stop, tables_stay, tables_from, room_after_stop, room_after_want, attempt_as, same_needs, still_told, other, in_order, code_there, then_coded}
 use Rattle.b67_session_attempt.proofs.attempting.attempt.Goals as goal
 
 pub bring_wanted-requires-clause-wants : goal.bring_wanted-requires-clause-wants
@@ -111,10 +111,16 @@ returns-in-Ok-clause-fits g c = λ x plan s m t o h runs ready n.
     (code_there x told' new plan s m t o runs found b) still)
 
 pub returns-in-Err-clause-fits : goal.returns-in-Err-clause-fits
-returns-in-Err-clause-fits g c = λ x plan s m t o h runs ready tells. room_after_stop (length c.args.machine.now.cpu.core) s m t c.in-Err.stop (c.in-Err.ensures.fits x x.device plan s m t o h.stands runs ready)
+returns-in-Err-clause-fits g c = λ x plan s m t o h runs ready tells.
+    room_after_stop g.K.Sink.taken x.device c.args.machine.now c.try_once.new.machine c.args.paper.now c.try_once.new.paper (length c.args.machine.now.cpu.core) x plan s m t c.in-Err.stop
+    (c.in-Err.ensures.row x x.device plan s m t o h.stands runs ready) (c.in-Err.ensures.fits x x.device plan s m t o h.stands runs ready)
 
 pub returns-in-Err-bring_wanted-clause-fits : goal.returns-in-Err-bring_wanted-clause-fits
-returns-in-Err-bring_wanted-clause-fits g c = λ x plan s m t o h runs ready tells. no_room_asked (length c.args.machine.now.cpu.core) s m t c.in-Err-bring_wanted.stop (λ e. c.in-Err-bring_wanted.ensures.silent (ap Err e))
+returns-in-Err-bring_wanted-clause-fits g c = λ x plan s m t o h runs ready tells.
+    let w = (rw c.in-Ok-Absent.field-0-is at c.in-Ok-Absent.ensures.row) x x.device plan s m t o h.stands runs ready in
+    let k = unchanged_over x (g.B.Backing.holds c.args.backing.now) plan s c.args.machine.now c.try_once.new.machine w.3 h in
+    room_after_want (length c.args.machine.now.cpu.core) (length c.try_once.new.machine.cpu.core) x plan s m t c.in-Err-bring_wanted.stop (ap (λ (z : Machine). length z.cpu.core) w.3)
+    (λ e. c.in-Err-bring_wanted.ensures.silent (ap Err e)) (c.in-Err-bring_wanted.ensures.fits x plan s m t w.0 o k runs w.1 w.2)
 
 pub returns-in-Ok-Ends-clause-tables : goal.returns-in-Ok-Ends-clause-tables
 returns-in-Ok-Ends-clause-tables g c =

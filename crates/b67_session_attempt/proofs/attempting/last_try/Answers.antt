@@ -44,7 +44,9 @@ returns-in-Ok-Absent-clause-fits g c = λ x plan s m t o h runs ready none.
     ((rw c.in-Ok-Absent.field-0-is at c.in-Ok-Absent.ensures.row) x x.device plan s m t o h runs ready))
 
 pub returns-in-Err-clause-fits : goal.returns-in-Err-clause-fits
-returns-in-Err-clause-fits g c = λ x plan s m t o h runs ready none. room_after_stop (length c.args.machine.now.cpu.core) s m t c.in-Err.stop (c.in-Err.ensures.fits x x.device plan s m t o h runs ready)
+returns-in-Err-clause-fits g c = λ x plan s m t o h runs ready none.
+    room_after_stop g.K.Sink.taken x.device c.args.machine.now c.try_once.new.machine c.args.paper.now c.try_once.new.paper (length c.args.machine.now.cpu.core) x plan s m t c.in-Err.stop
+    (c.in-Err.ensures.row x x.device plan s m t o h runs ready) (c.in-Err.ensures.fits x x.device plan s m t o h runs ready)
 
 pub returns-in-Ok-Ends-clause-tables : goal.returns-in-Ok-Ends-clause-tables
 returns-in-Ok-Ends-clause-tables g c =
