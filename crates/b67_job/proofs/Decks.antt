@@ -1,5 +1,5 @@
 -- The run of a deck of no job or of one.
-use Rattle.std.proofs.Common.{◌≡◌, ◌≢◌, ℕ, ◌+◌, ◌<◌, ◌≤◌, true, List, [], ◌∷◌, length, map, get_or, refl, sym, ap, ◌∙◌, subst, arith, Option, Some, None, Ok, Err, inl}
+use Rattle.std.proofs.Common.{◌≡◌, ◌≢◌, ℕ, zero, suc, ◌+◌, ◌<◌, ◌≤◌, true, List, [], ◌∷◌, length, map, get_or, refl, sym, ap, ◌∙◌, subst, arith, Option, Some, None, Ok, Err, inl, inr}
 use Rattle.std.specs.Prelude.{IfSome}
 use Rattle.std.specs.List.{AllByRecursion}
 use Rattle.std.proofs.lemmas.Option.{none-some}
@@ -32,14 +32,13 @@ use Rattle.b67_session_open.specs.Opens.{need_of, sectors_of_all, IsOpened}
 use Rattle.b67_session_open.proofs.Decks.{deck_within}
 use Rattle.b67_layout_storage.specs.Machine.{Says, DeviceAfterCalls, content_after}
 use Rattle.b67_session_open.specs.Opened.{opening_plan}
-use Rattle.b67_session.specs.Passed.{AreCountable}
-use Rattle.b67_session.specs.Slices.{IsLone, LivesOn, SliceMeets, StepsFit}
+use Rattle.b67_session.specs.Slices.{IsLone, IsOpen, Keeps, PrintsWhole, RepresentsWithoutTasks, SliceMeets, StepsFit}
 use Rattle.b67_session_lines.specs.Ends.{Ends}
 use Rattle.b67_job.specs.Device.{device_of}
 use Rattle.b67_job.specs.Lines.{no_core_line, backing_full_line}
 use Rattle.b67_job.specs.Texts.{only, all_taken}
 use Rattle.b67_job.specs.States.{StatesInOrder}
-use Rattle.b67_job.specs.Finishing.{refused_status, refused_line, steps_of, JobRan}
+use Rattle.b67_job.specs.Finishing.{refused_status, refused_line, JobRan}
 use Rattle.b67_job.specs.Runs.{run_of, IsDone, WasOpened, memory_refused, opening_wants_core, opening_wants_sectors, opening_fails, all_end, unopened, opened, RunEnds, run_stops}
 use Rattle.b67_job.proofs.Opened.{member_of, task_of, single_opens, states_in_order, says_after, lone_opens, known_after, known_later}
 use Rattle.b67_job.proofs.Ran.{closes_only, ran}
@@ -98,22 +97,29 @@ module _ {K B : Type 0} (taken : K → Option (List ℕ)) (failures : K → ℕ)
       made : k.tasks.made ≡ 0
       made = o.2.stands.tables.counts.made
 
-      opens : WasOpened (device_of holds size broken b b') core (d, ps) k
-      opens = record {
-        room = (o.0, o.1);
-        in_order = in_order k.tasks.made;
-        fitted = λ tells j low. absurd (omega (arith, low, made));
-        halt = o.2.halt;
-        countable = o.2.countable;
-        sized = let links = o.2.sized in omega (arith, same, links);
-      }
-
       within : (halt : Option ℕ) → IfSome halt (λ count. k.tasks.made ≤ count)
       within None = tt
       within (Some count) = omega (arith, made)
 
       none_live : live_tasks (session_of d ps).jobs ≡ 0
       none_live = ap (λ (js : List Job). live_tasks (opening d.stack d.quantum (map switch_of d.switches) (openings_of js ps)).jobs) none
+
+      resting : RepresentsWithoutTasks (content_after (holds b) (holds b')) k (session_of d ps)
+      resting = record { storage = o.2.storage; plan = opening_plan d.stack ps; stands = o.2.stands; none = none_live }
+
+      opens : WasOpened (device_of holds size broken b b') core (d, ps) k
+      opens = record {
+        room = (o.0, o.1);
+        in_order = in_order k.tasks.made;
+        fitted = λ tells j low. absurd (omega (arith, low, made));
+        core_size = o.2.core_size;
+        halt = o.2.halt;
+        open = record {
+          stage = inr (inr (record { known = content_after (holds b) (holds b'); says = says_after (holds b) (holds b'); session = session_of d ps; rests = resting }));
+          countable = o.2.countable;
+        };
+        sized = let links = o.2.sized in omega (arith, same, links);
+      }
 
       done : IsDone (device_of holds size broken b b') (run_of (d, ps)) k (only [])
       done = record {
@@ -124,7 +130,7 @@ module _ {K B : Type 0} (taken : K → Option (List ℕ)) (failures : K → ℕ)
           lines_are = λ tells. subst (λ n. [] ≡ lines n (session_of d ps)) (sym made) refl;
         };
         within = within d.halt;
-        rests = record { storage = o.2.storage; plan = opening_plan d.stack ps; stands = o.2.stands; none = none_live };
+        rests = resting;
         text_is = refl;
       }
 
@@ -137,6 +143,11 @@ still_told holds b b' c some none = by_told (holds b) refl
 
 from_none : (made before steps : ℕ) → before ≡ 0 → made ≡ before + steps → made ≡ steps
 from_none made before steps e f = omega (arith, e, f)
+
+-- whole texts were printed, after a machine that had printed nothing of its next one
+none_printed : {K : Type 0} (steps : ℕ) (k0 k : Machine) (paper paper' : K) → k0.tasks.printed ≡ 0 → PrintsWhole steps k0 k paper paper' → k.tasks.printed ≡ 0
+none_printed zero k0 k paper paper' none w = (w.none refl).0 ∙ none
+none_printed (suc n) k0 k paper paper' none w = w.some (omega arith)
 
 -- calls of a device after calls of it
 pub after_more : {B : Type 0} {holds : B → Option (List (List ℕ))} {size calls broken : B → ℕ} {b b' b'' : B} → DeviceAfterCalls holds size calls broken b b' → DeviceAfterCalls holds size calls broken b' b''
@@ -160,25 +171,28 @@ module _ {K B : Type 0} (taken : K → Option (List ℕ)) (failures : K → ℕ)
   lone : IsLone known k0 (session_of d (program_of f ∷ [])) (member_of d.stack j (program_of f)) task_of
   lone = lone_opens d j f known core (size b) k0 one range loaded o.2
 
-  pub lives_on : LivesOn (holds b') k0
-  lives_on = record { known = known; says = says_after (holds b) (holds b'); session = session_of d (program_of f ∷ []); member = member_of d.stack j (program_of f); task = task_of; lone = lone }
+  pub is_open : IsOpen (holds b') k0
+  is_open = record {
+    stage = inl (record { known = known; says = says_after (holds b) (holds b'); session = session_of d (program_of f ∷ []); member = member_of d.stack j (program_of f); task = task_of; lone = lone });
+    countable = o.2.countable;
+  }
 
-  pub one_run : (steps : ℕ) (old new : K) (answer : ℕ) → DeviceAfterCalls holds size calls broken b b' → DeviceAfterCalls holds size calls broken b' b''
-      → steps ≡ steps_of d.halt → k.tasks.halt ≡ k0.tasks.halt → AreCountable k.tasks.jobs → length k.sectors.links ≡ length k0.sectors.links
+  pub one_run : (old new : K) (answer : ℕ) → DeviceAfterCalls holds size calls broken b b' → DeviceAfterCalls holds size calls broken b' b''
+      → IsOpen (holds b'') k → Keeps k0 k
       → ((x : Option (List (List ℕ))) (s : Session) (m : SessionJob) (t : Task) → Says x (holds b') → IsLone x k0 s m t
-      → JobRan taken failures (content_after x (holds b'')) (x ≢ None) (Rose broken b' b'') (size b') steps j.body_card s k0 k old new answer)
+      → JobRan taken failures (content_after x (holds b'')) (x ≢ None) (Rose broken b' b'') (size b') 100000000 j.body_card s k0 k old new answer)
       → RunEnds taken failures (device_of holds size broken b b'') core (d, program_of f ∷ []) (Some k) old new answer
-  one_run steps old new answer first_calls more_calls all halt countable links rans =
+  one_run old new answer first_calls more_calls open keeps rans =
       let first = session_of d (program_of f ∷ []) in
       let still = still_told holds b b' first_calls.tells in
-      let r = subst (λ (x : Option (List (List ℕ))). JobRan taken failures x (known ≢ None) (Rose broken b' b'') (size b') steps j.body_card first k0 k old new answer) (known_later (holds b) (holds b') (holds b'') still)
+      let r = subst (λ (x : Option (List (List ℕ))). JobRan taken failures x (known ≢ None) (Rose broken b' b'') (size b') 100000000 j.body_card first k0 k old new answer) (known_later (holds b) (holds b') (holds b'') still)
           (rans known first (member_of d.stack j (program_of f)) task_of (says_after (holds b) (holds b')) lone) in
       let now = content_after (holds b) (holds b'') in
       let begun : k0.tasks.made ≡ 0 = o.2.stands.tables.counts.made in
       let made : k.tasks.made ≡ r.slices.steps = from_none k.tasks.made k0.tasks.made r.slices.steps begun r.slices.made in
-      let all_made : k.tasks.made ≡ k0.tasks.made + k.tasks.made = omega (arith, begun) in
       let exact = λ (told : holds b ≢ None). known_after (holds b) (holds b') told (still told) in
       let begun_links = o.2.sized in
+      let links = keeps.sectors in
       let same = first_calls.size in
       let again = more_calls.size in
       let later = first_calls.faults in
@@ -186,21 +200,20 @@ module _ {K B : Type 0} (taken : K → Option (List ℕ)) (failures : K → ℕ)
       (record {
         room = (o.0, o.1);
         in_order = states_in_order d (f ∷ []) k.tasks.made range (loaded, tt);
-        fitted = λ told. subst (λ n. StepsFit n k.tasks.made first) o.2.core_size (r.fits (exact told) k.tasks.made all_made);
-        halt = halt ∙ o.2.halt;
-        countable = countable;
+        fitted = λ told. subst (λ n. StepsFit n k.tasks.made first) o.2.core_size (subst (λ n. StepsFit (length k0.cpu.core) n first) (sym made) (r.slices.fits (exact told)));
+        core_size = keeps.core ∙ o.2.core_size;
+        halt = keeps.halt ∙ o.2.halt;
+        open = open;
         sized = omega (arith, begun_links, links, again, same);
       })
-      one (known ≢ None) exact
-      r.slices.steps r.slices.session r.slices.printed (subst (λ n. r.slices.steps ≤ n) all r.slices.few) made (λ told. r.slices.leads (exact told))
+      one (known ≢ None) exact r.slices.steps r.slices.session r.slices.printed
+      (λ i low e. r.slices.below i low (o.2.halt ∙ e ∙ ap Some (let z : i ≡ k0.tasks.made + i = omega (arith, begun) in z))) made (λ told. r.slices.leads (exact told))
       r.slices.was_due r.slices.is_due (λ told. r.slices.next (exact told)) k0.tasks.printed o.2.printed
       (λ m t n single calls. never_unbuilt d (f ∷ []) range (loaded, tt) (built, tt) r.slices.steps m t n single calls)
       r.answered old r.between new answer
-      (subst (λ n. SliceMeets now (known ≢ None) n (size b) (steps_of d.halt) r.slices.steps r.slices.session r.slices.is_due r.answered k) o.2.core_size
-      (subst (λ n. SliceMeets now (known ≢ None) (length k0.cpu.core) n (steps_of d.halt) r.slices.steps r.slices.session r.slices.is_due r.answered k) same
-      (subst (λ n. SliceMeets now (known ≢ None) (length k0.cpu.core) (size b') n r.slices.steps r.slices.session r.slices.is_due r.answered k) all r.slices.meets)))
-      r.finishes r.slices.prints (λ other. r.unprinted other o.2.printed)
-      (λ e. let h = r.over e in (h.session, λ told. sym (h.is (exact told) k.tasks.made all_made), h.rests))
+      (subst (λ n. SliceMeets now (known ≢ None) n (size b) 100000000 r.slices.steps r.slices.session r.slices.is_due r.answered k) o.2.core_size
+      (subst (λ n. SliceMeets now (known ≢ None) (length k0.cpu.core) n 100000000 r.slices.steps r.slices.session r.slices.is_due r.answered k) same r.slices.meets))
+      r.finishes r.slices.prints (λ other. none_printed r.slices.steps k0 k old r.between o.2.printed (r.slices.texts other))
       (λ e. let rose = r.device_failed e in omega (arith, later, rose))
       r.printer_failed r.later
 

@@ -1,6 +1,7 @@
 -- The steps of a job and the last line, as the run of its deck.
-use Rattle.std.proofs.Common.{◌≡◌, ◌≢◌, ℕ, ◌+◌, ◌<◌, ◌≤◌, ◌⊎◌, inl, inr, List, [], ◌∷◌, ◌++◌, length, take, append-nil, refl, sym, ap, ◌∙◌, subst, arith, Option, Some, None, Result, Ok, Err}
+use Rattle.std.proofs.Common.{◌≡◌, ◌≢◌, ℕ, ◌+◌, ◌<◌, ◌≤◌, ◌⊎◌, ⊎_elim, inl, inr, List, [], ◌∷◌, ◌++◌, length, take, append-nil, refl, sym, ap, ◌∙◌, subst, arith, Option, Some, None, Result, Ok, Err}
 use Rattle.std.specs.Prelude.{IfSome, sum_by}
+use Rattle.std.proofs.lemmas.Bool.{cases_lt}
 use Rattle.b67_io.specs.Line.{ended}
 use Rattle.b67_io.specs.Told.{Took}
 use Rattle.b67_io.specs.Causes.{Rose}
@@ -24,7 +25,7 @@ use Rattle.b67_single.proofs.Runs.{Came}
 use Rattle.b67_task_tables.specs.declared.tables.Machine.{Machine}
 use Rattle.b67_session.specs.declared.slices.Progress.{Progress}
 use Rattle.b67_session.specs.declared.slices.Progress.TheVariants as progress
-use Rattle.b67_session.specs.Slices.{IsLone, IsLimited, RepresentsWithoutTasks, Reaches, Prints, SliceMeets}
+use Rattle.b67_session.specs.Slices.{IsLone, IsLimited, RepresentsWithoutTasks, Reaches, Prints, SliceMeets, StopsBefore}
 use Rattle.b67_session.proofs.Texts.{run_text-append}
 use Rattle.b67_session_lines.specs.Moments.{last_part, due}
 use Rattle.b67_session_lines.specs.Stops.{halted_line}
@@ -32,8 +33,8 @@ use Rattle.b67_session_lines.specs.Ends.{Ends, whole, cut}
 use Rattle.b67_job.specs.Device.{Device, Tells, Failed, known_now}
 use Rattle.b67_job.specs.Lines.{no_core_line, backing_full_line, backing_fault_line}
 use Rattle.b67_job.specs.Texts.{Text, only, Closes, all_taken, cut_short}
-use Rattle.b67_job.specs.Runs.{run_of, text_to, ComesTo, StopsAt, IsCutInStep, IsCutInLimit, WasOpened, StopsOpened, all_end, halt_comes, step_wants_core, step_wants_sectors, step_fails, code_is_strange, opened, RunEnds, run_stops, step_is_cut}
-use Rattle.b67_job.specs.Finishing.{steps_of, Finishes}
+use Rattle.b67_job.specs.Runs.{run_of, text_to, ComesTo, IsBeforeHalt, IsWithinHalt, StopsAt, IsCutInStep, IsCutInLimit, WasOpened, StopsOpened, all_end, halt_comes, step_wants_core, step_wants_sectors, step_fails, code_is_strange, opened, RunEnds, run_stops, step_is_cut}
+use Rattle.b67_job.specs.Finishing.{Finishes}
 use Rattle.b67_job.proofs.Parts.{over_has_no_last}
 use Rattle.b67_job.proofs.Reached.{below, limit_high, single_below, came_whole, came_limited, begins_step, ends_step}
 
@@ -72,17 +73,23 @@ fewer known k s m t lone =
     let most : m.constants.limit ≤ 100000000 = limit_high IsSegment s m t lone.ordered lone.single in
     omega (arith, counted, shown, some, most)
 
--- as many steps as a run may make end it or bring it to its halt
-more_is_no_end : (halt : Option ℕ) (known : Option (List (List ℕ))) (k : Machine) (s : Session) (m : SessionJob) (t : Task) (steps : ℕ)
-    → k.tasks.halt ≡ halt → k.tasks.made ≡ steps → steps ≡ steps_of halt → k.tasks.halt ≢ Some k.tasks.made → IsLone known k s m t → ⊥
-more_is_no_end (Some count) known k s m t steps is made all over lone = over (is ∙ ap Some (sym (made ∙ all)))
-more_is_no_end None known k s m t steps is made all over lone =
+-- as many steps as any job may make are no slice of a run
+most_is_no_end : (known : Option (List (List ℕ))) (k : Machine) (s : Session) (m : SessionJob) (t : Task) (steps : ℕ) → k.tasks.made ≡ steps → steps ≡ 100000000 → IsLone known k s m t → ⊥
+most_is_no_end known k s m t steps made all lone =
     let less = fewer known k s m t lone in
     omega (arith, less, made, all)
 
-within : (halt : Option ℕ) (steps : ℕ) → steps ≤ steps_of halt → IfSome halt (λ count. steps ≤ count)
-within None steps le = tt
-within (Some count) steps le = le
+-- no step is made at the halt
+within : (halt : Option ℕ) (steps : ℕ) → ((j : ℕ) → j < steps → halt ≢ Some j) → IfSome halt (λ count. steps ≤ count)
+within None steps below = tt
+within (Some count) steps below = ⊎_elim (λ (less : count < steps). absurd (below count less refl)) (λ (more : steps ≤ count). more) (cases_lt count steps)
+
+-- and none stops there
+before_halt : (halt : Option ℕ) (steps : ℕ) → ((j : ℕ) → j < steps → halt ≢ Some j) → halt ≢ Some steps → IfSome halt (λ count. steps < count)
+before_halt None steps below other = tt
+before_halt (Some count) steps below other =
+    let low : steps ≤ count = within (Some count) steps below in
+    ⊎_elim (λ (less : steps < count). less) (λ (more : count ≤ steps). let same : count ≡ steps = omega (arith, low, more) in absurd (other (ap Some same))) (cases_lt steps count)
 
 -- a device that can't have told its sectors told nothing
 untold_is : (before : Option (List (List ℕ))) → (before ≢ None → ⊥) → before ≡ None
@@ -92,7 +99,7 @@ untold_is (Some all) h = absurd (h (λ e. cc))
 -- ---- how a job's steps ended, as the run of its deck
 
 module _ {K B : Type 0} (taken : K → Option (List ℕ)) (faults : K → ℕ) (d : Device B) (core : ℕ) (p : Prepared) (job : Job) (k : Machine) (opens : WasOpened d core p k)
-    (one : p.0.jobs ≡ job ∷ []) (E : Type 0) (exact : Tells d → E) (steps : ℕ) (s : Session) (printed : List RunLine) (few : steps ≤ steps_of p.0.halt) (made : k.tasks.made ≡ steps)
+    (one : p.0.jobs ≡ job ∷ []) (E : Type 0) (exact : Tells d → E) (steps : ℕ) (s : Session) (printed : List RunLine) (below_halt : (j : ℕ) → j < steps → p.0.halt ≢ Some j) (made : k.tasks.made ≡ steps)
     (leads : Tells d → Reaches (run_of p).session steps s printed) (was is : List ℕ) (due_is : Tells d → is ≡ due s) (before : ℕ) (begun : before ≡ 0)
     (built : (m : SessionJob) (t : Task) (n : ℕ) → IsSingle (after steps (run_of p).session) m t → called_in m t ≡ Some n → n < 12) where
   abbrev first : Session
@@ -119,29 +126,39 @@ module _ {K B : Type 0} (taken : K → Option (List ℕ)) (faults : K → ℕ) (
   abbrev stops_at : (m : SessionJob) (t : Task) → IsLone known k s m t → StopsAt d first k
   stops_at m t lone = record { session = s; printed = printed; comes = comes_to (none_due m t lone); member = m; task = t; lone = lone }
 
+  within_halt : IsWithinHalt (run_of p) k.tasks.made
+  within_halt = subst (λ n. IsWithinHalt (run_of p) n) (sym made) (within p.0.halt steps below_halt)
+
+  is_due : k.tasks.halt ≢ Some k.tasks.made → IsBeforeHalt (run_of p) k.tasks.made
+  is_due other = subst (λ n. IsBeforeHalt (run_of p) n) (sym made) (before_halt p.0.halt steps below_halt (λ e. other (opens.halt ∙ e ∙ ap Some (sym made))))
+
   abbrev ending : List ℕ → Text
   ending line = record { front = run_text printed; last = ended line }
 
   -- the printer failed in the text of a step
-  in_step : k.tasks.printed < length is → (m : SessionJob) (t : Task) → IsLone known k s m t → IsCutInStep d first k (record { front = run_text printed; last = is })
-  in_step proper m t lone = record {
-    stop = stops_at m t lone;
+  in_step : k.tasks.printed < length is → (b : StopsBefore known 100000000 steps s k) → (E → need core s b.member b.task ≤ core) → IsCutInStep d core (run_of p) k (record { front = run_text printed; last = is })
+  in_step proper b room = record {
+    stop = stops_at b.member b.task b.lone;
+    due = is_due b.halt;
+    room = λ tells. room (exact tells);
     front = refl;
     last = due_is;
     begins = λ tells.
-        let c = came tells (none_due m t lone) in
+        let none = none_due b.member b.task b.lone in
+        let c = came tells none in
         let long : length is ≡ length (due s) = ap length (due_is tells) in
-        let begins = begins_step first steps s printed c (none_due m t lone) (omega (arith, proper, long)) in
+        let begins = begins_step first steps s printed c none (omega (arith, proper, long)) in
         (begins.0, ap (λ (x : List ℕ). (run_text printed ++ x) ++ begins.0) (due_is tells) ∙ begins.1 ∙ ap (λ n. run_text (lines (n + 1) first)) (sym made));
   }
 
-  in_limit : (m : SessionJob) (t : Task) → IsLimited known k s m t → IsCutInLimit d first k (record { front = run_text printed; last = is })
+  in_limit : (m : SessionJob) (t : Task) → IsLimited known k s m t → IsCutInLimit d (run_of p) k (record { front = run_text printed; last = is })
   in_limit m t h = record {
     session = s;
     printed = printed;
     member = m;
     task = t;
     limited = h;
+    within = within_halt;
     front = refl;
     exact = λ tells.
         let order = opens.in_order.ordered steps (omega (arith, made)) in
@@ -168,86 +185,87 @@ module _ {K B : Type 0} (taken : K → Option (List ℕ)) (faults : K → ℕ) (
 
   -- by what the steps answered
   pub ran : (answered : Result Progress Stop) (old between new : K) (answer : ℕ)
-      → SliceMeets known E core d.sectors (steps_of p.0.halt) steps s is answered k
+      → SliceMeets known E core d.sectors 100000000 steps s is answered k
       → Finishes taken faults job.body_card k.tasks.made answered between new answer
       → Prints taken old between was before printed is k.tasks.printed → (answered ≢ Err stops.PrintFault → k.tasks.printed ≡ 0)
-      → (answered ≡ Ok progress.Ended → (z : Session) × (Tells d → z ≡ after k.tasks.made first) × RepresentsWithoutTasks known k z)
       → (answered ≡ Err stops.BackingFault → Failed d) → (answered ≡ Err stops.PrintFault → Rose faults old between) → faults old ≤ faults between
       → RunEnds taken faults d core p (Some k) old new answer
-  ran (Ok progress.Ended) old between new answer meets end prints unprinted over failed rose later =
+  ran (Ok progress.Ended) old between new answer rests end prints unprinted failed rose later =
       let none = unprinted (λ e. cc) in
       let took = subst (λ (z : K). Took taken old z (run_text printed)) (sym end.1) (lines_took prints begun none) in
-      let z = over refl in
       stopped (record { front = run_text printed; last = [] }) none
-      (all_end refl (record {
-        session = z.0;
-        printed = printed;
-        comes = record { session = z.1; lines_are = λ tells. same_lines (came tells (over_has_no_last s (meets (exact tells)))) };
-        within = subst (λ n. IfSome p.0.halt (λ count. n ≤ count)) (sym made) (within p.0.halt steps few);
-        rests = z.2;
-        text_is = refl;
-      }))
+      (all_end refl (record { session = s; printed = printed; comes = comes_to (over_has_no_last s rests.none); within = within_halt; rests = rests; text_is = refl }))
       (all_taken end.0 (subst (λ (x : List ℕ). Took taken old new x) (sym (append-nil (run_text printed))) took))
-  ran (Ok progress.More) old between new answer meets end prints unprinted over failed rose later =
-      absurd (more_is_no_end p.0.halt known k s meets.2.0 meets.2.1 steps opens.halt made meets.0 meets.1 meets.2.2)
-  ran (Ok progress.Halted) old between new answer meets end prints unprinted over failed rose later =
+  ran (Ok progress.More) old between new answer meets end prints unprinted failed rose later =
+      absurd (most_is_no_end known k s meets.2.0 meets.2.1 steps made meets.0 meets.2.2)
+  ran (Ok progress.Halted) old between new answer meets end prints unprinted failed rose later =
       let lives = meets.1 in
       stopped (ending (halted_line k.tasks.made)) (unprinted (λ e. cc))
       (halt_comes refl (record { stop = stops_at lives.0 lives.1 lives.2; halt = sym opens.halt ∙ meets.0; text_is = refl }))
       (closes_then (lines_took prints begun (unprinted (λ e. cc))) later end)
-  ran (Err (stops.NoCore words size)) old between new answer meets end prints unprinted over failed rose later =
-      let lives = meets.0 in
-      let line : no_core_line words size ≡ no_core_line (need core s lives.0 lives.1) core = ap (λ n. no_core_line n size) lives.3 ∙ ap (λ n. no_core_line (need core s lives.0 lives.1) n) meets.1 in
+  ran (Err (stops.NoCore words size)) old between new answer meets end prints unprinted failed rose later =
+      let b = meets.0 in
+      let line : no_core_line words size ≡ no_core_line (need core s b.member b.task) core = ap (λ n. no_core_line n size) meets.1 ∙ ap (λ n. no_core_line (need core s b.member b.task) n) meets.2 in
       stopped (ending (no_core_line words size)) (unprinted (λ e. cc))
-      (step_wants_core refl (record { stop = stops_at lives.0 lives.1 lives.2; exceeds = subst (λ n. core < n) lives.3 meets.2; text_is = ap (λ (x : List ℕ). text_to printed x) line }))
-      (closes_then (lines_took prints begun (unprinted (λ e. cc))) later end)
-  ran (Err (stops.BackingFull sum size)) old between new answer meets end prints unprinted over failed rose later =
-      let lives = meets.0 in
-      let line : backing_full_line sum size ≡ backing_full_line (sectors s.jobs) d.sectors = ap (λ n. backing_full_line n size) meets.1 ∙ ap (λ n. backing_full_line (sectors s.jobs) n) meets.2 in
-      stopped (ending (backing_full_line sum size)) (unprinted (λ e. cc))
-      (step_wants_sectors refl (record {
-        stop = stops_at lives.0 lives.1 lives.2;
-        exceeds = subst (λ n. d.sectors < n) meets.1 meets.3;
-        absent = record { lacks = λ tells. lives.3.lacks (exact tells); room = λ tells. lives.3.room (exact tells) };
-        wants = lives.4.0;
-        free = lives.4.1;
-        short = lives.4.2;
+      (step_wants_core refl (record {
+        stop = stops_at b.member b.task b.lone;
+        due = is_due b.halt;
+        exceeds = subst (λ n. core < n) meets.1 meets.3;
         text_is = ap (λ (x : List ℕ). text_to printed x) line;
       }))
       (closes_then (lines_took prints begun (unprinted (λ e. cc))) later end)
-  ran (Err stops.BackingFault) old between new answer meets end prints unprinted over failed rose later =
+  ran (Err (stops.BackingFull sum size)) old between new answer meets end prints unprinted failed rose later =
+      let b = meets.0 in
+      let line : backing_full_line sum size ≡ backing_full_line (sectors s.jobs) d.sectors = ap (λ n. backing_full_line n size) meets.3 ∙ ap (λ n. backing_full_line (sectors s.jobs) n) meets.4 in
+      stopped (ending (backing_full_line sum size)) (unprinted (λ e. cc))
+      (step_wants_sectors refl (record {
+        stop = stops_at b.member b.task b.lone;
+        due = is_due b.halt;
+        exceeds = subst (λ n. d.sectors < n) meets.3 meets.5;
+        absent = record { lacks = λ tells. meets.1.lacks (exact tells); room = λ tells. meets.1.room (exact tells) };
+        wants = meets.2.0;
+        free = meets.2.1;
+        short = meets.2.2;
+        text_is = ap (λ (x : List ℕ). text_to printed x) line;
+      }))
+      (closes_then (lines_took prints begun (unprinted (λ e. cc))) later end)
+  ran (Err stops.BackingFault) old between new answer meets end prints unprinted failed rose later =
+      let b = meets.0 in
       stopped (ending backing_fault_line) (unprinted (λ e. cc))
       (step_fails refl (failed refl) (record {
-        stop = stops_at meets.0 meets.1 meets.2;
-        absent = record { lacks = λ tells. meets.3.lacks (exact tells); room = λ tells. meets.3.room (exact tells) };
+        stop = stops_at b.member b.task b.lone;
+        due = is_due b.halt;
+        absent = record { lacks = λ tells. meets.1.lacks (exact tells); room = λ tells. meets.1.room (exact tells) };
         text_is = refl;
       }))
       (closes_then (lines_took prints begun (unprinted (λ e. cc))) later end)
-  ran (Err stops.PrintFault) old between new answer meets end prints unprinted over failed rose later =
+  ran (Err stops.PrintFault) old between new answer meets end prints unprinted failed rose later =
       step_is_cut (record { front = run_text printed; last = is }) k.tasks.printed
       (record { left = k; is = refl; opens = opens; counts = refl; cut = by_machine meets.1 })
       end.0
       (subst (λ (z : K). Rose faults old z) (sym end.1) (rose refl))
       (record { proper = meets.0; took = subst (λ (z : K). Took taken old z (run_text printed ++ take k.tasks.printed is)) (sym end.1) (front_took prints begun) })
     where
-      by_machine : ((m : SessionJob) × (t : Task) × IsLone known k s m t) ⊎ ((m : SessionJob) × (t : Task) × IsLimited known k s m t)
-          → IsCutInStep d first k (record { front = run_text printed; last = is }) ⊎ IsCutInLimit d first k (record { front = run_text printed; last = is })
-      by_machine (inl h) = inl (in_step meets.0 h.0 h.1 h.2)
+      by_machine : ((b : StopsBefore known 100000000 steps s k) × (E → need core s b.member b.task ≤ core)) ⊎ ((m : SessionJob) × (t : Task) × IsLimited known k s m t)
+          → IsCutInStep d core (run_of p) k (record { front = run_text printed; last = is }) ⊎ IsCutInLimit d (run_of p) k (record { front = run_text printed; last = is })
+      by_machine (inl h) = inl (in_step meets.0 h.0 h.1)
       by_machine (inr h) = inr (in_limit h.0 h.1 h.2)
-  ran (Err stops.Unbuilt) old between new answer meets end prints unprinted over failed rose later =
+  ran (Err stops.Unbuilt) old between new answer meets end prints unprinted failed rose later =
+      let b = meets.0 in
       stopped (ending (refusal_line (refusals.Deck job.body_card 90))) (unprinted (λ e. cc))
       (code_is_strange refl (record {
         untold = untold_is d.before (λ tells.
-            let c = came tells (none_due meets.0 meets.1 meets.2) in
-            let less = built meets.0 meets.1 meets.3 (subst (λ (z : Session). IsSingle z meets.0 meets.1) (sym c.session) meets.2.single) meets.4 in
-            let more = meets.5 in
+            let c = came tells (none_due b.member b.task b.lone) in
+            let less = built b.member b.task meets.1 (subst (λ (z : Session). IsSingle z b.member b.task) (sym c.session) b.lone.single) meets.2 in
+            let more = meets.3 in
             omega (arith, less, more));
         job = job;
         only_job = one;
-        stop = stops_at meets.0 meets.1 meets.2;
-        called = meets.3;
-        calls = meets.4;
-        unbuilt = meets.5;
+        stop = stops_at b.member b.task b.lone;
+        due = is_due b.halt;
+        called = meets.1;
+        calls = meets.2;
+        unbuilt = meets.3;
         text_is = refl;
       }))
       (closes_then (lines_took prints begun (unprinted (λ e. cc))) later end)

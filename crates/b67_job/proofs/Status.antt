@@ -83,11 +83,11 @@ run_status_is d core p machine status text tells ample worked (opened k is opens
 run_status_is d core p machine status text tells ample worked (opened k is opens none (halt_comes s h)) = inl (s ∙ sym (halted-status (run_of p) (whole_of text) (is_halted d p k text h tells)))
 run_status_is d core p machine status text tells ample worked (opened k is opens none (step_wants_core s w)) =
     let same = w.stop.comes.session tells in
-    let less = subst (λ (z : Session). IsSingle z w.stop.member w.stop.task → need core z w.stop.member w.stop.task ≤ core) (sym same) (ample.core_suffices k.tasks.made w.stop.member w.stop.task) w.stop.lone.single in
+    let less = subst (λ (z : Session). IsSingle z w.stop.member w.stop.task → need core z w.stop.member w.stop.task ≤ core) (sym same) (ample.core_suffices k.tasks.made w.stop.member w.stop.task w.due) w.stop.lone.single in
     let more = w.exceeds in
     absurd (omega (arith, more, less))
 run_status_is d core p machine status text tells ample worked (opened k is opens none (step_wants_sectors s w)) =
-    let less = subst (λ (z : Session). sectors z.jobs ≤ d.sectors) (sym (w.stop.comes.session tells)) (ample.sectors_suffice k.tasks.made) in
+    let less = subst (λ (z : Session). sectors z.jobs ≤ d.sectors) (sym (w.stop.comes.session tells)) (ample.sectors_suffice k.tasks.made w.due) in
     let more = w.exceeds in
     absurd (omega (arith, more, less))
 run_status_is d core p machine status text tells ample worked (opened k is opens none (step_fails s failed h)) = absurd (omega (arith, failed, worked))

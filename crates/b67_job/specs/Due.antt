@@ -24,7 +24,7 @@ use Rattle.b67_session_open.specs.Opens.{need_of, sectors_of_all}
 use Rattle.b67_job.specs.Device.{Device, Tells, Failed, IsUntouched}
 use Rattle.b67_job.specs.Lines.{no_core_line, backing_full_line, backing_fault_line, memory_text}
 use Rattle.b67_job.specs.Texts.{Text, whole_of, only, TookUpTo, Closes}
-use Rattle.b67_job.specs.Runs.{run_of, IsDone, IsHaltedAt, WantsCore, WantsSectors, IsCutOff, IsStrange, RoomSuffices, RunStops, IsPrinting, RunEnds}
+use Rattle.b67_job.specs.Runs.{run_of, IsBeforeHalt, IsDone, IsHaltedAt, WantsCore, WantsSectors, IsCutOff, IsStrange, RoomSuffices, RunStops, IsPrinting, RunEnds}
 use Rattle.b67_job.specs.Command.{command_of}
 use Rattle.b67_job.specs.declared.command.CommandLine.{CommandLine}
 use Rattle.b67_job.specs.declared.command.CommandLine.TheVariants as lines
@@ -94,19 +94,19 @@ Halts d p machine text = Leaves machine (λ k. IsHaltedAt d (run_of p) k text) �
 abbrev pub IsShortOfCore : {B : Type 0} → Device B → ℕ → Prepared → Option Machine → Text → Type 0
 IsShortOfCore d core p machine text =
     ((machine ≡ None) × IsUntouched d × (core < need_of p.0 p.1) × (text ≡ only (ended (no_core_line (need_of p.0 p.1) core))))
-    ⊎ Leaves machine (λ k. WantsCore d core (run_of p).session k text)
+    ⊎ Leaves machine (λ k. WantsCore d core (run_of p) k text)
 
 -- the device has too few sectors: for the programs of the session that opens, or for the session of the machine that is left,
 -- which lacks what its next step wants
 abbrev pub IsShortOfSectors : {B : Type 0} → Device B → ℕ → Prepared → Option Machine → Text → Type 0
 IsShortOfSectors d core p machine text =
     ((machine ≡ None) × IsUntouched d × (need_of p.0 p.1 ≤ core) × (d.sectors < sectors_of_all p.0 p.1) × (text ≡ only (ended (backing_full_line (sectors_of_all p.0 p.1) d.sectors))))
-    ⊎ Leaves machine (λ k. WantsSectors d core (run_of p).session k text)
+    ⊎ Leaves machine (λ k. WantsSectors d core (run_of p) k text)
 
 -- the device failed: as the session opened, for which there is room, or at a step of the machine that is left, which lacks what it wants
 abbrev pub IsFailedBy : {B : Type 0} → Device B → ℕ → Prepared → Option Machine → Text → Type 0
 IsFailedBy d core p machine text =
-    RoomSuffices d core p × (((machine ≡ None) × (text ≡ only (ended backing_fault_line))) ⊎ Leaves machine (λ k. IsCutOff d core (run_of p).session k text))
+    RoomSuffices d core p × (((machine ≡ None) × (text ≡ only (ended backing_fault_line))) ⊎ Leaves machine (λ k. IsCutOff d core (run_of p) k text))
 
 -- a refusal of a text that was read; or of code that a device which tells nothing has given back
 abbrev pub IsRefused : {S B : Type 0} → List (Bor (List ℕ)) → (S → Option (List ℕ)) → S → S → Device B → Option Machine → Text → Type 0
@@ -145,11 +145,11 @@ DeckEnds (Prints text) taken faults d core machine old new answer = ⊥
 
 -- ---- a run for which core and device are large enough
 
--- the session opens, and no state of its run needs more
+-- the session opens, and no state of its run before the halt needs more
 pub record Suffices {B : Type 0} (d : Device B) (core : ℕ) (p : Prepared) : Type 0 where
   pub room : RoomSuffices d core p
-  pub core_suffices : (steps : ℕ) (m : SessionJob) (t : Task) → IsSingle (after steps (run_of p).session) m t → need core (after steps (run_of p).session) m t ≤ core
-  pub sectors_suffice : (steps : ℕ) → sectors (after steps (run_of p).session).jobs ≤ d.sectors
+  pub core_suffices : (steps : ℕ) (m : SessionJob) (t : Task) → IsBeforeHalt (run_of p) steps → IsSingle (after steps (run_of p).session) m t → need core (after steps (run_of p).session) m t ≤ core
+  pub sectors_suffice : (steps : ℕ) → IsBeforeHalt (run_of p) steps → sectors (after steps (run_of p).session).jobs ≤ d.sectors
 
 -- a run is told and has room; the other commands need neither
 abbrev pub IsAmple : {B : Type 0} → Device B → CommandLine → List ℕ → Type 0

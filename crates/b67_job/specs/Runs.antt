@@ -12,7 +12,6 @@ use Rattle.b67_model.specs.Run.{RunLine, StepResult, lines, after}
 use Rattle.b67_exec_cells.specs.Running.{code_area}
 use Rattle.b67_exec_cells.specs.Called.{called_in}
 use Rattle.b67_session.specs.Passed.{IsShortOf}
-pub use Rattle.b67_session.specs.Passed.{AreCountable}
 use Rattle.b67_session.specs.Passed.{IsLacking}
 use Rattle.b67_model_text.specs.declared.deck.Job.{Job}
 use Rattle.b67_job_admit.specs.declared.refusal.Refusal.TheVariants as refusals
@@ -22,8 +21,8 @@ use Rattle.b67_session_open.specs.Decks.{session_of}
 use Rattle.b67_session_open.specs.Opens.{need_of, sectors_of_all}
 use Rattle.b67_task_tables.specs.declared.tables.Machine.{Machine}
 use Rattle.b67_session.specs.Slices.{IsLone, IsLimited}
-pub use Rattle.b67_session.specs.Slices.{LivesOn, IsOpen, RepresentsWithoutTasks, StepsFit}
-use Rattle.b67_session_lines.specs.Moments.{first_part, due}
+pub use Rattle.b67_session.specs.Slices.{IsOpen, RepresentsWithoutTasks, StepsFit}
+use Rattle.b67_session_lines.specs.Moments.{first_part, due as due_text}
 use Rattle.b67_session_lines.specs.Stops.{Run, halted_line}
 use Rattle.b67_job.specs.Device.{Device, Tells, Failed, IsUntouched, known_now}
 use Rattle.b67_job.specs.Lines.{no_core_line, backing_full_line, backing_fault_line, memory_text}
@@ -47,12 +46,19 @@ pub record ComesTo {B : Type 0} (d : Device B) (first : Session) (k : Machine) (
   pub session : Tells d → s ≡ after k.tasks.made first
   pub lines_are : Tells d → printed ≡ lines k.tasks.made first
 
+-- so many steps are fewer than the halt's count, or not more
+abbrev pub IsBeforeHalt : Run → ℕ → Type 0
+IsBeforeHalt r steps = IfSome r.halt (λ count. steps < count)
+
+abbrev pub IsWithinHalt : Run → ℕ → Type 0
+IsWithinHalt r steps = IfSome r.halt (λ count. steps ≤ count)
+
 -- no task lives any more, and the halt isn't passed; the machine represents the session without a task
 pub record IsDone {B : Type 0} (d : Device B) (r : Run) (k : Machine) (text : Text) : Type 0 where
   pub session : Session
   pub printed : List RunLine
   pub comes : ComesTo d r.session k session printed
-  pub within : IfSome r.halt (λ count. k.tasks.made ≤ count)
+  pub within : IsWithinHalt r k.tasks.made
   pub rests : RepresentsWithoutTasks (known_now d) k session
   pub text_is : text ≡ record { front = run_text printed; last = [] }
 
@@ -71,9 +77,10 @@ pub record IsHaltedAt {B : Type 0} (d : Device B) (r : Run) (k : Machine) (text 
   pub halt : r.halt ≡ Some k.tasks.made
   pub text_is : text ≡ text_to stop.printed (halted_line k.tasks.made)
 
--- the next step needs more core than there is
-pub record WantsCore {B : Type 0} (d : Device B) (core : ℕ) (first : Session) (k : Machine) (text : Text) : Type 0 where
-  pub stop : StopsAt d first k
+-- the next step is due, and needs more core than there is
+pub record WantsCore {B : Type 0} (d : Device B) (core : ℕ) (r : Run) (k : Machine) (text : Text) : Type 0 where
+  pub stop : StopsAt d r.session k
+  pub due : IsBeforeHalt r k.tasks.made
   pub exceeds : core < need core stop.session stop.member stop.task
   pub text_is : text ≡ text_to stop.printed (no_core_line (need core stop.session stop.member stop.task) core)
 
@@ -83,20 +90,23 @@ pub record LacksNext {B : Type 0} (d : Device B) (core : ℕ) (first : Session) 
   pub lacks : Tells d → IsLacking stop.lone.storage stop.lone.plan stop.member stop.task
   pub room : Tells d → (need core stop.session stop.member stop.task ≤ core) ⊎ (code_area stop.lone.storage stop.lone.plan stop.member stop.task ≡ None)
 
--- the session takes more sectors than the device has, and a present array that keeps no chain wants more than are free
-pub record WantsSectors {B : Type 0} (d : Device B) (core : ℕ) (first : Session) (k : Machine) (text : Text) : Type 0 where
-  pub stop : StopsAt d first k
+-- the next step is due, the session takes more sectors than the device has, and a present array that keeps no chain wants
+-- more than are free
+pub record WantsSectors {B : Type 0} (d : Device B) (core : ℕ) (r : Run) (k : Machine) (text : Text) : Type 0 where
+  pub stop : StopsAt d r.session k
+  pub due : IsBeforeHalt r k.tasks.made
   pub exceeds : d.sectors < sectors stop.session.jobs
-  pub absent : LacksNext d core first k stop
+  pub absent : LacksNext d core r.session k stop
   pub wants : ℕ
   pub free : ℕ
   pub short : IsShortOf stop.lone.storage stop.lone.plan stop.session.jobs wants free
   pub text_is : text ≡ text_to stop.printed (backing_full_line (sectors stop.session.jobs) d.sectors)
 
--- the device failed
-pub record IsCutOff {B : Type 0} (d : Device B) (core : ℕ) (first : Session) (k : Machine) (text : Text) : Type 0 where
-  pub stop : StopsAt d first k
-  pub absent : LacksNext d core first k stop
+-- the next step is due, and the device failed
+pub record IsCutOff {B : Type 0} (d : Device B) (core : ℕ) (r : Run) (k : Machine) (text : Text) : Type 0 where
+  pub stop : StopsAt d r.session k
+  pub due : IsBeforeHalt r k.tasks.made
+  pub absent : LacksNext d core r.session k stop
   pub text_is : text ≡ text_to stop.printed backing_fault_line
 
 -- The device told nothing and has given back code that calls an intrinsic that isn't built. The card of the job's body is
@@ -106,6 +116,7 @@ pub record IsStrange {B : Type 0} (d : Device B) (p : Prepared) (k : Machine) (t
   pub job : Job
   pub only_job : p.0.jobs ≡ job ∷ []
   pub stop : StopsAt d (run_of p).session k
+  pub due : IsBeforeHalt (run_of p) k.tasks.made
   pub called : ℕ
   pub calls : called_in stop.member stop.task ≡ Some called
   pub unbuilt : 12 ≤ called
@@ -113,12 +124,14 @@ pub record IsStrange {B : Type 0} (d : Device B) (p : Prepared) (k : Machine) (t
 
 -- ---- the printer failed in the text of a step
 
--- in the first part of the next step: the machine represents the session before that step
-pub record IsCutInStep {B : Type 0} (d : Device B) (first : Session) (k : Machine) (text : Text) : Type 0 where
-  pub stop : StopsAt d first k
+-- in the first part of the next step, which core has room for: the machine represents the session before that step
+pub record IsCutInStep {B : Type 0} (d : Device B) (core : ℕ) (r : Run) (k : Machine) (text : Text) : Type 0 where
+  pub stop : StopsAt d r.session k
+  pub due : IsBeforeHalt r k.tasks.made
+  pub room : Tells d → need core stop.session stop.member stop.task ≤ core
   pub front : text.front ≡ run_text stop.printed
-  pub last : Tells d → text.last ≡ due stop.session
-  pub begins : Tells d → (rest : List ℕ) × (whole_of text ++ rest ≡ run_text (lines (k.tasks.made + 1) first))
+  pub last : Tells d → text.last ≡ due_text stop.session
+  pub begins : Tells d → (rest : List ℕ) × (whole_of text ++ rest ≡ run_text (lines (k.tasks.made + 1) r.session))
 
 -- the line of LIMIT of the last step that the machine counts: these lines are printed up to the step's first part
 pub record IsLimitLine (first : Session) (k : Machine) (s : Session) (printed : List RunLine) (text : Text) : Type 0 where
@@ -128,18 +141,19 @@ pub record IsLimitLine (first : Session) (k : Machine) (s : Session) (printed : 
   pub is_first : first_part (after before first) ≡ Some part
   pub session : s ≡ part.session
   pub lines_are : printed ≡ lines before first ++ part.lines
-  pub last : text.last ≡ due part.session
+  pub last : text.last ≡ due_text part.session
   pub all : whole_of text ≡ run_text (lines k.tasks.made first)
 
 -- in that line: the step is counted, and the machine represents the session between the step's two parts
-pub record IsCutInLimit {B : Type 0} (d : Device B) (first : Session) (k : Machine) (text : Text) : Type 0 where
+pub record IsCutInLimit {B : Type 0} (d : Device B) (r : Run) (k : Machine) (text : Text) : Type 0 where
   pub session : Session
   pub printed : List RunLine
   pub member : SessionJob
   pub task : Task
   pub limited : IsLimited (known_now d) k session member task
+  pub within : IsWithinHalt r k.tasks.made
   pub front : text.front ≡ run_text printed
-  pub exact : Tells d → IsLimitLine first k session printed text
+  pub exact : Tells d → IsLimitLine r.session k session printed text
 
 -- ---- the status and the text
 
@@ -157,23 +171,24 @@ pub data StopsUnopened {B : Type 0} (d : Device B) (core : ℕ) (p : Prepared) (
   opening_fails : RoomSuffices d core p → Failed d → status ≡ 6 → text ≡ only (ended backing_fault_line) → StopsUnopened d core p status text
 
 -- A session was opened, for which there is room. Each state up to the count of the machine is in order; and if the device
--- told what its sectors hold, none of the steps up to there needed more words than core has. The machine has the halt of the
--- deck. It may be given to a slice again: its numbers can be counted, and its table of sectors has one for each of the device.
+-- told what its sectors hold, none of the steps up to there needed more words than core has. The machine has that core and
+-- the halt of the deck. A slice may be called on it again, and its table of sectors has one for each of the device.
 pub record WasOpened {B : Type 0} (d : Device B) (core : ℕ) (p : Prepared) (k : Machine) : Type 0 where
   pub room : RoomSuffices d core p
   pub in_order : StatesInOrder k.tasks.made (run_of p).session
   pub fitted : Tells d → StepsFit core k.tasks.made (run_of p).session
+  pub core_size : length k.cpu.core ≡ core
   pub halt : k.tasks.halt ≡ p.0.halt
-  pub countable : AreCountable k.tasks.jobs
+  pub open : IsOpen d.now k
   pub sized : d.sectors_now + 1 ≡ length k.sectors.links
 
 -- then it stopped so
 pub data StopsOpened {B : Type 0} (d : Device B) (core : ℕ) (p : Prepared) (k : Machine) (status : ℕ) (text : Text) : Type 0 where
   all_end : status ≡ 0 → IsDone d (run_of p) k text → StopsOpened d core p k status text
   halt_comes : status ≡ 3 → IsHaltedAt d (run_of p) k text → StopsOpened d core p k status text
-  step_wants_core : status ≡ 4 → WantsCore d core (run_of p).session k text → StopsOpened d core p k status text
-  step_wants_sectors : status ≡ 5 → WantsSectors d core (run_of p).session k text → StopsOpened d core p k status text
-  step_fails : status ≡ 6 → Failed d → IsCutOff d core (run_of p).session k text → StopsOpened d core p k status text
+  step_wants_core : status ≡ 4 → WantsCore d core (run_of p) k text → StopsOpened d core p k status text
+  step_wants_sectors : status ≡ 5 → WantsSectors d core (run_of p) k text → StopsOpened d core p k status text
+  step_fails : status ≡ 6 → Failed d → IsCutOff d core (run_of p) k text → StopsOpened d core p k status text
   code_is_strange : status ≡ 2 → IsStrange d p k text → StopsOpened d core p k status text
 
 -- a run stops, with a machine exactly if a session was opened, and nothing of the next step is printed
@@ -187,7 +202,7 @@ pub record IsPrinting {B : Type 0} (d : Device B) (core : ℕ) (p : Prepared) (m
   pub is : machine ≡ Some left
   pub opens : WasOpened d core p left
   pub counts : count ≡ left.tasks.printed
-  pub cut : IsCutInStep d (run_of p).session left text ⊎ IsCutInLimit d (run_of p).session left text
+  pub cut : IsCutInStep d core (run_of p) left text ⊎ IsCutInLimit d (run_of p) left text
 
 -- a run stops and its text is printed, unless the printer fails, in its last line or in the text of a step
 pub data RunEnds {K B : Type 0} (taken : K → Option (List ℕ)) (faults : K → ℕ) (d : Device B) (core : ℕ) (p : Prepared) (machine : Option Machine) (old new : K) (answer : ℕ) : Type 0 where

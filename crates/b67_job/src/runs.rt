@@ -10,11 +10,10 @@ ghost use Rattle.b67_model.specs.State.{Task, SessionJob};
 ghost use Rattle.b67_model.specs.Schedule.{Session};
 ghost use Rattle.b67_session_lines.specs.Ends.{Ends};
 ghost use Rattle.b67_session_open.specs.Decks.{DeckInRange, IsLoaded};
-ghost use Rattle.b67_session.specs.Passed.{AreCountable};
-ghost use Rattle.b67_session.specs.Slices.{LivesOn, IsLone};
+ghost use Rattle.b67_session.specs.Slices.{IsLone, IsOpen, Keeps};
 ghost use Rattle.b67_uncalled.specs.Uncalled.{uses_built};
 ghost use Rattle.b67_job.specs.Device.{device_of};
-ghost use Rattle.b67_job.specs.Finishing.{refused_status, refused_line, steps_of, Finishes, JobRan};
+ghost use Rattle.b67_job.specs.Finishing.{refused_status, refused_line, Finishes, JobRan};
 ghost use Rattle.b67_job.specs.Lines.{backing_fault_line};
 ghost use Rattle.b67_job.specs.Runs.{RunEnds};
 
@@ -53,7 +52,7 @@ fn refuse_opening<K: Sink>(fault: OpenFault, printer: &mut K) -> u8
     }
 }
 
-// Prints the last line behind the steps that were made.
+// Prints the last line after the steps that were made.
 fn finish<K: Sink>(answered: Result<Progress, Stop>, card: u32, made: u64, printer: &mut K) -> u8
     ensures { Finishes K.taken K.faults card made answered printer.old printer.new result }
 {
@@ -77,36 +76,23 @@ fn finish<K: Sink>(answered: Result<Progress, Stop>, card: u32, made: u64, print
     }
 }
 
-// How many steps a run may make: up to the halt, or else as many as any job may.
-fn steps_of(halt: Option<u64>) -> u64
-    ensures { result ≡ steps_of halt }
-{
-    match halt {
-        Some(count) => count,
-        None => 100_000_000,
-    }
-}
-
-// Makes the steps of a session of one job, and prints the last line.
+// Makes the steps of a session of one job, which are at most as many as any job may make, and prints the last line.
 fn run_job<K: Sink, B: Backing>(
     machine: &mut Machine,
-    steps: u64,
     card: u32,
     printer: &mut K,
     backing: &mut B,
 ) -> u8
-    requires lives { LivesOn (B.holds backing.old) machine.old }
-    requires countable { AreCountable machine.old.tasks.jobs }
-    requires same { B.size backing.old + 1 ≡ length machine.old.sectors.links }
+    requires open { IsOpen (B.holds backing.old) machine.old }
+    requires sized { B.size backing.old + 1 ≡ length machine.old.sectors.links }
     ensures ran { (known : Option (List (List ℕ))) (s : Session) (m : SessionJob) (t : Task) → Says known (B.holds backing.old) → IsLone known machine.old s m t
-        → JobRan K.taken K.faults (content_after known (B.holds backing.new)) (known ≢ None) (Rose B.faults backing.old backing.new) (B.size backing.old) steps card
+        → JobRan K.taken K.faults (content_after known (B.holds backing.new)) (known ≢ None) (Rose B.faults backing.old backing.new) (B.size backing.old) 100000000 card
         s machine.old machine.new printer.old printer.new result }
-    ensures halt { machine.new.tasks.halt ≡ machine.old.tasks.halt }
-    ensures countable { AreCountable machine.new.tasks.jobs }
-    ensures links { length machine.new.sectors.links ≡ length machine.old.sectors.links }
+    ensures open { IsOpen (B.holds backing.new) machine.new }
+    ensures keeps { Keeps machine.old machine.new }
     ensures device { DeviceAfterCalls B.holds B.size B.calls B.faults backing.old backing.new }
 {
-    let answered = slice(machine, steps, backing, printer);
+    let answered = slice(machine, 100_000_000, backing, printer);
     finish(answered, card, machine.tasks.made, printer)
 }
 
@@ -153,8 +139,7 @@ pub fn run_deck<K: Sink, B: Backing>(
             machine: Some(machine),
         },
         [job, ..] => {
-            let steps = steps_of(deck.halt);
-            let status = run_job(&mut machine, steps, job.body_card, printer, backing);
+            let status = run_job(&mut machine, job.body_card, printer, backing);
             Outcome {
                 status,
                 machine: Some(machine),
