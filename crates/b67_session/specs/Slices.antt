@@ -19,6 +19,7 @@ use Rattle.b67_single.specs.Single.{IsSingle}
 use Rattle.b67_task_tables.specs.declared.tables.Tasks.{Tasks}
 use Rattle.b67_task_tables.specs.declared.tables.Machine.{Machine}
 use Rattle.b67_task_tables.specs.Tables.{MachineRepresents}
+pub use Rattle.b67_task_tables.specs.Runs.{Keeps}
 use Rattle.b67_task.specs.Endings.{HasRowsOf}
 use Rattle.b67_session_attempt.specs.Passed.{AreCountable, IsShortOf}
 use Rattle.b67_session_attempt.specs.Attempts.{IsLacking}
@@ -93,12 +94,6 @@ pub record HasNoTasks (told : Option (List (List ℕ))) (k : Machine) : Type 0 w
 pub record IsOpen (told : Option (List (List ℕ))) (k : Machine) : Type 0 where
   pub stage : LivesOn told k ⊎ (StandsLimited told k ⊎ HasNoTasks told k)
   pub countable : AreCountable k.tasks.jobs
-
--- what a call leaves as it was: how many words core has and how many sectors the table, and the count of the halt
-pub record Keeps (old new : Machine) : Type 0 where
-  pub core : length new.cpu.core ≡ length old.cpu.core
-  pub sectors : length new.sectors.links ≡ length old.sectors.links
-  pub halt : new.tasks.halt ≡ old.tasks.halt
 
 -- the device failed, or the printer, where the answer says so; the printer's count of failures hasn't fallen
 pub record HasCauses {A D K : Type 0} (failed : D → ℕ) (refused : K → ℕ) (answered : Result A Stop) (device device' : D) (paper paper' : K) : Type 0 where

@@ -20,11 +20,11 @@ context g c = record {
   row = c.attempt.ensures.row;
   room = c.attempt.ensures.fits;
   stay = c.attempt.ensures.tables;
-  halt = c.attempt.ensures.halt;
+  halt = c.attempt.ensures.keeps.halt;
 }
 
 halted : (g : Over) (c : After-attempt g) → c.attempt.new.machine.tasks.halt ≡ c.args.machine.now.tasks.halt
-halted g c = c.attempt.ensures.halt ∙ ap (λ (z : Tasks). z.halt) c.give_turn.ensures.tables
+halted g c = c.attempt.ensures.keeps.halt ∙ ap (λ (z : Tasks). z.halt) c.give_turn.ensures.tables
 
 pub returns-in-None-clause-row : goal.returns-in-None-clause-row
 returns-in-None-clause-row g c = λ known s m t says h. chooses_one known c.args.machine.now s m t h (c.in-None.ensures.choice h.plan s h.ordered h.stands.tables)
