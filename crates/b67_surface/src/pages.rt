@@ -21,7 +21,6 @@ use b67_area::Areas;
 use b67_backing::{Backing, Sectors, SpaceFault};
 use b67_codefile::Codefile;
 use b67_load::{Admitted, LoadFault};
-use b67_load_verify::Admitted;
 use b67_stack::{Cpu, What};
 use b67_task_tables::Machine;
 use std::alloc::Global;
