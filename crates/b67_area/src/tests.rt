@@ -41,11 +41,26 @@ fn freed(core: &mut Core, areas: &mut Areas)
     areas.free(core, 254);
 }
 
+/// Raises the lowest word by eight, places an area of 14 words, which then takes all of core, and leaves no area again.
+fn raised(rt: &impl Abort, core: &mut Core, areas: &mut Areas)
+    requires low { areas.old.low ≡ 232 }
+    requires size { length core.old ≡ 256 }
+    requires directory { IsDirectory core.old 232 (Hole 24 ∷ []) }
+    ensures low { areas.new.low ≡ 240 }
+    ensures directory { IsDirectory core.new 240 (Hole 16 ∷ []) }
+{
+    areas.raise(core, 240);
+    assert_eq!(rt; areas.place(core, Kind::Code, 14, 170), Some(241));
+    assert_eq!(rt; areas.place(core, Kind::Code, 1, 171), None);
+    areas.clear(core);
+}
+
 #[test]
 fn areas_fill_core_and_leave_one_hole(rt: HostRuntime) -> Result<(), Fail> {
     let mut core = Core::new(rt.alloc(), 256)?;
     let mut areas = four_areas(&rt, &mut core);
     freed(&mut core, &mut areas);
-    assert_eq!(rt; areas.place(&mut core, Kind::Array, 22, 1), Some(233));
+    raised(&rt, &mut core, &mut areas);
+    assert_eq!(rt; areas.place(&mut core, Kind::Array, 14, 1), Some(241));
     Ok(())
 }
