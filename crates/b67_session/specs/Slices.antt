@@ -101,12 +101,12 @@ pub record HasCauses {A D K : Type 0} (failed : D → ℕ) (refused : K → ℕ)
   pub print : answered ≡ Err stops.PrintFault → Rose refused paper paper'
   pub later : refused paper ≤ refused paper'
 
--- why a slice goes no further: no task lives, or the count of the halt is reached
-abbrev pub Pauses : Tasks → Option Progress → Type 0
-Pauses tasks None = tasks.halt ≢ Some tasks.made
-Pauses tasks (Some progress.Ended) = tasks.rows.items ≡ []
-Pauses tasks (Some progress.Halted) = tasks.halt ≡ Some tasks.made
-Pauses tasks (Some progress.More) = ⊥
+-- why a slice goes no further: no task lives, or the count of a halt is reached
+abbrev pub Pauses : Tasks → Option ℕ → Option Progress → Type 0
+Pauses tasks halt None = halt ≢ Some tasks.made
+Pauses tasks halt (Some progress.Ended) = tasks.rows.items ≡ []
+Pauses tasks halt (Some progress.Halted) = halt ≡ Some tasks.made
+Pauses tasks halt (Some progress.More) = ⊥
 
 -- ---- steps and their text
 

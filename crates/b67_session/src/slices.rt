@@ -22,15 +22,15 @@ pub enum Progress {
     More,
 }
 
-/// Whether a slice goes no further: no task lives, or else the count of the halt is reached.
+/// Whether a slice goes no further: no task lives, or else the count of a halt is reached.
 #[inline(always)]
-fn pause(tasks: &Tasks) -> Option<Progress>
-    ensures { Pauses tasks.now result }
+fn pause(tasks: &Tasks, halt: Option<u64>) -> Option<Progress>
+    ensures { Pauses tasks.now halt result }
 {
     if tasks.rows.is_empty() {
         return Some(Progress::Ended);
     }
-    match tasks.halt {
+    match halt {
         Some(count) if count == tasks.made => Some(Progress::Halted),
         _ => None,
     }
@@ -58,7 +58,7 @@ fn go_on<B: Backing, K: Sink>(
     ensures device { DeviceAfterCalls B.holds B.size B.calls B.faults backing.old backing.new }
 {
     'step: for _made in 0..n {
-        if let Some(progress) = pause(&machine.tasks) {
+        if let Some(progress) = pause(&machine.tasks, machine.tasks.halt) {
             return Ok(progress);
         }
         match step(machine, backing, paper) {
@@ -67,7 +67,7 @@ fn go_on<B: Backing, K: Sink>(
             Err(stop) => return Err(stop),
         }
     }
-    match pause(&machine.tasks) {
+    match pause(&machine.tasks, machine.tasks.halt) {
         Some(progress) => Ok(progress),
         None => Ok(Progress::More),
     }
