@@ -104,11 +104,14 @@ was_read {left = left} {deck = deck} {deck' = deck'} {bytes = bytes} command r f
         let l : length (take (limit + 1) bytes) ≡ min (limit + 1) (length bytes) = length-take (limit + 1) bytes in
         let exactly : length (take (limit + 1) bytes) ≡ limit + 1 = omega (arith, l, long) in (
           take (limit + 1) bytes,
-          inr (record {
-            told = λ before e.
-                let h = first.told before e in
-                (drop (limit + 1) before, sym (take-append-drop (limit + 1) before) ∙ ap (λ (xs : List ℕ). xs ++ drop (limit + 1) before) (sym (front before h.0)), h.1);
-          }, exactly),
+          inr (
+            record {
+              told = λ before e.
+                  let h = first.told before e in
+                  (drop (limit + 1) before, sym (take-append-drop (limit + 1) before) ∙ ap (λ (xs : List ℕ). xs ++ drop (limit + 1) before) (sym (front before h.0)), h.1);
+            },
+            exactly,
+          ),
           asked_alike command bytes long ∙ refused,
         )
     by_test false t =
