@@ -6,7 +6,7 @@ use Rattle.b67_area.specs.declared.kinds.Kind.TheVariants.{Code}
 use Rattle.b67_area.specs.declared.directory.Areas.{Areas}
 use Rattle.b67_area.specs.Spans.{Span, Area, Hole, fresh, fill, area_at, cut, left}
 use Rattle.b67_area.specs.Directory.{IsDirectory}
-use Rattle.b67_area.proofs.tests.raised.Goals as goal
+use Rattle.b67_surface.proofs.area_rows.raised.Goals as goal
 
 -- one hole that is raised
 cut_at : (core new : List Tagged) (low : ℕ) → low ≡ 232 → IsDirectory core 232 (Hole 24 ∷ [])
