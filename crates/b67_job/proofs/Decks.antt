@@ -114,7 +114,7 @@ module _ {K B : Type 0} (taken : K → Option (List ℕ)) (failures : K → ℕ)
         fitted = λ tells j low. absurd (omega (arith, low, made));
         core_size = o.2.core_size;
         halt = o.2.halt;
-        open = record {
+        goes_on = record {
           stage = inr (inr (record { known = content_after (holds b) (holds b'); says = says_after (holds b) (holds b'); session = session_of d ps; rests = resting }));
           countable = o.2.countable;
         };
@@ -182,7 +182,7 @@ module _ {K B : Type 0} (taken : K → Option (List ℕ)) (failures : K → ℕ)
       → ((x : Option (List (List ℕ))) (s : Session) (m : SessionJob) (t : Task) → Says x (holds b') → IsLone x k0 s m t
       → JobRan taken failures (content_after x (holds b'')) (x ≢ None) (Rose broken b' b'') (size b') 100000000 j.body_card s k0 k old new answer)
       → RunEnds taken failures (device_of holds size broken b b'') core (d, program_of f ∷ []) (Some k) old new answer
-  one_run old new answer first_calls more_calls open keeps rans =
+  one_run old new answer first_calls more_calls may_go_on keeps rans =
       let first = session_of d (program_of f ∷ []) in
       let still = still_told holds b b' first_calls.tells in
       let r = subst (λ (x : Option (List (List ℕ))). JobRan taken failures x (known ≢ None) (Rose broken b' b'') (size b') 100000000 j.body_card first k0 k old new answer) (known_later (holds b) (holds b') (holds b'') still)
@@ -203,7 +203,7 @@ module _ {K B : Type 0} (taken : K → Option (List ℕ)) (failures : K → ℕ)
         fitted = λ told. subst (λ n. StepsFit n k.tasks.made first) o.2.core_size (subst (λ n. StepsFit (length k0.cpu.core) n first) (sym made) (r.slices.fits (exact told)));
         core_size = keeps.core ∙ o.2.core_size;
         halt = keeps.halt ∙ o.2.halt;
-        open = open;
+        goes_on = may_go_on;
         sized = omega (arith, begun_links, links, again, same);
       })
       one (known ≢ None) exact r.slices.steps r.slices.session r.slices.printed

@@ -179,7 +179,7 @@ pub record WasOpened {B : Type 0} (d : Device B) (core : ℕ) (p : Prepared) (k 
   pub fitted : Tells d → StepsFit core k.tasks.made (run_of p).session
   pub core_size : length k.cpu.core ≡ core
   pub halt : k.tasks.halt ≡ p.0.halt
-  pub open : IsOpen d.now k
+  pub goes_on : IsOpen d.now k
   pub sized : d.sectors_now + 1 ≡ length k.sectors.links
 
 -- then it stopped so

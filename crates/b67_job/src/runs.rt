@@ -88,7 +88,7 @@ fn run_job<K: Sink, B: Backing>(
     ensures ran { (known : Option (List (List ℕ))) (s : Session) (m : SessionJob) (t : Task) → Says known (B.holds backing.old) → IsLone known machine.old s m t
         → JobRan K.taken K.faults (content_after known (B.holds backing.new)) (known ≢ None) (Rose B.faults backing.old backing.new) (B.size backing.old) 100000000 card
         s machine.old machine.new printer.old printer.new result }
-    ensures open { IsOpen (B.holds backing.new) machine.new }
+    ensures goes_on { IsOpen (B.holds backing.new) machine.new }
     ensures keeps { Keeps machine.old machine.new }
     ensures device { DeviceAfterCalls B.holds B.size B.calls B.faults backing.old backing.new }
 {

@@ -48,7 +48,7 @@ returns-in-len1-up-clause-ends g c =
     c.requires.range (subst (AllByRecursion IsLoaded) file.1 c.requires.loaded).0 (subst (AllByRecursion (λ (f : Codefile). uses_built (program_of f) ≡ true)) file.1 c.requires.built).0 c.job-item.result one
     c.args.backing.now c.open.new.backing c.run_job-status.new.backing c.in-Ok.machine c.run_job-status.new.machine opens
     c.args.printer.now c.run_job-status.new.printer c.run_job-status.result c.open.ensures.device c.run_job-status.ensures.device
-    c.run_job-status.ensures.open c.run_job-status.ensures.keeps c.run_job-status.ensures.ran)
+    c.run_job-status.ensures.goes_on c.run_job-status.ensures.keeps c.run_job-status.ensures.ran)
 
 pub returns-in-len1-up-clause-device : goal.returns-in-len1-up-clause-device
 returns-in-len1-up-clause-device g c = after_more c.open.ensures.device c.run_job-status.ensures.device
