@@ -173,7 +173,7 @@ module _ (plan : Placement) (jobs : List SessionJob) (m : SessionJob) (id i : �
       by_task r e z (Some v) f =
           let in_v = keyed-has (λ (v : Task). v.number) r.task m.progress.job.tasks v f in
           let in_u = keyed-has (λ (v : Task). v.number) u.number m.progress.job.tasks u there in
-          let number : v.number ≡ r.task = (Rattle.b67_law_order.proofs.Members.keyed_has (λ (v : Task). v.number) r.task m.progress.job.tasks v f).1 in
+          let number : v.number ≡ r.task = (Rattle.b67_lemmas.proofs.Members.keyed_has (λ (v : Task). v.number) r.task m.progress.job.tasks v f).1 in
           let h = found-has (λ (b : Slotted). b.slot == q) plan.rows r e in
           let b = task_row plan jobs m u fit has_m in_u in
           let apart : u.number ≢ v.number = λ y.
