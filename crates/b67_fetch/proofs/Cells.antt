@@ -7,12 +7,12 @@ use Rattle.b67_core.proofs.Writes.{slice_get-set_other}
 use Rattle.b67_word.specs.Tagged.{word}
 use Rattle.b67_word.specs.declared.couples.Place.{Place}
 use Rattle.b67_model.specs.Words.{Word, Operand}
-use Rattle.b67_model.specs.State.{Frame, Task, Job, SessionJob, top, with_top_cells, with_task}
+use Rattle.b67_model.specs.State.{Frame, Standing, Marked, Entered, Task, Job, SessionJob, top, with_top_cells, with_task, head_words}
 use Rattle.b67_model.specs.Cells.{with_cell}
 use Rattle.b67_model.specs.Intrinsics.{is_original}
 use Rattle.b67_model.specs.Schedule.{Session}
 use Rattle.b67_model.specs.Steps.{Goes, with_cells}
-use Rattle.b67_model.specs.InOrder.{IsInOrderButPlaces}
+use Rattle.b67_model.specs.InOrder.{IsInOrderButPlaces, IsEntered}
 use Rattle.b67_stack.specs.declared.Cpu.{Cpu}
 use Rattle.b67_stack.specs.MachineView.{PagedObject}
 use Rattle.b67_stack.specs.Represents.{Storage}
@@ -38,6 +38,10 @@ use Rattle.b67_layout_store.proofs.Stored.{RepresentsSession-store, still_runs}
 use Rattle.b67_fetch.proofs.Finishes.{finish_drop, finish_keep}
 use Rattle.b67_lemmas.proofs.Members.{has_map_back, keyed_has}
 use Rattle.b67_lemmas.proofs.Keyed.{change_map}
+
+entered_head : (standing : Standing) → IsEntered standing → head_words standing ≡ 2
+entered_head Marked e = absurd e
+entered_head (Entered level environment back) e = refl
 
 -- the top frame's cells, where the word may be stored in one of them
 abbrev stored : Bool → ℕ → Word → List Word → List Word
@@ -142,7 +146,7 @@ module _ (x : Storage) (old : Cpu) (plan : Placement) (s : Session) (m : Session
       ap J (change_map (λ (v : Task). v.number) (put_task f (offset - 2) (Operand bits)) t.number T (task_with t1 (stored (is_top f t.frames) (offset - 2) (Operand bits) kept) q) m.progress.job.tasks (λ v. refl) same)
       ∙ sym (with_cell_is (with_task m.progress.job (with_cells (here m t q) kept)) f offset (Operand bits))
 
-  -- the cell is that of a live frame
+  -- the cell is that of a live frame, which is entered
   live_cell : IsLiveCell plan m at
   live_cell =
       let u = Stored.own_of old.core old.regs scene q at f offset old_bits cell in
@@ -154,10 +158,9 @@ module _ (x : Storage) (old : Cpu) (plan : Placement) (s : Session) (m : Session
         there = (keyed_has (λ (v : Task). v.number) u.task.number m.progress.job.tasks u.task u.there).0;
         frame = frame_found f u.task.frames;
         among = g.0;
-        offset = offset;
-        low = b.0;
-        high = b.1;
-        at = own_spot;
+        index = offset - 2;
+        inside = omega (arith, b.0, b.1);
+        at = omega (arith, own_spot, b.0, entered_head (frame_found f u.task.frames).standing (Stored.found_entered old.core old.regs scene q at f offset old_bits cell));
       }
 
   finish : (new : Cpu) (kept : List Word) → RepresentsSession x new plan (record s1 { jobs = with_course s1.jobs m.constants.number (record m1.progress { job = with_task job1 (task_with t1 (stored (is_top f t.frames) (offset - 2) (Operand bits) kept) q) }) })

@@ -16,8 +16,7 @@ ghost use Rattle.b67_fetch.specs.Indexes.{array_in, FindsArray, index_in, FindsI
 
 use crate::loading::put_element;
 use b67_ctl::DataDesc;
-use b67_exec_cells::array_descriptor;
-use b67_exec_cells::{replace_cells, two_cells};
+use b67_exec_cells::{array_descriptor, replace_cells, two_cells};
 use b67_refer::{End, chase, owner};
 use b67_stack::{Cpu, Step};
 use b67_word::{Fault, Place, Word};

@@ -10,8 +10,7 @@ ghost use Rattle.b67_exec_cells.specs.Elements.{HasElement, HoldsElement};
 ghost use Rattle.b67_fetch.specs.Fetches.{enters_at, EntersOrMeets};
 ghost use Rattle.b67_fetch.specs.Stores.{store_end, ElementAt, stored};
 
-use b67_exec_cells::array_descriptor;
-use b67_exec_cells::two_cells;
+use b67_exec_cells::{array_descriptor, two_cells};
 use b67_refer::{End, chase};
 use b67_stack::{Cpu, Step, What};
 use b67_word::{Fault, Place, Word};

@@ -1,5 +1,6 @@
 -- How far the steps of a slice came: whole steps, or all but the line of LIMIT.
-use Rattle.std.proofs.Common.{◌≡◌, ◌≢◌, ℕ, ◌+◌, ◌<◌, List, [], ◌∷◌, ◌++◌, length, refl, sym, ap, ◌∙◌, subst, arith, append_assoc, Option, Some, None}
+use Rattle.std.proofs.Common.{◌≡◌, ◌≢◌, ℕ, ◌+◌, ◌<◌, List, [], ◌∷◌, ◌++◌, length, refl, sym, ap, ◌∙◌, subst, arith, append_assoc, Option, Some, None, ◌≤◌}
+use Rattle.std.proofs.lemmas.Grind.{flat_map-append}
 use Rattle.std.specs.List.{AllByRecursion}
 use Rattle.b67_model.specs.State.{JobConstants, Task, SessionJob}
 use Rattle.b67_model.specs.Lines.{run_text}
@@ -21,6 +22,12 @@ pub below : (P : JobConstants → Starts) (s : Session) (m : SessionJob) (t : Ta
 below P s m t order single =
     let job = (subst (λ (ms : List SessionJob). AllByRecursion (λ (m : SessionJob). JobInOrder (P m.constants) m.constants m.progress) ms) single.jobs order.jobs).0 in
     job.below_limit (λ none. not_none t (sym single.tasks ∙ none))
+
+-- and the limit is one that a job may have
+pub limit_high : (P : JobConstants → Starts) (s : Session) (m : SessionJob) (t : Task) → SessionInOrder P s → IsSingle s m t → m.constants.limit ≤ 100000000
+limit_high P s m t order single =
+    let job = (subst (λ (ms : List SessionJob). AllByRecursion (λ (m : SessionJob). JobInOrder (P m.constants) m.constants m.progress) ms) single.jobs order.jobs).0 in
+    job.unchanging.limit
 
 pub single_below : (s : Session) (m : SessionJob) (t : Task) → IsSingle s m t → m.progress.made < m.constants.limit → last_part s ≡ None
 single_below s m t single low = no_last s (λ x has. is_at s m x single.jobs (below_is_not_at m low) has)

@@ -11,6 +11,7 @@ use Rattle.b67_lemmas.specs.Lists.{Has}
 use Rattle.b67_lemmas.proofs.Members.{has_filter, has_map_back, keyed_has}
 use Rattle.b67_model.specs.Words.{Word}
 use Rattle.b67_model.specs.State.{Frame, Standing, Task, JobConstants, Job, JobProgress, with_task}
+use Rattle.b67_model.specs.Called.{called}
 use Rattle.b67_model.specs.Steps.{Line, Done, Goes, Leaves, Waits}
 use Rattle.b67_model.specs.Operators.{Reading}
 use Rattle.b67_model.specs.Rows.{row, reading_of, step_by, step}
@@ -60,9 +61,9 @@ module _ (W : Word → Type 0) (M : ℕ → Standing → Type 0) where
   TasksMade tasks = (t : Task) → Has tasks t → FramesMade t.frames
 
   -- what an operator makes is so made
-  pub record Maker (op : Op) : Type 0 where
-    pub words : (w : Word) → OperatorMakes op w → W w
-    pub marks : (identity : ℕ) (standing : Standing) → MakesMark op standing → M identity standing
+  pub record Maker (op : Op) (call : Option ℕ) : Type 0 where
+    pub words : (w : Word) → OperatorMakes op call w → W w
+    pub marks : (identity : ℕ) (standing : Standing) → MakesMark op call standing → M identity standing
 
   ends_kept : (s : Settled) (endings : List (ℕ × Ending)) → TasksMade s.job.tasks → TasksMade (ends_all s endings).job.tasks
   ends_kept s endings all t h =
@@ -94,7 +95,7 @@ module _ (W : Word → Type 0) (M : ℕ → Standing → Type 0) where
   settles_kept job task (Err fault) live all goes = each_kept _ Deadlock (ends_task job task.number (Faulted fault)) (task_kept job task.number (Faulted fault) all)
 
   row_kept : (constants : JobConstants) (job : Job) (task : Task) (after : Job) (printed : List Line) (touched : Option ℕ) → Has job.tasks task → TasksMade job.tasks →
-      (r : StepRow constants job task (Goes after printed touched)) → Maker r.op → TasksMade after.tasks
+      (r : StepRow constants job task (Goes after printed touched)) → Maker r.op (called r.op (here constants job task r.next)) → TasksMade after.tasks
   row_kept constants job task after printed touched live all r maker t h f among =
       let stands : StandsIn after.tasks f = record { task = t; live = h; among = among } in
       let made = each_row_makes_its_words r.op (here constants job task r.next) task after printed touched live refl r.row_is f stands in (
@@ -111,7 +112,7 @@ module _ (W : Word → Type 0) (M : ℕ → Standing → Type 0) where
       )
 
   stepped_kept : (constants : JobConstants) (job : Job) (task : Task) → Has job.tasks task → TasksMade job.tasks →
-      ((op : Op) (next : Place) → reading_of constants task ≡ Ok (op, next) → Maker op) → TasksMade (stepped constants job task).settled.job.tasks
+      ((op : Op) (next : Place) → reading_of constants task ≡ Ok (op, next) → Maker op (called op (here constants job task next))) → TasksMade (stepped constants job task).settled.job.tasks
   unfolding stepped
   stepped_kept constants job task live all makers = settles_kept job task (step constants job task) live all (λ after printed touched e.
       let r = step_row constants job task (Goes after printed touched) e in
@@ -119,7 +120,7 @@ module _ (W : Word → Type 0) (M : ℕ → Standing → Type 0) where
 
   -- a whole step of a job
   pub step_kept : (constants : JobConstants) (c : JobProgress) (number : ℕ) → TasksMade c.job.tasks →
-      ((task : Task) (op : Op) (next : Place) → keyed (λ t. t.number) number c.job.tasks ≡ Some task → reading_of constants task ≡ Ok (op, next) → Maker op) →
+      ((task : Task) (op : Op) (next : Place) → keyed (λ t. t.number) number c.job.tasks ≡ Some task → reading_of constants task ≡ Ok (op, next) → Maker op (called op (here constants c.job task next))) →
       TasksMade (step_of constants c number).progress.job.tasks
   unfolding step_of
   step_kept constants c number all makers = by (keyed (λ t. t.number) number c.job.tasks) refl

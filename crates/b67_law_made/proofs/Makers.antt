@@ -7,13 +7,15 @@ use Rattle.b67_lemmas.specs.Lists.{Has}
 use Rattle.b67_lemmas.proofs.Members.{keyed_has}
 use Rattle.b67_model.specs.Words.{Word}
 use Rattle.b67_model.specs.State.{Standing, Entered, Task, SessionJob}
+use Rattle.b67_model.specs.Called.{called}
 use Rattle.b67_model.specs.Rows.{reading_of}
 use Rattle.b67_model.specs.Alone.{step_of}
 use Rattle.b67_model.specs.Schedule.{Session, Choice, choice}
 use Rattle.b67_model.specs.Run.{StepResult, number_of, of_job, with_moment, moment_by, moment_for, next, after_from, after}
 use Rattle.b67_law_order_runs.specs.Opening.{opening}
+use Rattle.b67_law_order_rows.proofs.Kept.{here}
 use Rattle.b67_law_made.specs.Made.{OperatorMakes, MakesMark}
-use Rattle.b67_law_made.specs.RunMade.{Runs, EarlierStep, RunsMakeTheirWords}
+use Rattle.b67_law_made.specs.RunMade.{Runs, context, EarlierStep, RunsMakeTheirWords}
 use Rattle.b67_law_made.proofs.Opened.{openings_are_made_by_the_loader}
 use Rattle.b67_law_made.proofs.Keeping.{has_changed, TasksMade, Maker, step_kept}
 
@@ -30,10 +32,10 @@ after_more (suc k) first s m is e = by (λ from. after_more k from s m) (next fi
 
 module _ (first : Session) (total : ℕ) where
   abbrev pub WordOf : ℕ → Word → Type 0
-  WordOf job w = EarlierStep first total job (λ op. OperatorMakes op w)
+  WordOf job w = EarlierStep first total job (λ op call. OperatorMakes op call w)
 
   abbrev pub MarkOf : ℕ → ℕ → Standing → Type 0
-  MarkOf job identity standing = ((identity ≡ 2) × (standing ≡ Entered 2 1 None)) ⊎ EarlierStep first total job (λ op. MakesMark op standing)
+  MarkOf job identity standing = ((identity ≡ 2) × (standing ≡ Entered 2 1 None)) ⊎ EarlierStep first total job (λ op call. MakesMark op call standing)
 
   abbrev pub JobMade : ℕ → List Task → Type 0
   JobMade job tasks = TasksMade (WordOf job) (MarkOf job) tasks
@@ -42,17 +44,18 @@ module _ (first : Session) (total : ℕ) where
   SessionMade s = (m : SessionJob) → Has s.jobs m → JobMade (number_of m) m.progress.job.tasks
 
   maker : (k : ℕ) (s : Session) (c : Choice) (m : SessionJob) (task : Task) (op : Op) (place : Place) → after k first ≡ s → k < total → choice s ≡ Some c →
-      keyed number_of c.who.job s.jobs ≡ Some m → keyed (λ t. t.number) c.who.task m.progress.job.tasks ≡ Some task → reading_of m.constants task ≡ Ok (op, place) → Maker (WordOf c.who.job) (MarkOf c.who.job) op
+      keyed number_of c.who.job s.jobs ≡ Some m → keyed (λ t. t.number) c.who.task m.progress.job.tasks ≡ Some task → reading_of m.constants task ≡ Ok (op, place) → Maker (WordOf c.who.job) (MarkOf c.who.job) op (called op (here m.constants m.progress.job task place))
   maker k s c m task op place is below chooses found live reads = record {
-    words = λ w made. record { steps_before = k; earlier = below; number = c.who.task; op = op; ran = ran; made = made };
-    marks = λ identity standing made. inr (record { steps_before = k; earlier = below; number = c.who.task; op = op; ran = ran; made = made });
+    words = λ w made. at (λ o call. OperatorMakes o call w) made;
+    marks = λ identity standing made. inr (at (λ o call. MakesMark o call standing) made);
   }
     where
-      now : Runs s c.who.job c.who.task op
-      now = record { chosen = c; chooses = chooses; of_job = refl; of_task = refl; member = m; found = found; task = task; live = live; next = place; stands = reads }
+      step : (Made : Op → Option ℕ → Type 0) (x : Session) → after k first ≡ x → (r : Runs x c.who.job c.who.task op) → Made op (called op (context r)) → EarlierStep first total c.who.job Made
+      step Made x is' r made = subst (λ (y : Session). (r : Runs y c.who.job c.who.task op) → Made op (called op (context r)) → EarlierStep first total c.who.job Made) is'
+          (λ ran made'. record { steps_before = k; earlier = below; number = c.who.task; op = op; ran = ran; made = made' }) r made
 
-      ran : Runs (after k first) c.who.job c.who.task op
-      ran = subst (λ (x : Session). Runs x c.who.job c.who.task op) (sym is) now
+      at : (Made : Op → Option ℕ → Type 0) → Made op (called op (here m.constants m.progress.job task place)) → EarlierStep first total c.who.job Made
+      at Made made = step Made s is (record { chosen = c; chooses = chooses; of_job = refl; of_task = refl; member = m; found = found; task = task; live = live; next = place; stands = reads }) made
 
   next_made : (k : ℕ) (s : Session) (after' : StepResult) → after k first ≡ s → k < total → SessionMade s → next s ≡ Some after' → SessionMade after'.session
   unfolding next

@@ -1,5 +1,5 @@
 -- Every row makes only its own words and marks.
-use Rattle.std.proofs.Common.{◌≡◌, ℕ, ◌+◌, ℤ, pos, negsuc, Bool, true, false, cond, leb, ltb, List, [], ◌∷◌, reverse, replicate, length, Option, Some, None, refl, sym, subst, inl, inr, ◌⊎◌}
+use Rattle.std.proofs.Common.{◌≡◌, ℕ, ◌+◌, ℤ, pos, negsuc, Bool, true, false, cond, eqb, leb, ltb, List, [], ◌∷◌, reverse, replicate, length, Option, Some, None, Ok, refl, sym, ap, ◌∙◌, subst, inl, inr, ◌⊎◌}
 use Rattle.b67_word.specs.declared.couples.Place.{Place}
 use Rattle.b67_model.specs.declared.operators.Op.{Op}
 use Rattle.b67_model.specs.declared.operators.Op.TheVariants.{Valc, Namc, Lt8, Lt16, Lt48, Mpcw, Brun, Brtr, Brfl, Bset, Brst, Isol, Insr, Plain}
@@ -10,7 +10,9 @@ use Rattle.b67_lemmas.specs.Lists.{Has}
 use Rattle.b67_lemmas.proofs.Members.{has_reverse_back}
 use Rattle.b67_model.specs.Arithmetic.{Binary, add, subt, mult, idiv, rdiv, less, greq, grtr, lseq, equl, neql, land, lor, leqv, same, chsn, lnot, bset, brst, isol, insr}
 use Rattle.b67_model.specs.Words.{Word, Operand, Name, Ref, Row, Element, Original, operand, whole}
-use Rattle.b67_model.specs.State.{Frame, Standing, Marked, Entered, Task, OperatorContext, top, below_top, with_task}
+use Rattle.b67_model.specs.State.{Return, Frame, Standing, Marked, Entered, Task, OperatorContext, top, below_top, with_task}
+use Rattle.b67_model.specs.Called.{called, called_on, called_by, called_at}
+use Rattle.std.proofs.lemmas.Bool.{eqb-true}
 use Rattle.b67_model.specs.Cells.{place_of, cell, with_cell}
 use Rattle.b67_model.specs.Arrays.{array, element, with_element, indexed, in_order}
 use Rattle.b67_model.specs.Chase.{End, AtCell, AtElement, AtArray, AtProc, AtIntrinsic, chase, follow, follow_reference}
@@ -19,8 +21,8 @@ use Rattle.b67_model.specs.Entry.{back_to, needs_level}
 use Rattle.b67_word.specs.declared.faults.Fault.TheVariants.{StackOverflow}
 use Rattle.b67_model.specs.Intrinsics.{answered, answers, array_length, arraydec, print, row_copy, numbers_of, printrow, read_from, read, child_of, starts, process, awaits, await, status_of, status, waits_at, wait, causes, cause, intrinsic}
 use Rattle.b67_model.specs.Rows.{on_one, on_two, dlet, exch, dupl, on_cells, branches, branch_if, stff_word, stff, load_at, load, indx, nxlv, store_at, store, entr_at, entr_with, entr, proc_of, plain, row}
-use Rattle.b67_law_order.proofs.Posts.{Post, post_ok, post_err, post_bind, post_any, post_then, post_if, post_at}
-use Rattle.b67_law_made.specs.Made.{OperatorMakes, MakesMark, by_mkst, by_entr, by_retn, by_load, by_stod, by_ston, by_valc, StandsIn, HasWord, HasMark, EachRowMakesItsWords}
+use Rattle.b67_law_order.proofs.Posts.{Post, post_ok, post_err, post_bind, post_any, post_then, post_if, post_at, post_if_is, post_is}
+use Rattle.b67_law_made.specs.Made.{OperatorMakes, MakesMark, by_mkst, by_entr, by_retn, by_load, by_stod, by_ston, by_valc, StandsIn, HasWord, HasMark, EachRowMakesItsWords, by_process}
 use Rattle.b67_law_made.proofs.Steps as S
 
 module _ (W : Word → Type 0) (M : ℕ → Standing → Type 0) (numbers : (bits : ℕ) → W (Operand bits)) where
@@ -119,11 +121,15 @@ module _ (W : Word → Type 0) (M : ℕ → Standing → Type 0) (numbers : (bit
   read_good h [] s = operand_good h (read_from h.job.numbers).0 (read_from h.job.numbers).1 s
   read_good h (w ∷ more) s = post_err Kept _
 
-  starts_good : (h : OperatorContext) (words : List Word) (end : End) → Source h → S.Enters W M numbers → AllW words → Good (starts h words end)
+  -- PROCESS enters a Proc in a new task
+  abbrev Started : Type 0
+  Started = (n level environment : ℕ) → M n (Entered level environment None)
+
+  starts_good : (h : OperatorContext) (words : List Word) (end : End) → Source h → Started → AllW words → Good (starts h words end)
   starts_good h words (AtProc f segment level place) s enter all =
       let child = child_of h words f segment level place in
       let frame : Frame = record { identity = h.job.next_frame; standing = Entered level f None; cells = reverse words } in
-      let made : S.Made W M numbers frame = (λ w k. all w (has_reverse_back words w k), enter h.job.next_frame level f None) in
+      let made : S.Made W M numbers frame = (λ w k. all w (has_reverse_back words w k), enter h.job.next_frame level f) in
       let tasks : S.TasksMade W M numbers (child ∷ h.job.tasks) = λ t k. elim k [
         | inl e ↦ subst (λ (u : Task). S.AllMade W M numbers u.frames) e (λ g j. elim j [ inl d ↦ subst (S.Made W M numbers) d made | inr x ↦ absurd x ])
         | inr m ↦ s.tasks t m
@@ -136,7 +142,7 @@ module _ (W : Word → Type 0) (M : ℕ → Standing → Type 0) (numbers : (bit
   starts_good h words (AtArray a) s enter all = post_err Kept _
   starts_good h words (AtIntrinsic n) s enter all = post_err Kept _
 
-  process_good : (h : OperatorContext) (arguments : List Word) → Source h → S.Enters W M numbers → AllW arguments → Good (process h arguments)
+  process_good : (h : OperatorContext) (arguments : List Word) → Source h → Started → AllW arguments → Good (process h arguments)
   process_good h [] s enter all = post_err Kept _
   process_good h (r ∷ words) s enter all = post_then Kept _ _ (post_any Kept (follow_reference h r) _ (λ end. starts_good h words end s enter (S.tail_words W M numbers r words all)))
 
@@ -179,32 +185,42 @@ module _ (W : Word → Type 0) (M : ℕ → Standing → Type 0) (numbers : (bit
   cause_good h (r ∷ []) s = post_any Kept (follow_reference h r) _ (λ end. causes_good h end s)
   cause_good h (r ∷ v ∷ more) s = post_err Kept _
 
-  intrinsic_good : (n : ℕ) (h : OperatorContext) (arguments : List Word) → Source h → S.Enters W M numbers → ((a : ℕ) → W (Original a)) → AllW arguments → Good (intrinsic n h arguments)
-  intrinsic_good n h arguments s enter originals all =
-      post_if Kept _ _ _ (arraydec_good h arguments s originals) (post_if Kept _ _ _ (print_good h arguments s) (post_if Kept _ _ _ (printrow_good h arguments s) (post_if Kept _ _ _ (read_good h arguments s)
-      (post_if Kept _ _ _ (process_good h arguments s enter all) (post_if Kept _ _ _ (await_good h arguments s) (post_if Kept _ _ _ (status_good h arguments s) (post_if Kept _ _ _ (wait_good h arguments s) (post_if Kept _ _ _ (cause_good h arguments s) (post_err Kept _)))))))))
+  -- what the call of an intrinsic makes, if it is this one
+  pub record Calls (call : Option ℕ) : Type 0 where
+    pub arraydec : call ≡ Some 8 → (a : ℕ) → W (Original a)
+    pub process : call ≡ Some 12 → Started
+    pub enters : call ≡ None → S.Enters W M numbers
 
-  entr_at_good : (h : OperatorContext) (arguments : List Word) (end : End) → Source h → S.Enters W M numbers → ((a : ℕ) → W (Original a)) → AllW arguments → Good (entr_at h arguments end)
-  entr_at_good h arguments (AtIntrinsic n) s enter originals all = intrinsic_good n h arguments s enter originals all
-  entr_at_good h arguments (AtProc f segment level place) s enter originals all = S.enters_good W M numbers h arguments (AtProc f segment level place) s enter (λ w k. all w (has_reverse_back arguments w k))
-  entr_at_good h arguments (AtCell f offset bits) s enter originals all = post_err Kept _
-  entr_at_good h arguments (AtElement a index) s enter originals all = post_err Kept _
-  entr_at_good h arguments (AtArray a) s enter originals all = post_err Kept _
+  named : (k n : ℕ) (call : Option ℕ) → call ≡ Some n → eqb k n ≡ true → call ≡ Some k
+  named k n call is e = is ∙ ap Some (sym (eqb-true k n e))
 
-  entr_with_good : (h : OperatorContext) (cells : List Word) → Source h → S.Enters W M numbers → ((a : ℕ) → W (Original a)) → AllW cells → Good (entr_with h cells)
-  entr_with_good h [] s enter originals all = post_err Kept _
-  entr_with_good h (r ∷ arguments) s enter originals all = post_any Kept (follow_reference h r) _ (λ end. entr_at_good h arguments end s enter originals (S.tail_words W M numbers r arguments all))
+  intrinsic_good : (n : ℕ) (h : OperatorContext) (arguments : List Word) (call : Option ℕ) → call ≡ Some n → Source h → Calls call → AllW arguments → Good (intrinsic n h arguments)
+  intrinsic_good n h arguments call is s made all =
+      post_if_is Kept _ _ _ (λ e. arraydec_good h arguments s (made.arraydec (named 8 n call is e))) (λ _. post_if Kept _ _ _ (print_good h arguments s) (post_if Kept _ _ _ (printrow_good h arguments s) (post_if Kept _ _ _ (read_good h arguments s)
+      (post_if_is Kept _ _ _ (λ e. process_good h arguments s (made.process (named 12 n call is e)) all) (λ _. post_if Kept _ _ _ (await_good h arguments s) (post_if Kept _ _ _ (status_good h arguments s) (post_if Kept _ _ _ (wait_good h arguments s) (post_if Kept _ _ _ (cause_good h arguments s) (post_err Kept _)))))))))
 
-  entr_good : (h : OperatorContext) (standing : Standing) → Source h → S.Enters W M numbers → ((a : ℕ) → W (Original a)) → Good (entr h standing)
-  entr_good h Marked s enter originals = entr_with_good h (reverse (cells_of h)) s enter originals (λ w k. S.own_words W M numbers h s w (has_reverse_back (cells_of h) w k))
-  entr_good h (Entered level environment back) s enter originals = post_err Kept _
+  entr_at_good : (h : OperatorContext) (arguments : List Word) (end : End) (call : Option ℕ) → call ≡ called_at (Ok end) → Source h → Calls call → AllW arguments → Good (entr_at h arguments end)
+  entr_at_good h arguments (AtIntrinsic n) call is s made all = intrinsic_good n h arguments call is s made all
+  entr_at_good h arguments (AtProc f segment level place) call is s made all = S.enters_good W M numbers h arguments (AtProc f segment level place) s (made.enters is) (λ w k. all w (has_reverse_back arguments w k))
+  entr_at_good h arguments (AtCell f offset bits) call is s made all = post_err Kept _
+  entr_at_good h arguments (AtElement a index) call is s made all = post_err Kept _
+  entr_at_good h arguments (AtArray a) call is s made all = post_err Kept _
+
+  entr_with_good : (h : OperatorContext) (cells : List Word) (call : Option ℕ) → call ≡ called_by h cells → Source h → Calls call → AllW cells → Good (entr_with h cells)
+  entr_with_good h [] call is s made all = post_err Kept _
+  entr_with_good h (r ∷ arguments) call is s made all =
+      post_bind (λ end. follow_reference h r ≡ Ok end) Kept (follow_reference h r) _ (post_is (follow_reference h r)) (λ end e. entr_at_good h arguments end call (is ∙ ap called_at e) s made (S.tail_words W M numbers r arguments all))
+
+  entr_good : (h : OperatorContext) (standing : Standing) (call : Option ℕ) → call ≡ called_on h standing → Source h → Calls call → Good (entr h standing)
+  entr_good h Marked call is s made = entr_with_good h (reverse (cells_of h)) call is s made (λ w k. S.own_words W M numbers h s w (has_reverse_back (cells_of h) w k))
+  entr_good h (Entered level environment back) call is s made = post_err Kept _
 
 -- words that were there, or that an operator makes
 abbrev WordOf : Op → OperatorContext → Word → Type 0
-WordOf op h w = HasWord h.job.tasks w ⊎ OperatorMakes op w
+WordOf op h w = HasWord h.job.tasks w ⊎ OperatorMakes op (called op h) w
 
 abbrev MarkOf : Op → OperatorContext → ℕ → Standing → Type 0
-MarkOf op h n s = HasMark h.job.tasks n s ⊎ MakesMark op s
+MarkOf op h n s = HasMark h.job.tasks n s ⊎ MakesMark op (called op h) s
 
 module _ (op : Op) (h : OperatorContext) (found : Task) (live : Has h.job.tasks found) (frames : found.frames ≡ h.task.frames) where
   operands : (bits : ℕ) → WordOf op h (Operand bits)
@@ -224,8 +240,15 @@ module _ (op : Op) (h : OperatorContext) (found : Task) (live : Has h.job.tasks 
   abbrev Ok' : Answer Done → Type 0
   Ok' answer = S.Good (WordOf op h) (MarkOf op h) operands answer
 
-  enters_by : ((s : Standing) → MakesMark op s) → S.Enters (WordOf op h) (MarkOf op h) operands
-  enters_by by n level environment back = inr (by (Entered level environment back))
+  enters_by : ((level environment : ℕ) (back : Return) → MakesMark op (called op h) (Entered level environment (Some back))) → S.Enters (WordOf op h) (MarkOf op h) operands
+  enters_by by n level environment back = inr (by level environment back)
+
+  calls_by : op ≡ Plain Entr → Calls (WordOf op h) (MarkOf op h) operands (called op h)
+  calls_by e = record {
+    arraydec = λ is a. inr (e, is);
+    process = λ is n level environment. inr (by_process e is);
+    enters = λ is n level environment back. inr (by_entr e is);
+  }
 
   words' : S.AllW (WordOf op h) (MarkOf op h) operands (cells_of h)
   words' = S.own_words (WordOf op h) (MarkOf op h) operands h source
@@ -262,8 +285,8 @@ module _ (op : Op) (h : OperatorContext) (found : Task) (live : Has h.job.tasks 
   by_code Same e = on_two_good same
   by_code Exit e = S.exit_good (WordOf op h) (MarkOf op h) operands h source
   by_code Indx e = indx_good (WordOf op h) (MarkOf op h) operands h (cells_of h) source (λ a index. inr e) words'
-  by_code Retn e = S.retn_good (WordOf op h) (MarkOf op h) operands h (top_of h).standing (cells_of h) source (enters_by (λ s. by_retn e)) words'
-  by_code Entr e = entr_good (WordOf op h) (MarkOf op h) operands h (top_of h).standing source (enters_by (λ s. by_entr e)) (λ a. inr e)
+  by_code Retn e = S.retn_good (WordOf op h) (MarkOf op h) operands h (top_of h).standing (cells_of h) source (enters_by (λ level environment back. by_retn e)) words'
+  by_code Entr e = entr_good (WordOf op h) (MarkOf op h) operands h (top_of h).standing (called op h) (ap (λ o. called o h) e) source (calls_by e)
   by_code Nxlv e = nxlv_good (WordOf op h) (MarkOf op h) operands h (cells_of h) source words'
   by_code Mkst e = S.mkst_good (WordOf op h) (MarkOf op h) operands h source (λ n. inr (by_mkst e))
   by_code Stff e = S.on_cells_good (WordOf op h) (MarkOf op h) operands h (stff h) source (stff_keeps (WordOf op h) (MarkOf op h) operands h (λ f offset. inr e))
@@ -273,14 +296,14 @@ module _ (op : Op) (h : OperatorContext) (found : Task) (live : Has h.job.tasks 
   by_code Dlet e = S.on_cells_good (WordOf op h) (MarkOf op h) operands h dlet source (S.dlet_keeps (WordOf op h) (MarkOf op h) operands)
   by_code Exch e = S.on_cells_good (WordOf op h) (MarkOf op h) operands h exch source (S.exch_keeps (WordOf op h) (MarkOf op h) operands)
   by_code Dupl e = S.on_cells_good (WordOf op h) (MarkOf op h) operands h dupl source (S.dupl_keeps (WordOf op h) (MarkOf op h) operands)
-  by_code Stod e = store_good (WordOf op h) (MarkOf op h) operands false h (cells_of h) source (enters_by (λ s. by_stod e)) words'
-  by_code Ston e = store_good (WordOf op h) (MarkOf op h) operands true h (cells_of h) source (enters_by (λ s. by_ston e)) words'
-  by_code Load e = load_good (WordOf op h) (MarkOf op h) operands h (cells_of h) source (enters_by (λ s. by_load e)) (λ a. inr e) words'
+  by_code Stod e = store_good (WordOf op h) (MarkOf op h) operands false h (cells_of h) source (enters_by (λ level environment back. by_stod e)) words'
+  by_code Ston e = store_good (WordOf op h) (MarkOf op h) operands true h (cells_of h) source (enters_by (λ level environment back. by_ston e)) words'
+  by_code Load e = load_good (WordOf op h) (MarkOf op h) operands h (cells_of h) source (enters_by (λ level environment back. by_load e)) (λ a. inr e) words'
   by_code Noop e = still
   by_code Nvld e = post_err (S.Kept (WordOf op h) (MarkOf op h) operands) _
 
   by_op : (o : Op) → op ≡ o → Ok' (row o h)
-  by_op (Valc couple) e = post_any (S.Kept (WordOf op h) (MarkOf op h) operands) (chase h (Name couple)) _ (λ end. S.evaluates_good (WordOf op h) (MarkOf op h) operands h end source (enters_by (λ s. by_valc couple e)))
+  by_op (Valc couple) e = post_any (S.Kept (WordOf op h) (MarkOf op h) operands) (chase h (Name couple)) _ (λ end. S.evaluates_good (WordOf op h) (MarkOf op h) operands h end source (enters_by (λ level environment back. by_valc couple e)))
   by_op (Namc couple) e = push (Name couple) (inr e)
   by_op (Lt8 n) e = push (Operand n) (inr tt)
   by_op (Lt16 n) e = push (Operand n) (inr tt)

@@ -93,13 +93,13 @@ module _ (W : Word → Type 0) (M : ℕ → Standing → Type 0) (numbers : (bit
   push_good h w touched s one = cells_good h (w ∷ cells_of h) touched s (cons_words w (cells_of h) one (own_words h s))
 
   abbrev pub Enters : Type 0
-  Enters = (n level environment : ℕ) (back : Option Return) → M n (Entered level environment back)
+  Enters = (n level environment : ℕ) (back : Return) → M n (Entered level environment (Some back))
 
   pub accident_good : (h : OperatorContext) (cells : List Word) (back : Return) (end : End) → Source h → Enters → AllW cells → Good (accident h cells back end)
   accident_good h cells back (AtProc f segment level place) s enter words =
       let fs = with_top_cells h.task.frames cells in
       let fresh : Frame = record { identity = h.job.next_frame; standing = Entered level f (Some back); cells = [] } in
-      let own : AllMade (fresh ∷ fs) = λ g k. elim k [ inl e ↦ subst Made e (λ w x. absurd x, enter h.job.next_frame level f (Some back)) | inr m ↦ cells_made h.task.frames cells s.own words g m ] in
+      let own : AllMade (fresh ∷ fs) = λ g k. elim k [ inl e ↦ subst Made e (λ w x. absurd x, enter h.job.next_frame level f back) | inr m ↦ cells_made h.task.frames cells s.own words g m ] in
       post_then Kept _ _ (result_good h (record h.job { next_frame = h.job.next_frame + 1 }) (record h.task { frames = fresh ∷ fs; segment = segment; place = place }) [] None s.tasks own)
   accident_good h cells back (AtCell f offset bits) s enter words = post_err Kept _
   accident_good h cells back (AtElement a index) s enter words = post_err Kept _
@@ -123,7 +123,7 @@ module _ (W : Word → Type 0) (M : ℕ → Standing → Type 0) (numbers : (bit
   enters_good h arguments (AtProc f segment level place) s enter words =
       let back = back_to h false h.task.place in
       let entered : Frame = record (top_of h) { standing = Entered level f (Some back); cells = reverse arguments } in
-      let own : AllMade (entered ∷ below_top h.task.frames) = λ g k. elim k [ inl e ↦ subst Made e (words, enter (top_of h).identity level f (Some back)) | inr m ↦ below_made h.task.frames s.own g m ] in
+      let own : AllMade (entered ∷ below_top h.task.frames) = λ g k. elim k [ inl e ↦ subst Made e (words, enter (top_of h).identity level f back) | inr m ↦ below_made h.task.frames s.own g m ] in
       post_then Kept _ _ (result_good h h.job (record h.task { frames = entered ∷ below_top h.task.frames; segment = segment; place = place }) [] None s.tasks own)
   enters_good h arguments (AtCell f offset bits) s enter words = post_err Kept _
   enters_good h arguments (AtElement a index) s enter words = post_err Kept _

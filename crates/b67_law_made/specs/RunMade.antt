@@ -1,11 +1,12 @@
 -- What made each word, mark and return of each state of a run.
-use Rattle.std.specs.Prelude.{◌≡◌, ℕ, ◌<◌, ◌⊎◌, List, Some, None, Ok}
+use Rattle.std.specs.Prelude.{◌≡◌, ℕ, ◌<◌, ◌⊎◌, List, Option, Some, None, Ok}
 use Rattle.b67_word.specs.declared.couples.Place.{Place}
 use Rattle.b67_model.specs.declared.operators.Op.{Op}
 use Rattle.b67_model.specs.Keyed.{keyed}
 use Rattle.b67_lemmas.specs.Lists.{Has}
 use Rattle.b67_model.specs.Words.{Word}
-use Rattle.b67_model.specs.State.{Frame, Entered, Task, SessionJob}
+use Rattle.b67_model.specs.State.{Frame, Entered, Task, SessionJob, OperatorContext}
+use Rattle.b67_model.specs.Called.{called}
 use Rattle.b67_model.specs.Rows.{reading_of}
 use Rattle.b67_model.specs.Schedule.{Switch, Session, Choice, choice}
 use Rattle.b67_model.specs.Run.{number_of, after}
@@ -25,20 +26,25 @@ pub record Runs (s : Session) (job number : ℕ) (op : Op) : Type 0 where
   pub next : Place
   pub stands : reading_of member.constants task ≡ Ok (op, next)
 
--- one of the first n steps of a run was that of a task of the job, and its operator made this
-pub record EarlierStep (s : Session) (n job : ℕ) (Made : Op → Type 0) : Type 0 where
+-- where that operator is made
+abbrev pub context : {s : Session} {job number : ℕ} {op : Op} → Runs s job number op → OperatorContext
+context r = record { constants = r.member.constants; job = r.member.progress.job; task = record r.task { place = r.next }; at = r.task.place }
+
+-- one of the first n steps of a run was that of a task of the job, and its operator, with the intrinsic that it calls, if
+-- any, made this
+pub record EarlierStep (s : Session) (n job : ℕ) (Made : Op → Option ℕ → Type 0) : Type 0 where
   pub steps_before : ℕ
   pub earlier : steps_before < n
   pub number : ℕ
   pub op : Op
   pub ran : Runs (after steps_before s) job number op
-  pub made : Made op
+  pub made : Made op (called op (context ran))
 
 -- each word of a frame was made by an earlier step of its job, and so were its mark and return, but for the mark of the
 -- outer block's frame, which the loader made
 pub record FrameMadeInRun (s : Session) (n job : ℕ) (f : Frame) : Type 0 where
-  pub words : (w : Word) → Has f.cells w → EarlierStep s n job (λ op. OperatorMakes op w)
-  pub mark : ((f.identity ≡ 2) × (f.standing ≡ Entered 2 1 None)) ⊎ EarlierStep s n job (λ op. MakesMark op f.standing)
+  pub words : (w : Word) → Has f.cells w → EarlierStep s n job (λ op call. OperatorMakes op call w)
+  pub mark : ((f.identity ≡ 2) × (f.standing ≡ Entered 2 1 None)) ⊎ EarlierStep s n job (λ op call. MakesMark op call f.standing)
 
 -- each frame of a live task, after any number of steps of a deck's run
 abbrev pub RunsMakeTheirWords : Type 0

@@ -5,7 +5,7 @@ use Rattle.b67_word.specs.declared.couples.Place.{Place}
 use Rattle.b67_ctl.specs.declared.registers.Regs.{Regs}
 use Rattle.b67_lemmas.specs.Lists.{Has}
 use Rattle.b67_model.specs.Answers.{Answer}
-use Rattle.b67_model.specs.State.{Frame, Array, Task, Job, SessionJob, OperatorContext}
+use Rattle.b67_model.specs.State.{Frame, Array, Task, Job, SessionJob, OperatorContext, head_words}
 use Rattle.b67_model.specs.Keyed.{change_keyed}
 use Rattle.b67_model.specs.Arrays.{array}
 use Rattle.b67_model.specs.Steps.{Done, Goes, Leaves}
@@ -52,16 +52,15 @@ IsPresent x plan j (Some a) = (at : ℕ) × (area_held x plan j a ≡ Some at)
 abbrev pub IsInStack : Regs → ℕ → Type 0
 IsInStack r i = (r.bosr < i) × (i ≤ r.losr)
 
--- that of a cell of a live frame of the job
+-- that of a cell of a live frame of the job. The cells stand after the frame's mark, and its return where it is entered
 pub record IsLiveCell (plan : Placement) (m : SessionJob) (i : ℕ) : Type 0 where
   pub task : Task
   pub there : Has m.progress.job.tasks task
   pub frame : Frame
   pub among : Has task.frames frame
-  pub offset : ℕ
-  pub low : 2 ≤ offset
-  pub high : offset < 2 + length frame.cells
-  pub at : i ≡ frame_address plan m task frame.identity + offset
+  pub index : ℕ
+  pub inside : index < length frame.cells
+  pub at : i ≡ frame_address plan m task frame.identity + head_words frame.standing + index
 
 -- that of an element of the array that was touched
 abbrev pub IsTouched : Storage → Placement → SessionJob → Option ℕ → ℕ → Type 0

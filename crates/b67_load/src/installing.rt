@@ -46,6 +46,7 @@ fn shelve<B: Backing>(
     ensures size { B.size backing.new ≡ B.size backing.old }
     ensures refusal { IfErr result (λ fault. fault ≡ BackingFault) }
     ensures cause { HasCause B.faults backing.old backing.new result }
+    ensures calls { B.calls backing.old ≤ B.calls backing.new }
 {
     let first = match sectors.take((words.len() as u32 + 29) / 30) {
         Some(first) => first,
@@ -79,6 +80,7 @@ fn install_segment<B: Backing>(
     ensures size { B.size backing.new ≡ B.size backing.old }
     ensures refusal { IfErr result (λ fault. fault ≡ BackingFault) }
     ensures cause { HasCause B.faults backing.old backing.new result }
+    ensures calls { B.calls backing.old ≤ B.calls backing.new }
 {
     let code = segment.code.as_slice();
     let first = shelve(sectors, backing, code)?;
@@ -113,6 +115,7 @@ fn install_row<B: Backing>(
     ensures size { B.size backing.new ≡ B.size backing.old }
     ensures refusal { IfErr result (λ fault. fault ≡ BackingFault) }
     ensures cause { HasCause B.faults backing.old backing.new result }
+    ensures calls { B.calls backing.old ≤ B.calls backing.new }
 {
     let words = row.as_slice();
     let first = shelve(sectors, backing, words)?;
@@ -150,6 +153,7 @@ fn install_segments<B: Backing>(
     ensures size { B.size backing.new ≡ B.size backing.old }
     ensures refusal { IfErr result (λ fault. fault ≡ BackingFault) }
     ensures cause { HasCause B.faults backing.old backing.new result }
+    ensures calls { B.calls backing.old ≤ B.calls backing.new }
 {
     let _size = core.size();
     let mut at = base;
@@ -182,6 +186,7 @@ fn install_rows<B: Backing>(
     ensures size { B.size backing.new ≡ B.size backing.old }
     ensures refusal { IfErr result (λ fault. fault ≡ BackingFault) }
     ensures cause { HasCause B.faults backing.old backing.new result }
+    ensures calls { B.calls backing.old ≤ B.calls backing.new }
 {
     let _size = core.size();
     let mut at = base;
@@ -214,6 +219,7 @@ fn install_objects<B: Backing>(
     ensures size { B.size backing.new ≡ B.size backing.old }
     ensures refusal { IfErr result (λ fault. fault ≡ BackingFault) }
     ensures cause { HasCause B.faults backing.old backing.new result }
+    ensures calls { B.calls backing.old ≤ B.calls backing.new }
 {
     let _size = core.size();
     let segments = file.segments.as_slice();
@@ -261,6 +267,7 @@ pub fn install<B: Backing>(
     ensures size { B.size backing.new ≡ B.size backing.old }
     ensures refusal { IfErr result (λ fault. fault ≡ BackingFault) }
     ensures cause { HasCause B.faults backing.old backing.new result }
+    ensures calls { B.calls backing.old ≤ B.calls backing.new }
 {
     let _size = cpu.core.size();
     let file = program.file();

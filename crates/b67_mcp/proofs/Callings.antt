@@ -96,14 +96,15 @@ calling m t n c = by_reading m t n (reading_of m.constants t) refl c
 -- what a function that calls another asks of the machine
 abbrev pub reads_of : (k : Machine) (n : ℕ) → CallsSome k n → ReadsOperator k
 reads_of k n q =
-    let c = calling q.member q.task n q.called in
-    record { storage = q.storage; told = q.told; plan = q.plan; session = q.session; member = q.member; task = q.task; ordered = q.ordered; stands = q.stands; running = q.running; code = q.code; next = c.next; behind = (Plain Entr, c.reading) }
+    let c = calling q.runs.member q.runs.task n q.called in
+    record { runs = q.runs; code = q.code; next = c.next; behind = (Plain Entr, c.reading) }
 
 abbrev pub call_some : (k : Machine) (n : ℕ) → CallsSome k n → CallSome k.cpu
 call_some k n q =
-    let c = calling q.member q.task n q.called in
+    let r = q.runs in
+    let c = calling r.member r.task n q.called in
     record {
-      runs = record { storage = q.storage; plan = q.plan; session = q.session; member = q.member; task = q.task; ordered = q.ordered; stands = q.stands.session; running = q.running };
+      runs = record { storage = r.storage; plan = r.plan; session = r.session; member = r.member; task = r.task; ordered = r.ordered; stands = r.stands.session; running = r.running };
       reference = c.reference;
       arguments = c.arguments;
       call = c.call;

@@ -7,12 +7,10 @@ use Rattle.b67_model.specs.Rows.{step}
 use Rattle.b67_model.specs.Need.{touched_of}
 use Rattle.b67_model.specs.Lines.{run_text}
 use Rattle.b67_model.specs.Schedule.{Session}
-use Rattle.b67_model.specs.InOrder.{IsInOrderButPlaces}
 use Rattle.b67_stack.specs.declared.What.{What}
 use Rattle.b67_stack.specs.declared.What.TheVariants as what
 use Rattle.b67_stack.specs.Represents.{Storage}
 use Rattle.b67_layout.specs.Placement.{Placement}
-use Rattle.b67_layout.specs.Session.{IsRunning}
 use Rattle.b67_layout.specs.Meets.{with_job, area_held, IsInStack}
 use Rattle.b67_exec_cells.specs.Running.{code_area}
 use Rattle.b67_exec_cells.specs.Called.{called_in}
@@ -21,6 +19,7 @@ use Rattle.b67_session_lines.specs.Parts.{TookRest, TookMore}
 use Rattle.b67_task_tables.specs.declared.tables.Machine.{Machine}
 use Rattle.b67_task_tables.specs.Tables.{MachineRepresents}
 pub use Rattle.b67_task_tables.specs.Tables.{AreCountable}
+use Rattle.b67_task_tables.specs.Runs.{RunsTask}
 use Rattle.b67_mcp.specs.declared.ends.CallEnd.{CallEnd}
 use Rattle.b67_mcp.specs.declared.ends.CallEnd.TheVariants as ends
 use Rattle.b67_mcp.specs.declared.ends.Stop.{Stop}
@@ -84,17 +83,9 @@ CallMeets taken x told plan s m t n (Err _) old new paper paper' = ⊥
 
 -- the machine stands for some session in order, whose running task's operator calls this intrinsic
 pub record CallsSome (k : Machine) (n : ℕ) : Type 0 where
-  pub storage : Storage
-  pub told : Option (List (List ℕ))
-  pub plan : Placement
-  pub session : Session
-  pub member : SessionJob
-  pub task : Task
-  pub ordered : IsInOrderButPlaces session
-  pub stands : MachineRepresents storage told k plan session
-  pub running : IsRunning plan session.jobs member task
-  pub code : code_area storage plan member task ≢ None
-  pub called : called_in member task ≡ Some n
+  pub runs : RunsTask k
+  pub code : code_area runs.storage runs.plan runs.member runs.task ≢ None
+  pub called : called_in runs.member runs.task ≡ Some n
 
 -- an array of the job, which is present
 pub record IsThere (x : Storage) (plan : Placement) (m : SessionJob) (n : ℕ) : Type 0 where

@@ -15,7 +15,7 @@ use Rattle.b67_area.proofs.Separation.{IsDirectory-below_words, IsDirectory-set_
 use Rattle.b67_ctl.specs.declared.registers.Regs.{Regs}
 use Rattle.b67_lemmas.specs.Lists.{Has}
 use Rattle.b67_stack.specs.Shapes.{Location, Shape, Original, IsOriginal, Fits}
-use Rattle.b67_stack.specs.Stacks.{stack_words, words}
+use Rattle.b67_stack.specs.Stacks.{words}
 use Rattle.b67_stack.specs.MachineView.{PagedObject, MachineView, stack_of, slot_base, home_word_of}
 use Rattle.b67_stack.specs.Represents.{Storage, StacksLie, HoldsIn, info_of, Represents}
 use Rattle.b67_stack.proofs.Heights.{words-length}

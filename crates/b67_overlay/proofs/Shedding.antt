@@ -1,11 +1,12 @@
 -- What an overlay leaves of a storage.
-use Rattle.std.proofs.Common.{◌≡◌, ◌≢◌, ℕ, ◌^◌, ◌<◌, arith, List, length, Option, Some, None, refl, sym, ◌∙◌, ap, subst}
+use Rattle.std.proofs.Common.{◌≡◌, ◌≢◌, ℕ, ◌^◌, ◌<◌, ◌≤◌, ◌==◌, arith, List, length, Option, Some, None, refl, sym, ◌∙◌, ap, subst}
 use Rattle.std.proofs.lemmas.Option.{same_Some, none-some}
+use Rattle.std.proofs.lemmas.Bool.{cond-false, ne_eqb}
 use Rattle.b67_area.specs.declared.Areas.{Areas}
 use Rattle.b67_area.specs.declared.Info.{Info}
 use Rattle.b67_area.specs.Spans.{Span, area_at, first_area, area_after, without}
 use Rattle.b67_area.specs.Directory.{IsDirectory}
-use Rattle.b67_area.proofs.Laws.{area_inside}
+use Rattle.b67_area.proofs.Laws.{area_inside, area_at-without}
 use Rattle.b67_backing.specs.Shelf.{Table}
 use Rattle.b67_stack.specs.declared.Cpu.{Cpu}
 use Rattle.b67_stack.specs.Shapes.{Location}
@@ -15,7 +16,7 @@ use Rattle.b67_layout_storage.specs.Machine.{MachineRepresentsView, IsPresent, S
 use Rattle.b67_layout_storage.proofs.Helds.{held-other}
 use Rattle.b67_overlay.specs.Overlaid.{overlaid, retelling, chain_out, IsShort}
 use Rattle.b67_backing.specs.Held.{sectors_for}
-use Rattle.b67_overlay.specs.AreasEvicted.{AreasEvicted, Remains, IsShortBy}
+use Rattle.b67_overlay.specs.AreasEvicted.{AreasEvicted, EvictedBelow, Remains, IsShortBy}
 use Rattle.b67_overlay.proofs.Visits.{left_of, walk_falls, Remains-first, Remains-gone, Remains-past}
 
 pub AreasEvicted-none : (x : Storage) (spare : ℕ) → AreasEvicted x x spare
@@ -58,6 +59,29 @@ module _ (x : Storage) (told new : Option (List (List ℕ))) (says : Says x.devi
         untold = λ e. retold-none x.device new e;
         told = not_none;
       }
+
+-- the same for areas that have a word below an address
+pub EvictedBelow-none : (upto : ℕ) (x : Storage) → EvictedBelow upto x x
+EvictedBelow-none upto x = record { evicted = AreasEvicted-none x 0; stays = λ at a h e. e }
+
+pub EvictedBelow-then : (upto : ℕ) (x y z : Storage) → EvictedBelow upto x y → EvictedBelow upto y z → EvictedBelow upto x z
+EvictedBelow-then upto x y z a b = record {
+  evicted = AreasEvicted-then x y z 0 a.evicted b.evicted;
+  stays = λ at i h e. b.stays at i h (a.stays at i h e);
+}
+
+pub EvictedBelow-retelling : (upto : ℕ) (x : Storage) (told new : Option (List (List ℕ))) → Says x.device told → ((all : List (List ℕ)) → told ≡ Some all → new ≢ None) → EvictedBelow upto x (retelling x new)
+EvictedBelow-retelling upto x told new says tells = record { evicted = AreasEvicted-retelling x told new says tells 0; stays = λ at a h e. e }
+
+other_area : (low at b : ℕ) (ss : List Span) (a : Info) → at ≢ b → area_at low ss b ≡ Some a → area_at low (without low at ss) b ≡ Some a
+other_area low at b ss a n e = area_at-without low at ss b ∙ cond-false (at == b) None (area_at low ss b) (ne_eqb at b n) ∙ e
+
+pub EvictedBelow-overlaid : (upto : ℕ) (x : Storage) (told new : Option (List (List ℕ))) → Says x.device told → ((all : List (List ℕ)) → told ≡ Some all → new ≢ None)
+    → (t : PagedObject) (at : ℕ) → (x.held t.home).area ≡ Some at → at ≢ 0 → at ≤ upto → EvictedBelow upto x (overlaid x t at new)
+EvictedBelow-overlaid upto x told new says tells t at here n within = record {
+  evicted = AreasEvicted-overlaid x told new says tells t at 0 here n;
+  stays = λ b a h e. other_area x.low at b x.spans a (λ z. omega (arith, z, h, within)) e;
+}
 
 -- the object of an area
 pub at_area : (x : Storage) (cpu : Cpu) (areas : Areas) (table : Table) (told : Option (List (List ℕ))) (p : MachineView) → MachineRepresentsView x cpu areas table told p → (at : ℕ) (a : Info) → area_at x.low x.spans at ≡ Some a → (t : PagedObject) × IsPresent x p at t
@@ -104,12 +128,19 @@ first_here y cpu areas table told p spare result m f =
     subst P (sym e) (Remains-first y.low y.spans spare)
 
 -- an array that was short stays so
+pub short_at : (y : Storage) (p : MachineView) (t : PagedObject) (at wants free : ℕ) (told : Option (List (List ℕ))) → IsPresent y p at t → IsShort y t × (wants ≡ sectors_for (length t.numbers)) × (free ≡ length y.shelf.free)
+    → (short : IsShortBy (retelling y told) p wants free) × (short.at ≡ at)
+short_at y p t at wants free told pr s = (
+  record {
+    object = t;
+    at = at;
+    present = record { there = pr.there; present = pr.present };
+    short = record { kind = s.0.kind; none = s.0.none; few = s.0.few };
+    wants_is = s.1;
+    free_is = s.2;
+  },
+  refl,
+)
+
 pub short_by : (y : Storage) (p : MachineView) (t : PagedObject) (at wants free : ℕ) (told : Option (List (List ℕ))) → IsPresent y p at t → IsShort y t × (wants ≡ sectors_for (length t.numbers)) × (free ≡ length y.shelf.free) → IsShortBy (retelling y told) p wants free
-short_by y p t at wants free told pr s = record {
-  object = t;
-  at = at;
-  present = record { there = pr.there; present = pr.present };
-  short = record { kind = s.0.kind; none = s.0.none; few = s.0.few };
-  wants_is = s.1;
-  free_is = s.2;
-}
+short_by y p t at wants free told pr s = (short_at y p t at wants free told pr s).0

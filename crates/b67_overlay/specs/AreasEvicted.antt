@@ -1,5 +1,5 @@
 -- What remains of a storage where areas were given back.
-use Rattle.std.specs.Prelude.{◌≡◌, ◌≢◌, ℕ, ◌≤◌, ◌⊎◌, List, length, Option, Some, None}
+use Rattle.std.specs.Prelude.{◌≡◌, ◌≢◌, ℕ, ◌<◌, ◌≤◌, ◌⊎◌, List, length, Option, Some, None}
 use Rattle.b67_area.specs.declared.Info.{Info}
 use Rattle.b67_area.specs.Spans.{Span, area_at}
 use Rattle.b67_backing.specs.Held.{sectors_for}
@@ -15,6 +15,16 @@ pub record AreasEvicted (x y : Storage) (spare : ℕ) : Type 0 where
   pub spared : (home : ℕ) → (x.held home).area ≡ Some spare → y.held home ≡ x.held home
   pub untold : x.device ≡ None → y.device ≡ None
   pub told : x.device ≢ None → y.device ≢ None
+
+-- an area's head stands before its address, so the areas at addresses above `upto` are those without a word below it.
+-- Each of them is where it was, with the same words and the same chain
+abbrev pub StaysAbove : ℕ → Storage → Storage → Type 0
+StaysAbove upto x y = (at : ℕ) (a : Info) → upto < at → area_at x.low x.spans at ≡ Some a → area_at y.low y.spans at ≡ Some a
+
+-- areas were given back, and none without a word below `upto`
+pub record EvictedBelow (upto : ℕ) (x y : Storage) : Type 0 where
+  pub evicted : AreasEvicted x y 0
+  pub stays : StaysAbove upto x y
 
 -- the next area of a walk upwards is there, and all areas but that at `spare` are this one or lie above it
 abbrev pub Remains : ℕ → List Span → ℕ → Option ℕ → Type 0

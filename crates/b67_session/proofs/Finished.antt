@@ -78,24 +78,42 @@ finish c told plan s m t ending mid tasks progress o single e counted job made i
       },
     )
 
-module _ (known : Option (List (List ℕ))) (exact : Type 0) (s : Session) (m : SessionJob) (t : Task) (o : IsInOrderButPlaces s) (single : IsSingle s m t) (c : Chosen) (chosen : choice s ≡ Some (choice_of c)) (job : c.job ≡ m.constants.number) (number : c.number ≡ t.number) where
+-- the task of a session of one, in order, has the turn
+pub record OneTurn (s : Session) (m : SessionJob) (t : Task) (c : Chosen) : Type 0 where
+  pub ordered : IsInOrderButPlaces s
+  pub single : IsSingle s m t
+  pub choice : choice s ≡ Some (choice_of c)
+  pub job : c.job ≡ m.constants.number
+  pub number : c.number ≡ t.number
+
+-- and its operator was made
+pub record OneStep (s : Session) (m : SessionJob) (t : Task) (c : Chosen) : Type 0 where
+  pub turn : OneTurn s m t c
+  pub made : Job
+  pub printed : List Line
+  pub touched : Option ℕ
+  pub is : step m.constants m.progress.job t ≡ Ok (Goes made printed touched)
+  pub same : profiles made.tasks ≡ profiles m.progress.job.tasks
+  pub next_is : made.next_task ≡ m.progress.job.next_task
+
+module _ {s : Session} {m : SessionJob} {t : Task} {c : Chosen} (u : OneTurn s m t c) where
   abbrev last : JobMoment
-  last = jm s m t single (choice_of c) chosen job number
+  last = jm s m t u.single (choice_of c) u.choice u.job u.number
 
   -- the whole step, by what is made of its job
   step_made : (made : JobMoment) → last ≡ made → made.alive ≡ 1 → next s ≡ Some (record { session = finished s m (choice_of c) made.progress; lines = of_job m.constants.number made.lines })
   step_made made is alive =
-      moment_is s m t single (choice_of c) chosen job number
+      moment_is s m t u.single (choice_of c) u.choice u.job u.number
       ∙ ap (λ (x : JobMoment). Some (record { session = with_moment s (choice_of c) m x; lines = of_job c.job x.lines })) is
-      ∙ ap (λ (z : Session). Some (record { session = z; lines = of_job c.job made.lines })) (finished_is s m t single (choice_of c) job made alive)
-      ∙ ap (λ (n : ℕ). Some (record { session = finished s m (choice_of c) made.progress; lines = of_job n made.lines })) job
+      ∙ ap (λ (z : Session). Some (record { session = z; lines = of_job c.job made.lines })) (finished_is s m t u.single (choice_of c) u.job made alive)
+      ∙ ap (λ (n : ℕ). Some (record { session = finished s m (choice_of c) made.progress; lines = of_job n made.lines })) u.job
 
   first_made : (answer : Answer Done) → step m.constants m.progress.job t ≡ answer → (made : JobMoment) → moment_with m.progress t (settles m.progress.job t answer) (settles m.progress.job t answer).settled ≡ made → made.alive ≡ 1
       → first_part s ≡ Some (record { session = finished s m (choice_of c) made.progress; lines = of_job m.constants.number made.lines })
   first_made answer e made is alive =
-      first_of_answer s m t single (choice_of c) chosen job number answer e made is
-      ∙ ap (λ (z : Session). Some (record { session = z; lines = of_job c.job made.lines })) (finished_is s m t single (choice_of c) job made alive)
-      ∙ ap (λ (n : ℕ). Some (record { session = finished s m (choice_of c) made.progress; lines = of_job n made.lines })) job
+      first_of_answer s m t u.single (choice_of c) u.choice u.job u.number answer e made is
+      ∙ ap (λ (z : Session). Some (record { session = z; lines = of_job c.job made.lines })) (finished_is s m t u.single (choice_of c) u.job made alive)
+      ∙ ap (λ (n : ℕ). Some (record { session = finished s m (choice_of c) made.progress; lines = of_job n made.lines })) u.job
 
   -- the step that ended the task by itself
   abbrev pub left_course : Ending → JobProgress
@@ -108,7 +126,7 @@ module _ (known : Option (List (List ℕ))) (exact : Type 0) (s : Session) (m : 
   left_by ending = record { progress = left_course ending; alive = 1; lines = (t.number, Ends ending) ∷ [] }
 
   one_alive : length m.progress.job.tasks ≡ 1
-  one_alive = ap (λ (ts : List Task). length ts) single.tasks
+  one_alive = ap (λ (ts : List Task). length ts) u.single.tasks
 
   -- the endings of a step with these endings and this job
   closed : (e : Ending) (z : Settled) → z ≡ ends_by e m.progress.job t → moment_with m.progress t (ends_with m.progress.job t.number e) z ≡ left_by e
@@ -120,12 +138,12 @@ module _ (known : Option (List (List ℕ))) (exact : Type 0) (s : Session) (m : 
       → (next s ≡ Some (left_moment e)) × (first_part s ≡ Some (left_moment e))
   by_answer e answer at is =
       let z : Settled = deadlocked (ends_task m.progress.job t.number e) in
-      let settled : z ≡ ends_by e m.progress.job t = last_settled m.progress.job t e single.tasks single.ready single.first in
-      let none = none_left m.progress.job t e single.tasks single.ready single.first in
+      let settled : z ≡ ends_by e m.progress.job t = last_settled m.progress.job t e u.single.tasks u.single.ready u.single.first in
+      let none = none_left m.progress.job t e u.single.tasks u.single.ready u.single.first in
       let limit : limited m.constants.limit (m.progress.made + 1) z ≡ ends_by e m.progress.job t =
       ap (limited m.constants.limit (m.progress.made + 1)) settled ∙ limited_none m.constants.limit (m.progress.made + 1) (ends_by e m.progress.job t) none in
       let of : last ≡ left_by e =
-      of_answer s m t single (choice_of c) chosen job number answer at
+      of_answer s m t u.single (choice_of c) u.choice u.job u.number answer at
       ∙ ap (λ (p : Stepped). moment_with m.progress t p (limited m.constants.limit (m.progress.made + 1) p.settled)) is ∙ closed e (limited m.constants.limit (m.progress.made + 1) z) limit in (
         step_made (left_by e) of refl,
         first_made answer at (left_by e) (ap (λ (p : Stepped). moment_with m.progress t p p.settled) is ∙ closed e z settled) refl,
@@ -138,106 +156,106 @@ module _ (known : Option (List (List ℕ))) (exact : Type 0) (s : Session) (m : 
   by_itself Deadlock at = absurd at
   by_itself Limit at = absurd at
 
-  pub ends_rests : (k new : Machine) (x : Storage) (plan : Placement) (ending : Ending) → MachineRepresents x known k plan s → Finishes c ending (Ok ends.Over) k new → RepresentsWithoutTasks known new (left_moment ending).session
-  ends_rests k new x plan ending h f =
-      let (y, q, stands) = f x known plan s m t (left_course ending) o h single job refl refl in
-      record { storage = y; plan = q; stands = stands; none = none_lives (left_moment ending).session (record m { progress = left_course ending }) refl (none_left m.progress.job t ending single.tasks single.ready single.first) }
+  pub ends_rests : (known : Option (List (List ℕ))) (k new : Machine) (x : Storage) (plan : Placement) (ending : Ending) → MachineRepresents x known k plan s → Finishes c ending (Ok ends.Over) k new → RepresentsWithoutTasks known new (left_moment ending).session
+  ends_rests known k new x plan ending h f =
+      let (y, q, stands) = f x known plan s m t (left_course ending) u.ordered h u.single u.job refl refl in
+      record { storage = y; plan = q; stands = stands; none = none_lives (left_moment ending).session (record m { progress = left_course ending }) refl (none_left m.progress.job t ending u.single.tasks u.single.ready u.single.first) }
 
-  -- the operator that was made
-  module _ (made : Job) (printed : List Line) (touched : Option ℕ) (is : step m.constants m.progress.job t ≡ Ok (Goes made printed touched)) (same : profiles made.tasks ≡ profiles m.progress.job.tasks) (next_is : made.next_task ≡ m.progress.job.next_task) where
-    abbrev pub one_left : OneTask t made.tasks
-    one_left = one s m t single o made printed touched is same next_is
+-- the operator that was made
+module _ {s : Session} {m : SessionJob} {t : Task} {c : Chosen} (p : OneStep s m t c) where
+  abbrev pub one_left : OneTask t p.made.tasks
+  one_left = one s m t p.turn.single p.turn.ordered p.made p.printed p.touched p.is p.same p.next_is
 
-    abbrev pub half_member : SessionJob
-    half_member = record m { progress = record m.progress { job = made; made = m.progress.made + 1 } }
+  abbrev pub half_member : SessionJob
+  half_member = record m { progress = record m.progress { job = p.made; made = m.progress.made + 1 } }
 
-    abbrev pub half : Session
-    half = finished s m (choice_of c) half_member.progress
+  abbrev pub half : Session
+  half = finished s m (choice_of c) half_member.progress
 
-    alive : length made.tasks ≡ 1
-    alive = ap (λ (ts : List Task). length ts) one_left.is
+  alive : length p.made.tasks ≡ 1
+  alive = ap (λ (ts : List Task). length ts) one_left.is
 
-    open_job : deadlocked (unsettled made) ≡ unsettled made
-    open_job = not_deadlocked made one_left.task one_left.is one_left.ready one_left.first
+  open_job : deadlocked (unsettled p.made) ≡ unsettled p.made
+  open_job = not_deadlocked p.made one_left.task one_left.is one_left.ready one_left.first
 
-    abbrev half_by : JobMoment
-    half_by = record { progress = half_member.progress; alive = 1; lines = map (λ line. (t.number, line)) printed }
+  abbrev half_by : JobMoment
+  half_by = record { progress = half_member.progress; alive = 1; lines = map (λ line. (t.number, line)) p.printed }
 
-    half_made : moment_with m.progress t (goes_on made printed touched) (deadlocked (unsettled made)) ≡ half_by
-    half_made =
-        ap (λ (z : Settled). moment_with m.progress t (goes_on made printed touched) z) open_job
-        ∙ ap (λ (n : ℕ). record { progress = record m.progress { job = made; made = m.progress.made + 1; ended = m.progress.ended ++ [] }; alive = n; lines = map (λ line. (t.number, line)) printed ++ [] }) alive
-        ∙ ap (λ (es : List (ℕ × Ending)). record { progress = record m.progress { job = made; made = m.progress.made + 1; ended = es }; alive = 1; lines = map (λ line. (t.number, line)) printed ++ [] }) (append-nil m.progress.ended)
-        ∙ ap (λ (ls : List (ℕ × Line)). record { progress = half_member.progress; alive = 1; lines = ls }) (append-nil (map (λ line. (t.number, line)) printed))
+  half_made : moment_with m.progress t (goes_on p.made p.printed p.touched) (deadlocked (unsettled p.made)) ≡ half_by
+  half_made =
+      ap (λ (z : Settled). moment_with m.progress t (goes_on p.made p.printed p.touched) z) open_job
+      ∙ ap (λ (n : ℕ). record { progress = record m.progress { job = p.made; made = m.progress.made + 1; ended = m.progress.ended ++ [] }; alive = n; lines = map (λ line. (t.number, line)) p.printed ++ [] }) alive
+      ∙ ap (λ (es : List (ℕ × Ending)). record { progress = record m.progress { job = p.made; made = m.progress.made + 1; ended = es }; alive = 1; lines = map (λ line. (t.number, line)) p.printed ++ [] }) (append-nil m.progress.ended)
+      ∙ ap (λ (ls : List (ℕ × Line)). record { progress = half_member.progress; alive = 1; lines = ls }) (append-nil (map (λ line. (t.number, line)) p.printed))
 
-    pub half_first : first_part s ≡ Some (record { session = half; lines = task_lines m t printed })
-    half_first = first_made (Ok (Goes made printed touched)) is half_by half_made refl
+  pub half_first : first_part s ≡ Some (record { session = half; lines = task_lines m t p.printed })
+  half_first = first_made p.turn (Ok (Goes p.made p.printed p.touched)) p.is half_by half_made refl
 
-    pub half_single : IsSingle half half_member one_left.task
-    half_single = record { jobs = refl; tasks = one_left.is; ready = one_left.ready; first = one_left.first; peak = single.peak }
+  pub half_single : IsSingle half half_member one_left.task
+  half_single = record { jobs = refl; tasks = one_left.is; ready = one_left.ready; first = one_left.first; peak = p.turn.single.peak }
 
-    pub half_tables : (plan : Placement) (old new : Tasks) → TasksShow plan (with_job s m made) old → IsCounted c old new → TasksShow plan half new
-    half_tables plan old new shows counted =
-        let moment : JobMoment = record { progress = half_member.progress; alive = 1; lines = [] } in
-        let there : keyed number_of c.job s.jobs ≡ Some m = ap (λ (n : ℕ). keyed number_of n s.jobs) job ∙ found s m t single in
-        subst (λ (z : Session). TasksShow plan z new) (finished_is s m t single (choice_of c) job moment refl) (counted.shows plan s m moment o.numbered there refl shows)
+  pub half_tables : (plan : Placement) (old new : Tasks) → TasksShow plan (with_job s m p.made) old → IsCounted c old new → TasksShow plan half new
+  half_tables plan old new shows counted =
+      let moment : JobMoment = record { progress = half_member.progress; alive = 1; lines = [] } in
+      let there : keyed number_of c.job s.jobs ≡ Some m = ap (λ (n : ℕ). keyed number_of n s.jobs) p.turn.job ∙ found s m t p.turn.single in
+      subst (λ (z : Session). TasksShow plan z new) (finished_is s m t p.turn.single (choice_of c) p.turn.job moment refl) (counted.shows plan s m moment p.turn.ordered.numbered there refl shows)
 
-    pub half_stands : (k : Machine) (x : Storage) (plan : Placement) (tasks : Tasks) → MachineRepresents x known k plan (with_job s m made) → IsCounted c k.tasks tasks → MachineRepresents x known (record k { tasks = tasks }) plan half
-    half_stands k x plan tasks h counted = record {
-      session = stands_with s m t single x k.cpu plan half_member.progress half refl refl h.session;
-      storage = h.storage;
-      tables = half_tables plan k.tasks tasks h.tables counted;
-    }
+  pub half_stands : {known : Option (List (List ℕ))} (k : Machine) (x : Storage) (plan : Placement) (tasks : Tasks) → MachineRepresents x known k plan (with_job s m p.made) → IsCounted c k.tasks tasks → MachineRepresents x known (record k { tasks = tasks }) plan half
+  half_stands {known} k x plan tasks h counted = record {
+    session = stands_with s m t p.turn.single x k.cpu plan half_member.progress half refl refl h.session;
+    storage = h.storage;
+    tables = half_tables plan k.tasks tasks h.tables counted;
+  }
 
-    pub made_one : (k : Machine) (x : Storage) (plan : Placement) → MachineRepresents x known k plan (with_job s m made) → HasOne k
-    made_one k x plan h = record {
-      tables = k.tasks;
-      same = record { rows = refl; running = refl };
-      storage = x;
-      told = known;
-      plan = plan;
-      session = with_job s m made;
-      member = record m { progress = record m.progress { job = made } };
-      task = one_left.task;
-      ordered = ordered_with s m t single o made printed touched is same next_is;
-      stands = h;
-      single = single_with s m t single o made printed touched is same next_is;
-    }
+  pub made_one : {known : Option (List (List ℕ))} (k : Machine) (x : Storage) (plan : Placement) → MachineRepresents x known k plan (with_job s m p.made) → HasOne k
+  made_one {known} k x plan h = record {
+    tables = k.tasks;
+    same = record { rows = refl; running = refl };
+    storage = x;
+    told = known;
+    plan = plan;
+    session = with_job s m p.made;
+    member = record m { progress = record m.progress { job = p.made } };
+    task = one_left.task;
+    ordered = ordered_with s m t p.turn.single p.turn.ordered p.made p.printed p.touched p.is p.same p.next_is;
+    stands = h;
+    single = single_with s m t p.turn.single p.turn.ordered p.made p.printed p.touched p.is p.same p.next_is;
+  }
 
-    -- it was the last that its job may make
-    pub half_limited : (k new : Machine) (x : Storage) (plan : Placement) → MachineRepresents x known k plan (with_job s m made) → MachineRepresents x known new plan half → new.tasks.rows ≡ k.tasks.rows → new.tasks.running ≡ k.tasks.running
-        → new ≡ record k { tasks = new.tasks } → m.progress.made + 1 ≡ m.constants.limit → IsLimited known new half half_member one_left.task
-    half_limited k new x plan before h rows running rest limit = record {
-      storage = x;
-      plan = plan;
-      single = half_single;
-      limit = limit;
-      last = job;
-      named = number ∙ sym one_left.number;
-      stands = h;
-      session = with_job s m made;
-      made = m.progress.made;
-      ordered = ordered_with s m t single o made printed touched is same next_is;
-      single_before = single_with s m t single o made printed touched is same next_is;
-      peak = refl;
-      tables = k.tasks;
-      same = record { rows = sym rows; running = sym running };
-      stands_before = subst (λ (z : Machine). MachineRepresents x known (record z { tasks = k.tasks }) plan (with_job s m made)) (sym rest) (record { session = before.session; storage = before.storage; tables = before.tables });
-    }
+  -- it was the last that its job may make
+  pub half_limited : {known : Option (List (List ℕ))} (k new : Machine) (x : Storage) (plan : Placement) → MachineRepresents x known k plan (with_job s m p.made) → MachineRepresents x known new plan half → new.tasks.rows ≡ k.tasks.rows → new.tasks.running ≡ k.tasks.running
+      → new ≡ record k { tasks = new.tasks } → m.progress.made + 1 ≡ m.constants.limit → IsLimited known new half half_member one_left.task
+  half_limited {known} k new x plan before h rows running rest limit = record {
+    storage = x;
+    plan = plan;
+    single = half_single;
+    limit = limit;
+    last = p.turn.job;
+    named = p.turn.number ∙ sym one_left.number;
+    stands = h;
+    session = with_job s m p.made;
+    made = m.progress.made;
+    ordered = ordered_with s m t p.turn.single p.turn.ordered p.made p.printed p.touched p.is p.same p.next_is;
+    single_before = single_with s m t p.turn.single p.turn.ordered p.made p.printed p.touched p.is p.same p.next_is;
+    peak = refl;
+    tables = k.tasks;
+    same = record { rows = sym rows; running = sym running };
+    stands_before = subst (λ (z : Machine). MachineRepresents x known (record z { tasks = k.tasks }) plan (with_job s m p.made)) (sym rest) (record { session = before.session; storage = before.storage; tables = before.tables });
+  }
 
-    abbrev limit_course : JobProgress
-    limit_course = record m.progress { job = (ends_task made one_left.task.number Limit).job; made = m.progress.made + 1; ended = m.progress.ended ++ (one_left.task.number, Limit) ∷ [] }
+  abbrev limit_course : JobProgress
+  limit_course = record m.progress { job = (ends_task p.made one_left.task.number Limit).job; made = m.progress.made + 1; ended = m.progress.ended ++ (one_left.task.number, Limit) ∷ [] }
 
-    abbrev limit_by : JobMoment
-    limit_by = record { progress = limit_course; alive = 1; lines = map (λ line. (t.number, line)) printed ++ (one_left.task.number, Ends Limit) ∷ [] }
+  abbrev limit_by : JobMoment
+  limit_by = record { progress = limit_course; alive = 1; lines = map (λ line. (t.number, line)) p.printed ++ (one_left.task.number, Ends Limit) ∷ [] }
 
-    pub limit_next : (m.progress.made + 1 == m.constants.limit) ≡ true → next s ≡ Some (record { session = finished s m (choice_of c) limit_course; lines = task_lines m t printed ++ task_lines half_member one_left.task (Ends Limit ∷ []) })
-    limit_next at =
-        let ended : limited m.constants.limit (m.progress.made + 1) (deadlocked (unsettled made)) ≡ ends_by Limit made one_left.task =
-        ap (limited m.constants.limit (m.progress.made + 1)) open_job ∙ ap (λ (b : Bool). ends_each_if b Limit (unsettled made)) at ∙ limit_ends made one_left.task one_left.is one_left.ready one_left.first in
-        let of : last ≡ limit_by =
-        of_answer s m t single (choice_of c) chosen job number (Ok (Goes made printed touched)) is
-        ∙ ap (moment_with m.progress t (goes_on made printed touched)) ended
-        ∙ ap (λ (n : ℕ). record { progress = limit_course; alive = n; lines = limit_by.lines }) alive in
-        step_made limit_by of refl
-        ∙ ap (λ (ls : List RunLine). Some (record { session = finished s m (choice_of c) limit_course; lines = ls })) (map-append (λ (x : ℕ × Line). (m.constants.number, x.0, x.1)) (map (λ line. (t.number, line)) printed) ((one_left.task.number, Ends Limit) ∷ []))
+  pub limit_next : (m.progress.made + 1 == m.constants.limit) ≡ true → next s ≡ Some (record { session = finished s m (choice_of c) limit_course; lines = task_lines m t p.printed ++ task_lines half_member one_left.task (Ends Limit ∷ []) })
+  limit_next at =
+      let ended : limited m.constants.limit (m.progress.made + 1) (deadlocked (unsettled p.made)) ≡ ends_by Limit p.made one_left.task =
+      ap (limited m.constants.limit (m.progress.made + 1)) open_job ∙ ap (λ (b : Bool). ends_each_if b Limit (unsettled p.made)) at ∙ limit_ends p.made one_left.task one_left.is one_left.ready one_left.first in
+      let of : last p.turn ≡ limit_by =
+      of_answer s m t p.turn.single (choice_of c) p.turn.choice p.turn.job p.turn.number (Ok (Goes p.made p.printed p.touched)) p.is
+      ∙ ap (moment_with m.progress t (goes_on p.made p.printed p.touched)) ended
+      ∙ ap (λ (n : ℕ). record { progress = limit_course; alive = n; lines = limit_by.lines }) alive in
+      step_made p.turn limit_by of refl
+      ∙ ap (λ (ls : List RunLine). Some (record { session = finished s m (choice_of c) limit_course; lines = ls })) (map-append (λ (x : ℕ × Line). (m.constants.number, x.0, x.1)) (map (λ line. (t.number, line)) p.printed) ((one_left.task.number, Ends Limit) ∷ []))

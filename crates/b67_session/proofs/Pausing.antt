@@ -7,7 +7,7 @@ use Rattle.b67_model.specs.Schedule.{Session}
 use Rattle.b67_task_tables.specs.declared.tables.Machine.{Machine}
 use Rattle.b67_session.specs.declared.slices.Progress.{Progress}
 use Rattle.b67_session.specs.declared.slices.Progress.TheVariants as progress
-use Rattle.b67_session.specs.Slices.{Pauses, Slices, EndsWithoutTasks}
+use Rattle.b67_session.specs.Slices.{Pauses, Slices}
 use Rattle.b67_session.proofs.Going.{Going, going-halted, going-ended}
 
 -- what is known later is what the device then tells, if anything
@@ -31,14 +31,7 @@ retold_twice (Some all) None told' tells = absurd (tells (λ e. absurd (none-som
 retold_twice (Some all) (Some other) told' tells = refl
 
 pub pause_slices : {K : Type 0} (taken : K → Option (List ℕ)) (exact : Type 0) (known : Option (List (List ℕ))) (count n steps : ℕ) (first : Session) (old now : Machine) (paper paper' : K) → Going taken exact known steps first old now paper paper'
-    → steps ≤ n → (p : Progress) → Pauses now.tasks (Some p) → Slices taken known exact count n first (Ok p) old now paper paper'
+    → steps ≤ n → (p : Progress) → Pauses now.tasks now.tasks.halt (Some p) → Slices taken known exact count n first (Ok p) old now paper paper'
 pause_slices taken exact known count n steps first old now paper paper' g few progress.Ended h = going-ended taken exact known count n steps first old now paper paper' g h
 pause_slices taken exact known count n steps first old now paper paper' g few progress.Halted h = going-halted taken exact known count n steps first old now paper paper' g few h
 pause_slices taken exact known count n steps first old now paper paper' g few progress.More h = absurd h
-
--- a slice that pauses has a task
-pub pause_over : {K : Type 0} (taken : K → Option (List ℕ)) (exact : Type 0) (known : Option (List (List ℕ))) (count n steps : ℕ) (first : Session) (old now : Machine) (paper paper' : K) → Going taken exact known steps first old now paper paper'
-    → (p : Progress) → Pauses now.tasks (Some p) → p ≡ progress.Ended → EndsWithoutTasks known exact first old now
-pause_over taken exact known count n steps first old now paper paper' g progress.Ended h e = going-ended taken exact known count n steps first old now paper paper' g h
-pause_over taken exact known count n steps first old now paper paper' g progress.Halted h e = absurd cc
-pause_over taken exact known count n steps first old now paper paper' g progress.More h e = absurd h

@@ -1,5 +1,5 @@
 -- What a step of a session's one task answers, prints and leaves; what its end makes of the tables.
-use Rattle.std.specs.Prelude.{◌≡◌, ◌≢◌, ◌⊎◌, ℕ, ◌+◌, ◌-◌, ◌==◌, ◌≤◌, Bool, true, false, List, [], ◌∷◌, ◌++◌, length, codes, Option, Some, None, Result, Ok, Err, slice_get}
+use Rattle.std.specs.Prelude.{◌≡◌, ◌≢◌, ℕ, ◌+◌, ◌-◌, ◌==◌, ◌≤◌, Bool, true, false, List, [], ◌∷◌, ◌++◌, length, codes, Option, Some, None, Result, Ok, Err, slice_get}
 use Rattle.b67_word.specs.declared.faults.Ending.{Ending}
 use Rattle.b67_word.specs.declared.faults.Ending.TheVariants.{Limit}
 use Rattle.b67_io.specs.Line.{ended}
@@ -29,7 +29,7 @@ use Rattle.b67_session_attempt.specs.Stops.{Stop}
 use Rattle.b67_session_attempt.specs.Stops as stops
 use Rattle.b67_session.specs.declared.ends.StepEnd.{StepEnd}
 use Rattle.b67_session.specs.declared.ends.StepEnd.TheVariants as ends
-use Rattle.b67_session.specs.Slices.{IsLone, Prints, SliceMeets, RepresentsWithoutTasks, NextFits}
+use Rattle.b67_session.specs.Slices.{IsLone, Prints, PrintsWhole, NextFits, SliceMeets, RepresentsWithoutTasks}
 
 -- ---- counts
 
@@ -123,13 +123,13 @@ pub data Leads (s : Session) (steps : ℕ) (after : Session) (printed : List Run
   halves : (part : StepResult) → steps ≡ 1 → first_part s ≡ Some part → part.session ≡ after → last_part after ≢ None → part.lines ≡ printed → Leads s steps after printed
 
 -- how a step ended that led from a session to another, over a core of so many words and a device of so many sectors, of
--- which this is known. One that wasn't made ends as a slice of no steps. `exact` is whether anything was known of them at
--- the start
+-- which this is known. One that stopped ends as a slice of one step. `exact` is whether anything was known of them at the
+-- start
 abbrev pub StepMeets : Option (List (List ℕ)) → Type 0 → ℕ → ℕ → ℕ → Session → Session → List RunLine → List ℕ → Result StepEnd Stop → Machine → Type 0
 StepMeets known exact core count steps was s printed is_due (Ok ends.GoesOn) new =
-    (steps ≡ 1) × StepGives was s printed × ((m : SessionJob) × (t : Task) × IsLone known new s m t) × (new.tasks.printed ≡ 0)
+    (steps ≡ 1) × StepGives was s printed × ((m : SessionJob) × (t : Task) × IsLone known new s m t)
 StepMeets known exact core count steps was s printed is_due (Ok ends.Over) new = (steps ≡ 1) × (exact → StepGives was s printed) × RepresentsWithoutTasks known new s
-StepMeets known exact core count steps was s printed is_due (Err stop) new = SliceMeets known exact core count 0 0 s is_due (Err stop) new
+StepMeets known exact core count steps was s printed is_due (Err stop) new = SliceMeets known exact core count 1 steps s is_due (Err stop) new
 
 -- Where it is known what the device's sectors hold, the step is that of the session. Where nothing is known, it is that of
 -- a session with some other code and some other numbers.
@@ -140,15 +140,13 @@ pub record Steps {K : Type 0} (taken : K → Option (List ℕ)) (known : Option 
   pub few : steps ≤ 1
   pub session : Session
   pub printed : List RunLine
-  pub leads : exact → Leads was steps session printed
   pub made : new.tasks.made ≡ old.tasks.made + steps
+  pub leads : exact → Leads was steps session printed
+  pub fits : exact → 1 ≤ steps → NextFits (length old.cpu.core) s
   pub was_due : List ℕ
   pub is_due : List ℕ
   pub was_is : exact → was_due ≡ due was
   pub next_is : exact → is_due ≡ due session
   pub prints : Prints taken paper paper' was_due old.tasks.printed printed is_due new.tasks.printed
+  pub texts : answered ≢ Err stops.PrintFault → PrintsWhole steps old new paper paper'
   pub meets : StepMeets known exact (length old.cpu.core) count steps was session printed is_due answered new
-
--- a step was not made, or core has the words that it needs
-abbrev pub StepFits : ℕ → Session → Machine → Machine → Type 0
-StepFits core s old new = (new.tasks.made ≡ old.tasks.made) ⊎ NextFits core s

@@ -25,7 +25,8 @@ use Rattle.b67_stack.specs.Represents.{Storage}
 use Rattle.b67_layout.specs.Placement.{Placement}
 use Rattle.b67_layout.specs.Session.{IsRunning}
 use Rattle.b67_layout.specs.Meets.{here, area_held, IsPresent}
-use Rattle.b67_model.specs.Called.{called_on, called}
+use Rattle.b67_layout.proofs.Others.{keyed-has}
+use Rattle.b67_model.specs.Called.{called_at, called_by, called_on, called}
 use Rattle.b67_exec_cells.specs.Running.{code_area}
 use Rattle.b67_exec_cells.specs.Called as operators
 use Rattle.b67_exec_cells.specs.Called.{called_in}
@@ -61,7 +62,7 @@ module _ (m : SessionJob) (t : Task) (a : ℕ) where
     where
       called_is : (next : Place) (r : Word) (arguments : List Word) → reverse (top t.frames).cells ≡ r ∷ arguments → follow_reference (here m t next) r ≡ Ok (AtIntrinsic 10) → called_on (here m t next) Marked ≡ Some 10
       called_is next r arguments is ends =
-          ap (Rattle.b67_law_order_steps.specs.Profiles.called_by (here m t next)) is ∙ ap Rattle.b67_law_order_steps.specs.Profiles.called_at ends
+          ap (called_by (here m t next)) is ∙ ap called_at ends
 
   by_code : (code : Code) (next : Place) → called (Plain code) (here m t next) ≡ None → touched_before_fault m.constants m.progress.job t (Ok (Plain code, next)) ≢ Some a
   by_code Entr next none e = by_standing next (top t.frames).standing (reverse (top t.frames).cells) refl none e
@@ -116,8 +117,8 @@ module _ (x : Storage) (told : Option (List (List ℕ))) (plan : Placement) (s :
   leaves_touches is a e = absurd (none-some a (sym (ap touched is) ∙ e))
 
   module _ (o : IsInOrderButPlaces s) (runs : IsRunning plan s.jobs m t) where
-    pub made_touches : (new : Machine) → OperatorMade x told plan s m t new → TouchesPresent x plan m t
-    made_touches new h a e =
+    pub made_touches : (old new : Machine) → OperatorMade x told plan s m t old new → TouchesPresent x plan m t
+    made_touches old new h a e =
         let same : h.touched ≡ Some a = sym (ap touched h.is) ∙ e in
         let is : step m.constants m.progress.job t ≡ Ok (Goes h.job [] (Some a)) = h.is ∙ ap (λ (q : Option ℕ). Ok (Goes h.job [] q)) same in
         let (array, among, named) = touches_arrays s m t o (keyed-has number_of m.constants.number s.jobs m runs.member) (keyed-has (λ (u : Task). u.number) t.number m.progress.job.tasks t runs.task) h.job [] a is in

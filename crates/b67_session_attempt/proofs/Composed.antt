@@ -1,9 +1,10 @@
 -- One attempt of several tries.
-use Rattle.std.proofs.Common.{◌≡◌, ◌≢◌, ℕ, ◌+◌, List, Option, Some, None, Result, Ok, Err, refl, sym, ◌∙◌, ap, subst}
+use Rattle.std.proofs.Common.{◌≡◌, ◌≢◌, ℕ, ◌+◌, ◌≤◌, List, Option, Some, None, Result, Ok, Err, refl, sym, ◌∙◌, ap, subst}
 use Rattle.std.proofs.lemmas.Option.{same_Some}
 use Rattle.b67_word.specs.declared.faults.Ending.{Ending}
 use Rattle.b67_model.specs.State.{Ready, Task, SessionJob}
 use Rattle.b67_model.specs.Keyed.{keyed}
+use Rattle.b67_model.specs.Need.{need}
 use Rattle.b67_model.specs.Run.{number_of}
 use Rattle.b67_model.specs.Schedule.{Session}
 use Rattle.b67_model.specs.InOrder.{IsInOrderButPlaces}
@@ -28,7 +29,7 @@ use Rattle.b67_session_attempt.specs.declared.attempts.Attempt.TheVariants as at
 use Rattle.b67_session_attempt.specs.declared.tries.Tried.TheVariants as tries
 use Rattle.b67_session_attempt.specs.Tries.{IsTouched, TryMeets, TryFits}
 use Rattle.b67_session_attempt.specs.Attempts.{RunsOver, AttemptMeets, Attempts, AttemptFits, TablesStay}
-use Rattle.b67_session_attempt.specs.Brought.{WantsNothing, StopMeets, Stopped}
+use Rattle.b67_session_attempt.specs.Brought.{WantsNothing, StopMeets, Stopped, BroughtFits}
 
 abbrev Told : Type 0
 Told = Option (List (List ℕ))
@@ -141,19 +142,30 @@ pub tables_from : (answered : Result Attempt Stop) (old mid new : Tasks) → mid
 tables_from answered old mid new same stay = let P : Tasks → Type 0 = λ k. TablesStay answered k new in subst P same stay
 
 -- core has room where a try stopped
-pub room_after_stop : (core : ℕ) (s : Session) (m : SessionJob) (t : Task) (stop : Stop) → TryFits core s m t (Err stop) → AttemptFits core s m t (Err stop)
-room_after_stop core s m t (stops.NoCore words size) fits = tt
-room_after_stop core s m t (stops.BackingFull sum size) fits = tt
-room_after_stop core s m t stops.BackingFault fits = tt
-room_after_stop core s m t stops.PrintFault fits = fits
-room_after_stop core s m t stops.Unbuilt fits = tt
+pub room_after_stop : {K : Type 0} (taken : K → Option (List ℕ)) (told : Told) (old new : Machine) (paper paper' : K) (core : ℕ) (x : Storage) (plan : Placement) (s : Session) (m : SessionJob) (t : Task) (stop : Stop)
+    → TryMeets taken x told plan s m t (Err stop) old new paper paper' → TryFits core s m t (Err stop) → AttemptFits core x plan s m t (Err stop)
+room_after_stop taken told old new paper paper' core x plan s m t (stops.NoCore words size) meets fits = absurd meets
+room_after_stop taken told old new paper paper' core x plan s m t (stops.BackingFull sum size) meets fits = absurd meets
+room_after_stop taken told old new paper paper' core x plan s m t stops.BackingFault meets fits = absurd meets
+room_after_stop taken told old new paper paper' core x plan s m t stops.PrintFault meets fits = fits
+room_after_stop taken told old new paper paper' core x plan s m t stops.Unbuilt meets fits = tt
 
-pub no_room_asked : (core : ℕ) (s : Session) (m : SessionJob) (t : Task) (stop : Stop) → stop ≢ stops.PrintFault → AttemptFits core s m t (Err stop)
-no_room_asked core s m t (stops.NoCore words size) other = tt
-no_room_asked core s m t (stops.BackingFull sum size) other = tt
-no_room_asked core s m t stops.BackingFault other = tt
-no_room_asked core s m t stops.PrintFault other = absurd (other refl)
-no_room_asked core s m t stops.Unbuilt other = tt
+-- and where what was wanted wasn't brought in
+pub room_after_want : (core size : ℕ) (x : Storage) (plan : Placement) (s : Session) (m : SessionJob) (t : Task) (stop : Stop) → size ≡ core → stop ≢ stops.PrintFault → BroughtFits size x plan s m t (Err stop) → AttemptFits core x plan s m t (Err stop)
+room_after_want core size x plan s m t (stops.NoCore words size') e other fits = tt
+room_after_want core size x plan s m t (stops.BackingFull sum size') e other fits = λ code. subst (λ (n : ℕ). need n s m t ≤ n) e (fits code)
+room_after_want core size x plan s m t stops.BackingFault e other fits = λ code. subst (λ (n : ℕ). need n s m t ≤ n) e (fits code)
+room_after_want core size x plan s m t stops.PrintFault e other fits = absurd (other refl)
+room_after_want core size x plan s m t stops.Unbuilt e other fits = tt
+
+-- where the segment is present in one storage, it may be asked about another
+fits_from : (core : ℕ) (x y : Storage) (plan : Placement) (s : Session) (m : SessionJob) (t : Task) (answered : Result Attempt Stop) → code_area y plan m t ≢ None → AttemptFits core y plan s m t answered → AttemptFits core x plan s m t answered
+fits_from core x y plan s m t (Ok attempted) code fits = fits
+fits_from core x y plan s m t (Err (stops.NoCore words size)) code fits = tt
+fits_from core x y plan s m t (Err (stops.BackingFull sum size)) code fits = λ here. fits code
+fits_from core x y plan s m t (Err stops.BackingFault) code fits = λ here. fits code
+fits_from core x y plan s m t (Err stops.PrintFault) code fits = fits
+fits_from core x y plan s m t (Err stops.Unbuilt) code fits = tt
 
 -- less is told of a device that tells nothing
 module _ {K : Type 0} (taken : K → Option (List ℕ)) (told : Told) (exact other : Type 0) (core count before : ℕ) (plan : Placement) (s : Session) (m : SessionJob) (t : Task) (new : Machine) (paper paper' : K) (f : other → exact) where
@@ -254,14 +266,15 @@ module _ (x : Storage) (told : Told) (k : Machine) (plan : Placement) (s : Sessi
   pub still_told : b.again.storage.device ≢ None
   still_told = let P : Told → Type 0 = λ d. d ≢ None in subst P (sym b.again.device) (retold_some x.device told tells n)
 
-  pub same_needs : (size core : ℕ) (answered : Result Attempt Stop) → size ≡ core → AttemptFits size (record s { jobs = b.again.jobs }) (other x told k plan s m t o runs found b).member t answered → AttemptFits core s m t answered
+  pub same_needs : (size core : ℕ) (answered : Result Attempt Stop) → size ≡ core → AttemptFits size b.again.storage plan (record s { jobs = b.again.jobs }) (other x told k plan s m t o runs found b).member t answered → AttemptFits core x plan s m t answered
   same_needs size core answered e fits =
       let same = b.again.same n in
       let z = (other x told k plan s m t o runs found b).member in
-      let C : ℕ → Type 0 = λ c. AttemptFits c (record s { jobs = b.again.jobs }) z t answered in
-      let M : SessionJob → Type 0 = λ y. AttemptFits core (record s { jobs = b.again.jobs }) y t answered in
-      let S : List SessionJob → Type 0 = λ jobs. AttemptFits core (record s { jobs = jobs }) m t answered in
-      subst S same (subst M (member_is x told k plan s m t o runs found b same) (subst C e fits))
+      let here = fits_from size x b.again.storage plan (record s { jobs = b.again.jobs }) z t answered (code_there x told k plan s m t o runs found b) fits in
+      let C : ℕ → Type 0 = λ c. AttemptFits c x plan (record s { jobs = b.again.jobs }) z t answered in
+      let M : SessionJob → Type 0 = λ y. AttemptFits core x plan (record s { jobs = b.again.jobs }) y t answered in
+      let S : List SessionJob → Type 0 = λ jobs. AttemptFits core x plan (record s { jobs = jobs }) m t answered in
+      subst S same (subst M (member_is x told k plan s m t o runs found b same) (subst C e here))
 
 -- what is wanted, where the try changed nothing
 pub wants_some : {K : Type 0} (taken : K → Option (List ℕ)) (told : Told) (old new : Machine) (paper paper' : K) (found : What) (r : RunsOver old told) → TryMeets taken r.storage r.storage.device r.plan r.session r.member r.task (Ok (tries.Absent found)) old new paper paper' → WantsSome new told found

@@ -1,5 +1,5 @@
 -- Why what a step wants wasn't brought in.
-use Rattle.std.proofs.Common.{◌≡◌, ◌≢◌, ℕ, ◌+◌, ◌<◌, ◌≤◌, ◌⊎◌, inl, inr, ⊎_elim, List, length, Option, None, refl, sym, ◌∙◌, ap, arith, subst}
+use Rattle.std.proofs.Common.{◌≡◌, ◌≢◌, ℕ, ◌+◌, ◌<◌, ◌≤◌, ◌⊎◌, inl, inr, ⊎_elim, List, length, Option, None, Result, Err, refl, sym, ◌∙◌, ap, arith, subst}
 use Rattle.std.proofs.lemmas.Bool.{cases_lt}
 use Rattle.b67_model.specs.State.{Task, SessionJob}
 use Rattle.b67_model.specs.Sectors.{sectors}
@@ -25,7 +25,7 @@ use Rattle.b67_presence.specs.Bringing.{StandsOver, IsWanted, StandsAgain, Lacks
 use Rattle.b67_presence.proofs.Others.{others_same, others_running, others_sectors, RunsOther}
 use Rattle.b67_session_attempt.specs.Tries.{IsTouched}
 use Rattle.b67_session_attempt.specs.Attempts.{IsLacking}
-use Rattle.b67_session_attempt.specs.Brought.{StopsFor, Stopped}
+use Rattle.b67_session_attempt.specs.Brought.{StopsFor, Stopped, BroughtFits}
 use Rattle.b67_session_attempt.proofs.Numbers.{need_of, need_fits}
 use Rattle.b67_session_attempt.proofs.Composed.{told_is, unchanged, same_member}
 
@@ -60,6 +60,11 @@ module _ (x : Storage) (told told' : Option (List (List ℕ))) (old new : Machin
       → (need (length old.cpu.core) s m t ≤ length old.cpu.core) ⊎ (code_area y plan m t ≡ None)
   room y (what.Code displacement) want touch absent low = inr absent
   room y (what.Array home) want touch absent low = inl (need_fits x x.device old plan s m t o h.stands runs home words want touch low)
+
+  -- where the running segment was present
+  present_room : (home : What) → IsWanted x plan m t home words → IsTouched plan m t home words → need_with s m t 0 words ≤ length old.cpu.core → code_area x plan m t ≢ None → need (length old.cpu.core) s m t ≤ length old.cpu.core
+  present_room (what.Code displacement) want touch low code = absurd (code want.1)
+  present_room (what.Array home) want touch low code = need_fits x x.device old plan s m t o h.stands runs home words want touch low
 
   module _ (again : StandsAgain x told' new plan s) where
     stands_told : MachineRepresents again.storage (content_after x.device told') new plan (record s { jobs = again.jobs })
@@ -121,6 +126,20 @@ module _ (x : Storage) (told told' : Option (List (List ℕ))) (old new : Machin
   -- core has room where that isn't the reason
   has_room : (fault : SpaceFault) → ((words' size : ℕ) → fault ≢ space.NoCore words' size) → (length old.cpu.core < need_with s m t 0 words → fault ≡ space.NoCore (need_with s m t 0 words) (length old.cpu.core)) → need_with s m t 0 words ≤ length old.cpu.core
   has_room fault not exactly = ⊎_elim (λ above. absurd (not (need_with s m t 0 words) (length old.cpu.core) (exactly above))) (λ low. low) (cases_lt (length old.cpu.core) (need_with s m t 0 words))
+
+  pub stopped_fits : (fault : SpaceFault) (stop : Stop) → StopsFor new fault stop → (length old.cpu.core < need_with s m t 0 words → fault ≡ space.NoCore (need_with s m t 0 words) (length old.cpu.core))
+      → BroughtFits (length old.cpu.core) x plan s m t (Err stop)
+  stopped_fits (space.NoCore words' size) stop h exactly =
+      let S : Stop → Type 0 = λ z. BroughtFits (length old.cpu.core) x plan s m t (Err z) in
+      subst S (sym h) tt
+  stopped_fits (space.BackingFull wants free) stop (sum, size, stop_is, sums, size_is) exactly =
+      let S : Stop → Type 0 = λ z. BroughtFits (length old.cpu.core) x plan s m t (Err z) in
+      let low = has_room (space.BackingFull wants free) (λ a b e. absurd cc) exactly in
+      subst S (sym stop_is) (present_room found wanted touched low)
+  stopped_fits space.BackingFault stop h exactly =
+      let S : Stop → Type 0 = λ z. BroughtFits (length old.cpu.core) x plan s m t (Err z) in
+      let low = has_room space.BackingFault (λ a b e. absurd cc) exactly in
+      subst S (sym h) (present_room found wanted touched low)
 
   pub stopped_so : Refused x told' new plan s m t found → (fault : SpaceFault) (stop : Stop) → StopsFor new fault stop → count + 1 ≡ length new.sectors.links
       → ((words' size : ℕ) → fault ≡ space.NoCore words' size → (length old.cpu.core < need_with s m t 0 words) × (words' ≡ need_with s m t 0 words) × (size ≡ length old.cpu.core))

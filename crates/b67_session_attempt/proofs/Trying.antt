@@ -47,10 +47,10 @@ wants_array x plan m t found old new code a same =
     subst W (sym a.named) it
 
 module _ (x : Storage) (told : Option (List (List ℕ))) (plan : Placement) (s : Session) (m : SessionJob) (t : Task) (old new : Machine) where
-  pub was_made : (area : Option ℕ) → MakesAt x told plan s m t answers.Done old new area → OperatorMade x told plan s m t new
+  pub was_made : (area : Option ℕ) → MakesAt x told plan s m t answers.Done old new area → OperatorMade x told plan s m t old new
   was_made None h = let e = h.0 in absurd cc
   was_made (Some at) h = by (called_in m t) h where
-    by : (called : Option ℕ) → CallsOrMakes x told plan s m t answers.Done old new called → OperatorMade x told plan s m t new
+    by : (called : Option ℕ) → CallsOrMakes x told plan s m t answers.Done old new called → OperatorMade x told plan s m t old new
     by (Some n) h = let e = h.0 in absurd cc
     by None h = h
 
@@ -112,7 +112,7 @@ nothing_left : (n : ℕ) → take {A = ℕ} n [] ++ [] ≡ []
 nothing_left zero = refl
 nothing_left (suc n) = refl
 
-pub called_made : {K : Type 0} (taken : K → Option (List ℕ)) (paper : K) (x : Storage) (told : Option (List (List ℕ))) (plan : Placement) (s : Session) (m : SessionJob) (t : Task) (old new : Machine) → CallsBuilt m t → new.tasks ≡ old.tasks → OperatorMade x told plan s m t new
+pub called_made : {K : Type 0} (taken : K → Option (List ℕ)) (paper : K) (x : Storage) (told : Option (List (List ℕ))) (plan : Placement) (s : Session) (m : SessionJob) (t : Task) (old new : Machine) → CallsBuilt m t → new.tasks ≡ old.tasks → OperatorMade x told plan s m t old new
     → IsCalled taken paper paper told s m t old.tasks.printed new
 called_made taken paper x told plan s m t old new built tables h = record {
   job = h.job;

@@ -1,5 +1,6 @@
 -- What the next operator of the running task answers and leaves, with what it wants brought into core.
 use Rattle.std.specs.Prelude.{◌≡◌, ◌≢◌, ℕ, ◌<◌, ◌≤◌, ◌⊎◌, List, Option, Some, None, Result, Ok, Err}
+use Rattle.b67_io.specs.Causes.{Rose}
 use Rattle.b67_model.specs.State.{Ready, Task, SessionJob}
 use Rattle.b67_model.specs.Sectors.{sectors}
 use Rattle.b67_model.specs.Need.{touched_of, need}
@@ -18,6 +19,7 @@ use Rattle.b67_task_tables.specs.declared.tables.Machine.{Machine}
 use Rattle.b67_task_tables.specs.declared.tables.Tasks.{Tasks}
 use Rattle.b67_task_tables.specs.Tables.{MachineRepresents}
 use Rattle.b67_mcp.specs.Called.{IsCalled, IsCut}
+use Rattle.b67_mcp.specs.Running.{IsHeard}
 use Rattle.b67_mcp.specs.declared.ends.Stop.{Stop}
 use Rattle.b67_mcp.specs.declared.ends.Stop.TheVariants as stops
 use Rattle.b67_session_attempt.specs.declared.attempts.Attempt.{Attempt}
@@ -86,11 +88,14 @@ pub record Attempts {K : Type 0} (taken : K → Option (List ℕ)) (x : Storage)
   pub running : IsRunning plan jobs member t
   pub meets : AttemptMeets taken told (x.device ≢ None) core count before plan (record s { jobs = jobs }) member t answered new paper paper'
 
--- a step that was made, ends its task, or couldn't be printed needs no more words than core has
-abbrev pub AttemptFits : ℕ → Session → SessionJob → Task → Result Attempt Stop → Type 0
-AttemptFits core s m t (Ok attempted) = need core s m t ≤ core
-AttemptFits core s m t (Err stops.PrintFault) = need core s m t ≤ core
-AttemptFits core s m t (Err stop) = Unit {0}
+-- A step that was made, ends its task, or couldn't be printed needs no more words than core has. Where its segment was
+-- present before, in this storage, a device that is full or fails stops it only if it doesn't either
+abbrev pub AttemptFits : ℕ → Storage → Placement → Session → SessionJob → Task → Result Attempt Stop → Type 0
+AttemptFits core x plan s m t (Ok attempted) = need core s m t ≤ core
+AttemptFits core x plan s m t (Err stops.PrintFault) = need core s m t ≤ core
+AttemptFits core x plan s m t (Err (stops.BackingFull sum size)) = code_area x plan m t ≢ None → need core s m t ≤ core
+AttemptFits core x plan s m t (Err stops.BackingFault) = code_area x plan m t ≢ None → need core s m t ≤ core
+AttemptFits core x plan s m t (Err stop) = Unit {0}
 
 -- the tables are as they were but where the operator was made; after a printer's failure it is counted how much is printed
 abbrev pub TablesStay : Result Attempt Stop → Tasks → Tasks → Type 0
@@ -98,3 +103,8 @@ TablesStay (Ok attempts.Made) old new = Unit {0}
 TablesStay (Ok (attempts.Ends ending)) old new = new ≡ old
 TablesStay (Err stops.PrintFault) old new = new ≡ record old { printed = new.printed }
 TablesStay (Err stop) old new = new ≡ old
+
+-- the device's count of failures has risen where it failed; so has the printer's, which never falls
+pub record HaveCauses {B K : Type 0} (failed : B → ℕ) (unprinted : K → ℕ) (backing backing' : B) (paper paper' : K) (answered : Result Attempt Stop) : Type 0 where
+  pub device : answered ≡ Err stops.BackingFault → Rose failed backing backing'
+  pub printer : IsHeard unprinted paper paper' answered

@@ -1,5 +1,5 @@
 -- What bringing in answers and leaves that the next operator wants, with the numbers that a stop says.
-use Rattle.std.specs.Prelude.{◌≡◌, ◌≢◌, ℕ, ◌+◌, ◌<◌, List, length, Option, Some, None, Result, Ok, Err}
+use Rattle.std.specs.Prelude.{◌≡◌, ◌≢◌, ℕ, ◌+◌, ◌<◌, ◌≤◌, List, length, Option, Some, None, Result, Ok, Err}
 use Rattle.b67_model.specs.State.{Task, SessionJob}
 use Rattle.b67_model.specs.Sectors.{sectors}
 use Rattle.b67_model.specs.Need.{touched_of, need}
@@ -55,6 +55,13 @@ pub record Stopped (x : Storage) (told : Option (List (List ℕ))) (core count :
   pub member : SessionJob
   pub running : IsRunning plan jobs member t
   pub meets : StopMeets told (x.device ≢ None) core count plan (record s { jobs = jobs }) member t stop new
+
+-- where the running segment was present, in this storage, a device that is full or fails refuses what is wanted only if core
+-- has the words that the step needs
+abbrev pub BroughtFits : ℕ → Storage → Placement → Session → SessionJob → Task → Result (Unit {0}) Stop → Type 0
+BroughtFits core x plan s m t (Err (stops.BackingFull sum size)) = code_area x plan m t ≢ None → need core s m t ≤ core
+BroughtFits core x plan s m t (Err stops.BackingFault) = code_area x plan m t ≢ None → need core s m t ≤ core
+BroughtFits core x plan s m t _ = Unit {0}
 
 -- by what was answered
 abbrev pub BroughtMeets : Storage → Option (List (List ℕ)) → ℕ → ℕ → Placement → Session → SessionJob → Task → What → Result (Unit {0}) Stop → Machine → Type 0

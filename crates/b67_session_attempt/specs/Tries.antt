@@ -8,16 +8,14 @@ use Rattle.b67_model.specs.Steps.{Leaves}
 use Rattle.b67_model.specs.Rows.{step}
 use Rattle.b67_model.specs.Need.{touched_of, need}
 use Rattle.b67_model.specs.Schedule.{Session}
-use Rattle.b67_model.specs.InOrder.{IsInOrderButPlaces}
 use Rattle.b67_stack.specs.declared.What.{What}
 use Rattle.b67_stack.specs.declared.What.TheVariants as what
 use Rattle.b67_stack.specs.Represents.{Storage}
 use Rattle.b67_layout.specs.Placement.{Placement}
-use Rattle.b67_layout.specs.Session.{IsRunning}
 use Rattle.b67_exec_cells.specs.Called.{called_in}
 use Rattle.b67_presence.specs.Bringing.{IsWanted}
 use Rattle.b67_task_tables.specs.declared.tables.Machine.{Machine}
-use Rattle.b67_task_tables.specs.Tables.{MachineRepresents}
+use Rattle.b67_task_tables.specs.Runs.{RunsTask}
 use Rattle.b67_mcp.specs.Called.{IsCalled, IsCut, OnlyPrinted}
 use Rattle.b67_mcp.specs.declared.ends.Stop.{Stop}
 use Rattle.b67_mcp.specs.declared.ends.Stop.TheVariants as stops
@@ -26,16 +24,8 @@ use Rattle.b67_session_attempt.specs.declared.tries.Tried.TheVariants as tries
 
 -- the machine stands for some session in order, of which a ready task runs
 pub record ReadyRuns (k : Machine) : Type 0 where
-  pub storage : Storage
-  pub told : Option (List (List ℕ))
-  pub plan : Placement
-  pub session : Session
-  pub member : SessionJob
-  pub task : Task
-  pub ordered : IsInOrderButPlaces session
-  pub stands : MachineRepresents storage told k plan session
-  pub running : IsRunning plan session.jobs member task
-  pub ready : task.condition ≡ Ready
+  pub runs : RunsTask k
+  pub ready : runs.task.condition ≡ Ready
 
 -- the running segment is wanted, or the array that the step touches, by the address of its original
 abbrev pub IsTouched : Placement → SessionJob → Task → What → ℕ → Type 0

@@ -13,7 +13,7 @@ ghost use Rattle.b67_task_need.specs.Needing.{StandsInOrder};
 ghost use Rattle.b67_presence.specs.Bringing.{StandsOver, WantsSome, IsWanted};
 ghost use Rattle.b67_mcp.specs.declared.ends.Stop.TheVariants.{BackingFault, PrintFault};
 ghost use Rattle.b67_session_attempt.specs.Tries.{IsTouched};
-ghost use Rattle.b67_session_attempt.specs.Brought.{StopsFor, BroughtMeets};
+ghost use Rattle.b67_session_attempt.specs.Brought.{StopsFor, BroughtFits, BroughtMeets};
 
 use b67_backing::{Backing, SpaceFault};
 use b67_mcp::Stop;
@@ -51,6 +51,9 @@ pub fn bring_wanted<B: Backing>(
     ensures row { (x : Storage) (plan : Placement) (s : Session) (m : SessionJob) (t : Task) (words : ℕ) → IsInOrderButPlaces s
         → StandsOver x (B.holds backing.old) machine.old plan s → IsRunning plan s.jobs m t → IsWanted x plan m t wanted words → IsTouched plan m t wanted words
         → BroughtMeets x (B.holds backing.new) (length machine.old.cpu.core) (B.size backing.old) plan s m t wanted result machine.new }
+    ensures fits { (x : Storage) (plan : Placement) (s : Session) (m : SessionJob) (t : Task) (words : ℕ) → IsInOrderButPlaces s
+        → StandsOver x (B.holds backing.old) machine.old plan s → IsRunning plan s.jobs m t → IsWanted x plan m t wanted words → IsTouched plan m t wanted words
+        → BroughtFits (length machine.old.cpu.core) x plan s m t result }
     ensures cause { result ≡ Err BackingFault → Rose B.faults backing.old backing.new }
     ensures silent { result ≢ Err PrintFault }
     ensures tasks { machine.new.tasks ≡ machine.old.tasks }

@@ -1,16 +1,10 @@
 //! One try at the next operator.
 
-ghost use Rattle.std.specs.Prelude.{◌≡◌, ◌≢◌, ℕ, ◌≤◌, List, Option, Err, length};
-ghost use Rattle.b67_io.specs.Causes.{Rose};
-ghost use Rattle.b67_model.specs.State.{Ready, Task, SessionJob};
-ghost use Rattle.b67_model.specs.Schedule.{Session};
-ghost use Rattle.b67_model.specs.InOrder.{IsInOrderButPlaces};
-ghost use Rattle.b67_stack.specs.Represents.{Storage};
-ghost use Rattle.b67_layout.specs.Placement.{Placement};
-ghost use Rattle.b67_layout.specs.Session.{IsRunning};
-ghost use Rattle.b67_task_tables.specs.Tables.{MachineRepresents};
+ghost use Rattle.std.specs.Prelude.{length};
+ghost use Rattle.b67_task_tables.specs.Runs.{Keeps};
 ghost use Rattle.b67_mcp.specs.Called.{AreCountable};
-ghost use Rattle.b67_mcp.specs.declared.ends.Stop.TheVariants.{PrintFault};
+ghost use Rattle.b67_mcp.specs.Running.{IsHeard};
+ghost use Rattle.b67_session_attempt.specs.Makes.{ForEachReady};
 ghost use Rattle.b67_session_attempt.specs.Tries.{ReadyRuns, TryMeets, TryFits};
 
 use crate::making::make;
@@ -36,16 +30,11 @@ pub enum Tried {
 pub fn try_once<K: Sink>(machine: &mut Machine, paper: &mut K) -> Result<Tried, Stop>
     requires runs { ReadyRuns machine.old }
     requires countable { AreCountable machine.old.tasks.jobs }
-    ensures row { (x : Storage) (told : Option (List (List ℕ))) (plan : Placement) (s : Session) (m : SessionJob) (t : Task) → IsInOrderButPlaces s
-        → MachineRepresents x told machine.old plan s → IsRunning plan s.jobs m t → t.condition ≡ Ready → TryMeets K.taken x told plan s m t result machine.old machine.new paper.old paper.new }
-    ensures fits { (x : Storage) (told : Option (List (List ℕ))) (plan : Placement) (s : Session) (m : SessionJob) (t : Task) → IsInOrderButPlaces s
-        → MachineRepresents x told machine.old plan s → IsRunning plan s.jobs m t → t.condition ≡ Ready → TryFits (length machine.old.cpu.core) s m t result }
-    ensures cause { result ≡ Err PrintFault → Rose K.faults paper.old paper.new }
-    ensures later { K.faults paper.old ≤ K.faults paper.new }
+    ensures row { ForEachReady machine.old (λ x told plan s m t. TryMeets K.taken x told plan s m t result machine.old machine.new paper.old paper.new) }
+    ensures fits { ForEachReady machine.old (λ x told plan s m t. TryFits (length machine.old.cpu.core) s m t result) }
+    ensures cause { IsHeard K.faults paper.old paper.new result }
     ensures countable { AreCountable machine.new.tasks.jobs }
-    ensures len { length machine.new.cpu.core ≡ length machine.old.cpu.core }
-    ensures count { length machine.new.sectors.links ≡ length machine.old.sectors.links }
-    ensures halt { machine.new.tasks.halt ≡ machine.old.tasks.halt }
+    ensures keeps { Keeps machine.old machine.new }
 {
     match make(machine) {
         Step::Done => Ok(Tried::Made),

@@ -18,7 +18,8 @@ use Rattle.b67_load.specs.Writing.{Parts as Writing_parts, Spares, Writes}
 use Rattle.b67_load.proofs.Shelves.{placed_object}
 use Rattle.b67_session_open.specs.Opened.{dictionaries, objects_from, opening_plan, programs_of}
 use Rattle.b67_session_open.specs.Words.{SlotsLie, HeadsLie}
-use Rattle.b67_session_open.specs.Stored.{absent_storage, told_after}
+use Rattle.b67_session_open.specs.Stored.{absent_storage}
+use Rattle.b67_layout_storage.specs.Machine.{content_after, DeviceAfterCalls}
 use Rattle.b67_session_open.specs.InitialOpens.{Opens}
 use Rattle.b67_session_open.proofs.Heads.{heads_same}
 use Rattle.b67_session_open.proofs.Objects.{is_object, object_within, objects_long}
@@ -51,7 +52,7 @@ module _ {D : Type 0} (tell : D → Option (List (List ℕ))) (old mid : Writing
       → old.core ≡ replicate (length old.core) (word 0 0) → 160 ≤ length old.core
       → HeadsLie mid.core 160 programs → Writes tell (objects_from 160 programs) old mid → Spares tell 160 (dictionaries programs) old mid
       → LaidOut mid.core cpu areas stack programs → IsShelf old.table st → st.chains ≡ []
-      → Parts (absent_storage cpu.core areas.low (stocked (objects_from 160 programs) st) (told_after (tell old.device) (tell mid.device))) cpu stack programs
+      → Parts (absent_storage cpu.core areas.low (stocked (objects_from 160 programs) st) (content_after (tell old.device) (tell mid.device))) cpu stack programs
   parts_of openings switches st same within zero_words some heads writes spares laid is none = record {
     heads = heads_same mid.core cpu.core 160 programs laid.kept heads;
     objects = object_stands cpu.core areas.low old.table mid.table st (objects_from 160 programs) (tell old.device) (tell mid.device) stored;
@@ -85,11 +86,11 @@ module _ {D : Type 0} (tell : D → Option (List (List ℕ))) (old mid : Writing
   pub opens : old.core ≡ replicate (length old.core) (word 0 0) → 160 ≤ length old.core
       → HeadsLie mid.core 160 programs → Writes tell (objects_from 160 programs) old mid → Spares tell 160 (dictionaries programs) old mid
       → LaidOut mid.core cpu areas stack programs → (st : Shelf) → IsShelf old.table st → st.chains ≡ []
-      → Opens areas mid.table (told_after (tell old.device) (tell mid.device)) (absent_storage cpu.core areas.low (stocked (objects_from 160 programs) st) (told_after (tell old.device) (tell mid.device))) cpu stack programs
+      → Opens areas mid.table (content_after (tell old.device) (tell mid.device)) (absent_storage cpu.core areas.low (stocked (objects_from 160 programs) st) (content_after (tell old.device) (tell mid.device))) cpu stack programs
   opens zero_words some heads writes spares laid st is none = record {
     storage = record { low = refl; size = laid.size; shelf = writes.shelf st is; device = refl };
     session = λ quantum switches openings same within.
-        let x = absent_storage cpu.core areas.low (stocked (objects_from 160 programs) st) (told_after (tell old.device) (tell mid.device)) in
+        let x = absent_storage cpu.core areas.low (stocked (objects_from 160 programs) st) (content_after (tell old.device) (tell mid.device)) in
         subst (λ (ps : List Program). RepresentsSession x cpu (opening_plan stack ps) (opening stack quantum switches openings)) same
         (opening_stands x cpu stack quantum switches openings within
         (subst (λ (ps : List Program). Parts x cpu stack ps) (sym same)
@@ -124,6 +125,12 @@ laid_out mid cpu areas stack stacks jobs programs at count mcp slots vector kept
       peak = peak ∙ count;
     }
 
--- a device that told its sectors still does
-pub still_tells : {D : Type 0} (tell : D → Option (List (List ℕ))) (old new : D) (free : List ℕ) → Changes tell old new (SameBut free) → Changes tell old new (λ before after. length after ≡ length before)
-still_tells tell old new free c = record { told = λ x e. let h = c.told x e in (h.0, h.1, h.2.count) }
+-- a device after calls that left all sectors but free ones as they were
+pub after_calls : {D : Type 0} (tell : D → Option (List (List ℕ))) (size calls faults : D → ℕ) (old new : D) (free : List ℕ) → size new ≡ size old → calls old ≤ calls new → faults old ≤ faults new
+    → Changes tell old new (SameBut free) → DeviceAfterCalls tell size calls faults old new
+after_calls tell size calls faults old new free same called failed c =
+    record { size = same; calls = called; faults = failed; tells = record { told = λ x e. let h = c.told x e in (h.0, h.1, h.2.count) } }
+
+-- a device that wasn't called
+pub uncalled : {D : Type 0} (tell : D → Option (List (List ℕ))) (size calls faults : D → ℕ) (now : D) → DeviceAfterCalls tell size calls faults now now
+uncalled tell size calls faults now = record { size = refl; calls = omega arith; faults = omega arith; tells = record { told = λ x e. (x, e, refl) } }

@@ -15,7 +15,8 @@ use Rattle.b67_stack.specs.Shapes.{at_rest}
 use Rattle.b67_load.specs.Objects.{sectors_of, sectors_of_all}
 use Rattle.b67_load.specs.Resting.{Resting, placed, stocked, DescriptorsStand, WritesFreeSectors}
 use Rattle.b67_load.proofs.Shelves.{Apart, placed_chain, placed_object}
-use Rattle.b67_session_open.specs.Stored.{sector_named, absent_storage, told_after}
+use Rattle.b67_session_open.specs.Stored.{sector_named, absent_storage}
+use Rattle.b67_layout_storage.specs.Machine.{content_after}
 use Rattle.b67_session_open.proofs.Resting.{first_apart, chain_found, no_zero, chain_begins, placed_length, placed_has, chain_placed, Alone, one_place}
 
 -- objects that were written, from sectors that were all free
@@ -40,14 +41,14 @@ no_areas low zero at = refl
 no_areas low (suc n) at = refl
 
 told_words : (before now : Option (List (List ℕ))) (r : Resting) (ts : List PagedObject) (free : List ℕ) → Has (placed ts free) r →
-    ((a : List (List ℕ)) → before ≡ Some a → (b : List (List ℕ)) × (now ≡ Some b) × WritesFreeSectors ts free a b) → Told (told_after before now) r.chain (map number (words_of r.object))
+    ((a : List (List ℕ)) → before ≡ Some a → (b : List (List ℕ)) × (now ≡ Some b) × WritesFreeSectors ts free a b) → Told (content_after before now) r.chain (map number (words_of r.object))
 told_words None now r ts free h stocks = tt
 told_words (Some a) now r ts free h stocks =
     let b = stocks a refl in subst (λ o. Told o r.chain (map number (words_of r.object))) (sym b.1) (b.2.rest r h)
 
 module _ (core : List Tagged) (low : ℕ) (old new : Table) (st : Shelf) (ts : List PagedObject) (before now : Option (List (List ℕ))) (stored : Stored core old new st ts before now) where
   abbrev x : Storage
-  x = absent_storage core low (stocked ts st) (told_after before now)
+  x = absent_storage core low (stocked ts st) (content_after before now)
 
   long : (r : Resting) → Has (placed ts st.free) r → 1 ≤ length r.chain
   long r h =
@@ -72,7 +73,7 @@ module _ (core : List Tagged) (low : ℕ) (old new : Table) (st : Shelf) (ts : L
       let is = chain_found new (stocked ts st) r.chain stored.new_shelf (placed_chain ts st r h) in
       record {
         chain = record { some = (apart r h).low; small = small r h; sectors = ap length is ∙ placed_length ts st.free r stored.room h };
-        told = subst (λ k. Told (told_after before now) k (map number (words_of r.object))) (sym is) (told_words before now r ts st.free h stored.stocks);
+        told = subst (λ k. Told (content_after before now) k (map number (words_of r.object))) (sym is) (told_words before now r ts st.free h stored.stocks);
       }
 
   pub object_stands : (t : PagedObject) → Has ts t → RepresentsObject x core t

@@ -20,8 +20,3 @@ held_in core home = at_rest (sector_named (slice_get core home))
 abbrev pub absent_storage : List Tagged → ℕ → Shelf → Option (List (List ℕ)) → Storage
 absent_storage core low shelf told =
     record { held = held_in core; low = low; spans = left (length core - low) []; shelf = shelf; device = told }
-
--- what a device tells now, if it told its sectors before
-abbrev pub told_after : Option (List (List ℕ)) → Option (List (List ℕ)) → Option (List (List ℕ))
-told_after None now = None
-told_after (Some before) now = now

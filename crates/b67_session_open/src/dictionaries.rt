@@ -49,6 +49,7 @@ pub fn install_all<B: Backing>(
     ensures size { B.size backing.new ≡ B.size backing.old }
     ensures refusal { IfErr result (λ fault. fault ≡ BackingFault) }
     ensures cause { HasCause B.faults backing.old backing.new result }
+    ensures calls { B.calls backing.old ≤ B.calls backing.new }
 {
     let _size = cpu.core.size();
     let mut at = 160;

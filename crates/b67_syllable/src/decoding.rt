@@ -1,9 +1,10 @@
 //! The operator at a place of code.
 
-ghost use Rattle.std.specs.Prelude.{◌≡◌, ◌+◌, ◌*◌, ◌/◌, ◌<◌, ◌≤◌, ◌^◌, length, take, Some};
+ghost use Rattle.std.specs.Prelude.{◌≡◌, ◌+◌, ◌*◌, ◌/◌, ◌<◌, ◌≤◌, ◌^◌, length, Some};
 ghost use Rattle.b67_word.specs.Tagged.{contents};
 ghost use Rattle.b67_model.specs.Operators.{syllable, form_of, operator_at, place_at, count_at};
 ghost use Rattle.b67_syllable.specs.Kinds.{form, end_of, operator_of, target_of};
+ghost use Rattle.b67_syllable.specs.Placed.{placed};
 
 use crate::kinds::{Kind, kind_of};
 use b67_model::{Op, Undecodable};
@@ -94,7 +95,7 @@ fn target(high: u8, low: u8) -> Place
 #[inline(always)]
 fn operator_from(code: &[Word], n: usize, kind: Kind) -> Op
     requires within { end_of n (form kind) ≤ 6 * length code.now }
-    requires small { length code.now < 2 ^ 16 }
+    requires small { n < 2 ^ 19 }
     ensures { result ≡ operator_of (contents code.now) n (form kind) }
 {
     match kind {
@@ -140,24 +141,25 @@ fn place_of(n: usize) -> Place
 fn operator_of_kind(code: &[Word], at: Place, kind: Kind) -> Result<(Op, Place), Undecodable>
     requires in_word { at.syllable < 6 }
     requires word { at.word < length code.now }
-    requires small { length code.now < 2 ^ 16 }
     requires begins { form_of (syllable (contents code.now) (count_at at)) ≡ Some (form kind) }
-    ensures { result ≡ operator_at (contents code.now) at }
+    ensures { result ≡ placed (operator_at (contents code.now) at) }
 {
     let n = count_of(at);
     let end = end_at(n, kind);
-    if end <= 6 * code.len() {
+    if end <= 6 * code.len() && end < 6 * 0x1_0000 {
         Ok((operator_from(code, n, kind), place_of(end)))
     } else {
         Err(Undecodable::PastEnd)
     }
 }
 
-/// The operator at a place of code that is short enough for each place behind an operator to have a number.
+/// The operator at a place of code, and the place after it. `BadPlace` exactly if `at` isn't inside the code, else
+/// `NotAdmitted` exactly if no operator begins with its syllable, else `PastEnd` exactly if the operator needs more
+/// than is there, or if no `Place` is after it, since its last word is word 65,535 or a later one.
 #[inline(always)]
-fn decode_within(code: &[Word], at: Place) -> Result<(Op, Place), Undecodable>
-    requires { length code.now < 2 ^ 16 }
-    ensures { result ≡ operator_at (contents code.now) at }
+pub fn decode(code: &[Word], at: Place) -> Result<(Op, Place), Undecodable>
+    ensures exact { result ≡ placed (operator_at (contents code.now) at) }
+    ensures segment { length code.now < 2 ^ 16 → result ≡ operator_at (contents code.now) at }
 {
     if at.syllable >= 6 || at.word as usize >= code.len() {
         return Err(Undecodable::BadPlace);
@@ -166,22 +168,7 @@ fn decode_within(code: &[Word], at: Place) -> Result<(Op, Place), Undecodable>
         return Err(Undecodable::NotAdmitted);
     };
     match kind {
-        Kind::Lone(operator) => Ok((Op::Plain(operator), place_behind(at))),
+        Kind::Lone(operator) if at.word < 0xffff => Ok((Op::Plain(operator), place_behind(at))),
         _ => operator_of_kind(code, at, kind),
-    }
-}
-
-/// The operator at a place of a segment's code, and the place behind it. `BadPlace` where `at` isn't inside the code,
-/// else `NotAdmitted` where no operator begins with its syllable, else `PastEnd` where the operator needs more than
-/// is there. Words from 65,535 on aren't looked at, since no `Place` lies behind them; a segment has 8,191 at most.
-#[inline(always)]
-pub fn decode(code: &[Word], at: Place) -> Result<(Op, Place), Undecodable>
-    ensures segment { length code.now < 2 ^ 16 → result ≡ operator_at (contents code.now) at }
-    ensures longer { 2 ^ 16 ≤ length code.now → result ≡ operator_at (contents (take 65535 code.now)) at }
-{
-    if code.len() < 0x1_0000 {
-        decode_within(code, at)
-    } else {
-        decode_within(&code[..0xffff], at)
     }
 }

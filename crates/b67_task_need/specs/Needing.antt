@@ -1,4 +1,4 @@
--- The core that an operator of the running task needs, and the machines that have one.
+-- The core that an operator of the running task needs.
 use Rattle.std.specs.Prelude.{◌≢◌, ℕ, ◌+◌, ◌*◌, max, ◌==◌, List, length, Option, Some, None, if◌then◌else◌}
 use Rattle.b67_model.specs.State.{Task, Job, SessionJob}
 use Rattle.b67_model.specs.Arrays.{array}
@@ -9,7 +9,6 @@ use Rattle.b67_model.specs.Need.{fixed}
 use Rattle.b67_model.specs.InOrder.{IsInOrderButPlaces}
 use Rattle.b67_stack.specs.Represents.{Storage}
 use Rattle.b67_layout.specs.Placement.{Placement}
-use Rattle.b67_layout.specs.Session.{IsRunning}
 use Rattle.b67_task_tables.specs.declared.tables.Machine.{Machine}
 use Rattle.b67_task_tables.specs.Tables.{MachineRepresents}
 
@@ -32,18 +31,6 @@ touched_words job (Some a) = length (array job a).numbers
 abbrev pub HasWords : Job → Option ℕ → Type 0
 HasWords job None = Unit {0}
 HasWords job (Some a) = touched_words job (Some a) ≢ 0
-
--- the machine stands for some session in order, of which a task runs
-pub record MachineRuns (k : Machine) : Type 0 where
-  pub storage : Storage
-  pub told : Option (List (List ℕ))
-  pub plan : Placement
-  pub session : Session
-  pub member : SessionJob
-  pub task : Task
-  pub ordered : IsInOrderButPlaces session
-  pub stands : MachineRepresents storage told k plan session
-  pub running : IsRunning plan session.jobs member task
 
 -- the machine stands for some session in order
 pub record StandsInOrder (k : Machine) : Type 0 where

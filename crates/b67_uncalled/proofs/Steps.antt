@@ -19,6 +19,7 @@ use Rattle.b67_model.specs.State.{Frame, Standing, Task, Segment, JobConstants, 
 use Rattle.b67_model.specs.Environment.{level_of_frame, running}
 use Rattle.b67_model.specs.Operators.{Reading, operator_at}
 use Rattle.b67_model.specs.Loader.{Entry, At, Break, origin, listing}
+use Rattle.b67_model.specs.Called.{called}
 use Rattle.b67_model.specs.Steps.{Line, Done, Goes, Leaves, Waits}
 use Rattle.b67_model.specs.Rows.{stff, row, reading_of, step_by, step}
 use Rattle.b67_model.specs.Endings.{Settled, among, released, ends_all, ends_task, ends_each_if, unsettled, settles, stepped}
@@ -104,7 +105,7 @@ row_keeps constants job task op next after printed touched s safe reads e t live
       | inr new ↦ by w has new
     ]
   where
-    by : (v : Word) → Has f.cells v → OperatorMakes op v → Safe v
+    by : (v : Word) → Has f.cells v → OperatorMakes op (called op (here constants job task next)) v → Safe v
     by (Operand bits) k m = tt
     by (Name couple) k m = name_safe constants job task op next couple s reads m
     by (Ref g offset) k m = stff_keeps constants job task next after printed touched s safe (subst (λ (o : Op). row o (here constants job task next) ≡ Ok (Goes after printed touched)) m e) t live f among (Ref g offset) k

@@ -47,27 +47,33 @@ refusal-requires c =
 
 pub returns-in-Some : goal.returns-in-Some
 returns-in-Some c = record {
-  row = λ x plan s m t o h runs next.
-      (is_refused c.args.cpu.now c.top_mark-mark.result c.top_mark-mark.ensures c.if-not-mark.false c.get-word.result c.get-word.ensures c.if-cpu.false c.refusal.result c.refusal.ensures c.in-Some.fault c.in-Some.is
-      (record { storage = x; plan = plan; session = s; member = m; task = t; ordered = o; stands = h; running = runs }) next, refl);
+  row = λ x plan s m t o h runs next. (
+    is_refused c.args.cpu.now c.top_mark-mark.result c.top_mark-mark.ensures c.if-not-mark.false c.get-word.result c.get-word.ensures c.if-cpu.false c.refusal.result c.refusal.ensures c.in-Some.fault c.in-Some.is
+        (record { storage = x; plan = plan; session = s; member = m; task = t; ordered = o; stands = h; running = runs }) next,
+    refl,
+  );
   above = λ i low. refl;
   top = λ e. cc;
 }
 
 pub returns-then-is_critical : goal.returns-then-is_critical
 returns-then-is_critical c = record {
-  row = λ x plan s m t o h runs next.
-      (is_held c.args.cpu.now c.top_mark-mark.result c.top_mark-mark.ensures c.if-not-mark.false c.get-word.result c.get-word.ensures c.if-cpu.false c.refusal.result c.refusal.ensures c.in-None.is c.is_critical.result c.is_critical.ensures
-      c.if-is_critical.true (record { storage = x; plan = plan; session = s; member = m; task = t; ordered = o; stands = h; running = runs }) next, refl);
+  row = λ x plan s m t o h runs next. (
+    is_held c.args.cpu.now c.top_mark-mark.result c.top_mark-mark.ensures c.if-not-mark.false c.get-word.result c.get-word.ensures c.if-cpu.false c.refusal.result c.refusal.ensures c.in-None.is c.is_critical.result c.is_critical.ensures
+        c.if-is_critical.true (record { storage = x; plan = plan; session = s; member = m; task = t; ordered = o; stands = h; running = runs }) next,
+    refl,
+  );
   above = λ i low. refl;
   top = λ e. cc;
 }
 
 pub returns-then-mark-eq0 : goal.returns-then-mark-eq0
 returns-then-mark-eq0 c = record {
-  row = λ x plan s m t o h runs next.
-      (is_outermost c.args.cpu.now c.top_mark-mark.result c.top_mark-mark.ensures c.if-not-mark.false c.get-word.result c.get-word.ensures c.if-cpu.false c.refusal.result c.refusal.ensures c.in-None.is c.is_critical.result c.is_critical.ensures
-      c.if-is_critical.false c.if-mark-eq0.true (record { storage = x; plan = plan; session = s; member = m; task = t; ordered = o; stands = h; running = runs }) next, refl);
+  row = λ x plan s m t o h runs next. (
+    is_outermost c.args.cpu.now c.top_mark-mark.result c.top_mark-mark.ensures c.if-not-mark.false c.get-word.result c.get-word.ensures c.if-cpu.false c.refusal.result c.refusal.ensures c.in-None.is c.is_critical.result c.is_critical.ensures
+        c.if-is_critical.false c.if-mark-eq0.true (record { storage = x; plan = plan; session = s; member = m; task = t; ordered = o; stands = h; running = runs }) next,
+    refl,
+  );
   above = λ i low. refl;
   top = λ e. cc;
 }

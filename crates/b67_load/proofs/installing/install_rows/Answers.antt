@@ -14,6 +14,7 @@ loop-row-init g c =
       going = going_first g.B.Backing.holds c.args.base all (length c.args.rows.now) _ (length-rows_from c.args.base (map contents c.args.rows.now) ∙ length-map c.args.rows.now contents) c.requires.room;
       size = refl;
       faults = omega arith;
+      calls = omega arith;
     }
 
 pub returns-in_err-install_row-clause-spares :
@@ -30,6 +31,7 @@ loop-row-preserved g c = record {
       c.loop-row.invariant.going c.in_ok-install_row.ensures.writes c.install_row.ensures.spares;
   size = c.install_row.ensures.size ∙ c.loop-row.invariant.size;
   faults = omega (arith, c.loop-row.invariant.faults, c.install_row.ensures.cause.later);
+  calls = omega (arith, c.loop-row.invariant.calls, c.install_row.ensures.calls);
 }
 
 pub returns-clause-writes : goal.returns-clause-writes

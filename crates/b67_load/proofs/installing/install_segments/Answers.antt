@@ -14,6 +14,7 @@ loop-segment-init g c =
       going = going_first g.B.Backing.holds c.args.base all (length c.args.segments.now) _ (length-code_from c.args.base (map segment_of c.args.segments.now) ∙ length-map c.args.segments.now segment_of) c.requires.room;
       size = refl;
       faults = omega arith;
+      calls = omega arith;
     }
 
 pub returns-in_err-install_segment-clause-spares :
@@ -30,6 +31,7 @@ loop-segment-preserved g c = record {
       c.loop-segment.invariant.going c.in_ok-install_segment.ensures.writes c.install_segment.ensures.spares;
   size = c.install_segment.ensures.size ∙ c.loop-segment.invariant.size;
   faults = omega (arith, c.loop-segment.invariant.faults, c.install_segment.ensures.cause.later);
+  calls = omega (arith, c.loop-segment.invariant.calls, c.install_segment.ensures.calls);
 }
 
 pub returns-clause-writes : goal.returns-clause-writes

@@ -11,4 +11,5 @@ invariant-loop-segment g l = record {
       (record { core = l.core; table = l.sectors; device = l.backing });
   size : g.B.Backing.size l.backing ≡ g.B.Backing.size l.initial.backing;
   faults : g.B.Backing.faults l.initial.backing ≤ g.B.Backing.faults l.backing;
+  calls : g.B.Backing.calls l.initial.backing ≤ g.B.Backing.calls l.backing;
 }

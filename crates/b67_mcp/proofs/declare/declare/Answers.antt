@@ -24,21 +24,21 @@ next_place-next-requires c = reads_of c.args.machine.now 8 c.requires
 
 pub answer_array-requires-clause-call : goal.answer_array-requires-clause-call
 answer_array-requires-clause-call c =
-    let q = c.requires in
-    let k = calling q.member q.task 8 q.called in
+    let q = c.requires.runs in
+    let k = calling q.member q.task 8 c.requires.called in
     let r = c.in-Ok.ensures.row q.storage q.plan q.session q.member q.task q.ordered q.stands.session q.running k.reference k.arguments k.call in
-    record { runs = (call_some c.args.machine.now 8 q).runs; may = r.2 }
+    record { runs = (call_some c.args.machine.now 8 c.requires).runs; may = r.2 }
 
 pub answer_array-requires-clause-some : goal.answer_array-requires-clause-some
 answer_array-requires-clause-some c =
-    let q = c.requires in
-    let k = calling q.member q.task 8 q.called in
+    let q = c.requires.runs in
+    let k = calling q.member q.task 8 c.requires.called in
     (c.in-Ok.ensures.row q.storage q.plan q.session q.member q.task q.ordered q.stands.session q.running k.reference k.arguments k.call).0
 
 pub answer_array-requires-clause-small : goal.answer_array-requires-clause-small
 answer_array-requires-clause-small c =
-    let q = c.requires in
-    let k = calling q.member q.task 8 q.called in
+    let q = c.requires.runs in
+    let k = calling q.member q.task 8 c.requires.called in
     (c.in-Ok.ensures.row q.storage q.plan q.session q.member q.task q.ordered q.stands.session q.running k.reference k.arguments k.call).1
 
 pub returns-clause-row : goal.returns-clause-row
@@ -70,16 +70,15 @@ returns-clause-row c = λ x told plan s m t o h runs code called.
 
 pub returns-clause-kept : goal.returns-clause-kept
 returns-clause-kept c =
-    let q = c.requires in
+    let q = c.requires.runs in
     let old = c.args.machine.now in
     let cpu = c.answer_array.new.cpu in
-    let k = calling q.member q.task 8 q.called in
+    let k = calling q.member q.task 8 c.requires.called in
     let r = c.in-Ok.ensures.row q.storage q.plan q.session q.member q.task q.ordered q.stands.session q.running k.reference k.arguments k.call in
     let session = c.answer_array.ensures.stands q.storage q.plan q.session q.member q.task q.ordered q.stands.session q.running r.2 in
     record {
       countable = λ few. few;
-      len = same_size q.storage (without q.storage cpu.regs.s) old.cpu cpu q.plan (with_home q.plan q.member.constants.number q.member.progress.job.next_array cpu.regs.s) q.session (with_job q.session q.member (job_declared q.member q.task c.in-Ok.length c.next_place-next.result)) q.stands.session session refl refl;
+      keeps = record { core = same_size q.storage (without q.storage cpu.regs.s) old.cpu cpu q.plan (with_home q.plan q.member.constants.number q.member.progress.job.next_array cpu.regs.s) q.session (with_job q.session q.member (job_declared q.member q.task c.in-Ok.length c.next_place-next.result)) q.stands.session session refl refl; sectors = refl; halt = refl };
       changed = c.answer_array.ensures.changed q.storage q.plan q.session q.member q.task q.ordered q.stands.session q.running r.2;
       sectors = refl;
-      halt = refl;
     }

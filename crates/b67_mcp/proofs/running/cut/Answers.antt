@@ -11,7 +11,7 @@ use Rattle.b67_mcp.proofs.running.cut.Goals as goal
 
 pub cut_call-requires-clause-call : goal.cut_call-requires-clause-call
 cut_call-requires-clause-call c =
-    let q = c.requires.reads in
+    let q = c.requires.reads.runs in
     record { runs = record { storage = q.storage; plan = q.plan; session = q.session; member = q.member; task = q.task; ordered = q.ordered; stands = q.stands.session; running = q.running }; may = c.requires.may }
 
 pub returns-clause-stands : goal.returns-clause-stands
@@ -28,8 +28,7 @@ returns-clause-stands c = λ x told plan s m t o h runs code may next behind.
 pub returns-clause-kept : goal.returns-clause-kept
 returns-clause-kept c = record {
   countable = λ few. few;
-  len = ap (λ (l : List Tagged). length l) c.cut_call.ensures.core;
+  keeps = record { core = ap (λ (l : List Tagged). length l) c.cut_call.ensures.core; sectors = refl; halt = refl };
   changed = λ i. inl (ap (λ (l : List Tagged). slice_get l i) c.cut_call.ensures.core);
   sectors = refl;
-  halt = refl;
 }

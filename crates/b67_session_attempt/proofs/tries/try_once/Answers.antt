@@ -17,18 +17,20 @@ stays x told plan s old new same h = let P : Machine → Type 0 = λ k. MachineR
 
 pub intrinsic-requires-clause-calls : goal.intrinsic-requires-clause-calls
 intrinsic-requires-clause-calls g c =
-    let r = c.requires.runs in
-    let it = was_call r.storage r.told r.plan r.session r.member r.task c.args.machine.now c.make.new.machine c.in-Call.n (code_area r.storage r.plan r.member r.task) refl (c.in-Call.ensures.row r.storage r.told r.plan r.session r.member r.task r.ordered r.stands r.running r.ready) in
+    let r = c.requires.runs.runs in
+    let it = was_call r.storage r.told r.plan r.session r.member r.task c.args.machine.now c.make.new.machine c.in-Call.n (code_area r.storage r.plan r.member r.task) refl (c.in-Call.ensures.row r.storage r.told r.plan r.session r.member r.task r.ordered r.stands r.running c.requires.runs.ready) in
     record {
-      storage = r.storage;
-      told = r.told;
-      plan = r.plan;
-      session = r.session;
-      member = r.member;
-      task = r.task;
-      ordered = r.ordered;
-      stands = stays r.storage r.told r.plan r.session c.args.machine.now c.make.new.machine it.2 r.stands;
-      running = r.running;
+      runs = record {
+        storage = r.storage;
+        told = r.told;
+        plan = r.plan;
+        session = r.session;
+        member = r.member;
+        task = r.task;
+        ordered = r.ordered;
+        stands = stays r.storage r.told r.plan r.session c.args.machine.now c.make.new.machine it.2 r.stands;
+        running = r.running;
+      };
       code = it.0;
       called = it.1;
     }
@@ -86,7 +88,7 @@ returns-in-Done-clause-fits g c = λ x told plan s m t o h runs ready.
     let new = c.make.new.machine in
     let row = c.in-Done.ensures.row x told plan s m t o h runs ready in
     let is = was_operator x told plan s m t answers.Done old new (code_area x plan m t) refl (λ e. absurd cc) (λ n e. absurd cc) row in
-    operator_fits x told plan s m t o runs old h is (made_touches x told plan s m t o runs new (was_made x told plan s m t old new (code_area x plan m t) row))
+    operator_fits x told plan s m t o runs old h is (made_touches x told plan s m t o runs old new (was_made x told plan s m t old new (code_area x plan m t) row))
 
 pub returns-in-Fault-clause-fits : goal.returns-in-Fault-clause-fits
 returns-in-Fault-clause-fits g c = λ x told plan s m t o h runs ready.
