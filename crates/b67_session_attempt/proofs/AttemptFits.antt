@@ -25,7 +25,6 @@ use Rattle.b67_stack.specs.Represents.{Storage}
 use Rattle.b67_layout.specs.Placement.{Placement}
 use Rattle.b67_layout.specs.Session.{IsRunning}
 use Rattle.b67_layout.specs.Meets.{here, area_held, IsPresent}
-use Rattle.b67_layout.proofs.Others.{keyed-has}
 use Rattle.b67_model.specs.Called.{called_at, called_by, called_on, called}
 use Rattle.b67_exec_cells.specs.Running.{code_area}
 use Rattle.b67_exec_cells.specs.Called as operators
