@@ -1,5 +1,5 @@
 -- The machine that was set up, with its tables, stands for the opening state of a deck's session.
-use Rattle.std.proofs.Common.{◌≡◌, ℕ, List, length, map, Option, ◌∙◌}
+use Rattle.std.proofs.Common.{◌+◌, ◌≡◌, ℕ, List, length, map, Option, ◌∙◌}
 use Rattle.std.specs.List.{AllByRecursion}
 use Rattle.std.proofs.lemmas.List.{length-map}
 use Rattle.b67_backing.specs.Shelf.{Table, IsShelf, all_free}
