@@ -1,4 +1,4 @@
--- A live array is a object of the view: its original and its numbers in core.
+-- A live array is an object of the view: its original and its numbers in core.
 use Rattle.std.proofs.Common.{◌≡◌, ℕ, zero, suc, ◌+◌, ◌<◌, ◌^◌, List, [], ◌∷◌, map, flat_map, length, Option, Some, None, refl, sym, ◌∙◌, ap, arith, Bool, true, false, not, subst}
 use Rattle.std.specs.Prelude.{slice_index, unwrap_or, if◌then◌else◌}
 use Rattle.std.specs.List.{slice_get}

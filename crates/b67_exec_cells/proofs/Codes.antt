@@ -1,4 +1,4 @@
--- The running segment is a object of the view: its descriptor and its words in core.
+-- The running segment is an object of the view: its descriptor and its words in core.
 use Rattle.std.proofs.Common.{◌≡◌, ℕ, zero, suc, ◌+◌, ◌-◌, ◌<◌, ◌^◌, List, [], ◌∷◌, map, flat_map, length, Option, Some, None, refl, sym, ◌∙◌, ap, arith, inl, inr, true, false, subst}
 use Rattle.std.specs.List.{slice_get, slice_range}
 use Rattle.std.proofs.lemmas.Option.{same_Some, none-some, slice_get_within}

@@ -55,7 +55,7 @@ shapes_plain plan j job spot [] plain home h = h
 shapes_plain plan j job spot (w ∷ ws) plain home (inl e) = original_shape plan j job spot w home plain.0 e
 shapes_plain plan j job spot (w ∷ ws) plain home (inr h) = shapes_plain plan j job spot ws plain.1 home h
 
--- a live array is a object of the view
+-- a live array is an object of the view
 mapped : (plan : Placement) (j : ℕ) (xs : List State.Array) (a : State.Array) → Has xs a → Has (map (array_object plan j) xs) (array_object plan j a)
 mapped plan j [] a h = h
 mapped plan j (b ∷ more) a (inl e) = inl (ap (array_object plan j) e)

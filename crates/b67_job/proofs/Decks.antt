@@ -186,7 +186,7 @@ module _ {K B : Type 0} (taken : K → Option (List ℕ)) (failures : K → ℕ)
       let first = session_of d (program_of f ∷ []) in
       let still = still_told holds b b' first_calls.tells in
       let r = subst (λ (x : Option (List (List ℕ))). JobRan taken failures x (known ≢ None) (Rose broken b' b'') (size b') 100000000 j.body_card first k0 k old new answer) (known_later (holds b) (holds b') (holds b'') still)
-          (rans known first (member_of d.stack j (program_of f)) task_of (says_after (holds b) (holds b')) lone) in
+      (rans known first (member_of d.stack j (program_of f)) task_of (says_after (holds b) (holds b')) lone) in
       let now = content_after (holds b) (holds b'') in
       let begun : k0.tasks.made ≡ 0 = o.2.stands.tables.counts.made in
       let made : k.tasks.made ≡ r.slices.steps = from_none k.tasks.made k0.tasks.made r.slices.steps begun r.slices.made in

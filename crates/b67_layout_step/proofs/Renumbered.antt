@@ -1,4 +1,4 @@
--- The session whose view has other numbers in a object: what a device that tells nothing may have given back.
+-- The session whose view has other numbers in an object: what a device that tells nothing may have given back.
 use Rattle.std.proofs.Common.{◌≡◌, ℕ, suc, ◌+◌, ◌<◌, ◌≤◌, ◌^◌, ◌++◌, ◌==◌, List, [], ◌∷◌, length, map, Option, Some, None, refl, sym, ◌∙◌, ap, Bool, true, false, subst, inl, inr, ⊎_elim, unwrap_or}
 use Rattle.std.specs.Prelude.{if◌then◌else◌, flat_map, not, option_map}
 use Rattle.std.proofs.lemmas.Bool.{cases_Bool, eqb-true}

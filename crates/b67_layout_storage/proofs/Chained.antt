@@ -6,7 +6,7 @@ use Rattle.b67_stack.specs.MachineView.{PagedObject}
 use Rattle.b67_stack.specs.Represents.{Storage, KeptChain, HasChain, Content}
 use Rattle.b67_word.specs.Tagged.{Tagged}
 
--- a object's chain, if it has one
+-- an object's chain, if it has one
 pub Keeps-chain : (x : Storage) (t : PagedObject) (k : Kind) (f : ℕ) → KeptChain x t k f → (f ≡ 0) ⊎ HasChain x t f
 Keeps-chain x t Array f c = c
 Keeps-chain x t Row f c = inr c.chain

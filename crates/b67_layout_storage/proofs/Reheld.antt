@@ -50,7 +50,7 @@ module _ (x y : Storage) (t : PagedObject) (f : ℕ) (c : ChainStays x y f) wher
   Rests-stays (inl h) = inl (HoldsIn-stays h)
   Rests-stays (inr z) = inr z
 
-  -- a object's content, by the words of its area and by its chain
+  -- an object's content, by the words of its area and by its chain
   pub Content-stays : (core new : List Tagged) (a : Option ℕ) → ((b : ℕ) → a ≡ Some b → (q : ℕ) → b ≤ q → q < b + length t.numbers → slice_get new q ≡ slice_get core q) → Content x core t a f → Content y new t a f
   Content-stays core new (Some a) same k =
       (Upward-same core new a (words_of t) (λ q low high. same a refl q low (omega (arith, length-map t.numbers (word (tag_of t.kind))))) k.0, Keeps-stays t.kind k.1)

@@ -13,7 +13,7 @@ use Rattle.b67_stack.specs.MachineView.{PagedObject, MachineView, Slot, Free, Ru
 use Rattle.b67_stack.specs.Represents.{Storage, RepresentsSlot, RepresentsObjects, RepresentsObject, Content, AbsentContent, Told, Owned, info_of, Represents}
 use Rattle.b67_layout_storage.specs.Machine.{renumber, renumbered, Stayed}
 
--- a object of other numbers, as many
+-- an object of other numbers, as many
 pub record Alike (u v : PagedObject) : Type 0 where
   pub home : v.home ≡ u.home
   pub kind : v.kind ≡ u.kind

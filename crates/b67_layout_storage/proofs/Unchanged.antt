@@ -22,7 +22,7 @@ use Rattle.b67_stack.proofs.Lies.{Lie-same}
 use Rattle.b67_layout_storage.proofs.Reheld.{RepresentsSlots-same, Content-stays}
 
 module _ (x : Storage) (core : List Tagged) (r : Regs) (p : MachineView) (s : Represents x core r p) where
-  -- a object's area
+  -- an object's area
   pub area_of_object : (u : PagedObject) → Has p.objects u → (b : ℕ) → (x.held u.home).area ≡ Some b → area_at x.low x.spans b ≡ Some (info_of x u)
   area_of_object u inu b e =
       let o = s.owned.of_held u.home b e in

@@ -121,7 +121,7 @@ module _ {D : Type 0} (tell : D → Option (List (List ℕ))) where
     left = omega (arith, left);
   }
 
-  -- a object whose words were put on a shelf, and its descriptor into core
+  -- an object whose words were put on a shelf, and its descriptor into core
   pub written : (t : PagedObject) (ws : List Tagged) (x : ℕ) (a b : Parts D) → (s : Shelf) × IsShelf a.table s
       → words_of t ≡ ws → length t.numbers ≡ length ws → 1 ≤ length ws → sectors_for (length ws) ≤ a.table.free
       → ((s : Shelf) → IsShelf a.table s → IsShelf b.table (taken (sectors_for (length ws)) s))

@@ -25,7 +25,7 @@ objects_of base p = code_from (base + 2) p.segments ++ rows_from (base + (2 + le
 abbrev pub entries_of : Program → ℕ
 entries_of p = length p.segments + length p.rows
 
--- the sectors of a object, and of all
+-- the sectors of an object, and of all
 abbrev pub sectors_of : PagedObject → ℕ
 sectors_of t = sectors_for (length t.numbers)
 

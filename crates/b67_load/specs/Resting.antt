@@ -10,7 +10,7 @@ use Rattle.b67_stack.specs.Shapes.{at_rest}
 use Rattle.b67_stack.specs.MachineView.{PagedObject, home_word, words_of}
 use Rattle.b67_load.specs.Objects.{sectors_of, objects_of, entries_of}
 
--- a object and its sectors
+-- an object and its sectors
 pub record Resting : Type 0 where
   pub object : PagedObject
   pub chain : List ℕ
@@ -25,7 +25,7 @@ abbrev pub stocked : List PagedObject → Shelf → Shelf
 stocked [] s = s
 stocked (t ∷ more) s = stocked more (taken (sectors_of t) s)
 
--- the descriptor of a object that rests
+-- the descriptor of an object that rests
 abbrev pub descriptor : Resting → Tagged
 descriptor r = home_word r.object (at_rest (first r.chain))
 

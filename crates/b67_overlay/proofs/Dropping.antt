@@ -1,4 +1,4 @@
--- A object's area is given back.
+-- An object's area is given back.
 use Rattle.std.proofs.Common.{◌≡◌, ◌≢◌, ℕ, suc, ◌+◌, ◌<◌, ◌≤◌, ◌==◌, List, length, Some, None, refl, sym, ◌∙◌, ap, arith, inl, inr, ⊎_elim, slice_set, subst}
 use Rattle.std.specs.List.{slice_get}
 use Rattle.std.proofs.lemmas.List.{length-set}

@@ -23,7 +23,7 @@ sectors_out shelf kept words = chain_of (chain_out shelf kept) (shelf_out shelf 
 abbrev pub retelling : Storage → Option (List (List ℕ)) → Storage
 retelling x told = record x { device = content_after x.device told }
 
--- the storage where the area of a object is a hole and its words are in sectors
+-- the storage where the area of an object is a hole and its words are in sectors
 abbrev pub overlaid : Storage → PagedObject → ℕ → Option (List (List ℕ)) → Storage
 overlaid x t at told = record x {
   held = with_held x.held t.home (record { area = None; chain = chain_out x.shelf (x.held t.home).chain });
@@ -32,7 +32,7 @@ overlaid x t at told = record x {
   device = content_after x.device told;
 }
 
--- sectors in which a object's words are, in the chain of this first one, and every other object's where they were
+-- sectors in which an object's words are, in the chain of this first one, and every other object's where they were
 pub record IsOut (x y : Storage) (p : MachineView) (t : PagedObject) (first : ℕ) : Type 0 where
   pub holds : HoldsIn y t first
   pub others : (u : PagedObject) → Has p.objects u → u.home ≢ t.home → ChainStays x y (x.held u.home).chain
@@ -40,7 +40,7 @@ pub record IsOut (x y : Storage) (p : MachineView) (t : PagedObject) (first : �
   pub no_zero : chain_of 0 y.shelf.chains ≡ []
   pub own : (u : PagedObject) → Has p.objects u → u.home ≢ t.home → (x.held u.home).chain ≢ first
 
--- the storage where a object is in those sectors alone
+-- the storage where an object is in those sectors alone
 abbrev pub dropped : Storage → Storage → PagedObject → ℕ → ℕ → Storage
 dropped x y t at first = record x {
   held = with_held x.held t.home (record { area = None; chain = first });

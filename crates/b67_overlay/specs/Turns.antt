@@ -39,7 +39,7 @@ pub record Lies (core : List Tagged) (r : Regs) (low : ℕ) (p : MachineView) : 
   pub small : length core < 2 ^ 20
   pub base : (k : ℕ) → k < p.peak → slot_base p k < low
 
--- no word of a stack has the address of a object's area any more: each is what it was, where that object is held so. The
+-- no word of a stack has the address of an object's area any more: each is what it was, where that object is held so. The
 -- descriptors and all that isn't in a stack are as they were
 pub record Hides (x : Storage) (core new : List Tagged) (p : MachineView) (t : PagedObject) (h : Location) : Type 0 where
   pub size : length new ≡ length core

@@ -22,7 +22,7 @@ use b67_ctl::{DataDesc, SegDesc};
 use b67_stack::Cpu;
 use b67_word::Word;
 
-/// The word of the original or segment descriptor of a object that isn't in core.
+/// The word of the original or segment descriptor of an object that isn't in core.
 fn absent_word(info: Info, first: u32) -> Word
     requires words { info.words < 2 ^ 20 }
     requires first { first < 2 ^ 20 }

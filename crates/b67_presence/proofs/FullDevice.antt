@@ -22,11 +22,11 @@ use Rattle.b67_layout.specs.Layout.{array_object, code_objects, objects_of, mach
 use Rattle.b67_presence.specs.Full.{ShortIsFull}
 use Rattle.b67_presence.proofs.Covers.{covers}
 
--- the sectors that a object takes
+-- the sectors that an object takes
 abbrev pub sectors_of_object : PagedObject → ℕ
 sectors_of_object t = sectors_for (length t.numbers)
 
--- the chain of a object has no more
+-- the chain of an object has no more
 keeps_few : (x : Storage) (t : PagedObject) (k : Kind) (f : ℕ) → chain_of 0 x.shelf.chains ≡ [] → KeptChain x t k f → length (chain_of f x.shelf.chains) ≤ sectors_of_object t
 keeps_few x t Array f z (inl e) = rw (e, z) (omega arith)
 keeps_few x t Array f z (inr h) = omega (arith, h.sectors)

@@ -53,7 +53,7 @@ object_bits plan s o t i = all_bits plan s.jobs o.jobs t i
 pub readable : (x : Storage) (plan : Placement) (s : Session) → IsInOrderButPlaces s → IsReadable x (machine_view plan s.jobs)
 readable x plan s o = inr (object_bits plan s o)
 
--- the session with other numbers in a object has other numbers
+-- the session with other numbers in an object has other numbers
 module _ (plan : Placement) (home : ℕ) (ns : List ℕ) (bits : AreBits ns) where
   recoded_other : (j n : ℕ) (segments : List Segment) → AllByRecursion SegmentInOrder segments → Fitting home ns (code_objects plan j n segments) → Recoded segments (recoded plan j home ns n segments)
   recoded_other j n [] order fits = tt
@@ -124,7 +124,7 @@ module _ (x : Storage) (plan : Placement) (s : Session) (o : IsInOrderButPlaces 
       it)
       (none_or x.device)
 
--- where a object of a view comes from that was read
+-- where an object of a view comes from that was read
 renumber_like : (home : ℕ) (ns : List ℕ) (u : PagedObject) → (u.home ≡ home → length ns ≡ length u.numbers) → ((renumber home ns u).home ≡ u.home) × (length (renumber home ns u).numbers ≡ length u.numbers)
 renumber_like home ns u fits = ⊎_elim
     (λ (e : (u.home == home) ≡ true). rw e (refl, fits (eqb-true u.home home e)))

@@ -1,4 +1,4 @@
--- What is wanted, as a object of the view, and how much core it needs.
+-- What is wanted, as an object of the view, and how much core it needs.
 use Rattle.std.proofs.Common.{◌≡◌, ◌≢◌, ℕ, ◌+◌, ◌-◌, ◌^◌, ◌<◌, ◌↔◌, List, length, map, flat_map, Option, Some, None, refl, sym, ◌∙◌, ap, arith, subst}
 use Rattle.std.proofs.lemmas.Bool.{ne_eqb}
 use Rattle.b67_area.specs.declared.kinds.Kind.TheVariants.{Code}

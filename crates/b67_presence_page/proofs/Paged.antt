@@ -1,4 +1,4 @@
--- The machine after a object was brought in, by what the calls tell.
+-- The machine after an object was brought in, by what the calls tell.
 use Rattle.std.proofs.Common.{◌≡◌, ℕ, ◌+◌, ◌<◌, List, length, Option, Some, None, refl, sym, ◌∙◌, ap, ⊎_elim, slice_set, subst}
 use Rattle.b67_word.specs.Tagged.{Tagged}
 use Rattle.b67_area.specs.declared.Areas.{Areas}

@@ -1,4 +1,4 @@
--- Where nothing but a hole is left, a object finds its place, and then the code.
+-- Where nothing but a hole is left, an object finds its place, and then the code.
 use Rattle.std.proofs.Common.{◌≡◌, ℕ, zero, suc, ◌+◌, ◌-◌, ◌<◌, ◌≤◌, List, [], ◌∷◌, length, Some, refl, sym, arith, inl, inr, ⊎_elim, ◌==◌, subst}
 use Rattle.std.proofs.lemmas.Bool.{cases_Bool, cond-true, eq-eqb, le-leb}
 use Rattle.b67_word.specs.Tagged.{Tagged}

@@ -17,7 +17,7 @@ use Rattle.b67_presence_page.specs.Brought.{brought, IsPlace}
 abbrev pub IsReadable : Storage → MachineView → Type 0
 IsReadable x p = (x.device ≡ None) ⊎ ((t : PagedObject) → Has p.objects t → AreBits t.numbers)
 
--- the view after a object was read: the same where the device tells its sectors, else with as many numbers, and again those of words
+-- the view after an object was read: the same where the device tells its sectors, else with as many numbers, and again those of words
 pub record ReadBack (x : Storage) (p q : MachineView) (t : PagedObject) : Type 0 where
   pub numbers : List ℕ
   pub count : length numbers ≡ length t.numbers
@@ -56,7 +56,7 @@ pub record IsCode (x : Storage) (p : MachineView) (home at : ℕ) (c : PagedObje
   pub kind : c.kind ≡ Code
   pub present : (x.held home).area ≡ Some at
 
--- both a object and the running code are in core
+-- both an object and the running code are in core
 pub record BothIn (x : Storage) (p : MachineView) (t c : PagedObject) (cpu : Cpu) (areas : Areas) (table : Table) (told : Option (List (List ℕ))) : Type 0 where
   pub storage : Storage
   pub read : MachineView
@@ -81,7 +81,7 @@ pub record MayWait (x : Storage) (p : MachineView) (t c : PagedObject) (cpu : Cp
   pub reads : ReadBack x p machine_view t
   pub stands : MachineRepresentsView storage cpu areas table told machine_view
 
--- the words that core must have for a object beside the stacks, and for the running code with it
+-- the words that core must have for an object beside the stacks, and for the running code with it
 abbrev pub need_one : Storage → PagedObject → ℕ
 need_one x t = x.low + (length t.numbers + 2)
 

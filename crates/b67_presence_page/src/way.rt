@@ -1,4 +1,4 @@
-//! Areas that give way to a object.
+//! Areas that give way to an object.
 
 ghost use Rattle.std.specs.Prelude.{◌≡◌, ◌≢◌, ℕ, ◌+◌, ◌<◌, ◌≤◌, Some, None, Ok, Err, OnOk, OnErr, length, true, false};
 ghost use Rattle.b67_area.specs.declared.Info.{Info};

@@ -55,7 +55,7 @@ module _ (x : Storage) (cpu : Cpu) (plan : Placement) (s : Session) (m : Session
       ap (λ (n : ℕ). fixed s.jobs + n * m.constants.stack_size + (length (code_of m.constants t.segment) + 2) + array_area words) peak
       ∙ ap (λ (n : ℕ). n + (length (code_of m.constants t.segment) + 2) + array_area words) (sym low_is)
 
-  -- the area of a object that is present
+  -- the area of an object that is present
   area_is : (z : PagedObject) (at : ℕ) → Has (flat_map (objects_of plan) s.jobs) z → (x.held z.home).area ≡ Some at → area_at x.low x.spans at ≡ Some (info_of x z)
   area_is z at there e =
       let f = h.holds.memory.owned.of_held z.home at e in

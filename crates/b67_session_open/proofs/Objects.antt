@@ -21,7 +21,7 @@ use Rattle.b67_session_open.specs.Opened.{dictionary_words, dictionaries, segmen
 use Rattle.b67_session_open.proofs.Lists.{has_mapped, has_flat}
 use Rattle.b67_session_open.proofs.Members.{member, for_members, has_member}
 
--- a object of one of these programs
+-- an object of one of these programs
 pub record IsObject (programs : List Program) (t : PagedObject) : Type 0 where
   pub place : ℕ
   pub program : Program

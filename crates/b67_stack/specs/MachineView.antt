@@ -65,7 +65,7 @@ home_word_of Code n h = seg_word (record { present = is_present h.area; words = 
 abbrev pub home_word : PagedObject → Location → Tagged
 home_word t h = home_word_of t.kind (length t.numbers) h
 
--- the words of a object in an area
+-- the words of an object in an area
 abbrev pub tag_of : Kind → ℕ
 tag_of Array = 0
 tag_of Row = 0

@@ -56,7 +56,7 @@ abbrev pub StacksLie : Locations → List Tagged → MachineView → Type 0
 StacksLie held core p =
     (k : ℕ) → k < p.peak → LieDownward (Fits held) core (suc (slot_base p k)) (words k (stack_of (p.slots k)))
 
--- a chain of as many sectors as a object's words take
+-- a chain of as many sectors as an object's words take
 pub record HasChain (x : Storage) (t : PagedObject) (first : ℕ) : Type 0 where
   pub some : 0 < first
   pub small : first < 2 ^ 20
@@ -67,7 +67,7 @@ abbrev pub Told : Option (List (List ℕ)) → List ℕ → List ℕ → Type 0
 Told None chain numbers = Unit {0}
 Told (Some all) chain numbers = Holds all chain 0 numbers
 
--- a chain that holds a object's words
+-- a chain that holds an object's words
 pub record HoldsIn (x : Storage) (t : PagedObject) (first : ℕ) : Type 0 where
   pub chain : HasChain x t first
   pub told : Told x.device (chain_of first x.shelf.chains) (map number (words_of t))
@@ -86,7 +86,7 @@ abbrev pub Content : Storage → List Tagged → PagedObject → Option ℕ → 
 Content x core t (Some at) first = LieUpward core at (words_of t) × KeptChain x t t.kind first
 Content x core t None first = AbsentContent x t first
 
--- the original or segment descriptor of a object, and its words
+-- the original or segment descriptor of an object, and its words
 pub record RepresentsObject (x : Storage) (core : List Tagged) (t : PagedObject) : Type 0 where
   pub home : slice_get core t.home ≡ Some (home_word t (x.held t.home))
   pub content : Content x core t (x.held t.home).area (x.held t.home).chain
@@ -94,11 +94,11 @@ pub record RepresentsObject (x : Storage) (core : List Tagged) (t : PagedObject)
 abbrev pub RepresentsObjects : Storage → List Tagged → List PagedObject → Type 0
 RepresentsObjects x core objects = (t : PagedObject) → Has objects t → RepresentsObject x core t
 
--- what head and tail of a object's area say
+-- what head and tail of an object's area say
 abbrev pub info_of : Storage → PagedObject → Info
 info_of x t = record { kind = t.kind; words = length t.numbers; owner = t.home; kept = (x.held t.home).chain }
 
--- each area and each chain belongs to one object, and a object that is held in an area has that area
+-- each area and each chain belongs to one object, and an object that is held in an area has that area
 pub record Owned (x : Storage) (objects : List PagedObject) : Type 0 where
   pub of_area : (at : ℕ) (a : Info) → area_at x.low x.spans at ≡ Some a
       → (t : PagedObject) × Has objects t × ((x.held t.home).area ≡ Some at) × (a ≡ info_of x t)

@@ -128,7 +128,7 @@ module _ (plan : Placement) (s : Session) (m : SessionJob) (t : Task) (single : 
       subst (Has (left ++ stays)) r.is (from_array r.item r.among (owned t r.item) refl))
       (has_append_cases codes (arrays_of m.progress.job.arrays) u h)
 
-  -- a object that stays is one of the job's, by an array that no frame of the task owns
+  -- an object that stays is one of the job's, by an array that no frame of the task owns
   pub record Stays (u : PagedObject) : Type 0 where
     pub one : Has codes u ⊎ ((a : Array) × Has m.progress.job.arrays a × (owned t a ≡ false) × (array_object plan m.constants.number a ≡ u))
 

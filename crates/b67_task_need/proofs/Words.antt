@@ -44,7 +44,7 @@ is_copy w t b = rw (eq-eqb w.tag 5 t, ne_eqb (bits_at w 46 1) 0 (λ z. omega (ar
 is_plain : (w : Tagged) → w.tag ≢ 5 → sectors_of_word false w ≡ 0
 is_plain w t = rw (ne_eqb w.tag 5 t) refl
 
--- the word at the home of a object
+-- the word at the home of an object
 module _ (n : ℕ) (h : Location) (short : n < 2 ^ 16) (low : address_or h.area h.chain < 2 ^ 20) where
   pub home_array : (code : Bool) (k : Kind) → k ≢ Code → sectors_of_word code (home_word_of k n h) ≡ sectors_for n
   home_array code Array ne = is_data code (home_word_of Array n h) n refl (own_bit (bit (is_present h.area)) 0 n (address_or h.area h.chain) (bit-lt (is_present h.area)) (omega arith) short low) (own_length (bit (is_present h.area)) 0 n (address_or h.area h.chain) (bit-lt (is_present h.area)) (omega arith) short low)
