@@ -17,7 +17,8 @@ use Rattle.b67_model.specs.State.{Frame, Task, Job, JobProgress, SessionJob, mcp
 use Rattle.b67_model.specs.Cells.{cell_of}
 use Rattle.b67_model.specs.Run.{number_of}
 use Rattle.b67_model.specs.Schedule.{Session}
-use Rattle.b67_model.specs.InOrder.{Known, known_of, identities, IsEntered, IsSegment, NamesEntered, EntryInOrder, IsInOrderButPlaces}
+use Rattle.b67_model.specs.InOrder.{Known, known_of, identities, IsEntered, IsSegment, NamesEntered, EntryInOrder}
+use Rattle.b67_layout.specs.Orders.{IsInOrderButCounts}
 use Rattle.b67_law_order.proofs.Chases.{cell_has}
 use Rattle.b67_law_order.proofs.Looks.{IsFrame, found_frame}
 use Rattle.b67_stack.specs.declared.Cpu.{Cpu}
@@ -139,7 +140,7 @@ module _ (core : List Tagged) (r : Regs) (a : RunningContext core r) (q : Place)
       ap (frame_address a.plan a.member u) g.1 ∙ ap (address_of a.plan) (spot_under (slot_of a.plan a.member.constants.number u.number) (outer_spots a.plan a.member.constants.number a.member.progress.job u.critical u.parents) u.frames f own_of.has ∙ sym own_of.spot) in
       here_at.address ∙ ap (λ (n : ℕ). n + offset) (sym e)
 
-module _ (x : Storage) (old : Cpu) (plan : Placement) (s : Session) (m : SessionJob) (t : Task) (o : IsInOrderButPlaces s) (h : RepresentsSession x old plan s) (runs_t : IsRunning plan s.jobs m t) where
+module _ (x : Storage) (old : Cpu) (plan : Placement) (s : Session) (m : SessionJob) (t : Task) (o : IsInOrderButCounts s) (h : RepresentsSession x old plan s) (runs_t : IsRunning plan s.jobs m t) where
   -- the scene of the machine
   abbrev pub scene : RunningContext old.core old.regs
   scene = Scenes.scene [] x old.core old.regs old.critical plan s m t o h.holds runs_t

@@ -20,7 +20,7 @@ use Rattle.b67_layout.specs.Placement.{Placement}
 use Rattle.b67_task_tables.specs.declared.tables.JobRow.{JobRow}
 use Rattle.b67_task_tables.specs.declared.tables.Tasks.{Tasks}
 use Rattle.b67_task_tables.specs.declared.tables.Machine.{Machine}
-use Rattle.b67_task_tables.specs.Tables.{TasksShow, MachineRepresents}
+use Rattle.b67_task_tables.specs.Tables.{TasksShow, MachineRepresents, row_names}
 use Rattle.b67_session_schedule.specs.declared.counting.Chosen.{Chosen}
 use Rattle.b67_session_schedule.specs.Counted.{choice_of}
 use Rattle.b67_task.specs.Endings.{HasRowsOf, EndsIn}
@@ -45,6 +45,7 @@ pub record IsCounted (c : Chosen) (old new : Tasks) : Type 0 where
   pub last_number : new.last_number ≡ c.number
   pub printed : new.printed ≡ 0
   pub countable : AreCountable old.jobs → AreCountable new.jobs
+  pub names : row_names new.jobs ≡ row_names old.jobs
 
 -- whether the job that made the last operator has made as many as it may
 pub record AtLimit (tasks : Tasks) (at : Bool) : Type 0 where
