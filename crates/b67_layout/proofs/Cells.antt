@@ -1,13 +1,11 @@
 -- The running task with other cells on top: its job and its session in order.
-use Rattle.std.proofs.Common.{◌≡◌, ◌≢◌, ℕ, ◌+◌, ◌<◌, ◌≤◌, ◌^◌, List, [], ◌∷◌, ◌++◌, map, refl, sym, ap, subst, inl, inr, arith, IsTrue}
+use Rattle.std.proofs.Common.{◌≡◌, ◌≢◌, ℕ, ◌+◌, ◌<◌, ◌≤◌, ◌^◌, List, [], ◌∷◌, ◌++◌, map, refl, sym, ap, subst, inl, inr, arith}
 use Rattle.std.proofs.lemmas.Bool.Decides.{eqb_tells}
 use Rattle.b67_word.specs.declared.couples.Place.{Place}
-use Rattle.b67_model.specs.Keyed.{change_keyed}
 use Rattle.b67_lemmas.specs.Lists.{Has, Falls, how_many}
 use Rattle.b67_lemmas.proofs.Members.{all_in, length_change}
 use Rattle.b67_model.specs.Words.{Word}
 use Rattle.b67_model.specs.State.{Frame, Array, Task, Job, SessionJob, top, with_top_cells, height, with_task}
-use Rattle.b67_model.specs.Endings.{is_ready}
 use Rattle.b67_model.specs.Schedule.{Session}
 use Rattle.b67_model.specs.InOrder.{Starts, IsSegment, Known, known_of, known_numbers, from_frame, outer_of, identities, is_original_of, originals_in, originals_of, frames_named, FramesInOrder, StackInOrder, CellsInOrder, ConditionInOrder, TaskInOrder, TasksInOrder}
 use Rattle.b67_layout.specs.Orders.{JobInOrderButCounts, IsInOrderButCounts}
@@ -19,7 +17,6 @@ use Rattle.b67_layout.specs.Session.{IsRunning}
 use Rattle.b67_layout.specs.Meets.{with_job}
 use Rattle.b67_layout.proofs.Whole.{task_with}
 use Rattle.b67_layout.proofs.Fresh.{running_in_order}
-use Rattle.b67_layout.proofs.Sessions.{change-kept}
 use Rattle.b67_layout.proofs.Members.{member_kept}
 
 -- what other cells leave of the frames

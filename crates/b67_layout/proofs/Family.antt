@@ -1,6 +1,6 @@
 -- A machine of a parent and a child: the job of `Witness`, whose first task has given birth to a second one. The child runs in
 -- slot 1, and its outermost activation record has the parent's as its environment; the parent waits in slot 0.
-use Rattle.std.proofs.Common.{◌≡◌, ◌≢◌, ℕ, ◌+◌, ◌-◌, ◌*◌, ◌<◌, ◌≤◌, ◌^◌, ◌==◌, List, [], ◌∷◌, ◌++◌, length, Some, None, refl, sym, ◌∙◌, ap, arith, inl, inr, ⊎_elim, subst, replicate, absurd}
+use Rattle.std.proofs.Common.{◌≡◌, suc, ◌≢◌, ℕ, ◌+◌, ◌-◌, ◌*◌, ◌<◌, ◌≤◌, ◌^◌, ◌==◌, List, [], ◌∷◌, ◌++◌, length, Some, None, refl, sym, ◌∙◌, ap, arith, inl, inr, ⊎_elim, subst, replicate}
 use Rattle.std.specs.Prelude.{if◌then◌else◌, map}
 use Rattle.std.specs.List.{slice_get}
 use Rattle.std.proofs.lemmas.Option.{none-some, same_Some}
@@ -18,7 +18,7 @@ use Rattle.b67_core.specs.Numbers.{number}
 use Rattle.b67_model.specs.State.{Entered, Ready, Task, Job, SessionJob}
 use Rattle.b67_model.specs.Environment.{frame_at}
 use Rattle.b67_model.specs.Program.{Program, opened}
-use Rattle.b67_model.specs.Run.{number_of, start}
+use Rattle.b67_model.specs.Run.{number_of}
 use Rattle.b67_model.specs.Schedule.{Session}
 use Rattle.b67_model.specs.InOrder.{IsSegment, SettingInOrder, TaskInOrder, TasksInOrder, frames_in_job}
 use Rattle.b67_stack.specs.declared.Cpu.{Cpu}
@@ -30,9 +30,9 @@ use Rattle.b67_lemmas.proofs.Members.{keyed-has}
 use Rattle.b67_layout.specs.Placement.{Placement, Slotted, slot_of}
 use Rattle.b67_layout.specs.Layout.{machine_view}
 use Rattle.b67_layout.specs.Session.{PlanFits, RowsFit, IsRunning, RepresentsDictionary, RepresentsVector, RepresentsCritical, RepresentsTask, vector_word, critical_mark, frame_address, ShowsDisplay, SessionHolds, RepresentsSession}
-use Rattle.b67_layout.specs.Orders.{JobInOrderButCounts, IsInOrderButCounts}
+use Rattle.b67_layout.specs.Orders.{IsInOrderButCounts}
 use Rattle.b67_layout.specs.Families.{RunsChild}
-use Rattle.b67_layout.proofs.Witness.{AllFrom, all_from, get-past, get-replicate, get-only, only}
+use Rattle.b67_layout.proofs.Witness.{all_from, get-past, get-replicate, get-only, only}
 
 -- ---- the session
 

@@ -1,5 +1,5 @@
 -- A session in order is so without its counts.
-use Rattle.std.proofs.Common.{ℕ, List, [], ◌∷◌, arith}
+use Rattle.std.proofs.Common.{List, [], ◌∷◌, arith}
 use Rattle.std.specs.List.{AllByRecursion}
 use Rattle.b67_model.specs.State.{JobConstants, JobProgress, SessionJob}
 use Rattle.b67_model.specs.Schedule.{Session}
