@@ -11,12 +11,13 @@ use Rattle.b67_model.specs.Arithmetic.{Binary, add, subt, mult, idiv, rdiv, less
 use Rattle.b67_model.specs.Words.{Word, Operand, Name, Ref, Row, Element, Original, operand, whole}
 use Rattle.b67_model.specs.State.{Frame, Standing, Marked, Entered, Task, Here, top, below_top, with_task}
 use Rattle.b67_model.specs.Cells.{place_of, cell, with_cell}
-use Rattle.b67_model.specs.Arrays.{array, element, with_element, indexed, in_order}
+use Rattle.b67_model.specs.Arrays.{array, element, with_element, with_array, all_zero, resized}
+use Rattle.b67_model.specs.Indexing.{indexed, in_order}
 use Rattle.b67_model.specs.Chase.{End, AtCell, AtElement, AtArray, AtProc, AtIntrinsic, chase, follow, follow_reference}
 use Rattle.b67_model.specs.Steps.{Line, Value, Values, Done, Goes, top_of, cells_of, with_cells, leaves_cells, pushes}
 use Rattle.b67_model.specs.Entry.{back_to, needs_level}
 use Rattle.b67_word.specs.declared.faults.Fault.TheVariants.{StackOverflow}
-use Rattle.b67_model.specs.Intrinsics.{answered, answers, array_length, arraydec, print, row_copy, numbers_of, printrow, read_from, read, child_of, starts, process, awaits, await, status_of, status, waits_at, wait, causes, cause, intrinsic}
+use Rattle.b67_model.specs.Intrinsics.{answered, answers, array_length, arraydec, print, row_copy, numbers_of, printrow, read_from, read, child_of, starts, process, awaits, await, status_of, status, waits_at, wait, causes, cause, needs_writable, deallocate, resize, intrinsic}
 use Rattle.b67_model.specs.Rows.{on_one, on_two, dlet, exch, dupl, on_cells, branches, branch_if, stff_word, stff, load_at, load, indx, nxlv, store_at, store, entr_at, entr_with, entr, proc_of, plain, row}
 use Rattle.b67_law_order.proofs.Members.{has_reverse_back}
 use Rattle.b67_law_order.proofs.Posts.{Post, post_ok, post_err, post_bind, post_any, post_then, post_if, post_at}
@@ -179,10 +180,23 @@ module _ (W : Word → Type 0) (M : ℕ → Standing → Type 0) (numbers : (bit
   cause_good h (r ∷ []) s = post_any Kept (follow_reference h r) _ (λ end. causes_good h end s)
   cause_good h (r ∷ v ∷ more) s = post_err Kept _
 
+  deallocate_good : (h : Here) (arguments : List Word) → Source h → Good (deallocate h arguments)
+  deallocate_good h [] s = post_err Kept _
+  deallocate_good h (w ∷ []) s = post_any Kept (row_copy w) _ (λ a. post_then Kept (needs_writable h a) _ (S.answers_good W M numbers h (with_array h.job a all_zero) [] [] None s s.tasks (S.no_words W M numbers)))
+  deallocate_good h (w ∷ v ∷ more) s = post_err Kept _
+
+  resize_good : (h : Here) (arguments : List Word) → Source h → Good (resize h arguments)
+  resize_good h [] s = post_err Kept _
+  resize_good h (r ∷ []) s = post_err Kept _
+  resize_good h (r ∷ w ∷ []) s = post_any Kept (row_copy r) _ (λ a. post_any Kept (whole w) _ (λ n. post_any Kept (array_length n) _ (λ len.
+      post_then Kept (needs_writable h a) _ (S.answers_good W M numbers h (with_array h.job a (resized len)) [] [] (Some a) s s.tasks (S.no_words W M numbers)))))
+  resize_good h (r ∷ w ∷ v ∷ more) s = post_err Kept _
+
   intrinsic_good : (n : ℕ) (h : Here) (arguments : List Word) → Source h → S.Enters W M numbers → ((a : ℕ) → W (Original a)) → AllW arguments → Good (intrinsic n h arguments)
   intrinsic_good n h arguments s enter originals all =
       post_if Kept _ _ _ (arraydec_good h arguments s originals) (post_if Kept _ _ _ (print_good h arguments s) (post_if Kept _ _ _ (printrow_good h arguments s) (post_if Kept _ _ _ (read_good h arguments s)
-      (post_if Kept _ _ _ (process_good h arguments s enter all) (post_if Kept _ _ _ (await_good h arguments s) (post_if Kept _ _ _ (status_good h arguments s) (post_if Kept _ _ _ (wait_good h arguments s) (post_if Kept _ _ _ (cause_good h arguments s) (post_err Kept _)))))))))
+      (post_if Kept _ _ _ (process_good h arguments s enter all) (post_if Kept _ _ _ (await_good h arguments s) (post_if Kept _ _ _ (status_good h arguments s) (post_if Kept _ _ _ (wait_good h arguments s) (post_if Kept _ _ _ (cause_good h arguments s)
+      (post_if Kept _ _ _ (deallocate_good h arguments s) (post_if Kept _ _ _ (resize_good h arguments s) (post_err Kept _)))))))))))
 
   entr_at_good : (h : Here) (arguments : List Word) (end : End) → Source h → S.Enters W M numbers → ((a : ℕ) → W (Original a)) → AllW arguments → Good (entr_at h arguments end)
   entr_at_good h arguments (AtIntrinsic n) s enter originals all = intrinsic_good n h arguments s enter originals all
