@@ -35,10 +35,10 @@ IsDirectory-same core new low ss len heads same d = record {
   small = omega (arith, d.small);
 }
 
-control-low : (at : ℕ) (ss : List Span) (i : ℕ) → Controls at ss i → at ≤ i
-control-low at [] i c = absurd c
-control-low at (Area a ∷ ss) i c = ⊎_elim (λ e. omega arith) (λ d. ⊎_elim (λ e. omega arith) (λ r. omega (arith, control-low (at + (a.words + 2)) ss i r)) d) c
-control-low at (Hole n ∷ ss) i c = ⊎_elim (λ e. omega arith) (λ r. omega (arith, control-low (at + n) ss i r)) c
+pub controls_above : (at : ℕ) (ss : List Span) (i : ℕ) → Controls at ss i → at ≤ i
+controls_above at [] i c = absurd c
+controls_above at (Area a ∷ ss) i c = ⊎_elim (λ e. omega arith) (λ d. ⊎_elim (λ e. omega arith) (λ r. omega (arith, controls_above (at + (a.words + 2)) ss i r)) d) c
+controls_above at (Hole n ∷ ss) i c = ⊎_elim (λ e. omega arith) (λ r. omega (arith, controls_above (at + n) ss i r)) c
 
 -- a word of an area is none of them
 pub area-control : (at : ℕ) (ss : List Span) (x : ℕ) (a : Info) (i : ℕ) → area_at at ss x ≡ Some a → x ≤ i → i < x + a.words → Controls at ss i → ⊥
@@ -47,7 +47,7 @@ area-control at (Area b ∷ ss) x a i e low high c = ⊎_elim
     (λ t.
     let same : b ≡ a = same_Some b a (rw t at e) in
     let w = ap (λ (k : Info). k.words) same in
-    ⊎_elim (λ g. omega (arith, eqb-true (at + 1) x t)) (λ d. ⊎_elim (λ g. omega (arith, eqb-true (at + 1) x t, w)) (λ r. omega (arith, eqb-true (at + 1) x t, w, control-low (at + (b.words + 2)) ss i r)) d) c)
+    ⊎_elim (λ g. omega (arith, eqb-true (at + 1) x t)) (λ d. ⊎_elim (λ g. omega (arith, eqb-true (at + 1) x t, w)) (λ r. omega (arith, eqb-true (at + 1) x t, w, controls_above (at + (b.words + 2)) ss i r)) d) c)
     (λ t.
     let e' = rw t at e in
     let p = area_at-low (at + (b.words + 2)) ss x a e' in
@@ -68,7 +68,7 @@ pub IsDirectory-set_below : (core : List Tagged) (low : ℕ) (ss : List Span) (i
 IsDirectory-set_below core low ss i w d under out =
     IsDirectory-same core (slice_set core i w) low ss (length-set core i w)
     (λ k h. slice_get-set_other core i k w (λ q. ⊎_elim (λ g. omega (arith, h.0)) (λ g. omega (arith, h.1)) out))
-    (λ k c. slice_get-set_other core i k w (λ q. omega (arith, control-low low ss k c)))
+    (λ k c. slice_get-set_other core i k w (λ q. omega (arith, controls_above low ss k c)))
     d
 
 -- the words of an area, from its first word on
@@ -84,5 +84,5 @@ pub IsDirectory-below_words : (core new : List Tagged) (low : ℕ) (ss : List Sp
 IsDirectory-below_words core new low ss d len same =
     IsDirectory-same core new low ss len
     (λ k h. same k (inr h))
-    (λ k c. same k (inl (control-low low ss k c)))
+    (λ k c. same k (inl (controls_above low ss k c)))
     d

@@ -11,6 +11,3 @@ mod operands;
 pub use bits::{brst, bset, insr, isol, land, leqv, lnot, lor, same};
 pub use compared::{equl, greq, grtr, less, lseq, neql};
 pub use numbers::{add, chsn, idiv, mult, rdiv, subt};
-
-#[cfg(test)]
-mod tests;

@@ -13,7 +13,7 @@ use Rattle.b67_model_text.specs.Asm as asm
 use Rattle.b67_asm.specs.Blocks.{segment_head, row_head}
 use Rattle.b67_asm.specs.Putting.{syllables_behind, IsCode}
 use Rattle.b67_asm.specs.Scope.{scope_at}
-use Rattle.b67_codefile.specs.Spelling.{IsSegment, AreWords, Bears}
+use Rattle.b67_codefile.specs.Spelling.{IsSegment, AreWords, HasTag}
 use Rattle.b67_codefile.specs.declared.file.Segment.{Segment}
 use Rattle.std.specs.List.{AllByRecursion}
 use Rattle.std.specs.Prelude.{⊤}

@@ -1,10 +1,11 @@
 -- Syllables, six at a time.
 use Rattle.std.proofs.Common.{◌≡◌, ℕ, ◌+◌, ◌-◌, ◌*◌, ◌^◌, ◌<◌, ◌≤◌, List, [], ◌∷◌, ◌++◌, map, length, take, drop, get_or, refl, sym, ap, subst, ◌∙◌, append_assoc, arith}
 use Rattle.std.specs.List.{AllByRecursion}
-use Rattle.std.proofs.lemmas.List.{take_all, length-drop, length-append, map-append}
+use Rattle.std.proofs.lemmas.List.{length-drop, length-append, map-append}
 use Rattle.b67_word.specs.Tagged.{Tagged, contents}
-use Rattle.b67_codefile.specs.Spelling.{Bears}
+use Rattle.b67_codefile.specs.Spelling.{HasTag}
 use Rattle.b67_model_text.specs.Encoding.{packed}
+use Rattle.b67_asm.proofs.Program.{rest_is}
 
 pub six_more : (xs : List ℕ) → 6 ≤ length xs → packed xs ≡ (((((get_or xs 0 0 * 256 + get_or xs 1 0) * 256 + get_or xs 2 0) * 256 + get_or xs 3 0) * 256 + get_or xs 4 0) * 256 + get_or xs 5 0) ∷ packed (drop 6 xs)
 six_more [] le = absurd (omega arith)
@@ -24,9 +25,6 @@ no_six (a ∷ b ∷ c ∷ d ∷ []) lt = refl
 no_six (a ∷ b ∷ c ∷ d ∷ e ∷ []) lt = refl
 no_six (a ∷ b ∷ c ∷ d ∷ e ∷ f ∷ more) lt = absurd (omega arith)
 
-rest_is : {A : Type 0} (n : ℕ) (s : List A) → take (length s - n) (drop n s) ≡ drop n s
-rest_is n s = take_all (length s - n) (drop n s) (omega (arith, length-drop n s))
-
 pub next_word : (words : List Tagged) (w : Tagged) (rest all : List ℕ) (new : List Tagged) → 6 ≤ length rest → new ≡ words ++ w ∷ [] → w.bits ≡ ((((get_or rest 0 0 * 256 + get_or rest 1 0) * 256 + get_or rest 2 0) * 256 + get_or rest 3 0) * 256 + get_or rest 4 0) * 256 + get_or rest 5 0 → contents words ++ packed rest ≡ packed all → contents new ++ packed (take (length rest - 6) (drop 6 rest)) ≡ packed all
 next_word words w rest all new le grown bits h =
     let cut = ap packed (rest_is 6 rest) in
@@ -37,8 +35,8 @@ all_one : (P : Tagged → Type 0) (xs : List Tagged) (x : Tagged) → AllByRecur
 all_one P [] x h p = (p, tt)
 all_one P (y ∷ ys) x h p = (h.0, all_one P ys x h.1 p)
 
-pub all_behind : (xs : List Tagged) (x : Tagged) (new : List Tagged) → new ≡ xs ++ x ∷ [] → AllByRecursion (Bears 3) xs → Bears 3 x → AllByRecursion (Bears 3) new
-all_behind xs x new e h p = subst (AllByRecursion (Bears 3)) (sym e) (all_one (Bears 3) xs x h p)
+pub all_behind : (xs : List Tagged) (x : Tagged) (new : List Tagged) → new ≡ xs ++ x ∷ [] → AllByRecursion (HasTag 3) xs → HasTag 3 x → AllByRecursion (HasTag 3) new
+all_behind xs x new e h p = subst (AllByRecursion (HasTag 3)) (sym e) (all_one (HasTag 3) xs x h p)
 
 pub fewer : (xs : List Tagged) (x : Tagged) (rest : List ℕ) (new : List Tagged) (n : ℕ) → 6 ≤ length rest → new ≡ xs ++ x ∷ [] → 6 * length xs + length rest ≡ n → 6 * length new + length (take (length rest - 6) (drop 6 rest)) ≡ n
 fewer xs x rest new n le e h = omega (arith, ap length e, length-append xs (x ∷ []), ap length (rest_is 6 rest), length-drop 6 rest)

@@ -2,7 +2,7 @@
 use Rattle.std.specs.Prelude.{◌≡◌, ◌≤◌, ◌<◌, ◌+◌, ◌*◌, ℕ, List, [], ◌++◌, length, Result, Ok, Err, ⊤}
 use Rattle.std.specs.List.{AllByRecursion}
 use Rattle.b67_word.specs.Tagged.{Tagged, contents}
-use Rattle.b67_codefile.specs.Spelling.{Bears}
+use Rattle.b67_codefile.specs.Spelling.{HasTag}
 use Rattle.b67_model.specs.declared.operators.Op.{Op}
 use Rattle.b67_model_text.specs.declared.assembly.Line.{Line}
 use Rattle.b67_model_text.specs.Answers.{Answer, ◌>>=◌}
@@ -37,7 +37,7 @@ OperatorsPut (Err faults.Memory) answer count out = Unit {0}
 -- the code of these syllables
 pub record IsCode (words : List Tagged) (syllables : List ℕ) (count : ℕ) : Type 0 where
   pub code : contents words ≡ packed syllables
-  pub tags : AllByRecursion (Bears 3) words
+  pub tags : AllByRecursion (HasTag 3) words
   pub few : length words ≤ 8191
   pub some : 1 ≤ count → 1 ≤ length words
 

@@ -2,7 +2,7 @@
 use Rattle.std.specs.Prelude.{◌≡◌, ◌≤◌, ◌<◌, ◌+◌, not, nat_le, map, Option, ℕ, List, ◌++◌, length, Result, Ok, Err, ⊤}
 use Rattle.std.specs.List.{AllByRecursion, list_any}
 use Rattle.b67_word.specs.Tagged.{Tagged, contents}
-use Rattle.b67_codefile.specs.Spelling.{Bears}
+use Rattle.b67_codefile.specs.Spelling.{HasTag}
 use Rattle.b67_model_text.specs.declared.assembly.Line.{Line}
 use Rattle.b67_model_text.specs.Answers.{Answer, ◌>>=◌, ◌>>◌, needs}
 use Rattle.b67_model_text.specs.Deck.{Refusal}
@@ -14,7 +14,7 @@ use Rattle.b67_asm.specs.declared.fault.Refused.TheVariants.{Reason, Memory}
 
 -- the words of a card are appended, or the card is refused
 abbrev pub WordsPut : Result ⊤ Refused → Answer (List ℕ) → List Tagged → List Tagged → Type 0
-WordsPut (Ok done) answer old new = (words : List ℕ) × (answer ≡ Ok words) × (contents new ≡ contents old ++ words) × (AllByRecursion (Bears 0) old → AllByRecursion (Bears 0) new) × (length new ≤ 65535) × (length old < length new)
+WordsPut (Ok done) answer old new = (words : List ℕ) × (answer ≡ Ok words) × (contents new ≡ contents old ++ words) × (AllByRecursion (HasTag 0) old → AllByRecursion (HasTag 0) new) × (length new ≤ 65535) × (length old < length new)
 WordsPut (Err (Reason r)) answer old new = answer ≡ Err r
 WordsPut (Err Memory) answer old new = Unit {0}
 
@@ -31,6 +31,6 @@ words_behind out (Err refusal) = Err refusal
 
 -- all words are there, or this is the first refused card
 abbrev pub RowPut : Result (List Tagged) AsmFault → Result (List ℕ) Refusal → ℕ → Type 0
-RowPut (Ok words) answer count = (answer ≡ Ok (contents words)) × AllByRecursion (Bears 0) words × (length words ≤ 65535) × (count ≤ length words)
+RowPut (Ok words) answer count = (answer ≡ Ok (contents words)) × AllByRecursion (HasTag 0) words × (length words ≤ 65535) × (count ≤ length words)
 RowPut (Err (faults.Card card reason)) answer count = answer ≡ Err (record { card = card; reason = reason })
 RowPut (Err faults.Memory) answer count = Unit {0}

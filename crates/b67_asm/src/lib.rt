@@ -9,8 +9,6 @@ mod names;
 mod operator;
 mod row;
 mod segment;
-#[cfg(test)]
-mod tests;
 
 pub use assembly::assemble;
 pub use fault::AsmFault;

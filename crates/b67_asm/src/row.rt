@@ -2,7 +2,7 @@
 ghost use Rattle.std.specs.Prelude.{◌≡◌, ◌∷◌, ◌++◌, ◌≤◌, ◌<◌, ◌+◌, not, map, length, OnOk, IsTrue, IsFalse};
 ghost use Rattle.std.specs.List.{list_any, AllByRecursion};
 ghost use Rattle.b67_word.specs.Tagged.{word, contents};
-ghost use Rattle.b67_codefile.specs.Spelling.{Bears};
+ghost use Rattle.b67_codefile.specs.Spelling.{HasTag};
 ghost use Rattle.b67_model_text.specs.Asm as asm;
 ghost use Rattle.b67_asm.specs.Scope.{names_in};
 ghost use Rattle.b67_asm.specs.RowPutting.{WordsPut, RowPut, line_words, checked_values};
@@ -17,7 +17,7 @@ use std::alloc::{AllocError, Global};
 fn word_of(value: Option<u64>) -> Word
     requires { IsTrue (asm.is_word value) }
     ensures same { result ≡ word 0 (asm.value_in value) }
-    ensures bears { Bears 0 result }
+    ensures bears { HasTag 0 result }
 {
     match value {
         Some(bits) => Word::of(0, bits),
@@ -28,7 +28,7 @@ fn word_of(value: Option<u64>) -> Word
 fn put_more(values: &[Option<u64>], into: &mut Words) -> Result<(), AllocError>
     requires { IsFalse (list_any (λ v. not (asm.is_word v)) values.now) }
     ensures words { OnOk result (contents into.new ≡ contents into.old ++ map asm.value_in values.now) }
-    ensures tags { OnOk result (AllByRecursion (Bears 0) into.old → AllByRecursion (Bears 0) into.new) }
+    ensures tags { OnOk result (AllByRecursion (HasTag 0) into.old → AllByRecursion (HasTag 0) into.new) }
 {
     for value in values {
         into.push(word_of(*value))?;
@@ -39,7 +39,7 @@ fn put_more(values: &[Option<u64>], into: &mut Words) -> Result<(), AllocError>
 fn put_values(first: Option<u64>, more: &[Option<u64>], into: &mut Words) -> Result<(), AllocError>
     requires { IsFalse (list_any (λ v. not (asm.is_word v)) (first ∷ more.now)) }
     ensures words { OnOk result (contents into.new ≡ contents into.old ++ map asm.value_in (first ∷ more.now)) }
-    ensures tags { OnOk result (AllByRecursion (Bears 0) into.old → AllByRecursion (Bears 0) into.new) }
+    ensures tags { OnOk result (AllByRecursion (HasTag 0) into.old → AllByRecursion (HasTag 0) into.new) }
 {
     into.push(word_of(first))?;
     put_more(more, into)

@@ -10,7 +10,9 @@ ghost use Rattle.b67_asm_read.specs.Rows.{keyed, ValuesPut};
 use crate::number::{bits_in, numeral_up_to};
 use b67_card::{name, parted, words};
 use b67_model::{Code, Op};
-use b67_model_text::{Branch, Call, Card, Kind, Line, Lines, Mnemonic, Name, Sketch, Statement, Values};
+use b67_model_text::{
+    Branch, Call, Card, Kind, Line, Lines, Mnemonic, Name, Sketch, Statement, Values,
+};
 use b67_word::Couple;
 use std::alloc::{AllocError, Global};
 

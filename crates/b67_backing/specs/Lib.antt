@@ -1,3 +1,4 @@
 pub mod Shelf
 pub mod Held
+pub mod File
 pub mod Memory

@@ -1,9 +1,12 @@
 //! Sectors in chains, and the devices that hold them.
 #![tactic(auto)]
 
+mod access;
 mod copies;
 mod device;
 mod file;
+#[cfg(test)]
+mod file_tests;
 mod honest;
 mod memory;
 mod refusals;
@@ -11,6 +14,7 @@ mod sectors;
 #[cfg(test)]
 mod tests;
 
+pub use access::RandomAccess;
 pub use device::Backing;
 pub use file::FileBacking;
 pub use honest::HonestBacking;

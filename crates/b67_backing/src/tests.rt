@@ -4,7 +4,6 @@ use super::*;
 use b67_core::Core;
 use b67_word::{Failed, Numbers, Word};
 use std::alloc::Global;
-use std::fs;
 use std::process::Abort;
 use std::test::Fail;
 
@@ -114,41 +113,4 @@ fn an_honest_device_keeps_sectors(rt: HostRuntime) -> Result<(), Fail> {
     assert!(rt; backing.read(2, &mut sector).is_ok());
     assert_eq!(rt; sector, [7; 30]);
     Ok(())
-}
-
-#[test]
-fn a_file_keeps_sectors(rt: HostRuntime) -> Result<(), Fail> {
-    let name = format!(in rt.alloc(); "b67_backing_{}.sectors", std::process::id(rt.process()))?;
-    let path = name.as_str();
-    let mut sector = [0; 30];
-    let mut numbers = [0; 30];
-    numbers[29] = 0x0007_ffff_0123_4567;
-    {
-        let mut backing = FileBacking::at(&rt, path);
-        assert_eq!(rt; backing.sectors(), 65_536);
-        assert!(rt; backing.write(65_536, &numbers).is_ok());
-        assert!(rt; backing.read(1, &mut sector).is_ok());
-        assert_eq!(rt; sector, [0; 30]);
-    }
-    let bytes = fs::read(&rt, path)?;
-    assert_eq!(rt; bytes.len(), 15_728_640);
-    assert_eq!(rt;
-        &bytes[15_728_632..],
-        &[0, 7, 0xff, 0xff, 1, 0x23, 0x45, 0x67][..]
-    );
-    let mut backing = FileBacking::at(&rt, path);
-    assert!(rt; backing.read(65_536, &mut sector).is_ok());
-    assert_eq!(rt; sector, numbers);
-    fs::remove_file(&rt, path)?;
-    Ok(())
-}
-
-#[test]
-fn a_file_that_cannot_be_opened_fails(rt: HostRuntime) {
-    let mut backing = FileBacking::at(&rt, "no such folder/sectors");
-    assert_eq!(rt; backing.sectors(), 65_536);
-    for _ in 0..2 {
-        assert!(rt; backing.write(1, &[7; 30]).is_err());
-        assert!(rt; backing.read(1, &mut [0; 30]).is_err());
-    }
 }

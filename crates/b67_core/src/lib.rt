@@ -6,8 +6,6 @@ ghost use Rattle.b67_word.specs.Tagged.{word};
 ghost use Rattle.b67_core.specs.Numbers.{number, word_of, AreWords};
 
 mod numbers;
-#[cfg(test)]
-mod tests;
 
 use b67_word::Word;
 pub use numbers::{from_number, to_number};

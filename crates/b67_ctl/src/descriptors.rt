@@ -1,6 +1,6 @@
 //! Descriptors of arrays and of segments.
 
-ghost use Rattle.std.specs.Prelude.{◌≡◌, ◌↔◌, ◌+◌, ◌*◌, ◌^◌, ◌<◌, IsSome, IfSome, IsTrue};
+ghost use Rattle.std.specs.Prelude.{◌≡◌, ◌↔◌, ◌+◌, ◌*◌, ◌^◌, ◌<◌, IsSome, IfSome, IsTrue, false};
 ghost use Rattle.b67_ctl.specs.Descriptors.{data_word, IsDataDesc, seg_word, IsSegDesc};
 ghost use Rattle.b67_ctl.specs.declared.descriptors.DataDesc.{DataDesc};
 ghost use Rattle.b67_ctl.specs.declared.descriptors.SegDesc.{SegDesc};
@@ -28,6 +28,23 @@ pub struct SegDesc {
 }
 
 impl DataDesc {
+    /// The word of an original of so many words. `address`: its area if it is present, else its first sector, 0 for none.
+    pub fn original(present: bool, read_only: bool, words: u32, address: u32) -> Word
+        requires words { words < 2 ^ 20 }
+        requires address { address < 2 ^ 20 }
+        ensures { result ≡ data_word (record { present = present; copy = false; indexed = false; read_only = read_only; length = words; address = address }) }
+    {
+        DataDesc {
+            present,
+            copy: false,
+            indexed: false,
+            read_only,
+            length: words,
+            address,
+        }
+        .word()
+    }
+
     /// The word of a descriptor that fits.
     pub fn word(self) -> Word
         requires { IsDataDesc self }

@@ -17,6 +17,3 @@ pub use marks::{Mscw, Rcw, Toscw};
 pub use programs::{IntrinsicPcw, Pcw};
 pub use references::{Irw, Sirw};
 pub use registers::Regs;
-
-#[cfg(test)]
-mod tests;

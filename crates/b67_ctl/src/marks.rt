@@ -93,6 +93,13 @@ impl Mscw {
             None
         }
     }
+
+    /// Whether a mark is that of an entered activation, by its word.
+    pub fn is_entered(w: Word) -> bool
+        ensures { (m : Mscw) → IsMscw m → w ≡ mscw_word m → result ≡ m.entered }
+    {
+        w.part(46, 1) == 1
+    }
 }
 
 impl Rcw {

@@ -5,9 +5,9 @@ use Rattle.b67_ctl.specs.declared.registers.Regs.{Regs}
 use Rattle.b67_ctl.specs.declared.marks.Rcw.{Rcw}
 use Rattle.b67_ctl.specs.Layout.{rcw_word, IsRcw}
 use Rattle.b67_stack.specs.declared.Cpu.{Cpu}
-use Rattle.b67_stack.specs.Shapes.{Fits, Lie}
-use Rattle.b67_stack.specs.Stacks.{Head, Entered, HeadFits, high, mark_place, top_mark, return_of, headed, words}
-use Rattle.b67_stack.specs.Picture.{slot_base}
+use Rattle.b67_stack.specs.Shapes.{Fits, LieDownward}
+use Rattle.b67_stack.specs.Stacks.{Head, Entered, HeadFits, stack_words, mark_place, top_mark, return_of, headed, words}
+use Rattle.b67_stack.specs.MachineView.{slot_base}
 use Rattle.b67_stack.proofs.Heights.{words-length}
 use Rattle.b67_stack.proofs.Lies.{Lie-under}
 use Rattle.b67_stack.proofs.Slots.{running_slot, running_fits, running_lies}
@@ -16,28 +16,28 @@ use Rattle.b67_entry.specs.Left.{MayReturn, caller_regs}
 
 module _ (cpu : Cpu) (a : MayReturn cpu) where
   -- the words of the head lie under the cells
-  pub head_lies : Lie (Fits a.storage.held) cpu.core (suc (slot_base a.picture cpu.regs.slot)) (headed cpu.regs.slot (Entered a.level a.environment (Some a.back)) a.below (words cpu.regs.slot a.below))
+  pub head_lies : LieDownward (Fits a.storage.held) cpu.core (suc (slot_base a.machine_view cpu.regs.slot)) (headed cpu.regs.slot (Entered a.level a.environment (Some a.back)) a.below (words cpu.regs.slot a.below))
   head_lies =
-      let P : Head → Type 0 = λ h. Lie (Fits a.storage.held) cpu.core (suc (slot_base a.picture cpu.regs.slot)) (headed cpu.regs.slot h a.below (words cpu.regs.slot a.below)) in
-      subst P a.entered (Lie-under (Fits a.storage.held) cpu.core (suc (slot_base a.picture cpu.regs.slot)) a.top.cells (headed cpu.regs.slot a.top.head a.below (words cpu.regs.slot a.below))
-      (running_lies a.storage cpu.core cpu.regs a.picture cpu.regs.slot (a.top ∷ a.below) a.stands a.runs))
+      let P : Head → Type 0 = λ h. LieDownward (Fits a.storage.held) cpu.core (suc (slot_base a.machine_view cpu.regs.slot)) (headed cpu.regs.slot h a.below (words cpu.regs.slot a.below)) in
+      subst P a.entered (Lie-under (Fits a.storage.held) cpu.core (suc (slot_base a.machine_view cpu.regs.slot)) a.top.cells (headed cpu.regs.slot a.top.head a.below (words cpu.regs.slot a.below))
+      (running_lies a.storage cpu.core cpu.regs a.machine_view cpu.regs.slot (a.top ∷ a.below) a.stands a.runs))
 
   -- where they lie
-  pub mark_at : cpu.regs.f ≡ suc (slot_base a.picture cpu.regs.slot) + high a.below
-  mark_at = omega (arith, (running_slot a.storage cpu.core cpu.regs a.picture cpu.regs.slot (a.top ∷ a.below) a.stands a.runs).mark)
+  pub mark_at : cpu.regs.f ≡ suc (slot_base a.machine_view cpu.regs.slot) + stack_words a.below
+  mark_at = omega (arith, (running_slot a.storage cpu.core cpu.regs a.machine_view cpu.regs.slot (a.top ∷ a.below) a.stands a.runs).mark)
 
   -- the top without the record is below its mark
-  pub below_mark : cpu.regs.bosr + high a.below + 1 ≡ cpu.regs.f
-  below_mark = omega (arith, mark_at, (running_slot a.storage cpu.core cpu.regs a.picture cpu.regs.slot (a.top ∷ a.below) a.stands a.runs).first)
+  pub below_mark : cpu.regs.bosr + stack_words a.below + 1 ≡ cpu.regs.f
+  below_mark = omega (arith, mark_at, (running_slot a.storage cpu.core cpu.regs a.machine_view cpu.regs.slot (a.top ∷ a.below) a.stands a.runs).first)
 
   pub return_there : slice_get cpu.core (cpu.regs.f + 1) ≡ Some (rcw_word (return_of (Some a.back) a.below))
   return_there =
-      let at : cpu.regs.f + 1 ≡ suc (slot_base a.picture cpu.regs.slot) + suc (length (words cpu.regs.slot a.below)) = omega (arith, mark_at, words-length cpu.regs.slot a.below) in
+      let at : cpu.regs.f + 1 ≡ suc (slot_base a.machine_view cpu.regs.slot) + suc (length (words cpu.regs.slot a.below)) = omega (arith, mark_at, words-length cpu.regs.slot a.below) in
       ap (slice_get cpu.core) at ∙ head_lies.0.1 ∙ ap Some head_lies.0.2.0
 
   pub return_fits : IsRcw (return_of (Some a.back) a.below)
   return_fits =
-      let f = (running_fits a.storage cpu.core cpu.regs a.picture cpu.regs.slot (a.top ∷ a.below) a.stands a.runs).0.heads in
+      let f = (running_fits a.storage cpu.core cpu.regs a.machine_view cpu.regs.slot (a.top ∷ a.below) a.stands a.runs).0.heads in
       let P : Head → Type 0 = λ h. HeadFits h a.below in
       let fit = subst P a.entered f.0 in
       record { place = fit.3.0; level = level-small a.below f.1; segment = fit.3.1 }
@@ -46,8 +46,8 @@ module _ (cpu : Cpu) (a : MayReturn cpu) where
   pub regs_are : (w : Rcw) (back : ℕ) → w ≡ return_of (Some a.back) a.below → back ≡ (top_mark cpu.regs.slot (a.top ∷ a.below)).back
       → ◌≡◌ {A = Regs} (record cpu.regs { s = cpu.regs.f - 1; f = cpu.regs.f - back; level = w.level; segment = w.segment; place = w.place }) (caller_regs cpu.regs a.below a.back)
   regs_are w back is e =
-      let b = mark_before a.storage cpu.core cpu.regs a.picture cpu.regs.slot (a.top ∷ a.below) a.stands a.runs a.some in
-      let top : cpu.regs.f - 1 ≡ cpu.regs.bosr + high a.below = b.0 in
+      let b = mark_before a.storage cpu.core cpu.regs a.machine_view cpu.regs.slot (a.top ∷ a.below) a.stands a.runs a.some in
+      let top : cpu.regs.f - 1 ≡ cpu.regs.bosr + stack_words a.below = b.0 in
       let mark : cpu.regs.f - back ≡ cpu.regs.bosr + mark_place a.below = ap (λ (i : ℕ). cpu.regs.f - i) e ∙ b.1 in
       let R : ℕ → ℕ → Rcw → Regs = λ s f v. record cpu.regs { s = s; f = f; level = v.level; segment = v.segment; place = v.place } in
-      ap (λ (s : ℕ). R s (cpu.regs.f - back) w) top ∙ ap (λ (f : ℕ). R (cpu.regs.bosr + high a.below) f w) mark ∙ ap (R (cpu.regs.bosr + high a.below) (cpu.regs.bosr + mark_place a.below)) is
+      ap (λ (s : ℕ). R s (cpu.regs.f - back) w) top ∙ ap (λ (f : ℕ). R (cpu.regs.bosr + stack_words a.below) f w) mark ∙ ap (R (cpu.regs.bosr + stack_words a.below) (cpu.regs.bosr + mark_place a.below)) is

@@ -7,9 +7,10 @@ use Rattle.b67_word.specs.declared.faults.Fault.{Fault}
 use Rattle.b67_word.specs.declared.faults.Fault.TheVariants.{InvalidOperand}
 use Rattle.b67_model.specs.Answers.{Answer, ◌>>=◌}
 use Rattle.b67_lemmas.specs.Lists.{Has}
+use Rattle.b67_lemmas.proofs.Members.{change_twice, change_found, keyed-has}
 use Rattle.b67_model.specs.Words.{Word}
 use Rattle.b67_model.specs.State as State
-use Rattle.b67_model.specs.State.{Standing, Return, Ready, Frame, Array, Condition, Task, Job, Here, Member, frame, head_words, height, with_top_cells, with_task}
+use Rattle.b67_model.specs.State.{Standing, Return, Ready, Frame, Array, Condition, Task, Job, OperatorContext, SessionJob, frame, head_words, height, with_top_cells, with_task}
 use Rattle.b67_model.specs.Environment.{level_of_frame}
 use Rattle.b67_model.specs.Chase as Chase
 use Rattle.b67_model.specs.Chase.{AtProc, follow}
@@ -17,54 +18,52 @@ use Rattle.b67_model.specs.Entry.{accident, back_to, evaluates, returned}
 use Rattle.b67_model.specs.Steps.{Done, Goes, cells_of, without_arrays_of}
 use Rattle.b67_model.specs.Schedule.{Session}
 use Rattle.b67_model.specs.InOrder.{IsInOrderButPlaces}
-use Rattle.b67_law_order.proofs.Members.{change_twice}
 use Rattle.b67_stack.specs.declared.Cpu.{Cpu}
 use Rattle.b67_stack.specs.declared.Step.{Step}
 use Rattle.b67_stack.specs.declared.Step.TheVariants as step
-use Rattle.b67_stack.specs.Picture.{Thing}
-use Rattle.b67_stack.specs.Stands.{Storage, RunningStands}
+use Rattle.b67_stack.specs.MachineView.{PagedObject}
+use Rattle.b67_stack.specs.Represents.{Storage, RepresentsRunning}
 use Rattle.b67_stack.proofs.Slots.{running_slot}
-use Rattle.b67_layout.specs.Plan.{Plan}
-use Rattle.b67_layout.specs.Layout.{picture}
-use Rattle.b67_layout.specs.Session.{IsRunning, SessionStands, SessionStandsBut}
+use Rattle.b67_layout.specs.Placement.{Placement}
+use Rattle.b67_layout.specs.Layout.{machine_view}
+use Rattle.b67_layout.specs.Session.{IsRunning, RepresentsSession, RepresentsSessionBut}
 use Rattle.b67_layout.specs.Meets.{IsMade, Meets, with_job}
-use Rattle.b67_layout.proofs.Others.{keyed-has, keyed-put_same}
-use Rattle.b67_layout.proofs.Pictures.{member-same}
+use Rattle.b67_layout.proofs.MachineViews.{member-same}
 use Rattle.b67_layout.proofs.Steps.{IsFree}
 use Rattle.b67_layout.proofs.Sessions.{change-has}
 use Rattle.b67_layout.proofs.Fresh.{fresh, running_in_order}
 use Rattle.b67_refer.specs.Ends.{IsProcAt}
-use Rattle.b67_layout_enter.proofs.Awaits.{with_job-twice, SessionStands-condition}
+use Rattle.b67_layout_enter.proofs.Awaits.{with_job-twice, RepresentsSession-condition}
 use Rattle.b67_entry_enter.specs.Procedures.{CanEnter, IsEntered, EntersOrFaults}
-use Rattle.b67_layout_leave.proofs.Things.{things-after}
+use Rattle.b67_layout_leave.proofs.Objects.{objects-after}
 use Rattle.b67_entry.proofs.Returned.{clear_mark, clear_return}
 use Rattle.b67_layout_leave.proofs.Leaves.{task_at}
 use Rattle.b67_entry.specs.Left.{Returns, here_left}
 use Rattle.b67_entry.proofs.Heres.{frame_same}
 use Rattle.b67_entry.proofs.Leaving.{under, on_top, on_stack, may_return, regs_left, job_at, member_at, task_left}
 use Rattle.b67_entry.proofs.Evaluating.{scene, seen, frames_same, answer_is}
-use Rattle.b67_entry.proofs.Retns.{IsOperand}
+use Rattle.b67_law_order.proofs.Maps.{IsOperand}
 
 -- an accidental entry by whether the procedure's level is the next one
-accident_at : (h : Here) (cells : List Word) (back : Return) (f segment level : ℕ) (place : Place) (b : Bool) → (level_of_frame (frame h f) + 1 == level) ≡ b
+accident_at : (h : OperatorContext) (cells : List Word) (back : Return) (f segment level : ℕ) (place : Place) (b : Bool) → (level_of_frame (frame h f) + 1 == level) ≡ b
     → (let fs = record { identity = h.job.next_frame; standing = State.Entered level f (Some back); cells = [] } ∷ with_top_cells h.task.frames cells in
-    height fs ≤ h.setting.stack_size
+    height fs ≤ h.constants.stack_size
     → accident h cells back (AtProc f segment level place) ≡ (if b then Ok (Goes (with_task (record h.job { next_frame = h.job.next_frame + 1 }) (record h.task { frames = fs; segment = segment; place = place })) [] None) else Err InvalidOperand))
-accident_at h cells back f segment level place true e low = rw e (rw (le-leb (height (record { identity = h.job.next_frame; standing = State.Entered level f (Some back); cells = [] } ∷ with_top_cells h.task.frames cells)) h.setting.stack_size low) refl)
+accident_at h cells back f segment level place true e low = rw e (rw (le-leb (height (record { identity = h.job.next_frame; standing = State.Entered level f (Some back); cells = [] } ∷ with_top_cells h.task.frames cells)) h.constants.stack_size low) refl)
 accident_at h cells back f segment level place false e low = rw e refl
 
-module _ (x : Storage) (old : Cpu) (plan : Plan) (s : Session) (m : Member) (t : Task) (o : IsInOrderButPlaces s) (h : SessionStands x old plan s) (runs : IsRunning plan s.jobs m t) (a : Returns m t)
+module _ (x : Storage) (old : Cpu) (plan : Placement) (s : Session) (m : SessionJob) (t : Task) (o : IsInOrderButPlaces s) (h : RepresentsSession x old plan s) (runs : IsRunning plan s.jobs m t) (a : Returns m t)
     (cell f segment level : ℕ) (place : Place) (p : IsProcAt (scene x old plan s m t o h runs a) a.back.place cell f segment level place) where
-  stack_is : RunningStands old.regs (picture plan s.jobs) old.regs.slot (on_top x old plan s m t o h runs a ∷ under x old plan s m t o h runs a)
-  stack_is = running_slot x old.core old.regs (picture plan s.jobs) old.regs.slot (on_top x old plan s m t o h runs a ∷ under x old plan s m t o h runs a) h.holds.memory (on_stack x old plan s m t o h runs a)
+  stack_is : RepresentsRunning old.regs (machine_view plan s.jobs) old.regs.slot (on_top x old plan s m t o h runs a ∷ under x old plan s m t o h runs a)
+  stack_is = running_slot x old.core old.regs (machine_view plan s.jobs) old.regs.slot (on_top x old plan s m t o h runs a ∷ under x old plan s m t o h runs a) h.holds.memory (on_stack x old plan s m t o h runs a)
 
   pub can_enter : CanEnter old (regs_left x old plan s m t o h runs a) (scene x old plan s m t o h runs a) a.back.place cell f segment level place
   can_enter = record {
     marks = refl;
     clear = λ room u k.
-        (let there = (things-after plan s.jobs m (record m.course { job = job_at x old plan s m t o h runs a Ready }) a.f.identity m.course.job.next_array runs.member (running_in_order plan s m t o runs).0.tasks.names refl).back u k in
-        let one = clear_mark x old.core old.regs (picture plan s.jobs) old.regs.slot (on_top x old plan s m t o h runs a) _ _ a.level _ a.back h.holds.memory (on_stack x old plan s m t o h runs a) (may_return x old plan s m t o h runs a).entered u there in
-        let two = clear_return x old.core old.regs (picture plan s.jobs) old.regs.slot (on_top x old plan s m t o h runs a) _ _ a.level _ a.back h.holds.memory (on_stack x old plan s m t o h runs a) (may_return x old plan s m t o h runs a).entered u there in
+        (let there = (objects-after plan s.jobs m (record m.progress { job = job_at x old plan s m t o h runs a Ready }) a.f.identity m.progress.job.next_array runs.member (running_in_order plan s m t o runs).0.tasks.names refl).back u k in
+        let one = clear_mark x old.core old.regs (machine_view plan s.jobs) old.regs.slot (on_top x old plan s m t o h runs a) _ _ a.level _ a.back h.holds.memory (on_stack x old plan s m t o h runs a) (may_return x old plan s m t o h runs a).entered u there in
+        let two = clear_return x old.core old.regs (machine_view plan s.jobs) old.regs.slot (on_top x old plan s m t o h runs a) _ _ a.level _ a.back h.holds.memory (on_stack x old plan s m t o h runs a) (may_return x old plan s m t o h runs a).entered u there in
         (λ e. one (omega (arith, e, stack_is.first)), λ e. two (omega (arith, e, stack_is.first))));
     procedure = p;
   }
@@ -74,11 +73,11 @@ module _ (x : Storage) (old : Cpu) (plan : Plan) (s : Session) (m : Member) (t :
   back = record { value = true; segment = a.back.segment; place = a.back.place }
 
   abbrev frames_on : List Frame
-  frames_on = record { identity = m.course.job.next_frame; standing = State.Entered level f (Some back); cells = [] } ∷ a.next ∷ a.more
+  frames_on = record { identity = m.progress.job.next_frame; standing = State.Entered level f (Some back); cells = [] } ∷ a.next ∷ a.more
 
   -- the job with one identity more, and the task that goes on in the procedure
   abbrev without : Job
-  without = record (without_arrays_of a.f.identity m.course.job) { next_frame = m.course.job.next_frame + 1 }
+  without = record (without_arrays_of a.f.identity m.progress.job) { next_frame = m.progress.job.next_frame + 1 }
 
   abbrev task_on : Condition → Task
   task_on d = task_at t frames_on segment place d
@@ -86,7 +85,7 @@ module _ (x : Storage) (old : Cpu) (plan : Plan) (s : Session) (m : Member) (t :
   abbrev job_on : Condition → Job
   job_on d = with_task without (task_on d)
 
-  some_head : height frames_on ≤ m.setting.stack_size
+  some_head : height frames_on ≤ m.constants.stack_size
   some_head =
       let two : head_words a.f.standing ≡ 2 = ap head_words a.entered in
       let lower : height (a.next ∷ a.more) + 2 ≤ height t.frames = subst (λ (fs : List Frame). height (a.next ∷ a.more) + 2 ≤ height fs) (sym a.frames) (omega (arith, two)) in
@@ -96,8 +95,8 @@ module _ (x : Storage) (old : Cpu) (plan : Plan) (s : Session) (m : Member) (t :
   ready_row : Answer Done
   ready_row = accident (seen x old plan s m t o h runs a) (cells_of (seen x old plan s m t o h runs a)) (back_to (seen x old plan s m t o h runs a) true a.back.place) (AtProc f segment level place)
 
-  twice : (d e : Condition) → with_task (record (job_at x old plan s m t o h runs a d) { next_frame = m.course.job.next_frame + 1 }) (task_on e) ≡ job_on e
-  twice d e = ap (λ (ts : List Task). record without { tasks = ts }) (change_twice (λ (u : Task). u.number) t.number (task_left x old plan s m t o h runs a d) (task_on e) m.course.job.tasks refl)
+  twice : (d e : Condition) → with_task (record (job_at x old plan s m t o h runs a d) { next_frame = m.progress.job.next_frame + 1 }) (task_on e) ≡ job_on e
+  twice d e = ap (λ (ts : List Task). record without { tasks = ts }) (change_twice (λ (u : Task). u.number) t.number (task_left x old plan s m t o h runs a d) (task_on e) m.progress.job.tasks refl)
 
   by_level : (d : Condition) (b : Bool) → (level_of_frame (frame (seen x old plan s m t o h runs a) f) + 1 == level) ≡ b
       → accident (here_left m t a) (cells_of (here_left m t a)) back (AtProc f segment level place) ≡ (if b then Ok (Goes (job_on t.condition) [] None) else Err InvalidOperand)
@@ -112,37 +111,37 @@ module _ (x : Storage) (old : Cpu) (plan : Plan) (s : Session) (m : Member) (t :
       ∙ ap (λ (j : Job). if b then Ok (Goes j [] None) else Err InvalidOperand) (twice Ready Ready)
 
   -- the session that was entered, seen with a ready task
-  abbrev member_on : Condition → Member
-  member_on d = record m { course = record m.course { job = job_on d } }
+  abbrev member_on : Condition → SessionJob
+  member_on d = record m { progress = record m.progress { job = job_on d } }
 
   session_same : (j : Job) → with_job (with_job s m (job_at x old plan s m t o h runs a Ready)) (member_at x old plan s m t o h runs a Ready) j ≡ with_job s m j
   session_same j = with_job-twice s m (job_at x old plan s m t o h runs a Ready) j
 
-  free : IsFree m.course.job m.course.job.next_frame
+  free : IsFree m.progress.job m.progress.job.next_frame
   free = fresh plan s m t o runs
 
-  in_t : Has m.course.job.tasks t
-  in_t = keyed-has (λ (u : Task). u.number) t.number m.course.job.tasks t runs.task
+  in_t : Has m.progress.job.tasks t
+  in_t = keyed-has (λ (u : Task). u.number) t.number m.progress.job.tasks t runs.task
 
   running_on : (d : Condition) → IsRunning plan (with_job s m (job_on d)).jobs (member_on d) (task_on d)
   running_on d = record {
-    member = member-same s.jobs m.setting.number (record m.course { job = job_on d }) m runs.member;
-    task = keyed-put_same (λ (u : Task). u.number) t.number (task_on d) t refl m.course.job.tasks runs.task;
+    member = member-same s.jobs m.constants.number (record m.progress { job = job_on d }) m runs.member;
+    task = change_found (λ (u : Task). u.number) t.number t (task_on d) m.progress.job.tasks refl runs.task;
     slot = runs.slot;
   }
 
-  free_on : IsFree (job_on Ready) m.course.job.next_frame
+  free_on : IsFree (job_on Ready) m.progress.job.next_frame
   free_on = record {
     some = free.some;
-    uncritical = λ u k. elim (change-has (λ (v : Task). v.number) t.number (λ (v : Task). task_on Ready) m.course.job.tasks t runs.task u k) [
+    uncritical = λ u k. elim (change-has (λ (v : Task). v.number) t.number (λ (v : Task). task_on Ready) m.progress.job.tasks t runs.task u k) [
       | inl i ↦ free.uncritical u i
-      | inr e ↦ subst (λ (v : Task). v.critical ≢ m.course.job.next_frame) (sym e) (free.uncritical t in_t)
+      | inr e ↦ subst (λ (v : Task). v.critical ≢ m.progress.job.next_frame) (sym e) (free.uncritical t in_t)
     ];
   }
 
   -- the session as it is then
-  waits : (left : List Thing) (new : Cpu) → SessionStandsBut left x new plan (with_job s m (job_on Ready)) → SessionStandsBut left x new plan (with_job s m (job_on t.condition))
-  waits left new stands = SessionStands-condition left x new plan s m without (task_on Ready) Ready t.condition m.course.job.next_frame stands (running_on Ready) free_on
+  waits : (left : List PagedObject) (new : Cpu) → RepresentsSessionBut left x new plan (with_job s m (job_on Ready)) → RepresentsSessionBut left x new plan (with_job s m (job_on t.condition))
+  waits left new stands = RepresentsSession-condition left x new plan s m without (task_on Ready) Ready t.condition m.progress.job.next_frame stands (running_on Ready) free_on
 
   module _ (v : Word) (not_operand : IsOperand v → ⊥) (is : follow (seen x old plan s m t o h runs a) v ≡ Ok (AtProc f segment level place)) where
     answer : (b : Bool) → (level_of_frame (frame (seen x old plan s m t o h runs a) f) + 1 == level) ≡ b → returned (here_left m t a) v true ≡ (if b then Ok (Goes (job_on t.condition) [] None) else Err InvalidOperand)
@@ -154,9 +153,9 @@ module _ (x : Storage) (old : Cpu) (plan : Plan) (s : Session) (m : Member) (t :
     entered new true e i =
         let both : Ok (Goes (job_on Ready) [] None) ≡ Ok (Goes i.job [] None) = sym (ready_level true e) ∙ i.is in
         let job_is : i.job ≡ job_on Ready = cc in
-        let P : Job → Type 0 = λ j. SessionStandsBut (scene x old plan s m t o h runs a).left x new plan (with_job (with_job s m (job_at x old plan s m t o h runs a Ready)) (member_at x old plan s m t o h runs a Ready) j) in
-        let Q : Session → Type 0 = λ z. SessionStandsBut (scene x old plan s m t o h runs a).left x new plan z in
-        let stands : SessionStandsBut (scene x old plan s m t o h runs a).left x new plan (with_job s m (job_on Ready)) = subst Q (session_same (job_on Ready)) (subst P job_is i.stands) in
+        let P : Job → Type 0 = λ j. RepresentsSessionBut (scene x old plan s m t o h runs a).left x new plan (with_job (with_job s m (job_at x old plan s m t o h runs a Ready)) (member_at x old plan s m t o h runs a Ready) j) in
+        let Q : Session → Type 0 = λ z. RepresentsSessionBut (scene x old plan s m t o h runs a).left x new plan z in
+        let stands : RepresentsSessionBut (scene x old plan s m t o h runs a).left x new plan (with_job s m (job_on Ready)) = subst Q (session_same (job_on Ready)) (subst P job_is i.stands) in
         record {
           job = job_on t.condition;
           touched = None;

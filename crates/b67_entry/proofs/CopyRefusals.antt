@@ -7,27 +7,26 @@ use Rattle.b67_word.specs.declared.faults.Fault.TheVariants.{InvalidOperand, Upl
 use Rattle.b67_ctl.specs.Descriptors.{data_word, IsDataDesc}
 use Rattle.b67_ctl.specs.declared.descriptors.DataDesc.{DataDesc}
 use Rattle.b67_lemmas.specs.Lists.{Has, Falls}
+use Rattle.b67_lemmas.proofs.Members.{keyed_falls, keyed-has}
 use Rattle.b67_model.specs.Words as Words
 use Rattle.b67_model.specs.Words.{Word, Operand, Name, Ref, Row, Element, Original, Proc, Intrinsic}
-use Rattle.b67_model.specs.State.{Frame, Array, Task, Job, Member, top}
+use Rattle.b67_model.specs.State.{Frame, Array, Task, Job, SessionJob, top}
 use Rattle.b67_model.specs.Arrays.{array, no_array, owner_of}
 use Rattle.b67_model.specs.Keyed.{keyed}
-use Rattle.b67_law_order.proofs.Members.{keyed_falls}
 use Rattle.b67_model.specs.Entry.{returnable}
 use Rattle.b67_model.specs.Run.{number_of}
 use Rattle.b67_model.specs.Schedule.{Session}
 use Rattle.b67_model.specs.InOrder.{IsSegment, Known, NamesArray, WordInOrder, reach_of, IsInOrderButPlaces}
 use Rattle.b67_stack.specs.declared.Cpu.{Cpu}
 use Rattle.b67_stack.specs.Shapes.{Fits, IsCopy, Copied, copy_desc}
-use Rattle.b67_stack.specs.Stacks.{Spot, high}
-use Rattle.b67_stack.specs.Picture.{RunsOn, slot_base}
-use Rattle.b67_stack.specs.Stands.{Storage}
+use Rattle.b67_stack.specs.Stacks.{StackPlace, stack_words}
+use Rattle.b67_stack.specs.MachineView.{RunsOn, slot_base}
+use Rattle.b67_stack.specs.Represents.{Storage}
 use Rattle.b67_stack.proofs.Homes.{same_desc}
 use Rattle.b67_stack.proofs.Slots.{running_slot, running_fits}
-use Rattle.b67_layout.specs.Plan.{Plan, spot_in, outer_spots}
-use Rattle.b67_layout.specs.Layout.{shape, activations, picture}
-use Rattle.b67_layout.specs.Session.{IsRunning, SessionStands}
-use Rattle.b67_layout.proofs.Others.{keyed-has}
+use Rattle.b67_layout.specs.Placement.{Placement, spot_in, outer_spots}
+use Rattle.b67_layout.specs.Layout.{shape, activations, machine_view}
+use Rattle.b67_layout.specs.Session.{IsRunning, RepresentsSession}
 use Rattle.b67_layout.proofs.Fresh.{running_in_order}
 use Rattle.b67_layout.proofs.Starts.{slot_is, runs_here}
 use Rattle.b67_refer.specs.Ends.{IsCopyOf}
@@ -39,15 +38,15 @@ pub found_array : (job : Job) (reach : List Known) (a index : ℕ) (n : NamesArr
 found_array job reach a index n falls =
     ap (λ (o : Option Array). unwrap_or o no_array) (ap (λ (i : ℕ). keyed (λ (b : Array). b.identity) i job.arrays) (sym n.named) ∙ keyed_falls (λ (b : Array). b.identity) job.next_array job.arrays n.item falls n.live)
 
-module _ (x : Storage) (cpu : Cpu) (plan : Plan) (s : Session) (m : Member) (t : Task) (o : IsInOrderButPlaces s) (h : SessionStands x cpu plan s) (runs : IsRunning plan s.jobs m t) (v : Word) (w : Tagged) (b : IsTopWord x plan m t cpu v w) where
-  abbrev spot : ℕ → Spot
-  spot = spot_in plan.running (outer_spots plan m.setting.number m.course.job t.critical t.parents) (b.frame ∷ b.below)
+module _ (x : Storage) (cpu : Cpu) (plan : Placement) (s : Session) (m : SessionJob) (t : Task) (o : IsInOrderButPlaces s) (h : RepresentsSession x cpu plan s) (runs : IsRunning plan s.jobs m t) (v : Word) (w : Tagged) (b : IsTopWord x plan m t cpu v w) where
+  abbrev spot : ℕ → StackPlace
+  spot = spot_in plan.running (outer_spots plan m.constants.number m.progress.job t.critical t.parents) (b.frame ∷ b.below)
 
   abbrev Fit : Word → Type 0
-  Fit u = Fits x.held (shape plan m.setting.number m.course.job spot u) cpu.regs.s w
+  Fit u = Fits x.held (shape plan m.constants.number m.progress.job spot u) cpu.regs.s w
 
   abbrev Ordered : Word → Type 0
-  Ordered u = WordInOrder (IsSegment m.setting) m.course.job.arrays (reach_of m.course.job t) b.frame.identity u
+  Ordered u = WordInOrder (IsSegment m.constants) m.progress.job.arrays (reach_of m.progress.job t) b.frame.identity u
 
   tag_apart : {A : Type 0} (u : Tagged) → w.tag ≡ 5 → w ≡ u → u.tag ≢ 5 → A
   tag_apart u five is ne = absurd (ne (sym (ap (λ (z : Tagged). z.tag) is) ∙ five))
@@ -67,12 +66,12 @@ module _ (x : Storage) (cpu : Cpu) (plan : Plan) (s : Session) (m : Member) (t :
     by (Words.Segment number) fit g = absurd g
 
   -- an original
-  pub original_refused : w.tag ≡ 5 → (d : DataDesc) → IsDataDesc d → w ≡ data_word d → d.copy ≡ false → Refuses (Some InvalidOperand) v (returnable m.course.job (top t.frames).identity v)
+  pub original_refused : w.tag ≡ 5 → (d : DataDesc) → IsDataDesc d → w ≡ data_word d → d.copy ≡ false → Refuses (Some InvalidOperand) v (returnable m.progress.job (top t.frames).identity v)
   original_refused five d fits is own = by v b.fits b.order where
     no_copy : {A : Type 0} (e : DataDesc) → IsDataDesc e → w ≡ data_word e → e.copy ≡ true → A
     no_copy e fe we copy = absurd (true≢false (sym copy ∙ sym (same_desc d e fits fe (sym is ∙ we)).copy ∙ own))
 
-    by : (u : Word) → Fit u → Ordered u → Refuses (Some InvalidOperand) u (returnable m.course.job (top t.frames).identity u)
+    by : (u : Word) → Fit u → Ordered u → Refuses (Some InvalidOperand) u (returnable m.progress.job (top t.frames).identity u)
     by (Original a) fit g = refl
     by (Name couple) fit g = refl
     by (Row a) fit g = no_copy (copy_desc _ fit.present fit.address) fit.fits fit.is refl
@@ -87,7 +86,7 @@ module _ (x : Storage) (cpu : Cpu) (plan : Plan) (s : Session) (m : Member) (t :
   copy_of d fits is c home i = record {
     storage = x;
     registers = cpu.regs;
-    picture = picture plan s.jobs;
+    machine_view = machine_view plan s.jobs;
     stands = h.holds.memory;
     copied = c;
     fits = fits;
@@ -96,16 +95,16 @@ module _ (x : Storage) (cpu : Cpu) (plan : Plan) (s : Session) (m : Member) (t :
 
   -- the array of which a word is a copy
   abbrev pub CopyOf : Word → ℕ → Type 0
-  CopyOf (Row a) home = home ≡ plan.home m.setting.number a
-  CopyOf (Element a index) home = home ≡ plan.home m.setting.number a
+  CopyOf (Row a) home = home ≡ plan.home m.constants.number a
+  CopyOf (Element a index) home = home ≡ plan.home m.constants.number a
   CopyOf _ home = ⊥
 
   -- a copy, and its home
   pub is_copy : w.tag ≡ 5 → (d : DataDesc) → IsDataDesc d → w ≡ data_word d → d.copy ≡ true → (home : ℕ) × IsCopyOf cpu.core d home × CopyOf v home
   is_copy five d fits is copy = by v b.fits b.order where
     by : (u : Word) → Fit u → Ordered u → (home : ℕ) × IsCopyOf cpu.core d home × CopyOf u home
-    by (Row a) fit g = (plan.home m.setting.number a, copy_of d fits is _ _ fit, refl)
-    by (Element a index) fit g = (plan.home m.setting.number a, copy_of d fits is _ _ fit, refl)
+    by (Row a) fit g = (plan.home m.constants.number a, copy_of d fits is _ _ fit, refl)
+    by (Element a index) fit g = (plan.home m.constants.number a, copy_of d fits is _ _ fit, refl)
     by (Original a) fit g = absurd (true≢false (sym copy ∙ (same_desc d fit.1.desc fits fit.1.fits (sym is ∙ fit.1.is)).copy ∙ fit.1.own))
     by (Operand bits) fit g = tag_apart _ five fit.0 (λ e. omega (arith, e))
     by (Name couple) fit g = tag_apart _ five fit.0 (λ e. omega (arith, e))
@@ -115,58 +114,58 @@ module _ (x : Storage) (cpu : Cpu) (plan : Plan) (s : Session) (m : Member) (t :
     by (Words.Segment number) fit g = absurd g
 
   in_m : Has s.jobs m
-  in_m = keyed-has number_of m.setting.number s.jobs m runs.member
+  in_m = keyed-has number_of m.constants.number s.jobs m runs.member
 
   id_is : (top t.frames).identity ≡ b.frame.identity
   id_is = ap (λ (fs : List Frame). (top fs).identity) b.frames
 
   abbrev high_under : ℕ
-  high_under = high (under x cpu.core cpu.regs cpu.critical plan s m t b.frame b.below o h.holds runs b.frames)
+  high_under = stack_words (under x cpu.core cpu.regs cpu.critical plan s m t b.frame b.below o h.holds runs b.frames)
 
   abbrev high_all : ℕ
-  high_all = high (all x cpu.core cpu.regs cpu.critical plan s m t b.frame b.below o h.holds runs b.frames)
+  high_all = stack_words (all x cpu.core cpu.regs cpu.critical plan s m t b.frame b.below o h.holds runs b.frames)
 
   abbrev first : ℕ
-  first = slot_base (picture plan s.jobs) plan.running
+  first = slot_base (machine_view plan s.jobs) plan.running
 
   -- where the top frame lies
   bounds : (cpu.regs.f ≡ first + high_under + 1) × (cpu.regs.s ≡ first + high_all) × (high_all < plan.size)
   bounds =
-      let on = subst (λ (fs : List Frame). RunsOn (picture plan s.jobs) cpu.regs.slot (activations plan m.setting.number m.course.job plan.running (outer_spots plan m.setting.number m.course.job t.critical t.parents) fs)) b.frames (runs_here x cpu plan s m t h runs) in
-      let r = running_slot x cpu.core cpu.regs (picture plan s.jobs) cpu.regs.slot (all x cpu.core cpu.regs cpu.critical plan s m t b.frame b.below o h.holds runs b.frames) h.holds.memory on in
-      let f = running_fits x cpu.core cpu.regs (picture plan s.jobs) cpu.regs.slot (all x cpu.core cpu.regs cpu.critical plan s m t b.frame b.below o h.holds runs b.frames) h.holds.memory on in
-      let e : slot_base (picture plan s.jobs) cpu.regs.slot ≡ first = ap (slot_base (picture plan s.jobs)) (slot_is x cpu plan s m t h runs) in
+      let on = subst (λ (fs : List Frame). RunsOn (machine_view plan s.jobs) cpu.regs.slot (activations plan m.constants.number m.progress.job plan.running (outer_spots plan m.constants.number m.progress.job t.critical t.parents) fs)) b.frames (runs_here x cpu plan s m t h runs) in
+      let r = running_slot x cpu.core cpu.regs (machine_view plan s.jobs) cpu.regs.slot (all x cpu.core cpu.regs cpu.critical plan s m t b.frame b.below o h.holds runs b.frames) h.holds.memory on in
+      let f = running_fits x cpu.core cpu.regs (machine_view plan s.jobs) cpu.regs.slot (all x cpu.core cpu.regs cpu.critical plan s m t b.frame b.below o h.holds runs b.frames) h.holds.memory on in
+      let e : slot_base (machine_view plan s.jobs) cpu.regs.slot ≡ first = ap (slot_base (machine_view plan s.jobs)) (slot_is x cpu plan s m t h runs) in
       (omega (arith, r.mark, e), omega (arith, r.top, e), f.0.fits)
 
   -- an array that a word in order names: its owner by its home
-  owned_above : (a index : ℕ) → NamesArray m.course.job.arrays (reach_of m.course.job t) a index → owner_of m.course.job a ≡ b.frame.identity → (cpu.regs.f < plan.home m.setting.number a) × (plan.home m.setting.number a ≤ cpu.regs.s)
+  owned_above : (a index : ℕ) → NamesArray m.progress.job.arrays (reach_of m.progress.job t) a index → owner_of m.progress.job a ≡ b.frame.identity → (cpu.regs.f < plan.home m.constants.number a) × (plan.home m.constants.number a ≤ cpu.regs.s)
   owned_above a index n e =
-      let item = found_array m.course.job (reach_of m.course.job t) a index n (running_in_order plan s m t o runs).0.tasks.names in
+      let item = found_array m.progress.job (reach_of m.progress.job t) a index n (running_in_order plan s m t o runs).0.tasks.names in
       let q = homes_high x cpu.core cpu.regs cpu.critical plan s m t b.frame b.below o h.holds runs b.frames n.item n.live (sym (ap (λ (z : Array). z.owner) item) ∙ e) in
-      let is : plan.home m.setting.number n.item.identity ≡ plan.home m.setting.number a = ap (plan.home m.setting.number) n.named in
+      let is : plan.home m.constants.number n.item.identity ≡ plan.home m.constants.number a = ap (plan.home m.constants.number) n.named in
       (omega (arith, q.0, is, bounds.0), omega (arith, q.1, is, bounds.1))
 
-  not_owned : (a index : ℕ) → NamesArray m.course.job.arrays (reach_of m.course.job t) a index → owner_of m.course.job a ≢ b.frame.identity → cpu.regs.f < plan.home m.setting.number a → plan.home m.setting.number a ≤ cpu.regs.s → ⊥
+  not_owned : (a index : ℕ) → NamesArray m.progress.job.arrays (reach_of m.progress.job t) a index → owner_of m.progress.job a ≢ b.frame.identity → cpu.regs.f < plan.home m.constants.number a → plan.home m.constants.number a ≤ cpu.regs.s → ⊥
   not_owned a index n ne low up =
-      let item = found_array m.course.job (reach_of m.course.job t) a index n (running_in_order plan s m t o runs).0.tasks.names in
-      let is : plan.home m.setting.number n.item.identity ≡ plan.home m.setting.number a = ap (plan.home m.setting.number) n.named in
+      let item = found_array m.progress.job (reach_of m.progress.job t) a index n (running_in_order plan s m t o runs).0.tasks.names in
+      let is : plan.home m.constants.number n.item.identity ≡ plan.home m.constants.number a = ap (plan.home m.constants.number) n.named in
       elim (homes_low x cpu.core cpu.regs cpu.critical plan s m t b.frame b.below o h.holds runs b.frames m in_m n.item n.live) [
         | inl q ↦ ne (ap (λ (z : Array). z.owner) item ∙ q.1)
         | inr q ↦ elim q [ inl d ↦ (let z : ⊥ = omega (arith, d, is, low, bounds.0) in z) | inr d ↦ (let z : ⊥ = omega (arith, d, is, up, bounds.1, bounds.2) in z) ]
       ]
 
   -- an array of the top frame
-  pub own_copy_refused : (home : ℕ) → CopyOf v home → cpu.regs.f < home → home ≤ cpu.regs.s → Refuses (Some Uplevel) v (returnable m.course.job (top t.frames).identity v)
+  pub own_copy_refused : (home : ℕ) → CopyOf v home → cpu.regs.f < home → home ≤ cpu.regs.s → Refuses (Some Uplevel) v (returnable m.progress.job (top t.frames).identity v)
   own_copy_refused home c low up = by v c b.order where
-    owned : (a index : ℕ) → home ≡ plan.home m.setting.number a → NamesArray m.course.job.arrays (reach_of m.course.job t) a index → owner_of m.course.job a ≡ (top t.frames).identity
-    owned a index e n = elim (cases_eq (owner_of m.course.job a) b.frame.identity) [
+    owned : (a index : ℕ) → home ≡ plan.home m.constants.number a → NamesArray m.progress.job.arrays (reach_of m.progress.job t) a index → owner_of m.progress.job a ≡ (top t.frames).identity
+    owned a index e n = elim (cases_eq (owner_of m.progress.job a) b.frame.identity) [
       | inl z ↦ z ∙ sym id_is
       | inr z ↦ absurd (not_owned a index n z (omega (arith, low, e)) (omega (arith, up, e)))
     ]
 
-    by : (u : Word) → CopyOf u home → Ordered u → Refuses (Some Uplevel) u (returnable m.course.job (top t.frames).identity u)
-    by (Row a) e g = elim (eqb_tells (owner_of m.course.job a) (top t.frames).identity) [ inl q ↦ rw q.0 refl | inr q ↦ absurd (q.1 (owned a 0 e g)) ]
-    by (Element a index) e g = elim (eqb_tells (owner_of m.course.job a) (top t.frames).identity) [ inl q ↦ rw q.0 refl | inr q ↦ absurd (q.1 (owned a index e g)) ]
+    by : (u : Word) → CopyOf u home → Ordered u → Refuses (Some Uplevel) u (returnable m.progress.job (top t.frames).identity u)
+    by (Row a) e g = elim (eqb_tells (owner_of m.progress.job a) (top t.frames).identity) [ inl q ↦ rw q.0 refl | inr q ↦ absurd (q.1 (owned a 0 e g)) ]
+    by (Element a index) e g = elim (eqb_tells (owner_of m.progress.job a) (top t.frames).identity) [ inl q ↦ rw q.0 refl | inr q ↦ absurd (q.1 (owned a index e g)) ]
     by (Original a) e g = absurd e
     by (Operand bits) e g = absurd e
     by (Name couple) e g = absurd e
@@ -176,14 +175,14 @@ module _ (x : Storage) (cpu : Cpu) (plan : Plan) (s : Session) (m : Member) (t :
     by (Words.Segment number) e g = absurd e
 
   -- another array
-  pub other_copy_passes : (home : ℕ) → CopyOf v home → (cpu.regs.f < home → home ≤ cpu.regs.s → ⊥) → Refuses None v (returnable m.course.job (top t.frames).identity v)
+  pub other_copy_passes : (home : ℕ) → CopyOf v home → (cpu.regs.f < home → home ≤ cpu.regs.s → ⊥) → Refuses None v (returnable m.progress.job (top t.frames).identity v)
   other_copy_passes home c apart = by v c b.order where
-    differs : (a index : ℕ) → home ≡ plan.home m.setting.number a → NamesArray m.course.job.arrays (reach_of m.course.job t) a index → owner_of m.course.job a ≢ (top t.frames).identity
+    differs : (a index : ℕ) → home ≡ plan.home m.constants.number a → NamesArray m.progress.job.arrays (reach_of m.progress.job t) a index → owner_of m.progress.job a ≢ (top t.frames).identity
     differs a index e n z = let q = owned_above a index n (z ∙ id_is) in apart (omega (arith, q.0, e)) (omega (arith, q.1, e))
 
-    by : (u : Word) → CopyOf u home → Ordered u → Refuses None u (returnable m.course.job (top t.frames).identity u)
-    by (Row a) e g = elim (eqb_tells (owner_of m.course.job a) (top t.frames).identity) [ inl q ↦ absurd (differs a 0 e g q.1) | inr q ↦ rw q.0 refl ]
-    by (Element a index) e g = elim (eqb_tells (owner_of m.course.job a) (top t.frames).identity) [ inl q ↦ absurd (differs a index e g q.1) | inr q ↦ rw q.0 refl ]
+    by : (u : Word) → CopyOf u home → Ordered u → Refuses None u (returnable m.progress.job (top t.frames).identity u)
+    by (Row a) e g = elim (eqb_tells (owner_of m.progress.job a) (top t.frames).identity) [ inl q ↦ absurd (differs a 0 e g q.1) | inr q ↦ rw q.0 refl ]
+    by (Element a index) e g = elim (eqb_tells (owner_of m.progress.job a) (top t.frames).identity) [ inl q ↦ absurd (differs a index e g q.1) | inr q ↦ rw q.0 refl ]
     by (Original a) e g = absurd e
     by (Operand bits) e g = absurd e
     by (Name couple) e g = absurd e

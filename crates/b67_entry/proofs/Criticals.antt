@@ -4,27 +4,24 @@ use Rattle.std.specs.Prelude.{if◌then◌else◌}
 use Rattle.std.specs.List.{slice_get}
 use Rattle.std.proofs.lemmas.Bool.{eq-eqb, ne_eqb}
 use Rattle.std.proofs.lemmas.Option.{get_or_from_slice_get}
-use Rattle.b67_model.specs.State.{Frame, Standing, Marked, Entered, Task, Job, Member, head_words, words_of, height, top}
+use Rattle.b67_model.specs.State.{Frame, Task, Job, SessionJob, words_of, height, top}
 use Rattle.b67_model.specs.Run.{number_of}
 use Rattle.b67_model.specs.Steps.{is_critical}
 use Rattle.b67_model.specs.Schedule.{Session}
 use Rattle.b67_model.specs.InOrder.{IsInOrderButPlaces}
 use Rattle.b67_stack.specs.declared.Cpu.{Cpu}
-use Rattle.b67_stack.specs.Stacks.{high, mark_place}
-use Rattle.b67_stack.specs.Stands.{Storage, RunningStands}
+use Rattle.b67_stack.specs.Stacks.{stack_words, mark_place}
+use Rattle.b67_stack.specs.Represents.{Storage, RepresentsRunning}
 use Rattle.b67_stack.proofs.Slots.{running_slot}
-use Rattle.b67_layout.specs.Plan.{Plan, outer_spots}
-use Rattle.b67_layout.specs.Layout.{activations, stack_of_task, picture}
-use Rattle.b67_layout.specs.Session.{IsRunning, SessionStands, critical_mark}
+use Rattle.b67_layout.specs.Placement.{Placement, outer_spots}
+use Rattle.b67_layout.specs.Layout.{activations, stack_of_task, machine_view}
+use Rattle.b67_layout.specs.Session.{IsRunning, RepresentsSession, critical_mark}
 use Rattle.b67_layout.proofs.Frames.{height-is}
-use Rattle.b67_layout.proofs.Others.{keyed-has}
 use Rattle.b67_layout.proofs.Fresh.{running_in_order}
 use Rattle.b67_layout.proofs.Rows.{slot_below}
 use Rattle.b67_layout.proofs.Starts.{runs_here}
-
-some_words : (s : Standing) → 1 ≤ head_words s
-some_words Marked = omega arith
-some_words (Entered level environment back) = omega arith
+use Rattle.b67_lemmas.proofs.Members.{keyed-has}
+use Rattle.b67_layout_leave.proofs.Apart.{some_words}
 
 mark_under : (job : Job) (fs : List Frame) → critical_mark job fs < height fs
 mark_under job [] = omega arith
@@ -39,28 +36,28 @@ tells job f below = by (is_critical job f.identity) where
   by true = eq-eqb (height below) (height below) refl
   by false = ne_eqb (critical_mark job below) (height below) (λ e. (let low = mark_under job below in omega (arith, low, e)))
 
-module _ (x : Storage) (cpu : Cpu) (plan : Plan) (s : Session) (m : Member) (t : Task) (o : IsInOrderButPlaces s) (h : SessionStands x cpu plan s) (runs : IsRunning plan s.jobs m t) where
+module _ (x : Storage) (cpu : Cpu) (plan : Placement) (s : Session) (m : SessionJob) (t : Task) (o : IsInOrderButPlaces s) (h : RepresentsSession x cpu plan s) (runs : IsRunning plan s.jobs m t) where
   pub slot_small : cpu.regs.slot < 120
-  slot_small = omega (arith, (h.holds.running m t runs).slot, h.holds.fits.few, slot_below plan s.jobs m t h.holds.fits.rows (keyed-has number_of m.setting.number s.jobs m runs.member) (keyed-has (λ (u : Task). u.number) t.number m.course.job.tasks t runs.task))
+  slot_small = omega (arith, (h.holds.running m t runs).slot, h.holds.fits.few, slot_below plan s.jobs m t h.holds.fits.rows (keyed-has number_of m.constants.number s.jobs m runs.member) (keyed-has (λ (u : Task). u.number) t.number m.progress.job.tasks t runs.task))
 
-  stack_is : RunningStands cpu.regs (picture plan s.jobs) cpu.regs.slot (stack_of_task plan m.setting.number m.course.job plan.running t)
-  stack_is = running_slot x cpu.core cpu.regs (picture plan s.jobs) cpu.regs.slot (stack_of_task plan m.setting.number m.course.job plan.running t) h.holds.memory (runs_here x cpu plan s m t h runs)
+  stack_is : RepresentsRunning cpu.regs (machine_view plan s.jobs) cpu.regs.slot (stack_of_task plan m.constants.number m.progress.job plan.running t)
+  stack_is = running_slot x cpu.core cpu.regs (machine_view plan s.jobs) cpu.regs.slot (stack_of_task plan m.constants.number m.progress.job plan.running t) h.holds.memory (runs_here x cpu plan s m t h runs)
 
   pub base_low : cpu.regs.bosr ≤ cpu.regs.f
   base_low = omega (arith, stack_is.first, stack_is.mark)
 
   -- the word of the running slot
-  pub word_there : slice_get cpu.critical cpu.regs.slot ≡ Some (critical_mark m.course.job t.frames)
-  word_there = ap (slice_get cpu.critical) (h.holds.running m t runs).slot ∙ h.holds.critical.live m t (keyed-has number_of m.setting.number s.jobs m runs.member) (keyed-has (λ (u : Task). u.number) t.number m.course.job.tasks t runs.task)
+  pub word_there : slice_get cpu.critical cpu.regs.slot ≡ Some (critical_mark m.progress.job t.frames)
+  word_there = ap (slice_get cpu.critical) (h.holds.running m t runs).slot ∙ h.holds.critical.live m t (keyed-has number_of m.constants.number s.jobs m runs.member) (keyed-has (λ (u : Task). u.number) t.number m.progress.job.tasks t runs.task)
 
-  place_is : (fs : List Frame) → fs ≢ [] → mark_place (activations plan m.setting.number m.course.job plan.running (outer_spots plan m.setting.number m.course.job t.critical t.parents) fs) ≡ cpu.regs.f - cpu.regs.bosr
-      → eqb (critical_mark m.course.job fs) (cpu.regs.f - cpu.regs.bosr) ≡ is_critical m.course.job (top fs).identity
+  place_is : (fs : List Frame) → fs ≢ [] → mark_place (activations plan m.constants.number m.progress.job plan.running (outer_spots plan m.constants.number m.progress.job t.critical t.parents) fs) ≡ cpu.regs.f - cpu.regs.bosr
+      → eqb (critical_mark m.progress.job fs) (cpu.regs.f - cpu.regs.bosr) ≡ is_critical m.progress.job (top fs).identity
   place_is [] some e = absurd (some refl)
   place_is (f ∷ below) some e =
-      let is : height below ≡ cpu.regs.f - cpu.regs.bosr = height-is plan m.setting.number m.course.job plan.running (outer_spots plan m.setting.number m.course.job t.critical t.parents) below ∙ (let z : suc (high (activations plan m.setting.number m.course.job plan.running (outer_spots plan m.setting.number m.course.job t.critical t.parents) below)) ≡ cpu.regs.f - cpu.regs.bosr = omega (arith, e) in z) in
-      ap (eqb (critical_mark m.course.job (f ∷ below))) (sym is) ∙ tells m.course.job f below
+      let is : height below ≡ cpu.regs.f - cpu.regs.bosr = height-is plan m.constants.number m.progress.job plan.running (outer_spots plan m.constants.number m.progress.job t.critical t.parents) below ∙ (let z : suc (stack_words (activations plan m.constants.number m.progress.job plan.running (outer_spots plan m.constants.number m.progress.job t.critical t.parents) below)) ≡ cpu.regs.f - cpu.regs.bosr = omega (arith, e) in z) in
+      ap (eqb (critical_mark m.progress.job (f ∷ below))) (sym is) ∙ tells m.progress.job f below
 
-  pub tells_critical : (slot mark : ℕ) → slot ≡ cpu.regs.slot → mark ≡ get_or cpu.critical slot 0 → eqb mark (cpu.regs.f - cpu.regs.bosr) ≡ is_critical m.course.job (top t.frames).identity
+  pub tells_critical : (slot mark : ℕ) → slot ≡ cpu.regs.slot → mark ≡ get_or cpu.critical slot 0 → eqb mark (cpu.regs.f - cpu.regs.bosr) ≡ is_critical m.progress.job (top t.frames).identity
   tells_critical slot mark at e =
-      let same : mark ≡ critical_mark m.course.job t.frames = e ∙ get_or_from_slice_get cpu.critical slot (critical_mark m.course.job t.frames) 0 (ap (slice_get cpu.critical) at ∙ word_there) in
+      let same : mark ≡ critical_mark m.progress.job t.frames = e ∙ get_or_from_slice_get cpu.critical slot (critical_mark m.progress.job t.frames) 0 (ap (slice_get cpu.critical) at ∙ word_there) in
       ap (λ (n : ℕ). eqb n (cpu.regs.f - cpu.regs.bosr)) same ∙ place_is t.frames (running_in_order plan s m t o runs).1.some (omega (arith, stack_is.first, stack_is.mark))

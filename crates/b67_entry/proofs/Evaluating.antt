@@ -13,7 +13,7 @@ use Rattle.b67_ctl.specs.declared.registers.Regs.{Regs}
 use Rattle.b67_model.specs.Answers.{Answer, ◌>>=◌}
 use Rattle.b67_model.specs.Words as Words
 use Rattle.b67_model.specs.Words.{Word, Operand, Name, Ref, Row, Element, Original, Proc, Intrinsic}
-use Rattle.b67_model.specs.State.{Ready, Frame, Array, Task, Job, Here, Member, all_frames, mcp, height, with_task}
+use Rattle.b67_model.specs.State.{Ready, Frame, Array, Task, Job, OperatorContext, SessionJob, all_frames, mcp, height, with_task}
 use Rattle.b67_model.specs.Arrays.{element}
 use Rattle.b67_model.specs.Chase as Chase
 use Rattle.b67_model.specs.Chase.{AtCell, AtElement, AtArray, AtProc, AtIntrinsic, follow}
@@ -21,16 +21,15 @@ use Rattle.b67_model.specs.Entry.{evaluates, returned}
 use Rattle.b67_model.specs.Steps.{Done, Goes, pushes, without_arrays_of}
 use Rattle.b67_model.specs.Schedule.{Session}
 use Rattle.b67_model.specs.InOrder.{IsInOrderButPlaces}
-use Rattle.b67_law_order.proofs.Members.{change_twice, has_filter}
 use Rattle.b67_stack.specs.declared.Cpu.{Cpu}
 use Rattle.b67_stack.specs.declared.What.TheVariants as what
-use Rattle.b67_stack.specs.Stands.{Storage}
-use Rattle.b67_layout.specs.Plan.{Plan}
-use Rattle.b67_layout.specs.Session.{IsRunning, SessionStands}
+use Rattle.b67_stack.specs.Represents.{Storage}
+use Rattle.b67_layout.specs.Placement.{Placement}
+use Rattle.b67_layout.specs.Session.{IsRunning, RepresentsSession}
 use Rattle.b67_layout.specs.Meets.{IsMade, IsAbsent, IsPresent, area_held, here}
 use Rattle.b67_layout.proofs.Fresh.{running_in_order}
 use Rattle.b67_refer.specs.declared.ends.End.TheVariants as end
-use Rattle.b67_refer.specs.Scene.{Scene, IsShown}
+use Rattle.b67_refer.specs.RunningContext.{RunningContext, IsShown}
 use Rattle.b67_refer.specs.Cells.{IsCellAt}
 use Rattle.b67_refer.specs.Ends.{IsArrayOf, IsProcAt, EndMeets}
 use Rattle.b67_exec_cells.specs.Elements.{HasElement}
@@ -42,10 +41,11 @@ use Rattle.b67_entry.proofs.Heres.{flat_same, follow_same}
 use Rattle.b67_entry.proofs.Leaving.{member_at, task_left, regs_left, scene_left}
 use Rattle.b67_entry.proofs.Putting.{height_left}
 use Rattle.b67_entry.proofs.Replacing.{frames_with, job_with, Puts, puts_operand, stands_with, changed_with}
-use Rattle.b67_entry.proofs.Retns.{IsOperand}
+use Rattle.b67_lemmas.proofs.Members.{change_twice, has_filter}
+use Rattle.b67_law_order.proofs.Maps.{IsOperand}
 
 -- a word that isn't an operand is followed
-follows : (h : Here) (v : Word) → (IsOperand v → ⊥) → returned h v true ≡ (follow h v >>= evaluates h)
+follows : (h : OperatorContext) (v : Word) → (IsOperand v → ⊥) → returned h v true ≡ (follow h v >>= evaluates h)
 follows h (Operand bits) n = absurd (n tt)
 follows h (Name couple) n = refl
 follows h (Ref f offset) n = refl
@@ -57,7 +57,7 @@ follows h (Intrinsic number) n = refl
 follows h (Words.Segment number) n = refl
 
 -- what was found tells the end
-module _ {core : List Tagged} {r : Regs} (c : Scene core r) (q : Place) where
+module _ {core : List Tagged} {r : Regs} (c : RunningContext core r) (q : Place) where
   pub fault_end : (f : Fault) (a : Answer Chase.End) → EndMeets c q (Err f) a → a ≡ Err f
   fault_end f (Ok e) k = absurd k
   fault_end f (Err g) k = ap Err (sym k)
@@ -86,7 +86,7 @@ module _ {core : List Tagged} {r : Regs} (c : Scene core r) (q : Place) where
   proc_end at (Ok (AtIntrinsic n)) k = absurd k
   proc_end at (Err g) k = absurd k
 
-  array_end : (h : Here) (original : ℕ) (a : Answer Chase.End) → EndMeets c q (Ok (end.Array original)) a → (a >>= evaluates h) ≡ Err InvalidOperand
+  array_end : (h : OperatorContext) (original : ℕ) (a : Answer Chase.End) → EndMeets c q (Ok (end.Array original)) a → (a >>= evaluates h) ≡ Err InvalidOperand
   array_end h original (Ok (AtArray n)) k = refl
   array_end h original (Ok (AtCell f offset bits)) k = absurd k
   array_end h original (Ok (AtElement n i)) k = absurd k
@@ -94,7 +94,7 @@ module _ {core : List Tagged} {r : Regs} (c : Scene core r) (q : Place) where
   array_end h original (Ok (AtIntrinsic n)) k = absurd k
   array_end h original (Err g) k = absurd k
 
-  intrinsic_end : (h : Here) (number : ℕ) (a : Answer Chase.End) → EndMeets c q (Ok (end.Intrinsic number)) a → (a >>= evaluates h) ≡ Err InvalidOperand
+  intrinsic_end : (h : OperatorContext) (number : ℕ) (a : Answer Chase.End) → EndMeets c q (Ok (end.Intrinsic number)) a → (a >>= evaluates h) ≡ Err InvalidOperand
   intrinsic_end h number (Ok (AtIntrinsic n)) k = refl
   intrinsic_end h number (Ok (AtCell f offset bits)) k = absurd k
   intrinsic_end h number (Ok (AtElement n i)) k = absurd k
@@ -102,16 +102,16 @@ module _ {core : List Tagged} {r : Regs} (c : Scene core r) (q : Place) where
   intrinsic_end h number (Ok (AtArray n)) k = absurd k
   intrinsic_end h number (Err g) k = absurd k
 
-module _ (x : Storage) (old : Cpu) (plan : Plan) (s : Session) (m : Member) (t : Task) (o : IsInOrderButPlaces s) (h : SessionStands x old plan s) (runs : IsRunning plan s.jobs m t) (a : Returns m t) where
-  abbrev pub scene : Scene old.core (regs_left x old plan s m t o h runs a)
+module _ (x : Storage) (old : Cpu) (plan : Placement) (s : Session) (m : SessionJob) (t : Task) (o : IsInOrderButPlaces s) (h : RepresentsSession x old plan s) (runs : IsRunning plan s.jobs m t) (a : Returns m t) where
+  abbrev pub scene : RunningContext old.core (regs_left x old plan s m t o h runs a)
   scene = scene_left x old plan s m t o h runs a
 
   -- where references are followed
-  abbrev pub seen : Here
+  abbrev pub seen : OperatorContext
   seen = here (member_at x old plan s m t o h runs a Ready) (task_left x old plan s m t o h runs a Ready) a.back.place
 
   pub frames_same : all_frames (here_left m t a) ≡ all_frames seen
-  frames_same = ap (λ (fs : List Frame). fs ++ (m.setting.dictionary ∷ mcp ∷ [])) (flat_same t.number (here_left m t a).task (task_left x old plan s m t o h runs a Ready) m.course.job.tasks refl)
+  frames_same = ap (λ (fs : List Frame). fs ++ (m.constants.dictionary ∷ mcp ∷ [])) (flat_same t.number (here_left m t a).task (task_left x old plan s m t o h runs a Ready) m.progress.job.tasks refl)
 
   pub answer_is : (v : Word) → (IsOperand v → ⊥) → returned (here_left m t a) v true ≡ (follow seen v >>= evaluates (here_left m t a))
   answer_is v n = follows (here_left m t a) v n ∙ ap (λ (e : Answer Chase.End). e >>= evaluates (here_left m t a)) (follow_same (here_left m t a) seen frames_same refl v)
@@ -122,10 +122,10 @@ module _ (x : Storage) (old : Cpu) (plan : Plan) (s : Session) (m : Member) (t :
       let T : Task = (here_left m t a).task in
       let fs = frames_with x old plan s m t o h runs a (u ∷ a.next.cells) in
       let U : Task = record t { frames = fs; segment = a.back.segment; place = a.back.place } in
-      let twice : with_task (here_left m t a).job U ≡ with_task (without_arrays_of a.f.identity m.course.job) U = ap (λ (ts : List Task). record (without_arrays_of a.f.identity m.course.job) { tasks = ts }) (change_twice (λ (z : Task). z.number) t.number T U m.course.job.tasks refl) in
-      rw (le-leb (height fs) m.setting.stack_size (omega (arith, height_left x old plan s m t o h runs a))) (ap (λ (j : Job). Ok (Goes j [] touched)) twice)
+      let twice : with_task (here_left m t a).job U ≡ with_task (without_arrays_of a.f.identity m.progress.job) U = ap (λ (ts : List Task). record (without_arrays_of a.f.identity m.progress.job) { tasks = ts }) (change_twice (λ (z : Task). z.number) t.number T U m.progress.job.tasks refl) in
+      rw (le-leb (height fs) m.constants.stack_size (omega (arith, height_left x old plan s m t o h runs a))) (ap (λ (j : Job). Ok (Goes j [] touched)) twice)
 
-  pub put_made : (u : Word) (w : Tagged) → Puts x old plan s m t o h runs a u w → (touched : Option ℕ) → IsPresent x plan m.setting.number touched → (display : List ℕ) → IsShown scene display → (answer : Answer Done) → answer ≡ pushes (here_left m t a) u touched
+  pub put_made : (u : Word) (w : Tagged) → Puts x old plan s m t o h runs a u w → (touched : Option ℕ) → IsPresent x plan m.constants.number touched → (display : List ℕ) → IsShown scene display → (answer : Answer Done) → answer ≡ pushes (here_left m t a) u touched
       → IsMade x plan s m old (with_word old (regs_left x old plan s m t o h runs a) display w) answer
   put_made u w put touched present display shown answer is = record {
     job = job_with x old plan s m t o h runs a (frames_with x old plan s m t o h runs a (u ∷ a.next.cells)) t.condition;
@@ -153,32 +153,32 @@ module _ (x : Storage) (old : Cpu) (plan : Plan) (s : Session) (m : Member) (t :
     -- at an element of an array
     module _ (original number index : ℕ) (is : follow seen v ≡ Ok (AtElement number index)) (q : IsArrayOf scene a.back.place original number index) where
       -- the array, with its element
-      pub element_there : HasElement m.course.job number index
-      element_there = record { item = q.names.item; live = (has_filter (λ (z : Array). not (z.owner == a.f.identity)) m.course.job.arrays q.names.item q.names.live).0; named = q.names.named; inside = q.names.inside }
+      pub element_there : HasElement m.progress.job number index
+      element_there = record { item = q.names.item; live = (has_filter (λ (z : Array). not (z.owner == a.f.identity)) m.progress.job.arrays q.names.item q.names.live).0; named = q.names.named; inside = q.names.inside }
 
-      element_same : element (here_left m t a).job number index ≡ element m.course.job number index
+      element_same : element (here_left m t a).job number index ≡ element m.progress.job number index
       element_same =
-          let live = has_filter (λ (z : Array). not (z.owner == a.f.identity)) m.course.job.arrays q.names.item q.names.live in
+          let live = has_filter (λ (z : Array). not (z.owner == a.f.identity)) m.progress.job.arrays q.names.item q.names.live in
           let apart : q.names.item.owner ≢ a.f.identity = λ e. elim (eqb_tells q.names.item.owner a.f.identity) [ inl z ↦ true≢false (sym live.1 ∙ ap not z.0) | inr z ↦ z.1 e ] in
-          let same = array_stays (here_left m t a).job m.course.job a.f.identity refl (running_in_order plan s m t o runs).0.tasks.names q.names.item live.0 apart in
-          ap (λ (n : ℕ). element (here_left m t a).job n index) (sym q.names.named) ∙ ap (λ (z : Array). slice_index z.numbers index) same ∙ ap (λ (n : ℕ). element m.course.job n index) q.names.named
+          let same = array_stays (here_left m t a).job m.progress.job a.f.identity refl (running_in_order plan s m t o runs).0.tasks.names q.names.item live.0 apart in
+          ap (λ (n : ℕ). element (here_left m t a).job n index) (sym q.names.named) ∙ ap (λ (z : Array). slice_index z.numbers index) same ∙ ap (λ (n : ℕ). element m.progress.job n index) q.names.named
 
-      element_answer : returned (here_left m t a) v true ≡ pushes (here_left m t a) (Operand (element m.course.job number index)) (Some number)
+      element_answer : returned (here_left m t a) v true ≡ pushes (here_left m t a) (Operand (element m.progress.job number index)) (Some number)
       element_answer =
           answer_is v not_operand ∙ ap (λ (z : Answer Chase.End). z >>= evaluates (here_left m t a)) is
           ∙ ap (λ (z : ℕ). pushes (here_left m t a) (Operand z) (Some number)) element_same
 
-      pub element_made : (at : ℕ) (value : Tagged) (display : List ℕ) → area_held x plan m.setting.number number ≡ Some at → value ≡ word 0 (element m.course.job number index) → IsShown scene display
+      pub element_made : (at : ℕ) (value : Tagged) (display : List ℕ) → area_held x plan m.constants.number number ≡ Some at → value ≡ word 0 (element m.progress.job number index) → IsShown scene display
           → IsMade x plan s m old (with_word old (regs_left x old plan s m t o h runs a) display value) (returned (here_left m t a) v true)
       element_made at value display held same shown =
           let Q : Tagged → Type 0 = λ z. IsMade x plan s m old (with_word old (regs_left x old plan s m t o h runs a) display z) (returned (here_left m t a) v true) in
-          subst Q (sym same) (put_made (Operand (element m.course.job number index)) (word 0 (element m.course.job number index)) (puts_operand x old plan s m t o h runs a (element m.course.job number index)) (Some number) (at, held) display shown (returned (here_left m t a) v true) element_answer)
+          subst Q (sym same) (put_made (Operand (element m.progress.job number index)) (word 0 (element m.progress.job number index)) (puts_operand x old plan s m t o h runs a (element m.progress.job number index)) (Some number) (at, held) display shown (returned (here_left m t a) v true) element_answer)
 
-      pub element_absent : area_held x plan m.setting.number number ≡ None → IsAbsent x plan m (what.Array original) (returned (here_left m t a) v true)
+      pub element_absent : area_held x plan m.constants.number number ≡ None → IsAbsent x plan m (what.Array original) (returned (here_left m t a) v true)
       element_absent none = record {
-        job = job_with x old plan s m t o h runs a (frames_with x old plan s m t o h runs a (Operand (element m.course.job number index) ∷ a.next.cells)) t.condition;
+        job = job_with x old plan s m t o h runs a (frames_with x old plan s m t o h runs a (Operand (element m.progress.job number index) ∷ a.next.cells)) t.condition;
         touched = number;
-        is = element_answer ∙ pushes_there (Operand (element m.course.job number index)) (Some number);
+        is = element_answer ∙ pushes_there (Operand (element m.progress.job number index)) (Some number);
         absent = none;
         named = ap what.Array q.home;
       }

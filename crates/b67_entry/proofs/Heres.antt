@@ -9,7 +9,7 @@ use Rattle.b67_model.specs.Answers.{Answer}
 use Rattle.b67_model.specs.Keyed.{keyed, change_keyed}
 use Rattle.b67_model.specs.Words as Words
 use Rattle.b67_model.specs.Words.{Word, Operand, Name, Ref, Row, Element, Original, Proc, Intrinsic}
-use Rattle.b67_model.specs.State.{Frame, Task, Here, no_frame, all_frames, frame}
+use Rattle.b67_model.specs.State.{Frame, Task, OperatorContext, no_frame, all_frames, frame}
 use Rattle.b67_model.specs.Environment.{environment_of, level_of_frame, running, outward, running_level, frame_at}
 use Rattle.b67_model.specs.Cells.{cell_of, cell, named, place_of}
 use Rattle.b67_model.specs.Chase.{Link, Stops, Leads, link_in, link_from, link, chase_on, follow}
@@ -22,7 +22,7 @@ flat_same n a b (x ∷ xs) e = elim (cases_Bool (x.number == n)) [
   | inr t ↦ rw t (ap (λ (fs : List Frame). x.frames ++ fs) (flat_same n a b xs e))
 ]
 
-module _ (h k : Here) (frames : all_frames h ≡ all_frames k) (own : h.task.frames ≡ k.task.frames) where
+module _ (h k : OperatorContext) (frames : all_frames h ≡ all_frames k) (own : h.task.frames ≡ k.task.frames) where
   pub frame_same : (id : ℕ) → frame h id ≡ frame k id
   frame_same id = ap (λ (fs : List Frame). unwrap_or (keyed (λ (f : Frame). f.identity) id fs) no_frame) frames
 

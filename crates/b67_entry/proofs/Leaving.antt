@@ -2,26 +2,25 @@
 use Rattle.std.proofs.Common.{◌≡◌, ◌≢◌, ℕ, ◌+◌, ◌≤◌, List, [], ◌∷◌, map, None, refl, sym, ◌∙◌, ap, arith, inl, subst}
 use Rattle.b67_word.specs.declared.couples.Place.{Place}
 use Rattle.b67_ctl.specs.declared.registers.Regs.{Regs}
-use Rattle.b67_model.specs.State.{Frame, Condition, Ready, Task, Job, Member, height, top, with_task}
+use Rattle.b67_model.specs.State.{Frame, Condition, Ready, Task, Job, SessionJob, height, top, with_task}
 use Rattle.b67_model.specs.Entry.{exit}
 use Rattle.b67_model.specs.Run.{number_of}
 use Rattle.b67_model.specs.Steps.{is_critical, without_arrays_of}
 use Rattle.b67_model.specs.Schedule.{Session}
 use Rattle.b67_model.specs.InOrder.{IsInOrderButPlaces}
 use Rattle.b67_stack.specs.declared.Cpu.{Cpu}
-use Rattle.b67_stack.specs.Stacks.{Spot, Activation, high}
-use Rattle.b67_stack.specs.Picture.{RunsOn}
-use Rattle.b67_stack.specs.Stands.{Storage, Stands}
+use Rattle.b67_stack.specs.Stacks.{StackPlace, Activation, stack_words}
+use Rattle.b67_stack.specs.MachineView.{RunsOn}
+use Rattle.b67_stack.specs.Represents.{Storage, Represents}
 use Rattle.b67_stack.specs.Changes.{with_stack}
-use Rattle.b67_stack.proofs.Pushes.{Stands-cut}
-use Rattle.b67_layout.specs.Plan.{Plan, spot_in, outer_spots}
-use Rattle.b67_layout.specs.Layout.{shape, head, activations, picture}
-use Rattle.b67_layout.specs.Session.{TaskStands, IsRunning, Shows, SessionStands, SessionHoldsBut}
-use Rattle.b67_layout.specs.Meets.{things_gone, with_job, IsMade, here}
-use Rattle.b67_layout.proofs.Others.{keyed-has}
+use Rattle.b67_stack.proofs.Pushes.{Represents-cut}
+use Rattle.b67_layout.specs.Placement.{Placement, spot_in, outer_spots}
+use Rattle.b67_layout.specs.Layout.{shape, head, activations, machine_view}
+use Rattle.b67_layout.specs.Session.{RepresentsTask, IsRunning, ShowsDisplay, RepresentsSession, SessionHoldsBut}
+use Rattle.b67_layout.specs.Meets.{objects_gone, with_job, IsMade, here}
 use Rattle.b67_layout.proofs.Fresh.{fresh, running_in_order}
 use Rattle.b67_layout.proofs.Starts.{slot_is, runs_here}
-use Rattle.b67_refer.specs.Scene.{Scene, IsShown}
+use Rattle.b67_refer.specs.RunningContext.{RunningContext, IsShown}
 use Rattle.b67_refer.proofs.Scenes.{member_in_order}
 use Rattle.b67_layout_enter.proofs.Conditions.{Shows-condition}
 use Rattle.b67_layout_leave.proofs.Nowhere.{activations-same}
@@ -29,31 +28,32 @@ use Rattle.b67_layout_leave.proofs.Leaves.{Leaver, task_at, may_leave, below-sam
 use Rattle.b67_layout_leave.proofs.Orders.{left_ready}
 use Rattle.b67_entry.specs.Left.{MayReturn, caller_regs, Returns}
 use Rattle.b67_entry.proofs.Exits.{exit_left}
+use Rattle.b67_lemmas.proofs.Members.{keyed-has}
 
 pub some_first : {A : Type 0} (x : A) (xs : List A) → x ∷ xs ≢ []
 some_first x xs e = cc
 
-module _ (x : Storage) (old : Cpu) (plan : Plan) (s : Session) (m : Member) (t : Task) (o : IsInOrderButPlaces s) (h : SessionStands x old plan s) (runs : IsRunning plan s.jobs m t) (a : Returns m t) where
+module _ (x : Storage) (old : Cpu) (plan : Placement) (s : Session) (m : SessionJob) (t : Task) (o : IsInOrderButPlaces s) (h : RepresentsSession x old plan s) (runs : IsRunning plan s.jobs m t) (a : Returns m t) where
   pub may : Leaver plan s m t a.f (a.next ∷ a.more)
   may = record { ordered = o; running = runs; frames = a.frames; free = a.free }
 
-  abbrev pub outer : ℕ → Spot
-  outer = outer_spots plan m.setting.number m.course.job t.critical t.parents
+  abbrev pub outer : ℕ → StackPlace
+  outer = outer_spots plan m.constants.number m.progress.job t.critical t.parents
 
   abbrev pub under : List Activation
-  under = activations plan m.setting.number m.course.job plan.running outer (a.next ∷ a.more)
+  under = activations plan m.constants.number m.progress.job plan.running outer (a.next ∷ a.more)
 
   abbrev pub on_top : Activation
-  on_top = record { head = head (spot_in plan.running outer (a.next ∷ a.more)) a.f.standing; cells = map (shape plan m.setting.number m.course.job (spot_in plan.running outer (a.f ∷ (a.next ∷ a.more)))) a.f.cells }
+  on_top = record { head = head (spot_in plan.running outer (a.next ∷ a.more)) a.f.standing; cells = map (shape plan m.constants.number m.progress.job (spot_in plan.running outer (a.f ∷ (a.next ∷ a.more)))) a.f.cells }
 
-  pub on_stack : RunsOn (picture plan s.jobs) old.regs.slot (on_top ∷ under)
-  on_stack = subst (λ (fs : List Frame). RunsOn (picture plan s.jobs) old.regs.slot (activations plan m.setting.number m.course.job plan.running outer fs)) a.frames (runs_here x old plan s m t h runs)
+  pub on_stack : RunsOn (machine_view plan s.jobs) old.regs.slot (on_top ∷ under)
+  on_stack = subst (λ (fs : List Frame). RunsOn (machine_view plan s.jobs) old.regs.slot (activations plan m.constants.number m.progress.job plan.running outer fs)) a.frames (runs_here x old plan s m t h runs)
 
   -- the stack has a record to return from
   abbrev pub may_return : MayReturn old
   may_return = record {
     storage = x;
-    picture = picture plan s.jobs;
+    machine_view = machine_view plan s.jobs;
     top = on_top;
     below = under;
     level = a.level;
@@ -62,7 +62,7 @@ module _ (x : Storage) (old : Cpu) (plan : Plan) (s : Session) (m : Member) (t :
     stands = h.holds.memory;
     runs = on_stack;
     entered = ap (head (spot_in plan.running outer (a.next ∷ a.more))) a.entered;
-    some = some_first (record { head = head (spot_in plan.running outer a.more) a.next.standing; cells = map (shape plan m.setting.number m.course.job (spot_in plan.running outer (a.next ∷ a.more))) a.next.cells }) (activations plan m.setting.number m.course.job plan.running outer a.more);
+    some = some_first (record { head = head (spot_in plan.running outer a.more) a.next.standing; cells = map (shape plan m.constants.number m.progress.job (spot_in plan.running outer (a.next ∷ a.more))) a.next.cells }) (activations plan m.constants.number m.progress.job plan.running outer a.more);
   }
 
   abbrev pub regs_left : Regs
@@ -70,59 +70,59 @@ module _ (x : Storage) (old : Cpu) (plan : Plan) (s : Session) (m : Member) (t :
 
   -- the job without the frame, whatever its task waits for
   abbrev pub job_at : Condition → Job
-  job_at d = with_task (without_arrays_of a.f.identity m.course.job) (task_at t (a.next ∷ a.more) a.back.segment a.back.place d)
+  job_at d = with_task (without_arrays_of a.f.identity m.progress.job) (task_at t (a.next ∷ a.more) a.back.segment a.back.place d)
 
-  abbrev pub member_at : Condition → Member
-  member_at d = record m { course = record m.course { job = job_at d } }
+  abbrev pub member_at : Condition → SessionJob
+  member_at d = record m { progress = record m.progress { job = job_at d } }
 
   abbrev pub task_left : Condition → Task
   task_left d = task_at t (a.next ∷ a.more) a.back.segment a.back.place d
 
-  same_under : (d : Condition) → activations plan m.setting.number (job_at d) plan.running outer (a.next ∷ a.more) ≡ under
-  same_under d = activations-same plan m.setting.number (job_at d) m.course.job plan.running outer (a.next ∷ a.more) (below-same plan s m t a.f (a.next ∷ a.more) may (job_at d) refl)
+  same_under : (d : Condition) → activations plan m.constants.number (job_at d) plan.running outer (a.next ∷ a.more) ≡ under
+  same_under d = activations-same plan m.constants.number (job_at d) m.progress.job plan.running outer (a.next ∷ a.more) (below-same plan s m t a.f (a.next ∷ a.more) may (job_at d) refl)
 
-  memory : Stands x old.core regs_left (with_stack (picture plan s.jobs) plan.running under)
+  memory : Represents x old.core regs_left (with_stack (machine_view plan s.jobs) plan.running under)
   memory =
-      let P : ℕ → Type 0 = λ k. Stands x old.core regs_left (with_stack (picture plan s.jobs) k under) in
-      subst P (slot_is x old plan s m t h runs) (Stands-cut x old.core old.regs (picture plan s.jobs) old.regs.slot on_top under (a.back.segment + 1) a.back.place (λ z. cc) h.holds.memory on_stack)
+      let P : ℕ → Type 0 = λ k. Represents x old.core regs_left (with_stack (machine_view plan s.jobs) k under) in
+      subst P (slot_is x old plan s m t h runs) (Represents-cut x old.core old.regs (machine_view plan s.jobs) old.regs.slot on_top under (a.back.segment + 1) a.back.place (λ z. cc) h.holds.memory on_stack)
 
-  task_stands : (d : Condition) → TaskStands regs_left plan (member_at d) (task_left d)
+  task_stands : (d : Condition) → RepresentsTask regs_left plan (member_at d) (task_left d)
   task_stands d = let r = h.holds.running m t runs in record { slot = r.slot; dict = r.dict; entries = r.entries; segment = refl; place = refl }
 
-  pub holds_left : (d : Condition) → SessionHoldsBut (things_gone plan m (job_at d)) x old.core regs_left old.critical plan (with_job s m (job_at d))
+  pub holds_left : (d : Condition) → SessionHoldsBut (objects_gone plan m (job_at d)) x old.core regs_left old.critical plan (with_job s m (job_at d))
   holds_left d = holds_after plan s m t a.f (a.next ∷ a.more) may (job_at d) (a.next ∷ a.more) a.back.segment a.back.place d refl refl (Frames-below plan s m t a.f (a.next ∷ a.more) may) x old.core old.core old.regs regs_left old.critical h.holds (λ i low. refl)
-      (subst (λ (S : List Activation). Stands x old.core regs_left (with_stack (picture plan s.jobs) plan.running S)) (sym (same_under d)) memory)
-      (omega (arith, ap high (same_under d))) (task_stands d)
+      (subst (λ (S : List Activation). Represents x old.core regs_left (with_stack (machine_view plan s.jobs) plan.running S)) (sym (same_under d)) memory)
+      (omega (arith, ap stack_words (same_under d))) (task_stands d)
 
   pub runs_left : (d : Condition) → IsRunning plan (with_job s m (job_at d)).jobs (member_at d) (task_left d)
   runs_left d = runs_after plan s m t a.f (a.next ∷ a.more) may (job_at d) (a.next ∷ a.more) a.back.segment a.back.place d refl refl (Frames-below plan s m t a.f (a.next ∷ a.more) may)
 
   -- what references are followed in, once the frame is left. The task is seen as a ready one
-  abbrev pub scene_left : Scene old.core regs_left
+  abbrev pub scene_left : RunningContext old.core regs_left
   scene_left =
-      let i = member_in_order s m o (keyed-has number_of m.setting.number s.jobs m runs.member) in
+      let i = member_in_order s m o (keyed-has number_of m.constants.number s.jobs m runs.member) in
       record {
-        left = things_gone plan m (job_at Ready);
+        left = objects_gone plan m (job_at Ready);
         storage = x;
         marks = old.critical;
         plan = plan;
         session = with_job s m (job_at Ready);
         member = member_at Ready;
         task = task_left Ready;
-        ordered = record { from_one = i.from_one; few = i.few; setting = i.setting; tasks = left_ready m.setting m.course.job t a.f (a.next ∷ a.more) (may_leave plan s m t a.f (a.next ∷ a.more) may) a.back.segment a.back.place (some_first a.next a.more) a.starts };
+        ordered = record { from_one = i.from_one; few = i.few; constants = i.constants; tasks = left_ready m.constants m.progress.job t a.f (a.next ∷ a.more) (may_leave plan s m t a.f (a.next ∷ a.more) may) a.back.segment a.back.place (some_first a.next a.more) a.starts };
         holds = holds_left Ready;
         running = runs_left Ready;
       }
 
   -- a display that shows it shows the task as it is
-  pub shown_left : (display : List ℕ) → Shows display plan (member_at Ready) (task_left Ready) → Shows display plan (member_at t.condition) (task_left t.condition)
+  pub shown_left : (display : List ℕ) → ShowsDisplay display plan (member_at Ready) (task_left Ready) → ShowsDisplay display plan (member_at t.condition) (task_left t.condition)
   shown_left display shown =
       let free = fresh plan s m t o runs in
-      Shows-condition display plan m (without_arrays_of a.f.identity m.course.job) (task_left Ready) Ready t.condition t m.course.job.next_frame runs.task
-      (record { some = free.some; uncritical = free.uncritical }) (free.uncritical t (keyed-has (λ (u : Task). u.number) t.number m.course.job.tasks t runs.task)) shown
+      Shows-condition display plan m (without_arrays_of a.f.identity m.progress.job) (task_left Ready) Ready t.condition t m.progress.job.next_frame runs.task
+      (record { some = free.some; uncritical = free.uncritical }) (free.uncritical t (keyed-has (λ (u : Task). u.number) t.number m.progress.job.tasks t runs.task)) shown
 
   -- EXIT was made
-  pub exit_made : (q : Place) (display : List ℕ) → Shows display plan (member_at Ready) (task_left Ready)
+  pub exit_made : (q : Place) (display : List ℕ) → ShowsDisplay display plan (member_at Ready) (task_left Ready)
       → IsMade x plan s m old (record { core = old.core; regs = regs_left; display = display; critical = old.critical }) (exit (here m t q))
   exit_made q display shown =
       let new : Cpu = record { core = old.core; regs = regs_left; display = display; critical = old.critical } in
@@ -131,18 +131,18 @@ module _ (x : Storage) (old : Cpu) (plan : Plan) (s : Session) (m : Member) (t :
       record {
         job = job_at t.condition;
         touched = None;
-        is = exit_left m t q a.f (a.next ∷ a.more) a.level a.environment a.back a.frames a.entered (ap (λ (fs : List Frame). is_critical m.course.job (top fs).identity) a.frames ∙ a.free) (omega (arith, lower, (running_in_order plan s m t o runs).1.not_higher));
+        is = exit_left m t q a.f (a.next ∷ a.more) a.level a.environment a.back a.frames a.entered (ap (λ (fs : List Frame). is_critical m.progress.job (top fs).identity) a.frames ∙ a.free) (omega (arith, lower, (running_in_order plan s m t o runs).1.not_higher));
         present = tt;
         stands = record {
           holds = holds_left t.condition;
-          shows = for_running_after plan s m t a.f (a.next ∷ a.more) may (job_at t.condition) (a.next ∷ a.more) a.back.segment a.back.place t.condition refl refl (Frames-below plan s m t a.f (a.next ∷ a.more) may) x old.core old.core old.regs regs_left old.critical h.holds (Shows display plan) after;
+          shows = for_running_after plan s m t a.f (a.next ∷ a.more) may (job_at t.condition) (a.next ∷ a.more) a.back.segment a.back.place t.condition refl refl (Frames-below plan s m t a.f (a.next ∷ a.more) may) x old.core old.core old.regs regs_left old.critical h.holds (ShowsDisplay display plan) after;
         };
         changed = λ i. inl refl;
       }
 
   -- the same by the registers that were computed, and the display that was built for them
-  pub exit_done : (q : Place) (r : Regs) (display : List ℕ) → r ≡ regs_left → ((b : Scene old.core r) → IsShown b display)
+  pub exit_done : (q : Place) (r : Regs) (display : List ℕ) → r ≡ regs_left → ((b : RunningContext old.core r) → IsShown b display)
       → IsMade x plan s m old (record { core = old.core; regs = r; display = display; critical = old.critical }) (exit (here m t q))
   exit_done q r display e shown =
-      let P : Regs → Type 0 = λ v. ((b : Scene old.core v) → IsShown b display) → IsMade x plan s m old (record { core = old.core; regs = v; display = display; critical = old.critical }) (exit (here m t q)) in
+      let P : Regs → Type 0 = λ v. ((b : RunningContext old.core v) → IsShown b display) → IsMade x plan s m old (record { core = old.core; regs = v; display = display; critical = old.critical }) (exit (here m t q)) in
       subst P (sym e) (λ show. exit_made q display (show scene_left)) shown

@@ -17,3 +17,4 @@ pub mod Putting
 pub mod Evaluating
 pub mod Calling
 pub mod Candidates
+pub mod RetnContext

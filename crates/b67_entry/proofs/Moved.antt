@@ -4,23 +4,22 @@ use Rattle.std.specs.Prelude.{◌==◌}
 use Rattle.std.proofs.lemmas.Bool.Decides.{eqb_tells}
 use Rattle.b67_word.specs.Tagged.{Tagged}
 use Rattle.b67_lemmas.specs.Lists.{Has}
+use Rattle.b67_lemmas.proofs.Members.{has_filter_in, keyed-has}
 use Rattle.b67_model.specs.Words as Words
 use Rattle.b67_model.specs.Words.{Word, Operand, Name, Ref, Row, Element, Original, Proc, Intrinsic}
-use Rattle.b67_model.specs.State.{Ready, Frame, Standing, Array, Task, Job, Member}
+use Rattle.b67_model.specs.State.{Ready, Frame, Standing, Array, Task, Job, SessionJob}
 use Rattle.b67_model.specs.Arrays.{owner_of}
 use Rattle.b67_model.specs.Entry.{returnable}
 use Rattle.b67_model.specs.Schedule.{Session}
 use Rattle.b67_model.specs.InOrder.{IsSegment, IsEntered, Known, known_of, outer_of, reach_of, NamesEntered, NamesArray, WordInOrder, IsInOrderButPlaces}
-use Rattle.b67_law_order.proofs.Members.{has_filter_in}
 use Rattle.b67_law_order.proofs.Reaches.{Alike, alike_has, alike_under}
 use Rattle.b67_stack.specs.declared.Cpu.{Cpu}
 use Rattle.b67_stack.specs.Shapes.{Shape, Fits}
-use Rattle.b67_stack.specs.Stacks.{Spot}
-use Rattle.b67_stack.specs.Stands.{Storage}
-use Rattle.b67_layout.specs.Plan.{Plan, spot_in, outer_spots, spots}
+use Rattle.b67_stack.specs.Stacks.{StackPlace}
+use Rattle.b67_stack.specs.Represents.{Storage}
+use Rattle.b67_layout.specs.Placement.{Placement, spot_in, outer_spots, spots}
 use Rattle.b67_layout.specs.Layout.{shape}
-use Rattle.b67_layout.specs.Session.{IsRunning, SessionStands}
-use Rattle.b67_layout.proofs.Others.{keyed-has}
+use Rattle.b67_layout.specs.Session.{IsRunning, RepresentsSession}
 use Rattle.b67_layout.proofs.Fresh.{running_in_order}
 use Rattle.b67_refer.specs.Cells.{StandsFor}
 use Rattle.b67_layout_leave.proofs.Nowhere.{shape-same}
@@ -34,46 +33,46 @@ use Rattle.b67_entry.proofs.Returning.{other_frame, other_row, other_element}
 use Rattle.b67_entry.proofs.CopyRefusals.{found_array}
 use Rattle.b67_entry.proofs.Replacing.{Puts, new_shape, frame_is, puts_word}
 
-module _ (x : Storage) (old : Cpu) (plan : Plan) (s : Session) (m : Member) (t : Task) (o : IsInOrderButPlaces s) (h : SessionStands x old plan s) (runs : IsRunning plan s.jobs m t) (a : Returns m t) where
+module _ (x : Storage) (old : Cpu) (plan : Placement) (s : Session) (m : SessionJob) (t : Task) (o : IsInOrderButPlaces s) (h : RepresentsSession x old plan s) (runs : IsRunning plan s.jobs m t) (a : Returns m t) where
   abbrev job : Job
   job = job_at x old plan s m t o h runs a Ready
 
   abbrev task : Task
   task = task_left x old plan s m t o h runs a Ready
 
-  outside_alike : Alike (outer_of m.course.job t) (outer_of job task)
-  outside_alike = left_outer m.setting m.course.job t a.f (a.next ∷ a.more) (may_leave plan s m t a.f (a.next ∷ a.more) (may x old plan s m t o h runs a)) a.back.segment a.back.place (some_first a.next a.more) a.starts
+  outside_alike : Alike (outer_of m.progress.job t) (outer_of job task)
+  outside_alike = left_outer m.constants m.progress.job t a.f (a.next ∷ a.more) (may_leave plan s m t a.f (a.next ∷ a.more) (may x old plan s m t o h runs a)) a.back.segment a.back.place (some_first a.next a.more) a.starts
 
   -- what was entered in reach is so still, but for the frame that was left
-  known_moved : (n : ℕ) (st : Standing) → IsEntered st → n ≢ a.f.identity → Has (reach_of m.course.job t) (n, st) → Has (reach_of job task) (n, st)
+  known_moved : (n : ℕ) (st : Standing) → IsEntered st → n ≢ a.f.identity → Has (reach_of m.progress.job t) (n, st) → Has (reach_of job task) (n, st)
   known_moved n st e ne k =
-      let there : Has (map known_of (a.f ∷ a.next ∷ a.more) ++ outer_of m.course.job t) (n, st) = subst (λ (fs : List Frame). Has (map known_of fs ++ outer_of m.course.job t) (n, st)) a.frames k in
-      let under : Has (map known_of (a.next ∷ a.more) ++ outer_of m.course.job t) (n, st) = elim there [
+      let there : Has (map known_of (a.f ∷ a.next ∷ a.more) ++ outer_of m.progress.job t) (n, st) = subst (λ (fs : List Frame). Has (map known_of fs ++ outer_of m.progress.job t) (n, st)) a.frames k in
+      let under : Has (map known_of (a.next ∷ a.more) ++ outer_of m.progress.job t) (n, st) = elim there [
         | inl is ↦ absurd (ne (sym (ap (λ (z : Known). z.0) is)))
         | inr k ↦ k
       ] in
-      alike_has (map known_of (a.next ∷ a.more) ++ outer_of m.course.job t) (map known_of (a.next ∷ a.more) ++ outer_of job task) n st (alike_under (outer_of m.course.job t) (outer_of job task) (a.next ∷ a.more) outside_alike) e under
+      alike_has (map known_of (a.next ∷ a.more) ++ outer_of m.progress.job t) (map known_of (a.next ∷ a.more) ++ outer_of job task) n st (alike_under (outer_of m.progress.job t) (outer_of job task) (a.next ∷ a.more) outside_alike) e under
 
-  entered_moved : (n : ℕ) → n ≢ a.f.identity → NamesEntered (reach_of m.course.job t) n → NamesEntered (reach_of job task) n
+  entered_moved : (n : ℕ) → n ≢ a.f.identity → NamesEntered (reach_of m.progress.job t) n → NamesEntered (reach_of job task) n
   entered_moved n ne g = record { standing = g.standing; among = known_moved n g.standing g.entered ne g.among; entered = g.entered }
 
-  array_moved : (n index : ℕ) → owner_of m.course.job n ≢ a.f.identity → NamesArray m.course.job.arrays (reach_of m.course.job t) n index → NamesArray job.arrays (reach_of job task) n index
+  array_moved : (n index : ℕ) → owner_of m.progress.job n ≢ a.f.identity → NamesArray m.progress.job.arrays (reach_of m.progress.job t) n index → NamesArray job.arrays (reach_of job task) n index
   array_moved n index ne g =
-      let is = found_array m.course.job (reach_of m.course.job t) n index g (running_in_order plan s m t o runs).0.tasks.names in
+      let is = found_array m.progress.job (reach_of m.progress.job t) n index g (running_in_order plan s m t o runs).0.tasks.names in
       let apart : g.item.owner ≢ a.f.identity = λ e. ne (ap (λ (z : Array). z.owner) is ∙ e) in
       record {
         item = g.item;
-        live = has_filter_in (λ (z : Array). not (z.owner == a.f.identity)) m.course.job.arrays g.item g.live (elim (eqb_tells g.item.owner a.f.identity) [ inl e ↦ absurd (apart e.1) | inr e ↦ ap not e.0 ]);
+        live = has_filter_in (λ (z : Array). not (z.owner == a.f.identity)) m.progress.job.arrays g.item g.live (elim (eqb_tells g.item.owner a.f.identity) [ inl e ↦ absurd (apart e.1) | inr e ↦ ap not e.0 ]);
         named = g.named;
         owner = entered_moved g.item.owner apart g.owner;
         inside = g.inside;
       }
 
-  pub word_moved : (v : Word) → WordInOrder (IsSegment m.setting) m.course.job.arrays (reach_of m.course.job t) a.f.identity v → returnable m.course.job a.f.identity v ≡ Ok v
-      → WordInOrder (IsSegment m.setting) job.arrays (reach_of job task) a.next.identity v
-  word_moved (Ref f offset) g e = (entered_moved f (other_frame m.course.job a.f.identity f offset e) g.0, g.1)
-  word_moved (Row n) g e = array_moved n 0 (other_row m.course.job a.f.identity n e) g
-  word_moved (Element n index) g e = array_moved n index (other_element m.course.job a.f.identity n index e) g
+  pub word_moved : (v : Word) → WordInOrder (IsSegment m.constants) m.progress.job.arrays (reach_of m.progress.job t) a.f.identity v → returnable m.progress.job a.f.identity v ≡ Ok v
+      → WordInOrder (IsSegment m.constants) job.arrays (reach_of job task) a.next.identity v
+  word_moved (Ref f offset) g e = (entered_moved f (other_frame m.progress.job a.f.identity f offset e) g.0, g.1)
+  word_moved (Row n) g e = array_moved n 0 (other_row m.progress.job a.f.identity n e) g
+  word_moved (Element n index) g e = array_moved n index (other_element m.progress.job a.f.identity n index e) g
   word_moved (Original n) g e = absurd (let z : ⊥ = cc in z)
   word_moved (Operand bits) g e = g
   word_moved (Name couple) g e = g
@@ -82,31 +81,31 @@ module _ (x : Storage) (old : Cpu) (plan : Plan) (s : Session) (m : Member) (t :
   word_moved (Words.Segment number) g e = absurd g
 
   -- the spots that the task names then
-  spots_same : spots plan m.setting.number job task ≡ spot_in plan.running (outer x old plan s m t o h runs a) (a.next ∷ a.more)
+  spots_same : spots plan m.constants.number job task ≡ spot_in plan.running (outer x old plan s m t o h runs a) (a.next ∷ a.more)
   spots_same =
       let by = replaces plan s m t a.f (a.next ∷ a.more) (may x old plan s m t o h runs a) job (a.next ∷ a.more) a.back.segment a.back.place Ready refl refl (Frames-below plan s m t a.f (a.next ∷ a.more) (may x old plan s m t o h runs a)) in
-      let in_t = keyed-has (λ (u : Task). u.number) t.number m.course.job.tasks t runs.task in
-      let out : outer_spots plan m.setting.number job t.critical t.parents ≡ outer x old plan s m t o h runs a = λ z i. outer_spots-after plan m.setting.number m.course.job job t task by t.parents t.critical (inr (t, in_t, refl)) i z in
-      (λ z i. (ap (λ (k : ℕ). spot_in k (outer_spots plan m.setting.number job t.critical t.parents) (a.next ∷ a.more) i) (sym runs.slot) ∙ ap (λ (q : ℕ → Spot). spot_in plan.running q (a.next ∷ a.more) i) out) z)
+      let in_t = keyed-has (λ (u : Task). u.number) t.number m.progress.job.tasks t runs.task in
+      let out : outer_spots plan m.constants.number job t.critical t.parents ≡ outer x old plan s m t o h runs a = λ z i. outer_spots-after plan m.constants.number m.progress.job job t task by t.parents t.critical (inr (t, in_t, refl)) i z in
+      (λ z i. (ap (λ (k : ℕ). spot_in k (outer_spots plan m.constants.number job t.critical t.parents) (a.next ∷ a.more) i) (sym runs.slot) ∙ ap (λ (q : ℕ → StackPlace). spot_in plan.running q (a.next ∷ a.more) i) out) z)
 
   module _ (v : Word) (w : Tagged) (b : ReturnsWord x plan m t old a v w) where
     put : Puts x old plan s m t o h runs a v w
     put = puts_word x old plan s m t o h runs a v w b
 
-    order : WordInOrder (IsSegment m.setting) m.course.job.arrays (reach_of m.course.job t) a.f.identity v
-    order = subst (λ (f : Frame). WordInOrder (IsSegment m.setting) m.course.job.arrays (reach_of m.course.job t) f.identity v) (frame_is x old plan s m t o h runs a v w b) b.word.order
+    order : WordInOrder (IsSegment m.constants) m.progress.job.arrays (reach_of m.progress.job t) a.f.identity v
+    order = subst (λ (f : Frame). WordInOrder (IsSegment m.constants) m.progress.job.arrays (reach_of m.progress.job t) f.identity v) (frame_is x old plan s m t o h runs a v w b) b.word.order
 
-    fits_there : (i : ℕ) → Fits x.held (shape plan m.setting.number job (spots plan m.setting.number job task) v) i w
+    fits_there : (i : ℕ) → Fits x.held (shape plan m.constants.number job (spots plan m.constants.number job task) v) i w
     fits_there i =
-        let one : shape plan m.setting.number job (spots plan m.setting.number job task) v ≡ new_shape x old plan s m t o h runs a v =
-        ap (λ (sp : ℕ → Spot). shape plan m.setting.number job sp v) spots_same ∙ shape-same plan m.setting.number job m.course.job (spot_in plan.running (outer x old plan s m t o h runs a) (a.next ∷ a.more)) v (put.same job refl) in
+        let one : shape plan m.constants.number job (spots plan m.constants.number job task) v ≡ new_shape x old plan s m t o h runs a v =
+        ap (λ (sp : ℕ → StackPlace). shape plan m.constants.number job sp v) spots_same ∙ shape-same plan m.constants.number job m.progress.job (spot_in plan.running (outer x old plan s m t o h runs a) (a.next ∷ a.more)) v (put.same job refl) in
         subst (λ (c : Shape). Fits x.held c i w) (sym one) (put.fits i)
 
     -- it is a word of the task without the frame
     pub stands_for : (i : ℕ) → StandsFor (scene_left x old plan s m t o h runs a) i a.next.identity w v
     stands_for i = by v (fits_there i) (word_moved v order b.passes) where
-      by : (u : Word) → Fits x.held (shape plan m.setting.number (job_at x old plan s m t o h runs a Ready) (spots plan m.setting.number (job_at x old plan s m t o h runs a Ready) (task_left x old plan s m t o h runs a Ready)) u) i w
-          → WordInOrder (IsSegment m.setting) (job_at x old plan s m t o h runs a Ready).arrays (reach_of (job_at x old plan s m t o h runs a Ready) (task_left x old plan s m t o h runs a Ready)) a.next.identity u
+      by : (u : Word) → Fits x.held (shape plan m.constants.number (job_at x old plan s m t o h runs a Ready) (spots plan m.constants.number (job_at x old plan s m t o h runs a Ready) (task_left x old plan s m t o h runs a Ready)) u) i w
+          → WordInOrder (IsSegment m.constants) (job_at x old plan s m t o h runs a Ready).arrays (reach_of (job_at x old plan s m t o h runs a Ready) (task_left x old plan s m t o h runs a Ready)) a.next.identity u
           → StandsFor (scene_left x old plan s m t o h runs a) i a.next.identity w u
       by (Operand bits) f g = (f, g)
       by (Name couple) f g = (f, g)

@@ -11,23 +11,23 @@ use Rattle.b67_ctl.specs.declared.marks.Mscw.{Mscw}
 use Rattle.b67_model.specs.Answers.{Answer}
 use Rattle.b67_model.specs.Words as Words
 use Rattle.b67_model.specs.Words.{Word, Operand, Name, Ref, Row, Element, Original, Proc, Intrinsic}
-use Rattle.b67_model.specs.State.{Standing, Frame, Task, Member, top}
+use Rattle.b67_model.specs.State.{Standing, Frame, Task, SessionJob, top}
 use Rattle.b67_model.specs.Entry.{returnable, returned, retn}
 use Rattle.b67_model.specs.Steps.{Leaves, is_critical}
 use Rattle.b67_model.specs.Schedule.{Session}
 use Rattle.b67_model.specs.InOrder.{IsSegment, known_of, outer_of, FramesInOrder, WordInOrder, reach_of, IsInOrderButPlaces}
 use Rattle.b67_stack.specs.declared.Cpu.{Cpu}
 use Rattle.b67_stack.specs.Shapes.{Fits}
-use Rattle.b67_stack.specs.Stacks.{Spot, Activation, mark_of, top_mark}
-use Rattle.b67_stack.specs.Picture.{RunsOn}
-use Rattle.b67_stack.specs.Stands.{Storage}
+use Rattle.b67_stack.specs.Stacks.{StackPlace, Activation, mark_of, top_mark}
+use Rattle.b67_stack.specs.MachineView.{RunsOn}
+use Rattle.b67_stack.specs.Represents.{Storage}
 use Rattle.b67_stack.specs.Changes.{top_cells}
 use Rattle.b67_stack.proofs.Cells.{cell_word}
 use Rattle.b67_stack.proofs.Tops.{empty_at}
 use Rattle.b67_stack.proofs.Pushes.{Room, room_of}
-use Rattle.b67_layout.specs.Plan.{Plan, spot_in, outer_spots}
-use Rattle.b67_layout.specs.Layout.{shape, head, activations, stack_of_task, picture}
-use Rattle.b67_layout.specs.Session.{IsRunning, SessionStands}
+use Rattle.b67_layout.specs.Placement.{Placement, spot_in, outer_spots}
+use Rattle.b67_layout.specs.Layout.{shape, head, activations, stack_of_task, machine_view}
+use Rattle.b67_layout.specs.Session.{IsRunning, RepresentsSession}
 use Rattle.b67_layout.specs.Meets.{here}
 use Rattle.b67_layout.proofs.Fresh.{running_in_order}
 use Rattle.b67_layout.proofs.Starts.{runs_here}
@@ -35,8 +35,9 @@ use Rattle.b67_entry.specs.Left.{Returns}
 use Rattle.b67_entry.specs.Words.{IsTopWord, Refuses}
 use Rattle.b67_entry.specs.Returned.{ReturnsWord}
 use Rattle.b67_entry.proofs.Exits.{leaves_critical, leaves_last}
-use Rattle.b67_entry.proofs.Retns.{IsOperand, retn_pending, retn_empty, retn_refused, retn_passed}
+use Rattle.b67_entry.proofs.Retns.{retn_pending, retn_empty, retn_refused, retn_passed}
 use Rattle.b67_entry.proofs.Sorted.{IsEntered, is_pending, is_entered, is_last, returns_of}
+use Rattle.b67_law_order.proofs.Maps.{IsOperand}
 
 no_cells : {A B : Type 0} (f : A → B) (xs : List A) → map f xs ≡ [] → xs ≡ []
 no_cells f [] e = refl
@@ -57,20 +58,20 @@ passed_is : (v : Word) (answer : Answer Word) → Refuses None v answer → answ
 passed_is v (Ok u) r = ap Ok r
 passed_is v (Err other) r = absurd r
 
-module _ (x : Storage) (cpu : Cpu) (plan : Plan) (s : Session) (m : Member) (t : Task) (o : IsInOrderButPlaces s) (h : SessionStands x cpu plan s) (runs : IsRunning plan s.jobs m t) where
-  abbrev outer : ℕ → Spot
-  outer = outer_spots plan m.setting.number m.course.job t.critical t.parents
+module _ (x : Storage) (cpu : Cpu) (plan : Placement) (s : Session) (m : SessionJob) (t : Task) (o : IsInOrderButPlaces s) (h : RepresentsSession x cpu plan s) (runs : IsRunning plan s.jobs m t) where
+  abbrev outer : ℕ → StackPlace
+  outer = outer_spots plan m.constants.number m.progress.job t.critical t.parents
 
   abbrev pub stack : List Activation
-  stack = stack_of_task plan m.setting.number m.course.job plan.running t
+  stack = stack_of_task plan m.constants.number m.progress.job plan.running t
 
-  pub on : RunsOn (picture plan s.jobs) cpu.regs.slot stack
+  pub on : RunsOn (machine_view plan s.jobs) cpu.regs.slot stack
   on = runs_here x cpu plan s m t h runs
 
-  pub room : Room x cpu.core cpu.regs (picture plan s.jobs) cpu.regs.slot stack
-  room = room_of x cpu.core cpu.regs (picture plan s.jobs) cpu.regs.slot stack h.holds.memory on
+  pub room : Room x cpu.core cpu.regs (machine_view plan s.jobs) cpu.regs.slot stack
+  room = room_of x cpu.core cpu.regs (machine_view plan s.jobs) cpu.regs.slot stack h.holds.memory on
 
-  module _ (mark : Mscw) (is : mark ≡ top_mark cpu.regs.slot (stack_of_task plan m.setting.number m.course.job plan.running t)) where
+  module _ (mark : Mscw) (is : mark ≡ top_mark cpu.regs.slot (stack_of_task plan m.constants.number m.progress.job plan.running t)) where
     pub pending : (next : Place) → mark.entered ≡ false → retn (here m t next) ≡ Err MarkPending
     pending next n =
         let p = is_pending plan m t plan.running cpu.regs.slot outer (running_in_order plan s m t o runs).1 mark is n in
@@ -81,33 +82,33 @@ module _ (x : Storage) (cpu : Cpu) (plan : Plan) (s : Session) (m : Member) (t :
       top_entered = is_entered plan m t plan.running cpu.regs.slot outer (running_in_order plan s m t o runs).1 mark is n
 
       -- the cells of its record
-      cells_are : top_cells stack ≡ map (shape plan m.setting.number m.course.job (spot_in plan.running outer (top_entered.f ∷ top_entered.below))) top_entered.f.cells
-      cells_are = ap (λ (fs : List Frame). top_cells (activations plan m.setting.number m.course.job plan.running outer fs)) top_entered.frames
+      cells_are : top_cells stack ≡ map (shape plan m.constants.number m.progress.job (spot_in plan.running outer (top_entered.f ∷ top_entered.below))) top_entered.f.cells
+      cells_are = ap (λ (fs : List Frame). top_cells (activations plan m.constants.number m.progress.job plan.running outer fs)) top_entered.frames
 
       empty_is : (cpu.regs.s ≡ cpu.regs.f + 1 → top_cells stack ≡ []) × (top_cells stack ≡ [] → cpu.regs.s ≡ cpu.regs.f + 1)
-      empty_is = empty_at x cpu.core cpu.regs (picture plan s.jobs) cpu.regs.slot stack mark 1 h.holds.memory on is (ap bit (sym n))
+      empty_is = empty_at x cpu.core cpu.regs (machine_view plan s.jobs) cpu.regs.slot stack mark 1 h.holds.memory on is (ap bit (sym n))
 
       pub empty : (next : Place) → cpu.regs.s ≡ cpu.regs.f + 1 → retn (here m t next) ≡ Err StackUnderflow
       empty next e =
           let p = top_entered in
-          retn_empty m t next p.f p.below p.level p.environment p.back p.frames p.entered (no_cells (shape plan m.setting.number m.course.job (spot_in plan.running outer (p.f ∷ p.below))) p.f.cells (sym cells_are ∙ empty_is.0 e))
+          retn_empty m t next p.f p.below p.level p.environment p.back p.frames p.entered (no_cells (shape plan m.constants.number m.progress.job (spot_in plan.running outer (p.f ∷ p.below))) p.f.cells (sym cells_are ∙ empty_is.0 e))
 
       -- the word at the top
       pub word_at : (w : Tagged) → slice_get cpu.core cpu.regs.s ≡ Some w → cpu.regs.s ≢ cpu.regs.f + 1 → (v : Word) × IsTopWord x plan m t cpu v w
       word_at w there some = by top_entered.f.cells refl where
         by : (cs : List Word) → top_entered.f.cells ≡ cs → (v : Word) × IsTopWord x plan m t cpu v w
-        by [] e = absurd (some (empty_is.1 (cells_are ∙ ap (map (shape plan m.setting.number m.course.job (spot_in plan.running outer (top_entered.f ∷ top_entered.below)))) e)))
+        by [] e = absurd (some (empty_is.1 (cells_are ∙ ap (map (shape plan m.constants.number m.progress.job (spot_in plan.running outer (top_entered.f ∷ top_entered.below)))) e)))
         by (v ∷ rest) e =
-            let sh = shape plan m.setting.number m.course.job (spot_in plan.running outer (top_entered.f ∷ top_entered.below)) in
+            let sh = shape plan m.constants.number m.progress.job (spot_in plan.running outer (top_entered.f ∷ top_entered.below)) in
             let a : Activation = record { head = head (spot_in plan.running outer top_entered.below) top_entered.f.standing; cells = map sh top_entered.f.cells } in
-            let below = activations plan m.setting.number m.course.job plan.running outer top_entered.below in
-            let on' = subst (λ (fs : List Frame). RunsOn (picture plan s.jobs) cpu.regs.slot (activations plan m.setting.number m.course.job plan.running outer fs)) top_entered.frames on in
+            let below = activations plan m.constants.number m.progress.job plan.running outer top_entered.below in
+            let on' = subst (λ (fs : List Frame). RunsOn (machine_view plan s.jobs) cpu.regs.slot (activations plan m.constants.number m.progress.job plan.running outer fs)) top_entered.frames on in
             let at : cpu.regs.s - 0 ≡ cpu.regs.s = omega arith in
             let P : ℕ → Type 0 = λ i. (z : Tagged) × (slice_get cpu.core i ≡ Some z) × Fits x.held (sh v) i z in
-            let c = subst P at (cell_word x cpu.core cpu.regs (picture plan s.jobs) cpu.regs.slot a below h.holds.memory on' [] (sh v) (map sh rest) (ap (map sh) e)) in
+            let c = subst P at (cell_word x cpu.core cpu.regs (machine_view plan s.jobs) cpu.regs.slot a below h.holds.memory on' [] (sh v) (map sh rest) (ap (map sh) e)) in
             let same : c.0 ≡ w = same_Some c.0 w (sym c.1 ∙ there) in
-            let order = subst (λ (fs : List Frame). FramesInOrder (IsSegment m.setting) m.course.job.arrays (outer_of m.course.job t) fs) top_entered.frames (running_in_order plan s m t o runs).1.frames in
-            let cells = subst (λ (cs : List Word). AllByRecursion (WordInOrder (IsSegment m.setting) m.course.job.arrays (map known_of (top_entered.f ∷ top_entered.below) ++ outer_of m.course.job t) top_entered.f.identity) cs) e order.0.0 in (
+            let order = subst (λ (fs : List Frame). FramesInOrder (IsSegment m.constants) m.progress.job.arrays (outer_of m.progress.job t) fs) top_entered.frames (running_in_order plan s m t o runs).1.frames in
+            let cells = subst (λ (cs : List Word). AllByRecursion (WordInOrder (IsSegment m.constants) m.progress.job.arrays (map known_of (top_entered.f ∷ top_entered.below) ++ outer_of m.progress.job t) top_entered.f.identity) cs) e order.0.0 in (
               v,
               record {
                 frame = top_entered.f;
@@ -117,7 +118,7 @@ module _ (x : Storage) (cpu : Cpu) (plan : Plan) (s : Session) (m : Member) (t :
                 cells = e;
                 there = there;
                 fits = subst (λ (z : Tagged). Fits x.held (sh v) cpu.regs.s z) same c.2;
-                order = subst (λ (fs : List Frame). WordInOrder (IsSegment m.setting) m.course.job.arrays (map known_of fs ++ outer_of m.course.job t) top_entered.f.identity v) (sym top_entered.frames) cells.0;
+                order = subst (λ (fs : List Frame). WordInOrder (IsSegment m.constants) m.progress.job.arrays (map known_of fs ++ outer_of m.progress.job t) top_entered.f.identity v) (sym top_entered.frames) cells.0;
               },
             )
 
@@ -128,22 +129,22 @@ module _ (x : Storage) (cpu : Cpu) (plan : Plan) (s : Session) (m : Member) (t :
         cells_with : top_entered.f.cells ≡ v ∷ b.rest
         cells_with = ap (λ (f : Frame). f.cells) frame_is ∙ b.cells
 
-        pub refused : (next : Place) (fault : Fault) → Refuses (Some fault) v (returnable m.course.job (top t.frames).identity v) → retn (here m t next) ≡ Err fault
+        pub refused : (next : Place) (fault : Fault) → Refuses (Some fault) v (returnable m.progress.job (top t.frames).identity v) → retn (here m t next) ≡ Err fault
         refused next fault r =
             let p = top_entered in
-            retn_refused m t next p.f p.below p.level p.environment p.back p.frames p.entered v b.rest cells_with fault (fault_is fault v (returnable m.course.job (top t.frames).identity v) r)
+            retn_refused m t next p.f p.below p.level p.environment p.back p.frames p.entered v b.rest cells_with fault (fault_is fault v (returnable m.progress.job (top t.frames).identity v) r)
 
-        module _ (passes : Refuses None v (returnable m.course.job (top t.frames).identity v)) where
-          pub passes_is : returnable m.course.job (top t.frames).identity v ≡ Ok v
-          passes_is = passed_is v (returnable m.course.job (top t.frames).identity v) passes
+        module _ (passes : Refuses None v (returnable m.progress.job (top t.frames).identity v)) where
+          pub passes_is : returnable m.progress.job (top t.frames).identity v ≡ Ok v
+          passes_is = passed_is v (returnable m.progress.job (top t.frames).identity v) passes
 
-          pub critical : (next : Place) → is_critical m.course.job (top t.frames).identity ≡ true → retn (here m t next) ≡ Err CriticalBlock
+          pub critical : (next : Place) → is_critical m.progress.job (top t.frames).identity ≡ true → retn (here m t next) ≡ Err CriticalBlock
           critical next c =
               let p = top_entered in
               retn_passed m t next p.f p.below p.level p.environment p.back p.frames p.entered v b.rest cells_with passes_is
               ∙ leaves_critical m t next (λ after value. returned after v value) p.f p.below p.level p.environment p.back p.frames p.entered c
 
-          module _ (free : is_critical m.course.job (top t.frames).identity ≡ false) where
+          module _ (free : is_critical m.progress.job (top t.frames).identity ≡ false) where
             pub ended : (next : Place) → mark.back ≡ 0 → retn (here m t next) ≡ Ok Leaves
             ended next z =
                 let p = top_entered in
@@ -156,15 +157,15 @@ module _ (x : Storage) (cpu : Cpu) (plan : Plan) (s : Session) (m : Member) (t :
             leaver z = returns_of plan m t plan.running cpu.regs.slot outer (running_in_order plan s m t o runs).1 mark is n z free
 
             pub with_its_word : (z : mark.back ≢ 0) → ReturnsWord x plan m t cpu (leaver z) v w
-            with_its_word z = record { word = b; passes = ap (λ (fs : List Frame). returnable m.course.job (top fs).identity v) (sym (leaver z).frames) ∙ passes_is }
+            with_its_word z = record { word = b; passes = ap (λ (fs : List Frame). returnable m.progress.job (top fs).identity v) (sym (leaver z).frames) ∙ passes_is }
 
   -- the caller of a frame wants a value where its mark says so
-  pub value_is : (mark : Mscw) → mark ≡ top_mark cpu.regs.slot (stack_of_task plan m.setting.number m.course.job plan.running t) → (a : Returns m t) → mark.value ≡ a.back.value
+  pub value_is : (mark : Mscw) → mark ≡ top_mark cpu.regs.slot (stack_of_task plan m.constants.number m.progress.job plan.running t) → (a : Returns m t) → mark.value ≡ a.back.value
   value_is mark is a =
       let spot = spot_in plan.running outer (a.next ∷ a.more) in
-      let below = activations plan m.setting.number m.course.job plan.running outer (a.next ∷ a.more) in
+      let below = activations plan m.constants.number m.progress.job plan.running outer (a.next ∷ a.more) in
       ap (λ (n : Mscw). n.value) is
-      ∙ ap (λ (fs : List Frame). (top_mark cpu.regs.slot (activations plan m.setting.number m.course.job plan.running outer fs)).value) a.frames
+      ∙ ap (λ (fs : List Frame). (top_mark cpu.regs.slot (activations plan m.constants.number m.progress.job plan.running outer fs)).value) a.frames
       ∙ ap (λ (z : Standing). (mark_of cpu.regs.slot (head spot z) below).value) a.entered
 
   -- an operand by its tag
@@ -173,7 +174,7 @@ module _ (x : Storage) (cpu : Cpu) (plan : Plan) (s : Session) (m : Member) (t :
     apart : {A : Type 0} (u : Tagged) → w ≡ u → u.tag ≢ 0 → A
     apart u is ne = absurd (ne (sym (ap (λ (z : Tagged). z.tag) is) ∙ zero))
 
-    by : (u : Word) → Fits x.held (shape plan m.setting.number m.course.job (spot_in plan.running outer (b.frame ∷ b.below)) u) cpu.regs.s w → WordInOrder (IsSegment m.setting) m.course.job.arrays (reach_of m.course.job t) b.frame.identity u → IsOperand u
+    by : (u : Word) → Fits x.held (shape plan m.constants.number m.progress.job (spot_in plan.running outer (b.frame ∷ b.below)) u) cpu.regs.s w → WordInOrder (IsSegment m.constants) m.progress.job.arrays (reach_of m.progress.job t) b.frame.identity u → IsOperand u
     by (Operand bits) fit g = tt
     by (Name couple) fit g = apart _ fit.0 (λ e. omega (arith, e))
     by (Ref f offset) fit g = apart _ fit.0 (λ e. omega (arith, e))
@@ -187,7 +188,7 @@ module _ (x : Storage) (cpu : Cpu) (plan : Plan) (s : Session) (m : Member) (t :
   -- no operand has another tag
   pub not_operand : (v : Word) (w : Tagged) → IsTopWord x plan m t cpu v w → w.tag ≢ 0 → IsOperand v → ⊥
   not_operand v w b ne is = by v b.fits is where
-    by : (u : Word) → Fits x.held (shape plan m.setting.number m.course.job (spot_in plan.running outer (b.frame ∷ b.below)) u) cpu.regs.s w → IsOperand u → ⊥
+    by : (u : Word) → Fits x.held (shape plan m.constants.number m.progress.job (spot_in plan.running outer (b.frame ∷ b.below)) u) cpu.regs.s w → IsOperand u → ⊥
     by (Operand bits) fit i = ne (ap (λ (z : Tagged). z.tag) fit.0)
     by (Name couple) fit i = i
     by (Ref f offset) fit i = i

@@ -8,20 +8,16 @@ use Rattle.b67_model.specs.Answers.{Answer, ◌>>=◌}
 use Rattle.b67_model.specs.Words as Words
 use Rattle.b67_model.specs.Words.{Word, Operand, Name, Ref, Row, Element, Original, Proc, Intrinsic}
 use Rattle.b67_model.specs.State as State
-use Rattle.b67_model.specs.State.{Standing, Return, Frame, Condition, Task, Job, Here, Member, height, top, with_top_cells, with_task}
+use Rattle.b67_model.specs.State.{Standing, Return, Frame, Condition, Task, Job, OperatorContext, SessionJob, height, top, with_top_cells, with_task}
 use Rattle.b67_model.specs.Steps.{Goes, top_of, is_critical, without_arrays_of, pushes}
 use Rattle.b67_model.specs.Entry.{returnable, returned, leaves, retn_word, retn}
-use Rattle.b67_law_order.proofs.Members.{change_twice}
 use Rattle.b67_layout.specs.Meets.{here}
 use Rattle.b67_layout_leave.proofs.Leaves.{task_at}
 use Rattle.b67_entry.proofs.Exits.{job_left, leaves_inner}
+use Rattle.b67_lemmas.proofs.Members.{change_twice}
+use Rattle.b67_law_order.proofs.Maps.{IsOperand}
 
--- the word that is to be pushed on the caller's frame at once
-abbrev pub IsOperand : Word → Type 0
-IsOperand (Operand bits) = Unit {0}
-IsOperand _ = ⊥
-
-at_once : (h : Here) (v : Word) (value : Bool) → (value ≡ false) ⊎ IsOperand v → returned h v value ≡ pushes h v None
+at_once : (h : OperatorContext) (v : Word) (value : Bool) → (value ≡ false) ⊎ IsOperand v → returned h v value ≡ pushes h v None
 at_once h (Operand bits) false e = refl
 at_once h (Operand bits) true e = refl
 at_once h (Name couple) false e = refl
@@ -49,7 +45,7 @@ at_once h (Proc segment level place) true (inr e) = absurd e
 at_once h (Intrinsic number) true (inr e) = absurd e
 at_once h (Words.Segment number) true (inr e) = absurd e
 
-module _ (m : Member) (t : Task) (q : Place) where
+module _ (m : SessionJob) (t : Task) (q : Place) where
   by_top : (s : Standing) (cells : List Word) → (top t.frames).standing ≡ s → (top t.frames).cells ≡ cells → retn (here m t q) ≡ retn_word (here m t q) s cells
   by_top s cells es ec = ap (λ (z : Standing). retn_word (here m t q) z (top t.frames).cells) es ∙ ap (retn_word (here m t q) s) ec
 
@@ -67,35 +63,35 @@ module _ (m : Member) (t : Task) (q : Place) where
     retn_empty none = by_top (State.Entered level environment back) [] (on f below (State.Entered level environment back) e is) (cells_on f below [] e none)
 
     module _ (v : Word) (rest : List Word) (cells : f.cells ≡ v ∷ rest) where
-      with_word : retn (here m t q) ≡ (returnable m.course.job (top t.frames).identity v >>= λ u. leaves (here m t q) (State.Entered level environment back) (λ after value. returned after u value))
+      with_word : retn (here m t q) ≡ (returnable m.progress.job (top t.frames).identity v >>= λ u. leaves (here m t q) (State.Entered level environment back) (λ after value. returned after u value))
       with_word = by_top (State.Entered level environment back) (v ∷ rest) (on f below (State.Entered level environment back) e is) (cells_on f below (v ∷ rest) e cells)
 
-      pub retn_refused : (fault : Fault) → returnable m.course.job (top t.frames).identity v ≡ Err fault → retn (here m t q) ≡ Err fault
+      pub retn_refused : (fault : Fault) → returnable m.progress.job (top t.frames).identity v ≡ Err fault → retn (here m t q) ≡ Err fault
       retn_refused fault no_word = with_word ∙ ap (λ (r : Answer Word). r >>= λ u. leaves (here m t q) (State.Entered level environment back) (λ after value. returned after u value)) no_word
 
       -- it is left with that word
-      pub retn_passed : returnable m.course.job (top t.frames).identity v ≡ Ok v → retn (here m t q) ≡ leaves (here m t q) (top_of (here m t q)).standing (λ after value. returned after v value)
+      pub retn_passed : returnable m.progress.job (top t.frames).identity v ≡ Ok v → retn (here m t q) ≡ leaves (here m t q) (top_of (here m t q)).standing (λ after value. returned after v value)
       retn_passed passes = with_word ∙ ap (λ (r : Answer Word). r >>= λ u. leaves (here m t q) (State.Entered level environment back) (λ after value. returned after u value)) passes
           ∙ ap (λ (s : Standing). leaves (here m t q) s (λ after value. returned after v value)) (sym (on f below (State.Entered level environment back) e is))
 
   -- on the caller's frame
   module _ (f next : Frame) (more : List Frame) (level environment : ℕ) (back : Return) (e : t.frames ≡ f ∷ next ∷ more) (is : f.standing ≡ State.Entered level environment (Some back))
-      (v : Word) (rest : List Word) (cells : f.cells ≡ v ∷ rest) (passes : returnable m.course.job (top t.frames).identity v ≡ Ok v) (free : is_critical m.course.job (top t.frames).identity ≡ false) where
-    abbrev pub here_left : Here
-    here_left = record { setting = m.setting; job = job_left m.course.job t f (next ∷ more) back; task = task_at t (next ∷ more) back.segment back.place t.condition; at = t.place }
+      (v : Word) (rest : List Word) (cells : f.cells ≡ v ∷ rest) (passes : returnable m.progress.job (top t.frames).identity v ≡ Ok v) (free : is_critical m.progress.job (top t.frames).identity ≡ false) where
+    abbrev pub here_left : OperatorContext
+    here_left = record { constants = m.constants; job = job_left m.progress.job t f (next ∷ more) back; task = task_at t (next ∷ more) back.segment back.place t.condition; at = t.place }
 
     pub retn_left : retn (here m t q) ≡ returned here_left v back.value
     retn_left = retn_passed f (next ∷ more) level environment (Some back) e is v rest cells passes ∙ leaves_inner m t q (λ after value. returned after v value) f (next ∷ more) level environment back e is free
 
     -- a word that is pushed there
-    pub pushes_left : (u : Word) (touched : Option ℕ) → height (next ∷ more) + 1 ≤ m.setting.stack_size
-        → pushes here_left u touched ≡ Ok (Goes (with_task (without_arrays_of f.identity m.course.job) (task_at t (with_top_cells (next ∷ more) (u ∷ next.cells)) back.segment back.place t.condition)) [] touched)
+    pub pushes_left : (u : Word) (touched : Option ℕ) → height (next ∷ more) + 1 ≤ m.constants.stack_size
+        → pushes here_left u touched ≡ Ok (Goes (with_task (without_arrays_of f.identity m.progress.job) (task_at t (with_top_cells (next ∷ more) (u ∷ next.cells)) back.segment back.place t.condition)) [] touched)
     pushes_left u touched low =
         let T : Task = task_at t (next ∷ more) back.segment back.place t.condition in
         let U : Task = task_at t (with_top_cells (next ∷ more) (u ∷ next.cells)) back.segment back.place t.condition in
-        let twice : with_task here_left.job U ≡ with_task (without_arrays_of f.identity m.course.job) U = ap (λ (ts : List Task). record (without_arrays_of f.identity m.course.job) { tasks = ts }) (change_twice (λ (x : Task). x.number) t.number T U m.course.job.tasks refl) in
-        rw (le-leb (height (with_top_cells (next ∷ more) (u ∷ next.cells))) m.setting.stack_size (omega (arith, low))) (ap (λ (j : Job). Ok (Goes j [] touched)) twice)
+        let twice : with_task here_left.job U ≡ with_task (without_arrays_of f.identity m.progress.job) U = ap (λ (ts : List Task). record (without_arrays_of f.identity m.progress.job) { tasks = ts }) (change_twice (λ (x : Task). x.number) t.number T U m.progress.job.tasks refl) in
+        rw (le-leb (height (with_top_cells (next ∷ more) (u ∷ next.cells))) m.constants.stack_size (omega (arith, low))) (ap (λ (j : Job). Ok (Goes j [] touched)) twice)
 
-    pub retn_pushed : (back.value ≡ false) ⊎ IsOperand v → height (next ∷ more) + 1 ≤ m.setting.stack_size
-        → retn (here m t q) ≡ Ok (Goes (with_task (without_arrays_of f.identity m.course.job) (task_at t (with_top_cells (next ∷ more) (v ∷ next.cells)) back.segment back.place t.condition)) [] None)
+    pub retn_pushed : (back.value ≡ false) ⊎ IsOperand v → height (next ∷ more) + 1 ≤ m.constants.stack_size
+        → retn (here m t q) ≡ Ok (Goes (with_task (without_arrays_of f.identity m.progress.job) (task_at t (with_top_cells (next ∷ more) (v ∷ next.cells)) back.segment back.place t.condition)) [] None)
     retn_pushed once low = retn_left ∙ at_once here_left v back.value once ∙ pushes_left v None low

@@ -8,18 +8,18 @@ use Rattle.b67_lemmas.specs.Lists.{Has, Falls}
 use Rattle.b67_model.specs.Answers.{◌>>◌, needs}
 use Rattle.b67_model.specs.Words as Words
 use Rattle.b67_model.specs.Words.{Word, Operand, Name, Ref, Row, Element, Original, Proc, Intrinsic}
-use Rattle.b67_model.specs.State.{Frame, Array, Setting, Job}
+use Rattle.b67_model.specs.State.{Frame, Array, JobConstants, Job}
 use Rattle.b67_model.specs.Arrays.{array, owner_of}
 use Rattle.b67_model.specs.Entry.{returnable}
 use Rattle.b67_model.specs.InOrder.{IsSegment, Known, NamesArray, WordInOrder}
 use Rattle.b67_stack.specs.Shapes.{Shape}
-use Rattle.b67_stack.specs.Stacks.{Spot}
-use Rattle.b67_stack.specs.Picture.{Thing, CopiesName}
+use Rattle.b67_stack.specs.Stacks.{StackPlace}
+use Rattle.b67_stack.specs.MachineView.{PagedObject, CopiesName}
 use Rattle.b67_stack.specs.Changes.{MayPush}
-use Rattle.b67_layout.specs.Plan.{Plan, spot_in}
+use Rattle.b67_layout.specs.Placement.{Placement, spot_in}
 use Rattle.b67_layout.specs.Layout.{shape}
 use Rattle.b67_layout_leave.proofs.Nowhere.{SameArray, array_stays}
-use Rattle.b67_layout_leave.proofs.Things.{others}
+use Rattle.b67_layout_leave.proofs.Objects.{others}
 use Rattle.b67_entry.proofs.CopyRefusals.{found_array}
 
 -- a word that may be returned from a frame
@@ -43,11 +43,11 @@ module _ (job : Job) (id : ℕ) where
   other_element a i e z = elim (eqb_tells (owner_of job a) id) [ inl s ↦ true≢false (sym s.0 ∙ needed (owner_of job a == id) (Element a i) e) | inr s ↦ s.1 z ]
 
   -- it is seen from the frames below as from the frame
-  pub shape_below : (plan : Plan) (j k : ℕ) (outer : ℕ → Spot) (f : Frame) (below : List Frame) (v : Word) → f.identity ≡ id → returnable job id v ≡ Ok v
+  pub shape_below : (plan : Placement) (j k : ℕ) (outer : ℕ → StackPlace) (f : Frame) (below : List Frame) (v : Word) → f.identity ≡ id → returnable job id v ≡ Ok v
       → shape plan j job (spot_in k outer (f ∷ below)) v ≡ shape plan j job (spot_in k outer below) v
   shape_below plan j k outer f below (Ref g offset) is e =
       let same : spot_in k outer (f ∷ below) g ≡ spot_in k outer below g = elim (eqb_tells f.identity g) [ inl s ↦ absurd (other_frame g offset e (sym s.1 ∙ is)) | inr s ↦ rw s.0 refl ] in
-      let S : Spot → Shape = λ s. shape plan j job (λ i. s) (Ref g offset) in
+      let S : StackPlace → Shape = λ s. shape plan j job (λ i. s) (Ref g offset) in
       ap S same
   shape_below plan j k outer f below (Operand bits) is e = refl
   shape_below plan j k outer f below (Name couple) is e = refl
@@ -59,16 +59,16 @@ module _ (job : Job) (id : ℕ) where
   shape_below plan j k outer f below (Words.Segment number) is e = refl
 
   -- it may be put on a stack
-  pub may_push : (plan : Plan) (j : ℕ) (spot : ℕ → Spot) (things : List Thing) (shapes : List Shape) (v : Word) → CopiesName things shapes → Has shapes (shape plan j job spot v) → returnable job id v ≡ Ok v → MayPush things (shape plan j job spot v)
-  may_push plan j spot things shapes (Row a) copies h e = copies _ (plan.home j a) h
-  may_push plan j spot things shapes (Element a index) copies h e = copies _ (plan.home j a) h
-  may_push plan j spot things shapes (Original a) copies h e = let z : ⊥ = cc in absurd z
-  may_push plan j spot things shapes (Operand bits) copies h e = tt
-  may_push plan j spot things shapes (Name couple) copies h e = tt
-  may_push plan j spot things shapes (Ref g offset) copies h e = tt
-  may_push plan j spot things shapes (Proc segment level place) copies h e = tt
-  may_push plan j spot things shapes (Intrinsic number) copies h e = tt
-  may_push plan j spot things shapes (Words.Segment number) copies h e = tt
+  pub may_push : (plan : Placement) (j : ℕ) (spot : ℕ → StackPlace) (objects : List PagedObject) (shapes : List Shape) (v : Word) → CopiesName objects shapes → Has shapes (shape plan j job spot v) → returnable job id v ≡ Ok v → MayPush objects (shape plan j job spot v)
+  may_push plan j spot objects shapes (Row a) copies h e = copies _ (plan.home j a) h
+  may_push plan j spot objects shapes (Element a index) copies h e = copies _ (plan.home j a) h
+  may_push plan j spot objects shapes (Original a) copies h e = let z : ⊥ = cc in absurd z
+  may_push plan j spot objects shapes (Operand bits) copies h e = tt
+  may_push plan j spot objects shapes (Name couple) copies h e = tt
+  may_push plan j spot objects shapes (Ref g offset) copies h e = tt
+  may_push plan j spot objects shapes (Proc segment level place) copies h e = tt
+  may_push plan j spot objects shapes (Intrinsic number) copies h e = tt
+  may_push plan j spot objects shapes (Words.Segment number) copies h e = tt
 
   -- and its array stays
   kept : (new : Job) (reach : List Known) (a index : ℕ) → NamesArray job.arrays reach a index → new.arrays ≡ others id job.arrays → Falls job.next_array (map (λ (b : Array). b.identity) job.arrays) → owner_of job a ≢ id → array new a ≡ array job a
@@ -76,13 +76,13 @@ module _ (job : Job) (id : ℕ) where
       let same = found_array job reach a index n falls in
       subst (λ (i : ℕ). array new i ≡ array job i) n.named (array_stays new job id is falls n.item n.live (λ e. ne (ap (λ (b : Array). b.owner) same ∙ e)))
 
-  pub array_kept : (new : Job) (setting : Setting) (reach : List Known) (v : Word) → WordInOrder (IsSegment setting) job.arrays reach id v → new.arrays ≡ others id job.arrays → Falls job.next_array (map (λ (b : Array). b.identity) job.arrays) → returnable job id v ≡ Ok v → SameArray new job v
-  array_kept new setting reach (Row a) g is falls e = kept new reach a 0 g is falls (other_row a e)
-  array_kept new setting reach (Element a index) g is falls e = kept new reach a index g is falls (other_element a index e)
-  array_kept new setting reach (Operand bits) g is falls e = tt
-  array_kept new setting reach (Name couple) g is falls e = tt
-  array_kept new setting reach (Ref h offset) g is falls e = tt
-  array_kept new setting reach (Original a) g is falls e = tt
-  array_kept new setting reach (Proc segment level place) g is falls e = tt
-  array_kept new setting reach (Intrinsic number) g is falls e = tt
-  array_kept new setting reach (Words.Segment number) g is falls e = tt
+  pub array_kept : (new : Job) (constants : JobConstants) (reach : List Known) (v : Word) → WordInOrder (IsSegment constants) job.arrays reach id v → new.arrays ≡ others id job.arrays → Falls job.next_array (map (λ (b : Array). b.identity) job.arrays) → returnable job id v ≡ Ok v → SameArray new job v
+  array_kept new constants reach (Row a) g is falls e = kept new reach a 0 g is falls (other_row a e)
+  array_kept new constants reach (Element a index) g is falls e = kept new reach a index g is falls (other_element a index e)
+  array_kept new constants reach (Operand bits) g is falls e = tt
+  array_kept new constants reach (Name couple) g is falls e = tt
+  array_kept new constants reach (Ref h offset) g is falls e = tt
+  array_kept new constants reach (Original a) g is falls e = tt
+  array_kept new constants reach (Proc segment level place) g is falls e = tt
+  array_kept new constants reach (Intrinsic number) g is falls e = tt
+  array_kept new constants reach (Words.Segment number) g is falls e = tt

@@ -2,42 +2,42 @@
 use Rattle.std.proofs.Common.{◌≡◌, ◌≢◌, ℕ, ◌+◌, List, [], ◌∷◌, map, length, Option, Some, None, refl, sym, ◌∙◌, ap, arith, true, false, subst}
 use Rattle.b67_ctl.specs.declared.marks.Mscw.{Mscw}
 use Rattle.b67_model.specs.State as State
-use Rattle.b67_model.specs.State.{Standing, Return, Frame, Task, Setting, Job}
+use Rattle.b67_model.specs.State.{Standing, Return, Frame, Task, JobConstants, Job}
 use Rattle.b67_model.specs.Environment.{level_of_frame, running}
 use Rattle.b67_model.specs.InOrder.{IsSegment, ReturnsInOrder, StackInOrder, TaskInOrder}
 use Rattle.b67_stack.specs.Shapes.{Shape}
-use Rattle.b67_stack.specs.Stacks.{Spot, Head, Marked, Entered, Activation, head_size, top_size, mark_of, top_mark}
-use Rattle.b67_layout.specs.Plan.{Plan, spot_in}
+use Rattle.b67_stack.specs.Stacks.{StackPlace, Head, Marked, Entered, Activation, head_size, top_size, mark_of, top_mark}
+use Rattle.b67_layout.specs.Placement.{Placement, spot_in}
 use Rattle.b67_layout.specs.Layout.{shape, head, activations}
 
 -- marked, or entered as the bottom one, or entered over others with a return to these
-pub data TopCase (setting : Setting) (t : Task) : Type 0 where
-  pending : (f : Frame) (below : List Frame) → t.frames ≡ f ∷ below → f.standing ≡ State.Marked → TopCase setting t
-  last : (f : Frame) (level environment : ℕ) → t.frames ≡ f ∷ [] → f.standing ≡ State.Entered level environment None → TopCase setting t
+pub data TopCase (constants : JobConstants) (t : Task) : Type 0 where
+  pending : (f : Frame) (below : List Frame) → t.frames ≡ f ∷ below → f.standing ≡ State.Marked → TopCase constants t
+  last : (f : Frame) (level environment : ℕ) → t.frames ≡ f ∷ [] → f.standing ≡ State.Entered level environment None → TopCase constants t
   inner : (f next : Frame) (more : List Frame) (level environment : ℕ) (back : Return) → t.frames ≡ f ∷ next ∷ more → f.standing ≡ State.Entered level environment (Some back)
-      → IsSegment setting back.segment (level_of_frame (running (next ∷ more))) back.place → TopCase setting t
+      → IsSegment constants back.segment (level_of_frame (running (next ∷ more))) back.place → TopCase constants t
 
-by_standing : (setting : Setting) (t : Task) (f : Frame) (below : List Frame) (s : Standing) → t.frames ≡ f ∷ below → f.standing ≡ s → ReturnsInOrder (IsSegment setting) s below → TopCase setting t
-by_standing setting t f below State.Marked e is g = pending f below e is
-by_standing setting t f below (State.Entered level environment None) e is g = last f level environment (e ∙ ap (λ (fs : List Frame). f ∷ fs) g) is
-by_standing setting t f [] (State.Entered level environment (Some back)) e is g = absurd (g.0 refl)
-by_standing setting t f (next ∷ more) (State.Entered level environment (Some back)) e is g = inner f next more level environment back e is g.1
+by_standing : (constants : JobConstants) (t : Task) (f : Frame) (below : List Frame) (s : Standing) → t.frames ≡ f ∷ below → f.standing ≡ s → ReturnsInOrder (IsSegment constants) s below → TopCase constants t
+by_standing constants t f below State.Marked e is g = pending f below e is
+by_standing constants t f below (State.Entered level environment None) e is g = last f level environment (e ∙ ap (λ (fs : List Frame). f ∷ fs) g) is
+by_standing constants t f [] (State.Entered level environment (Some back)) e is g = absurd (g.0 refl)
+by_standing constants t f (next ∷ more) (State.Entered level environment (Some back)) e is g = inner f next more level environment back e is g.1
 
-by_frames : (setting : Setting) (job : Job) (t : Task) (fs : List Frame) → t.frames ≡ fs → TaskInOrder (IsSegment setting) setting job t → TopCase setting t
-by_frames setting job t [] e o = absurd (o.some e)
-by_frames setting job t (f ∷ below) e o = by_standing setting t f below f.standing e refl (let s = subst (λ (gs : List Frame). StackInOrder (IsSegment setting) gs) e o.returns in s.0)
+by_frames : (constants : JobConstants) (job : Job) (t : Task) (fs : List Frame) → t.frames ≡ fs → TaskInOrder (IsSegment constants) constants job t → TopCase constants t
+by_frames constants job t [] e o = absurd (o.some e)
+by_frames constants job t (f ∷ below) e o = by_standing constants t f below f.standing e refl (let s = subst (λ (gs : List Frame). StackInOrder (IsSegment constants) gs) e o.returns in s.0)
 
-pub top_case : (setting : Setting) (job : Job) (t : Task) → TaskInOrder (IsSegment setting) setting job t → TopCase setting t
-top_case setting job t o = by_frames setting job t t.frames refl o
+pub top_case : (constants : JobConstants) (job : Job) (t : Task) → TaskInOrder (IsSegment constants) constants job t → TopCase constants t
+top_case constants job t o = by_frames constants job t t.frames refl o
 
-module _ (plan : Plan) (j : ℕ) (job : Job) (k i : ℕ) (outer : ℕ → Spot) where
+module _ (plan : Placement) (j : ℕ) (job : Job) (k i : ℕ) (outer : ℕ → StackPlace) where
   abbrev mark_on : List Frame → Mscw
   mark_on fs = top_mark i (activations plan j job k outer fs)
 
-  marked_by : (s : Standing) (spot : ℕ → Spot) (below : List Activation) → s ≡ State.Marked → (mark_of i (head spot s) below).entered ≡ false
+  marked_by : (s : Standing) (spot : ℕ → StackPlace) (below : List Activation) → s ≡ State.Marked → (mark_of i (head spot s) below).entered ≡ false
   marked_by s spot below e = ap (λ (z : Standing). (mark_of i (head spot z) below).entered) e
 
-  entered_by : (s : Standing) (spot : ℕ → Spot) (below : List Activation) (level environment : ℕ) (back : Option Return) → s ≡ State.Entered level environment back → ((mark_of i (head spot s) below).entered ≡ true) × ((mark_of i (head spot s) below).back ≡ top_size below)
+  entered_by : (s : Standing) (spot : ℕ → StackPlace) (below : List Activation) (level environment : ℕ) (back : Option Return) → s ≡ State.Entered level environment back → ((mark_of i (head spot s) below).entered ≡ true) × ((mark_of i (head spot s) below).back ≡ top_size below)
   entered_by s spot below level environment back e = (ap (λ (z : Standing). (mark_of i (head spot z) below).entered) e, ap (λ (z : Standing). (mark_of i (head spot z) below).back) e)
 
   size_some : (h : Head) (cells : List Shape) → head_size h + length cells ≢ 0

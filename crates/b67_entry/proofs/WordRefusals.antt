@@ -7,24 +7,24 @@ use Rattle.b67_word.specs.declared.faults.Fault.TheVariants.{InvalidOperand, Upl
 use Rattle.b67_ctl.specs.Layout.{sirw_word, IsSirw}
 use Rattle.b67_ctl.specs.declared.references.Sirw.{Sirw}
 use Rattle.b67_lemmas.specs.Lists.{Has}
+use Rattle.b67_lemmas.proofs.Members.{keyed-has}
 use Rattle.b67_model.specs.Words as Words
 use Rattle.b67_model.specs.Words.{Word, Operand, Name, Ref, Row, Element, Original, Proc, Intrinsic}
-use Rattle.b67_model.specs.State.{Frame, Task, Member, height, top}
+use Rattle.b67_model.specs.State.{Frame, Task, SessionJob, height, top}
 use Rattle.b67_model.specs.Entry.{returnable}
 use Rattle.b67_model.specs.Run.{number_of}
 use Rattle.b67_model.specs.Schedule.{Session}
 use Rattle.b67_model.specs.InOrder.{IsSegment, WordInOrder, reach_of, IsInOrderButPlaces}
 use Rattle.b67_stack.specs.declared.Cpu.{Cpu}
 use Rattle.b67_stack.specs.Shapes.{Fits}
-use Rattle.b67_stack.specs.Stacks.{Spot}
-use Rattle.b67_stack.specs.Picture.{RunsOn}
-use Rattle.b67_stack.specs.Stands.{Storage}
+use Rattle.b67_stack.specs.Stacks.{StackPlace}
+use Rattle.b67_stack.specs.MachineView.{RunsOn}
+use Rattle.b67_stack.specs.Represents.{Storage}
 use Rattle.b67_stack.proofs.Slots.{running_slot}
-use Rattle.b67_layout.specs.Plan.{Plan, spot_in, outer_spots}
-use Rattle.b67_layout.specs.Layout.{shape, activations, stack_of_task, picture}
-use Rattle.b67_layout.specs.Session.{IsRunning, SessionStands}
+use Rattle.b67_layout.specs.Placement.{Placement, spot_in, outer_spots}
+use Rattle.b67_layout.specs.Layout.{shape, activations, stack_of_task, machine_view}
+use Rattle.b67_layout.specs.Session.{IsRunning, RepresentsSession}
 use Rattle.b67_layout.proofs.Frames.{height-is}
-use Rattle.b67_layout.proofs.Others.{keyed-has}
 use Rattle.b67_layout.proofs.Fresh.{running_in_order}
 use Rattle.b67_layout.proofs.Starts.{slot_is, runs_here}
 use Rattle.b67_refer.proofs.Scenes.{member_in_order}
@@ -32,30 +32,30 @@ use Rattle.b67_layout_leave.proofs.Apart.{spot_apart, spot_top, spot_fits}
 use Rattle.b67_entry.specs.Words.{IsTopWord, Refuses}
 
 -- the mark at F lies in the stack
-pub base_low : (x : Storage) (cpu : Cpu) (plan : Plan) (s : Session) (m : Member) (t : Task) → SessionStands x cpu plan s → IsRunning plan s.jobs m t → cpu.regs.bosr ≤ cpu.regs.f
+pub base_low : (x : Storage) (cpu : Cpu) (plan : Placement) (s : Session) (m : SessionJob) (t : Task) → RepresentsSession x cpu plan s → IsRunning plan s.jobs m t → cpu.regs.bosr ≤ cpu.regs.f
 base_low x cpu plan s m t h runs =
-    let r = running_slot x cpu.core cpu.regs (picture plan s.jobs) cpu.regs.slot (stack_of_task plan m.setting.number m.course.job plan.running t) h.holds.memory (runs_here x cpu plan s m t h runs) in
+    let r = running_slot x cpu.core cpu.regs (machine_view plan s.jobs) cpu.regs.slot (stack_of_task plan m.constants.number m.progress.job plan.running t) h.holds.memory (runs_here x cpu plan s m t h runs) in
     omega (arith, r.first, r.mark)
 
-module _ (x : Storage) (cpu : Cpu) (plan : Plan) (s : Session) (m : Member) (t : Task) (o : IsInOrderButPlaces s) (h : SessionStands x cpu plan s) (runs : IsRunning plan s.jobs m t) (v : Word) (w : Tagged) (b : IsTopWord x plan m t cpu v w) where
-  abbrev spot : ℕ → Spot
-  spot = spot_in plan.running (outer_spots plan m.setting.number m.course.job t.critical t.parents) (b.frame ∷ b.below)
+module _ (x : Storage) (cpu : Cpu) (plan : Placement) (s : Session) (m : SessionJob) (t : Task) (o : IsInOrderButPlaces s) (h : RepresentsSession x cpu plan s) (runs : IsRunning plan s.jobs m t) (v : Word) (w : Tagged) (b : IsTopWord x plan m t cpu v w) where
+  abbrev spot : ℕ → StackPlace
+  spot = spot_in plan.running (outer_spots plan m.constants.number m.progress.job t.critical t.parents) (b.frame ∷ b.below)
 
   id_is : (top t.frames).identity ≡ b.frame.identity
   id_is = ap (λ (fs : List Frame). (top fs).identity) b.frames
 
   in_m : Has s.jobs m
-  in_m = keyed-has number_of m.setting.number s.jobs m runs.member
+  in_m = keyed-has number_of m.constants.number s.jobs m runs.member
 
-  in_t : Has m.course.job.tasks t
-  in_t = keyed-has (λ (u : Task). u.number) t.number m.course.job.tasks t runs.task
+  in_t : Has m.progress.job.tasks t
+  in_t = keyed-has (λ (u : Task). u.number) t.number m.progress.job.tasks t runs.task
 
   -- the displacement of the mark at F
   pub place_is : cpu.regs.f - cpu.regs.bosr ≡ height b.below
   place_is =
-      let on = subst (λ (fs : List Frame). RunsOn (picture plan s.jobs) cpu.regs.slot (activations plan m.setting.number m.course.job plan.running (outer_spots plan m.setting.number m.course.job t.critical t.parents) fs)) b.frames (runs_here x cpu plan s m t h runs) in
-      let r = running_slot x cpu.core cpu.regs (picture plan s.jobs) cpu.regs.slot (activations plan m.setting.number m.course.job plan.running (outer_spots plan m.setting.number m.course.job t.critical t.parents) (b.frame ∷ b.below)) h.holds.memory on in
-      omega (arith, r.first, r.mark, height-is plan m.setting.number m.course.job plan.running (outer_spots plan m.setting.number m.course.job t.critical t.parents) b.below)
+      let on = subst (λ (fs : List Frame). RunsOn (machine_view plan s.jobs) cpu.regs.slot (activations plan m.constants.number m.progress.job plan.running (outer_spots plan m.constants.number m.progress.job t.critical t.parents) fs)) b.frames (runs_here x cpu plan s m t h runs) in
+      let r = running_slot x cpu.core cpu.regs (machine_view plan s.jobs) cpu.regs.slot (activations plan m.constants.number m.progress.job plan.running (outer_spots plan m.constants.number m.progress.job t.critical t.parents) (b.frame ∷ b.below)) h.holds.memory on in
+      omega (arith, r.first, r.mark, height-is plan m.constants.number m.progress.job plan.running (outer_spots plan m.constants.number m.progress.job t.critical t.parents) b.below)
 
   -- the fields of a reference in the top frame
   abbrev fields : ℕ → ℕ → Sirw
@@ -65,7 +65,7 @@ module _ (x : Storage) (cpu : Cpu) (plan : Plan) (s : Session) (m : Member) (t :
   fields_fit g offset small =
       let i = member_in_order s m o in_m in
       let order = running_in_order plan s m t o runs in
-      let low : height (b.frame ∷ b.below) ≤ m.setting.stack_size = subst (λ (fs : List Frame). height fs ≤ m.setting.stack_size) b.frames order.1.not_higher in
+      let low : height (b.frame ∷ b.below) ≤ m.constants.stack_size = subst (λ (fs : List Frame). height fs ≤ m.constants.stack_size) b.frames order.1.not_higher in
       let f = spot_fits plan s.jobs m t b.frame b.below h.holds.fits.rows h.holds.fits.few order.0.tasks in_m in_t plan.running runs.slot (b.frame ∷ b.below) g i.few order.0.unchanging.stack_high low in
       record { stack = f.0; disp = f.1; offset = omega arith }
 
@@ -76,9 +76,9 @@ module _ (x : Storage) (cpu : Cpu) (plan : Plan) (s : Session) (m : Member) (t :
   tag_apart u one is ne = absurd (ne (sym (ap (λ (z : Tagged). z.tag) is) ∙ one))
 
   -- no stuffed reference was read: a couple
-  pub couple_refused : w.tag ≡ 1 → (found : Option Sirw) → Known found → found ≡ None → Refuses (Some InvalidOperand) v (returnable m.course.job (top t.frames).identity v)
+  pub couple_refused : w.tag ≡ 1 → (found : Option Sirw) → Known found → found ≡ None → Refuses (Some InvalidOperand) v (returnable m.progress.job (top t.frames).identity v)
   couple_refused one found known none = by v b.fits b.order where
-    by : (u : Word) → Fits x.held (shape plan m.setting.number m.course.job spot u) cpu.regs.s w → WordInOrder (IsSegment m.setting) m.course.job.arrays (reach_of m.course.job t) b.frame.identity u → Refuses (Some InvalidOperand) u (returnable m.course.job (top t.frames).identity u)
+    by : (u : Word) → Fits x.held (shape plan m.constants.number m.progress.job spot u) cpu.regs.s w → WordInOrder (IsSegment m.constants) m.progress.job.arrays (reach_of m.progress.job t) b.frame.identity u → Refuses (Some InvalidOperand) u (returnable m.progress.job (top t.frames).identity u)
     by (Name couple) fit g = refl
     by (Original a) fit g = refl
     by (Ref a offset) fit g = absurd (none-some (fields a offset) (sym none ∙ known (fields a offset) (fields_fit a offset g.1) fit.0))
@@ -91,12 +91,12 @@ module _ (x : Storage) (cpu : Cpu) (plan : Plan) (s : Session) (m : Member) (t :
 
   -- a reference into the top frame
   pub own_refused : w.tag ≡ 1 → (found : Option Sirw) (r : Sirw) → Known found → found ≡ Some r → w ≡ sirw_word r → r.stack ≡ cpu.regs.slot → r.disp ≡ cpu.regs.f - cpu.regs.bosr
-      → Refuses (Some Uplevel) v (returnable m.course.job (top t.frames).identity v)
+      → Refuses (Some Uplevel) v (returnable m.progress.job (top t.frames).identity v)
   own_refused one found r known is word stack disp = by v b.fits b.order where
-    by_id : (g offset : ℕ) → g ≡ (top t.frames).identity → Refuses (Some Uplevel) (Ref g offset) (returnable m.course.job (top t.frames).identity (Ref g offset))
+    by_id : (g offset : ℕ) → g ≡ (top t.frames).identity → Refuses (Some Uplevel) (Ref g offset) (returnable m.progress.job (top t.frames).identity (Ref g offset))
     by_id g offset e = elim (eqb_tells g (top t.frames).identity) [ inl q ↦ rw q.0 refl | inr q ↦ absurd (q.1 e) ]
 
-    by : (u : Word) → Fits x.held (shape plan m.setting.number m.course.job spot u) cpu.regs.s w → WordInOrder (IsSegment m.setting) m.course.job.arrays (reach_of m.course.job t) b.frame.identity u → Refuses (Some Uplevel) u (returnable m.course.job (top t.frames).identity u)
+    by : (u : Word) → Fits x.held (shape plan m.constants.number m.progress.job spot u) cpu.regs.s w → WordInOrder (IsSegment m.constants) m.progress.job.arrays (reach_of m.progress.job t) b.frame.identity u → Refuses (Some Uplevel) u (returnable m.progress.job (top t.frames).identity u)
     by (Ref g offset) fit q =
         let e : r ≡ fields g offset = same_Some r (fields g offset) (sym is ∙ known (fields g offset) (fields_fit g offset q.1) fit.0) in
         elim (eqb_tells g b.frame.identity) [
@@ -115,15 +115,15 @@ module _ (x : Storage) (cpu : Cpu) (plan : Plan) (s : Session) (m : Member) (t :
 
   -- another one
   pub other_passes : w.tag ≡ 1 → (found : Option Sirw) (r : Sirw) → Known found → found ≡ Some r → w ≡ sirw_word r → (r.stack ≡ cpu.regs.slot → r.disp ≡ cpu.regs.f - cpu.regs.bosr → ⊥)
-      → Refuses None v (returnable m.course.job (top t.frames).identity v)
+      → Refuses None v (returnable m.progress.job (top t.frames).identity v)
   other_passes one found r known is word apart = by v b.fits b.order where
-    by : (u : Word) → Fits x.held (shape plan m.setting.number m.course.job spot u) cpu.regs.s w → WordInOrder (IsSegment m.setting) m.course.job.arrays (reach_of m.course.job t) b.frame.identity u → Refuses None u (returnable m.course.job (top t.frames).identity u)
+    by : (u : Word) → Fits x.held (shape plan m.constants.number m.progress.job spot u) cpu.regs.s w → WordInOrder (IsSegment m.constants) m.progress.job.arrays (reach_of m.progress.job t) b.frame.identity u → Refuses None u (returnable m.progress.job (top t.frames).identity u)
     by (Ref g offset) fit q =
         let e : r ≡ fields g offset = same_Some r (fields g offset) (sym is ∙ known (fields g offset) (fields_fit g offset q.1) fit.0) in
         elim (eqb_tells g (top t.frames).identity) [
           | inl z ↦
               let seat : spot g ≡ record { stack = plan.running; disp = height b.below } = ap spot (z.1 ∙ id_is) ∙ spot_top plan s.jobs m t b.frame b.below h.holds.fits.rows h.holds.fits.few (running_in_order plan s m t o runs).0.tasks in_m in_t plan.running runs.slot in
-              absurd (apart (ap (λ (y : Sirw). y.stack) e ∙ ap (λ (y : Spot). y.stack) seat ∙ sym (slot_is x cpu plan s m t h runs)) (ap (λ (y : Sirw). y.disp) e ∙ ap (λ (y : Spot). y.disp) seat ∙ sym place_is))
+              absurd (apart (ap (λ (y : Sirw). y.stack) e ∙ ap (λ (y : StackPlace). y.stack) seat ∙ sym (slot_is x cpu plan s m t h runs)) (ap (λ (y : Sirw). y.disp) e ∙ ap (λ (y : StackPlace). y.disp) seat ∙ sym place_is))
           | inr z ↦ rw z.0 refl
         ]
     by (Name couple) fit g = absurd (let e : couple ≡ 2 ^ 46 + r.stack * 2 ^ 36 + r.disp * 2 ^ 20 + r.offset = ap (λ (z : Tagged). z.bits) (sym fit.0 ∙ word) in let z : ⊥ = omega (arith, e, g) in z)

@@ -3,18 +3,18 @@ use Rattle.std.specs.Prelude.{◌≡◌, ℕ, ◌+◌, List, Ok, slice_set}
 use Rattle.b67_word.specs.Tagged.{Tagged}
 use Rattle.b67_ctl.specs.declared.registers.Regs.{Regs}
 use Rattle.b67_model.specs.Words.{Word}
-use Rattle.b67_model.specs.State.{Task, Member}
+use Rattle.b67_model.specs.State.{Task, SessionJob}
 use Rattle.b67_model.specs.Entry.{returnable}
 use Rattle.b67_stack.specs.declared.Cpu.{Cpu}
-use Rattle.b67_stack.specs.Stands.{Storage}
-use Rattle.b67_layout.specs.Plan.{Plan}
+use Rattle.b67_stack.specs.Represents.{Storage}
+use Rattle.b67_layout.specs.Placement.{Placement}
 use Rattle.b67_entry.specs.Left.{Returns}
 use Rattle.b67_entry.specs.Words.{IsTopWord}
 
 -- the top word and the frame that is left with it
-pub record ReturnsWord (x : Storage) (plan : Plan) (m : Member) (t : Task) (cpu : Cpu) (a : Returns m t) (v : Word) (w : Tagged) : Type 0 where
+pub record ReturnsWord (x : Storage) (plan : Placement) (m : SessionJob) (t : Task) (cpu : Cpu) (a : Returns m t) (v : Word) (w : Tagged) : Type 0 where
   pub word : IsTopWord x plan m t cpu v w
-  pub passes : returnable m.course.job a.f.identity v ≡ Ok v
+  pub passes : returnable m.progress.job a.f.identity v ≡ Ok v
 
 -- the machine with these registers, this display and a word more on the stack
 abbrev pub with_word : Cpu → Regs → List ℕ → Tagged → Cpu

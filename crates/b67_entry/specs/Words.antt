@@ -4,24 +4,24 @@ use Rattle.b67_word.specs.Tagged.{Tagged}
 use Rattle.b67_word.specs.declared.faults.Fault.{Fault}
 use Rattle.b67_model.specs.Answers.{Answer}
 use Rattle.b67_model.specs.Words.{Word}
-use Rattle.b67_model.specs.State.{Frame, Task, Member}
+use Rattle.b67_model.specs.State.{Frame, Task, SessionJob}
 use Rattle.b67_model.specs.InOrder.{IsSegment, WordInOrder, reach_of}
 use Rattle.b67_stack.specs.declared.Cpu.{Cpu}
 use Rattle.b67_stack.specs.Shapes.{Fits}
-use Rattle.b67_stack.specs.Stands.{Storage}
-use Rattle.b67_layout.specs.Plan.{Plan, spot_in, outer_spots}
+use Rattle.b67_stack.specs.Represents.{Storage}
+use Rattle.b67_layout.specs.Placement.{Placement, spot_in, outer_spots}
 use Rattle.b67_layout.specs.Layout.{shape}
 
 -- the top word of the running task's stack, and what it stands for in the top frame
-pub record IsTopWord (x : Storage) (plan : Plan) (m : Member) (t : Task) (cpu : Cpu) (v : Word) (w : Tagged) : Type 0 where
+pub record IsTopWord (x : Storage) (plan : Placement) (m : SessionJob) (t : Task) (cpu : Cpu) (v : Word) (w : Tagged) : Type 0 where
   pub frame : Frame
   pub below : List Frame
   pub rest : List Word
   pub frames : t.frames ≡ frame ∷ below
   pub cells : frame.cells ≡ v ∷ rest
   pub there : slice_get cpu.core cpu.regs.s ≡ Some w
-  pub fits : Fits x.held (shape plan m.setting.number m.course.job (spot_in plan.running (outer_spots plan m.setting.number m.course.job t.critical t.parents) (frame ∷ below)) v) cpu.regs.s w
-  pub order : WordInOrder (IsSegment m.setting) m.course.job.arrays (reach_of m.course.job t) frame.identity v
+  pub fits : Fits x.held (shape plan m.constants.number m.progress.job (spot_in plan.running (outer_spots plan m.constants.number m.progress.job t.critical t.parents) (frame ∷ below)) v) cpu.regs.s w
+  pub order : WordInOrder (IsSegment m.constants) m.progress.job.arrays (reach_of m.progress.job t) frame.identity v
 
 -- a fault that a row makes of a word, or none where it lets the word pass
 abbrev pub Refuses : Option Fault → Word → Answer Word → Type 0

@@ -19,7 +19,7 @@ use b67_word::Fault;
 /// Whether a live task depends on the top activation record.
 pub fn is_critical(cpu: &Cpu) -> bool
     requires { RunsSome cpu.now }
-    ensures { ForEach cpu.now (λ x plan s m t. result ≡ depended_on m.course.job (top t.frames).identity) }
+    ensures { ForEach cpu.now (λ x plan s m t. result ≡ depended_on m.progress.job (top t.frames).identity) }
 {
     u32::from(cpu.critical[usize::from(cpu.regs.slot)]) == cpu.regs.f - cpu.regs.bosr
 }

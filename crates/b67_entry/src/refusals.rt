@@ -18,7 +18,7 @@ fn reference_refusal(cpu: &Cpu, word: Word) -> Option<Fault>
     requires run { (r : RunsSome cpu.now) × (v : Words.Word) × IsTopWord r.storage r.plan r.member r.task cpu.now v word }
     requires tag { word.tag ≡ 1 }
     ensures { ForEach cpu.now (λ x plan s m t. (v : Words.Word) → IsTopWord x plan m t cpu.now v word
-        → Refuses result v (rows.returnable m.course.job (top t.frames).identity v)) }
+        → Refuses result v (rows.returnable m.progress.job (top t.frames).identity v)) }
 {
     match Sirw::from_word(word) {
         None => Some(Fault::InvalidOperand),
@@ -40,7 +40,7 @@ fn copy_refusal(cpu: &Cpu, word: Word) -> Option<Fault>
     requires run { (r : RunsSome cpu.now) × (v : Words.Word) × IsTopWord r.storage r.plan r.member r.task cpu.now v word }
     requires tag { word.tag ≡ 5 }
     ensures { ForEach cpu.now (λ x plan s m t. (v : Words.Word) → IsTopWord x plan m t cpu.now v word
-        → Refuses result v (rows.returnable m.course.job (top t.frames).identity v)) }
+        → Refuses result v (rows.returnable m.progress.job (top t.frames).identity v)) }
 {
     let d = match DataDesc::from_word(word) {
         Some(d) => d,
@@ -63,7 +63,7 @@ fn copy_refusal(cpu: &Cpu, word: Word) -> Option<Fault>
 pub fn refusal(cpu: &Cpu, word: Word) -> Option<Fault>
     requires { (r : RunsSome cpu.now) × (v : Words.Word) × IsTopWord r.storage r.plan r.member r.task cpu.now v word }
     ensures { ForEach cpu.now (λ x plan s m t. (v : Words.Word) → IsTopWord x plan m t cpu.now v word
-        → Refuses result v (rows.returnable m.course.job (top t.frames).identity v)) }
+        → Refuses result v (rows.returnable m.progress.job (top t.frames).identity v)) }
 {
     if word.tag() == 1 {
         return reference_refusal(cpu, word);

@@ -6,16 +6,16 @@ ghost use Rattle.b67_model.specs.Words as Words;
 ghost use Rattle.b67_model.specs.Entry as rows;
 ghost use Rattle.b67_stack.specs.declared.Step.TheVariants.{Done};
 ghost use Rattle.b67_layout.specs.Meets.{RunsSome, ForEach, Meets, here};
-ghost use Rattle.b67_refer.specs.Scene.{Scene, IsShown};
+ghost use Rattle.b67_refer.specs.RunningContext.{RunningContext, IsShown};
 ghost use Rattle.b67_entry.specs.Left.{Returns, caller_regs, caller_stack, here_left};
 ghost use Rattle.b67_entry.specs.Returned.{ReturnsWord, with_word};
 
-use b67_ctl::Regs;
-use b67_exec_cells::element;
-use b67_entry_enter::accident_on;
 use crate::leave::{caller, is_critical};
-use b67_refer::{End, chase, rebuild};
 use crate::refusals::refusal;
+use b67_ctl::Regs;
+use b67_entry_enter::accident_on;
+use b67_exec_cells::element;
+use b67_refer::{End, chase, rebuild};
 use b67_stack::{Cpu, Step, What};
 use b67_word::{Fault, Word};
 
@@ -24,18 +24,16 @@ fn put(cpu: &mut Cpu, regs: Regs, display: [u32; 32], word: Word)
     requires { regs.s + 1 < length cpu.old.core }
     ensures { cpu.new ≡ with_word cpu.old regs display word }
 {
-    let _size = cpu.core.size();
-    let top = regs.s + 1;
-    cpu.core.set(top, word);
-    cpu.regs = Regs { s: top, ..regs };
+    cpu.regs = regs;
     cpu.display = display;
+    cpu.put(word);
 }
 
 /// Evaluates the word that is returned to a caller who wants a value, in the state without the top activation record.
 fn evaluate(cpu: &mut Cpu, regs: Regs, display: [u32; 32], word: Word) -> Step
     requires run { (r : RunsSome cpu.old) × (a : Returns r.member r.task) × (v : Words.Word) × ReturnsWord r.storage r.plan r.member r.task cpu.old a v word
         × (regs ≡ caller_regs cpu.old.regs (caller_stack r.plan r.member r.task a) a.back) }
-    requires shown { (b : Scene cpu.old.core regs) → IsShown b display }
+    requires shown { (b : RunningContext cpu.old.core regs) → IsShown b display }
     requires tag { word.tag ≢ 0 }
     ensures row { ForEach cpu.old (λ x plan s m t. (a : Returns m t) (v : Words.Word) → ReturnsWord x plan m t cpu.old a v word
         → regs ≡ caller_regs cpu.old.regs (caller_stack plan m t a) a.back

@@ -17,11 +17,11 @@ use Rattle.b67_model.specs.Entry.{enters}
 use Rattle.b67_model.specs.InOrder.{is_original_of}
 use Rattle.b67_stack.specs.declared.Cpu.{Cpu}
 use Rattle.b67_stack.specs.Shapes as Shapes
-use Rattle.b67_stack.specs.Stacks.{Spot, top_mark}
-use Rattle.b67_layout.specs.Plan.{Plan}
+use Rattle.b67_stack.specs.Stacks.{StackPlace, top_mark}
+use Rattle.b67_layout.specs.Placement.{Placement}
 use Rattle.b67_layout.specs.Layout.{shape, stack_of_task}
 use Rattle.b67_layout.specs.Meets.{IsMade, here}
-use Rattle.b67_refer.specs.Scene.{Scene, IsShown}
+use Rattle.b67_refer.specs.RunningContext.{RunningContext, IsShown}
 use Rattle.b67_layout_enter.proofs.Enters.{IsMarkedWith}
 use Rattle.b67_refer.specs.declared.activation.Activation.{Activation}
 use Rattle.b67_refer.specs.Ends.{IsReference}
@@ -41,7 +41,7 @@ plain_reference (Proc segment level place) is n = absurd is
 plain_reference (Intrinsic k) is n = absurd is
 plain_reference (Words.Segment k) is n = absurd is
 
-pub plain_shape : (plan : Plan) (j : ℕ) (job : Job) (spot : ℕ → Spot) (w : Word) → IsReference w → (home : ℕ) → shape plan j job spot w ≢ Shapes.Original home
+pub plain_shape : (plan : Placement) (j : ℕ) (job : Job) (spot : ℕ → StackPlace) (w : Word) → IsReference w → (home : ℕ) → shape plan j job spot w ≢ Shapes.Original home
 plain_shape plan j job spot (Name couple) is home = λ e. cc
 plain_shape plan j job spot (Ref f offset) is home = λ e. cc
 plain_shape plan j job spot (Operand bits) is home = absurd is
@@ -52,7 +52,7 @@ plain_shape plan j job spot (Proc segment level place) is home = absurd is
 plain_shape plan j job spot (Intrinsic k) is home = absurd is
 plain_shape plan j job spot (Words.Segment k) is home = absurd is
 
-module _ (cpu : Cpu) (a : Scene cpu.core cpu.regs) (q : Place) (good : IsPlace q) (at f segment level : ℕ) (place : Place) (reference : Word) (arguments : List Word) (e : ReachesProc cpu a q at f segment level place) (w : Calls a.task reference arguments) where
+module _ (cpu : Cpu) (a : RunningContext cpu.core cpu.regs) (q : Place) (good : IsPlace q) (at f segment level : ℕ) (place : Place) (reference : Word) (arguments : List Word) (e : ReachesProc cpu a q at f segment level place) (w : Calls a.task reference arguments) where
   pub with : IsMarkedWith a.task.frames reference (reverse arguments)
   with = record { some = w.some; marked = w.marked; cells = w.cells }
 
@@ -68,7 +68,7 @@ module _ (cpu : Cpu) (a : Scene cpu.core cpu.regs) (q : Place) (good : IsPlace q
     env_disp = (environment cpu cpu.regs a q at f segment level place e.procedure).disp;
     value = false;
     level = level;
-    back = (top_mark cpu.regs.slot (stack_of_task a.plan a.member.setting.number a.member.course.job a.plan.running a.task)).back;
+    back = (top_mark cpu.regs.slot (stack_of_task a.plan a.member.constants.number a.member.progress.job a.plan.running a.task)).back;
   }
 
   abbrev pub caller : Rcw
@@ -86,7 +86,7 @@ module _ (cpu : Cpu) (a : Scene cpu.core cpu.regs) (q : Place) (good : IsPlace q
 
   -- the mark of these readings
   pub mark_is : (env : Activation) (p : Pcw) (t : Mscw) → env ≡ environment cpu cpu.regs a q at f segment level place e.procedure → p ≡ pcw cpu cpu.regs a q at f segment level place e.procedure
-      → t ≡ top_mark cpu.regs.slot (stack_of_task a.plan a.member.setting.number a.member.course.job a.plan.running a.task) → (k : Mscw)
+      → t ≡ top_mark cpu.regs.slot (stack_of_task a.plan a.member.constants.number a.member.progress.job a.plan.running a.task) → (k : Mscw)
       → k ≡ record { far = not (env.stack == cpu.regs.slot); entered = true; env_stack = env.stack; env_disp = env.disp; value = false; level = p.level; back = t.back } → k ≡ mark
   mark_is env p t ee ep et k ek =
       ek ∙ ap (λ (z : Activation). let y : Mscw = record { far = not (z.stack == cpu.regs.slot); entered = true; env_stack = z.stack; env_disp = z.disp; value = false; level = p.level; back = t.back } in y) ee
@@ -106,21 +106,21 @@ module _ (cpu : Cpu) (a : Scene cpu.core cpu.regs) (q : Place) (good : IsPlace q
   refused ne = Entering.refused a.storage cpu a.plan a.session a.member a.task q e.ordered e.stands a.running f segment level place e.procedure.cell.names e.procedure.own (high cpu cpu.regs a q at f segment level place e.procedure) (starts cpu cpu.regs a q at f segment level place e.procedure) good reference arguments with (plain_reference reference w.refers) ne
 
   module _ (test : level_of_frame (frame (here a.member a.task q) f) + 1 ≡ level) where
-    abbrev pub scene_after : Scene core_after (regs_with (pcw cpu cpu.regs a q at f segment level place e.procedure))
-    scene_after = Entering.scene_after a.storage cpu a.plan a.session a.member a.task q e.ordered e.stands a.running f segment level place e.procedure.cell.names e.procedure.own (high cpu cpu.regs a q at f segment level place e.procedure) (starts cpu cpu.regs a q at f segment level place e.procedure) good reference arguments with (plain_reference reference w.refers) test (plain_shape a.plan a.member.setting.number a.member.course.job _ reference w.refers)
+    abbrev pub scene_after : RunningContext core_after (regs_with (pcw cpu cpu.regs a q at f segment level place e.procedure))
+    scene_after = Entering.scene_after a.storage cpu a.plan a.session a.member a.task q e.ordered e.stands a.running f segment level place e.procedure.cell.names e.procedure.own (high cpu cpu.regs a q at f segment level place e.procedure) (starts cpu cpu.regs a q at f segment level place e.procedure) good reference arguments with (plain_reference reference w.refers) test (plain_shape a.plan a.member.constants.number a.member.progress.job _ reference w.refers)
 
-    pub scene_with : (core : List Tagged) (p : Pcw) → core ≡ core_after → p ≡ pcw cpu cpu.regs a q at f segment level place e.procedure → Scene core (regs_with p)
-    scene_with core p ec ep = subst (λ (k : List Tagged). Scene k (regs_with p)) (sym ec) (subst (λ (z : Pcw). Scene core_after (regs_with z)) (sym ep) scene_after)
+    pub scene_with : (core : List Tagged) (p : Pcw) → core ≡ core_after → p ≡ pcw cpu cpu.regs a q at f segment level place e.procedure → RunningContext core (regs_with p)
+    scene_with core p ec ep = subst (λ (k : List Tagged). RunningContext k (regs_with p)) (sym ec) (subst (λ (z : Pcw). RunningContext core_after (regs_with z)) (sym ep) scene_after)
 
     pub done : (core : List Tagged) (p : Pcw) (new : Cpu) → core ≡ core_after → p ≡ pcw cpu cpu.regs a q at f segment level place e.procedure → new ≡ record { core = core; regs = regs_with p; display = new.display; critical = cpu.critical }
-        → ((b : Scene core (regs_with p)) → IsShown b new.display)
+        → ((b : RunningContext core (regs_with p)) → IsShown b new.display)
         → IsMade a.storage a.plan a.session a.member cpu new (enters (here a.member a.task q) arguments (AtProc f segment level place))
     done core p new ec ep en shown =
         let d = new.display in
         let p0 = pcw cpu cpu.regs a q at f segment level place e.procedure in
-        let D : List Tagged → Pcw → Type 0 = λ k z. (b : Scene k (regs_with z)) → IsShown b d in
+        let D : List Tagged → Pcw → Type 0 = λ k z. (b : RunningContext k (regs_with z)) → IsShown b d in
         let seen : IsShown scene_after d = subst (λ (z : Pcw). D core_after z) ep (subst (λ (k : List Tagged). D k p) ec shown) scene_after in
-        let made = Entering.done a.storage cpu a.plan a.session a.member a.task q e.ordered e.stands a.running f segment level place e.procedure.cell.names e.procedure.own (high cpu cpu.regs a q at f segment level place e.procedure) (starts cpu cpu.regs a q at f segment level place e.procedure) good reference arguments with (plain_reference reference w.refers) test (plain_shape a.plan a.member.setting.number a.member.course.job _ reference w.refers) d seen in
+        let made = Entering.done a.storage cpu a.plan a.session a.member a.task q e.ordered e.stands a.running f segment level place e.procedure.cell.names e.procedure.own (high cpu cpu.regs a q at f segment level place e.procedure) (starts cpu cpu.regs a q at f segment level place e.procedure) good reference arguments with (plain_reference reference w.refers) test (plain_shape a.plan a.member.constants.number a.member.progress.job _ reference w.refers) d seen in
         let is : new ≡ record { core = core_after; regs = regs_with p0; display = d; critical = cpu.critical } =
         en ∙ ap (λ (k : List Tagged). let z : Cpu = record { core = k; regs = regs_with p; display = d; critical = cpu.critical } in z) ec ∙ ap (λ (y : Pcw). let z : Cpu = record { core = core_after; regs = regs_with y; display = d; critical = cpu.critical } in z) ep in
         subst (λ (z : Cpu). IsMade a.storage a.plan a.session a.member cpu z (enters (here a.member a.task q) arguments (AtProc f segment level place))) (sym is) made

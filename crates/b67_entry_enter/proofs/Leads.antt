@@ -7,32 +7,33 @@ use Rattle.b67_word.specs.declared.faults.Fault.TheVariants.{InvalidOperand}
 use Rattle.b67_ctl.specs.declared.registers.Regs.{Regs}
 use Rattle.b67_model.specs.Answers.{Answer, ◌>>=◌}
 use Rattle.b67_model.specs.Words.{Word}
-use Rattle.b67_model.specs.State.{Member, Here}
+use Rattle.b67_model.specs.State.{SessionJob, OperatorContext}
 use Rattle.b67_model.specs.Chase as Chase
 use Rattle.b67_model.specs.Chase.{AtCell, AtElement, AtArray, AtProc, AtIntrinsic}
 use Rattle.b67_model.specs.Steps.{Done}
 use Rattle.b67_model.specs.Rows.{entr_at}
 use Rattle.b67_model.specs.Schedule.{Session}
+use Rattle.b67_model.specs.Called.{called_at}
 use Rattle.b67_stack.specs.declared.Cpu.{Cpu}
 use Rattle.b67_stack.specs.declared.Step.{Step}
 use Rattle.b67_stack.specs.declared.Step.TheVariants as step
-use Rattle.b67_stack.specs.Stands.{Storage}
-use Rattle.b67_layout.specs.Plan.{Plan}
+use Rattle.b67_stack.specs.Represents.{Storage}
+use Rattle.b67_layout.specs.Placement.{Placement}
 use Rattle.b67_layout.specs.Meets.{Meets}
-use Rattle.b67_refer.specs.Scene.{Scene}
+use Rattle.b67_refer.specs.RunningContext.{RunningContext}
 use Rattle.b67_refer.specs.declared.ends.End.TheVariants as end
 use Rattle.b67_refer.specs.Ends.{EndMeets, IsProcAt}
-use Rattle.b67_entry_enter.specs.Procedures.{called_at, CallsOrMeets}
+use Rattle.b67_entry_enter.specs.Procedures.{CallsOrMeets}
 
 -- the answer and the call, where both are known
-pub meets_plain : (x : Storage) (plan : Plan) (s : Session) (m : Member) (answered : Step) (old new : Cpu) (call : Option ℕ) (answer is : Answer Done) → call ≡ None → answer ≡ is → Meets x plan s m answered old new is → CallsOrMeets x plan s m answered old new call answer
+pub meets_plain : (x : Storage) (plan : Placement) (s : Session) (m : SessionJob) (answered : Step) (old new : Cpu) (call : Option ℕ) (answer is : Answer Done) → call ≡ None → answer ≡ is → Meets x plan s m answered old new is → CallsOrMeets x plan s m answered old new call answer
 meets_plain x plan s m answered old new call answer is none same made =
     subst (λ (c : Option ℕ). CallsOrMeets x plan s m answered old new c answer) (sym none) (subst (λ (w : Answer Done). Meets x plan s m answered old new w) (sym same) made)
 
-pub meets_fault : (x : Storage) (plan : Plan) (s : Session) (m : Member) (fault : Fault) (old new : Cpu) (call : Option ℕ) (answer : Answer Done) → (answer ≡ Err fault) × (call ≡ None) → new ≡ old → CallsOrMeets x plan s m (step.Fault fault) old new call answer
+pub meets_fault : (x : Storage) (plan : Placement) (s : Session) (m : SessionJob) (fault : Fault) (old new : Cpu) (call : Option ℕ) (answer : Answer Done) → (answer ≡ Err fault) × (call ≡ None) → new ≡ old → CallsOrMeets x plan s m (step.Fault fault) old new call answer
 meets_fault x plan s m fault old new call answer is same = meets_plain x plan s m (step.Fault fault) old new call answer (Err fault) is.1 is.0 (refl, same)
 
-module _ {core : List Tagged} {r : Regs} (a : Scene core r) (q : Place) where
+module _ {core : List Tagged} {r : Regs} (a : RunningContext core r) (q : Place) where
   -- a procedure was found
   pub record ProcFound (at : ℕ) (answer : Answer Chase.End) : Type 0 where
     pub f : ℕ
@@ -63,10 +64,10 @@ module _ {core : List Tagged} {r : Regs} (a : Scene core r) (q : Place) where
   fault_found fault (Ok end) e = absurd e
 
   -- other ends aren't entered
-  abbrev pub NotEntered : Here → List Word → Answer Chase.End → Type 0
+  abbrev pub NotEntered : OperatorContext → List Word → Answer Chase.End → Type 0
   NotEntered h arguments answer = ((answer >>= entr_at h arguments) ≡ Err InvalidOperand) × (called_at answer ≡ None)
 
-  pub cell_found : (h : Here) (arguments : List Word) (at : ℕ) (answer : Answer Chase.End) → EndMeets a q (Ok (end.Cell at)) answer → NotEntered h arguments answer
+  pub cell_found : (h : OperatorContext) (arguments : List Word) (at : ℕ) (answer : Answer Chase.End) → EndMeets a q (Ok (end.Cell at)) answer → NotEntered h arguments answer
   cell_found h arguments at (Ok (AtCell f offset bits)) e = (refl, refl)
   cell_found h arguments at (Ok (AtElement array index)) e = absurd e
   cell_found h arguments at (Ok (AtArray array)) e = absurd e
@@ -74,7 +75,7 @@ module _ {core : List Tagged} {r : Regs} (a : Scene core r) (q : Place) where
   cell_found h arguments at (Ok (AtIntrinsic n)) e = absurd e
   cell_found h arguments at (Err fault) e = absurd e
 
-  pub element_found : (h : Here) (arguments : List Word) (original index : ℕ) (answer : Answer Chase.End) → EndMeets a q (Ok (end.Element original index)) answer → NotEntered h arguments answer
+  pub element_found : (h : OperatorContext) (arguments : List Word) (original index : ℕ) (answer : Answer Chase.End) → EndMeets a q (Ok (end.Element original index)) answer → NotEntered h arguments answer
   element_found h arguments original index (Ok (AtElement array i)) e = (refl, refl)
   element_found h arguments original index (Ok (AtCell f offset bits)) e = absurd e
   element_found h arguments original index (Ok (AtArray array)) e = absurd e
@@ -82,7 +83,7 @@ module _ {core : List Tagged} {r : Regs} (a : Scene core r) (q : Place) where
   element_found h arguments original index (Ok (AtIntrinsic n)) e = absurd e
   element_found h arguments original index (Err fault) e = absurd e
 
-  pub array_found : (h : Here) (arguments : List Word) (original : ℕ) (answer : Answer Chase.End) → EndMeets a q (Ok (end.Array original)) answer → NotEntered h arguments answer
+  pub array_found : (h : OperatorContext) (arguments : List Word) (original : ℕ) (answer : Answer Chase.End) → EndMeets a q (Ok (end.Array original)) answer → NotEntered h arguments answer
   array_found h arguments original (Ok (AtArray array)) e = (refl, refl)
   array_found h arguments original (Ok (AtCell f offset bits)) e = absurd e
   array_found h arguments original (Ok (AtElement array index)) e = absurd e

@@ -5,64 +5,64 @@ use Rattle.b67_word.specs.declared.couples.Place.{Place}
 use Rattle.b67_word.specs.declared.faults.Fault.TheVariants.{StackOverflow}
 use Rattle.b67_ctl.specs.Layout.{mscw_word}
 use Rattle.b67_core.proofs.Writes.{slice_get-set_other}
-use Rattle.b67_model.specs.State.{Task, Member, height}
+use Rattle.b67_model.specs.State.{Task, SessionJob, height}
 use Rattle.b67_model.specs.Entry.{mkst}
 use Rattle.b67_model.specs.Run.{number_of}
 use Rattle.b67_model.specs.Schedule.{Session}
 use Rattle.b67_model.specs.InOrder.{IsInOrderButPlaces}
 use Rattle.b67_stack.specs.declared.Cpu.{Cpu}
-use Rattle.b67_stack.specs.Picture.{Thing, RunsOn, Settled}
-use Rattle.b67_stack.specs.Stands.{Storage, Stands}
+use Rattle.b67_stack.specs.MachineView.{PagedObject, RunsOn, NoOriginalAboveTop}
+use Rattle.b67_stack.specs.Represents.{Storage, Represents}
 use Rattle.b67_stack.specs.Changes.{marked, new_mark, with_stack}
 use Rattle.b67_stack.proofs.Slots.{running_slot}
-use Rattle.b67_stack.proofs.Pushes.{Room, room_of, Stands-marked}
-use Rattle.b67_layout.specs.Plan.{Plan}
-use Rattle.b67_layout.specs.Layout.{picture, stack_of_task}
+use Rattle.b67_stack.proofs.Pushes.{Room, room_of, Represents-marked}
+use Rattle.b67_layout.specs.Placement.{Placement}
+use Rattle.b67_layout.specs.Layout.{machine_view, stack_of_task}
 use Rattle.b67_layout.specs.Meets.{IsMade, here, with_job}
-use Rattle.b67_layout.specs.Session.{IsRunning, SessionStands, SessionStandsBut}
-use Rattle.b67_layout.proofs.Others.{keyed-has}
+use Rattle.b67_layout.specs.Session.{IsRunning, RepresentsSession, RepresentsSessionBut}
 use Rattle.b67_layout.proofs.Starts.{slot_is, runs_here}
 use Rattle.b67_layout.proofs.Settles.{Settled-more}
-use Rattle.b67_layout.proofs.Gone.{no_things_gone}
+use Rattle.b67_layout.proofs.Gone.{no_objects_gone}
 use Rattle.b67_layout.proofs.Fresh.{job_in_order}
-use Rattle.b67_layout_enter.proofs.Marks.{job_marked, SessionStands-mark}
+use Rattle.b67_layout_enter.proofs.Marks.{job_marked, RepresentsSession-mark}
 use Rattle.b67_layout_enter.proofs.Rooms.{height_room, written}
+use Rattle.b67_lemmas.proofs.Members.{keyed-has}
 
 -- the machine after it
 abbrev pub marked_at : Cpu → Place → Cpu
 marked_at cpu q = record (marked cpu) { regs = record (marked cpu).regs { place = q } }
 
-module _ (x : Storage) (old : Cpu) (plan : Plan) (s : Session) (m : Member) (t : Task) (q : Place) (o : IsInOrderButPlaces s) (h : SessionStands x old plan s) (runs : IsRunning plan s.jobs m t) where
+module _ (x : Storage) (old : Cpu) (plan : Placement) (s : Session) (m : SessionJob) (t : Task) (q : Place) (o : IsInOrderButPlaces s) (h : RepresentsSession x old plan s) (runs : IsRunning plan s.jobs m t) where
   pub mkst_full : old.regs.s ≡ old.regs.losr → mkst (here m t q) ≡ Err StackOverflow
-  mkst_full full = rw (lt-leb (height t.frames + 1) m.setting.stack_size (omega (arith, full, height_room [] x old.core old.regs old.critical plan s m t h.holds runs))) refl
+  mkst_full full = rw (lt-leb (height t.frames + 1) m.constants.stack_size (omega (arith, full, height_room [] x old.core old.regs old.critical plan s m t h.holds runs))) refl
 
   pub mkst_done : old.regs.s ≢ old.regs.losr → IsMade x plan s m old (marked_at old q) (mkst (here m t q))
   mkst_done room =
       let new = marked_at old q in
-      let in_m = keyed-has number_of m.setting.number s.jobs m runs.member in
-      let job = job_marked m.course.job t q in
+      let in_m = keyed-has number_of m.constants.number s.jobs m runs.member in
+      let job = job_marked m.progress.job t q in
       let g = job_in_order s m o in_m in
-      let p = picture plan s.jobs in
+      let p = machine_view plan s.jobs in
       let k = old.regs.slot in
-      let stack = stack_of_task plan m.setting.number m.course.job plan.running t in
+      let stack = stack_of_task plan m.constants.number m.progress.job plan.running t in
       let on : RunsOn p k stack = runs_here x old plan s m t h runs in
       let r : Room x old.core old.regs p k stack = room_of x old.core old.regs p k stack h.holds.memory on in
       let word = mscw_word (record { far = false; entered = false; env_stack = 0; env_disp = 0; value = false; level = 0; back = old.regs.s + 1 - old.regs.f }) in
-      let stands = Stands-marked x old.core old.regs p k stack word q refl h.holds.memory on h.holds.settled room in
+      let stands = Represents-marked x old.core old.regs p k stack word q refl h.holds.memory on h.holds.settled room in
       let settled = Settled-more p k stack (new_mark ∷ stack) on (omega arith) h.holds.settled in
       let is_k = slot_is x old plan s m t h runs in
       let top = running_slot x old.core old.regs p k stack h.holds.memory on in
-      let P : ℕ → Type 0 = λ n. Stands x new.core new.regs (with_stack p n (new_mark ∷ stack)) in
-      let Q : ℕ → Type 0 = λ n. Settled (with_stack p n (new_mark ∷ stack)) in
-      let made : SessionStands x new plan (with_job s m job) = SessionStands-mark x old new plan s m t q h runs g.unchanging g.tasks
+      let P : ℕ → Type 0 = λ n. Represents x new.core new.regs (with_stack p n (new_mark ∷ stack)) in
+      let Q : ℕ → Type 0 = λ n. NoOriginalAboveTop (with_stack p n (new_mark ∷ stack)) in
+      let made : RepresentsSession x new plan (with_job s m job) = RepresentsSession-mark x old new plan s m t q h runs g.unchanging g.tasks
       (λ i low. slice_get-set_other old.core (old.regs.s + 1) i word (λ z. omega (arith, z, low, r.mark, r.top, top.first)))
       (record { slot = refl; dict = refl; entries = refl; segment = refl; place = refl }) refl refl (subst P is_k stands) (subst Q is_k settled) in
-      let L : List Thing → Type 0 = λ left. SessionStandsBut left x new plan (with_job s m job) in
+      let L : List PagedObject → Type 0 = λ left. RepresentsSessionBut left x new plan (with_job s m job) in
       record {
         job = job;
         touched = None;
-        is = rw (le-leb (height t.frames + 1) m.setting.stack_size (omega (arith, room, r.last, height_room [] x old.core old.regs old.critical plan s m t h.holds runs))) refl;
+        is = rw (le-leb (height t.frames + 1) m.constants.stack_size (omega (arith, room, r.last, height_room [] x old.core old.regs old.critical plan s m t h.holds runs))) refl;
         present = tt;
-        stands = subst L (sym (no_things_gone plan m job refl)) made;
+        stands = subst L (sym (no_objects_gone plan m job refl)) made;
         changed = λ i. ⊎_elim (λ e. inl e) (λ e. inr (inl e)) (written old.core old.regs (old.regs.s + 1) word (omega (arith, r.mark, r.top), omega (arith, r.last, room)) i);
       }

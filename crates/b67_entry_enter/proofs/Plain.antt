@@ -9,27 +9,27 @@ use Rattle.b67_model.specs.InOrder.{IsInOrderButPlaces}
 use Rattle.b67_stack.specs.declared.Cpu.{Cpu}
 use Rattle.b67_stack.specs.declared.Step.{Step}
 use Rattle.b67_stack.specs.declared.Step.TheVariants as step
-use Rattle.b67_stack.specs.Picture.{Thing}
-use Rattle.b67_layout.specs.Layout.{picture, stack_of_task}
+use Rattle.b67_stack.specs.MachineView.{PagedObject}
+use Rattle.b67_layout.specs.Layout.{machine_view, stack_of_task}
 use Rattle.b67_layout.specs.Meets.{IsMade, Meets, with_job}
-use Rattle.b67_layout.specs.Session.{SessionStands, SessionStandsBut}
-use Rattle.b67_layout.proofs.Gone.{no_things_gone}
+use Rattle.b67_layout.specs.Session.{RepresentsSession, RepresentsSessionBut}
+use Rattle.b67_layout.proofs.Gone.{no_objects_gone}
 use Rattle.b67_layout.proofs.Starts.{runs_here}
-use Rattle.b67_refer.specs.Scene.{Scene}
+use Rattle.b67_refer.specs.RunningContext.{RunningContext}
 use Rattle.b67_refer.proofs.Scenes.{scene}
 use Rattle.b67_layout_enter.proofs.Heads.{clear_settled}
 use Rattle.b67_entry_enter.specs.Procedures.{ReachesProc, CanEnter, IsEntered, EntersOrFaults}
 
-module _ (cpu : Cpu) (a : Scene cpu.core cpu.regs) where
+module _ (cpu : Cpu) (a : RunningContext cpu.core cpu.regs) where
   -- the scene with nothing to release
-  abbrev pub plain_scene : IsInOrderButPlaces a.session → SessionStands a.storage cpu a.plan a.session → Scene cpu.core cpu.regs
+  abbrev pub plain_scene : IsInOrderButPlaces a.session → RepresentsSession a.storage cpu a.plan a.session → RunningContext cpu.core cpu.regs
   plain_scene o h = scene [] a.storage cpu.core cpu.regs cpu.critical a.plan a.session a.member a.task o h.holds a.running
 
-module _ (cpu : Cpu) (a : Scene cpu.core cpu.regs) (q : Place) (at f segment level : ℕ) (place : Place) (e : ReachesProc cpu a q at f segment level place) where
+module _ (cpu : Cpu) (a : RunningContext cpu.core cpu.regs) (q : Place) (at f segment level : ℕ) (place : Place) (e : ReachesProc cpu a q at f segment level place) where
   pub plain_enters : CanEnter cpu cpu.regs (plain_scene cpu a e.ordered e.stands) q at f segment level place
   plain_enters = record {
     marks = refl;
-    clear = λ room. clear_settled a.storage cpu.core cpu.regs (picture a.plan a.session.jobs) cpu.regs.slot (stack_of_task a.plan a.member.setting.number a.member.course.job a.plan.running a.task) e.stands.holds.memory (runs_here a.storage cpu a.plan a.session a.member a.task e.stands a.running) room e.stands.holds.settled;
+    clear = λ room. clear_settled a.storage cpu.core cpu.regs (machine_view a.plan a.session.jobs) cpu.regs.slot (stack_of_task a.plan a.member.constants.number a.member.progress.job a.plan.running a.task) e.stands.holds.memory (runs_here a.storage cpu a.plan a.session a.member a.task e.stands a.running) room e.stands.holds.settled;
     procedure = record {
       own = e.procedure.own;
       offset = e.procedure.offset;
@@ -39,13 +39,13 @@ module _ (cpu : Cpu) (a : Scene cpu.core cpu.regs) (q : Place) (at f segment lev
 
   made : (new : Cpu) (answer : Answer Done) → IsEntered (plain_scene cpu a e.ordered e.stands) new answer → IsMade a.storage a.plan a.session a.member cpu new answer
   made new answer d =
-      let L : List Thing → Type 0 = λ left. SessionStandsBut left a.storage new a.plan (with_job a.session a.member d.job) in
+      let L : List PagedObject → Type 0 = λ left. RepresentsSessionBut left a.storage new a.plan (with_job a.session a.member d.job) in
       record {
         job = d.job;
         touched = None;
         is = d.is;
         present = tt;
-        stands = subst L (sym (no_things_gone a.plan a.member d.job (ap (map (λ (b : Array). b.identity)) d.arrays))) d.stands;
+        stands = subst L (sym (no_objects_gone a.plan a.member d.job (ap (map (λ (b : Array). b.identity)) d.arrays))) d.stands;
         changed = λ i. ⊎_elim
             (λ (z : i ≡ cpu.regs.s + 1). inr (inl (omega (arith, z, d.low), omega (arith, z, d.room))))
             (λ n. ⊎_elim

@@ -16,34 +16,34 @@ use Rattle.b67_model.specs.Steps.{cells_of}
 use Rattle.b67_model.specs.Entry.{accident, back_to}
 use Rattle.b67_model.specs.InOrder.{IsSegment}
 use Rattle.b67_stack.specs.declared.Cpu.{Cpu}
-use Rattle.b67_layout.specs.Plan.{spots}
+use Rattle.b67_layout.specs.Placement.{spots}
 use Rattle.b67_layout.specs.Meets.{here}
-use Rattle.b67_layout.specs.Layout.{picture, stack_of_task}
+use Rattle.b67_layout.specs.Layout.{machine_view, stack_of_task}
 use Rattle.b67_stack.proofs.Pushes.{Room, room_of}
-use Rattle.b67_layout.specs.Session.{with_things}
-use Rattle.b67_stack.specs.Picture.{RunsOn}
+use Rattle.b67_layout.specs.Session.{with_objects}
+use Rattle.b67_stack.specs.MachineView.{RunsOn}
 use Rattle.b67_layout_enter.proofs.Heads.{IsClear}
 use Rattle.b67_layout_enter.proofs.Accidents as Accidents
 use Rattle.b67_refer.specs.Ends.{IsProcAt}
-use Rattle.b67_refer.specs.Scene.{Scene, IsShown}
+use Rattle.b67_refer.specs.RunningContext.{RunningContext, IsShown}
 use Rattle.b67_refer.specs.declared.activation.Activation.{Activation}
 use Rattle.b67_entry_enter.specs.Procedures.{IsEntered}
 use Rattle.b67_entry_enter.proofs.Sites.{site}
 use Rattle.b67_entry_enter.proofs.Accidental as Accidental
 use Rattle.b67_entry_enter.proofs.Segments.{few_segments}
 
-module _ (cpu : Cpu) (r : Regs) (a : Scene cpu.core r) (q : Place) (at f segment level : ℕ) (place : Place) (e : IsProcAt a q at f segment level place) where
+module _ (cpu : Cpu) (r : Regs) (a : RunningContext cpu.core r) (q : Place) (at f segment level : ℕ) (place : Place) (e : IsProcAt a q at f segment level place) where
   abbrev pub pcw : Pcw
   pcw = record { place = place; level = level; segment = segment + 1 }
 
   abbrev pub environment : Activation
   environment = record {
-    stack = (spots a.plan a.member.setting.number a.member.course.job a.task f).stack;
-    disp = (spots a.plan a.member.setting.number a.member.course.job a.task f).disp;
+    stack = (spots a.plan a.member.constants.number a.member.progress.job a.task f).stack;
+    disp = (spots a.plan a.member.constants.number a.member.progress.job a.task f).disp;
     level = level_of_frame (frame (here a.member a.task q) f);
   }
 
-  abbrev pub starts : IsSegment a.member.setting segment level place
+  abbrev pub starts : IsSegment a.member.constants segment level place
   starts = e.cell.stands.1.1
 
   abbrev pub high : level ≤ 31
@@ -54,18 +54,18 @@ module _ (cpu : Cpu) (r : Regs) (a : Scene cpu.core r) (q : Place) (at f segment
 
   pub pcw_fits : IsPcw pcw
   pcw_fits =
-      let few = few_segments a.member.setting a.ordered.setting in
+      let few = few_segments a.member.constants a.ordered.constants in
       record { place = record { syllable = starts.syllable_fits; word = starts.word_fits }; level = omega (arith, high); segment = omega (arith, starts.within, few) }
 
   pub level_small : level_of_frame (frame (here a.member a.task q) f) ≤ 31
   level_small = let w = site cpu.core r a q f e.cell.names e.own in omega (arith, w.level, w.high)
 
-  on_stack : RunsOn (with_things a.left (picture a.plan a.session.jobs)) a.plan.running (stack_of_task a.plan a.member.setting.number a.member.course.job a.plan.running a.task)
+  on_stack : RunsOn (with_objects a.left (machine_view a.plan a.session.jobs)) a.plan.running (stack_of_task a.plan a.member.constants.number a.member.progress.job a.plan.running a.task)
   on_stack = Accidents.on_stack a.left a.storage cpu.core r a.marks a.plan a.session a.member a.task a.holds a.running level f (record { value = true; segment = segment; place = place }) (record { stack = 0; disp = 0 })
 
   -- where the stack lies
-  pub rooms : Room a.storage cpu.core r (with_things a.left (picture a.plan a.session.jobs)) a.plan.running (stack_of_task a.plan a.member.setting.number a.member.course.job a.plan.running a.task)
-  rooms = room_of a.storage cpu.core r (with_things a.left (picture a.plan a.session.jobs)) a.plan.running (stack_of_task a.plan a.member.setting.number a.member.course.job a.plan.running a.task) a.holds.memory on_stack
+  pub rooms : Room a.storage cpu.core r (with_objects a.left (machine_view a.plan a.session.jobs)) a.plan.running (stack_of_task a.plan a.member.constants.number a.member.progress.job a.plan.running a.task)
+  rooms = room_of a.storage cpu.core r (with_objects a.left (machine_view a.plan a.session.jobs)) a.plan.running (stack_of_task a.plan a.member.constants.number a.member.progress.job a.plan.running a.task) a.holds.memory on_stack
 
   -- the registers with a procedure's place and level
   abbrev pub regs_with : Pcw → Regs
@@ -107,19 +107,19 @@ module _ (cpu : Cpu) (r : Regs) (a : Scene cpu.core r) (q : Place) (at f segment
       pub full : r.losr < r.s + 2 → accident (here a.member a.task q) (cells_of (here a.member a.task q)) (back_to (here a.member a.task q) value back) (AtProc f segment level place) ≡ Err StackOverflow
       full over = Accidental.full cpu.core r a q f segment level place e.cell.names e.own high starts value back good test over
 
-      module _ (room : r.s + 2 ≤ r.losr) (clear : IsClear r (with_things a.left (picture a.plan a.session.jobs))) where
-        abbrev pub scene_after : Scene core_after (regs_with pcw)
+      module _ (room : r.s + 2 ≤ r.losr) (clear : IsClear r (with_objects a.left (machine_view a.plan a.session.jobs))) where
+        abbrev pub scene_after : RunningContext core_after (regs_with pcw)
         scene_after = Accidental.scene_after cpu.core r a q f segment level place e.cell.names e.own high starts value back good test room clear
 
-        pub scene_with : (core : List Tagged) (p : Pcw) → core ≡ core_after → p ≡ pcw → Scene core (regs_with p)
-        scene_with core p ec ep = subst (λ (k : List Tagged). Scene k (regs_with p)) (sym ec) (subst (λ (z : Pcw). Scene core_after (regs_with z)) (sym ep) scene_after)
+        pub scene_with : (core : List Tagged) (p : Pcw) → core ≡ core_after → p ≡ pcw → RunningContext core (regs_with p)
+        scene_with core p ec ep = subst (λ (k : List Tagged). RunningContext k (regs_with p)) (sym ec) (subst (λ (z : Pcw). RunningContext core_after (regs_with z)) (sym ep) scene_after)
 
         pub done : (core : List Tagged) (p : Pcw) (new : Cpu) → core ≡ core_after → p ≡ pcw → cpu.critical ≡ a.marks → new ≡ record { core = core; regs = regs_with p; display = new.display; critical = cpu.critical }
-            → ((b : Scene core (regs_with p)) → IsShown b new.display)
+            → ((b : RunningContext core (regs_with p)) → IsShown b new.display)
             → IsEntered a new (accident (here a.member a.task q) (cells_of (here a.member a.task q)) (back_to (here a.member a.task q) value back) (AtProc f segment level place))
         done core p new ec ep em en shown =
             let d = new.display in
-            let D : List Tagged → Pcw → Type 0 = λ k z. (b : Scene k (regs_with z)) → IsShown b d in
+            let D : List Tagged → Pcw → Type 0 = λ k z. (b : RunningContext k (regs_with z)) → IsShown b d in
             let seen : IsShown scene_after d = subst (λ (z : Pcw). D core_after z) ep (subst (λ (k : List Tagged). D k p) ec shown) scene_after in
             let made = Accidental.done cpu.core r a q f segment level place e.cell.names e.own high starts value back good test room clear d cpu.critical em seen in
             let is : new ≡ record { core = core_after; regs = regs_with pcw; display = d; critical = cpu.critical } =

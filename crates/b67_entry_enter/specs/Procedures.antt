@@ -6,50 +6,49 @@ use Rattle.b67_ctl.specs.declared.registers.Regs.{Regs}
 use Rattle.b67_model.specs.Answers.{Answer}
 use Rattle.b67_lemmas.specs.Lists.{Has}
 use Rattle.b67_model.specs.Words.{Word}
-use Rattle.b67_model.specs.State.{Standing, Marked, Entered, Task, Job, Member, Here, top}
-use Rattle.b67_model.specs.Chase.{End, AtIntrinsic, follow_reference}
-use Rattle.b67_model.specs.Steps.{Done, Goes, cells_of}
+use Rattle.b67_model.specs.State.{Marked, Task, Job, SessionJob, top}
+use Rattle.b67_model.specs.Steps.{Done, Goes}
 use Rattle.b67_model.specs.InOrder.{IsInOrderButPlaces}
 use Rattle.b67_model.specs.Schedule.{Session}
 use Rattle.b67_stack.specs.declared.Cpu.{Cpu}
 use Rattle.b67_stack.specs.declared.Step.{Step}
 use Rattle.b67_stack.specs.declared.Step.TheVariants as step
-use Rattle.b67_stack.specs.Picture.{Thing}
-use Rattle.b67_stack.specs.Stands.{Storage}
-use Rattle.b67_layout.specs.Plan.{Plan}
-use Rattle.b67_layout.specs.Layout.{picture}
+use Rattle.b67_stack.specs.MachineView.{PagedObject}
+use Rattle.b67_stack.specs.Represents.{Storage}
+use Rattle.b67_layout.specs.Placement.{Placement}
+use Rattle.b67_layout.specs.Layout.{machine_view}
 use Rattle.b67_layout.specs.Meets.{Meets, with_job}
-use Rattle.b67_layout.specs.Session.{SessionStands, SessionStandsBut}
-use Rattle.b67_refer.specs.Scene.{Scene}
+use Rattle.b67_layout.specs.Session.{RepresentsSession, RepresentsSessionBut}
+use Rattle.b67_refer.specs.RunningContext.{RunningContext}
 use Rattle.b67_refer.specs.Ends.{IsProcAt, IsReference}
 
 -- a procedure's cell is reached on these registers, and no original stands on the two words over their top
-pub record CanEnter (cpu : Cpu) (r : Regs) (a : Scene cpu.core r) (q : Place) (at f segment level : ℕ) (place : Place) : Type 0 where
+pub record CanEnter (cpu : Cpu) (r : Regs) (a : RunningContext cpu.core r) (q : Place) (at f segment level : ℕ) (place : Place) : Type 0 where
   pub marks : cpu.critical ≡ a.marks
-  pub clear : r.s + 2 ≤ r.losr → (t : Thing) → Has (a.left ++ (picture a.plan a.session.jobs).things) t → (t.home ≢ r.s + 1) × (t.home ≢ r.s + 2)
+  pub clear : r.s + 2 ≤ r.losr → (t : PagedObject) → Has (a.left ++ (machine_view a.plan a.session.jobs).objects) t → (t.home ≢ r.s + 1) × (t.home ≢ r.s + 2)
   pub procedure : IsProcAt a q at f segment level place
 
 -- the record was entered: the machine stands for what the row makes, but for what was left to release, and the two words
 -- over the top alone have changed
-pub record IsEntered {core : List Tagged} {r : Regs} (a : Scene core r) (new : Cpu) (answer : Answer Done) : Type 0 where
+pub record IsEntered {core : List Tagged} {r : Regs} (a : RunningContext core r) (new : Cpu) (answer : Answer Done) : Type 0 where
   pub job : Job
-  pub arrays : job.arrays ≡ a.member.course.job.arrays
+  pub arrays : job.arrays ≡ a.member.progress.job.arrays
   pub is : answer ≡ Ok (Goes job [] None)
-  pub stands : SessionStandsBut a.left a.storage new a.plan (with_job a.session a.member job)
+  pub stands : RepresentsSessionBut a.left a.storage new a.plan (with_job a.session a.member job)
   pub low : r.bosr < r.s + 1
   pub room : r.s + 2 ≤ r.losr
   pub changed : (i : ℕ) → i ≢ r.s + 1 → i ≢ r.s + 2 → slice_get new.core i ≡ slice_get core i
 
 -- it was entered, or nothing has changed at a fault
-abbrev pub EntersOrFaults : {core : List Tagged} {r : Regs} (a : Scene core r) → Step → Cpu → Cpu → Answer Done → Type 0
+abbrev pub EntersOrFaults : {core : List Tagged} {r : Regs} (a : RunningContext core r) → Step → Cpu → Cpu → Answer Done → Type 0
 EntersOrFaults a step.Done old new answer = IsEntered a new answer
 EntersOrFaults a (step.Fault fault) old new answer = (answer ≡ Err fault) × (new ≡ old)
 EntersOrFaults a _ old new answer = ⊥
 
 -- the machine stands for a session in order, and at an address is a procedure's cell that the running task can reach
-pub record ReachesProc (cpu : Cpu) (a : Scene cpu.core cpu.regs) (q : Place) (at f segment level : ℕ) (place : Place) : Type 0 where
+pub record ReachesProc (cpu : Cpu) (a : RunningContext cpu.core cpu.regs) (q : Place) (at f segment level : ℕ) (place : Place) : Type 0 where
   pub ordered : IsInOrderButPlaces a.session
-  pub stands : SessionStands a.storage cpu a.plan a.session
+  pub stands : RepresentsSession a.storage cpu a.plan a.session
   pub procedure : IsProcAt a q at f segment level place
 
 -- the running task's top frame is marked, and these are its cells: a reference, and arguments
@@ -59,20 +58,7 @@ pub record Calls (t : Task) (reference : Word) (arguments : List Word) : Type 0 
   pub cells : (top t.frames).cells ≡ reverse arguments ++ reference ∷ []
   pub refers : IsReference reference
 
--- the intrinsic that an end, the cells of a mark, and ENTR call, if they call one
-abbrev pub called_at : Answer End → Option ℕ
-called_at (Ok (AtIntrinsic n)) = Some n
-called_at _ = None
-
-abbrev pub called_with : Here → List Word → Option ℕ
-called_with h [] = None
-called_with h (reference ∷ arguments) = called_at (follow_reference h reference)
-
-abbrev pub called : Here → Standing → Option ℕ
-called h (Entered level environment back) = None
-called h Marked = called_with h (reverse (cells_of h))
-
 -- an operator that may call an intrinsic: where it does nothing has changed, else it is made by its row
-abbrev pub CallsOrMeets : Storage → Plan → Session → Member → Step → Cpu → Cpu → Option ℕ → Answer Done → Type 0
+abbrev pub CallsOrMeets : Storage → Placement → Session → SessionJob → Step → Cpu → Cpu → Option ℕ → Answer Done → Type 0
 CallsOrMeets x plan s m answered old new (Some n) answer = (answered ≡ step.Call n) × (new ≡ old)
 CallsOrMeets x plan s m answered old new None answer = Meets x plan s m answered old new answer

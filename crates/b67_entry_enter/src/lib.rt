@@ -7,14 +7,15 @@ ghost use Rattle.b67_ctl.specs.declared.programs.Pcw.{Pcw};
 ghost use Rattle.b67_ctl.specs.declared.registers.Regs.{Regs};
 ghost use Rattle.b67_word.specs.declared.couples.Place.{Place};
 ghost use Rattle.b67_model.specs.Steps.{cells_of, top_of};
+ghost use Rattle.b67_model.specs.Called.{called_on};
 ghost use Rattle.b67_model.specs.Chase.{AtProc};
 ghost use Rattle.b67_model.specs.Entry as rows;
 ghost use Rattle.b67_model.specs.Entry.{back_to};
 ghost use Rattle.b67_model.specs.Rows as operators;
 ghost use Rattle.b67_stack.specs.declared.Step.TheVariants.{Done};
 ghost use Rattle.b67_layout.specs.Meets.{RunsSome, ForEach, Meets, here};
-ghost use Rattle.b67_refer.specs.Scene.{Scene, IsShown};
-ghost use Rattle.b67_entry_enter.specs.Procedures.{ReachesProc, CanEnter, EntersOrFaults, Calls, called, CallsOrMeets};
+ghost use Rattle.b67_refer.specs.RunningContext.{RunningContext, IsShown};
+ghost use Rattle.b67_entry_enter.specs.Procedures.{ReachesProc, CanEnter, EntersOrFaults, Calls, CallsOrMeets};
 ghost use Rattle.b67_model.specs.Words.{Word};
 
 use b67_core::Core;
@@ -65,8 +66,8 @@ fn entered_mark(regs: &Regs, env: Activation, level: u8, value: bool, back: u16)
 
 /// The task goes on at a procedure's first operator, in the environment of its top activation record.
 fn begin(cpu: &mut Cpu, procedure: Pcw)
-    requires { Scene cpu.old.core (record cpu.old.regs { level = procedure.level; segment = procedure.segment; place = procedure.place }) }
-    ensures display { (a : Scene cpu.old.core (record cpu.old.regs { level = procedure.level; segment = procedure.segment; place = procedure.place })) → IsShown a cpu.new.display }
+    requires { RunningContext cpu.old.core (record cpu.old.regs { level = procedure.level; segment = procedure.segment; place = procedure.place }) }
+    ensures display { (a : RunningContext cpu.old.core (record cpu.old.regs { level = procedure.level; segment = procedure.segment; place = procedure.place })) → IsShown a cpu.new.display }
     ensures rest { cpu.new ≡ record cpu.old { regs = record cpu.old.regs { level = procedure.level; segment = procedure.segment; place = procedure.place }; display = cpu.new.display } }
 {
     cpu.regs.level = procedure.level;
@@ -81,10 +82,10 @@ fn begin(cpu: &mut Cpu, procedure: Pcw)
 /// INVALID OPERAND, with nothing changed, where the procedure's level isn't the next one above that of its cell's
 /// activation record.
 fn enter(cpu: &mut Cpu, cell: u32, next: Place) -> Step
-    requires procedure { (a : Scene cpu.old.core cpu.old.regs) × (f : ℕ) × (segment : ℕ) × (level : ℕ) × (place : Place) × (reference : Word) × (arguments : List Word)
+    requires procedure { (a : RunningContext cpu.old.core cpu.old.regs) × (f : ℕ) × (segment : ℕ) × (level : ℕ) × (place : Place) × (reference : Word) × (arguments : List Word)
         × ReachesProc cpu.old a next cell f segment level place × Calls a.task reference arguments }
     requires next { IsPlace next }
-    ensures row { (a : Scene cpu.old.core cpu.old.regs) (f segment level : ℕ) (place : Place) (reference : Word) (arguments : List Word)
+    ensures row { (a : RunningContext cpu.old.core cpu.old.regs) (f segment level : ℕ) (place : Place) (reference : Word) (arguments : List Word)
         → ReachesProc cpu.old a next cell f segment level place → Calls a.task reference arguments
         → Meets a.storage a.plan a.session a.member result cpu.old cpu.new (rows.enters (here a.member a.task next) arguments (AtProc f segment level place)) }
 {
@@ -111,7 +112,7 @@ fn enter(cpu: &mut Cpu, cell: u32, next: Place) -> Step
 pub fn entr(cpu: &mut Cpu, next: Place) -> Step
     requires runs { RunsSome cpu.old }
     requires next { IsPlace next }
-    ensures row { ForEach cpu.old (λ x plan s m t. CallsOrMeets x plan s m result cpu.old cpu.new (called (here m t next) (top_of (here m t next)).standing) (operators.entr (here m t next) (top_of (here m t next)).standing)) }
+    ensures row { ForEach cpu.old (λ x plan s m t. CallsOrMeets x plan s m result cpu.old cpu.new (called_on (here m t next) (top_of (here m t next)).standing) (operators.entr (here m t next) (top_of (here m t next)).standing)) }
 {
     if cpu.top_mark().entered {
         return Step::Fault(Fault::InvalidOperand);
@@ -136,9 +137,9 @@ pub fn entr(cpu: &mut Cpu, next: Place) -> Step
 /// As `accident`, with these registers in place of the machine's. The two words over their top are the new ones, and
 /// nothing above these changes.
 pub fn accident_on(cpu: &mut Cpu, regs: Regs, cell: u32, value: bool, back: Place) -> Step
-    requires procedure { (a : Scene cpu.old.core regs) × (q : Place) × (f : ℕ) × (segment : ℕ) × (level : ℕ) × (place : Place) × CanEnter cpu.old regs a q cell f segment level place }
+    requires procedure { (a : RunningContext cpu.old.core regs) × (q : Place) × (f : ℕ) × (segment : ℕ) × (level : ℕ) × (place : Place) × CanEnter cpu.old regs a q cell f segment level place }
     requires back { IsPlace back }
-    ensures row { (a : Scene cpu.old.core regs) (q : Place) (f segment level : ℕ) (place : Place) → CanEnter cpu.old regs a q cell f segment level place
+    ensures row { (a : RunningContext cpu.old.core regs) (q : Place) (f segment level : ℕ) (place : Place) → CanEnter cpu.old regs a q cell f segment level place
         → EntersOrFaults a result cpu.old cpu.new (rows.accident (here a.member a.task q) (cells_of (here a.member a.task q)) (back_to (here a.member a.task q) value back) (AtProc f segment level place)) }
     ensures above { (i : ℕ) → cpu.new.regs.s < i → slice_get cpu.new.core i ≡ slice_get cpu.old.core i }
     ensures top { result ≡ Done → cpu.new.regs.s ≡ regs.s + 2 }
@@ -175,9 +176,9 @@ pub fn accident_on(cpu: &mut Cpu, regs: Regs, cell: u32, value: bool, back: Plac
 /// INVALID OPERAND where the procedure's level isn't the next one above that of its cell's activation record, then
 /// STACK OVERFLOW where two words don't fit; nothing is changed then.
 pub fn accident(cpu: &mut Cpu, cell: u32, value: bool, back: Place) -> Step
-    requires procedure { (a : Scene cpu.old.core cpu.old.regs) × (q : Place) × (f : ℕ) × (segment : ℕ) × (level : ℕ) × (place : Place) × ReachesProc cpu.old a q cell f segment level place }
+    requires procedure { (a : RunningContext cpu.old.core cpu.old.regs) × (q : Place) × (f : ℕ) × (segment : ℕ) × (level : ℕ) × (place : Place) × ReachesProc cpu.old a q cell f segment level place }
     requires back { IsPlace back }
-    ensures row { (a : Scene cpu.old.core cpu.old.regs) (q : Place) (f segment level : ℕ) (place : Place) → ReachesProc cpu.old a q cell f segment level place
+    ensures row { (a : RunningContext cpu.old.core cpu.old.regs) (q : Place) (f segment level : ℕ) (place : Place) → ReachesProc cpu.old a q cell f segment level place
         → Meets a.storage a.plan a.session a.member result cpu.old cpu.new (rows.accident (here a.member a.task q) (cells_of (here a.member a.task q)) (back_to (here a.member a.task q) value back) (AtProc f segment level place)) }
 {
     let regs = cpu.regs;

@@ -1,21 +1,21 @@
 -- Which of the two top cells is the value, where a store leads to a procedure.
-use Rattle.std.proofs.Common.{◌≡◌, ◌≢◌, ℕ, ◌+◌, ◌-◌, ◌≤◌, List, [], ◌∷◌, Ok, Err, refl, sym, ◌∙◌, ap, arith, Bool, true, subst}
+use Rattle.std.proofs.Common.{◌≡◌, ◌≢◌, ℕ, ◌+◌, ◌-◌, ◌≤◌, List, [], ◌∷◌, Ok, Err, refl, sym, ◌∙◌, ap, Bool, true, subst}
 use Rattle.std.specs.Prelude.{if◌then◌else◌}
 use Rattle.b67_word.specs.Tagged.{Tagged}
 use Rattle.b67_word.specs.declared.couples.Place.{Place}
 use Rattle.b67_word.specs.declared.faults.Fault.{Fault}
 use Rattle.b67_model.specs.Answers.{Answer, ◌>>=◌}
-use Rattle.b67_model.specs.Arrays.{in_order}
+use Rattle.b67_model.specs.Indexing.{in_order}
 use Rattle.b67_model.specs.Chase as Chase
 use Rattle.b67_model.specs.Chase.{AtProc, follow}
 use Rattle.b67_model.specs.Rows as rows
-use Rattle.b67_model.specs.State.{Task, Member, Here}
+use Rattle.b67_model.specs.State.{Task, SessionJob, OperatorContext}
 use Rattle.b67_model.specs.Steps.{Done}
 use Rattle.b67_model.specs.Words as Words
 use Rattle.b67_model.specs.Words.{Word, Operand, Name, Ref, Row, Element, Original, Proc, Intrinsic, operand}
 use Rattle.b67_stack.specs.declared.Cpu.{Cpu}
-use Rattle.b67_stack.specs.Stands.{Storage}
-use Rattle.b67_layout.specs.Plan.{Plan}
+use Rattle.b67_stack.specs.Represents.{Storage}
+use Rattle.b67_layout.specs.Placement.{Placement}
 use Rattle.b67_layout.specs.Meets.{here}
 use Rattle.b67_exec_cells.specs.Tops.{IsWordOf, IsAt, cells, GivesTwo}
 use Rattle.b67_fetch.specs.Fetches.{enters_at, top_end}
@@ -23,20 +23,9 @@ use Rattle.b67_fetch.specs.Stores.{store_end}
 use Rattle.b67_exec.proofs.Entered.{AtProcedure, at_procedure}
 use Rattle.b67_exec.specs.Stores.{ValueOver}
 use Rattle.b67_exec.proofs.Unders.{is_operand}
+use Rattle.b67_exec_operands.proofs.Rows.{an_operand}
 
--- the word of an operand has tag 0, and no other has
-operand_by : (x : Storage) (plan : Plan) (m : Member) (t : Task) (w : Word) (at : ℕ) (v : Tagged) → IsWordOf x plan m t w at v → v.tag ≡ 0 → operand w ≡ Ok v.bits
-operand_by x plan m t (Operand n) at v i e = ap Ok (sym (ap (λ (z : Tagged). z.bits) i.0))
-operand_by x plan m t (Name c) at v i e = absurd (let k = ap (λ (z : Tagged). z.tag) i.0 in omega (arith, k, e))
-operand_by x plan m t (Ref f o) at v i e = absurd (let k = ap (λ (z : Tagged). z.tag) i.0 in omega (arith, k, e))
-operand_by x plan m t (Row a) at v i e = absurd (let k = ap (λ (z : Tagged). z.tag) i.is in omega (arith, k, e))
-operand_by x plan m t (Element a d) at v i e = absurd (let k = ap (λ (z : Tagged). z.tag) i.is in omega (arith, k, e))
-operand_by x plan m t (Original a) at v i e = absurd (let k = ap (λ (z : Tagged). z.tag) i.1.is in omega (arith, k, e))
-operand_by x plan m t (Proc g l p) at v i e = absurd (let k = ap (λ (z : Tagged). z.tag) i.0 in omega (arith, k, e))
-operand_by x plan m t (Intrinsic n) at v i e = absurd (let k = ap (λ (z : Tagged). z.tag) i.0 in omega (arith, k, e))
-operand_by x plan m t (Words.Segment n) at v i e = absurd (let k = ap (λ (z : Tagged). z.tag) i.0 in omega (arith, k, e))
-
-other_by : (x : Storage) (plan : Plan) (m : Member) (t : Task) (w lower : Word) (at : ℕ) (v : Tagged) → IsWordOf x plan m t w at v → v.tag ≢ 0 → in_order w lower ≡ (w, lower)
+other_by : (x : Storage) (plan : Placement) (m : SessionJob) (t : Task) (w lower : Word) (at : ℕ) (v : Tagged) → IsWordOf x plan m t w at v → v.tag ≢ 0 → in_order w lower ≡ (w, lower)
 other_by x plan m t (Operand n) lower at v i ne = absurd (ne (ap (λ (z : Tagged). z.tag) i.0))
 other_by x plan m t (Name c) lower at v i ne = refl
 other_by x plan m t (Ref f o) lower at v i ne = refl
@@ -48,16 +37,16 @@ other_by x plan m t (Intrinsic n) lower at v i ne = refl
 other_by x plan m t (Words.Segment n) lower at v i ne = refl
 
 -- what enters is an operand and an end
-record Stored (h : Here) (value reference : Word) : Type 0 where
+record Stored (h : OperatorContext) (value reference : Word) : Type 0 where
   pub bits : ℕ
   pub is : operand value ≡ Ok bits
   pub ends : enters_at (follow h reference) ≡ true
 
-stored_by : (h : Here) (value reference : Word) (o : Answer ℕ) → operand value ≡ o → enters_at (o >>= λ (b : ℕ). follow h reference) ≡ true → Stored h value reference
+stored_by : (h : OperatorContext) (value reference : Word) (o : Answer ℕ) → operand value ≡ o → enters_at (o >>= λ (b : ℕ). follow h reference) ≡ true → Stored h value reference
 stored_by h value reference (Ok bits) is e = record { bits = bits; is = is; ends = e }
 stored_by h value reference (Err f) is e = absurd (let z : ⊥ = cc in z)
 
-module _ (x : Storage) (cpu : Cpu) (plan : Plan) (m : Member) (t : Task) (q : Place) (u v : Tagged) (enters : enters_at (store_end (here m t q) (cells t)) ≡ true) where
+module _ (x : Storage) (cpu : Cpu) (plan : Placement) (m : SessionJob) (t : Task) (q : Place) (u v : Tagged) (enters : enters_at (store_end (here m t q) (cells t)) ≡ true) where
   -- two cells are there
   pub two_there : (f : Fault) → GivesTwo x plan m t cpu (cells t) (Err f) → ⊥
   two_there f given = by_cells (cells t) enters given where
@@ -79,7 +68,7 @@ module _ (x : Storage) (cpu : Cpu) (plan : Plan) (m : Member) (t : Task) (q : Pl
         let V : Tagged → Type 0 = λ z. IsAt x plan m t cpu.core b cpu.regs.s z in
         let at_u = subst U same_u g.3 in
         let at_v = subst V same_v g.4 in
-        let o : operand b ≡ Ok v.bits = operand_by x plan m t b cpu.regs.s v at_v.is zero in
+        let o : operand b ≡ Ok v.bits = an_operand x plan m t b cpu.regs.s v at_v.is zero in
         let bw : b ≡ Operand v.bits = is_operand b v.bits o in
         let E : Word → Type 0 = λ z. enters_at (store_end (here m t q) (z ∷ a ∷ rest)) ≡ true in
         let p = at_procedure (follow (here m t q) a) (subst E bw e) in

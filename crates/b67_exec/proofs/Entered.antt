@@ -11,20 +11,20 @@ use Rattle.b67_model.specs.Chase.{AtCell, AtElement, AtArray, AtProc, AtIntrinsi
 use Rattle.b67_model.specs.Words.{Name}
 use Rattle.b67_model.specs.Entry.{accident, back_to, evaluates}
 use Rattle.b67_model.specs.Rows as rows
-use Rattle.b67_model.specs.State.{Task, Member}
+use Rattle.b67_model.specs.State.{Task, SessionJob}
 use Rattle.b67_model.specs.Steps.{Done, cells_of}
 use Rattle.b67_model.specs.Schedule.{Session}
 use Rattle.b67_model.specs.InOrder.{IsInOrderButPlaces}
 use Rattle.b67_stack.specs.declared.Cpu.{Cpu}
 use Rattle.b67_stack.specs.declared.Step.{Step}
 use Rattle.b67_stack.specs.declared.Step.TheVariants as step
-use Rattle.b67_stack.specs.Stands.{Storage}
-use Rattle.b67_layout.specs.Plan.{Plan}
-use Rattle.b67_layout.specs.Session.{IsRunning, SessionStands}
+use Rattle.b67_stack.specs.Represents.{Storage}
+use Rattle.b67_layout.specs.Placement.{Placement}
+use Rattle.b67_layout.specs.Session.{IsRunning, RepresentsSession}
 use Rattle.b67_layout.specs.Meets.{here, Meets}
 use Rattle.b67_refer.specs.declared.ends.End.{End}
 use Rattle.b67_refer.specs.declared.ends.End.TheVariants as end
-use Rattle.b67_refer.specs.Scene.{Scene}
+use Rattle.b67_refer.specs.RunningContext.{RunningContext}
 use Rattle.b67_refer.specs.Ends.{EndMeets, IsProcAt}
 use Rattle.b67_entry_enter.specs.Procedures.{ReachesProc}
 use Rattle.b67_fetch.specs.Fetches.{enters, enters_at, EntersOrMeets}
@@ -50,7 +50,7 @@ pub at_procedure : (e : Answer Chase.End) → enters_at e ≡ true → AtProcedu
 at_procedure (Ok e) is = at_by e is
 at_procedure (Err f) is = absurd (let z : ⊥ = cc in z)
 
-module _ {core : List Tagged} {r : Regs} (a : Scene core r) (q : Place) where
+module _ {core : List Tagged} {r : Regs} (a : RunningContext core r) (q : Place) where
   -- what was found where the end is a procedure's
   found_by : (found : End) (f segment level : ℕ) (place : Place) → EndMeets a q (Ok found) (Ok (AtProc f segment level place)) → (cell : ℕ) × (found ≡ end.Proc cell) × IsProcAt a q cell f segment level place
   found_by (end.Proc cell) f segment level place i = (cell, refl, i)
@@ -66,15 +66,15 @@ module _ {core : List Tagged} {r : Regs} (a : Scene core r) (q : Place) where
   no_fault fault e f segment level place is i = let P : Answer Chase.End → Type 0 = λ z. EndMeets a q (Err fault) z in subst P is i
 
 -- an answer other than a call's, and a call's
-pub met_by : (x : Storage) (plan : Plan) (s : Session) (m : Member) (r : Step) (old new : Cpu) (b : Bool) (answer : Answer Done) → ((n : ℕ) → r ≢ step.Call n) → EntersOrMeets x plan s m r old new b answer → Meets x plan s m r old new answer
+pub met_by : (x : Storage) (plan : Placement) (s : Session) (m : SessionJob) (r : Step) (old new : Cpu) (b : Bool) (answer : Answer Done) → ((n : ℕ) → r ≢ step.Call n) → EntersOrMeets x plan s m r old new b answer → Meets x plan s m r old new answer
 met_by x plan s m r old new true answer other i = absurd (other 255 i.0)
 met_by x plan s m r old new false answer other i = i
 
-pub called_by : (x : Storage) (plan : Plan) (s : Session) (m : Member) (n : ℕ) (old new : Cpu) (b : Bool) (answer : Answer Done) → EntersOrMeets x plan s m (step.Call n) old new b answer → (b ≡ true) × (new ≡ old)
+pub called_by : (x : Storage) (plan : Placement) (s : Session) (m : SessionJob) (n : ℕ) (old new : Cpu) (b : Bool) (answer : Answer Done) → EntersOrMeets x plan s m (step.Call n) old new b answer → (b ≡ true) × (new ≡ old)
 called_by x plan s m n old new true answer i = (refl, i.1)
 called_by x plan s m n old new false answer i = absurd i
 
-module _ (x : Storage) (cpu : Cpu) (plan : Plan) (s : Session) (m : Member) (t : Task) (ordered : IsInOrderButPlaces s) (h : SessionStands x cpu plan s) (runs : IsRunning plan s.jobs m t) where
+module _ (x : Storage) (cpu : Cpu) (plan : Placement) (s : Session) (m : SessionJob) (t : Task) (ordered : IsInOrderButPlaces s) (h : RepresentsSession x cpu plan s) (runs : IsRunning plan s.jobs m t) where
   -- a couple that leads to a procedure
   pub couple_leads : (q : Place) (couple : ℕ) (w : Tagged) → couple < 2 ^ 14 → w ≡ irw_word (record { couple = couple }) → (p : AtProcedure (chase (here m t q) (Name couple)))
       → Leads cpu (here_scene x cpu plan s m t ordered h runs) q w p.frame p.segment p.level p.place

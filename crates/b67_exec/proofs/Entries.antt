@@ -14,27 +14,26 @@ use Rattle.b67_model.specs.Environment.{level_of_frame}
 use Rattle.b67_model.specs.InOrder.{NamesEntered, IsInOrderButPlaces}
 use Rattle.b67_model.specs.Keyed.{change_keyed}
 use Rattle.b67_lemmas.specs.Lists.{Has}
+use Rattle.b67_lemmas.proofs.Members.{change_twice, change_found, keyed-has}
 use Rattle.b67_model.specs.Run.{number_of}
 use Rattle.b67_model.specs.Schedule.{Session}
-use Rattle.b67_model.specs.State.{Frame, Entered, Array, Task, Job, Course, Member, top, with_top_cells, with_task, height, frame}
+use Rattle.b67_model.specs.State.{Frame, Entered, Array, Task, Job, JobProgress, SessionJob, top, with_top_cells, with_task, height, frame}
 use Rattle.b67_model.specs.Steps.{Done, Goes, cells_of}
 use Rattle.b67_model.specs.Words.{Word, Proc}
-use Rattle.b67_law_order.proofs.Members.{change_twice}
 use Rattle.b67_stack.specs.declared.Cpu.{Cpu}
 use Rattle.b67_stack.specs.declared.Step.{Step}
 use Rattle.b67_stack.specs.declared.Step.TheVariants as step
-use Rattle.b67_stack.specs.Picture.{Thing}
-use Rattle.b67_stack.specs.Stands.{Storage}
-use Rattle.b67_layout.specs.Plan.{Plan, address_of}
-use Rattle.b67_layout.specs.Layout.{picture, stack_of_task}
-use Rattle.b67_layout.specs.Session.{IsRunning, SessionHoldsBut, SessionStands, SessionStandsBut}
+use Rattle.b67_stack.specs.MachineView.{PagedObject}
+use Rattle.b67_stack.specs.Represents.{Storage}
+use Rattle.b67_layout.specs.Placement.{Placement, address_of}
+use Rattle.b67_layout.specs.Layout.{machine_view, stack_of_task}
+use Rattle.b67_layout.specs.Session.{IsRunning, SessionHoldsBut, RepresentsSession, RepresentsSessionBut}
 use Rattle.b67_layout.specs.Meets.{here, with_job, IsMade}
-use Rattle.b67_layout.proofs.Others.{keyed-has, keyed-put_same}
-use Rattle.b67_layout.proofs.Pictures.{member-same}
+use Rattle.b67_layout.proofs.MachineViews.{member-same}
 use Rattle.b67_layout.proofs.Rows.{runs_on}
 use Rattle.b67_layout.proofs.Whole.{task_with}
-use Rattle.b67_layout.proofs.Gone.{no_things_gone}
-use Rattle.b67_refer.specs.Scene.{Scene}
+use Rattle.b67_layout.proofs.Gone.{no_objects_gone}
+use Rattle.b67_refer.specs.RunningContext.{RunningContext}
 use Rattle.b67_refer.specs.Ends.{IsProcAt}
 use Rattle.b67_refer.proofs.Scenes.{scene}
 use Rattle.b67_layout_enter.proofs.Heads.{clear_settled}
@@ -46,17 +45,17 @@ cells-back [] cs = refl
 cells-back (f ∷ below) cs = refl
 
 -- a procedure was entered over other cells, or nothing has changed since these were there
-abbrev pub EntersOver : Storage → Plan → Session → Member → Step → Cpu → Cpu → Cpu → Answer Done → Type 0
+abbrev pub EntersOver : Storage → Placement → Session → SessionJob → Step → Cpu → Cpu → Cpu → Answer Done → Type 0
 EntersOver x plan s m step.Done old between new answer = IsMade x plan s m old new answer
 EntersOver x plan s m (step.Fault fault) old between new answer = (answer ≡ Err fault) × (new ≡ between)
 EntersOver x plan s m _ old between new answer = ⊥
 
 -- a member that is changed twice
-jobs-twice : (n : ℕ) (a b : Course) (xs : List Member) → change_keyed number_of n (λ (y : Member). record y { course = b }) (change_keyed number_of n (λ (y : Member). record y { course = a }) xs) ≡ change_keyed number_of n (λ (y : Member). record y { course = b }) xs
+jobs-twice : (n : ℕ) (a b : JobProgress) (xs : List SessionJob) → change_keyed number_of n (λ (y : SessionJob). record y { progress = b }) (change_keyed number_of n (λ (y : SessionJob). record y { progress = a }) xs) ≡ change_keyed number_of n (λ (y : SessionJob). record y { progress = b }) xs
 jobs-twice n a b [] = refl
 jobs-twice n a b (y ∷ ys) = elim (eqb_tells (number_of y) n) [
   | inl e ↦ rw e.0 (rw e.0 refl)
-  | inr e ↦ rw e.0 (rw e.0 (ap (λ (more : List Member). y ∷ more) (jobs-twice n a b ys)))
+  | inr e ↦ rw e.0 (rw e.0 (ap (λ (more : List SessionJob). y ∷ more) (jobs-twice n a b ys)))
 ]
 
 -- the answer of an entry, by what it reads
@@ -65,28 +64,28 @@ entered_by job t size level wanted segment place f below tasks =
     let T : Task = record t { frames = f ∷ below; segment = segment; place = place } in
     needs (level + 1 == wanted) InvalidOperand >> (needs (nat_le (height (f ∷ below)) size) StackOverflow >> Ok (Goes (record job { next_frame = job.next_frame + 1; tasks = change_keyed (λ (u : Task). u.number) t.number (λ (u : Task). T) tasks }) [] None))
 
-module _ (x : Storage) (old : Cpu) (plan : Plan) (s : Session) (m : Member) (t : Task) (ordered : IsInOrderButPlaces s) (h : SessionStands x old plan s) (runs : IsRunning plan s.jobs m t) (cs : List Word)
-    (ordered0 : IsInOrderButPlaces (with_job s m (with_task m.course.job (task_with t cs t.place)))) (cpu0 : Cpu) (level0 : ℕ)
+module _ (x : Storage) (old : Cpu) (plan : Placement) (s : Session) (m : SessionJob) (t : Task) (ordered : IsInOrderButPlaces s) (h : RepresentsSession x old plan s) (runs : IsRunning plan s.jobs m t) (cs : List Word)
+    (ordered0 : IsInOrderButPlaces (with_job s m (with_task m.progress.job (task_with t cs t.place)))) (cpu0 : Cpu) (level0 : ℕ)
     (critical : cpu0.critical ≡ old.critical)
-    (holds0 : SessionHoldsBut [] x cpu0.core (record old.regs { s = level0 }) old.critical plan (with_job s m (with_task m.course.job (task_with t cs t.place)))) where
+    (holds0 : SessionHoldsBut [] x cpu0.core (record old.regs { s = level0 }) old.critical plan (with_job s m (with_task m.progress.job (task_with t cs t.place)))) where
   abbrev pub task0 : Task
   task0 = task_with t cs t.place
 
-  abbrev pub member0 : Member
-  member0 = record m { course = record m.course { job = with_task m.course.job (task_with t cs t.place) } }
+  abbrev pub member0 : SessionJob
+  member0 = record m { progress = record m.progress { job = with_task m.progress.job (task_with t cs t.place) } }
 
   abbrev pub session0 : Session
-  session0 = with_job s m (with_task m.course.job (task_with t cs t.place))
+  session0 = with_job s m (with_task m.progress.job (task_with t cs t.place))
 
-  pub runs0 : IsRunning plan (with_job s m (with_task m.course.job (task_with t cs t.place))).jobs (record m { course = record m.course { job = with_task m.course.job (task_with t cs t.place) } }) (task_with t cs t.place)
+  pub runs0 : IsRunning plan (with_job s m (with_task m.progress.job (task_with t cs t.place))).jobs (record m { progress = record m.progress { job = with_task m.progress.job (task_with t cs t.place) } }) (task_with t cs t.place)
   runs0 = record {
-    member = member-same s.jobs m.setting.number (record m.course { job = with_task m.course.job (task_with t cs t.place) }) m runs.member;
-    task = keyed-put_same (λ (u : Task). u.number) t.number (task_with t cs t.place) t refl m.course.job.tasks runs.task;
+    member = member-same s.jobs m.constants.number (record m.progress { job = with_task m.progress.job (task_with t cs t.place) }) m runs.member;
+    task = change_found (λ (u : Task). u.number) t.number t (task_with t cs t.place) m.progress.job.tasks refl runs.task;
     slot = runs.slot;
   }
 
   -- the scene with these cells
-  abbrev pub scene0 : Scene cpu0.core (record old.regs { s = level0 })
+  abbrev pub scene0 : RunningContext cpu0.core (record old.regs { s = level0 })
   scene0 = scene [] x cpu0.core (record old.regs { s = level0 }) old.critical plan session0 member0 task0 ordered0 holds0 runs0
 
   -- the procedure's cell is the same one there
@@ -111,8 +110,8 @@ module _ (x : Storage) (old : Cpu) (plan : Plan) (s : Session) (m : Member) (t :
   pub can_enter : (q : Place) (at f segment level : ℕ) (place : Place) → IsProcAt scene0 q at f segment level place → CanEnter cpu0 (record old.regs { s = level0 }) scene0 q at f segment level place
   can_enter q at f segment level place i = record {
     marks = critical;
-    clear = λ fits. clear_settled x cpu0.core (record old.regs { s = level0 }) (picture plan session0.jobs) plan.running (stack_of_task plan m.setting.number (with_task m.course.job (task_with t cs t.place)) plan.running task0) holds0.memory
-        (runs_on plan session0.jobs member0 task0 holds0.fits.rows (keyed-has number_of m.setting.number session0.jobs member0 runs0.member) (keyed-has (λ (u : Task). u.number) t.number (with_task m.course.job (task_with t cs t.place)).tasks task0 runs0.task) runs0.slot runs0.member runs0.task)
+    clear = λ fits. clear_settled x cpu0.core (record old.regs { s = level0 }) (machine_view plan session0.jobs) plan.running (stack_of_task plan m.constants.number (with_task m.progress.job (task_with t cs t.place)) plan.running task0) holds0.memory
+        (runs_on plan session0.jobs member0 task0 holds0.fits.rows (keyed-has number_of m.constants.number session0.jobs member0 runs0.member) (keyed-has (λ (u : Task). u.number) t.number (with_task m.progress.job (task_with t cs t.place)).tasks task0 runs0.task) runs0.slot runs0.member runs0.task)
         fits holds0.settled;
     procedure = i;
   }
@@ -121,29 +120,29 @@ module _ (x : Storage) (old : Cpu) (plan : Plan) (s : Session) (m : Member) (t :
   pub same_answer : (q : Place) (value : Bool) (back : Place) (f segment level : ℕ) (place : Place)
       → accident (here member0 task0 q) (cells_of (here member0 task0 q)) (back_to (here member0 task0 q) value back) (AtProc f segment level place) ≡ accident (here m t q) cs (back_to (here m t q) value back) (AtProc f segment level place)
   same_answer q value back f segment level place =
-      let fr : Frame = record { identity = m.course.job.next_frame; standing = Entered level f (Some (back_to (here m t q) value back)); cells = [] } in
-      let A : ℕ → List Frame → List Task → Answer Done = λ lv below ts. entered_by m.course.job t m.setting.stack_size lv level segment place fr below ts in
+      let fr : Frame = record { identity = m.progress.job.next_frame; standing = Entered level f (Some (back_to (here m t q) value back)); cells = [] } in
+      let A : ℕ → List Frame → List Task → Answer Done = λ lv below ts. entered_by m.progress.job t m.constants.stack_size lv level segment place fr below ts in
       let n : level_of_frame (frame (here member0 task0 q) f) ≡ level_of_frame (frame (here m t q) f) = level-same plan s m t ordered runs cs t.place q f in
       let T : Task = record t { frames = fr ∷ with_top_cells t.frames cs; segment = segment; place = place } in
-      let tasks : change_keyed (λ (u : Task). u.number) t.number (λ (u : Task). T) (with_task m.course.job (task_with t cs t.place)).tasks ≡ change_keyed (λ (u : Task). u.number) t.number (λ (u : Task). T) m.course.job.tasks =
-      change_twice (λ (u : Task). u.number) t.number (task_with t cs t.place) T m.course.job.tasks refl in
-      let last : List Task → Answer Done = λ ts. needs (level_of_frame (frame (here m t q) f) + 1 == level) InvalidOperand >> (needs (nat_le (height (fr ∷ with_top_cells t.frames cs)) m.setting.stack_size) StackOverflow >> Ok (Goes (record m.course.job { next_frame = m.course.job.next_frame + 1; tasks = ts }) [] None)) in
-      ap (λ (lv : ℕ). A lv (with_top_cells (with_top_cells t.frames cs) (top (with_top_cells t.frames cs)).cells) (with_task m.course.job (task_with t cs t.place)).tasks) n
-      ∙ ap (λ (fs : List Frame). A (level_of_frame (frame (here m t q) f)) fs (with_task m.course.job (task_with t cs t.place)).tasks) (cells-back t.frames cs)
+      let tasks : change_keyed (λ (u : Task). u.number) t.number (λ (u : Task). T) (with_task m.progress.job (task_with t cs t.place)).tasks ≡ change_keyed (λ (u : Task). u.number) t.number (λ (u : Task). T) m.progress.job.tasks =
+      change_twice (λ (u : Task). u.number) t.number (task_with t cs t.place) T m.progress.job.tasks refl in
+      let last : List Task → Answer Done = λ ts. needs (level_of_frame (frame (here m t q) f) + 1 == level) InvalidOperand >> (needs (nat_le (height (fr ∷ with_top_cells t.frames cs)) m.constants.stack_size) StackOverflow >> Ok (Goes (record m.progress.job { next_frame = m.progress.job.next_frame + 1; tasks = ts }) [] None)) in
+      ap (λ (lv : ℕ). A lv (with_top_cells (with_top_cells t.frames cs) (top (with_top_cells t.frames cs)).cells) (with_task m.progress.job (task_with t cs t.place)).tasks) n
+      ∙ ap (λ (fs : List Frame). A (level_of_frame (frame (here m t q) f)) fs (with_task m.progress.job (task_with t cs t.place)).tasks) (cells-back t.frames cs)
       ∙ ap last tasks
 
   module _ (within : (i : ℕ) → (slice_get cpu0.core i ≡ slice_get old.core i) ⊎ ((old.regs.bosr < i) × (i ≤ old.regs.losr))) where
     made : (new : Cpu) (answer other : Answer Done) → answer ≡ other → IsEntered scene0 new answer → IsMade x plan s m old new other
     made new answer other e i =
-        let S : List Member → Session = λ js. record s { jobs = js } in
-        let jobs = jobs-twice m.setting.number (record m.course { job = with_task m.course.job (task_with t cs t.place) }) (record m.course { job = i.job }) s.jobs in
-        let stands : SessionStandsBut [] x new plan (with_job s m i.job) = subst (λ (js : List Member). SessionStandsBut [] x new plan (S js)) jobs i.stands in
+        let S : List SessionJob → Session = λ js. record s { jobs = js } in
+        let jobs = jobs-twice m.constants.number (record m.progress { job = with_task m.progress.job (task_with t cs t.place) }) (record m.progress { job = i.job }) s.jobs in
+        let stands : RepresentsSessionBut [] x new plan (with_job s m i.job) = subst (λ (js : List SessionJob). RepresentsSessionBut [] x new plan (S js)) jobs i.stands in
         record {
           job = i.job;
           touched = None;
           is = sym e ∙ i.is;
           present = tt;
-          stands = subst (λ (left : List Thing). SessionStandsBut left x new plan (with_job s m i.job)) (sym (no_things_gone plan m i.job (ap (map (λ (b : Array). b.identity)) i.arrays))) stands;
+          stands = subst (λ (left : List PagedObject). RepresentsSessionBut left x new plan (with_job s m i.job)) (sym (no_objects_gone plan m i.job (ap (map (λ (b : Array). b.identity)) i.arrays))) stands;
           changed = λ k. ⊎_elim (λ (z : k ≡ level0 + 1). inr (inl (omega (arith, z, i.low), omega (arith, z, i.room))))
               (λ (z : k ≡ level0 + 1 → ⊥). ⊎_elim (λ (y : k ≡ level0 + 2). inr (inl (omega (arith, y, i.low), omega (arith, y, i.room))))
               (λ (y : k ≡ level0 + 2 → ⊥). ⊎_elim (λ w. inl (i.changed k z y ∙ w)) (λ w. inr (inl w)) (within k)) (cases_eq k (level0 + 2))) (cases_eq k (level0 + 1));

@@ -13,23 +13,23 @@ use Rattle.b67_model.specs.Intrinsics.{is_original}
 use Rattle.b67_lemmas.specs.Lists.{how_many}
 use Rattle.b67_model.specs.Rows as rows
 use Rattle.b67_model.specs.Schedule.{Session}
-use Rattle.b67_model.specs.State.{Frame, Array, Task, Member, top, with_task}
+use Rattle.b67_model.specs.State.{Frame, Array, Task, SessionJob, top, with_task}
 use Rattle.b67_model.specs.Steps.{Done, cells_of}
 use Rattle.b67_model.specs.Words as Words
 use Rattle.b67_model.specs.Words.{Word, Operand, Name, Ref, Row, Element, Original, Proc, Intrinsic}
 use Rattle.b67_stack.specs.declared.Cpu.{Cpu}
 use Rattle.b67_stack.specs.declared.Step.{Step}
 use Rattle.b67_stack.specs.declared.Step.TheVariants as step
-use Rattle.b67_stack.specs.Stands.{Storage}
-use Rattle.b67_layout.specs.Plan.{Plan}
-use Rattle.b67_layout.specs.Session.{IsRunning, SessionHoldsBut, SessionStands}
+use Rattle.b67_stack.specs.Represents.{Storage}
+use Rattle.b67_layout.specs.Placement.{Placement}
+use Rattle.b67_layout.specs.Session.{IsRunning, SessionHoldsBut, RepresentsSession}
 use Rattle.b67_layout.specs.Meets.{here, with_job, Meets}
 use Rattle.b67_layout.proofs.Whole.{task_with}
 use Rattle.b67_layout.proofs.Fresh.{running_in_order}
 use Rattle.b67_exec_cells.specs.Tops.{cells}
 use Rattle.b67_exec_cells.proofs.Put.{room, top_given, dropped_stands, dropped-fits}
 use Rattle.b67_layout.proofs.Cells.{cells_in_order}
-use Rattle.b67_refer.specs.Scene.{Scene}
+use Rattle.b67_refer.specs.RunningContext.{RunningContext}
 use Rattle.b67_refer.specs.Ends.{IsProcAt}
 use Rattle.b67_entry_enter.specs.Procedures.{CanEnter, EntersOrFaults}
 use Rattle.b67_fetch.specs.Fetches.{enters_at, top_end}
@@ -38,7 +38,7 @@ use Rattle.b67_exec.proofs.Entries.{EntersOver, scene0, member0, task0, proc_mov
 use Rattle.b67_exec.specs.Procedures.{Leads}
 use Rattle.b67_exec.proofs.Entered.{AtProcedure, at_procedure}
 
-pub over_meets : (x : Storage) (plan : Plan) (s : Session) (m : Member) (r : Step) (old new : Cpu) (answer : Answer Done) → EntersOver x plan s m r old old new answer → Meets x plan s m r old new answer
+pub over_meets : (x : Storage) (plan : Placement) (s : Session) (m : SessionJob) (r : Step) (old new : Cpu) (answer : Answer Done) → EntersOver x plan s m r old old new answer → Meets x plan s m r old new answer
 over_meets x plan s m step.Done old new answer i = i
 over_meets x plan s m (step.Fault fault) old new answer i = i
 over_meets x plan s m (step.Absent w) old new answer i = absurd i
@@ -46,7 +46,7 @@ over_meets x plan s m (step.Call n) old new answer i = i
 over_meets x plan s m step.Ended old new answer i = absurd i
 
 -- no procedure's word is followed
-not_proc : (m : Member) (t : Task) (q : Place) (w : Word) (e : Chase.End) (g l : ℕ) (p : Place) → follow (here m t q) w ≡ Ok e → w ≡ Proc g l p → ⊥
+not_proc : (m : SessionJob) (t : Task) (q : Place) (w : Word) (e : Chase.End) (g l : ℕ) (p : Place) → follow (here m t q) w ≡ Ok e → w ≡ Proc g l p → ⊥
 not_proc m t q w e g l p is same = let f : follow (here m t q) (Proc g l p) ≡ Ok e = ap (follow (here m t q)) (sym same) ∙ is in let z : ⊥ = cc in z
 
 -- the cells without the top one
@@ -68,11 +68,11 @@ originals_tail n (Proc g l p) rest e = omega arith
 originals_tail n (Intrinsic k) rest e = omega arith
 originals_tail n (Words.Segment k) rest e = omega arith
 
-pub some_cells : (m : Member) (t : Task) (q : Place) (cs : List Word) → enters_at (top_end (here m t q) cs) ≡ true → 1 ≤ length cs
+pub some_cells : (m : SessionJob) (t : Task) (q : Place) (cs : List Word) → enters_at (top_end (here m t q) cs) ≡ true → 1 ≤ length cs
 some_cells m t q [] e = absurd (let z : ⊥ = cc in z)
 some_cells m t q (a ∷ rest) e = omega arith
 
-module _ (x : Storage) (cpu : Cpu) (plan : Plan) (s : Session) (m : Member) (t : Task) (ordered : IsInOrderButPlaces s) (h : SessionStands x cpu plan s) (runs : IsRunning plan s.jobs m t) (q : Place)
+module _ (x : Storage) (cpu : Cpu) (plan : Placement) (s : Session) (m : SessionJob) (t : Task) (ordered : IsInOrderButPlaces s) (h : RepresentsSession x cpu plan s) (runs : IsRunning plan s.jobs m t) (q : Place)
     (enters : enters_at (top_end (here m t q) (cells t)) ≡ true) where
   -- the registers and their bounds
   pub bounds : (cpu.regs.s < length cpu.core) × (1 ≤ cpu.regs.s)
@@ -104,20 +104,20 @@ module _ (x : Storage) (cpu : Cpu) (plan : Plan) (s : Session) (m : Member) (t :
     plain = followed_plain x m t q top_is.word (AtProc at_end.frame at_end.segment at_end.level at_end.place) at_end.is
 
     -- the session without the top cell
-    pub ordered_without : IsInOrderButPlaces (with_job s m (with_task m.course.job (task_with t top_is.rest t.place)))
+    pub ordered_without : IsInOrderButPlaces (with_job s m (with_task m.progress.job (task_with t top_is.rest t.place)))
     ordered_without =
         let i = running_in_order plan s m t ordered runs in
-        cells_in_order plan s m t ordered runs top_is.rest t.place (tail_order (IsSegment m.setting) m.course.job.arrays (outer_of m.course.job t) t.frames top_is.word top_is.rest i.1.frames top_is.is)
+        cells_in_order plan s m t ordered runs top_is.rest t.place (tail_order (IsSegment m.constants) m.progress.job.arrays (outer_of m.progress.job t) t.frames top_is.word top_is.rest i.1.frames top_is.is)
         (λ n. sym (originals_tail n top_is.word top_is.rest plain) ∙ ap (how_many (is_original_of n)) (sym top_is.is))
         (dropped-fits x cpu plan s m t ordered h runs (top_is.word ∷ []) top_is.rest top_is.is) i.1.place.word_fits i.1.place.syllable_fits
 
-    pub holds_without : SessionHoldsBut [] x cpu.core (record cpu.regs { s = cpu.regs.s - 1 }) cpu.critical plan (with_job s m (with_task m.course.job (task_with t top_is.rest t.place)))
+    pub holds_without : SessionHoldsBut [] x cpu.core (record cpu.regs { s = cpu.regs.s - 1 }) cpu.critical plan (with_job s m (with_task m.progress.job (task_with t top_is.rest t.place)))
     holds_without =
         let d = (dropped_stands x cpu plan s m t ordered h runs 1 t.place (top_is.word ∷ []) top_is.rest top_is.is refl (plain, tt)).holds in
-        let P : Place → Type 0 = λ p. SessionHoldsBut [] x cpu.core (record cpu.regs { s = cpu.regs.s - 1; place = p }) cpu.critical plan (with_job s m (with_task m.course.job (task_with t top_is.rest t.place))) in
+        let P : Place → Type 0 = λ p. SessionHoldsBut [] x cpu.core (record cpu.regs { s = cpu.regs.s - 1; place = p }) cpu.critical plan (with_job s m (with_task m.progress.job (task_with t top_is.rest t.place))) in
         subst P (sym (h.holds.running m t runs).place) d
 
-    abbrev pub scene_without : Scene cpu.core (record cpu.regs { s = cpu.regs.s - 1 })
+    abbrev pub scene_without : RunningContext cpu.core (record cpu.regs { s = cpu.regs.s - 1 })
     scene_without = scene0 x cpu plan s m t ordered h runs top_is.rest ordered_without cpu (cpu.regs.s - 1) refl holds_without
 
     pub enters_without : (cell : ℕ) → IsProcAt (here_scene x cpu plan s m t ordered h runs) q cell at_end.frame at_end.segment at_end.level at_end.place

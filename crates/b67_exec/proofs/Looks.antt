@@ -1,5 +1,5 @@
 -- What a task with other cells on top sees: the same frames at the same places, and cells further down.
-use Rattle.std.proofs.Common.{◌≡◌, ◌≢◌, ℕ, zero, suc, ◌-◌, List, [], ◌∷◌, ◌++◌, map, flat_map, reverse, Option, Some, None, Ok, refl, sym, ◌∙◌, ap, true, false, ◌==◌, ◌⊎◌, inl, inr, ⊎_elim, subst, append_assoc, unwrap_or}
+use Rattle.std.proofs.Common.{◌≡◌, ◌≢◌, ℕ, zero, suc, ◌-◌, List, [], ◌∷◌, ◌++◌, map, flat_map, reverse, Option, Some, Ok, refl, sym, ◌∙◌, ap, true, false, ◌==◌, ◌⊎◌, inl, inr, ⊎_elim, subst, append_assoc, unwrap_or}
 use Rattle.std.specs.Prelude.{nat_lt}
 use Rattle.std.specs.List.{slice_get}
 use Rattle.std.specs.Option.{ok_or}
@@ -12,34 +12,28 @@ use Rattle.b67_word.specs.declared.faults.Fault.TheVariants.{InvalidAddress}
 use Rattle.b67_model.specs.Answers.{Answer}
 use Rattle.b67_model.specs.Keyed.{keyed, change_keyed}
 use Rattle.b67_lemmas.specs.Lists.{Has}
+use Rattle.b67_lemmas.proofs.Members.{has_get, has_reverse_back, change_found, change_other, keyed-has}
 use Rattle.b67_model.specs.Words.{Word}
 use Rattle.b67_model.specs.State as State
-use Rattle.b67_model.specs.State.{Frame, Task, Job, Member, Here, top, with_top_cells, with_task, all_frames, frame, no_frame}
+use Rattle.b67_model.specs.State.{Frame, Task, Job, SessionJob, OperatorContext, top, with_top_cells, with_task, all_frames, frame, no_frame}
 use Rattle.b67_model.specs.Environment.{level_of_frame}
 use Rattle.b67_model.specs.Cells.{cell, cell_of, first_offset}
 use Rattle.b67_model.specs.InOrder.{Known, known_of, from_frame, frames_of_task, critical_of, outer_reach, reach_of, IsInOrderButPlaces}
 use Rattle.b67_model.specs.Schedule.{Session}
-use Rattle.b67_law_order.proofs.Members.{has_get, has_reverse_back}
-use Rattle.b67_stack.specs.Stacks.{Spot}
-use Rattle.b67_layout.specs.Plan.{Plan, slot_of, spot_in, outer_spots, spots}
+use Rattle.b67_stack.specs.Stacks.{StackPlace}
+use Rattle.b67_layout.specs.Placement.{Placement, slot_of, spot_in, outer_spots, spots}
 use Rattle.b67_layout.specs.Session.{IsRunning}
 use Rattle.b67_layout.specs.Meets.{here}
-use Rattle.b67_layout.proofs.Others.{OnTop, outer_spots-after, keyed-has, keyed-put_same, keyed-put_other}
+use Rattle.b67_layout.proofs.Others.{OnTop, outer_spots-after}
 use Rattle.b67_layout.proofs.Steps.{seen-with}
-use Rattle.b67_layout.proofs.Whole.{task_with}
+use Rattle.b67_layout.proofs.Whole.{task_with, spots-with}
 use Rattle.b67_layout.proofs.Fresh.{fresh}
-
-known-with : (fs : List Frame) (cs : List Word) → map known_of (with_top_cells fs cs) ≡ map known_of fs
-known-with [] cs = refl
-known-with (f ∷ below) cs = refl
+use Rattle.b67_law_order.proofs.Chases.{ok_some}
+use Rattle.b67_law_order.proofs.Looks.{known_cells}
 
 known-from : (n : ℕ) (fs : List Frame) (cs : List Word) → map known_of (from_frame n (with_top_cells fs cs)) ≡ map known_of (from_frame n fs)
 known-from n [] cs = refl
 known-from n (f ∷ below) cs = ⊎_elim (λ (e : (f.identity == n) ≡ true). rw e refl) (λ (e : (f.identity == n) ≡ false). rw e refl) (cases_Bool (f.identity == n))
-
-spots-with : (k : ℕ) (outer : ℕ → Spot) (fs : List Frame) (cells : List Word) (id : ℕ) → spot_in k outer (with_top_cells fs cells) id ≡ spot_in k outer fs id
-spots-with k outer [] cells id = refl
-spots-with k outer (f ∷ below) cells id = refl
 
 -- a list of frames of which one list of a task has other cells on top
 abbrev pub Seen : List Frame → List Word → Option Frame → Option Frame → Type 0
@@ -104,18 +98,14 @@ cell_other f gone rest put offset w e found other = ⊎_elim
     rw t (get_other gone rest put (offset - first_offset f) w (ap (λ xs. slice_get (reverse xs) (offset - first_offset f)) (sym e) ∙ at) other))
     (cases_Bool (nat_lt offset (first_offset f)))
 
-ok_some : (o : Option Word) (w : Word) → ok_or o InvalidAddress ≡ Ok w → o ≡ Some w
-ok_some None w e = cc
-ok_some (Some v) w e = cc
-
-module _ (plan : Plan) (s : Session) (m : Member) (t : Task) (ordered : IsInOrderButPlaces s) (runs : IsRunning plan s.jobs m t) (cs : List Word) (p : Place) where
+module _ (plan : Placement) (s : Session) (m : SessionJob) (t : Task) (ordered : IsInOrderButPlaces s) (runs : IsRunning plan s.jobs m t) (cs : List Word) (p : Place) where
   abbrev pub job_with : Job
-  job_with = with_task m.course.job (task_with t cs p)
+  job_with = with_task m.progress.job (task_with t cs p)
 
-  abbrev pub member_with : Member
-  member_with = record m { course = record m.course { job = with_task m.course.job (task_with t cs p) } }
+  abbrev pub member_with : SessionJob
+  member_with = record m { progress = record m.progress { job = with_task m.progress.job (task_with t cs p) } }
 
-  on_top : OnTop m.course.job (with_task m.course.job (task_with t cs p)) t (task_with t cs p) m.course.job.next_frame
+  on_top : OnTop m.progress.job (with_task m.progress.job (task_with t cs p)) t (task_with t cs p) m.progress.job.next_frame
   on_top =
       let free = fresh plan s m t ordered runs in
       record {
@@ -130,41 +120,41 @@ module _ (plan : Plan) (s : Session) (m : Member) (t : Task) (ordered : IsInOrde
         same = λ d k o id ne. seen-with t.frames cs d k o id;
       }
 
-  pub spots-same : (id : ℕ) → spots plan m.setting.number (with_task m.course.job (task_with t cs p)) (task_with t cs p) id ≡ spots plan m.setting.number m.course.job t id
+  pub spots-same : (id : ℕ) → spots plan m.constants.number (with_task m.progress.job (task_with t cs p)) (task_with t cs p) id ≡ spots plan m.constants.number m.progress.job t id
   spots-same id =
-      let own : t.critical ≢ m.course.job.next_frame = (fresh plan s m t ordered runs).uncritical t (keyed-has (λ (u : Task). u.number) t.number m.course.job.tasks t runs.task) in
-      let outer : outer_spots plan m.setting.number (with_task m.course.job (task_with t cs p)) t.critical t.parents ≡ outer_spots plan m.setting.number m.course.job t.critical t.parents =
-      λ z i. outer_spots-after plan m.setting.number m.course.job (with_task m.course.job (task_with t cs p)) t (task_with t cs p) m.course.job.next_frame on_top t.parents t.critical own i z in
-      ap (λ (o : ℕ → Spot). spot_in (slot_of plan m.setting.number t.number) o (with_top_cells t.frames cs) id) outer
-      ∙ spots-with (slot_of plan m.setting.number t.number) (outer_spots plan m.setting.number m.course.job t.critical t.parents) t.frames cs id
+      let own : t.critical ≢ m.progress.job.next_frame = (fresh plan s m t ordered runs).uncritical t (keyed-has (λ (u : Task). u.number) t.number m.progress.job.tasks t runs.task) in
+      let outer : outer_spots plan m.constants.number (with_task m.progress.job (task_with t cs p)) t.critical t.parents ≡ outer_spots plan m.constants.number m.progress.job t.critical t.parents =
+      λ z i. outer_spots-after plan m.constants.number m.progress.job (with_task m.progress.job (task_with t cs p)) t (task_with t cs p) m.progress.job.next_frame on_top t.parents t.critical own i z in
+      ap (λ (o : ℕ → StackPlace). spot_in (slot_of plan m.constants.number t.number) o (with_top_cells t.frames cs) id) outer
+      ∙ spots-with (slot_of plan m.constants.number t.number) (outer_spots plan m.constants.number m.progress.job t.critical t.parents) t.frames cs id
 
   -- the reach of each task
-  reach-by : (parents : List ℕ) (c : ℕ) → outer_reach (with_task m.course.job (task_with t cs p)) c parents ≡ outer_reach m.course.job c parents
+  reach-by : (parents : List ℕ) (c : ℕ) → outer_reach (with_task m.progress.job (task_with t cs p)) c parents ≡ outer_reach m.progress.job c parents
   reach-by [] c = refl
   reach-by (parent ∷ more) c = elim (eqb_tells parent t.number) [
     | inl e ↦
-        let old : keyed (λ (u : Task). u.number) parent m.course.job.tasks ≡ Some t = ap (λ n. keyed (λ (u : Task). u.number) n m.course.job.tasks) e.1 ∙ runs.task in
-        let new : keyed (λ (u : Task). u.number) parent (with_task m.course.job (task_with t cs p)).tasks ≡ Some (task_with t cs p) =
-        ap (λ n. keyed (λ (u : Task). u.number) n (with_task m.course.job (task_with t cs p)).tasks) e.1 ∙ keyed-put_same (λ (u : Task). u.number) t.number (task_with t cs p) t refl m.course.job.tasks runs.task in
+        let old : keyed (λ (u : Task). u.number) parent m.progress.job.tasks ≡ Some t = ap (λ n. keyed (λ (u : Task). u.number) n m.progress.job.tasks) e.1 ∙ runs.task in
+        let new : keyed (λ (u : Task). u.number) parent (with_task m.progress.job (task_with t cs p)).tasks ≡ Some (task_with t cs p) =
+        ap (λ n. keyed (λ (u : Task). u.number) n (with_task m.progress.job (task_with t cs p)).tasks) e.1 ∙ change_found (λ (u : Task). u.number) t.number t (task_with t cs p) m.progress.job.tasks refl runs.task in
         let O : Job → Option Task → List Known = λ j o. map known_of (from_frame c (frames_of_task o)) ++ outer_reach j (critical_of o) more in
-        ap (O (with_task m.course.job (task_with t cs p))) new
-        ∙ ap (λ ks. ks ++ outer_reach (with_task m.course.job (task_with t cs p)) t.critical more) (known-from c t.frames cs)
+        ap (O (with_task m.progress.job (task_with t cs p))) new
+        ∙ ap (λ ks. ks ++ outer_reach (with_task m.progress.job (task_with t cs p)) t.critical more) (known-from c t.frames cs)
         ∙ ap (λ ks. map known_of (from_frame c t.frames) ++ ks) (reach-by more t.critical)
-        ∙ ap (O m.course.job) (sym old)
+        ∙ ap (O m.progress.job) (sym old)
     | inr e ↦
-        let new : keyed (λ (u : Task). u.number) parent (with_task m.course.job (task_with t cs p)).tasks ≡ keyed (λ (u : Task). u.number) parent m.course.job.tasks = keyed-put_other (λ (u : Task). u.number) parent t.number (task_with t cs p) refl e.1 m.course.job.tasks in
-        let o = keyed (λ (u : Task). u.number) parent m.course.job.tasks in
+        let new : keyed (λ (u : Task). u.number) parent (with_task m.progress.job (task_with t cs p)).tasks ≡ keyed (λ (u : Task). u.number) parent m.progress.job.tasks = change_other (λ (u : Task). u.number) parent t.number (task_with t cs p) m.progress.job.tasks refl e.1 in
+        let o = keyed (λ (u : Task). u.number) parent m.progress.job.tasks in
         let O : Job → Option Task → List Known = λ j z. map known_of (from_frame c (frames_of_task z)) ++ outer_reach j (critical_of z) more in
-        ap (O (with_task m.course.job (task_with t cs p))) new
+        ap (O (with_task m.progress.job (task_with t cs p))) new
         ∙ ap (λ ks. map known_of (from_frame c (frames_of_task o)) ++ ks) (reach-by more (critical_of o))
   ]
 
-  pub reach-same : reach_of (with_task m.course.job (task_with t cs p)) (task_with t cs p) ≡ reach_of m.course.job t
-  reach-same = ap (λ ks. ks ++ outer_reach (with_task m.course.job (task_with t cs p)) t.critical t.parents) (known-with t.frames cs) ∙ ap (λ ks. map known_of t.frames ++ ks) (reach-by t.parents t.critical)
+  pub reach-same : reach_of (with_task m.progress.job (task_with t cs p)) (task_with t cs p) ≡ reach_of m.progress.job t
+  reach-same = ap (λ ks. ks ++ outer_reach (with_task m.progress.job (task_with t cs p)) t.critical t.parents) (known_cells t.frames cs) ∙ ap (λ ks. map known_of t.frames ++ ks) (reach-by t.parents t.critical)
 
   -- a frame that is looked up
   look-same : (q : Place) (id : ℕ) → Seen t.frames cs (look id (all_frames (here member_with (task_with t cs p) q))) (look id (all_frames (here m t q)))
-  look-same q id = look-tasks id t cs p (m.setting.dictionary ∷ State.mcp ∷ []) m.course.job.tasks runs.task
+  look-same q id = look-tasks id t cs p (m.constants.dictionary ∷ State.mcp ∷ []) m.progress.job.tasks runs.task
 
   pub level-same : (q : Place) (id : ℕ) → level_of_frame (frame (here member_with (task_with t cs p) q) id) ≡ level_of_frame (frame (here m t q) id)
   level-same q id = ⊎_elim

@@ -11,20 +11,20 @@ use Rattle.b67_model.specs.Entry.{accident, back_to}
 use Rattle.b67_model.specs.InOrder.{Starts, IsSegment, Known, known_of, outer_of, FramesInOrder, WordInOrder, IsInOrderButPlaces}
 use Rattle.b67_model.specs.Rows as rows
 use Rattle.b67_model.specs.Schedule.{Session}
-use Rattle.b67_model.specs.State.{Frame, Array, Task, Member, top}
+use Rattle.b67_model.specs.State.{Frame, Array, Task, SessionJob, top}
 use Rattle.b67_model.specs.Steps.{cells_of}
 use Rattle.b67_model.specs.Words.{Word, Operand}
 use Rattle.b67_stack.specs.declared.Cpu.{Cpu}
 use Rattle.b67_stack.specs.declared.Step.{Step}
 use Rattle.b67_stack.specs.declared.Step.TheVariants as step
-use Rattle.b67_stack.specs.Stands.{Storage}
-use Rattle.b67_layout.specs.Plan.{Plan}
-use Rattle.b67_layout.specs.Session.{IsRunning, SessionStands}
+use Rattle.b67_stack.specs.Represents.{Storage}
+use Rattle.b67_layout.specs.Placement.{Placement}
+use Rattle.b67_layout.specs.Session.{IsRunning, RepresentsSession}
 use Rattle.b67_layout.specs.Meets.{here, Meets}
 use Rattle.b67_layout.proofs.Fresh.{running_in_order}
 use Rattle.b67_exec_cells.specs.Tops.{cells}
 use Rattle.b67_exec_cells.proofs.Put.{room}
-use Rattle.b67_refer.specs.Scene.{Scene}
+use Rattle.b67_refer.specs.RunningContext.{RunningContext}
 use Rattle.b67_refer.specs.Ends.{IsProcAt}
 use Rattle.b67_entry_enter.specs.Procedures.{CanEnter, EntersOrFaults}
 use Rattle.b67_fetch.specs.Fetches.{IsFollowed}
@@ -42,14 +42,14 @@ second_order P arrays outer (f ∷ below) b a rest o e =
 
 -- what accidental entry requires and answers on other registers
 abbrev pub MayEnter : Cpu → Regs → ℕ → Type 0
-MayEnter cpu r cell = (a : Scene cpu.core r) × (q : Place) × (f : ℕ) × (segment : ℕ) × (level : ℕ) × (place : Place) × CanEnter cpu r a q cell f segment level place
+MayEnter cpu r cell = (a : RunningContext cpu.core r) × (q : Place) × (f : ℕ) × (segment : ℕ) × (level : ℕ) × (place : Place) × CanEnter cpu r a q cell f segment level place
 
 abbrev pub Enters : Cpu → Regs → ℕ → Place → Step → Cpu → Type 0
 Enters cpu r cell back result new =
-    (a : Scene cpu.core r) (q : Place) (f segment level : ℕ) (place : Place) → CanEnter cpu r a q cell f segment level place
+    (a : RunningContext cpu.core r) (q : Place) (f segment level : ℕ) (place : Place) → CanEnter cpu r a q cell f segment level place
     → EntersOrFaults a result cpu new (accident (here a.member a.task q) (cells_of (here a.member a.task q)) (back_to (here a.member a.task q) false back) (AtProc f segment level place))
 
-module _ (x : Storage) (cpu : Cpu) (plan : Plan) (s : Session) (m : Member) (t : Task) (ordered : IsInOrderButPlaces s) (h : SessionStands x cpu plan s) (runs : IsRunning plan s.jobs m t) (q : Place) (u v : Tagged) (o : ValueOver cpu x plan m t q u v) where
+module _ (x : Storage) (cpu : Cpu) (plan : Placement) (s : Session) (m : SessionJob) (t : Task) (ordered : IsInOrderButPlaces s) (h : RepresentsSession x cpu plan s) (runs : IsRunning plan s.jobs m t) (q : Place) (u v : Tagged) (o : ValueOver cpu x plan m t q u v) where
   abbrev pub proc_of : AtProcedure (follow (here m t q) o.reference)
   proc_of = record { frame = o.frame; segment = o.segment; level = o.level; place = o.place; is = o.ends }
 
@@ -59,7 +59,7 @@ module _ (x : Storage) (cpu : Cpu) (plan : Plan) (s : Session) (m : Member) (t :
         at = cpu.regs.s - 1;
         owner = (top t.frames).identity;
         is = o.under.is;
-        ordered = second_order (IsSegment m.setting) m.course.job.arrays (outer_of m.course.job t) t.frames (Operand o.bits) o.reference o.rest (running_in_order plan s m t ordered runs).1.frames o.is;
+        ordered = second_order (IsSegment m.constants) m.progress.job.arrays (outer_of m.progress.job t) t.frames (Operand o.bits) o.reference o.rest (running_in_order plan s m t ordered runs).1.frames o.is;
       } in
       record { shown = here_shown x cpu plan s m t ordered h runs; at = i.at; owner = i.owner; word = o.reference; stands = followed_stands x cpu plan s m t ordered h runs u o.reference i; ends = o.ends }
 

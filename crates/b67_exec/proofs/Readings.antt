@@ -1,46 +1,23 @@
 -- The operator that was read: its parameters, and the intrinsic that it calls.
-use Rattle.std.proofs.Common.{◌≡◌, ℕ, List, [], ◌∷◌, reverse, Option, Some, Ok, Err, refl, sym, subst}
+use Rattle.std.proofs.Common.{◌≡◌, ℕ, Option, Some, Ok, sym, subst}
 use Rattle.b67_word.specs.declared.couples.Place.{Place}
 use Rattle.b67_ctl.specs.Layout.{IsPlace}
 use Rattle.b67_model.specs.declared.operators.Op.{Op}
 use Rattle.b67_model.specs.declared.operators.Op.TheVariants.{Valc, Namc, Lt8, Lt16, Lt48, Mpcw, Brun, Brtr, Brfl, Bset, Brst, Isol, Insr, Plain}
-use Rattle.b67_model.specs.Answers.{Answer}
-use Rattle.b67_model.specs.Chase.{End, AtCell, AtElement, AtArray, AtProc, AtIntrinsic, follow_reference}
 use Rattle.b67_model.specs.Operators.{Reading}
 use Rattle.b67_model.specs.Rows.{reading_of, step_by, step}
-use Rattle.b67_model.specs.State.{Standing, Marked, Entered, Task, Setting, Member, Here}
-use Rattle.b67_model.specs.Steps.{cells_of}
-use Rattle.b67_model.specs.Words.{Word}
+use Rattle.b67_model.specs.State.{Task, JobConstants, SessionJob}
 use Rattle.b67_model.specs.Schedule.{Session}
 use Rattle.b67_model.specs.InOrder.{SettingInOrder}
 use Rattle.b67_law_order_steps.proofs.Readings.{OpBits, ReadFits}
 use Rattle.b67_law_order_steps.proofs.Segments.{reading_fits}
-use Rattle.b67_law_order_steps.specs.Profiles as profiles
 use Rattle.b67_stack.specs.declared.Cpu.{Cpu}
 use Rattle.b67_stack.specs.declared.Step.{Step}
-use Rattle.b67_stack.specs.Stands.{Storage}
-use Rattle.b67_layout.specs.Plan.{Plan}
+use Rattle.b67_stack.specs.Represents.{Storage}
+use Rattle.b67_layout.specs.Placement.{Placement}
 use Rattle.b67_exec_cells.specs.Running.{code_area}
-use Rattle.b67_entry_enter.specs.Procedures as procedures
 use Rattle.b67_entry_enter.specs.Procedures.{CallsOrMeets}
 use Rattle.b67_exec.specs.Operators.{ParametersFit, called_by, OperatorAt, OperatorMeets}
-
--- both definitions of what ENTR calls agree
-same_at : (e : Answer End) → procedures.called_at e ≡ profiles.called_at e
-same_at (Ok (AtIntrinsic n)) = refl
-same_at (Ok (AtCell f offset bits)) = refl
-same_at (Ok (AtElement n i)) = refl
-same_at (Ok (AtArray n)) = refl
-same_at (Ok (AtProc f segment level place)) = refl
-same_at (Err fault) = refl
-
-same_with : (h : Here) (cs : List Word) → procedures.called_with h cs ≡ profiles.called_by h cs
-same_with h [] = refl
-same_with h (r ∷ arguments) = same_at (follow_reference h r)
-
-pub same_called : (h : Here) (s : Standing) → procedures.called h s ≡ profiles.called_on h s
-same_called h Marked = same_with h (reverse (cells_of h))
-same_called h (Entered level environment back) = refl
 
 fits_by : (op : Op) → OpBits op → ParametersFit op
 fits_by (Valc couple) o = o
@@ -58,17 +35,17 @@ fits_by (Isol high width) o = tt
 fits_by (Insr high width) o = tt
 fits_by (Plain code) o = tt
 
-pub read_fits : (setting : Setting) (t : Task) (op : Op) (next : Place) → SettingInOrder setting → ◌≡◌ {A = Reading} (Ok (op, next)) (reading_of setting t) → ParametersFit op × IsPlace next
-read_fits setting t op next g is =
-    let r : ReadFits (Ok (op, next)) = subst ReadFits (sym is) (reading_fits setting t g) in
+pub read_fits : (constants : JobConstants) (t : Task) (op : Op) (next : Place) → SettingInOrder constants → ◌≡◌ {A = Reading} (Ok (op, next)) (reading_of constants t) → ParametersFit op × IsPlace next
+read_fits constants t op next g is =
+    let r : ReadFits (Ok (op, next)) = subst ReadFits (sym is) (reading_fits constants t g) in
     (fits_by op r.0, record { syllable = r.1.1; word = r.1.0 })
 
 -- what making the operator that was read answers
-abbrev ByReading : Storage → Plan → Session → Member → Task → Step → Cpu → Cpu → Reading → Type 0
-ByReading x plan s m t answered old new reading = CallsOrMeets x plan s m answered old new (called_by m t reading) (step_by m.setting m.course.job t reading)
+abbrev ByReading : Storage → Placement → Session → SessionJob → Task → Step → Cpu → Cpu → Reading → Type 0
+ByReading x plan s m t answered old new reading = CallsOrMeets x plan s m answered old new (called_by m t reading) (step_by m.constants m.progress.job t reading)
 
-pub operator_read : (x : Storage) (plan : Plan) (s : Session) (m : Member) (t : Task) (answered : Step) (old new : Cpu) (at : ℕ) (reading : Reading) → code_area x plan m t ≡ Some at → reading ≡ reading_of m.setting t
-    → CallsOrMeets x plan s m answered old new (called_by m t reading) (step_by m.setting m.course.job t reading) → OperatorMeets x plan s m t answered old new
+pub operator_read : (x : Storage) (plan : Placement) (s : Session) (m : SessionJob) (t : Task) (answered : Step) (old new : Cpu) (at : ℕ) (reading : Reading) → code_area x plan m t ≡ Some at → reading ≡ reading_of m.constants t
+    → CallsOrMeets x plan s m answered old new (called_by m t reading) (step_by m.constants m.progress.job t reading) → OperatorMeets x plan s m t answered old new
 unfolding step
 operator_read x plan s m t answered old new at reading area is made =
     let P : Option ℕ → Type 0 = λ o. OperatorAt x plan s m t answered old new o in

@@ -1,5 +1,5 @@
 -- A store into a procedure: the value stays, the reference goes, and the procedure is entered.
-use Rattle.std.proofs.Common.{◌≡◌, ◌≢◌, ℕ, zero, suc, ◌+◌, ◌-◌, ◌<◌, ◌≤◌, List, [], ◌∷◌, ◌++◌, map, length, Some, Ok, Err, refl, sym, ◌∙◌, ap, arith, Bool, false, inl, inr, ◌⊎◌, ⊎_elim, subst, slice_set}
+use Rattle.std.proofs.Common.{◌≡◌, ◌≢◌, ℕ, ◌+◌, ◌-◌, ◌<◌, ◌≤◌, List, [], ◌∷◌, ◌++◌, map, length, Ok, Err, refl, sym, ◌∙◌, ap, arith, Bool, false, inl, inr, ◌⊎◌, ⊎_elim, subst, slice_set}
 use Rattle.std.specs.Prelude.{if◌then◌else◌}
 use Rattle.std.specs.List.{slice_get}
 use Rattle.std.proofs.lemmas.Bool.{cases_eq}
@@ -15,18 +15,19 @@ use Rattle.b67_model.specs.Entry.{accident, back_to}
 use Rattle.b67_model.specs.InOrder.{Starts, Known, known_of, outer_of, is_original_of, IsSegment, CellsInOrder, FramesInOrder, IsInOrderButPlaces}
 use Rattle.b67_model.specs.Intrinsics.{is_original}
 use Rattle.b67_lemmas.specs.Lists.{Has, how_many}
+use Rattle.b67_lemmas.proofs.Places.{set-back}
 use Rattle.b67_model.specs.Rows as rows
 use Rattle.b67_model.specs.Schedule.{Session}
-use Rattle.b67_model.specs.State.{Frame, Array, Task, Member, Here, top, with_task}
+use Rattle.b67_model.specs.State.{Frame, Array, Task, SessionJob, OperatorContext, top, with_task}
 use Rattle.b67_model.specs.Steps.{Done, cells_of}
 use Rattle.b67_model.specs.Words as Words
 use Rattle.b67_model.specs.Words.{Word, Operand, Name, Ref, Row, Element, Original, Proc, Intrinsic, operand}
 use Rattle.b67_stack.specs.declared.Cpu.{Cpu}
 use Rattle.b67_stack.specs.declared.Step.{Step}
 use Rattle.b67_stack.specs.declared.Step.TheVariants as step
-use Rattle.b67_stack.specs.Stands.{Storage}
-use Rattle.b67_layout.specs.Plan.{Plan}
-use Rattle.b67_layout.specs.Session.{IsRunning, SessionHoldsBut, SessionStands}
+use Rattle.b67_stack.specs.Represents.{Storage}
+use Rattle.b67_layout.specs.Placement.{Placement}
+use Rattle.b67_layout.specs.Session.{IsRunning, SessionHoldsBut, RepresentsSession}
 use Rattle.b67_layout.specs.Meets.{here, with_job, Meets}
 use Rattle.b67_layout.proofs.Whole.{task_with}
 use Rattle.b67_layout.proofs.Fresh.{running_in_order}
@@ -34,7 +35,7 @@ use Rattle.b67_exec_cells.specs.Tops.{IsWordOf, IsAt, cells}
 use Rattle.b67_exec_cells.proofs.Replaced.{height-with}
 use Rattle.b67_exec_cells.proofs.Put.{room, replaced_stands}
 use Rattle.b67_layout.proofs.Cells.{cells_in_order}
-use Rattle.b67_refer.specs.Scene.{Scene}
+use Rattle.b67_refer.specs.RunningContext.{RunningContext}
 use Rattle.b67_refer.specs.Ends.{IsProcAt}
 use Rattle.b67_entry_enter.specs.Procedures.{CanEnter, EntersOrFaults}
 use Rattle.b67_fetch.proofs.Values.{here_scene}
@@ -54,7 +55,7 @@ is_operand (Intrinsic n) bits e = cc
 is_operand (Words.Segment n) bits e = cc
 
 -- what leads to a procedure is a reference
-leads_plain : (h : Here) (a : Word) (f segment level : ℕ) (place : Place) → follow h a ≡ Ok (AtProc f segment level place) → is_original a ≡ false
+leads_plain : (h : OperatorContext) (a : Word) (f segment level : ℕ) (place : Place) → follow h a ≡ Ok (AtProc f segment level place) → is_original a ≡ false
 leads_plain h (Operand n) f segment level place e = refl
 leads_plain h (Name c) f segment level place e = refl
 leads_plain h (Ref g o) f segment level place e = refl
@@ -65,7 +66,7 @@ leads_plain h (Proc g l p) f segment level place e = refl
 leads_plain h (Intrinsic n) f segment level place e = refl
 leads_plain h (Words.Segment n) f segment level place e = refl
 
-leads_tag : (x : Storage) (plan : Plan) (m : Member) (t : Task) (h : Here) (a : Word) (at : ℕ) (u : Tagged) (f segment level : ℕ) (place : Place) → follow h a ≡ Ok (AtProc f segment level place) → IsWordOf x plan m t a at u → u.tag ≡ 1
+leads_tag : (x : Storage) (plan : Placement) (m : SessionJob) (t : Task) (h : OperatorContext) (a : Word) (at : ℕ) (u : Tagged) (f segment level : ℕ) (place : Place) → follow h a ≡ Ok (AtProc f segment level place) → IsWordOf x plan m t a at u → u.tag ≡ 1
 leads_tag x plan m t h (Operand n) at u f segment level place e i = cc
 leads_tag x plan m t h (Name c) at u f segment level place e i = ap (λ (w : Tagged). w.tag) i.0
 leads_tag x plan m t h (Ref g o) at u f segment level place e i = ap (λ (w : Tagged). w.tag) i.0
@@ -96,42 +97,36 @@ originals_without n bits (Proc g l p) rest e = omega arith
 originals_without n bits (Intrinsic k) rest e = omega arith
 originals_without n bits (Words.Segment k) rest e = omega arith
 
-no_proc : (h : Here) (bits : ℕ) (a : Word) (f segment level : ℕ) (place : Place) → follow h a ≡ Ok (AtProc f segment level place) → (g l : ℕ) (p : Place) → Has (Operand bits ∷ a ∷ []) (Proc g l p) → ⊥
+no_proc : (h : OperatorContext) (bits : ℕ) (a : Word) (f segment level : ℕ) (place : Place) → follow h a ≡ Ok (AtProc f segment level place) → (g l : ℕ) (p : Place) → Has (Operand bits ∷ a ∷ []) (Proc g l p) → ⊥
 no_proc h bits a f segment level place e g l p (inl z) = cc
 no_proc h bits a f segment level place e g l p (inr (inl z)) = let k : follow h (Proc g l p) ≡ Ok (AtProc f segment level place) = ap (follow h) (sym z) ∙ e in let b : ⊥ = cc in b
 no_proc h bits a f segment level place e g l p (inr (inr z)) = z
 
--- a word that is written and written back
-set-back : {A : Type 0} (xs : List A) (i : ℕ) (v w : A) → slice_get xs i ≡ Some w → slice_set (slice_set xs i v) i w ≡ xs
-set-back [] i v w e = cc
-set-back (x ∷ xs) zero v w e = ap (λ y. y ∷ xs) (sym (same_Some x w e))
-set-back (x ∷ xs) (suc i) v w e = ap (λ ys. x ∷ ys) (set-back xs i v w e)
-
-module _ (x : Storage) (cpu : Cpu) (plan : Plan) (s : Session) (m : Member) (t : Task) (ordered : IsInOrderButPlaces s) (h : SessionStands x cpu plan s) (runs : IsRunning plan s.jobs m t) (q : Place)
+module _ (x : Storage) (cpu : Cpu) (plan : Placement) (s : Session) (m : SessionJob) (t : Task) (ordered : IsInOrderButPlaces s) (h : RepresentsSession x cpu plan s) (runs : IsRunning plan s.jobs m t) (q : Place)
     (bits : ℕ) (a : Word) (rest : List Word) (e : cells t ≡ Operand bits ∷ a ∷ rest) (p : AtProcedure (follow (here m t q) a)) (u v : Tagged)
     (at_u : IsAt x plan m t cpu.core a (cpu.regs.s - 1) u) (at_v : IsAt x plan m t cpu.core (Operand bits) cpu.regs.s v) (enough : cpu.regs.f + 2 ≤ cpu.regs.s) where
   plain : is_original a ≡ false
   plain = leads_plain (here m t q) a p.frame p.segment p.level p.place p.is
 
-  pub under_ordered : IsInOrderButPlaces (with_job s m (with_task m.course.job (task_with t (Operand bits ∷ rest) t.place)))
+  pub under_ordered : IsInOrderButPlaces (with_job s m (with_task m.progress.job (task_with t (Operand bits ∷ rest) t.place)))
   under_ordered =
       let i = running_in_order plan s m t ordered runs in
       let tall = height-with t.frames (Operand bits ∷ rest) i.1.some in
       let low = i.1.not_higher in
-      cells_in_order plan s m t ordered runs (Operand bits ∷ rest) t.place (value_order (IsSegment m.setting) m.course.job.arrays (outer_of m.course.job t) t.frames bits a rest i.1.frames e)
+      cells_in_order plan s m t ordered runs (Operand bits ∷ rest) t.place (value_order (IsSegment m.constants) m.progress.job.arrays (outer_of m.progress.job t) t.frames bits a rest i.1.frames e)
       (λ n. originals_without n bits a rest plain ∙ ap (how_many (is_original_of n)) (sym e)) (omega (arith, tall, low, ap length e)) i.1.place.word_fits i.1.place.syllable_fits
 
   abbrev pub under_cpu : Cpu
   under_cpu = record cpu { core = slice_set cpu.core (cpu.regs.s - 1) v }
 
-  pub under_holds : SessionHoldsBut [] x (slice_set cpu.core (cpu.regs.s - 1) v) (record cpu.regs { s = cpu.regs.s - 1 }) cpu.critical plan (with_job s m (with_task m.course.job (task_with t (Operand bits ∷ rest) t.place)))
+  pub under_holds : SessionHoldsBut [] x (slice_set cpu.core (cpu.regs.s - 1) v) (record cpu.regs { s = cpu.regs.s - 1 }) cpu.critical plan (with_job s m (with_task m.progress.job (task_with t (Operand bits ∷ rest) t.place)))
   under_holds =
       let r = room x cpu plan s m t ordered h runs in
       let d = (replaced_stands x cpu plan s m t ordered h runs 2 (cpu.regs.s - 1) v t.place (Operand bits ∷ a ∷ []) rest (Operand bits) e refl enough (omega (arith, enough)) (omega (arith, r.last)) (refl, (plain, tt)) tt at_v.is).holds in
-      let P : Place → Type 0 = λ z. SessionHoldsBut [] x (slice_set cpu.core (cpu.regs.s - 1) v) (record cpu.regs { s = cpu.regs.s - 1; place = z }) cpu.critical plan (with_job s m (with_task m.course.job (task_with t (Operand bits ∷ rest) t.place))) in
+      let P : Place → Type 0 = λ z. SessionHoldsBut [] x (slice_set cpu.core (cpu.regs.s - 1) v) (record cpu.regs { s = cpu.regs.s - 1; place = z }) cpu.critical plan (with_job s m (with_task m.progress.job (task_with t (Operand bits ∷ rest) t.place))) in
       subst P (sym (h.holds.running m t runs).place) d
 
-  abbrev pub under_scene : Scene (slice_set cpu.core (cpu.regs.s - 1) v) (record cpu.regs { s = cpu.regs.s - 1 })
+  abbrev pub under_scene : RunningContext (slice_set cpu.core (cpu.regs.s - 1) v) (record cpu.regs { s = cpu.regs.s - 1 })
   under_scene = scene0 x cpu plan s m t ordered h runs (Operand bits ∷ rest) under_ordered under_cpu (cpu.regs.s - 1) refl under_holds
 
   pub under_enters : (cell : ℕ) → IsProcAt (here_scene x cpu plan s m t ordered h runs) q cell p.frame p.segment p.level p.place → CanEnter under_cpu (record cpu.regs { s = cpu.regs.s - 1 }) under_scene q cell p.frame p.segment p.level p.place

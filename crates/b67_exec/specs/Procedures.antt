@@ -8,11 +8,11 @@ use Rattle.b67_stack.specs.declared.Cpu.{Cpu}
 use Rattle.b67_layout.specs.Meets.{here, RunsSome}
 use Rattle.b67_exec_cells.specs.Tops.{cells}
 use Rattle.b67_fetch.specs.Fetches.{enters_at, top_end}
-use Rattle.b67_refer.specs.Scene.{Scene, IsShown}
+use Rattle.b67_refer.specs.RunningContext.{RunningContext, IsShown}
 use Rattle.b67_refer.specs.Cells.{StandsFor}
 
 -- the running task, seen on these registers, follows a word to a procedure
-pub record Leads (cpu : Cpu) (a : Scene cpu.core cpu.regs) (q : Place) (w : Tagged) (f segment level : ℕ) (place : Place) : Type 0 where
+pub record Leads (cpu : Cpu) (a : RunningContext cpu.core cpu.regs) (q : Place) (w : Tagged) (f segment level : ℕ) (place : Place) : Type 0 where
   pub shown : IsShown a cpu.display
   pub at : ℕ
   pub owner : ℕ

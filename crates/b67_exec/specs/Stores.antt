@@ -3,18 +3,18 @@ use Rattle.std.specs.Prelude.{◌≡◌, ℕ, ◌+◌, ◌-◌, ◌≤◌, true,
 use Rattle.b67_word.specs.Tagged.{Tagged}
 use Rattle.b67_word.specs.declared.couples.Place.{Place}
 use Rattle.b67_model.specs.Chase.{AtProc, follow}
-use Rattle.b67_model.specs.State.{Task, Member}
+use Rattle.b67_model.specs.State.{Task, SessionJob}
 use Rattle.b67_model.specs.Words.{Word, Operand}
 use Rattle.b67_stack.specs.declared.Cpu.{Cpu}
-use Rattle.b67_stack.specs.Stands.{Storage}
-use Rattle.b67_layout.specs.Plan.{Plan}
+use Rattle.b67_stack.specs.Represents.{Storage}
+use Rattle.b67_layout.specs.Placement.{Placement}
 use Rattle.b67_layout.specs.Meets.{here, RunsSome}
 use Rattle.b67_exec_cells.specs.Tops.{cells, IsAt}
 use Rattle.b67_fetch.specs.Fetches.{enters_at}
 use Rattle.b67_fetch.specs.Stores.{store_end}
 
 -- the value to be stored stands over the reference, and this leads to a procedure
-pub record ValueOver (cpu : Cpu) (x : Storage) (plan : Plan) (m : Member) (t : Task) (q : Place) (lower upper : Tagged) : Type 0 where
+pub record ValueOver (cpu : Cpu) (x : Storage) (plan : Placement) (m : SessionJob) (t : Task) (q : Place) (lower upper : Tagged) : Type 0 where
   pub bits : ℕ
   pub reference : Word
   pub rest : List Word

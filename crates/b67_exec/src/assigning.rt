@@ -11,10 +11,10 @@ ghost use Rattle.b67_fetch.specs.Stores.{store_end};
 ghost use Rattle.b67_refer.specs.Ends.{IsProcAt};
 ghost use Rattle.b67_exec.specs.Stores.{ValueOver, StoresInProc};
 
-use b67_exec_cells::two_cells;
+use crate::evaluating::{enter_in_place, evaluate, load, procedure_cell};
 use b67_ctl::Regs;
 use b67_entry_enter::accident_on;
-use crate::evaluating::{enter_in_place, evaluate, load, procedure_cell};
+use b67_exec_cells::two_cells;
 use b67_stack::{Cpu, Step};
 use b67_word::{Place, Word};
 

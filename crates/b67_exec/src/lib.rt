@@ -6,6 +6,6 @@ mod evaluating;
 mod operators;
 
 pub use assigning::{stod, ston};
-pub use evaluating::{enter_in_place, evaluate, load, procedure_cell};
-pub use operators::{operator, perform};
 pub use b67_entry::{exit, retn};
+pub use evaluating::{enter_in_place, evaluate, load, procedure_cell};
+pub use operators::{Outcome, operate, operator};

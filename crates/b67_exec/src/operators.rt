@@ -1,30 +1,43 @@
 //! One operator of the running task over core, by its row.
 
-ghost use Rattle.std.specs.Prelude.{◌≡◌, Ok};
+ghost use Rattle.std.specs.Prelude.{◌≡◌, ◌≢◌, true, false, None, Ok};
 ghost use Rattle.b67_ctl.specs.Layout.{IsPlace};
 ghost use Rattle.b67_model.specs.declared.operators.Op.TheVariants.{Plain};
-ghost use Rattle.b67_model.specs.Rows.{row, plain as plain_row};
+ghost use Rattle.b67_model.specs.Rows.{reading_of, row, plain as plain_row};
 ghost use Rattle.b67_model.specs.Called.{called};
+ghost use Rattle.b67_stack.specs.declared.Step.TheVariants.{Done};
 ghost use Rattle.b67_layout.specs.Meets.{here, RunsSome, ForEach};
+ghost use Rattle.b67_layout_step.specs.Keeping.{is_leaving};
+ghost use Rattle.b67_exec_cells.specs.Running.{code_area};
 ghost use Rattle.b67_entry_enter.specs.Procedures.{CallsOrMeets};
-ghost use Rattle.b67_exec.specs.Operators.{ParametersFit, OperatorMeets};
+ghost use Rattle.b67_exec.specs.Operators.{ParametersFit, OperatorMeets, leaves_record, CutsRecord};
 
-use crate::evaluating::{evaluate, load};
 use crate::assigning::{stod, ston};
-use b67_exec_cells::reading;
-use b67_entry_enter::{entr, mkst};
-use b67_fetch::{indx, nxlv, stff};
+use crate::evaluating::{evaluate, load};
 use b67_entry::{exit, retn};
-use b67_model::{Code, Op};
+use b67_entry_enter::{entr, mkst};
+use b67_exec_cells::reading;
 use b67_exec_operands::{
     Binary, Unary, branch_if, dlet, dupl, exch, go_on, literal, mpcw, namc, on_one, on_two,
 };
+use b67_fetch::{indx, nxlv, stff};
+use b67_model::{Code, Op};
 use b67_stack::{Cpu, Step, What};
 use b67_word::{Fault, Place};
 
-/// An operator without parameters, behind which the task goes on at `next`.
+/// What an operator came to. `left` is whether it is one that leaves an activation record, EXIT or RETN: after `Done` the
+/// arrays of the record that was left are still to be given back.
+#[derive(Clone, Copy, Debug, PartialEq, Eq)]
+pub struct Outcome {
+    pub step: Step,
+    pub left: bool,
+}
+
+/// An operator without parameters that leaves no activation record, after which the task goes on at `next`.
+#[inline(always)]
 fn plain(cpu: &mut Cpu, code: Code, next: Place) -> Step
     requires runs { RunsSome cpu.old }
+    requires stays { is_leaving (Plain code) ≡ false }
     requires next { IsPlace next }
     ensures row { ForEach cpu.old (λ x plan s m t. CallsOrMeets x plan s m result cpu.old cpu.new (called (Plain code) (here m t next)) (plain_row code (here m t next))) }
 {
@@ -46,9 +59,7 @@ fn plain(cpu: &mut Cpu, code: Code, next: Place) -> Step
         Code::Leqv => on_two(cpu, Binary::Leqv, next),
         Code::Lnot => on_one(cpu, Unary::Lnot, next),
         Code::Same => on_two(cpu, Binary::Same, next),
-        Code::Exit => exit(cpu),
         Code::Indx => indx(cpu, next),
-        Code::Retn => retn(cpu),
         Code::Entr => entr(cpu, next),
         Code::Nxlv => nxlv(cpu, next),
         Code::Mkst => mkst(cpu, next),
@@ -63,12 +74,15 @@ fn plain(cpu: &mut Cpu, code: Code, next: Place) -> Step
         Code::Ston => ston(cpu, next),
         Code::Load => load(cpu, next),
         Code::Nvld => Step::Fault(Fault::InvalidOperator),
+        Code::Exit | Code::Retn => unreachable!(),
     }
 }
 
-/// An operator, behind which the task goes on at `next`.
-pub fn perform(cpu: &mut Cpu, op: Op, next: Place) -> Step
+/// An operator that leaves no activation record, after which the task goes on at `next`.
+#[inline(always)]
+fn stay(cpu: &mut Cpu, op: Op, next: Place) -> Step
     requires runs { RunsSome cpu.old }
+    requires stays { is_leaving op ≡ false }
     requires parameters { ParametersFit op }
     requires next { IsPlace next }
     ensures row { ForEach cpu.old (λ x plan s m t. CallsOrMeets x plan s m result cpu.old cpu.new (called op (here m t next)) (row op (here m t next))) }
@@ -91,21 +105,71 @@ pub fn perform(cpu: &mut Cpu, op: Op, next: Place) -> Step
     }
 }
 
+/// An operator, after which the task goes on at `next`.
+#[inline(always)]
+fn perform(cpu: &mut Cpu, op: Op, next: Place) -> Outcome
+    requires runs { RunsSome cpu.old }
+    requires parameters { ParametersFit op }
+    requires next { IsPlace next }
+    ensures row { ForEach cpu.old (λ x plan s m t. CallsOrMeets x plan s m result.step cpu.old cpu.new (called op (here m t next)) (row op (here m t next))) }
+    ensures left { result.left ≡ is_leaving op }
+    ensures cuts { result.left ≡ true → result.step ≡ Done → CutsRecord cpu.old cpu.new }
+{
+    match op {
+        Op::Plain(Code::Exit) => Outcome {
+            step: exit(cpu),
+            left: true,
+        },
+        Op::Plain(Code::Retn) => Outcome {
+            step: retn(cpu),
+            left: true,
+        },
+        _ => Outcome {
+            step: stay(cpu, op, next),
+            left: false,
+        },
+    }
+}
+
+/// Makes the operator at the running place, as `operator`, and tells whether it is one that leaves an activation record.
+///
+/// Where the running segment is present, `left` is true exactly where EXIT or RETN stands at the running place. After its
+/// `Done` no word above the stack's top has changed: from the top on, up to the top before, stand the words of the record
+/// that was left.
+#[inline(always)]
+pub fn operate(cpu: &mut Cpu) -> Outcome
+    requires { RunsSome cpu.old }
+    ensures row { ForEach cpu.old (λ x plan s m t. OperatorMeets x plan s m t result.step cpu.old cpu.new) }
+    ensures left { ForEach cpu.old (λ x plan s m t. code_area x plan m t ≢ None → result.left ≡ leaves_record (reading_of m.constants t)) }
+    ensures cuts { result.left ≡ true → result.step ≡ Done → CutsRecord cpu.old cpu.new }
+{
+    let read = match reading(cpu) {
+        Some(read) => read,
+        None => {
+            return Outcome {
+                step: Step::Absent(What::Code(cpu.regs.segment)),
+                left: false,
+            };
+        }
+    };
+    match read {
+        Ok((op, next)) => perform(cpu, op, next),
+        Err(_) => Outcome {
+            step: Step::Fault(Fault::InvalidOperator),
+            left: false,
+        },
+    }
+}
+
 /// Makes the operator at the running place.
 ///
 /// `Absent(Code(..))`, with nothing changed, exactly where the running segment is absent, and `Call(n)`, with nothing
 /// changed, exactly where the operator calls intrinsic n. INVALID OPERATOR where no operator is read. Else `Done`,
 /// `Absent(Array(..))`, `Fault` and `Ended` are by the operator's row; nothing is changed but at `Done`.
+#[inline(always)]
 pub fn operator(cpu: &mut Cpu) -> Step
     requires { RunsSome cpu.old }
     ensures row { ForEach cpu.old (λ x plan s m t. OperatorMeets x plan s m t result cpu.old cpu.new) }
 {
-    let read = match reading(cpu) {
-        Some(read) => read,
-        None => return Step::Absent(What::Code(cpu.regs.segment)),
-    };
-    match read {
-        Ok((op, next)) => perform(cpu, op, next),
-        Err(_) => Step::Fault(Fault::InvalidOperator),
-    }
+    operate(cpu).step
 }

@@ -1,5 +1,5 @@
--- The running segment is a thing of the picture: its descriptor and its words in core.
-use Rattle.std.proofs.Common.{◌≡◌, ℕ, zero, suc, ◌+◌, ◌-◌, ◌<◌, ◌^◌, List, [], ◌∷◌, map, flat_map, length, Option, Some, None, refl, sym, ◌∙◌, ap, arith, inl, inr, true, false, subst, take, drop}
+-- The running segment is an object of the view: its descriptor and its words in core.
+use Rattle.std.proofs.Common.{◌≡◌, ℕ, zero, suc, ◌+◌, ◌-◌, ◌<◌, ◌^◌, List, [], ◌∷◌, map, flat_map, length, Option, Some, None, refl, sym, ◌∙◌, ap, arith, inl, inr, true, false, subst}
 use Rattle.std.specs.List.{slice_get, slice_range}
 use Rattle.std.proofs.lemmas.Option.{same_Some, none-some, slice_get_within}
 use Rattle.std.proofs.lemmas.List.{length-map}
@@ -9,90 +9,67 @@ use Rattle.b67_area.proofs.Laws.{area_inside}
 use Rattle.b67_ctl.specs.declared.descriptors.SegDesc.{SegDesc}
 use Rattle.b67_ctl.specs.Descriptors.{seg_word, IsSegDesc}
 use Rattle.b67_lemmas.specs.Lists.{Has}
-use Rattle.b67_model.specs.State.{Segment, Task, Member}
+use Rattle.b67_lemmas.proofs.Members.{all_in, has_get, keyed-has}
+use Rattle.b67_lemmas.proofs.Places.{get_within}
+use Rattle.b67_model.specs.State.{Segment, Task, SessionJob}
 use Rattle.b67_model.specs.Operators.{Reading, operator_at}
 use Rattle.b67_model.specs.Rows.{code_of, reading_of}
 use Rattle.b67_model.specs.Run.{number_of}
 use Rattle.b67_model.specs.Schedule.{Session}
 use Rattle.b67_model.specs.InOrder.{SegmentInOrder, IsInOrderButPlaces}
-use Rattle.b67_law_order.proofs.Members.{all_in, has_get}
 use Rattle.b67_stack.specs.declared.Cpu.{Cpu}
-use Rattle.b67_stack.specs.Shapes.{Upward}
-use Rattle.b67_stack.specs.Picture.{Thing, is_present, address_or}
-use Rattle.b67_stack.specs.Stands.{Storage, Content, ThingStands, info_of}
+use Rattle.b67_stack.specs.MachineView.{PagedObject, is_present, address_or}
+use Rattle.b67_stack.specs.Represents.{Storage, Content, RepresentsObject, info_of}
 use Rattle.b67_stack.proofs.Homes.{chain_small}
-use Rattle.b67_layout.specs.Plan.{Plan}
-use Rattle.b67_layout.specs.Layout.{code_things, things_of, array_thing}
-use Rattle.b67_layout.specs.Session.{IsRunning, SessionStands}
-use Rattle.b67_layout.proofs.Others.{keyed-has}
+use Rattle.b67_stack.proofs.Lies.{upward-range}
+use Rattle.b67_layout.specs.Placement.{Placement}
+use Rattle.b67_layout.specs.Layout.{code_objects, objects_of, array_object}
+use Rattle.b67_layout.specs.Session.{IsRunning, RepresentsSession}
 use Rattle.b67_layout.proofs.Fresh.{running_in_order}
-use Rattle.b67_exec_cells.proofs.Replaced.{member_things, before}
+use Rattle.b67_exec_cells.proofs.Replaced.{member_objects, before}
 use Rattle.b67_exec_cells.specs.Running.{code_held, code_area, code_desc}
 
-get_within : {A : Type 0} (xs : List A) (i : ℕ) → i < length xs → (x : A) × (slice_get xs i ≡ Some x)
-get_within [] i low = absurd (omega (arith, low))
-get_within (x ∷ xs) zero low = (x, refl)
-get_within (x ∷ xs) (suc i) low = get_within xs i (omega (arith, low))
-
-pub code_thing : (plan : Plan) (j n : ℕ) (ss : List Segment) (i at : ℕ) (g : Segment) → slice_get ss i ≡ Some g → at ≡ plan.dictionary j + 1 + (n + i) → Has (code_things plan j n ss) (record { home = at; kind = kind.Code; numbers = g.code })
-code_thing plan j n [] i at g e is = absurd (none-some g e)
-code_thing plan j n (s ∷ ss) zero at g e is =
-    let T : Segment → Thing = λ z. record { home = plan.dictionary j + 1 + n; kind = kind.Code; numbers = z.code } in
-    let U : ℕ → Thing = λ z. record { home = z; kind = kind.Code; numbers = g.code } in
+pub code_object : (plan : Placement) (j n : ℕ) (ss : List Segment) (i at : ℕ) (g : Segment) → slice_get ss i ≡ Some g → at ≡ plan.dictionary j + 1 + (n + i) → Has (code_objects plan j n ss) (record { home = at; kind = kind.Code; numbers = g.code })
+code_object plan j n [] i at g e is = absurd (none-some g e)
+code_object plan j n (s ∷ ss) zero at g e is =
+    let T : Segment → PagedObject = λ z. record { home = plan.dictionary j + 1 + n; kind = kind.Code; numbers = z.code } in
+    let U : ℕ → PagedObject = λ z. record { home = z; kind = kind.Code; numbers = g.code } in
     inl (ap T (same_Some s g e) ∙ ap U (sym (is ∙ (let z : plan.dictionary j + 1 + (n + 0) ≡ plan.dictionary j + 1 + n = omega arith in z))))
-code_thing plan j n (s ∷ ss) (suc i) at g e is = inr (code_thing plan j (n + 1) ss i at g e (is ∙ (let z : plan.dictionary j + 1 + (n + suc i) ≡ plan.dictionary j + 1 + (n + 1 + i) = omega arith in z)))
-
--- words that lie from an address on are read from there
-drop-get : {A : Type 0} (xs : List A) (i : ℕ) (v : A) → slice_get xs i ≡ Some v → drop i xs ≡ v ∷ drop (suc i) xs
-drop-get [] i v e = absurd (none-some v e)
-drop-get (x ∷ xs) zero v e = ap (λ y. y ∷ xs) (same_Some x v e)
-drop-get (x ∷ xs) (suc i) v e = drop-get xs i v e
-
-upward-take : (core : List Tagged) (at : ℕ) (ws : List Tagged) → Upward core at ws → take (length ws) (drop at core) ≡ ws
-upward-take core at [] u = refl
-upward-take core at (w ∷ ws) u =
-    let next : at + 1 ≡ suc at = omega arith in
-    let rest : take (length ws) (drop (suc at) core) ≡ ws = subst (λ n. take (length ws) (drop n core) ≡ ws) next (upward-take core (at + 1) ws u.1) in
-    rw (drop-get core at w u.0) (ap (λ ys. w ∷ ys) rest)
-
-upward-range : (core : List Tagged) (at n : ℕ) (ws : List Tagged) → n ≡ length ws → Upward core at ws → slice_range core at (at + n) ≡ ws
-upward-range core at n ws e u =
-    let count : at + n - at ≡ length ws = omega (arith, e) in
-    ap (λ k. take k (drop at core)) count ∙ upward-take core at ws u
+code_object plan j n (s ∷ ss) (suc i) at g e is = inr (code_object plan j (n + 1) ss i at g e (is ∙ (let z : plan.dictionary j + 1 + (n + suc i) ≡ plan.dictionary j + 1 + (n + 1 + i) = omega arith in z)))
 
 contents-words : (tag : ℕ) (ns : List ℕ) → contents (map (word tag) ns) ≡ ns
 contents-words tag [] = refl
 contents-words tag (n ∷ ns) = ap (λ ms. n ∷ ms) (contents-words tag ns)
 
-module _ (x : Storage) (cpu : Cpu) (plan : Plan) (s : Session) (m : Member) (t : Task) (ordered : IsInOrderButPlaces s) (h : SessionStands x cpu plan s) (runs : IsRunning plan s.jobs m t) where
+module _ (x : Storage) (cpu : Cpu) (plan : Placement) (s : Session) (m : SessionJob) (t : Task) (ordered : IsInOrderButPlaces s) (h : RepresentsSession x cpu plan s) (runs : IsRunning plan s.jobs m t) where
   has_m : Has s.jobs m
-  has_m = keyed-has number_of m.setting.number s.jobs m runs.member
+  has_m = keyed-has number_of m.constants.number s.jobs m runs.member
 
   home : ℕ
-  home = plan.dictionary m.setting.number + 1 + t.segment
+  home = plan.dictionary m.constants.number + 1 + t.segment
 
   -- the running segment, which is one of the job
-  found : (g : Segment) × (slice_get m.setting.segments (t.segment - 1) ≡ Some g)
-  found = let o = (running_in_order plan s m t ordered runs).1.place in get_within m.setting.segments (t.segment - 1) (omega (arith, o.from_one, o.within))
+  found : (g : Segment) × (slice_get m.constants.segments (t.segment - 1) ≡ Some g)
+  found = let o = (running_in_order plan s m t ordered runs).1.place in get_within m.constants.segments (t.segment - 1) (omega (arith, o.from_one, o.within))
 
-  code-is : code_of m.setting t.segment ≡ found.0.code
+  code-is : code_of m.constants t.segment ≡ found.0.code
   code-is = rw (found.1) refl
 
-  abbrev thing : Thing
-  thing = record { home = plan.dictionary m.setting.number + 1 + t.segment; kind = kind.Code; numbers = found.0.code }
+  abbrev object : PagedObject
+  object = record { home = plan.dictionary m.constants.number + 1 + t.segment; kind = kind.Code; numbers = found.0.code }
 
-  there : Has (flat_map (things_of plan) s.jobs) thing
+  there : Has (flat_map (objects_of plan) s.jobs) object
   there =
       let o = (running_in_order plan s m t ordered runs).1.place in
-      member_things plan s.jobs m thing has_m
-      (before (code_things plan m.setting.number 1 m.setting.segments) (map (array_thing plan m.setting.number) m.course.job.arrays) thing
-      (code_thing plan m.setting.number 1 m.setting.segments (t.segment - 1) (plan.dictionary m.setting.number + 1 + t.segment) found.0 found.1 (omega (arith, o.from_one))))
+      member_objects plan s.jobs m object has_m
+      (before (code_objects plan m.constants.number 1 m.constants.segments) (map (array_object plan m.constants.number) m.progress.job.arrays) object
+      (code_object plan m.constants.number 1 m.constants.segments (t.segment - 1) (plan.dictionary m.constants.number + 1 + t.segment) found.0 found.1 (omega (arith, o.from_one))))
 
-  stands : ThingStands x cpu.core thing
-  stands = h.holds.memory.things thing there
+  stands : RepresentsObject x cpu.core object
+  stands = h.holds.memory.objects object there
 
   -- the address of its descriptor
-  pub at-is : cpu.regs.dict + cpu.regs.segment ≡ plan.dictionary m.setting.number + 1 + t.segment
+  pub at-is : cpu.regs.dict + cpu.regs.segment ≡ plan.dictionary m.constants.number + 1 + t.segment
   at-is = let o = h.holds.running m t runs in omega (arith, o.dict, o.segment)
 
   pub word-is : slice_get cpu.core (cpu.regs.dict + cpu.regs.segment) ≡ Some (seg_word (code_desc x plan m t))
@@ -107,19 +84,19 @@ module _ (x : Storage) (cpu : Cpu) (plan : Plan) (s : Session) (m : Member) (t :
   pub bound : length cpu.core < 2 ^ 20
   bound = h.holds.memory.directory.small
 
-  pub short : length (code_of m.setting t.segment) < 2 ^ 13
+  pub short : length (code_of m.constants t.segment) < 2 ^ 13
   short =
       let o = (running_in_order plan s m t ordered runs).0.unchanging in
-      let g = all_in SegmentInOrder m.setting.segments found.0 o.segments (has_get m.setting.segments (t.segment - 1) found.0 found.1) in
+      let g = all_in SegmentInOrder m.constants.segments found.0 o.segments (has_get m.constants.segments (t.segment - 1) found.0 found.1) in
       omega (arith, g.length_high, ap length code-is)
 
   -- the area lies in core
-  pub area-inside : (at : ℕ) → code_area x plan m t ≡ Some at → at + length (code_of m.setting t.segment) < length cpu.core
+  pub area-inside : (at : ℕ) → code_area x plan m t ≡ Some at → at + length (code_of m.constants t.segment) < length cpu.core
   area-inside at e =
-      let o = h.holds.memory.owned.of_held (plan.dictionary m.setting.number + 1 + t.segment) at e in
-      let same : o.0 ≡ thing = h.holds.memory.slots.laid.differ o.0 thing o.1 there o.2 in
+      let o = h.holds.memory.owned.of_held (plan.dictionary m.constants.number + 1 + t.segment) at e in
+      let same : o.0 ≡ object = h.holds.memory.slots.laid.differ o.0 object o.1 there o.2 in
       let i = (area_inside cpu.core x.low x.spans at (info_of x o.0) h.holds.memory.directory o.3).1 in
-      let n : length o.0.numbers ≡ length (code_of m.setting t.segment) = ap (λ (z : Thing). length z.numbers) same ∙ ap length (sym code-is) in
+      let n : length o.0.numbers ≡ length (code_of m.constants t.segment) = ap (λ (z : PagedObject). length z.numbers) same ∙ ap length (sym code-is) in
       omega (arith, i, n)
 
   address-small : (o : Option ℕ) (f : ℕ) → ((at : ℕ) → o ≡ Some at → at < 2 ^ 20) → f < 2 ^ 20 → address_or o f < 2 ^ 20
@@ -131,16 +108,16 @@ module _ (x : Storage) (cpu : Cpu) (plan : Plan) (s : Session) (m : Member) (t :
       let held = code_held x plan m t in
       record {
         words = omega (arith, short);
-        address = address-small held.area held.chain (λ at e. (let i = area-inside at e in omega (arith, i, bound))) (chain_small x cpu.core thing held.area held.chain stands.content);
+        address = address-small held.area held.chain (λ at e. (let i = area-inside at e in omega (arith, i, bound))) (chain_small x cpu.core object held.area held.chain stands.content);
       }
 
   -- what is read in the area
-  pub code-read : (at : ℕ) (words : List Tagged) → code_area x plan m t ≡ Some at → words ≡ slice_range cpu.core at (at + length (code_of m.setting t.segment)) → contents words ≡ code_of m.setting t.segment
+  pub code-read : (at : ℕ) (words : List Tagged) → code_area x plan m t ≡ Some at → words ≡ slice_range cpu.core at (at + length (code_of m.constants t.segment)) → contents words ≡ code_of m.constants t.segment
   code-read at words e is =
-      let C : Option ℕ → Type 0 = λ o. Content x cpu.core thing o (code_held x plan m t).chain in
+      let C : Option ℕ → Type 0 = λ o. Content x cpu.core object o (code_held x plan m t).chain in
       let up = (subst C e stands.content).0 in
-      let n : length (code_of m.setting t.segment) ≡ length (map (word 3) found.0.code) = ap length code-is ∙ sym (length-map found.0.code (word 3)) in
-      ap contents (is ∙ upward-range cpu.core at (length (code_of m.setting t.segment)) (map (word 3) found.0.code) n up) ∙ contents-words 3 found.0.code ∙ sym code-is
+      let n : length (code_of m.constants t.segment) ≡ length (map (word 3) found.0.code) = ap length code-is ∙ sym (length-map found.0.code (word 3)) in
+      ap contents (is ∙ upward-range cpu.core at (length (code_of m.constants t.segment)) (map (word 3) found.0.code) n up) ∙ contents-words 3 found.0.code ∙ sym code-is
 
   no_area : (o : Option ℕ) → is_present o ≡ false → o ≡ None
   no_area None e = refl
@@ -161,9 +138,9 @@ module _ (x : Storage) (cpu : Cpu) (plan : Plan) (s : Session) (m : Member) (t :
   desc-inside d e on = let i = area-inside d.address (present d e on) in omega (arith, i, ap (λ (z : SegDesc). z.words) e)
 
   pub read-is : (d : SegDesc) (words : List Tagged) (r : Reading) → d ≡ code_desc x plan m t → d.present ≡ true → words ≡ slice_range cpu.core d.address (d.address + d.words) → (length words < 2 ^ 16 → r ≡ operator_at (contents words) cpu.regs.place)
-      → r ≡ reading_of m.setting t
+      → r ≡ reading_of m.constants t
   read-is d words r e on is decoded =
-      let w : d.words ≡ length (code_of m.setting t.segment) = ap (λ (z : SegDesc). z.words) e in
+      let w : d.words ≡ length (code_of m.constants t.segment) = ap (λ (z : SegDesc). z.words) e in
       let c = code-read d.address words (present d e on) (is ∙ ap (λ (n : ℕ). slice_range cpu.core d.address (d.address + n)) w) in
-      let n : length words ≡ length (code_of m.setting t.segment) = sym (length-map words (λ (v : Tagged). v.bits)) ∙ ap length c in
-      decoded (omega (arith, n, short)) ∙ ap (λ (ns : List ℕ). operator_at ns cpu.regs.place) c ∙ ap (operator_at (code_of m.setting t.segment)) (h.holds.running m t runs).place
+      let n : length words ≡ length (code_of m.constants t.segment) = sym (length-map words (λ (v : Tagged). v.bits)) ∙ ap length c in
+      decoded (omega (arith, n, short)) ∙ ap (λ (ns : List ℕ). operator_at ns cpu.regs.place) c ∙ ap (operator_at (code_of m.constants t.segment)) (h.holds.running m t runs).place

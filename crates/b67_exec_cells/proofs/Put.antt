@@ -13,120 +13,120 @@ use Rattle.b67_ctl.specs.declared.marks.Mscw.{Mscw}
 use Rattle.b67_ctl.specs.Layout.{bit}
 use Rattle.b67_core.proofs.Writes.{slice_get-set_other}
 use Rattle.b67_model.specs.Words.{Word}
-use Rattle.b67_model.specs.State.{Task, Job, Member, with_top_cells, height, with_task}
+use Rattle.b67_model.specs.State.{Task, Job, SessionJob, with_top_cells, height, with_task}
 use Rattle.b67_model.specs.Steps.{leaves_cells}
 use Rattle.b67_model.specs.Run.{number_of}
 use Rattle.b67_model.specs.Schedule.{Session}
 use Rattle.b67_model.specs.InOrder.{IsInOrderButPlaces}
 use Rattle.b67_stack.specs.declared.Cpu.{Cpu}
 use Rattle.b67_stack.specs.Shapes.{Shape, Fits}
-use Rattle.b67_stack.specs.Stacks.{Spot, Activation, high, top_mark}
-use Rattle.b67_stack.specs.Picture.{Thing, RunsOn, Settled}
-use Rattle.b67_stack.specs.Stands.{Storage, RunningStands, Stands}
+use Rattle.b67_stack.specs.Stacks.{StackPlace, Activation, stack_words, top_mark}
+use Rattle.b67_stack.specs.MachineView.{PagedObject, RunsOn, NoOriginalAboveTop}
+use Rattle.b67_stack.specs.Represents.{Storage, RepresentsRunning, Represents}
 use Rattle.b67_stack.specs.Changes.{with_stack, with_cells, top_cells}
 use Rattle.b67_stack.proofs.Tops.{cells_above}
 use Rattle.b67_stack.proofs.Slots.{running_slot, running_fits}
 use Rattle.b67_stack.proofs.Pushes.{Room, room_of}
-use Rattle.b67_layout.specs.Plan.{Plan, spot_in, outer_spots}
-use Rattle.b67_layout.specs.Layout.{shape, stack_of_task, picture}
-use Rattle.b67_layout.specs.Session.{IsRunning, SessionStands, SessionStandsBut}
+use Rattle.b67_layout.specs.Placement.{Placement, spot_in, outer_spots}
+use Rattle.b67_layout.specs.Layout.{shape, stack_of_task, machine_view}
+use Rattle.b67_layout.specs.Session.{IsRunning, RepresentsSession, RepresentsSessionBut}
 use Rattle.b67_layout.specs.Meets.{here, with_job, IsMade}
-use Rattle.b67_layout.proofs.Others.{keyed-has}
 use Rattle.b67_layout.proofs.Frames.{height-is}
 use Rattle.b67_layout.proofs.Rows.{runs_on}
 use Rattle.b67_layout.proofs.Steps.{GoesOn}
 use Rattle.b67_layout.proofs.Starts as Starts
-use Rattle.b67_layout.proofs.Whole.{task_with, SessionStands-cells}
+use Rattle.b67_layout.proofs.Whole.{task_with, RepresentsSession-cells}
 use Rattle.b67_layout.proofs.Fresh.{fresh, running_in_order}
-use Rattle.b67_layout.proofs.Gone.{no_things_gone}
+use Rattle.b67_layout.proofs.Gone.{no_objects_gone}
 use Rattle.b67_exec_cells.specs.Tops.{IsWordOf, IsAt, cells, GivesTop, GivesTwo, MayStand, NoOriginals}
-use Rattle.b67_exec_cells.proofs.Replaced.{cells-are, height-with, shapes_plain, may_push, Stands-less, Stands-put, word_under}
+use Rattle.b67_exec_cells.proofs.Replaced.{cells-are, height-with, shapes_plain, may_push, Represents-less, Represents-put, word_under}
+use Rattle.b67_lemmas.proofs.Members.{keyed-has}
 
-module _ (x : Storage) (old : Cpu) (plan : Plan) (s : Session) (m : Member) (t : Task) (ordered : IsInOrderButPlaces s) (h : SessionStands x old plan s) (runs : IsRunning plan s.jobs m t) where
+module _ (x : Storage) (old : Cpu) (plan : Placement) (s : Session) (m : SessionJob) (t : Task) (ordered : IsInOrderButPlaces s) (h : RepresentsSession x old plan s) (runs : IsRunning plan s.jobs m t) where
   -- the running stack, and the shapes of its top cells
   abbrev pub stack : List Activation
-  stack = stack_of_task plan m.setting.number m.course.job plan.running t
+  stack = stack_of_task plan m.constants.number m.progress.job plan.running t
 
   abbrev pub shaped : Word → Shape
-  shaped = shape plan m.setting.number m.course.job (spot_in plan.running (outer_spots plan m.setting.number m.course.job t.critical t.parents) t.frames)
+  shaped = shape plan m.constants.number m.progress.job (spot_in plan.running (outer_spots plan m.constants.number m.progress.job t.critical t.parents) t.frames)
 
-  pub runs_here : RunsOn (picture plan s.jobs) plan.running stack
-  runs_here = runs_on plan s.jobs m t h.holds.fits.rows (keyed-has number_of m.setting.number s.jobs m runs.member) (keyed-has (λ (u : Task). u.number) t.number m.course.job.tasks t runs.task) runs.slot runs.member runs.task
+  pub runs_here : RunsOn (machine_view plan s.jobs) plan.running stack
+  runs_here = runs_on plan s.jobs m t h.holds.fits.rows (keyed-has number_of m.constants.number s.jobs m runs.member) (keyed-has (λ (u : Task). u.number) t.number m.progress.job.tasks t runs.task) runs.slot runs.member runs.task
 
-  pub registers : RunningStands old.regs (picture plan s.jobs) plan.running stack
-  registers = running_slot x old.core old.regs (picture plan s.jobs) plan.running stack h.holds.memory runs_here
+  pub registers : RepresentsRunning old.regs (machine_view plan s.jobs) plan.running stack
+  registers = running_slot x old.core old.regs (machine_view plan s.jobs) plan.running stack h.holds.memory runs_here
 
-  pub room : Room x old.core old.regs (picture plan s.jobs) plan.running stack
-  room = room_of x old.core old.regs (picture plan s.jobs) plan.running stack h.holds.memory runs_here
+  pub room : Room x old.core old.regs (machine_view plan s.jobs) plan.running stack
+  room = room_of x old.core old.regs (machine_view plan s.jobs) plan.running stack h.holds.memory runs_here
 
-  pub size-is : m.setting.stack_size ≡ plan.size
-  size-is = h.holds.fits.sizes m (keyed-has number_of m.setting.number s.jobs m runs.member)
+  pub size-is : m.constants.stack_size ≡ plan.size
+  size-is = h.holds.fits.sizes m (keyed-has number_of m.constants.number s.jobs m runs.member)
 
   some_frame : t.frames ≢ []
   some_frame = (running_in_order plan s m t ordered runs).1.some
 
-  height_of : height t.frames ≡ suc (high stack)
-  height_of = height-is plan m.setting.number m.course.job plan.running (outer_spots plan m.setting.number m.course.job t.critical t.parents) t.frames
+  height_of : height t.frames ≡ suc (stack_words stack)
+  height_of = height-is plan m.constants.number m.progress.job plan.running (outer_spots plan m.constants.number m.progress.job t.critical t.parents) t.frames
 
-  -- the words of a state's words, as the picture has them
+  -- the words of a state's words, as the view has them
   pub seen : (w : Word) (at : ℕ) (v : Tagged) → IsWordOf x plan m t w at v → Fits x.held (shaped w) at v
   seen w at v f =
-      let P : ℕ → Type 0 = λ k. Fits x.held (shape plan m.setting.number m.course.job (spot_in k (outer_spots plan m.setting.number m.course.job t.critical t.parents) t.frames) w) at v in
+      let P : ℕ → Type 0 = λ k. Fits x.held (shape plan m.constants.number m.progress.job (spot_in k (outer_spots plan m.constants.number m.progress.job t.critical t.parents) t.frames) w) at v in
       subst P (sym runs.slot) f
 
   pub shown : (w : Word) (at : ℕ) (v : Tagged) → Fits x.held (shaped w) at v → IsWordOf x plan m t w at v
   shown w at v f =
-      let P : ℕ → Type 0 = λ k. Fits x.held (shape plan m.setting.number m.course.job (spot_in k (outer_spots plan m.setting.number m.course.job t.critical t.parents) t.frames) w) at v in
+      let P : ℕ → Type 0 = λ k. Fits x.held (shape plan m.constants.number m.progress.job (spot_in k (outer_spots plan m.constants.number m.progress.job t.critical t.parents) t.frames) w) at v in
       subst P runs.slot f
 
   pub tops : (gone rest : List Word) → cells t ≡ gone ++ rest → top_cells stack ≡ map shaped gone ++ map shaped rest
   tops gone rest e =
-      cells-are plan m.setting.number m.course.job plan.running (outer_spots plan m.setting.number m.course.job t.critical t.parents) t.frames
+      cells-are plan m.constants.number m.progress.job plan.running (outer_spots plan m.constants.number m.progress.job t.critical t.parents) t.frames
       ∙ ap (map shaped) e ∙ map-append shaped gone rest
 
   -- other cells on top, whatever the machine's words
   pub stands_cells : (new : Cpu) (q : Place) (cs : List Word) → new.display ≡ old.display → new.critical ≡ old.critical → GoesOn old.regs new.regs q
       → ((i : ℕ) → (slice_get new.core i ≡ slice_get old.core i) ⊎ ((old.regs.bosr < i) × (i ≤ old.regs.losr)))
-      → Stands x new.core new.regs (with_stack (picture plan s.jobs) plan.running (with_cells stack (map shaped cs))) × Settled (with_stack (picture plan s.jobs) plan.running (with_cells stack (map shaped cs)))
-      → SessionStands x new plan (with_job s m (with_task m.course.job (task_with t cs q)))
+      → Represents x new.core new.regs (with_stack (machine_view plan s.jobs) plan.running (with_cells stack (map shaped cs))) × NoOriginalAboveTop (with_stack (machine_view plan s.jobs) plan.running (with_cells stack (map shaped cs)))
+      → RepresentsSession x new plan (with_job s m (with_task m.progress.job (task_with t cs q)))
   stands_cells new q cs display critical on changed stands =
       let low : plan.stacks ≤ old.regs.bosr = omega (arith, registers.first) in
-      SessionStands-cells x old new plan s m t q h runs (λ i below. ⊎_elim (λ e. e) (λ o. absurd (omega (arith, o.0, below, low))) (changed i)) on display critical m.course.job.next_frame cs (fresh plan s m t ordered runs) stands.0 stands.1
+      RepresentsSession-cells x old new plan s m t q h runs (λ i below. ⊎_elim (λ e. e) (λ o. absurd (omega (arith, o.0, below, low))) (changed i)) on display critical m.progress.job.next_frame cs (fresh plan s m t ordered runs) stands.0 stands.1
 
   pub made_cells : (new : Cpu) (q : Place) (cs : List Word) → new.display ≡ old.display → new.critical ≡ old.critical → GoesOn old.regs new.regs q
       → ((i : ℕ) → (slice_get new.core i ≡ slice_get old.core i) ⊎ ((old.regs.bosr < i) × (i ≤ old.regs.losr)))
-      → Stands x new.core new.regs (with_stack (picture plan s.jobs) plan.running (with_cells stack (map shaped cs))) × Settled (with_stack (picture plan s.jobs) plan.running (with_cells stack (map shaped cs)))
-      → height (with_top_cells t.frames cs) ≤ m.setting.stack_size
+      → Represents x new.core new.regs (with_stack (machine_view plan s.jobs) plan.running (with_cells stack (map shaped cs))) × NoOriginalAboveTop (with_stack (machine_view plan s.jobs) plan.running (with_cells stack (map shaped cs)))
+      → height (with_top_cells t.frames cs) ≤ m.constants.stack_size
       → IsMade x plan s m old new (leaves_cells (here m t q) cs None)
   made_cells new q cs display critical on changed stands fits =
-      let job : Job = with_task m.course.job (task_with t cs q) in
-      let test : nat_le (height (with_top_cells t.frames cs)) m.setting.stack_size ≡ true = grind (arith, nat_tests) in
+      let job : Job = with_task m.progress.job (task_with t cs q) in
+      let test : nat_le (height (with_top_cells t.frames cs)) m.constants.stack_size ≡ true = grind (arith, nat_tests) in
       record {
         job = job;
         touched = None;
         is = rw test refl;
         present = tt;
-        stands = (let P : List Thing → Type 0 = λ left. SessionStandsBut left x new plan (with_job s m job) in subst P (sym (no_things_gone plan m job refl)) (stands_cells new q cs display critical on changed stands));
+        stands = (let P : List PagedObject → Type 0 = λ left. RepresentsSessionBut left x new plan (with_job s m job) in subst P (sym (no_objects_gone plan m job refl)) (stands_cells new q cs display critical on changed stands));
         changed = λ i. ⊎_elim (λ e. inl e) (λ o. inr (inl o)) (changed i);
       }
 
   -- fewer cells
-  Stands-dropped : (count : ℕ) (q : Place) (gone rest : List Word) → cells t ≡ gone ++ rest → length gone ≡ count → NoOriginals gone
-      → Stands x old.core (record old.regs { s = old.regs.s - count; place = q }) (with_stack (picture plan s.jobs) plan.running (with_cells stack (map shaped rest))) × Settled (with_stack (picture plan s.jobs) plan.running (with_cells stack (map shaped rest)))
-  Stands-dropped count q gone rest e n plain =
-      let d = Stands-less x old.core old.regs (picture plan s.jobs) plan.running stack h.holds.memory runs_here (map shaped gone) (map shaped rest) q (tops gone rest e)
-      (shapes_plain plan m.setting.number m.course.job (spot_in plan.running (outer_spots plan m.setting.number m.course.job t.critical t.parents) t.frames) gone plain) h.holds.settled in
-      let P : ℕ → Type 0 = λ i. Stands x old.core (record old.regs { s = old.regs.s - i; place = q }) (with_stack (picture plan s.jobs) plan.running (with_cells stack (map shaped rest))) in
+  Represents-dropped : (count : ℕ) (q : Place) (gone rest : List Word) → cells t ≡ gone ++ rest → length gone ≡ count → NoOriginals gone
+      → Represents x old.core (record old.regs { s = old.regs.s - count; place = q }) (with_stack (machine_view plan s.jobs) plan.running (with_cells stack (map shaped rest))) × NoOriginalAboveTop (with_stack (machine_view plan s.jobs) plan.running (with_cells stack (map shaped rest)))
+  Represents-dropped count q gone rest e n plain =
+      let d = Represents-less x old.core old.regs (machine_view plan s.jobs) plan.running stack h.holds.memory runs_here (map shaped gone) (map shaped rest) q (tops gone rest e)
+      (shapes_plain plan m.constants.number m.progress.job (spot_in plan.running (outer_spots plan m.constants.number m.progress.job t.critical t.parents) t.frames) gone plain) h.holds.settled in
+      let P : ℕ → Type 0 = λ i. Represents x old.core (record old.regs { s = old.regs.s - i; place = q }) (with_stack (machine_view plan s.jobs) plan.running (with_cells stack (map shaped rest))) in
       (subst P (length-map gone shaped ∙ n) d.0, d.1)
 
   pub dropped_stands : (count : ℕ) (q : Place) (gone rest : List Word) → cells t ≡ gone ++ rest → length gone ≡ count → NoOriginals gone
-      → SessionStands x (record old { regs = record old.regs { s = old.regs.s - count; place = q } }) plan (with_job s m (with_task m.course.job (task_with t rest q)))
+      → RepresentsSession x (record old { regs = record old.regs { s = old.regs.s - count; place = q } }) plan (with_job s m (with_task m.progress.job (task_with t rest q)))
   dropped_stands count q gone rest e n plain =
-      stands_cells (record old { regs = record old.regs { s = old.regs.s - count; place = q } }) q rest refl refl (record { slot = refl; dict = refl; entries = refl; segment = refl; place = refl }) (λ i. inl refl) (Stands-dropped count q gone rest e n plain)
+      stands_cells (record old { regs = record old.regs { s = old.regs.s - count; place = q } }) q rest refl refl (record { slot = refl; dict = refl; entries = refl; segment = refl; place = refl }) (λ i. inl refl) (Represents-dropped count q gone rest e n plain)
 
-  pub dropped-fits : (gone rest : List Word) → cells t ≡ gone ++ rest → height (with_top_cells t.frames rest) ≤ m.setting.stack_size
+  pub dropped-fits : (gone rest : List Word) → cells t ≡ gone ++ rest → height (with_top_cells t.frames rest) ≤ m.constants.stack_size
   dropped-fits gone rest e =
-      let f = (running_fits x old.core old.regs (picture plan s.jobs) plan.running stack h.holds.memory runs_here).0 in
+      let f = (running_fits x old.core old.regs (machine_view plan s.jobs) plan.running stack h.holds.memory runs_here).0 in
       let tall = height-with t.frames rest some_frame in
       let longer = ap length e ∙ length-append gone rest in
       omega (arith, tall, longer, height_of, f.fits, size-is)
@@ -136,18 +136,18 @@ module _ (x : Storage) (old : Cpu) (plan : Plan) (s : Session) (m : Member) (t :
   dropped count q gone rest e n plain =
       made_cells (record old { regs = record old.regs { s = old.regs.s - count; place = q } }) q rest refl refl
       (record { slot = refl; dict = refl; entries = refl; segment = refl; place = refl }) (λ i. inl refl)
-      (Stands-dropped count q gone rest e n plain) (dropped-fits gone rest e)
+      (Represents-dropped count q gone rest e n plain) (dropped-fits gone rest e)
 
   -- a word in the place of cells
-  Stands-replaced : (count i : ℕ) (v : Tagged) (q : Place) (gone rest : List Word) (w : Word) → cells t ≡ gone ++ rest → length gone ≡ count → i ≡ old.regs.s - count + 1 → i ≤ old.regs.losr
-      → NoOriginals gone → MayStand m.course.job w → IsWordOf x plan m t w i v
-      → Stands x (slice_set old.core i v) (record old.regs { s = i; place = q }) (with_stack (picture plan s.jobs) plan.running (with_cells stack (map shaped (w ∷ rest)))) × Settled (with_stack (picture plan s.jobs) plan.running (with_cells stack (map shaped (w ∷ rest))))
-  Stands-replaced count i v q gone rest w e n at inside plain may fit =
-      let spot : ℕ → Spot = spot_in plan.running (outer_spots plan m.setting.number m.course.job t.critical t.parents) t.frames in
-      let has_m = keyed-has number_of m.setting.number s.jobs m runs.member in
+  Represents-replaced : (count i : ℕ) (v : Tagged) (q : Place) (gone rest : List Word) (w : Word) → cells t ≡ gone ++ rest → length gone ≡ count → i ≡ old.regs.s - count + 1 → i ≤ old.regs.losr
+      → NoOriginals gone → MayStand m.progress.job w → IsWordOf x plan m t w i v
+      → Represents x (slice_set old.core i v) (record old.regs { s = i; place = q }) (with_stack (machine_view plan s.jobs) plan.running (with_cells stack (map shaped (w ∷ rest)))) × NoOriginalAboveTop (with_stack (machine_view plan s.jobs) plan.running (with_cells stack (map shaped (w ∷ rest))))
+  Represents-replaced count i v q gone rest w e n at inside plain may fit =
+      let spot : ℕ → StackPlace = spot_in plan.running (outer_spots plan m.constants.number m.progress.job t.critical t.parents) t.frames in
+      let has_m = keyed-has number_of m.constants.number s.jobs m runs.member in
       let count-is : length (map shaped gone) ≡ count = length-map gone shaped ∙ n in
-      Stands-put x old.core old.regs (picture plan s.jobs) plan.running stack h.holds.memory runs_here (map shaped gone) (map shaped rest) (shaped w) v i q (tops gone rest e)
-      (at ∙ ap (λ (k : ℕ). old.regs.s - k + 1) (sym count-is)) inside (shapes_plain plan m.setting.number m.course.job spot gone plain) h.holds.settled (may_push plan s.jobs m spot w has_m may) (seen w i v fit)
+      Represents-put x old.core old.regs (machine_view plan s.jobs) plan.running stack h.holds.memory runs_here (map shaped gone) (map shaped rest) (shaped w) v i q (tops gone rest e)
+      (at ∙ ap (λ (k : ℕ). old.regs.s - k + 1) (sym count-is)) inside (shapes_plain plan m.constants.number m.progress.job spot gone plain) h.holds.settled (may_push plan s.jobs m spot w has_m may) (seen w i v fit)
 
   within : (count i : ℕ) (v : Tagged) → old.regs.f + count ≤ old.regs.s → i ≡ old.regs.s - count + 1 → i ≤ old.regs.losr → (k : ℕ) → (slice_get (slice_set old.core i v) k ≡ slice_get old.core k) ⊎ ((old.regs.bosr < k) × (k ≤ old.regs.losr))
   within count i v enough at inside k =
@@ -155,31 +155,31 @@ module _ (x : Storage) (old : Cpu) (plan : Plan) (s : Session) (m : Member) (t :
       ⊎_elim (λ (z : k ≡ i). inr (omega (arith, z, at, enough, r.mark), omega (arith, z, inside))) (λ (z : k ≡ i → ⊥). inl (slice_get-set_other old.core i k v z)) (cases_eq k i)
 
   pub replaced_stands : (count i : ℕ) (v : Tagged) (q : Place) (gone rest : List Word) (w : Word) → cells t ≡ gone ++ rest → length gone ≡ count → old.regs.f + count ≤ old.regs.s → i ≡ old.regs.s - count + 1 → i ≤ old.regs.losr
-      → NoOriginals gone → MayStand m.course.job w → IsWordOf x plan m t w i v
-      → SessionStands x (record old { core = slice_set old.core i v; regs = record old.regs { s = i; place = q } }) plan (with_job s m (with_task m.course.job (task_with t (w ∷ rest) q)))
+      → NoOriginals gone → MayStand m.progress.job w → IsWordOf x plan m t w i v
+      → RepresentsSession x (record old { core = slice_set old.core i v; regs = record old.regs { s = i; place = q } }) plan (with_job s m (with_task m.progress.job (task_with t (w ∷ rest) q)))
   replaced_stands count i v q gone rest w e n enough at inside plain may fit =
       stands_cells (record old { core = slice_set old.core i v; regs = record old.regs { s = i; place = q } }) q (w ∷ rest) refl refl
-      (record { slot = refl; dict = refl; entries = refl; segment = refl; place = refl }) (within count i v enough at inside) (Stands-replaced count i v q gone rest w e n at inside plain may fit)
+      (record { slot = refl; dict = refl; entries = refl; segment = refl; place = refl }) (within count i v enough at inside) (Represents-replaced count i v q gone rest w e n at inside plain may fit)
 
   pub replaced : (count i : ℕ) (v : Tagged) (q : Place) (gone rest : List Word) (w : Word) → cells t ≡ gone ++ rest → length gone ≡ count → old.regs.f + count ≤ old.regs.s → i ≡ old.regs.s - count + 1 → i ≤ old.regs.losr
-      → NoOriginals gone → MayStand m.course.job w → IsWordOf x plan m t w i v
+      → NoOriginals gone → MayStand m.progress.job w → IsWordOf x plan m t w i v
       → IsMade x plan s m old (record old { core = slice_set old.core i v; regs = record old.regs { s = i; place = q } }) (leaves_cells (here m t q) (w ∷ rest) None)
   replaced count i v q gone rest w e n enough at inside plain may fit =
       let tall = height-with t.frames (w ∷ rest) some_frame in
       let longer = ap length e ∙ length-append gone rest in
       let g = registers in
       made_cells (record old { core = slice_set old.core i v; regs = record old.regs { s = i; place = q } }) q (w ∷ rest) refl refl
-      (record { slot = refl; dict = refl; entries = refl; segment = refl; place = refl }) (within count i v enough at inside) (Stands-replaced count i v q gone rest w e n at inside plain may fit)
+      (record { slot = refl; dict = refl; entries = refl; segment = refl; place = refl }) (within count i v enough at inside) (Represents-replaced count i v q gone rest w e n at inside plain may fit)
       (omega (arith, tall, longer, n, height_of, size-is, g.last, g.top, at, inside, enough))
 
   -- such a word fits where its place lies in the slot
   pub fitting : (count i : ℕ) (gone rest : List Word) (w : Word) → cells t ≡ gone ++ rest → length gone ≡ count → old.regs.f + count ≤ old.regs.s → i ≡ old.regs.s - count + 1 → i ≤ old.regs.losr
-      → nat_le (height (with_top_cells t.frames (w ∷ rest))) m.setting.stack_size ≡ true
+      → nat_le (height (with_top_cells t.frames (w ∷ rest))) m.constants.stack_size ≡ true
   fitting count i gone rest w e n enough at inside =
       let tall = height-with t.frames (w ∷ rest) some_frame in
       let longer = ap length e ∙ length-append gone rest in
       let g = registers in
-      let low : height (with_top_cells t.frames (w ∷ rest)) ≤ m.setting.stack_size = omega (arith, tall, longer, n, height_of, size-is, g.last, g.top, at, inside, enough) in
+      let low : height (with_top_cells t.frames (w ∷ rest)) ≤ m.constants.stack_size = omega (arith, tall, longer, n, height_of, size-is, g.last, g.top, at, inside, enough) in
       grind (arith, nat_tests)
 
   -- no room for it
@@ -189,21 +189,21 @@ module _ (x : Storage) (old : Cpu) (plan : Plan) (s : Session) (m : Member) (t :
       let tall = height-with t.frames (w ∷ rest) some_frame in
       let longer = ap length e ∙ length-append gone rest in
       let g = registers in
-      let more : m.setting.stack_size < height (with_top_cells t.frames (w ∷ rest)) = omega (arith, tall, longer, n, height_of, size-is, g.last, g.top, at, over, enough) in
-      let test : nat_le (height (with_top_cells t.frames (w ∷ rest))) m.setting.stack_size ≡ false = grind (arith, nat_tests) in
+      let more : m.constants.stack_size < height (with_top_cells t.frames (w ∷ rest)) = omega (arith, tall, longer, n, height_of, size-is, g.last, g.top, at, over, enough) in
+      let test : nat_le (height (with_top_cells t.frames (w ∷ rest))) m.constants.stack_size ≡ false = grind (arith, nat_tests) in
       rw test refl
 
   -- the cells by S, F and the mark
   pub counted : (mark : Mscw) (n : ℕ) → mark ≡ top_mark old.regs.slot stack → n ≡ bit mark.entered → old.regs.s ≡ old.regs.f + n + length (cells t)
   counted mark n is e =
-      cells_above x old.core old.regs (picture plan s.jobs) old.regs.slot stack h.holds.memory (Starts.runs_here x old plan s m t h runs)
+      cells_above x old.core old.regs (machine_view plan s.jobs) old.regs.slot stack h.holds.memory (Starts.runs_here x old plan s m t h runs)
       ∙ ap (λ (i : ℕ). old.regs.f + i + length (top_cells stack)) (sym (e ∙ ap (λ (w : Mscw). bit w.entered) is))
-      ∙ ap (λ (i : ℕ). old.regs.f + n + i) (ap length (cells-are plan m.setting.number m.course.job plan.running (outer_spots plan m.setting.number m.course.job t.critical t.parents) t.frames) ∙ length-map (cells t) shaped)
+      ∙ ap (λ (i : ℕ). old.regs.f + n + i) (ap length (cells-are plan m.constants.number m.progress.job plan.running (outer_spots plan m.constants.number m.progress.job t.critical t.parents) t.frames) ∙ length-map (cells t) shaped)
 
   -- a word that is read is that of the cell there
   read_at : (above : List Word) (w : Word) (rest : List Word) (i : ℕ) (v : Tagged) → cells t ≡ above ++ w ∷ rest → old.regs.s - length above ≡ i → slice_get old.core i ≡ Some v → IsAt x plan m t old.core w i v
   read_at above w rest i v e at got =
-      let d = word_under x old.core old.regs (picture plan s.jobs) plan.running stack h.holds.memory runs_here (map shaped above) (shaped w) (map shaped rest) (tops above (w ∷ rest) e) in
+      let d = word_under x old.core old.regs (machine_view plan s.jobs) plan.running stack h.holds.memory runs_here (map shaped above) (shaped w) (map shaped rest) (tops above (w ∷ rest) e) in
       let here_at : old.regs.s - length (map shaped above) ≡ i = ap (λ (k : ℕ). old.regs.s - k) (length-map above shaped) ∙ at in
       let same : d.0 ≡ v = same_Some d.0 v (sym d.1 ∙ ap (slice_get old.core) here_at ∙ got) in
       let P : ℕ → Type 0 = λ k. Fits x.held (shaped w) k v in
@@ -224,11 +224,11 @@ module _ (x : Storage) (old : Cpu) (plan : Plan) (s : Session) (m : Member) (t :
     by_cells (b ∷ a ∷ rest) e n = (u, v, refl, read_at (b ∷ []) a rest (old.regs.s - 1) u e refl got_u, read_at [] b (a ∷ rest) old.regs.s v e (omega arith) got_v)
 
 -- too few cells
-pub none_given : (x : Storage) (cpu : Cpu) (plan : Plan) (m : Member) (t : Task) (cs : List Word) → length cs < 1 → GivesTop x plan m t cpu cs (Err StackUnderflow)
+pub none_given : (x : Storage) (cpu : Cpu) (plan : Placement) (m : SessionJob) (t : Task) (cs : List Word) → length cs < 1 → GivesTop x plan m t cpu cs (Err StackUnderflow)
 none_given x cpu plan m t [] n = refl
 none_given x cpu plan m t (a ∷ rest) n = absurd (omega (arith, n))
 
-pub one_given : (x : Storage) (cpu : Cpu) (plan : Plan) (m : Member) (t : Task) (cs : List Word) → length cs < 2 → GivesTwo x plan m t cpu cs (Err StackUnderflow)
+pub one_given : (x : Storage) (cpu : Cpu) (plan : Placement) (m : SessionJob) (t : Task) (cs : List Word) → length cs < 2 → GivesTwo x plan m t cpu cs (Err StackUnderflow)
 one_given x cpu plan m t [] n = refl
 one_given x cpu plan m t (b ∷ []) n = refl
 one_given x cpu plan m t (b ∷ a ∷ rest) n = absurd (omega (arith, n))

@@ -10,25 +10,25 @@ use Rattle.b67_lemmas.specs.Lists.{Has}
 use Rattle.b67_model.specs.Words as Words
 use Rattle.b67_model.specs.Words.{Word, Operand, Name, Ref, Element, Original, Proc, Intrinsic}
 use Rattle.b67_model.specs.State as State
-use Rattle.b67_model.specs.State.{Frame, Task, Job, Member, top, with_top_cells, height}
+use Rattle.b67_model.specs.State.{Frame, Task, Job, SessionJob, top, with_top_cells, height}
 use Rattle.b67_model.specs.Intrinsics.{is_original}
 use Rattle.b67_stack.specs.Shapes as Shapes
 use Rattle.b67_stack.specs.Shapes.{Shape, Fits}
-use Rattle.b67_stack.specs.Stacks.{Spot, Activation}
-use Rattle.b67_stack.specs.Picture.{Thing, Picture, Settled, RunsOn, IsArrayAt}
-use Rattle.b67_stack.specs.Stands.{Storage, Stands}
+use Rattle.b67_stack.specs.Stacks.{StackPlace, Activation}
+use Rattle.b67_stack.specs.MachineView.{PagedObject, MachineView, NoOriginalAboveTop, RunsOn, IsArrayAt}
+use Rattle.b67_stack.specs.Represents.{Storage, Represents}
 use Rattle.b67_stack.specs.Changes.{with_stack, with_cells, top_cells, MayPush}
-use Rattle.b67_stack.proofs.Cells.{cell_word, Stands-drop, Stands-cells, with_stack-twice}
+use Rattle.b67_stack.proofs.Cells.{cell_word, Represents-drop, Represents-cells, with_stack-twice}
 use Rattle.b67_stack.proofs.Pushes.{RunsOn-with}
 use Rattle.b67_stack.proofs.Slots.{running_fits}
-use Rattle.b67_layout.specs.Plan.{Plan, spot_in}
-use Rattle.b67_layout.specs.Layout.{shape, activations, array_thing, code_things, things_of}
+use Rattle.b67_layout.specs.Placement.{Placement, spot_in}
+use Rattle.b67_layout.specs.Layout.{shape, activations, array_object, code_objects, objects_of}
 use Rattle.b67_layout.proofs.Settles as Settles
 use Rattle.b67_layout.proofs.Settles.{Settled-drop, Settled-more}
 use Rattle.b67_exec_cells.specs.Tops.{IsLive, MayStand, NoOriginals}
 
 -- the cells of the top frame are those of the top activation record
-pub cells-are : (plan : Plan) (j : ℕ) (job : Job) (k : ℕ) (outer : ℕ → Spot) (fs : List Frame)
+pub cells-are : (plan : Placement) (j : ℕ) (job : Job) (k : ℕ) (outer : ℕ → StackPlace) (fs : List Frame)
     → top_cells (activations plan j job k outer fs) ≡ map (shape plan j job (spot_in k outer fs)) (top fs).cells
 cells-are plan j job k outer [] = refl
 cells-are plan j job k outer (f ∷ below) = refl
@@ -39,7 +39,7 @@ height-with [] cs some = absurd (some refl)
 height-with (f ∷ below) cs some = omega arith
 
 -- words without originals have shapes without
-original_shape : (plan : Plan) (j : ℕ) (job : Job) (spot : ℕ → Spot) (w : Word) (home : ℕ) → is_original w ≡ false → shape plan j job spot w ≡ Shapes.Original home → ⊥
+original_shape : (plan : Placement) (j : ℕ) (job : Job) (spot : ℕ → StackPlace) (w : Word) (home : ℕ) → is_original w ≡ false → shape plan j job spot w ≡ Shapes.Original home → ⊥
 original_shape plan j job spot (Operand bits) home e s = cc
 original_shape plan j job spot (Name c) home e s = cc
 original_shape plan j job spot (Ref f o) home e s = cc
@@ -50,45 +50,45 @@ original_shape plan j job spot (Proc g l p) home e s = cc
 original_shape plan j job spot (Intrinsic n) home e s = cc
 original_shape plan j job spot (Words.Segment n) home e s = cc
 
-pub shapes_plain : (plan : Plan) (j : ℕ) (job : Job) (spot : ℕ → Spot) (ws : List Word) → NoOriginals ws → Settles.NoOriginals (map (shape plan j job spot) ws)
+pub shapes_plain : (plan : Placement) (j : ℕ) (job : Job) (spot : ℕ → StackPlace) (ws : List Word) → NoOriginals ws → Settles.NoOriginals (map (shape plan j job spot) ws)
 shapes_plain plan j job spot [] plain home h = h
 shapes_plain plan j job spot (w ∷ ws) plain home (inl e) = original_shape plan j job spot w home plain.0 e
 shapes_plain plan j job spot (w ∷ ws) plain home (inr h) = shapes_plain plan j job spot ws plain.1 home h
 
--- a live array is a thing of the picture
-mapped : (plan : Plan) (j : ℕ) (xs : List State.Array) (a : State.Array) → Has xs a → Has (map (array_thing plan j) xs) (array_thing plan j a)
+-- a live array is an object of the view
+mapped : (plan : Placement) (j : ℕ) (xs : List State.Array) (a : State.Array) → Has xs a → Has (map (array_object plan j) xs) (array_object plan j a)
 mapped plan j [] a h = h
-mapped plan j (b ∷ more) a (inl e) = inl (ap (array_thing plan j) e)
+mapped plan j (b ∷ more) a (inl e) = inl (ap (array_object plan j) e)
 mapped plan j (b ∷ more) a (inr h) = inr (mapped plan j more a h)
 
-behind : (xs ys : List Thing) (z : Thing) → Has ys z → Has (xs ++ ys) z
+behind : (xs ys : List PagedObject) (z : PagedObject) → Has ys z → Has (xs ++ ys) z
 behind [] ys z h = h
 behind (x ∷ xs) ys z h = inr (behind xs ys z h)
 
-pub before : (xs ys : List Thing) (z : Thing) → Has xs z → Has (xs ++ ys) z
+pub before : (xs ys : List PagedObject) (z : PagedObject) → Has xs z → Has (xs ++ ys) z
 before [] ys z h = absurd h
 before (x ∷ xs) ys z (inl e) = inl e
 before (x ∷ xs) ys z (inr h) = inr (before xs ys z h)
 
-pub member_things : (plan : Plan) (jobs : List Member) (m : Member) (z : Thing) → Has jobs m → Has (things_of plan m) z → Has (flat_map (things_of plan) jobs) z
-member_things plan [] m z h i = absurd h
-member_things plan (y ∷ more) m z (inl e) i = let P : Member → Type 0 = λ n. Has (things_of plan n) z in before (things_of plan y) (flat_map (things_of plan) more) z (subst P (sym e) i)
-member_things plan (y ∷ more) m z (inr h) i = behind (things_of plan y) (flat_map (things_of plan) more) z (member_things plan more m z h i)
+pub member_objects : (plan : Placement) (jobs : List SessionJob) (m : SessionJob) (z : PagedObject) → Has jobs m → Has (objects_of plan m) z → Has (flat_map (objects_of plan) jobs) z
+member_objects plan [] m z h i = absurd h
+member_objects plan (y ∷ more) m z (inl e) i = let P : SessionJob → Type 0 = λ n. Has (objects_of plan n) z in before (objects_of plan y) (flat_map (objects_of plan) more) z (subst P (sym e) i)
+member_objects plan (y ∷ more) m z (inr h) i = behind (objects_of plan y) (flat_map (objects_of plan) more) z (member_objects plan more m z h i)
 
-pub array_thing-has : (plan : Plan) (jobs : List Member) (m : Member) (a : State.Array) → Has jobs m → Has m.course.job.arrays a → Has (flat_map (things_of plan) jobs) (array_thing plan m.setting.number a)
-array_thing-has plan jobs m a h i =
-    member_things plan jobs m (array_thing plan m.setting.number a) h
-    (behind (code_things plan m.setting.number 1 m.setting.segments) (map (array_thing plan m.setting.number) m.course.job.arrays) (array_thing plan m.setting.number a) (mapped plan m.setting.number m.course.job.arrays a i))
+pub array_object-has : (plan : Placement) (jobs : List SessionJob) (m : SessionJob) (a : State.Array) → Has jobs m → Has m.progress.job.arrays a → Has (flat_map (objects_of plan) jobs) (array_object plan m.constants.number a)
+array_object-has plan jobs m a h i =
+    member_objects plan jobs m (array_object plan m.constants.number a) h
+    (behind (code_objects plan m.constants.number 1 m.constants.segments) (map (array_object plan m.constants.number) m.progress.job.arrays) (array_object plan m.constants.number a) (mapped plan m.constants.number m.progress.job.arrays a i))
 
-not_code : (plan : Plan) (j i : ℕ) (o : ℕ) (b : Bool) (ns : List ℕ) → (array_thing plan j (record { identity = i; owner = o; writable = b; numbers = ns })).kind ≢ Code
+not_code : (plan : Placement) (j i : ℕ) (o : ℕ) (b : Bool) (ns : List ℕ) → (array_object plan j (record { identity = i; owner = o; writable = b; numbers = ns })).kind ≢ Code
 not_code plan j i o true ns = λ e. cc
 not_code plan j i o false ns = λ e. cc
 
-live_home : (plan : Plan) (jobs : List Member) (m : Member) (n : ℕ) → Has jobs m → IsLive m.course.job n → IsArrayAt (flat_map (things_of plan) jobs) (plan.home m.setting.number n)
+live_home : (plan : Placement) (jobs : List SessionJob) (m : SessionJob) (n : ℕ) → Has jobs m → IsLive m.progress.job n → IsArrayAt (flat_map (objects_of plan) jobs) (plan.home m.constants.number n)
 live_home plan jobs m n h l =
-    (array_thing plan m.setting.number l.item, array_thing-has plan jobs m l.item h l.live, ap (plan.home m.setting.number) l.named, not_code plan m.setting.number l.item.identity l.item.owner l.item.writable l.item.numbers)
+    (array_object plan m.constants.number l.item, array_object-has plan jobs m l.item h l.live, ap (plan.home m.constants.number) l.named, not_code plan m.constants.number l.item.identity l.item.owner l.item.writable l.item.numbers)
 
-pub may_push : (plan : Plan) (jobs : List Member) (m : Member) (spot : ℕ → Spot) (w : Word) → Has jobs m → MayStand m.course.job w → MayPush (flat_map (things_of plan) jobs) (shape plan m.setting.number m.course.job spot w)
+pub may_push : (plan : Placement) (jobs : List SessionJob) (m : SessionJob) (spot : ℕ → StackPlace) (w : Word) → Has jobs m → MayStand m.progress.job w → MayPush (flat_map (objects_of plan) jobs) (shape plan m.constants.number m.progress.job spot w)
 may_push plan jobs m spot (Operand bits) h may = tt
 may_push plan jobs m spot (Name c) h may = tt
 may_push plan jobs m spot (Ref f o) h may = tt
@@ -99,28 +99,28 @@ may_push plan jobs m spot (Proc g l p) h may = tt
 may_push plan jobs m spot (Intrinsic n) h may = tt
 may_push plan jobs m spot (Words.Segment n) h may = tt
 
-module _ (x : Storage) (core : List Tagged) (r : Regs) (p : Picture) (k : ℕ) where
+module _ (x : Storage) (core : List Tagged) (r : Regs) (p : MachineView) (k : ℕ) where
   -- cells less
-  pub Stands-less : (stack : List Activation) → Stands x core r p → RunsOn p k stack → (gone rest : List Shape) (q : Place) → top_cells stack ≡ gone ++ rest → Settles.NoOriginals gone → Settled p
-      → Stands x core (record r { s = r.s - length gone; place = q }) (with_stack p k (with_cells stack rest)) × Settled (with_stack p k (with_cells stack rest))
-  Stands-less [] s u gone rest q e plain settled = absurd ((running_fits x core r p k [] s u).0.some refl)
-  Stands-less (a ∷ below) s u gone rest q e plain settled =
-      (Stands-drop x core r p k a below s u gone rest q e, Settled-drop x core r p k a below s u gone rest e plain settled)
+  pub Represents-less : (stack : List Activation) → Represents x core r p → RunsOn p k stack → (gone rest : List Shape) (q : Place) → top_cells stack ≡ gone ++ rest → Settles.NoOriginals gone → NoOriginalAboveTop p
+      → Represents x core (record r { s = r.s - length gone; place = q }) (with_stack p k (with_cells stack rest)) × NoOriginalAboveTop (with_stack p k (with_cells stack rest))
+  Represents-less [] s u gone rest q e plain settled = absurd ((running_fits x core r p k [] s u).0.some refl)
+  Represents-less (a ∷ below) s u gone rest q e plain settled =
+      (Represents-drop x core r p k a below s u gone rest q e, Settled-drop x core r p k a below s u gone rest e plain settled)
 
   -- one cell in the place of others
-  pub Stands-put : (stack : List Activation) → Stands x core r p → RunsOn p k stack → (gone rest : List Shape) (c : Shape) (w : Tagged) (i : ℕ) (q : Place) → top_cells stack ≡ gone ++ rest
-      → i ≡ r.s - length gone + 1 → i ≤ r.losr → Settles.NoOriginals gone → Settled p → MayPush p.things c → Fits x.held c i w
-      → Stands x (slice_set core i w) (record r { s = i; place = q }) (with_stack p k (with_cells stack (c ∷ rest))) × Settled (with_stack p k (with_cells stack (c ∷ rest)))
-  Stands-put [] s u gone rest c w i q e at room plain settled may fit = absurd ((running_fits x core r p k [] s u).0.some refl)
-  Stands-put (a ∷ below) s u gone rest c w i q e at room plain settled may fit =
+  pub Represents-put : (stack : List Activation) → Represents x core r p → RunsOn p k stack → (gone rest : List Shape) (c : Shape) (w : Tagged) (i : ℕ) (q : Place) → top_cells stack ≡ gone ++ rest
+      → i ≡ r.s - length gone + 1 → i ≤ r.losr → Settles.NoOriginals gone → NoOriginalAboveTop p → MayPush p.objects c → Fits x.held c i w
+      → Represents x (slice_set core i w) (record r { s = i; place = q }) (with_stack p k (with_cells stack (c ∷ rest))) × NoOriginalAboveTop (with_stack p k (with_cells stack (c ∷ rest)))
+  Represents-put [] s u gone rest c w i q e at room plain settled may fit = absurd ((running_fits x core r p k [] s u).0.some refl)
+  Represents-put (a ∷ below) s u gone rest c w i q e at room plain settled may fit =
       let less = Settled-drop x core r p k a below s u gone rest e plain settled in
-      let p1 : Picture = with_stack p k (record a { cells = rest } ∷ below) in
-      let more : Settled (with_stack p1 k (record a { cells = c ∷ rest } ∷ below)) =
+      let p1 : MachineView = with_stack p k (record a { cells = rest } ∷ below) in
+      let more : NoOriginalAboveTop (with_stack p1 k (record a { cells = c ∷ rest } ∷ below)) =
       Settled-more p1 k (record a { cells = rest } ∷ below) (record a { cells = c ∷ rest } ∷ below) (RunsOn-with p k (a ∷ below) (record a { cells = rest } ∷ below) u) (omega arith) less in
-      (Stands-cells x core r p k a below s u gone rest c w i q e at room less may fit, subst Settled (with_stack-twice p k (record a { cells = rest } ∷ below) (record a { cells = c ∷ rest } ∷ below)) more)
+      (Represents-cells x core r p k a below s u gone rest c w i q e at room less may fit, subst NoOriginalAboveTop (with_stack-twice p k (record a { cells = rest } ∷ below) (record a { cells = c ∷ rest } ∷ below)) more)
 
 -- a cell's word, by the cells above it
-pub word_under : (x : Storage) (core : List Tagged) (r : Regs) (p : Picture) (k : ℕ) (stack : List Activation) → Stands x core r p → RunsOn p k stack → (above : List Shape) (c : Shape) (rest : List Shape) → top_cells stack ≡ above ++ c ∷ rest
+pub word_under : (x : Storage) (core : List Tagged) (r : Regs) (p : MachineView) (k : ℕ) (stack : List Activation) → Represents x core r p → RunsOn p k stack → (above : List Shape) (c : Shape) (rest : List Shape) → top_cells stack ≡ above ++ c ∷ rest
     → (v : Tagged) × (slice_get core (r.s - length above) ≡ Some v) × Fits x.held c (r.s - length above) v
 word_under x core r p k [] s u above c rest e = absurd ((running_fits x core r p k [] s u).0.some refl)
 word_under x core r p k (a ∷ below) s u above c rest e = cell_word x core r p k a below s u above c rest e

@@ -1,15 +1,15 @@
 -- The intrinsic that the operator at a task's place calls.
 use Rattle.std.specs.Prelude.{ℕ, Option, None, Ok, Err}
-use Rattle.b67_model.specs.State.{Task, Member}
+use Rattle.b67_model.specs.State.{Task, SessionJob}
 use Rattle.b67_model.specs.Operators.{Reading}
 use Rattle.b67_model.specs.Rows.{reading_of}
 use Rattle.b67_model.specs.Called.{called}
 use Rattle.b67_layout.specs.Meets.{here}
 
 -- the intrinsic that an operator calls that was read, if it calls one; and the operator at the running place
-abbrev pub called_by : Member → Task → Reading → Option ℕ
+abbrev pub called_by : SessionJob → Task → Reading → Option ℕ
 called_by m t (Err why) = None
 called_by m t (Ok read) = called read.0 (here m t read.1)
 
-abbrev pub called_in : Member → Task → Option ℕ
-called_in m t = called_by m t (reading_of m.setting t)
+abbrev pub called_in : SessionJob → Task → Option ℕ
+called_in m t = called_by m t (reading_of m.constants t)

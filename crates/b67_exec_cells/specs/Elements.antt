@@ -4,11 +4,11 @@ use Rattle.b67_word.specs.Tagged.{Tagged, word}
 use Rattle.b67_ctl.specs.declared.descriptors.DataDesc.{DataDesc}
 use Rattle.b67_lemmas.specs.Lists.{Has}
 use Rattle.b67_model.specs.Arrays.{array, element}
-use Rattle.b67_model.specs.State.{Array, Job, Member}
+use Rattle.b67_model.specs.State.{Array, Job, SessionJob}
 use Rattle.b67_stack.specs.declared.Cpu.{Cpu}
-use Rattle.b67_stack.specs.Picture.{home_desc}
-use Rattle.b67_stack.specs.Stands.{Storage}
-use Rattle.b67_layout.specs.Plan.{Plan}
+use Rattle.b67_stack.specs.MachineView.{home_desc}
+use Rattle.b67_stack.specs.Represents.{Storage}
+use Rattle.b67_layout.specs.Placement.{Placement}
 use Rattle.b67_layout.specs.Meets.{RunsSome, area_held}
 
 -- an array of a job, with an element
@@ -22,14 +22,14 @@ pub record HasElement (job : Job) (n index : ℕ) : Type 0 where
 pub record HoldsElement (cpu : Cpu) (original index : ℕ) : Type 0 where
   pub runs : RunsSome cpu
   pub number : ℕ
-  pub home : original ≡ runs.plan.home runs.member.setting.number number
-  pub element : HasElement runs.member.course.job number index
+  pub home : original ≡ runs.plan.home runs.member.constants.number number
+  pub element : HasElement runs.member.progress.job number index
 
 -- the descriptor in an array's original
-abbrev pub original_desc : Storage → Plan → Member → ℕ → DataDesc
-original_desc x plan m n = let a = array m.course.job n in home_desc (not a.writable) (length a.numbers) (x.held (plan.home m.setting.number n))
+abbrev pub original_desc : Storage → Placement → SessionJob → ℕ → DataDesc
+original_desc x plan m n = let a = array m.progress.job n in home_desc (not a.writable) (length a.numbers) (x.held (plan.home m.constants.number n))
 
 -- the word of an element, or that its array is absent
-abbrev pub GivesElement : Storage → Plan → Member → ℕ → ℕ → Option Tagged → Type 0
-GivesElement x plan m n index None = area_held x plan m.setting.number n ≡ None
-GivesElement x plan m n index (Some w) = (at : ℕ) × (area_held x plan m.setting.number n ≡ Some at) × (w ≡ word 0 (element m.course.job n index))
+abbrev pub GivesElement : Storage → Placement → SessionJob → ℕ → ℕ → Option Tagged → Type 0
+GivesElement x plan m n index None = area_held x plan m.constants.number n ≡ None
+GivesElement x plan m n index (Some w) = (at : ℕ) × (area_held x plan m.constants.number n ≡ Some at) × (w ≡ word 0 (element m.progress.job n index))

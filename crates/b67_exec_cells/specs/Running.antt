@@ -2,28 +2,28 @@
 use Rattle.std.specs.Prelude.{◌≡◌, ℕ, ◌+◌, length, Option, Some, None}
 use Rattle.b67_ctl.specs.declared.descriptors.SegDesc.{SegDesc}
 use Rattle.b67_model.specs.Operators.{Reading}
-use Rattle.b67_model.specs.State.{Task, Member}
+use Rattle.b67_model.specs.State.{Task, SessionJob}
 use Rattle.b67_model.specs.Rows.{code_of, reading_of}
-use Rattle.b67_stack.specs.Shapes.{Held}
-use Rattle.b67_stack.specs.Picture.{is_present, address_or}
-use Rattle.b67_stack.specs.Stands.{Storage}
-use Rattle.b67_layout.specs.Plan.{Plan}
+use Rattle.b67_stack.specs.Shapes.{Location}
+use Rattle.b67_stack.specs.MachineView.{is_present, address_or}
+use Rattle.b67_stack.specs.Represents.{Storage}
+use Rattle.b67_layout.specs.Placement.{Placement}
 
 -- how the running segment is held
-abbrev pub code_held : Storage → Plan → Member → Task → Held
-code_held x plan m t = x.held (plan.dictionary m.setting.number + 1 + t.segment)
+abbrev pub code_held : Storage → Placement → SessionJob → Task → Location
+code_held x plan m t = x.held (plan.dictionary m.constants.number + 1 + t.segment)
 
 -- its area, if it is present
-abbrev pub code_area : Storage → Plan → Member → Task → Option ℕ
+abbrev pub code_area : Storage → Placement → SessionJob → Task → Option ℕ
 code_area x plan m t = (code_held x plan m t).area
 
 -- its descriptor
-abbrev pub code_desc : Storage → Plan → Member → Task → SegDesc
+abbrev pub code_desc : Storage → Placement → SessionJob → Task → SegDesc
 code_desc x plan m t =
     let held = code_held x plan m t in
-    record { present = is_present held.area; words = length (code_of m.setting t.segment); address = address_or held.area held.chain }
+    record { present = is_present held.area; words = length (code_of m.constants t.segment); address = address_or held.area held.chain }
 
 -- what is read at the running place, or that the segment is absent
-abbrev pub GivesReading : Storage → Plan → Member → Task → Option Reading → Type 0
+abbrev pub GivesReading : Storage → Placement → SessionJob → Task → Option Reading → Type 0
 GivesReading x plan m t None = code_area x plan m t ≡ None
-GivesReading x plan m t (Some reading) = (at : ℕ) × (code_area x plan m t ≡ Some at) × (reading ≡ reading_of m.setting t)
+GivesReading x plan m t (Some reading) = (at : ℕ) × (code_area x plan m t ≡ Some at) × (reading ≡ reading_of m.constants t)

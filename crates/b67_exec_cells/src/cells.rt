@@ -11,16 +11,18 @@ use b67_stack::{Cpu, Step};
 use b67_word::{Fault, Place, Word};
 
 /// How many cells the top activation record has.
+#[inline(always)]
 pub fn count_cells(cpu: &Cpu) -> u32
     requires { RunsSome cpu.now }
     ensures count { ForEach cpu.now (λ x plan s m t. result ≡ length (cells_of t)) }
     ensures above { cpu.now.regs.f + result ≤ cpu.now.regs.s }
 {
-    let mark = cpu.top_mark();
-    cpu.regs.s - cpu.regs.f - u32::from(mark.entered)
+    let entered = cpu.is_top_entered();
+    cpu.regs.s - cpu.regs.f - u32::from(entered)
 }
 
 /// The top cell. STACK UNDERFLOW where the top activation record has none.
+#[inline(always)]
 pub fn top_cell(cpu: &Cpu) -> Result<Word, Fault>
     requires { RunsSome cpu.now }
     ensures cell { ForEach cpu.now (λ x plan s m t. GivesTop x plan m t cpu.now (cells_of t) result) }
@@ -33,6 +35,7 @@ pub fn top_cell(cpu: &Cpu) -> Result<Word, Fault>
 }
 
 /// The second cell from the top and the top one. STACK UNDERFLOW where the top activation record has fewer.
+#[inline(always)]
 pub fn two_cells(cpu: &Cpu) -> Result<(Word, Word), Fault>
     requires { RunsSome cpu.now }
     ensures cells { ForEach cpu.now (λ x plan s m t. GivesTwo x plan m t cpu.now (cells_of t) result) }
@@ -45,6 +48,7 @@ pub fn two_cells(cpu: &Cpu) -> Result<(Word, Word), Fault>
 }
 
 /// Takes the `count` top cells off, and goes on at `next`.
+#[inline(always)]
 pub fn drop_cells(cpu: &mut Cpu, count: u32, next: Place)
     requires runs { RunsSome cpu.old }
     requires cells { cpu.old.regs.f + count ≤ cpu.old.regs.s }
@@ -57,11 +61,12 @@ pub fn drop_cells(cpu: &mut Cpu, count: u32, next: Place)
 
 /// Puts a word in the place of the `count` top cells, and goes on at `next`. STACK OVERFLOW where the stack would be
 /// higher than its slot.
+#[inline(always)]
 pub fn replace_cells(cpu: &mut Cpu, count: u32, w: Word, next: Place) -> Step
     requires runs { RunsSome cpu.old }
     requires cells { cpu.old.regs.f + count ≤ cpu.old.regs.s }
     ensures row { ForEach cpu.old (λ x plan s m t. (gone rest : List words.Word) (v : words.Word) → cells_of t ≡ gone ++ rest → length gone ≡ count
-        → NoOriginals gone → MayStand m.course.job v → IsWordOf x plan m t v (cpu.old.regs.s - count + 1) w
+        → NoOriginals gone → MayStand m.progress.job v → IsWordOf x plan m t v (cpu.old.regs.s - count + 1) w
         → Meets x plan s m result cpu.old cpu.new (leaves_cells (here m t next) (v ∷ rest) None)) }
 {
     let at = cpu.regs.s - count + 1;

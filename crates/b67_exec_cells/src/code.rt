@@ -11,6 +11,7 @@ use b67_syllable::decode;
 use b67_word::Place;
 
 /// The descriptor of the running segment.
+#[inline(always)]
 pub fn descriptor(cpu: &Cpu) -> SegDesc
     requires { RunsSome cpu.now }
     ensures { ForEach cpu.now (λ x plan s m t. result ≡ code_desc x plan m t) }
@@ -24,6 +25,7 @@ pub fn descriptor(cpu: &Cpu) -> SegDesc
 
 /// The operator at the running place and the place after it, or why there is none. None exactly where the running
 /// segment is absent.
+#[inline(always)]
 pub fn reading(cpu: &Cpu) -> Option<Result<(Op, Place), Undecodable>>
     requires { RunsSome cpu.now }
     ensures { ForEach cpu.now (λ x plan s m t. GivesReading x plan m t result) }

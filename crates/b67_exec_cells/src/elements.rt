@@ -11,9 +11,9 @@ use b67_stack::Cpu;
 use b67_word::Word;
 
 /// The descriptor in the original of an array of the running job.
-pub fn descriptor(cpu: &Cpu, original: u32) -> DataDesc
+pub fn array_descriptor(cpu: &Cpu, original: u32) -> DataDesc
     requires { (index : ℕ) × HoldsElement cpu.now original index }
-    ensures { ForEach cpu.now (λ x plan s m t. (n index : ℕ) → original ≡ plan.home m.setting.number n → HasElement m.course.job n index → result ≡ original_desc x plan m n) }
+    ensures { ForEach cpu.now (λ x plan s m t. (n index : ℕ) → original ≡ plan.home m.constants.number n → HasElement m.progress.job n index → result ≡ original_desc x plan m n) }
 {
     match DataDesc::from_word(cpu.core.get(original)) {
         Some(desc) => desc,
@@ -24,9 +24,9 @@ pub fn descriptor(cpu: &Cpu, original: u32) -> DataDesc
 /// The word of an element of an array of the running job. None exactly where the array is absent.
 pub fn element(cpu: &Cpu, original: u32, index: u32) -> Option<Word>
     requires { HoldsElement cpu.now original index }
-    ensures { ForEach cpu.now (λ x plan s m t. (n : ℕ) → original ≡ plan.home m.setting.number n → HasElement m.course.job n index → GivesElement x plan m n index result) }
+    ensures { ForEach cpu.now (λ x plan s m t. (n : ℕ) → original ≡ plan.home m.constants.number n → HasElement m.progress.job n index → GivesElement x plan m n index result) }
 {
-    let desc = descriptor(cpu, original);
+    let desc = array_descriptor(cpu, original);
     if !desc.present {
         return None;
     }
@@ -36,9 +36,9 @@ pub fn element(cpu: &Cpu, original: u32, index: u32) -> Option<Word>
 /// The word of a copy of an array's descriptor, of the whole array.
 pub fn row_copy(cpu: &Cpu, original: u32) -> Word
     requires { (index : ℕ) × HoldsElement cpu.now original index }
-    ensures { ForEach cpu.now (λ x plan s m t. (n index at : ℕ) → original ≡ plan.home m.setting.number n → HasElement m.course.job n index → IsWordOf x plan m t (Row n) at result) }
+    ensures { ForEach cpu.now (λ x plan s m t. (n index at : ℕ) → original ≡ plan.home m.constants.number n → HasElement m.progress.job n index → IsWordOf x plan m t (Row n) at result) }
 {
-    let desc = descriptor(cpu, original);
+    let desc = array_descriptor(cpu, original);
     if desc.present {
         DataDesc { copy: true, ..desc }.word()
     } else {

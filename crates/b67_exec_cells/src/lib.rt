@@ -3,8 +3,8 @@
 
 mod cells;
 mod code;
-pub mod elements;
+mod elements;
 
 pub use cells::{count_cells, drop_cells, replace_cells, top_cell, two_cells};
 pub use code::{descriptor, reading};
-pub use elements::{element, row_copy};
+pub use elements::{array_descriptor, element, row_copy};

@@ -2,9 +2,8 @@
 use Rattle.std.proofs.Common.{◌≡◌, ℕ, zero, suc, ◌+◌, ◌-◌, ◌/◌, ◌%◌, ◌<◌, ◌≤◌, ◌^◌, List, [], ◌∷◌, map, reverse, length, Some, None, Err, refl, sym, ◌∙◌, ap, arith, Bool, true, false, ◌==◌, ◌&&◌, ◌⊎◌, ⊎_elim, inl, inr, subst}
 use Rattle.std.specs.Prelude.{nat_lt, nat_le}
 use Rattle.std.specs.List.{slice_get}
-use Rattle.std.proofs.lemmas.Option.{same_Some, none-some, slice_get_within}
-use Rattle.std.proofs.lemmas.Bool.{cases_lt, lt-ltb, le-ltb, eq-eqb, ne_eqb, eqb-true}
-use Rattle.std.proofs.lemmas.Bool.Decides.{nat_tests}
+use Rattle.std.proofs.lemmas.Option.{same_Some, slice_get_within}
+use Rattle.std.proofs.lemmas.Bool.{cases_lt, lt-ltb, le-ltb, eq-eqb, ne_eqb, eqb-true, and_parts, leb-false, leb-true, ltb-true}
 use Rattle.std.proofs.lemmas.List.{length-reverse}
 use Rattle.b67_word.specs.Tagged.{Tagged, word}
 use Rattle.b67_word.specs.Operands.{bit}
@@ -13,64 +12,39 @@ use Rattle.b67_area.specs.declared.Kind.{Kind}
 use Rattle.b67_area.specs.declared.Kind.TheVariants as kind
 use Rattle.b67_ctl.specs.Layout.{pcw_word}
 use Rattle.b67_lemmas.specs.Lists.{Has}
+use Rattle.b67_lemmas.proofs.Members.{all_in, has_get, has_reverse_back, keyed-has}
+use Rattle.b67_lemmas.proofs.Places.{get_within}
 use Rattle.b67_model.specs.Words.{Word, Original}
-use Rattle.b67_model.specs.State.{Array, Segment, Task, Member}
+use Rattle.b67_model.specs.State.{Array, Segment, Task, SessionJob}
 use Rattle.b67_model.specs.Run.{number_of}
 use Rattle.b67_word.specs.declared.faults.Fault.TheVariants.{InvalidOperator}
 use Rattle.b67_model.specs.Steps.{leaves_cells}
 use Rattle.b67_model.specs.Rows.{is_proc, proc_of, mpcw}
 use Rattle.b67_model.specs.Schedule.{Session}
-use Rattle.b67_model.specs.InOrder.{OwnsArray, EntryInOrder, rows_after, DictionaryWords, IsInOrderButPlaces}
-use Rattle.b67_law_order.proofs.Members.{has_reverse_back, has_get, all_in}
+use Rattle.b67_model.specs.InOrder.{OwnsArray, EntryInOrder, DictionaryWords, IsInOrderButPlaces}
 use Rattle.b67_stack.specs.declared.Cpu.{Cpu}
-use Rattle.b67_stack.specs.Shapes.{Held}
-use Rattle.b67_stack.specs.Picture.{Thing, home_word_of, home_word}
-use Rattle.b67_stack.specs.Stands.{Storage}
-use Rattle.b67_layout.specs.Plan.{Plan}
-use Rattle.b67_layout.specs.Layout.{code_things, array_thing}
-use Rattle.b67_layout.specs.Session.{IsRunning, SessionStands}
+use Rattle.b67_stack.specs.Shapes.{Location}
+use Rattle.b67_stack.specs.MachineView.{home_word_of, home_word}
+use Rattle.b67_stack.specs.Represents.{Storage}
+use Rattle.b67_layout.specs.Placement.{Placement}
+use Rattle.b67_layout.specs.Layout.{code_objects, array_object}
+use Rattle.b67_layout.specs.Session.{IsRunning, RepresentsSession}
 use Rattle.b67_layout.specs.Meets.{here}
-use Rattle.b67_layout.proofs.Others.{keyed-has}
 use Rattle.b67_layout.proofs.Fresh.{running_in_order}
+use Rattle.b67_layout.proofs.Sessions.{code_object, entry_row, words_enough}
 use Rattle.b67_exec_cells.specs.Tops.{IsWordOf, cells}
-use Rattle.b67_exec_cells.proofs.Replaced.{member_things, before, array_thing-has}
-
-get_within : {A : Type 0} (xs : List A) (i : ℕ) → i < length xs → (x : A) × (slice_get xs i ≡ Some x)
-get_within [] i low = absurd (omega (arith, low))
-get_within (x ∷ xs) zero low = (x, refl)
-get_within (x ∷ xs) (suc i) low = get_within xs i (omega (arith, low))
-
-row_is : (n : ℕ) (ws : List Word) (i : ℕ) (w : Word) → rows_after n ws → slice_get ws i ≡ Some w → w ≡ Original (n + i)
-row_is n [] i w d e = absurd (none-some w e)
-row_is n (v ∷ ws) zero w d e = sym (same_Some v w e) ∙ d.0 ∙ ap Original (let z : n ≡ n + 0 = omega arith in z)
-row_is n (v ∷ ws) (suc i) w d e = row_is (n + 1) ws i w d.1 e ∙ ap Original (let z : n + 1 + i ≡ n + suc i = omega arith in z)
+use Rattle.b67_exec_cells.proofs.Replaced.{member_objects, before, array_object-has}
 
 -- the words after the segments are originals
 original_at : (n : ℕ) (ss : List Segment) (ws : List Word) (i : ℕ) (w : Word) → DictionaryWords n ss ws → slice_get ws i ≡ Some w → length ss ≤ i → w ≡ Original (1 + (i - length ss))
-original_at n [] ws i w d e low = row_is 1 ws i w d e ∙ ap (λ k. Original (1 + k)) (let z : i ≡ i - 0 = omega arith in z)
+original_at n [] ws i w d e low = entry_row 1 ws i w d e ∙ ap (λ k. Original (1 + k)) (let z : i ≡ i - 0 = omega arith in z)
 original_at n (s ∷ ss) [] i w d e low = absurd d
 original_at n (s ∷ ss) (v ∷ ws) zero w d e low = absurd (omega (arith, low))
 original_at n (s ∷ ss) (v ∷ ws) (suc i) w d e low = original_at (n + 1) ss ws i w d.1 e (omega (arith, low)) ∙ ap (λ k. Original (1 + k)) (let z : i - length ss ≡ suc i - length (s ∷ ss) = omega arith in z)
 
-segments_few : (n : ℕ) (ss : List Segment) (ws : List Word) → DictionaryWords n ss ws → length ss ≤ length ws
-segments_few n [] ws d = omega arith
-segments_few n (s ∷ ss) [] d = absurd d
-segments_few n (s ∷ ss) (v ∷ ws) d = let r = segments_few (n + 1) ss ws d.1 in omega (arith, r)
-
-segment_thing : (plan : Plan) (j n : ℕ) (ss : List Segment) (i : ℕ) → i < length ss → (t : Thing) × Has (code_things plan j n ss) t × (t.home ≡ plan.dictionary j + 1 + (n + i)) × (t.kind ≡ kind.Code)
-segment_thing plan j n [] i low = absurd (omega (arith, low))
-segment_thing plan j n (s ∷ ss) zero low = (record { home = plan.dictionary j + 1 + n; kind = kind.Code; numbers = s.code }, inl refl, omega arith, refl)
-segment_thing plan j n (s ∷ ss) (suc i) low =
-    let r = segment_thing plan j (n + 1) ss i (omega (arith, low)) in
-    (r.0, inr r.1, r.2 ∙ (let z : plan.dictionary j + 1 + (n + 1 + i) ≡ plan.dictionary j + 1 + (n + suc i) = omega arith in z), r.3)
-
-array_tag : (plan : Plan) (j : ℕ) (a : Array) (b : Bool) (h : Held) → a.writable ≡ b → (home_word (array_thing plan j a) h).tag ≡ 5
+array_tag : (plan : Placement) (j : ℕ) (a : Array) (b : Bool) (h : Location) → a.writable ≡ b → (home_word (array_object plan j a) h).tag ≡ 5
 array_tag plan j a true h e = rw e refl
 array_tag plan j a false h e = rw e refl
-
-both : (a b : Bool) → (a && b) ≡ true → (a ≡ true) × (b ≡ true)
-both true b e = (refl, e)
-both false b e = cc
 
 and_is : (a b c : Bool) → a ≡ true → b ≡ c → (a && b) ≡ c
 and_is a b c ea eb = rw ea eb
@@ -79,56 +53,47 @@ and_none : (a b c : Bool) → (a && b) ≡ false → (b ≡ false → c ≡ fals
 and_none true b c e f = f e
 and_none false b c e f = refl
 
-lt_low : (a b : ℕ) → nat_lt a b ≡ true → a < b
-lt_low a b e = grind (arith, nat_tests)
-
-le_low : (a b : ℕ) → nat_le a b ≡ true → a ≤ b
-le_low a b e = grind (arith, nat_tests)
-
-le_high : (a b : ℕ) → nat_le a b ≡ false → b < a
-le_high a b e = grind (arith, nat_tests)
-
-module _ (x : Storage) (cpu : Cpu) (plan : Plan) (s : Session) (m : Member) (t : Task) (ordered : IsInOrderButPlaces s) (h : SessionStands x cpu plan s) (runs : IsRunning plan s.jobs m t) where
+module _ (x : Storage) (cpu : Cpu) (plan : Placement) (s : Session) (m : SessionJob) (t : Task) (ordered : IsInOrderButPlaces s) (h : RepresentsSession x cpu plan s) (runs : IsRunning plan s.jobs m t) where
   has_m : Has s.jobs m
-  has_m = keyed-has number_of m.setting.number s.jobs m runs.member
+  has_m = keyed-has number_of m.constants.number s.jobs m runs.member
 
   -- the word of an entry is of tag 3 for a segment, and 5 for a data row
   pub record Entry (d : ℕ) : Type 0 where
     pub word : Tagged
-    pub there : slice_get cpu.core (plan.dictionary m.setting.number + d) ≡ Some word
-    pub is : ((d < length m.setting.segments + 2) × (word.tag ≡ 3)) ⊎ ((length m.setting.segments + 2 ≤ d) × (word.tag ≡ 5))
+    pub there : slice_get cpu.core (plan.dictionary m.constants.number + d) ≡ Some word
+    pub is : ((d < length m.constants.segments + 2) × (word.tag ≡ 3)) ⊎ ((length m.constants.segments + 2 ≤ d) × (word.tag ≡ 5))
 
-  pub few : length m.setting.segments ≤ length m.setting.dictionary.cells
+  pub few : length m.constants.segments ≤ length m.constants.dictionary.cells
   few =
       let o = (running_in_order plan s m t ordered runs).0.unchanging in
-      let l = segments_few 1 m.setting.segments (reverse m.setting.dictionary.cells) o.dictionary in
-      omega (arith, l, length-reverse m.setting.dictionary.cells)
+      let l = words_enough 1 m.constants.segments (reverse m.constants.dictionary.cells) o.dictionary in
+      omega (arith, l, length-reverse m.constants.dictionary.cells)
 
-  pub entry : (d : ℕ) → 2 ≤ d → d ≤ length m.setting.dictionary.cells + 1 → Entry d
+  pub entry : (d : ℕ) → 2 ≤ d → d ≤ length m.constants.dictionary.cells + 1 → Entry d
   entry d low high = ⊎_elim
-      (λ (l : d < length m.setting.segments + 2).
-      (let g = segment_thing plan m.setting.number 1 m.setting.segments (d - 2) (omega (arith, l, low)) in
-      let st = h.holds.memory.things g.0 (member_things plan s.jobs m g.0 has_m (before (code_things plan m.setting.number 1 m.setting.segments) (map (array_thing plan m.setting.number) m.course.job.arrays) g.0 g.1)) in
-      let at : plan.dictionary m.setting.number + d ≡ g.0.home = omega (arith, g.2, low) in
+      (λ (l : d < length m.constants.segments + 2).
+      (let g = code_object plan m.constants.number 1 m.constants.segments (d - 2) (omega (arith, l, low)) in
+      let st = h.holds.memory.objects g.0 (member_objects plan s.jobs m g.0 has_m (before (code_objects plan m.constants.number 1 m.constants.segments) (map (array_object plan m.constants.number) m.progress.job.arrays) g.0 g.1)) in
+      let at : plan.dictionary m.constants.number + d ≡ g.0.home = omega (arith, g.2, low) in
       record {
         word = home_word g.0 (x.held g.0.home);
         there = ap (slice_get cpu.core) at ∙ st.home;
         is = inl (l, ap (λ (k : Kind). (home_word_of k (length g.0.numbers) (x.held g.0.home)).tag) g.3);
       }))
-      (λ (l : length m.setting.segments + 2 ≤ d).
+      (λ (l : length m.constants.segments + 2 ≤ d).
       (let o = running_in_order plan s m t ordered runs in
-      let n = 1 + (d - 2 - length m.setting.segments) in
-      let w = get_within (reverse m.setting.dictionary.cells) (d - 2) (omega (arith, low, high, length-reverse m.setting.dictionary.cells)) in
-      let e : w.0 ≡ Original n = original_at 1 m.setting.segments (reverse m.setting.dictionary.cells) (d - 2) w.0 o.0.unchanging.dictionary w.1 (omega (arith, l)) in
-      let has : Has m.setting.dictionary.cells w.0 = has_reverse_back m.setting.dictionary.cells w.0 (has_get (reverse m.setting.dictionary.cells) (d - 2) w.0 w.1) in
-      let a : OwnsArray m.course.job.arrays 1 n = subst (EntryInOrder m.course.job.arrays) e (all_in (EntryInOrder m.course.job.arrays) m.setting.dictionary.cells w.0 o.0.tasks.entries has) in
-      let T = array_thing plan m.setting.number a.item in
-      let st = h.holds.memory.things T (array_thing-has plan s.jobs m a.item has_m a.live) in
-      let home : T.home ≡ plan.home m.setting.number n = ap (plan.home m.setting.number) a.named in
+      let n = 1 + (d - 2 - length m.constants.segments) in
+      let w = get_within (reverse m.constants.dictionary.cells) (d - 2) (omega (arith, low, high, length-reverse m.constants.dictionary.cells)) in
+      let e : w.0 ≡ Original n = original_at 1 m.constants.segments (reverse m.constants.dictionary.cells) (d - 2) w.0 o.0.unchanging.dictionary w.1 (omega (arith, l)) in
+      let has : Has m.constants.dictionary.cells w.0 = has_reverse_back m.constants.dictionary.cells w.0 (has_get (reverse m.constants.dictionary.cells) (d - 2) w.0 w.1) in
+      let a : OwnsArray m.progress.job.arrays 1 n = subst (EntryInOrder m.progress.job.arrays) e (all_in (EntryInOrder m.progress.job.arrays) m.constants.dictionary.cells w.0 o.0.tasks.entries has) in
+      let T = array_object plan m.constants.number a.item in
+      let st = h.holds.memory.objects T (array_object-has plan s.jobs m a.item has_m a.live) in
+      let home : T.home ≡ plan.home m.constants.number n = ap (plan.home m.constants.number) a.named in
       let row = h.holds.fits.row_homes m has_m n (omega arith) (omega (arith, l, low, high)) in
-      let at : plan.dictionary m.setting.number + d ≡ T.home = omega (arith, home, row, l, low) in
-      record { word = home_word T (x.held T.home); there = ap (slice_get cpu.core) at ∙ st.home; is = inr (l, array_tag plan m.setting.number a.item a.item.writable (x.held T.home) refl) }))
-      (cases_lt d (length m.setting.segments + 2))
+      let at : plan.dictionary m.constants.number + d ≡ T.home = omega (arith, home, row, l, low) in
+      record { word = home_word T (x.held T.home); there = ap (slice_get cpu.core) at ∙ st.home; is = inr (l, array_tag plan m.constants.number a.item a.item.writable (x.held T.home) refl) }))
+      (cases_lt d (length m.constants.segments + 2))
 
   -- the entry that bits name
   pub named_word : (bits : ℕ) (v : Tagged) (q : Place)
@@ -136,37 +101,37 @@ module _ (x : Storage) (cpu : Cpu) (plan : Plan) (s : Session) (m : Member) (t :
       → slice_get cpu.core (cpu.regs.dict + bits % 2 ^ 14) ≡ Some v → (v.tag == 3) ≡ is_proc (here m t q) bits
   named_word bits v q named there =
       let o = h.holds.running m t runs in
-      let two = both (nat_lt bits (2 ^ 36) && (bit 19 bits == 0) && nat_lt 1 (bits % 2 ^ 14)) (nat_le (bits % 2 ^ 14) (cpu.regs.entries + 1)) named in
-      let three = both (nat_lt bits (2 ^ 36) && (bit 19 bits == 0)) (nat_lt 1 (bits % 2 ^ 14)) two.0 in
-      let low = lt_low 1 (bits % 2 ^ 14) three.1 in
-      let high = le_low (bits % 2 ^ 14) (cpu.regs.entries + 1) two.1 in
+      let two = and_parts (nat_lt bits (2 ^ 36) && (bit 19 bits == 0) && nat_lt 1 (bits % 2 ^ 14)) (nat_le (bits % 2 ^ 14) (cpu.regs.entries + 1)) named in
+      let three = and_parts (nat_lt bits (2 ^ 36) && (bit 19 bits == 0)) (nat_lt 1 (bits % 2 ^ 14)) two.0 in
+      let low = ltb-true 1 (bits % 2 ^ 14) three.1 in
+      let high = leb-true (bits % 2 ^ 14) (cpu.regs.entries + 1) two.1 in
       let e = entry (bits % 2 ^ 14) (omega (arith, low)) (omega (arith, high, o.entries)) in
-      let at : plan.dictionary m.setting.number + bits % 2 ^ 14 ≡ cpu.regs.dict + bits % 2 ^ 14 = omega (arith, o.dict) in
+      let at : plan.dictionary m.constants.number + bits % 2 ^ 14 ≡ cpu.regs.dict + bits % 2 ^ 14 = omega (arith, o.dict) in
       let same : e.word ≡ v = same_Some e.word v (sym e.there ∙ ap (slice_get cpu.core) at ∙ there) in
       ⊎_elim
-      (λ (l : (bits % 2 ^ 14 < length m.setting.segments + 2) × (e.word.tag ≡ 3)).
-      (eq-eqb v.tag 3 (ap (λ (w : Tagged). w.tag) (sym same) ∙ l.1) ∙ sym (and_is (nat_lt bits (2 ^ 36) && (bit 19 bits == 0) && nat_lt 1 (bits % 2 ^ 14)) (nat_lt (bits % 2 ^ 14) (length m.setting.segments + 2)) true two.0 (lt-ltb (bits % 2 ^ 14) (length m.setting.segments + 2) l.0))))
-      (λ (l : (length m.setting.segments + 2 ≤ bits % 2 ^ 14) × (e.word.tag ≡ 5)).
-      (ne_eqb v.tag 3 (λ z. (let k : v.tag ≡ 5 = ap (λ (w : Tagged). w.tag) (sym same) ∙ l.1 in omega (arith, k, z))) ∙ sym (and_is (nat_lt bits (2 ^ 36) && (bit 19 bits == 0) && nat_lt 1 (bits % 2 ^ 14)) (nat_lt (bits % 2 ^ 14) (length m.setting.segments + 2)) false two.0 (le-ltb (bits % 2 ^ 14) (length m.setting.segments + 2) l.0))))
+      (λ (l : (bits % 2 ^ 14 < length m.constants.segments + 2) × (e.word.tag ≡ 3)).
+      (eq-eqb v.tag 3 (ap (λ (w : Tagged). w.tag) (sym same) ∙ l.1) ∙ sym (and_is (nat_lt bits (2 ^ 36) && (bit 19 bits == 0) && nat_lt 1 (bits % 2 ^ 14)) (nat_lt (bits % 2 ^ 14) (length m.constants.segments + 2)) true two.0 (lt-ltb (bits % 2 ^ 14) (length m.constants.segments + 2) l.0))))
+      (λ (l : (length m.constants.segments + 2 ≤ bits % 2 ^ 14) × (e.word.tag ≡ 5)).
+      (ne_eqb v.tag 3 (λ z. (let k : v.tag ≡ 5 = ap (λ (w : Tagged). w.tag) (sym same) ∙ l.1 in omega (arith, k, z))) ∙ sym (and_is (nat_lt bits (2 ^ 36) && (bit 19 bits == 0) && nat_lt 1 (bits % 2 ^ 14)) (nat_lt (bits % 2 ^ 14) (length m.constants.segments + 2)) false two.0 (le-ltb (bits % 2 ^ 14) (length m.constants.segments + 2) l.0))))
       e.is
 
   pub unnamed : (bits : ℕ) (q : Place) → (nat_lt bits (2 ^ 36) && (bit 19 bits == 0) && nat_lt 1 (bits % 2 ^ 14) && nat_le (bits % 2 ^ 14) (cpu.regs.entries + 1)) ≡ false → false ≡ is_proc (here m t q) bits
   unnamed bits q named =
       let o = h.holds.running m t runs in
-      sym (and_none (nat_lt bits (2 ^ 36) && (bit 19 bits == 0) && nat_lt 1 (bits % 2 ^ 14)) (nat_le (bits % 2 ^ 14) (cpu.regs.entries + 1)) (nat_lt (bits % 2 ^ 14) (length m.setting.segments + 2)) named
-      (λ z. (let high = le_high (bits % 2 ^ 14) (cpu.regs.entries + 1) z in le-ltb (bits % 2 ^ 14) (length m.setting.segments + 2) (omega (arith, high, few, o.entries)))))
+      sym (and_none (nat_lt bits (2 ^ 36) && (bit 19 bits == 0) && nat_lt 1 (bits % 2 ^ 14)) (nat_le (bits % 2 ^ 14) (cpu.regs.entries + 1)) (nat_lt (bits % 2 ^ 14) (length m.constants.segments + 2)) named
+      (λ z. (let high = leb-false (bits % 2 ^ 14) (cpu.regs.entries + 1) z in le-ltb (bits % 2 ^ 14) (length m.constants.segments + 2) (omega (arith, high, few, o.entries)))))
 
   -- an entry that bits name lies in core
   pub entry-inside : (bits : ℕ) → (nat_lt bits (2 ^ 36) && (bit 19 bits == 0) && nat_lt 1 (bits % 2 ^ 14) && nat_le (bits % 2 ^ 14) (cpu.regs.entries + 1)) ≡ true
       → (cpu.regs.dict + bits % 2 ^ 14 < length cpu.core) × (length cpu.core < 2 ^ 20)
   entry-inside bits named =
       let o = h.holds.running m t runs in
-      let two = both (nat_lt bits (2 ^ 36) && (bit 19 bits == 0) && nat_lt 1 (bits % 2 ^ 14)) (nat_le (bits % 2 ^ 14) (cpu.regs.entries + 1)) named in
-      let three = both (nat_lt bits (2 ^ 36) && (bit 19 bits == 0)) (nat_lt 1 (bits % 2 ^ 14)) two.0 in
-      let low = lt_low 1 (bits % 2 ^ 14) three.1 in
-      let high = le_low (bits % 2 ^ 14) (cpu.regs.entries + 1) two.1 in
+      let two = and_parts (nat_lt bits (2 ^ 36) && (bit 19 bits == 0) && nat_lt 1 (bits % 2 ^ 14)) (nat_le (bits % 2 ^ 14) (cpu.regs.entries + 1)) named in
+      let three = and_parts (nat_lt bits (2 ^ 36) && (bit 19 bits == 0)) (nat_lt 1 (bits % 2 ^ 14)) two.0 in
+      let low = ltb-true 1 (bits % 2 ^ 14) three.1 in
+      let high = leb-true (bits % 2 ^ 14) (cpu.regs.entries + 1) two.1 in
       let e = entry (bits % 2 ^ 14) (omega (arith, low)) (omega (arith, high, o.entries)) in
-      let i = slice_get_within cpu.core (plan.dictionary m.setting.number + bits % 2 ^ 14) e.word e.there in
+      let i = slice_get_within cpu.core (plan.dictionary m.constants.number + bits % 2 ^ 14) e.word e.there in
       (omega (arith, i, o.dict), h.holds.memory.directory.small)
 
 -- the word of a procedure is its bits
@@ -174,16 +139,16 @@ procedure_word : (bits : ℕ) → bits < 2 ^ 36 → bit 19 bits ≡ 0 → 1 < bi
     → word 7 bits ≡ pcw_word (record { place = record { word = (bits / 2 ^ 20) % 2 ^ 13; syllable = (bits / 2 ^ 33) % 2 ^ 3 }; level = (bits / 2 ^ 14) % 2 ^ 5; segment = bits % 2 ^ 14 - 1 + 1 })
 procedure_word bits small clear low = ap (word 7) (omega arith)
 
-pub procedure_fits : (x : Storage) (plan : Plan) (m : Member) (t : Task) (q : Place) (bits at : ℕ) → is_proc (here m t q) bits ≡ true → (bits < 2 ^ 36) × IsWordOf x plan m t (proc_of bits) at (word 7 bits)
+pub procedure_fits : (x : Storage) (plan : Placement) (m : SessionJob) (t : Task) (q : Place) (bits at : ℕ) → is_proc (here m t q) bits ≡ true → (bits < 2 ^ 36) × IsWordOf x plan m t (proc_of bits) at (word 7 bits)
 procedure_fits x plan m t q bits at is =
-    let two = both (nat_lt bits (2 ^ 36) && (bit 19 bits == 0) && nat_lt 1 (bits % 2 ^ 14)) (nat_lt (bits % 2 ^ 14) (length m.setting.segments + 2)) is in
-    let three = both (nat_lt bits (2 ^ 36) && (bit 19 bits == 0)) (nat_lt 1 (bits % 2 ^ 14)) two.0 in
-    let four = both (nat_lt bits (2 ^ 36)) (bit 19 bits == 0) three.0 in
-    let small = lt_low bits (2 ^ 36) four.0 in
-    (small, (procedure_word bits small (eqb-true (bit 19 bits) 0 four.1) (lt_low 1 (bits % 2 ^ 14) three.1), λ z. omega (arith, z)))
+    let two = and_parts (nat_lt bits (2 ^ 36) && (bit 19 bits == 0) && nat_lt 1 (bits % 2 ^ 14)) (nat_lt (bits % 2 ^ 14) (length m.constants.segments + 2)) is in
+    let three = and_parts (nat_lt bits (2 ^ 36) && (bit 19 bits == 0)) (nat_lt 1 (bits % 2 ^ 14)) two.0 in
+    let four = and_parts (nat_lt bits (2 ^ 36)) (bit 19 bits == 0) three.0 in
+    let small = ltb-true bits (2 ^ 36) four.0 in
+    (small, (procedure_word bits small (eqb-true (bit 19 bits) 0 four.1) (ltb-true 1 (bits % 2 ^ 14) three.1), λ z. omega (arith, z)))
 
-pub procedure_row : (m : Member) (t : Task) (q : Place) (bits : ℕ) → is_proc (here m t q) bits ≡ true → mpcw (here m t q) bits ≡ leaves_cells (here m t q) (proc_of bits ∷ cells t) None
+pub procedure_row : (m : SessionJob) (t : Task) (q : Place) (bits : ℕ) → is_proc (here m t q) bits ≡ true → mpcw (here m t q) bits ≡ leaves_cells (here m t q) (proc_of bits ∷ cells t) None
 procedure_row m t q bits is = rw is refl
 
-pub no_procedure : (m : Member) (t : Task) (q : Place) (bits : ℕ) → is_proc (here m t q) bits ≡ false → mpcw (here m t q) bits ≡ Err InvalidOperator
+pub no_procedure : (m : SessionJob) (t : Task) (q : Place) (bits : ℕ) → is_proc (here m t q) bits ≡ false → mpcw (here m t q) bits ≡ Err InvalidOperator
 no_procedure m t q bits is = rw is refl

@@ -8,7 +8,7 @@ use Rattle.b67_core.proofs.Writes.{slice_get-set_other}
 use Rattle.b67_ctl.specs.declared.registers.Regs.{Regs}
 use Rattle.b67_model.specs.Answers.{Answer, ◌>>=◌}
 use Rattle.b67_model.specs.Words.{Word}
-use Rattle.b67_model.specs.State.{Task, Member}
+use Rattle.b67_model.specs.State.{Task, SessionJob}
 use Rattle.b67_model.specs.Run.{number_of}
 use Rattle.b67_model.specs.Schedule.{Session}
 use Rattle.b67_model.specs.InOrder.{IsInOrderButPlaces}
@@ -18,23 +18,23 @@ use Rattle.b67_model.specs.Intrinsics.{is_original}
 use Rattle.b67_stack.specs.declared.Cpu.{Cpu}
 use Rattle.b67_stack.specs.Shapes.{Shape, Fits}
 use Rattle.b67_stack.specs.Stacks.{Activation}
-use Rattle.b67_stack.specs.Picture.{Picture, RunsOn, Settled}
-use Rattle.b67_stack.specs.Stands.{Storage, Stands}
+use Rattle.b67_stack.specs.MachineView.{MachineView, RunsOn, NoOriginalAboveTop}
+use Rattle.b67_stack.specs.Represents.{Storage, Represents}
 use Rattle.b67_stack.specs.Changes.{with_stack, with_cells, top_cells, MayPush}
 use Rattle.b67_stack.proofs.Cells.{with_stack-twice}
 use Rattle.b67_stack.proofs.Pushes.{RunsOn-with}
 use Rattle.b67_stack.proofs.Slots.{running_fits}
-use Rattle.b67_layout.specs.Plan.{Plan, spot_in, outer_spots}
-use Rattle.b67_layout.specs.Layout.{picture}
-use Rattle.b67_layout.specs.Session.{IsRunning, SessionStands}
+use Rattle.b67_layout.specs.Placement.{Placement, spot_in, outer_spots}
+use Rattle.b67_layout.specs.Layout.{machine_view}
+use Rattle.b67_layout.specs.Session.{IsRunning, RepresentsSession}
 use Rattle.b67_layout.specs.Meets.{here, IsMade}
-use Rattle.b67_layout.proofs.Others.{keyed-has}
 use Rattle.b67_layout.proofs.Settles as Settles
 use Rattle.b67_exec_cells.specs.Tops.{IsWordOf, cells, GivesTwo, MayStand}
-use Rattle.b67_exec_cells.proofs.Replaced.{Stands-put, shapes_plain, may_push, height-with}
+use Rattle.b67_exec_cells.proofs.Replaced.{Represents-put, shapes_plain, may_push, height-with}
 use Rattle.b67_exec_cells.proofs.Put.{stack, shaped, runs_here, room, tops, seen, made_cells}
 use Rattle.b67_layout.proofs.Fresh.{running_in_order}
 use Rattle.b67_exec_operands.proofs.Rows.{elsewhere, two_may_stand}
+use Rattle.b67_lemmas.proofs.Members.{keyed-has}
 
 cells-twice : (st : List Activation) (cs ds : List Shape) → with_cells (with_cells st cs) ds ≡ with_cells st ds
 cells-twice [] cs ds = refl
@@ -45,35 +45,35 @@ cells-now [] cs some = absurd (some refl)
 cells-now (a ∷ below) cs some = refl
 
 -- two cells in the place of two
-module _ (x : Storage) (core : List Tagged) (r : Regs) (p : Picture) (k : ℕ) (st : List Activation) (s : Stands x core r p) (u : RunsOn p k st) where
-  pub Stands-two : (b a : Shape) (rest : List Shape) (v w : Tagged) (q : Place) → top_cells st ≡ b ∷ a ∷ rest → 2 ≤ r.s → r.s ≤ r.losr → Settles.NoOriginals (b ∷ a ∷ []) → Settled p → MayPush p.things a → MayPush p.things b
+module _ (x : Storage) (core : List Tagged) (r : Regs) (p : MachineView) (k : ℕ) (st : List Activation) (s : Represents x core r p) (u : RunsOn p k st) where
+  pub Represents-two : (b a : Shape) (rest : List Shape) (v w : Tagged) (q : Place) → top_cells st ≡ b ∷ a ∷ rest → 2 ≤ r.s → r.s ≤ r.losr → Settles.NoOriginals (b ∷ a ∷ []) → NoOriginalAboveTop p → MayPush p.objects a → MayPush p.objects b
       → Fits x.held b (r.s - 1) v → Fits x.held a r.s w
-      → Stands x (slice_set (slice_set core (r.s - 1) v) r.s w) (record r { place = q }) (with_stack p k (with_cells st (a ∷ b ∷ rest))) × Settled (with_stack p k (with_cells st (a ∷ b ∷ rest)))
-  Stands-two b a rest v w q e two room plain settled may_a may_b fit_b fit_a =
+      → Represents x (slice_set (slice_set core (r.s - 1) v) r.s w) (record r { place = q }) (with_stack p k (with_cells st (a ∷ b ∷ rest))) × NoOriginalAboveTop (with_stack p k (with_cells st (a ∷ b ∷ rest)))
+  Represents-two b a rest v w q e two room plain settled may_a may_b fit_b fit_a =
       let r1 : Regs = record r { s = r.s - 1; place = q } in
       let st1 : List Activation = with_cells st (b ∷ rest) in
-      let p1 : Picture = with_stack p k st1 in
-      let one = Stands-put x core r p k st s u (b ∷ a ∷ []) rest b v (r.s - 1) q e (omega (arith, two)) (omega (arith, room)) plain settled may_b fit_b in
+      let p1 : MachineView = with_stack p k st1 in
+      let one = Represents-put x core r p k st s u (b ∷ a ∷ []) rest b v (r.s - 1) q e (omega (arith, two)) (omega (arith, room)) plain settled may_b fit_b in
       let some = (running_fits x core r p k st s u).0.some in
       let here_at : r.s ≡ r1.s - 0 + 1 = omega (arith, two) in
-      let both = Stands-put x (slice_set core (r.s - 1) v) r1 p1 k st1 one.0 (RunsOn-with p k st st1 u) [] (b ∷ rest) a w r.s q (cells-now st (b ∷ rest) some) here_at room (λ home h. h) one.1 may_a fit_a in
+      let both = Represents-put x (slice_set core (r.s - 1) v) r1 p1 k st1 one.0 (RunsOn-with p k st st1 u) [] (b ∷ rest) a w r.s q (cells-now st (b ∷ rest) some) here_at room (λ home h. h) one.1 may_a fit_a in
       let same : with_stack p1 k (with_cells st1 (a ∷ b ∷ rest)) ≡ with_stack p k (with_cells st (a ∷ b ∷ rest)) =
       with_stack-twice p k st1 (with_cells st1 (a ∷ b ∷ rest)) ∙ ap (with_stack p k) (cells-twice st (b ∷ rest) (a ∷ b ∷ rest)) in
-      let P : Picture → Type 0 = λ z. Stands x (slice_set (slice_set core (r.s - 1) v) r.s w) (record r { place = q }) z in
-      (subst P same both.0, subst Settled same both.1)
+      let P : MachineView → Type 0 = λ z. Represents x (slice_set (slice_set core (r.s - 1) v) r.s w) (record r { place = q }) z in
+      (subst P same both.0, subst NoOriginalAboveTop same both.1)
 
-module _ (x : Storage) (old : Cpu) (plan : Plan) (s : Session) (m : Member) (t : Task) (ordered : IsInOrderButPlaces s) (h : SessionStands x old plan s) (runs : IsRunning plan s.jobs m t) where
-  pub exchanged : (u v : Tagged) (q : Place) (b a : Word) (rest : List Word) → cells t ≡ b ∷ a ∷ rest → old.regs.f + 2 ≤ old.regs.s → is_original a ≡ false → is_original b ≡ false → MayStand m.course.job a → MayStand m.course.job b
+module _ (x : Storage) (old : Cpu) (plan : Placement) (s : Session) (m : SessionJob) (t : Task) (ordered : IsInOrderButPlaces s) (h : RepresentsSession x old plan s) (runs : IsRunning plan s.jobs m t) where
+  pub exchanged : (u v : Tagged) (q : Place) (b a : Word) (rest : List Word) → cells t ≡ b ∷ a ∷ rest → old.regs.f + 2 ≤ old.regs.s → is_original a ≡ false → is_original b ≡ false → MayStand m.progress.job a → MayStand m.progress.job b
       → IsWordOf x plan m t a old.regs.s u → IsWordOf x plan m t b (old.regs.s - 1) v
       → IsMade x plan s m old (record old { core = slice_set (slice_set old.core (old.regs.s - 1) v) old.regs.s u; regs = record old.regs { place = q } }) (leaves_cells (here m t q) (a ∷ b ∷ rest) None)
   exchanged u v q b a rest e enough plain_a plain_b may_a may_b fit_a fit_b =
       let g = room x old plan s m t ordered h runs in
-      let has_m = keyed-has number_of m.setting.number s.jobs m runs.member in
-      let spot = spot_in plan.running (outer_spots plan m.setting.number m.course.job t.critical t.parents) t.frames in
+      let has_m = keyed-has number_of m.constants.number s.jobs m runs.member in
+      let spot = spot_in plan.running (outer_spots plan m.constants.number m.progress.job t.critical t.parents) t.frames in
       let sh = shaped x old plan s m t ordered h runs in
-      let d = Stands-two x old.core old.regs (picture plan s.jobs) plan.running (stack x old plan s m t ordered h runs) h.holds.memory (runs_here x old plan s m t ordered h runs) (sh b) (sh a) (map sh rest) v u q
+      let d = Represents-two x old.core old.regs (machine_view plan s.jobs) plan.running (stack x old plan s m t ordered h runs) h.holds.memory (runs_here x old plan s m t ordered h runs) (sh b) (sh a) (map sh rest) v u q
       (tops x old plan s m t ordered h runs (b ∷ a ∷ []) rest e) (omega (arith, g.low, g.mark, g.top)) g.last
-      (shapes_plain plan m.setting.number m.course.job spot (b ∷ a ∷ []) (plain_b, (plain_a, tt))) h.holds.settled (may_push plan s.jobs m spot a has_m may_a) (may_push plan s.jobs m spot b has_m may_b)
+      (shapes_plain plan m.constants.number m.progress.job spot (b ∷ a ∷ []) (plain_b, (plain_a, tt))) h.holds.settled (may_push plan s.jobs m spot a has_m may_a) (may_push plan s.jobs m spot b has_m may_b)
       (seen x old plan s m t ordered h runs b (old.regs.s - 1) v fit_b) (seen x old plan s m t ordered h runs a old.regs.s u fit_a) in
       let i = (running_in_order plan s m t ordered runs).1 in
       let tall = height-with t.frames (a ∷ b ∷ rest) i.some in
@@ -110,7 +110,7 @@ module _ (x : Storage) (old : Cpu) (plan : Plan) (s : Session) (m : Member) (t :
         subst P (sym row) (exchanged u v q b a rest e enough na nb may.0 may.1 (elsewhere x plan m t a (old.regs.s - 1) old.regs.s u na fit_a) (elsewhere x plan m t b old.regs.s (old.regs.s - 1) v nb fit_b))
 
 -- an original among the two
-pub exchange_refused : (x : Storage) (old : Cpu) (plan : Plan) (m : Member) (t : Task) (u v : Tagged) (q : Place) → GivesTwo x plan m t old (cells t) (Ok (u, v))
+pub exchange_refused : (x : Storage) (old : Cpu) (plan : Placement) (m : SessionJob) (t : Task) (u v : Tagged) (q : Place) → GivesTwo x plan m t old (cells t) (Ok (u, v))
     → ((w : Word) (at : ℕ) → IsWordOf x plan m t w at u → is_original w ≡ true) ⊎ ((w : Word) (at : ℕ) → IsWordOf x plan m t w at v → is_original w ≡ true) → on_cells exch (here m t q) ≡ Err InvalidOperand
 exchange_refused x old plan m t u v q given own = by_cells (cells t) given where
   second : (a b : Word) (rest : List Word) (o : Bool) → is_original a ≡ o → is_original b ≡ true → exch (b ∷ a ∷ rest) ≡ Err InvalidOperand

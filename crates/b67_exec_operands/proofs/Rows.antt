@@ -9,7 +9,7 @@ use Rattle.b67_word.specs.declared.faults.Fault.TheVariants.{StackUnderflow, Inv
 use Rattle.b67_model.specs.Answers.{Answer, ◌>>=◌}
 use Rattle.b67_model.specs.Words as Words
 use Rattle.b67_model.specs.Words.{Word, Operand, Name, Ref, Row, Element, Original, Proc, Intrinsic, operand}
-use Rattle.b67_model.specs.State.{Frame, Array, Task, Job, Member, top}
+use Rattle.b67_model.specs.State.{Frame, Array, Task, Job, SessionJob, top}
 use Rattle.b67_model.specs.InOrder.{Starts, IsSegment, Known, known_of, outer_of, FramesInOrder, WordInOrder, IsInOrderButPlaces}
 use Rattle.b67_model.specs.Arithmetic.{Binary}
 use Rattle.b67_model.specs.Steps.{Done, leaves_cells}
@@ -19,8 +19,8 @@ use Rattle.b67_model.specs.Rows.{CellRow, on_one, on_two, on_cells, dlet, dupl}
 use Rattle.b67_arith.specs.OnWords.{bits_in, on_word, on_words}
 use Rattle.b67_stack.specs.declared.Cpu.{Cpu}
 use Rattle.b67_stack.specs.declared.Step.{Step}
-use Rattle.b67_stack.specs.Stands.{Storage}
-use Rattle.b67_layout.specs.Plan.{Plan}
+use Rattle.b67_stack.specs.Represents.{Storage}
+use Rattle.b67_layout.specs.Placement.{Placement}
 use Rattle.b67_layout.specs.Session.{IsRunning}
 use Rattle.b67_layout.specs.Meets.{here, IsMade, Meets, RunsSome}
 use Rattle.b67_layout.proofs.Fresh.{running_in_order}
@@ -28,7 +28,7 @@ use Rattle.b67_exec_cells.specs.Tops.{IsWordOf, cells, GivesTop, GivesTwo, MaySt
 use Rattle.b67_exec_cells.proofs.Put.{room}
 
 -- the bits of a word are those of the cell, if that is an operand
-module _ (x : Storage) (plan : Plan) (m : Member) (t : Task) (at : ℕ) (v : Tagged) where
+module _ (x : Storage) (plan : Placement) (m : SessionJob) (t : Task) (at : ℕ) (v : Tagged) where
   pub operand_seen : (w : Word) → IsWordOf x plan m t w at v → bits_in v ≡ operand w
   operand_seen (Operand bits) f = ap bits_in f.0
   operand_seen (Name c) f = ap bits_in f.0
@@ -106,10 +106,10 @@ may_stand P job reach owner (Intrinsic k) o n = tt
 may_stand P job reach owner (Words.Segment k) o n = tt
 
 -- the top cell may be put on the stack again
-pub top_may_stand : (plan : Plan) (s : Session) (m : Member) (t : Task) → IsInOrderButPlaces s → IsRunning plan s.jobs m t → (a : Word) (rest : List Word) → cells t ≡ a ∷ rest → is_original a ≡ false → MayStand m.course.job a
+pub top_may_stand : (plan : Placement) (s : Session) (m : SessionJob) (t : Task) → IsInOrderButPlaces s → IsRunning plan s.jobs m t → (a : Word) (rest : List Word) → cells t ≡ a ∷ rest → is_original a ≡ false → MayStand m.progress.job a
 top_may_stand plan s m t ordered runs a rest e n =
-    let o = in_order (IsSegment m.setting) m.course.job.arrays (outer_of m.course.job t) t.frames a rest (running_in_order plan s m t ordered runs).1.frames e in
-    may_stand (IsSegment m.setting) m.course.job o.0 o.1 a o.2 n
+    let o = in_order (IsSegment m.constants) m.progress.job.arrays (outer_of m.progress.job t) t.frames a rest (running_in_order plan s m t ordered runs).1.frames e in
+    may_stand (IsSegment m.constants) m.progress.job o.0 o.1 a o.2 n
 
 -- so may the two top ones
 two_in_order : (P : Starts) (arrays : List Array) (outer : List Known) (fs : List Frame) (b a : Word) (rest : List Word) → FramesInOrder P arrays outer fs → (top fs).cells ≡ b ∷ a ∷ rest
@@ -119,21 +119,21 @@ two_in_order P arrays outer (f ∷ below) b a rest o e =
     let A : List Word → Type 0 = λ cs. AllByRecursion (WordInOrder P arrays (map known_of (f ∷ below) ++ outer) f.identity) cs in
     (map known_of (f ∷ below) ++ outer, f.identity, (subst A e o.0.0).1.0)
 
-pub two_may_stand : (plan : Plan) (s : Session) (m : Member) (t : Task) → IsInOrderButPlaces s → IsRunning plan s.jobs m t → (b a : Word) (rest : List Word) → cells t ≡ b ∷ a ∷ rest → is_original b ≡ false → is_original a ≡ false
-    → MayStand m.course.job a × MayStand m.course.job b
+pub two_may_stand : (plan : Placement) (s : Session) (m : SessionJob) (t : Task) → IsInOrderButPlaces s → IsRunning plan s.jobs m t → (b a : Word) (rest : List Word) → cells t ≡ b ∷ a ∷ rest → is_original b ≡ false → is_original a ≡ false
+    → MayStand m.progress.job a × MayStand m.progress.job b
 two_may_stand plan s m t ordered runs b a rest e nb na =
-    let o = two_in_order (IsSegment m.setting) m.course.job.arrays (outer_of m.course.job t) t.frames b a rest (running_in_order plan s m t ordered runs).1.frames e in
-    (may_stand (IsSegment m.setting) m.course.job o.0 o.1 a o.2 na, top_may_stand plan s m t ordered runs b (a ∷ rest) e nb)
+    let o = two_in_order (IsSegment m.constants) m.progress.job.arrays (outer_of m.progress.job t) t.frames b a rest (running_in_order plan s m t ordered runs).1.frames e in
+    (may_stand (IsSegment m.constants) m.progress.job o.0 o.1 a o.2 na, top_may_stand plan s m t ordered runs b (a ∷ rest) e nb)
 
 -- the bits of no operand
-pub no_operand : (x : Storage) (plan : Plan) (m : Member) (t : Task) (w : Word) (at : ℕ) (v : Tagged) → IsWordOf x plan m t w at v → v.tag ≢ 0 → operand w ≡ Err InvalidOperand
+pub no_operand : (x : Storage) (plan : Placement) (m : SessionJob) (t : Task) (w : Word) (at : ℕ) (v : Tagged) → IsWordOf x plan m t w at v → v.tag ≢ 0 → operand w ≡ Err InvalidOperand
 no_operand x plan m t w at v f ne = sym (operand_seen x plan m t at v w f) ∙ (let e : (v.tag == 0) ≡ false = ne_eqb v.tag 0 ne in rw e refl)
 
-pub an_operand : (x : Storage) (plan : Plan) (m : Member) (t : Task) (w : Word) (at : ℕ) (v : Tagged) → IsWordOf x plan m t w at v → v.tag ≡ 0 → operand w ≡ Ok v.bits
+pub an_operand : (x : Storage) (plan : Placement) (m : SessionJob) (t : Task) (w : Word) (at : ℕ) (v : Tagged) → IsWordOf x plan m t w at v → v.tag ≡ 0 → operand w ≡ Ok v.bits
 an_operand x plan m t w at v f e = sym (operand_seen x plan m t at v w f) ∙ (let q : (v.tag == 0) ≡ true = eq-eqb v.tag 0 e in rw q refl)
 
 -- where a word stands matters for originals alone
-pub elsewhere : (x : Storage) (plan : Plan) (m : Member) (t : Task) (w : Word) (at other : ℕ) (v : Tagged) → is_original w ≡ false → IsWordOf x plan m t w at v → IsWordOf x plan m t w other v
+pub elsewhere : (x : Storage) (plan : Placement) (m : SessionJob) (t : Task) (w : Word) (at other : ℕ) (v : Tagged) → is_original w ≡ false → IsWordOf x plan m t w at v → IsWordOf x plan m t w other v
 elsewhere x plan m t (Operand bits) at other v n f = f
 elsewhere x plan m t (Name c) at other v n f = f
 elsewhere x plan m t (Ref g o) at other v n f = f
@@ -144,7 +144,7 @@ elsewhere x plan m t (Proc g l p) at other v n f = f
 elsewhere x plan m t (Intrinsic k) at other v n f = f
 elsewhere x plan m t (Words.Segment k) at other v n f = f
 
-module _ (x : Storage) (old : Cpu) (plan : Plan) (s : Session) (m : Member) (t : Task) (q : Place) where
+module _ (x : Storage) (old : Cpu) (plan : Placement) (s : Session) (m : SessionJob) (t : Task) (q : Place) where
   -- what a row on cells goes on with
   goes : Answer (List Word) → Answer Done
   goes answer = answer >>= λ cs. leaves_cells (here m t q) cs None
@@ -165,7 +165,7 @@ module _ (x : Storage) (old : Cpu) (plan : Plan) (s : Session) (m : Member) (t :
 
   -- what `replace_cells` says of a word
   abbrev pub Replaces : ℕ → Tagged → Step → Cpu → Type 0
-  Replaces count w r new = (gone rest : List Word) (v : Word) → cells t ≡ gone ++ rest → length gone ≡ count → NoOriginals gone → MayStand m.course.job v → IsWordOf x plan m t v (old.regs.s - count + 1) w
+  Replaces count w r new = (gone rest : List Word) (v : Word) → cells t ≡ gone ++ rest → length gone ≡ count → NoOriginals gone → MayStand m.progress.job v → IsWordOf x plan m t v (old.regs.s - count + 1) w
       → Meets x plan s m r old new (leaves_cells (here m t q) (v ∷ rest) None)
 
   -- and `drop_cells`

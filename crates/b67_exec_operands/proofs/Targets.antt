@@ -8,13 +8,13 @@ use Rattle.b67_word.specs.declared.faults.Fault.{Fault}
 use Rattle.b67_word.specs.declared.faults.Fault.TheVariants.{StackUnderflow, InvalidOperand}
 use Rattle.b67_model.specs.Answers.{Answer}
 use Rattle.b67_model.specs.Words.{Word, operand}
-use Rattle.b67_model.specs.State.{Task, Member, Here}
+use Rattle.b67_model.specs.State.{Task, SessionJob, OperatorContext}
 use Rattle.b67_model.specs.Schedule.{Session}
 use Rattle.b67_model.specs.Steps.{Done, leaves_cells}
 use Rattle.b67_model.specs.Rows.{branches, branch_if}
 use Rattle.b67_stack.specs.declared.Cpu.{Cpu}
-use Rattle.b67_stack.specs.Stands.{Storage}
-use Rattle.b67_layout.specs.Plan.{Plan}
+use Rattle.b67_stack.specs.Represents.{Storage}
+use Rattle.b67_layout.specs.Placement.{Placement}
 use Rattle.b67_layout.specs.Meets.{here, IsMade}
 use Rattle.b67_exec_cells.specs.Tops.{IsWordOf, cells, GivesTop}
 use Rattle.b67_exec_operands.proofs.Rows.{Drops, an_operand, no_operand, plain_operand}
@@ -22,7 +22,7 @@ use Rattle.b67_exec_operands.proofs.Rows.{Drops, an_operand, no_operand, plain_o
 first_bit : (bits : ℕ) → bit 0 bits ≡ bits % 2
 first_bit bits = omega arith
 
-module _ (h : Here) (a : Word) (rest : List Word) (bits : ℕ) (target : Place) (e : operand a ≡ Ok bits) where
+module _ (h : OperatorContext) (a : Word) (rest : List Word) (bits : ℕ) (target : Place) (e : operand a ≡ Ok bits) where
   -- by the first bit
   taken : (wanted b : Bool) → (bit 0 bits == 1) ≡ b → beq b wanted ≡ true → branch_if wanted h (a ∷ rest) target ≡ leaves_cells (branches h target) rest None
   taken true true q k = rw e (rw q refl)
@@ -36,7 +36,7 @@ module _ (h : Here) (a : Word) (rest : List Word) (bits : ℕ) (target : Place) 
   passed false true q k = rw e (rw q refl)
   passed false false q k = absurd (let z : ⊥ = cc in z)
 
-module _ (x : Storage) (old : Cpu) (plan : Plan) (s : Session) (m : Member) (t : Task) (wanted : Bool) (target q : Place) where
+module _ (x : Storage) (old : Cpu) (plan : Placement) (s : Session) (m : SessionJob) (t : Task) (wanted : Bool) (target q : Place) where
   pub branch_missing : (fault : Fault) → GivesTop x plan m t old (cells t) (Err fault) → branch_if wanted (here m t q) (cells t) target ≡ Err fault
   branch_missing fault given = by_cells (cells t) given where
     by_cells : (cs : List Word) → GivesTop x plan m t old cs (Err fault) → branch_if wanted (here m t q) cs target ≡ Err fault

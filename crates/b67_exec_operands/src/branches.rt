@@ -10,6 +10,7 @@ use b67_stack::{Cpu, Step};
 use b67_word::{Fault, Place};
 
 /// Goes on at `next`, and changes nothing else.
+#[inline(always)]
 pub fn go_on(cpu: &mut Cpu, next: Place) -> Step
     requires { RunsSome cpu.old }
     ensures row { ForEach cpu.old (λ x plan s m t. let h = here m t next in Meets x plan s m result cpu.old cpu.new (leaves_cells h (cells_of h) None)) }
@@ -20,6 +21,7 @@ pub fn go_on(cpu: &mut Cpu, next: Place) -> Step
 
 /// Takes the top cell off, and goes on at `target` where its bit 0 is as wanted, else at `next`. STACK UNDERFLOW,
 /// INVALID OPERAND.
+#[inline(always)]
 pub fn branch_if(cpu: &mut Cpu, wanted: bool, target: Place, next: Place) -> Step
     requires { RunsSome cpu.old }
     ensures row { ForEach cpu.old (λ x plan s m t. let h = here m t next in Meets x plan s m result cpu.old cpu.new (rows.branch_if wanted h (cells_of h) target)) }

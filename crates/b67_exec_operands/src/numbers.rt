@@ -45,6 +45,7 @@ pub enum Unary {
     Isol(u8, u8),
 }
 
+#[inline(always)]
 fn compute(op: Binary, a: Word, b: Word) -> Result<Word, Fault>
     ensures { result ≡ on_words (of_two op) a b }
 {
@@ -68,6 +69,7 @@ fn compute(op: Binary, a: Word, b: Word) -> Result<Word, Fault>
     }
 }
 
+#[inline(always)]
 fn change(op: Unary, a: Word) -> Result<Word, Fault>
     ensures { result ≡ on_word (of_one op) a }
 {
@@ -82,6 +84,7 @@ fn change(op: Unary, a: Word) -> Result<Word, Fault>
 
 /// Puts what an operator makes of the two top cells in their place, and goes on at `next`. STACK UNDERFLOW where there
 /// are fewer, then the operator's faults.
+#[inline(always)]
 pub fn on_two(cpu: &mut Cpu, op: Binary, next: Place) -> Step
     requires { RunsSome cpu.old }
     ensures row { ForEach cpu.old (λ x plan s m t. Meets x plan s m result cpu.old cpu.new (rows.on_cells (rows.on_two (of_two op)) (here m t next))) }
@@ -98,6 +101,7 @@ pub fn on_two(cpu: &mut Cpu, op: Binary, next: Place) -> Step
 
 /// Puts what an operator makes of the top cell in its place, and goes on at `next`. STACK UNDERFLOW where there is
 /// none, then the operator's faults.
+#[inline(always)]
 pub fn on_one(cpu: &mut Cpu, op: Unary, next: Place) -> Step
     requires { RunsSome cpu.old }
     ensures row { ForEach cpu.old (λ x plan s m t. Meets x plan s m result cpu.old cpu.new (rows.on_cells (rows.on_one (of_one op)) (here m t next))) }

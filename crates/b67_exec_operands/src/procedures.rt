@@ -11,6 +11,7 @@ use b67_stack::{Cpu, Step};
 use b67_word::{Fault, Place, Word};
 
 /// Whether bits are those of a procedure's word whose segment is an entry of a dictionary with so many.
+#[inline(always)]
 fn names_entry(bits: u64, entries: u16) -> bool
     ensures { result ≡ (nat_lt bits (2 ^ 36) && (bit 19 bits == 0) && nat_lt 1 (bits % 2 ^ 14) && nat_le (bits % 2 ^ 14) (entries + 1)) }
 {
@@ -21,6 +22,7 @@ fn names_entry(bits: u64, entries: u16) -> bool
 }
 
 /// Whether a literal names a segment of the running job and has no bit outside its fields.
+#[inline(always)]
 fn is_procedure(cpu: &Cpu, bits: u64) -> bool
     requires { RunsSome cpu.now }
     ensures { ForEach cpu.now (λ x plan s m t. (q : Place) → result ≡ rows.is_proc (here m t q) bits) }
@@ -33,6 +35,7 @@ fn is_procedure(cpu: &Cpu, bits: u64) -> bool
 
 /// Pushes the word of a procedure of the running job, which the literal is, and goes on at `next`. INVALID OPERATOR where
 /// it names no segment or has other bits, then STACK OVERFLOW.
+#[inline(always)]
 pub fn mpcw(cpu: &mut Cpu, bits: u64, next: Place) -> Step
     requires { RunsSome cpu.old }
     ensures row { ForEach cpu.old (λ x plan s m t. Meets x plan s m result cpu.old cpu.new (rows.mpcw (here m t next) bits)) }

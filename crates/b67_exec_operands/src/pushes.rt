@@ -5,12 +5,13 @@ ghost use Rattle.b67_model.specs.Words.{Operand, Name};
 ghost use Rattle.b67_model.specs.Steps.{pushes};
 ghost use Rattle.b67_layout.specs.Meets.{here, Meets, RunsSome, ForEach};
 
-use b67_exec_cells::replace_cells;
 use b67_ctl::Irw;
+use b67_exec_cells::replace_cells;
 use b67_stack::{Cpu, Step};
 use b67_word::{Place, Word};
 
 /// Pushes the operand of these 48 bits, and goes on at `next`. STACK OVERFLOW.
+#[inline(always)]
 pub fn literal(cpu: &mut Cpu, bits: u64, next: Place) -> Step
     requires runs { RunsSome cpu.old }
     requires bits { bits < 2 ^ 48 }
@@ -20,6 +21,7 @@ pub fn literal(cpu: &mut Cpu, bits: u64, next: Place) -> Step
 }
 
 /// Pushes the reference of a couple of 14 bits, and goes on at `next`. STACK OVERFLOW.
+#[inline(always)]
 pub fn namc(cpu: &mut Cpu, couple: u16, next: Place) -> Step
     requires runs { RunsSome cpu.old }
     requires couple { couple < 2 ^ 14 }

@@ -1,32 +1,31 @@
 -- A number stored into a cell, and the operands off the stack: what STOD and STON make at a cell.
-use Rattle.std.proofs.Common.{◌≡◌, ℕ, ◌+◌, ◌-◌, ◌<◌, ◌≤◌, List, [], ◌∷◌, ◌++◌, map, length, None, Ok, refl, sym, ◌∙◌, ap, arith, Bool, true, false, ◌==◌, ⊎_elim, inl, inr, ◌⊎◌, subst, slice_set}
+use Rattle.std.proofs.Common.{◌≡◌, ℕ, ◌+◌, ◌-◌, ◌<◌, ◌≤◌, List, [], ◌∷◌, ◌++◌, length, None, Ok, refl, sym, ◌∙◌, ap, arith, Bool, true, false, ◌==◌, ⊎_elim, inl, inr, ◌⊎◌, subst, slice_set}
 use Rattle.std.specs.Prelude.{if◌then◌else◌}
 use Rattle.std.specs.List.{slice_get}
 use Rattle.std.proofs.lemmas.Bool.{cases_Bool, cases_eq}
 use Rattle.b67_core.proofs.Writes.{slice_get-set_other}
 use Rattle.b67_word.specs.Tagged.{word}
 use Rattle.b67_word.specs.declared.couples.Place.{Place}
-use Rattle.b67_model.specs.Keyed.{change_keyed}
 use Rattle.b67_model.specs.Words.{Word, Operand}
-use Rattle.b67_model.specs.State.{Frame, Task, Job, Member, top, with_top_cells, with_task}
+use Rattle.b67_model.specs.State.{Frame, Standing, Marked, Entered, Task, Job, SessionJob, top, with_top_cells, with_task, head_words}
 use Rattle.b67_model.specs.Cells.{with_cell}
 use Rattle.b67_model.specs.Intrinsics.{is_original}
 use Rattle.b67_model.specs.Schedule.{Session}
 use Rattle.b67_model.specs.Steps.{Goes, with_cells}
-use Rattle.b67_model.specs.InOrder.{IsInOrderButPlaces}
-use Rattle.b67_law_order.proofs.Members.{has_map_back, keyed_has}
+use Rattle.b67_model.specs.InOrder.{IsInOrderButPlaces, IsEntered}
 use Rattle.b67_stack.specs.declared.Cpu.{Cpu}
-use Rattle.b67_stack.specs.Picture.{Thing}
-use Rattle.b67_stack.specs.Stands.{Storage}
-use Rattle.b67_layout.specs.Plan.{Plan}
-use Rattle.b67_layout.specs.Session.{IsRunning, SessionStands, SessionStandsBut}
+use Rattle.b67_stack.specs.MachineView.{PagedObject}
+use Rattle.b67_stack.specs.Represents.{Storage}
+use Rattle.b67_layout.specs.Placement.{Placement}
+use Rattle.b67_layout.specs.Session.{IsRunning, RepresentsSession, RepresentsSessionBut}
 use Rattle.b67_layout.specs.Meets.{here, with_job, IsMade, IsLiveCell}
 use Rattle.b67_layout.proofs.Fresh.{fresh}
-use Rattle.b67_layout.proofs.Gone.{no_things_gone}
-use Rattle.b67_layout.proofs.Pictures.{with_course}
+use Rattle.b67_layout.proofs.Gone.{no_objects_gone}
+use Rattle.b67_layout.proofs.MachineViews.{with_course}
 use Rattle.b67_layout.proofs.Steps.{IsFree}
 use Rattle.b67_layout.proofs.Whole.{task_with}
-use Rattle.b67_refer.specs.Scene.{Scene}
+use Rattle.b67_layout.proofs.Sessions.{course_twice}
+use Rattle.b67_refer.specs.RunningContext.{RunningContext}
 use Rattle.b67_refer.specs.Cells.{IsCellAt}
 use Rattle.b67_refer.proofs.Scenes as Scenes
 use Rattle.b67_exec_cells.specs.Tops.{cells, NoOriginals}
@@ -35,15 +34,14 @@ use Rattle.b67_layout_store.proofs.Puts.{put}
 use Rattle.b67_layout_store.proofs.Frames.{put_frames, put_job, with_cell_is, frame_found}
 use Rattle.b67_layout_store.proofs.Mapped.{put_task}
 use Rattle.b67_layout_store.proofs.Stored as Stored
-use Rattle.b67_layout_store.proofs.Stored.{SessionStands-store, still_runs}
-use Rattle.b67_fetch.proofs.Finishes.{course_twice, finish_drop, finish_keep}
+use Rattle.b67_layout_store.proofs.Stored.{RepresentsSession-store, still_runs}
+use Rattle.b67_fetch.proofs.Finishes.{finish_drop, finish_keep}
+use Rattle.b67_lemmas.proofs.Members.{has_map_back, keyed_has}
+use Rattle.b67_lemmas.proofs.Keyed.{change_map}
 
-change_map : {A : Type 0} (key : A → ℕ) (f : A → A) (n : ℕ) (a a' : A) (xs : List A) → ((x : A) → key (f x) ≡ key x) → f a ≡ a' → change_keyed key n (λ y. a') (map f xs) ≡ map f (change_keyed key n (λ y. a) xs)
-change_map key f n a a' [] keep e = refl
-change_map key f n a a' (x ∷ xs) keep e = ⊎_elim
-    (λ (t : (key x == n) ≡ true). let u : (key (f x) == n) ≡ true = ap (λ k. k == n) (keep x) ∙ t in rw t (rw u (ap (λ z. z ∷ map f xs) (sym e))))
-    (λ (t : (key x == n) ≡ false). let u : (key (f x) == n) ≡ false = ap (λ k. k == n) (keep x) ∙ t in rw t (rw u (ap (λ zs. f x ∷ zs) (change_map key f n a a' xs keep e))))
-    (cases_Bool (key x == n))
+entered_head : (standing : Standing) → IsEntered standing → head_words standing ≡ 2
+entered_head Marked e = absurd e
+entered_head (Entered level environment back) e = refl
 
 -- the top frame's cells, where the word may be stored in one of them
 abbrev stored : Bool → ℕ → Word → List Word → List Word
@@ -98,9 +96,9 @@ kept_value : (b : Bool) (i : ℕ) (w : Word) (rest : List Word) → stored b i w
 kept_value true i w rest = ap (λ v. v ∷ put i w rest) (same_choice (i == length rest) w)
 kept_value false i w rest = refl
 
-module _ (x : Storage) (old : Cpu) (plan : Plan) (s : Session) (m : Member) (t : Task) (o : IsInOrderButPlaces s) (h : SessionStands x old plan s) (runs : IsRunning plan s.jobs m t) (q : Place)
+module _ (x : Storage) (old : Cpu) (plan : Placement) (s : Session) (m : SessionJob) (t : Task) (o : IsInOrderButPlaces s) (h : RepresentsSession x old plan s) (runs : IsRunning plan s.jobs m t) (q : Place)
     (at f offset old_bits bits : ℕ) (cell : IsCellAt (Scenes.scene [] x old.core old.regs old.critical plan s m t o h.holds runs) q at f offset (Operand old_bits)) where
-  abbrev scene : Scene old.core old.regs
+  abbrev scene : RunningContext old.core old.regs
   scene = Scenes.scene [] x old.core old.regs old.critical plan s m t o h.holds runs
 
   abbrev i : ℕ
@@ -110,13 +108,13 @@ module _ (x : Storage) (old : Cpu) (plan : Plan) (s : Session) (m : Member) (t :
   w = Operand bits
 
   abbrev job1 : Job
-  job1 = put_job m.course.job f (offset - 2) (Operand bits)
+  job1 = put_job m.progress.job f (offset - 2) (Operand bits)
 
-  abbrev m1 : Member
-  m1 = record m { course = record m.course { job = put_job m.course.job f (offset - 2) (Operand bits) } }
+  abbrev m1 : SessionJob
+  m1 = record m { progress = record m.progress { job = put_job m.progress.job f (offset - 2) (Operand bits) } }
 
   abbrev s1 : Session
-  s1 = record s { jobs = with_course s.jobs m.setting.number (record m.course { job = put_job m.course.job f (offset - 2) (Operand bits) }) }
+  s1 = record s { jobs = with_course s.jobs m.constants.number (record m.progress { job = put_job m.progress.job f (offset - 2) (Operand bits) }) }
 
   abbrev t1 : Task
   t1 = put_task f (offset - 2) (Operand bits) t
@@ -124,31 +122,31 @@ module _ (x : Storage) (old : Cpu) (plan : Plan) (s : Session) (m : Member) (t :
   abbrev mid : Cpu
   mid = record old { core = slice_set old.core at (word 0 bits) }
 
-  stands1 : SessionStands x (record old { core = slice_set old.core at (word 0 bits) }) plan s1
-  stands1 = SessionStands-store x old plan s m t o h runs q at f offset old_bits bits cell
+  stands1 : RepresentsSession x (record old { core = slice_set old.core at (word 0 bits) }) plan s1
+  stands1 = RepresentsSession-store x old plan s m t o h runs q at f offset old_bits bits cell
 
   runs1 : IsRunning plan s1.jobs m1 t1
   runs1 = still_runs x old plan s m t o h runs q at f offset old_bits bits cell
 
-  free1 : IsFree (put_job m.course.job f (offset - 2) (Operand bits)) m.course.job.next_frame
+  free1 : IsFree (put_job m.progress.job f (offset - 2) (Operand bits)) m.progress.job.next_frame
   free1 =
       let f0 = fresh plan s m t o runs in
-      record { some = f0.some; uncritical = λ u in_u e. (let b = has_map_back (put_task f (offset - 2) (Operand bits)) m.course.job.tasks u in_u in f0.uncritical b.item b.among (ap (λ (z : Task). z.critical) b.is ∙ e)) }
+      record { some = f0.some; uncritical = λ u in_u e. (let b = has_map_back (put_task f (offset - 2) (Operand bits)) m.progress.job.tasks u in_u in f0.uncritical b.item b.among (ap (λ (z : Task). z.critical) b.is ∙ e)) }
 
   -- the job that the row makes
   abbrev pub made : List Word → Job
-  made kept = with_cell (with_task m.course.job (with_cells (here m t q) kept)) f offset (Operand bits)
+  made kept = with_cell (with_task m.progress.job (with_cells (here m t q) kept)) f offset (Operand bits)
 
   job_is : (kept : List Word) → with_task job1 (task_with t1 (stored (is_top f t.frames) (offset - 2) (Operand bits) kept) q) ≡ made kept
   job_is kept =
       let T : Task = task_with t kept q in
-      let J : List Task → Job = λ ts. record m.course.job { tasks = ts } in
+      let J : List Task → Job = λ ts. record m.progress.job { tasks = ts } in
       let same : put_task f (offset - 2) (Operand bits) T ≡ task_with t1 (stored (is_top f t.frames) (offset - 2) (Operand bits) kept) q =
       ap (λ fs. let z : Task = record t { frames = fs; place = q } in z) (put_with f (offset - 2) (Operand bits) t.frames kept) in
-      ap J (change_map (λ (v : Task). v.number) (put_task f (offset - 2) (Operand bits)) t.number T (task_with t1 (stored (is_top f t.frames) (offset - 2) (Operand bits) kept) q) m.course.job.tasks (λ v. refl) same)
-      ∙ sym (with_cell_is (with_task m.course.job (with_cells (here m t q) kept)) f offset (Operand bits))
+      ap J (change_map (λ (v : Task). v.number) (put_task f (offset - 2) (Operand bits)) t.number T (task_with t1 (stored (is_top f t.frames) (offset - 2) (Operand bits) kept) q) m.progress.job.tasks (λ v. refl) same)
+      ∙ sym (with_cell_is (with_task m.progress.job (with_cells (here m t q) kept)) f offset (Operand bits))
 
-  -- the cell is that of a live frame
+  -- the cell is that of a live frame, which is entered
   live_cell : IsLiveCell plan m at
   live_cell =
       let u = Stored.own_of old.core old.regs scene q at f offset old_bits cell in
@@ -157,30 +155,29 @@ module _ (x : Storage) (old : Cpu) (plan : Plan) (s : Session) (m : Member) (t :
       let own_spot = Stored.own_address old.core old.regs scene q at f offset old_bits cell in
       record {
         task = u.task;
-        there = (keyed_has (λ (v : Task). v.number) u.task.number m.course.job.tasks u.task u.there).0;
+        there = (keyed_has (λ (v : Task). v.number) u.task.number m.progress.job.tasks u.task u.there).0;
         frame = frame_found f u.task.frames;
         among = g.0;
-        offset = offset;
-        low = b.0;
-        high = b.1;
-        at = own_spot;
+        index = offset - 2;
+        inside = omega (arith, b.0, b.1);
+        at = omega (arith, own_spot, b.0, entered_head (frame_found f u.task.frames).standing (Stored.found_entered old.core old.regs scene q at f offset old_bits cell));
       }
 
-  finish : (new : Cpu) (kept : List Word) → SessionStands x new plan (record s1 { jobs = with_course s1.jobs m.setting.number (record m1.course { job = with_task job1 (task_with t1 (stored (is_top f t.frames) (offset - 2) (Operand bits) kept) q) }) })
+  finish : (new : Cpu) (kept : List Word) → RepresentsSession x new plan (record s1 { jobs = with_course s1.jobs m.constants.number (record m1.progress { job = with_task job1 (task_with t1 (stored (is_top f t.frames) (offset - 2) (Operand bits) kept) q) }) })
       → ((k : ℕ) → (slice_get new.core k ≡ slice_get old.core k) ⊎ (((old.regs.bosr < k) × (k ≤ old.regs.losr)) ⊎ (k ≡ at))) → IsMade x plan s m old new (Ok (Goes (made kept) [] None))
   finish new kept stands changed =
       let J1 = with_task job1 (task_with t1 (stored (is_top f t.frames) (offset - 2) (Operand bits) kept) q) in
-      let S : List Member → Session = λ jobs. record s { jobs = jobs } in
-      let P : List Member → Type 0 = λ jobs. SessionStands x new plan (S jobs) in
-      let Q : Job → Type 0 = λ job. SessionStands x new plan (with_job s m job) in
-      let whole = subst Q (job_is kept) (subst P (course_twice s.jobs m.setting.number (record m.course { job = job1 }) (record m.course { job = J1 })) stands) in
-      let L : List Thing → Type 0 = λ left. SessionStandsBut left x new plan (with_job s m (made kept)) in
+      let S : List SessionJob → Session = λ jobs. record s { jobs = jobs } in
+      let P : List SessionJob → Type 0 = λ jobs. RepresentsSession x new plan (S jobs) in
+      let Q : Job → Type 0 = λ job. RepresentsSession x new plan (with_job s m job) in
+      let whole = subst Q (job_is kept) (subst P (course_twice s.jobs m.constants.number (record m.progress { job = job1 }) (record m.progress { job = J1 })) stands) in
+      let L : List PagedObject → Type 0 = λ left. RepresentsSessionBut left x new plan (with_job s m (made kept)) in
       record {
         job = made kept;
         touched = None;
         is = refl;
         present = tt;
-        stands = subst L (sym (no_things_gone plan m (made kept) refl)) whole;
+        stands = subst L (sym (no_objects_gone plan m (made kept) refl)) whole;
         changed = λ k. ⊎_elim inl (λ c. inr (⊎_elim inl (λ e. inr (inl (subst (IsLiveCell plan m) (sym e) live_cell))) c)) (changed k);
       }
 
@@ -190,7 +187,7 @@ module _ (x : Storage) (old : Cpu) (plan : Plan) (s : Session) (m : Member) (t :
   dropped b a rest e plain =
       let d = two (is_top f t.frames) (offset - 2) bits b a rest plain in
       let is : cells t1 ≡ (d.first ∷ d.second ∷ []) ++ stored (is_top f t.frames) (offset - 2) (Operand bits) rest = put_top f (offset - 2) (Operand bits) t.frames ∙ ap (stored (is_top f t.frames) (offset - 2) (Operand bits)) e ∙ d.is in
-      let stands = finish_drop x mid plan s1 m1 t1 stands1 runs1 m.course.job.next_frame free1 q (d.first ∷ d.second ∷ []) (stored (is_top f t.frames) (offset - 2) (Operand bits) rest) is d.plain in
+      let stands = finish_drop x mid plan s1 m1 t1 stands1 runs1 m.progress.job.next_frame free1 q (d.first ∷ d.second ∷ []) (stored (is_top f t.frames) (offset - 2) (Operand bits) rest) is d.plain in
       finish (record old { core = slice_set old.core at (word 0 bits); regs = record old.regs { s = old.regs.s - 2; place = q } }) rest stands
       (λ k. ⊎_elim (λ (z : k ≡ at). inr (inr z)) (λ (z : k ≡ at → ⊥). inl (slice_get-set_other old.core at k (word 0 bits) z)) (cases_eq k at))
 
@@ -202,10 +199,10 @@ module _ (x : Storage) (old : Cpu) (plan : Plan) (s : Session) (m : Member) (t :
       let is : cells t1 ≡ (d.first ∷ d.second ∷ []) ++ stored (is_top f t.frames) (offset - 2) (Operand bits) rest = put_top f (offset - 2) (Operand bits) t.frames ∙ ap (stored (is_top f t.frames) (offset - 2) (Operand bits)) e ∙ d.is in
       let g = room x old plan s m t o h runs in
       let first = (registers x old plan s m t o h runs).first in
-      let stands = finish_keep x mid plan s1 m1 t1 stands1 runs1 m.course.job.next_frame free1 q (d.first ∷ d.second ∷ []) (stored (is_top f t.frames) (offset - 2) (Operand bits) rest) bits (old.regs.s - 1) is d.plain
+      let stands = finish_keep x mid plan s1 m1 t1 stands1 runs1 m.progress.job.next_frame free1 q (d.first ∷ d.second ∷ []) (stored (is_top f t.frames) (offset - 2) (Operand bits) rest) bits (old.regs.s - 1) is d.plain
       (omega (arith, enough)) (omega (arith, g.last)) (omega (arith, enough, g.mark, first)) in
       let N : Cpu = record old { core = slice_set (slice_set old.core at (word 0 bits)) (old.regs.s - 1) (word 0 bits); regs = record old.regs { s = old.regs.s - 1; place = q } } in
-      let P : List Word → Type 0 = λ cs. SessionStands x N plan (record s1 { jobs = with_course s1.jobs m.setting.number (record m1.course { job = with_task job1 (task_with t1 cs q) }) }) in
+      let P : List Word → Type 0 = λ cs. RepresentsSession x N plan (record s1 { jobs = with_course s1.jobs m.constants.number (record m1.progress { job = with_task job1 (task_with t1 cs q) }) }) in
       finish N (Operand bits ∷ rest) (subst P (sym (kept_value (is_top f t.frames) (offset - 2) (Operand bits) rest)) stands)
       (λ k. ⊎_elim (λ (z : k ≡ old.regs.s - 1). inr (inl (omega (arith, z, enough, g.mark), omega (arith, z, g.last))))
       (λ (z : k ≡ old.regs.s - 1 → ⊥). ⊎_elim (λ (y : k ≡ at). inr (inr y)) (λ (y : k ≡ at → ⊥). inl (slice_get-set_other (slice_set old.core at (word 0 bits)) (old.regs.s - 1) k (word 0 bits) z ∙ slice_get-set_other old.core at k (word 0 bits) y)) (cases_eq k at))

@@ -8,71 +8,72 @@ use Rattle.b67_word.specs.Tagged.{word}
 use Rattle.b67_word.specs.declared.couples.Place.{Place}
 use Rattle.b67_model.specs.Keyed.{keyed}
 use Rattle.b67_model.specs.Words.{Word, Operand}
-use Rattle.b67_model.specs.State.{Array, Task, Job, Member, with_task}
+use Rattle.b67_model.specs.State.{Array, Task, Job, SessionJob, with_task}
 use Rattle.b67_model.specs.Arrays.{array, no_array, with_element}
 use Rattle.b67_model.specs.Schedule.{Session}
 use Rattle.b67_model.specs.Steps.{Goes, with_cells}
 use Rattle.b67_model.specs.InOrder.{IsInOrderButPlaces}
 use Rattle.b67_stack.specs.declared.Cpu.{Cpu}
-use Rattle.b67_stack.specs.Picture.{Thing}
-use Rattle.b67_stack.specs.Stands.{Storage}
-use Rattle.b67_layout.specs.Plan.{Plan}
-use Rattle.b67_layout.specs.Session.{IsRunning, SessionStands, SessionStandsBut}
+use Rattle.b67_stack.specs.MachineView.{PagedObject}
+use Rattle.b67_stack.specs.Represents.{Storage}
+use Rattle.b67_layout.specs.Placement.{Placement}
+use Rattle.b67_layout.specs.Session.{IsRunning, RepresentsSession, RepresentsSessionBut}
 use Rattle.b67_layout.specs.Meets.{here, with_job, IsMade}
 use Rattle.b67_layout.proofs.Fresh.{fresh}
-use Rattle.b67_layout.proofs.Gone.{no_things_gone}
-use Rattle.b67_layout.proofs.Pictures.{with_course}
+use Rattle.b67_layout.proofs.Gone.{no_objects_gone}
+use Rattle.b67_layout.proofs.MachineViews.{with_course}
 use Rattle.b67_layout.proofs.Steps.{IsFree}
 use Rattle.b67_layout.proofs.Whole.{task_with}
+use Rattle.b67_layout.proofs.Sessions.{course_twice}
 use Rattle.b67_exec_cells.specs.Tops.{cells, NoOriginals}
 use Rattle.b67_exec_cells.proofs.Put.{room, registers}
-use Rattle.b67_layout_store.proofs.Things.{identities_kept}
-use Rattle.b67_layout_store.proofs.Machine.{SessionStands-element, still_runs}
-use Rattle.b67_fetch.proofs.Finishes.{course_twice, finish_drop, finish_keep}
+use Rattle.b67_layout_store.proofs.Objects.{identities_kept}
+use Rattle.b67_layout_store.proofs.Machine.{RepresentsSession-element, still_runs}
+use Rattle.b67_fetch.proofs.Finishes.{finish_drop, finish_keep}
 
-module _ (x : Storage) (old : Cpu) (plan : Plan) (s : Session) (m : Member) (t : Task) (o : IsInOrderButPlaces s) (h : SessionStands x old plan s) (runs : IsRunning plan s.jobs m t) (q : Place)
-    (a : Array) (found : keyed (λ (z : Array). z.identity) a.identity m.course.job.arrays ≡ Some a) (writable : a.writable ≡ true) (i bits b : ℕ) (low : i < length a.numbers) (held : (x.held (plan.home m.setting.number a.identity)).area ≡ Some b) where
+module _ (x : Storage) (old : Cpu) (plan : Placement) (s : Session) (m : SessionJob) (t : Task) (o : IsInOrderButPlaces s) (h : RepresentsSession x old plan s) (runs : IsRunning plan s.jobs m t) (q : Place)
+    (a : Array) (found : keyed (λ (z : Array). z.identity) a.identity m.progress.job.arrays ≡ Some a) (writable : a.writable ≡ true) (i bits b : ℕ) (low : i < length a.numbers) (held : (x.held (plan.home m.constants.number a.identity)).area ≡ Some b) where
   abbrev job1 : Job
-  job1 = with_element m.course.job a.identity i bits
+  job1 = with_element m.progress.job a.identity i bits
 
-  abbrev m1 : Member
-  m1 = record m { course = record m.course { job = with_element m.course.job a.identity i bits } }
+  abbrev m1 : SessionJob
+  m1 = record m { progress = record m.progress { job = with_element m.progress.job a.identity i bits } }
 
   abbrev s1 : Session
-  s1 = record s { jobs = with_course s.jobs m.setting.number (record m.course { job = with_element m.course.job a.identity i bits }) }
+  s1 = record s { jobs = with_course s.jobs m.constants.number (record m.progress { job = with_element m.progress.job a.identity i bits }) }
 
   abbrev mid : Cpu
   mid = record old { core = slice_set old.core (b + i) (word 0 bits) }
 
-  stands1 : SessionStands x (record old { core = slice_set old.core (b + i) (word 0 bits) }) plan s1
-  stands1 = SessionStands-element x old plan s m t o h runs a found writable i bits b low held
+  stands1 : RepresentsSession x (record old { core = slice_set old.core (b + i) (word 0 bits) }) plan s1
+  stands1 = RepresentsSession-element x old plan s m t o h runs a found writable i bits b low held
 
   runs1 : IsRunning plan s1.jobs m1 t
   runs1 = still_runs x old plan s m t o h runs a found writable i bits b low held
 
-  free1 : IsFree (with_element m.course.job a.identity i bits) m.course.job.next_frame
+  free1 : IsFree (with_element m.progress.job a.identity i bits) m.progress.job.next_frame
   free1 = let f0 = fresh plan s m t o runs in record { some = f0.some; uncritical = f0.uncritical }
 
   -- the job that the row makes
   abbrev pub made : List Word → Job
-  made kept = with_task (with_element m.course.job a.identity i bits) (with_cells (here m t q) kept)
+  made kept = with_task (with_element m.progress.job a.identity i bits) (with_cells (here m t q) kept)
 
-  finish : (new : Cpu) (kept : List Word) → SessionStands x new plan (record s1 { jobs = with_course s1.jobs m.setting.number (record m1.course { job = with_task job1 (task_with t kept q) }) })
+  finish : (new : Cpu) (kept : List Word) → RepresentsSession x new plan (record s1 { jobs = with_course s1.jobs m.constants.number (record m1.progress { job = with_task job1 (task_with t kept q) }) })
       → ((k : ℕ) → (slice_get new.core k ≡ slice_get old.core k) ⊎ (((old.regs.bosr < k) × (k ≤ old.regs.losr)) ⊎ (k ≡ b + i))) → IsMade x plan s m old new (Ok (Goes (made kept) [] (Some a.identity)))
   finish new kept stands changed =
       let J1 = with_task job1 (task_with t kept q) in
-      let S : List Member → Session = λ jobs. record s { jobs = jobs } in
-      let P : List Member → Type 0 = λ jobs. SessionStands x new plan (S jobs) in
-      let whole : SessionStands x new plan (with_job s m (made kept)) = subst P (course_twice s.jobs m.setting.number (record m.course { job = job1 }) (record m.course { job = J1 })) stands in
-      let L : List Thing → Type 0 = λ left. SessionStandsBut left x new plan (with_job s m (made kept)) in
-      let same : array m.course.job a.identity ≡ a = ap (λ q. unwrap_or q no_array) found in
+      let S : List SessionJob → Session = λ jobs. record s { jobs = jobs } in
+      let P : List SessionJob → Type 0 = λ jobs. RepresentsSession x new plan (S jobs) in
+      let whole : RepresentsSession x new plan (with_job s m (made kept)) = subst P (course_twice s.jobs m.constants.number (record m.progress { job = job1 }) (record m.progress { job = J1 })) stands in
+      let L : List PagedObject → Type 0 = λ left. RepresentsSessionBut left x new plan (with_job s m (made kept)) in
+      let same : array m.progress.job a.identity ≡ a = ap (λ q. unwrap_or q no_array) found in
       let long = ap (λ (z : Array). length z.numbers) same in
       record {
         job = made kept;
         touched = Some a.identity;
         is = refl;
         present = (b, held);
-        stands = subst L (sym (no_things_gone plan m (made kept) (identities_kept a.identity i bits m.course.job.arrays))) whole;
+        stands = subst L (sym (no_objects_gone plan m (made kept) (identities_kept a.identity i bits m.progress.job.arrays))) whole;
         changed = λ k. ⊎_elim inl (λ c. inr (⊎_elim inl (λ e. inr (inr (b, held, omega (arith, e), omega (arith, e, low, long)))) c)) (changed k);
       }
 
@@ -80,7 +81,7 @@ module _ (x : Storage) (old : Cpu) (plan : Plan) (s : Session) (m : Member) (t :
   pub dropped : (u w : Word) (rest : List Word) → cells t ≡ u ∷ w ∷ rest → NoOriginals (u ∷ w ∷ [])
       → IsMade x plan s m old (record old { core = slice_set old.core (b + i) (word 0 bits); regs = record old.regs { s = old.regs.s - 2; place = q } }) (Ok (Goes (made rest) [] (Some a.identity)))
   dropped u w rest e plain =
-      let stands = finish_drop x mid plan s1 m1 t stands1 runs1 m.course.job.next_frame free1 q (u ∷ w ∷ []) rest e plain in
+      let stands = finish_drop x mid plan s1 m1 t stands1 runs1 m.progress.job.next_frame free1 q (u ∷ w ∷ []) rest e plain in
       finish (record old { core = slice_set old.core (b + i) (word 0 bits); regs = record old.regs { s = old.regs.s - 2; place = q } }) rest stands
       (λ k. ⊎_elim (λ (z : k ≡ b + i). inr (inr z)) (λ (z : k ≡ b + i → ⊥). inl (slice_get-set_other old.core (b + i) k (word 0 bits) z)) (cases_eq k (b + i)))
 
@@ -90,7 +91,7 @@ module _ (x : Storage) (old : Cpu) (plan : Plan) (s : Session) (m : Member) (t :
   kept u w rest e plain enough =
       let g = room x old plan s m t o h runs in
       let first = (registers x old plan s m t o h runs).first in
-      let stands = finish_keep x mid plan s1 m1 t stands1 runs1 m.course.job.next_frame free1 q (u ∷ w ∷ []) rest bits (old.regs.s - 1) e plain
+      let stands = finish_keep x mid plan s1 m1 t stands1 runs1 m.progress.job.next_frame free1 q (u ∷ w ∷ []) rest bits (old.regs.s - 1) e plain
       (omega (arith, enough)) (omega (arith, g.last)) (omega (arith, enough, g.mark, first)) in
       let N : Cpu = record old { core = slice_set (slice_set old.core (b + i) (word 0 bits)) (old.regs.s - 1) (word 0 bits); regs = record old.regs { s = old.regs.s - 1; place = q } } in
       finish N (Operand bits ∷ rest) stands

@@ -11,7 +11,7 @@ use Rattle.b67_ctl.specs.Descriptors.{data_word, IsDataDesc}
 use Rattle.b67_model.specs.Answers.{Answer, ◌>>=◌}
 use Rattle.b67_model.specs.Words as Words
 use Rattle.b67_model.specs.Words.{Word, Operand, Name, Ref, Row, Element, Original, Proc, Intrinsic}
-use Rattle.b67_model.specs.State.{Task, Member}
+use Rattle.b67_model.specs.State.{Task, SessionJob}
 use Rattle.b67_model.specs.Chase as Chase
 use Rattle.b67_model.specs.Chase.{AtCell, AtElement, AtArray, AtProc, AtIntrinsic, follow}
 use Rattle.b67_model.specs.Indexing.{array_of, array_at}
@@ -23,15 +23,15 @@ use Rattle.b67_refer.specs.Ends.{IsCopyOf}
 use Rattle.b67_refer.proofs.Items.{not_empty}
 use Rattle.b67_refer.proofs.Links.{Described, own, row, item, described}
 use Rattle.b67_stack.specs.declared.Cpu.{Cpu}
-use Rattle.b67_stack.specs.Stands.{Storage}
-use Rattle.b67_layout.specs.Plan.{Plan}
-use Rattle.b67_layout.specs.Session.{IsRunning, SessionStands}
+use Rattle.b67_stack.specs.Represents.{Storage}
+use Rattle.b67_layout.specs.Placement.{Placement}
+use Rattle.b67_layout.specs.Session.{IsRunning, RepresentsSession}
 use Rattle.b67_layout.specs.Meets.{here}
 use Rattle.b67_fetch.specs.Fetches.{IsFollowed, FindsEnd}
 use Rattle.b67_fetch.proofs.Values.{here_scene, followed_stands}
 use Rattle.b67_fetch.specs.Indexes.{array_in, FindsArray}
 
-module _ (x : Storage) (plan : Plan) (m : Member) (t : Task) (q : Place) where
+module _ (x : Storage) (plan : Placement) (m : SessionJob) (t : Task) (q : Place) where
   -- a word that is no descriptor is followed
   not_row : (w : Tagged) (v : Word) → IsFollowed x plan m t w v → w.tag ≢ 5 → array_of (here m t q) v ≡ (follow (here m t q) v >>= array_at)
   not_row w (Operand bits) i ne = refl
@@ -88,7 +88,7 @@ module _ (x : Storage) (plan : Plan) (m : Member) (t : Task) (q : Place) where
   found_fault core w v fault i ne e = subst (FindsArray plan m (Err fault)) (sym (not_row w v i ne)) (refused core fault (follow (here m t q) v) e)
 
 -- a descriptor
-module _ (x : Storage) (cpu : Cpu) (plan : Plan) (s : Session) (m : Member) (t : Task) (ordered : IsInOrderButPlaces s) (h : SessionStands x cpu plan s) (runs : IsRunning plan s.jobs m t) (w : Tagged) (v : Word) (i : IsFollowed x plan m t w v) (five : w.tag ≡ 5) where
+module _ (x : Storage) (cpu : Cpu) (plan : Placement) (s : Session) (m : SessionJob) (t : Task) (ordered : IsInOrderButPlaces s) (h : RepresentsSession x cpu plan s) (runs : IsRunning plan s.jobs m t) (w : Tagged) (v : Word) (i : IsFollowed x plan m t w v) (five : w.tag ≡ 5) where
   abbrev pub Desc : DataDesc → Type 0
   Desc d = Described cpu.core cpu.regs (here_scene x cpu plan s m t ordered h runs) i.at i.owner v d
 
@@ -101,7 +101,7 @@ module _ (x : Storage) (cpu : Cpu) (plan : Plan) (s : Session) (m : Member) (t :
 
   pub row_copied : (d : DataDesc) → Desc d → d.copy ≡ true → d.indexed ≡ false → (home : ℕ) × IsCopyOf cpu.core d home
   row_copied d (own b e c k o) z y = absurd (false≢true (sym c ∙ z))
-  row_copied d (row b e c j k o) z y = (plan.home m.setting.number b, k)
+  row_copied d (row b e c j k o) z y = (plan.home m.constants.number b, k)
   row_copied d (item b n e c j k l o) z y = absurd (true≢false (sym j ∙ y))
 
   pub row_found : (q : Place) (d : DataDesc) (original : ℕ) → Desc d → d.copy ≡ true → d.indexed ≡ false → ((home : ℕ) → IsCopyOf cpu.core d home → original ≡ home) → FindsArray plan m (Ok original) (array_of (here m t q) v)
@@ -109,7 +109,7 @@ module _ (x : Storage) (cpu : Cpu) (plan : Plan) (s : Session) (m : Member) (t :
   row_found q d original (item b n e c j k l o) z y found = absurd (true≢false (sym j ∙ y))
   row_found q d original (row b e c j k o) z y found =
       let P : Word → Type 0 = λ u. FindsArray plan m (Ok original) (array_of (here m t q) u) in
-      subst P (sym e) (found (plan.home m.setting.number b) k, record { item = o.item; live = o.live; named = o.named; inside = not_empty cpu.core cpu.regs (here_scene x cpu plan s m t ordered h runs) b o })
+      subst P (sym e) (found (plan.home m.constants.number b) k, record { item = o.item; live = o.live; named = o.named; inside = not_empty cpu.core cpu.regs (here_scene x cpu plan s m t ordered h runs) b o })
 
   -- no row copy
   pub no_row : (q : Place) (d : DataDesc) → Desc d → (d.copy ≡ true → d.indexed ≡ false → ⊥) → FindsArray plan m (Err InvalidOperand) (array_of (here m t q) v)

@@ -14,16 +14,16 @@ use Rattle.b67_model.specs.Words.{Word, Operand, Name, Ref, Row, Element, Origin
 use Rattle.b67_model.specs.Arrays.{array}
 use Rattle.b67_model.specs.Indexing.{array_of, index_below, indexed, in_order}
 use Rattle.b67_model.specs.Intrinsics.{is_original}
-use Rattle.b67_model.specs.State.{Array, Frame, Task, Member, top}
+use Rattle.b67_model.specs.State.{Array, Frame, Task, SessionJob, top}
 use Rattle.b67_model.specs.Schedule.{Session}
 use Rattle.b67_model.specs.Steps.{Done}
 use Rattle.b67_model.specs.InOrder.{Starts, IsSegment, Known, known_of, outer_of, FramesInOrder, WordInOrder, IsInOrderButPlaces}
 use Rattle.b67_ctl.specs.declared.descriptors.DataDesc.{DataDesc}
 use Rattle.b67_stack.specs.declared.Cpu.{Cpu}
 use Rattle.b67_stack.specs.declared.Step.{Step}
-use Rattle.b67_stack.specs.Stands.{Storage}
-use Rattle.b67_layout.specs.Plan.{Plan}
-use Rattle.b67_layout.specs.Session.{IsRunning, SessionStands}
+use Rattle.b67_stack.specs.Represents.{Storage}
+use Rattle.b67_layout.specs.Placement.{Placement}
+use Rattle.b67_layout.specs.Session.{IsRunning, RepresentsSession}
 use Rattle.b67_layout.specs.Meets.{here, Meets, RunsSome}
 use Rattle.b67_layout.proofs.Fresh.{running_in_order}
 use Rattle.b67_exec_cells.specs.Tops.{IsWordOf, cells, GivesTwo, NoOriginals}
@@ -77,9 +77,9 @@ index_err len n bits f e = by (number bits) e
     by (Err g) e = let same : f ≡ g = cc in refused f g same
     by (Ok z) e = by_answer (index_below len z) e
 
-module _ (plan : Plan) (m : Member) (t : Task) (q : Place) where
+module _ (plan : Placement) (m : SessionJob) (t : Task) (q : Place) where
   abbrev row : Answer ℕ → Answer ℕ → Answer (ℕ × ℕ)
-  row o ao = o >>= λ bits. ao >>= λ a. number bits >>= λ z. index_below (length (array m.course.job a).numbers) z >>= pair a
+  row o ao = o >>= λ bits. ao >>= λ a. number bits >>= λ z. index_below (length (array m.progress.job a).numbers) z >>= pair a
 
   pub array_fault : (v i : Word) (index : Tagged) (fault : Fault) → index.tag ≡ 0 → bits_in index ≡ operand i → FindsArray plan m (Err fault) (array_of (here m t q) v) → FindsItem plan m (Err fault) (indexed (here m t q) v i)
   array_fault v i index fault zero same found = subst (λ (o : Answer ℕ). FindsItem plan m (Err fault) (row o (array_of (here m t q) v))) (sym (bits_is index zero) ∙ same) (by (array_of (here m t q) v) found)
@@ -92,10 +92,10 @@ module _ (plan : Plan) (m : Member) (t : Task) (q : Place) where
   holds_found cpu runs original (Ok n) f = record { runs = runs; number = n; home = f.0; element = f.1 }
   holds_found cpu runs original (Err g) f = absurd f
 
-  module _ (x : Storage) (cpu : Cpu) (s : Session) (ordered : IsInOrderButPlaces s) (h : SessionStands x cpu plan s) (runs : IsRunning plan s.jobs m t) (v i : Word) (index : Tagged) (original : ℕ) (d : DataDesc)
+  module _ (x : Storage) (cpu : Cpu) (s : Session) (ordered : IsInOrderButPlaces s) (h : RepresentsSession x cpu plan s) (runs : IsRunning plan s.jobs m t) (v i : Word) (index : Tagged) (original : ℕ) (d : DataDesc)
       (zero : index.tag ≡ 0) (same : bits_in index ≡ operand i) (found : FindsArray plan m (Ok original) (array_of (here m t q) v))
-      (desc : (n k : ℕ) → original ≡ plan.home m.setting.number n → HasElement m.course.job n k → d ≡ original_desc x plan m n) where
-    length_is : (n : ℕ) → original ≡ plan.home m.setting.number n → HasElement m.course.job n 0 → d.length ≡ length (array m.course.job n).numbers
+      (desc : (n k : ℕ) → original ≡ plan.home m.constants.number n → HasElement m.progress.job n k → d ≡ original_desc x plan m n) where
+    length_is : (n : ℕ) → original ≡ plan.home m.constants.number n → HasElement m.progress.job n 0 → d.length ≡ length (array m.progress.job n).numbers
     length_is n home e = ap (λ (z : DataDesc). z.length) (desc n 0 home e)
 
     abbrev Found : Result (ℕ × ℕ) Fault → Answer ℕ → Type 0
@@ -107,7 +107,7 @@ module _ (plan : Plan) (m : Member) (t : Task) (q : Place) where
         by : (ao : Answer ℕ) → FindsArray plan m (Ok original) ao → FindsItem plan m (Ok (original, k)) (row (Ok index.bits) ao)
         by (Err g) f = absurd f
         by (Ok n) f =
-            let ok = index_ok (length (array m.course.job n).numbers) n index.bits k (e ∙ ap (λ (l : ℕ). index_in l index.bits) (length_is n f.0 f.1)) in
+            let ok = index_ok (length (array m.progress.job n).numbers) n index.bits k (e ∙ ap (λ (l : ℕ). index_in l index.bits) (length_is n f.0 f.1)) in
             let item-is = array_is x cpu plan s m t ordered h runs n 0 f.1 in
             subst (FindsItem plan m (Ok (original, k))) (sym ok.0)
             (f.0, refl, record { item = f.1.item; live = f.1.live; named = f.1.named; inside = subst (λ (a : Array). k < length a.numbers) item-is ok.1 })
@@ -117,7 +117,7 @@ module _ (plan : Plan) (m : Member) (t : Task) (q : Place) where
       where
         by : (ao : Answer ℕ) → FindsArray plan m (Ok original) ao → FindsItem plan m (Err fault) (row (Ok index.bits) ao)
         by (Err g) f = absurd f
-        by (Ok n) f = subst (FindsItem plan m (Err fault)) (sym (index_err (length (array m.course.job n).numbers) n index.bits fault (e ∙ ap (λ (l : ℕ). index_in l index.bits) (length_is n f.0 f.1)))) refl
+        by (Ok n) f = subst (FindsItem plan m (Err fault)) (sym (index_err (length (array m.progress.job n).numbers) n index.bits fault (e ∙ ap (λ (l : ℕ). index_in l index.bits) (length_is n f.0 f.1)))) refl
 
   -- words that give an element are no originals
   array_plain : (v : Word) (a : ℕ) → array_of (here m t q) v ≡ Ok a → is_original v ≡ false
@@ -159,9 +159,9 @@ module _ (plan : Plan) (m : Member) (t : Task) (q : Place) where
     pub is : cells t ≡ upper ∷ lower ∷ rest
     pub given : indexed (here m t q) (in_order upper lower).0 (in_order upper lower).1 ≡ Ok item
     pub plain : NoOriginals (upper ∷ lower ∷ [])
-    pub home : found.0 ≡ plan.home m.setting.number item.0
+    pub home : found.0 ≡ plan.home m.constants.number item.0
     pub index : found.1 ≡ item.1
-    pub element : HasElement m.course.job item.0 item.1
+    pub element : HasElement m.progress.job item.0 item.1
 
   pub item_on_top : (found : ℕ × ℕ) → FindsTopItem plan m (here m t q) (cells t) (Ok found) → ItemOnTop found
   item_on_top found f = by (cells t) refl f
@@ -197,7 +197,7 @@ module _ (plan : Plan) (m : Member) (t : Task) (q : Place) where
       subst (Meets x plan s m r old new) (sym (ap R i.is ∙ two i.upper i.lower i.rest ∙ ap (λ (an : Answer (ℕ × ℕ)). an >>= λ at. F at i.rest) i.given)) meets
 
 -- the two top cells, which may be followed
-pub record TwoFollowed (x : Storage) (plan : Plan) (m : Member) (t : Task) (u v : Tagged) : Type 0 where
+pub record TwoFollowed (x : Storage) (plan : Placement) (m : SessionJob) (t : Task) (u v : Tagged) : Type 0 where
   pub upper : Word
   pub lower : Word
   pub rest : List Word
@@ -212,7 +212,7 @@ two_order P arrays outer (f ∷ below) b a rest o e =
     let A : List Word → Type 0 = λ cs. AllByRecursion (WordInOrder P arrays (map known_of (f ∷ below) ++ outer) f.identity) cs in
     let all = subst A e o.0.0 in (all.0, all.1.0)
 
-pub two_followed : (x : Storage) (cpu : Cpu) (plan : Plan) (s : Session) (m : Member) (t : Task) (u v : Tagged) → IsInOrderButPlaces s → IsRunning plan s.jobs m t → GivesTwo x plan m t cpu (cells t) (Ok (u, v)) → TwoFollowed x plan m t u v
+pub two_followed : (x : Storage) (cpu : Cpu) (plan : Placement) (s : Session) (m : SessionJob) (t : Task) (u v : Tagged) → IsInOrderButPlaces s → IsRunning plan s.jobs m t → GivesTwo x plan m t cpu (cells t) (Ok (u, v)) → TwoFollowed x plan m t u v
 unfolding first_word second_word
 two_followed x cpu plan s m t u v ordered runs given = by_cells (cells t) refl given where
   by_cells : (cs : List Word) → cells t ≡ cs → GivesTwo x plan m t cpu cs (Ok (u, v)) → TwoFollowed x plan m t u v
@@ -221,7 +221,7 @@ two_followed x cpu plan s m t u v ordered runs given = by_cells (cells t) refl g
   by_cells (b ∷ a ∷ rest) e g =
       let same-u : g.0 ≡ u = sym (ap first_word g.2) in
       let same-v : g.1 ≡ v = sym (ap second_word g.2) in
-      let o = two_order (IsSegment m.setting) m.course.job.arrays (outer_of m.course.job t) t.frames b a rest (running_in_order plan s m t ordered runs).1.frames e in
+      let o = two_order (IsSegment m.constants) m.progress.job.arrays (outer_of m.progress.job t) t.frames b a rest (running_in_order plan s m t ordered runs).1.frames e in
       record {
         upper = b;
         lower = a;
@@ -231,7 +231,7 @@ two_followed x cpu plan s m t u v ordered runs given = by_cells (cells t) refl g
         second = record { at = cpu.regs.s - 1; owner = (top t.frames).identity; is = subst (λ (w : Tagged). IsWordOf x plan m t a (cpu.regs.s - 1) w) same-u g.3.is; ordered = o.1 };
       }
 
-module _ (x : Storage) (plan : Plan) (m : Member) (t : Task) where
+module _ (x : Storage) (plan : Placement) (m : SessionJob) (t : Task) where
   -- which of them is the index
   index_above : (v : Tagged) (b a : Word) (at : ℕ) → IsWordOf x plan m t b at v → v.tag ≡ 0 → in_order b a ≡ (a, b)
   index_above v (Operand bits) a at f z = refl
@@ -280,4 +280,4 @@ module _ (x : Storage) (plan : Plan) (m : Member) (t : Task) where
 pub holds_item : (cpu : Cpu) (runs : RunsSome cpu) (q : Place) (found : ℕ × ℕ) → FindsTopItem runs.plan runs.member (here runs.member runs.task q) (cells runs.task) (Ok found) → HoldsElement cpu found.0 found.1
 holds_item cpu runs q found f =
     let i = item_on_top runs.plan runs.member runs.task q found f in
-    record { runs = runs; number = i.item.0; home = i.home; element = subst (HasElement runs.member.course.job i.item.0) (sym i.index) i.element }
+    record { runs = runs; number = i.item.0; home = i.home; element = subst (HasElement runs.member.progress.job i.item.0) (sym i.index) i.element }

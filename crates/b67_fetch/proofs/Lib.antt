@@ -9,3 +9,4 @@ pub mod Cells
 pub mod Elements
 pub mod Words
 pub mod Stores
+pub mod StoreContext

@@ -9,53 +9,53 @@ use Rattle.b67_ctl.specs.declared.references.Sirw.{Sirw}
 use Rattle.b67_model.specs.InOrder.{NamesEntered, reach_of}
 use Rattle.b67_model.specs.State.{height}
 use Rattle.b67_model.specs.Run.{number_of}
-use Rattle.b67_stack.specs.Stacks.{Spot}
-use Rattle.b67_layout.specs.Plan.{Plan}
+use Rattle.b67_stack.specs.Stacks.{StackPlace}
+use Rattle.b67_layout.specs.Placement.{Placement}
 use Rattle.b67_layout.specs.Session.{vector_word}
-use Rattle.b67_layout.proofs.Others.{keyed-has}
-use Rattle.b67_refer.specs.Scene.{Scene}
+use Rattle.b67_refer.specs.RunningContext.{RunningContext}
 use Rattle.b67_refer.specs.Cells.{view, frame_at_core}
 use Rattle.b67_refer.proofs.Seats.{seat}
 use Rattle.b67_refer.proofs.Bases.{stacks_is, size_is}
 use Rattle.b67_refer.proofs.Marks.{view_low}
 use Rattle.b67_refer.proofs.Rule.{seat_address}
 use Rattle.b67_refer.proofs.Unders.{seat_low, high_address, is_mcp, is_dictionary, is_task}
+use Rattle.b67_lemmas.proofs.Members.{keyed-has}
 
-vector_job : (plan : Plan) (j : ℕ) (parents : List ℕ) → j < 16 → bits_at (vector_word plan j parents) 16 4 ≡ j
+vector_job : (plan : Placement) (j : ℕ) (parents : List ℕ) → j < 16 → bits_at (vector_word plan j parents) 16 4 ≡ j
 vector_job plan j parents small = by parents where
   by : (ps : List ℕ) → bits_at (vector_word plan j ps) 16 4 ≡ j
   by [] = omega arith
   by (p ∷ more) = omega arith
 
-module _ (core : List Tagged) (r : Regs) (a : Scene core r) (f base offset : ℕ) (n : NamesEntered (reach_of a.member.course.job a.task) f) (e : base ≡ frame_at_core a f) where
+module _ (core : List Tagged) (r : Regs) (a : RunningContext core r) (f base offset : ℕ) (n : NamesEntered (reach_of a.member.progress.job a.task) f) (e : base ≡ frame_at_core a f) where
   pub at_mcp : base ≡ 0 → ◌≡◌ {A = Sirw} (record { stack = 136; disp = 0; offset = offset }) (record { stack = (view a f).stack; disp = (view a f).disp; offset = offset })
   at_mcp zero =
       let is : f ≡ 0 = is_mcp core r a f base n e zero in
       let spot : view a f ≡ record { stack = 136; disp = 0 } = ap (view a) is ∙ view_low core r a 0 (omega arith) in
-      ap (λ (z : Spot). let k : Sirw = record { stack = z.stack; disp = z.disp; offset = offset } in k) (sym spot)
+      ap (λ (z : StackPlace). let k : Sirw = record { stack = z.stack; disp = z.disp; offset = offset } in k) (sym spot)
 
   -- the word of the running slot in the stack vector
-  pub vector_at : slice_get core (32 + r.slot) ≡ Some (vector_word a.plan a.member.setting.number a.task.parents)
+  pub vector_at : slice_get core (32 + r.slot) ≡ Some (vector_word a.plan a.member.constants.number a.task.parents)
   vector_at =
       let o = (a.holds.running a.member a.task a.running).slot in
       ap (λ (k : ℕ). slice_get core (32 + k)) o
-      ∙ a.holds.vector.live a.member a.task (keyed-has number_of a.member.setting.number a.session.jobs a.member a.running.member) (keyed-has (λ u. u.number) a.task.number a.member.course.job.tasks a.task a.running.task)
+      ∙ a.holds.vector.live a.member a.task (keyed-has number_of a.member.constants.number a.session.jobs a.member a.running.member) (keyed-has (λ u. u.number) a.task.number a.member.progress.job.tasks a.task a.running.task)
 
   pub vector_inside : 32 + r.slot < length core
-  vector_inside = slice_get_within core (32 + r.slot) (vector_word a.plan a.member.setting.number a.task.parents) vector_at
+  vector_inside = slice_get_within core (32 + r.slot) (vector_word a.plan a.member.constants.number a.task.parents) vector_at
 
-  pub job_is : (w : Tagged) (job : ℕ) → slice_get core (32 + r.slot) ≡ Some w → job ≡ bits_at w 16 4 → (job ≡ a.member.setting.number) × (job ≤ 8)
+  pub job_is : (w : Tagged) (job : ℕ) → slice_get core (32 + r.slot) ≡ Some w → job ≡ bits_at w 16 4 → (job ≡ a.member.constants.number) × (job ≤ 8)
   job_is w job got is =
       let few = a.ordered.few in
-      let same : w ≡ vector_word a.plan a.member.setting.number a.task.parents = same_Some _ _ (sym got ∙ vector_at) in
-      let j : job ≡ a.member.setting.number = is ∙ ap (λ (v : Tagged). bits_at v 16 4) same ∙ vector_job a.plan a.member.setting.number a.task.parents (omega (arith, few)) in
+      let same : w ≡ vector_word a.plan a.member.constants.number a.task.parents = same_Some _ _ (sym got ∙ vector_at) in
+      let j : job ≡ a.member.constants.number = is ∙ ap (λ (v : Tagged). bits_at v 16 4) same ∙ vector_job a.plan a.member.constants.number a.task.parents (omega (arith, few)) in
       (j, omega (arith, j, few))
 
-  pub at_dictionary : (job : ℕ) → base ≢ 0 → base ≡ r.dict → job ≡ a.member.setting.number → ◌≡◌ {A = Sirw} (record { stack = 127 + job; disp = 0; offset = offset }) (record { stack = (view a f).stack; disp = (view a f).disp; offset = offset })
+  pub at_dictionary : (job : ℕ) → base ≢ 0 → base ≡ r.dict → job ≡ a.member.constants.number → ◌≡◌ {A = Sirw} (record { stack = 127 + job; disp = 0; offset = offset }) (record { stack = (view a f).stack; disp = (view a f).disp; offset = offset })
   at_dictionary job some at j =
       let is : f ≡ 1 = is_dictionary core r a f base n e some at in
-      let spot : view a f ≡ record { stack = 127 + a.member.setting.number; disp = 0 } = ap (view a) is ∙ view_low core r a 1 (omega arith) in
-      ap (λ (k : ℕ). let z : Sirw = record { stack = 127 + k; disp = 0; offset = offset } in z) j ∙ ap (λ (z : Spot). let k : Sirw = record { stack = z.stack; disp = z.disp; offset = offset } in k) (sym spot)
+      let spot : view a f ≡ record { stack = 127 + a.member.constants.number; disp = 0 } = ap (view a) is ∙ view_low core r a 1 (omega arith) in
+      ap (λ (k : ℕ). let z : Sirw = record { stack = 127 + k; disp = 0; offset = offset } in z) j ∙ ap (λ (z : StackPlace). let k : Sirw = record { stack = z.stack; disp = z.disp; offset = offset } in k) (sym spot)
 
   -- in a slot
   pub in_slot : (size : ℕ) → base ≢ 0 → base ≢ r.dict → size ≡ r.stack_size → (r.stacks ≤ base) × ((base - r.stacks) / size ≡ (view a f).stack) × ((base - r.stacks) % size ≡ (view a f).disp) × (0 < size) × ((view a f).stack < 120) × ((view a f).disp < 2 ^ 14)
@@ -73,11 +73,11 @@ module _ (core : List Tagged) (r : Regs) (a : Scene core r) (f base offset : ℕ
       let used = b.top_is.used in
       let sp : view a f ≡ record { stack = b.slot; disp = height b.below } = b.spot in (
         omega (arith, e, h.0, k),
-        ap (λ m. m / size) d ∙ ap (λ m. (b.slot * a.plan.size + height b.below) / m) z ∙ div-mul-add b.slot a.plan.size (height b.below) low ∙ ap (λ (y : Spot). y.stack) (sym sp),
-        ap (λ m. m % size) d ∙ ap (λ m. (b.slot * a.plan.size + height b.below) % m) z ∙ mod-mul-add b.slot a.plan.size (height b.below) low ∙ ap (λ (y : Spot). y.disp) (sym sp),
+        ap (λ m. m / size) d ∙ ap (λ m. (b.slot * a.plan.size + height b.below) / m) z ∙ div-mul-add b.slot a.plan.size (height b.below) low ∙ ap (λ (y : StackPlace). y.stack) (sym sp),
+        ap (λ m. m % size) d ∙ ap (λ m. (b.slot * a.plan.size + height b.below) % m) z ∙ mod-mul-add b.slot a.plan.size (height b.below) low ∙ ap (λ (y : StackPlace). y.disp) (sym sp),
         omega (arith, z, low),
-        (let y : (view a f).stack ≡ b.slot = ap (λ (y : Spot). y.stack) sp in omega (arith, y, used, few)),
-        (let y : (view a f).disp ≡ height b.below = ap (λ (y : Spot). y.disp) sp in omega (arith, y, low, small)),
+        (let y : (view a f).stack ≡ b.slot = ap (λ (y : StackPlace). y.stack) sp in omega (arith, y, used, few)),
+        (let y : (view a f).disp ≡ height b.below = ap (λ (y : StackPlace). y.disp) sp in omega (arith, y, low, small)),
       )
 
   pub slot_spot : (size : ℕ) → base ≢ 0 → base ≢ r.dict → size ≡ r.stack_size → ◌≡◌ {A = Sirw} (record { stack = (base - r.stacks) / size; disp = (base - r.stacks) % size; offset = offset }) (record { stack = (view a f).stack; disp = (view a f).disp; offset = offset })

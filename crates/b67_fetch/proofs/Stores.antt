@@ -8,29 +8,29 @@ use Rattle.b67_word.specs.declared.couples.Place.{Place}
 use Rattle.b67_word.specs.declared.faults.Fault.{Fault}
 use Rattle.b67_word.specs.declared.faults.Fault.TheVariants.{InvalidOperand, MemoryProtect, StackOverflow}
 use Rattle.b67_model.specs.Answers.{Answer, ◌>>=◌}
-use Rattle.b67_model.specs.Arrays.{array, no_array, in_order, with_element}
+use Rattle.b67_model.specs.Arrays.{array, no_array, with_element}
+use Rattle.b67_model.specs.Indexing.{in_order}
 use Rattle.b67_model.specs.Keyed.{keyed}
 use Rattle.b67_model.specs.Chase as Chase
 use Rattle.b67_model.specs.Chase.{AtCell, AtElement, AtArray, AtProc, AtIntrinsic, follow}
 use Rattle.b67_model.specs.InOrder.{IsInOrderButPlaces}
 use Rattle.b67_model.specs.Words.{Word, Operand, operand}
-use Rattle.b67_model.specs.State.{Frame, Array, Task, Member, height, with_top_cells, with_task}
+use Rattle.b67_model.specs.State.{Frame, Array, Task, SessionJob, height, with_top_cells, with_task}
 use Rattle.b67_model.specs.Schedule.{Session}
 use Rattle.b67_model.specs.Steps.{Done, Goes, cells_of, with_cells}
 use Rattle.b67_model.specs.Rows as rows
 use Rattle.b67_model.specs.Rows.{store_at}
-use Rattle.b67_law_order.proofs.Members.{keyed_falls}
 use Rattle.b67_stack.specs.declared.Cpu.{Cpu}
 use Rattle.b67_stack.specs.declared.Step.{Step}
 use Rattle.b67_stack.specs.declared.Step.TheVariants as step
 use Rattle.b67_stack.specs.declared.What.TheVariants as what
-use Rattle.b67_stack.specs.Stands.{Storage}
-use Rattle.b67_layout.specs.Plan.{Plan}
-use Rattle.b67_layout.specs.Session.{IsRunning, SessionStands}
+use Rattle.b67_stack.specs.Represents.{Storage}
+use Rattle.b67_layout.specs.Placement.{Placement}
+use Rattle.b67_layout.specs.Session.{IsRunning, RepresentsSession}
 use Rattle.b67_layout.specs.Meets.{here, IsMade, Meets}
 use Rattle.b67_layout.proofs.Fresh.{running_in_order}
 use Rattle.b67_refer.specs.declared.ends.End.TheVariants as end
-use Rattle.b67_refer.specs.Scene.{Scene}
+use Rattle.b67_refer.specs.RunningContext.{RunningContext}
 use Rattle.b67_refer.specs.Cells.{IsCellAt}
 use Rattle.b67_refer.specs.Ends.{EndMeets}
 use Rattle.b67_exec_cells.specs.Tops.{cells, GivesTwo, NoOriginals}
@@ -43,9 +43,10 @@ use Rattle.b67_fetch.specs.Stores.{store_end, ElementAt, stored}
 use Rattle.b67_fetch.proofs.Cells as Cells
 use Rattle.b67_fetch.proofs.Elements as Elements
 use Rattle.b67_fetch.proofs.Words.{Given, plain_two}
+use Rattle.b67_lemmas.proofs.Members.{keyed_falls}
 
-module _ (x : Storage) (old : Cpu) (plan : Plan) (s : Session) (m : Member) (t : Task) (o : IsInOrderButPlaces s) (h : SessionStands x old plan s) (runs : IsRunning plan s.jobs m t) (q : Place) (keeps : Bool) where
-  abbrev a : Scene old.core old.regs
+module _ (x : Storage) (old : Cpu) (plan : Placement) (s : Session) (m : SessionJob) (t : Task) (o : IsInOrderButPlaces s) (h : RepresentsSession x old plan s) (runs : IsRunning plan s.jobs m t) (q : Place) (keeps : Bool) where
+  abbrev a : RunningContext old.core old.regs
   a = here_scene x old plan s m t o h runs
 
   -- the cells that are left
@@ -131,9 +132,9 @@ module _ (x : Storage) (old : Cpu) (plan : Plan) (s : Session) (m : Member) (t :
     at_cell at w (Err y) z e done = absurd e
 
     at_element : (original index : ℕ) (w : Word) (y : Answer Chase.End) → follow (here m t q) w ≡ y → EndMeets (here_scene x old plan s m t o h runs) q (Ok (end.Element original index)) y
-        → ((n : ℕ) → follow (here m t q) w ≡ Ok (AtElement n index) → original ≡ plan.home m.setting.number n → HasElement m.course.job n index → Meets x plan s m r old new (store_at (here m t q) rest (kept bits rest) bits (AtElement n index))) → ForEnd r new rest bits y
+        → ((n : ℕ) → follow (here m t q) w ≡ Ok (AtElement n index) → original ≡ plan.home m.constants.number n → HasElement m.progress.job n index → Meets x plan s m r old new (store_at (here m t q) rest (kept bits rest) bits (AtElement n index))) → ForEnd r new rest bits y
     at_element original index w (Ok (AtElement n i)) z e done =
-        let P : ℕ → Type 0 = λ k. follow (here m t q) w ≡ Ok (AtElement n k) → (HasElement m.course.job n k) → Meets x plan s m r old new (store_at (here m t q) rest (kept bits rest) bits (AtElement n k)) in
+        let P : ℕ → Type 0 = λ k. follow (here m t q) w ≡ Ok (AtElement n k) → (HasElement m.progress.job n k) → Meets x plan s m r old new (store_at (here m t q) rest (kept bits rest) bits (AtElement n k)) in
         let a = e.1.names in
         subst P e.0 (λ z has. done n z e.1.home has) z (record { item = a.item; live = a.live; named = a.named; inside = a.inside })
     at_element original index w (Ok (AtCell f offset b)) z e done = absurd e
@@ -143,11 +144,11 @@ module _ (x : Storage) (old : Cpu) (plan : Plan) (s : Session) (m : Member) (t :
     at_element original index w (Err y) z e done = absurd e
 
   -- an array of the job, by its identity
-  found : (n index : ℕ) (e : HasElement m.course.job n index) → keyed (λ (z : Array). z.identity) e.item.identity m.course.job.arrays ≡ Some e.item
-  found n index e = keyed_falls (λ (z : Array). z.identity) m.course.job.next_array m.course.job.arrays e.item (running_in_order plan s m t o runs).0.tasks.names e.live
+  found : (n index : ℕ) (e : HasElement m.progress.job n index) → keyed (λ (z : Array). z.identity) e.item.identity m.progress.job.arrays ≡ Some e.item
+  found n index e = keyed_falls (λ (z : Array). z.identity) m.progress.job.next_array m.progress.job.arrays e.item (running_in_order plan s m t o runs).0.tasks.names e.live
 
-  array_is : (n index : ℕ) (e : HasElement m.course.job n index) → array m.course.job n ≡ e.item
-  array_is n index e = ap (λ (k : ℕ). array m.course.job k) (sym e.named) ∙ ap (λ (z : Option Array). unwrap_or z no_array) (found n index e)
+  array_is : (n index : ℕ) (e : HasElement m.progress.job n index) → array m.progress.job n ≡ e.item
+  array_is n index e = ap (λ (k : ℕ). array m.progress.job k) (sym e.named) ∙ ap (λ (z : Option Array). unwrap_or z no_array) (found n index e)
 
   -- where the word goes lies in core
   pub cell_inside : (at : ℕ) (y : Answer Chase.End) → EndMeets (here_scene x old plan s m t o h runs) q (Ok (end.Cell at)) y → at < length old.core
@@ -158,7 +159,7 @@ module _ (x : Storage) (old : Cpu) (plan : Plan) (s : Session) (m : Member) (t :
   cell_inside at (Ok (AtIntrinsic n)) e = absurd e
   cell_inside at (Err y) e = absurd e
 
-  element_in : (n index original at : ℕ) (e : HasElement m.course.job n index) → ElementAt x plan m n original index (Ok at) → at < length old.core
+  element_in : (n index original at : ℕ) (e : HasElement m.progress.job n index) → ElementAt x plan m n original index (Ok at) → at < length old.core
   element_in n index original at e (w, (area, held, is)) =
       let i = area-inside x old plan s m t o h runs n index e area held in
       let long = ap (λ (z : Array). length z.numbers) (array_is n index e) in
@@ -167,14 +168,14 @@ module _ (x : Storage) (old : Cpu) (plan : Plan) (s : Session) (m : Member) (t :
   -- the element that was found
   record Named (original index : ℕ) : Type 0 where
     number : ℕ
-    home : original ≡ plan.home m.setting.number number
-    element : HasElement m.course.job number index
+    home : original ≡ plan.home m.constants.number number
+    element : HasElement m.progress.job number index
 
   named : (original index : ℕ) (y : Answer Chase.End) → EndMeets (here_scene x old plan s m t o h runs) q (Ok (end.Element original index)) y → Named original index
   named original index (Ok (AtElement n i)) e =
       let a = e.1.names in
-      let P : ℕ → Type 0 = λ k. HasElement m.course.job n k in
-      let has : HasElement m.course.job n i = record { item = a.item; live = a.live; named = a.named; inside = a.inside } in
+      let P : ℕ → Type 0 = λ k. HasElement m.progress.job n k in
+      let has : HasElement m.progress.job n i = record { item = a.item; live = a.live; named = a.named; inside = a.inside } in
       record { number = n; home = e.1.home; element = subst P (sym e.0) has }
   named original index (Ok (AtCell f offset b)) e = absurd e
   named original index (Ok (AtArray n)) e = absurd e
@@ -189,10 +190,10 @@ module _ (x : Storage) (old : Cpu) (plan : Plan) (s : Session) (m : Member) (t :
 
   -- what was answered for the element's place
   abbrev Places : ℕ → ℕ → Result ℕ Step → Type 0
-  Places original index result = (n : ℕ) → original ≡ plan.home m.setting.number n → HasElement m.course.job n index → ElementAt x plan m n original index result
+  Places original index result = (n : ℕ) → original ≡ plan.home m.constants.number n → HasElement m.progress.job n index → ElementAt x plan m n original index result
 
   pub element_inside : (original index at : ℕ) (y : Answer Chase.End) → EndMeets (here_scene x old plan s m t o h runs) q (Ok (end.Element original index)) y
-      → ((n : ℕ) → original ≡ plan.home m.setting.number n → HasElement m.course.job n index → ElementAt x plan m n original index (Ok at)) → at < length old.core
+      → ((n : ℕ) → original ≡ plan.home m.constants.number n → HasElement m.progress.job n index → ElementAt x plan m n original index (Ok at)) → at < length old.core
   element_inside original index at y e places = let n = named original index y e in element_in n.number index original at n.element (places n.number n.home n.element)
 
   -- the height of the stack with fewer cells
@@ -201,15 +202,15 @@ module _ (x : Storage) (old : Cpu) (plan : Plan) (s : Session) (m : Member) (t :
   height_drop (f ∷ below) w cs = omega arith
 
   module _ (b c : Word) (rest : List Word) (is : cells t ≡ b ∷ c ∷ rest) (enough : old.regs.f + 2 ≤ old.regs.s) (bits : ℕ) where
-    fits_kept : nat_le (height (with_top_cells t.frames (Operand bits ∷ rest))) m.setting.stack_size ≡ true
+    fits_kept : nat_le (height (with_top_cells t.frames (Operand bits ∷ rest))) m.constants.stack_size ≡ true
     fits_kept = let g = room x old plan s m t o h runs in let low = g.last in fitting x old plan s m t o h runs 2 (old.regs.s - 2 + 1) (b ∷ c ∷ []) rest (Operand bits) is refl enough refl (omega (arith, low, enough))
 
-    fits : (k : Bool) → nat_le (height (with_top_cells t.frames (if k then Operand bits ∷ rest else rest))) m.setting.stack_size ≡ true
+    fits : (k : Bool) → nat_le (height (with_top_cells t.frames (if k then Operand bits ∷ rest else rest))) m.constants.stack_size ≡ true
     fits true = fits_kept
     fits false =
         let d = height_drop t.frames (Operand bits) rest in
-        let low : height (with_top_cells t.frames (Operand bits ∷ rest)) ≤ m.setting.stack_size = (let f = fits_kept in grind (arith, nat_tests)) in
-        let less : height (with_top_cells t.frames rest) ≤ m.setting.stack_size = omega (arith, d, low) in
+        let low : height (with_top_cells t.frames (Operand bits ∷ rest)) ≤ m.constants.stack_size = (let f = fits_kept in grind (arith, nat_tests)) in
+        let less : height (with_top_cells t.frames rest) ≤ m.constants.stack_size = omega (arith, d, low) in
         grind (arith, nat_tests)
 
     cell_made : (k : Bool) (at f offset w : ℕ) → IsCellAt (here_scene x old plan s m t o h runs) q at f offset (Operand w) → NoOriginals (b ∷ c ∷ [])
@@ -219,35 +220,35 @@ module _ (x : Storage) (old : Cpu) (plan : Plan) (s : Session) (m : Member) (t :
 
     -- the job that is left by a store into an element
     abbrev Answered : Bool → ℕ → ℕ → Answer Done
-    Answered k n i = Ok (Goes (with_task (with_element m.course.job n i bits) (with_cells (here m t q) (if k then Operand bits ∷ rest else rest))) [] (Some n))
+    Answered k n i = Ok (Goes (with_task (with_element m.progress.job n i bits) (with_cells (here m t q) (if k then Operand bits ∷ rest else rest))) [] (Some n))
 
-    made_by_array : (k : Bool) (z : Array) → keyed (λ (w : Array). w.identity) z.identity m.course.job.arrays ≡ Some z → z.writable ≡ true → (i area : ℕ) → i < length z.numbers → (x.held (plan.home m.setting.number z.identity)).area ≡ Some area → NoOriginals (b ∷ c ∷ [])
+    made_by_array : (k : Bool) (z : Array) → keyed (λ (w : Array). w.identity) z.identity m.progress.job.arrays ≡ Some z → z.writable ≡ true → (i area : ℕ) → i < length z.numbers → (x.held (plan.home m.constants.number z.identity)).area ≡ Some area → NoOriginals (b ∷ c ∷ [])
         → IsMade x plan s m old (stored old (area + i) (word 0 bits) k q) (Answered k z.identity i)
     made_by_array false z there writable i area low held plain = Elements.dropped x old plan s m t o h runs q z there writable i bits area low held b c rest is plain
     made_by_array true z there writable i area low held plain = Elements.kept x old plan s m t o h runs q z there writable i bits area low held b c rest is plain enough
 
-    answered : (n i : ℕ) → (array m.course.job n).writable ≡ true → store_at (here m t q) rest (if keeps then Operand bits ∷ rest else rest) bits (AtElement n i) ≡ Answered keeps n i
+    answered : (n i : ℕ) → (array m.progress.job n).writable ≡ true → store_at (here m t q) rest (if keeps then Operand bits ∷ rest else rest) bits (AtElement n i) ≡ Answered keeps n i
     answered n i w = rw w (rw (fits keeps) refl)
 
-    refused_element : (n i : ℕ) → (array m.course.job n).writable ≡ false → store_at (here m t q) rest (if keeps then Operand bits ∷ rest else rest) bits (AtElement n i) ≡ Err MemoryProtect
+    refused_element : (n i : ℕ) → (array m.progress.job n).writable ≡ false → store_at (here m t q) rest (if keeps then Operand bits ∷ rest else rest) bits (AtElement n i) ≡ Err MemoryProtect
     refused_element n i w = rw w refl
 
-    element_made : (n index original at : ℕ) (e : HasElement m.course.job n index) → ElementAt x plan m n original index (Ok at) → NoOriginals (b ∷ c ∷ [])
+    element_made : (n index original at : ℕ) (e : HasElement m.progress.job n index) → ElementAt x plan m n original index (Ok at) → NoOriginals (b ∷ c ∷ [])
         → IsMade x plan s m old (stored old at (word 0 bits) keeps q) (store_at (here m t q) rest (kept bits rest) bits (AtElement n index))
     element_made n index original at e (w, (area, held, place)) plain =
         let writable : e.item.writable ≡ true = ap (λ (z : Array). z.writable) (sym (array_is n index e)) ∙ w in
-        let held' : (x.held (plan.home m.setting.number e.item.identity)).area ≡ Some area = ap (λ (k : ℕ). (x.held (plan.home m.setting.number k)).area) e.named ∙ held in
+        let held' : (x.held (plan.home m.constants.number e.item.identity)).area ≡ Some area = ap (λ (k : ℕ). (x.held (plan.home m.constants.number k)).area) e.named ∙ held in
         let made = made_by_array keeps e.item (found n index e) writable index area e.inside held' plain in
         let P : ℕ → Type 0 = λ k. IsMade x plan s m old (stored old (area + index) (word 0 bits) keeps q) (Answered keeps k index) in
         let Q : ℕ → Type 0 = λ k. IsMade x plan s m old (stored old k (word 0 bits) keeps q) (Answered keeps n index) in
         let R : Answer Done → Type 0 = λ y. IsMade x plan s m old (stored old at (word 0 bits) keeps q) y in
         subst R (sym (answered n index w)) (subst Q (sym place) (subst P e.named made))
 
-    element_refused : (n index original : ℕ) (r : Step) (new : Cpu) → new ≡ old → original ≡ plan.home m.setting.number n → ElementAt x plan m n original index (Err r)
+    element_refused : (n index original : ℕ) (r : Step) (new : Cpu) → new ≡ old → original ≡ plan.home m.constants.number n → ElementAt x plan m n original index (Err r)
         → Meets x plan s m r old new (store_at (here m t q) rest (kept bits rest) bits (AtElement n index))
     element_refused n index original (step.Fault fault) new same home (w, f) = (refused_element n index w ∙ ap Err (sym f), same)
-    element_refused n index original (step.Absent thing) new same home (w, none, is) =
-        (record { job = with_task (with_element m.course.job n index bits) (with_cells (here m t q) (kept bits rest)); touched = n; is = answered n index w; absent = none; named = is ∙ ap what.Array home }, same)
+    element_refused n index original (step.Absent object) new same home (w, none, is) =
+        (record { job = with_task (with_element m.progress.job n index bits) (with_cells (here m t q) (kept bits rest)); touched = n; is = answered n index w; absent = none; named = is ∙ ap what.Array home }, same)
     element_refused n index original step.Done new same home z = absurd z
     element_refused n index original (step.Call k) new same home z = absurd z
     element_refused n index original step.Ended new same home z = absurd z
@@ -259,13 +260,13 @@ module _ (x : Storage) (old : Cpu) (plan : Plan) (s : Session) (m : Member) (t :
           (λ f offset w z cell. cell_made keeps at f offset w cell (plain_two (here m t q) b c (AtCell f offset w) bits z op))
 
       pub element_done : (original index at : ℕ) → EndMeets (here_scene x old plan s m t o h runs) q (Ok (end.Element original index)) (follow (here m t q) (in_order b c).0)
-          → ((n : ℕ) → original ≡ plan.home m.setting.number n → HasElement m.course.job n index → ElementAt x plan m n original index (Ok at))
+          → ((n : ℕ) → original ≡ plan.home m.constants.number n → HasElement m.progress.job n index → ElementAt x plan m n original index (Ok at))
           → EntersOrMeets x plan s m step.Done old (stored old at (word 0 bits) keeps q) (enters_at (follow (here m t q) (in_order b c).0)) (follow (here m t q) (in_order b c).0 >>= store_at (here m t q) rest (if keeps then Operand bits ∷ rest else rest) bits)
       element_done original index at e places = at_element step.Done (stored old at (word 0 bits) keeps q) rest bits original index (in_order b c).0 (follow (here m t q) (in_order b c).0) refl e
           (λ n z home has. element_made n index original at has (places n home has) (plain_two (here m t q) b c (AtElement n index) bits z op))
 
       pub element_not : (original index : ℕ) (r : Step) (new : Cpu) → new ≡ old → EndMeets (here_scene x old plan s m t o h runs) q (Ok (end.Element original index)) (follow (here m t q) (in_order b c).0)
-          → ((n : ℕ) → original ≡ plan.home m.setting.number n → HasElement m.course.job n index → ElementAt x plan m n original index (Err r))
+          → ((n : ℕ) → original ≡ plan.home m.constants.number n → HasElement m.progress.job n index → ElementAt x plan m n original index (Err r))
           → EntersOrMeets x plan s m r old new (enters_at (follow (here m t q) (in_order b c).0)) (follow (here m t q) (in_order b c).0 >>= store_at (here m t q) rest (if keeps then Operand bits ∷ rest else rest) bits)
       element_not original index r new same e places = at_element r new rest bits original index (in_order b c).0 (follow (here m t q) (in_order b c).0) refl e
           (λ n z home has. element_refused n index original r new same home (places n home has))

@@ -17,16 +17,16 @@ use Rattle.b67_model.specs.InOrder.{NamesEntered, reach_of, IsInOrderButPlaces}
 use Rattle.b67_model.specs.Intrinsics.{is_original}
 use Rattle.b67_model.specs.Rows.{on_cells, stff, stff_word}
 use Rattle.b67_model.specs.Schedule.{Session}
-use Rattle.b67_model.specs.State.{Task, Member}
+use Rattle.b67_model.specs.State.{Task, SessionJob}
 use Rattle.b67_model.specs.Steps.{leaves_cells}
 use Rattle.b67_model.specs.Words as Words
 use Rattle.b67_model.specs.Words.{Word, Operand, Name, Ref, Row, Element, Original, Proc, Intrinsic}
 use Rattle.b67_stack.specs.declared.Cpu.{Cpu}
 use Rattle.b67_stack.specs.declared.Step.{Step}
 use Rattle.b67_stack.specs.declared.Step.TheVariants as step
-use Rattle.b67_stack.specs.Stands.{Storage}
-use Rattle.b67_layout.specs.Plan.{Plan}
-use Rattle.b67_layout.specs.Session.{IsRunning, SessionStands, frame_address}
+use Rattle.b67_stack.specs.Represents.{Storage}
+use Rattle.b67_layout.specs.Placement.{Placement}
+use Rattle.b67_layout.specs.Session.{IsRunning, RepresentsSession, frame_address}
 use Rattle.b67_layout.specs.Meets.{here, Meets}
 use Rattle.b67_exec_cells.specs.Tops.{cells}
 use Rattle.b67_refer.specs.Cells.{StandsFor, FindsCell, CellMeets, view}
@@ -38,7 +38,7 @@ use Rattle.b67_refer.proofs.Unders.{named_above, named_at, names_level, display_
 use Rattle.b67_exec_operands.proofs.Rows.{Replaces}
 use Rattle.b67_fetch.proofs.Values.{TopFollowed, here_scene, here_shown, followed_stands}
 
-module _ (x : Storage) (cpu : Cpu) (plan : Plan) (s : Session) (m : Member) (t : Task) (ordered : IsInOrderButPlaces s) (h : SessionStands x cpu plan s) (runs : IsRunning plan s.jobs m t) (q : Place) (w : Tagged) (top : TopFollowed x plan m t w) where
+module _ (x : Storage) (cpu : Cpu) (plan : Placement) (s : Session) (m : SessionJob) (t : Task) (ordered : IsInOrderButPlaces s) (h : RepresentsSession x cpu plan s) (runs : IsRunning plan s.jobs m t) (q : Place) (w : Tagged) (top : TopFollowed x plan m t w) where
   stands : StandsFor (here_scene x cpu plan s m t ordered h runs) top.followed.at top.followed.owner w top.word
   stands = followed_stands x cpu plan s m t ordered h runs w top.word top.followed
 
@@ -116,7 +116,7 @@ module _ (x : Storage) (cpu : Cpu) (plan : Plan) (s : Session) (m : Member) (t :
       abbrev pub frame_of : ℕ
       frame_of = (frame_at (here m t q) c.level).identity
 
-      pub frame_named : c.level ≤ cpu.regs.level → NamesEntered (reach_of m.course.job t) (frame_at (here m t q) c.level).identity × (get_or cpu.display c.level 0 ≡ frame_address plan m t (frame_at (here m t q) c.level).identity)
+      pub frame_named : c.level ≤ cpu.regs.level → NamesEntered (reach_of m.progress.job t) (frame_at (here m t q) c.level).identity × (get_or cpu.display c.level 0 ≡ frame_address plan m t (frame_at (here m t q) c.level).identity)
       frame_named low = (
         names_level cpu.core cpu.regs (here_scene x cpu plan s m t ordered h runs) q cpu.display (here_shown x cpu plan s m t ordered h runs) c low,
         display_at cpu.core cpu.regs (here_scene x cpu plan s m t ordered h runs) q cpu.display (here_shown x cpu plan s m t ordered h runs) c low,

@@ -14,14 +14,14 @@ use Rattle.b67_model.specs.Chase as Chase
 use Rattle.b67_model.specs.Chase.{AtCell, AtElement, AtArray, AtProc, AtIntrinsic, chase, follow}
 use Rattle.b67_model.specs.Words as Words
 use Rattle.b67_model.specs.Words.{Word, Operand, Name, Ref, Row, Element, Original, Proc, Intrinsic}
-use Rattle.b67_model.specs.State.{Frame, Array, Task, Job, Member, top, with_top_cells, height, with_task}
+use Rattle.b67_model.specs.State.{Frame, Array, Task, Job, SessionJob, top, with_top_cells, height, with_task}
 use Rattle.b67_model.specs.InOrder.{Starts, IsSegment, Known, known_of, outer_of, reach_of, FramesInOrder, WordInOrder, IsInOrderButPlaces}
 use Rattle.b67_model.specs.Schedule.{Session}
 use Rattle.b67_model.specs.Steps.{Done, Goes, leaves_cells}
 use Rattle.b67_model.specs.Rows as rows
 use Rattle.b67_refer.specs.declared.ends.End.{End}
 use Rattle.b67_refer.specs.declared.ends.End.TheVariants as end
-use Rattle.b67_refer.specs.Scene.{Scene, IsShown}
+use Rattle.b67_refer.specs.RunningContext.{RunningContext, IsShown}
 use Rattle.b67_refer.specs.Cells.{StandsFor}
 use Rattle.b67_refer.specs.Ends.{EndMeets, EndIs}
 use Rattle.b67_refer.proofs.Scenes.{scene}
@@ -29,9 +29,9 @@ use Rattle.b67_stack.specs.declared.Cpu.{Cpu}
 use Rattle.b67_stack.specs.declared.Step.{Step}
 use Rattle.b67_stack.specs.declared.Step.TheVariants as step
 use Rattle.b67_stack.specs.declared.What.TheVariants as what
-use Rattle.b67_stack.specs.Stands.{Storage}
-use Rattle.b67_layout.specs.Plan.{Plan}
-use Rattle.b67_layout.specs.Session.{IsRunning, SessionStands}
+use Rattle.b67_stack.specs.Represents.{Storage}
+use Rattle.b67_layout.specs.Placement.{Placement}
+use Rattle.b67_layout.specs.Session.{IsRunning, RepresentsSession}
 use Rattle.b67_layout.specs.Meets.{here, IsPresent, IsTouched, IsMade, IsAbsent, Meets, RunsSome, area_held}
 use Rattle.b67_layout.proofs.Whole.{task_with}
 use Rattle.b67_layout.proofs.Fresh.{running_in_order}
@@ -42,15 +42,15 @@ use Rattle.b67_exec_cells.proofs.Put.{fitting}
 use Rattle.b67_fetch.specs.Fetches.{IsFollowed, IsEnd, SomeEnd, FindsEnd, value_of, enters, enters_at, EntersOrMeets, top_end}
 
 -- the scene of a machine that stands for a session
-module _ (x : Storage) (cpu : Cpu) (plan : Plan) (s : Session) (m : Member) (t : Task) (ordered : IsInOrderButPlaces s) (h : SessionStands x cpu plan s) (runs : IsRunning plan s.jobs m t) where
-  abbrev pub here_scene : Scene cpu.core cpu.regs
+module _ (x : Storage) (cpu : Cpu) (plan : Placement) (s : Session) (m : SessionJob) (t : Task) (ordered : IsInOrderButPlaces s) (h : RepresentsSession x cpu plan s) (runs : IsRunning plan s.jobs m t) where
+  abbrev pub here_scene : RunningContext cpu.core cpu.regs
   here_scene = scene [] x cpu.core cpu.regs cpu.critical plan s m t ordered h.holds runs
 
   pub here_shown : IsShown here_scene cpu.display
   here_shown = h.shows m t runs
 
   -- a word that may be followed
-  stands_for : (w : Tagged) (at owner : ℕ) (v : Word) → IsWordOf x plan m t v at w → WordInOrder (IsSegment m.setting) m.course.job.arrays (reach_of m.course.job t) owner v → StandsFor here_scene at owner w v
+  stands_for : (w : Tagged) (at owner : ℕ) (v : Word) → IsWordOf x plan m t v at w → WordInOrder (IsSegment m.constants) m.progress.job.arrays (reach_of m.progress.job t) owner v → StandsFor here_scene at owner w v
   stands_for w at owner (Operand bits) f o = (f, o)
   stands_for w at owner (Name c) f o = (f, o)
   stands_for w at owner (Ref g d) f o = (f, o)
@@ -104,13 +104,13 @@ module _ (x : Storage) (cpu : Cpu) (plan : Plan) (s : Session) (m : Member) (t :
   finds_end q (Err f) (Ok e) i = i
 
 -- a row that touched an array that is present
-module _ (x : Storage) (plan : Plan) (s : Session) (m : Member) (t : Task) (old new : Cpu) (q : Place) (cs : List Word) (n : ℕ) (present : IsPresent x plan m.setting.number (Some n)) where
+module _ (x : Storage) (plan : Placement) (s : Session) (m : SessionJob) (t : Task) (old new : Cpu) (q : Place) (cs : List Word) (n : ℕ) (present : IsPresent x plan m.constants.number (Some n)) where
   abbrev row_by : Bool → Option ℕ → Answer Done
-  row_by b touched = needs b StackOverflow >> Ok (Goes (with_task m.course.job (task_with t cs q)) [] touched)
+  row_by b touched = needs b StackOverflow >> Ok (Goes (with_task m.progress.job (task_with t cs q)) [] touched)
 
   made_by : (b : Bool) → IsMade x plan s m old new (row_by b None) → IsMade x plan s m old new (row_by b (Some n))
   made_by true i =
-      let same : ◌≡◌ {A = Job} i.job (with_task m.course.job (task_with t cs q)) = (let e = i.is in cc) in
+      let same : ◌≡◌ {A = Job} i.job (with_task m.progress.job (task_with t cs q)) = (let e = i.is in cc) in
       let none : i.touched ≡ None = (let e = i.is in cc) in
       record {
         job = i.job;
@@ -133,28 +133,28 @@ module _ (x : Storage) (plan : Plan) (s : Session) (m : Member) (t : Task) (old 
   meets_by false step.Ended i = absurd (let z : ⊥ = (let e = i.0 in cc) in z)
 
   pub meets_touching : (r : Step) → Meets x plan s m r old new (leaves_cells (here m t q) cs None) → Meets x plan s m r old new (leaves_cells (here m t q) cs (Some n))
-  meets_touching r i = meets_by (nat_le (height (with_top_cells t.frames cs)) m.setting.stack_size) r i
+  meets_touching r i = meets_by (nat_le (height (with_top_cells t.frames cs)) m.constants.stack_size) r i
 
-overflow_by : (m : Member) (t : Task) (q : Place) (cs : List Word) (touched : Option ℕ) (b : Bool) → (needs b StackOverflow >> Ok (Goes (with_task m.course.job (task_with t cs q)) [] None)) ≡ Err StackOverflow
-    → (needs b StackOverflow >> Ok (Goes (with_task m.course.job (task_with t cs q)) [] touched)) ≡ Err StackOverflow
+overflow_by : (m : SessionJob) (t : Task) (q : Place) (cs : List Word) (touched : Option ℕ) (b : Bool) → (needs b StackOverflow >> Ok (Goes (with_task m.progress.job (task_with t cs q)) [] None)) ≡ Err StackOverflow
+    → (needs b StackOverflow >> Ok (Goes (with_task m.progress.job (task_with t cs q)) [] touched)) ≡ Err StackOverflow
 overflow_by m t q cs touched true e = cc
 overflow_by m t q cs touched false e = refl
 
-pub overflow_touching : (m : Member) (t : Task) (q : Place) (cs : List Word) (touched : Option ℕ) → leaves_cells (here m t q) cs None ≡ Err StackOverflow → leaves_cells (here m t q) cs touched ≡ Err StackOverflow
-overflow_touching m t q cs touched e = overflow_by m t q cs touched (nat_le (height (with_top_cells t.frames cs)) m.setting.stack_size) e
+pub overflow_touching : (m : SessionJob) (t : Task) (q : Place) (cs : List Word) (touched : Option ℕ) → leaves_cells (here m t q) cs None ≡ Err StackOverflow → leaves_cells (here m t q) cs touched ≡ Err StackOverflow
+overflow_touching m t q cs touched e = overflow_by m t q cs touched (nat_le (height (with_top_cells t.frames cs)) m.constants.stack_size) e
 
 -- an absent element
-pub absent_element : (x : Storage) (old : Cpu) (plan : Plan) (s : Session) (m : Member) (t : Task) (ordered : IsInOrderButPlaces s) (h : SessionStands x old plan s) (runs : IsRunning plan s.jobs m t)
+pub absent_element : (x : Storage) (old : Cpu) (plan : Placement) (s : Session) (m : SessionJob) (t : Task) (ordered : IsInOrderButPlaces s) (h : RepresentsSession x old plan s) (runs : IsRunning plan s.jobs m t)
     (count original : ℕ) (q : Place) (gone rest : List Word) (n : ℕ) (v : Word) → cells t ≡ gone ++ rest → length gone ≡ count → old.regs.f + count ≤ old.regs.s → old.regs.s - count < old.regs.losr
-    → original ≡ plan.home m.setting.number n → area_held x plan m.setting.number n ≡ None
+    → original ≡ plan.home m.constants.number n → area_held x plan m.constants.number n ≡ None
     → IsAbsent x plan m (what.Array original) (leaves_cells (here m t q) (v ∷ rest) (Some n))
 absent_element x old plan s m t ordered h runs count original q gone rest n v e len enough inside home absent =
     let test = fitting x old plan s m t ordered h runs count (old.regs.s - count + 1) gone rest v e len enough refl (omega (arith, inside)) in
-    record { job = with_task m.course.job (task_with t (v ∷ rest) q); touched = n; is = rw test refl; absent = absent; named = ap what.Array home }
+    record { job = with_task m.progress.job (task_with t (v ∷ rest) q); touched = n; is = rw test refl; absent = absent; named = ap what.Array home }
 
 -- an element that was found
 holds_by : (cpu : Cpu) (runs : RunsSome cpu) (original index : ℕ) (e : Chase.End) → IsEnd runs.plan runs.member cpu.core (end.Element original index) e → HoldsElement cpu original index
-holds_by cpu runs original index (AtElement n i) is = record { runs = runs; number = n; home = is.1; element = (let P : ℕ → Type 0 = λ k. HasElement runs.member.course.job n k in subst P (sym is.0) is.2) }
+holds_by cpu runs original index (AtElement n i) is = record { runs = runs; number = n; home = is.1; element = (let P : ℕ → Type 0 = λ k. HasElement runs.member.progress.job n k in subst P (sym is.0) is.2) }
 holds_by cpu runs original index (AtCell f offset bits) is = absurd is
 holds_by cpu runs original index (AtArray n) is = absurd is
 holds_by cpu runs original index (AtProc f segment level place) is = absurd is
@@ -182,7 +182,7 @@ pub some_end : (cpu : Cpu) (runs : RunsSome cpu) (found : End) (e : Answer Chase
 some_end cpu runs found e is = some_by cpu runs found e is
 
 -- the top cell may be followed
-pub record TopFollowed (x : Storage) (plan : Plan) (m : Member) (t : Task) (w : Tagged) : Type 0 where
+pub record TopFollowed (x : Storage) (plan : Placement) (m : SessionJob) (t : Task) (w : Tagged) : Type 0 where
   pub word : Word
   pub rest : List Word
   pub is : cells t ≡ word ∷ rest
@@ -194,7 +194,7 @@ top_order P arrays outer (f ∷ below) a rest o e =
     let A : List Word → Type 0 = λ cs. AllByRecursion (WordInOrder P arrays (map known_of (f ∷ below) ++ outer) f.identity) cs in
     (subst A e o.0.0).0
 
-pub top_followed : (x : Storage) (cpu : Cpu) (plan : Plan) (s : Session) (m : Member) (t : Task) (w : Tagged) → IsInOrderButPlaces s → IsRunning plan s.jobs m t → GivesTop x plan m t cpu (cells t) (Ok w) → TopFollowed x plan m t w
+pub top_followed : (x : Storage) (cpu : Cpu) (plan : Placement) (s : Session) (m : SessionJob) (t : Task) (w : Tagged) → IsInOrderButPlaces s → IsRunning plan s.jobs m t → GivesTop x plan m t cpu (cells t) (Ok w) → TopFollowed x plan m t w
 top_followed x cpu plan s m t w ordered runs given = by_cells (cells t) refl given where
   by_cells : (cs : List Word) → cells t ≡ cs → GivesTop x plan m t cpu cs (Ok w) → TopFollowed x plan m t w
   by_cells [] e g = absurd (let z : ⊥ = cc in z)
@@ -205,15 +205,15 @@ top_followed x cpu plan s m t w ordered runs given = by_cells (cells t) refl giv
         word = a;
         rest = rest;
         is = e;
-        followed = record { at = cpu.regs.s; owner = (top t.frames).identity; is = subst W same g.2.is; ordered = top_order (IsSegment m.setting) m.course.job.arrays (outer_of m.course.job t) t.frames a rest (running_in_order plan s m t ordered runs).1.frames e };
+        followed = record { at = cpu.regs.s; owner = (top t.frames).identity; is = subst W same g.2.is; ordered = top_order (IsSegment m.constants) m.progress.job.arrays (outer_of m.progress.job t) t.frames a rest (running_in_order plan s m t ordered runs).1.frames e };
       }
 
 -- the word of a couple
-pub couple_followed : (x : Storage) (plan : Plan) (m : Member) (t : Task) (couple : ℕ) (w : Tagged) → couple < 2 ^ 14 → w ≡ irw_word (record { couple = couple }) → IsFollowed x plan m t w (Name couple)
+pub couple_followed : (x : Storage) (plan : Placement) (m : SessionJob) (t : Task) (couple : ℕ) (w : Tagged) → couple < 2 ^ 14 → w ≡ irw_word (record { couple = couple }) → IsFollowed x plan m t w (Name couple)
 couple_followed x plan m t couple w small is = record { at = 0; owner = 0; is = (is, λ z. omega (arith, z)); ordered = small }
 
 -- what is followed is no original
-pub followed_plain : (x : Storage) (m : Member) (t : Task) (q : Place) (w : Word) (e : Chase.End) → follow (here m t q) w ≡ Ok e → is_original w ≡ false
+pub followed_plain : (x : Storage) (m : SessionJob) (t : Task) (q : Place) (w : Word) (e : Chase.End) → follow (here m t q) w ≡ Ok e → is_original w ≡ false
 followed_plain x m t q (Operand bits) e is = refl
 followed_plain x m t q (Name c) e is = refl
 followed_plain x m t q (Ref f o) e is = refl
@@ -224,7 +224,7 @@ followed_plain x m t q (Proc g l p) e is = refl
 followed_plain x m t q (Intrinsic n) e is = refl
 followed_plain x m t q (Words.Segment n) e is = refl
 
-module _ (x : Storage) (plan : Plan) (s : Session) (m : Member) (t : Task) (q : Place) (old : Cpu) where
+module _ (x : Storage) (plan : Placement) (s : Session) (m : SessionJob) (t : Task) (q : Place) (old : Cpu) where
   -- VALC by its end
   valc_by : (r : Step) (new : Cpu) (e : Chase.End) → EntersOrMeets x plan s m r old new (enters e) (value_of (here m t q) (cells t) e) → EntersOrMeets x plan s m r old new (enters e) (evaluates (here m t q) e)
   valc_by r new (AtCell f offset bits) i = i
@@ -265,7 +265,7 @@ module _ (x : Storage) (plan : Plan) (s : Session) (m : Member) (t : Task) (q : 
 
   -- at an array
   copy_by : (rest : List Word) (r : Step) (new : Cpu) (original : ℕ) (e : Chase.End) → IsEnd plan m old.core (end.Array original) e
-      → ((n : ℕ) → original ≡ plan.home m.setting.number n → HasElement m.course.job n 0 → Meets x plan s m r old new (leaves_cells (here m t q) (Row n ∷ rest) None))
+      → ((n : ℕ) → original ≡ plan.home m.constants.number n → HasElement m.progress.job n 0 → Meets x plan s m r old new (leaves_cells (here m t q) (Row n ∷ rest) None))
       → EntersOrMeets x plan s m r old new (enters e) (rows.load_at (here m t q) rest e)
   copy_by rest r new original (AtArray n) is row = row n is.0 is.1
   copy_by rest r new original (AtCell f offset bits) is row = absurd is
@@ -274,7 +274,7 @@ module _ (x : Storage) (plan : Plan) (s : Session) (m : Member) (t : Task) (q : 
   copy_by rest r new original (AtIntrinsic n) is row = absurd is
 
   pub copy_row : (rest : List Word) (r : Step) (new : Cpu) (found : End) (original : ℕ) (e : Answer Chase.End) → found ≡ end.Array original → FindsEnd plan m old.core (Ok found) e
-      → ((f : Chase.End) → e ≡ Ok f → (n : ℕ) → original ≡ plan.home m.setting.number n → HasElement m.course.job n 0 → Meets x plan s m r old new (leaves_cells (here m t q) (Row n ∷ rest) None))
+      → ((f : Chase.End) → e ≡ Ok f → (n : ℕ) → original ≡ plan.home m.constants.number n → HasElement m.progress.job n 0 → Meets x plan s m r old new (leaves_cells (here m t q) (Row n ∷ rest) None))
       → EntersOrMeets x plan s m r old new (enters_at e) (e >>= λ f. rows.load_at (here m t q) rest f)
   copy_row rest r new found original (Ok e) same is row = let P : End → Type 0 = λ z. IsEnd plan m old.core z e in copy_by rest r new original e (subst P same is) (row e refl)
   copy_row rest r new found original (Err g) same is row = absurd is

@@ -2,19 +2,19 @@
 use Rattle.std.proofs.Common.{◌≡◌, ◌≢◌, ℕ, ◌-◌, List, [], ◌∷◌, ◌++◌, map, Ok, Err, refl, sym, ◌∙◌, ap, arith, false, inl, inr, ◌⊎◌, subst}
 use Rattle.b67_word.specs.Tagged.{Tagged, word}
 use Rattle.b67_word.specs.declared.faults.Fault.TheVariants.{InvalidOperand}
-use Rattle.b67_model.specs.Arrays.{in_order}
+use Rattle.b67_model.specs.Indexing.{in_order}
 use Rattle.b67_model.specs.Chase.{End, follow}
 use Rattle.b67_model.specs.InOrder.{IsSegment, known_of, outer_of, FramesInOrder, WordInOrder, IsInOrderButPlaces}
 use Rattle.b67_model.specs.Intrinsics.{is_original}
 use Rattle.b67_lemmas.specs.Lists.{Has}
+use Rattle.b67_lemmas.proofs.Members.{all_in}
 use Rattle.b67_model.specs.Words as Words
 use Rattle.b67_model.specs.Words.{Word, Operand, Name, Ref, Row, Element, Original, Proc, Intrinsic, operand}
 use Rattle.b67_model.specs.Schedule.{Session}
-use Rattle.b67_model.specs.State.{Frame, Task, Member, Here, top}
-use Rattle.b67_law_order.proofs.Members.{all_in}
+use Rattle.b67_model.specs.State.{Frame, Task, SessionJob, OperatorContext, top}
 use Rattle.b67_stack.specs.declared.Cpu.{Cpu}
-use Rattle.b67_stack.specs.Stands.{Storage}
-use Rattle.b67_layout.specs.Plan.{Plan}
+use Rattle.b67_stack.specs.Represents.{Storage}
+use Rattle.b67_layout.specs.Placement.{Placement}
 use Rattle.b67_layout.specs.Session.{IsRunning}
 use Rattle.b67_layout.proofs.Fresh.{running_in_order}
 use Rattle.b67_exec_cells.specs.Tops.{IsWordOf, IsAt, cells, GivesTwo, NoOriginals}
@@ -24,7 +24,7 @@ use Rattle.b67_fetch.specs.Fetches.{IsFollowed}
 abbrev pub Choice : Tagged × Tagged → Tagged × Tagged → Type 0
 Choice two chosen = ((two.1.tag ≡ 0) × (chosen ≡ two)) ⊎ ((two.1.tag ≢ 0) × (chosen ≡ (two.1, two.0)))
 
-module _ (x : Storage) (plan : Plan) (m : Member) (t : Task) where
+module _ (x : Storage) (plan : Placement) (m : SessionJob) (t : Task) where
   -- a word of tag 0 is an operand's
   zero_tag : (b : Word) (at : ℕ) (v : Tagged) → IsWordOf x plan m t b at v → v.tag ≡ 0 → (bits : ℕ) × (b ≡ Operand bits) × (v ≡ word 0 bits)
   zero_tag (Operand bits) at v i z = (bits, refl, i.0)
@@ -113,10 +113,10 @@ has_first (Intrinsic n) a rest = inl refl
 has_first (Words.Segment n) a rest = inl refl
 
 -- the word that is followed
-module _ (x : Storage) (plan : Plan) (s : Session) (m : Member) (t : Task) (o : IsInOrderButPlaces s) (runs : IsRunning plan s.jobs m t) where
-  words_of : (fs : List Frame) → FramesInOrder (IsSegment m.setting) m.course.job.arrays (outer_of m.course.job t) fs → (w : Word) → Has (top fs).cells w → WordInOrder (IsSegment m.setting) m.course.job.arrays (map known_of fs ++ outer_of m.course.job t) (top fs).identity w
+module _ (x : Storage) (plan : Placement) (s : Session) (m : SessionJob) (t : Task) (o : IsInOrderButPlaces s) (runs : IsRunning plan s.jobs m t) where
+  words_of : (fs : List Frame) → FramesInOrder (IsSegment m.constants) m.progress.job.arrays (outer_of m.progress.job t) fs → (w : Word) → Has (top fs).cells w → WordInOrder (IsSegment m.constants) m.progress.job.arrays (map known_of fs ++ outer_of m.progress.job t) (top fs).identity w
   words_of [] g w k = absurd k
-  words_of (f ∷ below) g w k = all_in (WordInOrder (IsSegment m.setting) m.course.job.arrays (map known_of (f ∷ below) ++ outer_of m.course.job t) f.identity) f.cells w g.0.0 k
+  words_of (f ∷ below) g w k = all_in (WordInOrder (IsSegment m.constants) m.progress.job.arrays (map known_of (f ∷ below) ++ outer_of m.progress.job t) f.identity) f.cells w g.0.0 k
 
   pub followed : (old : Cpu) (chosen : Tagged × Tagged) (g : Given x plan m t old chosen) → IsFollowed x plan m t chosen.0 (in_order g.first g.second).0
   followed old chosen g =
@@ -125,7 +125,7 @@ module _ (x : Storage) (plan : Plan) (s : Session) (m : Member) (t : Task) (o : 
       record { at = g.two.at; owner = (top t.frames).identity; is = g.two.to.is; ordered = words_of t.frames (running_in_order plan s m t o runs).1.frames w k }
 
 -- what is followed is no original
-plain_end : (h : Here) (w : Word) (e : End) → follow h w ≡ Ok e → is_original w ≡ false
+plain_end : (h : OperatorContext) (w : Word) (e : End) → follow h w ≡ Ok e → is_original w ≡ false
 plain_end h (Operand bits) e y = refl
 plain_end h (Name c) e y = refl
 plain_end h (Ref g d) e y = refl
@@ -140,7 +140,7 @@ plain_operand : (w : Word) (bits : ℕ) → w ≡ Operand bits → is_original w
 plain_operand w bits e = ap is_original e
 
 -- nor is any of the two, where one was followed and the other is an operand
-pub plain_two : (h : Here) (b a : Word) (e : End) (bits : ℕ) → follow h (in_order b a).0 ≡ Ok e → (in_order b a).1 ≡ Operand bits → NoOriginals (b ∷ a ∷ [])
+pub plain_two : (h : OperatorContext) (b a : Word) (e : End) (bits : ℕ) → follow h (in_order b a).0 ≡ Ok e → (in_order b a).1 ≡ Operand bits → NoOriginals (b ∷ a ∷ [])
 plain_two h (Operand w) a e bits f o = (refl, (plain_end h a e f, tt))
 plain_two h (Name c) a e bits f o = (refl, (plain_operand a bits o, tt))
 plain_two h (Ref g d) a e bits f o = (refl, (plain_operand a bits o, tt))

@@ -4,11 +4,11 @@ use Rattle.b67_word.specs.declared.faults.Fault.{Fault}
 use Rattle.b67_word.specs.declared.faults.Fault.TheVariants.{StackUnderflow, InvalidOperand}
 use Rattle.b67_model.specs.Answers.{Answer, ◌>>=◌}
 use Rattle.b67_model.specs.Words.{Word, number}
-use Rattle.b67_model.specs.State.{Member, Here}
+use Rattle.b67_model.specs.State.{SessionJob, OperatorContext}
 use Rattle.b67_model.specs.Indexing.{index_below, indexed, in_order}
 use Rattle.b67_refer.specs.declared.ends.End.{End}
 use Rattle.b67_refer.specs.declared.ends.End.TheVariants as end
-use Rattle.b67_layout.specs.Plan.{Plan}
+use Rattle.b67_layout.specs.Placement.{Placement}
 use Rattle.b67_exec_cells.specs.Elements.{HasElement}
 
 -- the array at an end
@@ -17,8 +17,8 @@ array_in (end.Array original) = Ok original
 array_in _ = Err InvalidOperand
 
 -- the array was found by the address of its original, or the fault
-abbrev pub FindsArray : Plan → Member → Result ℕ Fault → Answer ℕ → Type 0
-FindsArray plan m (Ok home) (Ok n) = (home ≡ plan.home m.setting.number n) × HasElement m.course.job n 0
+abbrev pub FindsArray : Placement → SessionJob → Result ℕ Fault → Answer ℕ → Type 0
+FindsArray plan m (Ok home) (Ok n) = (home ≡ plan.home m.constants.number n) × HasElement m.progress.job n 0
 FindsArray plan m (Err x) (Err y) = x ≡ y
 FindsArray plan m _ _ = ⊥
 
@@ -27,13 +27,13 @@ abbrev pub index_in : ℕ → ℕ → Answer ℕ
 index_in length bits = number bits >>= index_below length
 
 -- the element was found by the address of its array's original, or the fault
-abbrev pub FindsItem : Plan → Member → Result (ℕ × ℕ) Fault → Answer (ℕ × ℕ) → Type 0
-FindsItem plan m (Ok found) (Ok item) = (found.0 ≡ plan.home m.setting.number item.0) × (found.1 ≡ item.1) × HasElement m.course.job item.0 item.1
+abbrev pub FindsItem : Placement → SessionJob → Result (ℕ × ℕ) Fault → Answer (ℕ × ℕ) → Type 0
+FindsItem plan m (Ok found) (Ok item) = (found.0 ≡ plan.home m.constants.number item.0) × (found.1 ≡ item.1) × HasElement m.progress.job item.0 item.1
 FindsItem plan m (Err x) (Err y) = x ≡ y
 FindsItem plan m _ _ = ⊥
 
 -- the element that the two top ones of some cells give
-abbrev pub FindsTopItem : Plan → Member → Here → List Word → Result (ℕ × ℕ) Fault → Type 0
+abbrev pub FindsTopItem : Placement → SessionJob → OperatorContext → List Word → Result (ℕ × ℕ) Fault → Type 0
 FindsTopItem plan m h [] found = found ≡ Err StackUnderflow
 FindsTopItem plan m h (b ∷ []) found = found ≡ Err StackUnderflow
 FindsTopItem plan m h (b ∷ a ∷ rest) found = let two = in_order b a in FindsItem plan m found (indexed h two.0 two.1)

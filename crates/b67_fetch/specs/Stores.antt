@@ -4,20 +4,21 @@ use Rattle.b67_word.specs.Tagged.{Tagged}
 use Rattle.b67_word.specs.declared.couples.Place.{Place}
 use Rattle.b67_word.specs.declared.faults.Fault.TheVariants.{StackUnderflow, MemoryProtect}
 use Rattle.b67_model.specs.Answers.{Answer, ◌>>=◌}
-use Rattle.b67_model.specs.Arrays.{array, in_order}
+use Rattle.b67_model.specs.Arrays.{array}
+use Rattle.b67_model.specs.Indexing.{in_order}
 use Rattle.b67_model.specs.Chase.{End, follow}
 use Rattle.b67_model.specs.Words.{Word, operand}
-use Rattle.b67_model.specs.State.{Member, Here}
+use Rattle.b67_model.specs.State.{SessionJob, OperatorContext}
 use Rattle.b67_stack.specs.declared.Cpu.{Cpu}
 use Rattle.b67_stack.specs.declared.Step.{Step}
 use Rattle.b67_stack.specs.declared.Step.TheVariants as step
 use Rattle.b67_stack.specs.declared.What.TheVariants as what
-use Rattle.b67_stack.specs.Stands.{Storage}
-use Rattle.b67_layout.specs.Plan.{Plan}
+use Rattle.b67_stack.specs.Represents.{Storage}
+use Rattle.b67_layout.specs.Placement.{Placement}
 use Rattle.b67_layout.specs.Meets.{area_held}
 
 -- where a number among these cells is to be stored: where the other of the top two leads
-abbrev pub store_end : Here → List Word → Answer End
+abbrev pub store_end : OperatorContext → List Word → Answer End
 store_end h [] = Err StackUnderflow
 store_end h (b ∷ []) = Err StackUnderflow
 store_end h (b ∷ a ∷ rest) = do
@@ -26,12 +27,12 @@ store_end h (b ∷ a ∷ rest) = do
   follow h two.0
 
 -- the core address of an element that may be stored into: a writable array's, which is present
-abbrev pub ElementAt : Storage → Plan → Member → (n original index : ℕ) → Result ℕ Step → Type 0
+abbrev pub ElementAt : Storage → Placement → SessionJob → (n original index : ℕ) → Result ℕ Step → Type 0
 ElementAt x plan m n original index (Ok at) =
-    ((array m.course.job n).writable ≡ true) × ((area : ℕ) × (area_held x plan m.setting.number n ≡ Some area) × (at ≡ area + index))
-ElementAt x plan m n original index (Err (step.Fault fault)) = ((array m.course.job n).writable ≡ false) × (fault ≡ MemoryProtect)
+    ((array m.progress.job n).writable ≡ true) × ((area : ℕ) × (area_held x plan m.constants.number n ≡ Some area) × (at ≡ area + index))
+ElementAt x plan m n original index (Err (step.Fault fault)) = ((array m.progress.job n).writable ≡ false) × (fault ≡ MemoryProtect)
 ElementAt x plan m n original index (Err (step.Absent found)) =
-    ((array m.course.job n).writable ≡ true) × (area_held x plan m.setting.number n ≡ None) × (found ≡ what.Array original)
+    ((array m.progress.job n).writable ≡ true) × (area_held x plan m.constants.number n ≡ None) × (found ≡ what.Array original)
 ElementAt x plan m n original index (Err _) = ⊥
 
 -- a word stored at a core address, and the two top cells off the stack, or the word in their place

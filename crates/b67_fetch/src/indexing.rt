@@ -14,10 +14,9 @@ ghost use Rattle.b67_exec_cells.specs.Elements.{HasElement, HoldsElement};
 ghost use Rattle.b67_fetch.specs.Fetches.{IsFollowed, MayFollow};
 ghost use Rattle.b67_fetch.specs.Indexes.{array_in, FindsArray, index_in, FindsItem, FindsTopItem};
 
-use b67_exec_cells::{replace_cells, two_cells};
-use b67_ctl::DataDesc;
-use b67_exec_cells::elements::descriptor;
 use crate::loading::put_element;
+use b67_ctl::DataDesc;
+use b67_exec_cells::{array_descriptor, replace_cells, two_cells};
 use b67_refer::{End, chase, owner};
 use b67_stack::{Cpu, Step};
 use b67_word::{Fault, Place, Word};
@@ -88,7 +87,7 @@ fn item_at(cpu: &Cpu, reference: Word, index: Word) -> Result<(u32, u32), Fault>
         Ok(original) => original,
         Err(fault) => return Err(fault),
     };
-    match index_below(index, descriptor(cpu, original).length) {
+    match index_below(index, array_descriptor(cpu, original).length) {
         Ok(n) => Ok((original, n)),
         Err(fault) => Err(fault),
     }
@@ -114,9 +113,9 @@ fn top_item(cpu: &Cpu) -> Result<(u32, u32), Fault>
 /// The word of a copy of an array's descriptor, of one element.
 fn item_copy(cpu: &Cpu, original: u32, index: u32) -> Word
     requires { HoldsElement cpu.now original index }
-    ensures { ForEach cpu.now (λ x plan s m t. (n at : ℕ) → original ≡ plan.home m.setting.number n → HasElement m.course.job n index → IsWordOf x plan m t (Element n index) at result) }
+    ensures { ForEach cpu.now (λ x plan s m t. (n at : ℕ) → original ≡ plan.home m.constants.number n → HasElement m.progress.job n index → IsWordOf x plan m t (Element n index) at result) }
 {
-    let desc = descriptor(cpu, original);
+    let desc = array_descriptor(cpu, original);
     if desc.present {
         DataDesc {
             copy: true,

@@ -15,8 +15,8 @@ ghost use Rattle.b67_exec_cells.specs.Tops.{cells, NoOriginals};
 ghost use Rattle.b67_exec_cells.specs.Elements.{HasElement, HoldsElement};
 ghost use Rattle.b67_fetch.specs.Fetches.{IsFollowed, MayFollow, IsEnd, FindsEnd, SomeEnd, value_of, enters, enters_at, EntersOrMeets, top_end};
 
-use b67_exec_cells::{element, replace_cells, row_copy, top_cell};
 use b67_ctl::Irw;
+use b67_exec_cells::{element, replace_cells, row_copy, top_cell};
 use b67_refer::{End, chase};
 use b67_stack::{Cpu, Step, What};
 use b67_word::{Fault, Place, Word};
@@ -35,8 +35,8 @@ pub fn put_element(cpu: &mut Cpu, count: u32, original: u32, index: u32, next: P
     requires holds { HoldsElement cpu.old original index }
     requires cells { cpu.old.regs.f + count ≤ cpu.old.regs.s }
     ensures row { ForEach cpu.old (λ x plan s m t. (gone rest : List words.Word) (n : ℕ) → cells t ≡ gone ++ rest → length gone ≡ count → NoOriginals gone
-        → original ≡ plan.home m.setting.number n → HasElement m.course.job n index
-        → Meets x plan s m result cpu.old cpu.new (leaves_cells (here m t next) (Operand (element_of m.course.job n index) ∷ rest) (Some n))) }
+        → original ≡ plan.home m.constants.number n → HasElement m.progress.job n index
+        → Meets x plan s m result cpu.old cpu.new (leaves_cells (here m t next) (Operand (element_of m.progress.job n index) ∷ rest) (Some n))) }
 {
     if cpu.regs.s - count >= cpu.regs.losr {
         return Step::Fault(Fault::StackOverflow);

@@ -10,8 +10,7 @@ ghost use Rattle.b67_exec_cells.specs.Elements.{HasElement, HoldsElement};
 ghost use Rattle.b67_fetch.specs.Fetches.{enters_at, EntersOrMeets};
 ghost use Rattle.b67_fetch.specs.Stores.{store_end, ElementAt, stored};
 
-use b67_exec_cells::two_cells;
-use b67_exec_cells::elements::descriptor;
+use b67_exec_cells::{array_descriptor, two_cells};
 use b67_refer::{End, chase};
 use b67_stack::{Cpu, Step, What};
 use b67_word::{Fault, Place, Word};
@@ -20,9 +19,9 @@ use b67_word::{Fault, Place, Word};
 /// array is read-only, then that it is absent.
 fn element_at(cpu: &Cpu, original: u32, index: u32) -> Result<u32, Step>
     requires { HoldsElement cpu.now original index }
-    ensures { ForEach cpu.now (λ x plan s m t. (n : ℕ) → original ≡ plan.home m.setting.number n → HasElement m.course.job n index → ElementAt x plan m n original index result) }
+    ensures { ForEach cpu.now (λ x plan s m t. (n : ℕ) → original ≡ plan.home m.constants.number n → HasElement m.progress.job n index → ElementAt x plan m n original index result) }
 {
-    let desc = descriptor(cpu, original);
+    let desc = array_descriptor(cpu, original);
     if desc.read_only {
         return Err(Step::Fault(Fault::MemoryProtect));
     }

@@ -5,12 +5,12 @@ ghost use Rattle.b67_ctl.specs.Layout.{IsSirw};
 ghost use Rattle.b67_model.specs.InOrder.{NamesEntered};
 ghost use Rattle.b67_model.specs.Rows as rows;
 ghost use Rattle.b67_layout.specs.Meets.{here, Meets, RunsSome, ForEach};
-ghost use Rattle.b67_refer.specs.Scene.{Scene};
+ghost use Rattle.b67_refer.specs.RunningContext.{RunningContext};
 ghost use Rattle.b67_refer.specs.Cells.{reach, view, frame_at_core};
 
-use b67_exec_cells::{replace_cells, top_cell};
 use b67_core::Core;
 use b67_ctl::{Irw, Regs, Sirw};
+use b67_exec_cells::{replace_cells, top_cell};
 use b67_exec_operands::go_on;
 use b67_refer::cell_of;
 use b67_stack::{Cpu, Step};
@@ -19,10 +19,10 @@ use b67_word::{Fault, Place, couple_of};
 /// The stuffed reference to an offset of the activation record whose mark is at an address: in a slot, the dictionary's
 /// or the MCP's.
 fn stuffed(core: &Core, regs: &Regs, base: u32, offset: u16) -> Sirw
-    requires frame { (a : Scene core.now regs.now) × (f : ℕ) × NamesEntered (reach a) f × (base ≡ frame_at_core a f) }
+    requires frame { (a : RunningContext core.now regs.now) × (f : ℕ) × NamesEntered (reach a) f × (base ≡ frame_at_core a f) }
     requires offset { offset < 2 ^ 13 }
     ensures fits { IsSirw result }
-    ensures spot { (a : Scene core.now regs.now) (f : ℕ) → NamesEntered (reach a) f → base ≡ frame_at_core a f
+    ensures spot { (a : RunningContext core.now regs.now) (f : ℕ) → NamesEntered (reach a) f → base ≡ frame_at_core a f
         → result ≡ record { stack = (view a f).stack; disp = (view a f).disp; offset = offset } }
 {
     if base == 0 {

@@ -1,5 +1,5 @@
 -- What a card says is in range.
-use Rattle.std.proofs.Common.{◌≡◌, ℕ, ◌≤◌, Bool, true, false, List, [], ◌∷◌, length, Option, Some, None, Ok, Err, Result, refl, ap, subst, arith, ⊎_elim, cond}
+use Rattle.std.proofs.Common.{◌≡◌, ℕ, ◌≤◌, Bool, true, false, List, [], ◌∷◌, length, Option, Some, None, Ok, refl, ap, subst, arith, ⊎_elim, cond}
 use Rattle.std.specs.Prelude.{nat_le, nat_lt, ◌&&◌, ◌||◌, IsTrue, ⊤}
 use Rattle.std.specs.List.{list_all}
 use Rattle.std.specs.Char.{is_ascii, is_ascii_uppercase, is_ascii_digit}
@@ -8,9 +8,10 @@ use Rattle.std.proofs.lemmas.Option.{same_Some, none-some}
 use Rattle.std.proofs.lemmas.Bool.{and_parts, and_from, or_cases, leb-true, ltb-true, lt-ltb}
 use Rattle.b67_model_text.specs.declared.deck.Keyword as keyword
 use Rattle.b67_model_text.specs.declared.deck.Keyword.TheVariants as keywords
-use Rattle.b67_model_text.specs.Answers.{Answer, ◌>>=◌, ◌>>◌, needs, or_reason}
+use Rattle.b67_model_text.specs.Answers.{or_reason}
 use Rattle.b67_model_text.specs.Cards.{words, natural, is_name, name_in, is_empty}
 use Rattle.b67_model_text.specs.Command.{Command, Stack, Quantum, Halt, Switch, Job, Limit, Asm, Hex, Data, End, Plain, keyword_of, number_in, one_number, target, switch, says, job_named, job, alone, command_of, is_command, plain, said}
+use Rattle.b67_model_text.proofs.Answers.{after_both, err-ok}
 
 pub record NumberWithin (low high n : ℕ) : Type 0 where
   pub from : low ≤ n
@@ -121,18 +122,6 @@ says_in_range keywords.Asm ps c e = alone_in Asm c ps tt e
 says_in_range keywords.Hex ps c e = alone_in Hex c ps tt e
 says_in_range keywords.Data ps c e = alone_in Data c ps tt e
 says_in_range keywords.End ps c e = alone_in End c ps tt e
-
--- answers that follow each other
-pub err-ok : {A R : Type 0} (r : R) (a : A) (P : Type 0) → ◌≡◌ {A = Result A R} (Err r) (Ok a) → P
-err-ok r a P e = absurd (let z : ⊥ = cc in z)
-
-pub after_both : {A B R : Type 0} (r : Result A R) (go : A → Result B R) (b : B) → (r >>= go) ≡ Ok b → (a : A) × (r ≡ Ok a) × (go a ≡ Ok b)
-after_both (Ok a) go b e = (a, refl, e)
-after_both (Err r) go b e = err-ok r b _ e
-
-pub after_needs : {B : Type 0} (t : Bool) (reason : ℕ) (rest : Answer B) (b : B) → (needs t reason >> rest) ≡ Ok b → (t ≡ true) × (rest ≡ Ok b)
-after_needs true reason rest b e = (refl, e)
-after_needs false reason rest b e = err-ok reason b _ e
 
 given : {A : Type 0} (o : Option A) (reason : ℕ) (a : A) → or_reason o reason ≡ Ok a → o ≡ Some a
 given None reason a e = err-ok reason a _ e

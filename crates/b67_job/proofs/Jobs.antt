@@ -11,8 +11,9 @@ use Rattle.b67_model_text.specs.Command.{Command, Stack, Job, Limit, Data, numbe
 use Rattle.b67_model_text.specs.Placing.{stack_in, switch_in, name_in, first_of, operand_in, operands_in, numbers}
 use Rattle.b67_model_text.specs.Answers.{◌>>=◌}
 use Rattle.b67_model_text.specs.Deck.{Said, command_in, within_limit, sayings, limit_in, body, numbers_in, numbers_at, data_numbers, limit_behind, job_of, is_job, own_cards, jobs, deck, deck_of}
+use Rattle.b67_model_text.proofs.Answers.{after_both}
 use Rattle.b67_session_open.specs.Decks.{JobInRange, DeckInRange}
-use Rattle.b67_job.proofs.Commands.{NumberWithin, NameWithin, CommandInRange, number_within, after_both}
+use Rattle.b67_job.proofs.Commands.{NumberWithin, NameWithin, CommandInRange, number_within}
 use Rattle.b67_job.proofs.Sayings.{Read, read, in_range_onto, follows_none, rise_onto, jobs_in, few_jobs, jobs_onto}
 
 abbrev InRange : Said → Type 0

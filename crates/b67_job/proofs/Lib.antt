@@ -2,7 +2,6 @@ pub mod Commands
 pub mod Sayings
 pub mod Jobs
 pub mod Prepared
-pub mod Stays
 pub mod Parts
 pub mod Reached
 pub mod Opened

@@ -5,7 +5,7 @@ use Rattle.b67_codefile.specs.declared.file.Codefile.{Codefile}
 use Rattle.b67_codefile.specs.Meaning.{program_of}
 use Rattle.b67_model_text.specs.declared.deck.Job.{Job}
 use Rattle.b67_model_text.specs.declared.deck.Deck.{Deck}
-use Rattle.b67_model.specs.State.{Entered, Ready, Task, Member}
+use Rattle.b67_model.specs.State.{Entered, Ready, Task, SessionJob}
 use Rattle.b67_model.specs.Program.{Program, opened}
 use Rattle.b67_model.specs.Schedule.{Switch}
 use Rattle.b67_model.specs.InOrder.{IsInOrderButPlaces}
@@ -15,19 +15,18 @@ use Rattle.b67_law_order_runs.proofs.Sessions.{runs_stay_in_order}
 use Rattle.b67_law_made.proofs.Makers.{runs_make_their_words}
 use Rattle.b67_law_order_steps.proofs.Sessions.{starts_are_segments}
 use Rattle.b67_single.specs.Single.{IsSingle}
-use Rattle.b67_session_open.specs.Stored.{told_after}
+use Rattle.b67_layout_storage.specs.Machine.{content_after, Says}
 use Rattle.b67_session_open.specs.Opened.{opening_plan}
 use Rattle.b67_task_tables.specs.declared.tables.Machine.{Machine}
 use Rattle.b67_task_tables.specs.Tables.{switch_of}
 use Rattle.b67_session_open.specs.Decks.{opening_of, openings_of, session_of, DeckInRange, IsLoaded}
 use Rattle.b67_session_open.specs.Opens.{OpensAs}
 use Rattle.b67_session_open.proofs.Decks.{deck_within}
-use Rattle.b67_layout_storage.specs.Machine.{Says, retold}
 use Rattle.b67_session.specs.Slices.{IsLone}
 use Rattle.b67_job.specs.States.{StatesInOrder}
 
 -- the first job of a deck, and its first task
-abbrev pub member_of : ℕ → Job → Program → Member
+abbrev pub member_of : ℕ → Job → Program → SessionJob
 member_of stack j p = opened 1 p stack j.limit j.numbers
 
 abbrev pub task_of : Task
@@ -61,14 +60,14 @@ states_in_order d fs n range loaded = record {
 }
 
 -- what is known of the sectors is what the device tells, if anything is known
-pub says_after : (before now : Option (List (List ℕ))) → Says (told_after before now) now
+pub says_after : (before now : Option (List (List ℕ))) → Says (content_after before now) now
 says_after None now = tt
 says_after (Some all) None = tt
 says_after (Some all) (Some other) = refl
 
-pub lone_opens : (d : Deck) (j : Job) (f : Codefile) (known : Option (List (List ℕ))) (core : ℕ) (k : Machine) → d.jobs ≡ j ∷ [] → DeckInRange d → IsLoaded f
-    → OpensAs known d (program_of f ∷ []) core k → IsLone known k (session_of d (program_of f ∷ [])) (member_of d.stack j (program_of f)) task_of
-lone_opens d j f known core k e range loaded o = record {
+pub lone_opens : (d : Deck) (j : Job) (f : Codefile) (known : Option (List (List ℕ))) (core sectors : ℕ) (k : Machine) → d.jobs ≡ j ∷ [] → DeckInRange d → IsLoaded f
+    → OpensAs known d (program_of f ∷ []) core sectors k → IsLone known k (session_of d (program_of f ∷ [])) (member_of d.stack j (program_of f)) task_of
+lone_opens d j f known core sectors k e range loaded o = record {
   storage = o.storage;
   plan = opening_plan d.stack (program_of f ∷ []);
   ordered = ordered_opens d (f ∷ []) range (loaded, tt);
@@ -77,16 +76,12 @@ lone_opens d j f known core k e range loaded o = record {
 }
 
 -- where the device told its sectors, and still does, these are known, and then known again
-pub known_after : (before now : Option (List (List ℕ))) → before ≢ None → now ≢ None → told_after before now ≢ None
+pub known_after : (before now : Option (List (List ℕ))) → before ≢ None → now ≢ None → content_after before now ≢ None
 known_after None now some other e = some refl
 known_after (Some all) now some other e = other e
 
-pub told_is : (before now : Option (List (List ℕ))) → before ≢ None → told_after before now ≡ now
-told_is None now some = absurd (some refl)
-told_is (Some all) None some = refl
-told_is (Some all) (Some other) some = refl
-
-pub retold_after : (before now later : Option (List (List ℕ))) → before ≢ None → now ≢ None → retold (told_after before now) later ≡ later
-retold_after None now later some other = absurd (some refl)
-retold_after (Some all) None later some other = absurd (other refl)
-retold_after (Some all) (Some more) later some other = refl
+-- what was known of a device that still told it, is known as it is now
+pub known_later : (before now later : Option (List (List ℕ))) → (before ≢ None → now ≢ None) → content_after (content_after before now) later ≡ content_after before later
+known_later None now later still = refl
+known_later (Some all) None later still = absurd (still (λ e. cc) refl)
+known_later (Some all) (Some more) later still = refl

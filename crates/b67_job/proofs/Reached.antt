@@ -1,31 +1,35 @@
 -- How far the steps of a slice came: whole steps, or all but the line of LIMIT.
-use Rattle.std.proofs.Common.{◌≡◌, ◌≢◌, ℕ, ◌+◌, ◌<◌, List, [], ◌∷◌, ◌++◌, length, refl, sym, ap, ◌∙◌, subst, arith, append_assoc, Option, Some, None}
+use Rattle.std.proofs.Common.{◌≡◌, ◌≢◌, ℕ, ◌+◌, ◌<◌, List, [], ◌∷◌, ◌++◌, length, refl, sym, ap, ◌∙◌, subst, arith, append_assoc, Option, Some, None, ◌≤◌}
 use Rattle.std.proofs.lemmas.Grind.{flat_map-append}
 use Rattle.std.specs.List.{AllByRecursion}
-use Rattle.b67_model.specs.State.{Setting, Task, Member}
+use Rattle.b67_model.specs.State.{JobConstants, Task, SessionJob}
 use Rattle.b67_model.specs.Lines.{run_text}
 use Rattle.b67_model.specs.Schedule.{Session}
 use Rattle.b67_model.specs.InOrder.{Starts, JobInOrder, SessionInOrder}
-use Rattle.b67_model.specs.Run.{RunLine, Moment, lines, after}
+use Rattle.b67_model.specs.Run.{RunLine, StepResult, lines, after}
 use Rattle.b67_single.specs.Single.{IsSingle}
 use Rattle.b67_single.proofs.Runs.{Came, came-more}
 use Rattle.b67_session.specs.Slices.{Reaches, whole, but_limit}
+use Rattle.b67_session.proofs.Texts.{run_text-append}
 use Rattle.b67_session_lines.specs.Moments.{first_part, last_part, due}
 use Rattle.b67_job.proofs.Parts.{no_last, below_is_not_at, is_at, parts}
-
-pub run_text-then : (xs ys : List RunLine) → run_text (xs ++ ys) ≡ run_text xs ++ run_text ys
-run_text-then xs ys = flat_map-append _ xs ys
 
 not_none : {A : Type 0} (x : A) → x ∷ [] ≢ []
 not_none x e = cc
 
 -- a job whose one task lives has made fewer operators than its limit
-pub below : (P : Setting → Starts) (s : Session) (m : Member) (t : Task) → SessionInOrder P s → IsSingle s m t → m.course.made < m.setting.limit
+pub below : (P : JobConstants → Starts) (s : Session) (m : SessionJob) (t : Task) → SessionInOrder P s → IsSingle s m t → m.progress.made < m.constants.limit
 below P s m t order single =
-    let job = (subst (λ (ms : List Member). AllByRecursion (λ (m : Member). JobInOrder (P m.setting) m.setting m.course) ms) single.jobs order.jobs).0 in
+    let job = (subst (λ (ms : List SessionJob). AllByRecursion (λ (m : SessionJob). JobInOrder (P m.constants) m.constants m.progress) ms) single.jobs order.jobs).0 in
     job.below_limit (λ none. not_none t (sym single.tasks ∙ none))
 
-pub single_below : (s : Session) (m : Member) (t : Task) → IsSingle s m t → m.course.made < m.setting.limit → last_part s ≡ None
+-- and the limit is one that a job may have
+pub limit_high : (P : JobConstants → Starts) (s : Session) (m : SessionJob) (t : Task) → SessionInOrder P s → IsSingle s m t → m.constants.limit ≤ 100000000
+limit_high P s m t order single =
+    let job = (subst (λ (ms : List SessionJob). AllByRecursion (λ (m : SessionJob). JobInOrder (P m.constants) m.constants m.progress) ms) single.jobs order.jobs).0 in
+    job.unchanging.limit
+
+pub single_below : (s : Session) (m : SessionJob) (t : Task) → IsSingle s m t → m.progress.made < m.constants.limit → last_part s ≡ None
 single_below s m t single low = no_last s (λ x has. is_at s m x single.jobs (below_is_not_at m low) has)
 
 -- whole steps, where no last part is due
@@ -36,15 +40,15 @@ came_whole first steps s printed (but_limit k part e f g some l) none = absurd (
 -- all but the last part of the last step
 pub record Limited (first : Session) (steps : ℕ) (s : Session) (printed : List RunLine) : Type 0 where
   pub before : ℕ
-  pub part : Moment
+  pub part : StepResult
   pub one_more : steps ≡ before + 1
   pub is_first : first_part (after before first) ≡ Some part
   pub session : part.session ≡ s
   pub some : last_part s ≢ None
   pub lines_are : lines before first ++ part.lines ≡ printed
 
-pub came_limited : (P : Setting → Starts) (first : Session) (steps : ℕ) (s : Session) (printed : List RunLine) (m : Member) (t : Task) → SessionInOrder P (after steps first) → IsSingle s m t
-    → m.course.made ≡ m.setting.limit → Reaches first steps s printed → Limited first steps s printed
+pub came_limited : (P : JobConstants → Starts) (first : Session) (steps : ℕ) (s : Session) (printed : List RunLine) (m : SessionJob) (t : Task) → SessionInOrder P (after steps first) → IsSingle s m t
+    → m.progress.made ≡ m.constants.limit → Reaches first steps s printed → Limited first steps s printed
 came_limited P first steps s printed m t order single limit (whole a l) =
     let low = below P s m t (subst (SessionInOrder P) a order) single in
     absurd (omega (arith, limit, low))
@@ -52,7 +56,7 @@ came_limited P first steps s printed m t order single limit (but_limit k part e 
 
 -- ---- what is due begins the text of the next step, or ends that of the last one
 
-due_by : (s : Session) (o : Option Moment) → first_part s ≡ o → last_part s ≡ None → 0 < length (due s) → (p : Moment) × (first_part s ≡ Some p) × (due s ≡ run_text p.lines)
+due_by : (s : Session) (o : Option StepResult) → first_part s ≡ o → last_part s ≡ None → 0 < length (due s) → (p : StepResult) × (first_part s ≡ Some p) × (due s ≡ run_text p.lines)
 due_by s None e none some = absurd (let long : length (due s) ≡ 0 = rw (none, e) refl in omega (arith, long, some))
 due_by s (Some p) e none some = (p, e, rw (none, e) refl)
 
@@ -65,17 +69,17 @@ begins_step first steps s printed c none some =
       run_text p.more,
       ap (λ (x : List ℕ). (run_text printed ++ x) ++ run_text p.more) d.2
           ∙ append_assoc (run_text printed) (run_text d.0.lines) (run_text p.more)
-          ∙ ap (λ (x : List ℕ). run_text printed ++ x) (sym (run_text-then d.0.lines p.more))
+          ∙ ap (λ (x : List ℕ). run_text printed ++ x) (sym (run_text-append d.0.lines p.more))
           ∙ ap (λ (x : List RunLine). run_text printed ++ run_text x) (sym p.begins)
-          ∙ sym (run_text-then printed p.moment.lines)
+          ∙ sym (run_text-append printed p.moment.lines)
           ∙ ap run_text (sym one_more.lines_are),
     )
 
-last_by : (s : Session) (o : Option Moment) → last_part s ≡ o → last_part s ≢ None → (l : Moment) × (last_part s ≡ Some l) × (due s ≡ run_text l.lines)
+last_by : (s : Session) (o : Option StepResult) → last_part s ≡ o → last_part s ≢ None → (l : StepResult) × (last_part s ≡ Some l) × (due s ≡ run_text l.lines)
 last_by s None e some = absurd (some e)
 last_by s (Some l) e some = (l, e, rw e refl)
 
-pub ends_step : (first : Session) (before : ℕ) (part : Moment) → first_part (after before first) ≡ Some part → last_part part.session ≢ None
+pub ends_step : (first : Session) (before : ℕ) (part : StepResult) → first_part (after before first) ≡ Some part → last_part part.session ≢ None
     → (run_text (lines before first) ++ run_text part.lines) ++ due part.session ≡ run_text (lines (before + 1) first)
 ends_step first before part e some =
     let l = last_by part.session (last_part part.session) refl some in
@@ -85,7 +89,7 @@ ends_step first before part e some =
     let printed = run_text (lines before first) in
     ap (λ (x : List ℕ). (printed ++ run_text part.lines) ++ x) l.2
     ∙ append_assoc printed (run_text part.lines) (run_text l.0.lines)
-    ∙ ap (λ (x : List ℕ). printed ++ x) (sym (run_text-then part.lines l.0.lines))
+    ∙ ap (λ (x : List ℕ). printed ++ x) (sym (run_text-append part.lines l.0.lines))
     ∙ ap (λ (x : List RunLine). printed ++ run_text x) (sym (p.both l.0 l.1))
-    ∙ sym (run_text-then (lines before first) p.moment.lines)
+    ∙ sym (run_text-append (lines before first) p.moment.lines)
     ∙ ap run_text (sym one_more.lines_are)

@@ -11,9 +11,10 @@ use Rattle.b67_model_text.specs.Answers.{Answer, ◌>>=◌, ◌>>◌, needs}
 use Rattle.b67_model_text.specs.Command.{Command, Switch, Job, said}
 use Rattle.b67_model_text.specs.Placing.{stand, may_stand, lacks_program, is_repeated, rises, has_room, arranged, is_well_formed, placed, is_above, first_of, switch_in, name_in}
 use Rattle.b67_model_text.specs.Deck.{Said, Refusal, of_card, command_in, said_after, sayings, is_between, number_of_last}
+use Rattle.b67_model_text.proofs.Answers.{after_both, after_needs, err-ok}
 use Rattle.b67_model.specs.InOrder.{SwitchesRise}
 use Rattle.b67_task_tables.specs.Tables.{switch_of}
-use Rattle.b67_job.proofs.Commands.{CommandInRange, said_in_range, err-ok, after_both, after_needs}
+use Rattle.b67_job.proofs.Commands.{CommandInRange, said_in_range}
 
 -- a card behind those before it
 pub record Stood (before : List Command) (c : Command) : Type 0 where

@@ -1,9 +1,9 @@
 -- How a text and a deck are judged, and how a judgement is answered.
 use Rattle.std.proofs.Common.{◌≡◌, ◌≤◌, ◌<◌, ◌+◌, inl, inr, true, false, ℕ, List, length, map, take, drop, min, ◌++◌, Bool, Result, refl, sym, ap, ◌∙◌, subst, arith, Option, Some, None, Ok, Err}
-use Rattle.std.specs.Prelude.{nat_lt, is_some}
+use Rattle.std.specs.Prelude.{nat_lt, is_some, count_by, ◌==◌}
 use Rattle.std.proofs.lemmas.Bool.{lt-ltb}
 use Rattle.std.proofs.lemmas.Bool.Decides.{nat_tests}
-use Rattle.std.proofs.lemmas.List.{length-take, length-map, take_all, drop_all, take-append-drop}
+use Rattle.std.proofs.lemmas.List.{length-take, length-map, take_all, drop_all, take-append-drop, take-take}
 use denote.Ref.{Bor}
 use Rattle.b67_io.specs.Causes.{Rose}
 use Rattle.b67_codefile.specs.Meaning.{program_of}
@@ -20,10 +20,10 @@ use Rattle.b67_job_admit.specs.Meets.{IsLoaded, prepared_of}
 use Rattle.b67_job_admit.specs.Told.{refusal_text}
 use Rattle.b67_job_admit.specs.Verdicts.{Verdict}
 use Rattle.b67_job_admit.specs.CommandMeets.{IsJudged}
-use Rattle.b67_job_admit.proofs.Judged.{too_long}
+use Rattle.b67_job_admit.proofs.Judged.{too_long, check_long, asm_long}
 use Rattle.b67_session_open.specs.Decks.{DeckInRange}
 use Rattle.b67_job.proofs.Prepared.{prepared_in_range}
-use Rattle.b67_job.specs.Device.{Device}
+use Rattle.b67_job.specs.Device.{Device, IsUntouched}
 use Rattle.b67_job.specs.Lines.{memory_text}
 use Rattle.b67_job.specs.Texts.{only}
 use Rattle.b67_job.specs.Runs.{run_stops, step_is_cut}
@@ -32,7 +32,7 @@ use Rattle.b67_job.specs.Command.{command_of}
 use Rattle.b67_job.specs.declared.command.CommandLine.{CommandLine}
 use Rattle.b67_job.specs.declared.command.CommandLine.TheVariants as lines
 use Rattle.b67_job.specs.Judgement.{Judgement, Refused, Runs, Prints, missing, runs_unless, deck_judgement, judgement, printed, asked}
-use Rattle.b67_job.specs.Due.{WasRead, refusal_due, print_due, run_due, reading_due, memory_due, Answered, answered, cut_in_step, Serves, RefusalEnds, TextEnds, DeckEnds, reading_text}
+use Rattle.b67_job.specs.Due.{WasRead, refusal_due, print_due, run_due, reading_due, memory_due, Answered, answered, cut_in_step, Serves, RefusalEnds, TextEnds, Writes, DeckEnds, reading_text}
 
 -- ---- decks
 
@@ -62,35 +62,77 @@ loaded_in_range left faults deck deck' loaded h =
     let range = prepared_in_range h.0 loaded.deck (map program_of loaded.programs) h.2 in
     (range.0, sym (length-map loaded.programs program_of) ∙ range.1)
 
--- first bytes of a source are all that it had, or more than a deck may have
-pub was_read : {S : Type 0} {left : S → Option (List ℕ)} {deck deck' : S} {bytes : List ℕ} → GaveFirst left (limit + 1) deck deck' bytes → WasRead left deck deck' bytes
-was_read {left = left} {deck = deck} {deck' = deck'} {bytes = bytes} first = by_test (nat_lt limit (length bytes)) refl
+-- ---- what was read
+
+take_first : (n : ℕ) (text : List ℕ) → take n (take (n + 1) text) ≡ take n text
+take_first n text = take-take n (n + 1) text (omega arith)
+
+-- a text past the limit is refused as its first bytes are
+asked_long : (command : CommandLine) (text : List ℕ) → limit < length text → asked command text ≡ Refused (too_long text)
+asked_long (lines.Run core) text long = judged_long text long
+asked_long lines.Asm text long = ap printed (asm_long text long)
+asked_long lines.Check text long = ap printed (check_long text long)
+
+asked_alike : (command : CommandLine) (text : List ℕ) → limit < length text → asked command (take (limit + 1) text) ≡ asked command text
+asked_alike command text long =
+    let l : length (take (limit + 1) text) ≡ min (limit + 1) (length text) = length-take (limit + 1) text in
+    let longer : limit < length (take (limit + 1) text) = omega (arith, l, long) in
+    asked_long command (take (limit + 1) text) longer
+    ∙ ap (λ (xs : List ℕ). Refused (refusals.Deck (count_by (λ b. b == 10) xs + 1) 14)) (take_first limit text)
+    ∙ sym (asked_long command text long)
+
+-- what was read, and is refused
+abbrev ReadAndRefused : {S : Type 0} → (S → Option (List ℕ)) → S → S → CommandLine → Refusal → Type 0
+ReadAndRefused left deck deck' command r = (bytes : List ℕ) × WasRead left deck deck' bytes × (asked command bytes ≡ Refused r)
+
+-- first bytes of a source are all that it had, or one more than a deck may have
+was_read : {S : Type 0} {left : S → Option (List ℕ)} {deck deck' : S} {bytes : List ℕ} (command : CommandLine) (r : Refusal) → GaveFirst left (limit + 1) deck deck' bytes → asked command bytes ≡ Refused r
+    → ReadAndRefused left deck deck' command r
+was_read {left = left} {deck = deck} {deck' = deck'} {bytes = bytes} command r first refused = by_test (nat_lt limit (length bytes)) refl
   where
     all_of : (before : List ℕ) → length bytes ≤ limit → bytes ≡ take (limit + 1) before → length before ≤ limit + 1
     all_of before short e =
         let l : length bytes ≡ min (limit + 1) (length before) = ap length e ∙ length-take (limit + 1) before in
         omega (arith, short, l)
 
-    by_test : (b : Bool) → nat_lt limit (length bytes) ≡ b → WasRead left deck deck' bytes
+    front : (before : List ℕ) → bytes ≡ take (limit + 1) before → take (limit + 1) bytes ≡ take (limit + 1) before
+    front before e = ap (take (limit + 1)) e ∙ take-take (limit + 1) (limit + 1) before (omega arith)
+
+    by_test : (b : Bool) → nat_lt limit (length bytes) ≡ b → ReadAndRefused left deck deck' command r
     by_test true t =
         let long : limit < length bytes = grind (arith, nat_tests) in
-        inr (record { told = λ before e. let h = first.told before e in (drop (limit + 1) before, sym (take-append-drop (limit + 1) before) ∙ ap (λ (xs : List ℕ). xs ++ drop (limit + 1) before) (sym h.0), h.1) }, long)
+        let l : length (take (limit + 1) bytes) ≡ min (limit + 1) (length bytes) = length-take (limit + 1) bytes in
+        let exactly : length (take (limit + 1) bytes) ≡ limit + 1 = omega (arith, l, long) in (
+          take (limit + 1) bytes,
+          inr (
+            record {
+              told = λ before e.
+                  let h = first.told before e in
+                  (drop (limit + 1) before, sym (take-append-drop (limit + 1) before) ∙ ap (λ (xs : List ℕ). xs ++ drop (limit + 1) before) (sym (front before h.0)), h.1);
+            },
+            exactly,
+          ),
+          asked_alike command bytes long ∙ refused,
+        )
     by_test false t =
-        let short : length bytes ≤ limit = grind (arith, nat_tests) in
-        inl (record {
-          told = λ before e.
-              let h = first.told before e in
-              let few = all_of before short h.0 in
-              (sym (h.0 ∙ take_all (limit + 1) before few), h.1 ∙ ap Some (drop_all (limit + 1) before few));
-        })
+        let short : length bytes ≤ limit = grind (arith, nat_tests) in (
+          bytes,
+          inl (record {
+            told = λ before e.
+                let h = first.told before e in
+                let few = all_of before short h.0 in
+                (sym (h.0 ∙ take_all (limit + 1) before few), h.1 ∙ ap Some (drop_all (limit + 1) before few));
+          }),
+          refused,
+        )
 
 -- ---- commands
 
-commanded : (words : List (Bor (List ℕ))) (command : CommandLine) → command_of words ≡ Some command → is_some (command_of words) ≡ true
+pub commanded : (words : List (Bor (List ℕ))) (command : CommandLine) → command_of words ≡ Some command → is_some (command_of words) ≡ true
 commanded words command e = ap is_some e
 
 -- the same of a result that has this status and no machine
-pub without : {S K : Type 0} (words : List (Bor (List ℕ))) (left : S → Option (List ℕ)) (source_faults : S → ℕ) (deck deck' : S) (d : Device) (taken : K → Option (List ℕ)) (faults : K → ℕ) (old new : K)
+pub without : {S B K : Type 0} (words : List (Bor (List ℕ))) (left : S → Option (List ℕ)) (source_faults : S → ℕ) (deck deck' : S) (d : Device B) (taken : K → Option (List ℕ)) (faults : K → ℕ) (old new : K)
     (machine : Option Machine) (status answer : ℕ) → machine ≡ None → status ≡ answer → Answered words left source_faults deck deck' d None taken faults old new answer
     → Answered words left source_faults deck deck' d machine taken faults old new status
 without words left source_faults deck deck' d taken faults old new machine status answer none same a =
@@ -103,27 +145,29 @@ IsUnserved left source_faults deck deck' command (admits.Refused r) = (bytes : L
 IsUnserved left source_faults deck deck' command admits.SourceFault = Rose source_faults deck deck'
 IsUnserved left source_faults deck deck' command admits.Memory = Unit {0}
 
-module _ {S K : Type 0} {left : S → Option (List ℕ)} {source_faults : S → ℕ} {deck deck' : S} {taken : K → Option (List ℕ)} {faults : K → ℕ} {old new : K} where
-  unserved : (d : Device) (command : CommandLine) (fault : AdmitFault) (answer : ℕ) → IsUnserved left source_faults deck deck' command fault → RefusalEnds fault taken faults old new answer
+module _ {S B K : Type 0} {left : S → Option (List ℕ)} {source_faults : S → ℕ} {deck deck' : S} {taken : K → Option (List ℕ)} {faults : K → ℕ} {old new : K} where
+  unserved : (d : Device B) (command : CommandLine) (fault : AdmitFault) (answer : ℕ) → IsUntouched d → IsUnserved left source_faults deck deck' command fault → RefusalEnds fault taken faults old new answer
       → Serves command left source_faults deck deck' d None taken faults old new answer
-  unserved d command (admits.Refused r) answer h ends = λ words e. answered 2 (only (refusal_text r)) (refusal_due command h.0 r e (was_read h.1) h.2 refl refl refl) (closes_only ends)
-  unserved d command admits.SourceFault answer rose ends = λ words e. answered 7 (only reading_text) (reading_due (commanded words command e) rose refl refl refl) (closes_only ends)
-  unserved d command admits.Memory answer free ends = λ words e. answered 9 (only memory_text) (memory_due (commanded words command e) refl refl refl) (closes_only ends)
+  unserved d command (admits.Refused r) answer same h ends = λ words e.
+      let read = was_read command r h.1 h.2 in
+      answered 2 (only (refusal_text r)) (refusal_due command read.0 r e read.1 same read.2 refl refl refl) (closes_only ends)
+  unserved d command admits.SourceFault answer same rose ends = λ words e. answered 7 (only reading_text) (reading_due (commanded words command e) rose same refl refl refl) (closes_only ends)
+  unserved d command admits.Memory answer same free ends = λ words e. answered 9 (only memory_text) (memory_due (commanded words command e) same refl refl refl) (closes_only ends)
 
   -- a deck that was loaded, or wasn't
-  pub served_deck : (d : Device) (core : ℕ) (loaded : Loaded) (machine : Option Machine) (answer : ℕ) → IsLoaded left source_faults deck deck' (Ok loaded)
+  pub served_deck : (d : Device B) (core : ℕ) (loaded : Loaded) (machine : Option Machine) (answer : ℕ) → IsLoaded left source_faults deck deck' (Ok loaded)
       → DeckEnds (deck_judgement (prepared_of loaded)) taken faults d core machine old new answer → Serves (lines.Run core) left source_faults deck deck' d machine taken faults old new answer
   served_deck d core loaded machine answer h ends = by_judgement (deck_judgement (prepared_of loaded)) (prepared_is h.0 (prepared_of loaded) h.2) ends
     where
       by_judgement : (j : Judgement) → judgement h.0 ≡ j → DeckEnds j taken faults d core machine old new answer → Serves (lines.Run core) left source_faults deck deck' d machine taken faults old new answer
-      by_judgement (Refused r) is ends = λ words e. answered 2 (only (refusal_text r)) (refusal_due (lines.Run core) h.0 r e (inl h.1) is ends.0 refl refl) (closes_only ends.1)
+      by_judgement (Refused r) is ends = λ words e. answered 2 (only (refusal_text r)) (refusal_due (lines.Run core) h.0 r e (inl h.1) ends.1 is ends.0 refl refl) (closes_only ends.2)
       by_judgement (Runs p) is (run_stops status text stops ends) = λ words e. answered status text (run_due core p (record { bytes = h.0; command = e; read = h.1; judged = is }) stops) ends
       by_judgement (Runs p) is (step_is_cut text count printing a rose part) = λ words e. cut_in_step core p text count (record { bytes = h.0; command = e; read = h.1; judged = is }) printing a rose part
       by_judgement (Prints text) is ends = absurd ends
 
-  pub served_refusal : (d : Device) (core : ℕ) (fault : AdmitFault) (answer : ℕ) → IsLoaded left source_faults deck deck' (Err fault) → RefusalEnds fault taken faults old new answer
+  pub served_refusal : (d : Device B) (core : ℕ) (fault : AdmitFault) (answer : ℕ) → IsUntouched d → IsLoaded left source_faults deck deck' (Err fault) → RefusalEnds fault taken faults old new answer
       → Serves (lines.Run core) left source_faults deck deck' d None taken faults old new answer
-  served_refusal d core fault answer h ends = unserved d (lines.Run core) fault answer (by_fault fault h) ends
+  served_refusal d core fault answer same h ends = unserved d (lines.Run core) fault answer same (by_fault fault h) ends
     where
       by_fault : (fault : AdmitFault) → IsLoaded left source_faults deck deck' (Err fault) → IsUnserved left source_faults deck deck' (lines.Run core) fault
       by_fault (admits.Refused r) h = (h.0, h.1, refused_is h.0 r h.2)
@@ -131,12 +175,15 @@ module _ {S K : Type 0} {left : S → Option (List ℕ)} {source_faults : S → 
       by_fault admits.Memory h = h
 
   -- a text that was made, or wasn't
-  pub served_text : (d : Device) (command : CommandLine) (verdict : List ℕ → Verdict) (made : Result (List ℕ) AdmitFault) (answer : ℕ) → ((bytes : List ℕ) → asked command bytes ≡ printed (verdict bytes))
-      → IsJudged left source_faults deck deck' verdict made → TextEnds made taken faults old new answer → Serves command left source_faults deck deck' d None taken faults old new answer
-  served_text d command verdict (Ok text) answer same j ends = λ words e. answered 0 (only text) (print_due command j.0 text e j.1 (same j.0 ∙ ap printed j.2) refl refl refl) (closes_only ends)
-  served_text d command verdict (Err fault) answer same j ends = unserved d command fault answer (by_fault fault j) ends
+  pub served_text : (d : Device B) (command : CommandLine) (verdict : List ℕ → Verdict) (answer : ℕ) → IsUntouched d → ((bytes : List ℕ) → asked command bytes ≡ printed (verdict bytes))
+      → Writes verdict left source_faults deck deck' taken faults old new answer → Serves command left source_faults deck deck' d None taken faults old new answer
+  served_text d command verdict answer untouched same h = by_made h.0 h.1 h.2
     where
       by_fault : (fault : AdmitFault) → IsJudged left source_faults deck deck' verdict (Err fault) → IsUnserved left source_faults deck deck' command fault
       by_fault (admits.Refused r) j = (j.0, j.1, same j.0 ∙ ap printed j.2)
       by_fault admits.SourceFault j = j
       by_fault admits.Memory j = j
+
+      by_made : (made : Result (List ℕ) AdmitFault) → IsJudged left source_faults deck deck' verdict made → TextEnds made taken faults old new answer → Serves command left source_faults deck deck' d None taken faults old new answer
+      by_made (Ok text) j ends = λ words e. answered 0 (only text) (print_due command j.0 text e j.1 untouched (same j.0 ∙ ap printed j.2) refl refl refl) (closes_only ends)
+      by_made (Err fault) j ends = unserved d command fault answer untouched (by_fault fault j) ends

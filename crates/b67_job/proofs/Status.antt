@@ -1,9 +1,10 @@
 -- The status of a call for which core, the device and the printer suffice.
-use Rattle.std.proofs.Common.{◌≡◌, ◌<◌, ◌⊎◌, inl, inr, true, ℕ, List, length, append-nil, sym, ap, ◌∙◌, subst, arith, Option, Some}
+use Rattle.std.proofs.Common.{◌≡◌, ◌<◌, ◌≤◌, ◌⊎◌, inl, inr, true, ℕ, List, ◌++◌, length, append-nil, sym, ap, ◌∙◌, subst, arith, Option, Some}
 use Rattle.std.specs.Prelude.{is_some}
 use Rattle.std.proofs.lemmas.Bool.{false≢true}
 use Rattle.std.proofs.lemmas.List.{length-append}
 use denote.Ref.{Bor}
+use Rattle.b67_io.specs.Line.{ended}
 use Rattle.b67_io.specs.Causes.{Stayed}
 use Rattle.b67_model_text.specs.Deck.{limit}
 use Rattle.b67_task_tables.specs.declared.tables.Machine.{Machine}
@@ -11,8 +12,12 @@ use Rattle.b67_job_admit.specs.Admitting.{Prepared}
 use Rattle.b67_job_admit.specs.Verdicts.{Verdict}
 use Rattle.b67_job_admit.proofs.Judged.{check_long, asm_long}
 use Rattle.b67_model.specs.Lines.{run_text}
-use Rattle.b67_model.specs.Run.{lines as lines_of}
-use Rattle.b67_session_lines.specs.Stops.{IsFinished, IsHalted}
+use Rattle.b67_model.specs.Need.{need}
+use Rattle.b67_model.specs.Sectors.{sectors}
+use Rattle.b67_model.specs.Schedule.{Session}
+use Rattle.b67_model.specs.Run.{RunLine, live_tasks}
+use Rattle.b67_single.specs.Single.{IsSingle}
+use Rattle.b67_session_lines.specs.Stops.{IsFinished, IsHalted, halted_line}
 use Rattle.b67_session_lines.proofs.Statuses.{finished-status, halted-status}
 use Rattle.b67_job.specs.Device.{Device, Tells, Worked}
 use Rattle.b67_job.specs.Texts.{Text, whole_of, all_taken, cut_short}
@@ -25,11 +30,21 @@ use Rattle.b67_job.specs.Due.{WasRead, IsDue, usage_due, refusal_due, print_due,
 use Rattle.b67_job.proofs.Served.{judged_long}
 
 -- the text of a run that is done or halts, as the run alone gives it
-pub is_finished : (told : Option (List (List ℕ))) (p : Prepared) (k : Machine) (text : Text) → IsDone told (run_of p) k text → IsFinished (run_of p) (whole_of text)
-is_finished told p k text d = record { steps = k.tasks.made; within = d.within; over = d.over; printed = ap whole_of d.printed ∙ append-nil (run_text (lines_of k.tasks.made (run_of p).session)) }
+pub is_finished : {B : Type 0} (d : Device B) (p : Prepared) (k : Machine) (text : Text) → IsDone d (run_of p) k text → Tells d → IsFinished (run_of p) (whole_of text)
+is_finished d p k text h tells = record {
+  steps = k.tasks.made;
+  within = h.within;
+  over = subst (λ (z : Session). live_tasks z.jobs ≡ 0) (h.comes.session tells) h.rests.none;
+  printed = ap whole_of h.text_is ∙ append-nil (run_text h.printed) ∙ ap run_text (h.comes.lines_are tells);
+}
 
-pub is_halted : (told : Option (List (List ℕ))) (p : Prepared) (k : Machine) (text : Text) → IsHaltedAt told (run_of p) k text → IsHalted (run_of p) (whole_of text)
-is_halted told p k text h = record { count = k.tasks.made; halt = h.halt; lives = h.lives; printed = ap whole_of h.printed }
+pub is_halted : {B : Type 0} (d : Device B) (p : Prepared) (k : Machine) (text : Text) → IsHaltedAt d (run_of p) k text → Tells d → IsHalted (run_of p) (whole_of text)
+is_halted d p k text h tells = record {
+  count = k.tasks.made;
+  halt = h.halt;
+  lives = subst (λ (z : Session). 0 < live_tasks z.jobs) (h.stop.comes.session tells) (rw (h.stop.lone.single.jobs, h.stop.lone.single.tasks) (omega arith));
+  printed = ap whole_of h.text_is ∙ ap (λ (ls : List RunLine). run_text ls ++ ended (halted_line k.tasks.made)) (h.stop.comes.lines_are tells);
+}
 
 -- ---- texts that begin alike past the limit are judged alike
 
@@ -43,7 +58,8 @@ read_status : {S : Type 0} {left : S → Option (List ℕ)} {deck deck' : S} (co
 read_status command bytes told e (inl all) = ap (λ (text : List ℕ). judged_status (asked command text)) (all.told told e).0
 read_status command bytes told e (inr front) =
     let f = front.0.told told e in
-    let long = front.1 in
+    let exactly = front.1 in
+    let long : limit < length bytes = omega (arith, exactly) in
     let longer : limit < length told = rw f.1 (omega (arith, length-append bytes f.0)) in
     long_status command told longer ∙ sym (long_status command bytes long)
 
@@ -57,38 +73,37 @@ core_of (lines.Run core) = core
 core_of lines.Asm = 0
 core_of lines.Check = 0
 
-run_status_is : (d : Device) (core : ℕ) (p : Prepared) (machine : Option Machine) (status : ℕ) (text : Text) → Tells d → Suffices d core p → Worked d → RunStops d core p machine status text
+run_status_is : {B : Type 0} (d : Device B) (core : ℕ) (p : Prepared) (machine : Option Machine) (status : ℕ) (text : Text) → Tells d → Suffices d core p → Worked d → RunStops d core p machine status text
     → (status ≡ judged_status (Runs p)) ⊎ (status ≡ 9)
-run_status_is d core p machine status text tells ample worked (unopened none (memory_refused s t)) = inr s
-run_status_is d core p machine status text tells ample worked (unopened none (opening_wants_core more s t)) = let room = ample.room.0 in absurd (omega (arith, more, room))
-run_status_is d core p machine status text tells ample worked (unopened none (opening_wants_sectors fits more s t)) = let room = ample.room.1 in absurd (omega (arith, more, room))
+run_status_is d core p machine status text tells ample worked (unopened none (memory_refused same s t)) = inr s
+run_status_is d core p machine status text tells ample worked (unopened none (opening_wants_core same more s t)) = let room = ample.room.0 in absurd (omega (arith, more, room))
+run_status_is d core p machine status text tells ample worked (unopened none (opening_wants_sectors same fits more s t)) = let room = ample.room.1 in absurd (omega (arith, more, room))
 run_status_is d core p machine status text tells ample worked (unopened none (opening_fails room failed s t)) = absurd (omega (arith, failed, worked))
-run_status_is d core p machine status text tells ample worked (opened k is opens none (all_end s h)) = inl (s ∙ sym (finished-status (run_of p) (whole_of text) (is_finished d.now p k text (h tells))))
-run_status_is d core p machine status text tells ample worked (opened k is opens none (halt_comes s some h)) = inl (s ∙ sym (halted-status (run_of p) (whole_of text) (is_halted d.now p k text (h tells))))
-run_status_is d core p machine status text tells ample worked (opened k is opens none (step_wants_core s h)) =
-    let w = h tells in
-    let less = ample.core_suffices k.tasks.made w.stop.member w.stop.task w.stop.lone.single in
+run_status_is d core p machine status text tells ample worked (opened k is opens none (all_end s h)) = inl (s ∙ sym (finished-status (run_of p) (whole_of text) (is_finished d p k text h tells)))
+run_status_is d core p machine status text tells ample worked (opened k is opens none (halt_comes s h)) = inl (s ∙ sym (halted-status (run_of p) (whole_of text) (is_halted d p k text h tells)))
+run_status_is d core p machine status text tells ample worked (opened k is opens none (step_wants_core s w)) =
+    let same = w.stop.comes.session tells in
+    let less = subst (λ (z : Session). IsSingle z w.stop.member w.stop.task → need core z w.stop.member w.stop.task ≤ core) (sym same) (ample.core_suffices k.tasks.made w.stop.member w.stop.task w.due) w.stop.lone.single in
     let more = w.exceeds in
     absurd (omega (arith, more, less))
-run_status_is d core p machine status text tells ample worked (opened k is opens none (step_wants_sectors s h)) =
-    let w = h tells in
-    let less = ample.sectors_suffice k.tasks.made in
+run_status_is d core p machine status text tells ample worked (opened k is opens none (step_wants_sectors s w)) =
+    let less = subst (λ (z : Session). sectors z.jobs ≤ d.sectors) (sym (w.stop.comes.session tells)) (ample.sectors_suffice k.tasks.made w.due) in
     let more = w.exceeds in
     absurd (omega (arith, more, less))
 run_status_is d core p machine status text tells ample worked (opened k is opens none (step_fails s failed h)) = absurd (omega (arith, failed, worked))
-run_status_is d core p machine status text tells ample worked (opened k is opens none (code_is_strange s h)) = absurd (h tells)
+run_status_is d core p machine status text tells ample worked (opened k is opens none (code_is_strange s h)) = absurd (tells h.untold)
 
 commanded : (words : List (Bor (List ℕ))) (command : CommandLine) → command_of words ≡ Some command → is_some (command_of words) ≡ true
 commanded words command e = ap is_some e
 
-module _ {S : Type 0} {words : List (Bor (List ℕ))} {left : S → Option (List ℕ)} {source_faults : S → ℕ} {deck deck' : S} {d : Device} {machine : Option Machine} where
+module _ {S B : Type 0} {words : List (Bor (List ℕ))} {left : S → Option (List ℕ)} {source_faults : S → ℕ} {deck deck' : S} {d : Device B} {machine : Option Machine} where
   due_status : {status : ℕ} {text : Text} (command : CommandLine) (told : List ℕ) → left deck ≡ Some told → command_of words ≡ Some command → IsAmple d command told → Worked d → Stayed source_faults deck deck'
       → IsDue words left source_faults deck deck' d machine status text → (status ≡ judged_status (asked command told)) ⊎ (status ≡ 9)
-  due_status command told e is ample worked stayed (usage_due c g m s t) = absurd (false≢true (sym c ∙ commanded words command is))
-  due_status command told e is ample worked stayed (refusal_due other b refusal c r j m s t) =
+  due_status command told e is ample worked stayed (usage_due c g same m s t) = absurd (false≢true (sym c ∙ commanded words command is))
+  due_status command told e is ample worked stayed (refusal_due other b refusal c r untouched j m s t) =
       let same : other ≡ command = same_command (command_of words) other command c is in
       inl (s ∙ sym (ap (λ (x : CommandLine). judged_status (asked x told)) (sym same) ∙ read_status other b told e r ∙ ap judged_status j))
-  due_status command told e is ample worked stayed (print_due other b printed c r j m s t) =
+  due_status command told e is ample worked stayed (print_due other b printed c r untouched j m s t) =
       let same : other ≡ command = same_command (command_of words) other command c is in
       inl (s ∙ sym (ap (λ (x : CommandLine). judged_status (asked x told)) (sym same) ∙ read_status other b told e (inl r) ∙ ap judged_status j))
   due_status {status = status} {text = text} command told e is ample worked stayed (run_due core p run stops) =
@@ -99,8 +114,8 @@ module _ {S : Type 0} {words : List (Bor (List ℕ))} {left : S → Option (List
       subst (λ (x : CommandLine). (status ≡ judged_status (asked x told)) ⊎ (status ≡ 9)) same
       (subst (λ (j : Judgement). (status ≡ judged_status j) ⊎ (status ≡ 9)) (sym judged)
       (run_status_is d core p machine status text ample'.0 (ample'.1 p judged) worked stops))
-  due_status command told e is ample worked stayed (reading_due c r m s t) = absurd (omega (arith, r, stayed))
-  due_status command told e is ample worked stayed (memory_due c m s t) = inr s
+  due_status command told e is ample worked stayed (reading_due c r same m s t) = absurd (omega (arith, r, stayed))
+  due_status command told e is ample worked stayed (memory_due c same m s t) = inr s
 
   pub completed : {K : Type 0} (taken : K → Option (List ℕ)) (faults : K → ℕ) (old new : K) (answer : ℕ) (command : CommandLine) (told : List ℕ) → left deck ≡ Some told → command_of words ≡ Some command
       → IsAmple d command told → Stayed source_faults deck deck' → Stayed faults old new → Worked d → Answered words left source_faults deck deck' d machine taken faults old new answer

@@ -1,10 +1,13 @@
 -- What is known of the backing device over a run.
-use Rattle.std.specs.Prelude.{◌≢◌, ℕ, List, Option, None}
+use Rattle.std.specs.Prelude.{◌≡◌, ◌≢◌, ℕ, List, Option, None}
 use Rattle.b67_io.specs.Causes.{Rose, Stayed}
+use Rattle.b67_layout_storage.specs.Machine.{content_after}
 
--- what it told of its sectors before and what it tells now, how many sectors it had and has, and how often it had failed
--- before and has failed now
-pub record Device : Type 0 where
+-- the device before the run and now; what it told of its sectors before and what it tells now, how many sectors it had and
+-- has, and how often it had failed before and has failed now
+pub record Device (B : Type 0) : Type 0 where
+  pub old : B
+  pub new : B
   pub before : Option (List (List ℕ))
   pub now : Option (List (List ℕ))
   pub sectors : ℕ
@@ -12,17 +15,33 @@ pub record Device : Type 0 where
   pub failed_before : ℕ
   pub failed_now : ℕ
 
-abbrev pub device_of : {B : Type 0} → (B → Option (List (List ℕ))) → (B → ℕ) → (B → ℕ) → B → B → Device
-device_of holds size faults old new =
-    record { before = holds old; now = holds new; sectors = size old; sectors_now = size new; failed_before = faults old; failed_now = faults new }
+abbrev pub device_of : {B : Type 0} → (B → Option (List (List ℕ))) → (B → ℕ) → (B → ℕ) → B → B → Device B
+device_of holds size faults old new = record {
+  old = old;
+  new = new;
+  before = holds old;
+  now = holds new;
+  sectors = size old;
+  sectors_now = size new;
+  failed_before = faults old;
+  failed_now = faults new;
+}
 
 -- it told what its sectors hold
-abbrev pub Tells : Device → Type 0
+abbrev pub Tells : {B : Type 0} → Device B → Type 0
 Tells d = d.before ≢ None
 
+-- what is known now of its sectors: what it tells, if it told them before
+abbrev pub known_now : {B : Type 0} → Device B → Option (List (List ℕ))
+known_now d = content_after d.before d.now
+
+-- it is as it was: no call changed it
+abbrev pub IsUntouched : {B : Type 0} → Device B → Type 0
+IsUntouched d = d.new ≡ d.old
+
 -- its count of failures rose, or didn't
-abbrev pub Failed : Device → Type 0
+abbrev pub Failed : {B : Type 0} → Device B → Type 0
 Failed d = Rose (λ (count : ℕ). count) d.failed_before d.failed_now
 
-abbrev pub Worked : Device → Type 0
+abbrev pub Worked : {B : Type 0} → Device B → Type 0
 Worked d = Stayed (λ (count : ℕ). count) d.failed_before d.failed_now

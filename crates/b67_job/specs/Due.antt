@@ -1,11 +1,11 @@
 -- What a call of the program is due to answer and to print, by its cause.
-use Rattle.std.specs.Prelude.{ℕ, ◌≡◌, ◌<◌, ◌≤◌, ◌⊎◌, true, false, List, length, codes, Option, Some, None, Result, Ok, Err, is_some}
+use Rattle.std.specs.Prelude.{ℕ, ◌≡◌, ◌+◌, ◌<◌, ◌≤◌, ◌⊎◌, true, false, List, length, codes, Option, Some, None, Result, Ok, Err, is_some}
 use denote.Ref.{Bor}
 use Rattle.b67_io.specs.Line.{ended}
 use Rattle.b67_io.specs.Told.{Gave, GaveAll}
 use Rattle.b67_io.specs.Causes.{Rose}
 use Rattle.b67_model_text.specs.Deck.{limit}
-use Rattle.b67_model.specs.State.{Task, Member}
+use Rattle.b67_model.specs.State.{Task, SessionJob}
 use Rattle.b67_model.specs.Need.{need}
 use Rattle.b67_model.specs.Sectors.{sectors}
 use Rattle.b67_model.specs.Run.{after}
@@ -15,14 +15,16 @@ use Rattle.b67_job_admit.specs.declared.refusal.Refusal.{Refusal}
 use Rattle.b67_job_admit.specs.declared.fault.AdmitFault.{AdmitFault}
 use Rattle.b67_job_admit.specs.declared.fault.AdmitFault.TheVariants as admits
 use Rattle.b67_job_admit.specs.Admitting.{Prepared}
+use Rattle.b67_job_admit.specs.CommandMeets.{IsJudged}
 use Rattle.b67_job_admit.specs.Told.{refusal_text}
+use Rattle.b67_job_admit.specs.Verdicts.{Verdict}
 use Rattle.b67_session_lines.specs.Ends.{Ends}
-use Rattle.b67_session_lines.specs.Stops.{IsFinished}
+use Rattle.b67_session_lines.specs.Stops.{IsFinished, IsHalted}
 use Rattle.b67_session_open.specs.Opens.{need_of, sectors_of_all}
-use Rattle.b67_job.specs.Device.{Device, Tells}
+use Rattle.b67_job.specs.Device.{Device, Tells, Failed, IsUntouched}
 use Rattle.b67_job.specs.Lines.{no_core_line, backing_full_line, backing_fault_line, memory_text}
-use Rattle.b67_job.specs.Texts.{Text, only, TookUpTo, Closes}
-use Rattle.b67_job.specs.Runs.{run_of, WantsCore, WantsSectors, IsCutOff, HasRoom, RunStops, IsPrinting, RunEnds}
+use Rattle.b67_job.specs.Texts.{Text, whole_of, only, TookUpTo, Closes}
+use Rattle.b67_job.specs.Runs.{run_of, IsBeforeHalt, IsDone, IsHaltedAt, WantsCore, WantsSectors, IsCutOff, IsStrange, RoomSuffices, RunStops, IsPrinting, RunEnds}
 use Rattle.b67_job.specs.Command.{command_of}
 use Rattle.b67_job.specs.declared.command.CommandLine.{CommandLine}
 use Rattle.b67_job.specs.declared.command.CommandLine.TheVariants as lines
@@ -34,9 +36,9 @@ usage_text = ended (codes "USAGE: b67 run --core N --backing PATH")
 abbrev pub reading_text : List ℕ
 reading_text = ended (codes "READING FAULT")
 
--- these bytes were read: all that there were, or more than a deck may have
+-- these bytes were read: all that there were, or one more than a deck may have
 abbrev pub WasRead : {S : Type 0} → (S → Option (List ℕ)) → S → S → List ℕ → Type 0
-WasRead left deck deck' bytes = GaveAll left deck deck' bytes ⊎ (Gave left deck deck' bytes × (limit < length bytes))
+WasRead left deck deck' bytes = GaveAll left deck deck' bytes ⊎ (Gave left deck deck' bytes × (length bytes ≡ limit + 1))
 
 -- the words ask for a run over so much core, and the deck, read to its end, is this one with these programs
 pub record IsRun {S : Type 0} (words : List (Bor (List ℕ))) (left : S → Option (List ℕ)) (deck deck' : S) (core : ℕ) (p : Prepared) : Type 0 where
@@ -45,21 +47,22 @@ pub record IsRun {S : Type 0} (words : List (Bor (List ℕ))) (left : S → Opti
   pub read : GaveAll left deck deck' bytes
   pub judged : judgement bytes ≡ Runs p
 
--- the status, the text and the machine that are due, by their cause
-pub data IsDue {S : Type 0} (words : List (Bor (List ℕ))) (left : S → Option (List ℕ)) (faults : S → ℕ) (deck deck' : S) (d : Device) (machine : Option Machine) (status : ℕ) (text : Text) : Type 0 where
-  usage_due : is_some (command_of words) ≡ false → deck' ≡ deck → machine ≡ None
+-- The status, the text and the machine that are due, by their cause. The device is as it was unless a session was opened or
+-- its opening failed.
+pub data IsDue {S B : Type 0} (words : List (Bor (List ℕ))) (left : S → Option (List ℕ)) (faults : S → ℕ) (deck deck' : S) (d : Device B) (machine : Option Machine) (status : ℕ) (text : Text) : Type 0 where
+  usage_due : is_some (command_of words) ≡ false → deck' ≡ deck → IsUntouched d → machine ≡ None
       → status ≡ 1 → text ≡ only usage_text → IsDue words left faults deck deck' d machine status text
-  refusal_due : (command : CommandLine) (bytes : List ℕ) (refusal : Refusal) → command_of words ≡ Some command → WasRead left deck deck' bytes
+  refusal_due : (command : CommandLine) (bytes : List ℕ) (refusal : Refusal) → command_of words ≡ Some command → WasRead left deck deck' bytes → IsUntouched d
       → asked command bytes ≡ Refused refusal → machine ≡ None → status ≡ 2 → text ≡ only (refusal_text refusal) → IsDue words left faults deck deck' d machine status text
-  print_due : (command : CommandLine) (bytes printed : List ℕ) → command_of words ≡ Some command → GaveAll left deck deck' bytes
+  print_due : (command : CommandLine) (bytes printed : List ℕ) → command_of words ≡ Some command → GaveAll left deck deck' bytes → IsUntouched d
       → asked command bytes ≡ Prints printed → machine ≡ None → status ≡ 0 → text ≡ only printed → IsDue words left faults deck deck' d machine status text
   run_due : (core : ℕ) (p : Prepared) → IsRun words left deck deck' core p → RunStops d core p machine status text → IsDue words left faults deck deck' d machine status text
-  reading_due : is_some (command_of words) ≡ true → Rose faults deck deck' → machine ≡ None
+  reading_due : is_some (command_of words) ≡ true → Rose faults deck deck' → IsUntouched d → machine ≡ None
       → status ≡ 7 → text ≡ only reading_text → IsDue words left faults deck deck' d machine status text
-  memory_due : is_some (command_of words) ≡ true → machine ≡ None → status ≡ 9 → text ≡ only memory_text → IsDue words left faults deck deck' d machine status text
+  memory_due : is_some (command_of words) ≡ true → IsUntouched d → machine ≡ None → status ≡ 9 → text ≡ only memory_text → IsDue words left faults deck deck' d machine status text
 
 -- what was due, and how the call ended. A printer may also fail in the text of a step
-pub data Answered {S K : Type 0} (words : List (Bor (List ℕ))) (left : S → Option (List ℕ)) (source_faults : S → ℕ) (deck deck' : S) (d : Device) (machine : Option Machine)
+pub data Answered {S B K : Type 0} (words : List (Bor (List ℕ))) (left : S → Option (List ℕ)) (source_faults : S → ℕ) (deck deck' : S) (d : Device B) (machine : Option Machine)
     (taken : K → Option (List ℕ)) (printer_faults : K → ℕ) (old new : K) (answer : ℕ) : Type 0 where
   answered : (status : ℕ) (text : Text) → IsDue words left source_faults deck deck' d machine status text → Closes taken printer_faults old new status text answer
       → Answered words left source_faults deck deck' d machine taken printer_faults old new answer
@@ -67,35 +70,54 @@ pub data Answered {S K : Type 0} (words : List (Bor (List ℕ))) (left : S → O
       → answer ≡ 8 → Rose printer_faults old new → TookUpTo taken old new text count → Answered words left source_faults deck deck' d machine taken printer_faults old new answer
 
 -- how a call ends that carries out a command
-abbrev pub Serves : {S K : Type 0} → CommandLine → (S → Option (List ℕ)) → (S → ℕ) → S → S → Device → Option Machine → (K → Option (List ℕ)) → (K → ℕ) → K → K → ℕ → Type 0
+abbrev pub Serves : {S B K : Type 0} → CommandLine → (S → Option (List ℕ)) → (S → ℕ) → S → S → Device B → Option Machine → (K → Option (List ℕ)) → (K → ℕ) → K → K → ℕ → Type 0
 Serves command left source_faults deck deck' d machine taken printer_faults old new answer =
     (words : List (Bor (List ℕ))) → command_of words ≡ Some command → Answered words left source_faults deck deck' d machine taken printer_faults old new answer
 
 -- ---- the causes of a status
 
--- the text of what is done: that of a whole run, where the device tells what its sectors hold, or the one to print
-abbrev pub IsDone : Device → Judgement → List ℕ → Type 0
-IsDone d (Refused refusal) text = ⊥
-IsDone d (Runs p) text = Tells d → IsFinished (run_of p) text
-IsDone d (Prints whole) text = text ≡ whole
+-- this machine is left, of whose next step nothing is printed
+abbrev pub Leaves : Option Machine → (Machine → Type 0) → Type 0
+Leaves machine P = (k : Machine) × (machine ≡ Some k) × (k.tasks.printed ≡ 0) × P k
+
+-- the text of what is done: that of a whole run, or the one to print
+abbrev pub IsAllDone : {B : Type 0} → Device B → Judgement → Option Machine → Text → Type 0
+IsAllDone d (Refused refusal) machine text = ⊥
+IsAllDone d (Runs p) machine text = Leaves machine (λ k. IsDone d (run_of p) k text) × (Tells d → IsFinished (run_of p) (whole_of text))
+IsAllDone d (Prints whole) machine text = (machine ≡ None) × IsUntouched d × (text ≡ only whole)
+
+-- a run halts
+abbrev pub Halts : {B : Type 0} → Device B → Prepared → Option Machine → Text → Type 0
+Halts d p machine text = Leaves machine (λ k. IsHaltedAt d (run_of p) k text) × (Tells d → IsHalted (run_of p) (whole_of text))
 
 -- core is too small: for the session that opens, or for the next step of the machine that is left
-abbrev pub IsShortOfCore : Device → ℕ → Prepared → Option Machine → Text → Type 0
+abbrev pub IsShortOfCore : {B : Type 0} → Device B → ℕ → Prepared → Option Machine → Text → Type 0
 IsShortOfCore d core p machine text =
-    ((machine ≡ None) × (core < need_of p.0 p.1) × (text ≡ only (ended (no_core_line (need_of p.0 p.1) core))))
-    ⊎ ((k : Machine) × (machine ≡ Some k) × HasRoom d core p × (Tells d → WantsCore d.now core (run_of p).session k text))
+    ((machine ≡ None) × IsUntouched d × (core < need_of p.0 p.1) × (text ≡ only (ended (no_core_line (need_of p.0 p.1) core))))
+    ⊎ Leaves machine (λ k. WantsCore d core (run_of p) k text)
 
 -- the device has too few sectors: for the programs of the session that opens, or for the session of the machine that is left,
 -- which lacks what its next step wants
-abbrev pub IsShortOfSectors : Device → ℕ → Prepared → Option Machine → Text → Type 0
+abbrev pub IsShortOfSectors : {B : Type 0} → Device B → ℕ → Prepared → Option Machine → Text → Type 0
 IsShortOfSectors d core p machine text =
-    ((machine ≡ None) × (need_of p.0 p.1 ≤ core) × (d.sectors < sectors_of_all p.0 p.1) × (text ≡ only (ended (backing_full_line (sectors_of_all p.0 p.1) d.sectors))))
-    ⊎ ((k : Machine) × (machine ≡ Some k) × HasRoom d core p × (Tells d → WantsSectors d.now core d.sectors (run_of p).session k text))
+    ((machine ≡ None) × IsUntouched d × (need_of p.0 p.1 ≤ core) × (d.sectors < sectors_of_all p.0 p.1) × (text ≡ only (ended (backing_full_line (sectors_of_all p.0 p.1) d.sectors))))
+    ⊎ Leaves machine (λ k. WantsSectors d core (run_of p) k text)
 
--- the device failed: as the session opened, or at a step of the machine that is left, which lacks what it wants
-abbrev pub IsFailedBy : Device → ℕ → Prepared → Option Machine → Text → Type 0
+-- the device failed: as the session opened, for which there is room, or at a step of the machine that is left, which lacks what it wants
+abbrev pub IsFailedBy : {B : Type 0} → Device B → ℕ → Prepared → Option Machine → Text → Type 0
 IsFailedBy d core p machine text =
-    HasRoom d core p × (((machine ≡ None) × (text ≡ only (ended backing_fault_line))) ⊎ ((k : Machine) × (machine ≡ Some k) × (Tells d → IsCutOff d.now core (run_of p).session k text)))
+    RoomSuffices d core p × (((machine ≡ None) × (text ≡ only (ended backing_fault_line))) ⊎ Leaves machine (λ k. IsCutOff d core (run_of p) k text))
+
+-- a refusal of a text that was read; or of code that a device which tells nothing has given back
+abbrev pub IsRefused : {S B : Type 0} → List (Bor (List ℕ)) → (S → Option (List ℕ)) → S → S → Device B → Option Machine → Text → Type 0
+IsRefused words left deck deck' d machine text =
+    ((command : CommandLine) × (bytes : List ℕ) × (refusal : Refusal) × (command_of words ≡ Some command) × WasRead left deck deck' bytes × IsUntouched d
+    × (asked command bytes ≡ Refused refusal) × (machine ≡ None) × (text ≡ only (refusal_text refusal)))
+    ⊎ ((core : ℕ) × (p : Prepared) × IsRun words left deck deck' core p × Leaves machine (λ k. IsStrange d p k text))
+
+-- without a machine the device is as it was, or a session had room, and the device failed as it was opened
+abbrev pub IsSpared : {S B : Type 0} → List (Bor (List ℕ)) → (S → Option (List ℕ)) → S → S → Device B → Type 0
+IsSpared words left deck deck' d = IsUntouched d ⊎ ((core : ℕ) × (p : Prepared) × IsRun words left deck deck' core p × RoomSuffices d core p × Failed d)
 
 -- ---- answers to a fault, to a text and to a deck
 
@@ -110,22 +132,27 @@ abbrev pub TextEnds : {K : Type 0} → Result (List ℕ) AdmitFault → (K → O
 TextEnds (Ok text) taken faults old new answer = Ends taken faults old new 0 text answer
 TextEnds (Err fault) taken faults old new answer = RefusalEnds fault taken faults old new answer
 
+-- a text was made as it is judged, or wasn't, and the answer to it
+abbrev pub Writes : {S K : Type 0} → (List ℕ → Verdict) → (S → Option (List ℕ)) → (S → ℕ) → S → S → (K → Option (List ℕ)) → (K → ℕ) → K → K → ℕ → Type 0
+Writes verdict left source_faults deck deck' taken faults old new answer =
+    (made : Result (List ℕ) AdmitFault) × IsJudged left source_faults deck deck' verdict made × TextEnds made taken faults old new answer
+
 -- how the answer to a deck ends that is judged so: it is refused, or it runs
-abbrev pub DeckEnds : {K : Type 0} → Judgement → (K → Option (List ℕ)) → (K → ℕ) → Device → ℕ → Option Machine → K → K → ℕ → Type 0
-DeckEnds (Refused refusal) taken faults d core machine old new answer = (machine ≡ None) × Ends taken faults old new 2 (refusal_text refusal) answer
+abbrev pub DeckEnds : {K B : Type 0} → Judgement → (K → Option (List ℕ)) → (K → ℕ) → Device B → ℕ → Option Machine → K → K → ℕ → Type 0
+DeckEnds (Refused refusal) taken faults d core machine old new answer = (machine ≡ None) × IsUntouched d × Ends taken faults old new 2 (refusal_text refusal) answer
 DeckEnds (Runs p) taken faults d core machine old new answer = RunEnds taken faults d core p machine old new answer
 DeckEnds (Prints text) taken faults d core machine old new answer = ⊥
 
 -- ---- a run for which core and device are large enough
 
--- the session opens, and no state of its run needs more
-pub record Suffices (d : Device) (core : ℕ) (p : Prepared) : Type 0 where
-  pub room : HasRoom d core p
-  pub core_suffices : (steps : ℕ) (m : Member) (t : Task) → IsSingle (after steps (run_of p).session) m t → need core (after steps (run_of p).session) m t ≤ core
-  pub sectors_suffice : (steps : ℕ) → sectors (after steps (run_of p).session).jobs ≤ d.sectors
+-- the session opens, and no state of its run before the halt needs more
+pub record Suffices {B : Type 0} (d : Device B) (core : ℕ) (p : Prepared) : Type 0 where
+  pub room : RoomSuffices d core p
+  pub core_suffices : (steps : ℕ) (m : SessionJob) (t : Task) → IsBeforeHalt (run_of p) steps → IsSingle (after steps (run_of p).session) m t → need core (after steps (run_of p).session) m t ≤ core
+  pub sectors_suffice : (steps : ℕ) → IsBeforeHalt (run_of p) steps → sectors (after steps (run_of p).session).jobs ≤ d.sectors
 
 -- a run is told and has room; the other commands need neither
-abbrev pub IsAmple : Device → CommandLine → List ℕ → Type 0
+abbrev pub IsAmple : {B : Type 0} → Device B → CommandLine → List ℕ → Type 0
 IsAmple d (lines.Run core) text = Tells d × ((p : Prepared) → judgement text ≡ Runs p → Suffices d core p)
 IsAmple d lines.Asm text = Unit {0}
 IsAmple d lines.Check text = Unit {0}

@@ -25,7 +25,7 @@ abbrev pub second_card : List Job → Option ℕ
 second_card [] = None
 second_card (j ∷ more) = Some j.card
 
--- The card of the first thing in a deck that the machine doesn't have yet: that of a job's body, if its program names an
+-- The card of the first object in a deck that the machine doesn't have yet: that of a job's body, if its program names an
 -- intrinsic on tasks, or of a second job.
 abbrev pub missing : List Job → List Program → Option ℕ
 missing (j ∷ jobs) (p ∷ ps) = if uses_built p then second_card jobs else Some j.body_card

@@ -13,10 +13,10 @@ mod top;
 #[cfg(test)]
 mod worked;
 
+pub use b67_session::{Progress, Session};
 pub use command::{CommandLine, backing_path, command_of};
 pub use lines::{backing_full_line, no_core_line, refusal_line, say_text};
 pub use outcome::Outcome;
 pub use ranges::{decks_are_in_range, prepared_decks_are_in_range};
 pub use runs::run_deck;
 pub use top::{refuse_memory, run};
-pub use b67_session::{Progress, Session};

@@ -5,8 +5,8 @@ ghost use Rattle.b67_job_admit.specs.Told.{card_text, refusal_line};
 ghost use Rattle.b67_session_lines.specs.Ends.{Ends};
 ghost use Rattle.b67_job.specs.Lines.{no_core_line, backing_full_line};
 
-use b67_job_admit::{Refusal, put_text};
 use b67_io::{Line, Sink};
+use b67_job_admit::{Refusal, put_text};
 use b67_session_lines::{line_of, with_number, with_text};
 use b67_word::Place;
 

@@ -8,10 +8,10 @@ ghost use Rattle.b67_session_open.specs.Decks.{IsLoaded};
 ghost use Rattle.b67_job.specs.Judgement.{missing};
 
 use b67_load_verify::Admitted;
-use b67_served::uses_built;
 use b67_model_text::Job;
+use b67_served::uses_built;
 
-/// The card of the first thing in a deck that the machine doesn't have yet: a program that names an intrinsic on tasks, at
+/// The card of the first object in a deck that the machine doesn't have yet: a program that names an intrinsic on tasks, at
 /// the card of its body, or a second job.
 pub fn missing_card(jobs: &[Job], programs: &[Admitted]) -> Option<u32>
     requires each { length programs.now ≡ length jobs.now }

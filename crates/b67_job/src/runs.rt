@@ -5,30 +5,29 @@ ghost use Rattle.std.specs.List.{AllByRecursion};
 ghost use Rattle.b67_io.specs.Line.{ended};
 ghost use Rattle.b67_io.specs.Causes.{Rose};
 ghost use Rattle.b67_codefile.specs.Meaning.{program_of};
-ghost use Rattle.b67_layout_storage.specs.Machine.{Says, retold};
-ghost use Rattle.b67_model.specs.State.{Task, Member};
+ghost use Rattle.b67_layout_storage.specs.Machine.{Says, DeviceAfterCalls, content_after};
+ghost use Rattle.b67_model.specs.State.{Task, SessionJob};
 ghost use Rattle.b67_model.specs.Schedule.{Session};
 ghost use Rattle.b67_session_lines.specs.Ends.{Ends};
 ghost use Rattle.b67_session_open.specs.Decks.{DeckInRange, IsLoaded};
-ghost use Rattle.b67_session.specs.Passed.{AreCountable};
-ghost use Rattle.b67_session.specs.Slices.{LivesOn, IsLone};
+ghost use Rattle.b67_session.specs.Slices.{IsLone, IsOpen, Keeps};
 ghost use Rattle.b67_uncalled.specs.Uncalled.{uses_built};
 ghost use Rattle.b67_job.specs.Device.{device_of};
-ghost use Rattle.b67_job.specs.Finishing.{refused_status, refused_line, steps_of, Finishes, JobRan};
+ghost use Rattle.b67_job.specs.Finishing.{refused_status, refused_line, Finishes, JobRan};
 ghost use Rattle.b67_job.specs.Lines.{backing_fault_line};
 ghost use Rattle.b67_job.specs.Runs.{RunEnds};
 
 use crate::lines::{backing_full_line, no_core_line, refusal_line};
 use crate::outcome::Outcome;
-use b67_job_admit::Refusal;
 use b67_backing::Backing;
 use b67_io::Sink;
-use b67_session_lines::{halted_line, line_of, say};
+use b67_job_admit::Refusal;
 use b67_load_verify::Admitted;
-use b67_session_open::{OpenFault, open};
-use b67_session::{Progress, Stop, slice};
-use b67_task_tables::Machine;
 use b67_model_text::Deck;
+use b67_session::{Progress, Stop, slice};
+use b67_session_lines::{halted_line, line_of, say};
+use b67_session_open::{OpenFault, open};
+use b67_task_tables::Machine;
 use std::alloc::Global;
 
 fn say_backing_fault<K: Sink>(printer: &mut K) -> u8
@@ -53,7 +52,7 @@ fn refuse_opening<K: Sink>(fault: OpenFault, printer: &mut K) -> u8
     }
 }
 
-// Prints the last line behind the steps that were made.
+// Prints the last line after the steps that were made.
 fn finish<K: Sink>(answered: Result<Progress, Stop>, card: u32, made: u64, printer: &mut K) -> u8
     ensures { Finishes K.taken K.faults card made answered printer.old printer.new result }
 {
@@ -77,36 +76,23 @@ fn finish<K: Sink>(answered: Result<Progress, Stop>, card: u32, made: u64, print
     }
 }
 
-// How many steps a run may make.
-fn steps_of(halt: Option<u64>, limit: u64) -> u64
-    ensures { result ≡ steps_of halt limit }
-{
-    match halt {
-        Some(count) => count,
-        None => limit,
-    }
-}
-
-// Makes the steps of a session of one job, and prints the last line.
+// Makes the steps of a session of one job, which are at most as many as any job may make, and prints the last line.
 fn run_job<K: Sink, B: Backing>(
     machine: &mut Machine,
-    steps: u64,
     card: u32,
     printer: &mut K,
     backing: &mut B,
 ) -> u8
-    requires lives { LivesOn (B.holds backing.old) machine.old }
-    requires countable { AreCountable machine.old.tasks.jobs }
-    requires same { B.size backing.old + 1 ≡ length machine.old.sectors.links }
-    ensures ran { (known : Option (List (List ℕ))) (s : Session) (m : Member) (t : Task) → Says known (B.holds backing.old) → IsLone known machine.old s m t
-        → JobRan K.taken K.faults (retold known (B.holds backing.new)) (known ≢ None) (Rose B.faults backing.old backing.new) (B.size backing.old) steps card
+    requires open { IsOpen (B.holds backing.old) machine.old }
+    requires sized { B.size backing.old + 1 ≡ length machine.old.sectors.links }
+    ensures ran { (known : Option (List (List ℕ))) (s : Session) (m : SessionJob) (t : Task) → Says known (B.holds backing.old) → IsLone known machine.old s m t
+        → JobRan K.taken K.faults (content_after known (B.holds backing.new)) (known ≢ None) (Rose B.faults backing.old backing.new) (B.size backing.old) 100000000 card
         s machine.old machine.new printer.old printer.new result }
-    ensures halt { machine.new.tasks.halt ≡ machine.old.tasks.halt }
-    ensures countable { AreCountable machine.new.tasks.jobs }
-    ensures links { length machine.new.sectors.links ≡ length machine.old.sectors.links }
-    ensures size { B.size backing.new ≡ B.size backing.old }
+    ensures goes_on { IsOpen (B.holds backing.new) machine.new }
+    ensures keeps { Keeps machine.old machine.new }
+    ensures device { DeviceAfterCalls B.holds B.size B.calls B.faults backing.old backing.new }
 {
-    let answered = slice(machine, steps, backing, printer);
+    let answered = slice(machine, 100_000_000, backing, printer);
     finish(answered, card, machine.tasks.made, printer)
 }
 
@@ -114,11 +100,11 @@ fn run_job<K: Sink, B: Backing>(
 /// lines.
 ///
 /// Status 0 is that all tasks ended, 3 that the halt's count was reached while a task lives. Else the run stops before a
-/// step, or before the first one: 4 where core is too small, 5 where the device has too few sectors, 6 where it failed, 8
-/// where the printer failed, 9 where memory was refused, and 2 where the step calls an intrinsic that isn't built. The
-/// machine is there where a session was opened; where the run stopped with a task alive it stands for the session then, and
-/// where all tasks ended for the session without a task. A printer that fails in the text of a step stops the run too, and
-/// the machine counts the bytes that it took of it.
+/// step, or before the first one: 4 if core is too small, 5 if the device has too few sectors, 6 if it failed, 8 if the
+/// printer failed, 9 if memory was refused, and 2 if the step calls an intrinsic that isn't built. The machine is there if a
+/// session was opened; if the run stopped with a task alive it represents the session then, and if all tasks ended the
+/// session without a task. A printer that fails in the text of a step stops the run too, and the machine counts the bytes
+/// that it took of it. Without a machine the device is as it was, unless it failed as the session was opened.
 pub fn run_deck<K: Sink, B: Backing>(
     alloc: Global,
     deck: &Deck,
@@ -134,8 +120,9 @@ pub fn run_deck<K: Sink, B: Backing>(
     requires built { AllByRecursion (λ f. uses_built (program_of f) ≡ true) programs.now }
     requires core_low { 256 ≤ core }
     requires core_high { core < 2 ^ 20 }
-    ensures { RunEnds K.taken K.faults (device_of B.holds B.size B.faults backing.old backing.new) core (deck.now, map program_of programs.now)
+    ensures ends { RunEnds K.taken K.faults (device_of B.holds B.size B.faults backing.old backing.new) core (deck.now, map program_of programs.now)
         result.machine printer.old printer.new result.status }
+    ensures device { DeviceAfterCalls B.holds B.size B.calls B.faults backing.old backing.new }
 {
     let mut machine = match open(alloc, deck, programs, core, backing) {
         Ok(machine) => machine,
@@ -152,8 +139,7 @@ pub fn run_deck<K: Sink, B: Backing>(
             machine: Some(machine),
         },
         [job, ..] => {
-            let steps = steps_of(deck.halt, job.limit);
-            let status = run_job(&mut machine, steps, job.body_card, printer, backing);
+            let status = run_job(&mut machine, job.body_card, printer, backing);
             Outcome {
                 status,
                 machine: Some(machine),

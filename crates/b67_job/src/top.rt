@@ -1,37 +1,33 @@
 //! The top call.
 
-ghost use Rattle.std.specs.Prelude.{◌≡◌, ◌≢◌, ◌⊎◌, ◌+◌, ◌≤◌, ◌<◌, ◌^◌, ℕ, List, length, map, true, false, is_some, Some, None};
+ghost use Rattle.std.specs.Prelude.{◌≡◌, ◌⊎◌, ◌≤◌, ◌<◌, ◌^◌, ℕ, List, length, map, false, is_some, Some, None};
 ghost use Rattle.b67_io.specs.Told.{Took, GaveAll};
 ghost use Rattle.b67_io.specs.Causes.{Rose, Stayed};
 ghost use Rattle.b67_task_tables.specs.declared.tables.Machine.{Machine};
-ghost use Rattle.b67_job_admit.specs.declared.refusal.Refusal.{Refusal};
+ghost use Rattle.b67_layout_storage.specs.Machine.{DeviceAfterCalls};
 ghost use Rattle.b67_job_admit.specs.Told.{refusal_text};
 ghost use Rattle.b67_job_admit.specs.Admitting.{Prepared};
 ghost use Rattle.b67_job_admit.specs.Meets.{prepared_of};
+ghost use Rattle.b67_job_admit.specs.Verdicts.{asm_verdict, check_verdict};
 ghost use Rattle.b67_session_open.specs.Decks.{DeckInRange};
 ghost use Rattle.b67_session_lines.specs.Ends.{Ends};
-ghost use Rattle.b67_session_lines.specs.Stops.{IsHalted};
-ghost use Rattle.b67_model.specs.Run.{after};
-ghost use Rattle.b67_job.specs.Device.{Device, device_of};
+ghost use Rattle.b67_job.specs.Device.{device_of};
 ghost use Rattle.b67_job.specs.Lines.{memory_text};
 ghost use Rattle.b67_job.specs.Texts.{Text, whole_of, TookUpTo};
-ghost use Rattle.b67_job.specs.States.{StatesInOrder};
-ghost use Rattle.b67_job.specs.Runs.{run_of, HasRoom, StopsAt, IsPrinting};
-ghost use Rattle.b67_job.specs.Runs.{Rests, StepsFit};
-ghost use Rattle.b67_job.specs.Runs.{AreCountable};
+ghost use Rattle.b67_job.specs.Runs.{IsPrinting, WasOpened};
 ghost use Rattle.b67_job.specs.Command.{command_of};
 ghost use Rattle.b67_job.specs.declared.command.CommandLine.{CommandLine};
-ghost use Rattle.b67_job.specs.Judgement.{deck_judgement, asked, Refused, judged_status};
-ghost use Rattle.b67_job.specs.Due.{Answered, Serves, RefusalEnds, TextEnds, DeckEnds, IsDue, IsRun, IsDone, IsShortOfCore, IsShortOfSectors, IsFailedBy, IsAmple, WasRead, usage_text, reading_text};
+ghost use Rattle.b67_job.specs.Judgement.{deck_judgement, asked, judged_status};
+ghost use Rattle.b67_job.specs.Due.{Answered, Serves, RefusalEnds, TextEnds, Writes, DeckEnds, IsDue, IsRun, IsAllDone, Halts, IsShortOfCore, IsShortOfSectors, IsFailedBy, IsRefused, IsSpared, IsAmple, usage_text, reading_text};
 
 use crate::command::{CommandLine, command_of};
-use crate::planning::missing_card;
-use b67_job_admit::{AdmitFault, Loaded, Refusal, admit, asm_text, check_text};
-use b67_backing::Backing;
-use crate::outcome::Outcome;
 use crate::lines::{refusal_line, say_text};
+use crate::outcome::Outcome;
+use crate::planning::missing_card;
 use crate::runs::run_deck;
+use b67_backing::Backing;
 use b67_io::{Sink, Source};
+use b67_job_admit::{AdmitFault, Loaded, Refusal, admit, asm_text, check_text};
 use b67_session_lines::{line_of, say};
 use b67_word::Bytes;
 use std::alloc::Global;
@@ -81,7 +77,7 @@ fn answer<S: Source, K: Sink, B: Backing>(
 ) -> Outcome
     ensures answered { Answered words.now S.left S.faults deck.old deck.new (device_of B.holds B.size B.faults backing.old backing.new)
         result.machine K.taken K.faults printer.old printer.new result.status }
-    ensures untouched { ((core : ℕ) → command_of words.now ≡ Some (CommandLine.Run core) → ⊥) → backing.new ≡ backing.old }
+    ensures device { DeviceAfterCalls B.holds B.size B.calls B.faults backing.old backing.new }
 {
     match command_of(words) {
         Some(CommandLine::Run { core }) => answer_run(alloc, core, deck, printer, backing),
@@ -104,8 +100,9 @@ fn answer_run<S: Source, K: Sink, B: Backing>(
 ) -> Outcome
     requires low { 256 ≤ core }
     requires high { core < 2 ^ 20 }
-    ensures { Serves (CommandLine.Run core) S.left S.faults deck.old deck.new (device_of B.holds B.size B.faults backing.old backing.new)
+    ensures serves { Serves (CommandLine.Run core) S.left S.faults deck.old deck.new (device_of B.holds B.size B.faults backing.old backing.new)
         result.machine K.taken K.faults printer.old printer.new result.status }
+    ensures device { DeviceAfterCalls B.holds B.size B.calls B.faults backing.old backing.new }
 {
     match admit(alloc, deck) {
         Ok(loaded) => answer_deck(alloc, core, &loaded, printer, backing),
@@ -114,14 +111,14 @@ fn answer_run<S: Source, K: Sink, B: Backing>(
 }
 
 fn answer_asm<S: Source, K: Sink>(alloc: Global, deck: &mut S, printer: &mut K) -> u8
-    ensures { (d : Device) → Serves CommandLine.Asm S.left S.faults deck.old deck.new d None K.taken K.faults printer.old printer.new result }
+    ensures { Writes asm_verdict S.left S.faults deck.old deck.new K.taken K.faults printer.old printer.new result }
 {
     let text = asm_text(alloc, deck);
     answer_text(&text, printer)
 }
 
 fn answer_check<S: Source, K: Sink>(alloc: Global, deck: &mut S, printer: &mut K) -> u8
-    ensures { (d : Device) → Serves CommandLine.Check S.left S.faults deck.old deck.new d None K.taken K.faults printer.old printer.new result }
+    ensures { Writes check_verdict S.left S.faults deck.old deck.new K.taken K.faults printer.old printer.new result }
 {
     let text = check_text(alloc, deck);
     answer_text(&text, printer)
@@ -147,8 +144,9 @@ fn answer_deck<K: Sink, B: Backing>(
     requires each { length loaded.now.programs ≡ length loaded.now.deck.jobs }
     requires low { 256 ≤ core }
     requires high { core < 2 ^ 20 }
-    ensures { DeckEnds (deck_judgement (prepared_of loaded.now)) K.taken K.faults (device_of B.holds B.size B.faults backing.old backing.new) core
+    ensures ends { DeckEnds (deck_judgement (prepared_of loaded.now)) K.taken K.faults (device_of B.holds B.size B.faults backing.old backing.new) core
         result.machine printer.old printer.new result.status }
+    ensures device { DeviceAfterCalls B.holds B.size B.calls B.faults backing.old backing.new }
 {
     let deck = &loaded.deck;
     let programs = loaded.programs.as_slice();
@@ -176,9 +174,10 @@ fn refuse_program<K: Sink>(fault: AdmitFault, printer: &mut K) -> u8
 /// - `check` prints `name ADMITTED s r` for each job of the deck, with its numbers of segments and of data rows.
 ///
 /// Status 0 is that all is done, 1 the usage, 2 a refused deck, 3 a run that halted, 4 a core that is too small, 5 a backing
-/// that is full, 6 a backing that failed, 7 a source that failed, 8 a printer that failed, 9 want of memory. The machine is
-/// there exactly where a session was opened. Where the run stopped before a step, or the printer failed in one, it stands for
-/// the session there, and counts the bytes of the step's text that are printed.
+/// that is full, 6 a backing that failed, 7 a source that failed, 8 a printer that failed, 9 out of memory. The machine is
+/// there exactly if a session was opened. If the run stopped before a step, or the printer failed in one, it represents the
+/// session there, and counts the bytes of the step's text that are printed. Without a machine the backing is as it was,
+/// unless it failed as the session was opened.
 pub fn run<S: Source, K: Sink, B: Backing>(
     alloc: Global,
     words: &[&str],
@@ -190,76 +189,66 @@ pub fn run<S: Source, K: Sink, B: Backing>(
     ensures due { Answered words.now S.left S.faults deck.old deck.new (device_of B.holds B.size B.faults backing.old backing.new)
         result.machine K.taken K.faults printer.old printer.new result.status }
 
-    // Only a run touches the backing.
-    ensures untouched { ((core : ℕ) → command_of words.now ≡ Some (CommandLine.Run core) → ⊥) → backing.new ≡ backing.old }
+    // The backing has as many sectors as before, no count of it has fallen, and if it told its sectors it still does.
+    ensures device { DeviceAfterCalls B.holds B.size B.calls B.faults backing.old backing.new }
+
+    // Without a machine the backing is as it was, or core and sectors sufficed and it failed as the session was opened.
+    ensures spared { result.machine ≡ None → IsSpared words.now S.left deck.old deck.new (device_of B.holds B.size B.faults backing.old backing.new) }
 
     // No words of a command: nothing is read, and the usage line is printed.
     ensures usage { result.status ≡ 1 → (is_some (command_of words.now) ≡ false) × (deck.new ≡ deck.old)
         × Took K.taken printer.old printer.new usage_text }
     ensures no_command { is_some (command_of words.now) ≡ false → (result.status ≡ 1) ⊎ (result.status ≡ 8) }
 
-    // A text that was read and is refused by the command: the line of its first refusal is printed. A device that tells
-    // nothing may give back code that calls what isn't built.
-    ensures refused { result.status ≡ 2 → ((command : CommandLine) × (bytes : List ℕ) × (refusal : Refusal)
-        × (command_of words.now ≡ Some command) × WasRead S.left deck.old deck.new bytes × (asked command bytes ≡ Refused refusal)
-        × Took K.taken printer.old printer.new (refusal_text refusal)) ⊎ (B.holds backing.old ≡ None) }
+    // A text that was read, up to the first byte past its limit, is refused by the command: the line of its first refusal is
+    // printed. Or a backing that tells nothing gave back code that calls what isn't built.
+    ensures refused { result.status ≡ 2 → (text : Text) × IsRefused words.now S.left deck.old deck.new (device_of B.holds B.size B.faults backing.old backing.new) result.machine text
+        × Took K.taken printer.old printer.new (whole_of text) }
 
     // The deck was read to its end, and the command's work is done: the whole text of its run is printed, at the halt at the
-    // latest, or the text that it is to print.
-    ensures done { result.status ≡ 0 → (command : CommandLine) × (bytes : List ℕ) × (text : List ℕ)
+    // latest, and the machine represents a session without tasks; or the text that it is to print.
+    ensures done { result.status ≡ 0 → (command : CommandLine) × (bytes : List ℕ) × (text : Text)
         × (command_of words.now ≡ Some command) × GaveAll S.left deck.old deck.new bytes
-        × IsDone (device_of B.holds B.size B.faults backing.old backing.new) (asked command bytes) text
-        × Took K.taken printer.old printer.new text }
+        × IsAllDone (device_of B.holds B.size B.faults backing.old backing.new) (asked command bytes) result.machine text
+        × Took K.taken printer.old printer.new (whole_of text) }
 
-    // The run halted: tasks live at the count of its halt, and the text up to there is printed, with the line of the halt
-    // behind it.
-    ensures halted { result.status ≡ 3 → (core : ℕ) × (p : Prepared) × (text : List ℕ) × IsRun words.now S.left deck.old deck.new core p
-        × (is_some p.0.halt ≡ true) × (B.holds backing.old ≢ None → IsHalted (run_of p) text) × Took K.taken printer.old printer.new text }
+    // The run halted: the machine represents a session with a task at the count of its halt, and the text up to there is
+    // printed, with the line of the halt after it.
+    ensures halted { result.status ≡ 3 → (core : ℕ) × (p : Prepared) × (text : Text) × IsRun words.now S.left deck.old deck.new core p
+        × Halts (device_of B.holds B.size B.faults backing.old backing.new) p result.machine text × Took K.taken printer.old printer.new (whole_of text) }
 
-    // Core is too small for the session that opens or for a step, or the device has too few sectors for it. The machine stands
+    // Core is too small for the session that opens or for a step, or the device has too few sectors for it. The machine is
     // before that step, which lacks its segment or its array where sectors are wanted.
     ensures core_wanted { result.status ≡ 4 → (core : ℕ) × (p : Prepared) × (text : Text) × IsRun words.now S.left deck.old deck.new core p
         × IsShortOfCore (device_of B.holds B.size B.faults backing.old backing.new) core p result.machine text × Took K.taken printer.old printer.new (whole_of text) }
     ensures sectors_wanted { result.status ≡ 5 → (core : ℕ) × (p : Prepared) × (text : Text) × IsRun words.now S.left deck.old deck.new core p
         × IsShortOfSectors (device_of B.holds B.size B.faults backing.old backing.new) core p result.machine text × Took K.taken printer.old printer.new (whole_of text) }
 
-    // A device failed. At a step the machine stands before it, and lacks its segment or its array.
+    // A device failed. At a step the machine is before it, and lacks its segment or its array.
     ensures backing_fault { result.status ≡ 6 → Rose B.faults backing.old backing.new
         × ((core : ℕ) × (p : Prepared) × (text : Text) × IsRun words.now S.left deck.old deck.new core p
         × IsFailedBy (device_of B.holds B.size B.faults backing.old backing.new) core p result.machine text × Took K.taken printer.old printer.new (whole_of text)) }
     ensures reading_fault { result.status ≡ 7 → Rose S.faults deck.old deck.new
         × Took K.taken printer.old printer.new reading_text }
 
-    // The printer failed. It has taken all lines of the steps, and a part of what stands behind them: of the last line that was
-    // due; or, as the machine counts, of the first part of the next step, or of the line of LIMIT of the last one.
+    // The printer failed. It has taken all lines of the steps, and a part of what is due after them: of the last line; or,
+    // as the machine counts, of the first part of the next step, or of the line of LIMIT of the last one.
     ensures printing_fault { result.status ≡ 8 → Rose K.faults printer.old printer.new × ((text : Text) × (count : ℕ)
         × (((status : ℕ) × IsDue words.now S.left S.faults deck.old deck.new (device_of B.holds B.size B.faults backing.old backing.new) result.machine status text)
         ⊎ ((core : ℕ) × (p : Prepared) × IsRun words.now S.left deck.old deck.new core p
         × IsPrinting (device_of B.holds B.size B.faults backing.old backing.new) core p result.machine text count))
         × TookUpTo K.taken printer.old printer.new text count) }
 
-    // Memory was refused, and no session is open.
-    ensures memory { result.status ≡ 9 → (result.machine ≡ None) × Took K.taken printer.old printer.new memory_text }
+    // Memory was refused, and no session is open; the backing is as it was.
+    ensures memory { result.status ≡ 9 → (result.machine ≡ None) × (backing.new ≡ backing.old) × Took K.taken printer.old printer.new memory_text }
 
-    // The machine is that of a session that was opened. Each state of its run up to as many steps as the machine counts is in
-    // order, with words that operators of earlier steps and the loader made; and none of these steps needed more words than
-    // core has.
+    // The machine is that of a session that was opened: its states are in order and fit core, and a slice of more steps may be
+    // asked of it.
     ensures opened { (k : Machine) → result.machine ≡ Some k → (core : ℕ) × (p : Prepared) × IsRun words.now S.left deck.old deck.new core p
-        × HasRoom (device_of B.holds B.size B.faults backing.old backing.new) core p }
-    ensures in_order { (k : Machine) → result.machine ≡ Some k → (core : ℕ) × (p : Prepared) × IsRun words.now S.left deck.old deck.new core p × StatesInOrder k.tasks.made (run_of p).session }
-    ensures fitted { (k : Machine) → result.machine ≡ Some k → B.holds backing.old ≢ None → (core : ℕ) × (p : Prepared) × IsRun words.now S.left deck.old deck.new core p
-        × StepsFit core k.tasks.made (run_of p).session }
+        × WasOpened (device_of B.holds B.size B.faults backing.old backing.new) core p k }
 
-    // Where the run stopped with a task alive it stands for the session after these steps, and nothing of the next one is
-    // printed. Where all tasks ended it stands for the session without a task. It is within what a slice of more steps asks.
-    ensures stands { (k : Machine) → result.machine ≡ Some k → B.holds backing.old ≢ None → 3 ≤ result.status → result.status ≤ 6
-        → (core : ℕ) × (p : Prepared) × IsRun words.now S.left deck.old deck.new core p × StopsAt (B.holds backing.new) (run_of p).session k × (k.tasks.printed ≡ 0) }
-    ensures ended { (k : Machine) → result.machine ≡ Some k → B.holds backing.old ≢ None → result.status ≡ 0
-        → (core : ℕ) × (p : Prepared) × IsRun words.now S.left deck.old deck.new core p × Rests (B.holds backing.new) k (after k.tasks.made (run_of p).session) }
-    ensures again { (k : Machine) → result.machine ≡ Some k → AreCountable k.tasks.jobs × (B.size backing.new + 1 ≡ length k.sectors.links) }
-
-    // Where no count rises, core and device suffice and the device tells what its sectors hold, the command and the deck
-    // decide, or memory was refused.
+    // If no count rises, core and device suffice and the device tells what its sectors hold, the command and the deck decide,
+    // or memory was refused.
     ensures complete { (command : CommandLine) → (bytes : List ℕ) → S.left deck.old ≡ Some bytes → command_of words.now ≡ Some command
         → IsAmple (device_of B.holds B.size B.faults backing.old backing.new) command bytes
         → Stayed S.faults deck.old deck.new → Stayed K.faults printer.old printer.new → Stayed B.faults backing.old backing.new

@@ -1,14 +1,14 @@
 //! Worked runs, with the lines that the rules give.
 
 ghost use Rattle.std.specs.Prelude.{◌≡◌, ◌≢◌, ◌+◌, length, None, IfSome, IfOk};
-ghost use Rattle.b67_job.specs.Runs.{AreCountable, IsOpen};
+ghost use Rattle.b67_job.specs.Runs.{IsOpen};
 
-use crate::top::run;
-use crate::tests::{bytes_of, numbers_of};
-use b67_backing::{Backing, FileBacking, HonestBacking, MemoryBacking};
 use crate::outcome::Outcome;
-use b67_session::{Progress, Session};
+use crate::tests::{bytes_of, numbers_of};
+use crate::top::run;
+use b67_backing::{Backing, FileBacking, HonestBacking, MemoryBacking};
 use b67_io::{Paper, Tape};
+use b67_session::{Progress, Session};
 use b67_task_tables::Machine;
 use std::alloc::{AllocError, Global};
 use std::fs;
@@ -324,9 +324,7 @@ fn paging_over_a_file(rt: HostRuntime) -> Result<(), Fail> {
 
 /// Runs TWO in the least core over a backing of which a write fails: the machine that is left.
 fn stopped_two<B: Backing>(alloc: Global, backing: &mut B) -> Result<Option<Machine>, AllocError>
-    requires { B.holds backing.old ≢ None }
     ensures open { IfOk result (λ found. IfSome found (λ k. IsOpen (B.holds backing.new) k)) }
-    ensures countable { IfOk result (λ found. IfSome found (λ k. AreCountable k.tasks.jobs)) }
     ensures same { IfOk result (λ found. IfSome found (λ k. B.size backing.new + 1 ≡ length k.sectors.links)) }
 {
     let mut deck = bytes_of(alloc, b"?STACK 256\n")?;

@@ -9,6 +9,7 @@ use Rattle.b67_codefile.specs.Meaning.{program_of}
 use Rattle.b67_model.specs.Program.{Program}
 use Rattle.b67_model_text.specs.declared.deck.Job.{Job}
 use Rattle.b67_job_admit.specs.Admitting.{Answer, ◌>>=◌, program_in, programs}
+use Rattle.b67_asm.proofs.Parts.{all_one}
 
 abbrev pub behind : List Program → Answer (List Program) → Answer (List Program)
 behind done (Ok ps) = Ok (done ++ ps)
@@ -23,10 +24,6 @@ behind_next : (done : List Program) (j : Job) (more : List Job) (p : Program) �
     → behind done (programs (j ∷ more)) ≡ behind (done ++ p ∷ []) (programs more)
 behind_next done j more p e = rw e (behind_one done p (programs more))
 
-all_and_one : {X : Type 0} (P : X → Type 0) (xs : List X) (x : X) → AllByRecursion P xs → P x → AllByRecursion P (xs ++ x ∷ [])
-all_and_one P [] x all one = (one, tt)
-all_and_one P (y ∷ xs) x all one = (all.0, all_and_one P xs x all.1 one)
-
 -- a turn of the loop over jobs
 pub turn : (jobs : List Job) (i : ℕ) (j : Job) (files now : List Codefile) (file : Codefile)
     → i < length jobs → j ≡ get_or jobs i j → program_in j.body_card j.program ≡ Ok (program_of file) → IsWithin file → now ≡ files ++ file ∷ []
@@ -34,7 +31,7 @@ pub turn : (jobs : List Job) (i : ℕ) (j : Job) (files now : List Codefile) (fi
     → AllByRecursion IsWithin now × (programs jobs ≡ behind (map program_of now) (programs (drop (i + 1) jobs)))
 turn jobs i j files now file low is e within pushed all before =
     let here : drop i jobs ≡ j ∷ drop (i + 1) jobs = rw (add-one i) (drop-cons jobs i j low ∙ ap (λ (x : Job). x ∷ drop (suc i) jobs) (sym is)) in (
-      rw pushed (all_and_one IsWithin files file all within),
+      rw pushed (all_one IsWithin files file all within),
       before ∙ ap (λ (rest : List Job). behind (map program_of files) (programs rest)) here ∙ behind_next (map program_of files) j (drop (i + 1) jobs) (program_of file) e
           ∙ ap (λ (done : List Program). behind done (programs (drop (i + 1) jobs))) (sym (map-append program_of files (file ∷ [])) ∙ ap (map program_of) (sym pushed)),
     )

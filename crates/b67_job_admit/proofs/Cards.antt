@@ -8,14 +8,14 @@ use Rattle.b67_word.specs.Tagged.{Tagged, word, contents}
 use Rattle.b67_io.specs.Line.{ended}
 use Rattle.b67_codefile.specs.declared.file.Segment.{Segment}
 use Rattle.b67_codefile.specs.declared.file.Codefile.{Codefile}
-use Rattle.b67_codefile.specs.Spelling.{spelling, Bears, IsSegment, IsRow, IsWithin}
+use Rattle.b67_codefile.specs.Spelling.{spelling, HasTag, IsSegment, IsRow, IsWithin}
 use Rattle.b67_codefile.specs.Meaning.{segment_of, program_of}
 use Rattle.b67_model_text.specs.declared.card.Card.{Card}
 use Rattle.b67_model_text.specs.Hex.{hex_text}
 use Rattle.b67_model_text.specs.Asm.{assembled}
 use Rattle.b67_job_admit.specs.Verdicts.{segment_file, codefile_of, hex_lines, asm_of}
 
-words_back : (tag : ℕ) (words : List Tagged) → AllByRecursion (Bears tag) words → map (word tag) (contents words) ≡ words
+words_back : (tag : ℕ) (words : List Tagged) → AllByRecursion (HasTag tag) words → map (word tag) (contents words) ≡ words
 words_back tag [] all = refl
 words_back tag (w ∷ words) all = let e : word tag w.bits ≡ w = ap (λ (t : ℕ). word t w.bits) (sym all.0.tagged) in rw (e, words_back tag words all.1) refl
 

@@ -6,8 +6,8 @@ ghost use Rattle.b67_job_admit.specs.Verdicts.{asm_verdict, asm_of, hex_lines};
 ghost use Rattle.b67_job_admit.specs.Meets.{of_deck_fault};
 ghost use Rattle.b67_job_admit.specs.CommandMeets.{IsJudged, Meets};
 
-use crate::hex::put_cards;
 use crate::fault::AdmitFault;
+use crate::hex::put_cards;
 use crate::refusal::Refusal;
 use b67_asm::{AsmFault, assemble};
 use b67_card::{DeckFault, read_cards};

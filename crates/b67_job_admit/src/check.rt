@@ -6,8 +6,8 @@ ghost use Rattle.b67_codefile.specs.Meaning.{program_of};
 ghost use Rattle.b67_job_admit.specs.Verdicts.{job_line, job_lines, check_verdict};
 ghost use Rattle.b67_job_admit.specs.CommandMeets.{IsJudged};
 
-use crate::fault::AdmitFault;
 use crate::admission::admit;
+use crate::fault::AdmitFault;
 use b67_codefile::Codefile;
 use b67_io::Source;
 use b67_load_verify::Admitted;

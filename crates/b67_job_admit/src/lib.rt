@@ -9,10 +9,6 @@ mod hex;
 mod programs;
 mod put;
 mod refusal;
-#[cfg(test)]
-mod tests;
-#[cfg(test)]
-mod text_tests;
 
 pub use admission::{admit, file_of};
 pub use asm::asm_text;

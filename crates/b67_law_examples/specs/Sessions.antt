@@ -7,7 +7,7 @@ use Rattle.b67_model.specs.State.{Segment}
 use Rattle.b67_model.specs.Program.{Program, opened}
 use Rattle.b67_model.specs.Steps.{Value, Values, Ends}
 use Rattle.b67_model.specs.Schedule.{Switch, Session}
-use Rattle.b67_model.specs.Run.{RunLine, Moment, start, next}
+use Rattle.b67_model.specs.Run.{RunLine, StepResult, start, next}
 use Rattle.b67_model.specs.Need.{need_next}
 use Rattle.b67_model.specs.Sectors.{sectors}
 use Rattle.b67_model.specs.Loader.{Refusal}
@@ -86,7 +86,7 @@ abbrev pub rule_of : Refusal → ℕ
 rule_of r = r.rule
 
 -- the greatest Need of the next n steps, in a core that has room for each
-abbrev pub most_from : ℕ → Session → Option Moment → ℕ
+abbrev pub most_from : ℕ → Session → Option StepResult → ℕ
 most_from zero s m = 0
 most_from (suc n) s None = 0
 most_from (suc n) s (Some m) = max (unwrap_or (need_next 0x100000 s) 0) (most_from n m.session (next m.session))
@@ -95,7 +95,7 @@ abbrev pub most_need : ℕ → Session → ℕ
 most_need n s = most_from n s (next s)
 
 -- the greatest sector sum of the states of the next n steps
-abbrev pub sectors_from : ℕ → Session → Option Moment → ℕ
+abbrev pub sectors_from : ℕ → Session → Option StepResult → ℕ
 sectors_from zero s m = sectors s.jobs
 sectors_from (suc n) s None = sectors s.jobs
 sectors_from (suc n) s (Some m) = max (sectors s.jobs) (sectors_from n m.session (next m.session))

@@ -27,7 +27,7 @@ pub fn deallocated_array_is_zero()
 pub fn three_sectors_are_enough()
     ensures printed { lines 20 (alone doubled) ≡ ends 1 Ended ∷ [] }
     ensures most { most_sectors 20 (alone doubled) ≡ 3 }
-    ensures code { map (λ m. map (λ s. length s.code) m.setting.segments) (alone doubled).jobs ≡ (3 ∷ []) ∷ [] }
+    ensures code { map (λ m. map (λ s. length s.code) m.constants.segments) (alone doubled).jobs ≡ (3 ∷ []) ∷ [] }
 {}
 
 /// With two sectors the RESIZE, operator ten, is the first step whose state would take more.

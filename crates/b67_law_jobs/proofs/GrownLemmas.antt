@@ -1,300 +1,31 @@
--- Identities only grow: a law of all rows, by one rule for each way in which rows are made.
-use Rattle.std.proofs.Common.{subst, ◌≡◌, ℕ, ◌+◌, Bool, true, false, ℤ, pos, negsuc, List, [], ◌∷◌, reverse, Option, Some, None, Ok, Err, refl, arith, cond}
-use Rattle.b67_word.specs.declared.faults.Fault.{Fault}
+-- Identities only grow: from the rows to whole steps.
+use Rattle.std.proofs.Common.{subst, ℕ, Bool, true, false, List, Option, Some, None, Ok, Err, arith}
 use Rattle.b67_word.specs.declared.faults.Ending.{Ending}
 use Rattle.b67_word.specs.declared.faults.Ending.TheVariants.{Ended, Faulted}
-use Rattle.b67_word.specs.declared.couples.Place.{Place}
-use Rattle.b67_model.specs.declared.operators.Op.{Op}
-use Rattle.b67_model.specs.declared.operators.Op.TheVariants.{Valc, Brun, Brtr, Brfl, Plain}
-use Rattle.b67_model.specs.declared.operators.Code.{Code}
-use Rattle.b67_model.specs.declared.operators.Code.TheVariants.{Exit, Indx, Retn, Entr, Nxlv, Mkst, Stod, Ston, Load}
-use Rattle.b67_model.specs.Answers.{Answer, ◌>>=◌, ◌>>◌}
-use Rattle.b67_model.specs.Words.{Word, Operand}
-use Rattle.b67_model.specs.State.{Standing, Marked, Entered, Return, Task, Setting, Job, Course, Here, with_task}
-use Rattle.b67_model.specs.Chase.{End, AtCell, AtElement, AtArray, AtProc, AtIntrinsic, follow}
-use Rattle.b67_model.specs.Steps.{Line, Done, Goes, Leaves, Waits, top_of, cells_of, result, with_cells, leaves_cells, pushes}
-use Rattle.b67_model.specs.Entry.{mkst, accident, evaluates, enters, left, leaves, exit, returnable, returned, retn_word}
-use Rattle.b67_model.specs.Intrinsics.{answers, arraydec, print, printrow, read, starts, process, awaits, await, status, waits_at, wait, causes, cause, deallocate, resize, intrinsic}
-use Rattle.b67_model.specs.Rows.{CellRow, on_cells, branch_if, valc, load_at, load, indx, nxlv, store_at, store, entr_at, entr_with, entr, plain, row}
+use Rattle.b67_model.specs.Answers.{Answer}
+use Rattle.b67_model.specs.State.{Task, JobConstants, Job, JobProgress, with_task}
+use Rattle.b67_model.specs.Steps.{Done, Goes, Leaves, Waits}
+use Rattle.b67_model.specs.Intrinsics.{read}
 use Rattle.b67_model.specs.Rows.{reading_of, step_by, step}
 use Rattle.b67_model.specs.Operators.{Reading}
 use Rattle.b67_model.specs.Keyed.{keyed}
 use Rattle.b67_model.specs.Endings.{Settled, ends_all, ends_task, ends_each_if, unsettled, settles, stepped}
 use Rattle.b67_model.specs.Alone.{whole, by_task, step_of}
 use Rattle.b67_law_jobs.specs.Grown.{Grown, RowsGrow, StepsGrow}
+use Rattle.b67_law_order.proofs.Posts.{Post, post_err}
+use Rattle.b67_law_order_steps.proofs.Identities.{Grown as RowGrown, Keeps, Good, row_good}
 
--- the fact of an answer's value
-abbrev pub of_value : {A : Type 0} → (A → Type 0) → Answer A → Type 0
-of_value P (Ok x) = P x
-of_value P (Err fault) = Unit {0}
-
-pub record Post {A : Type 0} (P : A → Type 0) (a : Answer A) : Type 0 where
-  pub by : of_value P a
-
-pub post_bind : {A B : Type 0} (P : B → Type 0) (a : Answer A) (go : A → Answer B) → ((x : A) → Post P (go x)) → Post P (a >>= go)
-post_bind P (Ok x) go each = each x
-post_bind P (Err fault) go each = record { by = tt }
-
-pub post_then : {B : Type 0} (P : B → Type 0) (a : Answer (Unit {0})) (rest : Answer B) → Post P rest → Post P (a >> rest)
-post_then P (Ok x) rest holds = holds
-post_then P (Err fault) rest holds = record { by = tt }
-
-pub post_ok : {A : Type 0} (P : A → Type 0) (x : A) → P x → Post P (Ok x)
-post_ok P x holds = record { by = holds }
-
-pub post_err : {A : Type 0} (P : A → Type 0) (fault : Fault) → Post P (Err fault)
-post_err P fault = record { by = tt }
-
--- what the law says of a step: identities only go up
-abbrev pub Keeps : Job → Done → Type 0
-Keeps job (Goes after printed touched) = Grown job after
-Keeps job Leaves = Unit {0}
-Keeps job (Waits condition) = Unit {0}
-
-abbrev pub Good : Here → Answer Done → Type 0
-Good h answer = Post (Keeps h.job) answer
-
-result_good : (h : Here) (k : Here) (job : Job) (task : Task) (printed : List Line) (touched : Option ℕ) → Grown h.job job → Good h (result k job task printed touched)
-result_good h k job task printed touched kept = post_then (Keeps h.job) _ _ (post_ok (Keeps h.job) _ (record { frames = kept.frames; arrays = kept.arrays; tasks = kept.tasks }))
+-- a row's law, as what a job's law says
+of_row : {a b : Job} → RowGrown a b → Grown a b
+of_row g = record { frames = g.frames; arrays = g.arrays; tasks = g.tasks }
 
 same : (job : Job) → Grown job job
 same job = record { frames = omega arith; arrays = omega arith; tasks = omega arith }
 
-cells_good : (h k : Here) (cells : List Word) (touched : Option ℕ) → Grown h.job k.job → Good h (leaves_cells k cells touched)
-cells_good h k cells touched kept = result_good h k k.job (with_cells k cells) [] touched kept
-
--- all rows on cells at once
-on_cells_good : (f : CellRow) (h : Here) → Good h (on_cells f h)
-on_cells_good f h = post_bind (Keeps h.job) (f (cells_of h)) _ (λ cells. cells_good h h cells None (same h.job))
-
-push_good : (h : Here) (w : Word) (touched : Option ℕ) → Good h (pushes h w touched)
-push_good h w touched = cells_good h h (w ∷ cells_of h) touched (same h.job)
-
-accident_good : (h k : Here) (cells : List Word) (back : Return) (end : End) → Grown h.job k.job → Good h (accident k cells back end)
-accident_good h k cells back (AtProc f segment level place) kept =
-    let up : Grown h.job (record k.job { next_frame = k.job.next_frame + 1 }) = record { frames = omega (arith, kept.frames); arrays = kept.arrays; tasks = kept.tasks } in search (post_then, result_good, up)
-accident_good h k cells back (AtCell f offset bits) kept = post_err (Keeps h.job) _
-accident_good h k cells back (AtElement a index) kept = post_err (Keeps h.job) _
-accident_good h k cells back (AtArray a) kept = post_err (Keeps h.job) _
-accident_good h k cells back (AtIntrinsic n) kept = post_err (Keeps h.job) _
-
-evaluates_good : (h k : Here) (end : End) → Grown h.job k.job → Good h (evaluates k end)
-evaluates_good h k (AtCell f offset bits) kept = cells_good h k _ None kept
-evaluates_good h k (AtElement a index) kept = cells_good h k _ (Some a) kept
-evaluates_good h k (AtProc f segment level place) kept = accident_good h k _ _ (AtProc f segment level place) kept
-evaluates_good h k (AtArray a) kept = post_err (Keeps h.job) _
-evaluates_good h k (AtIntrinsic n) kept = post_err (Keeps h.job) _
-
-enters_good : (h : Here) (arguments : List Word) (end : End) → Good h (enters h arguments end)
-enters_good h arguments (AtProc f segment level place) = search (post_then, result_good, same)
-enters_good h arguments (AtCell f offset bits) = post_err (Keeps h.job) _
-enters_good h arguments (AtElement a index) = post_err (Keeps h.job) _
-enters_good h arguments (AtArray a) = post_err (Keeps h.job) _
-enters_good h arguments (AtIntrinsic n) = post_err (Keeps h.job) _
-
-leaves_good : (h : Here) (standing : Standing) (go : Here → Bool → Answer Done) → ((k : Here) (value : Bool) → Grown h.job k.job → Good h (go k value)) → Good h (leaves h standing go)
-leaves_good h Marked go each = post_err (Keeps h.job) _
-leaves_good h (Entered level environment None) go each = post_then (Keeps h.job) _ _ (post_ok (Keeps h.job) _ tt)
-leaves_good h (Entered level environment (Some back)) go each =
-    post_then (Keeps h.job) _ _ (each (left h back) back.value (record { frames = omega arith; arrays = omega arith; tasks = omega arith }))
-
-returned_good : (h k : Here) (w : Word) (value : Bool) → Grown h.job k.job → Good h (returned k w value)
-returned_good h k w false kept = cells_good h k _ None kept
-returned_good h k (Operand bits) true kept = cells_good h k _ None kept
-returned_good h k w true kept = post_bind (Keeps h.job) (follow k w) _ (λ end. evaluates_good h k end kept)
-
-retn_good : (h : Here) (standing : Standing) (cells : List Word) → Good h (retn_word h standing cells)
-retn_good h Marked cells = post_err (Keeps h.job) _
-retn_good h (Entered level environment back) [] = post_err (Keeps h.job) _
-retn_good h (Entered level environment back) (w ∷ cells) =
-    post_bind (Keeps h.job) (returnable h.job (top_of h).identity w) _
-    (λ v. leaves_good h (Entered level environment back) (λ after value. returned after v value) (λ k value kept. returned_good h k v value kept))
-
-grown_not : (job after : Job) → after.next_frame ≡ job.next_frame → after.next_array ≡ job.next_array → after.next_task ≡ job.next_task → Grown job after
-grown_not job after f a t = record { frames = omega (arith, f); arrays = omega (arith, a); tasks = omega (arith, t) }
-
-grown_array : (job after : Job) → after.next_frame ≡ job.next_frame → after.next_array ≡ job.next_array + 1 → after.next_task ≡ job.next_task → Grown job after
-grown_array job after f a t = record { frames = omega (arith, f); arrays = omega (arith, a); tasks = omega (arith, t) }
-
-grown_task : (job after : Job) → after.next_frame ≡ job.next_frame + 1 → after.next_array ≡ job.next_array → after.next_task ≡ job.next_task + 1 → Grown job after
-grown_task job after f a t = record { frames = omega (arith, f); arrays = omega (arith, a); tasks = omega (arith, t) }
-
-post_if : {A : Type 0} (P : A → Type 0) (test : Bool) (a b : Answer A) → Post P a → Post P b → Post P (cond test a b)
-post_if P true a b x y = x
-post_if P false a b x y = y
-
-ruleset steps_rules = (refl, grown_not, grown_array, grown_task, post_if, post_then, post_bind, post_ok, post_err, result_good, cells_good, on_cells_good, push_good, accident_good, evaluates_good, enters_good, leaves_good, returned_good, retn_good, same)
-
-mkst_good : (h : Here) → Good h (mkst h)
-mkst_good h = let up : Grown h.job (record h.job { next_frame = h.job.next_frame + 1 }) = record { frames = omega arith; arrays = omega arith; tasks = omega arith } in search (steps_rules, up)
-
-exit_good : (h : Here) → Good h (exit h)
-exit_good h = leaves_good h (top_of h).standing _ (λ k value kept. result_good h k k.job k.task [] None kept)
-
-branch_good : (wanted : Bool) (h : Here) (cells : List Word) (target : Place) → Good h (branch_if wanted h cells target)
-branch_good wanted h [] target = search steps_rules
-branch_good wanted h (a ∷ rest) target = search steps_rules
-
-valc_good : (h : Here) (couple : ℕ) → Good h (valc h couple)
-valc_good h couple = search steps_rules
-
-load_at_good : (h : Here) (rest : List Word) (end : End) → Good h (load_at h rest end)
-load_at_good h rest (AtProc f segment level place) = search steps_rules
-load_at_good h rest (AtCell f offset bits) = search steps_rules
-load_at_good h rest (AtElement a index) = search steps_rules
-load_at_good h rest (AtArray a) = search steps_rules
-load_at_good h rest (AtIntrinsic n) = search steps_rules
-
-load_good : (h : Here) (cells : List Word) → Good h (load h cells)
-load_good h [] = search steps_rules
-load_good h (w ∷ rest) = search (steps_rules, load_at_good)
-
-indx_good : (h : Here) (cells : List Word) → Good h (indx h cells)
-indx_good h [] = search steps_rules
-indx_good h (b ∷ []) = search steps_rules
-indx_good h (b ∷ a ∷ rest) = search steps_rules
-
-nxlv_good : (h : Here) (cells : List Word) → Good h (nxlv h cells)
-nxlv_good h [] = search steps_rules
-nxlv_good h (b ∷ []) = search steps_rules
-nxlv_good h (b ∷ a ∷ rest) = search steps_rules
-
-store_at_good : (h : Here) (rest kept : List Word) (bits : ℕ) (end : End) → Good h (store_at h rest kept bits end)
-store_at_good h rest kept bits (AtCell f offset old) = post_ok (Keeps h.job) _ (record { frames = omega arith; arrays = omega arith; tasks = omega arith })
-store_at_good h rest kept bits (AtElement a index) = search steps_rules
-store_at_good h rest kept bits (AtProc f segment level place) = search steps_rules
-store_at_good h rest kept bits (AtArray a) = search steps_rules
-store_at_good h rest kept bits (AtIntrinsic n) = search steps_rules
-
-store_good : (keeps : Bool) (h : Here) (cells : List Word) → Good h (store keeps h cells)
-store_good keeps h [] = search steps_rules
-store_good keeps h (b ∷ []) = search steps_rules
-store_good keeps h (b ∷ a ∷ rest) = search (steps_rules, store_at_good)
-
-answers_good : (h : Here) (job : Job) (words : List Word) (printed : List Line) (touched : Option ℕ) → Grown h.job job → Good h (answers h job words printed touched)
-answers_good h job words printed touched kept = search steps_rules
-
-starts_good : (h : Here) (words : List Word) (end : End) → Good h (starts h words end)
-starts_good h words (AtProc f segment level place) = search (steps_rules, answers_good)
-starts_good h words (AtCell f offset bits) = search steps_rules
-starts_good h words (AtElement a index) = search steps_rules
-starts_good h words (AtArray a) = search steps_rules
-starts_good h words (AtIntrinsic n) = search steps_rules
-
-arraydec_good : (h : Here) (arguments : List Word) → Good h (arraydec h arguments)
-arraydec_good h [] = search steps_rules
-arraydec_good h (w ∷ []) = search (steps_rules, answers_good) depth 8
-arraydec_good h (w ∷ v ∷ more) = search steps_rules
-
-print_good : (h : Here) (arguments : List Word) → Good h (print h arguments)
-print_good h [] = search steps_rules
-print_good h (w ∷ []) = search (steps_rules, answers_good)
-print_good h (w ∷ v ∷ more) = search steps_rules
-
-read_good : (h : Here) (arguments : List Word) → Good h (read h arguments)
-read_good h [] = search (steps_rules, answers_good)
-read_good h (w ∷ more) = search steps_rules
-
-process_good : (h : Here) (arguments : List Word) → Good h (process h arguments)
-process_good h [] = search steps_rules
-process_good h (w ∷ more) = search (steps_rules, starts_good)
-
-printrow_good : (h : Here) (arguments : List Word) → Good h (printrow h arguments)
-printrow_good h [] = search steps_rules
-printrow_good h (w ∷ []) = search (steps_rules, answers_good) depth 8
-printrow_good h (w ∷ v ∷ more) = search steps_rules
-
-awaits_good : (h : Here) (n : ℤ) → Good h (awaits h n)
-awaits_good h (pos n) = search (steps_rules, answers_good, tt)
-awaits_good h (negsuc n) = search (steps_rules, answers_good)
-
-await_good : (h : Here) (arguments : List Word) → Good h (await h arguments)
-await_good h [] = search steps_rules
-await_good h (w ∷ []) = search (steps_rules, awaits_good)
-await_good h (w ∷ v ∷ more) = search steps_rules
-
-status_good : (h : Here) (arguments : List Word) → Good h (status h arguments)
-status_good h [] = search steps_rules
-status_good h (w ∷ []) = search (steps_rules, answers_good)
-status_good h (w ∷ v ∷ more) = search steps_rules
-
-waits_at_good : (h : Here) (end : End) → Good h (waits_at h end)
-waits_at_good h (AtCell f offset bits) = search (steps_rules, answers_good, tt)
-waits_at_good h (AtProc f segment level place) = search steps_rules
-waits_at_good h (AtElement a index) = search steps_rules
-waits_at_good h (AtArray a) = search steps_rules
-waits_at_good h (AtIntrinsic n) = search steps_rules
-
-wait_good : (h : Here) (arguments : List Word) → Good h (wait h arguments)
-wait_good h [] = search steps_rules
-wait_good h (w ∷ []) = search (steps_rules, waits_at_good)
-wait_good h (w ∷ v ∷ more) = search steps_rules
-
-causes_good : (h : Here) (end : End) → Good h (causes h end)
-causes_good h (AtCell f offset bits) = search steps_rules
-causes_good h (AtProc f segment level place) = search steps_rules
-causes_good h (AtElement a index) = search steps_rules
-causes_good h (AtArray a) = search steps_rules
-causes_good h (AtIntrinsic n) = search steps_rules
-
-cause_good : (h : Here) (arguments : List Word) → Good h (cause h arguments)
-cause_good h [] = search steps_rules
-cause_good h (w ∷ []) = search (steps_rules, causes_good)
-cause_good h (w ∷ v ∷ more) = search steps_rules
-
-deallocate_good : (h : Here) (arguments : List Word) → Good h (deallocate h arguments)
-deallocate_good h [] = search steps_rules
-deallocate_good h (w ∷ []) = search (steps_rules, answers_good) depth 8
-deallocate_good h (w ∷ v ∷ more) = search steps_rules
-
-resize_good : (h : Here) (arguments : List Word) → Good h (resize h arguments)
-resize_good h [] = search steps_rules
-resize_good h (r ∷ []) = search steps_rules
-resize_good h (r ∷ w ∷ []) = search (steps_rules, answers_good) depth 10
-resize_good h (r ∷ w ∷ v ∷ more) = search steps_rules
-
-intrinsic_good : (n : ℕ) (h : Here) (arguments : List Word) → Good h (intrinsic n h arguments)
-intrinsic_good n h arguments = search (steps_rules, arraydec_good, print_good, printrow_good, read_good, process_good, await_good, status_good, wait_good, cause_good, deallocate_good, resize_good) depth 17
-
-entr_at_good : (h : Here) (arguments : List Word) (end : End) → Good h (entr_at h arguments end)
-entr_at_good h arguments (AtIntrinsic n) = intrinsic_good n h arguments
-entr_at_good h arguments (AtCell f offset bits) = search steps_rules
-entr_at_good h arguments (AtElement a index) = search steps_rules
-entr_at_good h arguments (AtArray a) = search steps_rules
-entr_at_good h arguments (AtProc f segment level place) = enters_good h arguments (AtProc f segment level place)
-
-entr_with_good : (h : Here) (cells : List Word) → Good h (entr_with h cells)
-entr_with_good h [] = search steps_rules
-entr_with_good h (w ∷ more) = search (steps_rules, entr_at_good)
-
-entr_good : (h : Here) (standing : Standing) → Good h (entr h standing)
-entr_good h Marked = entr_with_good h (reverse (cells_of h))
-entr_good h (Entered level environment back) = search steps_rules
-
-plain_good : (code : Code) (h : Here) → Good h (plain code h)
-plain_good Exit h = exit_good h
-plain_good Indx h = indx_good h (cells_of h)
-plain_good Retn h = retn_good h (top_of h).standing (cells_of h)
-plain_good Entr h = entr_good h (top_of h).standing
-plain_good Nxlv h = nxlv_good h (cells_of h)
-plain_good Mkst h = mkst_good h
-plain_good Stod h = store_good false h (cells_of h)
-plain_good Ston h = store_good true h (cells_of h)
-plain_good Load h = load_good h (cells_of h)
-plain_good code h = search steps_rules
-
-row_good : (op : Op) (h : Here) → Good h (row op h)
-row_good (Valc couple) h = valc_good h couple
-row_good (Brun target) h = search steps_rules
-row_good (Brtr target) h = branch_good true h (cells_of h) target
-row_good (Brfl target) h = branch_good false h (cells_of h) target
-row_good (Plain code) h = plain_good code h
-row_good op h = search steps_rules
-
 pub rows_grow : RowsGrow
 rows_grow op h after printed touched e =
     let good : Good h (Ok (Goes after printed touched)) = subst (λ (a : Answer Done). Good h a) e (row_good op h) in
-    good.by
+    of_row good.by
 
 -- the endings of a step take no identity back
 ends_grown : (s : Settled) (endings : List (ℕ × Ending)) → Grown s.job (ends_all s endings).job
@@ -309,32 +40,32 @@ each_grown true ending s = ends_grown s _
 each_grown false ending s = same s.job
 
 settles_grown : (job : Job) (task : Task) (answer : Answer Done) → Post (Keeps job) answer → Grown job (settles job task answer).settled.job
-settles_grown job task (Ok (Goes after printed touched)) good = grown_on good.by (each_grown _ _ (unsettled after))
+settles_grown job task (Ok (Goes after printed touched)) good = grown_on (of_row good.by) (each_grown _ _ (unsettled after))
 settles_grown job task (Ok (Waits condition)) good =
     let after : Job = with_task job (record task { condition = condition }) in
-    grown_on (grown_not job after refl refl refl) (each_grown _ _ (unsettled after))
+    grown_on (record { frames = omega arith; arrays = omega arith; tasks = omega arith }) (each_grown _ _ (unsettled after))
 settles_grown job task (Ok Leaves) good = grown_on (ends_grown (unsettled job) _) (each_grown _ _ (ends_task job task.number Ended))
 settles_grown job task (Err fault) good = grown_on (ends_grown (unsettled job) _) (each_grown _ _ (ends_task job task.number (Faulted fault)))
 
-step_good : (setting : Setting) (job : Job) (task : Task) → Post (Keeps job) (step setting job task)
+step_good : (constants : JobConstants) (job : Job) (task : Task) → Post (Keeps job) (step constants job task)
 unfolding step
-step_good setting job task = read_good_of (reading_of setting task)
+step_good constants job task = read_good_of (reading_of constants task)
   where
-    read_good_of : (read : Reading) → Post (Keeps job) (step_by setting job task read)
+    read_good_of : (read : Reading) → Post (Keeps job) (step_by constants job task read)
     read_good_of (Err undecodable) = post_err (Keeps job) _
     read_good_of (Ok read) = row_good read.0 _
 
-stepped_grown : (setting : Setting) (job : Job) (task : Task) → Grown job (stepped setting job task).settled.job
+stepped_grown : (constants : JobConstants) (job : Job) (task : Task) → Grown job (stepped constants job task).settled.job
 unfolding stepped
-stepped_grown setting job task = settles_grown job task (step setting job task) (step_good setting job task)
+stepped_grown constants job task = settles_grown job task (step constants job task) (step_good constants job task)
 
-whole_grown : (setting : Setting) (c : Course) (task : Task) → Grown c.job (whole setting c task).course.job
-whole_grown setting c task = grown_on (stepped_grown setting c.job task) (each_grown _ _ (stepped setting c.job task).settled)
+whole_grown : (constants : JobConstants) (c : JobProgress) (task : Task) → Grown c.job (whole constants c task).progress.job
+whole_grown constants c task = grown_on (stepped_grown constants c.job task) (each_grown _ _ (stepped constants c.job task).settled)
 
 pub steps_grow : StepsGrow
 unfolding step_of
-steps_grow setting c number = by_option (keyed (λ t. t.number) number c.job.tasks)
+steps_grow constants c number = by_option (keyed (λ t. t.number) number c.job.tasks)
   where
-    by_option : (found : Option Task) → Grown c.job (by_task setting c found).course.job
+    by_option : (found : Option Task) → Grown c.job (by_task constants c found).progress.job
     by_option None = same c.job
-    by_option (Some task) = whole_grown setting c task
+    by_option (Some task) = whole_grown constants c task

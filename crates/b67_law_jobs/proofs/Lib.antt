@@ -1,4 +1,3 @@
-mod KeyedLemmas
 mod ApartLemmas
 mod ChaseLemmas
 mod GrownLemmas

@@ -1,7 +1,7 @@
 -- Identities are counted up and never used again.
 use Rattle.std.specs.Prelude.{◌≡◌, ℕ, ◌≤◌, List, Option, Ok}
 use Rattle.b67_model.specs.declared.operators.Op.{Op}
-use Rattle.b67_model.specs.State.{Setting, Job, Course, Here}
+use Rattle.b67_model.specs.State.{JobConstants, Job, JobProgress, OperatorContext}
 use Rattle.b67_model.specs.Steps.{Line, Goes}
 use Rattle.b67_model.specs.Rows.{row}
 use Rattle.b67_model.specs.Alone.{step_of}
@@ -15,8 +15,8 @@ pub record Grown (before after : Job) : Type 0 where
 -- after the row of any operator
 abbrev pub RowsGrow : Type 0
 RowsGrow =
-    (op : Op) (h : Here) (after : Job) (printed : List Line) (touched : Option ℕ) → row op h ≡ Ok (Goes after printed touched) → Grown h.job after
+    (op : Op) (h : OperatorContext) (after : Job) (printed : List Line) (touched : Option ℕ) → row op h ≡ Ok (Goes after printed touched) → Grown h.job after
 
 -- after a whole step of any task
 abbrev pub StepsGrow : Type 0
-StepsGrow = (setting : Setting) (c : Course) (number : ℕ) → Grown c.job (step_of setting c number).course.job
+StepsGrow = (constants : JobConstants) (c : JobProgress) (number : ℕ) → Grown c.job (step_of constants c number).progress.job

@@ -19,29 +19,18 @@ use Rattle.b67_model_text.specs.declared.assembly.Sketch.TheVariants.{Whole, Out
 use Rattle.b67_model_text.specs.declared.assembly.Statement as statement
 use Rattle.b67_model_text.specs.declared.assembly.Statement.TheVariants as statements
 use Rattle.b67_model_text.specs.declared.assembly.Line.{Line}
-use Rattle.b67_model_text.specs.Answers.{Answer, ◌>>=◌, ◌>>◌, needs}
+use Rattle.b67_model_text.specs.Answers.{Answer, ◌>>=◌}
 use Rattle.b67_model_text.specs.Deck.{of_card}
 use Rattle.b67_model_text.specs.Encoding.{code_of}
 use Rattle.b67_model_text.specs.Asm.{Scope, behind, is_in_range, is_place, is_first_label, has_names, has_label, branch_to, denoted, misplaced, fitted, next, operator_of, operators, meaning, labels, label_at, reach}
+use Rattle.b67_model_text.proofs.Answers.{after_both, after_needs, err-ok}
 use Rattle.b67_law_listing.specs.Operators.{HasBits, AllHaveBits, filled, entries_of}
 use Rattle.b67_law_listing.specs.Listing.{HasLabel, IsLabelled, IsListed, StandsAt, GoesTo, IsFilled, AreFilled, AreRead}
 use Rattle.b67_law_listing.proofs.Laying.{after_is, listing_is}
 use Rattle.b67_law_listing.proofs.Denoting.{AreSmall, mapped, denoted_bits, behind_is}
 
--- answers that follow each other
-pub err-ok : {A R : Type 0} (r : R) (a : A) (P : Type 0) → ◌≡◌ {A = Result A R} (Err r) (Ok a) → P
-err-ok r a P e = absurd (let z : ⊥ = cc in z)
-
 pub same_Ok : {A R : Type 0} (a b : A) → ◌≡◌ {A = Result A R} (Ok a) (Ok b) → a ≡ b
 same_Ok a b e = cc
-
-pub after_both : {A B R : Type 0} (r : Result A R) (go : A → Result B R) (b : B) → (r >>= go) ≡ Ok b → (a : A) × (r ≡ Ok a) × (go a ≡ Ok b)
-after_both (Ok a) go b e = (a, refl, e)
-after_both (Err r) go b e = err-ok r b _ e
-
-pub after_needs : {B : Type 0} (t : Bool) (reason : ℕ) (rest : Answer B) (b : B) → (needs t reason >> rest) ≡ Ok b → (t ≡ true) × (rest ≡ Ok b)
-after_needs true reason rest b e = (refl, e)
-after_needs false reason rest b e = err-ok reason b _ e
 
 pub of_card_ok : {A : Type 0} (number : ℕ) (r : Answer A) (a : A) → of_card number r ≡ Ok a → r ≡ Ok a
 of_card_ok number (Ok x) a e = let is : x ≡ a = cc in ap (λ y. Ok y) is

@@ -25,9 +25,10 @@ use Rattle.b67_model_text.specs.Deck.{Refusal, of_card}
 use Rattle.b67_model_text.specs.Encoding.{code_of}
 use Rattle.b67_model_text.specs.Statements.{mnemonics, sketch_of, bits_in, all_bits, num, operator, kind_of, is_label, with_label, labelled, says, without_comment, line_with, lines_of}
 use Rattle.b67_model_text.specs.Asm.{Names, Scope, Part, CodePart, RowPart, meaning, definition, definitions, segments_behind, rows_behind, segment_count, labels, operators, misplaced, is_head, is_numbers, own, is_segment_number, is_row_number, segment_part, row_part, part_of, row_words, with_part, program_from, no_strays, assembled}
+use Rattle.b67_model_text.proofs.Answers.{after_both, err-ok}
 use Rattle.b67_law_listing.specs.Listing.{scope_in, with_cards, cards_of_segments, SegmentsAreListed}
 use Rattle.b67_law_listing.proofs.Denoting.{IsSmall, AreSmall}
-use Rattle.b67_law_listing.proofs.Cards.{err-ok, same_Ok, after_both, segment_read}
+use Rattle.b67_law_listing.proofs.Cards.{same_Ok, segment_read}
 
 -- ---- only cards of segments and rows define names
 

@@ -8,23 +8,23 @@ use Rattle.b67_model.specs.declared.operators.Op.TheVariants.{Plain}
 use Rattle.b67_model.specs.declared.operators.Code.TheVariants.{Nvld}
 use Rattle.b67_model.specs.Keyed.{keyed, change_keyed}
 use Rattle.b67_lemmas.specs.Lists.{Has}
-use Rattle.b67_model.specs.State.{Task, Member}
+use Rattle.b67_lemmas.proofs.Members.{change_found, change_other, keyed_has}
+use Rattle.b67_lemmas.proofs.Keyed.{change_is}
+use Rattle.b67_model.specs.State.{Task, SessionJob}
 use Rattle.b67_model.specs.Operators.{Reading}
 use Rattle.b67_model.specs.Rows.{reading_of}
 use Rattle.b67_model.specs.Alone.{JobMoment, step_of}
 use Rattle.b67_model.specs.Schedule.{Session, Choice, choice}
-use Rattle.b67_model.specs.Run.{Moment, number_of, of_job, with_moment, moment_by, moment_for, next, after_from, after}
+use Rattle.b67_model.specs.Run.{StepResult, number_of, of_job, with_moment, moment_by, moment_for, next, after_from, after}
 use Rattle.b67_model.specs.InOrder.{IsInOrder}
 use Rattle.b67_law_order_runs.specs.Opening.{Opening, opened_from, opening}
 use Rattle.b67_law_order_runs.proofs.Opens.{opens_in_order}
-use Rattle.b67_law_order.proofs.Members.{keyed_has, change_found, change_other}
 use Rattle.b67_law_order_runs.specs.Runs.{RunsAdmitted}
-use Rattle.b67_law_order_runs.proofs.Totals.{change_is}
-use Rattle.b67_law_order_runs.proofs.Sessions.{sessions_stay_in_order}
+use Rattle.b67_law_order_runs.proofs.Sessions.{sessions_stay_in_order, opened_admitted}
 use Rattle.b67_law_made.specs.RunFaults.{ChosenFaultsAtNvld}
 use Rattle.b67_law_made.specs.RunMade.{Runs}
 use Rattle.b67_law_made.specs.Ended.{SteppedAtNvld, RunsEndExactlyAtNvld}
-use Rattle.b67_law_made.proofs.States.{sessions_fault_exactly_at_nvld, opened_admitted}
+use Rattle.b67_law_made.proofs.States.{sessions_fault_exactly_at_nvld}
 use Rattle.b67_law_made.proofs.Makers.{after_more}
 use Rattle.b67_law_made.proofs.Endings.{FaultIn, step_exact}
 
@@ -34,7 +34,7 @@ pub record TheSame (c : Choice) (job x : ℕ) (op chosen : Op) : Type 0 where
   pub of_task : c.who.task ≡ x
   pub op_is : op ≡ chosen
 
-op_read : (a b : Op) (m n : Place) → (let first : Reading = Ok (a, m) in first ≡ Ok (b, n)) → a ≡ b
+pub op_read : (a b : Op) (m n : Place) → (let first : Reading = Ok (a, m) in first ≡ Ok (b, n)) → a ≡ b
 op_read a b m n e = let pair : (a, m) ≡ (b, n) = cc in ap (λ (y : Op × Place). y.0) pair
 
 the_same : (s : Session) (c : Choice) (job x : ℕ) (op : Op) (t : ChosenFaultsAtNvld s c) → choice s ≡ Some c → Runs s job x op → TheSame c job x op t.at_nvld.op
@@ -44,14 +44,14 @@ the_same s c job x op t chooses r =
     let job_found : keyed number_of c.who.job s.jobs ≡ Some r.member = subst (λ (k : Choice). keyed number_of k.who.job s.jobs ≡ Some r.member) is r.found in
     let members : Some r.member ≡ Some t.member = sym job_found ∙ t.job in
     let member_is : r.member ≡ t.member = cc in
-    let live : keyed (λ t. t.number) c.who.task t.member.course.job.tasks ≡ Some r.task =
-    subst (λ (k : Member). keyed (λ t. t.number) c.who.task k.course.job.tasks ≡ Some r.task) member_is
-    (subst (λ (k : Choice). keyed (λ t. t.number) k.who.task r.member.course.job.tasks ≡ Some r.task) is r.live) in
+    let live : keyed (λ t. t.number) c.who.task t.member.progress.job.tasks ≡ Some r.task =
+    subst (λ (k : SessionJob). keyed (λ t. t.number) c.who.task k.progress.job.tasks ≡ Some r.task) member_is
+    (subst (λ (k : Choice). keyed (λ t. t.number) k.who.task r.member.progress.job.tasks ≡ Some r.task) is r.live) in
     let tasks : Some r.task ≡ Some t.task = sym live ∙ t.live in
     let task_is : r.task ≡ t.task = cc in
-    let reads : reading_of t.member.setting t.task ≡ Ok (op, r.next) =
-    subst (λ (k : Task). reading_of t.member.setting k ≡ Ok (op, r.next)) task_is
-    (subst (λ (k : Member). reading_of k.setting r.task ≡ Ok (op, r.next)) member_is r.stands) in
+    let reads : reading_of t.member.constants t.task ≡ Ok (op, r.next) =
+    subst (λ (k : Task). reading_of t.member.constants k ≡ Ok (op, r.next)) task_is
+    (subst (λ (k : SessionJob). reading_of k.constants r.task ≡ Ok (op, r.next)) member_is r.stands) in
     let read : Ok (op, r.next) ≡ Ok (t.at_nvld.op, t.at_nvld.next) = sym reads ∙ t.at_nvld.stands in
     record {
       of_job = sym (ap (λ (k : Choice). k.who.job) is) ∙ r.of_job;
@@ -68,7 +68,7 @@ after_stop : (k : ℕ) (first s : Session) → after k first ≡ s → next s �
 after_stop zero first s is e = let found : next first ≡ None = ap next is ∙ e in rw found is
 after_stop (suc k) first s is e = by (λ from. after_stop k from s) (next first) refl
   where
-    by : ((from : Session) → after k from ≡ s → next s ≡ None → after (suc k) from ≡ s) → (o : Option Moment) → next first ≡ o → after (suc (suc k)) first ≡ s
+    by : ((from : Session) → after k from ≡ s → next s ≡ None → after (suc k) from ≡ s) → (o : Option StepResult) → next first ≡ o → after (suc (suc k)) first ≡ s
     by rest None f = let stays : first ≡ s = rw f at is in rw f stays
     by rest (Some n) f = let later : after k n.session ≡ s = rw f at is in rw f (rest n.session later e)
 
@@ -83,7 +83,7 @@ runs_on s job x op r e =
 module _ (first : Session) where
   -- after so many steps those have ended that stepped at NVLD
   abbrev pub Exact : ℕ → Session → Type 0
-  Exact k s = (job x : ℕ) (m : Member) → keyed number_of job s.jobs ≡ Some m → FaultIn m.course.ended x ↔ SteppedAtNvld first k job x
+  Exact k s = (job x : ℕ) (m : SessionJob) → keyed number_of job s.jobs ≡ Some m → FaultIn m.progress.ended x ↔ SteppedAtNvld first k job x
 
   later : (k job x : ℕ) → SteppedAtNvld first k job x → SteppedAtNvld first (suc k) job x
   later k job x r = record { steps_before = r.steps_before; earlier = omega (arith, r.earlier); ran = r.ran }
@@ -96,14 +96,14 @@ module _ (first : Session) where
   ]
 
   chosen_exact : (k : ℕ) (s : Session) (c : Choice) (t : ChosenFaultsAtNvld s c) → after k first ≡ s → choice s ≡ Some c → Exact k s →
-      Exact (suc k) (with_moment s c t.member (step_of t.member.setting t.member.course c.who.task))
+      Exact (suc k) (with_moment s c t.member (step_of t.member.constants t.member.progress c.who.task))
   chosen_exact k s c t is chooses exact = each
     where
       made : JobMoment
-      made = step_of t.member.setting t.member.course c.who.task
+      made = step_of t.member.constants t.member.progress c.who.task
 
-      new : Member
-      new = record t.member { course = made.course }
+      new : SessionJob
+      new = record t.member { progress = made.progress }
 
       named : number_of t.member ≡ c.who.job
       named = (keyed_has number_of c.who.job s.jobs t.member t.job).1
@@ -113,18 +113,18 @@ module _ (first : Session) where
         chosen = c;
         chooses = chooses;
         of_job = refl;
-        of_task = sym (keyed_has (λ t. t.number) c.who.task t.member.course.job.tasks t.task t.live).1 ∙ sym stepped;
+        of_task = sym (keyed_has (λ t. t.number) c.who.task t.member.progress.job.tasks t.task t.live).1 ∙ sym stepped;
         member = t.member;
         found = t.job;
         task = t.task;
         live = t.live;
         next = t.at_nvld.next;
-        stands = subst (λ o. reading_of t.member.setting t.task ≡ Ok (o, t.at_nvld.next)) nvld t.at_nvld.stands;
+        stands = subst (λ o. reading_of t.member.constants t.task ≡ Ok (o, t.at_nvld.next)) nvld t.at_nvld.stands;
       }
 
-      own : (x : ℕ) → FaultIn made.course.ended x ↔ SteppedAtNvld first (suc k) c.who.job x
+      own : (x : ℕ) → FaultIn made.progress.ended x ↔ SteppedAtNvld first (suc k) c.who.job x
       own x =
-          let step = step_exact t.member.setting t.member.course c.who.task t.task x t.live in
+          let step = step_exact t.member.constants t.member.progress c.who.task t.task x t.live in
           let old = exact c.who.job x t.member t.job in (
             λ h. elim (step.0 h) [
               | inl o ↦ later k c.who.job x (old.0 o)
@@ -134,23 +134,23 @@ module _ (first : Session) where
               | inl earlier ↦ step.1 (inl (old.1 earlier))
               | inr runs ↦
                   let same = the_same s c c.who.job x (Plain Nvld) t chooses runs in
-                  let number : t.task.number ≡ c.who.task = (keyed_has (λ t. t.number) c.who.task t.member.course.job.tasks t.task t.live).1 in
+                  let number : t.task.number ≡ c.who.task = (keyed_has (λ t. t.number) c.who.task t.member.progress.job.tasks t.task t.live).1 in
                   step.1 (inr (sym same.of_task ∙ sym number, t.at_nvld.faults.1 (sym same.op_is)))
             ],
           )
 
       each : Exact (suc k) (with_moment s c t.member made)
       each job x m found =
-          let jobs = change_is number_of c.who.job (λ (y : Member). record y { course = made.course }) t.member s.jobs t.job in
-          let found' : keyed number_of job (change_keyed number_of c.who.job (λ (y : Member). new) s.jobs) ≡ Some m = subst (λ (js : List Member). keyed number_of job js ≡ Some m) jobs found in
+          let jobs = change_is number_of c.who.job (λ (y : SessionJob). record y { progress = made.progress }) t.member s.jobs t.job in
+          let found' : keyed number_of job (change_keyed number_of c.who.job (λ (y : SessionJob). new) s.jobs) ≡ Some m = subst (λ (js : List SessionJob). keyed number_of job js ≡ Some m) jobs found in
           elim (eqb_tells job c.who.job) [
             | inl a ↦
-                let here : keyed number_of c.who.job (change_keyed number_of c.who.job (λ (y : Member). new) s.jobs) ≡ Some m =
-                subst (λ j. keyed number_of j (change_keyed number_of c.who.job (λ (y : Member). new) s.jobs) ≡ Some m) a.1 found' in
+                let here : keyed number_of c.who.job (change_keyed number_of c.who.job (λ (y : SessionJob). new) s.jobs) ≡ Some m =
+                subst (λ j. keyed number_of j (change_keyed number_of c.who.job (λ (y : SessionJob). new) s.jobs) ≡ Some m) a.1 found' in
                 let both : Some new ≡ Some m = sym (change_found number_of c.who.job t.member new s.jobs named t.job) ∙ here in
                 let same : new ≡ m = cc in
-                subst (λ (y : Member). FaultIn y.course.ended x ↔ SteppedAtNvld first (suc k) job x) same
-                (subst (λ j. FaultIn new.course.ended x ↔ SteppedAtNvld first (suc k) j x) (sym a.1) (own x))
+                subst (λ (y : SessionJob). FaultIn y.progress.ended x ↔ SteppedAtNvld first (suc k) job x) same
+                (subst (λ j. FaultIn new.progress.ended x ↔ SteppedAtNvld first (suc k) j x) (sym a.1) (own x))
             | inr a ↦
                 let old = exact job x m (sym (change_other number_of job c.who.job new s.jobs named a.1) ∙ found') in (
                   λ h. later k job x (old.0 h),
@@ -161,7 +161,7 @@ module _ (first : Session) where
                 )
           ]
 
-  next_exact : (k : ℕ) (s : Session) (after' : Moment) → after k first ≡ s → IsInOrder s → AllByRecursion RunsAdmitted s.jobs → Exact k s → next s ≡ Some after' → Exact (suc k) after'.session
+  next_exact : (k : ℕ) (s : Session) (after' : StepResult) → after k first ≡ s → IsInOrder s → AllByRecursion RunsAdmitted s.jobs → Exact k s → next s ≡ Some after' → Exact (suc k) after'.session
   unfolding next
   next_exact k s after' is order admitted exact e = by_choice (choice s) refl e
     where
@@ -169,11 +169,11 @@ module _ (first : Session) where
       by_choice None is' f = absurd (let z : ⊥ = cc in z)
       by_choice (Some c) is' f =
           let t = (sessions_fault_exactly_at_nvld s order admitted).chosen c is' in
-          let made = step_of t.member.setting t.member.course c.who.task in
-          let moment : Moment = record { session = with_moment s c t.member made; lines = of_job c.who.job made.lines } in
+          let made = step_of t.member.constants t.member.progress c.who.task in
+          let moment : StepResult = record { session = with_moment s c t.member made; lines = of_job c.who.job made.lines } in
           let some : Some moment ≡ Some after' = subst (λ o. moment_by s c o ≡ Some after') t.job f in
           let same : moment ≡ after' = cc in
-          subst (λ (x : Moment). Exact (suc k) x.session) same (chosen_exact k s c t is is' exact)
+          subst (λ (x : StepResult). Exact (suc k) x.session) same (chosen_exact k s c t is is' exact)
 
   stop_exact : (k : ℕ) (s : Session) → after k first ≡ s → Exact k s → next s ≡ None → Exact (suc k) s
   stop_exact k s is exact e job x m found =
@@ -187,7 +187,7 @@ module _ (first : Session) where
   follows total (suc n) k s is sum order admitted exact = by (follows total n (suc k)) (next s) refl
     where
       by : ((s' : Session) → after (suc k) first ≡ s' → suc k + n ≡ total → IsInOrder s' → AllByRecursion RunsAdmitted s'.jobs → Exact (suc k) s' → Exact total (after n s')) →
-          (o : Option Moment) → next s ≡ o → Exact total (after_from (suc n) s o)
+          (o : Option StepResult) → next s ≡ o → Exact total (after_from (suc n) s o)
       by rest (Some m) e =
           let both = sessions_stay_in_order s m order admitted e in
           rest m.session (after_more k first s m is e) (omega (arith, sum)) both.0 both.1 (next_exact k s m is order admitted exact e)
@@ -195,10 +195,10 @@ module _ (first : Session) where
           subst (λ (y : Session). Exact total y) (after_stays n s e)
           (rest s (after_stop k first s is e) (omega (arith, sum)) order admitted (stop_exact k s is exact e))
 
-none_ended : (number stack : ℕ) (openings : List Opening) (m : Member) → Has (opened_from number stack openings) m → m.course.ended ≡ []
+none_ended : (number stack : ℕ) (openings : List Opening) (m : SessionJob) → Has (opened_from number stack openings) m → m.progress.ended ≡ []
 none_ended number stack [] m h = absurd h
 none_ended number stack (o ∷ more) m h = elim h [
-  | inl is ↦ sym (ap (λ (x : Member). x.course.ended) is)
+  | inl is ↦ sym (ap (λ (x : SessionJob). x.progress.ended) is)
   | inr r ↦ none_ended (number + 1) stack more m r
 ]
 

@@ -8,12 +8,12 @@ use Rattle.b67_word.specs.declared.faults.Ending.TheVariants.{Ended, Parent, Dea
 use Rattle.b67_model.specs.Answers.{Answer}
 use Rattle.b67_model.specs.Keyed.{keyed}
 use Rattle.b67_lemmas.specs.Lists.{Has}
-use Rattle.b67_model.specs.State.{Task, Setting, Job, Course, with_task}
+use Rattle.b67_lemmas.proofs.Members.{has_append_cases, has_append_left, has_append_right, has_map_back}
+use Rattle.b67_model.specs.State.{Task, JobConstants, Job, JobProgress, with_task}
 use Rattle.b67_model.specs.Steps.{Done, Goes, Leaves, Waits}
 use Rattle.b67_model.specs.Rows.{step}
 use Rattle.b67_model.specs.Endings.{Settled, is_ready, all_with, deepest_first, descendants, ends_task, ends_each_if, unsettled, settles, stepped}
 use Rattle.b67_model.specs.Alone.{by_task, step_of}
-use Rattle.b67_law_order.proofs.Members.{has_append_left, has_append_right, has_append_cases, has_map_back}
 
 abbrev pub FaultIn : List (ℕ × Ending) → ℕ → Type 0
 FaultIn endings x = Has endings (x, Faulted InvalidOperator)
@@ -93,29 +93,29 @@ settles_exact job task (Err fault) x = (
     ended : Settled
     ended = ends_task job task.number (Faulted fault)
 
-stepped_exact : (setting : Setting) (job : Job) (task : Task) (x : ℕ) → FaultIn (stepped setting job task).settled.endings x ↔ ((x ≡ task.number) × (step setting job task ≡ Err InvalidOperator))
+stepped_exact : (constants : JobConstants) (job : Job) (task : Task) (x : ℕ) → FaultIn (stepped constants job task).settled.endings x ↔ ((x ≡ task.number) × (step constants job task ≡ Err InvalidOperator))
 unfolding stepped
-stepped_exact setting job task x = settles_exact job task (step setting job task) x
+stepped_exact constants job task x = settles_exact job task (step constants job task) x
 
 -- who has ended so after a whole step
-pub step_exact : (setting : Setting) (c : Course) (number : ℕ) (task : Task) (x : ℕ) → keyed (λ t. t.number) number c.job.tasks ≡ Some task →
-    FaultIn (step_of setting c number).course.ended x ↔ (FaultIn c.ended x ⊎ ((x ≡ task.number) × (step setting c.job task ≡ Err InvalidOperator)))
+pub step_exact : (constants : JobConstants) (c : JobProgress) (number : ℕ) (task : Task) (x : ℕ) → keyed (λ t. t.number) number c.job.tasks ≡ Some task →
+    FaultIn (step_of constants c number).progress.ended x ↔ (FaultIn c.ended x ⊎ ((x ≡ task.number) × (step constants c.job task ≡ Err InvalidOperator)))
 unfolding step_of
-step_exact setting c number task x live =
-    subst (λ o. FaultIn (by_task setting c o).course.ended x ↔ (FaultIn c.ended x ⊎ ((x ≡ task.number) × (step setting c.job task ≡ Err InvalidOperator)))) (sym live) (forward, back)
+step_exact constants c number task x live =
+    subst (λ o. FaultIn (by_task constants c o).progress.ended x ↔ (FaultIn c.ended x ⊎ ((x ≡ task.number) × (step constants c.job task ≡ Err InvalidOperator)))) (sym live) (forward, back)
   where
     made : Settled
-    made = (stepped setting c.job task).settled
+    made = (stepped constants c.job task).settled
 
     last : Settled
-    last = ends_each_if (eqb (c.made + 1) setting.limit) Limit made
+    last = ends_each_if (eqb (c.made + 1) constants.limit) Limit made
 
-    forward : FaultIn (c.ended ++ last.endings) x → FaultIn c.ended x ⊎ ((x ≡ task.number) × (step setting c.job task ≡ Err InvalidOperator))
+    forward : FaultIn (c.ended ++ last.endings) x → FaultIn c.ended x ⊎ ((x ≡ task.number) × (step constants c.job task ≡ Err InvalidOperator))
     forward h = elim (has_append_cases c.ended last.endings (x, Faulted InvalidOperator) h) [
       | inl old ↦ inl old
-      | inr new ↦ inr ((stepped_exact setting c.job task x).0 ((each_exact (eqb (c.made + 1) setting.limit) Limit made x limit_ne).0 new))
+      | inr new ↦ inr ((stepped_exact constants c.job task x).0 ((each_exact (eqb (c.made + 1) constants.limit) Limit made x limit_ne).0 new))
     ]
 
-    back : FaultIn c.ended x ⊎ ((x ≡ task.number) × (step setting c.job task ≡ Err InvalidOperator)) → FaultIn (c.ended ++ last.endings) x
+    back : FaultIn c.ended x ⊎ ((x ≡ task.number) × (step constants c.job task ≡ Err InvalidOperator)) → FaultIn (c.ended ++ last.endings) x
     back (inl old) = has_append_left c.ended last.endings (x, Faulted InvalidOperator) old
-    back (inr new) = has_append_right c.ended last.endings (x, Faulted InvalidOperator) ((each_exact (eqb (c.made + 1) setting.limit) Limit made x limit_ne).1 ((stepped_exact setting c.job task x).1 new))
+    back (inr new) = has_append_right c.ended last.endings (x, Faulted InvalidOperator) ((each_exact (eqb (c.made + 1) constants.limit) Limit made x limit_ne).1 ((stepped_exact constants c.job task x).1 new))

@@ -8,16 +8,17 @@ use Rattle.b67_model.specs.declared.operators.Op.{Op}
 use Rattle.b67_model.specs.Answers.{Answer}
 use Rattle.b67_model.specs.Keyed.{keyed, change_keyed}
 use Rattle.b67_lemmas.specs.Lists.{Has}
+use Rattle.b67_lemmas.proofs.Members.{has_filter, has_map_back, keyed_has}
 use Rattle.b67_model.specs.Words.{Word}
-use Rattle.b67_model.specs.State.{Frame, Standing, Task, Setting, Job, Course, with_task}
+use Rattle.b67_model.specs.State.{Frame, Standing, Task, JobConstants, Job, JobProgress, with_task}
+use Rattle.b67_model.specs.Called.{called}
 use Rattle.b67_model.specs.Steps.{Line, Done, Goes, Leaves, Waits}
 use Rattle.b67_model.specs.Operators.{Reading}
 use Rattle.b67_model.specs.Rows.{row, reading_of, step_by, step}
 use Rattle.b67_model.specs.Endings.{Settled, among, released, ends_all, ends_task, ends_each_if, unsettled, settles, stepped}
 use Rattle.b67_model.specs.Alone.{by_task, step_of}
-use Rattle.b67_law_order.proofs.Members.{has_map_back, has_filter, keyed_has}
 use Rattle.b67_law_order_rows.proofs.Kept.{here}
-use Rattle.b67_law_made.specs.Made.{Makes, MakesMark, StandsIn}
+use Rattle.b67_law_made.specs.Made.{OperatorMakes, MakesMark, StandsIn}
 use Rattle.b67_law_made.proofs.Rows.{each_row_makes_its_words}
 
 -- an item of a list with one item changed
@@ -38,17 +39,17 @@ has_changed key n change (y ∷ ys) x h = elim (eqb_tells (key y) n) [
 ]
 
 -- the row of a step that goes on
-pub record StepRow (setting : Setting) (job : Job) (task : Task) (done : Done) : Type 0 where
+pub record StepRow (constants : JobConstants) (job : Job) (task : Task) (done : Done) : Type 0 where
   pub op : Op
   pub next : Place
-  pub reads : reading_of setting task ≡ Ok (op, next)
-  pub row_is : row op (here setting job task next) ≡ Ok done
+  pub reads : reading_of constants task ≡ Ok (op, next)
+  pub row_is : row op (here constants job task next) ≡ Ok done
 
-step_row : (setting : Setting) (job : Job) (task : Task) (done : Done) → step setting job task ≡ Ok done → StepRow setting job task done
+step_row : (constants : JobConstants) (job : Job) (task : Task) (done : Done) → step constants job task ≡ Ok done → StepRow constants job task done
 unfolding step
-step_row setting job task done e = by (reading_of setting task) refl e
+step_row constants job task done e = by (reading_of constants task) refl e
   where
-    by : (r : Reading) → reading_of setting task ≡ r → step_by setting job task r ≡ Ok done → StepRow setting job task done
+    by : (r : Reading) → reading_of constants task ≡ r → step_by constants job task r ≡ Ok done → StepRow constants job task done
     by (Err why) is f = absurd (let z : ⊥ = cc in z)
     by (Ok read) is f = record { op = read.0; next = read.1; reads = is; row_is = f }
 
@@ -60,9 +61,9 @@ module _ (W : Word → Type 0) (M : ℕ → Standing → Type 0) where
   TasksMade tasks = (t : Task) → Has tasks t → FramesMade t.frames
 
   -- what an operator makes is so made
-  pub record Maker (op : Op) : Type 0 where
-    pub words : (w : Word) → Makes op w → W w
-    pub marks : (identity : ℕ) (standing : Standing) → MakesMark op standing → M identity standing
+  pub record Maker (op : Op) (call : Option ℕ) : Type 0 where
+    pub words : (w : Word) → OperatorMakes op call w → W w
+    pub marks : (identity : ℕ) (standing : Standing) → MakesMark op call standing → M identity standing
 
   ends_kept : (s : Settled) (endings : List (ℕ × Ending)) → TasksMade s.job.tasks → TasksMade (ends_all s endings).job.tasks
   ends_kept s endings all t h =
@@ -93,11 +94,11 @@ module _ (W : Word → Type 0) (M : ℕ → Standing → Type 0) where
   settles_kept job task (Ok Leaves) live all goes = each_kept _ Deadlock (ends_task job task.number Ended) (task_kept job task.number Ended all)
   settles_kept job task (Err fault) live all goes = each_kept _ Deadlock (ends_task job task.number (Faulted fault)) (task_kept job task.number (Faulted fault) all)
 
-  row_kept : (setting : Setting) (job : Job) (task : Task) (after : Job) (printed : List Line) (touched : Option ℕ) → Has job.tasks task → TasksMade job.tasks →
-      (r : StepRow setting job task (Goes after printed touched)) → Maker r.op → TasksMade after.tasks
-  row_kept setting job task after printed touched live all r maker t h f among =
+  row_kept : (constants : JobConstants) (job : Job) (task : Task) (after : Job) (printed : List Line) (touched : Option ℕ) → Has job.tasks task → TasksMade job.tasks →
+      (r : StepRow constants job task (Goes after printed touched)) → Maker r.op (called r.op (here constants job task r.next)) → TasksMade after.tasks
+  row_kept constants job task after printed touched live all r maker t h f among =
       let stands : StandsIn after.tasks f = record { task = t; live = h; among = among } in
-      let made = each_row_makes_its_words r.op (here setting job task r.next) task after printed touched live refl r.row_is f stands in (
+      let made = each_row_makes_its_words r.op (here constants job task r.next) task after printed touched live refl r.row_is f stands in (
         λ w has. elim (made.words w has) [
           | inl old ↦ (all old.stands.task old.stands.live old.frame old.stands.among).0 w old.among
           | inr new ↦ maker.words w new
@@ -110,22 +111,22 @@ module _ (W : Word → Type 0) (M : ℕ → Standing → Type 0) where
         ],
       )
 
-  stepped_kept : (setting : Setting) (job : Job) (task : Task) → Has job.tasks task → TasksMade job.tasks →
-      ((op : Op) (next : Place) → reading_of setting task ≡ Ok (op, next) → Maker op) → TasksMade (stepped setting job task).settled.job.tasks
+  stepped_kept : (constants : JobConstants) (job : Job) (task : Task) → Has job.tasks task → TasksMade job.tasks →
+      ((op : Op) (next : Place) → reading_of constants task ≡ Ok (op, next) → Maker op (called op (here constants job task next))) → TasksMade (stepped constants job task).settled.job.tasks
   unfolding stepped
-  stepped_kept setting job task live all makers = settles_kept job task (step setting job task) live all (λ after printed touched e.
-      let r = step_row setting job task (Goes after printed touched) e in
-      row_kept setting job task after printed touched live all r (makers r.op r.next r.reads))
+  stepped_kept constants job task live all makers = settles_kept job task (step constants job task) live all (λ after printed touched e.
+      let r = step_row constants job task (Goes after printed touched) e in
+      row_kept constants job task after printed touched live all r (makers r.op r.next r.reads))
 
   -- a whole step of a job
-  pub step_kept : (setting : Setting) (c : Course) (number : ℕ) → TasksMade c.job.tasks →
-      ((task : Task) (op : Op) (next : Place) → keyed (λ t. t.number) number c.job.tasks ≡ Some task → reading_of setting task ≡ Ok (op, next) → Maker op) →
-      TasksMade (step_of setting c number).course.job.tasks
+  pub step_kept : (constants : JobConstants) (c : JobProgress) (number : ℕ) → TasksMade c.job.tasks →
+      ((task : Task) (op : Op) (next : Place) → keyed (λ t. t.number) number c.job.tasks ≡ Some task → reading_of constants task ≡ Ok (op, next) → Maker op (called op (here constants c.job task next))) →
+      TasksMade (step_of constants c number).progress.job.tasks
   unfolding step_of
-  step_kept setting c number all makers = by (keyed (λ t. t.number) number c.job.tasks) refl
+  step_kept constants c number all makers = by (keyed (λ t. t.number) number c.job.tasks) refl
     where
-      by : (o : Option Task) → keyed (λ t. t.number) number c.job.tasks ≡ o → TasksMade (by_task setting c o).course.job.tasks
+      by : (o : Option Task) → keyed (λ t. t.number) number c.job.tasks ≡ o → TasksMade (by_task constants c o).progress.job.tasks
       by None e = all
       by (Some task) e =
-          each_kept (eqb (c.made + 1) setting.limit) Limit (stepped setting c.job task).settled
-          (stepped_kept setting c.job task (keyed_has (λ t. t.number) number c.job.tasks task e).0 all (λ op next reads. makers task op next e reads))
+          each_kept (eqb (c.made + 1) constants.limit) Limit (stepped constants c.job task).settled
+          (stepped_kept constants c.job task (keyed_has (λ t. t.number) number c.job.tasks task e).0 all (λ op next reads. makers task op next e reads))

@@ -8,13 +8,13 @@ use Rattle.b67_model.specs.declared.operators.Op.{Op}
 use Rattle.b67_model.specs.declared.operators.Op.TheVariants.{Mpcw, Plain}
 use Rattle.b67_model.specs.declared.operators.Code.TheVariants.{Nvld}
 use Rattle.b67_lemmas.specs.Lists.{Has}
-use Rattle.b67_model.specs.State.{Task, Setting, Job}
+use Rattle.b67_lemmas.proofs.Members.{all_in, keyed_has}
+use Rattle.b67_model.specs.State.{Task, JobConstants, Job}
 use Rattle.b67_model.specs.Operators.{Reading, operator_at}
 use Rattle.b67_model.specs.Program.{Program}
-use Rattle.b67_model.specs.Loader.{At, origin, listing, is_off, IsAdmitted}
+use Rattle.b67_model.specs.Loader.{At, origin, listing, has_stray_bits, IsAdmitted}
 use Rattle.b67_model.specs.Rows.{is_proc, row, reading_of, step_by, step}
 use Rattle.b67_model.specs.InOrder.{IsStart, TaskInOrder, TasksInOrder}
-use Rattle.b67_law_order.proofs.Members.{all_in, keyed_has}
 use Rattle.b67_law_order_rows.proofs.Kept.{here}
 use Rattle.b67_law_order_steps.proofs.Admitted.{listed, Sound, admitted_sound, Entered, entered}
 use Rattle.b67_law_made.proofs.FaultRows.{invalid_operator_is_nvld}
@@ -22,49 +22,49 @@ use Rattle.b67_law_made.specs.RunFaults.{FaultsAtNvld, InvalidOperatorExactlyAtN
 use Rattle.b67_law_made.proofs.Literals.{literal_passes}
 
 -- the row of an operator whose literal passes
-row_faults : (setting : Setting) (job : Job) (task : Task) (op : Op) (next : Place) → ((bits : ℕ) → op ≡ Mpcw bits → is_proc (here setting job task next) bits ≡ true) →
-    (row op (here setting job task next) ≡ Err InvalidOperator) ↔ (op ≡ Plain Nvld)
-row_faults setting job task op next passes = (only, λ is. subst (λ (o : Op). row o (here setting job task next) ≡ Err InvalidOperator) (sym is) refl)
+row_faults : (constants : JobConstants) (job : Job) (task : Task) (op : Op) (next : Place) → ((bits : ℕ) → op ≡ Mpcw bits → is_proc (here constants job task next) bits ≡ true) →
+    (row op (here constants job task next) ≡ Err InvalidOperator) ↔ (op ≡ Plain Nvld)
+row_faults constants job task op next passes = (only, λ is. subst (λ (o : Op). row o (here constants job task next) ≡ Err InvalidOperator) (sym is) refl)
   where
-    only : row op (here setting job task next) ≡ Err InvalidOperator → op ≡ Plain Nvld
-    only e = elim (invalid_operator_is_nvld op (here setting job task next) e) [
+    only : row op (here constants job task next) ≡ Err InvalidOperator → op ≡ Plain Nvld
+    only e = elim (invalid_operator_is_nvld op (here constants job task next) e) [
       | inl is ↦ is
       | inr literal ↦ absurd (true≢false (sym (passes literal.0 literal.1) ∙ literal.2))
     ]
 
-step_faults : (setting : Setting) (job : Job) (task : Task) (op : Op) (next : Place) → reading_of setting task ≡ Ok (op, next) → ((bits : ℕ) → op ≡ Mpcw bits → is_proc (here setting job task next) bits ≡ true) →
-    (step setting job task ≡ Err InvalidOperator) ↔ (op ≡ Plain Nvld)
+step_faults : (constants : JobConstants) (job : Job) (task : Task) (op : Op) (next : Place) → reading_of constants task ≡ Ok (op, next) → ((bits : ℕ) → op ≡ Mpcw bits → is_proc (here constants job task next) bits ≡ true) →
+    (step constants job task ≡ Err InvalidOperator) ↔ (op ≡ Plain Nvld)
 unfolding step
-step_faults setting job task op next reads passes =
-    subst (λ (r : Reading). (step_by setting job task r ≡ Err InvalidOperator) ↔ (op ≡ Plain Nvld)) (sym reads) (row_faults setting job task op next passes)
+step_faults constants job task op next reads passes =
+    subst (λ (r : Reading). (step_by constants job task r ≡ Err InvalidOperator) ↔ (op ≡ Plain Nvld)) (sym reads) (row_faults constants job task op next passes)
 
 -- a task at a start
-pub start_faults : (p : Program) (setting : Setting) (job : Job) (task : Task) (level : ℕ) → IsAdmitted p → setting.segments ≡ p.segments → IsStart setting task.segment level task.place → FaultsAtNvld setting job task
-start_faults p setting job task level admitted same at = record {
+pub start_faults : (p : Program) (constants : JobConstants) (job : Job) (task : Task) (level : ℕ) → IsAdmitted p → constants.segments ≡ p.segments → IsStart constants task.segment level task.place → FaultsAtNvld constants job task
+start_faults p constants job task level admitted same at = record {
   op = at.op;
   next = entry.next;
   stands = reads;
-  faults = step_faults setting job task at.op entry.next reads passes;
+  faults = step_faults constants job task at.op entry.next reads passes;
 }
   where
     entry : Entered at.code.code (listing at.code.code) task.place at.op
     entry = entered _ at.code.code origin (operator_at at.code.code origin) task.place at.op refl at.stands
 
-    reads : reading_of setting task ≡ Ok (at.op, entry.next)
+    reads : reading_of constants task ≡ Ok (at.op, entry.next)
     reads = rw at.found entry.reads
 
     sound : (m : ℕ) × Sound (listed p m at.code)
     sound = admitted_sound p (task.segment - 1) at.code admitted (subst (λ ss. slice_get ss (task.segment - 1) ≡ Some at.code) same at.found)
 
-    passes : (bits : ℕ) → at.op ≡ Mpcw bits → is_proc (here setting job task entry.next) bits ≡ true
+    passes : (bits : ℕ) → at.op ≡ Mpcw bits → is_proc (here constants job task entry.next) bits ≡ true
     passes bits is =
         let stands : Has (listing at.code.code) (At task.place (Mpcw bits)) = subst (λ o. Has (listing at.code.code) (At task.place o)) is at.stands in
-        literal_passes p (here setting job task entry.next) bits same (sound.1 (At task.place (Mpcw bits)) stands (7, is_off p bits) (inr (inr (inr (inr (inl refl))))))
+        literal_passes p (here constants job task entry.next) bits same (sound.1 (At task.place (Mpcw bits)) stands (7, has_stray_bits p bits) (inr (inr (inr (inr (inl refl))))))
 
-pub task_faults : (p : Program) (setting : Setting) (job : Job) (task : Task) → IsAdmitted p → setting.segments ≡ p.segments → TasksInOrder (IsStart setting) setting job → Has job.tasks task → FaultsAtNvld setting job task
-task_faults p setting job task admitted same order live =
-    start_faults p setting job task _ admitted same (all_in (TaskInOrder (IsStart setting) setting job) job.tasks task order.tasks live).place
+pub task_faults : (p : Program) (constants : JobConstants) (job : Job) (task : Task) → IsAdmitted p → constants.segments ≡ p.segments → TasksInOrder (IsStart constants) constants job → Has job.tasks task → FaultsAtNvld constants job task
+task_faults p constants job task admitted same order live =
+    start_faults p constants job task _ admitted same (all_in (TaskInOrder (IsStart constants) constants job) job.tasks task order.tasks live).place
 
 pub invalid_operator_exactly_at_nvld : InvalidOperatorExactlyAtNvld
-invalid_operator_exactly_at_nvld p setting job task admitted same order live =
-    task_faults p setting job task admitted same order (keyed_has (λ t. t.number) task.number job.tasks task live).0
+invalid_operator_exactly_at_nvld p constants job task admitted same order live =
+    task_faults p constants job task admitted same order (keyed_has (λ t. t.number) task.number job.tasks task live).0

@@ -1,12 +1,12 @@
 -- The words, marks and returns of an opening state.
 use Rattle.std.proofs.Common.{◌≡◌, ℕ, zero, suc, ◌+◌, ◌<◌, ◌≤◌, List, [], ◌∷◌, ◌++◌, length, refl, sym, ap, subst, inl, inr, arith}
 use Rattle.b67_lemmas.specs.Lists.{Has}
+use Rattle.b67_lemmas.proofs.Members.{has_append_cases, has_append_left, has_append_right, has_reverse, has_reverse_back}
 use Rattle.b67_model.specs.Words as Words
 use Rattle.b67_model.specs.Words.{Word, Operand, Name, Ref, Row, Element, Original, Proc, Intrinsic}
-use Rattle.b67_model.specs.State.{Frame, Task, Segment, Member}
+use Rattle.b67_model.specs.State.{Frame, Task, Segment, SessionJob}
 use Rattle.b67_model.specs.Program.{Program, segment_words, originals, opened}
 use Rattle.b67_law_order_runs.specs.Opening.{Opening, opened_from}
-use Rattle.b67_law_order.proofs.Members.{has_append_left, has_append_right, has_append_cases, has_reverse, has_reverse_back}
 use Rattle.b67_law_made.specs.Opened.{LoaderMakes, MadeByLoader, OpenedByLoader, OpeningsMadeByLoader}
 
 -- a number of these
@@ -86,10 +86,10 @@ loader_made number stack o = record {
   ];
 }
 
-each_made : (number stack : ℕ) (openings : List Opening) (m : Member) → Has (opened_from number stack openings) m → OpenedByLoader openings m
+each_made : (number stack : ℕ) (openings : List Opening) (m : SessionJob) → Has (opened_from number stack openings) m → OpenedByLoader openings m
 each_made number stack [] m h = absurd h
 each_made number stack (o ∷ more) m h = elim h [
-  | inl is ↦ record { opens = o; among = inl refl; made = subst (λ (x : Member). MadeByLoader o.program x) is (loader_made number stack o) }
+  | inl is ↦ record { opens = o; among = inl refl; made = subst (λ (x : SessionJob). MadeByLoader o.program x) is (loader_made number stack o) }
   | inr r ↦ let k = each_made (number + 1) stack more m r in record { opens = k.opens; among = inr k.among; made = k.made }
 ]
 

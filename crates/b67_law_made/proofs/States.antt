@@ -1,18 +1,18 @@
 -- Every state of a run faults INVALID OPERATOR exactly at NVLD.
-use Rattle.std.proofs.Common.{◌≡◌, ℕ, zero, suc, ◌+◌, List, [], ◌∷◌, Option, Some, None, refl, subst}
+use Rattle.std.proofs.Common.{◌≡◌, ℕ, zero, suc, Option, Some, None, refl, subst}
 use Rattle.std.specs.List.{AllByRecursion}
 use Rattle.b67_model.specs.Keyed.{keyed}
 use Rattle.b67_lemmas.specs.Lists.{Has}
-use Rattle.b67_model.specs.State.{Task, Member}
+use Rattle.b67_lemmas.proofs.Members.{all_in, keyed_falls}
+use Rattle.b67_model.specs.State.{Task, SessionJob}
 use Rattle.b67_model.specs.Schedule.{Session}
-use Rattle.b67_model.specs.Run.{Moment, number_of, next, after_from, after}
+use Rattle.b67_model.specs.Run.{StepResult, number_of, next, after_from, after}
 use Rattle.b67_model.specs.InOrder.{IsStart, JobInOrder, IsInOrder}
-use Rattle.b67_law_order_runs.specs.Opening.{Opening, OpeningWithin, opened_from, opening}
+use Rattle.b67_law_order_runs.specs.Opening.{opening}
 use Rattle.b67_law_order_runs.proofs.Opens.{opens_in_order}
-use Rattle.b67_law_order.proofs.Members.{all_in, keyed_falls}
 use Rattle.b67_law_order_runs.specs.Runs.{RunsAdmitted}
 use Rattle.b67_law_order_runs.proofs.Chosen.{chosen, keyed_numbered}
-use Rattle.b67_law_order_runs.proofs.Sessions.{sessions_stay_in_order}
+use Rattle.b67_law_order_runs.proofs.Sessions.{sessions_stay_in_order, opened_admitted}
 use Rattle.b67_law_made.specs.RunFaults.{FaultsAtNvld, StateFaultsAtNvld, SessionsFaultExactlyAtNvld, RunsFaultExactlyAtNvld}
 use Rattle.b67_law_made.proofs.Nvld.{task_faults}
 
@@ -27,33 +27,29 @@ sessions_fault_exactly_at_nvld s order admitted = record {
         job = subst (λ n. keyed number_of n s.jobs ≡ Some m) k.who.named (keyed_numbered 1 s.jobs m order.numbered k.who.among);
         task = k.who.task;
         live =
-            subst (λ n. keyed (λ t. t.number) n m.course.job.tasks ≡ Some k.who.task) k.who.numbered
-            (keyed_falls (λ (t : Task). t.number) m.course.job.next_task m.course.job.tasks k.who.task (job_good m k.who.among).tasks.numbers k.who.lives);
+            subst (λ n. keyed (λ t. t.number) n m.progress.job.tasks ≡ Some k.who.task) k.who.numbered
+            (keyed_falls (λ (t : Task). t.number) m.progress.job.next_task m.progress.job.tasks k.who.task (job_good m k.who.among).tasks.numbers k.who.lives);
         ready = k.who.ready;
         at_nvld = each m k.who.task k.who.among k.who.lives;
       };
 }
   where
-    job_good : (m : Member) → Has s.jobs m → JobInOrder (IsStart m.setting) m.setting m.course
-    job_good m among = all_in (λ (x : Member). JobInOrder (IsStart x.setting) x.setting x.course) s.jobs m order.jobs among
+    job_good : (m : SessionJob) → Has s.jobs m → JobInOrder (IsStart m.constants) m.constants m.progress
+    job_good m among = all_in (λ (x : SessionJob). JobInOrder (IsStart x.constants) x.constants x.progress) s.jobs m order.jobs among
 
-    each : (m : Member) (task : Task) → Has s.jobs m → Has m.course.job.tasks task → FaultsAtNvld m.setting m.course.job task
+    each : (m : SessionJob) (task : Task) → Has s.jobs m → Has m.progress.job.tasks task → FaultsAtNvld m.constants m.progress.job task
     each m task among live =
         let a = all_in RunsAdmitted s.jobs m admitted among in
-        task_faults a.program m.setting m.course.job task a.admitted a.segments (job_good m among).tasks live
+        task_faults a.program m.constants m.progress.job task a.admitted a.segments (job_good m among).tasks live
 
 -- so is each state that follows
 follows : (n : ℕ) (s : Session) → IsInOrder s → AllByRecursion RunsAdmitted s.jobs → StateFaultsAtNvld (after n s)
 follows zero s o a = sessions_fault_exactly_at_nvld s o a
 follows (suc n) s o a = go (λ s' o' a'. follows n s' o' a') (next s) refl
   where
-    go : ((s' : Session) → IsInOrder s' → AllByRecursion RunsAdmitted s'.jobs → StateFaultsAtNvld (after n s')) → (m : Option Moment) → next s ≡ m → StateFaultsAtNvld (after_from (suc n) s m)
+    go : ((s' : Session) → IsInOrder s' → AllByRecursion RunsAdmitted s'.jobs → StateFaultsAtNvld (after n s')) → (m : Option StepResult) → next s ≡ m → StateFaultsAtNvld (after_from (suc n) s m)
     go rest None e = sessions_fault_exactly_at_nvld s o a
     go rest (Some m) e = let both = sessions_stay_in_order s m o a e in rest m.session both.0 both.1
-
-pub opened_admitted : (number stack : ℕ) (openings : List Opening) → AllByRecursion OpeningWithin openings → AllByRecursion RunsAdmitted (opened_from number stack openings)
-opened_admitted number stack [] each = tt
-opened_admitted number stack (o ∷ more) each = (record { program = o.program; admitted = each.0.admitted; segments = refl }, opened_admitted (number + 1) stack more each.1)
 
 pub runs_fault_exactly_at_nvld : RunsFaultExactlyAtNvld
 runs_fault_exactly_at_nvld n stack quantum switches openings within =

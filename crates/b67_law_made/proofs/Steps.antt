@@ -4,9 +4,10 @@ use Rattle.std.proofs.lemmas.Bool.{cases_Bool}
 use Rattle.b67_model.specs.Answers.{Answer}
 use Rattle.b67_model.specs.Keyed.{change_keyed}
 use Rattle.b67_lemmas.specs.Lists.{Has}
+use Rattle.b67_lemmas.proofs.Members.{has_map_back, has_reverse_back}
 use Rattle.b67_model.specs.Words as Words
 use Rattle.b67_model.specs.Words.{Word, Operand, Name, Ref, Row, Element, Original, Proc, Intrinsic, operand, whole}
-use Rattle.b67_model.specs.State.{Frame, Standing, Marked, Entered, Return, Task, Job, Here, top, below_top, with_top_cells, with_task}
+use Rattle.b67_model.specs.State.{Frame, Standing, Marked, Entered, Return, Task, Job, OperatorContext, top, below_top, with_top_cells, with_task}
 use Rattle.b67_model.specs.Cells.{with_cell_of, with_cell}
 use Rattle.b67_model.specs.Arithmetic.{Binary}
 use Rattle.b67_model.specs.Arrays.{element}
@@ -15,7 +16,6 @@ use Rattle.b67_model.specs.Steps.{Line, Done, Goes, Leaves, Waits, top_of, cells
 use Rattle.b67_model.specs.Entry.{mkst, accident, back_to, evaluates, enters, left, leaves, exit, returnable, returned, retn_word}
 use Rattle.b67_model.specs.Intrinsics.{answered, answers, woken_at, wakes}
 use Rattle.b67_model.specs.Rows.{CellRow, on_one, on_two, movable, dlet, exch, dupl, on_cells}
-use Rattle.b67_law_order.proofs.Members.{has_map_back, has_reverse_back}
 use Rattle.b67_law_order.proofs.Posts.{Post, post_ok, post_err, post_bind, post_any, post_then}
 
 has_changed : {A : Type 0} (key : A → ℕ) (n : ℕ) (change : A → A) (xs : List A) (x : A) → Has (change_keyed key n change xs) x → ((y : A) × Has xs y × (change y ≡ x)) ⊎ Has xs x
@@ -44,7 +44,7 @@ module _ (W : Word → Type 0) (M : ℕ → Standing → Type 0) (numbers : (bit
   TasksMade tasks = (t : Task) → Has tasks t → AllMade t.frames
 
   -- the running task's frames, and those of all
-  pub record Source (h : Here) : Type 0 where
+  pub record Source (h : OperatorContext) : Type 0 where
     pub tasks : TasksMade h.job.tasks
     pub own : AllMade h.task.frames
 
@@ -62,7 +62,7 @@ module _ (W : Word → Type 0) (M : ℕ → Standing → Type 0) (numbers : (bit
     | inr k ↦ all t k
   ]
 
-  pub result_good : (h : Here) (job : Job) (task : Task) (printed : List Line) (touched : Option ℕ) → TasksMade job.tasks → AllMade task.frames → Good (result h job task printed touched)
+  pub result_good : (h : OperatorContext) (job : Job) (task : Task) (printed : List Line) (touched : Option ℕ) → TasksMade job.tasks → AllMade task.frames → Good (result h job task printed touched)
   result_good h job task printed touched all own = post_then Kept _ _ (post_ok Kept _ (task_made job task all own))
 
   pub top_words : (fs : List Frame) → AllMade fs → AllW (top fs).cells
@@ -83,67 +83,67 @@ module _ (W : Word → Type 0) (M : ℕ → Standing → Type 0) (numbers : (bit
   pub cons_words : (w : Word) (words : List Word) → W w → AllW words → AllW (w ∷ words)
   cons_words w words one all v h = elim h [ inl e ↦ subst W e one | inr m ↦ all v m ]
 
-  pub cells_good : (h : Here) (cells : List Word) (touched : Option ℕ) → Source h → AllW cells → Good (leaves_cells h cells touched)
+  pub cells_good : (h : OperatorContext) (cells : List Word) (touched : Option ℕ) → Source h → AllW cells → Good (leaves_cells h cells touched)
   cells_good h cells touched s words = result_good h h.job (with_cells h cells) [] touched s.tasks (cells_made h.task.frames cells s.own words)
 
-  pub own_words : (h : Here) → Source h → AllW (cells_of h)
+  pub own_words : (h : OperatorContext) → Source h → AllW (cells_of h)
   own_words h s = top_words h.task.frames s.own
 
-  pub push_good : (h : Here) (w : Word) (touched : Option ℕ) → Source h → W w → Good (pushes h w touched)
+  pub push_good : (h : OperatorContext) (w : Word) (touched : Option ℕ) → Source h → W w → Good (pushes h w touched)
   push_good h w touched s one = cells_good h (w ∷ cells_of h) touched s (cons_words w (cells_of h) one (own_words h s))
 
   abbrev pub Enters : Type 0
-  Enters = (n level environment : ℕ) (back : Option Return) → M n (Entered level environment back)
+  Enters = (n level environment : ℕ) (back : Return) → M n (Entered level environment (Some back))
 
-  pub accident_good : (h : Here) (cells : List Word) (back : Return) (end : End) → Source h → Enters → AllW cells → Good (accident h cells back end)
+  pub accident_good : (h : OperatorContext) (cells : List Word) (back : Return) (end : End) → Source h → Enters → AllW cells → Good (accident h cells back end)
   accident_good h cells back (AtProc f segment level place) s enter words =
       let fs = with_top_cells h.task.frames cells in
       let fresh : Frame = record { identity = h.job.next_frame; standing = Entered level f (Some back); cells = [] } in
-      let own : AllMade (fresh ∷ fs) = λ g k. elim k [ inl e ↦ subst Made e (λ w x. absurd x, enter h.job.next_frame level f (Some back)) | inr m ↦ cells_made h.task.frames cells s.own words g m ] in
+      let own : AllMade (fresh ∷ fs) = λ g k. elim k [ inl e ↦ subst Made e (λ w x. absurd x, enter h.job.next_frame level f back) | inr m ↦ cells_made h.task.frames cells s.own words g m ] in
       post_then Kept _ _ (result_good h (record h.job { next_frame = h.job.next_frame + 1 }) (record h.task { frames = fresh ∷ fs; segment = segment; place = place }) [] None s.tasks own)
   accident_good h cells back (AtCell f offset bits) s enter words = post_err Kept _
   accident_good h cells back (AtElement a index) s enter words = post_err Kept _
   accident_good h cells back (AtArray a) s enter words = post_err Kept _
   accident_good h cells back (AtIntrinsic n) s enter words = post_err Kept _
 
-  pub evaluates_good : (h : Here) (end : End) → Source h → Enters → Good (evaluates h end)
+  pub evaluates_good : (h : OperatorContext) (end : End) → Source h → Enters → Good (evaluates h end)
   evaluates_good h (AtCell f offset bits) s enter = push_good h (Operand bits) None s (numbers bits)
   evaluates_good h (AtElement a index) s enter = push_good h (Operand (element h.job a index)) (Some a) s (numbers (element h.job a index))
   evaluates_good h (AtProc f segment level place) s enter = accident_good h (cells_of h) (back_to h true h.task.place) (AtProc f segment level place) s enter (own_words h s)
   evaluates_good h (AtArray a) s enter = post_err Kept _
   evaluates_good h (AtIntrinsic n) s enter = post_err Kept _
 
-  pub mkst_good : (h : Here) → Source h → ((n : ℕ) → M n Marked) → Good (mkst h)
+  pub mkst_good : (h : OperatorContext) → Source h → ((n : ℕ) → M n Marked) → Good (mkst h)
   mkst_good h s mark =
       let fresh : Frame = record { identity = h.job.next_frame; standing = Marked; cells = [] } in
       let own : AllMade (fresh ∷ h.task.frames) = λ g k. elim k [ inl e ↦ subst Made e (λ w x. absurd x, mark h.job.next_frame) | inr m ↦ s.own g m ] in
       result_good h (record h.job { next_frame = h.job.next_frame + 1 }) (with_frames h (fresh ∷ h.task.frames)) [] None s.tasks own
 
-  pub enters_good : (h : Here) (arguments : List Word) (end : End) → Source h → Enters → AllW (reverse arguments) → Good (enters h arguments end)
+  pub enters_good : (h : OperatorContext) (arguments : List Word) (end : End) → Source h → Enters → AllW (reverse arguments) → Good (enters h arguments end)
   enters_good h arguments (AtProc f segment level place) s enter words =
       let back = back_to h false h.task.place in
       let entered : Frame = record (top_of h) { standing = Entered level f (Some back); cells = reverse arguments } in
-      let own : AllMade (entered ∷ below_top h.task.frames) = λ g k. elim k [ inl e ↦ subst Made e (words, enter (top_of h).identity level f (Some back)) | inr m ↦ below_made h.task.frames s.own g m ] in
+      let own : AllMade (entered ∷ below_top h.task.frames) = λ g k. elim k [ inl e ↦ subst Made e (words, enter (top_of h).identity level f back) | inr m ↦ below_made h.task.frames s.own g m ] in
       post_then Kept _ _ (result_good h h.job (record h.task { frames = entered ∷ below_top h.task.frames; segment = segment; place = place }) [] None s.tasks own)
   enters_good h arguments (AtCell f offset bits) s enter words = post_err Kept _
   enters_good h arguments (AtElement a index) s enter words = post_err Kept _
   enters_good h arguments (AtArray a) s enter words = post_err Kept _
   enters_good h arguments (AtIntrinsic n) s enter words = post_err Kept _
 
-  left_made : (h : Here) (back : Return) → Source h → Source (left h back)
+  left_made : (h : OperatorContext) (back : Return) → Source h → Source (left h back)
   left_made h back s =
       let own = below_made h.task.frames s.own in
       record { tasks = task_made h.job (record h.task { frames = below_top h.task.frames; segment = back.segment; place = back.place }) s.tasks own; own = own }
 
-  pub leaves_good : (h : Here) (standing : Standing) (go : Here → Bool → Answer Done) → Source h → ((back : Return) → Source (left h back) → Good (go (left h back) back.value)) → Good (leaves h standing go)
+  pub leaves_good : (h : OperatorContext) (standing : Standing) (go : OperatorContext → Bool → Answer Done) → Source h → ((back : Return) → Source (left h back) → Good (go (left h back) back.value)) → Good (leaves h standing go)
   leaves_good h Marked go s each = post_err Kept _
   leaves_good h (Entered level environment None) go s each = post_then Kept _ _ (post_ok Kept Leaves tt)
   leaves_good h (Entered level environment (Some back)) go s each = post_then Kept _ _ (each back (left_made h back s))
 
-  pub exit_good : (h : Here) → Source h → Good (exit h)
+  pub exit_good : (h : OperatorContext) → Source h → Good (exit h)
   exit_good h s = leaves_good h (top_of h).standing _ s (λ back k. result_good (left h back) (left h back).job (left h back).task [] None k.tasks k.own)
 
-  returned_good : (h : Here) (w : Word) (value : Bool) → Source h → Enters → W w → Good (returned h w value)
+  returned_good : (h : OperatorContext) (w : Word) (value : Bool) → Source h → Enters → W w → Good (returned h w value)
   returned_good h w false s enter one = push_good h w None s one
   returned_good h (Operand bits) true s enter one = push_good h (Operand bits) None s one
   returned_good h w true s enter one = post_any Kept (follow h w) _ (λ end. evaluates_good h end s enter)
@@ -159,7 +159,7 @@ module _ (W : Word → Type 0) (M : ℕ → Standing → Type 0) (numbers : (bit
   returnable_same job n (Intrinsic number) one = post_ok W _ one
   returnable_same job n (Words.Segment number) one = post_ok W _ one
 
-  pub retn_good : (h : Here) (standing : Standing) (cells : List Word) → Source h → Enters → AllW cells → Good (retn_word h standing cells)
+  pub retn_good : (h : OperatorContext) (standing : Standing) (cells : List Word) → Source h → Enters → AllW cells → Good (retn_word h standing cells)
   retn_good h Marked cells s enter words = post_err Kept _
   retn_good h (Entered level environment back) [] s enter words = post_err Kept _
   retn_good h (Entered level environment back) (w ∷ cells) s enter words =
@@ -167,7 +167,7 @@ module _ (W : Word → Type 0) (M : ℕ → Standing → Type 0) (numbers : (bit
       (λ v one. leaves_good h (Entered level environment back) (λ after value. returned after v value) s (λ b k. returned_good (left h b) v b.value k enter one))
 
   -- rows on cells
-  pub on_cells_good : (h : Here) (f : CellRow) → Source h → ((cells : List Word) → AllW cells → Post AllW (f cells)) → Good (on_cells f h)
+  pub on_cells_good : (h : OperatorContext) (f : CellRow) → Source h → ((cells : List Word) → AllW cells → Post AllW (f cells)) → Good (on_cells f h)
   on_cells_good h f s keeps = post_bind AllW Kept (f (cells_of h)) _ (keeps (cells_of h) (own_words h s)) (λ cells words. cells_good h cells None s words)
 
   pub tail_words : (w : Word) (words : List Word) → AllW (w ∷ words) → AllW words
@@ -217,11 +217,11 @@ module _ (W : Word → Type 0) (M : ℕ → Standing → Type 0) (numbers : (bit
       subst (λ (u : Task). AllMade u.frames) r.is (all r.item r.among)
 
   -- an intrinsic's answer
-  pub answered_made : (h : Here) (words : List Word) → Source h → AllW words → AllMade (answered h words).frames
+  pub answered_made : (h : OperatorContext) (words : List Word) → Source h → AllW words → AllMade (answered h words).frames
   answered_made h [] s all = below_made h.task.frames s.own
   answered_made h (w ∷ more) s all = let below = below_made h.task.frames s.own in cells_made (below_top h.task.frames) (w ∷ (top (below_top h.task.frames)).cells) below (cons_words w (top (below_top h.task.frames)).cells (all w (inl refl)) (top_words (below_top h.task.frames) below))
 
-  pub answers_good : (h : Here) (job : Job) (words : List Word) (printed : List Line) (touched : Option ℕ) → Source h → TasksMade job.tasks → AllW words → Good (answers h job words printed touched)
+  pub answers_good : (h : OperatorContext) (job : Job) (words : List Word) (printed : List Line) (touched : Option ℕ) → Source h → TasksMade job.tasks → AllW words → Good (answers h job words printed touched)
   answers_good h job words printed touched s all ws = post_then Kept _ _ (result_good h job (answered h words) printed touched all (answered_made h words s ws))
 
   pub no_words : AllW []

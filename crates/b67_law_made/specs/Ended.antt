@@ -6,7 +6,7 @@ use Rattle.b67_model.specs.declared.operators.Op.TheVariants.{Plain}
 use Rattle.b67_model.specs.declared.operators.Code.TheVariants.{Nvld}
 use Rattle.b67_model.specs.Keyed.{keyed}
 use Rattle.b67_lemmas.specs.Lists.{Has}
-use Rattle.b67_model.specs.State.{Member}
+use Rattle.b67_model.specs.State.{SessionJob}
 use Rattle.b67_model.specs.Schedule.{Switch, Session}
 use Rattle.b67_model.specs.Run.{number_of, after}
 use Rattle.b67_law_order_runs.specs.Opening.{Opening, DeckWithin, opening}
@@ -22,5 +22,5 @@ pub record SteppedAtNvld (s : Session) (n job task : ℕ) : Type 0 where
 -- was its step at NVLD
 abbrev pub RunsEndExactlyAtNvld : Type 0
 RunsEndExactlyAtNvld =
-    (n stack quantum : ℕ) (switches : List Switch) (openings : List Opening) (job task : ℕ) (m : Member) → let s = opening stack quantum switches openings in
-    DeckWithin stack switches openings → keyed number_of job (after n s).jobs ≡ Some m → Has m.course.ended (task, Faulted InvalidOperator) ↔ SteppedAtNvld s n job task
+    (n stack quantum : ℕ) (switches : List Switch) (openings : List Opening) (job task : ℕ) (m : SessionJob) → let s = opening stack quantum switches openings in
+    DeckWithin stack switches openings → keyed number_of job (after n s).jobs ≡ Some m → Has m.progress.ended (task, Faulted InvalidOperator) ↔ SteppedAtNvld s n job task

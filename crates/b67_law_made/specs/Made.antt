@@ -1,37 +1,40 @@
 -- What made each word, mark and return of a state.
-use Rattle.std.specs.Prelude.{◌≡◌, ℕ, ◌⊎◌, List, Option, Ok}
+use Rattle.std.specs.Prelude.{◌≡◌, ℕ, ◌⊎◌, List, Option, Some, None, Ok}
 use Rattle.b67_model.specs.declared.operators.Op.{Op}
 use Rattle.b67_model.specs.declared.operators.Op.TheVariants.{Valc, Namc, Mpcw, Plain}
 use Rattle.b67_model.specs.declared.operators.Code.TheVariants.{Mkst, Entr, Retn, Stff, Load, Indx, Stod, Ston}
 use Rattle.b67_lemmas.specs.Lists.{Has}
 use Rattle.b67_model.specs.Words as Words
 use Rattle.b67_model.specs.Words.{Word, Operand, Name, Ref, Row, Element, Original, Proc, Intrinsic}
-use Rattle.b67_model.specs.State.{Frame, Standing, Marked, Task, Job, Here}
+use Rattle.b67_model.specs.State.{Return, Frame, Standing, Marked, Entered, Task, Job, OperatorContext}
+use Rattle.b67_model.specs.Called.{called}
 use Rattle.b67_model.specs.Steps.{Line, Goes}
 use Rattle.b67_model.specs.Rows.{proc_of, row}
 
--- the operators that make a word, by its kind. An Original is made by the ENTR of ARRAYDEC; the loader alone makes an
--- Intrinsic and a Segment
-abbrev pub Makes : Op → Word → Type 0
-Makes op (Operand bits) = Unit {0}
-Makes op (Name couple) = op ≡ Namc couple
-Makes op (Ref frame offset) = op ≡ Plain Stff
-Makes op (Row array) = op ≡ Plain Load
-Makes op (Element array index) = op ≡ Plain Indx
-Makes op (Original array) = op ≡ Plain Entr
-Makes op (Proc segment level place) = (bits : ℕ) × (op ≡ Mpcw bits) × (proc_of bits ≡ Proc segment level place)
-Makes op (Intrinsic number) = ⊥
-Makes op (Words.Segment number) = ⊥
+-- the operators that make a word, by its kind, with the intrinsic that they call, if any. An Original is made by the call
+-- of ARRAYDEC, intrinsic 8; the loader alone makes an Intrinsic and a Segment
+abbrev pub OperatorMakes : Op → Option ℕ → Word → Type 0
+OperatorMakes op call (Operand bits) = Unit {0}
+OperatorMakes op call (Name couple) = op ≡ Namc couple
+OperatorMakes op call (Ref frame offset) = op ≡ Plain Stff
+OperatorMakes op call (Row array) = op ≡ Plain Load
+OperatorMakes op call (Element array index) = op ≡ Plain Indx
+OperatorMakes op call (Original array) = (op ≡ Plain Entr) × (call ≡ Some 8)
+OperatorMakes op call (Proc segment level place) = (bits : ℕ) × (op ≡ Mpcw bits) × (proc_of bits ≡ Proc segment level place)
+OperatorMakes op call (Intrinsic number) = ⊥
+OperatorMakes op call (Words.Segment number) = ⊥
 
--- the operators that make a mark, or a mark with its return: MKST; ENTR, also by PROCESS; and accidental entry
-pub data MakesMark (op : Op) : Standing → Type 0 where
-  by_mkst : op ≡ Plain Mkst → MakesMark op Marked
-  by_entr : {s : Standing} → op ≡ Plain Entr → MakesMark op s
-  by_retn : {s : Standing} → op ≡ Plain Retn → MakesMark op s
-  by_load : {s : Standing} → op ≡ Plain Load → MakesMark op s
-  by_stod : {s : Standing} → op ≡ Plain Stod → MakesMark op s
-  by_ston : {s : Standing} → op ≡ Plain Ston → MakesMark op s
-  by_valc : {s : Standing} (couple : ℕ) → op ≡ Valc couple → MakesMark op s
+-- the operators that make a mark, or a mark with its return. MKST alone makes one that isn't entered. ENTR enters a Proc, or
+-- calls PROCESS, intrinsic 12, which enters one in a new task, from where nothing returns; the others enter one accidentally
+pub data MakesMark (op : Op) (call : Option ℕ) : Standing → Type 0 where
+  by_mkst : op ≡ Plain Mkst → MakesMark op call Marked
+  by_entr : {level environment : ℕ} {back : Return} → op ≡ Plain Entr → call ≡ None → MakesMark op call (Entered level environment (Some back))
+  by_process : {level environment : ℕ} → op ≡ Plain Entr → call ≡ Some 12 → MakesMark op call (Entered level environment None)
+  by_retn : {level environment : ℕ} {back : Return} → op ≡ Plain Retn → MakesMark op call (Entered level environment (Some back))
+  by_load : {level environment : ℕ} {back : Return} → op ≡ Plain Load → MakesMark op call (Entered level environment (Some back))
+  by_stod : {level environment : ℕ} {back : Return} → op ≡ Plain Stod → MakesMark op call (Entered level environment (Some back))
+  by_ston : {level environment : ℕ} {back : Return} → op ≡ Plain Ston → MakesMark op call (Entered level environment (Some back))
+  by_valc : {level environment : ℕ} {back : Return} (couple : ℕ) → op ≡ Valc couple → MakesMark op call (Entered level environment (Some back))
 
 -- a frame of a task, or of a live one
 pub record StandsIn (tasks : List Task) (f : Frame) : Type 0 where
@@ -52,12 +55,12 @@ pub record HasMark (tasks : List Task) (identity : ℕ) (standing : Standing) : 
   pub standing_is : frame.standing ≡ standing
 
 -- each word, mark and return of a frame was there before, unchanged, or the operator made it
-pub record FrameMade (before : List Task) (op : Op) (f : Frame) : Type 0 where
-  pub words : (w : Word) → Has f.cells w → HasWord before w ⊎ Makes op w
-  pub mark : HasMark before f.identity f.standing ⊎ MakesMark op f.standing
+pub record FrameMade (before : List Task) (op : Op) (call : Option ℕ) (f : Frame) : Type 0 where
+  pub words : (w : Word) → Has f.cells w → HasWord before w ⊎ OperatorMakes op call w
+  pub mark : HasMark before f.identity f.standing ⊎ MakesMark op call f.standing
 
 -- after the row of an operator, made by a task that stands in the job
 abbrev pub EachRowMakesItsWords : Type 0
 EachRowMakesItsWords =
-    (op : Op) (h : Here) (found : Task) (after : Job) (printed : List Line) (touched : Option ℕ) → Has h.job.tasks found → found.frames ≡ h.task.frames →
-    row op h ≡ Ok (Goes after printed touched) → (f : Frame) → StandsIn after.tasks f → FrameMade h.job.tasks op f
+    (op : Op) (h : OperatorContext) (found : Task) (after : Job) (printed : List Line) (touched : Option ℕ) → Has h.job.tasks found → found.frames ≡ h.task.frames →
+    row op h ≡ Ok (Goes after printed touched) → (f : Frame) → StandsIn after.tasks f → FrameMade h.job.tasks op (called op h) f

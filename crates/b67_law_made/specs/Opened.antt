@@ -3,7 +3,7 @@ use Rattle.std.specs.Prelude.{◌≡◌, ◌↔◌, ℕ, ◌<◌, ◌≤◌, Lis
 use Rattle.b67_lemmas.specs.Lists.{Has}
 use Rattle.b67_model.specs.Words as Words
 use Rattle.b67_model.specs.Words.{Word, Operand, Name, Ref, Row, Element, Original, Proc, Intrinsic}
-use Rattle.b67_model.specs.State.{Frame, Entered, Task, Member}
+use Rattle.b67_model.specs.State.{Frame, Entered, Task, SessionJob}
 use Rattle.b67_model.specs.Program.{Program}
 use Rattle.b67_model.specs.Schedule.{Switch}
 use Rattle.b67_law_order_runs.specs.Opening.{Opening, opening}
@@ -22,15 +22,15 @@ LoaderMakes p (Words.Segment number) = (0 < number) × (number ≤ length p.segm
 
 -- a job as the loader makes it: the words of its dictionary, and no other; the dictionary's mark; and the mark of the
 -- outer block's frame, which has no return
-pub record MadeByLoader (p : Program) (m : Member) : Type 0 where
-  pub dictionary : (w : Word) → Has m.setting.dictionary.cells w ↔ LoaderMakes p w
-  pub dictionary_mark : m.setting.dictionary.standing ≡ Entered 1 0 None
-  pub outer_block : (t : Task) (f : Frame) → Has m.course.job.tasks t → Has t.frames f → f.identity ≡ 2
-  pub no_words : (t : Task) (f : Frame) → Has m.course.job.tasks t → Has t.frames f → f.cells ≡ []
-  pub mark : (t : Task) (f : Frame) → Has m.course.job.tasks t → Has t.frames f → f.standing ≡ Entered 2 1 None
+pub record MadeByLoader (p : Program) (m : SessionJob) : Type 0 where
+  pub dictionary : (w : Word) → Has m.constants.dictionary.cells w ↔ LoaderMakes p w
+  pub dictionary_mark : m.constants.dictionary.standing ≡ Entered 1 0 None
+  pub outer_block : (t : Task) (f : Frame) → Has m.progress.job.tasks t → Has t.frames f → f.identity ≡ 2
+  pub no_words : (t : Task) (f : Frame) → Has m.progress.job.tasks t → Has t.frames f → f.cells ≡ []
+  pub mark : (t : Task) (f : Frame) → Has m.progress.job.tasks t → Has t.frames f → f.standing ≡ Entered 2 1 None
 
 -- the program of one of the openings
-pub record OpenedByLoader (openings : List Opening) (m : Member) : Type 0 where
+pub record OpenedByLoader (openings : List Opening) (m : SessionJob) : Type 0 where
   pub opens : Opening
   pub among : Has openings opens
   pub made : MadeByLoader opens.program m
@@ -38,4 +38,4 @@ pub record OpenedByLoader (openings : List Opening) (m : Member) : Type 0 where
 -- each job of an opening state
 abbrev pub OpeningsMadeByLoader : Type 0
 OpeningsMadeByLoader =
-    (stack quantum : ℕ) (switches : List Switch) (openings : List Opening) (m : Member) → Has (opening stack quantum switches openings).jobs m → OpenedByLoader openings m
+    (stack quantum : ℕ) (switches : List Switch) (openings : List Opening) (m : SessionJob) → Has (opening stack quantum switches openings).jobs m → OpenedByLoader openings m

@@ -8,7 +8,7 @@ use Rattle.b67_model.specs.declared.operators.Op.TheVariants.{Plain}
 use Rattle.b67_model.specs.declared.operators.Code.TheVariants.{Nvld}
 use Rattle.b67_model.specs.Keyed.{keyed}
 use Rattle.b67_lemmas.specs.Lists.{Has}
-use Rattle.b67_model.specs.State.{Ready, Task, Setting, Job, Member}
+use Rattle.b67_model.specs.State.{Ready, Task, JobConstants, Job, SessionJob}
 use Rattle.b67_model.specs.Program.{Program}
 use Rattle.b67_model.specs.Loader.{IsAdmitted}
 use Rattle.b67_model.specs.Rows.{reading_of, step}
@@ -19,30 +19,30 @@ use Rattle.b67_law_order_runs.specs.Opening.{Opening, DeckWithin, opening}
 use Rattle.b67_law_order_runs.specs.Runs.{RunsAdmitted}
 
 -- an operator stands at the task's place, and the task's step faults INVALID OPERATOR exactly where it is NVLD
-pub record FaultsAtNvld (setting : Setting) (job : Job) (task : Task) : Type 0 where
+pub record FaultsAtNvld (constants : JobConstants) (job : Job) (task : Task) : Type 0 where
   pub op : Op
   pub next : Place
-  pub stands : reading_of setting task ≡ Ok (op, next)
-  pub faults : (step setting job task ≡ Err InvalidOperator) ↔ (op ≡ Plain Nvld)
+  pub stands : reading_of constants task ≡ Ok (op, next)
+  pub faults : (step constants job task ≡ Err InvalidOperator) ↔ (op ≡ Plain Nvld)
 
 -- so it is for each live task of a job in order over an admitted program
 abbrev pub InvalidOperatorExactlyAtNvld : Type 0
 InvalidOperatorExactlyAtNvld =
-    (p : Program) (setting : Setting) (job : Job) (task : Task) → IsAdmitted p → setting.segments ≡ p.segments → TasksInOrder (IsStart setting) setting job → keyed (λ t. t.number) task.number job.tasks ≡ Some task →
-    FaultsAtNvld setting job task
+    (p : Program) (constants : JobConstants) (job : Job) (task : Task) → IsAdmitted p → constants.segments ≡ p.segments → TasksInOrder (IsStart constants) constants job → keyed (λ t. t.number) task.number job.tasks ≡ Some task →
+    FaultsAtNvld constants job task
 
 -- the chosen task is a ready one of a job, and so it is for its step
 pub record ChosenFaultsAtNvld (s : Session) (c : Choice) : Type 0 where
-  pub member : Member
+  pub member : SessionJob
   pub job : keyed number_of c.who.job s.jobs ≡ Some member
   pub task : Task
-  pub live : keyed (λ t. t.number) c.who.task member.course.job.tasks ≡ Some task
+  pub live : keyed (λ t. t.number) c.who.task member.progress.job.tasks ≡ Some task
   pub ready : task.condition ≡ Ready
-  pub at_nvld : FaultsAtNvld member.setting member.course.job task
+  pub at_nvld : FaultsAtNvld member.constants member.progress.job task
 
 -- each live task of a state, and the one that makes the next step
 pub record StateFaultsAtNvld (s : Session) : Type 0 where
-  pub each : (m : Member) (task : Task) → Has s.jobs m → Has m.course.job.tasks task → FaultsAtNvld m.setting m.course.job task
+  pub each : (m : SessionJob) (task : Task) → Has s.jobs m → Has m.progress.job.tasks task → FaultsAtNvld m.constants m.progress.job task
   pub chosen : (c : Choice) → choice s ≡ Some c → ChosenFaultsAtNvld s c
 
 abbrev pub SessionsFaultExactlyAtNvld : Type 0

@@ -4,11 +4,11 @@ use Rattle.std.proofs.lemmas.Bool.Decides.{eqb_tells}
 use Rattle.b67_word.specs.declared.couples.Place.{Place}
 use Rattle.b67_model.specs.Keyed.{keyed}
 use Rattle.b67_lemmas.specs.Lists.{Has, Falls}
+use Rattle.b67_lemmas.proofs.Members.{all_in, falls_low, falls_more, has_append_left, has_map, has_map_back, keyed_has}
 use Rattle.b67_model.specs.Words.{Word}
-use Rattle.b67_model.specs.State.{Frame, Standing, Marked, Entered, Return, Array, Task, Job, Here, top, with_top_cells, height, with_task}
+use Rattle.b67_model.specs.State.{Frame, Standing, Marked, Entered, Return, Array, Task, Job, OperatorContext, top, with_top_cells, height, with_task}
 use Rattle.b67_model.specs.Environment.{level_of_frame, running}
 use Rattle.b67_model.specs.InOrder.{Starts, Known, known_of, from_frame, outer_of, reach_of, known_numbers, identities, IsEntered, EnvironmentInOrder, StandsInOrder, CellsInOrder, FramesInOrder, StackInOrder, ReturnsInOrder, BirthInOrder, ConditionInOrder, TaskInOrder, originals_in, originals_of, frames_named, TasksInOrder}
-use Rattle.b67_law_order.proofs.Members.{has_append_left, has_map, has_map_back, all_in, keyed_has, falls_low, falls_more}
 use Rattle.b67_law_order.proofs.Reaches.{Alike, alike_same, Stays, Wider, words_wider, known_number, frames_alike}
 use Rattle.b67_law_order.proofs.Replaced.{Replaced, replaced, outer_kept}
 use Rattle.b67_law_order.proofs.Looks.{Run, own_order}
@@ -22,13 +22,13 @@ alike_trans (k ∷ ks) (l ∷ ls) (m ∷ ms) a b = (a.0 ∙ b.0, λ e. let first
 
 -- the running task with other frames, in a job that follows it: the job is in order, and what lies outside the task's
 -- frames is alike
-pub run_replaced : (P : Starts) (h : Here) (job' : Job) (new : Task) → Run P h → Replaced P h.setting h.job h.task job' new → TasksInOrder P h.setting job' × Alike (outer_of h.job h.task) (outer_of job' new)
+pub run_replaced : (P : Starts) (h : OperatorContext) (job' : Job) (new : Task) → Run P h → Replaced P h.constants h.job h.task job' new → TasksInOrder P h.constants job' × Alike (outer_of h.job h.task) (outer_of job' new)
 run_replaced P h job' new run r =
     let there : Task = record run.found { segment = h.task.segment; place = h.task.place } in
-    let s : Replaced P h.setting h.job there job' new = subst (λ (t : Task). Replaced P h.setting h.job t job' new) (sym run.same) r in
+    let s : Replaced P h.constants h.job there job' new = subst (λ (t : Task). Replaced P h.constants h.job t job' new) (sym run.same) r in
     let number : run.found.number ≡ h.task.number = ap (λ (t : Task). t.number) run.same in
     let found : keyed (λ t. t.number) run.found.number h.job.tasks ≡ Some run.found = subst (λ n. keyed (λ t. t.number) n h.job.tasks ≡ Some run.found) (sym number) run.running in
-    let old : Replaced P h.setting h.job run.found job' new = record {
+    let old : Replaced P h.constants h.job run.found job' new = record {
       number = s.number;
       line = s.line;
       critical = s.critical;
@@ -51,15 +51,15 @@ run_replaced P h job' new run r =
       names = s.names;
       reads = s.reads;
     } in
-    let outer : Alike (outer_of h.job there) (outer_of job' new) = outer_kept P h.setting h.job run.found job' new run.order found old in
-    (replaced P h.setting h.job run.found job' new run.order found old, subst (λ (t : Task). Alike (outer_of h.job t) (outer_of job' new)) run.same outer)
+    let outer : Alike (outer_of h.job there) (outer_of job' new) = outer_kept P h.constants h.job run.found job' new run.order found old in
+    (replaced P h.constants h.job run.found job' new run.order found old, subst (λ (t : Task). Alike (outer_of h.job t) (outer_of job' new)) run.same outer)
 
 -- what lies outside the running task's frames
-abbrev pub outside : Here → List Known
+abbrev pub outside : OperatorContext → List Known
 outside h = outer_of h.job h.task
 
 -- the running task's frames may become these
-pub record Change (P : Starts) (h : Here) (arrays : List Array) (frames : List Frame) (next : ℕ) : Type 0 where
+pub record Change (P : Starts) (h : OperatorContext) (arrays : List Array) (frames : List Frame) (next : ℕ) : Type 0 where
   pub order : FramesInOrder P arrays (outside h) frames
   pub returns : StackInOrder P frames
   pub some : frames ≢ []
@@ -69,7 +69,7 @@ pub record Change (P : Starts) (h : Here) (arrays : List Array) (frames : List F
   pub stays : (t : Task) → Has h.job.tasks t → Has (identities h.task.frames) t.critical → Has (identities frames) t.critical
   pub fewer : (n : ℕ) → n < h.job.next_frame → frames_named n frames ≤ frames_named n h.task.frames
 
-pub no_change : (P : Starts) (h : Here) → Run P h → Change P h h.job.arrays h.task.frames h.job.next_frame
+pub no_change : (P : Starts) (h : OperatorContext) → Run P h → Change P h h.job.arrays h.task.frames h.job.next_frame
 no_change P h run =
     let own = own_order P h run in
     record {
@@ -87,7 +87,7 @@ itself : (arrays : List Array) (a : Array) → Has arrays a → Stays arrays a
 itself arrays a k = record { item = a; live = k; named = refl; owned = refl }
 
 -- the same frames among other arrays
-pub change_arrays : (P : Starts) (h : Here) (arrays arrays' : List Array) (frames : List Frame) (next : ℕ) → Change P h arrays frames next →
+pub change_arrays : (P : Starts) (h : OperatorContext) (arrays arrays' : List Array) (frames : List Frame) (next : ℕ) → Change P h arrays frames next →
     ((a : Array) → Has arrays a → Has (known_numbers (map known_of frames ++ outside h)) a.owner → Stays arrays' a) → Change P h arrays' frames next
 change_arrays P h arrays arrays' frames next c stay = record {
   order = frames_alike P arrays arrays' (outside h) (outside h) frames (alike_same (outside h)) stay c.order;
@@ -101,10 +101,10 @@ change_arrays P h arrays arrays' frames next c stay = record {
 }
 
 -- other cells of the top frame
-abbrev pub TopWords : Starts → Here → List Array → List Frame → List Word → Type 0
+abbrev pub TopWords : Starts → OperatorContext → List Array → List Frame → List Word → Type 0
 TopWords P h arrays frames cells = CellsInOrder P arrays (map known_of frames ++ outside h) (top frames).identity cells
 
-pub change_cells : (P : Starts) (h : Here) (arrays : List Array) (frames : List Frame) (next : ℕ) (cells : List Word) → Change P h arrays frames next → TopWords P h arrays frames cells →
+pub change_cells : (P : Starts) (h : OperatorContext) (arrays : List Array) (frames : List Frame) (next : ℕ) (cells : List Word) → Change P h arrays frames next → TopWords P h arrays frames cells →
     Change P h arrays (with_top_cells frames cells) next
 change_cells P h arrays [] next cells c words = absurd (c.some refl)
 change_cells P h arrays (f ∷ below) next cells c words = record {
@@ -120,8 +120,8 @@ change_cells P h arrays (f ∷ below) next cells c words = record {
 }
 
 -- a critical frame is an old one
-pub critical_low : (P : Starts) (h : Here) → Run P h → (t : Task) → Has h.job.tasks t → t.critical < h.job.next_frame
-critical_low P h run t here = by t.parents (all_in (TaskInOrder P h.setting h.job) h.job.tasks t run.order.tasks here).birth where
+pub critical_low : (P : Starts) (h : OperatorContext) → Run P h → (t : Task) → Has h.job.tasks t → t.critical < h.job.next_frame
+critical_low P h run t here = by t.parents (all_in (TaskInOrder P h.constants h.job) h.job.tasks t run.order.tasks here).birth where
   zero_low : (frames : List Frame) → frames ≢ [] → Falls h.job.next_frame (known_numbers (map known_of frames ++ outside h)) → 0 < h.job.next_frame
   zero_low [] some falls = absurd (some refl)
   zero_low (f ∷ below) some falls = omega (arith, falls.0)
@@ -129,7 +129,7 @@ critical_low P h run t here = by t.parents (all_in (TaskInOrder P h.setting h.jo
   in_parent : (q : Task) → Has h.job.tasks q → Has (identities q.frames) t.critical → t.critical < h.job.next_frame
   in_parent q there k =
       let r = has_map_back (λ (f : Frame). f.identity) q.frames t.critical k in
-      let falls = (all_in (TaskInOrder P h.setting h.job) h.job.tasks q run.order.tasks there).falls in
+      let falls = (all_in (TaskInOrder P h.constants h.job) h.job.tasks q run.order.tasks there).falls in
       let low = falls_low h.job.next_frame (known_numbers (reach_of h.job q)) r.item.identity falls (known_number (reach_of h.job q) r.item.identity r.item.standing (has_append_left (map known_of q.frames) (outer_of h.job q) (known_of r.item) (has_map known_of q.frames r.item r.among))) in
       omega (arith, low, r.is)
 
@@ -137,11 +137,11 @@ critical_low P h run t here = by t.parents (all_in (TaskInOrder P h.setting h.jo
   by [] b = let own = own_order P h run in let low = zero_low h.task.frames own.some own.falls in omega (arith, low, b.1)
   by (p ∷ more) b = in_parent b.parent (keyed_has (λ t. t.number) p h.job.tasks b.parent b.found).0 b.is_critical
 
-abbrev pub fresh_frame : Here → Standing → Frame
+abbrev pub fresh_frame : OperatorContext → Standing → Frame
 fresh_frame h standing = record { identity = h.job.next_frame; standing = standing; cells = [] }
 
 -- a fresh frame on top
-pub change_push : (P : Starts) (h : Here) (arrays : List Array) (frames : List Frame) (standing : Standing) → Run P h → Change P h arrays frames h.job.next_frame →
+pub change_push : (P : Starts) (h : OperatorContext) (arrays : List Array) (frames : List Frame) (standing : Standing) → Run P h → Change P h arrays frames h.job.next_frame →
     StandsInOrder (map known_of frames ++ outside h) standing → ReturnsInOrder P standing frames → Change P h arrays (fresh_frame h standing ∷ frames) (h.job.next_frame + 1)
 change_push P h arrays frames standing run c stands returns = record {
   order = ((tt, tt), stands, c.order);
@@ -161,7 +161,7 @@ change_push P h arrays frames standing run c stands returns = record {
 }
 
 -- the top frame goes
-pub change_drop : (P : Starts) (h : Here) (arrays : List Array) (f : Frame) (below : List Frame) (next : ℕ) → Change P h arrays (f ∷ below) next →
+pub change_drop : (P : Starts) (h : OperatorContext) (arrays : List Array) (f : Frame) (below : List Frame) (next : ℕ) → Change P h arrays (f ∷ below) next →
     ((t : Task) → Has h.job.tasks t → t.critical ≢ f.identity) → below ≢ [] → Change P h arrays below next
 change_drop P h arrays f below next c free some = record {
   order = c.order.2;
@@ -179,7 +179,7 @@ change_drop P h arrays f below next c free some = record {
 }
 
 -- the marked frame on top is entered
-pub change_enter : (P : Starts) (h : Here) (arrays : List Array) (f : Frame) (below : List Frame) (next level environment : ℕ) (back : Return) → Change P h arrays (f ∷ below) next → f.standing ≡ Marked →
+pub change_enter : (P : Starts) (h : OperatorContext) (arrays : List Array) (f : Frame) (below : List Frame) (next level environment : ℕ) (back : Return) → Change P h arrays (f ∷ below) next → f.standing ≡ Marked →
     EnvironmentInOrder (map known_of below ++ outside h) level environment → ReturnsInOrder P (Entered level environment (Some back)) below →
     Change P h arrays (record f { standing = Entered level environment (Some back) } ∷ below) next
 change_enter P h arrays f below next level environment back c marked stands returns =
@@ -207,9 +207,9 @@ change_enter P h arrays f below next level environment back c marked stands retu
     }
 
 -- the running task with these frames, among the same arrays
-pub changed : (P : Starts) (h : Here) (frames : List Frame) (next segment : ℕ) (place : Place) → Run P h → Change P h h.job.arrays frames next → height frames ≤ h.setting.stack_size →
+pub changed : (P : Starts) (h : OperatorContext) (frames : List Frame) (next segment : ℕ) (place : Place) → Run P h → Change P h h.job.arrays frames next → height frames ≤ h.constants.stack_size →
     P segment (level_of_frame (running frames)) place → ((n : ℕ) → originals_in n frames ≡ originals_in n h.task.frames) →
-    TasksInOrder P h.setting (with_task (record h.job { next_frame = next }) (record h.task { frames = frames; segment = segment; place = place }))
+    TasksInOrder P h.constants (with_task (record h.job { next_frame = next }) (record h.task { frames = frames; segment = segment; place = place }))
 changed P h frames next segment place run c low starts same =
     let new : Task = record h.task { frames = frames; segment = segment; place = place } in
     (run_replaced P h (with_task (record h.job { next_frame = next }) new) new run (record {
@@ -231,7 +231,7 @@ changed P h frames next segment place run c low starts same =
       fewer = c.fewer;
       kept = λ a k. record { case = inl (itself h.job.arrays a k) };
       arrays = run.order.arrays;
-      once = λ a k. omega (arith, same a.identity, all_in (λ (x : Array). originals_of x.identity h.setting h.job ≡ 1) h.job.arrays a run.order.once k);
+      once = λ a k. omega (arith, same a.identity, all_in (λ (x : Array). originals_of x.identity h.constants h.job ≡ 1) h.job.arrays a run.order.once k);
       names = run.order.names;
       reads = run.order.reads;
     })).0

@@ -9,17 +9,17 @@ use Rattle.b67_word.specs.Couples.{couple}
 use Rattle.b67_model.specs.Answers.{Answer}
 use Rattle.b67_model.specs.Keyed.{keyed}
 use Rattle.b67_lemmas.specs.Lists.{Has}
+use Rattle.b67_lemmas.proofs.Members.{has_append_left, has_get, has_map, has_reverse_back, keyed_falls}
 use Rattle.b67_model.specs.Arrays.{no_array, array}
 use Rattle.b67_model.specs.Indexing.{array_at, array_of, index_below, indexed}
 use Rattle.b67_model.specs.Words as Words
 use Rattle.b67_model.specs.Words.{Word, Operand, Name, Ref, Row, Element, Original, Proc, Intrinsic, operand, number}
-use Rattle.b67_model.specs.State.{Frame, Standing, Marked, Entered, Array, Here, frame}
+use Rattle.b67_model.specs.State.{Frame, Standing, Marked, Entered, Array, OperatorContext, frame}
 use Rattle.b67_model.specs.Environment.{level_of_standing, level_of_frame, environment_of, running, running_from, outward, running_level}
 use Rattle.b67_model.specs.Cells.{first_offset, cell_of, cell, named, place_of}
 use Rattle.b67_model.specs.Chase.{End, AtCell, AtElement, AtArray, AtProc, AtIntrinsic, Link, Stops, Leads, element_end, link_at, link_in, link_from, link, chase_on, chase, follow, follow_reference}
 use Rattle.b67_model.specs.InOrder.{Starts, Known, known_of, IsEntered, NamesEntered, NamesArray, OwnsArray, WordInOrder, StackInOrder, ReturnsInOrder}
 use Rattle.b67_law_order.specs.Ends.{IsElement, EndInOrder}
-use Rattle.b67_law_order.proofs.Members.{has_append_left, has_map, has_get, has_reverse_back, keyed_falls}
 use Rattle.b67_law_order.proofs.Looks.{SeenWord, Run, reach, own_order, see, closed, level_low, own_high}
 use Rattle.b67_law_order.proofs.Posts.{Post, post_ok, post_err, post_bind, post_any, post_if_is}
 
@@ -32,11 +32,11 @@ RefInOrder reach _ = Unit {0}
 abbrev pub PlaceInOrder : List Known → (ℕ × ℕ) → Type 0
 PlaceInOrder reach at = NamesEntered reach at.0 × (at.1 < 2 ^ 12)
 
-abbrev LinkInOrder : Starts → Here → Link → Type 0
+abbrev LinkInOrder : Starts → OperatorContext → Link → Type 0
 LinkInOrder P h (Stops end) = Post (EndInOrder P h) end
 LinkInOrder P h (Leads w) = RefInOrder (reach h) w
 
-running_in : (P : Starts) (fs : List Frame) → StackInOrder P fs → fs ≢ [] → Has fs (running fs) × IsEntered (running fs).standing
+pub running_in : (P : Starts) (fs : List Frame) → StackInOrder P fs → fs ≢ [] → Has fs (running fs) × IsEntered (running fs).standing
 running_in P [] g some = absurd (some refl)
 running_in P (f ∷ below) g some = by f.standing refl g.0 (λ more. running_in P below g.1 more) where
   by : (s : Standing) → f.standing ≡ s → ReturnsInOrder P s below → (below ≢ [] → Has below (running below) × IsEntered (running below).standing) → Has (f ∷ below) (running_from s f (running below)) × IsEntered (running_from s f (running below)).standing
@@ -63,7 +63,7 @@ pub some_ok : {A : Type 0} (o : Option A) (fault : Fault) (x : A) → ok_or o fa
 some_ok None fault x e = cc
 some_ok (Some y) fault x e = let same : y ≡ x = cc in ap Some same
 
-cell_has : (f : Frame) (offset : ℕ) (w : Word) → ok_or (cell_of f offset) InvalidAddress ≡ Ok w → Has f.cells w
+pub cell_has : (f : Frame) (offset : ℕ) (w : Word) → ok_or (cell_of f offset) InvalidAddress ≡ Ok w → Has f.cells w
 cell_has f offset w e =
     let some : cell_of f offset ≡ Some w = some_ok (cell_of f offset) InvalidAddress w e in
     elim (cases_Bool (ltb offset (first_offset f))) [
@@ -71,7 +71,7 @@ cell_has f offset w e =
       | inr t ↦ has_reverse_back f.cells w (has_get (reverse f.cells) (offset - first_offset f) w (rw t at some))
     ]
 
-module _ (P : Starts) (h : Here) (run : Run P h) where
+module _ (P : Starts) (h : OperatorContext) (run : Run P h) where
   pub running_known : Has (reach h) (known_of (running h.task.frames)) × IsEntered (running h.task.frames).standing
   running_known =
       let own = own_order P h run in
@@ -217,3 +217,7 @@ module _ (P : Starts) (h : Here) (run : Run P h) where
   pub indexed_in : (owner : ℕ) (r i : Word) → WordInOrder P h.job.arrays (reach h) owner r → Post IsIndexed (indexed h r i)
   indexed_in owner r i g = post_any IsIndexed (operand i) _ (λ bits. post_bind IsArray IsIndexed (array_of h r) _ (array_of_in owner r g)
       (λ a is. post_any IsIndexed (number bits) _ (λ n. post_bind (λ index. IsIndexed (a, index)) IsIndexed (index_below (length (array h.job a).numbers) n) _ (index_in a is n) (λ index e. post_ok IsIndexed (a, index) e))))
+
+pub ok_some : (o : Option Word) (w : Word) → ok_or o InvalidAddress ≡ Ok w → o ≡ Some w
+ok_some None w e = cc
+ok_some (Some v) w e = cc

@@ -1,4 +1,3 @@
-pub mod Members
 pub mod Reaches
 pub mod Replaced
 pub mod Looks
@@ -7,3 +6,4 @@ pub mod Posts
 pub mod Chases
 pub mod Maps
 pub mod Couples
+pub mod Numbered

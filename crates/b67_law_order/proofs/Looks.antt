@@ -1,16 +1,16 @@
 -- What the running task sees: the frames of its reach, by their identities.
-use Rattle.std.proofs.Common.{◌≡◌, ℕ, ◌+◌, ◌^◌, ◌<◌, ◌≤◌, cond, eqb, List, [], ◌∷◌, ◌++◌, map, flat_map, Some, None, unwrap_or, refl, sym, ap, ◌∙◌, subst, inl, inr, arith}
+use Rattle.std.proofs.Common.{◌≡◌, ℕ, ◌+◌, ◌^◌, ◌<◌, ◌≤◌, cond, eqb, List, [], ◌∷◌, ◌++◌, map, flat_map, Some, None, unwrap_or, refl, sym, ap, ◌∙◌, subst, inl, inr, arith, ◌≢◌}
 use Rattle.std.specs.List.{AllByRecursion}
 use Rattle.std.proofs.lemmas.Bool.Decides.{eqb_tells}
 use Rattle.b67_model.specs.Keyed.{keyed}
 use Rattle.b67_lemmas.specs.Lists.{Has, how_many}
+use Rattle.b67_lemmas.proofs.Members.{all_in, falls_above, has_append_cases, has_append_left, has_append_right, has_flat, has_map, has_map_back, keyed_has, keyed_left, keyed_once, keyed_right, none_pass, total_flat, total_zero}
 use Rattle.b67_model.specs.Words as Words
 use Rattle.b67_model.specs.Words.{Word, Operand, Name, Ref, Row, Element, Original, Proc, Intrinsic}
-use Rattle.b67_model.specs.State.{Frame, Standing, Marked, Entered, Array, Ready, Task, Setting, Job, Here, mcp, no_frame, all_frames, frame}
+use Rattle.b67_model.specs.State.{Frame, Standing, Marked, Entered, Array, Ready, Task, JobConstants, Job, OperatorContext, mcp, no_frame, all_frames, frame, with_top_cells, top, below_top}
 use Rattle.b67_model.specs.Environment as Environment
-use Rattle.b67_model.specs.Environment.{level_of_standing, level_of_frame, environment_of, running_from, outward, running_level, frame_at}
-use Rattle.b67_model.specs.InOrder.{Starts, Known, known_of, from_frame, base, outer_reach, outer_of, reach_of, known_numbers, IsEntered, NamesEntered, NamesArray, OwnsArray, WordInOrder, StandsInOrder, CellsInOrder, FramesInOrder, ParentInOrder, BirthInOrder, TaskInOrder, EntryInOrder, frames_named, SettingInOrder, TasksInOrder}
-use Rattle.b67_law_order.proofs.Members.{has_append_left, has_append_right, has_append_cases, has_map, has_map_back, has_flat, all_in, keyed_has, keyed_once, keyed_left, keyed_right, total_flat, total_zero, none_pass, falls_above}
+use Rattle.b67_model.specs.Environment.{level_of_standing, level_of_frame, environment_of, running_from, outward, running_level, frame_at, running}
+use Rattle.b67_model.specs.InOrder.{Starts, Known, known_of, from_frame, base, outer_reach, outer_of, reach_of, known_numbers, IsEntered, NamesEntered, NamesArray, OwnsArray, WordInOrder, StandsInOrder, CellsInOrder, FramesInOrder, ParentInOrder, BirthInOrder, TaskInOrder, EntryInOrder, frames_named, SettingInOrder, TasksInOrder, StackInOrder, ReturnsInOrder}
 use Rattle.b67_law_order.proofs.Reaches.{Wider, words_wider, stands_wider, known_number}
 use Rattle.b67_law_order.proofs.Replaced.{numbers_append, birth_same}
 
@@ -44,16 +44,16 @@ from_order : (P : Starts) (arrays : List Array) (outer : List Known) (c : ℕ) (
 from_order P arrays outer c [] g = tt
 from_order P arrays outer c (f ∷ fs) g = elim (eqb_tells f.identity c) [ inl t ↦ rw t.0 g | inr t ↦ rw t.0 (from_order P arrays outer c fs g.2) ]
 
-from_has : (c : ℕ) (fs : List Frame) (f : Frame) → Has (from_frame c fs) f → Has fs f
+pub from_has : (c : ℕ) (fs : List Frame) (f : Frame) → Has (from_frame c fs) f → Has fs f
 from_has c [] f h = h
 from_has c (g ∷ fs) f h = elim (eqb_tells g.identity c) [ inl t ↦ rw t.0 at h | inr t ↦ inr (from_has c fs f (rw t.0 at h)) ]
 
 both_live : (job : Job) (fs gs : List Frame) → ((f : Frame) → Has fs f → IsFrame job f) → ((f : Frame) → Has gs f → IsFrame job f) → (f : Frame) → Has (fs ++ gs) f → IsFrame job f
 both_live job fs gs a b f h = elim (has_append_cases fs gs f h) [ inl x ↦ a f x | inr y ↦ b f y ]
 
-module _ (P : Starts) (setting : Setting) (job : Job) (g : TasksInOrder P setting job) where
-  order_of : (t : Task) → Has job.tasks t → TaskInOrder P setting job t
-  order_of t h = all_in (TaskInOrder P setting job) job.tasks t g.tasks h
+module _ (P : Starts) (constants : JobConstants) (job : Job) (g : TasksInOrder P constants job) where
+  order_of : (t : Task) → Has job.tasks t → TaskInOrder P constants job t
+  order_of t h = all_in (TaskInOrder P constants job) job.tasks t g.tasks h
 
   line_outer : (t : Task) → Has job.tasks t → (parents : List ℕ) → t.parents ≡ parents → Line P job (outer_reach job t.critical parents)
   line_outer t here [] line = record { frames = []; is = refl; order = tt; live = λ f h. absurd h }
@@ -159,25 +159,25 @@ line_words P arrays outer (x ∷ fs) f g h = elim h [
 ]
 
 -- the running task of a job in order; it may stand past the operator already
-pub record Run (P : Starts) (h : Here) : Type 0 where
-  pub unchanging : SettingInOrder h.setting
-  pub order : TasksInOrder P h.setting h.job
+pub record Run (P : Starts) (h : OperatorContext) : Type 0 where
+  pub unchanging : SettingInOrder h.constants
+  pub order : TasksInOrder P h.constants h.job
   pub found : Task
   pub running : keyed (λ t. t.number) h.task.number h.job.tasks ≡ Some found
   pub same : record found { segment = h.task.segment; place = h.task.place } ≡ h.task
   pub place : P h.task.segment (level_of_frame (Environment.running h.task.frames)) h.task.place
   pub ready : h.task.condition ≡ Ready
 
-abbrev pub reach : Here → List Known
+abbrev pub reach : OperatorContext → List Known
 reach h = reach_of h.job h.task
 
-pub own_order : (P : Starts) (h : Here) (run : Run P h) → TaskInOrder P h.setting h.job h.task
+pub own_order : (P : Starts) (h : OperatorContext) (run : Run P h) → TaskInOrder P h.constants h.job h.task
 own_order P h run =
-    let found = all_in (TaskInOrder P h.setting h.job) h.job.tasks run.found run.order.tasks (keyed_has (λ t. t.number) h.task.number h.job.tasks run.found run.running).0 in
+    let found = all_in (TaskInOrder P h.constants h.job) h.job.tasks run.found run.order.tasks (keyed_has (λ t. t.number) h.task.number h.job.tasks run.found run.running).0 in
     let there : Task = record run.found { segment = h.task.segment; place = h.task.place } in
     let place : P h.task.segment (level_of_frame (Environment.running run.found.frames)) h.task.place = subst (λ (t : Task). P h.task.segment (level_of_frame (Environment.running t.frames)) h.task.place) (sym run.same) run.place in
     let birth : BirthInOrder h.job there there.parents = birth_same h.job run.found there run.found.parents refl refl found.birth in
-    let own : TaskInOrder P h.setting h.job there = record {
+    let own : TaskInOrder P h.constants h.job there = record {
       frames = found.frames;
       returns = found.returns;
       some = found.some;
@@ -187,19 +187,19 @@ own_order P h run =
       birth = birth;
       condition = found.condition;
     } in
-    subst (TaskInOrder P h.setting h.job) run.same own
+    subst (TaskInOrder P h.constants h.job) run.same own
 
 -- what the running task's reach shows at an identity
-pub record Seen (P : Starts) (h : Here) (n : ℕ) (s : Standing) : Type 0 where
+pub record Seen (P : Starts) (h : OperatorContext) (n : ℕ) (s : Standing) : Type 0 where
   pub identity : (frame h n).identity ≡ n
   pub standing : (frame h n).standing ≡ s
   pub words : (w : Word) → Has (frame h n).cells w → SeenWord P h.job.arrays (reach h) n w
   pub outer : 1 < n → StandsInOrder (reach h) s
 
-module _ (P : Starts) (h : Here) (run : Run P h) where
+module _ (P : Starts) (h : OperatorContext) (run : Run P h) where
   line : Line P h.job (reach h)
   line =
-      let r : Line P h.job (reach_of h.job run.found) = line_of P h.setting h.job run.order run.found (keyed_has (λ t. t.number) h.task.number h.job.tasks run.found run.running).0 in
+      let r : Line P h.job (reach_of h.job run.found) = line_of P h.constants h.job run.order run.found (keyed_has (λ t. t.number) h.task.number h.job.tasks run.found run.running).0 in
       let there : Task = record run.found { segment = h.task.segment; place = h.task.place } in
       let r' : Line P h.job (reach_of h.job there) = r in
       subst (λ (t : Task). Line P h.job (reach_of h.job t)) run.same r'
@@ -207,9 +207,9 @@ module _ (P : Starts) (h : Here) (run : Run P h) where
   see_live : (f : Frame) → Has line.frames f → Seen P h f.identity f.standing
   see_live f here =
       let live = line.live f here in
-      let is : frame h f.identity ≡ f = ap (λ o. unwrap_or o no_frame) (keyed_left (λ (x : Frame). x.identity) f.identity (flat_map (λ (t : Task). t.frames) h.job.tasks) (h.setting.dictionary ∷ mcp ∷ []) f (found_frame P h.setting h.job run.order f live)) in
+      let is : frame h f.identity ≡ f = ap (λ o. unwrap_or o no_frame) (keyed_left (λ (x : Frame). x.identity) f.identity (flat_map (λ (t : Task). t.frames) h.job.tasks) (h.constants.dictionary ∷ mcp ∷ []) f (found_frame P h.constants h.job run.order f live)) in
       let r = line_words P h.job.arrays base line.frames f line.order here in
-      let high = above_one P h.setting h.job run.order live.task live.live f live.among in
+      let high = above_one P h.constants h.job run.order live.task live.live f live.among in
       let words : AllByRecursion (WordInOrder P h.job.arrays (reach h) f.identity) f.cells = rw line.is r.0 in
       let outer : StandsInOrder (reach h) f.standing = rw line.is r.1 in
       record {
@@ -219,25 +219,25 @@ module _ (P : Starts) (h : Here) (run : Run P h) where
         outer = λ high. outer;
       }
 
-  dictionary_found : frame h 1 ≡ h.setting.dictionary
+  dictionary_found : frame h 1 ≡ h.constants.dictionary
   dictionary_found =
-      let here : keyed (λ (x : Frame). x.identity) 1 (h.setting.dictionary ∷ mcp ∷ []) ≡ Some h.setting.dictionary = rw run.unchanging.named refl in
-      let all : keyed (λ (x : Frame). x.identity) 1 (all_frames h) ≡ Some h.setting.dictionary =
-      keyed_right (λ (x : Frame). x.identity) 1 (flat_map (λ (t : Task). t.frames) h.job.tasks) (h.setting.dictionary ∷ mcp ∷ []) (none_low P h.setting h.job run.order 1 (omega arith)) ∙ here in
+      let here : keyed (λ (x : Frame). x.identity) 1 (h.constants.dictionary ∷ mcp ∷ []) ≡ Some h.constants.dictionary = rw run.unchanging.named refl in
+      let all : keyed (λ (x : Frame). x.identity) 1 (all_frames h) ≡ Some h.constants.dictionary =
+      keyed_right (λ (x : Frame). x.identity) 1 (flat_map (λ (t : Task). t.frames) h.job.tasks) (h.constants.dictionary ∷ mcp ∷ []) (none_low P h.constants h.job run.order 1 (omega arith)) ∙ here in
       ap (λ o. unwrap_or o no_frame) all
 
   mcp_found : frame h 0 ≡ mcp
   mcp_found =
-      let here : keyed (λ (x : Frame). x.identity) 0 (h.setting.dictionary ∷ mcp ∷ []) ≡ Some mcp = rw run.unchanging.named refl in
+      let here : keyed (λ (x : Frame). x.identity) 0 (h.constants.dictionary ∷ mcp ∷ []) ≡ Some mcp = rw run.unchanging.named refl in
       let all : keyed (λ (x : Frame). x.identity) 0 (all_frames h) ≡ Some mcp =
-      keyed_right (λ (x : Frame). x.identity) 0 (flat_map (λ (t : Task). t.frames) h.job.tasks) (h.setting.dictionary ∷ mcp ∷ []) (none_low P h.setting h.job run.order 0 (omega arith)) ∙ here in
+      keyed_right (λ (x : Frame). x.identity) 0 (flat_map (λ (t : Task). t.frames) h.job.tasks) (h.constants.dictionary ∷ mcp ∷ []) (none_low P h.constants h.job run.order 0 (omega arith)) ∙ here in
       ap (λ o. unwrap_or o no_frame) all
 
   see_dictionary : Seen P h 1 (Entered 1 0 None)
   see_dictionary = record {
     identity = rw dictionary_found run.unchanging.named;
     standing = rw dictionary_found run.unchanging.stands;
-    words = λ w k. entry_seen P h.job.arrays (reach h) w (all_in (EntryInOrder h.job.arrays) h.setting.dictionary.cells w run.order.entries (rw dictionary_found at k));
+    words = λ w k. entry_seen P h.job.arrays (reach h) w (all_in (EntryInOrder h.job.arrays) h.constants.dictionary.cells w run.order.entries (rw dictionary_found at k));
     outer = λ high. absurd (omega (arith, high));
   }
 
@@ -262,13 +262,13 @@ module _ (P : Starts) (h : Here) (run : Run P h) where
   ]
 
 -- what an entered frame's environment is
-pub record Outer (h : Here) (s : Standing) : Type 0 where
+pub record Outer (h : OperatorContext) (s : Standing) : Type 0 where
   pub standing : Standing
   pub among : Has (reach h) (environment_of s, standing)
   pub entered : IsEntered standing
   pub level_below : level_of_standing standing + 1 ≡ level_of_standing s
 
-outer_of_standing : (h : Here) (s : Standing) → IsEntered s → StandsInOrder (reach h) s → Outer h s
+outer_of_standing : (h : OperatorContext) (s : Standing) → IsEntered s → StandsInOrder (reach h) s → Outer h s
 outer_of_standing h Marked e g = absurd e
 outer_of_standing h (Entered level environment back) e g = record { standing = g.standing; among = g.among; entered = g.entered; level_below = g.level_below }
 
@@ -276,7 +276,7 @@ low_of_standing : (under : List Known) (s : Standing) → IsEntered s → Stands
 low_of_standing under Marked e g = absurd e
 low_of_standing under (Entered level environment back) e g = g.low
 
-module _ (P : Starts) (h : Here) (run : Run P h) where
+module _ (P : Starts) (h : OperatorContext) (run : Run P h) where
   base_in : (n : ℕ) (s : Standing) → Has base (n, s) → Has (reach h) (n, s)
   base_in n s k = rw (line P h run).is (has_append_right (map known_of (line P h run).frames) base (n, s) k)
 
@@ -294,7 +294,7 @@ module _ (P : Starts) (h : Here) (run : Run P h) where
     | inl a ↦
         let r = has_map_back known_of (line P h run).frames (n, s) a in
         let live = (line P h run).live r.item r.among in
-        let high = above_one P h.setting h.job run.order live.task live.live r.item live.among in
+        let high = above_one P h.constants h.job run.order live.task live.live r.item live.among in
         let number : r.item.identity ≡ n = ap (λ (x : Known). x.0) r.is in
         outer_of_standing h s e ((see P h run n s k).outer (omega (arith, high, number)))
     | inr b ↦ closed_base n s b low
@@ -306,4 +306,33 @@ module _ (P : Starts) (h : Here) (run : Run P h) where
   pub own_high : (f : Frame) → Has h.task.frames f → 1 < f.identity
   own_high f k =
       let there : Has run.found.frames f = subst (λ (t : Task). Has t.frames f) (sym run.same) k in
-      above_one P h.setting h.job run.order run.found (keyed_has (λ t. t.number) h.task.number h.job.tasks run.found run.running).0 f there
+      above_one P h.constants h.job run.order run.found (keyed_has (λ t. t.number) h.task.number h.job.tasks run.found run.running).0 f there
+
+pub known_cells : (fs : List Frame) (cells : List Word) → map known_of (with_top_cells fs cells) ≡ map known_of fs
+known_cells [] cells = refl
+known_cells (f ∷ below) cells = refl
+
+pub some_cells : (fs : List Frame) (cells : List Word) → fs ≢ [] → with_top_cells fs cells ≢ []
+some_cells [] cells some = some
+some_cells (f ∷ below) cells some = λ e. cc
+
+-- a frame's cells don't count where it runs, nor in what is known of it
+pub level_from : (s : Standing) (f g r : Frame) → level_of_frame f ≡ level_of_frame g → level_of_frame (running_from s f r) ≡ level_of_frame (running_from s g r)
+level_from Marked f g r e = refl
+level_from (Entered level environment back) f g r e = e
+
+pub running_cells : (fs : List Frame) (cells : List Word) → level_of_frame (running (with_top_cells fs cells)) ≡ level_of_frame (running fs)
+running_cells [] cells = refl
+running_cells (f ∷ below) cells = level_from f.standing (record f { cells = cells }) f (running below) refl
+
+pub below_some : (P : Starts) (fs : List Frame) → StackInOrder P fs → fs ≢ [] → (top fs).standing ≡ Marked → below_top fs ≢ []
+below_some P [] g some marked = absurd (some refl)
+below_some P (f ∷ below) g some marked = subst (λ s. ReturnsInOrder P s below) marked g.0
+
+-- what an entered frame is in reach of a marked one lies below it
+pub below_marked : (fs : List Frame) (outer : List Known) (n : ℕ) (s : Standing) → (top fs).standing ≡ Marked → IsEntered s → Has (map known_of fs ++ outer) (n, s) → Has (map known_of (below_top fs) ++ outer) (n, s)
+below_marked [] outer n s marked e k = k
+below_marked (f ∷ below) outer n s marked e k = elim k [
+  | inl is ↦ let no : f.standing ≡ s = ap (λ (x : Known). x.1) is in absurd (subst IsEntered (sym no ∙ marked) e)
+  | inr m ↦ m
+]

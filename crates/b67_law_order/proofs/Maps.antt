@@ -5,15 +5,15 @@ use Rattle.std.proofs.lemmas.List.{reverse-reverse, length-map}
 use Rattle.std.proofs.lemmas.Bool.Decides.{eqb_tells}
 use Rattle.b67_model.specs.Keyed.{change_keyed}
 use Rattle.b67_lemmas.specs.Lists.{Has, how_many, Falls}
+use Rattle.b67_lemmas.proofs.Members.{all_from, all_in, has_map_back, keyed_has, keyed_map, map_map_key, reverse_cons, total_map, total_same}
 use Rattle.b67_model.specs.Words as Words
 use Rattle.b67_model.specs.Words.{Word, Operand, Name, Ref, Row, Element, Original, Proc, Intrinsic}
-use Rattle.b67_model.specs.State.{Frame, Standing, Marked, Entered, Return, Array, Condition, Ready, Awaits, WaitsAt, Task, Setting, Job, words_of, height}
+use Rattle.b67_model.specs.State.{Frame, Standing, Marked, Entered, Return, Array, Condition, Ready, Awaits, WaitsAt, Task, JobConstants, Job, words_of, height}
 use Rattle.b67_model.specs.Environment as Environment
 use Rattle.b67_model.specs.Environment.{level_of_frame, running, running_from}
 use Rattle.b67_model.specs.State as State
 use Rattle.b67_model.specs.Cells.{with_cell_of, with_cell}
 use Rattle.b67_model.specs.InOrder.{Starts, Known, known_of, from_frame, outer_of, reach_of, known_numbers, identities, WordInOrder, StandsInOrder, is_copy_of, NoCopyUnder, CellsInOrder, FramesInOrder, StackInOrder, ReturnsInOrder, BirthInOrder, ConditionInOrder, TaskInOrder, is_original_of, originals_in, originals_of, frames_named, TasksInOrder}
-use Rattle.b67_law_order.proofs.Members.{has_map_back, all_in, all_from, keyed_has, keyed_map, map_map_key, total_same, total_map, reverse_cons}
 use Rattle.b67_law_order.proofs.Reaches.{Alike, alike_same, Follows}
 use Rattle.b67_law_order.proofs.Replaced.{birth_same, task_kept}
 
@@ -229,10 +229,10 @@ pub record SameTask (P : Starts) (t u : Task) : Type 0 where
 abbrev pub mapped : (Task → Task) → Job → Job
 mapped change job = record job { tasks = map change job.tasks }
 
-module _ (P : Starts) (setting : Setting) (job : Job) (change : Task → Task) (numbers : (t : Task) → (change t).number ≡ t.number)
-    (each : (t : Task) → Has job.tasks t → SameTask P t (change t)) (g : TasksInOrder P setting job) where
-  task_of : (t : Task) → Has job.tasks t → TaskInOrder P setting job t
-  task_of t h = all_in (TaskInOrder P setting job) job.tasks t g.tasks h
+module _ (P : Starts) (constants : JobConstants) (job : Job) (change : Task → Task) (numbers : (t : Task) → (change t).number ≡ t.number)
+    (each : (t : Task) → Has job.tasks t → SameTask P t (change t)) (g : TasksInOrder P constants job) where
+  task_of : (t : Task) → Has job.tasks t → TaskInOrder P constants job t
+  task_of t h = all_in (TaskInOrder P constants job) job.tasks t g.tasks h
 
   map_follows : Follows job (mapped change job) (λ n. Unit {0})
   map_follows n q lives e =
@@ -254,11 +254,11 @@ module _ (P : Starts) (setting : Setting) (job : Job) (change : Task → Task) (
       ids (f ∷ fs) [] s = absurd s
       ids (f ∷ fs) (g ∷ gs) s = ap (λ n. n ∷ identities fs) s.0.identity ∙ ap (λ ns. g.identity ∷ ns) (ids fs gs s.1)
 
-  map_task : (t : Task) → Has job.tasks t → TaskInOrder P setting (mapped change job) (change t)
+  map_task : (t : Task) → Has job.tasks t → TaskInOrder P constants (mapped change job) (change t)
   map_task t h =
       let s = each t h in
       let own = task_of t h in
-      let kept : TaskInOrder P setting (mapped change job) t = task_kept P setting job (mapped change job) (λ n. Unit {0}) map_follows (λ u k. (task_of u k).birth) (omega arith) t h (λ n k. tt)
+      let kept : TaskInOrder P constants (mapped change job) t = task_kept P constants job (mapped change job) (λ n. Unit {0}) map_follows (λ u k. (task_of u k).birth) (omega arith) t h (λ n k. tt)
       (λ a k at. record { item = a; live = k; named = refl; owned = refl }) own in
       let outer : outer_of (mapped change job) t ≡ outer_of (mapped change job) (change t) = rw (s.critical, s.line) refl in
       let reach : reach_of (mapped change job) t ≡ reach_of (mapped change job) (change t) = rw outer (ap (λ ks. ks ++ outer_of (mapped change job) (change t)) (frames_known t.frames (change t).frames s.frames)) in
@@ -276,19 +276,19 @@ module _ (P : Starts) (setting : Setting) (job : Job) (change : Task → Task) (
         ];
       }
 
-  each_task : (u : Task) → Has (map change job.tasks) u → TaskInOrder P setting (mapped change job) u
-  each_task u h = let r = has_map_back change job.tasks u h in subst (TaskInOrder P setting (mapped change job)) r.is (map_task r.item r.among)
+  each_task : (u : Task) → Has (map change job.tasks) u → TaskInOrder P constants (mapped change job) u
+  each_task u h = let r = has_map_back change job.tasks u h in subst (TaskInOrder P constants (mapped change job)) r.is (map_task r.item r.among)
 
-  pub map_good : TasksInOrder P setting (mapped change job)
+  pub map_good : TasksInOrder P constants (mapped change job)
   map_good = record {
-    tasks = all_from (TaskInOrder P setting (mapped change job)) (map change job.tasks) each_task;
+    tasks = all_from (TaskInOrder P constants (mapped change job)) (map change job.tasks) each_task;
     apart = λ n. rw (total_map change (λ (t : Task). frames_named n t.frames) job.tasks)
         (rw (sym (total_same (λ (t : Task). frames_named n t.frames) (λ (t : Task). frames_named n (change t).frames) job.tasks (λ t h. named_same n t.frames (change t).frames (each t h).frames))) (g.apart n));
     arrays = g.arrays;
-    once = all_from (λ (a : Array). originals_of a.identity setting (mapped change job) ≡ 1) job.arrays (λ a k.
+    once = all_from (λ (a : Array). originals_of a.identity constants (mapped change job) ≡ 1) job.arrays (λ a k.
         rw (total_map change (λ (t : Task). originals_in a.identity t.frames) job.tasks)
         (rw (sym (total_same (λ (t : Task). originals_in a.identity t.frames) (λ (t : Task). originals_in a.identity (change t).frames) job.tasks (λ t h. originals_same a.identity t.frames (change t).frames (each t h).frames)))
-        (all_in (λ (x : Array). originals_of x.identity setting job ≡ 1) job.arrays a g.once k)));
+        (all_in (λ (x : Array). originals_of x.identity constants job ≡ 1) job.arrays a g.once k)));
     entries = g.entries;
     numbers = rw (map_map_key (λ (t : Task). t.number) change job.tasks numbers) g.numbers;
     names = g.names;
@@ -315,6 +315,6 @@ frames_stored n offset bits (f ∷ fs) low at = elim (eqb_tells f.identity n) [
   | inr e ↦ rw e.0 (record { identity = refl; standing = refl; cells = same_refl f.cells }, frames_stored n offset bits fs low (λ g h. at g (inr h)))
 ]
 
-pub cell_stored : (P : Starts) (setting : Setting) (job : Job) (n offset bits : ℕ) → bits < 2 ^ 48 → HoldsOperand job n offset → TasksInOrder P setting job → TasksInOrder P setting (with_cell job n offset (Operand bits))
-cell_stored P setting job n offset bits low at g = map_good P setting job (λ (t : Task). record t { frames = change_keyed (λ f. f.identity) n (with_cell_of offset (Operand bits)) t.frames }) (λ t. refl)
+pub cell_stored : (P : Starts) (constants : JobConstants) (job : Job) (n offset bits : ℕ) → bits < 2 ^ 48 → HoldsOperand job n offset → TasksInOrder P constants job → TasksInOrder P constants (with_cell job n offset (Operand bits))
+cell_stored P constants job n offset bits low at g = map_good P constants job (λ (t : Task). record t { frames = change_keyed (λ f. f.identity) n (with_cell_of offset (Operand bits)) t.frames }) (λ t. refl)
     (λ t h. record { number = refl; line = refl; critical = refl; segment = refl; place = refl; frames = frames_stored n offset bits t.frames low (at t h); condition = inl refl }) g

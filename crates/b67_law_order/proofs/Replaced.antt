@@ -5,12 +5,12 @@ use Rattle.std.proofs.lemmas.Bool.Decides.{eqb_tells}
 use Rattle.std.proofs.lemmas.Bool.{cases_lt}
 use Rattle.b67_model.specs.Keyed.{keyed, change_keyed}
 use Rattle.b67_lemmas.specs.Lists.{Has, Falls}
+use Rattle.b67_lemmas.proofs.Members.{all_from, all_in, change_found, change_other, falls_low, falls_more, falls_once, has_append_cases, has_append_left, has_change, has_map, keyed_has, length_change, map_change, none_pass, total_change, total_has, total_zero}
 use Rattle.b67_model.specs.Words as Words
 use Rattle.b67_model.specs.Words.{Word, Operand, Name, Ref, Row, Element, Original, Proc, Intrinsic}
-use Rattle.b67_model.specs.State.{Frame, Array, Condition, Ready, Awaits, WaitsAt, Task, Setting, Job, height}
+use Rattle.b67_model.specs.State.{Frame, Array, Condition, Ready, Awaits, WaitsAt, Task, JobConstants, Job, height}
 use Rattle.b67_model.specs.Environment.{level_of_frame, running}
 use Rattle.b67_model.specs.InOrder.{Starts, Known, known_of, from_frame, frames_of_task, critical_of, outer_reach, outer_of, reach_of, known_numbers, identities, FramesInOrder, StackInOrder, BirthInOrder, ConditionInOrder, TaskInOrder, ArrayInOrder, EntryInOrder, originals_in, originals_of, frames_named, frames_in_job, TasksInOrder}
-use Rattle.b67_law_order.proofs.Members.{has_append_left, has_append_cases, has_map, all_in, all_from, keyed_has, has_change, map_change, total_change, total_has, change_found, change_other, length_change, falls_low, falls_more, falls_once, none_pass, total_zero}
 use Rattle.b67_law_order.proofs.Reaches.{Alike, alike_same, alike_under, alike_numbers, alike_has, Stays, frames_alike, Follower, Follows, Births, outer_alike, birth_follows}
 
 condition_alike : (reach reach' : List Known) (c : Condition) → Alike reach reach' → ConditionInOrder reach c → ConditionInOrder reach' c
@@ -20,10 +20,10 @@ condition_alike reach reach' (WaitsAt f offset) alike g =
     (record { standing = g.0.standing; among = alike_has reach reach' f g.0.standing alike g.0.entered g.0.among; entered = g.0.entered }, g.1)
 
 -- a task that doesn't change, in a job that follows
-pub task_kept : (P : Starts) (setting : Setting) (job job' : Job) (Lives : ℕ → Type 0) → Follows job job' Lives → Births job → job.next_frame ≤ job'.next_frame → (t : Task) → Has job.tasks t →
+pub task_kept : (P : Starts) (constants : JobConstants) (job job' : Job) (Lives : ℕ → Type 0) → Follows job job' Lives → Births job → job.next_frame ≤ job'.next_frame → (t : Task) → Has job.tasks t →
     ((n : ℕ) → Has t.parents n → Lives n) →
-    ((a : Array) → Has job.arrays a → Has (known_numbers (reach_of job' t)) a.owner → Stays job'.arrays a) → TaskInOrder P setting job t → TaskInOrder P setting job' t
-task_kept P setting job job' Lives follows births up t here live stay g =
+    ((a : Array) → Has job.arrays a → Has (known_numbers (reach_of job' t)) a.owner → Stays job'.arrays a) → TaskInOrder P constants job t → TaskInOrder P constants job' t
+task_kept P constants job job' Lives follows births up t here live stay g =
     let outer : Alike (outer_of job t) (outer_of job' t) = outer_alike job job' Lives follows births t here t.parents refl live in
     let reach : Alike (reach_of job t) (reach_of job' t) = alike_under (outer_of job t) (outer_of job' t) t.frames outer in
     record {
@@ -48,7 +48,7 @@ has_counts n (f ∷ below) h = elim (eqb_tells f.identity n) [
   | inr t ↦ elim h [ inl e ↦ absurd (t.1 e) | inr m ↦ rw t.0 (omega (arith, has_counts n below m)) ]
 ]
 
-from_counts : (n c : ℕ) (frames : List Frame) → frames_named n (from_frame c frames) ≤ frames_named n frames
+pub from_counts : (n c : ℕ) (frames : List Frame) → frames_named n (from_frame c frames) ≤ frames_named n frames
 from_counts n c [] = omega arith
 from_counts n c (f ∷ below) = elim (eqb_tells f.identity c) [ inl t ↦ rw t.0 (omega arith) | inr t ↦ rw t.0 (omega (arith, from_counts n c below)) ]
 
@@ -86,7 +86,7 @@ pub record KeptOrLeft (arrays' : List Array) (old new : List Frame) (a : Array) 
   pub case : Stays arrays' a ⊎ ((1 < a.owner) × (frames_named a.owner new + 1 ≤ frames_named a.owner old))
 
 -- the running task is replaced, and the rest of the job may change so
-pub record Replaced (P : Starts) (setting : Setting) (job : Job) (old : Task) (job' : Job) (new : Task) : Type 0 where
+pub record Replaced (P : Starts) (constants : JobConstants) (job : Job) (old : Task) (job' : Job) (new : Task) : Type 0 where
   pub number : new.number ≡ old.number
   pub line : new.parents ≡ old.parents
   pub critical : new.critical ≡ old.critical
@@ -97,7 +97,7 @@ pub record Replaced (P : Starts) (setting : Setting) (job : Job) (old : Task) (j
   pub returns : StackInOrder P new.frames
   pub some : new.frames ≢ []
   pub falls : Falls job'.next_frame (known_numbers (map known_of new.frames ++ outer_of job old))
-  pub not_higher : height new.frames ≤ setting.stack_size
+  pub not_higher : height new.frames ≤ constants.stack_size
   pub place : P new.segment (level_of_frame (running new.frames)) new.place
   pub condition : ConditionInOrder (map known_of new.frames ++ outer_of job old) new.condition
   pub alike : (t : Task) → Has job.tasks t → Alike (map known_of (from_frame t.critical old.frames)) (map known_of (from_frame t.critical new.frames))
@@ -105,7 +105,7 @@ pub record Replaced (P : Starts) (setting : Setting) (job : Job) (old : Task) (j
   pub fewer : (n : ℕ) → n < job.next_frame → frames_named n new.frames ≤ frames_named n old.frames
   pub kept : (a : Array) → Has job.arrays a → KeptOrLeft job'.arrays old.frames new.frames a
   pub arrays : AllByRecursion ArrayInOrder job'.arrays
-  pub once : (a : Array) → Has job'.arrays a → originals_in a.identity new.frames + originals_of a.identity setting job ≡ originals_in a.identity old.frames + 1
+  pub once : (a : Array) → Has job'.arrays a → originals_in a.identity new.frames + originals_of a.identity constants job ≡ originals_in a.identity old.frames + 1
   pub names : Falls job'.next_array (map (λ a. a.identity) job'.arrays)
   pub reads : AllByRecursion (λ n. nat_abs n < 2 ^ 39) job'.numbers
 
@@ -134,16 +134,16 @@ frames_fresh bound n frames outer falls high = none_pass (λ (f : Frame). eqb f.
   | inr t ↦ t.0
 ])
 
-pub job_fresh : (P : Starts) (setting : Setting) (job : Job) (n : ℕ) → TasksInOrder P setting job → job.next_frame ≤ n → frames_in_job n job ≡ 0
-job_fresh P setting job n g high = total_zero (λ (t : Task). frames_named n t.frames) job.tasks (λ t h. frames_fresh job.next_frame n t.frames (outer_of job t) (all_in (TaskInOrder P setting job) job.tasks t g.tasks h).falls high)
+pub job_fresh : (P : Starts) (constants : JobConstants) (job : Job) (n : ℕ) → TasksInOrder P constants job → job.next_frame ≤ n → frames_in_job n job ≡ 0
+job_fresh P constants job n g high = total_zero (λ (t : Task). frames_named n t.frames) job.tasks (λ t h. frames_fresh job.next_frame n t.frames (outer_of job t) (all_in (TaskInOrder P constants job) job.tasks t g.tasks h).falls high)
 
 frames_falls : (bound : ℕ) (frames : List Frame) (outer : List Known) → Falls bound (known_numbers (map known_of frames ++ outer)) → Falls bound (map (λ f. f.identity) frames)
 frames_falls bound [] outer f = tt
 frames_falls bound (g ∷ frames) outer f = (f.0, frames_falls g.identity frames outer f.1)
 
-module _ (P : Starts) (setting : Setting) (job : Job) (old : Task) (job' : Job) (new : Task) (g : TasksInOrder P setting job) (found : keyed (λ t. t.number) old.number job.tasks ≡ Some old) (r : Replaced P setting job old job' new) where
+module _ (P : Starts) (constants : JobConstants) (job : Job) (old : Task) (job' : Job) (new : Task) (g : TasksInOrder P constants job) (found : keyed (λ t. t.number) old.number job.tasks ≡ Some old) (r : Replaced P constants job old job' new) where
   births : Births job
-  births t h = (all_in (TaskInOrder P setting job) job.tasks t g.tasks h).birth
+  births t h = (all_in (TaskInOrder P constants job) job.tasks t g.tasks h).birth
 
   old_live : Has job.tasks old
   old_live = (keyed_has (λ t. t.number) old.number job.tasks old found).0
@@ -170,7 +170,7 @@ module _ (P : Starts) (setting : Setting) (job : Job) (old : Task) (job' : Job) 
     | inl low ↦ omega (arith, counted n, r.fewer n low, g.apart n)
     | inr high ↦
         let few = (falls_once (λ (f : Frame). f.identity) n job'.next_frame new.frames (frames_falls job'.next_frame new.frames (outer_of job old) r.falls)).1 in
-        omega (arith, counted n, job_fresh P setting job n g high, few)
+        omega (arith, counted n, job_fresh P constants job n g high, few)
   ]
 
   stay : (t : Task) → Has job'.tasks t → (a : Array) → Has job.arrays a → Has (known_numbers (reach_of job' t)) a.owner → Stays job'.arrays a
@@ -192,7 +192,7 @@ module _ (P : Starts) (setting : Setting) (job : Job) (old : Task) (job' : Job) 
       let same : outer_reach job' old.critical old.parents ≡ outer_of job' new = rw (r.critical, r.line) refl in
       subst (Alike (outer_of job old)) same outer
 
-  own : TaskInOrder P setting job' new
+  own : TaskInOrder P constants job' new
   own =
       let outer' = outer_kept in
       let reach : Alike (map known_of new.frames ++ outer_of job old) (reach_of job' new) = alike_under (outer_of job old) (outer_of job' new) new.frames outer' in
@@ -207,26 +207,26 @@ module _ (P : Starts) (setting : Setting) (job : Job) (old : Task) (job' : Job) 
         condition = condition_alike (map known_of new.frames ++ outer_of job old) (reach_of job' new) new.condition reach r.condition;
       }
 
-  each : (t : Task) → Has job'.tasks t → TaskInOrder P setting job' t
+  each : (t : Task) → Has job'.tasks t → TaskInOrder P constants job' t
   each t here = elim (has_change (λ (u : Task). u.number) job.next_task old.number new job.tasks t g.numbers (rw r.tasks at here)) [
-    | inl e ↦ subst (TaskInOrder P setting job') e own
-    | inr h ↦ task_kept P setting job job' (λ n. Unit {0}) follows births r.next_frame t h.0 (λ n k. tt) (stay t here) (all_in (TaskInOrder P setting job) job.tasks t g.tasks h.0)
+    | inl e ↦ subst (TaskInOrder P constants job') e own
+    | inr h ↦ task_kept P constants job job' (λ n. Unit {0}) follows births r.next_frame t h.0 (λ n k. tt) (stay t here) (all_in (TaskInOrder P constants job) job.tasks t g.tasks h.0)
   ]
 
-  once : (a : Array) → Has job'.arrays a → originals_of a.identity setting job' ≡ 1
+  once : (a : Array) → Has job'.arrays a → originals_of a.identity constants job' ≡ 1
   once a live =
       let e = total_change (λ (t : Task). t.number) (λ (t : Task). originals_in a.identity t.frames) old.number old new job.tasks found in
       rw r.tasks (omega (arith, e, r.once a live))
 
-  pub replaced : TasksInOrder P setting job'
+  pub replaced : TasksInOrder P constants job'
   replaced = record {
-    tasks = all_from (TaskInOrder P setting job') job'.tasks each;
+    tasks = all_from (TaskInOrder P constants job') job'.tasks each;
     apart = apart;
     arrays = r.arrays;
-    once = all_from (λ (a : Array). originals_of a.identity setting job' ≡ 1) job'.arrays once;
-    entries = all_from (EntryInOrder job'.arrays) setting.dictionary.cells (λ w h. entry_kept job.arrays job'.arrays w
+    once = all_from (λ (a : Array). originals_of a.identity constants job' ≡ 1) job'.arrays once;
+    entries = all_from (EntryInOrder job'.arrays) constants.dictionary.cells (λ w h. entry_kept job.arrays job'.arrays w
         (λ a live owned. elim (r.kept a live).case [ inl s ↦ s | inr gone ↦ absurd (omega (arith, gone.0, owned)) ])
-        (all_in (EntryInOrder job.arrays) setting.dictionary.cells w g.entries h));
+        (all_in (EntryInOrder job.arrays) constants.dictionary.cells w g.entries h));
     numbers = rw (r.next_task, r.tasks) (subst (Falls job.next_task) (sym (map_change (λ (t : Task). t.number) old.number new job.tasks r.number)) g.numbers);
     names = r.names;
     few = rw r.tasks (omega (arith, length_change (λ (t : Task). t.number) old.number new job.tasks, g.few));

@@ -5,13 +5,14 @@ use Rattle.std.specs.Prelude.{int_lt}
 use Rattle.b67_word.specs.declared.faults.Fault.TheVariants.{Exponent}
 use Rattle.std.specs.Int.Bits.{bit_and, bit_or, bit_xor, and_lt}
 use Rattle.std.proofs.lemmas.Nat.{or_lt, pow-add}
-use Rattle.std.proofs.lemmas.Bool.{cases_Bool, true≢false, leb-true, ltb-true, eqb-true}
+use Rattle.std.proofs.lemmas.Bool.{cases_Bool, leb-true, ltb-true, eqb-true, and_parts}
 use Rattle.std.proofs.Math.Pow.{ones_sub-lt, pow_mono}
 use Rattle.std.proofs.Math.Nat.{mul-le-mul_right, div-lt_iff_lt-mul, mod-lt, div-add-mod}
 use Rattle.b67_word.specs.Operands.{bit, is_whole, value_of, bits_of}
+use Rattle.b67_word.specs.Tagged.{is_field}
 use Rattle.b67_model.specs.Answers.{Answer, ◌>>=◌}
 use Rattle.b67_model.specs.Words.{to_operand, number, truth}
-use Rattle.b67_model.specs.Arithmetic.{ones, on_numbers, compared, land, lor, leqv, same, chsn, lnot, bset, brst, is_field, isol, insr}
+use Rattle.b67_model.specs.Arithmetic.{ones, on_numbers, compared, land, lor, leqv, same, chsn, lnot, bset, brst, isol, insr}
 use Rattle.b67_law_order.proofs.Posts.{Post, post_ok, post_err, post_any, post_needs, post_if_is}
 use Rattle.b67_law_order_rows.proofs.Cells.{Fits1, Fits2}
 
@@ -123,14 +124,10 @@ bset_fits n a x = post_needs Low (leb n 47) _ _ (λ t. post_ok Low (cond (eqb (b
   by low true even = set_low n a low x (even refl)
   by low false even = x
 
-both_true : (a b : Bool) → (a && b) ≡ true → (a ≡ true) × (b ≡ true)
-both_true true b e = (refl, e)
-both_true false b e = absurd (true≢false (sym e))
-
 field_low : (high width : ℕ) → is_field high width ≡ true → (high ≤ 47) × (width ≤ high + 1)
 field_low high width e =
-    let one = both_true (ltb 0 width && leb high 47) (leb width (high + 1)) e in
-    let two = both_true (ltb 0 width) (leb high 47) one.0 in
+    let one = and_parts (ltb 0 width && leb high 47) (leb width (high + 1)) e in
+    let two = and_parts (ltb 0 width) (leb high 47) one.0 in
     (leb-true high 47 two.1, leb-true width (high + 1) one.1)
 
 pub isol_fits : (high width : ℕ) → Fits1 (isol high width)

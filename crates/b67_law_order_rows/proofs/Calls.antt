@@ -4,22 +4,22 @@ use Rattle.std.specs.List.{AllByRecursion}
 use Rattle.std.proofs.lemmas.Bool.Decides.{eqb_tells}
 use Rattle.std.proofs.lemmas.Bool.{true≢false}
 use Rattle.b67_lemmas.specs.Lists.{Has, how_many}
+use Rattle.b67_lemmas.proofs.Members.{all_in, falls_low, has_change, has_map, none_pass, total_zero}
 use Rattle.b67_model.specs.Words as Words
 use Rattle.b67_model.specs.Words.{Word, Operand, Name, Ref, Row, Element, Original, Proc, Intrinsic}
-use Rattle.b67_model.specs.State.{Frame, Array, Condition, Ready, Awaits, WaitsAt, Task, Setting, Job, Here, top, below_top, with_top_cells, height, with_task}
+use Rattle.b67_model.specs.State.{Frame, Array, Condition, Ready, Awaits, WaitsAt, Task, JobConstants, Job, OperatorContext, top, below_top, with_top_cells, height, with_task}
 use Rattle.b67_model.specs.Arrays.{array}
 use Rattle.b67_model.specs.Chase.{End, AtCell, AtElement, AtArray, AtProc, AtIntrinsic, follow_reference}
 use Rattle.b67_model.specs.Steps.{Waits, top_of, is_critical}
 use Rattle.b67_model.specs.InOrder.{Starts, Known, known_of, outer_of, OwnsArray, WordInOrder, FramesInOrder, ConditionInOrder, TaskInOrder, is_original_of, originals_in, originals_of, TasksInOrder}
-use Rattle.b67_law_order.proofs.Members.{has_map, all_in, has_change, total_zero, falls_low, none_pass}
 use Rattle.b67_law_order.proofs.Reaches.{Stays}
-use Rattle.b67_law_order.proofs.Looks.{reach, own_order, own_high}
+use Rattle.b67_law_order.proofs.Looks.{reach, own_order, own_high, running_cells}
 use Rattle.b67_law_order.proofs.Changes.{Change, outside, change_arrays, change_cells, run_replaced}
 use Rattle.b67_law_order.specs.Ends.{EndInOrder}
 use Rattle.b67_law_order.proofs.Posts.{Post, post_ok, post_err, post_bind, post_any, post_needs, post_if, post_if_is}
 use Rattle.b67_model.specs.Words.{operand}
 use Rattle.b67_model.specs.Cells.{cell, with_cell}
-use Rattle.b67_law_order_rows.proofs.Steps.{Keeps, Good, top_words, AllFit, originals, running_cells, result_good}
+use Rattle.b67_law_order_rows.proofs.Steps.{Keeps, Good, top_words, AllFit, originals, result_good}
 use Rattle.std.proofs.Common.{ℤ, pos, negsuc, nat_abs, replicate, ltb, ◌&&◌}
 use Rattle.std.proofs.lemmas.Bool.{ltb-true}
 use Rattle.b67_word.specs.Operands.{bits_of}
@@ -42,7 +42,7 @@ zeros_low zero = tt
 zeros_low (suc n) = (omega arith, zeros_low n)
 
 -- an identity that no array has yet has no original and no copy
-module _ (P : Starts) (setting : Setting) (job : Job) (g : TasksInOrder P setting job) where
+module _ (P : Starts) (constants : JobConstants) (job : Job) (g : TasksInOrder P constants job) where
   array_low : (a : Array) → Has job.arrays a → a.identity < job.next_array
   array_low a k = falls_low job.next_array (map (λ (x : Array). x.identity) job.arrays) a.identity g.names (has_map (λ (x : Array). x.identity) job.arrays a k)
 
@@ -85,13 +85,13 @@ module _ (P : Starts) (setting : Setting) (job : Job) (g : TasksInOrder P settin
   entry_none (Intrinsic number) f = refl
   entry_none (Words.Segment number) f = refl
 
-  pub none_yet : originals_of job.next_array setting job ≡ 0
+  pub none_yet : originals_of job.next_array constants job ≡ 0
   none_yet =
-      let dictionary : originals job.next_array setting.dictionary.cells ≡ 0 = none_pass (is_original_of job.next_array) setting.dictionary.cells (λ w k. entry_none w (all_in (EntryInOrder job.arrays) setting.dictionary.cells w g.entries k)) in
-      let tasks = total_zero (λ (t : Task). originals_in job.next_array t.frames) job.tasks (λ t k. frames_none (outer_of job t) t.frames (all_in (TaskInOrder P setting job) job.tasks t g.tasks k).frames) in
+      let dictionary : originals job.next_array constants.dictionary.cells ≡ 0 = none_pass (is_original_of job.next_array) constants.dictionary.cells (λ w k. entry_none w (all_in (EntryInOrder job.arrays) constants.dictionary.cells w g.entries k)) in
+      let tasks = total_zero (λ (t : Task). originals_in job.next_array t.frames) job.tasks (λ t k. frames_none (outer_of job t) t.frames (all_in (TaskInOrder P constants job) job.tasks t g.tasks k).frames) in
       omega (arith, dictionary, tasks)
 
-module _ (P : Starts) (h : Here) (cut : Cut P h) where
+module _ (P : Starts) (h : OperatorContext) (cut : Cut P h) where
   pub read_good : (arguments : List Word) → Good P h (read h arguments)
   read_good [] = by h.job.numbers cut.run.order.reads where
     by : (ns : List ℤ) → AllByRecursion (λ n. nat_abs n < 2 ^ 39) ns → Good P h (answers h (record h.job { numbers = (read_from ns).1 }) (Operand (read_from ns).0 ∷ []) [] None)
@@ -134,8 +134,8 @@ module _ (P : Starts) (h : Here) (cut : Cut P h) where
 
   causes_good : (end : End) → EndInOrder P h end → Good P h (causes h end)
   causes_good (AtCell f offset bits) is = post_needs (Keeps P h) (not (is_critical h.job (top_of h).identity)) _ _ (λ free.
-      let stored = cell_stored P h.setting (with_task h.job (answered h [])) f offset 1 (omega arith) (cut_holds f offset bits is.found) (cut_low P h cut free) in
-      post_ok (Keeps P h) _ (map_good P h.setting (with_cell (with_task h.job (answered h [])) f offset (Operand 1)) (λ (t : Task). record t { condition = woken_at f offset t.condition }) (λ t. refl)
+      let stored = cell_stored P h.constants (with_task h.job (answered h [])) f offset 1 (omega arith) (cut_holds f offset bits is.found) (cut_low P h cut free) in
+      post_ok (Keeps P h) _ (map_good P h.constants (with_cell (with_task h.job (answered h [])) f offset (Operand 1)) (λ (t : Task). record t { condition = woken_at f offset t.condition }) (λ t. refl)
       (λ t k. record { number = refl; line = refl; critical = refl; segment = refl; place = refl; frames = frames_refl t.frames; condition = woken_same f offset t.condition }) stored))
   causes_good (AtElement a index) is = post_err (Keeps P h) _
   causes_good (AtArray a) is = post_err (Keeps P h) _
@@ -154,9 +154,9 @@ module _ (P : Starts) (h : Here) (cut : Cut P h) where
     by [] some in_all = absurd (some refl)
     by (f ∷ fs) some in_all = own_high P h cut.run f (in_all f (inl refl))
 
-  declared : (len : ℕ) → 0 < len → len < 65536 → (free : not (is_critical h.job (top_of h).identity) ≡ true) → height (answered h (Original h.job.next_array ∷ [])).frames ≤ h.setting.stack_size →
+  declared : (len : ℕ) → 0 < len → len < 65536 → (free : not (is_critical h.job (top_of h).identity) ≡ true) → height (answered h (Original h.job.next_array ∷ [])).frames ≤ h.constants.stack_size →
       let made : Array = record { identity = h.job.next_array; owner = (top (below_top h.task.frames)).identity; writable = true; numbers = replicate len 0 } in
-      TasksInOrder P h.setting (with_task (record h.job { arrays = made ∷ h.job.arrays; next_array = h.job.next_array + 1 }) (answered h (Original h.job.next_array ∷ [])))
+      TasksInOrder P h.constants (with_task (record h.job { arrays = made ∷ h.job.arrays; next_array = h.job.next_array + 1 }) (answered h (Original h.job.next_array ∷ [])))
   declared len low high free fits =
       let below = below_top h.task.frames in
       let made : Array = record { identity = h.job.next_array; owner = (top below).identity; writable = true; numbers = replicate len 0 } in
@@ -169,13 +169,13 @@ module _ (P : Starts) (h : Here) (cut : Cut P h) where
       let old_words = top_words P h.job.arrays (outside h) below c.order in
       let new_words = top_words P arrays' (outside h) below c'.order in
       let uncopied : how_many (is_copy_of h.job.next_array) (top below).cells ≡ 0 =
-      none_pass (is_copy_of h.job.next_array) (top below).cells (λ w k. no_copy P h.setting h.job cut.run.order (map known_of below ++ outside h) (top below).identity w (all_in (WordInOrder P h.job.arrays (map known_of below ++ outside h) (top below).identity) (top below).cells w old_words.0 k)) in
+      none_pass (is_copy_of h.job.next_array) (top below).cells (λ w k. no_copy P h.constants h.job cut.run.order (map known_of below ++ outside h) (top below).identity w (all_in (WordInOrder P h.job.arrays (map known_of below ++ outside h) (top below).identity) (top below).cells w old_words.0 k)) in
       let owns : OwnsArray arrays' (top below).identity h.job.next_array = record { item = made; live = inl refl; named = refl; owned = refl } in
       let c'' : Change P h arrays' (with_top_cells below cells) h.job.next_frame = change_cells P h arrays' below h.job.next_frame cells c' ((owns, new_words.0), (uncopied, new_words.1)) in
       let new : Task = answered h (Original h.job.next_array ∷ []) in
       let counted : (n : ℕ) → originals_in n (with_top_cells below cells) ≡ cond (eqb h.job.next_array n) 1 0 + originals_in n h.task.frames =
       λ n. originals_more n below cells (cond (eqb h.job.next_array n) 1 0) c.some refl ∙ ap (λ m. cond (eqb h.job.next_array n) 1 0 + m) (below_of P h cut c n) in
-      let own_none : originals_in h.job.next_array h.task.frames ≡ 0 = frames_none P h.setting h.job cut.run.order (outside h) h.task.frames (own_order P h cut.run).frames in
+      let own_none : originals_in h.job.next_array h.task.frames ≡ 0 = frames_none P h.constants h.job cut.run.order (outside h) h.task.frames (own_order P h cut.run).frames in
       let owner_high = below_high free in
       (run_replaced P h (with_task job' new) new cut.run (record {
         number = refl;
@@ -206,14 +206,14 @@ module _ (P : Starts) (h : Here) (cut : Cut P h) where
         );
         once = λ x k. elim k [
           | inl e ↦ let same : h.job.next_array ≡ x.identity = ap (λ (y : Array). y.identity) e in
-              subst (λ n. originals_in n (with_top_cells below cells) + originals_of n h.setting h.job ≡ originals_in n h.task.frames + 1) same
+              subst (λ n. originals_in n (with_top_cells below cells) + originals_of n h.constants h.job ≡ originals_in n h.task.frames + 1) same
               (let here = counted h.job.next_array in elim (eqb_tells h.job.next_array h.job.next_array) [
-                | inl y ↦ let one : originals_in h.job.next_array (with_top_cells below cells) ≡ 1 + originals_in h.job.next_array h.task.frames = rw y.0 at here in omega (arith, one, own_none, none_yet P h.setting h.job cut.run.order)
+                | inl y ↦ let one : originals_in h.job.next_array (with_top_cells below cells) ≡ 1 + originals_in h.job.next_array h.task.frames = rw y.0 at here in omega (arith, one, own_none, none_yet P h.constants h.job cut.run.order)
                 | inr z ↦ absurd (z.1 refl)
               ])
           | inr m ↦ let here = counted x.identity in elim (eqb_tells h.job.next_array x.identity) [
-            | inl y ↦ absurd (omega (arith, y.1, array_low P h.setting h.job cut.run.order x m))
-            | inr z ↦ let none : originals_in x.identity (with_top_cells below cells) ≡ 0 + originals_in x.identity h.task.frames = rw z.0 at here in omega (arith, none, all_in (λ (y : Array). originals_of y.identity h.setting h.job ≡ 1) h.job.arrays x cut.run.order.once m)
+            | inl y ↦ absurd (omega (arith, y.1, array_low P h.constants h.job cut.run.order x m))
+            | inr z ↦ let none : originals_in x.identity (with_top_cells below cells) ≡ 0 + originals_in x.identity h.task.frames = rw z.0 at here in omega (arith, none, all_in (λ (y : Array). originals_of y.identity h.constants h.job ≡ 1) h.job.arrays x cut.run.order.once m)
           ]
         ];
         names = (omega arith, cut.run.order.names);

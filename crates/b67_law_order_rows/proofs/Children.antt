@@ -6,36 +6,34 @@ use Rattle.std.proofs.lemmas.Bool.{true≢false}
 use Rattle.b67_word.specs.declared.couples.Place.{Place}
 use Rattle.b67_model.specs.Keyed.{keyed}
 use Rattle.b67_lemmas.specs.Lists.{Has, Falls}
+use Rattle.b67_lemmas.proofs.Members.{all_from, all_in, any_none, change_found, falls_low, has_map, has_reverse_back, keyed_has, length_change, none_pass}
 use Rattle.b67_model.specs.Words as Words
 use Rattle.b67_model.specs.Words.{Word, Operand, Name, Ref, Row, Element, Original, Proc, Intrinsic}
-use Rattle.b67_model.specs.State.{Frame, Standing, Marked, Entered, Array, Ready, Task, Setting, Job, Here, frame, top, below_top, with_top_cells, height, with_task}
+use Rattle.b67_model.specs.State.{Frame, Standing, Marked, Entered, Array, Ready, Task, JobConstants, Job, OperatorContext, frame, top, below_top, with_top_cells, height, with_task}
 use Rattle.b67_model.specs.Environment.{level_of_frame}
 use Rattle.b67_model.specs.Arrays.{array}
 use Rattle.b67_model.specs.Steps.{top_of, cells_of, is_critical}
 use Rattle.b67_model.specs.Intrinsics.{is_original}
 use Rattle.b67_model.specs.InOrder.{Starts, Known, known_of, from_frame, outer_reach, outer_of, reach_of, known_numbers, identities, IsEntered, WordInOrder, EnvironmentInOrder, CopiesAbove, FramesInOrder, TaskInOrder, is_original_of, originals_in, originals_of, TasksInOrder}
-use Rattle.b67_law_order.proofs.Members.{has_map, has_reverse_back, all_in, all_from, any_none, keyed_has, change_found, falls_low, none_pass}
 use Rattle.b67_law_order.proofs.Reaches.{Alike, alike_has, alike_same, Wider, word_wider, names_entered, names_array}
-use Rattle.b67_law_order.proofs.Looks.{Run, reach}
+use Rattle.b67_law_order.proofs.Looks.{Run, reach, below_marked, known_cells, some_cells}
 use Rattle.b67_law_order.proofs.Changes.{outside}
 use Rattle.b67_law_order.specs.Ends.{IsProcOf}
 use Rattle.b67_model.specs.Words.{operand}
-use Rattle.b67_law_order_rows.proofs.Steps.{Fit, AllFit, originals, plain_above, known_cells, some_cells, environment_of_proc}
+use Rattle.b67_law_order_rows.proofs.Steps.{Fit, AllFit, originals, plain_above, environment_of_proc}
 use Rattle.b67_model.specs.Intrinsics.{answered, child_of}
 use Rattle.b67_model.specs.Words.{number, whole}
-use Rattle.b67_law_order_rows.proofs.Entries.{below_marked}
 use Rattle.b67_law_order_rows.proofs.Cuts.{Cut, cut_change}
 use Rattle.std.specs.List.{list_any}
 use Rattle.b67_law_order_rows.proofs.Cuts.{answer_job, answer_outer}
 use Rattle.b67_law_order_rows.proofs.Cells.{plain_word}
 use Rattle.std.proofs.lemmas.List.{length-reverse}
-use Rattle.b67_law_order.proofs.Members.{length_change}
 use Rattle.b67_law_order.proofs.Replaced.{task_kept, job_fresh}
 use Rattle.b67_law_order.proofs.Reaches.{alike_under, alike_numbers, Follows, Births, outer_alike}
 use Rattle.b67_model.specs.InOrder.{BirthInOrder}
 
 -- a new task of a job in order
-pub record ChildInOrder (P : Starts) (setting : Setting) (job : Job) (parent child : Task) : Type 0 where
+pub record ChildInOrder (P : Starts) (constants : JobConstants) (job : Job) (parent child : Task) : Type 0 where
   pub live : keyed (λ t. t.number) parent.number job.tasks ≡ Some parent
   pub number : child.number ≡ job.next_task
   pub line : child.parents ≡ parent.number ∷ parent.parents
@@ -47,7 +45,7 @@ pub record ChildInOrder (P : Starts) (setting : Setting) (job : Job) (parent chi
   pub frames : child.frames ≡ record { identity = job.next_frame; standing = Entered level environment None; cells = cells } ∷ []
   pub fit : (w : Word) → Has cells w → WordInOrder P job.arrays (reach_of job parent) job.next_frame w × ((n : ℕ) → is_original_of n w ≡ false)
   pub stands : EnvironmentInOrder (reach_of job parent) level environment
-  pub low : 3 + length cells ≤ setting.stack_size
+  pub low : 3 + length cells ≤ constants.stack_size
   pub place : P child.segment level child.place
   pub ready : child.condition ≡ Ready
   pub few : length job.tasks < 15
@@ -66,9 +64,9 @@ from_top (f ∷ fs) = elim (eqb_tells f.identity f.identity) [ inl e ↦ rw e.0 
 outer_step : (job : Job) (c p : ℕ) (q : Task) → keyed (λ t. t.number) p job.tasks ≡ Some q → c ≡ (top q.frames).identity → outer_reach job c (p ∷ q.parents) ≡ reach_of job q
 outer_step job c p q found is = rw (found, is) (ap (λ fs. map known_of fs ++ outer_of job q) (from_top q.frames))
 
-module _ (P : Starts) (setting : Setting) (job : Job) (parent child : Task) (g : TasksInOrder P setting job) (c : ChildInOrder P setting job parent child) where
+module _ (P : Starts) (constants : JobConstants) (job : Job) (parent child : Task) (g : TasksInOrder P constants job) (c : ChildInOrder P constants job parent child) where
   births : Births job
-  births t h = (all_in (TaskInOrder P setting job) job.tasks t g.tasks h).birth
+  births t h = (all_in (TaskInOrder P constants job) job.tasks t g.tasks h).birth
 
   lower : (t : Task) → Has job.tasks t → t.number < job.next_task
   lower t h = falls_low job.next_task (map (λ (u : Task). u.number) job.tasks) t.number g.numbers (has_map (λ (u : Task). u.number) job.tasks t h)
@@ -82,9 +80,9 @@ module _ (P : Starts) (setting : Setting) (job : Job) (parent child : Task) (g :
   child_follows : Follows job (with_child job child) (λ n. Unit {0})
   child_follows n q lives e = record { item = q; found = still n q e; critical = refl; line = refl; alike = λ t h. alike_same (map known_of (from_frame t.critical q.frames)); stays = λ t h k. k }
 
-  old_task : (t : Task) → Has job.tasks t → TaskInOrder P setting (with_child job child) t
-  old_task t h = task_kept P setting job (with_child job child) (λ n. Unit {0}) child_follows births (omega arith) t h (λ n k. tt)
-      (λ a k at. record { item = a; live = k; named = refl; owned = refl }) (all_in (TaskInOrder P setting job) job.tasks t g.tasks h)
+  old_task : (t : Task) → Has job.tasks t → TaskInOrder P constants (with_child job child) t
+  old_task t h = task_kept P constants job (with_child job child) (λ n. Unit {0}) child_follows births (omega arith) t h (λ n k. tt)
+      (λ a k at. record { item = a; live = k; named = refl; owned = refl }) (all_in (TaskInOrder P constants job) job.tasks t g.tasks h)
 
   parent_live : Has job.tasks parent
   parent_live = (keyed_has (λ t. t.number) parent.number job.tasks parent c.live).0
@@ -121,12 +119,12 @@ module _ (P : Starts) (setting : Setting) (job : Job) (parent child : Task) (g :
   ids_top [] some = absurd (some refl)
   ids_top (f ∷ fs) some = inl refl
 
-  child_task : TaskInOrder P setting (with_child job child) child
+  child_task : TaskInOrder P constants (with_child job child) child
   child_task = record {
     frames = subst (λ fs. FramesInOrder P job.arrays (outer_of (with_child job child) child) fs) (sym c.frames) (subst (λ o. FramesInOrder P job.arrays o (child_frame ∷ [])) (sym outer_is) child_order);
     returns = rw c.frames (refl, tt);
     some = rw c.frames (λ e. cc);
-    falls = subst (λ fs. Falls (job.next_frame + 1) (known_numbers (map known_of fs ++ outer_of (with_child job child) child))) (sym c.frames) (subst (λ o. Falls (job.next_frame + 1) (known_numbers (map known_of (child_frame ∷ []) ++ o))) (sym outer_is) (omega arith, subst (Falls job.next_frame) (alike_numbers (reach_of job parent) (reach_of (with_child job child) parent) reach_alike) (all_in (TaskInOrder P setting job) job.tasks parent g.tasks parent_live).falls));
+    falls = subst (λ fs. Falls (job.next_frame + 1) (known_numbers (map known_of fs ++ outer_of (with_child job child) child))) (sym c.frames) (subst (λ o. Falls (job.next_frame + 1) (known_numbers (map known_of (child_frame ∷ []) ++ o))) (sym outer_is) (omega arith, subst (Falls job.next_frame) (alike_numbers (reach_of job parent) (reach_of (with_child job child) parent) reach_alike) (all_in (TaskInOrder P constants job) job.tasks parent g.tasks parent_live).falls));
     not_higher = rw c.frames (omega (arith, c.low));
     place = rw c.frames c.place;
     birth = subst (BirthInOrder (with_child job child) child) (sym c.line) (record {
@@ -139,21 +137,21 @@ module _ (P : Starts) (setting : Setting) (job : Job) (parent child : Task) (g :
     condition = rw c.ready tt;
   }
 
-  each : (t : Task) → Has (child ∷ job.tasks) t → TaskInOrder P setting (with_child job child) t
-  each t h = elim h [ inl e ↦ subst (TaskInOrder P setting (with_child job child)) e child_task | inr m ↦ old_task t m ]
+  each : (t : Task) → Has (child ∷ job.tasks) t → TaskInOrder P constants (with_child job child) t
+  each t h = elim h [ inl e ↦ subst (TaskInOrder P constants (with_child job child)) e child_task | inr m ↦ old_task t m ]
 
   none_in_child : (n : ℕ) → originals_in n child.frames ≡ 0
   none_in_child n = rw c.frames (let none : originals n c.cells ≡ 0 = none_pass (is_original_of n) c.cells (λ w k. (c.fit w k).1 n) in omega (arith, none))
 
-  pub child_good : TasksInOrder P setting (with_child job child)
+  pub child_good : TasksInOrder P constants (with_child job child)
   child_good = record {
-    tasks = all_from (TaskInOrder P setting (with_child job child)) (child ∷ job.tasks) each;
+    tasks = all_from (TaskInOrder P constants (with_child job child)) (child ∷ job.tasks) each;
     apart = λ n. rw c.frames (elim (eqb_tells job.next_frame n) [
-      | inl e ↦ rw e.0 (omega (arith, job_fresh P setting job n g (omega (arith, e.1))))
+      | inl e ↦ rw e.0 (omega (arith, job_fresh P constants job n g (omega (arith, e.1))))
       | inr e ↦ rw e.0 (omega (arith, g.apart n))
     ]);
     arrays = g.arrays;
-    once = all_from (λ (a : Array). originals_of a.identity setting (with_child job child) ≡ 1) job.arrays (λ a k. omega (arith, none_in_child a.identity, all_in (λ (x : Array). originals_of x.identity setting job ≡ 1) job.arrays a g.once k));
+    once = all_from (λ (a : Array). originals_of a.identity constants (with_child job child) ≡ 1) job.arrays (λ a k. omega (arith, none_in_child a.identity, all_in (λ (x : Array). originals_of x.identity constants job ≡ 1) job.arrays a g.once k));
     entries = g.entries;
     numbers = rw c.number (omega arith, g.numbers);
     names = g.names;
@@ -177,12 +175,12 @@ word_any P arrays reach reach' owner other (Proc segment level place) wide plain
 word_any P arrays reach reach' owner other (Intrinsic number) wide plain g = g
 word_any P arrays reach reach' owner other (Words.Segment number) wide plain g = g
 
-module _ (P : Starts) (h : Here) (run : Run P h) (marked : (top_of h).standing ≡ Marked) (low_next : h.job.next_task < 2 ^ 48) where
+module _ (P : Starts) (h : OperatorContext) (run : Run P h) (marked : (top_of h).standing ≡ Marked) (low_next : h.job.next_task < 2 ^ 48) where
   -- the call's mark has no original where its words have none
   pub started_good : (words : List Word) (environment segment level : ℕ) (place : Place) → ((n : ℕ) → originals n (cells_of h) ≡ 0) → AllFit P h words → list_any is_original words ≡ false →
-      IsProcOf P (reach h) environment segment level place → eqb (level_of_frame (frame h environment) + 1) level ≡ true → 3 + length words ≤ h.setting.stack_size → length h.job.tasks < 15 →
-      not (is_critical h.job (top_of h).identity) ≡ true → height (answered h (Operand h.job.next_task ∷ [])).frames ≤ h.setting.stack_size →
-      TasksInOrder P h.setting (with_task (with_child h.job (child_of h words environment segment level place)) (answered h (Operand h.job.next_task ∷ [])))
+      IsProcOf P (reach h) environment segment level place → eqb (level_of_frame (frame h environment) + 1) level ≡ true → 3 + length words ≤ h.constants.stack_size → length h.job.tasks < 15 →
+      not (is_critical h.job (top_of h).identity) ≡ true → height (answered h (Operand h.job.next_task ∷ [])).frames ≤ h.constants.stack_size →
+      TasksInOrder P h.constants (with_task (with_child h.job (child_of h words environment segment level place)) (answered h (Operand h.job.next_task ∷ [])))
   started_good words environment segment level place none fit plain is test low few free high =
       let cut : Cut P h = record { run = run; marked = marked; none = none } in
       let c = cut_change P h cut free in
@@ -192,7 +190,7 @@ module _ (P : Starts) (h : Here) (run : Run P h) (marked : (top_of h).standing �
       let cells = Operand h.job.next_task ∷ (top below).cells in
       let job1 : Job = with_task h.job new in
       let found : keyed (λ t. t.number) h.task.number job1.tasks ≡ Some new = change_found (λ (t : Task). t.number) h.task.number run.found new h.job.tasks refl run.running in
-      let order1 : TasksInOrder P h.setting job1 = answer_job P h cut h.job.next_task h.job.numbers low_next run.order.reads free high in
+      let order1 : TasksInOrder P h.constants job1 = answer_job P h cut h.job.next_task h.job.numbers low_next run.order.reads free high in
       let outer : Alike (outside h) (outer_of job1 new) = answer_outer P h cut h.job.next_task h.job.numbers low_next run.order.reads free high in
       let known : map known_of new.frames ≡ map known_of below = known_cells below cells in
       let wide : (n : ℕ) (s : Standing) → IsEntered s → Has (reach h) (n, s) → Has (reach_of job1 new) (n, s) = λ n s e k.
@@ -203,7 +201,7 @@ module _ (P : Starts) (h : Here) (run : Run P h) (marked : (top_of h).standing �
       let l = falls_low h.job.next_task (map (λ (t : Task). t.number) h.job.tasks) run.found.number run.order.numbers (has_map (λ (t : Task). t.number) h.job.tasks run.found r.0) in
       omega (arith, l, r.1) in
       let narrow : Wider (reach h) (reach_of job1 new) h.job.arrays h.job.arrays = record { entered = wide; kept = λ a k at. record { item = a; live = k; named = refl; owned = refl } } in
-      let in_child : ChildInOrder P h.setting job1 new child = record {
+      let in_child : ChildInOrder P h.constants job1 new child = record {
         live = found;
         number = refl;
         line = refl;
@@ -223,5 +221,5 @@ module _ (P : Starts) (h : Here) (run : Run P h) (marked : (top_of h).standing �
         ready = refl;
         few = rw (length_change (λ (t : Task). t.number) h.task.number new h.job.tasks) few;
       } in
-      let done = child_good P h.setting job1 new child order1 in_child in
+      let done = child_good P h.constants job1 new child order1 in_child in
       elim (eqb_tells h.job.next_task h.task.number) [ inl e ↦ absurd (omega (arith, e.1, number_low)) | inr e ↦ rw e.0 done ]

@@ -3,35 +3,35 @@ use Rattle.std.proofs.Common.{◌≡◌, ◌≢◌, ℕ, ◌+◌, ◌^◌, ◌<�
 use Rattle.std.specs.List.{AllByRecursion}
 use Rattle.b67_model.specs.Keyed.{keyed}
 use Rattle.b67_model.specs.Words.{Word, Operand}
-use Rattle.b67_model.specs.State.{Frame, Marked, Array, Condition, Ready, Awaits, WaitsAt, Task, Here, top, below_top, with_top_cells, height, with_task}
+use Rattle.b67_model.specs.State.{Frame, Marked, Array, Condition, Ready, Awaits, WaitsAt, Task, OperatorContext, top, below_top, with_top_cells, height, with_task}
 use Rattle.b67_model.specs.Environment.{level_of_frame, running}
 use Rattle.b67_model.specs.Arrays.{array}
 use Rattle.b67_model.specs.Steps.{Line, Waits, top_of, cells_of, with_frames, is_critical}
 use Rattle.b67_model.specs.Intrinsics as Intrinsics
 use Rattle.b67_model.specs.Intrinsics.{is_original}
 use Rattle.b67_model.specs.InOrder.{Starts, known_of, outer_of, ConditionInOrder, originals_in, originals_of, TasksInOrder}
-use Rattle.b67_law_order.proofs.Members.{all_in}
 use Rattle.b67_law_order.proofs.Reaches.{Alike}
-use Rattle.b67_law_order.proofs.Looks.{Run, own_order}
+use Rattle.b67_law_order.proofs.Looks.{Run, own_order, below_some, running_cells}
 use Rattle.b67_law_order.proofs.Changes.{Change, TopWords, outside, change_cells, change_drop, run_replaced}
 use Rattle.b67_law_order.proofs.Posts.{post_ok, post_err, post_any, post_needs, post_if}
-use Rattle.b67_law_order_rows.proofs.Steps.{Keeps, Good, top_words, originals, running_cells, originals_cells, result_good}
+use Rattle.b67_law_order_rows.proofs.Steps.{Keeps, Good, top_words, originals, originals_cells, result_good}
 use Rattle.std.proofs.Common.{ℤ, pos, negsuc, nat_abs, ltb, ◌&&◌}
 use Rattle.b67_model.specs.Steps.{Value, Values}
 use Rattle.b67_model.specs.Intrinsics.{answered, needs_free, answers, array_length, arraydec, print, printrow, row_copy, numbers_of, read_from, read, child_of, starts, process, awaits, await, status_of, status, waits_at, wait, woken_at, wakes, causes, cause}
 use Rattle.b67_model.specs.Words.{whole}
-use Rattle.b67_law_order_rows.proofs.Entries.{taken_apart, parted, below_is, top_is, free_by, running_marked, below_some}
+use Rattle.b67_law_order_rows.proofs.Entries.{taken_apart, parted, below_is, top_is, free_by, running_marked}
+use Rattle.b67_lemmas.proofs.Members.{all_in}
 
 -- the marked frame on top, whose cells hold no original
-pub record Cut (P : Starts) (h : Here) : Type 0 where
+pub record Cut (P : Starts) (h : OperatorContext) : Type 0 where
   pub run : Run P h
   pub marked : (top_of h).standing ≡ Marked
   pub none : (n : ℕ) → originals n (cells_of h) ≡ 0
 
 -- the running task with these frames, among the same arrays, and other numbers to read
-pub changed_reads : (P : Starts) (h : Here) (frames : List Frame) (numbers : List ℤ) → Run P h → Change P h h.job.arrays frames h.job.next_frame → height frames ≤ h.setting.stack_size →
+pub changed_reads : (P : Starts) (h : OperatorContext) (frames : List Frame) (numbers : List ℤ) → Run P h → Change P h h.job.arrays frames h.job.next_frame → height frames ≤ h.constants.stack_size →
     level_of_frame (running frames) ≡ level_of_frame (running h.task.frames) → ((n : ℕ) → originals_in n frames ≡ originals_in n h.task.frames) → AllByRecursion (λ n. nat_abs n < 2 ^ 39) numbers →
-    TasksInOrder P h.setting (with_task (record h.job { numbers = numbers }) (with_frames h frames))
+    TasksInOrder P h.constants (with_task (record h.job { numbers = numbers }) (with_frames h frames))
     × Alike (outside h) (outer_of (with_task (record h.job { numbers = numbers }) (with_frames h frames)) (with_frames h frames))
 changed_reads P h frames numbers run c low level same reads =
     let new : Task = with_frames h frames in
@@ -54,12 +54,12 @@ changed_reads P h frames numbers run c low level same reads =
       fewer = c.fewer;
       kept = λ a k. record { case = inl (record { item = a; live = k; named = refl; owned = refl }) };
       arrays = run.order.arrays;
-      once = λ a k. omega (arith, same a.identity, all_in (λ (x : Array). originals_of x.identity h.setting h.job ≡ 1) h.job.arrays a run.order.once k);
+      once = λ a k. omega (arith, same a.identity, all_in (λ (x : Array). originals_of x.identity h.constants h.job ≡ 1) h.job.arrays a run.order.once k);
       names = run.order.names;
       reads = reads;
     })
 
-module _ (P : Starts) (h : Here) (cut : Cut P h) where
+module _ (P : Starts) (h : OperatorContext) (cut : Cut P h) where
   -- the frames without the marked one
   pub below_of : Change P h h.job.arrays (below_top h.task.frames) h.job.next_frame → (n : ℕ) → originals_in n (below_top h.task.frames) ≡ originals_in n h.task.frames
   below_of c n =
@@ -75,14 +75,14 @@ module _ (P : Starts) (h : Here) (cut : Cut P h) where
       let free' : not (is_critical h.job p.f.identity) ≡ true = subst (λ (x : Frame). not (is_critical h.job x.identity) ≡ true) (top_is h p) free in
       subst (λ fs. Change P h h.job.arrays fs h.job.next_frame) (sym (below_is h p)) (change_drop P h h.job.arrays p.f p.below h.job.next_frame (parted P h cut.run p) (free_by h.job p.f.identity free') some)
 
-  pub low_below : height (below_top h.task.frames) ≤ h.setting.stack_size
+  pub low_below : height (below_top h.task.frames) ≤ h.constants.stack_size
   low_below =
       let p = taken_apart P h cut.run in
       let low : height (below_top h.task.frames) ≤ height h.task.frames = rw p.are (omega arith) in
       omega (arith, low, (own_order P h cut.run).not_higher)
 
   -- the mark is cut, and nothing is pushed
-  pub cut_low : not (is_critical h.job (top_of h).identity) ≡ true → TasksInOrder P h.setting (with_task h.job (answered h []))
+  pub cut_low : not (is_critical h.job (top_of h).identity) ≡ true → TasksInOrder P h.constants (with_task h.job (answered h []))
   cut_low free =
       let c = cut_change free in
       (changed_reads P h (below_top h.task.frames) h.job.numbers cut.run c low_below (sym (running_marked h.task.frames cut.marked)) (below_of c) cut.run.order.reads).0
@@ -95,8 +95,8 @@ module _ (P : Starts) (h : Here) (cut : Cut P h) where
   pub pushed_words : (bits : ℕ) → bits < 2 ^ 48 → Change P h h.job.arrays (below_top h.task.frames) h.job.next_frame → TopWords P h h.job.arrays (below_top h.task.frames) (Operand bits ∷ (top (below_top h.task.frames)).cells)
   pushed_words bits low c = let own = top_words P h.job.arrays (outside h) (below_top h.task.frames) c.order in ((low, own.0), (tt, own.1))
 
-  pub answer_both : (bits : ℕ) (numbers : List ℤ) → bits < 2 ^ 48 → AllByRecursion (λ n. nat_abs n < 2 ^ 39) numbers → not (is_critical h.job (top_of h).identity) ≡ true → height (answered h (Operand bits ∷ [])).frames ≤ h.setting.stack_size →
-      TasksInOrder P h.setting (with_task (record h.job { numbers = numbers }) (answered h (Operand bits ∷ [])))
+  pub answer_both : (bits : ℕ) (numbers : List ℤ) → bits < 2 ^ 48 → AllByRecursion (λ n. nat_abs n < 2 ^ 39) numbers → not (is_critical h.job (top_of h).identity) ≡ true → height (answered h (Operand bits ∷ [])).frames ≤ h.constants.stack_size →
+      TasksInOrder P h.constants (with_task (record h.job { numbers = numbers }) (answered h (Operand bits ∷ [])))
       × Alike (outside h) (outer_of (with_task (record h.job { numbers = numbers }) (answered h (Operand bits ∷ []))) (answered h (Operand bits ∷ [])))
   answer_both bits numbers low reads free high =
       let c = cut_change free in
@@ -106,11 +106,11 @@ module _ (P : Starts) (h : Here) (cut : Cut P h) where
       changed_reads P h (with_top_cells below cells) numbers cut.run (change_cells P h h.job.arrays below h.job.next_frame cells c (pushed_words bits low c)) high level
       (λ n. originals_cells n below cells (omega arith) ∙ below_of c n) reads
 
-  pub answer_job : (bits : ℕ) (numbers : List ℤ) → bits < 2 ^ 48 → AllByRecursion (λ n. nat_abs n < 2 ^ 39) numbers → not (is_critical h.job (top_of h).identity) ≡ true → height (answered h (Operand bits ∷ [])).frames ≤ h.setting.stack_size →
-      TasksInOrder P h.setting (with_task (record h.job { numbers = numbers }) (answered h (Operand bits ∷ [])))
+  pub answer_job : (bits : ℕ) (numbers : List ℤ) → bits < 2 ^ 48 → AllByRecursion (λ n. nat_abs n < 2 ^ 39) numbers → not (is_critical h.job (top_of h).identity) ≡ true → height (answered h (Operand bits ∷ [])).frames ≤ h.constants.stack_size →
+      TasksInOrder P h.constants (with_task (record h.job { numbers = numbers }) (answered h (Operand bits ∷ [])))
   answer_job bits numbers low reads free high = (answer_both bits numbers low reads free high).0
 
-  pub answer_outer : (bits : ℕ) (numbers : List ℤ) → bits < 2 ^ 48 → AllByRecursion (λ n. nat_abs n < 2 ^ 39) numbers → not (is_critical h.job (top_of h).identity) ≡ true → height (answered h (Operand bits ∷ [])).frames ≤ h.setting.stack_size →
+  pub answer_outer : (bits : ℕ) (numbers : List ℤ) → bits < 2 ^ 48 → AllByRecursion (λ n. nat_abs n < 2 ^ 39) numbers → not (is_critical h.job (top_of h).identity) ≡ true → height (answered h (Operand bits ∷ [])).frames ≤ h.constants.stack_size →
       Alike (outside h) (outer_of (with_task (record h.job { numbers = numbers }) (answered h (Operand bits ∷ []))) (answered h (Operand bits ∷ [])))
   answer_outer bits numbers low reads free high = (answer_both bits numbers low reads free high).1
 

@@ -1,56 +1,44 @@
 -- Entering and leaving keep order.
-use Rattle.std.proofs.Common.{◌≡◌, ◌≢◌, ℕ, ◌+◌, ◌≤◌, Bool, true, false, not, eqb, List, [], ◌∷◌, ◌++◌, map, filter, reverse, Some, None, refl, sym, ap, ◌∙◌, subst, inl, inr, arith}
+use Rattle.std.proofs.Common.{◌≡◌, ◌≢◌, ℕ, ◌+◌, ◌≤◌, true, false, not, eqb, List, [], ◌∷◌, ◌++◌, map, filter, reverse, Some, None, refl, sym, ap, ◌∙◌, subst, inl, inr, arith}
 use Rattle.std.proofs.lemmas.Bool.Decides.{eqb_tells}
-use Rattle.std.proofs.lemmas.Bool.{true≢false}
+use Rattle.std.proofs.lemmas.Bool.{true≢false, not-true}
 use Rattle.b67_model.specs.Keyed.{keyed}
 use Rattle.b67_lemmas.specs.Lists.{Has, Falls}
+use Rattle.b67_lemmas.proofs.Members.{all_from, all_in, any_none, change_found, falls_filter, falls_low, falls_same, has_filter, has_filter_in, none_pass}
 use Rattle.b67_model.specs.Words as Words
 use Rattle.b67_model.specs.Words.{Word, Operand, Name, Ref, Row, Element, Original, Proc, Intrinsic}
-use Rattle.b67_model.specs.State.{Frame, Standing, Marked, Entered, Return, Array, Task, Job, Here, frame, top, below_top, height, with_task}
+use Rattle.b67_model.specs.State.{Frame, Standing, Marked, Entered, Return, Array, Task, Job, OperatorContext, frame, top, below_top, height, with_task}
 use Rattle.b67_model.specs.Environment.{level_of_frame, running}
 use Rattle.b67_model.specs.Arrays.{array}
 use Rattle.b67_model.specs.Chase.{End, AtCell, AtElement, AtArray, AtProc, AtIntrinsic}
 use Rattle.b67_model.specs.Steps.{top_of, cells_of, is_critical}
 use Rattle.b67_model.specs.Entry.{back_to, enters, left}
-use Rattle.b67_model.specs.InOrder.{Starts, Known, known_of, known_numbers, IsEntered, WordInOrder, EnvironmentInOrder, CopiesAbove, StackInOrder, ReturnsInOrder, ConditionInOrder, ArrayInOrder, is_original_of, originals_in, originals_of, frames_named}
-use Rattle.b67_law_order.proofs.Members.{has_filter, has_filter_in, all_in, all_from, any_none, change_found, falls_low, falls_filter, falls_same, none_pass}
+use Rattle.b67_model.specs.InOrder.{Starts, Known, known_of, known_numbers, WordInOrder, EnvironmentInOrder, CopiesAbove, ReturnsInOrder, ConditionInOrder, ArrayInOrder, is_original_of, originals_in, originals_of, frames_named}
 use Rattle.b67_law_order.proofs.Reaches.{Alike, Stays}
 use Rattle.b67_law_order.proofs.Replaced.{Replaced}
-use Rattle.b67_law_order.proofs.Looks.{Run, reach, own_order, own_high}
+use Rattle.b67_law_order.proofs.Looks.{Run, reach, own_order, own_high, below_marked, below_some}
 use Rattle.b67_law_order.proofs.Changes.{Change, TopWords, outside, no_change, change_arrays, change_cells, change_drop, change_enter, changed, run_replaced}
 use Rattle.b67_law_order.specs.Ends.{EndInOrder}
 use Rattle.b67_law_order.proofs.Posts.{post_err, post_needs}
 use Rattle.b67_law_order_rows.proofs.Steps.{Keeps, Good, AllFit, originals, SameOriginals, result_good, environment_of_proc}
 
 -- the marked frame on top, with these cells, is entered
-enter_top : (P : Starts) (h : Here) (fs : List Frame) (next level environment : ℕ) (back : Return) (cells : List Word) → Change P h h.job.arrays fs next → TopWords P h h.job.arrays fs cells → (top fs).standing ≡ Marked →
+enter_top : (P : Starts) (h : OperatorContext) (fs : List Frame) (next level environment : ℕ) (back : Return) (cells : List Word) → Change P h h.job.arrays fs next → TopWords P h h.job.arrays fs cells → (top fs).standing ≡ Marked →
     EnvironmentInOrder (map known_of (below_top fs) ++ outside h) level environment → ReturnsInOrder P (Entered level environment (Some back)) (below_top fs) →
     Change P h h.job.arrays (record (top fs) { standing = Entered level environment (Some back); cells = cells } ∷ below_top fs) next
 enter_top P h [] next level environment back cells c words marked stands returns = absurd (c.some refl)
 enter_top P h (f ∷ below) next level environment back cells c words marked stands returns =
     change_enter P h h.job.arrays (record f { cells = cells }) below next level environment back (change_cells P h h.job.arrays (f ∷ below) next cells c words) marked stands returns
 
--- what an entered frame is in reach of a marked one lies below it
-pub below_marked : (fs : List Frame) (outer : List Known) (n : ℕ) (s : Standing) → (top fs).standing ≡ Marked → IsEntered s → Has (map known_of fs ++ outer) (n, s) → Has (map known_of (below_top fs) ++ outer) (n, s)
-below_marked [] outer n s marked e k = k
-below_marked (f ∷ below) outer n s marked e k = elim k [
-  | inl is ↦ let no : f.standing ≡ s = ap (λ (x : Known). x.1) is in absurd (subst IsEntered (sym no ∙ marked) e)
-  | inr m ↦ m
-]
-
 pub running_marked : (fs : List Frame) → (top fs).standing ≡ Marked → level_of_frame (running fs) ≡ level_of_frame (running (below_top fs))
 running_marked [] marked = refl
 running_marked (f ∷ below) marked = rw marked refl
-
-pub below_some : (P : Starts) (fs : List Frame) → StackInOrder P fs → fs ≢ [] → (top fs).standing ≡ Marked → below_top fs ≢ []
-below_some P [] g some marked = absurd (some refl)
-below_some P (f ∷ below) g some marked = subst (λ s. ReturnsInOrder P s below) marked g.0
 
 originals_top : (n : ℕ) (fs : List Frame) (standing : Standing) (cells : List Word) → fs ≢ [] → originals n cells ≡ originals n (top fs).cells → originals_in n (record (top fs) { standing = standing; cells = cells } ∷ below_top fs) ≡ originals_in n fs
 originals_top n [] standing cells some e = absurd (some refl)
 originals_top n (f ∷ below) standing cells some e = omega (arith, e)
 
-pub enters_good : (P : Starts) (h : Here) (arguments : List Word) (end : End) → Run P h → EndInOrder P h end → (top_of h).standing ≡ Marked → AllFit P h (reverse arguments) → CopiesAbove (reverse arguments) → SameOriginals (reverse arguments) (cells_of h) → Good P h (enters h arguments end)
+pub enters_good : (P : Starts) (h : OperatorContext) (arguments : List Word) (end : End) → Run P h → EndInOrder P h end → (top_of h).standing ≡ Marked → AllFit P h (reverse arguments) → CopiesAbove (reverse arguments) → SameOriginals (reverse arguments) (cells_of h) → Good P h (enters h arguments end)
 enters_good P h arguments (AtProc f segment level place) run is marked fit above same =
     let own = own_order P h run in
     let fs = h.task.frames in
@@ -69,16 +57,16 @@ enters_good P h arguments (AtArray a) run is marked fit above same = post_err (K
 enters_good P h arguments (AtIntrinsic n) run is marked fit above same = post_err (Keeps P h) _
 
 -- the task's frames, taken apart
-pub record Apart (h : Here) : Type 0 where
+pub record Apart (h : OperatorContext) : Type 0 where
   pub f : Frame
   pub below : List Frame
   pub are : h.task.frames ≡ f ∷ below
 
-apart_by : (fs : List Frame) (h : Here) → h.task.frames ≡ fs → fs ≢ [] → Apart h
+apart_by : (fs : List Frame) (h : OperatorContext) → h.task.frames ≡ fs → fs ≢ [] → Apart h
 apart_by [] h e some = absurd (some refl)
 apart_by (f ∷ below) h e some = record { f = f; below = below; are = e }
 
-pub taken_apart : (P : Starts) (h : Here) → Run P h → Apart h
+pub taken_apart : (P : Starts) (h : OperatorContext) → Run P h → Apart h
 taken_apart P h run = apart_by h.task.frames h refl (own_order P h run).some
 
 -- no live task depends on the frame
@@ -88,12 +76,8 @@ free_of job n none t k e = let no = any_none (λ (u : Task). eqb u.critical n) j
   | inr s ↦ s.1 e
 ]
 
-pub not_true : (b : Bool) → not b ≡ true → b ≡ false
-not_true true e = absurd (true≢false (sym e))
-not_true false e = refl
-
 pub free_by : (job : Job) (n : ℕ) → not (is_critical job n) ≡ true → (t : Task) → Has job.tasks t → t.critical ≢ n
-free_by job n test = free_of job n (not_true (is_critical job n) test)
+free_by job n test = free_of job n (not-true (is_critical job n) test)
 
 -- the originals of other arrays don't lie in a frame
 pub none_original : (job : Job) (P : Starts) (reach : List Known) (n : ℕ) (a : Array) → Falls job.next_array (map (λ x. x.identity) job.arrays) → Has job.arrays a → a.owner ≢ n → (w : Word) → WordInOrder P job.arrays reach n w → is_original_of a.identity w ≡ false
@@ -112,17 +96,17 @@ none_original job P reach n a falls live other (Intrinsic number) g = refl
 none_original job P reach n a falls live other (Words.Segment number) g = refl
 
 -- the state after a frame was left
-pub record Left (P : Starts) (h : Here) (back : Return) : Type 0 where
+pub record Left (P : Starts) (h : OperatorContext) (back : Return) : Type 0 where
   pub run : Run P (left h back)
   pub outer : Alike (outside h) (outside (left h back))
 
-pub below_is : (h : Here) (p : Apart h) → below_top h.task.frames ≡ p.below
+pub below_is : (h : OperatorContext) (p : Apart h) → below_top h.task.frames ≡ p.below
 below_is h p = rw p.are refl
 
-pub top_is : (h : Here) (p : Apart h) → top_of h ≡ p.f
+pub top_is : (h : OperatorContext) (p : Apart h) → top_of h ≡ p.f
 top_is h p = rw p.are refl
 
-module _ (P : Starts) (h : Here) (run : Run P h) where
+module _ (P : Starts) (h : OperatorContext) (run : Run P h) where
   -- all of the order with the frames taken apart
   pub parted : (p : Apart h) → Change P h h.job.arrays (p.f ∷ p.below) h.job.next_frame
   parted p = subst (λ fs. Change P h h.job.arrays fs h.job.next_frame) p.are (no_change P h run)
@@ -148,7 +132,7 @@ module _ (P : Starts) (h : Here) (run : Run P h) where
       let high = own_high P h run p.f (subst (λ fs. Has fs p.f) (sym p.are) (inl refl)) in
       let count : frames_named n p.below + 1 ≤ frames_named n h.task.frames = rw p.are (elim (eqb_tells n n) [ inl e ↦ rw e.0 (omega arith) | inr e ↦ absurd (e.1 refl) ]) in
       let fewer : height p.below ≤ height h.task.frames = rw p.are (omega arith) in
-      let r : Replaced P h.setting h.job h.task job' new = record {
+      let r : Replaced P h.constants h.job h.task job' new = record {
         number = refl;
         line = refl;
         critical = refl;
@@ -176,16 +160,16 @@ module _ (P : Starts) (h : Here) (run : Run P h) where
             let none : originals a.identity p.f.cells ≡ 0 = none_pass (is_original_of a.identity) p.f.cells (λ w j.
             none_original h.job P (map known_of (p.f ∷ p.below) ++ outside h) n a run.order.names inside.0 other w (all_in (WordInOrder P h.job.arrays (map known_of (p.f ∷ p.below) ++ outside h) n) p.f.cells w whole.order.0.0 j)) in
             let split : originals_in a.identity h.task.frames ≡ originals a.identity p.f.cells + originals_in a.identity p.below = rw p.are refl in
-            omega (arith, split, none, all_in (λ (x : Array). originals_of x.identity h.setting h.job ≡ 1) h.job.arrays a run.order.once inside.0);
+            omega (arith, split, none, all_in (λ (x : Array). originals_of x.identity h.constants h.job ≡ 1) h.job.arrays a run.order.once inside.0);
         names = falls_filter (λ (x : Array). x.identity) (λ (x : Array). not (eqb x.owner n)) h.job.next_array h.job.arrays run.order.names;
         reads = run.order.reads;
       } in
       let done = run_replaced P h job' new run r in
       let found : keyed (λ t. t.number) new.number job'.tasks ≡ Some new = change_found (λ (t : Task). t.number) h.task.number run.found new h.job.tasks refl run.running in
-      let k : Here = record h { job = job'; task = new } in
+      let k : OperatorContext = record h { job = job'; task = new } in
       let run' : Run P k = record { unchanging = run.unchanging; order = done.0; found = new; running = found; same = refl; place = starts; ready = run.ready } in
       let is : k ≡ left h back = rw p.are refl in
       record {
         run = subst (Run P) is run';
-        outer = subst (λ (x : Here). Alike (outside h) (outside x)) is done.1;
+        outer = subst (λ (x : OperatorContext). Alike (outside h) (outside x)) is done.1;
       }

@@ -4,7 +4,7 @@ use Rattle.std.specs.List.{AllByRecursion}
 use Rattle.b67_model.specs.Keyed.{change_keyed}
 use Rattle.b67_lemmas.specs.Lists.{Has}
 use Rattle.b67_model.specs.Words.{Word}
-use Rattle.b67_model.specs.State.{Array, Task, Here, below_top, with_task}
+use Rattle.b67_model.specs.State.{Array, Task, OperatorContext, below_top, with_task}
 use Rattle.b67_model.specs.Arrays.{array, with_array, all_zero, resized}
 use Rattle.b67_model.specs.Steps.{top_of, is_critical}
 use Rattle.b67_model.specs.Intrinsics.{answered, answers, array_length, row_copy, deallocate, resizes}
@@ -46,7 +46,7 @@ resized_kept n low high a g = record {
   writes = g.writes;
 }
 
-module _ (P : Starts) (h : Here) (cut : Cut P h) where
+module _ (P : Starts) (h : OperatorContext) (cut : Cut P h) where
   -- the mark is cut, and an array has other numbers
   array_answers : (a : ℕ) (f : Array → Array) (touched : Option ℕ) → ((x : Array) → (f x).identity ≡ x.identity) → ((x : Array) → (f x).owner ≡ x.owner) → ((x : Array) → ArrayInOrder x → ArrayInOrder (f x)) →
       Good P h (answers h (with_array h.job a f) [] [] touched)
@@ -78,7 +78,7 @@ module _ (P : Starts) (h : Here) (cut : Cut P h) where
         fewer = c'.fewer;
         kept = λ x k. record { case = inl (stay x k) };
         arrays = arrays_changed a f h.job.arrays fits cut.run.order.arrays;
-        once = λ x k. omega (arith, below_of P h cut c x.identity, by_names (λ n. originals_of n h.setting h.job ≡ 1) arrays' h.job.arrays same cut.run.order.once x k);
+        once = λ x k. omega (arith, below_of P h cut c x.identity, by_names (λ n. originals_of n h.constants h.job ≡ 1) arrays' h.job.arrays same cut.run.order.once x k);
         names = rw same cut.run.order.names;
         reads = cut.run.order.reads;
       })).0))

@@ -4,16 +4,16 @@ use Rattle.std.proofs.lemmas.Bool.Decides.{eqb_tells}
 use Rattle.std.proofs.lemmas.Bool.{true≢false}
 use Rattle.b67_model.specs.Answers.{Answer}
 use Rattle.b67_lemmas.specs.Lists.{Has}
+use Rattle.b67_lemmas.proofs.Members.{change_twice, has_filter_in}
 use Rattle.b67_model.specs.Words as Words
 use Rattle.b67_model.specs.Words.{Word, Operand, Name, Ref, Row, Element, Original, Proc, Intrinsic}
-use Rattle.b67_model.specs.State.{Frame, Standing, Marked, Entered, Return, Array, Task, Job, Here, with_task}
+use Rattle.b67_model.specs.State.{Frame, Standing, Marked, Entered, Return, Array, Task, Job, OperatorContext, with_task}
 use Rattle.b67_model.specs.Environment.{level_of_frame, running}
 use Rattle.b67_model.specs.Arrays.{array, element, owner_of}
 use Rattle.b67_model.specs.Chase.{End, AtCell, AtElement, AtArray, AtProc, AtIntrinsic, follow}
 use Rattle.b67_model.specs.Steps.{Line, Done, Goes, Leaves, Waits, top_of, cells_of, result, with_cells, is_critical}
 use Rattle.b67_model.specs.Entry.{accident, evaluates, left, leaves, exit, returnable, returned, retn_word, retn}
 use Rattle.b67_model.specs.InOrder.{Starts, Known, known_of, IsEntered, NamesEntered, NamesArray, ReturnsInOrder, is_original_of, TasksInOrder}
-use Rattle.b67_law_order.proofs.Members.{has_filter_in, change_twice}
 use Rattle.b67_law_order.proofs.Reaches.{alike_has}
 use Rattle.b67_law_order.proofs.Looks.{Run, reach}
 use Rattle.b67_law_order.proofs.Changes.{outside}
@@ -31,53 +31,53 @@ NoWait (Goes after printed touched) = Unit {0}
 NoWait Leaves = Unit {0}
 NoWait (Waits condition) = ⊥
 
-result_no_wait : (k : Here) (job : Job) (task : Task) (printed : List Line) (touched : Option ℕ) → Post NoWait (result k job task printed touched)
+result_no_wait : (k : OperatorContext) (job : Job) (task : Task) (printed : List Line) (touched : Option ℕ) → Post NoWait (result k job task printed touched)
 result_no_wait k job task printed touched = post_then NoWait _ _ (post_ok NoWait _ tt)
 
-accident_no_wait : (k : Here) (cells : List Word) (back : Return) (end : End) → Post NoWait (accident k cells back end)
+accident_no_wait : (k : OperatorContext) (cells : List Word) (back : Return) (end : End) → Post NoWait (accident k cells back end)
 accident_no_wait k cells back (AtProc f segment level place) = search (post_then, result_no_wait)
 accident_no_wait k cells back (AtCell f offset bits) = post_err NoWait _
 accident_no_wait k cells back (AtElement a index) = post_err NoWait _
 accident_no_wait k cells back (AtArray a) = post_err NoWait _
 accident_no_wait k cells back (AtIntrinsic n) = post_err NoWait _
 
-evaluates_no_wait : (k : Here) (end : End) → Post NoWait (evaluates k end)
+evaluates_no_wait : (k : OperatorContext) (end : End) → Post NoWait (evaluates k end)
 evaluates_no_wait k (AtCell f offset bits) = result_no_wait k k.job (with_cells k (Operand bits ∷ cells_of k)) [] None
 evaluates_no_wait k (AtElement a index) = result_no_wait k k.job (with_cells k (Operand (element k.job a index) ∷ cells_of k)) [] (Some a)
 evaluates_no_wait k (AtProc f segment level place) = accident_no_wait k _ _ (AtProc f segment level place)
 evaluates_no_wait k (AtArray a) = post_err NoWait _
 evaluates_no_wait k (AtIntrinsic n) = post_err NoWait _
 
-returned_no_wait : (k : Here) (w : Word) (value : Bool) → Post NoWait (returned k w value)
+returned_no_wait : (k : OperatorContext) (w : Word) (value : Bool) → Post NoWait (returned k w value)
 returned_no_wait k w false = result_no_wait k k.job (with_cells k (w ∷ cells_of k)) [] None
 returned_no_wait k (Operand bits) true = result_no_wait k k.job (with_cells k (Operand bits ∷ cells_of k)) [] None
 returned_no_wait k w true = post_any NoWait (follow k w) _ (λ end. evaluates_no_wait k end)
 
 -- a word that goes to another frame: it is in order there and no original
-pub record Moves (P : Starts) (k : Here) (w : Word) : Type 0 where
+pub record Moves (P : Starts) (k : OperatorContext) (w : Word) : Type 0 where
   pub fit : Fit P k w
   pub plain : (n : ℕ) → is_original_of n w ≡ false
 
-returned_good : (P : Starts) (k : Here) (w : Word) (value : Bool) → Run P k → Moves P k w → Good P k (returned k w value)
+returned_good : (P : Starts) (k : OperatorContext) (w : Word) (value : Bool) → Run P k → Moves P k w → Good P k (returned k w value)
 returned_good P k w false run m = push_good P k w None run m.fit m.plain
 returned_good P k (Operand bits) true run m = push_good P k (Operand bits) None run m.fit m.plain
 returned_good P k w true run m = post_bind (EndInOrder P k) (Keeps P k) (follow k w) _ (follow_in P k run (top_of k).identity w m.fit) (λ end is. evaluates_good P k end run is)
 
-keeps_from : (P : Starts) (h k : Here) (done : Done) → k.setting ≡ h.setting → (Keeps P k done × NoWait done) → Keeps P h done
+keeps_from : (P : Starts) (h k : OperatorContext) (done : Done) → k.constants ≡ h.constants → (Keeps P k done × NoWait done) → Keeps P h done
 keeps_from P h k (Goes after printed touched) same g = subst (λ s. TasksInOrder P s after) same g.0
 keeps_from P h k Leaves same g = tt
 keeps_from P h k (Waits condition) same g = absurd g.1
 
 -- the same, seen from the state before the frame was left
-returned_before : (P : Starts) (h k : Here) (w : Word) (value : Bool) → k.setting ≡ h.setting → Run P k → Moves P k w → Good P h (returned k w value)
+returned_before : (P : Starts) (h k : OperatorContext) (w : Word) (value : Bool) → k.constants ≡ h.constants → Run P k → Moves P k w → Good P h (returned k w value)
 returned_before P h k w value same run m = post_more (λ d. Keeps P k d × NoWait d) (Keeps P h) (returned k w value) (λ d g. keeps_from P h k d same g)
     (post_both (Keeps P k) NoWait (returned k w value) (returned_good P k w value run m) (returned_no_wait k w value))
 
 returns_some : (P : Starts) (s : Standing) (fs : List Frame) (level environment : ℕ) (back : Return) → ReturnsInOrder P s fs → s ≡ Entered level environment (Some back) → (fs ≢ []) × P back.segment (level_of_frame (running fs)) back.place
 returns_some P s fs level environment back g e = subst (λ t. ReturnsInOrder P t fs) e g
 
-module _ (P : Starts) (h : Here) (run : Run P h) where
-  pub leaves_good : (standing : Standing) → (top_of h).standing ≡ standing → (go : Here → Bool → Answer Done) → ((back : Return) → Left P h back → Good P h (go (left h back) back.value)) → Good P h (leaves h standing go)
+module _ (P : Starts) (h : OperatorContext) (run : Run P h) where
+  pub leaves_good : (standing : Standing) → (top_of h).standing ≡ standing → (go : OperatorContext → Bool → Answer Done) → ((back : Return) → Left P h back → Good P h (go (left h back) back.value)) → Good P h (leaves h standing go)
   leaves_good Marked e go each = post_err (Keeps P h) _
   leaves_good (Entered level environment None) e go each = post_then (Keeps P h) _ _ (post_ok (Keeps P h) Leaves tt)
   leaves_good (Entered level environment (Some back)) e go each =
@@ -92,7 +92,7 @@ module _ (P : Starts) (h : Here) (run : Run P h) where
   exit_good = leaves_good (top_of h).standing refl _ (λ back l. result_good P h (left h back) (left h back).job (left h back).task [] None (λ low. same_job back l))
     where
       -- the task stands in the job already
-      same_job : (back : Return) → Left P h back → TasksInOrder P h.setting (with_task (left h back).job (left h back).task)
+      same_job : (back : Return) → Left P h back → TasksInOrder P h.constants (with_task (left h back).job (left h back).task)
       same_job back l = rw (change_twice (λ (t : Task). t.number) h.task.number (left h back).task (left h back).task h.job.tasks refl) l.run.order
 
   -- what was entered in reach before, but for the frame that was left

@@ -1,18 +1,18 @@
 -- Every row keeps order.
 use Rattle.std.proofs.Common.{◌≡◌, ℕ, ◌+◌, ◌^◌, ◌<◌, ◌≤◌, true, false, not, cond, eqb, leb, List, [], ◌∷◌, ◌++◌, reverse, length, None, Ok, refl, sym, ap, ◌∙◌, subst, arith}
 use Rattle.std.specs.List.{list_any}
-use Rattle.std.proofs.lemmas.Bool.{leb-true}
+use Rattle.std.proofs.lemmas.Bool.{leb-true, not-true}
 use Rattle.b67_lemmas.specs.Lists.{Has}
+use Rattle.b67_lemmas.proofs.Members.{all_from, all_in, any_none, has_reverse_back, none_pass, reverse_cons, total_append, total_reverse}
 use Rattle.b67_model.specs.Words as Words
 use Rattle.b67_model.specs.Words.{Word, Operand, Name, Ref, Row, Element, Original, Proc, Intrinsic}
-use Rattle.b67_model.specs.State.{Standing, Marked, Entered, Here, frame}
+use Rattle.b67_model.specs.State.{Standing, Marked, Entered, OperatorContext, frame}
 use Rattle.b67_model.specs.Environment.{level_of_frame, running}
 use Rattle.b67_model.specs.Arrays.{array}
 use Rattle.b67_model.specs.Chase.{End, AtCell, AtElement, AtArray, AtProc, AtIntrinsic, follow_reference}
 use Rattle.b67_model.specs.Steps.{top_of, cells_of, leaves_cells, pushes, is_critical}
 use Rattle.b67_model.specs.Intrinsics.{is_original}
 use Rattle.b67_model.specs.InOrder.{Starts, WordInOrder, CopiesAbove, NoCopyUnder, is_original_of}
-use Rattle.b67_law_order.proofs.Members.{has_reverse_back, all_in, all_from, any_none, none_pass, total_reverse}
 use Rattle.b67_law_order.proofs.Looks.{Run, reach}
 use Rattle.b67_law_order.specs.Ends.{EndInOrder}
 use Rattle.b67_law_order.proofs.Posts.{Post, post_ok, post_err, post_bind, post_needs, post_if, post_if_is, post_more, post_both, post_any_at}
@@ -30,10 +30,8 @@ use Rattle.b67_law_order.proofs.Chases.{follow_reference_in}
 use Rattle.b67_model.specs.InOrder.{is_copy_of}
 use Rattle.std.specs.List.{list_any}
 use Rattle.b67_law_order_rows.proofs.Cells.{plain_word, operand_plain, two_plain}
-use Rattle.b67_law_order.proofs.Members.{reverse_cons, total_append}
 use Rattle.std.proofs.lemmas.List.{reverse-reverse}
 use Rattle.b67_law_order_rows.proofs.Cells.{followed, Followed}
-use Rattle.b67_law_order_rows.proofs.Entries.{not_true}
 use Rattle.b67_model.specs.declared.operators.Op.{Op}
 use Rattle.b67_model.specs.declared.operators.Op.TheVariants.{Valc, Namc, Lt8, Lt16, Lt48, Mpcw, Brun, Brtr, Brfl, Bset, Brst, Isol, Insr, Plain}
 use Rattle.b67_model.specs.declared.operators.Code.{Code}
@@ -88,7 +86,7 @@ whole_plain : (w : Word) → Post (λ n. is_original w ≡ false) (whole w)
 whole_plain w = post_bind (λ bits. is_original w ≡ false) (λ n. is_original w ≡ false) (operand w) _ (operand_plain w) (λ bits e. post_any_at (number bits) (λ n. e))
 
 -- the mark of a call: its first cell is a reference, and these are its arguments
-pub record Call (P : Starts) (h : Here) (arguments : List Word) : Type 0 where
+pub record Call (P : Starts) (h : OperatorContext) (arguments : List Word) : Type 0 where
   pub run : Run P h
   pub marked : (top_of h).standing ≡ Marked
   pub fit : AllFit P h arguments
@@ -96,14 +94,14 @@ pub record Call (P : Starts) (h : Here) (arguments : List Word) : Type 0 where
   pub counts : (n : ℕ) → originals n (cells_of h) ≡ originals n arguments
   pub next : h.job.next_task < 2 ^ 48
 
-each_call : (P : Starts) (h : Here) (n : ℕ) (arguments : List Word) → Good P h (arraydec h arguments) → Good P h (print h arguments) → Good P h (printrow h arguments) → Good P h (read h arguments) → Good P h (process h arguments) →
+each_call : (P : Starts) (h : OperatorContext) (n : ℕ) (arguments : List Word) → Good P h (arraydec h arguments) → Good P h (print h arguments) → Good P h (printrow h arguments) → Good P h (read h arguments) → Good P h (process h arguments) →
     Good P h (await h arguments) → Good P h (status h arguments) → Good P h (wait h arguments) → Good P h (cause h arguments) → Good P h (deallocate h arguments) → Good P h (resize h arguments) → Good P h (intrinsic n h arguments)
 each_call P h n arguments a b c d e f g i j k l =
     post_if (Keeps P h) _ _ _ a (post_if (Keeps P h) _ _ _ b (post_if (Keeps P h) _ _ _ c (post_if (Keeps P h) _ _ _ d (post_if (Keeps P h) _ _ _ e
     (post_if (Keeps P h) _ _ _ f (post_if (Keeps P h) _ _ _ g (post_if (Keeps P h) _ _ _ i (post_if (Keeps P h) _ _ _ j
     (post_if (Keeps P h) _ _ _ k (post_if (Keeps P h) _ _ _ l (post_err (Keeps P h) _)))))))))))
 
-follow_reference_plain : (h : Here) (w : Word) → Post (λ end. is_original w ≡ false) (follow_reference h w)
+follow_reference_plain : (h : OperatorContext) (w : Word) → Post (λ end. is_original w ≡ false) (follow_reference h w)
 follow_reference_plain h (Name couple) = post_any_at (follow_reference h (Name couple)) (λ end. refl)
 follow_reference_plain h (Ref f offset) = post_any_at (follow_reference h (Ref f offset)) (λ end. refl)
 follow_reference_plain h (Element array index) = post_err _ _
@@ -114,22 +112,22 @@ follow_reference_plain h (Proc segment level place) = post_err _ _
 follow_reference_plain h (Intrinsic number) = post_err _ _
 follow_reference_plain h (Words.Segment number) = post_err _ _
 
-reference_followed : (P : Starts) (h : Here) → Run P h → (owner : ℕ) (w : Word) → WordInOrder P h.job.arrays (reach h) owner w → Post (Followed P h w) (follow_reference h w)
+reference_followed : (P : Starts) (h : OperatorContext) → Run P h → (owner : ℕ) (w : Word) → WordInOrder P h.job.arrays (reach h) owner w → Post (Followed P h w) (follow_reference h w)
 reference_followed P h run owner w fit = post_more (λ end. EndInOrder P h end × (is_original w ≡ false)) (Followed P h w) (follow_reference h w) (λ end g. record { is = g.0; plain = g.1 })
     (post_both (EndInOrder P h) (λ end. is_original w ≡ false) (follow_reference h w) (follow_reference_in P h run owner w fit) (follow_reference_plain h w))
 
-module _ (P : Starts) (h : Here) where
+module _ (P : Starts) (h : OperatorContext) where
   cut_of : (arguments : List Word) → Call P h arguments → ((n : ℕ) → originals n arguments ≡ 0) → Cut P h
   cut_of arguments c none = record { run = c.run; marked = c.marked; none = λ n. c.counts n ∙ none n }
 
   starts_good : (words : List Word) (end : End) (c : Call P h words) → ((n : ℕ) → originals n words ≡ 0) → list_any is_original words ≡ false → EndInOrder P h end → AllFit P h words → Good P h (starts h words end)
   starts_good words (AtProc environment segment level place) c none plain is fit =
       post_needs (Keeps P h) (eqb (level_of_frame (frame h environment) + 1) level) _ _ (λ test.
-      post_needs (Keeps P h) (leb (3 + length words) h.setting.stack_size) _ _ (λ low.
+      post_needs (Keeps P h) (leb (3 + length words) h.constants.stack_size) _ _ (λ low.
       post_if_is (Keeps P h) (ltb (length h.job.tasks) 15) _ _
       (λ few. post_needs (Keeps P h) (not (is_critical h.job (top_of h).identity)) _ _ (λ free.
       result_good P h h (record h.job { tasks = child_of h words environment segment level place ∷ h.job.tasks; next_task = h.job.next_task + 1; next_frame = h.job.next_frame + 1 }) (answered h (Operand h.job.next_task ∷ [])) [] None
-      (λ high. started_good P h c.run c.marked c.next words environment segment level place (λ n. c.counts n ∙ none n) fit plain is test (leb-true (3 + length words) h.setting.stack_size low) (ltb-true (length h.job.tasks) 15 few) free high)))
+      (λ high. started_good P h c.run c.marked c.next words environment segment level place (λ n. c.counts n ∙ none n) fit plain is test (leb-true (3 + length words) h.constants.stack_size low) (ltb-true (length h.job.tasks) 15 few) free high)))
       (λ many. answers_operand P h (cut_of words c none) 0 h.job.numbers [] None (omega arith) c.run.order.reads)))
   starts_good words (AtCell f offset bits) c none plain is fit = post_err (Keeps P h) _
   starts_good words (AtElement a index) c none plain is fit = post_err (Keeps P h) _
@@ -139,7 +137,7 @@ module _ (P : Starts) (h : Here) where
   process_good : (arguments : List Word) → Call P h arguments → Good P h (process h arguments)
   process_good [] c = post_err (Keeps P h) _
   process_good (r ∷ words) c = post_needs (Keeps P h) (not (list_any is_original words)) _ _ (λ t.
-      let plain : list_any is_original words ≡ false = not_true (list_any is_original words) t in
+      let plain : list_any is_original words ≡ false = not-true (list_any is_original words) t in
       let none : (n : ℕ) → originals n words ≡ 0 = λ n. none_pass (is_original_of n) words (λ w k. plain_word w (any_none is_original words w plain k) n) in
       post_bind (Followed P h r) (Keeps P h) (follow_reference h r) _ (reference_followed P h c.run (top_of h).identity r c.fit.0) (λ end g.
       starts_good words end (record { run = c.run; marked = c.marked; fit = c.fit.1; above = above_init words r (subst CopiesAbove (reverse_cons r words) c.above); counts = λ n. c.counts n ∙ Cells.none_of r words n g.plain; next = c.next }) none plain g.is c.fit.1))
@@ -211,7 +209,7 @@ module _ (P : Starts) (h : Here) where
   entr_good run next Marked e = entr_with_good run e next (reverse (cells_of h)) refl
   entr_good run next (Entered level environment back) e = post_err (Keeps P h) _
 
-module _ (P : Starts) (h : Here) (start : Run P (branches h h.at)) (next : h.job.next_task < 2 ^ 48) where
+module _ (P : Starts) (h : OperatorContext) (start : Run P (branches h h.at)) (next : h.job.next_task < 2 ^ 48) where
   abbrev AtStart : Type 0
   AtStart = P h.task.segment (level_of_frame (running h.task.frames)) h.at
 

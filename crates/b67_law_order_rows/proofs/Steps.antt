@@ -1,5 +1,5 @@
 -- The common parts of rows keep order.
-use Rattle.std.proofs.Common.{◌≡◌, ◌≢◌, ℕ, zero, suc, ◌+◌, ◌^◌, ◌<◌, ◌≤◌, true, false, eqb, leb, List, [], ◌∷◌, ◌++◌, map, Option, Some, None, get_or, refl, sym, ap, ◌∙◌, inl, inr, arith}
+use Rattle.std.proofs.Common.{◌≡◌, ℕ, zero, suc, ◌+◌, ◌^◌, ◌<◌, ◌≤◌, true, false, eqb, leb, List, [], ◌∷◌, ◌++◌, map, Option, Some, None, get_or, refl, sym, ap, ◌∙◌, inl, inr, arith}
 use Rattle.std.specs.List.{AllByRecursion}
 use Rattle.std.proofs.lemmas.Bool.Decides.{eqb_tells}
 use Rattle.std.proofs.lemmas.Bool.{true≢false, leb-true, eqb-true}
@@ -7,36 +7,36 @@ use Rattle.b67_word.specs.declared.couples.Place.{Place}
 use Rattle.b67_word.specs.declared.faults.Fault.TheVariants.{StackOverflow}
 use Rattle.b67_model.specs.Answers.{Answer}
 use Rattle.b67_lemmas.specs.Lists.{Has, how_many}
+use Rattle.b67_lemmas.proofs.Members.{all_in}
 use Rattle.b67_model.specs.Words as Words
 use Rattle.b67_model.specs.Words.{Word, Operand, Name, Ref, Row, Element, Original, Proc, Intrinsic}
-use Rattle.b67_model.specs.State.{Frame, Standing, Marked, Entered, Return, Array, Task, Job, Here, frame, top, with_top_cells, height, with_task}
-use Rattle.b67_model.specs.Environment.{level_of_standing, level_of_frame, running, running_from}
+use Rattle.b67_model.specs.State.{Frame, Standing, Marked, Entered, Return, Array, Task, Job, OperatorContext, frame, top, with_top_cells, height, with_task}
+use Rattle.b67_model.specs.Environment.{level_of_standing, level_of_frame, running}
 use Rattle.b67_model.specs.Arrays.{array, element}
 use Rattle.b67_model.specs.Chase.{End, AtCell, AtElement, AtArray, AtProc, AtIntrinsic}
 use Rattle.b67_model.specs.Steps.{Line, Done, Goes, Leaves, Waits, top_of, cells_of, result, with_cells, leaves_cells, pushes}
 use Rattle.b67_model.specs.Entry.{mkst, accident, back_to, evaluates}
 use Rattle.b67_model.specs.InOrder.{Starts, Known, known_of, IsEntered, NamesArray, WordInOrder, EnvironmentInOrder, CellsInOrder, CopiesAbove, NoCopyUnder, FramesInOrder, ConditionInOrder, ArrayInOrder, is_original_of, originals_in, TasksInOrder}
-use Rattle.b67_law_order.proofs.Members.{all_in}
-use Rattle.b67_law_order.proofs.Looks.{Run, reach, own_order, see, level_low}
+use Rattle.b67_law_order.proofs.Looks.{Run, reach, own_order, see, level_low, known_cells, running_cells, some_cells}
 use Rattle.b67_law_order.proofs.Changes.{outside, no_change, change_cells, change_push, changed, fresh_frame}
 use Rattle.b67_law_order.specs.Ends.{EndInOrder, IsProcOf}
 use Rattle.b67_law_order.proofs.Chases.{array_is}
 use Rattle.b67_law_order.proofs.Posts.{Post, post_ok, post_err, post_needs}
 
 -- what the law says of a step
-abbrev pub Keeps : Starts → Here → Done → Type 0
-Keeps P h (Goes after printed touched) = TasksInOrder P h.setting after
+abbrev pub Keeps : Starts → OperatorContext → Done → Type 0
+Keeps P h (Goes after printed touched) = TasksInOrder P h.constants after
 Keeps P h Leaves = Unit {0}
 Keeps P h (Waits condition) = ConditionInOrder (reach h) condition
 
-abbrev pub Good : Starts → Here → Answer Done → Type 0
+abbrev pub Good : Starts → OperatorContext → Answer Done → Type 0
 Good P h answer = Post (Keeps P h) answer
 
 -- what may stand in the running task's top frame
-abbrev pub Fit : Starts → Here → Word → Type 0
+abbrev pub Fit : Starts → OperatorContext → Word → Type 0
 Fit P h w = WordInOrder P h.job.arrays (reach h) (top_of h).identity w
 
-abbrev pub AllFit : Starts → Here → List Word → Type 0
+abbrev pub AllFit : Starts → OperatorContext → List Word → Type 0
 AllFit P h words = AllByRecursion (Fit P h) words
 
 -- the originals among words
@@ -50,10 +50,10 @@ pub top_words : (P : Starts) (arrays : List Array) (outer : List Known) (fs : Li
 top_words P arrays outer [] g = (tt, tt)
 top_words P arrays outer (f ∷ below) g = g.0
 
-pub own_fit : (P : Starts) (h : Here) → Run P h → AllFit P h (cells_of h)
+pub own_fit : (P : Starts) (h : OperatorContext) → Run P h → AllFit P h (cells_of h)
 own_fit P h run = (top_words P h.job.arrays (outside h) h.task.frames (own_order P h run).frames).0
 
-pub own_copies : (P : Starts) (h : Here) → Run P h → CopiesAbove (cells_of h)
+pub own_copies : (P : Starts) (h : OperatorContext) → Run P h → CopiesAbove (cells_of h)
 own_copies P h run = (top_words P h.job.arrays (outside h) h.task.frames (own_order P h run).frames).1
 
 -- a word that is no original may stand on anything
@@ -68,44 +68,27 @@ plain_above (Proc segment level place) below plain = tt
 plain_above (Intrinsic number) below plain = tt
 plain_above (Words.Segment number) below plain = tt
 
--- a frame's cells don't count where it runs, nor in what is known of it
-level_from : (s : Standing) (f g r : Frame) → level_of_frame f ≡ level_of_frame g → level_of_frame (running_from s f r) ≡ level_of_frame (running_from s g r)
-level_from Marked f g r e = refl
-level_from (Entered level environment back) f g r e = e
-
-pub running_cells : (fs : List Frame) (cells : List Word) → level_of_frame (running (with_top_cells fs cells)) ≡ level_of_frame (running fs)
-running_cells [] cells = refl
-running_cells (f ∷ below) cells = level_from f.standing (record f { cells = cells }) f (running below) refl
-
-pub known_cells : (fs : List Frame) (cells : List Word) → map known_of (with_top_cells fs cells) ≡ map known_of fs
-known_cells [] cells = refl
-known_cells (f ∷ below) cells = refl
-
 pub originals_cells : (n : ℕ) (fs : List Frame) (cells : List Word) → originals n cells ≡ originals n (top fs).cells → originals_in n (with_top_cells fs cells) ≡ originals_in n fs
 originals_cells n [] cells e = refl
 originals_cells n (f ∷ below) cells e = omega (arith, e)
 
-pub some_cells : (fs : List Frame) (cells : List Word) → fs ≢ [] → with_top_cells fs cells ≢ []
-some_cells [] cells some = some
-some_cells (f ∷ below) cells some = λ e. cc
-
 -- the result of a row
-pub result_good : (P : Starts) (h k : Here) (job : Job) (task : Task) (printed : List Line) (touched : Option ℕ) → (height task.frames ≤ k.setting.stack_size → TasksInOrder P h.setting (with_task job task)) →
+pub result_good : (P : Starts) (h k : OperatorContext) (job : Job) (task : Task) (printed : List Line) (touched : Option ℕ) → (height task.frames ≤ k.constants.stack_size → TasksInOrder P h.constants (with_task job task)) →
     Good P h (result k job task printed touched)
 result_good P h k job task printed touched good =
-    post_needs (Keeps P h) (leb (height task.frames) k.setting.stack_size) StackOverflow _ (λ t. post_ok (Keeps P h) _ (good (leb-true (height task.frames) k.setting.stack_size t)))
+    post_needs (Keeps P h) (leb (height task.frames) k.constants.stack_size) StackOverflow _ (λ t. post_ok (Keeps P h) _ (good (leb-true (height task.frames) k.constants.stack_size t)))
 
-pub cells_good : (P : Starts) (h : Here) (cells : List Word) (touched : Option ℕ) → Run P h → AllFit P h cells → CopiesAbove cells → SameOriginals cells (cells_of h) → Good P h (leaves_cells h cells touched)
+pub cells_good : (P : Starts) (h : OperatorContext) (cells : List Word) (touched : Option ℕ) → Run P h → AllFit P h cells → CopiesAbove cells → SameOriginals cells (cells_of h) → Good P h (leaves_cells h cells touched)
 cells_good P h cells touched run fit above same = result_good P h h h.job (with_cells h cells) [] touched
     (λ low. changed P h (with_top_cells h.task.frames cells) h.job.next_frame h.task.segment h.task.place run (change_cells P h h.job.arrays h.task.frames h.job.next_frame cells (no_change P h run) (fit, above)) low
     (rw (running_cells h.task.frames cells) run.place)
     (λ n. originals_cells n h.task.frames cells (same n)))
 
-pub push_good : (P : Starts) (h : Here) (w : Word) (touched : Option ℕ) → Run P h → Fit P h w → ((n : ℕ) → is_original_of n w ≡ false) → Good P h (pushes h w touched)
+pub push_good : (P : Starts) (h : OperatorContext) (w : Word) (touched : Option ℕ) → Run P h → Fit P h w → ((n : ℕ) → is_original_of n w ≡ false) → Good P h (pushes h w touched)
 push_good P h w touched run fit plain = cells_good P h (w ∷ cells_of h) touched run (fit, own_fit P h run) (plain_above w (cells_of h) plain, own_copies P h run) (λ n. let t = plain n in rw t (omega arith))
 
 -- the environment of a Proc's frame
-pub environment_of_proc : (P : Starts) (h : Here) (run : Run P h) (under : List Known) (f segment level : ℕ) (place : Place) → IsProcOf P (reach h) f segment level place →
+pub environment_of_proc : (P : Starts) (h : OperatorContext) (run : Run P h) (under : List Known) (f segment level : ℕ) (place : Place) → IsProcOf P (reach h) f segment level place →
     ((s : Standing) → IsEntered s → Has (reach h) (f, s) → Has under (f, s)) → eqb (level_of_frame (frame h f) + 1) level ≡ true → EnvironmentInOrder under level f
 environment_of_proc P h run under f segment level place is keep test =
     let s = is.names.standing in
@@ -123,7 +106,7 @@ environment_of_proc P h run under f segment level place is keep test =
     }
 
 -- an accidental entry, over these cells
-pub accident_good : (P : Starts) (h : Here) (cells : List Word) (back : Return) (end : End) → Run P h → EndInOrder P h end → AllFit P h cells → CopiesAbove cells → SameOriginals cells (cells_of h) →
+pub accident_good : (P : Starts) (h : OperatorContext) (cells : List Word) (back : Return) (end : End) → Run P h → EndInOrder P h end → AllFit P h cells → CopiesAbove cells → SameOriginals cells (cells_of h) →
     P back.segment (level_of_frame (running h.task.frames)) back.place → Good P h (accident h cells back end)
 accident_good P h cells back (AtProc f segment level place) run is fit above same starts =
     let over = change_cells P h h.job.arrays h.task.frames h.job.next_frame cells (no_change P h run) (fit, above) in
@@ -147,19 +130,19 @@ number_low [] i all = omega arith
 number_low (x ∷ xs) zero all = all.0
 number_low (x ∷ xs) (suc i) all = number_low xs i all.1
 
-pub element_low : (P : Starts) (h : Here) → Run P h → (a index : ℕ) → NamesArray h.job.arrays (reach h) a → element h.job a index < 2 ^ 48
+pub element_low : (P : Starts) (h : OperatorContext) → Run P h → (a index : ℕ) → NamesArray h.job.arrays (reach h) a → element h.job a index < 2 ^ 48
 element_low P h run a index names =
     let low : get_or names.item.numbers index 0 < 2 ^ 48 = number_low names.item.numbers index (all_in ArrayInOrder h.job.arrays names.item run.order.arrays names.live).words in
     rw (array_is P h run a names) low
 
-pub evaluates_good : (P : Starts) (h : Here) (end : End) → Run P h → EndInOrder P h end → Good P h (evaluates h end)
+pub evaluates_good : (P : Starts) (h : OperatorContext) (end : End) → Run P h → EndInOrder P h end → Good P h (evaluates h end)
 evaluates_good P h (AtCell f offset bits) run is = push_good P h (Operand bits) None run is.bound (λ n. refl)
 evaluates_good P h (AtElement a index) run is = push_good P h (Operand (element h.job a index)) (Some a) run (element_low P h run a index is.names) (λ n. refl)
 evaluates_good P h (AtProc f segment level place) run is = accident_good P h (cells_of h) (back_to h true h.task.place) (AtProc f segment level place) run is (own_fit P h run) (own_copies P h run) (λ n. refl) run.place
 evaluates_good P h (AtArray a) run is = post_err (Keeps P h) _
 evaluates_good P h (AtIntrinsic n) run is = post_err (Keeps P h) _
 
-pub mkst_good : (P : Starts) (h : Here) → Run P h → Good P h (mkst h)
+pub mkst_good : (P : Starts) (h : OperatorContext) → Run P h → Good P h (mkst h)
 mkst_good P h run = result_good P h h (record h.job { next_frame = h.job.next_frame + 1 }) _ [] None
     (λ low. changed P h (fresh_frame h Marked ∷ h.task.frames) (h.job.next_frame + 1) h.task.segment h.task.place run
     (change_push P h h.job.arrays h.task.frames Marked run (no_change P h run) tt (own_order P h run).some) low run.place (λ n. omega arith))

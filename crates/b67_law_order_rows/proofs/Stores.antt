@@ -5,24 +5,24 @@ use Rattle.std.proofs.lemmas.Bool.Decides.{eqb_tells}
 use Rattle.std.proofs.lemmas.Bool.{cases_Bool}
 use Rattle.b67_model.specs.Keyed.{change_keyed}
 use Rattle.b67_lemmas.specs.Lists.{Has}
+use Rattle.b67_lemmas.proofs.Members.{all_in, has_change, has_get, has_map, has_map_back, keyed_has, keyed_left}
 use Rattle.b67_model.specs.Words.{Word, Operand}
-use Rattle.b67_model.specs.State.{Frame, Array, Task, Here, frame, top, with_top_cells, height, with_task}
+use Rattle.b67_model.specs.State.{Frame, Array, Task, OperatorContext, frame, top, with_top_cells, height, with_task}
 use Rattle.b67_model.specs.Environment.{level_of_frame, running}
 use Rattle.b67_model.specs.Arrays.{array}
 use Rattle.b67_model.specs.Chase.{End, AtCell, AtElement, AtArray, AtProc, AtIntrinsic, follow}
 use Rattle.b67_model.specs.Steps.{top_of, cells_of, result, with_cells}
 use Rattle.b67_model.specs.Entry.{back_to}
 use Rattle.b67_model.specs.InOrder.{Starts, known_of, CopiesAbove, ConditionInOrder, ArrayInOrder, is_original_of, originals_of, TasksInOrder}
-use Rattle.b67_law_order.proofs.Members.{has_map, all_in, keyed_has, has_change, has_get, keyed_left, has_map_back}
 use Rattle.b67_law_order.proofs.Reaches.{Stays}
-use Rattle.b67_law_order.proofs.Looks.{Run, own_order}
+use Rattle.b67_law_order.proofs.Looks.{Run, own_order, running_cells}
 use Rattle.b67_law_order.proofs.Changes.{Change, outside, no_change, change_arrays, change_cells, changed, run_replaced}
 use Rattle.b67_law_order.specs.Ends.{EndInOrder}
 use Rattle.b67_law_order.proofs.Posts.{Post, post_ok, post_err, post_bind, post_needs}
 use Rattle.b67_model.specs.Words.{operand}
 use Rattle.b67_model.specs.Cells.{cell}
 use Rattle.b67_model.specs.Indexing.{in_order}
-use Rattle.b67_law_order_rows.proofs.Steps.{Keeps, Good, Fit, AllFit, originals, SameOriginals, own_fit, own_copies, plain_above, running_cells, originals_cells, result_good, accident_good}
+use Rattle.b67_law_order_rows.proofs.Steps.{Keeps, Good, Fit, AllFit, originals, SameOriginals, own_fit, own_copies, plain_above, originals_cells, result_good, accident_good}
 use Rattle.b67_model.specs.Cells.{first_offset, cell_of}
 use Rattle.b67_model.specs.Arrays.{with_number, with_element}
 use Rattle.b67_model.specs.Rows.{store_at, store}
@@ -43,7 +43,7 @@ height_cells [] cells low = omega arith
 height_cells (f ∷ below) cells low = omega (arith, low)
 
 -- other cells on top, without the test of the height
-pub cells_low : (P : Starts) (h : Here) (cells : List Word) → Run P h → AllFit P h cells → CopiesAbove cells → SameOriginals cells (cells_of h) → length cells ≤ length (cells_of h) → TasksInOrder P h.setting (with_task h.job (with_cells h cells))
+pub cells_low : (P : Starts) (h : OperatorContext) (cells : List Word) → Run P h → AllFit P h cells → CopiesAbove cells → SameOriginals cells (cells_of h) → length cells ≤ length (cells_of h) → TasksInOrder P h.constants (with_task h.job (with_cells h cells))
 cells_low P h cells run fit above same low = changed P h (with_top_cells h.task.frames cells) h.job.next_frame h.task.segment h.task.place run (change_cells P h h.job.arrays h.task.frames h.job.next_frame cells (no_change P h run) (fit, above))
     (omega (arith, height_cells h.task.frames cells low, (own_order P h run).not_higher))
     (rw (running_cells h.task.frames cells) run.place)
@@ -105,7 +105,7 @@ by_names Q xs ys same all a h =
     let r = has_map_back (λ (x : Array). x.identity) ys a.identity there in
     subst Q r.is (all_in (λ (x : Array). Q x.identity) ys r.item all r.among)
 
-pub element_stored : (P : Starts) (h : Here) (a index bits : ℕ) (cells : List Word) → Run P h → bits < 2 ^ 48 → AllFit P h cells → CopiesAbove cells → SameOriginals cells (cells_of h) → Good P h (result h (with_element h.job a index bits) (with_cells h cells) [] (Some a))
+pub element_stored : (P : Starts) (h : OperatorContext) (a index bits : ℕ) (cells : List Word) → Run P h → bits < 2 ^ 48 → AllFit P h cells → CopiesAbove cells → SameOriginals cells (cells_of h) → Good P h (result h (with_element h.job a index bits) (with_cells h cells) [] (Some a))
 element_stored P h a index bits cells run low fit above same = result_good P h h (with_element h.job a index bits) (with_cells h cells) [] (Some a) (λ high.
     let arrays' : List Array = change_keyed (λ x. x.identity) a (with_number index bits) h.job.arrays in
     let stay : (x : Array) → Has h.job.arrays x → Stays arrays' x = λ x k. change_has a (with_number index bits) h.job.arrays x k (λ y. record { item = with_number index bits y; live = inl refl; named = refl; owned = refl }) in
@@ -132,7 +132,7 @@ element_stored P h a index bits cells run low fit above same = result_good P h h
       fewer = c'.fewer;
       kept = λ x k. record { case = inl (stay x k) };
       arrays = arrays_changed a (with_number index bits) h.job.arrays (λ x g. number_kept index bits x low g) run.order.arrays;
-      once = λ x k. omega (arith, originals_cells x.identity h.task.frames cells (same x.identity), by_names (λ n. originals_of n h.setting h.job ≡ 1) arrays' h.job.arrays (names_changed a (with_number index bits) h.job.arrays (λ x. refl)) run.order.once x k);
+      once = λ x k. omega (arith, originals_cells x.identity h.task.frames cells (same x.identity), by_names (λ n. originals_of n h.constants h.job ≡ 1) arrays' h.job.arrays (names_changed a (with_number index bits) h.job.arrays (λ x. refl)) run.order.once x k);
       names = rw (names_changed a (with_number index bits) h.job.arrays (λ x. refl)) run.order.names;
       reads = run.order.reads;
     })).0)
@@ -141,10 +141,10 @@ element_stored P h a index bits cells run low fit above same = result_good P h h
 pub operand_is : (w : Word) (bits : ℕ) → Operand bits ≡ w → IsOperand w
 operand_is w bits e = subst IsOperand e tt
 
-pub holds_operand : (P : Starts) (h : Here) (n offset bits : ℕ) → Run P h → cell h n offset ≡ Ok (Operand bits) → (f : Frame) → IsFrame h.job f → f.identity ≡ n → slice_get (reverse f.cells) (offset - 2) ≡ Some (Operand bits)
+pub holds_operand : (P : Starts) (h : OperatorContext) (n offset bits : ℕ) → Run P h → cell h n offset ≡ Ok (Operand bits) → (f : Frame) → IsFrame h.job f → f.identity ≡ n → slice_get (reverse f.cells) (offset - 2) ≡ Some (Operand bits)
 holds_operand P h n offset bits run e f live is =
-    let high = above_one P h.setting h.job run.order live.task live.live f live.among in
-    let there : frame h n ≡ f = subst (λ m. frame h m ≡ f) is (ap (λ o. unwrap_or o no_frame) (keyed_left (λ (x : Frame). x.identity) f.identity (flat_map (λ (t : Task). t.frames) h.job.tasks) (h.setting.dictionary ∷ mcp ∷ []) f (found_frame P h.setting h.job run.order f live))) in
+    let high = above_one P h.constants h.job run.order live.task live.live f live.among in
+    let there : frame h n ≡ f = subst (λ m. frame h m ≡ f) is (ap (λ o. unwrap_or o no_frame) (keyed_left (λ (x : Frame). x.identity) f.identity (flat_map (λ (t : Task). t.frames) h.job.tasks) (h.constants.dictionary ∷ mcp ∷ []) f (found_frame P h.constants h.job run.order f live))) in
     let found : ok_or (cell_of f offset) InvalidAddress ≡ Ok (Operand bits) = subst (λ (x : Frame). ok_or (cell_of x offset) InvalidAddress ≡ Ok (Operand bits)) there e in
     let some : cell_of f offset ≡ Some (Operand bits) = some_ok (cell_of f offset) InvalidAddress (Operand bits) found in
     let two : first_offset f ≡ 2 = elim (eqb_tells f.identity 0) [ inl z ↦ absurd (omega (arith, z.1, high)) | inr z ↦ rw z.0 refl ] in
@@ -176,14 +176,14 @@ cells_has : (fs : List Frame) (cells : List Word) (g : Frame) → Has (with_top_
 cells_has [] cells g k = absurd k
 cells_has (f ∷ below) cells g k = elim k [ inl e ↦ inl e | inr m ↦ inr (inr m) ]
 
-pub own_frame : (P : Starts) (h : Here) → Run P h → (f : Frame) → Has h.task.frames f → IsFrame h.job f
+pub own_frame : (P : Starts) (h : OperatorContext) → Run P h → (f : Frame) → Has h.task.frames f → IsFrame h.job f
 own_frame P h run f k = record {
   task = run.found;
   live = (keyed_has (λ t. t.number) h.task.number h.job.tasks run.found run.running).0;
   among = subst (λ (t : Task). Has t.frames f) (sym run.same) k;
 }
 
-store_holds : (P : Starts) (h : Here) (b a : Word) (rest kept : List Word) (n offset bits : ℕ) → Run P h → cell h n offset ≡ Ok (Operand bits) → cells_of h ≡ b ∷ a ∷ rest → KeptCells rest kept →
+store_holds : (P : Starts) (h : OperatorContext) (b a : Word) (rest kept : List Word) (n offset bits : ℕ) → Run P h → cell h n offset ≡ Ok (Operand bits) → cells_of h ≡ b ∷ a ∷ rest → KeptCells rest kept →
     HoldsOperand (with_task h.job (with_cells h kept)) n offset
 store_holds P h b a rest kept n offset bits run e are keep t live f among is w k =
     elim (has_change (λ (u : Task). u.number) h.job.next_task h.task.number (with_cells h kept) h.job.tasks t run.order.numbers live) [
@@ -203,17 +203,17 @@ store_holds P h b a rest kept n offset bits run e are keep t live f among is w k
     ]
 
 -- what a store leaves on the stack
-pub record Leaves2 (P : Starts) (h : Here) (rest kept : List Word) : Type 0 where
+pub record Leaves2 (P : Starts) (h : OperatorContext) (rest kept : List Word) : Type 0 where
   pub fit : AllFit P h kept
   pub above : CopiesAbove kept
   pub same : SameOriginals kept (cells_of h)
   pub low : length kept ≤ length (cells_of h)
   pub cells : KeptCells rest kept
 
-store_at_good : (P : Starts) (h : Here) (b a : Word) (rest kept : List Word) (bits : ℕ) (end : End) → Run P h → P h.task.segment (level_of_frame (running h.task.frames)) h.at → EndInOrder P h end → bits < 2 ^ 48 →
+store_at_good : (P : Starts) (h : OperatorContext) (b a : Word) (rest kept : List Word) (bits : ℕ) (end : End) → Run P h → P h.task.segment (level_of_frame (running h.task.frames)) h.at → EndInOrder P h end → bits < 2 ^ 48 →
     cells_of h ≡ b ∷ a ∷ rest → Leaves2 P h rest kept → AllFit P h rest → CopiesAbove rest → SameOriginals rest (cells_of h) → Good P h (store_at h rest kept bits end)
 store_at_good P h b a rest kept bits (AtCell f offset old) run at is low are k fit above same =
-    post_ok (Keeps P h) _ (cell_stored P h.setting (with_task h.job (with_cells h kept)) f offset bits low (store_holds P h b a rest kept f offset old run is.found are k.cells) (cells_low P h kept run k.fit k.above k.same k.low))
+    post_ok (Keeps P h) _ (cell_stored P h.constants (with_task h.job (with_cells h kept)) f offset bits low (store_holds P h b a rest kept f offset old run is.found are k.cells) (cells_low P h kept run k.fit k.above k.same k.low))
 store_at_good P h b a rest kept bits (AtElement x index) run at is low are k fit above same =
     post_needs (Keeps P h) (array h.job x).writable _ _ (λ t. element_stored P h x index bits kept run low k.fit k.above k.same)
 store_at_good P h b a rest kept bits (AtProc f segment level place) run at is low are k fit above same =
@@ -228,7 +228,7 @@ operand_of : (w : Word) → Post (IsOperandOf w) (operand w)
 operand_of (Operand bits) = post_ok (IsOperandOf (Operand bits)) bits (record { is = refl })
 operand_of w = post_err _ _
 
-leaves_two : (P : Starts) (h : Here) (b a v : Word) (rest : List Word) (bits : ℕ) (keeps : Bool) → AllFit P h rest → Fit P h v → CopiesAbove rest → SameOriginals rest (cells_of h) → cells_of h ≡ b ∷ a ∷ rest → v ≡ Operand bits →
+leaves_two : (P : Starts) (h : OperatorContext) (b a v : Word) (rest : List Word) (bits : ℕ) (keeps : Bool) → AllFit P h rest → Fit P h v → CopiesAbove rest → SameOriginals rest (cells_of h) → cells_of h ≡ b ∷ a ∷ rest → v ≡ Operand bits →
     Leaves2 P h rest (cond keeps (v ∷ rest) rest)
 leaves_two P h b a v rest bits true fit one above same are is =
     let plain : (n : ℕ) → is_original_of n v ≡ false = λ n. rw is refl in
@@ -247,7 +247,7 @@ leaves_two P h b a v rest bits false fit one above same are is = record {
   cells = record { above = []; are = sym (append-nil (reverse rest)); operands = tt };
 }
 
-pub store_good : (P : Starts) (keeps : Bool) (h : Here) (cells : List Word) → Run P h → P h.task.segment (level_of_frame (running h.task.frames)) h.at → cells_of h ≡ cells → Good P h (store keeps h cells)
+pub store_good : (P : Starts) (keeps : Bool) (h : OperatorContext) (cells : List Word) → Run P h → P h.task.segment (level_of_frame (running h.task.frames)) h.at → cells_of h ≡ cells → Good P h (store keeps h cells)
 store_good P keeps h [] run at are = post_err (Keeps P h) _
 store_good P keeps h (b ∷ []) run at are = post_err (Keeps P h) _
 store_good P keeps h (b ∷ a ∷ rest) run at are =

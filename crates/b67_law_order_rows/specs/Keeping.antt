@@ -3,7 +3,7 @@ use Rattle.std.specs.Prelude.{◌≡◌, false, Ok, Err}
 use Rattle.b67_word.specs.declared.couples.Place.{Place}
 use Rattle.b67_model.specs.declared.operators.Op.{Op}
 use Rattle.b67_model.specs.Answers.{Answer}
-use Rattle.b67_model.specs.State.{Task, Setting, Job, Here}
+use Rattle.b67_model.specs.State.{Task, JobConstants, Job, OperatorContext}
 use Rattle.b67_model.specs.Environment.{running_level}
 use Rattle.b67_model.specs.Steps.{Done, Goes, Leaves, Waits}
 use Rattle.b67_model.specs.Loader.{may_be_last}
@@ -13,22 +13,22 @@ use Rattle.b67_law_order.specs.Ends.{StepsFrom}
 use Rattle.b67_law_order_rows.specs.Parameters.{ParametersFit}
 
 -- the state that a step leads to is in order; so is what a task that waits waits for
-abbrev pub KeepsOrder : Starts → Setting → Job → Task → Answer Done → Type 0
-KeepsOrder P setting job task (Ok (Goes after printed touched)) = TasksInOrder P setting after
-KeepsOrder P setting job task (Ok Leaves) = Unit {0}
-KeepsOrder P setting job task (Ok (Waits condition)) = ConditionInOrder (reach_of job task) condition
-KeepsOrder P setting job task (Err fault) = Unit {0}
+abbrev pub KeepsOrder : Starts → JobConstants → Job → Task → Answer Done → Type 0
+KeepsOrder P constants job task (Ok (Goes after printed touched)) = TasksInOrder P constants after
+KeepsOrder P constants job task (Ok Leaves) = Unit {0}
+KeepsOrder P constants job task (Ok (Waits condition)) = ConditionInOrder (reach_of job task) condition
+KeepsOrder P constants job task (Err fault) = Unit {0}
 
 -- the place after an operator, where it may go on there
-abbrev pub AfterFits : Starts → Here → Op → Type 0
+abbrev pub AfterFits : Starts → OperatorContext → Op → Type 0
 AfterFits P h op = may_be_last op ≡ false → P h.task.segment (running_level h) h.task.place
 
 -- the row of an operator whose parameters fit
-abbrev pub RowKeepsOrder : (Setting → Starts) → Type 0
+abbrev pub RowKeepsOrder : (JobConstants → Starts) → Type 0
 RowKeepsOrder P =
-    (setting : Setting) (job : Job) (task : Task) (op : Op) (next : Place) → StepsFrom (P setting) setting job task →
-    let h : Here = record { setting = setting; job = job; task = record task { place = next }; at = task.place } in
-    AfterFits (P setting) h op → ParametersFit (P setting) h op → KeepsOrder (P setting) setting job task (row op h)
+    (constants : JobConstants) (job : Job) (task : Task) (op : Op) (next : Place) → StepsFrom (P constants) constants job task →
+    let h : OperatorContext = record { constants = constants; job = job; task = record task { place = next }; at = task.place } in
+    AfterFits (P constants) h op → ParametersFit (P constants) h op → KeepsOrder (P constants) constants job task (row op h)
 
 abbrev pub EachRowKeepsOrder : Type 0
 EachRowKeepsOrder = RowKeepsOrder IsSegment × RowKeepsOrder IsStart

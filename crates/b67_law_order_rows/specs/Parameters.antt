@@ -3,7 +3,7 @@ use Rattle.std.specs.Prelude.{◌^◌, ◌<◌, IsTrue}
 use Rattle.b67_model.specs.declared.operators.Op.{Op}
 use Rattle.b67_model.specs.declared.operators.Op.TheVariants.{Valc, Namc, Lt8, Lt16, Lt48, Mpcw, Brun, Brtr, Brfl}
 use Rattle.b67_model.specs.Words.{Word, Proc}
-use Rattle.b67_model.specs.State.{Here}
+use Rattle.b67_model.specs.State.{OperatorContext}
 use Rattle.b67_model.specs.Environment.{running_level}
 use Rattle.b67_model.specs.Rows.{is_proc, proc_of}
 use Rattle.b67_model.specs.InOrder.{Starts}
@@ -15,7 +15,7 @@ StartsAt P _ = Unit {0}
 
 -- what the parameters of an operator are: they have their bits, and places are such that the running activation may go on
 -- there
-abbrev pub ParametersFit : Starts → Here → Op → Type 0
+abbrev pub ParametersFit : Starts → OperatorContext → Op → Type 0
 ParametersFit P h (Valc couple) = couple < 2 ^ 14
 ParametersFit P h (Namc couple) = couple < 2 ^ 14
 ParametersFit P h (Lt8 n) = n < 2 ^ 48

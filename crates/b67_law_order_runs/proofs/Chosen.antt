@@ -1,16 +1,16 @@
 -- The chosen task is a ready task of its job.
-use Rattle.std.proofs.Common.{◌≡◌, ℕ, ◌+◌, ◌≤◌, Bool, true, false, not, eqb, ◌&&◌, List, [], ◌∷◌, ◌++◌, filter, flat_map, reverse, Option, Some, None, refl, sym, ap, ◌∙◌, subst, inl, inr, ◌⊎◌, arith}
+use Rattle.std.proofs.Common.{◌≡◌, ℕ, ◌+◌, ◌≤◌, Bool, true, false, not, eqb, List, [], ◌∷◌, ◌++◌, filter, reverse, Option, Some, None, refl, sym, ap, ◌∙◌, subst, inl, inr, ◌⊎◌, arith}
 use Rattle.std.specs.List.{find, list_any}
-use Rattle.std.proofs.lemmas.Bool.{cases_Bool, true≢false, eqb-true}
+use Rattle.std.proofs.lemmas.Bool.{cases_Bool, true≢false, eqb-true, and_parts}
 use Rattle.std.proofs.lemmas.Bool.Decides.{eqb_tells}
 use Rattle.b67_model.specs.Keyed.{keyed}
 use Rattle.b67_lemmas.specs.Lists.{Has}
-use Rattle.b67_model.specs.State.{Condition, Ready, Awaits, WaitsAt, Task, Member}
+use Rattle.b67_lemmas.proofs.Members.{any_has, has_append_cases, has_filter, has_flat_back, has_map_back, has_reverse_back}
+use Rattle.b67_model.specs.State.{Condition, Ready, Awaits, WaitsAt, Task, SessionJob}
 use Rattle.b67_model.specs.Endings.{is_ready}
 use Rattle.b67_model.specs.Schedule.{Who, Session, Choice, is_same, is_before, ready_of, ready, afresh, switched, goes_on, first, next_after, choice_by, choice}
 use Rattle.b67_model.specs.Run.{number_of}
 use Rattle.b67_model.specs.InOrder.{NumberedFrom}
-use Rattle.b67_law_order.proofs.Members.{has_append_cases, has_map_back, has_filter, has_reverse_back, any_has}
 
 find_has : {A : Type 0} (test : A → Bool) (xs : List A) (x : A) → find test xs ≡ Some x → Has xs x
 find_has test [] x e = cc
@@ -19,29 +19,17 @@ find_has test (y ∷ ys) x e = elim (cases_Bool (test y)) [
   | inr t ↦ inr (find_has test ys x (rw t at e))
 ]
 
-pub record Inside {A B : Type 0} (f : A → List B) (xs : List A) (y : B) : Type 0 where
-  pub item : A
-  pub among : Has xs item
-  pub inside : Has (f item) y
-
-has_flat_back : {A B : Type 0} (f : A → List B) (xs : List A) (y : B) → Has (flat_map f xs) y → Inside f xs y
-has_flat_back f [] y h = absurd h
-has_flat_back f (x ∷ xs) y h = elim (has_append_cases (f x) (flat_map f xs) y h) [
-  | inl a ↦ record { item = x; among = inl refl; inside = a }
-  | inr b ↦ let r = has_flat_back f xs y b in record { item = r.item; among = inr r.among; inside = r.inside }
-]
-
 first_has : (xs : List Who) (x : Who) → first xs ≡ Some x → Has xs x
 first_has [] x e = cc
 first_has (y ∷ ys) x e = let same : y ≡ x = cc in inl same
 
 -- a ready task of a job, by their numbers
 pub record IsReady (s : Session) (job number : ℕ) : Type 0 where
-  pub member : Member
+  pub member : SessionJob
   pub among : Has s.jobs member
   pub named : number_of member ≡ job
   pub task : Task
-  pub lives : Has member.course.job.tasks task
+  pub lives : Has member.progress.job.tasks task
   pub numbered : task.number ≡ number
   pub ready : task.condition ≡ Ready
 
@@ -53,22 +41,17 @@ by_condition (WaitsAt f offset) e = absurd (true≢false (sym e))
 of_ready : (s : Session) (who : Who) → Has (ready s) who → IsReady s who.job who.task
 of_ready s who h =
     let m = has_flat_back ready_of s.jobs who h in
-    let t = has_map_back (λ (t : Task). let w : Who = record { job = m.item.setting.number; task = t.number } in w) (filter is_ready (reverse m.item.course.job.tasks)) who m.inside in
-    let f = has_filter is_ready (reverse m.item.course.job.tasks) t.item t.among in
+    let t = has_map_back (λ (t : Task). let w : Who = record { job = m.item.constants.number; task = t.number } in w) (filter is_ready (reverse m.item.progress.job.tasks)) who m.inside in
+    let f = has_filter is_ready (reverse m.item.progress.job.tasks) t.item t.among in
     record {
       member = m.item;
       among = m.among;
       named = ap (λ (w : Who). w.job) t.is;
       task = t.item;
-      lives = has_reverse_back m.item.course.job.tasks t.item f.0;
+      lives = has_reverse_back m.item.progress.job.tasks t.item f.0;
       numbered = ap (λ (w : Who). w.task) t.is;
       ready = by_condition t.item.condition f.1;
     }
-
-same_both : (a b : Bool) → (a && b) ≡ true → (a ≡ true) × (b ≡ true)
-same_both true true e = (refl, refl)
-same_both true false e = absurd (true≢false (sym e))
-same_both false b e = absurd (true≢false (sym e))
 
 -- the chosen task, and how long its turn may have lasted
 pub record IsChosen (s : Session) (c : Choice) : Type 0 where
@@ -85,9 +68,9 @@ by_afresh s (Some w) c each e =
 
 last_ready : (s : Session) → goes_on s ≡ true → IsReady s s.last.job s.last.task
 last_ready s e =
-    let found = any_has (is_same s.last) (ready s) (same_both (list_any (is_same s.last) (ready s)) _ e).0 in
+    let found = any_has (is_same s.last) (ready s) (and_parts (list_any (is_same s.last) (ready s)) _ e).0 in
     let r = of_ready s found.0 found.1 in
-    let both = same_both (eqb s.last.job found.0.job) (eqb s.last.task found.0.task) found.2 in
+    let both = and_parts (eqb s.last.job found.0.job) (eqb s.last.task found.0.task) found.2 in
     let job : s.last.job ≡ found.0.job = eqb-true s.last.job found.0.job both.0 in
     let task : s.last.task ≡ found.0.task = eqb-true s.last.task found.0.task both.1 in
     record { member = r.member; among = r.among; named = r.named ∙ sym job; task = r.task; lives = r.lives; numbered = r.numbered ∙ sym task; ready = r.ready }
@@ -114,14 +97,14 @@ pub chosen : (s : Session) (c : Choice) → choice s ≡ Some c → IsChosen s c
 chosen s c e = by_rules s c (switched s) (goes_on s) refl refl e
 
 -- jobs are found by their numbers
-numbered_low : (k : ℕ) (jobs : List Member) (m : Member) → NumberedFrom k jobs → Has jobs m → k ≤ number_of m
+numbered_low : (k : ℕ) (jobs : List SessionJob) (m : SessionJob) → NumberedFrom k jobs → Has jobs m → k ≤ number_of m
 numbered_low k [] m n h = absurd h
 numbered_low k (x ∷ jobs) m n h = elim h [
   | inl e ↦ omega (arith, n.0, ap number_of e)
   | inr r ↦ omega (arith, numbered_low (k + 1) jobs m n.1 r)
 ]
 
-pub keyed_numbered : (k : ℕ) (jobs : List Member) (m : Member) → NumberedFrom k jobs → Has jobs m → keyed number_of (number_of m) jobs ≡ Some m
+pub keyed_numbered : (k : ℕ) (jobs : List SessionJob) (m : SessionJob) → NumberedFrom k jobs → Has jobs m → keyed number_of (number_of m) jobs ≡ Some m
 keyed_numbered k [] m n h = absurd h
 keyed_numbered k (x ∷ jobs) m n h = elim h [
   | inl e ↦ elim (eqb_tells (number_of x) (number_of m)) [ inl t ↦ rw t.0 (ap Some e) | inr t ↦ absurd (t.1 (ap number_of e)) ]

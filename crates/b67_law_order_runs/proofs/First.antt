@@ -1,5 +1,5 @@
 -- An admitted program has a first segment of level 2, at whose first place an operator stands.
-use Rattle.std.proofs.Common.{◌≡◌, ◌≢◌, ℕ, suc, ◌-◌, ◌*◌, ◌<◌, Bool, true, false, leb, ltb, eqb, not, List, [], ◌∷◌, ◌++◌, length, Option, Some, None, Ok, Err, refl, sym, subst, inl, inr, arith}
+use Rattle.std.proofs.Common.{◌≡◌, ◌≢◌, ℕ, suc, ◌-◌, ◌*◌, ◌<◌, Bool, true, false, ltb, eqb, not, List, [], ◌∷◌, ◌++◌, length, Ok, Err, refl, sym, subst, inl, inr, arith}
 use Rattle.std.specs.List.{AllByRecursion}
 use Rattle.std.proofs.lemmas.Bool.{cases_Bool, true≢false, ltb-false, eqb-true}
 use Rattle.std.proofs.lemmas.Bool.Decides.{eqb_tells}
@@ -8,9 +8,10 @@ use Rattle.b67_model.specs.declared.operators.Op.{Op}
 use Rattle.b67_model.specs.declared.operators.Undecodable.TheVariants.{BadPlace, NotAdmitted, PastEnd}
 use Rattle.b67_lemmas.specs.Lists.{Has}
 use Rattle.b67_model.specs.State.{Segment}
-use Rattle.b67_model.specs.Operators.{Form, Alone, OneMore, TwoMore, Literal, Reading, place_at, ends_at, reads, operator_at, form_of, syllable, count_at}
+use Rattle.b67_model.specs.Operators.{Reading, operator_at, form_of, syllable, count_at}
 use Rattle.b67_model.specs.Program.{Program}
 use Rattle.b67_model.specs.Loader.{At, Listed, origin, listing, entries_from, refused, broken_at, broken_in, refusals_of, refusals_from, IsAdmitted}
+use Rattle.b67_law_order_steps.proofs.Admitted.{reads_good}
 
 -- where there is no refusal no test holds
 none_holds : (number : ℕ) (place : Place) (tests : List (ℕ × Bool)) → refused number place tests ≡ [] → AllByRecursion (λ (t : ℕ × Bool). t.1 ≡ false) tests
@@ -22,25 +23,11 @@ nil_left : {A : Type 0} (xs ys : List A) → xs ++ ys ≡ [] → xs ≡ []
 nil_left [] ys e = refl
 nil_left (x ∷ xs) ys e = absurd cc
 
-ends_well : (code : List ℕ) (end : ℕ) (op : Op) → ends_at code end op ≢ Err BadPlace
-ends_well code end op e =
-    elim (cases_Bool (leb end (6 * length code))) [
-      | inl t ↦ let f : ◌≡◌ {A = Reading} (Ok (op, place_at end)) (Err BadPlace) = rw t at e in absurd cc
-      | inr t ↦ let f : ◌≡◌ {A = Reading} (Err PastEnd) (Err BadPlace) = rw t at e in absurd cc
-    ]
-
-reads_well : (code : List ℕ) (n : ℕ) (form : Option Form) → reads code n form ≢ Err BadPlace
-reads_well code n None e = cc
-reads_well code n (Some (Alone op)) e = ends_well code _ _ e
-reads_well code n (Some (OneMore op)) e = ends_well code _ _ e
-reads_well code n (Some (TwoMore op)) e = ends_well code _ _ e
-reads_well code n (Some (Literal op)) e = ends_well code _ _ e
-
 -- inside a segment reading never comes to a bad place
 origin_well : (code : List ℕ) → 0 < length code → operator_at code origin ≢ Err BadPlace
 origin_well code some e =
     elim (cases_Bool (ltb 0 (length code))) [
-      | inl t ↦ reads_well code (count_at origin) (form_of (syllable code (count_at origin))) (rw t at e)
+      | inl t ↦ reads_good code (count_at origin) (form_of (syllable code (count_at origin))) (rw t at e)
       | inr t ↦ absurd (omega (arith, some, ltb-false 0 (length code) t))
     ]
 

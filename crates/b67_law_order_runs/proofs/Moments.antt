@@ -6,16 +6,16 @@ use Rattle.b67_word.specs.declared.faults.Ending.{Ending}
 use Rattle.b67_word.specs.declared.faults.Ending.TheVariants.{Ended, Deadlock, Limit, Faulted}
 use Rattle.b67_model.specs.Answers.{Answer}
 use Rattle.b67_model.specs.Keyed.{keyed}
-use Rattle.b67_model.specs.State.{Ready, Task, Setting, Job, Course, with_task}
+use Rattle.b67_model.specs.State.{Ready, Task, JobConstants, Job, JobProgress, with_task}
 use Rattle.b67_model.specs.Steps.{Done, Goes, Leaves, Waits}
 use Rattle.b67_model.specs.Rows.{step}
 use Rattle.b67_model.specs.Endings.{Settled, among, released, is_ready, ends_all, ends_task, ends_each_if, unsettled, settles, stepped}
 use Rattle.b67_model.specs.Alone.{JobMoment, whole, by_task, step_of}
 use Rattle.b67_model.specs.InOrder.{Starts, TasksInOrder, JobInOrder}
-use Rattle.b67_law_order.proofs.Members.{length_change, length_filter}
 use Rattle.b67_law_order.specs.Ends.{StepsFrom}
 use Rattle.b67_law_order_rows.specs.Keeping.{KeepsOrder}
 use Rattle.b67_law_order_steps.specs.Laws.{KeptBySteps}
+use Rattle.b67_lemmas.proofs.Members.{length_change, length_filter}
 
 ends_fewer : (s : Settled) (endings : List (ℕ × Ending)) → length (ends_all s endings).job.tasks ≤ length s.job.tasks
 ends_fewer s endings =
@@ -36,46 +36,46 @@ settles_fewer job task (Ok (Waits condition)) = each_fewer _ Deadlock (unsettled
 settles_fewer job task (Ok Leaves) = omega (arith, each_fewer (list_all (λ (t : Task). not (is_ready t)) (ends_task job task.number Ended).job.tasks) Deadlock (ends_task job task.number Ended), task_fewer job task.number Ended)
 settles_fewer job task (Err fault) = omega (arith, each_fewer (list_all (λ (t : Task). not (is_ready t)) (ends_task job task.number (Faulted fault)).job.tasks) Deadlock (ends_task job task.number (Faulted fault)), task_fewer job task.number (Faulted fault))
 
-settles_few : (P : Starts) (setting : Setting) (job : Job) (task : Task) (a : Answer Done) → TasksInOrder P setting job → KeepsOrder P setting job task a → (settles job task a).alive ≤ 15
-settles_few P setting job task (Ok (Goes after printed touched)) old new = new.few
-settles_few P setting job task (Ok (Waits condition)) old new =
+settles_few : (P : Starts) (constants : JobConstants) (job : Job) (task : Task) (a : Answer Done) → TasksInOrder P constants job → KeepsOrder P constants job task a → (settles job task a).alive ≤ 15
+settles_few P constants job task (Ok (Goes after printed touched)) old new = new.few
+settles_few P constants job task (Ok (Waits condition)) old new =
     omega (arith, old.few, length_change (λ (t : Task). t.number) task.number (record task { condition = condition }) job.tasks)
-settles_few P setting job task (Ok Leaves) old new = old.few
-settles_few P setting job task (Err fault) old new = old.few
+settles_few P constants job task (Ok Leaves) old new = old.few
+settles_few P constants job task (Err fault) old new = old.few
 
-stepped_fewer : (setting : Setting) (job : Job) (task : Task) → length (stepped setting job task).settled.job.tasks ≤ (stepped setting job task).alive
+stepped_fewer : (constants : JobConstants) (job : Job) (task : Task) → length (stepped constants job task).settled.job.tasks ≤ (stepped constants job task).alive
 unfolding stepped
-stepped_fewer setting job task = settles_fewer job task (step setting job task)
+stepped_fewer constants job task = settles_fewer job task (step constants job task)
 
-stepped_few : (P : Starts) (setting : Setting) (job : Job) (task : Task) → TasksInOrder P setting job → KeepsOrder P setting job task (step setting job task) → (stepped setting job task).alive ≤ 15
+stepped_few : (P : Starts) (constants : JobConstants) (job : Job) (task : Task) → TasksInOrder P constants job → KeepsOrder P constants job task (step constants job task) → (stepped constants job task).alive ≤ 15
 unfolding stepped
-stepped_few P setting job task old new = settles_few P setting job task (step setting job task) old new
+stepped_few P constants job task old new = settles_few P constants job task (step constants job task) old new
 
-pub record Made (P : Starts) (setting : Setting) (c : Course) (made : JobMoment) : Type 0 where
-  pub order : JobInOrder P setting made.course
-  pub counted : made.course.made ≡ c.made + 1
+pub record Made (P : Starts) (constants : JobConstants) (c : JobProgress) (made : JobMoment) : Type 0 where
+  pub order : JobInOrder P constants made.progress
+  pub counted : made.progress.made ≡ c.made + 1
   pub few : made.alive ≤ 15
-  pub fewer : length made.course.job.tasks ≤ made.alive
+  pub fewer : length made.progress.job.tasks ≤ made.alive
 
 -- what is known of the steps of a job's tasks
-pub record Keeping (P : Setting → Starts) (setting : Setting) (c : Course) : Type 0 where
-  pub rows : (task : Task) → StepsFrom (P setting) setting c.job task → KeepsOrder (P setting) setting c.job task (step setting c.job task)
-  pub steps : (task : Task) → KeptBySteps P setting c task
+pub record Keeping (P : JobConstants → Starts) (constants : JobConstants) (c : JobProgress) : Type 0 where
+  pub rows : (task : Task) → StepsFrom (P constants) constants c.job task → KeepsOrder (P constants) constants c.job task (step constants c.job task)
+  pub steps : (task : Task) → KeptBySteps P constants c task
 
-pub whole_made : (P : Setting → Starts) (setting : Setting) (c : Course) (task : Task) → Keeping P setting c → JobInOrder (P setting) setting c →
-    keyed (λ t. t.number) task.number c.job.tasks ≡ Some task → task.condition ≡ Ready → Made (P setting) setting c (whole setting c task)
-whole_made P setting c task keeps j live ready =
-    let from : StepsFrom (P setting) setting c.job task = record { unchanging = j.unchanging; order = j.tasks; live = live; ready = ready; few = omega (arith, j.counts.next, j.counts.within, j.unchanging.limit) } in
+pub whole_made : (P : JobConstants → Starts) (constants : JobConstants) (c : JobProgress) (task : Task) → Keeping P constants c → JobInOrder (P constants) constants c →
+    keyed (λ t. t.number) task.number c.job.tasks ≡ Some task → task.condition ≡ Ready → Made (P constants) constants c (whole constants c task)
+whole_made P constants c task keeps j live ready =
+    let from : StepsFrom (P constants) constants c.job task = record { unchanging = j.unchanging; order = j.tasks; live = live; ready = ready; few = omega (arith, j.counts.next, j.counts.within, j.unchanging.limit) } in
     record {
       order = keeps.steps task j live ready;
       counted = refl;
-      few = stepped_few (P setting) setting c.job task j.tasks (keeps.rows task from);
-      fewer = omega (arith, stepped_fewer setting c.job task, each_fewer (eqb (c.made + 1) setting.limit) Limit (stepped setting c.job task).settled);
+      few = stepped_few (P constants) constants c.job task j.tasks (keeps.rows task from);
+      fewer = omega (arith, stepped_fewer constants c.job task, each_fewer (eqb (c.made + 1) constants.limit) Limit (stepped constants c.job task).settled);
     }
 
-pub step_made : (P : Setting → Starts) (setting : Setting) (c : Course) (number : ℕ) (task : Task) → Keeping P setting c → JobInOrder (P setting) setting c →
-    keyed (λ t. t.number) number c.job.tasks ≡ Some task → task.number ≡ number → task.condition ≡ Ready → Made (P setting) setting c (step_of setting c number)
+pub step_made : (P : JobConstants → Starts) (constants : JobConstants) (c : JobProgress) (number : ℕ) (task : Task) → Keeping P constants c → JobInOrder (P constants) constants c →
+    keyed (λ t. t.number) number c.job.tasks ≡ Some task → task.number ≡ number → task.condition ≡ Ready → Made (P constants) constants c (step_of constants c number)
 unfolding step_of
-step_made P setting c number task keeps j found named ready =
+step_made P constants c number task keeps j found named ready =
     let live : keyed (λ t. t.number) task.number c.job.tasks ≡ Some task = subst (λ n. keyed (λ t. t.number) n c.job.tasks ≡ Some task) (sym named) found in
-    subst (λ o. Made (P setting) setting c (by_task setting c o)) (sym found) (whole_made P setting c task keeps j live ready)
+    subst (λ o. Made (P constants) constants c (by_task constants c o)) (sym found) (whole_made P constants c task keeps j live ready)

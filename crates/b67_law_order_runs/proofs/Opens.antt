@@ -3,7 +3,7 @@ use Rattle.std.proofs.Common.{◌≡◌, ℕ, ◌+◌, ◌^◌, ◌<◌, ◌≤�
 use Rattle.std.specs.List.{AllByRecursion, sum_by}
 use Rattle.std.proofs.lemmas.List.Sums.{sum_by-cons}
 use Rattle.std.proofs.lemmas.Bool.{cases_Bool}
-use Rattle.b67_model.specs.State.{Entered, Array, Task, Ready, Segment, Member}
+use Rattle.b67_model.specs.State.{Entered, Array, Task, Ready, Segment, SessionJob}
 use Rattle.b67_model.specs.Program.{opened}
 use Rattle.b67_model.specs.Loader.{IsAdmitted, origin}
 use Rattle.b67_model.specs.InOrder.{SegmentInOrder, SettingInOrder, IsStart, TaskInOrder, TasksInOrder, CountsInOrder, JobInOrder, NumberedFrom, originals_of, frames_in_job}
@@ -23,7 +23,7 @@ first_task = record {
 }
 
 -- an opening of a job whose program has a first segment
-setting_good : (number stack : ℕ) (o : Opening) → 64 ≤ stack → stack < 2 ^ 14 → OpeningWithin o → SettingInOrder (opened number o.program stack o.limit o.numbers).setting
+setting_good : (number stack : ℕ) (o : Opening) → 64 ≤ stack → stack < 2 ^ 14 → OpeningWithin o → SettingInOrder (opened number o.program stack o.limit o.numbers).constants
 setting_good number stack o low high within = record {
   limit = within.limit_high;
   stack_low = low;
@@ -36,13 +36,13 @@ setting_good number stack o low high within = record {
 }
 
 -- the first operator of an admitted program
-starts : (number stack : ℕ) (o : Opening) → OpeningWithin o → IsStart (opened number o.program stack o.limit o.numbers).setting 1 2 origin
+starts : (number stack : ℕ) (o : Opening) → OpeningWithin o → IsStart (opened number o.program stack o.limit o.numbers).constants 1 2 origin
 starts number stack o within = by_segments o.program.segments refl
   where
     rows : List (List ℕ)
     rows = o.program.rows
 
-    by_segments : (segments : List Segment) → o.program.segments ≡ segments → IsStart (opened number o.program stack o.limit o.numbers).setting 1 2 origin
+    by_segments : (segments : List Segment) → o.program.segments ≡ segments → IsStart (opened number o.program stack o.limit o.numbers).constants 1 2 origin
     by_segments [] is =
         let none : IsAdmitted (record { segments = []; rows = rows }) = subst (λ segs. IsAdmitted (record { segments = segs; rows = rows })) is within.admitted in absurd cc
     by_segments (s ∷ more) is =
@@ -52,7 +52,7 @@ starts number stack o within = by_segments o.program.segments refl
         record { from_one = lit< tt; code = s; found = rw is refl; of_level = first.level; op = first.op; stands = first.stands }
 
 task_good : (number stack : ℕ) (o : Opening) → 64 ≤ stack → OpeningWithin o →
-    let m = opened number o.program stack o.limit o.numbers in TaskInOrder (IsStart m.setting) m.setting m.course.job first_task
+    let m = opened number o.program stack o.limit o.numbers in TaskInOrder (IsStart m.constants) m.constants m.progress.job first_task
 task_good number stack o low within = record {
   frames = ((tt, tt), record { low = lit≤ tt; high = lit≤ tt; standing = Entered 1 0 None; among = inl refl; entered = tt; level_below = refl }, tt);
   returns = (refl, tt);
@@ -72,14 +72,14 @@ one_frame identity =
     ]
 
 once_good : (number stack : ℕ) (o : Opening) → let m = opened number o.program stack o.limit o.numbers in
-    AllByRecursion (λ (a : Array). originals_of a.identity m.setting m.course.job ≡ 1) m.course.job.arrays
+    AllByRecursion (λ (a : Array). originals_of a.identity m.constants m.progress.job ≡ 1) m.progress.job.arrays
 once_good number stack o =
     let m = opened number o.program stack o.limit o.numbers in
-    each_once (λ (a : Array). originals_of a.identity m.setting m.course.job ≡ 1) o.program.rows
+    each_once (λ (a : Array). originals_of a.identity m.constants m.progress.job ≡ 1) o.program.rows
     (λ a low high. omega (arith, one_original a.identity o.program.segments o.program.rows low high))
 
 tasks_good : (number stack : ℕ) (o : Opening) → 64 ≤ stack → OpeningWithin o →
-    let m = opened number o.program stack o.limit o.numbers in TasksInOrder (IsStart m.setting) m.setting m.course.job
+    let m = opened number o.program stack o.limit o.numbers in TasksInOrder (IsStart m.constants) m.constants m.progress.job
 tasks_good number stack o low within = record {
   tasks = (task_good number stack o low within, tt);
   apart = λ identity. one_frame identity;
@@ -92,7 +92,7 @@ tasks_good number stack o low within = record {
   reads = within.numbers;
 }
 
-counts_good : (number stack : ℕ) (o : Opening) → OpeningWithin o → let m = opened number o.program stack o.limit o.numbers in CountsInOrder m.setting m.course
+counts_good : (number stack : ℕ) (o : Opening) → OpeningWithin o → let m = opened number o.program stack o.limit o.numbers in CountsInOrder m.constants m.progress
 counts_good number stack o within = record {
   next = lit≤ tt;
   within = omega arith;
@@ -100,7 +100,7 @@ counts_good number stack o within = record {
 }
 
 job_good : (number stack : ℕ) (o : Opening) → 64 ≤ stack → stack < 2 ^ 14 → OpeningWithin o →
-    let m = opened number o.program stack o.limit o.numbers in JobInOrder (IsStart m.setting) m.setting m.course
+    let m = opened number o.program stack o.limit o.numbers in JobInOrder (IsStart m.constants) m.constants m.progress
 job_good number stack o low high within = record {
   unchanging = setting_good number stack o low high within;
   tasks = tasks_good number stack o low within;
@@ -109,7 +109,7 @@ job_good number stack o low high within = record {
 }
 
 jobs_good : (number stack : ℕ) (openings : List Opening) → 64 ≤ stack → stack < 2 ^ 14 → AllByRecursion OpeningWithin openings →
-    AllByRecursion (λ (m : Member). JobInOrder (IsStart m.setting) m.setting m.course) (opened_from number stack openings)
+    AllByRecursion (λ (m : SessionJob). JobInOrder (IsStart m.constants) m.constants m.progress) (opened_from number stack openings)
 jobs_good number stack [] low high each = tt
 jobs_good number stack (o ∷ more) low high each = (job_good number stack o low high each.0, jobs_good (number + 1) stack more low high each.1)
 
@@ -117,21 +117,21 @@ numbered : (number stack : ℕ) (openings : List Opening) → NumberedFrom numbe
 numbered number stack [] = tt
 numbered number stack (o ∷ more) = (refl, numbered (number + 1) stack more)
 
-of_one_size : (number stack : ℕ) (openings : List Opening) → AllByRecursion (λ (m : Member). m.setting.stack_size ≡ stack) (opened_from number stack openings)
+of_one_size : (number stack : ℕ) (openings : List Opening) → AllByRecursion (λ (m : SessionJob). m.constants.stack_size ≡ stack) (opened_from number stack openings)
 of_one_size number stack [] = tt
 of_one_size number stack (o ∷ more) = (refl, of_one_size (number + 1) stack more)
 
-jobs_count : (number stack : ℕ) (openings : List Opening) → length (opened_from number stack openings) ≡ length openings
+pub jobs_count : (number stack : ℕ) (openings : List Opening) → length (opened_from number stack openings) ≡ length openings
 jobs_count number stack [] = refl
 jobs_count number stack (o ∷ more) = omega (arith, jobs_count (number + 1) stack more)
 
-tasks_count : (number stack : ℕ) (openings : List Opening) → sum_by (λ (m : Member). length m.course.job.tasks) (opened_from number stack openings) ≡ length openings
+tasks_count : (number stack : ℕ) (openings : List Opening) → sum_by (λ (m : SessionJob). length m.progress.job.tasks) (opened_from number stack openings) ≡ length openings
 tasks_count number stack [] = refl
 tasks_count number stack (o ∷ more) =
-    let split = sum_by-cons (λ (m : Member). length m.course.job.tasks) (opened number o.program stack o.limit o.numbers) (opened_from (number + 1) stack more) in
+    let split = sum_by-cons (λ (m : SessionJob). length m.progress.job.tasks) (opened number o.program stack o.limit o.numbers) (opened_from (number + 1) stack more) in
     omega (arith, split, tasks_count (number + 1) stack more)
 
-made_none : (number stack : ℕ) (openings : List Opening) → sum_by (λ (m : Member). m.course.made) (opened_from number stack openings) ≡ 0
+made_none : (number stack : ℕ) (openings : List Opening) → sum_by (λ (m : SessionJob). m.progress.made) (opened_from number stack openings) ≡ 0
 made_none number stack [] = refl
 made_none number stack (o ∷ more) = omega (arith, made_none (number + 1) stack more)
 

@@ -4,12 +4,13 @@ use Rattle.std.specs.List.{AllByRecursion}
 use Rattle.std.proofs.lemmas.List.{reverse-reverse, length-reverse}
 use Rattle.std.proofs.lemmas.Bool.Decides.{eqb_tells}
 use Rattle.b67_lemmas.specs.Lists.{Has, how_many, Falls}
+use Rattle.b67_lemmas.proofs.Members.{falls_more, has_reverse, total_append, total_reverse}
+use Rattle.b67_lemmas.proofs.Joins.{all_append, all_by, all_reverse, falls_turned}
 use Rattle.b67_model.specs.Words.{Word}
 use Rattle.b67_model.specs.State.{Array, Segment}
 use Rattle.b67_model.specs.Program.{segment_words, originals, row_arrays}
 use Rattle.b67_model.specs.InOrder.{EntryInOrder, ArrayInOrder, DictionaryWords, rows_after, is_original_of}
 use Rattle.b67_law_order_runs.specs.Opening.{RowWithin}
-use Rattle.b67_law_order_runs.proofs.Turned.{all_append, all_reverse, all_by, has_reverse, total_append, total_reverse, falls_upto, falls_turned}
 
 -- the dictionary's words
 rows_follow : (n : ℕ) (rows : List (List ℕ)) → rows_after n (originals n rows)
@@ -58,12 +59,12 @@ falls_from : (n : ℕ) (rows : List (List ℕ)) → Falls (n + length rows) (map
 falls_from n [] = tt
 falls_from n (r ∷ more) =
     falls_turned (λ (a : Array). a.identity) (n + length (r ∷ more)) (record { identity = n; owner = 1; writable = false; numbers = r }) (row_arrays (n + 1) more) (omega arith)
-    (falls_upto (n + 1 + length more) (n + length (r ∷ more)) _ (omega arith) (falls_from (n + 1) more))
+    (falls_more (n + 1 + length more) (n + length (r ∷ more)) _ (omega arith) (falls_from (n + 1) more))
     (all_by (Between (n + 1) (n + 1 + length more)) (λ a. n < a.identity) (λ a h. omega (arith, h.0)) (row_arrays (n + 1) more)
     (rows_between (n + 1) (n + 1 + length more) (n + 1) more (omega arith) (omega arith)))
 
 pub names_fall : (rows : List (List ℕ)) → Falls (length rows + 1) (map (λ a. a.identity) (reverse (row_arrays 1 rows)))
-names_fall rows = falls_upto (1 + length rows) (length rows + 1) _ (omega arith) (falls_from 1 rows)
+names_fall rows = falls_more (1 + length rows) (length rows + 1) _ (omega arith) (falls_from 1 rows)
 
 -- the originals of the rows
 none_of : (i n : ℕ) (segments : List Segment) → how_many (is_original_of i) (segment_words n segments) ≡ 0

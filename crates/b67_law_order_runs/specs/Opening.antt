@@ -1,7 +1,7 @@
 -- The opening of a session, within the limits of a deck.
 use Rattle.std.specs.Prelude.{ℕ, ◌+◌, ◌^◌, ◌<◌, ◌≤◌, ℤ, nat_abs, List, [], ◌∷◌, length}
 use Rattle.std.specs.List.{AllByRecursion}
-use Rattle.b67_model.specs.State.{Member}
+use Rattle.b67_model.specs.State.{SessionJob}
 use Rattle.b67_model.specs.Program.{Program, opened}
 use Rattle.b67_model.specs.Loader.{IsAdmitted}
 use Rattle.b67_model.specs.Schedule.{Switch, Session}
@@ -31,7 +31,7 @@ pub record OpeningWithin (o : Opening) : Type 0 where
   pub numbers : AllByRecursion (λ (v : ℤ). nat_abs v < 2 ^ 39) o.numbers
 
 -- the jobs of a session from a number on
-abbrev pub opened_from : ℕ → ℕ → List Opening → List Member
+abbrev pub opened_from : ℕ → ℕ → List Opening → List SessionJob
 opened_from number stack [] = []
 opened_from number stack (o ∷ more) = opened number o.program stack o.limit o.numbers ∷ opened_from (number + 1) stack more
 

@@ -8,11 +8,11 @@ use Rattle.b67_model.specs.declared.operators.Op.{Op}
 use Rattle.b67_model.specs.declared.operators.Op.TheVariants.{Plain}
 use Rattle.b67_model.specs.declared.operators.Undecodable.TheVariants.{BadPlace, NotAdmitted, PastEnd}
 use Rattle.b67_lemmas.specs.Lists.{Has}
+use Rattle.b67_lemmas.proofs.Members.{has_append_left}
 use Rattle.b67_model.specs.State.{Segment}
 use Rattle.b67_model.specs.Operators.{Form, Alone, OneMore, TwoMore, Literal, form_of, syllable, Reading, ends_at, reads, operator_at}
 use Rattle.b67_model.specs.Program.{Program}
 use Rattle.b67_model.specs.Loader.{Entry, At, Break, entries_from, origin, listing, place_of_entry, same_place, is_start, Listed, is_last, broken_at, broken_in, Refusal, refused, refusals_of, refusals_from, IsAdmitted}
-use Rattle.b67_law_order.proofs.Members.{has_append_left}
 
 -- nothing is refused of two lists where nothing is of their whole
 none_left : {A : Type 0} (xs ys : List A) → (xs ++ ys) ≡ [] → xs ≡ []
@@ -163,10 +163,10 @@ start_stands code place (x ∷ entries) among e = elim (cases_Bool (same_place (
     at (Break q BadPlace) h is = absurd (no_bad (6 * length code) code origin (operator_at code origin) q h)
 
 -- a segment with words begins with something
-ends_good : (code : List ℕ) (end : ℕ) (op : Op) → ends_at code end op ≢ Err BadPlace
+pub ends_good : (code : List ℕ) (end : ℕ) (op : Op) → ends_at code end op ≢ Err BadPlace
 ends_good code end op = elim (cases_Bool (leb end (6 * length code))) [ inl t ↦ rw t (λ e. cc) | inr t ↦ rw t (λ e. cc) ]
 
-reads_good : (code : List ℕ) (n : ℕ) (form : Option Form) → reads code n form ≢ Err BadPlace
+pub reads_good : (code : List ℕ) (n : ℕ) (form : Option Form) → reads code n form ≢ Err BadPlace
 reads_good code n None = λ e. cc
 reads_good code n (Some (Alone op)) = ends_good code (n + 1) (Plain op)
 reads_good code n (Some (OneMore op)) = ends_good code (n + 2) (op (syllable code (n + 1)))

@@ -2,16 +2,16 @@
 use Rattle.std.proofs.Common.{◌≡◌, ◌≢◌, ℕ, zero, suc, ◌+◌, ◌<◌, ◌≤◌, Bool, true, false, not, cond, eqb, List, [], ◌∷◌, ◌++◌, map, filter, reverse, length, Some, refl, sym, ap, ◌∙◌, subst, inl, inr, ◌⊎◌, arith}
 use Rattle.std.specs.List.{list_any}
 use Rattle.std.proofs.lemmas.Bool.Decides.{eqb_tells}
-use Rattle.std.proofs.lemmas.Bool.{cases_Bool, true≢false}
+use Rattle.std.proofs.lemmas.Bool.{cases_Bool, true≢false, not-true, not_from_false}
 use Rattle.std.proofs.lemmas.List.{length-map, map-append}
 use Rattle.b67_model.specs.Keyed.{keyed}
 use Rattle.b67_lemmas.specs.Lists.{Has, total, Falls}
-use Rattle.b67_model.specs.State.{Frame, Array, Condition, Ready, Awaits, WaitsAt, Task, Setting, Job}
+use Rattle.b67_lemmas.proofs.Members.{all_from, all_in, any_has, any_none, any_some, falls_filter, falls_short, has_append_cases, has_append_left, has_append_right, has_filter, has_filter_in, has_map, has_map_back, has_reverse, has_reverse_back, keyed_falls, keyed_filter, keyed_has, length_filter, none_pass, total_has, total_split, total_zero}
+use Rattle.b67_model.specs.State.{Frame, Array, Condition, Ready, Awaits, WaitsAt, Task, JobConstants, Job}
 use Rattle.b67_word.specs.declared.faults.Ending.{Ending}
 use Rattle.b67_word.specs.declared.faults.Ending.TheVariants.{Parent}
 use Rattle.b67_model.specs.Endings.{among, is_owned_by, released, at_depth, deepest_below, deepest_first, descendants, all_with, Settled, ends_all, ends_task, unsettled}
 use Rattle.b67_model.specs.InOrder.{Starts, Known, known_of, from_frame, outer_of, known_numbers, WordInOrder, FramesInOrder, BirthInOrder, ParentInOrder, TaskInOrder, ArrayInOrder, EntryInOrder, is_original_of, originals_in, originals_of, frames_named, frames_in_job, TasksInOrder}
-use Rattle.b67_law_order.proofs.Members.{has_map, has_filter, has_filter_in, all_in, all_from, any_none, any_some, any_has, keyed_has, keyed_filter, falls_filter, none_pass, total_has, total_split, total_zero, length_filter, falls_short, keyed_falls, has_append_left, has_append_right, has_append_cases, has_map_back, has_reverse, has_reverse_back}
 use Rattle.b67_law_order.proofs.Reaches.{alike_same, Stays, Follows}
 use Rattle.b67_law_order.proofs.Replaced.{task_kept, entry_kept, IsLive, reach_live, has_counts}
 use Rattle.b67_law_order.proofs.Looks.{above_one}
@@ -38,20 +38,12 @@ without numbers job = record job {
   arrays = filter (λ a. not (is_owned_by (gone_of numbers job) a)) job.arrays;
 }
 
-not_true_is : (b : Bool) → not b ≡ true → b ≡ false
-not_true_is true e = absurd (true≢false (sym e))
-not_true_is false e = refl
-
-not_false_is : (b : Bool) → b ≡ false → not b ≡ true
-not_false_is true e = absurd (true≢false e)
-not_false_is false e = refl
-
-module _ (P : Starts) (setting : Setting) (job : Job) (numbers : List ℕ) (g : TasksInOrder P setting job) (closed : IsClosed job numbers) where
+module _ (P : Starts) (constants : JobConstants) (job : Job) (numbers : List ℕ) (g : TasksInOrder P constants job) (closed : IsClosed job numbers) where
   abbrev job' : Job
   job' = without numbers job
 
-  order : (t : Task) → Has job.tasks t → TaskInOrder P setting job t
-  order t h = all_in (TaskInOrder P setting job) job.tasks t g.tasks h
+  order : (t : Task) → Has job.tasks t → TaskInOrder P constants job t
+  order t h = all_in (TaskInOrder P constants job) job.tasks t g.tasks h
 
   abbrev Lives : ℕ → Type 0
   Lives n = among numbers n ≡ false
@@ -59,7 +51,7 @@ module _ (P : Starts) (setting : Setting) (job : Job) (numbers : List ℕ) (g : 
   follows : Follows job job' Lives
   follows n q lives e =
       let number = (keyed_has (λ t. t.number) n job.tasks q e).1 in
-      let test : stays numbers q ≡ true = not_false_is (among numbers q.number) (subst (λ m. among numbers m ≡ false) (sym number) lives) in
+      let test : stays numbers q ≡ true = not_from_false (among numbers q.number) (subst (λ m. among numbers m ≡ false) (sym number) lives) in
       record {
         item = q;
         found = keyed_filter (λ (t : Task). t.number) n (stays numbers) job.tasks q e test (λ y k. let same : y.number ≡ q.number = k ∙ sym number in ap (λ m. not (among numbers m)) same);
@@ -83,7 +75,7 @@ module _ (P : Starts) (setting : Setting) (job : Job) (numbers : List ℕ) (g : 
       let live = (has_filter (goes numbers) job.tasks t.0 t.1).0 in
       elim (eqb_tells f.0.identity a.owner) [
         | inl s ↦
-            let high = above_one P setting job g t.0 live f.0 f.1 in
+            let high = above_one P constants job g t.0 live f.0 f.1 in
             let one : 1 ≤ frames_named a.owner t.0.frames = has_counts a.owner t.0.frames (subst (λ n. Has (known_numbers (map known_of t.0.frames)) n) s.1 (has_map (λ (k : Known). k.0) (map known_of t.0.frames) (known_of f.0) (has_map known_of t.0.frames f.0 f.1))) in
             let two = total_has (λ (u : Task). frames_named a.owner u.frames) (filter (λ u. not (stays numbers u)) job.tasks) t.0 (gone_has t.0 t.1) in
             (omega (arith, high, s.1), omega (arith, one, two, split a.owner, g.apart a.owner))
@@ -91,7 +83,7 @@ module _ (P : Starts) (setting : Setting) (job : Job) (numbers : List ℕ) (g : 
       ]
 
   in_arrays : (a : Array) → Has job.arrays a → is_owned_by (gone_of numbers job) a ≡ false → Stays job'.arrays a
-  in_arrays a k e = record { item = a; live = has_filter_in (λ (x : Array). not (is_owned_by (gone_of numbers job) x)) job.arrays a k (not_false_is (is_owned_by (gone_of numbers job) a) e); named = refl; owned = refl }
+  in_arrays a k e = record { item = a; live = has_filter_in (λ (x : Array). not (is_owned_by (gone_of numbers job) x)) job.arrays a k (not_from_false (is_owned_by (gone_of numbers job) a) e); named = refl; owned = refl }
 
   array_stays : (a : Array) → Has job.arrays a → IsLive job' a.owner → Stays job'.arrays a
   array_stays a k live = elim (cases_Bool (is_owned_by (gone_of numbers job) a)) [
@@ -99,11 +91,11 @@ module _ (P : Starts) (setting : Setting) (job : Job) (numbers : List ℕ) (g : 
     | inr t ↦ in_arrays a k t
   ]
 
-  task_stays : (t : Task) → Has job'.tasks t → TaskInOrder P setting job' t
+  task_stays : (t : Task) → Has job'.tasks t → TaskInOrder P constants job' t
   task_stays t h =
       let r = has_filter (stays numbers) job.tasks t h in
-      let lives : among numbers t.number ≡ false = not_true_is (among numbers t.number) r.1 in
-      task_kept P setting job job' Lives follows (λ u k. (order u k).birth) (omega arith) t r.0
+      let lives : among numbers t.number ≡ false = not-true (among numbers t.number) r.1 in
+      task_kept P constants job job' Lives follows (λ u k. (order u k).birth) (omega arith) t r.0
       (λ n k. elim (cases_Bool (among numbers n)) [ inl y ↦ absurd (true≢false (sym (closed t r.0 n k y) ∙ lives)) | inr z ↦ z ])
       (λ a k at. array_stays a k (reach_live job' t a.owner h at)) (order t r.0)
 
@@ -124,29 +116,29 @@ module _ (P : Starts) (setting : Setting) (job : Job) (numbers : List ℕ) (g : 
           let rest = frames_none outer fs o.2 (λ x k. other x (inr k)) in
           omega (arith, here, rest)
 
-  rest_once : (a : Array) → Has job'.arrays a → originals_of a.identity setting job' ≡ 1
+  rest_once : (a : Array) → Has job'.arrays a → originals_of a.identity constants job' ≡ 1
   rest_once a h =
       let r = has_filter (λ (x : Array). not (is_owned_by (gone_of numbers job) x)) job.arrays a h in
-      let free = not_true_is (is_owned_by (gone_of numbers job) a) r.1 in
+      let free = not-true (is_owned_by (gone_of numbers job) a) r.1 in
       let parts = total_split (λ (t : Task). originals_in a.identity t.frames) (stays numbers) job.tasks in
       let none : total (λ (t : Task). originals_in a.identity t.frames) (filter (λ t. not (stays numbers t)) job.tasks) ≡ 0 =
       total_zero (λ (t : Task). originals_in a.identity t.frames) (filter (λ t. not (stays numbers t)) job.tasks) (λ t k.
       let q = has_filter (λ u. not (stays numbers u)) job.tasks t k in
       none_gone a r.0 free t (has_filter_in (goes numbers) job.tasks t q.0 (twice (among numbers t.number) q.1))) in
-      omega (arith, parts, none, all_in (λ (x : Array). originals_of x.identity setting job ≡ 1) job.arrays a g.once r.0)
+      omega (arith, parts, none, all_in (λ (x : Array). originals_of x.identity constants job ≡ 1) job.arrays a g.once r.0)
     where
       twice : (b : Bool) → not (not b) ≡ true → b ≡ true
       twice true e = refl
       twice false e = absurd (true≢false (sym e))
 
-  pub without_good : TasksInOrder P setting job'
+  pub without_good : TasksInOrder P constants job'
   without_good = record {
-    tasks = all_from (TaskInOrder P setting job') job'.tasks task_stays;
+    tasks = all_from (TaskInOrder P constants job') job'.tasks task_stays;
     apart = λ n. omega (arith, split n, g.apart n);
     arrays = all_from ArrayInOrder job'.arrays (λ a h. all_in ArrayInOrder job.arrays a g.arrays (has_filter (λ (x : Array). not (is_owned_by (gone_of numbers job) x)) job.arrays a h).0);
-    once = all_from (λ (a : Array). originals_of a.identity setting job' ≡ 1) job'.arrays rest_once;
-    entries = all_from (EntryInOrder job'.arrays) setting.dictionary.cells (λ w h. entry_kept job.arrays job'.arrays w (λ a live owned. array_stays a live (record { counted = inl (omega (arith, owned)) }))
-        (all_in (EntryInOrder job.arrays) setting.dictionary.cells w g.entries h));
+    once = all_from (λ (a : Array). originals_of a.identity constants job' ≡ 1) job'.arrays rest_once;
+    entries = all_from (EntryInOrder job'.arrays) constants.dictionary.cells (λ w h. entry_kept job.arrays job'.arrays w (λ a live owned. array_stays a live (record { counted = inl (omega (arith, owned)) }))
+        (all_in (EntryInOrder job.arrays) constants.dictionary.cells w g.entries h));
     numbers = falls_filter (λ (t : Task). t.number) (stays numbers) job.next_task job.tasks g.numbers;
     names = falls_filter (λ (a : Array). a.identity) (λ a. not (is_owned_by (gone_of numbers job) a)) job.next_array job.arrays g.names;
     few = omega (arith, length_filter (stays numbers) job.tasks, g.few);
@@ -162,43 +154,43 @@ released_same numbers (Awaits n) = by (among numbers n) where
   by false = inl refl
 
 -- the endings of these tasks keep the others in order
-pub ends_good : (P : Starts) (setting : Setting) (s : Settled) (endings : List (ℕ × Ending)) → TasksInOrder P setting s.job → IsClosed s.job (map (λ e. e.0) endings) → TasksInOrder P setting (ends_all s endings).job
-ends_good P setting s endings g closed =
+pub ends_good : (P : Starts) (constants : JobConstants) (s : Settled) (endings : List (ℕ × Ending)) → TasksInOrder P constants s.job → IsClosed s.job (map (λ e. e.0) endings) → TasksInOrder P constants (ends_all s endings).job
+ends_good P constants s endings g closed =
     let numbers = map (λ (e : ℕ × Ending). e.0) endings in
-    map_good P setting (without numbers s.job) (λ (t : Task). record t { condition = released numbers t.condition }) (λ t. refl)
+    map_good P constants (without numbers s.job) (λ (t : Task). record t { condition = released numbers t.condition }) (λ t. refl)
     (λ t h. record { number = refl; line = refl; critical = refl; segment = refl; place = refl; frames = frames_refl t.frames; condition = released_same numbers t.condition })
-    (without_good P setting s.job numbers g closed)
+    (without_good P constants s.job numbers g closed)
 
 -- whoever is above a task is live, and so is all of its line
-line_above : (P : Starts) (setting : Setting) (job : Job) → TasksInOrder P setting job → (t : Task) → Has job.tasks t → (parents : List ℕ) → t.parents ≡ parents → (n : ℕ) → Has parents n →
+line_above : (P : Starts) (constants : JobConstants) (job : Job) → TasksInOrder P constants job → (t : Task) → Has job.tasks t → (parents : List ℕ) → t.parents ≡ parents → (n : ℕ) → Has parents n →
     (q : Task) × (keyed (λ t. t.number) n job.tasks ≡ Some q) × ((m : ℕ) → Has q.parents m → Has parents m) × (n < t.number)
-line_above P setting job g t here [] line n h = absurd h
-line_above P setting job g t here (p ∷ more) line n h =
-    let birth : ParentInOrder job t p more = subst (BirthInOrder job t) line (all_in (TaskInOrder P setting job) job.tasks t g.tasks here).birth in
+line_above P constants job g t here [] line n h = absurd h
+line_above P constants job g t here (p ∷ more) line n h =
+    let birth : ParentInOrder job t p more = subst (BirthInOrder job t) line (all_in (TaskInOrder P constants job) job.tasks t g.tasks here).birth in
     let q = birth.parent in
     let there = (keyed_has (λ (u : Task). u.number) p job.tasks q birth.found) in
     elim h [
       | inl e ↦ (q, subst (λ m. keyed (λ (u : Task). u.number) m job.tasks ≡ Some q) e birth.found, λ m k. inr (subst (λ ps. Has ps m) birth.line k), omega (arith, birth.older, e))
-      | inr k ↦ let r = line_above P setting job g q there.0 more birth.line n k in (r.0, r.1, λ m j. inr (r.2 m j), omega (arith, r.3, there.1, birth.older))
+      | inr k ↦ let r = line_above P constants job g q there.0 more birth.line n k in (r.0, r.1, λ m j. inr (r.2 m j), omega (arith, r.3, there.1, birth.older))
     ]
 
-parents_fall : (P : Starts) (setting : Setting) (job : Job) → TasksInOrder P setting job → (t : Task) → Has job.tasks t → (parents : List ℕ) → t.parents ≡ parents → Falls t.number parents
-parents_fall P setting job g t here [] line = tt
-parents_fall P setting job g t here (p ∷ more) line =
-    let birth : ParentInOrder job t p more = subst (BirthInOrder job t) line (all_in (TaskInOrder P setting job) job.tasks t g.tasks here).birth in
+parents_fall : (P : Starts) (constants : JobConstants) (job : Job) → TasksInOrder P constants job → (t : Task) → Has job.tasks t → (parents : List ℕ) → t.parents ≡ parents → Falls t.number parents
+parents_fall P constants job g t here [] line = tt
+parents_fall P constants job g t here (p ∷ more) line =
+    let birth : ParentInOrder job t p more = subst (BirthInOrder job t) line (all_in (TaskInOrder P constants job) job.tasks t g.tasks here).birth in
     let q = birth.parent in
     let there = keyed_has (λ (u : Task). u.number) p job.tasks q birth.found in
-    (birth.older, subst (λ n. Falls n more) there.1 (parents_fall P setting job g q there.0 more birth.line))
+    (birth.older, subst (λ n. Falls n more) there.1 (parents_fall P constants job g q there.0 more birth.line))
 
 -- a line of parents is shorter than the list of tasks
-depth_low : (P : Starts) (setting : Setting) (job : Job) → TasksInOrder P setting job → (t : Task) → Has job.tasks t → length t.parents < 15
-depth_low P setting job g t here =
-    let falls = parents_fall P setting job g t here t.parents refl in
+depth_low : (P : Starts) (constants : JobConstants) (job : Job) → TasksInOrder P constants job → (t : Task) → Has job.tasks t → length t.parents < 15
+depth_low P constants job g t here =
+    let falls = parents_fall P constants job g t here t.parents refl in
     let short : length (t.number ∷ t.parents) ≤ length (map (λ (u : Task). u.number) job.tasks) =
     falls_short (t.number + 1) (t.number ∷ t.parents) job.next_task (map (λ (u : Task). u.number) job.tasks) (omega arith, falls) g.numbers
     (λ n h. elim h [
       | inl e ↦ subst (Has (map (λ (u : Task). u.number) job.tasks)) e (has_map (λ (u : Task). u.number) job.tasks t here)
-      | inr k ↦ let r = line_above P setting job g t here t.parents refl n k in let there = keyed_has (λ (u : Task). u.number) n job.tasks r.0 r.1 in
+      | inr k ↦ let r = line_above P constants job g t here t.parents refl n k in let there = keyed_has (λ (u : Task). u.number) n job.tasks r.0 r.1 in
           subst (Has (map (λ (u : Task). u.number) job.tasks)) there.1 (has_map (λ (u : Task). u.number) job.tasks r.0 there.0)
     ]) in
     omega (arith, short, length-map job.tasks (λ (u : Task). u.number), g.few)
@@ -234,13 +226,13 @@ with_numbers : (ending : Ending) (ns : List ℕ) → map (λ (e : ℕ × Ending)
 with_numbers ending [] = refl
 with_numbers ending (n ∷ ns) = ap (λ ms. n ∷ ms) (with_numbers ending ns)
 
-pub all_among : (P : Starts) (setting : Setting) (job : Job) (ending : Ending) → TasksInOrder P setting job → (t : Task) → Has job.tasks t → among (map (λ (e : ℕ × Ending). e.0) (all_with ending (deepest_first job.tasks))) t.number ≡ true
-all_among P setting job ending g t here = rw (with_numbers ending (deepest_first job.tasks)) (among_has (deepest_first job.tasks) t.number (deepest_has 15 job.tasks t here (depth_low P setting job g t here)))
+pub all_among : (P : Starts) (constants : JobConstants) (job : Job) (ending : Ending) → TasksInOrder P constants job → (t : Task) → Has job.tasks t → among (map (λ (e : ℕ × Ending). e.0) (all_with ending (deepest_first job.tasks))) t.number ≡ true
+all_among P constants job ending g t here = rw (with_numbers ending (deepest_first job.tasks)) (among_has (deepest_first job.tasks) t.number (deepest_has 15 job.tasks t here (depth_low P constants job g t here)))
 
-pub all_closed : (P : Starts) (setting : Setting) (job : Job) (ending : Ending) → TasksInOrder P setting job → IsClosed job (map (λ (e : ℕ × Ending). e.0) (all_with ending (deepest_first job.tasks)))
-all_closed P setting job ending g t here n h k = rw (with_numbers ending (deepest_first job.tasks)) (among_has (deepest_first job.tasks) t.number (deepest_has 15 job.tasks t here (depth_low P setting job g t here)))
+pub all_closed : (P : Starts) (constants : JobConstants) (job : Job) (ending : Ending) → TasksInOrder P constants job → IsClosed job (map (λ (e : ℕ × Ending). e.0) (all_with ending (deepest_first job.tasks)))
+all_closed P constants job ending g t here n h k = rw (with_numbers ending (deepest_first job.tasks)) (among_has (deepest_first job.tasks) t.number (deepest_has 15 job.tasks t here (depth_low P constants job g t here)))
 
-module _ (P : Starts) (setting : Setting) (job : Job) (number : ℕ) (ending : Ending) (g : TasksInOrder P setting job) where
+module _ (P : Starts) (constants : JobConstants) (job : Job) (number : ℕ) (ending : Ending) (g : TasksInOrder P constants job) where
   abbrev under : List ℕ
   under = deepest_first (descendants job number)
 
@@ -248,7 +240,7 @@ module _ (P : Starts) (setting : Setting) (job : Job) (number : ℕ) (ending : E
   numbers_are = map-append (λ (e : ℕ × Ending). e.0) (all_with Parent under) ((number, ending) ∷ []) ∙ ap (λ ns. ns ++ (number ∷ [])) (with_numbers Parent under)
 
   is_under : (t : Task) → Has job.tasks t → Has t.parents number → Has (under ++ (number ∷ [])) t.number
-  is_under t here h = has_append_left under (number ∷ []) t.number (deepest_has 15 (descendants job number) t (has_filter_in (λ (u : Task). among u.parents number) job.tasks t here (among_has t.parents number h)) (depth_low P setting job g t here))
+  is_under t here h = has_append_left under (number ∷ []) t.number (deepest_has 15 (descendants job number) t (has_filter_in (λ (u : Task). among u.parents number) job.tasks t here (among_has t.parents number h)) (depth_low P constants job g t here))
 
   closed : IsClosed job (map (λ (e : ℕ × Ending). e.0) (all_with Parent under ++ (number, ending) ∷ []))
   closed t here n h k =
@@ -257,7 +249,7 @@ module _ (P : Starts) (setting : Setting) (job : Job) (number : ℕ) (ending : E
         | inl a ↦
             let r = deepest_back 15 (descendants job number) n a in
             let d = has_filter (λ (u : Task). among u.parents number) job.tasks r.0 r.1 in
-            let above = line_above P setting job g t here t.parents refl n h in
+            let above = line_above P constants job g t here t.parents refl n h in
             let found : keyed (λ (u : Task). u.number) n job.tasks ≡ Some r.0 = subst (λ m. keyed (λ (u : Task). u.number) m job.tasks ≡ Some r.0) r.2 (keyed_falls (λ (u : Task). u.number) job.next_task job.tasks r.0 g.numbers d.0) in
             let both : Some above.0 ≡ Some r.0 = sym above.1 ∙ found in
             let same : above.0 ≡ r.0 = cc in
@@ -267,5 +259,5 @@ module _ (P : Starts) (setting : Setting) (job : Job) (number : ℕ) (ending : E
       rw numbers_are (among_has (under ++ (number ∷ [])) t.number done)
 
   -- a task that ends with all under it
-  pub ends_task_good : TasksInOrder P setting (ends_task job number ending).job
-  ends_task_good = ends_good P setting (unsettled job) (all_with Parent under ++ (number, ending) ∷ []) g closed
+  pub ends_task_good : TasksInOrder P constants (ends_task job number ending).job
+  ends_task_good = ends_good P constants (unsettled job) (all_with Parent under ++ (number, ending) ∷ []) g closed

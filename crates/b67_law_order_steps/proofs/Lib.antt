@@ -4,7 +4,7 @@ pub mod Segments
 pub mod Admitted
 pub mod Places
 pub mod Deaths
-pub mod NextTask
+pub mod Identities
 pub mod Settles
 pub mod Maps
 pub mod Sessions

@@ -1,4 +1,4 @@
--- Each item of the order, by another thing that a place must be and by other arrays that are named alike.
+-- Each item of the order, by another object that a place must be and by other arrays that are named alike.
 use Rattle.std.proofs.Common.{◌≡◌, ℕ, ◌≤◌, List, [], ◌∷◌, ◌++◌, map, Option, Some, None, refl, sym, ◌∙◌, ap, subst}
 use Rattle.std.specs.List.{AllByRecursion}
 use Rattle.b67_word.specs.declared.couples.Place.{Place}
@@ -6,7 +6,7 @@ use Rattle.b67_model.specs.Keyed.{keyed}
 use Rattle.b67_lemmas.specs.Lists.{Falls}
 use Rattle.b67_model.specs.Words as Words
 use Rattle.b67_model.specs.Words.{Word, Operand, Name, Ref, Row, Element, Original, Proc, Intrinsic}
-use Rattle.b67_model.specs.State.{Frame, Standing, Marked, Entered, Array, Task, Setting, Job, height}
+use Rattle.b67_model.specs.State.{Frame, Standing, Marked, Entered, Array, Task, JobConstants, Job, height}
 use Rattle.b67_model.specs.InOrder.{Starts, Known, known_of, known_numbers, from_frame, frames_of_task, critical_of, outer_reach, outer_of, reach_of, NamesArray, OwnsArray, WordInOrder, FramesInOrder, ReturnsInOrder, StackInOrder, BirthInOrder, ConditionInOrder, TaskInOrder}
 
 module _ (P Q : Starts) (up : (segment level : ℕ) (place : Place) → P segment level place → Q segment level place) where
@@ -58,10 +58,10 @@ birth_same job job' e t (parent ∷ above) h = record {
 }
 
 pub task_up : (P Q : Starts) (up : (segment level : ℕ) (place : Place) → P segment level place → Q segment level place)
-    (setting setting' : Setting) (job job' : Job) → job'.tasks ≡ job.tasks → job'.next_frame ≡ job.next_frame → setting'.stack_size ≡ setting.stack_size
+    (constants setting' : JobConstants) (job job' : Job) → job'.tasks ≡ job.tasks → job'.next_frame ≡ job.next_frame → setting'.stack_size ≡ constants.stack_size
     → (names : (reach : List Known) (a : ℕ) → NamesArray job.arrays reach a → NamesArray job'.arrays reach a) (owns : (owner a : ℕ) → OwnsArray job.arrays owner a → OwnsArray job'.arrays owner a)
-    → (t : Task) → TaskInOrder P setting job t → TaskInOrder Q setting' job' t
-task_up P Q up setting setting' job job' tasks next size names owns t h =
+    → (t : Task) → TaskInOrder P constants job t → TaskInOrder Q setting' job' t
+task_up P Q up constants setting' job job' tasks next size names owns t h =
     let outer : outer_of job' t ≡ outer_of job t = outer_same job job' tasks t.critical t.parents in
     let F : List Known → Type 0 = λ ks. FramesInOrder Q job'.arrays ks t.frames in
     let N : List Known → Type 0 = λ ks. Falls job'.next_frame (known_numbers (map known_of t.frames ++ ks)) in

@@ -10,7 +10,7 @@ use Rattle.b67_model.specs.declared.operators.Op.{Op}
 use Rattle.b67_lemmas.specs.Lists.{Has, Falls}
 use Rattle.b67_model.specs.Words as Words
 use Rattle.b67_model.specs.Words.{Word, Operand, Name, Ref, Row, Element, Original, Proc, Intrinsic}
-use Rattle.b67_model.specs.State.{Array, Task, Segment, Setting, Job, Member}
+use Rattle.b67_model.specs.State.{Array, Task, Segment, JobConstants, Job, SessionJob}
 use Rattle.b67_model.specs.Operators.{operator_at, reads, count_at, form_of, syllable}
 use Rattle.b67_model.specs.declared.operators.Undecodable.TheVariants.{BadPlace}
 use Rattle.b67_model.specs.InOrder.{Known, IsSegment, IsStart, NamesArray, OwnsArray, NamesEntered, ArrayInOrder, EntryInOrder, TaskInOrder, SettingInOrder, SegmentInOrder, DictionaryWords, JobInOrder, NumberedFrom, originals_of}
@@ -22,7 +22,7 @@ all_tasks : (A B : Task → Type 0) → ((t : Task) → A t → B t) → (ts : L
 all_tasks A B up [] h = h
 all_tasks A B up (t ∷ ts) h = (up t h.0, all_tasks A B up ts h.1)
 
-all_members : (A B : Member → Type 0) → ((m : Member) → A m → B m) → (ms : List Member) → AllByRecursion A ms → AllByRecursion B ms
+all_members : (A B : SessionJob → Type 0) → ((m : SessionJob) → A m → B m) → (ms : List SessionJob) → AllByRecursion A ms → AllByRecursion B ms
 all_members A B up [] h = h
 all_members A B up (m ∷ ms) h = (up m h.0, all_members A B up ms h.1)
 
@@ -41,21 +41,21 @@ read_inside code at read e =
     by true q = refl
     by false q = absurd cc
 
-start_up : (setting : Setting) → SettingInOrder setting → (segment level : ℕ) (place : Place) → IsStart setting segment level place → IsSegment setting segment level place
-start_up setting order segment level place h =
-    let within = slice_get_within setting.segments (segment - 1) h.code h.found in
+start_up : (constants : JobConstants) → SettingInOrder constants → (segment level : ℕ) (place : Place) → IsStart constants segment level place → IsSegment constants segment level place
+start_up constants order segment level place h =
+    let within = slice_get_within constants.segments (segment - 1) h.code h.found in
     let read = entered (6 * length h.code.code) h.code.code (record { word = 0; syllable = 0 }) (operator_at h.code.code (record { word = 0; syllable = 0 })) place h.op refl h.stands in
     let inside = read_inside h.code.code place (h.op, read.next) read.reads in
-    let short = (segment_at setting.segments (segment - 1) h.code order.segments h.found).length_high in
+    let short = (segment_at constants.segments (segment - 1) h.code order.segments h.found).length_high in
     record { from_one = h.from_one; within = omega (arith, within, h.from_one); word_fits = omega (arith, inside.1, short); syllable_fits = omega (arith, inside.0) }
 
 -- the one law
-member_start : (m : Member) → JobInOrder (IsStart m.setting) m.setting m.course → JobInOrder (IsSegment m.setting) m.setting m.course
+member_start : (m : SessionJob) → JobInOrder (IsStart m.constants) m.constants m.progress → JobInOrder (IsSegment m.constants) m.constants m.progress
 member_start m h = record {
   unchanging = h.unchanging;
   tasks = record {
-    tasks = all_tasks (TaskInOrder (IsStart m.setting) m.setting m.course.job) (TaskInOrder (IsSegment m.setting) m.setting m.course.job)
-        (λ t o. task_up (IsStart m.setting) (IsSegment m.setting) (start_up m.setting h.unchanging) m.setting m.setting m.course.job m.course.job refl refl refl (λ reach a n. n) (λ owner a n. n) t o) m.course.job.tasks h.tasks.tasks;
+    tasks = all_tasks (TaskInOrder (IsStart m.constants) m.constants m.progress.job) (TaskInOrder (IsSegment m.constants) m.constants m.progress.job)
+        (λ t o. task_up (IsStart m.constants) (IsSegment m.constants) (start_up m.constants h.unchanging) m.constants m.constants m.progress.job m.progress.job refl refl refl (λ reach a n. n) (λ owner a n. n) t o) m.progress.job.tasks h.tasks.tasks;
     apart = h.tasks.apart;
     arrays = h.tasks.arrays;
     once = h.tasks.once;
@@ -74,7 +74,7 @@ starts_are_segments s h = record {
   few = h.few;
   numbered = h.numbered;
   one_size = h.one_size;
-  jobs = all_members (λ (m : Member). JobInOrder (IsStart m.setting) m.setting m.course) (λ (m : Member). JobInOrder (IsSegment m.setting) m.setting m.course) member_start s.jobs h.jobs;
+  jobs = all_members (λ (m : SessionJob). JobInOrder (IsStart m.constants) m.constants m.progress) (λ (m : SessionJob). JobInOrder (IsSegment m.constants) m.constants m.progress) member_start s.jobs h.jobs;
   switches = h.switches;
   peak_low = h.peak_low;
   peak_high = h.peak_high;
@@ -83,7 +83,7 @@ starts_are_segments s h = record {
 }
 
 -- other numbers: segments
-recoded_count : (xs ys : List Segment) → Recoded xs ys → length ys ≡ length xs
+pub recoded_count : (xs ys : List Segment) → Recoded xs ys → length ys ≡ length xs
 recoded_count [] [] h = refl
 recoded_count (x ∷ xs) (y ∷ ys) h = ap suc (recoded_count xs ys h.1)
 recoded_count [] (y ∷ ys) h = absurd h
@@ -177,39 +177,39 @@ entries_up : (xs ys : List Array) → Refilled xs ys → (ws : List Word) → Al
 entries_up xs ys h [] o = o
 entries_up xs ys h (w ∷ ws) o = (entry_up xs ys h w o.0, entries_up xs ys h ws o.1)
 
-module _ (m : Member) (segments : List Segment) (arrays : List Array) (code : Recoded m.setting.segments segments) (filled : Refilled m.course.job.arrays arrays) where
-  abbrev setting' : Setting
-  setting' = record m.setting { segments = segments }
+module _ (m : SessionJob) (segments : List Segment) (arrays : List Array) (code : Recoded m.constants.segments segments) (filled : Refilled m.progress.job.arrays arrays) where
+  abbrev setting' : JobConstants
+  setting' = record m.constants { segments = segments }
 
   abbrev job' : Job
-  job' = record m.course.job { arrays = arrays }
+  job' = record m.progress.job { arrays = arrays }
 
-  segment_up : (segment level : ℕ) (place : Place) → IsSegment m.setting segment level place → IsSegment setting' segment level place
+  segment_up : (segment level : ℕ) (place : Place) → IsSegment m.constants segment level place → IsSegment setting' segment level place
   segment_up segment level place h =
       let within = h.within in
-      record { from_one = h.from_one; within = omega (arith, within, recoded_count m.setting.segments segments code); word_fits = h.word_fits; syllable_fits = h.syllable_fits }
+      record { from_one = h.from_one; within = omega (arith, within, recoded_count m.constants.segments segments code); word_fits = h.word_fits; syllable_fits = h.syllable_fits }
 
-  member_up : JobInOrder (IsSegment m.setting) m.setting m.course → JobInOrder (IsSegment setting') setting' (record m.course { job = job' })
+  member_up : JobInOrder (IsSegment m.constants) m.constants m.progress → JobInOrder (IsSegment setting') setting' (record m.progress { job = job' })
   member_up h = record {
     unchanging = record {
       limit = h.unchanging.limit;
       stack_low = h.unchanging.stack_low;
       stack_high = h.unchanging.stack_high;
-      segments = recoded_order m.setting.segments segments code h.unchanging.segments;
+      segments = recoded_order m.constants.segments segments code h.unchanging.segments;
       entries = h.unchanging.entries;
       named = h.unchanging.named;
       stands = h.unchanging.stands;
-      dictionary = recoded_words 1 m.setting.segments segments (reverse m.setting.dictionary.cells) code h.unchanging.dictionary;
+      dictionary = recoded_words 1 m.constants.segments segments (reverse m.constants.dictionary.cells) code h.unchanging.dictionary;
     };
     tasks = record {
-      tasks = all_tasks (TaskInOrder (IsSegment m.setting) m.setting m.course.job) (TaskInOrder (IsSegment setting') setting' job')
-          (λ t o. task_up (IsSegment m.setting) (IsSegment setting') segment_up m.setting setting' m.course.job job' refl refl refl (names_up m.course.job.arrays arrays filled) (owns_up m.course.job.arrays arrays filled) t o) m.course.job.tasks h.tasks.tasks;
+      tasks = all_tasks (TaskInOrder (IsSegment m.constants) m.constants m.progress.job) (TaskInOrder (IsSegment setting') setting' job')
+          (λ t o. task_up (IsSegment m.constants) (IsSegment setting') segment_up m.constants setting' m.progress.job job' refl refl refl (names_up m.progress.job.arrays arrays filled) (owns_up m.progress.job.arrays arrays filled) t o) m.progress.job.tasks h.tasks.tasks;
       apart = h.tasks.apart;
-      arrays = arrays_order m.course.job.arrays arrays filled h.tasks.arrays;
-      once = once_up (λ (n : ℕ). originals_of n m.setting m.course.job) m.course.job.arrays arrays filled h.tasks.once;
-      entries = entries_up m.course.job.arrays arrays filled m.setting.dictionary.cells h.tasks.entries;
+      arrays = arrays_order m.progress.job.arrays arrays filled h.tasks.arrays;
+      once = once_up (λ (n : ℕ). originals_of n m.constants m.progress.job) m.progress.job.arrays arrays filled h.tasks.once;
+      entries = entries_up m.progress.job.arrays arrays filled m.constants.dictionary.cells h.tasks.entries;
       numbers = h.tasks.numbers;
-      names = (let P : List ℕ → Type 0 = λ ns. Falls m.course.job.next_array ns in subst P (sym (identities_same m.course.job.arrays arrays filled)) h.tasks.names);
+      names = (let P : List ℕ → Type 0 = λ ns. Falls m.progress.job.next_array ns in subst P (sym (identities_same m.progress.job.arrays arrays filled)) h.tasks.names);
       few = h.tasks.few;
       reads = h.tasks.reads;
     };
@@ -217,38 +217,38 @@ module _ (m : Member) (segments : List Segment) (arrays : List Array) (code : Re
     below_limit = h.below_limit;
   }
 
-abbrev Good : Member → Type 0
-Good m = JobInOrder (IsSegment m.setting) m.setting m.course
+abbrev Good : SessionJob → Type 0
+Good m = JobInOrder (IsSegment m.constants) m.constants m.progress
 
-members_up : (ms ns : List Member) → AllOtherNumbers ms ns → AllByRecursion Good ms → AllByRecursion Good ns
+members_up : (ms ns : List SessionJob) → AllOtherNumbers ms ns → AllByRecursion Good ms → AllByRecursion Good ns
 members_up [] [] h o = o
-members_up (m ∷ ms) (n ∷ ns) h o = (subst Good (sym h.0.rest) (member_up m n.setting.segments n.course.job.arrays h.0.segments h.0.arrays o.0), members_up ms ns h.1 o.1)
+members_up (m ∷ ms) (n ∷ ns) h o = (subst Good (sym h.0.rest) (member_up m n.constants.segments n.progress.job.arrays h.0.segments h.0.arrays o.0), members_up ms ns h.1 o.1)
 members_up [] (n ∷ ns) h o = absurd h
 members_up (m ∷ ms) [] h o = absurd h
 
-numbered_up : (n : ℕ) (ms ns : List Member) → AllOtherNumbers ms ns → NumberedFrom n ms → NumberedFrom n ns
+numbered_up : (n : ℕ) (ms ns : List SessionJob) → AllOtherNumbers ms ns → NumberedFrom n ms → NumberedFrom n ns
 numbered_up n [] [] h o = o
-numbered_up n (m ∷ ms) (y ∷ ns) h o = (ap (λ (z : Member). z.setting.number) h.0.rest ∙ o.0, numbered_up (n + 1) ms ns h.1 o.1)
+numbered_up n (m ∷ ms) (y ∷ ns) h o = (ap (λ (z : SessionJob). z.constants.number) h.0.rest ∙ o.0, numbered_up (n + 1) ms ns h.1 o.1)
 numbered_up n [] (y ∷ ns) h o = absurd h
 numbered_up n (m ∷ ms) [] h o = absurd h
 
-sizes_up : (size : ℕ) (ms ns : List Member) → AllOtherNumbers ms ns → AllByRecursion (λ (m : Member). m.setting.stack_size ≡ size) ms → AllByRecursion (λ (m : Member). m.setting.stack_size ≡ size) ns
+sizes_up : (size : ℕ) (ms ns : List SessionJob) → AllOtherNumbers ms ns → AllByRecursion (λ (m : SessionJob). m.constants.stack_size ≡ size) ms → AllByRecursion (λ (m : SessionJob). m.constants.stack_size ≡ size) ns
 sizes_up size [] [] h o = o
-sizes_up size (m ∷ ms) (n ∷ ns) h o = (ap (λ (z : Member). z.setting.stack_size) h.0.rest ∙ o.0, sizes_up size ms ns h.1 o.1)
+sizes_up size (m ∷ ms) (n ∷ ns) h o = (ap (λ (z : SessionJob). z.constants.stack_size) h.0.rest ∙ o.0, sizes_up size ms ns h.1 o.1)
 sizes_up size [] (n ∷ ns) h o = absurd h
 sizes_up size (m ∷ ms) [] h o = absurd h
 
-count_up : (ms ns : List Member) → AllOtherNumbers ms ns → length ns ≡ length ms
+count_up : (ms ns : List SessionJob) → AllOtherNumbers ms ns → length ns ≡ length ms
 count_up [] [] h = refl
 count_up (m ∷ ms) (n ∷ ns) h = ap suc (count_up ms ns h.1)
 count_up [] (n ∷ ns) h = absurd h
 count_up (m ∷ ms) [] h = absurd h
 
-sum_up : (f : Member → ℕ) → ((m : Member) (segments : List Segment) (arrays : List Array) → f (record m { setting = record m.setting { segments = segments }; course = record m.course { job = record m.course.job { arrays = arrays } } }) ≡ f m)
-    → (ms ns : List Member) → AllOtherNumbers ms ns → sum_by f ns ≡ sum_by f ms
+sum_up : (f : SessionJob → ℕ) → ((m : SessionJob) (segments : List Segment) (arrays : List Array) → f (record m { constants = record m.constants { segments = segments }; progress = record m.progress { job = record m.progress.job { arrays = arrays } } }) ≡ f m)
+    → (ms ns : List SessionJob) → AllOtherNumbers ms ns → sum_by f ns ≡ sum_by f ms
 sum_up f same [] [] h = refl
 sum_up f same (m ∷ ms) (n ∷ ns) h =
-    sum_by-cons f n ns ∙ ap (λ (k : ℕ). k + sum_by f ns) (ap f h.0.rest ∙ same m n.setting.segments n.course.job.arrays) ∙ ap (λ (k : ℕ). f m + k) (sum_up f same ms ns h.1) ∙ sym (sum_by-cons f m ms)
+    sum_by-cons f n ns ∙ ap (λ (k : ℕ). k + sum_by f ns) (ap f h.0.rest ∙ same m n.constants.segments n.progress.job.arrays) ∙ ap (λ (k : ℕ). f m + k) (sum_up f same ms ns h.1) ∙ sym (sum_by-cons f m ms)
 sum_up f same [] (n ∷ ns) h = absurd h
 sum_up f same (m ∷ ms) [] h = absurd h
 
@@ -262,8 +262,8 @@ other_numbers_keep_order s jobs h o =
       one_size = (o.one_size.0, sizes_up o.one_size.0 s.jobs jobs h o.one_size.1);
       jobs = members_up s.jobs jobs h o.jobs;
       switches = o.switches;
-      peak_low = omega (arith, low, sum_up (λ (m : Member). length m.course.job.tasks) (λ m segments arrays. refl) s.jobs jobs h);
+      peak_low = omega (arith, low, sum_up (λ (m : SessionJob). length m.progress.job.tasks) (λ m segments arrays. refl) s.jobs jobs h);
       peak_high = o.peak_high;
-      counted = o.counted ∙ sym (sum_up (λ (m : Member). m.course.made) (λ m segments arrays. refl) s.jobs jobs h);
+      counted = o.counted ∙ sym (sum_up (λ (m : SessionJob). m.progress.made) (λ m segments arrays. refl) s.jobs jobs h);
       turn = o.turn;
     }

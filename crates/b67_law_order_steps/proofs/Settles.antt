@@ -8,7 +8,8 @@ use Rattle.b67_word.specs.declared.faults.Ending.TheVariants.{Ended, Deadlock, L
 use Rattle.b67_model.specs.Answers.{Answer}
 use Rattle.b67_model.specs.Keyed.{keyed}
 use Rattle.b67_lemmas.specs.Lists.{Has}
-use Rattle.b67_model.specs.State.{Array, Condition, Ready, Task, Setting, Job, Course, with_task}
+use Rattle.b67_lemmas.proofs.Members.{all_in, keyed_has, filter_none}
+use Rattle.b67_model.specs.State.{Array, Condition, Ready, Task, JobConstants, Job, JobProgress, with_task}
 use Rattle.b67_model.specs.Steps.{Done, Goes, Leaves, Waits}
 use Rattle.b67_model.specs.Operators.{Reading}
 use Rattle.b67_model.specs.Rows.{step, step_by, reading_of}
@@ -19,22 +20,22 @@ use Rattle.b67_model.specs.InOrder.{Starts, IsSegment, IsStart, known_of, from_f
 use Rattle.b67_law_order.specs.Ends.{StepsFrom}
 use Rattle.b67_law_order_rows.specs.Keeping.{KeepsOrder}
 use Rattle.b67_law_order_steps.specs.Laws.{StepsKeepOrderButPlaces, StepsKeepOrder}
-use Rattle.b67_law_order.proofs.Members.{all_in, keyed_has}
 use Rattle.b67_law_order.proofs.Reaches.{alike_same}
 use Rattle.b67_law_order.proofs.Changes.{run_replaced}
 use Rattle.b67_law_order_rows.proofs.Kept.{starts_run}
 use Rattle.b67_law_order_steps.proofs.Deaths.{ends_good, ends_task_good, all_closed, all_among}
 use Rattle.b67_law_order_steps.proofs.Segments.{rows_keep_order_but_places}
 use Rattle.b67_law_order_steps.proofs.Places.{rows_keep_order}
-use Rattle.b67_law_order_steps.proofs.NextTask as NextTask
+use Rattle.b67_law_order.proofs.Posts.{Post}
+use Rattle.b67_law_order_steps.proofs.Identities as Identities
 
 -- a task that waits
-waits_good : (P : Starts) (setting : Setting) (job : Job) (task : Task) (condition : Condition) → StepsFrom P setting job task → ConditionInOrder (reach_of job task) condition → TasksInOrder P setting (with_task job (record task { condition = condition }))
-waits_good P setting job task condition s waits =
-    let run = starts_run P setting job task task.place s in
-    let own = all_in (TaskInOrder P setting job) job.tasks task s.order.tasks (keyed_has (λ t. t.number) task.number job.tasks task s.live).0 in
+waits_good : (P : Starts) (constants : JobConstants) (job : Job) (task : Task) (condition : Condition) → StepsFrom P constants job task → ConditionInOrder (reach_of job task) condition → TasksInOrder P constants (with_task job (record task { condition = condition }))
+waits_good P constants job task condition s waits =
+    let run = starts_run P constants job task task.place s in
+    let own = all_in (TaskInOrder P constants job) job.tasks task s.order.tasks (keyed_has (λ t. t.number) task.number job.tasks task s.live).0 in
     let new : Task = record task { condition = condition } in
-    (run_replaced P (record { setting = setting; job = job; task = task; at = task.place }) (with_task job new) new run (record {
+    (run_replaced P (record { constants = constants; job = job; task = task; at = task.place }) (with_task job new) new run (record {
       number = refl;
       line = refl;
       critical = refl;
@@ -53,24 +54,24 @@ waits_good P setting job task condition s waits =
       fewer = λ n low. omega arith;
       kept = λ a k. record { case = inl (record { item = a; live = k; named = refl; owned = refl }) };
       arrays = s.order.arrays;
-      once = λ a k. omega (arith, all_in (λ (x : Array). originals_of x.identity setting job ≡ 1) job.arrays a s.order.once k);
+      once = λ a k. omega (arith, all_in (λ (x : Array). originals_of x.identity constants job ≡ 1) job.arrays a s.order.once k);
       names = s.order.names;
       reads = s.order.reads;
     })).0
 
-each_good : (P : Starts) (setting : Setting) (test : Bool) (ending : Ending) (s : Settled) → TasksInOrder P setting s.job → TasksInOrder P setting (ends_each_if test ending s).job
-each_good P setting false ending s g = g
-each_good P setting true ending s g = ends_good P setting s (all_with ending (deepest_first s.job.tasks)) g (all_closed P setting s.job ending g)
+each_good : (P : Starts) (constants : JobConstants) (test : Bool) (ending : Ending) (s : Settled) → TasksInOrder P constants s.job → TasksInOrder P constants (ends_each_if test ending s).job
+each_good P constants false ending s g = g
+each_good P constants true ending s g = ends_good P constants s (all_with ending (deepest_first s.job.tasks)) g (all_closed P constants s.job ending g)
 
-settles_good : (P : Starts) (setting : Setting) (job : Job) (task : Task) (a : Answer Done) → StepsFrom P setting job task → KeepsOrder P setting job task a → TasksInOrder P setting (settles job task a).settled.job
-settles_good P setting job task (Ok (Goes after printed touched)) s g = each_good P setting _ Deadlock (unsettled after) g
-settles_good P setting job task (Ok (Waits condition)) s g = each_good P setting _ Deadlock (unsettled (with_task job (record task { condition = condition }))) (waits_good P setting job task condition s g)
-settles_good P setting job task (Ok Leaves) s g = each_good P setting _ Deadlock (ends_task job task.number Ended) (ends_task_good P setting job task.number Ended s.order)
-settles_good P setting job task (Err fault) s g = each_good P setting _ Deadlock (ends_task job task.number (Faulted fault)) (ends_task_good P setting job task.number (Faulted fault) s.order)
+settles_good : (P : Starts) (constants : JobConstants) (job : Job) (task : Task) (a : Answer Done) → StepsFrom P constants job task → KeepsOrder P constants job task a → TasksInOrder P constants (settles job task a).settled.job
+settles_good P constants job task (Ok (Goes after printed touched)) s g = each_good P constants _ Deadlock (unsettled after) g
+settles_good P constants job task (Ok (Waits condition)) s g = each_good P constants _ Deadlock (unsettled (with_task job (record task { condition = condition }))) (waits_good P constants job task condition s g)
+settles_good P constants job task (Ok Leaves) s g = each_good P constants _ Deadlock (ends_task job task.number Ended) (ends_task_good P constants job task.number Ended s.order)
+settles_good P constants job task (Err fault) s g = each_good P constants _ Deadlock (ends_task job task.number (Faulted fault)) (ends_task_good P constants job task.number (Faulted fault) s.order)
 
-pub stepped_good : (P : Starts) (setting : Setting) (job : Job) (task : Task) → StepsFrom P setting job task → KeepsOrder P setting job task (step setting job task) → TasksInOrder P setting (stepped setting job task).settled.job
+pub stepped_good : (P : Starts) (constants : JobConstants) (job : Job) (task : Task) → StepsFrom P constants job task → KeepsOrder P constants job task (step constants job task) → TasksInOrder P constants (stepped constants job task).settled.job
 unfolding stepped
-stepped_good P setting job task s g = settles_good P setting job task (step setting job task) s g
+stepped_good P constants job task s g = settles_good P constants job task (step constants job task) s g
 
 -- the next number
 each_next : (test : Bool) (ending : Ending) (s : Settled) → (ends_each_if test ending s).job.next_task ≡ s.job.next_task
@@ -83,8 +84,8 @@ NextLow job (Ok Leaves) = Unit {0}
 NextLow job (Ok (Waits condition)) = Unit {0}
 NextLow job (Err fault) = Unit {0}
 
-next_of : (job : Job) (a : Answer Done) → NextTask.Post (NextTask.Keeps job) a → NextLow job a
-next_of job (Ok (Goes after printed touched)) g = g.by.tasks
+next_of : (job : Job) (a : Answer Done) → Post (Identities.Keeps job) a → NextLow job a
+next_of job (Ok (Goes after printed touched)) g = g.by.one
 next_of job (Ok Leaves) g = tt
 next_of job (Ok (Waits condition)) g = tt
 next_of job (Err fault) g = tt
@@ -95,23 +96,18 @@ settles_next job task (Ok (Waits condition)) g = let e = each_next (list_all (λ
 settles_next job task (Ok Leaves) g = let e = each_next (list_all (λ t. not (is_ready t)) (ends_task job task.number Ended).job.tasks) Deadlock (ends_task job task.number Ended) in omega (arith, e)
 settles_next job task (Err fault) g = let e = each_next (list_all (λ t. not (is_ready t)) (ends_task job task.number (Faulted fault)).job.tasks) Deadlock (ends_task job task.number (Faulted fault)) in omega (arith, e)
 
-step_next : (setting : Setting) (job : Job) (task : Task) (r : Reading) → NextLow job (step_by setting job task r)
-step_next setting job task (Err why) = tt
-step_next setting job task (Ok read) = next_of job _ (NextTask.row_good read.0 (record { setting = setting; job = job; task = record task { place = read.1 }; at = task.place }))
+step_next : (constants : JobConstants) (job : Job) (task : Task) (r : Reading) → NextLow job (step_by constants job task r)
+step_next constants job task (Err why) = tt
+step_next constants job task (Ok read) = next_of job _ (Identities.row_good read.0 (record { constants = constants; job = job; task = record task { place = read.1 }; at = task.place }))
 
-pub stepped_next : (setting : Setting) (job : Job) (task : Task) → (stepped setting job task).settled.job.next_task ≤ job.next_task + 1
+pub stepped_next : (constants : JobConstants) (job : Job) (task : Task) → (stepped constants job task).settled.job.next_task ≤ job.next_task + 1
 unfolding step stepped
-stepped_next setting job task = settles_next job task (step setting job task) (step_next setting job task (reading_of setting task))
+stepped_next constants job task = settles_next job task (step constants job task) (step_next constants job task (reading_of constants task))
 
--- all tasks end
-filter_none : {A : Type 0} (p : A → Bool) (xs : List A) → ((x : A) → Has xs x → p x ≡ false) → filter p xs ≡ []
-filter_none p [] none = refl
-filter_none p (x ∷ xs) none = let t = none x (inl refl) in rw t (filter_none p xs (λ y h. none y (inr h)))
-
-all_gone : (P : Starts) (setting : Setting) (s : Settled) (ending : Ending) → TasksInOrder P setting s.job → (ends_each_if true ending s).job.tasks ≡ []
-all_gone P setting s ending g =
+all_gone : (P : Starts) (constants : JobConstants) (s : Settled) (ending : Ending) → TasksInOrder P constants s.job → (ends_each_if true ending s).job.tasks ≡ []
+all_gone P constants s ending g =
     let numbers = map (λ (e : ℕ × Ending). e.0) (all_with ending (deepest_first s.job.tasks)) in
-    let none : filter (λ (t : Task). not (among numbers t.number)) s.job.tasks ≡ [] = filter_none (λ (t : Task). not (among numbers t.number)) s.job.tasks (λ t h. let e = all_among P setting s.job ending g t h in rw e refl) in
+    let none : filter (λ (t : Task). not (among numbers t.number)) s.job.tasks ≡ [] = filter_none (λ (t : Task). not (among numbers t.number)) s.job.tasks (λ t h. let e = all_among P constants s.job ending g t h in rw e refl) in
     ap (λ (ts : List Task). map (λ (t : Task). record t { condition = Endings.released numbers t.condition }) ts) none
 
 -- who is ready after the third item
@@ -122,57 +118,57 @@ some_ready (t ∷ tasks) e = elim (cases_Bool (is_ready t)) [
   | inr n ↦ let r = some_ready tasks (rw n at e) in (r.0, inr r.1, r.2)
 ]
 
-ready_by : (P : Starts) (setting : Setting) (s : Settled) (test : Bool) → list_all (λ t. not (is_ready t)) s.job.tasks ≡ test → TasksInOrder P setting s.job → (ends_each_if test Deadlock s).job.tasks ≢ [] →
+ready_by : (P : Starts) (constants : JobConstants) (s : Settled) (test : Bool) → list_all (λ t. not (is_ready t)) s.job.tasks ≡ test → TasksInOrder P constants s.job → (ends_each_if test Deadlock s).job.tasks ≢ [] →
     (t : Task) × Has (ends_each_if test Deadlock s).job.tasks t × IsTrue (is_ready t)
-ready_by P setting s true e g some = absurd (some (all_gone P setting s Deadlock g))
-ready_by P setting s false e g some = some_ready s.job.tasks e
+ready_by P constants s true e g some = absurd (some (all_gone P constants s Deadlock g))
+ready_by P constants s false e g some = some_ready s.job.tasks e
 
-settles_ready : (P : Starts) (setting : Setting) (job : Job) (task : Task) (a : Answer Done) → StepsFrom P setting job task → KeepsOrder P setting job task a → (settles job task a).settled.job.tasks ≢ [] →
+settles_ready : (P : Starts) (constants : JobConstants) (job : Job) (task : Task) (a : Answer Done) → StepsFrom P constants job task → KeepsOrder P constants job task a → (settles job task a).settled.job.tasks ≢ [] →
     (t : Task) × Has (settles job task a).settled.job.tasks t × IsTrue (is_ready t)
-settles_ready P setting job task (Ok (Goes after printed touched)) s g some = ready_by P setting (unsettled after) _ refl g some
-settles_ready P setting job task (Ok (Waits condition)) s g some = ready_by P setting (unsettled (with_task job (record task { condition = condition }))) _ refl (waits_good P setting job task condition s g) some
-settles_ready P setting job task (Ok Leaves) s g some = ready_by P setting (ends_task job task.number Ended) _ refl (ends_task_good P setting job task.number Ended s.order) some
-settles_ready P setting job task (Err fault) s g some = ready_by P setting (ends_task job task.number (Faulted fault)) _ refl (ends_task_good P setting job task.number (Faulted fault) s.order) some
+settles_ready P constants job task (Ok (Goes after printed touched)) s g some = ready_by P constants (unsettled after) _ refl g some
+settles_ready P constants job task (Ok (Waits condition)) s g some = ready_by P constants (unsettled (with_task job (record task { condition = condition }))) _ refl (waits_good P constants job task condition s g) some
+settles_ready P constants job task (Ok Leaves) s g some = ready_by P constants (ends_task job task.number Ended) _ refl (ends_task_good P constants job task.number Ended s.order) some
+settles_ready P constants job task (Err fault) s g some = ready_by P constants (ends_task job task.number (Faulted fault)) _ refl (ends_task_good P constants job task.number (Faulted fault) s.order) some
 
-stepped_ready : (P : Starts) (setting : Setting) (job : Job) (task : Task) → StepsFrom P setting job task → KeepsOrder P setting job task (step setting job task) → (stepped setting job task).settled.job.tasks ≢ [] →
-    (t : Task) × Has (stepped setting job task).settled.job.tasks t × IsTrue (is_ready t)
+stepped_ready : (P : Starts) (constants : JobConstants) (job : Job) (task : Task) → StepsFrom P constants job task → KeepsOrder P constants job task (step constants job task) → (stepped constants job task).settled.job.tasks ≢ [] →
+    (t : Task) × Has (stepped constants job task).settled.job.tasks t × IsTrue (is_ready t)
 unfolding stepped
-stepped_ready P setting job task s g some = settles_ready P setting job task (step setting job task) s g some
+stepped_ready P constants job task s g some = settles_ready P constants job task (step constants job task) s g some
 
 not_empty : (tasks : List Task) (t : Task) → Has tasks t → tasks ≢ []
 not_empty [] t h = absurd h
 not_empty (x ∷ tasks) t h = λ e. cc
 
-whole_by : (P : Starts) (setting : Setting) (c : Course) (task : Task) (s : Settled) (test : Bool) → eqb (c.made + 1) setting.limit ≡ test → JobInOrder P setting c → c.made < setting.limit → TasksInOrder P setting s.job → s.job.next_task ≤ c.job.next_task + 1 →
+whole_by : (P : Starts) (constants : JobConstants) (c : JobProgress) (task : Task) (s : Settled) (test : Bool) → eqb (c.made + 1) constants.limit ≡ test → JobInOrder P constants c → c.made < constants.limit → TasksInOrder P constants s.job → s.job.next_task ≤ c.job.next_task + 1 →
     (s.job.tasks ≢ [] → (t : Task) × Has s.job.tasks t × IsTrue (is_ready t)) → (ended : List (ℕ × Ending)) →
-    JobInOrder P setting (record { job = (ends_each_if test Limit s).job; made = c.made + 1; ended = ended })
-whole_by P setting c task s true e j low g next ready ended = record {
+    JobInOrder P constants (record { job = (ends_each_if test Limit s).job; made = c.made + 1; ended = ended })
+whole_by P constants c task s true e j low g next ready ended = record {
   unchanging = j.unchanging;
-  tasks = each_good P setting true Limit s g;
-  counts = record { next = omega (arith, next, j.counts.next); within = omega (arith, low); goes_on = λ some. absurd (some (all_gone P setting s Limit g)) };
-  below_limit = λ some. absurd (some (all_gone P setting s Limit g));
+  tasks = each_good P constants true Limit s g;
+  counts = record { next = omega (arith, next, j.counts.next); within = omega (arith, low); goes_on = λ some. absurd (some (all_gone P constants s Limit g)) };
+  below_limit = λ some. absurd (some (all_gone P constants s Limit g));
 }
-whole_by P setting c task s false e j low g next ready ended = record {
+whole_by P constants c task s false e j low g next ready ended = record {
   unchanging = j.unchanging;
   tasks = g;
   counts = record { next = omega (arith, next, j.counts.next); within = omega (arith, low); goes_on = ready };
-  below_limit = λ some. elim (eqb_tells (c.made + 1) setting.limit) [ inl y ↦ absurd (true≢false (sym y.0 ∙ e)) | inr n ↦ omega (arith, low, n.1) ];
+  below_limit = λ some. elim (eqb_tells (c.made + 1) constants.limit) [ inl y ↦ absurd (true≢false (sym y.0 ∙ e)) | inr n ↦ omega (arith, low, n.1) ];
 }
 
-steps_from : (P : Starts) (setting : Setting) (c : Course) (task : Task) → JobInOrder P setting c → keyed (λ t. t.number) task.number c.job.tasks ≡ Some task → task.condition ≡ Ready → StepsFrom P setting c.job task
-steps_from P setting c task j live ready = record { unchanging = j.unchanging; order = j.tasks; live = live; ready = ready; few = omega (arith, j.counts.next, j.counts.within, j.unchanging.limit) }
+steps_from : (P : Starts) (constants : JobConstants) (c : JobProgress) (task : Task) → JobInOrder P constants c → keyed (λ t. t.number) task.number c.job.tasks ≡ Some task → task.condition ≡ Ready → StepsFrom P constants c.job task
+steps_from P constants c task j live ready = record { unchanging = j.unchanging; order = j.tasks; live = live; ready = ready; few = omega (arith, j.counts.next, j.counts.within, j.unchanging.limit) }
 
-whole_good : (P : Starts) (setting : Setting) (c : Course) (task : Task) → JobInOrder P setting c → (s : StepsFrom P setting c.job task) → KeepsOrder P setting c.job task (step setting c.job task) → JobInOrder P setting (whole setting c task).course
-whole_good P setting c task j s kept =
+whole_good : (P : Starts) (constants : JobConstants) (c : JobProgress) (task : Task) → JobInOrder P constants c → (s : StepsFrom P constants c.job task) → KeepsOrder P constants c.job task (step constants c.job task) → JobInOrder P constants (whole constants c task).progress
+whole_good P constants c task j s kept =
     let low = j.below_limit (not_empty c.job.tasks task (keyed_has (λ t. t.number) task.number c.job.tasks task s.live).0) in
-    whole_by P setting c task (stepped setting c.job task).settled (eqb (c.made + 1) setting.limit) refl j low (stepped_good P setting c.job task s kept) (stepped_next setting c.job task) (stepped_ready P setting c.job task s kept) _
+    whole_by P constants c task (stepped constants c.job task).settled (eqb (c.made + 1) constants.limit) refl j low (stepped_good P constants c.job task s kept) (stepped_next constants c.job task) (stepped_ready P constants c.job task s kept) _
 
 pub steps_keep_order_but_places : StepsKeepOrderButPlaces
-steps_keep_order_but_places setting c task j live ready =
-    let s = steps_from (IsSegment setting) setting c task j live ready in
-    whole_good (IsSegment setting) setting c task j s (rows_keep_order_but_places setting c.job task s)
+steps_keep_order_but_places constants c task j live ready =
+    let s = steps_from (IsSegment constants) constants c task j live ready in
+    whole_good (IsSegment constants) constants c task j s (rows_keep_order_but_places constants c.job task s)
 
 pub steps_keep_order : StepsKeepOrder
-steps_keep_order p setting c task admitted same j live ready =
-    let s = steps_from (IsStart setting) setting c task j live ready in
-    whole_good (IsStart setting) setting c task j s (rows_keep_order p setting c.job task admitted same s)
+steps_keep_order p constants c task admitted same j live ready =
+    let s = steps_from (IsStart constants) constants c task j live ready in
+    whole_good (IsStart constants) constants c task j s (rows_keep_order p constants c.job task admitted same s)

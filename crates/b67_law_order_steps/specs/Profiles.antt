@@ -2,7 +2,7 @@
 use Rattle.std.specs.Prelude.{◌≡◌, ℕ, List, [], map, Option, Some, None, Ok}
 use Rattle.b67_model.specs.declared.operators.Op.{Op}
 use Rattle.b67_model.specs.Words.{Word}
-use Rattle.b67_model.specs.State.{Condition, Task, Job, Here}
+use Rattle.b67_model.specs.State.{Condition, Task, Job, OperatorContext}
 use Rattle.b67_model.specs.Keyed.{keyed}
 use Rattle.b67_model.specs.Steps.{Line, Goes}
 use Rattle.b67_model.specs.Intrinsics.{print}
@@ -22,19 +22,19 @@ abbrev pub profiles : List Task → List Profile
 profiles tasks = map profile tasks
 
 -- the task that makes the operator stands in the job as it is known
-abbrev pub IsKnown : Here → Type 0
+abbrev pub IsKnown : OperatorContext → Type 0
 IsKnown h = keyed (λ (p : Profile). p.number) h.task.number (profiles h.job.tasks) ≡ Some (profile h.task)
 
 -- an operator that calls no intrinsic starts and ends no task, each goes on as ready as it was, and no array comes to be
 abbrev pub RowsKeepProfiles : Type 0
 RowsKeepProfiles =
-    (op : Op) (h : Here) → IsKnown h → called op h ≡ None →
+    (op : Op) (h : OperatorContext) → IsKnown h → called op h ≡ None →
     (after : Job) (printed : List Line) (touched : Option ℕ) → row op h ≡ Ok (Goes after printed touched) →
     (profiles after.tasks ≡ profiles h.job.tasks) × (h.job.arrays ≡ [] → after.arrays ≡ [])
 
 -- nor does PRINT
 abbrev pub PrintKeepsProfiles : Type 0
 PrintKeepsProfiles =
-    (h : Here) (arguments : List Word) → IsKnown h →
+    (h : OperatorContext) (arguments : List Word) → IsKnown h →
     (after : Job) (printed : List Line) (touched : Option ℕ) → print h arguments ≡ Ok (Goes after printed touched) →
     (profiles after.tasks ≡ profiles h.job.tasks) × (h.job.arrays ≡ [] → after.arrays ≡ [])

@@ -1,7 +1,7 @@
 -- The order of a session without its places, and with other numbers in its segments and arrays.
 use Rattle.std.specs.Prelude.{◌≡◌, ℕ, ◌<◌, ◌^◌, List, [], ◌∷◌, length}
 use Rattle.std.specs.List.{AllByRecursion}
-use Rattle.b67_model.specs.State.{Array, Segment, Member}
+use Rattle.b67_model.specs.State.{Array, Segment, SessionJob}
 use Rattle.b67_model.specs.Schedule.{Session}
 use Rattle.b67_model.specs.InOrder.{IsInOrder, IsInOrderButPlaces}
 
@@ -31,18 +31,18 @@ Refilled (a ∷ more) (b ∷ others) = RefilledArray a b × Refilled more others
 Refilled _ _ = ⊥
 
 -- the same member but for the words of its segments and the numbers of its arrays
-pub record OtherNumbers (m n : Member) : Type 0 where
-  pub segments : Recoded m.setting.segments n.setting.segments
-  pub arrays : Refilled m.course.job.arrays n.course.job.arrays
+pub record OtherNumbers (m n : SessionJob) : Type 0 where
+  pub segments : Recoded m.constants.segments n.constants.segments
+  pub arrays : Refilled m.progress.job.arrays n.progress.job.arrays
   pub rest : n ≡ record m {
-    setting = record m.setting { segments = n.setting.segments };
-    course = record m.course { job = record m.course.job { arrays = n.course.job.arrays } };
+    constants = record m.constants { segments = n.constants.segments };
+    progress = record m.progress { job = record m.progress.job { arrays = n.progress.job.arrays } };
   }
 
-abbrev pub AllOtherNumbers : List Member → List Member → Type 0
+abbrev pub AllOtherNumbers : List SessionJob → List SessionJob → Type 0
 AllOtherNumbers [] [] = Unit {0}
 AllOtherNumbers (m ∷ ms) (n ∷ ns) = OtherNumbers m n × AllOtherNumbers ms ns
 AllOtherNumbers _ _ = ⊥
 
 abbrev pub OtherNumbersKeepOrder : Type 0
-OtherNumbersKeepOrder = (s : Session) (jobs : List Member) → AllOtherNumbers s.jobs jobs → IsInOrderButPlaces s → IsInOrderButPlaces (record s { jobs = jobs })
+OtherNumbersKeepOrder = (s : Session) (jobs : List SessionJob) → AllOtherNumbers s.jobs jobs → IsInOrderButPlaces s → IsInOrderButPlaces (record s { jobs = jobs })

@@ -4,16 +4,16 @@ use Rattle.std.proofs.lemmas.Bool.Decides.{eqb_tells}
 use Rattle.b67_word.specs.declared.couples.Place.{Place}
 use Rattle.b67_model.specs.Keyed.{change_keyed}
 use Rattle.b67_lemmas.specs.Lists.{Has, Falls, how_many}
+use Rattle.b67_lemmas.proofs.Members.{all_in, length_change}
 use Rattle.b67_model.specs.Words.{Word}
-use Rattle.b67_model.specs.State.{Frame, Standing, Marked, Entered, Array, Task, Job, Member, top, with_top_cells, height, with_task}
-use Rattle.b67_model.specs.Environment.{level_of_frame, running, running_from}
+use Rattle.b67_model.specs.State.{Frame, Array, Task, Job, SessionJob, top, with_top_cells, height, with_task}
 use Rattle.b67_model.specs.Endings.{is_ready}
 use Rattle.b67_model.specs.Schedule.{Session}
 use Rattle.b67_model.specs.InOrder.{Starts, IsSegment, Known, known_of, known_numbers, from_frame, outer_of, identities, is_original_of, originals_in, originals_of, frames_named, FramesInOrder, StackInOrder, CellsInOrder, ConditionInOrder, TaskInOrder, TasksInOrder, JobInOrder, IsInOrderButPlaces}
-use Rattle.b67_law_order.proofs.Members.{all_in, length_change}
 use Rattle.b67_law_order.proofs.Reaches.{Alike, alike_same}
 use Rattle.b67_law_order.proofs.Replaced.{replaced}
-use Rattle.b67_layout.specs.Plan.{Plan}
+use Rattle.b67_law_order.proofs.Looks.{some_cells}
+use Rattle.b67_layout.specs.Placement.{Placement}
 use Rattle.b67_layout.specs.Session.{IsRunning}
 use Rattle.b67_layout.specs.Meets.{with_job}
 use Rattle.b67_layout.proofs.Whole.{task_with}
@@ -37,17 +37,6 @@ returns_with : (P : Starts) (fs : List Frame) (cs : List Word) → StackInOrder 
 returns_with P [] cs o = o
 returns_with P (f ∷ below) cs o = o
 
-some_with : (fs : List Frame) (cs : List Word) → fs ≢ [] → with_top_cells fs cs ≢ []
-some_with [] cs some = some
-some_with (f ∷ below) cs some = λ e. cc
-
-level_with : (fs : List Frame) (cs : List Word) → level_of_frame (running (with_top_cells fs cs)) ≡ level_of_frame (running fs)
-level_with [] cs = refl
-level_with (f ∷ below) cs = by f.standing where
-  by : (s : Standing) → level_of_frame (running_from s (record f { standing = s; cells = cs }) (running below)) ≡ level_of_frame (running_from s (record f { standing = s }) (running below))
-  by Marked = refl
-  by (Entered level environment back) = refl
-
 alike_with : (n : ℕ) (fs : List Frame) (cs : List Word) → Alike (map known_of (from_frame n fs)) (map known_of (from_frame n (with_top_cells fs cs)))
 alike_with n [] cs = alike_same []
 alike_with n (f ∷ below) cs = elim (eqb_tells f.identity n) [ inl e ↦ rw e.0 (alike_same (map known_of (f ∷ below))) | inr e ↦ rw e.0 (alike_same (map known_of (from_frame n below))) ]
@@ -64,34 +53,34 @@ originals_with : (n : ℕ) (fs : List Frame) (cs : List Word) → fs ≢ [] → 
 originals_with n [] cs some e = absurd (some refl)
 originals_with n (f ∷ below) cs some e = ap (λ (k : ℕ). k + originals_in n below) e
 
-module _ (plan : Plan) (s : Session) (m : Member) (t : Task) (ordered : IsInOrderButPlaces s) (runs : IsRunning plan s.jobs m t) (cs : List Word) (q : Place)
-    (words : CellsInOrder (IsSegment m.setting) m.course.job.arrays (map known_of t.frames ++ outer_of m.course.job t) (top t.frames).identity cs)
+module _ (plan : Placement) (s : Session) (m : SessionJob) (t : Task) (ordered : IsInOrderButPlaces s) (runs : IsRunning plan s.jobs m t) (cs : List Word) (q : Place)
+    (words : CellsInOrder (IsSegment m.constants) m.progress.job.arrays (map known_of t.frames ++ outer_of m.progress.job t) (top t.frames).identity cs)
     (originals : (n : ℕ) → how_many (is_original_of n) cs ≡ how_many (is_original_of n) (top t.frames).cells)
-    (fits : height (with_top_cells t.frames cs) ≤ m.setting.stack_size) (word_fits : q.word < 2 ^ 13) (syllable_fits : q.syllable < 2 ^ 3) where
+    (fits : height (with_top_cells t.frames cs) ≤ m.constants.stack_size) (word_fits : q.word < 2 ^ 13) (syllable_fits : q.syllable < 2 ^ 3) where
   new : Job
-  new = with_task m.course.job (task_with t cs q)
+  new = with_task m.progress.job (task_with t cs q)
 
-  whole : JobInOrder (IsSegment m.setting) m.setting m.course
+  whole : JobInOrder (IsSegment m.constants) m.constants m.progress
   whole = (running_in_order plan s m t ordered runs).0
 
-  own : TaskInOrder (IsSegment m.setting) m.setting m.course.job t
+  own : TaskInOrder (IsSegment m.constants) m.constants m.progress.job t
   own = (running_in_order plan s m t ordered runs).1
 
-  reach-same : map known_of (with_top_cells t.frames cs) ++ outer_of m.course.job t ≡ map known_of t.frames ++ outer_of m.course.job t
-  reach-same = ap (λ ks. ks ++ outer_of m.course.job t) (known-same (IsSegment m.setting) t.frames cs)
+  reach-same : map known_of (with_top_cells t.frames cs) ++ outer_of m.progress.job t ≡ map known_of t.frames ++ outer_of m.progress.job t
+  reach-same = ap (λ ks. ks ++ outer_of m.progress.job t) (known-same (IsSegment m.constants) t.frames cs)
 
-  tasks_in_order : TasksInOrder (IsSegment m.setting) m.setting (with_task m.course.job (task_with t cs q))
-  tasks_in_order = replaced (IsSegment m.setting) m.setting m.course.job t (with_task m.course.job (task_with t cs q)) (task_with t cs q) whole.tasks runs.task (record {
+  tasks_in_order : TasksInOrder (IsSegment m.constants) m.constants (with_task m.progress.job (task_with t cs q))
+  tasks_in_order = replaced (IsSegment m.constants) m.constants m.progress.job t (with_task m.progress.job (task_with t cs q)) (task_with t cs q) whole.tasks runs.task (record {
     number = refl;
     line = refl;
     critical = refl;
     tasks = refl;
     next_task = refl;
     next_frame = omega arith;
-    frames = frames_with (IsSegment m.setting) m.course.job.arrays (outer_of m.course.job t) t.frames cs own.frames words;
-    returns = returns_with (IsSegment m.setting) t.frames cs own.returns;
-    some = some_with t.frames cs own.some;
-    falls = subst (λ ks. Falls m.course.job.next_frame (known_numbers ks)) (sym reach-same) own.falls;
+    frames = frames_with (IsSegment m.constants) m.progress.job.arrays (outer_of m.progress.job t) t.frames cs own.frames words;
+    returns = returns_with (IsSegment m.constants) t.frames cs own.returns;
+    some = some_cells t.frames cs own.some;
+    falls = subst (λ ks. Falls m.progress.job.next_frame (known_numbers ks)) (sym reach-same) own.falls;
     not_higher = fits;
     place = record { from_one = own.place.from_one; within = own.place.within; word_fits = word_fits; syllable_fits = syllable_fits };
     condition = subst (λ ks. ConditionInOrder ks t.condition) (sym reach-same) own.condition;
@@ -100,21 +89,21 @@ module _ (plan : Plan) (s : Session) (m : Member) (t : Task) (ordered : IsInOrde
     fewer = λ n low. (let e = named_with n t.frames cs in omega (arith, e));
     kept = λ a k. record { case = inl (record { item = a; live = k; named = refl; owned = refl; long = omega arith }) };
     arrays = whole.tasks.arrays;
-    once = λ a k. (let e = originals_with a.identity t.frames cs own.some (originals a.identity) in let one = all_in (λ (b : Array). originals_of b.identity m.setting m.course.job ≡ 1) m.course.job.arrays a whole.tasks.once k in omega (arith, e, one));
+    once = λ a k. (let e = originals_with a.identity t.frames cs own.some (originals a.identity) in let one = all_in (λ (b : Array). originals_of b.identity m.constants m.progress.job ≡ 1) m.progress.job.arrays a whole.tasks.once k in omega (arith, e, one));
     names = whole.tasks.names;
     reads = whole.tasks.reads;
   })
 
-  some_ready : (u : Task) → Has m.course.job.tasks u → IsTrue (is_ready u) → (v : Task) × Has (with_task m.course.job (task_with t cs q)).tasks v × IsTrue (is_ready v)
-  some_ready u h ready = elim (change-kept (λ (v : Task). v.number) t.number (λ (v : Task). task_with t cs q) m.course.job.tasks t runs.task u h) [
+  some_ready : (u : Task) → Has m.progress.job.tasks u → IsTrue (is_ready u) → (v : Task) × Has (with_task m.progress.job (task_with t cs q)).tasks v × IsTrue (is_ready v)
+  some_ready u h ready = elim (change-kept (λ (v : Task). v.number) t.number (λ (v : Task). task_with t cs q) m.progress.job.tasks t runs.task u h) [
     | inl k ↦ (u, k, ready)
     | inr k ↦ (task_with t cs q, k.1, subst (λ (v : Task). IsTrue (is_ready v)) k.0 ready)
   ]
 
-  was_some : (with_task m.course.job (task_with t cs q)).tasks ≢ [] → m.course.job.tasks ≢ []
+  was_some : (with_task m.progress.job (task_with t cs q)).tasks ≢ [] → m.progress.job.tasks ≢ []
   was_some new_some e = new_some (ap (change_keyed (λ (v : Task). v.number) t.number (λ (v : Task). task_with t cs q)) e)
 
-  job_in_order : JobInOrder (IsSegment m.setting) m.setting (record m.course { job = with_task m.course.job (task_with t cs q) })
+  job_in_order : JobInOrder (IsSegment m.constants) m.constants (record m.progress { job = with_task m.progress.job (task_with t cs q) })
   job_in_order = record {
     unchanging = whole.unchanging;
     tasks = tasks_in_order;
@@ -127,5 +116,5 @@ module _ (plan : Plan) (s : Session) (m : Member) (t : Task) (ordered : IsInOrde
   }
 
   -- the session with these cells on top is in order
-  pub cells_in_order : IsInOrderButPlaces (with_job s m (with_task m.course.job (task_with t cs q)))
-  cells_in_order = member_kept s m (with_task m.course.job (task_with t cs q)) ordered runs.member job_in_order (length_change (λ (v : Task). v.number) t.number (task_with t cs q) m.course.job.tasks)
+  pub cells_in_order : IsInOrderButPlaces (with_job s m (with_task m.progress.job (task_with t cs q)))
+  cells_in_order = member_kept s m (with_task m.progress.job (task_with t cs q)) ordered runs.member job_in_order (length_change (λ (v : Task). v.number) t.number (task_with t cs q) m.progress.job.tasks)

@@ -5,13 +5,13 @@ use Rattle.std.proofs.lemmas.Bool.{cases_Bool}
 use Rattle.std.proofs.lemmas.List.{map-append}
 use Rattle.std.proofs.lemmas.Option.{same_Some}
 use Rattle.b67_model.specs.State as State
-use Rattle.b67_model.specs.State.{Frame, Standing, Task, Job, Course, Member, Here, all_frames, frame, no_frame, with_top_cells}
+use Rattle.b67_model.specs.State.{Frame, Standing, Task, Job, JobProgress, SessionJob, OperatorContext, all_frames, frame, no_frame, with_top_cells}
 use Rattle.b67_model.specs.Environment.{level_of_standing, environment_of, level_of_frame, running_from, running, outward, running_level, frame_at}
 use Rattle.b67_model.specs.InOrder.{Known, known_of}
 use Rattle.b67_model.specs.Keyed.{keyed, change_keyed}
-use Rattle.b67_stack.specs.Stacks.{Spot}
-use Rattle.b67_layout.specs.Plan.{Plan, spots, address_of}
-use Rattle.b67_layout.specs.Session.{Shows}
+use Rattle.b67_stack.specs.Stacks.{StackPlace}
+use Rattle.b67_layout.specs.Placement.{Placement, spots, address_of}
+use Rattle.b67_layout.specs.Session.{ShowsDisplay}
 
 -- looking up by identity reads identities and standings alone
 known_look : ℕ → Known → List Known → Known
@@ -50,7 +50,7 @@ running-known (f ∷ below) = running-by f.standing f (running below) ∙ ap (ru
 pub same_running : (xs ys : List Frame) → map known_of xs ≡ map known_of ys → known_of (running xs) ≡ known_of (running ys)
 same_running xs ys e = running-known xs ∙ ap run_look e ∙ sym (running-known ys)
 
-module _ (h h' : Here) (frames : map known_of (all_frames h') ≡ map known_of (all_frames h)) where
+module _ (h h' : OperatorContext) (frames : map known_of (all_frames h') ≡ map known_of (all_frames h)) where
   same_frame : (id : ℕ) → known_of (frame h' id) ≡ known_of (frame h id)
   same_frame id = same_look no_frame id (all_frames h') (all_frames h) frames
 
@@ -86,22 +86,22 @@ tasks_known n t t' e (y ∷ ys) k = ⊎_elim
     (cases_Bool (y.number == n))
 
 -- the display of the task that changed
-pub Shows-same : (display : List ℕ) (plan : Plan) (m : Member) (c : Course) (t t' : Task)
-    → keyed (λ (u : Task). u.number) t.number m.course.job.tasks ≡ Some t → c.job.tasks ≡ change_keyed (λ (u : Task). u.number) t.number (λ u. t') m.course.job.tasks
+pub Shows-same : (display : List ℕ) (plan : Placement) (m : SessionJob) (c : JobProgress) (t t' : Task)
+    → keyed (λ (u : Task). u.number) t.number m.progress.job.tasks ≡ Some t → c.job.tasks ≡ change_keyed (λ (u : Task). u.number) t.number (λ u. t') m.progress.job.tasks
     → map known_of t'.frames ≡ map known_of t.frames
-    → ((id : ℕ) → spots plan m.setting.number c.job t' id ≡ spots plan m.setting.number m.course.job t id)
-    → Shows display plan m t → Shows display plan (record m { course = c }) t'
+    → ((id : ℕ) → spots plan m.constants.number c.job t' id ≡ spots plan m.constants.number m.progress.job t id)
+    → ShowsDisplay display plan m t → ShowsDisplay display plan (record m { progress = c }) t'
 Shows-same display plan m c t t' there tasks own places shown n up =
-    let h : Here = record { setting = m.setting; job = m.course.job; task = t; at = t.place } in
-    let h' : Here = record { setting = m.setting; job = c.job; task = t'; at = t'.place } in
-    let in_tasks : map known_of (flat_map (λ (u : Task). u.frames) c.job.tasks) ≡ map known_of (flat_map (λ (u : Task). u.frames) m.course.job.tasks) =
-    ap (λ (ts : List Task). map known_of (flat_map (λ (u : Task). u.frames) ts)) tasks ∙ tasks_known t.number t t' own m.course.job.tasks there in
+    let h : OperatorContext = record { constants = m.constants; job = m.progress.job; task = t; at = t.place } in
+    let h' : OperatorContext = record { constants = m.constants; job = c.job; task = t'; at = t'.place } in
+    let in_tasks : map known_of (flat_map (λ (u : Task). u.frames) c.job.tasks) ≡ map known_of (flat_map (λ (u : Task). u.frames) m.progress.job.tasks) =
+    ap (λ (ts : List Task). map known_of (flat_map (λ (u : Task). u.frames) ts)) tasks ∙ tasks_known t.number t t' own m.progress.job.tasks there in
     let frames : map known_of (all_frames h') ≡ map known_of (all_frames h) =
-    map-append known_of (flat_map (λ (u : Task). u.frames) c.job.tasks) (m.setting.dictionary ∷ State.mcp ∷ [])
-    ∙ ap (λ (ks : List Known). ks ++ map known_of (m.setting.dictionary ∷ State.mcp ∷ [])) in_tasks
-    ∙ sym (map-append known_of (flat_map (λ (u : Task). u.frames) m.course.job.tasks) (m.setting.dictionary ∷ State.mcp ∷ [])) in
+    map-append known_of (flat_map (λ (u : Task). u.frames) c.job.tasks) (m.constants.dictionary ∷ State.mcp ∷ [])
+    ∙ ap (λ (ks : List Known). ks ++ map known_of (m.constants.dictionary ∷ State.mcp ∷ [])) in_tasks
+    ∙ sym (map-append known_of (flat_map (λ (u : Task). u.frames) m.progress.job.tasks) (m.constants.dictionary ∷ State.mcp ∷ [])) in
     let level : level_of_frame (running t'.frames) ≡ level_of_frame (running t.frames) = ap (λ (k : Known). level_of_standing k.1) (same_running t'.frames t.frames own) in
     let id : (frame_at h' n).identity ≡ (frame_at h n).identity = ap (λ (k : Known). k.0) (same_frame_at h h' frames n own) in
     shown n (omega (arith, up, level))
-    ∙ ap (λ (i : ℕ). Some (address_of plan (spots plan m.setting.number m.course.job t i))) (sym id)
-    ∙ ap (λ (s : Spot). Some (address_of plan s)) (sym (places (frame_at h' n).identity))
+    ∙ ap (λ (i : ℕ). Some (address_of plan (spots plan m.constants.number m.progress.job t i))) (sym id)
+    ∙ ap (λ (s : StackPlace). Some (address_of plan s)) (sym (places (frame_at h' n).identity))

@@ -5,12 +5,12 @@ use Rattle.b67_model.specs.Words.{Word}
 use Rattle.b67_model.specs.State as State
 use Rattle.b67_model.specs.State.{Standing, Frame, Job, head_words, words_of, height}
 use Rattle.b67_model.specs.Environment.{level_of_standing, level_of_frame, running_from, running}
-use Rattle.b67_stack.specs.Stacks.{Spot, head_size, top_size, high, running_level, level_from}
+use Rattle.b67_stack.specs.Stacks.{StackPlace, head_size, top_size, stack_words, running_level, level_from}
 use Rattle.b67_stack.specs.Changes.{with_cells, top_cells, below_top, new_mark}
-use Rattle.b67_layout.specs.Plan.{Plan, spot_in}
+use Rattle.b67_layout.specs.Placement.{Placement, spot_in}
 use Rattle.b67_layout.specs.Layout.{shape, head, activations}
 
-module _ (plan : Plan) (j : ℕ) (job : Job) (k : ℕ) (outer : ℕ → Spot) where
+module _ (plan : Placement) (j : ℕ) (job : Job) (k : ℕ) (outer : ℕ → StackPlace) where
   -- other cells on the top frame
   pub activations-cells : (f : Frame) (below : List Frame) (cells : List Word)
       → activations plan j job k outer (record f { cells = cells } ∷ below) ≡ with_cells (activations plan j job k outer (f ∷ below)) (map (shape plan j job (spot_in k outer (f ∷ below))) cells)
@@ -30,18 +30,18 @@ module _ (plan : Plan) (j : ℕ) (job : Job) (k : ℕ) (outer : ℕ → Spot) wh
   pub activations-cut : (f : Frame) (below : List Frame) → below_top (activations plan j job k outer (f ∷ below)) ≡ activations plan j job k outer below
   activations-cut f below = refl
 
-  head_size-head : (spot : ℕ → Spot) (s : Standing) → head_size (head spot s) ≡ head_words s
+  head_size-head : (spot : ℕ → StackPlace) (s : Standing) → head_size (head spot s) ≡ head_words s
   head_size-head spot State.Marked = refl
   head_size-head spot (State.Entered level environment back) = refl
 
   pub size-is : (f : Frame) (below : List Frame) → top_size (activations plan j job k outer (f ∷ below)) ≡ words_of f
   size-is f below = omega (arith, head_size-head (spot_in k outer below) f.standing, length-map f.cells (shape plan j job (spot_in k outer (f ∷ below))))
 
-  pub height-is : (fs : List Frame) → height fs ≡ suc (high (activations plan j job k outer fs))
+  pub height-is : (fs : List Frame) → height fs ≡ suc (stack_words (activations plan j job k outer fs))
   height-is [] = refl
   height-is (f ∷ below) = omega (arith, height-is below, size-is f below)
 
-  level-head : (spot : ℕ → Spot) (s : Standing) (f next : Frame) (level : ℕ) → f.standing ≡ s → level ≡ level_of_frame next → level_from (head spot s) level ≡ level_of_frame (running_from s f next)
+  level-head : (spot : ℕ → StackPlace) (s : Standing) (f next : Frame) (level : ℕ) → f.standing ≡ s → level ≡ level_of_frame next → level_from (head spot s) level ≡ level_of_frame (running_from s f next)
   level-head spot State.Marked f next level e h = h
   level-head spot (State.Entered level environment back) f next l e h = ap level_of_standing (sym e)
 

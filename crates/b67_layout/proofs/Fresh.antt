@@ -1,29 +1,19 @@
 -- The next frame's identity is free: no live task depends on it, and it isn't the MCP's.
-use Rattle.std.proofs.Common.{◌≡◌, ◌≢◌, ℕ, ◌<◌, List, [], ◌∷◌, ◌++◌, map, refl, arith, false, ◌==◌, inl, inr, subst}
-use Rattle.std.specs.List.{AllByRecursion, list_any}
+use Rattle.std.proofs.Common.{◌≡◌, ◌≢◌, ℕ, ◌<◌, List, [], ◌∷◌, ◌++◌, map, refl, arith, false, ◌==◌, inl, inr}
+use Rattle.std.specs.List.{list_any}
 use Rattle.std.proofs.lemmas.Bool.{ne_eqb}
 use Rattle.b67_lemmas.specs.Lists.{Has, Falls}
-use Rattle.b67_model.specs.State.{Frame, Task, Setting, Job, Member}
+use Rattle.b67_lemmas.proofs.Members.{all_in, falls_low, keyed-has}
+use Rattle.b67_model.specs.State.{Frame, Task, JobConstants, Job, SessionJob}
 use Rattle.b67_model.specs.Steps.{is_critical}
 use Rattle.b67_model.specs.Run.{number_of}
 use Rattle.b67_model.specs.Schedule.{Session}
 use Rattle.b67_model.specs.InOrder.{Starts, IsSegment, Known, known_of, known_numbers, identities, outer_of, reach_of, BirthInOrder, TaskInOrder, TasksInOrder, JobInOrder, IsInOrderButPlaces}
-use Rattle.b67_layout.specs.Plan.{Plan}
+use Rattle.b67_layout.specs.Placement.{Placement}
 use Rattle.b67_layout.specs.Session.{IsRunning}
-use Rattle.b67_layout.proofs.Others.{keyed-has}
 use Rattle.b67_layout.proofs.Steps.{IsFree}
 
-pub each : {A : Type 0} (P : A → Type 0) (xs : List A) (x : A) → AllByRecursion P xs → Has xs x → P x
-each P [] x all h = absurd h
-each P (y ∷ ys) x all (inl e) = subst P e all.0
-each P (y ∷ ys) x all (inr h) = each P ys x all.1 h
-
-pub falls-below : (bound : ℕ) (xs : List ℕ) (n : ℕ) → Falls bound xs → Has xs n → n < bound
-falls-below bound [] n f h = absurd h
-falls-below bound (y ∷ ys) n f (inl e) = omega (arith, f.0, e)
-falls-below bound (y ∷ ys) n f (inr h) = omega (arith, f.0, falls-below y ys n f.1 h)
-
-has-number : (fs : List Frame) (outer : List Known) (n : ℕ) → Has (identities fs) n → Has (known_numbers (map known_of fs ++ outer)) n
+pub has-number : (fs : List Frame) (outer : List Known) (n : ℕ) → Has (identities fs) n → Has (known_numbers (map known_of fs ++ outer)) n
 has-number [] outer n h = absurd h
 has-number (f ∷ below) outer n (inl e) = inl e
 has-number (f ∷ below) outer n (inr h) = inr (has-number below outer n h)
@@ -33,23 +23,23 @@ first-below bound [] outer some f = absurd (some refl)
 first-below bound (g ∷ below) outer some f = omega (arith, f.0)
 
 -- a member of a session in order is in order, and so are the tasks of one
-pub job_in_order : (s : Session) (m : Member) → IsInOrderButPlaces s → Has s.jobs m → JobInOrder (IsSegment m.setting) m.setting m.course
-job_in_order s m o h = each (λ (y : Member). JobInOrder (IsSegment y.setting) y.setting y.course) s.jobs m o.jobs h
+pub job_in_order : (s : Session) (m : SessionJob) → IsInOrderButPlaces s → Has s.jobs m → JobInOrder (IsSegment m.constants) m.constants m.progress
+job_in_order s m o h = all_in (λ (y : SessionJob). JobInOrder (IsSegment y.constants) y.constants y.progress) s.jobs m o.jobs h
 
-pub running_in_order : (plan : Plan) (s : Session) (m : Member) (t : Task) → IsInOrderButPlaces s → IsRunning plan s.jobs m t → JobInOrder (IsSegment m.setting) m.setting m.course × TaskInOrder (IsSegment m.setting) m.setting m.course.job t
+pub running_in_order : (plan : Placement) (s : Session) (m : SessionJob) (t : Task) → IsInOrderButPlaces s → IsRunning plan s.jobs m t → JobInOrder (IsSegment m.constants) m.constants m.progress × TaskInOrder (IsSegment m.constants) m.constants m.progress.job t
 running_in_order plan s m t o runs =
-    let j = job_in_order s m o (keyed-has number_of m.setting.number s.jobs m runs.member) in
-    (j, each (TaskInOrder (IsSegment m.setting) m.setting m.course.job) m.course.job.tasks t j.tasks.tasks (keyed-has (λ (u : Task). u.number) t.number m.course.job.tasks t runs.task))
+    let j = job_in_order s m o (keyed-has number_of m.constants.number s.jobs m runs.member) in
+    (j, all_in (TaskInOrder (IsSegment m.constants) m.constants m.progress.job) m.progress.job.tasks t j.tasks.tasks (keyed-has (λ (u : Task). u.number) t.number m.progress.job.tasks t runs.task))
 
-module _ (P : Starts) (setting : Setting) (job : Job) (o : TasksInOrder P setting job) where
-  task_in_order : (u : Task) → Has job.tasks u → TaskInOrder P setting job u
-  task_in_order u h = each (TaskInOrder P setting job) job.tasks u o.tasks h
+module _ (P : Starts) (constants : JobConstants) (job : Job) (o : TasksInOrder P constants job) where
+  task_in_order : (u : Task) → Has job.tasks u → TaskInOrder P constants job u
+  task_in_order u h = all_in (TaskInOrder P constants job) job.tasks u o.tasks h
 
   by_birth : (u : Task) (parents : List ℕ) → 0 < job.next_frame → BirthInOrder job u parents → u.critical < job.next_frame
   by_birth u [] low b = omega (arith, b.1)
   by_birth u (parent ∷ above) low b =
       let p = task_in_order b.parent (keyed-has (λ (v : Task). v.number) parent job.tasks b.parent b.found) in
-      falls-below job.next_frame (known_numbers (reach_of job b.parent)) u.critical p.falls (has-number b.parent.frames (outer_of job b.parent) u.critical b.is_critical)
+      falls_low job.next_frame (known_numbers (reach_of job b.parent)) u.critical p.falls (has-number b.parent.frames (outer_of job b.parent) u.critical b.is_critical)
 
   pub critical-below : (u : Task) → Has job.tasks u → u.critical < job.next_frame
   critical-below u h =
@@ -69,6 +59,6 @@ pub free-uncritical : (job : Job) (n : ℕ) → IsFree job n → is_critical job
 free-uncritical job n free = none_critical n job.tasks free.uncritical
 
 -- in a session in order
-pub fresh : (plan : Plan) (s : Session) (m : Member) (t : Task) → IsInOrderButPlaces s → IsRunning plan s.jobs m t → IsFree m.course.job m.course.job.next_frame
+pub fresh : (plan : Placement) (s : Session) (m : SessionJob) (t : Task) → IsInOrderButPlaces s → IsRunning plan s.jobs m t → IsFree m.progress.job m.progress.job.next_frame
 fresh plan s m t o runs =
-    next_is_free (IsSegment m.setting) m.setting m.course.job (job_in_order s m o (keyed-has number_of m.setting.number s.jobs m runs.member)).tasks t (keyed-has (λ (u : Task). u.number) t.number m.course.job.tasks t runs.task)
+    next_is_free (IsSegment m.constants) m.constants m.progress.job (job_in_order s m o (keyed-has number_of m.constants.number s.jobs m runs.member)).tasks t (keyed-has (λ (u : Task). u.number) t.number m.progress.job.tasks t runs.task)

@@ -4,10 +4,10 @@ use Rattle.std.specs.Prelude.{filter}
 use Rattle.std.specs.List.{list_any}
 use Rattle.std.proofs.lemmas.Bool.{cases_Bool, eq-eqb}
 use Rattle.b67_lemmas.specs.Lists.{Has}
-use Rattle.b67_model.specs.State.{Array, Job, Member}
-use Rattle.b67_layout.specs.Plan.{Plan}
-use Rattle.b67_layout.specs.Layout.{array_thing}
-use Rattle.b67_layout.specs.Meets.{gone, things_gone}
+use Rattle.b67_model.specs.State.{Array, Job, SessionJob}
+use Rattle.b67_layout.specs.Placement.{Placement}
+use Rattle.b67_layout.specs.Layout.{array_object}
+use Rattle.b67_layout.specs.Meets.{gone, objects_gone}
 
 named : (n : ℕ) (xs : List Array) → Has (map (λ (b : Array). b.identity) xs) n → list_any (λ (b : Array). b.identity == n) xs ≡ true
 named n [] h = absurd h
@@ -29,5 +29,5 @@ has-mapped (b ∷ bs) a (inr h) = inr (has-mapped bs a h)
 pub none_gone : (old new : Job) → map (λ (b : Array). b.identity) new.arrays ≡ map (λ (b : Array). b.identity) old.arrays → gone old new ≡ []
 none_gone old new e = none_left new.arrays old.arrays (λ a h. let P : List ℕ → Type 0 = λ ns. Has ns a.identity in subst P (sym e) (has-mapped old.arrays a h))
 
-pub no_things_gone : (plan : Plan) (m : Member) (job : Job) → map (λ (b : Array). b.identity) job.arrays ≡ map (λ (b : Array). b.identity) m.course.job.arrays → things_gone plan m job ≡ []
-no_things_gone plan m job e = ap (λ (xs : List Array). map (array_thing plan m.setting.number) xs) (none_gone m.course.job job e)
+pub no_objects_gone : (plan : Placement) (m : SessionJob) (job : Job) → map (λ (b : Array). b.identity) job.arrays ≡ map (λ (b : Array). b.identity) m.progress.job.arrays → objects_gone plan m job ≡ []
+no_objects_gone plan m job e = ap (λ (xs : List Array). map (array_object plan m.constants.number) xs) (none_gone m.progress.job job e)

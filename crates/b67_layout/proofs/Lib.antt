@@ -1,6 +1,6 @@
 pub mod Frames
 pub mod Others
-pub mod Pictures
+pub mod MachineViews
 pub mod Rows
 pub mod Sessions
 pub mod Steps

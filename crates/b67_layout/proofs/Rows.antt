@@ -1,17 +1,17 @@
 -- The row and the slot of a live task.
 use Rattle.std.proofs.Common.{◌≡◌, ℕ, ◌<◌, List, [], ◌∷◌, find, Option, Some, refl, sym, ◌∙◌, ap, Bool, true, false, ◌==◌, ⊎_elim, inl, inr, subst}
 use Rattle.std.specs.Prelude.{if◌then◌else◌, option_map, unwrap_or}
-use Rattle.std.proofs.lemmas.Option.{same_Some, none-some}
 use Rattle.std.proofs.lemmas.Bool.{cases_Bool, eq-eqb, eqb-true}
 use Rattle.b67_lemmas.specs.Lists.{Has}
-use Rattle.b67_model.specs.State.{Task, Member}
+use Rattle.b67_lemmas.proofs.Members.{found-has}
+use Rattle.b67_model.specs.State.{Task, SessionJob}
 use Rattle.b67_model.specs.Keyed.{keyed}
 use Rattle.b67_model.specs.Run.{number_of}
-use Rattle.b67_stack.specs.Picture.{Running, Waiting, RunsOn}
-use Rattle.b67_layout.specs.Plan.{Slotted, Plan, is_row_of, slot_of}
-use Rattle.b67_layout.specs.Layout.{stack_of_task, slot_with, slot_in, slot_by, picture}
+use Rattle.b67_stack.specs.MachineView.{Running, Waiting, RunsOn}
+use Rattle.b67_layout.specs.Placement.{Slotted, Placement, is_row_of, slot_of}
+use Rattle.b67_layout.specs.Layout.{stack_of_task, slot_with, slot_in, slot_by, machine_view}
 use Rattle.b67_layout.specs.Session.{RowsFit}
-use Rattle.b67_layout.proofs.Pictures.{RowOf}
+use Rattle.b67_layout.proofs.MachineViews.{RowOf}
 
 -- an item that passes a test is found, or another one before it
 pub record Finds {A : Type 0} (test : A → Bool) (xs : List A) : Type 0 where
@@ -39,31 +39,24 @@ row-true job task r e = ⊎_elim
     (λ (t : (r.job == job) ≡ false). absurd (let z : ⊥ = (let at : false ≡ true = rw t at e in cc) in z))
     (cases_Bool (r.job == job))
 
-pub found-has : {A : Type 0} (test : A → Bool) (xs : List A) (x : A) → find test xs ≡ Some x → Has xs x × (test x ≡ true)
-found-has test [] x e = absurd (none-some x e)
-found-has test (y ∷ ys) x e = ⊎_elim
-    (λ (t : test y ≡ true). let same : y ≡ x = same_Some y x (rw t at e) in (inl same, ap test (sym same) ∙ t))
-    (λ (t : test y ≡ false). let r = found-has test ys x (rw t at e) in (inr r.0, r.1))
-    (cases_Bool (test y))
-
 -- a live task's row
-pub record TaskRow (plan : Plan) (j task : ℕ) : Type 0 where
+pub record TaskRow (plan : Placement) (j task : ℕ) : Type 0 where
   pub row : Slotted
   pub among : Has plan.rows row
   pub job : row.job ≡ j
   pub number : row.task ≡ task
   pub slot : slot_of plan j task ≡ row.slot
 
-pub task_row : (plan : Plan) (jobs : List Member) (m : Member) (t : Task) → RowsFit plan jobs → Has jobs m → Has m.course.job.tasks t → TaskRow plan m.setting.number t.number
+pub task_row : (plan : Placement) (jobs : List SessionJob) (m : SessionJob) (t : Task) → RowsFit plan jobs → Has jobs m → Has m.progress.job.tasks t → TaskRow plan m.constants.number t.number
 task_row plan jobs m t fit inm int =
     let (r, inr_, ej, et) = fit.slotted m t inm int in
-    let f = finds (is_row_of m.setting.number t.number) plan.rows r inr_ (is_row-true m.setting.number t.number r ej et) in
-    let is = row-true m.setting.number t.number f.item f.passes in
+    let f = finds (is_row_of m.constants.number t.number) plan.rows r inr_ (is_row-true m.constants.number t.number r ej et) in
+    let is = row-true m.constants.number t.number f.item f.passes in
     record { row = f.item; among = f.among; job = is.0; number = is.1; slot = ap (λ (o : Option Slotted). unwrap_or (option_map (λ (r : Slotted). r.slot) o) 255) f.found }
 
 -- the row of the running task
-pub row_of : (plan : Plan) (jobs : List Member) (m : Member) (t : Task) → RowsFit plan jobs → Has jobs m → Has m.course.job.tasks t → plan.running ≡ slot_of plan m.setting.number t.number
-    → RowOf plan m.setting.number t.number plan.running
+pub row_of : (plan : Placement) (jobs : List SessionJob) (m : SessionJob) (t : Task) → RowsFit plan jobs → Has jobs m → Has m.progress.job.tasks t → plan.running ≡ slot_of plan m.constants.number t.number
+    → RowOf plan m.constants.number t.number plan.running
 row_of plan jobs m t fit inm int runs =
     let a = task_row plan jobs m t fit inm int in
     let at : a.row.slot ≡ plan.running = sym (runs ∙ a.slot) in
@@ -81,22 +74,22 @@ row_of plan jobs m t fit inm int runs =
           sym (eqb-true r.slot i h.1) ∙ ap (λ (q : Slotted). q.slot) is ∙ at;
     }
 
-pub slot_below : (plan : Plan) (jobs : List Member) (m : Member) (t : Task) → RowsFit plan jobs → Has jobs m → Has m.course.job.tasks t → slot_of plan m.setting.number t.number < plan.peak
+pub slot_below : (plan : Placement) (jobs : List SessionJob) (m : SessionJob) (t : Task) → RowsFit plan jobs → Has jobs m → Has m.progress.job.tasks t → slot_of plan m.constants.number t.number < plan.peak
 slot_below plan jobs m t fit inm int = let a = task_row plan jobs m t fit inm int in subst (λ (n : ℕ). n < plan.peak) (sym a.slot) (fit.below a.row a.among)
 
 -- the running task runs on the stack of its frames
-pub runs_on : (plan : Plan) (jobs : List Member) (m : Member) (t : Task) → RowsFit plan jobs → Has jobs m → Has m.course.job.tasks t → plan.running ≡ slot_of plan m.setting.number t.number
-    → keyed number_of m.setting.number jobs ≡ Some m → keyed (λ (u : Task). u.number) t.number m.course.job.tasks ≡ Some t
-    → RunsOn (picture plan jobs) plan.running (stack_of_task plan m.setting.number m.course.job plan.running t)
+pub runs_on : (plan : Placement) (jobs : List SessionJob) (m : SessionJob) (t : Task) → RowsFit plan jobs → Has jobs m → Has m.progress.job.tasks t → plan.running ≡ slot_of plan m.constants.number t.number
+    → keyed number_of m.constants.number jobs ≡ Some m → keyed (λ (u : Task). u.number) t.number m.progress.job.tasks ≡ Some t
+    → RunsOn (machine_view plan jobs) plan.running (stack_of_task plan m.constants.number m.progress.job plan.running t)
 runs_on plan jobs m t fit inm int runs km kt =
     let r = row_of plan jobs m t fit inm int runs in
-    let j = m.setting.number in
+    let j = m.constants.number in
     record {
       used = subst (λ (n : ℕ). n < plan.peak) (sym runs) (slot_below plan jobs m t fit inm int);
       is = ap (slot_by plan jobs plan.running) r.found
           ∙ ap (λ (i : ℕ). slot_in plan plan.running i r.row.task (keyed number_of i jobs)) r.job
           ∙ ap (slot_in plan plan.running j r.row.task) km
-          ∙ ap (λ (i : ℕ). slot_with plan plan.running j m.course.job (keyed (λ (u : Task). u.number) i m.course.job.tasks)) r.number
-          ∙ ap (slot_with plan plan.running j m.course.job) kt
-          ∙ ap (λ (b : Bool). if b then Running (stack_of_task plan j m.course.job plan.running t) else Waiting (stack_of_task plan j m.course.job plan.running t)) (eq-eqb plan.running plan.running refl);
+          ∙ ap (λ (i : ℕ). slot_with plan plan.running j m.progress.job (keyed (λ (u : Task). u.number) i m.progress.job.tasks)) r.number
+          ∙ ap (slot_with plan plan.running j m.progress.job) kt
+          ∙ ap (λ (b : Bool). if b then Running (stack_of_task plan j m.progress.job plan.running t) else Waiting (stack_of_task plan j m.progress.job plan.running t)) (eq-eqb plan.running plan.running refl);
     }

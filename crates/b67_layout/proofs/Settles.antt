@@ -4,9 +4,9 @@ use Rattle.b67_word.specs.Tagged.{Tagged}
 use Rattle.b67_ctl.specs.declared.registers.Regs.{Regs}
 use Rattle.b67_lemmas.specs.Lists.{Has}
 use Rattle.b67_stack.specs.Shapes.{Shape, Original}
-use Rattle.b67_stack.specs.Stacks.{Activation, high}
-use Rattle.b67_stack.specs.Picture.{Thing, Picture, RunsOn, Settled}
-use Rattle.b67_stack.specs.Stands.{Storage, Stands}
+use Rattle.b67_stack.specs.Stacks.{Activation, stack_words}
+use Rattle.b67_stack.specs.MachineView.{PagedObject, MachineView, RunsOn, NoOriginalAboveTop}
+use Rattle.b67_stack.specs.Represents.{Storage, Represents}
 use Rattle.b67_stack.specs.Changes.{with_stack}
 use Rattle.b67_stack.proofs.Slots.{running_slot}
 use Rattle.b67_stack.proofs.Pushes.{Settled-with}
@@ -17,8 +17,8 @@ use Rattle.b67_stack.proofs.Homes.{not_home}
 abbrev pub NoOriginals : List Shape → Type 0
 NoOriginals shapes = (home : ℕ) → Has shapes (Original home) → ⊥
 
-module _ (x : Storage) (core : List Tagged) (r : Regs) (p : Picture) (k : ℕ) (a : Activation) (below : List Activation) (s : Stands x core r p) (u : RunsOn p k (a ∷ below)) where
-  lowered : (t : Thing) → Has p.things t → (gone above rest : List Shape) → a.cells ≡ above ++ (gone ++ rest) → NoOriginals gone → t.home ≤ r.s - length above → t.home ≤ r.s - length above - length gone
+module _ (x : Storage) (core : List Tagged) (r : Regs) (p : MachineView) (k : ℕ) (a : Activation) (below : List Activation) (s : Represents x core r p) (u : RunsOn p k (a ∷ below)) where
+  lowered : (t : PagedObject) → Has p.objects t → (gone above rest : List Shape) → a.cells ≡ above ++ (gone ++ rest) → NoOriginals gone → t.home ≤ r.s - length above → t.home ≤ r.s - length above - length gone
   lowered t int [] above rest e plain h = omega (arith, h)
   lowered t int (c ∷ more) above rest e plain h =
       let top = running_slot x core r p k (a ∷ below) s u in
@@ -33,7 +33,7 @@ module _ (x : Storage) (core : List Tagged) (r : Regs) (p : Picture) (k : ℕ) (
       omega (arith, next, longer)
 
   -- cells are dropped
-  pub Settled-drop : (gone rest : List Shape) → a.cells ≡ gone ++ rest → NoOriginals gone → Settled p → Settled (with_stack p k (record a { cells = rest } ∷ below))
+  pub Settled-drop : (gone rest : List Shape) → a.cells ≡ gone ++ rest → NoOriginals gone → NoOriginalAboveTop p → NoOriginalAboveTop (with_stack p k (record a { cells = rest } ∷ below))
   Settled-drop gone rest e plain settled =
       let top = running_slot x core r p k (a ∷ below) s u in
       let count : length a.cells ≡ length gone + length rest = ap length e ∙ length-append gone rest in
@@ -41,5 +41,5 @@ module _ (x : Storage) (core : List Tagged) (r : Regs) (p : Picture) (k : ℕ) (
       (λ t int low up. let d = lowered t int gone [] rest e plain (omega (arith, up, top.top)) in omega (arith, d, top.top, count)) settled
 
 -- words are put on
-pub Settled-more : (p : Picture) (k : ℕ) (stack after : List Activation) → RunsOn p k stack → high stack ≤ high after → Settled p → Settled (with_stack p k after)
+pub Settled-more : (p : MachineView) (k : ℕ) (stack after : List Activation) → RunsOn p k stack → stack_words stack ≤ stack_words after → NoOriginalAboveTop p → NoOriginalAboveTop (with_stack p k after)
 Settled-more p k stack after u h settled = Settled-with p k stack after u (λ t int low up. omega (arith, up, h)) settled

@@ -1,27 +1,27 @@
 -- A machine that stands for a session with a running task meets what push, pop, mark and cut ask for.
 use Rattle.std.proofs.Common.{◌≡◌, ℕ, sym, ◌∙◌, subst}
-use Rattle.b67_model.specs.State.{Task, Member}
+use Rattle.b67_model.specs.State.{Task, SessionJob}
 use Rattle.b67_model.specs.Run.{number_of}
 use Rattle.b67_model.specs.Schedule.{Session}
 use Rattle.b67_stack.specs.declared.Cpu.{Cpu}
-use Rattle.b67_stack.specs.Picture.{RunsOn}
-use Rattle.b67_stack.specs.Stands.{Storage}
+use Rattle.b67_stack.specs.MachineView.{RunsOn}
+use Rattle.b67_stack.specs.Represents.{Storage}
 use Rattle.b67_stack.specs.Changes.{Runs}
-use Rattle.b67_layout.specs.Plan.{Plan}
-use Rattle.b67_layout.specs.Layout.{picture, stack_of_task}
-use Rattle.b67_layout.specs.Session.{IsRunning, SessionStands}
-use Rattle.b67_layout.proofs.Others.{keyed-has}
+use Rattle.b67_layout.specs.Placement.{Placement}
+use Rattle.b67_layout.specs.Layout.{machine_view, stack_of_task}
+use Rattle.b67_layout.specs.Session.{IsRunning, RepresentsSession}
 use Rattle.b67_layout.proofs.Rows.{runs_on}
+use Rattle.b67_lemmas.proofs.Members.{keyed-has}
 
-module _ (x : Storage) (cpu : Cpu) (plan : Plan) (s : Session) (m : Member) (t : Task) (h : SessionStands x cpu plan s) (runs : IsRunning plan s.jobs m t) where
+module _ (x : Storage) (cpu : Cpu) (plan : Placement) (s : Session) (m : SessionJob) (t : Task) (h : RepresentsSession x cpu plan s) (runs : IsRunning plan s.jobs m t) where
   -- the running slot is that of the registers
   pub slot_is : cpu.regs.slot ≡ plan.running
   slot_is = (h.holds.running m t runs).slot ∙ sym runs.slot
 
-  pub runs_here : RunsOn (picture plan s.jobs) cpu.regs.slot (stack_of_task plan m.setting.number m.course.job plan.running t)
+  pub runs_here : RunsOn (machine_view plan s.jobs) cpu.regs.slot (stack_of_task plan m.constants.number m.progress.job plan.running t)
   runs_here =
-      let P : ℕ → Type 0 = λ k. RunsOn (picture plan s.jobs) k (stack_of_task plan m.setting.number m.course.job plan.running t) in
-      subst P (sym slot_is) (runs_on plan s.jobs m t h.holds.fits.rows (keyed-has number_of m.setting.number s.jobs m runs.member) (keyed-has (λ (u : Task). u.number) t.number m.course.job.tasks t runs.task) runs.slot runs.member runs.task)
+      let P : ℕ → Type 0 = λ k. RunsOn (machine_view plan s.jobs) k (stack_of_task plan m.constants.number m.progress.job plan.running t) in
+      subst P (sym slot_is) (runs_on plan s.jobs m t h.holds.fits.rows (keyed-has number_of m.constants.number s.jobs m runs.member) (keyed-has (λ (u : Task). u.number) t.number m.progress.job.tasks t runs.task) runs.slot runs.member runs.task)
 
   pub meets_runs : Runs cpu
-  meets_runs = record { storage = x; picture = picture plan s.jobs; stack = stack_of_task plan m.setting.number m.course.job plan.running t; stands = h.holds.memory; runs = runs_here }
+  meets_runs = record { storage = x; machine_view = machine_view plan s.jobs; stack = stack_of_task plan m.constants.number m.progress.job plan.running t; stands = h.holds.memory; runs = runs_here }

@@ -6,36 +6,37 @@ use Rattle.b67_word.specs.Tagged.{Tagged}
 use Rattle.b67_word.specs.declared.couples.Place.{Place}
 use Rattle.b67_ctl.specs.declared.registers.Regs.{Regs}
 use Rattle.b67_lemmas.specs.Lists.{Has}
+use Rattle.b67_lemmas.proofs.Members.{keyed-has}
 use Rattle.b67_model.specs.Words.{Word}
 use Rattle.b67_model.specs.State as State
-use Rattle.b67_model.specs.State.{Frame, Task, Job, Course, Member, height, with_top_cells, with_task}
+use Rattle.b67_model.specs.State.{Frame, Task, Job, JobProgress, SessionJob, height, with_top_cells, with_task}
 use Rattle.b67_model.specs.InOrder.{from_frame}
 use Rattle.b67_model.specs.Steps.{is_critical}
 use Rattle.b67_model.specs.Schedule.{Session}
-use Rattle.b67_stack.specs.Stacks.{Spot, Activation}
-use Rattle.b67_stack.specs.Picture.{Picture, Settled}
-use Rattle.b67_stack.specs.Stands.{Storage, Stands}
+use Rattle.b67_stack.specs.Stacks.{StackPlace, Activation}
+use Rattle.b67_stack.specs.MachineView.{MachineView, NoOriginalAboveTop}
+use Rattle.b67_stack.specs.Represents.{Storage, Represents}
 use Rattle.b67_stack.specs.Changes.{with_stack, with_cells, new_mark}
-use Rattle.b67_layout.specs.Plan.{Plan, spot_in, outer_spots}
-use Rattle.b67_layout.specs.Layout.{shape, activations, stack_of_task, picture}
-use Rattle.b67_layout.specs.Session.{TaskStands, IsRunning, critical_mark, SessionHolds}
-use Rattle.b67_layout.proofs.Others.{OnTop, seen-cells, seen-mark, keyed-has}
-use Rattle.b67_layout.proofs.Pictures.{with_course, picture-after, stack-after}
+use Rattle.b67_layout.specs.Placement.{Placement, spot_in, outer_spots}
+use Rattle.b67_layout.specs.Layout.{shape, activations, stack_of_task, machine_view}
+use Rattle.b67_layout.specs.Session.{RepresentsTask, IsRunning, critical_mark, SessionHolds}
+use Rattle.b67_layout.proofs.Others.{OnTop, seen-cells, seen-mark}
+use Rattle.b67_layout.proofs.MachineViews.{with_course, machine_view-after, stack-after}
 use Rattle.b67_layout.proofs.Rows.{row_of}
 use Rattle.b67_layout.proofs.Sessions.{SessionHolds-after}
 use Rattle.b67_model.specs.Keyed.{change_keyed}
 use Rattle.b67_model.specs.Run.{number_of}
 
-pub activations-with : (plan : Plan) (j : ℕ) (job : Job) (k : ℕ) (outer : ℕ → Spot) (fs : List Frame) (cells : List Word)
+pub activations-with : (plan : Placement) (j : ℕ) (job : Job) (k : ℕ) (outer : ℕ → StackPlace) (fs : List Frame) (cells : List Word)
     → activations plan j job k outer (with_top_cells fs cells) ≡ with_cells (activations plan j job k outer fs) (map (shape plan j job (spot_in k outer fs)) cells)
 activations-with plan j job k outer [] cells = refl
 activations-with plan j job k outer (f ∷ below) cells = refl
 
-pub seen-with : (fs : List Frame) (cells : List Word) (c s : ℕ) (outer : ℕ → Spot) (id : ℕ) → spot_in s outer (from_frame c (with_top_cells fs cells)) id ≡ spot_in s outer (from_frame c fs) id
+pub seen-with : (fs : List Frame) (cells : List Word) (c s : ℕ) (outer : ℕ → StackPlace) (id : ℕ) → spot_in s outer (from_frame c (with_top_cells fs cells)) id ≡ spot_in s outer (from_frame c fs) id
 seen-with [] cells c s outer id = refl
 seen-with (f ∷ below) cells c s outer id = seen-cells f below cells c s outer id
 
-critical-with : (job : Job) (fs : List Frame) (cells : List Word) → critical_mark job (with_top_cells fs cells) ≡ critical_mark job fs
+pub critical-with : (job : Job) (fs : List Frame) (cells : List Word) → critical_mark job (with_top_cells fs cells) ≡ critical_mark job fs
 critical-with job [] cells = refl
 critical-with job (f ∷ below) cells = refl
 
@@ -52,52 +53,52 @@ pub record GoesOn (r r' : Regs) (q : Place) : Type 0 where
   pub segment : r'.segment ≡ r.segment
   pub place : r'.place ≡ q
 
-module _ (x : Storage) (core new : List Tagged) (r r' : Regs) (marks : List ℕ) (plan : Plan) (s : Session) (m : Member) (t : Task) (q : Place)
+module _ (x : Storage) (core new : List Tagged) (r r' : Regs) (marks : List ℕ) (plan : Placement) (s : Session) (m : SessionJob) (t : Task) (q : Place)
     (h : SessionHolds x core r marks plan s) (runs : IsRunning plan s.jobs m t) (same : (i : ℕ) → i < plan.stacks → slice_get new i ≡ slice_get core i) (on : GoesOn r r' q) where
   has_m : Has s.jobs m
-  has_m = keyed-has number_of m.setting.number s.jobs m runs.member
+  has_m = keyed-has number_of m.constants.number s.jobs m runs.member
 
-  has_t : Has m.course.job.tasks t
-  has_t = keyed-has (λ (u : Task). u.number) t.number m.course.job.tasks t runs.task
+  has_t : Has m.progress.job.tasks t
+  has_t = keyed-has (λ (u : Task). u.number) t.number m.progress.job.tasks t runs.task
 
   -- the outer spots that the running task names
-  abbrev pub outer : ℕ → Spot
-  outer = outer_spots plan m.setting.number m.course.job t.critical t.parents
+  abbrev pub outer : ℕ → StackPlace
+  outer = outer_spots plan m.constants.number m.progress.job t.critical t.parents
 
   -- the running stack
   abbrev pub running_stack : List Activation
-  running_stack = stack_of_task plan m.setting.number m.course.job plan.running t
+  running_stack = stack_of_task plan m.constants.number m.progress.job plan.running t
 
-  task_stands : (c : Course) (fs : List Frame) → TaskStands r' plan (record m { course = c }) (record t { frames = fs; place = q })
+  task_stands : (c : JobProgress) (fs : List Frame) → RepresentsTask r' plan (record m { progress = c }) (record t { frames = fs; place = q })
   task_stands c fs =
       let o = h.running m t runs in
       record { slot = on.slot ∙ o.slot; dict = on.dict ∙ o.dict; entries = on.entries ∙ o.entries; segment = on.segment ∙ o.segment; place = on.place }
 
   -- the session with a job of the running task's, which differs from the old one by that task on top of frame n
-  after : (job' : Job) (fs : List Frame) (stack : List Activation) (n : ℕ) → OnTop m.course.job job' t (record t { frames = fs; place = q }) n
-      → critical_mark m.course.job fs ≡ critical_mark m.course.job t.frames
-      → activations plan m.setting.number m.course.job plan.running outer fs ≡ stack
-      → Stands x new r' (with_stack (picture plan s.jobs) plan.running stack)
-      → Settled (with_stack (picture plan s.jobs) plan.running stack)
-      → SessionHolds x new r' marks plan (record s { jobs = with_course s.jobs m.setting.number (record m.course { job = job' }) })
+  after : (job' : Job) (fs : List Frame) (stack : List Activation) (n : ℕ) → OnTop m.progress.job job' t (record t { frames = fs; place = q }) n
+      → critical_mark m.progress.job fs ≡ critical_mark m.progress.job t.frames
+      → activations plan m.constants.number m.progress.job plan.running outer fs ≡ stack
+      → Represents x new r' (with_stack (machine_view plan s.jobs) plan.running stack)
+      → NoOriginalAboveTop (with_stack (machine_view plan s.jobs) plan.running stack)
+      → SessionHolds x new r' marks plan (record s { jobs = with_course s.jobs m.constants.number (record m.progress { job = job' }) })
   after job' fs stack n top critical is stands settled =
-      let c : Course = record m.course { job = job' } in
+      let c : JobProgress = record m.progress { job = job' } in
       let t' : Task = record t { frames = fs; place = q } in
       let row = row_of plan s.jobs m t h.fits.rows has_m has_t runs.slot in
-      let e : picture plan (with_course s.jobs m.setting.number c) ≡ with_stack (picture plan s.jobs) plan.running stack =
-      picture-after plan s.jobs m.setting.number m c t t' n plan.running runs.member top row
-      ∙ ap (λ (xs : List Activation). with_stack (picture plan s.jobs) plan.running xs) (stack-after plan s.jobs m.setting.number m c t t' n plan.running runs.member top row ∙ is) in
-      let P : Picture → Type 0 = λ p. Stands x new r' p in
-      SessionHolds-after x core new r r' marks plan s m c t t' n h runs top same critical (subst P (sym e) stands) (subst Settled (sym e) settled) (task_stands c fs)
+      let e : machine_view plan (with_course s.jobs m.constants.number c) ≡ with_stack (machine_view plan s.jobs) plan.running stack =
+      machine_view-after plan s.jobs m.constants.number m c t t' n plan.running runs.member top row
+      ∙ ap (λ (xs : List Activation). with_stack (machine_view plan s.jobs) plan.running xs) (stack-after plan s.jobs m.constants.number m c t t' n plan.running runs.member top row ∙ is) in
+      let P : MachineView → Type 0 = λ p. Represents x new r' p in
+      SessionHolds-after x core new r r' marks plan s m c t t' n h runs top same critical (subst P (sym e) stands) (subst NoOriginalAboveTop (sym e) settled) (task_stands c fs)
 
   -- other cells in the top frame
-  pub SessionHolds-cells : (n : ℕ) (cells : List Word) → IsFree m.course.job n
-      → Stands x new r' (with_stack (picture plan s.jobs) plan.running (with_cells running_stack (map (shape plan m.setting.number m.course.job (spot_in plan.running outer t.frames)) cells)))
-      → Settled (with_stack (picture plan s.jobs) plan.running (with_cells running_stack (map (shape plan m.setting.number m.course.job (spot_in plan.running outer t.frames)) cells)))
-      → SessionHolds x new r' marks plan (record s { jobs = with_course s.jobs m.setting.number (record m.course { job = with_task m.course.job (record t { frames = with_top_cells t.frames cells; place = q }) }) })
+  pub SessionHolds-cells : (n : ℕ) (cells : List Word) → IsFree m.progress.job n
+      → Represents x new r' (with_stack (machine_view plan s.jobs) plan.running (with_cells running_stack (map (shape plan m.constants.number m.progress.job (spot_in plan.running outer t.frames)) cells)))
+      → NoOriginalAboveTop (with_stack (machine_view plan s.jobs) plan.running (with_cells running_stack (map (shape plan m.constants.number m.progress.job (spot_in plan.running outer t.frames)) cells)))
+      → SessionHolds x new r' marks plan (record s { jobs = with_course s.jobs m.constants.number (record m.progress { job = with_task m.progress.job (record t { frames = with_top_cells t.frames cells; place = q }) }) })
   SessionHolds-cells n cells free stands settled =
-      after (with_task m.course.job (record t { frames = with_top_cells t.frames cells; place = q })) (with_top_cells t.frames cells)
-      (with_cells running_stack (map (shape plan m.setting.number m.course.job (spot_in plan.running outer t.frames)) cells)) n
+      after (with_task m.progress.job (record t { frames = with_top_cells t.frames cells; place = q })) (with_top_cells t.frames cells)
+      (with_cells running_stack (map (shape plan m.constants.number m.progress.job (spot_in plan.running outer t.frames)) cells)) n
       (record {
         there = runs.task;
         number = refl;
@@ -109,15 +110,15 @@ module _ (x : Storage) (core new : List Tagged) (r r' : Regs) (marks : List ℕ)
         uncritical = free.uncritical;
         same = λ c k o id ne. seen-with t.frames cells c k o id;
       })
-      (critical-with m.course.job t.frames cells)
-      (activations-with plan m.setting.number m.course.job plan.running outer t.frames cells) stands settled
+      (critical-with m.progress.job t.frames cells)
+      (activations-with plan m.constants.number m.progress.job plan.running outer t.frames cells) stands settled
 
   -- a mark on the top frame, of a new identity
-  pub SessionHolds-mark : (job : Job) (n : ℕ) → job.tasks ≡ m.course.job.tasks → job.arrays ≡ m.course.job.arrays → IsFree m.course.job n → is_critical m.course.job n ≡ false
-      → Stands x new r' (with_stack (picture plan s.jobs) plan.running (new_mark ∷ running_stack))
-      → Settled (with_stack (picture plan s.jobs) plan.running (new_mark ∷ running_stack))
+  pub SessionHolds-mark : (job : Job) (n : ℕ) → job.tasks ≡ m.progress.job.tasks → job.arrays ≡ m.progress.job.arrays → IsFree m.progress.job n → is_critical m.progress.job n ≡ false
+      → Represents x new r' (with_stack (machine_view plan s.jobs) plan.running (new_mark ∷ running_stack))
+      → NoOriginalAboveTop (with_stack (machine_view plan s.jobs) plan.running (new_mark ∷ running_stack))
       → let fs = record { identity = n; standing = State.Marked; cells = [] } ∷ t.frames in
-      SessionHolds x new r' marks plan (record s { jobs = with_course s.jobs m.setting.number (record m.course { job = with_task job (record t { frames = fs; place = q }) }) })
+      SessionHolds x new r' marks plan (record s { jobs = with_course s.jobs m.constants.number (record m.progress { job = with_task job (record t { frames = fs; place = q }) }) })
   SessionHolds-mark job n tasks arrays free uncritical stands settled =
       let f : Frame = record { identity = n; standing = State.Marked; cells = [] } in
       after (with_task job (record t { frames = f ∷ t.frames; place = q })) (f ∷ t.frames) (new_mark ∷ running_stack) n
@@ -132,4 +133,4 @@ module _ (x : Storage) (core new : List Tagged) (r r' : Regs) (marks : List ℕ)
         uncritical = free.uncritical;
         same = λ c k o id ne. seen-mark f t.frames c k o id ne;
       })
-      (ap (λ (b : Bool). if b then height t.frames else critical_mark m.course.job t.frames) uncritical) refl stands settled
+      (ap (λ (b : Bool). if b then height t.frames else critical_mark m.progress.job t.frames) uncritical) refl stands settled

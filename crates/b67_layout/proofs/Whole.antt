@@ -3,28 +3,25 @@ use Rattle.std.proofs.Common.{◌≡◌, ◌≢◌, ℕ, ◌<◌, List, [], ◌�
 use Rattle.std.specs.List.{slice_get}
 use Rattle.b67_word.specs.declared.couples.Place.{Place}
 use Rattle.b67_model.specs.Words.{Word}
-use Rattle.b67_model.specs.State.{Frame, Task, Course, Member, with_top_cells, with_task}
-use Rattle.b67_model.specs.InOrder.{known_of}
+use Rattle.b67_model.specs.State.{Frame, Task, JobProgress, SessionJob, with_top_cells, with_task}
 use Rattle.b67_model.specs.Schedule.{Session}
 use Rattle.b67_stack.specs.declared.Cpu.{Cpu}
-use Rattle.b67_stack.specs.Stacks.{Spot}
-use Rattle.b67_stack.specs.Picture.{Settled}
-use Rattle.b67_stack.specs.Stands.{Storage, Stands}
+use Rattle.b67_stack.specs.Stacks.{StackPlace}
+use Rattle.b67_stack.specs.MachineView.{NoOriginalAboveTop}
+use Rattle.b67_stack.specs.Represents.{Storage, Represents}
 use Rattle.b67_stack.specs.Changes.{with_stack, with_cells}
-use Rattle.b67_layout.specs.Plan.{Plan, slot_of, spot_in, outer_spots, spots}
-use Rattle.b67_layout.specs.Layout.{shape, stack_of_task, picture}
-use Rattle.b67_layout.specs.Session.{IsRunning, Shows, SessionHolds, SessionStands}
-use Rattle.b67_layout.proofs.Others.{OnTop, outer_spots-after, task-same, keyed-has}
-use Rattle.b67_layout.proofs.Pictures.{with_course, member-same}
+use Rattle.b67_layout.specs.Placement.{Placement, slot_of, spot_in, outer_spots, spots}
+use Rattle.b67_layout.specs.Layout.{shape, stack_of_task, machine_view}
+use Rattle.b67_layout.specs.Session.{IsRunning, ShowsDisplay, SessionHolds, RepresentsSession}
+use Rattle.b67_layout.proofs.Others.{OnTop, outer_spots-after, task-same}
+use Rattle.b67_layout.proofs.MachineViews.{with_course, member-same}
 use Rattle.b67_layout.proofs.Sessions.{running_only}
 use Rattle.b67_layout.proofs.Steps.{IsFree, GoesOn, seen-with, SessionHolds-cells}
 use Rattle.b67_layout.proofs.Displays.{Shows-same}
+use Rattle.b67_lemmas.proofs.Members.{keyed-has}
+use Rattle.b67_law_order.proofs.Looks.{known_cells}
 
-known-with : (fs : List Frame) (cells : List Word) → map known_of (with_top_cells fs cells) ≡ map known_of fs
-known-with [] cells = refl
-known-with (f ∷ below) cells = refl
-
-spots-with : (k : ℕ) (outer : ℕ → Spot) (fs : List Frame) (cells : List Word) (id : ℕ) → spot_in k outer (with_top_cells fs cells) id ≡ spot_in k outer fs id
+pub spots-with : (k : ℕ) (outer : ℕ → StackPlace) (fs : List Frame) (cells : List Word) (id : ℕ) → spot_in k outer (with_top_cells fs cells) id ≡ spot_in k outer fs id
 spots-with k outer [] cells id = refl
 spots-with k outer (f ∷ below) cells id = refl
 
@@ -32,20 +29,20 @@ spots-with k outer (f ∷ below) cells id = refl
 abbrev pub task_with : Task → List Word → Place → Task
 task_with t cells q = record t { frames = with_top_cells t.frames cells; place = q }
 
-abbrev pub session_with : Session → Member → Task → List Word → Place → Session
+abbrev pub session_with : Session → SessionJob → Task → List Word → Place → Session
 session_with s m t cells q =
-    record s { jobs = with_course s.jobs m.setting.number (record m.course { job = with_task m.course.job (task_with t cells q) }) }
+    record s { jobs = with_course s.jobs m.constants.number (record m.progress { job = with_task m.progress.job (task_with t cells q) }) }
 
-module _ (x : Storage) (old new : Cpu) (plan : Plan) (s : Session) (m : Member) (t : Task) (q : Place) (h : SessionStands x old plan s) (runs : IsRunning plan s.jobs m t)
+module _ (x : Storage) (old new : Cpu) (plan : Placement) (s : Session) (m : SessionJob) (t : Task) (q : Place) (h : RepresentsSession x old plan s) (runs : IsRunning plan s.jobs m t)
     (same : (i : ℕ) → i < plan.stacks → slice_get new.core i ≡ slice_get old.core i) (on : GoesOn old.regs new.regs q) (display : new.display ≡ old.display) (critical : new.critical ≡ old.critical) where
-  pub SessionStands-cells : (n : ℕ) (cells : List Word) → IsFree m.course.job n
-      → let stack = with_cells (stack_of_task plan m.setting.number m.course.job plan.running t) (map (shape plan m.setting.number m.course.job (spot_in plan.running (outer_spots plan m.setting.number m.course.job t.critical t.parents) t.frames)) cells) in
-      Stands x new.core new.regs (with_stack (picture plan s.jobs) plan.running stack) → Settled (with_stack (picture plan s.jobs) plan.running stack)
-      → SessionStands x new plan (session_with s m t cells q)
-  SessionStands-cells n cells free stands settled =
+  pub RepresentsSession-cells : (n : ℕ) (cells : List Word) → IsFree m.progress.job n
+      → let stack = with_cells (stack_of_task plan m.constants.number m.progress.job plan.running t) (map (shape plan m.constants.number m.progress.job (spot_in plan.running (outer_spots plan m.constants.number m.progress.job t.critical t.parents) t.frames)) cells) in
+      Represents x new.core new.regs (with_stack (machine_view plan s.jobs) plan.running stack) → NoOriginalAboveTop (with_stack (machine_view plan s.jobs) plan.running stack)
+      → RepresentsSession x new plan (session_with s m t cells q)
+  RepresentsSession-cells n cells free stands settled =
       let t' : Task = task_with t cells q in
-      let c : Course = record m.course { job = with_task m.course.job t' } in
-      let top : OnTop m.course.job c.job t t' n = record {
+      let c : JobProgress = record m.progress { job = with_task m.progress.job t' } in
+      let top : OnTop m.progress.job c.job t t' n = record {
         there = runs.task;
         number = refl;
         critical = refl;
@@ -58,13 +55,13 @@ module _ (x : Storage) (old new : Cpu) (plan : Plan) (s : Session) (m : Member) 
       } in
       let P : List ℕ → Type 0 = λ marks. SessionHolds x new.core new.regs marks plan (session_with s m t cells q) in
       let holds = subst P (sym critical) (SessionHolds-cells x old.core new.core old.regs new.regs old.critical plan s m t q h.holds runs same on n cells free stands settled) in
-      let moved : Member = record m { course = c } in
-      let still : IsRunning plan (with_course s.jobs m.setting.number c) moved t' = record { member = member-same s.jobs m.setting.number c m runs.member; task = task-same plan m.setting.number m.course.job c.job t t' n top; slot = runs.slot } in
-      let own : t.critical ≢ n = free.uncritical t (keyed-has (λ (u : Task). u.number) t.number m.course.job.tasks t runs.task) in
-      let places : (id : ℕ) → spots plan m.setting.number c.job t' id ≡ spots plan m.setting.number m.course.job t id = λ id.
-      (let outer : outer_spots plan m.setting.number c.job t.critical t.parents ≡ outer_spots plan m.setting.number m.course.job t.critical t.parents = λ z i. outer_spots-after plan m.setting.number m.course.job c.job t t' n top t.parents t.critical own i z in
-      ap (λ (o : ℕ → Spot). spot_in (slot_of plan m.setting.number t.number) o (with_top_cells t.frames cells) id) outer
-      ∙ spots-with (slot_of plan m.setting.number t.number) (outer_spots plan m.setting.number m.course.job t.critical t.parents) t.frames cells id) in
-      let shown : Shows new.display plan moved t' = (let D : List ℕ → Type 0 = λ d. Shows d plan moved t' in
-      subst D (sym display) (Shows-same old.display plan m c t t' runs.task refl (known-with t.frames cells) places (h.shows m t runs))) in
-      record { holds = holds; shows = λ y u r. running_only plan (with_course s.jobs m.setting.number c) moved y t' u (Shows new.display plan) holds.fits.rows still r shown }
+      let moved : SessionJob = record m { progress = c } in
+      let still : IsRunning plan (with_course s.jobs m.constants.number c) moved t' = record { member = member-same s.jobs m.constants.number c m runs.member; task = task-same plan m.constants.number m.progress.job c.job t t' n top; slot = runs.slot } in
+      let own : t.critical ≢ n = free.uncritical t (keyed-has (λ (u : Task). u.number) t.number m.progress.job.tasks t runs.task) in
+      let places : (id : ℕ) → spots plan m.constants.number c.job t' id ≡ spots plan m.constants.number m.progress.job t id = λ id.
+      (let outer : outer_spots plan m.constants.number c.job t.critical t.parents ≡ outer_spots plan m.constants.number m.progress.job t.critical t.parents = λ z i. outer_spots-after plan m.constants.number m.progress.job c.job t t' n top t.parents t.critical own i z in
+      ap (λ (o : ℕ → StackPlace). spot_in (slot_of plan m.constants.number t.number) o (with_top_cells t.frames cells) id) outer
+      ∙ spots-with (slot_of plan m.constants.number t.number) (outer_spots plan m.constants.number m.progress.job t.critical t.parents) t.frames cells id) in
+      let shown : ShowsDisplay new.display plan moved t' = (let D : List ℕ → Type 0 = λ d. ShowsDisplay d plan moved t' in
+      subst D (sym display) (Shows-same old.display plan m c t t' runs.task refl (known_cells t.frames cells) places (h.shows m t runs))) in
+      record { holds = holds; shows = λ y u r. running_only plan (with_course s.jobs m.constants.number c) moved y t' u (ShowsDisplay new.display plan) holds.fits.rows still r shown }

@@ -15,20 +15,20 @@ use Rattle.b67_backing.specs.Shelf.{chain_of}
 use Rattle.b67_ctl.specs.declared.registers.Regs.{Regs}
 use Rattle.b67_lemmas.specs.Lists.{Has}
 use Rattle.b67_core.specs.Numbers.{number}
-use Rattle.b67_model.specs.State.{Entered, Ready, Task, Member}
+use Rattle.b67_model.specs.State.{Entered, Ready, Task, SessionJob}
 use Rattle.b67_model.specs.Environment.{frame_at}
 use Rattle.b67_model.specs.Program.{Program, opened}
 use Rattle.b67_model.specs.Run.{number_of, start}
 use Rattle.b67_model.specs.Schedule.{Session}
 use Rattle.b67_stack.specs.declared.Cpu.{Cpu}
-use Rattle.b67_stack.specs.Shapes.{Held, Fits, Lie}
-use Rattle.b67_stack.specs.Stacks.{high, words}
-use Rattle.b67_stack.specs.Picture.{Thing, words_of, Picture, stack_of, Laid, SlotFits, slot_base, CopiesName}
-use Rattle.b67_stack.specs.Stands.{Storage, SlotsStand, SlotStands, StacksLie, ThingsStand, ThingStands, Owned, Stands, HoldsIn, info_of}
-use Rattle.b67_layout.proofs.Others.{keyed-has}
-use Rattle.b67_layout.specs.Plan.{Plan, Slotted, slot_of}
-use Rattle.b67_layout.specs.Layout.{picture}
-use Rattle.b67_layout.specs.Session.{PlanFits, RowsFit, DictionaryStands, VectorStands, CriticalStands, TaskStands, vector_word, critical_mark, frame_address, Shows, SessionHolds, SessionStands}
+use Rattle.b67_stack.specs.Shapes.{Location, nowhere, Fits, LieDownward}
+use Rattle.b67_stack.specs.Stacks.{stack_words, words}
+use Rattle.b67_stack.specs.MachineView.{PagedObject, words_of, MachineView, stack_of, Laid, SlotFits, slot_base, CopiesName}
+use Rattle.b67_stack.specs.Represents.{Storage, RepresentsSlots, RepresentsSlot, StacksLie, RepresentsObjects, RepresentsObject, Owned, Represents, HoldsIn, info_of}
+use Rattle.b67_lemmas.proofs.Members.{keyed-has}
+use Rattle.b67_layout.specs.Placement.{Placement, Slotted, slot_of}
+use Rattle.b67_layout.specs.Layout.{machine_view}
+use Rattle.b67_layout.specs.Session.{PlanFits, RowsFit, RepresentsDictionary, RepresentsVector, RepresentsCritical, RepresentsTask, vector_word, critical_mark, frame_address, ShowsDisplay, SessionHolds, RepresentsSession}
 
 -- MKST, NAMC 0,9, LT8 2, LT8 3, ADD, ENTR, EXIT
 abbrev code : List ℕ
@@ -37,13 +37,13 @@ code = 0xae4009b202b2 ∷ 0x0380aba3ffff ∷ []
 abbrev program : Program
 program = record { segments = record { level = 2; code = code } ∷ []; rows = [] }
 
-abbrev member : Member
+abbrev member : SessionJob
 member = opened 1 program 64 1000 []
 
 abbrev pub session : Session
 session = start (member ∷ []) [] 100
 
-abbrev pub plan : Plan
+abbrev pub plan : Placement
 plan = record { stacks = 163; size = 64; peak = 1; rows = record { job = 1; task = 1; slot = 0 } ∷ []; running = 0; dictionary = λ j. 160; home = λ j a. 0 }
 
 abbrev info : Info
@@ -52,13 +52,10 @@ info = record { kind = kind.Code; words = 2; owner = 162; kept = 1 }
 abbrev spans : List Span
 spans = Area info ∷ Hole 25 ∷ []
 
-abbrev here : Held
+abbrev here : Location
 here = record { area = Some 228; chain = 1 }
 
-abbrev nowhere : Held
-nowhere = record { area = None; chain = 0 }
-
-abbrev held : ℕ → Held
+abbrev held : ℕ → Location
 held q = if q == 162 then here else nowhere
 
 abbrev pub storage : Storage
@@ -121,20 +118,20 @@ get-only zero x i h = absurd (omega arith)
 get-only (suc n) x zero h = refl
 get-only (suc n) x (suc i) h = get-only n x i (omega arith)
 
-abbrev p : Picture
-p = picture plan session.jobs
+abbrev p : MachineView
+p = machine_view plan session.jobs
 
 abbrev task : Task
 task = record { number = 1; parents = []; critical = 0; frames = record { identity = 2; standing = Entered 2 1 None; cells = [] } ∷ []; segment = 1; place = record { word = 0; syllable = 0 }; condition = Ready }
 
-abbrev thing : Thing
-thing = record { home = 162; kind = kind.Code; numbers = code }
+abbrev object : PagedObject
+object = record { home = 162; kind = kind.Code; numbers = code }
 
 only : {A : Type 0} (x : A) (P : A → Type 0) → P x → (y : A) → Has (x ∷ []) y → P y
 only x P h y (inl e) = subst P e h
 only x P h y (inr k) = absurd k
 
-no_copies : CopiesName p.things (words 0 (stack_of (p.slots 0)))
+no_copies : CopiesName p.objects (words 0 (stack_of (p.slots 0)))
 no_copies c home (inl e) = absurd (let z : ⊥ = cc in z)
 no_copies c home (inr (inl e)) = absurd (let z : ⊥ = cc in z)
 no_copies c home (inr (inr k)) = absurd k
@@ -148,66 +145,66 @@ laid = record {
   first = omega arith;
   room = omega arith;
   slots = first_slot (λ k. SlotFits p k (p.slots k)) (record { some = λ e. cc; heads = ((omega arith, omega arith, omega arith, refl), tt); fits = omega arith }, no_copies);
-  homes = only thing (λ u. (160 ≤ u.home) × (u.home < 227)) (omega arith, omega arith);
-  codes = only thing (λ u. u.kind ≡ kind.Code → u.home < 163) (λ e. omega arith);
-  differ = λ u v inu inv e. only thing (λ x. x.home ≡ v.home → x ≡ v) (only thing (λ y. thing.home ≡ y.home → thing ≡ y) (λ z. refl) v inv) u inu e;
-  not_base = only thing (λ u. (k : ℕ) → k < 1 → u.home ≢ slot_base p k) (first_slot (λ k. 162 ≢ slot_base p k) (λ e. omega arith));
-  lengths = only thing (λ u. (0 < length u.numbers) × (length u.numbers < 2 ^ 16)) (omega arith, omega arith);
+  homes = only object (λ u. (160 ≤ u.home) × (u.home < 227)) (omega arith, omega arith);
+  codes = only object (λ u. u.kind ≡ kind.Code → u.home < 163) (λ e. omega arith);
+  differ = λ u v inu inv e. only object (λ x. x.home ≡ v.home → x ≡ v) (only object (λ y. object.home ≡ y.home → object ≡ y) (λ z. refl) v inv) u inu e;
+  not_base = only object (λ u. (k : ℕ) → k < 1 → u.home ≢ slot_base p k) (first_slot (λ k. 162 ≢ slot_base p k) (λ e. omega arith));
+  lengths = only object (λ u. (0 < length u.numbers) × (length u.numbers < 2 ^ 16)) (omega arith, omega arith);
 }
 
-slots : SlotsStand core regs 227 p
+slots : RepresentsSlots core regs 227 p
 slots = record {
   laid = laid;
   regs = record { stacks = refl; size = refl; peak = refl };
-  slots = first_slot (λ k. SlotStands core regs p k (p.slots k)) (record { slot = refl; first = refl; last = refl; top = refl; mark = refl; level = refl });
+  slots = first_slot (λ k. RepresentsSlot core regs p k (p.slots k)) (record { slot = refl; first = refl; last = refl; top = refl; mark = refl; level = refl });
 }
 
 stacks : StacksLie held core p
-stacks = first_slot (λ k. Lie (Fits held) core (suc (slot_base p k)) (words k (stack_of (p.slots k))))
+stacks = first_slot (λ k. LieDownward (Fits held) core (suc (slot_base p k)) (words k (stack_of (p.slots k))))
     ((word 3 0, refl, (refl, λ e. omega (arith, e))), ((word 3 (2 ^ 47 + 2 ^ 46 + 128 * 2 ^ 36 + 2 * 2 ^ 14), refl, (refl, λ e. omega (arith, e))), tt))
 
-held_in : HoldsIn storage thing 1
+held_in : HoldsIn storage object 1
 held_in = record {
   chain = record { some = omega arith; small = omega arith; sectors = refl };
   told = (
     (
       (3 * 2 ^ 48 + 0xae4009b202b2) ∷ (3 * 2 ^ 48 + 0x0380aba3ffff) ∷ replicate 28 0,
       refl,
-      λ i small inside. all_from (λ q. slice_get ((3 * 2 ^ 48 + 0xae4009b202b2) ∷ (3 * 2 ^ 48 + 0x0380aba3ffff) ∷ replicate 28 0) q ≡ slice_get (map number (words_of thing)) (0 + q)) 0 2 (refl, (refl, tt)) i (omega arith) (omega arith),
+      λ i small inside. all_from (λ q. slice_get ((3 * 2 ^ 48 + 0xae4009b202b2) ∷ (3 * 2 ^ 48 + 0x0380aba3ffff) ∷ replicate 28 0) q ≡ slice_get (map number (words_of object)) (0 + q)) 0 2 (refl, (refl, tt)) i (omega arith) (omega arith),
     ),
     omega arith,
   );
 }
 
-things : ThingsStand storage core p.things
-things = only thing (λ u. ThingStands storage core u) (record { home = refl; content = ((refl, (refl, tt)), held_in) })
+objects : RepresentsObjects storage core p.objects
+objects = only object (λ u. RepresentsObject storage core u) (record { home = refl; content = ((refl, (refl, tt)), held_in) })
 
-areas : (at : ℕ) (a : Info) → area_at 227 spans at ≡ Some a → (t : Thing) × Has p.things t × ((held t.home).area ≡ Some at) × (a ≡ info_of storage t)
+areas : (at : ℕ) (a : Info) → area_at 227 spans at ≡ Some a → (t : PagedObject) × Has p.objects t × ((held t.home).area ≡ Some at) × (a ≡ info_of storage t)
 areas at a e = ⊎_elim
-    (λ (z : 228 ≡ at). let there : Some info ≡ Some a = rw (eq-eqb 228 at z) at e in (thing, inl refl, ap Some z, sym (same_Some info a there)))
+    (λ (z : 228 ≡ at). let there : Some info ≡ Some a = rw (eq-eqb 228 at z) at e in (object, inl refl, ap Some z, sym (same_Some info a there)))
     (λ (z : 228 ≡ at → ⊥). let none : None ≡ Some a = rw (ne_eqb 228 at z) at e in absurd (none-some a none))
     (cases_eq 228 at)
 
-by_held : (home at : ℕ) → (held home).area ≡ Some at → (t : Thing) × Has p.things t × (t.home ≡ home) × (area_at 227 spans at ≡ Some (info_of storage t))
+by_held : (home at : ℕ) → (held home).area ≡ Some at → (t : PagedObject) × Has p.objects t × (t.home ≡ home) × (area_at 227 spans at ≡ Some (info_of storage t))
 by_held home at e = ⊎_elim
     (λ (z : home ≡ 162). let there : (held 162).area ≡ Some at = ap (λ n. (held n).area) (sym z) ∙ e in
-    let is : 228 ≡ at = same_Some 228 at there in (thing, inl refl, sym z, ap (area_at 227 spans) (sym is)))
+    let is : 228 ≡ at = same_Some 228 at there in (object, inl refl, sym z, ap (area_at 227 spans) (sym is)))
     (λ (z : home ≡ 162 → ⊥). let absent : None ≡ Some at = rw (ne_eqb home 162 z) at e in absurd (none-some at absent))
     (cases_eq home 162)
 
-chains : (first : ℕ) → 0 < length (chain_of first storage.shelf.chains) → (t : Thing) × Has p.things t × ((held t.home).chain ≡ first)
+chains : (first : ℕ) → 0 < length (chain_of first storage.shelf.chains) → (t : PagedObject) × Has p.objects t × ((held t.home).chain ≡ first)
 chains first some = ⊎_elim
-    (λ (z : 1 ≡ first). (thing, inl refl, z))
+    (λ (z : 1 ≡ first). (object, inl refl, z))
     (λ (z : 1 ≡ first → ⊥). let none : 0 < 0 = rw (ne_eqb 1 first z) at some in absurd (omega arith))
     (cases_eq 1 first)
 
-owned : Owned storage p.things
+owned : Owned storage p.objects
 owned = record {
   of_area = areas;
   of_held = by_held;
   of_chain = chains;
   no_zero = refl;
-  one_chain = λ t u int inu some e. only thing (λ x. x.home ≡ u.home) (only thing (λ y. thing.home ≡ y.home) refl u inu) t int;
+  one_chain = λ t u int inu some e. only object (λ x. x.home ≡ u.home) (only object (λ y. object.home ≡ y.home) refl u inu) t int;
 }
 
 directory : IsDirectory core 227 spans
@@ -220,17 +217,17 @@ directory = record {
   small = omega arith;
 }
 
-pub stands : Stands storage core regs p
-stands = record { slots = slots; stacks = stacks; things = things; owned = owned; directory = directory; inside = omega arith }
+pub stands : Represents storage core regs p
+stands = record { slots = slots; stacks = stacks; objects = objects; owned = owned; directory = directory; inside = omega arith }
 
 -- what each live task is
-for_task : (P : Member → Task → Type 0) → P member task → (m : Member) (t : Task) → Has session.jobs m → Has m.course.job.tasks t → P m t
-for_task P h m t inm int = only member (λ x. (u : Task) → Has x.course.job.tasks u → P x u) (λ u inu. only task (P member) h u inu) m inm t int
+for_task : (P : SessionJob → Task → Type 0) → P member task → (m : SessionJob) (t : Task) → Has session.jobs m → Has m.progress.job.tasks t → P m t
+for_task P h m t inm int = only member (λ x. (u : Task) → Has x.progress.job.tasks u → P x u) (λ u inu. only task (P member) h u inu) m inm t int
 
 rows_fit : RowsFit plan session.jobs
 rows_fit = record {
-  live = only (record { job = 1; task = 1; slot = 0 }) (λ r. (m : Member) × (t : Task) × Has session.jobs m × (m.setting.number ≡ r.job) × Has m.course.job.tasks t × (t.number ≡ r.task)) (member, task, inl refl, refl, inl refl, refl);
-  slotted = for_task (λ m t. (r : Slotted) × Has plan.rows r × (r.job ≡ m.setting.number) × (r.task ≡ t.number)) (record { job = 1; task = 1; slot = 0 }, inl refl, refl, refl);
+  live = only (record { job = 1; task = 1; slot = 0 }) (λ r. (m : SessionJob) × (t : Task) × Has session.jobs m × (m.constants.number ≡ r.job) × Has m.progress.job.tasks t × (t.number ≡ r.task)) (member, task, inl refl, refl, inl refl, refl);
+  slotted = for_task (λ m t. (r : Slotted) × Has plan.rows r × (r.job ≡ m.constants.number) × (r.task ≡ t.number)) (record { job = 1; task = 1; slot = 0 }, inl refl, refl, refl);
   below = only (record { job = 1; task = 1; slot = 0 }) (λ r. r.slot < 1) (omega arith);
   differ = λ a b ina inb e. one a b ina inb;
   tasks_differ = λ a b ina inb e f. one a b ina inb;
@@ -245,39 +242,39 @@ fits = record {
   rows = rows_fit;
   peak = refl;
   few = omega arith;
-  sizes = only member (λ m. m.setting.stack_size ≡ 64) refl;
+  sizes = only member (λ m. m.constants.stack_size ≡ 64) refl;
   dictionaries = (refl, refl);
-  row_homes = only member (λ m. (n : ℕ) → 1 ≤ n → n + length m.setting.segments ≤ length m.setting.dictionary.cells → plan.home m.setting.number n ≡ plan.dictionary m.setting.number + 1 + length m.setting.segments + n) (λ n low up. absurd (omega arith));
+  row_homes = only member (λ m. (n : ℕ) → 1 ≤ n → n + length m.constants.segments ≤ length m.constants.dictionary.cells → plan.home m.constants.number n ≡ plan.dictionary m.constants.number + 1 + length m.constants.segments + n) (λ n low up. absurd (omega arith));
 }
 
 not_first : (k : ℕ) → ((r : Slotted) → Has plan.rows r → r.slot ≢ k) → 0 ≢ k
 not_first k h = h (record { job = 1; task = 1; slot = 0 }) (inl refl)
 
-vector : VectorStands core plan session.jobs
+vector : RepresentsVector core plan session.jobs
 vector = record {
-  live = for_task (λ m t. slice_get core (32 + slot_of plan m.setting.number t.number) ≡ Some (vector_word plan m.setting.number t.parents)) refl;
+  live = for_task (λ m t. slice_get core (32 + slot_of plan m.constants.number t.number) ≡ Some (vector_word plan m.constants.number t.parents)) refl;
   free = λ k small others. let n = not_first k others in get-past mcp_words (zeros 119 ++ after_vector) (k - 1) (32 + k) (omega (arith, n)) ∙ get-replicate 119 (word 0 0) after_vector (k - 1) (omega (arith, n));
 }
 
-critical : CriticalStands machine.critical plan session.jobs
-critical = record { live = for_task (λ m t. slice_get machine.critical (slot_of plan m.setting.number t.number) ≡ Some (critical_mark m.course.job t.frames)) refl; free = λ k small others. get-only 120 0 k small }
+critical : RepresentsCritical machine.critical plan session.jobs
+critical = record { live = for_task (λ m t. slice_get machine.critical (slot_of plan m.constants.number t.number) ≡ Some (critical_mark m.progress.job t.frames)) refl; free = λ k small others. get-only 120 0 k small }
 
 holds : SessionHolds storage core regs machine.critical plan session
 holds = record {
   fits = fits;
   memory = stands;
-  settled = only thing (λ t. (k : ℕ) → k < 1 → slot_base p k ≤ t.home → t.home < slot_base p k + p.size → t.home ≤ slot_base p k + high (stack_of (p.slots k))) (first_slot (λ k. slot_base p k ≤ 162 → 162 < slot_base p k + p.size → 162 ≤ slot_base p k + high (stack_of (p.slots k))) (λ low up. absurd (omega arith)));
-  dictionaries = only member (DictionaryStands core plan) (record { mark = refl; entries = refl });
+  settled = only object (λ t. (k : ℕ) → k < 1 → slot_base p k ≤ t.home → t.home < slot_base p k + p.size → t.home ≤ slot_base p k + stack_words (stack_of (p.slots k))) (first_slot (λ k. slot_base p k ≤ 162 → 162 < slot_base p k + p.size → 162 ≤ slot_base p k + stack_words (stack_of (p.slots k))) (λ low up. absurd (omega arith)));
+  dictionaries = only member (RepresentsDictionary core plan) (record { mark = refl; entries = refl });
   mcp = record { mark = refl; intrinsics = λ n low up. all_from (λ q. slice_get core q ≡ Some (word 7 (2 ^ 19 + q))) 8 11 (refl, (refl, (refl, (refl, (refl, (refl, (refl, (refl, (refl, (refl, (refl, tt))))))))))) n low (omega arith) };
   vector = vector;
   critical = critical;
   live = λ n. (member, task, record { member = refl; task = refl; slot = refl });
-  running = λ m t r. for_task (TaskStands regs plan) (record { slot = refl; dict = refl; entries = refl; segment = refl; place = refl }) m t (keyed-has number_of m.setting.number session.jobs m r.member) (keyed-has (λ (u : Task). u.number) t.number m.course.job.tasks t r.task);
+  running = λ m t r. for_task (RepresentsTask regs plan) (record { slot = refl; dict = refl; entries = refl; segment = refl; place = refl }) m t (keyed-has number_of m.constants.number session.jobs m r.member) (keyed-has (λ (u : Task). u.number) t.number m.progress.job.tasks t r.task);
   none = λ e. omega arith;
 }
 
-pub witness : SessionStands storage machine plan session
+pub witness : RepresentsSession storage machine plan session
 witness = record {
   holds = holds;
-  shows = λ m t r. for_task (Shows machine.display plan) (λ n up. all_from (λ q. slice_get machine.display q ≡ Some (frame_address plan member task (frame_at (record { setting = member.setting; job = member.course.job; task = task; at = task.place }) q).identity)) 0 3 (refl, (refl, (refl, tt))) n (omega arith) (omega arith)) m t (keyed-has number_of m.setting.number session.jobs m r.member) (keyed-has (λ (u : Task). u.number) t.number m.course.job.tasks t r.task);
+  shows = λ m t r. for_task (ShowsDisplay machine.display plan) (λ n up. all_from (λ q. slice_get machine.display q ≡ Some (frame_address plan member task (frame_at (record { constants = member.constants; job = member.progress.job; task = task; at = task.place }) q).identity)) 0 3 (refl, (refl, (refl, tt))) n (omega arith) (omega arith)) m t (keyed-has number_of m.constants.number session.jobs m r.member) (keyed-has (λ (u : Task). u.number) t.number m.progress.job.tasks t r.task);
 }

@@ -1,4 +1,4 @@
-pub mod Plan
+pub mod Placement
 pub mod Layout
 pub mod Rows
 pub mod Session

@@ -3,11 +3,11 @@
 use Rattle.std.specs.Prelude.{◌≡◌, ◌≢◌, ℕ, ℤ, ◌+◌, ◌<◌, ◌≤◌, List, [], ◌∷◌, length, map, drop, Option, Some, None, slice_get}
 use Rattle.b67_word.specs.declared.couples.Place.{Place}
 use Rattle.b67_lemmas.specs.Lists.{Has}
-use Rattle.b67_model.specs.State.{Condition, Ready, Awaits, WaitsAt, Task, Job, Member}
+use Rattle.b67_model.specs.State.{Condition, Ready, Awaits, WaitsAt, Task, Job, SessionJob}
 use Rattle.b67_model.specs.Keyed.{keyed}
 use Rattle.b67_model.specs.InOrder.{frames_of_task}
 use Rattle.b67_model.specs.Schedule.{Switch, Session}
-use Rattle.b67_layout.specs.Plan.{Plan, slot_of, spot_in, base_spot, spots, address_of}
+use Rattle.b67_layout.specs.Placement.{Placement, slot_of, spot_in, base_spot, spots, address_of}
 
 -- ready, or waiting for a task's end, or at the cell of an offset above the mark at a core address
 pub data RowState : Type 0 where
@@ -50,53 +50,53 @@ pub record Counts : Type 0 where
   pub next_switch : ℕ
   pub running : ℕ
 
-abbrev pub shown : Plan → ℕ → Job → Task → Condition → RowState
+abbrev pub shown : Placement → ℕ → Job → Task → Condition → RowState
 shown plan j job t Ready = IsReady
 shown plan j job t (Awaits n) = AwaitsTask n
 shown plan j job t (WaitsAt frame offset) = WaitsAtCell (address_of plan (spots plan j job t frame)) offset
 
 -- the nearest parent's slot, and the displacement of the critical mark there
-abbrev pub parent_slot : Plan → ℕ → List ℕ → ℕ
+abbrev pub parent_slot : Placement → ℕ → List ℕ → ℕ
 parent_slot plan j [] = 255
 parent_slot plan j (parent ∷ more) = slot_of plan j parent
 
-abbrev pub critical_disp : Plan → ℕ → Job → ℕ → List ℕ → ℕ
+abbrev pub critical_disp : Placement → ℕ → Job → ℕ → List ℕ → ℕ
 critical_disp plan j job critical [] = 0
 critical_disp plan j job critical (parent ∷ more) =
     (spot_in (slot_of plan j parent) (base_spot j) (frames_of_task (keyed (λ t. t.number) parent job.tasks)) critical).disp
 
 -- a row shows a task; where it goes on only where its registers aren't in the registers
-pub record TaskShows (plan : Plan) (m : Member) (t : Task) (row : TaskRow) : Type 0 where
-  pub job : row.job ≡ m.setting.number
+pub record TaskShows (plan : Placement) (m : SessionJob) (t : Task) (row : TaskRow) : Type 0 where
+  pub job : row.job ≡ m.constants.number
   pub number : row.number ≡ t.number
-  pub slot : row.slot ≡ slot_of plan m.setting.number t.number
-  pub parent : row.parent ≡ parent_slot plan m.setting.number t.parents
-  pub critical : row.critical ≡ critical_disp plan m.setting.number m.course.job t.critical t.parents
-  pub state : row.state ≡ shown plan m.setting.number m.course.job t t.condition
+  pub slot : row.slot ≡ slot_of plan m.constants.number t.number
+  pub parent : row.parent ≡ parent_slot plan m.constants.number t.parents
+  pub critical : row.critical ≡ critical_disp plan m.constants.number m.progress.job t.critical t.parents
+  pub state : row.state ≡ shown plan m.constants.number m.progress.job t t.condition
   pub segment : row.slot ≢ plan.running → row.segment ≡ t.segment + 1
   pub place : row.slot ≢ plan.running → row.place ≡ t.place
 
 -- a row shows a job
-pub record JobShows (plan : Plan) (m : Member) (row : JobRow) : Type 0 where
-  pub dictionary : row.dictionary ≡ plan.dictionary m.setting.number
-  pub segments : row.segments ≡ length m.setting.segments
-  pub rows : row.segments + row.rows ≡ length m.setting.dictionary.cells
-  pub limit : row.limit ≡ m.setting.limit
-  pub made : row.made ≡ m.course.made
-  pub next_task : row.next_task ≡ m.course.job.next_task
-  pub numbers : drop row.next_number row.numbers ≡ m.course.job.numbers
+pub record JobShows (plan : Placement) (m : SessionJob) (row : JobRow) : Type 0 where
+  pub dictionary : row.dictionary ≡ plan.dictionary m.constants.number
+  pub segments : row.segments ≡ length m.constants.segments
+  pub rows : row.segments + row.rows ≡ length m.constants.dictionary.cells
+  pub limit : row.limit ≡ m.constants.limit
+  pub made : row.made ≡ m.progress.made
+  pub next_task : row.next_task ≡ m.progress.job.next_task
+  pub numbers : drop row.next_number row.numbers ≡ m.progress.job.numbers
 
-abbrev pub JobsShow : Plan → List Member → List JobRow → Type 0
+abbrev pub JobsShow : Placement → List SessionJob → List JobRow → Type 0
 JobsShow plan [] [] = Unit {0}
 JobsShow plan (m ∷ more) (row ∷ rows) = JobShows plan m row × JobsShow plan more rows
 JobsShow plan _ _ = ⊥
 
 -- the running row's slot is that of the running task
-abbrev pub RunningRow : Plan → Option TaskRow → ℕ → Type 0
+abbrev pub RunningRow : Placement → Option TaskRow → ℕ → Type 0
 RunningRow plan None running = (running ≡ 255) × (plan.running ≡ 255)
 RunningRow plan (Some row) running = (running ≢ 255) × (row.slot ≡ plan.running)
 
-pub record CountsShow (plan : Plan) (s : Session) (rows : List TaskRow) (c : Counts) : Type 0 where
+pub record CountsShow (plan : Placement) (s : Session) (rows : List TaskRow) (c : Counts) : Type 0 where
   pub quantum : c.quantum ≡ s.quantum
   pub made : c.made ≡ s.made
   pub turn : c.turn ≡ s.turn
@@ -113,9 +113,9 @@ Differ [] = Unit {0}
 Differ (n ∷ more) = (Has more n → ⊥) × Differ more
 
 -- the tables show the session: a row for each live task and each row a live task's, the jobs in order, the counts
-pub record TablesShow (plan : Plan) (s : Session) (rows : List TaskRow) (job_rows : List JobRow) (c : Counts) : Type 0 where
-  pub tasks : (row : TaskRow) → Has rows row → (m : Member) × (t : Task) × Has s.jobs m × Has m.course.job.tasks t × TaskShows plan m t row
-  pub each : (m : Member) (t : Task) → Has s.jobs m → Has m.course.job.tasks t → (row : TaskRow) × Has rows row × TaskShows plan m t row
+pub record TablesShow (plan : Placement) (s : Session) (rows : List TaskRow) (job_rows : List JobRow) (c : Counts) : Type 0 where
+  pub tasks : (row : TaskRow) → Has rows row → (m : SessionJob) × (t : Task) × Has s.jobs m × Has m.progress.job.tasks t × TaskShows plan m t row
+  pub each : (m : SessionJob) (t : Task) → Has s.jobs m → Has m.progress.job.tasks t → (row : TaskRow) × Has rows row × TaskShows plan m t row
   pub once : Differ (map (λ (row : TaskRow). row.slot) rows)
   pub jobs : JobsShow plan s.jobs job_rows
   pub counts : CountsShow plan s rows c

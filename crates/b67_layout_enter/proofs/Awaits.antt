@@ -1,68 +1,59 @@
 -- What the machine stands for doesn't depend on what the running task waits for.
-use Rattle.std.proofs.Common.{◌≡◌, ℕ, List, [], ◌∷◌, refl, sym, ◌∙◌, ap, subst, true, false, ◌==◌, ⊎_elim}
+use Rattle.std.proofs.Common.{◌≡◌, ℕ, List, refl, sym, ◌∙◌, ap, subst, true, false, ◌==◌, ⊎_elim}
 use Rattle.std.proofs.lemmas.Bool.{cases_Bool, eqb-true}
 use Rattle.b67_model.specs.Keyed.{change_keyed}
-use Rattle.b67_model.specs.State.{Condition, Task, Job, Course, Member, with_task}
+use Rattle.b67_model.specs.State.{Condition, Task, Job, SessionJob, with_task}
 use Rattle.b67_model.specs.Run.{number_of}
 use Rattle.b67_model.specs.Schedule.{Session}
-use Rattle.b67_law_order.proofs.Members.{change_twice}
 use Rattle.b67_stack.specs.declared.Cpu.{Cpu}
-use Rattle.b67_stack.specs.Stacks.{Spot, Activation}
-use Rattle.b67_stack.specs.Picture.{Thing, Slot, Running, Picture, Settled}
-use Rattle.b67_stack.specs.Stands.{Storage, Stands}
+use Rattle.b67_stack.specs.Stacks.{StackPlace, Activation}
+use Rattle.b67_stack.specs.MachineView.{PagedObject, Slot, Running, MachineView, NoOriginalAboveTop}
+use Rattle.b67_stack.specs.Represents.{Storage, Represents}
 use Rattle.b67_stack.specs.Changes.{with_stack}
-use Rattle.b67_layout.specs.Plan.{Plan, slot_of, spot_in, spots}
-use Rattle.b67_layout.specs.Layout.{picture, stack_of_task}
+use Rattle.b67_layout.specs.Placement.{Placement, slot_of, spot_in, spots}
+use Rattle.b67_layout.specs.Layout.{machine_view, stack_of_task}
 use Rattle.b67_layout.specs.Meets.{with_job}
-use Rattle.b67_layout.specs.Session.{IsRunning, Shows, with_things, SessionHoldsBut, SessionStandsBut}
+use Rattle.b67_layout.specs.Session.{IsRunning, ShowsDisplay, with_objects, SessionHoldsBut, RepresentsSessionBut}
 use Rattle.b67_layout.proofs.Displays.{Shows-same}
-use Rattle.b67_layout.proofs.Others.{OnTop, keyed-has}
-use Rattle.b67_layout.proofs.Pictures.{with_course}
+use Rattle.b67_layout.proofs.Others.{OnTop}
 use Rattle.b67_layout.proofs.Rows.{runs_on}
-use Rattle.b67_layout.proofs.Sessions.{running_only}
+use Rattle.b67_layout.proofs.Sessions.{running_only, course_twice}
 use Rattle.b67_layout.proofs.Steps.{IsFree}
 use Rattle.b67_layout_enter.proofs.Conditions.{waiting}
 use Rattle.b67_layout_enter.proofs.Tops.{SessionHolds-top, still_running, outer-same}
+use Rattle.b67_lemmas.proofs.Members.{change_twice, keyed-has}
 
--- a job that is changed twice
-course_twice : (jobs : List Member) (j : ℕ) (c d : Course) → with_course (with_course jobs j c) j d ≡ with_course jobs j d
-course_twice [] j c d = refl
-course_twice (x ∷ xs) j c d = ⊎_elim
-    (λ (t : (number_of x == j) ≡ true). rw t (rw t refl))
-    (λ (t : (number_of x == j) ≡ false). rw t (rw t (ap (λ (more : List Member). x ∷ more) (course_twice xs j c d))))
-    (cases_Bool (number_of x == j))
-
-pub with_job-twice : (s : Session) (m : Member) (one two : Job) → with_job (with_job s m one) (record m { course = record m.course { job = one } }) two ≡ with_job s m two
-with_job-twice s m one two = ap (λ (js : List Member). record s { jobs = js }) (course_twice s.jobs m.setting.number (record m.course { job = one }) (record m.course { job = two }))
+pub with_job-twice : (s : Session) (m : SessionJob) (one two : Job) → with_job (with_job s m one) (record m { progress = record m.progress { job = one } }) two ≡ with_job s m two
+with_job-twice s m one two = ap (λ (js : List SessionJob). record s { jobs = js }) (course_twice s.jobs m.constants.number (record m.progress { job = one }) (record m.progress { job = two }))
 
 -- the stack that stands there already
-same_stack : (p : Picture) (k : ℕ) (stack : List Activation) → p.slots k ≡ Running stack → with_stack p k stack ≡ p
+same_stack : (p : MachineView) (k : ℕ) (stack : List Activation) → p.slots k ≡ Running stack → with_stack p k stack ≡ p
 same_stack p k stack is =
     let slots : (with_stack p k stack).slots ≡ p.slots = λ i j. at j i in
-    ap (λ (z : ℕ → Slot). let q : Picture = record { stacks = p.stacks; size = p.size; peak = p.peak; slots = z; things = p.things } in q) slots where
+    ap (λ (z : ℕ → Slot). let q : MachineView = record { stacks = p.stacks; size = p.size; peak = p.peak; slots = z; objects = p.objects } in q) slots where
       at : (j : ℕ) → (with_stack p k stack).slots j ≡ p.slots j
       at j = ⊎_elim
           (λ (t : (j == k) ≡ true). let e : j ≡ k = eqb-true j k t in rw t (sym is ∙ ap p.slots (sym e)))
           (λ (t : (j == k) ≡ false). rw t refl)
           (cases_Bool (j == k))
 
-module _ (left : List Thing) (x : Storage) (cpu : Cpu) (plan : Plan) (s : Session) (m : Member) (job : Job) (u : Task) (c d : Condition) (n : ℕ) where
-  abbrev moved : Condition → Member
-  moved e = record m { course = record m.course { job = with_task job (waiting u e) } }
+module _ (left : List PagedObject) (x : Storage) (cpu : Cpu) (plan : Placement) (s : Session) (m : SessionJob) (job : Job) (u : Task) (c d : Condition) (n : ℕ) where
+  abbrev moved : Condition → SessionJob
+  moved e = record m { progress = record m.progress { job = with_task job (waiting u e) } }
 
   abbrev session : Condition → Session
   session e = with_job s m (with_task job (waiting u e))
 
-  pub SessionStands-condition : SessionStandsBut left x cpu plan (with_job s m (with_task job (waiting u c))) → IsRunning plan (with_job s m (with_task job (waiting u c))).jobs (record m { course = record m.course { job = with_task job (waiting u c) } }) (waiting u c)
-      → IsFree (with_task job (waiting u c)) n → SessionStandsBut left x cpu plan (with_job s m (with_task job (waiting u d)))
-  SessionStands-condition h runs free =
+  pub RepresentsSession-condition : RepresentsSessionBut left x cpu plan (with_job s m (with_task job (waiting u c))) → IsRunning plan (with_job s m (with_task job (waiting u c))).jobs (record m { progress = record m.progress { job = with_task job (waiting u c) } }) (waiting u c)
+      → IsFree (with_task job (waiting u c)) n → RepresentsSessionBut left x cpu plan (with_job s m (with_task job (waiting u d)))
+  RepresentsSession-condition h runs free =
       let m1 = moved c in
       let t1 = waiting u c in
       let td = waiting u d in
       let s1 = session c in
       let job_d = with_task job td in
-      let tasks : job_d.tasks ≡ change_keyed (λ (v : Task). v.number) u.number (λ (v : Task). td) m1.course.job.tasks = sym (change_twice (λ (v : Task). v.number) u.number t1 td job.tasks refl) in
-      let top : OnTop m1.course.job job_d t1 td n = record {
+      let tasks : job_d.tasks ≡ change_keyed (λ (v : Task). v.number) u.number (λ (v : Task). td) m1.progress.job.tasks = sym (change_twice (λ (v : Task). v.number) u.number t1 td job.tasks refl) in
+      let top : OnTop m1.progress.job job_d t1 td n = record {
         there = runs.task;
         number = refl;
         critical = refl;
@@ -73,21 +64,21 @@ module _ (left : List Thing) (x : Storage) (cpu : Cpu) (plan : Plan) (s : Sessio
         uncritical = free.uncritical;
         same = λ e k o id ne. refl;
       } in
-      let stack = stack_of_task plan m1.setting.number m1.course.job plan.running t1 in
-      let p = picture plan s1.jobs in
-      let on = runs_on plan s1.jobs m1 t1 h.holds.fits.rows (keyed-has number_of m1.setting.number s1.jobs m1 runs.member) (keyed-has (λ (v : Task). v.number) u.number m1.course.job.tasks t1 runs.task) runs.slot runs.member runs.task in
+      let stack = stack_of_task plan m1.constants.number m1.progress.job plan.running t1 in
+      let p = machine_view plan s1.jobs in
+      let on = runs_on plan s1.jobs m1 t1 h.holds.fits.rows (keyed-has number_of m1.constants.number s1.jobs m1 runs.member) (keyed-has (λ (v : Task). v.number) u.number m1.progress.job.tasks t1 runs.task) runs.slot runs.member runs.task in
       let is : with_stack p plan.running stack ≡ p = same_stack p plan.running stack on.is in
-      let P : Picture → Type 0 = λ z. Stands x cpu.core cpu.regs (with_things left z) in
+      let P : MachineView → Type 0 = λ z. Represents x cpu.core cpu.regs (with_objects left z) in
       let o = h.holds.running m1 t1 runs in
       let holds : SessionHoldsBut left x cpu.core cpu.regs cpu.critical plan (with_job s1 m1 job_d) =
       SessionHolds-top left x cpu.core cpu.core cpu.regs cpu.regs cpu.critical plan s1 m1 t1 h.holds runs job_d u.frames u.segment u.place d n top stack (λ i low. refl)
-      (record { slot = refl; dict = refl; entries = refl; segment = o.segment; place = o.place }) refl refl (subst P (sym is) h.holds.memory) (subst Settled (sym is) h.holds.settled) in
+      (record { slot = refl; dict = refl; entries = refl; segment = o.segment; place = o.place }) refl refl (subst P (sym is) h.holds.memory) (subst NoOriginalAboveTop (sym is) h.holds.settled) in
       let still = still_running left x cpu.core cpu.core cpu.regs cpu.regs cpu.critical plan s1 m1 t1 h.holds runs job_d u.frames u.segment u.place d n top in
-      let places : (id : ℕ) → spots plan m.setting.number job_d td id ≡ spots plan m.setting.number m1.course.job t1 id = λ id.
-      ap (λ (q : ℕ → Spot). spot_in (slot_of plan m.setting.number u.number) q u.frames id) (outer-same left x cpu.core cpu.core cpu.regs cpu.regs cpu.critical plan s1 m1 t1 h.holds runs job_d u.frames u.segment u.place d n top) in
-      let shown : Shows cpu.display plan (moved d) td = Shows-same cpu.display plan m1 (record m.course { job = job_d }) t1 td runs.task tasks refl places (h.shows m1 t1 runs) in
-      let whole : SessionStandsBut left x cpu plan (with_job s1 m1 job_d) = record {
+      let places : (id : ℕ) → spots plan m.constants.number job_d td id ≡ spots plan m.constants.number m1.progress.job t1 id = λ id.
+      ap (λ (q : ℕ → StackPlace). spot_in (slot_of plan m.constants.number u.number) q u.frames id) (outer-same left x cpu.core cpu.core cpu.regs cpu.regs cpu.critical plan s1 m1 t1 h.holds runs job_d u.frames u.segment u.place d n top) in
+      let shown : ShowsDisplay cpu.display plan (moved d) td = Shows-same cpu.display plan m1 (record m.progress { job = job_d }) t1 td runs.task tasks refl places (h.shows m1 t1 runs) in
+      let whole : RepresentsSessionBut left x cpu plan (with_job s1 m1 job_d) = record {
         holds = holds;
-        shows = λ y v k. running_only plan (with_job s1 m1 job_d).jobs (moved d) y td v (Shows cpu.display plan) holds.fits.rows still k shown;
+        shows = λ y v k. running_only plan (with_job s1 m1 job_d).jobs (moved d) y td v (ShowsDisplay cpu.display plan) holds.fits.rows still k shown;
       } in
-      subst (SessionStandsBut left x cpu plan) (with_job-twice s m m1.course.job job_d) whole
+      subst (RepresentsSessionBut left x cpu plan) (with_job-twice s m m1.progress.job job_d) whole

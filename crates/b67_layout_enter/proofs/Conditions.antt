@@ -1,29 +1,29 @@
 -- The display of a task doesn't show what the task waits for.
 use Rattle.std.proofs.Common.{◌≡◌, ◌≢◌, ℕ, List, Some, refl, sym, ap, subst, ⊎_elim}
 use Rattle.b67_model.specs.Keyed.{keyed, change_keyed}
-use Rattle.b67_model.specs.State.{Condition, Task, Job, Member, with_task}
-use Rattle.b67_law_order.proofs.Members.{change_twice}
-use Rattle.b67_stack.specs.Stacks.{Spot}
-use Rattle.b67_layout.specs.Plan.{Plan, slot_of, spot_in, outer_spots}
-use Rattle.b67_layout.specs.Session.{Shows}
+use Rattle.b67_model.specs.State.{Condition, Task, Job, SessionJob, with_task}
+use Rattle.b67_stack.specs.Stacks.{StackPlace}
+use Rattle.b67_layout.specs.Placement.{Placement, slot_of, spot_in, outer_spots}
+use Rattle.b67_layout.specs.Session.{ShowsDisplay}
 use Rattle.b67_layout.proofs.Displays.{Shows-same}
-use Rattle.b67_layout.proofs.Others.{OnTop, keyed-put_same, outer_spots-after}
+use Rattle.b67_layout.proofs.Others.{OnTop, outer_spots-after}
 use Rattle.b67_layout.proofs.Sessions.{change-has}
 use Rattle.b67_layout.proofs.Steps.{IsFree}
+use Rattle.b67_lemmas.proofs.Members.{change_twice, change_found}
 
 -- the task that waits for this
 abbrev pub waiting : Task → Condition → Task
 waiting u c = record u { condition = c }
 
-module _ (display : List ℕ) (plan : Plan) (m : Member) (job : Job) (u : Task) (c d : Condition) (old : Task) (n : ℕ) (there : keyed (λ (v : Task). v.number) u.number job.tasks ≡ Some old) (free : IsFree job n) (own : u.critical ≢ n) where
+module _ (display : List ℕ) (plan : Placement) (m : SessionJob) (job : Job) (u : Task) (c d : Condition) (old : Task) (n : ℕ) (there : keyed (λ (v : Task). v.number) u.number job.tasks ≡ Some old) (free : IsFree job n) (own : u.critical ≢ n) where
   job_c : Job
   job_c = with_task job (waiting u c)
 
-  abbrev with_condition : Condition → Member
-  with_condition e = record m { course = record m.course { job = with_task job (waiting u e) } }
+  abbrev with_condition : Condition → SessionJob
+  with_condition e = record m { progress = record m.progress { job = with_task job (waiting u e) } }
 
   found : keyed (λ (v : Task). v.number) u.number (with_task job (waiting u c)).tasks ≡ Some (waiting u c)
-  found = keyed-put_same (λ (v : Task). v.number) u.number (waiting u c) old refl job.tasks there
+  found = change_found (λ (v : Task). v.number) u.number old (waiting u c) job.tasks refl there
 
   tasks : (with_task job (waiting u d)).tasks ≡ change_keyed (λ (v : Task). v.number) u.number (λ (v : Task). waiting u d) (with_task job (waiting u c)).tasks
   tasks = sym (change_twice (λ (v : Task). v.number) u.number (waiting u c) (waiting u d) job.tasks refl)
@@ -41,8 +41,8 @@ module _ (display : List ℕ) (plan : Plan) (m : Member) (job : Job) (u : Task) 
     same = λ e k o id ne. refl;
   }
 
-  pub Shows-condition : Shows display plan (record m { course = record m.course { job = with_task job (waiting u c) } }) (waiting u c) → Shows display plan (record m { course = record m.course { job = with_task job (waiting u d) } }) (waiting u d)
-  Shows-condition shown = Shows-same display plan (with_condition c) (record m.course { job = with_task job (waiting u d) }) (waiting u c) (waiting u d) found tasks refl
-      (λ id. (let outer : outer_spots plan m.setting.number (with_task job (waiting u d)) u.critical u.parents ≡ outer_spots plan m.setting.number (with_task job (waiting u c)) u.critical u.parents =
-      λ z i. outer_spots-after plan m.setting.number (with_task job (waiting u c)) (with_task job (waiting u d)) (waiting u c) (waiting u d) n top u.parents u.critical own i z in
-      ap (λ (o : ℕ → Spot). spot_in (slot_of plan m.setting.number u.number) o u.frames id) outer)) shown
+  pub Shows-condition : ShowsDisplay display plan (record m { progress = record m.progress { job = with_task job (waiting u c) } }) (waiting u c) → ShowsDisplay display plan (record m { progress = record m.progress { job = with_task job (waiting u d) } }) (waiting u d)
+  Shows-condition shown = Shows-same display plan (with_condition c) (record m.progress { job = with_task job (waiting u d) }) (waiting u c) (waiting u d) found tasks refl
+      (λ id. (let outer : outer_spots plan m.constants.number (with_task job (waiting u d)) u.critical u.parents ≡ outer_spots plan m.constants.number (with_task job (waiting u c)) u.critical u.parents =
+      λ z i. outer_spots-after plan m.constants.number (with_task job (waiting u c)) (with_task job (waiting u d)) (waiting u c) (waiting u d) n top u.parents u.critical own i z in
+      ap (λ (o : ℕ → StackPlace). spot_in (slot_of plan m.constants.number u.number) o u.frames id) outer)) shown

@@ -4,21 +4,22 @@ use Rattle.std.specs.List.{slice_get}
 use Rattle.std.proofs.lemmas.Bool.{ne_eqb}
 use Rattle.b67_word.specs.declared.couples.Place.{Place}
 use Rattle.b67_lemmas.specs.Lists.{Has}
+use Rattle.b67_lemmas.proofs.Members.{keyed-has}
 use Rattle.b67_model.specs.State as State
-use Rattle.b67_model.specs.State.{Frame, Task, Setting, Job, Member, Here, mcp, no_frame, all_frames, frame, with_task}
+use Rattle.b67_model.specs.State.{Frame, Task, JobConstants, Job, SessionJob, OperatorContext, mcp, no_frame, all_frames, frame, with_task}
 use Rattle.b67_model.specs.Environment.{frame_at}
 use Rattle.b67_model.specs.InOrder.{IsSegment, SettingInOrder, TasksInOrder}
 use Rattle.b67_model.specs.Schedule.{Session}
 use Rattle.b67_stack.specs.declared.Cpu.{Cpu}
-use Rattle.b67_stack.specs.Stacks.{Spot}
-use Rattle.b67_stack.specs.Picture.{Settled}
-use Rattle.b67_stack.specs.Stands.{Storage, Stands}
+use Rattle.b67_stack.specs.Stacks.{StackPlace}
+use Rattle.b67_stack.specs.MachineView.{NoOriginalAboveTop}
+use Rattle.b67_stack.specs.Represents.{Storage, Represents}
 use Rattle.b67_stack.specs.Changes.{with_stack, new_mark}
-use Rattle.b67_layout.specs.Plan.{Plan, slot_of, spot_in, outer_spots, spots, address_of}
-use Rattle.b67_layout.specs.Layout.{stack_of_task, picture}
+use Rattle.b67_layout.specs.Placement.{Placement, slot_of, spot_in, outer_spots, spots, address_of}
+use Rattle.b67_layout.specs.Layout.{stack_of_task, machine_view}
 use Rattle.b67_layout.specs.Meets.{with_job}
-use Rattle.b67_layout.specs.Session.{IsRunning, Shows, SessionHolds, SessionStands}
-use Rattle.b67_layout.proofs.Others.{OnTop, keyed-has, seen-mark}
+use Rattle.b67_layout.specs.Session.{IsRunning, ShowsDisplay, SessionHolds, RepresentsSession}
+use Rattle.b67_layout.proofs.Others.{OnTop, seen-mark}
 use Rattle.b67_layout.proofs.Sessions.{running_only}
 use Rattle.b67_layout.proofs.Steps.{IsFree, GoesOn, SessionHolds-mark}
 use Rattle.b67_layout.proofs.Fresh.{next_is_free, free-uncritical}
@@ -33,25 +34,25 @@ next_mark job = record { identity = job.next_frame; standing = State.Marked; cel
 abbrev pub job_marked : Job → Task → Place → Job
 job_marked job t q = with_task (record job { next_frame = job.next_frame + 1 }) (record t { frames = next_mark job ∷ t.frames; place = q })
 
-module _ (x : Storage) (old new : Cpu) (plan : Plan) (s : Session) (m : Member) (t : Task) (q : Place) (h : SessionStands x old plan s) (runs : IsRunning plan s.jobs m t)
-    (unchanging : SettingInOrder m.setting) (g : TasksInOrder (IsSegment m.setting) m.setting m.course.job)
+module _ (x : Storage) (old new : Cpu) (plan : Placement) (s : Session) (m : SessionJob) (t : Task) (q : Place) (h : RepresentsSession x old plan s) (runs : IsRunning plan s.jobs m t)
+    (unchanging : SettingInOrder m.constants) (g : TasksInOrder (IsSegment m.constants) m.constants m.progress.job)
     (same : (i : ℕ) → i < plan.stacks → slice_get new.core i ≡ slice_get old.core i) (on : GoesOn old.regs new.regs q) (display : new.display ≡ old.display) (critical : new.critical ≡ old.critical) where
   job : Job
-  job = m.course.job
+  job = m.progress.job
 
   abbrev job' : Job
-  job' = job_marked m.course.job t q
+  job' = job_marked m.progress.job t q
 
   abbrev t' : Task
-  t' = record t { frames = next_mark m.course.job ∷ t.frames; place = q }
+  t' = record t { frames = next_mark m.progress.job ∷ t.frames; place = q }
 
-  has_t : Has m.course.job.tasks t
-  has_t = keyed-has (λ (u : Task). u.number) t.number m.course.job.tasks t runs.task
+  has_t : Has m.progress.job.tasks t
+  has_t = keyed-has (λ (u : Task). u.number) t.number m.progress.job.tasks t runs.task
 
-  free : IsFree m.course.job m.course.job.next_frame
-  free = next_is_free (IsSegment m.setting) m.setting m.course.job g t has_t
+  free : IsFree m.progress.job m.progress.job.next_frame
+  free = next_is_free (IsSegment m.constants) m.constants m.progress.job g t has_t
 
-  top : OnTop m.course.job job' t t' m.course.job.next_frame
+  top : OnTop m.progress.job job' t t' m.progress.job.next_frame
   top = record {
     there = runs.task;
     number = refl;
@@ -61,35 +62,35 @@ module _ (x : Storage) (old new : Cpu) (plan : Plan) (s : Session) (m : Member) 
     arrays = refl;
     some = free.some;
     uncritical = free.uncritical;
-    same = λ c k o id ne. seen-mark (next_mark m.course.job) t.frames c k o id ne;
+    same = λ c k o id ne. seen-mark (next_mark m.progress.job) t.frames c k o id ne;
   }
 
-  abbrev before : Here
-  before = record { setting = m.setting; job = m.course.job; task = t; at = t.place }
+  abbrev before : OperatorContext
+  before = record { constants = m.constants; job = m.progress.job; task = t; at = t.place }
 
-  abbrev after : Here
-  after = record { setting = m.setting; job = job'; task = t'; at = t'.place }
+  abbrev after : OperatorContext
+  after = record { constants = m.constants; job = job'; task = t'; at = t'.place }
 
-  frame_same : (id : ℕ) → id < m.course.job.next_frame → frame after id ≡ frame before id
-  frame_same id low = ap (λ o. unwrap_or o no_frame) (frame_past m.course.job.next_frame (next_mark m.course.job) (m.setting.dictionary ∷ mcp ∷ []) t.number t t' refl refl m.course.job.tasks runs.task id (λ e. omega (arith, e, low)))
+  frame_same : (id : ℕ) → id < m.progress.job.next_frame → frame after id ≡ frame before id
+  frame_same id low = ap (λ o. unwrap_or o no_frame) (frame_past m.progress.job.next_frame (next_mark m.progress.job) (m.constants.dictionary ∷ mcp ∷ []) t.number t t' refl refl m.progress.job.tasks runs.task id (λ e. omega (arith, e, low)))
 
-  shown : Shows old.display plan (record m { course = record m.course { job = job' } }) t'
+  shown : ShowsDisplay old.display plan (record m { progress = record m.progress { job = job' } }) t'
   shown n up =
-      let f = frame_at_same (IsSegment m.setting) before unchanging g has_t after frame_same refl n in
+      let f = frame_at_same (IsSegment m.constants) before unchanging g has_t after frame_same refl n in
       let id = (frame_at before n).identity in
-      let there : spots plan m.setting.number job' t' id ≡ spots plan m.setting.number m.course.job t id =
-      (let o = outer_spots plan m.setting.number m.course.job t.critical t.parents in
-      ap (λ (o' : ℕ → Spot). spot_in (slot_of plan m.setting.number t.number) o' (next_mark m.course.job ∷ t.frames) id) (outer-same [] x old.core new.core old.regs new.regs old.critical plan s m t h.holds runs job' (next_mark m.course.job ∷ t.frames) t.segment q t.condition m.course.job.next_frame top)
-      ∙ rw (ne_eqb m.course.job.next_frame id (λ e. omega (arith, e, f.1))) refl) in
-      h.shows m t runs n up ∙ ap (λ (p : Spot). Some (address_of plan p)) (sym there) ∙ ap (λ (g' : Frame). Some (address_of plan (spots plan m.setting.number job' t' g'.identity))) (sym f.0)
+      let there : spots plan m.constants.number job' t' id ≡ spots plan m.constants.number m.progress.job t id =
+      (let o = outer_spots plan m.constants.number m.progress.job t.critical t.parents in
+      ap (λ (o' : ℕ → StackPlace). spot_in (slot_of plan m.constants.number t.number) o' (next_mark m.progress.job ∷ t.frames) id) (outer-same [] x old.core new.core old.regs new.regs old.critical plan s m t h.holds runs job' (next_mark m.progress.job ∷ t.frames) t.segment q t.condition m.progress.job.next_frame top)
+      ∙ rw (ne_eqb m.progress.job.next_frame id (λ e. omega (arith, e, f.1))) refl) in
+      h.shows m t runs n up ∙ ap (λ (p : StackPlace). Some (address_of plan p)) (sym there) ∙ ap (λ (g' : Frame). Some (address_of plan (spots plan m.constants.number job' t' g'.identity))) (sym f.0)
 
-  pub SessionStands-mark : Stands x new.core new.regs (with_stack (picture plan s.jobs) plan.running (new_mark ∷ stack_of_task plan m.setting.number m.course.job plan.running t))
-      → Settled (with_stack (picture plan s.jobs) plan.running (new_mark ∷ stack_of_task plan m.setting.number m.course.job plan.running t))
-      → SessionStands x new plan (with_job s m job')
-  SessionStands-mark stands settled =
+  pub RepresentsSession-mark : Represents x new.core new.regs (with_stack (machine_view plan s.jobs) plan.running (new_mark ∷ stack_of_task plan m.constants.number m.progress.job plan.running t))
+      → NoOriginalAboveTop (with_stack (machine_view plan s.jobs) plan.running (new_mark ∷ stack_of_task plan m.constants.number m.progress.job plan.running t))
+      → RepresentsSession x new plan (with_job s m job')
+  RepresentsSession-mark stands settled =
       let P : List ℕ → Type 0 = λ marks. SessionHolds x new.core new.regs marks plan (with_job s m job') in
-      let holds = subst P (sym critical) (SessionHolds-mark x old.core new.core old.regs new.regs old.critical plan s m t q h.holds runs same on (record m.course.job { next_frame = m.course.job.next_frame + 1 }) m.course.job.next_frame refl refl free (free-uncritical m.course.job m.course.job.next_frame free) stands settled) in
-      let still = still_running [] x old.core new.core old.regs new.regs old.critical plan s m t h.holds runs job' (next_mark m.course.job ∷ t.frames) t.segment q t.condition m.course.job.next_frame top in
-      let moved : Member = record m { course = record m.course { job = job' } } in
-      let D : List ℕ → Type 0 = λ d. Shows d plan moved t' in
-      record { holds = holds; shows = λ y u r. running_only plan (with_job s m job').jobs moved y t' u (Shows new.display plan) holds.fits.rows still r (subst D (sym display) shown) }
+      let holds = subst P (sym critical) (SessionHolds-mark x old.core new.core old.regs new.regs old.critical plan s m t q h.holds runs same on (record m.progress.job { next_frame = m.progress.job.next_frame + 1 }) m.progress.job.next_frame refl refl free (free-uncritical m.progress.job m.progress.job.next_frame free) stands settled) in
+      let still = still_running [] x old.core new.core old.regs new.regs old.critical plan s m t h.holds runs job' (next_mark m.progress.job ∷ t.frames) t.segment q t.condition m.progress.job.next_frame top in
+      let moved : SessionJob = record m { progress = record m.progress { job = job' } } in
+      let D : List ℕ → Type 0 = λ d. ShowsDisplay d plan moved t' in
+      record { holds = holds; shows = λ y u r. running_only plan (with_job s m job').jobs moved y t' u (ShowsDisplay new.display plan) holds.fits.rows still r (subst D (sym display) shown) }

@@ -3,12 +3,12 @@ use Rattle.std.proofs.Common.{◌≡◌, ◌≢◌, ℕ, zero, suc, ◌-◌, ◌
 use Rattle.std.proofs.lemmas.Bool.{cases_Bool, ne_eqb}
 use Rattle.std.proofs.lemmas.Option.{same_Some}
 use Rattle.b67_lemmas.specs.Lists.{Has}
+use Rattle.b67_lemmas.proofs.Members.{all_in, falls_low, has_append_cases, has_append_right, keyed_has, has_flat_back}
 use Rattle.b67_model.specs.Keyed.{keyed, change_keyed}
 use Rattle.b67_model.specs.State as State
-use Rattle.b67_model.specs.State.{Frame, Standing, Array, Task, Setting, Job, Here, mcp, no_frame, all_frames, frame}
+use Rattle.b67_model.specs.State.{Frame, Standing, Array, Task, JobConstants, Job, OperatorContext, mcp, no_frame, all_frames, frame}
 use Rattle.b67_model.specs.Environment.{environment_of, level_of_frame, running_from, running, outward, running_level, frame_at}
 use Rattle.b67_model.specs.InOrder.{Starts, Known, known_of, base, outer_of, reach_of, known_numbers, FramesInOrder, StandsInOrder, TaskInOrder, SettingInOrder, TasksInOrder}
-use Rattle.b67_law_order.proofs.Members.{has_append_right, has_append_cases, all_in, keyed_has, falls_low}
 use Rattle.b67_law_order.proofs.Reaches.{known_number}
 use Rattle.b67_law_order.proofs.Looks.{Line, line_of}
 
@@ -30,9 +30,9 @@ own_low P arrays bound outer [] low some order f here = absurd here
 own_low P arrays bound outer (e ∷ fs) low some order f (inl same) = subst (Low bound) same (record { identity = low e.identity (inl refl); environment = environment_low (map known_of fs ++ outer) bound e.standing (λ id k. low id (inr k)) some order.1 })
 own_low P arrays bound outer (e ∷ fs) low some order f (inr k) = own_low P arrays bound outer fs (λ id i. low id (inr i)) some order.2 f k
 
-module _ (P : Starts) (setting : Setting) (job : Job) (g : TasksInOrder P setting job) where
-  order_of : (t : Task) → Has job.tasks t → TaskInOrder P setting job t
-  order_of t here = all_in (TaskInOrder P setting job) job.tasks t g.tasks here
+module _ (P : Starts) (constants : JobConstants) (job : Job) (g : TasksInOrder P constants job) where
+  order_of : (t : Task) → Has job.tasks t → TaskInOrder P constants job t
+  order_of t here = all_in (TaskInOrder P constants job) job.tasks t g.tasks here
 
   reach_low : (t : Task) → Has job.tasks t → (id : ℕ) → Has (known_numbers (reach_of job t)) id → id < job.next_frame
   reach_low t here id k = falls_low job.next_frame (known_numbers (reach_of job t)) id (order_of t here).falls k
@@ -40,7 +40,7 @@ module _ (P : Starts) (setting : Setting) (job : Job) (g : TasksInOrder P settin
   -- the dictionary and the MCP's frame are in each reach
   base_low : (t : Task) → Has job.tasks t → (id : ℕ) (s : Standing) → Has base (id, s) → id < job.next_frame
   base_low t here id s k =
-      let l : Line P job (reach_of job t) = line_of P setting job g t here in
+      let l : Line P job (reach_of job t) = line_of P constants job g t here in
       reach_low t here id (known_number (reach_of job t) id s (rw l.is (has_append_right (map known_of l.frames) base (id, s) k)))
 
   pub some_identity : (t : Task) → Has job.tasks t → 1 < job.next_frame
@@ -48,13 +48,6 @@ module _ (P : Starts) (setting : Setting) (job : Job) (g : TasksInOrder P settin
 
   pub frames_low : (t : Task) → Has job.tasks t → (f : Frame) → Has t.frames f → Low job.next_frame f
   frames_low t here f k = let n = some_identity t here in own_low P job.arrays job.next_frame (outer_of job t) t.frames (λ id i. reach_low t here id i) (omega (arith, n)) (order_of t here).frames f k
-
-has_flat_back : (ts : List Task) (f : Frame) → Has (flat_map (λ (t : Task). t.frames) ts) f → (t : Task) × Has ts t × Has t.frames f
-has_flat_back [] f k = absurd k
-has_flat_back (t ∷ ts) f k = ⊎_elim
-    (λ i. (t, inl refl, i))
-    (λ i. let r = has_flat_back ts f i in (r.0, inr r.1, r.2))
-    (has_append_cases t.frames (flat_map (λ (u : Task). u.frames) ts) f k)
 
 found_or_none : (o : Option Frame) (P : Frame → Type 0) → ((f : Frame) → o ≡ Some f → P f) → P no_frame → P (unwrap_or o no_frame)
 found_or_none None P some none = none
@@ -68,22 +61,22 @@ running_among : (fs : List Frame) (P : Frame → Type 0) → ((f : Frame) → Ha
 running_among [] P each none = none
 running_among (f ∷ below) P each none = running_by f.standing f (running below) P (each f (inl refl)) (running_among below P (λ g k. each g (inr k)) none)
 
-module _ (P : Starts) (h : Here) (unchanging : SettingInOrder h.setting) (g : TasksInOrder P h.setting h.job) (live : Has h.job.tasks h.task) where
+module _ (P : Starts) (h : OperatorContext) (unchanging : SettingInOrder h.constants) (g : TasksInOrder P h.constants h.job) (live : Has h.job.tasks h.task) where
   some : 1 < h.job.next_frame
-  some = some_identity P h.setting h.job g h.task live
+  some = some_identity P h.constants h.job g h.task live
 
   none_low : Low h.job.next_frame no_frame
   none_low = record { identity = omega (arith, some); environment = omega (arith, some) }
 
   all_low : (f : Frame) → Has (all_frames h) f → Low h.job.next_frame f
   all_low f k = ⊎_elim
-      (λ i. let r = has_flat_back h.job.tasks f i in frames_low P h.setting h.job g r.0 r.1 f r.2)
+      (λ i. let r = has_flat_back (λ (t : Task). t.frames) h.job.tasks f i in frames_low P h.constants h.job g r.item r.among f r.inside)
       (λ i. base_case i)
-      (has_append_cases (flat_map (λ (t : Task). t.frames) h.job.tasks) (h.setting.dictionary ∷ mcp ∷ []) f k) where
-        dictionary : Low h.job.next_frame h.setting.dictionary
+      (has_append_cases (flat_map (λ (t : Task). t.frames) h.job.tasks) (h.constants.dictionary ∷ mcp ∷ []) f k) where
+        dictionary : Low h.job.next_frame h.constants.dictionary
         dictionary = record { identity = omega (arith, unchanging.named, some); environment = rw unchanging.stands (omega (arith, some)) }
 
-        base_case : Has (h.setting.dictionary ∷ mcp ∷ []) f → Low h.job.next_frame f
+        base_case : Has (h.constants.dictionary ∷ mcp ∷ []) f → Low h.job.next_frame f
         base_case (inl e) = subst (Low h.job.next_frame) e dictionary
         base_case (inr (inl e)) = subst (Low h.job.next_frame) e (record { identity = omega (arith, some); environment = omega (arith, some) })
         base_case (inr (inr i)) = absurd i
@@ -93,10 +86,10 @@ module _ (P : Starts) (h : Here) (unchanging : SettingInOrder h.setting) (g : Ta
   frame_low id = found_or_none (keyed (λ (f : Frame). f.identity) id (all_frames h)) (Low h.job.next_frame) (λ f e. all_low f (keyed_has (λ (f : Frame). f.identity) id (all_frames h) f e).0) none_low
 
   running_low : Low h.job.next_frame (running h.task.frames)
-  running_low = running_among h.task.frames (Low h.job.next_frame) (λ f k. frames_low P h.setting h.job g h.task live f k) none_low
+  running_low = running_among h.task.frames (Low h.job.next_frame) (λ f k. frames_low P h.constants h.job g h.task live f k) none_low
 
   -- a machine whose frames below the next identity are these
-  module _ (h' : Here) (same : (id : ℕ) → id < h.job.next_frame → frame h' id ≡ frame h id) where
+  module _ (h' : OperatorContext) (same : (id : ℕ) → id < h.job.next_frame → frame h' id ≡ frame h id) where
     outward_same : (links : ℕ) (f : Frame) → Low h.job.next_frame f → (outward h' links f ≡ outward h links f) × Low h.job.next_frame (outward h links f)
     outward_same zero f low = (refl, low)
     outward_same (suc links) f low =

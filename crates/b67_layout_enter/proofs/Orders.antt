@@ -1,33 +1,22 @@
 -- The running task is in order with its marked frame entered, or with an entered one more, where it is ready then.
-use Rattle.std.proofs.Common.{◌≡◌, ◌≢◌, ℕ, ◌+◌, ◌≤◌, List, [], ◌∷◌, ◌++◌, map, length, Some, refl, sym, ◌∙◌, ap, subst, inl, inr, arith, false, length-append}
+use Rattle.std.proofs.Common.{◌≡◌, ◌≢◌, ℕ, ◌+◌, ◌≤◌, List, [], ◌∷◌, ◌++◌, map, length, Some, refl, ap, inl, inr, arith, false, length-append}
 use Rattle.std.specs.Prelude.{if◌then◌else◌}
 use Rattle.std.specs.List.{AllByRecursion}
 use Rattle.std.proofs.lemmas.Bool.Decides.{eqb_tells}
 use Rattle.b67_word.specs.declared.couples.Place.{Place}
 use Rattle.b67_model.specs.Keyed.{keyed}
 use Rattle.b67_lemmas.specs.Lists.{Has, Falls, total}
+use Rattle.b67_lemmas.proofs.Members.{all_in, falls_low, keyed_has, total_append}
 use Rattle.b67_model.specs.Words as Words
 use Rattle.b67_model.specs.Words.{Word, Operand, Name, Ref, Row, Element, Original, Proc, Intrinsic}
-use Rattle.b67_model.specs.State.{Frame, Standing, Marked, Entered, Return, Array, Ready, Task, Setting, Job, Here, top, below_top, head_words, height, with_task}
+use Rattle.b67_model.specs.State.{Frame, Standing, Marked, Entered, Return, Array, Ready, Task, JobConstants, Job, OperatorContext, top, below_top, head_words, height, with_task}
 use Rattle.b67_model.specs.Environment.{level_of_frame, running}
-use Rattle.b67_model.specs.InOrder.{Starts, Known, IsEntered, WordInOrder, NoCopyUnder, CopiesAbove, StackInOrder, is_copy_of, is_original_of, known_numbers, known_of, from_frame, outer_of, EnvironmentInOrder, StandsInOrder, ReturnsInOrder, CellsInOrder, TaskInOrder, originals_in, originals_of, TasksInOrder}
-use Rattle.b67_law_order.proofs.Members.{all_in, keyed_has, falls_low, total_append}
+use Rattle.b67_model.specs.InOrder.{Starts, Known, WordInOrder, NoCopyUnder, CopiesAbove, is_copy_of, is_original_of, known_numbers, known_of, from_frame, outer_of, EnvironmentInOrder, StandsInOrder, ReturnsInOrder, CellsInOrder, TaskInOrder, originals_in, originals_of, TasksInOrder}
 use Rattle.b67_law_order.proofs.Reaches.{alike_same, known_number}
 use Rattle.b67_law_order.proofs.Replaced.{replaced}
 use Rattle.b67_law_order.proofs.Changes.{Change, fresh_frame, change_cells, change_enter}
 use Rattle.b67_layout.proofs.Fresh.{critical-below}
 use Rattle.b67_layout_enter.proofs.Tops.{task_on}
-
--- what an entered frame is in reach of a marked one lies below it
-pub below_marked : (fs : List Frame) (outer : List Known) (n : ℕ) (s : Standing) → (top fs).standing ≡ Marked → IsEntered s → Has (map known_of fs ++ outer) (n, s) → Has (map known_of (below_top fs) ++ outer) (n, s)
-below_marked [] outer n s marked e k = k
-below_marked (f ∷ below) outer n s marked e (inl is) = let no : f.standing ≡ s = ap (λ (x : Known). x.1) is in absurd (subst IsEntered (sym no ∙ marked) e)
-below_marked (f ∷ below) outer n s marked e (inr m) = m
-
--- a marked frame stands on others
-pub below_some : (P : Starts) (fs : List Frame) → StackInOrder P fs → fs ≢ [] → (top fs).standing ≡ Marked → below_top fs ≢ []
-below_some P [] g some marked = absurd (some refl)
-below_some P (f ∷ below) g some marked = subst (λ s. ReturnsInOrder P s below) marked g.0
 
 -- its identity isn't that of what lies in its reach
 pub top_apart : (bound : ℕ) (fs : List Frame) (outer : List Known) (n : ℕ) (s : Standing) → fs ≢ [] → Falls bound (known_numbers (map known_of fs ++ outer)) → Has (map known_of (below_top fs) ++ outer) (n, s) → (top fs).identity ≢ n
@@ -77,15 +66,15 @@ height_entered (f ∷ below) level environment back xs y some marked e =
     let one : head_words f.standing ≡ 1 = ap head_words marked in
     omega (arith, one, ap length e, length-append xs (y ∷ []))
 
-module _ (P : Starts) (setting : Setting) (job : Job) (t : Task) (g : TasksInOrder P setting job) (found : keyed (λ (u : Task). u.number) t.number job.tasks ≡ Some t) where
-  abbrev pub at : Here
-  at = record { setting = setting; job = job; task = t; at = t.place }
+module _ (P : Starts) (constants : JobConstants) (job : Job) (t : Task) (g : TasksInOrder P constants job) (found : keyed (λ (u : Task). u.number) t.number job.tasks ≡ Some t) where
+  abbrev pub at : OperatorContext
+  at = record { constants = constants; job = job; task = t; at = t.place }
 
-  own : TaskInOrder P setting job t
-  own = all_in (TaskInOrder P setting job) job.tasks t g.tasks (keyed_has (λ (u : Task). u.number) t.number job.tasks t found).0
+  own : TaskInOrder P constants job t
+  own = all_in (TaskInOrder P constants job) job.tasks t g.tasks (keyed_has (λ (u : Task). u.number) t.number job.tasks t found).0
 
   -- the task's frames as they are
-  pub start : Change P (record { setting = setting; job = job; task = t; at = t.place }) job.arrays t.frames job.next_frame
+  pub start : Change P (record { constants = constants; job = job; task = t; at = t.place }) job.arrays t.frames job.next_frame
   start = record {
     order = own.frames;
     returns = own.returns;
@@ -107,7 +96,7 @@ module _ (P : Starts) (setting : Setting) (job : Job) (t : Task) (g : TasksInOrd
     falls = (omega arith, c.falls);
     up = omega arith;
     alike = λ u k. elim (eqb_tells job.next_frame u.critical) [
-      | inl e ↦ absurd (omega (arith, e.1, critical-below P setting job g u k))
+      | inl e ↦ absurd (omega (arith, e.1, critical-below P constants job g u k))
       | inr e ↦ rw e.0 (c.alike u k)
     ];
     stays = λ u k i. inr (c.stays u k i);
@@ -126,10 +115,10 @@ module _ (P : Starts) (setting : Setting) (job : Job) (t : Task) (g : TasksInOrd
       change_enter P at job.arrays (record f { cells = cells }) below next level environment back (change_cells P at job.arrays (f ∷ below) next cells c words) marked stands returns
 
   -- the job with the task that goes on with these frames, and is ready
-  pub ready_with : (frames : List Frame) (next segment : ℕ) (place : Place) → Change P at job.arrays frames next → height frames ≤ setting.stack_size
+  pub ready_with : (frames : List Frame) (next segment : ℕ) (place : Place) → Change P at job.arrays frames next → height frames ≤ constants.stack_size
       → P segment (level_of_frame (running frames)) place → ((n : ℕ) → originals_in n frames ≡ originals_in n t.frames)
-      → TasksInOrder P setting (with_task (record job { next_frame = next }) (task_on t frames segment place Ready))
-  ready_with frames next segment place c low starts same = replaced P setting job t (with_task (record job { next_frame = next }) (task_on t frames segment place Ready)) (task_on t frames segment place Ready) g found (record {
+      → TasksInOrder P constants (with_task (record job { next_frame = next }) (task_on t frames segment place Ready))
+  ready_with frames next segment place c low starts same = replaced P constants job t (with_task (record job { next_frame = next }) (task_on t frames segment place Ready)) (task_on t frames segment place Ready) g found (record {
     number = refl;
     line = refl;
     critical = refl;
@@ -148,7 +137,7 @@ module _ (P : Starts) (setting : Setting) (job : Job) (t : Task) (g : TasksInOrd
     fewer = c.fewer;
     kept = λ a k. record { case = inl (record { item = a; live = k; named = refl; owned = refl }) };
     arrays = g.arrays;
-    once = λ a k. omega (arith, same a.identity, all_in (λ (b : Array). originals_of b.identity setting job ≡ 1) job.arrays a g.once k);
+    once = λ a k. omega (arith, same a.identity, all_in (λ (b : Array). originals_of b.identity constants job ≡ 1) job.arrays a g.once k);
     names = g.names;
     reads = g.reads;
   })

@@ -5,29 +5,29 @@ use Rattle.std.proofs.lemmas.Bool.{cases_eq}
 use Rattle.b67_word.specs.Tagged.{Tagged}
 use Rattle.b67_ctl.specs.declared.registers.Regs.{Regs}
 use Rattle.b67_core.proofs.Writes.{slice_get-set_other}
-use Rattle.b67_model.specs.State.{Task, Member, height}
+use Rattle.b67_model.specs.State.{Task, SessionJob, height}
 use Rattle.b67_model.specs.Run.{number_of}
 use Rattle.b67_model.specs.Schedule.{Session}
-use Rattle.b67_stack.specs.Picture.{Thing}
-use Rattle.b67_stack.specs.Stands.{Storage}
+use Rattle.b67_stack.specs.MachineView.{PagedObject}
+use Rattle.b67_stack.specs.Represents.{Storage}
 use Rattle.b67_stack.proofs.Slots.{running_slot}
-use Rattle.b67_layout.specs.Plan.{Plan, outer_spots}
-use Rattle.b67_layout.specs.Layout.{picture, stack_of_task}
+use Rattle.b67_layout.specs.Placement.{Placement, outer_spots}
+use Rattle.b67_layout.specs.Layout.{machine_view, stack_of_task}
 use Rattle.b67_layout.specs.Meets.{IsInStack}
-use Rattle.b67_layout.specs.Session.{IsRunning, with_things, SessionHoldsBut}
+use Rattle.b67_layout.specs.Session.{IsRunning, with_objects, SessionHoldsBut}
 use Rattle.b67_layout.proofs.Frames.{height-is}
-use Rattle.b67_layout.proofs.Others.{keyed-has}
 use Rattle.b67_layout.proofs.Rows.{runs_on}
+use Rattle.b67_lemmas.proofs.Members.{keyed-has}
 
 -- the words left over the top
-pub height_room : (left : List Thing) (x : Storage) (core : List Tagged) (r : Regs) (marks : List ℕ) (plan : Plan) (s : Session) (m : Member) (t : Task) → SessionHoldsBut left x core r marks plan s → IsRunning plan s.jobs m t
-    → height t.frames + r.losr ≡ r.s + m.setting.stack_size
+pub height_room : (left : List PagedObject) (x : Storage) (core : List Tagged) (r : Regs) (marks : List ℕ) (plan : Placement) (s : Session) (m : SessionJob) (t : Task) → SessionHoldsBut left x core r marks plan s → IsRunning plan s.jobs m t
+    → height t.frames + r.losr ≡ r.s + m.constants.stack_size
 height_room left x core r marks plan s m t h runs =
-    let in_m = keyed-has number_of m.setting.number s.jobs m runs.member in
-    let in_t = keyed-has (λ (u : Task). u.number) t.number m.course.job.tasks t runs.task in
+    let in_m = keyed-has number_of m.constants.number s.jobs m runs.member in
+    let in_t = keyed-has (λ (u : Task). u.number) t.number m.progress.job.tasks t runs.task in
     let u = runs_on plan s.jobs m t h.fits.rows in_m in_t runs.slot runs.member runs.task in
-    let top = running_slot x core r (with_things left (picture plan s.jobs)) plan.running (stack_of_task plan m.setting.number m.course.job plan.running t) h.memory (record { used = u.used; is = u.is }) in
-    omega (arith, height-is plan m.setting.number m.course.job plan.running (outer_spots plan m.setting.number m.course.job t.critical t.parents) t.frames, top.top, top.last, h.fits.sizes m in_m)
+    let top = running_slot x core r (with_objects left (machine_view plan s.jobs)) plan.running (stack_of_task plan m.constants.number m.progress.job plan.running t) h.memory (record { used = u.used; is = u.is }) in
+    omega (arith, height-is plan m.constants.number m.progress.job plan.running (outer_spots plan m.constants.number m.progress.job t.critical t.parents) t.frames, top.top, top.last, h.fits.sizes m in_m)
 
 -- one word or two that are written change only words of the stack
 pub written : (core : List Tagged) (r : Regs) (a : ℕ) (v : Tagged) → IsInStack r a → (i : ℕ) → (slice_get (slice_set core a v) i ≡ slice_get core i) ⊎ IsInStack r i

@@ -5,19 +5,20 @@ use Rattle.b67_word.specs.Tagged.{Tagged}
 use Rattle.b67_word.specs.declared.couples.Place.{Place}
 use Rattle.b67_ctl.specs.declared.registers.Regs.{Regs}
 use Rattle.b67_lemmas.specs.Lists.{Has}
-use Rattle.b67_model.specs.State.{Frame, Condition, Task, Job, Course, Member}
+use Rattle.b67_lemmas.proofs.Members.{keyed-has}
+use Rattle.b67_model.specs.State.{Frame, Condition, Task, Job, JobProgress, SessionJob}
 use Rattle.b67_model.specs.Run.{number_of}
 use Rattle.b67_model.specs.Schedule.{Session}
-use Rattle.b67_stack.specs.Stacks.{Spot, Activation}
-use Rattle.b67_stack.specs.Picture.{Thing, Picture, Settled}
-use Rattle.b67_stack.specs.Stands.{Storage, Stands}
+use Rattle.b67_stack.specs.Stacks.{StackPlace, Activation}
+use Rattle.b67_stack.specs.MachineView.{PagedObject, MachineView, NoOriginalAboveTop}
+use Rattle.b67_stack.specs.Represents.{Storage, Represents}
 use Rattle.b67_stack.specs.Changes.{with_stack}
-use Rattle.b67_layout.specs.Plan.{Plan, outer_spots}
-use Rattle.b67_layout.specs.Layout.{activations, picture}
+use Rattle.b67_layout.specs.Placement.{Placement, outer_spots}
+use Rattle.b67_layout.specs.Layout.{activations, machine_view}
 use Rattle.b67_layout.specs.Meets.{with_job}
-use Rattle.b67_layout.specs.Session.{TaskStands, IsRunning, critical_mark, with_things, SessionHoldsBut}
-use Rattle.b67_layout.proofs.Others.{OnTop, keyed-has, task-same, outer_spots-after}
-use Rattle.b67_layout.proofs.Pictures.{with_course, member-same, picture-after, stack-after}
+use Rattle.b67_layout.specs.Session.{RepresentsTask, IsRunning, critical_mark, with_objects, SessionHoldsBut}
+use Rattle.b67_layout.proofs.Others.{OnTop, task-same, outer_spots-after}
+use Rattle.b67_layout.proofs.MachineViews.{with_course, member-same, machine_view-after, stack-after}
 use Rattle.b67_layout.proofs.Rows.{row_of}
 use Rattle.b67_layout_enter.proofs.Holds.{SessionHoldsBut-after}
 
@@ -33,44 +34,44 @@ pub record GoesTo (r r' : Regs) (g : ℕ) (q : Place) : Type 0 where
 abbrev pub task_on : Task → List Frame → ℕ → Place → Condition → Task
 task_on t fs segment q condition = record t { frames = fs; segment = segment; place = q; condition = condition }
 
-module _ (left : List Thing) (x : Storage) (core new : List Tagged) (r r' : Regs) (marks : List ℕ) (plan : Plan) (s : Session) (m : Member) (t : Task) (h : SessionHoldsBut left x core r marks plan s) (runs : IsRunning plan s.jobs m t) where
+module _ (left : List PagedObject) (x : Storage) (core new : List Tagged) (r r' : Regs) (marks : List ℕ) (plan : Placement) (s : Session) (m : SessionJob) (t : Task) (h : SessionHoldsBut left x core r marks plan s) (runs : IsRunning plan s.jobs m t) where
   has_m : Has s.jobs m
-  has_m = keyed-has number_of m.setting.number s.jobs m runs.member
+  has_m = keyed-has number_of m.constants.number s.jobs m runs.member
 
-  has_t : Has m.course.job.tasks t
-  has_t = keyed-has (λ (u : Task). u.number) t.number m.course.job.tasks t runs.task
+  has_t : Has m.progress.job.tasks t
+  has_t = keyed-has (λ (u : Task). u.number) t.number m.progress.job.tasks t runs.task
 
   -- the outer spots that the running task names
-  abbrev pub outer : ℕ → Spot
-  outer = outer_spots plan m.setting.number m.course.job t.critical t.parents
+  abbrev pub outer : ℕ → StackPlace
+  outer = outer_spots plan m.constants.number m.progress.job t.critical t.parents
 
-  module _ (job' : Job) (fs : List Frame) (segment : ℕ) (q : Place) (condition : Condition) (n : ℕ) (top : OnTop m.course.job job' t (task_on t fs segment q condition) n) where
+  module _ (job' : Job) (fs : List Frame) (segment : ℕ) (q : Place) (condition : Condition) (n : ℕ) (top : OnTop m.progress.job job' t (task_on t fs segment q condition) n) where
     -- all but the display
     pub SessionHolds-top : (stack : List Activation) → ((i : ℕ) → i < plan.stacks → slice_get new i ≡ slice_get core i) → GoesTo r r' segment q
-        → critical_mark m.course.job fs ≡ critical_mark m.course.job t.frames
-        → activations plan m.setting.number m.course.job plan.running outer fs ≡ stack
-        → Stands x new r' (with_things left (with_stack (picture plan s.jobs) plan.running stack)) → Settled (with_stack (picture plan s.jobs) plan.running stack)
+        → critical_mark m.progress.job fs ≡ critical_mark m.progress.job t.frames
+        → activations plan m.constants.number m.progress.job plan.running outer fs ≡ stack
+        → Represents x new r' (with_objects left (with_stack (machine_view plan s.jobs) plan.running stack)) → NoOriginalAboveTop (with_stack (machine_view plan s.jobs) plan.running stack)
         → SessionHoldsBut left x new r' marks plan (with_job s m job')
     SessionHolds-top stack same on critical is stands settled =
-        let c : Course = record m.course { job = job' } in
+        let c : JobProgress = record m.progress { job = job' } in
         let t' : Task = task_on t fs segment q condition in
         let row = row_of plan s.jobs m t h.fits.rows has_m has_t runs.slot in
-        let e : picture plan (with_course s.jobs m.setting.number c) ≡ with_stack (picture plan s.jobs) plan.running stack =
-        picture-after plan s.jobs m.setting.number m c t t' n plan.running runs.member top row
-        ∙ ap (λ (xs : List Activation). with_stack (picture plan s.jobs) plan.running xs) (stack-after plan s.jobs m.setting.number m c t t' n plan.running runs.member top row ∙ is) in
-        let P : Picture → Type 0 = λ p. Stands x new r' (with_things left p) in
+        let e : machine_view plan (with_course s.jobs m.constants.number c) ≡ with_stack (machine_view plan s.jobs) plan.running stack =
+        machine_view-after plan s.jobs m.constants.number m c t t' n plan.running runs.member top row
+        ∙ ap (λ (xs : List Activation). with_stack (machine_view plan s.jobs) plan.running xs) (stack-after plan s.jobs m.constants.number m c t t' n plan.running runs.member top row ∙ is) in
+        let P : MachineView → Type 0 = λ p. Represents x new r' (with_objects left p) in
         let o = h.running m t runs in
-        let task : TaskStands r' plan (record m { course = c }) t' = record { slot = on.slot ∙ o.slot; dict = on.dict ∙ o.dict; entries = on.entries ∙ o.entries; segment = on.segment; place = on.place } in
-        SessionHoldsBut-after left x core new r r' marks plan s m c t t' n h runs top same critical (subst P (sym e) stands) (subst Settled (sym e) settled) task
+        let task : RepresentsTask r' plan (record m { progress = c }) t' = record { slot = on.slot ∙ o.slot; dict = on.dict ∙ o.dict; entries = on.entries ∙ o.entries; segment = on.segment; place = on.place } in
+        SessionHoldsBut-after left x core new r r' marks plan s m c t t' n h runs top same critical (subst P (sym e) stands) (subst NoOriginalAboveTop (sym e) settled) task
 
     -- the task still runs
-    pub still_running : IsRunning plan (with_job s m job').jobs (record m { course = record m.course { job = job' } }) (task_on t fs segment q condition)
+    pub still_running : IsRunning plan (with_job s m job').jobs (record m { progress = record m.progress { job = job' } }) (task_on t fs segment q condition)
     still_running = record {
-      member = member-same s.jobs m.setting.number (record m.course { job = job' }) m runs.member;
-      task = task-same plan m.setting.number m.course.job job' t (task_on t fs segment q condition) n top;
+      member = member-same s.jobs m.constants.number (record m.progress { job = job' }) m runs.member;
+      task = task-same plan m.constants.number m.progress.job job' t (task_on t fs segment q condition) n top;
       slot = runs.slot;
     }
 
     -- it names the same frames outside its own
-    pub outer-same : outer_spots plan m.setting.number job' t.critical t.parents ≡ outer_spots plan m.setting.number m.course.job t.critical t.parents
-    outer-same = λ z i. outer_spots-after plan m.setting.number m.course.job job' t (task_on t fs segment q condition) n top t.parents t.critical (top.uncritical t has_t) i z
+    pub outer-same : outer_spots plan m.constants.number job' t.critical t.parents ≡ outer_spots plan m.constants.number m.progress.job t.critical t.parents
+    outer-same = λ z i. outer_spots-after plan m.constants.number m.progress.job job' t (task_on t fs segment q condition) n top t.parents t.critical (top.uncritical t has_t) i z

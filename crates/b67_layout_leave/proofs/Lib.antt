@@ -7,4 +7,4 @@ pub mod Originals
 pub mod Holds
 pub mod Slots
 pub mod Nowhere
-pub mod Things
+pub mod Objects

@@ -1,52 +1,48 @@
 -- A frame that no live task depends on is in nobody's reach but its own, so nobody else names its arrays.
-use Rattle.std.proofs.Common.{◌≡◌, ◌≢◌, ℕ, ◌+◌, ◌<◌, ◌≤◌, List, [], ◌∷◌, ◌++◌, map, Option, Some, None, refl, sym, ◌∙◌, ap, arith, true, false, not, inl, inr, subst, unwrap_or}
+use Rattle.std.proofs.Common.{◌≡◌, ◌≢◌, ℕ, ◌+◌, ◌<◌, List, [], ◌∷◌, ◌++◌, map, Option, Some, None, refl, sym, ◌∙◌, ap, arith, true, false, not, inl, inr, subst, unwrap_or}
 use Rattle.std.specs.Prelude.{◌==◌}
 use Rattle.std.specs.List.{AllByRecursion}
 use Rattle.std.proofs.lemmas.Bool.{true≢false}
 use Rattle.std.proofs.lemmas.Bool.Decides.{eqb_tells}
 use Rattle.std.proofs.lemmas.Option.{same_Some}
 use Rattle.b67_lemmas.specs.Lists.{Has, Falls}
+use Rattle.b67_lemmas.proofs.Members.{any_none, falls_filter, has_append_cases, has_filter_in, has_map, keyed_falls, keyed_has, total_change, total_has}
 use Rattle.b67_model.specs.Words as Words
 use Rattle.b67_model.specs.Words.{Word, Operand, Name, Ref, Row, Element, Original, Proc, Intrinsic}
-use Rattle.b67_model.specs.State.{Frame, Array, Task, Setting, Job}
+use Rattle.b67_model.specs.State.{Frame, Array, Task, JobConstants, Job}
 use Rattle.b67_model.specs.Keyed.{keyed, change_keyed}
 use Rattle.b67_model.specs.Arrays.{array, no_array}
 use Rattle.b67_model.specs.Steps.{is_critical}
 use Rattle.b67_model.specs.InOrder.{Starts, Known, known_of, from_frame, frames_of_task, critical_of, outer_reach, known_numbers, NamesArray, WordInOrder, FramesInOrder, frames_named, IsSegment, TasksInOrder}
-use Rattle.b67_law_order.proofs.Members.{has_append_cases, has_map, has_filter_in, keyed_has, keyed_falls, falls_filter, total_has, total_change, any_none}
-use Rattle.b67_law_order.proofs.Replaced.{numbers_append, has_counts}
+use Rattle.b67_law_order.proofs.Replaced.{numbers_append, has_counts, from_counts}
 use Rattle.b67_law_order.proofs.Looks.{above_one}
 use Rattle.b67_stack.specs.Shapes.{Shape}
-use Rattle.b67_stack.specs.Stacks.{Spot, Activation}
-use Rattle.b67_layout.specs.Plan.{Plan, spot_in}
+use Rattle.b67_stack.specs.Stacks.{StackPlace, Activation}
+use Rattle.b67_layout.specs.Placement.{Placement, spot_in}
 use Rattle.b67_layout.specs.Layout.{shape, head, activations}
 use Rattle.b67_layout.proofs.Sessions.{change-kept}
-use Rattle.b67_layout_leave.proofs.Things.{others}
+use Rattle.b67_layout_leave.proofs.Objects.{others}
 
 -- the top frame of a live task
-pub record IsOnTop (setting : Setting) (job : Job) (t : Task) (f : Frame) (below : List Frame) : Type 0 where
-  pub order : TasksInOrder (IsSegment setting) setting job
+pub record IsOnTop (constants : JobConstants) (job : Job) (t : Task) (f : Frame) (below : List Frame) : Type 0 where
+  pub order : TasksInOrder (IsSegment constants) constants job
   pub there : keyed (λ (u : Task). u.number) t.number job.tasks ≡ Some t
   pub frames : t.frames ≡ f ∷ below
 
 -- on which no live task depends
-pub record MayLeave (setting : Setting) (job : Job) (t : Task) (f : Frame) (below : List Frame) : Type 0 where
-  pub top : IsOnTop setting job t f below
+pub record MayLeave (constants : JobConstants) (job : Job) (t : Task) (f : Frame) (below : List Frame) : Type 0 where
+  pub top : IsOnTop constants job t f below
   pub free : is_critical job f.identity ≡ false
-
-from_counts : (n c : ℕ) (frames : List Frame) → frames_named n (from_frame c frames) ≤ frames_named n frames
-from_counts n c [] = omega arith
-from_counts n c (f ∷ below) = elim (eqb_tells f.identity c) [ inl t ↦ rw t.0 (omega arith) | inr t ↦ rw t.0 (omega (arith, from_counts n c below)) ]
 
 named_first : (f : Frame) (below : List Frame) → frames_named f.identity (f ∷ below) ≡ 1 + frames_named f.identity below
 named_first f below = elim (eqb_tells f.identity f.identity) [ inl e ↦ rw e.0 refl | inr e ↦ absurd (e.1 refl) ]
 
-module _ (setting : Setting) (job : Job) (t : Task) (f : Frame) (below : List Frame) (top : IsOnTop setting job t f below) where
+module _ (constants : JobConstants) (job : Job) (t : Task) (f : Frame) (below : List Frame) (top : IsOnTop constants job t f below) where
   pub live : Has job.tasks t
   live = (keyed_has (λ (u : Task). u.number) t.number job.tasks t top.there).0
 
   pub high : 1 < f.identity
-  high = above_one (IsSegment setting) setting job top.order t live f (subst (λ (fs : List Frame). Has fs f) (sym top.frames) (inl refl))
+  high = above_one (IsSegment constants) constants job top.order t live f (subst (λ (fs : List Frame). Has fs f) (sym top.frames) (inl refl))
 
   own_named : frames_named f.identity t.frames ≡ 1 + frames_named f.identity below
   own_named = ap (frames_named f.identity) top.frames ∙ named_first f below
@@ -64,7 +60,7 @@ module _ (setting : Setting) (job : Job) (t : Task) (f : Frame) (below : List Fr
     | inr k ↦ absurd (ne (ap (λ (v : Task). v.number) k.0))
   ]
 
-module _ (setting : Setting) (job : Job) (t : Task) (f : Frame) (below : List Frame) (may : MayLeave setting job t f below) where
+module _ (constants : JobConstants) (job : Job) (t : Task) (f : Frame) (below : List Frame) (may : MayLeave constants job t f below) where
   pub uncritical : (u : Task) → Has job.tasks u → u.critical ≢ f.identity
   uncritical u h e = elim (eqb_tells u.critical f.identity) [
     | inl s ↦ true≢false (sym s.0 ∙ any_none (λ (v : Task). v.critical == f.identity) job.tasks u may.free h)
@@ -85,20 +81,20 @@ module _ (setting : Setting) (job : Job) (t : Task) (f : Frame) (below : List Fr
               | inr z ↦
                   let lower : Has (known_numbers (map known_of (from_frame c below))) f.identity = rw z.0 at mine in
                   let one = has_counts f.identity (from_frame c below) lower in
-                  omega (arith, one, from_counts f.identity c below, under setting job t f below may.top)
+                  omega (arith, one, from_counts f.identity c below, under constants job t f below may.top)
             ]
         | inr s ↦
             let one = has_counts f.identity (from_frame c q.frames) h in
-            omega (arith, one, from_counts f.identity c q.frames, elsewhere setting job t f below may.top q k.0 s.1)
+            omega (arith, one, from_counts f.identity c q.frames, elsewhere constants job t f below may.top q k.0 s.1)
       ]
 
   critical_apart : (parent : ℕ) (o : Option Task) → keyed (λ (u : Task). u.number) parent job.tasks ≡ o → critical_of o ≢ f.identity
-  critical_apart parent None e = λ z. omega (arith, z, high setting job t f below may.top)
+  critical_apart parent None e = λ z. omega (arith, z, high constants job t f below may.top)
   critical_apart parent (Some q) e = uncritical q (keyed_has (λ (u : Task). u.number) parent job.tasks q e).0
 
   pub outside : (c : ℕ) (parents : List ℕ) → c ≢ f.identity → Has (known_numbers (outer_reach job c parents)) f.identity → ⊥
-  outside c [] ne (inl e) = omega (arith, e, high setting job t f below may.top)
-  outside c [] ne (inr (inl e)) = omega (arith, e, high setting job t f below may.top)
+  outside c [] ne (inl e) = omega (arith, e, high constants job t f below may.top)
+  outside c [] ne (inr (inl e)) = omega (arith, e, high constants job t f below may.top)
   outside c [] ne (inr (inr k)) = k
   outside c (parent ∷ more) ne h =
       let o = keyed (λ (u : Task). u.number) parent job.tasks in
@@ -165,8 +161,8 @@ module _ (new old : Job) (owner : ℕ) (is : new.arrays ≡ others owner old.arr
   frames_stay P outer (h ∷ hs) none g = (words_stay P (map known_of (h ∷ hs) ++ outer) h.identity h.cells none g.0.0, frames_stay P outer hs (λ k. none (inr k)) g.2)
 
 -- then their words are the same
-module _ (plan : Plan) (j : ℕ) (new old : Job) where
-  pub shape-same : (spot : ℕ → Spot) (w : Word) → SameArray new old w → shape plan j new spot w ≡ shape plan j old spot w
+module _ (plan : Placement) (j : ℕ) (new old : Job) where
+  pub shape-same : (spot : ℕ → StackPlace) (w : Word) → SameArray new old w → shape plan j new spot w ≡ shape plan j old spot w
   shape-same spot (Operand bits) e = refl
   shape-same spot (Name couple) e = refl
   shape-same spot (Ref identity offset) e = refl
@@ -177,11 +173,11 @@ module _ (plan : Plan) (j : ℕ) (new old : Job) where
   shape-same spot (Intrinsic number) e = refl
   shape-same spot (Words.Segment number) e = refl
 
-  pub shapes-same : (spot : ℕ → Spot) (ws : List Word) → AllByRecursion (SameArray new old) ws → map (shape plan j new spot) ws ≡ map (shape plan j old spot) ws
+  pub shapes-same : (spot : ℕ → StackPlace) (ws : List Word) → AllByRecursion (SameArray new old) ws → map (shape plan j new spot) ws ≡ map (shape plan j old spot) ws
   shapes-same spot [] e = refl
   shapes-same spot (w ∷ ws) e = ap (λ (s : Shape). s ∷ map (shape plan j new spot) ws) (shape-same spot w e.0) ∙ ap (λ (ss : List Shape). shape plan j old spot w ∷ ss) (shapes-same spot ws e.1)
 
-  pub activations-same : (k : ℕ) (outer : ℕ → Spot) (fs : List Frame) → SameArrays new old fs → activations plan j new k outer fs ≡ activations plan j old k outer fs
+  pub activations-same : (k : ℕ) (outer : ℕ → StackPlace) (fs : List Frame) → SameArrays new old fs → activations plan j new k outer fs ≡ activations plan j old k outer fs
   activations-same k outer [] e = refl
   activations-same k outer (g ∷ below) e =
       let A : List Shape → Activation = λ ss. record { head = head (spot_in k outer below) g.standing; cells = ss } in

@@ -4,33 +4,33 @@ use Rattle.std.proofs.lemmas.Bool.Decides.{eqb_tells}
 use Rattle.std.proofs.lemmas.Bool.{true≢false}
 use Rattle.b67_word.specs.declared.couples.Place.{Place}
 use Rattle.b67_lemmas.specs.Lists.{Has}
-use Rattle.b67_model.specs.State.{Frame, Array, Ready, Task, Setting, Job, Here, height, with_task}
+use Rattle.b67_lemmas.proofs.Members.{all_from, all_in, falls_filter, falls_low, has_filter, has_filter_in, none_pass}
+use Rattle.b67_model.specs.State.{Frame, Array, Ready, Task, JobConstants, Job, OperatorContext, height, with_task}
 use Rattle.b67_model.specs.Environment.{level_of_frame, running}
 use Rattle.b67_model.specs.Steps.{without_arrays_of}
 use Rattle.b67_model.specs.InOrder.{Starts, known_of, known_numbers, from_frame, outer_of, WordInOrder, TaskInOrder, ArrayInOrder, is_original_of, originals_in, originals_of, frames_named, TasksInOrder, IsSegment}
-use Rattle.b67_law_order.proofs.Members.{all_in, all_from, has_filter, has_filter_in, falls_low, falls_filter, none_pass}
 use Rattle.b67_law_order.proofs.Reaches.{Alike, alike_same, Stays}
 use Rattle.b67_law_order.proofs.Replaced.{Replaced, replaced, outer_kept}
 use Rattle.b67_law_order.proofs.Changes.{Change, change_drop, change_arrays}
 use Rattle.b67_law_order_rows.proofs.Entries.{none_original}
 use Rattle.b67_law_order_rows.proofs.Steps.{originals}
-use Rattle.b67_layout_leave.proofs.Things.{others}
+use Rattle.b67_layout_leave.proofs.Objects.{others}
 use Rattle.b67_layout_leave.proofs.Nowhere.{MayLeave, high, uncritical, live}
 use Rattle.b67_layout_leave.proofs.Leaves.{task_at}
 
-module _ (setting : Setting) (job : Job) (t : Task) (f : Frame) (below : List Frame) (may : MayLeave setting job t f below) where
+module _ (constants : JobConstants) (job : Job) (t : Task) (f : Frame) (below : List Frame) (may : MayLeave constants job t f below) where
   P : Starts
-  P = IsSegment setting
+  P = IsSegment constants
 
-  abbrev pub at : Here
-  at = record { setting = setting; job = job; task = t; at = t.place }
+  abbrev pub at : OperatorContext
+  at = record { constants = constants; job = job; task = t; at = t.place }
 
-  own : TaskInOrder (IsSegment setting) setting job t
-  own = all_in (TaskInOrder (IsSegment setting) setting job) job.tasks t may.top.order.tasks (live setting job t f below may.top)
+  own : TaskInOrder (IsSegment constants) constants job t
+  own = all_in (TaskInOrder (IsSegment constants) constants job) job.tasks t may.top.order.tasks (live constants job t f below may.top)
 
   -- the task's frames as they are
-  start : Change (IsSegment setting) at job.arrays (f ∷ below) job.next_frame
-  start = subst (λ (fs : List Frame). Change (IsSegment setting) at job.arrays fs job.next_frame) may.top.frames (record {
+  start : Change (IsSegment constants) at job.arrays (f ∷ below) job.next_frame
+  start = subst (λ (fs : List Frame). Change (IsSegment constants) at job.arrays fs job.next_frame) may.top.frames (record {
     order = own.frames;
     returns = own.returns;
     some = own.some;
@@ -50,14 +50,14 @@ module _ (setting : Setting) (job : Job) (t : Task) (f : Frame) (below : List Fr
   }
 
   -- without the frame
-  pub dropped : below ≢ [] → Change (IsSegment setting) at (others f.identity job.arrays) below job.next_frame
+  pub dropped : below ≢ [] → Change (IsSegment constants) at (others f.identity job.arrays) below job.next_frame
   dropped some =
-      let c = change_drop (IsSegment setting) at job.arrays f below job.next_frame start (uncritical setting job t f below may) some in
-      change_arrays (IsSegment setting) at job.arrays (others f.identity job.arrays) below job.next_frame c
+      let c = change_drop (IsSegment constants) at job.arrays f below job.next_frame start (uncritical constants job t f below may) some in
+      change_arrays (IsSegment constants) at job.arrays (others f.identity job.arrays) below job.next_frame c
       (λ a k at. stays_by a k (λ e. let low = falls_low f.identity (known_numbers (map known_of below ++ outer_of job t)) a.owner start.falls.1 at in omega (arith, low, e)))
 
-  replaces : (segment : ℕ) (place : Place) → below ≢ [] → IsSegment setting segment (level_of_frame (running below)) place
-      → Replaced (IsSegment setting) setting job t (with_task (without_arrays_of f.identity job) (task_at t below segment place Ready)) (task_at t below segment place Ready)
+  replaces : (segment : ℕ) (place : Place) → below ≢ [] → IsSegment constants segment (level_of_frame (running below)) place
+      → Replaced (IsSegment constants) constants job t (with_task (without_arrays_of f.identity job) (task_at t below segment place Ready)) (task_at t below segment place Ready)
   replaces segment place some starts =
       let new : Task = task_at t below segment place Ready in
       let c = dropped some in
@@ -81,7 +81,7 @@ module _ (setting : Setting) (job : Job) (t : Task) (f : Frame) (below : List Fr
         stays = c.stays;
         fewer = c.fewer;
         kept = λ a k. elim (eqb_tells a.owner f.identity) [
-          | inl e ↦ record { case = inr (omega (arith, high setting job t f below may.top, e.1), subst (λ (m : ℕ). frames_named m below + 1 ≤ frames_named m t.frames) (sym e.1) count) }
+          | inl e ↦ record { case = inr (omega (arith, high constants job t f below may.top, e.1), subst (λ (m : ℕ). frames_named m below + 1 ≤ frames_named m t.frames) (sym e.1) count) }
           | inr e ↦ record { case = inl (stays_by a k e.1) }
         ];
         arrays = all_from ArrayInOrder (others f.identity job.arrays) (λ a k. all_in ArrayInOrder job.arrays a may.top.order.arrays (has_filter (λ (x : Array). not (eqb x.owner f.identity)) job.arrays a k).0);
@@ -89,20 +89,20 @@ module _ (setting : Setting) (job : Job) (t : Task) (f : Frame) (below : List Fr
             let inside = has_filter (λ (x : Array). not (eqb x.owner f.identity)) job.arrays a k in
             let other : a.owner ≢ f.identity = λ e. elim (eqb_tells a.owner f.identity) [ inl s ↦ true≢false (sym inside.1 ∙ rw s.0 refl) | inr s ↦ s.1 e ] in
             let none : originals a.identity f.cells ≡ 0 = none_pass (is_original_of a.identity) f.cells (λ w j.
-            none_original job (IsSegment setting) (map known_of (f ∷ below) ++ outer_of job t) f.identity a may.top.order.names inside.0 other w (all_in (WordInOrder (IsSegment setting) job.arrays (map known_of (f ∷ below) ++ outer_of job t) f.identity) f.cells w start.order.0.0 j)) in
+            none_original job (IsSegment constants) (map known_of (f ∷ below) ++ outer_of job t) f.identity a may.top.order.names inside.0 other w (all_in (WordInOrder (IsSegment constants) job.arrays (map known_of (f ∷ below) ++ outer_of job t) f.identity) f.cells w start.order.0.0 j)) in
             let split : originals_in a.identity t.frames ≡ originals a.identity f.cells + originals_in a.identity below = ap (originals_in a.identity) may.top.frames in
-            omega (arith, split, none, all_in (λ (x : Array). originals_of x.identity setting job ≡ 1) job.arrays a may.top.order.once inside.0);
+            omega (arith, split, none, all_in (λ (x : Array). originals_of x.identity constants job ≡ 1) job.arrays a may.top.order.once inside.0);
         names = falls_filter (λ (x : Array). x.identity) (λ (x : Array). not (eqb x.owner f.identity)) job.next_array job.arrays may.top.order.names;
         reads = may.top.order.reads;
       }
 
-  pub left_ready : (segment : ℕ) (place : Place) → below ≢ [] → IsSegment setting segment (level_of_frame (running below)) place
-      → TasksInOrder (IsSegment setting) setting (with_task (without_arrays_of f.identity job) (task_at t below segment place Ready))
+  pub left_ready : (segment : ℕ) (place : Place) → below ≢ [] → IsSegment constants segment (level_of_frame (running below)) place
+      → TasksInOrder (IsSegment constants) constants (with_task (without_arrays_of f.identity job) (task_at t below segment place Ready))
   left_ready segment place some starts =
-      replaced (IsSegment setting) setting job t (with_task (without_arrays_of f.identity job) (task_at t below segment place Ready)) (task_at t below segment place Ready) may.top.order may.top.there (replaces segment place some starts)
+      replaced (IsSegment constants) constants job t (with_task (without_arrays_of f.identity job) (task_at t below segment place Ready)) (task_at t below segment place Ready) may.top.order may.top.there (replaces segment place some starts)
 
   -- what lies outside the task's frames is alike
-  pub left_outer : (segment : ℕ) (place : Place) → below ≢ [] → IsSegment setting segment (level_of_frame (running below)) place
+  pub left_outer : (segment : ℕ) (place : Place) → below ≢ [] → IsSegment constants segment (level_of_frame (running below)) place
       → Alike (outer_of job t) (outer_of (with_task (without_arrays_of f.identity job) (task_at t below segment place Ready)) (task_at t below segment place Ready))
   left_outer segment place some starts =
-      outer_kept (IsSegment setting) setting job t (with_task (without_arrays_of f.identity job) (task_at t below segment place Ready)) (task_at t below segment place Ready) may.top.order may.top.there (replaces segment place some starts)
+      outer_kept (IsSegment constants) constants job t (with_task (without_arrays_of f.identity job) (task_at t below segment place Ready)) (task_at t below segment place Ready) may.top.order may.top.there (replaces segment place some starts)

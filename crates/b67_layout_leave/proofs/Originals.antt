@@ -5,15 +5,15 @@ use Rattle.std.proofs.lemmas.Bool.{cases_Bool, cases_eq}
 use Rattle.std.proofs.lemmas.Bool.Decides.{eqb_tells}
 use Rattle.b67_word.specs.Tagged.{Tagged}
 use Rattle.b67_lemmas.specs.Lists.{Has, total, how_many}
+use Rattle.b67_lemmas.proofs.Members.{all_in, falls_same, has_append_left, has_append_right, has_map}
 use Rattle.b67_model.specs.Words as Words
 use Rattle.b67_model.specs.Words.{Word, Operand, Name, Ref, Row, Element, Original, Proc, Intrinsic}
-use Rattle.b67_model.specs.State.{Frame, Array, Segment, Task, Setting, Job}
+use Rattle.b67_model.specs.State.{Frame, Array, Segment, Task, JobConstants, Job}
 use Rattle.b67_model.specs.InOrder.{Starts, Known, known_of, OwnsArray, WordInOrder, FramesInOrder, is_original_of, originals_in, originals_of, IsSegment, outer_of, rows_after, DictionaryWords, TaskInOrder, TasksInOrder}
-use Rattle.b67_law_order.proofs.Members.{has_append_left, has_append_right, has_map, all_in, falls_same}
 use Rattle.b67_stack.specs.Shapes as Shapes
-use Rattle.b67_stack.specs.Shapes.{Shape, Lie}
-use Rattle.b67_stack.specs.Stacks.{Spot, Head, Marked, Entered, Activation, headed, words}
-use Rattle.b67_layout.specs.Plan.{Plan, spot_in}
+use Rattle.b67_stack.specs.Shapes.{Shape, LieDownward}
+use Rattle.b67_stack.specs.Stacks.{StackPlace, Head, Marked, Entered, Activation, headed, words}
+use Rattle.b67_layout.specs.Placement.{Placement, spot_in}
 use Rattle.b67_layout.specs.Layout.{shape, head, activations}
 
 -- a word of a shape lies at a place
@@ -25,7 +25,7 @@ pub record LiesAt (R : Shape → ℕ → Tagged → Type 0) (core : List Tagged)
   pub there : slice_get core at ≡ Some word
   pub fits : R c at word
 
-pub lies_at : (R : Shape → ℕ → Tagged → Type 0) (core : List Tagged) (from : ℕ) (xs : List Shape) (c : Shape) → Lie R core from xs → Has xs c → LiesAt R core from xs c
+pub lies_at : (R : Shape → ℕ → Tagged → Type 0) (core : List Tagged) (from : ℕ) (xs : List Shape) (c : Shape) → LieDownward R core from xs → Has xs c → LiesAt R core from xs c
 lies_at R core from [] c l h = absurd h
 lies_at R core from (a ∷ more) c l (inl e) =
     record { at = from + length more; low = omega arith; up = omega arith; word = l.0.0; there = l.0.1; fits = subst (λ (z : Shape). R z (from + length more) l.0.0) e l.0.2 }
@@ -34,7 +34,7 @@ lies_at R core from (a ∷ more) c l (inr h) =
     record { at = r.at; low = r.low; up = (let u : r.at < from + length (a ∷ more) = omega (arith, r.up) in u); word = r.word; there = r.there; fits = r.fits }
 
 -- one of the upper words
-pub lies_over : (R : Shape → ℕ → Tagged → Type 0) (core : List Tagged) (from : ℕ) (xs ys : List Shape) (c : Shape) → Lie R core from (xs ++ ys) → Has xs c → LiesAt R core (from + length ys) xs c
+pub lies_over : (R : Shape → ℕ → Tagged → Type 0) (core : List Tagged) (from : ℕ) (xs ys : List Shape) (c : Shape) → LieDownward R core from (xs ++ ys) → Has xs c → LiesAt R core (from + length ys) xs c
 lies_over R core from [] ys c l h = absurd h
 lies_over R core from (a ∷ more) ys c l (inl e) =
     record { at = from + length (more ++ ys); low = omega (arith, length-append more ys); up = omega (arith, length-append more ys); word = l.0.0; there = l.0.1; fits = subst (λ (z : Shape). R z (from + length (more ++ ys)) l.0.0) e l.0.2 }
@@ -47,7 +47,7 @@ has_headed k Marked below under z o = inr o
 has_headed k (Entered level environment back) below under z o = inr (inr o)
 
 -- the shape of an original is among the words of its stack
-pub original_word : (plan : Plan) (j : ℕ) (job : Job) (k : ℕ) (outer : ℕ → Spot) (fs : List Frame) (g : Frame) (a : ℕ) → Has fs g → Has g.cells (Original a) → Has (words k (activations plan j job k outer fs)) (Shapes.Original (plan.home j a))
+pub original_word : (plan : Placement) (j : ℕ) (job : Job) (k : ℕ) (outer : ℕ → StackPlace) (fs : List Frame) (g : Frame) (a : ℕ) → Has fs g → Has g.cells (Original a) → Has (words k (activations plan j job k outer fs)) (Shapes.Original (plan.home j a))
 original_word plan j job k outer [] g a h w = absurd h
 original_word plan j job k outer (f ∷ below) g a (inl e) w =
     let h : Head = head (spot_in k outer below) f.standing in
@@ -102,19 +102,19 @@ pub record InFrame (job : Job) (a : Array) : Type 0 where
   pub word : Has frame.cells (Original a.identity)
   pub owned : a.owner ≡ frame.identity
 
-pub original_of : (setting : Setting) (job : Job) → TasksInOrder (IsSegment setting) setting job → (a : Array) → Has job.arrays a → Has setting.dictionary.cells (Original a.identity) ⊎ InFrame job a
-original_of setting job o a h =
-    let one = all_in (λ (b : Array). originals_of b.identity setting job ≡ 1) job.arrays a o.once h in
-    elim (cases_eq (how_many (is_original_of a.identity) setting.dictionary.cells) 0) [
+pub original_of : (constants : JobConstants) (job : Job) → TasksInOrder (IsSegment constants) constants job → (a : Array) → Has job.arrays a → Has constants.dictionary.cells (Original a.identity) ⊎ InFrame job a
+original_of constants job o a h =
+    let one = all_in (λ (b : Array). originals_of b.identity constants job ≡ 1) job.arrays a o.once h in
+    elim (cases_eq (how_many (is_original_of a.identity) constants.dictionary.cells) 0) [
       | inl z ↦
           let t = some_item (λ (u : Task). originals_in a.identity u.frames) job.tasks (λ e. omega (arith, one, z, e)) in
           let g = some_item (λ (f : Frame). how_many (is_original_of a.identity) f.cells) t.0.frames t.2 in
           let w = some_original a.identity g.0.cells g.2 in
-          let task = all_in (TaskInOrder (IsSegment setting) setting job) job.tasks t.0 o.tasks t.1 in
-          let own = owns (IsSegment setting) job.arrays (outer_of job t.0) t.0.frames g.0 a.identity task.frames g.1 w in
+          let task = all_in (TaskInOrder (IsSegment constants) constants job) job.tasks t.0 o.tasks t.1 in
+          let own = owns (IsSegment constants) job.arrays (outer_of job t.0) t.0.frames g.0 a.identity task.frames g.1 w in
           let same : own.item ≡ a = falls_same (λ (b : Array). b.identity) job.next_array job.arrays own.item a o.names own.live h own.named in
           inr (record { task = t.0; live = t.1; frame = g.0; among = g.1; word = w; owned = ap (λ (b : Array). b.owner) (sym same) ∙ own.owned })
-      | inr n ↦ inl (some_original a.identity setting.dictionary.cells n)
+      | inr n ↦ inl (some_original a.identity constants.dictionary.cells n)
     ]
 
 row_number : (n a : ℕ) (ws : List Word) → rows_after n ws → Has ws (Original a) → (n ≤ a) × (a < n + length ws)

@@ -1,4 +1,4 @@
--- The picture after a frame was left is settled.
+-- The view after a frame was left is settled.
 use Rattle.std.proofs.Common.{◌≡◌, ◌≢◌, ℕ, ◌+◌, ◌≤◌, List, [], ◌∷◌, map, flat_map, sym, ◌∙◌, ap, arith, not, inl, inr, ◌⊎◌, subst}
 use Rattle.std.specs.Prelude.{◌==◌}
 use Rattle.std.proofs.lemmas.Bool.{cases_eq, true≢false}
@@ -8,93 +8,93 @@ use Rattle.b67_word.specs.Tagged.{Tagged}
 use Rattle.b67_area.specs.declared.Kind.TheVariants as kind
 use Rattle.b67_ctl.specs.declared.registers.Regs.{Regs}
 use Rattle.b67_lemmas.specs.Lists.{Has, Falls}
-use Rattle.b67_model.specs.State.{Frame, Array, Segment, Task, Course, Member}
+use Rattle.b67_lemmas.proofs.Members.{has_append_cases, has_append_right, has_filter, has_flat_back, has_map_back, keyed-has}
+use Rattle.b67_model.specs.State.{Frame, Array, Segment, Task, JobProgress, SessionJob}
 use Rattle.b67_model.specs.Keyed.{keyed}
 use Rattle.b67_model.specs.Run.{number_of}
 use Rattle.b67_model.specs.Schedule.{Session}
 use Rattle.b67_model.specs.InOrder.{IsInOrderButPlaces}
-use Rattle.b67_law_order.proofs.Members.{has_append_cases, has_append_right, has_map_back, has_filter}
-use Rattle.b67_stack.specs.Stacks.{high}
-use Rattle.b67_stack.specs.Picture.{Thing, Slot, Running, stack_of, slot_base, Settled}
-use Rattle.b67_stack.specs.Stands.{Storage}
+use Rattle.b67_stack.specs.Stacks.{stack_words}
+use Rattle.b67_stack.specs.MachineView.{PagedObject, Slot, Running, stack_of, slot_base, NoOriginalAboveTop}
+use Rattle.b67_stack.specs.Represents.{Storage}
 use Rattle.b67_stack.proofs.Slots.{slot-same, slot-other}
-use Rattle.b67_layout.specs.Plan.{Plan}
-use Rattle.b67_layout.specs.Layout.{stack_of_task, slot_at, things_of, array_thing, code_things, picture}
+use Rattle.b67_layout.specs.Placement.{Placement}
+use Rattle.b67_layout.specs.Layout.{stack_of_task, slot_at, objects_of, array_object, code_objects, machine_view}
 use Rattle.b67_layout.specs.Session.{IsRunning, SessionHolds}
-use Rattle.b67_layout.specs.Meets.{things_gone}
-use Rattle.b67_layout.proofs.Others.{keyed-has}
-use Rattle.b67_layout.proofs.Pictures.{with_course, member-same, RowOf}
+use Rattle.b67_layout.specs.Meets.{objects_gone}
+use Rattle.b67_layout.proofs.MachineViews.{with_course, member-same, RowOf}
 use Rattle.b67_layout.proofs.Sessions.{change-has}
-use Rattle.b67_layout_leave.proofs.Things.{has_flat_back, others, things-after}
+use Rattle.b67_layout_leave.proofs.Objects.{others, objects-after}
 use Rattle.b67_layout_leave.proofs.Slots.{Replaces, OthersSame, slots-after}
-use Rattle.b67_layout_leave.proofs.Settles.{keyed_member, numbered_course, under, homes_low}
+use Rattle.b67_layout_leave.proofs.Settles.{numbered_course, under, homes_low}
+use Rattle.b67_law_order.proofs.Numbered.{keyed_member}
 
-code_kind : (plan : Plan) (j n : ℕ) (segments : List Segment) (t : Thing) → Has (code_things plan j n segments) t → t.kind ≡ kind.Code
+pub code_kind : (plan : Placement) (j n : ℕ) (segments : List Segment) (t : PagedObject) → Has (code_objects plan j n segments) t → t.kind ≡ kind.Code
 code_kind plan j n [] t h = absurd h
-code_kind plan j n (s ∷ more) t (inl e) = ap (λ (z : Thing). z.kind) (sym e)
+code_kind plan j n (s ∷ more) t (inl e) = ap (λ (z : PagedObject). z.kind) (sym e)
 code_kind plan j n (s ∷ more) t (inr h) = code_kind plan j (n + 1) more t h
 
-module _ (x : Storage) (core : List Tagged) (r : Regs) (marks : List ℕ) (plan : Plan) (s : Session) (m : Member) (t : Task) (f : Frame) (below : List Frame)
+module _ (x : Storage) (core : List Tagged) (r : Regs) (marks : List ℕ) (plan : Placement) (s : Session) (m : SessionJob) (t : Task) (f : Frame) (below : List Frame)
     (o : IsInOrderButPlaces s) (h : SessionHolds x core r marks plan s) (runs : IsRunning plan s.jobs m t) (frames : t.frames ≡ f ∷ below)
-    (c : Course) (t' : Task) (by : Replaces m.course.job c.job t t') (row : RowOf plan m.setting.number t.number plan.running) (words : OthersSame c.job m.course.job t) (bound : ℕ)
-    (falls : Falls bound (map (λ (a : Array). a.identity) m.course.job.arrays)) (is : c.job.arrays ≡ others f.identity m.course.job.arrays) where
+    (c : JobProgress) (t' : Task) (by : Replaces m.progress.job c.job t t') (row : RowOf plan m.constants.number t.number plan.running) (words : OthersSame c.job m.progress.job t) (bound : ℕ)
+    (falls : Falls bound (map (λ (a : Array). a.identity) m.progress.job.arrays)) (is : c.job.arrays ≡ others f.identity m.progress.job.arrays) where
   abbrev high_under : ℕ
-  high_under = high (under x core r marks plan s m t f below o h runs frames)
+  high_under = stack_words (under x core r marks plan s m t f below o h runs frames)
 
   abbrev first : ℕ
-  first = slot_base (picture plan s.jobs) plan.running
+  first = slot_base (machine_view plan s.jobs) plan.running
 
   abbrev LowHome : ℕ → Type 0
   LowHome home = (home ≤ first + high_under) ⊎ (first + plan.size ≤ home)
 
-  owner_apart : (b : Array) → Has c.job.arrays b → Has m.course.job.arrays b × (b.owner ≢ f.identity)
+  owner_apart : (b : Array) → Has c.job.arrays b → Has m.progress.job.arrays b × (b.owner ≢ f.identity)
   owner_apart b k =
-      let i = has_filter (λ (a : Array). not (a.owner == f.identity)) m.course.job.arrays b (subst (λ (xs : List Array). Has xs b) is k) in
+      let i = has_filter (λ (a : Array). not (a.owner == f.identity)) m.progress.job.arrays b (subst (λ (xs : List Array). Has xs b) is k) in
       (i.0, λ e. elim (eqb_tells b.owner f.identity) [ inl q ↦ true≢false (sym i.1 ∙ ap not q.0) | inr q ↦ q.1 e ])
 
-  array_low : (z : Member) → Has (with_course s.jobs m.setting.number c) z → (b : Array) → Has z.course.job.arrays b → LowHome (plan.home z.setting.number b.identity)
-  array_low z in_z b in_b = elim (cases_eq z.setting.number m.setting.number) [
+  array_low : (z : SessionJob) → Has (with_course s.jobs m.constants.number c) z → (b : Array) → Has z.progress.job.arrays b → LowHome (plan.home z.constants.number b.identity)
+  array_low z in_z b in_b = elim (cases_eq z.constants.number m.constants.number) [
     | inl e ↦
-        let one = keyed_member 1 (with_course s.jobs m.setting.number c) z (numbered_course 1 m.setting.number c s.jobs o.numbered) in_z in
-        let two = member-same s.jobs m.setting.number c m runs.member in
-        let same : z ≡ record m { course = c } = same_Some z (record m { course = c }) (sym one ∙ ap (λ (n : ℕ). keyed number_of n (with_course s.jobs m.setting.number c)) e ∙ two) in
-        let a = owner_apart b (subst (λ (y : Member). Has y.course.job.arrays b) same in_b) in
-        elim (homes_low x core r marks plan s m t f below o h runs frames m (keyed-has number_of m.setting.number s.jobs m runs.member) b a.0) [
+        let one = keyed_member 1 (with_course s.jobs m.constants.number c) z (numbered_course 1 m.constants.number c s.jobs o.numbered) in_z in
+        let two = member-same s.jobs m.constants.number c m runs.member in
+        let same : z ≡ record m { progress = c } = same_Some z (record m { progress = c }) (sym one ∙ ap (λ (n : ℕ). keyed number_of n (with_course s.jobs m.constants.number c)) e ∙ two) in
+        let a = owner_apart b (subst (λ (y : SessionJob). Has y.progress.job.arrays b) same in_b) in
+        elim (homes_low x core r marks plan s m t f below o h runs frames m (keyed-has number_of m.constants.number s.jobs m runs.member) b a.0) [
           | inl q ↦ absurd (a.1 q.1)
           | inr q ↦ subst (λ (n : ℕ). LowHome (plan.home n b.identity)) (sym e) q
         ]
-    | inr n ↦ elim (change-has number_of m.setting.number (λ (y : Member). record y { course = c }) s.jobs m runs.member z in_z) [
-      | inl k ↦ elim (homes_low x core r marks plan s m t f below o h runs frames z k b in_b) [ inl q ↦ absurd (n (ap (λ (y : Member). y.setting.number) q.0)) | inr q ↦ q ]
-      | inr e ↦ absurd (n (ap (λ (y : Member). y.setting.number) e))
+    | inr n ↦ elim (change-has number_of m.constants.number (λ (y : SessionJob). record y { progress = c }) s.jobs m runs.member z in_z) [
+      | inl k ↦ elim (homes_low x core r marks plan s m t f below o h runs frames z k b in_b) [ inl q ↦ absurd (n (ap (λ (y : SessionJob). y.constants.number) q.0)) | inr q ↦ q ]
+      | inr e ↦ absurd (n (ap (λ (y : SessionJob). y.constants.number) e))
     ]
   ]
 
-  in_old : (u : Thing) → Has (flat_map (things_of plan) (with_course s.jobs m.setting.number c)) u → Has (flat_map (things_of plan) s.jobs) u
-  in_old u i = (things-after plan s.jobs m c f.identity bound runs.member falls is).back u (has_append_right (things_gone plan m c.job) (flat_map (things_of plan) (with_course s.jobs m.setting.number c)) u i)
+  in_old : (u : PagedObject) → Has (flat_map (objects_of plan) (with_course s.jobs m.constants.number c)) u → Has (flat_map (objects_of plan) s.jobs) u
+  in_old u i = (objects-after plan s.jobs m c f.identity bound runs.member falls is).back u (has_append_right (objects_gone plan m c.job) (flat_map (objects_of plan) (with_course s.jobs m.constants.number c)) u i)
 
-  thing_low : (u : Thing) → Has (flat_map (things_of plan) (with_course s.jobs m.setting.number c)) u → LowHome u.home
-  thing_low u i =
-      let q = has_flat_back (things_of plan) (with_course s.jobs m.setting.number c) u i in
-      let j = q.item.setting.number in
-      elim (has_append_cases (code_things plan j 1 q.item.setting.segments) (map (array_thing plan j) q.item.course.job.arrays) u q.inside) [
-        | inl a ↦ inl (let low = h.memory.slots.laid.codes u (in_old u i) (code_kind plan j 1 q.item.setting.segments u a) in omega (arith, low))
-        | inr b ↦ let a = has_map_back (array_thing plan j) q.item.course.job.arrays u b in subst LowHome (ap (λ (v : Thing). v.home) a.is) (array_low q.item q.among a.item a.among)
+  object_low : (u : PagedObject) → Has (flat_map (objects_of plan) (with_course s.jobs m.constants.number c)) u → LowHome u.home
+  object_low u i =
+      let q = has_flat_back (objects_of plan) (with_course s.jobs m.constants.number c) u i in
+      let j = q.item.constants.number in
+      elim (has_append_cases (code_objects plan j 1 q.item.constants.segments) (map (array_object plan j) q.item.progress.job.arrays) u q.inside) [
+        | inl a ↦ inl (let low = h.memory.slots.laid.codes u (in_old u i) (code_kind plan j 1 q.item.constants.segments u a) in omega (arith, low))
+        | inr b ↦ let a = has_map_back (array_object plan j) q.item.progress.job.arrays u b in subst LowHome (ap (λ (v : PagedObject). v.home) a.is) (array_low q.item q.among a.item a.among)
       ]
 
-  pub settled-after : high_under ≤ high (stack_of_task plan m.setting.number c.job plan.running t') → Settled (picture plan (with_course s.jobs m.setting.number c))
+  pub settled-after : high_under ≤ stack_words (stack_of_task plan m.constants.number c.job plan.running t') → NoOriginalAboveTop (machine_view plan (with_course s.jobs m.constants.number c))
   settled-after higher u i k small low up = elim (cases_eq k plan.running) [
     | inl e ↦
-        let S = stack_of_task plan m.setting.number c.job plan.running t' in
-        let here : slot_at plan (with_course s.jobs m.setting.number c) plan.running ≡ Running S = slots-after plan s.jobs m c t t' plan.running runs.member by row words plan.running ∙ slot-same (picture plan s.jobs) plan.running (Running S) in
-        let there : high (stack_of (slot_at plan (with_course s.jobs m.setting.number c) k)) ≡ high S = ap (λ (n : ℕ). high (stack_of (slot_at plan (with_course s.jobs m.setting.number c) n))) e ∙ ap (λ (y : Slot). high (stack_of y)) here in
-        let base_is : slot_base (picture plan s.jobs) k ≡ first = ap (slot_base (picture plan s.jobs)) e in
-        elim (thing_low u i) [
+        let S = stack_of_task plan m.constants.number c.job plan.running t' in
+        let here : slot_at plan (with_course s.jobs m.constants.number c) plan.running ≡ Running S = slots-after plan s.jobs m c t t' plan.running runs.member by row words plan.running ∙ slot-same (machine_view plan s.jobs) plan.running (Running S) in
+        let there : stack_words (stack_of (slot_at plan (with_course s.jobs m.constants.number c) k)) ≡ stack_words S = ap (λ (n : ℕ). stack_words (stack_of (slot_at plan (with_course s.jobs m.constants.number c) n))) e ∙ ap (λ (y : Slot). stack_words (stack_of y)) here in
+        let base_is : slot_base (machine_view plan s.jobs) k ≡ first = ap (slot_base (machine_view plan s.jobs)) e in
+        elim (object_low u i) [
           | inl d ↦ omega (arith, d, there, base_is, higher)
           | inr d ↦ absurd (omega (arith, d, up, base_is))
         ]
     | inr n ↦
-        let S = stack_of_task plan m.setting.number c.job plan.running t' in
-        let same : slot_at plan (with_course s.jobs m.setting.number c) k ≡ slot_at plan s.jobs k = slots-after plan s.jobs m c t t' plan.running runs.member by row words k ∙ slot-other (picture plan s.jobs) plan.running (Running S) k n in
+        let S = stack_of_task plan m.constants.number c.job plan.running t' in
+        let same : slot_at plan (with_course s.jobs m.constants.number c) k ≡ slot_at plan s.jobs k = slots-after plan s.jobs m c t t' plan.running runs.member by row words k ∙ slot-other (machine_view plan s.jobs) plan.running (Running S) k n in
         let was = h.settled u (in_old u i) k small low up in
-        subst (λ (y : Slot). u.home ≤ slot_base (picture plan s.jobs) k + high (stack_of y)) (sym same) was
+        subst (λ (y : Slot). u.home ≤ slot_base (machine_view plan s.jobs) k + stack_words (stack_of y)) (sym same) was
   ]

@@ -1,4 +1,4 @@
--- What a session's picture doesn't show depends on few parts of its jobs.
+-- What a session's view doesn't show depends on few parts of its jobs.
 use Rattle.std.proofs.Common.{◌≡◌, ℕ, zero, suc, ◌+◌, ◌-◌, List, [], ◌∷◌, ◌++◌, length, Option, Some, None, refl, sym, ◌∙◌, ap, true, false, ⊎_elim, inl, inr, subst, arith, unwrap_or}
 use Rattle.std.specs.Prelude.{◌==◌, flat_map, if◌then◌else◌}
 use Rattle.std.specs.List.{slice_get, list_any}
@@ -7,55 +7,55 @@ use Rattle.b67_word.specs.Tagged.{Tagged, word}
 use Rattle.b67_ctl.specs.declared.registers.Regs.{Regs}
 use Rattle.b67_lemmas.specs.Lists.{Has}
 use Rattle.b67_model.specs.State as State
-use Rattle.b67_model.specs.State.{Frame, Setting, Task, Job, Course, Member, Here, all_frames, frame}
+use Rattle.b67_model.specs.State.{Frame, JobConstants, Task, Job, JobProgress, SessionJob, OperatorContext, all_frames, frame}
 use Rattle.b67_model.specs.Environment.{environment_of, outward, running_level, running, frame_at}
 use Rattle.b67_model.specs.InOrder.{from_frame, frames_of_task, critical_of}
 use Rattle.b67_model.specs.Keyed.{keyed}
 use Rattle.b67_model.specs.Run.{number_of}
-use Rattle.b67_stack.specs.Stacks.{Spot}
-use Rattle.b67_layout.specs.Plan.{Plan, slot_of, spot_in, outer_spots, spots, address_of}
-use Rattle.b67_layout.specs.Session.{RowsFit, DictionariesFollow, RowHomes, DictionaryStands, TaskStands, IsRunning, Shows, critical_mark}
+use Rattle.b67_stack.specs.Stacks.{StackPlace}
+use Rattle.b67_layout.specs.Placement.{Placement, slot_of, spot_in, outer_spots, spots, address_of}
+use Rattle.b67_layout.specs.Session.{RowsFit, DictionariesFollow, RowHomes, RepresentsDictionary, RepresentsTask, IsRunning, ShowsDisplay, critical_mark}
 
 -- the same number, stack size and dictionary, as many segments, and the same tasks
-pub record Alike (m n : Member) : Type 0 where
-  pub number : n.setting.number ≡ m.setting.number
-  pub stack_size : n.setting.stack_size ≡ m.setting.stack_size
-  pub dictionary : n.setting.dictionary ≡ m.setting.dictionary
-  pub count : length n.setting.segments ≡ length m.setting.segments
-  pub tasks : n.course.job.tasks ≡ m.course.job.tasks
+pub record Alike (m n : SessionJob) : Type 0 where
+  pub number : n.constants.number ≡ m.constants.number
+  pub stack_size : n.constants.stack_size ≡ m.constants.stack_size
+  pub dictionary : n.constants.dictionary ≡ m.constants.dictionary
+  pub count : length n.constants.segments ≡ length m.constants.segments
+  pub tasks : n.progress.job.tasks ≡ m.progress.job.tasks
 
-abbrev pub AllAlike : List Member → List Member → Type 0
+abbrev pub AllAlike : List SessionJob → List SessionJob → Type 0
 AllAlike [] [] = Unit {0}
 AllAlike (m ∷ ms) (n ∷ ns) = Alike m n × AllAlike ms ns
 AllAlike _ _ = ⊥
 
-pub back : (m n : Member) → Alike m n → Alike n m
+pub back : (m n : SessionJob) → Alike m n → Alike n m
 back m n e = record { number = sym e.number; stack_size = sym e.stack_size; dictionary = sym e.dictionary; count = sym e.count; tasks = sym e.tasks }
 
-pub backs : (ms ns : List Member) → AllAlike ms ns → AllAlike ns ms
+pub backs : (ms ns : List SessionJob) → AllAlike ms ns → AllAlike ns ms
 backs [] [] e = tt
 backs (m ∷ ms) (n ∷ ns) e = (back m n e.0, backs ms ns e.1)
 backs [] (n ∷ ns) e = absurd e
 backs (m ∷ ms) [] e = absurd e
 
-pub record Twin (ms : List Member) (n : Member) : Type 0 where
-  pub member : Member
+pub record Twin (ms : List SessionJob) (n : SessionJob) : Type 0 where
+  pub member : SessionJob
   pub among : Has ms member
   pub alike : Alike member n
 
-pub twin : (ms ns : List Member) → AllAlike ms ns → (n : Member) → Has ns n → Twin ms n
+pub twin : (ms ns : List SessionJob) → AllAlike ms ns → (n : SessionJob) → Has ns n → Twin ms n
 twin [] [] e n k = absurd k
 twin (m ∷ ms) (y ∷ ns) e n (inl is) = record { member = m; among = inl refl; alike = subst (Alike m) is e.0 }
 twin (m ∷ ms) (y ∷ ns) e n (inr k) = let t = twin ms ns e.1 n k in record { member = t.member; among = inr t.among; alike = t.alike }
 twin [] (y ∷ ns) e n k = absurd e
 twin (m ∷ ms) [] e n k = absurd e
 
-abbrev AlikeOption : Option Member → Option Member → Type 0
+abbrev AlikeOption : Option SessionJob → Option SessionJob → Type 0
 AlikeOption None None = Unit {0}
 AlikeOption (Some m) (Some n) = Alike m n
 AlikeOption _ _ = ⊥
 
-alike_keyed : (j : ℕ) (ms ns : List Member) → AllAlike ms ns → AlikeOption (keyed number_of j ms) (keyed number_of j ns)
+alike_keyed : (j : ℕ) (ms ns : List SessionJob) → AllAlike ms ns → AlikeOption (keyed number_of j ms) (keyed number_of j ns)
 alike_keyed j [] [] e = tt
 alike_keyed j (m ∷ ms) (n ∷ ns) e = ⊎_elim
     (λ (t : (number_of m == j) ≡ true). let u : (number_of n == j) ≡ true = ap (λ (i : ℕ). i == j) e.0.number ∙ t in rw (t, u) e.0)
@@ -65,12 +65,12 @@ alike_keyed j [] (n ∷ ns) e = absurd e
 alike_keyed j (m ∷ ms) [] e = absurd e
 
 -- spots and critical marks read no more of a job than its tasks
-pub outer_same : (plan : Plan) (j : ℕ) (job job' : Job) → job'.tasks ≡ job.tasks → (c : ℕ) (parents : List ℕ) → outer_spots plan j job' c parents ≡ outer_spots plan j job c parents
+pub outer_same : (plan : Placement) (j : ℕ) (job job' : Job) → job'.tasks ≡ job.tasks → (c : ℕ) (parents : List ℕ) → outer_spots plan j job' c parents ≡ outer_spots plan j job c parents
 outer_same plan j job job' e c [] = refl
 outer_same plan j job job' e c (parent ∷ more) =
     let at : List Task → Option Task = λ ts. keyed (λ (t : Task). t.number) parent ts in
-    let inner : (ℕ → Spot) → ℕ → Spot = λ f id. spot_in (slot_of plan j parent) f (from_frame c (frames_of_task (at job.tasks))) id in
-    let O : Job → Option Task → ℕ → Spot = λ k o id. spot_in (slot_of plan j parent) (outer_spots plan j k (critical_of o) more) (from_frame c (frames_of_task o)) id in
+    let inner : (ℕ → StackPlace) → ℕ → StackPlace = λ f id. spot_in (slot_of plan j parent) f (from_frame c (frames_of_task (at job.tasks))) id in
+    let O : Job → Option Task → ℕ → StackPlace = λ k o id. spot_in (slot_of plan j parent) (outer_spots plan j k (critical_of o) more) (from_frame c (frames_of_task o)) id in
     ap (λ (o : Option Task). O job' o) (ap at e)
     ∙ ap inner (outer_same plan j job job' e (critical_of (at job.tasks)) more)
 
@@ -80,30 +80,30 @@ critical_same job job' e (f ∷ below) =
     ap (λ (ts : List Task). if list_any (λ (t : Task). t.critical == f.identity) ts then State.height below else critical_mark job' below) e
     ∙ ap (λ (n : ℕ). if list_any (λ (t : Task). t.critical == f.identity) job.tasks then State.height below else n) (critical_same job job' e below)
 
-outward_same : (h h' : Here) → all_frames h' ≡ all_frames h → (links : ℕ) (g : Frame) → outward h' links g ≡ outward h links g
+outward_same : (h h' : OperatorContext) → all_frames h' ≡ all_frames h → (links : ℕ) (g : Frame) → outward h' links g ≡ outward h links g
 outward_same h h' e zero g = refl
 outward_same h h' e (suc links) g =
     ap (λ (fs : List Frame). outward h' links (unwrap_or (keyed (λ (f : Frame). f.identity) (environment_of g.standing) fs) State.no_frame)) e
     ∙ outward_same h h' e links (frame h (environment_of g.standing))
 
-module _ (m n : Member) (e : Alike m n) where
-  pub has_task : (u : Task) → Has n.course.job.tasks u → Has m.course.job.tasks u
+module _ (m n : SessionJob) (e : Alike m n) where
+  pub has_task : (u : Task) → Has n.progress.job.tasks u → Has m.progress.job.tasks u
   has_task u k = let Q : List Task → Type 0 = λ ts. Has ts u in subst Q e.tasks k
 
-  pub dictionary_alike : (core : List Tagged) (plan : Plan) → DictionaryStands core plan m → DictionaryStands core plan n
+  pub dictionary_alike : (core : List Tagged) (plan : Placement) → RepresentsDictionary core plan m → RepresentsDictionary core plan n
   dictionary_alike core plan h = record {
     mark = ap (λ (i : ℕ). slice_get core (plan.dictionary i)) e.number ∙ h.mark;
     entries = ap (λ (i : ℕ). slice_get core (plan.dictionary i + 1)) e.number ∙ h.entries ∙ ap (λ (d : Frame). Some (word 0 (length d.cells))) (sym e.dictionary);
   }
 
-  pub row_homes_alike : (plan : Plan) → RowHomes plan m → RowHomes plan n
+  pub row_homes_alike : (plan : Placement) → RowHomes plan m → RowHomes plan n
   row_homes_alike plan h i low up =
-      let cells : length n.setting.dictionary.cells ≡ length m.setting.dictionary.cells = ap (λ (d : Frame). length d.cells) e.dictionary in
+      let cells : length n.constants.dictionary.cells ≡ length m.constants.dictionary.cells = ap (λ (d : Frame). length d.cells) e.dictionary in
       let there = h i low (omega (arith, up, cells, e.count)) in
-      ap (λ (j : ℕ). plan.home j i) e.number ∙ there ∙ ap (λ (j : ℕ). plan.dictionary j + 1 + length m.setting.segments + i) (sym e.number)
-      ∙ ap (λ (k : ℕ). plan.dictionary n.setting.number + 1 + k + i) (sym e.count)
+      ap (λ (j : ℕ). plan.home j i) e.number ∙ there ∙ ap (λ (j : ℕ). plan.dictionary j + 1 + length m.constants.segments + i) (sym e.number)
+      ∙ ap (λ (k : ℕ). plan.dictionary n.constants.number + 1 + k + i) (sym e.count)
 
-  pub task_stands_alike : (r : Regs) (plan : Plan) (t : Task) → TaskStands r plan m t → TaskStands r plan n t
+  pub task_stands_alike : (r : Regs) (plan : Placement) (t : Task) → RepresentsTask r plan m t → RepresentsTask r plan n t
   task_stands_alike r plan t h = record {
     slot = h.slot ∙ ap (λ (i : ℕ). slot_of plan i t.number) (sym e.number);
     dict = h.dict ∙ ap plan.dictionary (sym e.number);
@@ -112,32 +112,32 @@ module _ (m n : Member) (e : Alike m n) where
     place = h.place;
   }
 
-  here_m : Task → Here
-  here_m t = record { setting = m.setting; job = m.course.job; task = t; at = t.place }
+  here_m : Task → OperatorContext
+  here_m t = record { constants = m.constants; job = m.progress.job; task = t; at = t.place }
 
-  here_n : Task → Here
-  here_n t = record { setting = n.setting; job = n.course.job; task = t; at = t.place }
+  here_n : Task → OperatorContext
+  here_n t = record { constants = n.constants; job = n.progress.job; task = t; at = t.place }
 
   frames_alike : (t : Task) → all_frames (here_n t) ≡ all_frames (here_m t)
   unfolding here_m here_n
   frames_alike t =
-      ap (λ (ts : List Task). flat_map (λ (u : Task). u.frames) ts ++ (n.setting.dictionary ∷ State.mcp ∷ [])) e.tasks
-      ∙ ap (λ (d : Frame). flat_map (λ (u : Task). u.frames) m.course.job.tasks ++ (d ∷ State.mcp ∷ [])) e.dictionary
+      ap (λ (ts : List Task). flat_map (λ (u : Task). u.frames) ts ++ (n.constants.dictionary ∷ State.mcp ∷ [])) e.tasks
+      ∙ ap (λ (d : Frame). flat_map (λ (u : Task). u.frames) m.progress.job.tasks ++ (d ∷ State.mcp ∷ [])) e.dictionary
 
-  spots_alike : (plan : Plan) (t : Task) (id : ℕ) → spots plan n.setting.number n.course.job t id ≡ spots plan m.setting.number m.course.job t id
+  spots_alike : (plan : Placement) (t : Task) (id : ℕ) → spots plan n.constants.number n.progress.job t id ≡ spots plan m.constants.number m.progress.job t id
   spots_alike plan t id =
-      ap (λ (i : ℕ). spots plan i n.course.job t id) e.number
-      ∙ ap (λ (o : ℕ → Spot). spot_in (slot_of plan m.setting.number t.number) o t.frames id) (outer_same plan m.setting.number m.course.job n.course.job e.tasks t.critical t.parents)
+      ap (λ (i : ℕ). spots plan i n.progress.job t id) e.number
+      ∙ ap (λ (o : ℕ → StackPlace). spot_in (slot_of plan m.constants.number t.number) o t.frames id) (outer_same plan m.constants.number m.progress.job n.progress.job e.tasks t.critical t.parents)
 
-  pub shows_alike : (display : List ℕ) (plan : Plan) (t : Task) → Shows display plan m t → Shows display plan n t
+  pub shows_alike : (display : List ℕ) (plan : Placement) (t : Task) → ShowsDisplay display plan m t → ShowsDisplay display plan n t
   unfolding here_m here_n
   shows_alike display plan t h i up =
       let at : frame_at (here_n t) i ≡ frame_at (here_m t) i = outward_same (here_m t) (here_n t) (frames_alike t) (running_level (here_m t) - i) (running t.frames) in
       h i up
-      ∙ ap (λ (f : Frame). Some (address_of plan (spots plan m.setting.number m.course.job t f.identity))) (sym at)
-      ∙ ap (λ (s : Spot). Some (address_of plan s)) (sym (spots_alike plan t (frame_at (here_n t) i).identity))
+      ∙ ap (λ (f : Frame). Some (address_of plan (spots plan m.constants.number m.progress.job t f.identity))) (sym at)
+      ∙ ap (λ (s : StackPlace). Some (address_of plan s)) (sym (spots_alike plan t (frame_at (here_n t) i).identity))
 
-module _ (plan : Plan) (ms ns : List Member) (e : AllAlike ms ns) where
+module _ (plan : Placement) (ms ns : List SessionJob) (e : AllAlike ms ns) where
   pub rows_alike : RowsFit plan ms → RowsFit plan ns
   rows_alike fit = record {
     live = λ r in_r.
@@ -153,25 +153,25 @@ module _ (plan : Plan) (ms ns : List Member) (e : AllAlike ms ns) where
     tasks_differ = fit.tasks_differ;
   }
 
-pub dictionaries_alike : (plan : Plan) (at : ℕ) (ms ns : List Member) → AllAlike ms ns → DictionariesFollow plan at ms → DictionariesFollow plan at ns
+pub dictionaries_alike : (plan : Placement) (at : ℕ) (ms ns : List SessionJob) → AllAlike ms ns → DictionariesFollow plan at ms → DictionariesFollow plan at ns
 dictionaries_alike plan at [] [] e h = h
 dictionaries_alike plan at (m ∷ ms) (n ∷ ns) e h =
     let P : Frame → Type 0 = λ d. DictionariesFollow plan (at + (2 + length d.cells)) ns in
-    (ap plan.dictionary e.0.number ∙ h.0, subst P (sym e.0.dictionary) (dictionaries_alike plan (at + (2 + length m.setting.dictionary.cells)) ms ns e.1 h.1))
+    (ap plan.dictionary e.0.number ∙ h.0, subst P (sym e.0.dictionary) (dictionaries_alike plan (at + (2 + length m.constants.dictionary.cells)) ms ns e.1 h.1))
 dictionaries_alike plan at [] (n ∷ ns) e h = absurd e
 dictionaries_alike plan at (m ∷ ms) [] e h = absurd e
 
 -- the running task of the one list is that of the other
-pub record TwinRuns (plan : Plan) (ms : List Member) (n : Member) (t : Task) : Type 0 where
-  pub member : Member
+pub record TwinRuns (plan : Placement) (ms : List SessionJob) (n : SessionJob) (t : Task) : Type 0 where
+  pub member : SessionJob
   pub alike : Alike member n
   pub runs : IsRunning plan ms member t
 
-pub running_twin : (plan : Plan) (ms ns : List Member) → AllAlike ms ns → (n : Member) (t : Task) → IsRunning plan ns n t → TwinRuns plan ms n t
-running_twin plan ms ns e n t r = by (keyed number_of n.setting.number ms) refl
-    (let S : Option Member → Type 0 = λ o. AlikeOption (keyed number_of n.setting.number ms) o in subst S r.member (alike_keyed n.setting.number ms ns e))
+pub running_twin : (plan : Placement) (ms ns : List SessionJob) → AllAlike ms ns → (n : SessionJob) (t : Task) → IsRunning plan ns n t → TwinRuns plan ms n t
+running_twin plan ms ns e n t r = by (keyed number_of n.constants.number ms) refl
+    (let S : Option SessionJob → Type 0 = λ o. AlikeOption (keyed number_of n.constants.number ms) o in subst S r.member (alike_keyed n.constants.number ms ns e))
   where
-    by : (o : Option Member) → keyed number_of n.setting.number ms ≡ o → AlikeOption o (Some n) → TwinRuns plan ms n t
+    by : (o : Option SessionJob) → keyed number_of n.constants.number ms ≡ o → AlikeOption o (Some n) → TwinRuns plan ms n t
     by None at k = absurd k
     by (Some m) at k = record {
       member = m;

@@ -1,33 +1,33 @@
--- The picture of a session doesn't show how many operators were made.
+-- The view of a session doesn't show how many operators were made.
 use Rattle.std.proofs.Common.{◌≡◌, ℕ, List, [], ◌∷◌, ◌++◌, Option, Some, None, refl, ◌∙◌, ap, true, false, ⊎_elim}
 use Rattle.std.specs.Prelude.{◌==◌, flat_map}
 use Rattle.std.proofs.lemmas.Bool.{cases_Bool}
-use Rattle.b67_model.specs.State.{Setting, Task, Job, Member}
+use Rattle.b67_model.specs.State.{JobConstants, Task, Job, SessionJob}
 use Rattle.b67_model.specs.Keyed.{keyed}
 use Rattle.b67_model.specs.Run.{number_of}
-use Rattle.b67_stack.specs.Picture.{Thing, Slot, Picture}
-use Rattle.b67_layout.specs.Plan.{Slotted, Plan}
-use Rattle.b67_layout.specs.Layout.{slot_with, slot_in, slot_by, slot_at, things_of, picture}
+use Rattle.b67_stack.specs.MachineView.{PagedObject, Slot, MachineView}
+use Rattle.b67_layout.specs.Placement.{Slotted, Placement}
+use Rattle.b67_layout.specs.Layout.{slot_with, slot_in, slot_by, slot_at, objects_of, machine_view}
 
 -- the same setting and the same job
-pub record SameJob (m n : Member) : Type 0 where
-  pub setting : n.setting ≡ m.setting
-  pub job : n.course.job ≡ m.course.job
+pub record SameJob (m n : SessionJob) : Type 0 where
+  pub constants : n.constants ≡ m.constants
+  pub job : n.progress.job ≡ m.progress.job
 
-abbrev pub SameJobs : List Member → List Member → Type 0
+abbrev pub SameJobs : List SessionJob → List SessionJob → Type 0
 SameJobs [] [] = Unit {0}
 SameJobs (m ∷ ms) (n ∷ ns) = SameJob m n × SameJobs ms ns
 SameJobs _ _ = ⊥
 
-abbrev SameOption : Option Member → Option Member → Type 0
+abbrev SameOption : Option SessionJob → Option SessionJob → Type 0
 SameOption None None = Unit {0}
 SameOption (Some m) (Some n) = SameJob m n
 SameOption _ _ = ⊥
 
-same_keyed : (j : ℕ) (ms ns : List Member) → SameJobs ms ns → SameOption (keyed number_of j ms) (keyed number_of j ns)
+same_keyed : (j : ℕ) (ms ns : List SessionJob) → SameJobs ms ns → SameOption (keyed number_of j ms) (keyed number_of j ns)
 same_keyed j [] [] e = tt
 same_keyed j (m ∷ ms) (n ∷ ns) e =
-    let number : number_of n ≡ number_of m = ap (λ (s : Setting). s.number) e.0.setting in
+    let number : number_of n ≡ number_of m = ap (λ (s : JobConstants). s.number) e.0.constants in
     ⊎_elim
     (λ (t : (number_of m == j) ≡ true). let u : (number_of n == j) ≡ true = ap (λ (i : ℕ). i == j) number ∙ t in rw (t, u) e.0)
     (λ (t : (number_of m == j) ≡ false). let u : (number_of n == j) ≡ false = ap (λ (i : ℕ). i == j) number ∙ t in rw (t, u) (same_keyed j ms ns e.1))
@@ -35,8 +35,8 @@ same_keyed j (m ∷ ms) (n ∷ ns) e =
 same_keyed j [] (n ∷ ns) e = absurd e
 same_keyed j (m ∷ ms) [] e = absurd e
 
-module _ (plan : Plan) (ms ns : List Member) (e : SameJobs ms ns) where
-  same_in : (k j task : ℕ) (a b : Option Member) → SameOption a b → slot_in plan k j task b ≡ slot_in plan k j task a
+module _ (plan : Placement) (ms ns : List SessionJob) (e : SameJobs ms ns) where
+  same_in : (k j task : ℕ) (a b : Option SessionJob) → SameOption a b → slot_in plan k j task b ≡ slot_in plan k j task a
   same_in k j task None None s = refl
   same_in k j task (Some m) (Some n) s = ap (λ (job : Job). slot_with plan k j job (keyed (λ (t : Task). t.number) task job.tasks)) s.job
   same_in k j task None (Some n) s = absurd s
@@ -49,17 +49,17 @@ module _ (plan : Plan) (ms ns : List Member) (e : SameJobs ms ns) where
   same_slots : (k : ℕ) → slot_at plan ns k ≡ slot_at plan ms k
   same_slots k = same_by k (keyed (λ (r : Slotted). r.slot) k plan.rows)
 
-same_things : (plan : Plan) (ms ns : List Member) → SameJobs ms ns → flat_map (things_of plan) ns ≡ flat_map (things_of plan) ms
-same_things plan [] [] e = refl
-same_things plan (m ∷ ms) (n ∷ ns) e =
-    let T : Setting → Job → List Thing = λ st job. things_of plan (record { setting = st; course = record { job = job; made = 0; ended = [] } }) in
-    let head : things_of plan n ≡ things_of plan m = ap (λ (st : Setting). T st n.course.job) e.0.setting ∙ ap (T m.setting) e.0.job in
-    ap (λ (ts : List Thing). ts ++ flat_map (things_of plan) ns) head ∙ ap (λ (ts : List Thing). things_of plan m ++ ts) (same_things plan ms ns e.1)
-same_things plan [] (n ∷ ns) e = absurd e
-same_things plan (m ∷ ms) [] e = absurd e
+same_objects : (plan : Placement) (ms ns : List SessionJob) → SameJobs ms ns → flat_map (objects_of plan) ns ≡ flat_map (objects_of plan) ms
+same_objects plan [] [] e = refl
+same_objects plan (m ∷ ms) (n ∷ ns) e =
+    let T : JobConstants → Job → List PagedObject = λ st job. objects_of plan (record { constants = st; progress = record { job = job; made = 0; ended = [] } }) in
+    let head : objects_of plan n ≡ objects_of plan m = ap (λ (st : JobConstants). T st n.progress.job) e.0.constants ∙ ap (T m.constants) e.0.job in
+    ap (λ (ts : List PagedObject). ts ++ flat_map (objects_of plan) ns) head ∙ ap (λ (ts : List PagedObject). objects_of plan m ++ ts) (same_objects plan ms ns e.1)
+same_objects plan [] (n ∷ ns) e = absurd e
+same_objects plan (m ∷ ms) [] e = absurd e
 
-pub same_picture : (plan : Plan) (ms ns : List Member) → SameJobs ms ns → picture plan ns ≡ picture plan ms
-same_picture plan ms ns e =
-    let P : (ℕ → Slot) → List Thing → Picture = λ s things. record { stacks = plan.stacks; size = plan.size; peak = plan.peak; slots = s; things = things } in
+pub same_machine_view : (plan : Placement) (ms ns : List SessionJob) → SameJobs ms ns → machine_view plan ns ≡ machine_view plan ms
+same_machine_view plan ms ns e =
+    let P : (ℕ → Slot) → List PagedObject → MachineView = λ s objects. record { stacks = plan.stacks; size = plan.size; peak = plan.peak; slots = s; objects = objects } in
     let slots : slot_at plan ns ≡ slot_at plan ms = λ z k. same_slots plan ms ns e k z in
-    ap (λ (s : ℕ → Slot). P s (flat_map (things_of plan) ns)) slots ∙ ap (P (slot_at plan ms)) (same_things plan ms ns e)
+    ap (λ (s : ℕ → Slot). P s (flat_map (objects_of plan) ns)) slots ∙ ap (P (slot_at plan ms)) (same_objects plan ms ns e)

@@ -3,14 +3,14 @@ use Rattle.std.proofs.Common.{◌≡◌, ℕ, true, false, not, List, [], ◌∷
 use Rattle.std.specs.List.{list_any}
 use Rattle.b67_word.specs.declared.couples.Place.{Place}
 use Rattle.b67_lemmas.specs.Lists.{Has}
+use Rattle.b67_lemmas.proofs.Members.{all_in}
 use Rattle.b67_model.specs.Words as Words
 use Rattle.b67_model.specs.Words.{Word, Operand, Name, Ref, Row, Element, Original, Proc, Intrinsic}
-use Rattle.b67_model.specs.State.{Frame, Array, Task, Setting, Job, Member, Here}
+use Rattle.b67_model.specs.State.{Frame, Array, Task, JobConstants, Job, SessionJob, OperatorContext}
 use Rattle.b67_model.specs.Operators.{Reading}
 use Rattle.b67_model.specs.Steps.{Line, Goes}
 use Rattle.b67_model.specs.Rows.{row, reading_of, step_by, step}
 use Rattle.b67_model.specs.InOrder.{Starts, IsSegment, Known, known_of, WordInOrder, EntryInOrder, FramesInOrder, TaskInOrder, TasksInOrder, JobInOrder, outer_of}
-use Rattle.b67_law_order.proofs.Members.{all_in}
 use Rattle.b67_law_order.proofs.Posts.{Post, post_err, post_at}
 use Rattle.b67_law_order_rows.proofs.Kept.{here}
 use Rattle.b67_layout_step.specs.Keeping.{RowsKeepArrays, StepsTouchArrays}
@@ -36,7 +36,7 @@ any_names (Proc segment level place) = tt
 any_names (Intrinsic n) = tt
 any_names (Words.Segment n) = tt
 
-any_source : (h : Here) → Source Any h.job.arrays (Unit {0}) h
+any_source : (h : OperatorContext) → Source Any h.job.arrays (Unit {0}) h
 any_source h = record {
   words = record { tasks = λ t k f m w i. any_names w; own = λ f m w i. any_names w; dictionary = λ w i. any_names w };
   arrays = λ k n there. there;
@@ -82,26 +82,26 @@ frames_name P job outer (x ∷ below) g f k = elim k [
 ]
 
 -- every word of a job in order names an array of it
-pub order_holds : (P : Starts) (setting : Setting) (job : Job) (t : Task) (next : Place) → TasksInOrder P setting job → Has job.tasks t → Holds (IsOf job) (here setting job t next)
-order_holds P setting job t next g k =
-    let each : (u : Task) → Has job.tasks u → FramesName (IsOf job) u.frames = λ u m. frames_name P job (outer_of job u) u.frames (all_in (TaskInOrder P setting job) job.tasks u g.tasks m).frames in
+pub order_holds : (P : Starts) (constants : JobConstants) (job : Job) (t : Task) (next : Place) → TasksInOrder P constants job → Has job.tasks t → Holds (IsOf job) (here constants job t next)
+order_holds P constants job t next g k =
+    let each : (u : Task) → Has job.tasks u → FramesName (IsOf job) u.frames = λ u m. frames_name P job (outer_of job u) u.frames (all_in (TaskInOrder P constants job) job.tasks u g.tasks m).frames in
     record {
       tasks = each;
       own = each t k;
-      dictionary = λ w m. entry_names job w (all_in (EntryInOrder job.arrays) setting.dictionary.cells w g.entries m);
+      dictionary = λ w m. entry_names job w (all_in (EntryInOrder job.arrays) constants.dictionary.cells w g.entries m);
     }
 
-by_reading : (P : Starts) (setting : Setting) (job : Job) (t : Task) → TasksInOrder P setting job → Has job.tasks t → (r : Reading) → Post (Keeps (IsOf job) job.arrays (true ≡ false)) (step_by setting job t r)
-by_reading P setting job t g k (Err why) = post_err (Keeps (IsOf job) job.arrays (true ≡ false)) _
-by_reading P setting job t g k (Ok read) = row_good (IsOf job) job.arrays (true ≡ false) read.0 (here setting job t read.1) (record { words = order_holds P setting job t read.1 g k; arrays = λ e n there. there }) (λ e. absurd cc)
+by_reading : (P : Starts) (constants : JobConstants) (job : Job) (t : Task) → TasksInOrder P constants job → Has job.tasks t → (r : Reading) → Post (Keeps (IsOf job) job.arrays (true ≡ false)) (step_by constants job t r)
+by_reading P constants job t g k (Err why) = post_err (Keeps (IsOf job) job.arrays (true ≡ false)) _
+by_reading P constants job t g k (Ok read) = row_good (IsOf job) job.arrays (true ≡ false) read.0 (here constants job t read.1) (record { words = order_holds P constants job t read.1 g k; arrays = λ e n there. there }) (λ e. absurd cc)
 
 -- the array that a step of a job in order touches
-pub step_touches : (P : Starts) (setting : Setting) (job : Job) (t : Task) → TasksInOrder P setting job → Has job.tasks t → (after : Job) (printed : List Line) (touched : ℕ) → step setting job t ≡ Ok (Goes after printed (Some touched)) → IsOf job touched
+pub step_touches : (P : Starts) (constants : JobConstants) (job : Job) (t : Task) → TasksInOrder P constants job → Has job.tasks t → (after : Job) (printed : List Line) (touched : ℕ) → step constants job t ≡ Ok (Goes after printed (Some touched)) → IsOf job touched
 unfolding step
-step_touches P setting job t g k after printed touched is =
-    (post_at (Keeps (IsOf job) job.arrays (true ≡ false)) (step_by setting job t (reading_of setting t)) (Goes after printed (Some touched)) is (by_reading P setting job t g k (reading_of setting t))).0
+step_touches P constants job t g k after printed touched is =
+    (post_at (Keeps (IsOf job) job.arrays (true ≡ false)) (step_by constants job t (reading_of constants t)) (Goes after printed (Some touched)) is (by_reading P constants job t g k (reading_of constants t))).0
 
 pub touches_arrays : StepsTouchArrays
 touches_arrays s m t order here task after printed touched is =
-    let g = all_in (λ (x : Member). JobInOrder (IsSegment x.setting) x.setting x.course) s.jobs m order.jobs here in
-    step_touches (IsSegment m.setting) m.setting m.course.job t g.tasks task after printed touched is
+    let g = all_in (λ (x : SessionJob). JobInOrder (IsSegment x.constants) x.constants x.progress) s.jobs m order.jobs here in
+    step_touches (IsSegment m.constants) m.constants m.progress.job t g.tasks task after printed touched is

@@ -1,5 +1,5 @@
 -- A machine stands for a session that is alike, where areas came or went or operators were counted.
-use Rattle.std.proofs.Common.{◌≡◌, ◌≢◌, ℕ, ◌+◌, ◌*◌, ◌<◌, ◌≤◌, ◌^◌, List, [], ◌∷◌, length, Option, Some, None, refl, sym, ◌∙◌, ap, arith, Bool, true, false, subst, inl, inr, ◌⊎◌}
+use Rattle.std.proofs.Common.{◌≡◌, ◌≢◌, ℕ, ◌+◌, ◌*◌, ◌<◌, ◌≤◌, ◌^◌, List, length, Option, Some, None, refl, sym, ◌∙◌, ap, arith, Bool, true, false, subst, inl, inr}
 use Rattle.std.specs.List.{slice_get}
 use Rattle.std.proofs.lemmas.Option.{same_Some}
 use Rattle.b67_word.specs.Tagged.{Tagged, word}
@@ -9,19 +9,20 @@ use Rattle.b67_area.specs.declared.kinds.Kind.TheVariants.{Array, Row, Code}
 use Rattle.b67_area.proofs.Laws.{area_inside}
 use Rattle.b67_ctl.specs.declared.registers.Regs.{Regs}
 use Rattle.b67_lemmas.specs.Lists.{Has}
-use Rattle.b67_model.specs.State.{Member}
+use Rattle.b67_model.specs.State.{SessionJob}
 use Rattle.b67_model.specs.Schedule.{Session}
 use Rattle.b67_stack.specs.declared.Cpu.{Cpu}
-use Rattle.b67_stack.specs.Shapes.{Held}
-use Rattle.b67_stack.specs.Picture.{Thing, Picture, Settled, home_word_of, is_present, address_or}
-use Rattle.b67_stack.specs.Stands.{Storage, Stands, info_of}
+use Rattle.b67_stack.specs.Shapes.{Location}
+use Rattle.b67_stack.specs.MachineView.{PagedObject, MachineView, NoOriginalAboveTop, home_word_of, is_present, address_or}
+use Rattle.b67_stack.specs.Represents.{Storage, Represents, info_of}
 use Rattle.b67_stack.proofs.Homes.{chain_small}
-use Rattle.b67_layout.specs.Plan.{Plan, slot_of}
-use Rattle.b67_layout.specs.Layout.{picture}
+use Rattle.b67_layout.specs.Placement.{Placement, slot_of}
+use Rattle.b67_layout.specs.Layout.{machine_view}
 use Rattle.b67_layout.proofs.Rows.{slot_below}
-use Rattle.b67_layout.proofs.Sessions.{dictionary_below}
-use Rattle.b67_layout.specs.Session.{DictionariesFollow, DictionaryStands, vector_word, with_things, Shows, SessionHoldsBut, SessionStandsBut}
+use Rattle.b67_layout.proofs.Sessions.{dictionary_below, dictionary_above}
+use Rattle.b67_layout.specs.Session.{RepresentsDictionary, vector_word, with_objects, ShowsDisplay, SessionHoldsBut, RepresentsSessionBut}
 use Rattle.b67_layout_step.proofs.Alike.{AllAlike, backs, twin, has_task, dictionary_alike, row_homes_alike, task_stands_alike, shows_alike, critical_same, rows_alike, dictionaries_alike, running_twin}
+use Rattle.b67_layout_storage.specs.Machine.{Stayed}
 
 -- the mark of a dictionary, and its number of entries, are no originals and no segment descriptors
 abbrev mark_bits : ℕ
@@ -31,19 +32,19 @@ too_high : (p : Bool) (n a : ℕ) → n < 2 ^ 16 → a < 2 ^ 20 → bit p * 2 ^ 
 too_high true n a hn ha e = omega arith
 too_high false n a hn ha e = omega arith
 
-not_mark : (k : Kind) (n : ℕ) (h : Held) → n < 2 ^ 16 → address_or h.area h.chain < 2 ^ 20 → home_word_of k n h ≡ word 3 mark_bits → ⊥
+not_mark : (k : Kind) (n : ℕ) (h : Location) → n < 2 ^ 16 → address_or h.area h.chain < 2 ^ 20 → home_word_of k n h ≡ word 3 mark_bits → ⊥
 not_mark Array n h small fits e = let z : ◌≡◌ {A = ℕ} 5 3 = ap (λ (w : Tagged). w.tag) e in absurd (omega arith)
 not_mark Row n h small fits e = let z : ◌≡◌ {A = ℕ} 5 3 = ap (λ (w : Tagged). w.tag) e in absurd (omega arith)
 not_mark Code n h small fits e = too_high (is_present h.area) n (address_or h.area h.chain) small fits (ap (λ (w : Tagged). w.bits) e)
 
-not_operand : (k : Kind) (n b : ℕ) (h : Held) → home_word_of k n h ≡ word 0 b → ⊥
+not_operand : (k : Kind) (n b : ℕ) (h : Location) → home_word_of k n h ≡ word 0 b → ⊥
 not_operand Array n b h e = let z : ◌≡◌ {A = ℕ} 5 0 = ap (λ (w : Tagged). w.tag) e in absurd (omega arith)
 not_operand Row n b h e = let z : ◌≡◌ {A = ℕ} 5 0 = ap (λ (w : Tagged). w.tag) e in absurd (omega arith)
 not_operand Code n b h e = let z : ◌≡◌ {A = ℕ} 3 0 = ap (λ (w : Tagged). w.tag) e in absurd (omega arith)
 
-module _ (x : Storage) (core : List Tagged) (r : Regs) (p : Picture) (s : Stands x core r p) (t : Thing) (int : Has p.things t) where
+module _ (x : Storage) (core : List Tagged) (r : Regs) (p : MachineView) (s : Represents x core r p) (t : PagedObject) (int : Has p.objects t) where
   address_small : (a : Option ℕ) → (x.held t.home).area ≡ a → address_or a (x.held t.home).chain < 2 ^ 20
-  address_small None e = chain_small x core t (x.held t.home).area (x.held t.home).chain (s.things t int).content
+  address_small None e = chain_small x core t (x.held t.home).area (x.held t.home).chain (s.objects t int).content
   address_small (Some b) e =
       let o = s.owned.of_held t.home b e in
       omega (arith, (area_inside core x.low x.spans b (info_of x o.0) s.directory o.3).1, s.directory.small)
@@ -53,28 +54,16 @@ module _ (x : Storage) (core : List Tagged) (r : Regs) (p : Picture) (s : Stands
 
   no_mark : (i : ℕ) → slice_get core i ≡ Some (word 3 mark_bits) → t.home ≢ i
   no_mark i get e = not_mark t.kind (length t.numbers) (x.held t.home) short (address_small (x.held t.home).area refl)
-      (same_Some _ _ (sym (s.things t int).home ∙ ap (slice_get core) e ∙ get))
+      (same_Some _ _ (sym (s.objects t int).home ∙ ap (slice_get core) e ∙ get))
 
   no_operand : (i b : ℕ) → slice_get core i ≡ Some (word 0 b) → t.home ≢ i
-  no_operand i b get e = not_operand t.kind (length t.numbers) b (x.held t.home) (same_Some _ _ (sym (s.things t int).home ∙ ap (slice_get core) e ∙ get))
+  no_operand i b get e = not_operand t.kind (length t.numbers) b (x.held t.home) (same_Some _ _ (sym (s.objects t int).home ∙ ap (slice_get core) e ∙ get))
 
--- a dictionary lies above the first one's address
-dictionary_above : (plan : Plan) (at : ℕ) (jobs : List Member) (y : Member) → DictionariesFollow plan at jobs → Has jobs y → at ≤ plan.dictionary y.setting.number
-dictionary_above plan at [] y d k = absurd k
-dictionary_above plan at (m ∷ ms) y d (inl e) =
-    let P : Member → Type 0 = λ z. at ≤ plan.dictionary z.setting.number in
-    subst P e (omega (arith, d.0))
-dictionary_above plan at (m ∷ ms) y d (inr k) = omega (arith, dictionary_above plan (at + (2 + length m.setting.dictionary.cells)) ms y d.1 k)
-
--- words below slot 0 that are no originals and no segment descriptors stayed, but for the directory's heads
-abbrev pub Stayed : Picture → List Tagged → List Tagged → Type 0
-Stayed p core new = (i : ℕ) → i < p.stacks → (i < 152) ⊎ (160 ≤ i) → ((t : Thing) → Has p.things t → t.home ≢ i) → slice_get new i ≡ slice_get core i
-
-module _ (left left' : List Thing) (x x' : Storage) (cpu cpu' : Cpu) (plan : Plan) (s s' : Session)
-    (h : SessionStandsBut left x cpu plan s) (alike : AllAlike s.jobs s'.jobs) (peak : s'.peak ≡ s.peak)
+module _ (left left' : List PagedObject) (x x' : Storage) (cpu cpu' : Cpu) (plan : Placement) (s s' : Session)
+    (h : RepresentsSessionBut left x cpu plan s) (alike : AllAlike s.jobs s'.jobs) (peak : s'.peak ≡ s.peak)
     (regs : cpu'.regs ≡ cpu.regs) (display : cpu'.display ≡ cpu.display) (critical : cpu'.critical ≡ cpu.critical)
-    (memory : Stands x' cpu'.core cpu.regs (with_things left' (picture plan s'.jobs))) (settled : Settled (picture plan s'.jobs))
-    (stayed : Stayed (with_things left (picture plan s.jobs)) cpu.core cpu'.core) where
+    (memory : Represents x' cpu'.core cpu.regs (with_objects left' (machine_view plan s'.jobs))) (settled : NoOriginalAboveTop (machine_view plan s'.jobs))
+    (stayed : Stayed (with_objects left (machine_view plan s.jobs)) cpu.core cpu'.core) where
   abbrev o : SessionHoldsBut left x cpu.core cpu.regs cpu.critical plan s
   o = h.holds
 
@@ -85,15 +74,15 @@ module _ (left left' : List Thing) (x x' : Storage) (cpu cpu' : Cpu) (plan : Pla
   mcp_word : (i : ℕ) → i < 152 → slice_get cpu'.core i ≡ slice_get cpu.core i
   mcp_word i small = stayed i (omega (arith, small, low)) (inl small) (λ t int e. absurd (let home = (h.holds.memory.slots.laid.homes t int).0 in let z : ⊥ = omega (arith, home, e, small) in z))
 
-  dictionary_same : (y : Member) → Has s.jobs y → DictionaryStands cpu'.core plan y
+  dictionary_same : (y : SessionJob) → Has s.jobs y → RepresentsDictionary cpu'.core plan y
   dictionary_same y in_y =
       let d = dictionary_below plan 160 s.jobs y h.holds.fits.dictionaries in_y in
       let up = dictionary_above plan 160 s.jobs y h.holds.fits.dictionaries in_y in
       let o = h.holds.dictionaries y in_y in
-      let at = plan.dictionary y.setting.number in
+      let at = plan.dictionary y.constants.number in
       record {
-        mark = stayed at (omega (arith, d)) (inr (omega (arith, up))) (λ t int. no_mark x cpu.core cpu.regs (with_things left (picture plan s.jobs)) h.holds.memory t int at o.mark) ∙ o.mark;
-        entries = stayed (at + 1) (omega (arith, d)) (inr (omega (arith, up))) (λ t int. no_operand x cpu.core cpu.regs (with_things left (picture plan s.jobs)) h.holds.memory t int (at + 1) (length y.setting.dictionary.cells) o.entries) ∙ o.entries;
+        mark = stayed at (omega (arith, d)) (inr (omega (arith, up))) (λ t int. no_mark x cpu.core cpu.regs (with_objects left (machine_view plan s.jobs)) h.holds.memory t int at o.mark) ∙ o.mark;
+        entries = stayed (at + 1) (omega (arith, d)) (inr (omega (arith, up))) (λ t int. no_operand x cpu.core cpu.regs (with_objects left (machine_view plan s.jobs)) h.holds.memory t int (at + 1) (length y.constants.dictionary.cells) o.entries) ∙ o.entries;
       }
 
   pub SessionHolds-over : SessionHoldsBut left' x' cpu'.core cpu.regs cpu.critical plan s'
@@ -115,7 +104,7 @@ module _ (left left' : List Thing) (x x' : Storage) (cpu cpu' : Cpu) (plan : Pla
           let t = twin s.jobs s'.jobs alike n in_n in
           let in_m = has_task t.member n t.alike u in_u in
           ap (λ (i : ℕ). slice_get cpu'.core (32 + slot_of plan i u.number)) t.alike.number
-          ∙ mcp_word (32 + slot_of plan t.member.setting.number u.number) (omega (arith, slot_below plan s.jobs t.member u h.holds.fits.rows t.among in_m, h.holds.fits.few))
+          ∙ mcp_word (32 + slot_of plan t.member.constants.number u.number) (omega (arith, slot_below plan s.jobs t.member u h.holds.fits.rows t.among in_m, h.holds.fits.few))
           ∙ h.holds.vector.live t.member u t.among in_m
           ∙ ap (λ (i : ℕ). Some (vector_word plan i u.parents)) (sym t.alike.number);
       free = λ k small others. mcp_word (32 + k) (omega (arith, small)) ∙ h.holds.vector.free k small others;
@@ -125,7 +114,7 @@ module _ (left left' : List Thing) (x x' : Storage) (cpu cpu' : Cpu) (plan : Pla
           let t = twin s.jobs s'.jobs alike n in_n in
           ap (λ (i : ℕ). slice_get cpu.critical (slot_of plan i u.number)) t.alike.number
           ∙ h.holds.critical.live t.member u t.among (has_task t.member n t.alike u in_u)
-          ∙ ap Some (sym (critical_same t.member.course.job n.course.job t.alike.tasks u.frames));
+          ∙ ap Some (sym (critical_same t.member.progress.job n.progress.job t.alike.tasks u.frames));
       free = h.holds.critical.free;
     };
     live = λ z. let (y, t, r) = h.holds.live z in let k = running_twin plan s'.jobs s.jobs (backs s.jobs s'.jobs alike) y t r in (k.member, t, k.runs);
@@ -133,12 +122,12 @@ module _ (left left' : List Thing) (x x' : Storage) (cpu cpu' : Cpu) (plan : Pla
     none = h.holds.none;
   }
 
-  pub SessionStands-over : SessionStandsBut left' x' cpu' plan s'
-  SessionStands-over =
+  pub RepresentsSession-over : RepresentsSessionBut left' x' cpu' plan s'
+  RepresentsSession-over =
       let P : Regs → List ℕ → Type 0 = λ r marks. SessionHoldsBut left' x' cpu'.core r marks plan s' in
       record {
         holds = subst (λ (r : Regs). P r cpu'.critical) (sym regs) (subst (P cpu.regs) (sym critical) SessionHolds-over);
         shows = λ n t r.
             let k = running_twin plan s.jobs s'.jobs alike n t r in
-            subst (λ (d : List ℕ). Shows d plan n t) (sym display) (shows_alike k.member n k.alike cpu.display plan t (h.shows k.member t k.runs));
+            subst (λ (d : List ℕ). ShowsDisplay d plan n t) (sym display) (shows_alike k.member n k.alike cpu.display plan t (h.shows k.member t k.runs));
       }

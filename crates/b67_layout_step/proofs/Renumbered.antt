@@ -1,100 +1,98 @@
--- The session whose picture has other numbers in a thing: what a device that tells nothing may have given back.
+-- The session whose view has other numbers in an object: what a device that tells nothing may have given back.
 use Rattle.std.proofs.Common.{◌≡◌, ℕ, suc, ◌+◌, ◌<◌, ◌≤◌, ◌^◌, ◌++◌, ◌==◌, List, [], ◌∷◌, length, map, Option, Some, None, refl, sym, ◌∙◌, ap, Bool, true, false, subst, inl, inr, ⊎_elim, unwrap_or}
 use Rattle.std.specs.Prelude.{if◌then◌else◌, flat_map, not, option_map}
-use Rattle.std.proofs.lemmas.Option.{none-some, same_Some}
 use Rattle.std.proofs.lemmas.Bool.{cases_Bool, eqb-true}
 use Rattle.std.proofs.lemmas.List.{map-append}
 use Rattle.std.specs.List.{AllByRecursion}
 use Rattle.b67_lemmas.specs.Lists.{Has}
+use Rattle.b67_lemmas.proofs.Members.{has_append_left, has_append_right, keyed_has, keyed-has}
 use Rattle.b67_model.specs.Schedule.{Session}
 use Rattle.b67_model.specs.InOrder.{IsSegment, SegmentInOrder, ArrayInOrder, JobInOrder, IsInOrderButPlaces}
 use Rattle.b67_law_order_steps.specs.Weaker.{Renumbers, Recoded, RefilledArray, Refilled, AllOtherNumbers}
 use Rattle.b67_law_order_steps.proofs.Sessions.{other_numbers_keep_order}
 use Rattle.b67_model.specs.Words as Words
 use Rattle.b67_model.specs.Words.{Word, Operand, Name, Ref, Row, Element, Original, Proc, Intrinsic}
-use Rattle.b67_model.specs.State.{Frame, Array, Task, Segment, Setting, Job, Member}
+use Rattle.b67_model.specs.State.{Frame, Array, Task, Segment, JobConstants, Job, SessionJob}
 use Rattle.b67_model.specs.Keyed.{keyed}
 use Rattle.b67_model.specs.Arrays.{array, no_array}
 use Rattle.b67_model.specs.Run.{number_of}
 use Rattle.b67_stack.specs.Shapes.{Shape, Copy}
-use Rattle.b67_stack.specs.Stacks.{Spot, Activation, high}
-use Rattle.b67_law_order.proofs.Members.{has_append_left, has_append_right}
-use Rattle.b67_layout.proofs.Others.{keyed-has}
+use Rattle.b67_stack.specs.Stacks.{StackPlace, Activation, stack_words}
 use Rattle.b67_layout_step.proofs.Alike.{AllAlike, outer_same}
 use Rattle.b67_area.specs.declared.kinds.Kind.TheVariants as kind
-use Rattle.b67_stack.specs.Picture.{Thing, Slot, Running, Waiting, Picture, slot_base, stack_of, Settled}
+use Rattle.b67_stack.specs.MachineView.{PagedObject, Slot, Running, Waiting, MachineView, slot_base, stack_of, NoOriginalAboveTop}
 use Rattle.b67_layout_storage.specs.Machine.{renumber, renumbered}
-use Rattle.b67_layout.specs.Plan.{Slotted, Plan, spot_in, outer_spots}
-use Rattle.b67_layout.specs.Layout.{shape, head, activations, slot_with, slot_in, slot_by, slot_at, array_thing, code_things, things_of, picture}
+use Rattle.b67_layout.specs.Placement.{Slotted, Placement, spot_in, outer_spots}
+use Rattle.b67_layout.specs.Layout.{shape, head, activations, slot_with, slot_in, slot_by, slot_at, array_object, code_objects, objects_of, machine_view}
 
 -- the segments of a dictionary, from number n on, with other code in that of a home
-abbrev pub recoded : Plan → ℕ → ℕ → List ℕ → ℕ → List Segment → List Segment
+abbrev pub recoded : Placement → ℕ → ℕ → List ℕ → ℕ → List Segment → List Segment
 recoded plan j home ns n [] = []
 recoded plan j home ns n (s ∷ more) =
     (if plan.dictionary j + 1 + n == home then record s { code = ns } else s) ∷ recoded plan j home ns (n + 1) more
 
-abbrev pub refilled : Plan → ℕ → ℕ → List ℕ → Array → Array
+abbrev pub refilled : Placement → ℕ → ℕ → List ℕ → Array → Array
 refilled plan j home ns a = if plan.home j a.identity == home then record a { numbers = ns } else a
 
-abbrev pub setting_with : Plan → ℕ → List ℕ → Setting → Setting
+abbrev pub setting_with : Placement → ℕ → List ℕ → JobConstants → JobConstants
 setting_with plan home ns s = record s { segments = recoded plan s.number home ns 1 s.segments }
 
-abbrev pub job_refilled : Plan → ℕ → ℕ → List ℕ → Job → Job
+abbrev pub job_refilled : Placement → ℕ → ℕ → List ℕ → Job → Job
 job_refilled plan j home ns job = record job { arrays = map (refilled plan j home ns) job.arrays }
 
-abbrev pub member_with : Plan → ℕ → List ℕ → Member → Member
+abbrev pub member_with : Placement → ℕ → List ℕ → SessionJob → SessionJob
 member_with plan home ns m = record {
-  setting = setting_with plan home ns m.setting;
-  course = record m.course { job = job_refilled plan m.setting.number home ns m.course.job };
+  constants = setting_with plan home ns m.constants;
+  progress = record m.progress { job = job_refilled plan m.constants.number home ns m.progress.job };
 }
 
-code_renumbered : (plan : Plan) (j home : ℕ) (ns : List ℕ) (n : ℕ) (segments : List Segment)
-    → map (renumber home ns) (code_things plan j n segments) ≡ code_things plan j n (recoded plan j home ns n segments)
+code_renumbered : (plan : Placement) (j home : ℕ) (ns : List ℕ) (n : ℕ) (segments : List Segment)
+    → map (renumber home ns) (code_objects plan j n segments) ≡ code_objects plan j n (recoded plan j home ns n segments)
 code_renumbered plan j home ns n [] = refl
 code_renumbered plan j home ns n (s ∷ more) =
     let rest = code_renumbered plan j home ns (n + 1) more in
     ⊎_elim
-    (λ (e : (plan.dictionary j + 1 + n == home) ≡ true). rw e (ap (λ (ts : List Thing). record { home = plan.dictionary j + 1 + n; kind = kind.Code; numbers = ns } ∷ ts) rest))
-    (λ (e : (plan.dictionary j + 1 + n == home) ≡ false). rw e (ap (λ (ts : List Thing). record { home = plan.dictionary j + 1 + n; kind = kind.Code; numbers = s.code } ∷ ts) rest))
+    (λ (e : (plan.dictionary j + 1 + n == home) ≡ true). rw e (ap (λ (ts : List PagedObject). record { home = plan.dictionary j + 1 + n; kind = kind.Code; numbers = ns } ∷ ts) rest))
+    (λ (e : (plan.dictionary j + 1 + n == home) ≡ false). rw e (ap (λ (ts : List PagedObject). record { home = plan.dictionary j + 1 + n; kind = kind.Code; numbers = s.code } ∷ ts) rest))
     (cases_Bool (plan.dictionary j + 1 + n == home))
 
-array_renumbered : (plan : Plan) (j home : ℕ) (ns : List ℕ) (a : Array) → renumber home ns (array_thing plan j a) ≡ array_thing plan j (refilled plan j home ns a)
+array_renumbered : (plan : Placement) (j home : ℕ) (ns : List ℕ) (a : Array) → renumber home ns (array_object plan j a) ≡ array_object plan j (refilled plan j home ns a)
 array_renumbered plan j home ns a = ⊎_elim
     (λ (e : (plan.home j a.identity == home) ≡ true). rw e refl)
     (λ (e : (plan.home j a.identity == home) ≡ false). rw e refl)
     (cases_Bool (plan.home j a.identity == home))
 
-arrays_renumbered : (plan : Plan) (j home : ℕ) (ns : List ℕ) (arrays : List Array)
-    → map (renumber home ns) (map (array_thing plan j) arrays) ≡ map (array_thing plan j) (map (refilled plan j home ns) arrays)
+arrays_renumbered : (plan : Placement) (j home : ℕ) (ns : List ℕ) (arrays : List Array)
+    → map (renumber home ns) (map (array_object plan j) arrays) ≡ map (array_object plan j) (map (refilled plan j home ns) arrays)
 arrays_renumbered plan j home ns [] = refl
 arrays_renumbered plan j home ns (a ∷ more) =
-    ap (λ (t : Thing). t ∷ map (renumber home ns) (map (array_thing plan j) more)) (array_renumbered plan j home ns a)
-    ∙ ap (λ (ts : List Thing). array_thing plan j (refilled plan j home ns a) ∷ ts) (arrays_renumbered plan j home ns more)
+    ap (λ (t : PagedObject). t ∷ map (renumber home ns) (map (array_object plan j) more)) (array_renumbered plan j home ns a)
+    ∙ ap (λ (ts : List PagedObject). array_object plan j (refilled plan j home ns a) ∷ ts) (arrays_renumbered plan j home ns more)
 
-things_renumbered : (plan : Plan) (home : ℕ) (ns : List ℕ) (m : Member) → map (renumber home ns) (things_of plan m) ≡ things_of plan (member_with plan home ns m)
-things_renumbered plan home ns m =
-    let j = m.setting.number in
-    map-append (renumber home ns) (code_things plan j 1 m.setting.segments) (map (array_thing plan j) m.course.job.arrays)
-    ∙ ap (λ (ts : List Thing). ts ++ map (renumber home ns) (map (array_thing plan j) m.course.job.arrays)) (code_renumbered plan j home ns 1 m.setting.segments)
-    ∙ ap (λ (ts : List Thing). code_things plan j 1 (recoded plan j home ns 1 m.setting.segments) ++ ts) (arrays_renumbered plan j home ns m.course.job.arrays)
+objects_renumbered : (plan : Placement) (home : ℕ) (ns : List ℕ) (m : SessionJob) → map (renumber home ns) (objects_of plan m) ≡ objects_of plan (member_with plan home ns m)
+objects_renumbered plan home ns m =
+    let j = m.constants.number in
+    map-append (renumber home ns) (code_objects plan j 1 m.constants.segments) (map (array_object plan j) m.progress.job.arrays)
+    ∙ ap (λ (ts : List PagedObject). ts ++ map (renumber home ns) (map (array_object plan j) m.progress.job.arrays)) (code_renumbered plan j home ns 1 m.constants.segments)
+    ∙ ap (λ (ts : List PagedObject). code_objects plan j 1 (recoded plan j home ns 1 m.constants.segments) ++ ts) (arrays_renumbered plan j home ns m.progress.job.arrays)
 
-all_renumbered : (plan : Plan) (home : ℕ) (ns : List ℕ) (jobs : List Member)
-    → map (renumber home ns) (flat_map (things_of plan) jobs) ≡ flat_map (things_of plan) (map (member_with plan home ns) jobs)
+all_renumbered : (plan : Placement) (home : ℕ) (ns : List ℕ) (jobs : List SessionJob)
+    → map (renumber home ns) (flat_map (objects_of plan) jobs) ≡ flat_map (objects_of plan) (map (member_with plan home ns) jobs)
 all_renumbered plan home ns [] = refl
 all_renumbered plan home ns (m ∷ more) =
-    map-append (renumber home ns) (things_of plan m) (flat_map (things_of plan) more)
-    ∙ ap (λ (ts : List Thing). ts ++ map (renumber home ns) (flat_map (things_of plan) more)) (things_renumbered plan home ns m)
-    ∙ ap (λ (ts : List Thing). things_of plan (member_with plan home ns m) ++ ts) (all_renumbered plan home ns more)
+    map-append (renumber home ns) (objects_of plan m) (flat_map (objects_of plan) more)
+    ∙ ap (λ (ts : List PagedObject). ts ++ map (renumber home ns) (flat_map (objects_of plan) more)) (objects_renumbered plan home ns m)
+    ∙ ap (λ (ts : List PagedObject). objects_of plan (member_with plan home ns m) ++ ts) (all_renumbered plan home ns more)
 
--- the thing of a home has as many numbers as before
-abbrev pub Fitting : ℕ → List ℕ → List Thing → Type 0
-Fitting home ns things = (t : Thing) → Has things t → t.home ≡ home → length ns ≡ length t.numbers
+-- the object of a home has as many numbers as before
+abbrev pub Fitting : ℕ → List ℕ → List PagedObject → Type 0
+Fitting home ns objects = (t : PagedObject) → Has objects t → t.home ≡ home → length ns ≡ length t.numbers
 
 record SameShape (a b : Array) : Type 0 where
   pub writable : b.writable ≡ a.writable
   pub count : length b.numbers ≡ length a.numbers
 
-module _ (plan : Plan) (j home : ℕ) (ns : List ℕ) where
+module _ (plan : Placement) (j home : ℕ) (ns : List ℕ) where
   refilled_shape : (a : Array) → (plan.home j a.identity ≡ home → length ns ≡ length a.numbers) → SameShape a (refilled plan j home ns a)
   refilled_shape a fits = ⊎_elim
       (λ (e : (plan.home j a.identity == home) ≡ true). rw e (record { writable = refl; count = fits (eqb-true (plan.home j a.identity) home e) }))
@@ -107,22 +105,22 @@ module _ (plan : Plan) (j home : ℕ) (ns : List ℕ) where
       (λ (e : (plan.home j a.identity == home) ≡ false). rw e refl)
       (cases_Bool (plan.home j a.identity == home))
 
-  look : (i : ℕ) (arrays : List Array) → Fitting home ns (map (array_thing plan j) arrays)
+  look : (i : ℕ) (arrays : List Array) → Fitting home ns (map (array_object plan j) arrays)
       → SameShape (unwrap_or (keyed (λ (a : Array). a.identity) i arrays) no_array) (unwrap_or (keyed (λ (a : Array). a.identity) i (map (refilled plan j home ns) arrays)) no_array)
   look i [] fits = record { writable = refl; count = refl }
   look i (a ∷ more) fits =
-      let here = refilled_shape a (λ e. fits (array_thing plan j a) (inl refl) e) in
+      let here = refilled_shape a (λ e. fits (array_object plan j a) (inl refl) e) in
       let same : ((refilled plan j home ns a).identity == i) ≡ (a.identity == i) = ap (λ (n : ℕ). n == i) (refilled_identity a) in
       ⊎_elim
       (λ (e : (a.identity == i) ≡ true). let u : ((refilled plan j home ns a).identity == i) ≡ true = same ∙ e in rw (e, u) here)
       (λ (e : (a.identity == i) ≡ false). let u : ((refilled plan j home ns a).identity == i) ≡ false = same ∙ e in rw (e, u) (look i more (λ t int. fits t (inr int))))
       (cases_Bool (a.identity == i))
 
-  module _ (job : Job) (fits : Fitting home ns (map (array_thing plan j) job.arrays)) where
+  module _ (job : Job) (fits : Fitting home ns (map (array_object plan j) job.arrays)) where
     array_same : (i : ℕ) → SameShape (array job i) (array (job_refilled plan j home ns job) i)
     array_same i = look i job.arrays fits
 
-    shape_same : (spot : ℕ → Spot) (w : Word) → shape plan j (job_refilled plan j home ns job) spot w ≡ shape plan j job spot w
+    shape_same : (spot : ℕ → StackPlace) (w : Word) → shape plan j (job_refilled plan j home ns job) spot w ≡ shape plan j job spot w
     shape_same spot (Operand bits) = refl
     shape_same spot (Name c) = refl
     shape_same spot (Ref f o) = refl
@@ -137,11 +135,11 @@ module _ (plan : Plan) (j home : ℕ) (ns : List ℕ) where
     shape_same spot (Intrinsic n) = refl
     shape_same spot (Words.Segment n) = refl
 
-    shapes_same : (spot : ℕ → Spot) (ws : List Word) → map (shape plan j (job_refilled plan j home ns job) spot) ws ≡ map (shape plan j job spot) ws
+    shapes_same : (spot : ℕ → StackPlace) (ws : List Word) → map (shape plan j (job_refilled plan j home ns job) spot) ws ≡ map (shape plan j job spot) ws
     shapes_same spot [] = refl
     shapes_same spot (w ∷ ws) = ap (λ (s : Shape). s ∷ map (shape plan j (job_refilled plan j home ns job) spot) ws) (shape_same spot w) ∙ ap (λ (ss : List Shape). shape plan j job spot w ∷ ss) (shapes_same spot ws)
 
-    activations_same : (k : ℕ) (outer : ℕ → Spot) (fs : List Frame) → activations plan j (job_refilled plan j home ns job) k outer fs ≡ activations plan j job k outer fs
+    activations_same : (k : ℕ) (outer : ℕ → StackPlace) (fs : List Frame) → activations plan j (job_refilled plan j home ns job) k outer fs ≡ activations plan j job k outer fs
     activations_same k outer [] = refl
     activations_same k outer (f ∷ below) =
         let A : List Shape → List Activation → List Activation = λ cells rest. record { head = head (spot_in k outer below) f.standing; cells = cells } ∷ rest in
@@ -153,16 +151,9 @@ module _ (plan : Plan) (j home : ℕ) (ns : List ℕ) where
     slot_with_same k (Some t) =
         let S : List Activation → Slot = λ xs. if k == plan.running then Running xs else Waiting xs in
         let outer = outer_same plan j job (job_refilled plan j home ns job) refl t.critical t.parents in
-        ap S (activations_same k (outer_spots plan j (job_refilled plan j home ns job) t.critical t.parents) t.frames ∙ ap (λ (o : ℕ → Spot). activations plan j job k o t.frames) outer)
+        ap S (activations_same k (outer_spots plan j (job_refilled plan j home ns job) t.critical t.parents) t.frames ∙ ap (λ (o : ℕ → StackPlace). activations plan j job k o t.frames) outer)
 
-keyed-key : {A : Type 0} (key : A → ℕ) (n : ℕ) (xs : List A) (x : A) → keyed key n xs ≡ Some x → key x ≡ n
-keyed-key key n [] x e = absurd (none-some x e)
-keyed-key key n (z ∷ zs) x e = ⊎_elim
-    (λ (t : (key z == n) ≡ true). let same : z ≡ x = same_Some z x (rw t at e) in ap key (sym same) ∙ eqb-true (key z) n t)
-    (λ (t : (key z == n) ≡ false). keyed-key key n zs x (rw t at e))
-    (cases_Bool (key z == n))
-
-keyed_with : (plan : Plan) (home : ℕ) (ns : List ℕ) (j : ℕ) (jobs : List Member)
+keyed_with : (plan : Placement) (home : ℕ) (ns : List ℕ) (j : ℕ) (jobs : List SessionJob)
     → keyed number_of j (map (member_with plan home ns) jobs) ≡ option_map (member_with plan home ns) (keyed number_of j jobs)
 keyed_with plan home ns j [] = refl
 keyed_with plan home ns j (m ∷ more) = ⊎_elim
@@ -170,99 +161,99 @@ keyed_with plan home ns j (m ∷ more) = ⊎_elim
     (λ (e : (number_of m == j) ≡ false). rw e (keyed_with plan home ns j more))
     (cases_Bool (number_of m == j))
 
--- the arrays of a job are among the things
-array_among : (plan : Plan) (jobs : List Member) (m : Member) → Has jobs m → (t : Thing) → Has (map (array_thing plan m.setting.number) m.course.job.arrays) t → Has (flat_map (things_of plan) jobs) t
+-- the arrays of a job are among the objects
+array_among : (plan : Placement) (jobs : List SessionJob) (m : SessionJob) → Has jobs m → (t : PagedObject) → Has (map (array_object plan m.constants.number) m.progress.job.arrays) t → Has (flat_map (objects_of plan) jobs) t
 array_among plan [] m k t int = absurd k
 array_among plan (y ∷ ys) m (inl e) t int =
-    let P : Member → Type 0 = λ z. Has (map (array_thing plan z.setting.number) z.course.job.arrays) t in
-    has_append_left (things_of plan y) (flat_map (things_of plan) ys) t (has_append_right (code_things plan y.setting.number 1 y.setting.segments) (map (array_thing plan y.setting.number) y.course.job.arrays) t (subst P (sym e) int))
-array_among plan (y ∷ ys) m (inr k) t int = has_append_right (things_of plan y) (flat_map (things_of plan) ys) t (array_among plan ys m k t int)
+    let P : SessionJob → Type 0 = λ z. Has (map (array_object plan z.constants.number) z.progress.job.arrays) t in
+    has_append_left (objects_of plan y) (flat_map (objects_of plan) ys) t (has_append_right (code_objects plan y.constants.number 1 y.constants.segments) (map (array_object plan y.constants.number) y.progress.job.arrays) t (subst P (sym e) int))
+array_among plan (y ∷ ys) m (inr k) t int = has_append_right (objects_of plan y) (flat_map (objects_of plan) ys) t (array_among plan ys m k t int)
 
-module _ (plan : Plan) (home : ℕ) (ns : List ℕ) (jobs : List Member) (fits : Fitting home ns (flat_map (things_of plan) jobs)) where
-  slot_in_same : (k j task : ℕ) (o : Option Member) → keyed number_of j jobs ≡ o → slot_in plan k j task (option_map (member_with plan home ns) o) ≡ slot_in plan k j task o
+module _ (plan : Placement) (home : ℕ) (ns : List ℕ) (jobs : List SessionJob) (fits : Fitting home ns (flat_map (objects_of plan) jobs)) where
+  slot_in_same : (k j task : ℕ) (o : Option SessionJob) → keyed number_of j jobs ≡ o → slot_in plan k j task (option_map (member_with plan home ns) o) ≡ slot_in plan k j task o
   slot_in_same k j task None e = refl
   slot_in_same k j task (Some m) e =
-      let number : m.setting.number ≡ j = keyed-key number_of j jobs m e in
+      let number : m.constants.number ≡ j = (keyed_has number_of j jobs m e).1 in
       let among : Has jobs m = keyed-has number_of j jobs m e in
-      let own : Fitting home ns (map (array_thing plan m.setting.number) m.course.job.arrays) = λ t int. fits t (array_among plan jobs m among t int) in
-      let o = keyed (λ (t : Task). t.number) task m.course.job.tasks in
-      let P : ℕ → Type 0 = λ i. slot_with plan k i (job_refilled plan m.setting.number home ns m.course.job) o ≡ slot_with plan k i m.course.job o in
-      subst P number (slot_with_same plan m.setting.number home ns m.course.job own k o)
+      let own : Fitting home ns (map (array_object plan m.constants.number) m.progress.job.arrays) = λ t int. fits t (array_among plan jobs m among t int) in
+      let o = keyed (λ (t : Task). t.number) task m.progress.job.tasks in
+      let P : ℕ → Type 0 = λ i. slot_with plan k i (job_refilled plan m.constants.number home ns m.progress.job) o ≡ slot_with plan k i m.progress.job o in
+      subst P number (slot_with_same plan m.constants.number home ns m.progress.job own k o)
 
   slot_by_same : (k : ℕ) (o : Option Slotted) → slot_by plan (map (member_with plan home ns) jobs) k o ≡ slot_by plan jobs k o
   slot_by_same k None = refl
   slot_by_same k (Some r) = ap (slot_in plan k r.job r.task) (keyed_with plan home ns r.job jobs) ∙ slot_in_same k r.job r.task (keyed number_of r.job jobs) refl
 
-  -- the picture of the session with other numbers
-  pub picture_renumbered : renumbered (picture plan jobs) home ns ≡ picture plan (map (member_with plan home ns) jobs)
-  picture_renumbered =
-      let P : (ℕ → Slot) → List Thing → Picture = λ s things. record { stacks = plan.stacks; size = plan.size; peak = plan.peak; slots = s; things = things } in
+  -- the view of the session with other numbers
+  pub machine_view_renumbered : renumbered (machine_view plan jobs) home ns ≡ machine_view plan (map (member_with plan home ns) jobs)
+  machine_view_renumbered =
+      let P : (ℕ → Slot) → List PagedObject → MachineView = λ s objects. record { stacks = plan.stacks; size = plan.size; peak = plan.peak; slots = s; objects = objects } in
       let slots : slot_at plan jobs ≡ slot_at plan (map (member_with plan home ns) jobs) = λ z k. sym (slot_by_same k (keyed (λ (r : Slotted). r.slot) k plan.rows)) z in
-      ap (λ (s : ℕ → Slot). P s (map (renumber home ns) (flat_map (things_of plan) jobs))) slots
+      ap (λ (s : ℕ → Slot). P s (map (renumber home ns) (flat_map (objects_of plan) jobs))) slots
       ∙ ap (P (slot_at plan (map (member_with plan home ns) jobs))) (all_renumbered plan home ns jobs)
 
-recoded_count : (plan : Plan) (j home : ℕ) (ns : List ℕ) (n : ℕ) (segments : List Segment) → length (recoded plan j home ns n segments) ≡ length segments
+recoded_count : (plan : Placement) (j home : ℕ) (ns : List ℕ) (n : ℕ) (segments : List Segment) → length (recoded plan j home ns n segments) ≡ length segments
 recoded_count plan j home ns n [] = refl
 recoded_count plan j home ns n (s ∷ more) = ap suc (recoded_count plan j home ns (n + 1) more)
 
-pub alike_renumbered : (plan : Plan) (home : ℕ) (ns : List ℕ) (jobs : List Member) → AllAlike jobs (map (member_with plan home ns) jobs)
+pub alike_renumbered : (plan : Placement) (home : ℕ) (ns : List ℕ) (jobs : List SessionJob) → AllAlike jobs (map (member_with plan home ns) jobs)
 alike_renumbered plan home ns [] = tt
 alike_renumbered plan home ns (m ∷ more) =
-    (record { number = refl; stack_size = refl; dictionary = refl; count = recoded_count plan m.setting.number home ns 1 m.setting.segments; tasks = refl }, alike_renumbered plan home ns more)
+    (record { number = refl; stack_size = refl; dictionary = refl; count = recoded_count plan m.constants.number home ns 1 m.constants.segments; tasks = refl }, alike_renumbered plan home ns more)
 
-module _ (plan : Plan) (home : ℕ) (ns : List ℕ) (bits : AllByRecursion (λ (n : ℕ). n < 2 ^ 48) ns) where
-  recoded_other : (j n : ℕ) (segments : List Segment) → AllByRecursion SegmentInOrder segments → Fitting home ns (code_things plan j n segments) → Recoded segments (recoded plan j home ns n segments)
+module _ (plan : Placement) (home : ℕ) (ns : List ℕ) (bits : AllByRecursion (λ (n : ℕ). n < 2 ^ 48) ns) where
+  recoded_other : (j n : ℕ) (segments : List Segment) → AllByRecursion SegmentInOrder segments → Fitting home ns (code_objects plan j n segments) → Recoded segments (recoded plan j home ns n segments)
   recoded_other j n [] order fits = tt
   recoded_other j n (s ∷ more) order fits =
-      let thing : Thing = record { home = plan.dictionary j + 1 + n; kind = kind.Code; numbers = s.code } in
+      let object : PagedObject = record { home = plan.dictionary j + 1 + n; kind = kind.Code; numbers = s.code } in
       let here : Renumbers s.code (if plan.dictionary j + 1 + n == home then record s { code = ns } else s).code = ⊎_elim
-      (λ (e : (plan.dictionary j + 1 + n == home) ≡ true). rw e (record { count = fits thing (inl refl) (eqb-true (plan.dictionary j + 1 + n) home e); bits = bits }))
+      (λ (e : (plan.dictionary j + 1 + n == home) ≡ true). rw e (record { count = fits object (inl refl) (eqb-true (plan.dictionary j + 1 + n) home e); bits = bits }))
       (λ (e : (plan.dictionary j + 1 + n == home) ≡ false). rw e (record { count = refl; bits = order.0.words }))
       (cases_Bool (plan.dictionary j + 1 + n == home)) in
       (here, recoded_other j (n + 1) more order.1 (λ t int. fits t (inr int)))
 
-  refilled_other : (j : ℕ) (arrays : List Array) → AllByRecursion ArrayInOrder arrays → Fitting home ns (map (array_thing plan j) arrays) → Refilled arrays (map (refilled plan j home ns) arrays)
+  refilled_other : (j : ℕ) (arrays : List Array) → AllByRecursion ArrayInOrder arrays → Fitting home ns (map (array_object plan j) arrays) → Refilled arrays (map (refilled plan j home ns) arrays)
   refilled_other j [] order fits = tt
   refilled_other j (a ∷ more) order fits =
       let here : RefilledArray a (refilled plan j home ns a) = ⊎_elim
-      (λ (e : (plan.home j a.identity == home) ≡ true). rw e (record { identity = refl; owner = refl; writable = refl; numbers = record { count = fits (array_thing plan j a) (inl refl) (eqb-true (plan.home j a.identity) home e); bits = bits } }))
+      (λ (e : (plan.home j a.identity == home) ≡ true). rw e (record { identity = refl; owner = refl; writable = refl; numbers = record { count = fits (array_object plan j a) (inl refl) (eqb-true (plan.home j a.identity) home e); bits = bits } }))
       (λ (e : (plan.home j a.identity == home) ≡ false). rw e (record { identity = refl; owner = refl; writable = refl; numbers = record { count = refl; bits = order.0.words } }))
       (cases_Bool (plan.home j a.identity == home)) in
       (here, refilled_other j more order.1 (λ t int. fits t (inr int)))
 
-  others_from : (jobs : List Member) → AllByRecursion (λ (m : Member). JobInOrder (IsSegment m.setting) m.setting m.course) jobs → Fitting home ns (flat_map (things_of plan) jobs)
+  others_from : (jobs : List SessionJob) → AllByRecursion (λ (m : SessionJob). JobInOrder (IsSegment m.constants) m.constants m.progress) jobs → Fitting home ns (flat_map (objects_of plan) jobs)
       → AllOtherNumbers jobs (map (member_with plan home ns) jobs)
   others_from [] order fits = tt
   others_from (m ∷ more) order fits =
-      let own : Fitting home ns (things_of plan m) = λ t int. fits t (has_append_left (things_of plan m) (flat_map (things_of plan) more) t int) in
-      let j = m.setting.number in
-      let code = code_things plan j 1 m.setting.segments in
-      let filled = map (array_thing plan j) m.course.job.arrays in (
+      let own : Fitting home ns (objects_of plan m) = λ t int. fits t (has_append_left (objects_of plan m) (flat_map (objects_of plan) more) t int) in
+      let j = m.constants.number in
+      let code = code_objects plan j 1 m.constants.segments in
+      let filled = map (array_object plan j) m.progress.job.arrays in (
         record {
-          segments = recoded_other j 1 m.setting.segments order.0.unchanging.segments (λ t int. own t (has_append_left code filled t int));
-          arrays = refilled_other j m.course.job.arrays order.0.tasks.arrays (λ t int. own t (has_append_right code filled t int));
+          segments = recoded_other j 1 m.constants.segments order.0.unchanging.segments (λ t int. own t (has_append_left code filled t int));
+          arrays = refilled_other j m.progress.job.arrays order.0.tasks.arrays (λ t int. own t (has_append_right code filled t int));
           rest = refl;
         },
-        others_from more order.1 (λ t int. fits t (has_append_right (things_of plan m) (flat_map (things_of plan) more) t int)),
+        others_from more order.1 (λ t int. fits t (has_append_right (objects_of plan m) (flat_map (objects_of plan) more) t int)),
       )
 
-renumbered_home : (home : ℕ) (ns : List ℕ) (t : Thing) → (renumber home ns t).home ≡ t.home
+renumbered_home : (home : ℕ) (ns : List ℕ) (t : PagedObject) → (renumber home ns t).home ≡ t.home
 renumbered_home home ns t = ⊎_elim (λ (e : (t.home == home) ≡ true). rw e refl) (λ (e : (t.home == home) ≡ false). rw e refl) (cases_Bool (t.home == home))
 
-renumbered_from : (home : ℕ) (ns : List ℕ) (ts : List Thing) (t : Thing) → Has (map (renumber home ns) ts) t → (u : Thing) × Has ts u × (t.home ≡ u.home)
+renumbered_from : (home : ℕ) (ns : List ℕ) (ts : List PagedObject) (t : PagedObject) → Has (map (renumber home ns) ts) t → (u : PagedObject) × Has ts u × (t.home ≡ u.home)
 renumbered_from home ns [] t k = absurd k
-renumbered_from home ns (u ∷ us) t (inl e) = (u, inl refl, ap (λ (x : Thing). x.home) (sym e) ∙ renumbered_home home ns u)
+renumbered_from home ns (u ∷ us) t (inl e) = (u, inl refl, ap (λ (x : PagedObject). x.home) (sym e) ∙ renumbered_home home ns u)
 renumbered_from home ns (u ∷ us) t (inr k) = let (v, inv, e) = renumbered_from home ns us t k in (v, inr inv, e)
 
-pub settled_renumbered : (p : Picture) (home : ℕ) (ns : List ℕ) → Settled p → Settled (renumbered p home ns)
+pub settled_renumbered : (p : MachineView) (home : ℕ) (ns : List ℕ) → NoOriginalAboveTop p → NoOriginalAboveTop (renumbered p home ns)
 settled_renumbered p home ns s t int k used low up =
-    let (u, inu, e) = renumbered_from home ns p.things t int in
-    subst (λ (a : ℕ). a ≤ slot_base p k + high (stack_of (p.slots k))) (sym e) (s u inu k used (subst (λ (a : ℕ). slot_base p k ≤ a) e low) (subst (λ (a : ℕ). a < slot_base p k + p.size) e up))
+    let (u, inu, e) = renumbered_from home ns p.objects t int in
+    subst (λ (a : ℕ). a ≤ slot_base p k + stack_words (stack_of (p.slots k))) (sym e) (s u inu k used (subst (λ (a : ℕ). slot_base p k ≤ a) e low) (subst (λ (a : ℕ). a < slot_base p k + p.size) e up))
 
 -- the session that the machine then stands for
-abbrev pub session_renumbered : Plan → ℕ → List ℕ → Session → Session
+abbrev pub session_renumbered : Placement → ℕ → List ℕ → Session → Session
 session_renumbered plan home ns s = record s { jobs = map (member_with plan home ns) s.jobs }
 
-pub order_renumbered : (plan : Plan) (home : ℕ) (ns : List ℕ) (s : Session) → AllByRecursion (λ (n : ℕ). n < 2 ^ 48) ns → Fitting home ns (flat_map (things_of plan) s.jobs)
+pub order_renumbered : (plan : Placement) (home : ℕ) (ns : List ℕ) (s : Session) → AllByRecursion (λ (n : ℕ). n < 2 ^ 48) ns → Fitting home ns (flat_map (objects_of plan) s.jobs)
     → IsInOrderButPlaces s → IsInOrderButPlaces (session_renumbered plan home ns s)
 order_renumbered plan home ns s bits fits order = other_numbers_keep_order s (map (member_with plan home ns) s.jobs) (others_from plan home ns bits s.jobs order.jobs fits) order

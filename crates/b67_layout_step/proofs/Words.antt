@@ -1,29 +1,19 @@
 -- The array that a word names, a reference leads to, or an end is in.
-use Rattle.std.proofs.Common.{◌≡◌, ℕ, zero, suc, ◌-◌, ltb, List, [], ◌∷◌, flat_map, reverse, length, Option, Some, None, unwrap_or, Ok, Err, refl, subst, inl, inr, ◌⊎◌, ◌==◌}
-use Rattle.std.specs.Option.{ok_or}
+use Rattle.std.proofs.Common.{◌≡◌, ℕ, zero, suc, List, [], ◌∷◌, flat_map, length, Option, Some, None, unwrap_or, Ok, Err, refl, subst, inl, inr, ◌⊎◌, ◌==◌}
 use Rattle.std.proofs.lemmas.Bool.{cases_Bool}
-use Rattle.b67_word.specs.declared.faults.Fault.TheVariants.{InvalidAddress}
 use Rattle.b67_model.specs.Answers.{Answer}
 use Rattle.b67_model.specs.Keyed.{keyed, change_keyed}
 use Rattle.b67_lemmas.specs.Lists.{Has}
+use Rattle.b67_lemmas.proofs.Members.{all_in, has_append_cases, keyed_has, has_flat_back}
 use Rattle.b67_model.specs.Arrays.{array}
 use Rattle.b67_model.specs.Indexing.{array_at, array_of, index_below, indexed}
 use Rattle.b67_model.specs.Words as Words
 use Rattle.b67_model.specs.Words.{Word, Operand, Name, Ref, Row, Element, Original, Proc, Intrinsic, operand, number}
-use Rattle.b67_model.specs.State.{Frame, Task, Here, mcp, no_frame, all_frames, frame, top, below_top}
-use Rattle.b67_model.specs.Cells.{first_offset, cell_of, cell, place_of}
+use Rattle.b67_model.specs.State.{Frame, Task, OperatorContext, mcp, no_frame, all_frames, frame, top, below_top}
+use Rattle.b67_model.specs.Cells.{cell, place_of}
 use Rattle.b67_model.specs.Chase.{End, AtCell, AtElement, AtArray, AtProc, AtIntrinsic, Link, Stops, Leads, element_end, link_at, link_in, link_from, link, chase_on, chase, follow}
-use Rattle.b67_law_order.proofs.Members.{has_append_cases, has_get, has_reverse_back, keyed_has, all_in}
 use Rattle.b67_law_order.proofs.Posts.{Post, post_ok, post_err, post_bind, post_any, post_if}
-use Rattle.b67_law_order.proofs.Chases.{some_ok}
-
--- an item of joined lists stands in one of them
-pub has_flat_back : (ts : List Task) (f : Frame) → Has (flat_map (λ (t : Task). t.frames) ts) f → (t : Task) × Has ts t × Has t.frames f
-has_flat_back [] f h = absurd h
-has_flat_back (t ∷ ts) f h = elim (has_append_cases t.frames (flat_map (λ (u : Task). u.frames) ts) f h) [
-  | inl m ↦ (t, inl refl, m)
-  | inr m ↦ let r = has_flat_back ts f m in (r.0, inr r.1, r.2)
-]
+use Rattle.b67_law_order.proofs.Chases.{cell_has}
 
 -- a task put in the place of another
 pub has_put : (n : ℕ) (new : Task) (ts : List Task) (t : Task) → Has (change_keyed (λ (u : Task). u.number) n (λ (u : Task). new) ts) t → (new ≡ t) ⊎ Has ts t
@@ -32,14 +22,6 @@ has_put n new (u ∷ us) t h = elim (cases_Bool (u.number == n)) [
   | inl q ↦ elim (rw q at h) [ inl e ↦ inl e | inr m ↦ inr (inr m) ]
   | inr q ↦ elim (rw q at h) [ inl e ↦ inr (inl e) | inr m ↦ elim (has_put n new us t m) [ inl e ↦ inl e | inr k ↦ inr (inr k) ] ]
 ]
-
-cell_has : (f : Frame) (offset : ℕ) (w : Word) → ok_or (cell_of f offset) InvalidAddress ≡ Ok w → Has f.cells w
-cell_has f offset w e =
-    let some : cell_of f offset ≡ Some w = some_ok (cell_of f offset) InvalidAddress w e in
-    elim (cases_Bool (ltb offset (first_offset f))) [
-      | inl t ↦ let no : None ≡ Some w = rw t at some in cc
-      | inr t ↦ has_reverse_back f.cells w (has_get (reverse f.cells) (offset - first_offset f) w (rw t at some))
-    ]
 
 -- a fact of the arrays that words name
 module _ (T : ℕ → Type 0) where
@@ -56,10 +38,10 @@ module _ (T : ℕ → Type 0) where
   FramesName frames = (f : Frame) → Has frames f → AllName f.cells
 
   -- the words of all frames that the running task could name
-  pub record Holds (h : Here) : Type 0 where
+  pub record Holds (h : OperatorContext) : Type 0 where
     pub tasks : (t : Task) → Has h.job.tasks t → FramesName t.frames
     pub own : FramesName h.task.frames
-    pub dictionary : AllName h.setting.dictionary.cells
+    pub dictionary : AllName h.constants.dictionary.cells
 
   pub below_names : (frames : List Frame) → FramesName frames → FramesName (below_top frames)
   below_names [] all f k = absurd k
@@ -75,20 +57,20 @@ module _ (T : ℕ → Type 0) where
   mcp_names : AllName mcp.cells
   mcp_names w k = all_in Names mcp.cells w (tt, (tt, (tt, (tt, (tt, (tt, (tt, (tt, (tt, (tt, (tt, tt))))))))))) k
 
-  frame_names : (h : Here) → Holds h → FramesName (all_frames h)
-  frame_names h s f k = elim (has_append_cases (flat_map (λ (t : Task). t.frames) h.job.tasks) (h.setting.dictionary ∷ mcp ∷ []) f k) [
-    | inl m ↦ let r = has_flat_back h.job.tasks f m in s.tasks r.0 r.1 f r.2
+  frame_names : (h : OperatorContext) → Holds h → FramesName (all_frames h)
+  frame_names h s f k = elim (has_append_cases (flat_map (λ (t : Task). t.frames) h.job.tasks) (h.constants.dictionary ∷ mcp ∷ []) f k) [
+    | inl m ↦ let r = has_flat_back (λ (t : Task). t.frames) h.job.tasks f m in s.tasks r.item r.among f r.inside
     | inr m ↦ elim m [
       | inl e ↦ subst (λ (x : Frame). AllName x.cells) e s.dictionary
       | inr n ↦ elim n [ inl e ↦ subst (λ (x : Frame). AllName x.cells) e mcp_names | inr x ↦ absurd x ]
     ]
   ]
 
-  found_names : (h : Here) → Holds h → (n : ℕ) (o : Option Frame) → keyed (λ (f : Frame). f.identity) n (all_frames h) ≡ o → AllName (unwrap_or o no_frame).cells
+  found_names : (h : OperatorContext) → Holds h → (n : ℕ) (o : Option Frame) → keyed (λ (f : Frame). f.identity) n (all_frames h) ≡ o → AllName (unwrap_or o no_frame).cells
   found_names h s n None e w k = absurd k
   found_names h s n (Some f) e w k = frame_names h s f (keyed_has (λ (x : Frame). x.identity) n (all_frames h) f e).0 w k
 
-  cell_names : (h : Here) → Holds h → (n offset : ℕ) (w : Word) → cell h n offset ≡ Ok w → Names w
+  cell_names : (h : OperatorContext) → Holds h → (n offset : ℕ) (w : Word) → cell h n offset ≡ Ok w → Names w
   cell_names h s n offset w e = found_names h s n (keyed (λ (f : Frame). f.identity) n (all_frames h)) refl w (cell_has (frame h n) offset w e)
 
   abbrev pub EndNames : End → Type 0
@@ -101,10 +83,10 @@ module _ (T : ℕ → Type 0) where
   LinkNames (Leads w) = Unit {0}
 
   -- whatever the index is, the array is named
-  element_names : (h : Here) (a index : ℕ) → T a → Post EndNames (element_end h a index)
+  element_names : (h : OperatorContext) (a index : ℕ) → T a → Post EndNames (element_end h a index)
   element_names h a index g = post_if EndNames (ltb index (length (array h.job a).numbers)) _ _ (post_ok EndNames (AtElement a index) g) (post_err EndNames _)
 
-  link_word : (h : Here) (f offset : ℕ) (w : Word) → Names w → LinkNames (link_at h f offset w)
+  link_word : (h : OperatorContext) (f offset : ℕ) (w : Word) → Names w → LinkNames (link_at h f offset w)
   link_word h f offset (Operand bits) g = post_ok EndNames _ tt
   link_word h f offset (Name couple) g = tt
   link_word h f offset (Ref identity other) g = tt
@@ -115,7 +97,7 @@ module _ (T : ℕ → Type 0) where
   link_word h f offset (Intrinsic n) g = post_ok EndNames _ tt
   link_word h f offset (Words.Segment n) g = post_err EndNames _
 
-  module _ (h : Here) (s : Holds h) where
+  module _ (h : OperatorContext) (s : Holds h) where
     link_cell : (f offset : ℕ) (a : Answer Word) → cell h f offset ≡ a → LinkNames (link_in h f offset a)
     link_cell f offset (Err fault) e = post_err EndNames fault
     link_cell f offset (Ok w) e = link_word h f offset w (cell_names h s f offset w e)

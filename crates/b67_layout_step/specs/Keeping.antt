@@ -4,7 +4,7 @@ use Rattle.b67_model.specs.declared.operators.Op.{Op}
 use Rattle.b67_model.specs.declared.operators.Op.TheVariants.{Plain}
 use Rattle.b67_model.specs.declared.operators.Code.TheVariants.{Exit, Retn}
 use Rattle.b67_lemmas.specs.Lists.{Has}
-use Rattle.b67_model.specs.State.{Array, Task, Job, Member, Here}
+use Rattle.b67_model.specs.State.{Array, Task, Job, SessionJob, OperatorContext}
 use Rattle.b67_model.specs.Steps.{Line, Goes}
 use Rattle.b67_model.specs.Rows.{row, step}
 use Rattle.b67_model.specs.Schedule.{Session}
@@ -20,12 +20,12 @@ is_leaving _ = false
 -- an operator that leaves no activation record keeps all arrays
 abbrev pub RowsKeepArrays : Type 0
 RowsKeepArrays =
-    (op : Op) (h : Here) → is_leaving op ≡ false → (after : Job) (printed : List Line) (touched : Option ℕ)
+    (op : Op) (h : OperatorContext) → is_leaving op ≡ false → (after : Job) (printed : List Line) (touched : Option ℕ)
     → row op h ≡ Ok (Goes after printed touched) → gone h.job after ≡ []
 
 -- a step of a session in order touches an array of its job alone
 abbrev pub StepsTouchArrays : Type 0
 StepsTouchArrays =
-    (s : Session) (m : Member) (t : Task) → IsInOrderButPlaces s → Has s.jobs m → Has m.course.job.tasks t
-    → (after : Job) (printed : List Line) (touched : ℕ) → step m.setting m.course.job t ≡ Ok (Goes after printed (Some touched))
-    → (a : Array) × Has m.course.job.arrays a × (a.identity ≡ touched)
+    (s : Session) (m : SessionJob) (t : Task) → IsInOrderButPlaces s → Has s.jobs m → Has m.progress.job.tasks t
+    → (after : Job) (printed : List Line) (touched : ℕ) → step m.constants m.progress.job t ≡ Ok (Goes after printed (Some touched))
+    → (a : Array) × Has m.progress.job.arrays a × (a.identity ≡ touched)

@@ -2,17 +2,17 @@
 use Rattle.std.proofs.Common.{◌≢◌, ℕ, ◌<◌, ◌≤◌, ◌⊎◌, ⊎_elim, List, refl, ◌∙◌, arith}
 use Rattle.b67_word.specs.Tagged.{Tagged}
 use Rattle.b67_ctl.specs.declared.registers.Regs.{Regs}
-use Rattle.b67_stack.specs.Picture.{Picture}
-use Rattle.b67_stack.specs.Stands.{Storage, Stands}
+use Rattle.b67_stack.specs.MachineView.{MachineView}
+use Rattle.b67_stack.specs.Represents.{Storage, Represents}
 use Rattle.b67_layout_storage.specs.Machine.{Stayed}
 
-pub Stayed-none : (p : Picture) (core : List Tagged) → Stayed p core core
+pub Stayed-none : (p : MachineView) (core : List Tagged) → Stayed p core core
 Stayed-none p core = λ i low out apart. refl
 
-pub Stayed-then : (p : Picture) (core mid new : List Tagged) → Stayed p core mid → Stayed p mid new → Stayed p core new
+pub Stayed-then : (p : MachineView) (core mid new : List Tagged) → Stayed p core mid → Stayed p mid new → Stayed p core new
 Stayed-then p core mid new a b = λ i low out apart. b i low out apart ∙ a i low out apart
 
-pub stacks_low : (x : Storage) (core : List Tagged) (r : Regs) (p : Picture) → Stands x core r p → p.stacks ≤ x.low
+pub stacks_low : (x : Storage) (core : List Tagged) (r : Regs) (p : MachineView) → Represents x core r p → p.stacks ≤ x.low
 stacks_low x core r p s = omega (arith, s.slots.laid.low)
 
 pub not_heads : (i : ℕ) → (i < 152) ⊎ (160 ≤ i) → i ≢ 152

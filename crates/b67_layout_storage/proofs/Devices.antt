@@ -1,12 +1,12 @@
 -- A device over several calls.
-use Rattle.std.proofs.Common.{◌≡◌, ℕ, ◌≤◌, List, Option, Some, refl, ◌∙◌, arith}
+use Rattle.std.proofs.Common.{◌≡◌, ℕ, ◌≤◌, List, Option, Some, refl, ◌∙◌, arith, None}
 use Rattle.b67_backing.specs.Held.{Becomes}
-use Rattle.b67_layout_storage.specs.Machine.{Served}
+use Rattle.b67_layout_storage.specs.Machine.{DeviceAfterCalls, Says}
 
-pub Served-none : {D : Type 0} (holds : D → Option (List (List ℕ))) (size calls faults : D → ℕ) (d : D) → Served holds size calls faults d d
+pub Served-none : {D : Type 0} (holds : D → Option (List (List ℕ))) (size calls faults : D → ℕ) (d : D) → DeviceAfterCalls holds size calls faults d d
 Served-none {D} holds size calls faults d = record { size = refl; calls = omega arith; faults = omega arith; tells = record { told = λ x e. (x, e, refl) } }
 
-pub Served-then : {D : Type 0} (holds : D → Option (List (List ℕ))) (size calls faults : D → ℕ) (d e f : D) → Served holds size calls faults d e → Served holds size calls faults e f → Served holds size calls faults d f
+pub Served-then : {D : Type 0} (holds : D → Option (List (List ℕ))) (size calls faults : D → ℕ) (d e f : D) → DeviceAfterCalls holds size calls faults d e → DeviceAfterCalls holds size calls faults e f → DeviceAfterCalls holds size calls faults d f
 Served-then {D} holds size calls faults d e f a b = record {
   size = b.size ∙ a.size;
   calls = omega (arith, a.calls, b.calls);
@@ -15,8 +15,16 @@ Served-then {D} holds size calls faults d e f a b = record {
 }
 
 -- a device whose sectors stayed
-pub Served-same : {D : Type 0} (holds : D → Option (List (List ℕ))) (size calls faults : D → ℕ) (d e : D) → size e ≡ size d → calls d ≤ calls e → faults d ≤ faults e → Becomes holds d e (λ all. all) → Served holds size calls faults d e
+pub Served-same : {D : Type 0} (holds : D → Option (List (List ℕ))) (size calls faults : D → ℕ) (d e : D) → size e ≡ size d → calls d ≤ calls e → faults d ≤ faults e → Becomes holds d e (λ all. all) → DeviceAfterCalls holds size calls faults d e
 Served-same {D} holds size calls faults d e a b c k = record { size = a; calls = b; faults = c; tells = record { told = λ x is. (x, k.told x is, refl) } }
 
-pub still_tells : {D : Type 0} (holds : D → Option (List (List ℕ))) (size calls faults : D → ℕ) (d e : D) → Served holds size calls faults d e → (all : List (List ℕ)) → holds d ≡ Some all → (y : List (List ℕ)) × (holds e ≡ Some y)
+pub still_tells : {D : Type 0} (holds : D → Option (List (List ℕ))) (size calls faults : D → ℕ) (d e : D) → DeviceAfterCalls holds size calls faults d e → (all : List (List ℕ)) → holds d ≡ Some all → (y : List (List ℕ)) × (holds e ≡ Some y)
 still_tells {D} holds size calls faults d e s all is = let (y, i, l) = s.tells.told all is in (y, i)
+
+pub says_of : (d told : Option (List (List ℕ))) → told ≡ d → Says d told
+says_of None told e = tt
+says_of (Some all) told e = e
+
+pub says_self : (told : Option (List (List ℕ))) → Says told told
+says_self None = tt
+says_self (Some all) = refl

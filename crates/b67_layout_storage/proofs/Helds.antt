@@ -1,25 +1,25 @@
--- How things are held, where one is held otherwise.
+-- How objects are held, where one is held otherwise.
 use Rattle.std.proofs.Common.{◌≡◌, ◌≢◌, ℕ, ◌==◌, Bool, true, false, refl, sym, ap}
 use Rattle.std.specs.Prelude.{if◌then◌else◌}
 use Rattle.std.proofs.lemmas.Bool.{eq-eqb, ne_eqb, eqb-true}
-use Rattle.b67_stack.specs.Shapes.{Held, Map}
+use Rattle.b67_stack.specs.Shapes.{Location, Locations}
 use Rattle.b67_layout_storage.specs.Machine.{with_held}
 
-pub held-other : (held : Map) (home : ℕ) (h : Held) (q : ℕ) → q ≢ home → with_held held home h q ≡ held q
+pub held-other : (held : Locations) (home : ℕ) (h : Location) (q : ℕ) → q ≢ home → with_held held home h q ≡ held q
 held-other held home h q n = rw (ne_eqb q home n) refl
 
-pub held-same : (held : Map) (home : ℕ) (h : Held) → with_held held home h home ≡ h
+pub held-same : (held : Locations) (home : ℕ) (h : Location) → with_held held home h home ≡ h
 held-same held home h = rw (eq-eqb home home refl) refl
 
 -- what is held as before
-pub held-back : (held : Map) (home : ℕ) → with_held held home (held home) ≡ held
+pub held-back : (held : Locations) (home : ℕ) → with_held held home (held home) ≡ held
 held-back held home = let same : (q : ℕ) → with_held held home (held home) q ≡ held q = λ q. by_test q (q == home) refl in λ i q. same q i where
   by_test : (q : ℕ) (b : Bool) → (q == home) ≡ b → (if q == home then held home else held q) ≡ held q
   by_test q true e = rw e (ap held (sym (eqb-true q home e)))
   by_test q false e = rw e refl
 
 -- what is held otherwise twice
-pub held-twice : (held : Map) (home : ℕ) (g h : Held) → with_held (with_held held home g) home h ≡ with_held held home h
+pub held-twice : (held : Locations) (home : ℕ) (g h : Location) → with_held (with_held held home g) home h ≡ with_held held home h
 held-twice held home g h = let same : (q : ℕ) → with_held (with_held held home g) home h q ≡ with_held held home h q = λ q. by_test q (q == home) refl in λ i q. same q i where
   by_test : (q : ℕ) (b : Bool) → (q == home) ≡ b → (if q == home then h else (if q == home then g else held q)) ≡ (if q == home then h else held q)
   by_test q true e = rw e refl

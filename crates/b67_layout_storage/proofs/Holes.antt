@@ -5,17 +5,17 @@ use Rattle.std.proofs.lemmas.Option.{same_Some, none-some}
 use Rattle.b67_area.specs.declared.kinds.Info.{Info}
 use Rattle.b67_area.specs.Spans.{Span, Area, Hole, left, spot, address, fill, join, without}
 use Rattle.b67_area.specs.Directory.{AreSpans, NoHole}
-use Rattle.b67_layout_storage.specs.Machine.{HasRoom}
+use Rattle.b67_layout_storage.specs.Machine.{HasHole}
 
-pub spot_none : (n at : ℕ) (ss : List Span) → spot n at ss ≡ None → HasRoom n ss → ⊥
+pub spot_none : (n at : ℕ) (ss : List Span) → spot n at ss ≡ None → HasHole n ss → ⊥
 spot_none n at [] e h = h
 spot_none n at (Area a ∷ ss) e h = spot_none n (at + (a.words + 2)) ss e h
 spot_none n at (Hole m ∷ ss) e h = ⊎_elim
-    (λ (l : m < n). ⊎_elim (λ (g : n ≤ m). absurd (omega arith)) (λ (r : HasRoom n ss). spot_none n (at + m) ss (rw (lt-leb n m l) at e) r) h)
+    (λ (l : m < n). ⊎_elim (λ (g : n ≤ m). absurd (omega arith)) (λ (r : HasHole n ss). spot_none n (at + m) ss (rw (lt-leb n m l) at e) r) h)
     (λ (l : n ≤ m). none-some at (sym (rw (le-leb n m l) at e)))
     (cases_lt m n)
 
-pub spot_room : (n at : ℕ) (ss : List Span) (z : ℕ) → spot n at ss ≡ Some z → HasRoom n ss
+pub spot_room : (n at : ℕ) (ss : List Span) (z : ℕ) → spot n at ss ≡ Some z → HasHole n ss
 spot_room n at [] z e = absurd (none-some z e)
 spot_room n at (Area a ∷ ss) z e = spot_room n (at + (a.words + 2)) ss z e
 spot_room n at (Hole m ∷ ss) z e = ⊎_elim
@@ -23,9 +23,9 @@ spot_room n at (Hole m ∷ ss) z e = ⊎_elim
     (λ (l : n ≤ m). inl l)
     (cases_lt m n)
 
-pub no_place : (n at : ℕ) (ss : List Span) → None ≡ address (spot n at ss) → HasRoom n ss → ⊥
+pub no_place : (n at : ℕ) (ss : List Span) → None ≡ address (spot n at ss) → HasHole n ss → ⊥
 no_place n at ss e = by (spot n at ss) refl where
-  by : (o : Option ℕ) → spot n at ss ≡ o → HasRoom n ss → ⊥
+  by : (o : Option ℕ) → spot n at ss ≡ o → HasHole n ss → ⊥
   by None z h = spot_none n at ss z h
   by (Some b) z h = none-some (b + 1) (e ∙ ap address z)
 
@@ -35,7 +35,7 @@ place_spot n at ss x e = by (spot n at ss) refl where
   by None z = absurd (none-some x (sym (e ∙ ap address z)))
   by (Some b) z = (b, z, same_Some x (b + 1) (e ∙ ap address z))
 
-pub place_room : (n at : ℕ) (ss : List Span) (x : ℕ) → Some x ≡ address (spot n at ss) → HasRoom n ss
+pub place_room : (n at : ℕ) (ss : List Span) (x : ℕ) → Some x ≡ address (spot n at ss) → HasHole n ss
 place_room n at ss x e = let p = place_spot n at ss x e in spot_room n at ss p.0 p.1
 
 spot_low : (n at : ℕ) (ss : List Span) (z : ℕ) → spot n at ss ≡ Some z → at ≤ z

@@ -7,3 +7,4 @@ pub mod Holes
 pub mod Devices
 pub mod Below
 pub mod Untold
+pub mod Chained

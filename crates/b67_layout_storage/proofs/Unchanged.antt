@@ -1,4 +1,4 @@
--- Core was changed where no picture looks; and what any storage tells of areas and homes.
+-- Core was changed where no view looks; and what any storage tells of areas and homes.
 use Rattle.std.proofs.Common.{◌≡◌, ◌≢◌, ℕ, suc, ◌+◌, ◌<◌, ◌≤◌, List, [], ◌∷◌, length, Some, refl, sym, ◌∙◌, ap, arith, inl, inr, ◌⊎◌, ⊎_elim}
 use Rattle.std.specs.List.{slice_get}
 use Rattle.std.proofs.lemmas.Bool.{cases_eq}
@@ -13,37 +13,37 @@ use Rattle.b67_area.proofs.Laws.{area_inside, areas_apart}
 use Rattle.b67_lemmas.specs.Lists.{Has}
 use Rattle.b67_ctl.specs.declared.registers.Regs.{Regs}
 use Rattle.b67_stack.specs.Shapes.{Fits}
-use Rattle.b67_stack.specs.Stacks.{Activation, high, words}
-use Rattle.b67_stack.specs.Picture.{Thing, Picture, Slot, Free, Running, Waiting, stack_of, slot_base, SlotFits}
-use Rattle.b67_stack.specs.Stands.{Storage, SlotStands, info_of, Stands}
+use Rattle.b67_stack.specs.Stacks.{Activation, stack_words, words}
+use Rattle.b67_stack.specs.MachineView.{PagedObject, MachineView, Slot, Free, Running, Waiting, stack_of, slot_base, SlotFits}
+use Rattle.b67_stack.specs.Represents.{Storage, RepresentsSlot, info_of, Represents}
 use Rattle.b67_stack.proofs.Bases.{base-apart}
 use Rattle.b67_stack.proofs.Heights.{words-length}
 use Rattle.b67_stack.proofs.Lies.{Lie-same}
-use Rattle.b67_layout_storage.proofs.Reheld.{SlotsStand-same, Content-stays}
+use Rattle.b67_layout_storage.proofs.Reheld.{RepresentsSlots-same, Content-stays}
 
-module _ (x : Storage) (core : List Tagged) (r : Regs) (p : Picture) (s : Stands x core r p) where
-  -- a thing's area
-  pub area_of_thing : (u : Thing) → Has p.things u → (b : ℕ) → (x.held u.home).area ≡ Some b → area_at x.low x.spans b ≡ Some (info_of x u)
-  area_of_thing u inu b e =
+module _ (x : Storage) (core : List Tagged) (r : Regs) (p : MachineView) (s : Represents x core r p) where
+  -- an object's area
+  pub area_of_object : (u : PagedObject) → Has p.objects u → (b : ℕ) → (x.held u.home).area ≡ Some b → area_at x.low x.spans b ≡ Some (info_of x u)
+  area_of_object u inu b e =
       let o = s.owned.of_held u.home b e in
-      o.3 ∙ ap (λ (v : Thing). Some (info_of x v)) (s.slots.laid.differ o.0 u o.1 inu o.2)
+      o.3 ∙ ap (λ (v : PagedObject). Some (info_of x v)) (s.slots.laid.differ o.0 u o.1 inu o.2)
 
-  pub area_bounds : (u : Thing) → Has p.things u → (b : ℕ) → (x.held u.home).area ≡ Some b → (x.low < b) × (b + length u.numbers < length core)
-  area_bounds u inu b e = area_inside core x.low x.spans b (info_of x u) s.directory (area_of_thing u inu b e)
+  pub area_bounds : (u : PagedObject) → Has p.objects u → (b : ℕ) → (x.held u.home).area ≡ Some b → (x.low < b) × (b + length u.numbers < length core)
+  area_bounds u inu b e = area_inside core x.low x.spans b (info_of x u) s.directory (area_of_object u inu b e)
 
-  -- two things have no word in common
-  pub bodies_apart : (u v : Thing) → Has p.things u → Has p.things v → u.home ≢ v.home → (b c : ℕ) → (x.held u.home).area ≡ Some b → (x.held v.home).area ≡ Some c
+  -- two objects have no word in common
+  pub bodies_apart : (u v : PagedObject) → Has p.objects u → Has p.objects v → u.home ≢ v.home → (b c : ℕ) → (x.held u.home).area ≡ Some b → (x.held v.home).area ≡ Some c
       → (b + length u.numbers < c) ⊎ (c + length v.numbers < b)
   bodies_apart u v inu inv n b c eb ec = ⊎_elim
-      (λ (e : b ≡ c). absurd (n (ap (λ (a : Info). a.owner) (same_Some _ _ (sym (area_of_thing u inu b eb) ∙ ap (area_at x.low x.spans) e ∙ area_of_thing v inv c ec)))))
+      (λ (e : b ≡ c). absurd (n (ap (λ (a : Info). a.owner) (same_Some _ _ (sym (area_of_object u inu b eb) ∙ ap (area_at x.low x.spans) e ∙ area_of_object v inv c ec)))))
       (λ (a : (b + length u.numbers < c) ⊎ (c + length v.numbers < b)). a)
-      (areas_apart x.low x.spans b c (info_of x u) (info_of x v) (area_of_thing u inu b eb) (area_of_thing v inv c ec))
+      (areas_apart x.low x.spans b c (info_of x u) (info_of x v) (area_of_object u inu b eb) (area_of_object v inv c ec))
 
-  pub home_below : (u : Thing) → Has p.things u → (160 ≤ u.home) × (u.home < x.low)
+  pub home_below : (u : PagedObject) → Has p.objects u → (160 ≤ u.home) × (u.home < x.low)
   home_below u inu = s.slots.laid.homes u inu
 
   -- a slot's words lie between the dictionaries and the areas
-  pub slot_high : (k : ℕ) (y : Slot) → SlotFits p k y → (stack_of y ≡ []) ⊎ (high (stack_of y) < p.size)
+  pub slot_high : (k : ℕ) (y : Slot) → SlotFits p k y → (stack_of y ≡ []) ⊎ (stack_words (stack_of y) < p.size)
   slot_high k Free f = inl refl
   slot_high k (Running stack) f = inr f.0.fits
   slot_high k (Waiting stack) f = inr f.0.fits
@@ -53,7 +53,7 @@ module _ (x : Storage) (core : List Tagged) (r : Regs) (p : Picture) (s : Stands
     omega (arith, s.slots.laid.first),
     λ i low up. ⊎_elim
         (λ e. absurd (omega (arith, ap (λ (q : List Activation). length (words k q)) e)))
-        (λ (g : high (stack_of (p.slots k)) < p.size). omega (arith, words-length k (stack_of (p.slots k)), base-apart p k p.peak h, s.slots.laid.low))
+        (λ (g : stack_words (stack_of (p.slots k)) < p.size). omega (arith, words-length k (stack_of (p.slots k)), base-apart p k p.peak h, s.slots.laid.low))
         (slot_high k (p.slots k) (s.slots.laid.slots k h)),
   )
 
@@ -62,7 +62,7 @@ module _ (x : Storage) (core : List Tagged) (r : Regs) (p : Picture) (s : Stands
   low_word (Area a ∷ ss) l e z = let t : ◌≡◌ {A = ℕ} 3 0 = ap (λ (w : Tagged). w.tag) (same_Some _ _ (sym l.0 ∙ z)) in absurd (omega arith)
   low_word (Hole n ∷ ss) l e z = let t : ◌≡◌ {A = ℕ} 3 0 = ap (λ (w : Tagged). w.tag) (same_Some _ _ (sym (pending core x.low (hole_high n) (x.low + n) ss l.1) ∙ z)) in absurd (omega arith)
 
-  base_not_low : (k : ℕ) (y : Slot) → SlotStands core r p k y → SlotFits p k y → slot_base p k + p.size ≤ x.low → slot_base p k < x.low
+  base_not_low : (k : ℕ) (y : Slot) → RepresentsSlot core r p k y → SlotFits p k y → slot_base p k + p.size ≤ x.low → slot_base p k < x.low
   base_not_low k Free t f up = ⊎_elim
       (λ (e : slot_base p k ≡ x.low). absurd (low_word x.spans s.directory.laid s.directory.all (ap (slice_get core) (sym e) ∙ t.1)))
       (λ (n : slot_base p k ≡ x.low → ⊥). omega arith)
@@ -75,16 +75,16 @@ module _ (x : Storage) (core : List Tagged) (r : Regs) (p : Picture) (s : Stands
   base_low k h = base_not_low k (p.slots k) (s.slots.slots k h) (s.slots.laid.slots k h) (omega (arith, base-apart p k p.peak h, s.slots.laid.low))
 
   -- nothing but word 152 and words of holes has changed
-  pub Stands-core : (new : List Tagged) → length new ≡ length core → IsDirectory new x.low x.spans
+  pub Represents-core : (new : List Tagged) → length new ≡ length core → IsDirectory new x.low x.spans
       → ((i : ℕ) → 160 ≤ i → i < x.low → slice_get new i ≡ slice_get core i)
       → ((b : ℕ) (a : Info) → area_at x.low x.spans b ≡ Some a → (i : ℕ) → b ≤ i → i < b + a.words → slice_get new i ≡ slice_get core i)
-      → Stands x new r p
-  Stands-core new size dir below bodies = record {
-    slots = SlotsStand-same core new r x.low p (λ k h. below (slot_base p k) (slot_below k h).0 (base_below k h)) s.slots;
+      → Represents x new r p
+  Represents-core new size dir below bodies = record {
+    slots = RepresentsSlots-same core new r x.low p (λ k h. below (slot_base p k) (slot_below k h).0 (base_below k h)) s.slots;
     stacks = λ k h. Lie-same (Fits x.held) core new (suc (slot_base p k)) (words k (stack_of (p.slots k))) (λ i low up. below i (omega (arith, (slot_below k h).0)) ((slot_below k h).1 i (omega arith) up)) (s.stacks k h);
-    things = λ u inu. let was = s.things u inu in record {
+    objects = λ u inu. let was = s.objects u inu in record {
       home = below u.home (home_below u inu).0 (home_below u inu).1 ∙ was.home;
-      content = Content-stays x x u (x.held u.home).chain (record { chain = refl; told = λ ns t. t }) core new (x.held u.home).area (λ b e i low up. bodies b (info_of x u) (area_of_thing u inu b e) i low up) was.content;
+      content = Content-stays x x u (x.held u.home).chain (record { chain = refl; told = λ ns t. t }) core new (x.held u.home).area (λ b e i low up. bodies b (info_of x u) (area_of_object u inu b e) i low up) was.content;
     };
     owned = s.owned;
     directory = dir;

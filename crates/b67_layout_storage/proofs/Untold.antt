@@ -5,19 +5,19 @@ use Rattle.b67_area.specs.declared.Areas.{Areas}
 use Rattle.b67_backing.specs.Shelf.{Table}
 use Rattle.b67_ctl.specs.declared.registers.Regs.{Regs}
 use Rattle.b67_stack.specs.declared.Cpu.{Cpu}
-use Rattle.b67_stack.specs.Picture.{Picture}
-use Rattle.b67_stack.specs.Stands.{Storage, Stands}
-use Rattle.b67_layout_storage.specs.Machine.{MachineStands}
+use Rattle.b67_stack.specs.MachineView.{MachineView}
+use Rattle.b67_stack.specs.Represents.{Storage, Represents}
+use Rattle.b67_layout_storage.specs.Machine.{MachineRepresentsView}
 use Rattle.b67_layout_storage.proofs.Reheld.{Content-stays}
 
 abbrev pub untold : Storage → Storage
 untold x = record x { device = None }
 
-pub Stands-untold : (x : Storage) (core : List Tagged) (r : Regs) (p : Picture) → Stands x core r p → Stands (untold x) core r p
-Stands-untold x core r p s = record {
+pub Represents-untold : (x : Storage) (core : List Tagged) (r : Regs) (p : MachineView) → Represents x core r p → Represents (untold x) core r p
+Represents-untold x core r p s = record {
   slots = s.slots;
   stacks = s.stacks;
-  things = λ t int. let was = s.things t int in record {
+  objects = λ t int. let was = s.objects t int in record {
     home = was.home;
     content = Content-stays x (untold x) t (x.held t.home).chain (record { chain = refl; told = λ ns k. tt }) core core (x.held t.home).area (λ b e q low high. refl) was.content;
   };
@@ -26,5 +26,5 @@ Stands-untold x core r p s = record {
   inside = s.inside;
 }
 
-pub Machine-untold : (x : Storage) (cpu : Cpu) (areas : Areas) (table : Table) (told : Option (List (List ℕ))) (p : Picture) → MachineStands x cpu areas table told p → MachineStands (untold x) cpu areas table told p
-Machine-untold x cpu areas table told p m = record { stands = Stands-untold x cpu.core cpu.regs p m.stands; low = m.low; shelf = m.shelf; device = tt }
+pub Machine-untold : (x : Storage) (cpu : Cpu) (areas : Areas) (table : Table) (told : Option (List (List ℕ))) (p : MachineView) → MachineRepresentsView x cpu areas table told p → MachineRepresentsView (untold x) cpu areas table told p
+Machine-untold x cpu areas table told p m = record { stands = Represents-untold x cpu.core cpu.regs p m.stands; low = m.low; shelf = m.shelf; device = tt }

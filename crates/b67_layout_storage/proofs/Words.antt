@@ -9,10 +9,10 @@ use Rattle.b67_area.specs.declared.Kind.{Kind}
 use Rattle.b67_area.specs.declared.Kind.TheVariants.{Array, Row, Code}
 use Rattle.b67_ctl.specs.declared.registers.Regs.{Regs}
 use Rattle.b67_lemmas.specs.Lists.{Has}
-use Rattle.b67_stack.specs.Shapes.{Held, Map, Shape, Is, Original, Copy, IsOriginal, Fits}
+use Rattle.b67_stack.specs.Shapes.{Location, Locations, Shape, Is, Original, Copy, IsOriginal, Fits}
 use Rattle.b67_stack.specs.Stacks.{words}
-use Rattle.b67_stack.specs.Picture.{Thing, Picture, stack_of, slot_base, home_desc, home_word, home_word_of}
-use Rattle.b67_stack.specs.Stands.{Storage, StacksLie, Stands}
+use Rattle.b67_stack.specs.MachineView.{PagedObject, MachineView, stack_of, slot_base, home_desc, home_word, home_word_of}
+use Rattle.b67_stack.specs.Represents.{Storage, StacksLie, Represents}
 use Rattle.b67_stack.proofs.Homes.{not_home, chain_small}
 use Rattle.b67_stack.proofs.Lies.{Lie-each}
 use Rattle.b67_layout_storage.specs.Machine.{with_held}
@@ -20,7 +20,7 @@ use Rattle.b67_layout_storage.proofs.Helds.{held-other}
 use Rattle.b67_layout_storage.proofs.Unchanged.{slot_below, area_bounds}
 
 -- the word of an array's or data row's original
-pub original_word : (k : Kind) (n : ℕ) (h : Held) → k ≢ Code → n < 2 ^ 20 → h.chain < 2 ^ 20 → ((b : ℕ) → h.area ≡ Some b → b < 2 ^ 20) → IsOriginal (home_word_of k n h)
+pub original_word : (k : Kind) (n : ℕ) (h : Location) → k ≢ Code → n < 2 ^ 20 → h.chain < 2 ^ 20 → ((b : ℕ) → h.area ≡ Some b → b < 2 ^ 20) → IsOriginal (home_word_of k n h)
 original_word k n h no_code few small area = by k no_code where
   address : (o : Option ℕ) → ((b : ℕ) → o ≡ Some b → b < 2 ^ 20) → (read_only : Bool) → IsOriginal (home_word_of Array n (record { area = o; chain = h.chain })) × IsOriginal (home_word_of Row n (record { area = o; chain = h.chain }))
   address None f b = (
@@ -38,15 +38,15 @@ original_word k n h no_code few small area = by k no_code where
   by Code ne = absurd (ne refl)
 
 -- a copy of another array
-pub copy_other : (held : Map) (home : ℕ) (h : Held) (a : Shape) (i : ℕ) (v : Tagged) → ((b : ℕ) → (held home).area ≡ Some b → ⊥) → Fits held a i v → Fits (with_held held home h) a i v
+pub copy_other : (held : Locations) (home : ℕ) (h : Location) (a : Shape) (i : ℕ) (v : Tagged) → ((b : ℕ) → (held home).area ≡ Some b → ⊥) → Fits held a i v → Fits (with_held held home h) a i v
 copy_other held home h (Is u) i v absent f = f
 copy_other held home h (Original q) i v absent f = f
 copy_other held home h (Copy c q) i v absent f = record { number = f.number; numbered = f.numbered; present = f.present; address = f.address; fits = f.fits; is = f.is; to = by f.present f.to } where
   by : (b : Bool) → MatchBool b ((held q).area ≡ Some f.address) (f.address ≡ q) → MatchBool b ((with_held held home h q).area ≡ Some f.address) (f.address ≡ q)
   by false e = e
-  by true e = ap (λ (g : Held). g.area) (held-other held home h q (λ z. absent f.address (ap (λ n. (held n).area) (sym z) ∙ e))) ∙ e
+  by true e = ap (λ (g : Location). g.area) (held-other held home h q (λ z. absent f.address (ap (λ n. (held n).area) (sym z) ∙ e))) ∙ e
 
-module _ (x : Storage) (core : List Tagged) (r : Regs) (p : Picture) (s : Stands x core r p) (t : Thing) (int : Has p.things t) where
+module _ (x : Storage) (core : List Tagged) (r : Regs) (p : MachineView) (s : Represents x core r p) (t : PagedObject) (int : Has p.objects t) where
   -- what stands at an original's address is that original
   pub shape_home : (a : Shape) (i : ℕ) (v : Tagged) → i ≡ t.home → p.stacks ≤ i → slice_get core i ≡ Some v → Fits x.held a i v → (q : ℕ) × (a ≡ Original q) × (i ≡ q)
   shape_home (Is u) i v e low get f = absurd (not_home x core r p (Is u) v i s low get f (λ q z. let b : ⊥ = cc in b) t int (sym e))
@@ -57,8 +57,8 @@ module _ (x : Storage) (core : List Tagged) (r : Regs) (p : Picture) (s : Stands
   pub no_code_above : p.stacks ≤ t.home → t.kind ≢ Code
   no_code_above low e = omega (arith, s.slots.laid.codes t int e)
 
-  -- the words of the stacks, where an absent thing is held otherwise
-  pub StacksLie-home : (new : List Tagged) (h : Held) (w : Tagged) → (x.held t.home).area ≡ None
+  -- the words of the stacks, where an absent object is held otherwise
+  pub StacksLie-home : (new : List Tagged) (h : Location) (w : Tagged) → (x.held t.home).area ≡ None
       → ((i : ℕ) → 160 ≤ i → i < x.low → i ≢ t.home → slice_get new i ≡ slice_get core i)
       → slice_get new t.home ≡ Some w → (t.kind ≢ Code → IsOriginal w)
       → StacksLie (with_held x.held t.home h) new p
@@ -76,5 +76,5 @@ module _ (x : Storage) (core : List Tagged) (r : Regs) (p : Picture) (s : Stands
 
   -- the original of any array or data row
   pub original_of_home : t.kind ≢ Code → IsOriginal (home_word t (x.held t.home))
-  original_of_home no_code = original_word t.kind (length t.numbers) (x.held t.home) no_code (omega (arith, (s.slots.laid.lengths t int).1)) (chain_small x core t (x.held t.home).area (x.held t.home).chain (s.things t int).content)
+  original_of_home no_code = original_word t.kind (length t.numbers) (x.held t.home) no_code (omega (arith, (s.slots.laid.lengths t int).1)) (chain_small x core t (x.held t.home).area (x.held t.home).chain (s.objects t int).content)
       (λ b e. omega (arith, (area_bounds x core r p s t int b e).1, s.directory.small))

@@ -1,4 +1,4 @@
--- The machine with its areas, sectors and device, and pictures in which one thing is held otherwise.
+-- The machine with its areas, sectors and device, and views in which one object is held otherwise.
 use Rattle.std.specs.Prelude.{◌≡◌, ◌≢◌, ℕ, slice_get, ◌^◌, ◌<◌, ◌≤◌, ◌==◌, ◌⊎◌, List, [], ◌∷◌, length, map, Option, Some, None, if◌then◌else◌}
 use Rattle.std.specs.List.{AllByRecursion}
 use Rattle.b67_word.specs.Tagged.{Tagged}
@@ -8,9 +8,9 @@ use Rattle.b67_backing.specs.Shelf.{Table, IsShelf, chain_of}
 use Rattle.b67_backing.specs.Held.{Changes}
 use Rattle.b67_lemmas.specs.Lists.{Has}
 use Rattle.b67_stack.specs.declared.Cpu.{Cpu}
-use Rattle.b67_stack.specs.Shapes.{Held, Map}
-use Rattle.b67_stack.specs.Picture.{Thing, Picture}
-use Rattle.b67_stack.specs.Stands.{Storage, Told, Stands}
+use Rattle.b67_stack.specs.Shapes.{Location, Locations}
+use Rattle.b67_stack.specs.MachineView.{PagedObject, MachineView}
+use Rattle.b67_stack.specs.Represents.{Storage, Told, Represents}
 
 -- what a storage says of the sectors, if anything, is what the device tells
 abbrev pub Says : Option (List (List ℕ)) → Option (List (List ℕ)) → Type 0
@@ -18,52 +18,52 @@ Says None told = Unit {0}
 Says (Some all) told = told ≡ Some all
 
 -- what a storage says that said this, where the device now tells that
-abbrev pub retold : Option (List (List ℕ)) → Option (List (List ℕ)) → Option (List (List ℕ))
-retold None told = None
-retold (Some all) told = told
+abbrev pub content_after : Option (List (List ℕ)) → Option (List (List ℕ)) → Option (List (List ℕ))
+content_after None told = None
+content_after (Some all) told = told
 
--- the registers and core, the areas, the table of sectors and what the device tells are those of a storage and a picture
-pub record MachineStands (x : Storage) (cpu : Cpu) (areas : Areas) (table : Table) (told : Option (List (List ℕ))) (p : Picture) : Type 0 where
-  pub stands : Stands x cpu.core cpu.regs p
+-- the registers and core, the areas, the table of sectors and what the device tells are those of a storage and a view
+pub record MachineRepresentsView (x : Storage) (cpu : Cpu) (areas : Areas) (table : Table) (told : Option (List (List ℕ))) (p : MachineView) : Type 0 where
+  pub stands : Represents x cpu.core cpu.regs p
   pub low : areas.low ≡ x.low
   pub shelf : IsShelf table x.shelf
   pub device : Says x.device told
 
--- how all things are held where that at a home is held so
-abbrev pub with_held : Map → ℕ → Held → Map
+-- how all objects are held where that at a home is held so
+abbrev pub with_held : Locations → ℕ → Location → Locations
 with_held held home h = λ q. if q == home then h else held q
 
 -- what the storage then is
-abbrev pub holding : Storage → ℕ → Held → Storage
+abbrev pub holding : Storage → ℕ → Location → Storage
 holding x home h = record x { held = with_held x.held home h }
 
 -- the array, data row or segment of a home is not in core
-pub record IsAbsent (x : Storage) (p : Picture) (home : ℕ) (t : Thing) : Type 0 where
-  pub there : Has p.things t
+pub record IsAbsent (x : Storage) (p : MachineView) (home : ℕ) (t : PagedObject) : Type 0 where
+  pub there : Has p.objects t
   pub is : t.home ≡ home
   pub absent : (x.held home).area ≡ None
 
 -- an array, data row or segment is in the area at an address
-pub record IsPresent (x : Storage) (p : Picture) (at : ℕ) (t : Thing) : Type 0 where
-  pub there : Has p.things t
+pub record IsPresent (x : Storage) (p : MachineView) (at : ℕ) (t : PagedObject) : Type 0 where
+  pub there : Has p.objects t
   pub present : (x.held t.home).area ≡ Some at
 
 -- each number has the 48 bits of a word
 abbrev pub AreBits : List ℕ → Type 0
 AreBits ns = AllByRecursion (λ n. n < 2 ^ 48) ns
 
--- the picture with other numbers in the thing of a home
-abbrev pub renumber : ℕ → List ℕ → Thing → Thing
+-- the view with other numbers in the object of a home
+abbrev pub renumber : ℕ → List ℕ → PagedObject → PagedObject
 renumber home ns t = if t.home == home then record t { numbers = ns } else t
 
-abbrev pub renumbered : Picture → ℕ → List ℕ → Picture
-renumbered p home ns = record p { things = map (renumber home ns) p.things }
+abbrev pub renumbered : MachineView → ℕ → List ℕ → MachineView
+renumbered p home ns = record p { objects = map (renumber home ns) p.objects }
 
 -- a hole of n words or more
-abbrev pub HasRoom : ℕ → List Span → Type 0
-HasRoom n [] = ⊥
-HasRoom n (Area a ∷ ss) = HasRoom n ss
-HasRoom n (Hole m ∷ ss) = (n ≤ m) ⊎ HasRoom n ss
+abbrev pub HasHole : ℕ → List Span → Type 0
+HasHole n [] = ⊥
+HasHole n (Area a ∷ ss) = HasHole n ss
+HasHole n (Hole m ∷ ss) = (n ≤ m) ⊎ HasHole n ss
 
 -- the chain of a first sector is the same in another storage, and holds what it held, as far as that is told
 pub record ChainStays (x y : Storage) (first : ℕ) : Type 0 where
@@ -71,13 +71,13 @@ pub record ChainStays (x y : Storage) (first : ℕ) : Type 0 where
   pub told : (ns : List ℕ) → Told x.device (chain_of first x.shelf.chains) ns → Told y.device (chain_of first x.shelf.chains) ns
 
 -- a device after calls: it has as many sectors, no count has fallen, and where it told its sectors it still does
-pub record Served {D : Type 0} (holds : D → Option (List (List ℕ))) (many counted failed : D → ℕ) (old new : D) : Type 0 where
+pub record DeviceAfterCalls {D : Type 0} (holds : D → Option (List (List ℕ))) (many counted failed : D → ℕ) (old new : D) : Type 0 where
   pub size : many new ≡ many old
   pub calls : counted old ≤ counted new
   pub faults : failed old ≤ failed new
   pub tells : Changes holds old new (λ before after. length after ≡ length before)
 
 -- the words below the slots that are neither the directory's nor descriptors are as they were
-abbrev pub Stayed : Picture → List Tagged → List Tagged → Type 0
+abbrev pub Stayed : MachineView → List Tagged → List Tagged → Type 0
 Stayed p core new =
-    (i : ℕ) → i < p.stacks → (i < 152) ⊎ (160 ≤ i) → ((t : Thing) → Has p.things t → t.home ≢ i) → slice_get new i ≡ slice_get core i
+    (i : ℕ) → i < p.stacks → (i < 152) ⊎ (160 ≤ i) → ((t : PagedObject) → Has p.objects t → t.home ≢ i) → slice_get new i ≡ slice_get core i

@@ -1,3 +1,3 @@
-//! A machine with its areas, sectors and device, as the storage of a picture; and what stands where one array, data row or
+//! A machine with its areas, sectors and device, as the storage of a view; and what stands where one array, data row or
 //! segment is held otherwise: definitions and lemmas.
 #![tactic(auto)]

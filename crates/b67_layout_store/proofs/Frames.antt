@@ -1,28 +1,23 @@
 -- A task's frames with another word in a cell of one of them.
 use Rattle.std.proofs.Common.{◌≡◌, ℕ, zero, suc, ◌+◌, ◌-◌, ◌<◌, List, [], ◌∷◌, ◌++◌, map, reverse, length, refl, sym, ◌∙◌, ap, arith, Bool, true, false, cond, ◌==◌, ⊎_elim, subst, slice_set}
 use Rattle.std.specs.Prelude.{if◌then◌else◌}
-use Rattle.std.proofs.lemmas.Bool.{cases_Bool, cases_eq, eq-eqb, ne_eqb}
+use Rattle.std.proofs.lemmas.Bool.{cases_Bool, eq-eqb, ne_eqb}
 use Rattle.std.proofs.lemmas.List.{length-map, length-reverse}
 use Rattle.b67_word.specs.Tagged.{word}
 use Rattle.b67_model.specs.Keyed.{change_keyed}
 use Rattle.b67_lemmas.specs.Lists.{Has}
+use Rattle.b67_lemmas.proofs.Members.{reverse_cons}
+use Rattle.b67_lemmas.proofs.Places.{same_test}
 use Rattle.b67_model.specs.Words.{Word, Operand}
 use Rattle.b67_model.specs.State as State
 use Rattle.b67_model.specs.State.{Frame, Standing, Task, Job, no_frame, height}
 use Rattle.b67_model.specs.Cells.{with_cell_of, with_cell}
 use Rattle.b67_model.specs.InOrder.{known_of, identities, from_frame, IsEntered, frames_named}
-use Rattle.b67_law_order.proofs.Members.{reverse_cons}
 use Rattle.b67_stack.specs.Shapes.{Shape, Is}
-use Rattle.b67_stack.specs.Stacks.{Spot, Activation, head_size, high}
-use Rattle.b67_layout.specs.Plan.{Plan, spot_in}
+use Rattle.b67_stack.specs.Stacks.{StackPlace, Activation, head_size, stack_words}
+use Rattle.b67_layout.specs.Placement.{Placement, spot_in}
 use Rattle.b67_layout.specs.Layout.{shape, head, activations}
 use Rattle.b67_layout_store.proofs.Puts.{put, put_length, put_map, Puts, within, lower}
-
-same_test : (i n : ℕ) → (i == n) ≡ (suc i == suc n)
-same_test i n = ⊎_elim
-    (λ (e : i ≡ n). eq-eqb i n e ∙ sym (eq-eqb (suc i) (suc n) (ap suc e)))
-    (λ (e : i ≡ n → ⊥). ne_eqb i n e ∙ sym (ne_eqb (suc i) (suc n) (λ z. e (omega (arith, z)))))
-    (cases_eq i n)
 
 set_last : {A : Type 0} (ys : List A) (x w : A) (i : ℕ) → slice_set (ys ++ x ∷ []) i w ≡ slice_set ys i w ++ (if i == length ys then w else x) ∷ []
 set_last [] x w zero = refl
@@ -83,19 +78,19 @@ module _ (id i : ℕ) (w : Word) where
       (λ (t : (f.identity == id) ≡ false). rw t (let n = put_height fs in omega (arith, n)))
       (cases_Bool (f.identity == id))
 
-  spot_by : (k : ℕ) (outer : ℕ → Spot) (fs : List Frame) (g : ℕ) → spot_in k outer (put_frames id i w fs) g ≡ spot_in k outer fs g
+  spot_by : (k : ℕ) (outer : ℕ → StackPlace) (fs : List Frame) (g : ℕ) → spot_in k outer (put_frames id i w fs) g ≡ spot_in k outer fs g
   spot_by k outer [] g = refl
   spot_by k outer (f ∷ fs) g = ⊎_elim
       (λ (t : (f.identity == id) ≡ true). rw t refl)
-      (λ (t : (f.identity == id) ≡ false). rw t (ap (λ (n : ℕ). cond (f.identity == g) (let s : Spot = record { stack = k; disp = n } in s) (spot_in k outer (put_frames id i w fs) g)) (put_height fs)
-      ∙ ap (λ (s : Spot). cond (f.identity == g) (let s : Spot = record { stack = k; disp = height fs } in s) s) (spot_by k outer fs g)))
+      (λ (t : (f.identity == id) ≡ false). rw t (ap (λ (n : ℕ). cond (f.identity == g) (let s : StackPlace = record { stack = k; disp = n } in s) (spot_in k outer (put_frames id i w fs) g)) (put_height fs)
+      ∙ ap (λ (s : StackPlace). cond (f.identity == g) (let s : StackPlace = record { stack = k; disp = height fs } in s) s) (spot_by k outer fs g)))
       (cases_Bool (f.identity == id))
 
-  pub put_spot : (k : ℕ) (outer : ℕ → Spot) (fs : List Frame) → spot_in k outer (put_frames id i w fs) ≡ spot_in k outer fs
+  pub put_spot : (k : ℕ) (outer : ℕ → StackPlace) (fs : List Frame) → spot_in k outer (put_frames id i w fs) ≡ spot_in k outer fs
   put_spot k outer fs = λ z g. spot_by k outer fs g z
 
   -- frames from one down are found where they were
-  from_by : (c k : ℕ) (outer : ℕ → Spot) (fs : List Frame) (g : ℕ) → spot_in k outer (from_frame c (put_frames id i w fs)) g ≡ spot_in k outer (from_frame c fs) g
+  from_by : (c k : ℕ) (outer : ℕ → StackPlace) (fs : List Frame) (g : ℕ) → spot_in k outer (from_frame c (put_frames id i w fs)) g ≡ spot_in k outer (from_frame c fs) g
   from_by c k outer [] g = refl
   from_by c k outer (f ∷ fs) g = ⊎_elim
       (λ (t : (f.identity == id) ≡ true). ⊎_elim
@@ -106,13 +101,13 @@ module _ (id i : ℕ) (w : Word) where
       (λ (u : (f.identity == c) ≡ true).
       (let S : List Frame → Type 0 = λ gs. spot_in k outer (from_frame c gs) g ≡ spot_in k outer (from_frame c (f ∷ fs)) g in
       let e : put_frames id i w (f ∷ fs) ≡ f ∷ put_frames id i w fs = rw t refl in
-      subst S (sym e) (rw u (ap (λ (n : ℕ). cond (f.identity == g) (let s : Spot = record { stack = k; disp = n } in s) (spot_in k outer (put_frames id i w fs) g)) (put_height fs)
-      ∙ ap (λ (s : Spot). cond (f.identity == g) (let s : Spot = record { stack = k; disp = height fs } in s) s) (spot_by k outer fs g)))))
+      subst S (sym e) (rw u (ap (λ (n : ℕ). cond (f.identity == g) (let s : StackPlace = record { stack = k; disp = n } in s) (spot_in k outer (put_frames id i w fs) g)) (put_height fs)
+      ∙ ap (λ (s : StackPlace). cond (f.identity == g) (let s : StackPlace = record { stack = k; disp = height fs } in s) s) (spot_by k outer fs g)))))
       (λ (u : (f.identity == c) ≡ false). rw t (rw u (from_by c k outer fs g)))
       (cases_Bool (f.identity == c)))
       (cases_Bool (f.identity == id))
 
-  pub put_from : (c k : ℕ) (outer : ℕ → Spot) (fs : List Frame) → spot_in k outer (from_frame c (put_frames id i w fs)) ≡ spot_in k outer (from_frame c fs)
+  pub put_from : (c k : ℕ) (outer : ℕ → StackPlace) (fs : List Frame) → spot_in k outer (from_frame c (put_frames id i w fs)) ≡ spot_in k outer (from_frame c fs)
   put_from c k outer fs = λ z g. from_by c k outer fs g z
 
   -- frames without that one stay
@@ -130,14 +125,14 @@ module _ (id i : ℕ) (w : Word) where
       (λ (t : (f.identity == id) ≡ false). rw t (ap (λ ks. f.identity ∷ ks) (put_identities fs)))
       (cases_Bool (f.identity == id))
 
-  module _ (plan : Plan) (j : ℕ) (job : Job) (k : ℕ) (outer : ℕ → Spot) where
-    entered_size : (spot : ℕ → Spot) (s : Standing) → IsEntered s → head_size (head spot s) ≡ 2
+  module _ (plan : Placement) (j : ℕ) (job : Job) (k : ℕ) (outer : ℕ → StackPlace) where
+    entered_size : (spot : ℕ → StackPlace) (s : Standing) → IsEntered s → head_size (head spot s) ≡ 2
     entered_size spot State.Marked e = absurd e
     entered_size spot (State.Entered level environment back) e = refl
 
     -- the activation records, where the word is that of a cell of an entered frame
     pub put_activations : (bits : ℕ) → w ≡ Operand bits → (fs : List Frame) → Has (identities fs) id → IsEntered (frame_found id fs).standing → i < length (frame_found id fs).cells
-        → Puts (Is (word 0 bits)) (high (activations plan j job k outer (frames_under id fs)) + 2 + i) (activations plan j job k outer fs) (activations plan j job k outer (put_frames id i w fs))
+        → Puts (Is (word 0 bits)) (stack_words (activations plan j job k outer (frames_under id fs)) + 2 + i) (activations plan j job k outer fs) (activations plan j job k outer (put_frames id i w fs))
     put_activations bits is [] has e low = absurd has
     put_activations bits is (f ∷ fs) has e low = ⊎_elim
         (λ (t : (f.identity == id) ≡ true).
@@ -145,24 +140,24 @@ module _ (id i : ℕ) (w : Word) where
         let low' : i < length f.cells = rw t at low in
         let g = shape plan j job (spot_in k outer (f ∷ fs)) in
         let A : Activation = record { head = head (spot_in k outer fs) f.standing; cells = map g f.cells } in
-        let p : Puts (Is (word 0 bits)) (high (activations plan j job k outer fs) + head_size A.head + i) (A ∷ activations plan j job k outer fs) ((let B : Activation = record { head = A.head; cells = put i (Is (word 0 bits)) A.cells } in B) ∷ activations plan j job k outer fs) =
+        let p : Puts (Is (word 0 bits)) (stack_words (activations plan j job k outer fs) + head_size A.head + i) (A ∷ activations plan j job k outer fs) ((let B : Activation = record { head = A.head; cells = put i (Is (word 0 bits)) A.cells } in B) ∷ activations plan j job k outer fs) =
         within A (activations plan j job k outer fs) i (let n = length-map f.cells g in omega (arith, n, low')) in
         let cells : put i (Is (word 0 bits)) (map g f.cells) ≡ map g (put i w f.cells) = ap (λ (v : Word). put i (g v) (map g f.cells)) (sym is) ∙ sym (put_map g i w f.cells) in
         let size = entered_size (spot_in k outer fs) f.standing e' in
-        let P : List Shape → Type 0 = λ cs. Puts (Is (word 0 bits)) (high (activations plan j job k outer fs) + head_size A.head + i) (A ∷ activations plan j job k outer fs) ((let B : Activation = record { head = A.head; cells = cs } in B) ∷ activations plan j job k outer fs) in
-        let Q : ℕ → Type 0 = λ n. Puts (Is (word 0 bits)) (high (activations plan j job k outer fs) + n + i) (A ∷ activations plan j job k outer fs) ((let B : Activation = record { head = A.head; cells = map g (put i w f.cells) } in B) ∷ activations plan j job k outer fs) in
+        let P : List Shape → Type 0 = λ cs. Puts (Is (word 0 bits)) (stack_words (activations plan j job k outer fs) + head_size A.head + i) (A ∷ activations plan j job k outer fs) ((let B : Activation = record { head = A.head; cells = cs } in B) ∷ activations plan j job k outer fs) in
+        let Q : ℕ → Type 0 = λ n. Puts (Is (word 0 bits)) (stack_words (activations plan j job k outer fs) + n + i) (A ∷ activations plan j job k outer fs) ((let B : Activation = record { head = A.head; cells = map g (put i w f.cells) } in B) ∷ activations plan j job k outer fs) in
         let found = subst Q size (subst P cells p) in
         rw t found))
         (λ (t : (f.identity == id) ≡ false).
         (let has' : Has (identities fs) id = ⊎_elim (λ z. absurd (let y : ⊥ = (let q : (f.identity == id) ≡ true = eq-eqb f.identity id z in let u : false ≡ true = sym t ∙ q in cc) in y)) (λ h. h) has in
         let r = put_activations bits is fs has' (rw t at e) (rw t at low) in
-        let A : (ℕ → Spot) → (ℕ → Spot) → Activation = λ o q. record { head = head o f.standing; cells = map (shape plan j job q) f.cells } in
-        let inner : spot_in k outer (f ∷ put_frames id i w fs) ≡ spot_in k outer (f ∷ fs) = λ z g. (ap (λ (n : ℕ). cond (f.identity == g) (let s : Spot = record { stack = k; disp = n } in s) (spot_in k outer (put_frames id i w fs) g)) (put_height fs)
-        ∙ ap (λ (s : Spot). cond (f.identity == g) (let s : Spot = record { stack = k; disp = height fs } in s) s) (spot_by k outer fs g)) z in
+        let A : (ℕ → StackPlace) → (ℕ → StackPlace) → Activation = λ o q. record { head = head o f.standing; cells = map (shape plan j job q) f.cells } in
+        let inner : spot_in k outer (f ∷ put_frames id i w fs) ≡ spot_in k outer (f ∷ fs) = λ z g. (ap (λ (n : ℕ). cond (f.identity == g) (let s : StackPlace = record { stack = k; disp = n } in s) (spot_in k outer (put_frames id i w fs) g)) (put_height fs)
+        ∙ ap (λ (s : StackPlace). cond (f.identity == g) (let s : StackPlace = record { stack = k; disp = height fs } in s) s) (spot_by k outer fs g)) z in
         let same : A (spot_in k outer (put_frames id i w fs)) (spot_in k outer (f ∷ put_frames id i w fs)) ≡ A (spot_in k outer fs) (spot_in k outer (f ∷ fs)) =
         ap (λ o. A o (spot_in k outer (f ∷ put_frames id i w fs))) (put_spot k outer fs) ∙ ap (A (spot_in k outer fs)) inner in
         let more = lower (A (spot_in k outer fs) (spot_in k outer (f ∷ fs))) r in
-        let P : Activation → Type 0 = λ a. Puts (Is (word 0 bits)) (high (activations plan j job k outer (frames_under id fs)) + 2 + i) (activations plan j job k outer (f ∷ fs)) (a ∷ activations plan j job k outer (put_frames id i w fs)) in
+        let P : Activation → Type 0 = λ a. Puts (Is (word 0 bits)) (stack_words (activations plan j job k outer (frames_under id fs)) + 2 + i) (activations plan j job k outer (f ∷ fs)) (a ∷ activations plan j job k outer (put_frames id i w fs)) in
         let found = subst P (sym same) more in
         rw t found))
         (cases_Bool (f.identity == id))

@@ -6,49 +6,51 @@ use Rattle.std.proofs.lemmas.Option.{same_Some}
 use Rattle.b67_word.specs.Tagged.{Tagged}
 use Rattle.b67_ctl.specs.declared.registers.Regs.{Regs}
 use Rattle.b67_lemmas.specs.Lists.{Has}
+use Rattle.b67_lemmas.proofs.Members.{falls_same, has_append_left, has_map, has_reverse, keyed_falls}
 use Rattle.b67_model.specs.Keyed.{keyed}
 use Rattle.b67_model.specs.Words.{Word, Original}
-use Rattle.b67_model.specs.State.{Frame, Array, Task, Job, Member}
+use Rattle.b67_model.specs.State.{Frame, Array, Task, Job, SessionJob}
 use Rattle.b67_model.specs.Run.{number_of}
 use Rattle.b67_model.specs.Schedule.{Session}
 use Rattle.b67_model.specs.InOrder.{IsSegment, JobInOrder, IsInOrderButPlaces}
-use Rattle.b67_law_order.proofs.Members.{has_append_left, has_map, has_reverse, keyed_falls, falls_same}
 use Rattle.b67_stack.specs.Shapes as Shapes
-use Rattle.b67_stack.specs.Shapes.{Shape, Fits, Lie}
-use Rattle.b67_stack.specs.Stacks.{Spot, Head, Marked, Entered, Activation, high, headed, words}
-use Rattle.b67_stack.specs.Picture.{Picture, Slot, Free, Running, Waiting, stack_of, slot_base, SlotFits}
-use Rattle.b67_stack.specs.Stands.{Storage, Stands}
+use Rattle.b67_stack.specs.Shapes.{Shape, Fits, LieDownward}
+use Rattle.b67_stack.specs.Stacks.{StackPlace, Head, Marked, Entered, Activation, stack_words, headed, words}
+use Rattle.b67_stack.specs.MachineView.{MachineView, Slot, Free, Running, Waiting, stack_of, slot_base, SlotFits}
+use Rattle.b67_stack.specs.Represents.{Storage, Represents}
 use Rattle.b67_stack.proofs.Bases.{base-apart}
 use Rattle.b67_stack.proofs.Heights.{words-length}
 use Rattle.b67_stack.proofs.Lies.{Lie-under}
-use Rattle.b67_layout.specs.Plan.{Slotted, Plan, slot_of, spot_in, outer_spots}
-use Rattle.b67_layout.specs.Layout.{shape, head, activations, stack_of_task, slot_at, picture}
+use Rattle.b67_layout.specs.Placement.{Slotted, Placement, slot_of, spot_in, outer_spots}
+use Rattle.b67_layout.specs.Layout.{shape, head, activations, stack_of_task, slot_at, machine_view}
 use Rattle.b67_layout.specs.Session.{DictionariesFollow, PlanFits}
 use Rattle.b67_layout.proofs.Fresh.{job_in_order}
 use Rattle.b67_layout.proofs.Rows.{task_row, slot_below}
+use Rattle.b67_layout.proofs.Sessions.{dictionary_above, follow-up}
 use Rattle.b67_layout_leave.proofs.Originals.{lies_at, lies_over, original_word, InFrame, original_of, entry_number}
-use Rattle.b67_layout_leave.proofs.Settles.{keyed_member, stack_in_slot}
+use Rattle.b67_layout_leave.proofs.Settles.{stack_in_slot}
+use Rattle.b67_law_order.proofs.Numbered.{keyed_member}
 
 -- two words of one address are one word
-module _ (x : Storage) (core : List Tagged) (plan : Plan) (j : ℕ) (job : Job) (k from : ℕ) (outer : ℕ → Spot) where
+module _ (x : Storage) (core : List Tagged) (plan : Placement) (j : ℕ) (job : Job) (k from : ℕ) (outer : ℕ → StackPlace) where
   abbrev Lies : List Shape → Type 0
-  Lies = Lie (Fits x.held) core from
+  Lies = LieDownward (Fits x.held) core from
 
-  head_tail : (spot : ℕ → Spot) (rest : List Shape) (w : Word) (ws : List Word) (a b : ℕ) → Lie (Fits x.held) core from (map (shape plan j job spot) (w ∷ ws) ++ rest) → w ≡ Original a → Has ws (Original b) → plan.home j a ≡ plan.home j b → ⊥
+  head_tail : (spot : ℕ → StackPlace) (rest : List Shape) (w : Word) (ws : List Word) (a b : ℕ) → LieDownward (Fits x.held) core from (map (shape plan j job spot) (w ∷ ws) ++ rest) → w ≡ Original a → Has ws (Original b) → plan.home j a ≡ plan.home j b → ⊥
   head_tail spot rest w ws a b l wa hb e =
       let under = map (shape plan j job spot) ws ++ rest in
-      let high : Fits x.held (Shapes.Original (plan.home j a)) (from + length under) l.0.0 = subst (λ (z : Word). Fits x.held (shape plan j job spot z) (from + length under) l.0.0) wa l.0.2 in
+      let there : Fits x.held (Shapes.Original (plan.home j a)) (from + length under) l.0.0 = subst (λ (z : Word). Fits x.held (shape plan j job spot z) (from + length under) l.0.0) wa l.0.2 in
       let low = lies_at (Fits x.held) core from under (Shapes.Original (plan.home j b)) l.1 (has_append_left (map (shape plan j job spot) ws) rest (Shapes.Original (plan.home j b)) (has_map (shape plan j job spot) ws (Original b) hb)) in
-      omega (arith, high.0, low.up, low.fits.0, e)
+      omega (arith, there.0, low.up, low.fits.0, e)
 
-  cells_one : (spot : ℕ → Spot) (rest : List Shape) (ws : List Word) (a b : ℕ) → Lie (Fits x.held) core from (map (shape plan j job spot) ws ++ rest) → Has ws (Original a) → Has ws (Original b) → plan.home j a ≡ plan.home j b → a ≡ b
+  cells_one : (spot : ℕ → StackPlace) (rest : List Shape) (ws : List Word) (a b : ℕ) → LieDownward (Fits x.held) core from (map (shape plan j job spot) ws ++ rest) → Has ws (Original a) → Has ws (Original b) → plan.home j a ≡ plan.home j b → a ≡ b
   cells_one spot rest [] a b l ha hb e = absurd ha
   cells_one spot rest (w ∷ ws) a b l (inl wa) (inl wb) e = let z : Original a ≡ Original b = sym wa ∙ wb in let same : a ≡ b = cc in same
   cells_one spot rest (w ∷ ws) a b l (inl wa) (inr hb) e = absurd (head_tail spot rest w ws a b l wa hb e)
   cells_one spot rest (w ∷ ws) a b l (inr ha) (inl wb) e = absurd (head_tail spot rest w ws b a l wb ha (sym e))
   cells_one spot rest (w ∷ ws) a b l (inr ha) (inr hb) e = cells_one spot rest ws a b l.1 ha hb e
 
-  lie_head : (h : Head) (below : List Activation) (under : List Shape) → Lie (Fits x.held) core from (headed k h below under) → Lie (Fits x.held) core from under
+  lie_head : (h : Head) (below : List Activation) (under : List Shape) → LieDownward (Fits x.held) core from (headed k h below under) → LieDownward (Fits x.held) core from under
   lie_head Marked below under l = l.1
   lie_head (Entered level environment back) below under l = l.1.1
 
@@ -57,7 +59,7 @@ module _ (x : Storage) (core : List Tagged) (plan : Plan) (j : ℕ) (job : Job) 
   head_length (Entered level environment back) below under = omega arith
 
   -- one in the frame on top, one below
-  over_under : (f g : Frame) (below : List Frame) (a b : ℕ) → Lie (Fits x.held) core from (words k (activations plan j job k outer (f ∷ below))) → Has f.cells (Original a) → Has below g → Has g.cells (Original b) → plan.home j a ≡ plan.home j b → ⊥
+  over_under : (f g : Frame) (below : List Frame) (a b : ℕ) → LieDownward (Fits x.held) core from (words k (activations plan j job k outer (f ∷ below))) → Has f.cells (Original a) → Has below g → Has g.cells (Original b) → plan.home j a ≡ plan.home j b → ⊥
   over_under f g below a b l ha hg hb e =
       let bs = activations plan j job k outer below in
       let fh : Head = head (spot_in k outer below) f.standing in
@@ -68,7 +70,7 @@ module _ (x : Storage) (core : List Tagged) (plan : Plan) (j : ℕ) (job : Job) 
       let low = lies_at (Fits x.held) core from (words k bs) (Shapes.Original (plan.home j b)) under (original_word plan j job k outer below g b hg hb) in
       omega (arith, up.low, up.fits.0, low.up, low.fits.0, e, head_length fh bs (words k bs))
 
-  pub frames_one : (fs : List Frame) (f g : Frame) (a b : ℕ) → Lie (Fits x.held) core from (words k (activations plan j job k outer fs)) → Has fs f → Has f.cells (Original a) → Has fs g → Has g.cells (Original b) → plan.home j a ≡ plan.home j b → a ≡ b
+  pub frames_one : (fs : List Frame) (f g : Frame) (a b : ℕ) → LieDownward (Fits x.held) core from (words k (activations plan j job k outer fs)) → Has fs f → Has f.cells (Original a) → Has fs g → Has g.cells (Original b) → plan.home j a ≡ plan.home j b → a ≡ b
   frames_one [] f g a b l hf ha hg hb e = absurd hf
   frames_one (y ∷ below) f g a b l (inl yf) ha (inl yg) hb e =
       cells_one (spot_in k outer (y ∷ below)) (let bs = activations plan j job k outer below in headed k (head (spot_in k outer below) y.standing) bs (words k bs)) y.cells a b l (subst (λ (z : Frame). Has z.cells (Original a)) (sym yf) ha) (subst (λ (z : Frame). Has z.cells (Original b)) (sym yg) hb) e
@@ -80,148 +82,138 @@ module _ (x : Storage) (core : List Tagged) (plan : Plan) (j : ℕ) (job : Job) 
       let under = lie_head fh bs (words k bs) (Lie-under (Fits x.held) core from (map (shape plan j job (spot_in k outer (y ∷ below))) y.cells) (headed k fh bs (words k bs)) l) in
       frames_one below f g a b under hf ha hg hb e
 
--- dictionaries don't overlap
-dictionary_low : (plan : Plan) (at : ℕ) (ms : List Member) (y : Member) → DictionariesFollow plan at ms → Has ms y → at ≤ plan.dictionary y.setting.number
-dictionary_low plan at [] y d h = absurd h
-dictionary_low plan at (m ∷ more) y d (inl e) = omega (arith, d.0, ap (λ (z : Member). plan.dictionary z.setting.number) e)
-dictionary_low plan at (m ∷ more) y d (inr h) = omega (arith, dictionary_low plan (at + (2 + length m.setting.dictionary.cells)) more y d.1 h)
+abbrev dictionary_top : Placement → SessionJob → ℕ
+dictionary_top plan y = plan.dictionary y.constants.number + (2 + length y.constants.dictionary.cells)
 
-abbrev dictionary_top : Plan → Member → ℕ
-dictionary_top plan y = plan.dictionary y.setting.number + (2 + length y.setting.dictionary.cells)
-
-follow_up : (plan : Plan) (at : ℕ) (ms : List Member) → DictionariesFollow plan at ms → at ≤ plan.stacks
-follow_up plan at [] d = omega (arith, d)
-follow_up plan at (m ∷ more) d = omega (arith, follow_up plan (at + (2 + length m.setting.dictionary.cells)) more d.1)
-
-dictionary_under : (plan : Plan) (at : ℕ) (ms : List Member) (y : Member) → DictionariesFollow plan at ms → Has ms y → dictionary_top plan y ≤ plan.stacks
+dictionary_under : (plan : Placement) (at : ℕ) (ms : List SessionJob) (y : SessionJob) → DictionariesFollow plan at ms → Has ms y → dictionary_top plan y ≤ plan.stacks
 dictionary_under plan at [] y d h = absurd h
 dictionary_under plan at (m ∷ more) y d (inl e) =
-    let P : Member → Type 0 = λ z. dictionary_top plan z ≤ plan.stacks in
-    subst P e (omega (arith, d.0, follow_up plan (at + (2 + length m.setting.dictionary.cells)) more d.1))
-dictionary_under plan at (m ∷ more) y d (inr h) = dictionary_under plan (at + (2 + length m.setting.dictionary.cells)) more y d.1 h
+    let P : SessionJob → Type 0 = λ z. dictionary_top plan z ≤ plan.stacks in
+    subst P e (omega (arith, d.0, follow-up plan (at + (2 + length m.constants.dictionary.cells)) more d.1))
+dictionary_under plan at (m ∷ more) y d (inr h) = dictionary_under plan (at + (2 + length m.constants.dictionary.cells)) more y d.1 h
 
-dictionaries_apart : (plan : Plan) (at : ℕ) (ms : List Member) (y z : Member) → DictionariesFollow plan at ms → Has ms y → Has ms z → (y ≡ z) ⊎ ((dictionary_top plan y ≤ plan.dictionary z.setting.number) ⊎ (dictionary_top plan z ≤ plan.dictionary y.setting.number))
+dictionaries_apart : (plan : Placement) (at : ℕ) (ms : List SessionJob) (y z : SessionJob) → DictionariesFollow plan at ms → Has ms y → Has ms z → (y ≡ z) ⊎ ((dictionary_top plan y ≤ plan.dictionary z.constants.number) ⊎ (dictionary_top plan z ≤ plan.dictionary y.constants.number))
 dictionaries_apart plan at [] y z d hy hz = absurd hy
 dictionaries_apart plan at (m ∷ more) y z d (inl ey) (inl ez) = inl (sym ey ∙ ez)
 dictionaries_apart plan at (m ∷ more) y z d (inl ey) (inr hz) =
-    let low = dictionary_low plan (at + (2 + length m.setting.dictionary.cells)) more z d.1 hz in
-    let same = ap (λ (v : Member). dictionary_top plan v) ey in
+    let low = dictionary_above plan (at + (2 + length m.constants.dictionary.cells)) more z d.1 hz in
+    let same = ap (λ (v : SessionJob). dictionary_top plan v) ey in
     inr (inl (omega (arith, low, d.0, same)))
 dictionaries_apart plan at (m ∷ more) y z d (inr hy) (inl ez) =
-    let low = dictionary_low plan (at + (2 + length m.setting.dictionary.cells)) more y d.1 hy in
-    let same = ap (λ (v : Member). dictionary_top plan v) ez in
+    let low = dictionary_above plan (at + (2 + length m.constants.dictionary.cells)) more y d.1 hy in
+    let same = ap (λ (v : SessionJob). dictionary_top plan v) ez in
     inr (inr (omega (arith, low, d.0, same)))
-dictionaries_apart plan at (m ∷ more) y z d (inr hy) (inr hz) = dictionaries_apart plan (at + (2 + length m.setting.dictionary.cells)) more y z d.1 hy hz
+dictionaries_apart plan at (m ∷ more) y z d (inr hy) (inr hz) = dictionaries_apart plan (at + (2 + length m.constants.dictionary.cells)) more y z d.1 hy hz
 
-module _ (x : Storage) (core : List Tagged) (r : Regs) (plan : Plan) (s : Session) (o : IsInOrderButPlaces s) (fits : PlanFits plan s) (memory : Stands x core r (picture plan s.jobs)) where
+module _ (x : Storage) (core : List Tagged) (r : Regs) (plan : Placement) (s : Session) (o : IsInOrderButPlaces s) (fits : PlanFits plan s) (memory : Represents x core r (machine_view plan s.jobs)) where
   abbrev base : ℕ → ℕ
-  base k = slot_base (picture plan s.jobs) k
+  base k = slot_base (machine_view plan s.jobs) k
 
-  order_of : (y : Member) → Has s.jobs y → JobInOrder (IsSegment y.setting) y.setting y.course
+  order_of : (y : SessionJob) → Has s.jobs y → JobInOrder (IsSegment y.constants) y.constants y.progress
   order_of y h = job_in_order s y o h
 
-  room : (p : Picture) (k : ℕ) (q : Slot) → SlotFits p k q → 0 < p.size → high (stack_of q) < p.size
+  room : (p : MachineView) (k : ℕ) (q : Slot) → SlotFits p k q → 0 < p.size → stack_words (stack_of q) < p.size
   room p k Free f some = some
   room p k (Running stack) f some = f.0.fits
   room p k (Waiting stack) f some = f.0.fits
 
   -- an original in a dictionary
-  record InDictionary (y : Member) (b : ℕ) : Type 0 where
-    low : plan.dictionary y.setting.number ≤ plan.home y.setting.number b
-    high : plan.home y.setting.number b < dictionary_top plan y
-    is : plan.home y.setting.number b ≡ plan.dictionary y.setting.number + 1 + length y.setting.segments + b
+  record InDictionary (y : SessionJob) (b : ℕ) : Type 0 where
+    low : plan.dictionary y.constants.number ≤ plan.home y.constants.number b
+    high : plan.home y.constants.number b < dictionary_top plan y
+    is : plan.home y.constants.number b ≡ plan.dictionary y.constants.number + 1 + length y.constants.segments + b
 
-  in_dictionary : (y : Member) (b : ℕ) → Has s.jobs y → Has y.setting.dictionary.cells (Original b) → InDictionary y b
+  in_dictionary : (y : SessionJob) (b : ℕ) → Has s.jobs y → Has y.constants.dictionary.cells (Original b) → InDictionary y b
   in_dictionary y b h d =
-      let e = entry_number 1 y.setting.segments (reverse y.setting.dictionary.cells) b (order_of y h).unchanging.dictionary (has_reverse y.setting.dictionary.cells (Original b) d) in
-      let n : length (reverse y.setting.dictionary.cells) ≡ length y.setting.dictionary.cells = length-reverse y.setting.dictionary.cells in
+      let e = entry_number 1 y.constants.segments (reverse y.constants.dictionary.cells) b (order_of y h).unchanging.dictionary (has_reverse y.constants.dictionary.cells (Original b) d) in
+      let n : length (reverse y.constants.dictionary.cells) ≡ length y.constants.dictionary.cells = length-reverse y.constants.dictionary.cells in
       let is = fits.row_homes y h b e.0 (omega (arith, e.1, n)) in
       record { low = omega (arith, is); high = omega (arith, is, e.1, n); is = is }
 
   -- the words of a live task on its slot
-  task_lies : (y : Member) (u : Task) → Has s.jobs y → Has y.course.job.tasks u → let k = slot_of plan y.setting.number u.number in
-      Lie (Fits x.held) core (suc (base k)) (words k (stack_of_task plan y.setting.number y.course.job k u)) × (high (stack_of_task plan y.setting.number y.course.job k u) < plan.size)
+  task_lies : (y : SessionJob) (u : Task) → Has s.jobs y → Has y.progress.job.tasks u → let k = slot_of plan y.constants.number u.number in
+      LieDownward (Fits x.held) core (suc (base k)) (words k (stack_of_task plan y.constants.number y.progress.job k u)) × (stack_words (stack_of_task plan y.constants.number y.progress.job k u) < plan.size)
   task_lies y u h i =
-      let k = slot_of plan y.setting.number u.number in
+      let k = slot_of plan y.constants.number u.number in
       let ky = keyed_member 1 s.jobs y o.numbered h in
-      let ku = keyed_falls (λ (v : Task). v.number) y.course.job.next_task y.course.job.tasks u (order_of y h).tasks.numbers i in
+      let ku = keyed_falls (λ (v : Task). v.number) y.progress.job.next_task y.progress.job.tasks u (order_of y h).tasks.numbers i in
       let small = slot_below plan s.jobs y u fits.rows h i in
       let is = stack_in_slot plan s.jobs y u fits.rows h i ky ku in
       let size = fits.sizes y h in
       let low = (order_of y h).unchanging.stack_low in (
-        subst (λ (st : List Activation). Lie (Fits x.held) core (suc (base k)) (words k st)) is (memory.stacks k small),
-        subst (λ (st : List Activation). high st < plan.size) is (room (picture plan s.jobs) k (slot_at plan s.jobs k) (memory.slots.laid.slots k small) (omega (arith, size, low))),
+        subst (λ (st : List Activation). LieDownward (Fits x.held) core (suc (base k)) (words k st)) is (memory.stacks k small),
+        subst (λ (st : List Activation). stack_words st < plan.size) is (room (machine_view plan s.jobs) k (slot_at plan s.jobs k) (memory.slots.laid.slots k small) (omega (arith, size, low))),
       )
 
-  in_slot : (y : Member) (b : Array) (q : InFrame y.course.job b) → Has s.jobs y → let k = slot_of plan y.setting.number q.task.number in
-      (base k < plan.home y.setting.number b.identity) × (plan.home y.setting.number b.identity < base k + plan.size)
+  in_slot : (y : SessionJob) (b : Array) (q : InFrame y.progress.job b) → Has s.jobs y → let k = slot_of plan y.constants.number q.task.number in
+      (base k < plan.home y.constants.number b.identity) × (plan.home y.constants.number b.identity < base k + plan.size)
   in_slot y b q h =
-      let j = y.setting.number in
+      let j = y.constants.number in
       let k = slot_of plan j q.task.number in
-      let st = stack_of_task plan j y.course.job k q.task in
+      let st = stack_of_task plan j y.progress.job k q.task in
       let l = task_lies y q.task h q.live in
-      let a = lies_at (Fits x.held) core (suc (base k)) (words k st) (Shapes.Original (plan.home j b.identity)) l.0 (original_word plan j y.course.job k (outer_spots plan j y.course.job q.task.critical q.task.parents) q.task.frames q.frame b.identity q.among q.word) in
+      let a = lies_at (Fits x.held) core (suc (base k)) (words k st) (Shapes.Original (plan.home j b.identity)) l.0 (original_word plan j y.progress.job k (outer_spots plan j y.progress.job q.task.critical q.task.parents) q.task.frames q.frame b.identity q.among q.word) in
       (omega (arith, a.low, a.fits.0), omega (arith, a.up, a.fits.0, words-length k st, l.1))
 
   -- the slot tells the task
-  same_slot : (y z : Member) (u v : Task) → Has s.jobs y → Has s.jobs z → Has y.course.job.tasks u → Has z.course.job.tasks v → slot_of plan y.setting.number u.number ≡ slot_of plan z.setting.number v.number → (y ≡ z) × (u.number ≡ v.number)
+  same_slot : (y z : SessionJob) (u v : Task) → Has s.jobs y → Has s.jobs z → Has y.progress.job.tasks u → Has z.progress.job.tasks v → slot_of plan y.constants.number u.number ≡ slot_of plan z.constants.number v.number → (y ≡ z) × (u.number ≡ v.number)
   same_slot y z u v hy hz hu hv e =
       let a = task_row plan s.jobs y u fits.rows hy hu in
       let b = task_row plan s.jobs z v fits.rows hz hv in
       let same = fits.rows.differ a.row b.row a.among b.among (sym a.slot ∙ e ∙ b.slot) in
-      let number : y.setting.number ≡ z.setting.number = sym a.job ∙ ap (λ (w : Slotted). w.job) same ∙ b.job in
+      let number : y.constants.number ≡ z.constants.number = sym a.job ∙ ap (λ (w : Slotted). w.job) same ∙ b.job in
       let there = keyed_member 1 s.jobs y o.numbered hy in
       let again = keyed_member 1 s.jobs z o.numbered hz in
       (same_Some y z (sym there ∙ ap (λ (n : ℕ). keyed number_of n s.jobs) number ∙ again), sym a.number ∙ ap (λ (w : Slotted). w.task) same ∙ b.number)
 
-  in_one_task : (y : Member) (b c : Array) (q : InFrame y.course.job b) (w : InFrame y.course.job c) → Has s.jobs y → q.task.number ≡ w.task.number → plan.home y.setting.number b.identity ≡ plan.home y.setting.number c.identity → b.identity ≡ c.identity
+  in_one_task : (y : SessionJob) (b c : Array) (q : InFrame y.progress.job b) (w : InFrame y.progress.job c) → Has s.jobs y → q.task.number ≡ w.task.number → plan.home y.constants.number b.identity ≡ plan.home y.constants.number c.identity → b.identity ≡ c.identity
   in_one_task y b c q w h n e =
-      let j = y.setting.number in
+      let j = y.constants.number in
       let k = slot_of plan j q.task.number in
-      let same : w.task ≡ q.task = falls_same (λ (t : Task). t.number) y.course.job.next_task y.course.job.tasks w.task q.task (order_of y h).tasks.numbers w.live q.live (sym n) in
-      frames_one x core plan j y.course.job k (suc (base k)) (outer_spots plan j y.course.job q.task.critical q.task.parents) q.task.frames q.frame w.frame b.identity c.identity (task_lies y q.task h q.live).0
+      let same : w.task ≡ q.task = falls_same (λ (t : Task). t.number) y.progress.job.next_task y.progress.job.tasks w.task q.task (order_of y h).tasks.numbers w.live q.live (sym n) in
+      frames_one x core plan j y.progress.job k (suc (base k)) (outer_spots plan j y.progress.job q.task.critical q.task.parents) q.task.frames q.frame w.frame b.identity c.identity (task_lies y q.task h q.live).0
       q.among q.word (subst (λ (t : Task). Has t.frames w.frame) same w.among) w.word e
 
-  in_frames : (y z : Member) (b c : Array) (q : InFrame y.course.job b) (w : InFrame z.course.job c) → Has s.jobs y → Has s.jobs z → plan.home y.setting.number b.identity ≡ plan.home z.setting.number c.identity → (y ≡ z) × (b.identity ≡ c.identity)
+  in_frames : (y z : SessionJob) (b c : Array) (q : InFrame y.progress.job b) (w : InFrame z.progress.job c) → Has s.jobs y → Has s.jobs z → plan.home y.constants.number b.identity ≡ plan.home z.constants.number c.identity → (y ≡ z) × (b.identity ≡ c.identity)
   in_frames y z b c q w hy hz e =
-      let k = slot_of plan y.setting.number q.task.number in
-      let l = slot_of plan z.setting.number w.task.number in
+      let k = slot_of plan y.constants.number q.task.number in
+      let l = slot_of plan z.constants.number w.task.number in
       let a = in_slot y b q hy in
       let d = in_slot z c w hz in
       by (cases_eq k l) where
-        by : (slot_of plan y.setting.number q.task.number ≡ slot_of plan z.setting.number w.task.number) ⊎ (slot_of plan y.setting.number q.task.number ≡ slot_of plan z.setting.number w.task.number → ⊥) → (y ≡ z) × (b.identity ≡ c.identity)
+        by : (slot_of plan y.constants.number q.task.number ≡ slot_of plan z.constants.number w.task.number) ⊎ (slot_of plan y.constants.number q.task.number ≡ slot_of plan z.constants.number w.task.number → ⊥) → (y ≡ z) × (b.identity ≡ c.identity)
         by (inl is) =
             let same = same_slot y z q.task w.task hy hz q.live w.live is in
-            let P : Member → Type 0 = λ v. (w : InFrame v.course.job c) → q.task.number ≡ w.task.number → plan.home y.setting.number b.identity ≡ plan.home v.setting.number c.identity → b.identity ≡ c.identity in
+            let P : SessionJob → Type 0 = λ v. (w : InFrame v.progress.job c) → q.task.number ≡ w.task.number → plan.home y.constants.number b.identity ≡ plan.home v.constants.number c.identity → b.identity ≡ c.identity in
             (same.0, subst P same.0 (λ v n f. in_one_task y b c q v hy n f) w same.1 e)
         by (inr ne) =
-            let k = slot_of plan y.setting.number q.task.number in
-            let l = slot_of plan z.setting.number w.task.number in
+            let k = slot_of plan y.constants.number q.task.number in
+            let l = slot_of plan z.constants.number w.task.number in
             let a = in_slot y b q hy in
             let d = in_slot z c w hz in
             absurd (⊎_elim
-            (λ up. omega (arith, base-apart (picture plan s.jobs) k l up, a, d, e))
-            (λ down. omega (arith, base-apart (picture plan s.jobs) l k (omega (arith, down, ne)), a, d, e))
+            (λ up. omega (arith, base-apart (machine_view plan s.jobs) k l up, a, d, e))
+            (λ down. omega (arith, base-apart (machine_view plan s.jobs) l k (omega (arith, down, ne)), a, d, e))
             (cases_lt k l))
 
-  apart_from_slots : (y z : Member) (b c : Array) → InDictionary y b.identity → (w : InFrame z.course.job c) → Has s.jobs y → Has s.jobs z → plan.home y.setting.number b.identity ≢ plan.home z.setting.number c.identity
+  apart_from_slots : (y z : SessionJob) (b c : Array) → InDictionary y b.identity → (w : InFrame z.progress.job c) → Has s.jobs y → Has s.jobs z → plan.home y.constants.number b.identity ≢ plan.home z.constants.number c.identity
   apart_from_slots y z b c d w hy hz e =
       let i = in_slot z c w hz in
       let under = dictionary_under plan 160 s.jobs y fits.dictionaries hy in
       omega (arith, d.high, under, i.0, e)
 
-  in_dictionaries : (y z : Member) (b c : ℕ) → InDictionary y b → InDictionary z c → Has s.jobs y → Has s.jobs z → plan.home y.setting.number b ≡ plan.home z.setting.number c → (y ≡ z) × (b ≡ c)
+  in_dictionaries : (y z : SessionJob) (b c : ℕ) → InDictionary y b → InDictionary z c → Has s.jobs y → Has s.jobs z → plan.home y.constants.number b ≡ plan.home z.constants.number c → (y ≡ z) × (b ≡ c)
   in_dictionaries y z b c d f hy hz e = ⊎_elim
       (λ (same : y ≡ z).
-      let n = ap (λ (v : Member). plan.dictionary v.setting.number + 1 + length v.setting.segments) same in
+      let n = ap (λ (v : SessionJob). plan.dictionary v.constants.number + 1 + length v.constants.segments) same in
       (same, omega (arith, d.is, f.is, n, e)))
       (λ n. absurd (⊎_elim (λ up. omega (arith, up, d.high, f.low, e)) (λ up. omega (arith, up, f.high, d.low, e)) n))
       (dictionaries_apart plan 160 s.jobs y z fits.dictionaries hy hz)
 
   -- the address tells the array
-  pub one_home : (y z : Member) (b c : Array) → Has s.jobs y → Has s.jobs z → Has y.course.job.arrays b → Has z.course.job.arrays c → plan.home y.setting.number b.identity ≡ plan.home z.setting.number c.identity → (y ≡ z) × (b.identity ≡ c.identity)
-  one_home y z b c hy hz hb hc e = by (original_of y.setting y.course.job (order_of y hy).tasks b hb) (original_of z.setting z.course.job (order_of z hz).tasks c hc) where
-    by : (Has y.setting.dictionary.cells (Original b.identity) ⊎ InFrame y.course.job b) → (Has z.setting.dictionary.cells (Original c.identity) ⊎ InFrame z.course.job c) → (y ≡ z) × (b.identity ≡ c.identity)
+  pub one_home : (y z : SessionJob) (b c : Array) → Has s.jobs y → Has s.jobs z → Has y.progress.job.arrays b → Has z.progress.job.arrays c → plan.home y.constants.number b.identity ≡ plan.home z.constants.number c.identity → (y ≡ z) × (b.identity ≡ c.identity)
+  one_home y z b c hy hz hb hc e = by (original_of y.constants y.progress.job (order_of y hy).tasks b hb) (original_of z.constants z.progress.job (order_of z hz).tasks c hc) where
+    by : (Has y.constants.dictionary.cells (Original b.identity) ⊎ InFrame y.progress.job b) → (Has z.constants.dictionary.cells (Original c.identity) ⊎ InFrame z.progress.job c) → (y ≡ z) × (b.identity ≡ c.identity)
     by (inl d) (inl f) = in_dictionaries y z b.identity c.identity (in_dictionary y b.identity hy d) (in_dictionary z c.identity hz f) hy hz e
     by (inl d) (inr w) = absurd (apart_from_slots y z b c (in_dictionary y b.identity hy d) w hy hz e)
     by (inr q) (inl f) = absurd (apart_from_slots z y c b (in_dictionary z c.identity hz f) q hz hy (sym e))

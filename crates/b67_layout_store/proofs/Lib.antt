@@ -7,5 +7,5 @@ pub mod Stored
 pub mod Elements
 pub mod Homes
 pub mod Arrays
-pub mod Things
+pub mod Objects
 pub mod Machine

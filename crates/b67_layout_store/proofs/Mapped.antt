@@ -5,24 +5,24 @@ use Rattle.std.specs.List.{slice_get, list_any}
 use Rattle.std.proofs.lemmas.Bool.{cases_Bool, cases_eq, eqb-true}
 use Rattle.std.proofs.lemmas.List.{map-append}
 use Rattle.b67_lemmas.specs.Lists.{Has}
+use Rattle.b67_lemmas.proofs.Members.{has_map, has_map_back, found-has, keyed-has}
 use Rattle.b67_model.specs.Keyed.{keyed}
 use Rattle.b67_model.specs.Words.{Word}
 use Rattle.b67_model.specs.State as State
-use Rattle.b67_model.specs.State.{Frame, Standing, Array, Task, Job, Course, Member, Here, height, all_frames}
+use Rattle.b67_model.specs.State.{Frame, Standing, Array, Task, Job, JobProgress, SessionJob, OperatorContext, height, all_frames}
 use Rattle.b67_model.specs.Environment.{level_of_standing, level_of_frame, running, frame_at}
 use Rattle.b67_model.specs.Steps.{is_critical}
 use Rattle.b67_model.specs.Run.{number_of}
 use Rattle.b67_model.specs.InOrder.{Known, known_of, identities, from_frame, frames_of_task, critical_of, frames_named, frames_in_job}
-use Rattle.b67_law_order.proofs.Members.{has_map, has_map_back}
-use Rattle.b67_stack.specs.Stacks.{Spot, Activation}
-use Rattle.b67_stack.specs.Picture.{Thing, Slot, Running, Waiting, Picture, with_slot}
+use Rattle.b67_stack.specs.Stacks.{StackPlace, Activation}
+use Rattle.b67_stack.specs.MachineView.{PagedObject, Slot, Running, Waiting, MachineView, with_slot}
 use Rattle.b67_stack.proofs.Slots.{slot-same, slot-other}
-use Rattle.b67_layout.specs.Plan.{Slotted, Plan, slot_of, spot_in, outer_spots, spots, address_of}
-use Rattle.b67_layout.specs.Layout.{activations, stack_of_task, slot_with, slot_in, slot_by, slot_at, things_of, picture}
-use Rattle.b67_layout.specs.Session.{RowsFit, critical_mark, Shows}
-use Rattle.b67_layout.proofs.Others.{activations-job, keyed-has}
-use Rattle.b67_layout.proofs.Pictures.{with_course, member-same, member-other, things-after}
-use Rattle.b67_layout.proofs.Rows.{task_row, found-has}
+use Rattle.b67_layout.specs.Placement.{Slotted, Placement, slot_of, spot_in, outer_spots, spots, address_of}
+use Rattle.b67_layout.specs.Layout.{activations, stack_of_task, slot_with, slot_in, slot_by, slot_at, objects_of, machine_view}
+use Rattle.b67_layout.specs.Session.{RowsFit, critical_mark, ShowsDisplay}
+use Rattle.b67_layout.proofs.Others.{activations-job}
+use Rattle.b67_layout.proofs.MachineViews.{with_course, member-same, member-other, objects-after}
+use Rattle.b67_layout.proofs.Rows.{task_row}
 use Rattle.b67_layout.proofs.Sessions.{change-has, change-kept}
 use Rattle.b67_layout.proofs.Displays.{same_running, same_frame_at}
 use Rattle.b67_refer.proofs.Slots.{live_slot}
@@ -33,7 +33,7 @@ use Rattle.b67_layout_store.proofs.Owners.{others_none}
 abbrev pub put_task : ℕ → ℕ → Word → Task → Task
 put_task id i w t = record t { frames = put_frames id i w t.frames }
 
-module _ (plan : Plan) (j : ℕ) (job : Job) (id i : ℕ) (w : Word) where
+module _ (plan : Placement) (j : ℕ) (job : Job) (id i : ℕ) (w : Word) where
   pub keyed_put : (n : ℕ) (xs : List Task) → keyed (λ (v : Task). v.number) n (map (put_task id i w) xs) ≡ option_map (put_task id i w) (keyed (λ (v : Task). v.number) n xs)
   keyed_put n [] = refl
   keyed_put n (x ∷ xs) = ⊎_elim
@@ -44,7 +44,7 @@ module _ (plan : Plan) (j : ℕ) (job : Job) (id i : ℕ) (w : Word) where
   outer_by : (parents : List ℕ) (c : ℕ) (g : ℕ) → outer_spots plan j (put_job job id i w) c parents g ≡ outer_spots plan j job c parents g
   outer_by [] c g = refl
   outer_by (parent ∷ more) c g =
-      let F : Option Task → Spot = λ o. spot_in (slot_of plan j parent) (outer_spots plan j (put_job job id i w) (critical_of o) more) (from_frame c (frames_of_task o)) g in
+      let F : Option Task → StackPlace = λ o. spot_in (slot_of plan j parent) (outer_spots plan j (put_job job id i w) (critical_of o) more) (from_frame c (frames_of_task o)) g in
       ap F (keyed_put parent job.tasks) ∙ by_task (keyed (λ (v : Task). v.number) parent job.tasks) (λ d x. outer_by more d x) where
         by_task : (o : Option Task) → ((d x : ℕ) → outer_spots plan j (put_job job id i w) d more x ≡ outer_spots plan j job d more x)
             → spot_in (slot_of plan j parent) (outer_spots plan j (put_job job id i w) (critical_of (option_map (put_task id i w) o)) more) (from_frame c (frames_of_task (option_map (put_task id i w) o))) g
@@ -53,7 +53,7 @@ module _ (plan : Plan) (j : ℕ) (job : Job) (id i : ℕ) (w : Word) where
         by_task (Some v) inner =
             let same : outer_spots plan j (put_job job id i w) v.critical more ≡ outer_spots plan j job v.critical more = λ z x. inner v.critical x z in
             ap (λ o. spot_in (slot_of plan j parent) o (from_frame c (put_frames id i w v.frames)) g) same
-            ∙ ap (λ (s : ℕ → Spot). s g) (put_from id i w c (slot_of plan j parent) (outer_spots plan j job v.critical more) v.frames)
+            ∙ ap (λ (s : ℕ → StackPlace). s g) (put_from id i w c (slot_of plan j parent) (outer_spots plan j job v.critical more) v.frames)
 
   pub outer_put : (c : ℕ) (parents : List ℕ) → outer_spots plan j (put_job job id i w) c parents ≡ outer_spots plan j job c parents
   outer_put c parents = λ z g. outer_by parents c g z
@@ -106,113 +106,113 @@ flat_known id i w (x ∷ xs) =
     ∙ sym (map-append known_of x.frames (flat_map (λ (t : Task). t.frames) xs))
 
 -- the display
-pub Shows-put : (display : List ℕ) (plan : Plan) (m : Member) (c : Course) (t : Task) (id i : ℕ) (w : Word) → c.job ≡ put_job m.course.job id i w → Shows display plan m t → Shows display plan (record m { course = c }) (put_task id i w t)
+pub Shows-put : (display : List ℕ) (plan : Placement) (m : SessionJob) (c : JobProgress) (t : Task) (id i : ℕ) (w : Word) → c.job ≡ put_job m.progress.job id i w → ShowsDisplay display plan m t → ShowsDisplay display plan (record m { progress = c }) (put_task id i w t)
 Shows-put display plan m c t id i w is shown n up =
-    let job' = put_job m.course.job id i w in
-    let P : Job → Type 0 = λ z. slice_get display n ≡ Some (address_of plan (spots plan m.setting.number z (put_task id i w t) (frame_at (record { setting = m.setting; job = z; task = put_task id i w t; at = t.place }) n).identity)) in
-    let h : Here = record { setting = m.setting; job = m.course.job; task = t; at = t.place } in
-    let h' : Here = record { setting = m.setting; job = job'; task = put_task id i w t; at = t.place } in
+    let job' = put_job m.progress.job id i w in
+    let P : Job → Type 0 = λ z. slice_get display n ≡ Some (address_of plan (spots plan m.constants.number z (put_task id i w t) (frame_at (record { constants = m.constants; job = z; task = put_task id i w t; at = t.place }) n).identity)) in
+    let h : OperatorContext = record { constants = m.constants; job = m.progress.job; task = t; at = t.place } in
+    let h' : OperatorContext = record { constants = m.constants; job = job'; task = put_task id i w t; at = t.place } in
     let own = put_known id i w t.frames in
     let frames : map known_of (all_frames h') ≡ map known_of (all_frames h) =
-    map-append known_of (flat_map (λ (u : Task). u.frames) job'.tasks) (m.setting.dictionary ∷ State.mcp ∷ [])
-    ∙ ap (λ (ks : List Known). ks ++ map known_of (m.setting.dictionary ∷ State.mcp ∷ [])) (flat_known id i w m.course.job.tasks)
-    ∙ sym (map-append known_of (flat_map (λ (u : Task). u.frames) m.course.job.tasks) (m.setting.dictionary ∷ State.mcp ∷ [])) in
+    map-append known_of (flat_map (λ (u : Task). u.frames) job'.tasks) (m.constants.dictionary ∷ State.mcp ∷ [])
+    ∙ ap (λ (ks : List Known). ks ++ map known_of (m.constants.dictionary ∷ State.mcp ∷ [])) (flat_known id i w m.progress.job.tasks)
+    ∙ sym (map-append known_of (flat_map (λ (u : Task). u.frames) m.progress.job.tasks) (m.constants.dictionary ∷ State.mcp ∷ [])) in
     let level : level_of_frame (running (put_frames id i w t.frames)) ≡ level_of_frame (running t.frames) = ap (λ (k : Known). level_of_standing k.1) (same_running (put_frames id i w t.frames) t.frames own) in
     let same : (frame_at h' n).identity ≡ (frame_at h n).identity = ap (λ (k : Known). k.0) (same_frame_at h h' frames n own) in
     subst P (sym is) (shown n (omega (arith, up, level))
-    ∙ ap (λ (g : ℕ). Some (address_of plan (spots plan m.setting.number m.course.job t g))) (sym same)
-    ∙ ap (λ (s : ℕ → Spot). Some (address_of plan (s (frame_at h' n).identity))) (sym (spots_put plan m.setting.number m.course.job id i w t)))
+    ∙ ap (λ (g : ℕ). Some (address_of plan (spots plan m.constants.number m.progress.job t g))) (sym same)
+    ∙ ap (λ (s : ℕ → StackPlace). Some (address_of plan (s (frame_at h' n).identity))) (sym (spots_put plan m.constants.number m.progress.job id i w t)))
 
-module _ (plan : Plan) (jobs : List Member) (m : Member) (id i : ℕ) (w : Word) (member : keyed number_of m.setting.number jobs ≡ Some m) (fit : RowsFit plan jobs) where
-  abbrev c : Course
-  c = record m.course { job = put_job m.course.job id i w }
+module _ (plan : Placement) (jobs : List SessionJob) (m : SessionJob) (id i : ℕ) (w : Word) (member : keyed number_of m.constants.number jobs ≡ Some m) (fit : RowsFit plan jobs) where
+  abbrev c : JobProgress
+  c = record m.progress { job = put_job m.progress.job id i w }
 
-  abbrev moved : Member
-  moved = record m { course = c }
+  abbrev moved : SessionJob
+  moved = record m { progress = c }
 
   has_m : Has jobs m
-  has_m = keyed-has number_of m.setting.number jobs m member
+  has_m = keyed-has number_of m.constants.number jobs m member
 
-  pub rows_put : RowsFit plan (with_course jobs m.setting.number (record m.course { job = put_job m.course.job id i w }))
+  pub rows_put : RowsFit plan (with_course jobs m.constants.number (record m.progress { job = put_job m.progress.job id i w }))
   rows_put = record {
     live = λ q in_q.
         let (y, v, in_y, ej, in_v, et) = fit.live q in_q in
         ⊎_elim
-        (λ (k : Has (with_course jobs m.setting.number c) y). (y, v, k, ej, in_v, et))
+        (λ (k : Has (with_course jobs m.constants.number c) y). (y, v, k, ej, in_v, et))
         (λ k.
-        let in_m : Has m.course.job.tasks v = (let Q : Member → Type 0 = λ z. Has z.course.job.tasks v in subst Q k.0 in_v) in
-        let ej' : m.setting.number ≡ q.job = ap (λ (z : Member). z.setting.number) (sym k.0) ∙ ej in
-        (moved, put_task id i w v, k.1, ej', has_map (put_task id i w) m.course.job.tasks v in_m, et))
-        (change-kept number_of m.setting.number (λ (z : Member). record z { course = c }) jobs m member y in_y);
+        let in_m : Has m.progress.job.tasks v = (let Q : SessionJob → Type 0 = λ z. Has z.progress.job.tasks v in subst Q k.0 in_v) in
+        let ej' : m.constants.number ≡ q.job = ap (λ (z : SessionJob). z.constants.number) (sym k.0) ∙ ej in
+        (moved, put_task id i w v, k.1, ej', has_map (put_task id i w) m.progress.job.tasks v in_m, et))
+        (change-kept number_of m.constants.number (λ (z : SessionJob). record z { progress = c }) jobs m member y in_y);
     slotted = λ y v in_y in_v. ⊎_elim
         (λ k. fit.slotted y v k in_v)
         (λ (e : y ≡ moved).
-        let Q : Member → Type 0 = λ z. Has z.course.job.tasks v in
-        let b = has_map_back (put_task id i w) m.course.job.tasks v (subst Q e in_v) in
+        let Q : SessionJob → Type 0 = λ z. Has z.progress.job.tasks v in
+        let b = has_map_back (put_task id i w) m.progress.job.tasks v (subst Q e in_v) in
         let (q, in_q, ej, et) = fit.slotted m b.item has_m b.among in
-        (q, in_q, ej ∙ ap (λ (z : Member). z.setting.number) (sym e), et ∙ ap (λ (z : Task). z.number) b.is))
-        (change-has number_of m.setting.number (λ (z : Member). record z { course = c }) jobs m member y in_y);
+        (q, in_q, ej ∙ ap (λ (z : SessionJob). z.constants.number) (sym e), et ∙ ap (λ (z : Task). z.number) b.is))
+        (change-has number_of m.constants.number (λ (z : SessionJob). record z { progress = c }) jobs m member y in_y);
     below = fit.below;
     differ = fit.differ;
     tasks_differ = fit.tasks_differ;
   }
 
-  -- the picture, where the frame is that of task u
-  module _ (u : Task) (there : keyed (λ (v : Task). v.number) u.number m.course.job.tasks ≡ Some u) (has : Has (identities u.frames) id) (once : frames_in_job id m.course.job ≤ 1) where
+  -- the view, where the frame is that of task u
+  module _ (u : Task) (there : keyed (λ (v : Task). v.number) u.number m.progress.job.tasks ≡ Some u) (has : Has (identities u.frames) id) (once : frames_in_job id m.progress.job ≤ 1) where
     abbrev k : ℕ
-    k = slot_of plan m.setting.number u.number
+    k = slot_of plan m.constants.number u.number
 
-    pub task_put : keyed (λ (v : Task). v.number) u.number (put_job m.course.job id i w).tasks ≡ Some (put_task id i w u)
-    task_put = keyed_put plan m.setting.number m.course.job id i w u.number m.course.job.tasks ∙ ap (option_map (put_task id i w)) there
+    pub task_put : keyed (λ (v : Task). v.number) u.number (put_job m.progress.job id i w).tasks ≡ Some (put_task id i w u)
+    task_put = keyed_put plan m.constants.number m.progress.job id i w u.number m.progress.job.tasks ∙ ap (option_map (put_task id i w)) there
 
-    slot_there : (q : ℕ) → q ≢ slot_of plan m.setting.number u.number → slot_at plan (with_course jobs m.setting.number c) q ≡ slot_at plan jobs q
+    slot_there : (q : ℕ) → q ≢ slot_of plan m.constants.number u.number → slot_at plan (with_course jobs m.constants.number c) q ≡ slot_at plan jobs q
     slot_there q ne = by_row (keyed (λ (r : Slotted). r.slot) q plan.rows) refl where
-      by_task : (r : Slotted) → keyed (λ (r : Slotted). r.slot) q plan.rows ≡ Some r → r.job ≡ m.setting.number → (o : Option Task) → keyed (λ (v : Task). v.number) r.task m.course.job.tasks ≡ o
-          → slot_with plan q m.setting.number (put_job m.course.job id i w) (option_map (put_task id i w) o) ≡ slot_with plan q m.setting.number m.course.job o
+      by_task : (r : Slotted) → keyed (λ (r : Slotted). r.slot) q plan.rows ≡ Some r → r.job ≡ m.constants.number → (o : Option Task) → keyed (λ (v : Task). v.number) r.task m.progress.job.tasks ≡ o
+          → slot_with plan q m.constants.number (put_job m.progress.job id i w) (option_map (put_task id i w) o) ≡ slot_with plan q m.constants.number m.progress.job o
       by_task r e z None f = refl
       by_task r e z (Some v) f =
-          let in_v = keyed-has (λ (v : Task). v.number) r.task m.course.job.tasks v f in
-          let in_u = keyed-has (λ (v : Task). v.number) u.number m.course.job.tasks u there in
-          let number : v.number ≡ r.task = (Rattle.b67_law_order.proofs.Members.keyed_has (λ (v : Task). v.number) r.task m.course.job.tasks v f).1 in
+          let in_v = keyed-has (λ (v : Task). v.number) r.task m.progress.job.tasks v f in
+          let in_u = keyed-has (λ (v : Task). v.number) u.number m.progress.job.tasks u there in
+          let number : v.number ≡ r.task = (Rattle.b67_lemmas.proofs.Members.keyed_has (λ (v : Task). v.number) r.task m.progress.job.tasks v f).1 in
           let h = found-has (λ (b : Slotted). b.slot == q) plan.rows r e in
           let b = task_row plan jobs m u fit has_m in_u in
           let apart : u.number ≢ v.number = λ y.
           ne (let same : r ≡ b.row = fit.tasks_differ r b.row h.0 b.among (z ∙ sym b.job) (sym number ∙ sym y ∙ sym b.number) in
           sym (eqb-true r.slot q h.1) ∙ ap (λ (p : Slotted). p.slot) same ∙ sym b.slot) in
-          slot_unchanged plan m.setting.number m.course.job id i w q v (others_none m.course.job.tasks u v id in_u in_v apart has once)
+          slot_unchanged plan m.constants.number m.progress.job id i w q v (others_none m.progress.job.tasks u v id in_u in_v apart has once)
 
-      by_row : (o : Option Slotted) → keyed (λ (r : Slotted). r.slot) q plan.rows ≡ o → slot_by plan (with_course jobs m.setting.number c) q o ≡ slot_by plan jobs q o
+      by_row : (o : Option Slotted) → keyed (λ (r : Slotted). r.slot) q plan.rows ≡ o → slot_by plan (with_course jobs m.constants.number c) q o ≡ slot_by plan jobs q o
       by_row None e = refl
       by_row (Some r) e = ⊎_elim
-          (λ (z : r.job ≡ m.setting.number).
-          let new : keyed number_of r.job (with_course jobs m.setting.number c) ≡ Some (record m { course = c }) = ap (λ (n : ℕ). keyed number_of n (with_course jobs m.setting.number c)) z ∙ member-same jobs m.setting.number c m member in
+          (λ (z : r.job ≡ m.constants.number).
+          let new : keyed number_of r.job (with_course jobs m.constants.number c) ≡ Some (record m { progress = c }) = ap (λ (n : ℕ). keyed number_of n (with_course jobs m.constants.number c)) z ∙ member-same jobs m.constants.number c m member in
           let old : keyed number_of r.job jobs ≡ Some m = ap (λ (n : ℕ). keyed number_of n jobs) z ∙ member in
           ap (slot_in plan q r.job r.task) new
           ∙ ap (λ (n : ℕ). slot_with plan q n c.job (keyed (λ (v : Task). v.number) r.task c.job.tasks)) z
-          ∙ ap (slot_with plan q m.setting.number c.job) (keyed_put plan m.setting.number m.course.job id i w r.task m.course.job.tasks)
-          ∙ by_task r e z (keyed (λ (v : Task). v.number) r.task m.course.job.tasks) refl
-          ∙ ap (λ (n : ℕ). slot_with plan q n m.course.job (keyed (λ (v : Task). v.number) r.task m.course.job.tasks)) (sym z)
+          ∙ ap (slot_with plan q m.constants.number c.job) (keyed_put plan m.constants.number m.progress.job id i w r.task m.progress.job.tasks)
+          ∙ by_task r e z (keyed (λ (v : Task). v.number) r.task m.progress.job.tasks) refl
+          ∙ ap (λ (n : ℕ). slot_with plan q n m.progress.job (keyed (λ (v : Task). v.number) r.task m.progress.job.tasks)) (sym z)
           ∙ ap (slot_in plan q r.job r.task) (sym old))
-          (λ (z : r.job ≡ m.setting.number → ⊥). ap (slot_in plan q r.job r.task) (member-other jobs m.setting.number c r.job z))
-          (cases_eq r.job m.setting.number)
+          (λ (z : r.job ≡ m.constants.number → ⊥). ap (slot_in plan q r.job r.task) (member-other jobs m.constants.number c r.job z))
+          (cases_eq r.job m.constants.number)
 
     -- the slot of the task afterwards
     abbrev pub after : Slot
-    after = slot_with plan (slot_of plan m.setting.number u.number) m.setting.number (put_job m.course.job id i w) (Some (put_task id i w u))
+    after = slot_with plan (slot_of plan m.constants.number u.number) m.constants.number (put_job m.progress.job id i w) (Some (put_task id i w u))
 
-    slots_after : (q : ℕ) → slot_at plan (with_course jobs m.setting.number c) q ≡ (with_slot (picture plan jobs) (slot_of plan m.setting.number u.number) after).slots q
+    slots_after : (q : ℕ) → slot_at plan (with_course jobs m.constants.number c) q ≡ (with_slot (machine_view plan jobs) (slot_of plan m.constants.number u.number) after).slots q
     slots_after q = ⊎_elim
-        (λ (e : q ≡ slot_of plan m.setting.number u.number).
-        ap (slot_at plan (with_course jobs m.setting.number c)) e
-        ∙ (live_slot plan (with_course jobs m.setting.number c) (record m { course = c }) (put_task id i w u) rows_put (member-same jobs m.setting.number c m member) task_put).1
-        ∙ sym (slot-same (picture plan jobs) (slot_of plan m.setting.number u.number) after)
-        ∙ ap (λ (p : ℕ). (with_slot (picture plan jobs) (slot_of plan m.setting.number u.number) after).slots p) (sym e))
-        (λ (e : q ≡ slot_of plan m.setting.number u.number → ⊥). slot_there q e ∙ sym (slot-other (picture plan jobs) (slot_of plan m.setting.number u.number) after q e))
-        (cases_eq q (slot_of plan m.setting.number u.number))
+        (λ (e : q ≡ slot_of plan m.constants.number u.number).
+        ap (slot_at plan (with_course jobs m.constants.number c)) e
+        ∙ (live_slot plan (with_course jobs m.constants.number c) (record m { progress = c }) (put_task id i w u) rows_put (member-same jobs m.constants.number c m member) task_put).1
+        ∙ sym (slot-same (machine_view plan jobs) (slot_of plan m.constants.number u.number) after)
+        ∙ ap (λ (p : ℕ). (with_slot (machine_view plan jobs) (slot_of plan m.constants.number u.number) after).slots p) (sym e))
+        (λ (e : q ≡ slot_of plan m.constants.number u.number → ⊥). slot_there q e ∙ sym (slot-other (machine_view plan jobs) (slot_of plan m.constants.number u.number) after q e))
+        (cases_eq q (slot_of plan m.constants.number u.number))
 
-    pub picture_put : picture plan (with_course jobs m.setting.number (record m.course { job = put_job m.course.job id i w })) ≡ with_slot (picture plan jobs) (slot_of plan m.setting.number u.number) after
-    picture_put =
-        let P : (ℕ → Slot) → List Thing → Picture = λ s things. record { stacks = plan.stacks; size = plan.size; peak = plan.peak; slots = s; things = things } in
-        let slots : slot_at plan (with_course jobs m.setting.number c) ≡ (with_slot (picture plan jobs) (slot_of plan m.setting.number u.number) after).slots = λ z q. slots_after q z in
-        ap (λ (s : ℕ → Slot). P s (flat_map (things_of plan) (with_course jobs m.setting.number c))) slots
-        ∙ ap (P (with_slot (picture plan jobs) (slot_of plan m.setting.number u.number) after).slots) (things-after plan jobs m.setting.number c m member refl)
+    pub machine_view_put : machine_view plan (with_course jobs m.constants.number (record m.progress { job = put_job m.progress.job id i w })) ≡ with_slot (machine_view plan jobs) (slot_of plan m.constants.number u.number) after
+    machine_view_put =
+        let P : (ℕ → Slot) → List PagedObject → MachineView = λ s objects. record { stacks = plan.stacks; size = plan.size; peak = plan.peak; slots = s; objects = objects } in
+        let slots : slot_at plan (with_course jobs m.constants.number c) ≡ (with_slot (machine_view plan jobs) (slot_of plan m.constants.number u.number) after).slots = λ z q. slots_after q z in
+        ap (λ (s : ℕ → Slot). P s (flat_map (objects_of plan) (with_course jobs m.constants.number c))) slots
+        ∙ ap (P (with_slot (machine_view plan jobs) (slot_of plan m.constants.number u.number) after).slots) (objects-after plan jobs m.constants.number c m member refl)

@@ -4,14 +4,15 @@ use Rattle.std.proofs.lemmas.Bool.{cases_Bool, eq-eqb, ne_eqb}
 use Rattle.b67_word.specs.Tagged.{Tagged}
 use Rattle.b67_ctl.specs.declared.registers.Regs.{Regs}
 use Rattle.b67_lemmas.specs.Lists.{Has, Falls, total}
+use Rattle.b67_lemmas.proofs.Members.{falls_low, has_append_cases, has_append_right, has_map, keyed_has, total_has}
 use Rattle.b67_model.specs.Keyed.{keyed}
 use Rattle.b67_model.specs.State.{Frame, Standing, Task, height}
 use Rattle.b67_model.specs.InOrder.{Known, known_of, known_numbers, identities, from_frame, frames_of_task, critical_of, base, outer_reach, outer_of, reach_of, NamesEntered, ParentInOrder, BirthInOrder, frames_named}
-use Rattle.b67_law_order.proofs.Members.{has_append_right, has_append_cases, has_map, keyed_has, falls_low, total_has}
 use Rattle.b67_law_order.proofs.Replaced.{numbers_append}
-use Rattle.b67_stack.specs.Stacks.{Spot}
-use Rattle.b67_layout.specs.Plan.{slot_of, spot_in, outer_spots, spots}
-use Rattle.b67_refer.specs.Scene.{Scene}
+use Rattle.b67_stack.specs.Stacks.{StackPlace}
+use Rattle.b67_layout.specs.Placement.{slot_of, spot_in, outer_spots, spots}
+use Rattle.b67_layout.proofs.Fresh.{has-number}
+use Rattle.b67_refer.specs.RunningContext.{RunningContext}
 use Rattle.b67_refer.proofs.Seats.{order_of, has_task}
 use Rattle.b67_layout_store.proofs.Frames.{frames_under}
 
@@ -20,12 +21,7 @@ identity_has [] id s h = absurd h
 identity_has (f ∷ fs) id s (inl e) = inl (ap (λ (k : Known). k.0) e)
 identity_has (f ∷ fs) id s (inr h) = inr (identity_has fs id s h)
 
-number_has : (fs : List Frame) (known : List Known) (id : ℕ) → Has (identities fs) id → Has (known_numbers (map known_of fs ++ known)) id
-number_has [] known id h = absurd h
-number_has (f ∷ fs) known id (inl e) = inl e
-number_has (f ∷ fs) known id (inr h) = inr (number_has fs known id h)
-
-pub spot_under : (k : ℕ) (outer : ℕ → Spot) (fs : List Frame) (id : ℕ) → Has (identities fs) id → spot_in k outer fs id ≡ record { stack = k; disp = height (frames_under id fs) }
+pub spot_under : (k : ℕ) (outer : ℕ → StackPlace) (fs : List Frame) (id : ℕ) → Has (identities fs) id → spot_in k outer fs id ≡ record { stack = k; disp = height (frames_under id fs) }
 spot_under k outer [] id h = absurd h
 spot_under k outer (f ∷ fs) id h = ⊎_elim
     (λ (t : (f.identity == id) ≡ true). rw t refl)
@@ -48,12 +44,12 @@ from_under bound c (f ∷ fs) known id falls h = ⊎_elim
     (λ (t : (f.identity == c) ≡ true). rw t refl)
     (λ (t : (f.identity == c) ≡ false).
     let more : Has (identities (from_frame c fs)) id = rw t at h in
-    let low = falls_low f.identity (known_numbers (map known_of fs ++ known)) id falls.1 (number_has fs known id (from_identity c fs id more)) in
+    let low = falls_low f.identity (known_numbers (map known_of fs ++ known)) id falls.1 (has-number fs known id (from_identity c fs id more)) in
     let ne : (f.identity == id) ≡ false = ne_eqb f.identity id (λ e. omega (arith, e, low)) in
     rw t (rw ne (from_under f.identity c fs known id falls.1 more)))
     (cases_Bool (f.identity == c))
 
-apart : (bound : ℕ) (fs : List Frame) (known : List Known) (g : ℕ) → Falls bound (known_numbers (map known_of fs ++ known)) → Has (known_numbers known) g → (k : ℕ) (outer : ℕ → Spot) → spot_in k outer fs g ≡ outer g
+apart : (bound : ℕ) (fs : List Frame) (known : List Known) (g : ℕ) → Falls bound (known_numbers (map known_of fs ++ known)) → Has (known_numbers known) g → (k : ℕ) (outer : ℕ → StackPlace) → spot_in k outer fs g ≡ outer g
 apart bound [] known g falls h k outer = refl
 apart bound (f ∷ fs) known g falls h k outer =
     let there : Has (known_numbers (map known_of fs ++ known)) g = rw numbers_append (has_append_right (known_numbers (map known_of fs)) (known_numbers known) g h) in
@@ -73,32 +69,32 @@ no_base id s (inl e) high = omega (arith, ap (λ (q : Known). q.0) e, high)
 no_base id s (inr (inl e)) high = omega (arith, ap (λ (q : Known). q.0) e, high)
 no_base id s (inr (inr z)) high = z
 
-module _ (core : List Tagged) (r : Regs) (a : Scene core r) where
-  pub record OwnerAt (view : ℕ → Spot) (id : ℕ) : Type 0 where
+module _ (core : List Tagged) (r : Regs) (a : RunningContext core r) where
+  pub record OwnerAt (view : ℕ → StackPlace) (id : ℕ) : Type 0 where
     pub task : Task
-    pub there : keyed (λ (v : Task). v.number) task.number a.member.course.job.tasks ≡ Some task
+    pub there : keyed (λ (v : Task). v.number) task.number a.member.progress.job.tasks ≡ Some task
     pub has : Has (identities task.frames) id
-    pub spot : view id ≡ record { stack = slot_of a.plan a.member.setting.number task.number; disp = height (frames_under id task.frames) }
+    pub spot : view id ≡ record { stack = slot_of a.plan a.member.constants.number task.number; disp = height (frames_under id task.frames) }
 
-  owner_outer : (u : Task) → Has a.member.course.job.tasks u → (parents : List ℕ) → u.parents ≡ parents → (id : ℕ) (s : Standing) → 1 < id
-      → Has (outer_reach a.member.course.job u.critical parents) (id, s) → OwnerAt (outer_spots a.plan a.member.setting.number a.member.course.job u.critical parents) id
+  owner_outer : (u : Task) → Has a.member.progress.job.tasks u → (parents : List ℕ) → u.parents ≡ parents → (id : ℕ) (s : Standing) → 1 < id
+      → Has (outer_reach a.member.progress.job u.critical parents) (id, s) → OwnerAt (outer_spots a.plan a.member.constants.number a.member.progress.job u.critical parents) id
   owner_outer u here [] line id s high h = absurd (no_base id s h high)
   owner_outer u here (n ∷ more) line id s high h =
-      let job = a.member.course.job in
+      let job = a.member.progress.job in
       let birth : ParentInOrder job u n more = subst (BirthInOrder job u) line (order_of core r a u here).birth in
       let q = birth.parent in
       let at = keyed_has (λ (v : Task). v.number) n job.tasks q birth.found in
       let found : keyed (λ (v : Task). v.number) q.number job.tasks ≡ Some q = subst (λ (i : ℕ). keyed (λ (v : Task). v.number) i job.tasks ≡ Some q) (sym at.1) birth.found in
-      let k = slot_of a.plan a.member.setting.number q.number in
-      let slot_is : slot_of a.plan a.member.setting.number n ≡ k = ap (slot_of a.plan a.member.setting.number) (sym at.1) in
+      let k = slot_of a.plan a.member.constants.number q.number in
+      let slot_is : slot_of a.plan a.member.constants.number n ≡ k = ap (slot_of a.plan a.member.constants.number) (sym at.1) in
       let known = outer_reach job q.critical more in
-      let outer = outer_spots a.plan a.member.setting.number job q.critical more in
+      let outer = outer_spots a.plan a.member.constants.number job q.critical more in
       let falls : Falls job.next_frame (known_numbers (map known_of q.frames ++ known)) = subst (λ (ps : List ℕ). Falls job.next_frame (known_numbers (map known_of q.frames ++ outer_reach job q.critical ps))) birth.line (order_of core r a q at.0).falls in
       let fs = from_frame u.critical q.frames in
       let h' : Has (map known_of fs ++ known) (id, s) = rw birth.found at h in
-      let F : Option Task → ℕ → Type 0 = λ v i. OwnerAt (λ g. spot_in i (outer_spots a.plan a.member.setting.number job (critical_of v) more) (from_frame u.critical (frames_of_task v)) g) id in
+      let F : Option Task → ℕ → Type 0 = λ v i. OwnerAt (λ g. spot_in i (outer_spots a.plan a.member.constants.number job (critical_of v) more) (from_frame u.critical (frames_of_task v)) g) id in
       let G : ℕ → Type 0 = λ i. F (Some q) i in
-      let H : Option Task → Type 0 = λ v. F v (slot_of a.plan a.member.setting.number n) in
+      let H : Option Task → Type 0 = λ v. F v (slot_of a.plan a.member.constants.number n) in
       let result : OwnerAt (λ g. spot_in k outer fs g) id = ⊎_elim
       (λ m.
       (let inside = identity_has fs id s m in
@@ -106,7 +102,7 @@ module _ (core : List Tagged) (r : Regs) (a : Scene core r) where
         task = q;
         there = found;
         has = from_identity u.critical q.frames id inside;
-        spot = spot_under k outer fs id inside ∙ ap (λ gs. let z : Spot = record { stack = k; disp = height gs } in z) (from_under job.next_frame u.critical q.frames known id falls inside);
+        spot = spot_under k outer fs id inside ∙ ap (λ gs. let z : StackPlace = record { stack = k; disp = height gs } in z) (from_under job.next_frame u.critical q.frames known id falls inside);
       } in o))
       (λ m.
       (let o = owner_outer q at.0 more birth.line id s high m in
@@ -116,18 +112,18 @@ module _ (core : List Tagged) (r : Regs) (a : Scene core r) where
       subst H (sym birth.found) (subst G (sym slot_is) result)
 
   -- the owner of a frame of a task that is named
-  pub owner : (id : ℕ) → NamesEntered (reach_of a.member.course.job a.task) id → 1 < id → OwnerAt (spots a.plan a.member.setting.number a.member.course.job a.task) id
+  pub owner : (id : ℕ) → NamesEntered (reach_of a.member.progress.job a.task) id → 1 < id → OwnerAt (spots a.plan a.member.constants.number a.member.progress.job a.task) id
   owner id n high =
-      let job = a.member.course.job in
+      let job = a.member.progress.job in
       let t = a.task in
-      let k = slot_of a.plan a.member.setting.number t.number in
-      let outer = outer_spots a.plan a.member.setting.number job t.critical t.parents in
+      let k = slot_of a.plan a.member.constants.number t.number in
+      let outer = outer_spots a.plan a.member.constants.number job t.critical t.parents in
       let falls = (order_of core r a t (has_task core r a)).falls in
       ⊎_elim
       (λ m. (let inside = identity_has t.frames id n.standing m in
-      let o : OwnerAt (spots a.plan a.member.setting.number a.member.course.job a.task) id = record { task = t; there = a.running.task; has = inside; spot = spot_under k outer t.frames id inside } in o))
+      let o : OwnerAt (spots a.plan a.member.constants.number a.member.progress.job a.task) id = record { task = t; there = a.running.task; has = inside; spot = spot_under k outer t.frames id inside } in o))
       (λ m. (let o = owner_outer t (has_task core r a) t.parents refl id n.standing high m in
-      let p : OwnerAt (spots a.plan a.member.setting.number a.member.course.job a.task) id = record { task = o.task; there = o.there; has = o.has; spot = apart job.next_frame t.frames (outer_of job t) id falls (has_map (λ (z : Known). z.0) (outer_of job t) (id, n.standing) m) k outer ∙ o.spot } in p))
+      let p : OwnerAt (spots a.plan a.member.constants.number a.member.progress.job a.task) id = record { task = o.task; there = o.there; has = o.has; spot = apart job.next_frame t.frames (outer_of job t) id falls (has_map (λ (z : Known). z.0) (outer_of job t) (id, n.standing) m) k outer ∙ o.spot } in p))
       (has_append_cases (map known_of t.frames) (outer_of job t) (id, n.standing) n.among)
 
 -- a frame's identity is one task's alone

@@ -9,10 +9,10 @@ use Rattle.b67_lemmas.specs.Lists.{Has}
 use Rattle.b67_model.specs.State.{Return}
 use Rattle.std.proofs.lemmas.List.{length-map}
 use Rattle.b67_ctl.specs.Layout.{mscw_word, rcw_word}
-use Rattle.b67_stack.specs.Shapes.{Copied, Shape, Is, Copy, Lie}
-use Rattle.b67_stack.specs.Stacks.{Head, Marked, Entered, Activation, head_size, top_size, high, mark_place, level_from, running_level, mark_of, return_of, headed, words, ReturnFits, HeadFits, HeadsFit}
+use Rattle.b67_stack.specs.Shapes.{Copied, Shape, Is, Copy, LieDownward}
+use Rattle.b67_stack.specs.Stacks.{Head, Marked, Entered, Activation, head_size, top_size, stack_words, mark_place, level_from, running_level, mark_of, return_of, headed, words, ReturnFits, HeadFits, HeadsFit}
 use Rattle.b67_stack.proofs.Lies.{Lie-same, Lie-under}
-use Rattle.b67_stack.proofs.Heights.{words-length}
+use Rattle.b67_stack.proofs.Heights.{words-length, headed-length}
 
 -- the items with another one of this number, counted from the end
 abbrev pub put : {A : Type 0} → ℕ → A → List A → List A
@@ -27,8 +27,8 @@ put_length i w (x ∷ xs) = ap suc (put_length i w xs)
 pub put_past : {A : Type 0} (i : ℕ) (w : A) (xs : List A) → length xs ≤ i → put i w xs ≡ xs
 put_past i w [] high = refl
 put_past i w (x ∷ xs) high =
-    let t : (i == length xs) ≡ false = ne_eqb i (length xs) (λ e. omega (arith, e, high)) in
-    ap (λ (b : Bool). (if b then w else x) ∷ put i w xs) t ∙ ap (λ ys. x ∷ ys) (put_past i w xs (omega (arith, high)))
+    let t : (i == length xs) ≡ false = ne_eqb i (length xs) (λ e. omega (arith, e, stack_words)) in
+    ap (λ (b : Bool). (if b then w else x) ∷ put i w xs) t ∙ ap (λ ys. x ∷ ys) (put_past i w xs (omega (arith, stack_words)))
 
 choice_map : {A B : Type 0} (f : A → B) (b : Bool) (w x : A) → f (if b then w else x) ≡ (if b then f w else f x)
 choice_map f true w x = refl
@@ -43,7 +43,7 @@ put_map f i w (x ∷ xs) =
 
 -- words that lie, with another one
 pub put_lies : (R : Shape → ℕ → Tagged → Type 0) (core : List Tagged) (from i : ℕ) (c : Shape) (v : Tagged) (cs under : List Shape) → i < length cs → from + length under + i < length core → R c (from + length under + i) v
-    → Lie R core from (cs ++ under) → Lie R (slice_set core (from + length under + i) v) from (put i c cs ++ under)
+    → LieDownward R core from (cs ++ under) → LieDownward R (slice_set core (from + length under + i) v) from (put i c cs ++ under)
 put_lies R core from i c v [] under low inside fit l = absurd (omega (arith, low))
 put_lies R core from i c v (x ∷ xs) under low inside fit l = ⊎_elim
     (λ (t : (i == length xs) ≡ true).
@@ -52,9 +52,9 @@ put_lies R core from i c v (x ∷ xs) under low inside fit l = ⊎_elim
     let at : from + length under + i ≡ from + length (put i c xs ++ under) = (let n = length-append (put i c xs) under in let k = put_length i c xs in omega (arith, n, k, is)) in
     let P : ℕ → Type 0 = λ n. (w : Tagged) × (slice_get (slice_set core (from + length under + i) v) n ≡ Some w) × R c n w in
     let first = subst P at (v, slice_get-set_same core (from + length under + i) v inside, fit) in
-    let rest : Lie R (slice_set core (from + length under + i) v) from (put i c xs ++ under) = (let Q : List Shape → Type 0 = λ ys. Lie R (slice_set core (from + length under + i) v) from (ys ++ under) in
+    let rest : LieDownward R (slice_set core (from + length under + i) v) from (put i c xs ++ under) = (let Q : List Shape → Type 0 = λ ys. LieDownward R (slice_set core (from + length under + i) v) from (ys ++ under) in
     subst Q (sym past) (Lie-same R core (slice_set core (from + length under + i) v) from (xs ++ under) (λ k down up. slice_get-set_other core (from + length under + i) k v (λ z. (let n = length-append xs under in omega (arith, z, up, n, is)))) l.1)) in
-    let F : Bool → Type 0 = λ b. Lie R (slice_set core (from + length under + i) v) from (((if b then c else x) ∷ put i c xs) ++ under) in
+    let F : Bool → Type 0 = λ b. LieDownward R (slice_set core (from + length under + i) v) from (((if b then c else x) ∷ put i c xs) ++ under) in
     subst F (sym t) (first, rest))
     (λ (t : (i == length xs) ≡ false).
     let ne = eqb-false i (length xs) t in
@@ -65,7 +65,7 @@ put_lies R core from i c v (x ∷ xs) under low inside fit l = ⊎_elim
     let P : ℕ → Type 0 = λ p. (w : Tagged) × (slice_get (slice_set core (from + length under + i) v) p ≡ Some w) × R x p w in
     let first = subst P at (l.0.0, slice_get-set_other core (from + length under + i) (from + length (xs ++ under)) v (λ z. omega (arith, z, n, ne)) ∙ l.0.1, l.0.2) in
     let rest = put_lies R core from i c v xs under (omega (arith, low, ne)) inside fit l.1 in
-    let F : Bool → Type 0 = λ b. Lie R (slice_set core (from + length under + i) v) from (((if b then c else x) ∷ put i c xs) ++ under) in
+    let F : Bool → Type 0 = λ b. LieDownward R (slice_set core (from + length under + i) v) from (((if b then c else x) ∷ put i c xs) ++ under) in
     subst F (sym t) (first, rest))
     (cases_Bool (i == length xs))
 
@@ -80,10 +80,10 @@ put_has i c (x ∷ xs) under d home ne (inr h) = inr (put_has i c xs under d hom
 
 -- one activation record has another shape in a cell, which lies so many words over the first mark
 pub data Puts (c : Shape) : ℕ → List Activation → List Activation → Type 0 where
-  within : (a : Activation) (below : List Activation) (i : ℕ) → i < length a.cells → Puts c (high below + head_size a.head + i) (a ∷ below) (record a { cells = put i c a.cells } ∷ below)
+  within : (a : Activation) (below : List Activation) (i : ℕ) → i < length a.cells → Puts c (stack_words below + head_size a.head + i) (a ∷ below) (record a { cells = put i c a.cells } ∷ below)
   lower : {at : ℕ} {below below' : List Activation} (a : Activation) → Puts c at below below' → Puts c at (a ∷ below) (a ∷ below')
 
-pub puts_high : {c : Shape} {at : ℕ} {st st' : List Activation} → Puts c at st st' → high st' ≡ high st
+pub puts_high : {c : Shape} {at : ℕ} {st st' : List Activation} → Puts c at st st' → stack_words st' ≡ stack_words st
 puts_high {c = c} (within a below i low) = let n = put_length i c a.cells in omega (arith, n)
 puts_high (lower a p) = let h = puts_high p in omega (arith, h)
 
@@ -127,10 +127,6 @@ puts_headed {st = st} {st' = st'} k (Entered level environment (Some r)) under p
     ap (λ (n : ℕ). Is (rcw_word (record { place = r.place; level = n; segment = r.segment + 1 })) ∷ Is (mscw_word (record { far = not (environment.stack == k); entered = true; env_stack = environment.stack; env_disp = environment.disp; value = r.value; level = level; back = top_size st' })) ∷ under) (puts_level p)
     ∙ ap (λ (n : ℕ). Is (rcw_word (record { place = r.place; level = running_level st; segment = r.segment + 1 })) ∷ Is (mscw_word (record { far = not (environment.stack == k); entered = true; env_stack = environment.stack; env_disp = environment.disp; value = r.value; level = level; back = n })) ∷ under) (puts_top p)
 
-headed_high : (k : ℕ) (h : Head) (below : List Activation) (under : List Shape) → length (headed k h below under) ≡ head_size h + length under
-headed_high k Marked below under = omega arith
-headed_high k (Entered level environment back) below under = omega arith
-
 -- a word over others, where those others are as many
 moved : (R : Shape → ℕ → Tagged → Type 0) (core : List Tagged) (from i : ℕ) (v : Tagged) (sh : Shape) (n n' : ℕ) → n' ≡ n → i < from + n
     → (w : Tagged) × (slice_get core (from + n) ≡ Some w) × R sh (from + n) w → (w : Tagged) × (slice_get (slice_set core i v) (from + n') ≡ Some w) × R sh (from + n') w
@@ -138,36 +134,36 @@ moved R core from i v sh n n' same low m =
     let P : ℕ → Type 0 = λ q. (w : Tagged) × (slice_get (slice_set core i v) (from + q) ≡ Some w) × R sh (from + q) w in
     subst P (sym same) (m.0, slice_get-set_other core i (from + n) v (λ z. omega (arith, z, low)) ∙ m.1, m.2)
 
-Lie-tops : (R : Shape → ℕ → Tagged → Type 0) (core : List Tagged) (from i : ℕ) (v : Tagged) (xs under under' : List Shape) → length under' ≡ length under → i < from + length under → Lie R (slice_set core i v) from under' → Lie R core from (xs ++ under) → Lie R (slice_set core i v) from (xs ++ under')
+Lie-tops : (R : Shape → ℕ → Tagged → Type 0) (core : List Tagged) (from i : ℕ) (v : Tagged) (xs under under' : List Shape) → length under' ≡ length under → i < from + length under → LieDownward R (slice_set core i v) from under' → LieDownward R core from (xs ++ under) → LieDownward R (slice_set core i v) from (xs ++ under')
 Lie-tops R core from i v [] under under' same low l m = l
 Lie-tops R core from i v (x ∷ xs) under under' same low l m =
     let n = length-append xs under in
     let n' = length-append xs under' in
     (moved R core from i v x (length (xs ++ under)) (length (xs ++ under')) (omega (arith, n, n', same)) (omega (arith, low, n)) m.0, Lie-tops R core from i v xs under under' same low l m.1)
 
-Lie-head : (R : Shape → ℕ → Tagged → Type 0) (core : List Tagged) (from i : ℕ) (v : Tagged) (k : ℕ) (h : Head) (below : List Activation) (under under' : List Shape) → length under' ≡ length under → i < from + length under → Lie R (slice_set core i v) from under' → Lie R core from (headed k h below under)
-    → Lie R (slice_set core i v) from (headed k h below under')
+Lie-head : (R : Shape → ℕ → Tagged → Type 0) (core : List Tagged) (from i : ℕ) (v : Tagged) (k : ℕ) (h : Head) (below : List Activation) (under under' : List Shape) → length under' ≡ length under → i < from + length under → LieDownward R (slice_set core i v) from under' → LieDownward R core from (headed k h below under)
+    → LieDownward R (slice_set core i v) from (headed k h below under')
 Lie-head R core from i v k Marked below under under' same low l m = (moved R core from i v (Is (mscw_word (mark_of k Marked below))) (length under) (length under') same low m.0, l)
 Lie-head R core from i v k (Entered level environment back) below under under' same low l m = (
   moved R core from i v (Is (rcw_word (return_of back below))) (suc (length under)) (suc (length under')) (ap suc same) (omega (arith, low)) m.0,
   (moved R core from i v (Is (mscw_word (mark_of k (Entered level environment back) below))) (length under) (length under') same low m.1.0, l),
 )
 
-pub puts_low : {c : Shape} {at : ℕ} {st st' : List Activation} → Puts c at st st' → at < high st
+pub puts_low : {c : Shape} {at : ℕ} {st st' : List Activation} → Puts c at st st' → at < stack_words st
 puts_low (within a below i low) = omega (arith, low)
 puts_low (lower a p) = let h = puts_low p in omega (arith, h)
 
-Lie-down : (R : Shape → ℕ → Tagged → Type 0) (core : List Tagged) (from k : ℕ) (h : Head) (below : List Activation) → Lie R core from (headed k h below (words k below)) → Lie R core from (words k below)
+Lie-down : (R : Shape → ℕ → Tagged → Type 0) (core : List Tagged) (from k : ℕ) (h : Head) (below : List Activation) → LieDownward R core from (headed k h below (words k below)) → LieDownward R core from (words k below)
 Lie-down R core from k Marked below l = l.1
 Lie-down R core from k (Entered level environment back) below l = l.1.1
 
-pub puts_lies : {c : Shape} {at : ℕ} {st st' : List Activation} (R : Shape → ℕ → Tagged → Type 0) (core : List Tagged) (from k : ℕ) (v : Tagged) → Puts c at st st' → from + at < length core → R c (from + at) v → Lie R core from (words k st) → Lie R (slice_set core (from + at) v) from (words k st')
+pub puts_lies : {c : Shape} {at : ℕ} {st st' : List Activation} (R : Shape → ℕ → Tagged → Type 0) (core : List Tagged) (from k : ℕ) (v : Tagged) → Puts c at st st' → from + at < length core → R c (from + at) v → LieDownward R core from (words k st) → LieDownward R (slice_set core (from + at) v) from (words k st')
 puts_lies {c = c} R core from k v (within a below i low) inside fit l =
     let under = headed k a.head below (words k below) in
-    let n = headed_high k a.head below (words k below) in
+    let n = headed-length k a.head below (words k below) in
     let m = words-length k below in
-    let at : from + length under + i ≡ from + (high below + head_size a.head + i) = omega (arith, n, m) in
-    let P : ℕ → Type 0 = λ q. Lie R (slice_set core q v) from (put i c a.cells ++ under) in
+    let at : from + length under + i ≡ from + (stack_words below + head_size a.head + i) = omega (arith, n, m) in
+    let P : ℕ → Type 0 = λ q. LieDownward R (slice_set core q v) from (put i c a.cells ++ under) in
     let Q : ℕ → Type 0 = λ q. R c q v in
     subst P at (put_lies R core from i c v a.cells under low (omega (arith, at, inside)) (subst Q (sym at) fit) l)
 puts_lies {c = c} {at = at} R core from k v (lower {below = below} {below' = below'} a p) inside fit l =
@@ -178,10 +174,10 @@ puts_lies {c = c} {at = at} R core from k v (lower {below = below} {below' = bel
     let rest = puts_lies R core from k v p inside fit (Lie-down R core from k a.head below (Lie-under R core from a.cells (headed k a.head below (words k below)) l)) in
     let same : length (words k below') ≡ length (words k below) = omega (arith, n, n', h) in
     let head = Lie-head R core from (from + at) v k a.head below (words k below) (words k below') same (omega (arith, low, n)) rest (Lie-under R core from a.cells (headed k a.head below (words k below)) l) in
-    let g = headed_high k a.head below (words k below) in
-    let g' = headed_high k a.head below (words k below') in
+    let g = headed-length k a.head below (words k below) in
+    let g' = headed-length k a.head below (words k below') in
     let whole = Lie-tops R core from (from + at) v a.cells (headed k a.head below (words k below)) (headed k a.head below (words k below')) (omega (arith, g, g', same)) (omega (arith, low, n, g)) head l in
-    let P : List Shape → Type 0 = λ ys. Lie R (slice_set core (from + at) v) from (a.cells ++ ys) in
+    let P : List Shape → Type 0 = λ ys. LieDownward R (slice_set core (from + at) v) from (a.cells ++ ys) in
     subst P (sym (puts_headed k a.head (words k below') p)) whole
 
 pub puts_has : {c : Shape} {at : ℕ} {st st' : List Activation} (k : ℕ) (d : Copied) (home : ℕ) → c ≢ Copy d home → Puts c at st st' → Has (words k st') (Copy d home) → Has (words k st) (Copy d home)

@@ -1,42 +1,40 @@
 -- A number stored into a cell that the running task names: the machine stands for the session with that cell changed.
-use Rattle.std.proofs.Common.{◌≡◌, ◌≢◌, ℕ, suc, ◌+◌, ◌-◌, ◌*◌, ◌<◌, ◌≤◌, List, [], ◌∷◌, flat_map, reverse, length, Some, Ok, unwrap_or, refl, sym, ◌∙◌, ap, arith, Bool, true, false, ◌==◌, ⊎_elim, inl, inr, subst, slice_set}
-use Rattle.std.specs.Prelude.{if◌then◌else◌, nat_lt}
+use Rattle.std.proofs.Common.{◌≡◌, ◌≢◌, ℕ, suc, ◌+◌, ◌-◌, ◌*◌, ◌<◌, ◌≤◌, List, [], ◌∷◌, flat_map, length, Some, unwrap_or, refl, sym, ◌∙◌, ap, arith, Bool, true, false, ◌==◌, ⊎_elim, inl, inr, subst, slice_set}
+use Rattle.std.specs.Prelude.{if◌then◌else◌}
 use Rattle.std.specs.List.{slice_get}
 use Rattle.std.specs.Option.{ok_or}
 use Rattle.std.proofs.lemmas.Bool.{cases_Bool, cases_lt, eq-eqb}
-use Rattle.std.proofs.lemmas.Option.{none-some}
 use Rattle.b67_core.proofs.Writes.{slice_get-set_other}
 use Rattle.b67_word.specs.Tagged.{Tagged, word}
 use Rattle.b67_word.specs.declared.couples.Place.{Place}
 use Rattle.b67_word.specs.declared.faults.Fault.TheVariants.{InvalidAddress}
 use Rattle.b67_ctl.specs.declared.registers.Regs.{Regs}
 use Rattle.b67_lemmas.specs.Lists.{Has}
+use Rattle.b67_lemmas.proofs.Members.{all_in, has_map_back, keyed_has, keyed_left, keyed-has}
 use Rattle.b67_model.specs.Keyed.{keyed}
 use Rattle.b67_model.specs.Words.{Word, Operand}
-use Rattle.b67_model.specs.State.{Frame, Task, Job, Course, Member, mcp, no_frame, frame, height}
-use Rattle.b67_model.specs.Cells.{first_offset, cell_of}
+use Rattle.b67_model.specs.State.{Frame, Task, Job, JobProgress, SessionJob, mcp, no_frame, frame, height}
+use Rattle.b67_model.specs.Cells.{cell_of}
 use Rattle.b67_model.specs.Run.{number_of}
 use Rattle.b67_model.specs.Schedule.{Session}
 use Rattle.b67_model.specs.InOrder.{Known, known_of, identities, IsEntered, IsSegment, NamesEntered, EntryInOrder, IsInOrderButPlaces}
-use Rattle.b67_law_order.proofs.Members.{all_in, keyed_has, keyed_left, has_map_back, has_get, has_reverse_back}
-use Rattle.b67_law_order.proofs.Chases.{some_ok}
+use Rattle.b67_law_order.proofs.Chases.{cell_has}
 use Rattle.b67_law_order.proofs.Looks.{IsFrame, found_frame}
 use Rattle.b67_stack.specs.declared.Cpu.{Cpu}
 use Rattle.b67_stack.specs.Shapes.{Shape, Is}
-use Rattle.b67_stack.specs.Stacks.{Spot, Activation, high}
-use Rattle.b67_stack.specs.Picture.{Thing, Picture, Running, Waiting, Settled, with_slot, slot_base}
-use Rattle.b67_stack.specs.Stands.{Storage, Stands}
+use Rattle.b67_stack.specs.Stacks.{StackPlace, Activation, stack_words}
+use Rattle.b67_stack.specs.MachineView.{PagedObject, MachineView, Running, Waiting, NoOriginalAboveTop, with_slot, slot_base}
+use Rattle.b67_stack.specs.Represents.{Storage, Represents}
 use Rattle.b67_stack.proofs.Homes.{not_home}
-use Rattle.b67_layout.specs.Plan.{Plan, slot_of, outer_spots, spots, address_of}
-use Rattle.b67_layout.specs.Layout.{activations, stack_of_task, slot_with, picture}
-use Rattle.b67_layout.specs.Session.{DictionaryStands, RowHomes, PlanFits, vector_word, critical_mark, TaskStands, IsRunning, frame_address, Shows, SessionHolds, SessionStands}
+use Rattle.b67_layout.specs.Placement.{Placement, slot_of, outer_spots, spots, address_of}
+use Rattle.b67_layout.specs.Layout.{activations, stack_of_task, slot_with, machine_view}
+use Rattle.b67_layout.specs.Session.{RepresentsDictionary, RowHomes, PlanFits, vector_word, critical_mark, RepresentsTask, IsRunning, frame_address, ShowsDisplay, SessionHolds, RepresentsSession}
 use Rattle.b67_layout.specs.Meets.{here}
-use Rattle.b67_layout.proofs.Others.{keyed-has}
 use Rattle.b67_layout.proofs.Frames.{height-is}
-use Rattle.b67_layout.proofs.Pictures.{with_course, member-same}
+use Rattle.b67_layout.proofs.MachineViews.{with_course, member-same}
 use Rattle.b67_layout.proofs.Rows.{slot_below}
 use Rattle.b67_layout.proofs.Sessions.{change-has, dictionary_below, running_only}
-use Rattle.b67_refer.specs.Scene.{Scene}
+use Rattle.b67_refer.specs.RunningContext.{RunningContext}
 use Rattle.b67_refer.specs.Cells.{IsCellAt}
 use Rattle.b67_refer.proofs.Scenes as Scenes
 use Rattle.b67_refer.proofs.Seats.{seat}
@@ -44,10 +42,10 @@ use Rattle.b67_refer.proofs.Slots.{live_slot}
 use Rattle.b67_refer.proofs.Marks.{frame_known, frame_seat, frame_dictionary, frame_mcp, slot_address}
 use Rattle.b67_refer.proofs.Rule.{inside}
 use Rattle.b67_layout_store.proofs.Puts.{Puts}
-use Rattle.b67_layout_store.proofs.Stores.{SlotPuts, runs, waits, Stands-store, Settled-store}
+use Rattle.b67_layout_store.proofs.Stores.{SlotPuts, runs, waits, Represents-store, Settled-store}
 use Rattle.b67_layout_store.proofs.Frames.{put_job, put_activations, frames_under, frame_found}
 use Rattle.b67_layout_store.proofs.Owners.{OwnerAt, owner, spot_under}
-use Rattle.b67_layout_store.proofs.Mapped.{put_task, keyed_put, stack_put, mark_put, rows_put, picture_put, Shows-put}
+use Rattle.b67_layout_store.proofs.Mapped.{put_task, keyed_put, stack_put, mark_put, rows_put, machine_view_put, Shows-put}
 
 abbrev IsNoOperand : Word → Type 0
 IsNoOperand (Operand bits) = ⊥
@@ -63,19 +61,11 @@ found_in id (f ∷ fs) h = ⊎_elim
     rw t (inr r.0, r.1))
     (cases_Bool (f.identity == id))
 
-cell_has : (g : Frame) (offset : ℕ) (w : Word) → ok_or (cell_of g offset) InvalidAddress ≡ Ok w → Has g.cells w
-cell_has g offset w e =
-    let some : cell_of g offset ≡ Some w = some_ok (cell_of g offset) InvalidAddress w e in
-    ⊎_elim
-    (λ (t : nat_lt offset (first_offset g) ≡ true). absurd (none-some w (rw t at some)))
-    (λ (t : nat_lt offset (first_offset g) ≡ false). has_reverse_back g.cells w (has_get (reverse g.cells) (offset - first_offset g) w (rw t at some)))
-    (cases_Bool (nat_lt offset (first_offset g)))
-
 slot_puts : (c : Shape) (at : ℕ) (st st' : List Activation) (b : Bool) → Puts c at st st' → SlotPuts c at (if b then Running st else Waiting st) (if b then Running st' else Waiting st')
 slot_puts c at st st' true p = runs p
 slot_puts c at st st' false p = waits p
 
-module _ (core : List Tagged) (r : Regs) (a : Scene core r) (q : Place) (at f offset bits : ℕ) (here_at : IsCellAt a q at f offset (Operand bits)) where
+module _ (core : List Tagged) (r : Regs) (a : RunningContext core r) (q : Place) (at f offset bits : ℕ) (here_at : IsCellAt a q at f offset (Operand bits)) where
   -- an operand's cell lies in a frame of a task
   pub operand_own : 1 < f
   operand_own = ⊎_elim
@@ -87,12 +77,12 @@ module _ (core : List Tagged) (r : Regs) (a : Scene core r) (q : Place) (at f of
       all_in IsNoOperand mcp.cells (Operand bits) (tt, (tt, (tt, (tt, (tt, (tt, (tt, (tt, (tt, tt))))))))) h))
       (λ (z : 1 ≤ f).
       (let is : f ≡ 1 = omega (arith, z, low) in
-      let h = cell_has a.member.setting.dictionary offset (Operand bits) (sym (ap (λ (g : Frame). ok_or (cell_of g offset) InvalidAddress) (ap (frame (here a.member a.task q)) is ∙ frame_dictionary core r a q)) ∙ here_at.found) in
-      let e : EntryInOrder a.member.course.job.arrays (Operand bits) = all_in (EntryInOrder a.member.course.job.arrays) a.member.setting.dictionary.cells (Operand bits) a.ordered.tasks.entries h in e))
+      let h = cell_has a.member.constants.dictionary offset (Operand bits) (sym (ap (λ (g : Frame). ok_or (cell_of g offset) InvalidAddress) (ap (frame (here a.member a.task q)) is ∙ frame_dictionary core r a q)) ∙ here_at.found) in
+      let e : EntryInOrder a.member.progress.job.arrays (Operand bits) = all_in (EntryInOrder a.member.progress.job.arrays) a.member.constants.dictionary.cells (Operand bits) a.ordered.tasks.entries h in e))
       (cases_lt f 1)))
       (cases_lt 1 f)
 
-  pub own_of : OwnerAt core r a (spots a.plan a.member.setting.number a.member.course.job a.task) f
+  pub own_of : OwnerAt core r a (spots a.plan a.member.constants.number a.member.progress.job a.task) f
   own_of = owner core r a f here_at.names operand_own
 
   -- the frame that holds the cell, among its task's
@@ -100,11 +90,11 @@ module _ (core : List Tagged) (r : Regs) (a : Scene core r) (q : Place) (at f of
   found_is =
       let u = own_of.task in
       let g = found_in f u.frames own_of.has in
-      let live : IsFrame a.member.course.job (frame_found f u.frames) = record { task = u; live = (keyed_has (λ (v : Task). v.number) u.number a.member.course.job.tasks u own_of.there).0; among = g.0 } in
-      let found = found_frame (IsSegment a.member.setting) a.member.setting a.member.course.job a.ordered.tasks (frame_found f u.frames) live in
-      let at_f : keyed (λ (x : Frame). x.identity) f (flat_map (λ (v : Task). v.frames) a.member.course.job.tasks) ≡ Some (frame_found f u.frames) =
-      subst (λ (i : ℕ). keyed (λ (x : Frame). x.identity) i (flat_map (λ (v : Task). v.frames) a.member.course.job.tasks) ≡ Some (frame_found f u.frames)) g.1 found in
-      ap (λ z. unwrap_or z no_frame) (keyed_left (λ (x : Frame). x.identity) f (flat_map (λ (v : Task). v.frames) a.member.course.job.tasks) (a.member.setting.dictionary ∷ mcp ∷ []) (frame_found f u.frames) at_f)
+      let live : IsFrame a.member.progress.job (frame_found f u.frames) = record { task = u; live = (keyed_has (λ (v : Task). v.number) u.number a.member.progress.job.tasks u own_of.there).0; among = g.0 } in
+      let found = found_frame (IsSegment a.member.constants) a.member.constants a.member.progress.job a.ordered.tasks (frame_found f u.frames) live in
+      let at_f : keyed (λ (x : Frame). x.identity) f (flat_map (λ (v : Task). v.frames) a.member.progress.job.tasks) ≡ Some (frame_found f u.frames) =
+      subst (λ (i : ℕ). keyed (λ (x : Frame). x.identity) i (flat_map (λ (v : Task). v.frames) a.member.progress.job.tasks) ≡ Some (frame_found f u.frames)) g.1 found in
+      ap (λ z. unwrap_or z no_frame) (keyed_left (λ (x : Frame). x.identity) f (flat_map (λ (v : Task). v.frames) a.member.progress.job.tasks) (a.member.constants.dictionary ∷ mcp ∷ []) (frame_found f u.frames) at_f)
 
   pub found_entered : IsEntered (frame_found f own_of.task.frames).standing
   found_entered =
@@ -120,22 +110,22 @@ module _ (core : List Tagged) (r : Regs) (a : Scene core r) (q : Place) (at f of
       (i.0, omega (arith, i.1, n))
 
   abbrev pub k : ℕ
-  k = slot_of a.plan a.member.setting.number own_of.task.number
+  k = slot_of a.plan a.member.constants.number own_of.task.number
 
-  abbrev pub outer : ℕ → Spot
-  outer = outer_spots a.plan a.member.setting.number a.member.course.job own_of.task.critical own_of.task.parents
+  abbrev pub outer : ℕ → StackPlace
+  outer = outer_spots a.plan a.member.constants.number a.member.progress.job own_of.task.critical own_of.task.parents
 
-  pub used : slot_of a.plan a.member.setting.number own_of.task.number < a.plan.peak
+  pub used : slot_of a.plan a.member.constants.number own_of.task.number < a.plan.peak
   used = (live_slot a.plan a.session.jobs a.member own_of.task a.holds.fits.rows a.running.member own_of.there).0
 
   -- its place over the first mark of the stack
   abbrev pub over : ℕ
-  over = high (activations a.plan a.member.setting.number a.member.course.job k outer (frames_under f own_of.task.frames)) + 2 + (offset - 2)
+  over = stack_words (activations a.plan a.member.constants.number a.member.progress.job k outer (frames_under f own_of.task.frames)) + 2 + (offset - 2)
 
-  pub at_is : at ≡ suc (a.plan.stacks + slot_of a.plan a.member.setting.number own_of.task.number * a.plan.size) + (high (activations a.plan a.member.setting.number a.member.course.job k outer (frames_under f own_of.task.frames)) + 2 + (offset - 2))
+  pub at_is : at ≡ suc (a.plan.stacks + slot_of a.plan a.member.constants.number own_of.task.number * a.plan.size) + (stack_words (activations a.plan a.member.constants.number a.member.progress.job k outer (frames_under f own_of.task.frames)) + 2 + (offset - 2))
   at_is =
-      let e = ap (address_of a.plan) own_of.spot ∙ slot_address core r a (slot_of a.plan a.member.setting.number own_of.task.number) (height (frames_under f own_of.task.frames)) used in
-      let h = height-is a.plan a.member.setting.number a.member.course.job (slot_of a.plan a.member.setting.number own_of.task.number) outer (frames_under f own_of.task.frames) in
+      let e = ap (address_of a.plan) own_of.spot ∙ slot_address core r a (slot_of a.plan a.member.constants.number own_of.task.number) (height (frames_under f own_of.task.frames)) used in
+      let h = height-is a.plan a.member.constants.number a.member.progress.job (slot_of a.plan a.member.constants.number own_of.task.number) outer (frames_under f own_of.task.frames) in
       let c = here_at.address in
       let low = bounds.0 in
       omega (arith, c, e, h, low)
@@ -146,46 +136,46 @@ module _ (core : List Tagged) (r : Regs) (a : Scene core r) (q : Place) (at f of
       let u = own_of.task in
       let g = found_in f u.frames own_of.has in
       let e : frame_address a.plan a.member u (frame_found f u.frames).identity ≡ frame_address a.plan a.member a.task f =
-      ap (frame_address a.plan a.member u) g.1 ∙ ap (address_of a.plan) (spot_under (slot_of a.plan a.member.setting.number u.number) (outer_spots a.plan a.member.setting.number a.member.course.job u.critical u.parents) u.frames f own_of.has ∙ sym own_of.spot) in
+      ap (frame_address a.plan a.member u) g.1 ∙ ap (address_of a.plan) (spot_under (slot_of a.plan a.member.constants.number u.number) (outer_spots a.plan a.member.constants.number a.member.progress.job u.critical u.parents) u.frames f own_of.has ∙ sym own_of.spot) in
       here_at.address ∙ ap (λ (n : ℕ). n + offset) (sym e)
 
-module _ (x : Storage) (old : Cpu) (plan : Plan) (s : Session) (m : Member) (t : Task) (o : IsInOrderButPlaces s) (h : SessionStands x old plan s) (runs_t : IsRunning plan s.jobs m t) where
+module _ (x : Storage) (old : Cpu) (plan : Placement) (s : Session) (m : SessionJob) (t : Task) (o : IsInOrderButPlaces s) (h : RepresentsSession x old plan s) (runs_t : IsRunning plan s.jobs m t) where
   -- the scene of the machine
-  abbrev pub scene : Scene old.core old.regs
+  abbrev pub scene : RunningContext old.core old.regs
   scene = Scenes.scene [] x old.core old.regs old.critical plan s m t o h.holds runs_t
 
   module _ (q : Place) (at f offset bits new_bits : ℕ) (here_at : IsCellAt (Scenes.scene [] x old.core old.regs old.critical plan s m t o h.holds runs_t) q at f offset (Operand bits)) where
     abbrev pub job' : Job
-    job' = put_job m.course.job f (offset - 2) (Operand new_bits)
+    job' = put_job m.progress.job f (offset - 2) (Operand new_bits)
 
-    abbrev pub c' : Course
-    c' = record m.course { job = put_job m.course.job f (offset - 2) (Operand new_bits) }
+    abbrev pub c' : JobProgress
+    c' = record m.progress { job = put_job m.progress.job f (offset - 2) (Operand new_bits) }
 
-    abbrev pub jobs' : List Member
-    jobs' = with_course s.jobs m.setting.number (record m.course { job = put_job m.course.job f (offset - 2) (Operand new_bits) })
+    abbrev pub jobs' : List SessionJob
+    jobs' = with_course s.jobs m.constants.number (record m.progress { job = put_job m.progress.job f (offset - 2) (Operand new_bits) })
 
-    u : OwnerAt old.core old.regs scene (spots plan m.setting.number m.course.job t) f
+    u : OwnerAt old.core old.regs scene (spots plan m.constants.number m.progress.job t) f
     u = own_of old.core old.regs scene q at f offset bits here_at
 
     has_m : Has s.jobs m
-    has_m = keyed-has number_of m.setting.number s.jobs m runs_t.member
+    has_m = keyed-has number_of m.constants.number s.jobs m runs_t.member
 
-    once : Rattle.b67_model.specs.InOrder.frames_in_job f m.course.job ≤ 1
+    once : Rattle.b67_model.specs.InOrder.frames_in_job f m.progress.job ≤ 1
     once = scene.ordered.tasks.apart f
 
     low : plan.stacks ≤ at
     low = let e = at_is old.core old.regs scene q at f offset bits here_at in omega (arith, e)
 
-    memory : Stands x (slice_set old.core at (word 0 new_bits)) old.regs (picture plan (with_course s.jobs m.setting.number (record m.course { job = put_job m.course.job f (offset - 2) (Operand new_bits) }))) × Settled (picture plan (with_course s.jobs m.setting.number (record m.course { job = put_job m.course.job f (offset - 2) (Operand new_bits) })))
+    memory : Represents x (slice_set old.core at (word 0 new_bits)) old.regs (machine_view plan (with_course s.jobs m.constants.number (record m.progress { job = put_job m.progress.job f (offset - 2) (Operand new_bits) }))) × NoOriginalAboveTop (machine_view plan (with_course s.jobs m.constants.number (record m.progress { job = put_job m.progress.job f (offset - 2) (Operand new_bits) })))
     memory =
-        let j = m.setting.number in
-        let job = m.course.job in
+        let j = m.constants.number in
+        let job = m.progress.job in
         let ut = (own_of old.core old.regs scene q at f offset bits here_at).task in
         let there = (own_of old.core old.regs scene q at f offset bits here_at).there in
         let has = (own_of old.core old.regs scene q at f offset bits here_at).has in
         let k = slot_of plan j ut.number in
         let outer = outer_spots plan j job ut.critical ut.parents in
-        let over = high (activations plan j job k outer (frames_under f ut.frames)) + 2 + (offset - 2) in
+        let over = stack_words (activations plan j job k outer (frames_under f ut.frames)) + 2 + (offset - 2) in
         let b = bounds old.core old.regs scene q at f offset bits here_at in
         let p = put_activations f (offset - 2) (Operand new_bits) plan j job k outer new_bits refl ut.frames has (found_entered old.core old.regs scene q at f offset bits here_at) (omega (arith, b.0, b.1)) in
         let st' = stack_of_task plan j (put_job job f (offset - 2) (Operand new_bits)) k (put_task f (offset - 2) (Operand new_bits) ut) in
@@ -195,102 +185,102 @@ module _ (x : Storage) (old : Cpu) (plan : Plan) (s : Session) (m : Member) (t :
         let y' = slot_with plan k j (put_job job f (offset - 2) (Operand new_bits)) (Some (put_task f (offset - 2) (Operand new_bits) ut)) in
         let puts : SlotPuts (Is (word 0 new_bits)) over y y' = slot_puts (Is (word 0 new_bits)) over (activations plan j job k outer ut.frames) st' (k == plan.running) p' in
         let live = live_slot plan s.jobs m ut h.holds.fits.rows runs_t.member there in
-        let pic = picture plan s.jobs in
+        let pic = machine_view plan s.jobs in
         let at_e = at_is old.core old.regs scene q at f offset bits here_at in
-        let plain : (t : Thing) → Has pic.things t → t.home ≢ suc (slot_base pic k) + over = λ z int e.
+        let plain : (t : PagedObject) → Has pic.objects t → t.home ≢ suc (slot_base pic k) + over = λ z int e.
         not_home x old.core old.regs pic (Is (word 0 bits)) here_at.word at h.holds.memory low here_at.there here_at.stands.0 (λ home n. (let w : ⊥ = cc in w)) z int (e ∙ sym at_e) in
-        let stands = Stands-store x old.core old.regs pic k y y' (Is (word 0 new_bits)) over (word 0 new_bits) h.holds.memory live.0 live.1 puts (λ d home n. (let w : ⊥ = cc in w)) (refl, λ z. omega (arith, z)) plain in
+        let stands = Represents-store x old.core old.regs pic k y y' (Is (word 0 new_bits)) over (word 0 new_bits) h.holds.memory live.0 live.1 puts (λ d home n. (let w : ⊥ = cc in w)) (refl, λ z. omega (arith, z)) plain in
         let settled = Settled-store x old.core old.regs pic k y y' (Is (word 0 new_bits)) over (word 0 new_bits) h.holds.memory live.0 live.1 puts (λ d home n. (let w : ⊥ = cc in w)) (refl, λ z. omega (arith, z)) plain h.holds.settled in
-        let pe = picture_put plan s.jobs m f (offset - 2) (Operand new_bits) runs_t.member h.holds.fits.rows ut there has once in
-        let Q : Picture → Type 0 = λ z. Stands x (slice_set old.core at (word 0 new_bits)) old.regs z in
-        let R : ℕ → Type 0 = λ n. Stands x (slice_set old.core n (word 0 new_bits)) old.regs (with_slot pic k y') in
-        (subst Q (sym pe) (subst R (sym at_e) stands), subst Settled (sym pe) settled)
+        let pe = machine_view_put plan s.jobs m f (offset - 2) (Operand new_bits) runs_t.member h.holds.fits.rows ut there has once in
+        let Q : MachineView → Type 0 = λ z. Represents x (slice_set old.core at (word 0 new_bits)) old.regs z in
+        let R : ℕ → Type 0 = λ n. Represents x (slice_set old.core n (word 0 new_bits)) old.regs (with_slot pic k y') in
+        (subst Q (sym pe) (subst R (sym at_e) stands), subst NoOriginalAboveTop (sym pe) settled)
 
     abbrev w' : Word
     w' = Operand new_bits
 
-    abbrev moved : Member
-    moved = record m { course = c' }
+    abbrev moved : SessionJob
+    moved = record m { progress = c' }
 
     same : (i : ℕ) → i < plan.stacks → slice_get (slice_set old.core at (word 0 new_bits)) i ≡ slice_get old.core i
     same i below = slice_get-set_other old.core at i (word 0 new_bits) (λ z. omega (arith, z, below, low))
 
     -- each job is an old one or the one that moved
-    for_members : (P : Member → Type 0) → ((y : Member) → Has s.jobs y → P y) → P moved → (y : Member) → Has jobs' y → P y
-    for_members P before here y in_y = ⊎_elim (λ k. before y k) (λ (e : y ≡ moved). subst P (sym e) here) (change-has number_of m.setting.number (λ (z : Member). record z { course = c' }) s.jobs m runs_t.member y in_y)
+    for_members : (P : SessionJob → Type 0) → ((y : SessionJob) → Has s.jobs y → P y) → P moved → (y : SessionJob) → Has jobs' y → P y
+    for_members P before here y in_y = ⊎_elim (λ k. before y k) (λ (e : y ≡ moved). subst P (sym e) here) (change-has number_of m.constants.number (λ (z : SessionJob). record z { progress = c' }) s.jobs m runs_t.member y in_y)
 
-    follow : (from : ℕ) (xs : List Member) → Rattle.b67_layout.specs.Session.DictionariesFollow plan from xs → Rattle.b67_layout.specs.Session.DictionariesFollow plan from (with_course xs m.setting.number c')
+    follow : (from : ℕ) (xs : List SessionJob) → Rattle.b67_layout.specs.Session.DictionariesFollow plan from xs → Rattle.b67_layout.specs.Session.DictionariesFollow plan from (with_course xs m.constants.number c')
     follow from [] d = d
     follow from (y ∷ more) d = ⊎_elim
-        (λ (z : (number_of y == m.setting.number) ≡ true). rw z d)
-        (λ (z : (number_of y == m.setting.number) ≡ false). rw z (d.0, follow (from + (2 + length y.setting.dictionary.cells)) more d.1))
-        (cases_Bool (number_of y == m.setting.number))
+        (λ (z : (number_of y == m.constants.number) ≡ true). rw z d)
+        (λ (z : (number_of y == m.constants.number) ≡ false). rw z (d.0, follow (from + (2 + length y.constants.dictionary.cells)) more d.1))
+        (cases_Bool (number_of y == m.constants.number))
 
     fits : PlanFits plan (record s { jobs = jobs' })
     fits = record {
       rows = rows_put plan s.jobs m f (offset - 2) (Operand new_bits) runs_t.member h.holds.fits.rows;
       peak = h.holds.fits.peak;
       few = h.holds.fits.few;
-      sizes = for_members (λ y. y.setting.stack_size ≡ plan.size) h.holds.fits.sizes (h.holds.fits.sizes m has_m);
+      sizes = for_members (λ y. y.constants.stack_size ≡ plan.size) h.holds.fits.sizes (h.holds.fits.sizes m has_m);
       dictionaries = follow 160 s.jobs h.holds.fits.dictionaries;
       row_homes = for_members (λ y. RowHomes plan y) h.holds.fits.row_homes (h.holds.fits.row_homes m has_m);
     }
 
     still : IsRunning plan jobs' moved (put_task f (offset - 2) (Operand new_bits) t)
     still = record {
-      member = member-same s.jobs m.setting.number c' m runs_t.member;
-      task = keyed_put plan m.setting.number m.course.job f (offset - 2) (Operand new_bits) t.number m.course.job.tasks ∙ ap (Rattle.std.specs.Prelude.option_map (put_task f (offset - 2) (Operand new_bits))) runs_t.task;
+      member = member-same s.jobs m.constants.number c' m runs_t.member;
+      task = keyed_put plan m.constants.number m.progress.job f (offset - 2) (Operand new_bits) t.number m.progress.job.tasks ∙ ap (Rattle.std.specs.Prelude.option_map (put_task f (offset - 2) (Operand new_bits))) runs_t.task;
       slot = runs_t.slot;
     }
 
     -- and each of that one's tasks an old one with the word stored
-    for_tasks : (P : Member → Task → Type 0) → ((y : Member) (v : Task) → Has s.jobs y → Has y.course.job.tasks v → P y v) → ((v : Task) → Has m.course.job.tasks v → P moved (put_task f (offset - 2) (Operand new_bits) v)) → (y : Member) (v : Task) → Has jobs' y → Has y.course.job.tasks v → P y v
-    for_tasks P before here y v in_y in_v = for_members (λ z. Has z.course.job.tasks v → P z v) (λ z in_z in_v. before z v in_z in_v)
-        (λ in_v. (let b = has_map_back (put_task f (offset - 2) (Operand new_bits)) m.course.job.tasks v in_v in subst (λ z. P moved z) b.is (here b.item b.among))) y in_y in_v
+    for_tasks : (P : SessionJob → Task → Type 0) → ((y : SessionJob) (v : Task) → Has s.jobs y → Has y.progress.job.tasks v → P y v) → ((v : Task) → Has m.progress.job.tasks v → P moved (put_task f (offset - 2) (Operand new_bits) v)) → (y : SessionJob) (v : Task) → Has jobs' y → Has y.progress.job.tasks v → P y v
+    for_tasks P before here y v in_y in_v = for_members (λ z. Has z.progress.job.tasks v → P z v) (λ z in_z in_v. before z v in_z in_v)
+        (λ in_v. (let b = has_map_back (put_task f (offset - 2) (Operand new_bits)) m.progress.job.tasks v in_v in subst (λ z. P moved z) b.is (here b.item b.among))) y in_y in_v
 
-    task_stands : TaskStands old.regs plan moved (put_task f (offset - 2) (Operand new_bits) t)
+    task_stands : RepresentsTask old.regs plan moved (put_task f (offset - 2) (Operand new_bits) t)
     task_stands = let o' = h.holds.running m t runs_t in record { slot = o'.slot; dict = o'.dict; entries = o'.entries; segment = o'.segment; place = o'.place }
 
     slot_small : plan.running ≢ 255
-    slot_small e = let b = slot_below plan s.jobs m t h.holds.fits.rows has_m (keyed-has (λ (v : Task). v.number) t.number m.course.job.tasks t runs_t.task) in let few = h.holds.fits.few in let r = runs_t.slot in omega (arith, e, b, few, r)
+    slot_small e = let b = slot_below plan s.jobs m t h.holds.fits.rows has_m (keyed-has (λ (v : Task). v.number) t.number m.progress.job.tasks t runs_t.task) in let few = h.holds.fits.few in let r = runs_t.slot in omega (arith, e, b, few, r)
 
-    vector : (y : Member) (v : Task) → Has s.jobs y → Has y.course.job.tasks v → slice_get (slice_set old.core at (word 0 new_bits)) (32 + slot_of plan y.setting.number v.number) ≡ Some (vector_word plan y.setting.number v.parents)
-    vector y v in_y in_v = same (32 + slot_of plan y.setting.number v.number) (let b = slot_below plan s.jobs y v h.holds.fits.rows in_y in_v in let few = h.holds.fits.few in let first = h.holds.memory.slots.laid.first in omega (arith, b, few, first)) ∙ h.holds.vector.live y v in_y in_v
+    vector : (y : SessionJob) (v : Task) → Has s.jobs y → Has y.progress.job.tasks v → slice_get (slice_set old.core at (word 0 new_bits)) (32 + slot_of plan y.constants.number v.number) ≡ Some (vector_word plan y.constants.number v.parents)
+    vector y v in_y in_v = same (32 + slot_of plan y.constants.number v.number) (let b = slot_below plan s.jobs y v h.holds.fits.rows in_y in_v in let few = h.holds.fits.few in let first = h.holds.memory.slots.laid.first in omega (arith, b, few, first)) ∙ h.holds.vector.live y v in_y in_v
 
-    dictionary : (y : Member) → Has s.jobs y → DictionaryStands (slice_set old.core at (word 0 new_bits)) plan y
+    dictionary : (y : SessionJob) → Has s.jobs y → RepresentsDictionary (slice_set old.core at (word 0 new_bits)) plan y
     dictionary y in_y =
         let d = dictionary_below plan 160 s.jobs y h.holds.fits.dictionaries in_y in
         let b = h.holds.dictionaries y in_y in
-        record { mark = same (plan.dictionary y.setting.number) (omega (arith, d)) ∙ b.mark; entries = same (plan.dictionary y.setting.number + 1) (omega (arith, d)) ∙ b.entries }
+        record { mark = same (plan.dictionary y.constants.number) (omega (arith, d)) ∙ b.mark; entries = same (plan.dictionary y.constants.number + 1) (omega (arith, d)) ∙ b.entries }
 
-    pub SessionHolds-store : SessionHolds x (slice_set old.core at (word 0 new_bits)) old.regs old.critical plan (record s { jobs = with_course s.jobs m.setting.number (record m.course { job = put_job m.course.job f (offset - 2) (Operand new_bits) }) })
+    pub SessionHolds-store : SessionHolds x (slice_set old.core at (word 0 new_bits)) old.regs old.critical plan (record s { jobs = with_course s.jobs m.constants.number (record m.progress { job = put_job m.progress.job f (offset - 2) (Operand new_bits) }) })
     SessionHolds-store = record {
       fits = fits;
       memory = memory.0;
       settled = memory.1;
-      dictionaries = for_members (DictionaryStands (slice_set old.core at (word 0 new_bits)) plan) dictionary (let d = dictionary m has_m in record { mark = d.mark; entries = d.entries });
+      dictionaries = for_members (RepresentsDictionary (slice_set old.core at (word 0 new_bits)) plan) dictionary (let d = dictionary m has_m in record { mark = d.mark; entries = d.entries });
       mcp = (let first = h.holds.memory.slots.laid.first in record { mark = same 0 (omega (arith, first)) ∙ h.holds.mcp.mark; intrinsics = λ i down up. same i (omega (arith, up, first)) ∙ h.holds.mcp.intrinsics i down up });
       vector = record {
-        live = for_tasks (λ y v. slice_get (slice_set old.core at (word 0 new_bits)) (32 + slot_of plan y.setting.number v.number) ≡ Some (vector_word plan y.setting.number v.parents)) vector (λ v in_v. vector m v has_m in_v);
+        live = for_tasks (λ y v. slice_get (slice_set old.core at (word 0 new_bits)) (32 + slot_of plan y.constants.number v.number) ≡ Some (vector_word plan y.constants.number v.parents)) vector (λ v in_v. vector m v has_m in_v);
         free = λ i small others. same (32 + i) (let first = h.holds.memory.slots.laid.first in omega (arith, small, first)) ∙ h.holds.vector.free i small others;
       };
       critical = record {
-        live = for_tasks (λ y v. slice_get old.critical (slot_of plan y.setting.number v.number) ≡ Some (critical_mark y.course.job v.frames)) h.holds.critical.live
-            (λ v in_v. h.holds.critical.live m v has_m in_v ∙ ap Some (sym (mark_put plan m.setting.number m.course.job f (offset - 2) (Operand new_bits) v.frames)));
+        live = for_tasks (λ y v. slice_get old.critical (slot_of plan y.constants.number v.number) ≡ Some (critical_mark y.progress.job v.frames)) h.holds.critical.live
+            (λ v in_v. h.holds.critical.live m v has_m in_v ∙ ap Some (sym (mark_put plan m.constants.number m.progress.job f (offset - 2) (Operand new_bits) v.frames)));
         free = h.holds.critical.free;
       };
       live = λ z. (moved, put_task f (offset - 2) (Operand new_bits) t, still);
-      running = λ y v q. running_only plan jobs' moved y (put_task f (offset - 2) (Operand new_bits) t) v (TaskStands old.regs plan) fits.rows still q task_stands;
+      running = λ y v q. running_only plan jobs' moved y (put_task f (offset - 2) (Operand new_bits) t) v (RepresentsTask old.regs plan) fits.rows still q task_stands;
       none = λ e. absurd (slot_small e);
     }
 
     -- the whole machine
-    pub SessionStands-store : SessionStands x (record old { core = slice_set old.core at (word 0 new_bits) }) plan (record s { jobs = with_course s.jobs m.setting.number (record m.course { job = put_job m.course.job f (offset - 2) (Operand new_bits) }) })
-    SessionStands-store = record {
+    pub RepresentsSession-store : RepresentsSession x (record old { core = slice_set old.core at (word 0 new_bits) }) plan (record s { jobs = with_course s.jobs m.constants.number (record m.progress { job = put_job m.progress.job f (offset - 2) (Operand new_bits) }) })
+    RepresentsSession-store = record {
       holds = SessionHolds-store;
-      shows = λ y v q. running_only plan jobs' moved y (put_task f (offset - 2) (Operand new_bits) t) v (Shows old.display plan) fits.rows still q
+      shows = λ y v q. running_only plan jobs' moved y (put_task f (offset - 2) (Operand new_bits) t) v (ShowsDisplay old.display plan) fits.rows still q
           (Shows-put old.display plan m c' t f (offset - 2) (Operand new_bits) refl (h.shows m t runs_t));
     }
 
-    pub still_runs : IsRunning plan (with_course s.jobs m.setting.number (record m.course { job = put_job m.course.job f (offset - 2) (Operand new_bits) })) (record m { course = record m.course { job = put_job m.course.job f (offset - 2) (Operand new_bits) } }) (put_task f (offset - 2) (Operand new_bits) t)
+    pub still_runs : IsRunning plan (with_course s.jobs m.constants.number (record m.progress { job = put_job m.progress.job f (offset - 2) (Operand new_bits) })) (record m { progress = record m.progress { job = put_job m.progress.job f (offset - 2) (Operand new_bits) } }) (put_task f (offset - 2) (Operand new_bits) t)
     still_runs = still

@@ -1,24 +1,23 @@
 -- The machine after a store into a cell of some slot's stack.
-use Rattle.std.proofs.Common.{◌≡◌, ◌≢◌, ℕ, suc, ◌+◌, ◌<◌, ◌≤◌, List, [], ◌∷◌, length, Option, Some, None, refl, sym, ◌∙◌, ap, arith, inl, inr, ◌⊎◌, ⊎_elim, subst, slice_set}
+use Rattle.std.proofs.Common.{◌≡◌, ◌≢◌, ℕ, suc, ◌+◌, ◌<◌, ◌≤◌, List, length, Some, refl, sym, ◌∙◌, ap, arith, inl, inr, ◌⊎◌, ⊎_elim, subst, slice_set}
 use Rattle.std.specs.List.{slice_get}
 use Rattle.std.proofs.Math.ListN.{length-set}
 use Rattle.std.proofs.lemmas.Bool.{cases_lt}
 use Rattle.b67_word.specs.Tagged.{Tagged}
 use Rattle.b67_ctl.specs.Layout.{toscw_word}
 use Rattle.b67_core.proofs.Writes.{slice_get-set_other}
-use Rattle.b67_area.specs.Spans.{Span, Area, Hole}
 use Rattle.b67_area.proofs.Climbs.{area_at-low}
-use Rattle.b67_area.proofs.Separation.{Controls, IsDirectory-same}
+use Rattle.b67_area.proofs.Separation.{IsDirectory-same, controls_above}
 use Rattle.b67_lemmas.specs.Lists.{Has}
 use Rattle.b67_ctl.specs.declared.registers.Regs.{Regs}
-use Rattle.b67_stack.specs.Shapes.{Copied, Shape, Copy, Fits, Lie}
-use Rattle.b67_stack.specs.Stacks.{Activation, IsStack, high, words}
-use Rattle.b67_stack.specs.Picture.{Thing, Picture, Slot, Free, Running, Waiting, stack_of, slot_base, SlotFits, CopiesName, Laid, Settled, with_slot, words_of}
-use Rattle.b67_stack.specs.Stands.{Storage, SlotStands, Content, Stands, info_of}
+use Rattle.b67_stack.specs.Shapes.{Copied, Shape, Copy, Fits, LieDownward}
+use Rattle.b67_stack.specs.Stacks.{Activation, IsStack, stack_words, words}
+use Rattle.b67_stack.specs.MachineView.{PagedObject, MachineView, Slot, Free, Running, Waiting, stack_of, slot_base, SlotFits, CopiesName, Laid, NoOriginalAboveTop, with_slot}
+use Rattle.b67_stack.specs.Represents.{Storage, RepresentsSlot, Represents, info_of}
 use Rattle.b67_stack.proofs.Bases.{base-apart}
-use Rattle.b67_stack.proofs.Lies.{Lie-same, Upward-same}
+use Rattle.b67_stack.proofs.Lies.{Lie-same}
 use Rattle.b67_stack.proofs.Heights.{words-length}
-use Rattle.b67_stack.proofs.Slots.{by_slot}
+use Rattle.b67_stack.proofs.Slots.{by_slot, Content-areas, slot_room}
 use Rattle.b67_layout_store.proofs.Puts.{Puts, puts_high, puts_mark, puts_level, puts_some, puts_heads, puts_lies, puts_has, puts_low}
 
 -- a live task's slot with another shape in a cell
@@ -26,49 +25,33 @@ pub data SlotPuts (c : Shape) (at : ℕ) : Slot → Slot → Type 0 where
   runs : {st st' : List Activation} → Puts c at st st' → SlotPuts c at (Running st) (Running st')
   waits : {st st' : List Activation} → Puts c at st st' → SlotPuts c at (Waiting st) (Waiting st')
 
-slot_high : {c : Shape} {at : ℕ} {y y' : Slot} → SlotPuts c at y y' → high (stack_of y') ≡ high (stack_of y)
+slot_high : {c : Shape} {at : ℕ} {y y' : Slot} → SlotPuts c at y y' → stack_words (stack_of y') ≡ stack_words (stack_of y)
 slot_high (runs p) = puts_high p
 slot_high (waits p) = puts_high p
 
-slot_low : {c : Shape} {at : ℕ} {y y' : Slot} → SlotPuts c at y y' → at < high (stack_of y)
+slot_low : {c : Shape} {at : ℕ} {y y' : Slot} → SlotPuts c at y y' → at < stack_words (stack_of y)
 slot_low (runs p) = puts_low p
 slot_low (waits p) = puts_low p
 
-slot_lies : {c : Shape} {at : ℕ} {y y' : Slot} (R : Shape → ℕ → Tagged → Type 0) (core : List Tagged) (from k : ℕ) (v : Tagged) → SlotPuts c at y y' → from + at < length core → R c (from + at) v → Lie R core from (words k (stack_of y)) → Lie R (slice_set core (from + at) v) from (words k (stack_of y'))
+slot_lies : {c : Shape} {at : ℕ} {y y' : Slot} (R : Shape → ℕ → Tagged → Type 0) (core : List Tagged) (from k : ℕ) (v : Tagged) → SlotPuts c at y y' → from + at < length core → R c (from + at) v → LieDownward R core from (words k (stack_of y)) → LieDownward R (slice_set core (from + at) v) from (words k (stack_of y'))
 slot_lies R core from k v (runs p) inside fit l = puts_lies R core from k v p inside fit l
 slot_lies R core from k v (waits p) inside fit l = puts_lies R core from k v p inside fit l
 
 stack_fits : {c : Shape} {at : ℕ} {st st' : List Activation} (room : ℕ) → Puts c at st st' → IsStack room st → IsStack room st'
 stack_fits room p f = record { some = puts_some p; heads = puts_heads p f.heads; fits = (let h = puts_high p in let n = f.fits in omega (arith, h, n)) }
 
-copies_name : {c : Shape} {at : ℕ} {st st' : List Activation} (things : List Thing) (k : ℕ) → ((d : Copied) (home : ℕ) → c ≢ Copy d home) → Puts c at st st' → CopiesName things (words k st) → CopiesName things (words k st')
-copies_name things k plain p f = λ d home h. f d home (puts_has k d home (plain d home) p h)
+copies_name : {c : Shape} {at : ℕ} {st st' : List Activation} (objects : List PagedObject) (k : ℕ) → ((d : Copied) (home : ℕ) → c ≢ Copy d home) → Puts c at st st' → CopiesName objects (words k st) → CopiesName objects (words k st')
+copies_name objects k plain p f = λ d home h. f d home (puts_has k d home (plain d home) p h)
 
-slot_fits : {c : Shape} {at : ℕ} {y y' : Slot} (p : Picture) (k : ℕ) → ((d : Copied) (home : ℕ) → c ≢ Copy d home) → SlotPuts c at y y' → SlotFits p k y → SlotFits p k y'
-slot_fits p k plain (runs q) f = (stack_fits p.size q f.0, copies_name p.things k plain q f.1)
-slot_fits p k plain (waits q) f = (stack_fits p.size q f.0, copies_name p.things k plain q f.1)
+slot_fits : {c : Shape} {at : ℕ} {y y' : Slot} (p : MachineView) (k : ℕ) → ((d : Copied) (home : ℕ) → c ≢ Copy d home) → SlotPuts c at y y' → SlotFits p k y → SlotFits p k y'
+slot_fits p k plain (runs q) f = (stack_fits p.size q f.0, copies_name p.objects k plain q f.1)
+slot_fits p k plain (waits q) f = (stack_fits p.size q f.0, copies_name p.objects k plain q f.1)
 
-slot_room : (p : Picture) (k : ℕ) (y : Slot) → SlotFits p k y → 0 < p.size → high (stack_of y) < p.size
-slot_room p k Free f some = some
-slot_room p k (Running stack) f some = f.0.fits
-slot_room p k (Waiting stack) f some = f.0.fits
-
-slot_size : {c : Shape} {at : ℕ} {y y' : Slot} (p : Picture) (k : ℕ) → SlotPuts c at y y' → SlotFits p k y → high (stack_of y) < p.size
+slot_size : {c : Shape} {at : ℕ} {y y' : Slot} (p : MachineView) (k : ℕ) → SlotPuts c at y y' → SlotFits p k y → stack_words (stack_of y) < p.size
 slot_size p k (runs q) f = f.0.fits
 slot_size p k (waits q) f = f.0.fits
 
--- heads and tails of areas, and the first words of holes, lie above the slots
-controls_above : (at : ℕ) (ss : List Span) (i : ℕ) → Controls at ss i → at ≤ i
-controls_above at [] i c = absurd c
-controls_above at (Area a ∷ ss) i c = ⊎_elim (λ e. omega arith) (λ d. ⊎_elim (λ e. omega arith) (λ r. omega (arith, controls_above (at + (a.words + 2)) ss i r)) d) c
-controls_above at (Hole n ∷ ss) i c = ⊎_elim (λ e. omega arith) (λ r. omega (arith, controls_above (at + n) ss i r)) c
-
-Content-areas : (x : Storage) (old new : List Tagged) (t : Thing) (a : Option ℕ) (f : ℕ)
-    → ((b : ℕ) → a ≡ Some b → x.low ≤ b) → ((q : ℕ) → x.low ≤ q → slice_get new q ≡ slice_get old q) → Content x old t a f → Content x new t a f
-Content-areas x old new t (Some a) f up same c = (Upward-same old new a (words_of t) (λ q above below. same q (omega (arith, up a refl))) c.0, c.1)
-Content-areas x old new t None f up same c = c
-
-slot_stands : (old new : List Tagged) (r : Regs) (p p' : Picture) (j : ℕ) (y : Slot) → slot_base p' j ≡ slot_base p j → p'.size ≡ p.size → slice_get new (slot_base p j) ≡ slice_get old (slot_base p j) → SlotStands old r p j y → SlotStands new r p' j y
+slot_stands : (old new : List Tagged) (r : Regs) (p p' : MachineView) (j : ℕ) (y : Slot) → slot_base p' j ≡ slot_base p j → p'.size ≡ p.size → slice_get new (slot_base p j) ≡ slice_get old (slot_base p j) → RepresentsSlot old r p j y → RepresentsSlot new r p' j y
 slot_stands old new r p p' j Free b z same t = (t.0, ap (slice_get new) b ∙ same ∙ t.1)
 slot_stands old new r p p' j (Running stack) b z same t = record {
   slot = t.slot;
@@ -80,7 +63,7 @@ slot_stands old new r p p' j (Running stack) b z same t = record {
 }
 slot_stands old new r p p' j (Waiting stack) b z same t = (t.0, ap (slice_get new) b ∙ same ∙ t.1)
 
-slot_put : {c : Shape} {at : ℕ} {y y' : Slot} (old new : List Tagged) (r : Regs) (p : Picture) (k : ℕ) → SlotPuts c at y y' → slice_get new (slot_base p k) ≡ slice_get old (slot_base p k) → SlotStands old r p k y → SlotStands new r (with_slot p k y') k y'
+slot_put : {c : Shape} {at : ℕ} {y y' : Slot} (old new : List Tagged) (r : Regs) (p : MachineView) (k : ℕ) → SlotPuts c at y y' → slice_get new (slot_base p k) ≡ slice_get old (slot_base p k) → RepresentsSlot old r p k y → RepresentsSlot new r (with_slot p k y') k y'
 slot_put old new r p k (runs q) same t = record {
   slot = t.slot;
   first = t.first;
@@ -92,8 +75,8 @@ slot_put old new r p k (runs q) same t = record {
 slot_put old new r p k (waits q) same t =
     (t.0, same ∙ t.1 ∙ (λ i. Some (toscw_word (record { s = sym (puts_high q) i; level = sym (puts_level q) i; f = sym (puts_mark q) i }))))
 
-module _ (x : Storage) (core : List Tagged) (r : Regs) (p : Picture) (k : ℕ) (y y' : Slot) (c : Shape) (at : ℕ) (v : Tagged) (s : Stands x core r p) (used : k < p.peak) (is : p.slots k ≡ y) (puts : SlotPuts c at y y') (plain : (d : Copied) (home : ℕ) → c ≢ Copy d home)
-    (fit : Fits x.held c (suc (slot_base p k) + at) v) (no_home : (t : Thing) → Has p.things t → t.home ≢ suc (slot_base p k) + at) where
+module _ (x : Storage) (core : List Tagged) (r : Regs) (p : MachineView) (k : ℕ) (y y' : Slot) (c : Shape) (at : ℕ) (v : Tagged) (s : Represents x core r p) (used : k < p.peak) (is : p.slots k ≡ y) (puts : SlotPuts c at y y') (plain : (d : Copied) (home : ℕ) → c ≢ Copy d home)
+    (fit : Fits x.held c (suc (slot_base p k) + at) v) (no_home : (t : PagedObject) → Has p.objects t → t.home ≢ suc (slot_base p k) + at) where
   abbrev place : ℕ
   place = suc (slot_base p k) + at
 
@@ -142,20 +125,20 @@ module _ (x : Storage) (core : List Tagged) (r : Regs) (p : Picture) (k : ℕ) (
     slots = by_slot p k y' (λ j z. SlotFits (with_slot p k y') j z) (fits_same k y' (slot_fits p k plain puts fits)) (λ j hj n. fits_same j (p.slots j) (laid.slots j hj));
   }
 
-  pub Stands-store : Stands x (slice_set core (suc (slot_base p k) + at) v) r (with_slot p k y')
-  Stands-store = record {
+  pub Represents-store : Represents x (slice_set core (suc (slot_base p k) + at) v) r (with_slot p k y')
+  Represents-store = record {
     slots = record {
       laid = laid';
       regs = record { stacks = s.slots.regs.stacks; size = s.slots.regs.size; peak = s.slots.regs.peak };
-      slots = by_slot p k y' (λ j z. SlotStands (slice_set core (suc (slot_base p k) + at) v) r (with_slot p k y') j z)
-          (slot_put core (slice_set core (suc (slot_base p k) + at) v) r p k puts (other (slot_base p k) (inl (omega arith))) (let P : Slot → Type 0 = λ z. SlotStands core r p k z in subst P is (s.slots.slots k used)))
+      slots = by_slot p k y' (λ j z. RepresentsSlot (slice_set core (suc (slot_base p k) + at) v) r (with_slot p k y') j z)
+          (slot_put core (slice_set core (suc (slot_base p k) + at) v) r p k puts (other (slot_base p k) (inl (omega arith))) (let P : Slot → Type 0 = λ z. RepresentsSlot core r p k z in subst P is (s.slots.slots k used)))
           (λ j hj n. slot_stands core (slice_set core (suc (slot_base p k) + at) v) r p (with_slot p k y') j (p.slots j) refl refl (elsewhere j hj n (slot_base p j) (omega arith) (omega (arith, some))) (s.slots.slots j hj));
     };
-    stacks = by_slot p k y' (λ j z. Lie (Fits x.held) (slice_set core (suc (slot_base p k) + at) v) (suc (slot_base p j)) (words j (stack_of z)))
-        (slot_lies (Fits x.held) core (suc (slot_base p k)) k v puts (let i = s.inside in omega (arith, room.1, below_low, i)) fit (let P : Slot → Type 0 = λ z. Lie (Fits x.held) core (suc (slot_base p k)) (words k (stack_of z)) in subst P is (s.stacks k used)))
+    stacks = by_slot p k y' (λ j z. LieDownward (Fits x.held) (slice_set core (suc (slot_base p k) + at) v) (suc (slot_base p j)) (words j (stack_of z)))
+        (slot_lies (Fits x.held) core (suc (slot_base p k)) k v puts (let i = s.inside in omega (arith, room.1, below_low, i)) fit (let P : Slot → Type 0 = λ z. LieDownward (Fits x.held) core (suc (slot_base p k)) (words k (stack_of z)) in subst P is (s.stacks k used)))
         (λ j hj n. Lie-same (Fits x.held) core (slice_set core (suc (slot_base p k) + at) v) (suc (slot_base p j)) (words j (stack_of (p.slots j)))
         (λ i down up. elsewhere j hj n i (omega (arith, down)) (let w = words-length j (stack_of (p.slots j)) in let f = slot_room p j (p.slots j) (laid.slots j hj) some in omega (arith, up, w, f))) (s.stacks j hj));
-    things = λ t int. (let was = s.things t int in
+    objects = λ t int. (let was = s.objects t int in
         record {
           home = slice_get-set_other core (suc (slot_base p k) + at) t.home v (no_home t int) ∙ was.home;
           content = Content-areas x core (slice_set core (suc (slot_base p k) + at) v) t (x.held t.home).area (x.held t.home).chain
@@ -169,7 +152,7 @@ module _ (x : Storage) (core : List Tagged) (r : Regs) (p : Picture) (k : ℕ) (
     inside = (let i = s.inside in let n = length-set core (suc (slot_base p k) + at) v in omega (arith, i, n));
   }
 
-  pub Settled-store : Settled p → Settled (with_slot p k y')
-  Settled-store settled t int = by_slot p k y' (λ j z. slot_base p j ≤ t.home → t.home < slot_base p j + p.size → t.home ≤ slot_base p j + high (stack_of z))
-      (λ low up. let o = settled t int k used low up in let e : high (stack_of (p.slots k)) ≡ high (stack_of y) = ap (λ (z : Slot). high (stack_of z)) is in let h = slot_high puts in omega (arith, o, e, h))
+  pub Settled-store : NoOriginalAboveTop p → NoOriginalAboveTop (with_slot p k y')
+  Settled-store settled t int = by_slot p k y' (λ j z. slot_base p j ≤ t.home → t.home < slot_base p j + p.size → t.home ≤ slot_base p j + stack_words (stack_of z))
+      (λ low up. let o = settled t int k used low up in let e : stack_words (stack_of (p.slots k)) ≡ stack_words (stack_of y) = ap (λ (z : Slot). stack_words (stack_of z)) is in let h = slot_high puts in omega (arith, o, e, h))
       (λ j hj n. settled t int j hj)

@@ -5,9 +5,10 @@ use Rattle.std.proofs.lemmas.List.{take-append-drop}
 use Rattle.b67_backing.specs.Shelf.{Table, Shelf, HasChain, IsShelf, Linked, AreChains, one, times, uses, first, chain_of, taken}
 use Rattle.b67_backing.specs.Held.{Holds, SameBut}
 use Rattle.b67_backing.proofs.Links.{Chain, chain_there, linked_within, rest, one-same, one-other, times-append, uses-split}
+use Rattle.b67_backing.proofs.News.{first_take}
 use Rattle.b67_lemmas.specs.Lists.{Has}
-use Rattle.b67_stack.specs.Picture.{Thing}
-use Rattle.b67_load.specs.Things.{sectors_of, sectors_of_all}
+use Rattle.b67_stack.specs.MachineView.{PagedObject}
+use Rattle.b67_load.specs.Objects.{sectors_of, sectors_of_all}
 use Rattle.b67_load.specs.Resting.{Resting, placed, stocked, KeepsChains}
 
 -- a chain's first sector is a sector's number
@@ -87,11 +88,6 @@ free_first t s x is has = ⊎_elim
       some : 1 ≤ times x (chain_of x s.chains)
       some = rw k.is (omega (arith, one-same x))
 
-pub first_take : (n : ℕ) (fs : List ℕ) → 1 ≤ n → first (take n fs) ≡ first fs
-first_take zero fs h = absurd (omega arith)
-first_take (suc n) [] h = refl
-first_take (suc n) (c ∷ cs) h = refl
-
 has_drop : (n : ℕ) (xs : List ℕ) (x : ℕ) → Has (drop n xs) x → Has xs x
 has_drop zero xs x h = h
 has_drop (suc n) [] x h = absurd h
@@ -118,36 +114,36 @@ keeps_both a b c k l = record {
   free = λ m h. k.free m (l.free m h);
 }
 
--- things one after the other
-pub stocked-append : (xs ys : List Thing) (s : Shelf) → stocked (xs ++ ys) s ≡ stocked ys (stocked xs s)
+-- objects one after the other
+pub stocked-append : (xs ys : List PagedObject) (s : Shelf) → stocked (xs ++ ys) s ≡ stocked ys (stocked xs s)
 stocked-append [] ys s = refl
 stocked-append (x ∷ xs) ys s = stocked-append xs ys (taken (sectors_of x) s)
 
-pub placed-append : (xs ys : List Thing) (s : Shelf) → placed (xs ++ ys) s.free ≡ placed xs s.free ++ placed ys (stocked xs s).free
+pub placed-append : (xs ys : List PagedObject) (s : Shelf) → placed (xs ++ ys) s.free ≡ placed xs s.free ++ placed ys (stocked xs s).free
 placed-append [] ys s = refl
-placed-append (x ∷ xs) ys s = ap (λ (r : List Resting). record { thing = x; chain = take (sectors_of x) s.free } ∷ r) (placed-append xs ys (taken (sectors_of x) s))
+placed-append (x ∷ xs) ys s = ap (λ (r : List Resting). record { object = x; chain = take (sectors_of x) s.free } ∷ r) (placed-append xs ys (taken (sectors_of x) s))
 
-pub free-stocked : (xs : List Thing) (s : Shelf) → length (stocked xs s).free ≡ length s.free - sectors_of_all xs
+pub free-stocked : (xs : List PagedObject) (s : Shelf) → length (stocked xs s).free ≡ length s.free - sectors_of_all xs
 free-stocked [] s = omega arith
 free-stocked (x ∷ xs) s = omega (arith, free-stocked xs (taken (sectors_of x) s), length-drop (sectors_of x) s.free)
 
-pub times-stocked : (m : ℕ) (xs : List Thing) (s : Shelf) → times m (stocked xs s).free ≤ times m s.free
+pub times-stocked : (m : ℕ) (xs : List PagedObject) (s : Shelf) → times m (stocked xs s).free ≤ times m s.free
 times-stocked m [] s = omega arith
 times-stocked m (x ∷ xs) s = omega (arith, times-stocked m xs (taken (sectors_of x) s), times-take_drop m (sectors_of x) s.free)
 
-pub old_chain : (xs : List Thing) (s : Shelf) (k : List ℕ) → Has s.chains k → Has (stocked xs s).chains k
+pub old_chain : (xs : List PagedObject) (s : Shelf) (k : List ℕ) → Has s.chains k → Has (stocked xs s).chains k
 old_chain [] s k h = h
 old_chain (x ∷ xs) s k h = old_chain xs (taken (sectors_of x) s) k (inr h)
 
-pub placed_chain : (xs : List Thing) (s : Shelf) (r : Resting) → Has (placed xs s.free) r → Has (stocked xs s).chains r.chain
+pub placed_chain : (xs : List PagedObject) (s : Shelf) (r : Resting) → Has (placed xs s.free) r → Has (stocked xs s).chains r.chain
 placed_chain [] s r h = absurd h
 placed_chain (x ∷ xs) s r (inl e) = old_chain xs (taken (sectors_of x) s) r.chain (inl (ap (λ (q : Resting). q.chain) e))
 placed_chain (x ∷ xs) s r (inr h) = placed_chain xs (taken (sectors_of x) s) r h
 
-pub placed_thing : (xs : List Thing) (free : List ℕ) (r : Resting) → Has (placed xs free) r → Has xs r.thing
-placed_thing [] free r h = absurd h
-placed_thing (x ∷ xs) free r (inl e) = inl (ap (λ (q : Resting). q.thing) e)
-placed_thing (x ∷ xs) free r (inr h) = inr (placed_thing xs (drop (sectors_of x) free) r h)
+pub placed_object : (xs : List PagedObject) (free : List ℕ) (r : Resting) → Has (placed xs free) r → Has xs r.object
+placed_object [] free r h = absurd h
+placed_object (x ∷ xs) free r (inl e) = inl (ap (λ (q : Resting). q.object) e)
+placed_object (x ∷ xs) free r (inr h) = inr (placed_object xs (drop (sectors_of x) free) r h)
 
 -- what a chain holds stays under changes of other sectors
 pub holds_stay : (ns k : List ℕ) (a b : List (List ℕ)) (at : ℕ) (numbers : List ℕ) → SameBut ns a b → ((c : ℕ) → Has k c → (1 ≤ c) × (times c ns ≡ 0)) → Holds a k at numbers → Holds b k at numbers
@@ -169,6 +165,6 @@ none_more xs ys m more z = ⊎_elim
     (λ (l : 1 ≤ times m ys). absurd (omega (arith, z, has_times xs m (more (times_has ys m l)))))
     (cases_lt (times m ys) 1)
 
-pub stocked_has : (m : ℕ) (xs : List Thing) (s : Shelf) → Has (stocked xs s).free m → Has s.free m
+pub stocked_has : (m : ℕ) (xs : List PagedObject) (s : Shelf) → Has (stocked xs s).free m → Has s.free m
 stocked_has m [] s h = h
 stocked_has m (x ∷ xs) s h = has_drop (sectors_of x) s.free m (stocked_has m xs (taken (sectors_of x) s) h)

@@ -1,33 +1,27 @@
--- Things written one after the other.
+-- Objects written one after the other.
 use Rattle.std.proofs.Common.{◌≡◌, ℕ, ◌+◌, ◌<◌, ◌≤◌, ◌⊎◌, List, [], ◌∷◌, ◌++◌, length, take, map, Option, Some, refl, sym, ◌∙◌, ap, subst, arith, inl, inr, ⊎_elim, slice_set, length-drop}
 use Rattle.std.specs.List.{slice_get, AllByRecursion}
 use Rattle.b67_word.specs.Tagged.{Tagged, word, contents}
 use Rattle.b67_core.specs.Numbers.{number}
 use Rattle.b67_core.proofs.Writes.{slice_get-set_same, slice_get-set_other}
-use Rattle.b67_codefile.specs.Spelling.{Bears}
+use Rattle.b67_codefile.specs.Spelling.{HasTag}
 use Rattle.b67_backing.specs.Shelf.{Shelf, IsShelf, first, taken}
 use Rattle.b67_backing.specs.Held.{Changes, SameBut, Stores, Holds, sectors_for}
-use Rattle.b67_lemmas.specs.Lists.{Has, total}
-use Rattle.b67_stack.specs.Picture.{Thing, words_of, home_word}
-use Rattle.b67_load.specs.Things.{sectors_of, sectors_of_all}
-use Rattle.b67_load.specs.Resting.{Resting, placed, stocked, at_rest, descriptor, DescriptorsStand, WordsRest, Stocks, SameOutside}
+use Rattle.b67_backing.proofs.News.{first_take}
+use Rattle.b67_lemmas.specs.Lists.{Has}
+use Rattle.b67_lemmas.proofs.Members.{has_append_cases, total_append}
+use Rattle.b67_stack.specs.MachineView.{PagedObject, words_of, home_word}
+use Rattle.b67_stack.specs.Shapes.{at_rest}
+use Rattle.b67_load.specs.Objects.{sectors_of, sectors_of_all}
+use Rattle.b67_load.specs.Resting.{Resting, placed, stocked, descriptor, DescriptorsStand, WordsRest, WritesFreeSectors, SameOutside}
 use Rattle.b67_load.specs.Writing.{Parts, Spares, Writes}
-use Rattle.b67_load.proofs.Shelves.{first_take, keeps_taken, keeps-refl, keeps_both, stocked-append, placed-append, stocked_has, placed_chain, placed_thing, holds_stay, chain_apart, times-take_drop, none_more}
+use Rattle.b67_load.proofs.Shelves.{keeps_taken, keeps-refl, keeps_both, stocked-append, placed-append, stocked_has, placed_chain, placed_object, holds_stay, chain_apart, times-take_drop, none_more}
 
 same_but_both : (ms ns : List ℕ) (a b c : List (List ℕ)) → ((m : ℕ) → Has ns m → Has ms m) → SameBut ms a b → SameBut ns b c → SameBut ms a c
 same_but_both ms ns a b c more s t = record { count = t.count ∙ s.count; others = λ m low out. t.others m low (none_more ms ns m (more m) out) ∙ s.others m low out }
 
-pub total-append : {A : Type 0} (f : A → ℕ) (xs ys : List A) → total f (xs ++ ys) ≡ total f xs + total f ys
-total-append f [] ys = omega arith
-total-append f (x ∷ xs) ys = omega (arith, total-append f xs ys)
-
-pub has_parts : {A : Type 0} (xs ys : List A) (x : A) → Has (xs ++ ys) x → Has xs x ⊎ Has ys x
-has_parts [] ys x h = inr h
-has_parts (y ∷ xs) ys x (inl e) = inl (inl e)
-has_parts (y ∷ xs) ys x (inr h) = ⊎_elim (λ k. inl (inr k)) (λ k. inr k) (has_parts xs ys x h)
-
 -- the words of a list with one tag are those of their bits
-pub words_back : (tag : ℕ) (ws : List Tagged) → AllByRecursion (Bears tag) ws → map (word tag) (contents ws) ≡ ws
+pub words_back : (tag : ℕ) (ws : List Tagged) → AllByRecursion (HasTag tag) ws → map (word tag) (contents ws) ≡ ws
 words_back tag [] h = refl
 words_back tag (w ∷ ws) h = cc2 (ap (λ (n : ℕ). word n w.bits) (sym h.0.tagged)) (words_back tag ws h.1) where
   cc2 : word tag w.bits ≡ w → map (word tag) (contents ws) ≡ ws → word tag w.bits ∷ map (word tag) (contents ws) ≡ w ∷ ws
@@ -77,7 +71,7 @@ module _ {D : Type 0} (tell : D → Option (List (List ℕ))) where
     others = s.others;
   }
 
-  -- one thing's chain is taken, and maybe a word of core written
+  -- one object's chain is taken, and maybe a word of core written
   pub spares_taken : (at n : ℕ) (a b : Parts D) → SameOutside at (at + 1) a.core b.core → length b.core ≡ length a.core → length b.table.links ≡ length a.table.links
       → 1 ≤ n → n ≤ a.table.free
       → ((s : Shelf) → IsShelf a.table s → IsShelf b.table (taken n s))
@@ -103,16 +97,16 @@ module _ {D : Type 0} (tell : D → Option (List (List ℕ))) where
     left = omega arith;
   }
 
-  -- one thing is written
-  pub writes_one : (t : Thing) (a b : Parts D)
+  -- one object is written
+  pub writes_one : (t : PagedObject) (a b : Parts D)
       → ((s : Shelf) → IsShelf a.table s → IsShelf b.table (taken (sectors_of t) s))
-      → ((s : Shelf) → IsShelf a.table s → slice_get b.core t.home ≡ Some (descriptor (record { thing = t; chain = take (sectors_of t) s.free })))
+      → ((s : Shelf) → IsShelf a.table s → slice_get b.core t.home ≡ Some (descriptor (record { object = t; chain = take (sectors_of t) s.free })))
       → ((s : Shelf) → IsShelf a.table s → Changes tell a.device b.device (Stores (take (sectors_of t) s.free) (map number (words_of t))))
       → b.table.free + sectors_of t ≡ a.table.free
       → Writes tell (t ∷ []) a b
   writes_one t a b shelf desc stores left = record {
     shelf = shelf;
-    descriptors = λ s is r h. ⊎_elim (λ e. subst (λ (q : Resting). slice_get b.core q.thing.home ≡ Some (descriptor q)) e (desc s is)) (λ k. absurd k) h;
+    descriptors = λ s is r h. ⊎_elim (λ e. subst (λ (q : Resting). slice_get b.core q.object.home ≡ Some (descriptor q)) e (desc s is)) (λ k. absurd k) h;
     stocks = λ s is. record {
       told = λ x e.
           let (y, told, one) = (stores s is).told x e in (
@@ -120,15 +114,15 @@ module _ {D : Type 0} (tell : D → Option (List (List ℕ))) where
             told,
             record {
               same = record { count = one.same.count; others = λ m low out. one.same.others m low (omega (arith, out, times-take_drop m (sectors_of t) s.free)) };
-              rest = λ r h. ⊎_elim (λ e. subst (λ (q : Resting). Holds y q.chain 0 (map number (words_of q.thing))) e one.holds) (λ k. absurd k) h;
+              rest = λ r h. ⊎_elim (λ e. subst (λ (q : Resting). Holds y q.chain 0 (map number (words_of q.object))) e one.holds) (λ k. absurd k) h;
             },
           );
     };
     left = omega (arith, left);
   }
 
-  -- a thing whose words were put on a shelf, and its descriptor into core
-  pub written : (t : Thing) (ws : List Tagged) (x : ℕ) (a b : Parts D) → (s : Shelf) × IsShelf a.table s
+  -- an object whose words were put on a shelf, and its descriptor into core
+  pub written : (t : PagedObject) (ws : List Tagged) (x : ℕ) (a b : Parts D) → (s : Shelf) × IsShelf a.table s
       → words_of t ≡ ws → length t.numbers ≡ length ws → 1 ≤ length ws → sectors_for (length ws) ≤ a.table.free
       → ((s : Shelf) → IsShelf a.table s → IsShelf b.table (taken (sectors_for (length ws)) s))
       → ((s : Shelf) → IsShelf a.table s → Changes tell a.device b.device (Stores (take (sectors_for (length ws)) s.free) (map number ws)))
@@ -143,9 +137,9 @@ module _ {D : Type 0} (tell : D → Option (List (List ℕ))) where
       (λ s is. rw words (subst (λ (m : ℕ). Changes tell a.device b.device (Stores (take m s.free) (map number ws))) n (stores s is)))
       (let (s, is) = known in omega (arith, (shelf s is).count, is.count, length-drop (sectors_for (length ws)) s.free, n))
 
-  -- what is written after things leaves them, if their descriptors lie elsewhere
-  pub writes_both : (xs ys : List Thing) (at n : ℕ) (a b c : Parts D) → Writes tell xs a b → Writes tell ys b c → Spares tell at n b c
-      → ((t : Thing) → Has xs t → (t.home < at) ⊎ (at + n ≤ t.home)) → Writes tell (xs ++ ys) a c
+  -- what is written after objects leaves them, if their descriptors lie elsewhere
+  pub writes_both : (xs ys : List PagedObject) (at n : ℕ) (a b c : Parts D) → Writes tell xs a b → Writes tell ys b c → Spares tell at n b c
+      → ((t : PagedObject) → Has xs t → (t.home < at) ⊎ (at + n ≤ t.home)) → Writes tell (xs ++ ys) a c
   writes_both xs ys at n a b c w v s apart = record {
     shelf = λ st is. rw (stocked-append xs ys st) (v.shelf (stocked xs st) (w.shelf st is));
     descriptors = λ st is. rw (placed-append xs ys st) (both_stand st is);
@@ -161,39 +155,39 @@ module _ {D : Type 0} (tell : D → Option (List (List ℕ))) where
             },
           );
     };
-    left = omega (arith, w.left, v.left, total-append sectors_of xs ys);
+    left = omega (arith, w.left, v.left, total_append sectors_of xs ys);
   } where
     both_stand : (st : Shelf) → IsShelf a.table st → DescriptorsStand c.core (placed xs st.free ++ placed ys (stocked xs st).free)
     both_stand st is r h = ⊎_elim
-        (λ (k : Has (placed xs st.free) r). s.outside r.thing.home (apart r.thing (placed_thing xs st.free r k)) ∙ w.descriptors st is r k)
+        (λ (k : Has (placed xs st.free) r). s.outside r.object.home (apart r.object (placed_object xs st.free r k)) ∙ w.descriptors st is r k)
         (λ (k : Has (placed ys (stocked xs st).free) r). v.descriptors (stocked xs st) (w.shelf st is) r k)
-        (has_parts (placed xs st.free) (placed ys (stocked xs st).free) r h)
+        (has_append_cases (placed xs st.free) (placed ys (stocked xs st).free) r h)
 
-    both_rest : (st : Shelf) → IsShelf a.table st → (y z : List (List ℕ)) → {x : List (List ℕ)} → Stocks xs st.free x y → Stocks ys (stocked xs st).free y z
+    both_rest : (st : Shelf) → IsShelf a.table st → (y z : List (List ℕ)) → {x : List (List ℕ)} → WritesFreeSectors xs st.free x y → WritesFreeSectors ys (stocked xs st).free y z
         → WordsRest z (placed xs st.free ++ placed ys (stocked xs st).free)
     both_rest st is y z one two r h = ⊎_elim
         (λ (k : Has (placed xs st.free) r).
-        holds_stay (stocked xs st).free r.chain y z 0 (map number (words_of r.thing)) two.same
+        holds_stay (stocked xs st).free r.chain y z 0 (map number (words_of r.object)) two.same
         (λ d i. let p = chain_apart b.table (stocked xs st) r.chain d (w.shelf st is) (placed_chain xs st r k) i in (p.low, p.not_free))
         (one.rest r k))
         (λ (k : Has (placed ys (stocked xs st).free) r). two.rest r k)
-        (has_parts (placed xs st.free) (placed ys (stocked xs st).free) r h)
+        (has_append_cases (placed xs st.free) (placed ys (stocked xs st).free) r h)
 
-  -- a loop over things whose descriptors follow each other: what is written so far, with what is still written, is what
+  -- a loop over objects whose descriptors follow each other: what is written so far, with what is still written, is what
   -- all of it writes
-  pub record Going (base upto at : ℕ) (all rest : List Thing) (start now : Parts D) : Type 0 where
+  pub record Going (base upto at : ℕ) (all rest : List PagedObject) (start now : Parts D) : Type 0 where
     pub low : base ≤ at
     pub high : at + length rest ≡ base + upto
     pub room : sectors_of_all rest ≤ now.table.free
     pub spares : Spares tell base upto start now
     pub writes : (end : Parts D) → Writes tell rest now end → Spares tell at (length rest) now end → Writes tell all start end
 
-  pub going_first : (base : ℕ) (all : List Thing) (upto : ℕ) (start : Parts D) → length all ≡ upto → sectors_of_all all ≤ start.table.free → Going base upto base all all start start
+  pub going_first : (base : ℕ) (all : List PagedObject) (upto : ℕ) (start : Parts D) → length all ≡ upto → sectors_of_all all ≤ start.table.free → Going base upto base all all start start
   going_first base all upto start e room = record { low = omega arith; high = omega arith; room = room; spares = spares-refl base upto start; writes = λ end w s. w }
 
-  pub going_next : (base upto at : ℕ) (all : List Thing) (t : Thing) (rest more : List Thing) (start now next : Parts D) → rest ≡ t ∷ more → t.home ≡ at
+  pub going_next : (base upto at : ℕ) (all : List PagedObject) (t : PagedObject) (rest more : List PagedObject) (start now next : Parts D) → rest ≡ t ∷ more → t.home ≡ at
       → Going base upto at all rest start now → Writes tell (t ∷ []) now next → Spares tell at 1 now next → Going base upto (at + 1) all more start next
-  going_next base upto at all t rest more start now next e home g w s = by_cons (subst (λ (r : List Thing). Going base upto at all r start now) e g) where
+  going_next base upto at all t rest more start now next e home g w s = by_cons (subst (λ (r : List PagedObject). Going base upto at all r start now) e g) where
     by_cons : Going base upto at all (t ∷ more) start now → Going base upto (at + 1) all more start next
     by_cons g = record {
       low = omega (arith, g.low);
@@ -201,16 +195,16 @@ module _ {D : Type 0} (tell : D → Option (List (List ℕ))) where
       room = omega (arith, g.room, w.left);
       spares = spares_both base upto start now next g.spares (spares_wider at 1 base upto now next g.low (omega (arith, g.high)) s);
       writes = λ end v r. g.writes end
-          (writes_both (t ∷ []) more (at + 1) (length more) now next end w v r (λ u h. ⊎_elim (λ (q : t ≡ u). inl (let k : u.home ≡ at = ap (λ (x : Thing). x.home) (sym q) ∙ home in omega (arith, k))) (λ k. absurd k) h))
+          (writes_both (t ∷ []) more (at + 1) (length more) now next end w v r (λ u h. ⊎_elim (λ (q : t ≡ u). inl (let k : u.home ≡ at = ap (λ (x : PagedObject). x.home) (sym q) ∙ home in omega (arith, k))) (λ k. absurd k) h))
           (spares_both at (length (t ∷ more)) now next end (spares_wider at 1 at (length (t ∷ more)) now next (omega arith) (omega arith) s) (spares_wider (at + 1) (length more) at (length (t ∷ more)) next end (omega arith) (omega arith) r));
     }
 
-  pub going_all : (base upto at : ℕ) (all rest : List Thing) (start now : Parts D) → rest ≡ [] → Going base upto at all rest start now → Writes tell all start now
-  going_all base upto at all rest start now e g = by_nil (subst (λ (r : List Thing). Going base upto at all r start now) e g) where
+  pub going_all : (base upto at : ℕ) (all rest : List PagedObject) (start now : Parts D) → rest ≡ [] → Going base upto at all rest start now → Writes tell all start now
+  going_all base upto at all rest start now e g = by_nil (subst (λ (r : List PagedObject). Going base upto at all r start now) e g) where
     by_nil : Going base upto at all [] start now → Writes tell all start now
     by_nil g = g.writes now (writes_none now) (spares-refl at 0 now)
 
-  pub going_failed : (base upto at : ℕ) (all : List Thing) (t : Thing) (rest more : List Thing) (start now next : Parts D) → rest ≡ t ∷ more
+  pub going_failed : (base upto at : ℕ) (all : List PagedObject) (t : PagedObject) (rest more : List PagedObject) (start now next : Parts D) → rest ≡ t ∷ more
       → Going base upto at all rest start now → Spares tell at 1 now next → Spares tell base upto start next
   going_failed base upto at all t rest more start now next e g s =
       spares_both base upto start now next g.spares (spares_wider at 1 base upto now next g.low (omega (arith, g.high, ap length e)) s)

@@ -1,3 +1,3 @@
-pub mod Things
+pub mod Objects
 pub mod Resting
 pub mod Writing

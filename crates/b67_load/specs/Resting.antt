@@ -1,60 +1,56 @@
--- Things that are in sectors alone.
-use Rattle.std.specs.Prelude.{◌≡◌, ℕ, ◌+◌, ◌*◌, ◌^◌, ◌<◌, ◌≤◌, ◌⊎◌, List, [], ◌∷◌, length, map, take, drop, Some, None, slice_get}
+-- Objects that are in sectors alone.
+use Rattle.std.specs.Prelude.{◌≡◌, ℕ, ◌+◌, ◌*◌, ◌^◌, ◌<◌, ◌≤◌, ◌⊎◌, List, [], ◌∷◌, length, map, take, drop, Some, slice_get}
 use Rattle.b67_word.specs.Tagged.{Tagged, word}
 use Rattle.b67_core.specs.Numbers.{number}
 use Rattle.b67_backing.specs.Shelf.{Shelf, first, chain_of, taken}
 use Rattle.b67_backing.specs.Held.{Holds, SameBut}
 use Rattle.b67_lemmas.specs.Lists.{Has}
 use Rattle.b67_model.specs.Program.{Program}
-use Rattle.b67_stack.specs.Shapes.{Held}
-use Rattle.b67_stack.specs.Picture.{Thing, home_word, words_of}
-use Rattle.b67_load.specs.Things.{sectors_of, things_of, entries_of}
+use Rattle.b67_stack.specs.Shapes.{at_rest}
+use Rattle.b67_stack.specs.MachineView.{PagedObject, home_word, words_of}
+use Rattle.b67_load.specs.Objects.{sectors_of, objects_of, entries_of}
 
--- a thing and its sectors
+-- an object and its sectors
 pub record Resting : Type 0 where
-  pub thing : Thing
+  pub object : PagedObject
   pub chain : List ℕ
 
--- things that take their sectors from free ones, one after the other
-abbrev pub placed : List Thing → List ℕ → List Resting
+-- objects that take their sectors from free ones, one after the other
+abbrev pub placed : List PagedObject → List ℕ → List Resting
 placed [] free = []
-placed (t ∷ more) free = record { thing = t; chain = take (sectors_of t) free } ∷ placed more (drop (sectors_of t) free)
+placed (t ∷ more) free = record { object = t; chain = take (sectors_of t) free } ∷ placed more (drop (sectors_of t) free)
 
 -- the sectors with a chain more for each
-abbrev pub stocked : List Thing → Shelf → Shelf
+abbrev pub stocked : List PagedObject → Shelf → Shelf
 stocked [] s = s
 stocked (t ∷ more) s = stocked more (taken (sectors_of t) s)
 
--- absent from core, in the chain that begins with a sector
-abbrev pub at_rest : ℕ → Held
-at_rest sector = record { area = None; chain = sector }
-
--- the descriptor of a thing that rests
+-- the descriptor of an object that rests
 abbrev pub descriptor : Resting → Tagged
-descriptor r = home_word r.thing (at_rest (first r.chain))
+descriptor r = home_word r.object (at_rest (first r.chain))
 
 -- each one's descriptor stands in core
 abbrev pub DescriptorsStand : List Tagged → List Resting → Type 0
-DescriptorsStand core items = (r : Resting) → Has items r → slice_get core r.thing.home ≡ Some (descriptor r)
+DescriptorsStand core items = (r : Resting) → Has items r → slice_get core r.object.home ≡ Some (descriptor r)
 
 -- the mark of a dictionary
 abbrev pub dictionary_mark : Tagged
 dictionary_mark = word 3 (2 ^ 47 + 2 ^ 46 + 136 * 2 ^ 36 + 1 * 2 ^ 14)
 
--- the dictionary of a program at base: its mark, the number of its entries, and a descriptor of each thing
+-- the dictionary of a program at base: its mark, the number of its entries, and a descriptor of each object
 pub record DictionaryIs (core : List Tagged) (base : ℕ) (p : Program) (free : List ℕ) : Type 0 where
   pub mark : slice_get core base ≡ Some dictionary_mark
   pub entries : slice_get core (base + 1) ≡ Some (word 0 (entries_of p))
-  pub descriptors : DescriptorsStand core (placed (things_of base p) free)
+  pub descriptors : DescriptorsStand core (placed (objects_of base p) free)
 
 -- each one's words lie in its chain
 abbrev pub WordsRest : List (List ℕ) → List Resting → Type 0
-WordsRest all items = (r : Resting) → Has items r → Holds all r.chain 0 (map number (words_of r.thing))
+WordsRest all items = (r : Resting) → Has items r → Holds all r.chain 0 (map number (words_of r.object))
 
 -- the words were written to sectors that were free, and all other sectors hold what they held
-pub record Stocks (things : List Thing) (free : List ℕ) (old new : List (List ℕ)) : Type 0 where
+pub record WritesFreeSectors (objects : List PagedObject) (free : List ℕ) (old new : List (List ℕ)) : Type 0 where
   pub same : SameBut free old new
-  pub rest : WordsRest new (placed things free)
+  pub rest : WordsRest new (placed objects free)
 
 -- no word outside of these is changed
 abbrev pub SameOutside : ℕ → ℕ → List Tagged → List Tagged → Type 0

@@ -1,11 +1,11 @@
--- What writing things does to core, to the table of sectors and to a device.
+-- What writing objects does to core, to the table of sectors and to a device.
 use Rattle.std.specs.Prelude.{◌≡◌, ℕ, ◌+◌, List, length, Option}
 use Rattle.b67_word.specs.Tagged.{Tagged}
 use Rattle.b67_backing.specs.Shelf.{Table, Shelf, IsShelf}
 use Rattle.b67_backing.specs.Held.{Changes, SameBut}
-use Rattle.b67_stack.specs.Picture.{Thing}
-use Rattle.b67_load.specs.Things.{sectors_of_all}
-use Rattle.b67_load.specs.Resting.{placed, stocked, DescriptorsStand, Stocks, SameOutside, KeepsChains}
+use Rattle.b67_stack.specs.MachineView.{PagedObject}
+use Rattle.b67_load.specs.Objects.{sectors_of_all}
+use Rattle.b67_load.specs.Resting.{placed, stocked, DescriptorsStand, WritesFreeSectors, SameOutside, KeepsChains}
 
 -- core, the table of sectors, and the device
 pub record Parts (D : Type 0) : Type 0 where
@@ -21,9 +21,9 @@ pub record Spares {D : Type 0} (tell : D → Option (List (List ℕ))) (at count
   pub chains : (st : Shelf) → IsShelf old.table st → (after : Shelf) × IsShelf new.table after × KeepsChains st after
   pub others : (st : Shelf) → IsShelf old.table st → Changes tell old.device new.device (SameBut st.free)
 
--- things are written: their descriptors to core, their words to sectors
-pub record Writes {D : Type 0} (tell : D → Option (List (List ℕ))) (things : List Thing) (old new : Parts D) : Type 0 where
-  pub shelf : (st : Shelf) → IsShelf old.table st → IsShelf new.table (stocked things st)
-  pub descriptors : (st : Shelf) → IsShelf old.table st → DescriptorsStand new.core (placed things st.free)
-  pub stocks : (st : Shelf) → IsShelf old.table st → Changes tell old.device new.device (Stocks things st.free)
-  pub left : new.table.free + sectors_of_all things ≡ old.table.free
+-- objects are written: their descriptors to core, their words to sectors
+pub record Writes {D : Type 0} (tell : D → Option (List (List ℕ))) (objects : List PagedObject) (old new : Parts D) : Type 0 where
+  pub shelf : (st : Shelf) → IsShelf old.table st → IsShelf new.table (stocked objects st)
+  pub descriptors : (st : Shelf) → IsShelf old.table st → DescriptorsStand new.core (placed objects st.free)
+  pub stocks : (st : Shelf) → IsShelf old.table st → Changes tell old.device new.device (WritesFreeSectors objects st.free)
+  pub left : new.table.free + sectors_of_all objects ≡ old.table.free

@@ -12,8 +12,8 @@ ghost use Rattle.b67_backing.specs.declared.refusals.SpaceFault.TheVariants.{Bac
 ghost use Rattle.b67_codefile.specs.Spelling.{IsSegment, IsRow, IsWithin};
 ghost use Rattle.b67_codefile.specs.Meaning.{segment_of, program_of};
 ghost use Rattle.b67_stack.specs.declared.Cpu.{Cpu};
-ghost use Rattle.b67_load.specs.Things.{code_from, rows_from, things_of, entries_of, sectors_of_all, sectors_of_program};
-ghost use Rattle.b67_load.specs.Resting.{stocked, DictionaryIs, Stocks, SameOutside, KeepsChains};
+ghost use Rattle.b67_load.specs.Objects.{code_from, rows_from, objects_of, entries_of, sectors_of_all, sectors_of_program};
+ghost use Rattle.b67_load.specs.Resting.{stocked, DictionaryIs, WritesFreeSectors, SameOutside, KeepsChains};
 ghost use Rattle.b67_load.specs.Writing.{Parts, Spares, Writes};
 
 use b67_backing::{Backing, Sectors, SpaceFault};
@@ -46,6 +46,7 @@ fn shelve<B: Backing>(
     ensures size { B.size backing.new ≡ B.size backing.old }
     ensures refusal { IfErr result (λ fault. fault ≡ BackingFault) }
     ensures cause { HasCause B.faults backing.old backing.new result }
+    ensures calls { B.calls backing.old ≤ B.calls backing.new }
 {
     let first = match sectors.take((words.len() as u32 + 29) / 30) {
         Some(first) => first,
@@ -79,6 +80,7 @@ fn install_segment<B: Backing>(
     ensures size { B.size backing.new ≡ B.size backing.old }
     ensures refusal { IfErr result (λ fault. fault ≡ BackingFault) }
     ensures cause { HasCause B.faults backing.old backing.new result }
+    ensures calls { B.calls backing.old ≤ B.calls backing.new }
 {
     let code = segment.code.as_slice();
     let first = shelve(sectors, backing, code)?;
@@ -113,6 +115,7 @@ fn install_row<B: Backing>(
     ensures size { B.size backing.new ≡ B.size backing.old }
     ensures refusal { IfErr result (λ fault. fault ≡ BackingFault) }
     ensures cause { HasCause B.faults backing.old backing.new result }
+    ensures calls { B.calls backing.old ≤ B.calls backing.new }
 {
     let words = row.as_slice();
     let first = shelve(sectors, backing, words)?;
@@ -150,6 +153,7 @@ fn install_segments<B: Backing>(
     ensures size { B.size backing.new ≡ B.size backing.old }
     ensures refusal { IfErr result (λ fault. fault ≡ BackingFault) }
     ensures cause { HasCause B.faults backing.old backing.new result }
+    ensures calls { B.calls backing.old ≤ B.calls backing.new }
 {
     let _size = core.size();
     let mut at = base;
@@ -182,6 +186,7 @@ fn install_rows<B: Backing>(
     ensures size { B.size backing.new ≡ B.size backing.old }
     ensures refusal { IfErr result (λ fault. fault ≡ BackingFault) }
     ensures cause { HasCause B.faults backing.old backing.new result }
+    ensures calls { B.calls backing.old ≤ B.calls backing.new }
 {
     let _size = core.size();
     let mut at = base;
@@ -193,7 +198,7 @@ fn install_rows<B: Backing>(
 }
 
 /// Writes a program's segments and data rows to sectors, and the entries of its dictionary at `base` to core.
-fn install_things<B: Backing>(
+fn install_objects<B: Backing>(
     core: &mut Core,
     sectors: &mut Sectors,
     backing: &mut B,
@@ -203,9 +208,9 @@ fn install_things<B: Backing>(
     requires known { (st : Shelf) × IsShelf sectors.old st }
     requires inside { base + (2 + entries_of (program_of file.now)) ≤ length core.old }
     requires within { IsWithin file.now }
-    requires room { sectors_of_all (things_of base (program_of file.now)) ≤ sectors.old.free }
+    requires room { sectors_of_all (objects_of base (program_of file.now)) ≤ sectors.old.free }
     requires same { B.size backing.old + 1 ≡ length sectors.old.links }
-    ensures writes { OnOk result (Writes B.holds (things_of base (program_of file.now))
+    ensures writes { OnOk result (Writes B.holds (objects_of base (program_of file.now))
         (record { core = core.old; table = sectors.old; device = backing.old })
         (record { core = core.new; table = sectors.new; device = backing.new })) }
     ensures spares { Spares B.holds (base + 2) (entries_of (program_of file.now))
@@ -214,6 +219,7 @@ fn install_things<B: Backing>(
     ensures size { B.size backing.new ≡ B.size backing.old }
     ensures refusal { IfErr result (λ fault. fault ≡ BackingFault) }
     ensures cause { HasCause B.faults backing.old backing.new result }
+    ensures calls { B.calls backing.old ≤ B.calls backing.new }
 {
     let _size = core.size();
     let segments = file.segments.as_slice();
@@ -246,9 +252,9 @@ pub fn install<B: Backing>(
     ensures dictionary { OnOk result ((st : Shelf) → IsShelf sectors.old st
         → DictionaryIs cpu.new.core base (program_of program.now) st.free) }
     ensures shelf { OnOk result ((st : Shelf) → IsShelf sectors.old st
-        → IsShelf sectors.new (stocked (things_of base (program_of program.now)) st)) }
+        → IsShelf sectors.new (stocked (objects_of base (program_of program.now)) st)) }
     ensures stocks { OnOk result ((st : Shelf) → IsShelf sectors.old st
-        → Changes B.holds backing.old backing.new (Stocks (things_of base (program_of program.now)) st.free)) }
+        → Changes B.holds backing.old backing.new (WritesFreeSectors (objects_of base (program_of program.now)) st.free)) }
     ensures left { OnOk result (sectors.new.free + sectors_of_program (program_of program.now) ≡ sectors.old.free) }
     // Whatever is answered, the chains that were there and what they hold stay.
     ensures chains { (st : Shelf) → IsShelf sectors.old st
@@ -261,6 +267,7 @@ pub fn install<B: Backing>(
     ensures size { B.size backing.new ≡ B.size backing.old }
     ensures refusal { IfErr result (λ fault. fault ≡ BackingFault) }
     ensures cause { HasCause B.faults backing.old backing.new result }
+    ensures calls { B.calls backing.old ≤ B.calls backing.new }
 {
     let _size = cpu.core.size();
     let file = program.file();
@@ -276,5 +283,5 @@ pub fn install<B: Backing>(
     let entries = file.segments.as_slice().len() + file.rows.as_slice().len();
     cpu.core.set(base, mark.word());
     cpu.core.set(base + 1, Word::of(0, entries as u64));
-    install_things(&mut cpu.core, sectors, backing, base, file)
+    install_objects(&mut cpu.core, sectors, backing, base, file)
 }

@@ -16,24 +16,17 @@ use Rattle.b67_load_verify.specs.Broken.{rules_at, Finds}
 use Rattle.b67_load_verify.specs.Order.{StandsBefore, ComesBefore, IsLeast, TellsLeast}
 use Rattle.b67_load_verify.proofs.Operator.{operator_at-is}
 use Rattle.b67_load_verify.proofs.Listed.{IsRead, listing-read}
+use Rattle.b67_lemmas.proofs.Joins.{all_append, all_by}
 
 -- each refusal comes before those behind it
 abbrev InOrder : List Refusal → Type 0
 InOrder [] = Unit {0}
 InOrder (r ∷ rs) = AllByRecursion (ComesBefore r) rs × InOrder rs
 
-all_weaker : {X : Type 0} (P Q : X → Type 0) → ((x : X) → P x → Q x) → (xs : List X) → AllByRecursion P xs → AllByRecursion Q xs
-all_weaker P Q f [] h = tt
-all_weaker P Q f (x ∷ xs) h = (f x h.0, all_weaker P Q f xs h.1)
-
-all-append : {X : Type 0} (P : X → Type 0) (xs ys : List X) → AllByRecursion P xs → AllByRecursion P ys → AllByRecursion P (xs ++ ys)
-all-append P [] ys h k = k
-all-append P (x ∷ xs) ys h k = (h.0, all-append P xs ys h.1 k)
-
 in_order-append : (P Q : Refusal → Type 0) → ((a b : Refusal) → P a → Q b → ComesBefore a b) → (xs ys : List Refusal) → AllByRecursion P xs → AllByRecursion Q ys → InOrder xs → InOrder ys → InOrder (xs ++ ys)
 in_order-append P Q before [] ys p q h k = k
 in_order-append P Q before (x ∷ xs) ys p q h k =
-    (all-append (ComesBefore x) xs ys h.0 (all_weaker Q (ComesBefore x) (λ b qb. before x b p.0 qb) ys q), in_order-append P Q before xs ys p.1 q h.1 k)
+    (all_append (ComesBefore x) xs ys h.0 (all_by Q (ComesBefore x) (λ b qb. before x b p.0 qb) ys q), in_order-append P Q before xs ys p.1 q h.1 k)
 
 -- ---- the rules of a place
 
@@ -126,9 +119,9 @@ refusals_of-from : (l : Listed) (n : ℕ) (entries : List Entry) → Climb n ent
 refusals_of-from l n [] h sound = tt
 refusals_of-from l n (e ∷ more) h sound =
     let at : ℕ = count_at (place_of_entry e) in
-    let here = all_weaker (IsOf l.number (place_of_entry e)) (IsFrom l.number n) (λ r o. from-lower l.number n at h.0 r (of-from l.number e sound.0 r o)) _ (refused-of l.number (place_of_entry e) (rules_at l e)) in
+    let here = all_by (IsOf l.number (place_of_entry e)) (IsFrom l.number n) (λ r o. from-lower l.number n at h.0 r (of-from l.number e sound.0 r o)) _ (refused-of l.number (place_of_entry e) (rules_at l e)) in
     let there = refusals_of-from l (suc at) more h.1 sound.1 in
-    all-append (IsFrom l.number n) _ _ here (all_weaker (IsFrom l.number (suc at)) (IsFrom l.number n) (λ r o. from-lower l.number n (suc at) (omega (arith, h.0)) r o) _ there)
+    all_append (IsFrom l.number n) _ _ here (all_by (IsFrom l.number (suc at)) (IsFrom l.number n) (λ r o. from-lower l.number n (suc at) (omega (arith, h.0)) r o) _ there)
 
 of-before : (number : ℕ) (e : Entry) → IsSound e → (a b : Refusal) → IsOf number (place_of_entry e) a → IsFrom number (suc (count_at (place_of_entry e))) b → ComesBefore a b
 of-before number e sound a b p q =
@@ -149,15 +142,15 @@ listing-climb : (code : List ℕ) → Climb 0 (listing code)
 listing-climb code = entries_from-climb (6 * length code) code origin (operator_at code origin) refl
 
 listing-sound : (code : List ℕ) → AllByRecursion IsSound (listing code)
-listing-sound code = all_weaker (IsRead code) IsSound (λ e h. h.inside.syllable) (listing code) (listing-read code)
+listing-sound code = all_by (IsRead code) IsSound (λ e h. h.inside.syllable) (listing code) (listing-read code)
 
 refusals_from-number : (p : Program) (n : ℕ) (segments : List Segment) → AllByRecursion (λ r. n ≤ r.segment) (refusals_from p n segments)
 refusals_from-number p n [] = tt
 refusals_from-number p n (s ∷ more) =
     let l : Listed = record { program = p; number = n; segment = s; entries = listing s.code } in
-    all-append (λ r. n ≤ r.segment) _ _
-    (all_weaker (IsFrom n 0) (λ r. n ≤ r.segment) (λ r h. omega (arith, h.segment)) _ (refusals_of-from l 0 (listing s.code) (listing-climb s.code) (listing-sound s.code)))
-    (all_weaker (λ r. n + 1 ≤ r.segment) (λ r. n ≤ r.segment) (λ r h. omega (arith, h)) _ (refusals_from-number p (n + 1) more))
+    all_append (λ r. n ≤ r.segment) _ _
+    (all_by (IsFrom n 0) (λ r. n ≤ r.segment) (λ r h. omega (arith, h.segment)) _ (refusals_of-from l 0 (listing s.code) (listing-climb s.code) (listing-sound s.code)))
+    (all_by (λ r. n + 1 ≤ r.segment) (λ r. n ≤ r.segment) (λ r h. omega (arith, h)) _ (refusals_from-number p (n + 1) more))
 
 refusals_from-in_order : (p : Program) (n : ℕ) (segments : List Segment) → InOrder (refusals_from p n segments)
 refusals_from-in_order p n [] = tt
@@ -178,7 +171,7 @@ least : (rs : List Refusal) (r : Refusal) → InOrder rs → slice_get rs 0 ≡ 
 least [] r h e = absurd cc
 least (x ∷ rs) r h e =
     let same : x ≡ r = cc in
-    (inl same, all_weaker (ComesBefore x) (λ b. (b ≡ r) ⊎ ComesBefore r b) (λ b k. inr (subst (λ (a : Refusal). ComesBefore a b) same k)) rs h.0)
+    (inl same, all_by (ComesBefore x) (λ b. (b ≡ r) ⊎ ComesBefore r b) (λ b k. inr (subst (λ (a : Refusal). ComesBefore a b) same k)) rs h.0)
 
 -- what is found first is the least
 pub finds-least : (X : Type 0) (p : Program) (fault : LoadFault) → Finds {X = X} (Err fault) (refusals p) → TellsLeast fault (refusals p)

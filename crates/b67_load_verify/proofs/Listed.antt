@@ -11,6 +11,7 @@ use Rattle.b67_model.specs.Operators.{Reading, count_at, operator_at}
 use Rattle.b67_model.specs.Loader.{Entry, At, Break, entries_from, origin, listing}
 use Rattle.b67_load_verify.specs.Listing.{entry_at, CouplesFit, IsInside}
 use Rattle.b67_load_verify.proofs.Operator.{IsPlaceIn, operator_at-inside, operator_at-is, operator_at-reads, operator_at-outside}
+use Rattle.b67_lemmas.proofs.Joins.{all_by}
 
 -- what was read before a place, with what is read from there on, is the listing
 pub record Reads (code : List ℕ) (at : Place) (entries : List Entry) : Type 0 where
@@ -77,15 +78,11 @@ entries_from-read (suc n) code at (Ok read) e =
 pub listing-read : (code : List ℕ) → AllByRecursion (IsRead code) (listing code)
 listing-read code = entries_from-read (6 * length code) code origin (operator_at code origin) refl
 
-all_weaker : {X : Type 0} (P Q : X → Type 0) → ((x : X) → P x → Q x) → (xs : List X) → AllByRecursion P xs → AllByRecursion Q xs
-all_weaker P Q f [] h = tt
-all_weaker P Q f (x ∷ xs) h = (f x h.0, all_weaker P Q f xs h.1)
-
 listing-inside : (code : List ℕ) (entries : List Entry) → entries ≡ listing code → AllByRecursion (IsInside (length code)) entries
-listing-inside code entries e = subst (AllByRecursion (IsInside (length code))) (sym e) (all_weaker (IsRead code) (IsInside (length code)) (λ x h. h.inside) (listing code) (listing-read code))
+listing-inside code entries e = subst (AllByRecursion (IsInside (length code))) (sym e) (all_by (IsRead code) (IsInside (length code)) (λ x h. h.inside) (listing code) (listing-read code))
 
 pub listing-couples : (code : List ℕ) (entries : List Entry) → entries ≡ listing code → AllByRecursion CouplesFit entries
-listing-couples code entries e = subst (AllByRecursion CouplesFit) (sym e) (all_weaker (IsRead code) CouplesFit (λ x h. h.couples) (listing code) (listing-read code))
+listing-couples code entries e = subst (AllByRecursion CouplesFit) (sym e) (all_by (IsRead code) CouplesFit (λ x h. h.couples) (listing code) (listing-read code))
 
 -- ---- of a segment's words
 

@@ -1,7 +1,7 @@
 -- What is known of an operator that was read.
 use Rattle.std.proofs.Common.{◌≡◌, ℕ, ◌+◌, ◌-◌, ◌*◌, ◌/◌, ◌<◌, ◌≤◌, Bool, true, false, cond, ltb, leb, eqb, ◌&&◌, List, [], ◌∷◌, length, Option, Some, None, Result, Ok, Err, refl, sym, ap, subst, ◌∙◌, arith}
 use Rattle.std.specs.List.{AllByRecursion}
-use Rattle.std.proofs.lemmas.Bool.{ltb-true, lt-ltb, le-ltb}
+use Rattle.std.proofs.lemmas.Bool.{ltb-true, lt-ltb, le-ltb, and_parts}
 use Rattle.b67_word.specs.declared.couples.Place.{Place}
 use Rattle.b67_model.specs.declared.operators.Op.{Op}
 use Rattle.b67_model.specs.declared.operators.Op.TheVariants as op
@@ -23,7 +23,7 @@ done x = Ok x
 ok_is : (x y : Op × Place) → done x ≡ done y → x ≡ y
 ok_is x y e = cc
 
-count_at-place_at : (n : ℕ) → count_at (place_at n) ≡ n
+pub count_at-place_at : (n : ℕ) → count_at (place_at n) ≡ n
 count_at-place_at n = omega arith
 
 -- an operator that ends at a syllable, and the place behind it
@@ -96,16 +96,12 @@ pub record IsPlaceIn (code : List ℕ) (at : Place) : Type 0 where
   pub word : at.word < length code
   pub syllable : at.syllable < 6
 
-both_true : (a b : Bool) → (a && b) ≡ true → (a ≡ true) × (b ≡ true)
-both_true true b e = (refl, e)
-both_true false b e = absurd cc
-
 -- anything but a bad place is read inside the code
 pub operator_at-inside : (code : List ℕ) (at : Place) (read : Reading) → (read ≡ Err BadPlace → ⊥) → operator_at code at ≡ read → IsPlaceIn code at
 operator_at-inside code at read other e = at_test (ltb at.syllable 6 && ltb at.word (length code)) refl e
   where
     at_test : (b : Bool) → (ltb at.syllable 6 && ltb at.word (length code)) ≡ b → cond b (reads code (count_at at) (form_of (syllable code (count_at at)))) (Err BadPlace) ≡ read → IsPlaceIn code at
-    at_test true t e = let both = both_true _ _ t in record { word = ltb-true _ _ both.1; syllable = ltb-true _ _ both.0 }
+    at_test true t e = let both = and_parts _ _ t in record { word = ltb-true _ _ both.1; syllable = ltb-true _ _ both.0 }
     at_test false t e = absurd (other (sym e))
 
 pub operator_at-is : (code : List ℕ) (at : Place) (read : Op × Place) → operator_at code at ≡ Ok read → IsOperator (count_at at) read

@@ -7,8 +7,6 @@ mod entry;
 mod fault;
 mod listing;
 mod rules;
-#[cfg(test)]
-mod tests;
 
 pub use admission::verify;
 pub use admitted::Admitted;

@@ -2,7 +2,7 @@
 
 ghost use Rattle.std.specs.Prelude.{◌≡◌, ◌<◌, ◌^◌, ◌&&◌, ◌||◌, ℕ, List, not, nat_lt, ◌==◌};
 ghost use Rattle.b67_word.specs.Couples.{couple};
-ghost use Rattle.b67_model.specs.Loader.{At, target_of, couple_bits, proc_bits, may_be_last, holds_of, holds_at, is_outside, is_start, is_last, named_level, is_off, is_amiss, broken_at, broken_in};
+ghost use Rattle.b67_model.specs.Loader.{At, target_of, couple_bits, proc_bits, may_be_last, holds_of, holds_at, is_outside, is_start, is_last, named_level, has_stray_bits, breaks_rule_8, broken_at, broken_in};
 ghost use Rattle.b67_model.specs.Loader as loader;
 ghost use Rattle.b67_codefile.specs.Meaning.{segment_of, program_of};
 ghost use Rattle.b67_load_verify.specs.Listing.{seen, CoupleFits, CouplesFit};
@@ -99,7 +99,7 @@ fn couple_is_too_high(level: u8, op: Op) -> bool
 
 /// Rule 7: a program control word with a bit outside its fields, or of no segment.
 fn pcw_is_malformed(file: &Codefile, op: Op) -> bool
-    ensures { result ≡ holds_of (proc_bits op) (is_off (program_of file.now)) }
+    ensures { result ≡ holds_of (proc_bits op) (has_stray_bits (program_of file.now)) }
 {
     match proc_bits(op) {
         Some(bits) => {
@@ -114,7 +114,7 @@ fn pcw_is_malformed(file: &Codefile, op: Op) -> bool
 /// Rule 8: a program control word whose level isn't its segment's, or isn't one above that of the segment in which the
 /// word stands, or whose place isn't the first.
 fn pcw_is_misplaced(file: &Codefile, segment: &Segment, op: Op) -> bool
-    ensures { (number : ℕ) (entries : List loader.Entry) → result ≡ holds_of (proc_bits op) (is_amiss (listed file.now number segment.now entries)) }
+    ensures { (number : ℕ) (entries : List loader.Entry) → result ≡ holds_of (proc_bits op) (breaks_rule_8 (listed file.now number segment.now entries)) }
 {
     match proc_bits(op) {
         Some(bits) => {

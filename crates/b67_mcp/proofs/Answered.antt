@@ -2,11 +2,11 @@
 use Rattle.std.proofs.Common.{ℕ, [], ◌∷◌, map, refl}
 use Rattle.b67_word.specs.declared.couples.Place.{Place}
 use Rattle.b67_model.specs.Words.{Word, Original}
-use Rattle.b67_model.specs.State.{Task, Member, top, below_top}
+use Rattle.b67_model.specs.State.{Task, SessionJob, top, below_top}
 use Rattle.b67_model.specs.Intrinsics.{answered}
 use Rattle.b67_model.specs.Schedule.{Session}
 use Rattle.b67_model.specs.InOrder.{IsInOrderButPlaces}
-use Rattle.b67_layout.specs.Plan.{Plan}
+use Rattle.b67_layout.specs.Placement.{Placement}
 use Rattle.b67_layout.specs.Rows.{TablesShow}
 use Rattle.b67_layout.specs.Session.{IsRunning}
 use Rattle.b67_layout.specs.Meets.{here, with_job}
@@ -18,18 +18,18 @@ use Rattle.b67_task_tables.specs.Tables.{task_row, job_row, counts_of, TasksShow
 use Rattle.b67_mcp.proofs.Tables.{jobs_kept, tables_after}
 use Rattle.b67_mcp.proofs.Frames.{replaces_answered, waits_answered}
 
-module _ (plan : Plan) (s : Session) (m : Member) (t : Task) (o : IsInOrderButPlaces s) (runs : IsRunning plan s.jobs m t) (may : MayCut m t) (q : Place) (length at : ℕ) where
-  there : Plan
-  there = with_home plan m.setting.number m.course.job.next_array at
+module _ (plan : Placement) (s : Session) (m : SessionJob) (t : Task) (o : IsInOrderButPlaces s) (runs : IsRunning plan s.jobs m t) (may : MayCut m t) (q : Place) (length at : ℕ) where
+  there : Placement
+  there = with_home plan m.constants.number m.progress.job.next_array at
 
-  pub tables_declared : (tasks : Tasks) → TasksShow plan s tasks → TasksShow (with_home plan m.setting.number m.course.job.next_array at) (with_job s m (job_declared m t length q)) tasks
+  pub tables_declared : (tasks : Tasks) → TasksShow plan s tasks → TasksShow (with_home plan m.constants.number m.progress.job.next_array at) (with_job s m (job_declared m t length q)) tasks
   tables_declared tasks h =
-      let p = with_home plan m.setting.number m.course.job.next_array at in
-      let word : Word = Original m.course.job.next_array in
+      let p = with_home plan m.constants.number m.progress.job.next_array at in
+      let word : Word = Original m.progress.job.next_array in
       let job = job_declared m t length q in
       let runs_there : IsRunning p s.jobs m t = record { member = runs.member; task = runs.task; slot = runs.slot } in
-      let before : TablesShow p s (map task_row tasks.rows.items) (map job_row tasks.jobs) (counts_of tasks) = tables-there plan m.setting.number m.course.job.next_array at s (map task_row tasks.rows.items) (map job_row tasks.jobs) (counts_of tasks) h in
+      let before : TablesShow p s (map task_row tasks.rows.items) (map job_row tasks.jobs) (counts_of tasks) = tables-there plan m.constants.number m.progress.job.next_array at s (map task_row tasks.rows.items) (map job_row tasks.jobs) (counts_of tasks) h in
       tables_after p s m t (answered (here m t q) (word ∷ [])) job o runs_there (replaces_answered plan s m t o runs may q word job refl) refl (waits_answered plan s m t o runs may (word ∷ (top (below_top t.frames)).cells))
       (map task_row tasks.rows.items) (map job_row tasks.jobs) (map job_row tasks.jobs) (counts_of tasks) before
-      (jobs_kept p m.setting.number m (record m.course { job = job }) s.jobs (map job_row tasks.jobs) runs.member
+      (jobs_kept p m.constants.number m (record m.progress { job = job }) s.jobs (map job_row tasks.jobs) runs.member
       (λ row w. record { dictionary = w.dictionary; segments = w.segments; rows = w.rows; limit = w.limit; made = w.made; next_task = w.next_task; numbers = w.numbers }) before.jobs)

@@ -5,12 +5,12 @@ use Rattle.b67_ctl.specs.Layout.{IsPlace}
 use Rattle.b67_model.specs.declared.operators.Op.{Op}
 use Rattle.b67_model.specs.Operators.{Reading}
 use Rattle.b67_model.specs.Rows.{reading_of}
-use Rattle.b67_model.specs.State.{Task, Setting}
+use Rattle.b67_model.specs.State.{Task, JobConstants}
 use Rattle.b67_model.specs.InOrder.{SettingInOrder}
 use Rattle.b67_law_order_steps.proofs.Readings.{ReadFits}
 use Rattle.b67_law_order_steps.proofs.Segments.{reading_fits}
 
-pub behind_fits : (setting : Setting) (t : Task) (op : Op) (next : Place) → SettingInOrder setting → ◌≡◌ {A = Reading} (Ok (op, next)) (reading_of setting t) → IsPlace next
-behind_fits setting t op next g is =
-    let r : ReadFits (Ok (op, next)) = subst ReadFits (sym is) (reading_fits setting t g) in
+pub behind_fits : (constants : JobConstants) (t : Task) (op : Op) (next : Place) → SettingInOrder constants → ◌≡◌ {A = Reading} (Ok (op, next)) (reading_of constants t) → IsPlace next
+behind_fits constants t op next g is =
+    let r : ReadFits (Ok (op, next)) = subst ReadFits (sym is) (reading_fits constants t g) in
     record { syllable = r.1.1; word = r.1.0 }

@@ -9,7 +9,7 @@ use Rattle.b67_model.specs.Answers.{Answer, ◌>>=◌}
 use Rattle.b67_model.specs.Operators.{Reading}
 use Rattle.b67_model.specs.Words as Words
 use Rattle.b67_model.specs.Words.{Word, Operand, Name, Ref, Row, Element, Original, Proc, Intrinsic}
-use Rattle.b67_model.specs.State.{Standing, Marked, Entered, Task, Member, Here, top}
+use Rattle.b67_model.specs.State.{Standing, Marked, Entered, Task, SessionJob, OperatorContext, top}
 use Rattle.b67_model.specs.Chase.{End, AtCell, AtElement, AtArray, AtProc, AtIntrinsic, follow_reference}
 use Rattle.b67_model.specs.Intrinsics.{is_original, intrinsic}
 use Rattle.b67_model.specs.Rows.{entr_at, entr_with, entr, step_by, reading_of, step}
@@ -21,20 +21,20 @@ use Rattle.b67_layout.specs.Meets.{here}
 use Rattle.b67_mcp_calls.specs.Calls.{IsCall, CallSome}
 use Rattle.b67_task_tables.specs.declared.tables.Machine.{Machine}
 use Rattle.b67_mcp.specs.Called.{CallsSome}
-use Rattle.b67_mcp.specs.Running.{Reads}
+use Rattle.b67_mcp.specs.Running.{ReadsOperator}
 
 -- the call, and the row of the operator
-pub record Calling (m : Member) (t : Task) (n : ℕ) : Type 0 where
+pub record Calling (m : SessionJob) (t : Task) (n : ℕ) : Type 0 where
   pub next : Place
-  pub reading : reading_of m.setting t ≡ Ok (Plain Entr, next)
+  pub reading : reading_of m.constants t ≡ Ok (Plain Entr, next)
   pub reference : Word
   pub arguments : List Word
   pub call : IsCall t reference arguments
   pub ends : follow_reference (here m t next) reference ≡ Ok (AtIntrinsic n)
-  pub is : step m.setting m.course.job t ≡ intrinsic n (here m t next) arguments
+  pub is : step m.constants m.progress.job t ≡ intrinsic n (here m t next) arguments
 
 -- a reference that is followed is no original
-plain_of : (h : Here) (w : Word) (end : End) → follow_reference h w ≡ Ok end → is_original w ≡ false
+plain_of : (h : OperatorContext) (w : Word) (end : End) → follow_reference h w ≡ Ok end → is_original w ≡ false
 plain_of h (Operand bits) end e = refl
 plain_of h (Name couple) end e = refl
 plain_of h (Ref f offset) end e = refl
@@ -53,14 +53,14 @@ ends_at (Ok (AtArray a)) n e = absurd cc
 ends_at (Ok (AtProc f segment level place)) n e = absurd cc
 ends_at (Err fault) n e = absurd cc
 
-module _ (m : Member) (t : Task) (n : ℕ) (next : Place) (reading : reading_of m.setting t ≡ Ok (Plain Entr, next)) where
+module _ (m : SessionJob) (t : Task) (n : ℕ) (next : Place) (reading : reading_of m.constants t ≡ Ok (Plain Entr, next)) where
   with_cells : (cs : List Word) → reverse (top t.frames).cells ≡ cs → (top t.frames).standing ≡ Marked → called_by (here m t next) cs ≡ Some n → Calling m t n
   unfolding step
   with_cells [] e marked c = absurd cc
   with_cells (r ∷ arguments) e marked c =
       let h = here m t next in
       let end = ends_at (follow_reference h r) n c in
-      let by_reading : Reading → Answer Done = λ q. step_by m.setting m.course.job t q in
+      let by_reading : Reading → Answer Done = λ q. step_by m.constants m.progress.job t q in
       let by_standing : Standing → Answer Done = λ st. entr h st in
       let by_cells : List Word → Answer Done = λ cs. entr_with h cs in
       let by_end : Answer End → Answer Done = λ q. q >>= entr_at h arguments in
@@ -78,32 +78,33 @@ module _ (m : Member) (t : Task) (n : ℕ) (next : Place) (reading : reading_of 
   standing_in Marked e c = with_cells (reverse (top t.frames).cells) refl e c
   standing_in (Entered level environment back) e c = absurd cc
 
-by_code : (m : Member) (t : Task) (n : ℕ) (next : Place) (code : Code) → reading_of m.setting t ≡ Ok (Plain code, next) → called (Plain code) (here m t next) ≡ Some n → Calling m t n
+by_code : (m : SessionJob) (t : Task) (n : ℕ) (next : Place) (code : Code) → reading_of m.constants t ≡ Ok (Plain code, next) → called (Plain code) (here m t next) ≡ Some n → Calling m t n
 by_code m t n next Entr e c = standing_in m t n next e (top t.frames).standing refl c
 by_code m t n next _ e c = absurd cc
 
-by_op : (m : Member) (t : Task) (n : ℕ) (op : Op) (next : Place) → reading_of m.setting t ≡ Ok (op, next) → called op (here m t next) ≡ Some n → Calling m t n
+by_op : (m : SessionJob) (t : Task) (n : ℕ) (op : Op) (next : Place) → reading_of m.constants t ≡ Ok (op, next) → called op (here m t next) ≡ Some n → Calling m t n
 by_op m t n (Plain code) next e c = by_code m t n next code e c
 by_op m t n _ next e c = absurd cc
 
-by_reading : (m : Member) (t : Task) (n : ℕ) (r : Reading) → reading_of m.setting t ≡ r → operators.called_by m t r ≡ Some n → Calling m t n
+by_reading : (m : SessionJob) (t : Task) (n : ℕ) (r : Reading) → reading_of m.constants t ≡ r → operators.called_by m t r ≡ Some n → Calling m t n
 by_reading m t n (Ok read) e c = by_op m t n read.0 read.1 e c
 by_reading m t n (Err why) e c = absurd cc
 
-pub calling : (m : Member) (t : Task) (n : ℕ) → called_in m t ≡ Some n → Calling m t n
-calling m t n c = by_reading m t n (reading_of m.setting t) refl c
+pub calling : (m : SessionJob) (t : Task) (n : ℕ) → called_in m t ≡ Some n → Calling m t n
+calling m t n c = by_reading m t n (reading_of m.constants t) refl c
 
 -- what a function that calls another asks of the machine
-abbrev pub reads_of : (k : Machine) (n : ℕ) → CallsSome k n → Reads k
+abbrev pub reads_of : (k : Machine) (n : ℕ) → CallsSome k n → ReadsOperator k
 reads_of k n q =
-    let c = calling q.member q.task n q.called in
-    record { storage = q.storage; told = q.told; plan = q.plan; session = q.session; member = q.member; task = q.task; ordered = q.ordered; stands = q.stands; running = q.running; code = q.code; next = c.next; behind = (Plain Entr, c.reading) }
+    let c = calling q.runs.member q.runs.task n q.called in
+    record { runs = q.runs; code = q.code; next = c.next; behind = (Plain Entr, c.reading) }
 
 abbrev pub call_some : (k : Machine) (n : ℕ) → CallsSome k n → CallSome k.cpu
 call_some k n q =
-    let c = calling q.member q.task n q.called in
+    let r = q.runs in
+    let c = calling r.member r.task n q.called in
     record {
-      runs = record { storage = q.storage; plan = q.plan; session = q.session; member = q.member; task = q.task; ordered = q.ordered; stands = q.stands.session; running = q.running };
+      runs = record { storage = r.storage; plan = r.plan; session = r.session; member = r.member; task = r.task; ordered = r.ordered; stands = r.stands.session; running = r.running };
       reference = c.reference;
       arguments = c.arguments;
       call = c.call;

@@ -2,14 +2,14 @@
 use Rattle.std.proofs.Common.{◌≡◌, ℕ, List, [], map, Option, refl, sym, ◌∙◌, ap, Ok, Err, subst}
 use Rattle.b67_word.specs.Tagged.{Tagged}
 use Rattle.b67_word.specs.declared.couples.Place.{Place}
-use Rattle.b67_model.specs.State.{Task, Member}
+use Rattle.b67_model.specs.State.{Task, SessionJob}
 use Rattle.b67_model.specs.Operators.{Reading}
 use Rattle.b67_model.specs.Intrinsics.{answered}
 use Rattle.b67_model.specs.Schedule.{Session}
 use Rattle.b67_model.specs.InOrder.{IsInOrderButPlaces}
-use Rattle.b67_stack.specs.Stands.{Storage}
-use Rattle.b67_layout.specs.Plan.{Plan}
-use Rattle.b67_layout.specs.Session.{IsRunning, StorageStands}
+use Rattle.b67_stack.specs.Represents.{Storage}
+use Rattle.b67_layout.specs.Placement.{Placement}
+use Rattle.b67_layout.specs.Session.{IsRunning, RepresentsStorage}
 use Rattle.b67_layout.specs.Meets.{here, with_job}
 use Rattle.b67_mcp_calls.specs.Calls.{MayCut, job_cut}
 use Rattle.b67_task_tables.specs.declared.tables.Machine.{Machine}
@@ -20,7 +20,7 @@ use Rattle.b67_mcp.proofs.Tables.{jobs_kept, tables_after}
 use Rattle.b67_mcp.proofs.Frames.{replaces_cut, waits_cut}
 
 -- one operator is read, and one place is behind it
-pub one_behind : (m : Member) (t : Task) (p q : Place) → IsBehind m t p → IsBehind m t q → p ≡ q
+pub one_behind : (m : SessionJob) (t : Task) (p q : Place) → IsBehind m t p → IsBehind m t q → p ≡ q
 one_behind m t p q (a, e) (b, f) =
     let same : ◌≡◌ {A = Reading} (Ok (a, p)) (Ok (b, q)) = sym e ∙ f in ap place_in same
   where
@@ -28,14 +28,14 @@ one_behind m t p q (a, e) (b, f) =
     place_in (Ok read) = read.1
     place_in (Err why) = p
 
-module _ (plan : Plan) (s : Session) (m : Member) (t : Task) (o : IsInOrderButPlaces s) (runs : IsRunning plan s.jobs m t) (may : MayCut m t) (q : Place) where
+module _ (plan : Placement) (s : Session) (m : SessionJob) (t : Task) (o : IsInOrderButPlaces s) (runs : IsRunning plan s.jobs m t) (may : MayCut m t) (q : Place) where
   pub tables_cut : (tasks : Tasks) → TasksShow plan s tasks → TasksShow plan (with_job s m (job_cut m t q)) tasks
   tables_cut tasks h =
       tables_after plan s m t (answered (here m t q) []) (job_cut m t q) o runs (replaces_cut plan s m t o runs may q (job_cut m t q) refl) refl (waits_cut plan s m t o runs may)
       (map task_row tasks.rows.items) (map job_row tasks.jobs) (map job_row tasks.jobs) (counts_of tasks) h
-      (jobs_kept plan m.setting.number m (record m.course { job = job_cut m t q }) s.jobs (map job_row tasks.jobs) runs.member
+      (jobs_kept plan m.constants.number m (record m.progress { job = job_cut m t q }) s.jobs (map job_row tasks.jobs) runs.member
       (λ row w. record { dictionary = w.dictionary; segments = w.segments; rows = w.rows; limit = w.limit; made = w.made; next_task = w.next_task; numbers = w.numbers }) h.jobs)
 
 -- the storage stands for another core of the same size
-pub storage_same : (x : Storage) (told : Option (List (List ℕ))) (k : Machine) (core : List Tagged) → core ≡ k.cpu.core → StorageStands k.areas k.sectors told k.cpu.core x → StorageStands k.areas k.sectors told core x
-storage_same x told k core e h = subst (λ (c : List Tagged). StorageStands k.areas k.sectors told c x) (sym e) h
+pub storage_same : (x : Storage) (told : Option (List (List ℕ))) (k : Machine) (core : List Tagged) → core ≡ k.cpu.core → RepresentsStorage k.areas k.sectors told k.cpu.core x → RepresentsStorage k.areas k.sectors told core x
+storage_same x told k core e h = subst (λ (c : List Tagged). RepresentsStorage k.areas k.sectors told c x) (sym e) h

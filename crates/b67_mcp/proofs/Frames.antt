@@ -3,19 +3,20 @@ use Rattle.std.proofs.Common.{◌≡◌, ◌≢◌, ℕ, ◌<◌, List, [], ◌�
 use Rattle.std.proofs.lemmas.Bool.{ne_eqb}
 use Rattle.b67_word.specs.declared.couples.Place.{Place}
 use Rattle.b67_lemmas.specs.Lists.{Has, Falls}
+use Rattle.b67_lemmas.proofs.Members.{falls_low, has_map}
 use Rattle.b67_model.specs.Words.{Word}
-use Rattle.b67_model.specs.State.{Frame, Marked, Condition, Ready, Awaits, WaitsAt, Task, Job, Member, top, below_top, with_top_cells}
+use Rattle.b67_model.specs.State.{Frame, Marked, Condition, Ready, Awaits, WaitsAt, Task, Job, SessionJob, top, below_top, with_top_cells}
 use Rattle.b67_model.specs.Keyed.{change_keyed}
 use Rattle.b67_model.specs.Intrinsics.{answered}
 use Rattle.b67_model.specs.Schedule.{Session}
 use Rattle.b67_model.specs.InOrder.{Known, known_of, known_numbers, from_frame, outer_of, reach_of, IsEntered, NamesEntered, ConditionInOrder, IsInOrderButPlaces}
-use Rattle.b67_law_order.proofs.Members.{has_map, falls_low}
-use Rattle.b67_stack.specs.Stacks.{Spot}
-use Rattle.b67_layout.specs.Plan.{Plan, spot_in}
+use Rattle.b67_stack.specs.Stacks.{StackPlace}
+use Rattle.b67_layout.specs.Placement.{Placement, spot_in}
 use Rattle.b67_layout.specs.Session.{IsRunning}
 use Rattle.b67_layout.specs.Meets.{here}
 use Rattle.b67_layout.proofs.Fresh.{running_in_order}
 use Rattle.b67_layout.proofs.Steps.{seen-with}
+use Rattle.b67_layout.proofs.Whole.{spots-with}
 use Rattle.b67_layout_leave.proofs.Slots.{IsDependedOn, Replaces}
 use Rattle.b67_layout_leave.proofs.Leaves.{Leaver, Frames-below}
 use Rattle.b67_mcp_calls.specs.Calls.{MayCut}
@@ -32,26 +33,22 @@ not_waited g rest bound f marked falls names e = by names.among
         subst IsEntered (sym same ∙ marked) names.entered
     by (inr k) = let low : f < g.identity = falls_low g.identity (known_numbers rest) f falls.1 (has_map (λ (k : Known). k.0) rest (f, names.standing) k) in omega (arith, low, e)
 
-spots-with : (k : ℕ) (o : ℕ → Spot) (fs : List Frame) (cells : List Word) (id : ℕ) → spot_in k o (with_top_cells fs cells) id ≡ spot_in k o fs id
-spots-with k o [] cells id = refl
-spots-with k o (f ∷ below) cells id = refl
-
-module _ (plan : Plan) (s : Session) (m : Member) (t : Task) (o : IsInOrderButPlaces s) (runs : IsRunning plan s.jobs m t) (may : MayCut m t) where
+module _ (plan : Placement) (s : Session) (m : SessionJob) (t : Task) (o : IsInOrderButPlaces s) (runs : IsRunning plan s.jobs m t) (may : MayCut m t) where
   cut : Cut m t
   cut = cut_of plan s m t o runs may
 
   leaver : Leaver plan s m t cut.f (cut.next ∷ cut.more)
   leaver = record { ordered = o; running = runs; frames = cut.frames; free = cut.free }
 
-  seen_below : (c k : ℕ) (outer : ℕ → Spot) (id : ℕ) → IsDependedOn m.course.job c → spot_in k outer (from_frame c (below_top t.frames)) id ≡ spot_in k outer (from_frame c t.frames) id
+  seen_below : (c k : ℕ) (outer : ℕ → StackPlace) (id : ℕ) → IsDependedOn m.progress.job c → spot_in k outer (from_frame c (below_top t.frames)) id ≡ spot_in k outer (from_frame c t.frames) id
   seen_below c k outer id d = ap (λ (fs : List Frame). spot_in k outer (from_frame c (below_top fs)) id) cut.frames ∙ (Frames-below plan s m t cut.f (cut.next ∷ cut.more) leaver).seen c k outer id d
 
   -- others see the same of the task without the call, and with a word on the frame below
-  pub replaces_cut : (q : Place) (job' : Job) → job'.tasks ≡ change_keyed (λ (u : Task). u.number) t.number (λ (u : Task). answered (here m t q) []) m.course.job.tasks → Replaces m.course.job job' t (answered (here m t q) [])
+  pub replaces_cut : (q : Place) (job' : Job) → job'.tasks ≡ change_keyed (λ (u : Task). u.number) t.number (λ (u : Task). answered (here m t q) []) m.progress.job.tasks → Replaces m.progress.job job' t (answered (here m t q) [])
   replaces_cut q job' tasks = record { there = runs.task; number = refl; critical = refl; parents = refl; tasks = tasks; seen = seen_below }
 
-  pub replaces_answered : (q : Place) (w : Word) (job' : Job) → job'.tasks ≡ change_keyed (λ (u : Task). u.number) t.number (λ (u : Task). answered (here m t q) (w ∷ [])) m.course.job.tasks
-      → Replaces m.course.job job' t (answered (here m t q) (w ∷ []))
+  pub replaces_answered : (q : Place) (w : Word) (job' : Job) → job'.tasks ≡ change_keyed (λ (u : Task). u.number) t.number (λ (u : Task). answered (here m t q) (w ∷ [])) m.progress.job.tasks
+      → Replaces m.progress.job job' t (answered (here m t q) (w ∷ []))
   replaces_answered q w job' tasks = record {
     there = runs.task;
     number = refl;
@@ -61,14 +58,14 @@ module _ (plan : Plan) (s : Session) (m : Member) (t : Task) (o : IsInOrderButPl
     seen = λ c k outer id d. seen-with (below_top t.frames) (w ∷ (top (below_top t.frames)).cells) c k outer id ∙ seen_below c k outer id d;
   }
 
-  waits_by : (d : Condition) → ConditionInOrder (reach_of m.course.job t) d → WaitsThere d t.frames (below_top t.frames)
+  waits_by : (d : Condition) → ConditionInOrder (reach_of m.progress.job t) d → WaitsThere d t.frames (below_top t.frames)
   waits_by Ready h = tt
   waits_by (Awaits n) h = tt
   waits_by (WaitsAt f offset) h = λ k outer.
       (let falls = (running_in_order plan s m t o runs).1.falls in
-      let N : List Frame → Type 0 = λ fs. NamesEntered (map known_of fs ++ outer_of m.course.job t) f in
-      let F : List Frame → Type 0 = λ fs. Falls m.course.job.next_frame (known_numbers (map known_of fs ++ outer_of m.course.job t)) in
-      let apart = not_waited cut.f (map known_of (cut.next ∷ cut.more) ++ outer_of m.course.job t) m.course.job.next_frame f cut.marked (subst F cut.frames falls) (subst N cut.frames h.0) in
+      let N : List Frame → Type 0 = λ fs. NamesEntered (map known_of fs ++ outer_of m.progress.job t) f in
+      let F : List Frame → Type 0 = λ fs. Falls m.progress.job.next_frame (known_numbers (map known_of fs ++ outer_of m.progress.job t)) in
+      let apart = not_waited cut.f (map known_of (cut.next ∷ cut.more) ++ outer_of m.progress.job t) m.progress.job.next_frame f cut.marked (subst F cut.frames falls) (subst N cut.frames h.0) in
       let E : List Frame → Type 0 = λ fs. spot_in k outer (below_top fs) f ≡ spot_in k outer fs f in
       subst E (sym cut.frames) (rw (ne_eqb cut.f.identity f (λ e. apart (sym e))) refl))
 

@@ -1,25 +1,23 @@
 -- The intrinsics that the MCP's cells hold have numbers from 8 on.
-use Rattle.std.proofs.Common.{◌≡◌, ℕ, zero, suc, ◌-◌, ◌≤◌, ltb, List, [], ◌∷◌, reverse, flat_map, Option, Some, None, unwrap_or, Ok, Err, refl, sym, ◌∙◌, ap, subst, inl, inr, arith}
-use Rattle.std.specs.Option.{ok_or}
-use Rattle.std.proofs.lemmas.Bool.{cases_Bool}
+use Rattle.std.proofs.Common.{◌≡◌, ℕ, zero, suc, ◌≤◌, List, [], ◌∷◌, flat_map, Option, Some, None, unwrap_or, Ok, Err, refl, sym, ◌∙◌, ap, subst, inl, inr, arith}
 use Rattle.b67_model.specs.Answers.{Answer}
 use Rattle.b67_model.specs.Keyed.{keyed}
 use Rattle.b67_lemmas.specs.Lists.{Has}
-use Rattle.b67_word.specs.declared.faults.Fault.TheVariants.{InvalidAddress}
+use Rattle.b67_lemmas.proofs.Members.{all_in, has_append_cases, has_flat_back, keyed_has}
 use Rattle.b67_model.specs.Words as Words
 use Rattle.b67_model.specs.Words.{Word, Operand, Name, Ref, Row, Element, Original, Proc, Intrinsic}
-use Rattle.b67_model.specs.State.{Frame, Array, Task, Setting, Member, Here, mcp, no_frame, all_frames, frame}
-use Rattle.b67_model.specs.Cells.{first_offset, cell_of, cell, place_of}
+use Rattle.b67_model.specs.State.{Frame, Array, Task, JobConstants, SessionJob, OperatorContext, mcp, no_frame, all_frames, frame}
+use Rattle.b67_model.specs.Cells.{cell, place_of}
 use Rattle.b67_model.specs.Chase.{End, AtIntrinsic, Link, Stops, Leads, link_at, link_in, link_from, link, chase_on, follow_reference}
 use Rattle.b67_model.specs.Schedule.{Session}
 use Rattle.b67_model.specs.InOrder.{Starts, IsSegment, Known, outer_of, WordInOrder, EntryInOrder, FramesInOrder, TaskInOrder, TasksInOrder, IsInOrderButPlaces}
-use Rattle.b67_law_order.proofs.Members.{all_in, keyed_has, has_append_cases, Part, has_get, has_reverse_back}
-use Rattle.b67_layout.specs.Plan.{Plan}
+use Rattle.b67_layout.specs.Placement.{Placement}
 use Rattle.b67_layout.specs.Session.{IsRunning}
 use Rattle.b67_layout.specs.Meets.{here}
 use Rattle.b67_layout.proofs.Fresh.{running_in_order}
 use Rattle.b67_exec_cells.specs.Called.{called_in}
 use Rattle.b67_mcp.proofs.Callings.{calling}
+use Rattle.b67_law_order.proofs.Chases.{cell_has}
 
 abbrev IsLow : Word → Type 0
 IsLow (Intrinsic n) = 8 ≤ n
@@ -62,35 +60,16 @@ of_frames P arrays outer (y ∷ ys) f w g (inl e) k =
     of_task P arrays _ y.identity w (all_in (WordInOrder P arrays _ y.identity) y.cells w g.0.0 there)
 of_frames P arrays outer (y ∷ ys) f w g (inr h) k = of_frames P arrays outer ys f w g.2 h k
 
-has_flat_back : {A B : Type 0} (f : A → List B) (xs : List A) (y : B) → Has (flat_map f xs) y → Part f xs y
-has_flat_back f [] y h = absurd h
-has_flat_back f (x ∷ xs) y h = elim (has_append_cases (f x) (flat_map f xs) y h) [
-  | inl k ↦ record { item = x; among = inl refl; inside = k }
-  | inr k ↦ let p = has_flat_back f xs y k in record { item = p.item; among = inr p.among; inside = p.inside }
-]
-
-some_ok : (o : Option Word) (w : Word) → ok_or o InvalidAddress ≡ Ok w → o ≡ Some w
-some_ok None w e = absurd cc
-some_ok (Some v) w e = let same : v ≡ w = cc in ap Some same
-
-cell_has : (f : Frame) (offset : ℕ) (w : Word) → ok_or (cell_of f offset) InvalidAddress ≡ Ok w → Has f.cells w
-cell_has f offset w e =
-    let some : cell_of f offset ≡ Some w = some_ok (cell_of f offset) w e in
-    elim (cases_Bool (ltb offset (first_offset f))) [
-      | inl t ↦ absurd (let z : None ≡ Some w = rw t at some in cc)
-      | inr t ↦ has_reverse_back f.cells w (has_get (reverse f.cells) (offset - first_offset f) w (rw t at some))
-    ]
-
-module _ (setting : Setting) (h : Here) (same : h.setting ≡ setting) (o : TasksInOrder (IsSegment setting) setting h.job) where
+module _ (constants : JobConstants) (h : OperatorContext) (same : h.constants ≡ constants) (o : TasksInOrder (IsSegment constants) constants h.job) where
   in_frames : (f : Frame) (w : Word) → Has (all_frames h) f → Has f.cells w → IsLow w
-  in_frames f w k c = elim (has_append_cases (flat_map (λ (t : Task). t.frames) h.job.tasks) (h.setting.dictionary ∷ mcp ∷ []) f k) [
+  in_frames f w k c = elim (has_append_cases (flat_map (λ (t : Task). t.frames) h.job.tasks) (h.constants.dictionary ∷ mcp ∷ []) f k) [
     | inl a ↦
         let p = has_flat_back (λ (t : Task). t.frames) h.job.tasks f a in
-        let own = all_in (TaskInOrder (IsSegment setting) setting h.job) h.job.tasks p.item o.tasks p.among in
-        of_frames (IsSegment setting) h.job.arrays (outer_of h.job p.item) p.item.frames f w own.frames p.inside c
+        let own = all_in (TaskInOrder (IsSegment constants) constants h.job) h.job.tasks p.item o.tasks p.among in
+        of_frames (IsSegment constants) h.job.arrays (outer_of h.job p.item) p.item.frames f w own.frames p.inside c
     | inr (inl e) ↦
-        let there : Has setting.dictionary.cells w = subst (λ (z : Frame). Has z.cells w) (sym e ∙ ap (λ (z : Setting). z.dictionary) same) c in
-        of_entry h.job.arrays w (all_in (EntryInOrder h.job.arrays) setting.dictionary.cells w o.entries there)
+        let there : Has constants.dictionary.cells w = subst (λ (z : Frame). Has z.cells w) (sym e ∙ ap (λ (z : JobConstants). z.dictionary) same) c in
+        of_entry h.job.arrays w (all_in (EntryInOrder h.job.arrays) constants.dictionary.cells w o.entries there)
     | inr (inr (inl e)) ↦
         let there : Has mcp.cells w = subst (λ (z : Frame). Has z.cells w) (sym e) c in
         all_in IsLow mcp.cells w (omega arith, (omega arith, (omega arith, (omega arith, (omega arith, (omega arith, (omega arith, (omega arith, (omega arith, tt))))))))) there
@@ -136,7 +115,7 @@ module _ (setting : Setting) (h : Here) (same : h.setting ≡ setting) (o : Task
   followed (Intrinsic n) = tt
   followed (Words.Segment n) = tt
 
-pub from_eight : (plan : Plan) (s : Session) (m : Member) (t : Task) (n : ℕ) → IsInOrderButPlaces s → IsRunning plan s.jobs m t → called_in m t ≡ Some n → 8 ≤ n
+pub from_eight : (plan : Placement) (s : Session) (m : SessionJob) (t : Task) (n : ℕ) → IsInOrderButPlaces s → IsRunning plan s.jobs m t → called_in m t ≡ Some n → 8 ≤ n
 from_eight plan s m t n o runs c =
     let k = calling m t n c in
-    subst EndLow k.ends (followed m.setting (here m t k.next) refl (running_in_order plan s m t o runs).0.tasks k.reference)
+    subst EndLow k.ends (followed m.constants (here m t k.next) refl (running_in_order plan s m t o runs).0.tasks k.reference)

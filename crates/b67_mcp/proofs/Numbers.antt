@@ -1,52 +1,46 @@
 -- The rows of jobs where READ took a number.
-use Rattle.std.proofs.Common.{◌≡◌, ℕ, zero, suc, ◌-◌, ◌<◌, ◌≤◌, ◌^◌, List, [], ◌∷◌, ◌++◌, length, map, take, drop, Some, Result, Ok, Err, refl, sym, ◌∙◌, ap, arith, inl, inr, ◌⊎◌, subst, slice_set}
+use Rattle.std.proofs.Common.{◌≡◌, ℕ, zero, suc, ◌-◌, ◌<◌, ◌≤◌, ◌^◌, List, [], ◌∷◌, length, map, Some, Result, Ok, Err, refl, sym, ◌∙◌, ap, arith, inl, inr, ◌⊎◌, subst, slice_set}
 use Rattle.std.specs.List.{slice_get}
-use Rattle.std.proofs.lemmas.Option.{same_Some, none-some}
 use Rattle.b67_word.specs.Tagged.{Tagged}
 use Rattle.b67_word.specs.declared.faults.Fault.{Fault}
 use Rattle.b67_word.specs.declared.couples.Place.{Place}
 use Rattle.b67_lemmas.specs.Lists.{Has}
+use Rattle.b67_lemmas.proofs.Members.{has_get, keyed-has}
+use Rattle.b67_lemmas.proofs.Places.{at_mapped, map-slice_set, mapped_at, put_back}
 use Rattle.b67_model.specs.Words.{Word, Operand}
-use Rattle.b67_model.specs.State.{Task, Member, top, below_top}
+use Rattle.b67_model.specs.State.{Task, SessionJob, top, below_top}
 use Rattle.b67_model.specs.Intrinsics.{answered, read_from}
 use Rattle.b67_model.specs.Run.{number_of}
 use Rattle.b67_model.specs.Schedule.{Session}
 use Rattle.b67_model.specs.InOrder.{IsInOrderButPlaces}
-use Rattle.b67_layout.specs.Plan.{Plan}
+use Rattle.b67_layout.specs.Placement.{Placement}
 use Rattle.b67_layout.specs.Rows as rows
 use Rattle.b67_layout.specs.Rows.{JobShows, TablesShow}
 use Rattle.b67_layout.specs.Session.{IsRunning}
 use Rattle.b67_layout.specs.Meets.{here, with_job}
-use Rattle.b67_layout.proofs.Others.{keyed-has}
 use Rattle.b67_mcp_calls.specs.Reads.{job_read, IsRead, ReadMeets}
 use Rattle.b67_task_tables.specs.declared.tables.JobRow.{JobRow}
 use Rattle.b67_task_tables.specs.declared.tables.Tasks.{Tasks}
 use Rattle.b67_task_tables.specs.Tables.{task_row, job_row, counts_of, TasksShow}
-use Rattle.b67_task_switch.proofs.Lists.{at_has, mapped_at, at_mapped, map-slice_set}
-use Rattle.b67_task_switch.proofs.Tables.{numbered_low, job_at}
+use Rattle.b67_task_switch.proofs.Tables.{job_at}
 use Rattle.b67_mcp.specs.Called.{AreCountable}
 use Rattle.b67_mcp.proofs.Tables.{jobs_put, tables_after}
 use Rattle.b67_mcp.proofs.Frames.{replaces_answered, waits_answered}
+use Rattle.b67_law_order.proofs.Numbered.{numbered_low}
 
 -- the row of a job
-pub record JobIn (tasks : Tasks) (plan : Plan) (m : Member) : Type 0 where
+pub record JobIn (tasks : Tasks) (plan : Placement) (m : SessionJob) : Type 0 where
   pub row : JobRow
-  pub at : slice_get tasks.jobs (m.setting.number - 1) ≡ Some row
+  pub at : slice_get tasks.jobs (m.constants.number - 1) ≡ Some row
   pub shows : JobShows plan m (job_row row)
-  pub from_one : 1 ≤ m.setting.number
+  pub from_one : 1 ≤ m.constants.number
 
-pub job_in : (tasks : Tasks) (plan : Plan) (s : Session) (m : Member) (t : Task) → IsInOrderButPlaces s → TasksShow plan s tasks → IsRunning plan s.jobs m t → JobIn tasks plan m
+pub job_in : (tasks : Tasks) (plan : Placement) (s : Session) (m : SessionJob) (t : Task) → IsInOrderButPlaces s → TasksShow plan s tasks → IsRunning plan s.jobs m t → JobIn tasks plan m
 job_in tasks plan s m t o h runs =
-    let inm = keyed-has number_of m.setting.number s.jobs m runs.member in
+    let inm = keyed-has number_of m.constants.number s.jobs m runs.member in
     let b = job_at plan 1 s.jobs (map job_row tasks.jobs) m o.numbered h.jobs inm in
-    let (row, at, same) = mapped_at job_row tasks.jobs (m.setting.number - 1) b.row b.at in
+    let (row, at, same) = mapped_at job_row tasks.jobs (m.constants.number - 1) b.row b.at in
     record { row = row; at = at; shows = subst (λ (r : rows.JobRow). JobShows plan m r) (sym same) b.shows; from_one = numbered_low 1 s.jobs m o.numbered inm }
-
--- an item put where it stands
-pub put_back : {A : Type 0} (xs : List A) (i : ℕ) (x : A) → slice_get xs i ≡ Some x → slice_set xs i x ≡ xs
-put_back [] i x e = absurd (none-some x e)
-put_back (y ∷ ys) zero x e = ap (λ z. z ∷ ys) (sym (same_Some y x e))
-put_back (y ∷ ys) (suc i) x e = ap (λ zs. y ∷ zs) (put_back ys i x e)
 
 has_put : {A : Type 0} (xs : List A) (i : ℕ) (x z : A) → Has (slice_set xs i x) z → Has xs z ⊎ (x ≡ z)
 has_put [] i x z h = absurd h
@@ -55,43 +49,36 @@ has_put (y ∷ ys) zero x z (inr k) = inl (inr k)
 has_put (y ∷ ys) (suc i) x z (inl e) = inl (inl e)
 has_put (y ∷ ys) (suc i) x z (inr k) = elim (has_put ys i x z k) [ inl h ↦ inl (inr h) | inr e ↦ inr e ]
 
--- a list that was lent and comes back with its length
-pub came_back : {A : Type 0} (xs ws : List A) → length ws ≡ length xs → take (length xs) (ws ++ drop (length ws) xs) ≡ ws
-came_back [] [] e = refl
-came_back [] (w ∷ ws) e = absurd (omega (arith, e))
-came_back (x ∷ xs) [] e = absurd (omega (arith, e))
-came_back (x ∷ xs) (w ∷ ws) e = ap (λ r. w ∷ r) (came_back xs ws (omega (arith, e)))
-
 pub tasks_same : (tasks tasks' : Tasks) (i : ℕ) (row new : JobRow) → slice_get tasks.jobs i ≡ Some row → tasks'.jobs ≡ slice_set tasks.jobs i new → new ≡ row → tasks' ≡ record tasks { jobs = tasks'.jobs } → tasks' ≡ tasks
 tasks_same tasks tasks' i row new at is same rest =
     rest ∙ ap (λ (l : List JobRow). record tasks { jobs = l }) (is ∙ ap (λ (r : JobRow). slice_set tasks.jobs i r) same ∙ put_back tasks.jobs i row at)
 
 -- READ changes no list of numbers
-same_numbers : (plan : Plan) (m : Member) (t : Task) (arguments : List Word) (old new : JobRow) (answer : Result Tagged Fault) → ReadMeets plan m t arguments old new answer → new.numbers ≡ old.numbers
+same_numbers : (plan : Placement) (m : SessionJob) (t : Task) (arguments : List Word) (old new : JobRow) (answer : Result Tagged Fault) → ReadMeets plan m t arguments old new answer → new.numbers ≡ old.numbers
 same_numbers plan m t arguments old new (Ok w) h = ap (λ (r : JobRow). r.numbers) h.same
 same_numbers plan m t arguments old new (Err fault) h = ap (λ (r : JobRow). r.numbers) h.1
 
-pub countable_read : (plan : Plan) (m : Member) (t : Task) (arguments : List Word) (jobs jobs' : List JobRow) (i : ℕ) (old new : JobRow) (answer : Result Tagged Fault) → slice_get jobs i ≡ Some old → jobs' ≡ slice_set jobs i new
+pub countable_read : (plan : Placement) (m : SessionJob) (t : Task) (arguments : List Word) (jobs jobs' : List JobRow) (i : ℕ) (old new : JobRow) (answer : Result Tagged Fault) → slice_get jobs i ≡ Some old → jobs' ≡ slice_set jobs i new
     → ReadMeets plan m t arguments old new answer → AreCountable jobs → AreCountable jobs'
 countable_read plan m t arguments jobs jobs' i old new answer at is meets few = λ row h.
     (elim (has_put jobs i new row (subst (λ (l : List JobRow). Has l row) is h)) [
       | inl k ↦ few row k
       | inr e ↦
-          let low : length old.numbers < 2 ^ 32 = few old (at_has jobs i old at) in
+          let low : length old.numbers < 2 ^ 32 = few old (has_get jobs i old at) in
           subst (λ (r : JobRow). length r.numbers < 2 ^ 32) e (omega (arith, low, ap length (same_numbers plan m t arguments old new answer meets)))
     ])
 
-module _ (plan : Plan) (s : Session) (m : Member) (t : Task) (o : IsInOrderButPlaces s) (runs : IsRunning plan s.jobs m t) (q : Place) (arguments : List Word) (tasks tasks' : Tasks) (h : TasksShow plan s tasks) (old new : JobRow) (w : Tagged)
-    (at : slice_get tasks.jobs (m.setting.number - 1) ≡ Some old) (is : tasks'.jobs ≡ slice_set tasks.jobs (m.setting.number - 1) new) (rest : tasks' ≡ record tasks { jobs = tasks'.jobs }) (did : IsRead plan m t arguments old new w) where
+module _ (plan : Placement) (s : Session) (m : SessionJob) (t : Task) (o : IsInOrderButPlaces s) (runs : IsRunning plan s.jobs m t) (q : Place) (arguments : List Word) (tasks tasks' : Tasks) (h : TasksShow plan s tasks) (old new : JobRow) (w : Tagged)
+    (at : slice_get tasks.jobs (m.constants.number - 1) ≡ Some old) (is : tasks'.jobs ≡ slice_set tasks.jobs (m.constants.number - 1) new) (rest : tasks' ≡ record tasks { jobs = tasks'.jobs }) (did : IsRead plan m t arguments old new w) where
   pub tables_read : TasksShow plan (with_job s m (job_read m t q)) tasks'
   tables_read =
-      let word : Word = Operand (read_from m.course.job.numbers).0 in
-      let low = numbered_low 1 s.jobs m o.numbered (keyed-has number_of m.setting.number s.jobs m runs.member) in
-      let jobs = jobs_put plan 1 (m.setting.number - 1) m.setting.number m (record m.course { job = job_read m t q }) s.jobs (map job_row tasks.jobs) (job_row old) (job_row new) (omega (arith, low)) o.numbered runs.member
-      (at_mapped job_row tasks.jobs (m.setting.number - 1) old at) (did.shows q) h.jobs in
-      let shown : TablesShow plan (with_job s m (job_read m t q)) (map task_row tasks.rows.items) (slice_set (map job_row tasks.jobs) (m.setting.number - 1) (job_row new)) (counts_of tasks) =
+      let word : Word = Operand (read_from m.progress.job.numbers).0 in
+      let low = numbered_low 1 s.jobs m o.numbered (keyed-has number_of m.constants.number s.jobs m runs.member) in
+      let jobs = jobs_put plan 1 (m.constants.number - 1) m.constants.number m (record m.progress { job = job_read m t q }) s.jobs (map job_row tasks.jobs) (job_row old) (job_row new) (omega (arith, low)) o.numbered runs.member
+      (at_mapped job_row tasks.jobs (m.constants.number - 1) old at) (did.shows q) h.jobs in
+      let shown : TablesShow plan (with_job s m (job_read m t q)) (map task_row tasks.rows.items) (slice_set (map job_row tasks.jobs) (m.constants.number - 1) (job_row new)) (counts_of tasks) =
       tables_after plan s m t (answered (here m t q) (word ∷ [])) (job_read m t q) o runs (replaces_answered plan s m t o runs did.may q word (job_read m t q) refl) refl (waits_answered plan s m t o runs did.may (word ∷ (top (below_top t.frames)).cells))
-      (map task_row tasks.rows.items) (map job_row tasks.jobs) (slice_set (map job_row tasks.jobs) (m.setting.number - 1) (job_row new)) (counts_of tasks) h jobs in
-      let made : map job_row tasks'.jobs ≡ slice_set (map job_row tasks.jobs) (m.setting.number - 1) (job_row new) = ap (map job_row) is ∙ map-slice_set job_row tasks.jobs (m.setting.number - 1) new in
+      (map task_row tasks.rows.items) (map job_row tasks.jobs) (slice_set (map job_row tasks.jobs) (m.constants.number - 1) (job_row new)) (counts_of tasks) h jobs in
+      let made : map job_row tasks'.jobs ≡ slice_set (map job_row tasks.jobs) (m.constants.number - 1) (job_row new) = ap (map job_row) is ∙ map-slice_set job_row tasks.jobs (m.constants.number - 1) new in
       subst (λ (z : Tasks). TasksShow plan (with_job s m (job_read m t q)) z) (sym rest)
       (subst (λ (l : List rows.JobRow). TablesShow plan (with_job s m (job_read m t q)) (map task_row tasks.rows.items) l (counts_of tasks)) (sym made) shown)

@@ -9,13 +9,13 @@ use Rattle.b67_model.specs.Intrinsics.{printrow}
 use Rattle.b67_model.specs.Need.{touched_of, touched_by_call, touched_at_mark, touched_before_fault}
 use Rattle.b67_model.specs.Operators.{Reading}
 use Rattle.b67_model.specs.Rows.{reading_of, step}
-use Rattle.b67_model.specs.State.{Standing, Marked, Task, Job, Member, Here, top}
+use Rattle.b67_model.specs.State.{Standing, Marked, Task, Job, SessionJob, OperatorContext, top}
 use Rattle.b67_model.specs.Steps.{Line, Done, Goes}
 use Rattle.b67_model.specs.Words as Words
 use Rattle.b67_model.specs.Words.{Word, Operand, Name, Ref, Row, Element, Original, Proc, Intrinsic}
 use Rattle.b67_model.specs.Schedule.{Session}
-use Rattle.b67_stack.specs.Stands.{Storage}
-use Rattle.b67_layout.specs.Plan.{Plan}
+use Rattle.b67_stack.specs.Represents.{Storage}
+use Rattle.b67_layout.specs.Placement.{Placement}
 use Rattle.b67_layout.specs.Meets.{here}
 use Rattle.b67_mcp_calls.specs.RowCalls.{CopiesPresent}
 use Rattle.b67_task_tables.specs.declared.tables.Machine.{Machine}
@@ -63,7 +63,7 @@ row_only r (Words.Segment i ∷ []) e a q = absurd (none-some a q)
 row_only r (v ∷ w ∷ more) e a q = absurd (none-some a (sym (many r v w more e) ∙ q))
 
 -- PRINTROW is made with a whole copy alone
-made_row : (h : Here) (arguments : List Word) (done : Done) → printrow h arguments ≡ Ok done → (a : ℕ) × (arguments ≡ Row a ∷ [])
+made_row : (h : OperatorContext) (arguments : List Word) (done : Done) → printrow h arguments ≡ Ok done → (a : ℕ) × (arguments ≡ Row a ∷ [])
 made_row h [] done e = absurd cc
 made_row h (Row a ∷ []) done e = (a, refl)
 made_row h (Operand bits ∷ []) done e = absurd cc
@@ -76,17 +76,17 @@ made_row h (Intrinsic i ∷ []) done e = absurd cc
 made_row h (Words.Segment i ∷ []) done e = absurd cc
 made_row h (v ∷ w ∷ more) done e = absurd cc
 
-module _ (m : Member) (t : Task) where
+module _ (m : SessionJob) (t : Task) where
   abbrev touched : Answer Done → Option ℕ
-  touched answer = touched_of m.setting m.course.job t answer
+  touched answer = touched_of m.constants m.progress.job t answer
 
   module _ (n : ℕ) (k : Calling m t n) where
-    abbrev at_call : Here
-    at_call = record { setting = m.setting; job = m.course.job; task = t; at = t.place }
+    abbrev at_call : OperatorContext
+    at_call = record { constants = m.constants; job = m.progress.job; task = t; at = t.place }
 
-    before : touched_before_fault m.setting m.course.job t (reading_of m.setting t) ≡ touched_by_call (k.reference ∷ k.arguments) (Ok (AtIntrinsic n))
+    before : touched_before_fault m.constants m.progress.job t (reading_of m.constants t) ≡ touched_by_call (k.reference ∷ k.arguments) (Ok (AtIntrinsic n))
     before =
-        let by_reading : Reading → Option ℕ = λ r. touched_before_fault m.setting m.course.job t r in
+        let by_reading : Reading → Option ℕ = λ r. touched_before_fault m.constants m.progress.job t r in
         let by_mark : Standing → Option ℕ = λ st. touched_at_mark at_call st (reverse (top t.frames).cells) in
         let by_cells : List Word → Option ℕ = λ cs. touched_at_mark at_call Marked cs in
         let by_end : Answer End → Option ℕ = λ e. touched_by_call (k.reference ∷ k.arguments) e in
@@ -94,18 +94,18 @@ module _ (m : Member) (t : Task) where
         ∙ ap by_end (reference_same at_call (here m t k.next) refl refl k.reference ∙ k.ends)
 
     -- a call that faults
-    fault_touches : (fault : Fault) → step m.setting m.course.job t ≡ Err fault → (a : ℕ) → touched (step m.setting m.course.job t) ≡ Some a → (n ≡ 10) × (k.arguments ≡ Row a ∷ [])
+    fault_touches : (fault : Fault) → step m.constants m.progress.job t ≡ Err fault → (a : ℕ) → touched (step m.constants m.progress.job t) ≡ Some a → (n ≡ 10) × (k.arguments ≡ Row a ∷ [])
     fault_touches fault is a e =
         let f = row_only k.reference k.arguments (Ok (AtIntrinsic n)) a (sym before ∙ sym (ap touched is) ∙ e) in
         ((let both : Ok (AtIntrinsic n) ≡ Ok (AtIntrinsic 10) = f.called in cc), f.are)
 
-  module _ (x : Storage) (plan : Plan) where
+  module _ (x : Storage) (plan : Placement) where
     -- a call of another intrinsic that faults
-    pub faults_untouched : (n : ℕ) → n ≢ 10 → Calling m t n → (fault : Fault) → step m.setting m.course.job t ≡ Err fault → TouchesPresent x plan m t
+    pub faults_untouched : (n : ℕ) → n ≢ 10 → Calling m t n → (fault : Fault) → step m.constants m.progress.job t ≡ Err fault → TouchesPresent x plan m t
     faults_untouched n ne k fault is a e = absurd (ne (fault_touches n k fault is a e).0)
 
     -- a call that is made, and touches nothing
-    pub made_untouched : (job : Job) (printed : List Line) → step m.setting m.course.job t ≡ Ok (Goes job printed None) → TouchesPresent x plan m t
+    pub made_untouched : (job : Job) (printed : List Line) → step m.constants m.progress.job t ≡ Ok (Goes job printed None) → TouchesPresent x plan m t
     made_untouched job printed is a e = absurd (none-some a (sym (ap touched is) ∙ e))
 
     pub silent_untouched : (n : ℕ) → n ≢ 10 → Calling m t n → (told : Option (List (List ℕ))) (s : Session) (old new : Machine) (done : Result (Unit {0}) Fault) → AnswerMeets told s m t done old new → CallTouches x plan m t (Ok (end_of done))
@@ -117,7 +117,7 @@ module _ (m : Member) (t : Task) where
       copied : (a : ℕ) → k.arguments ≡ Row a ∷ [] → IsThere x plan m a
       copied a are = let p = present a are in record { array = p.0.item; among = p.0.live; named = p.0.named; there = p.1 }
 
-      pub row_faults : (fault : Fault) → step m.setting m.course.job t ≡ Err fault → TouchesPresent x plan m t
+      pub row_faults : (fault : Fault) → step m.constants m.progress.job t ≡ Err fault → TouchesPresent x plan m t
       row_faults fault is a e = copied a (fault_touches 10 k fault is a e).1
 
       pub row_made : (done : Done) → printrow (here m t k.next) k.arguments ≡ Ok done → TouchesPresent x plan m t

@@ -3,10 +3,10 @@ use Rattle.std.proofs.Common.{ℕ, zero, suc, List, [], Option, None, Result, Ok
 use Rattle.b67_io.proofs.Joined.{Took-none}
 use Rattle.b67_session_lines.specs.Parts.{TookRest}
 use Rattle.b67_word.specs.declared.faults.Fault.{Fault}
-use Rattle.b67_model.specs.State.{Task, Member}
+use Rattle.b67_model.specs.State.{Task, SessionJob}
 use Rattle.b67_model.specs.Schedule.{Session}
-use Rattle.b67_stack.specs.Stands.{Storage}
-use Rattle.b67_layout.specs.Plan.{Plan}
+use Rattle.b67_stack.specs.Represents.{Storage}
+use Rattle.b67_layout.specs.Placement.{Placement}
 use Rattle.b67_task_tables.specs.declared.tables.Machine.{Machine}
 use Rattle.b67_mcp.specs.Called.{CallsBuilt, CallMeets}
 use Rattle.b67_mcp.specs.Answers.{AnswerMeets, end_of}
@@ -16,7 +16,7 @@ rest_none : {K : Type 0} (taken : K → Option (List ℕ)) (paper : K) (before :
 rest_none taken paper zero = record { rest = []; took = Took-none taken paper; same = refl }
 rest_none taken paper (suc n) = record { rest = []; took = Took-none taken paper; same = refl }
 
-pub silent_meets : {K : Type 0} (taken : K → Option (List ℕ)) (paper : K) (x : Storage) (told : Option (List (List ℕ))) (plan : Plan) (s : Session) (m : Member) (t : Task) (n : ℕ) (done : Result (Unit {0}) Fault) (old new : Machine)
+pub silent_meets : {K : Type 0} (taken : K → Option (List ℕ)) (paper : K) (x : Storage) (told : Option (List (List ℕ))) (plan : Placement) (s : Session) (m : SessionJob) (t : Task) (n : ℕ) (done : Result (Unit {0}) Fault) (old new : Machine)
     → CallsBuilt m t → AnswerMeets told s m t done old new → CallMeets taken x told plan s m t n (Ok (end_of done)) old new paper paper
 silent_meets taken paper x told plan s m t n (Ok done) old new built h =
     record { job = h.job; printed = []; touched = None; is = h.is; built = built; storage = h.storage; plan = h.plan; stands = h.stands; text = rest_none taken paper old.tasks.printed; reset = h.printed }

@@ -3,20 +3,20 @@ use Rattle.std.proofs.Common.{◌≡◌, ℕ, List, length, refl, sym, ◌∙◌
 use Rattle.b67_area.specs.Spans.{Span, end}
 use Rattle.b67_model.specs.Schedule.{Session}
 use Rattle.b67_stack.specs.declared.Cpu.{Cpu}
-use Rattle.b67_stack.specs.Stands.{Storage}
-use Rattle.b67_layout.specs.Plan.{Plan}
-use Rattle.b67_layout.specs.Session.{SessionStands}
+use Rattle.b67_stack.specs.Represents.{Storage}
+use Rattle.b67_layout.specs.Placement.{Placement}
+use Rattle.b67_layout.specs.Session.{RepresentsSession}
 use Rattle.b67_task_tables.specs.declared.tables.Machine.{Machine}
 use Rattle.b67_mcp.specs.Running.{Kept}
 
 -- core has the size that the spans of its directory have
-pub same_size : (x y : Storage) (old new : Cpu) (plan there : Plan) (s z : Session) → SessionStands x old plan s → SessionStands y new there z → y.low ≡ x.low → y.spans ≡ x.spans → length new.core ≡ length old.core
+pub same_size : (x y : Storage) (old new : Cpu) (plan there : Placement) (s z : Session) → RepresentsSession x old plan s → RepresentsSession y new there z → y.low ≡ x.low → y.spans ≡ x.spans → length new.core ≡ length old.core
 same_size x y old new plan there s z a b low spans =
     sym b.holds.memory.directory.all ∙ ap (λ (i : ℕ). end i y.spans) low ∙ ap (λ (ss : List Span). end x.low ss) spans ∙ a.holds.memory.directory.all
 
 pub kept_same : (old new : Machine) → new ≡ old → Kept old new
-kept_same old new e = subst (λ (k : Machine). Kept old k) (sym e) (record { countable = λ c. c; len = refl; changed = λ i. inl refl; sectors = refl; halt = refl })
+kept_same old new e = subst (λ (k : Machine). Kept old k) (sym e) (record { countable = λ c. c; keeps = record { core = refl; sectors = refl; halt = refl }; changed = λ i. inl refl; sectors = refl })
 
 -- how much is printed is no part of it
 pub kept_printed : (old : Machine) (printed : ℕ) → Kept old (record old { tasks = record old.tasks { printed = printed } })
-kept_printed old printed = record { countable = λ c. c; len = refl; changed = λ i. inl refl; sectors = refl; halt = refl }
+kept_printed old printed = record { countable = λ c. c; keeps = record { core = refl; sectors = refl; halt = refl }; changed = λ i. inl refl; sectors = refl }

@@ -5,26 +5,26 @@ use Rattle.std.proofs.lemmas.Option.{same_Some, none-some}
 use Rattle.std.proofs.lemmas.Bool.{cases_eq}
 use Rattle.std.proofs.lemmas.Bool.Decides.{eqb_tells}
 use Rattle.b67_lemmas.specs.Lists.{Has}
-use Rattle.b67_model.specs.State.{Frame, Condition, Ready, Awaits, WaitsAt, Task, Job, Course, Member}
+use Rattle.b67_lemmas.proofs.Members.{has_change, keyed-has}
+use Rattle.b67_model.specs.State.{Frame, Condition, Ready, Awaits, WaitsAt, Task, Job, JobProgress, SessionJob}
 use Rattle.b67_model.specs.Keyed.{keyed, change_keyed}
 use Rattle.b67_model.specs.Run.{number_of}
 use Rattle.b67_model.specs.Schedule.{Session}
 use Rattle.b67_model.specs.InOrder.{from_frame, frames_of_task, NumberedFrom, IsInOrderButPlaces}
-use Rattle.b67_law_order.proofs.Members.{has_change}
-use Rattle.b67_stack.specs.Stacks.{Spot}
-use Rattle.b67_layout.specs.Plan.{Plan, slot_of, spot_in, base_spot, outer_spots, address_of}
+use Rattle.b67_stack.specs.Stacks.{StackPlace}
+use Rattle.b67_layout.specs.Placement.{Placement, slot_of, spot_in, base_spot, outer_spots, address_of}
 use Rattle.b67_layout.specs.Rows.{RowState, WaitsAtCell, TaskRow, JobRow, Counts, shown, critical_disp, TaskShows, JobShows, JobsShow, TablesShow}
 use Rattle.b67_layout.specs.Session.{IsRunning}
 use Rattle.b67_layout.specs.Meets.{with_job}
-use Rattle.b67_layout.proofs.Others.{keyed-has}
 use Rattle.b67_layout.proofs.Fresh.{running_in_order}
-use Rattle.b67_layout.proofs.Pictures.{member-same}
+use Rattle.b67_layout.proofs.MachineViews.{member-same}
 use Rattle.b67_layout.proofs.Sessions.{change-has, change-kept}
 use Rattle.b67_layout_leave.proofs.Slots.{IsDependedOn, Replaces, task-same, task-other, outer_spots-after}
-use Rattle.b67_task_switch.proofs.Tables.{first_member, live_in_order}
+use Rattle.b67_task_switch.proofs.Tables.{live_in_order}
+use Rattle.b67_law_order.proofs.Numbered.{keyed_member}
 
 -- a frame stands among those from it down where it stands among all
-from-same : (k c : ℕ) (o : ℕ → Spot) (fs : List Frame) → spot_in k o (from_frame c fs) c ≡ spot_in k o fs c
+from-same : (k c : ℕ) (o : ℕ → StackPlace) (fs : List Frame) → spot_in k o (from_frame c fs) c ≡ spot_in k o fs c
 from-same k c o [] = refl
 from-same k c o (f ∷ below) = elim (eqb_tells f.identity c) [ inl e ↦ rw (e.0, e.0) refl | inr e ↦ rw e.0 (from-same k c o below) ]
 
@@ -32,9 +32,9 @@ from-same k c o (f ∷ below) = elim (eqb_tells f.identity c) [ inl e ↦ rw (e.
 abbrev pub WaitsThere : Condition → List Frame → List Frame → Type 0
 WaitsThere Ready fs gs = Unit {0}
 WaitsThere (Awaits n) fs gs = Unit {0}
-WaitsThere (WaitsAt f offset) fs gs = (k : ℕ) (o : ℕ → Spot) → spot_in k o gs f ≡ spot_in k o fs f
+WaitsThere (WaitsAt f offset) fs gs = (k : ℕ) (o : ℕ → StackPlace) → spot_in k o gs f ≡ spot_in k o fs f
 
-module _ (plan : Plan) (j : ℕ) (job job' : Job) (t t' : Task) (by : Replaces job job' t t') where
+module _ (plan : Placement) (j : ℕ) (job job' : Job) (t t' : Task) (by : Replaces job job' t t') where
   outer-same : (u : Task) → Has job.tasks u → outer_spots plan j job' u.critical u.parents ≡ outer_spots plan j job u.critical u.parents
   outer-same u h = λ i id. outer_spots-after plan j job job' t t' by u.parents u.critical (inr (u, h, refl)) id i
 
@@ -49,28 +49,28 @@ module _ (plan : Plan) (j : ℕ) (job job' : Job) (t t' : Task) (by : Replaces j
       let is_new : keyed (λ (u : Task). u.number) parent job'.tasks ≡ Some t' = ap (λ (n : ℕ). keyed (λ (u : Task). u.number) n job'.tasks) e ∙ task-same plan j job job' t t' by in
       let seen : spot_in k (base_spot j) t'.frames c ≡ spot_in k (base_spot j) t.frames c =
       sym (from-same k c (base_spot j) t'.frames) ∙ by.seen c k (base_spot j) c d ∙ from-same k c (base_spot j) t.frames in
-      ap D is_new ∙ ap (λ (p : Spot). p.disp) seen ∙ ap D (sym is_old))
+      ap D is_new ∙ ap (λ (p : StackPlace). p.disp) seen ∙ ap D (sym is_old))
       (λ (e : parent ≡ t.number → ⊥). ap D (task-other plan j job job' t t' by parent e))
       (cases_eq parent t.number)
 
   shown-same : (u : Task) → Has job.tasks u → (d : Condition) → shown plan j job' u d ≡ shown plan j job u d
   shown-same u h Ready = refl
   shown-same u h (Awaits n) = refl
-  shown-same u h (WaitsAt f offset) = ap (λ (o : ℕ → Spot). WaitsAtCell (address_of plan (spot_in (slot_of plan j u.number) o u.frames f)) offset) (outer-same u h)
+  shown-same u h (WaitsAt f offset) = ap (λ (o : ℕ → StackPlace). WaitsAtCell (address_of plan (spot_in (slot_of plan j u.number) o u.frames f)) offset) (outer-same u h)
 
   shown-own : (d : Condition) → Has job.tasks t → WaitsThere d t.frames t'.frames → shown plan j job' t' d ≡ shown plan j job t d
   shown-own Ready h w = refl
   shown-own (Awaits n) h w = refl
   shown-own (WaitsAt f offset) h w =
-      let S : ℕ → (ℕ → Spot) → List Frame → RowState = λ n o fs. WaitsAtCell (address_of plan (spot_in (slot_of plan j n) o fs f)) offset in
+      let S : ℕ → (ℕ → StackPlace) → List Frame → RowState = λ n o fs. WaitsAtCell (address_of plan (spot_in (slot_of plan j n) o fs f)) offset in
       let outer : outer_spots plan j job' t'.critical t'.parents ≡ outer_spots plan j job t.critical t.parents =
       ap (λ (c : ℕ). outer_spots plan j job' c t'.parents) by.critical ∙ ap (outer_spots plan j job' t.critical) by.parents ∙ outer-same t h in
       ap (λ (n : ℕ). S n (outer_spots plan j job' t'.critical t'.parents) t'.frames) by.number
-      ∙ ap (λ (o : ℕ → Spot). S t.number o t'.frames) outer
-      ∙ ap (λ (p : Spot). WaitsAtCell (address_of plan p) offset) (w (slot_of plan j t.number) (outer_spots plan j job t.critical t.parents))
+      ∙ ap (λ (o : ℕ → StackPlace). S t.number o t'.frames) outer
+      ∙ ap (λ (p : StackPlace). WaitsAtCell (address_of plan p) offset) (w (slot_of plan j t.number) (outer_spots plan j job t.critical t.parents))
 
 -- the members once one of them has another course
-numbered_change : (k n : ℕ) (c : Course) (jobs : List Member) → NumberedFrom k jobs → NumberedFrom k (change_keyed number_of n (λ (y : Member). record y { course = c }) jobs)
+numbered_change : (k n : ℕ) (c : JobProgress) (jobs : List SessionJob) → NumberedFrom k jobs → NumberedFrom k (change_keyed number_of n (λ (y : SessionJob). record y { progress = c }) jobs)
 numbered_change k n c [] d = d
 numbered_change k n c (y ∷ more) d = elim (eqb_tells (number_of y) n) [
   | inl t ↦ rw t.0 (d.0, d.1)
@@ -78,27 +78,27 @@ numbered_change k n c (y ∷ more) d = elim (eqb_tells (number_of y) n) [
 ]
 
 -- the rows of jobs, where the changed job's row is as it was
-pub jobs_kept : (plan : Plan) (n : ℕ) (m : Member) (c : Course) (jobs : List Member) (rows : List JobRow) → keyed number_of n jobs ≡ Some m → ((row : JobRow) → JobShows plan m row → JobShows plan (record m { course = c }) row)
-    → JobsShow plan jobs rows → JobsShow plan (change_keyed number_of n (λ (y : Member). record y { course = c }) jobs) rows
+pub jobs_kept : (plan : Placement) (n : ℕ) (m : SessionJob) (c : JobProgress) (jobs : List SessionJob) (rows : List JobRow) → keyed number_of n jobs ≡ Some m → ((row : JobRow) → JobShows plan m row → JobShows plan (record m { progress = c }) row)
+    → JobsShow plan jobs rows → JobsShow plan (change_keyed number_of n (λ (y : SessionJob). record y { progress = c }) jobs) rows
 jobs_kept plan n m c [] rows e f h = absurd (none-some m e)
 jobs_kept plan n m c (y ∷ more) [] e f h = absurd h
 jobs_kept plan n m c (y ∷ more) (row ∷ rows) e f h = elim (eqb_tells (number_of y) n) [
   | inl t ↦
       let same : m ≡ y = sym (same_Some y m (rw t.0 at e)) in
-      let P : Member → Type 0 = λ z. JobShows plan z row → JobShows plan (record z { course = c }) row in
+      let P : SessionJob → Type 0 = λ z. JobShows plan z row → JobShows plan (record z { progress = c }) row in
       rw t.0 (subst P same (f row) h.0, h.1)
   | inr t ↦ rw t.0 (h.0, jobs_kept plan n m c more rows (rw t.0 at e) f h.1)
 ]
 
 -- and where it changes
-pub jobs_put : (plan : Plan) (k i n : ℕ) (m : Member) (c : Course) (jobs : List Member) (rows : List JobRow) (row row' : JobRow) → k + i ≡ n → NumberedFrom k jobs → keyed number_of n jobs ≡ Some m → slice_get rows i ≡ Some row
-    → JobShows plan (record m { course = c }) row' → JobsShow plan jobs rows → JobsShow plan (change_keyed number_of n (λ (y : Member). record y { course = c }) jobs) (slice_set rows i row')
+pub jobs_put : (plan : Placement) (k i n : ℕ) (m : SessionJob) (c : JobProgress) (jobs : List SessionJob) (rows : List JobRow) (row row' : JobRow) → k + i ≡ n → NumberedFrom k jobs → keyed number_of n jobs ≡ Some m → slice_get rows i ≡ Some row
+    → JobShows plan (record m { progress = c }) row' → JobsShow plan jobs rows → JobsShow plan (change_keyed number_of n (λ (y : SessionJob). record y { progress = c }) jobs) (slice_set rows i row')
 jobs_put plan k i n m c [] rows row row' e d found at w h = absurd (none-some m found)
 jobs_put plan k i n m c (y ∷ more) [] row row' e d found at w h = absurd h
 jobs_put plan k zero n m c (y ∷ more) (q ∷ rows) row row' e d found at w h = elim (eqb_tells (number_of y) n) [
   | inl t ↦
       let same : m ≡ y = sym (same_Some y m (rw t.0 at found)) in
-      rw t.0 (subst (λ (z : Member). JobShows plan (record z { course = c }) row') same w, h.1)
+      rw t.0 (subst (λ (z : SessionJob). JobShows plan (record z { progress = c }) row') same w, h.1)
   | inr t ↦ absurd (t.1 (omega (arith, d.0, e)))
 ]
 jobs_put plan k (suc i) n m c (y ∷ more) (q ∷ rows) row row' e d found at w h = elim (eqb_tells (number_of y) n) [
@@ -106,19 +106,19 @@ jobs_put plan k (suc i) n m c (y ∷ more) (q ∷ rows) row row' e d found at w 
   | inr t ↦ rw t.0 (h.0, jobs_put plan (k + 1) i n m c more rows row row' (omega (arith, e)) d.1 (rw t.0 at found) at w h.1)
 ]
 
-module _ (plan : Plan) (s : Session) (m : Member) (t t' : Task) (job' : Job) (o : IsInOrderButPlaces s) (runs : IsRunning plan s.jobs m t) (by : Replaces m.course.job job' t t')
+module _ (plan : Placement) (s : Session) (m : SessionJob) (t t' : Task) (job' : Job) (o : IsInOrderButPlaces s) (runs : IsRunning plan s.jobs m t) (by : Replaces m.progress.job job' t t')
     (condition : t'.condition ≡ t.condition) (waits : WaitsThere t.condition t.frames t'.frames) where
-  abbrev pub after : Member
-  after = record m { course = record m.course { job = job' } }
+  abbrev pub after : SessionJob
+  after = record m { progress = record m.progress { job = job' } }
 
   j : ℕ
-  j = m.setting.number
+  j = m.constants.number
 
-  has_t : Has m.course.job.tasks t
-  has_t = keyed-has (λ (u : Task). u.number) t.number m.course.job.tasks t runs.task
+  has_t : Has m.progress.job.tasks t
+  has_t = keyed-has (λ (u : Task). u.number) t.number m.progress.job.tasks t runs.task
 
   has_m : Has s.jobs m
-  has_m = keyed-has number_of m.setting.number s.jobs m runs.member
+  has_m = keyed-has number_of m.constants.number s.jobs m runs.member
 
   own : (row : TaskRow) → TaskShows plan m t row → TaskShows plan after t' row
   own row w =
@@ -126,81 +126,81 @@ module _ (plan : Plan) (s : Session) (m : Member) (t t' : Task) (job' : Job) (o 
       record {
         job = w.job;
         number = w.number ∙ sym by.number;
-        slot = w.slot ∙ ap (slot_of plan m.setting.number) (sym by.number);
-        parent = w.parent ∙ ap (Rattle.b67_layout.specs.Rows.parent_slot plan m.setting.number) (sym by.parents);
-        critical = w.critical ∙ sym (critical-same plan m.setting.number m.course.job job' t t' by t.critical t.parents (inr (t, has_t, refl)))
-            ∙ ap (λ (c : ℕ). critical_disp plan m.setting.number job' c t.parents) (sym by.critical) ∙ ap (critical_disp plan m.setting.number job' t'.critical) (sym by.parents);
-        state = w.state ∙ sym (shown-own plan m.setting.number m.course.job job' t t' by t.condition has_t waits) ∙ ap (shown plan m.setting.number job' t') (sym condition);
+        slot = w.slot ∙ ap (slot_of plan m.constants.number) (sym by.number);
+        parent = w.parent ∙ ap (Rattle.b67_layout.specs.Rows.parent_slot plan m.constants.number) (sym by.parents);
+        critical = w.critical ∙ sym (critical-same plan m.constants.number m.progress.job job' t t' by t.critical t.parents (inr (t, has_t, refl)))
+            ∙ ap (λ (c : ℕ). critical_disp plan m.constants.number job' c t.parents) (sym by.critical) ∙ ap (critical_disp plan m.constants.number job' t'.critical) (sym by.parents);
+        state = w.state ∙ sym (shown-own plan m.constants.number m.progress.job job' t t' by t.condition has_t waits) ∙ ap (shown plan m.constants.number job' t') (sym condition);
         segment = λ ne. absurd (ne here);
         place = λ ne. absurd (ne here);
       }
 
-  other : (u : Task) (row : TaskRow) → Has m.course.job.tasks u → TaskShows plan m u row → TaskShows plan after u row
+  other : (u : Task) (row : TaskRow) → Has m.progress.job.tasks u → TaskShows plan m u row → TaskShows plan after u row
   other u row h w = record {
     job = w.job;
     number = w.number;
     slot = w.slot;
     parent = w.parent;
-    critical = w.critical ∙ sym (critical-same plan m.setting.number m.course.job job' t t' by u.critical u.parents (inr (u, h, refl)));
-    state = w.state ∙ sym (shown-same plan m.setting.number m.course.job job' t t' by u h u.condition);
+    critical = w.critical ∙ sym (critical-same plan m.constants.number m.progress.job job' t t' by u.critical u.parents (inr (u, h, refl)));
+    state = w.state ∙ sym (shown-same plan m.constants.number m.progress.job job' t t' by u h u.condition);
     segment = w.segment;
     place = w.place;
   }
 
   has_after : Has (with_job s m job').jobs after
-  has_after = keyed-has number_of m.setting.number (with_job s m job').jobs after (member-same s.jobs m.setting.number (record m.course { job = job' }) m runs.member)
+  has_after = keyed-has number_of m.constants.number (with_job s m job').jobs after (member-same s.jobs m.constants.number (record m.progress { job = job' }) m runs.member)
 
-  kept_member : (y : Member) → Has s.jobs y → number_of y ≢ m.setting.number → Has (with_job s m job').jobs y
-  kept_member y h ne = elim (change-kept number_of m.setting.number (λ (y : Member). record y { course = record m.course { job = job' } }) s.jobs m runs.member y h) [
+  kept_member : (y : SessionJob) → Has s.jobs y → number_of y ≢ m.constants.number → Has (with_job s m job').jobs y
+  kept_member y h ne = elim (change-kept number_of m.constants.number (λ (y : SessionJob). record y { progress = record m.progress { job = job' } }) s.jobs m runs.member y h) [
     | inl k ↦ k
     | inr k ↦ absurd (ne (ap number_of k.0))
   ]
 
-  member_back : (y : Member) → Has (with_job s m job').jobs y → (Has s.jobs y × (number_of y ≢ m.setting.number)) ⊎ (y ≡ after)
-  member_back y h = elim (change-has number_of m.setting.number (λ (y : Member). record y { course = record m.course { job = job' } }) s.jobs m runs.member y h) [
+  member_back : (y : SessionJob) → Has (with_job s m job').jobs y → (Has s.jobs y × (number_of y ≢ m.constants.number)) ⊎ (y ≡ after)
+  member_back y h = elim (change-has number_of m.constants.number (λ (y : SessionJob). record y { progress = record m.progress { job = job' } }) s.jobs m runs.member y h) [
     | inr e ↦ inr e
-    | inl k ↦ elim (cases_eq (number_of y) m.setting.number) [
+    | inl k ↦ elim (cases_eq (number_of y) m.constants.number) [
       | inr ne ↦ inl (k, ne)
       | inl e ↦
-          let first = first_member 1 (with_job s m job').jobs y (numbered_change 1 m.setting.number (record m.course { job = job' }) s.jobs o.numbered) h in
-          inr (same_Some y after (sym first ∙ ap (λ (n : ℕ). keyed number_of n (with_job s m job').jobs) e ∙ member-same s.jobs m.setting.number (record m.course { job = job' }) m runs.member))
+          let first = keyed_member 1 (with_job s m job').jobs y (numbered_change 1 m.constants.number (record m.progress { job = job' }) s.jobs o.numbered) h in
+          inr (same_Some y after (sym first ∙ ap (λ (n : ℕ). keyed number_of n (with_job s m job').jobs) e ∙ member-same s.jobs m.constants.number (record m.progress { job = job' }) m runs.member))
     ]
   ]
 
-  kept_task : (u : Task) → Has m.course.job.tasks u → u.number ≢ t.number → Has job'.tasks u
+  kept_task : (u : Task) → Has m.progress.job.tasks u → u.number ≢ t.number → Has job'.tasks u
   kept_task u h ne =
       let P : List Task → Type 0 = λ ts. Has ts u in
-      subst P (sym by.tasks) (elim (change-kept (λ (v : Task). v.number) t.number (λ (v : Task). t') m.course.job.tasks t runs.task u h) [
+      subst P (sym by.tasks) (elim (change-kept (λ (v : Task). v.number) t.number (λ (v : Task). t') m.progress.job.tasks t runs.task u h) [
         | inl k ↦ k
         | inr k ↦ absurd (ne (ap (λ (v : Task). v.number) k.0))
       ])
 
   new_task : Has job'.tasks t'
-  new_task = keyed-has (λ (u : Task). u.number) t.number job'.tasks t' (task-same plan m.setting.number m.course.job job' t t' by)
+  new_task = keyed-has (λ (u : Task). u.number) t.number job'.tasks t' (task-same plan m.constants.number m.progress.job job' t t' by)
 
-  shown_by : (rows : List TaskRow) (row : TaskRow) (y : Member) (u : Task) → Has s.jobs y → Has y.course.job.tasks u → TaskShows plan y u row
-      → (z : Member) × (v : Task) × Has (with_job s m job').jobs z × Has z.course.job.tasks v × TaskShows plan z v row
-  shown_by rows row y u iny inu w = elim (cases_eq (number_of y) m.setting.number) [
+  shown_by : (rows : List TaskRow) (row : TaskRow) (y : SessionJob) (u : Task) → Has s.jobs y → Has y.progress.job.tasks u → TaskShows plan y u row
+      → (z : SessionJob) × (v : Task) × Has (with_job s m job').jobs z × Has z.progress.job.tasks v × TaskShows plan z v row
+  shown_by rows row y u iny inu w = elim (cases_eq (number_of y) m.constants.number) [
     | inr ne ↦ (y, u, kept_member y iny ne, inu, w)
     | inl e ↦
-        let same : m ≡ y = sym (same_Some y m (sym (first_member 1 s.jobs y o.numbered iny) ∙ ap (λ (n : ℕ). keyed number_of n s.jobs) e ∙ runs.member)) in
-        let P : Member → Type 0 = λ z. Has z.course.job.tasks u × TaskShows plan z u row in
+        let same : m ≡ y = sym (same_Some y m (sym (keyed_member 1 s.jobs y o.numbered iny) ∙ ap (λ (n : ℕ). keyed number_of n s.jobs) e ∙ runs.member)) in
+        let P : SessionJob → Type 0 = λ z. Has z.progress.job.tasks u × TaskShows plan z u row in
         let (int, shows) = subst P (sym same) (inu, w) in
         elim (cases_eq u.number t.number) [
           | inr ne ↦ (after, u, has_after, kept_task u int ne, other u row int shows)
           | inl k ↦
-              let is : u ≡ t = same_Some u t (sym (live_in_order s m u o has_m int) ∙ ap (λ (n : ℕ). keyed (λ (v : Task). v.number) n m.course.job.tasks) k ∙ runs.task) in
+              let is : u ≡ t = same_Some u t (sym (live_in_order s m u o has_m int) ∙ ap (λ (n : ℕ). keyed (λ (v : Task). v.number) n m.progress.job.tasks) k ∙ runs.task) in
               (after, t', has_after, new_task, own row (subst (λ (v : Task). TaskShows plan m v row) is shows))
         ]
   ]
 
-  each_by : (rows : List TaskRow) → ((y : Member) (u : Task) → Has s.jobs y → Has y.course.job.tasks u → (row : TaskRow) × Has rows row × TaskShows plan y u row)
-      → (y : Member) (u : Task) → Has (with_job s m job').jobs y → Has y.course.job.tasks u → (row : TaskRow) × Has rows row × TaskShows plan y u row
+  each_by : (rows : List TaskRow) → ((y : SessionJob) (u : Task) → Has s.jobs y → Has y.progress.job.tasks u → (row : TaskRow) × Has rows row × TaskShows plan y u row)
+      → (y : SessionJob) (u : Task) → Has (with_job s m job').jobs y → Has y.progress.job.tasks u → (row : TaskRow) × Has rows row × TaskShows plan y u row
   each_by rows each y u iny inu = elim (member_back y iny) [
     | inl k ↦ each y u k.0 inu
     | inr e ↦
-        let P : Member → Type 0 = λ z. Has z.course.job.tasks u → (row : TaskRow) × Has rows row × TaskShows plan z u row in
-        subst P (sym e) (λ int. elim (has_change (λ (v : Task). v.number) m.course.job.next_task t.number t' m.course.job.tasks u (running_in_order plan s m t o runs).0.tasks.numbers (subst (λ (ts : List Task). Has ts u) by.tasks int)) [
+        let P : SessionJob → Type 0 = λ z. Has z.progress.job.tasks u → (row : TaskRow) × Has rows row × TaskShows plan z u row in
+        subst P (sym e) (λ int. elim (has_change (λ (v : Task). v.number) m.progress.job.next_task t.number t' m.progress.job.tasks u (running_in_order plan s m t o runs).0.tasks.numbers (subst (λ (ts : List Task). Has ts u) by.tasks int)) [
           | inl is ↦ let (row, h, w) = each m t has_m has_t in (row, h, subst (λ (v : Task). TaskShows plan after v row) is (own row w))
           | inr k ↦ let (row, h, w) = each m u has_m k.0 in (row, h, other u row k.0 w)
         ]) inu

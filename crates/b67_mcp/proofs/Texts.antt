@@ -10,24 +10,24 @@ use Rattle.b67_io.specs.Line.{ended}
 use Rattle.b67_io.specs.Told.{Continues}
 use Rattle.b67_session_lines.specs.Parts.{TookRest, TookMore}
 use Rattle.b67_model.specs.Lines.{task_name, value_text, line_text}
-use Rattle.b67_model.specs.State.{Task, Member}
+use Rattle.b67_model.specs.State.{Task, SessionJob}
 use Rattle.b67_model.specs.Steps.{Value, Values}
 use Rattle.b67_mcp_calls.specs.Texts.{values_of}
 use Rattle.b67_task_tables.specs.declared.tables.Machine.{Machine}
 use Rattle.b67_mcp.specs.Called.{printed_text}
 use Rattle.b67_mcp.specs.Running.{ForRuns}
 
-pub value_printed : (m : Member) (t : Task) (j n : ℕ) (v : ℤ) (line : List ℕ) → j ≡ m.setting.number → n ≡ t.number → line ≡ task_name j n ++ value_text v → ended line ≡ printed_text m t (Value v ∷ [])
+pub value_printed : (m : SessionJob) (t : Task) (j n : ℕ) (v : ℤ) (line : List ℕ) → j ≡ m.constants.number → n ≡ t.number → line ≡ task_name j n ++ value_text v → ended line ≡ printed_text m t (Value v ∷ [])
 value_printed m t j n v line ej en e =
-    let named : line ≡ task_name m.setting.number t.number ++ value_text v = e ∙ ap (λ (i : ℕ). task_name i n ++ value_text v) ej ∙ ap (λ (i : ℕ). task_name m.setting.number i ++ value_text v) en in
+    let named : line ≡ task_name m.constants.number t.number ++ value_text v = e ∙ ap (λ (i : ℕ). task_name i n ++ value_text v) ej ∙ ap (λ (i : ℕ). task_name m.constants.number i ++ value_text v) en in
     ap (λ (l : List ℕ). l ++ 10 ∷ []) named
-    ∙ sym (append-nil ((task_name m.setting.number t.number ++ value_text v) ++ 10 ∷ []))
+    ∙ sym (append-nil ((task_name m.constants.number t.number ++ value_text v) ++ 10 ∷ []))
 
-row_printed : (m : Member) (t : Task) (j n : ℕ) (vs : List ℤ) → j ≡ m.setting.number → n ≡ t.number → line_text j (n, Values vs) ≡ printed_text m t (Values vs ∷ [])
-row_printed m t j n vs ej en = ap (λ (i : ℕ). line_text i (n, Values vs)) ej ∙ ap (λ (i : ℕ). line_text m.setting.number (i, Values vs)) en ∙ sym (append-nil (line_text m.setting.number (t.number, Values vs)))
+row_printed : (m : SessionJob) (t : Task) (j n : ℕ) (vs : List ℤ) → j ≡ m.constants.number → n ≡ t.number → line_text j (n, Values vs) ≡ printed_text m t (Values vs ∷ [])
+row_printed m t j n vs ej en = ap (λ (i : ℕ). line_text i (n, Values vs)) ej ∙ ap (λ (i : ℕ). line_text m.constants.number (i, Values vs)) en ∙ sym (append-nil (line_text m.constants.number (t.number, Values vs)))
 
 module _ {K : Type 0} (taken : K → Option (List ℕ)) (old new : K) (k : Machine) (done : Result (Unit {0}) Failed) (row words : List Tagged) (same : row ≡ words) (before after j n : ℕ)
-    (ej : ForRuns k (λ x told plan s m t. j ≡ m.setting.number)) (en : ForRuns k (λ x told plan s m t. n ≡ t.number)) where
+    (ej : ForRuns k (λ x told plan s m t. j ≡ m.constants.number)) (en : ForRuns k (λ x told plan s m t. n ≡ t.number)) where
   pub whole_row : OnOk done ((vs : List ℤ) → values_of row ≡ Some vs → TookRest taken old new (line_text j (n, Values vs)) before)
       → OnOk done (ForRuns k (λ x told plan s m t. (vs : List ℤ) → values_of words ≡ Some vs → TookRest taken old new (printed_text m t (Values vs ∷ [])) before))
   whole_row h = by done h

@@ -9,7 +9,7 @@ use Rattle.b67_model.specs.Intrinsics.{numbers_of, answered, answers, printrow}
 use Rattle.b67_model.specs.Need.{touched_of, touched_by_call, touched_at_mark, touched_before_fault}
 use Rattle.b67_model.specs.Operators.{Reading}
 use Rattle.b67_model.specs.Rows.{reading_of, step}
-use Rattle.b67_model.specs.State.{Standing, Marked, Task, Job, Member, Here, all_frames, height, top, with_task}
+use Rattle.b67_model.specs.State.{Standing, Marked, Task, Job, SessionJob, OperatorContext, all_frames, height, top, with_task}
 use Rattle.b67_model.specs.Steps.{Line, Values, Done, Goes, is_critical}
 use Rattle.b67_model.specs.Words as Words
 use Rattle.b67_model.specs.Words.{Word, Operand, Name, Ref, Row, Element, Original, Proc, Intrinsic}
@@ -17,7 +17,7 @@ use Rattle.b67_layout.specs.Meets.{here}
 use Rattle.b67_entry.proofs.Heres.{follow_same}
 use Rattle.b67_mcp.proofs.Callings.{Calling}
 
-pub reference_same : (h k : Here) → all_frames h ≡ all_frames k → h.task.frames ≡ k.task.frames → (w : Word) → follow_reference h w ≡ follow_reference k w
+pub reference_same : (h k : OperatorContext) → all_frames h ≡ all_frames k → h.task.frames ≡ k.task.frames → (w : Word) → follow_reference h w ≡ follow_reference k w
 reference_same h k frames own (Name c) = follow_same h k frames own (Name c)
 reference_same h k frames own (Ref f offset) = follow_same h k frames own (Ref f offset)
 reference_same h k frames own (Operand bits) = refl
@@ -28,13 +28,13 @@ reference_same h k frames own (Proc s l p) = refl
 reference_same h k frames own (Intrinsic n) = refl
 reference_same h k frames own (Words.Segment n) = refl
 
-module _ (m : Member) (t : Task) (k : Calling m t 10) (a : ℕ) (are : k.arguments ≡ Row a ∷ []) where
-  abbrev at_call : Here
-  at_call = record { setting = m.setting; job = m.course.job; task = t; at = t.place }
+module _ (m : SessionJob) (t : Task) (k : Calling m t 10) (a : ℕ) (are : k.arguments ≡ Row a ∷ []) where
+  abbrev at_call : OperatorContext
+  at_call = record { constants = m.constants; job = m.progress.job; task = t; at = t.place }
 
-  before : touched_before_fault m.setting m.course.job t (reading_of m.setting t) ≡ Some a
+  before : touched_before_fault m.constants m.progress.job t (reading_of m.constants t) ≡ Some a
   before =
-      let by_reading : Reading → Option ℕ = λ r. touched_before_fault m.setting m.course.job t r in
+      let by_reading : Reading → Option ℕ = λ r. touched_before_fault m.constants m.progress.job t r in
       let by_mark : Standing → Option ℕ = λ st. touched_at_mark at_call st (reverse (top t.frames).cells) in
       let by_cells : List Word → Option ℕ = λ cs. touched_at_mark at_call Marked cs in
       let by_arguments : List Word → Option ℕ = λ ws. touched_by_call (k.reference ∷ ws) (follow_reference at_call k.reference) in
@@ -43,18 +43,18 @@ module _ (m : Member) (t : Task) (k : Calling m t 10) (a : ℕ) (are : k.argumen
       ∙ ap by_end (reference_same at_call (here m t k.next) refl refl k.reference ∙ k.ends)
 
   abbrev IsTouch : Answer Done → Type 0
-  IsTouch answer = touched_of m.setting m.course.job t answer ≡ Some a
+  IsTouch answer = touched_of m.constants m.progress.job t answer ≡ Some a
 
   by_tests : (job : Job) (printed : List Line) (free fits : Bool) → IsTouch (needs free CriticalBlock >> (needs fits StackOverflow >> Ok (Goes job printed (Some a))))
   by_tests job printed true true = refl
   by_tests job printed true false = before
   by_tests job printed false fits = before
 
-  by_values : (q : Answer (List ℤ)) → IsTouch (q >>= λ vs. answers (here m t k.next) m.course.job [] (Values vs ∷ []) (Some a))
+  by_values : (q : Answer (List ℤ)) → IsTouch (q >>= λ vs. answers (here m t k.next) m.progress.job [] (Values vs ∷ []) (Some a))
   by_values (Err fault) = before
   by_values (Ok vs) =
       let gone = answered (here m t k.next) [] in
-      by_tests (with_task m.course.job gone) (Values vs ∷ []) (not (is_critical m.course.job (top t.frames).identity)) (nat_le (height gone.frames) m.setting.stack_size)
+      by_tests (with_task m.progress.job gone) (Values vs ∷ []) (not (is_critical m.progress.job (top t.frames).identity)) (nat_le (height gone.frames) m.constants.stack_size)
 
-  pub touched_by_row : touched_of m.setting m.course.job t (step m.setting m.course.job t) ≡ Some a
-  touched_by_row = subst IsTouch (sym (k.is ∙ ap (printrow (here m t k.next)) are)) (by_values (numbers_of (array m.course.job a).numbers))
+  pub touched_by_row : touched_of m.constants m.progress.job t (step m.constants m.progress.job t) ≡ Some a
+  touched_by_row = subst IsTouch (sym (k.is ∙ ap (printrow (here m t k.next)) are)) (by_values (numbers_of (array m.progress.job a).numbers))

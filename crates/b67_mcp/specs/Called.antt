@@ -1,41 +1,36 @@
 -- What the call of an intrinsic answers, prints and leaves.
-use Rattle.std.specs.Prelude.{◌≡◌, ◌≢◌, ℕ, ◌≤◌, ◌<◌, ◌^◌, ◌⊎◌, List, [], ◌∷◌, length, slice_get, Option, Some, None, Result, Ok, Err}
+use Rattle.std.specs.Prelude.{◌≡◌, ◌≢◌, ℕ, ◌≤◌, ◌<◌, ◌⊎◌, List, [], ◌∷◌, slice_get, Option, Some, None, Result, Ok, Err}
 use Rattle.b67_lemmas.specs.Lists.{Has}
-use Rattle.b67_model.specs.State.{Array, Task, Job, Member}
+use Rattle.b67_model.specs.State.{Array, Task, Job, SessionJob}
 use Rattle.b67_model.specs.Steps.{Line, Goes}
 use Rattle.b67_model.specs.Rows.{step}
 use Rattle.b67_model.specs.Need.{touched_of}
 use Rattle.b67_model.specs.Lines.{run_text}
 use Rattle.b67_model.specs.Schedule.{Session}
-use Rattle.b67_model.specs.InOrder.{IsInOrderButPlaces}
 use Rattle.b67_stack.specs.declared.What.{What}
 use Rattle.b67_stack.specs.declared.What.TheVariants as what
-use Rattle.b67_stack.specs.Stands.{Storage}
-use Rattle.b67_layout.specs.Plan.{Plan}
-use Rattle.b67_layout.specs.Session.{IsRunning}
+use Rattle.b67_stack.specs.Represents.{Storage}
+use Rattle.b67_layout.specs.Placement.{Placement}
 use Rattle.b67_layout.specs.Meets.{with_job, area_held, IsInStack}
 use Rattle.b67_exec_cells.specs.Running.{code_area}
 use Rattle.b67_exec_cells.specs.Called.{called_in}
 use Rattle.b67_single.specs.Single.{task_lines}
 use Rattle.b67_session_lines.specs.Parts.{TookRest, TookMore}
-use Rattle.b67_task_tables.specs.declared.tables.JobRow.{JobRow}
 use Rattle.b67_task_tables.specs.declared.tables.Machine.{Machine}
-use Rattle.b67_task_tables.specs.Tables.{MachineStands}
+use Rattle.b67_task_tables.specs.Tables.{MachineRepresents}
+pub use Rattle.b67_task_tables.specs.Tables.{AreCountable}
+use Rattle.b67_task_tables.specs.Runs.{RunsTask}
 use Rattle.b67_mcp.specs.declared.ends.CallEnd.{CallEnd}
 use Rattle.b67_mcp.specs.declared.ends.CallEnd.TheVariants as ends
 use Rattle.b67_mcp.specs.declared.ends.Stop.{Stop}
 use Rattle.b67_mcp.specs.declared.ends.Stop.TheVariants as stops
 
--- each job has fewer numbers than the tables can count
-abbrev pub AreCountable : List JobRow → Type 0
-AreCountable rows = (r : JobRow) → Has rows r → length r.numbers < 2 ^ 32
-
 -- the operator calls no intrinsic, or one that is built
-abbrev pub CallsBuilt : Member → Task → Type 0
+abbrev pub CallsBuilt : SessionJob → Task → Type 0
 CallsBuilt m t = (n : ℕ) → called_in m t ≡ Some n → n < 12
 
 -- the text of what a step of a task prints
-abbrev pub printed_text : Member → Task → List Line → List ℕ
+abbrev pub printed_text : SessionJob → Task → List Line → List ℕ
 printed_text m t printed = run_text (task_lines m t printed)
 
 -- how many first bytes of what is printed next are printed, once a row's text was taken
@@ -45,32 +40,32 @@ printed_after (line ∷ more) before = 0
 
 -- the call was made and the rest of its text was taken, of which so many first bytes were printed before, and the machine
 -- stands for what its row makes. A new array has its home in the plan
-pub record IsCalled {K : Type 0} (taken : K → Option (List ℕ)) (paper paper' : K) (told : Option (List (List ℕ))) (s : Session) (m : Member) (t : Task) (before : ℕ) (new : Machine) : Type 0 where
+pub record IsCalled {K : Type 0} (taken : K → Option (List ℕ)) (paper paper' : K) (told : Option (List (List ℕ))) (s : Session) (m : SessionJob) (t : Task) (before : ℕ) (new : Machine) : Type 0 where
   pub job : Job
   pub printed : List Line
   pub touched : Option ℕ
-  pub is : step m.setting m.course.job t ≡ Ok (Goes job printed touched)
+  pub is : step m.constants m.progress.job t ≡ Ok (Goes job printed touched)
   pub built : CallsBuilt m t
   pub storage : Storage
-  pub plan : Plan
-  pub stands : MachineStands storage told new plan (with_job s m job)
+  pub plan : Placement
+  pub stands : MachineRepresents storage told new plan (with_job s m job)
   pub text : TookRest taken paper paper' (printed_text m t printed) before
   pub reset : new.tasks.printed ≡ printed_after printed before
 
 -- the call touches an array of its job, which is absent
-pub record TouchesAbsent (x : Storage) (plan : Plan) (m : Member) (t : Task) (found : What) : Type 0 where
+pub record TouchesAbsent (x : Storage) (plan : Placement) (m : SessionJob) (t : Task) (found : What) : Type 0 where
   pub array : Array
-  pub among : Has m.course.job.arrays array
-  pub touched : touched_of m.setting m.course.job t (step m.setting m.course.job t) ≡ Some array.identity
-  pub absent : area_held x plan m.setting.number array.identity ≡ None
-  pub named : found ≡ what.Array (plan.home m.setting.number array.identity)
+  pub among : Has m.progress.job.arrays array
+  pub touched : touched_of m.constants m.progress.job t (step m.constants m.progress.job t) ≡ Some array.identity
+  pub absent : area_held x plan m.constants.number array.identity ≡ None
+  pub named : found ≡ what.Array (plan.home m.constants.number array.identity)
 
 -- the call's text was taken in part: so many first bytes are printed then
-pub record IsCut {K : Type 0} (taken : K → Option (List ℕ)) (paper paper' : K) (m : Member) (t : Task) (before after : ℕ) : Type 0 where
+pub record IsCut {K : Type 0} (taken : K → Option (List ℕ)) (paper paper' : K) (m : SessionJob) (t : Task) (before after : ℕ) : Type 0 where
   pub job : Job
   pub printed : List Line
   pub touched : Option ℕ
-  pub is : step m.setting m.course.job t ≡ Ok (Goes job printed touched)
+  pub is : step m.constants m.progress.job t ≡ Ok (Goes job printed touched)
   pub text : TookMore taken paper paper' (printed_text m t printed) before after
 
 -- nothing has changed but how much of the next text is printed
@@ -78,41 +73,33 @@ abbrev pub OnlyPrinted : Machine → Machine → Type 0
 OnlyPrinted old new = new ≡ record old { tasks = record old.tasks { printed = new.tasks.printed } }
 
 -- by what was answered. Where the call wasn't made nothing has changed but, after a printer's failure, how much is printed
-abbrev pub CallMeets : {K : Type 0} → (K → Option (List ℕ)) → Storage → Option (List (List ℕ)) → Plan → Session → Member → Task → ℕ → Result CallEnd Stop → Machine → Machine → K → K → Type 0
+abbrev pub CallMeets : {K : Type 0} → (K → Option (List ℕ)) → Storage → Option (List (List ℕ)) → Placement → Session → SessionJob → Task → ℕ → Result CallEnd Stop → Machine → Machine → K → K → Type 0
 CallMeets taken x told plan s m t n (Ok ends.Done) old new paper paper' = IsCalled taken paper paper' told s m t old.tasks.printed new
 CallMeets taken x told plan s m t n (Ok (ends.Absent found)) old new paper paper' = TouchesAbsent x plan m t found × (new ≡ old) × (paper' ≡ paper)
-CallMeets taken x told plan s m t n (Ok (ends.Fault fault)) old new paper paper' = (step m.setting m.course.job t ≡ Err fault) × (new ≡ old) × (paper' ≡ paper)
+CallMeets taken x told plan s m t n (Ok (ends.Fault fault)) old new paper paper' = (step m.constants m.progress.job t ≡ Err fault) × (new ≡ old) × (paper' ≡ paper)
 CallMeets taken x told plan s m t n (Err stops.PrintFault) old new paper paper' = IsCut taken paper paper' m t old.tasks.printed new.tasks.printed × OnlyPrinted old new
 CallMeets taken x told plan s m t n (Err stops.Unbuilt) old new paper paper' = (12 ≤ n) × (new ≡ old) × (paper' ≡ paper)
 CallMeets taken x told plan s m t n (Err _) old new paper paper' = ⊥
 
 -- the machine stands for some session in order, whose running task's operator calls this intrinsic
 pub record CallsSome (k : Machine) (n : ℕ) : Type 0 where
-  pub storage : Storage
-  pub told : Option (List (List ℕ))
-  pub plan : Plan
-  pub session : Session
-  pub member : Member
-  pub task : Task
-  pub ordered : IsInOrderButPlaces session
-  pub stands : MachineStands storage told k plan session
-  pub running : IsRunning plan session.jobs member task
-  pub code : code_area storage plan member task ≢ None
-  pub called : called_in member task ≡ Some n
+  pub runs : RunsTask k
+  pub code : code_area runs.storage runs.plan runs.member runs.task ≢ None
+  pub called : called_in runs.member runs.task ≡ Some n
 
 -- an array of the job, which is present
-pub record IsThere (x : Storage) (plan : Plan) (m : Member) (n : ℕ) : Type 0 where
+pub record IsThere (x : Storage) (plan : Placement) (m : SessionJob) (n : ℕ) : Type 0 where
   pub array : Array
-  pub among : Has m.course.job.arrays array
+  pub among : Has m.progress.job.arrays array
   pub named : array.identity ≡ n
-  pub there : area_held x plan m.setting.number n ≢ None
+  pub there : area_held x plan m.constants.number n ≢ None
 
 -- the array that the step touches, if any, is one of the job, and is present
-abbrev pub TouchesPresent : Storage → Plan → Member → Task → Type 0
-TouchesPresent x plan m t = (n : ℕ) → touched_of m.setting m.course.job t (step m.setting m.course.job t) ≡ Some n → IsThere x plan m n
+abbrev pub TouchesPresent : Storage → Placement → SessionJob → Task → Type 0
+TouchesPresent x plan m t = (n : ℕ) → touched_of m.constants m.progress.job t (step m.constants m.progress.job t) ≡ Some n → IsThere x plan m n
 
 -- so it is where the call was made, where it faults, and where the printer failed
-abbrev pub CallTouches : Storage → Plan → Member → Task → Result CallEnd Stop → Type 0
+abbrev pub CallTouches : Storage → Placement → SessionJob → Task → Result CallEnd Stop → Type 0
 CallTouches x plan m t (Ok ends.Done) = TouchesPresent x plan m t
 CallTouches x plan m t (Ok (ends.Absent found)) = Unit {0}
 CallTouches x plan m t (Ok (ends.Fault fault)) = TouchesPresent x plan m t

@@ -8,19 +8,8 @@ mod print_row;
 mod read;
 mod running;
 
-ghost use Rattle.std.specs.Prelude.{◌≡◌, ◌≢◌, ℕ, ◌≤◌, List, Option, Some, None, Err, length};
-ghost use Rattle.b67_io.specs.Causes.{Rose};
-ghost use Rattle.b67_model.specs.State.{Task, Member};
-ghost use Rattle.b67_model.specs.Schedule.{Session};
-ghost use Rattle.b67_model.specs.InOrder.{IsInOrderButPlaces};
-ghost use Rattle.b67_stack.specs.Stands.{Storage};
-ghost use Rattle.b67_layout.specs.Plan.{Plan};
-ghost use Rattle.b67_layout.specs.Session.{IsRunning};
-ghost use Rattle.b67_exec_cells.specs.Running.{code_area};
-ghost use Rattle.b67_exec_cells.specs.Called.{called_in};
-ghost use Rattle.b67_task_tables.specs.Tables.{MachineStands};
-ghost use Rattle.b67_mcp.specs.declared.ends.Stop.TheVariants.{PrintFault};
-ghost use Rattle.b67_mcp.specs.Called.{CallsSome, CallMeets, CallTouches, ChangesStack, AreCountable};
+ghost use Rattle.std.specs.Prelude.{◌≡◌};
+ghost use Rattle.b67_mcp.specs.Called.{CallsSome, CallMeets, CallTouches, AreCountable};
 ghost use Rattle.b67_mcp.specs.Answers.{end_of};
 ghost use Rattle.b67_mcp.specs.Running.{ForCalls, IsHeard, Kept};
 
@@ -43,8 +32,15 @@ fn silent(done: Result<(), Fault>) -> CallEnd
     }
 }
 
-/// As `intrinsic`, with what the call keeps in one clause.
-fn call<K: Sink>(machine: &mut Machine, n: u8, paper: &mut K) -> Result<CallEnd, Stop>
+/// Makes the call of an intrinsic at which the running task stands: ARRAYDEC, PRINT, PRINTROW or READ by their rows; the
+/// others aren't built: `Unbuilt`, with nothing changed.
+///
+/// Where its row prints, what isn't printed yet of its text (past the first `printed` bytes) is taken by the printer before
+/// anything is changed, and `printed` is then 0. `PrintFault`, with nothing changed but that `printed` is raised by the
+/// bytes that were taken, which aren't all, comes only where the printer failed. `Absent`, with nothing changed, comes
+/// exactly where PRINTROW touches an absent array. `Fault` changes nothing and prints nothing. Where the call was made,
+/// faults, or can't be printed, what its row touches is present. Of core only words of the running stack may change.
+pub fn intrinsic<K: Sink>(machine: &mut Machine, n: u8, paper: &mut K) -> Result<CallEnd, Stop>
     requires calls { CallsSome machine.old n }
     requires countable { AreCountable machine.old.tasks.jobs }
     ensures row { ForCalls machine.old n (λ x told plan s m t. CallMeets K.taken x told plan s m t n result machine.old machine.new paper.old paper.new) }
@@ -59,32 +55,4 @@ fn call<K: Sink>(machine: &mut Machine, n: u8, paper: &mut K) -> Result<CallEnd,
         11 => Ok(silent(read(machine))),
         _ => Err(Stop::Unbuilt),
     }
-}
-
-/// Makes the call of an intrinsic at which the running task stands: ARRAYDEC, PRINT, PRINTROW or READ by their rows; the
-/// others aren't built: `Unbuilt`, with nothing changed.
-///
-/// Where its row prints, what isn't printed yet of its text (past the first `printed` bytes) is taken by the printer before
-/// anything is changed, and `printed` is then 0. `PrintFault`, with nothing changed but that `printed` is raised by the
-/// bytes that were taken, which aren't all, comes only where the printer failed. `Absent`, with nothing changed, comes
-/// exactly where PRINTROW touches an absent array. `Fault` changes nothing and prints nothing. Where the call was made,
-/// faults, or can't be printed, what its row touches is present. Of core only words of the running stack may change.
-pub fn intrinsic<K: Sink>(machine: &mut Machine, n: u8, paper: &mut K) -> Result<CallEnd, Stop>
-    requires calls { CallsSome machine.old n }
-    requires countable { AreCountable machine.old.tasks.jobs }
-    ensures row { (x : Storage) (told : Option (List (List ℕ))) (plan : Plan) (s : Session) (m : Member) (t : Task) → IsInOrderButPlaces s
-        → MachineStands x told machine.old plan s → IsRunning plan s.jobs m t → code_area x plan m t ≢ None → called_in m t ≡ Some n
-        → CallMeets K.taken x told plan s m t n result machine.old machine.new paper.old paper.new }
-    ensures present { (x : Storage) (told : Option (List (List ℕ))) (plan : Plan) (s : Session) (m : Member) (t : Task) → IsInOrderButPlaces s
-        → MachineStands x told machine.old plan s → IsRunning plan s.jobs m t → code_area x plan m t ≢ None → called_in m t ≡ Some n
-        → CallTouches x plan m t result }
-    ensures changed { ChangesStack machine.old machine.new }
-    ensures cause { result ≡ Err PrintFault → Rose K.faults paper.old paper.new }
-    ensures later { K.faults paper.old ≤ K.faults paper.new }
-    ensures countable { AreCountable machine.new.tasks.jobs }
-    ensures len { length machine.new.cpu.core ≡ length machine.old.cpu.core }
-    ensures sectors { machine.new.sectors ≡ machine.old.sectors }
-    ensures halt { machine.new.tasks.halt ≡ machine.old.tasks.halt }
-{
-    call(machine, n, paper)
 }

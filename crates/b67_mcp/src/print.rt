@@ -5,13 +5,13 @@ ghost use Rattle.b67_io.specs.Causes.{HasCause};
 ghost use Rattle.b67_session_lines.specs.Parts.{TookRest, TookMore};
 ghost use Rattle.b67_model.specs.Steps.{Value};
 ghost use Rattle.b67_mcp.specs.Called.{printed_text, CallsSome, CallMeets, CallTouches};
-ghost use Rattle.b67_mcp.specs.Running.{ForRuns, ForCalls, Reads, Kept, IsHeard};
+ghost use Rattle.b67_mcp.specs.Running.{ForRuns, ForCalls, ReadsOperator, Kept, IsHeard};
 
 use crate::running::{cut, running_row};
 use crate::{CallEnd, Stop};
 use b67_io::Sink;
-use b67_session_lines::{put_rest, value_line};
 use b67_mcp_calls::print_value;
+use b67_session_lines::{put_rest, value_line};
 use b67_task_tables::Machine;
 use b67_word::Failed;
 
@@ -23,7 +23,7 @@ fn say_value<K: Sink>(
     printed: &mut u64,
     paper: &mut K,
 ) -> Result<(), Failed>
-    requires { Reads machine.now }
+    requires { ReadsOperator machine.now }
     ensures whole { OnOk result (ForRuns machine.now (λ x told plan s m t. TookRest K.taken paper.old paper.new (printed_text m t (Value value ∷ [])) printed.old)) }
     ensures part { OnErr result (ForRuns machine.now (λ x told plan s m t. TookMore K.taken paper.old paper.new (printed_text m t (Value value ∷ [])) printed.old printed.new)) }
     ensures cause { HasCause K.faults paper.old paper.new result }

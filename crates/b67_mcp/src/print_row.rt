@@ -6,7 +6,7 @@ ghost use Rattle.b67_session_lines.specs.Parts.{TookRest, TookMore};
 ghost use Rattle.b67_model.specs.Steps.{Values};
 ghost use Rattle.b67_mcp_calls.specs.Texts.{values_of};
 ghost use Rattle.b67_mcp.specs.Called.{printed_text, CallsSome, CallMeets, CallTouches};
-ghost use Rattle.b67_mcp.specs.Running.{ForRuns, ForCalls, Reads, Kept, IsHeard};
+ghost use Rattle.b67_mcp.specs.Running.{ForRuns, ForCalls, ReadsOperator, Kept, IsHeard};
 
 use crate::running::{cut, running_row};
 use crate::{CallEnd, Stop};
@@ -25,7 +25,7 @@ fn say_words<K: Sink>(
     printed: &mut u64,
     paper: &mut K,
 ) -> Result<(), Failed>
-    requires reads { Reads machine.now }
+    requires reads { ReadsOperator machine.now }
     requires inside { at + count ≤ length machine.now.cpu.core }
     requires whole { (values : List ℤ) × (values_of (slice_range machine.now.cpu.core at (at + count)) ≡ Some values) }
     ensures whole { OnOk result (ForRuns machine.now (λ x told plan s m t. (values : List ℤ) → values_of (slice_range machine.now.cpu.core at (at + count)) ≡ Some values

@@ -5,8 +5,8 @@ ghost use Rattle.b67_ctl.specs.Layout.{IsPlace};
 ghost use Rattle.b67_layout.specs.Meets.{with_job};
 ghost use Rattle.b67_mcp_calls.specs.Calls.{MayCut, job_cut};
 ghost use Rattle.b67_word.specs.declared.couples.Place.{Place};
-ghost use Rattle.b67_task_tables.specs.Tables.{MachineStands};
-ghost use Rattle.b67_mcp.specs.Running.{ForRuns, IsBehind, Reads, CutsSome, Kept};
+ghost use Rattle.b67_task_tables.specs.Tables.{MachineRepresents};
+ghost use Rattle.b67_mcp.specs.Running.{ForRuns, IsBehind, ReadsOperator, CutsSome, Kept};
 
 use b67_exec_cells::reading;
 use b67_mcp_calls::cut_call;
@@ -15,7 +15,7 @@ use b67_word::Place;
 
 /// The place behind the operator at the running place.
 pub(crate) fn next_place(machine: &Machine) -> Place
-    requires { Reads machine.now }
+    requires { ReadsOperator machine.now }
     ensures place { IsPlace result }
     ensures behind { ForRuns machine.now (λ x told plan s m t. IsBehind m t result) }
 {
@@ -30,8 +30,8 @@ pub(crate) fn next_place(machine: &Machine) -> Place
 
 /// The row of the running task.
 pub(crate) fn running_row(machine: &Machine) -> TaskRow
-    requires { Reads machine.now }
-    ensures job { ForRuns machine.now (λ x told plan s m t. result.job ≡ m.setting.number) }
+    requires { ReadsOperator machine.now }
+    ensures job { ForRuns machine.now (λ x told plan s m t. result.job ≡ m.constants.number) }
     ensures number { ForRuns machine.now (λ x told plan s m t. result.number ≡ t.number) }
 {
     machine.tasks.rows[machine.tasks.running as usize]
@@ -42,7 +42,7 @@ pub(crate) fn running_row(machine: &Machine) -> TaskRow
 pub(crate) fn cut(machine: &mut Machine)
     requires { CutsSome machine.old }
     ensures stands { ForRuns machine.old (λ x told plan s m t. MayCut m t → (next : Place) → IsBehind m t next
-        → MachineStands x told machine.new plan (with_job s m (job_cut m t next))) }
+        → MachineRepresents x told machine.new plan (with_job s m (job_cut m t next))) }
     ensures printed { machine.new.tasks.printed ≡ 0 }
     ensures kept { Kept machine.old machine.new }
 {

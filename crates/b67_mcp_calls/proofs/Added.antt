@@ -1,85 +1,84 @@
--- A machine stands for a picture with one array more, of which nothing is held, where the word of its original stands.
+-- A machine stands for a view with one array more, of which nothing is held, where the word of its original stands.
 use Rattle.std.proofs.Common.{◌≡◌, ◌≢◌, ℕ, ◌<◌, ◌≤◌, ◌^◌, List, length, Some, sym, ◌∙◌, ap, arith, inl, inr, ◌⊎◌, subst, refl}
 use Rattle.std.specs.List.{slice_get}
 use Rattle.b67_word.specs.Tagged.{Tagged}
 use Rattle.b67_area.specs.declared.Kind.TheVariants.{Array, Code}
 use Rattle.b67_ctl.specs.declared.registers.Regs.{Regs}
 use Rattle.b67_lemmas.specs.Lists.{Has}
-use Rattle.b67_stack.specs.Shapes.{Held}
-use Rattle.b67_stack.specs.Picture.{Thing, Picture, Slot, Free, Running, Waiting, SlotFits, AreZero, home_word, slot_base}
-use Rattle.b67_stack.specs.Stands.{Storage, SlotStands, Content, ThingStands, Stands}
-use Rattle.b67_layout_leave.proofs.Things.{of_things}
-use Rattle.b67_mcp_calls.specs.Declaring.{nowhere}
+use Rattle.b67_stack.specs.Shapes.{Location, nowhere}
+use Rattle.b67_stack.specs.MachineView.{PagedObject, MachineView, Slot, Free, Running, Waiting, SlotFits, AreZero, home_word, slot_base}
+use Rattle.b67_stack.specs.Represents.{Storage, RepresentsSlot, Content, RepresentsObject, Represents}
+use Rattle.b67_layout_leave.proofs.Objects.{of_objects}
 
--- an array of zeros that was never touched, at an address where no thing is known
-pub record Fresh (x : Storage) (core : List Tagged) (p : Picture) (new : Thing) : Type 0 where
+-- an array of zeros that was never touched, at an address where no object is known
+pub record Fresh (x : Storage) (core : List Tagged) (p : MachineView) (new : PagedObject) : Type 0 where
   pub array : new.kind ≡ Array
   pub zeros : AreZero new.numbers
   pub long : (0 < length new.numbers) × (length new.numbers < 2 ^ 16)
-  pub apart : (t : Thing) → Has p.things t → t.home ≢ new.home
+  pub apart : (t : PagedObject) → Has p.objects t → t.home ≢ new.home
   pub low : 160 ≤ new.home
   pub high : new.home < x.low
   pub not_base : (k : ℕ) → k < p.peak → new.home ≢ slot_base p k
   pub held : x.held new.home ≡ nowhere
   pub word : slice_get core new.home ≡ Some (home_word new nowhere)
 
--- the things with one more
-pub record Added (old : List Thing) (new : Thing) (all : List Thing) : Type 0 where
-  pub there : (t : Thing) → Has old t → Has all t
+-- the objects with one more
+pub record Added (old : List PagedObject) (new : PagedObject) (all : List PagedObject) : Type 0 where
+  pub there : (t : PagedObject) → Has old t → Has all t
   pub mine : Has all new
-  pub back : (t : Thing) → Has all t → (t ≡ new) ⊎ Has old t
+  pub back : (t : PagedObject) → Has all t → (t ≡ new) ⊎ Has old t
 
-pub each : (old : List Thing) (new : Thing) (all : List Thing) (a : Added old new all) (P : Thing → Type 0) → P new → ((t : Thing) → Has old t → P t) → (t : Thing) → Has all t → P t
+pub each : (old : List PagedObject) (new : PagedObject) (all : List PagedObject) (a : Added old new all) (P : PagedObject → Type 0) → P new → ((t : PagedObject) → Has old t → P t) → (t : PagedObject) → Has all t → P t
 each old new all a P here o t i = elim (a.back t i) [ inl e ↦ subst P (sym e) here | inr k ↦ o t k ]
 
-module _ (x : Storage) (core : List Tagged) (r : Regs) (p : Picture) (new : Thing) (all : List Thing) (s : Stands x core r p) (f : Fresh x core p new) (a : Added p.things new all) where
-  fits : (k : ℕ) (slot : Slot) → SlotFits p k slot → SlotFits (of_things p all) k slot
+module _ (x : Storage) (core : List Tagged) (r : Regs) (p : MachineView) (new : PagedObject) (all : List PagedObject) (s : Represents x core r p) (f : Fresh x core p new) (a : Added p.objects new all) where
+  fits : (k : ℕ) (slot : Slot) → SlotFits p k slot → SlotFits (of_objects p all) k slot
   fits k Free g = g
   fits k (Running stack) g = (g.0, λ c home h. let (t, i, e, n) = g.1 c home h in (t, a.there t i, e, n))
   fits k (Waiting stack) g = (g.0, λ c home h. let (t, i, e, n) = g.1 c home h in (t, a.there t i, e, n))
 
-  stands : (k : ℕ) (slot : Slot) → SlotStands core r p k slot → SlotStands core r (of_things p all) k slot
+  stands : (k : ℕ) (slot : Slot) → RepresentsSlot core r p k slot → RepresentsSlot core r (of_objects p all) k slot
   stands k Free g = g
   stands k (Running stack) g = record { slot = g.slot; first = g.first; last = g.last; top = g.top; mark = g.mark; level = g.level }
   stands k (Waiting stack) g = g
 
-  new_thing : ThingStands x core new
-  new_thing =
-      let P : Held → Type 0 = λ g. (slice_get core new.home ≡ Some (home_word new g)) × Content x core new g.area g.chain in
+  new_object : RepresentsObject x core new
+  new_object =
+      let P : Location → Type 0 = λ g. (slice_get core new.home ≡ Some (home_word new g)) × Content x core new g.area g.chain in
       let both = subst P (sym f.held) (f.word, inr (refl, f.array, f.zeros)) in
       record { home = both.0; content = both.1 }
 
-  no_chain : (t : Thing) → t ≡ new → (x.held t.home).chain ≡ 0
-  no_chain t e = ap (λ (u : Thing). (x.held u.home).chain) e ∙ ap (λ (g : Held). g.chain) f.held
+  no_chain : (t : PagedObject) → t ≡ new → (x.held t.home).chain ≡ 0
+  no_chain t e = ap (λ (u : PagedObject). (x.held u.home).chain) e ∙ ap (λ (g : Location). g.chain) f.held
 
-  pub Stands-added : Stands x core r (of_things p all)
-  Stands-added = record {
+  pub Represents-added : Represents x core r (of_objects p all)
+  Represents-added = record {
     slots = record {
       laid = record {
         low = s.slots.laid.low;
         first = s.slots.laid.first;
         room = s.slots.laid.room;
         slots = λ k h. fits k (p.slots k) (s.slots.laid.slots k h);
-        homes = each p.things new all a (λ t. (160 ≤ t.home) × (t.home < x.low)) (f.low, f.high) s.slots.laid.homes;
-        codes = each p.things new all a (λ t. t.kind ≡ Code → t.home < p.stacks) (λ e. absurd (let z : Array ≡ Code = sym f.array ∙ e in let b : ⊥ = cc in b)) s.slots.laid.codes;
+        homes = each p.objects new all a (λ t. (160 ≤ t.home) × (t.home < x.low)) (f.low, f.high) s.slots.laid.homes;
+        codes = each p.objects new all a (λ t. t.kind ≡ Code → t.home < p.stacks) (λ e. absurd (let z : Array ≡ Code = sym f.array ∙ e in let b : ⊥ = cc in b)) s.slots.laid.codes;
         differ = λ t u i j e. elim (a.back t i) [
           | inl z ↦ elim (a.back u j) [
             | inl w ↦ z ∙ sym w
-            | inr l ↦ absurd (f.apart u l (sym e ∙ ap (λ (v : Thing). v.home) z))
+            | inr l ↦ absurd (f.apart u l (sym e ∙ ap (λ (v : PagedObject). v.home) z))
           ]
           | inr k ↦ elim (a.back u j) [
-            | inl w ↦ absurd (f.apart t k (e ∙ ap (λ (v : Thing). v.home) w))
+            | inl w ↦ absurd (f.apart t k (e ∙ ap (λ (v : PagedObject). v.home) w))
             | inr l ↦ s.slots.laid.differ t u k l e
           ]
         ];
-        not_base = each p.things new all a (λ t. (k : ℕ) → k < p.peak → t.home ≢ slot_base p k) f.not_base s.slots.laid.not_base;
-        lengths = each p.things new all a (λ t. (0 < length t.numbers) × (length t.numbers < 2 ^ 16)) f.long s.slots.laid.lengths;
+        not_base = each p.objects new all a (λ t. (k : ℕ) → k < p.peak → t.home ≢ slot_base p k) f.not_base s.slots.laid.not_base;
+        lengths = each p.objects new all a (λ t. (0 < length t.numbers) × (length t.numbers < 2 ^ 16)) f.long s.slots.laid.lengths;
       };
       regs = record { stacks = s.slots.regs.stacks; size = s.slots.regs.size; peak = s.slots.regs.peak };
       slots = λ k h. stands k (p.slots k) (s.slots.slots k h);
     };
     stacks = s.stacks;
-    things = each p.things new all a (ThingStands x core) new_thing s.things;
+    objects = each p.objects new all a (RepresentsObject x core) new_object s.objects;
     owned = record {
       of_area = λ at b e. let (t, i, h, q) = s.owned.of_area at b e in (t, a.there t i, h, q);
       of_held = λ home at e. let (t, i, h, q) = s.owned.of_held home at e in (t, a.there t i, h, q);

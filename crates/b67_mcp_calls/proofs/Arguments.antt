@@ -6,10 +6,10 @@ use Rattle.b67_word.specs.declared.faults.Fault.{Fault}
 use Rattle.b67_word.specs.declared.faults.Fault.TheVariants.{InvalidOperand}
 use Rattle.b67_model.specs.Words as Words
 use Rattle.b67_model.specs.Words.{Word, Operand, Name, Ref, Row, Element, Original, Proc, Intrinsic}
-use Rattle.b67_model.specs.State.{Task, Member}
+use Rattle.b67_model.specs.State.{Task, SessionJob}
 use Rattle.b67_model.specs.Intrinsics.{row_copy, printrow}
-use Rattle.b67_stack.specs.Stands.{Storage}
-use Rattle.b67_layout.specs.Plan.{Plan}
+use Rattle.b67_stack.specs.Represents.{Storage}
+use Rattle.b67_layout.specs.Placement.{Placement}
 use Rattle.b67_layout.specs.Meets.{here}
 use Rattle.b67_exec_cells.specs.Tops.{cells}
 use Rattle.b67_fetch.proofs.Values.{TopFollowed}
@@ -18,7 +18,7 @@ use Rattle.b67_mcp_calls.specs.Calls.{IsCall}
 use Rattle.b67_mcp_calls.proofs.Prints.{one}
 use Rattle.b67_mcp_calls.specs.RowCalls.{CopyMeets, MissesCopy}
 
-module _ (plan : Plan) (m : Member) (t : Task) (r : Word) (arguments : List Word) (call : IsCall t r arguments) where
+module _ (plan : Placement) (m : SessionJob) (t : Task) (r : Word) (arguments : List Word) (call : IsCall t r arguments) where
   count : length (cells t) ≡ suc (length arguments)
   count = sym (length-reverse (cells t)) ∙ ap length call.cells
 

@@ -4,11 +4,11 @@ use Rattle.std.specs.List.{AllByRecursion}
 use Rattle.std.proofs.lemmas.Bool.{cases_eq}
 use Rattle.std.proofs.lemmas.List.{length-reverse}
 use Rattle.b67_lemmas.specs.Lists.{Has, Falls}
+use Rattle.b67_lemmas.proofs.Members.{all_from, all_in, falls_low, has_map, has_reverse_back}
 use Rattle.b67_model.specs.Words as Words
 use Rattle.b67_model.specs.Words.{Word, Operand, Name, Ref, Row, Element, Original, Proc, Intrinsic}
-use Rattle.b67_model.specs.State.{Frame, Array, Segment, Task, Setting, Job, Course}
+use Rattle.b67_model.specs.State.{Frame, Array, Segment, Task, JobConstants, Job, JobProgress}
 use Rattle.b67_model.specs.InOrder.{Starts, Known, known_of, outer_of, WordInOrder, FramesInOrder, EntryInOrder, DictionaryWords, rows_after, TaskInOrder, JobInOrder}
-use Rattle.b67_law_order.proofs.Members.{all_in, all_from, has_map, has_reverse_back, falls_low}
 
 -- a word that names no array of an identity
 abbrev pub Avoids : ℕ → Word → Type 0
@@ -72,16 +72,16 @@ entry_there g k [] ws d low high = row_there 1 k ws d low (omega (arith, high))
 entry_there g k (s ∷ more) [] d low high = absurd d
 entry_there g k (s ∷ more) (w ∷ ws) d low high = inr (entry_there (g + 1) k more ws d.1 low (omega (arith, high)))
 
-module _ (P : Starts) (setting : Setting) (c : Course) (o : JobInOrder P setting c) where
+module _ (P : Starts) (constants : JobConstants) (c : JobProgress) (o : JobInOrder P constants c) where
   pub job_avoids : JobAvoids c.job.next_array c.job
   job_avoids = record {
-    tasks = λ t h. frames_avoid P c.job.arrays c.job.next_array o.tasks.names (outer_of c.job t) t.frames (all_in (TaskInOrder P setting c.job) c.job.tasks t o.tasks.tasks h).frames;
+    tasks = λ t h. frames_avoid P c.job.arrays c.job.next_array o.tasks.names (outer_of c.job t) t.frames (all_in (TaskInOrder P constants c.job) c.job.tasks t o.tasks.tasks h).frames;
     arrays = all_from (λ (a : Array). a.identity ≢ c.job.next_array) c.job.arrays (λ a h e. (let small = smaller P c.job.arrays c.job.next_array o.tasks.names a h in let z : ⊥ = omega (arith, small, e) in z));
   }
 
-  pub row_avoids : (k : ℕ) → 1 ≤ k → k + length setting.segments ≤ length setting.dictionary.cells → k ≢ c.job.next_array
+  pub row_avoids : (k : ℕ) → 1 ≤ k → k + length constants.segments ≤ length constants.dictionary.cells → k ≢ c.job.next_array
   row_avoids k low high e =
-      let there = entry_there 1 k setting.segments (reverse setting.dictionary.cells) o.unchanging.dictionary low (omega (arith, high, length-reverse setting.dictionary.cells)) in
-      let own = all_in (EntryInOrder c.job.arrays) setting.dictionary.cells (Original k) o.tasks.entries (has_reverse_back setting.dictionary.cells (Original k) there) in
+      let there = entry_there 1 k constants.segments (reverse constants.dictionary.cells) o.unchanging.dictionary low (omega (arith, high, length-reverse constants.dictionary.cells)) in
+      let own = all_in (EntryInOrder c.job.arrays) constants.dictionary.cells (Original k) o.tasks.entries (has_reverse_back constants.dictionary.cells (Original k) there) in
       let z : ⊥ = omega (arith, below P c.job.arrays c.job.next_array o.tasks.names own.item k own.live own.named, e) in
       z

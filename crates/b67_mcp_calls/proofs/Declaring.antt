@@ -8,61 +8,61 @@ use Rattle.b67_area.specs.declared.Kind.TheVariants as kind
 use Rattle.b67_ctl.specs.declared.registers.Regs.{Regs}
 use Rattle.b67_core.proofs.Writes.{slice_get-set_same, slice_get-set_other}
 use Rattle.b67_lemmas.specs.Lists.{Has}
+use Rattle.b67_lemmas.proofs.Members.{has_append_cases, has_append_left, has_append_right, has_flat, has_flat_back, keyed-has}
 use Rattle.b67_model.specs.Words as Words
 use Rattle.b67_model.specs.Words.{Word, Operand, Name, Ref, Row, Element, Original, Proc, Intrinsic}
-use Rattle.b67_model.specs.State.{Frame, Array, Task, Job, Course, Member, top, with_top_cells}
+use Rattle.b67_model.specs.State.{Frame, Array, Task, Job, JobProgress, SessionJob, top, with_top_cells}
 use Rattle.b67_model.specs.Arrays.{array, no_array}
 use Rattle.b67_model.specs.Keyed.{keyed, change_keyed}
 use Rattle.b67_model.specs.Run.{number_of}
 use Rattle.b67_model.specs.Schedule.{Session}
-use Rattle.b67_model.specs.InOrder.{known_of}
-use Rattle.b67_law_order.proofs.Members.{has_append_left, has_append_right, has_append_cases, has_flat}
 use Rattle.b67_stack.specs.declared.Cpu.{Cpu}
 use Rattle.b67_stack.specs.Shapes as Shapes
-use Rattle.b67_stack.specs.Shapes.{Shape, IsOriginal}
-use Rattle.b67_stack.specs.Stacks.{Spot, Activation, high}
-use Rattle.b67_stack.specs.Picture.{Thing, Slot, Running, stack_of, Picture, Settled, AreZero, slot_base, home_word_of}
-use Rattle.b67_stack.specs.Stands.{Storage, RunningStands, Stands}
+use Rattle.b67_stack.specs.Shapes.{Shape, IsOriginal, nowhere}
+use Rattle.b67_stack.specs.Stacks.{StackPlace, Activation, stack_words}
+use Rattle.b67_stack.specs.MachineView.{PagedObject, Slot, Running, stack_of, MachineView, NoOriginalAboveTop, AreZero, slot_base, home_word_of}
+use Rattle.b67_stack.specs.Represents.{Storage, RepresentsRunning, Represents}
 use Rattle.b67_stack.specs.Changes.{pushed, with_stack, with_cells, top_cells}
 use Rattle.b67_stack.proofs.Bases.{base-apart}
 use Rattle.b67_stack.proofs.Slots.{by_slot, running_fits}
 use Rattle.b67_layout_storage.proofs.Helds.{held-same}
-use Rattle.b67_layout.specs.Plan.{Plan, slot_of, spot_in, outer_spots, spots}
-use Rattle.b67_layout.specs.Layout.{shape, stack_of_task, slot_at, code_things, array_thing, things_of, picture}
-use Rattle.b67_layout.specs.Session.{TaskStands, IsRunning, Shows, critical_mark, SessionHolds, SessionStands}
+use Rattle.b67_layout.specs.Placement.{Placement, slot_of, spot_in, outer_spots, spots}
+use Rattle.b67_layout.specs.Layout.{shape, stack_of_task, slot_at, code_objects, array_object, objects_of, machine_view}
+use Rattle.b67_layout.specs.Session.{RepresentsTask, IsRunning, ShowsDisplay, SessionHolds, RepresentsSession}
 use Rattle.b67_layout.specs.Meets.{with_job}
-use Rattle.b67_layout.proofs.Others.{keyed-has}
-use Rattle.b67_layout.proofs.Pictures.{with_course, member-same}
+use Rattle.b67_layout.proofs.MachineViews.{with_course, member-same}
 use Rattle.b67_layout.proofs.Rows.{row_of}
 use Rattle.b67_layout.proofs.Sessions.{change-has, change-kept}
-use Rattle.b67_layout.proofs.Steps.{activations-with, seen-with}
+use Rattle.b67_layout.proofs.Steps.{activations-with, seen-with, critical-with}
 use Rattle.b67_layout.proofs.Displays.{Shows-same}
-use Rattle.b67_layout_leave.proofs.Things.{of_things, has_flat_back}
+use Rattle.b67_layout.proofs.Whole.{spots-with}
+use Rattle.b67_layout_leave.proofs.Objects.{of_objects}
 use Rattle.b67_layout_leave.proofs.Nowhere.{SameArray, SameArrays, activations-same}
 use Rattle.b67_layout_leave.proofs.Slots.{Replaces, OthersSame, outer_spots-after, stack-after, slots-after}
 use Rattle.b67_layout_leave.proofs.Holds.{SessionHoldsBut-after, for_running}
 use Rattle.b67_exec_cells.specs.Tops.{cells}
 use Rattle.b67_exec_cells.proofs.Replaced.{cells-are}
-use Rattle.b67_mcp_calls.specs.Declaring.{nowhere, without}
+use Rattle.b67_mcp_calls.specs.Declaring.{without}
 use Rattle.b67_mcp_calls.proofs.Pushed.{stack, on_slot, registers, room}
 use Rattle.b67_mcp_calls.proofs.Avoiding.{Avoids, FramesAvoid, JobAvoids}
-use Rattle.b67_mcp_calls.proofs.Unheld.{Stands-unheld}
-use Rattle.b67_mcp_calls.proofs.Added.{Fresh, Added, each, Stands-added}
-use Rattle.b67_mcp_calls.proofs.Originals.{next_apart, Stands-original}
+use Rattle.b67_mcp_calls.proofs.Unheld.{Represents-unheld}
+use Rattle.b67_mcp_calls.proofs.Added.{Fresh, Added, each, Represents-added}
+use Rattle.b67_mcp_calls.proofs.Originals.{next_apart, Represents-original}
+use Rattle.b67_law_order.proofs.Looks.{known_cells}
 
 -- the task with the original of an array on top
 abbrev pub task_with : Task → ℕ → Task
 task_with t n = record t { frames = with_top_cells t.frames (Original n ∷ cells t) }
 
 -- a job that differs by a new array, whose original the task has on top and which stands at an address
-pub record Declares (plan : Plan) (m : Member) (t : Task) (job : Job) (a : Array) (at : ℕ) : Type 0 where
-  pub arrays : job.arrays ≡ a ∷ m.course.job.arrays
-  pub tasks : job.tasks ≡ change_keyed (λ (u : Task). u.number) t.number (λ (u : Task). task_with t a.identity) m.course.job.tasks
-  pub home : plan.home m.setting.number a.identity ≡ at
+pub record Declares (plan : Placement) (m : SessionJob) (t : Task) (job : Job) (a : Array) (at : ℕ) : Type 0 where
+  pub arrays : job.arrays ≡ a ∷ m.progress.job.arrays
+  pub tasks : job.tasks ≡ change_keyed (λ (u : Task). u.number) t.number (λ (u : Task). task_with t a.identity) m.progress.job.tasks
+  pub home : plan.home m.constants.number a.identity ≡ at
   pub writable : a.writable ≡ true
   pub zeros : AreZero a.numbers
   pub long : (0 < length a.numbers) × (length a.numbers < 2 ^ 16)
-  pub avoids : JobAvoids a.identity m.course.job
+  pub avoids : JobAvoids a.identity m.progress.job
 
 module _ (old new : Job) (a : Array) (is : new.arrays ≡ a ∷ old.arrays) where
   array_same : (i : ℕ) → i ≢ a.identity → array new i ≡ array old i
@@ -98,81 +98,69 @@ top_same : (old new : Job) (fs : List Frame) → SameArrays new old fs → AllBy
 top_same old new [] h = tt
 top_same old new (f ∷ fs) h = h.0
 
-critical-with : (j : Job) (fs : List Frame) (ws : List Word) → critical_mark j (with_top_cells fs ws) ≡ critical_mark j fs
-critical-with j [] ws = refl
-critical-with j (f ∷ below) ws = refl
+-- the objects with the array's
+module _ (plan : Placement) (jobs : List SessionJob) (m : SessionJob) (t : Task) (job : Job) (a : Array) (at : ℕ) (d : Declares plan m t job a at) (found : keyed number_of m.constants.number jobs ≡ Some m) where
+  abbrev pub progress : JobProgress
+  progress = record m.progress { job = job }
 
-known-with : (fs : List Frame) (ws : List Word) → map known_of (with_top_cells fs ws) ≡ map known_of fs
-known-with [] ws = refl
-known-with (f ∷ below) ws = refl
+  abbrev pub moved : SessionJob
+  moved = record m { progress = record m.progress { job = job } }
 
-spots-with : (k : ℕ) (outer : ℕ → Spot) (fs : List Frame) (ws : List Word) (id : ℕ) → spot_in k outer (with_top_cells fs ws) id ≡ spot_in k outer fs id
-spots-with k outer [] ws id = refl
-spots-with k outer (f ∷ below) ws id = refl
+  abbrev pub object : PagedObject
+  object = record { home = at; kind = kind.Array; numbers = a.numbers }
 
--- the things with the array's
-module _ (plan : Plan) (jobs : List Member) (m : Member) (t : Task) (job : Job) (a : Array) (at : ℕ) (d : Declares plan m t job a at) (found : keyed number_of m.setting.number jobs ≡ Some m) where
-  abbrev pub course : Course
-  course = record m.course { job = job }
-
-  abbrev pub moved : Member
-  moved = record m { course = record m.course { job = job } }
-
-  abbrev pub thing : Thing
-  thing = record { home = at; kind = kind.Array; numbers = a.numbers }
-
-  thing_is : array_thing plan m.setting.number a ≡ thing
-  thing_is =
-      let T : ℕ → Bool → Thing = λ h b. record { home = h; kind = if b then kind.Array else kind.Row; numbers = a.numbers } in
+  object_is : array_object plan m.constants.number a ≡ object
+  object_is =
+      let T : ℕ → Bool → PagedObject = λ h b. record { home = h; kind = if b then kind.Array else kind.Row; numbers = a.numbers } in
       ap (λ (h : ℕ). T h a.writable) d.home ∙ ap (T at) d.writable
 
-  abbrev codes : List Thing
-  codes = code_things plan m.setting.number 1 m.setting.segments
+  abbrev codes : List PagedObject
+  codes = code_objects plan m.constants.number 1 m.constants.segments
 
-  in_arrays : (z : Thing) → Has (map (array_thing plan m.setting.number) (a ∷ m.course.job.arrays)) z → Has (things_of plan moved) z
-  in_arrays z h = has_append_right codes (map (array_thing plan m.setting.number) job.arrays) z (subst (λ (xs : List Array). Has (map (array_thing plan m.setting.number) xs) z) (sym d.arrays) h)
+  in_arrays : (z : PagedObject) → Has (map (array_object plan m.constants.number) (a ∷ m.progress.job.arrays)) z → Has (objects_of plan moved) z
+  in_arrays z h = has_append_right codes (map (array_object plan m.constants.number) job.arrays) z (subst (λ (xs : List Array). Has (map (array_object plan m.constants.number) xs) z) (sym d.arrays) h)
 
-  in_new : (z : Thing) → Has (things_of plan m) z → Has (things_of plan moved) z
-  in_new z h = elim (has_append_cases codes (map (array_thing plan m.setting.number) m.course.job.arrays) z h) [
-    | inl k ↦ has_append_left codes (map (array_thing plan m.setting.number) job.arrays) z k
+  in_new : (z : PagedObject) → Has (objects_of plan m) z → Has (objects_of plan moved) z
+  in_new z h = elim (has_append_cases codes (map (array_object plan m.constants.number) m.progress.job.arrays) z h) [
+    | inl k ↦ has_append_left codes (map (array_object plan m.constants.number) job.arrays) z k
     | inr k ↦ in_arrays z (inr k)
   ]
 
-  in_old : (z : Thing) → Has (things_of plan moved) z → (z ≡ thing) ⊎ Has (things_of plan m) z
-  in_old z h = elim (has_append_cases codes (map (array_thing plan m.setting.number) job.arrays) z h) [
-    | inl k ↦ inr (has_append_left codes (map (array_thing plan m.setting.number) m.course.job.arrays) z k)
+  in_old : (z : PagedObject) → Has (objects_of plan moved) z → (z ≡ object) ⊎ Has (objects_of plan m) z
+  in_old z h = elim (has_append_cases codes (map (array_object plan m.constants.number) job.arrays) z h) [
+    | inl k ↦ inr (has_append_left codes (map (array_object plan m.constants.number) m.progress.job.arrays) z k)
     | inr k ↦
-        let one : Has (map (array_thing plan m.setting.number) (a ∷ m.course.job.arrays)) z = subst (λ (xs : List Array). Has (map (array_thing plan m.setting.number) xs) z) d.arrays k in
+        let one : Has (map (array_object plan m.constants.number) (a ∷ m.progress.job.arrays)) z = subst (λ (xs : List Array). Has (map (array_object plan m.constants.number) xs) z) d.arrays k in
         elim one [
-          | inl e ↦ inl (sym e ∙ thing_is)
-          | inr i ↦ inr (has_append_right codes (map (array_thing plan m.setting.number) m.course.job.arrays) z i)
+          | inl e ↦ inl (sym e ∙ object_is)
+          | inr i ↦ inr (has_append_right codes (map (array_object plan m.constants.number) m.progress.job.arrays) z i)
         ]
   ]
 
-  now : Has (with_course jobs m.setting.number course) moved
-  now = keyed-has number_of m.setting.number (with_course jobs m.setting.number course) moved (member-same jobs m.setting.number course m found)
+  now : Has (with_course jobs m.constants.number progress) moved
+  now = keyed-has number_of m.constants.number (with_course jobs m.constants.number progress) moved (member-same jobs m.constants.number progress m found)
 
-  pub things_added : Added (flat_map (things_of plan) jobs) thing (flat_map (things_of plan) (with_course jobs m.setting.number course))
-  things_added = record {
+  pub objects_added : Added (flat_map (objects_of plan) jobs) object (flat_map (objects_of plan) (with_course jobs m.constants.number progress))
+  objects_added = record {
     there = λ z h.
-        let r = has_flat_back (things_of plan) jobs z h in
-        elim (change-kept number_of m.setting.number (λ (y : Member). record y { course = course }) jobs m found r.item r.among) [
-          | inl k ↦ has_flat (things_of plan) (with_course jobs m.setting.number course) r.item z k r.inside
-          | inr k ↦ has_flat (things_of plan) (with_course jobs m.setting.number course) moved z now (in_new z (subst (λ (y : Member). Has (things_of plan y) z) k.0 r.inside))
+        let r = has_flat_back (objects_of plan) jobs z h in
+        elim (change-kept number_of m.constants.number (λ (y : SessionJob). record y { progress = progress }) jobs m found r.item r.among) [
+          | inl k ↦ has_flat (objects_of plan) (with_course jobs m.constants.number progress) r.item z k r.inside
+          | inr k ↦ has_flat (objects_of plan) (with_course jobs m.constants.number progress) moved z now (in_new z (subst (λ (y : SessionJob). Has (objects_of plan y) z) k.0 r.inside))
         ];
-    mine = has_flat (things_of plan) (with_course jobs m.setting.number course) moved thing now (in_arrays thing (inl thing_is));
+    mine = has_flat (objects_of plan) (with_course jobs m.constants.number progress) moved object now (in_arrays object (inl object_is));
     back = λ z h.
-        let r = has_flat_back (things_of plan) (with_course jobs m.setting.number course) z h in
-        elim (change-has number_of m.setting.number (λ (y : Member). record y { course = course }) jobs m found r.item r.among) [
-          | inl k ↦ inr (has_flat (things_of plan) jobs r.item z k r.inside)
-          | inr e ↦ elim (in_old z (subst (λ (y : Member). Has (things_of plan y) z) e r.inside)) [
+        let r = has_flat_back (objects_of plan) (with_course jobs m.constants.number progress) z h in
+        elim (change-has number_of m.constants.number (λ (y : SessionJob). record y { progress = progress }) jobs m found r.item r.among) [
+          | inl k ↦ inr (has_flat (objects_of plan) jobs r.item z k r.inside)
+          | inr e ↦ elim (in_old z (subst (λ (y : SessionJob). Has (objects_of plan y) z) e r.inside)) [
             | inl i ↦ inl i
-            | inr i ↦ inr (has_flat (things_of plan) jobs m z (keyed-has number_of m.setting.number jobs m found) i)
+            | inr i ↦ inr (has_flat (objects_of plan) jobs m z (keyed-has number_of m.constants.number jobs m found) i)
           ]
         ];
   }
 
-module _ (x : Storage) (cpu : Cpu) (plan : Plan) (s : Session) (m : Member) (t : Task) (h : SessionStands x cpu plan s) (runs : IsRunning plan s.jobs m t) (job : Job) (a : Array) (d : Declares plan m t job a (cpu.regs.s + 1))
+module _ (x : Storage) (cpu : Cpu) (plan : Placement) (s : Session) (m : SessionJob) (t : Task) (h : RepresentsSession x cpu plan s) (runs : IsRunning plan s.jobs m t) (job : Job) (a : Array) (d : Declares plan m t job a (cpu.regs.s + 1))
     (w : Tagged) (original : IsOriginal w) (is : w ≡ home_word_of kind.Array (length a.numbers) nowhere) (higher : cpu.regs.s < cpu.regs.losr) where
   abbrev at : ℕ
   at = cpu.regs.s + 1
@@ -180,8 +168,8 @@ module _ (x : Storage) (cpu : Cpu) (plan : Plan) (s : Session) (m : Member) (t :
   abbrev y : Storage
   y = without x at
 
-  abbrev p : Picture
-  p = picture plan s.jobs
+  abbrev p : MachineView
+  p = machine_view plan s.jobs
 
   abbrev k : ℕ
   k = plan.running
@@ -198,40 +186,40 @@ module _ (x : Storage) (cpu : Cpu) (plan : Plan) (s : Session) (m : Member) (t :
   abbrev regs' : Regs
   regs' = record cpu.regs { s = at }
 
-  abbrev new : Thing
+  abbrev new : PagedObject
   new = record { home = at; kind = kind.Array; numbers = a.numbers }
 
-  abbrev jobs' : List Member
-  jobs' = with_course s.jobs m.setting.number (record m.course { job = job })
+  abbrev jobs' : List SessionJob
+  jobs' = with_course s.jobs m.constants.number (record m.progress { job = job })
 
-  abbrev all : List Thing
-  all = flat_map (things_of plan) jobs'
+  abbrev all : List PagedObject
+  all = flat_map (objects_of plan) jobs'
 
   abbrev t' : Task
   t' = task_with t a.identity
 
   has_m : Has s.jobs m
-  has_m = keyed-has number_of m.setting.number s.jobs m runs.member
+  has_m = keyed-has number_of m.constants.number s.jobs m runs.member
 
-  has_t : Has m.course.job.tasks t
-  has_t = keyed-has (λ (u : Task). u.number) t.number m.course.job.tasks t runs.task
+  has_t : Has m.progress.job.tasks t
+  has_t = keyed-has (λ (u : Task). u.number) t.number m.progress.job.tasks t runs.task
 
-  apart : (z : Thing) → Has p.things z → z.home ≢ at
+  apart : (z : PagedObject) → Has p.objects z → z.home ≢ at
   apart = next_apart x cpu.core cpu.regs p k h.holds.memory h.holds.settled w original higher before (on_slot x cpu plan s m t h runs)
 
   -- where the word isn't held yet
-  unheld : Stands y cpu.core cpu.regs p
-  unheld = Stands-unheld x cpu.core cpu.regs p at h.holds.memory apart
+  unheld : Represents y cpu.core cpu.regs p
+  unheld = Represents-unheld x cpu.core cpu.regs p at h.holds.memory apart
 
   holds : SessionHolds y cpu.core cpu.regs cpu.critical plan s
   holds =
       let o = h.holds in
       record { fits = o.fits; memory = unheld; settled = o.settled; dictionaries = o.dictionaries; mcp = o.mcp; vector = o.vector; critical = o.critical; live = o.live; running = o.running; none = o.none }
 
-  with_original : Stands y core' regs' (with_stack p k after) × Settled (with_stack p k after) × (high after ≡ high before + 1)
-  with_original = Stands-original y cpu.core cpu.regs p k unheld h.holds.settled w original higher before (on_slot x cpu plan s m t h runs)
+  with_original : Represents y core' regs' (with_stack p k after) × NoOriginalAboveTop (with_stack p k after) × (stack_words after ≡ stack_words before + 1)
+  with_original = Represents-original y cpu.core cpu.regs p k unheld h.holds.settled w original higher before (on_slot x cpu plan s m t h runs)
 
-  g : RunningStands cpu.regs p k before
+  g : RepresentsRunning cpu.regs p k before
   g = registers x cpu plan s m t h runs
 
   some_room : 0 < plan.size
@@ -261,57 +249,57 @@ module _ (x : Storage) (cpu : Cpu) (plan : Plan) (s : Session) (m : Member) (t :
         word = slice_get-set_same cpu.core at w (omega (arith, r.under, r.inside, higher)) ∙ ap Some is;
       }
 
-  added : Added p.things new all
-  added = things_added plan s.jobs m t job a at d runs.member
+  added : Added p.objects new all
+  added = objects_added plan s.jobs m t job a at d runs.member
 
-  by : Replaces m.course.job job t t'
+  by : Replaces m.progress.job job t t'
   by = record { there = runs.task; number = refl; critical = refl; parents = refl; tasks = d.tasks; seen = λ c q outer id depended. seen-with t.frames (Original a.identity ∷ cells t) c q outer id }
 
-  own : SameArrays job m.course.job t.frames
-  own = frames_same m.course.job job a d.arrays t.frames (d.avoids.tasks t has_t)
+  own : SameArrays job m.progress.job t.frames
+  own = frames_same m.progress.job job a d.arrays t.frames (d.avoids.tasks t has_t)
 
-  others : OthersSame job m.course.job t
-  others u i ne = frames_same m.course.job job a d.arrays u.frames (d.avoids.tasks u i)
+  others : OthersSame job m.progress.job t
+  others u i ne = frames_same m.progress.job job a d.arrays u.frames (d.avoids.tasks u i)
 
-  stack_is : stack_of_task plan m.setting.number job k t' ≡ after
+  stack_is : stack_of_task plan m.constants.number job k t' ≡ after
   stack_is =
-      let j = m.setting.number in
-      let outer = outer_spots plan j m.course.job t.critical t.parents in
-      let shaped = shape plan j m.course.job (spot_in k outer t.frames) in
-      stack-after plan j m.course.job job t t' by k
-      ∙ activations-same plan j job m.course.job k outer t'.frames (original_same m.course.job job a.identity t.frames (cells t) (top_same m.course.job job t.frames own) own)
-      ∙ activations-with plan j m.course.job k outer t.frames (Original a.identity ∷ cells t)
+      let j = m.constants.number in
+      let outer = outer_spots plan j m.progress.job t.critical t.parents in
+      let shaped = shape plan j m.progress.job (spot_in k outer t.frames) in
+      stack-after plan j m.progress.job job t t' by k
+      ∙ activations-same plan j job m.progress.job k outer t'.frames (original_same m.progress.job job a.identity t.frames (cells t) (top_same m.progress.job job t.frames own) own)
+      ∙ activations-with plan j m.progress.job k outer t.frames (Original a.identity ∷ cells t)
       ∙ ap (λ (i : ℕ). with_cells before (Shapes.Original i ∷ map shaped (cells t))) d.home
-      ∙ ap (λ (cs : List Shape). with_cells before (Shapes.Original at ∷ cs)) (sym (cells-are plan j m.course.job k outer t.frames))
+      ∙ ap (λ (cs : List Shape). with_cells before (Shapes.Original at ∷ cs)) (sym (cells-are plan j m.progress.job k outer t.frames))
 
-  picture_is : picture plan jobs' ≡ of_things (with_stack p k after) all
-  picture_is =
+  machine_view_is : machine_view plan jobs' ≡ of_objects (with_stack p k after) all
+  machine_view_is =
       let row = row_of plan s.jobs m t h.holds.fits.rows has_m has_t runs.slot in
       let slots : slot_at plan jobs' ≡ (with_stack p k after).slots = λ z i.
-      (slots-after plan s.jobs m (record m.course { job = job }) t t' k runs.member by row others i ∙ ap (λ (st : List Activation). (with_stack p k st).slots i) stack_is) z in
-      ap (λ (f : ℕ → Slot). record { stacks = plan.stacks; size = plan.size; peak = plan.peak; slots = f; things = all }) slots
+      (slots-after plan s.jobs m (record m.progress { job = job }) t t' k runs.member by row others i ∙ ap (λ (st : List Activation). (with_stack p k st).slots i) stack_is) z in
+      ap (λ (f : ℕ → Slot). record { stacks = plan.stacks; size = plan.size; peak = plan.peak; slots = f; objects = all }) slots
 
-  settled' : Settled (of_things (with_stack p k after) all)
-  settled' = each p.things new all added (λ z. (i : ℕ) → i < plan.peak → slot_base p i ≤ z.home → z.home < slot_base p i + plan.size → z.home ≤ slot_base p i + high (stack_of ((with_stack p k after).slots i)))
-      (λ i hi low up. by_slot p k (Running after) (λ q st. slot_base p q ≤ at → at < slot_base p q + plan.size → at ≤ slot_base p q + high (stack_of st))
+  settled' : NoOriginalAboveTop (of_objects (with_stack p k after) all)
+  settled' = each p.objects new all added (λ z. (i : ℕ) → i < plan.peak → slot_base p i ≤ z.home → z.home < slot_base p i + plan.size → z.home ≤ slot_base p i + stack_words (stack_of ((with_stack p k after).slots i)))
+      (λ i hi low up. by_slot p k (Running after) (λ q st. slot_base p q ≤ at → at < slot_base p q + plan.size → at ≤ slot_base p q + stack_words (stack_of st))
       (λ l u. omega (arith, g.top, with_original.2)) (λ q hq ne l u. absurd (elsewhere q ne l u)) i hi low up)
       (λ z int i hi low up. with_original.1 z int i hi low up)
 
-  task_stands : TaskStands regs' plan (record m { course = record m.course { job = job } }) t'
+  task_stands : RepresentsTask regs' plan (record m { progress = record m.progress { job = job } }) t'
   task_stands = let r = h.holds.running m t runs in record { slot = r.slot; dict = r.dict; entries = r.entries; segment = r.segment; place = r.place }
 
-  pub stands_declared : SessionStands (without x (cpu.regs.s + 1)) (pushed cpu w) plan (with_job s m job)
+  pub stands_declared : RepresentsSession (without x (cpu.regs.s + 1)) (pushed cpu w) plan (with_job s m job)
   stands_declared =
-      let c : Course = record m.course { job = job } in
+      let c : JobProgress = record m.progress { job = job } in
       let low : (i : ℕ) → i < plan.stacks → slice_get core' i ≡ slice_get cpu.core i = λ i small. slice_get-set_other cpu.core at i w (λ e. omega (arith, e, small, g.first, g.top)) in
-      let memory : Stands y core' regs' (picture plan jobs') = subst (λ (q : Picture). Stands y core' regs' q) (sym picture_is) (Stands-added y core' regs' (with_stack p k after) new all with_original.0 fresh added) in
-      let places : (id : ℕ) → spots plan m.setting.number job t' id ≡ spots plan m.setting.number m.course.job t id = λ id.
-      (let outer : outer_spots plan m.setting.number job t.critical t.parents ≡ outer_spots plan m.setting.number m.course.job t.critical t.parents =
-      λ z i. outer_spots-after plan m.setting.number m.course.job job t t' by t.parents t.critical (inr (t, has_t, refl)) i z in
-      ap (λ (q : ℕ → Spot). spot_in (slot_of plan m.setting.number t.number) q t'.frames id) outer
-      ∙ spots-with (slot_of plan m.setting.number t.number) (outer_spots plan m.setting.number m.course.job t.critical t.parents) t.frames (Original a.identity ∷ cells t) id) in
-      let shown : Shows cpu.display plan (record m { course = c }) t' = Shows-same cpu.display plan m c t t' runs.task d.tasks (known-with t.frames (Original a.identity ∷ cells t)) places (h.shows m t runs) in
+      let memory : Represents y core' regs' (machine_view plan jobs') = subst (λ (q : MachineView). Represents y core' regs' q) (sym machine_view_is) (Represents-added y core' regs' (with_stack p k after) new all with_original.0 fresh added) in
+      let places : (id : ℕ) → spots plan m.constants.number job t' id ≡ spots plan m.constants.number m.progress.job t id = λ id.
+      (let outer : outer_spots plan m.constants.number job t.critical t.parents ≡ outer_spots plan m.constants.number m.progress.job t.critical t.parents =
+      λ z i. outer_spots-after plan m.constants.number m.progress.job job t t' by t.parents t.critical (inr (t, has_t, refl)) i z in
+      ap (λ (q : ℕ → StackPlace). spot_in (slot_of plan m.constants.number t.number) q t'.frames id) outer
+      ∙ spots-with (slot_of plan m.constants.number t.number) (outer_spots plan m.constants.number m.progress.job t.critical t.parents) t.frames (Original a.identity ∷ cells t) id) in
+      let shown : ShowsDisplay cpu.display plan (record m { progress = c }) t' = Shows-same cpu.display plan m c t t' runs.task d.tasks (known_cells t.frames (Original a.identity ∷ cells t)) places (h.shows m t runs) in
       record {
-        holds = SessionHoldsBut-after [] [] y cpu.core core' cpu.regs regs' cpu.critical plan s m c t t' holds runs by low (critical-with m.course.job t.frames (Original a.identity ∷ cells t)) memory (subst Settled (sym picture_is) settled') task_stands;
-        shows = for_running [] [] y cpu.core core' cpu.regs regs' cpu.critical plan s m c t t' holds runs by (Shows cpu.display plan) shown;
+        holds = SessionHoldsBut-after [] [] y cpu.core core' cpu.regs regs' cpu.critical plan s m c t t' holds runs by low (critical-with m.progress.job t.frames (Original a.identity ∷ cells t)) memory (subst NoOriginalAboveTop (sym machine_view_is) settled') task_stands;
+        shows = for_running [] [] y cpu.core core' cpu.regs regs' cpu.critical plan s m c t t' holds runs by (ShowsDisplay cpu.display plan) shown;
       }

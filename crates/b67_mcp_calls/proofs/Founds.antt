@@ -10,11 +10,11 @@ use Rattle.b67_word.specs.declared.faults.Fault.TheVariants.{Exponent, CriticalB
 use Rattle.b67_model.specs.Answers.{Answer, ◌>>=◌}
 use Rattle.b67_model.specs.Words.{Word, Row}
 use Rattle.b67_model.specs.Arrays.{array}
-use Rattle.b67_model.specs.State.{Frame, Task, Member, Here, height, top, below_top}
+use Rattle.b67_model.specs.State.{Frame, Task, SessionJob, OperatorContext, height, top, below_top}
 use Rattle.b67_model.specs.Steps.{Values, Done, is_critical}
 use Rattle.b67_model.specs.Intrinsics.{is_original, answers, printrow}
-use Rattle.b67_stack.specs.Stands.{Storage}
-use Rattle.b67_layout.specs.Plan.{Plan}
+use Rattle.b67_stack.specs.Represents.{Storage}
+use Rattle.b67_layout.specs.Placement.{Placement}
 use Rattle.b67_layout.specs.Meets.{here, area_held}
 use Rattle.b67_exec_cells.specs.Elements.{HasElement}
 use Rattle.b67_exec_cells.specs.Tops.{cells}
@@ -37,38 +37,38 @@ pub two_cells : (t : Task) (r : Word) (arguments : List Word) (a : ℕ) → IsCa
 two_cells t r arguments a call are = sym (length-reverse (cells t)) ∙ ap length call.cells ∙ ap (λ (ws : List Word). length (r ∷ ws)) are
 
 -- the array that was copied is the only one that the arguments can be
-pub copies_present : (x : Storage) (plan : Plan) (m : Member) (arguments : List Word) (original at : ℕ) (k : Copies plan m arguments original) → area_held x plan m.setting.number k.array ≡ Some at → CopiesPresent x plan m arguments
+pub copies_present : (x : Storage) (plan : Placement) (m : SessionJob) (arguments : List Word) (original at : ℕ) (k : Copies plan m arguments original) → area_held x plan m.constants.number k.array ≡ Some at → CopiesPresent x plan m arguments
 copies_present x plan m arguments original at k on a e =
     let both : Row k.array ∷ [] ≡ Row a ∷ [] = sym k.are ∙ e in
     let same : k.array ≡ a = cc in
-    let P : ℕ → Type 0 = λ n. HasElement m.course.job n 0 × (area_held x plan m.setting.number n ≢ None) in
+    let P : ℕ → Type 0 = λ n. HasElement m.progress.job n 0 × (area_held x plan m.constants.number n ≢ None) in
     subst P same (k.some, λ none. none-some at (sym none ∙ on))
 
 lower : (fs : List Frame) → height (below_top fs) ≤ height fs
 lower [] = omega arith
 lower (f ∷ below) = omega arith
 
-module _ (plan : Plan) (m : Member) (t : Task) (r : Word) (arguments : List Word) (call : IsCall t r arguments) (original : ℕ) (c : Copies plan m arguments original)
-    (core : List Tagged) (at count : ℕ) (lies : slice_range core at (at + count) ≡ map (word 0) (array m.course.job c.array).numbers) where
-  abbrev row_by : Here → Answer (List ℤ) → Answer Done
+module _ (plan : Placement) (m : SessionJob) (t : Task) (r : Word) (arguments : List Word) (call : IsCall t r arguments) (original : ℕ) (c : Copies plan m arguments original)
+    (core : List Tagged) (at count : ℕ) (lies : slice_range core at (at + count) ≡ map (word 0) (array m.progress.job c.array).numbers) where
+  abbrev row_by : OperatorContext → Answer (List ℤ) → Answer Done
   row_by h a = a >>= λ vs. answers h h.job [] (Values vs ∷ []) (Some c.array)
 
   printed : (next : Place) → printrow (here m t next) arguments ≡ row_by (here m t next) (answer_of (values_of (slice_range core at (at + count))))
-  printed next = ap (printrow (here m t next)) c.are ∙ ap (row_by (here m t next)) (numbers_are (array m.course.job c.array).numbers ∙ ap (λ (ws : List Tagged). answer_of (values_of ws)) (sym lies))
+  printed next = ap (printrow (here m t next)) c.are ∙ ap (row_by (here m t next)) (numbers_are (array m.progress.job c.array).numbers ∙ ap (λ (ws : List Tagged). answer_of (values_of ws)) (sym lies))
 
   pub not_whole : is_some (values_of (slice_range core at (at + count))) ≡ false → (next : Place) → printrow (here m t next) arguments ≡ Err Exponent
   not_whole e next = printed next ∙ ap (λ (o : Option (List ℤ)). row_by (here m t next) (answer_of o)) (none_of (values_of (slice_range core at (at + count))) e)
 
-  pub critical : is_some (values_of (slice_range core at (at + count))) ≡ true → is_critical m.course.job (top t.frames).identity ≡ true → (next : Place) → printrow (here m t next) arguments ≡ Err CriticalBlock
+  pub critical : is_some (values_of (slice_range core at (at + count))) ≡ true → is_critical m.progress.job (top t.frames).identity ≡ true → (next : Place) → printrow (here m t next) arguments ≡ Err CriticalBlock
   critical e z next =
       let (vs, is) = some_of (values_of (slice_range core at (at + count))) e in
       printed next ∙ ap (λ (o : Option (List ℤ)). row_by (here m t next) (answer_of o)) is ∙ rw z refl
 
-  pub row_is : at + count ≤ length core → is_some (values_of (slice_range core at (at + count))) ≡ true → is_critical m.course.job (top t.frames).identity ≡ false → height t.frames ≤ m.setting.stack_size → length (cells t) ≡ 2
+  pub row_is : at + count ≤ length core → is_some (values_of (slice_range core at (at + count))) ≡ true → is_critical m.progress.job (top t.frames).identity ≡ false → height t.frames ≤ m.constants.stack_size → length (cells t) ≡ 2
       → IsRow m t core arguments at count
   row_is inside e z fits two =
       let (vs, is) = some_of (values_of (slice_range core at (at + count))) e in
-      let low : height (below_top t.frames) ≤ m.setting.stack_size = omega (arith, lower t.frames, fits) in
+      let low : height (below_top t.frames) ≤ m.constants.stack_size = omega (arith, lower t.frames, fits) in
       let o = one m t r arguments call two in
       let copy : o.argument ≡ Row c.array = (let same : o.argument ∷ [] ≡ Row c.array ∷ [] = sym o.arguments_are ∙ c.are in cc) in
       let P : List Word → Type 0 = λ ws. AllByRecursion (λ (w : Word). is_original w ≡ false) ws in
@@ -78,5 +78,5 @@ module _ (plan : Plan) (m : Member) (t : Task) (r : Word) (arguments : List Word
         lies = is;
         may = record { marked = call.marked; free = z; plain = subst P (sym o.cells_are) (ap is_original copy, (call.plain, tt)) };
         array = c.array;
-        makes = λ next. printed next ∙ ap (λ (q : Option (List ℤ)). row_by (here m t next) (answer_of q)) is ∙ rw z (rw (le-leb (height (below_top t.frames)) m.setting.stack_size low) refl);
+        makes = λ next. printed next ∙ ap (λ (q : Option (List ℤ)). row_by (here m t next) (answer_of q)) is ∙ rw z (rw (le-leb (height (below_top t.frames)) m.constants.stack_size low) refl);
       }

@@ -6,29 +6,29 @@ use Rattle.b67_ctl.specs.declared.registers.Regs.{Regs}
 use Rattle.b67_core.proofs.Writes.{slice_get-set_other}
 use Rattle.b67_lemmas.specs.Lists.{Has}
 use Rattle.b67_stack.specs.Shapes.{Original, Copy, IsOriginal, Fits}
-use Rattle.b67_stack.specs.Stacks.{Activation, IsStack, high, words}
-use Rattle.b67_stack.specs.Picture.{Thing, Slot, Picture, stack_of, RunsOn, Settled, slot_base, CopiesName}
-use Rattle.b67_stack.specs.Stands.{Storage, RunningStands, Stands}
+use Rattle.b67_stack.specs.Stacks.{Activation, IsStack, stack_words, words}
+use Rattle.b67_stack.specs.MachineView.{PagedObject, Slot, MachineView, stack_of, RunsOn, NoOriginalAboveTop, slot_base, CopiesName}
+use Rattle.b67_stack.specs.Represents.{Storage, RepresentsRunning, Represents}
 use Rattle.b67_stack.specs.Changes.{with_stack, with_cells, top_cells}
 use Rattle.b67_stack.proofs.Lies.{Lie-push}
 use Rattle.b67_stack.proofs.Heights.{words-length}
-use Rattle.b67_stack.proofs.Slots.{Stands-slot, running_slot, running_fits, running_lies}
+use Rattle.b67_stack.proofs.Slots.{Represents-slot, running_slot, running_fits, running_lies}
 use Rattle.b67_stack.proofs.Pushes.{Room, room_of}
 use Rattle.b67_layout.proofs.Settles.{Settled-more}
 
-module _ (x : Storage) (core : List Tagged) (r : Regs) (p : Picture) (k : ℕ) (s : Stands x core r p) (settled : Settled p) (w : Tagged) (original : IsOriginal w) (higher : r.s < r.losr) where
-  -- no thing is known by the next address
-  pub next_apart : (stack : List Activation) → RunsOn p k stack → (t : Thing) → Has p.things t → t.home ≢ r.s + 1
+module _ (x : Storage) (core : List Tagged) (r : Regs) (p : MachineView) (k : ℕ) (s : Represents x core r p) (settled : NoOriginalAboveTop p) (w : Tagged) (original : IsOriginal w) (higher : r.s < r.losr) where
+  -- no object is known by the next address
+  pub next_apart : (stack : List Activation) → RunsOn p k stack → (t : PagedObject) → Has p.objects t → t.home ≢ r.s + 1
   next_apart stack u t int e =
       let g = running_slot x core r p k stack s u in
       let f = running_fits x core r p k stack s u in
       let top = settled t int k u.used (omega (arith, e, g.top)) (omega (arith, e, g.last, higher)) in
-      let same : high (stack_of (p.slots k)) ≡ high stack = ap (λ (y : Slot). high (stack_of y)) u.is in
+      let same : stack_words (stack_of (p.slots k)) ≡ stack_words stack = ap (λ (y : Slot). stack_words (stack_of y)) u.is in
       omega (arith, e, top, same, g.top)
 
   original_on : (a : Activation) (below : List Activation) → RunsOn p k (a ∷ below)
-      → Stands x (slice_set core (r.s + 1) w) (record r { s = r.s + 1 }) (with_stack p k (record a { cells = Original (r.s + 1) ∷ a.cells } ∷ below))
-  original_on a below u = Stands-slot x core (slice_set core (r.s + 1) w) r (record r { s = r.s + 1 }) p k (a ∷ below) (record a { cells = Original (r.s + 1) ∷ a.cells } ∷ below) u
+      → Represents x (slice_set core (r.s + 1) w) (record r { s = r.s + 1 }) (with_stack p k (record a { cells = Original (r.s + 1) ∷ a.cells } ∷ below))
+  original_on a below u = Represents-slot x core (slice_set core (r.s + 1) w) r (record r { s = r.s + 1 }) p k (a ∷ below) (record a { cells = Original (r.s + 1) ∷ a.cells } ∷ below) u
       (record {
         size = length-set core (r.s + 1) w;
         outside = λ i o. slice_get-set_other core (r.s + 1) i w (λ z. ⊎_elim (λ (g : i < slot_base p k). omega (arith, g, z, g0.first, g0.top)) (λ (g : slot_base p k + p.size ≤ i). omega (arith, g, z, g0.last, higher, f.0.fits, g0.top)) o);
@@ -39,18 +39,18 @@ module _ (x : Storage) (core : List Tagged) (r : Regs) (p : Picture) (k : ℕ) (
         lies = Lie-push (Fits x.held) core (suc (slot_base p k)) (r.s + 1) (Original (r.s + 1)) w (words k (a ∷ below)) (omega (arith, g0.top, words-length k (a ∷ below))) (omega (arith, g1.last, g1.under, g1.inside, higher)) (refl, original) (running_lies x core r p k (a ∷ below) s u);
         homes = λ t int low up. slice_get-set_other core (r.s + 1) t.home w (next_apart (a ∷ below) u t int);
       }) s where
-        g0 : RunningStands r p k (a ∷ below)
+        g0 : RepresentsRunning r p k (a ∷ below)
         g0 = running_slot x core r p k (a ∷ below) s u
 
         g1 : Room x core r p k (a ∷ below)
         g1 = room_of x core r p k (a ∷ below) s u
 
-        f : IsStack p.size (a ∷ below) × CopiesName p.things (words k (a ∷ below))
+        f : IsStack p.size (a ∷ below) × CopiesName p.objects (words k (a ∷ below))
         f = running_fits x core r p k (a ∷ below) s u
 
   -- the original on top, and no original above a top
-  pub Stands-original : (stack : List Activation) → RunsOn p k stack
+  pub Represents-original : (stack : List Activation) → RunsOn p k stack
       → let after = with_cells stack (Original (r.s + 1) ∷ top_cells stack) in
-      Stands x (slice_set core (r.s + 1) w) (record r { s = r.s + 1 }) (with_stack p k after) × Settled (with_stack p k after) × (high after ≡ high stack + 1)
-  Stands-original [] u = absurd ((running_fits x core r p k [] s u).0.some refl)
-  Stands-original (a ∷ below) u = (original_on a below u, Settled-more p k (a ∷ below) (record a { cells = Original (r.s + 1) ∷ a.cells } ∷ below) u (omega arith) settled, omega arith)
+      Represents x (slice_set core (r.s + 1) w) (record r { s = r.s + 1 }) (with_stack p k after) × NoOriginalAboveTop (with_stack p k after) × (stack_words after ≡ stack_words stack + 1)
+  Represents-original [] u = absurd ((running_fits x core r p k [] s u).0.some refl)
+  Represents-original (a ∷ below) u = (original_on a below u, Settled-more p k (a ∷ below) (record a { cells = Original (r.s + 1) ∷ a.cells } ∷ below) u (omega arith) settled, omega arith)

@@ -6,10 +6,10 @@ use Rattle.b67_word.specs.Tagged.{Tagged, word}
 use Rattle.b67_word.specs.declared.couples.Place.{Place}
 use Rattle.b67_word.specs.declared.faults.Fault.TheVariants.{InvalidOperand, CriticalBlock}
 use Rattle.b67_model.specs.Words.{Word, Operand}
-use Rattle.b67_model.specs.State.{Task, Member, height, top, below_top, with_top_cells}
+use Rattle.b67_model.specs.State.{Task, SessionJob, height, top, below_top, with_top_cells}
 use Rattle.b67_model.specs.Steps.{is_critical}
 use Rattle.b67_model.specs.Intrinsics.{is_original, read_from, read}
-use Rattle.b67_layout.specs.Plan.{Plan}
+use Rattle.b67_layout.specs.Placement.{Placement}
 use Rattle.b67_layout.specs.Rows.{JobShows}
 use Rattle.b67_layout.specs.Meets.{here}
 use Rattle.b67_task_tables.specs.declared.tables.JobRow.{JobRow}
@@ -19,7 +19,7 @@ use Rattle.b67_mcp_calls.specs.Calls.{IsCall}
 use Rattle.b67_mcp_calls.proofs.Answering.{no_higher}
 use Rattle.b67_mcp_calls.specs.Reads.{left_in, ReadMeets}
 
-module _ (plan : Plan) (m : Member) (t : Task) (r : Word) (arguments : List Word) (call : IsCall t r arguments) (old : JobRow) where
+module _ (plan : Placement) (m : SessionJob) (t : Task) (r : Word) (arguments : List Word) (call : IsCall t r arguments) (old : JobRow) where
   count : length (cells t) ≡ suc (length arguments)
   count = sym (length-reverse (cells t)) ∙ ap length call.cells
 
@@ -45,19 +45,19 @@ module _ (plan : Plan) (m : Member) (t : Task) (r : Word) (arguments : List Word
       by (c ∷ []) n e = let same : c ≡ r = cc in (ap is_original same ∙ call.plain, tt)
       by (c ∷ d ∷ more) n e = absurd (omega (arith, n))
 
-    pub critical : is_critical m.course.job (top t.frames).identity ≡ true → ReadMeets plan m t arguments old old (Err CriticalBlock)
+    pub critical : is_critical m.progress.job (top t.frames).identity ≡ true → ReadMeets plan m t arguments old old (Err CriticalBlock)
     critical c = (λ next. ap (read (here m t next)) no_argument ∙ rw c refl, refl)
 
     -- the number was taken
-    pub taken : (new : JobRow) (w : Tagged) → is_critical m.course.job (top t.frames).identity ≡ false → height t.frames ≤ m.setting.stack_size → JobShows plan m (job_row old)
+    pub taken : (new : JobRow) (w : Tagged) → is_critical m.progress.job (top t.frames).identity ≡ false → height t.frames ≤ m.constants.stack_size → JobShows plan m (job_row old)
         → w ≡ word 0 (read_from (left_in old)).0 → left_in new ≡ (read_from (left_in old)).1 → new ≡ record old { next_number = new.next_number } → ReadMeets plan m t arguments old new (Ok w)
     taken new w free fits shows is left same = record {
       is = is ∙ ap (λ (ns : List ℤ). word 0 (read_from ns).0) shows.numbers;
       may = record { marked = call.marked; plain = plain; free = free };
-      makes = λ next. (let v : Word = Operand (read_from m.course.job.numbers).0 in
+      makes = λ next. (let v : Word = Operand (read_from m.progress.job.numbers).0 in
           let high : ℕ = height (with_top_cells (below_top t.frames) (v ∷ (top (below_top t.frames)).cells)) in
-          let low : high ≤ m.setting.stack_size = omega (arith, no_higher t.frames v (omega (arith, one)), fits) in
-          ap (read (here m t next)) no_argument ∙ rw free (rw (le-leb high m.setting.stack_size low) refl));
+          let low : high ≤ m.constants.stack_size = omega (arith, no_higher t.frames v (omega (arith, one)), fits) in
+          ap (read (here m t next)) no_argument ∙ rw free (rw (le-leb high m.constants.stack_size low) refl));
       same = same;
       shows = λ next. record {
         dictionary = ap (λ (j : JobRow). j.dict) same ∙ shows.dictionary;

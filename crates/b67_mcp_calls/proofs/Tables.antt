@@ -1,16 +1,16 @@
 -- The tables of tasks and jobs don't show where an array's original stands.
 use Rattle.std.proofs.Common.{◌≡◌, ℕ, List, [], ◌∷◌, Option, Some, None, refl, sym, ◌∙◌, ap}
 use Rattle.std.specs.List.{slice_get}
-use Rattle.b67_model.specs.State.{Condition, Ready, Awaits, WaitsAt, Task, Job, Member}
+use Rattle.b67_model.specs.State.{Condition, Ready, Awaits, WaitsAt, Task, Job, SessionJob}
 use Rattle.b67_model.specs.Schedule.{Session}
-use Rattle.b67_stack.specs.Stacks.{Spot}
-use Rattle.b67_layout.specs.Plan.{Plan, slot_of, spot_in, outer_spots, address_of}
+use Rattle.b67_stack.specs.Stacks.{StackPlace}
+use Rattle.b67_layout.specs.Placement.{Placement, slot_of, spot_in, outer_spots, address_of}
 use Rattle.b67_layout.specs.Rows.{WaitsAtCell, TaskRow, JobRow, Counts, shown, parent_slot, critical_disp, TaskShows, JobShows, JobsShow, RunningRow, TablesShow}
 use Rattle.b67_mcp_calls.specs.Declaring.{with_home}
 use Rattle.b67_mcp_calls.proofs.Replanned.{outer_spots-there}
 
-module _ (plan : Plan) (j n at : ℕ) where
-  abbrev there : Plan
+module _ (plan : Placement) (j n at : ℕ) where
+  abbrev there : Placement
   there = with_home plan j n at
 
   parent-there : (i : ℕ) (parents : List ℕ) → parent_slot plan i parents ≡ parent_slot there i parents
@@ -26,24 +26,24 @@ module _ (plan : Plan) (j n at : ℕ) where
   shown-there i job t (Awaits k) = refl
   shown-there i job t (WaitsAt frame offset) =
       let outer : outer_spots plan i job t.critical t.parents ≡ outer_spots there i job t.critical t.parents = λ z x. sym (outer_spots-there plan j n at i job t.parents t.critical x) z in
-      ap (λ (o : ℕ → Spot). WaitsAtCell (address_of plan (spot_in (slot_of plan i t.number) o t.frames frame)) offset) outer
+      ap (λ (o : ℕ → StackPlace). WaitsAtCell (address_of plan (spot_in (slot_of plan i t.number) o t.frames frame)) offset) outer
 
-  task-there : (m : Member) (t : Task) (row : TaskRow) → TaskShows plan m t row → TaskShows there m t row
+  task-there : (m : SessionJob) (t : Task) (row : TaskRow) → TaskShows plan m t row → TaskShows there m t row
   task-there m t row h = record {
     job = h.job;
     number = h.number;
     slot = h.slot;
-    parent = h.parent ∙ parent-there m.setting.number t.parents;
-    critical = h.critical ∙ critical-there m.setting.number m.course.job t.critical t.parents;
-    state = h.state ∙ shown-there m.setting.number m.course.job t t.condition;
+    parent = h.parent ∙ parent-there m.constants.number t.parents;
+    critical = h.critical ∙ critical-there m.constants.number m.progress.job t.critical t.parents;
+    state = h.state ∙ shown-there m.constants.number m.progress.job t t.condition;
     segment = h.segment;
     place = h.place;
   }
 
-  pub job-there : (m : Member) (row : JobRow) → JobShows plan m row → JobShows (with_home plan j n at) m row
+  pub job-there : (m : SessionJob) (row : JobRow) → JobShows plan m row → JobShows (with_home plan j n at) m row
   job-there m row h = record { dictionary = h.dictionary; segments = h.segments; rows = h.rows; limit = h.limit; made = h.made; next_task = h.next_task; numbers = h.numbers }
 
-  jobs-there : (jobs : List Member) (rows : List JobRow) → JobsShow plan jobs rows → JobsShow there jobs rows
+  jobs-there : (jobs : List SessionJob) (rows : List JobRow) → JobsShow plan jobs rows → JobsShow there jobs rows
   jobs-there [] [] h = h
   jobs-there (m ∷ ms) (row ∷ rows) h = (job-there m row h.0, jobs-there ms rows h.1)
   jobs-there [] (row ∷ rows) h = absurd h

@@ -1,4 +1,4 @@
--- What is held at an address where no thing is known is no matter of a picture.
+-- What is held at an address where no object is known is no matter of a view.
 use Rattle.std.proofs.Common.{◌≡◌, ◌≢◌, ℕ, suc, ◌<◌, List, length, Some, None, refl, sym, ◌∙◌, ap, inl, inr, subst}
 use Rattle.std.specs.List.{slice_get}
 use Rattle.std.proofs.lemmas.Bool.{cases_eq}
@@ -6,21 +6,21 @@ use Rattle.b67_word.specs.Tagged.{Tagged}
 use Rattle.b67_area.specs.declared.Info.{Info}
 use Rattle.b67_ctl.specs.declared.registers.Regs.{Regs}
 use Rattle.b67_lemmas.specs.Lists.{Has}
-use Rattle.b67_stack.specs.Shapes.{Held, Fits}
+use Rattle.b67_stack.specs.Shapes.{Location, Fits, nowhere}
 use Rattle.b67_stack.specs.Stacks.{words}
-use Rattle.b67_stack.specs.Picture.{Thing, Picture, home_word, slot_base, stack_of}
-use Rattle.b67_stack.specs.Stands.{Storage, Content, StacksLie, ThingStands, Owned, Stands, info_of}
+use Rattle.b67_stack.specs.MachineView.{PagedObject, MachineView, home_word, slot_base, stack_of}
+use Rattle.b67_stack.specs.Represents.{Storage, Content, StacksLie, RepresentsObject, Owned, Represents, info_of}
 use Rattle.b67_stack.proofs.Lies.{Lie-each}
 use Rattle.b67_layout_storage.proofs.Helds.{held-other, held-same}
 use Rattle.b67_layout_storage.proofs.Words.{copy_other}
 use Rattle.b67_layout_storage.proofs.Reheld.{Content-stays}
-use Rattle.b67_mcp_calls.specs.Declaring.{nowhere, without}
+use Rattle.b67_mcp_calls.specs.Declaring.{without}
 
-module _ (x : Storage) (core : List Tagged) (r : Regs) (p : Picture) (at : ℕ) (s : Stands x core r p) (apart : (t : Thing) → Has p.things t → t.home ≢ at) where
+module _ (x : Storage) (core : List Tagged) (r : Regs) (p : MachineView) (at : ℕ) (s : Represents x core r p) (apart : (t : PagedObject) → Has p.objects t → t.home ≢ at) where
   abbrev y : Storage
   y = without x at
 
-  other : (t : Thing) → Has p.things t → y.held t.home ≡ x.held t.home
+  other : (t : PagedObject) → Has p.objects t → y.held t.home ≡ x.held t.home
   other t i = held-other x.held at nowhere t.home (apart t i)
 
   no_area : (a : ℕ) → (x.held at).area ≡ Some a → ⊥
@@ -30,30 +30,30 @@ module _ (x : Storage) (core : List Tagged) (r : Regs) (p : Picture) (at : ℕ) 
   stacks k h = Lie-each (Fits x.held) (Fits y.held) core core (suc (slot_base p k)) (words k (stack_of (p.slots k)))
       (λ c i v there low high get fit. (v, get, copy_other x.held at nowhere c i v no_area fit)) (s.stacks k h)
 
-  thing : (t : Thing) → Has p.things t → ThingStands y core t
-  thing t i =
-      let was = s.things t i in
+  object : (t : PagedObject) → Has p.objects t → RepresentsObject y core t
+  object t i =
+      let was = s.objects t i in
       let it = Content-stays x y t (x.held t.home).chain (record { chain = refl; told = λ ns h. h }) core core (x.held t.home).area (λ b e q low high. refl) was.content in
-      let P : Held → Type 0 = λ g. (slice_get core t.home ≡ Some (home_word t g)) × Content y core t g.area g.chain in
+      let P : Location → Type 0 = λ g. (slice_get core t.home ≡ Some (home_word t g)) × Content y core t g.area g.chain in
       let both = subst P (sym (other t i)) (was.home, it) in
       record { home = both.0; content = both.1 }
 
-  info : (t : Thing) → Has p.things t → info_of x t ≡ info_of y t
-  info t i = ap (λ (k : ℕ). let b : Info = record { kind = t.kind; words = length t.numbers; owner = t.home; kept = k } in b) (ap (λ (g : Held). g.chain) (sym (other t i)))
+  info : (t : PagedObject) → Has p.objects t → info_of x t ≡ info_of y t
+  info t i = ap (λ (k : ℕ). let b : Info = record { kind = t.kind; words = length t.numbers; owner = t.home; kept = k } in b) (ap (λ (g : Location). g.chain) (sym (other t i)))
 
-  area_of : (t : Thing) → Has p.things t → (y.held t.home).area ≡ (x.held t.home).area
-  area_of t i = ap (λ (g : Held). g.area) (other t i)
+  area_of : (t : PagedObject) → Has p.objects t → (y.held t.home).area ≡ (x.held t.home).area
+  area_of t i = ap (λ (g : Location). g.area) (other t i)
 
-  chain_in : (t : Thing) → Has p.things t → (y.held t.home).chain ≡ (x.held t.home).chain
-  chain_in t i = ap (λ (g : Held). g.chain) (other t i)
+  chain_in : (t : PagedObject) → Has p.objects t → (y.held t.home).chain ≡ (x.held t.home).chain
+  chain_in t i = ap (λ (g : Location). g.chain) (other t i)
 
-  owned : Owned y p.things
+  owned : Owned y p.objects
   owned = record {
     of_area = λ a b e. let (t, i, h, q) = s.owned.of_area a b e in (t, i, area_of t i ∙ h, q ∙ info t i);
     of_held = λ home a e. elim (cases_eq home at) [
-      | inl z ↦ absurd (let n : None ≡ Some a = sym (ap (λ (g : Held). g.area) (ap y.held z ∙ held-same x.held at nowhere)) ∙ e in let b : ⊥ = cc in b)
+      | inl z ↦ absurd (let n : None ≡ Some a = sym (ap (λ (g : Location). g.area) (ap y.held z ∙ held-same x.held at nowhere)) ∙ e in let b : ⊥ = cc in b)
       | inr z ↦
-          let (t, i, h, q) = s.owned.of_held home a (sym (ap (λ (g : Held). g.area) (held-other x.held at nowhere home z)) ∙ e) in
+          let (t, i, h, q) = s.owned.of_held home a (sym (ap (λ (g : Location). g.area) (held-other x.held at nowhere home z)) ∙ e) in
           (t, i, h, q ∙ ap Some (info t i))
     ];
     of_chain = λ first e. let (t, i, h) = s.owned.of_chain first e in (t, i, chain_in t i ∙ h);
@@ -61,11 +61,11 @@ module _ (x : Storage) (core : List Tagged) (r : Regs) (p : Picture) (at : ℕ) 
     one_chain = λ t u i j some e. s.owned.one_chain t u i j (subst (λ (n : ℕ). 0 < n) (chain_in t i) some) (sym (chain_in t i) ∙ e ∙ chain_in u j);
   }
 
-  pub Stands-unheld : Stands (without x at) core r p
-  Stands-unheld = record {
+  pub Represents-unheld : Represents (without x at) core r p
+  Represents-unheld = record {
     slots = record { laid = s.slots.laid; regs = s.slots.regs; slots = s.slots.slots };
     stacks = stacks;
-    things = thing;
+    objects = object;
     owned = owned;
     directory = s.directory;
     inside = s.inside;

@@ -1,34 +1,33 @@
 -- The words of a live array in core, and their values.
-use Rattle.std.proofs.Common.{◌≡◌, ℕ, zero, suc, ◌+◌, ◌-◌, ℤ, List, [], ◌∷◌, map, length, take, drop, Option, Some, None, Ok, Err, refl, sym, ◌∙◌, ap, arith, Bool, true, false, subst}
+use Rattle.std.proofs.Common.{◌≡◌, ℕ, ◌+◌, ℤ, List, [], ◌∷◌, map, length, Option, Some, None, Ok, Err, refl, sym, ◌∙◌, ap, Bool, true, false, subst}
 use Rattle.std.specs.Prelude.{if◌then◌else◌}
-use Rattle.std.specs.List.{slice_get, slice_range}
-use Rattle.std.proofs.lemmas.Option.{same_Some, none-some}
+use Rattle.std.specs.List.{slice_range}
 use Rattle.std.proofs.lemmas.List.{length-map}
-use Rattle.b67_word.specs.Tagged.{Tagged, word}
+use Rattle.b67_word.specs.Tagged.{word}
 use Rattle.b67_word.specs.Operands.{is_whole, number_of}
 use Rattle.b67_word.specs.declared.faults.Fault.TheVariants.{Exponent}
 use Rattle.b67_area.specs.declared.Kind.TheVariants as kind
 use Rattle.b67_model.specs.Answers.{Answer, ◌>>=◌}
 use Rattle.b67_model.specs.Words.{number}
 use Rattle.b67_model.specs.Arrays.{array}
-use Rattle.b67_model.specs.State.{Array, Task, Member}
+use Rattle.b67_model.specs.State.{Array, Task, SessionJob}
 use Rattle.b67_model.specs.Intrinsics.{numbers_of}
 use Rattle.b67_model.specs.Run.{number_of as number_of_member}
 use Rattle.b67_model.specs.Schedule.{Session}
 use Rattle.b67_model.specs.InOrder.{IsInOrderButPlaces}
 use Rattle.b67_stack.specs.declared.Cpu.{Cpu}
-use Rattle.b67_stack.specs.Shapes.{Upward}
-use Rattle.b67_stack.specs.Picture.{tag_of}
-use Rattle.b67_stack.specs.Stands.{Storage, Content}
-use Rattle.b67_layout.specs.Plan.{Plan}
-use Rattle.b67_layout.specs.Layout.{array_thing}
-use Rattle.b67_layout.specs.Session.{IsRunning, SessionStands}
+use Rattle.b67_stack.specs.Shapes.{LieUpward}
+use Rattle.b67_stack.specs.Represents.{Storage, Content}
+use Rattle.b67_stack.proofs.Lies.{upward-range}
+use Rattle.b67_layout.specs.Placement.{Placement}
+use Rattle.b67_layout.specs.Layout.{array_object}
+use Rattle.b67_layout.specs.Session.{IsRunning, RepresentsSession}
 use Rattle.b67_layout.specs.Meets.{area_held}
-use Rattle.b67_layout.proofs.Others.{keyed-has}
-use Rattle.b67_exec_cells.proofs.Replaced.{array_thing-has}
+use Rattle.b67_exec_cells.proofs.Replaced.{array_object-has}
 use Rattle.b67_exec_cells.specs.Elements.{HasElement}
-use Rattle.b67_exec_cells.proofs.Arrays.{array_is}
+use Rattle.b67_exec_cells.proofs.Arrays.{array_is, tag_by}
 use Rattle.b67_mcp_calls.specs.Texts.{joined, values_of}
+use Rattle.b67_lemmas.proofs.Members.{keyed-has}
 
 -- the values of a row's numbers, or EXPONENT
 abbrev pub answer_of : Option (List ℤ) → Answer (List ℤ)
@@ -47,37 +46,16 @@ numbers_are (n ∷ ns) =
     ap (λ (a : Answer (List ℤ)). number n >>= λ v. a >>= λ vs. Ok (v ∷ vs)) (numbers_are ns)
     ∙ joins (is_whole n) (Rattle.b67_word.specs.Operands.value_of n) (values_of (map (word 0) ns))
 
-drop-get : {A : Type 0} (xs : List A) (i : ℕ) (v : A) → slice_get xs i ≡ Some v → drop i xs ≡ v ∷ drop (suc i) xs
-drop-get [] i v e = absurd (none-some v e)
-drop-get (x ∷ xs) zero v e = ap (λ y. y ∷ xs) (same_Some x v e)
-drop-get (x ∷ xs) (suc i) v e = drop-get xs i v e
-
-upward-take : (core : List Tagged) (at : ℕ) (ws : List Tagged) → Upward core at ws → take (length ws) (drop at core) ≡ ws
-upward-take core at [] u = refl
-upward-take core at (w ∷ ws) u =
-    let next : at + 1 ≡ suc at = omega arith in
-    let rest : take (length ws) (drop (suc at) core) ≡ ws = subst (λ n. take (length ws) (drop n core) ≡ ws) next (upward-take core (at + 1) ws u.1) in
-    rw (drop-get core at w u.0) (ap (λ ys. w ∷ ys) rest)
-
-upward-range : (core : List Tagged) (at n : ℕ) (ws : List Tagged) → n ≡ length ws → Upward core at ws → slice_range core at (at + n) ≡ ws
-upward-range core at n ws e u =
-    let count : at + n - at ≡ length ws = omega (arith, e) in
-    ap (λ k. take k (drop at core)) count ∙ upward-take core at ws u
-
-tag_by : (a : Array) (b : Bool) → a.writable ≡ b → tag_of (if a.writable then kind.Array else kind.Row) ≡ 0
-tag_by a true e = rw e refl
-tag_by a false e = rw e refl
-
-module _ (x : Storage) (cpu : Cpu) (plan : Plan) (s : Session) (m : Member) (t : Task) (ordered : IsInOrderButPlaces s) (h : SessionStands x cpu plan s) (runs : IsRunning plan s.jobs m t) (n : ℕ) (e : HasElement m.course.job n 0) where
-  pub row_words : (at : ℕ) → area_held x plan m.setting.number n ≡ Some at → slice_range cpu.core at (at + length (array m.course.job n).numbers) ≡ map (word 0) (array m.course.job n).numbers
+module _ (x : Storage) (cpu : Cpu) (plan : Placement) (s : Session) (m : SessionJob) (t : Task) (ordered : IsInOrderButPlaces s) (h : RepresentsSession x cpu plan s) (runs : IsRunning plan s.jobs m t) (n : ℕ) (e : HasElement m.progress.job n 0) where
+  pub row_words : (at : ℕ) → area_held x plan m.constants.number n ≡ Some at → slice_range cpu.core at (at + length (array m.progress.job n).numbers) ≡ map (word 0) (array m.progress.job n).numbers
   row_words at held =
-      let thing = array_thing plan m.setting.number e.item in
-      let there = array_thing-has plan s.jobs m e.item (keyed-has number_of_member m.setting.number s.jobs m runs.member) e.live in
-      let stands = h.holds.memory.things thing there in
-      let C : Option ℕ → Type 0 = λ o. Content x cpu.core thing o (x.held thing.home).chain in
-      let area : (x.held thing.home).area ≡ Some at = ap (λ (i : ℕ). (x.held (plan.home m.setting.number i)).area) e.named ∙ held in
+      let object = array_object plan m.constants.number e.item in
+      let there = array_object-has plan s.jobs m e.item (keyed-has number_of_member m.constants.number s.jobs m runs.member) e.live in
+      let stands = h.holds.memory.objects object there in
+      let C : Option ℕ → Type 0 = λ o. Content x cpu.core object o (x.held object.home).chain in
+      let area : (x.held object.home).area ≡ Some at = ap (λ (i : ℕ). (x.held (plan.home m.constants.number i)).area) e.named ∙ held in
       let up = (subst C area stands.content).0 in
-      let U : ℕ → Type 0 = λ g. Upward cpu.core at (map (word g) e.item.numbers) in
+      let U : ℕ → Type 0 = λ g. LieUpward cpu.core at (map (word g) e.item.numbers) in
       let up0 = subst U (tag_by e.item e.item.writable refl) up in
       let one : slice_range cpu.core at (at + length e.item.numbers) ≡ map (word 0) e.item.numbers = upward-range cpu.core at (length e.item.numbers) (map (word 0) e.item.numbers) (sym (length-map e.item.numbers (word 0))) up0 in
       let P : Array → Type 0 = λ a. slice_range cpu.core at (at + length a.numbers) ≡ map (word 0) a.numbers in

@@ -5,33 +5,29 @@ use Rattle.b67_word.specs.declared.faults.Fault.{Fault}
 use Rattle.b67_word.specs.declared.couples.Place.{Place}
 use Rattle.b67_model.specs.Answers.{Answer, ◌>>=◌}
 use Rattle.b67_model.specs.Words.{Word, Original}
-use Rattle.b67_model.specs.State.{Array, Task, Job, Member, top, below_top, with_task}
+use Rattle.b67_model.specs.State.{Array, Task, Job, SessionJob, top, below_top, with_task}
 use Rattle.b67_model.specs.Steps.{Goes}
 use Rattle.b67_model.specs.Intrinsics.{answered, array_length, arraydec}
-use Rattle.b67_stack.specs.Shapes.{Held}
-use Rattle.b67_stack.specs.Stands.{Storage}
+use Rattle.b67_stack.specs.Shapes.{nowhere}
+use Rattle.b67_stack.specs.Represents.{Storage}
 use Rattle.b67_layout_storage.specs.Machine.{holding}
-use Rattle.b67_layout.specs.Plan.{Plan}
+use Rattle.b67_layout.specs.Placement.{Placement}
 use Rattle.b67_layout.specs.Meets.{here}
 use Rattle.b67_mcp_calls.specs.Calls.{MayCut, number_in}
 
 -- an array of zeros, which ends with the frame below the call
-abbrev pub new_array : Member → Task → ℕ → Array
-new_array m t n = record { identity = m.course.job.next_array; owner = (top (below_top t.frames)).identity; writable = true; numbers = replicate n 0 }
+abbrev pub new_array : SessionJob → Task → ℕ → Array
+new_array m t n = record { identity = m.progress.job.next_array; owner = (top (below_top t.frames)).identity; writable = true; numbers = replicate n 0 }
 
 -- the job without the call, with the array, whose task goes on at a place with the array's original on the frame below
-abbrev pub job_declared : Member → Task → ℕ → Place → Job
+abbrev pub job_declared : SessionJob → Task → ℕ → Place → Job
 job_declared m t n next =
-    with_task (record m.course.job { arrays = new_array m t n ∷ m.course.job.arrays; next_array = m.course.job.next_array + 1 })
-    (answered (here m t next) (Original m.course.job.next_array ∷ []))
+    with_task (record m.progress.job { arrays = new_array m t n ∷ m.progress.job.arrays; next_array = m.progress.job.next_array + 1 })
+    (answered (here m t next) (Original m.progress.job.next_array ∷ []))
 
 -- the plan in which the original of an array of a job stands at an address
-abbrev pub with_home : Plan → ℕ → ℕ → ℕ → Plan
+abbrev pub with_home : Placement → ℕ → ℕ → ℕ → Placement
 with_home plan j a at = record plan { home = λ i b. if (i == j) && (b == a) then at else plan.home i b }
-
--- in no area and in no chain
-abbrev pub nowhere : Held
-nowhere = record { area = None; chain = 0 }
 
 -- the storage that holds nothing of what is known by an address
 abbrev pub without : Storage → ℕ → Storage
@@ -42,7 +38,7 @@ abbrev pub length_in : Tagged → Answer ℕ
 length_in w = number_in w >>= array_length
 
 -- ARRAYDEC is to make an array of the length that was found, or faults as its row does
-abbrev pub LengthMeets : Member → Task → List Word → Result ℕ Fault → Type 0
+abbrev pub LengthMeets : SessionJob → Task → List Word → Result ℕ Fault → Type 0
 LengthMeets m t arguments (Ok n) =
     (0 < n) × (n < 2 ^ 16) × MayCut m t × ((next : Place) → arraydec (here m t next) arguments ≡ Ok (Goes (job_declared m t n next) [] None))
 LengthMeets m t arguments (Err fault) = (next : Place) → arraydec (here m t next) arguments ≡ Err fault

@@ -5,11 +5,11 @@ use Rattle.b67_word.specs.Tagged.{Tagged, word}
 use Rattle.b67_word.specs.declared.couples.Place.{Place}
 use Rattle.b67_word.specs.declared.faults.Fault.{Fault}
 use Rattle.b67_model.specs.Words.{Word, Operand}
-use Rattle.b67_model.specs.State.{Task, Job, Member}
+use Rattle.b67_model.specs.State.{Task, Job, SessionJob}
 use Rattle.b67_model.specs.Steps.{Goes}
 use Rattle.b67_model.specs.Intrinsics.{read_from, read}
 use Rattle.b67_stack.specs.declared.Cpu.{Cpu}
-use Rattle.b67_layout.specs.Plan.{Plan}
+use Rattle.b67_layout.specs.Placement.{Placement}
 use Rattle.b67_layout.specs.Rows.{JobShows}
 use Rattle.b67_layout.specs.Meets.{here}
 use Rattle.b67_task_tables.specs.declared.tables.JobRow.{JobRow}
@@ -31,18 +31,18 @@ pub record ReadSome (cpu : Cpu) (row : JobRow) : Type 0 where
   pub shows : JobShows some.runs.plan some.runs.member (job_row row)
 
 -- the job where its task has read the next number
-abbrev pub job_read : Member → Task → Place → Job
-job_read m t next = let taken = read_from m.course.job.numbers in job_answered m t (Operand taken.0) next taken.1
+abbrev pub job_read : SessionJob → Task → Place → Job
+job_read m t next = let taken = read_from m.progress.job.numbers in job_answered m t (Operand taken.0) next taken.1
 
 -- the number was taken: the call may be cut off and answers it, and the row shows the job that READ makes
-pub record IsRead (plan : Plan) (m : Member) (t : Task) (arguments : List Word) (old new : JobRow) (w : Tagged) : Type 0 where
-  pub is : w ≡ word 0 (read_from m.course.job.numbers).0
+pub record IsRead (plan : Placement) (m : SessionJob) (t : Task) (arguments : List Word) (old new : JobRow) (w : Tagged) : Type 0 where
+  pub is : w ≡ word 0 (read_from m.progress.job.numbers).0
   pub may : MayCut m t
   pub makes : (next : Place) → read (here m t next) arguments ≡ Ok (Goes (job_read m t next) [] None)
   pub same : new ≡ record old { next_number = new.next_number }
-  pub shows : (next : Place) → JobShows plan (record m { course = record m.course { job = job_read m t next } }) (job_row new)
+  pub shows : (next : Place) → JobShows plan (record m { progress = record m.progress { job = job_read m t next } }) (job_row new)
 
 -- READ takes the next number, or faults as its row does and takes none
-abbrev pub ReadMeets : Plan → Member → Task → List Word → JobRow → JobRow → Result Tagged Fault → Type 0
+abbrev pub ReadMeets : Placement → SessionJob → Task → List Word → JobRow → JobRow → Result Tagged Fault → Type 0
 ReadMeets plan m t arguments old new (Ok w) = IsRead plan m t arguments old new w
 ReadMeets plan m t arguments old new (Err fault) = ((next : Place) → read (here m t next) arguments ≡ Err fault) × (new ≡ old)

@@ -4,8 +4,7 @@ ghost use Rattle.std.specs.Prelude.{◌≡◌, ℕ, ℤ, ◌+◌, ◌<◌, List,
 ghost use Rattle.b67_word.specs.Tagged.{word};
 ghost use Rattle.b67_ctl.specs.Layout.{IsPlace};
 ghost use Rattle.b67_model.specs.Words as words;
-ghost use Rattle.b67_stack.specs.Changes.{pushed};
-ghost use Rattle.b67_layout.specs.Session.{SessionStands};
+ghost use Rattle.b67_layout.specs.Session.{RepresentsSession};
 ghost use Rattle.b67_layout.specs.Meets.{ForEach, with_job, IsInStack};
 ghost use Rattle.b67_mcp_calls.specs.Calls.{CutSome, MayCut};
 ghost use Rattle.b67_mcp_calls.specs.Answered.{job_answered};
@@ -14,17 +13,6 @@ use crate::calls::cut_call;
 use b67_stack::Cpu;
 use b67_word::{Place, Word};
 
-/// Puts a word on the running stack.
-pub fn put(cpu: &mut Cpu, w: Word)
-    requires { cpu.old.regs.s + 1 < length cpu.old.core }
-    ensures { cpu.new ≡ pushed cpu.old w }
-{
-    let _size = cpu.core.size();
-    let top = cpu.regs.s + 1;
-    cpu.core.set(top, w);
-    cpu.regs.s = top;
-}
-
 /// Cuts the call of an intrinsic off the running stack, and puts the operand that it answers on the activation record
 /// below. The task goes on at a place of its segment. There is room, since the call's mark stood where the
 /// operand does. The numbers that are left to read are no matter of core.
@@ -32,10 +20,10 @@ pub fn answer_call(cpu: &mut Cpu, w: Word, next: Place)
     requires call { CutSome cpu.old }
     requires place { IsPlace next }
     ensures stands { ForEach cpu.old (λ x plan s m t. (bits : ℕ) (numbers : List ℤ) → MayCut m t → w ≡ word 0 bits
-        → SessionStands x cpu.new plan (with_job s m (job_answered m t (words.Operand bits) next numbers))) }
+        → RepresentsSession x cpu.new plan (with_job s m (job_answered m t (words.Operand bits) next numbers))) }
     ensures changed { ForEach cpu.old (λ x plan s m t. MayCut m t → (i : ℕ)
         → (slice_get cpu.new.core i ≡ slice_get cpu.old.core i) ⊎ IsInStack cpu.old.regs i) }
 {
     cut_call(cpu, next);
-    put(cpu, w);
+    cpu.put(w);
 }

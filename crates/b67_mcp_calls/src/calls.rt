@@ -2,7 +2,7 @@
 
 ghost use Rattle.std.specs.Prelude.{◌≡◌};
 ghost use Rattle.b67_ctl.specs.Layout.{IsPlace};
-ghost use Rattle.b67_layout.specs.Session.{SessionStands};
+ghost use Rattle.b67_layout.specs.Session.{RepresentsSession};
 ghost use Rattle.b67_layout.specs.Meets.{ForEach, with_job};
 ghost use Rattle.b67_mcp_calls.specs.Calls.{CutSome, MayCut, job_cut};
 
@@ -14,7 +14,7 @@ use b67_word::Place;
 pub fn cut_call(cpu: &mut Cpu, next: Place)
     requires call { CutSome cpu.old }
     requires place { IsPlace next }
-    ensures stands { ForEach cpu.old (λ x plan s m t. MayCut m t → SessionStands x cpu.new plan (with_job s m (job_cut m t next))) }
+    ensures stands { ForEach cpu.old (λ x plan s m t. MayCut m t → RepresentsSession x cpu.new plan (with_job s m (job_cut m t next))) }
     ensures core { cpu.new.core ≡ cpu.old.core }
 {
     cpu.cut();

@@ -2,18 +2,17 @@
 
 ghost use Rattle.std.specs.Prelude.{◌≡◌, ℕ, ◌+◌, ◌<◌, ◌^◌, List, ◌⊎◌, slice_get, IfOk};
 ghost use Rattle.b67_ctl.specs.Layout.{IsPlace};
-ghost use Rattle.b67_layout.specs.Session.{SessionStands};
+ghost use Rattle.b67_layout.specs.Session.{RepresentsSession};
 ghost use Rattle.b67_layout.specs.Meets.{ForEach, with_job, IsInStack};
 ghost use Rattle.b67_mcp_calls.specs.Calls.{CutSome, CallSome, IsCall, MayCut};
 ghost use Rattle.b67_model.specs.Words as words;
 ghost use Rattle.b67_mcp_calls.specs.Declaring as definition;
 ghost use Rattle.b67_mcp_calls.specs.Declaring.{job_declared, with_home, without, LengthMeets};
 
-use crate::answer::put;
-use b67_exec_cells::{count_cells, top_cell};
+use crate::calls::cut_call;
+use crate::only::only_argument;
 use b67_ctl::DataDesc;
 use b67_entry::is_critical;
-use crate::calls::cut_call;
 use b67_stack::Cpu;
 use b67_word::{Fault, Place, Word};
 
@@ -38,10 +37,7 @@ pub fn array_length(cpu: &Cpu) -> Result<u32, Fault>
     requires { CallSome cpu.now }
     ensures row { ForEach cpu.now (λ x plan s m t. (reference : words.Word) (arguments : List words.Word) → IsCall t reference arguments → LengthMeets m t arguments result) }
 {
-    if count_cells(cpu) != 2 {
-        return Err(Fault::InvalidOperand);
-    }
-    let w = match top_cell(cpu) {
+    let w = match only_argument(cpu) {
         Ok(w) => w,
         Err(fault) => return Err(fault),
     };
@@ -60,7 +56,7 @@ pub fn answer_array(cpu: &mut Cpu, length: u32, next: Place)
     requires some { 0 < length }
     requires small { length < 2 ^ 16 }
     ensures stands { ForEach cpu.old (λ x plan s m t. MayCut m t
-        → SessionStands (without x cpu.new.regs.s) cpu.new (with_home plan m.setting.number m.course.job.next_array cpu.new.regs.s) (with_job s m (job_declared m t length next))) }
+        → RepresentsSession (without x cpu.new.regs.s) cpu.new (with_home plan m.constants.number m.progress.job.next_array cpu.new.regs.s) (with_job s m (job_declared m t length next))) }
     ensures changed { ForEach cpu.old (λ x plan s m t. MayCut m t → (i : ℕ)
         → (slice_get cpu.new.core i ≡ slice_get cpu.old.core i) ⊎ IsInStack cpu.old.regs i) }
 {
@@ -73,5 +69,5 @@ pub fn answer_array(cpu: &mut Cpu, length: u32, next: Place)
         length,
         address: 0,
     };
-    put(cpu, original.word());
+    cpu.put(original.word());
 }

@@ -4,6 +4,7 @@
 mod answer;
 mod calls;
 mod declare;
+mod only;
 mod print;
 mod read;
 mod row;

@@ -5,7 +5,7 @@ ghost use Rattle.b67_model.specs.Words as words;
 ghost use Rattle.b67_layout.specs.Meets.{ForEach};
 ghost use Rattle.b67_mcp_calls.specs.Calls.{CallSome, IsCall, number_in, PrintMeets};
 
-use b67_exec_cells::{count_cells, top_cell};
+use crate::only::only_argument;
 use b67_entry::is_critical;
 use b67_stack::Cpu;
 use b67_word::{Fault, Word};
@@ -26,10 +26,7 @@ pub fn print_value(cpu: &Cpu) -> Result<i64, Fault>
     requires { CallSome cpu.now }
     ensures row { ForEach cpu.now (λ x plan s m t. (reference : words.Word) (arguments : List words.Word) → IsCall t reference arguments → PrintMeets m t arguments result) }
 {
-    if count_cells(cpu) != 2 {
-        return Err(Fault::InvalidOperand);
-    }
-    let w = match top_cell(cpu) {
+    let w = match only_argument(cpu) {
         Ok(w) => w,
         Err(fault) => return Err(fault),
     };

@@ -10,8 +10,8 @@ ghost use Rattle.b67_task_tables.specs.Tables.{job_row};
 ghost use Rattle.b67_mcp_calls.specs.Calls.{IsCall};
 ghost use Rattle.b67_mcp_calls.specs.Reads.{left_in, AreOperands, ReadSome, ReadMeets};
 
-use b67_exec_cells::count_cells;
 use b67_entry::is_critical;
+use b67_exec_cells::count_cells;
 use b67_stack::Cpu;
 use b67_task_tables::JobRow;
 use b67_word::{Fault, Word};

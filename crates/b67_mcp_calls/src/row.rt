@@ -9,11 +9,11 @@ ghost use Rattle.b67_fetch.specs.Indexes.{FindsArray};
 ghost use Rattle.b67_mcp_calls.specs.Calls.{CallSome, IsCall};
 ghost use Rattle.b67_mcp_calls.specs.RowCalls.{CopyMeets, MissesCopy, RowMeets, RowTouches};
 
+use crate::only::only_argument;
 use crate::whole::are_whole;
-use b67_exec_cells::{count_cells, top_cell};
 use b67_ctl::DataDesc;
-use b67_exec_cells::elements::descriptor;
 use b67_entry::is_critical;
+use b67_exec_cells::array_descriptor;
 use b67_refer::owner;
 use b67_stack::Cpu;
 use b67_word::{Fault, Word};
@@ -51,10 +51,7 @@ fn argument(cpu: &Cpu) -> Result<u32, Fault>
     ensures row { ForEach cpu.now (λ x plan s m t. (reference : words.Word) (arguments : List words.Word) → IsCall t reference arguments → CopyMeets plan m t arguments result) }
     ensures copies { ForEach cpu.now (λ x plan s m t. (reference : words.Word) (arguments : List words.Word) → IsCall t reference arguments → MissesCopy arguments result) }
 {
-    if count_cells(cpu) != 2 {
-        return Err(Fault::InvalidOperand);
-    }
-    match top_cell(cpu) {
+    match only_argument(cpu) {
         Ok(w) => copied(cpu, w),
         Err(fault) => Err(fault),
     }
@@ -72,7 +69,7 @@ pub fn row_to_print(cpu: &Cpu) -> Result<Found, Fault>
         Ok(original) => original,
         Err(fault) => return Err(fault),
     };
-    let desc = descriptor(cpu, original);
+    let desc = array_descriptor(cpu, original);
     if !desc.present {
         return Ok(Found::Absent(original));
     }

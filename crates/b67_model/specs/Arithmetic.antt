@@ -1,8 +1,9 @@
 -- What the operators on numbers and bits make of one or two operands.
-use Rattle.std.specs.Prelude.{ℕ, ◌+◌, ◌-◌, ◌*◌, ◌/◌, ◌%◌, ◌^◌, ℤ, pos, ◌+ℤ◌, ◌*ℤ◌, neg_ℤ, int_lt, int_div, int_rem, bit_and, bit_or, bit_xor, nat_lt, nat_le, ◌==◌, Bool, not, ◌&&◌, if◌then◌else◌, Ok}
+use Rattle.std.specs.Prelude.{ℕ, ◌+◌, ◌-◌, ◌*◌, ◌/◌, ◌%◌, ◌^◌, ℤ, pos, ◌+ℤ◌, ◌*ℤ◌, neg_ℤ, int_lt, int_div, int_rem, bit_and, bit_or, bit_xor, nat_le, ◌==◌, Bool, not, ◌&&◌, if◌then◌else◌, Ok}
 use Rattle.b67_word.specs.declared.faults.Fault.TheVariants.{InvalidOperand, DivideByZero}
 use Rattle.b67_model.specs.Answers.{Answer, ◌>>=◌, ◌>>◌, needs}
 use Rattle.b67_word.specs.Operands.{bit, bits_of}
+use Rattle.b67_word.specs.Tagged.{is_field}
 use Rattle.b67_model.specs.Words.{to_operand, number, truth}
 
 -- an operator of two operands' bits
@@ -97,10 +98,6 @@ abbrev pub brst : ℕ → ℕ → Answer ℕ
 brst n a = do
   needs (nat_le n 47) InvalidOperand
   Ok (if bit n a == 0 then a else a - 2 ^ n)
-
--- bits high down to high - width + 1 are a field
-abbrev pub is_field : ℕ → ℕ → Bool
-is_field high width = nat_lt 0 width && nat_le high 47 && nat_le width (high + 1)
 
 abbrev pub isol : ℕ → ℕ → ℕ → Answer ℕ
 isol high width a = do

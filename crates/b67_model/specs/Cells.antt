@@ -6,7 +6,7 @@ use Rattle.b67_model.specs.Answers.{Answer}
 use Rattle.b67_model.specs.Words.{Word, Name, Ref}
 use Rattle.b67_word.specs.Couples.{couple}
 use Rattle.b67_model.specs.Keyed.{change_keyed}
-use Rattle.b67_model.specs.State.{Frame, Job, Task, Here, frame}
+use Rattle.b67_model.specs.State.{Frame, Job, Task, OperatorContext, frame}
 use Rattle.b67_model.specs.Environment.{running_level, frame_at}
 
 -- the offset of a frame's first cell
@@ -17,7 +17,7 @@ abbrev pub cell_of : Frame → ℕ → Option Word
 cell_of f offset =
     if nat_lt offset (first_offset f) then None else slice_get (reverse f.cells) (offset - first_offset f)
 
-abbrev pub cell : Here → ℕ → ℕ → Answer Word
+abbrev pub cell : OperatorContext → ℕ → ℕ → Answer Word
 cell h identity offset = ok_or (cell_of (frame h identity) offset) InvalidAddress
 
 -- the frame with another word in a cell
@@ -32,12 +32,12 @@ with_cell job identity offset w =
     }
 
 -- the frame and offset that a couple names in the running environment
-abbrev pub named : Here → Couple → Answer (ℕ × ℕ)
+abbrev pub named : OperatorContext → Couple → Answer (ℕ × ℕ)
 named h c =
     if nat_le c.level (running_level h) then Ok ((frame_at h c.level).identity, c.disp) else Err InvalidAddress
 
 -- the same of a reference, be it a couple or not
-abbrev pub place_of : Here → Word → Answer (ℕ × ℕ)
+abbrev pub place_of : OperatorContext → Word → Answer (ℕ × ℕ)
 place_of h (Name bits) = named h (couple bits (running_level h))
 place_of h (Ref identity offset) = Ok (identity, offset)
 place_of h _ = Err InvalidOperand

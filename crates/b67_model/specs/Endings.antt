@@ -4,7 +4,7 @@ use Rattle.std.specs.List.{list_any, list_all}
 use Rattle.b67_word.specs.declared.faults.Ending.{Ending}
 use Rattle.b67_word.specs.declared.faults.Ending.TheVariants.{Ended, Parent, Deadlock, Limit, Faulted}
 use Rattle.b67_model.specs.Answers.{Answer}
-use Rattle.b67_model.specs.State.{Array, Condition, Ready, Awaits, WaitsAt, Task, Setting, Job, with_task}
+use Rattle.b67_model.specs.State.{Array, Condition, Ready, Awaits, WaitsAt, Task, JobConstants, Job, with_task}
 use Rattle.b67_model.specs.Steps.{Line, Ends, Done, Goes, Leaves, Waits}
 use Rattle.b67_model.specs.Rows.{step}
 
@@ -104,8 +104,8 @@ settles job task (Ok (Waits condition)) = goes_on (with_task job (record task { 
 settles job task (Ok Leaves) = ends_with job task.number Ended
 settles job task (Err fault) = ends_with job task.number (Faulted fault)
 
-unfoldable pub stepped : Setting → Job → Task → Stepped
-stepped setting job task = settles job task (step setting job task)
+unfoldable pub stepped : JobConstants → Job → Task → Stepped
+stepped constants job task = settles job task (step constants job task)
 
 -- the lines of a step, each with its task
 abbrev pub step_lines : ℕ → List Line → List (ℕ × Ending) → List (ℕ × Line)

@@ -10,7 +10,7 @@ use Rattle.b67_model.specs.Keyed.{keyed}
 use Rattle.b67_lemmas.specs.Lists.{Has, total, how_many, Falls}
 use Rattle.b67_model.specs.Words as Words
 use Rattle.b67_model.specs.Words.{Word, Operand, Name, Ref, Row, Element, Original, Proc, Intrinsic}
-use Rattle.b67_model.specs.State.{Frame, Standing, Marked, Entered, Array, Condition, Ready, Awaits, WaitsAt, Task, Segment, Setting, Job, Course, Member, height}
+use Rattle.b67_model.specs.State.{Frame, Standing, Marked, Entered, Array, Condition, Ready, Awaits, WaitsAt, Task, Segment, JobConstants, Job, JobProgress, SessionJob, height}
 use Rattle.b67_model.specs.Environment.{level_of_standing, level_of_frame, running}
 use Rattle.b67_model.specs.Endings.{is_ready}
 use Rattle.b67_model.specs.Loader.{listing, At}
@@ -22,17 +22,17 @@ abbrev pub Starts : Type 1
 Starts = (segment level : ℕ) → Place → Type 0
 
 -- a segment of the job, and a place that fits the fields of a control word
-pub record IsSegment (setting : Setting) (segment level : ℕ) (place : Place) : Type 0 where
+pub record IsSegment (constants : JobConstants) (segment level : ℕ) (place : Place) : Type 0 where
   pub from_one : 0 < segment
-  pub within : segment ≤ length setting.segments
+  pub within : segment ≤ length constants.segments
   pub word_fits : place.word < 2 ^ 13
   pub syllable_fits : place.syllable < 2 ^ 3
 
 -- a start of a segment at which an operator stands, and the segment's level
-pub record IsStart (setting : Setting) (segment level : ℕ) (place : Place) : Type 0 where
+pub record IsStart (constants : JobConstants) (segment level : ℕ) (place : Place) : Type 0 where
   pub from_one : 0 < segment
   pub code : Segment
-  pub found : slice_get setting.segments (segment - 1) ≡ Some code
+  pub found : slice_get constants.segments (segment - 1) ≡ Some code
   pub of_level : code.level ≡ level
   pub op : Op
   pub stands : Has (listing code.code) (At place op)
@@ -187,12 +187,12 @@ ConditionInOrder reach (Awaits n) = Unit {0}
 ConditionInOrder reach (WaitsAt frame offset) = NamesEntered reach frame × (offset < 2 ^ 12)
 
 -- identities fall along a task's reach
-pub record TaskInOrder (P : Starts) (setting : Setting) (job : Job) (t : Task) : Type 0 where
+pub record TaskInOrder (P : Starts) (constants : JobConstants) (job : Job) (t : Task) : Type 0 where
   pub frames : FramesInOrder P job.arrays (outer_of job t) t.frames
   pub returns : StackInOrder P t.frames
   pub some : t.frames ≢ []
   pub falls : Falls job.next_frame (known_numbers (reach_of job t))
-  pub not_higher : height t.frames ≤ setting.stack_size
+  pub not_higher : height t.frames ≤ constants.stack_size
   pub place : P t.segment (level_of_frame (running t.frames)) t.place
   pub birth : BirthInOrder job t t.parents
   pub condition : ConditionInOrder (reach_of job t) t.condition
@@ -205,9 +205,9 @@ is_original_of array _ = false
 abbrev pub originals_in : ℕ → List Frame → ℕ
 originals_in array frames = total (λ (f : Frame). how_many (is_original_of array) f.cells) frames
 
-abbrev pub originals_of : ℕ → Setting → Job → ℕ
-originals_of array setting job =
-    how_many (is_original_of array) setting.dictionary.cells + total (λ (t : Task). originals_in array t.frames) job.tasks
+abbrev pub originals_of : ℕ → JobConstants → Job → ℕ
+originals_of array constants job =
+    how_many (is_original_of array) constants.dictionary.cells + total (λ (t : Task). originals_in array t.frames) job.tasks
 
 -- how many frames have an identity, in a list and in a whole job
 abbrev pub frames_named : ℕ → List Frame → ℕ
@@ -237,15 +237,15 @@ pub record SegmentInOrder (s : Segment) : Type 0 where
   pub length_high : length s.code < 2 ^ 13
   pub words : AllByRecursion (λ (n : ℕ). n < 2 ^ 48) s.code
 
-pub record SettingInOrder (setting : Setting) : Type 0 where
-  pub limit : setting.limit ≤ 100000000
-  pub stack_low : 64 ≤ setting.stack_size
-  pub stack_high : setting.stack_size < 2 ^ 14
-  pub segments : AllByRecursion SegmentInOrder setting.segments
-  pub entries : length setting.dictionary.cells ≤ 255
-  pub named : setting.dictionary.identity ≡ 1
-  pub stands : setting.dictionary.standing ≡ Entered 1 0 None
-  pub dictionary : DictionaryWords 1 setting.segments (reverse setting.dictionary.cells)
+pub record SettingInOrder (constants : JobConstants) : Type 0 where
+  pub limit : constants.limit ≤ 100000000
+  pub stack_low : 64 ≤ constants.stack_size
+  pub stack_high : constants.stack_size < 2 ^ 14
+  pub segments : AllByRecursion SegmentInOrder constants.segments
+  pub entries : length constants.dictionary.cells ≤ 255
+  pub named : constants.dictionary.identity ≡ 1
+  pub stands : constants.dictionary.standing ≡ Entered 1 0 None
+  pub dictionary : DictionaryWords 1 constants.segments (reverse constants.dictionary.cells)
 
 -- a word of the dictionary: a segment, or the original of a live data row
 abbrev pub EntryInOrder : List Array → Word → Type 0
@@ -261,32 +261,32 @@ EntryInOrder arrays (Words.Segment number) = Unit {0}
 
 -- a job's tasks and arrays, without its counts of operators. No two live frames have one identity, and each array has
 -- one original
-pub record TasksInOrder (P : Starts) (setting : Setting) (job : Job) : Type 0 where
-  pub tasks : AllByRecursion (TaskInOrder P setting job) job.tasks
+pub record TasksInOrder (P : Starts) (constants : JobConstants) (job : Job) : Type 0 where
+  pub tasks : AllByRecursion (TaskInOrder P constants job) job.tasks
   pub apart : (identity : ℕ) → frames_in_job identity job ≤ 1
   pub arrays : AllByRecursion ArrayInOrder job.arrays
-  pub once : AllByRecursion (λ (a : Array). originals_of a.identity setting job ≡ 1) job.arrays
-  pub entries : AllByRecursion (EntryInOrder job.arrays) setting.dictionary.cells
+  pub once : AllByRecursion (λ (a : Array). originals_of a.identity constants job ≡ 1) job.arrays
+  pub entries : AllByRecursion (EntryInOrder job.arrays) constants.dictionary.cells
   pub numbers : Falls job.next_task (map (λ t. t.number) job.tasks)
   pub names : Falls job.next_array (map (λ a. a.identity) job.arrays)
   pub few : length job.tasks ≤ 15
   pub reads : AllByRecursion (λ n. nat_abs n < 2 ^ 39) job.numbers
 
 -- the counts of a job but for its limit, as they stand before a step's last item of endings too
-pub record CountsInOrder (setting : Setting) (c : Course) : Type 0 where
+pub record CountsInOrder (constants : JobConstants) (c : JobProgress) : Type 0 where
   pub next : c.job.next_task ≤ c.made + 2
-  pub within : c.made ≤ setting.limit
+  pub within : c.made ≤ constants.limit
   pub goes_on : c.job.tasks ≢ [] → (t : Task) × Has c.job.tasks t × IsTrue (is_ready t)
 
 -- a job with live tasks has not reached its limit
-abbrev pub BelowLimit : Setting → Course → Type 0
-BelowLimit setting c = c.job.tasks ≢ [] → c.made < setting.limit
+abbrev pub BelowLimit : JobConstants → JobProgress → Type 0
+BelowLimit constants c = c.job.tasks ≢ [] → c.made < constants.limit
 
-pub record JobInOrder (P : Starts) (setting : Setting) (c : Course) : Type 0 where
-  pub unchanging : SettingInOrder setting
-  pub tasks : TasksInOrder P setting c.job
-  pub counts : CountsInOrder setting c
-  pub below_limit : BelowLimit setting c
+pub record JobInOrder (P : Starts) (constants : JobConstants) (c : JobProgress) : Type 0 where
+  pub unchanging : SettingInOrder constants
+  pub tasks : TasksInOrder P constants c.job
+  pub counts : CountsInOrder constants c
+  pub below_limit : BelowLimit constants c
 
 abbrev pub SwitchesRise : List Switch → Type 0
 SwitchesRise [] = Unit {0}
@@ -294,20 +294,20 @@ SwitchesRise (a ∷ []) = Unit {0}
 SwitchesRise (a ∷ b ∷ more) = (a.count < b.count) × SwitchesRise (b ∷ more)
 
 -- jobs are numbered in order
-abbrev pub NumberedFrom : ℕ → List Member → Type 0
+abbrev pub NumberedFrom : ℕ → List SessionJob → Type 0
 NumberedFrom n [] = Unit {0}
-NumberedFrom n (m ∷ more) = (m.setting.number ≡ n) × NumberedFrom (n + 1) more
+NumberedFrom n (m ∷ more) = (m.constants.number ≡ n) × NumberedFrom (n + 1) more
 
 -- the whole session, by what a place must be in each job
-pub record SessionInOrder (P : Setting → Starts) (s : Session) : Type 0 where
+pub record SessionInOrder (P : JobConstants → Starts) (s : Session) : Type 0 where
   pub few : length s.jobs ≤ 8
   pub numbered : NumberedFrom 1 s.jobs
-  pub one_size : (stack : ℕ) × AllByRecursion (λ (m : Member). m.setting.stack_size ≡ stack) s.jobs
-  pub jobs : AllByRecursion (λ (m : Member). JobInOrder (P m.setting) m.setting m.course) s.jobs
+  pub one_size : (stack : ℕ) × AllByRecursion (λ (m : SessionJob). m.constants.stack_size ≡ stack) s.jobs
+  pub jobs : AllByRecursion (λ (m : SessionJob). JobInOrder (P m.constants) m.constants m.progress) s.jobs
   pub switches : SwitchesRise s.switches
   pub peak_low : live_tasks s.jobs ≤ s.peak
   pub peak_high : s.peak ≤ 120
-  pub counted : s.made ≡ sum_by (λ (m : Member). m.course.made) s.jobs
+  pub counted : s.made ≡ sum_by (λ (m : SessionJob). m.progress.made) s.jobs
   pub turn : s.turn ≤ s.made
 
 abbrev pub IsInOrder : Session → Type 0

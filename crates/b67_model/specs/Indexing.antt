@@ -3,7 +3,7 @@ use Rattle.std.specs.Prelude.{ℕ, nat_lt, ℤ, pos, negsuc, length, if◌then�
 use Rattle.b67_word.specs.declared.faults.Fault.TheVariants.{InvalidOperand, InvalidIndex}
 use Rattle.b67_model.specs.Answers.{Answer, ◌>>=◌}
 use Rattle.b67_model.specs.Words.{Word, Operand, Name, Ref, Row, operand, number}
-use Rattle.b67_model.specs.State.{Here}
+use Rattle.b67_model.specs.State.{OperatorContext}
 use Rattle.b67_model.specs.Arrays.{array}
 use Rattle.b67_model.specs.Chase.{End, AtArray, chase}
 
@@ -12,7 +12,7 @@ array_at (AtArray array) = Ok array
 array_at _ = Err InvalidOperand
 
 -- the array that a reference or a row copy leads to
-abbrev pub array_of : Here → Word → Answer ℕ
+abbrev pub array_of : OperatorContext → Word → Answer ℕ
 array_of h (Row array) = Ok array
 array_of h (Name couple) = do
   end ← chase h (Name couple)
@@ -27,7 +27,7 @@ index_below length (pos n) = if nat_lt n length then Ok n else Err InvalidIndex
 index_below length (negsuc n) = Err InvalidIndex
 
 -- the array and the index that two words give
-abbrev pub indexed : Here → Word → Word → Answer (ℕ × ℕ)
+abbrev pub indexed : OperatorContext → Word → Word → Answer (ℕ × ℕ)
 indexed h r i = do
   bits ← operand i
   a ← array_of h r

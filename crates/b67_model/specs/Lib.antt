@@ -25,5 +25,4 @@ pub mod Need
 pub mod Sectors
 pub mod Apart
 pub mod InOrder
-pub mod Kinds
 pub mod Called

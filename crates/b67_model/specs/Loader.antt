@@ -98,13 +98,13 @@ named_level p disp = level_in (if nat_lt disp 2 then None else slice_get p.segme
     level_in (Some s) = Some s.level
 
 -- a bit stands outside the fields of a PCW, or the segment field names no segment
-abbrev pub is_off : Program → ℕ → Bool
-is_off p bits = not (nat_lt bits (2 ^ 36)) || not (bit 19 bits == 0) || not (holds_of (named_level p (bits % 2 ^ 14)) (λ level. true))
+abbrev pub has_stray_bits : Program → ℕ → Bool
+has_stray_bits p bits = not (nat_lt bits (2 ^ 36)) || not (bit 19 bits == 0) || not (holds_of (named_level p (bits % 2 ^ 14)) (λ level. true))
 
 -- the level isn't that of the named segment or isn't one above the own segment's, or the place isn't 0:0. A bit above
 -- the place is refused by the rule before
-abbrev pub is_amiss : Listed → ℕ → Bool
-is_amiss l bits =
+abbrev pub breaks_rule_8 : Listed → ℕ → Bool
+breaks_rule_8 l bits =
     let level = (bits / 2 ^ 14) % 2 ^ 5 in
     not (holds_of (named_level l.program (bits % 2 ^ 14)) (λ named. named == level))
     || not (level == l.segment.level + 1) || not (bits / 2 ^ 20 == 0)
@@ -119,8 +119,8 @@ broken_at l (At place op) =
     (4, holds_at (target_of op) (is_outside l.segment)) ∷
     (5, is_last l.entries place && not (may_be_last op)) ∷
     (6, holds_of (couple_bits op) (λ bits. nat_lt l.segment.level (couple bits l.segment.level).level)) ∷
-    (7, holds_of (proc_bits op) (is_off l.program)) ∷
-    (8, holds_of (proc_bits op) (is_amiss l)) ∷ []
+    (7, holds_of (proc_bits op) (has_stray_bits l.program)) ∷
+    (8, holds_of (proc_bits op) (breaks_rule_8 l)) ∷ []
 
 -- rules 9 and 10 stand at the segment's first place
 abbrev pub broken_in : Listed → List (ℕ × Bool)

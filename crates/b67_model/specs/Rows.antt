@@ -10,7 +10,7 @@ use Rattle.b67_model.specs.Answers.{Answer, ◌>>=◌, ◌>>◌, needs}
 use Rattle.b67_word.specs.Operands.{bit}
 use Rattle.b67_model.specs.Words.{Word, Operand, Name, Ref, Row, Element, Proc, operand}
 use Rattle.b67_model.specs.Operators.{Reading, operator_at}
-use Rattle.b67_model.specs.State.{Frame, Standing, Marked, Entered, Array, Task, Setting, Job, Here, with_task}
+use Rattle.b67_model.specs.State.{Frame, Standing, Marked, Entered, Array, Task, JobConstants, Job, OperatorContext, with_task}
 use Rattle.b67_model.specs.State as State
 use Rattle.b67_model.specs.Cells.{place_of, cell, with_cell}
 use Rattle.b67_model.specs.Chase.{End, AtCell, AtElement, AtArray, AtProc, AtIntrinsic, chase, follow, follow_reference}
@@ -66,16 +66,16 @@ dupl (a ∷ rest) = do
   Ok (a ∷ a ∷ rest)
 
 -- the cells change and nothing else
-abbrev pub on_cells : CellRow → Here → Answer Done
+abbrev pub on_cells : CellRow → OperatorContext → Answer Done
 on_cells f h = do
   cells ← f (cells_of h)
   leaves_cells h cells None
 
-abbrev pub branches : Here → Place → Here
+abbrev pub branches : OperatorContext → Place → OperatorContext
 branches h target = record h { task = record h.task { place = target } }
 
 -- branches where bit 0 is as wanted
-abbrev pub branch_if : Bool → Here → List Word → Place → Answer Done
+abbrev pub branch_if : Bool → OperatorContext → List Word → Place → Answer Done
 branch_if wanted h [] target = Err StackUnderflow
 branch_if wanted h (a ∷ rest) target = do
   x ← operand a
@@ -86,12 +86,12 @@ branch_if wanted h (a ∷ rest) target = do
     same_as false true = false
     same_as false false = true
 
-abbrev pub valc : Here → ℕ → Answer Done
+abbrev pub valc : OperatorContext → ℕ → Answer Done
 valc h couple = do
   end ← chase h (Name couple)
   evaluates h end
 
-abbrev pub stff_word : Here → Word → Answer Word
+abbrev pub stff_word : OperatorContext → Word → Answer Word
 stff_word h (Ref f offset) = Ok (Ref f offset)
 stff_word h (Name couple) = do
   at ← place_of h (Name couple)
@@ -99,26 +99,26 @@ stff_word h (Name couple) = do
   Ok (Ref at.0 at.1)
 stff_word h _ = Err InvalidOperand
 
-abbrev pub stff : Here → CellRow
+abbrev pub stff : OperatorContext → CellRow
 stff h [] = Err StackUnderflow
 stff h (w ∷ rest) = do
   v ← stff_word h w
   Ok (v ∷ rest)
 
-abbrev pub load_at : Here → List Word → End → Answer Done
+abbrev pub load_at : OperatorContext → List Word → End → Answer Done
 load_at h rest (AtCell f offset bits) = leaves_cells h (Operand bits ∷ rest) None
 load_at h rest (AtElement a index) = leaves_cells h (Operand (element h.job a index) ∷ rest) (Some a)
 load_at h rest (AtArray a) = leaves_cells h (Row a ∷ rest) None
 load_at h rest (AtProc f segment level place) = accident h rest (back_to h false h.at) (AtProc f segment level place)
 load_at h rest (AtIntrinsic n) = Err InvalidOperand
 
-abbrev pub load : Here → List Word → Answer Done
+abbrev pub load : OperatorContext → List Word → Answer Done
 load h [] = Err StackUnderflow
 load h (w ∷ rest) = do
   end ← follow h w
   load_at h rest end
 
-abbrev pub indx : Here → List Word → Answer Done
+abbrev pub indx : OperatorContext → List Word → Answer Done
 indx h [] = Err StackUnderflow
 indx h (b ∷ []) = Err StackUnderflow
 indx h (b ∷ a ∷ rest) = do
@@ -126,7 +126,7 @@ indx h (b ∷ a ∷ rest) = do
   at ← indexed h two.0 two.1
   leaves_cells h (Element at.0 at.1 ∷ rest) None
 
-abbrev pub nxlv : Here → List Word → Answer Done
+abbrev pub nxlv : OperatorContext → List Word → Answer Done
 nxlv h [] = Err StackUnderflow
 nxlv h (b ∷ []) = Err StackUnderflow
 nxlv h (b ∷ a ∷ rest) = do
@@ -135,7 +135,7 @@ nxlv h (b ∷ a ∷ rest) = do
   leaves_cells h (Operand (element h.job at.0 at.1) ∷ rest) (Some at.0)
 
 -- a value goes to an end, and these cells stay. An accidental entry leaves the value on the stack
-abbrev pub store_at : Here → List Word → List Word → ℕ → End → Answer Done
+abbrev pub store_at : OperatorContext → List Word → List Word → ℕ → End → Answer Done
 store_at h rest kept bits (AtCell f offset old) =
     Ok (Goes (with_cell (with_task h.job (with_cells h kept)) f offset (Operand bits)) [] None)
 store_at h rest kept bits (AtElement a index) = do
@@ -145,7 +145,7 @@ store_at h rest kept bits (AtProc f segment level place) =
     accident h (Operand bits ∷ rest) (back_to h false h.at) (AtProc f segment level place)
 store_at h rest kept bits _ = Err MemoryProtect
 
-abbrev pub store : Bool → Here → List Word → Answer Done
+abbrev pub store : Bool → OperatorContext → List Word → Answer Done
 store keeps h [] = Err StackUnderflow
 store keeps h (b ∷ []) = Err StackUnderflow
 store keeps h (b ∷ a ∷ rest) = do
@@ -154,35 +154,35 @@ store keeps h (b ∷ a ∷ rest) = do
   end ← follow h two.0
   store_at h rest (if keeps then two.1 ∷ rest else rest) bits end
 
-abbrev pub entr_at : Here → List Word → End → Answer Done
+abbrev pub entr_at : OperatorContext → List Word → End → Answer Done
 entr_at h arguments (AtIntrinsic n) = intrinsic n h arguments
 entr_at h arguments end = enters h arguments end
 
 -- the cells of the mark, from the first one up
-abbrev pub entr_with : Here → List Word → Answer Done
+abbrev pub entr_with : OperatorContext → List Word → Answer Done
 entr_with h [] = Err StackUnderflow
 entr_with h (r ∷ arguments) = do
   end ← follow_reference h r
   entr_at h arguments end
 
-abbrev pub entr : Here → Standing → Answer Done
+abbrev pub entr : OperatorContext → Standing → Answer Done
 entr h (Entered level environment back) = Err InvalidOperand
 entr h Marked = entr_with h (reverse (cells_of h))
 
 -- the literal names a segment of the job and has no bit outside its fields
-abbrev pub is_proc : Here → ℕ → Bool
+abbrev pub is_proc : OperatorContext → ℕ → Bool
 is_proc h bits =
-    nat_lt bits (2 ^ 36) && (bit 19 bits == 0) && nat_lt 1 (bits % 2 ^ 14) && nat_lt (bits % 2 ^ 14) (length h.setting.segments + 2)
+    nat_lt bits (2 ^ 36) && (bit 19 bits == 0) && nat_lt 1 (bits % 2 ^ 14) && nat_lt (bits % 2 ^ 14) (length h.constants.segments + 2)
 
 abbrev pub proc_of : ℕ → Word
 proc_of bits = Proc (bits % 2 ^ 14 - 1) ((bits / 2 ^ 14) % 2 ^ 5) (record { word = (bits / 2 ^ 20) % 2 ^ 13; syllable = (bits / 2 ^ 33) % 2 ^ 3 })
 
-abbrev pub mpcw : Here → ℕ → Answer Done
+abbrev pub mpcw : OperatorContext → ℕ → Answer Done
 mpcw h bits = do
   needs (is_proc h bits) InvalidOperator
   pushes h (proc_of bits) None
 
-abbrev pub plain : Code → Here → Answer Done
+abbrev pub plain : Code → OperatorContext → Answer Done
 plain Add h = on_cells (on_two add) h
 plain Subt h = on_cells (on_two subt) h
 plain Mult h = on_cells (on_two mult) h
@@ -219,7 +219,7 @@ plain Load h = load h (cells_of h)
 plain Noop h = leaves_cells h (cells_of h) None
 plain Nvld h = Err InvalidOperator
 
-abbrev pub row : Op → Here → Answer Done
+abbrev pub row : Op → OperatorContext → Answer Done
 row (Valc couple) h = valc h couple
 row (Namc couple) h = pushes h (Name couple) None
 row (Lt8 n) h = pushes h (Operand n) None
@@ -236,27 +236,21 @@ row (Insr high width) h = on_cells (on_two (insr high width)) h
 row (Plain code) h = plain code h
 
 -- the code of a segment, by its number
-abbrev pub code_of : Setting → ℕ → List ℕ
-code_of setting segment = code_in (slice_get setting.segments (segment - 1))
+abbrev pub code_of : JobConstants → ℕ → List ℕ
+code_of constants segment = code_in (slice_get constants.segments (segment - 1))
   where
     code_in : Option State.Segment → List ℕ
     code_in None = []
     code_in (Some s) = s.code
 
-abbrev pub reading_of : Setting → Task → Reading
-reading_of setting task = operator_at (code_of setting task.segment) task.place
+abbrev pub reading_of : JobConstants → Task → Reading
+reading_of constants task = operator_at (code_of constants task.segment) task.place
 
-abbrev pub step_by : Setting → Job → Task → Reading → Answer Done
-step_by setting job task (Err undecodable) = Err InvalidOperator
-step_by setting job task (Ok read) =
-    row read.0 (record { setting = setting; job = job; task = record task { place = read.1 }; at = task.place })
+abbrev pub step_by : JobConstants → Job → Task → Reading → Answer Done
+step_by constants job task (Err undecodable) = Err InvalidOperator
+step_by constants job task (Ok read) =
+    row read.0 (record { constants = constants; job = job; task = record task { place = read.1 }; at = task.place })
 
 -- the operator at the task's place
-unfoldable pub step : Setting → Job → Task → Answer Done
-step setting job task = step_by setting job task (reading_of setting task)
-
--- no operator takes an identity back
-abbrev pub IdentitiesGrow : Type 0
-IdentitiesGrow =
-    (op : Op) (h : Here) (after : Job) (printed : List Line) (touched : Option ℕ) →
-    row op h ≡ Ok (Goes after printed touched) → h.job.next_frame ≤ after.next_frame
+unfoldable pub step : JobConstants → Job → Task → Answer Done
+step constants job task = step_by constants job task (reading_of constants task)

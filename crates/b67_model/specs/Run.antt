@@ -1,55 +1,55 @@
 -- The run of a session: its steps, their lines, and its states.
-use Rattle.std.specs.Prelude.{ℕ, zero, suc, ◌+◌, ◌-◌, max, List, [], ◌∷◌, ◌++◌, map, length, sum_by, Option, Some, None, option_map}
+use Rattle.std.specs.Prelude.{ℕ, zero, suc, ◌+◌, ◌-◌, max, List, [], ◌∷◌, ◌++◌, map, length, sum_by, Option, Some, None}
 use Rattle.b67_model.specs.Keyed.{keyed, change_keyed}
-use Rattle.b67_model.specs.State.{Member}
+use Rattle.b67_model.specs.State.{SessionJob}
 use Rattle.b67_model.specs.Steps.{Line}
-use Rattle.b67_model.specs.Alone.{JobMoment, up_to_deadlock, step_of}
+use Rattle.b67_model.specs.Alone.{JobMoment, step_of}
 use Rattle.b67_model.specs.Schedule.{Switch, Session, Choice, choice}
 
 -- a line of a run, with its job's number
 abbrev pub RunLine : Type 0
 RunLine = ℕ × ℕ × Line
 
-pub record Moment : Type 0 where
+pub record StepResult : Type 0 where
   pub session : Session
   pub lines : List RunLine
 
 abbrev pub of_job : ℕ → List (ℕ × Line) → List RunLine
 of_job job lines = map (λ line. (job, line.0, line.1)) lines
 
-abbrev pub live_tasks : List Member → ℕ
-live_tasks jobs = sum_by (λ m. length m.course.job.tasks) jobs
+abbrev pub live_tasks : List SessionJob → ℕ
+live_tasks jobs = sum_by (λ m. length m.progress.job.tasks) jobs
 
-abbrev pub number_of : Member → ℕ
-number_of m = m.setting.number
+abbrev pub number_of : SessionJob → ℕ
+number_of m = m.constants.number
 
 -- the session after a step of a job: with one operator more, and the peak that the step reached before its endings
-abbrev pub with_moment : Session → Choice → Member → JobMoment → Session
+abbrev pub with_moment : Session → Choice → SessionJob → JobMoment → Session
 with_moment s c m made = record s {
-  jobs = change_keyed number_of c.who.job (λ (m : Member). record m { course = made.course }) s.jobs;
+  jobs = change_keyed number_of c.who.job (λ (m : SessionJob). record m { progress = made.progress }) s.jobs;
   made = s.made + 1;
   last = c.who;
   turn = c.turn + 1;
-  peak = max s.peak (live_tasks s.jobs - length m.course.job.tasks + made.alive);
+  peak = max s.peak (live_tasks s.jobs - length m.progress.job.tasks + made.alive);
 }
 
 -- the chosen task's step
-abbrev pub moment_by : Session → Choice → Option Member → Option Moment
+abbrev pub moment_by : Session → Choice → Option SessionJob → Option StepResult
 moment_by s c None = None
 moment_by s c (Some m) =
-    let made = step_of m.setting m.course c.who.task in
+    let made = step_of m.constants m.progress c.who.task in
     Some (record { session = with_moment s c m made; lines = of_job c.who.job made.lines })
 
-abbrev pub moment_for : Session → Option Choice → Option Moment
+abbrev pub moment_for : Session → Option Choice → Option StepResult
 moment_for s None = None
 moment_for s (Some c) = moment_by s c (keyed number_of c.who.job s.jobs)
 
 -- the next step, where a task lives
-unfoldable pub next : Session → Option Moment
+unfoldable pub next : Session → Option StepResult
 next s = moment_for s (choice s)
 
 -- the lines of at most n steps
-abbrev pub lines_from : ℕ → Option Moment → List RunLine
+abbrev pub lines_from : ℕ → Option StepResult → List RunLine
 lines_from zero m = []
 lines_from (suc n) None = []
 lines_from (suc n) (Some m) = m.lines ++ lines_from n (next m.session)
@@ -58,7 +58,7 @@ abbrev pub lines : ℕ → Session → List RunLine
 lines n s = lines_from n (next s)
 
 -- the state after at most n steps
-abbrev pub after_from : ℕ → Session → Option Moment → Session
+abbrev pub after_from : ℕ → Session → Option StepResult → Session
 after_from zero s m = s
 after_from (suc n) s None = s
 after_from (suc n) s (Some m) = after_from n m.session (next m.session)
@@ -67,7 +67,7 @@ abbrev pub after : ℕ → Session → Session
 after n s = after_from n s (next s)
 
 -- the states of at most n steps, the first one included
-abbrev pub states_from : ℕ → Session → Option Moment → List Session
+abbrev pub states_from : ℕ → Session → Option StepResult → List Session
 states_from zero s m = s ∷ []
 states_from (suc n) s None = s ∷ []
 states_from (suc n) s (Some m) = s ∷ states_from n m.session (next m.session)
@@ -75,16 +75,7 @@ states_from (suc n) s (Some m) = s ∷ states_from n m.session (next m.session)
 abbrev pub states : ℕ → Session → List Session
 states n s = states_from n s (next s)
 
--- the state of a step before the last part of its end, in which a job may stand at its limit
-abbrev pub before_limit_by : Session → Choice → Option Member → Option Session
-before_limit_by s c None = None
-before_limit_by s c (Some m) =
-    option_map (λ task. with_moment s c m (up_to_deadlock m.setting m.course task)) (keyed (λ t. t.number) c.who.task m.course.job.tasks)
-
-abbrev pub before_limit : Session → Choice → Option Session
-before_limit s c = before_limit_by s c (keyed number_of c.who.job s.jobs)
-
-abbrev pub start : List Member → List Switch → ℕ → Session
+abbrev pub start : List SessionJob → List Switch → ℕ → Session
 start jobs switches quantum = record {
   jobs = jobs;
   made = 0;

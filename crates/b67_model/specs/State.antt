@@ -53,7 +53,7 @@ pub record Segment : Type 0 where
   pub code : List ℕ
 
 -- what no step of a job changes: its number, the stack size and the limit, its segments and its dictionary
-pub record Setting : Type 0 where
+pub record JobConstants : Type 0 where
   pub number : ℕ
   pub stack_size : ℕ
   pub limit : ℕ
@@ -70,19 +70,19 @@ pub record Job : Type 0 where
   pub next_array : ℕ
 
 -- how far a job has come. Only the end of a step changes its count of operators and its ended tasks
-pub record Course : Type 0 where
+pub record JobProgress : Type 0 where
   pub job : Job
   pub made : ℕ
   pub ended : List (ℕ × Ending)
 
 -- a job of a session
-pub record Member : Type 0 where
-  pub setting : Setting
-  pub course : Course
+pub record SessionJob : Type 0 where
+  pub constants : JobConstants
+  pub progress : JobProgress
 
 -- where an operator is made: in a job, by a task that stands past the operator, which is at this place
-pub record Here : Type 0 where
-  pub setting : Setting
+pub record OperatorContext : Type 0 where
+  pub constants : JobConstants
   pub job : Job
   pub task : Task
   pub at : Place
@@ -96,10 +96,10 @@ mcp = record { identity = 0; standing = Entered 0 0 None; cells = Intrinsic 18 �
 abbrev pub no_frame : Frame
 no_frame = record { identity = 0; standing = Marked; cells = [] }
 
-abbrev pub all_frames : Here → List Frame
-all_frames h = flat_map (λ t. t.frames) h.job.tasks ++ (h.setting.dictionary ∷ mcp ∷ [])
+abbrev pub all_frames : OperatorContext → List Frame
+all_frames h = flat_map (λ t. t.frames) h.job.tasks ++ (h.constants.dictionary ∷ mcp ∷ [])
 
-abbrev pub frame : Here → ℕ → Frame
+abbrev pub frame : OperatorContext → ℕ → Frame
 frame h identity = unwrap_or (keyed (λ f. f.identity) identity (all_frames h)) no_frame
 
 abbrev pub top : List Frame → Frame

@@ -5,7 +5,7 @@ use Rattle.b67_word.specs.declared.faults.Fault.TheVariants.{StackOverflow}
 use Rattle.b67_word.specs.declared.faults.Ending.{Ending}
 use Rattle.b67_model.specs.Answers.{Answer, ◌>>◌, needs}
 use Rattle.b67_model.specs.Words.{Word}
-use Rattle.b67_model.specs.State.{Frame, Condition, Task, Job, Here, top, with_top_cells, height, with_task}
+use Rattle.b67_model.specs.State.{Frame, Condition, Task, Job, OperatorContext, top, with_top_cells, height, with_task}
 
 -- what a task's line says
 pub data Line : Type 0 where
@@ -19,31 +19,31 @@ pub data Done : Type 0 where
   Leaves : Done
   Waits : (condition : Condition) → Done
 
-abbrev pub top_of : Here → Frame
+abbrev pub top_of : OperatorContext → Frame
 top_of h = top h.task.frames
 
-abbrev pub cells_of : Here → List Word
+abbrev pub cells_of : OperatorContext → List Word
 cells_of h = (top_of h).cells
 
 -- the result of a row, unless the stack is then higher than its size
-abbrev pub result : Here → Job → Task → List Line → Option ℕ → Answer Done
+abbrev pub result : OperatorContext → Job → Task → List Line → Option ℕ → Answer Done
 result h job task printed touched = do
-  needs (nat_le (height task.frames) h.setting.stack_size) StackOverflow
+  needs (nat_le (height task.frames) h.constants.stack_size) StackOverflow
   Ok (Goes (with_task job task) printed touched)
 
 -- the task with these frames
-abbrev pub with_frames : Here → List Frame → Task
+abbrev pub with_frames : OperatorContext → List Frame → Task
 with_frames h frames = record h.task { frames = frames }
 
 -- the task with these cells in its top frame
-abbrev pub with_cells : Here → List Word → Task
+abbrev pub with_cells : OperatorContext → List Word → Task
 with_cells h cells = with_frames h (with_top_cells h.task.frames cells)
 
 -- the top frame's cells are these, and an array was touched or not
-abbrev pub leaves_cells : Here → List Word → Option ℕ → Answer Done
+abbrev pub leaves_cells : OperatorContext → List Word → Option ℕ → Answer Done
 leaves_cells h cells touched = result h h.job (with_cells h cells) [] touched
 
-abbrev pub pushes : Here → Word → Option ℕ → Answer Done
+abbrev pub pushes : OperatorContext → Word → Option ℕ → Answer Done
 pushes h w touched = leaves_cells h (w ∷ cells_of h) touched
 
 -- some live task's parent may not leave this frame

@@ -5,17 +5,12 @@ use Rattle.std.proofs.lemmas.Bool.{cases_eq, cond-true, eq-eqb}
 use Rattle.b67_backing.specs.Shelf.{Shelf, Table, IsShelf, Linked, times, uses, first, taken, given, chain_of, others}
 use Rattle.b67_backing.specs.Held.{sectors_for, SameBut, Stores, Holds}
 use Rattle.b67_backing.proofs.Links.{one-same, one-other, times-append, uses-split, chain_there, rest, linked_within}
-use Rattle.b67_backing.proofs.News.{chain_of-others}
+use Rattle.b67_backing.proofs.News.{chain_of-others, first_take}
 use Rattle.b67_backing.proofs.Tallies.{AllBelow}
 use Rattle.b67_backing.proofs.Walks.{all_below}
-use Rattle.b67_stack.specs.Stands.{Told}
-use Rattle.b67_layout_storage.specs.Machine.{Says, retold}
+use Rattle.b67_stack.specs.Represents.{Told}
+use Rattle.b67_layout_storage.specs.Machine.{Says, content_after}
 use Rattle.b67_overlay.specs.Overlaid.{sectors_out}
-
-first_take : (n : ℕ) (fs : List ℕ) → 1 ≤ n → first (take n fs) ≡ first fs
-first_take zero fs h = absurd (omega arith)
-first_take (suc n) [] h = refl
-first_take (suc n) (c ∷ cs) h = refl
 
 -- a chain that is taken and given back
 pub given_taken : (n x : ℕ) (st : Shelf) → 1 ≤ n → n ≤ length st.free → x ≡ first st.free → given x (taken n st) ≡ st
@@ -103,7 +98,7 @@ Holds-same ks [] at ns old new s a h = h
 Holds-same ks (c ∷ cs) at ns old new s a h = ((h.0.0, s.others c a.0 a.1 ∙ h.0.1, h.0.2), Holds-same ks cs (at + 30) ns old new s a.2 h.1)
 
 -- the same, as far as the device tells
-pub Told-same : (ks cs ns : List ℕ) (d told new : Option (List (List ℕ))) → Says d told → ((all : List (List ℕ)) → told ≡ Some all → (y : List (List ℕ)) × (new ≡ Some y) × SameBut ks all y) → Apart ks cs → Told d cs ns → Told (retold d new) cs ns
+pub Told-same : (ks cs ns : List ℕ) (d told new : Option (List (List ℕ))) → Says d told → ((all : List (List ℕ)) → told ≡ Some all → (y : List (List ℕ)) × (new ≡ Some y) × SameBut ks all y) → Apart ks cs → Told d cs ns → Told (content_after d new) cs ns
 Told-same ks cs ns None told new s f a h = tt
 Told-same ks cs ns (Some all) told new s f a h =
     let r = f all s in
@@ -111,7 +106,7 @@ Told-same ks cs ns (Some all) told new s f a h =
     subst P (sym r.1) (Holds-same ks cs 0 ns all r.0 r.2 a h)
 
 -- and what was written
-pub Told-stored : (cs ns : List ℕ) (d told new : Option (List (List ℕ))) → Says d told → ((all : List (List ℕ)) → told ≡ Some all → (y : List (List ℕ)) × (new ≡ Some y) × Stores cs ns all y) → Told (retold d new) cs ns
+pub Told-stored : (cs ns : List ℕ) (d told new : Option (List (List ℕ))) → Says d told → ((all : List (List ℕ)) → told ≡ Some all → (y : List (List ℕ)) × (new ≡ Some y) × Stores cs ns all y) → Told (content_after d new) cs ns
 Told-stored cs ns None told new s f = tt
 Told-stored cs ns (Some all) told new s f =
     let r = f all s in
@@ -119,13 +114,13 @@ Told-stored cs ns (Some all) told new s f =
     subst P (sym r.1) r.2.holds
 
 -- a storage that says something of its device still does
-pub Says-retold : (d told new : Option (List (List ℕ))) → Says d told → ((all : List (List ℕ)) → told ≡ Some all → (y : List (List ℕ)) × (new ≡ Some y)) → Says (retold d new) new
+pub Says-retold : (d told new : Option (List (List ℕ))) → Says d told → ((all : List (List ℕ)) → told ≡ Some all → (y : List (List ℕ)) × (new ≡ Some y)) → Says (content_after d new) new
 Says-retold None told new s f = tt
 Says-retold (Some all) told new s f =
     let r = f all s in
     let P : Option (List (List ℕ)) → Type 0 = λ z. Says z z in
     subst P (sym r.1) refl
 
-pub retold-same : (d told : Option (List (List ℕ))) → Says d told → retold d told ≡ d
+pub retold-same : (d told : Option (List (List ℕ))) → Says d told → content_after d told ≡ d
 retold-same None told s = refl
 retold-same (Some all) told s = s

@@ -1,4 +1,4 @@
--- A thing's area is given back.
+-- An object's area is given back.
 use Rattle.std.proofs.Common.{◌≡◌, ◌≢◌, ℕ, suc, ◌+◌, ◌<◌, ◌≤◌, ◌==◌, List, length, Some, None, refl, sym, ◌∙◌, ap, arith, inl, inr, ⊎_elim, slice_set, subst}
 use Rattle.std.specs.List.{slice_get}
 use Rattle.std.proofs.lemmas.List.{length-set}
@@ -14,16 +14,16 @@ use Rattle.b67_area.proofs.Laws.{OnlyHoles-area, OnlyHoles-below}
 use Rattle.b67_area.proofs.Separation.{IsDirectory-below_words, IsDirectory-set_below}
 use Rattle.b67_ctl.specs.declared.registers.Regs.{Regs}
 use Rattle.b67_lemmas.specs.Lists.{Has}
-use Rattle.b67_stack.specs.Shapes.{Held, Shape, Original, IsOriginal, Fits}
-use Rattle.b67_stack.specs.Stacks.{high, words}
-use Rattle.b67_stack.specs.Picture.{Thing, Picture, stack_of, slot_base, home_word_of}
-use Rattle.b67_stack.specs.Stands.{Storage, StacksLie, HoldsIn, info_of, Stands}
+use Rattle.b67_stack.specs.Shapes.{Location, Shape, Original, IsOriginal, Fits}
+use Rattle.b67_stack.specs.Stacks.{words}
+use Rattle.b67_stack.specs.MachineView.{PagedObject, MachineView, stack_of, slot_base, home_word_of}
+use Rattle.b67_stack.specs.Represents.{Storage, StacksLie, HoldsIn, info_of, Represents}
 use Rattle.b67_stack.proofs.Heights.{words-length}
 use Rattle.b67_stack.proofs.Lies.{Lie-each}
 use Rattle.b67_layout_storage.specs.Machine.{IsPresent, with_held, Stayed}
 use Rattle.b67_layout_storage.proofs.Below.{stacks_low, not_heads}
-use Rattle.b67_layout_storage.proofs.Unchanged.{area_of_thing, home_below, slot_below, base_low}
-use Rattle.b67_layout_storage.proofs.Reheld.{Reheld, HoldsIn-stays, storage_with, Stands-reheld}
+use Rattle.b67_layout_storage.proofs.Unchanged.{area_of_object, home_below, slot_below, base_low}
+use Rattle.b67_layout_storage.proofs.Reheld.{Reheld, HoldsIn-stays, storage_with, Represents-reheld}
 use Rattle.b67_layout_storage.proofs.Words.{shape_home, no_code_above, original_word}
 use Rattle.b67_overlay.specs.Turns.{Hides}
 use Rattle.b67_overlay.specs.Overlaid.{IsOut, dropped}
@@ -35,11 +35,11 @@ pub record Freed (low : ℕ) (at : ℕ) (ss : List Span) (core new : List Tagged
   pub areas : (y : ℕ) → area_at low (without low at ss) y ≡ but at y (area_at low ss y)
   pub size : length new ≡ length core
 
-module _ (x y : Storage) (core : List Tagged) (r : Regs) (p : Picture) (s : Stands x core r p) (area : ℕ) (t : Thing) (at : IsPresent x p area t) (first : ℕ) (mid : List Tagged) (hd : Hides x core mid p t (record { area = None; chain = first })) where
+module _ (x y : Storage) (core : List Tagged) (r : Regs) (p : MachineView) (s : Represents x core r p) (area : ℕ) (t : PagedObject) (at : IsPresent x p area t) (first : ℕ) (mid : List Tagged) (hd : Hides x core mid p t (record { area = None; chain = first })) where
   abbrev n : ℕ
   n = length t.numbers
 
-  abbrev h : Held
+  abbrev h : Location
   h = record { area = None; chain = first }
 
   abbrev w : Tagged
@@ -52,7 +52,7 @@ module _ (x y : Storage) (core : List Tagged) (r : Regs) (p : Picture) (s : Stan
   below = home_below x core r p s t at.there
 
   here : area_at x.low x.spans area ≡ Some (info_of x t)
-  here = area_of_thing x core r p s t at.there area at.present
+  here = area_of_object x core r p s t at.there area at.present
 
   -- what is to be freed
   pub directory2 : IsDirectory c2 x.low x.spans
@@ -88,13 +88,13 @@ module _ (x y : Storage) (core : List Tagged) (r : Regs) (p : Picture) (s : Stan
         OnlyHoles-area c2 new x.low (without x.low area x.spans) b i q f.outside (stays3 b i e m) s.directory.above (omega arith) (omega arith)
         ∙ slice_get-set_other mid t.home q w (λ e. omega (arith, below.1)) ∙ hd.outside q (inl (omega arith))
 
-    -- another thing has another area
-    other_area : (u : Thing) → Has p.things u → u.home ≢ t.home → (b : ℕ) → (x.held u.home).area ≡ Some b → area ≢ b
-    other_area u inu m b e q = m (ap (λ (i : Info). i.owner) (same_Some (info_of x u) (info_of x t) (sym (area_of_thing x core r p s u inu b e) ∙ ap (area_at x.low x.spans) (sym q) ∙ here)))
+    -- another object has another area
+    other_area : (u : PagedObject) → Has p.objects u → u.home ≢ t.home → (b : ℕ) → (x.held u.home).area ≡ Some b → area ≢ b
+    other_area u inu m b e q = m (ap (λ (i : Info). i.owner) (same_Some (info_of x u) (info_of x t) (sym (area_of_object x core r p s u inu b e) ∙ ap (area_at x.low x.spans) (sym q) ∙ here)))
 
     stacks3 : StacksLie (with_held x.held t.home h) new p
     stacks3 k hk = Lie-each (Fits x.held) (Fits (with_held x.held t.home h)) core new (suc (slot_base p k)) (words k (stack_of (p.slots k)))
-        (λ a i v there low high get fit. ⊎_elim
+        (λ a i v there low stack_words get fit. ⊎_elim
         (λ (e : i ≡ t.home).
         let is = shape_home x core r p s t at.there a i v e (omega arith) get fit in
         let o : IsOriginal w = original_word t.kind n h (no_code_above x core r p s t at.there (omega arith)) (omega (arith, (s.slots.laid.lengths t at.there).1)) o.holds.chain.small (λ b e. absurd (none-some b e)) in
@@ -103,7 +103,7 @@ module _ (x y : Storage) (core : List Tagged) (r : Regs) (p : Picture) (s : Stan
         subst P (sym is.1) r)
         (λ (m : i ≡ t.home → ⊥).
         let j = hd.each k i a v hk (omega arith, omega (arith, words-length k (stack_of (p.slots k)))) there get fit in
-        (j.0, low3 i (omega (arith, (slot_below x core r p s k hk).0)) ((slot_below x core r p s k hk).1 i (omega arith) high) m ∙ j.1, j.2))
+        (j.0, low3 i (omega (arith, (slot_below x core r p s k hk).0)) ((slot_below x core r p s k hk).1 i (omega arith) stack_words) m ∙ j.1, j.2))
         (cases_eq i t.home))
         (s.stacks k hk)
 
@@ -118,7 +118,7 @@ module _ (x y : Storage) (core : List Tagged) (r : Regs) (p : Picture) (s : Stan
       content = inl rests3;
       others = λ u inu m. record {
         word = low3 u.home (home_below x core r p s u inu).0 (home_below x core r p s u inu).1 m ∙ hd.homes u inu;
-        body = λ b e q low high. body3 b (info_of x u) (area_of_thing x core r p s u inu b e) (other_area u inu m b e) q low high;
+        body = λ b e q low high. body3 b (info_of x u) (area_of_object x core r p s u inu b e) (other_area u inu m b e) q low high;
         chain = let c = o.others u inu m in record { chain = c.chain; told = c.told };
       };
       area_of = λ b i e. inr (⊎_elim
@@ -135,5 +135,5 @@ module _ (x y : Storage) (core : List Tagged) (r : Regs) (p : Picture) (s : Stan
       size = f.size ∙ size2;
     }
 
-    pub Stands-dropped : Stands (dropped x y t area first) new r p
-    Stands-dropped = Stands-reheld x core new r p t h (without x.low area x.spans) y.shelf y.device at.there s reheld
+    pub Represents-dropped : Represents (dropped x y t area first) new r p
+    Represents-dropped = Represents-reheld x core new r p t h (without x.low area x.spans) y.shelf y.device at.there s reheld

@@ -12,21 +12,21 @@ use Rattle.b67_ctl.specs.declared.descriptors.DataDesc.{DataDesc}
 use Rattle.b67_ctl.specs.declared.registers.Regs.{Regs}
 use Rattle.b67_ctl.specs.Descriptors.{data_word, IsDataDesc}
 use Rattle.b67_lemmas.specs.Lists.{Has}
-use Rattle.b67_stack.specs.Shapes.{Held, Map, Copied, Shape, Is, Original, Copy, IsOriginal, IsCopy, Fits, copy_desc}
-use Rattle.b67_stack.specs.Stacks.{high, words}
-use Rattle.b67_stack.specs.Picture.{Thing, Picture, Slot, Free, Running, Waiting, SlotFits, stack_of, slot_base, home_word, IsArrayAt}
-use Rattle.b67_stack.specs.Stands.{Storage, Stands, info_of}
+use Rattle.b67_stack.specs.Shapes.{Location, Locations, Copied, Shape, Is, Original, Copy, IsOriginal, IsCopy, Fits, copy_desc}
+use Rattle.b67_stack.specs.Stacks.{stack_words, words}
+use Rattle.b67_stack.specs.MachineView.{PagedObject, MachineView, Slot, Free, Running, Waiting, SlotFits, stack_of, slot_base, home_word, IsArrayAt}
+use Rattle.b67_stack.specs.Represents.{Storage, Represents, info_of}
 use Rattle.b67_stack.proofs.Homes.{same_desc}
 use Rattle.b67_stack.proofs.Bases.{base-apart}
 use Rattle.b67_layout_storage.specs.Machine.{with_held, IsPresent}
 use Rattle.b67_layout_storage.proofs.Helds.{held-other}
 use Rattle.b67_layout_storage.proofs.Words.{original_of_home}
-use Rattle.b67_layout_storage.proofs.Unchanged.{area_of_thing, home_below}
+use Rattle.b67_layout_storage.proofs.Unchanged.{area_of_object, home_below}
 use Rattle.b67_overlay.specs.Turns.{Turns, InStack, Searched, Lies, Hides}
 use Rattle.b67_overlay.proofs.Turning.{lies_of, stack_low, stack_before}
 
 -- a place is in some stack, or in none
-in_some : (p : Picture) (n i : ℕ) → ((k : ℕ) × (k < n) × InStack p k i) ⊎ ((k : ℕ) → k < n → InStack p k i → ⊥)
+in_some : (p : MachineView) (n i : ℕ) → ((k : ℕ) × (k < n) × InStack p k i) ⊎ ((k : ℕ) → k < n → InStack p k i → ⊥)
 in_some p zero i = inr (λ k low. absurd (omega arith))
 in_some p (suc n) i = ⊎_elim
     (λ (s : (k : ℕ) × (k < n) × InStack p k i). inl (s.0, omega (arith, s.1), s.2))
@@ -37,15 +37,15 @@ in_some p (suc n) i = ⊎_elim
     (cases_eq k n) in
     ⊎_elim
     (λ (a : slot_base p n < i). ⊎_elim
-    (λ (b : slot_base p n + high (stack_of (p.slots n)) < i). inr (not_here (λ at. let z : ⊥ = omega (arith, at.1) in z)))
-    (λ (b : i ≤ slot_base p n + high (stack_of (p.slots n))). inl (n, omega arith, (a, b)))
-    (cases_lt (slot_base p n + high (stack_of (p.slots n))) i))
+    (λ (b : slot_base p n + stack_words (stack_of (p.slots n)) < i). inr (not_here (λ at. let z : ⊥ = omega (arith, at.1) in z)))
+    (λ (b : i ≤ slot_base p n + stack_words (stack_of (p.slots n))). inl (n, omega arith, (a, b)))
+    (cases_lt (slot_base p n + stack_words (stack_of (p.slots n))) i))
     (λ (a : i ≤ slot_base p n). inr (not_here (λ at. let z : ⊥ = omega (arith, at.0) in z)))
     (cases_lt (slot_base p n) i))
     (in_some p n i)
 
 -- a word that is no copy stays
-word-stays : (p : Picture) (n area home : ℕ) (old new : List Tagged) (i : ℕ) (v : Tagged) → Searched p n area home old new → slice_get old i ≡ Some v
+word-stays : (p : MachineView) (n area home : ℕ) (old new : List Tagged) (i : ℕ) (v : Tagged) → Searched p n area home old new → slice_get old i ≡ Some v
     → ((d : DataDesc) → IsDataDesc d → v ≡ data_word d → d.copy ≡ true → ⊥) → slice_get new i ≡ slice_get old i
 word-stays p n area home old new i v s get uncopied = ⊎_elim
     (λ (m : (k : ℕ) × (k < n) × InStack p k i).
@@ -58,7 +58,7 @@ word-stays p n area home old new i v s get uncopied = ⊎_elim
 tag_is : (d : DataDesc) (v : Tagged) → v ≡ data_word d → v.tag ≡ 5
 tag_is d v e = ap (λ (w : Tagged). w.tag) e
 
-module _ (held : Map) (area home : ℕ) (h : Held) (has : (held home).area ≡ Some area) (alone : (q : ℕ) → (held q).area ≡ Some area → q ≡ home) (small : home < 2 ^ 20) where
+module _ (held : Locations) (area home : ℕ) (h : Location) (has : (held home).area ≡ Some area) (alone : (q : ℕ) → (held q).area ≡ Some area → q ≡ home) (small : home < 2 ^ 20) where
   copy_turned : (v w : Tagged) → Turns area home v w → (c : Copied) (q : ℕ) → IsCopy held c q v → IsCopy (with_held held home h) c q w
   copy_turned v w t c q k = by k.present k.fits k.is k.to where
     by : (b : Bool) → IsDataDesc (copy_desc c k.number b k.address) → v ≡ data_word (copy_desc c k.number b k.address) → MatchBool b ((held q).area ≡ Some k.address) (k.address ≡ q) → IsCopy (with_held held home h) c q w
@@ -86,7 +86,7 @@ module _ (held : Map) (area home : ℕ) (h : Held) (has : (held home).area ≡ S
           address = k.address;
           fits = fits;
           is = t.others (λ d fd e s. n ((same_desc (copy_desc c k.number true k.address) d fits fd (sym is ∙ e)).address ∙ s.2)) ∙ is;
-          to = ap (λ (x : Held). x.area) (held-other held home h q other) ∙ to;
+          to = ap (λ (x : Location). x.area) (held-other held home h q other) ∙ to;
         } in
         r)
         (cases_eq k.address area)
@@ -101,15 +101,15 @@ module _ (held : Map) (area home : ℕ) (h : Held) (has : (held home).area ≡ S
       (f.0, subst O (sym same) f.1)
   fits_turned v w t (Copy c q) i f = copy_turned v w t c q f
 
-module _ (x : Storage) (core : List Tagged) (r : Regs) (p : Picture) (s : Stands x core r p) (area : ℕ) (t : Thing) (at : IsPresent x p area t) (h : Held) where
+module _ (x : Storage) (core : List Tagged) (r : Regs) (p : MachineView) (s : Represents x core r p) (area : ℕ) (t : PagedObject) (at : IsPresent x p area t) (h : Location) where
   alone : (q : ℕ) → (x.held q).area ≡ Some area → q ≡ t.home
   alone q e =
       let o = s.owned.of_held q area e in
-      let i : info_of x o.0 ≡ info_of x t = same_Some _ _ (sym o.3 ∙ area_of_thing x core r p s t at.there area at.present) in
+      let i : info_of x o.0 ≡ info_of x t = same_Some _ _ (sym o.3 ∙ area_of_object x core r p s t at.there area at.present) in
       sym o.2 ∙ ap (λ (a : Info). a.owner) i
 
   -- a descriptor's word is that of no copy
-  no_copy : (u : Thing) → Has p.things u → (d : DataDesc) → IsDataDesc d → home_word u (x.held u.home) ≡ data_word d → d.copy ≡ true → ⊥
+  no_copy : (u : PagedObject) → Has p.objects u → (d : DataDesc) → IsDataDesc d → home_word u (x.held u.home) ≡ data_word d → d.copy ≡ true → ⊥
   no_copy u inu d fd e c = by (code_or u.kind) where
     code_or : (k : Kind) → (k ≡ Code) ⊎ (k ≢ Code)
     code_or Array = inr (λ z. let b : ⊥ = cc in b)
@@ -135,7 +135,7 @@ module _ (x : Storage) (core : List Tagged) (r : Regs) (p : Picture) (s : Stands
         let same : z.0 ≡ v = same_Some _ _ (sym z.2 ∙ get) in
         let P : Tagged → Type 0 = λ u. Turns area t.home u z.1 in
         (z.1, z.3, fits_turned x.held area t.home h at.present alone (omega (arith, (home_below x core r p s t at.there).1, s.inside, s.directory.small)) v z.1 (subst P same z.4) a i f);
-    homes = λ u inu. word-stays p p.peak area t.home core mid u.home (home_word u (x.held u.home)) q (s.things u inu).home (no_copy u inu);
+    homes = λ u inu. word-stays p p.peak area t.home core mid u.home (home_word u (x.held u.home)) q (s.objects u inu).home (no_copy u inu);
     bases = λ k hk. q.others (slot_base p k) (λ n hn there. ⊎_elim
         (λ (a : n < k). let z : ⊥ = omega (arith, stack_before core r x.low p n k l hn a (slot_base p k) there) in z)
         (λ (a : k ≤ n). ⊎_elim
@@ -162,7 +162,7 @@ module _ (x : Storage) (core : List Tagged) (r : Regs) (p : Picture) (s : Stands
     outside = λ i out. refl;
     below = λ i low out apart. refl;
   } where
-    names : (k : ℕ) (y : Slot) → SlotFits p k y → (c : Copied) (q : ℕ) → Has (words k (stack_of y)) (Copy c q) → IsArrayAt p.things q
+    names : (k : ℕ) (y : Slot) → SlotFits p k y → (c : Copied) (q : ℕ) → Has (words k (stack_of y)) (Copy c q) → IsArrayAt p.objects q
     names k Free f c q there = absurd there
     names k (Running stack) f c q there = f.1 c q there
     names k (Waiting stack) f c q there = f.1 c q there
@@ -172,6 +172,6 @@ module _ (x : Storage) (core : List Tagged) (r : Regs) (p : Picture) (s : Stands
     fits k hk (Original q) i v there f = f
     fits k hk (Copy c q) i v there f =
         let u = names k (p.slots k) (s.slots.laid.slots k hk) c q there in
-        let n : q ≢ t.home = λ e. u.3 (ap (λ (z : Thing). z.kind) (s.slots.laid.differ u.0 t u.1 at.there (u.2 ∙ e)) ∙ code) in
-        let P : Held → Type 0 = λ g. MatchBool f.present (g.area ≡ Some f.address) (f.address ≡ q) in
+        let n : q ≢ t.home = λ e. u.3 (ap (λ (z : PagedObject). z.kind) (s.slots.laid.differ u.0 t u.1 at.there (u.2 ∙ e)) ∙ code) in
+        let P : Location → Type 0 = λ g. MatchBool f.present (g.area ≡ Some f.address) (f.address ≡ q) in
         record { number = f.number; numbered = f.numbered; present = f.present; address = f.address; fits = f.fits; is = f.is; to = subst P (sym (held-other x.held t.home h q n)) f.to }

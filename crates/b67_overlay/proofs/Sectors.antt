@@ -1,9 +1,8 @@
--- The sectors of things after an array was written, or was not.
-use Rattle.std.proofs.Common.{◌≡◌, ◌≢◌, ℕ, zero, suc, ◌+◌, ◌-◌, ◌<◌, ◌≤◌, ◌^◌, ◌==◌, List, [], ◌∷◌, length, map, take, drop, Option, Some, None, refl, sym, ◌∙◌, ap, arith, inl, inr, ◌⊎◌, ⊎_elim, subst}
+-- The sectors of objects after an array was written, or was not.
+use Rattle.std.proofs.Common.{◌≡◌, ◌≢◌, ℕ, zero, suc, ◌+◌, ◌-◌, ◌<◌, ◌≤◌, ◌^◌, ◌==◌, List, [], ◌∷◌, length, map, take, drop, Option, Some, refl, sym, ◌∙◌, ap, arith, inl, inr, ◌⊎◌, ⊎_elim, subst}
 use Rattle.std.specs.Prelude.{slice_range}
-use Rattle.std.specs.List.{slice_get}
 use Rattle.std.proofs.lemmas.Bool.{cases_eq, cond-true, cond-false, eq-eqb, ne_eqb}
-use Rattle.std.proofs.lemmas.Option.{same_Some, none-some}
+use Rattle.std.proofs.lemmas.Option.{same_Some}
 use Rattle.b67_word.specs.Tagged.{Tagged}
 use Rattle.b67_core.specs.Numbers.{number}
 use Rattle.b67_area.specs.declared.Kind.{Kind}
@@ -14,79 +13,59 @@ use Rattle.b67_backing.specs.Held.{sectors_for, SameBut, Stores}
 use Rattle.b67_backing.proofs.News.{chain_of-taken}
 use Rattle.b67_ctl.specs.declared.registers.Regs.{Regs}
 use Rattle.b67_lemmas.specs.Lists.{Has}
-use Rattle.b67_stack.specs.Shapes.{Map, Upward}
-use Rattle.b67_stack.specs.Picture.{Thing, Picture, words_of}
-use Rattle.b67_stack.specs.Stands.{Storage, Stands, Content, Keeps, HasChain, HoldsIn, Told, StacksLie, info_of}
+use Rattle.b67_stack.specs.Shapes.{Locations, LieUpward}
+use Rattle.b67_stack.specs.MachineView.{PagedObject, MachineView, words_of}
+use Rattle.b67_stack.specs.Represents.{Storage, Represents, Content, KeptChain, HasChain, HoldsIn, Told, StacksLie, info_of}
 use Rattle.b67_stack.proofs.Homes.{chain_small}
-use Rattle.b67_layout_storage.specs.Machine.{IsPresent, Says, retold}
+use Rattle.b67_stack.proofs.Lies.{upward-take}
+use Rattle.b67_layout_storage.specs.Machine.{IsPresent, Says, content_after}
 use Rattle.b67_layout_storage.proofs.Helds.{held-back}
-use Rattle.b67_layout_storage.proofs.Reheld.{Reheld, storage_with, Stands-reheld}
-use Rattle.b67_layout_storage.proofs.Unchanged.{area_of_thing, area_bounds}
+use Rattle.b67_layout_storage.proofs.Reheld.{Reheld, storage_with, Represents-reheld}
+use Rattle.b67_layout_storage.proofs.Unchanged.{area_of_object, area_bounds}
+use Rattle.b67_layout_storage.proofs.Chained.{Content-chain}
 use Rattle.b67_overlay.specs.Overlaid.{chain_out, shelf_out, sectors_out, retelling, overlaid, dropped, IsOut}
 use Rattle.b67_overlay.proofs.Chains.{Apart, chains_apart, free_apart, free_first, Told-same, Told-stored, retold-same}
 
--- the words from a place on, as a list
-drop_get : {A : Type 0} (xs : List A) (i : ℕ) (v : A) → slice_get xs i ≡ Some v → drop i xs ≡ v ∷ drop (suc i) xs
-drop_get {A} [] i v e = absurd (none-some v e)
-drop_get {A} (x ∷ xs) zero v e = ap (λ (y : A). y ∷ xs) (same_Some x v e)
-drop_get {A} (x ∷ xs) (suc i) v e = drop_get xs i v e
-
-take_up : (core : List Tagged) (at : ℕ) (ws : List Tagged) → Upward core at ws → take (length ws) (drop at core) ≡ ws
-take_up core at [] u = refl
-take_up core at (w ∷ ws) u =
-    ap (take (suc (length ws))) (drop_get core at w u.0) ∙ ap (λ (r : List Tagged). w ∷ r) (ap (λ (i : ℕ). take (length ws) (drop i core)) (let e : suc at ≡ at + 1 = omega arith in e) ∙ take_up core (at + 1) ws u.1)
-
-pub range_up : (core : List Tagged) (at n : ℕ) (ws : List Tagged) → length ws ≡ n → Upward core at ws → slice_range core at (at + n) ≡ ws
-range_up core at n ws e u = ap (λ (k : ℕ). take k (drop at core)) (let z : at + n - at ≡ length ws = omega arith in z) ∙ take_up core at ws u
-
--- a thing's chain, if it has one
-Keeps-chain : (x : Storage) (t : Thing) (k : Kind) (f : ℕ) → Keeps x t k f → (f ≡ 0) ⊎ HasChain x t f
-Keeps-chain x t Array f c = c
-Keeps-chain x t Row f c = inr c.chain
-Keeps-chain x t Code f c = inr c.chain
-
-Content-chain : (x : Storage) (core : List Tagged) (t : Thing) (a : Option ℕ) (f : ℕ) → Content x core t a f → (f ≡ 0) ⊎ HasChain x t f
-Content-chain x core t (Some a) f c = Keeps-chain x t t.kind f c.1
-Content-chain x core t None f (inl h) = inr h.chain
-Content-chain x core t None f (inr z) = inl z.0
+pub range_up : (core : List Tagged) (at n : ℕ) (ws : List Tagged) → length ws ≡ n → LieUpward core at ws → slice_range core at (at + n) ≡ ws
+range_up core at n ws e u = ap (λ (k : ℕ). take k (drop at core)) (let z : at + n - at ≡ length ws = omega arith in z) ∙ upward-take core at ws u
 
 pub sectors_some : (n : ℕ) → 0 < n → 1 ≤ sectors_for n
 sectors_some n h = omega arith
 
 -- what is known of an area
-pub record About (x : Storage) (core : List Tagged) (area : ℕ) (t : Thing) : Type 0 where
+pub record About (x : Storage) (core : List Tagged) (area : ℕ) (t : PagedObject) : Type 0 where
   pub here : area_at x.low x.spans area ≡ Some (info_of x t)
   pub some : 0 < length t.numbers
   pub few : length t.numbers < 2 ^ 16
   pub small : (x.held t.home).chain < 2 ^ 20
   pub inside : area + length t.numbers < length core
-  pub words : Upward core area (words_of t)
-  pub keeps : Keeps x t t.kind (x.held t.home).chain
+  pub words : LieUpward core area (words_of t)
+  pub keeps : KeptChain x t t.kind (x.held t.home).chain
 
-module _ (x : Storage) (core : List Tagged) (r : Regs) (p : Picture) (s : Stands x core r p) (area : ℕ) (t : Thing) (at : IsPresent x p area t) where
+module _ (x : Storage) (core : List Tagged) (r : Regs) (p : MachineView) (s : Represents x core r p) (area : ℕ) (t : PagedObject) (at : IsPresent x p area t) where
   pub about : About x core area t
   about =
       let l = s.slots.laid.lengths t at.there in
       let C : Option ℕ → Type 0 = λ o. Content x core t o (x.held t.home).chain in
-      let c = subst C at.present (s.things t at.there).content in
+      let c = subst C at.present (s.objects t at.there).content in
       record {
-        here = area_of_thing x core r p s t at.there area at.present;
+        here = area_of_object x core r p s t at.there area at.present;
         some = l.0;
         few = l.1;
-        small = chain_small x core t (x.held t.home).area (x.held t.home).chain (s.things t at.there).content;
+        small = chain_small x core t (x.held t.home).area (x.held t.home).chain (s.objects t at.there).content;
         inside = (area_bounds x core r p s t at.there area at.present).1;
         words = c.0;
         keeps = c.1;
       }
 
-  thing_chain : (u : Thing) → Has p.things u → ((x.held u.home).chain ≡ 0) ⊎ HasChain x u (x.held u.home).chain
-  thing_chain u inu = Content-chain x core u (x.held u.home).area (x.held u.home).chain (s.things u inu).content
+  object_chain : (u : PagedObject) → Has p.objects u → ((x.held u.home).chain ≡ 0) ⊎ HasChain x u (x.held u.home).chain
+  object_chain u inu = Content-chain x core u (x.held u.home).area (x.held u.home).chain (s.objects u inu).content
 
-  -- another thing has another chain
-  other_chain : (u : Thing) → Has p.things u → u.home ≢ t.home → 0 < (x.held t.home).chain → (x.held u.home).chain ≢ (x.held t.home).chain
+  -- another object has another chain
+  other_chain : (u : PagedObject) → Has p.objects u → u.home ≢ t.home → 0 < (x.held t.home).chain → (x.held u.home).chain ≢ (x.held t.home).chain
   other_chain u inu m some e = m (s.owned.one_chain u t inu at.there (omega (arith, e)) e)
 
-  clean_kind : (k : Kind) → k ≢ Array → Keeps x t k (x.held t.home).chain → HoldsIn x t (x.held t.home).chain
+  clean_kind : (k : Kind) → k ≢ Array → KeptChain x t k (x.held t.home).chain → HoldsIn x t (x.held t.home).chain
   clean_kind Array m k = absurd (m refl)
   clean_kind Row m k = k
   clean_kind Code m k = k
@@ -110,7 +89,7 @@ module _ (x : Storage) (core : List Tagged) (r : Regs) (p : Picture) (s : Stands
   overlaid_clean told says m =
       let n : (x.held t.home).chain ≢ 0 = λ e. omega (arith, (clean_kind t.kind m about.keeps).chain.some, e) in
       let q = ne_eqb (x.held t.home).chain 0 n in
-      by ((x.held t.home).chain) (chain_out x.shelf (x.held t.home).chain) x.shelf (shelf_out x.shelf (x.held t.home).chain (length t.numbers)) x.device (retold x.device told)
+      by ((x.held t.home).chain) (chain_out x.shelf (x.held t.home).chain) x.shelf (shelf_out x.shelf (x.held t.home).chain (length t.numbers)) x.device (content_after x.device told)
       (sym (cond-false ((x.held t.home).chain == 0) _ _ q)) (sym (cond-false ((x.held t.home).chain == 0) _ _ q)) (sym (retold-same x.device told says)) where
         by : (f f' : ℕ) (k k' : Shelf) (d d' : Option (List (List ℕ))) → f ≡ f' → k ≡ k' → d ≡ d' → dropped x (record x { shelf = k; device = d }) t area f ≡ dropped x (record x { shelf = k'; device = d' }) t area f'
         by f f' k k' d d' a b e = rw (a, b, e) refl
@@ -123,10 +102,10 @@ module _ (x : Storage) (core : List Tagged) (r : Regs) (p : Picture) (s : Stands
     n = length t.numbers
 
     pub kept_chain : (kept ≡ 0) ⊎ HasChain x t kept
-    kept_chain = let K : Kind → Type 0 = λ k. Keeps x t k kept in subst K array about.keeps
+    kept_chain = let K : Kind → Type 0 = λ k. KeptChain x t k kept in subst K array about.keeps
 
-    -- the sectors that may have been written are none of another thing's
-    apart_out : (u : Thing) → Has p.things u → u.home ≢ t.home → Apart (sectors_out x.shelf kept n) (chain_of (x.held u.home).chain x.shelf.chains)
+    -- the sectors that may have been written are none of another object's
+    apart_out : (u : PagedObject) → Has p.objects u → u.home ≢ t.home → Apart (sectors_out x.shelf kept n) (chain_of (x.held u.home).chain x.shelf.chains)
     apart_out u inu m = ⊎_elim
         (λ (z : kept ≡ 0).
         let P : ℕ → Type 0 = λ k. Apart (sectors_out x.shelf k n) (chain_of (x.held u.home).chain x.shelf.chains) in
@@ -141,23 +120,23 @@ module _ (x : Storage) (core : List Tagged) (r : Regs) (p : Picture) (s : Stands
         subst Q (sym e) (chains_apart table x.shelf sh (x.held u.home).chain kept (other_chain u inu m h.some)))
         kept_chain
 
-    told_other : ((all : List (List ℕ)) → told ≡ Some all → (y : List (List ℕ)) × (new ≡ Some y) × SameBut (sectors_out x.shelf kept n) all y) → (u : Thing) → Has p.things u → u.home ≢ t.home
-        → (ns : List ℕ) → Told x.device (chain_of (x.held u.home).chain x.shelf.chains) ns → Told (retold x.device new) (chain_of (x.held u.home).chain x.shelf.chains) ns
+    told_other : ((all : List (List ℕ)) → told ≡ Some all → (y : List (List ℕ)) × (new ≡ Some y) × SameBut (sectors_out x.shelf kept n) all y) → (u : PagedObject) → Has p.objects u → u.home ≢ t.home
+        → (ns : List ℕ) → Told x.device (chain_of (x.held u.home).chain x.shelf.chains) ns → Told (content_after x.device new) (chain_of (x.held u.home).chain x.shelf.chains) ns
     told_other f u inu m ns h = Told-same (sectors_out x.shelf kept n) (chain_of (x.held u.home).chain x.shelf.chains) ns x.device told new says f (apart_out u inu m) h
 
     -- what was not written, or not to its end
-    pub Stands-retold : ((all : List (List ℕ)) → told ≡ Some all → (y : List (List ℕ)) × (new ≡ Some y) × SameBut (sectors_out x.shelf kept n) all y) → Stands (retelling x new) core r p
-    Stands-retold f =
-        let d = retold x.device new in
+    pub Represents-retold : ((all : List (List ℕ)) → told ≡ Some all → (y : List (List ℕ)) × (new ≡ Some y) × SameBut (sectors_out x.shelf kept n) all y) → Represents (retelling x new) core r p
+    Represents-retold f =
+        let d = content_after x.device new in
         let z = storage_with x t.home (x.held t.home) x.spans x.shelf d in
         let P : Option ℕ → Type 0 = λ o. Content z core t o kept in
-        let K : Kind → Type 0 = λ k. Keeps z t k kept in
+        let K : Kind → Type 0 = λ k. KeptChain z t k kept in
         let chain : (kept ≡ 0) ⊎ HasChain z t kept = ⊎_elim (λ (e : kept ≡ 0). inl e) (λ (h : HasChain x t kept). let g : HasChain z t kept = record { some = h.some; small = h.small; sectors = h.sectors } in inr g) kept_chain in
         let a = about in
         let re : Reheld x core core p t (x.held t.home) x.spans x.shelf d = record {
           bases = λ k hk. refl;
-          stacks = (let S : Map → Type 0 = λ m. StacksLie m core p in subst S (sym (held-back x.held t.home)) s.stacks);
-          home = (s.things t at.there).home;
+          stacks = (let S : Locations → Type 0 = λ m. StacksLie m core p in subst S (sym (held-back x.held t.home)) s.stacks);
+          home = (s.objects t at.there).home;
           content = subst P (sym at.present) (a.words, subst K (sym array) chain);
           others = λ u inu m. record { word = refl; body = λ b e q low high. refl; chain = record { chain = refl; told = told_other f u inu m } };
           area_of = λ b i e. ⊎_elim
@@ -172,20 +151,20 @@ module _ (x : Storage) (core : List Tagged) (r : Regs) (p : Picture) (s : Stands
           directory = s.directory;
           size = refl;
         } in
-        let Q : Map → Type 0 = λ m. Stands (record { held = m; low = x.low; spans = x.spans; shelf = x.shelf; device = d }) core r p in
-        subst Q (held-back x.held t.home) (Stands-reheld x core core r p t (x.held t.home) x.spans x.shelf d at.there s re)
+        let Q : Locations → Type 0 = λ m. Represents (record { held = m; low = x.low; spans = x.spans; shelf = x.shelf; device = d }) core r p in
+        subst Q (held-back x.held t.home) (Represents-reheld x core core r p t (x.held t.home) x.spans x.shelf d at.there s re)
 
     numbers : List ℕ
     numbers = map number (words_of t)
 
     module _ (f : (all : List (List ℕ)) → told ≡ Some all → (y : List (List ℕ)) × (new ≡ Some y) × Stores (sectors_out x.shelf kept n) (map number (words_of t)) all y) (room : kept ≡ 0 → sectors_for n ≤ length x.shelf.free) where
       abbrev out : Storage
-      out = record x { shelf = shelf_out x.shelf kept n; device = retold x.device new }
+      out = record x { shelf = shelf_out x.shelf kept n; device = content_after x.device new }
 
       same : (all : List (List ℕ)) → told ≡ Some all → (y : List (List ℕ)) × (new ≡ Some y) × SameBut (sectors_out x.shelf kept n) all y
       same all e = let (y, is, st) = f all e in (y, is, st.same)
 
-      written : Told (retold x.device new) (sectors_out x.shelf kept n) (map number (words_of t))
+      written : Told (content_after x.device new) (sectors_out x.shelf kept n) (map number (words_of t))
       written = Told-stored (sectors_out x.shelf kept n) (map number (words_of t)) x.device told new says f
 
       -- in the chain that was kept
@@ -195,8 +174,8 @@ module _ (x : Storage) (core : List Tagged) (r : Regs) (p : Picture) (s : Stands
           let ec : chain_out x.shelf kept ≡ kept = cond-false (kept == 0) _ _ q in
           let es : shelf_out x.shelf kept n ≡ x.shelf = cond-false (kept == 0) _ _ q in
           let eo : sectors_out x.shelf kept n ≡ chain_of kept x.shelf.chains = rw q refl in
-          let W : List ℕ → Type 0 = λ k. Told (retold x.device new) k (map number (words_of t)) in
-          let y : Storage = record x { shelf = x.shelf; device = retold x.device new } in
+          let W : List ℕ → Type 0 = λ k. Told (content_after x.device new) k (map number (words_of t)) in
+          let y : Storage = record x { shelf = x.shelf; device = content_after x.device new } in
           let done : IsOut x y p t kept = record {
             holds = record { chain = record { some = h.some; small = h.small; sectors = h.sectors }; told = subst W eo written };
             others = λ u inu m. record { chain = refl; told = told_other same u inu m };
@@ -204,7 +183,7 @@ module _ (x : Storage) (core : List Tagged) (r : Regs) (p : Picture) (s : Stands
             no_zero = s.owned.no_zero;
             own = λ u inu m. other_chain u inu m h.some;
           } in
-          let P : Shelf → ℕ → Type 0 = λ k g. IsOut x (record x { shelf = k; device = retold x.device new }) p t g in
+          let P : Shelf → ℕ → Type 0 = λ k g. IsOut x (record x { shelf = k; device = content_after x.device new }) p t g in
           subst (λ (k : Shelf). P k (chain_out x.shelf kept)) (sym es) (subst (λ (g : ℕ). P x.shelf g) (sym ec) done)
 
       -- in a new chain
@@ -220,12 +199,12 @@ module _ (x : Storage) (core : List Tagged) (r : Regs) (p : Picture) (s : Stands
           let chain : chain_of f0 (taken m x.shelf).chains ≡ take m x.shelf.free = chain_of-taken m f0 f0 x.shelf some refl ∙ cond-true (f0 == f0) _ _ (eq-eqb f0 f0 refl) in
           let other : (g : ℕ) → f0 ≢ g → chain_of g (taken m x.shelf).chains ≡ chain_of g x.shelf.chains = λ g w. chain_of-taken m f0 g x.shelf some refl ∙ cond-false (f0 == g) _ _ (ne_eqb f0 g w) in
           let eo : sectors_out x.shelf kept n ≡ chain_of f0 (taken m x.shelf).chains = rw q refl in
-          let W : List ℕ → Type 0 = λ k. Told (retold x.device new) k (map number (words_of t)) in
-          let own : (u : Thing) → Has p.things u → u.home ≢ t.home → (x.held u.home).chain ≢ f0 = λ u inu w e. ⊎_elim
+          let W : List ℕ → Type 0 = λ k. Told (content_after x.device new) k (map number (words_of t)) in
+          let own : (u : PagedObject) → Has p.objects u → u.home ≢ t.home → (x.held u.home).chain ≢ f0 = λ u inu w e. ⊎_elim
           (λ (z : (x.held u.home).chain ≡ 0). let b : ⊥ = omega (arith, ff.0, e, z) in b)
           (λ (h : HasChain x u (x.held u.home).chain). let b : ⊥ = omega (arith, h.sectors, ap (λ k. length (chain_of k x.shelf.chains)) e, ap length ff.2, sectors_some (length u.numbers) (s.slots.laid.lengths u inu).0) in b)
-          (thing_chain u inu) in
-          let y : Storage = record x { shelf = taken m x.shelf; device = retold x.device new } in
+          (object_chain u inu) in
+          let y : Storage = record x { shelf = taken m x.shelf; device = content_after x.device new } in
           let done : IsOut x y p t f0 = record {
             holds = record { chain = record { some = ff.0; small = omega (arith, ff.1, sh.small); sectors = ap length chain ∙ length_taken m x.shelf.free (room zero_kept) }; told = subst W eo written };
             others = λ u inu w. record { chain = other (x.held u.home).chain (λ e. own u inu w (sym e)); told = told_other same u inu w };
@@ -238,7 +217,7 @@ module _ (x : Storage) (core : List Tagged) (r : Regs) (p : Picture) (s : Stands
             no_zero = other 0 (λ e. omega (arith, ff.0, e)) ∙ s.owned.no_zero;
             own = own;
           } in
-          let P : Shelf → ℕ → Type 0 = λ k g. IsOut x (record x { shelf = k; device = retold x.device new }) p t g in
+          let P : Shelf → ℕ → Type 0 = λ k g. IsOut x (record x { shelf = k; device = content_after x.device new }) p t g in
           subst (λ (k : Shelf). P k (chain_out x.shelf kept)) (sym es) (subst (λ (g : ℕ). P (taken m x.shelf) g) (sym ec) done) where
             length_taken : (m : ℕ) (fs : List ℕ) → m ≤ length fs → length (take m fs) ≡ m
             length_taken zero fs h = refl

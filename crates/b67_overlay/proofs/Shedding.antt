@@ -1,56 +1,57 @@
 -- What an overlay leaves of a storage.
-use Rattle.std.proofs.Common.{◌≡◌, ◌≢◌, ℕ, ◌^◌, ◌<◌, arith, List, length, Option, Some, None, refl, sym, ◌∙◌, ap, subst}
+use Rattle.std.proofs.Common.{◌≡◌, ◌≢◌, ℕ, ◌^◌, ◌<◌, ◌≤◌, ◌==◌, arith, List, length, Option, Some, None, refl, sym, ◌∙◌, ap, subst}
 use Rattle.std.proofs.lemmas.Option.{same_Some, none-some}
+use Rattle.std.proofs.lemmas.Bool.{cond-false, ne_eqb}
 use Rattle.b67_area.specs.declared.Areas.{Areas}
 use Rattle.b67_area.specs.declared.Info.{Info}
 use Rattle.b67_area.specs.Spans.{Span, area_at, first_area, area_after, without}
 use Rattle.b67_area.specs.Directory.{IsDirectory}
-use Rattle.b67_area.proofs.Laws.{area_inside}
+use Rattle.b67_area.proofs.Laws.{area_inside, area_at-without}
 use Rattle.b67_backing.specs.Shelf.{Table}
 use Rattle.b67_stack.specs.declared.Cpu.{Cpu}
-use Rattle.b67_stack.specs.Shapes.{Held}
-use Rattle.b67_stack.specs.Picture.{Thing, Picture}
-use Rattle.b67_stack.specs.Stands.{Storage}
-use Rattle.b67_layout_storage.specs.Machine.{MachineStands, IsPresent, Says, retold}
+use Rattle.b67_stack.specs.Shapes.{Location}
+use Rattle.b67_stack.specs.MachineView.{PagedObject, MachineView}
+use Rattle.b67_stack.specs.Represents.{Storage}
+use Rattle.b67_layout_storage.specs.Machine.{MachineRepresentsView, IsPresent, Says, content_after}
 use Rattle.b67_layout_storage.proofs.Helds.{held-other}
 use Rattle.b67_overlay.specs.Overlaid.{overlaid, retelling, chain_out, IsShort}
 use Rattle.b67_backing.specs.Held.{sectors_for}
-use Rattle.b67_overlay.specs.Sheds.{Sheds, Remains, IsShortBy}
+use Rattle.b67_overlay.specs.AreasEvicted.{AreasEvicted, EvictedBelow, Remains, IsShortBy}
 use Rattle.b67_overlay.proofs.Visits.{left_of, walk_falls, Remains-first, Remains-gone, Remains-past}
 
-pub Sheds-none : (x : Storage) (spare : ℕ) → Sheds x x spare
-Sheds-none x spare = record { low = refl; resting = λ q e. refl; spared = λ q e. refl; untold = λ e. e; told = λ n. n }
+pub AreasEvicted-none : (x : Storage) (spare : ℕ) → AreasEvicted x x spare
+AreasEvicted-none x spare = record { low = refl; resting = λ q e. refl; spared = λ q e. refl; untold = λ e. e; told = λ n. n }
 
-pub Sheds-then : (x y z : Storage) (spare : ℕ) → Sheds x y spare → Sheds y z spare → Sheds x z spare
-Sheds-then x y z spare a b = record {
+pub AreasEvicted-then : (x y z : Storage) (spare : ℕ) → AreasEvicted x y spare → AreasEvicted y z spare → AreasEvicted x z spare
+AreasEvicted-then x y z spare a b = record {
   low = b.low ∙ a.low;
-  resting = λ q e. b.resting q (ap (λ (h : Held). h.area) (a.resting q e) ∙ e) ∙ a.resting q e;
-  spared = λ q e. b.spared q (ap (λ (h : Held). h.area) (a.spared q e) ∙ e) ∙ a.spared q e;
+  resting = λ q e. b.resting q (ap (λ (h : Location). h.area) (a.resting q e) ∙ e) ∙ a.resting q e;
+  spared = λ q e. b.spared q (ap (λ (h : Location). h.area) (a.spared q e) ∙ e) ∙ a.spared q e;
   untold = λ e. b.untold (a.untold e);
   told = λ n. b.told (a.told n);
 }
 
-retold-none : (d told : Option (List (List ℕ))) → d ≡ None → retold d told ≡ None
+retold-none : (d told : Option (List (List ℕ))) → d ≡ None → content_after d told ≡ None
 retold-none None told e = refl
 retold-none (Some all) told e = absurd (let z : ⊥ = cc in z)
 
-retold-some : (d old new : Option (List (List ℕ))) → Says (retold d new) new → d ≢ None → Says d old → ((all : List (List ℕ)) → old ≡ Some all → new ≢ None) → retold d new ≢ None
+retold-some : (d old new : Option (List (List ℕ))) → Says (content_after d new) new → d ≢ None → Says d old → ((all : List (List ℕ)) → old ≡ Some all → new ≢ None) → content_after d new ≢ None
 retold-some None old new s n o f e = n refl
 retold-some (Some all) old new s n o f e = f all o e
 
 module _ (x : Storage) (told new : Option (List (List ℕ))) (says : Says x.device told) (tells : (all : List (List ℕ)) → told ≡ Some all → new ≢ None) where
-  not_none : x.device ≢ None → retold x.device new ≢ None
+  not_none : x.device ≢ None → content_after x.device new ≢ None
   not_none n = by x.device n says where
-    by : (d : Option (List (List ℕ))) → d ≢ None → Says d told → retold d new ≢ None
+    by : (d : Option (List (List ℕ))) → d ≢ None → Says d told → content_after d new ≢ None
     by None m s e = m refl
     by (Some all) m s e = tells all s e
 
-  pub Sheds-retelling : (spare : ℕ) → Sheds x (retelling x new) spare
-  Sheds-retelling spare = record { low = refl; resting = λ q e. refl; spared = λ q e. refl; untold = λ e. retold-none x.device new e; told = not_none }
+  pub AreasEvicted-retelling : (spare : ℕ) → AreasEvicted x (retelling x new) spare
+  AreasEvicted-retelling spare = record { low = refl; resting = λ q e. refl; spared = λ q e. refl; untold = λ e. retold-none x.device new e; told = not_none }
 
-  pub Sheds-overlaid : (t : Thing) (at spare : ℕ) → (x.held t.home).area ≡ Some at → at ≢ spare → Sheds x (overlaid x t at new) spare
-  Sheds-overlaid t at spare here n =
-      let h : Held = record { area = None; chain = chain_out x.shelf (x.held t.home).chain } in
+  pub AreasEvicted-overlaid : (t : PagedObject) (at spare : ℕ) → (x.held t.home).area ≡ Some at → at ≢ spare → AreasEvicted x (overlaid x t at new) spare
+  AreasEvicted-overlaid t at spare here n =
+      let h : Location = record { area = None; chain = chain_out x.shelf (x.held t.home).chain } in
       record {
         low = refl;
         resting = λ q e. held-other x.held t.home h q (λ z. none-some at (sym e ∙ ap (λ k. (x.held k).area) z ∙ here));
@@ -59,12 +60,35 @@ module _ (x : Storage) (told new : Option (List (List ℕ))) (says : Says x.devi
         told = not_none;
       }
 
--- the thing of an area
-pub at_area : (x : Storage) (cpu : Cpu) (areas : Areas) (table : Table) (told : Option (List (List ℕ))) (p : Picture) → MachineStands x cpu areas table told p → (at : ℕ) (a : Info) → area_at x.low x.spans at ≡ Some a → (t : Thing) × IsPresent x p at t
+-- the same for areas that have a word below an address
+pub EvictedBelow-none : (upto : ℕ) (x : Storage) → EvictedBelow upto x x
+EvictedBelow-none upto x = record { evicted = AreasEvicted-none x 0; stays = λ at a h e. e }
+
+pub EvictedBelow-then : (upto : ℕ) (x y z : Storage) → EvictedBelow upto x y → EvictedBelow upto y z → EvictedBelow upto x z
+EvictedBelow-then upto x y z a b = record {
+  evicted = AreasEvicted-then x y z 0 a.evicted b.evicted;
+  stays = λ at i h e. b.stays at i h (a.stays at i h e);
+}
+
+pub EvictedBelow-retelling : (upto : ℕ) (x : Storage) (told new : Option (List (List ℕ))) → Says x.device told → ((all : List (List ℕ)) → told ≡ Some all → new ≢ None) → EvictedBelow upto x (retelling x new)
+EvictedBelow-retelling upto x told new says tells = record { evicted = AreasEvicted-retelling x told new says tells 0; stays = λ at a h e. e }
+
+other_area : (low at b : ℕ) (ss : List Span) (a : Info) → at ≢ b → area_at low ss b ≡ Some a → area_at low (without low at ss) b ≡ Some a
+other_area low at b ss a n e = area_at-without low at ss b ∙ cond-false (at == b) None (area_at low ss b) (ne_eqb at b n) ∙ e
+
+pub EvictedBelow-overlaid : (upto : ℕ) (x : Storage) (told new : Option (List (List ℕ))) → Says x.device told → ((all : List (List ℕ)) → told ≡ Some all → new ≢ None)
+    → (t : PagedObject) (at : ℕ) → (x.held t.home).area ≡ Some at → at ≢ 0 → at ≤ upto → EvictedBelow upto x (overlaid x t at new)
+EvictedBelow-overlaid upto x told new says tells t at here n within = record {
+  evicted = AreasEvicted-overlaid x told new says tells t at 0 here n;
+  stays = λ b a h e. other_area x.low at b x.spans a (λ z. omega (arith, z, h, within)) e;
+}
+
+-- the object of an area
+pub at_area : (x : Storage) (cpu : Cpu) (areas : Areas) (table : Table) (told : Option (List (List ℕ))) (p : MachineView) → MachineRepresentsView x cpu areas table told p → (at : ℕ) (a : Info) → area_at x.low x.spans at ≡ Some a → (t : PagedObject) × IsPresent x p at t
 at_area x cpu areas table told p m at a e = let o = m.stands.owned.of_area at a e in (o.0, record { there = o.1; present = o.2 })
 
 -- a turn of a walk that gives areas back
-module _ (y : Storage) (cpu : Cpu) (areas : Areas) (table : Table) (told : Option (List (List ℕ))) (p : Picture) (m : MachineStands y cpu areas table told p) (spare at : ℕ) (next : Option ℕ) (is : next ≡ Some at) (re : Remains y.low y.spans spare next) where
+module _ (y : Storage) (cpu : Cpu) (areas : Areas) (table : Table) (told : Option (List (List ℕ))) (p : MachineView) (m : MachineRepresentsView y cpu areas table told p) (spare at : ℕ) (next : Option ℕ) (is : next ≡ Some at) (re : Remains y.low y.spans spare next) where
   pub here : Remains y.low y.spans spare (Some at)
   here = let P : Option ℕ → Type 0 = λ o. Remains y.low y.spans spare o in subst P is re
 
@@ -75,8 +99,8 @@ module _ (y : Storage) (cpu : Cpu) (areas : Areas) (table : Table) (told : Optio
     ap (λ (n : ℕ). area_at n y.spans at) m.low ∙ here.0.1,
   )
 
-  pub thing_here : (t : Thing) × IsPresent y p at t
-  thing_here = at_area y cpu areas table told p m at here.0.0 here.0.1
+  pub object_here : (t : PagedObject) × IsPresent y p at t
+  object_here = at_area y cpu areas table told p m at here.0.0 here.0.1
 
   pub small_here : (y.low < at) × (at < 2 ^ 20)
   small_here = let b = area_inside cpu.core y.low y.spans at here.0.0 m.stands.directory here.0.1 in (b.0, omega (arith, b.1, m.stands.directory.small))
@@ -96,7 +120,7 @@ module _ (y : Storage) (cpu : Cpu) (areas : Areas) (table : Table) (told : Optio
   past_here result e q = let P : Option ℕ → Type 0 = λ o. Remains y.low y.spans spare o in subst P (sym e) (Remains-past y.low y.spans spare at q here)
 
 -- the walk begins
-pub first_here : (y : Storage) (cpu : Cpu) (areas : Areas) (table : Table) (told : Option (List (List ℕ))) (p : Picture) (spare : ℕ) (result : Option ℕ) → MachineStands y cpu areas table told p
+pub first_here : (y : Storage) (cpu : Cpu) (areas : Areas) (table : Table) (told : Option (List (List ℕ))) (p : MachineView) (spare : ℕ) (result : Option ℕ) → MachineRepresentsView y cpu areas table told p
     → ((ss : List Span) → IsDirectory cpu.core areas.low ss → result ≡ first_area areas.low ss) → Remains y.low y.spans spare result
 first_here y cpu areas table told p spare result m f =
     let e : result ≡ first_area y.low y.spans = f y.spans (subst (λ (n : ℕ). IsDirectory cpu.core n y.spans) (sym m.low) m.stands.directory) ∙ ap (λ (n : ℕ). first_area n y.spans) m.low in
@@ -104,12 +128,19 @@ first_here y cpu areas table told p spare result m f =
     subst P (sym e) (Remains-first y.low y.spans spare)
 
 -- an array that was short stays so
-pub short_by : (y : Storage) (p : Picture) (t : Thing) (at wants free : ℕ) (told : Option (List (List ℕ))) → IsPresent y p at t → IsShort y t × (wants ≡ sectors_for (length t.numbers)) × (free ≡ length y.shelf.free) → IsShortBy (retelling y told) p wants free
-short_by y p t at wants free told pr s = record {
-  thing = t;
-  at = at;
-  present = record { there = pr.there; present = pr.present };
-  short = record { kind = s.0.kind; none = s.0.none; few = s.0.few };
-  wants_is = s.1;
-  free_is = s.2;
-}
+pub short_at : (y : Storage) (p : MachineView) (t : PagedObject) (at wants free : ℕ) (told : Option (List (List ℕ))) → IsPresent y p at t → IsShort y t × (wants ≡ sectors_for (length t.numbers)) × (free ≡ length y.shelf.free)
+    → (short : IsShortBy (retelling y told) p wants free) × (short.at ≡ at)
+short_at y p t at wants free told pr s = (
+  record {
+    object = t;
+    at = at;
+    present = record { there = pr.there; present = pr.present };
+    short = record { kind = s.0.kind; none = s.0.none; few = s.0.few };
+    wants_is = s.1;
+    free_is = s.2;
+  },
+  refl,
+)
+
+pub short_by : (y : Storage) (p : MachineView) (t : PagedObject) (at wants free : ℕ) (told : Option (List (List ℕ))) → IsPresent y p at t → IsShort y t × (wants ≡ sectors_for (length t.numbers)) × (free ≡ length y.shelf.free) → IsShortBy (retelling y told) p wants free
+short_by y p t at wants free told pr s = (short_at y p t at wants free told pr s).0

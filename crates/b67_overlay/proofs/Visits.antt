@@ -6,7 +6,7 @@ use Rattle.b67_area.specs.declared.Info.{Info}
 use Rattle.b67_area.specs.Spans.{Span, Area, Hole, area_at, first_area, area_after, without}
 use Rattle.b67_area.proofs.Climbs.{area_at-low}
 use Rattle.b67_area.proofs.Laws.{area_at-without}
-use Rattle.b67_overlay.specs.Sheds.{Remains}
+use Rattle.b67_overlay.specs.AreasEvicted.{Remains}
 
 -- a place from which the walk goes on: there is an area, and all others that are left lie above it
 pub record IsNext (low : ℕ) (ss : List Span) (x z : ℕ) : Type 0 where

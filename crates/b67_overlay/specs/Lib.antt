@@ -1,3 +1,3 @@
 pub mod Turns
 pub mod Overlaid
-pub mod Sheds
+pub mod AreasEvicted

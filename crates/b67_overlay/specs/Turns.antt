@@ -5,10 +5,10 @@ use Rattle.b67_ctl.specs.declared.descriptors.DataDesc.{DataDesc}
 use Rattle.b67_ctl.specs.Descriptors.{data_word, IsDataDesc}
 use Rattle.b67_ctl.specs.declared.registers.Regs.{Regs}
 use Rattle.b67_lemmas.specs.Lists.{Has}
-use Rattle.b67_stack.specs.Shapes.{Held, Shape, Fits}
-use Rattle.b67_stack.specs.Stacks.{high, words}
-use Rattle.b67_stack.specs.Picture.{Thing, Picture, slot_base, stack_of}
-use Rattle.b67_stack.specs.Stands.{Storage, SlotsStand}
+use Rattle.b67_stack.specs.Shapes.{Location, Shape, Fits}
+use Rattle.b67_stack.specs.Stacks.{stack_words, words}
+use Rattle.b67_stack.specs.MachineView.{PagedObject, MachineView, slot_base, stack_of}
+use Rattle.b67_stack.specs.Represents.{Storage, RepresentsSlots}
 use Rattle.b67_layout_storage.specs.Machine.{with_held, Stayed}
 
 abbrev pub IsCopyOf : ℕ → DataDesc → Type 0
@@ -23,29 +23,29 @@ abbrev pub TurnsAt : ℕ → ℕ → List Tagged → List Tagged → ℕ → Typ
 TurnsAt area original old new i = (v : Tagged) × (w : Tagged) × (slice_get old i ≡ Some v) × (slice_get new i ≡ Some w) × Turns area original v w
 
 -- the address of a word of slot k's stack, up to its top; the base word isn't one
-abbrev pub InStack : Picture → ℕ → ℕ → Type 0
-InStack p k i = (slot_base p k < i) × (i ≤ slot_base p k + high (stack_of (p.slots k)))
+abbrev pub InStack : MachineView → ℕ → ℕ → Type 0
+InStack p k i = (slot_base p k < i) × (i ≤ slot_base p k + stack_words (stack_of (p.slots k)))
 
 -- the copies in the stacks of the slots below n are turned, and nothing else is changed
-pub record Searched (p : Picture) (n area original : ℕ) (old new : List Tagged) : Type 0 where
+pub record Searched (p : MachineView) (n area original : ℕ) (old new : List Tagged) : Type 0 where
   pub size : length new ≡ length old
   pub turned : (k : ℕ) → k < n → (i : ℕ) → InStack p k i → TurnsAt area original old new i
   pub others : (i : ℕ) → ((k : ℕ) → k < n → InStack p k i → ⊥) → slice_get new i ≡ slice_get old i
 
--- the slots of a picture lie in core, below `low`
-pub record Lies (core : List Tagged) (r : Regs) (low : ℕ) (p : Picture) : Type 0 where
-  pub slots : SlotsStand core r low p
+-- the slots of a view lie in core, below `low`
+pub record Lies (core : List Tagged) (r : Regs) (low : ℕ) (p : MachineView) : Type 0 where
+  pub slots : RepresentsSlots core r low p
   pub inside : low ≤ length core
   pub small : length core < 2 ^ 20
   pub base : (k : ℕ) → k < p.peak → slot_base p k < low
 
--- no word of a stack has the address of a thing's area any more: each is what it was, where that thing is held so. The
+-- no word of a stack has the address of an object's area any more: each is what it was, where that object is held so. The
 -- descriptors and all that isn't in a stack are as they were
-pub record Hides (x : Storage) (core new : List Tagged) (p : Picture) (t : Thing) (h : Held) : Type 0 where
+pub record Hides (x : Storage) (core new : List Tagged) (p : MachineView) (t : PagedObject) (h : Location) : Type 0 where
   pub size : length new ≡ length core
   pub each : (k i : ℕ) (a : Shape) (v : Tagged) → k < p.peak → InStack p k i → Has (words k (stack_of (p.slots k))) a → slice_get core i ≡ Some v → Fits x.held a i v
       → (w : Tagged) × (slice_get new i ≡ Some w) × Fits (with_held x.held t.home h) a i w
-  pub homes : (u : Thing) → Has p.things u → slice_get new u.home ≡ slice_get core u.home
+  pub homes : (u : PagedObject) → Has p.objects u → slice_get new u.home ≡ slice_get core u.home
   pub bases : (k : ℕ) → k < p.peak → slice_get new (slot_base p k) ≡ slice_get core (slot_base p k)
   pub outside : (i : ℕ) → (x.low ≤ i) ⊎ (i < 160) → slice_get new i ≡ slice_get core i
   pub below : Stayed p core new

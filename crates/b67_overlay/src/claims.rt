@@ -5,17 +5,19 @@ ghost use Rattle.b67_area.specs.declared.Info.{Info};
 ghost use Rattle.b67_area.specs.Spans.{area_at};
 ghost use Rattle.b67_backing.specs.declared.SpaceFault.TheVariants.{NoCore, BackingFull, BackingFault};
 ghost use Rattle.b67_io.specs.Causes.{Rose};
-ghost use Rattle.b67_stack.specs.Picture.{Picture};
-ghost use Rattle.b67_stack.specs.Stands.{Storage};
-ghost use Rattle.b67_layout_storage.specs.Machine.{MachineStands, Served, Stayed};
-ghost use Rattle.b67_overlay.specs.Sheds.{Sheds, IsShortBy};
+ghost use Rattle.b67_stack.specs.MachineView.{MachineView};
+ghost use Rattle.b67_stack.specs.Represents.{Storage};
+ghost use Rattle.b67_layout_storage.specs.Machine.{MachineRepresentsView, DeviceAfterCalls, Stayed};
+ghost use Rattle.b67_overlay.specs.AreasEvicted.{EvictedBelow, IsShortBy};
 
 use crate::overlays::overlay;
 use b67_area::Areas;
 use b67_backing::{Backing, Sectors, SpaceFault};
 use b67_stack::Cpu;
 
-/// Takes each area out of core that has a word, its head included, below an address.
+/// Takes each area out of core that has a word, its head included, below an address; each other area stays as it is.
+/// `BackingFull` comes only for an array of such an area that keeps no sectors, if fewer are free than it needs, and
+/// `BackingFault` only if the backing's count of faults rose. Areas that were given back before a refusal stay so.
 pub fn claim<B: Backing>(
     cpu: &mut Cpu,
     areas: &mut Areas,
@@ -23,22 +25,22 @@ pub fn claim<B: Backing>(
     backing: &mut B,
     upto: u32,
 ) -> Result<(), SpaceFault>
-    requires machine { (x : Storage) × (p : Picture) × MachineStands x cpu.old areas.old sectors.old (B.holds backing.old) p }
+    requires machine { (x : Storage) × (p : MachineView) × MachineRepresentsView x cpu.old areas.old sectors.old (B.holds backing.old) p }
     requires same { B.size backing.old + 1 ≡ length sectors.old.links }
     ensures rest { cpu.new ≡ record cpu.old { core = cpu.new.core } }
     ensures len { length cpu.new.core ≡ length cpu.old.core }
     ensures areas { areas.new ≡ areas.old }
-    ensures outside { (x : Storage) (p : Picture) → MachineStands x cpu.old areas.old sectors.old (B.holds backing.old) p → Stayed p cpu.old.core cpu.new.core }
-    ensures clear { OnOk result ((x : Storage) (p : Picture) → MachineStands x cpu.old areas.old sectors.old (B.holds backing.old) p
-        → (y : Storage) × Sheds x y 0 × ((at : ℕ) (a : Info) → area_at y.low y.spans at ≡ Some a → upto < at)
-        × MachineStands y cpu.new areas.new sectors.new (B.holds backing.new) p) }
-    ensures refused { OnErr result ((x : Storage) (p : Picture) → MachineStands x cpu.old areas.old sectors.old (B.holds backing.old) p
-        → (y : Storage) × Sheds x y 0 × MachineStands y cpu.new areas.new sectors.new (B.holds backing.new) p) }
-    ensures full { (x : Storage) (p : Picture) (wants free : ℕ) → MachineStands x cpu.old areas.old sectors.old (B.holds backing.old) p → result ≡ Err (BackingFull wants free)
-        → (y : Storage) × Sheds x y 0 × IsShortBy y p wants free × MachineStands y cpu.new areas.new sectors.new (B.holds backing.new) p }
+    ensures outside { (x : Storage) (p : MachineView) → MachineRepresentsView x cpu.old areas.old sectors.old (B.holds backing.old) p → Stayed p cpu.old.core cpu.new.core }
+    ensures clear { OnOk result ((x : Storage) (p : MachineView) → MachineRepresentsView x cpu.old areas.old sectors.old (B.holds backing.old) p
+        → (y : Storage) × EvictedBelow upto x y × ((at : ℕ) (a : Info) → area_at y.low y.spans at ≡ Some a → upto < at)
+        × MachineRepresentsView y cpu.new areas.new sectors.new (B.holds backing.new) p) }
+    ensures refused { OnErr result ((x : Storage) (p : MachineView) → MachineRepresentsView x cpu.old areas.old sectors.old (B.holds backing.old) p
+        → (y : Storage) × EvictedBelow upto x y × MachineRepresentsView y cpu.new areas.new sectors.new (B.holds backing.new) p) }
+    ensures full { (x : Storage) (p : MachineView) (wants free : ℕ) → MachineRepresentsView x cpu.old areas.old sectors.old (B.holds backing.old) p → result ≡ Err (BackingFull wants free)
+        → (y : Storage) × (short : IsShortBy y p wants free) × (short.at ≤ upto) × EvictedBelow upto x y × MachineRepresentsView y cpu.new areas.new sectors.new (B.holds backing.new) p }
     ensures no_core { (need size : ℕ) → result ≢ Err (NoCore need size) }
     ensures count { length sectors.new.links ≡ length sectors.old.links }
-    ensures device { Served B.holds B.size B.calls B.faults backing.old backing.new }
+    ensures device { DeviceAfterCalls B.holds B.size B.calls B.faults backing.old backing.new }
     ensures cause { result ≡ Err BackingFault → Rose B.faults backing.old backing.new }
 {
     let mut next = areas.first(&cpu.core);

@@ -7,10 +7,10 @@ ghost use Rattle.b67_backing.specs.Held.{sectors_for};
 ghost use Rattle.b67_backing.specs.declared.SpaceFault.TheVariants.{NoCore, BackingFull, BackingFault};
 ghost use Rattle.b67_ctl.specs.Descriptors.{data_word};
 ghost use Rattle.b67_io.specs.Causes.{Rose};
-ghost use Rattle.b67_stack.specs.Shapes.{Held};
-ghost use Rattle.b67_stack.specs.Picture.{Thing, Picture, home_desc, home_word_of};
-ghost use Rattle.b67_stack.specs.Stands.{Storage, Stands, info_of};
-ghost use Rattle.b67_layout_storage.specs.Machine.{MachineStands, IsPresent, Served, Stayed};
+ghost use Rattle.b67_stack.specs.Shapes.{Location};
+ghost use Rattle.b67_stack.specs.MachineView.{PagedObject, MachineView, home_desc, home_word_of};
+ghost use Rattle.b67_stack.specs.Represents.{Storage, Represents, info_of};
+ghost use Rattle.b67_layout_storage.specs.Machine.{MachineRepresentsView, IsPresent, DeviceAfterCalls, Stayed};
 ghost use Rattle.b67_overlay.specs.Turns.{Hides};
 ghost use Rattle.b67_overlay.specs.Overlaid.{overlaid, dropped, retelling, IsOut, IsShort};
 
@@ -22,32 +22,15 @@ use b67_ctl::{DataDesc, SegDesc};
 use b67_stack::Cpu;
 use b67_word::Word;
 
-/// The word of an absent original.
-fn original(read_only: bool, words: u32, first: u32) -> Word
-    requires words { words < 2 ^ 20 }
-    requires first { first < 2 ^ 20 }
-    ensures { result ≡ data_word (home_desc read_only words (record { area = None; chain = first })) }
-{
-    DataDesc {
-        present: false,
-        copy: false,
-        indexed: false,
-        read_only,
-        length: words,
-        address: first,
-    }
-    .word()
-}
-
-/// The word of the original or segment descriptor of a thing that isn't in core.
+/// The word of the original or segment descriptor of an object that isn't in core.
 fn absent_word(info: Info, first: u32) -> Word
     requires words { info.words < 2 ^ 20 }
     requires first { first < 2 ^ 20 }
     ensures { result ≡ home_word_of info.kind info.words (record { area = None; chain = first }) }
 {
     match info.kind {
-        Kind::Array => original(false, info.words, first),
-        Kind::Row => original(true, info.words, first),
+        Kind::Array => DataDesc::original(false, false, info.words, first),
+        Kind::Row => DataDesc::original(false, true, info.words, first),
         Kind::Code => SegDesc {
             present: false,
             words: info.words,
@@ -59,9 +42,9 @@ fn absent_word(info: Info, first: u32) -> Word
 
 /// Makes the copies absent that have the address of an area. No copy has that of a segment's.
 fn hide_copies(cpu: &mut Cpu, area: u32, info: Info)
-    requires { (x : Storage) × (p : Picture) × (t : Thing) × Stands x cpu.old.core cpu.old.regs p × IsPresent x p area t × (info ≡ info_of x t) }
+    requires { (x : Storage) × (p : MachineView) × (t : PagedObject) × Represents x cpu.old.core cpu.old.regs p × IsPresent x p area t × (info ≡ info_of x t) }
     ensures rest { cpu.new ≡ record cpu.old { core = cpu.new.core } }
-    ensures hides { (x : Storage) (p : Picture) (t : Thing) (h : Held) → Stands x cpu.old.core cpu.old.regs p → IsPresent x p area t → info ≡ info_of x t
+    ensures hides { (x : Storage) (p : MachineView) (t : PagedObject) (h : Location) → Represents x cpu.old.core cpu.old.regs p → IsPresent x p area t → info ≡ info_of x t
         → Hides x cpu.old.core cpu.new.core p t h }
 {
     match info.kind {
@@ -72,14 +55,14 @@ fn hide_copies(cpu: &mut Cpu, area: u32, info: Info)
 
 /// Gives an area back whose words are in the chain of this first sector.
 fn give_back(cpu: &mut Cpu, areas: &mut Areas, area: u32, info: Info, first: u32)
-    requires machine { (x : Storage) × (p : Picture) × (t : Thing) × Stands x cpu.old.core cpu.old.regs p × (areas.old.low ≡ x.low) × IsPresent x p area t × (info ≡ info_of x t) }
+    requires machine { (x : Storage) × (p : MachineView) × (t : PagedObject) × Represents x cpu.old.core cpu.old.regs p × (areas.old.low ≡ x.low) × IsPresent x p area t × (info ≡ info_of x t) }
     requires first { first < 2 ^ 20 }
     ensures rest { cpu.new ≡ record cpu.old { core = cpu.new.core } }
     ensures areas { areas.new ≡ areas.old }
     ensures len { length cpu.new.core ≡ length cpu.old.core }
-    ensures stands { (x y : Storage) (p : Picture) (t : Thing) → Stands x cpu.old.core cpu.old.regs p → areas.old.low ≡ x.low → IsPresent x p area t → info ≡ info_of x t
-        → IsOut x y p t first → Stands (dropped x y t area first) cpu.new.core cpu.new.regs p }
-    ensures outside { (x : Storage) (p : Picture) (t : Thing) → Stands x cpu.old.core cpu.old.regs p → areas.old.low ≡ x.low → IsPresent x p area t → info ≡ info_of x t
+    ensures stands { (x y : Storage) (p : MachineView) (t : PagedObject) → Represents x cpu.old.core cpu.old.regs p → areas.old.low ≡ x.low → IsPresent x p area t → info ≡ info_of x t
+        → IsOut x y p t first → Represents (dropped x y t area first) cpu.new.core cpu.new.regs p }
+    ensures outside { (x : Storage) (p : MachineView) (t : PagedObject) → Represents x cpu.old.core cpu.old.regs p → areas.old.low ≡ x.low → IsPresent x p area t → info ≡ info_of x t
         → Stayed p cpu.old.core cpu.new.core }
 {
     hide_copies(cpu, area, info);
@@ -89,13 +72,13 @@ fn give_back(cpu: &mut Cpu, areas: &mut Areas, area: u32, info: Info, first: u32
 
 /// Gives back the area of code or of a data row, whose words are in sectors already. No device is called.
 pub fn discard(cpu: &mut Cpu, areas: &mut Areas, area: u32)
-    requires { (x : Storage) × (p : Picture) × (t : Thing) × Stands x cpu.old.core cpu.old.regs p × (areas.old.low ≡ x.low) × IsPresent x p area t × (t.kind ≢ Array) }
+    requires { (x : Storage) × (p : MachineView) × (t : PagedObject) × Represents x cpu.old.core cpu.old.regs p × (areas.old.low ≡ x.low) × IsPresent x p area t × (t.kind ≢ Array) }
     ensures rest { cpu.new ≡ record cpu.old { core = cpu.new.core } }
     ensures len { length cpu.new.core ≡ length cpu.old.core }
     ensures areas { areas.new ≡ areas.old }
-    ensures stands { (x : Storage) (table : Table) (told : Option (List (List ℕ))) (p : Picture) (t : Thing) → MachineStands x cpu.old areas.old table told p
-        → IsPresent x p area t → t.kind ≢ Array → MachineStands (overlaid x t area told) cpu.new areas.new table told p }
-    ensures outside { (x : Storage) (p : Picture) (t : Thing) → Stands x cpu.old.core cpu.old.regs p → areas.old.low ≡ x.low → IsPresent x p area t
+    ensures stands { (x : Storage) (table : Table) (told : Option (List (List ℕ))) (p : MachineView) (t : PagedObject) → MachineRepresentsView x cpu.old areas.old table told p
+        → IsPresent x p area t → t.kind ≢ Array → MachineRepresentsView (overlaid x t area told) cpu.new areas.new table told p }
+    ensures outside { (x : Storage) (p : MachineView) (t : PagedObject) → Represents x cpu.old.core cpu.old.regs p → areas.old.low ≡ x.low → IsPresent x p area t
         → Stayed p cpu.old.core cpu.new.core }
 {
     let info = areas.info(&cpu.core, area);
@@ -112,25 +95,25 @@ pub fn overlay<B: Backing>(
     backing: &mut B,
     area: u32,
 ) -> Result<(), SpaceFault>
-    requires machine { (x : Storage) × (p : Picture) × (t : Thing) × MachineStands x cpu.old areas.old sectors.old (B.holds backing.old) p × IsPresent x p area t }
+    requires machine { (x : Storage) × (p : MachineView) × (t : PagedObject) × MachineRepresentsView x cpu.old areas.old sectors.old (B.holds backing.old) p × IsPresent x p area t }
     requires same { B.size backing.old + 1 ≡ length sectors.old.links }
     ensures rest { cpu.new ≡ record cpu.old { core = cpu.new.core } }
     ensures len { length cpu.new.core ≡ length cpu.old.core }
     ensures areas { areas.new ≡ areas.old }
-    ensures stands { OnOk result ((x : Storage) (p : Picture) (t : Thing) → MachineStands x cpu.old areas.old sectors.old (B.holds backing.old) p
-        → IsPresent x p area t → MachineStands (overlaid x t area (B.holds backing.new)) cpu.new areas.new sectors.new (B.holds backing.new) p) }
-    ensures refused { OnErr result ((x : Storage) (p : Picture) (t : Thing) → MachineStands x cpu.old areas.old sectors.old (B.holds backing.old) p
-        → IsPresent x p area t → MachineStands (retelling x (B.holds backing.new)) cpu.new areas.new sectors.new (B.holds backing.new) p) }
+    ensures stands { OnOk result ((x : Storage) (p : MachineView) (t : PagedObject) → MachineRepresentsView x cpu.old areas.old sectors.old (B.holds backing.old) p
+        → IsPresent x p area t → MachineRepresentsView (overlaid x t area (B.holds backing.new)) cpu.new areas.new sectors.new (B.holds backing.new) p) }
+    ensures refused { OnErr result ((x : Storage) (p : MachineView) (t : PagedObject) → MachineRepresentsView x cpu.old areas.old sectors.old (B.holds backing.old) p
+        → IsPresent x p area t → MachineRepresentsView (retelling x (B.holds backing.new)) cpu.new areas.new sectors.new (B.holds backing.new) p) }
     ensures unchanged { OnErr result (cpu.new ≡ cpu.old) }
-    ensures outside { (x : Storage) (p : Picture) (t : Thing) → MachineStands x cpu.old areas.old sectors.old (B.holds backing.old) p → IsPresent x p area t
+    ensures outside { (x : Storage) (p : MachineView) (t : PagedObject) → MachineRepresentsView x cpu.old areas.old sectors.old (B.holds backing.old) p → IsPresent x p area t
         → Stayed p cpu.old.core cpu.new.core }
-    ensures full { (x : Storage) (p : Picture) (t : Thing) (wants free : ℕ) → MachineStands x cpu.old areas.old sectors.old (B.holds backing.old) p → IsPresent x p area t
+    ensures full { (x : Storage) (p : MachineView) (t : PagedObject) (wants free : ℕ) → MachineRepresentsView x cpu.old areas.old sectors.old (B.holds backing.old) p → IsPresent x p area t
         → (result ≡ Err (BackingFull wants free)) ↔ (IsShort x t × (wants ≡ sectors_for (length t.numbers)) × (free ≡ length x.shelf.free)) }
     ensures no_core { (need size : ℕ) → result ≢ Err (NoCore need size) }
-    ensures clean { (x : Storage) (p : Picture) (t : Thing) → MachineStands x cpu.old areas.old sectors.old (B.holds backing.old) p → IsPresent x p area t
+    ensures clean { (x : Storage) (p : MachineView) (t : PagedObject) → MachineRepresentsView x cpu.old areas.old sectors.old (B.holds backing.old) p → IsPresent x p area t
         → t.kind ≢ Array → IsOk result × (sectors.new ≡ sectors.old) × (backing.new ≡ backing.old) }
     ensures count { length sectors.new.links ≡ length sectors.old.links }
-    ensures device { Served B.holds B.size B.calls B.faults backing.old backing.new }
+    ensures device { DeviceAfterCalls B.holds B.size B.calls B.faults backing.old backing.new }
     ensures cause { result ≡ Err BackingFault → Rose B.faults backing.old backing.new }
 {
     let info = areas.info(&cpu.core, area);

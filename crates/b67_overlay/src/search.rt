@@ -1,9 +1,9 @@
 //! The search for copies of a descriptor.
 
 ghost use Rattle.std.specs.Prelude.{◌≡◌, ◌⊎◌, ℕ, ◌+◌, ◌^◌, ◌<◌, ◌≤◌, length, slice_get};
-ghost use Rattle.b67_stack.specs.Stacks.{high};
-ghost use Rattle.b67_stack.specs.Picture.{Thing, Picture, slot_base, stack_of};
-ghost use Rattle.b67_stack.specs.Stands.{Storage, Stands};
+ghost use Rattle.b67_stack.specs.Stacks.{stack_words};
+ghost use Rattle.b67_stack.specs.MachineView.{PagedObject, MachineView, slot_base, stack_of};
+ghost use Rattle.b67_stack.specs.Represents.{Storage, Represents};
 ghost use Rattle.b67_layout_storage.specs.Machine.{IsPresent};
 ghost use Rattle.b67_overlay.specs.Turns.{Turns, TurnsAt, Searched, Lies};
 
@@ -54,9 +54,9 @@ fn turn_part(core: &mut Core, from: u32, upto: u32, area: u32, original: u32)
 
 /// The address of the top word of a slot's stack; where no task lives there, of the slot's base word.
 pub fn stack_top(core: &Core, regs: &Regs, k: u8, base: u32) -> u32
-    requires { (low : ℕ) × (p : Picture) × Lies core.now regs.now low p × (k < p.peak) × (base ≡ slot_base p k) }
-    ensures { (low : ℕ) (p : Picture) → Lies core.now regs.now low p → k < p.peak → base ≡ slot_base p k
-        → result ≡ base + high (stack_of (p.slots k)) }
+    requires { (low : ℕ) × (p : MachineView) × Lies core.now regs.now low p × (k < p.peak) × (base ≡ slot_base p k) }
+    ensures { (low : ℕ) (p : MachineView) → Lies core.now regs.now low p → k < p.peak → base ≡ slot_base p k
+        → result ≡ base + stack_words (stack_of (p.slots k)) }
 {
     if regs.slot == k {
         return regs.s;
@@ -69,9 +69,9 @@ pub fn stack_top(core: &Core, regs: &Regs, k: u8, base: u32) -> u32
 
 /// Turns the copies in every stack.
 fn search(core: &mut Core, regs: &Regs, area: u32, original: u32)
-    requires slots { (low : ℕ) × (p : Picture) × Lies core.old regs.now low p }
+    requires slots { (low : ℕ) × (p : MachineView) × Lies core.old regs.now low p }
     requires small { original < 2 ^ 20 }
-    ensures { (low : ℕ) (p : Picture) → Lies core.old regs.now low p → Searched p p.peak area original core.old core.new }
+    ensures { (low : ℕ) (p : MachineView) → Lies core.old regs.now low p → Searched p p.peak area original core.old core.new }
 {
     let mut base = regs.stacks;
     let size = u32::from(regs.stack_size);
@@ -85,9 +85,9 @@ fn search(core: &mut Core, regs: &Regs, area: u32, original: u32)
 /// The search for the copies of the area that a present original holds: every present copy of it, in every stack up to its top, becomes absent and has the original's address. No other
 /// word is changed.
 pub fn search_copies(cpu: &mut Cpu, area: u32, original: u32)
-    requires { (x : Storage) × (p : Picture) × (t : Thing) × Stands x cpu.old.core cpu.old.regs p × IsPresent x p area t × (t.home ≡ original) }
+    requires { (x : Storage) × (p : MachineView) × (t : PagedObject) × Represents x cpu.old.core cpu.old.regs p × IsPresent x p area t × (t.home ≡ original) }
     ensures rest { cpu.new ≡ record cpu.old { core = cpu.new.core } }
-    ensures searched { (x : Storage) (p : Picture) → Stands x cpu.old.core cpu.old.regs p
+    ensures searched { (x : Storage) (p : MachineView) → Represents x cpu.old.core cpu.old.regs p
         → Searched p p.peak area original cpu.old.core cpu.new.core }
 {
     search(&mut cpu.core, &cpu.regs, area, original);

@@ -6,7 +6,7 @@ ghost use Rattle.b67_backing.specs.Shelf.{Shelf, IsShelf, HasChain};
 ghost use Rattle.b67_backing.specs.Held.{Changes, SameBut, Stores, sectors_for};
 ghost use Rattle.b67_backing.specs.declared.SpaceFault.TheVariants.{NoCore, BackingFull, BackingFault};
 ghost use Rattle.b67_io.specs.Causes.{Rose};
-ghost use Rattle.b67_layout_storage.specs.Machine.{Served};
+ghost use Rattle.b67_layout_storage.specs.Machine.{DeviceAfterCalls};
 ghost use Rattle.b67_overlay.specs.Overlaid.{chain_out, shelf_out, sectors_out};
 
 use b67_backing::{Backing, Sectors, SpaceFault};
@@ -37,7 +37,7 @@ pub fn write_out<B: Backing>(
         → (result ≡ Err (BackingFull wants free)) ↔ ((kept ≡ 0) × (length st.free < sectors_for words) × (wants ≡ sectors_for words) × (free ≡ length st.free)) }
     ensures no_core { (need size : ℕ) → result ≢ Err (NoCore need size) }
     ensures count { length sectors.new.links ≡ length sectors.old.links }
-    ensures device { Served B.holds B.size B.calls B.faults backing.old backing.new }
+    ensures device { DeviceAfterCalls B.holds B.size B.calls B.faults backing.old backing.new }
     ensures cause { result ≡ Err BackingFault → Rose B.faults backing.old backing.new }
 {
     if kept != 0 {

@@ -1,4 +1,4 @@
--- The machine stands for a session again, after things came and went in the picture.
+-- The machine stands for a session again, after objects came and went in the view.
 use Rattle.std.proofs.Common.{◌≡◌, ◌≢◌, ℕ, List, [], length, Option, Some, None, refl, sym, ◌∙◌, ap, subst}
 use Rattle.std.proofs.lemmas.Option.{none-some}
 use Rattle.b67_area.specs.declared.Areas.{Areas}
@@ -6,27 +6,24 @@ use Rattle.b67_backing.specs.Shelf.{Table}
 use Rattle.b67_ctl.specs.declared.registers.Regs.{Regs}
 use Rattle.b67_model.specs.Schedule.{Session}
 use Rattle.b67_stack.specs.declared.Cpu.{Cpu}
-use Rattle.b67_stack.specs.Picture.{Picture, Settled}
-use Rattle.b67_stack.specs.Stands.{Storage, Stands}
+use Rattle.b67_stack.specs.MachineView.{MachineView, NoOriginalAboveTop}
+use Rattle.b67_stack.specs.Represents.{Storage, Represents}
 use Rattle.b67_layout_storage.specs.Machine as storage
-use Rattle.b67_layout_storage.specs.Machine.{Says, retold, Stayed}
-use Rattle.b67_layout.specs.Plan.{Plan}
-use Rattle.b67_layout.specs.Layout.{picture}
-use Rattle.b67_layout.specs.Session.{SessionStands}
-use Rattle.b67_layout_step.proofs.Paged.{SessionStands-over}
+use Rattle.b67_layout_storage.specs.Machine.{Says, content_after, Stayed}
+use Rattle.b67_layout_storage.proofs.Devices.{says_of}
+use Rattle.b67_layout.specs.Placement.{Placement}
+use Rattle.b67_layout.specs.Layout.{machine_view}
+use Rattle.b67_layout.specs.Session.{RepresentsSession}
+use Rattle.b67_layout_step.proofs.Paged.{RepresentsSession-over}
 use Rattle.b67_task_tables.specs.declared.tables.Tasks.{Tasks}
 use Rattle.b67_task_tables.specs.declared.tables.Machine.{Machine}
-use Rattle.b67_task_tables.specs.Tables.{MachineStands}
+use Rattle.b67_task_tables.specs.Tables.{MachineRepresents}
 use Rattle.b67_presence.specs.Bringing.{StandsOver, StandsAgain}
 use Rattle.b67_presence.proofs.Others.{others_alike, others_show}
 use Rattle.b67_presence.proofs.Seen.{Sees}
 
-says_of : (d told : Option (List (List ℕ))) → told ≡ d → Says d told
-says_of None told e = tt
-says_of (Some all) told e = e
-
 -- a machine over a device that tells what its storage says
-pub over : (x : Storage) (told : Option (List (List ℕ))) (k : Machine) (plan : Plan) (s : Session) → MachineStands x told k plan s → StandsOver x told k plan s
+pub over : (x : Storage) (told : Option (List (List ℕ))) (k : Machine) (plan : Placement) (s : Session) → MachineRepresents x told k plan s → StandsOver x told k plan s
 over x told k plan s h = record {
   says = says_of x.device told h.storage.device;
   stands = record { session = h.session; storage = record { low = h.storage.low; size = h.storage.size; shelf = h.storage.shelf; device = refl }; tables = h.tables };
@@ -37,20 +34,20 @@ told_of None told n says = absurd (n refl)
 told_of (Some all) told n says = says
 
 -- and the other way round, where it says something
-pub not_silent : (x : Storage) (told : Option (List (List ℕ))) (k : Machine) (plan : Plan) (s : Session) → x.device ≢ None → StandsOver x told k plan s → MachineStands x told k plan s
+pub not_silent : (x : Storage) (told : Option (List (List ℕ))) (k : Machine) (plan : Placement) (s : Session) → x.device ≢ None → StandsOver x told k plan s → MachineRepresents x told k plan s
 not_silent x told k plan s n h = record {
   session = h.stands.session;
   storage = record { low = h.stands.storage.low; size = h.stands.storage.size; shelf = h.stands.storage.shelf; device = told_of x.device told n h.says };
   tables = h.stands.tables;
 }
 
--- what its picture says of it
-pub pictured : (x : Storage) (told : Option (List (List ℕ))) (k : Machine) (plan : Plan) (s : Session) → StandsOver x told k plan s
-    → storage.MachineStands x k.cpu k.areas k.sectors told (picture plan s.jobs)
+-- what its view says of it
+pub pictured : (x : Storage) (told : Option (List (List ℕ))) (k : Machine) (plan : Placement) (s : Session) → StandsOver x told k plan s
+    → storage.MachineRepresentsView x k.cpu k.areas k.sectors told (machine_view plan s.jobs)
 pictured x told k plan s h = record { stands = h.stands.session.holds.memory; low = h.stands.storage.low; shelf = h.stands.storage.shelf; device = h.says }
 
 -- what a storage says that said something, and nothing otherwise
-retelling : (d e now : Option (List (List ℕ))) → (d ≡ None → e ≡ None) → (d ≢ None → e ≢ None) → Says e now → e ≡ retold d now
+retelling : (d e now : Option (List (List ℕ))) → (d ≡ None → e ≡ None) → (d ≢ None → e ≢ None) → Says e now → e ≡ content_after d now
 retelling None e now none some says = none refl
 retelling (Some all) None now none some says = absurd (some (λ z. none-some all (sym z)) refl)
 retelling (Some all) (Some more) now none some says = sym says
@@ -59,21 +56,21 @@ retelling (Some all) (Some more) now none some says = sym says
 abbrev pub machine_of : Cpu → Areas → Table → Tasks → Machine
 machine_of cpu areas table tasks = record { cpu = cpu; areas = areas; sectors = table; tasks = tasks }
 
-module _ (x y : Storage) (told now : Option (List (List ℕ))) (k : Machine) (plan : Plan) (s : Session) (h : StandsOver x told k plan s) (cpu : Cpu) (areas : Areas) (table : Table)
-    (rest : cpu ≡ record k.cpu { core = cpu.core }) (len : length cpu.core ≡ length k.cpu.core) (same_areas : areas ≡ k.areas) (stayed : Stayed (picture plan s.jobs) k.cpu.core cpu.core)
-    (q : Picture) (sees : Sees x plan s.jobs q) (m : storage.MachineStands y cpu areas table now q) (untold : x.device ≡ None → y.device ≡ None) (tells : x.device ≢ None → y.device ≢ None) where
+module _ (x y : Storage) (told now : Option (List (List ℕ))) (k : Machine) (plan : Placement) (s : Session) (h : StandsOver x told k plan s) (cpu : Cpu) (areas : Areas) (table : Table)
+    (rest : cpu ≡ record k.cpu { core = cpu.core }) (len : length cpu.core ≡ length k.cpu.core) (same_areas : areas ≡ k.areas) (stayed : Stayed (machine_view plan s.jobs) k.cpu.core cpu.core)
+    (q : MachineView) (sees : Sees x plan s.jobs q) (m : storage.MachineRepresentsView y cpu areas table now q) (untold : x.device ≡ None → y.device ≡ None) (tells : x.device ≢ None → y.device ≢ None) where
   regs : cpu.regs ≡ k.cpu.regs
   regs = ap (λ (c : Cpu). c.regs) rest
 
-  memory : Stands y cpu.core k.cpu.regs (picture plan sees.seen)
+  memory : Represents y cpu.core k.cpu.regs (machine_view plan sees.seen)
   memory =
-      let P : Regs → Picture → Type 0 = λ r p. Stands y cpu.core r p in
-      subst (λ (r : Regs). P r (picture plan sees.seen)) regs (subst (P cpu.regs) sees.is m.stands)
+      let P : Regs → MachineView → Type 0 = λ r p. Represents y cpu.core r p in
+      subst (λ (r : Regs). P r (machine_view plan sees.seen)) regs (subst (P cpu.regs) sees.is m.stands)
 
-  session : SessionStands y cpu plan (record s { jobs = sees.seen })
-  session = SessionStands-over [] [] x y k.cpu cpu plan s (record s { jobs = sees.seen }) h.stands.session (others_alike s.jobs sees.seen sees.others) refl
+  session : RepresentsSession y cpu plan (record s { jobs = sees.seen })
+  session = RepresentsSession-over [] [] x y k.cpu cpu plan s (record s { jobs = sees.seen }) h.stands.session (others_alike s.jobs sees.seen sees.others) refl
       regs (ap (λ (c : Cpu). c.display) rest) (ap (λ (c : Cpu). c.critical) rest) memory
-      (let P : Picture → Type 0 = λ p. Settled p in subst P sees.is (sees.settled h.stands.session.holds.settled)) stayed
+      (let P : MachineView → Type 0 = λ p. NoOriginalAboveTop p in subst P sees.is (sees.settled h.stands.session.holds.settled)) stayed
 
   abbrev it : StandsAgain x now (machine_of cpu areas table k.tasks) plan s
   it = record {

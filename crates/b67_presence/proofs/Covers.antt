@@ -2,8 +2,10 @@
 use Rattle.std.proofs.Common.{◌≡◌, ◌≢◌, ℕ, zero, suc, ◌+◌, ◌<◌, ◌≤◌, ◌==◌, true, false, List, [], ◌∷◌, length, refl, sym, arith, inl, inr, ⊎_elim, subst}
 use Rattle.std.proofs.lemmas.Bool.{cases_Bool, cases_eq, eq-eqb, ne_eqb}
 use Rattle.b67_backing.specs.Shelf.{Table, Shelf, AreChains, IsShelf, one, times, uses, first, chain_of}
-use Rattle.b67_backing.proofs.Links.{one-same, one-apart, one-other, linked_within}
+use Rattle.b67_backing.proofs.Links.{one-same, one-other, linked_within}
+use Rattle.b67_backing.proofs.News.{unused}
 use Rattle.b67_lemmas.specs.Lists.{Has, total}
+use Rattle.b67_lemmas.proofs.Sums.{total_gap}
 
 -- a function of the numbers from 1 to n
 abbrev upto : (ℕ → ℕ) → ℕ → ℕ
@@ -40,35 +42,16 @@ uses_within : (ks : List (List ℕ)) (n : ℕ) → upto (λ i. uses i ks) n ≤ 
 uses_within [] n = omega (arith, upto-none n)
 uses_within (k ∷ ks) n = omega (arith, upto-plus (λ i. times i k) (λ i. uses i ks) n, times_within k n, uses_within ks n)
 
--- totals that differ by so much at one item
-total_le : {A : Type 0} (f g : A → ℕ) (xs : List A) → ((x : A) → Has xs x → f x ≤ g x) → total f xs ≤ total g xs
-total_le f g [] each = omega arith
-total_le f g (x ∷ xs) each = omega (arith, each x (inl refl), total_le f g xs (λ y k. each y (inr k)))
-
-pub total_gap : {A : Type 0} (f g : A → ℕ) (xs : List A) (x : A) (w : ℕ) → ((y : A) → Has xs y → f y ≤ g y) → Has xs x → f x + w ≤ g x → total f xs + w ≤ total g xs
-total_gap f g [] x w each k e = absurd k
-total_gap f g (y ∷ ys) x w each (inl same) e =
-    let here : f y + w ≤ g y = subst (λ z. f z + w ≤ g z) (sym same) e in
-    omega (arith, here, total_le f g ys (λ z m. each z (inr m)))
-total_gap f g (y ∷ ys) x w each (inr k) e = omega (arith, each y (inl refl), total_gap f g ys x w (λ z m. each z (inr m)) k e)
-
 -- no two chains begin with the same sector
 abbrev Differ : List (List ℕ) → Type 0
 Differ [] = Unit {0}
 Differ (k ∷ ks) = (chain_of (first k) ks ≡ []) × Differ ks
 
-no_chain : (links : List ℕ) (x : ℕ) (ks : List (List ℕ)) → AreChains links ks → uses x ks ≡ 0 → chain_of x ks ≡ []
-no_chain links x [] a e = refl
-no_chain links x ([] ∷ ks) a e = absurd a
-no_chain links x ((c ∷ cs) ∷ ks) a e =
-    let ne : x ≢ c = one-apart x c (omega (arith, e)) in
-    rw (ne_eqb c x (λ s. ne (sym s))) (no_chain links x ks a.1 (omega (arith, e)))
-
 differ : (links : List ℕ) (ks : List (List ℕ)) → AreChains links ks → ((i : ℕ) → i < length links → uses i ks ≤ 1) → Differ ks
 differ links [] a once = tt
 differ links ([] ∷ ks) a once = absurd a
 differ links ((c ∷ cs) ∷ ks) a once = (
-  no_chain links c ks a.1 (omega (arith, once c (linked_within links c cs a.0), one-same c)),
+  unused links c ks a.1 (omega (arith, once c (linked_within links c cs a.0), one-same c)),
   differ links ks a.1 (λ i low. omega (arith, once i low)),
 )
 

@@ -1,7 +1,5 @@
 -- Where an array that keeps no chain needs more sectors than are free, a session takes more than there are.
 use Rattle.std.proofs.Common.{◌≡◌, ℕ, ◌+◌, ◌≤◌, List, [], ◌∷◌, map, flat_map, length, Option, Some, None, refl, sym, ◌∙◌, arith, inl, inr, subst}
-use Rattle.std.specs.Prelude.{sum_by}
-use Rattle.std.proofs.lemmas.List.Sums.{sum_by-cons}
 use Rattle.b67_word.specs.Tagged.{Tagged}
 use Rattle.b67_area.specs.declared.Kind.{Kind}
 use Rattle.b67_area.specs.declared.Kind.TheVariants.{Array, Row, Code}
@@ -9,76 +7,73 @@ use Rattle.b67_area.specs.declared.Areas.{Areas}
 use Rattle.b67_backing.specs.Shelf.{Table, chain_of}
 use Rattle.b67_backing.specs.Held.{sectors_for}
 use Rattle.b67_lemmas.specs.Lists.{Has, total}
+use Rattle.b67_lemmas.proofs.Members.{has_map, total_append, total_flat, total_map, total_same}
+use Rattle.b67_lemmas.proofs.Sums.{sum_total, total_gap}
 use Rattle.b67_model.specs.State as State
-use Rattle.b67_model.specs.State.{Segment, Member}
+use Rattle.b67_model.specs.State.{Segment, SessionJob}
 use Rattle.b67_model.specs.Sectors.{sectors_of, sectors}
-use Rattle.b67_law_order.proofs.Members.{has_map, total_same, total_append, total_map, total_flat}
 use Rattle.b67_stack.specs.declared.Cpu.{Cpu}
-use Rattle.b67_stack.specs.Picture.{Thing, Picture}
-use Rattle.b67_stack.specs.Stands.{Storage, Keeps, Content}
-use Rattle.b67_layout_storage.specs.Machine.{MachineStands}
-use Rattle.b67_overlay.specs.Sheds.{IsShortBy}
-use Rattle.b67_layout.specs.Plan.{Plan}
-use Rattle.b67_layout.specs.Layout.{array_thing, code_things, things_of, picture}
+use Rattle.b67_stack.specs.MachineView.{PagedObject, MachineView}
+use Rattle.b67_stack.specs.Represents.{Storage, KeptChain, Content}
+use Rattle.b67_layout_storage.specs.Machine.{MachineRepresentsView}
+use Rattle.b67_overlay.specs.AreasEvicted.{IsShortBy}
+use Rattle.b67_layout.specs.Placement.{Placement}
+use Rattle.b67_layout.specs.Layout.{array_object, code_objects, objects_of, machine_view}
 use Rattle.b67_presence.specs.Full.{ShortIsFull}
-use Rattle.b67_presence.proofs.Covers.{total_gap, covers}
+use Rattle.b67_presence.proofs.Covers.{covers}
 
--- the sectors that a thing takes
-abbrev pub sectors_of_thing : Thing → ℕ
-sectors_of_thing t = sectors_for (length t.numbers)
+-- the sectors that an object takes
+abbrev pub sectors_of_object : PagedObject → ℕ
+sectors_of_object t = sectors_for (length t.numbers)
 
--- the chain of a thing has no more
-keeps_few : (x : Storage) (t : Thing) (k : Kind) (f : ℕ) → chain_of 0 x.shelf.chains ≡ [] → Keeps x t k f → length (chain_of f x.shelf.chains) ≤ sectors_of_thing t
+-- the chain of an object has no more
+keeps_few : (x : Storage) (t : PagedObject) (k : Kind) (f : ℕ) → chain_of 0 x.shelf.chains ≡ [] → KeptChain x t k f → length (chain_of f x.shelf.chains) ≤ sectors_of_object t
 keeps_few x t Array f z (inl e) = rw (e, z) (omega arith)
 keeps_few x t Array f z (inr h) = omega (arith, h.sectors)
 keeps_few x t Row f z h = omega (arith, h.chain.sectors)
 keeps_few x t Code f z h = omega (arith, h.chain.sectors)
 
-content_few : (x : Storage) (core : List Tagged) (t : Thing) (a : Option ℕ) (f : ℕ) → chain_of 0 x.shelf.chains ≡ [] → Content x core t a f → length (chain_of f x.shelf.chains) ≤ sectors_of_thing t
+content_few : (x : Storage) (core : List Tagged) (t : PagedObject) (a : Option ℕ) (f : ℕ) → chain_of 0 x.shelf.chains ≡ [] → Content x core t a f → length (chain_of f x.shelf.chains) ≤ sectors_of_object t
 content_few x core t (Some at) f z c = keeps_few x t t.kind f z c.1
 content_few x core t None f z (inl h) = omega (arith, h.chain.sectors)
 content_few x core t None f z (inr e) = rw (e.0, z) (omega arith)
 
--- the things of a picture take more sectors than there are
-pub short : (x : Storage) (cpu : Cpu) (areas : Areas) (table : Table) (told : Option (List (List ℕ))) (p : Picture) (wants free : ℕ)
-    → MachineStands x cpu areas table told p → IsShortBy x p wants free → length table.links ≤ total sectors_of_thing p.things
+-- the objects of a view take more sectors than there are
+pub short : (x : Storage) (cpu : Cpu) (areas : Areas) (table : Table) (told : Option (List (List ℕ))) (p : MachineView) (wants free : ℕ)
+    → MachineRepresentsView x cpu areas table told p → IsShortBy x p wants free → length table.links ≤ total sectors_of_object p.objects
 short x cpu areas table told p wants free m w =
     let o = m.stands.owned in
-    let c : Thing → ℕ = λ u. (x.held u.home).chain in
+    let c : PagedObject → ℕ = λ u. (x.held u.home).chain in
     let kept : ℕ → ℕ = λ f. length (chain_of f x.shelf.chains) in
-    let all = covers table x.shelf m.shelf (map c p.things) (λ f some. let t = o.of_chain f some in subst (Has (map c p.things)) t.2 (has_map c p.things t.0 t.1)) in
-    let none : kept (c w.thing) ≡ 0 = rw (w.short.none, o.no_zero) refl in
-    let gap = total_gap (λ u. kept (c u)) sectors_of_thing p.things w.thing (sectors_of_thing w.thing)
-    (λ u k. content_few x cpu.core u (x.held u.home).area (x.held u.home).chain o.no_zero (m.stands.things u k).content) w.present.there (omega (arith, none)) in
-    omega (arith, all, gap, total_map c kept p.things, w.short.few)
+    let all = covers table x.shelf m.shelf (map c p.objects) (λ f some. let t = o.of_chain f some in subst (Has (map c p.objects)) t.2 (has_map c p.objects t.0 t.1)) in
+    let none : kept (c w.object) ≡ 0 = rw (w.short.none, o.no_zero) refl in
+    let gap = total_gap (λ u. kept (c u)) sectors_of_object p.objects w.object (sectors_of_object w.object)
+    (λ u k. content_few x cpu.core u (x.held u.home).area (x.held u.home).chain o.no_zero (m.stands.objects u k).content) w.present.there (omega (arith, none)) in
+    omega (arith, all, gap, total_map c kept p.objects, w.short.few)
 
-sum_total : {A : Type 0} (f : A → ℕ) (xs : List A) → sum_by f xs ≡ total f xs
-sum_total f [] = refl
-sum_total f (y ∷ xs) = omega (arith, sum_by-cons f y xs, sum_total f xs)
-
-code_total : (plan : Plan) (j n : ℕ) (segments : List Segment) → total sectors_of_thing (code_things plan j n segments) ≡ total (λ (g : Segment). sectors_for (length g.code)) segments
+code_total : (plan : Placement) (j n : ℕ) (segments : List Segment) → total sectors_of_object (code_objects plan j n segments) ≡ total (λ (g : Segment). sectors_for (length g.code)) segments
 code_total plan j n [] = refl
 code_total plan j n (g ∷ more) = omega (arith, code_total plan j (n + 1) more)
 
-member_total : (plan : Plan) (m : Member) → total sectors_of_thing (things_of plan m) ≡ sectors_of m
+member_total : (plan : Placement) (m : SessionJob) → total sectors_of_object (objects_of plan m) ≡ sectors_of m
 member_total plan m =
-    let j = m.setting.number in
+    let j = m.constants.number in
     omega (
       arith,
-      total_append sectors_of_thing (code_things plan j 1 m.setting.segments) (map (array_thing plan j) m.course.job.arrays),
-      code_total plan j 1 m.setting.segments,
-      total_map (array_thing plan j) sectors_of_thing m.course.job.arrays,
-      sum_total (λ (g : Segment). sectors_for (length g.code)) m.setting.segments,
-      sum_total (λ (a : State.Array). sectors_for (length a.numbers)) m.course.job.arrays,
+      total_append sectors_of_object (code_objects plan j 1 m.constants.segments) (map (array_object plan j) m.progress.job.arrays),
+      code_total plan j 1 m.constants.segments,
+      total_map (array_object plan j) sectors_of_object m.progress.job.arrays,
+      sum_total (λ (g : Segment). sectors_for (length g.code)) m.constants.segments,
+      sum_total (λ (a : State.Array). sectors_for (length a.numbers)) m.progress.job.arrays,
     )
 
--- the things of a session's picture take the sectors of the session
-pub session_total : (plan : Plan) (jobs : List Member) → total sectors_of_thing (flat_map (things_of plan) jobs) ≡ sectors jobs
+-- the objects of a session's view take the sectors of the session
+pub session_total : (plan : Placement) (jobs : List SessionJob) → total sectors_of_object (flat_map (objects_of plan) jobs) ≡ sectors jobs
 session_total plan jobs =
-    total_flat (things_of plan) sectors_of_thing jobs
-    ∙ total_same (λ (m : Member). total sectors_of_thing (things_of plan m)) sectors_of jobs (λ m k. member_total plan m)
+    total_flat (objects_of plan) sectors_of_object jobs
+    ∙ total_same (λ (m : SessionJob). total sectors_of_object (objects_of plan m)) sectors_of jobs (λ m k. member_total plan m)
     ∙ sym (sum_total sectors_of jobs)
 
 pub short_full : ShortIsFull
 short_full x cpu areas table told plan s wants free size m w e =
-    omega (arith, short x cpu areas table told (picture plan s.jobs) wants free m w, session_total plan s.jobs, e)
+    omega (arith, short x cpu areas table told (machine_view plan s.jobs) wants free m w, session_total plan s.jobs, e)

@@ -5,7 +5,7 @@ use Rattle.std.specs.List.{AllByRecursion, slice_get}
 use Rattle.std.proofs.lemmas.Bool.{cases_Bool}
 use Rattle.std.proofs.lemmas.List.Sums.{sum_by-cons}
 use Rattle.b67_lemmas.specs.Lists.{Has}
-use Rattle.b67_model.specs.State.{Array, Segment, Condition, Ready, Awaits, WaitsAt, Task, Member}
+use Rattle.b67_model.specs.State.{Array, Segment, Condition, Ready, Awaits, WaitsAt, Task, SessionJob}
 use Rattle.b67_model.specs.Keyed.{keyed}
 use Rattle.b67_model.specs.Need.{fixed}
 use Rattle.b67_model.specs.Rows.{code_of}
@@ -14,8 +14,9 @@ use Rattle.b67_model.specs.Schedule.{Session}
 use Rattle.b67_model.specs.Sectors.{sectors_for, sectors_of, sectors}
 use Rattle.b67_model.specs.InOrder.{IsSegment, SegmentInOrder, ArrayInOrder, JobInOrder, IsInOrderButPlaces}
 use Rattle.b67_law_order_steps.specs.Weaker.{Renumbers, Recoded, Refilled, OtherNumbers, AllOtherNumbers}
-use Rattle.b67_stack.specs.Stacks.{Spot}
-use Rattle.b67_layout.specs.Plan.{Plan, slot_of, spot_in, address_of}
+use Rattle.b67_law_order_steps.proofs.Sessions.{recoded_count}
+use Rattle.b67_stack.specs.Stacks.{StackPlace}
+use Rattle.b67_layout.specs.Placement.{Placement, slot_of, spot_in, address_of}
 use Rattle.b67_layout.specs.Rows.{WaitsAtCell, TaskRow, JobRow, shown, critical_disp, TaskShows, JobShows, JobsShow}
 use Rattle.b67_layout.specs.Session.{IsRunning}
 use Rattle.b67_task_need.specs.Needing.{array_area, need_with}
@@ -32,9 +33,9 @@ refilled_same : (xs : List Array) → AllByRecursion ArrayInOrder xs → Refille
 refilled_same [] o = tt
 refilled_same (x ∷ xs) o = (record { identity = refl; owner = refl; writable = refl; numbers = record { count = refl; bits = o.0.words } }, refilled_same xs o.1)
 
-members_same : (ms : List Member) → AllByRecursion (λ (m : Member). JobInOrder (IsSegment m.setting) m.setting m.course) ms → AllOtherNumbers ms ms
+members_same : (ms : List SessionJob) → AllByRecursion (λ (m : SessionJob). JobInOrder (IsSegment m.constants) m.constants m.progress) ms → AllOtherNumbers ms ms
 members_same [] o = tt
-members_same (m ∷ ms) o = (record { segments = recoded_same m.setting.segments o.0.unchanging.segments; arrays = refilled_same m.course.job.arrays o.0.tasks.arrays; rest = refl }, members_same ms o.1)
+members_same (m ∷ ms) o = (record { segments = recoded_same m.constants.segments o.0.unchanging.segments; arrays = refilled_same m.progress.job.arrays o.0.tasks.arrays; rest = refl }, members_same ms o.1)
 
 pub others_same : (s : Session) → IsInOrderButPlaces s → AllOtherNumbers s.jobs s.jobs
 others_same s o = members_same s.jobs o.jobs
@@ -68,20 +69,20 @@ refilled_then (x ∷ xs) [] zs h k = absurd h
 refilled_then (x ∷ xs) (y ∷ ys) [] h k = absurd k
 
 -- a member with other segments and arrays
-abbrev with_numbers : Member → List Segment → List Array → Member
+abbrev with_numbers : SessionJob → List Segment → List Array → SessionJob
 with_numbers m segments arrays = record m {
-  setting = record m.setting { segments = segments };
-  course = record m.course { job = record m.course.job { arrays = arrays } };
+  constants = record m.constants { segments = segments };
+  progress = record m.progress { job = record m.progress.job { arrays = arrays } };
 }
 
-pub other_then : (m n y : Member) → OtherNumbers m n → OtherNumbers n y → OtherNumbers m y
+pub other_then : (m n y : SessionJob) → OtherNumbers m n → OtherNumbers n y → OtherNumbers m y
 other_then m n y h k = record {
-  segments = recoded_then m.setting.segments n.setting.segments y.setting.segments h.segments k.segments;
-  arrays = refilled_then m.course.job.arrays n.course.job.arrays y.course.job.arrays h.arrays k.arrays;
-  rest = k.rest ∙ ap (λ (z : Member). with_numbers z y.setting.segments y.course.job.arrays) h.rest;
+  segments = recoded_then m.constants.segments n.constants.segments y.constants.segments h.segments k.segments;
+  arrays = refilled_then m.progress.job.arrays n.progress.job.arrays y.progress.job.arrays h.arrays k.arrays;
+  rest = k.rest ∙ ap (λ (z : SessionJob). with_numbers z y.constants.segments y.progress.job.arrays) h.rest;
 }
 
-pub others_then : (ms ns ys : List Member) → AllOtherNumbers ms ns → AllOtherNumbers ns ys → AllOtherNumbers ms ys
+pub others_then : (ms ns ys : List SessionJob) → AllOtherNumbers ms ns → AllOtherNumbers ns ys → AllOtherNumbers ms ys
 others_then [] [] [] h k = tt
 others_then (m ∷ ms) (n ∷ ns) (y ∷ ys) h k = (other_then m n y h.0 k.0, others_then ms ns ys h.1 k.1)
 others_then [] [] (y ∷ ys) h k = absurd k
@@ -89,52 +90,45 @@ others_then [] (n ∷ ns) ys h k = absurd h
 others_then (m ∷ ms) [] ys h k = absurd h
 others_then (m ∷ ms) (n ∷ ns) [] h k = absurd k
 
--- alike in what a picture doesn't show
-pub recoded_length : (xs ys : List Segment) → Recoded xs ys → length ys ≡ length xs
-recoded_length [] [] h = refl
-recoded_length (x ∷ xs) (y ∷ ys) h = ap suc (recoded_length xs ys h.1)
-recoded_length [] (y ∷ ys) h = absurd h
-recoded_length (x ∷ xs) [] h = absurd h
-
-pub other_alike : (m n : Member) → OtherNumbers m n → Alike m n
+pub other_alike : (m n : SessionJob) → OtherNumbers m n → Alike m n
 other_alike m n h = record {
-  number = ap (λ (z : Member). z.setting.number) h.rest;
-  stack_size = ap (λ (z : Member). z.setting.stack_size) h.rest;
-  dictionary = ap (λ (z : Member). z.setting.dictionary) h.rest;
-  count = recoded_length m.setting.segments n.setting.segments h.segments;
-  tasks = ap (λ (z : Member). z.course.job.tasks) h.rest;
+  number = ap (λ (z : SessionJob). z.constants.number) h.rest;
+  stack_size = ap (λ (z : SessionJob). z.constants.stack_size) h.rest;
+  dictionary = ap (λ (z : SessionJob). z.constants.dictionary) h.rest;
+  count = recoded_count m.constants.segments n.constants.segments h.segments;
+  tasks = ap (λ (z : SessionJob). z.progress.job.tasks) h.rest;
 }
 
-pub others_alike : (ms ns : List Member) → AllOtherNumbers ms ns → AllAlike ms ns
+pub others_alike : (ms ns : List SessionJob) → AllOtherNumbers ms ns → AllAlike ms ns
 others_alike [] [] h = tt
 others_alike (m ∷ ms) (n ∷ ns) h = (other_alike m n h.0, others_alike ms ns h.1)
 others_alike [] (n ∷ ns) h = absurd h
 others_alike (m ∷ ms) [] h = absurd h
 
 -- the other self of a member, and of a running one
-pub others_has : (ms ns : List Member) → AllOtherNumbers ms ns → (m : Member) → Has ms m → (n : Member) × Has ns n × OtherNumbers m n
+pub others_has : (ms ns : List SessionJob) → AllOtherNumbers ms ns → (m : SessionJob) → Has ms m → (n : SessionJob) × Has ns n × OtherNumbers m n
 others_has [] [] h m i = absurd i
-others_has (y ∷ ms) (n ∷ ns) h m (inl e) = let P : Member → Type 0 = λ z. OtherNumbers z n in (n, inl refl, subst P e h.0)
+others_has (y ∷ ms) (n ∷ ns) h m (inl e) = let P : SessionJob → Type 0 = λ z. OtherNumbers z n in (n, inl refl, subst P e h.0)
 others_has (y ∷ ms) (n ∷ ns) h m (inr i) = let (z, at, other) = others_has ms ns h.1 m i in (z, inr at, other)
 others_has [] (n ∷ ns) h m i = absurd h
 others_has (y ∷ ms) [] h m i = absurd h
 
-pub others_back : (ms ns : List Member) → AllOtherNumbers ms ns → (n : Member) → Has ns n → (m : Member) × Has ms m × OtherNumbers m n
+pub others_back : (ms ns : List SessionJob) → AllOtherNumbers ms ns → (n : SessionJob) → Has ns n → (m : SessionJob) × Has ms m × OtherNumbers m n
 others_back [] [] h n i = absurd i
-others_back (m ∷ ms) (y ∷ ns) h n (inl e) = let P : Member → Type 0 = λ z. OtherNumbers m z in (m, inl refl, subst P e h.0)
+others_back (m ∷ ms) (y ∷ ns) h n (inl e) = let P : SessionJob → Type 0 = λ z. OtherNumbers m z in (m, inl refl, subst P e h.0)
 others_back (m ∷ ms) (y ∷ ns) h n (inr i) = let (z, at, other) = others_back ms ns h.1 n i in (z, inr at, other)
 others_back [] (y ∷ ns) h n i = absurd h
 others_back (m ∷ ms) [] h n i = absurd h
 
-abbrev OtherOption : Option Member → Option Member → Type 0
+abbrev OtherOption : Option SessionJob → Option SessionJob → Type 0
 OtherOption None None = Unit {0}
 OtherOption (Some m) (Some n) = OtherNumbers m n
 OtherOption _ _ = ⊥
 
-others_keyed : (j : ℕ) (ms ns : List Member) → AllOtherNumbers ms ns → OtherOption (keyed number_of j ms) (keyed number_of j ns)
+others_keyed : (j : ℕ) (ms ns : List SessionJob) → AllOtherNumbers ms ns → OtherOption (keyed number_of j ms) (keyed number_of j ns)
 others_keyed j [] [] e = tt
 others_keyed j (m ∷ ms) (n ∷ ns) e =
-    let same : number_of n ≡ number_of m = ap (λ (z : Member). z.setting.number) e.0.rest in
+    let same : number_of n ≡ number_of m = ap (λ (z : SessionJob). z.constants.number) e.0.rest in
     ⊎_elim
     (λ (t : (number_of m == j) ≡ true). let u : (number_of n == j) ≡ true = ap (λ (i : ℕ). i == j) same ∙ t in rw (t, u) e.0)
     (λ (t : (number_of m == j) ≡ false). let u : (number_of n == j) ≡ false = ap (λ (i : ℕ). i == j) same ∙ t in rw (t, u) (others_keyed j ms ns e.1))
@@ -143,16 +137,16 @@ others_keyed j [] (n ∷ ns) e = absurd e
 others_keyed j (m ∷ ms) [] e = absurd e
 
 -- the running task runs in the other session too
-pub record RunsOther (plan : Plan) (ns : List Member) (m : Member) (t : Task) : Type 0 where
-  pub member : Member
+pub record RunsOther (plan : Placement) (ns : List SessionJob) (m : SessionJob) (t : Task) : Type 0 where
+  pub member : SessionJob
   pub other : OtherNumbers m member
   pub runs : IsRunning plan ns member t
 
-pub others_running : (plan : Plan) (ms ns : List Member) → AllOtherNumbers ms ns → (m : Member) (t : Task) → IsRunning plan ms m t → RunsOther plan ns m t
-others_running plan ms ns e m t r = by (keyed number_of m.setting.number ns) refl
-    (let S : Option Member → Type 0 = λ o. OtherOption o (keyed number_of m.setting.number ns) in subst S r.member (others_keyed m.setting.number ms ns e))
+pub others_running : (plan : Placement) (ms ns : List SessionJob) → AllOtherNumbers ms ns → (m : SessionJob) (t : Task) → IsRunning plan ms m t → RunsOther plan ns m t
+others_running plan ms ns e m t r = by (keyed number_of m.constants.number ns) refl
+    (let S : Option SessionJob → Type 0 = λ o. OtherOption o (keyed number_of m.constants.number ns) in subst S r.member (others_keyed m.constants.number ms ns e))
   where
-    by : (o : Option Member) → keyed number_of m.setting.number ns ≡ o → OtherOption (Some m) o → RunsOther plan ns m t
+    by : (o : Option SessionJob) → keyed number_of m.constants.number ns ≡ o → OtherOption (Some m) o → RunsOther plan ns m t
     by None at k = absurd k
     by (Some n) at k = let a = other_alike m n k in record {
       member = n;
@@ -165,22 +159,22 @@ others_running plan ms ns e m t r = by (keyed number_of m.setting.number ns) ref
     }
 
 -- the tables show no numbers
-module _ (plan : Plan) (m n : Member) (h : OtherNumbers m n) where
-  shown_same : (t : Task) (c : Condition) → shown plan m.setting.number (record m.course.job { arrays = n.course.job.arrays }) t c ≡ shown plan m.setting.number m.course.job t c
+module _ (plan : Placement) (m n : SessionJob) (h : OtherNumbers m n) where
+  shown_same : (t : Task) (c : Condition) → shown plan m.constants.number (record m.progress.job { arrays = n.progress.job.arrays }) t c ≡ shown plan m.constants.number m.progress.job t c
   shown_same t Ready = refl
   shown_same t (Awaits i) = refl
   shown_same t (WaitsAt frame offset) =
-      ap (λ (o : ℕ → Spot). WaitsAtCell (address_of plan (spot_in (slot_of plan m.setting.number t.number) o t.frames frame)) offset)
-      (outer_same plan m.setting.number m.course.job (record m.course.job { arrays = n.course.job.arrays }) refl t.critical t.parents)
+      ap (λ (o : ℕ → StackPlace). WaitsAtCell (address_of plan (spot_in (slot_of plan m.constants.number t.number) o t.frames frame)) offset)
+      (outer_same plan m.constants.number m.progress.job (record m.progress.job { arrays = n.progress.job.arrays }) refl t.critical t.parents)
 
-  critical_same : (c : ℕ) (parents : List ℕ) → critical_disp plan m.setting.number (record m.course.job { arrays = n.course.job.arrays }) c parents ≡ critical_disp plan m.setting.number m.course.job c parents
+  critical_same : (c : ℕ) (parents : List ℕ) → critical_disp plan m.constants.number (record m.progress.job { arrays = n.progress.job.arrays }) c parents ≡ critical_disp plan m.constants.number m.progress.job c parents
   critical_same c [] = refl
   critical_same c (parent ∷ more) = refl
 
   task_shows : (t : Task) (row : TaskRow) → TaskShows plan m t row → TaskShows plan n t row
   task_shows t row s =
-      let P : Member → Type 0 = λ z. TaskShows plan z t row in
-      let it : TaskShows plan (with_numbers m n.setting.segments n.course.job.arrays) t row = record {
+      let P : SessionJob → Type 0 = λ z. TaskShows plan z t row in
+      let it : TaskShows plan (with_numbers m n.constants.segments n.progress.job.arrays) t row = record {
         job = s.job;
         number = s.number;
         slot = s.slot;
@@ -194,10 +188,10 @@ module _ (plan : Plan) (m n : Member) (h : OtherNumbers m n) where
 
   job_shows : (row : JobRow) → JobShows plan m row → JobShows plan n row
   job_shows row s =
-      let P : Member → Type 0 = λ z. JobShows plan z row in
-      let it : JobShows plan (with_numbers m n.setting.segments n.course.job.arrays) row = record {
+      let P : SessionJob → Type 0 = λ z. JobShows plan z row in
+      let it : JobShows plan (with_numbers m n.constants.segments n.progress.job.arrays) row = record {
         dictionary = s.dictionary;
-        segments = s.segments ∙ sym (recoded_length m.setting.segments n.setting.segments h.segments);
+        segments = s.segments ∙ sym (recoded_count m.constants.segments n.constants.segments h.segments);
         rows = s.rows;
         limit = s.limit;
         made = s.made;
@@ -206,13 +200,13 @@ module _ (plan : Plan) (m n : Member) (h : OtherNumbers m n) where
       } in
       subst P (sym h.rest) it
 
-  has_task : (t : Task) → Has m.course.job.tasks t → Has n.course.job.tasks t
-  has_task t i = let P : Member → Type 0 = λ z. Has z.course.job.tasks t in subst P (sym h.rest) i
+  has_task : (t : Task) → Has m.progress.job.tasks t → Has n.progress.job.tasks t
+  has_task t i = let P : SessionJob → Type 0 = λ z. Has z.progress.job.tasks t in subst P (sym h.rest) i
 
-  task_back : (t : Task) → Has n.course.job.tasks t → Has m.course.job.tasks t
-  task_back t i = let P : Member → Type 0 = λ z. Has z.course.job.tasks t in subst P h.rest i
+  task_back : (t : Task) → Has n.progress.job.tasks t → Has m.progress.job.tasks t
+  task_back t i = let P : SessionJob → Type 0 = λ z. Has z.progress.job.tasks t in subst P h.rest i
 
-jobs_show : (plan : Plan) (ms ns : List Member) (rows : List JobRow) → AllOtherNumbers ms ns → JobsShow plan ms rows → JobsShow plan ns rows
+jobs_show : (plan : Placement) (ms ns : List SessionJob) (rows : List JobRow) → AllOtherNumbers ms ns → JobsShow plan ms rows → JobsShow plan ns rows
 jobs_show plan [] [] [] h s = tt
 jobs_show plan (m ∷ ms) (n ∷ ns) (row ∷ rows) h s = (job_shows plan m n h.0 row s.0, jobs_show plan ms ns rows h.1 s.1)
 jobs_show plan [] [] (row ∷ rows) h s = absurd s
@@ -220,7 +214,7 @@ jobs_show plan (m ∷ ms) (n ∷ ns) [] h s = absurd s
 jobs_show plan [] (n ∷ ns) rows h s = absurd h
 jobs_show plan (m ∷ ms) [] rows h s = absurd h
 
-pub others_show : (plan : Plan) (s : Session) (jobs : List Member) (tasks : Tasks) → AllOtherNumbers s.jobs jobs → TasksShow plan s tasks → TasksShow plan (record s { jobs = jobs }) tasks
+pub others_show : (plan : Placement) (s : Session) (jobs : List SessionJob) (tasks : Tasks) → AllOtherNumbers s.jobs jobs → TasksShow plan s tasks → TasksShow plan (record s { jobs = jobs }) tasks
 others_show plan s jobs tasks h k = record {
   tasks = λ row in_row.
       let (m, t, in_m, in_t, shows) = k.tasks row in_row in
@@ -246,18 +240,18 @@ others_show plan s jobs tasks h k = record {
 }
 
 -- sums over jobs that don't see the numbers
-module _ (f : Member → ℕ) (same : (m n : Member) → OtherNumbers m n → f n ≡ f m) where
-  others_sum : (ms ns : List Member) → AllOtherNumbers ms ns → sum_by f ns ≡ sum_by f ms
+module _ (f : SessionJob → ℕ) (same : (m n : SessionJob) → OtherNumbers m n → f n ≡ f m) where
+  others_sum : (ms ns : List SessionJob) → AllOtherNumbers ms ns → sum_by f ns ≡ sum_by f ms
   others_sum [] [] h = refl
   others_sum (m ∷ ms) (n ∷ ns) h = sum_by-cons f n ns ∙ ap (λ (k : ℕ). k + sum_by f ns) (same m n h.0) ∙ ap (λ (k : ℕ). f m + k) (others_sum ms ns h.1) ∙ sym (sum_by-cons f m ms)
   others_sum [] (n ∷ ns) h = absurd h
   others_sum (m ∷ ms) [] h = absurd h
 
-pub others_live : (ms ns : List Member) → AllOtherNumbers ms ns → live_tasks ns ≡ live_tasks ms
-others_live ms ns h = others_sum (λ (m : Member). length m.course.job.tasks) (λ m n o. ap (λ (z : Member). length z.course.job.tasks) o.rest) ms ns h
+pub others_live : (ms ns : List SessionJob) → AllOtherNumbers ms ns → live_tasks ns ≡ live_tasks ms
+others_live ms ns h = others_sum (λ (m : SessionJob). length m.progress.job.tasks) (λ m n o. ap (λ (z : SessionJob). length z.progress.job.tasks) o.rest) ms ns h
 
-pub others_fixed : (ms ns : List Member) → AllOtherNumbers ms ns → fixed ns ≡ fixed ms
-others_fixed ms ns h = ap (λ (k : ℕ). 160 + k) (others_sum (λ (m : Member). 2 + length m.setting.dictionary.cells) (λ m n o. ap (λ (z : Member). 2 + length z.setting.dictionary.cells) o.rest) ms ns h)
+pub others_fixed : (ms ns : List SessionJob) → AllOtherNumbers ms ns → fixed ns ≡ fixed ms
+others_fixed ms ns h = ap (λ (k : ℕ). 160 + k) (others_sum (λ (m : SessionJob). 2 + length m.constants.dictionary.cells) (λ m n o. ap (λ (z : SessionJob). 2 + length z.constants.dictionary.cells) o.rest) ms ns h)
 
 segment_sectors : (xs ys : List Segment) → Recoded xs ys → sum_by (λ (s : Segment). sectors_for (length s.code)) ys ≡ sum_by (λ (s : Segment). sectors_for (length s.code)) xs
 segment_sectors [] [] h = refl
@@ -275,10 +269,10 @@ array_sectors (x ∷ xs) (y ∷ ys) h =
 array_sectors [] (y ∷ ys) h = absurd h
 array_sectors (x ∷ xs) [] h = absurd h
 
-pub others_sectors : (ms ns : List Member) → AllOtherNumbers ms ns → sectors ns ≡ sectors ms
+pub others_sectors : (ms ns : List SessionJob) → AllOtherNumbers ms ns → sectors ns ≡ sectors ms
 others_sectors ms ns h = others_sum sectors_of (λ m n o.
-    ap (λ (k : ℕ). k + sum_by (λ (a : Array). sectors_for (length a.numbers)) n.course.job.arrays) (segment_sectors m.setting.segments n.setting.segments o.segments)
-    ∙ ap (λ (k : ℕ). sum_by (λ (g : Segment). sectors_for (length g.code)) m.setting.segments + k) (array_sectors m.course.job.arrays n.course.job.arrays o.arrays)) ms ns h
+    ap (λ (k : ℕ). k + sum_by (λ (a : Array). sectors_for (length a.numbers)) n.progress.job.arrays) (segment_sectors m.constants.segments n.constants.segments o.segments)
+    ∙ ap (λ (k : ℕ). sum_by (λ (g : Segment). sectors_for (length g.code)) m.constants.segments + k) (array_sectors m.progress.job.arrays n.progress.job.arrays o.arrays)) ms ns h
 
 -- a segment is as long
 abbrev AsLong : Option Segment → Option Segment → Type 0
@@ -293,18 +287,18 @@ as_long (x ∷ xs) (y ∷ ys) (suc i) h = as_long xs ys i h.1
 as_long [] (y ∷ ys) i h = absurd h
 as_long (x ∷ xs) [] i h = absurd h
 
-pub other_code : (m n : Member) → OtherNumbers m n → (segment : ℕ) → length (code_of n.setting segment) ≡ length (code_of m.setting segment)
-other_code m n h segment = by (slice_get m.setting.segments (segment - 1)) (slice_get n.setting.segments (segment - 1)) refl refl (as_long m.setting.segments n.setting.segments (segment - 1) h.segments) where
-  by : (o p : Option Segment) → slice_get m.setting.segments (segment - 1) ≡ o → slice_get n.setting.segments (segment - 1) ≡ p → AsLong o p → length (code_of n.setting segment) ≡ length (code_of m.setting segment)
+pub other_code : (m n : SessionJob) → OtherNumbers m n → (segment : ℕ) → length (code_of n.constants segment) ≡ length (code_of m.constants segment)
+other_code m n h segment = by (slice_get m.constants.segments (segment - 1)) (slice_get n.constants.segments (segment - 1)) refl refl (as_long m.constants.segments n.constants.segments (segment - 1) h.segments) where
+  by : (o p : Option Segment) → slice_get m.constants.segments (segment - 1) ≡ o → slice_get n.constants.segments (segment - 1) ≡ p → AsLong o p → length (code_of n.constants segment) ≡ length (code_of m.constants segment)
   by None None e f k = rw (e, f) refl
   by (Some a) (Some b) e f k = rw (e, f) k
   by None (Some b) e f k = absurd k
   by (Some a) None e f k = absurd k
 
-pub others_need : (s : Session) (jobs : List Member) (m n : Member) (t : Task) (stacks words : ℕ) → AllOtherNumbers s.jobs jobs → OtherNumbers m n → need_with (record s { jobs = jobs }) n t stacks words ≡ need_with s m t stacks words
+pub others_need : (s : Session) (jobs : List SessionJob) (m n : SessionJob) (t : Task) (stacks words : ℕ) → AllOtherNumbers s.jobs jobs → OtherNumbers m n → need_with (record s { jobs = jobs }) n t stacks words ≡ need_with s m t stacks words
 others_need s jobs m n t stacks words h o =
-    let size : n.setting.stack_size ≡ m.setting.stack_size = ap (λ (z : Member). z.setting.stack_size) o.rest in
-    ap (λ (k : ℕ). k + max s.peak (live_tasks jobs + stacks) * n.setting.stack_size + (length (code_of n.setting t.segment) + 2) + array_area words) (others_fixed s.jobs jobs h)
-    ∙ ap (λ (k : ℕ). fixed s.jobs + max s.peak (k + stacks) * n.setting.stack_size + (length (code_of n.setting t.segment) + 2) + array_area words) (others_live s.jobs jobs h)
-    ∙ ap (λ (k : ℕ). fixed s.jobs + max s.peak (live_tasks s.jobs + stacks) * k + (length (code_of n.setting t.segment) + 2) + array_area words) size
-    ∙ ap (λ (k : ℕ). fixed s.jobs + max s.peak (live_tasks s.jobs + stacks) * m.setting.stack_size + (k + 2) + array_area words) (other_code m n o t.segment)
+    let size : n.constants.stack_size ≡ m.constants.stack_size = ap (λ (z : SessionJob). z.constants.stack_size) o.rest in
+    ap (λ (k : ℕ). k + max s.peak (live_tasks jobs + stacks) * n.constants.stack_size + (length (code_of n.constants t.segment) + 2) + array_area words) (others_fixed s.jobs jobs h)
+    ∙ ap (λ (k : ℕ). fixed s.jobs + max s.peak (k + stacks) * n.constants.stack_size + (length (code_of n.constants t.segment) + 2) + array_area words) (others_live s.jobs jobs h)
+    ∙ ap (λ (k : ℕ). fixed s.jobs + max s.peak (live_tasks s.jobs + stacks) * k + (length (code_of n.constants t.segment) + 2) + array_area words) size
+    ∙ ap (λ (k : ℕ). fixed s.jobs + max s.peak (live_tasks s.jobs + stacks) * m.constants.stack_size + (k + 2) + array_area words) (other_code m n o t.segment)

@@ -3,22 +3,22 @@ use Rattle.std.proofs.Common.{◌≡◌, ℕ, ◌+◌, List, length, Option, Som
 use Rattle.b67_area.specs.declared.Areas.{Areas}
 use Rattle.b67_backing.specs.Shelf.{Table}
 use Rattle.b67_backing.specs.declared.SpaceFault.{SpaceFault}
-use Rattle.b67_model.specs.State.{Task, Member}
+use Rattle.b67_model.specs.State.{Task, SessionJob}
 use Rattle.b67_model.specs.Rows.{code_of}
 use Rattle.b67_model.specs.Schedule.{Session}
 use Rattle.b67_model.specs.InOrder.{IsInOrderButPlaces}
 use Rattle.b67_stack.specs.declared.Cpu.{Cpu}
 use Rattle.b67_stack.specs.declared.What.{What}
 use Rattle.b67_stack.specs.declared.What.TheVariants as what
-use Rattle.b67_stack.specs.Shapes.{Held}
-use Rattle.b67_stack.specs.Picture.{Thing}
-use Rattle.b67_stack.specs.Stands.{Storage}
+use Rattle.b67_stack.specs.Shapes.{Location}
+use Rattle.b67_stack.specs.MachineView.{PagedObject}
+use Rattle.b67_stack.specs.Represents.{Storage}
 use Rattle.b67_layout_storage.specs.Machine as storage
-use Rattle.b67_layout_storage.specs.Machine.{IsAbsent, HasRoom, Stayed}
+use Rattle.b67_layout_storage.specs.Machine.{IsAbsent, HasHole, Stayed}
 use Rattle.b67_layout_storage.proofs.Helds.{held-other}
-use Rattle.b67_overlay.specs.Sheds.{Sheds, IsShortBy}
-use Rattle.b67_layout.specs.Plan.{Plan}
-use Rattle.b67_layout.specs.Layout.{array_thing, picture}
+use Rattle.b67_overlay.specs.AreasEvicted.{AreasEvicted, IsShortBy}
+use Rattle.b67_layout.specs.Placement.{Placement}
+use Rattle.b67_layout.specs.Layout.{array_object, machine_view}
 use Rattle.b67_layout.specs.Session.{IsRunning}
 use Rattle.b67_exec_cells.specs.Running.{code_area}
 use Rattle.b67_presence_page.specs.Brought.{brought}
@@ -29,63 +29,63 @@ use Rattle.b67_presence.proofs.Again.{machine_of}
 use Rattle.b67_presence.proofs.Ends.{waits_again, may_again, read_again, stays_again}
 use Rattle.b67_presence.proofs.Shortage.{short_of}
 use Rattle.b67_presence.proofs.Seen.{readable}
-use Rattle.b67_presence.proofs.Wants.{CodeThing, code_found, array_absent}
+use Rattle.b67_presence.proofs.Wants.{CodeObject, code_found, array_absent}
 
 -- what was absent still is, whatever areas were given back
-pub code_lacks : (x y : Storage) (plan : Plan) (m : Member) (t : Task) (d spare : ℕ) → code_area x plan m t ≡ None → Sheds x y spare → Lacks y (what.Code d) plan m t
-code_lacks x y plan m t d spare none s = ap (λ (h : Held). h.area) (s.resting (plan.dictionary m.setting.number + 1 + t.segment) none) ∙ none
+pub code_lacks : (x y : Storage) (plan : Placement) (m : SessionJob) (t : Task) (d spare : ℕ) → code_area x plan m t ≡ None → AreasEvicted x y spare → Lacks y (what.Code d) plan m t
+code_lacks x y plan m t d spare none s = ap (λ (h : Location). h.area) (s.resting (plan.dictionary m.constants.number + 1 + t.segment) none) ∙ none
 
-array_none : (x : Storage) (plan : Plan) (m : Member) (t : Task) (home words : ℕ) → IsArrayWanted x plan m t home words → (x.held home).area ≡ None
+array_none : (x : Storage) (plan : Placement) (m : SessionJob) (t : Task) (home words : ℕ) → IsArrayWanted x plan m t home words → (x.held home).area ≡ None
 array_none x plan m t home words w = ap (λ (q : ℕ). (x.held q).area) (sym w.home_is) ∙ w.absent
 
-pub array_lacks : (x y : Storage) (plan : Plan) (m : Member) (t : Task) (home words spare : ℕ) → IsArrayWanted x plan m t home words → Sheds x y spare → Lacks y (what.Array home) plan m t
+pub array_lacks : (x y : Storage) (plan : Placement) (m : SessionJob) (t : Task) (home words spare : ℕ) → IsArrayWanted x plan m t home words → AreasEvicted x y spare → Lacks y (what.Array home) plan m t
 array_lacks x y plan m t home words spare w s =
     let none = array_none x plan m t home words w in
-    inr (ap (λ (h : Held). h.area) (s.resting home none) ∙ none)
+    inr (ap (λ (h : Location). h.area) (s.resting home none) ∙ none)
 
-module _ (x : Storage) (told now : Option (List (List ℕ))) (k : Machine) (plan : Plan) (s : Session) (o : IsInOrderButPlaces s) (h : StandsOver x told k plan s) (cpu : Cpu) (areas : Areas) (table : Table)
-    (rest : cpu ≡ record k.cpu { core = cpu.core }) (len : length cpu.core ≡ length k.cpu.core) (same_areas : areas ≡ k.areas) (stayed : Stayed (picture plan s.jobs) k.cpu.core cpu.core) where
-  module _ (m : Member) (t : Task) (absent : What) (spare : ℕ) (w : Waits x (picture plan s.jobs) spare cpu areas table now) (lacks : (y : Storage) → Sheds x y spare → Lacks y absent plan m t) where
+module _ (x : Storage) (told now : Option (List (List ℕ))) (k : Machine) (plan : Placement) (s : Session) (o : IsInOrderButPlaces s) (h : StandsOver x told k plan s) (cpu : Cpu) (areas : Areas) (table : Table)
+    (rest : cpu ≡ record k.cpu { core = cpu.core }) (len : length cpu.core ≡ length k.cpu.core) (same_areas : areas ≡ k.areas) (stayed : Stayed (machine_view plan s.jobs) k.cpu.core cpu.core) where
+  module _ (m : SessionJob) (t : Task) (absent : What) (spare : ℕ) (w : Waits x (machine_view plan s.jobs) spare cpu areas table now) (lacks : (y : Storage) → AreasEvicted x y spare → Lacks y absent plan m t) where
     pub refused_waits : Refused x now (machine_of cpu areas table k.tasks) plan s m t absent
     refused_waits =
         let a = waits_again x told now k plan s o h cpu areas table rest len same_areas stayed spare w in
         let L : Storage → Type 0 = λ y. Lacks y absent plan m t in
         record { again = a.0; lacks = subst L (sym a.1) (lacks w.storage w.sheds) }
 
-    pub refused_full : (wants free : ℕ) → IsShortBy w.storage (picture plan s.jobs) wants free → RefusedFull x now (machine_of cpu areas table k.tasks) plan s m t absent wants free
+    pub refused_full : (wants free : ℕ) → IsShortBy w.storage (machine_view plan s.jobs) wants free → RefusedFull x now (machine_of cpu areas table k.tasks) plan s m t absent wants free
     refused_full wants free short =
         let a = waits_again x told now k plan s o h cpu areas table rest len same_areas stayed spare w in
         let L : Storage → Type 0 = λ y. Lacks y absent plan m t in
-        let S : Storage → List Member → Type 0 = λ y jobs. IsShortOf y plan jobs wants free in
+        let S : Storage → List SessionJob → Type 0 = λ y jobs. IsShortOf y plan jobs wants free in
         let of = short_of w.storage plan s.jobs wants free short in
         record {
           refused = record { again = a.0; lacks = subst L (sym a.1) (lacks w.storage w.sheds) };
           short = subst (S a.0.storage) (sym a.2) (subst (λ (y : Storage). S y s.jobs) (sym a.1) of);
         }
 
-  pub refused_array : (m : Member) (t : Task) (runs : IsRunning plan s.jobs m t) (home words : ℕ) (w : IsArrayWanted x plan m t home words)
-      → MayWait x (picture plan s.jobs) (array_thing plan m.setting.number w.array) (code_found plan s m t o runs).thing cpu areas table now → Refused x now (machine_of cpu areas table k.tasks) plan s m t (what.Array home)
+  pub refused_array : (m : SessionJob) (t : Task) (runs : IsRunning plan s.jobs m t) (home words : ℕ) (w : IsArrayWanted x plan m t home words)
+      → MayWait x (machine_view plan s.jobs) (array_object plan m.constants.number w.array) (code_found plan s m t o runs).object cpu areas table now → Refused x now (machine_of cpu areas table k.tasks) plan s m t (what.Array home)
   refused_array m t runs home words w b =
       let c = code_found plan s m t o runs in
       let absent = array_absent x told k plan s m t o h runs home words w in
-      let a = may_again x told now k plan s o h cpu areas table rest len same_areas stayed (array_thing plan m.setting.number w.array) absent.there c.thing b in
+      let a = may_again x told now k plan s o h cpu areas table rest len same_areas stayed (array_object plan m.constants.number w.array) absent.there c.object b in
       let L : Storage → Type 0 = λ y. Lacks y (what.Array home) plan m t in
       let lacks : L b.storage = ⊎_elim
-      (λ (e : (b.storage.held (plan.home m.setting.number w.array.identity)).area ≡ None). let l : L b.storage = inr (ap (λ (q : ℕ). (b.storage.held q).area) (sym w.home_is) ∙ e) in l)
-      (λ (e : (b.storage.held c.thing.home).area ≡ None). let l : L b.storage = inl (ap (λ (q : ℕ). (b.storage.held q).area) (sym c.home) ∙ e) in l)
+      (λ (e : (b.storage.held (plan.home m.constants.number w.array.identity)).area ≡ None). let l : L b.storage = inr (ap (λ (q : ℕ). (b.storage.held q).area) (sym w.home_is) ∙ e) in l)
+      (λ (e : (b.storage.held c.object.home).area ≡ None). let l : L b.storage = inl (ap (λ (q : ℕ). (b.storage.held q).area) (sym c.home) ∙ e) in l)
       b.lacks in
       record { again = a.0; lacks = subst L (sym a.1) lacks }
 
   -- where a hole had room
-  pub stays_in : (home : ℕ) (t : Thing) → IsAbsent x (picture plan s.jobs) home t → (r : Result (Unit {0}) SpaceFault) → OnOk r (IsReadable x (picture plan s.jobs) → ReadIn x (picture plan s.jobs) t cpu areas table now)
-      → OnErr r (storage.MachineStands x cpu areas table now (picture plan s.jobs)) → StaysIn x now (machine_of cpu areas table k.tasks) plan s
+  pub stays_in : (home : ℕ) (t : PagedObject) → IsAbsent x (machine_view plan s.jobs) home t → (r : Result (Unit {0}) SpaceFault) → OnOk r (IsReadable x (machine_view plan s.jobs) → ReadIn x (machine_view plan s.jobs) t cpu areas table now)
+      → OnErr r (storage.MachineRepresentsView x cpu areas table now (machine_view plan s.jobs)) → StaysIn x now (machine_of cpu areas table k.tasks) plan s
   stays_in home t b (Ok u) ok err =
       let w = ok (readable x plan s o) in
       let a = read_again x told now k plan s o h cpu areas table rest len same_areas stayed t b.there w in
       let A : Storage → Type 0 = λ y. AreasStay x y in
-      let g : Held = record { area = Some w.at; chain = (x.held t.home).chain } in
+      let g : Location = record { area = Some w.at; chain = (x.held t.home).chain } in
       let none : (x.held t.home).area ≡ None = ap (λ (q : ℕ). (x.held q).area) b.is ∙ b.absent in
-      let all : AreasStay x (brought x t w.at) = λ q some. ap (λ (z : Held). z.area) (held-other x.held t.home g q (λ e. some (ap (λ (n : ℕ). (x.held n).area) e ∙ none))) in
+      let all : AreasStay x (brought x t w.at) = λ q some. ap (λ (z : Location). z.area) (held-other x.held t.home g q (λ e. some (ap (λ (n : ℕ). (x.held n).area) e ∙ none))) in
       record { again = a.0; areas = subst A (sym a.1) all }
   stays_in home t b (Err fault) ok err =
       let a = stays_again x told now k plan s o h cpu areas table rest len same_areas stayed err in
@@ -94,21 +94,21 @@ module _ (x : Storage) (told now : Option (List (List ℕ))) (k : Machine) (plan
       record { again = a.0; areas = subst A (sym a.1) all }
 
 -- by the variant of what is wanted
-pub refused_as : (x : Storage) (told : Option (List (List ℕ))) (k : Machine) (plan : Plan) (s : Session) (m : Member) (t : Task) (absent other : What) → absent ≡ other → Refused x told k plan s m t other → Refused x told k plan s m t absent
+pub refused_as : (x : Storage) (told : Option (List (List ℕ))) (k : Machine) (plan : Placement) (s : Session) (m : SessionJob) (t : Task) (absent other : What) → absent ≡ other → Refused x told k plan s m t other → Refused x told k plan s m t absent
 refused_as x told k plan s m t absent other e b = subst (λ (z : What). Refused x told k plan s m t z) (sym e) b
 
-pub full_as : (x : Storage) (told : Option (List (List ℕ))) (k : Machine) (plan : Plan) (s : Session) (m : Member) (t : Task) (absent other : What) (wants free : ℕ) → absent ≡ other → RefusedFull x told k plan s m t other wants free → RefusedFull x told k plan s m t absent wants free
+pub full_as : (x : Storage) (told : Option (List (List ℕ))) (k : Machine) (plan : Placement) (s : Session) (m : SessionJob) (t : Task) (absent other : What) (wants free : ℕ) → absent ≡ other → RefusedFull x told k plan s m t other wants free → RefusedFull x told k plan s m t absent wants free
 full_as x told k plan s m t absent other wants free e b = subst (λ (z : What). RefusedFull x told k plan s m t z wants free) (sym e) b
 
-pub room_code : (x : Storage) (plan : Plan) (s : Session) (m : Member) (t : Task) (absent : What) (words d : ℕ) (c : CodeThing plan s m t) → absent ≡ what.Code d → HasRoom (words_wanted m t absent words) x.spans → HasRoom (length c.thing.numbers + 2) x.spans
+pub room_code : (x : Storage) (plan : Placement) (s : Session) (m : SessionJob) (t : Task) (absent : What) (words d : ℕ) (c : CodeObject plan s m t) → absent ≡ what.Code d → HasHole (words_wanted m t absent words) x.spans → HasHole (length c.object.numbers + 2) x.spans
 room_code x plan s m t absent words d c e room =
-    let here : HasRoom (length (code_of m.setting t.segment) + 2) x.spans = subst (λ (z : What). HasRoom (words_wanted m t z words) x.spans) e room in
-    subst (λ (n : ℕ). HasRoom (n + 2) x.spans) (sym c.count) here
+    let here : HasHole (length (code_of m.constants t.segment) + 2) x.spans = subst (λ (z : What). HasHole (words_wanted m t z words) x.spans) e room in
+    subst (λ (n : ℕ). HasHole (n + 2) x.spans) (sym c.count) here
 
-pub room_array : (x : Storage) (m : Member) (t : Task) (absent : What) (words home n : ℕ) → absent ≡ what.Array home → words ≡ n → HasRoom (words_wanted m t absent words) x.spans → HasRoom (n + 2) x.spans
+pub room_array : (x : Storage) (m : SessionJob) (t : Task) (absent : What) (words home n : ℕ) → absent ≡ what.Array home → words ≡ n → HasHole (words_wanted m t absent words) x.spans → HasHole (n + 2) x.spans
 room_array x m t absent words home n e count room =
-    let here : HasRoom (words + 2) x.spans = subst (λ (z : What). HasRoom (words_wanted m t z words) x.spans) e room in
-    subst (λ (i : ℕ). HasRoom (i + 2) x.spans) count here
+    let here : HasHole (words + 2) x.spans = subst (λ (z : What). HasHole (words_wanted m t z words) x.spans) e room in
+    subst (λ (i : ℕ). HasHole (i + 2) x.spans) count here
 
 pub untouched_code : (x : Storage) (absent : What) (d : ℕ) → absent ≡ what.Code d → IsUntouched x absent → ⊥
 untouched_code x absent d e u = subst (λ (z : What). IsUntouched x z) e u

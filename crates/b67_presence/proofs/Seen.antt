@@ -1,111 +1,107 @@
--- The session that a picture shows after things were read: with other numbers where the device tells nothing.
-use Rattle.std.proofs.Common.{◌≡◌, ◌≢◌, ℕ, ◌+◌, ◌==◌, List, [], ◌∷◌, length, map, Option, Some, None, refl, sym, ◌∙◌, ap, true, false, subst, inl, inr, ◌⊎◌, ⊎_elim}
+-- The session that a view shows after objects were read: with other numbers where the device tells nothing.
+use Rattle.std.proofs.Common.{◌≡◌, ◌≢◌, ℕ, ◌+◌, ◌==◌, List, [], ◌∷◌, length, map, None, refl, sym, ◌∙◌, ap, true, false, subst, inl, inr, ⊎_elim}
 use Rattle.std.specs.Prelude.{if◌then◌else◌, flat_map}
 use Rattle.std.specs.List.{AllByRecursion}
 use Rattle.std.proofs.lemmas.Bool.{cases_Bool, eqb-true}
-use Rattle.std.proofs.lemmas.Option.{none-some}
 use Rattle.b67_word.specs.Tagged.{Tagged}
 use Rattle.b67_area.specs.declared.kinds.Kind.TheVariants as kind
 use Rattle.b67_ctl.specs.declared.registers.Regs.{Regs}
 use Rattle.b67_lemmas.specs.Lists.{Has}
-use Rattle.b67_model.specs.State.{Array, Segment, Member}
+use Rattle.b67_lemmas.proofs.Members.{has_append_cases, has_append_left, has_append_right, has_map_back}
+use Rattle.b67_model.specs.State.{Array, Segment, SessionJob}
 use Rattle.b67_model.specs.Schedule.{Session}
 use Rattle.b67_model.specs.InOrder.{IsSegment, SegmentInOrder, ArrayInOrder, JobInOrder, IsInOrderButPlaces}
-use Rattle.b67_law_order.proofs.Members.{has_append_left, has_append_right, has_append_cases, has_map_back}
 use Rattle.b67_law_order_steps.specs.Weaker.{Renumbers, Recoded, RefilledArray, Refilled, AllOtherNumbers}
 use Rattle.b67_law_order_steps.proofs.Sessions.{other_numbers_keep_order}
-use Rattle.b67_stack.specs.Picture.{Thing, Picture, Settled}
-use Rattle.b67_stack.specs.Stands.{Storage, Stands}
+use Rattle.b67_stack.specs.MachineView.{PagedObject, MachineView, NoOriginalAboveTop}
+use Rattle.b67_stack.specs.Represents.{Storage, Represents}
 use Rattle.b67_layout_storage.specs.Machine.{AreBits, renumber, renumbered}
-use Rattle.b67_layout.specs.Plan.{Plan}
-use Rattle.b67_layout.specs.Layout.{array_thing, code_things, things_of, picture}
-use Rattle.b67_layout_step.proofs.Renumbered.{recoded, refilled, member_with, Fitting, picture_renumbered, settled_renumbered}
-use Rattle.b67_presence_page.specs.Brings.{IsReadable, Reads}
+use Rattle.b67_layout.specs.Placement.{Placement}
+use Rattle.b67_layout.specs.Layout.{array_object, code_objects, objects_of, machine_view}
+use Rattle.b67_layout_step.proofs.Renumbered.{recoded, refilled, member_with, Fitting, machine_view_renumbered, settled_renumbered}
+use Rattle.b67_presence_page.specs.Brings.{IsReadable, ReadBack}
+use Rattle.b67_presence_page.proofs.Ways.{none_or}
 use Rattle.b67_presence.proofs.Others.{others_same, others_then}
 
 -- each number of a session in order is one of a word
-code_bits : (plan : Plan) (j n : ℕ) (segments : List Segment) → AllByRecursion SegmentInOrder segments → (t : Thing) → Has (code_things plan j n segments) t → AreBits t.numbers
+code_bits : (plan : Placement) (j n : ℕ) (segments : List Segment) → AllByRecursion SegmentInOrder segments → (t : PagedObject) → Has (code_objects plan j n segments) t → AreBits t.numbers
 code_bits plan j n [] o t i = absurd i
-code_bits plan j n (s ∷ more) o t (inl e) = let P : Thing → Type 0 = λ u. AreBits u.numbers in subst P e o.0.words
+code_bits plan j n (s ∷ more) o t (inl e) = let P : PagedObject → Type 0 = λ u. AreBits u.numbers in subst P e o.0.words
 code_bits plan j n (s ∷ more) o t (inr i) = code_bits plan j (n + 1) more o.1 t i
 
-array_bits : (plan : Plan) (j : ℕ) (arrays : List Array) → AllByRecursion ArrayInOrder arrays → (t : Thing) → Has (map (array_thing plan j) arrays) t → AreBits t.numbers
+array_bits : (plan : Placement) (j : ℕ) (arrays : List Array) → AllByRecursion ArrayInOrder arrays → (t : PagedObject) → Has (map (array_object plan j) arrays) t → AreBits t.numbers
 array_bits plan j [] o t i = absurd i
-array_bits plan j (a ∷ more) o t (inl e) = let P : Thing → Type 0 = λ u. AreBits u.numbers in subst P e o.0.words
+array_bits plan j (a ∷ more) o t (inl e) = let P : PagedObject → Type 0 = λ u. AreBits u.numbers in subst P e o.0.words
 array_bits plan j (a ∷ more) o t (inr i) = array_bits plan j more o.1 t i
 
-abbrev InOrder : List Member → Type 0
-InOrder jobs = AllByRecursion (λ (m : Member). JobInOrder (IsSegment m.setting) m.setting m.course) jobs
+abbrev InOrder : List SessionJob → Type 0
+InOrder jobs = AllByRecursion (λ (m : SessionJob). JobInOrder (IsSegment m.constants) m.constants m.progress) jobs
 
-all_bits : (plan : Plan) (jobs : List Member) → InOrder jobs → (t : Thing) → Has (flat_map (things_of plan) jobs) t → AreBits t.numbers
+all_bits : (plan : Placement) (jobs : List SessionJob) → InOrder jobs → (t : PagedObject) → Has (flat_map (objects_of plan) jobs) t → AreBits t.numbers
 all_bits plan [] o t i = absurd i
 all_bits plan (m ∷ more) o t i = ⊎_elim
-    (λ (own : Has (things_of plan m) t). ⊎_elim
-    (λ (code : Has (code_things plan m.setting.number 1 m.setting.segments) t). code_bits plan m.setting.number 1 m.setting.segments o.0.unchanging.segments t code)
-    (λ (row : Has (map (array_thing plan m.setting.number) m.course.job.arrays) t). array_bits plan m.setting.number m.course.job.arrays o.0.tasks.arrays t row)
-    (has_append_cases (code_things plan m.setting.number 1 m.setting.segments) (map (array_thing plan m.setting.number) m.course.job.arrays) t own))
-    (λ (rest : Has (flat_map (things_of plan) more) t). all_bits plan more o.1 t rest)
-    (has_append_cases (things_of plan m) (flat_map (things_of plan) more) t i)
+    (λ (own : Has (objects_of plan m) t). ⊎_elim
+    (λ (code : Has (code_objects plan m.constants.number 1 m.constants.segments) t). code_bits plan m.constants.number 1 m.constants.segments o.0.unchanging.segments t code)
+    (λ (row : Has (map (array_object plan m.constants.number) m.progress.job.arrays) t). array_bits plan m.constants.number m.progress.job.arrays o.0.tasks.arrays t row)
+    (has_append_cases (code_objects plan m.constants.number 1 m.constants.segments) (map (array_object plan m.constants.number) m.progress.job.arrays) t own))
+    (λ (rest : Has (flat_map (objects_of plan) more) t). all_bits plan more o.1 t rest)
+    (has_append_cases (objects_of plan m) (flat_map (objects_of plan) more) t i)
 
-pub thing_bits : (plan : Plan) (s : Session) → IsInOrderButPlaces s → (t : Thing) → Has (flat_map (things_of plan) s.jobs) t → AreBits t.numbers
-thing_bits plan s o t i = all_bits plan s.jobs o.jobs t i
+pub object_bits : (plan : Placement) (s : Session) → IsInOrderButPlaces s → (t : PagedObject) → Has (flat_map (objects_of plan) s.jobs) t → AreBits t.numbers
+object_bits plan s o t i = all_bits plan s.jobs o.jobs t i
 
-pub readable : (x : Storage) (plan : Plan) (s : Session) → IsInOrderButPlaces s → IsReadable x (picture plan s.jobs)
-readable x plan s o = inr (thing_bits plan s o)
+pub readable : (x : Storage) (plan : Placement) (s : Session) → IsInOrderButPlaces s → IsReadable x (machine_view plan s.jobs)
+readable x plan s o = inr (object_bits plan s o)
 
--- the session with other numbers in a thing has other numbers
-module _ (plan : Plan) (home : ℕ) (ns : List ℕ) (bits : AreBits ns) where
-  recoded_other : (j n : ℕ) (segments : List Segment) → AllByRecursion SegmentInOrder segments → Fitting home ns (code_things plan j n segments) → Recoded segments (recoded plan j home ns n segments)
+-- the session with other numbers in an object has other numbers
+module _ (plan : Placement) (home : ℕ) (ns : List ℕ) (bits : AreBits ns) where
+  recoded_other : (j n : ℕ) (segments : List Segment) → AllByRecursion SegmentInOrder segments → Fitting home ns (code_objects plan j n segments) → Recoded segments (recoded plan j home ns n segments)
   recoded_other j n [] order fits = tt
   recoded_other j n (s ∷ more) order fits =
-      let thing : Thing = record { home = plan.dictionary j + 1 + n; kind = kind.Code; numbers = s.code } in
+      let object : PagedObject = record { home = plan.dictionary j + 1 + n; kind = kind.Code; numbers = s.code } in
       let here : Renumbers s.code (if plan.dictionary j + 1 + n == home then record s { code = ns } else s).code = ⊎_elim
-      (λ (e : (plan.dictionary j + 1 + n == home) ≡ true). rw e (record { count = fits thing (inl refl) (eqb-true (plan.dictionary j + 1 + n) home e); bits = bits }))
+      (λ (e : (plan.dictionary j + 1 + n == home) ≡ true). rw e (record { count = fits object (inl refl) (eqb-true (plan.dictionary j + 1 + n) home e); bits = bits }))
       (λ (e : (plan.dictionary j + 1 + n == home) ≡ false). rw e (record { count = refl; bits = order.0.words }))
       (cases_Bool (plan.dictionary j + 1 + n == home)) in
       (here, recoded_other j (n + 1) more order.1 (λ t int. fits t (inr int)))
 
-  refilled_other : (j : ℕ) (arrays : List Array) → AllByRecursion ArrayInOrder arrays → Fitting home ns (map (array_thing plan j) arrays) → Refilled arrays (map (refilled plan j home ns) arrays)
+  refilled_other : (j : ℕ) (arrays : List Array) → AllByRecursion ArrayInOrder arrays → Fitting home ns (map (array_object plan j) arrays) → Refilled arrays (map (refilled plan j home ns) arrays)
   refilled_other j [] order fits = tt
   refilled_other j (a ∷ more) order fits =
       let here : RefilledArray a (refilled plan j home ns a) = ⊎_elim
-      (λ (e : (plan.home j a.identity == home) ≡ true). rw e (record { identity = refl; owner = refl; writable = refl; numbers = record { count = fits (array_thing plan j a) (inl refl) (eqb-true (plan.home j a.identity) home e); bits = bits } }))
+      (λ (e : (plan.home j a.identity == home) ≡ true). rw e (record { identity = refl; owner = refl; writable = refl; numbers = record { count = fits (array_object plan j a) (inl refl) (eqb-true (plan.home j a.identity) home e); bits = bits } }))
       (λ (e : (plan.home j a.identity == home) ≡ false). rw e (record { identity = refl; owner = refl; writable = refl; numbers = record { count = refl; bits = order.0.words } }))
       (cases_Bool (plan.home j a.identity == home)) in
       (here, refilled_other j more order.1 (λ t int. fits t (inr int)))
 
-  others_with : (jobs : List Member) → InOrder jobs → Fitting home ns (flat_map (things_of plan) jobs) → AllOtherNumbers jobs (map (member_with plan home ns) jobs)
+  others_with : (jobs : List SessionJob) → InOrder jobs → Fitting home ns (flat_map (objects_of plan) jobs) → AllOtherNumbers jobs (map (member_with plan home ns) jobs)
   others_with [] order fits = tt
   others_with (m ∷ more) order fits =
-      let own : Fitting home ns (things_of plan m) = λ t int. fits t (has_append_left (things_of plan m) (flat_map (things_of plan) more) t int) in
-      let j = m.setting.number in
-      let code = code_things plan j 1 m.setting.segments in
-      let filled = map (array_thing plan j) m.course.job.arrays in (
+      let own : Fitting home ns (objects_of plan m) = λ t int. fits t (has_append_left (objects_of plan m) (flat_map (objects_of plan) more) t int) in
+      let j = m.constants.number in
+      let code = code_objects plan j 1 m.constants.segments in
+      let filled = map (array_object plan j) m.progress.job.arrays in (
         record {
-          segments = recoded_other j 1 m.setting.segments order.0.unchanging.segments (λ t int. own t (has_append_left code filled t int));
-          arrays = refilled_other j m.course.job.arrays order.0.tasks.arrays (λ t int. own t (has_append_right code filled t int));
+          segments = recoded_other j 1 m.constants.segments order.0.unchanging.segments (λ t int. own t (has_append_left code filled t int));
+          arrays = refilled_other j m.progress.job.arrays order.0.tasks.arrays (λ t int. own t (has_append_right code filled t int));
           rest = refl;
         },
-        others_with more order.1 (λ t int. fits t (has_append_right (things_of plan m) (flat_map (things_of plan) more) t int)),
+        others_with more order.1 (λ t int. fits t (has_append_right (objects_of plan m) (flat_map (objects_of plan) more) t int)),
       )
 
--- a picture shows the session of other numbers, which are the same where the device tells its sectors
-pub record Sees (x : Storage) (plan : Plan) (jobs : List Member) (q : Picture) : Type 0 where
-  pub seen : List Member
+-- a view shows the session of other numbers, which are the same where the device tells its sectors
+pub record Sees (x : Storage) (plan : Placement) (jobs : List SessionJob) (q : MachineView) : Type 0 where
+  pub seen : List SessionJob
   pub others : AllOtherNumbers jobs seen
   pub same : x.device ≢ None → seen ≡ jobs
-  pub is : q ≡ picture plan seen
-  pub settled : Settled (picture plan jobs) → Settled q
+  pub is : q ≡ machine_view plan seen
+  pub settled : NoOriginalAboveTop (machine_view plan jobs) → NoOriginalAboveTop q
 
-abbrev pub sees_none : (x : Storage) (plan : Plan) (s : Session) → IsInOrderButPlaces s → Sees x plan s.jobs (picture plan s.jobs)
+abbrev pub sees_none : (x : Storage) (plan : Placement) (s : Session) → IsInOrderButPlaces s → Sees x plan s.jobs (machine_view plan s.jobs)
 sees_none x plan s o = record { seen = s.jobs; others = others_same s o; same = λ n. refl; is = refl; settled = λ z. z }
 
-none_or : (o : Option (List (List ℕ))) → (o ≡ None) ⊎ (o ≢ None)
-none_or None = inl refl
-none_or (Some all) = inr (λ e. none-some all (sym e))
-
-module _ (x : Storage) (plan : Plan) (s : Session) (o : IsInOrderButPlaces s) (q : Picture) (t : Thing) (r : Reads x (picture plan s.jobs) q t)
-    (fits : Fitting t.home r.numbers (flat_map (things_of plan) s.jobs)) (bits : AreBits t.numbers) where
+module _ (x : Storage) (plan : Placement) (s : Session) (o : IsInOrderButPlaces s) (q : MachineView) (t : PagedObject) (r : ReadBack x (machine_view plan s.jobs) q t)
+    (fits : Fitting t.home r.numbers (flat_map (objects_of plan) s.jobs)) (bits : AreBits t.numbers) where
   pub sees_read : Sees x plan s.jobs q
   sees_read = ⊎_elim
       (λ (e : x.device ≡ None).
@@ -113,8 +109,8 @@ module _ (x : Storage) (plan : Plan) (s : Session) (o : IsInOrderButPlaces s) (q
         seen = map (member_with plan t.home r.numbers) s.jobs;
         others = others_with plan t.home r.numbers (r.bits bits) s.jobs o.jobs fits;
         same = λ n. absurd (n e);
-        is = r.is ∙ picture_renumbered plan t.home r.numbers s.jobs fits;
-        settled = λ z. let P : Picture → Type 0 = λ p. Settled p in subst P (sym r.is) (settled_renumbered (picture plan s.jobs) t.home r.numbers z);
+        is = r.is ∙ machine_view_renumbered plan t.home r.numbers s.jobs fits;
+        settled = λ z. let P : MachineView → Type 0 = λ p. NoOriginalAboveTop p in subst P (sym r.is) (settled_renumbered (machine_view plan s.jobs) t.home r.numbers z);
       } in
       it)
       (λ (n : x.device ≢ None).
@@ -123,52 +119,52 @@ module _ (x : Storage) (plan : Plan) (s : Session) (o : IsInOrderButPlaces s) (q
         others = others_same s o;
         same = λ z. refl;
         is = r.same n;
-        settled = λ z. let P : Picture → Type 0 = λ p. Settled p in subst P (sym (r.same n)) z;
+        settled = λ z. let P : MachineView → Type 0 = λ p. NoOriginalAboveTop p in subst P (sym (r.same n)) z;
       } in
       it)
       (none_or x.device)
 
--- where a thing of a picture comes from that was read
-renumber_like : (home : ℕ) (ns : List ℕ) (u : Thing) → (u.home ≡ home → length ns ≡ length u.numbers) → ((renumber home ns u).home ≡ u.home) × (length (renumber home ns u).numbers ≡ length u.numbers)
+-- where an object of a view comes from that was read
+renumber_like : (home : ℕ) (ns : List ℕ) (u : PagedObject) → (u.home ≡ home → length ns ≡ length u.numbers) → ((renumber home ns u).home ≡ u.home) × (length (renumber home ns u).numbers ≡ length u.numbers)
 renumber_like home ns u fits = ⊎_elim
     (λ (e : (u.home == home) ≡ true). rw e (refl, fits (eqb-true u.home home e)))
     (λ (e : (u.home == home) ≡ false). rw e (refl, refl))
     (cases_Bool (u.home == home))
 
-read_fits : (p q : Picture) (home : ℕ) (ns : List ℕ) (also : ℕ) (ms : List ℕ) → q ≡ renumbered p home ns → Fitting home ns p.things → Fitting also ms p.things → Fitting also ms q.things
+read_fits : (p q : MachineView) (home : ℕ) (ns : List ℕ) (also : ℕ) (ms : List ℕ) → q ≡ renumbered p home ns → Fitting home ns p.objects → Fitting also ms p.objects → Fitting also ms q.objects
 read_fits p q home ns also ms is fits too =
-    let P : Picture → Type 0 = λ z. Fitting also ms z.things in
+    let P : MachineView → Type 0 = λ z. Fitting also ms z.objects in
     subst P (sym is) (λ v inv e.
-    let k = has_map_back (renumber home ns) p.things v inv in
+    let k = has_map_back (renumber home ns) p.objects v inv in
     let like = renumber_like home ns k.item (fits k.item k.among) in
-    let home_is : k.item.home ≡ also = sym like.0 ∙ ap (λ (z : Thing). z.home) k.is ∙ e in
-    too k.item k.among home_is ∙ sym like.1 ∙ ap (λ (z : Thing). length z.numbers) k.is)
+    let home_is : k.item.home ≡ also = sym like.0 ∙ ap (λ (z : PagedObject). z.home) k.is ∙ e in
+    too k.item k.among home_is ∙ sym like.1 ∙ ap (λ (z : PagedObject). length z.numbers) k.is)
 
--- one thing of each home
-pub fitting : (x : Storage) (core : List Tagged) (r : Regs) (p : Picture) → Stands x core r p → (t : Thing) → Has p.things t → (ns : List ℕ) → length ns ≡ length t.numbers → Fitting t.home ns p.things
-fitting x core r p s t int ns count u inu e = count ∙ ap (λ (v : Thing). length v.numbers) (sym (s.slots.laid.differ u t inu int e))
+-- one object of each home
+pub fitting : (x : Storage) (core : List Tagged) (r : Regs) (p : MachineView) → Represents x core r p → (t : PagedObject) → Has p.objects t → (ns : List ℕ) → length ns ≡ length t.numbers → Fitting t.home ns p.objects
+fitting x core r p s t int ns count u inu e = count ∙ ap (λ (v : PagedObject). length v.numbers) (sym (s.slots.laid.differ u t inu int e))
 
--- two things were read
-module _ (x : Storage) (core : List Tagged) (r : Regs) (plan : Plan) (s : Session) (o : IsInOrderButPlaces s) (h : Stands x core r (picture plan s.jobs)) (t c : Thing)
-    (int : Has (flat_map (things_of plan) s.jobs) t) (inc : Has (flat_map (things_of plan) s.jobs) c) (read q : Picture) (first : Reads x (picture plan s.jobs) read t) (second : Reads x read q c) where
+-- two objects were read
+module _ (x : Storage) (core : List Tagged) (r : Regs) (plan : Placement) (s : Session) (o : IsInOrderButPlaces s) (h : Represents x core r (machine_view plan s.jobs)) (t c : PagedObject)
+    (int : Has (flat_map (objects_of plan) s.jobs) t) (inc : Has (flat_map (objects_of plan) s.jobs) c) (read q : MachineView) (first : ReadBack x (machine_view plan s.jobs) read t) (second : ReadBack x read q c) where
   pub sees_one : Sees x plan s.jobs read
-  sees_one = sees_read x plan s o read t first (fitting x core r (picture plan s.jobs) h t int first.numbers first.count) (thing_bits plan s o t int)
+  sees_one = sees_read x plan s o read t first (fitting x core r (machine_view plan s.jobs) h t int first.numbers first.count) (object_bits plan s o t int)
 
   pub sees_both : Sees x plan s.jobs q
   sees_both =
       let k = sees_one in
       let s' : Session = record s { jobs = k.seen } in
       let o' : IsInOrderButPlaces s' = other_numbers_keep_order s k.seen k.others o in
-      let fits_t : Fitting t.home first.numbers (flat_map (things_of plan) s.jobs) = fitting x core r (picture plan s.jobs) h t int first.numbers first.count in
-      let fits_c : Fitting c.home second.numbers (flat_map (things_of plan) s.jobs) = fitting x core r (picture plan s.jobs) h c inc second.numbers second.count in
-      let fits : Fitting c.home second.numbers read.things = read_fits (picture plan s.jobs) read t.home first.numbers c.home second.numbers first.is fits_t fits_c in
-      let P : Picture → Type 0 = λ z. (r : Reads x z q c) × Fitting c.home r.numbers z.things in
+      let fits_t : Fitting t.home first.numbers (flat_map (objects_of plan) s.jobs) = fitting x core r (machine_view plan s.jobs) h t int first.numbers first.count in
+      let fits_c : Fitting c.home second.numbers (flat_map (objects_of plan) s.jobs) = fitting x core r (machine_view plan s.jobs) h c inc second.numbers second.count in
+      let fits : Fitting c.home second.numbers read.objects = read_fits (machine_view plan s.jobs) read t.home first.numbers c.home second.numbers first.is fits_t fits_c in
+      let P : MachineView → Type 0 = λ z. (r : ReadBack x z q c) × Fitting c.home r.numbers z.objects in
       let (second', fits') = subst P k.is (second, fits) in
-      let l = sees_read x plan s' o' q c second' fits' (thing_bits plan s o c inc) in
+      let l = sees_read x plan s' o' q c second' fits' (object_bits plan s o c inc) in
       record {
         seen = l.seen;
         others = others_then s.jobs k.seen l.seen k.others l.others;
         same = λ n. l.same n ∙ k.same n;
         is = l.is;
-        settled = λ z. let Q : Picture → Type 0 = λ p. Settled p in l.settled (subst Q k.is (k.settled z));
+        settled = λ z. let Q : MachineView → Type 0 = λ p. NoOriginalAboveTop p in l.settled (subst Q k.is (k.settled z));
       }

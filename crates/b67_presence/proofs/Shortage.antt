@@ -4,46 +4,46 @@ use Rattle.std.proofs.lemmas.Option.{none-some}
 use Rattle.b67_area.specs.declared.kinds.Kind.TheVariants as kind
 use Rattle.b67_backing.specs.Held.{sectors_for}
 use Rattle.b67_lemmas.specs.Lists.{Has}
-use Rattle.b67_model.specs.State.{Array, Segment, Member}
-use Rattle.b67_law_order.proofs.Members.{has_append_cases, has_map_back}
-use Rattle.b67_stack.specs.Picture.{Thing}
-use Rattle.b67_stack.specs.Stands.{Storage}
-use Rattle.b67_overlay.specs.Sheds.{IsShortBy}
-use Rattle.b67_layout.specs.Plan.{Plan}
-use Rattle.b67_layout.specs.Layout.{array_thing, code_things, things_of, picture}
+use Rattle.b67_lemmas.proofs.Members.{has_append_cases, has_map_back}
+use Rattle.b67_model.specs.State.{Array, Segment, SessionJob}
+use Rattle.b67_stack.specs.MachineView.{PagedObject}
+use Rattle.b67_stack.specs.Represents.{Storage}
+use Rattle.b67_overlay.specs.AreasEvicted.{IsShortBy}
+use Rattle.b67_layout.specs.Placement.{Placement}
+use Rattle.b67_layout.specs.Layout.{array_object, code_objects, objects_of, machine_view}
 use Rattle.b67_presence.specs.Bringing.{IsShortOf}
 
 -- an array of a job
-pub record Owner (plan : Plan) (jobs : List Member) (t : Thing) : Type 0 where
-  pub member : Member
+pub record Owner (plan : Placement) (jobs : List SessionJob) (t : PagedObject) : Type 0 where
+  pub member : SessionJob
   pub in_session : Has jobs member
   pub array : Array
-  pub among : Has member.course.job.arrays array
-  pub is : array_thing plan member.setting.number array ≡ t
+  pub among : Has member.progress.job.arrays array
+  pub is : array_object plan member.constants.number array ≡ t
 
-code_kind : (plan : Plan) (j n : ℕ) (segments : List Segment) (t : Thing) → Has (code_things plan j n segments) t → t.kind ≡ kind.Code
+code_kind : (plan : Placement) (j n : ℕ) (segments : List Segment) (t : PagedObject) → Has (code_objects plan j n segments) t → t.kind ≡ kind.Code
 code_kind plan j n [] t h = absurd h
-code_kind plan j n (s ∷ more) t (inl e) = ap (λ (u : Thing). u.kind) (sym e)
+code_kind plan j n (s ∷ more) t (inl e) = ap (λ (u : PagedObject). u.kind) (sym e)
 code_kind plan j n (s ∷ more) t (inr h) = code_kind plan j (n + 1) more t h
 
-owner : (plan : Plan) (jobs : List Member) (t : Thing) → t.kind ≡ kind.Array → Has (flat_map (things_of plan) jobs) t → Owner plan jobs t
+owner : (plan : Placement) (jobs : List SessionJob) (t : PagedObject) → t.kind ≡ kind.Array → Has (flat_map (objects_of plan) jobs) t → Owner plan jobs t
 owner plan [] t k h = absurd h
-owner plan (m ∷ more) t k h = either (has_append_cases (things_of plan m) (flat_map (things_of plan) more) t h) (owner plan more t k) where
-  of : Has (code_things plan m.setting.number 1 m.setting.segments) t ⊎ Has (map (array_thing plan m.setting.number) m.course.job.arrays) t → Owner plan (m ∷ more) t
-  of (inl code) = let e : kind.Array ≡ kind.Code = sym k ∙ code_kind plan m.setting.number 1 m.setting.segments t code in absurd (let b : ⊥ = cc in b)
+owner plan (m ∷ more) t k h = either (has_append_cases (objects_of plan m) (flat_map (objects_of plan) more) t h) (owner plan more t k) where
+  of : Has (code_objects plan m.constants.number 1 m.constants.segments) t ⊎ Has (map (array_object plan m.constants.number) m.progress.job.arrays) t → Owner plan (m ∷ more) t
+  of (inl code) = let e : kind.Array ≡ kind.Code = sym k ∙ code_kind plan m.constants.number 1 m.constants.segments t code in absurd (let b : ⊥ = cc in b)
   of (inr filled) =
-      let r = has_map_back (array_thing plan m.setting.number) m.course.job.arrays t filled in
+      let r = has_map_back (array_object plan m.constants.number) m.progress.job.arrays t filled in
       record { member = m; in_session = inl refl; array = r.item; among = r.among; is = r.is }
 
-  either : Has (things_of plan m) t ⊎ Has (flat_map (things_of plan) more) t → (Has (flat_map (things_of plan) more) t → Owner plan more t) → Owner plan (m ∷ more) t
-  either (inl own) behind = of (has_append_cases (code_things plan m.setting.number 1 m.setting.segments) (map (array_thing plan m.setting.number) m.course.job.arrays) t own)
+  either : Has (objects_of plan m) t ⊎ Has (flat_map (objects_of plan) more) t → (Has (flat_map (objects_of plan) more) t → Owner plan more t) → Owner plan (m ∷ more) t
+  either (inl own) behind = of (has_append_cases (code_objects plan m.constants.number 1 m.constants.segments) (map (array_object plan m.constants.number) m.progress.job.arrays) t own)
   either (inr rest) behind = let r = behind rest in record { member = r.member; in_session = inr r.in_session; array = r.array; among = r.among; is = r.is }
 
-pub short_of : (y : Storage) (plan : Plan) (jobs : List Member) (wants free : ℕ) → IsShortBy y (picture plan jobs) wants free → IsShortOf y plan jobs wants free
+pub short_of : (y : Storage) (plan : Placement) (jobs : List SessionJob) (wants free : ℕ) → IsShortBy y (machine_view plan jobs) wants free → IsShortOf y plan jobs wants free
 short_of y plan jobs wants free w =
-    let o = owner plan jobs w.thing w.short.kind w.present.there in
-    let home : plan.home o.member.setting.number o.array.identity ≡ w.thing.home = ap (λ (u : Thing). u.home) o.is in
-    let count : length o.array.numbers ≡ length w.thing.numbers = ap (λ (u : Thing). length u.numbers) o.is in
+    let o = owner plan jobs w.object w.short.kind w.present.there in
+    let home : plan.home o.member.constants.number o.array.identity ≡ w.object.home = ap (λ (u : PagedObject). u.home) o.is in
+    let count : length o.array.numbers ≡ length w.object.numbers = ap (λ (u : PagedObject). length u.numbers) o.is in
     record {
       member = o.member;
       in_session = o.in_session;

@@ -1,50 +1,50 @@
 -- What is wanted in core, and the machine once it was brought in or refused.
 use Rattle.std.specs.Prelude.{◌≡◌, ◌≢◌, ℕ, ◌+◌, ◌<◌, ◌⊎◌, List, length, Option, None}
 use Rattle.b67_lemmas.specs.Lists.{Has}
-use Rattle.b67_model.specs.State.{Array, Task, Member}
+use Rattle.b67_model.specs.State.{Array, Task, SessionJob}
 use Rattle.b67_model.specs.Schedule.{Session}
 use Rattle.b67_model.specs.InOrder.{IsInOrderButPlaces}
 use Rattle.b67_stack.specs.declared.What.{What}
 use Rattle.b67_stack.specs.declared.What.TheVariants as what
-use Rattle.b67_stack.specs.Stands.{Storage}
-use Rattle.b67_layout.specs.Plan.{Plan}
+use Rattle.b67_stack.specs.Represents.{Storage}
+use Rattle.b67_layout.specs.Placement.{Placement}
 use Rattle.b67_layout.specs.Session.{IsRunning}
 use Rattle.b67_layout.specs.Meets.{area_held}
 use Rattle.b67_exec_cells.specs.Running.{code_area}
 use Rattle.b67_law_order_steps.specs.Weaker.{AllOtherNumbers}
 use Rattle.b67_task_tables.specs.declared.tables.Machine.{Machine}
-use Rattle.b67_task_tables.specs.Tables.{MachineStands}
-use Rattle.b67_layout_storage.specs.Machine.{Says, retold}
+use Rattle.b67_task_tables.specs.Tables.{MachineRepresents}
+use Rattle.b67_layout_storage.specs.Machine.{Says, content_after}
 use Rattle.b67_backing.specs.Held.{sectors_for}
 use Rattle.b67_model.specs.Rows.{code_of}
 
 -- the whole machine over a device that tells this: what the storage says of the sectors, if anything, is what the device
 -- tells
-pub record StandsOver (x : Storage) (told : Option (List (List ℕ))) (k : Machine) (plan : Plan) (s : Session) : Type 0 where
+pub record StandsOver (x : Storage) (told : Option (List (List ℕ))) (k : Machine) (plan : Placement) (s : Session) : Type 0 where
   pub says : Says x.device told
-  pub stands : MachineStands x x.device k plan s
+  pub stands : MachineRepresents x x.device k plan s
 
 -- an absent array of the running task's job, of so many words, whose original stands at a core address
-pub record IsArrayWanted (x : Storage) (plan : Plan) (m : Member) (t : Task) (home words : ℕ) : Type 0 where
+pub record IsArrayWanted (x : Storage) (plan : Placement) (m : SessionJob) (t : Task) (home words : ℕ) : Type 0 where
   pub array : Array
-  pub among : Has m.course.job.arrays array
-  pub home_is : plan.home m.setting.number array.identity ≡ home
-  pub absent : area_held x plan m.setting.number array.identity ≡ None
+  pub among : Has m.progress.job.arrays array
+  pub home_is : plan.home m.constants.number array.identity ≡ home
+  pub absent : area_held x plan m.constants.number array.identity ≡ None
   pub words_are : words ≡ length array.numbers
   pub code : code_area x plan m t ≢ None
 
 -- what is wanted is the running segment, which is absent; or an array that is absent, while the running segment is present.
 -- It is an array of so many words, 0 for the segment
-abbrev pub IsWanted : Storage → Plan → Member → Task → What → ℕ → Type 0
+abbrev pub IsWanted : Storage → Placement → SessionJob → Task → What → ℕ → Type 0
 IsWanted x plan m t (what.Code displacement) words = (displacement ≡ t.segment + 1) × (code_area x plan m t ≡ None) × (words ≡ 0)
 IsWanted x plan m t (what.Array home) words = IsArrayWanted x plan m t home words
 
 -- the machine stands for some session in order, of whose running task this is wanted
 pub record WantsSome (k : Machine) (told : Option (List (List ℕ))) (absent : What) : Type 0 where
   pub storage : Storage
-  pub plan : Plan
+  pub plan : Placement
   pub session : Session
-  pub member : Member
+  pub member : SessionJob
   pub task : Task
   pub words : ℕ
   pub ordered : IsInOrderButPlaces session
@@ -54,54 +54,54 @@ pub record WantsSome (k : Machine) (told : Option (List (List ℕ))) (absent : W
 
 -- the machine stands for a session again. Where the storage says nothing of the sectors, that may have other numbers in its
 -- segments and arrays: what the device gave back
-pub record StandsAgain (x : Storage) (told : Option (List (List ℕ))) (k : Machine) (plan : Plan) (s : Session) : Type 0 where
+pub record StandsAgain (x : Storage) (told : Option (List (List ℕ))) (k : Machine) (plan : Placement) (s : Session) : Type 0 where
   pub storage : Storage
-  pub jobs : List Member
+  pub jobs : List SessionJob
   pub others : AllOtherNumbers s.jobs jobs
   pub same : x.device ≢ None → jobs ≡ s.jobs
-  pub device : storage.device ≡ retold x.device told
+  pub device : storage.device ≡ content_after x.device told
   pub stands : StandsOver storage told k plan (record s { jobs = jobs })
 
 -- what was wanted is in core
-abbrev pub IsThere : Storage → What → Plan → Member → Type 0
-IsThere x (what.Code displacement) plan m = (x.held (plan.dictionary m.setting.number + displacement)).area ≢ None
+abbrev pub IsThere : Storage → What → Placement → SessionJob → Type 0
+IsThere x (what.Code displacement) plan m = (x.held (plan.dictionary m.constants.number + displacement)).area ≢ None
 IsThere x (what.Array home) plan m = (x.held home).area ≢ None
 
 -- what was wanted and the running segment are in core
-pub record Brings (x : Storage) (told : Option (List (List ℕ))) (k : Machine) (plan : Plan) (s : Session) (m : Member) (t : Task) (absent : What) : Type 0 where
+pub record Brings (x : Storage) (told : Option (List (List ℕ))) (k : Machine) (plan : Placement) (s : Session) (m : SessionJob) (t : Task) (absent : What) : Type 0 where
   pub again : StandsAgain x told k plan s
   pub code : code_area again.storage plan m t ≢ None
   pub there : IsThere again.storage absent plan m
 
 -- a refusal leaves the running segment or what was wanted absent
-abbrev pub Lacks : Storage → What → Plan → Member → Task → Type 0
+abbrev pub Lacks : Storage → What → Placement → SessionJob → Task → Type 0
 Lacks x (what.Code displacement) plan m t = code_area x plan m t ≡ None
 Lacks x (what.Array home) plan m t = (code_area x plan m t ≡ None) ⊎ ((x.held home).area ≡ None)
 
 -- the machine stands for the session again, and in it the running segment or what was wanted is absent
-pub record Refused (x : Storage) (told : Option (List (List ℕ))) (k : Machine) (plan : Plan) (s : Session) (m : Member) (t : Task) (absent : What) : Type 0 where
+pub record Refused (x : Storage) (told : Option (List (List ℕ))) (k : Machine) (plan : Placement) (s : Session) (m : SessionJob) (t : Task) (absent : What) : Type 0 where
   pub again : StandsAgain x told k plan s
   pub lacks : Lacks again.storage absent plan m t
 
 -- a present array of a job of the session keeps no chain, needs so many sectors, and fewer are free
-pub record IsShortOf (x : Storage) (plan : Plan) (jobs : List Member) (wants free : ℕ) : Type 0 where
-  pub member : Member
+pub record IsShortOf (x : Storage) (plan : Placement) (jobs : List SessionJob) (wants free : ℕ) : Type 0 where
+  pub member : SessionJob
   pub in_session : Has jobs member
   pub array : Array
-  pub among : Has member.course.job.arrays array
-  pub present : area_held x plan member.setting.number array.identity ≢ None
-  pub unkept : (x.held (plan.home member.setting.number array.identity)).chain ≡ 0
+  pub among : Has member.progress.job.arrays array
+  pub present : area_held x plan member.constants.number array.identity ≢ None
+  pub unkept : (x.held (plan.home member.constants.number array.identity)).chain ≡ 0
   pub wants_is : wants ≡ sectors_for (length array.numbers)
   pub free_is : free ≡ length x.shelf.free
   pub fewer : free < wants
 
 -- there was no hole for what is wanted, whose area has so many words
-abbrev pub words_wanted : Member → Task → What → ℕ → ℕ
-words_wanted m t (what.Code displacement) words = length (code_of m.setting t.segment) + 2
+abbrev pub words_wanted : SessionJob → Task → What → ℕ → ℕ
+words_wanted m t (what.Code displacement) words = length (code_of m.constants t.segment) + 2
 words_wanted m t (what.Array home) words = words + 2
 
 -- the machine that a want of sectors leaves: it stands for the session, and is short of them by these numbers
-pub record RefusedFull (x : Storage) (told : Option (List (List ℕ))) (k : Machine) (plan : Plan) (s : Session) (m : Member) (t : Task) (absent : What) (wants free : ℕ) : Type 0 where
+pub record RefusedFull (x : Storage) (told : Option (List (List ℕ))) (k : Machine) (plan : Placement) (s : Session) (m : SessionJob) (t : Task) (absent : What) (wants free : ℕ) : Type 0 where
   pub refused : Refused x told k plan s m t absent
   pub short : IsShortOf refused.again.storage plan refused.again.jobs wants free
 
@@ -110,7 +110,7 @@ abbrev pub AreasStay : Storage → Storage → Type 0
 AreasStay x y = (home : ℕ) → (x.held home).area ≢ None → (y.held home).area ≡ (x.held home).area
 
 -- the machine stands for the session again, and no area has moved
-pub record StaysIn (x : Storage) (told : Option (List (List ℕ))) (k : Machine) (plan : Plan) (s : Session) : Type 0 where
+pub record StaysIn (x : Storage) (told : Option (List (List ℕ))) (k : Machine) (plan : Placement) (s : Session) : Type 0 where
   pub again : StandsAgain x told k plan s
   pub areas : AreasStay x again.storage
 

@@ -5,7 +5,7 @@ use Rattle.std.proofs.lemmas.Option.{same_Some, none-some}
 use Rattle.b67_area.specs.declared.Info.{Info}
 use Rattle.b67_area.specs.Spans.{Span, Area, Hole, end, area_at}
 use Rattle.b67_area.proofs.Walks.{low_end}
-use Rattle.b67_layout_storage.specs.Machine.{HasRoom}
+use Rattle.b67_layout_storage.specs.Machine.{HasHole}
 
 area_fits : (at : ℕ) (ss : List Span) (x : ℕ) (a : Info) → area_at at ss x ≡ Some a → at + (a.words + 2) ≤ end at ss
 area_fits at [] x a e = absurd (none-some _ e)
@@ -15,13 +15,13 @@ area_fits at (Area b ∷ ss) x a e = ⊎_elim
     (λ t. omega (arith, area_fits (at + (b.words + 2)) ss x a (rw t at e)))
     (cases_Bool (at + 1 == x))
 
-room_fits : (at n : ℕ) (ss : List Span) → HasRoom n ss → at + n ≤ end at ss
+room_fits : (at n : ℕ) (ss : List Span) → HasHole n ss → at + n ≤ end at ss
 room_fits at n [] h = absurd h
 room_fits at n (Area b ∷ ss) h = omega (arith, room_fits (at + (b.words + 2)) n ss h)
 room_fits at n (Hole m ∷ ss) (inl h) = omega (arith, h, low_end (at + m) ss)
 room_fits at n (Hole m ∷ ss) (inr h) = omega (arith, room_fits (at + m) n ss h)
 
-pub both_fit : (at n : ℕ) (ss : List Span) (x : ℕ) (a : Info) → area_at at ss x ≡ Some a → HasRoom n ss → at + (a.words + 2) + n ≤ end at ss
+pub both_fit : (at n : ℕ) (ss : List Span) (x : ℕ) (a : Info) → area_at at ss x ≡ Some a → HasHole n ss → at + (a.words + 2) + n ≤ end at ss
 both_fit at n [] x a e h = absurd h
 both_fit at n (Hole m ∷ ss) x a e (inl h) = omega (arith, h, area_fits (at + m) ss x a e)
 both_fit at n (Hole m ∷ ss) x a e (inr h) = omega (arith, both_fit (at + m) n ss x a e h)

@@ -1,4 +1,4 @@
--- The words that came into an area are those of the thing.
+-- The words that came into an area are those of the object.
 use Rattle.std.proofs.Common.{◌≡◌, ◌≢◌, ℕ, zero, suc, ◌+◌, ◌*◌, ◌%◌, ◌<◌, ◌≤◌, ◌^◌, List, [], ◌∷◌, length, map, option_map, Option, Some, None, refl, sym, ◌∙◌, ap, arith, inl, inr, ◌⊎◌, ⊎_elim, subst}
 use Rattle.std.specs.List.{slice_get}
 use Rattle.std.proofs.lemmas.List.{length-map}
@@ -11,28 +11,28 @@ use Rattle.b67_area.specs.declared.Kind.TheVariants.{Array}
 use Rattle.b67_backing.specs.Shelf.{Shelf, Table, HasChain, chain_of}
 use Rattle.b67_backing.specs.Held.{sectors_for, under, Holds}
 use Rattle.b67_stack.specs.declared.Cpu.{Cpu}
-use Rattle.b67_stack.specs.Shapes.{Upward}
-use Rattle.b67_stack.specs.Picture.{Thing, Picture, words_of, tag_of, AreZero}
-use Rattle.b67_stack.specs.Stands.{Storage, Content, Rests, HoldsIn, Told}
-use Rattle.b67_layout_storage.specs.Machine.{MachineStands, Says, IsAbsent, AreBits}
+use Rattle.b67_stack.specs.Shapes.{LieUpward}
+use Rattle.b67_stack.specs.MachineView.{PagedObject, MachineView, words_of, tag_of, AreZero}
+use Rattle.b67_stack.specs.Represents.{Storage, Content, AbsentContent, HoldsIn, Told}
+use Rattle.b67_layout_storage.specs.Machine.{MachineRepresentsView, Says, IsAbsent, AreBits}
 use Rattle.b67_presence_page.specs.declared.paging.Resting.{Resting}
-use Rattle.b67_presence_page.specs.Brought.{resting, IsKnown, Reads}
+use Rattle.b67_presence_page.specs.Brought.{resting, IsKnown, ReadFromChain}
 
 -- what the words of an area are after they came in
-pub record Loaded (told : Option (List (List ℕ))) (table : Table) (at : ℕ) (thing : Resting) (new : List Tagged) : Type 0 where
-  pub reads : thing.first ≢ 0 → Reads told table thing.first at thing.words (tag_of thing.kind) new
-  pub zeros : thing.first ≡ 0 → (i : ℕ) → at ≤ i → i < at + thing.words → slice_get new i ≡ Some (word 0 0)
-  pub tags : thing.first ≢ 0 → (i : ℕ) → i < thing.words → (w : Tagged) × (slice_get new (at + i) ≡ Some w) × (w.tag ≡ tag_of thing.kind)
-  pub low : thing.first ≢ 0 → (i : ℕ) → i < thing.words → (w : Tagged) × (slice_get new (at + i) ≡ Some w) × (w.bits < 2 ^ 48)
+pub record Loaded (told : Option (List (List ℕ))) (table : Table) (at : ℕ) (object : Resting) (new : List Tagged) : Type 0 where
+  pub reads : object.first ≢ 0 → ReadFromChain told table object.first at object.words (tag_of object.kind) new
+  pub zeros : object.first ≡ 0 → (i : ℕ) → at ≤ i → i < at + object.words → slice_get new i ≡ Some (word 0 0)
+  pub tags : object.first ≢ 0 → (i : ℕ) → i < object.words → (w : Tagged) × (slice_get new (at + i) ≡ Some w) × (w.tag ≡ tag_of object.kind)
+  pub low : object.first ≢ 0 → (i : ℕ) → i < object.words → (w : Tagged) × (slice_get new (at + i) ≡ Some w) × (w.bits < 2 ^ 48)
 
-zeros_up : (core : List Tagged) (at : ℕ) (ns : List ℕ) → AreZero ns → ((i : ℕ) → at ≤ i → i < at + length ns → slice_get core i ≡ Some (word 0 0)) → Upward core at (map (word 0) ns)
+zeros_up : (core : List Tagged) (at : ℕ) (ns : List ℕ) → AreZero ns → ((i : ℕ) → at ≤ i → i < at + length ns → slice_get core i ≡ Some (word 0 0)) → LieUpward core at (map (word 0) ns)
 zeros_up core at [] z f = tt
 zeros_up core at (n ∷ ns) z f = (f at (omega arith) (omega arith) ∙ ap (λ (m : ℕ). Some (word 0 m)) (sym z.0), zeros_up core (at + 1) ns z.1 (λ i low high. f i (omega arith) (omega arith)))
 
 low_bits : (tag n : ℕ) → n < 2 ^ 48 → (tag * 2 ^ 48 + n) % 2 ^ 48 ≡ n
 low_bits tag n h = omega arith
 
-told_up : (core : List Tagged) (at tag : ℕ) (ns : List ℕ) → AreBits ns → ((i : ℕ) → i < length ns → slice_get core (at + i) ≡ option_map (under tag) (slice_get (map number (map (word tag) ns)) i)) → Upward core at (map (word tag) ns)
+told_up : (core : List Tagged) (at tag : ℕ) (ns : List ℕ) → AreBits ns → ((i : ℕ) → i < length ns → slice_get core (at + i) ≡ option_map (under tag) (slice_get (map number (map (word tag) ns)) i)) → LieUpward core at (map (word tag) ns)
 told_up core at tag [] b f = tt
 told_up core at tag (n ∷ ns) b f =
     let here : at + 0 ≡ at = omega arith in (
@@ -46,7 +46,7 @@ bits_there core at w v e f small = let P : Tagged → Type 0 = λ u. u.bits < 2 
 
 -- words of one tag, as numbers
 collected : (core : List Tagged) (tag n at : ℕ) → ((i : ℕ) → i < n → (w : Tagged) × (slice_get core (at + i) ≡ Some w) × (w.tag ≡ tag))
-    → ((i : ℕ) → i < n → (w : Tagged) × (slice_get core (at + i) ≡ Some w) × (w.bits < 2 ^ 48)) → (ns : List ℕ) × (length ns ≡ n) × AreBits ns × Upward core at (map (word tag) ns)
+    → ((i : ℕ) → i < n → (w : Tagged) × (slice_get core (at + i) ≡ Some w) × (w.bits < 2 ^ 48)) → (ns : List ℕ) × (length ns ≡ n) × AreBits ns × LieUpward core at (map (word tag) ns)
 collected core tag zero at f g = ([], refl, tt, tt)
 collected core tag (suc n) at f g =
     let next : (i : ℕ) → at + 1 + i ≡ at + suc i = λ i. omega arith in
@@ -64,12 +64,12 @@ what_is_told : (d told : Option (List (List ℕ))) (chain ns : List ℕ) → Say
 what_is_told None told chain ns s n h = absurd (n refl)
 what_is_told (Some all) told chain ns s n h = (all, s, h)
 
-module _ (x : Storage) (cpu : Cpu) (areas : Areas) (table : Table) (told : Option (List (List ℕ))) (p : Picture) (home : ℕ) (t : Thing) (m : MachineStands x cpu areas table told p) (a : IsAbsent x p home t) where
+module _ (x : Storage) (cpu : Cpu) (areas : Areas) (table : Table) (told : Option (List (List ℕ))) (p : MachineView) (home : ℕ) (t : PagedObject) (m : MachineRepresentsView x cpu areas table told p) (a : IsAbsent x p home t) where
   abbrev first : ℕ
   first = (x.held t.home).chain
 
-  rests : Rests x t first
-  rests = let C : Option ℕ → Type 0 = λ o. Content x cpu.core t o first in subst C (ap (λ q. (x.held q).area) a.is ∙ a.absent) (m.stands.things t a.there).content
+  rests : AbsentContent x t first
+  rests = let C : Option ℕ → Type 0 = λ o. Content x cpu.core t o first in subst C (ap (λ q. (x.held q).area) a.is ∙ a.absent) (m.stands.objects t a.there).content
 
   has_chain : HoldsIn x t first → HasChain table x.shelf first (sectors_for (length t.numbers))
   has_chain h = record { shelf = m.shelf; many = h.chain.sectors }
@@ -79,12 +79,12 @@ module _ (x : Storage) (cpu : Cpu) (areas : Areas) (table : Table) (told : Optio
   chain_at = ⊎_elim (λ (h : HoldsIn x t first). inr (x.shelf, has_chain h)) (λ (z : (first ≡ 0) × (t.kind ≡ Array) × AreZero t.numbers). inl z.0) rests
 
   module _ (at : ℕ) (new : List Tagged) (l : Loaded told table at (resting x t) new) where
-    untouched : (first ≡ 0) × (t.kind ≡ Array) × AreZero t.numbers → Upward new at (words_of t)
+    untouched : (first ≡ 0) × (t.kind ≡ Array) × AreZero t.numbers → LieUpward new at (words_of t)
     untouched z =
-        let P : Kind → Type 0 = λ k. Upward new at (map (word (tag_of k)) t.numbers) in
+        let P : Kind → Type 0 = λ k. LieUpward new at (map (word (tag_of k)) t.numbers) in
         subst P (sym z.1) (zeros_up new at t.numbers z.2 (l.zeros z.0))
 
-    pub known_words : IsKnown x t → Upward new at (words_of t)
+    pub known_words : IsKnown x t → LieUpward new at (words_of t)
     known_words k = ⊎_elim
         (λ (h : HoldsIn x t first). ⊎_elim
         (λ (z : first ≡ 0). absurd (omega (arith, h.chain.some)))
@@ -96,10 +96,10 @@ module _ (x : Storage) (cpu : Cpu) (areas : Areas) (table : Table) (told : Optio
         k)
         untouched rests
 
-    pub some_words : (ns : List ℕ) × (length ns ≡ length t.numbers) × AreBits ns × Upward new at (map (word (tag_of t.kind)) ns) × ((0 < first) ⊎ (ns ≡ t.numbers))
+    pub some_words : (ns : List ℕ) × (length ns ≡ length t.numbers) × AreBits ns × LieUpward new at (map (word (tag_of t.kind)) ns) × ((0 < first) ⊎ (ns ≡ t.numbers))
     some_words = ⊎_elim
         (λ (h : HoldsIn x t first). let c = collected new (tag_of t.kind) (length t.numbers) at (l.tags (λ z. omega (arith, h.chain.some))) (l.low (λ z. omega (arith, h.chain.some))) in
-        let r : (ns : List ℕ) × (length ns ≡ length t.numbers) × AreBits ns × Upward new at (map (word (tag_of t.kind)) ns) × ((0 < first) ⊎ (ns ≡ t.numbers)) = (c.0, c.1, c.2, c.3, inl h.chain.some) in r)
+        let r : (ns : List ℕ) × (length ns ≡ length t.numbers) × AreBits ns × LieUpward new at (map (word (tag_of t.kind)) ns) × ((0 < first) ⊎ (ns ≡ t.numbers)) = (c.0, c.1, c.2, c.3, inl h.chain.some) in r)
         (λ (z : (first ≡ 0) × (t.kind ≡ Array) × AreZero t.numbers).
-        let r : (ns : List ℕ) × (length ns ≡ length t.numbers) × AreBits ns × Upward new at (map (word (tag_of t.kind)) ns) × ((0 < first) ⊎ (ns ≡ t.numbers)) = (t.numbers, refl, zeros_bits t.numbers z.2, untouched z, inr refl) in r)
+        let r : (ns : List ℕ) × (length ns ≡ length t.numbers) × AreBits ns × LieUpward new at (map (word (tag_of t.kind)) ns) × ((0 < first) ⊎ (ns ≡ t.numbers)) = (t.numbers, refl, zeros_bits t.numbers z.2, untouched z, inr refl) in r)
         rests

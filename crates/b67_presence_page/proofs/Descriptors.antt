@@ -1,4 +1,4 @@
--- What the descriptor of an absent thing tells.
+-- What the descriptor of an absent object tells.
 use Rattle.std.proofs.Common.{◌≡◌, ℕ, ◌<◌, ◌^◌, List, length, Option, Some, None, refl, sym, ◌∙◌, ap, arith, Bool, true, false, subst}
 use Rattle.std.specs.List.{slice_get}
 use Rattle.std.proofs.lemmas.Option.{same_Some}
@@ -10,16 +10,13 @@ use Rattle.b67_ctl.specs.declared.registers.Regs.{Regs}
 use Rattle.b67_ctl.specs.Descriptors.{data_word, seg_word, IsDataDesc, IsSegDesc}
 use Rattle.b67_area.specs.declared.Kind.{Kind}
 use Rattle.b67_area.specs.declared.Kind.TheVariants.{Array, Row, Code}
-use Rattle.b67_stack.specs.Shapes.{Held}
-use Rattle.b67_stack.specs.Picture.{Thing, Picture, home_desc, home_word_of}
-use Rattle.b67_stack.specs.Stands.{Storage, Stands}
+use Rattle.b67_stack.specs.Shapes.{at_rest}
+use Rattle.b67_stack.specs.MachineView.{PagedObject, MachineView, home_desc, home_word_of}
+use Rattle.b67_stack.specs.Represents.{Storage, Represents}
 use Rattle.b67_stack.proofs.Homes.{chain_small}
 use Rattle.b67_layout_storage.specs.Machine.{IsAbsent}
 use Rattle.b67_layout_storage.proofs.Unchanged.{area_bounds}
 use Rattle.b67_presence_page.specs.Brings.{IsCode}
-
-abbrev pub at_rest : ℕ → Held
-at_rest first = record { area = None; chain = first }
 
 abbrev pub rest_desc : Bool → ℕ → ℕ → DataDesc
 rest_desc read_only n first = home_desc read_only n (at_rest first)
@@ -27,20 +24,20 @@ rest_desc read_only n first = home_desc read_only n (at_rest first)
 abbrev pub rest_seg : ℕ → ℕ → SegDesc
 rest_seg n first = record { present = false; words = n; address = first }
 
--- the word of an absent thing, and what it needs to be read
+-- the word of an absent object, and what it needs to be read
 pub record AtRest (core : List Tagged) (home : ℕ) (k : Kind) (n first : ℕ) : Type 0 where
   pub word : slice_get core home ≡ Some (home_word_of k n (at_rest first))
   pub some : 0 < n
   pub few : n < 2 ^ 16
   pub small : first < 2 ^ 20
 
-module _ (x : Storage) (core : List Tagged) (r : Regs) (p : Picture) (home : ℕ) (t : Thing) (s : Stands x core r p) (a : IsAbsent x p home t) where
+module _ (x : Storage) (core : List Tagged) (r : Regs) (p : MachineView) (home : ℕ) (t : PagedObject) (s : Represents x core r p) (a : IsAbsent x p home t) where
   none : (x.held t.home).area ≡ None
   none = ap (λ q. (x.held q).area) a.is ∙ a.absent
 
   pub rest_here : AtRest core home t.kind (length t.numbers) (x.held t.home).chain
   rest_here =
-      let it = s.things t a.there in
+      let it = s.objects t a.there in
       let l = s.slots.laid.lengths t a.there in
       record {
         word = ap (slice_get core) (sym a.is) ∙ it.home ∙ ap (λ (o : Option ℕ). Some (home_word_of t.kind (length t.numbers) (record { area = o; chain = (x.held t.home).chain }))) none;
@@ -68,9 +65,9 @@ pub record Segment (core : List Tagged) (code n at : ℕ) : Type 0 where
   pub address : desc.address ≡ at
   pub inside : code < length core
 
-pub segment_here : (x : Storage) (core : List Tagged) (r : Regs) (p : Picture) (code at : ℕ) (c : Thing) → Stands x core r p → IsCode x p code at c → Segment core code (length c.numbers) at
+pub segment_here : (x : Storage) (core : List Tagged) (r : Regs) (p : MachineView) (code at : ℕ) (c : PagedObject) → Represents x core r p → IsCode x p code at c → Segment core code (length c.numbers) at
 segment_here x core r p code at c s k =
-    let it = s.things c k.there in
+    let it = s.objects c k.there in
     let present : (x.held c.home).area ≡ Some at = ap (λ q. (x.held q).area) k.is ∙ k.present in
     let l = s.slots.laid.lengths c k.there in
     let b = area_bounds x core r p s c k.there at present in

@@ -7,82 +7,82 @@ use Rattle.b67_area.specs.declared.Areas.{Areas}
 use Rattle.b67_area.proofs.Laws.{area_inside}
 use Rattle.b67_backing.specs.Shelf.{Table}
 use Rattle.b67_stack.specs.declared.Cpu.{Cpu}
-use Rattle.b67_stack.specs.Shapes.{Held}
-use Rattle.b67_stack.specs.Picture.{Thing, Picture}
-use Rattle.b67_stack.specs.Stands.{Storage}
-use Rattle.b67_layout_storage.specs.Machine.{MachineStands, IsAbsent, HasRoom}
+use Rattle.b67_stack.specs.Shapes.{Location}
+use Rattle.b67_stack.specs.MachineView.{PagedObject, MachineView}
+use Rattle.b67_stack.specs.Represents.{Storage}
+use Rattle.b67_layout_storage.specs.Machine.{MachineRepresentsView, IsAbsent, HasHole}
 use Rattle.b67_layout_storage.proofs.Helds.{held-same, held-other}
-use Rattle.b67_overlay.specs.Sheds.{Sheds}
+use Rattle.b67_overlay.specs.AreasEvicted.{AreasEvicted}
 use Rattle.b67_presence_page.specs.Brought.{brought}
-use Rattle.b67_presence_page.specs.Brings.{Came, Waits, IsCode, BothIn, MayWait, IsAlone}
+use Rattle.b67_presence_page.specs.Brings.{PlacedAfterEviction, Waits, IsCode, BothIn, MayWait, IsAlone}
 use Rattle.b67_presence_page.proofs.Rooms.{one_hole, first_room}
 use Rattle.b67_presence_page.proofs.Resort.{Reads-none, there_after, differ}
 
 -- with no area left there is room for what core has room for
-pub room_alone : (y : Storage) (cpu : Cpu) (areas : Areas) (table : Table) (told : Option (List (List ℕ))) (p : Picture) (n : ℕ) → MachineStands y cpu areas table told p → IsAlone y 0 → y.low + (n + 2) ≤ length cpu.core → HasRoom (n + 2) y.spans
+pub room_alone : (y : Storage) (cpu : Cpu) (areas : Areas) (table : Table) (told : Option (List (List ℕ))) (p : MachineView) (n : ℕ) → MachineRepresentsView y cpu areas table told p → IsAlone y 0 → y.low + (n + 2) ≤ length cpu.core → HasHole (n + 2) y.spans
 room_alone y cpu areas table told p n m alone fits =
     let (h, is, e) = one_hole cpu.core y.low y.spans m.stands.directory (λ b i f. let z : ⊥ = omega (arith, alone b i f, (area_inside cpu.core y.low y.spans b i m.stands.directory f).0) in z) (omega arith) in
     first_room (n + 2) h y.spans is (omega arith)
 
-pub code_after : (x y : Storage) (p : Picture) (code spare : ℕ) (c : Thing) → Sheds x y spare → IsCode x p code spare c → IsCode y p code spare c
-code_after x y p code spare c s k = record { there = k.there; is = k.is; kind = k.kind; present = ap (λ (h : Held). h.area) (s.spared code k.present) ∙ k.present }
+pub code_after : (x y : Storage) (p : MachineView) (code spare : ℕ) (c : PagedObject) → AreasEvicted x y spare → IsCode x p code spare c → IsCode y p code spare c
+code_after x y p code spare c s k = record { there = k.there; is = k.is; kind = k.kind; present = ap (λ (h : Location). h.area) (s.spared code k.present) ∙ k.present }
 
--- the thing came in and the code stayed
-pub both_came : (x : Storage) (cpu : Cpu) (areas : Areas) (table : Table) (told : Option (List (List ℕ))) (p : Picture) (home code spare : ℕ) (t c : Thing) → MachineStands x cpu areas table told p → IsAbsent x p home t → IsCode x p code spare c
-    → (new : Cpu) (after : Areas) (table' : Table) (now : Option (List (List ℕ))) → Came x p t spare new after table' now → BothIn x p t c new after table' now
+-- the object came in and the code stayed
+pub both_came : (x : Storage) (cpu : Cpu) (areas : Areas) (table : Table) (told : Option (List (List ℕ))) (p : MachineView) (home code spare : ℕ) (t c : PagedObject) → MachineRepresentsView x cpu areas table told p → IsAbsent x p home t → IsCode x p code spare c
+    → (new : Cpu) (after : Areas) (table' : Table) (now : Option (List (List ℕ))) → PlacedAfterEviction x p t spare new after table' now → BothIn x p t c new after table' now
 both_came x cpu areas table told p home code spare t c m a k new after table' now came =
     let d = differ x cpu areas table told p home code spare t c m a k in
     let y = came.storage in
-    let h : Held = record { area = Some came.at; chain = (y.held t.home).chain } in
-    let is_t : ((brought y t came.at).held t.home).area ≡ Some came.at = ap (λ (g : Held). g.area) (held-same y.held t.home h) in
-    let is_c : ((brought y t came.at).held c.home).area ≡ Some spare = ap (λ (g : Held). g.area) (held-other y.held t.home h c.home d ∙ ap y.held k.is ∙ came.sheds.spared code k.present) ∙ k.present in
+    let h : Location = record { area = Some came.at; chain = (y.held t.home).chain } in
+    let is_t : ((brought y t came.at).held t.home).area ≡ Some came.at = ap (λ (g : Location). g.area) (held-same y.held t.home h) in
+    let is_c : ((brought y t came.at).held c.home).area ≡ Some spare = ap (λ (g : Location). g.area) (held-other y.held t.home h c.home d ∙ ap y.held k.is ∙ came.sheds.spared code k.present) ∙ k.present in
     record {
       storage = brought y t came.at;
-      read = came.picture;
-      picture = came.picture;
+      read = came.machine_view;
+      machine_view = came.machine_view;
       low = came.sheds.low;
       untold = came.sheds.untold;
       told_still = came.sheds.told;
-      thing = λ e. none-some came.at (sym e ∙ is_t);
+      object = λ e. none-some came.at (sym e ∙ is_t);
       code = λ e. none-some spare (sym e ∙ is_c);
       reads = came.reads;
-      reads_code = Reads-none x (brought y t came.at) new.core new.regs came.picture c came.stands.stands (there_after x p came.picture t c came.reads k.there d);
+      reads_code = Reads-none x (brought y t came.at) new.core new.regs came.machine_view c came.stands.stands (there_after x p came.machine_view t c came.reads k.there d);
       stands = came.stands;
     }
 
--- areas were given back, and the thing didn't come in
-pub may_wait : (x : Storage) (p : Picture) (home spare : ℕ) (t c : Thing) → IsAbsent x p home t → (new : Cpu) (after : Areas) (table' : Table) (now : Option (List (List ℕ))) → Waits x p spare new after table' now → MayWait x p t c new after table' now
+-- areas were given back, and the object didn't come in
+pub may_wait : (x : Storage) (p : MachineView) (home spare : ℕ) (t c : PagedObject) → IsAbsent x p home t → (new : Cpu) (after : Areas) (table' : Table) (now : Option (List (List ℕ))) → Waits x p spare new after table' now → MayWait x p t c new after table' now
 may_wait x p home spare t c a new after table' now w = record {
   storage = w.storage;
-  picture = p;
+  machine_view = p;
   low = w.sheds.low;
   untold = w.sheds.untold;
   told_still = w.sheds.told;
-  lacks = inl (ap (λ (q : ℕ). (w.storage.held q).area) a.is ∙ ap (λ (h : Held). h.area) (w.sheds.resting home a.absent) ∙ a.absent);
+  lacks = inl (ap (λ (q : ℕ). (w.storage.held q).area) a.is ∙ ap (λ (h : Location). h.area) (w.sheds.resting home a.absent) ∙ a.absent);
   reads = Reads-none x w.storage new.core new.regs p t w.stands.stands a.there;
   stands = w.stands;
 }
 
 -- the last resort after areas were given back
-pub both_before : (x y : Storage) (p : Picture) (spare : ℕ) (t c : Thing) (new : Cpu) (after : Areas) (table' : Table) (now : Option (List (List ℕ))) → Sheds x y spare → BothIn y p t c new after table' now → BothIn x p t c new after table' now
+pub both_before : (x y : Storage) (p : MachineView) (spare : ℕ) (t c : PagedObject) (new : Cpu) (after : Areas) (table' : Table) (now : Option (List (List ℕ))) → AreasEvicted x y spare → BothIn y p t c new after table' now → BothIn x p t c new after table' now
 both_before x y p spare t c new after table' now s b = record {
   storage = b.storage;
   read = b.read;
-  picture = b.picture;
+  machine_view = b.machine_view;
   low = b.low ∙ s.low;
   untold = λ e. b.untold (s.untold e);
   told_still = λ n. b.told_still (s.told n);
-  thing = b.thing;
+  object = b.object;
   code = b.code;
   reads = record { numbers = b.reads.numbers; count = b.reads.count; bits = b.reads.bits; is = b.reads.is; same = λ n. b.reads.same (s.told n) };
   reads_code = record { numbers = b.reads_code.numbers; count = b.reads_code.count; bits = b.reads_code.bits; is = b.reads_code.is; same = λ n. b.reads_code.same (s.told n) };
   stands = b.stands;
 }
 
-pub wait_before : (x y : Storage) (p : Picture) (spare : ℕ) (t c : Thing) (new : Cpu) (after : Areas) (table' : Table) (now : Option (List (List ℕ))) → Sheds x y spare → MayWait y p t c new after table' now → MayWait x p t c new after table' now
+pub wait_before : (x y : Storage) (p : MachineView) (spare : ℕ) (t c : PagedObject) (new : Cpu) (after : Areas) (table' : Table) (now : Option (List (List ℕ))) → AreasEvicted x y spare → MayWait y p t c new after table' now → MayWait x p t c new after table' now
 wait_before x y p spare t c new after table' now s b = record {
   storage = b.storage;
-  picture = b.picture;
+  machine_view = b.machine_view;
   low = b.low ∙ s.low;
   untold = λ e. b.untold (s.untold e);
   told_still = λ n. b.told_still (s.told n);

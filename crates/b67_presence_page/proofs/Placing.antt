@@ -1,4 +1,4 @@
--- An absent thing is placed, its words come into the area, and its descriptor is written.
+-- An absent object is placed, its words come into the area, and its descriptor is written.
 use Rattle.std.proofs.Common.{◌≡◌, ◌≢◌, ℕ, ◌+◌, ◌<◌, ◌≤◌, ◌==◌, List, length, Option, Some, None, refl, sym, ◌∙◌, ap, arith, inl, inr, ◌⊎◌, ⊎_elim, slice_set, subst}
 use Rattle.std.specs.List.{slice_get}
 use Rattle.std.proofs.lemmas.List.{length-map, length-set}
@@ -15,14 +15,14 @@ use Rattle.b67_area.proofs.Climbs.{area_at-low}
 use Rattle.b67_area.proofs.Laws.{area_inside, hole-area, OnlyHoles-area, OnlyHoles-below}
 use Rattle.b67_area.proofs.Separation.{IsDirectory-area_words, IsDirectory-set_below}
 use Rattle.b67_ctl.specs.declared.registers.Regs.{Regs}
-use Rattle.b67_stack.specs.Shapes.{Held, Upward}
-use Rattle.b67_stack.specs.Picture.{Thing, Picture, slot_base, home_word_of, words_of, tag_of, AreZero}
-use Rattle.b67_stack.specs.Stands.{Storage, Content, Keeps, Rests, HoldsIn, info_of, Stands}
+use Rattle.b67_stack.specs.Shapes.{Location, LieUpward}
+use Rattle.b67_stack.specs.MachineView.{PagedObject, MachineView, slot_base, home_word_of, words_of, tag_of, AreZero}
+use Rattle.b67_stack.specs.Represents.{Storage, Content, KeptChain, AbsentContent, HoldsIn, info_of, Represents}
 use Rattle.b67_stack.proofs.Lies.{Upward-same}
 use Rattle.b67_layout_storage.specs.Machine.{IsAbsent, with_held, ChainStays, Stayed}
 use Rattle.b67_layout_storage.proofs.Below.{stacks_low, not_heads}
-use Rattle.b67_layout_storage.proofs.Unchanged.{area_of_thing, home_below, slot_below, base_low, Stands-core}
-use Rattle.b67_layout_storage.proofs.Reheld.{Reheld, Keeps-stays, storage_with, info_with, Stands-reheld}
+use Rattle.b67_layout_storage.proofs.Unchanged.{area_of_object, home_below, slot_below, base_low, Represents-core}
+use Rattle.b67_layout_storage.proofs.Reheld.{Reheld, Keeps-stays, storage_with, info_with, Represents-reheld}
 use Rattle.b67_layout_storage.proofs.Words.{StacksLie-home, original_word}
 use Rattle.b67_layout_storage.proofs.Holes.{without_fill, place_spot}
 use Rattle.b67_presence_page.specs.declared.paging.Resting.{Resting}
@@ -30,11 +30,11 @@ use Rattle.b67_presence_page.specs.Brought.{brought, resting}
 use Rattle.b67_presence_page.proofs.Descriptors.{rest_here}
 
 -- an area was placed
-pub record Placed (low : ℕ) (ss : List Span) (core new : List Tagged) (home at : ℕ) (thing : Resting) : Type 0 where
-  pub row : (Some at ≡ address (spot (thing.words + 2) low ss)) × IsDirectory new low (fill (fresh thing.kind thing.words home) ss)
+pub record Placed (low : ℕ) (ss : List Span) (core new : List Tagged) (home at : ℕ) (object : Resting) : Type 0 where
+  pub row : (Some at ≡ address (spot (object.words + 2) low ss)) × IsDirectory new low (fill (fresh object.kind object.words home) ss)
   pub outside : OnlyHoles core new low ss
-  pub areas : (y : ℕ) → area_at low (fill (fresh thing.kind thing.words home) ss) y ≡ over (Some at) (fresh thing.kind thing.words home) y (area_at low ss y)
-  pub taken : (i : ℕ) → at ≤ i + 1 → i ≤ at + thing.words → InHole low ss i
+  pub areas : (y : ℕ) → area_at low (fill (fresh object.kind object.words home) ss) y ≡ over (Some at) (fresh object.kind object.words home) y (area_at low ss y)
+  pub taken : (i : ℕ) → at ≤ i + 1 → i ≤ at + object.words → InHole low ss i
   pub size : length new ≡ length core
 
 -- words of an area were changed
@@ -55,7 +55,7 @@ pub record Freed (low : ℕ) (ss : List Span) (core new : List Tagged) : Type 0 
   pub outside : OnlyHoles core new low ss
   pub size : length new ≡ length core
 
-module _ (x : Storage) (core : List Tagged) (r : Regs) (p : Picture) (home : ℕ) (t : Thing) (s : Stands x core r p) (a : IsAbsent x p home t) (at : ℕ) (c1 : List Tagged) (pl : Placed x.low x.spans core c1 home at (resting x t)) where
+module _ (x : Storage) (core : List Tagged) (r : Regs) (p : MachineView) (home : ℕ) (t : PagedObject) (s : Represents x core r p) (a : IsAbsent x p home t) (at : ℕ) (c1 : List Tagged) (pl : Placed x.low x.spans core c1 home at (resting x t)) where
   abbrev n : ℕ
   n = length t.numbers
 
@@ -119,13 +119,13 @@ module _ (x : Storage) (core : List Tagged) (r : Regs) (p : Picture) (home : ℕ
         ap (λ (q : ℕ). without x.low q filled) o.2 ∙ without_fill made x.low x.spans o.0 o.1 s.directory.spans
 
     -- the area is given back
-    pub given_back : (c3 : List Tagged) → Freed x.low x.spans c2 c3 → Stands x c3 r p
-    given_back c3 f = Stands-core x core r p s c3 (f.size ∙ size2) f.directory
+    pub given_back : (c3 : List Tagged) → Freed x.low x.spans c2 c3 → Represents x c3 r p
+    given_back c3 f = Represents-core x core r p s c3 (f.size ∙ size2) f.directory
         (λ i down up. OnlyHoles-below c2 c3 x.low x.spans i f.outside (omega arith) up ∙ low2 i down up)
         (λ b i e q low high. OnlyHoles-area c2 c3 x.low x.spans b i q f.outside e s.directory.above (omega arith) (omega arith) ∙ body2 b i e q low high)
 
     module _ (c3 : List Tagged) (kp : Kept x.low filled c2 c3 at n first) where
-      abbrev h : Held
+      abbrev h : Location
       h = record { area = Some at; chain = first }
 
       abbrev w : Tagged
@@ -175,14 +175,14 @@ module _ (x : Storage) (core : List Tagged) (r : Regs) (p : Picture) (home : ℕ
       nothing : (i : Info) → area_at x.low x.spans at ≡ Some i → ⊥
       nothing i e = ⊎_elim (λ (l : at + 1 < at). let f : ⊥ = omega arith in f) (λ (l : at + n < at). let f : ⊥ = omega arith in f) (apart at i e at (omega arith) (omega arith))
 
-      resting_content : Rests x t first
-      resting_content = let C : Option ℕ → Type 0 = λ o. Content x core t o first in subst C none (s.things t a.there).content
+      resting_content : AbsentContent x t first
+      resting_content = let C : Option ℕ → Type 0 = λ o. Content x core t o first in subst C none (s.objects t a.there).content
 
-      row_no_array : (k : Kind) → k ≢ Array → Rests x t first → t.kind ≡ k → HoldsIn x t first
+      row_no_array : (k : Kind) → k ≢ Array → AbsentContent x t first → t.kind ≡ k → HoldsIn x t first
       row_no_array k m (inl q) e = q
       row_no_array k m (inr z) e = absurd (m (sym e ∙ z.1))
 
-      keeps : (k : Kind) → t.kind ≡ k → Keeps x t k first
+      keeps : (k : Kind) → t.kind ≡ k → KeptChain x t k first
       keeps Array e = ⊎_elim (λ (q : HoldsIn x t first). inr q.chain) (λ (z : (first ≡ 0) × (t.kind ≡ Array) × AreZero t.numbers). inl z.0) resting_content
       keeps Row e = row_no_array Row (λ z. let b : ⊥ = cc in b) resting_content e
       keeps Code e = row_no_array Code (λ z. let b : ⊥ = cc in b) resting_content e
@@ -190,7 +190,7 @@ module _ (x : Storage) (core : List Tagged) (r : Regs) (p : Picture) (home : ℕ
       stays : (q : ℕ) → ChainStays x (storage_with x t.home h spans x.shelf x.device) q
       stays q = record { chain = refl; told = λ ns k. k }
 
-      pub reheld : Upward c2 at (words_of t) → Reheld x core c4 p t h spans x.shelf x.device
+      pub reheld : LieUpward c2 at (words_of t) → Reheld x core c4 p t h spans x.shelf x.device
       reheld up = record {
         bases = λ k hk. low4 (slot_base p k) (slot_below x core r p s k hk).0 (base_low x core r p s k hk) (λ e. s.slots.laid.not_base t a.there k hk (sym e));
         stacks = StacksLie-home x core r p s t a.there c4 h w none low4 here4
@@ -199,7 +199,7 @@ module _ (x : Storage) (core : List Tagged) (r : Regs) (p : Picture) (home : ℕ
         content = (up4, Keeps-stays x (storage_with x t.home h spans x.shelf x.device) t first (stays first) t.kind (keeps t.kind refl));
         others = λ u inu m. record {
           word = low4 u.home (home_below x core r p s u inu).0 (home_below x core r p s u inu).1 m;
-          body = λ b e q low high. body4 b (info_of x u) (area_of_thing x core r p s u inu b e) q low high;
+          body = λ b e q low high. body4 b (info_of x u) (area_of_object x core r p s u inu b e) q low high;
           chain = stays (x.held u.home).chain;
         };
         area_of = λ y i e. ⊎_elim
@@ -214,12 +214,12 @@ module _ (x : Storage) (core : List Tagged) (r : Regs) (p : Picture) (home : ℕ
         directory = IsDirectory-set_below c3 x.low spans home w kp.directory below.1 (inr below.0);
         size = size4;
       } where
-        up4 : Upward c4 at (words_of t)
+        up4 : LieUpward c4 at (words_of t)
         up4 = Upward-same c2 c4 at (words_of t) (λ q low high. slice_get-set_other c3 home q w (λ e. omega (arith, below.1, bounds.0)) ∙ kp.outside q (λ e. omega (arith, length-map t.numbers (word (tag_of t.kind))))) up
 
-      -- the picture stands, with that thing in the area
-      pub brought_in : Upward c2 at (words_of t) → Stands (brought x t at) c4 r p
+      -- the view stands, with that object in the area
+      pub brought_in : LieUpward c2 at (words_of t) → Represents (brought x t at) c4 r p
       brought_in up =
-          let d = Stands-reheld x core c4 r p t h spans x.shelf x.device a.there s (reheld up) in
-          let P : ℕ → Type 0 = λ q. Stands (record x { held = with_held x.held t.home h; spans = keeping x.low at first (fill (fresh t.kind (length t.numbers) q) x.spans) }) c4 r p in
+          let d = Represents-reheld x core c4 r p t h spans x.shelf x.device a.there s (reheld up) in
+          let P : ℕ → Type 0 = λ q. Represents (record x { held = with_held x.held t.home h; spans = keeping x.low at first (fill (fresh t.kind (length t.numbers) q) x.spans) }) c4 r p in
           subst P (sym a.is) d

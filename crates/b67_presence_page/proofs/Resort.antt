@@ -1,4 +1,4 @@
--- The last resort: the code gives way too, and comes back behind the thing.
+-- The last resort: the code gives way too, and comes back behind the object.
 use Rattle.std.proofs.Common.{◌≡◌, ◌≢◌, ℕ, ◌+◌, ◌≤◌, ◌==◌, ◌⊎◌, ⊎_elim, inl, inr, List, [], ◌∷◌, length, Option, Some, None, refl, sym, ◌∙◌, ap, arith, subst}
 use Rattle.std.proofs.lemmas.Option.{none-some}
 use Rattle.std.proofs.lemmas.Bool.{cases_eq, cond-true, cond-false, eq-eqb, ne_eqb}
@@ -12,32 +12,32 @@ use Rattle.b67_backing.specs.Shelf.{Table}
 use Rattle.b67_ctl.specs.declared.registers.Regs.{Regs}
 use Rattle.b67_lemmas.specs.Lists.{Has}
 use Rattle.b67_stack.specs.declared.Cpu.{Cpu}
-use Rattle.b67_stack.specs.Shapes.{Held}
-use Rattle.b67_stack.specs.Picture.{Thing, Picture}
-use Rattle.b67_stack.specs.Stands.{Storage, Stands, info_of}
-use Rattle.b67_layout_storage.specs.Machine.{MachineStands, IsAbsent, IsPresent, HasRoom, AreBits, Stayed}
+use Rattle.b67_stack.specs.Shapes.{Location}
+use Rattle.b67_stack.specs.MachineView.{PagedObject, MachineView}
+use Rattle.b67_stack.specs.Represents.{Storage, Represents, info_of}
+use Rattle.b67_layout_storage.specs.Machine.{MachineRepresentsView, IsAbsent, IsPresent, HasHole, AreBits, Stayed}
 use Rattle.b67_layout_storage.proofs.Helds.{held-same, held-other}
 use Rattle.b67_layout_storage.proofs.Renumbered.{renumbered-same, kept_there, Stayed-renumbered}
 use Rattle.b67_overlay.specs.Overlaid.{overlaid, chain_out}
 use Rattle.b67_overlay.proofs.Chains.{retold-same}
 use Rattle.b67_presence_page.specs.Brought.{brought}
-use Rattle.b67_presence_page.specs.Brings.{IsReadable, Reads, ReadIn, IsCode, BothIn, MayWait, need_both, IsAlone}
+use Rattle.b67_presence_page.specs.Brings.{IsReadable, ReadBack, ReadIn, IsCode, BothIn, MayWait, need_both, IsAlone}
 use Rattle.b67_presence_page.proofs.Beside.{both_fit}
 use Rattle.b67_presence_page.proofs.Rooms.{one_hole, first_room, second_room}
 
-pub Reads-none : (x y : Storage) (core : List Tagged) (r : Regs) (p : Picture) (c : Thing) → Stands y core r p → Has p.things c → Reads x p p c
+pub Reads-none : (x y : Storage) (core : List Tagged) (r : Regs) (p : MachineView) (c : PagedObject) → Represents y core r p → Has p.objects c → ReadBack x p p c
 Reads-none x y core r p c s int = record { numbers = c.numbers; count = refl; bits = λ b. b; is = sym (renumbered-same y core r p s c int); same = λ n. refl }
 
-pub there_after : (x : Storage) (p q : Picture) (t c : Thing) → Reads x p q t → Has p.things c → c.home ≢ t.home → Has q.things c
-there_after x p q t c r int n = let P : Picture → Type 0 = λ z. Has z.things c in subst P (sym r.is) (kept_there p t.home r.numbers c int n)
+pub there_after : (x : Storage) (p q : MachineView) (t c : PagedObject) → ReadBack x p q t → Has p.objects c → c.home ≢ t.home → Has q.objects c
+there_after x p q t c r int n = let P : MachineView → Type 0 = λ z. Has z.objects c in subst P (sym r.is) (kept_there p t.home r.numbers c int n)
 
--- a picture that was read is read again
-pub readable_on : (x y : Storage) (p q : Picture) (t : Thing) → Reads x p q t → (x.device ≡ None → y.device ≡ None) → IsReadable x p → IsReadable y q
+-- a view that was read is read again
+pub readable_on : (x y : Storage) (p q : MachineView) (t : PagedObject) → ReadBack x p q t → (x.device ≡ None → y.device ≡ None) → IsReadable x p → IsReadable y q
 readable_on x y p q t r none k = ⊎_elim
     (λ (e : x.device ≡ None). inl (none e))
-    (λ (bits : (u : Thing) → Has p.things u → AreBits u.numbers). ⊎_elim
+    (λ (bits : (u : PagedObject) → Has p.objects u → AreBits u.numbers). ⊎_elim
     (λ (e : x.device ≡ None). inl (none e))
-    (λ (n : x.device ≢ None). let P : Picture → Type 0 = λ z. (u : Thing) → Has z.things u → AreBits u.numbers in inr (subst P (sym (r.same n)) bits))
+    (λ (n : x.device ≢ None). let P : MachineView → Type 0 = λ z. (u : PagedObject) → Has z.objects u → AreBits u.numbers in inr (subst P (sym (r.same n)) bits))
     (none_or x.device))
     k where
       none_or : (o : Option (List (List ℕ))) → (o ≡ None) ⊎ (o ≢ None)
@@ -45,10 +45,10 @@ readable_on x y p q t r none k = ⊎_elim
       none_or (Some all) = inr (λ e. none-some all (sym e))
 
 -- the same words stay, whichever numbers were read
-pub Stayed-read : (x : Storage) (p q : Picture) (t : Thing) → Reads x p q t → (core new : List Tagged) → Stayed q core new → Stayed p core new
-Stayed-read x p q t r core new s = let P : Picture → Type 0 = λ z. Stayed z core new in Stayed-renumbered p t.home r.numbers core new (subst P r.is s)
+pub Stayed-read : (x : Storage) (p q : MachineView) (t : PagedObject) → ReadBack x p q t → (core new : List Tagged) → Stayed q core new → Stayed p core new
+Stayed-read x p q t r core new s = let P : MachineView → Type 0 = λ z. Stayed z core new in Stayed-renumbered p t.home r.numbers core new (subst P r.is s)
 
-module _ (x : Storage) (cpu : Cpu) (areas : Areas) (table : Table) (told : Option (List (List ℕ))) (p : Picture) (home code spare : ℕ) (t c : Thing) (m : MachineStands x cpu areas table told p) (a : IsAbsent x p home t) (k : IsCode x p code spare c) where
+module _ (x : Storage) (cpu : Cpu) (areas : Areas) (table : Table) (told : Option (List (List ℕ))) (p : MachineView) (home code spare : ℕ) (t c : PagedObject) (m : MachineRepresentsView x cpu areas table told p) (a : IsAbsent x p home t) (k : IsCode x p code spare c) where
   pub differ : c.home ≢ t.home
   differ e = none-some spare (sym a.absent ∙ ap (λ q. (x.held q).area) (sym a.is ∙ sym e ∙ k.is) ∙ k.present)
 
@@ -58,12 +58,12 @@ module _ (x : Storage) (cpu : Cpu) (areas : Areas) (table : Table) (told : Optio
   pub no_array : c.kind ≢ Array
   no_array e = let z : Array ≡ Code = sym e ∙ k.kind in absurd (let b : ⊥ = cc in b)
 
-  -- an area for the code and a hole for the thing are in core
-  pub room_beside : HasRoom (length t.numbers + 2) x.spans → need_both x c t ≤ length cpu.core
+  -- an area for the code and a hole for the object are in core
+  pub room_beside : HasHole (length t.numbers + 2) x.spans → need_both x c t ≤ length cpu.core
   room_beside room =
       let f = m.stands.owned.of_held c.home spare present_code.present in
       let same : f.0 ≡ c = m.stands.slots.laid.differ f.0 c f.1 k.there f.2 in
-      let is : area_at x.low x.spans spare ≡ Some (info_of x c) = f.3 ∙ ap (λ (u : Thing). Some (info_of x u)) same in
+      let is : area_at x.low x.spans spare ≡ Some (info_of x c) = f.3 ∙ ap (λ (u : PagedObject). Some (info_of x u)) same in
       omega (arith, both_fit x.low (length t.numbers + 2) x.spans spare (info_of x c) is room, m.stands.directory.all)
 
   abbrev pub y : Storage
@@ -76,13 +76,13 @@ module _ (x : Storage) (cpu : Cpu) (areas : Areas) (table : Table) (told : Optio
   held_t = held-other x.held c.home (record { area = None; chain = chain_out x.shelf (x.held c.home).chain }) home (λ e. differ (sym e ∙ sym a.is))
 
   pub absent_t : IsAbsent (overlaid x c spare told) p home t
-  absent_t = record { there = a.there; is = a.is; absent = ap (λ (h : Held). h.area) held_t ∙ a.absent }
+  absent_t = record { there = a.there; is = a.is; absent = ap (λ (h : Location). h.area) held_t ∙ a.absent }
 
   pub absent_c : IsAbsent (overlaid x c spare told) p code c
-  absent_c = record { there = k.there; is = k.is; absent = ap (λ q. ((overlaid x c spare told).held q).area) (sym k.is) ∙ ap (λ (h : Held). h.area) (held-same x.held c.home (record { area = None; chain = chain_out x.shelf (x.held c.home).chain })) }
+  absent_c = record { there = k.there; is = k.is; absent = ap (λ q. ((overlaid x c spare told).held q).area) (sym k.is) ∙ ap (λ (h : Location). h.area) (held-same x.held c.home (record { area = None; chain = chain_out x.shelf (x.held c.home).chain })) }
 
   pub readable_y : IsReadable x p → IsReadable (overlaid x c spare told) p
-  readable_y r = ⊎_elim (λ (e : x.device ≡ None). inl (device_same ∙ e)) (λ (f : (u : Thing) → Has p.things u → AreBits u.numbers). inr f) r
+  readable_y r = ⊎_elim (λ (e : x.device ≡ None). inl (device_same ∙ e)) (λ (f : (u : PagedObject) → Has p.objects u → AreBits u.numbers). inr f) r
 
   module _ (new : Cpu) (after : Areas) (now : Option (List (List ℕ))) (rd : ReadIn (overlaid x c spare told) p t new after table now) where
     abbrev z : Storage
@@ -92,25 +92,25 @@ module _ (x : Storage) (cpu : Cpu) (areas : Areas) (table : Table) (told : Optio
     held_z q n = held-other (overlaid x c spare told).held t.home (record { area = Some rd.at; chain = ((overlaid x c spare told).held t.home).chain }) q n
 
     here_z : ((brought (overlaid x c spare told) t rd.at).held t.home).area ≡ Some rd.at
-    here_z = ap (λ (h : Held). h.area) (held-same (overlaid x c spare told).held t.home (record { area = Some rd.at; chain = ((overlaid x c spare told).held t.home).chain }))
+    here_z = ap (λ (h : Location). h.area) (held-same (overlaid x c spare told).held t.home (record { area = Some rd.at; chain = ((overlaid x c spare told).held t.home).chain }))
 
-    pub absent_z : IsAbsent (brought (overlaid x c spare told) t rd.at) rd.picture code c
+    pub absent_z : IsAbsent (brought (overlaid x c spare told) t rd.at) rd.machine_view code c
     absent_z = record {
-      there = there_after (overlaid x c spare told) p rd.picture t c rd.reads k.there differ;
+      there = there_after (overlaid x c spare told) p rd.machine_view t c rd.reads k.there differ;
       is = k.is;
-      absent = ap (λ (h : Held). h.area) (held_z code (λ e. differ (k.is ∙ e))) ∙ absent_c.absent;
+      absent = ap (λ (h : Location). h.area) (held_z code (λ e. differ (k.is ∙ e))) ∙ absent_c.absent;
     }
 
-    pub reads_x : Reads x p rd.picture t
+    pub reads_x : ReadBack x p rd.machine_view t
     reads_x = record { numbers = rd.reads.numbers; count = rd.reads.count; bits = rd.reads.bits; is = rd.reads.is; same = λ n. rd.reads.same (λ e. n (sym device_same ∙ e)) }
 
-    pub readable_z : IsReadable x p → IsReadable (brought (overlaid x c spare told) t rd.at) rd.picture
-    readable_z r = readable_on x (brought (overlaid x c spare told) t rd.at) p rd.picture t reads_x (λ e. device_same ∙ e) r
+    pub readable_z : IsReadable x p → IsReadable (brought (overlaid x c spare told) t rd.at) rd.machine_view
+    readable_z r = readable_on x (brought (overlaid x c spare told) t rd.at) p rd.machine_view t reads_x (λ e. device_same ∙ e) r
 
-    pub waits_second : (last : Cpu) (done : Areas) (end : Option (List (List ℕ))) → MachineStands (brought (overlaid x c spare told) t rd.at) last done table end rd.picture → MayWait x p t c last done table end
+    pub waits_second : (last : Cpu) (done : Areas) (end : Option (List (List ℕ))) → MachineRepresentsView (brought (overlaid x c spare told) t rd.at) last done table end rd.machine_view → MayWait x p t c last done table end
     waits_second last done end ms = record {
       storage = brought (overlaid x c spare told) t rd.at;
-      picture = rd.picture;
+      machine_view = rd.machine_view;
       low = refl;
       untold = λ e. device_same ∙ e;
       told_still = λ n e. n (sym device_same ∙ e);
@@ -119,27 +119,27 @@ module _ (x : Storage) (cpu : Cpu) (areas : Areas) (table : Table) (told : Optio
       stands = ms;
     }
 
-    pub both_in : (last : Cpu) (done : Areas) (end : Option (List (List ℕ))) → ReadIn (brought (overlaid x c spare told) t rd.at) rd.picture c last done table end → BothIn x p t c last done table end
+    pub both_in : (last : Cpu) (done : Areas) (end : Option (List (List ℕ))) → ReadIn (brought (overlaid x c spare told) t rd.at) rd.machine_view c last done table end → BothIn x p t c last done table end
     both_in last done end rc =
-        let h : Held = record { area = Some rc.at; chain = ((brought (overlaid x c spare told) t rd.at).held c.home).chain } in
+        let h : Location = record { area = Some rc.at; chain = ((brought (overlaid x c spare told) t rd.at).held c.home).chain } in
         let held = (brought (overlaid x c spare told) t rd.at).held in
-        let is_c : ((brought (brought (overlaid x c spare told) t rd.at) c rc.at).held c.home).area ≡ Some rc.at = ap (λ (g : Held). g.area) (held-same held c.home h) in
-        let is_t : ((brought (brought (overlaid x c spare told) t rd.at) c rc.at).held t.home).area ≡ Some rd.at = ap (λ (g : Held). g.area) (held-other held c.home h t.home (λ q. differ (sym q))) ∙ here_z in
+        let is_c : ((brought (brought (overlaid x c spare told) t rd.at) c rc.at).held c.home).area ≡ Some rc.at = ap (λ (g : Location). g.area) (held-same held c.home h) in
+        let is_t : ((brought (brought (overlaid x c spare told) t rd.at) c rc.at).held t.home).area ≡ Some rd.at = ap (λ (g : Location). g.area) (held-other held c.home h t.home (λ q. differ (sym q))) ∙ here_z in
         record {
           storage = brought (brought (overlaid x c spare told) t rd.at) c rc.at;
-          read = rd.picture;
-          picture = rc.picture;
+          read = rd.machine_view;
+          machine_view = rc.machine_view;
           low = refl;
           untold = λ e. device_same ∙ e;
           told_still = λ n e. n (sym device_same ∙ e);
-          thing = λ e. none-some rd.at (sym e ∙ is_t);
+          object = λ e. none-some rd.at (sym e ∙ is_t);
           code = λ e. none-some rc.at (sym e ∙ is_c);
           reads = reads_x;
           reads_code = record { numbers = rc.reads.numbers; count = rc.reads.count; bits = rc.reads.bits; is = rc.reads.is; same = λ n. rc.reads.same (λ e. n (sym device_same ∙ e)) };
           stands = rc.stands;
         }
 
-  module _ (alone : IsAlone x spare) (core : List Tagged) (size : length core ≡ length cpu.core) (fits : need_both x c t ≤ length cpu.core) (s : Stands (overlaid x c spare told) core cpu.regs p) where
+  module _ (alone : IsAlone x spare) (core : List Tagged) (size : length core ≡ length cpu.core) (fits : need_both x c t ≤ length cpu.core) (s : Represents (overlaid x c spare told) core cpu.regs p) where
     nothing : (b : ℕ) (i : Info) → area_at x.low (without x.low spare x.spans) b ≡ Some i → ⊥
     nothing b i e = ⊎_elim
         (λ (q : spare ≡ b). none-some i (sym (cond-true (spare == b) _ _ (eq-eqb spare b q)) ∙ sym (area_at-without x.low spare x.spans b) ∙ e))
@@ -149,16 +149,16 @@ module _ (x : Storage) (cpu : Cpu) (areas : Areas) (table : Table) (told : Optio
     hole : (h : ℕ) × (without x.low spare x.spans ≡ Hole h ∷ []) × (x.low + h ≡ length core)
     hole = one_hole core x.low (without x.low spare x.spans) s.directory nothing (omega (arith, size))
 
-    pub room_t : HasRoom (length t.numbers + 2) (overlaid x c spare told).spans
+    pub room_t : HasHole (length t.numbers + 2) (overlaid x c spare told).spans
     room_t = let (h, is, e) = hole in first_room (length t.numbers + 2) h (without x.low spare x.spans) is (omega (arith, size))
 
-    pub room_c : (at : ℕ) → HasRoom (length c.numbers + 2) (brought (overlaid x c spare told) t at).spans
+    pub room_c : (at : ℕ) → HasHole (length c.numbers + 2) (brought (overlaid x c spare told) t at).spans
     room_c at = let (h, is, e) = hole in second_room (length c.numbers + 2) x.low at ((overlaid x c spare told).held t.home).chain h (fresh t.kind (length t.numbers) t.home) (without x.low spare x.spans) is (omega arith) (omega (arith, size))
 
-  pub waits_first : (last : Cpu) (done : Areas) (end : Option (List (List ℕ))) → MachineStands (overlaid x c spare told) last done table end p → MayWait x p t c last done table end
+  pub waits_first : (last : Cpu) (done : Areas) (end : Option (List (List ℕ))) → MachineRepresentsView (overlaid x c spare told) last done table end p → MayWait x p t c last done table end
   waits_first last done end ms = record {
     storage = overlaid x c spare told;
-    picture = p;
+    machine_view = p;
     low = refl;
     untold = λ e. device_same ∙ e;
     told_still = λ n e. n (sym device_same ∙ e);

@@ -1,4 +1,4 @@
--- Things that are brought into core where other areas give way.
+-- Objects that are brought into core where other areas give way.
 use Rattle.std.specs.Prelude.{◌≡◌, ◌≢◌, ℕ, ◌+◌, ◌⊎◌, List, length, Option, Some, None}
 use Rattle.b67_area.specs.declared.Areas.{Areas}
 use Rattle.b67_area.specs.declared.Info.{Info}
@@ -7,85 +7,85 @@ use Rattle.b67_area.specs.declared.Kind.TheVariants.{Code}
 use Rattle.b67_backing.specs.Shelf.{Table}
 use Rattle.b67_lemmas.specs.Lists.{Has}
 use Rattle.b67_stack.specs.declared.Cpu.{Cpu}
-use Rattle.b67_stack.specs.Picture.{Thing, Picture}
-use Rattle.b67_stack.specs.Stands.{Storage}
-use Rattle.b67_layout_storage.specs.Machine.{MachineStands, AreBits, renumbered}
-use Rattle.b67_overlay.specs.Sheds.{Sheds}
+use Rattle.b67_stack.specs.MachineView.{PagedObject, MachineView}
+use Rattle.b67_stack.specs.Represents.{Storage}
+use Rattle.b67_layout_storage.specs.Machine.{MachineRepresentsView, AreBits, renumbered}
+use Rattle.b67_overlay.specs.AreasEvicted.{AreasEvicted}
 use Rattle.b67_presence_page.specs.Brought.{brought, IsPlace}
 
--- the device tells nothing, or each number of the picture is one of a word
-abbrev pub IsReadable : Storage → Picture → Type 0
-IsReadable x p = (x.device ≡ None) ⊎ ((t : Thing) → Has p.things t → AreBits t.numbers)
+-- the device tells nothing, or each number of the view is one of a word
+abbrev pub IsReadable : Storage → MachineView → Type 0
+IsReadable x p = (x.device ≡ None) ⊎ ((t : PagedObject) → Has p.objects t → AreBits t.numbers)
 
--- the picture after a thing was read: the same where the device tells its sectors, else with as many numbers, and again those of words
-pub record Reads (x : Storage) (p q : Picture) (t : Thing) : Type 0 where
+-- the view after an object was read: the same where the device tells its sectors, else with as many numbers, and again those of words
+pub record ReadBack (x : Storage) (p q : MachineView) (t : PagedObject) : Type 0 where
   pub numbers : List ℕ
   pub count : length numbers ≡ length t.numbers
   pub bits : AreBits t.numbers → AreBits numbers
   pub is : q ≡ renumbered p t.home numbers
   pub same : x.device ≢ None → q ≡ p
 
--- the machine stands, where the thing was placed and read, and no area moved
-pub record ReadIn (x : Storage) (p : Picture) (t : Thing) (cpu : Cpu) (areas : Areas) (table : Table) (told : Option (List (List ℕ))) : Type 0 where
+-- the machine stands, where the object was placed and read, and no area moved
+pub record ReadIn (x : Storage) (p : MachineView) (t : PagedObject) (cpu : Cpu) (areas : Areas) (table : Table) (told : Option (List (List ℕ))) : Type 0 where
   pub at : ℕ
-  pub picture : Picture
+  pub machine_view : MachineView
   pub place : IsPlace x t at
-  pub reads : Reads x p picture t
-  pub stands : MachineStands (brought x t at) cpu areas table told picture
+  pub reads : ReadBack x p machine_view t
+  pub stands : MachineRepresentsView (brought x t at) cpu areas table told machine_view
 
--- the machine stands, where areas but the one at `spare` were given back, and then the thing was placed
-pub record Came (x : Storage) (p : Picture) (t : Thing) (spare : ℕ) (cpu : Cpu) (areas : Areas) (table : Table) (told : Option (List (List ℕ))) : Type 0 where
+-- the machine stands, where areas but the one at `spare` were given back, and then the object was placed
+pub record PlacedAfterEviction (x : Storage) (p : MachineView) (t : PagedObject) (spare : ℕ) (cpu : Cpu) (areas : Areas) (table : Table) (told : Option (List (List ℕ))) : Type 0 where
   pub storage : Storage
   pub at : ℕ
-  pub picture : Picture
-  pub sheds : Sheds x storage spare
+  pub machine_view : MachineView
+  pub sheds : AreasEvicted x storage spare
   pub place : IsPlace storage t at
-  pub reads : Reads x p picture t
-  pub stands : MachineStands (brought storage t at) cpu areas table told picture
+  pub reads : ReadBack x p machine_view t
+  pub stands : MachineRepresentsView (brought storage t at) cpu areas table told machine_view
 
 -- the machine stands, where areas but the one at `spare` were given back
-pub record Waits (x : Storage) (p : Picture) (spare : ℕ) (cpu : Cpu) (areas : Areas) (table : Table) (told : Option (List (List ℕ))) : Type 0 where
+pub record Waits (x : Storage) (p : MachineView) (spare : ℕ) (cpu : Cpu) (areas : Areas) (table : Table) (told : Option (List (List ℕ))) : Type 0 where
   pub storage : Storage
-  pub sheds : Sheds x storage spare
-  pub stands : MachineStands storage cpu areas table told p
+  pub sheds : AreasEvicted x storage spare
+  pub stands : MachineRepresentsView storage cpu areas table told p
 
 -- the code of a home is in the area at `at`
-pub record IsCode (x : Storage) (p : Picture) (home at : ℕ) (c : Thing) : Type 0 where
-  pub there : Has p.things c
+pub record IsCode (x : Storage) (p : MachineView) (home at : ℕ) (c : PagedObject) : Type 0 where
+  pub there : Has p.objects c
   pub is : c.home ≡ home
   pub kind : c.kind ≡ Code
   pub present : (x.held home).area ≡ Some at
 
--- both a thing and the running code are in core
-pub record BothIn (x : Storage) (p : Picture) (t c : Thing) (cpu : Cpu) (areas : Areas) (table : Table) (told : Option (List (List ℕ))) : Type 0 where
+-- both an object and the running code are in core
+pub record BothIn (x : Storage) (p : MachineView) (t c : PagedObject) (cpu : Cpu) (areas : Areas) (table : Table) (told : Option (List (List ℕ))) : Type 0 where
   pub storage : Storage
-  pub read : Picture
-  pub picture : Picture
+  pub read : MachineView
+  pub machine_view : MachineView
   pub low : storage.low ≡ x.low
   pub untold : x.device ≡ None → storage.device ≡ None
   pub told_still : x.device ≢ None → storage.device ≢ None
-  pub thing : (storage.held t.home).area ≢ None
+  pub object : (storage.held t.home).area ≢ None
   pub code : (storage.held c.home).area ≢ None
-  pub reads : Reads x p read t
-  pub reads_code : Reads x read picture c
-  pub stands : MachineStands storage cpu areas table told picture
+  pub reads : ReadBack x p read t
+  pub reads_code : ReadBack x read machine_view c
+  pub stands : MachineRepresentsView storage cpu areas table told machine_view
 
--- the thing may be in core, and the running code may not: one of them isn't
-pub record MayWait (x : Storage) (p : Picture) (t c : Thing) (cpu : Cpu) (areas : Areas) (table : Table) (told : Option (List (List ℕ))) : Type 0 where
+-- the object may be in core, and the running code may not: one of them isn't
+pub record MayWait (x : Storage) (p : MachineView) (t c : PagedObject) (cpu : Cpu) (areas : Areas) (table : Table) (told : Option (List (List ℕ))) : Type 0 where
   pub storage : Storage
-  pub picture : Picture
+  pub machine_view : MachineView
   pub low : storage.low ≡ x.low
   pub untold : x.device ≡ None → storage.device ≡ None
   pub told_still : x.device ≢ None → storage.device ≢ None
   pub lacks : ((storage.held t.home).area ≡ None) ⊎ ((storage.held c.home).area ≡ None)
-  pub reads : Reads x p picture t
-  pub stands : MachineStands storage cpu areas table told picture
+  pub reads : ReadBack x p machine_view t
+  pub stands : MachineRepresentsView storage cpu areas table told machine_view
 
--- the words that core must have for a thing beside the stacks, and for the running code with it
-abbrev pub need_one : Storage → Thing → ℕ
+-- the words that core must have for an object beside the stacks, and for the running code with it
+abbrev pub need_one : Storage → PagedObject → ℕ
 need_one x t = x.low + (length t.numbers + 2)
 
-abbrev pub need_both : Storage → Thing → Thing → ℕ
+abbrev pub need_both : Storage → PagedObject → PagedObject → ℕ
 need_both x c t = x.low + (length c.numbers + 2) + (length t.numbers + 2)
 
 -- there is no area but the one at `spare`

@@ -1,36 +1,36 @@
--- Things that are brought into core.
+-- Objects that are brought into core.
 use Rattle.std.specs.Prelude.{◌≡◌, ◌≢◌, ℕ, ◌+◌, ◌<◌, ◌⊎◌, List, length, Option, Some, None, slice_get, option_map}
 use Rattle.b67_word.specs.Tagged.{Tagged}
 use Rattle.b67_area.specs.Spans.{address, spot, fill, fresh, keeping}
 use Rattle.b67_backing.specs.Shelf.{Table, Shelf, HasChain}
 use Rattle.b67_backing.specs.Held.{Holds, sectors_for, under}
 use Rattle.b67_backing.specs.Shelf.{chain_of}
-use Rattle.b67_stack.specs.Picture.{Thing}
-use Rattle.b67_stack.specs.Stands.{Storage}
+use Rattle.b67_stack.specs.MachineView.{PagedObject}
+use Rattle.b67_stack.specs.Represents.{Storage}
 use Rattle.b67_layout_storage.specs.Machine.{with_held, AreBits}
 use Rattle.b67_presence_page.specs.declared.paging.Resting.{Resting}
 
--- the storage with an absent thing in an area at that address: the front of the lowest hole with room for it
-abbrev pub brought : Storage → Thing → ℕ → Storage
+-- the storage with an absent object in an area at that address: the front of the lowest hole with room for it
+abbrev pub brought : Storage → PagedObject → ℕ → Storage
 brought x t at = record x {
   held = with_held x.held t.home (record { area = Some at; chain = (x.held t.home).chain });
   spans = keeping x.low at (x.held t.home).chain (fill (fresh t.kind (length t.numbers) t.home) x.spans);
 }
 
-abbrev pub IsPlace : Storage → Thing → ℕ → Type 0
+abbrev pub IsPlace : Storage → PagedObject → ℕ → Type 0
 IsPlace x t at = address (spot (length t.numbers + 2) x.low x.spans) ≡ Some at
 
--- the numbers of an absent thing are known: it is an array that was never touched, or the device tells them
-abbrev pub IsKnown : Storage → Thing → Type 0
+-- the numbers of an absent object are known: it is an array that was never touched, or the device tells them
+abbrev pub IsKnown : Storage → PagedObject → Type 0
 IsKnown x t = ((x.held t.home).chain ≡ 0) ⊎ ((x.device ≢ None) × AreBits t.numbers)
 
--- what the descriptor of an absent thing says
-abbrev pub resting : Storage → Thing → Resting
+-- what the descriptor of an absent object says
+abbrev pub resting : Storage → PagedObject → Resting
 resting x t = record { kind = t.kind; words = length t.numbers; first = (x.held t.home).chain }
 
 -- words that were read are those that sectors hold, by their low 48 bits
-abbrev pub Reads : Option (List (List ℕ)) → Table → ℕ → ℕ → ℕ → ℕ → List Tagged → Type 0
-Reads told table first at words tag core =
+abbrev pub ReadFromChain : Option (List (List ℕ)) → Table → ℕ → ℕ → ℕ → ℕ → List Tagged → Type 0
+ReadFromChain told table first at words tag core =
     (st : Shelf) → HasChain table st first (sectors_for words) → (all : List (List ℕ)) → told ≡ Some all
     → (ns : List ℕ) → length ns ≡ words → Holds all (chain_of first st.chains) 0 ns
     → (i : ℕ) → i < words → slice_get core (at + i) ≡ option_map (under tag) (slice_get ns i)

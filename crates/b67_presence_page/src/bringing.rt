@@ -1,15 +1,15 @@
-//! Things that are brought into core, whatever has to give way.
+//! Objects that are brought into core, whatever has to give way.
 
 ghost use Rattle.std.specs.Prelude.{◌≡◌, ◌≢◌, ◌↔◌, ℕ, ◌+◌, ◌<◌, ◌≤◌, Some, None, Ok, Err, OnOk, OnErr, IsOk, length, true, false};
 ghost use Rattle.b67_backing.specs.Held.{Becomes};
 ghost use Rattle.b67_backing.specs.declared.SpaceFault.TheVariants.{NoCore, BackingFull, BackingFault};
 ghost use Rattle.b67_ctl.specs.declared.registers.Regs.{Regs};
 ghost use Rattle.b67_io.specs.Causes.{Rose};
-ghost use Rattle.b67_stack.specs.Picture.{Thing, Picture};
-ghost use Rattle.b67_stack.specs.Stands.{Storage, Stands};
-ghost use Rattle.b67_layout_storage.specs.Machine.{MachineStands, IsAbsent, Served, HasRoom, Stayed};
-ghost use Rattle.b67_overlay.specs.Sheds.{IsShortBy};
-ghost use Rattle.b67_presence_page.specs.Brings.{IsReadable, ReadIn, Came, Waits, IsCode, BothIn, MayWait, need_one, need_both, IsAlone};
+ghost use Rattle.b67_stack.specs.MachineView.{PagedObject, MachineView};
+ghost use Rattle.b67_stack.specs.Represents.{Storage, Represents};
+ghost use Rattle.b67_layout_storage.specs.Machine.{MachineRepresentsView, IsAbsent, DeviceAfterCalls, HasHole, Stayed};
+ghost use Rattle.b67_overlay.specs.AreasEvicted.{IsShortBy};
+ghost use Rattle.b67_presence_page.specs.Brings.{IsReadable, ReadIn, PlacedAfterEviction, Waits, IsCode, BothIn, MayWait, need_one, need_both, IsAlone};
 
 use crate::paging::{Refusal, Resting, page_in};
 use crate::way::make_way;
@@ -22,8 +22,8 @@ use b67_stack::Cpu;
 
 /// The segment descriptor of code that is in core.
 fn segment_at(core: &Core, code: u32) -> SegDesc
-    requires { (x : Storage) × (r : Regs) × (p : Picture) × (c : Thing) × (at : ℕ) × Stands x core.now r p × IsCode x p code at c }
-    ensures { (x : Storage) (r : Regs) (p : Picture) (c : Thing) (at : ℕ) → Stands x core.now r p → IsCode x p code at c
+    requires { (x : Storage) × (r : Regs) × (p : MachineView) × (c : PagedObject) × (at : ℕ) × Represents x core.now r p × IsCode x p code at c }
+    ensures { (x : Storage) (r : Regs) (p : MachineView) (c : PagedObject) (at : ℕ) → Represents x core.now r p → IsCode x p code at c
         → (result.words ≡ length c.numbers) × (result.address ≡ at) }
 {
     match SegDesc::from_word(core.get(code)) {
@@ -32,7 +32,7 @@ fn segment_at(core: &Core, code: u32) -> SegDesc
     }
 }
 
-/// Brings the thing of an absent descriptor in, where there is a hole for it.
+/// Brings the object of an absent descriptor in, where there is a hole for it.
 fn page_in_room<B: Backing>(
     cpu: &mut Cpu,
     areas: &mut Areas,
@@ -40,20 +40,20 @@ fn page_in_room<B: Backing>(
     backing: &mut B,
     home: u32,
 ) -> Result<(), SpaceFault>
-    requires machine { (x : Storage) × (p : Picture) × (t : Thing) × MachineStands x cpu.old areas.old sectors.now (B.holds backing.old) p × IsAbsent x p home t × HasRoom (length t.numbers + 2) x.spans }
+    requires machine { (x : Storage) × (p : MachineView) × (t : PagedObject) × MachineRepresentsView x cpu.old areas.old sectors.now (B.holds backing.old) p × IsAbsent x p home t × HasHole (length t.numbers + 2) x.spans }
     requires same { B.size backing.old + 1 ≡ length sectors.now.links }
     ensures rest { cpu.new ≡ record cpu.old { core = cpu.new.core } }
     ensures len { length cpu.new.core ≡ length cpu.old.core }
     ensures areas { areas.new ≡ areas.old }
-    ensures outside { (x : Storage) (p : Picture) (t : Thing) → MachineStands x cpu.old areas.old sectors.now (B.holds backing.old) p → IsAbsent x p home t
+    ensures outside { (x : Storage) (p : MachineView) (t : PagedObject) → MachineRepresentsView x cpu.old areas.old sectors.now (B.holds backing.old) p → IsAbsent x p home t
         → Stayed p cpu.old.core cpu.new.core }
-    ensures came { OnOk result ((x : Storage) (p : Picture) (t : Thing) → MachineStands x cpu.old areas.old sectors.now (B.holds backing.old) p
+    ensures came { OnOk result ((x : Storage) (p : MachineView) (t : PagedObject) → MachineRepresentsView x cpu.old areas.old sectors.now (B.holds backing.old) p
         → IsAbsent x p home t → IsReadable x p → ReadIn x p t cpu.new areas.new sectors.now (B.holds backing.new)) }
-    ensures refused { OnErr result ((x : Storage) (p : Picture) (t : Thing) → MachineStands x cpu.old areas.old sectors.now (B.holds backing.old) p
-        → IsAbsent x p home t → MachineStands x cpu.new areas.new sectors.now (B.holds backing.new) p) }
+    ensures refused { OnErr result ((x : Storage) (p : MachineView) (t : PagedObject) → MachineRepresentsView x cpu.old areas.old sectors.now (B.holds backing.old) p
+        → IsAbsent x p home t → MachineRepresentsView x cpu.new areas.new sectors.now (B.holds backing.new) p) }
     ensures no_core { (need size : ℕ) → result ≢ Err (NoCore need size) }
     ensures not_full { (wants free : ℕ) → result ≢ Err (BackingFull wants free) }
-    ensures device { Served B.holds B.size B.calls B.faults backing.old backing.new }
+    ensures device { DeviceAfterCalls B.holds B.size B.calls B.faults backing.old backing.new }
     ensures cause { result ≡ Err BackingFault → Rose B.faults backing.old backing.new }
 {
     match page_in(cpu, areas, sectors, backing, home) {
@@ -63,7 +63,7 @@ fn page_in_room<B: Backing>(
     }
 }
 
-/// Gives the running code's area back, the last one, places the thing of an absent descriptor, and then the code again.
+/// Gives the running code's area back, the last one, places the object of an absent descriptor, and then the code again.
 fn last_resort<B: Backing>(
     cpu: &mut Cpu,
     areas: &mut Areas,
@@ -73,21 +73,21 @@ fn last_resort<B: Backing>(
     code: u32,
     spare: u32,
 ) -> Result<(), SpaceFault>
-    requires machine { (x : Storage) × (p : Picture) × (t : Thing) × (c : Thing) × MachineStands x cpu.old areas.old sectors.now (B.holds backing.old) p × IsAbsent x p home t × IsCode x p code spare c
+    requires machine { (x : Storage) × (p : MachineView) × (t : PagedObject) × (c : PagedObject) × MachineRepresentsView x cpu.old areas.old sectors.now (B.holds backing.old) p × IsAbsent x p home t × IsCode x p code spare c
         × IsAlone x spare × (need_both x c t ≤ length cpu.old.core) }
     requires same { B.size backing.old + 1 ≡ length sectors.now.links }
     ensures rest { cpu.new ≡ record cpu.old { core = cpu.new.core } }
     ensures len { length cpu.new.core ≡ length cpu.old.core }
     ensures areas { areas.new ≡ areas.old }
-    ensures outside { (x : Storage) (p : Picture) (t c : Thing) → MachineStands x cpu.old areas.old sectors.now (B.holds backing.old) p → IsAbsent x p home t → IsCode x p code spare c
+    ensures outside { (x : Storage) (p : MachineView) (t c : PagedObject) → MachineRepresentsView x cpu.old areas.old sectors.now (B.holds backing.old) p → IsAbsent x p home t → IsCode x p code spare c
         → IsAlone x spare → Stayed p cpu.old.core cpu.new.core }
-    ensures both { OnOk result ((x : Storage) (p : Picture) (t c : Thing) → MachineStands x cpu.old areas.old sectors.now (B.holds backing.old) p → IsAbsent x p home t
+    ensures both { OnOk result ((x : Storage) (p : MachineView) (t c : PagedObject) → MachineRepresentsView x cpu.old areas.old sectors.now (B.holds backing.old) p → IsAbsent x p home t
         → IsCode x p code spare c → IsAlone x spare → IsReadable x p → BothIn x p t c cpu.new areas.new sectors.now (B.holds backing.new)) }
-    ensures waits { OnErr result ((x : Storage) (p : Picture) (t c : Thing) → MachineStands x cpu.old areas.old sectors.now (B.holds backing.old) p → IsAbsent x p home t
+    ensures waits { OnErr result ((x : Storage) (p : MachineView) (t c : PagedObject) → MachineRepresentsView x cpu.old areas.old sectors.now (B.holds backing.old) p → IsAbsent x p home t
         → IsCode x p code spare c → IsAlone x spare → IsReadable x p → MayWait x p t c cpu.new areas.new sectors.now (B.holds backing.new)) }
     ensures no_core { (need size : ℕ) → result ≢ Err (NoCore need size) }
     ensures not_full { (wants free : ℕ) → result ≢ Err (BackingFull wants free) }
-    ensures device { Served B.holds B.size B.calls B.faults backing.old backing.new }
+    ensures device { DeviceAfterCalls B.holds B.size B.calls B.faults backing.old backing.new }
     ensures cause { result ≡ Err BackingFault → Rose B.faults backing.old backing.new }
 {
     discard(cpu, areas, spare);
@@ -105,21 +105,21 @@ fn force_code<B: Backing>(
     backing: &mut B,
     code: u32,
 ) -> Result<(), SpaceFault>
-    requires machine { (x : Storage) × (p : Picture) × (t : Thing) × MachineStands x cpu.old areas.old sectors.old (B.holds backing.old) p × IsAbsent x p code t × (need_one x t ≤ length cpu.old.core) }
+    requires machine { (x : Storage) × (p : MachineView) × (t : PagedObject) × MachineRepresentsView x cpu.old areas.old sectors.old (B.holds backing.old) p × IsAbsent x p code t × (need_one x t ≤ length cpu.old.core) }
     requires same { B.size backing.old + 1 ≡ length sectors.old.links }
     ensures rest { cpu.new ≡ record cpu.old { core = cpu.new.core } }
     ensures len { length cpu.new.core ≡ length cpu.old.core }
     ensures areas { areas.new ≡ areas.old }
-    ensures outside { (x : Storage) (p : Picture) (t : Thing) → MachineStands x cpu.old areas.old sectors.old (B.holds backing.old) p → IsAbsent x p code t → Stayed p cpu.old.core cpu.new.core }
-    ensures came { OnOk result ((x : Storage) (p : Picture) (t : Thing) → MachineStands x cpu.old areas.old sectors.old (B.holds backing.old) p → IsAbsent x p code t
-        → IsReadable x p → Came x p t 0 cpu.new areas.new sectors.new (B.holds backing.new)) }
-    ensures refused { OnErr result ((x : Storage) (p : Picture) (t : Thing) → MachineStands x cpu.old areas.old sectors.old (B.holds backing.old) p → IsAbsent x p code t
+    ensures outside { (x : Storage) (p : MachineView) (t : PagedObject) → MachineRepresentsView x cpu.old areas.old sectors.old (B.holds backing.old) p → IsAbsent x p code t → Stayed p cpu.old.core cpu.new.core }
+    ensures came { OnOk result ((x : Storage) (p : MachineView) (t : PagedObject) → MachineRepresentsView x cpu.old areas.old sectors.old (B.holds backing.old) p → IsAbsent x p code t
+        → IsReadable x p → PlacedAfterEviction x p t 0 cpu.new areas.new sectors.new (B.holds backing.new)) }
+    ensures refused { OnErr result ((x : Storage) (p : MachineView) (t : PagedObject) → MachineRepresentsView x cpu.old areas.old sectors.old (B.holds backing.old) p → IsAbsent x p code t
         → Waits x p 0 cpu.new areas.new sectors.new (B.holds backing.new)) }
-    ensures full { (x : Storage) (p : Picture) (t : Thing) (wants free : ℕ) → MachineStands x cpu.old areas.old sectors.old (B.holds backing.old) p → IsAbsent x p code t
+    ensures full { (x : Storage) (p : MachineView) (t : PagedObject) (wants free : ℕ) → MachineRepresentsView x cpu.old areas.old sectors.old (B.holds backing.old) p → IsAbsent x p code t
         → result ≡ Err (BackingFull wants free) → (w : Waits x p 0 cpu.new areas.new sectors.new (B.holds backing.new)) × IsShortBy w.storage p wants free }
     ensures no_core { (need size : ℕ) → result ≢ Err (NoCore need size) }
     ensures count { length sectors.new.links ≡ length sectors.old.links }
-    ensures device { Served B.holds B.size B.calls B.faults backing.old backing.new }
+    ensures device { DeviceAfterCalls B.holds B.size B.calls B.faults backing.old backing.new }
     ensures cause { result ≡ Err BackingFault → Rose B.faults backing.old backing.new }
 {
     match make_way(cpu, areas, sectors, backing, code, 0) {
@@ -129,7 +129,7 @@ fn force_code<B: Backing>(
     }
 }
 
-/// Brings the thing of an absent descriptor in where no hole has room for it, but core has it for the thing and the running
+/// Brings the object of an absent descriptor in where no hole has room for it, but core has it for the object and the running
 /// code.
 fn force_data<B: Backing>(
     cpu: &mut Cpu,
@@ -140,23 +140,23 @@ fn force_data<B: Backing>(
     code: u32,
     spare: u32,
 ) -> Result<(), SpaceFault>
-    requires machine { (x : Storage) × (p : Picture) × (t : Thing) × (c : Thing) × MachineStands x cpu.old areas.old sectors.old (B.holds backing.old) p × IsAbsent x p home t × IsCode x p code spare c
+    requires machine { (x : Storage) × (p : MachineView) × (t : PagedObject) × (c : PagedObject) × MachineRepresentsView x cpu.old areas.old sectors.old (B.holds backing.old) p × IsAbsent x p home t × IsCode x p code spare c
         × (need_both x c t ≤ length cpu.old.core) }
     requires same { B.size backing.old + 1 ≡ length sectors.old.links }
     ensures rest { cpu.new ≡ record cpu.old { core = cpu.new.core } }
     ensures len { length cpu.new.core ≡ length cpu.old.core }
     ensures areas { areas.new ≡ areas.old }
-    ensures outside { (x : Storage) (p : Picture) (t c : Thing) → MachineStands x cpu.old areas.old sectors.old (B.holds backing.old) p → IsAbsent x p home t → IsCode x p code spare c
+    ensures outside { (x : Storage) (p : MachineView) (t c : PagedObject) → MachineRepresentsView x cpu.old areas.old sectors.old (B.holds backing.old) p → IsAbsent x p home t → IsCode x p code spare c
         → Stayed p cpu.old.core cpu.new.core }
-    ensures both { OnOk result ((x : Storage) (p : Picture) (t c : Thing) → MachineStands x cpu.old areas.old sectors.old (B.holds backing.old) p → IsAbsent x p home t
+    ensures both { OnOk result ((x : Storage) (p : MachineView) (t c : PagedObject) → MachineRepresentsView x cpu.old areas.old sectors.old (B.holds backing.old) p → IsAbsent x p home t
         → IsCode x p code spare c → IsReadable x p → BothIn x p t c cpu.new areas.new sectors.new (B.holds backing.new)) }
-    ensures refused { OnErr result ((x : Storage) (p : Picture) (t c : Thing) → MachineStands x cpu.old areas.old sectors.old (B.holds backing.old) p → IsAbsent x p home t
+    ensures refused { OnErr result ((x : Storage) (p : MachineView) (t c : PagedObject) → MachineRepresentsView x cpu.old areas.old sectors.old (B.holds backing.old) p → IsAbsent x p home t
         → IsCode x p code spare c → IsReadable x p → MayWait x p t c cpu.new areas.new sectors.new (B.holds backing.new)) }
-    ensures full { (x : Storage) (p : Picture) (t : Thing) (wants free : ℕ) → MachineStands x cpu.old areas.old sectors.old (B.holds backing.old) p → IsAbsent x p home t
+    ensures full { (x : Storage) (p : MachineView) (t : PagedObject) (wants free : ℕ) → MachineRepresentsView x cpu.old areas.old sectors.old (B.holds backing.old) p → IsAbsent x p home t
         → result ≡ Err (BackingFull wants free) → (w : Waits x p spare cpu.new areas.new sectors.new (B.holds backing.new)) × IsShortBy w.storage p wants free }
     ensures no_core { (need size : ℕ) → result ≢ Err (NoCore need size) }
     ensures count { length sectors.new.links ≡ length sectors.old.links }
-    ensures device { Served B.holds B.size B.calls B.faults backing.old backing.new }
+    ensures device { DeviceAfterCalls B.holds B.size B.calls B.faults backing.old backing.new }
     ensures cause { result ≡ Err BackingFault → Rose B.faults backing.old backing.new }
 {
     match make_way(cpu, areas, sectors, backing, home, spare) {
@@ -169,7 +169,7 @@ fn force_data<B: Backing>(
 /// Brings the code of an absent segment descriptor into core. Where a hole has room for it no area moves and nothing is
 /// written to the device; else areas are written out, from the lowest up, until one has. Refused: core has not the words
 /// that the stacks and the code need; an array that must be written out finds too few free sectors; the device failed. After
-/// a refusal the same picture stands, and where a hole has room no area has moved.
+/// a refusal the same view stands, and where a hole has room no area has moved.
 pub fn bring_code<B: Backing>(
     cpu: &mut Cpu,
     areas: &mut Areas,
@@ -177,27 +177,27 @@ pub fn bring_code<B: Backing>(
     backing: &mut B,
     code: u32,
 ) -> Result<(), SpaceFault>
-    requires machine { (x : Storage) × (p : Picture) × (t : Thing) × MachineStands x cpu.old areas.old sectors.old (B.holds backing.old) p × IsAbsent x p code t }
+    requires machine { (x : Storage) × (p : MachineView) × (t : PagedObject) × MachineRepresentsView x cpu.old areas.old sectors.old (B.holds backing.old) p × IsAbsent x p code t }
     requires same { B.size backing.old + 1 ≡ length sectors.old.links }
     ensures rest { cpu.new ≡ record cpu.old { core = cpu.new.core } }
     ensures len { length cpu.new.core ≡ length cpu.old.core }
     ensures areas { areas.new ≡ areas.old }
-    ensures outside { (x : Storage) (p : Picture) (t : Thing) → MachineStands x cpu.old areas.old sectors.old (B.holds backing.old) p → IsAbsent x p code t → Stayed p cpu.old.core cpu.new.core }
-    ensures came { OnOk result ((x : Storage) (p : Picture) (t : Thing) → MachineStands x cpu.old areas.old sectors.old (B.holds backing.old) p → IsAbsent x p code t
-        → IsReadable x p → Came x p t 0 cpu.new areas.new sectors.new (B.holds backing.new)) }
-    ensures hole { (x : Storage) (p : Picture) (t : Thing) → MachineStands x cpu.old areas.old sectors.old (B.holds backing.old) p → IsAbsent x p code t
-        → HasRoom (length t.numbers + 2) x.spans → (sectors.new ≡ sectors.old) × Becomes B.holds backing.old backing.new (λ all. all)
+    ensures outside { (x : Storage) (p : MachineView) (t : PagedObject) → MachineRepresentsView x cpu.old areas.old sectors.old (B.holds backing.old) p → IsAbsent x p code t → Stayed p cpu.old.core cpu.new.core }
+    ensures came { OnOk result ((x : Storage) (p : MachineView) (t : PagedObject) → MachineRepresentsView x cpu.old areas.old sectors.old (B.holds backing.old) p → IsAbsent x p code t
+        → IsReadable x p → PlacedAfterEviction x p t 0 cpu.new areas.new sectors.new (B.holds backing.new)) }
+    ensures hole { (x : Storage) (p : MachineView) (t : PagedObject) → MachineRepresentsView x cpu.old areas.old sectors.old (B.holds backing.old) p → IsAbsent x p code t
+        → HasHole (length t.numbers + 2) x.spans → (sectors.new ≡ sectors.old) × Becomes B.holds backing.old backing.new (λ all. all)
         × OnOk result (IsReadable x p → ReadIn x p t cpu.new areas.new sectors.new (B.holds backing.new))
-        × OnErr result (MachineStands x cpu.new areas.new sectors.new (B.holds backing.new) p) }
-    ensures refused { OnErr result ((x : Storage) (p : Picture) (t : Thing) → MachineStands x cpu.old areas.old sectors.old (B.holds backing.old) p → IsAbsent x p code t
+        × OnErr result (MachineRepresentsView x cpu.new areas.new sectors.new (B.holds backing.new) p) }
+    ensures refused { OnErr result ((x : Storage) (p : MachineView) (t : PagedObject) → MachineRepresentsView x cpu.old areas.old sectors.old (B.holds backing.old) p → IsAbsent x p code t
         → Waits x p 0 cpu.new areas.new sectors.new (B.holds backing.new)) }
-    ensures full { (x : Storage) (p : Picture) (t : Thing) (wants free : ℕ) → MachineStands x cpu.old areas.old sectors.old (B.holds backing.old) p → IsAbsent x p code t
-        → result ≡ Err (BackingFull wants free) → (HasRoom (length t.numbers + 2) x.spans → ⊥) × (w : Waits x p 0 cpu.new areas.new sectors.new (B.holds backing.new)) × IsShortBy w.storage p wants free }
-    ensures no_core { (x : Storage) (p : Picture) (t : Thing) (need size : ℕ) → MachineStands x cpu.old areas.old sectors.old (B.holds backing.old) p → IsAbsent x p code t
+    ensures full { (x : Storage) (p : MachineView) (t : PagedObject) (wants free : ℕ) → MachineRepresentsView x cpu.old areas.old sectors.old (B.holds backing.old) p → IsAbsent x p code t
+        → result ≡ Err (BackingFull wants free) → (HasHole (length t.numbers + 2) x.spans → ⊥) × (w : Waits x p 0 cpu.new areas.new sectors.new (B.holds backing.new)) × IsShortBy w.storage p wants free }
+    ensures no_core { (x : Storage) (p : MachineView) (t : PagedObject) (need size : ℕ) → MachineRepresentsView x cpu.old areas.old sectors.old (B.holds backing.old) p → IsAbsent x p code t
         → (result ≡ Err (NoCore need size)) ↔ ((length cpu.old.core < need_one x t) × (need ≡ need_one x t) × (size ≡ length cpu.old.core)) }
     ensures unchanged { (need size : ℕ) → result ≡ Err (NoCore need size) → (cpu.new ≡ cpu.old) × (sectors.new ≡ sectors.old) × (backing.new ≡ backing.old) }
     ensures count { length sectors.new.links ≡ length sectors.old.links }
-    ensures device { Served B.holds B.size B.calls B.faults backing.old backing.new }
+    ensures device { DeviceAfterCalls B.holds B.size B.calls B.faults backing.old backing.new }
     ensures cause { result ≡ Err BackingFault → Rose B.faults backing.old backing.new }
 {
     let size = cpu.core.size();
@@ -216,7 +216,7 @@ pub fn bring_code<B: Backing>(
 /// room for it no area moves and nothing is written to the device; else areas are written out, from the lowest up, until one
 /// has; at last the running code gives way too and comes back behind the array. Refused: core has not the words that the
 /// stacks, the code and the array need; an array that must be written out finds too few free sectors; the device failed.
-/// After a refusal the same picture stands, and the array or the running code is absent. An array of zeros that was never
+/// After a refusal the same view stands, and the array or the running code is absent. An array of zeros that was never
 /// touched is never refused where a hole has room, and calls no device.
 pub fn bring_data<B: Backing>(
     cpu: &mut Cpu,
@@ -226,30 +226,30 @@ pub fn bring_data<B: Backing>(
     home: u32,
     code: u32,
 ) -> Result<(), SpaceFault>
-    requires machine { (x : Storage) × (p : Picture) × (t : Thing) × (c : Thing) × (at : ℕ) × MachineStands x cpu.old areas.old sectors.old (B.holds backing.old) p × IsAbsent x p home t × IsCode x p code at c }
+    requires machine { (x : Storage) × (p : MachineView) × (t : PagedObject) × (c : PagedObject) × (at : ℕ) × MachineRepresentsView x cpu.old areas.old sectors.old (B.holds backing.old) p × IsAbsent x p home t × IsCode x p code at c }
     requires same { B.size backing.old + 1 ≡ length sectors.old.links }
     ensures rest { cpu.new ≡ record cpu.old { core = cpu.new.core } }
     ensures len { length cpu.new.core ≡ length cpu.old.core }
     ensures areas { areas.new ≡ areas.old }
-    ensures outside { (x : Storage) (p : Picture) (t c : Thing) (at : ℕ) → MachineStands x cpu.old areas.old sectors.old (B.holds backing.old) p → IsAbsent x p home t → IsCode x p code at c
+    ensures outside { (x : Storage) (p : MachineView) (t c : PagedObject) (at : ℕ) → MachineRepresentsView x cpu.old areas.old sectors.old (B.holds backing.old) p → IsAbsent x p home t → IsCode x p code at c
         → Stayed p cpu.old.core cpu.new.core }
-    ensures both { OnOk result ((x : Storage) (p : Picture) (t c : Thing) (at : ℕ) → MachineStands x cpu.old areas.old sectors.old (B.holds backing.old) p → IsAbsent x p home t
+    ensures both { OnOk result ((x : Storage) (p : MachineView) (t c : PagedObject) (at : ℕ) → MachineRepresentsView x cpu.old areas.old sectors.old (B.holds backing.old) p → IsAbsent x p home t
         → IsCode x p code at c → IsReadable x p → BothIn x p t c cpu.new areas.new sectors.new (B.holds backing.new)) }
-    ensures hole { (x : Storage) (p : Picture) (t : Thing) → MachineStands x cpu.old areas.old sectors.old (B.holds backing.old) p → IsAbsent x p home t
-        → HasRoom (length t.numbers + 2) x.spans → (sectors.new ≡ sectors.old) × Becomes B.holds backing.old backing.new (λ all. all)
+    ensures hole { (x : Storage) (p : MachineView) (t : PagedObject) → MachineRepresentsView x cpu.old areas.old sectors.old (B.holds backing.old) p → IsAbsent x p home t
+        → HasHole (length t.numbers + 2) x.spans → (sectors.new ≡ sectors.old) × Becomes B.holds backing.old backing.new (λ all. all)
         × OnOk result (IsReadable x p → ReadIn x p t cpu.new areas.new sectors.new (B.holds backing.new))
-        × OnErr result (MachineStands x cpu.new areas.new sectors.new (B.holds backing.new) p) }
-    ensures zeros { (x : Storage) (p : Picture) (t c : Thing) (at : ℕ) → MachineStands x cpu.old areas.old sectors.old (B.holds backing.old) p → IsAbsent x p home t → IsCode x p code at c
-        → HasRoom (length t.numbers + 2) x.spans → (x.held home).chain ≡ 0 → IsOk result × (backing.new ≡ backing.old) }
-    ensures refused { OnErr result ((x : Storage) (p : Picture) (t c : Thing) (at : ℕ) → MachineStands x cpu.old areas.old sectors.old (B.holds backing.old) p → IsAbsent x p home t
+        × OnErr result (MachineRepresentsView x cpu.new areas.new sectors.new (B.holds backing.new) p) }
+    ensures zeros { (x : Storage) (p : MachineView) (t c : PagedObject) (at : ℕ) → MachineRepresentsView x cpu.old areas.old sectors.old (B.holds backing.old) p → IsAbsent x p home t → IsCode x p code at c
+        → HasHole (length t.numbers + 2) x.spans → (x.held home).chain ≡ 0 → IsOk result × (backing.new ≡ backing.old) }
+    ensures refused { OnErr result ((x : Storage) (p : MachineView) (t c : PagedObject) (at : ℕ) → MachineRepresentsView x cpu.old areas.old sectors.old (B.holds backing.old) p → IsAbsent x p home t
         → IsCode x p code at c → IsReadable x p → MayWait x p t c cpu.new areas.new sectors.new (B.holds backing.new)) }
-    ensures full { (x : Storage) (p : Picture) (t c : Thing) (at wants free : ℕ) → MachineStands x cpu.old areas.old sectors.old (B.holds backing.old) p → IsAbsent x p home t → IsCode x p code at c
-        → result ≡ Err (BackingFull wants free) → (HasRoom (length t.numbers + 2) x.spans → ⊥) × (w : Waits x p at cpu.new areas.new sectors.new (B.holds backing.new)) × IsShortBy w.storage p wants free }
-    ensures no_core { (x : Storage) (p : Picture) (t c : Thing) (at need size : ℕ) → MachineStands x cpu.old areas.old sectors.old (B.holds backing.old) p → IsAbsent x p home t → IsCode x p code at c
+    ensures full { (x : Storage) (p : MachineView) (t c : PagedObject) (at wants free : ℕ) → MachineRepresentsView x cpu.old areas.old sectors.old (B.holds backing.old) p → IsAbsent x p home t → IsCode x p code at c
+        → result ≡ Err (BackingFull wants free) → (HasHole (length t.numbers + 2) x.spans → ⊥) × (w : Waits x p at cpu.new areas.new sectors.new (B.holds backing.new)) × IsShortBy w.storage p wants free }
+    ensures no_core { (x : Storage) (p : MachineView) (t c : PagedObject) (at need size : ℕ) → MachineRepresentsView x cpu.old areas.old sectors.old (B.holds backing.old) p → IsAbsent x p home t → IsCode x p code at c
         → (result ≡ Err (NoCore need size)) ↔ ((length cpu.old.core < need_both x c t) × (need ≡ need_both x c t) × (size ≡ length cpu.old.core)) }
     ensures unchanged { (need size : ℕ) → result ≡ Err (NoCore need size) → (cpu.new ≡ cpu.old) × (sectors.new ≡ sectors.old) × (backing.new ≡ backing.old) }
     ensures count { length sectors.new.links ≡ length sectors.old.links }
-    ensures device { Served B.holds B.size B.calls B.faults backing.old backing.new }
+    ensures device { DeviceAfterCalls B.holds B.size B.calls B.faults backing.old backing.new }
     ensures cause { result ≡ Err BackingFault → Rose B.faults backing.old backing.new }
 {
     let size = cpu.core.size();

@@ -7,12 +7,12 @@ ghost use Rattle.b67_backing.specs.Shelf.{Shelf, HasChain};
 ghost use Rattle.b67_backing.specs.Held.{Becomes, Counts, sectors_for};
 ghost use Rattle.b67_io.specs.Causes.{HasCause, Rose};
 ghost use Rattle.b67_ctl.specs.declared.registers.Regs.{Regs};
-ghost use Rattle.b67_stack.specs.Picture.{Thing, Picture, home_word_of, home_desc, tag_of};
+ghost use Rattle.b67_stack.specs.MachineView.{PagedObject, MachineView, home_word_of, home_desc, tag_of};
 ghost use Rattle.b67_ctl.specs.Descriptors.{data_word};
-ghost use Rattle.b67_stack.specs.Stands.{Storage, Stands};
-ghost use Rattle.b67_layout_storage.specs.Machine.{MachineStands, IsAbsent, AreBits, HasRoom, Stayed, renumbered};
+ghost use Rattle.b67_stack.specs.Represents.{Storage, Represents};
+ghost use Rattle.b67_layout_storage.specs.Machine.{MachineRepresentsView, IsAbsent, AreBits, HasHole, Stayed, renumbered};
 ghost use Rattle.b67_presence_page.specs.declared.paging.Refusal.TheVariants.{NoHole, BackingFault};
-ghost use Rattle.b67_presence_page.specs.Brought.{brought, IsPlace, IsKnown, resting, Reads};
+ghost use Rattle.b67_presence_page.specs.Brought.{brought, IsPlace, IsKnown, resting, ReadFromChain};
 
 use b67_area::{Areas, Kind};
 use b67_backing::{Backing, Sectors};
@@ -47,8 +47,8 @@ fn data_kind(read_only: bool) -> Kind
 impl Resting {
     /// What the descriptor at an address says.
     pub fn at(core: &Core, home: u32) -> Resting
-        requires { (x : Storage) × (r : Regs) × (p : Picture) × (t : Thing) × Stands x core.now r p × IsAbsent x p home t }
-        ensures { (x : Storage) (r : Regs) (p : Picture) (t : Thing) → Stands x core.now r p → IsAbsent x p home t → result ≡ resting x t }
+        requires { (x : Storage) × (r : Regs) × (p : MachineView) × (t : PagedObject) × Represents x core.now r p × IsAbsent x p home t }
+        ensures { (x : Storage) (r : Regs) (p : MachineView) (t : PagedObject) → Represents x core.now r p → IsAbsent x p home t → result ≡ resting x t }
     {
         let w = core.get(home);
         match SegDesc::from_word(w) {
@@ -86,8 +86,8 @@ impl Resting {
         ensures { result ≡ home_word_of self.kind self.words (record { area = Some at; chain = self.first }) }
     {
         match self.kind {
-            Kind::Array => data(false, self.words, at),
-            Kind::Row => data(true, self.words, at),
+            Kind::Array => DataDesc::original(true, false, self.words, at),
+            Kind::Row => DataDesc::original(true, true, self.words, at),
             Kind::Code => SegDesc {
                 present: true,
                 words: self.words,
@@ -109,7 +109,7 @@ impl Resting {
         requires inside { at + self.words ≤ length core.old }
         requires chain { (self.first ≡ 0) ⊎ ((st : Shelf) × HasChain sectors.now st self.first (sectors_for self.words)) }
         requires same { B.size backing.old + 1 ≡ length sectors.now.links }
-        ensures reads { OnOk result (self.first ≢ 0 → Reads (B.holds backing.old) sectors.now self.first at self.words (tag_of self.kind) core.new) }
+        ensures reads { OnOk result (self.first ≢ 0 → ReadFromChain (B.holds backing.old) sectors.now self.first at self.words (tag_of self.kind) core.new) }
         ensures zeros { self.first ≡ 0 → IsOk result × (backing.new ≡ backing.old) × ((i : ℕ) → at ≤ i → i < at + self.words → slice_get core.new i ≡ Some (word 0 0)) }
         ensures tags { OnOk result (self.first ≢ 0 → (i : ℕ) → i < self.words → (w : Tagged) × (slice_get core.new (at + i) ≡ Some w) × (w.tag ≡ tag_of self.kind)) }
         ensures low { OnOk result (self.first ≢ 0 → (i : ℕ) → i < self.words → (w : Tagged) × (slice_get core.new (at + i) ≡ Some w) × (w.bits < 2 ^ 48)) }
@@ -128,23 +128,6 @@ impl Resting {
     }
 }
 
-/// The word of a present original.
-fn data(read_only: bool, words: u32, at: u32) -> Word
-    requires words { words < 2 ^ 20 }
-    requires address { at < 2 ^ 20 }
-    ensures { result ≡ data_word (home_desc read_only words (record { area = Some at; chain = 0 })) }
-{
-    DataDesc {
-        present: true,
-        copy: false,
-        indexed: false,
-        read_only,
-        length: words,
-        address: at,
-    }
-    .word()
-}
-
 /// Brings the array, data row or segment of an absent original or segment descriptor into the lowest hole with room for it.
 /// No area moves. Where it was never touched, no device is called, and only want of a hole refuses it.
 pub fn page_in<B: Backing>(
@@ -154,28 +137,28 @@ pub fn page_in<B: Backing>(
     backing: &mut B,
     home: u32,
 ) -> Result<(), Refusal>
-    requires machine { (x : Storage) × (p : Picture) × (t : Thing) × MachineStands x cpu.old areas.old sectors.now (B.holds backing.old) p × IsAbsent x p home t }
+    requires machine { (x : Storage) × (p : MachineView) × (t : PagedObject) × MachineRepresentsView x cpu.old areas.old sectors.now (B.holds backing.old) p × IsAbsent x p home t }
     requires same { B.size backing.old + 1 ≡ length sectors.now.links }
     ensures rest { cpu.new ≡ record cpu.old { core = cpu.new.core } }
     ensures len { length cpu.new.core ≡ length cpu.old.core }
     ensures areas { areas.new ≡ areas.old }
-    ensures outside { (x : Storage) (p : Picture) (t : Thing) → MachineStands x cpu.old areas.old sectors.now (B.holds backing.old) p → IsAbsent x p home t
+    ensures outside { (x : Storage) (p : MachineView) (t : PagedObject) → MachineRepresentsView x cpu.old areas.old sectors.now (B.holds backing.old) p → IsAbsent x p home t
         → Stayed p cpu.old.core cpu.new.core }
-    ensures known { OnOk result ((x : Storage) (p : Picture) (t : Thing) → MachineStands x cpu.old areas.old sectors.now (B.holds backing.old) p
+    ensures known { OnOk result ((x : Storage) (p : MachineView) (t : PagedObject) → MachineRepresentsView x cpu.old areas.old sectors.now (B.holds backing.old) p
         → IsAbsent x p home t → IsKnown x t
-        → (at : ℕ) × IsPlace x t at × MachineStands (brought x t at) cpu.new areas.new sectors.now (B.holds backing.new) p) }
-    ensures untold { OnOk result ((x : Storage) (p : Picture) (t : Thing) → MachineStands x cpu.old areas.old sectors.now (B.holds backing.old) p
+        → (at : ℕ) × IsPlace x t at × MachineRepresentsView (brought x t at) cpu.new areas.new sectors.now (B.holds backing.new) p) }
+    ensures untold { OnOk result ((x : Storage) (p : MachineView) (t : PagedObject) → MachineRepresentsView x cpu.old areas.old sectors.now (B.holds backing.old) p
         → IsAbsent x p home t → x.device ≡ None
         → (at : ℕ) × (ns : List ℕ) × IsPlace x t at × (length ns ≡ length t.numbers) × AreBits ns
-        × MachineStands (brought x t at) cpu.new areas.new sectors.now (B.holds backing.new) (renumbered p home ns)) }
-    ensures refused { OnErr result ((x : Storage) (p : Picture) (t : Thing) → MachineStands x cpu.old areas.old sectors.now (B.holds backing.old) p
-        → IsAbsent x p home t → MachineStands x cpu.new areas.new sectors.now (B.holds backing.new) p) }
-    ensures full { (x : Storage) (p : Picture) (t : Thing) → MachineStands x cpu.old areas.old sectors.now (B.holds backing.old) p
-        → IsAbsent x p home t → (result ≡ Err NoHole) ↔ (HasRoom (length t.numbers + 2) x.spans → ⊥) }
+        × MachineRepresentsView (brought x t at) cpu.new areas.new sectors.now (B.holds backing.new) (renumbered p home ns)) }
+    ensures refused { OnErr result ((x : Storage) (p : MachineView) (t : PagedObject) → MachineRepresentsView x cpu.old areas.old sectors.now (B.holds backing.old) p
+        → IsAbsent x p home t → MachineRepresentsView x cpu.new areas.new sectors.now (B.holds backing.new) p) }
+    ensures full { (x : Storage) (p : MachineView) (t : PagedObject) → MachineRepresentsView x cpu.old areas.old sectors.now (B.holds backing.old) p
+        → IsAbsent x p home t → (result ≡ Err NoHole) ↔ (HasHole (length t.numbers + 2) x.spans → ⊥) }
     ensures unchanged { result ≡ Err NoHole → (cpu.new ≡ cpu.old) × (backing.new ≡ backing.old) }
-    ensures untouched { (x : Storage) (p : Picture) (t : Thing) → MachineStands x cpu.old areas.old sectors.now (B.holds backing.old) p
+    ensures untouched { (x : Storage) (p : MachineView) (t : PagedObject) → MachineRepresentsView x cpu.old areas.old sectors.now (B.holds backing.old) p
         → IsAbsent x p home t → (x.held home).chain ≡ 0 → backing.new ≡ backing.old }
-    ensures zeros { (x : Storage) (p : Picture) (t : Thing) → MachineStands x cpu.old areas.old sectors.now (B.holds backing.old) p
+    ensures zeros { (x : Storage) (p : MachineView) (t : PagedObject) → MachineRepresentsView x cpu.old areas.old sectors.now (B.holds backing.old) p
         → IsAbsent x p home t → (x.held home).chain ≡ 0 → result ≢ Err BackingFault }
     ensures device { Becomes B.holds backing.old backing.new (λ all. all) }
     ensures size { B.size backing.new ≡ B.size backing.old }
@@ -183,13 +166,13 @@ pub fn page_in<B: Backing>(
     ensures later { B.faults backing.old ≤ B.faults backing.new }
     ensures cause { result ≡ Err BackingFault → Rose B.faults backing.old backing.new }
 {
-    let thing = Resting::at(&cpu.core, home);
-    match areas.place(&mut cpu.core, thing.kind, thing.words, home) {
+    let object = Resting::at(&cpu.core, home);
+    match areas.place(&mut cpu.core, object.kind, object.words, home) {
         None => Err(Refusal::NoHole),
-        Some(at) => match thing.load(&mut cpu.core, at, sectors, backing) {
+        Some(at) => match object.load(&mut cpu.core, at, sectors, backing) {
             Ok(()) => {
-                areas.keep(&mut cpu.core, at, thing.first);
-                cpu.core.set(home, thing.present(at));
+                areas.keep(&mut cpu.core, at, object.first);
+                cpu.core.set(home, object.present(at));
                 Ok(())
             }
             Err(_) => {

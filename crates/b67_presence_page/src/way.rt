@@ -1,16 +1,16 @@
-//! Areas that give way to a thing.
+//! Areas that give way to an object.
 
 ghost use Rattle.std.specs.Prelude.{◌≡◌, ◌≢◌, ℕ, ◌+◌, ◌<◌, ◌≤◌, Some, None, Ok, Err, OnOk, OnErr, length, true, false};
 ghost use Rattle.b67_area.specs.declared.Info.{Info};
 ghost use Rattle.b67_area.specs.Spans.{area_at};
 ghost use Rattle.b67_backing.specs.declared.SpaceFault.TheVariants.{NoCore, BackingFull, BackingFault};
 ghost use Rattle.b67_io.specs.Causes.{Rose};
-ghost use Rattle.b67_stack.specs.Picture.{Thing, Picture};
-ghost use Rattle.b67_stack.specs.Stands.{Storage};
-ghost use Rattle.b67_layout_storage.specs.Machine.{MachineStands, IsAbsent, IsPresent, Served, HasRoom, Stayed};
+ghost use Rattle.b67_stack.specs.MachineView.{PagedObject, MachineView};
+ghost use Rattle.b67_stack.specs.Represents.{Storage};
+ghost use Rattle.b67_layout_storage.specs.Machine.{MachineRepresentsView, IsAbsent, IsPresent, DeviceAfterCalls, HasHole, Stayed};
 ghost use Rattle.b67_overlay.specs.Overlaid.{overlaid};
-ghost use Rattle.b67_overlay.specs.Sheds.{IsShortBy};
-ghost use Rattle.b67_presence_page.specs.Brings.{IsReadable, Came, Waits};
+ghost use Rattle.b67_overlay.specs.AreasEvicted.{IsShortBy};
+ghost use Rattle.b67_presence_page.specs.Brings.{IsReadable, PlacedAfterEviction, Waits};
 
 use crate::paging::{Refusal, page_in};
 use b67_area::Areas;
@@ -18,7 +18,7 @@ use b67_backing::{Backing, Sectors, SpaceFault};
 use b67_overlay::overlay;
 use b67_stack::Cpu;
 
-/// Takes an area out of core, if it isn't the one at `spare`, and tries to bring the thing of an absent descriptor in. False
+/// Takes an area out of core, if it isn't the one at `spare`, and tries to bring the object of an absent descriptor in. False
 /// is where there is still no hole for it, or nothing was done.
 fn give_way<B: Backing>(
     cpu: &mut Cpu,
@@ -29,26 +29,26 @@ fn give_way<B: Backing>(
     at: u32,
     spare: u32,
 ) -> Result<bool, SpaceFault>
-    requires machine { (x : Storage) × (p : Picture) × (t : Thing) × (u : Thing) × MachineStands x cpu.old areas.old sectors.old (B.holds backing.old) p × IsAbsent x p home t × IsPresent x p at u }
+    requires machine { (x : Storage) × (p : MachineView) × (t : PagedObject) × (u : PagedObject) × MachineRepresentsView x cpu.old areas.old sectors.old (B.holds backing.old) p × IsAbsent x p home t × IsPresent x p at u }
     requires same { B.size backing.old + 1 ≡ length sectors.old.links }
     ensures rest { cpu.new ≡ record cpu.old { core = cpu.new.core } }
     ensures len { length cpu.new.core ≡ length cpu.old.core }
     ensures areas { areas.new ≡ areas.old }
-    ensures outside { (x : Storage) (p : Picture) (t u : Thing) → MachineStands x cpu.old areas.old sectors.old (B.holds backing.old) p → IsAbsent x p home t → IsPresent x p at u
+    ensures outside { (x : Storage) (p : MachineView) (t u : PagedObject) → MachineRepresentsView x cpu.old areas.old sectors.old (B.holds backing.old) p → IsAbsent x p home t → IsPresent x p at u
         → Stayed p cpu.old.core cpu.new.core }
-    ensures came { result ≡ Ok true → (x : Storage) (p : Picture) (t u : Thing) → MachineStands x cpu.old areas.old sectors.old (B.holds backing.old) p
-        → IsAbsent x p home t → IsPresent x p at u → IsReadable x p → Came x p t spare cpu.new areas.new sectors.new (B.holds backing.new) }
-    ensures gone { result ≡ Ok false → (x : Storage) (p : Picture) (t u : Thing) → MachineStands x cpu.old areas.old sectors.old (B.holds backing.old) p
+    ensures came { result ≡ Ok true → (x : Storage) (p : MachineView) (t u : PagedObject) → MachineRepresentsView x cpu.old areas.old sectors.old (B.holds backing.old) p
+        → IsAbsent x p home t → IsPresent x p at u → IsReadable x p → PlacedAfterEviction x p t spare cpu.new areas.new sectors.new (B.holds backing.new) }
+    ensures gone { result ≡ Ok false → (x : Storage) (p : MachineView) (t u : PagedObject) → MachineRepresentsView x cpu.old areas.old sectors.old (B.holds backing.old) p
         → IsAbsent x p home t → IsPresent x p at u
-        → (at ≡ spare → MachineStands x cpu.new areas.new sectors.new (B.holds backing.new) p)
-        × (at ≢ spare → MachineStands (overlaid x u at (B.holds backing.new)) cpu.new areas.new sectors.new (B.holds backing.new) p) }
-    ensures refused { OnErr result ((x : Storage) (p : Picture) (t u : Thing) → MachineStands x cpu.old areas.old sectors.old (B.holds backing.old) p
+        → (at ≡ spare → MachineRepresentsView x cpu.new areas.new sectors.new (B.holds backing.new) p)
+        × (at ≢ spare → MachineRepresentsView (overlaid x u at (B.holds backing.new)) cpu.new areas.new sectors.new (B.holds backing.new) p) }
+    ensures refused { OnErr result ((x : Storage) (p : MachineView) (t u : PagedObject) → MachineRepresentsView x cpu.old areas.old sectors.old (B.holds backing.old) p
         → IsAbsent x p home t → IsPresent x p at u → Waits x p spare cpu.new areas.new sectors.new (B.holds backing.new)) }
-    ensures full { (x : Storage) (p : Picture) (t u : Thing) (wants free : ℕ) → MachineStands x cpu.old areas.old sectors.old (B.holds backing.old) p → IsAbsent x p home t → IsPresent x p at u
+    ensures full { (x : Storage) (p : MachineView) (t u : PagedObject) (wants free : ℕ) → MachineRepresentsView x cpu.old areas.old sectors.old (B.holds backing.old) p → IsAbsent x p home t → IsPresent x p at u
         → result ≡ Err (BackingFull wants free) → (w : Waits x p spare cpu.new areas.new sectors.new (B.holds backing.new)) × IsShortBy w.storage p wants free }
     ensures no_core { (need size : ℕ) → result ≢ Err (NoCore need size) }
     ensures count { length sectors.new.links ≡ length sectors.old.links }
-    ensures device { Served B.holds B.size B.calls B.faults backing.old backing.new }
+    ensures device { DeviceAfterCalls B.holds B.size B.calls B.faults backing.old backing.new }
     ensures cause { result ≡ Err BackingFault → Rose B.faults backing.old backing.new }
 {
     if at == spare {
@@ -64,7 +64,7 @@ fn give_way<B: Backing>(
     }
 }
 
-/// Takes areas out of core, from the lowest up, but not the one at `spare`, until the thing of an absent descriptor is
+/// Takes areas out of core, from the lowest up, but not the one at `spare`, until the object of an absent descriptor is
 /// brought in. False is where no other area is left and there is no hole for it.
 pub fn make_way<B: Backing>(
     cpu: &mut Cpu,
@@ -74,24 +74,24 @@ pub fn make_way<B: Backing>(
     home: u32,
     spare: u32,
 ) -> Result<bool, SpaceFault>
-    requires machine { (x : Storage) × (p : Picture) × (t : Thing) × MachineStands x cpu.old areas.old sectors.old (B.holds backing.old) p × IsAbsent x p home t }
+    requires machine { (x : Storage) × (p : MachineView) × (t : PagedObject) × MachineRepresentsView x cpu.old areas.old sectors.old (B.holds backing.old) p × IsAbsent x p home t }
     requires same { B.size backing.old + 1 ≡ length sectors.old.links }
     ensures rest { cpu.new ≡ record cpu.old { core = cpu.new.core } }
     ensures len { length cpu.new.core ≡ length cpu.old.core }
     ensures areas { areas.new ≡ areas.old }
-    ensures outside { (x : Storage) (p : Picture) (t : Thing) → MachineStands x cpu.old areas.old sectors.old (B.holds backing.old) p → IsAbsent x p home t
+    ensures outside { (x : Storage) (p : MachineView) (t : PagedObject) → MachineRepresentsView x cpu.old areas.old sectors.old (B.holds backing.old) p → IsAbsent x p home t
         → Stayed p cpu.old.core cpu.new.core }
-    ensures came { result ≡ Ok true → (x : Storage) (p : Picture) (t : Thing) → MachineStands x cpu.old areas.old sectors.old (B.holds backing.old) p
-        → IsAbsent x p home t → IsReadable x p → Came x p t spare cpu.new areas.new sectors.new (B.holds backing.new) }
-    ensures clear { result ≡ Ok false → (x : Storage) (p : Picture) (t : Thing) → MachineStands x cpu.old areas.old sectors.old (B.holds backing.old) p → IsAbsent x p home t
+    ensures came { result ≡ Ok true → (x : Storage) (p : MachineView) (t : PagedObject) → MachineRepresentsView x cpu.old areas.old sectors.old (B.holds backing.old) p
+        → IsAbsent x p home t → IsReadable x p → PlacedAfterEviction x p t spare cpu.new areas.new sectors.new (B.holds backing.new) }
+    ensures clear { result ≡ Ok false → (x : Storage) (p : MachineView) (t : PagedObject) → MachineRepresentsView x cpu.old areas.old sectors.old (B.holds backing.old) p → IsAbsent x p home t
         → (w : Waits x p spare cpu.new areas.new sectors.new (B.holds backing.new)) × ((at : ℕ) (a : Info) → area_at w.storage.low w.storage.spans at ≡ Some a → at ≡ spare) }
-    ensures refused { OnErr result ((x : Storage) (p : Picture) (t : Thing) → MachineStands x cpu.old areas.old sectors.old (B.holds backing.old) p
+    ensures refused { OnErr result ((x : Storage) (p : MachineView) (t : PagedObject) → MachineRepresentsView x cpu.old areas.old sectors.old (B.holds backing.old) p
         → IsAbsent x p home t → Waits x p spare cpu.new areas.new sectors.new (B.holds backing.new)) }
-    ensures full { (x : Storage) (p : Picture) (t : Thing) (wants free : ℕ) → MachineStands x cpu.old areas.old sectors.old (B.holds backing.old) p → IsAbsent x p home t
+    ensures full { (x : Storage) (p : MachineView) (t : PagedObject) (wants free : ℕ) → MachineRepresentsView x cpu.old areas.old sectors.old (B.holds backing.old) p → IsAbsent x p home t
         → result ≡ Err (BackingFull wants free) → (w : Waits x p spare cpu.new areas.new sectors.new (B.holds backing.new)) × IsShortBy w.storage p wants free }
     ensures no_core { (need size : ℕ) → result ≢ Err (NoCore need size) }
     ensures count { length sectors.new.links ≡ length sectors.old.links }
-    ensures device { Served B.holds B.size B.calls B.faults backing.old backing.new }
+    ensures device { DeviceAfterCalls B.holds B.size B.calls B.faults backing.old backing.new }
     ensures cause { result ≡ Err BackingFault → Rose B.faults backing.old backing.new }
 {
     let mut next = areas.first(&cpu.core);

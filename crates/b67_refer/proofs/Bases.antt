@@ -4,18 +4,18 @@ use Rattle.std.specs.Prelude.{nat_lt}
 use Rattle.std.proofs.lemmas.Bool.{lt-ltb, le-ltb}
 use Rattle.b67_word.specs.Tagged.{Tagged}
 use Rattle.b67_ctl.specs.declared.registers.Regs.{Regs}
-use Rattle.b67_stack.specs.Picture.{Picture}
+use Rattle.b67_stack.specs.MachineView.{MachineView}
 use Rattle.b67_stack.proofs.Bases.{base-apart}
-use Rattle.b67_layout.specs.Plan.{base_of}
-use Rattle.b67_layout.specs.Layout.{picture}
-use Rattle.b67_layout.specs.Session.{with_things}
+use Rattle.b67_layout.specs.Placement.{base_of}
+use Rattle.b67_layout.specs.Layout.{machine_view}
+use Rattle.b67_layout.specs.Session.{with_objects}
 use Rattle.b67_layout.proofs.Sessions.{dictionary_below}
-use Rattle.b67_layout.proofs.Others.{keyed-has}
-use Rattle.b67_refer.specs.Scene.{Scene, IsStackOf}
+use Rattle.b67_refer.specs.RunningContext.{RunningContext, IsStackOf}
+use Rattle.b67_lemmas.proofs.Members.{keyed-has}
 
-module _ (core : List Tagged) (r : Regs) (a : Scene core r) where
-  abbrev pub pictured : Picture
-  pictured = with_things a.left (picture a.plan a.session.jobs)
+module _ (core : List Tagged) (r : Regs) (a : RunningContext core r) where
+  abbrev pub pictured : MachineView
+  pictured = with_objects a.left (machine_view a.plan a.session.jobs)
 
   -- a slot lies inside core
   pub slot_inside : (k : ℕ) → k < a.plan.peak → (a.plan.stacks + k * a.plan.size + a.plan.size ≤ a.storage.low) × (a.storage.low ≤ length core) × (length core < 2 ^ 20)
@@ -30,12 +30,12 @@ module _ (core : List Tagged) (r : Regs) (a : Scene core r) where
   pub size_is : r.stack_size ≡ a.plan.size
   size_is = a.holds.memory.slots.regs.size
 
-  pub dictionary_is : r.dict ≡ a.plan.dictionary a.member.setting.number
+  pub dictionary_is : r.dict ≡ a.plan.dictionary a.member.constants.number
   dictionary_is = (a.holds.running a.member a.task a.running).dict
 
   -- the dictionary lies below slot 0
-  pub dictionary_low : a.plan.dictionary a.member.setting.number + 2 ≤ a.plan.stacks
-  dictionary_low = dictionary_below a.plan 160 a.session.jobs a.member a.holds.fits.dictionaries (keyed-has (λ m. m.setting.number) a.member.setting.number a.session.jobs a.member a.running.member)
+  pub dictionary_low : a.plan.dictionary a.member.constants.number + 2 ≤ a.plan.stacks
+  dictionary_low = dictionary_below a.plan 160 a.session.jobs a.member a.holds.fits.dictionaries (keyed-has (λ m. m.constants.number) a.member.constants.number a.session.jobs a.member a.running.member)
 
   pub slot_zero : (a.plan.stacks ≤ a.storage.low) × (a.storage.low < 2 ^ 20)
   slot_zero = let m = a.holds.memory in (let low : a.storage.low ≡ a.plan.stacks + a.plan.peak * a.plan.size = m.slots.laid.low in omega (arith, low), omega (arith, m.inside, m.directory.small))
@@ -51,10 +51,10 @@ module _ (core : List Tagged) (r : Regs) (a : Scene core r) where
   pub of_dictionary : (k : ℕ) → IsStackOf a k → 120 ≤ k → k < 136 → (r.dict ≡ base_of a.plan k) × (r.dict < 2 ^ 20)
   of_dictionary k is low high =
       let few = a.holds.fits.few in
-      let e : k ≡ 127 + a.member.setting.number = ⊎_elim (λ u. absurd (omega (arith, u, low, few))) (λ o. ⊎_elim (λ e. e) (λ e. absurd (omega (arith, e, high))) o) is in
+      let e : k ≡ 127 + a.member.constants.number = ⊎_elim (λ u. absurd (omega (arith, u, low, few))) (λ o. ⊎_elim (λ e. e) (λ e. absurd (omega (arith, e, high))) o) is in
       let t : nat_lt k 120 ≡ false = le-ltb k 120 low in
       let u : nat_lt k 136 ≡ true = lt-ltb k 136 high in
-      let n : k - 127 ≡ a.member.setting.number = omega (arith, e) in
+      let n : k - 127 ≡ a.member.constants.number = omega (arith, e) in
       let d = dictionary_is in
       let b = dictionary_low in
       let z = slot_zero in

@@ -1,5 +1,5 @@
 -- The environment of the running task, level by level.
-use Rattle.std.proofs.Common.{◌≡◌, ◌≢◌, ℕ, zero, suc, ◌+◌, ◌-◌, ◌<◌, ◌≤◌, List, [], ◌∷◌, map, Some, refl, sym, ◌∙◌, ap, arith, inl, inr, subst, length, slice_set, ⊎_elim}
+use Rattle.std.proofs.Common.{◌≡◌, ◌≢◌, ℕ, zero, suc, ◌+◌, ◌-◌, ◌<◌, ◌≤◌, List, map, Some, refl, sym, ◌∙◌, ap, arith, subst, length, slice_set, ⊎_elim}
 use Rattle.std.specs.List.{slice_get}
 use Rattle.std.proofs.lemmas.Bool.{cases_eq}
 use Rattle.b67_core.proofs.Writes.{slice_get-set_same, slice_get-set_other}
@@ -9,35 +9,29 @@ use Rattle.b67_ctl.specs.declared.registers.Regs.{Regs}
 use Rattle.b67_ctl.specs.declared.marks.Mscw.{Mscw}
 use Rattle.b67_ctl.specs.Layout.{mscw_word, IsMscw}
 use Rattle.b67_lemmas.specs.Lists.{Has}
+use Rattle.b67_lemmas.proofs.Members.{has_append_left, has_map}
 use Rattle.b67_model.specs.State as State
-use Rattle.b67_model.specs.State.{Frame, Standing, Here, frame}
-use Rattle.b67_model.specs.Environment.{level_of_standing, level_of_frame, environment_of, running, running_from, running_level, outward, frame_at}
-use Rattle.b67_model.specs.InOrder.{Starts, Known, known_of, outer_of, reach_of, IsEntered, StackInOrder, ReturnsInOrder, IsSegment}
-use Rattle.b67_law_order.proofs.Members.{has_append_left, has_map}
+use Rattle.b67_model.specs.State.{Frame, OperatorContext, frame}
+use Rattle.b67_model.specs.Environment.{level_of_standing, level_of_frame, environment_of, running, running_level, outward, frame_at}
+use Rattle.b67_model.specs.InOrder.{Known, known_of, outer_of, reach_of, IsEntered, IsSegment}
 use Rattle.b67_stack.specs.Stacks as Stacks
 use Rattle.b67_stack.proofs.Tops.{level-small}
-use Rattle.b67_layout.specs.Plan.{slot_of, outer_spots, address_of}
+use Rattle.b67_layout.specs.Placement.{slot_of, outer_spots, address_of}
 use Rattle.b67_layout.specs.Session.{frame_address}
 use Rattle.b67_layout.specs.Meets.{here}
 use Rattle.b67_layout.proofs.Frames.{level-is}
-use Rattle.b67_refer.specs.Scene.{Scene, IsShown, IsStackOf}
+use Rattle.b67_refer.specs.RunningContext.{RunningContext, IsShown, IsStackOf}
 use Rattle.b67_refer.proofs.Slots.{whole, registers}
 use Rattle.b67_refer.proofs.Seats.{has_task, order_of}
 use Rattle.b67_refer.proofs.Marks.{MarkOf, mark, frame_known}
-
-running_in : (P : Starts) (fs : List Frame) → StackInOrder P fs → fs ≢ [] → Has fs (running fs) × IsEntered (running fs).standing
-running_in P [] g some = absurd (some refl)
-running_in P (f ∷ below) g some = by f.standing refl g.0 (λ more. running_in P below g.1 more) where
-  by : (s : Standing) → f.standing ≡ s → ReturnsInOrder P s below → (below ≢ [] → Has below (running below) × IsEntered (running below).standing) → Has (f ∷ below) (running_from s f (running below)) × IsEntered (running_from s f (running below)).standing
-  by State.Marked e g under = let r = under g in (inr r.0, r.1)
-  by (State.Entered level environment back) e g under = (inl refl, rw e tt)
+use Rattle.b67_law_order.proofs.Chases.{running_in}
 
 -- the last link of a chain
-outward_last : (h : Here) (links : ℕ) (f : Frame) → outward h (suc links) f ≡ frame h (environment_of (outward h links f).standing)
+outward_last : (h : OperatorContext) (links : ℕ) (f : Frame) → outward h (suc links) f ≡ frame h (environment_of (outward h links f).standing)
 outward_last h zero f = refl
 outward_last h (suc links) f = outward_last h links (frame h (environment_of f.standing))
 
-module _ (core : List Tagged) (r : Regs) (a : Scene core r) where
+module _ (core : List Tagged) (r : Regs) (a : RunningContext core r) where
   -- where the task goes on is no part of its environment
   outward_same : (q p : Place) (links : ℕ) (f : Frame) → outward (here a.member a.task q) links f ≡ outward (here a.member a.task p) links f
   outward_same q p zero f = refl
@@ -52,22 +46,22 @@ module _ (core : List Tagged) (r : Regs) (a : Scene core r) where
   module _ (q : Place) where
     -- the frame of a level of the environment
     pub record Level (n : ℕ) (f : Frame) : Type 0 where
-      pub among : Has (reach_of a.member.course.job a.task) (known_of f)
+      pub among : Has (reach_of a.member.progress.job a.task) (known_of f)
       pub entered : IsEntered f.standing
       pub level : level_of_frame f ≡ n
 
     pub run_level : Level level (running a.task.frames)
     run_level =
         let o = order_of core r a a.task (has_task core r a) in
-        let b = running_in (IsSegment a.member.setting) a.task.frames o.returns o.some in
-        record { among = has_append_left (map known_of a.task.frames) (outer_of a.member.course.job a.task) (known_of (running a.task.frames)) (has_map known_of a.task.frames (running a.task.frames) b.0); entered = b.1; level = refl }
+        let b = running_in (IsSegment a.member.constants) a.task.frames o.returns o.some in
+        record { among = has_append_left (map known_of a.task.frames) (outer_of a.member.progress.job a.task) (known_of (running a.task.frames)) (has_map known_of a.task.frames (running a.task.frames) b.0); entered = b.1; level = refl }
 
     next_level : (n : ℕ) (f : Frame) → Level (suc n) f → Level n (frame (here a.member a.task q) (environment_of f.standing))
     next_level n f b =
         let m = mark core r a f.identity f.standing b.among b.entered (omega (arith, b.level)) in
         let k = frame_known core r a q (environment_of f.standing) m.standing m.among in
         record {
-          among = subst (Has (reach_of a.member.course.job a.task)) (sym k) m.among;
+          among = subst (Has (reach_of a.member.progress.job a.task)) (sym k) m.among;
           entered = subst (λ (z : Known). IsEntered z.1) (sym k) m.entered;
           level = ap (λ (z : Known). level_of_standing z.1) k ∙ (let e = m.level_below in let d = b.level in omega (arith, e, d));
         }
@@ -97,7 +91,7 @@ module _ (core : List Tagged) (r : Regs) (a : Scene core r) where
         mark core r a (frame_at (here a.member a.task q) (suc n)).identity (frame_at (here a.member a.task q) (suc n)).standing b.among b.entered (omega (arith, b.level))
 
     -- the mark at a level names the frame of the level below
-    pub next_address : (n : ℕ) (up : suc n ≤ level) → address_of a.plan (let s : Stacks.Spot = record { stack = (mark_of_level n up).mark.env_stack; disp = (mark_of_level n up).mark.env_disp } in s) ≡ address_at n
+    pub next_address : (n : ℕ) (up : suc n ≤ level) → address_of a.plan (let s : Stacks.StackPlace = record { stack = (mark_of_level n up).mark.env_stack; disp = (mark_of_level n up).mark.env_disp } in s) ≡ address_at n
     next_address n up =
         let m = mark_of_level n up in
         let k = frame_known core r a q (environment_of (frame_at (here a.member a.task q) (suc n)).standing) m.standing m.among in
@@ -107,7 +101,7 @@ module _ (core : List Tagged) (r : Regs) (a : Scene core r) where
   pub level_is : r.level ≡ level
   level_is =
       let g = registers core r a in
-      g.level ∙ level-is a.plan a.member.setting.number a.member.course.job (slot_of a.plan a.member.setting.number a.task.number) (outer_spots a.plan a.member.setting.number a.member.course.job a.task.critical a.task.parents) a.task.frames
+      g.level ∙ level-is a.plan a.member.constants.number a.member.progress.job (slot_of a.plan a.member.constants.number a.task.number) (outer_spots a.plan a.member.constants.number a.member.progress.job a.task.critical a.task.parents) a.task.frames
 
   pub level_small : level < 32
   level_small =
@@ -142,7 +136,7 @@ module _ (core : List Tagged) (r : Regs) (a : Scene core r) where
   abbrev pub Reads : ℕ → Mscw → Type 0
   Reads at m = (k : Mscw) → IsMscw k → slice_get core at ≡ Some (mscw_word k) → m ≡ k
 
-  pub written_mark : (at n : ℕ) (display : List ℕ) → Written at (suc n) display → (m : Mscw) × IsMscw m × (slice_get core at ≡ Some (mscw_word m)) × IsStackOf a m.env_stack × (address_of a.plan (let s : Stacks.Spot = record { stack = m.env_stack; disp = m.env_disp } in s) ≡ address_at a.task.place n)
+  pub written_mark : (at n : ℕ) (display : List ℕ) → Written at (suc n) display → (m : Mscw) × IsMscw m × (slice_get core at ≡ Some (mscw_word m)) × IsStackOf a m.env_stack × (address_of a.plan (let s : Stacks.StackPlace = record { stack = m.env_stack; disp = m.env_disp } in s) ≡ address_at a.task.place n)
   written_mark at n display w =
       let m = mark_of_level a.task.place n w.low in
       (m.mark, m.fits, ap (slice_get core) w.address ∙ m.there, m.stack, next_address a.task.place n w.low)
@@ -155,13 +149,13 @@ module _ (core : List Tagged) (r : Regs) (a : Scene core r) where
   }
 
   -- one turn: the mark at the address of a level above 0, and what is written and found next
-  pub turn_mark : (at n : ℕ) (display : List ℕ) → Written at n display → n ≢ 0 → (m : Mscw) × IsMscw m × (slice_get core at ≡ Some (mscw_word m)) × IsStackOf a m.env_stack × (address_of a.plan (let s : Stacks.Spot = record { stack = m.env_stack; disp = m.env_disp } in s) ≡ address_at a.task.place (n - 1))
+  pub turn_mark : (at n : ℕ) (display : List ℕ) → Written at n display → n ≢ 0 → (m : Mscw) × IsMscw m × (slice_get core at ≡ Some (mscw_word m)) × IsStackOf a m.env_stack × (address_of a.plan (let s : Stacks.StackPlace = record { stack = m.env_stack; disp = m.env_disp } in s) ≡ address_at a.task.place (n - 1))
   turn_mark at n display w some = written_mark at (n - 1) display (subst (λ (i : ℕ). Written at i display) (let e : n ≡ suc (n - 1) = omega (arith, some) in e) w)
 
-  pub turn_down : (at n : ℕ) (display : List ℕ) (m : Mscw) → Written at n display → n ≢ 0 → Reads at m → IsStackOf a m.env_stack × (address_of a.plan (let s : Stacks.Spot = record { stack = m.env_stack; disp = m.env_disp } in s) ≡ address_at a.task.place (n - 1))
+  pub turn_down : (at n : ℕ) (display : List ℕ) (m : Mscw) → Written at n display → n ≢ 0 → Reads at m → IsStackOf a m.env_stack × (address_of a.plan (let s : Stacks.StackPlace = record { stack = m.env_stack; disp = m.env_disp } in s) ≡ address_at a.task.place (n - 1))
   turn_down at n display m w some read =
       let k = turn_mark at n display w some in
-      let P : Mscw → Type 0 = λ z. IsStackOf a z.env_stack × (address_of a.plan (let s : Stacks.Spot = record { stack = z.env_stack; disp = z.env_disp } in s) ≡ address_at a.task.place (n - 1)) in
+      let P : Mscw → Type 0 = λ z. IsStackOf a z.env_stack × (address_of a.plan (let s : Stacks.StackPlace = record { stack = z.env_stack; disp = z.env_disp } in s) ≡ address_at a.task.place (n - 1)) in
       subst P (sym (read k.0 k.1 k.2)) (k.3, k.4)
 
   pub turn_next : (at n down : ℕ) (display : List ℕ) → Written at n display → n ≢ 0 → length display ≡ 32 → down ≡ address_at a.task.place (n - 1) → Written down (n - 1) (slice_set display n at)

@@ -16,7 +16,7 @@ use Rattle.b67_area.specs.Words.{kind_number, head_word}
 use Rattle.b67_area.specs.Directory.{IsInfo, AreSpans, Laid}
 use Rattle.b67_area.proofs.Laws.{area_inside}
 use Rattle.b67_stack.specs.Shapes.{copy_desc}
-use Rattle.b67_stack.specs.Stands.{info_of}
+use Rattle.b67_stack.specs.Represents.{info_of}
 use Rattle.b67_stack.proofs.Homes.{SameDesc, same_desc}
 use Rattle.b67_refer.specs.Ends.{IsCopyOf}
 

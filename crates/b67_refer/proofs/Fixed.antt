@@ -4,7 +4,8 @@ use Rattle.std.specs.Prelude.{if◌then◌else◌, nat_lt}
 use Rattle.std.specs.List.{slice_get}
 use Rattle.std.specs.Option.{ok_or}
 use Rattle.std.proofs.lemmas.Bool.{lt-ltb, le-ltb, false≢true}
-use Rattle.std.proofs.lemmas.Option.{same_Some, none-some}
+use Rattle.std.proofs.lemmas.Option.{same_Some, slice_get_past}
+use Rattle.std.proofs.lemmas.List.{length-reverse}
 use Rattle.b67_word.specs.Tagged.{Tagged}
 use Rattle.b67_word.specs.declared.couples.Place.{Place}
 use Rattle.b67_word.specs.declared.faults.Fault.TheVariants.{InvalidAddress}
@@ -15,26 +16,26 @@ use Rattle.b67_area.specs.declared.Kind.TheVariants as kind
 use Rattle.b67_area.proofs.Laws.{area_inside}
 use Rattle.b67_model.specs.Answers.{Answer}
 use Rattle.b67_lemmas.specs.Lists.{Has}
+use Rattle.b67_lemmas.proofs.Members.{all_in, has_append_left, has_append_right, has_flat, has_get, has_map, has_reverse_back, keyed-has}
+use Rattle.b67_lemmas.proofs.Places.{get_within}
 use Rattle.b67_model.specs.Words as Words
 use Rattle.b67_model.specs.Words.{Word, Operand, Name, Ref, Row, Element, Original, Proc, Intrinsic}
-use Rattle.b67_model.specs.State.{Frame, Entered, Segment, Member, mcp}
+use Rattle.b67_model.specs.State.{Frame, Entered, Segment, mcp}
 use Rattle.b67_model.specs.Cells.{first_offset, cell_of, cell}
-use Rattle.b67_model.specs.InOrder.{OwnsArray, EntryInOrder, rows_after, DictionaryWords}
-use Rattle.b67_law_order.proofs.Members.{has_append_left, has_append_right, has_map, has_flat, has_reverse_back, has_get, all_in}
-use Rattle.b67_stack.specs.Shapes.{Held, IsOriginal}
-use Rattle.b67_stack.specs.Picture.{Thing, Picture, home_desc, home_word_of}
-use Rattle.b67_stack.specs.Stands.{Storage, Stands, info_of}
+use Rattle.b67_model.specs.InOrder.{OwnsArray, EntryInOrder, DictionaryWords}
+use Rattle.b67_stack.specs.Shapes.{Location, IsOriginal}
+use Rattle.b67_stack.specs.MachineView.{PagedObject, MachineView, home_desc, home_word_of}
+use Rattle.b67_stack.specs.Represents.{Storage, Represents, info_of}
 use Rattle.b67_stack.proofs.Homes.{chain_small}
-use Rattle.b67_layout.specs.Plan.{Plan, address_of}
-use Rattle.b67_layout.specs.Layout.{array_thing, code_things, things_of}
-use Rattle.b67_layout.specs.Session.{DictionariesFollow, frame_address}
+use Rattle.b67_layout.specs.Placement.{address_of}
+use Rattle.b67_layout.specs.Layout.{array_object, code_objects, objects_of}
+use Rattle.b67_layout.specs.Session.{frame_address}
 use Rattle.b67_layout.specs.Meets.{here}
-use Rattle.b67_layout.proofs.Others.{keyed-has}
-use Rattle.b67_refer.specs.Scene.{Scene}
+use Rattle.b67_layout.proofs.Sessions.{code_object, dictionary_above, entry_row}
+use Rattle.b67_refer.specs.RunningContext.{RunningContext}
 use Rattle.b67_refer.specs.Cells.{StandsFor, IsCellAt, CellMeets}
 use Rattle.b67_refer.proofs.Bases.{pictured}
 use Rattle.b67_refer.proofs.Marks.{view_low, base_in, frame_dictionary, frame_mcp, dictionary_address}
-use Rattle.b67_refer.proofs.Rule.{length_reverse}
 
 mcp_get : (i : ℕ) → i < 11 → slice_get (reverse mcp.cells) i ≡ Some (Intrinsic (8 + i))
 mcp_get zero low = refl
@@ -50,22 +51,6 @@ mcp_get (suc (suc (suc (suc (suc (suc (suc (suc (suc zero))))))))) low = refl
 mcp_get (suc (suc (suc (suc (suc (suc (suc (suc (suc (suc zero)))))))))) low = refl
 mcp_get (suc (suc (suc (suc (suc (suc (suc (suc (suc (suc (suc i))))))))))) low = absurd (omega (arith, low))
 
-get_past : {A : Type 0} (xs : List A) (i : ℕ) → length xs ≤ i → slice_get xs i ≡ None
-get_past [] i high = refl
-get_past (x ∷ xs) zero high = absurd (omega (arith, high))
-get_past (x ∷ xs) (suc i) high = get_past xs i (omega (arith, high))
-
-get_within : {A : Type 0} (xs : List A) (i : ℕ) → i < length xs → (x : A) × (slice_get xs i ≡ Some x)
-get_within [] i low = absurd (omega (arith, low))
-get_within (x ∷ xs) zero low = (x, refl)
-get_within (x ∷ xs) (suc i) low = get_within xs i (omega (arith, low))
-
--- the words of a dictionary by their numbers
-entry_row : (n : ℕ) (ws : List Word) (i : ℕ) (w : Word) → rows_after n ws → slice_get ws i ≡ Some w → w ≡ Original (n + i)
-entry_row n [] i w d e = absurd (none-some w e)
-entry_row n (v ∷ ws) zero w d e = sym (same_Some v w e) ∙ d.0 ∙ ap Original (let z : n ≡ n + 0 = omega arith in z)
-entry_row n (v ∷ ws) (suc i) w d e = entry_row (n + 1) ws i w d.1 e ∙ ap Original (let z : n + 1 + i ≡ n + suc i = omega arith in z)
-
 entry_is : (n : ℕ) (ss : List Segment) (ws : List Word) (i : ℕ) (w : Word) → DictionaryWords n ss ws → slice_get ws i ≡ Some w
     → ((i < length ss) × (w ≡ Words.Segment (n + i))) ⊎ ((length ss ≤ i) × (w ≡ Original (1 + (i - length ss))))
 entry_is n [] ws i w d e = inr (omega arith, entry_row 1 ws i w d e ∙ ap (λ k. Original (1 + k)) (let z : i ≡ i - 0 = omega arith in z))
@@ -76,18 +61,7 @@ entry_is n (s ∷ ss) (v ∷ ws) (suc i) w d e = ⊎_elim
     (λ l. inr (omega (arith, l.0), l.1 ∙ ap (λ k. Original (1 + k)) (let z : i - length ss ≡ suc i - length (s ∷ ss) = omega arith in z)))
     (entry_is (n + 1) ss ws i w d.1 e)
 
--- the things of segments
-code_thing : (plan : Plan) (j n : ℕ) (ss : List Segment) (i : ℕ) → i < length ss → (t : Thing) × Has (code_things plan j n ss) t × (t.home ≡ plan.dictionary j + 1 + (n + i)) × (t.kind ≡ kind.Code)
-code_thing plan j n [] i low = absurd (omega (arith, low))
-code_thing plan j n (s ∷ ss) zero low = (record { home = plan.dictionary j + 1 + n; kind = kind.Code; numbers = s.code }, inl refl, omega arith, refl)
-code_thing plan j n (s ∷ ss) (suc i) low = let r = code_thing plan j (n + 1) ss i (omega (arith, low)) in (r.0, inr r.1, r.2 ∙ (let z : plan.dictionary j + 1 + (n + 1 + i) ≡ plan.dictionary j + 1 + (n + suc i) = omega arith in z), r.3)
-
-dictionary_from : (plan : Plan) (at : ℕ) (jobs : List Member) (m : Member) → DictionariesFollow plan at jobs → Has jobs m → at ≤ plan.dictionary m.setting.number
-dictionary_from plan at [] m d h = absurd h
-dictionary_from plan at (y ∷ more) m d (inl e) = let P : Member → Type 0 = λ z. at ≤ plan.dictionary z.setting.number in subst P e (omega (arith, d.0))
-dictionary_from plan at (y ∷ more) m d (inr h) = let r = dictionary_from plan (at + (2 + length y.setting.dictionary.cells)) more m d.1 h in omega (arith, r)
-
-module _ (x : Storage) (core : List Tagged) (r : Regs) (p : Picture) (s : Stands x core r p) (t : Thing) (int : Has p.things t) where
+module _ (x : Storage) (core : List Tagged) (r : Regs) (p : MachineView) (s : Represents x core r p) (t : PagedObject) (int : Has p.objects t) where
   pub area_small : (b : ℕ) → (x.held t.home).area ≡ Some b → b < 2 ^ 20
   area_small b e =
       let o = s.owned.of_held t.home b e in
@@ -97,34 +71,34 @@ module _ (x : Storage) (core : List Tagged) (r : Regs) (p : Picture) (s : Stands
   desc_fits b n (Some z) f small fits af = record { words = small; address = af z refl; indexed = λ y. absurd (false≢true y) }
   desc_fits b n None f small fits af = record { words = small; address = fits; indexed = λ y. absurd (false≢true y) }
 
-  original_by : (k : Kind) (h : Held) → k ≢ kind.Code → length t.numbers < 2 ^ 20 → h.chain < 2 ^ 20 → ((z : ℕ) → h.area ≡ Some z → z < 2 ^ 20) → IsOriginal (home_word_of k (length t.numbers) h)
+  original_by : (k : Kind) (h : Location) → k ≢ kind.Code → length t.numbers < 2 ^ 20 → h.chain < 2 ^ 20 → ((z : ℕ) → h.area ≡ Some z → z < 2 ^ 20) → IsOriginal (home_word_of k (length t.numbers) h)
   original_by kind.Array h n small fits af = record { desc = home_desc false (length t.numbers) h; fits = desc_fits false (length t.numbers) h.area h.chain small fits af; own = refl; is = refl }
   original_by kind.Row h n small fits af = record { desc = home_desc true (length t.numbers) h; fits = desc_fits true (length t.numbers) h.area h.chain small fits af; own = refl; is = refl }
   original_by kind.Code h n small fits af = absurd (n refl)
 
   -- the word of an array's original
-  pub thing_original : t.kind ≢ kind.Code → IsOriginal (home_word_of t.kind (length t.numbers) (x.held t.home))
-  thing_original n = original_by t.kind (x.held t.home) n (omega (arith, (s.slots.laid.lengths t int).1)) (chain_small x core t (x.held t.home).area (x.held t.home).chain (s.things t int).content) area_small
+  pub object_original : t.kind ≢ kind.Code → IsOriginal (home_word_of t.kind (length t.numbers) (x.held t.home))
+  object_original n = original_by t.kind (x.held t.home) n (omega (arith, (s.slots.laid.lengths t int).1)) (chain_small x core t (x.held t.home).area (x.held t.home).chain (s.objects t int).content) area_small
 
 no_code : (b : Bool) → (if b then kind.Array else kind.Row) ≢ kind.Code
 no_code true e = cc
 no_code false e = cc
 
-module _ (core : List Tagged) (r : Regs) (a : Scene core r) where
+module _ (core : List Tagged) (r : Regs) (a : RunningContext core r) where
   pub mcp_address : frame_address a.plan a.member a.task 0 ≡ 0
   mcp_address = ap (address_of a.plan) (view_low core r a 0 (omega arith))
 
-  pub dictionary_home : frame_address a.plan a.member a.task 1 ≡ a.plan.dictionary a.member.setting.number
+  pub dictionary_home : frame_address a.plan a.member a.task 1 ≡ a.plan.dictionary a.member.constants.number
   dictionary_home = ap (address_of a.plan) (view_low core r a 1 (omega arith)) ∙ dictionary_address core r a
 
   has_member : Has a.session.jobs a.member
-  has_member = keyed-has (λ m. m.setting.number) a.member.setting.number a.session.jobs a.member a.running.member
+  has_member = keyed-has (λ m. m.constants.number) a.member.constants.number a.session.jobs a.member a.running.member
 
-  pub dictionary_high : 160 ≤ a.plan.dictionary a.member.setting.number
-  dictionary_high = dictionary_from a.plan 160 a.session.jobs a.member a.holds.fits.dictionaries has_member
+  pub dictionary_high : 160 ≤ a.plan.dictionary a.member.constants.number
+  dictionary_high = dictionary_above a.plan 160 a.session.jobs a.member a.holds.fits.dictionaries has_member
 
-  pub has_thing : (t : Thing) → Has (things_of a.plan a.member) t → Has (a.left ++ flat_map (things_of a.plan) a.session.jobs) t
-  has_thing t h = has_append_right a.left (flat_map (things_of a.plan) a.session.jobs) t (has_flat (things_of a.plan) a.session.jobs a.member t has_member h)
+  pub has_object : (t : PagedObject) → Has (objects_of a.plan a.member) t → Has (a.left ++ flat_map (objects_of a.plan) a.session.jobs) t
+  has_object t h = has_append_right a.left (flat_map (objects_of a.plan) a.session.jobs) t (has_flat (objects_of a.plan) a.session.jobs a.member t has_member h)
 
   module _ (q : Place) where
     look_mcp : (offset : ℕ) → cell (here a.member a.task q) 0 offset ≡ ok_or (if nat_lt offset 8 then None else slice_get (reverse mcp.cells) (offset - 8)) InvalidAddress
@@ -134,7 +108,7 @@ module _ (core : List Tagged) (r : Regs) (a : Scene core r) where
     mcp_misses offset far = look_mcp offset ∙ ⊎_elim
         (λ (low : offset < 8). (let t : nat_lt offset 8 ≡ true = lt-ltb offset 8 low in rw t refl))
         (λ (past : 18 < offset). (let t : nat_lt offset 8 ≡ false = le-ltb offset 8 (omega (arith, past)) in
-        let n : slice_get (reverse mcp.cells) (offset - 8) ≡ None = get_past (reverse mcp.cells) (offset - 8) (omega (arith, past)) in
+        let n : slice_get (reverse mcp.cells) (offset - 8) ≡ None = slice_get_past (reverse mcp.cells) (offset - 8) (omega (arith, past)) in
         rw t (ap (λ (o : Option Word). ok_or o InvalidAddress) n)))
         far
 
@@ -154,68 +128,68 @@ module _ (core : List Tagged) (r : Regs) (a : Scene core r) where
         let F : Answer Word → Type 0 = λ y. CellMeets a q 0 offset (Ok offset) y in
         subst F (sym found) is
 
-    look_dictionary : (offset : ℕ) → cell (here a.member a.task q) 1 offset ≡ ok_or (if nat_lt offset 2 then None else slice_get (reverse a.member.setting.dictionary.cells) (offset - 2)) InvalidAddress
+    look_dictionary : (offset : ℕ) → cell (here a.member a.task q) 1 offset ≡ ok_or (if nat_lt offset 2 then None else slice_get (reverse a.member.constants.dictionary.cells) (offset - 2)) InvalidAddress
     look_dictionary offset =
         ap (λ (g : Frame). ok_or (cell_of g offset) InvalidAddress) (frame_dictionary core r a q)
-        ∙ (let first : first_offset a.member.setting.dictionary ≡ 2 = rw a.ordered.setting.named refl in
-        ap (λ (n : ℕ). ok_or (if nat_lt offset n then None else slice_get (reverse a.member.setting.dictionary.cells) (offset - n)) InvalidAddress) first)
+        ∙ (let first : first_offset a.member.constants.dictionary ≡ 2 = rw a.ordered.constants.named refl in
+        ap (λ (n : ℕ). ok_or (if nat_lt offset n then None else slice_get (reverse a.member.constants.dictionary.cells) (offset - n)) InvalidAddress) first)
 
-    pub dictionary_misses : (offset : ℕ) → (offset < 2) ⊎ (1 + length a.member.setting.dictionary.cells < offset) → cell (here a.member a.task q) 1 offset ≡ Err InvalidAddress
+    pub dictionary_misses : (offset : ℕ) → (offset < 2) ⊎ (1 + length a.member.constants.dictionary.cells < offset) → cell (here a.member a.task q) 1 offset ≡ Err InvalidAddress
     dictionary_misses offset far = look_dictionary offset ∙ ⊎_elim
         (λ (low : offset < 2). (let t : nat_lt offset 2 ≡ true = lt-ltb offset 2 low in rw t refl))
-        (λ (past : 1 + length a.member.setting.dictionary.cells < offset). (let t : nat_lt offset 2 ≡ false = le-ltb offset 2 (omega (arith, past)) in
-        let n : slice_get (reverse a.member.setting.dictionary.cells) (offset - 2) ≡ None = get_past (reverse a.member.setting.dictionary.cells) (offset - 2) (let l = length_reverse a.member.setting.dictionary.cells in omega (arith, past, l)) in
+        (λ (past : 1 + length a.member.constants.dictionary.cells < offset). (let t : nat_lt offset 2 ≡ false = le-ltb offset 2 (omega (arith, past)) in
+        let n : slice_get (reverse a.member.constants.dictionary.cells) (offset - 2) ≡ None = slice_get_past (reverse a.member.constants.dictionary.cells) (offset - 2) (let l = length-reverse a.member.constants.dictionary.cells in omega (arith, past, l)) in
         rw t (ap (λ (o : Option Word). ok_or o InvalidAddress) n)))
         far
 
     -- the word of core at an entry
     record Entry (i : ℕ) (w : Word) : Type 0 where
       pub word : Tagged
-      pub there : slice_get core (a.plan.dictionary a.member.setting.number + (2 + i)) ≡ Some word
-      pub stands : StandsFor a (a.plan.dictionary a.member.setting.number + (2 + i)) 1 word w
+      pub there : slice_get core (a.plan.dictionary a.member.constants.number + (2 + i)) ≡ Some word
+      pub stands : StandsFor a (a.plan.dictionary a.member.constants.number + (2 + i)) 1 word w
 
-    entry : (i : ℕ) (w : Word) → i < length a.member.setting.dictionary.cells → slice_get (reverse a.member.setting.dictionary.cells) i ≡ Some w → Entry i w
+    entry : (i : ℕ) (w : Word) → i < length a.member.constants.dictionary.cells → slice_get (reverse a.member.constants.dictionary.cells) i ≡ Some w → Entry i w
     entry i w low e = ⊎_elim
-        (λ (l : (i < length a.member.setting.segments) × (w ≡ Words.Segment (1 + i))).
-        (let t = code_thing a.plan a.member.setting.number 1 a.member.setting.segments i l.0 in
-        let int = has_thing t.0 (has_append_left (code_things a.plan a.member.setting.number 1 a.member.setting.segments) (map (array_thing a.plan a.member.setting.number) a.member.course.job.arrays) t.0 t.1) in
-        let st = a.holds.memory.things t.0 int in
-        let at : a.plan.dictionary a.member.setting.number + (2 + i) ≡ t.0.home = (let h = t.2 in omega (arith, h)) in
+        (λ (l : (i < length a.member.constants.segments) × (w ≡ Words.Segment (1 + i))).
+        (let t = code_object a.plan a.member.constants.number 1 a.member.constants.segments i l.0 in
+        let int = has_object t.0 (has_append_left (code_objects a.plan a.member.constants.number 1 a.member.constants.segments) (map (array_object a.plan a.member.constants.number) a.member.progress.job.arrays) t.0 t.1) in
+        let st = a.holds.memory.objects t.0 int in
+        let at : a.plan.dictionary a.member.constants.number + (2 + i) ≡ t.0.home = (let h = t.2 in omega (arith, h)) in
         let is : Entry i (Words.Segment (1 + i)) = record {
           word = home_word_of t.0.kind (length t.0.numbers) (a.storage.held t.0.home);
           there = ap (slice_get core) at ∙ st.home;
           stands = ap (λ (k : Kind). (home_word_of k (length t.0.numbers) (a.storage.held t.0.home)).tag) t.3;
         } in
         subst (Entry i) (sym l.1) is))
-        (λ (l : (length a.member.setting.segments ≤ i) × (w ≡ Original (1 + (i - length a.member.setting.segments)))).
-        (let n = 1 + (i - length a.member.setting.segments) in
-        let has : Has a.member.setting.dictionary.cells w = has_reverse_back a.member.setting.dictionary.cells w (has_get (reverse a.member.setting.dictionary.cells) i w e) in
-        let o : OwnsArray a.member.course.job.arrays 1 n = subst (EntryInOrder a.member.course.job.arrays) l.1 (all_in (EntryInOrder a.member.course.job.arrays) a.member.setting.dictionary.cells w a.ordered.tasks.entries has) in
-        let t = array_thing a.plan a.member.setting.number o.item in
-        let int = has_thing t (has_append_right (code_things a.plan a.member.setting.number 1 a.member.setting.segments) (map (array_thing a.plan a.member.setting.number) a.member.course.job.arrays) t (has_map (array_thing a.plan a.member.setting.number) a.member.course.job.arrays o.item o.live)) in
-        let st = a.holds.memory.things t int in
-        let home : t.home ≡ a.plan.home a.member.setting.number n = ap (a.plan.home a.member.setting.number) o.named in
-        let at : a.plan.dictionary a.member.setting.number + (2 + i) ≡ a.plan.home a.member.setting.number n =
+        (λ (l : (length a.member.constants.segments ≤ i) × (w ≡ Original (1 + (i - length a.member.constants.segments)))).
+        (let n = 1 + (i - length a.member.constants.segments) in
+        let has : Has a.member.constants.dictionary.cells w = has_reverse_back a.member.constants.dictionary.cells w (has_get (reverse a.member.constants.dictionary.cells) i w e) in
+        let o : OwnsArray a.member.progress.job.arrays 1 n = subst (EntryInOrder a.member.progress.job.arrays) l.1 (all_in (EntryInOrder a.member.progress.job.arrays) a.member.constants.dictionary.cells w a.ordered.tasks.entries has) in
+        let t = array_object a.plan a.member.constants.number o.item in
+        let int = has_object t (has_append_right (code_objects a.plan a.member.constants.number 1 a.member.constants.segments) (map (array_object a.plan a.member.constants.number) a.member.progress.job.arrays) t (has_map (array_object a.plan a.member.constants.number) a.member.progress.job.arrays o.item o.live)) in
+        let st = a.holds.memory.objects t int in
+        let home : t.home ≡ a.plan.home a.member.constants.number n = ap (a.plan.home a.member.constants.number) o.named in
+        let at : a.plan.dictionary a.member.constants.number + (2 + i) ≡ a.plan.home a.member.constants.number n =
         (let z = a.holds.fits.row_homes a.member has_member n (omega arith) (omega (arith, low, l.0)) in omega (arith, z, l.0)) in
         let is : Entry i (Original n) = record {
           word = home_word_of t.kind (length t.numbers) (a.storage.held t.home);
           there = ap (slice_get core) (at ∙ sym home) ∙ st.home;
-          stands = ((at, thing_original a.storage core r (pictured core r a) a.holds.memory t int (no_code o.item.writable)), o);
+          stands = ((at, object_original a.storage core r (pictured core r a) a.holds.memory t int (no_code o.item.writable)), o);
         } in
         subst (Entry i) (sym l.1) is))
-        (entry_is 1 a.member.setting.segments (reverse a.member.setting.dictionary.cells) i w a.ordered.setting.dictionary e)
+        (entry_is 1 a.member.constants.segments (reverse a.member.constants.dictionary.cells) i w a.ordered.constants.dictionary e)
 
-    pub dictionary_lands : (offset : ℕ) → 2 ≤ offset → offset ≤ 1 + length a.member.setting.dictionary.cells
-        → CellMeets a q 1 offset (Ok (a.plan.dictionary a.member.setting.number + offset)) (cell (here a.member a.task q) 1 offset)
+    pub dictionary_lands : (offset : ℕ) → 2 ≤ offset → offset ≤ 1 + length a.member.constants.dictionary.cells
+        → CellMeets a q 1 offset (Ok (a.plan.dictionary a.member.constants.number + offset)) (cell (here a.member a.task q) 1 offset)
     dictionary_lands offset low up =
         let t : nat_lt offset 2 ≡ false = le-ltb offset 2 low in
-        let small : offset - 2 < length a.member.setting.dictionary.cells = omega (arith, low, up) in
-        let w = get_within (reverse a.member.setting.dictionary.cells) (offset - 2) (let l = length_reverse a.member.setting.dictionary.cells in omega (arith, small, l)) in
+        let small : offset - 2 < length a.member.constants.dictionary.cells = omega (arith, low, up) in
+        let w = get_within (reverse a.member.constants.dictionary.cells) (offset - 2) (let l = length-reverse a.member.constants.dictionary.cells in omega (arith, small, l)) in
         let found : cell (here a.member a.task q) 1 offset ≡ Ok w.0 = look_dictionary offset ∙ (rw t (ap (λ (o : Option Word). ok_or o InvalidAddress) w.1)) in
         let n = entry (offset - 2) w.0 small w.1 in
-        let at : a.plan.dictionary a.member.setting.number + (2 + (offset - 2)) ≡ a.plan.dictionary a.member.setting.number + offset = omega (arith, low) in
+        let at : a.plan.dictionary a.member.constants.number + (2 + (offset - 2)) ≡ a.plan.dictionary a.member.constants.number + offset = omega (arith, low) in
         let S : ℕ → Type 0 = λ i. StandsFor a i 1 n.word w.0 in
-        let is : IsCellAt a q (a.plan.dictionary a.member.setting.number + offset) 1 offset w.0 = record {
+        let is : IsCellAt a q (a.plan.dictionary a.member.constants.number + offset) 1 offset w.0 = record {
           address = ap (λ (i : ℕ). i + offset) (sym dictionary_home);
           names = record { standing = Entered 1 0 None; among = base_in core r a 1 (Entered 1 0 None) (inl refl); entered = tt };
           found = found;
@@ -223,5 +197,5 @@ module _ (core : List Tagged) (r : Regs) (a : Scene core r) where
           there = ap (slice_get core) (sym at) ∙ n.there;
           stands = subst S at n.stands;
         } in
-        let F : Answer Word → Type 0 = λ y. CellMeets a q 1 offset (Ok (a.plan.dictionary a.member.setting.number + offset)) y in
+        let F : Answer Word → Type 0 = λ y. CellMeets a q 1 offset (Ok (a.plan.dictionary a.member.constants.number + offset)) y in
         subst F (sym found) is

@@ -15,12 +15,12 @@ use Rattle.b67_model.specs.InOrder.{NamesArray}
 use Rattle.b67_layout.specs.Meets.{here}
 use Rattle.b67_refer.specs.declared.ends.End.{End}
 use Rattle.b67_word.specs.declared.faults.Fault.{Fault}
-use Rattle.b67_refer.specs.Scene.{Scene}
+use Rattle.b67_refer.specs.RunningContext.{RunningContext}
 use Rattle.b67_refer.specs.Cells.{reach, StandsFor}
 use Rattle.b67_refer.specs.Ends.{IsCopyOf, IsReference, EndMeets}
 use Rattle.b67_refer.proofs.Links.{Described, own, row, item, described}
 
-module _ (core : List Tagged) (r : Regs) (a : Scene core r) where
+module _ (core : List Tagged) (r : Regs) (a : RunningContext core r) where
   pub is_reference : (at owner : ℕ) (w : Tagged) (v : Word) → StandsFor a at owner w v → w.tag ≡ 1 → IsReference v
   is_reference at owner w (Operand b) s t = absurd (let z = ap (λ (x : Tagged). x.tag) s.0.0 in omega (arith, z, t))
   is_reference at owner w (Name c) s t = tt
@@ -62,25 +62,25 @@ module _ (core : List Tagged) (r : Regs) (a : Scene core r) where
     follows_whole at owner v d (item b x e c i k h o) z = absurd (true≢false (sym i ∙ z))
 
     pub follows_item : (at owner : ℕ) (v : Word) (d : DataDesc) (original : ℕ) (found : Result End Fault) → Described core r a at owner v d → IsDataDesc d → d.indexed ≡ true → ((home : ℕ) → IsCopyOf core d home → original ≡ home)
-        → ((n : ℕ) → original ≡ a.plan.home a.member.setting.number n → NamesArray a.member.course.job.arrays (reach a) n → EndMeets a q found (element_end (here a.member a.task q) n d.length))
+        → ((n : ℕ) → original ≡ a.plan.home a.member.constants.number n → NamesArray a.member.progress.job.arrays (reach a) n → EndMeets a q found (element_end (here a.member a.task q) n d.length))
         → EndMeets a q found (follow (here a.member a.task q) v)
     follows_item at owner v d original found (own b e c h o) fits z is each = absurd (false≢true (sym c ∙ fits.indexed z))
     follows_item at owner v d original found (row b e c i h o) fits z is each = absurd (false≢true (sym i ∙ z))
     follows_item at owner v d original found (item b x e c i k h o) fits z is each =
         let E : ℕ → Type 0 = λ n. EndMeets a q found (element_end (here a.member a.task q) b n) in
         let P : Word → Type 0 = λ y. EndMeets a q found (follow (here a.member a.task q) y) in
-        subst P (sym e) (subst E k (each b (is (a.plan.home a.member.setting.number b) h) o))
+        subst P (sym e) (subst E k (each b (is (a.plan.home a.member.constants.number b) h) o))
 
   pub item_copied : (at owner : ℕ) (v : Word) (d : DataDesc) → Described core r a at owner v d → IsDataDesc d → d.indexed ≡ true → (home : ℕ) × IsCopyOf core d home
   item_copied at owner v d (own b e c h o) fits z = absurd (false≢true (sym c ∙ fits.indexed z))
   item_copied at owner v d (row b e c i h o) fits z = absurd (false≢true (sym i ∙ z))
-  item_copied at owner v d (item b x e c i k h o) fits z = (a.plan.home a.member.setting.number b, h)
+  item_copied at owner v d (item b x e c i k h o) fits z = (a.plan.home a.member.constants.number b, h)
 
   pub item_named : (at owner : ℕ) (v : Word) (d : DataDesc) (original : ℕ) → Described core r a at owner v d → IsDataDesc d → d.indexed ≡ true → ((home : ℕ) → IsCopyOf core d home → original ≡ home)
-      → (n : ℕ) × (original ≡ a.plan.home a.member.setting.number n) × NamesArray a.member.course.job.arrays (reach a) n
+      → (n : ℕ) × (original ≡ a.plan.home a.member.constants.number n) × NamesArray a.member.progress.job.arrays (reach a) n
   item_named at owner v d original (own b e c h o) fits z is = absurd (false≢true (sym c ∙ fits.indexed z))
   item_named at owner v d original (row b e c i h o) fits z is = absurd (false≢true (sym i ∙ z))
-  item_named at owner v d original (item b x e c i k h o) fits z is = (b, is (a.plan.home a.member.setting.number b) h, o)
+  item_named at owner v d original (item b x e c i k h o) fits z is = (b, is (a.plan.home a.member.constants.number b) h, o)
 
   pub word_described : (at owner : ℕ) (w : Tagged) (v : Word) (o : Option DataDesc) (d : DataDesc) → StandsFor a at owner w v → w.tag ≡ 5 → ((x : DataDesc) → IsDataDesc x → w ≡ data_word x → o ≡ Some x) → o ≡ Some d → Described core r a at owner v d × IsDataDesc d
   word_described at owner w v o d s t known e =

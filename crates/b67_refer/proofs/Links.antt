@@ -1,5 +1,5 @@
 -- What the words of cells come to, and one turn of a chain of references.
-use Rattle.std.proofs.Common.{◌≡◌, ℕ, ◌+◌, ◌*◌, ◌<◌, ◌≤◌, ◌^◌, List, [], ◌∷◌, length, Option, Some, None, Result, Ok, Err, refl, sym, ◌∙◌, ap, arith, true, false, subst}
+use Rattle.std.proofs.Common.{◌≡◌, ℕ, ◌+◌, ◌*◌, ◌<◌, ◌≤◌, ◌^◌, List, length, Option, Some, None, Result, Ok, Err, refl, sym, ◌∙◌, ap, arith, true, false, subst}
 use Rattle.std.specs.List.{slice_get, AllByRecursion}
 use Rattle.std.proofs.lemmas.Bool.{true≢false, false≢true}
 use Rattle.std.proofs.lemmas.Option.{same_Some}
@@ -15,31 +15,25 @@ use Rattle.b67_model.specs.Answers.{Answer}
 use Rattle.b67_model.specs.Chase as Chase
 use Rattle.b67_model.specs.Chase.{Stops, element_end, link_at}
 use Rattle.b67_layout.specs.Meets.{here}
-use Rattle.b67_model.specs.InOrder.{NamesEntered, NamesArray, OwnsArray, ArrayInOrder, DictionaryWords}
-use Rattle.b67_law_order.proofs.Members.{all_in}
+use Rattle.b67_model.specs.InOrder.{NamesEntered, NamesArray, OwnsArray, ArrayInOrder}
 use Rattle.b67_stack.specs.Shapes.{Copied, copy_desc, IsCopy}
 use Rattle.b67_refer.specs.declared.ends.End.{End}
 use Rattle.b67_refer.specs.declared.ends.End.TheVariants as end
 use Rattle.b67_word.specs.declared.faults.Fault.{Fault}
-use Rattle.b67_refer.specs.Scene.{Scene}
+use Rattle.b67_refer.specs.RunningContext.{RunningContext}
 use Rattle.b67_refer.specs.Cells.{reach, StandsFor, IsCellAt}
 use Rattle.b67_refer.specs.Ends.{IsCopyOf, HasTag, EndMeets, LinkMeets, on_link}
 use Rattle.b67_refer.proofs.Bases.{pictured}
 use Rattle.b67_refer.proofs.Chains.{level}
-
--- the segments of a job are few
-pub segments_low : (n : ℕ) (ss : List Segment) (ws : List Word) → DictionaryWords n ss ws → length ss ≤ length ws
-segments_low n [] ws d = omega arith
-segments_low n (s ∷ ss) [] d = absurd d
-segments_low n (s ∷ ss) (w ∷ ws) d = omega (arith, segments_low (n + 1) ss ws d.1)
+use Rattle.b67_lemmas.proofs.Members.{all_in}
 
 -- the word of a procedure isn't that of an intrinsic
 pub not_intrinsic : (syllable place level segment number : ℕ) → syllable < 8 → place < 2 ^ 13 → level ≤ 31 → segment < 2 ^ 14 → number < 2 ^ 14 → syllable * 2 ^ 33 + place * 2 ^ 20 + level * 2 ^ 14 + segment ≡ 2 ^ 19 + number → ⊥
 not_intrinsic syllable place level segment number a b c d e z = omega arith
 
-module _ (core : List Tagged) (r : Regs) (a : Scene core r) where
+module _ (core : List Tagged) (r : Regs) (a : RunningContext core r) where
   -- an original that is named in a frame of the reach
-  named_original : (f array : ℕ) → NamesEntered (reach a) f → OwnsArray a.member.course.job.arrays f array → NamesArray a.member.course.job.arrays (reach a) array
+  named_original : (f array : ℕ) → NamesEntered (reach a) f → OwnsArray a.member.progress.job.arrays f array → NamesArray a.member.progress.job.arrays (reach a) array
   named_original f array n o = record {
     item = o.item;
     live = o.live;
@@ -49,13 +43,13 @@ module _ (core : List Tagged) (r : Regs) (a : Scene core r) where
 
   -- a copy by its descriptor
   pub copy_of : (c : Copied) (home : ℕ) (v : Tagged) (d : DataDesc) → IsDataDesc d → v ≡ data_word d → IsCopy a.storage.held c home v → IsCopyOf core d home
-  copy_of c home v d fits e is = record { storage = a.storage; registers = r; picture = pictured core r a; stands = a.holds.memory; copied = c; fits = fits; is = subst (λ (w : Tagged). IsCopy a.storage.held c home w) e is }
+  copy_of c home v d fits e is = record { storage = a.storage; registers = r; machine_view = pictured core r a; stands = a.holds.memory; copied = c; fits = fits; is = subst (λ (w : Tagged). IsCopy a.storage.held c home w) e is }
 
   -- a data descriptor among the words that stand for something: an original, a row copy or an element copy
   pub data Described (at owner : ℕ) (w : Word) (d : DataDesc) : Type 0 where
-    own : (array : ℕ) → w ≡ Original array → d.copy ≡ false → at ≡ a.plan.home a.member.setting.number array → OwnsArray a.member.course.job.arrays owner array → Described at owner w d
-    row : (array : ℕ) → w ≡ Row array → d.copy ≡ true → d.indexed ≡ false → IsCopyOf core d (a.plan.home a.member.setting.number array) → NamesArray a.member.course.job.arrays (reach a) array → Described at owner w d
-    item : (array index : ℕ) → w ≡ Element array index → d.copy ≡ true → d.indexed ≡ true → d.length ≡ index → IsCopyOf core d (a.plan.home a.member.setting.number array) → NamesArray a.member.course.job.arrays (reach a) array → Described at owner w d
+    own : (array : ℕ) → w ≡ Original array → d.copy ≡ false → at ≡ a.plan.home a.member.constants.number array → OwnsArray a.member.progress.job.arrays owner array → Described at owner w d
+    row : (array : ℕ) → w ≡ Row array → d.copy ≡ true → d.indexed ≡ false → IsCopyOf core d (a.plan.home a.member.constants.number array) → NamesArray a.member.progress.job.arrays (reach a) array → Described at owner w d
+    item : (array index : ℕ) → w ≡ Element array index → d.copy ≡ true → d.indexed ≡ true → d.length ≡ index → IsCopyOf core d (a.plan.home a.member.constants.number array) → NamesArray a.member.progress.job.arrays (reach a) array → Described at owner w d
 
   pub described : (at owner : ℕ) (v : Tagged) (w : Word) → StandsFor a at owner v w → v.tag ≡ 5 → (d : DataDesc) × IsDataDesc d × (v ≡ data_word d) × Described at owner w d
   described at owner v (Operand bits) s t = absurd (let z = ap (λ (x : Tagged). x.tag) s.0.0 in omega (arith, z, t))
@@ -63,12 +57,12 @@ module _ (core : List Tagged) (r : Regs) (a : Scene core r) where
   described at owner v (Ref g d) s t = absurd (let z = ap (λ (x : Tagged). x.tag) s.0.0 in omega (arith, z, t))
   described at owner v (Row b) s t =
       let f = s.0 in
-      let c : Copied = record { index = None; read_only = Rattle.std.specs.Prelude.not (Rattle.b67_model.specs.Arrays.array a.member.course.job b).writable } in
-      (copy_desc c f.number f.present f.address, f.fits, f.is, row b refl refl refl (copy_of c (a.plan.home a.member.setting.number b) v (copy_desc c f.number f.present f.address) f.fits f.is f) s.1)
+      let c : Copied = record { index = None; read_only = Rattle.std.specs.Prelude.not (Rattle.b67_model.specs.Arrays.array a.member.progress.job b).writable } in
+      (copy_desc c f.number f.present f.address, f.fits, f.is, row b refl refl refl (copy_of c (a.plan.home a.member.constants.number b) v (copy_desc c f.number f.present f.address) f.fits f.is f) s.1)
   described at owner v (Element b i) s t =
       let f = s.0 in
-      let c : Copied = record { index = Some i; read_only = Rattle.std.specs.Prelude.not (Rattle.b67_model.specs.Arrays.array a.member.course.job b).writable } in
-      (copy_desc c f.number f.present f.address, f.fits, f.is, item b i refl refl refl f.numbered (copy_of c (a.plan.home a.member.setting.number b) v (copy_desc c f.number f.present f.address) f.fits f.is f) s.1)
+      let c : Copied = record { index = Some i; read_only = Rattle.std.specs.Prelude.not (Rattle.b67_model.specs.Arrays.array a.member.progress.job b).writable } in
+      (copy_desc c f.number f.present f.address, f.fits, f.is, item b i refl refl refl f.numbered (copy_of c (a.plan.home a.member.constants.number b) v (copy_desc c f.number f.present f.address) f.fits f.is f) s.1)
   described at owner v (Original b) s t = let f = s.0.1 in (f.desc, f.fits, f.is, own b refl f.own s.0.0 s.1)
   described at owner v (Proc g l p) s t = absurd (let z = ap (λ (x : Tagged). x.tag) s.0.0 in omega (arith, z, t))
   described at owner v (Intrinsic n) s t = absurd (let z = ap (λ (x : Tagged). x.tag) s.0 in omega (arith, z, t))
@@ -83,16 +77,16 @@ module _ (core : List Tagged) (r : Regs) (a : Scene core r) where
 
     pub end_row : (w : Word) (d : DataDesc) (original : ℕ) → Described at f w d → d.copy ≡ true → d.indexed ≡ false → ((home : ℕ) → IsCopyOf core d home → original ≡ home) → LinkMeets a q (Ok (Some (end.Array original))) (link_at (here a.member a.task q) f offset w)
     end_row w d original (own b e c h o) z y found = absurd (false≢true (sym c ∙ z))
-    end_row w d original (row b e c i h o) z y found = let P : Word → Type 0 = λ x. LinkMeets a q (Ok (Some (end.Array original))) (link_at (here a.member a.task q) f offset x) in subst P (sym e) (record { home = found (a.plan.home a.member.setting.number b) h; names = o })
+    end_row w d original (row b e c i h o) z y found = let P : Word → Type 0 = λ x. LinkMeets a q (Ok (Some (end.Array original))) (link_at (here a.member a.task q) f offset x) in subst P (sym e) (record { home = found (a.plan.home a.member.constants.number b) h; names = o })
     end_row w d original (item b x e c i k h o) z y found = absurd (true≢false (sym i ∙ y))
 
     pub end_item : (w : Word) (d : DataDesc) (original : ℕ) (found : Result End Fault) → Described at f w d → d.copy ≡ true → d.indexed ≡ true → ((home : ℕ) → IsCopyOf core d home → original ≡ home)
-        → ((n : ℕ) → original ≡ a.plan.home a.member.setting.number n → NamesArray a.member.course.job.arrays (reach a) n → EndMeets a q found (element_end (here a.member a.task q) n d.length))
+        → ((n : ℕ) → original ≡ a.plan.home a.member.constants.number n → NamesArray a.member.progress.job.arrays (reach a) n → EndMeets a q found (element_end (here a.member a.task q) n d.length))
         → LinkMeets a q (on_link found) (link_at (here a.member a.task q) f offset w)
     end_item w d original found (own b e c h o) z y is each = absurd (false≢true (sym c ∙ z))
     end_item w d original found (row b e c i h o) z y is each = absurd (false≢true (sym i ∙ y))
     end_item w d original found (item b x e c i k h o) z y is each =
-        let m = each b (is (a.plan.home a.member.setting.number b) h) o in
+        let m = each b (is (a.plan.home a.member.constants.number b) h) o in
         let E : ℕ → Type 0 = λ n. EndMeets a q found (element_end (here a.member a.task q) b n) in
         let P : Word → Type 0 = λ v. LinkMeets a q (on_link found) (link_at (here a.member a.task q) f offset v) in
         subst P (sym e) (linked found (element_end (here a.member a.task q) b x) (subst E k m))
@@ -104,15 +98,15 @@ module _ (core : List Tagged) (r : Regs) (a : Scene core r) where
         linked (Err x) (Ok end) m = absurd m
 
   pub item_of : (at owner : ℕ) (w : Word) (d : DataDesc) (original : ℕ) → Described at owner w d → d.copy ≡ true → d.indexed ≡ true → ((home : ℕ) → IsCopyOf core d home → original ≡ home)
-      → (n : ℕ) × (original ≡ a.plan.home a.member.setting.number n) × NamesArray a.member.course.job.arrays (reach a) n
+      → (n : ℕ) × (original ≡ a.plan.home a.member.constants.number n) × NamesArray a.member.progress.job.arrays (reach a) n
   item_of at owner w d original (own b e c h o) z y is = absurd (false≢true (sym c ∙ z))
   item_of at owner w d original (row b e c i h o) z y is = absurd (false≢true (sym i ∙ y))
-  item_of at owner w d original (item b x e c i k h o) z y is = (b, is (a.plan.home a.member.setting.number b) h, o)
+  item_of at owner w d original (item b x e c i k h o) z y is = (b, is (a.plan.home a.member.constants.number b) h, o)
 
   pub copied : (at owner : ℕ) (w : Word) (d : DataDesc) → Described at owner w d → d.copy ≡ true → (home : ℕ) × IsCopyOf core d home
   copied at owner w d (own b e c h o) z = absurd (false≢true (sym c ∙ z))
-  copied at owner w d (row b e c i h o) z = (a.plan.home a.member.setting.number b, h)
-  copied at owner w d (item b x e c i k h o) z = (a.plan.home a.member.setting.number b, h)
+  copied at owner w d (row b e c i h o) z = (a.plan.home a.member.constants.number b, h)
+  copied at owner w d (item b x e c i k h o) z = (a.plan.home a.member.constants.number b, h)
 
   -- the descriptor that a cell's word is
   pub cell_described : (q : Place) (at f offset : ℕ) (w : Word) (v : Tagged) → IsCellAt a q at f offset w → HasTag core at 5 → slice_get core at ≡ Some v → (d : DataDesc) × IsDataDesc d × (v ≡ data_word d) × Described at f w d

@@ -9,100 +9,99 @@ use Rattle.b67_ctl.specs.declared.registers.Regs.{Regs}
 use Rattle.b67_ctl.specs.declared.marks.Mscw.{Mscw}
 use Rattle.b67_ctl.specs.Layout.{mscw_word, IsMscw}
 use Rattle.b67_lemmas.specs.Lists.{Has, how_many}
+use Rattle.b67_lemmas.proofs.Members.{has_append_cases, has_append_right, has_map, has_map_back, keyed_has, keyed_left, keyed_right, none_pass, total_flat, total_zero, keyed-has}
 use Rattle.b67_model.specs.Keyed.{keyed}
-use Rattle.b67_model.specs.State.{Frame, Standing, Marked, Entered, Task, Here, height, mcp, no_frame, frame}
+use Rattle.b67_model.specs.State.{Frame, Standing, Marked, Entered, Task, OperatorContext, height, mcp, no_frame, frame}
 use Rattle.b67_model.specs.Environment.{level_of_standing, environment_of}
 use Rattle.b67_model.specs.InOrder.{Known, known_of, known_numbers, from_frame, frames_of_task, critical_of, base as base_known, reach_of, IsEntered, ParentInOrder, BirthInOrder, StandsInOrder, EnvironmentInOrder, IsSegment, frames_named}
-use Rattle.b67_stack.specs.Stacks.{Spot}
-use Rattle.b67_law_order.proofs.Members.{has_append_right, has_append_cases, has_map, has_map_back, keyed_has, keyed_left, keyed_right, total_flat, total_zero, none_pass}
-use Rattle.b67_law_order.proofs.Looks.{Line, line_of, above_one, found_frame}
-use Rattle.b67_layout.specs.Plan.{slot_of, spot_in, base_spot, outer_spots, spots, address_of}
+use Rattle.b67_stack.specs.Stacks.{StackPlace}
+use Rattle.b67_law_order.proofs.Looks.{Line, line_of, above_one, found_frame, from_has}
+use Rattle.b67_layout.specs.Placement.{slot_of, spot_in, base_spot, outer_spots, spots, address_of}
 use Rattle.b67_layout.specs.Session.{frame_address}
 use Rattle.b67_layout.specs.Meets.{here}
-use Rattle.b67_layout.proofs.Others.{keyed-has}
 use Rattle.b67_word.specs.declared.couples.Place.{Place}
 use Rattle.b67_stack.specs.Stacks as Stacks
 use Rattle.b67_layout.specs.Layout.{head}
-use Rattle.b67_refer.specs.Scene.{Scene, IsStackOf}
+use Rattle.b67_refer.specs.RunningContext.{RunningContext, IsStackOf}
 use Rattle.b67_refer.proofs.Slots.{mark_in, part_mark, base, acts}
-use Rattle.b67_refer.proofs.Seats.{spot_low, from_has, Seat, seat, has_task, order_of}
+use Rattle.b67_refer.proofs.Seats.{spot_low, Seat, seat, has_task, order_of}
 
-module _ (core : List Tagged) (r : Regs) (a : Scene core r) where
-  high_frames : (u : Task) → Has a.member.course.job.tasks u → (f : Frame) → Has u.frames f → 1 < f.identity
-  high_frames u h f m = above_one (IsSegment a.member.setting) a.member.setting a.member.course.job a.ordered.tasks u h f m
+module _ (core : List Tagged) (r : Regs) (a : RunningContext core r) where
+  high_frames : (u : Task) → Has a.member.progress.job.tasks u → (f : Frame) → Has u.frames f → 1 < f.identity
+  high_frames u h f m = above_one (IsSegment a.member.constants) a.member.constants a.member.progress.job a.ordered.tasks u h f m
 
   -- the dictionary and the MCP are no task's frames
-  outer_low : (u : Task) → Has a.member.course.job.tasks u → (parents : List ℕ) → u.parents ≡ parents → (id : ℕ) → id ≤ 1
-      → outer_spots a.plan a.member.setting.number a.member.course.job u.critical parents id ≡ base_spot a.member.setting.number id
+  outer_low : (u : Task) → Has a.member.progress.job.tasks u → (parents : List ℕ) → u.parents ≡ parents → (id : ℕ) → id ≤ 1
+      → outer_spots a.plan a.member.constants.number a.member.progress.job u.critical parents id ≡ base_spot a.member.constants.number id
   outer_low u here [] line id low = refl
   outer_low u here (n ∷ more) line id low =
-      let job = a.member.course.job in
+      let job = a.member.progress.job in
       let birth : ParentInOrder job u n more = subst (BirthInOrder job u) line (order_of core r a u here).birth in
       let q = birth.parent in
       let at = keyed_has (λ (v : Task). v.number) n job.tasks q birth.found in
-      let k = slot_of a.plan a.member.setting.number n in
-      let S : Option Task → Spot = λ v. spot_in k (outer_spots a.plan a.member.setting.number job (critical_of v) more) (from_frame u.critical (frames_of_task v)) id in
+      let k = slot_of a.plan a.member.constants.number n in
+      let S : Option Task → StackPlace = λ v. spot_in k (outer_spots a.plan a.member.constants.number job (critical_of v) more) (from_frame u.critical (frames_of_task v)) id in
       ap S birth.found
-      ∙ spot_low k (outer_spots a.plan a.member.setting.number job q.critical more) (from_frame u.critical q.frames) id low (λ f h. high_frames q at.0 f (from_has u.critical q.frames f h))
+      ∙ spot_low k (outer_spots a.plan a.member.constants.number job q.critical more) (from_frame u.critical q.frames) id low (λ f h. high_frames q at.0 f (from_has u.critical q.frames f h))
       ∙ outer_low q at.0 more birth.line id low
 
-  pub view_low : (id : ℕ) → id ≤ 1 → spots a.plan a.member.setting.number a.member.course.job a.task id ≡ base_spot a.member.setting.number id
+  pub view_low : (id : ℕ) → id ≤ 1 → spots a.plan a.member.constants.number a.member.progress.job a.task id ≡ base_spot a.member.constants.number id
   view_low id low =
       let here = has_task core r a in
-      spot_low (slot_of a.plan a.member.setting.number a.task.number) (outer_spots a.plan a.member.setting.number a.member.course.job a.task.critical a.task.parents) a.task.frames id low (λ f h. high_frames a.task here f h)
+      spot_low (slot_of a.plan a.member.constants.number a.task.number) (outer_spots a.plan a.member.constants.number a.member.progress.job a.task.critical a.task.parents) a.task.frames id low (λ f h. high_frames a.task here f h)
       ∙ outer_low a.task here a.task.parents refl id low
 
-  line : Line (IsSegment a.member.setting) a.member.course.job (reach_of a.member.course.job a.task)
-  line = line_of (IsSegment a.member.setting) a.member.setting a.member.course.job a.ordered.tasks a.task (has_task core r a)
+  line : Line (IsSegment a.member.constants) a.member.progress.job (reach_of a.member.progress.job a.task)
+  line = line_of (IsSegment a.member.constants) a.member.constants a.member.progress.job a.ordered.tasks a.task (has_task core r a)
 
-  pub base_in : (id : ℕ) (s : Standing) → Has base_known (id, s) → Has (reach_of a.member.course.job a.task) (id, s)
+  pub base_in : (id : ℕ) (s : Standing) → Has base_known (id, s) → Has (reach_of a.member.progress.job a.task) (id, s)
   base_in id s h = rw line.is (has_append_right (map known_of line.frames) base_known (id, s) h)
 
   -- below two there are the dictionary and the MCP alone
-  pub low_is : (id : ℕ) (s : Standing) → Has (reach_of a.member.course.job a.task) (id, s) → id ≤ 1 → Has base_known (id, s)
+  pub low_is : (id : ℕ) (s : Standing) → Has (reach_of a.member.progress.job a.task) (id, s) → id ≤ 1 → Has base_known (id, s)
   low_is id s h low = ⊎_elim
       (λ m. (let b = has_map_back known_of line.frames (id, s) m in let live = line.live b.item b.among in
       absurd (omega (arith, high_frames live.task live.live b.item live.among, low, ap (λ (k : Known). k.0) b.is))))
       (λ m. m)
       (has_append_cases (map known_of line.frames) base_known (id, s) (rw line.is at h))
 
-  none_low : (n : ℕ) → n ≤ 1 → how_many (λ (f : Frame). eqb f.identity n) (flat_map (λ (u : Task). u.frames) a.member.course.job.tasks) ≡ 0
-  none_low n low = rw (total_flat (λ (u : Task). u.frames) (λ (f : Frame). cond (eqb f.identity n) 1 0) a.member.course.job.tasks)
-      (total_zero (λ (u : Task). frames_named n u.frames) a.member.course.job.tasks (λ u h. none_pass (λ (f : Frame). eqb f.identity n) u.frames (λ f m. elim (eqb_tells f.identity n) [
+  none_low : (n : ℕ) → n ≤ 1 → how_many (λ (f : Frame). eqb f.identity n) (flat_map (λ (u : Task). u.frames) a.member.progress.job.tasks) ≡ 0
+  none_low n low = rw (total_flat (λ (u : Task). u.frames) (λ (f : Frame). cond (eqb f.identity n) 1 0) a.member.progress.job.tasks)
+      (total_zero (λ (u : Task). frames_named n u.frames) a.member.progress.job.tasks (λ u h. none_pass (λ (f : Frame). eqb f.identity n) u.frames (λ f m. elim (eqb_tells f.identity n) [
         | inl e ↦ absurd (omega (arith, high_frames u h f m, e.1, low))
         | inr e ↦ e.0
       ])))
 
   -- the model's look-ups
   module _ (q : Place) where
-    abbrev h : Here
+    abbrev h : OperatorContext
     h = here a.member a.task q
 
-    pub frame_seat : (id : ℕ) (s : Standing) (b : Seat core r a (spots a.plan a.member.setting.number a.member.course.job a.task) (reach_of a.member.course.job a.task) id s) → frame (here a.member a.task q) id ≡ b.frame
+    pub frame_seat : (id : ℕ) (s : Standing) (b : Seat core r a (spots a.plan a.member.constants.number a.member.progress.job a.task) (reach_of a.member.progress.job a.task) id s) → frame (here a.member a.task q) id ≡ b.frame
     frame_seat id s b =
-        let found = found_frame (IsSegment a.member.setting) a.member.setting a.member.course.job a.ordered.tasks b.frame b.live in
-        let at : keyed (λ (x : Frame). x.identity) id (flat_map (λ (u : Task). u.frames) a.member.course.job.tasks) ≡ Some b.frame =
-        subst (λ (i : ℕ). keyed (λ (x : Frame). x.identity) i (flat_map (λ (u : Task). u.frames) a.member.course.job.tasks) ≡ Some b.frame) b.named found in
-        ap (λ o. unwrap_or o no_frame) (keyed_left (λ (x : Frame). x.identity) id (flat_map (λ (u : Task). u.frames) a.member.course.job.tasks) (a.member.setting.dictionary ∷ mcp ∷ []) b.frame at)
+        let found = found_frame (IsSegment a.member.constants) a.member.constants a.member.progress.job a.ordered.tasks b.frame b.live in
+        let at : keyed (λ (x : Frame). x.identity) id (flat_map (λ (u : Task). u.frames) a.member.progress.job.tasks) ≡ Some b.frame =
+        subst (λ (i : ℕ). keyed (λ (x : Frame). x.identity) i (flat_map (λ (u : Task). u.frames) a.member.progress.job.tasks) ≡ Some b.frame) b.named found in
+        ap (λ o. unwrap_or o no_frame) (keyed_left (λ (x : Frame). x.identity) id (flat_map (λ (u : Task). u.frames) a.member.progress.job.tasks) (a.member.constants.dictionary ∷ mcp ∷ []) b.frame at)
 
-    pub frame_dictionary : frame (here a.member a.task q) 1 ≡ a.member.setting.dictionary
+    pub frame_dictionary : frame (here a.member a.task q) 1 ≡ a.member.constants.dictionary
     frame_dictionary =
-        let found : keyed (λ (x : Frame). x.identity) 1 (a.member.setting.dictionary ∷ mcp ∷ []) ≡ Some a.member.setting.dictionary = rw a.ordered.setting.named refl in
-        ap (λ o. unwrap_or o no_frame) (keyed_right (λ (x : Frame). x.identity) 1 (flat_map (λ (u : Task). u.frames) a.member.course.job.tasks) (a.member.setting.dictionary ∷ mcp ∷ []) (none_low 1 (omega arith)) ∙ found)
+        let found : keyed (λ (x : Frame). x.identity) 1 (a.member.constants.dictionary ∷ mcp ∷ []) ≡ Some a.member.constants.dictionary = rw a.ordered.constants.named refl in
+        ap (λ o. unwrap_or o no_frame) (keyed_right (λ (x : Frame). x.identity) 1 (flat_map (λ (u : Task). u.frames) a.member.progress.job.tasks) (a.member.constants.dictionary ∷ mcp ∷ []) (none_low 1 (omega arith)) ∙ found)
 
     pub frame_mcp : frame (here a.member a.task q) 0 ≡ mcp
     frame_mcp =
-        let found : keyed (λ (x : Frame). x.identity) 0 (a.member.setting.dictionary ∷ mcp ∷ []) ≡ Some mcp = rw a.ordered.setting.named refl in
-        ap (λ o. unwrap_or o no_frame) (keyed_right (λ (x : Frame). x.identity) 0 (flat_map (λ (u : Task). u.frames) a.member.course.job.tasks) (a.member.setting.dictionary ∷ mcp ∷ []) (none_low 0 (omega arith)) ∙ found)
+        let found : keyed (λ (x : Frame). x.identity) 0 (a.member.constants.dictionary ∷ mcp ∷ []) ≡ Some mcp = rw a.ordered.constants.named refl in
+        ap (λ o. unwrap_or o no_frame) (keyed_right (λ (x : Frame). x.identity) 0 (flat_map (λ (u : Task). u.frames) a.member.progress.job.tasks) (a.member.constants.dictionary ∷ mcp ∷ []) (none_low 0 (omega arith)) ∙ found)
 
     -- a frame of the reach is looked up as itself
-    pub frame_known : (id : ℕ) (s : Standing) → Has (reach_of a.member.course.job a.task) (id, s) → known_of (frame (here a.member a.task q) id) ≡ (id, s)
+    pub frame_known : (id : ℕ) (s : Standing) → Has (reach_of a.member.progress.job a.task) (id, s) → known_of (frame (here a.member a.task q) id) ≡ (id, s)
     frame_known id s m = ⊎_elim
         (λ (high : 1 < id). let b = seat core r a id s m high in ap known_of (frame_seat id s b) ∙ (λ i. (b.named i, b.stands i)))
         (λ (low : id ≤ 1). by_base (low_is id s m low))
         (cases_lt 1 id) where
           by_base : Has base_known (id, s) → known_of (frame (here a.member a.task q) id) ≡ (id, s)
-          by_base (inl e) = subst (λ (k : Known). known_of (frame (here a.member a.task q) k.0) ≡ k) e (ap known_of frame_dictionary ∙ (λ i. (a.ordered.setting.named i, a.ordered.setting.stands i)))
+          by_base (inl e) = subst (λ (k : Known). known_of (frame (here a.member a.task q) k.0) ≡ k) e (ap known_of frame_dictionary ∙ (λ i. (a.ordered.constants.named i, a.ordered.constants.stands i)))
           by_base (inr (inl e)) = subst (λ (k : Known). known_of (frame (here a.member a.task q) k.0) ≡ k) e (ap known_of frame_mcp)
           by_base (inr (inr z)) = absurd z
 
@@ -113,19 +112,19 @@ module _ (core : List Tagged) (r : Regs) (a : Scene core r) where
     pub there : slice_get core (frame_address a.plan a.member a.task id) ≡ Some (mscw_word mark)
     pub level : mark.level ≡ level_of_standing s
     pub standing : Standing
-    pub among : Has (reach_of a.member.course.job a.task) (environment_of s, standing)
+    pub among : Has (reach_of a.member.progress.job a.task) (environment_of s, standing)
     pub entered : IsEntered standing
     pub level_below : level_of_standing standing + 1 ≡ level_of_standing s
     pub stack : IsStackOf a mark.env_stack
     pub address : address_of a.plan (record { stack = mark.env_stack; disp = mark.env_disp }) ≡ frame_address a.plan a.member a.task (environment_of s)
 
   -- the stack of a spot that the task may name
-  pub stack_known : (id : ℕ) (s : Standing) → Has (reach_of a.member.course.job a.task) (id, s) → IsStackOf a (spots a.plan a.member.setting.number a.member.course.job a.task id).stack
+  pub stack_known : (id : ℕ) (s : Standing) → Has (reach_of a.member.progress.job a.task) (id, s) → IsStackOf a (spots a.plan a.member.constants.number a.member.progress.job a.task id).stack
   stack_known id s m = ⊎_elim
-      (λ (high : 1 < id). let b = seat core r a id s m high in subst (λ (z : Spot). IsStackOf a z.stack) (sym b.spot) (inl b.top_is.used))
-      (λ (low : id ≤ 1). subst (λ (z : Spot). IsStackOf a z.stack) (sym (view_low id low)) (by_base (id == 1)))
+      (λ (high : 1 < id). let b = seat core r a id s m high in subst (λ (z : StackPlace). IsStackOf a z.stack) (sym b.spot) (inl b.top_is.used))
+      (λ (low : id ≤ 1). subst (λ (z : StackPlace). IsStackOf a z.stack) (sym (view_low id low)) (by_base (id == 1)))
       (cases_lt 1 id) where
-        by_base : (b : Bool) → IsStackOf a (let z : Spot = if b then record { stack = 127 + a.member.setting.number; disp = 0 } else record { stack = 136; disp = 0 } in z).stack
+        by_base : (b : Bool) → IsStackOf a (let z : StackPlace = if b then record { stack = 127 + a.member.constants.number; disp = 0 } else record { stack = 136; disp = 0 } in z).stack
         by_base true = inr (inl refl)
         by_base false = inr (inr refl)
 
@@ -136,9 +135,9 @@ module _ (core : List Tagged) (r : Regs) (a : Scene core r) where
       let t : nat_lt k 120 ≡ true = lt-ltb k 120 (omega (arith, used, few)) in
       rw t refl
 
-  pub dictionary_address : address_of a.plan (base_spot a.member.setting.number 1) ≡ a.plan.dictionary a.member.setting.number
+  pub dictionary_address : address_of a.plan (base_spot a.member.constants.number 1) ≡ a.plan.dictionary a.member.constants.number
   dictionary_address =
-      let j = a.member.setting.number in
+      let j = a.member.constants.number in
       let few = a.ordered.few in
       let t : nat_lt (127 + j) 120 ≡ false = le-ltb (127 + j) 120 (omega arith) in
       let u : nat_lt (127 + j) 136 ≡ true = lt-ltb (127 + j) 136 (omega (arith, few)) in
@@ -146,7 +145,7 @@ module _ (core : List Tagged) (r : Regs) (a : Scene core r) where
       rw t (rw u (rw e (omega arith)))
 
   -- the mark of an entered frame in reach, but the MCP's
-  mark_high : (id : ℕ) (s : Standing) → Has (reach_of a.member.course.job a.task) (id, s) → IsEntered s → 1 < id → MarkOf id s
+  mark_high : (id : ℕ) (s : Standing) → Has (reach_of a.member.progress.job a.task) (id, s) → IsEntered s → 1 < id → MarkOf id s
   mark_high id Marked m e high = absurd e
   mark_high id (Entered level environment back) m e high =
       let b = seat core r a id (Entered level environment back) m high in
@@ -154,8 +153,8 @@ module _ (core : List Tagged) (r : Regs) (a : Scene core r) where
       let k = b.slot in
       let order : EnvironmentInOrder (map known_of b.below ++ b.known) level environment = subst (λ (z : Standing). StandsInOrder (map known_of b.below ++ b.known) z) b.stands b.order.1 in
       let env : Has (known_numbers (map known_of b.below ++ b.known)) environment = has_map (λ (k : Known). k.0) (map known_of b.below ++ b.known) (environment, order.standing) order.among in
-      let under : Has (reach_of a.member.course.job a.task) (environment, order.standing) = b.among (environment, order.standing) (inr order.among) in
-      let seen : spots a.plan a.member.setting.number a.member.course.job a.task environment ≡ spot_in k b.outer b.below environment =
+      let under : Has (reach_of a.member.progress.job a.task) (environment, order.standing) = b.among (environment, order.standing) (inr order.among) in
+      let seen : spots a.plan a.member.constants.number a.member.progress.job a.task environment ≡ spot_in k b.outer b.below environment =
       b.sees environment (inr env) ∙ (let low = b.falls environment env in let ne : (b.frame.identity == environment) ≡ false = ne_eqb b.frame.identity environment (λ z. omega (arith, z, low)) in rw ne refl) in
       let mk : Mscw = Stacks.mark_of k (head (spot_in k b.outer b.below) (Entered level environment back)) (acts core r a k b.outer b.below) in
       let is : mark_in core r a k b.outer b.frame b.below ≡ mk = ap (λ (z : Standing). Stacks.mark_of k (head (spot_in k b.outer b.below) z) (acts core r a k b.outer b.below)) b.stands in
@@ -169,12 +168,12 @@ module _ (core : List Tagged) (r : Regs) (a : Scene core r) where
         among = under;
         entered = order.entered;
         level_below = order.level_below;
-        stack = subst (λ (z : Spot). IsStackOf a z.stack) seen (stack_known environment order.standing under);
+        stack = subst (λ (z : StackPlace). IsStackOf a z.stack) seen (stack_known environment order.standing under);
         address = ap (address_of a.plan) (sym seen);
       }
 
   -- a frame of a task is entered at level 2 or more
-  pub high_level : (id : ℕ) (s : Standing) → Has (reach_of a.member.course.job a.task) (id, s) → IsEntered s → 1 < id → 2 ≤ level_of_standing s
+  pub high_level : (id : ℕ) (s : Standing) → Has (reach_of a.member.progress.job a.task) (id, s) → IsEntered s → 1 < id → 2 ≤ level_of_standing s
   high_level id Marked m e high = absurd e
   high_level id (Entered level environment back) m e high =
       let b = seat core r a id (Entered level environment back) m high in
@@ -188,7 +187,7 @@ module _ (core : List Tagged) (r : Regs) (a : Scene core r) where
   mark_low id s (inl e) low = subst (λ (k : Known). MarkOf k.0 k.1) e (record {
     mark = record { far = true; entered = true; env_stack = 136; env_disp = 0; value = false; level = 1; back = 0 };
     fits = record { env_stack = omega arith; env_disp = omega arith; level = omega arith; back = omega arith; marked = λ z. absurd (let y : ⊥ = cc in y) };
-    there = ap (slice_get core) (ap (address_of a.plan) (view_low 1 (omega arith)) ∙ dictionary_address) ∙ (a.holds.dictionaries a.member (keyed-has (λ m. m.setting.number) a.member.setting.number a.session.jobs a.member a.running.member)).mark;
+    there = ap (slice_get core) (ap (address_of a.plan) (view_low 1 (omega arith)) ∙ dictionary_address) ∙ (a.holds.dictionaries a.member (keyed-has (λ m. m.constants.number) a.member.constants.number a.session.jobs a.member a.running.member)).mark;
     level = refl;
     standing = Entered 0 0 None;
     among = base_in 0 (Entered 0 0 None) (inr (inl refl));
@@ -200,5 +199,5 @@ module _ (core : List Tagged) (r : Regs) (a : Scene core r) where
   mark_low id s (inr (inl e)) low = absurd (omega (arith, low, ap (λ (k : Known). level_of_standing k.1) e))
   mark_low id s (inr (inr z)) low = absurd z
 
-  pub mark : (id : ℕ) (s : Standing) → Has (reach_of a.member.course.job a.task) (id, s) → IsEntered s → 1 ≤ level_of_standing s → MarkOf id s
+  pub mark : (id : ℕ) (s : Standing) → Has (reach_of a.member.progress.job a.task) (id, s) → IsEntered s → 1 ≤ level_of_standing s → MarkOf id s
   mark id s m e low = ⊎_elim (λ (high : 1 < id). mark_high id s m e high) (λ (z : id ≤ 1). mark_low id s (low_is id s m z) low) (cases_lt 1 id)

@@ -19,11 +19,11 @@ use Rattle.b67_model.specs.State.{height}
 use Rattle.b67_model.specs.Cells.{cell, named, place_of}
 use Rattle.b67_model.specs.Chase.{Link, Stops, Leads, link_at, link_in, link_from, link, chase_on}
 use Rattle.b67_model.specs.InOrder.{NamesEntered}
-use Rattle.b67_stack.specs.Stacks.{Spot}
-use Rattle.b67_layout.specs.Plan.{base_spot}
+use Rattle.b67_stack.specs.Stacks.{StackPlace}
+use Rattle.b67_layout.specs.Placement.{base_spot}
 use Rattle.b67_layout.specs.Meets.{here}
 use Rattle.b67_refer.specs.declared.ends.End.{End}
-use Rattle.b67_refer.specs.Scene.{Scene}
+use Rattle.b67_refer.specs.RunningContext.{RunningContext}
 use Rattle.b67_refer.specs.Cells.{reach, view, StandsFor, IsCellAt, CellMeets, FindsCell}
 use Rattle.b67_refer.specs.Ends.{IsReference, EndMeets, LinkMeets}
 use Rattle.b67_refer.proofs.Seats.{seat}
@@ -31,7 +31,7 @@ use Rattle.b67_refer.proofs.Unders.{seat_low}
 use Rattle.b67_refer.proofs.Marks.{stack_known, view_low}
 use Rattle.b67_refer.proofs.Chains.{level_is}
 
-module _ (core : List Tagged) (r : Regs) (a : Scene core r) where
+module _ (core : List Tagged) (r : Regs) (a : RunningContext core r) where
   -- the fields of a reference's spot fit its word
   spot_fits : (g offset : ℕ) → NamesEntered (reach a) g → offset < 2 ^ 12 → IsSirw (record { stack = (view a g).stack; disp = (view a g).disp; offset = offset })
   spot_fits g offset n low =
@@ -43,9 +43,9 @@ module _ (core : List Tagged) (r : Regs) (a : Scene core r) where
         disp = disp_fits;
         offset = omega (arith, low);
       } where
-        by_base : (z : Spot) → z ≡ base_spot a.member.setting.number g → z.disp < 2 ^ 16
-        by_base z e = subst (λ (y : Spot). y.disp < 2 ^ 16) (sym e) (by_test (Rattle.std.proofs.Common.eqb g 1)) where
-          by_test : (b : Rattle.std.proofs.Common.Bool) → (let y : Spot = Rattle.std.proofs.Common.cond b (record { stack = 127 + a.member.setting.number; disp = 0 }) (record { stack = 136; disp = 0 }) in y).disp < 2 ^ 16
+        by_base : (z : StackPlace) → z ≡ base_spot a.member.constants.number g → z.disp < 2 ^ 16
+        by_base z e = subst (λ (y : StackPlace). y.disp < 2 ^ 16) (sym e) (by_test (Rattle.std.proofs.Common.eqb g 1)) where
+          by_test : (b : Rattle.std.proofs.Common.Bool) → (let y : StackPlace = Rattle.std.proofs.Common.cond b (record { stack = 127 + a.member.constants.number; disp = 0 }) (record { stack = 136; disp = 0 }) in y).disp < 2 ^ 16
           by_test Rattle.std.proofs.Common.true = omega arith
           by_test Rattle.std.proofs.Common.false = omega arith
 
@@ -55,7 +55,7 @@ module _ (core : List Tagged) (r : Regs) (a : Scene core r) where
             (let b = seat core r a g n.standing n.among own in
             let small = a.holds.memory.slots.laid.room in
             let low = seat_low core r a g n own in
-            let e : (view a g).disp ≡ height b.below = ap (λ (z : Spot). z.disp) b.spot in
+            let e : (view a g).disp ≡ height b.below = ap (λ (z : StackPlace). z.disp) b.spot in
             omega (arith, e, low, small)))
             (λ (low : g ≤ 1). by_base (view a g) (view_low core r a g low))
             (cases_lt 1 g)

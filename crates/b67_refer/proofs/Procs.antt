@@ -1,50 +1,39 @@
 -- The cells of procedures and of intrinsics.
-use Rattle.std.proofs.Common.{◌≡◌, ℕ, ◌+◌, ◌-◌, ◌<◌, ◌≤◌, List, length, reverse, Some, Ok, sym, ◌∙◌, ap, arith, ⊎_elim, subst}
-use Rattle.std.specs.Prelude.{nat_lt}
+use Rattle.std.proofs.Common.{◌≡◌, ℕ, ◌+◌, ◌<◌, ◌≤◌, List, length, reverse, Some, Ok, sym, ◌∙◌, ap, arith, ⊎_elim, subst}
 use Rattle.std.specs.Option.{ok_or}
-use Rattle.std.proofs.lemmas.Bool.{cases_lt, cases_Bool}
-use Rattle.std.proofs.lemmas.Option.{none-some}
-use Rattle.std.proofs.Common.{true, false}
+use Rattle.std.proofs.lemmas.Bool.{cases_lt}
+use Rattle.std.proofs.lemmas.List.{length-reverse}
 use Rattle.b67_word.specs.Tagged.{Tagged}
 use Rattle.b67_word.specs.declared.couples.Place.{Place}
 use Rattle.b67_word.specs.declared.faults.Fault.TheVariants.{InvalidAddress}
 use Rattle.b67_ctl.specs.declared.registers.Regs.{Regs}
 use Rattle.b67_ctl.specs.declared.programs.IntrinsicPcw.{IntrinsicPcw}
 use Rattle.b67_ctl.specs.Layout.{intrinsic_word, IsIntrinsicPcw}
-use Rattle.b67_lemmas.specs.Lists.{Has}
+use Rattle.b67_lemmas.proofs.Members.{all_in}
 use Rattle.b67_model.specs.Words as Words
 use Rattle.b67_model.specs.Words.{Word, Operand, Name, Ref, Row, Element, Original, Proc, Intrinsic}
 use Rattle.b67_model.specs.State.{Frame, mcp, frame}
-use Rattle.b67_model.specs.Cells.{first_offset, cell_of}
+use Rattle.b67_model.specs.Cells.{cell_of}
 use Rattle.b67_model.specs.InOrder.{EntryInOrder, IsSegment}
 use Rattle.b67_model.specs.Chase.{link_at}
-use Rattle.b67_law_order.proofs.Members.{has_reverse_back, has_get, all_in}
-use Rattle.b67_law_order.proofs.Chases.{some_ok}
+use Rattle.b67_law_order.proofs.Chases.{cell_has}
 use Rattle.b67_layout.specs.Meets.{here}
+use Rattle.b67_layout.proofs.Sessions.{words_enough}
 use Rattle.b67_refer.specs.declared.ends.End.TheVariants as end
-use Rattle.b67_refer.specs.Scene.{Scene}
+use Rattle.b67_refer.specs.RunningContext.{RunningContext}
 use Rattle.b67_refer.specs.Cells.{StandsFor, IsCellAt}
 use Rattle.b67_refer.specs.Ends.{LinkMeets}
 use Rattle.b67_refer.proofs.Marks.{frame_dictionary, frame_mcp}
-use Rattle.b67_refer.proofs.Links.{segments_low, not_intrinsic}
-use Rattle.b67_refer.proofs.Rule.{length_reverse}
+use Rattle.b67_refer.proofs.Links.{not_intrinsic}
 
 abbrev IsNoProc : Word → Type 0
 IsNoProc (Proc segment level place) = ⊥
 IsNoProc _ = Unit {0}
 
-cell_has : (g : Frame) (offset : ℕ) (w : Word) → ok_or (cell_of g offset) InvalidAddress ≡ Ok w → Has g.cells w
-cell_has g offset w e =
-    let some : cell_of g offset ≡ Some w = some_ok (cell_of g offset) InvalidAddress w e in
-    ⊎_elim
-    (λ (t : nat_lt offset (first_offset g) ≡ true). absurd (none-some w (rw t at some)))
-    (λ (t : nat_lt offset (first_offset g) ≡ false). has_reverse_back g.cells w (has_get (reverse g.cells) (offset - first_offset g) w (rw t at some)))
-    (cases_Bool (nat_lt offset (first_offset g)))
-
 no_entry : (arrays : List Rattle.b67_model.specs.State.Array) (segment level : ℕ) (place : Place) → EntryInOrder arrays (Proc segment level place) → ⊥
 no_entry arrays segment level place e = e
 
-module _ (core : List Tagged) (r : Regs) (a : Scene core r) (q : Place) where
+module _ (core : List Tagged) (r : Regs) (a : RunningContext core r) (q : Place) where
   -- a procedure's cell lies in a frame of a task
   pub proc_own : (at f offset segment level : ℕ) (place : Place) → IsCellAt a q at f offset (Proc segment level place) → 1 < f
   proc_own at f offset segment level place c = ⊎_elim
@@ -56,16 +45,16 @@ module _ (core : List Tagged) (r : Regs) (a : Scene core r) (q : Place) where
       all_in IsNoProc mcp.cells (Proc segment level place) (tt, (tt, (tt, (tt, (tt, (tt, (tt, (tt, (tt, (tt, (tt, tt))))))))))) h))
       (λ (z : 1 ≤ f).
       (let is : f ≡ 1 = omega (arith, z, low) in
-      let h = cell_has a.member.setting.dictionary offset (Proc segment level place) (sym (ap (λ (g : Frame). ok_or (cell_of g offset) InvalidAddress) (ap (frame (here a.member a.task q)) is ∙ frame_dictionary core r a q)) ∙ c.found) in
-      no_entry a.member.course.job.arrays segment level place (all_in (EntryInOrder a.member.course.job.arrays) a.member.setting.dictionary.cells (Proc segment level place) a.ordered.tasks.entries h)))
+      let h = cell_has a.member.constants.dictionary offset (Proc segment level place) (sym (ap (λ (g : Frame). ok_or (cell_of g offset) InvalidAddress) (ap (frame (here a.member a.task q)) is ∙ frame_dictionary core r a q)) ∙ c.found) in
+      no_entry a.member.progress.job.arrays segment level place (all_in (EntryInOrder a.member.progress.job.arrays) a.member.constants.dictionary.cells (Proc segment level place) a.ordered.tasks.entries h)))
       (cases_lt f 1)))
       (cases_lt 1 f)
 
-  pub segments_few : length a.member.setting.segments ≤ 255
+  pub segments_few : length a.member.constants.segments ≤ 255
   segments_few =
-      let s = segments_low 1 a.member.setting.segments (reverse a.member.setting.dictionary.cells) a.ordered.setting.dictionary in
-      let n = length_reverse a.member.setting.dictionary.cells in
-      let e = a.ordered.setting.entries in
+      let s = words_enough 1 a.member.constants.segments (reverse a.member.constants.dictionary.cells) a.ordered.constants.dictionary in
+      let n = length-reverse a.member.constants.dictionary.cells in
+      let e = a.ordered.constants.entries in
       omega (arith, s, n, e)
 
   -- a word that is that of an intrinsic
@@ -78,7 +67,7 @@ module _ (core : List Tagged) (r : Regs) (a : Scene core r) (q : Place) where
   intrinsic_is at owner v (Original b) p s i e = absurd (let z = ap (λ (x : Tagged). x.tag) s.0.1.is in let y = ap (λ (x : Tagged). x.tag) e in omega (arith, z, y))
   intrinsic_is at owner v (Proc segment level place) p s i e =
       let z = ap (λ (x : Tagged). x.bits) (sym s.0.0 ∙ e) in
-      let o : IsSegment a.member.setting segment level place = s.1.1 in
+      let o : IsSegment a.member.constants segment level place = s.1.1 in
       let few = segments_few in
       absurd (not_intrinsic place.syllable place.word level (segment + 1) p.number (omega (arith, o.syllable_fits)) o.word_fits s.1.0 (omega (arith, o.within, few)) i.number z)
   intrinsic_is at owner v (Intrinsic n) p s i e =

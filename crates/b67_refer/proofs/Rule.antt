@@ -3,15 +3,17 @@ use Rattle.std.proofs.Common.{◌≡◌, ℕ, zero, suc, ◌+◌, ◌-◌, ◌<�
 use Rattle.std.specs.Prelude.{if◌then◌else◌, nat_lt}
 use Rattle.std.specs.List.{slice_get}
 use Rattle.std.specs.Option.{ok_or}
-use Rattle.std.proofs.lemmas.Bool.{cases_Bool, cases_eq, cases_lt, eq-eqb, eqb-true, eqb-false, ne_eqb, lt-ltb, le-ltb}
+use Rattle.std.proofs.lemmas.Bool.{cases_Bool, cases_lt, eqb-true, eqb-false, ne_eqb, lt-ltb, le-ltb}
 use Rattle.std.proofs.lemmas.Option.{same_Some, none-some}
-use Rattle.std.proofs.lemmas.List.{length-map}
+use Rattle.std.proofs.lemmas.List.{length-map, length-reverse}
 use Rattle.b67_word.specs.Tagged.{Tagged}
 use Rattle.b67_word.specs.declared.couples.Place.{Place}
 use Rattle.b67_word.specs.declared.faults.Fault.TheVariants.{InvalidAddress}
 use Rattle.b67_ctl.specs.declared.registers.Regs.{Regs}
 use Rattle.b67_ctl.specs.Layout.{sirw_word}
 use Rattle.b67_lemmas.specs.Lists.{Has}
+use Rattle.b67_lemmas.proofs.Members.{all_in, has_get, has_map, has_reverse_back, reverse_cons}
+use Rattle.b67_lemmas.proofs.Places.{same_test}
 use Rattle.b67_model.specs.Answers.{Answer}
 use Rattle.b67_model.specs.Words as Words
 use Rattle.b67_model.specs.Words.{Word, Operand, Name, Ref, Row, Element, Original, Proc, Intrinsic}
@@ -19,19 +21,18 @@ use Rattle.b67_model.specs.State as State
 use Rattle.b67_model.specs.State.{Frame, Standing, Array, Job, height, frame}
 use Rattle.b67_model.specs.Cells.{first_offset, cell_of, cell}
 use Rattle.b67_model.specs.InOrder.{Starts, Known, known_of, known_numbers, reach_of, IsEntered, IsSegment, WordInOrder}
-use Rattle.b67_law_order.proofs.Members.{reverse_cons, has_reverse_back, has_get, all_in, has_map}
 use Rattle.b67_law_order.proofs.Reaches.{Wider, word_wider}
-use Rattle.b67_stack.specs.Shapes.{Map, Shape, Is, Fits, Lie}
+use Rattle.b67_stack.specs.Shapes.{Locations, Shape, Is, Fits, LieDownward}
 use Rattle.b67_stack.specs.Stacks as Stacks
-use Rattle.b67_stack.specs.Stacks.{Spot, Head, Activation, head_size, high, headed, words}
+use Rattle.b67_stack.specs.Stacks.{StackPlace, Head, Activation, head_size, stack_words, headed, words}
 use Rattle.b67_stack.proofs.Lies.{Lie-under}
 use Rattle.b67_stack.proofs.Heights.{words-length}
-use Rattle.b67_layout.specs.Plan.{Plan, spot_in, spots, address_of}
+use Rattle.b67_layout.specs.Placement.{Placement, spot_in, spots, address_of}
 use Rattle.b67_layout.specs.Layout.{shape, head}
 use Rattle.b67_layout.specs.Session.{frame_address}
 use Rattle.b67_layout.specs.Meets.{here}
 use Rattle.b67_layout.proofs.Frames.{height-is}
-use Rattle.b67_refer.specs.Scene.{Scene}
+use Rattle.b67_refer.specs.RunningContext.{RunningContext}
 use Rattle.b67_refer.specs.Cells.{StandsFor, IsCellAt, CellMeets}
 use Rattle.b67_refer.proofs.Slots.{base, acts}
 use Rattle.b67_refer.proofs.Seats.{Seat}
@@ -45,27 +46,17 @@ abbrev from_end : {A : Type 0} → List A → ℕ → Option A
 from_end [] i = None
 from_end (x ∷ xs) i = if i == length xs then Some x else from_end xs i
 
-same_test : (i n : ℕ) → (i == n) ≡ (suc i == suc n)
-same_test i n = ⊎_elim
-    (λ (e : i ≡ n). eq-eqb i n e ∙ sym (eq-eqb (suc i) (suc n) (ap suc e)))
-    (λ (e : i ≡ n → ⊥). ne_eqb i n e ∙ sym (ne_eqb (suc i) (suc n) (λ z. e (omega (arith, z)))))
-    (cases_eq i n)
-
 get_last : {A : Type 0} (xs : List A) (y : A) (i : ℕ) → slice_get (xs ++ y ∷ []) i ≡ (if i == length xs then Some y else slice_get xs i)
 get_last [] y zero = refl
 get_last [] y (suc i) = let t = ne_eqb (suc i) 0 (λ e. omega (arith, e)) in rw t refl
 get_last (x ∷ xs) y zero = let t = ne_eqb 0 (suc (length xs)) (λ e. omega (arith, e)) in rw t refl
 get_last (x ∷ xs) y (suc i) = get_last xs y i ∙ ap (λ b. if b then Some y else slice_get xs i) (same_test i (length xs))
 
-pub length_reverse : {A : Type 0} (xs : List A) → length (reverse xs) ≡ length xs
-length_reverse [] = refl
-length_reverse (x ∷ xs) = ap length (reverse_cons x xs) ∙ length-append (reverse xs) (x ∷ []) ∙ (let e = length_reverse xs in omega (arith, e))
-
 get_reverse : {A : Type 0} (xs : List A) (i : ℕ) → slice_get (reverse xs) i ≡ from_end xs i
 get_reverse [] i = refl
 get_reverse (x ∷ xs) i =
     ap (λ ys. slice_get ys i) (reverse_cons x xs) ∙ get_last (reverse xs) x i
-    ∙ ap (λ n. if i == n then Some x else slice_get (reverse xs) i) (length_reverse xs)
+    ∙ ap (λ n. if i == n then Some x else slice_get (reverse xs) i) (length-reverse xs)
     ∙ ap (λ r. if i == length xs then Some x else r) (get_reverse xs i)
 
 -- each number below the length has an item, and no other
@@ -79,11 +70,11 @@ end_some (x ∷ xs) i low = ⊎_elim
 end_none : {A : Type 0} (xs : List A) (i : ℕ) → length xs ≤ i → from_end xs i ≡ None
 end_none [] i high = refl
 end_none (x ∷ xs) i high =
-    let ne : (i == length xs) ≡ false = ne_eqb i (length xs) (λ e. omega (arith, e, high)) in
-    rw ne (end_none xs i (omega (arith, high)))
+    let ne : (i == length xs) ≡ false = ne_eqb i (length xs) (λ e. omega (arith, e, stack_words)) in
+    rw ne (end_none xs i (omega (arith, stack_words)))
 
 -- the word of a cell that lies over others
-end_lies : {A : Type 0} (R : Shape → ℕ → Tagged → Type 0) (core : List Tagged) (from : ℕ) (g : A → Shape) (xs : List A) (under : List Shape) (i : ℕ) (x : A) → Lie R core from (map g xs ++ under) → from_end xs i ≡ Some x
+end_lies : {A : Type 0} (R : Shape → ℕ → Tagged → Type 0) (core : List Tagged) (from : ℕ) (g : A → Shape) (xs : List A) (under : List Shape) (i : ℕ) (x : A) → LieDownward R core from (map g xs ++ under) → from_end xs i ≡ Some x
     → (v : Tagged) × (slice_get core (from + length under + i) ≡ Some v) × R (g x) (from + length under + i) v
 end_lies R core from g [] under i x l e = absurd (none-some x e)
 end_lies R core from g (y ∷ xs) under i x l e = ⊎_elim
@@ -96,7 +87,7 @@ end_lies R core from g (y ∷ xs) under i x l e = ⊎_elim
     (cases_Bool (i == length xs))
 
 -- no word that a cell may hold has tag 3
-word_tag : (P : Starts) (arrays : List Array) (reach : List Known) (owner : ℕ) (held : Map) (plan : Plan) (j : ℕ) (job : Job) (spot : ℕ → Spot) (w : Word) (i : ℕ) (v : Tagged) → WordInOrder P arrays reach owner w → Fits held (shape plan j job spot w) i v → v.tag ≡ 3 → ⊥
+word_tag : (P : Starts) (arrays : List Array) (reach : List Known) (owner : ℕ) (held : Locations) (plan : Placement) (j : ℕ) (job : Job) (spot : ℕ → StackPlace) (w : Word) (i : ℕ) (v : Tagged) → WordInOrder P arrays reach owner w → Fits held (shape plan j job spot w) i v → v.tag ≡ 3 → ⊥
 word_tag P arrays reach owner held plan j job spot (Operand bits) i v o f e = let z = ap (λ (x : Tagged). x.tag) f.0 in absurd (omega (arith, z, e))
 word_tag P arrays reach owner held plan j job spot (Name couple) i v o f e = let z = ap (λ (x : Tagged). x.tag) f.0 in absurd (omega (arith, z, e))
 word_tag P arrays reach owner held plan j job spot (Ref g d) i v o f e = let z = ap (λ (x : Tagged). x.tag) f.0 in absurd (omega (arith, z, e))
@@ -108,13 +99,13 @@ word_tag P arrays reach owner held plan j job spot (Intrinsic n) i v o f e = o
 word_tag P arrays reach owner held plan j job spot (Words.Segment n) i v o f e = o
 
 -- a shape reads the spots of the frame that its word names alone
-same_shape : (P : Starts) (arrays : List Array) (reach : List Known) (owner : ℕ) (plan : Plan) (j : ℕ) (job : Job) (spot spot' : ℕ → Spot) (w : Word) → WordInOrder P arrays reach owner w → ((g : ℕ) → Has (known_numbers reach) g → spot g ≡ spot' g)
+same_shape : (P : Starts) (arrays : List Array) (reach : List Known) (owner : ℕ) (plan : Placement) (j : ℕ) (job : Job) (spot spot' : ℕ → StackPlace) (w : Word) → WordInOrder P arrays reach owner w → ((g : ℕ) → Has (known_numbers reach) g → spot g ≡ spot' g)
     → shape plan j job spot' w ≡ shape plan j job spot w
 same_shape P arrays reach owner plan j job spot spot' (Operand bits) o same = refl
 same_shape P arrays reach owner plan j job spot spot' (Name couple) o same = refl
 same_shape P arrays reach owner plan j job spot spot' (Ref g d) o same =
     let there : Has (known_numbers reach) g = has_map (λ (k : Known). k.0) reach (g, o.0.standing) o.0.among in
-    ap (λ (z : Spot). Is (sirw_word (record { stack = z.stack; disp = z.disp; offset = d }))) (sym (same g there))
+    ap (λ (z : StackPlace). Is (sirw_word (record { stack = z.stack; disp = z.disp; offset = d }))) (sym (same g there))
 same_shape P arrays reach owner plan j job spot spot' (Row b) o same = refl
 same_shape P arrays reach owner plan j job spot spot' (Element b d) o same = refl
 same_shape P arrays reach owner plan j job spot spot' (Original b) o same = refl
@@ -122,10 +113,10 @@ same_shape P arrays reach owner plan j job spot spot' (Proc s l p) o same = refl
 same_shape P arrays reach owner plan j job spot spot' (Intrinsic n) o same = refl
 same_shape P arrays reach owner plan j job spot spot' (Words.Segment n) o same = refl
 
-module _ (core : List Tagged) (r : Regs) (a : Scene core r) where
+module _ (core : List Tagged) (r : Regs) (a : RunningContext core r) where
   -- a word in order stands for itself
-  pub word_stands : (at owner : ℕ) (v : Tagged) (w : Word) → Fits a.storage.held (shape a.plan a.member.setting.number a.member.course.job (spots a.plan a.member.setting.number a.member.course.job a.task) w) at v
-      → WordInOrder (IsSegment a.member.setting) a.member.course.job.arrays (reach_of a.member.course.job a.task) owner w → StandsFor a at owner v w
+  pub word_stands : (at owner : ℕ) (v : Tagged) (w : Word) → Fits a.storage.held (shape a.plan a.member.constants.number a.member.progress.job (spots a.plan a.member.constants.number a.member.progress.job a.task) w) at v
+      → WordInOrder (IsSegment a.member.constants) a.member.progress.job.arrays (reach_of a.member.progress.job a.task) owner w → StandsFor a at owner v w
   word_stands at owner v (Operand bits) f o = (f, o)
   word_stands at owner v (Name couple) f o = (f, o)
   word_stands at owner v (Ref g d) f o = (f, o)
@@ -136,7 +127,7 @@ module _ (core : List Tagged) (r : Regs) (a : Scene core r) where
   word_stands at owner v (Intrinsic n) f o = absurd o
   word_stands at owner v (Words.Segment n) f o = absurd o
 
-  head_high : (k : ℕ) (outer : ℕ → Spot) (s : Standing) (below : List Activation) (under : List Frame) → IsEntered s → head_size (head (spot_in k outer under) s) ≡ 2
+  head_high : (k : ℕ) (outer : ℕ → StackPlace) (s : Standing) (below : List Activation) (under : List Frame) → IsEntered s → head_size (head (spot_in k outer under) s) ≡ 2
   head_high k outer State.Marked below under e = absurd e
   head_high k outer (State.Entered level environment back) below under e = refl
 
@@ -144,7 +135,7 @@ module _ (core : List Tagged) (r : Regs) (a : Scene core r) where
   headed_high k Stacks.Marked below under = omega arith
   headed_high k (Stacks.Entered level environment back) below under = omega arith
 
-  module _ (q : Place) (f : ℕ) (s : Standing) (b : Seat core r a (spots a.plan a.member.setting.number a.member.course.job a.task) (reach_of a.member.course.job a.task) f s) (e : IsEntered s) (own : 1 < f) where
+  module _ (q : Place) (f : ℕ) (s : Standing) (b : Seat core r a (spots a.plan a.member.constants.number a.member.progress.job a.task) (reach_of a.member.progress.job a.task) f s) (e : IsEntered s) (own : 1 < f) where
     -- the address of the frame's mark
     pub seat_address : frame_address a.plan a.member a.task f ≡ base core r a b.slot + height b.below
     seat_address = ap (address_of a.plan) b.spot ∙ slot_address core r a b.slot (height b.below) b.top_is.used
@@ -162,18 +153,18 @@ module _ (core : List Tagged) (r : Regs) (a : Scene core r) where
         let n = headed_high k (head (spot_in k b.outer b.below) b.frame.standing) below (words k below) in
         let m = head_high k b.outer b.frame.standing below b.below entered in
         let w = words-length k below in
-        let h = height-is a.plan a.member.setting.number a.member.course.job k b.outer b.below in
+        let h = height-is a.plan a.member.constants.number a.member.progress.job k b.outer b.below in
         let z = seat_address in
         omega (arith, n, m, w, h, z)
 
     -- where the cells end
-    cells_end : base core r a b.slot + high (acts core r a b.slot b.outer (b.frame ∷ b.below)) + 1 ≡ frame_address a.plan a.member a.task f + 2 + length b.frame.cells
+    cells_end : base core r a b.slot + stack_words (acts core r a b.slot b.outer (b.frame ∷ b.below)) + 1 ≡ frame_address a.plan a.member a.task f + 2 + length b.frame.cells
     cells_end =
         let k = b.slot in
         let m = head_high k b.outer b.frame.standing (acts core r a k b.outer b.below) b.below entered in
-        let h = height-is a.plan a.member.setting.number a.member.course.job k b.outer b.below in
+        let h = height-is a.plan a.member.constants.number a.member.progress.job k b.outer b.below in
         let z = seat_address in
-        let n = length-map b.frame.cells (shape a.plan a.member.setting.number a.member.course.job (spot_in k b.outer (b.frame ∷ b.below))) in
+        let n = length-map b.frame.cells (shape a.plan a.member.constants.number a.member.progress.job (spot_in k b.outer (b.frame ∷ b.below))) in
         omega (arith, m, h, z, n)
 
     -- the word of a cell
@@ -183,33 +174,33 @@ module _ (core : List Tagged) (r : Regs) (a : Scene core r) where
       pub stands : StandsFor a (frame_address a.plan a.member a.task f + offset) f word w
       pub no_mark : word.tag ≡ 3 → ⊥
 
-    wide : Wider (map known_of (b.frame ∷ b.below) ++ b.known) (reach_of a.member.course.job a.task) a.member.course.job.arrays a.member.course.job.arrays
+    wide : Wider (map known_of (b.frame ∷ b.below) ++ b.known) (reach_of a.member.progress.job a.task) a.member.progress.job.arrays a.member.progress.job.arrays
     wide = record { entered = λ n z i k. b.among (n, z) k; kept = λ x k at. record { item = x; live = k; named = refl; owned = refl } }
 
-    here_known : Has (known_numbers (reach_of a.member.course.job a.task)) b.frame.identity
-    here_known = has_map (λ (k : Known). k.0) (reach_of a.member.course.job a.task) (known_of b.frame) (b.among (known_of b.frame) (inl refl))
+    here_known : Has (known_numbers (reach_of a.member.progress.job a.task)) b.frame.identity
+    here_known = has_map (λ (k : Known). k.0) (reach_of a.member.progress.job a.task) (known_of b.frame) (b.among (known_of b.frame) (inl refl))
 
     pub cell_in : (i : ℕ) (w : Word) → from_end b.frame.cells i ≡ Some w → CellWord (2 + i) w
     cell_in i w there =
-        let arrays = a.member.course.job.arrays in
-        let P = IsSegment a.member.setting in
+        let arrays = a.member.progress.job.arrays in
+        let P = IsSegment a.member.constants in
         let known = map known_of (b.frame ∷ b.below) ++ b.known in
-        let reach = reach_of a.member.course.job a.task in
+        let reach = reach_of a.member.progress.job a.task in
         let spot = spot_in b.slot b.outer (b.frame ∷ b.below) in
         let has : Has b.frame.cells w = has_reverse_back b.frame.cells w (has_get (reverse b.frame.cells) i w (get_reverse b.frame.cells i ∙ there)) in
         let first : WordInOrder P arrays known b.frame.identity w = all_in (WordInOrder P arrays known b.frame.identity) b.frame.cells w b.order.0.0 has in
         let order : WordInOrder P arrays reach f w = subst (λ (n : ℕ). WordInOrder P arrays reach n w) b.named (word_wider P known reach arrays arrays b.frame.identity wide here_known w first) in
-        let l = end_lies (Fits a.storage.held) core (suc (base core r a b.slot)) (shape a.plan a.member.setting.number a.member.course.job spot) b.frame.cells under i w b.part.lies there in
+        let l = end_lies (Fits a.storage.held) core (suc (base core r a b.slot)) (shape a.plan a.member.constants.number a.member.progress.job spot) b.frame.cells under i w b.part.lies there in
         let at : suc (base core r a b.slot) + length under + i ≡ frame_address a.plan a.member a.task f + (2 + i) = (let u = under_high in omega (arith, u)) in
-        let shapes : shape a.plan a.member.setting.number a.member.course.job spot w ≡ shape a.plan a.member.setting.number a.member.course.job (spots a.plan a.member.setting.number a.member.course.job a.task) w =
-        sym (same_shape P arrays known b.frame.identity a.plan a.member.setting.number a.member.course.job spot (spots a.plan a.member.setting.number a.member.course.job a.task) w first (λ g h. sym (b.sees g h))) in
-        let fits : Fits a.storage.held (shape a.plan a.member.setting.number a.member.course.job (spots a.plan a.member.setting.number a.member.course.job a.task) w) (frame_address a.plan a.member a.task f + (2 + i)) l.0 =
-        subst (λ (z : Shape). Fits a.storage.held z (frame_address a.plan a.member a.task f + (2 + i)) l.0) shapes (subst (λ (n : ℕ). Fits a.storage.held (shape a.plan a.member.setting.number a.member.course.job spot w) n l.0) at l.2) in
+        let shapes : shape a.plan a.member.constants.number a.member.progress.job spot w ≡ shape a.plan a.member.constants.number a.member.progress.job (spots a.plan a.member.constants.number a.member.progress.job a.task) w =
+        sym (same_shape P arrays known b.frame.identity a.plan a.member.constants.number a.member.progress.job spot (spots a.plan a.member.constants.number a.member.progress.job a.task) w first (λ g h. sym (b.sees g h))) in
+        let fits : Fits a.storage.held (shape a.plan a.member.constants.number a.member.progress.job (spots a.plan a.member.constants.number a.member.progress.job a.task) w) (frame_address a.plan a.member a.task f + (2 + i)) l.0 =
+        subst (λ (z : Shape). Fits a.storage.held z (frame_address a.plan a.member a.task f + (2 + i)) l.0) shapes (subst (λ (n : ℕ). Fits a.storage.held (shape a.plan a.member.constants.number a.member.progress.job spot w) n l.0) at l.2) in
         record {
           word = l.0;
           there = ap (slice_get core) (sym at) ∙ l.1;
           stands = word_stands (frame_address a.plan a.member a.task f + (2 + i)) f l.0 w fits order;
-          no_mark = word_tag P arrays reach f a.storage.held a.plan a.member.setting.number a.member.course.job (spots a.plan a.member.setting.number a.member.course.job a.task) w (frame_address a.plan a.member a.task f + (2 + i)) l.0 order fits;
+          no_mark = word_tag P arrays reach f a.storage.held a.plan a.member.constants.number a.member.progress.job (spots a.plan a.member.constants.number a.member.progress.job a.task) w (frame_address a.plan a.member a.task f + (2 + i)) l.0 order fits;
         }
 
     -- the model's look-up by the number from the frame's end
@@ -259,7 +250,7 @@ module _ (core : List Tagged) (r : Regs) (a : Scene core r) where
         let d : CellWord offset x.0 = subst (λ (n : ℕ). CellWord n x.0) at c in
         let is : IsCellAt a q (frame_address a.plan a.member a.task f + offset) f offset x.0 = record {
           address = refl;
-          names = record { standing = s; among = subst (λ (k : Known). Has (reach_of a.member.course.job a.task) k) (λ i. (b.named i, b.stands i)) (b.among (known_of b.frame) (inl refl)); entered = e };
+          names = record { standing = s; among = subst (λ (k : Known). Has (reach_of a.member.progress.job a.task) k) (λ i. (b.named i, b.stands i)) (b.among (known_of b.frame) (inl refl)); entered = e };
           found = found;
           word = d.word;
           there = d.there;
@@ -268,9 +259,9 @@ module _ (core : List Tagged) (r : Regs) (a : Scene core r) where
         let F : Answer Word → Type 0 = λ y. CellMeets a q f offset (Ok (frame_address a.plan a.member a.task f + offset)) y in
         subst F (sym found) is))
         (λ (past : 2 + length b.frame.cells ≤ offset). absurd (⊎_elim
-        (λ (z : base core r a b.slot + high (acts core r a b.slot b.outer (b.frame ∷ b.below)) ≡ b.top). (let y = cells_end in omega (arith, z, y, past, up)))
-        (λ z. (let y = cells_end in let at : suc (base core r a b.slot) + high (acts core r a b.slot b.outer (b.frame ∷ b.below)) ≡ frame_address a.plan a.member a.task f + 2 + length b.frame.cells = omega (arith, y) in
-        plain (suc (base core r a b.slot) + high (acts core r a b.slot b.outer (b.frame ∷ b.below))) z.0 (omega (arith, at)) (omega (arith, at, past)) z.1 z.2))
+        (λ (z : base core r a b.slot + stack_words (acts core r a b.slot b.outer (b.frame ∷ b.below)) ≡ b.top). (let y = cells_end in omega (arith, z, y, past, up)))
+        (λ z. (let y = cells_end in let at : suc (base core r a b.slot) + stack_words (acts core r a b.slot b.outer (b.frame ∷ b.below)) ≡ frame_address a.plan a.member a.task f + 2 + length b.frame.cells = omega (arith, y) in
+        plain (suc (base core r a b.slot) + stack_words (acts core r a b.slot b.outer (b.frame ∷ b.below))) z.0 (omega (arith, at)) (omega (arith, at, past)) z.1 z.2))
         b.part.above))
         (cases_lt offset (2 + length b.frame.cells))
 
@@ -279,16 +270,16 @@ module _ (core : List Tagged) (r : Regs) (a : Scene core r) where
     return_tag =
         let k = b.slot in
         let below = acts core r a k b.outer b.below in
-        let cells = map (shape a.plan a.member.setting.number a.member.course.job (spot_in k b.outer (b.frame ∷ b.below))) b.frame.cells in
+        let cells = map (shape a.plan a.member.constants.number a.member.progress.job (spot_in k b.outer (b.frame ∷ b.below))) b.frame.cells in
         by_standing b.frame.standing entered (Lie-under (Fits a.storage.held) core (suc (base core r a k)) cells (headed k (head (spot_in k b.outer b.below) b.frame.standing) below (words k below)) b.part.lies) where
           at : suc (base core r a b.slot) + suc (length (words b.slot (acts core r a b.slot b.outer b.below))) ≡ frame_address a.plan a.member a.task f + 1
           at =
               let n = words-length b.slot (acts core r a b.slot b.outer b.below) in
-              let h = height-is a.plan a.member.setting.number a.member.course.job b.slot b.outer b.below in
+              let h = height-is a.plan a.member.constants.number a.member.progress.job b.slot b.outer b.below in
               let z = seat_address in
               omega (arith, n, h, z)
 
-          by_standing : (z : Standing) → IsEntered z → Lie (Fits a.storage.held) core (suc (base core r a b.slot)) (headed b.slot (head (spot_in b.slot b.outer b.below) z) (acts core r a b.slot b.outer b.below) (words b.slot (acts core r a b.slot b.outer b.below)))
+          by_standing : (z : Standing) → IsEntered z → LieDownward (Fits a.storage.held) core (suc (base core r a b.slot)) (headed b.slot (head (spot_in b.slot b.outer b.below) z) (acts core r a b.slot b.outer b.below) (words b.slot (acts core r a b.slot b.outer b.below)))
               → (w : Tagged) × (slice_get core (frame_address a.plan a.member a.task f + 1) ≡ Some w) × (w.tag ≡ 3)
           by_standing State.Marked i l = absurd i
           by_standing (State.Entered level environment back) i l = (l.0.0, ap (slice_get core) (sym at) ∙ l.0.1, ap (λ (x : Tagged). x.tag) l.0.2.0)

@@ -13,10 +13,10 @@ use Rattle.b67_model.specs.Words.{Proc}
 use Rattle.b67_model.specs.State.{frame, height}
 use Rattle.b67_model.specs.Environment.{level_of_standing, level_of_frame}
 use Rattle.b67_model.specs.InOrder.{Known}
-use Rattle.b67_stack.specs.Stacks.{Spot}
+use Rattle.b67_stack.specs.Stacks.{StackPlace}
 use Rattle.b67_layout.specs.Meets.{here}
 use Rattle.b67_refer.specs.declared.activation.Activation.{Activation}
-use Rattle.b67_refer.specs.Scene.{Scene}
+use Rattle.b67_refer.specs.RunningContext.{RunningContext}
 use Rattle.b67_refer.specs.Cells.{view, frame_at_core}
 use Rattle.b67_refer.specs.Ends.{IsProcAt}
 use Rattle.b67_refer.proofs.Seats.{seat}
@@ -25,7 +25,7 @@ use Rattle.b67_refer.proofs.Marks.{mark, high_level, frame_known}
 use Rattle.b67_refer.proofs.Rule.{inside, no_mark_under, return_tag, seat_address}
 use Rattle.b67_refer.proofs.Unders.{seat_low, high_address}
 
-module _ (core : List Tagged) (r : Regs) (a : Scene core r) (q : Place) (cell f segment level : ℕ) (place : Place) (p : IsProcAt a q cell f segment level place) where
+module _ (core : List Tagged) (r : Regs) (a : RunningContext core r) (q : Place) (cell f segment level : ℕ) (place : Place) (p : IsProcAt a q cell f segment level place) where
   -- a place on the way: above the mark, up to the cell
   pub record Over (at : ℕ) : Type 0 where
     pub steps : ℕ
@@ -77,11 +77,11 @@ module _ (core : List Tagged) (r : Regs) (a : Scene core r) (q : Place) (cell f 
       let small = a.holds.memory.slots.laid.room in
       let used = b.top_is.used in
       let sp : view a f ≡ record { stack = b.slot; disp = height b.below } = b.spot in (
-        ap (λ n. n / size) d ∙ ap (λ n. (b.slot * a.plan.size + height b.below) / n) z ∙ div-mul-add b.slot a.plan.size (height b.below) low ∙ ap (λ (y : Spot). y.stack) (sym sp),
-        ap (λ n. n % size) d ∙ ap (λ n. (b.slot * a.plan.size + height b.below) % n) z ∙ mod-mul-add b.slot a.plan.size (height b.below) low ∙ ap (λ (y : Spot). y.disp) (sym sp),
+        ap (λ n. n / size) d ∙ ap (λ n. (b.slot * a.plan.size + height b.below) / n) z ∙ div-mul-add b.slot a.plan.size (height b.below) low ∙ ap (λ (y : StackPlace). y.stack) (sym sp),
+        ap (λ n. n % size) d ∙ ap (λ n. (b.slot * a.plan.size + height b.below) % n) z ∙ mod-mul-add b.slot a.plan.size (height b.below) low ∙ ap (λ (y : StackPlace). y.disp) (sym sp),
         omega (arith, z, low),
-        (let y : (view a f).stack ≡ b.slot = ap (λ (y : Spot). y.stack) sp in omega (arith, y, used, few)),
-        (let y : (view a f).disp ≡ height b.below = ap (λ (y : Spot). y.disp) sp in omega (arith, y, low, small)),
+        (let y : (view a f).stack ≡ b.slot = ap (λ (y : StackPlace). y.stack) sp in omega (arith, y, used, few)),
+        (let y : (view a f).disp ≡ height b.below = ap (λ (y : StackPlace). y.disp) sp in omega (arith, y, low, small)),
       )
 
   pub mark_there : (m : Mscw) × IsMscw m × (slice_get core (frame_at_core a f) ≡ Some (mscw_word m)) × (m.level ≡ level_of_frame (frame (here a.member a.task q) f))

@@ -3,31 +3,30 @@ use Rattle.std.proofs.Common.{ℕ, ◌+◌, ◌<◌, ◌≤◌, List, [], ◌∷
 use Rattle.b67_word.specs.Tagged.{Tagged}
 use Rattle.b67_ctl.specs.declared.registers.Regs.{Regs}
 use Rattle.b67_lemmas.specs.Lists.{Has}
-use Rattle.b67_model.specs.State.{Task, Member}
+use Rattle.b67_lemmas.proofs.Members.{all_in, keyed-has}
+use Rattle.b67_model.specs.State.{Task, SessionJob}
 use Rattle.b67_model.specs.Schedule.{Session}
 use Rattle.b67_model.specs.InOrder.{JobInOrder, IsSegment, NumberedFrom, IsInOrderButPlaces}
-use Rattle.b67_law_order.proofs.Members.{all_in}
-use Rattle.b67_stack.specs.Picture.{Thing}
-use Rattle.b67_stack.specs.Stands.{Storage}
-use Rattle.b67_layout.specs.Plan.{Plan}
+use Rattle.b67_stack.specs.MachineView.{PagedObject}
+use Rattle.b67_stack.specs.Represents.{Storage}
+use Rattle.b67_layout.specs.Placement.{Placement}
 use Rattle.b67_layout.specs.Session.{IsRunning, SessionHoldsBut}
-use Rattle.b67_layout.proofs.Others.{keyed-has}
-use Rattle.b67_refer.specs.Scene.{MemberInOrder, Scene}
+use Rattle.b67_refer.specs.RunningContext.{MemberInOrder, RunningContext}
 
-numbered : (n : ℕ) (jobs : List Member) (m : Member) → NumberedFrom n jobs → Has jobs m → (n ≤ m.setting.number) × (m.setting.number < n + length jobs)
+numbered : (n : ℕ) (jobs : List SessionJob) (m : SessionJob) → NumberedFrom n jobs → Has jobs m → (n ≤ m.constants.number) × (m.constants.number < n + length jobs)
 numbered n [] m d h = absurd h
-numbered n (y ∷ more) m d (inl e) = let P : Member → Type 0 = λ z. (n ≤ z.setting.number) × (z.setting.number < n + length (y ∷ more)) in subst P e (omega (arith, d.0), omega (arith, d.0))
+numbered n (y ∷ more) m d (inl e) = let P : SessionJob → Type 0 = λ z. (n ≤ z.constants.number) × (z.constants.number < n + length (y ∷ more)) in subst P e (omega (arith, d.0), omega (arith, d.0))
 numbered n (y ∷ more) m d (inr h) = let b = numbered (n + 1) more m d.1 h in (omega (arith, b.0), omega (arith, b.1))
 
-pub member_in_order : (s : Session) (m : Member) → IsInOrderButPlaces s → Has s.jobs m → MemberInOrder m
+pub member_in_order : (s : Session) (m : SessionJob) → IsInOrderButPlaces s → Has s.jobs m → MemberInOrder m
 member_in_order s m o h =
-    let j = all_in (λ (y : Member). JobInOrder (IsSegment y.setting) y.setting y.course) s.jobs m o.jobs h in
+    let j = all_in (λ (y : SessionJob). JobInOrder (IsSegment y.constants) y.constants y.progress) s.jobs m o.jobs h in
     let n = numbered 1 s.jobs m o.numbered h in
-    record { from_one = n.0; few = omega (arith, n.1, o.few); setting = j.unchanging; tasks = j.tasks }
+    record { from_one = n.0; few = omega (arith, n.1, o.few); constants = j.unchanging; tasks = j.tasks }
 
-module _ (left : List Thing) (x : Storage) (core : List Tagged) (r : Regs) (marks : List ℕ) (plan : Plan) (s : Session) (m : Member) (t : Task) where
+module _ (left : List PagedObject) (x : Storage) (core : List Tagged) (r : Regs) (marks : List ℕ) (plan : Placement) (s : Session) (m : SessionJob) (t : Task) where
   -- a session in order whose display isn't looked at
-  abbrev pub scene : IsInOrderButPlaces s → SessionHoldsBut left x core r marks plan s → IsRunning plan s.jobs m t → Scene core r
+  abbrev pub scene : IsInOrderButPlaces s → SessionHoldsBut left x core r marks plan s → IsRunning plan s.jobs m t → RunningContext core r
   scene o h runs = record {
     left = left;
     storage = x;
@@ -36,7 +35,7 @@ module _ (left : List Thing) (x : Storage) (core : List Tagged) (r : Regs) (mark
     session = s;
     member = m;
     task = t;
-    ordered = member_in_order s m o (keyed-has (λ y. y.setting.number) m.setting.number s.jobs m runs.member);
+    ordered = member_in_order s m o (keyed-has (λ y. y.constants.number) m.constants.number s.jobs m runs.member);
     holds = h;
     running = runs;
   }

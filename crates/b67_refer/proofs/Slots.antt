@@ -1,5 +1,5 @@
 -- Where a live task's stack lies, and its parts from a frame down.
-use Rattle.std.proofs.Common.{◌≡◌, ℕ, suc, ◌+◌, ◌*◌, ◌<◌, ◌≤◌, ◌^◌, List, [], ◌∷◌, length, map, Some, refl, sym, ◌∙◌, ap, arith, Bool, true, false, ◌==◌, ◌⊎◌, ⊎_elim, inl, inr, subst}
+use Rattle.std.proofs.Common.{◌≡◌, ℕ, suc, ◌+◌, ◌*◌, ◌<◌, ◌≤◌, List, [], ◌∷◌, map, Some, refl, sym, ◌∙◌, ap, arith, Bool, true, false, ◌==◌, ◌⊎◌, ⊎_elim, inl, inr, subst}
 use Rattle.std.specs.Prelude.{if◌then◌else◌}
 use Rattle.std.specs.List.{slice_get}
 use Rattle.std.proofs.lemmas.Bool.{cases_Bool, eq-eqb, eqb-true}
@@ -8,84 +8,69 @@ use Rattle.b67_ctl.specs.declared.registers.Regs.{Regs}
 use Rattle.b67_ctl.specs.declared.marks.Mscw.{Mscw}
 use Rattle.b67_ctl.specs.Layout.{mscw_word, IsMscw, IsToscw}
 use Rattle.b67_model.specs.Keyed.{keyed}
-use Rattle.b67_model.specs.State.{Frame, Task, Member, height}
+use Rattle.b67_model.specs.State.{Frame, Task, SessionJob, height}
 use Rattle.b67_model.specs.Run.{number_of}
 use Rattle.b67_model.specs.InOrder.{from_frame}
-use Rattle.b67_stack.specs.Shapes.{Map, Fits, Lie}
-use Rattle.b67_stack.specs.Stacks.{Spot, Head, Marked, Entered, Activation, IsStack, HeadFits, HeadsFit, head_size, top_size, high, mark_of, headed, words, toscw_of, mark_place}
-use Rattle.b67_stack.specs.Picture.{Slot, Running, Waiting, stack_of, SlotFits, Picture}
-use Rattle.b67_stack.specs.Stands.{SlotStands, RunningStands}
+use Rattle.b67_stack.specs.Shapes.{Locations, Fits, LieDownward}
+use Rattle.b67_stack.specs.Stacks.{StackPlace, Head, Marked, Entered, Activation, IsStack, HeadsFit, stack_words, mark_of, headed, words, toscw_of}
+use Rattle.b67_stack.specs.MachineView.{Slot, Running, Waiting, stack_of, SlotFits, MachineView}
+use Rattle.b67_stack.specs.Represents.{RepresentsSlot, RepresentsRunning}
 use Rattle.b67_stack.proofs.Lies.{Lie-under}
 use Rattle.b67_stack.proofs.Heights.{words-length}
-use Rattle.b67_stack.proofs.Tops.{level-small}
-use Rattle.b67_layout.specs.Plan.{Plan, Slotted, slot_of, spot_in, outer_spots}
-use Rattle.b67_layout.specs.Layout.{shape, head, activations, stack_of_task, slot_with, slot_in, slot_by, slot_at, picture}
-use Rattle.b67_layout.specs.Session.{RowsFit, with_things}
-use Rattle.b67_layout.proofs.Others.{keyed-has}
+use Rattle.b67_stack.proofs.Tops.{level-small, mark-fits, mark_high, top_size-high}
+use Rattle.b67_layout.specs.Placement.{Placement, Slotted, slot_of, spot_in, outer_spots}
+use Rattle.b67_layout.specs.Layout.{shape, head, activations, stack_of_task, slot_with, slot_in, slot_by, slot_at, machine_view}
+use Rattle.b67_layout.specs.Session.{RowsFit, with_objects}
 use Rattle.b67_layout.proofs.Rows.{finds, task_row}
 use Rattle.b67_layout.proofs.Frames.{height-is}
-use Rattle.b67_refer.specs.Scene.{Scene}
+use Rattle.b67_refer.specs.RunningContext.{RunningContext}
 use Rattle.b67_refer.specs.Cells.{IsTop}
+use Rattle.b67_lemmas.proofs.Members.{keyed-has}
 
 -- the slot of a live task, by its number
-pub live_slot : (plan : Plan) (jobs : List Member) (m : Member) (u : Task) → RowsFit plan jobs → keyed number_of m.setting.number jobs ≡ Some m → keyed (λ (v : Task). v.number) u.number m.course.job.tasks ≡ Some u
-    → (slot_of plan m.setting.number u.number < plan.peak) × (slot_at plan jobs (slot_of plan m.setting.number u.number) ≡ slot_with plan (slot_of plan m.setting.number u.number) m.setting.number m.course.job (Some u))
+pub live_slot : (plan : Placement) (jobs : List SessionJob) (m : SessionJob) (u : Task) → RowsFit plan jobs → keyed number_of m.constants.number jobs ≡ Some m → keyed (λ (v : Task). v.number) u.number m.progress.job.tasks ≡ Some u
+    → (slot_of plan m.constants.number u.number < plan.peak) × (slot_at plan jobs (slot_of plan m.constants.number u.number) ≡ slot_with plan (slot_of plan m.constants.number u.number) m.constants.number m.progress.job (Some u))
 live_slot plan jobs m u fit km ku =
-    let j = m.setting.number in
+    let j = m.constants.number in
     let k = slot_of plan j u.number in
-    let b = task_row plan jobs m u fit (keyed-has number_of j jobs m km) (keyed-has (λ (v : Task). v.number) u.number m.course.job.tasks u ku) in
+    let b = task_row plan jobs m u fit (keyed-has number_of j jobs m km) (keyed-has (λ (v : Task). v.number) u.number m.progress.job.tasks u ku) in
     let f = finds (λ (q : Slotted). q.slot == k) plan.rows b.row b.among (eq-eqb b.row.slot k (sym b.slot)) in
     let same : f.item ≡ b.row = fit.differ f.item b.row f.among b.among (eqb-true f.item.slot k f.passes ∙ b.slot) in (
       subst (λ (n : ℕ). n < plan.peak) (sym b.slot) (fit.below b.row b.among),
       ap (slot_by plan jobs k) (f.found ∙ ap Some same)
           ∙ ap (λ (i : ℕ). slot_in plan k i b.row.task (keyed number_of i jobs)) b.job
           ∙ ap (slot_in plan k j b.row.task) km
-          ∙ ap (λ (i : ℕ). slot_with plan k j m.course.job (keyed (λ (v : Task). v.number) i m.course.job.tasks)) b.number
-          ∙ ap (slot_with plan k j m.course.job) ku,
+          ∙ ap (λ (i : ℕ). slot_with plan k j m.progress.job (keyed (λ (v : Task). v.number) i m.progress.job.tasks)) b.number
+          ∙ ap (slot_with plan k j m.progress.job) ku,
     )
 
 -- what lies under a head, and its mark
-pub head_lies : (R : Map) (core : List Tagged) (from k : ℕ) (h : Head) (below : List Activation) → Lie (Fits R) core from (headed k h below (words k below))
-    → Lie (Fits R) core from (words k below) × (slice_get core (from + high below) ≡ Some (mscw_word (mark_of k h below)))
+pub head_lies : (R : Locations) (core : List Tagged) (from k : ℕ) (h : Head) (below : List Activation) → LieDownward (Fits R) core from (headed k h below (words k below))
+    → LieDownward (Fits R) core from (words k below) × (slice_get core (from + stack_words below) ≡ Some (mscw_word (mark_of k h below)))
 head_lies R core from k Marked below l = (l.1, ap (λ n. slice_get core (from + n)) (sym (words-length k below)) ∙ l.0.1 ∙ ap Some l.0.2.0)
 head_lies R core from k (Entered level environment back) below l = (l.1.1, ap (λ n. slice_get core (from + n)) (sym (words-length k below)) ∙ l.1.0.1 ∙ ap Some l.1.0.2.0)
 
-mark_fits : (k : ℕ) (h : Head) (below : List Activation) → HeadFits h below → top_size below < 2 ^ 14 → IsMscw (mark_of k h below)
-mark_fits k Marked below f small = record { env_stack = omega arith; env_disp = omega arith; level = omega arith; back = small; marked = λ e. refl }
-mark_fits k (Entered level environment back) below f small = record { env_stack = f.1; env_disp = f.2; level = f.0; back = small; marked = λ e. absurd (let z : ⊥ = cc in z) }
-
-mark_high : (stack : List Activation) → mark_place stack ≤ high stack
-mark_high [] = omega arith
-mark_high (b ∷ below) = by_head b.head where
-  by_head : (h : Head) → high below + 1 ≤ high below + (head_size h + length b.cells)
-  by_head Marked = omega arith
-  by_head (Entered level environment back) = omega arith
-
-top_size_high : (stack : List Activation) → top_size stack ≤ high stack
-top_size_high [] = omega arith
-top_size_high (b ∷ below) = omega arith
-
-module _ (core : List Tagged) (r : Regs) (a : Scene core r) where
+module _ (core : List Tagged) (r : Regs) (a : RunningContext core r) where
   -- the address of a slot
   abbrev pub base : ℕ → ℕ
   base k = a.plan.stacks + k * a.plan.size
 
   -- a task's frames on slot k as activation records
-  abbrev pub acts : ℕ → (ℕ → Spot) → List Frame → List Activation
-  acts k outer fs = activations a.plan a.member.setting.number a.member.course.job k outer fs
+  abbrev pub acts : ℕ → (ℕ → StackPlace) → List Frame → List Activation
+  acts k outer fs = activations a.plan a.member.constants.number a.member.progress.job k outer fs
 
   -- frames from one down in slot k, whose stack's top word has address top. Over them lies nothing, or a mark
-  pub record Part (k : ℕ) (outer : ℕ → Spot) (top : ℕ) (fs : List Frame) : Type 0 where
-    pub lies : Lie (Fits a.storage.held) core (suc (base k)) (words k (acts k outer fs))
+  pub record Part (k : ℕ) (outer : ℕ → StackPlace) (top : ℕ) (fs : List Frame) : Type 0 where
+    pub lies : LieDownward (Fits a.storage.held) core (suc (base k)) (words k (acts k outer fs))
     pub heads : HeadsFit (acts k outer fs)
-    pub low : base k + high (acts k outer fs) ≤ top
+    pub low : base k + stack_words (acts k outer fs) ≤ top
     pub room : top < base k + a.plan.size
-    pub above : (base k + high (acts k outer fs) ≡ top) ⊎ ((w : Tagged) × (slice_get core (suc (base k) + high (acts k outer fs)) ≡ Some w) × (w.tag ≡ 3))
+    pub above : (base k + stack_words (acts k outer fs) ≡ top) ⊎ ((w : Tagged) × (slice_get core (suc (base k) + stack_words (acts k outer fs)) ≡ Some w) × (w.tag ≡ 3))
 
   -- the frames below
-  pub drop : (k : ℕ) (outer : ℕ → Spot) (top : ℕ) (f : Frame) (fs : List Frame) → Part k outer top (f ∷ fs) → Part k outer top fs
+  pub drop : (k : ℕ) (outer : ℕ → StackPlace) (top : ℕ) (f : Frame) (fs : List Frame) → Part k outer top (f ∷ fs) → Part k outer top fs
   drop k outer top f fs p =
-      let l = head_lies a.storage.held core (suc (base k)) k (head (spot_in k outer fs) f.standing) (acts k outer fs) (Lie-under (Fits a.storage.held) core (suc (base k)) (map (shape a.plan a.member.setting.number a.member.course.job (spot_in k outer (f ∷ fs))) f.cells) (headed k (head (spot_in k outer fs) f.standing) (acts k outer fs) (words k (acts k outer fs))) p.lies) in
+      let l = head_lies a.storage.held core (suc (base k)) k (head (spot_in k outer fs) f.standing) (acts k outer fs) (Lie-under (Fits a.storage.held) core (suc (base k)) (map (shape a.plan a.member.constants.number a.member.progress.job (spot_in k outer (f ∷ fs))) f.cells) (headed k (head (spot_in k outer fs) f.standing) (acts k outer fs) (words k (acts k outer fs))) p.lies) in
       record {
         lies = l.0;
         heads = p.heads.1;
@@ -94,7 +79,7 @@ module _ (core : List Tagged) (r : Regs) (a : Scene core r) where
         above = inr (mscw_word (mark_of k (head (spot_in k outer fs) f.standing) (acts k outer fs)), l.1, refl);
       }
 
-  pub part_from : (k : ℕ) (outer : ℕ → Spot) (top c : ℕ) (fs : List Frame) → Part k outer top fs → Part k outer top (from_frame c fs)
+  pub part_from : (k : ℕ) (outer : ℕ → StackPlace) (top c : ℕ) (fs : List Frame) → Part k outer top fs → Part k outer top (from_frame c fs)
   part_from k outer top c [] p = p
   part_from k outer top c (f ∷ fs) p = ⊎_elim
       (λ (e : (f.identity == c) ≡ true). rw e p)
@@ -102,31 +87,31 @@ module _ (core : List Tagged) (r : Regs) (a : Scene core r) where
       (cases_Bool (f.identity == c))
 
   -- the mark of the top frame of a part
-  abbrev pub mark_in : ℕ → (ℕ → Spot) → Frame → List Frame → Mscw
+  abbrev pub mark_in : ℕ → (ℕ → StackPlace) → Frame → List Frame → Mscw
   mark_in k outer f fs = mark_of k (head (spot_in k outer fs) f.standing) (acts k outer fs)
 
-  pub part_mark : (k : ℕ) (outer : ℕ → Spot) (top : ℕ) (f : Frame) (fs : List Frame) → Part k outer top (f ∷ fs)
+  pub part_mark : (k : ℕ) (outer : ℕ → StackPlace) (top : ℕ) (f : Frame) (fs : List Frame) → Part k outer top (f ∷ fs)
       → IsMscw (mark_in k outer f fs) × (slice_get core (base k + height fs) ≡ Some (mscw_word (mark_in k outer f fs)))
   part_mark k outer top f fs p =
-      let l = head_lies a.storage.held core (suc (base k)) k (head (spot_in k outer fs) f.standing) (acts k outer fs) (Lie-under (Fits a.storage.held) core (suc (base k)) (map (shape a.plan a.member.setting.number a.member.course.job (spot_in k outer (f ∷ fs))) f.cells) (headed k (head (spot_in k outer fs) f.standing) (acts k outer fs) (words k (acts k outer fs))) p.lies) in
+      let l = head_lies a.storage.held core (suc (base k)) k (head (spot_in k outer fs) f.standing) (acts k outer fs) (Lie-under (Fits a.storage.held) core (suc (base k)) (map (shape a.plan a.member.constants.number a.member.progress.job (spot_in k outer (f ∷ fs))) f.cells) (headed k (head (spot_in k outer fs) f.standing) (acts k outer fs) (words k (acts k outer fs))) p.lies) in
       let small = a.holds.memory.slots.laid.room in (
-        mark_fits k (head (spot_in k outer fs) f.standing) (acts k outer fs) p.heads.0 (omega (arith, top_size_high (acts k outer fs), p.low, p.room, small)),
-        ap (slice_get core) (let e : base k + height fs ≡ suc (base k) + high (acts k outer fs) = omega (arith, height-is a.plan a.member.setting.number a.member.course.job k outer fs) in e) ∙ l.1,
+        mark-fits k (head (spot_in k outer fs) f.standing) (acts k outer fs) p.heads.0 (omega (arith, top_size-high (acts k outer fs), p.low, p.room, small)),
+        ap (slice_get core) (let e : base k + height fs ≡ suc (base k) + stack_words (acts k outer fs) = omega (arith, height-is a.plan a.member.constants.number a.member.progress.job k outer fs) in e) ∙ l.1,
       )
 
   -- all frames of a live task
   pub record Whole (u : Task) : Type 0 where
     pub top : ℕ
-    pub top_is : IsTop a (slot_of a.plan a.member.setting.number u.number) top
-    pub part : Part (slot_of a.plan a.member.setting.number u.number) (outer_spots a.plan a.member.setting.number a.member.course.job u.critical u.parents) top u.frames
+    pub top_is : IsTop a (slot_of a.plan a.member.constants.number u.number) top
+    pub part : Part (slot_of a.plan a.member.constants.number u.number) (outer_spots a.plan a.member.constants.number a.member.progress.job u.critical u.parents) top u.frames
 
-  abbrev whole_picture : Picture
-  whole_picture = with_things a.left (picture a.plan a.session.jobs)
+  abbrev whole_machine_view : MachineView
+  whole_machine_view = with_objects a.left (machine_view a.plan a.session.jobs)
 
   by_slot : (k : ℕ) (stack : List Activation) (b : Bool) → k < a.plan.peak → (let y = if b then Running stack else Waiting stack in
-      SlotStands core r (with_things a.left (picture a.plan a.session.jobs)) k y → SlotFits (with_things a.left (picture a.plan a.session.jobs)) k y
-      → Lie (Fits a.storage.held) core (suc (base k)) (words k (stack_of y))
-      → IsStack a.plan.size stack × Lie (Fits a.storage.held) core (suc (base k)) (words k stack) × IsTop a k (base k + high stack))
+      RepresentsSlot core r (with_objects a.left (machine_view a.plan a.session.jobs)) k y → SlotFits (with_objects a.left (machine_view a.plan a.session.jobs)) k y
+      → LieDownward (Fits a.storage.held) core (suc (base k)) (words k (stack_of y))
+      → IsStack a.plan.size stack × LieDownward (Fits a.storage.held) core (suc (base k)) (words k stack) × IsTop a k (base k + stack_words stack))
   by_slot k stack true used s f l = (f.0, l, record { used = used; by = inl (s.slot, s.top) })
   by_slot k stack false used s f l = (f.0, l, record { used = used; by = inr (s.0, (toscw_of stack, toscw_fits, s.1, refl)) }) where
     toscw_fits : IsToscw (toscw_of stack)
@@ -134,31 +119,31 @@ module _ (core : List Tagged) (r : Regs) (a : Scene core r) where
         let small = a.holds.memory.slots.laid.room in
         record { s = omega (arith, f.0.fits, small); level = level-small stack f.0.heads; f = omega (arith, mark_high stack, f.0.fits, small) }
 
-  pub whole : (u : Task) → keyed (λ (v : Task). v.number) u.number a.member.course.job.tasks ≡ Some u → Whole u
+  pub whole : (u : Task) → keyed (λ (v : Task). v.number) u.number a.member.progress.job.tasks ≡ Some u → Whole u
   whole u ku =
-      let k = slot_of a.plan a.member.setting.number u.number in
-      let stack = stack_of_task a.plan a.member.setting.number a.member.course.job k u in
+      let k = slot_of a.plan a.member.constants.number u.number in
+      let stack = stack_of_task a.plan a.member.constants.number a.member.progress.job k u in
       let s = live_slot a.plan a.session.jobs a.member u a.holds.fits.rows a.running.member ku in
-      let p : Picture = with_things a.left (picture a.plan a.session.jobs) in
-      let S : Slot → Type 0 = λ y. SlotStands core r p k y in
+      let p : MachineView = with_objects a.left (machine_view a.plan a.session.jobs) in
+      let S : Slot → Type 0 = λ y. RepresentsSlot core r p k y in
       let F : Slot → Type 0 = λ y. SlotFits p k y in
-      let L : Slot → Type 0 = λ y. Lie (Fits a.storage.held) core (suc (base k)) (words k (stack_of y)) in
+      let L : Slot → Type 0 = λ y. LieDownward (Fits a.storage.held) core (suc (base k)) (words k (stack_of y)) in
       let b = by_slot k stack (k == a.plan.running) s.0 (subst S s.1 (a.holds.memory.slots.slots k s.0)) (subst F s.1 (a.holds.memory.slots.laid.slots k s.0)) (subst L s.1 (a.holds.memory.stacks k s.0)) in
       record {
-        top = base k + high stack;
+        top = base k + stack_words stack;
         top_is = b.2;
         part = record { lies = b.1; heads = b.0.heads; low = omega arith; room = omega (arith, b.0.fits); above = inl refl };
       }
 
   -- the registers of the running task
-  pub registers : RunningStands r (with_things a.left (picture a.plan a.session.jobs)) (slot_of a.plan a.member.setting.number a.task.number)
-      (stack_of_task a.plan a.member.setting.number a.member.course.job (slot_of a.plan a.member.setting.number a.task.number) a.task)
+  pub registers : RepresentsRunning r (with_objects a.left (machine_view a.plan a.session.jobs)) (slot_of a.plan a.member.constants.number a.task.number)
+      (stack_of_task a.plan a.member.constants.number a.member.progress.job (slot_of a.plan a.member.constants.number a.task.number) a.task)
   registers =
-      let k = slot_of a.plan a.member.setting.number a.task.number in
-      let stack = stack_of_task a.plan a.member.setting.number a.member.course.job k a.task in
+      let k = slot_of a.plan a.member.constants.number a.task.number in
+      let stack = stack_of_task a.plan a.member.constants.number a.member.progress.job k a.task in
       let s = live_slot a.plan a.session.jobs a.member a.task a.holds.fits.rows a.running.member a.running.task in
-      let p : Picture = with_things a.left (picture a.plan a.session.jobs) in
-      let S : Slot → Type 0 = λ y. SlotStands core r p k y in
+      let p : MachineView = with_objects a.left (machine_view a.plan a.session.jobs) in
+      let S : Slot → Type 0 = λ y. RepresentsSlot core r p k y in
       let runs : (k == a.plan.running) ≡ true = eq-eqb k a.plan.running (sym a.running.slot) in
       let here : slot_at a.plan a.session.jobs k ≡ Running stack = s.1 ∙ ap (λ (b : Bool). if b then Running stack else Waiting stack) runs in
       subst S here (a.holds.memory.slots.slots k s.0)

@@ -7,41 +7,41 @@ use Rattle.b67_ctl.specs.declared.registers.Regs.{Regs}
 use Rattle.b67_ctl.specs.declared.marks.Mscw.{Mscw}
 use Rattle.b67_ctl.specs.Layout.{mscw_word, IsMscw}
 use Rattle.b67_lemmas.specs.Lists.{Has, Falls}
+use Rattle.b67_lemmas.proofs.Members.{falls_low}
 use Rattle.b67_model.specs.State as State
 use Rattle.b67_model.specs.State.{Frame, Standing, Task, height}
 use Rattle.b67_model.specs.Environment.{running, running_from}
 use Rattle.b67_model.specs.InOrder.{known_of, known_numbers, outer_of, IsSegment, TaskInOrder, StackInOrder, ReturnsInOrder}
-use Rattle.b67_law_order.proofs.Members.{falls_low}
-use Rattle.b67_stack.specs.Stacks.{Spot, Activation, mark_of, top_size, mark_place}
-use Rattle.b67_layout.specs.Plan.{slot_of, spot_in, outer_spots, spots, address_of}
+use Rattle.b67_stack.specs.Stacks.{StackPlace, Activation, mark_of, top_size, mark_place}
+use Rattle.b67_layout.specs.Placement.{slot_of, spot_in, outer_spots, spots, address_of}
 use Rattle.b67_layout.specs.Layout.{head}
 use Rattle.b67_layout.specs.Session.{frame_address}
 use Rattle.b67_layout.proofs.Frames.{height-is, size-is}
-use Rattle.b67_refer.specs.Scene.{Scene}
+use Rattle.b67_refer.specs.RunningContext.{RunningContext}
 use Rattle.b67_refer.specs.Cells.{IsTop}
 use Rattle.b67_refer.proofs.Slots.{Part, whole, drop, base, acts, mark_in, part_mark, registers}
 use Rattle.b67_refer.proofs.Seats.{has_task, order_of}
 use Rattle.b67_refer.proofs.Marks.{slot_address}
 use Rattle.b67_refer.proofs.Chains.{Reads}
 
-marked_only : (k : ℕ) (spot : ℕ → Spot) (s : Standing) (below : List Activation) → (mark_of k (head spot s) below).entered ≡ false → s ≡ State.Marked
+marked_only : (k : ℕ) (spot : ℕ → StackPlace) (s : Standing) (below : List Activation) → (mark_of k (head spot s) below).entered ≡ false → s ≡ State.Marked
 marked_only k spot State.Marked below e = refl
 marked_only k spot (State.Entered level environment back) below e = absurd (let z : ⊥ = cc in z)
 
-entered_only : (k : ℕ) (spot : ℕ → Spot) (s : Standing) (below : List Activation) (f next : Frame) → (mark_of k (head spot s) below).entered ≡ true → running_from s f next ≡ f
+entered_only : (k : ℕ) (spot : ℕ → StackPlace) (s : Standing) (below : List Activation) (f next : Frame) → (mark_of k (head spot s) below).entered ≡ true → running_from s f next ≡ f
 entered_only k spot State.Marked below f next e = absurd (let z : ⊥ = cc in z)
 entered_only k spot (State.Entered level environment back) below f next e = refl
 
-back_of : (k : ℕ) (spot : ℕ → Spot) (s : Standing) (below : List Activation) → (mark_of k (head spot s) below).back ≡ top_size below
+back_of : (k : ℕ) (spot : ℕ → StackPlace) (s : Standing) (below : List Activation) → (mark_of k (head spot s) below).back ≡ top_size below
 back_of k spot State.Marked below = refl
 back_of k spot (State.Entered level environment back) below = refl
 
-module _ (core : List Tagged) (r : Regs) (a : Scene core r) where
+module _ (core : List Tagged) (r : Regs) (a : RunningContext core r) where
   abbrev slot : ℕ
-  slot = slot_of a.plan a.member.setting.number a.task.number
+  slot = slot_of a.plan a.member.constants.number a.task.number
 
-  abbrev outer : ℕ → Spot
-  outer = outer_spots a.plan a.member.setting.number a.member.course.job a.task.critical a.task.parents
+  abbrev outer : ℕ → StackPlace
+  outer = outer_spots a.plan a.member.constants.number a.member.progress.job a.task.critical a.task.parents
 
   -- a mark of the running task over which no record is entered
   pub record On (at : ℕ) : Type 0 where
@@ -49,18 +49,18 @@ module _ (core : List Tagged) (r : Regs) (a : Scene core r) where
     pub bound : ℕ
     pub frame : Frame
     pub below : List Frame
-    pub part : Part core r a (slot_of a.plan a.member.setting.number a.task.number) (outer_spots a.plan a.member.setting.number a.member.course.job a.task.critical a.task.parents) top (frame ∷ below)
-    pub top_is : IsTop a (slot_of a.plan a.member.setting.number a.task.number) top
-    pub at_is : at ≡ base core r a (slot_of a.plan a.member.setting.number a.task.number) + height below
+    pub part : Part core r a (slot_of a.plan a.member.constants.number a.task.number) (outer_spots a.plan a.member.constants.number a.member.progress.job a.task.critical a.task.parents) top (frame ∷ below)
+    pub top_is : IsTop a (slot_of a.plan a.member.constants.number a.task.number) top
+    pub at_is : at ≡ base core r a (slot_of a.plan a.member.constants.number a.task.number) + height below
     pub same : running (frame ∷ below) ≡ running a.task.frames
-    pub sees : (g : ℕ) → Has (known_numbers (map known_of (frame ∷ below) ++ outer_of a.member.course.job a.task)) g
-        → spots a.plan a.member.setting.number a.member.course.job a.task g ≡ spot_in (slot_of a.plan a.member.setting.number a.task.number) (outer_spots a.plan a.member.setting.number a.member.course.job a.task.critical a.task.parents) (frame ∷ below) g
-    pub falls : Falls bound (known_numbers (map known_of (frame ∷ below) ++ outer_of a.member.course.job a.task))
-    pub returns : StackInOrder (IsSegment a.member.setting) (frame ∷ below)
+    pub sees : (g : ℕ) → Has (known_numbers (map known_of (frame ∷ below) ++ outer_of a.member.progress.job a.task)) g
+        → spots a.plan a.member.constants.number a.member.progress.job a.task g ≡ spot_in (slot_of a.plan a.member.constants.number a.task.number) (outer_spots a.plan a.member.constants.number a.member.progress.job a.task.critical a.task.parents) (frame ∷ below) g
+    pub falls : Falls bound (known_numbers (map known_of (frame ∷ below) ++ outer_of a.member.progress.job a.task))
+    pub returns : StackInOrder (IsSegment a.member.constants) (frame ∷ below)
 
   pub start : On r.f
   start = by_frames a.task.frames refl where
-    o : TaskInOrder (IsSegment a.member.setting) a.member.setting a.member.course.job a.task
+    o : TaskInOrder (IsSegment a.member.constants) a.member.constants a.member.progress.job a.task
     o = order_of core r a a.task (has_task core r a)
 
     by_frames : (fs : List Frame) → a.task.frames ≡ fs → On r.f
@@ -68,12 +68,12 @@ module _ (core : List Tagged) (r : Regs) (a : Scene core r) where
     by_frames (f ∷ below) e =
         let w = whole core r a a.task a.running.task in
         let g = registers core r a in
-        let P : List Frame → Type 0 = λ fs. Part core r a (slot_of a.plan a.member.setting.number a.task.number) (outer_spots a.plan a.member.setting.number a.member.course.job a.task.critical a.task.parents) w.top fs in
-        let m : mark_place (acts core r a slot outer a.task.frames) ≡ height below = ap (λ (fs : List Frame). mark_place (acts core r a slot outer fs)) e ∙ (let x = height-is a.plan a.member.setting.number a.member.course.job slot outer below in omega (arith, x)) in
-        let F : List Frame → Type 0 = λ fs. Falls a.member.course.job.next_frame (known_numbers (map known_of fs ++ outer_of a.member.course.job a.task)) in
+        let P : List Frame → Type 0 = λ fs. Part core r a (slot_of a.plan a.member.constants.number a.task.number) (outer_spots a.plan a.member.constants.number a.member.progress.job a.task.critical a.task.parents) w.top fs in
+        let m : mark_place (acts core r a slot outer a.task.frames) ≡ height below = ap (λ (fs : List Frame). mark_place (acts core r a slot outer fs)) e ∙ (let x = height-is a.plan a.member.constants.number a.member.progress.job slot outer below in omega (arith, x)) in
+        let F : List Frame → Type 0 = λ fs. Falls a.member.progress.job.next_frame (known_numbers (map known_of fs ++ outer_of a.member.progress.job a.task)) in
         record {
           top = w.top;
-          bound = a.member.course.job.next_frame;
+          bound = a.member.progress.job.next_frame;
           frame = f;
           below = below;
           part = subst P e w.part;
@@ -82,7 +82,7 @@ module _ (core : List Tagged) (r : Regs) (a : Scene core r) where
           same = ap running (sym e);
           sees = λ i h. ap (λ (fs : List Frame). spot_in slot outer fs i) e;
           falls = subst F e o.falls;
-          returns = subst (StackInOrder (IsSegment a.member.setting)) e o.returns;
+          returns = subst (StackInOrder (IsSegment a.member.constants)) e o.returns;
         }
 
   read : (at : ℕ) (m : Mscw) (on : On at) → Reads core r a at m → m ≡ mark_in core r a slot outer on.frame on.below
@@ -95,7 +95,7 @@ module _ (core : List Tagged) (r : Regs) (a : Scene core r) where
   ends at m on d e =
       let is = read at m on d in
       let run : running (on.frame ∷ on.below) ≡ on.frame = entered_only slot (spot_in slot outer on.below) on.frame.standing (acts core r a slot outer on.below) on.frame (running on.below) (ap (λ (k : Mscw). k.entered) (sym is) ∙ e) in
-      let spot : spots a.plan a.member.setting.number a.member.course.job a.task on.frame.identity ≡ record { stack = slot; disp = height on.below } = on.sees on.frame.identity (inl refl) ∙ (let t : (on.frame.identity == on.frame.identity) ≡ true = eq-eqb on.frame.identity on.frame.identity refl in rw t refl) in
+      let spot : spots a.plan a.member.constants.number a.member.progress.job a.task on.frame.identity ≡ record { stack = slot; disp = height on.below } = on.sees on.frame.identity (inl refl) ∙ (let t : (on.frame.identity == on.frame.identity) ≡ true = eq-eqb on.frame.identity on.frame.identity refl in rw t refl) in
       on.at_is ∙ sym (slot_address core r a slot (height on.below) on.top_is.used) ∙ ap (address_of a.plan) (sym spot)
       ∙ ap (λ (f : Frame). frame_address a.plan a.member a.task f.identity) (sym run ∙ on.same)
 
@@ -111,15 +111,15 @@ module _ (core : List Tagged) (r : Regs) (a : Scene core r) where
     back = ap (λ (k : Mscw). k.back) is ∙ back_of slot (spot_in slot outer on.below) on.frame.standing (acts core r a slot outer on.below)
 
     by_below : (fs : List Frame) → on.below ≡ fs → (1 ≤ m.back) × (m.back ≤ at) × On (at - m.back)
-    by_below [] z = absurd (let n : ReturnsInOrder (IsSegment a.member.setting) State.Marked on.below = subst (λ (s : Standing). ReturnsInOrder (IsSegment a.member.setting) s on.below) marked on.returns.0 in n z)
+    by_below [] z = absurd (let n : ReturnsInOrder (IsSegment a.member.constants) State.Marked on.below = subst (λ (s : Standing). ReturnsInOrder (IsSegment a.member.constants) s on.below) marked on.returns.0 in n z)
     by_below (g ∷ fs) z =
-        let P : List Frame → Type 0 = λ fs. Part core r a (slot_of a.plan a.member.setting.number a.task.number) (outer_spots a.plan a.member.setting.number a.member.course.job a.task.critical a.task.parents) on.top fs in
-        let words = size-is a.plan a.member.setting.number a.member.course.job slot outer g fs in
+        let P : List Frame → Type 0 = λ fs. Part core r a (slot_of a.plan a.member.constants.number a.task.number) (outer_spots a.plan a.member.constants.number a.member.progress.job a.task.critical a.task.parents) on.top fs in
+        let words = size-is a.plan a.member.constants.number a.member.progress.job slot outer g fs in
         let size : m.back ≡ State.words_of g = back ∙ ap (λ (gs : List Frame). top_size (acts core r a slot outer gs)) z ∙ words in
         let some : 1 ≤ State.words_of g = one_word g.standing in
         let high : height on.below ≡ height fs + State.words_of g = ap height z in
         let at_is = on.at_is in
-        let F : List Frame → Type 0 = λ fs. Falls on.frame.identity (known_numbers (map known_of fs ++ outer_of a.member.course.job a.task)) in (
+        let F : List Frame → Type 0 = λ fs. Falls on.frame.identity (known_numbers (map known_of fs ++ outer_of a.member.progress.job a.task)) in (
           omega (arith, size, some),
           omega (arith, size, high, at_is),
           record {
@@ -132,12 +132,12 @@ module _ (core : List Tagged) (r : Regs) (a : Scene core r) where
             at_is = omega (arith, size, high, at_is);
             same = ap running (sym z) ∙ (let x : running_from on.frame.standing on.frame (running on.below) ≡ running on.below = ap (λ (s : Standing). running_from s on.frame (running on.below)) marked in sym x) ∙ on.same;
             sees = λ i h.
-                (let there : Has (known_numbers (map known_of on.below ++ outer_of a.member.course.job a.task)) i = subst (λ (gs : List Frame). Has (known_numbers (map known_of gs ++ outer_of a.member.course.job a.task)) i) (sym z) h in
-                let low = falls_low on.frame.identity (known_numbers (map known_of on.below ++ outer_of a.member.course.job a.task)) i on.falls.1 there in
+                (let there : Has (known_numbers (map known_of on.below ++ outer_of a.member.progress.job a.task)) i = subst (λ (gs : List Frame). Has (known_numbers (map known_of gs ++ outer_of a.member.progress.job a.task)) i) (sym z) h in
+                let low = falls_low on.frame.identity (known_numbers (map known_of on.below ++ outer_of a.member.progress.job a.task)) i on.falls.1 there in
                 let ne : (on.frame.identity == i) ≡ false = ne_eqb on.frame.identity i (λ x. omega (arith, x, low)) in
                 on.sees i (inr there) ∙ (rw ne refl) ∙ ap (λ (gs : List Frame). spot_in slot outer gs i) z);
             falls = subst F z on.falls.1;
-            returns = subst (StackInOrder (IsSegment a.member.setting)) z on.returns.1;
+            returns = subst (StackInOrder (IsSegment a.member.constants)) z on.returns.1;
           },
         ) where
           one_word : (s : Standing) → 1 ≤ State.head_words s + length g.cells

@@ -17,13 +17,13 @@ use Rattle.b67_model.specs.State.{Frame, Standing, height}
 use Rattle.b67_model.specs.InOrder.{reach_of, NamesEntered}
 use Rattle.b67_model.specs.Environment.{frame_at}
 use Rattle.b67_model.specs.Cells.{named}
-use Rattle.b67_stack.specs.Stacks.{Spot, head_size, high}
-use Rattle.b67_layout.specs.Plan.{spot_in}
+use Rattle.b67_stack.specs.Stacks.{StackPlace, head_size, stack_words}
+use Rattle.b67_layout.specs.Placement.{spot_in}
 use Rattle.b67_layout.specs.Layout.{head}
 use Rattle.b67_layout.specs.Session.{frame_address}
 use Rattle.b67_layout.specs.Meets.{here}
 use Rattle.b67_layout.proofs.Frames.{height-is}
-use Rattle.b67_refer.specs.Scene.{Scene, IsShown}
+use Rattle.b67_refer.specs.RunningContext.{RunningContext, IsShown}
 use Rattle.b67_refer.specs.Cells.{IsUnder}
 use Rattle.b67_refer.proofs.Bases.{stacks_is, size_is, slot_inside, dictionary_is, dictionary_low}
 use Rattle.b67_refer.proofs.Seats.{seat}
@@ -31,11 +31,11 @@ use Rattle.b67_refer.proofs.Rule.{seat_address}
 use Rattle.b67_refer.proofs.Fixed.{mcp_address, dictionary_home, dictionary_high}
 use Rattle.b67_refer.proofs.Chains.{level, level_is, level_at, frame_at_same}
 
-one_word : (spot : ℕ → Spot) (s : Standing) → 1 ≤ head_size (head spot s)
+one_word : (spot : ℕ → StackPlace) (s : Standing) → 1 ≤ head_size (head spot s)
 one_word spot State.Marked = omega arith
 one_word spot (State.Entered l environment back) = omega arith
 
-module _ (core : List Tagged) (r : Regs) (a : Scene core r) where
+module _ (core : List Tagged) (r : Regs) (a : RunningContext core r) where
   pub slot_found : (from top size : ℕ) (u : IsUnder a from top) → size ≡ r.stack_size → (from - r.stacks) / size ≡ u.slot
   slot_found from top size u e =
       let z : size ≡ a.plan.size = e ∙ size_is core r a in
@@ -58,10 +58,10 @@ module _ (core : List Tagged) (r : Regs) (a : Scene core r) where
       u.is.by
 
   -- a frame of a task is under its stack's top
-  pub under : (f : ℕ) (n : NamesEntered (reach_of a.member.course.job a.task) f) (own : 1 < f) → IsUnder a (frame_address a.plan a.member a.task f) (seat core r a f n.standing n.among own).top
+  pub under : (f : ℕ) (n : NamesEntered (reach_of a.member.progress.job a.task) f) (own : 1 < f) → IsUnder a (frame_address a.plan a.member a.task f) (seat core r a f n.standing n.among own).top
   under f n own =
       let b = seat core r a f n.standing n.among own in
-      let h = height-is a.plan a.member.setting.number a.member.course.job b.slot b.outer b.below in
+      let h = height-is a.plan a.member.constants.number a.member.progress.job b.slot b.outer b.below in
       let w = one_word (spot_in b.slot b.outer b.below) b.frame.standing in
       record {
         slot = b.slot;
@@ -71,14 +71,14 @@ module _ (core : List Tagged) (r : Regs) (a : Scene core r) where
         is = b.top_is;
       }
 
-  pub seat_low : (f : ℕ) (n : NamesEntered (reach_of a.member.course.job a.task) f) (own : 1 < f) → height (seat core r a f n.standing n.among own).below < a.plan.size
+  pub seat_low : (f : ℕ) (n : NamesEntered (reach_of a.member.progress.job a.task) f) (own : 1 < f) → height (seat core r a f n.standing n.among own).below < a.plan.size
   seat_low f n own =
       let b = seat core r a f n.standing n.among own in
-      let h = height-is a.plan a.member.setting.number a.member.course.job b.slot b.outer b.below in
+      let h = height-is a.plan a.member.constants.number a.member.progress.job b.slot b.outer b.below in
       let w = one_word (spot_in b.slot b.outer b.below) b.frame.standing in
       omega (arith, h, w, b.part.low, b.part.room)
 
-  pub high_address : (f : ℕ) → NamesEntered (reach_of a.member.course.job a.task) f → 1 < f → (a.plan.stacks ≤ frame_address a.plan a.member a.task f) × (frame_address a.plan a.member a.task f < 2 ^ 20)
+  pub high_address : (f : ℕ) → NamesEntered (reach_of a.member.progress.job a.task) f → 1 < f → (a.plan.stacks ≤ frame_address a.plan a.member a.task f) × (frame_address a.plan a.member a.task f < 2 ^ 20)
   high_address f n own =
       let u = under f n own in
       let at = u.at in
@@ -87,16 +87,16 @@ module _ (core : List Tagged) (r : Regs) (a : Scene core r) where
       (omega (arith, at), omega (arith, at, low, i.0, i.1, i.2))
 
   -- which frame it is by the address
-  pub is_mcp : (f from : ℕ) → NamesEntered (reach_of a.member.course.job a.task) f → from ≡ frame_address a.plan a.member a.task f → from ≡ 0 → f ≡ 0
+  pub is_mcp : (f from : ℕ) → NamesEntered (reach_of a.member.progress.job a.task) f → from ≡ frame_address a.plan a.member a.task f → from ≡ 0 → f ≡ 0
   is_mcp f from n e zero = ⊎_elim
       (λ (own : 1 < f). absurd (let h = high_address f n own in let d = dictionary_low core r a in omega (arith, h.0, e, zero, d)))
       (λ (low : f ≤ 1). ⊎_elim
       (λ (z : f < 1). omega (arith, z))
-      (λ (one : 1 ≤ f). (let is : f ≡ 1 = omega (arith, low, one) in let at : from ≡ a.plan.dictionary a.member.setting.number = e ∙ ap (frame_address a.plan a.member a.task) is ∙ dictionary_home core r a in let d = dictionary_high core r a in absurd (omega (arith, at, zero, d))))
+      (λ (one : 1 ≤ f). (let is : f ≡ 1 = omega (arith, low, one) in let at : from ≡ a.plan.dictionary a.member.constants.number = e ∙ ap (frame_address a.plan a.member a.task) is ∙ dictionary_home core r a in let d = dictionary_high core r a in absurd (omega (arith, at, zero, d))))
       (cases_lt f 1))
       (cases_lt 1 f)
 
-  pub is_dictionary : (f from : ℕ) → NamesEntered (reach_of a.member.course.job a.task) f → from ≡ frame_address a.plan a.member a.task f → (from ≡ 0 → ⊥) → from ≡ r.dict → f ≡ 1
+  pub is_dictionary : (f from : ℕ) → NamesEntered (reach_of a.member.progress.job a.task) f → from ≡ frame_address a.plan a.member a.task f → (from ≡ 0 → ⊥) → from ≡ r.dict → f ≡ 1
   is_dictionary f from n e some is = ⊎_elim
       (λ (own : 1 < f). absurd (let h = high_address f n own in let d = dictionary_low core r a in let k = dictionary_is core r a in omega (arith, h.0, e, is, k, d)))
       (λ (low : f ≤ 1). ⊎_elim
@@ -105,7 +105,7 @@ module _ (core : List Tagged) (r : Regs) (a : Scene core r) where
       (cases_lt f 1))
       (cases_lt 1 f)
 
-  pub is_task : (f from : ℕ) → NamesEntered (reach_of a.member.course.job a.task) f → from ≡ frame_address a.plan a.member a.task f → (from ≡ 0 → ⊥) → (from ≡ r.dict → ⊥) → 1 < f
+  pub is_task : (f from : ℕ) → NamesEntered (reach_of a.member.progress.job a.task) f → from ≡ frame_address a.plan a.member a.task f → (from ≡ 0 → ⊥) → (from ≡ r.dict → ⊥) → 1 < f
   is_task f from n e some other = ⊎_elim
       (λ (own : 1 < f). own)
       (λ (low : f ≤ 1). ⊎_elim
@@ -115,18 +115,18 @@ module _ (core : List Tagged) (r : Regs) (a : Scene core r) where
       (cases_lt 1 f)
 
   -- the number of a dictionary's entries
-  pub entries_is : r.entries ≡ length a.member.setting.dictionary.cells
+  pub entries_is : r.entries ≡ length a.member.constants.dictionary.cells
   entries_is = (a.holds.running a.member a.task a.running).entries
 
   -- a couple's frame
   module _ (q : Place) (display : List ℕ) (shown : IsShown a display) (c : Couple) where
     pub named_above : r.level < c.level → named (here a.member a.task q) c ≡ Err InvalidAddress
-    named_above high = let e = level_is core r a in let t : nat_le c.level (level core r a) ≡ false = lt-leb c.level (level core r a) (omega (arith, e, high)) in rw t refl
+    named_above high = let e = level_is core r a in let t : nat_le c.level (level core r a) ≡ false = lt-leb c.level (level core r a) (omega (arith, e, stack_words)) in rw t refl
 
     pub named_at : c.level ≤ r.level → named (here a.member a.task q) c ≡ Ok ((frame_at (here a.member a.task q) c.level).identity, c.disp)
     named_at low = let e = level_is core r a in let t : nat_le c.level (level core r a) ≡ true = le-leb c.level (level core r a) (omega (arith, e, low)) in rw t refl
 
-    pub names_level : c.level ≤ r.level → NamesEntered (reach_of a.member.course.job a.task) (frame_at (here a.member a.task q) c.level).identity
+    pub names_level : c.level ≤ r.level → NamesEntered (reach_of a.member.progress.job a.task) (frame_at (here a.member a.task q) c.level).identity
     names_level low =
         let e = level_is core r a in
         let k = level_at core r a q c.level (omega (arith, e, low)) in

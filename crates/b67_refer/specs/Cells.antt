@@ -11,21 +11,21 @@ use Rattle.b67_model.specs.Words as Words
 use Rattle.b67_model.specs.Words.{Word, Operand, Name, Ref, Row, Element, Original, Proc, Intrinsic}
 use Rattle.b67_model.specs.InOrder.{Known, reach_of, IsSegment, NamesEntered, WordInOrder}
 use Rattle.b67_model.specs.Cells.{cell}
-use Rattle.b67_stack.specs.Stacks.{Spot}
+use Rattle.b67_stack.specs.Stacks.{StackPlace}
 use Rattle.b67_stack.specs.Shapes.{Fits}
-use Rattle.b67_layout.specs.Plan.{spots}
+use Rattle.b67_layout.specs.Placement.{spots}
 use Rattle.b67_layout.specs.Layout.{shape}
 use Rattle.b67_layout.specs.Session.{frame_address}
 use Rattle.b67_layout.specs.Meets.{here}
-use Rattle.b67_refer.specs.Scene.{Scene}
+use Rattle.b67_refer.specs.RunningContext.{RunningContext}
 
-module _ {core : List Tagged} {r : Regs} (a : Scene core r) where
+module _ {core : List Tagged} {r : Regs} (a : RunningContext core r) where
   -- what the running task may name, and where the frames are
   abbrev pub reach : List Known
-  reach = reach_of a.member.course.job a.task
+  reach = reach_of a.member.progress.job a.task
 
-  abbrev pub view : ℕ → Spot
-  view = spots a.plan a.member.setting.number a.member.course.job a.task
+  abbrev pub view : ℕ → StackPlace
+  view = spots a.plan a.member.constants.number a.member.progress.job a.task
 
   abbrev pub frame_at_core : ℕ → ℕ
   frame_at_core f = frame_address a.plan a.member a.task f
@@ -35,8 +35,8 @@ module _ {core : List Tagged} {r : Regs} (a : Scene core r) where
   StandsFor at owner v (Intrinsic n) = (v ≡ intrinsic_word (record { number = n })) × (8 ≤ n) × (n ≤ 18)
   StandsFor at owner v (Words.Segment n) = v.tag ≡ 3
   StandsFor at owner v w =
-      Fits a.storage.held (shape a.plan a.member.setting.number a.member.course.job view w) at v
-      × WordInOrder (IsSegment a.member.setting) a.member.course.job.arrays reach owner w
+      Fits a.storage.held (shape a.plan a.member.constants.number a.member.progress.job view w) at v
+      × WordInOrder (IsSegment a.member.constants) a.member.progress.job.arrays reach owner w
 
   -- the top word of the stack in slot k has this address: by the register, or by the word at the stack's base
   pub record IsTop (k top : ℕ) : Type 0 where

@@ -13,19 +13,19 @@ use Rattle.b67_model.specs.Arrays.{array}
 use Rattle.b67_model.specs.Chase as Chase
 use Rattle.b67_model.specs.Chase.{AtCell, AtElement, AtArray, AtProc, AtIntrinsic, Link, Stops, Leads}
 use Rattle.b67_stack.specs.Shapes.{Copied, IsCopy}
-use Rattle.b67_stack.specs.Picture.{Picture}
-use Rattle.b67_stack.specs.Stands.{Storage, Stands}
+use Rattle.b67_stack.specs.MachineView.{MachineView}
+use Rattle.b67_stack.specs.Represents.{Storage, Represents}
 use Rattle.b67_refer.specs.declared.ends.End.{End}
 use Rattle.b67_refer.specs.declared.ends.End.TheVariants as end
-use Rattle.b67_refer.specs.Scene.{Scene}
+use Rattle.b67_refer.specs.RunningContext.{RunningContext}
 use Rattle.b67_refer.specs.Cells.{reach, IsCellAt}
 
 -- a copy of the array whose original has this address, in some machine of this core
 pub record IsCopyOf (core : List Tagged) (copy : DataDesc) (home : ℕ) : Type 0 where
   pub storage : Storage
   pub registers : Regs
-  pub picture : Picture
-  pub stands : Stands storage core registers picture
+  pub machine_view : MachineView
+  pub stands : Represents storage core registers machine_view
   pub copied : Copied
   pub fits : IsDataDesc copy
   pub is : IsCopy storage.held copied home (data_word copy)
@@ -45,7 +45,7 @@ abbrev pub on_link : Result End Fault → Result (Option End) Fault
 on_link (Ok found) = Ok (Some found)
 on_link (Err fault) = Err fault
 
-module _ {core : List Tagged} {r : Regs} (a : Scene core r) (q : Place) where
+module _ {core : List Tagged} {r : Regs} (a : RunningContext core r) (q : Place) where
   -- the cell of a procedure
   pub record IsProcAt (at f segment level : ℕ) (place : Place) : Type 0 where
     pub own : 1 < f
@@ -54,13 +54,13 @@ module _ {core : List Tagged} {r : Regs} (a : Scene core r) (q : Place) where
 
   -- an array whose original has this address
   pub record IsArrayOf (original n : ℕ) : Type 0 where
-    pub home : original ≡ a.plan.home a.member.setting.number n
-    pub names : NamesArray a.member.course.job.arrays (reach a) n
+    pub home : original ≡ a.plan.home a.member.constants.number n
+    pub names : NamesArray a.member.progress.job.arrays (reach a) n
 
   -- an element of it
   pub record IsElementOf (original n index : ℕ) : Type 0 where
     pub array_of : IsArrayOf original n
-    pub inside : index < length (array a.member.course.job n).numbers
+    pub inside : index < length (array a.member.progress.job n).numbers
 
   abbrev pub EndIs : End → Chase.End → Type 0
   EndIs (end.Cell at) (AtCell f offset bits) = IsCellAt a q at f offset (Operand bits)

@@ -1,3 +1,3 @@
-pub mod Scene
+pub mod RunningContext
 pub mod Cells
 pub mod Ends

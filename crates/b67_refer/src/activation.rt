@@ -5,7 +5,7 @@ ghost use Rattle.b67_word.specs.declared.couples.Place.{Place};
 ghost use Rattle.b67_model.specs.Environment.{level_of_frame};
 ghost use Rattle.b67_model.specs.State.{frame};
 ghost use Rattle.b67_layout.specs.Meets.{here};
-ghost use Rattle.b67_refer.specs.Scene.{Scene};
+ghost use Rattle.b67_refer.specs.RunningContext.{RunningContext};
 ghost use Rattle.b67_refer.specs.Cells.{view, frame_at_core};
 ghost use Rattle.b67_refer.specs.Ends.{IsProcAt};
 
@@ -24,8 +24,8 @@ pub struct Activation {
 /// The address of the mark under a cell of an entered activation record. The word over the mark has tag 3, the cells'
 /// have other tags.
 fn mark_under(core: &Core, regs: &Regs, cell: u32) -> u32
-    requires { (a : Scene core.now regs.now) × (q : Place) × (f : ℕ) × (segment : ℕ) × (level : ℕ) × (place : Place) × IsProcAt a q cell f segment level place }
-    ensures { (a : Scene core.now regs.now) (q : Place) (f segment level : ℕ) (place : Place) → IsProcAt a q cell f segment level place
+    requires { (a : RunningContext core.now regs.now) × (q : Place) × (f : ℕ) × (segment : ℕ) × (level : ℕ) × (place : Place) × IsProcAt a q cell f segment level place }
+    ensures { (a : RunningContext core.now regs.now) (q : Place) (f segment level : ℕ) (place : Place) → IsProcAt a q cell f segment level place
         → result ≡ frame_at_core a f }
 {
     let mut at = cell;
@@ -39,8 +39,8 @@ fn mark_under(core: &Core, regs: &Regs, cell: u32) -> u32
 
 /// The activation record in which the cell of a procedure lies: the environment of the procedure's activations.
 pub fn activation_of(core: &Core, regs: &Regs, cell: u32) -> Activation
-    requires { (a : Scene core.now regs.now) × (q : Place) × (f : ℕ) × (segment : ℕ) × (level : ℕ) × (place : Place) × IsProcAt a q cell f segment level place }
-    ensures { (a : Scene core.now regs.now) (q : Place) (f segment level : ℕ) (place : Place) → IsProcAt a q cell f segment level place
+    requires { (a : RunningContext core.now regs.now) × (q : Place) × (f : ℕ) × (segment : ℕ) × (level : ℕ) × (place : Place) × IsProcAt a q cell f segment level place }
+    ensures { (a : RunningContext core.now regs.now) (q : Place) (f segment level : ℕ) (place : Place) → IsProcAt a q cell f segment level place
         → result ≡ record { stack = (view a f).stack; disp = (view a f).disp; level = level_of_frame (frame (here a.member a.task q) f) } }
 {
     let mark = mark_under(core, regs, cell);

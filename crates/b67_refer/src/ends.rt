@@ -7,7 +7,7 @@ ghost use Rattle.b67_model.specs.Cells.{place_of};
 ghost use Rattle.b67_model.specs.Chase.{element_end, link_at, chase as chase_of, follow};
 ghost use Rattle.b67_model.specs.InOrder.{NamesArray};
 ghost use Rattle.b67_layout.specs.Meets.{here};
-ghost use Rattle.b67_refer.specs.Scene.{Scene, IsShown};
+ghost use Rattle.b67_refer.specs.RunningContext.{RunningContext, IsShown};
 ghost use Rattle.b67_refer.specs.Cells.{reach, StandsFor, IsCellAt, FindsCell};
 ghost use Rattle.b67_refer.specs.Ends.{IsCopyOf, HasTag, IsReference, EndMeets, LinkMeets};
 
@@ -43,9 +43,9 @@ pub fn owner(core: &Core, copy: DataDesc) -> u32
 
 /// The element of an array at an index. INVALID INDEX where the array, as it is now, is no longer than the index.
 fn element_at(core: &Core, regs: &Regs, original: u32, index: u32) -> Result<End, Fault>
-    requires { (a : Scene core.now regs.now) × (n : ℕ) × (original ≡ a.plan.home a.member.setting.number n) × NamesArray a.member.course.job.arrays (reach a) n }
-    ensures { (a : Scene core.now regs.now) (q : Place) (n : ℕ) → original ≡ a.plan.home a.member.setting.number n
-        → NamesArray a.member.course.job.arrays (reach a) n → EndMeets a q result (element_end (here a.member a.task q) n index) }
+    requires { (a : RunningContext core.now regs.now) × (n : ℕ) × (original ≡ a.plan.home a.member.constants.number n) × NamesArray a.member.progress.job.arrays (reach a) n }
+    ensures { (a : RunningContext core.now regs.now) (q : Place) (n : ℕ) → original ≡ a.plan.home a.member.constants.number n
+        → NamesArray a.member.progress.job.arrays (reach a) n → EndMeets a q result (element_end (here a.member a.task q) n index) }
 {
     let d = match DataDesc::from_word(core.get(original)) {
         Some(d) => d,
@@ -59,8 +59,8 @@ fn element_at(core: &Core, regs: &Regs, original: u32, index: u32) -> Result<End
 
 /// The end at an array's descriptor in a cell.
 fn array_end(core: &Core, regs: &Regs, at: u32) -> Result<Option<End>, Fault>
-    requires { (a : Scene core.now regs.now) × (q : Place) × (f : ℕ) × (offset : ℕ) × (w : Words.Word) × IsCellAt a q at f offset w × HasTag core.now at 5 }
-    ensures { (a : Scene core.now regs.now) (q : Place) (f offset : ℕ) (w : Words.Word) → IsCellAt a q at f offset w → HasTag core.now at 5
+    requires { (a : RunningContext core.now regs.now) × (q : Place) × (f : ℕ) × (offset : ℕ) × (w : Words.Word) × IsCellAt a q at f offset w × HasTag core.now at 5 }
+    ensures { (a : RunningContext core.now regs.now) (q : Place) (f offset : ℕ) (w : Words.Word) → IsCellAt a q at f offset w → HasTag core.now at 5
         → LinkMeets a q result (link_at (here a.member a.task q) f offset w) }
 {
     let d = match DataDesc::from_word(core.get(at)) {
@@ -83,8 +83,8 @@ fn array_end(core: &Core, regs: &Regs, at: u32) -> Result<Option<End>, Fault>
 /// What the word in a cell comes to: an end, or None where it is a reference. INVALID OPERAND exactly where it is
 /// neither.
 fn end_at(core: &Core, regs: &Regs, at: u32) -> Result<Option<End>, Fault>
-    requires { (a : Scene core.now regs.now) × (q : Place) × (f : ℕ) × (offset : ℕ) × (w : Words.Word) × IsCellAt a q at f offset w }
-    ensures { (a : Scene core.now regs.now) (q : Place) (f offset : ℕ) (w : Words.Word) → IsCellAt a q at f offset w
+    requires { (a : RunningContext core.now regs.now) × (q : Place) × (f : ℕ) × (offset : ℕ) × (w : Words.Word) × IsCellAt a q at f offset w }
+    ensures { (a : RunningContext core.now regs.now) (q : Place) (f offset : ℕ) (w : Words.Word) → IsCellAt a q at f offset w
         → LinkMeets a q result (link_at (here a.member a.task q) f offset w) }
 {
     let w = core.get(at);
@@ -111,8 +111,8 @@ fn end_at(core: &Core, regs: &Regs, at: u32) -> Result<Option<End>, Fault>
 
 /// The cell that a reference word names.
 fn named_cell(core: &Core, regs: &Regs, display: &[u32; 32], w: Word) -> Result<u32, Fault>
-    requires { (a : Scene core.now regs.now) × IsShown a display.now × (at : ℕ) × (owner : ℕ) × (v : Words.Word) × StandsFor a at owner w v × IsReference v }
-    ensures { (a : Scene core.now regs.now) (q : Place) → IsShown a display.now → (at owner : ℕ) (v : Words.Word) → StandsFor a at owner w v
+    requires { (a : RunningContext core.now regs.now) × IsShown a display.now × (at : ℕ) × (owner : ℕ) × (v : Words.Word) × StandsFor a at owner w v × IsReference v }
+    ensures { (a : RunningContext core.now regs.now) (q : Place) → IsShown a display.now → (at owner : ℕ) (v : Words.Word) → StandsFor a at owner w v
         → IsReference v → FindsCell a q result (place_of (here a.member a.task q) v) }
 {
     match Irw::from_word(w) {
@@ -126,8 +126,8 @@ fn named_cell(core: &Core, regs: &Regs, display: &[u32; 32], w: Word) -> Result<
 
 /// Follows a chain of references, of at most 1,024 links.
 fn chase_reference(core: &Core, regs: &Regs, display: &[u32; 32], w: Word) -> Result<End, Fault>
-    requires { (a : Scene core.now regs.now) × IsShown a display.now × (at : ℕ) × (owner : ℕ) × (v : Words.Word) × StandsFor a at owner w v × IsReference v }
-    ensures { (a : Scene core.now regs.now) (q : Place) → IsShown a display.now → (at owner : ℕ) (v : Words.Word) → StandsFor a at owner w v
+    requires { (a : RunningContext core.now regs.now) × IsShown a display.now × (at : ℕ) × (owner : ℕ) × (v : Words.Word) × StandsFor a at owner w v × IsReference v }
+    ensures { (a : RunningContext core.now regs.now) (q : Place) → IsShown a display.now → (at owner : ℕ) (v : Words.Word) → StandsFor a at owner w v
         → IsReference v → EndMeets a q result (chase_of (here a.member a.task q) v) }
 {
     let mut w = w;
@@ -150,8 +150,8 @@ fn chase_reference(core: &Core, regs: &Regs, display: &[u32; 32], w: Word) -> Re
 /// itself is neither a reference nor an element copy, and LOOP where a link after the 1,024th would be followed. The
 /// word is one of the running task's, and the display shows its environment.
 pub fn chase(core: &Core, regs: &Regs, display: &[u32; 32], w: Word) -> Result<End, Fault>
-    requires { (a : Scene core.now regs.now) × IsShown a display.now × (at : ℕ) × (owner : ℕ) × (v : Words.Word) × StandsFor a at owner w v }
-    ensures { (a : Scene core.now regs.now) (q : Place) → IsShown a display.now → (at owner : ℕ) (v : Words.Word) → StandsFor a at owner w v
+    requires { (a : RunningContext core.now regs.now) × IsShown a display.now × (at : ℕ) × (owner : ℕ) × (v : Words.Word) × StandsFor a at owner w v }
+    ensures { (a : RunningContext core.now regs.now) (q : Place) → IsShown a display.now → (at owner : ℕ) (v : Words.Word) → StandsFor a at owner w v
         → EndMeets a q result (follow (here a.member a.task q) v) }
 {
     if w.tag() == 1 {

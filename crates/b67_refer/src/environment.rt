@@ -4,10 +4,10 @@ ghost use Rattle.std.specs.Prelude.{◌≡◌, ℕ, ◌<◌, ◌^◌, Some, slic
 ghost use Rattle.b67_ctl.specs.declared.marks.Mscw.{Mscw};
 ghost use Rattle.b67_ctl.specs.Layout.{mscw_word, IsMscw};
 ghost use Rattle.b67_model.specs.Environment.{running as running_frame};
-ghost use Rattle.b67_stack.specs.Stacks.{Spot};
-ghost use Rattle.b67_layout.specs.Plan.{base_of as base_of_stack, address_of as address_of_spot};
+ghost use Rattle.b67_stack.specs.Stacks.{StackPlace};
+ghost use Rattle.b67_layout.specs.Placement.{base_of as base_of_stack, address_of as address_of_spot};
 ghost use Rattle.b67_layout.specs.Session.{frame_address};
-ghost use Rattle.b67_refer.specs.Scene.{Scene, IsShown, IsStackOf};
+ghost use Rattle.b67_refer.specs.RunningContext.{RunningContext, IsShown, IsStackOf};
 
 use b67_core::Core;
 use b67_ctl::{Mscw, Regs};
@@ -25,8 +25,8 @@ pub(crate) fn mark_at(core: &Core, at: u32) -> Mscw
 
 /// The core address of a stack's base word: a slot's, the running job's dictionary's or the MCP's.
 fn base_of(core: &Core, regs: &Regs, stack: u16) -> u32
-    requires { (a : Scene core.now regs.now) × IsStackOf a stack }
-    ensures value { (a : Scene core.now regs.now) → IsStackOf a stack → result ≡ base_of_stack a.plan stack }
+    requires { (a : RunningContext core.now regs.now) × IsStackOf a stack }
+    ensures value { (a : RunningContext core.now regs.now) → IsStackOf a stack → result ≡ base_of_stack a.plan stack }
     ensures small { result < 2 ^ 20 }
 {
     if stack < 120 {
@@ -40,16 +40,16 @@ fn base_of(core: &Core, regs: &Regs, stack: u16) -> u32
 
 /// The core address of a displacement in a stack.
 pub(crate) fn address_of(core: &Core, regs: &Regs, stack: u16, disp: u16) -> u32
-    requires { (a : Scene core.now regs.now) × IsStackOf a stack }
-    ensures { (a : Scene core.now regs.now) → IsStackOf a stack → result ≡ address_of_spot a.plan (record { stack = stack; disp = disp }) }
+    requires { (a : RunningContext core.now regs.now) × IsStackOf a stack }
+    ensures { (a : RunningContext core.now regs.now) → IsStackOf a stack → result ≡ address_of_spot a.plan (record { stack = stack; disp = disp }) }
 {
     base_of(core, regs, stack) + u32::from(disp)
 }
 
 /// The address of the running activation record's mark.
 fn running(core: &Core, regs: &Regs) -> u32
-    requires { Scene core.now regs.now }
-    ensures { (a : Scene core.now regs.now) → result ≡ frame_address a.plan a.member a.task (running_frame a.task.frames).identity }
+    requires { RunningContext core.now regs.now }
+    ensures { (a : RunningContext core.now regs.now) → result ≡ frame_address a.plan a.member a.task (running_frame a.task.frames).identity }
 {
     let mut at = regs.f;
     'down: loop {
@@ -64,8 +64,8 @@ fn running(core: &Core, regs: &Regs) -> u32
 /// Writes the display: at each level up to the running one, the address of the activation record that the running
 /// environment has there.
 pub fn rebuild(core: &Core, regs: &Regs, display: &mut [u32; 32])
-    requires { Scene core.now regs.now }
-    ensures { (a : Scene core.now regs.now) → IsShown a display.new }
+    requires { RunningContext core.now regs.now }
+    ensures { (a : RunningContext core.now regs.now) → IsShown a display.new }
 {
     let mut at = running(core, regs);
     let mut level = regs.level;

@@ -9,15 +9,13 @@ use Rattle.b67_model.specs.declared.operators.Undecodable.TheVariants.{BadPlace,
 use Rattle.b67_model.specs.Operators.{Form, Alone, OneMore, TwoMore, Literal, Reading, count_at, place_at, ends_at, reads, form_of, syllable, operator_at}
 use Rattle.b67_model.specs.Loader.{Entry, At, entries_from}
 use Rattle.b67_uncalled.specs.Uncalled.{entries_use_built}
+use Rattle.b67_load_verify.proofs.Operator.{count_at-place_at}
 
 -- the place behind an operator at syllable n
 pub record Behind (code : List ℕ) (n : ℕ) (at : Place) : Type 0 where
   pub later : n < count_at at
   pub inside : count_at at ≤ 6 * length code
   pub proper : at.syllable < 6
-
-count-place : (n : ℕ) → count_at (place_at n) ≡ n
-count-place n = omega arith
 
 ends-behind : (code : List ℕ) (n end : ℕ) (op : Op) (read : Op × Place) → n < end → ends_at code end op ≡ Ok read → Behind code n read.1
 ends-behind code n end op read later e = by_fit (nat_le end (6 * length code)) refl e
@@ -26,7 +24,7 @@ ends-behind code n end op read later e = by_fit (nat_le end (6 * length code)) r
     by_fit true le e =
         let same : place_at end ≡ read.1 = cc in
         let fits : end ≤ 6 * length code = grind (arith, nat_tests) in
-        subst (Behind code n) same (record { later = omega (arith, count-place end); inside = omega (arith, count-place end); proper = omega arith })
+        subst (Behind code n) same (record { later = omega (arith, count_at-place_at end); inside = omega (arith, count_at-place_at end); proper = omega arith })
     by_fit false le e = absurd cc
 
 reads-behind : (code : List ℕ) (n : ℕ) (form : Option Form) (read : Op × Place) → reads code n form ≡ Ok read → Behind code n read.1

@@ -1,7 +1,7 @@
 -- The calls of ARRAYDEC, PRINT, PRINTROW and READ keep what is known of tasks; and so each operator that calls no other intrinsic.
-use Rattle.std.proofs.Common.{◌≡◌, ◌≢◌, ℕ, ◌+◌, ◌<◌, true, false, List, [], ◌∷◌, reverse, replicate, Option, Some, None, Ok, Err, refl, sym, ap, ◌∙◌, subst, arith, ⊎_elim, cond}
+use Rattle.std.proofs.Common.{◌≡◌, ◌≢◌, ℕ, ◌+◌, ◌<◌, true, List, [], ◌∷◌, reverse, replicate, Option, Some, None, Ok, Err, refl, sym, ◌∙◌, subst, arith, cond}
 use Rattle.std.specs.Prelude.{◌==◌}
-use Rattle.std.proofs.lemmas.Bool.{cases_Bool, eqb-true}
+use Rattle.std.proofs.lemmas.Bool.{eqb-true}
 use Rattle.std.proofs.lemmas.Option.{same_Some, none-some}
 use Rattle.b67_word.specs.declared.couples.Place.{Place}
 use Rattle.b67_word.specs.declared.faults.Fault.TheVariants.{InvalidOperand}
@@ -10,8 +10,8 @@ use Rattle.b67_model.specs.declared.operators.Op.TheVariants.{Plain}
 use Rattle.b67_model.specs.declared.operators.Code.TheVariants.{Entr}
 use Rattle.b67_model.specs.Answers.{Answer, ◌>>=◌}
 use Rattle.b67_model.specs.Words.{Word, Operand, Original, whole}
-use Rattle.b67_model.specs.State.{Array, Standing, Marked, Entered, Task, Job, Member, Here, with_task, top, below_top}
-use Rattle.b67_model.specs.Keyed.{keyed, change_keyed}
+use Rattle.b67_model.specs.State.{Array, Standing, Marked, Entered, Task, Job, SessionJob, OperatorContext, with_task, top, below_top}
+use Rattle.b67_model.specs.Keyed.{keyed}
 use Rattle.b67_model.specs.Arrays.{array}
 use Rattle.b67_model.specs.Chase.{End, AtCell, AtElement, AtArray, AtProc, AtIntrinsic, follow_reference}
 use Rattle.b67_model.specs.Steps.{Line, Value, Values, Done, Goes, Leaves, Waits, top_of, cells_of}
@@ -20,18 +20,9 @@ use Rattle.b67_model.specs.Rows.{entr_at, entr_with, entr, row}
 use Rattle.b67_law_order.proofs.Posts.{Post, post_ok, post_err, post_any, post_then, post_if, post_if_is, post_at}
 use Rattle.b67_model.specs.Called.{called_at, called_by, called_on, called}
 use Rattle.b67_law_order_steps.specs.Profiles.{Profile, profile, profiles, IsKnown}
-use Rattle.b67_law_order_steps.proofs.Lemmas.{rows_keep}
+use Rattle.b67_law_order_steps.proofs.Lemmas.{rows_keep, profiles_put}
 use Rattle.b67_layout.specs.Meets.{here}
 use Rattle.b67_session_attempt.proofs.Passed.{row_keeps}
-
--- another task of the same profile in a task's place
-put : (n : ℕ) (t : Task) (ts : List Task) → keyed (λ (p : Profile). p.number) n (profiles ts) ≡ Some (profile t)
-    → profiles (change_keyed (λ (u : Task). u.number) n (λ (u : Task). t) ts) ≡ profiles ts
-put n t [] e = refl
-put n t (u ∷ us) e = ⊎_elim
-    (λ (q : (u.number == n) ≡ true). let same : profile u ≡ profile t = same_Some (profile u) (profile t) (rw q at e) in rw q (ap (λ (p : Profile). p ∷ profiles us) (sym same)))
-    (λ (q : (u.number == n) ≡ false). let at : keyed (λ (p : Profile). p.number) n (profiles us) ≡ Some (profile t) = rw q at e in rw q (ap (λ (ps : List Profile). profile u ∷ ps) (put n t us at)))
-    (cases_Bool (u.number == n))
 
 module _ (first : List Profile) (next : ℕ) (own : Profile) (known : keyed (λ (p : Profile). p.number) own.number first ≡ Some own) where
   abbrev Keeps : Done → Type 0
@@ -42,7 +33,7 @@ module _ (first : List Profile) (next : ℕ) (own : Profile) (known : keyed (λ 
   abbrev Good : Answer Done → Type 0
   Good answer = Post Keeps answer
 
-  record Source (h : Here) : Type 0 where
+  record Source (h : OperatorContext) : Type 0 where
     pub tasks : profiles h.job.tasks ≡ first
     pub task : profile h.task ≡ own
     pub number : h.job.next_task ≡ next
@@ -51,30 +42,30 @@ module _ (first : List Profile) (next : ℕ) (own : Profile) (known : keyed (λ 
   with_good job task tasks same =
       let K : List Profile → Profile → Type 0 = λ ps p. keyed (λ (q : Profile). q.number) p.number ps ≡ Some p in
       let there : K (profiles job.tasks) (profile task) = subst (λ (p : Profile). K (profiles job.tasks) p) (sym same) (subst (λ (ps : List Profile). K ps own) (sym tasks) known) in
-      put task.number task job.tasks there ∙ tasks
+      profiles_put task.number task job.tasks there ∙ tasks
 
-  answers_good : (h : Here) (job : Job) (words : List Word) (printed : List Line) (touched : Option ℕ) → Source h → profiles job.tasks ≡ first → job.next_task ≡ next → Good (answers h job words printed touched)
+  answers_good : (h : OperatorContext) (job : Job) (words : List Word) (printed : List Line) (touched : Option ℕ) → Source h → profiles job.tasks ≡ first → job.next_task ≡ next → Good (answers h job words printed touched)
   answers_good h job words printed touched s tasks number = post_then Keeps _ _ (post_then Keeps _ _ (post_ok Keeps _ (with_good job (answered h words) tasks s.task, number)))
 
-  arraydec_good : (h : Here) (arguments : List Word) → Source h → Good (arraydec h arguments)
+  arraydec_good : (h : OperatorContext) (arguments : List Word) → Source h → Good (arraydec h arguments)
   arraydec_good h [] s = post_err Keeps _
   arraydec_good h (w ∷ []) s = post_any Keeps (whole w) _ (λ n. post_any Keeps (array_length n) _ (λ len.
       let made : Array = record { identity = h.job.next_array; owner = (top (below_top h.task.frames)).identity; writable = true; numbers = replicate len 0 } in
       answers_good h (record h.job { arrays = made ∷ h.job.arrays; next_array = h.job.next_array + 1 }) (Original h.job.next_array ∷ []) [] None s s.tasks s.number))
   arraydec_good h (w ∷ v ∷ more) s = post_err Keeps _
 
-  print_good : (h : Here) (arguments : List Word) → Source h → Good (print h arguments)
+  print_good : (h : OperatorContext) (arguments : List Word) → Source h → Good (print h arguments)
   print_good h [] s = post_err Keeps _
   print_good h (w ∷ []) s = post_any Keeps (whole w) _ (λ n. answers_good h h.job [] (Value n ∷ []) None s s.tasks s.number)
   print_good h (w ∷ v ∷ more) s = post_err Keeps _
 
-  printrow_good : (h : Here) (arguments : List Word) → Source h → Good (printrow h arguments)
+  printrow_good : (h : OperatorContext) (arguments : List Word) → Source h → Good (printrow h arguments)
   printrow_good h [] s = post_err Keeps _
   printrow_good h (w ∷ []) s =
       post_any Keeps (row_copy w) _ (λ a. post_any Keeps (numbers_of (array h.job a).numbers) _ (λ values. answers_good h h.job [] (Values values ∷ []) (Some a) s s.tasks s.number))
   printrow_good h (w ∷ v ∷ more) s = post_err Keeps _
 
-  read_good : (h : Here) (arguments : List Word) → Source h → Good (read h arguments)
+  read_good : (h : OperatorContext) (arguments : List Word) → Source h → Good (read h arguments)
   read_good h [] s = answers_good h (record h.job { numbers = (read_from h.job.numbers).1 }) (Operand (read_from h.job.numbers).0 ∷ []) [] None s s.tasks s.number
   read_good h (w ∷ more) s = post_err Keeps _
 
@@ -82,7 +73,7 @@ module _ (first : List Profile) (next : ℕ) (own : Profile) (known : keyed (λ 
   unless k n a b ne g = post_if_is Keeps (k == n) a b (λ q. absurd (ne (eqb-true k n q))) (λ q. g)
 
   -- intrinsics are called by their numbers from 8 on
-  intrinsic_good : (n : ℕ) (h : Here) (arguments : List Word) → n < 12 → Source h → Good (intrinsic n h arguments)
+  intrinsic_good : (n : ℕ) (h : OperatorContext) (arguments : List Word) → n < 12 → Source h → Good (intrinsic n h arguments)
   intrinsic_good n h arguments low s =
       let none : Good (Err InvalidOperand) = post_err Keeps _ in
       let from_16 = unless 16 n (cause h arguments) _ (λ e. omega (arith, low, e)) none in
@@ -93,40 +84,40 @@ module _ (first : List Profile) (next : ℕ) (own : Profile) (known : keyed (λ 
       post_if Keeps (8 == n) _ _ (arraydec_good h arguments s)
       (post_if Keeps (9 == n) _ _ (print_good h arguments s) (post_if Keeps (10 == n) _ _ (printrow_good h arguments s) (post_if Keeps (11 == n) _ _ (read_good h arguments s) from_12)))
 
-  at_good : (h : Here) (arguments : List Word) (end : End) (n : ℕ) → called_at (Ok end) ≡ Some n → n < 12 → Source h → Good (entr_at h arguments end)
+  at_good : (h : OperatorContext) (arguments : List Word) (end : End) (n : ℕ) → called_at (Ok end) ≡ Some n → n < 12 → Source h → Good (entr_at h arguments end)
   at_good h arguments (AtIntrinsic k) n e low s = intrinsic_good k h arguments (let same : k ≡ n = same_Some k n e in omega arith) s
   at_good h arguments (AtCell f offset bits) n e low s = absurd (none-some n e)
   at_good h arguments (AtElement a index) n e low s = absurd (none-some n e)
   at_good h arguments (AtArray a) n e low s = absurd (none-some n e)
   at_good h arguments (AtProc f segment level place) n e low s = absurd (none-some n e)
 
-  end_good : (h : Here) (arguments : List Word) (end : Answer End) (n : ℕ) → called_at end ≡ Some n → n < 12 → Source h → Good (end >>= entr_at h arguments)
+  end_good : (h : OperatorContext) (arguments : List Word) (end : Answer End) (n : ℕ) → called_at end ≡ Some n → n < 12 → Source h → Good (end >>= entr_at h arguments)
   end_good h arguments (Ok end) n e low s = at_good h arguments end n e low s
   end_good h arguments (Err fault) n e low s = absurd (none-some n e)
 
-  with_good_call : (h : Here) (cells : List Word) (n : ℕ) → called_by h cells ≡ Some n → n < 12 → Source h → Good (entr_with h cells)
+  with_good_call : (h : OperatorContext) (cells : List Word) (n : ℕ) → called_by h cells ≡ Some n → n < 12 → Source h → Good (entr_with h cells)
   with_good_call h [] n e low s = absurd (none-some n e)
   with_good_call h (r ∷ arguments) n e low s = end_good h arguments (follow_reference h r) n e low s
 
-  entr_good : (h : Here) (standing : Standing) (n : ℕ) → called_on h standing ≡ Some n → n < 12 → Source h → Good (entr h standing)
+  entr_good : (h : OperatorContext) (standing : Standing) (n : ℕ) → called_on h standing ≡ Some n → n < 12 → Source h → Good (entr h standing)
   entr_good h Marked n e low s = with_good_call h (reverse (cells_of h)) n e low s
   entr_good h (Entered level environment back) n e low s = absurd (none-some n e)
 
-  row_good : (op : Op) (h : Here) (n : ℕ) → called op h ≡ Some n → n < 12 → Source h → Good (row op h)
+  row_good : (op : Op) (h : OperatorContext) (n : ℕ) → called op h ≡ Some n → n < 12 → Source h → Good (row op h)
   row_good (Plain Entr) h n e low s = entr_good h (top_of h).standing n e low s
   row_good _ h n e low s = absurd (none-some n e)
 
 -- an operator of a live task that calls no intrinsic, or one of these
-pub built_keep : (op : Op) (m : Member) (t : Task) (q : Place) → keyed (λ (u : Task). u.number) t.number m.course.job.tasks ≡ Some t → t.frames ≢ [] → IsKnown (here m t q) → ((n : ℕ) → called op (here m t q) ≡ Some n → n < 12)
+pub built_keep : (op : Op) (m : SessionJob) (t : Task) (q : Place) → keyed (λ (u : Task). u.number) t.number m.progress.job.tasks ≡ Some t → t.frames ≢ [] → IsKnown (here m t q) → ((n : ℕ) → called op (here m t q) ≡ Some n → n < 12)
     → (after : Job) (printed : List Line) (touched : Option ℕ) → row op (here m t q) ≡ Ok (Goes after printed touched)
-    → (profiles after.tasks ≡ profiles m.course.job.tasks) × (after.next_task ≡ m.course.job.next_task)
+    → (profiles after.tasks ≡ profiles m.progress.job.tasks) × (after.next_task ≡ m.progress.job.next_task)
 built_keep op m t q live some known built after printed touched is = by (called op (here m t q)) refl
   where
-    by : (o : Option ℕ) → called op (here m t q) ≡ o → (profiles after.tasks ≡ profiles m.course.job.tasks) × (after.next_task ≡ m.course.job.next_task)
+    by : (o : Option ℕ) → called op (here m t q) ≡ o → (profiles after.tasks ≡ profiles m.progress.job.tasks) × (after.next_task ≡ m.progress.job.next_task)
     by None e = (
       (rows_keep op (here m t q) known e after printed touched is).0,
       (row_keeps (λ c. ⊥) op m t q live some (λ c d. absurd d) (λ c d. absurd d) e after printed touched is).1,
     )
     by (Some n) e =
-        post_at (Keeps (profiles m.course.job.tasks) m.course.job.next_task (profile t) known) (row op (here m t q)) (Goes after printed touched) is
-        (row_good (profiles m.course.job.tasks) m.course.job.next_task (profile t) known op (here m t q) n e (built n e) (record { tasks = refl; task = refl; number = refl }))
+        post_at (Keeps (profiles m.progress.job.tasks) m.progress.job.next_task (profile t) known) (row op (here m t q)) (Goes after printed touched) is
+        (row_good (profiles m.progress.job.tasks) m.progress.job.next_task (profile t) known op (here m t q) n e (built n e) (record { tasks = refl; task = refl; number = refl }))

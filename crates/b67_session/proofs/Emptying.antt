@@ -1,23 +1,23 @@
 -- The machine whose only task's slot was emptied, with other counts in its tables.
 use Rattle.std.proofs.Common.{◌≡◌, ℕ, List, [], Option, refl, sym, ap, ◌∙◌, subst}
 use Rattle.b67_word.specs.declared.faults.Ending.{Ending}
-use Rattle.b67_model.specs.State.{Task, Member}
+use Rattle.b67_model.specs.State.{Task, SessionJob}
 use Rattle.b67_model.specs.Schedule.{Session}
 use Rattle.b67_model.specs.InOrder.{IsInOrderButPlaces}
 use Rattle.b67_single.specs.Single.{IsSingle}
-use Rattle.b67_stack.specs.Stands.{Storage}
-use Rattle.b67_layout.specs.Plan.{Plan}
+use Rattle.b67_stack.specs.Represents.{Storage}
+use Rattle.b67_layout.specs.Placement.{Placement}
 use Rattle.b67_task_tables.specs.declared.tables.Tasks.{Tasks}
 use Rattle.b67_task_tables.specs.declared.tables.Machine.{Machine}
-use Rattle.b67_task_tables.specs.Tables.{MachineStands}
+use Rattle.b67_task_tables.specs.Tables.{MachineRepresents}
 use Rattle.b67_task.specs.Endings.{HasOne, HasRowsOf, EndsIn}
 use Rattle.b67_session.specs.Steps.{IsEmptied}
 
 -- what ending the last task promises of it
 abbrev pub Ending-stands : Machine → Machine → Type 0
 Ending-stands old new =
-    (u : Tasks) (x : Storage) (told : Option (List (List ℕ))) (plan : Plan) (s : Session) (m : Member) (t : Task) (ending : Ending) → HasRowsOf old u → IsInOrderButPlaces s
-    → MachineStands x told (record old { tasks = u }) plan s → IsSingle s m t → EndsIn told plan s m t ending (record new { tasks = record u { rows = new.tasks.rows; running = 255 } })
+    (u : Tasks) (x : Storage) (told : Option (List (List ℕ))) (plan : Placement) (s : Session) (m : SessionJob) (t : Task) (ending : Ending) → HasRowsOf old u → IsInOrderButPlaces s
+    → MachineRepresents x told (record old { tasks = u }) plan s → IsSingle s m t → EndsIn told plan s m t ending (record new { tasks = record u { rows = new.tasks.rows; running = 255 } })
 
 -- other counts
 pub one_same : (k : Machine) (tasks : Tasks) → tasks.rows ≡ k.tasks.rows → tasks.running ≡ k.tasks.running → HasOne k → HasOne (record k { tasks = tasks })
@@ -46,7 +46,7 @@ emptied old mid printed stands tasks rows = record {
 
 -- the tables' own counts
 pub ends_in : (old mid : Machine) (printed : ℕ) → Ending-stands (record old { tasks = record old.tasks { printed = printed } }) mid → mid.tasks ≡ record old.tasks { rows = mid.tasks.rows; running = 255; printed = printed }
-    → (x : Storage) (told : Option (List (List ℕ))) (plan : Plan) (s : Session) (m : Member) (t : Task) (ending : Ending) → IsInOrderButPlaces s → MachineStands x told old plan s → IsSingle s m t
+    → (x : Storage) (told : Option (List (List ℕ))) (plan : Placement) (s : Session) (m : SessionJob) (t : Task) (ending : Ending) → IsInOrderButPlaces s → MachineRepresents x told old plan s → IsSingle s m t
     → EndsIn told plan s m t ending mid
 ends_in old mid printed stands tasks x told plan s m t ending o h single =
     let P : Tasks → Type 0 = λ z. EndsIn told plan s m t ending (record mid { tasks = z }) in

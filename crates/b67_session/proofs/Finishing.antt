@@ -8,7 +8,7 @@ use Rattle.b67_word.specs.declared.faults.Ending.{Ending}
 use Rattle.b67_word.specs.declared.faults.Ending.TheVariants.{Deadlock, Limit}
 use Rattle.b67_model.specs.Answers.{Answer}
 use Rattle.b67_lemmas.specs.Lists.{Has}
-use Rattle.b67_model.specs.State.{Array, Condition, Ready, Task, Job, Member}
+use Rattle.b67_model.specs.State.{Array, Condition, Ready, Task, Job, SessionJob}
 use Rattle.b67_model.specs.Steps.{Line, Done, Goes}
 use Rattle.b67_model.specs.Endings.{Settled, is_ready, ends_task, ends_each_if, deadlocked, unsettled, limited}
 use Rattle.b67_model.specs.Alone.{JobMoment}
@@ -24,6 +24,7 @@ use Rattle.b67_layout.proofs.Members.{member_kept}
 use Rattle.b67_law_order_steps.specs.Profiles.{Profile, profile, profiles}
 use Rattle.b67_layout.specs.Meets.{with_job}
 use Rattle.b67_single.specs.Single.{IsSingle}
+use Rattle.b67_single.proofs.Nexts.{first_task}
 use Rattle.b67_session.specs.Steps.{finished}
 use Rattle.b67_session.proofs.Lone.{found, task_found, job_ordered}
 use Rattle.b67_session.proofs.Rooms.{with_is}
@@ -50,13 +51,13 @@ one_task t (u ∷ []) ready first e =
 one_task t (u ∷ v ∷ more) ready first e = absurd cc
 
 -- the session with the job that an operator has made, before it is counted
-module _ (s : Session) (m : Member) (t : Task) (single : IsSingle s m t) (o : IsInOrderButPlaces s) (job : Job) (printed : List Line) (touched : Option ℕ)
-    (is : step m.setting m.course.job t ≡ Ok (Goes job printed touched)) (same : profiles job.tasks ≡ profiles m.course.job.tasks) (next_is : job.next_task ≡ m.course.job.next_task) where
+module _ (s : Session) (m : SessionJob) (t : Task) (single : IsSingle s m t) (o : IsInOrderButPlaces s) (job : Job) (printed : List Line) (touched : Option ℕ)
+    (is : step m.constants m.progress.job t ≡ Ok (Goes job printed touched)) (same : profiles job.tasks ≡ profiles m.progress.job.tasks) (next_is : job.next_task ≡ m.progress.job.next_task) where
   pub one : OneTask t job.tasks
   one = one_task t job.tasks single.ready single.first (same ∙ ap profiles single.tasks)
 
-  abbrev pub member_with : Member
-  member_with = record m { course = record m.course { job = job } }
+  abbrev pub member_with : SessionJob
+  member_with = record m { progress = record m.progress { job = job } }
 
   pub single_with : IsSingle (with_job s m job) member_with one.task
   single_with = record {
@@ -67,21 +68,21 @@ module _ (s : Session) (m : Member) (t : Task) (single : IsSingle s m t) (o : Is
     peak = single.peak;
   }
 
-  abbrev j : JobInOrder (IsSegment m.setting) m.setting m.course
+  abbrev j : JobInOrder (IsSegment m.constants) m.constants m.progress
   j = job_ordered s m t single o
 
-  steps_from : StepsFrom (IsSegment m.setting) m.setting m.course.job t
+  steps_from : StepsFrom (IsSegment m.constants) m.constants m.progress.job t
   steps_from = record { unchanging = j.unchanging; order = j.tasks; live = task_found s m t single; ready = single.ready; few = omega (arith, j.counts.next, j.counts.within, j.unchanging.limit) }
 
-  some_task : m.course.job.tasks ≢ []
+  some_task : m.progress.job.tasks ≢ []
   some_task none = let e : t ∷ [] ≡ [] = sym single.tasks ∙ none in absurd cc
 
-  order_with : JobInOrder (IsSegment m.setting) m.setting (record m.course { job = job })
+  order_with : JobInOrder (IsSegment m.constants) m.constants (record m.progress { job = job })
   order_with =
-      let K : Answer Done → Type 0 = KeepsOrder (IsSegment m.setting) m.setting m.course.job t in
+      let K : Answer Done → Type 0 = KeepsOrder (IsSegment m.constants) m.constants m.progress.job t in
       record {
         unchanging = j.unchanging;
-        tasks = (let there : K (Ok (Goes job printed touched)) = subst K is (rows_keep_order_but_places m.setting m.course.job t steps_from) in there);
+        tasks = (let there : K (Ok (Goes job printed touched)) = subst K is (rows_keep_order_but_places m.constants m.progress.job t steps_from) in there);
         counts = record {
           next = omega (arith, next_is, j.counts.next);
           within = j.counts.within;
@@ -94,24 +95,20 @@ module _ (s : Session) (m : Member) (t : Task) (single : IsSingle s m t) (o : Is
   ordered_with = member_kept s m job o (found s m t single) order_with (ap (λ (ts : List Task). length ts) one.is ∙ sym (ap (λ (ts : List Task). length ts) single.tasks))
 
 -- a session whose only job has no task left
-pub none_lives : (s : Session) (m : Member) → s.jobs ≡ m ∷ [] → m.course.job.tasks ≡ [] → live_tasks s.jobs ≡ 0
-none_lives s m jobs none = ap live_tasks jobs ∙ omega (arith, sum_by-cons (λ (y : Member). length y.course.job.tasks) m [], ap (λ (ts : List Task). length ts) none)
+pub none_lives : (s : Session) (m : SessionJob) → s.jobs ≡ m ∷ [] → m.progress.job.tasks ≡ [] → live_tasks s.jobs ≡ 0
+none_lives s m jobs none = ap live_tasks jobs ∙ omega (arith, sum_by-cons (λ (y : SessionJob). length y.progress.job.tasks) m [], ap (λ (ts : List Task). length ts) none)
 
 -- the session after the last step keeps its peak
-pub finished_is : (s : Session) (m : Member) (t : Task) → IsSingle s m t → (c : Choice) → c.who.job ≡ m.setting.number → (made : JobMoment) → made.alive ≡ 1 → with_moment s c m made ≡ finished s m c made.course
+pub finished_is : (s : Session) (m : SessionJob) (t : Task) → IsSingle s m t → (c : Choice) → c.who.job ≡ m.constants.number → (made : JobMoment) → made.alive ≡ 1 → with_moment s c m made ≡ finished s m c made.progress
 finished_is s m t single c job made one =
-    let put : Member → Member = λ y. record y { course = made.course } in
-    let jobs : change_keyed number_of c.who.job put s.jobs ≡ record m { course = made.course } ∷ [] =
-    ap (change_keyed number_of c.who.job put) single.jobs ∙ ap (λ (n : ℕ). change_keyed number_of n put (m ∷ [])) job ∙ rw (eq-eqb m.setting.number m.setting.number refl) refl in
-    let lives : live_tasks s.jobs ≡ 1 = ap live_tasks single.jobs ∙ omega (arith, sum_by-cons (λ (y : Member). length y.course.job.tasks) m [], ap (λ (ts : List Task). length ts) single.tasks) in
-    let own : length m.course.job.tasks ≡ 1 = ap (λ (ts : List Task). length ts) single.tasks in
-    let peak : max s.peak (live_tasks s.jobs - length m.course.job.tasks + made.alive) ≡ s.peak = omega (arith, lives, own, one, single.peak) in
-    ap (λ (js : List Member). record s { jobs = js; made = s.made + 1; last = c.who; turn = c.turn + 1; peak = max s.peak (live_tasks s.jobs - length m.course.job.tasks + made.alive) }) jobs
-    ∙ ap (λ (n : ℕ). record s { jobs = record m { course = made.course } ∷ []; made = s.made + 1; last = c.who; turn = c.turn + 1; peak = n }) peak
-
--- a job's task without a parent, which is ready
-abbrev first_task : Task → Task
-first_task t = record t { parents = []; condition = Ready }
+    let put : SessionJob → SessionJob = λ y. record y { progress = made.progress } in
+    let jobs : change_keyed number_of c.who.job put s.jobs ≡ record m { progress = made.progress } ∷ [] =
+    ap (change_keyed number_of c.who.job put) single.jobs ∙ ap (λ (n : ℕ). change_keyed number_of n put (m ∷ [])) job ∙ rw (eq-eqb m.constants.number m.constants.number refl) refl in
+    let lives : live_tasks s.jobs ≡ 1 = ap live_tasks single.jobs ∙ omega (arith, sum_by-cons (λ (y : SessionJob). length y.progress.job.tasks) m [], ap (λ (ts : List Task). length ts) single.tasks) in
+    let own : length m.progress.job.tasks ≡ 1 = ap (λ (ts : List Task). length ts) single.tasks in
+    let peak : max s.peak (live_tasks s.jobs - length m.progress.job.tasks + made.alive) ≡ s.peak = omega (arith, lives, own, one, single.peak) in
+    ap (λ (js : List SessionJob). record s { jobs = js; made = s.made + 1; last = c.who; turn = c.turn + 1; peak = max s.peak (live_tasks s.jobs - length m.progress.job.tasks + made.alive) }) jobs
+    ∙ ap (λ (n : ℕ). record s { jobs = record m { progress = made.progress } ∷ []; made = s.made + 1; last = c.who; turn = c.turn + 1; peak = n }) peak
 
 abbrev job_with : Job → Task → Job
 job_with job t = record job { tasks = first_task t ∷ [] }

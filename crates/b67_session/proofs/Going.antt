@@ -1,25 +1,26 @@
 -- A slice that has made so many steps, and how it ends.
-use Rattle.std.proofs.Common.{◌≡◌, ◌≢◌, ℕ, ◌+◌, ◌≤◌, List, [], ◌++◌, length, map, Option, Some, None, Ok, Err, refl, sym, ap, ◌∙◌, subst, arith, append-nil}
+use Rattle.std.proofs.Common.{◌≡◌, ◌≢◌, ℕ, ◌+◌, ◌<◌, ◌≤◌, List, [], ◌++◌, length, map, Option, Some, None, Result, Ok, Err, inl, inr, refl, sym, ap, ◌∙◌, subst, arith, append-nil}
 use Rattle.b67_lemmas.specs.Lists.{Has}
-use Rattle.b67_model.specs.State.{Task, Member}
+use Rattle.b67_model.specs.State.{Task, SessionJob}
 use Rattle.b67_model.specs.Run.{RunLine, next, after, lines}
 use Rattle.b67_model.specs.Schedule.{Session}
 use Rattle.b67_session_lines.specs.Moments.{first_part, due}
-use Rattle.b67_stack.specs.Stands.{Storage}
 use Rattle.b67_layout_storage.specs.Machine.{Says}
-use Rattle.b67_layout.specs.Plan.{Plan}
 use Rattle.b67_single.proofs.Runs.{Came, came-none, came-more}
 use Rattle.b67_task_tables.specs.declared.tables.TaskRow.{TaskRow}
 use Rattle.b67_task_tables.specs.declared.tables.Machine.{Machine}
-use Rattle.b67_task_tables.specs.Tables.{task_row, MachineStands}
+use Rattle.b67_task_tables.specs.Tables.{task_row}
 use Rattle.b67_session_attempt.specs.Stops.{Stop}
 use Rattle.b67_session_attempt.specs.Stops as stops
+use Rattle.b67_session.specs.declared.ends.StepEnd.{StepEnd}
 use Rattle.b67_session.specs.declared.ends.StepEnd.TheVariants as ends
+use Rattle.b67_session.specs.declared.slices.Progress.{Progress}
 use Rattle.b67_session.specs.declared.slices.Progress.TheVariants as progress
-use Rattle.b67_session.specs.Slices.{IsLone, LivesOn, Reaches, whole, but_limit, Prints, SliceMeets, Slices, Over}
-use Rattle.b67_session.specs.Steps.{Makes, Leads, stays, makes, halves, Steps}
+use Rattle.b67_session.specs.Slices.{IsLone, LivesOn, Keeps, HasCauses, Reaches, whole, but_limit, Prints, PrintsWhole, StepsFit, StopsWithRoom, IfPresent, StopsBefore, SliceMeets, Slices}
+use Rattle.b67_session.specs.Steps.{StepGives, Leads, stays, makes, halves, Steps}
 use Rattle.b67_session.proofs.Lone.{has_member, has_task}
 use Rattle.b67_session.proofs.Printing.{prints_none, prints_then, prints_before}
+use Rattle.b67_session.proofs.Fitting.{fits_then, below_then, whole_then}
 
 -- what was printed up to a session, of whose text so much is printed
 pub record PrintsTo {K : Type 0} (taken : K → Option (List ℕ)) (exact : Type 0) (first : Session) (paper paper' : K) (before : ℕ) (printed : List RunLine) (is_due : List ℕ) (now : ℕ) : Type 0 where
@@ -29,15 +30,18 @@ pub record PrintsTo {K : Type 0} (taken : K → Option (List ℕ)) (exact : Type
 
 pub record Going {K : Type 0} (taken : K → Option (List ℕ)) (exact : Type 0) (known : Option (List (List ℕ))) (steps : ℕ) (first : Session) (old now : Machine) (paper paper' : K) : Type 0 where
   pub session : Session
-  pub member : Member
+  pub member : SessionJob
   pub task : Task
   pub printed : List RunLine
   pub came : exact → Came first steps session printed
   pub made : now.tasks.made ≡ old.tasks.made + steps
   pub lone : IsLone known now session member task
+  pub below : (j : ℕ) → j < steps → old.tasks.halt ≢ Some (old.tasks.made + j)
+  pub fits : exact → StepsFit (length old.cpu.core) steps first
+  pub texts : PrintsWhole steps old now paper paper'
   pub prints : (is_due : List ℕ) → (exact → is_due ≡ due session) → PrintsTo taken exact first paper paper' old.tasks.printed printed is_due now.tasks.printed
 
-pub going-begins : {K : Type 0} (taken : K → Option (List ℕ)) (exact : Type 0) (known : Option (List (List ℕ))) (s : Session) (m : Member) (t : Task) (now : Machine) (paper : K) → IsLone known now s m t → Going taken exact known 0 s now now paper paper
+pub going-begins : {K : Type 0} (taken : K → Option (List ℕ)) (exact : Type 0) (known : Option (List (List ℕ))) (s : Session) (m : SessionJob) (t : Task) (now : Machine) (paper : K) → IsLone known now s m t → Going taken exact known 0 s now now paper paper
 going-begins taken exact known s m t now paper lone = record {
   session = s;
   member = m;
@@ -46,17 +50,20 @@ going-begins taken exact known s m t now paper lone = record {
   came = λ tells. came-none s;
   made = omega arith;
   lone = lone;
+  below = λ j low. absurd (omega (arith, low));
+  fits = λ tells k low. absurd (omega (arith, low));
+  texts = record { some = λ low. absurd (omega (arith, low)); none = λ none. (refl, refl) };
   prints = λ is_due same. record { was_due = is_due; was = same; prints = prints_none taken paper paper is_due now.tasks.printed now.tasks.printed refl refl };
 }
 
 -- a machine that stands for such a session has a row
-pub some_row : (known : Option (List (List ℕ))) (now : Machine) (s : Session) (m : Member) (t : Task) → IsLone known now s m t → now.tasks.rows.items ≡ [] → ⊥
+pub some_row : (known : Option (List (List ℕ))) (now : Machine) (s : Session) (m : SessionJob) (t : Task) → IsLone known now s m t → now.tasks.rows.items ≡ [] → ⊥
 some_row known now s m t lone none =
     let (row, among, shows) = lone.stands.tables.each m t (has_member s m t lone.single) (has_task s m t lone.single) in
     subst (λ (rs : List TaskRow). Has (map task_row rs) row) none among
 
 -- one step further
-one_more : (first : Session) (steps : ℕ) (s was after : Session) (printed more : List RunLine) → Came first steps s printed → was ≡ s → Makes was after more → Came first (steps + 1) after (printed ++ more)
+one_more : (first : Session) (steps : ℕ) (s was after : Session) (printed more : List RunLine) → Came first steps s printed → was ≡ s → StepGives was after more → Came first (steps + 1) after (printed ++ more)
 one_more first steps s was after printed more came same m =
     let c = came-more first steps s printed m.moment came (ap next (sym same) ∙ m.is) in
     subst (λ (z : Session). Came first (steps + 1) z (printed ++ more)) m.session (subst (λ (ls : List RunLine). Came first (steps + 1) m.moment.session (printed ++ ls)) m.lines_are c)
@@ -77,15 +84,21 @@ leads_then first steps n s was now printed more came same (halves part one is se
     subst (λ (k : ℕ). Reaches first (steps + k) now (printed ++ more)) (sym one) (but_limit steps part refl at session last all)
 
 -- the step that wasn't made, after steps that were
-stop_meets : (known : Option (List (List ℕ))) (exact sure : Type 0) (core count n steps : ℕ) (s : Session) (is_due : List ℕ) (stop : Stop) (new : Machine) → (exact → sure) → SliceMeets known sure core count 0 0 s is_due (Err stop) new
-    → SliceMeets known exact core count n steps s is_due (Err stop) new
-stop_meets known exact sure core count n steps s is_due (stops.NoCore words size) new up m = m
-stop_meets known exact sure core count n steps s is_due (stops.BackingFull sum size) new up m =
-    let ((y, t, h, lacks, short), is, of, few) = m in ((y, t, h, record { lacks = λ e. lacks.lacks (up e); room = λ e. lacks.room (up e) }, short), is, of, few)
-stop_meets known exact sure core count n steps s is_due stops.BackingFault new up m =
-    let (y, t, h, lacks) = m in (y, t, h, record { lacks = λ e. lacks.lacks (up e); room = λ e. lacks.room (up e) })
-stop_meets known exact sure core count n steps s is_due stops.PrintFault new up m = m
-stop_meets known exact sure core count n steps s is_due stops.Unbuilt new up m = m
+abbrev stops_later : (known : Option (List (List ℕ))) (n steps more : ℕ) (s : Session) (new : Machine) → steps + 1 ≤ n → StopsBefore known 1 more s new → StopsBefore known n (steps + more) s new
+stops_later known n steps more s new few b = record { left = omega (arith, few, b.left); halt = b.halt; member = b.member; task = b.task; lone = b.lone }
+
+stop_meets : (known : Option (List (List ℕ))) (exact sure : Type 0) (core count n steps more : ℕ) (s : Session) (is_due : List ℕ) (stop : Stop) (new : Machine) → (exact → sure) → steps + 1 ≤ n
+    → SliceMeets known sure core count 1 more s is_due (Err stop) new → SliceMeets known exact core count n (steps + more) s is_due (Err stop) new
+stop_meets known exact sure core count n steps more s is_due (stops.NoCore words size) new up few m = (stops_later known n steps more s new few m.0, m.1, m.2, m.3)
+stop_meets known exact sure core count n steps more s is_due (stops.BackingFull sum size) new up few m =
+    let lacks = m.1 in
+    (stops_later known n steps more s new few m.0, record { lacks = λ e. lacks.lacks (up e); room = λ e. lacks.room (up e) }, m.2, m.3, m.4, m.5)
+stop_meets known exact sure core count n steps more s is_due stops.BackingFault new up few m =
+    let lacks = m.1 in
+    (stops_later known n steps more s new few m.0, record { lacks = λ e. lacks.lacks (up e); room = λ e. lacks.room (up e) })
+stop_meets known exact sure core count n steps more s is_due stops.PrintFault new up few (proper, inl (b, room)) = (proper, inl (stops_later known n steps more s new few b, λ e. room (up e)))
+stop_meets known exact sure core count n steps more s is_due stops.PrintFault new up few (proper, inr limited) = (proper, inr limited)
+stop_meets known exact sure core count n steps more s is_due stops.Unbuilt new up few m = (stops_later known n steps more s new few m.0, m.1, m.2, m.3)
 
 module _ {K : Type 0} (taken : K → Option (List ℕ)) (exact : Type 0) (known : Option (List (List ℕ))) (count n steps : ℕ) (first : Session) (old now : Machine) (paper paper' : K) (g : Going taken exact known steps first old now paper paper') where
   pub going-lives : (told : Option (List (List ℕ))) → Says known told → LivesOn told now
@@ -100,7 +113,11 @@ module _ {K : Type 0} (taken : K → Option (List ℕ)) (exact : Type 0) (known 
         few = few;
         session = g.session;
         printed = g.printed;
+        below = g.below;
         leads = λ tells. let c = g.came tells in whole c.session c.lines_are;
+        ends = λ tells e. absurd cc;
+        fits = g.fits;
+        texts = λ fine. g.texts;
         made = g.made;
         was_due = p.was_due;
         is_due = due g.session;
@@ -118,7 +135,11 @@ module _ {K : Type 0} (taken : K → Option (List ℕ)) (exact : Type 0) (known 
         few = omega (arith, all);
         session = g.session;
         printed = g.printed;
+        below = g.below;
         leads = λ tells. let c = g.came tells in whole c.session c.lines_are;
+        ends = λ tells e. absurd cc;
+        fits = g.fits;
+        texts = λ fine. g.texts;
         made = g.made;
         was_due = p.was_due;
         is_due = due g.session;
@@ -131,12 +152,16 @@ module _ {K : Type 0} (taken : K → Option (List ℕ)) (exact : Type 0) (known 
   pub going-ended : {A : Type 0} → now.tasks.rows.items ≡ [] → A
   going-ended none = absurd (some_row known now g.session g.member g.task g.lone none)
 
-  -- one step more was tried
-  module _ (known' : Option (List (List ℕ))) (up : exact → known ≢ None) (new : Machine) (paper'' : K) where
+  -- one step more was tried: the halt wasn't reached
+  module _ (known' : Option (List (List ℕ))) (up : exact → known ≢ None) (new : Machine) (paper'' : K) (keeps : Keeps old now) (halt : now.tasks.halt ≢ Some now.tasks.made) where
+    below_more : (more : ℕ) → more ≤ 1 → (j : ℕ) → j < steps + more → old.tasks.halt ≢ Some (old.tasks.made + j)
+    below_more more few = below_then old.tasks.halt now.tasks.halt old.tasks.made now.tasks.made steps more keeps.halt g.made few halt g.below
+
     pub going-steps : Steps taken known' (known ≢ None) count g.session (Ok ends.GoesOn) now new paper' paper'' → Going taken exact known' (steps + 1) first old new paper paper''
     going-steps s =
-        let (one, made, (m, t, lone), none) = s.meets in
+        let (one, made, (m, t, lone)) = s.meets in
         let p = g.prints s.was_due (λ tells. s.was_is (up tells) ∙ ap due (s.same (up tells))) in
+        let texts : PrintsWhole s.steps now new paper' paper'' = s.texts (λ e. absurd cc) in
         record {
           session = s.session;
           member = m;
@@ -145,10 +170,13 @@ module _ {K : Type 0} (taken : K → Option (List ℕ)) (exact : Type 0) (known 
           came = λ tells. one_more first steps g.session s.was s.session g.printed s.printed (g.came tells) (s.same (up tells)) made;
           made = omega (arith, s.made, g.made, one);
           lone = lone;
+          below = below_more 1 (omega arith);
+          fits = λ tells. fits_then (length old.cpu.core) (length now.cpu.core) steps 1 first g.session keeps.core (g.came tells).session (omega arith) (g.fits tells) (λ low. s.fits (up tells) (omega (arith, one)));
+          texts = subst (λ (k : ℕ). PrintsWhole (steps + k) old new paper paper'') one (whole_then steps s.steps old now new paper paper' paper'' g.texts texts);
           prints = λ is_due same. record {
             was_due = p.was_due;
             was = p.was;
-            prints = prints_before taken paper paper'' p.was_due s.is_due is_due old.tasks.printed new.tasks.printed (g.printed ++ s.printed) none
+            prints = prints_before taken paper paper'' p.was_due s.is_due is_due old.tasks.printed new.tasks.printed (g.printed ++ s.printed) (texts.some (omega (arith, one)))
                 (prints_then taken paper paper' paper'' p.was_due s.was_due s.is_due old.tasks.printed now.tasks.printed new.tasks.printed g.printed s.printed p.prints s.prints);
           };
         }
@@ -160,58 +188,79 @@ module _ {K : Type 0} (taken : K → Option (List ℕ)) (exact : Type 0) (known 
         record {
           steps = steps + s.steps;
           few = omega (arith, few, one);
+          below = below_more s.steps s.few;
+          made = omega (arith, s.made, g.made);
           session = s.session;
           printed = g.printed ++ s.printed;
           leads = λ tells. leads_then first steps s.steps g.session s.was s.session g.printed s.printed (g.came tells) (s.same (up tells)) (s.leads (up tells));
-          made = omega (arith, s.made, g.made);
+          ends = λ tells e.
+              let more = one_more first steps g.session s.was s.session g.printed s.printed (g.came tells) (s.same (up tells)) (made (up tells)) in
+              subst (λ (k : ℕ). after (steps + k) first ≡ s.session) (sym one) more.session;
+          fits = λ tells. fits_then (length old.cpu.core) (length now.cpu.core) steps s.steps first g.session keeps.core (g.came tells).session s.few (g.fits tells) (s.fits (up tells));
           was_due = p.was_due;
           is_due = s.is_due;
           was = p.was;
           next = λ tells. s.next_is (up tells);
           prints = prints_then taken paper paper' paper'' p.was_due s.was_due s.is_due old.tasks.printed now.tasks.printed new.tasks.printed g.printed s.printed p.prints s.prints;
-          meets = λ tells. rests.none;
+          texts = λ fine. whole_then steps s.steps old now new paper paper' paper'' g.texts (s.texts (λ e. absurd cc));
+          meets = rests;
         }
 
-    pub going-rests : Steps taken known' (known ≢ None) count g.session (Ok ends.Over) now new paper' paper'' → Over known' exact first old new
-    going-rests s =
-        let (one, made, rests) = s.meets in
-        record {
-          session = s.session;
-          is = λ tells all counted.
-              let more = one_more first steps g.session s.was s.session g.printed s.printed (g.came tells) (s.same (up tells)) (made (up tells)) in
-              let same : steps + 1 ≡ all = omega (arith, counted, s.made, g.made, one) in
-              subst (λ (k : ℕ). after k first ≡ s.session) same more.session;
-          rests = rests;
-        }
-
-    pub going-stops : (stop : Stop) → steps + 1 ≤ n → length now.cpu.core ≡ length old.cpu.core → Steps taken known' (known ≢ None) count g.session (Err stop) now new paper' paper'' → Slices taken known' exact count n first (Err stop) old new paper paper''
-    going-stops stop few len s =
+    pub going-stops : (stop : Stop) → steps + 1 ≤ n → Steps taken known' (known ≢ None) count g.session (Err stop) now new paper' paper'' → Slices taken known' exact count n first (Err stop) old new paper paper''
+    going-stops stop few s =
         let p = g.prints s.was_due (λ tells. s.was_is (up tells) ∙ ap due (s.same (up tells))) in
         record {
           steps = steps + s.steps;
           few = omega (arith, few, s.few);
+          below = below_more s.steps s.few;
+          made = omega (arith, s.made, g.made);
           session = s.session;
           printed = g.printed ++ s.printed;
           leads = λ tells. leads_then first steps s.steps g.session s.was s.session g.printed s.printed (g.came tells) (s.same (up tells)) (s.leads (up tells));
-          made = omega (arith, s.made, g.made);
+          ends = λ tells e. absurd cc;
+          fits = λ tells. fits_then (length old.cpu.core) (length now.cpu.core) steps s.steps first g.session keeps.core (g.came tells).session s.few (g.fits tells) (s.fits (up tells));
           was_due = p.was_due;
           is_due = s.is_due;
           was = p.was;
           next = λ tells. s.next_is (up tells);
           prints = prints_then taken paper paper' paper'' p.was_due s.was_due s.is_due old.tasks.printed now.tasks.printed new.tasks.printed g.printed s.printed p.prints s.prints;
-          meets = stop_meets known' exact (known ≢ None) (length old.cpu.core) count n (steps + s.steps) s.session s.is_due stop new up
-              (subst (λ (size : ℕ). SliceMeets known' (known ≢ None) size count 0 0 s.session s.is_due (Err stop) new) len s.meets);
+          texts = λ fine. whole_then steps s.steps old now new paper paper' paper'' g.texts (s.texts (λ e. let why : stop ≡ stops.PrintFault = cc in fine (ap (λ (x : Stop). Err x) why)));
+          meets = stop_meets known' exact (known ≢ None) (length old.cpu.core) count n steps s.steps s.session s.is_due stop new up few
+              (subst (λ (size : ℕ). SliceMeets known' (known ≢ None) size count 1 s.steps s.session s.is_due (Err stop) new) keeps.core s.meets);
         }
 
--- the machine after a run that has ended stands for the session after its steps
-pub over_stands : (known : Option (List (List ℕ))) (exact : Type 0) (first : Session) (old new : Machine) → Over known exact first old new → exact → (steps : ℕ) → new.tasks.made ≡ old.tasks.made + steps
-    → (x : Storage) × (plan : Plan) × MachineStands x known new plan (after steps first)
-over_stands known exact first old new h tells steps made =
-    (h.rests.storage, h.rests.plan, subst (λ (z : Session). MachineStands h.rests.storage known new h.rests.plan z) (sym (h.is tells steps made)) h.rests.stands)
+-- at the beginning of a slice nothing has changed: what a step says of the machine before it, a slice says
+pub begun_present : {A B D : Type 0} (known : Option (List (List ℕ))) (core' core n made : ℕ) (k k' new : Machine) (s : Session) (m : SessionJob) (t : Task) (d d' e : D) (step : Result A Stop) (answered : Result B Stop) → (made ≡ 0 → (k' ≡ k) × (d' ≡ d)) → core' ≡ core
+    → k'.tasks.made ≡ k.tasks.made + made → k'.tasks.made ≤ new.tasks.made → made + 1 ≤ n → (StopsWithRoom core s m t step → StopsWithRoom core s m t answered)
+    → (made ≡ 0 → (h : IsLone known k' s m t) → IfPresent (known ≢ None) core' 1 h.storage h.plan s m t step k' new d' e) → (h : IsLone known k s m t) → IfPresent (known ≢ None) core n h.storage h.plan s m t answered k new d e
+begun_present {A} {B} {D} known core' core n made k k' new s m t d d' e step answered begun len counted later few same present h = record {
+  quiet = λ one wants. (first (omega (arith, one, few)) h).quiet (omega arith) wants;
+  room = λ tells code none. same ((first (omega (arith, none, counted, later)) h).room tells code none);
+} where
+  first : made ≡ 0 → (h : IsLone known k s m t) → IfPresent (known ≢ None) core 1 h.storage h.plan s m t step k new d e
+  first none =
+      let (is, device) = begun none in
+      let P : Machine → D → ℕ → Type 0 = λ z x size. (h : IsLone known z s m t) → IfPresent (known ≢ None) size 1 h.storage h.plan s m t step z new x e in
+      subst (P k d) len (subst (λ (z : Machine). P z d core') is (subst (λ (x : D). P k' x core') device (present none)))
 
--- at the beginning of a slice nothing has changed
-pub begun_quiet : {D : Type 0} (known : Option (List (List ℕ))) (k k' : Machine) (s : Session) (m : Member) (t : Task) (d d' e : D) (Wants : Storage → Plan → Type 0) → k' ≡ k → d' ≡ d
-    → ((h : IsLone known k' s m t) → Wants h.storage h.plan → e ≡ d') → (h : IsLone known k s m t) → Wants h.storage h.plan → e ≡ d
-begun_quiet {D} known k k' s m t d d' e Wants same same' quiet =
-    let P : Machine → D → Type 0 = λ z x. (h : IsLone known z s m t) → Wants h.storage h.plan → e ≡ x in
-    subst (λ (z : Machine). P z d) same (subst (P k') same' quiet)
+-- a step makes none or one
+pub made_no_fewer : {K : Type 0} {taken : K → Option (List ℕ)} {known : Option (List (List ℕ))} {exact : Type 0} {count : ℕ} {s : Session} {answered : Result StepEnd Stop} {old new : Machine} {paper paper' : K} → Steps taken known exact count s answered old new paper paper' → old.tasks.made ≤ new.tasks.made
+made_no_fewer x = omega (arith, x.made)
+
+-- a step's stop is the slice's
+pub stop_rooms : (core : ℕ) (s : Session) (m : SessionJob) (t : Task) (stop : Stop) (step : Result StepEnd Stop) → step ≡ Err stop → StopsWithRoom core s m t step → StopsWithRoom {A = Progress} core s m t (Err stop)
+stop_rooms core s m t stop step is room = by stop (subst (λ (z : Result StepEnd Stop). StopsWithRoom core s m t z) is room) where
+  by : (why : Stop) → StopsWithRoom {A = StepEnd} core s m t (Err why) → StopsWithRoom {A = Progress} core s m t (Err why)
+  by (stops.NoCore words size) r = tt
+  by (stops.BackingFull sum size) r = r
+  by stops.BackingFault r = r
+  by stops.PrintFault r = tt
+  by stops.Unbuilt r = tt
+
+-- and what it says of a failure
+pub stop_causes : {D K : Type 0} (failed : D → ℕ) (refused : K → ℕ) (stop : Stop) (step : Result StepEnd Stop) (a b c : D) (p q r : K) → step ≡ Err stop → failed a ≤ failed b → refused p ≤ refused q → HasCauses failed refused step b c q r → HasCauses {A = Progress} failed refused (Err stop) a c p r
+stop_causes failed refused stop step a b c p q r is device printer h = record {
+  backing = λ e. let why : stop ≡ stops.BackingFault = cc in let rose = h.backing (is ∙ ap (λ (x : Stop). Err x) why) in omega (arith, rose, device);
+  print = λ e. let why : stop ≡ stops.PrintFault = cc in let rose = h.print (is ∙ ap (λ (x : Stop). Err x) why) in omega (arith, rose, printer);
+  later = omega (arith, h.later, printer);
+}

@@ -11,6 +11,7 @@ pub mod Finished
 pub mod Limits
 pub mod Tabled
 pub mod Stepping
+pub mod Tried
 pub mod Going
 pub mod Fitting
 pub mod Pausing

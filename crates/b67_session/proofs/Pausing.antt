@@ -1,48 +1,37 @@
 -- A slice that pauses, and what is still known of the sectors.
 use Rattle.std.proofs.Common.{◌≡◌, ◌≢◌, ℕ, ◌≤◌, List, Option, Some, None, Ok, refl, sym, ◌∙◌}
 use Rattle.std.proofs.lemmas.Option.{none-some}
-use Rattle.b67_layout_storage.specs.Machine.{Says, Served, retold}
-use Rattle.b67_layout_storage.proofs.Devices.{still_tells}
+use Rattle.b67_layout_storage.specs.Machine.{Says, DeviceAfterCalls, content_after}
+use Rattle.b67_layout_storage.proofs.Devices.{still_tells, says_self}
 use Rattle.b67_model.specs.Schedule.{Session}
 use Rattle.b67_task_tables.specs.declared.tables.Machine.{Machine}
 use Rattle.b67_session.specs.declared.slices.Progress.{Progress}
 use Rattle.b67_session.specs.declared.slices.Progress.TheVariants as progress
-use Rattle.b67_session.specs.Slices.{Pauses, Slices, Over}
+use Rattle.b67_session.specs.Slices.{Pauses, Slices}
 use Rattle.b67_session.proofs.Going.{Going, going-halted, going-ended}
 
-says_self : (told : Option (List (List ℕ))) → Says told told
-says_self None = tt
-says_self (Some all) = refl
-
 -- what is known later is what the device then tells, if anything
-pub says_retold : (known told : Option (List (List ℕ))) → Says (retold known told) told
+pub says_retold : (known told : Option (List (List ℕ))) → Says (content_after known told) told
 says_retold None told = tt
 says_retold (Some all) told = says_self told
 
 -- where something was known, the device tells its sectors still
-pub still_told : {D : Type 0} (holds : D → Option (List (List ℕ))) (size calls faults : D → ℕ) (d e : D) (known : Option (List (List ℕ))) → Says known (holds d) → Served holds size calls faults d e → known ≢ None → holds e ≢ None
+pub still_told : {D : Type 0} (holds : D → Option (List (List ℕ))) (size calls faults : D → ℕ) (d e : D) (known : Option (List (List ℕ))) → Says known (holds d) → DeviceAfterCalls holds size calls faults d e → known ≢ None → holds e ≢ None
 still_told holds size calls faults d e None says served some = absurd (some refl)
 still_told holds size calls faults d e (Some all) says served some = λ none.
     let (y, now) = still_tells holds size calls faults d e served all says in absurd (none-some y (sym none ∙ now))
 
-pub known_still : (known told : Option (List (List ℕ))) → (known ≢ None → told ≢ None) → known ≢ None → retold known told ≢ None
+pub known_still : (known told : Option (List (List ℕ))) → (known ≢ None → told ≢ None) → known ≢ None → content_after known told ≢ None
 known_still None told tells some = absurd (some refl)
 known_still (Some all) told tells some = tells some
 
-pub retold_twice : (known told told' : Option (List (List ℕ))) → (known ≢ None → told ≢ None) → retold (retold known told) told' ≡ retold known told'
+pub retold_twice : (known told told' : Option (List (List ℕ))) → (known ≢ None → told ≢ None) → content_after (content_after known told) told' ≡ content_after known told'
 retold_twice None told told' tells = refl
 retold_twice (Some all) None told' tells = absurd (tells (λ e. absurd (none-some all (sym e))) refl)
 retold_twice (Some all) (Some other) told' tells = refl
 
 pub pause_slices : {K : Type 0} (taken : K → Option (List ℕ)) (exact : Type 0) (known : Option (List (List ℕ))) (count n steps : ℕ) (first : Session) (old now : Machine) (paper paper' : K) → Going taken exact known steps first old now paper paper'
-    → steps ≤ n → (p : Progress) → Pauses now.tasks (Some p) → Slices taken known exact count n first (Ok p) old now paper paper'
+    → steps ≤ n → (p : Progress) → Pauses now.tasks now.tasks.halt (Some p) → Slices taken known exact count n first (Ok p) old now paper paper'
 pause_slices taken exact known count n steps first old now paper paper' g few progress.Ended h = going-ended taken exact known count n steps first old now paper paper' g h
 pause_slices taken exact known count n steps first old now paper paper' g few progress.Halted h = going-halted taken exact known count n steps first old now paper paper' g few h
 pause_slices taken exact known count n steps first old now paper paper' g few progress.More h = absurd h
-
--- a slice that pauses has a task
-pub pause_over : {K : Type 0} (taken : K → Option (List ℕ)) (exact : Type 0) (known : Option (List (List ℕ))) (count n steps : ℕ) (first : Session) (old now : Machine) (paper paper' : K) → Going taken exact known steps first old now paper paper'
-    → (p : Progress) → Pauses now.tasks (Some p) → p ≡ progress.Ended → Over known exact first old now
-pause_over taken exact known count n steps first old now paper paper' g progress.Ended h e = going-ended taken exact known count n steps first old now paper paper' g h
-pause_over taken exact known count n steps first old now paper paper' g progress.Halted h e = absurd cc
-pause_over taken exact known count n steps first old now paper paper' g progress.More h e = absurd h

@@ -5,12 +5,13 @@ use Rattle.std.proofs.lemmas.List.{length-map}
 use Rattle.std.proofs.lemmas.Option.{same_Some}
 use Rattle.std.proofs.lemmas.Bool.{eq-eqb}
 use Rattle.b67_lemmas.specs.Lists.{Has}
-use Rattle.b67_model.specs.State.{Task, Job, Member}
+use Rattle.b67_lemmas.proofs.Places.{mapped_at}
+use Rattle.b67_model.specs.State.{Task, Job, SessionJob}
 use Rattle.b67_model.specs.Keyed.{change_keyed}
 use Rattle.b67_model.specs.Run.{number_of}
 use Rattle.b67_model.specs.Schedule.{Session}
 use Rattle.b67_model.specs.InOrder.{NumberedFrom, IsInOrderButPlaces}
-use Rattle.b67_layout.specs.Plan.{Plan}
+use Rattle.b67_layout.specs.Placement.{Placement}
 use Rattle.b67_layout.specs.Rows as rows
 use Rattle.b67_layout.specs.Meets.{with_job}
 use Rattle.b67_single.specs.Single.{IsSingle}
@@ -18,39 +19,38 @@ use Rattle.b67_task_tables.specs.declared.tables.JobRow.{JobRow}
 use Rattle.b67_task_tables.specs.declared.tables.Tasks.{Tasks}
 use Rattle.b67_task_tables.specs.Tables.{job_row, switch_of, TasksShow}
 use Rattle.b67_session_schedule.specs.declared.counting.Chosen.{Chosen}
-use Rattle.b67_session_schedule.specs.Counted.{counted_row, HasRoom}
+use Rattle.b67_session_schedule.specs.Counted.{counted_row, CountsHaveRoom}
 use Rattle.b67_session_schedule.proofs.Rooms.{made_few, all_few}
-use Rattle.b67_task_switch.proofs.Lists.{mapped_at}
 use Rattle.b67_task_switch.proofs.Tables.{job_at}
 use Rattle.b67_session_attempt.specs.Passed.{AreCountable}
 use Rattle.b67_session.proofs.Lone.{has_member}
 
 -- the tables show these settings and counts
-pub record CountsAs (plan : Plan) (tasks : Tasks) (s : Session) (m : Member) : Type 0 where
+pub record CountsAs (plan : Placement) (tasks : Tasks) (s : Session) (m : SessionJob) : Type 0 where
   pub shown : Session
-  pub of_shown : Member
+  pub of_shown : SessionJob
   pub shows : TasksShow plan shown tasks
   pub jobs : shown.jobs ≡ of_shown ∷ []
-  pub number : of_shown.setting.number ≡ m.setting.number
-  pub limit : of_shown.setting.limit ≡ m.setting.limit
-  pub member_made : of_shown.course.made ≡ m.course.made
+  pub number : of_shown.constants.number ≡ m.constants.number
+  pub limit : of_shown.constants.limit ≡ m.constants.limit
+  pub member_made : of_shown.progress.made ≡ m.progress.made
   pub made : shown.made ≡ s.made
 
-module _ (s : Session) (m : Member) (t : Task) (single : IsSingle s m t) where
-  pub counts_as : (plan : Plan) (tasks : Tasks) → TasksShow plan s tasks → CountsAs plan tasks s m
+module _ (s : Session) (m : SessionJob) (t : Task) (single : IsSingle s m t) where
+  pub counts_as : (plan : Placement) (tasks : Tasks) → TasksShow plan s tasks → CountsAs plan tasks s m
   counts_as plan tasks shows = record { shown = s; of_shown = m; shows = shows; jobs = single.jobs; number = refl; limit = refl; member_made = refl; made = refl }
 
-  pub with_is : (job : Job) → (with_job s m job).jobs ≡ record m { course = record m.course { job = job } } ∷ []
+  pub with_is : (job : Job) → (with_job s m job).jobs ≡ record m { progress = record m.progress { job = job } } ∷ []
   with_is job =
-      ap (change_keyed number_of m.setting.number (λ (y : Member). record y { course = record m.course { job = job } })) single.jobs
-      ∙ rw (eq-eqb m.setting.number m.setting.number refl) refl
+      ap (change_keyed number_of m.constants.number (λ (y : SessionJob). record y { progress = record m.progress { job = job } })) single.jobs
+      ∙ rw (eq-eqb m.constants.number m.constants.number refl) refl
 
-  pub counts_with : (plan : Plan) (tasks : Tasks) (job : Job) → TasksShow plan (with_job s m job) tasks → CountsAs plan tasks s m
+  pub counts_with : (plan : Placement) (tasks : Tasks) (job : Job) → TasksShow plan (with_job s m job) tasks → CountsAs plan tasks s m
   counts_with plan tasks job shows =
-      record { shown = with_job s m job; of_shown = record m { course = record m.course { job = job } }; shows = shows; jobs = with_is job; number = refl; limit = refl; member_made = refl; made = refl }
+      record { shown = with_job s m job; of_shown = record m { progress = record m.progress { job = job } }; shows = shows; jobs = with_is job; number = refl; limit = refl; member_made = refl; made = refl }
 
-  module _ (ordered : IsInOrderButPlaces s) (plan : Plan) (tasks : Tasks) (c : Chosen) (k : CountsAs plan tasks s m) (job : c.job ≡ m.setting.number) where
-    is_one : m.setting.number ≡ 1
+  module _ (ordered : IsInOrderButPlaces s) (plan : Placement) (tasks : Tasks) (c : Chosen) (k : CountsAs plan tasks s m) (job : c.job ≡ m.constants.number) where
+    is_one : m.constants.number ≡ 1
     is_one = let numbered : NumberedFrom 1 (m ∷ []) = subst (NumberedFrom 1) single.jobs ordered.numbered in numbered.0
 
     numbered : NumberedFrom 1 k.shown.jobs
@@ -59,14 +59,14 @@ module _ (s : Session) (m : Member) (t : Task) (single : IsSingle s m t) where
     pub record RowOf : Type 0 where
       pub row : JobRow
       pub at : slice_get tasks.jobs (c.job - 1) ≡ Some row
-      pub made : row.made ≡ m.course.made
-      pub limit : row.limit ≡ m.setting.limit
+      pub made : row.made ≡ m.progress.made
+      pub limit : row.limit ≡ m.constants.limit
 
     pub row_of : RowOf
     row_of =
-        let among : Has k.shown.jobs k.of_shown = subst (λ (ms : List Member). Has ms k.of_shown) (sym k.jobs) (inl refl) in
+        let among : Has k.shown.jobs k.of_shown = subst (λ (ms : List SessionJob). Has ms k.of_shown) (sym k.jobs) (inl refl) in
         let b = job_at plan 1 k.shown.jobs (map job_row tasks.jobs) k.of_shown numbered k.shows.jobs among in
-        let (j, at, same) = mapped_at job_row tasks.jobs (k.of_shown.setting.number - 1) b.row b.at in
+        let (j, at, same) = mapped_at job_row tasks.jobs (k.of_shown.constants.number - 1) b.row b.at in
         record {
           row = j;
           at = ap (λ (n : ℕ). slice_get tasks.jobs (n - 1)) (job ∙ sym k.number) ∙ at;
@@ -74,7 +74,7 @@ module _ (s : Session) (m : Member) (t : Task) (single : IsSingle s m t) where
           limit = ap (λ (y : rows.JobRow). y.limit) same ∙ b.shows.limit ∙ k.limit;
         }
 
-    pub room_after : c.turn + 1 < 2 ^ 32 → HasRoom tasks c
+    pub room_after : c.turn + 1 < 2 ^ 32 → CountsHaveRoom tasks c
     room_after turn =
         let r = row_of in record {
           job = r.row;

@@ -1,26 +1,29 @@
 -- What a slice of a run answers, prints and leaves: a session of one job with one task.
 use Rattle.std.specs.Prelude.{◌≡◌, ◌≢◌, ℕ, ◌+◌, ◌<◌, ◌≤◌, ◌⊎◌, List, [], ◌++◌, length, take, Option, Some, None, Result, Ok, Err}
+use Rattle.b67_io.specs.Causes.{Rose}
 use Rattle.b67_io.specs.Told.{Took}
-use Rattle.b67_model.specs.State.{Task, Member}
+use Rattle.b67_model.specs.State.{Task, SessionJob}
 use Rattle.b67_model.specs.Need.{need, need_next}
 use Rattle.b67_model.specs.Sectors.{sectors}
 use Rattle.b67_model.specs.Lines.{run_text}
 use Rattle.b67_model.specs.Schedule.{Session}
 use Rattle.b67_model.specs.InOrder.{IsInOrderButPlaces}
-use Rattle.b67_model.specs.Run.{RunLine, Moment, after, lines, live_tasks}
+use Rattle.b67_model.specs.Run.{RunLine, StepResult, after, lines, live_tasks}
 use Rattle.b67_session_lines.specs.Moments.{first_part, last_part, due}
-use Rattle.b67_stack.specs.Stands.{Storage}
+use Rattle.b67_stack.specs.Represents.{Storage}
 use Rattle.b67_layout_storage.specs.Machine.{Says}
-use Rattle.b67_layout.specs.Plan.{Plan}
+use Rattle.b67_layout.specs.Placement.{Placement}
 use Rattle.b67_exec_cells.specs.Running.{code_area}
 use Rattle.b67_exec_cells.specs.Called.{called_in}
 use Rattle.b67_single.specs.Single.{IsSingle}
 use Rattle.b67_task_tables.specs.declared.tables.Tasks.{Tasks}
 use Rattle.b67_task_tables.specs.declared.tables.Machine.{Machine}
-use Rattle.b67_task_tables.specs.Tables.{MachineStands}
+use Rattle.b67_task_tables.specs.Tables.{MachineRepresents}
+pub use Rattle.b67_task_tables.specs.Runs.{Keeps}
 use Rattle.b67_task.specs.Endings.{HasRowsOf}
-use Rattle.b67_session_attempt.specs.Passed.{IsShortOf}
+use Rattle.b67_session_attempt.specs.Passed.{AreCountable, IsShortOf}
 use Rattle.b67_session_attempt.specs.Attempts.{IsLacking}
+use Rattle.b67_session_attempt.specs.Brought.{WantsNothing}
 use Rattle.b67_session_attempt.specs.Stops.{Stop}
 use Rattle.b67_session_attempt.specs.Stops as stops
 use Rattle.b67_session.specs.declared.slices.Progress.{Progress}
@@ -30,73 +33,87 @@ use Rattle.b67_session.specs.declared.slices.Progress.TheVariants as progress
 
 -- the machine stands for a session in order, of one job with one ready task, and this is known of what the device's
 -- sectors hold
-pub record IsLone (known : Option (List (List ℕ))) (k : Machine) (s : Session) (m : Member) (t : Task) : Type 0 where
+pub record IsLone (known : Option (List (List ℕ))) (k : Machine) (s : Session) (m : SessionJob) (t : Task) : Type 0 where
   pub storage : Storage
-  pub plan : Plan
+  pub plan : Placement
   pub ordered : IsInOrderButPlaces s
   pub single : IsSingle s m t
-  pub stands : MachineStands storage known k plan s
+  pub stands : MachineRepresents storage known k plan s
 
 -- for some such session, over a device that tells this
 pub record LivesOn (told : Option (List (List ℕ))) (k : Machine) : Type 0 where
   pub known : Option (List (List ℕ))
   pub says : Says known told
   pub session : Session
-  pub member : Member
+  pub member : SessionJob
   pub task : Task
   pub lone : IsLone known k session member task
 
 -- the machine stands for a session whose one task has just made the last operator that its job may make, and is to end by
 -- LIMIT. With so many operators made (`made`) the job was in order before, in a session that stands with the counts of other tables
-pub record IsLimited (known : Option (List (List ℕ))) (k : Machine) (h : Session) (m : Member) (t : Task) : Type 0 where
+pub record IsLimited (known : Option (List (List ℕ))) (k : Machine) (h : Session) (m : SessionJob) (t : Task) : Type 0 where
   pub storage : Storage
-  pub plan : Plan
+  pub plan : Placement
   pub single : IsSingle h m t
-  pub limit : m.course.made ≡ m.setting.limit
-  pub last : h.last.job ≡ m.setting.number
+  pub limit : m.progress.made ≡ m.constants.limit
+  pub last : h.last.job ≡ m.constants.number
   pub named : h.last.task ≡ t.number
-  pub stands : MachineStands storage known k plan h
+  pub stands : MachineRepresents storage known k plan h
   pub session : Session
   pub made : ℕ
   pub ordered : IsInOrderButPlaces session
-  pub single_before : IsSingle session (record m { course = record m.course { made = made } }) t
+  pub single_before : IsSingle session (record m { progress = record m.progress { made = made } }) t
   pub peak : session.peak ≡ h.peak
   pub tables : Tasks
   pub same : HasRowsOf k tables
-  pub stands_before : MachineStands storage known (record k { tasks = tables }) plan session
+  pub stands_before : MachineRepresents storage known (record k { tasks = tables }) plan session
 
 pub record StandsLimited (told : Option (List (List ℕ))) (k : Machine) : Type 0 where
   pub known : Option (List (List ℕ))
   pub says : Says known told
   pub session : Session
-  pub member : Member
+  pub member : SessionJob
   pub task : Task
   pub limited : IsLimited known k session member task
 
 -- the machine stands for a session that no task is left of, and this is known of what the device's sectors hold
-pub record Rests (known : Option (List (List ℕ))) (k : Machine) (s : Session) : Type 0 where
+pub record RepresentsWithoutTasks (known : Option (List (List ℕ))) (k : Machine) (s : Session) : Type 0 where
   pub storage : Storage
-  pub plan : Plan
-  pub stands : MachineStands storage known k plan s
+  pub plan : Placement
+  pub stands : MachineRepresents storage known k plan s
   pub none : live_tasks s.jobs ≡ 0
 
--- a slice may set out from it: a task lives, or is to end by LIMIT
-abbrev pub IsOpen : Option (List (List ℕ)) → Machine → Type 0
-IsOpen told k = LivesOn told k ⊎ StandsLimited told k
+-- for some such session, over a device that tells this
+pub record HasNoTasks (told : Option (List (List ℕ))) (k : Machine) : Type 0 where
+  pub known : Option (List (List ℕ))
+  pub says : Says known told
+  pub session : Session
+  pub rests : RepresentsWithoutTasks known k session
 
--- why a slice goes no further: no task lives, or the count of the halt is reached
-abbrev pub Pauses : Tasks → Option Progress → Type 0
-Pauses tasks None = tasks.halt ≢ Some tasks.made
-Pauses tasks (Some progress.Ended) = tasks.rows.items ≡ []
-Pauses tasks (Some progress.Halted) = tasks.halt ≡ Some tasks.made
-Pauses tasks (Some progress.More) = ⊥
+-- a slice may be called: a task lives, or is to end by LIMIT, or none is left; and each job's numbers can be counted
+pub record IsOpen (told : Option (List (List ℕ))) (k : Machine) : Type 0 where
+  pub stage : LivesOn told k ⊎ (StandsLimited told k ⊎ HasNoTasks told k)
+  pub countable : AreCountable k.tasks.jobs
+
+-- the device failed, or the printer, where the answer says so; the printer's count of failures hasn't fallen
+pub record HasCauses {A D K : Type 0} (failed : D → ℕ) (refused : K → ℕ) (answered : Result A Stop) (device device' : D) (paper paper' : K) : Type 0 where
+  pub backing : answered ≡ Err stops.BackingFault → Rose failed device device'
+  pub print : answered ≡ Err stops.PrintFault → Rose refused paper paper'
+  pub later : refused paper ≤ refused paper'
+
+-- why a slice goes no further: no task lives, or the count of a halt is reached
+abbrev pub Pauses : Tasks → Option ℕ → Option Progress → Type 0
+Pauses tasks halt None = halt ≢ Some tasks.made
+Pauses tasks halt (Some progress.Ended) = tasks.rows.items ≡ []
+Pauses tasks halt (Some progress.Halted) = halt ≡ Some tasks.made
+Pauses tasks halt (Some progress.More) = ⊥
 
 -- ---- steps and their text
 
 -- so many steps lead from a session to another and these are their lines: whole steps, or the last one but for LIMIT's part
 pub data Reaches (first : Session) (steps : ℕ) (s : Session) (printed : List RunLine) : Type 0 where
   whole : after steps first ≡ s → lines steps first ≡ printed → Reaches first steps s printed
-  but_limit : (k : ℕ) (part : Moment) → steps ≡ k + 1 → first_part (after k first) ≡ Some part → part.session ≡ s → last_part s ≢ None
+  but_limit : (k : ℕ) (part : StepResult) → steps ≡ k + 1 → first_part (after k first) ≡ Some part → part.session ≡ s → last_part s ≢ None
       → lines k first ++ part.lines ≡ printed → Reaches first steps s printed
 
 -- Of the text that was due before, so many first bytes were printed before. What is printed now is the rest of the text of
@@ -106,65 +123,12 @@ pub record Prints {K : Type 0} (taken : K → Option (List ℕ)) (paper paper' :
   pub took : Took taken paper paper' text
   pub same : take before was_due ++ text ≡ run_text printed ++ take now is_due
 
--- ---- what is answered
+-- whole texts were printed: nothing of the text that is due next, where steps were made; nothing at all, where none was
+pub record PrintsWhole {K : Type 0} (steps : ℕ) (old new : Machine) (paper paper' : K) : Type 0 where
+  pub some : 1 ≤ steps → new.tasks.printed ≡ 0
+  pub none : steps ≡ 0 → (new.tasks.printed ≡ old.tasks.printed) × (paper' ≡ paper)
 
--- the next step lacks its segment or its array; it needs no more words than core has, or its segment is absent
-pub record Lacks (exact : Type 0) (core : ℕ) (x : Storage) (plan : Plan) (s : Session) (m : Member) (t : Task) : Type 0 where
-  pub lacks : exact → IsLacking x plan m t
-  pub room : exact → (need core s m t ≤ core) ⊎ (code_area x plan m t ≡ None)
-
--- how a slice ended after whole steps that led to a session, over a core of so many words and a device of so many sectors,
--- of which this is known. `exact` is whether anything was known of them at the start
-abbrev pub SliceMeets : Option (List (List ℕ)) → Type 0 → ℕ → ℕ → ℕ → ℕ → Session → List ℕ → Result Progress Stop → Machine → Type 0
-SliceMeets known exact core count n steps s is_due (Ok progress.Ended) new = exact → live_tasks s.jobs ≡ 0
-SliceMeets known exact core count n steps s is_due (Ok progress.Halted) new =
-    (new.tasks.halt ≡ Some new.tasks.made) × ((m : Member) × (t : Task) × IsLone known new s m t)
-SliceMeets known exact core count n steps s is_due (Ok progress.More) new =
-    (steps ≡ n) × (new.tasks.halt ≢ Some new.tasks.made) × ((m : Member) × (t : Task) × IsLone known new s m t)
-SliceMeets known exact core count n steps s is_due (Err (stops.NoCore words size)) new =
-    ((m : Member) × (t : Task) × IsLone known new s m t × (words ≡ need core s m t)) × (size ≡ core) × (core < words)
-SliceMeets known exact core count n steps s is_due (Err (stops.BackingFull sum size)) new =
-    ((m : Member) × (t : Task) × (h : IsLone known new s m t) × Lacks exact core h.storage h.plan s m t
-    × ((wants : ℕ) × (free : ℕ) × IsShortOf h.storage h.plan s.jobs wants free)) × (sum ≡ sectors s.jobs) × (size ≡ count) × (count < sum)
-SliceMeets known exact core count n steps s is_due (Err stops.BackingFault) new =
-    (m : Member) × (t : Task) × (h : IsLone known new s m t) × Lacks exact core h.storage h.plan s m t
-SliceMeets known exact core count n steps s is_due (Err stops.PrintFault) new =
-    (new.tasks.printed < length is_due) × (((m : Member) × (t : Task) × IsLone known new s m t) ⊎ ((m : Member) × (t : Task) × IsLimited known new s m t))
-SliceMeets known exact core count n steps s is_due (Err stops.Unbuilt) new =
-    (m : Member) × (t : Task) × IsLone known new s m t × (called : ℕ) × (called_in m t ≡ Some called) × (12 ≤ called)
-
--- Where it is known what the device's sectors hold, the steps are those of the session from which the slice set out. Where
--- nothing is known, they are those of a machine that had some code and some numbers.
-pub record Slices {K : Type 0} (taken : K → Option (List ℕ)) (known : Option (List (List ℕ))) (exact : Type 0) (count n : ℕ) (first : Session) (answered : Result Progress Stop) (old new : Machine) (paper paper' : K) : Type 0 where
-  pub steps : ℕ
-  pub few : steps ≤ n
-  pub session : Session
-  pub printed : List RunLine
-  pub leads : exact → Reaches first steps session printed
-  pub made : new.tasks.made ≡ old.tasks.made + steps
-  pub was_due : List ℕ
-  pub is_due : List ℕ
-  pub was : exact → was_due ≡ due first
-  pub next : exact → is_due ≡ due session
-  pub prints : Prints taken paper paper' was_due old.tasks.printed printed is_due new.tasks.printed
-  pub meets : SliceMeets known exact (length old.cpu.core) count n steps session is_due answered new
-
--- From a session whose task is to end by LIMIT: it ends, with the rest of its line printed; or the printer has failed again.
-abbrev pub Resumes : {K : Type 0} → (K → Option (List ℕ)) → Option (List (List ℕ)) → Session → Member → Task → Result Progress Stop → Machine → Machine → K → K → Type 0
-Resumes taken known h m t (Ok progress.Ended) old new paper paper' =
-    (part : Moment) × (last_part h ≡ Some part) × (new.tasks.made ≡ old.tasks.made) × Rests known new part.session
-    × Prints taken paper paper' (due h) old.tasks.printed part.lines [] 0
-Resumes taken known h m t (Err stops.PrintFault) old new paper paper' =
-    (new ≡ record old { tasks = record old.tasks { printed = new.tasks.printed } }) × (new.tasks.printed < length (due h))
-    × Prints taken paper paper' (due h) old.tasks.printed [] (due h) new.tasks.printed
-Resumes taken known h m t answered old new paper paper' = ⊥
-
--- after a run that has ended, the machine rests. Where it was known what the device's sectors hold, its session is the one
--- after as many steps as were counted
-pub record Over (known : Option (List (List ℕ))) (exact : Type 0) (first : Session) (old new : Machine) : Type 0 where
-  pub session : Session
-  pub is : exact → (steps : ℕ) → new.tasks.made ≡ old.tasks.made + steps → after steps first ≡ session
-  pub rests : Rests known new session
+-- ---- core
 
 -- core has the words that the session's next step needs
 pub record NextFits (core : ℕ) (s : Session) : Type 0 where
@@ -175,3 +139,90 @@ pub record NextFits (core : ℕ) (s : Session) : Type 0 where
 -- and those of each of so many steps from a session on
 abbrev pub StepsFit : ℕ → ℕ → Session → Type 0
 StepsFit core steps first = (k : ℕ) → k < steps → NextFits core (after k first)
+
+-- the next step lacks its segment or its array; it needs no more words than core has, or its segment is absent
+pub record Lacks (exact : Type 0) (core : ℕ) (x : Storage) (plan : Placement) (s : Session) (m : SessionJob) (t : Task) : Type 0 where
+  pub lacks : exact → IsLacking x plan m t
+  pub room : exact → (need core s m t ≤ core) ⊎ (code_area x plan m t ≡ None)
+
+-- a device that is full or fails stops a step only where core has the words that it needs
+abbrev pub StopsWithRoom : {A : Type 0} → ℕ → Session → SessionJob → Task → Result A Stop → Type 0
+StopsWithRoom core s m t (Err (stops.BackingFull sum size)) = need core s m t ≤ core
+StopsWithRoom core s m t (Err stops.BackingFault) = need core s m t ≤ core
+StopsWithRoom core s m t _ = Unit {0}
+
+-- The session's next step is looked at in a storage, where a slice of n steps sets out. Where its segment and its array are
+-- present, a slice of one step doesn't call the device. Where its segment is present, the device stops it only if core has
+-- room for it
+pub record IfPresent {A D : Type 0} (exact : Type 0) (core n : ℕ) (x : Storage) (plan : Placement) (s : Session) (m : SessionJob) (t : Task) (answered : Result A Stop) (old new : Machine) (device device' : D) : Type 0 where
+  pub quiet : n ≤ 1 → WantsNothing x plan m t → device' ≡ device
+  pub room : exact → code_area x plan m t ≢ None → new.tasks.made ≡ old.tasks.made → StopsWithRoom core s m t answered
+
+-- ---- what is answered
+
+-- a slice of n steps stopped after so many of them, before one that was due: they are not all made, and the halt isn't
+-- reached. The machine stands for the session before that step
+pub record StopsBefore (known : Option (List (List ℕ))) (n steps : ℕ) (s : Session) (new : Machine) : Type 0 where
+  pub left : steps < n
+  pub halt : new.tasks.halt ≢ Some new.tasks.made
+  pub member : SessionJob
+  pub task : Task
+  pub lone : IsLone known new s member task
+
+-- how a slice of n steps ended after so many that led to a session, over a core of so many words and a device of so many
+-- sectors, of which this is known. `exact` is whether anything was known of them at the start
+abbrev pub SliceMeets : Option (List (List ℕ)) → Type 0 → ℕ → ℕ → ℕ → ℕ → Session → List ℕ → Result Progress Stop → Machine → Type 0
+SliceMeets known exact core count n steps s is_due (Ok progress.Ended) new = RepresentsWithoutTasks known new s
+SliceMeets known exact core count n steps s is_due (Ok progress.Halted) new =
+    (new.tasks.halt ≡ Some new.tasks.made) × ((m : SessionJob) × (t : Task) × IsLone known new s m t)
+SliceMeets known exact core count n steps s is_due (Ok progress.More) new =
+    (steps ≡ n) × (new.tasks.halt ≢ Some new.tasks.made) × ((m : SessionJob) × (t : Task) × IsLone known new s m t)
+SliceMeets known exact core count n steps s is_due (Err (stops.NoCore words size)) new =
+    (b : StopsBefore known n steps s new) × (words ≡ need core s b.member b.task) × (size ≡ core) × (core < words)
+SliceMeets known exact core count n steps s is_due (Err (stops.BackingFull sum size)) new =
+    (b : StopsBefore known n steps s new) × Lacks exact core b.lone.storage b.lone.plan s b.member b.task
+    × ((wants : ℕ) × (free : ℕ) × IsShortOf b.lone.storage b.lone.plan s.jobs wants free) × (sum ≡ sectors s.jobs) × (size ≡ count) × (count < sum)
+SliceMeets known exact core count n steps s is_due (Err stops.BackingFault) new =
+    (b : StopsBefore known n steps s new) × Lacks exact core b.lone.storage b.lone.plan s b.member b.task
+SliceMeets known exact core count n steps s is_due (Err stops.PrintFault) new =
+    (new.tasks.printed < length is_due)
+    × (((b : StopsBefore known n steps s new) × (exact → need core s b.member b.task ≤ core)) ⊎ ((m : SessionJob) × (t : Task) × IsLimited known new s m t))
+SliceMeets known exact core count n steps s is_due (Err stops.Unbuilt) new =
+    (b : StopsBefore known n steps s new) × (called : ℕ) × (called_in b.member b.task ≡ Some called) × (12 ≤ called)
+
+-- Where it is known what the device's sectors hold, the steps are those of the session from which the slice set out. Where
+-- nothing is known, they are those of a machine that had some code and some numbers. None is made at the halt
+pub record Slices {K : Type 0} (taken : K → Option (List ℕ)) (known : Option (List (List ℕ))) (exact : Type 0) (count n : ℕ) (first : Session) (answered : Result Progress Stop) (old new : Machine) (paper paper' : K) : Type 0 where
+  pub steps : ℕ
+  pub few : steps ≤ n
+  pub below : (j : ℕ) → j < steps → old.tasks.halt ≢ Some (old.tasks.made + j)
+  pub made : new.tasks.made ≡ old.tasks.made + steps
+  pub session : Session
+  pub printed : List RunLine
+  pub leads : exact → Reaches first steps session printed
+  pub ends : exact → answered ≡ Ok progress.Ended → after steps first ≡ session
+  pub fits : exact → StepsFit (length old.cpu.core) steps first
+  pub was_due : List ℕ
+  pub is_due : List ℕ
+  pub was : exact → was_due ≡ due first
+  pub next : exact → is_due ≡ due session
+  pub prints : Prints taken paper paper' was_due old.tasks.printed printed is_due new.tasks.printed
+  pub texts : answered ≢ Err stops.PrintFault → PrintsWhole steps old new paper paper'
+  pub meets : SliceMeets known exact (length old.cpu.core) count n steps session is_due answered new
+
+-- From a session whose task is to end by LIMIT: it ends, with the rest of its line printed; or the printer has failed again.
+abbrev pub Resumes : {K : Type 0} → (K → Option (List ℕ)) → Option (List (List ℕ)) → Session → SessionJob → Task → Result Progress Stop → Machine → Machine → K → K → Type 0
+Resumes taken known h m t (Ok progress.Ended) old new paper paper' =
+    (part : StepResult) × (last_part h ≡ Some part) × (new.tasks.made ≡ old.tasks.made) × (new.tasks.printed ≡ 0) × RepresentsWithoutTasks known new part.session
+    × Prints taken paper paper' (due h) old.tasks.printed part.lines [] 0
+Resumes taken known h m t (Err stops.PrintFault) old new paper paper' =
+    (new ≡ record old { tasks = record old.tasks { printed = new.tasks.printed } }) × (new.tasks.printed < length (due h))
+    × Prints taken paper paper' (due h) old.tasks.printed [] (due h) new.tasks.printed
+Resumes taken known h m t answered old new paper paper' = ⊥
+
+-- of a session without a task nothing is made, printed or changed
+pub record StaysEnded {D K : Type 0} (answered : Result Progress Stop) (old new : Machine) (device device' : D) (paper paper' : K) : Type 0 where
+  pub answer : answered ≡ Ok progress.Ended
+  pub machine : new ≡ old
+  pub backing : device' ≡ device
+  pub printer : paper' ≡ paper

@@ -3,17 +3,17 @@
 ghost use Rattle.std.specs.Prelude.{◌≡◌, ℕ, ◌+◌, ◌-◌, ◌≤◌, ◌==◌, Err, Some, length, slice_get};
 ghost use Rattle.b67_io.specs.Causes.{Rose};
 ghost use Rattle.b67_task_tables.specs.declared.tables.JobRow.{JobRow};
-ghost use Rattle.b67_session_schedule.specs.Counted.{HasRoom};
+ghost use Rattle.b67_session_schedule.specs.Counted.{CountsHaveRoom};
 ghost use Rattle.b67_task.specs.Endings.{HasOne};
 ghost use Rattle.b67_session_attempt.specs.Passed.{AreCountable};
 ghost use Rattle.b67_session_attempt.specs.Stops.{PrintFault};
 ghost use Rattle.b67_session.specs.Steps.{IsCounted, AtLimit, PutsText, ending_text, LimitEnds, Closes, Advances, Finishes};
 
-use b67_session_attempt::Stop;
-use b67_task::end_last;
 use b67_io::Sink;
+use b67_session_attempt::Stop;
 use b67_session_lines::{ending_line, put_rest};
 use b67_session_schedule::{Chosen, count};
+use b67_task::end_last;
 use b67_task_tables::{Machine, Tasks};
 use b67_word::Ending;
 
@@ -25,8 +25,9 @@ pub(crate) enum StepEnd {
 }
 
 /// Counts one operator of the chosen task. Nothing is printed yet then of what comes next.
+#[inline(always)]
 fn count_one(tasks: &mut Tasks, chosen: Chosen)
-    requires { HasRoom tasks.old chosen }
+    requires { CountsHaveRoom tasks.old chosen }
     ensures { IsCounted chosen tasks.old tasks.new }
 {
     count(tasks, chosen);
@@ -34,6 +35,7 @@ fn count_one(tasks: &mut Tasks, chosen: Chosen)
 }
 
 /// Whether the job that made the last operator has made as many as it may.
+#[inline(always)]
 pub(crate) fn is_at_limit(tasks: &Tasks) -> bool
     ensures { AtLimit tasks.now result }
 {
@@ -46,6 +48,7 @@ pub(crate) fn is_at_limit(tasks: &Tasks) -> bool
 }
 
 /// Puts what isn't printed yet of the line of how a task ended.
+#[inline(always)]
 fn put_ending<K: Sink>(
     paper: &mut K,
     job: u8,
@@ -65,6 +68,7 @@ fn put_ending<K: Sink>(
 
 /// The last task, whose job has made as many operators as it may, ends by LIMIT: what isn't printed yet of its line is
 /// printed, and the machine stands for the session without it. Where the printer fails, the machine stays.
+#[inline(always)]
 pub(crate) fn end_by_limit<K: Sink>(machine: &mut Machine, paper: &mut K) -> Result<(), Stop>
     requires { HasOne machine.old }
     ensures ends { LimitEnds K.taken result machine.old machine.new paper.old paper.new }
@@ -94,13 +98,14 @@ pub(crate) fn end_by_limit<K: Sink>(machine: &mut Machine, paper: &mut K) -> Res
 
 /// Prints what isn't printed yet of the line of how the chosen task ended, which is the only one. Then the task ends, the
 /// step is counted, and the machine stands for the session without it. Where the printer fails, the machine stays.
+#[inline(always)]
 pub(crate) fn close<K: Sink>(
     machine: &mut Machine,
     chosen: Chosen,
     ending: Ending,
     paper: &mut K,
 ) -> Result<StepEnd, Stop>
-    requires room { HasRoom machine.old.tasks chosen }
+    requires room { CountsHaveRoom machine.old.tasks chosen }
     requires one { HasOne machine.old }
     ensures closes { Closes K.taken chosen ending result machine.old machine.new paper.old paper.new }
     ensures over { Finishes chosen ending result machine.old machine.new }
@@ -128,12 +133,13 @@ pub(crate) fn close<K: Sink>(
 
 /// Counts an operator of the chosen task that was made, which is the only one. Where its job has then made as many as it
 /// may, the line of that ending is printed, and the task ends.
+#[inline(always)]
 pub(crate) fn advance<K: Sink>(
     machine: &mut Machine,
     chosen: Chosen,
     paper: &mut K,
 ) -> Result<StepEnd, Stop>
-    requires room { HasRoom machine.old.tasks chosen }
+    requires room { CountsHaveRoom machine.old.tasks chosen }
     requires one { HasOne machine.old }
     ensures advances { Advances K.taken chosen result machine.old machine.new paper.old paper.new }
     ensures halt { machine.new.tasks.halt ≡ machine.old.tasks.halt }

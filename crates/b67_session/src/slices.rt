@@ -1,21 +1,17 @@
 //! A slice of a run: steps one after the other.
 
-ghost use Rattle.std.specs.Prelude.{◌≡◌, ◌≢◌, ℕ, ◌+◌, ◌≤◌, List, Option, Some, None, Ok, Err, length};
-ghost use Rattle.b67_io.specs.Causes.{Rose};
-ghost use Rattle.b67_model.specs.State.{Task, Member};
+ghost use Rattle.std.specs.Prelude.{◌≡◌, ◌≢◌, ℕ, ◌+◌, List, Option, None, length};
+ghost use Rattle.b67_model.specs.State.{Task, SessionJob};
 ghost use Rattle.b67_model.specs.Schedule.{Session};
-ghost use Rattle.b67_layout_storage.specs.Machine.{Says, Served, retold};
+ghost use Rattle.b67_layout_storage.specs.Machine.{Says, DeviceAfterCalls, content_after};
 ghost use Rattle.b67_session_attempt.specs.Passed.{AreCountable};
-ghost use Rattle.b67_session_attempt.specs.Stops.{BackingFault, PrintFault};
-ghost use Rattle.b67_session.specs.declared.slices.Progress.TheVariants.{Ended};
-ghost use Rattle.b67_session_attempt.specs.Brought.{WantsNothing};
-ghost use Rattle.b67_session.specs.Slices.{IsOpen, LivesOn, IsLone, IsLimited, Slices, Resumes, Pauses, Over, StepsFit};
+ghost use Rattle.b67_session.specs.Slices.{IsOpen, LivesOn, IsLone, IsLimited, RepresentsWithoutTasks, Keeps, HasCauses, Slices, IfPresent, Resumes, StaysEnded, Pauses};
 
 use crate::ends::{StepEnd, end_by_limit, is_at_limit};
 use crate::steps::step;
-use b67_session_attempt::Stop;
 use b67_backing::Backing;
 use b67_io::Sink;
+use b67_session_attempt::Stop;
 use b67_task_tables::{Machine, Tasks};
 
 /// How far a slice came: no task lives; the count of the halt is reached and a task lives; all its steps were made.
@@ -26,14 +22,15 @@ pub enum Progress {
     More,
 }
 
-/// Whether a slice goes no further: no task lives, or else the count of the halt is reached.
-fn pause(tasks: &Tasks) -> Option<Progress>
-    ensures { Pauses tasks.now result }
+/// Whether a slice goes no further: no task lives, or else the count of a halt is reached.
+#[inline(always)]
+fn pause(tasks: &Tasks, halt: Option<u64>) -> Option<Progress>
+    ensures { Pauses tasks.now halt result }
 {
     if tasks.rows.is_empty() {
         return Some(Progress::Ended);
     }
-    match tasks.halt {
+    match halt {
         Some(count) if count == tasks.made => Some(Progress::Halted),
         _ => None,
     }
@@ -41,6 +38,7 @@ fn pause(tasks: &Tasks) -> Option<Progress>
 
 /// Makes steps of a session of one job with one ready task until that has ended, the count of the halt is reached, or `n`
 /// were made, looked at in this order.
+#[inline(always)]
 fn go_on<B: Backing, K: Sink>(
     machine: &mut Machine,
     n: u64,
@@ -49,27 +47,18 @@ fn go_on<B: Backing, K: Sink>(
 ) -> Result<Progress, Stop>
     requires lives { LivesOn (B.holds backing.old) machine.old }
     requires countable { AreCountable machine.old.tasks.jobs }
-    requires same { B.size backing.old + 1 ≡ length machine.old.sectors.links }
-    ensures row { (known : Option (List (List ℕ))) (s : Session) (m : Member) (t : Task) → Says known (B.holds backing.old) → IsLone known machine.old s m t
-        → Slices K.taken (retold known (B.holds backing.new)) (known ≢ None) (B.size backing.old) n s result machine.old machine.new paper.old paper.new }
-    ensures quiet { (known : Option (List (List ℕ))) (s : Session) (m : Member) (t : Task) (h : IsLone known machine.old s m t) → Says known (B.holds backing.old)
-        → n ≤ 1 → WantsNothing h.storage h.plan m t → backing.new ≡ backing.old }
-    ensures unprinted { result ≢ Err PrintFault → machine.old.tasks.printed ≡ 0 → machine.new.tasks.printed ≡ 0 }
-    ensures over { (known : Option (List (List ℕ))) (s : Session) (m : Member) (t : Task) → Says known (B.holds backing.old) → IsLone known machine.old s m t
-        → result ≡ Ok Ended → Over (retold known (B.holds backing.new)) (known ≢ None) s machine.old machine.new }
-    ensures fits { (known : Option (List (List ℕ))) (s : Session) (m : Member) (t : Task) → Says known (B.holds backing.old) → known ≢ None → IsLone known machine.old s m t
-        → (steps : ℕ) → machine.new.tasks.made ≡ machine.old.tasks.made + steps → StepsFit (length machine.old.cpu.core) steps s }
-    ensures backing_cause { result ≡ Err BackingFault → Rose B.faults backing.old backing.new }
-    ensures print_cause { result ≡ Err PrintFault → Rose K.faults paper.old paper.new }
-    ensures later { K.faults paper.old ≤ K.faults paper.new }
-    ensures device { Served B.holds B.size B.calls B.faults backing.old backing.new }
+    requires sized { B.size backing.old + 1 ≡ length machine.old.sectors.links }
+    ensures row { (known : Option (List (List ℕ))) (s : Session) (m : SessionJob) (t : Task) → Says known (B.holds backing.old) → IsLone known machine.old s m t
+        → Slices K.taken (content_after known (B.holds backing.new)) (known ≢ None) (B.size backing.old) n s result machine.old machine.new paper.old paper.new }
+    ensures present { (known : Option (List (List ℕ))) (s : Session) (m : SessionJob) (t : Task) → Says known (B.holds backing.old) → (h : IsLone known machine.old s m t)
+        → IfPresent (known ≢ None) (length machine.old.cpu.core) n h.storage h.plan s m t result machine.old machine.new backing.old backing.new }
     ensures countable { AreCountable machine.new.tasks.jobs }
-    ensures len { length machine.new.cpu.core ≡ length machine.old.cpu.core }
-    ensures count { length machine.new.sectors.links ≡ length machine.old.sectors.links }
-    ensures halt { machine.new.tasks.halt ≡ machine.old.tasks.halt }
+    ensures causes { HasCauses B.faults K.faults result backing.old backing.new paper.old paper.new }
+    ensures keeps { Keeps machine.old machine.new }
+    ensures device { DeviceAfterCalls B.holds B.size B.calls B.faults backing.old backing.new }
 {
     'step: for _made in 0..n {
-        if let Some(progress) = pause(&machine.tasks) {
+        if let Some(progress) = pause(&machine.tasks, machine.tasks.halt) {
             return Ok(progress);
         }
         match step(machine, backing, paper) {
@@ -78,58 +67,56 @@ fn go_on<B: Backing, K: Sink>(
             Err(stop) => return Err(stop),
         }
     }
-    match pause(&machine.tasks) {
+    match pause(&machine.tasks, machine.tasks.halt) {
         Some(progress) => Ok(progress),
         None => Ok(Progress::More),
     }
 }
 
-/// Makes steps of a session of one job with one task until that has ended, the count of the halt is reached, or `n` were
-/// made, looked at in this order. Each step's text is printed as the step is made.
+/// Makes steps of a session of at most one job with at most one task until no task lives, the count of the halt is reached,
+/// or `n` were made, looked at in this order. Each step's text is printed as the step is made. Without a task it answers
+/// `Ended`, and nothing is printed or changed.
 ///
-/// After a `Stop` the step isn't made, and the machine stands for the state before it; but where the printer failed in
-/// the line of LIMIT, the step is made and counted but for that line and the task's end, and the next call begins with
-/// them. The call may be made again after every stop, halt and slice of steps. `printed` counts the bytes of the text in
-/// hand that were taken, and the next call skips these: no byte is printed twice.
+/// No step is made or stopped at the count of the halt. After a `Stop` the step isn't made, and the machine represents
+/// the state before it; but if the printer failed in the line of LIMIT, the step is made and counted but for that line
+/// and the task's end, and the next call begins with them. The call may be made again after every answer. `printed`
+/// counts the bytes of the text in hand that were taken, and the next call skips these: no byte is printed twice. After
+/// every answer but `PrintFault` the text of each step that was made is printed whole, and nothing of the next step's.
 ///
-/// `NoCore` only where the step's need exceeds core, with both; no step that was made needs more. A step that does ends
-/// in another stop only where its segment is absent and the device is full or fails as it is brought in, or by
-/// `PrintFault`. `BackingFull` only where the session takes more sectors than the device has, with both, where the step's
-/// segment or array is absent, and a present array that keeps no chain wants more sectors than are free; `BackingFault`
-/// and `PrintFault` only where that device failed. A single step whose segment and array are present doesn't call the
-/// backing. Where nothing is known of what the device's sectors hold, the words that it gives back may be others, and as
-/// many. After `Ended` the machine stands for the session without a task; where it was known what the sectors hold, for
-/// the one after the steps.
+/// `NoCore` only if the step's need exceeds core, with both; no step that was made needs more. A step that does ends in
+/// another stop only if its segment is absent and the device is full or fails as it is brought in: if the segment was
+/// present when a call began that made no step, `BackingFull` and `BackingFault` come only with enough core. `PrintFault`
+/// before a step comes only with enough core too. `BackingFull` only if the session takes more sectors than the device
+/// has, with both, the step's segment or array is absent, and a present array that keeps no chain wants more sectors than
+/// are free; `BackingFault` and `PrintFault` only if that device failed. A single step whose segment and array are
+/// present doesn't call the backing. If nothing is known of what the device's sectors hold, the words that it gives back
+/// may be others, and as many. After `Ended` the machine represents the session without a task; if it was known what the
+/// sectors hold, the one after the steps.
+#[inline(always)]
 pub fn slice<B: Backing, K: Sink>(
     machine: &mut Machine,
     n: u64,
     backing: &mut B,
     paper: &mut K,
 ) -> Result<Progress, Stop>
-    requires lives { IsOpen (B.holds backing.old) machine.old }
-    requires countable { AreCountable machine.old.tasks.jobs }
-    requires same { B.size backing.old + 1 ≡ length machine.old.sectors.links }
-    ensures row { (known : Option (List (List ℕ))) (s : Session) (m : Member) (t : Task) → Says known (B.holds backing.old) → IsLone known machine.old s m t
-        → Slices K.taken (retold known (B.holds backing.new)) (known ≢ None) (B.size backing.old) n s result machine.old machine.new paper.old paper.new }
-    ensures resumed { (known : Option (List (List ℕ))) (h : Session) (m : Member) (t : Task) → Says known (B.holds backing.old) → IsLimited known machine.old h m t
+    requires open { IsOpen (B.holds backing.old) machine.old }
+    requires sized { B.size backing.old + 1 ≡ length machine.old.sectors.links }
+    ensures row { (known : Option (List (List ℕ))) (s : Session) (m : SessionJob) (t : Task) → Says known (B.holds backing.old) → IsLone known machine.old s m t
+        → Slices K.taken (content_after known (B.holds backing.new)) (known ≢ None) (B.size backing.old) n s result machine.old machine.new paper.old paper.new }
+    ensures present { (known : Option (List (List ℕ))) (s : Session) (m : SessionJob) (t : Task) → Says known (B.holds backing.old) → (h : IsLone known machine.old s m t)
+        → IfPresent (known ≢ None) (length machine.old.cpu.core) n h.storage h.plan s m t result machine.old machine.new backing.old backing.new }
+    ensures resumed { (known : Option (List (List ℕ))) (h : Session) (m : SessionJob) (t : Task) → Says known (B.holds backing.old) → IsLimited known machine.old h m t
         → Resumes K.taken known h m t result machine.old machine.new paper.old paper.new × (backing.new ≡ backing.old) }
-    ensures quiet { (known : Option (List (List ℕ))) (s : Session) (m : Member) (t : Task) (h : IsLone known machine.old s m t) → Says known (B.holds backing.old)
-        → n ≤ 1 → WantsNothing h.storage h.plan m t → backing.new ≡ backing.old }
-    ensures again { result ≢ Ok Ended → IsOpen (B.holds backing.new) machine.new }
-    ensures unprinted { result ≢ Err PrintFault → machine.old.tasks.printed ≡ 0 → machine.new.tasks.printed ≡ 0 }
-    ensures over { (known : Option (List (List ℕ))) (s : Session) (m : Member) (t : Task) → Says known (B.holds backing.old) → IsLone known machine.old s m t
-        → result ≡ Ok Ended → Over (retold known (B.holds backing.new)) (known ≢ None) s machine.old machine.new }
-    ensures fits { (known : Option (List (List ℕ))) (s : Session) (m : Member) (t : Task) → Says known (B.holds backing.old) → known ≢ None → IsLone known machine.old s m t
-        → (steps : ℕ) → machine.new.tasks.made ≡ machine.old.tasks.made + steps → StepsFit (length machine.old.cpu.core) steps s }
-    ensures backing_cause { result ≡ Err BackingFault → Rose B.faults backing.old backing.new }
-    ensures print_cause { result ≡ Err PrintFault → Rose K.faults paper.old paper.new }
-    ensures later { K.faults paper.old ≤ K.faults paper.new }
-    ensures device { Served B.holds B.size B.calls B.faults backing.old backing.new }
-    ensures countable { AreCountable machine.new.tasks.jobs }
-    ensures len { length machine.new.cpu.core ≡ length machine.old.cpu.core }
-    ensures count { length machine.new.sectors.links ≡ length machine.old.sectors.links }
-    ensures halt { machine.new.tasks.halt ≡ machine.old.tasks.halt }
+    ensures ended { (known : Option (List (List ℕ))) (s : Session) → RepresentsWithoutTasks known machine.old s
+        → StaysEnded result machine.old machine.new backing.old backing.new paper.old paper.new }
+    ensures open { IsOpen (B.holds backing.new) machine.new }
+    ensures causes { HasCauses B.faults K.faults result backing.old backing.new paper.old paper.new }
+    ensures keeps { Keeps machine.old machine.new }
+    ensures device { DeviceAfterCalls B.holds B.size B.calls B.faults backing.old backing.new }
 {
+    if machine.tasks.rows.is_empty() {
+        return Ok(Progress::Ended);
+    }
     if !is_at_limit(&machine.tasks) {
         return go_on(machine, n, backing, paper);
     }

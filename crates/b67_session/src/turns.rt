@@ -3,22 +3,23 @@
 ghost use Rattle.std.specs.Prelude.{◌≡◌, ℕ, List, length, Option, Some, slice_get};
 ghost use Rattle.b67_model.specs.Schedule.{Session};
 ghost use Rattle.b67_model.specs.InOrder.{IsInOrderButPlaces};
-ghost use Rattle.b67_stack.specs.Stands.{Storage};
-ghost use Rattle.b67_layout.specs.Plan.{Plan};
+ghost use Rattle.b67_stack.specs.Represents.{Storage};
+ghost use Rattle.b67_layout.specs.Placement.{Placement};
 ghost use Rattle.b67_task_switch.specs.Turns.{with_running};
 ghost use Rattle.b67_task_tables.specs.declared.tables.TaskRow.{TaskRow};
-ghost use Rattle.b67_task_tables.specs.Tables.{MachineStands};
+ghost use Rattle.b67_task_tables.specs.Tables.{MachineRepresents};
 ghost use Rattle.b67_task_switch.specs.Standing.{HasRow};
 
-use b67_task_tables::Machine;
 use b67_task_switch::switch_to;
+use b67_task_tables::Machine;
 
 /// The task of a row is then the running one, if it wasn't. The session's state stays.
+#[inline(always)]
 pub(crate) fn give_turn(machine: &mut Machine, row: u8)
     requires { HasRow machine.old row }
-    ensures stands { (x : Storage) (told : Option (List (List ℕ))) (plan : Plan) (s : Session) (r : TaskRow) → IsInOrderButPlaces s
-        → MachineStands x told machine.old plan s → slice_get machine.old.tasks.rows.items row ≡ Some r
-        → MachineStands x told machine.new (with_running plan r.slot) s }
+    ensures stands { (x : Storage) (told : Option (List (List ℕ))) (plan : Placement) (s : Session) (r : TaskRow) → IsInOrderButPlaces s
+        → MachineRepresents x told machine.old plan s → slice_get machine.old.tasks.rows.items row ≡ Some r
+        → MachineRepresents x told machine.new (with_running plan r.slot) s }
     ensures tables { machine.new.tasks ≡ record machine.old.tasks { rows = machine.new.tasks.rows; running = row } }
     ensures len { length machine.new.cpu.core ≡ length machine.old.cpu.core }
     ensures sectors { machine.new.sectors ≡ machine.old.sectors }

@@ -11,7 +11,7 @@ use Rattle.b67_model.specs.Answers.{Answer}
 use Rattle.b67_model.specs.Words.{Word}
 use Rattle.b67_model.specs.Chase.{AtIntrinsic, follow_reference}
 use Rattle.b67_model.specs.Operators.{Reading}
-use Rattle.b67_model.specs.State.{Standing, Marked, Entered, Task, Member, Here, top}
+use Rattle.b67_model.specs.State.{Standing, Marked, Entered, Task, SessionJob, OperatorContext, top}
 use Rattle.b67_model.specs.Steps.{Line, Done, Goes, Leaves}
 use Rattle.b67_model.specs.Need.{touched_of, touched_at_mark, touched_before_fault, started_by, need}
 use Rattle.b67_model.specs.Rows.{reading_of, step}
@@ -21,21 +21,20 @@ use Rattle.b67_model.specs.InOrder.{IsInOrderButPlaces}
 use Rattle.b67_stack.specs.declared.What.TheVariants as what
 use Rattle.b67_stack.specs.declared.Step.{Step}
 use Rattle.b67_stack.specs.declared.Step.TheVariants as answers
-use Rattle.b67_stack.specs.Stands.{Storage}
-use Rattle.b67_layout.specs.Plan.{Plan}
+use Rattle.b67_stack.specs.Represents.{Storage}
+use Rattle.b67_layout.specs.Placement.{Placement}
 use Rattle.b67_layout.specs.Session.{IsRunning}
 use Rattle.b67_layout.specs.Meets.{here, area_held, IsPresent}
-use Rattle.b67_layout.proofs.Others.{keyed-has}
-use Rattle.b67_model.specs.Called.{called_on, called}
+use Rattle.b67_model.specs.Called.{called_at, called_by, called_on, called}
 use Rattle.b67_exec_cells.specs.Running.{code_area}
 use Rattle.b67_exec_cells.specs.Called as operators
 use Rattle.b67_exec_cells.specs.Called.{called_in}
 use Rattle.b67_task_tables.specs.declared.tables.Machine.{Machine}
-use Rattle.b67_task_tables.specs.Tables.{MachineStands}
+use Rattle.b67_task_tables.specs.Tables.{MachineRepresents}
 use Rattle.b67_layout_step.proofs.Laws.{touches_arrays}
 use Rattle.b67_session_attempt.specs.Fits.{IsOfJob}
 use Rattle.b67_session_attempt.proofs.FittingMade.{made_fit}
-use Rattle.b67_session_attempt.specs.Makes.{Makes, CallsOrMakes, MakesAt}
+use Rattle.b67_session_attempt.specs.Makes.{OperatorMade, CallsOrMakes, MakesAt}
 use Rattle.b67_mcp.specs.declared.ends.Stop.{Stop}
 use Rattle.b67_mcp.specs.declared.ends.Stop.TheVariants as stops
 use Rattle.b67_mcp.specs.Called.{CallsBuilt, IsCut, CallMeets, CallTouches, printed_text, IsThere, TouchesPresent}
@@ -46,57 +45,58 @@ use Rattle.b67_mcp.proofs.Present.{row_only}
 use Rattle.b67_session_attempt.specs.Tries.{TryFits}
 use Rattle.b67_session_attempt.proofs.Still.{operator_starts, call_starts}
 use Rattle.b67_session_attempt.proofs.Mute.{printing_built}
+use Rattle.b67_lemmas.proofs.Members.{keyed-has}
 
 -- before a fault an operator touches nothing that calls no intrinsic
-module _ (m : Member) (t : Task) (a : ℕ) where
+module _ (m : SessionJob) (t : Task) (a : ℕ) where
   by_standing : (next : Place) (st : Standing) (cells : List Word) → reverse (top t.frames).cells ≡ cells → called_on (here m t next) st ≡ None
-      → touched_at_mark (record { setting = m.setting; job = m.course.job; task = t; at = t.place }) st cells ≢ Some a
+      → touched_at_mark (record { constants = m.constants; job = m.progress.job; task = t; at = t.place }) st cells ≢ Some a
   by_standing next (Entered level environment back) cells is none e = none-some a e
   by_standing next Marked [] is none e = none-some a e
   by_standing next Marked (r ∷ arguments) is none e =
-      let at_call : Here = record { setting = m.setting; job = m.course.job; task = t; at = t.place } in
+      let at_call : OperatorContext = record { constants = m.constants; job = m.progress.job; task = t; at = t.place } in
       let f = row_only r arguments (follow_reference at_call r) a e in
       let ends : follow_reference (here m t next) r ≡ Ok (AtIntrinsic 10) = reference_same (here m t next) at_call refl refl r ∙ f.called in
       none-some 10 (sym none ∙ called_is next r arguments is ends)
     where
       called_is : (next : Place) (r : Word) (arguments : List Word) → reverse (top t.frames).cells ≡ r ∷ arguments → follow_reference (here m t next) r ≡ Ok (AtIntrinsic 10) → called_on (here m t next) Marked ≡ Some 10
       called_is next r arguments is ends =
-          ap (Rattle.b67_law_order_steps.specs.Profiles.called_by (here m t next)) is ∙ ap Rattle.b67_law_order_steps.specs.Profiles.called_at ends
+          ap (called_by (here m t next)) is ∙ ap called_at ends
 
-  by_code : (code : Code) (next : Place) → called (Plain code) (here m t next) ≡ None → touched_before_fault m.setting m.course.job t (Ok (Plain code, next)) ≢ Some a
+  by_code : (code : Code) (next : Place) → called (Plain code) (here m t next) ≡ None → touched_before_fault m.constants m.progress.job t (Ok (Plain code, next)) ≢ Some a
   by_code Entr next none e = by_standing next (top t.frames).standing (reverse (top t.frames).cells) refl none e
   by_code _ next none e = none-some a e
 
-  by_op : (op : Op) (next : Place) → called op (here m t next) ≡ None → touched_before_fault m.setting m.course.job t (Ok (op, next)) ≢ Some a
+  by_op : (op : Op) (next : Place) → called op (here m t next) ≡ None → touched_before_fault m.constants m.progress.job t (Ok (op, next)) ≢ Some a
   by_op (Plain code) next none e = by_code code next none e
   by_op _ next none e = none-some a e
 
-  by_reading : (r : Reading) → operators.called_by m t r ≡ None → touched_before_fault m.setting m.course.job t r ≢ Some a
+  by_reading : (r : Reading) → operators.called_by m t r ≡ None → touched_before_fault m.constants m.progress.job t r ≢ Some a
   by_reading (Err why) none e = none-some a e
   by_reading (Ok read) none e = by_op read.0 read.1 none e
 
-module _ (x : Storage) (told : Option (List (List ℕ))) (plan : Plan) (s : Session) (m : Member) (t : Task) where
+module _ (x : Storage) (told : Option (List (List ℕ))) (plan : Placement) (s : Session) (m : SessionJob) (t : Task) where
   abbrev touched : Answer Done → Option ℕ
-  touched answer = touched_of m.setting m.course.job t answer
+  touched answer = touched_of m.constants m.progress.job t answer
 
   abbrev Present : Option ℕ → Type 0
-  Present o = IsPresent x plan m.setting.number o × IsOfJob m.course.job o
+  Present o = IsPresent x plan m.constants.number o × IsOfJob m.progress.job o
 
   -- the array that is touched, as room is asked for it
   present_of : (o : Option ℕ) → ((n : ℕ) → o ≡ Some n → IsThere x plan m n) → Present o
   present_of None each = (tt, tt)
-  present_of (Some n) each = let p = each n refl in (by (area_held x plan m.setting.number n) refl p.there, (p.array, p.among, p.named)) where
-    by : (area : Option ℕ) → area_held x plan m.setting.number n ≡ area → area_held x plan m.setting.number n ≢ None → IsPresent x plan m.setting.number (Some n)
+  present_of (Some n) each = let p = each n refl in (by (area_held x plan m.constants.number n) refl p.there, (p.array, p.among, p.named)) where
+    by : (area : Option ℕ) → area_held x plan m.constants.number n ≡ area → area_held x plan m.constants.number n ≢ None → IsPresent x plan m.constants.number (Some n)
     by None is some = absurd (some is)
     by (Some at) is some = (at, is)
 
-  pub step_fits : (k : Machine) → IsInOrderButPlaces s → MachineStands x told k plan s → IsRunning plan s.jobs m t → code_area x plan m t ≢ None → TouchesPresent x plan m t → started_by m.course.job (step m.setting m.course.job t) ≡ 0
+  pub step_fits : (k : Machine) → IsInOrderButPlaces s → MachineRepresents x told k plan s → IsRunning plan s.jobs m t → code_area x plan m t ≢ None → TouchesPresent x plan m t → started_by m.progress.job (step m.constants m.progress.job t) ≡ 0
       → need (length k.cpu.core) s m t ≤ length k.cpu.core
   step_fits k o h runs code touches none = by (code_area x plan m t) refl code where
     by : (area : Option ℕ) → code_area x plan m t ≡ area → area ≢ None → need (length k.cpu.core) s m t ≤ length k.cpu.core
     by None is some = absurd (some refl)
     by (Some at) is some =
-        let made = step m.setting m.course.job t in
+        let made = step m.constants m.progress.job t in
         let (present, among) = present_of (touched made) touches in
         made_fit k.cpu x plan s m t o h.session runs at (touched made) is refl present among none
 
@@ -109,31 +109,31 @@ module _ (x : Storage) (told : Option (List (List ℕ))) (plan : Plan) (s : Sess
     by (Some n) e h = absurd (call n h.0)
     by None e h = e
 
-  pub fault_touches : (fault : Fault) → called_in m t ≡ None → step m.setting m.course.job t ≡ Err fault → TouchesPresent x plan m t
-  fault_touches fault none is a e = absurd (by_reading m t a (reading_of m.setting t) none (sym (ap touched is) ∙ e))
+  pub fault_touches : (fault : Fault) → called_in m t ≡ None → step m.constants m.progress.job t ≡ Err fault → TouchesPresent x plan m t
+  fault_touches fault none is a e = absurd (by_reading m t a (reading_of m.constants t) none (sym (ap touched is) ∙ e))
 
-  pub leaves_touches : step m.setting m.course.job t ≡ Ok Leaves → TouchesPresent x plan m t
+  pub leaves_touches : step m.constants m.progress.job t ≡ Ok Leaves → TouchesPresent x plan m t
   leaves_touches is a e = absurd (none-some a (sym (ap touched is) ∙ e))
 
   module _ (o : IsInOrderButPlaces s) (runs : IsRunning plan s.jobs m t) where
-    pub made_touches : (new : Machine) → Makes x told plan s m t new → TouchesPresent x plan m t
-    made_touches new h a e =
+    pub made_touches : (old new : Machine) → OperatorMade x told plan s m t old new → TouchesPresent x plan m t
+    made_touches old new h a e =
         let same : h.touched ≡ Some a = sym (ap touched h.is) ∙ e in
-        let is : step m.setting m.course.job t ≡ Ok (Goes h.job [] (Some a)) = h.is ∙ ap (λ (q : Option ℕ). Ok (Goes h.job [] q)) same in
-        let (array, among, named) = touches_arrays s m t o (keyed-has number_of m.setting.number s.jobs m runs.member) (keyed-has (λ (u : Task). u.number) t.number m.course.job.tasks t runs.task) h.job [] a is in
-        let (at, held) = subst (IsPresent x plan m.setting.number) same h.present in
+        let is : step m.constants m.progress.job t ≡ Ok (Goes h.job [] (Some a)) = h.is ∙ ap (λ (q : Option ℕ). Ok (Goes h.job [] q)) same in
+        let (array, among, named) = touches_arrays s m t o (keyed-has number_of m.constants.number s.jobs m runs.member) (keyed-has (λ (u : Task). u.number) t.number m.progress.job.tasks t runs.task) h.job [] a is in
+        let (at, held) = subst (IsPresent x plan m.constants.number) same h.present in
         record { array = array; among = among; named = named; there = λ none. none-some at (sym none ∙ held) }
 
     -- where it was made, or ends its task, core has room
-    pub operator_fits : (k : Machine) → MachineStands x told k plan s → (code_area x plan m t ≢ None) × (called_in m t ≡ None) → TouchesPresent x plan m t → need (length k.cpu.core) s m t ≤ length k.cpu.core
+    pub operator_fits : (k : Machine) → MachineRepresents x told k plan s → (code_area x plan m t ≢ None) × (called_in m t ≡ None) → TouchesPresent x plan m t → need (length k.cpu.core) s m t ≤ length k.cpu.core
     operator_fits k h (code, none) touches = step_fits k o h runs code touches (operator_starts m t runs.task none)
 
     -- and for the call of an intrinsic
-    pub call_fits : (k : Machine) (n : ℕ) → MachineStands x told k plan s → code_area x plan m t ≢ None → called_in m t ≡ Some n → CallsBuilt m t → TouchesPresent x plan m t → need (length k.cpu.core) s m t ≤ length k.cpu.core
+    pub call_fits : (k : Machine) (n : ℕ) → MachineRepresents x told k plan s → code_area x plan m t ≢ None → called_in m t ≡ Some n → CallsBuilt m t → TouchesPresent x plan m t → need (length k.cpu.core) s m t ≤ length k.cpu.core
     call_fits k n h code called built touches = step_fits k o h runs code touches (call_starts m t n (calling m t n called) (from_eight plan s m t n o runs called) (built n called))
 
-    pub fault_fits : (k : Machine) (fault : Fault) → MachineStands x told k plan s → code_area x plan m t ≢ None → step m.setting m.course.job t ≡ Err fault → TouchesPresent x plan m t → need (length k.cpu.core) s m t ≤ length k.cpu.core
-    fault_fits k fault h code is touches = step_fits k o h runs code touches (ap (started_by m.course.job) is)
+    pub fault_fits : (k : Machine) (fault : Fault) → MachineRepresents x told k plan s → code_area x plan m t ≢ None → step m.constants m.progress.job t ≡ Err fault → TouchesPresent x plan m t → need (length k.cpu.core) s m t ≤ length k.cpu.core
+    fault_fits k fault h code is touches = step_fits k o h runs code touches (ap (started_by m.progress.job) is)
 
     -- what is cut prints something, so its call is built
     cut_built : {K : Type 0} (taken : K → Option (List ℕ)) (paper paper' : K) (n before after : ℕ) → called_in m t ≡ Some n → IsCut taken paper paper' m t before after → CallsBuilt m t
@@ -145,7 +145,7 @@ module _ (x : Storage) (told : Option (List (List ℕ))) (plan : Plan) (s : Sess
         by [] e low = omega (arith, low)
         by (line ∷ more) e low = absurd cc
 
-    pub stop_fits : {K : Type 0} (taken : K → Option (List ℕ)) (k new : Machine) (paper paper' : K) (n : ℕ) (stop : Stop) → MachineStands x told k plan s → code_area x plan m t ≢ None → called_in m t ≡ Some n
+    pub stop_fits : {K : Type 0} (taken : K → Option (List ℕ)) (k new : Machine) (paper paper' : K) (n : ℕ) (stop : Stop) → MachineRepresents x told k plan s → code_area x plan m t ≢ None → called_in m t ≡ Some n
         → CallMeets taken x told plan s m t n (Err stop) k new paper paper' → CallTouches x plan m t (Err stop) → TryFits (length k.cpu.core) s m t (Err stop)
     stop_fits taken k new paper paper' n stops.PrintFault h code called meets touches =
         call_fits k n h code called (cut_built taken paper paper' n k.tasks.printed new.tasks.printed called meets.0) touches

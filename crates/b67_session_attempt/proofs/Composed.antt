@@ -1,23 +1,24 @@
 -- One attempt of several tries.
-use Rattle.std.proofs.Common.{◌≡◌, ◌≢◌, ℕ, ◌+◌, List, Option, Some, None, Result, Ok, Err, refl, sym, ◌∙◌, ap, subst}
+use Rattle.std.proofs.Common.{◌≡◌, ◌≢◌, ℕ, ◌+◌, ◌≤◌, List, Option, Some, None, Result, Ok, Err, refl, sym, ◌∙◌, ap, subst}
 use Rattle.std.proofs.lemmas.Option.{same_Some}
 use Rattle.b67_word.specs.declared.faults.Ending.{Ending}
-use Rattle.b67_model.specs.State.{Ready, Task, Member}
+use Rattle.b67_model.specs.State.{Ready, Task, SessionJob}
 use Rattle.b67_model.specs.Keyed.{keyed}
+use Rattle.b67_model.specs.Need.{need}
 use Rattle.b67_model.specs.Run.{number_of}
 use Rattle.b67_model.specs.Schedule.{Session}
 use Rattle.b67_model.specs.InOrder.{IsInOrderButPlaces}
 use Rattle.b67_stack.specs.declared.What.{What}
 use Rattle.b67_stack.specs.declared.What.TheVariants as what
-use Rattle.b67_stack.specs.Stands.{Storage}
-use Rattle.b67_layout_storage.specs.Machine.{Says, retold}
-use Rattle.b67_layout.specs.Plan.{Plan}
+use Rattle.b67_stack.specs.Represents.{Storage}
+use Rattle.b67_layout_storage.specs.Machine.{Says, content_after}
+use Rattle.b67_layout.specs.Placement.{Placement}
 use Rattle.b67_layout.specs.Session.{IsRunning}
 use Rattle.b67_exec_cells.specs.Running.{code_area}
 use Rattle.b67_law_order_steps.proofs.Sessions.{other_numbers_keep_order}
 use Rattle.b67_task_tables.specs.declared.tables.Machine.{Machine}
 use Rattle.b67_task_tables.specs.declared.tables.Tasks.{Tasks}
-use Rattle.b67_task_tables.specs.Tables.{MachineStands}
+use Rattle.b67_task_tables.specs.Tables.{MachineRepresents}
 use Rattle.b67_mcp.specs.Called.{OnlyPrinted}
 use Rattle.b67_mcp.specs.declared.ends.Stop.{Stop}
 use Rattle.b67_mcp.specs.declared.ends.Stop.TheVariants as stops
@@ -28,26 +29,26 @@ use Rattle.b67_session_attempt.specs.declared.attempts.Attempt.TheVariants as at
 use Rattle.b67_session_attempt.specs.declared.tries.Tried.TheVariants as tries
 use Rattle.b67_session_attempt.specs.Tries.{IsTouched, TryMeets, TryFits}
 use Rattle.b67_session_attempt.specs.Attempts.{RunsOver, AttemptMeets, Attempts, AttemptFits, TablesStay}
-use Rattle.b67_session_attempt.specs.Brought.{WantsNothing, StopMeets, Stopped}
+use Rattle.b67_session_attempt.specs.Brought.{WantsNothing, StopMeets, Stopped, BroughtFits}
 
 abbrev Told : Type 0
 Told = Option (List (List ℕ))
 
 -- what a storage says, after no call and after two
-pub told_is : (d told : Told) → Says d told → retold d told ≡ d
+pub told_is : (d told : Told) → Says d told → content_after d told ≡ d
 told_is None told h = refl
 told_is (Some all) told h = h
 
-retold_twice : (d told told' : Told) → (d ≢ None → told ≢ None) → retold (retold d told) told' ≡ retold d told'
+retold_twice : (d told told' : Told) → (d ≢ None → told ≢ None) → content_after (content_after d told) told' ≡ content_after d told'
 retold_twice None told told' h = refl
 retold_twice (Some all) None told' h = absurd (h (λ e. absurd cc) refl)
 retold_twice (Some all) (Some b) told' h = refl
 
-retold_some : (d told : Told) → (d ≢ None → told ≢ None) → d ≢ None → retold d told ≢ None
+retold_some : (d told : Told) → (d ≢ None → told ≢ None) → d ≢ None → content_after d told ≢ None
 retold_some None told h n = n
 retold_some (Some all) told h n = h n
 
-retold_back : (d told : Told) → retold d told ≢ None → d ≢ None
+retold_back : (d told : Told) → content_after d told ≢ None → d ≢ None
 retold_back None told n = n
 retold_back (Some all) told n = λ e. absurd cc
 
@@ -57,21 +58,21 @@ goes_on_telling None told told' says each n = absurd (n refl)
 goes_on_telling (Some all) told told' says each n = λ e. let (y, is) = each all says in let z : None ≡ Some y = sym e ∙ is in absurd cc
 
 -- the machine after a try that changed nothing
-pub unchanged : (x : Storage) (told : Told) (plan : Plan) (s : Session) (old new : Machine) → new ≡ old → MachineStands x told old plan s → MachineStands x told new plan s
-unchanged x told plan s old new same h = let P : Machine → Type 0 = λ k. MachineStands x told k plan s in subst P (sym same) h
+pub unchanged : (x : Storage) (told : Told) (plan : Placement) (s : Session) (old new : Machine) → new ≡ old → MachineRepresents x told old plan s → MachineRepresents x told new plan s
+unchanged x told plan s old new same h = let P : Machine → Type 0 = λ k. MachineRepresents x told k plan s in subst P (sym same) h
 
-pub unchanged_over : (x : Storage) (told : Told) (plan : Plan) (s : Session) (old new : Machine) → new ≡ old → StandsOver x told old plan s → StandsOver x told new plan s
+pub unchanged_over : (x : Storage) (told : Told) (plan : Placement) (s : Session) (old new : Machine) → new ≡ old → StandsOver x told old plan s → StandsOver x told new plan s
 unchanged_over x told plan s old new same h = record { says = h.says; stands = unchanged x x.device plan s old new same h.stands }
 
 -- and after one that changed nothing but how much is printed
-pub only_printed : (x : Storage) (told : Told) (plan : Plan) (s : Session) (old new : Machine) → OnlyPrinted old new → MachineStands x told old plan s → MachineStands x told new plan s
+pub only_printed : (x : Storage) (told : Told) (plan : Placement) (s : Session) (old new : Machine) → OnlyPrinted old new → MachineRepresents x told old plan s → MachineRepresents x told new plan s
 only_printed x told plan s old new same h =
-    let P : Machine → Type 0 = λ k. MachineStands x told k plan s in
-    let it : MachineStands x told (record old { tasks = record old.tasks { printed = new.tasks.printed } }) plan s = record { session = h.session; storage = h.storage; tables = h.tables } in
+    let P : Machine → Type 0 = λ k. MachineRepresents x told k plan s in
+    let it : MachineRepresents x told (record old { tasks = record old.tasks { printed = new.tasks.printed } }) plan s = record { session = h.session; storage = h.storage; tables = h.tables } in
     subst P (sym same) it
 
 -- where nothing is wanted, a try finds nothing absent
-pub never : {K : Type 0} (taken : K → Option (List ℕ)) (x : Storage) (plan : Plan) (s : Session) (m : Member) (t : Task) (old new : Machine) (paper paper' : K) (found : What) → WantsNothing x plan m t → TryMeets taken x x.device plan s m t (Ok (tries.Absent found)) old new paper paper' → ⊥
+pub never : {K : Type 0} (taken : K → Option (List ℕ)) (x : Storage) (plan : Placement) (s : Session) (m : SessionJob) (t : Task) (old new : Machine) (paper paper' : K) (found : What) → WantsNothing x plan m t → TryMeets taken x x.device plan s m t (Ok (tries.Absent found)) old new paper paper' → ⊥
 never taken x plan s m t old new paper paper' (what.Code displacement) nothing meets = nothing.code meets.1.1
 never taken x plan s m t old new paper paper' (what.Array home) nothing meets =
     let w = meets.1 in
@@ -79,7 +80,7 @@ never taken x plan s m t old new paper paper' (what.Array home) nothing meets =
     nothing.array a.identity is (ap (λ (at : ℕ). (x.held at).area) (home_is ∙ sym w.home_is) ∙ w.absent)
 
 -- the answer of the session itself
-module _ {K : Type 0} (taken : K → Option (List ℕ)) (x : Storage) (core count : ℕ) (plan : Plan) (s : Session) (m : Member) (t : Task) (o : IsInOrderButPlaces s) (runs : IsRunning plan s.jobs m t) (old new : Machine) (h : MachineStands x x.device old plan s) (paper paper' : K) where
+module _ {K : Type 0} (taken : K → Option (List ℕ)) (x : Storage) (core count : ℕ) (plan : Placement) (s : Session) (m : SessionJob) (t : Task) (o : IsInOrderButPlaces s) (runs : IsRunning plan s.jobs m t) (old new : Machine) (h : MachineRepresents x x.device old plan s) (paper paper' : K) where
   at_once : (answered : Result Attempt Stop) → AttemptMeets taken x.device (x.device ≢ None) core count old.tasks.printed plan s m t answered new paper paper' → Attempts taken x x.device core count old.tasks.printed plan s t answered new paper paper'
   at_once answered meets = record { jobs = s.jobs; others = others_same s o; same = λ e. refl; member = m; running = runs; meets = meets }
 
@@ -104,7 +105,7 @@ module _ {K : Type 0} (taken : K → Option (List ℕ)) (x : Storage) (core coun
   gives_up_once ending found none meets = at_once (Ok (attempts.Ends ending)) (λ e. absurd (never taken x plan s m t old new paper paper' found (none e) meets), (x, unchanged x x.device plan s old new meets.3 h), meets.4)
 
 -- a try never finds the device failing
-pub no_device_fault : {K : Type 0} (taken : K → Option (List ℕ)) (x : Storage) (told : Told) (plan : Plan) (s : Session) (m : Member) (t : Task) (stop : Stop) (old new : Machine) (paper paper' : K)
+pub no_device_fault : {K : Type 0} (taken : K → Option (List ℕ)) (x : Storage) (told : Told) (plan : Placement) (s : Session) (m : SessionJob) (t : Task) (stop : Stop) (old new : Machine) (paper paper' : K)
     → TryMeets taken x told plan s m t (Err stop) old new paper paper' → stop ≢ stops.BackingFault
 no_device_fault taken x told plan s m t (stops.NoCore words size) old new paper paper' meets = λ e. meets
 no_device_fault taken x told plan s m t (stops.BackingFull sum size) old new paper paper' meets = λ e. meets
@@ -113,15 +114,15 @@ no_device_fault taken x told plan s m t stops.PrintFault old new paper paper' me
 no_device_fault taken x told plan s m t stops.Unbuilt old new paper paper' meets = λ e. absurd cc
 
 -- what a try leaves of the tables
-pub tables_after_end : {K : Type 0} (taken : K → Option (List ℕ)) (x : Storage) (told : Told) (plan : Plan) (s : Session) (m : Member) (t : Task) (ending : Ending) (old new : Machine) (paper paper' : K)
+pub tables_after_end : {K : Type 0} (taken : K → Option (List ℕ)) (x : Storage) (told : Told) (plan : Placement) (s : Session) (m : SessionJob) (t : Task) (ending : Ending) (old new : Machine) (paper paper' : K)
     → TryMeets taken x told plan s m t (Ok (tries.Ends ending)) old new paper paper' → new.tasks ≡ old.tasks
 tables_after_end taken x told plan s m t ending old new paper paper' meets = ap (λ (k : Machine). k.tasks) meets.1
 
-pub tables_after_want : {K : Type 0} (taken : K → Option (List ℕ)) (x : Storage) (told : Told) (plan : Plan) (s : Session) (m : Member) (t : Task) (found : What) (old new : Machine) (paper paper' : K)
+pub tables_after_want : {K : Type 0} (taken : K → Option (List ℕ)) (x : Storage) (told : Told) (plan : Placement) (s : Session) (m : SessionJob) (t : Task) (found : What) (old new : Machine) (paper paper' : K)
     → TryMeets taken x told plan s m t (Ok (tries.Absent found)) old new paper paper' → new.tasks ≡ old.tasks
 tables_after_want taken x told plan s m t found old new paper paper' meets = ap (λ (k : Machine). k.tasks) meets.3
 
-pub tables_after_stop : {K : Type 0} (taken : K → Option (List ℕ)) (x : Storage) (told : Told) (plan : Plan) (s : Session) (m : Member) (t : Task) (stop : Stop) (old new : Machine) (paper paper' : K)
+pub tables_after_stop : {K : Type 0} (taken : K → Option (List ℕ)) (x : Storage) (told : Told) (plan : Placement) (s : Session) (m : SessionJob) (t : Task) (stop : Stop) (old new : Machine) (paper paper' : K)
     → TryMeets taken x told plan s m t (Err stop) old new paper paper' → TablesStay (Err stop) old.tasks new.tasks
 tables_after_stop taken x told plan s m t (stops.NoCore words size) old new paper paper' meets = absurd meets
 tables_after_stop taken x told plan s m t (stops.BackingFull sum size) old new paper paper' meets = absurd meets
@@ -141,22 +142,33 @@ pub tables_from : (answered : Result Attempt Stop) (old mid new : Tasks) → mid
 tables_from answered old mid new same stay = let P : Tasks → Type 0 = λ k. TablesStay answered k new in subst P same stay
 
 -- core has room where a try stopped
-pub room_after_stop : (core : ℕ) (s : Session) (m : Member) (t : Task) (stop : Stop) → TryFits core s m t (Err stop) → AttemptFits core s m t (Err stop)
-room_after_stop core s m t (stops.NoCore words size) fits = tt
-room_after_stop core s m t (stops.BackingFull sum size) fits = tt
-room_after_stop core s m t stops.BackingFault fits = tt
-room_after_stop core s m t stops.PrintFault fits = fits
-room_after_stop core s m t stops.Unbuilt fits = tt
+pub room_after_stop : {K : Type 0} (taken : K → Option (List ℕ)) (told : Told) (old new : Machine) (paper paper' : K) (core : ℕ) (x : Storage) (plan : Placement) (s : Session) (m : SessionJob) (t : Task) (stop : Stop)
+    → TryMeets taken x told plan s m t (Err stop) old new paper paper' → TryFits core s m t (Err stop) → AttemptFits core x plan s m t (Err stop)
+room_after_stop taken told old new paper paper' core x plan s m t (stops.NoCore words size) meets fits = absurd meets
+room_after_stop taken told old new paper paper' core x plan s m t (stops.BackingFull sum size) meets fits = absurd meets
+room_after_stop taken told old new paper paper' core x plan s m t stops.BackingFault meets fits = absurd meets
+room_after_stop taken told old new paper paper' core x plan s m t stops.PrintFault meets fits = fits
+room_after_stop taken told old new paper paper' core x plan s m t stops.Unbuilt meets fits = tt
 
-pub no_room_asked : (core : ℕ) (s : Session) (m : Member) (t : Task) (stop : Stop) → stop ≢ stops.PrintFault → AttemptFits core s m t (Err stop)
-no_room_asked core s m t (stops.NoCore words size) other = tt
-no_room_asked core s m t (stops.BackingFull sum size) other = tt
-no_room_asked core s m t stops.BackingFault other = tt
-no_room_asked core s m t stops.PrintFault other = absurd (other refl)
-no_room_asked core s m t stops.Unbuilt other = tt
+-- and where what was wanted wasn't brought in
+pub room_after_want : (core size : ℕ) (x : Storage) (plan : Placement) (s : Session) (m : SessionJob) (t : Task) (stop : Stop) → size ≡ core → stop ≢ stops.PrintFault → BroughtFits size x plan s m t (Err stop) → AttemptFits core x plan s m t (Err stop)
+room_after_want core size x plan s m t (stops.NoCore words size') e other fits = tt
+room_after_want core size x plan s m t (stops.BackingFull sum size') e other fits = λ code. subst (λ (n : ℕ). need n s m t ≤ n) e (fits code)
+room_after_want core size x plan s m t stops.BackingFault e other fits = λ code. subst (λ (n : ℕ). need n s m t ≤ n) e (fits code)
+room_after_want core size x plan s m t stops.PrintFault e other fits = absurd (other refl)
+room_after_want core size x plan s m t stops.Unbuilt e other fits = tt
+
+-- where the segment is present in one storage, it may be asked about another
+fits_from : (core : ℕ) (x y : Storage) (plan : Placement) (s : Session) (m : SessionJob) (t : Task) (answered : Result Attempt Stop) → code_area y plan m t ≢ None → AttemptFits core y plan s m t answered → AttemptFits core x plan s m t answered
+fits_from core x y plan s m t (Ok attempted) code fits = fits
+fits_from core x y plan s m t (Err (stops.NoCore words size)) code fits = tt
+fits_from core x y plan s m t (Err (stops.BackingFull sum size)) code fits = λ here. fits code
+fits_from core x y plan s m t (Err stops.BackingFault) code fits = λ here. fits code
+fits_from core x y plan s m t (Err stops.PrintFault) code fits = fits
+fits_from core x y plan s m t (Err stops.Unbuilt) code fits = tt
 
 -- less is told of a device that tells nothing
-module _ {K : Type 0} (taken : K → Option (List ℕ)) (told : Told) (exact other : Type 0) (core count before : ℕ) (plan : Plan) (s : Session) (m : Member) (t : Task) (new : Machine) (paper paper' : K) (f : other → exact) where
+module _ {K : Type 0} (taken : K → Option (List ℕ)) (told : Told) (exact other : Type 0) (core count before : ℕ) (plan : Placement) (s : Session) (m : SessionJob) (t : Task) (new : Machine) (paper paper' : K) (f : other → exact) where
   weaker : (answered : Result Attempt Stop) → AttemptMeets taken told exact core count before plan s m t answered new paper paper' → AttemptMeets taken told other core count before plan s m t answered new paper paper'
   weaker (Ok attempts.Made) meets = meets
   weaker (Ok (attempts.Ends ending)) meets = (λ e. meets.0 (f e), meets.1, meets.2)
@@ -172,15 +184,15 @@ module _ {K : Type 0} (taken : K → Option (List ℕ)) (told : Told) (exact oth
   weaker (Err stops.Unbuilt) meets = meets
 
 -- an attempt that goes on in the session that stands again
-module _ {K : Type 0} (taken : K → Option (List ℕ)) (x : Storage) (told told' : Told) (k : Machine) (core count before : ℕ) (plan : Plan) (s : Session) (t : Task) (again : StandsAgain x told k plan s) (tells : x.device ≢ None → told ≢ None) where
+module _ {K : Type 0} (taken : K → Option (List ℕ)) (x : Storage) (told told' : Told) (k : Machine) (core count before : ℕ) (plan : Placement) (s : Session) (t : Task) (again : StandsAgain x told k plan s) (tells : x.device ≢ None → told ≢ None) where
   present : x.device ≢ None → again.storage.device ≢ None
   present n = let P : Told → Type 0 = λ d. d ≢ None in subst P (sym again.device) (retold_some x.device told tells n)
 
-  pub retold_same : retold again.storage.device told' ≡ retold x.device told'
-  retold_same = ap (λ (d : Told). retold d told') again.device ∙ retold_twice x.device told told' tells
+  pub retold_same : content_after again.storage.device told' ≡ content_after x.device told'
+  retold_same = ap (λ (d : Told). content_after d told') again.device ∙ retold_twice x.device told told' tells
 
-  pub goes_on : (answered : Result Attempt Stop) (new : Machine) (paper paper' : K) → Attempts taken again.storage (retold again.storage.device told') core count before plan (record s { jobs = again.jobs }) t answered new paper paper'
-      → Attempts taken x (retold x.device told') core count before plan s t answered new paper paper'
+  pub goes_on : (answered : Result Attempt Stop) (new : Machine) (paper paper' : K) → Attempts taken again.storage (content_after again.storage.device told') core count before plan (record s { jobs = again.jobs }) t answered new paper paper'
+      → Attempts taken x (content_after x.device told') core count before plan s t answered new paper paper'
   goes_on answered new paper paper' a =
       let M : Told → Type 0 = λ d. AttemptMeets taken d (x.device ≢ None) core count before plan (record s { jobs = a.jobs }) a.member t answered new paper paper' in
       record {
@@ -189,11 +201,11 @@ module _ {K : Type 0} (taken : K → Option (List ℕ)) (x : Storage) (told told
         same = λ n. a.same (present n) ∙ again.same n;
         member = a.member;
         running = a.running;
-        meets = subst M retold_same (weaker taken (retold again.storage.device told') (again.storage.device ≢ None) (x.device ≢ None) core count before plan (record s { jobs = a.jobs }) a.member t new paper paper' present answered a.meets);
+        meets = subst M retold_same (weaker taken (content_after again.storage.device told') (again.storage.device ≢ None) (x.device ≢ None) core count before plan (record s { jobs = a.jobs }) a.member t new paper paper' present answered a.meets);
       }
 
 -- a stop is the attempt's
-pub stopped_attempt : {K : Type 0} (taken : K → Option (List ℕ)) (x : Storage) (told : Told) (core count before : ℕ) (plan : Plan) (s : Session) (t : Task) (stop : Stop) (new : Machine) (paper : K) → Stopped x told core count plan s t stop new
+pub stopped_attempt : {K : Type 0} (taken : K → Option (List ℕ)) (x : Storage) (told : Told) (core count before : ℕ) (plan : Placement) (s : Session) (t : Task) (stop : Stop) (new : Machine) (paper : K) → Stopped x told core count plan s t stop new
     → Attempts taken x told core count before plan s t (Err stop) new paper paper
 stopped_attempt taken x told core count before plan s t stop new paper a = record { jobs = a.jobs; others = a.others; same = a.same; member = a.member; running = a.running; meets = by stop a.meets } where
   by : (why : Stop) → StopMeets told (x.device ≢ None) core count plan (record s { jobs = a.jobs }) a.member t why new → AttemptMeets taken told (x.device ≢ None) core count before plan (record s { jobs = a.jobs }) a.member t (Err why) new paper paper
@@ -204,23 +216,23 @@ stopped_attempt taken x told core count before plan s t stop new paper a = recor
   by stops.Unbuilt meets = absurd meets
 
 -- the same member where there are the same jobs
-pub same_member : (plan : Plan) (s : Session) (jobs : List Member) (m : Member) (t : Task) → IsRunning plan s.jobs m t → (r : RunsOther plan jobs m t) → jobs ≡ s.jobs → r.member ≡ m
+pub same_member : (plan : Placement) (s : Session) (jobs : List SessionJob) (m : SessionJob) (t : Task) → IsRunning plan s.jobs m t → (r : RunsOther plan jobs m t) → jobs ≡ s.jobs → r.member ≡ m
 same_member plan s jobs m t runs r e =
-    let number_is : r.member.setting.number ≡ m.setting.number = ap (λ (z : Member). z.setting.number) r.other.rest in
-    let at : keyed number_of m.setting.number s.jobs ≡ Some r.member =
-    ap (λ (j : ℕ). keyed number_of j s.jobs) (sym number_is) ∙ ap (λ (z : List Member). keyed number_of r.member.setting.number z) (sym e) ∙ r.runs.member in
+    let number_is : r.member.constants.number ≡ m.constants.number = ap (λ (z : SessionJob). z.constants.number) r.other.rest in
+    let at : keyed number_of m.constants.number s.jobs ≡ Some r.member =
+    ap (λ (j : ℕ). keyed number_of j s.jobs) (sym number_is) ∙ ap (λ (z : List SessionJob). keyed number_of r.member.constants.number z) (sym e) ∙ r.runs.member in
     same_Some r.member m (sym at ∙ runs.member)
 
 -- the machine after something was brought in
-module _ (x : Storage) (told : Told) (k : Machine) (plan : Plan) (s : Session) (m : Member) (t : Task) (o : IsInOrderButPlaces s) (runs : IsRunning plan s.jobs m t) (found : What) (b : Brings x told k plan s m t found) where
+module _ (x : Storage) (told : Told) (k : Machine) (plan : Placement) (s : Session) (m : SessionJob) (t : Task) (o : IsInOrderButPlaces s) (runs : IsRunning plan s.jobs m t) (found : What) (b : Brings x told k plan s m t found) where
   pub other : RunsOther plan b.again.jobs m t
   other = others_running plan s.jobs b.again.jobs b.again.others m t runs
 
   pub in_order : IsInOrderButPlaces (record s { jobs = b.again.jobs })
   in_order = other_numbers_keep_order s b.again.jobs b.again.others o
 
-  number_is : other.member.setting.number ≡ m.setting.number
-  number_is = ap (λ (z : Member). z.setting.number) other.other.rest
+  number_is : other.member.constants.number ≡ m.constants.number
+  number_is = ap (λ (z : SessionJob). z.constants.number) other.other.rest
 
   pub code_there : code_area b.again.storage plan other.member t ≢ None
   code_there = λ e. b.code (ap (λ (j : ℕ). (b.again.storage.held (plan.dictionary j + 1 + t.segment)).area) (sym number_is) ∙ e)
@@ -239,29 +251,30 @@ module _ (x : Storage) (told : Told) (k : Machine) (plan : Plan) (s : Session) (
       record {
         code = d.code;
         array = λ n e none. let same : a.identity ≡ n = same_Some a.identity n (sym is ∙ e) in
-            d.there (ap (λ (at : ℕ). (d.again.storage.held at).area) (sym home_is ∙ ap (plan.home m.setting.number) same) ∙ none);
+            d.there (ap (λ (at : ℕ). (d.again.storage.held at).area) (sym home_is ∙ ap (plan.home m.constants.number) same) ∙ none);
       }
 
   pub wants_nothing : (words : ℕ) → code_area x plan m t ≢ None → IsWanted x plan m t found words → IsTouched plan m t found words → b.again.storage.device ≢ None → WantsNothing b.again.storage plan other.member t
   wants_nothing words code w touched n =
       let P : Told → Type 0 = λ d. d ≢ None in
       let tells : x.device ≢ None = retold_back x.device told (subst P b.again.device n) in
-      let W : Member → Type 0 = λ z. WantsNothing b.again.storage plan z t in
+      let W : SessionJob → Type 0 = λ z. WantsNothing b.again.storage plan z t in
       subst W (sym (member_is (b.again.same tells))) (nothing found words code w touched b b)
 
 -- what core has room for afterwards it had room for before, where the device tells
-module _ (x : Storage) (told : Told) (k : Machine) (plan : Plan) (s : Session) (m : Member) (t : Task) (o : IsInOrderButPlaces s) (runs : IsRunning plan s.jobs m t) (found : What) (b : Brings x told k plan s m t found) (n : x.device ≢ None) (tells : x.device ≢ None → told ≢ None) where
+module _ (x : Storage) (told : Told) (k : Machine) (plan : Placement) (s : Session) (m : SessionJob) (t : Task) (o : IsInOrderButPlaces s) (runs : IsRunning plan s.jobs m t) (found : What) (b : Brings x told k plan s m t found) (n : x.device ≢ None) (tells : x.device ≢ None → told ≢ None) where
   pub still_told : b.again.storage.device ≢ None
   still_told = let P : Told → Type 0 = λ d. d ≢ None in subst P (sym b.again.device) (retold_some x.device told tells n)
 
-  pub same_needs : (size core : ℕ) (answered : Result Attempt Stop) → size ≡ core → AttemptFits size (record s { jobs = b.again.jobs }) (other x told k plan s m t o runs found b).member t answered → AttemptFits core s m t answered
+  pub same_needs : (size core : ℕ) (answered : Result Attempt Stop) → size ≡ core → AttemptFits size b.again.storage plan (record s { jobs = b.again.jobs }) (other x told k plan s m t o runs found b).member t answered → AttemptFits core x plan s m t answered
   same_needs size core answered e fits =
       let same = b.again.same n in
       let z = (other x told k plan s m t o runs found b).member in
-      let C : ℕ → Type 0 = λ c. AttemptFits c (record s { jobs = b.again.jobs }) z t answered in
-      let M : Member → Type 0 = λ y. AttemptFits core (record s { jobs = b.again.jobs }) y t answered in
-      let S : List Member → Type 0 = λ jobs. AttemptFits core (record s { jobs = jobs }) m t answered in
-      subst S same (subst M (member_is x told k plan s m t o runs found b same) (subst C e fits))
+      let here = fits_from size x b.again.storage plan (record s { jobs = b.again.jobs }) z t answered (code_there x told k plan s m t o runs found b) fits in
+      let C : ℕ → Type 0 = λ c. AttemptFits c x plan (record s { jobs = b.again.jobs }) z t answered in
+      let M : SessionJob → Type 0 = λ y. AttemptFits core x plan (record s { jobs = b.again.jobs }) y t answered in
+      let S : List SessionJob → Type 0 = λ jobs. AttemptFits core x plan (record s { jobs = jobs }) m t answered in
+      subst S same (subst M (member_is x told k plan s m t o runs found b same) (subst C e here))
 
 -- what is wanted, where the try changed nothing
 pub wants_some : {K : Type 0} (taken : K → Option (List ℕ)) (told : Told) (old new : Machine) (paper paper' : K) (found : What) (r : RunsOver old told) → TryMeets taken r.storage r.storage.device r.plan r.session r.member r.task (Ok (tries.Absent found)) old new paper paper' → WantsSome new told found
@@ -279,7 +292,7 @@ wants_some taken told old new paper paper' found r w = record {
 }
 
 -- at equal numbers and printers
-pub attempt_as : {K : Type 0} (taken : K → Option (List ℕ)) (x : Storage) (told told' : Told) (core core' count count' before before' : ℕ) (plan : Plan) (s : Session) (t : Task) (answered : Result Attempt Stop) (new : Machine) (paper first paper' : K) → told ≡ told' → core ≡ core' → count ≡ count'
+pub attempt_as : {K : Type 0} (taken : K → Option (List ℕ)) (x : Storage) (told told' : Told) (core core' count count' before before' : ℕ) (plan : Placement) (s : Session) (t : Task) (answered : Result Attempt Stop) (new : Machine) (paper first paper' : K) → told ≡ told' → core ≡ core' → count ≡ count'
     → before ≡ before' → first ≡ paper → Attempts taken x told core count before plan s t answered new first paper' → Attempts taken x told' core' count' before' plan s t answered new paper paper'
 attempt_as {K} taken x told told' core core' count count' before before' plan s t answered new paper first paper' a b c d e h =
     let A : Told → Type 0 = λ z. Attempts taken x z core' count' before' plan s t answered new paper paper' in
@@ -290,15 +303,15 @@ attempt_as {K} taken x told told' core core' count count' before before' plan s 
     subst A a (subst B b (subst C c (subst D d (subst E e h))))
 
 -- the tries after something was brought in
-module _ {K : Type 0} (taken : K → Option (List ℕ)) (x : Storage) (told told' after : Told) (new last : Machine) (core count printed : ℕ) (plan : Plan) (s : Session) (m : Member) (t : Task) (o : IsInOrderButPlaces s) (runs : IsRunning plan s.jobs m t) (found : What)
+module _ {K : Type 0} (taken : K → Option (List ℕ)) (x : Storage) (told told' after : Told) (new last : Machine) (core count printed : ℕ) (plan : Placement) (s : Session) (m : SessionJob) (t : Task) (o : IsInOrderButPlaces s) (runs : IsRunning plan s.jobs m t) (found : What)
     (b : Brings x told' new plan s m t found) (ready : t.condition ≡ Ready) (tells : x.device ≢ None → told' ≢ None) (answered : Result Attempt Stop) (paper first paper' : K) (same_paper : first ≡ paper) (same_printed : new.tasks.printed ≡ printed) where
   -- what the last try shows
   abbrev pub Last : Type 0
   Last =
-      (y : Storage) (core count : ℕ) (plan : Plan) (s : Session) (m : Member) (t : Task) → IsInOrderButPlaces s → MachineStands y y.device new plan s → IsRunning plan s.jobs m t → t.condition ≡ Ready → (y.device ≢ None → WantsNothing y plan m t)
+      (y : Storage) (core count : ℕ) (plan : Placement) (s : Session) (m : SessionJob) (t : Task) → IsInOrderButPlaces s → MachineRepresents y y.device new plan s → IsRunning plan s.jobs m t → t.condition ≡ Ready → (y.device ≢ None → WantsNothing y plan m t)
       → Attempts taken y y.device core count new.tasks.printed plan s t answered last first paper'
 
-  pub then_last : (words : ℕ) → code_area x plan m t ≢ None → IsWanted x plan m t found words → IsTouched plan m t found words → Last → Attempts taken x (retold x.device told') core count printed plan s t answered last paper paper'
+  pub then_last : (words : ℕ) → code_area x plan m t ≢ None → IsWanted x plan m t found words → IsTouched plan m t found words → Last → Attempts taken x (content_after x.device told') core count printed plan s t answered last paper paper'
   then_last words code wanted touched row =
       let y = b.again.storage in
       let s' : Session = record s { jobs = b.again.jobs } in
@@ -306,20 +319,20 @@ module _ {K : Type 0} (taken : K → Option (List ℕ)) (x : Storage) (told told
       let it : Attempts taken y y.device core count new.tasks.printed plan s' t answered last first paper' =
       row y core count plan s' r.member t (in_order x told' new plan s m t o runs found b) b.again.stands.stands r.runs ready (wants_nothing x told' new plan s m t o runs found b words code wanted touched) in
       goes_on taken x told' told' new core count printed plan s t b.again tells answered last paper paper'
-      (attempt_as taken y y.device (retold y.device told') core core count count new.tasks.printed printed plan s' t answered last paper first paper' (sym (told_is y.device told' b.again.stands.says)) refl refl same_printed same_paper it)
+      (attempt_as taken y y.device (content_after y.device told') core core count count new.tasks.printed printed plan s' t answered last paper first paper' (sym (told_is y.device told' b.again.stands.says)) refl refl same_printed same_paper it)
 
   -- what the tries behind the code's show
   abbrev pub Coded : ℕ → ℕ → Type 0
   Coded core count =
-      (y : Storage) (plan : Plan) (s : Session) (m : Member) (t : Task) → IsInOrderButPlaces s → StandsOver y told' new plan s → IsRunning plan s.jobs m t → t.condition ≡ Ready → code_area y plan m t ≢ None
-      → Attempts taken y (retold y.device after) core count new.tasks.printed plan s t answered last first paper'
+      (y : Storage) (plan : Placement) (s : Session) (m : SessionJob) (t : Task) → IsInOrderButPlaces s → StandsOver y told' new plan s → IsRunning plan s.jobs m t → t.condition ≡ Ready → code_area y plan m t ≢ None
+      → Attempts taken y (content_after y.device after) core count new.tasks.printed plan s t answered last first paper'
 
-  pub then_coded : (core' count' : ℕ) → core' ≡ core → count' ≡ count → Coded core' count' → Attempts taken x (retold x.device after) core count printed plan s t answered last paper paper'
+  pub then_coded : (core' count' : ℕ) → core' ≡ core → count' ≡ count → Coded core' count' → Attempts taken x (content_after x.device after) core count printed plan s t answered last paper paper'
   then_coded core' count' same_core same_count row =
       let y = b.again.storage in
       let s' : Session = record s { jobs = b.again.jobs } in
       let r = other x told' new plan s m t o runs found b in
-      let it : Attempts taken y (retold y.device after) core' count' new.tasks.printed plan s' t answered last first paper' =
+      let it : Attempts taken y (content_after y.device after) core' count' new.tasks.printed plan s' t answered last first paper' =
       row y plan s' r.member t (in_order x told' new plan s m t o runs found b) b.again.stands r.runs ready (code_there x told' new plan s m t o runs found b) in
       goes_on taken x told' after new core count printed plan s t b.again tells answered last paper paper'
-      (attempt_as taken y (retold y.device after) (retold y.device after) core' core count' count new.tasks.printed printed plan s' t answered last paper first paper' refl same_core same_count same_printed same_paper it)
+      (attempt_as taken y (content_after y.device after) (content_after y.device after) core' core count' count new.tasks.printed printed plan s' t answered last paper first paper' refl same_core same_count same_printed same_paper it)

@@ -3,7 +3,8 @@ use Rattle.std.proofs.Common.{◌≡◌, ℕ, ◌≤◌, length, Option, Some, N
 use Rattle.std.specs.Prelude.{nat_lt, unwrap_or, if◌then◌else◌}
 use Rattle.std.proofs.lemmas.Bool.{cases_Bool}
 use Rattle.b67_lemmas.specs.Lists.{Has}
-use Rattle.b67_model.specs.State.{Array, Task, Member}
+use Rattle.b67_lemmas.proofs.Members.{all_in, keyed_falls}
+use Rattle.b67_model.specs.State.{Array, Task, SessionJob}
 use Rattle.b67_model.specs.Answers.{Answer}
 use Rattle.b67_model.specs.Steps.{Done}
 use Rattle.b67_model.specs.Arrays.{no_array, array}
@@ -11,11 +12,10 @@ use Rattle.b67_model.specs.Rows.{step}
 use Rattle.b67_model.specs.Need.{touched_of, started_by, need}
 use Rattle.b67_model.specs.Schedule.{Session}
 use Rattle.b67_model.specs.InOrder.{ArrayInOrder, IsInOrderButPlaces}
-use Rattle.b67_law_order.proofs.Members.{all_in, keyed_falls}
 use Rattle.b67_stack.specs.declared.Cpu.{Cpu}
-use Rattle.b67_stack.specs.Stands.{Storage}
-use Rattle.b67_layout.specs.Plan.{Plan}
-use Rattle.b67_layout.specs.Session.{IsRunning, SessionStands}
+use Rattle.b67_stack.specs.Represents.{Storage}
+use Rattle.b67_layout.specs.Placement.{Placement}
+use Rattle.b67_layout.specs.Session.{IsRunning, RepresentsSession}
 use Rattle.b67_layout.specs.Meets.{area_held, IsPresent}
 use Rattle.b67_layout.proofs.Fresh.{running_in_order}
 use Rattle.b67_exec_cells.specs.Running.{code_area}
@@ -28,37 +28,37 @@ use Rattle.b67_session_attempt.proofs.Space.{has_space}
 chosen : (core base full n : ℕ) → n ≡ (if nat_lt core base then base else full) → base ≤ core → full ≤ core → n ≤ core
 chosen core base full n e low high = ⊎_elim (λ t. omega (arith, rw t at e, low)) (λ t. omega (arith, rw t at e, high)) (cases_Bool (nat_lt core base))
 
-module _ (x : Storage) (cpu : Cpu) (plan : Plan) (s : Session) (m : Member) (t : Task) (o : IsInOrderButPlaces s) (h : SessionStands x cpu plan s) (runs : IsRunning plan s.jobs m t) (at : ℕ) (present : code_area x plan m t ≡ Some at) where
+module _ (x : Storage) (cpu : Cpu) (plan : Placement) (s : Session) (m : SessionJob) (t : Task) (o : IsInOrderButPlaces s) (h : RepresentsSession x cpu plan s) (runs : IsRunning plan s.jobs m t) (at : ℕ) (present : code_area x plan m t ≡ Some at) where
   space : HasSpace x plan s m t (length cpu.core)
   space = has_space x cpu plan s m t o h runs at present
 
   -- the array of an identity
-  array_is : (a : Array) (n : ℕ) → Has m.course.job.arrays a → a.identity ≡ n → array m.course.job n ≡ a
+  array_is : (a : Array) (n : ℕ) → Has m.progress.job.arrays a → a.identity ≡ n → array m.progress.job n ≡ a
   array_is a n among is =
       let names = (running_in_order plan s m t o runs).0.tasks.names in
-      ap (array m.course.job) (sym is) ∙ ap (λ (f : Option Array). unwrap_or f no_array) (keyed_falls (λ (y : Array). y.identity) m.course.job.next_array m.course.job.arrays a names among)
+      ap (array m.progress.job) (sym is) ∙ ap (λ (f : Option Array). unwrap_or f no_array) (keyed_falls (λ (y : Array). y.identity) m.progress.job.next_array m.progress.job.arrays a names among)
 
-  touched_space : (touched : Option ℕ) → IsPresent x plan m.setting.number touched → IsOfJob m.course.job touched
-      → HasWords m.course.job touched × (need_with s m t 0 (touched_words m.course.job touched) ≤ length cpu.core)
+  touched_space : (touched : Option ℕ) → IsPresent x plan m.constants.number touched → IsOfJob m.progress.job touched
+      → HasWords m.progress.job touched × (need_with s m t 0 (touched_words m.progress.job touched) ≤ length cpu.core)
   touched_space None p q = (tt, space.code)
   touched_space (Some n) (there, held) (a, among, is) =
-      let count : length (array m.course.job n).numbers ≡ length a.numbers = ap (λ (y : Array). length y.numbers) (array_is a n among is) in
-      let some = (all_in ArrayInOrder m.course.job.arrays a (running_in_order plan s m t o runs).0.tasks.arrays among).length_low in
-      let fits = space.array a there among (ap (area_held x plan m.setting.number) is ∙ held) in
+      let count : length (array m.progress.job n).numbers ≡ length a.numbers = ap (λ (y : Array). length y.numbers) (array_is a n among is) in
+      let some = (all_in ArrayInOrder m.progress.job.arrays a (running_in_order plan s m t o runs).0.tasks.arrays among).length_low in
+      let fits = space.array a there among (ap (area_held x plan m.constants.number) is ∙ held) in
       (λ e. omega (arith, e, count, some), subst (λ (w : ℕ). need_with s m t 0 w ≤ length cpu.core) (sym count) fits)
 
-  need_fits : IsPresent x plan m.setting.number (touched_of m.setting m.course.job t (step m.setting m.course.job t)) → IsOfJob m.course.job (touched_of m.setting m.course.job t (step m.setting m.course.job t))
-      → started_by m.course.job (step m.setting m.course.job t) ≡ 0 → need (length cpu.core) s m t ≤ length cpu.core
+  need_fits : IsPresent x plan m.constants.number (touched_of m.constants m.progress.job t (step m.constants m.progress.job t)) → IsOfJob m.progress.job (touched_of m.constants m.progress.job t (step m.constants m.progress.job t))
+      → started_by m.progress.job (step m.constants m.progress.job t) ≡ 0 → need (length cpu.core) s m t ≤ length cpu.core
   need_fits p q none =
-      let made : Answer Done = step m.setting m.course.job t in
-      let touched = touched_of m.setting m.course.job t made in
-      let words = touched_words m.course.job touched in
+      let made : Answer Done = step m.constants m.progress.job t in
+      let touched = touched_of m.constants m.progress.job t made in
+      let words = touched_words m.progress.job touched in
       let (some, fits) = touched_space touched p q in
-      chosen (length cpu.core) (need_with s m t 0 0) (need_with s m t (started_by m.course.job made) words) (need (length cpu.core) s m t)
+      chosen (length cpu.core) (need_with s m t 0 0) (need_with s m t (started_by m.progress.job made) words) (need (length cpu.core) s m t)
       (need_whole (length cpu.core) s m t o.peak_low made refl some) space.code
       (subst (λ (k : ℕ). need_with s m t k words ≤ length cpu.core) (sym none) fits)
 
 pub made_fit : MadeFits
 made_fit cpu x plan s m t o h runs at touched present is there among none =
     need_fits x cpu plan s m t o h runs at present
-    (subst (IsPresent x plan m.setting.number) (sym is) there) (subst (IsOfJob m.course.job) (sym is) among) none
+    (subst (IsPresent x plan m.constants.number) (sym is) there) (subst (IsOfJob m.progress.job) (sym is) among) none

@@ -4,13 +4,13 @@ use Rattle.b67_word.specs.declared.couples.Place.{Place}
 use Rattle.b67_model.specs.Answers.{Answer}
 use Rattle.b67_model.specs.Words.{Word, Operand, Name, Ref, Row, Element, Original, Proc, Intrinsic}
 use Rattle.b67_model.specs.Words as Words
-use Rattle.b67_model.specs.State.{Array, Frame, Standing, Marked, Entered, Return, Task, Job, Member, Here, top}
+use Rattle.b67_model.specs.State.{Array, Frame, Standing, Marked, Entered, Return, Task, Job, SessionJob, OperatorContext, top}
 use Rattle.b67_model.specs.Chase.{End, AtCell, AtElement, AtArray, AtProc, AtIntrinsic, follow}
 use Rattle.b67_model.specs.Steps.{Line, Done, Goes, Leaves, Waits, top_of, cells_of, leaves_cells, without_arrays_of}
 use Rattle.b67_model.specs.Entry.{accident, evaluates, left, leaves, exit, returnable, returned, retn_word, retn}
 use Rattle.b67_law_order.proofs.Posts.{Post, post_ok, post_err, post_any, post_then, post_at}
 use Rattle.b67_layout.specs.Meets.{here}
-use Rattle.b67_layout_leave.proofs.Things.{others}
+use Rattle.b67_layout_leave.proofs.Objects.{others}
 
 pub record IsEntered (standing : Standing) : Type 0 where
   pub level : ℕ
@@ -28,24 +28,24 @@ module _ (standing : Standing) (arrays : List Array) (entered : IsEntered standi
   abbrev L : Done → Type 0
   L = Leaving standing arrays
 
-  cells_left : (h : Here) (cells : List Word) (touched : Option ℕ) → h.job.arrays ≡ arrays → Post L (leaves_cells h cells touched)
+  cells_left : (h : OperatorContext) (cells : List Word) (touched : Option ℕ) → h.job.arrays ≡ arrays → Post L (leaves_cells h cells touched)
   cells_left h cells touched e = post_then L _ _ (post_ok L _ (entered, e))
 
-  accident_left : (h : Here) (cells : List Word) (back : Return) (end : End) → h.job.arrays ≡ arrays → Post L (accident h cells back end)
+  accident_left : (h : OperatorContext) (cells : List Word) (back : Return) (end : End) → h.job.arrays ≡ arrays → Post L (accident h cells back end)
   accident_left h cells back (AtProc f segment level place) e = post_then L _ _ (post_then L _ _ (post_ok L _ (entered, e)))
   accident_left h cells back (AtCell f offset bits) e = post_err L _
   accident_left h cells back (AtElement a index) e = post_err L _
   accident_left h cells back (AtArray a) e = post_err L _
   accident_left h cells back (AtIntrinsic n) e = post_err L _
 
-  evaluates_left : (h : Here) (end : End) → h.job.arrays ≡ arrays → Post L (evaluates h end)
+  evaluates_left : (h : OperatorContext) (end : End) → h.job.arrays ≡ arrays → Post L (evaluates h end)
   evaluates_left h (AtCell f offset bits) e = cells_left h _ None e
   evaluates_left h (AtElement a index) e = cells_left h _ (Some a) e
   evaluates_left h (AtProc f segment level place) e = accident_left h _ _ (AtProc f segment level place) e
   evaluates_left h (AtArray a) e = post_err L _
   evaluates_left h (AtIntrinsic n) e = post_err L _
 
-  returned_left : (h : Here) (w : Word) (value : Bool) → h.job.arrays ≡ arrays → Post L (returned h w value)
+  returned_left : (h : OperatorContext) (w : Word) (value : Bool) → h.job.arrays ≡ arrays → Post L (returned h w value)
   returned_left h w false e = cells_left h _ None e
   returned_left h (Operand bits) true e = cells_left h _ None e
   returned_left h (Name couple) true e = post_any L (follow h (Name couple)) _ (λ end. evaluates_left h end e)
@@ -58,17 +58,17 @@ module _ (standing : Standing) (arrays : List Array) (entered : IsEntered standi
   returned_left h (Words.Segment n) true e = post_any L (follow h (Words.Segment n)) _ (λ end. evaluates_left h end e)
 
 -- what is left without the top frame
-leaves_left : (h : Here) (standing : Standing) (go : Here → Bool → Answer Done)
-    → ((k : Here) (value : Bool) → IsEntered standing → k.job.arrays ≡ (without_arrays_of (top_of h).identity h.job).arrays → Post (Leaving standing (without_arrays_of (top_of h).identity h.job).arrays) (go k value))
+leaves_left : (h : OperatorContext) (standing : Standing) (go : OperatorContext → Bool → Answer Done)
+    → ((k : OperatorContext) (value : Bool) → IsEntered standing → k.job.arrays ≡ (without_arrays_of (top_of h).identity h.job).arrays → Post (Leaving standing (without_arrays_of (top_of h).identity h.job).arrays) (go k value))
     → Post (Leaving standing (without_arrays_of (top_of h).identity h.job).arrays) (leaves h standing go)
 leaves_left h Marked go each = post_err _ _
 leaves_left h (Entered level environment None) go each = post_then _ _ _ (post_ok _ _ tt)
 leaves_left h (Entered level environment (Some back)) go each = post_then _ _ _ (each (left h back) back.value (record { level = level; environment = environment; back = Some back; is = refl }) refl)
 
-exit_left : (h : Here) → Post (Leaving (top_of h).standing (without_arrays_of (top_of h).identity h.job).arrays) (exit h)
+exit_left : (h : OperatorContext) → Post (Leaving (top_of h).standing (without_arrays_of (top_of h).identity h.job).arrays) (exit h)
 exit_left h = leaves_left h (top_of h).standing _ (λ k value entered e. post_then _ _ _ (post_ok _ _ (entered, e)))
 
-retn_word_left : (h : Here) (standing : Standing) (cells : List Word) → Post (Leaving standing (without_arrays_of (top_of h).identity h.job).arrays) (retn_word h standing cells)
+retn_word_left : (h : OperatorContext) (standing : Standing) (cells : List Word) → Post (Leaving standing (without_arrays_of (top_of h).identity h.job).arrays) (retn_word h standing cells)
 retn_word_left h Marked cells = post_err _ _
 retn_word_left h (Entered level environment back) [] = post_err _ _
 retn_word_left h (Entered level environment back) (w ∷ cells) =
@@ -92,13 +92,13 @@ left_frame old job t (f ∷ below) printed touched e some l =
     let r = subst P e l in
     record { f = f; below = below; frames = e; entered = r.0; arrays = r.1 }
 
-pub exit_frame : (m : Member) (t : Task) (q : Place) → t.frames ≢ [] → (job : Job) (printed : List Line) (touched : Option ℕ) → exit (here m t q) ≡ Ok (Goes job printed touched) → LeftFrame t m.course.job job
+pub exit_frame : (m : SessionJob) (t : Task) (q : Place) → t.frames ≢ [] → (job : Job) (printed : List Line) (touched : Option ℕ) → exit (here m t q) ≡ Ok (Goes job printed touched) → LeftFrame t m.progress.job job
 exit_frame m t q some job printed touched is =
-    left_frame m.course.job job t t.frames printed touched refl some
-    (post_at (Leaving (top t.frames).standing (without_arrays_of (top t.frames).identity m.course.job).arrays) (exit (here m t q)) (Goes job printed touched) is (exit_left (here m t q)))
+    left_frame m.progress.job job t t.frames printed touched refl some
+    (post_at (Leaving (top t.frames).standing (without_arrays_of (top t.frames).identity m.progress.job).arrays) (exit (here m t q)) (Goes job printed touched) is (exit_left (here m t q)))
 
-pub retn_frame : (m : Member) (t : Task) (q : Place) → t.frames ≢ [] → (job : Job) (printed : List Line) (touched : Option ℕ) → retn (here m t q) ≡ Ok (Goes job printed touched) → LeftFrame t m.course.job job
+pub retn_frame : (m : SessionJob) (t : Task) (q : Place) → t.frames ≢ [] → (job : Job) (printed : List Line) (touched : Option ℕ) → retn (here m t q) ≡ Ok (Goes job printed touched) → LeftFrame t m.progress.job job
 retn_frame m t q some job printed touched is =
-    left_frame m.course.job job t t.frames printed touched refl some
-    (post_at (Leaving (top t.frames).standing (without_arrays_of (top t.frames).identity m.course.job).arrays) (retn (here m t q)) (Goes job printed touched) is
+    left_frame m.progress.job job t t.frames printed touched refl some
+    (post_at (Leaving (top t.frames).standing (without_arrays_of (top t.frames).identity m.progress.job).arrays) (retn (here m t q)) (Goes job printed touched) is
     (retn_word_left (here m t q) (top t.frames).standing (cells_of (here m t q))))

@@ -3,13 +3,14 @@ pub mod Keeps
 pub mod Steps
 pub mod Tables
 pub mod Inversion
+pub mod Read
 pub mod Leavers
 pub mod Ordered
 pub mod Readied
 pub mod Releasing
-pub mod Gives
+pub mod Holes
 pub mod Made
-pub mod Read
+pub mod Gives
 pub mod Areas
 pub mod Space
 pub mod FittingMade
@@ -20,5 +21,6 @@ pub mod Mute
 pub mod AttemptFits
 pub mod Numbers
 pub mod Stops
+pub mod Runs
 pub mod Composed
 pub mod Passed

@@ -4,18 +4,17 @@ use Rattle.std.specs.Prelude.{max}
 use Rattle.std.proofs.lemmas.Bool.{lt-ltb, le-ltb}
 use Rattle.b67_area.proofs.Laws.{area_inside}
 use Rattle.b67_model.specs.Keyed.{keyed}
-use Rattle.b67_model.specs.State.{Array, Task, Job, Member}
+use Rattle.b67_model.specs.State.{Array, Task, Job, SessionJob}
 use Rattle.b67_model.specs.Arrays.{no_array, array}
 use Rattle.b67_model.specs.Need.{fixed, touched_of, started_by, area_of, need}
 use Rattle.b67_model.specs.Rows.{code_of, step}
 use Rattle.b67_model.specs.Run.{live_tasks}
 use Rattle.b67_model.specs.Schedule.{Session}
 use Rattle.b67_model.specs.InOrder.{ArrayInOrder, IsInOrderButPlaces}
-use Rattle.b67_law_order.proofs.Members.{all_in, keyed_falls}
 use Rattle.b67_stack.specs.declared.What.{What}
 use Rattle.b67_stack.specs.declared.What.TheVariants as what
-use Rattle.b67_stack.specs.Stands.{Storage, info_of}
-use Rattle.b67_layout.specs.Plan.{Plan}
+use Rattle.b67_stack.specs.Represents.{Storage, info_of}
+use Rattle.b67_layout.specs.Placement.{Placement}
 use Rattle.b67_layout.specs.Session.{IsRunning}
 use Rattle.b67_layout.proofs.Fresh.{running_in_order}
 use Rattle.b67_exec_cells.specs.Running.{code_area}
@@ -23,15 +22,16 @@ use Rattle.b67_exec_cells.proofs.Codes.{area-inside}
 use Rattle.b67_task_need.specs.Needing.{array_area, need_with}
 use Rattle.b67_task_need.proofs.Needs.{need_above_low}
 use Rattle.b67_task_tables.specs.declared.tables.Machine.{Machine}
-use Rattle.b67_task_tables.specs.Tables.{MachineStands}
+use Rattle.b67_task_tables.specs.Tables.{MachineRepresents}
 use Rattle.b67_presence.specs.Bringing.{IsWanted}
 use Rattle.b67_presence.proofs.Wants.{array_area-some}
 use Rattle.b67_session_attempt.specs.Tries.{IsTouched}
 use Rattle.b67_session_attempt.proofs.Started.{none_started}
+use Rattle.b67_lemmas.proofs.Members.{all_in, keyed_falls}
 
-module _ (core : ℕ) (s : Session) (m : Member) (t : Task) (low : live_tasks s.jobs ≤ s.peak) where
+module _ (core : ℕ) (s : Session) (m : SessionJob) (t : Task) (low : live_tasks s.jobs ≤ s.peak) where
   abbrev base : ℕ
-  base = fixed s.jobs + s.peak * m.setting.stack_size + (length (code_of m.setting t.segment) + 2)
+  base = fixed s.jobs + s.peak * m.constants.stack_size + (length (code_of m.constants t.segment) + 2)
 
   peak_is : max s.peak (live_tasks s.jobs + 0) ≡ s.peak
   peak_is = omega (arith, low)
@@ -39,40 +39,40 @@ module _ (core : ℕ) (s : Session) (m : Member) (t : Task) (low : live_tasks s.
   base_is : base ≡ need_with s m t 0 0
   base_is = rw peak_is (omega arith)
 
-  whole_is : (n area : ℕ) → n ≡ 0 → fixed s.jobs + max s.peak (live_tasks s.jobs + n) * m.setting.stack_size + (length (code_of m.setting t.segment) + 2) + area ≡ base + area
-  whole_is n area e = ap (λ (k : ℕ). fixed s.jobs + max s.peak (live_tasks s.jobs + k) * m.setting.stack_size + (length (code_of m.setting t.segment) + 2) + area) e ∙ rw peak_is refl
+  whole_is : (n area : ℕ) → n ≡ 0 → fixed s.jobs + max s.peak (live_tasks s.jobs + n) * m.constants.stack_size + (length (code_of m.constants t.segment) + 2) + area ≡ base + area
+  whole_is n area e = ap (λ (k : ℕ). fixed s.jobs + max s.peak (live_tasks s.jobs + k) * m.constants.stack_size + (length (code_of m.constants t.segment) + 2) + area) e ∙ rw peak_is refl
 
   -- the code isn't there
   pub need_code : core < need_with s m t 0 0 → need core s m t ≡ need_with s m t 0 0
   need_code above =
       let under : core < base = omega (arith, above, base_is) in
-      let F : ℕ = fixed s.jobs + max s.peak (live_tasks s.jobs + started_by m.course.job (step m.setting m.course.job t)) * m.setting.stack_size + (length (code_of m.setting t.segment) + 2)
-      + area_of m.course.job (touched_of m.setting m.course.job t (step m.setting m.course.job t)) in
+      let F : ℕ = fixed s.jobs + max s.peak (live_tasks s.jobs + started_by m.progress.job (step m.constants m.progress.job t)) * m.constants.stack_size + (length (code_of m.constants t.segment) + 2)
+      + area_of m.progress.job (touched_of m.constants m.progress.job t (step m.constants m.progress.job t)) in
       ap (λ (b : Bool). cond b base F) (lt-ltb core base under) ∙ base_is
 
   -- the code is there, and an array is touched
-  pub need_array : (a : ℕ) → need_with s m t 0 0 ≤ core → started_by m.course.job (step m.setting m.course.job t) ≡ 0 → touched_of m.setting m.course.job t (step m.setting m.course.job t) ≡ Some a
-      → need core s m t ≡ need_with s m t 0 0 + (length (array m.course.job a).numbers + 2)
+  pub need_array : (a : ℕ) → need_with s m t 0 0 ≤ core → started_by m.progress.job (step m.constants m.progress.job t) ≡ 0 → touched_of m.constants m.progress.job t (step m.constants m.progress.job t) ≡ Some a
+      → need core s m t ≡ need_with s m t 0 0 + (length (array m.progress.job a).numbers + 2)
   need_array a room none touched =
       let over : base ≤ core = omega (arith, room, base_is) in
-      let n = started_by m.course.job (step m.setting m.course.job t) in
-      let area = area_of m.course.job (touched_of m.setting m.course.job t (step m.setting m.course.job t)) in
-      let F : ℕ = fixed s.jobs + max s.peak (live_tasks s.jobs + n) * m.setting.stack_size + (length (code_of m.setting t.segment) + 2) + area in
+      let n = started_by m.progress.job (step m.constants m.progress.job t) in
+      let area = area_of m.progress.job (touched_of m.constants m.progress.job t (step m.constants m.progress.job t)) in
+      let F : ℕ = fixed s.jobs + max s.peak (live_tasks s.jobs + n) * m.constants.stack_size + (length (code_of m.constants t.segment) + 2) + area in
       ap (λ (b : Bool). cond b base F) (le-ltb core base over)
       ∙ whole_is n area none
       ∙ ap (λ (k : ℕ). k + area) base_is
-      ∙ ap (λ (o : Option ℕ). need_with s m t 0 0 + area_of m.course.job o) touched
+      ∙ ap (λ (o : Option ℕ). need_with s m t 0 0 + area_of m.progress.job o) touched
 
 -- an array of a job, by its identity
 array_is : (job : Job) (a : Array) → keyed (λ (z : Array). z.identity) a.identity job.arrays ≡ Some a → array job a.identity ≡ a
 array_is job a e = ap (λ (o : Option Array). unwrap_or o no_array) e
 
-module _ (x : Storage) (told : Option (List (List ℕ))) (k : Machine) (plan : Plan) (s : Session) (m : Member) (t : Task) (o : IsInOrderButPlaces s) (h : MachineStands x told k plan s) (runs : IsRunning plan s.jobs m t) where
+module _ (x : Storage) (told : Option (List (List ℕ))) (k : Machine) (plan : Placement) (s : Session) (m : SessionJob) (t : Task) (o : IsInOrderButPlaces s) (h : MachineRepresents x told k plan s) (runs : IsRunning plan s.jobs m t) where
   -- the running segment's area lies in core, behind the stacks
   code_fits : (area : Option ℕ) → code_area x plan m t ≡ area → area ≢ None → need_with s m t 0 0 ≤ length k.cpu.core
   code_fits None is some = absurd (some refl)
   code_fits (Some at) is some =
-      let owned = h.session.holds.memory.owned.of_held (plan.dictionary m.setting.number + 1 + t.segment) at is in
+      let owned = h.session.holds.memory.owned.of_held (plan.dictionary m.constants.number + 1 + t.segment) at is in
       let low = (area_inside k.cpu.core x.low x.spans at (info_of x owned.0) h.session.holds.memory.directory owned.3).0 in
       let high = area-inside x k.cpu plan s m t o h.session runs at is in
       let need_is = need_above_low x told k plan s m t o h runs 0 in
@@ -84,14 +84,14 @@ module _ (x : Storage) (told : Option (List (List ℕ))) (k : Machine) (plan : P
   array_need home words wanted touched =
       let (a, among, home_is, is, count) = touched in
       let order = (running_in_order plan s m t o runs).0.tasks in
-      let some = (all_in ArrayInOrder m.course.job.arrays a order.arrays among).length_low in
-      let found = keyed_falls (λ (z : Array). z.identity) m.course.job.next_array m.course.job.arrays a order.names among in
+      let some = (all_in ArrayInOrder m.progress.job.arrays a order.arrays among).length_low in
+      let found = keyed_falls (λ (z : Array). z.identity) m.progress.job.next_array m.progress.job.arrays a order.names among in
       let room = code_fits (code_area x plan m t) refl wanted.code in
-      let n : length (array m.course.job a.identity).numbers ≡ words = ap (λ (z : Array). length z.numbers) (array_is m.course.job a found) ∙ sym count in
+      let n : length (array m.progress.job a.identity).numbers ≡ words = ap (λ (z : Array). length z.numbers) (array_is m.progress.job a found) ∙ sym count in
       let area : array_area words ≡ words + 2 = array_area-some words (omega (arith, some, count)) in
       let zero_area : array_area 0 ≡ 0 = refl in
       need_array (length k.cpu.core) s m t o.peak_low a.identity room (none_started plan s.jobs m t a.identity runs is) is
-      ∙ (let z : need_with s m t 0 0 + (length (array m.course.job a.identity).numbers + 2) ≡ need_with s m t 0 words = omega (arith, n, area, zero_area) in z)
+      ∙ (let z : need_with s m t 0 0 + (length (array m.progress.job a.identity).numbers + 2) ≡ need_with s m t 0 words = omega (arith, n, area, zero_area) in z)
 
   -- what is wanted has the number of the step's need
   pub need_of : (found : What) (words : ℕ) → IsWanted x plan m t found words → IsTouched plan m t found words → length k.cpu.core < need_with s m t 0 words → need (length k.cpu.core) s m t ≡ need_with s m t 0 words

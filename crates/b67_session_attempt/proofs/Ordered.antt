@@ -5,7 +5,8 @@ use Rattle.b67_word.specs.declared.couples.Place.{Place}
 use Rattle.b67_model.specs.declared.operators.Op.{Op}
 use Rattle.b67_model.specs.Answers.{Answer}
 use Rattle.b67_lemmas.specs.Lists.{Has}
-use Rattle.b67_model.specs.State.{Ready, Task, Job, Member}
+use Rattle.b67_lemmas.proofs.Members.{all_in}
+use Rattle.b67_model.specs.State.{Ready, Task, Job, SessionJob}
 use Rattle.b67_model.specs.Steps.{Line, Done, Goes}
 use Rattle.b67_model.specs.Loader.{may_be_last}
 use Rattle.b67_model.specs.Rows.{row}
@@ -13,39 +14,38 @@ use Rattle.b67_model.specs.Run.{number_of}
 use Rattle.b67_model.specs.Schedule.{Session}
 use Rattle.b67_model.specs.InOrder.{IsSegment, FramesInOrder, outer_of, TaskInOrder, TasksInOrder, IsInOrderButPlaces}
 use Rattle.b67_law_order.specs.Ends.{StepsFrom}
-use Rattle.b67_law_order.proofs.Members.{all_in}
 use Rattle.b67_law_order_rows.specs.Keeping.{KeepsOrder}
 use Rattle.b67_law_order_rows.specs.Parameters.{ParametersFit}
 use Rattle.b67_law_order_rows.proofs.Kept.{each_row_keeps_order}
-use Rattle.b67_layout.specs.Plan.{Plan}
+use Rattle.b67_layout.specs.Placement.{Placement}
 use Rattle.b67_layout.specs.Session.{IsRunning}
 use Rattle.b67_layout.specs.Meets.{here, with_job}
 use Rattle.b67_layout.proofs.Fresh.{job_in_order, running_in_order}
 use Rattle.b67_layout.proofs.Sessions.{change-has}
 
-module _ (plan : Plan) (s : Session) (m : Member) (t : Task) (o : IsInOrderButPlaces s) (runs : IsRunning plan s.jobs m t) (ready : t.condition ≡ Ready) where
-  steps_from : StepsFrom (IsSegment m.setting) m.setting m.course.job t
+module _ (plan : Placement) (s : Session) (m : SessionJob) (t : Task) (o : IsInOrderButPlaces s) (runs : IsRunning plan s.jobs m t) (ready : t.condition ≡ Ready) where
+  steps_from : StepsFrom (IsSegment m.constants) m.constants m.progress.job t
   steps_from =
       let j = (running_in_order plan s m t o runs).0 in
       record { unchanging = j.unchanging; order = j.tasks; live = runs.task; ready = ready; few = omega (arith, j.counts.next, j.counts.within, j.unchanging.limit) }
 
   -- the job after an operator that may stand last in its segment
-  pub job_after : (op : Op) (q : Place) → may_be_last op ≡ true → ParametersFit (IsSegment m.setting) (here m t q) op → (job : Job) (printed : List Line) (touched : Option ℕ)
-      → row op (here m t q) ≡ Ok (Goes job printed touched) → TasksInOrder (IsSegment m.setting) m.setting job
+  pub job_after : (op : Op) (q : Place) → may_be_last op ≡ true → ParametersFit (IsSegment m.constants) (here m t q) op → (job : Job) (printed : List Line) (touched : Option ℕ)
+      → row op (here m t q) ≡ Ok (Goes job printed touched) → TasksInOrder (IsSegment m.constants) m.constants job
   job_after op q last fits job printed touched is =
-      let kept = each_row_keeps_order.0 m.setting m.course.job t op q steps_from (λ no. absurd (true≢false (sym last ∙ no))) fits in
-      let K : Answer Done → Type 0 = KeepsOrder (IsSegment m.setting) m.setting m.course.job t in
+      let kept = each_row_keeps_order.0 m.constants m.progress.job t op q steps_from (λ no. absurd (true≢false (sym last ∙ no))) fits in
+      let K : Answer Done → Type 0 = KeepsOrder (IsSegment m.constants) m.constants m.progress.job t in
       let there : K (Ok (Goes job printed touched)) = subst K is kept in there
 
-  frames_of : (y : Member) → TasksInOrder (IsSegment y.setting) y.setting y.course.job → (u : Task) → Has y.course.job.tasks u → FramesInOrder (IsSegment y.setting) y.course.job.arrays (outer_of y.course.job u) u.frames
-  frames_of y k u h = (all_in (TaskInOrder (IsSegment y.setting) y.setting y.course.job) y.course.job.tasks u k.tasks h).frames
+  frames_of : (y : SessionJob) → TasksInOrder (IsSegment y.constants) y.constants y.progress.job → (u : Task) → Has y.progress.job.tasks u → FramesInOrder (IsSegment y.constants) y.progress.job.arrays (outer_of y.progress.job u) u.frames
+  frames_of y k u h = (all_in (TaskInOrder (IsSegment y.constants) y.constants y.progress.job) y.progress.job.tasks u k.tasks h).frames
 
-  pub frames_after : (job : Job) → TasksInOrder (IsSegment m.setting) m.setting job → (y : Member) (u : Task) → Has (with_job s m job).jobs y → Has y.course.job.tasks u
-      → FramesInOrder (IsSegment y.setting) y.course.job.arrays (outer_of y.course.job u) u.frames
-  frames_after job k y u iny inu = by (change-has number_of m.setting.number (λ (z : Member). record z { course = record m.course { job = job } }) s.jobs m runs.member y iny) where
-    after : Member
-    after = record m { course = record m.course { job = job } }
+  pub frames_after : (job : Job) → TasksInOrder (IsSegment m.constants) m.constants job → (y : SessionJob) (u : Task) → Has (with_job s m job).jobs y → Has y.progress.job.tasks u
+      → FramesInOrder (IsSegment y.constants) y.progress.job.arrays (outer_of y.progress.job u) u.frames
+  frames_after job k y u iny inu = by (change-has number_of m.constants.number (λ (z : SessionJob). record z { progress = record m.progress { job = job } }) s.jobs m runs.member y iny) where
+    after : SessionJob
+    after = record m { progress = record m.progress { job = job } }
 
-    by : Has s.jobs y ⊎ (y ≡ record m { course = record m.course { job = job } }) → FramesInOrder (IsSegment y.setting) y.course.job.arrays (outer_of y.course.job u) u.frames
+    by : Has s.jobs y ⊎ (y ≡ record m { progress = record m.progress { job = job } }) → FramesInOrder (IsSegment y.constants) y.progress.job.arrays (outer_of y.progress.job u) u.frames
     by (inl h) = frames_of y (job_in_order s y o h).tasks u inu
-    by (inr e) = frames_of y (subst (λ (z : Member). TasksInOrder (IsSegment z.setting) z.setting z.course.job) (sym e) k) u inu
+    by (inr e) = frames_of y (subst (λ (z : SessionJob). TasksInOrder (IsSegment z.constants) z.constants z.progress.job) (sym e) k) u inu

@@ -1,61 +1,50 @@
 -- The session in which the running task is ready: it is in order, and the machine stands for it.
-use Rattle.std.proofs.Common.{◌≡◌, ◌≢◌, ℕ, List, [], ◌∷◌, map, Some, refl, sym, ◌∙◌, ap, arith, inl, inr, subst}
-use Rattle.std.specs.Prelude.{◌==◌}
-use Rattle.std.proofs.lemmas.Bool.{cases_Bool}
-use Rattle.std.proofs.lemmas.Option.{same_Some}
-use Rattle.b67_model.specs.Keyed.{keyed, change_keyed}
+use Rattle.std.proofs.Common.{◌≡◌, ◌≢◌, List, [], ◌∷◌, map, Some, refl, sym, ◌∙◌, ap, arith, inl, subst}
+use Rattle.b67_model.specs.Keyed.{keyed}
 use Rattle.b67_lemmas.specs.Lists.{Has}
-use Rattle.b67_model.specs.State.{Array, Ready, Task, Job, Member, with_task}
+use Rattle.b67_lemmas.proofs.Members.{all_in, length_change, change_found, keyed-has}
+use Rattle.b67_lemmas.proofs.Keyed.{change_same}
+use Rattle.b67_model.specs.State.{Array, Ready, Task, Job, SessionJob, with_task}
 use Rattle.b67_model.specs.Run.{number_of}
 use Rattle.b67_model.specs.Schedule.{Session}
 use Rattle.b67_model.specs.InOrder.{IsSegment, known_of, from_frame, originals_of, JobInOrder, IsInOrderButPlaces}
-use Rattle.b67_law_order.proofs.Members.{all_in, length_change}
 use Rattle.b67_law_order.proofs.Reaches.{alike_same}
 use Rattle.b67_law_order.proofs.Replaced.{Replaced, replaced}
 use Rattle.b67_layout.proofs.Members.{member_kept}
 use Rattle.b67_stack.specs.declared.Cpu.{Cpu}
-use Rattle.b67_stack.specs.Stands.{Storage}
-use Rattle.b67_layout.specs.Plan.{Plan}
-use Rattle.b67_layout.specs.Session.{IsRunning, SessionStands}
+use Rattle.b67_stack.specs.Represents.{Storage}
+use Rattle.b67_layout.specs.Placement.{Placement}
+use Rattle.b67_layout.specs.Session.{IsRunning, RepresentsSession}
 use Rattle.b67_layout.specs.Meets.{with_job}
 use Rattle.b67_layout.proofs.Fresh.{running_in_order, fresh}
-use Rattle.b67_layout.proofs.Others.{keyed-has, keyed-put_same}
-use Rattle.b67_layout.proofs.Pictures.{member-same}
+use Rattle.b67_layout.proofs.MachineViews.{member-same}
 use Rattle.b67_layout.proofs.Steps.{IsFree}
-use Rattle.b67_layout_enter.proofs.Awaits.{SessionStands-condition}
-
--- an item that is changed to itself
-change_same : {A : Type 0} (key : A → ℕ) (n : ℕ) (f : A → A) (xs : List A) (x : A) → keyed key n xs ≡ Some x → f x ≡ x → change_keyed key n f xs ≡ xs
-change_same key n f [] x e same = refl
-change_same key n f (y ∷ ys) x e same = elim (cases_Bool (key y == n)) [
-  | inl q ↦ let is : y ≡ x = same_Some y x (rw q at e) in rw q (ap (λ z. z ∷ ys) (ap f is ∙ same ∙ sym is))
-  | inr q ↦ rw q (ap (λ zs. y ∷ zs) (change_same key n f ys x (rw q at e) same))
-]
+use Rattle.b67_layout_enter.proofs.Awaits.{RepresentsSession-condition}
 
 not_empty : {A : Type 0} (x : A) (xs : List A) → Has xs x → xs ≢ []
 not_empty x [] h = absurd h
 not_empty x (y ∷ ys) h = λ e. cc
 
-module _ (plan : Plan) (s : Session) (m : Member) (t : Task) (o : IsInOrderButPlaces s) (runs : IsRunning plan s.jobs m t) where
+module _ (plan : Placement) (s : Session) (m : SessionJob) (t : Task) (o : IsInOrderButPlaces s) (runs : IsRunning plan s.jobs m t) where
   abbrev pub task : Task
   task = record t { condition = Ready }
 
   abbrev pub job : Job
-  job = with_task m.course.job task
+  job = with_task m.progress.job task
 
-  abbrev pub member : Member
-  member = record m { course = record m.course { job = job } }
+  abbrev pub member : SessionJob
+  member = record m { progress = record m.progress { job = job } }
 
   abbrev pub session : Session
   session = with_job s m job
 
-  in_t : Has m.course.job.tasks t
-  in_t = keyed-has (λ (u : Task). u.number) t.number m.course.job.tasks t runs.task
+  in_t : Has m.progress.job.tasks t
+  in_t = keyed-has (λ (u : Task). u.number) t.number m.progress.job.tasks t runs.task
 
   there : keyed (λ (u : Task). u.number) t.number job.tasks ≡ Some task
-  there = keyed-put_same (λ (u : Task). u.number) t.number task t refl m.course.job.tasks runs.task
+  there = change_found (λ (u : Task). u.number) t.number t task m.progress.job.tasks refl runs.task
 
-  replaces : Replaced (IsSegment m.setting) m.setting m.course.job t job task
+  replaces : Replaced (IsSegment m.constants) m.constants m.progress.job t job task
   replaces =
       let (j, own) = running_in_order plan s m t o runs in
       record {
@@ -77,48 +66,48 @@ module _ (plan : Plan) (s : Session) (m : Member) (t : Task) (o : IsInOrderButPl
         fewer = λ n low. omega arith;
         kept = λ a k. record { case = inl (record { item = a; live = k; named = refl; owned = refl; long = omega arith }) };
         arrays = j.tasks.arrays;
-        once = λ a k. omega (arith, all_in (λ (x : Array). originals_of x.identity m.setting m.course.job ≡ 1) m.course.job.arrays a j.tasks.once k);
+        once = λ a k. omega (arith, all_in (λ (x : Array). originals_of x.identity m.constants m.progress.job ≡ 1) m.progress.job.arrays a j.tasks.once k);
         names = j.tasks.names;
         reads = j.tasks.reads;
       }
 
-  job_ordered : JobInOrder (IsSegment m.setting) m.setting (record m.course { job = job })
+  job_ordered : JobInOrder (IsSegment m.constants) m.constants (record m.progress { job = job })
   job_ordered =
       let j = (running_in_order plan s m t o runs).0 in
       record {
         unchanging = j.unchanging;
-        tasks = replaced (IsSegment m.setting) m.setting m.course.job t job task j.tasks runs.task replaces;
+        tasks = replaced (IsSegment m.constants) m.constants m.progress.job t job task j.tasks runs.task replaces;
         counts = record { next = j.counts.next; within = j.counts.within; goes_on = λ some. (task, keyed-has (λ (u : Task). u.number) t.number job.tasks task there, refl) };
-        below_limit = λ some. j.below_limit (not_empty t m.course.job.tasks in_t);
+        below_limit = λ some. j.below_limit (not_empty t m.progress.job.tasks in_t);
       }
 
   pub ordered : IsInOrderButPlaces session
-  ordered = member_kept s m job o runs.member job_ordered (length_change (λ (u : Task). u.number) t.number task m.course.job.tasks)
+  ordered = member_kept s m job o runs.member job_ordered (length_change (λ (u : Task). u.number) t.number task m.progress.job.tasks)
 
   pub running : IsRunning plan session.jobs member task
   running = record {
-    member = member-same s.jobs m.setting.number (record m.course { job = job }) m runs.member;
+    member = member-same s.jobs m.constants.number (record m.progress { job = job }) m runs.member;
     task = there;
     slot = runs.slot;
   }
 
   -- the job with its task as it is
-  same_job : with_task m.course.job t ≡ m.course.job
-  same_job = ap (λ (ts : List Task). record m.course.job { tasks = ts }) (change_same (λ (u : Task). u.number) t.number (λ (u : Task). t) m.course.job.tasks t runs.task refl)
+  same_job : with_task m.progress.job t ≡ m.progress.job
+  same_job = ap (λ (ts : List Task). record m.progress.job { tasks = ts }) (change_same (λ (u : Task). u.number) t.number (λ (u : Task). t) m.progress.job.tasks t runs.task refl)
 
-  same_session : with_job s m (with_task m.course.job t) ≡ s
+  same_session : with_job s m (with_task m.progress.job t) ≡ s
   same_session =
       ap (λ (k : Job). with_job s m k) same_job
-      ∙ ap (λ (js : List Member). record s { jobs = js }) (change_same number_of m.setting.number (λ (y : Member). record y { course = m.course }) s.jobs m runs.member refl)
+      ∙ ap (λ (js : List SessionJob). record s { jobs = js }) (change_same number_of m.constants.number (λ (y : SessionJob). record y { progress = m.progress }) s.jobs m runs.member refl)
 
-  pub stands : (x : Storage) (cpu : Cpu) → SessionStands x cpu plan s → SessionStands x cpu plan session
+  pub stands : (x : Storage) (cpu : Cpu) → RepresentsSession x cpu plan s → RepresentsSession x cpu plan session
   stands x cpu h =
-      let own : Member = record m { course = record m.course { job = with_task m.course.job t } } in
-      let there_is : SessionStands x cpu plan (with_job s m (with_task m.course.job t)) = subst (SessionStands x cpu plan) (sym same_session) h in
-      let run : IsRunning plan (with_job s m (with_task m.course.job t)).jobs own t = record {
-        member = member-same s.jobs m.setting.number (record m.course { job = with_task m.course.job t }) m runs.member;
-        task = keyed-put_same (λ (u : Task). u.number) t.number t t refl m.course.job.tasks runs.task;
+      let own : SessionJob = record m { progress = record m.progress { job = with_task m.progress.job t } } in
+      let there_is : RepresentsSession x cpu plan (with_job s m (with_task m.progress.job t)) = subst (RepresentsSession x cpu plan) (sym same_session) h in
+      let run : IsRunning plan (with_job s m (with_task m.progress.job t)).jobs own t = record {
+        member = member-same s.jobs m.constants.number (record m.progress { job = with_task m.progress.job t }) m runs.member;
+        task = change_found (λ (u : Task). u.number) t.number t t m.progress.job.tasks refl runs.task;
         slot = runs.slot;
       } in
-      let free : IsFree (with_task m.course.job t) m.course.job.next_frame = subst (λ (k : Job). IsFree k m.course.job.next_frame) (sym same_job) (fresh plan s m t o runs) in
-      SessionStands-condition [] x cpu plan s m m.course.job t t.condition Ready m.course.job.next_frame there_is run free
+      let free : IsFree (with_task m.progress.job t) m.progress.job.next_frame = subst (λ (k : Job). IsFree k m.progress.job.next_frame) (sym same_job) (fresh plan s m t o runs) in
+      RepresentsSession-condition [] x cpu plan s m m.progress.job t t.condition Ready m.progress.job.next_frame there_is run free

@@ -2,14 +2,14 @@
 use Rattle.std.proofs.Common.{◌≡◌, ◌≢◌, ℕ, ◌<◌, List, [], ◌∷◌, Option, None, Ok, Err, refl, arith, false, inl, inr}
 use Rattle.b67_word.specs.declared.couples.Place.{Place}
 use Rattle.b67_model.specs.declared.operators.Op.{Op}
-use Rattle.b67_model.specs.State.{Frame, Task, Job, Member, top}
+use Rattle.b67_model.specs.State.{Frame, Task, Job, SessionJob, top}
 use Rattle.b67_model.specs.Operators.{Reading}
 use Rattle.b67_model.specs.Steps.{Line, Goes, is_critical}
 use Rattle.b67_model.specs.Rows.{row, reading_of, step, step_by}
 use Rattle.b67_model.specs.Schedule.{Session}
 use Rattle.b67_model.specs.InOrder.{IsSegment, IsInOrderButPlaces}
 use Rattle.b67_model.specs.Called.{called}
-use Rattle.b67_layout.specs.Plan.{Plan}
+use Rattle.b67_layout.specs.Placement.{Placement}
 use Rattle.b67_layout.specs.Session.{IsRunning}
 use Rattle.b67_layout.specs.Meets.{here}
 use Rattle.b67_layout.proofs.Fresh.{running_in_order, critical-below, fresh}
@@ -20,38 +20,38 @@ use Rattle.b67_session_attempt.proofs.Places.{AllSame}
 use Rattle.b67_session_attempt.proofs.Keeps.{row_keeps}
 
 -- the job afterwards, but for its arrays and its next frame and array
-pub record JobKept (m : Member) (t : Task) (after : Job) : Type 0 where
-  pub tasks : AllSame (IsDependedOn m.course.job) t.number m.course.job.tasks after.tasks
-  pub next_task : after.next_task ≡ m.course.job.next_task
-  pub numbers : after.numbers ≡ m.course.job.numbers
+pub record JobKept (m : SessionJob) (t : Task) (after : Job) : Type 0 where
+  pub tasks : AllSame (IsDependedOn m.progress.job) t.number m.progress.job.tasks after.tasks
+  pub next_task : after.next_task ≡ m.progress.job.next_task
+  pub numbers : after.numbers ≡ m.progress.job.numbers
 
-module _ (plan : Plan) (s : Session) (m : Member) (t : Task) (o : IsInOrderButPlaces s) (runs : IsRunning plan s.jobs m t) where
+module _ (plan : Placement) (s : Session) (m : SessionJob) (t : Task) (o : IsInOrderButPlaces s) (runs : IsRunning plan s.jobs m t) where
   some : t.frames ≢ []
   some = (running_in_order plan s m t o runs).1.some
 
-  low : (c : ℕ) → IsDependedOn m.course.job c → c < m.course.job.next_frame
+  low : (c : ℕ) → IsDependedOn m.progress.job c → c < m.progress.job.next_frame
   low c (inl e) = let n = (fresh plan s m t o runs).some in omega (arith, e, n)
   low c (inr (u, h, e)) =
-      let b = critical-below (IsSegment m.setting) m.setting m.course.job (running_in_order plan s m t o runs).0.tasks u h in omega (arith, b, e)
+      let b = critical-below (IsSegment m.constants) m.constants m.progress.job (running_in_order plan s m t o runs).0.tasks u h in omega (arith, b, e)
 
-  apart_at : (fs : List Frame) → t.frames ≡ fs → (c : ℕ) → IsDependedOn m.course.job c → is_critical m.course.job (top fs).identity ≡ false → c ≢ (top fs).identity
+  apart_at : (fs : List Frame) → t.frames ≡ fs → (c : ℕ) → IsDependedOn m.progress.job c → is_critical m.progress.job (top fs).identity ≡ false → c ≢ (top fs).identity
   apart_at [] frames c d free = absurd (some frames)
   apart_at (f ∷ below) frames c d free = depended_apart plan s m t f below (record { ordered = o; running = runs; frames = frames; free = free }) c d
 
-  apart : (c : ℕ) → IsDependedOn m.course.job c → is_critical m.course.job (top t.frames).identity ≡ false → c ≢ (top t.frames).identity
+  apart : (c : ℕ) → IsDependedOn m.progress.job c → is_critical m.progress.job (top t.frames).identity ≡ false → c ≢ (top t.frames).identity
   apart = apart_at t.frames refl
 
   -- an operator that calls no intrinsic
   pub row_kept : (op : Op) (q : Place) → called op (here m t q) ≡ None → (after : Job) (printed : List Line) (touched : Option ℕ) → row op (here m t q) ≡ Ok (Goes after printed touched) → JobKept m t after
   row_kept op q e after printed touched is =
-      let k = row_keeps (IsDependedOn m.course.job) op m t q runs.task some low apart e after printed touched is in
+      let k = row_keeps (IsDependedOn m.progress.job) op m t q runs.task some low apart e after printed touched is in
       record { tasks = k.0; next_task = k.1; numbers = k.2 }
 
-  kept_by : (read : Reading) → reading_of m.setting t ≡ read → CallsNone m t → (after : Job) (printed : List Line) (touched : Option ℕ) → step_by m.setting m.course.job t read ≡ Ok (Goes after printed touched) → JobKept m t after
+  kept_by : (read : Reading) → reading_of m.constants t ≡ read → CallsNone m t → (after : Job) (printed : List Line) (touched : Option ℕ) → step_by m.constants m.progress.job t read ≡ Ok (Goes after printed touched) → JobKept m t after
   kept_by (Err why) at calls after printed touched e = absurd cc
   kept_by (Ok read) at calls after printed touched e = row_kept read.0 read.1 (calls read at) after printed touched e
 
   -- a step that calls none
-  pub step_kept : CallsNone m t → (after : Job) (printed : List Line) (touched : Option ℕ) → step m.setting m.course.job t ≡ Ok (Goes after printed touched) → JobKept m t after
+  pub step_kept : CallsNone m t → (after : Job) (printed : List Line) (touched : Option ℕ) → step m.constants m.progress.job t ≡ Ok (Goes after printed touched) → JobKept m t after
   unfolding step
-  step_kept calls after printed touched e = kept_by (reading_of m.setting t) refl calls after printed touched e
+  step_kept calls after printed touched e = kept_by (reading_of m.constants t) refl calls after printed touched e

@@ -4,19 +4,18 @@ use Rattle.std.specs.Prelude.{◌==◌, if◌then◌else◌}
 use Rattle.std.proofs.lemmas.Bool.{cases_Bool, cases_eq}
 use Rattle.std.proofs.lemmas.Option.{same_Some}
 use Rattle.b67_lemmas.specs.Lists.{Has}
-use Rattle.b67_model.specs.State.{Frame, Condition, Ready, Awaits, WaitsAt, Task, Job, Member}
+use Rattle.b67_lemmas.proofs.Members.{falls_same, keyed-has}
+use Rattle.b67_model.specs.State.{Frame, Condition, Ready, Awaits, WaitsAt, Task, Job, SessionJob}
 use Rattle.b67_model.specs.Keyed.{keyed, change_keyed}
 use Rattle.b67_model.specs.Run.{number_of}
 use Rattle.b67_model.specs.Schedule.{Session}
 use Rattle.b67_model.specs.InOrder.{from_frame, frames_of_task, critical_of, IsInOrderButPlaces}
-use Rattle.b67_law_order.proofs.Members.{falls_same}
 use Rattle.b67_law_order_steps.specs.Profiles.{Profile, profile}
-use Rattle.b67_stack.specs.Stacks.{Spot}
-use Rattle.b67_layout.specs.Plan.{Plan, slot_of, spot_in, base_spot, outer_spots, spots, address_of}
+use Rattle.b67_stack.specs.Stacks.{StackPlace}
+use Rattle.b67_layout.specs.Placement.{Placement, slot_of, spot_in, base_spot, outer_spots, spots, address_of}
 use Rattle.b67_layout.specs.Rows.{WaitsAtCell, TaskRow, JobRow, Counts, shown, parent_slot, critical_disp, TaskShows, JobShows, JobsShow, TablesShow}
 use Rattle.b67_layout.specs.Session.{IsRunning}
 use Rattle.b67_layout.specs.Meets.{with_job}
-use Rattle.b67_layout.proofs.Others.{keyed-has}
 use Rattle.b67_layout.proofs.Fresh.{running_in_order}
 use Rattle.b67_layout.proofs.Sessions.{change-has, change-kept}
 use Rattle.b67_layout_leave.proofs.Slots.{IsDependedOn}
@@ -24,20 +23,20 @@ use Rattle.b67_session_attempt.proofs.Places.{At, places, IsAlike, Same, AllSame
 use Rattle.b67_session_attempt.proofs.Steps.{JobKept}
 
 -- a spot is looked up among the places of frames
-abbrev look : ℕ → Spot → List At → ℕ → Spot
+abbrev look : ℕ → StackPlace → List At → ℕ → StackPlace
 look k otherwise [] id = otherwise
 look k otherwise (p ∷ ps) id = if p.0 == id then record { stack = k; disp = p.1 } else look k otherwise ps id
 
-spot_is : (k : ℕ) (outer : ℕ → Spot) (fs : List Frame) (id : ℕ) → spot_in k outer fs id ≡ look k (outer id) (places fs) id
+spot_is : (k : ℕ) (outer : ℕ → StackPlace) (fs : List Frame) (id : ℕ) → spot_in k outer fs id ≡ look k (outer id) (places fs) id
 spot_is k outer [] id = refl
 spot_is k outer (f ∷ below) id = elim (cases_Bool (f.identity == id)) [ inl e ↦ rw e refl | inr e ↦ rw e (spot_is k outer below id) ]
 
-spot_same : (k : ℕ) (o o' : ℕ → Spot) (fs gs : List Frame) (id : ℕ) → places gs ≡ places fs → o' id ≡ o id → spot_in k o' gs id ≡ spot_in k o fs id
+spot_same : (k : ℕ) (o o' : ℕ → StackPlace) (fs gs : List Frame) (id : ℕ) → places gs ≡ places fs → o' id ≡ o id → spot_in k o' gs id ≡ spot_in k o fs id
 spot_same k o o' fs gs id e eo =
-    spot_is k o' gs id ∙ ap (λ (ps : List At). look k (o' id) ps id) e ∙ ap (λ (z : Spot). look k z (places fs) id) eo ∙ sym (spot_is k o fs id)
+    spot_is k o' gs id ∙ ap (λ (ps : List At). look k (o' id) ps id) e ∙ ap (λ (z : StackPlace). look k z (places fs) id) eo ∙ sym (spot_is k o fs id)
 
 -- a frame is found from itself down
-spot_from : (k : ℕ) (o : ℕ → Spot) (fs : List Frame) (c : ℕ) → spot_in k o fs c ≡ spot_in k o (from_frame c fs) c
+spot_from : (k : ℕ) (o : ℕ → StackPlace) (fs : List Frame) (c : ℕ) → spot_in k o fs c ≡ spot_in k o (from_frame c fs) c
 spot_from k o [] c = refl
 spot_from k o (f ∷ below) c = elim (cases_Bool (f.identity == c)) [ inl e ↦ rw e (rw e refl) | inr e ↦ rw e (spot_from k o below c) ]
 
@@ -84,18 +83,18 @@ back D n (u ∷ us) [] a v h = absurd a
 back D n (u ∷ us) (y ∷ vs) a v (inl e) = (u, inl refl, subst (λ (z : Task). Same D n u z) e a.0)
 back D n (u ∷ us) (y ∷ vs) a v (inr h) = let (w, i, s) = back D n us vs a.1 v h in (w, inr i, s)
 
-module _ (plan : Plan) (s : Session) (m : Member) (t : Task) (o : IsInOrderButPlaces s) (runs : IsRunning plan s.jobs m t) (ready : t.condition ≡ Ready) (job : Job) (kept : JobKept m t job) where
+module _ (plan : Placement) (s : Session) (m : SessionJob) (t : Task) (o : IsInOrderButPlaces s) (runs : IsRunning plan s.jobs m t) (ready : t.condition ≡ Ready) (job : Job) (kept : JobKept m t job) where
   abbrev j : ℕ
-  j = m.setting.number
+  j = m.constants.number
 
   abbrev old : Job
-  old = m.course.job
+  old = m.progress.job
 
   abbrev D : ℕ → Type 0
   D = IsDependedOn old
 
-  abbrev after : Member
-  after = record m { course = record m.course { job = job } }
+  abbrev after : SessionJob
+  after = record m { progress = record m.progress { job = job } }
 
   depended : (k : ℕ) (a : Option Task) → keyed (λ (u : Task). u.number) k old.tasks ≡ a → D (critical_of a)
   depended k None e = inl refl
@@ -120,7 +119,7 @@ module _ (plan : Plan) (s : Session) (m : Member) (t : Task) (o : IsInOrderButPl
       let a = keyed (λ (u : Task). u.number) parent old.tasks in
       let b = keyed (λ (u : Task). u.number) parent job.tasks in
       let p = keyed_same D t.number parent old.tasks job.tasks kept.tasks in
-      ap (λ (z : Spot). z.disp) (spot_from k (base_spot j) (frames_of_task b) critical
+      ap (λ (z : StackPlace). z.disp) (spot_from k (base_spot j) (frames_of_task b) critical
       ∙ spot_same k (base_spot j) (base_spot j) (from_frame critical (frames_of_task a)) (from_frame critical (frames_of_task b)) critical (frames_same D t.number critical a b d p) refl
       ∙ sym (spot_from k (base_spot j) (frames_of_task a) critical))
 
@@ -129,11 +128,11 @@ module _ (plan : Plan) (s : Session) (m : Member) (t : Task) (o : IsInOrderButPl
   waits_same u v d s like Ready = refl
   waits_same u v d s like (Awaits n) = refl
   waits_same u v d s like (WaitsAt frame offset) =
-      let P : Profile → Spot = λ p. spot_in (slot_of plan j p.number) (outer_spots plan j job p.critical p.parents) v.frames frame in
+      let P : Profile → StackPlace = λ p. spot_in (slot_of plan j p.number) (outer_spots plan j job p.critical p.parents) v.frames frame in
       let one : spots plan j job v frame ≡ P (profile u) = ap P s.profile in
       let two : P (profile u) ≡ spots plan j old u frame =
       spot_same (slot_of plan j u.number) (outer_spots plan j old u.critical u.parents) (outer_spots plan j job u.critical u.parents) u.frames v.frames frame like.frames (outer_same u.parents u.critical d frame) in
-      ap (λ (z : Spot). WaitsAtCell (address_of plan z) offset) (one ∙ two)
+      ap (λ (z : StackPlace). WaitsAtCell (address_of plan z) offset) (one ∙ two)
 
   own : (u : Task) → Has old.tasks u → u.number ≡ t.number → u ≡ t
   own u h e = falls_same (λ (u : Task). u.number) old.next_task old.tasks u t (running_in_order plan s m t o runs).0.tasks.numbers h (keyed-has (λ (u : Task). u.number) t.number old.tasks t runs.task) e
@@ -164,16 +163,16 @@ module _ (plan : Plan) (s : Session) (m : Member) (t : Task) (o : IsInOrderButPl
         place = λ ne. r.place ne ∙ sym (s.other (elsewhere ne)).place;
       }
 
-  abbrev to : Member → Member
-  to = λ y. record y { course = record m.course { job = job } }
+  abbrev to : SessionJob → SessionJob
+  to = λ y. record y { progress = record m.progress { job = job } }
 
-  jobs_show : (ys : List Member) (rows : List JobRow) → keyed number_of j ys ≡ Some m → JobsShow plan ys rows → JobsShow plan (change_keyed number_of j to ys) rows
+  jobs_show : (ys : List SessionJob) (rows : List JobRow) → keyed number_of j ys ≡ Some m → JobsShow plan ys rows → JobsShow plan (change_keyed number_of j to ys) rows
   jobs_show [] rows e shows = absurd cc
   jobs_show (y ∷ ys) [] e shows = absurd shows
-  jobs_show (y ∷ ys) (row ∷ rows) e shows = elim (cases_Bool (y.setting.number == j)) [
+  jobs_show (y ∷ ys) (row ∷ rows) e shows = elim (cases_Bool (y.constants.number == j)) [
     | inl q ↦
         let same : y ≡ m = same_Some y m (rw q at e) in
-        let r : JobShows plan m row = subst (λ (z : Member). JobShows plan z row) same shows.0 in
+        let r : JobShows plan m row = subst (λ (z : SessionJob). JobShows plan z row) same shows.0 in
         let new : JobShows plan after row = record {
           dictionary = r.dictionary;
           segments = r.segments;
@@ -183,7 +182,7 @@ module _ (plan : Plan) (s : Session) (m : Member) (t : Task) (o : IsInOrderButPl
           next_task = r.next_task ∙ sym kept.next_task;
           numbers = r.numbers ∙ sym kept.numbers;
         } in
-        rw q (subst (λ (z : Member). JobShows plan (to z) row) (sym same) new, shows.1)
+        rw q (subst (λ (z : SessionJob). JobShows plan (to z) row) (sym same) new, shows.1)
     | inr q ↦ rw q (shows.0, jobs_show ys rows (rw q at e) shows.1)
   ]
 
@@ -196,19 +195,19 @@ module _ (plan : Plan) (s : Session) (m : Member) (t : Task) (o : IsInOrderButPl
     jobs = jobs_show s.jobs job_rows runs.member shows.jobs;
     counts = (let k = shows.counts in record { quantum = k.quantum; made = k.made; turn = k.turn; last_job = k.last_job; last_number = k.last_number; switches = k.switches; next = k.next; past = k.past; running = k.running });
   } where
-    row_after : (row : TaskRow) (y : Member) (u : Task) → Has s.jobs y → Has y.course.job.tasks u → TaskShows plan y u row
+    row_after : (row : TaskRow) (y : SessionJob) (u : Task) → Has s.jobs y → Has y.progress.job.tasks u → TaskShows plan y u row
         → Has (with_job s m job).jobs y ⊎ ((y ≡ m) × Has (with_job s m job).jobs after)
-        → (z : Member) × (v : Task) × Has (with_job s m job).jobs z × Has z.course.job.tasks v × TaskShows plan z v row
+        → (z : SessionJob) × (v : Task) × Has (with_job s m job).jobs z × Has z.progress.job.tasks v × TaskShows plan z v row
     row_after row y u iny inu r (inl k) = (y, u, k, inu, r)
     row_after row y u iny inu r (inr (e, k)) =
-        let inm : Has old.tasks u = subst (λ (z : Member). Has z.course.job.tasks u) e inu in
+        let inm : Has old.tasks u = subst (λ (z : SessionJob). Has z.progress.job.tasks u) e inu in
         let (v, inv, same) = partner D t.number old.tasks job.tasks kept.tasks u inm in
-        (after, v, k, inv, task_shows u v inm same row (subst (λ (z : Member). TaskShows plan z u row) e r))
+        (after, v, k, inv, task_shows u v inm same row (subst (λ (z : SessionJob). TaskShows plan z u row) e r))
 
-    each_after : (y : Member) (v : Task) → Has y.course.job.tasks v → Has s.jobs y ⊎ (y ≡ after) → (row : TaskRow) × Has rows row × TaskShows plan y v row
+    each_after : (y : SessionJob) (v : Task) → Has y.progress.job.tasks v → Has s.jobs y ⊎ (y ≡ after) → (row : TaskRow) × Has rows row × TaskShows plan y v row
     each_after y v inv (inl k) = shows.each y v k inv
     each_after y v inv (inr e) =
-        let ina : Has job.tasks v = subst (λ (z : Member). Has z.course.job.tasks v) e inv in
+        let ina : Has job.tasks v = subst (λ (z : SessionJob). Has z.progress.job.tasks v) e inv in
         let (u, inu, same) = back D t.number old.tasks job.tasks kept.tasks v ina in
         let (row, inr_, r) = shows.each m u (keyed-has number_of j s.jobs m runs.member) inu in
-        (row, inr_, subst (λ (z : Member). TaskShows plan z v row) (sym e) (task_shows u v inu same row r))
+        (row, inr_, subst (λ (z : SessionJob). TaskShows plan z v row) (sym e) (task_shows u v inu same row r))

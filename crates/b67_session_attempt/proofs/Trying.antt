@@ -3,7 +3,7 @@ use Rattle.std.proofs.Common.{◌≡◌, ◌≢◌, ℕ, zero, suc, ◌+◌, Lis
 use Rattle.std.proofs.lemmas.List.{append-nil}
 use Rattle.std.proofs.lemmas.Option.{none-some}
 use Rattle.b67_word.specs.declared.faults.Fault.{Fault}
-use Rattle.b67_model.specs.State.{Task, Member}
+use Rattle.b67_model.specs.State.{Task, SessionJob}
 use Rattle.b67_model.specs.Answers.{Answer}
 use Rattle.b67_model.specs.Steps.{Done, Leaves}
 use Rattle.b67_model.specs.Rows.{step}
@@ -14,31 +14,31 @@ use Rattle.b67_model.specs.InOrder.{IsInOrderButPlaces}
 use Rattle.b67_stack.specs.declared.What.{What}
 use Rattle.b67_stack.specs.declared.What.TheVariants as what
 use Rattle.b67_stack.specs.declared.Step.TheVariants as answers
-use Rattle.b67_stack.specs.Stands.{Storage}
-use Rattle.b67_layout.specs.Plan.{Plan}
+use Rattle.b67_stack.specs.Represents.{Storage}
+use Rattle.b67_layout.specs.Placement.{Placement}
 use Rattle.b67_layout.specs.Session.{IsRunning}
 use Rattle.b67_layout.specs.Meets.{IsAbsent}
-use Rattle.b67_layout.proofs.Others.{keyed-has}
 use Rattle.b67_exec_cells.specs.Running.{code_area}
 use Rattle.b67_exec_cells.specs.Called.{called_in}
 use Rattle.b67_task_tables.specs.declared.tables.Machine.{Machine}
 use Rattle.b67_task_tables.specs.declared.tables.Tasks.{Tasks}
 use Rattle.b67_layout_step.proofs.Laws.{touches_arrays}
-use Rattle.b67_session_attempt.specs.Makes.{Makes, CallsOrMakes, MakesAt}
+use Rattle.b67_session_attempt.specs.Makes.{OperatorMade, CallsOrMakes, MakesAt}
 use Rattle.b67_mcp.specs.declared.ends.Stop.{Stop}
 use Rattle.b67_mcp.specs.declared.ends.Stop.TheVariants as stops
 use Rattle.b67_mcp.specs.Called.{CallsBuilt, IsCalled, IsCut, OnlyPrinted, TouchesAbsent, CallMeets}
 use Rattle.b67_presence.specs.Bringing.{IsWanted}
 use Rattle.b67_session_attempt.specs.Tries.{IsTouched, TryMeets}
+use Rattle.b67_lemmas.proofs.Members.{keyed-has}
 
 -- what is wanted, and that the step touches it, where nothing has changed
-abbrev pub Wants : Storage → Plan → Member → Task → What → Machine → Machine → Type 0
+abbrev pub Wants : Storage → Placement → SessionJob → Task → What → Machine → Machine → Type 0
 Wants x plan m t found old new = (words : ℕ) × IsWanted x plan m t found words × IsTouched plan m t found words × (new ≡ old)
 
-pub wants_array : (x : Storage) (plan : Plan) (m : Member) (t : Task) (found : What) (old new : Machine) → code_area x plan m t ≢ None → TouchesAbsent x plan m t found → new ≡ old → Wants x plan m t found old new
+pub wants_array : (x : Storage) (plan : Placement) (m : SessionJob) (t : Task) (found : What) (old new : Machine) → code_area x plan m t ≢ None → TouchesAbsent x plan m t found → new ≡ old → Wants x plan m t found old new
 wants_array x plan m t found old new code a same =
     let W : What → Type 0 = λ f. Wants x plan m t f old new in
-    let it : Wants x plan m t (what.Array (plan.home m.setting.number a.array.identity)) old new = (
+    let it : Wants x plan m t (what.Array (plan.home m.constants.number a.array.identity)) old new = (
       length a.array.numbers,
       record { array = a.array; among = a.among; home_is = refl; absent = a.absent; words_are = refl; code = code },
       (a.array, a.among, refl, a.touched, refl),
@@ -46,11 +46,11 @@ wants_array x plan m t found old new code a same =
     ) in
     subst W (sym a.named) it
 
-module _ (x : Storage) (told : Option (List (List ℕ))) (plan : Plan) (s : Session) (m : Member) (t : Task) (old new : Machine) where
-  pub was_made : (area : Option ℕ) → MakesAt x told plan s m t answers.Done old new area → Makes x told plan s m t new
+module _ (x : Storage) (told : Option (List (List ℕ))) (plan : Placement) (s : Session) (m : SessionJob) (t : Task) (old new : Machine) where
+  pub was_made : (area : Option ℕ) → MakesAt x told plan s m t answers.Done old new area → OperatorMade x told plan s m t old new
   was_made None h = let e = h.0 in absurd cc
   was_made (Some at) h = by (called_in m t) h where
-    by : (called : Option ℕ) → CallsOrMakes x told plan s m t answers.Done old new called → Makes x told plan s m t new
+    by : (called : Option ℕ) → CallsOrMakes x told plan s m t answers.Done old new called → OperatorMade x told plan s m t old new
     by (Some n) h = let e = h.0 in absurd cc
     by None h = h
 
@@ -61,17 +61,17 @@ module _ (x : Storage) (told : Option (List (List ℕ))) (plan : Plan) (s : Sess
     by (Some n) is h = let e = h.0 in absurd cc
     by None is h = λ k e. absurd (none-some k (sym is ∙ e))
 
-  pub was_fault : (fault : Fault) (area : Option ℕ) → MakesAt x told plan s m t (answers.Fault fault) old new area → (step m.setting m.course.job t ≡ Err fault) × (new ≡ old)
+  pub was_fault : (fault : Fault) (area : Option ℕ) → MakesAt x told plan s m t (answers.Fault fault) old new area → (step m.constants m.progress.job t ≡ Err fault) × (new ≡ old)
   was_fault fault None h = let e = h.0 in absurd cc
   was_fault fault (Some at) h = by (called_in m t) h where
-    by : (called : Option ℕ) → CallsOrMakes x told plan s m t (answers.Fault fault) old new called → (step m.setting m.course.job t ≡ Err fault) × (new ≡ old)
+    by : (called : Option ℕ) → CallsOrMakes x told plan s m t (answers.Fault fault) old new called → (step m.constants m.progress.job t ≡ Err fault) × (new ≡ old)
     by (Some n) h = let e = h.0 in absurd cc
     by None h = h
 
-  pub was_ended : (area : Option ℕ) → MakesAt x told plan s m t answers.Ended old new area → (step m.setting m.course.job t ≡ Ok Leaves) × (new ≡ old)
+  pub was_ended : (area : Option ℕ) → MakesAt x told plan s m t answers.Ended old new area → (step m.constants m.progress.job t ≡ Ok Leaves) × (new ≡ old)
   was_ended None h = let e = h.0 in absurd cc
   was_ended (Some at) h = by (called_in m t) h where
-    by : (called : Option ℕ) → CallsOrMakes x told plan s m t answers.Ended old new called → (step m.setting m.course.job t ≡ Ok Leaves) × (new ≡ old)
+    by : (called : Option ℕ) → CallsOrMakes x told plan s m t answers.Ended old new called → (step m.constants m.progress.job t ≡ Ok Leaves) × (new ≡ old)
     by (Some n) h = let e = h.0 in absurd cc
     by None h = h
 
@@ -83,11 +83,11 @@ module _ (x : Storage) (told : Option (List (List ℕ))) (plan : Plan) (s : Sess
     by None at_k h = absurd h
 
   module _ (o : IsInOrderButPlaces s) (runs : IsRunning plan s.jobs m t) where
-    touches : (found : What) → IsAbsent x plan m found (step m.setting m.course.job t) → TouchesAbsent x plan m t found
+    touches : (found : What) → IsAbsent x plan m found (step m.constants m.progress.job t) → TouchesAbsent x plan m t found
     touches found a =
-        let T : Answer Done → Option ℕ = touched_of m.setting m.course.job t in
-        let (array, among, named) = touches_arrays s m t o (keyed-has number_of m.setting.number s.jobs m runs.member) (keyed-has (λ (u : Task). u.number) t.number m.course.job.tasks t runs.task) a.job [] a.touched a.is in
-        let H : ℕ → ℕ = plan.home m.setting.number in
+        let T : Answer Done → Option ℕ = touched_of m.constants m.progress.job t in
+        let (array, among, named) = touches_arrays s m t o (keyed-has number_of m.constants.number s.jobs m runs.member) (keyed-has (λ (u : Task). u.number) t.number m.progress.job.tasks t runs.task) a.job [] a.touched a.is in
+        let H : ℕ → ℕ = plan.home m.constants.number in
         record {
           array = array;
           among = among;
@@ -112,7 +112,7 @@ nothing_left : (n : ℕ) → take {A = ℕ} n [] ++ [] ≡ []
 nothing_left zero = refl
 nothing_left (suc n) = refl
 
-pub called_made : {K : Type 0} (taken : K → Option (List ℕ)) (paper : K) (x : Storage) (told : Option (List (List ℕ))) (plan : Plan) (s : Session) (m : Member) (t : Task) (old new : Machine) → CallsBuilt m t → new.tasks ≡ old.tasks → Makes x told plan s m t new
+pub called_made : {K : Type 0} (taken : K → Option (List ℕ)) (paper : K) (x : Storage) (told : Option (List (List ℕ))) (plan : Placement) (s : Session) (m : SessionJob) (t : Task) (old new : Machine) → CallsBuilt m t → new.tasks ≡ old.tasks → OperatorMade x told plan s m t old new
     → IsCalled taken paper paper told s m t old.tasks.printed new
 called_made taken paper x told plan s m t old new built tables h = record {
   job = h.job;
@@ -128,11 +128,11 @@ called_made taken paper x told plan s m t old new built tables h = record {
 }
 
 -- an intrinsic's call is the try's
-pub called_so : {K : Type 0} (taken : K → Option (List ℕ)) (told : Option (List (List ℕ))) (s : Session) (m : Member) (t : Task) (first old new : Machine) (paper paper' : K) → old ≡ first → IsCalled taken paper paper' told s m t old.tasks.printed new → IsCalled taken paper paper' told s m t first.tasks.printed new
+pub called_so : {K : Type 0} (taken : K → Option (List ℕ)) (told : Option (List (List ℕ))) (s : Session) (m : SessionJob) (t : Task) (first old new : Machine) (paper paper' : K) → old ≡ first → IsCalled taken paper paper' told s m t old.tasks.printed new → IsCalled taken paper paper' told s m t first.tasks.printed new
 called_so taken told s m t first old new paper paper' same h = let P : Machine → Type 0 = λ k. IsCalled taken paper paper' told s m t k.tasks.printed new in subst P same h
 
 -- an intrinsic's stop is the try's
-pub stops_so : {K : Type 0} (taken : K → Option (List ℕ)) (x : Storage) (told : Option (List (List ℕ))) (plan : Plan) (s : Session) (m : Member) (t : Task) (n : ℕ) (stop : Stop) (first old new : Machine) (paper paper' : K) → called_in m t ≡ Some n → old ≡ first
+pub stops_so : {K : Type 0} (taken : K → Option (List ℕ)) (x : Storage) (told : Option (List (List ℕ))) (plan : Placement) (s : Session) (m : SessionJob) (t : Task) (n : ℕ) (stop : Stop) (first old new : Machine) (paper paper' : K) → called_in m t ≡ Some n → old ≡ first
     → CallMeets taken x told plan s m t n (Err stop) old new paper paper' → TryMeets taken x told plan s m t (Err stop) first new paper paper'
 stops_so taken x told plan s m t n stops.PrintFault first old new paper paper' called same h =
     let P : Machine → Type 0 = λ k. IsCut taken paper paper' m t k.tasks.printed new.tasks.printed × OnlyPrinted k new in subst P same h

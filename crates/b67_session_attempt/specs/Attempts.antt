@@ -1,13 +1,14 @@
 -- What the next operator of the running task answers and leaves, with what it wants brought into core.
 use Rattle.std.specs.Prelude.{◌≡◌, ◌≢◌, ℕ, ◌<◌, ◌≤◌, ◌⊎◌, List, Option, Some, None, Result, Ok, Err}
-use Rattle.b67_model.specs.State.{Ready, Task, Member}
+use Rattle.b67_io.specs.Causes.{Rose}
+use Rattle.b67_model.specs.State.{Ready, Task, SessionJob}
 use Rattle.b67_model.specs.Sectors.{sectors}
 use Rattle.b67_model.specs.Need.{touched_of, need}
 use Rattle.b67_model.specs.Rows.{step}
 use Rattle.b67_model.specs.Schedule.{Session}
 use Rattle.b67_model.specs.InOrder.{IsInOrderButPlaces}
-use Rattle.b67_stack.specs.Stands.{Storage}
-use Rattle.b67_layout.specs.Plan.{Plan}
+use Rattle.b67_stack.specs.Represents.{Storage}
+use Rattle.b67_layout.specs.Placement.{Placement}
 use Rattle.b67_layout.specs.Session.{IsRunning}
 use Rattle.b67_exec_cells.specs.Called.{called_in}
 use Rattle.b67_law_order_steps.specs.Weaker.{AllOtherNumbers}
@@ -16,8 +17,9 @@ use Rattle.b67_layout.specs.Meets.{area_held}
 use Rattle.b67_exec_cells.specs.Running.{code_area}
 use Rattle.b67_task_tables.specs.declared.tables.Machine.{Machine}
 use Rattle.b67_task_tables.specs.declared.tables.Tasks.{Tasks}
-use Rattle.b67_task_tables.specs.Tables.{MachineStands}
+use Rattle.b67_task_tables.specs.Tables.{MachineRepresents}
 use Rattle.b67_mcp.specs.Called.{IsCalled, IsCut}
+use Rattle.b67_mcp.specs.Running.{IsHeard}
 use Rattle.b67_mcp.specs.declared.ends.Stop.{Stop}
 use Rattle.b67_mcp.specs.declared.ends.Stop.TheVariants as stops
 use Rattle.b67_session_attempt.specs.declared.attempts.Attempt.{Attempt}
@@ -27,9 +29,9 @@ use Rattle.b67_session_attempt.specs.Tries.{EndsSo}
 -- the machine stands for some session in order over a device that tells this, and a ready task of it runs
 pub record RunsOver (k : Machine) (told : Option (List (List ℕ))) : Type 0 where
   pub storage : Storage
-  pub plan : Plan
+  pub plan : Placement
   pub session : Session
-  pub member : Member
+  pub member : SessionJob
   pub task : Task
   pub ordered : IsInOrderButPlaces session
   pub stands : StandsOver storage told k plan session
@@ -37,25 +39,25 @@ pub record RunsOver (k : Machine) (told : Option (List (List ℕ))) : Type 0 whe
   pub ready : task.condition ≡ Ready
 
 -- the machine stands for the session, in some storage
-abbrev pub StillStands : Option (List (List ℕ)) → Machine → Plan → Session → Type 0
-StillStands told k plan s = (x : Storage) × MachineStands x told k plan s
+abbrev pub StillStands : Option (List (List ℕ)) → Machine → Placement → Session → Type 0
+StillStands told k plan s = (x : Storage) × MachineRepresents x told k plan s
 
 -- the running segment is absent, or the array that the step touches is
-abbrev pub IsLacking : Storage → Plan → Member → Task → Type 0
+abbrev pub IsLacking : Storage → Placement → SessionJob → Task → Type 0
 IsLacking x plan m t =
     (code_area x plan m t ≡ None)
-    ⊎ ((a : ℕ) × (touched_of m.setting m.course.job t (step m.setting m.course.job t) ≡ Some a) × (area_held x plan m.setting.number a ≡ None))
+    ⊎ ((a : ℕ) × (touched_of m.constants m.progress.job t (step m.constants m.progress.job t) ≡ Some a) × (area_held x plan m.constants.number a ≡ None))
 
 -- the machine stands for the session, whose next step lacks its segment or its array; it needs no more words than core has,
 -- or its segment is absent. `exact` is as below
-pub record StandsLacking (exact : Type 0) (told : Option (List (List ℕ))) (core : ℕ) (k : Machine) (plan : Plan) (s : Session) (m : Member) (t : Task) : Type 0 where
+pub record StandsLacking (exact : Type 0) (told : Option (List (List ℕ))) (core : ℕ) (k : Machine) (plan : Placement) (s : Session) (m : SessionJob) (t : Task) : Type 0 where
   pub storage : Storage
-  pub stands : MachineStands storage told k plan s
+  pub stands : MachineRepresents storage told k plan s
   pub lacks : exact → IsLacking storage plan m t
   pub room : exact → (need core s m t ≤ core) ⊎ (code_area storage plan m t ≡ None)
 
 -- and a present array that keeps no chain wants more sectors than are free
-pub record StandsShort (exact : Type 0) (told : Option (List (List ℕ))) (core : ℕ) (k : Machine) (plan : Plan) (s : Session) (m : Member) (t : Task) : Type 0 where
+pub record StandsShort (exact : Type 0) (told : Option (List (List ℕ))) (core : ℕ) (k : Machine) (plan : Placement) (s : Session) (m : SessionJob) (t : Task) : Type 0 where
   pub lacking : StandsLacking exact told core k plan s m t
   pub wants : ℕ
   pub free : ℕ
@@ -64,7 +66,7 @@ pub record StandsShort (exact : Type 0) (told : Option (List (List ℕ))) (core 
 -- by what was answered, over a core of so many words and a device of so many sectors; so many first bytes of what is printed
 -- next were printed before. `exact` is whether the device tells what its sectors hold: one that doesn't may give back other
 -- code, on which the task ends
-abbrev pub AttemptMeets : {K : Type 0} → (K → Option (List ℕ)) → Option (List (List ℕ)) → Type 0 → ℕ → ℕ → ℕ → Plan → Session → Member → Task → Result Attempt Stop → Machine → K → K → Type 0
+abbrev pub AttemptMeets : {K : Type 0} → (K → Option (List ℕ)) → Option (List (List ℕ)) → Type 0 → ℕ → ℕ → ℕ → Placement → Session → SessionJob → Task → Result Attempt Stop → Machine → K → K → Type 0
 AttemptMeets taken told exact core count before plan s m t (Ok attempts.Made) new paper paper' = IsCalled taken paper paper' told s m t before new
 AttemptMeets taken told exact core count before plan s m t (Ok (attempts.Ends ending)) new paper paper' =
     (exact → EndsSo m t ending) × StillStands told new plan s × (paper' ≡ paper)
@@ -78,19 +80,22 @@ AttemptMeets taken told exact core count before plan s m t (Err stops.Unbuilt) n
     (n : ℕ) × (called_in m t ≡ Some n) × (12 ≤ n) × StillStands told new plan s × (paper' ≡ paper)
 
 -- the session, or over a device that tells nothing one with other numbers, and what its step answered
-pub record Attempts {K : Type 0} (taken : K → Option (List ℕ)) (x : Storage) (told : Option (List (List ℕ))) (core count before : ℕ) (plan : Plan) (s : Session) (t : Task) (answered : Result Attempt Stop) (new : Machine) (paper paper' : K) : Type 0 where
-  pub jobs : List Member
+pub record Attempts {K : Type 0} (taken : K → Option (List ℕ)) (x : Storage) (told : Option (List (List ℕ))) (core count before : ℕ) (plan : Placement) (s : Session) (t : Task) (answered : Result Attempt Stop) (new : Machine) (paper paper' : K) : Type 0 where
+  pub jobs : List SessionJob
   pub others : AllOtherNumbers s.jobs jobs
   pub same : x.device ≢ None → jobs ≡ s.jobs
-  pub member : Member
+  pub member : SessionJob
   pub running : IsRunning plan jobs member t
   pub meets : AttemptMeets taken told (x.device ≢ None) core count before plan (record s { jobs = jobs }) member t answered new paper paper'
 
--- a step that was made, ends its task, or couldn't be printed needs no more words than core has
-abbrev pub AttemptFits : ℕ → Session → Member → Task → Result Attempt Stop → Type 0
-AttemptFits core s m t (Ok attempted) = need core s m t ≤ core
-AttemptFits core s m t (Err stops.PrintFault) = need core s m t ≤ core
-AttemptFits core s m t (Err stop) = Unit {0}
+-- A step that was made, ends its task, or couldn't be printed needs no more words than core has. Where its segment was
+-- present before, in this storage, a device that is full or fails stops it only if it doesn't either
+abbrev pub AttemptFits : ℕ → Storage → Placement → Session → SessionJob → Task → Result Attempt Stop → Type 0
+AttemptFits core x plan s m t (Ok attempted) = need core s m t ≤ core
+AttemptFits core x plan s m t (Err stops.PrintFault) = need core s m t ≤ core
+AttemptFits core x plan s m t (Err (stops.BackingFull sum size)) = code_area x plan m t ≢ None → need core s m t ≤ core
+AttemptFits core x plan s m t (Err stops.BackingFault) = code_area x plan m t ≢ None → need core s m t ≤ core
+AttemptFits core x plan s m t (Err stop) = Unit {0}
 
 -- the tables are as they were but where the operator was made; after a printer's failure it is counted how much is printed
 abbrev pub TablesStay : Result Attempt Stop → Tasks → Tasks → Type 0
@@ -98,3 +103,8 @@ TablesStay (Ok attempts.Made) old new = Unit {0}
 TablesStay (Ok (attempts.Ends ending)) old new = new ≡ old
 TablesStay (Err stops.PrintFault) old new = new ≡ record old { printed = new.printed }
 TablesStay (Err stop) old new = new ≡ old
+
+-- the device's count of failures has risen where it failed; so has the printer's, which never falls
+pub record HaveCauses {B K : Type 0} (failed : B → ℕ) (unprinted : K → ℕ) (backing backing' : B) (paper paper' : K) (answered : Result Attempt Stop) : Type 0 where
+  pub device : answered ≡ Err stops.BackingFault → Rose failed backing backing'
+  pub printer : IsHeard unprinted paper paper' answered

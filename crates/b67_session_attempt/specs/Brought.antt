@@ -1,6 +1,6 @@
 -- What bringing in answers and leaves that the next operator wants, with the numbers that a stop says.
-use Rattle.std.specs.Prelude.{◌≡◌, ◌≢◌, ℕ, ◌+◌, ◌<◌, List, length, Option, Some, None, Result, Ok, Err}
-use Rattle.b67_model.specs.State.{Task, Member}
+use Rattle.std.specs.Prelude.{◌≡◌, ◌≢◌, ℕ, ◌+◌, ◌<◌, ◌≤◌, List, length, Option, Some, None, Result, Ok, Err}
+use Rattle.b67_model.specs.State.{Task, SessionJob}
 use Rattle.b67_model.specs.Sectors.{sectors}
 use Rattle.b67_model.specs.Need.{touched_of, need}
 use Rattle.b67_model.specs.Rows.{step}
@@ -9,29 +9,29 @@ use Rattle.b67_model.specs.InOrder.{IsInOrderButPlaces}
 use Rattle.b67_backing.specs.declared.refusals.SpaceFault.{SpaceFault}
 use Rattle.b67_backing.specs.declared.refusals.SpaceFault.TheVariants as space
 use Rattle.b67_stack.specs.declared.What.{What}
-use Rattle.b67_stack.specs.Stands.{Storage}
-use Rattle.b67_layout_storage.specs.Machine.{retold}
-use Rattle.b67_layout.specs.Plan.{Plan}
+use Rattle.b67_stack.specs.Represents.{Storage}
+use Rattle.b67_layout_storage.specs.Machine.{content_after}
+use Rattle.b67_layout.specs.Placement.{Placement}
 use Rattle.b67_layout.specs.Session.{IsRunning}
 use Rattle.b67_layout.specs.Meets.{area_held}
 use Rattle.b67_exec_cells.specs.Running.{code_area}
 use Rattle.b67_law_order_steps.specs.Weaker.{AllOtherNumbers}
 use Rattle.b67_task_tables.specs.declared.tables.Machine.{Machine}
-use Rattle.b67_task_tables.specs.Tables.{MachineStands}
+use Rattle.b67_task_tables.specs.Tables.{MachineRepresents}
 use Rattle.b67_presence.specs.Bringing.{Brings}
 use Rattle.b67_mcp.specs.declared.ends.Stop.{Stop}
 use Rattle.b67_mcp.specs.declared.ends.Stop.TheVariants as stops
 use Rattle.b67_session_attempt.specs.Attempts.{StillStands, StandsLacking, StandsShort}
 
 -- the running segment and the array that the step touches are in core
-pub record WantsNothing (x : Storage) (plan : Plan) (m : Member) (t : Task) : Type 0 where
+pub record WantsNothing (x : Storage) (plan : Placement) (m : SessionJob) (t : Task) : Type 0 where
   pub code : code_area x plan m t ≢ None
-  pub array : (a : ℕ) → touched_of m.setting m.course.job t (step m.setting m.course.job t) ≡ Some a → area_held x plan m.setting.number a ≢ None
+  pub array : (a : ℕ) → touched_of m.constants m.progress.job t (step m.constants m.progress.job t) ≡ Some a → area_held x plan m.constants.number a ≢ None
 
 -- the sectors of each session that the machine stands for are so many
 abbrev pub SumsTo : Machine → ℕ → Type 0
 SumsTo k sum =
-    (x : Storage) (told : Option (List (List ℕ))) (plan : Plan) (s : Session) → IsInOrderButPlaces s → MachineStands x told k plan s → sum ≡ sectors s.jobs
+    (x : Storage) (told : Option (List (List ℕ))) (plan : Placement) (s : Session) → IsInOrderButPlaces s → MachineRepresents x told k plan s → sum ≡ sectors s.jobs
 
 -- the stop for a want of space: where sectors are missing, with the session's and the device's
 abbrev pub StopsFor : Machine → SpaceFault → Stop → Type 0
@@ -41,22 +41,29 @@ StopsFor k (space.BackingFull wants free) stop =
 StopsFor k space.BackingFault stop = stop ≡ stops.BackingFault
 
 -- by the reason, as an attempt's: what was wanted is absent where sectors were missing or the device failed
-abbrev pub StopMeets : Option (List (List ℕ)) → Type 0 → ℕ → ℕ → Plan → Session → Member → Task → Stop → Machine → Type 0
+abbrev pub StopMeets : Option (List (List ℕ)) → Type 0 → ℕ → ℕ → Placement → Session → SessionJob → Task → Stop → Machine → Type 0
 StopMeets told exact core count plan s m t (stops.NoCore words size) new = (words ≡ need core s m t) × (size ≡ core) × (core < words) × StillStands told new plan s
 StopMeets told exact core count plan s m t (stops.BackingFull sum size) new = (sum ≡ sectors s.jobs) × (size ≡ count) × (count < sum) × StandsShort exact told core new plan s m t
 StopMeets told exact core count plan s m t stops.BackingFault new = StandsLacking exact told core new plan s m t
 StopMeets told exact core count plan s m t _ new = ⊥
 
 -- the session, or over a device that tells nothing one with other numbers, and why it goes no further
-pub record Stopped (x : Storage) (told : Option (List (List ℕ))) (core count : ℕ) (plan : Plan) (s : Session) (t : Task) (stop : Stop) (new : Machine) : Type 0 where
-  pub jobs : List Member
+pub record Stopped (x : Storage) (told : Option (List (List ℕ))) (core count : ℕ) (plan : Placement) (s : Session) (t : Task) (stop : Stop) (new : Machine) : Type 0 where
+  pub jobs : List SessionJob
   pub others : AllOtherNumbers s.jobs jobs
   pub same : x.device ≢ None → jobs ≡ s.jobs
-  pub member : Member
+  pub member : SessionJob
   pub running : IsRunning plan jobs member t
   pub meets : StopMeets told (x.device ≢ None) core count plan (record s { jobs = jobs }) member t stop new
 
+-- where the running segment was present, in this storage, a device that is full or fails refuses what is wanted only if core
+-- has the words that the step needs
+abbrev pub BroughtFits : ℕ → Storage → Placement → Session → SessionJob → Task → Result (Unit {0}) Stop → Type 0
+BroughtFits core x plan s m t (Err (stops.BackingFull sum size)) = code_area x plan m t ≢ None → need core s m t ≤ core
+BroughtFits core x plan s m t (Err stops.BackingFault) = code_area x plan m t ≢ None → need core s m t ≤ core
+BroughtFits core x plan s m t _ = Unit {0}
+
 -- by what was answered
-abbrev pub BroughtMeets : Storage → Option (List (List ℕ)) → ℕ → ℕ → Plan → Session → Member → Task → What → Result (Unit {0}) Stop → Machine → Type 0
+abbrev pub BroughtMeets : Storage → Option (List (List ℕ)) → ℕ → ℕ → Placement → Session → SessionJob → Task → What → Result (Unit {0}) Stop → Machine → Type 0
 BroughtMeets x told core count plan s m t found (Ok done) new = Brings x told new plan s m t found
-BroughtMeets x told core count plan s m t found (Err stop) new = Stopped x (retold x.device told) core count plan s t stop new
+BroughtMeets x told core count plan s m t found (Err stop) new = Stopped x (content_after x.device told) core count plan s t stop new

@@ -1,22 +1,22 @@
 -- Core has room for what is present beside the stacks.
 use Rattle.std.specs.Prelude.{◌≡◌, ℕ, ◌≤◌, length, Option, Some, None}
 use Rattle.b67_lemmas.specs.Lists.{Has}
-use Rattle.b67_model.specs.State.{Array, Task, Job, Member}
+use Rattle.b67_model.specs.State.{Array, Task, Job, SessionJob}
 use Rattle.b67_model.specs.Rows.{step}
 use Rattle.b67_model.specs.Schedule.{Session}
 use Rattle.b67_model.specs.Need.{touched_of, started_by, need}
 use Rattle.b67_stack.specs.declared.Cpu.{Cpu}
-use Rattle.b67_stack.specs.Stands.{Storage}
-use Rattle.b67_layout.specs.Plan.{Plan}
+use Rattle.b67_stack.specs.Represents.{Storage}
+use Rattle.b67_layout.specs.Placement.{Placement}
 use Rattle.b67_layout.specs.Meets.{area_held, IsPresent, ForEach}
 use Rattle.b67_exec_cells.specs.Running.{code_area}
 use Rattle.b67_task_need.specs.Needing.{need_with}
 
 -- a core of so many words has room for the running segment beside the MCP, the dictionaries and the stacks, and for each
 -- present array of the running task's job with it
-pub record HasSpace (x : Storage) (plan : Plan) (s : Session) (m : Member) (t : Task) (core : ℕ) : Type 0 where
+pub record HasSpace (x : Storage) (plan : Placement) (s : Session) (m : SessionJob) (t : Task) (core : ℕ) : Type 0 where
   pub code : need_with s m t 0 0 ≤ core
-  pub array : (a : Array) (at : ℕ) → Has m.course.job.arrays a → area_held x plan m.setting.number a.identity ≡ Some at
+  pub array : (a : Array) (at : ℕ) → Has m.progress.job.arrays a → area_held x plan m.constants.number a.identity ≡ Some at
       → need_with s m t 0 (length a.numbers) ≤ core
 
 -- where the running segment is present, core has that room
@@ -35,7 +35,7 @@ abbrev pub MadeFits : Type 0
 MadeFits =
     (cpu : Cpu) → ForEach cpu (λ x plan s m t.
     (at : ℕ) (touched : Option ℕ) → code_area x plan m t ≡ Some at
-    → touched_of m.setting m.course.job t (step m.setting m.course.job t) ≡ touched
-    → IsPresent x plan m.setting.number touched → IsOfJob m.course.job touched
-    → started_by m.course.job (step m.setting m.course.job t) ≡ 0
+    → touched_of m.constants m.progress.job t (step m.constants m.progress.job t) ≡ touched
+    → IsPresent x plan m.constants.number touched → IsOfJob m.progress.job touched
+    → started_by m.progress.job (step m.constants m.progress.job t) ≡ 0
     → need (length cpu.core) s m t ≤ length cpu.core)

@@ -3,21 +3,19 @@ use Rattle.std.specs.Prelude.{◌≡◌, ℕ, ◌≤◌, List, length, Option, S
 use Rattle.b67_word.specs.declared.faults.Ending.{Ending}
 use Rattle.b67_word.specs.declared.faults.Ending.TheVariants.{Ended, Faulted}
 use Rattle.b67_lemmas.specs.Lists.{Has}
-use Rattle.b67_model.specs.State.{Array, Ready, Task, Member}
+use Rattle.b67_model.specs.State.{Array, Ready, Task, SessionJob}
 use Rattle.b67_model.specs.Steps.{Leaves}
 use Rattle.b67_model.specs.Rows.{step}
 use Rattle.b67_model.specs.Need.{touched_of, need}
 use Rattle.b67_model.specs.Schedule.{Session}
-use Rattle.b67_model.specs.InOrder.{IsInOrderButPlaces}
 use Rattle.b67_stack.specs.declared.What.{What}
 use Rattle.b67_stack.specs.declared.What.TheVariants as what
-use Rattle.b67_stack.specs.Stands.{Storage}
-use Rattle.b67_layout.specs.Plan.{Plan}
-use Rattle.b67_layout.specs.Session.{IsRunning}
+use Rattle.b67_stack.specs.Represents.{Storage}
+use Rattle.b67_layout.specs.Placement.{Placement}
 use Rattle.b67_exec_cells.specs.Called.{called_in}
 use Rattle.b67_presence.specs.Bringing.{IsWanted}
 use Rattle.b67_task_tables.specs.declared.tables.Machine.{Machine}
-use Rattle.b67_task_tables.specs.Tables.{MachineStands}
+use Rattle.b67_task_tables.specs.Runs.{RunsTask}
 use Rattle.b67_mcp.specs.Called.{IsCalled, IsCut, OnlyPrinted}
 use Rattle.b67_mcp.specs.declared.ends.Stop.{Stop}
 use Rattle.b67_mcp.specs.declared.ends.Stop.TheVariants as stops
@@ -26,32 +24,24 @@ use Rattle.b67_session_attempt.specs.declared.tries.Tried.TheVariants as tries
 
 -- the machine stands for some session in order, of which a ready task runs
 pub record ReadyRuns (k : Machine) : Type 0 where
-  pub storage : Storage
-  pub told : Option (List (List ℕ))
-  pub plan : Plan
-  pub session : Session
-  pub member : Member
-  pub task : Task
-  pub ordered : IsInOrderButPlaces session
-  pub stands : MachineStands storage told k plan session
-  pub running : IsRunning plan session.jobs member task
-  pub ready : task.condition ≡ Ready
+  pub runs : RunsTask k
+  pub ready : runs.task.condition ≡ Ready
 
 -- the running segment is wanted, or the array that the step touches, by the address of its original
-abbrev pub IsTouched : Plan → Member → Task → What → ℕ → Type 0
+abbrev pub IsTouched : Placement → SessionJob → Task → What → ℕ → Type 0
 IsTouched plan m t (what.Code displacement) words = Unit {0}
 IsTouched plan m t (what.Array home) words =
-    (a : Array) × Has m.course.job.arrays a × (plan.home m.setting.number a.identity ≡ home)
-    × (touched_of m.setting m.course.job t (step m.setting m.course.job t) ≡ Some a.identity) × (words ≡ length a.numbers)
+    (a : Array) × Has m.progress.job.arrays a × (plan.home m.constants.number a.identity ≡ home)
+    × (touched_of m.constants m.progress.job t (step m.constants m.progress.job t) ≡ Some a.identity) × (words ≡ length a.numbers)
 
 -- the step ends its task so by itself
-abbrev pub EndsSo : Member → Task → Ending → Type 0
-EndsSo m t Ended = step m.setting m.course.job t ≡ Ok Leaves
-EndsSo m t (Faulted fault) = step m.setting m.course.job t ≡ Err fault
+abbrev pub EndsSo : SessionJob → Task → Ending → Type 0
+EndsSo m t Ended = step m.constants m.progress.job t ≡ Ok Leaves
+EndsSo m t (Faulted fault) = step m.constants m.progress.job t ≡ Err fault
 EndsSo m t _ = ⊥
 
 -- by what was answered. Where the step wasn't made nothing has changed but, after a printer's failure, how much is printed
-abbrev pub TryMeets : {K : Type 0} → (K → Option (List ℕ)) → Storage → Option (List (List ℕ)) → Plan → Session → Member → Task → Result Tried Stop → Machine → Machine → K → K → Type 0
+abbrev pub TryMeets : {K : Type 0} → (K → Option (List ℕ)) → Storage → Option (List (List ℕ)) → Placement → Session → SessionJob → Task → Result Tried Stop → Machine → Machine → K → K → Type 0
 TryMeets taken x told plan s m t (Ok tries.Made) old new paper paper' = IsCalled taken paper paper' told s m t old.tasks.printed new
 TryMeets taken x told plan s m t (Ok (tries.Absent found)) old new paper paper' =
     (words : ℕ) × IsWanted x plan m t found words × IsTouched plan m t found words × (new ≡ old) × (paper' ≡ paper)
@@ -61,7 +51,7 @@ TryMeets taken x told plan s m t (Err stops.Unbuilt) old new paper paper' = (n :
 TryMeets taken x told plan s m t (Err _) old new paper paper' = ⊥
 
 -- a step that was made, ends its task, or couldn't be printed needs no more words than core has
-abbrev pub TryFits : ℕ → Session → Member → Task → Result Tried Stop → Type 0
+abbrev pub TryFits : ℕ → Session → SessionJob → Task → Result Tried Stop → Type 0
 TryFits core s m t (Ok tries.Made) = need core s m t ≤ core
 TryFits core s m t (Ok (tries.Absent found)) = Unit {0}
 TryFits core s m t (Ok (tries.Ends ending)) = need core s m t ≤ core

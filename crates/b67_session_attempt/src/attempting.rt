@@ -2,41 +2,43 @@
 
 ghost use Rattle.std.specs.Prelude.{◌≡◌, ◌≢◌, ℕ, ◌+◌, ◌≤◌, List, Option, Some, None, Err, length};
 ghost use Rattle.b67_io.specs.Causes.{Rose};
-ghost use Rattle.b67_model.specs.State.{Ready, Task, Member};
+ghost use Rattle.b67_model.specs.State.{Ready, Task, SessionJob};
 ghost use Rattle.b67_model.specs.Schedule.{Session};
 ghost use Rattle.b67_model.specs.InOrder.{IsInOrderButPlaces};
-ghost use Rattle.b67_stack.specs.Stands.{Storage};
-ghost use Rattle.b67_layout_storage.specs.Machine.{Served, retold};
-ghost use Rattle.b67_layout.specs.Plan.{Plan};
+ghost use Rattle.b67_stack.specs.Represents.{Storage};
+ghost use Rattle.b67_layout_storage.specs.Machine.{DeviceAfterCalls, content_after};
+ghost use Rattle.b67_layout.specs.Placement.{Placement};
 ghost use Rattle.b67_layout.specs.Session.{IsRunning};
 ghost use Rattle.b67_exec_cells.specs.Running.{code_area};
-ghost use Rattle.b67_task_tables.specs.Tables.{MachineStands};
+ghost use Rattle.b67_task_tables.specs.Tables.{MachineRepresents};
+ghost use Rattle.b67_task_tables.specs.Runs.{Keeps};
 ghost use Rattle.b67_presence.specs.Bringing.{StandsOver};
 ghost use Rattle.b67_mcp.specs.Called.{AreCountable};
 ghost use Rattle.b67_mcp.specs.declared.ends.Stop.TheVariants.{BackingFault, PrintFault};
 ghost use Rattle.b67_session_attempt.specs.Tries.{ReadyRuns};
 ghost use Rattle.b67_session_attempt.specs.Brought.{WantsNothing};
-ghost use Rattle.b67_session_attempt.specs.Attempts.{RunsOver, Attempts, AttemptFits, TablesStay};
+ghost use Rattle.b67_session_attempt.specs.Attempts.{RunsOver, HaveCauses, Attempts, AttemptFits, TablesStay};
 
 use crate::attempts::Attempt;
 use crate::bringing::bring_wanted;
 use crate::tries::{Tried, try_once};
 use b67_backing::Backing;
-use b67_mcp::Stop;
 use b67_io::Sink;
+use b67_mcp::Stop;
 use b67_task_tables::Machine;
 use b67_word::{Ending, Fault};
 
 /// Makes the next operator, whose segment and array are present. Over a device that doesn't tell what its sectors hold, the
 /// code that was read back may want another array: it then ends its task by INVALID OPERATOR.
+#[inline(always)]
 fn last_try<K: Sink>(machine: &mut Machine, paper: &mut K) -> Result<Attempt, Stop>
     requires runs { ReadyRuns machine.old }
     requires countable { AreCountable machine.old.tasks.jobs }
-    ensures row { (x : Storage) (core count : ℕ) (plan : Plan) (s : Session) (m : Member) (t : Task) → IsInOrderButPlaces s → MachineStands x x.device machine.old plan s
+    ensures row { (x : Storage) (core count : ℕ) (plan : Placement) (s : Session) (m : SessionJob) (t : Task) → IsInOrderButPlaces s → MachineRepresents x x.device machine.old plan s
         → IsRunning plan s.jobs m t → t.condition ≡ Ready → (x.device ≢ None → WantsNothing x plan m t)
         → Attempts K.taken x x.device core count machine.old.tasks.printed plan s t result machine.new paper.old paper.new }
-    ensures fits { (x : Storage) (plan : Plan) (s : Session) (m : Member) (t : Task) → IsInOrderButPlaces s → MachineStands x x.device machine.old plan s
-        → IsRunning plan s.jobs m t → t.condition ≡ Ready → WantsNothing x plan m t → AttemptFits (length machine.old.cpu.core) s m t result }
+    ensures fits { (x : Storage) (plan : Placement) (s : Session) (m : SessionJob) (t : Task) → IsInOrderButPlaces s → MachineRepresents x x.device machine.old plan s
+        → IsRunning plan s.jobs m t → t.condition ≡ Ready → WantsNothing x plan m t → AttemptFits (length machine.old.cpu.core) x plan s m t result }
     ensures full { result ≢ Err BackingFault }
     ensures print_cause { result ≡ Err PrintFault → Rose K.faults paper.old paper.new }
     ensures later { K.faults paper.old ≤ K.faults paper.new }
@@ -55,6 +57,7 @@ fn last_try<K: Sink>(machine: &mut Machine, paper: &mut K) -> Result<Attempt, St
 }
 
 /// Makes the next operator, whose segment is present, with the array that it touches brought in first.
+#[inline(always)]
 fn with_code<B: Backing, K: Sink>(
     machine: &mut Machine,
     backing: &mut B,
@@ -63,11 +66,11 @@ fn with_code<B: Backing, K: Sink>(
     requires runs { RunsOver machine.old (B.holds backing.old) }
     requires countable { AreCountable machine.old.tasks.jobs }
     requires same { B.size backing.old + 1 ≡ length machine.old.sectors.links }
-    ensures row { (x : Storage) (plan : Plan) (s : Session) (m : Member) (t : Task) → IsInOrderButPlaces s → StandsOver x (B.holds backing.old) machine.old plan s
+    ensures row { (x : Storage) (plan : Placement) (s : Session) (m : SessionJob) (t : Task) → IsInOrderButPlaces s → StandsOver x (B.holds backing.old) machine.old plan s
         → IsRunning plan s.jobs m t → t.condition ≡ Ready → code_area x plan m t ≢ None
-        → Attempts K.taken x (retold x.device (B.holds backing.new)) (length machine.old.cpu.core) (B.size backing.old) machine.old.tasks.printed plan s t result machine.new paper.old paper.new }
-    ensures fits { (x : Storage) (plan : Plan) (s : Session) (m : Member) (t : Task) → IsInOrderButPlaces s → StandsOver x (B.holds backing.old) machine.old plan s
-        → IsRunning plan s.jobs m t → t.condition ≡ Ready → code_area x plan m t ≢ None → x.device ≢ None → AttemptFits (length machine.old.cpu.core) s m t result }
+        → Attempts K.taken x (content_after x.device (B.holds backing.new)) (length machine.old.cpu.core) (B.size backing.old) machine.old.tasks.printed plan s t result machine.new paper.old paper.new }
+    ensures fits { (x : Storage) (plan : Placement) (s : Session) (m : SessionJob) (t : Task) → IsInOrderButPlaces s → StandsOver x (B.holds backing.old) machine.old plan s
+        → IsRunning plan s.jobs m t → t.condition ≡ Ready → code_area x plan m t ≢ None → x.device ≢ None → AttemptFits (length machine.old.cpu.core) x plan s m t result }
     ensures full_cause { result ≡ Err BackingFault → Rose B.faults backing.old backing.new }
     ensures print_cause { result ≡ Err PrintFault → Rose K.faults paper.old paper.new }
     ensures later { K.faults paper.old ≤ K.faults paper.new }
@@ -76,7 +79,7 @@ fn with_code<B: Backing, K: Sink>(
     ensures count { length machine.new.sectors.links ≡ length machine.old.sectors.links }
     ensures halt { machine.new.tasks.halt ≡ machine.old.tasks.halt }
     ensures tables { TablesStay result machine.old.tasks machine.new.tasks }
-    ensures device { Served B.holds B.size B.calls B.faults backing.old backing.new }
+    ensures device { DeviceAfterCalls B.holds B.size B.calls B.faults backing.old backing.new }
 {
     match try_once(machine, paper) {
         Ok(Tried::Made) => Ok(Attempt::Made),
@@ -99,6 +102,7 @@ fn with_code<B: Backing, K: Sink>(
 /// for the same session; after want of sectors and a failure of the backing its segment or its array is absent. Where both
 /// are present the backing isn't called. After `PrintFault` `printed` is raised by the bytes that were taken. Over a device
 /// that doesn't tell what its sectors hold, the words that it gave back may be others, and as many.
+#[inline(always)]
 pub fn attempt<B: Backing, K: Sink>(
     machine: &mut Machine,
     backing: &mut B,
@@ -107,22 +111,18 @@ pub fn attempt<B: Backing, K: Sink>(
     requires runs { RunsOver machine.old (B.holds backing.old) }
     requires countable { AreCountable machine.old.tasks.jobs }
     requires same { B.size backing.old + 1 ≡ length machine.old.sectors.links }
-    ensures row { (x : Storage) (plan : Plan) (s : Session) (m : Member) (t : Task) → IsInOrderButPlaces s → StandsOver x (B.holds backing.old) machine.old plan s
+    ensures row { (x : Storage) (plan : Placement) (s : Session) (m : SessionJob) (t : Task) → IsInOrderButPlaces s → StandsOver x (B.holds backing.old) machine.old plan s
         → IsRunning plan s.jobs m t → t.condition ≡ Ready
-        → Attempts K.taken x (retold x.device (B.holds backing.new)) (length machine.old.cpu.core) (B.size backing.old) machine.old.tasks.printed plan s t result machine.new paper.old paper.new }
-    ensures fits { (x : Storage) (plan : Plan) (s : Session) (m : Member) (t : Task) → IsInOrderButPlaces s → StandsOver x (B.holds backing.old) machine.old plan s
-        → IsRunning plan s.jobs m t → t.condition ≡ Ready → x.device ≢ None → AttemptFits (length machine.old.cpu.core) s m t result }
-    ensures quiet { (x : Storage) (plan : Plan) (s : Session) (m : Member) (t : Task) → IsInOrderButPlaces s → StandsOver x (B.holds backing.old) machine.old plan s
+        → Attempts K.taken x (content_after x.device (B.holds backing.new)) (length machine.old.cpu.core) (B.size backing.old) machine.old.tasks.printed plan s t result machine.new paper.old paper.new }
+    ensures fits { (x : Storage) (plan : Placement) (s : Session) (m : SessionJob) (t : Task) → IsInOrderButPlaces s → StandsOver x (B.holds backing.old) machine.old plan s
+        → IsRunning plan s.jobs m t → t.condition ≡ Ready → x.device ≢ None → AttemptFits (length machine.old.cpu.core) x plan s m t result }
+    ensures quiet { (x : Storage) (plan : Placement) (s : Session) (m : SessionJob) (t : Task) → IsInOrderButPlaces s → StandsOver x (B.holds backing.old) machine.old plan s
         → IsRunning plan s.jobs m t → t.condition ≡ Ready → WantsNothing x plan m t → backing.new ≡ backing.old }
-    ensures full_cause { result ≡ Err BackingFault → Rose B.faults backing.old backing.new }
-    ensures print_cause { result ≡ Err PrintFault → Rose K.faults paper.old paper.new }
-    ensures later { K.faults paper.old ≤ K.faults paper.new }
+    ensures causes { HaveCauses B.faults K.faults backing.old backing.new paper.old paper.new result }
     ensures countable { AreCountable machine.new.tasks.jobs }
-    ensures len { length machine.new.cpu.core ≡ length machine.old.cpu.core }
-    ensures count { length machine.new.sectors.links ≡ length machine.old.sectors.links }
-    ensures halt { machine.new.tasks.halt ≡ machine.old.tasks.halt }
+    ensures keeps { Keeps machine.old machine.new }
     ensures tables { TablesStay result machine.old.tasks machine.new.tasks }
-    ensures device { Served B.holds B.size B.calls B.faults backing.old backing.new }
+    ensures device { DeviceAfterCalls B.holds B.size B.calls B.faults backing.old backing.new }
 {
     match try_once(machine, paper) {
         Ok(Tried::Made) => Ok(Attempt::Made),

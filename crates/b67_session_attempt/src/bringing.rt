@@ -2,27 +2,28 @@
 
 ghost use Rattle.std.specs.Prelude.{◌≡◌, ◌≢◌, ℕ, ◌+◌, List, Option, Err, length};
 ghost use Rattle.b67_io.specs.Causes.{Rose};
-ghost use Rattle.b67_model.specs.State.{Task, Member};
+ghost use Rattle.b67_model.specs.State.{Task, SessionJob};
 ghost use Rattle.b67_model.specs.Schedule.{Session};
 ghost use Rattle.b67_model.specs.InOrder.{IsInOrderButPlaces};
-ghost use Rattle.b67_stack.specs.Stands.{Storage};
-ghost use Rattle.b67_layout_storage.specs.Machine.{Served};
-ghost use Rattle.b67_layout.specs.Plan.{Plan};
+ghost use Rattle.b67_stack.specs.Represents.{Storage};
+ghost use Rattle.b67_layout_storage.specs.Machine.{DeviceAfterCalls};
+ghost use Rattle.b67_layout.specs.Placement.{Placement};
 ghost use Rattle.b67_layout.specs.Session.{IsRunning};
 ghost use Rattle.b67_task_need.specs.Needing.{StandsInOrder};
 ghost use Rattle.b67_presence.specs.Bringing.{StandsOver, WantsSome, IsWanted};
 ghost use Rattle.b67_mcp.specs.declared.ends.Stop.TheVariants.{BackingFault, PrintFault};
 ghost use Rattle.b67_session_attempt.specs.Tries.{IsTouched};
-ghost use Rattle.b67_session_attempt.specs.Brought.{StopsFor, BroughtMeets};
+ghost use Rattle.b67_session_attempt.specs.Brought.{StopsFor, BroughtFits, BroughtMeets};
 
 use b67_backing::{Backing, SpaceFault};
-use b67_presence::bring;
 use b67_mcp::Stop;
-use b67_task_need::sector_sum;
+use b67_presence::bring;
 use b67_stack::What;
+use b67_task_need::sector_sum;
 use b67_task_tables::Machine;
 
 /// The stop for a want of space, with the sectors that the session takes and those of the device where too few are free.
+#[inline(always)]
 fn stopped(machine: &Machine, fault: SpaceFault) -> Stop
     requires { StandsInOrder machine.now }
     ensures { StopsFor machine.now fault result }
@@ -39,6 +40,7 @@ fn stopped(machine: &Machine, fault: SpaceFault) -> Stop
 
 /// Brings in what the next operator wants, whatever has to give way; the running segment is then present too. After a
 /// stop the machine stands for the same session.
+#[inline(always)]
 pub fn bring_wanted<B: Backing>(
     machine: &mut Machine,
     backing: &mut B,
@@ -46,15 +48,18 @@ pub fn bring_wanted<B: Backing>(
 ) -> Result<(), Stop>
     requires wants { WantsSome machine.old (B.holds backing.old) wanted }
     requires same { B.size backing.old + 1 ≡ length machine.old.sectors.links }
-    ensures row { (x : Storage) (plan : Plan) (s : Session) (m : Member) (t : Task) (words : ℕ) → IsInOrderButPlaces s
+    ensures row { (x : Storage) (plan : Placement) (s : Session) (m : SessionJob) (t : Task) (words : ℕ) → IsInOrderButPlaces s
         → StandsOver x (B.holds backing.old) machine.old plan s → IsRunning plan s.jobs m t → IsWanted x plan m t wanted words → IsTouched plan m t wanted words
         → BroughtMeets x (B.holds backing.new) (length machine.old.cpu.core) (B.size backing.old) plan s m t wanted result machine.new }
+    ensures fits { (x : Storage) (plan : Placement) (s : Session) (m : SessionJob) (t : Task) (words : ℕ) → IsInOrderButPlaces s
+        → StandsOver x (B.holds backing.old) machine.old plan s → IsRunning plan s.jobs m t → IsWanted x plan m t wanted words → IsTouched plan m t wanted words
+        → BroughtFits (length machine.old.cpu.core) x plan s m t result }
     ensures cause { result ≡ Err BackingFault → Rose B.faults backing.old backing.new }
     ensures silent { result ≢ Err PrintFault }
     ensures tasks { machine.new.tasks ≡ machine.old.tasks }
     ensures len { length machine.new.cpu.core ≡ length machine.old.cpu.core }
     ensures count { length machine.new.sectors.links ≡ length machine.old.sectors.links }
-    ensures device { Served B.holds B.size B.calls B.faults backing.old backing.new }
+    ensures device { DeviceAfterCalls B.holds B.size B.calls B.faults backing.old backing.new }
 {
     match bring(machine, backing, wanted) {
         Ok(()) => Ok(()),

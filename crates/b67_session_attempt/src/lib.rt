@@ -10,7 +10,7 @@ mod tries;
 
 pub use attempting::attempt;
 pub use attempts::Attempt;
+pub use b67_mcp::Stop;
 pub use fits::{made_fits, present_fits};
 pub use making::make;
 pub use tries::{Tried, try_once};
-pub use b67_mcp::Stop;

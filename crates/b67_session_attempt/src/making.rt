@@ -1,121 +1,40 @@
 //! The operator at the running place, with the arrays given back of an activation record that it leaves.
 
-ghost use Rattle.std.specs.Prelude.{◌≡◌, ℕ, List, Option, length, false};
-ghost use Rattle.b67_ctl.specs.Layout.{IsPlace};
-ghost use Rattle.b67_word.specs.declared.couples.Place.{Place};
-ghost use Rattle.b67_model.specs.State.{Ready, Task, Member};
-ghost use Rattle.b67_model.specs.Entry as rows;
-ghost use Rattle.b67_model.specs.Rows.{row, step};
-ghost use Rattle.b67_model.specs.Schedule.{Session};
-ghost use Rattle.b67_model.specs.InOrder.{IsInOrderButPlaces};
-ghost use Rattle.b67_stack.specs.Stands.{Storage};
-ghost use Rattle.b67_layout.specs.Plan.{Plan};
-ghost use Rattle.b67_layout.specs.Session.{IsRunning};
-ghost use Rattle.b67_layout.specs.Meets.{here};
-ghost use Rattle.b67_model.specs.Called.{called};
-ghost use Rattle.b67_exec.specs.Operators.{ParametersFit};
-ghost use Rattle.b67_layout_step.specs.Keeping.{is_leaving};
-ghost use Rattle.b67_task_need.specs.Needing.{MachineRuns};
-ghost use Rattle.b67_task_tables.specs.Tables.{MachineStands};
-ghost use Rattle.b67_session_attempt.specs.Makes.{StepMakes, CallsOrMakes, MakesOperator, ForEachReady};
+ghost use Rattle.std.specs.Prelude.{◌≡◌};
+ghost use Rattle.b67_task_tables.specs.Runs.{RunsTask, Keeps};
+ghost use Rattle.b67_session_attempt.specs.Makes.{MakesOperator, ForEachReady};
 
-use b67_exec_cells::reading;
-use b67_exec::{exit, perform, retn};
-use b67_model::{Code, Op};
+use b67_exec::operate;
+use b67_stack::Step;
 use b67_task_release::release;
-use b67_stack::{Step, What};
 use b67_task_tables::Machine;
-use b67_word::{Fault, Place};
-
-/// EXIT, with the arrays given back of the activation record that it leaves.
-fn leave_by_exit(machine: &mut Machine) -> Step
-    requires runs { MachineRuns machine.old }
-    ensures row { ForEachReady machine.old (λ x told plan s m t. (next : Place) → step m.setting m.course.job t ≡ rows.exit (here m t next) → StepMakes x told plan s m t result machine.old machine.new) }
-    ensures len { length machine.new.cpu.core ≡ length machine.old.cpu.core }
-    ensures tasks { machine.new.tasks ≡ machine.old.tasks }
-    ensures count { length machine.new.sectors.links ≡ length machine.old.sectors.links }
-{
-    let upto = machine.cpu.regs.s + 1;
-    match exit(&mut machine.cpu) {
-        Step::Done => {
-            let from = machine.cpu.regs.s + 1;
-            release(machine, from, upto);
-            Step::Done
-        }
-        other => other,
-    }
-}
-
-/// RETN, in the same way.
-fn leave_by_retn(machine: &mut Machine) -> Step
-    requires runs { MachineRuns machine.old }
-    ensures row { ForEachReady machine.old (λ x told plan s m t. (next : Place) → step m.setting m.course.job t ≡ rows.retn (here m t next) → StepMakes x told plan s m t result machine.old machine.new) }
-    ensures len { length machine.new.cpu.core ≡ length machine.old.cpu.core }
-    ensures tasks { machine.new.tasks ≡ machine.old.tasks }
-    ensures count { length machine.new.sectors.links ≡ length machine.old.sectors.links }
-{
-    let upto = machine.cpu.regs.s + 1;
-    match retn(&mut machine.cpu) {
-        Step::Done => {
-            let from = machine.cpu.regs.s + 1;
-            release(machine, from, upto);
-            Step::Done
-        }
-        other => other,
-    }
-}
-
-/// An operator that leaves no activation record, behind which the task goes on at `next`.
-fn go_on(machine: &mut Machine, op: Op, next: Place) -> Step
-    requires runs { MachineRuns machine.old }
-    requires parameters { ParametersFit op }
-    requires next { IsPlace next }
-    requires stays { is_leaving op ≡ false }
-    ensures row { ForEachReady machine.old (λ x told plan s m t. step m.setting m.course.job t ≡ row op (here m t next) → CallsOrMakes x told plan s m t result machine.old machine.new (called op (here m t next))) }
-    ensures len { length machine.new.cpu.core ≡ length machine.old.cpu.core }
-    ensures tasks { machine.new.tasks ≡ machine.old.tasks }
-    ensures count { length machine.new.sectors.links ≡ length machine.old.sectors.links }
-{
-    perform(&mut machine.cpu, op, next)
-}
-
-/// An operator, behind which the task goes on at `next`, with the arrays given back of an activation record that it leaves.
-fn operate(machine: &mut Machine, op: Op, next: Place) -> Step
-    requires runs { MachineRuns machine.old }
-    requires parameters { ParametersFit op }
-    requires next { IsPlace next }
-    ensures row { ForEachReady machine.old (λ x told plan s m t. step m.setting m.course.job t ≡ row op (here m t next) → CallsOrMakes x told plan s m t result machine.old machine.new (called op (here m t next))) }
-    ensures len { length machine.new.cpu.core ≡ length machine.old.cpu.core }
-    ensures tasks { machine.new.tasks ≡ machine.old.tasks }
-    ensures count { length machine.new.sectors.links ≡ length machine.old.sectors.links }
-{
-    match op {
-        Op::Plain(Code::Exit) => leave_by_exit(machine),
-        Op::Plain(Code::Retn) => leave_by_retn(machine),
-        _ => go_on(machine, op, next),
-    }
-}
 
 /// Makes the operator at the running place. Where it leaves an activation record, the areas and chains of that record's
 /// arrays are given back. The running task is a ready one, as each task is that was chosen.
 ///
 /// `Absent(Code(..))` exactly where the running segment is absent, and `Call(n)` exactly where the operator calls
 /// intrinsic n. Else `Done`, `Absent(Array(..))`, `Fault` and `Ended` are by the operator's row. Nothing is changed but at
-/// `Done`.
+/// `Done`: then every array, segment and data row that is left is held as it was, in the same area and the same sectors,
+/// and only words have changed that the operator may change and, where a record was left, words of the directory and of
+/// holes.
+#[inline(always)]
 pub fn make(machine: &mut Machine) -> Step
-    requires runs { MachineRuns machine.old }
-    ensures row { (x : Storage) (told : Option (List (List ℕ))) (plan : Plan) (s : Session) (m : Member) (t : Task) → IsInOrderButPlaces s
-        → MachineStands x told machine.old plan s → IsRunning plan s.jobs m t → t.condition ≡ Ready → MakesOperator x told plan s m t result machine.old machine.new }
-    ensures len { length machine.new.cpu.core ≡ length machine.old.cpu.core }
+    requires runs { RunsTask machine.old }
+    ensures row { ForEachReady machine.old (λ x told plan s m t. MakesOperator x told plan s m t result machine.old machine.new) }
+    ensures keeps { Keeps machine.old machine.new }
     ensures tasks { machine.new.tasks ≡ machine.old.tasks }
-    ensures count { length machine.new.sectors.links ≡ length machine.old.sectors.links }
 {
-    let read = match reading(&machine.cpu) {
-        Some(read) => read,
-        None => return Step::Absent(What::Code(machine.cpu.regs.segment)),
-    };
-    match read {
-        Ok((op, next)) => operate(machine, op, next),
-        Err(_) => Step::Fault(Fault::InvalidOperator),
+    let upto = machine.cpu.regs.s + 1;
+    let made = operate(&mut machine.cpu);
+    if !made.left {
+        return made.step;
+    }
+    match made.step {
+        Step::Done => {
+            let from = machine.cpu.regs.s + 1;
+            release(machine, from, upto);
+            Step::Done
+        }
+        other => other,
     }
 }

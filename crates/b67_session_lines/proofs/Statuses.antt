@@ -4,10 +4,10 @@ use Rattle.std.specs.Prelude.{◌&&◌, ◌||◌, ◌==◌, ◌++◌, not, nat_l
 use Rattle.std.specs.List.{list_any}
 use Rattle.std.proofs.lemmas.List.Sums.{sum_by-cons}
 use Rattle.std.proofs.lemmas.Bool.Decides.{nat_tests}
-use Rattle.b67_model.specs.State.{Task, Member}
+use Rattle.b67_model.specs.State.{Task, SessionJob}
 use Rattle.b67_model.specs.Endings.{is_ready}
 use Rattle.b67_model.specs.Schedule.{Who, Session, is_same, is_before, ready_of, ready, afresh, switched, goes_on, first, next_after, choice_by, choice}
-use Rattle.b67_model.specs.Run.{Moment, next, moment_for, live_tasks, lines, lines_from, after, after_from}
+use Rattle.b67_model.specs.Run.{StepResult, next, moment_for, live_tasks, lines, lines_from, after, after_from}
 use Rattle.b67_io.specs.Line.{ended}
 use Rattle.b67_model.specs.Lines.{run_text}
 use Rattle.b67_session_lines.specs.Stops.{Run, halted_line, StopsOnce, live_after, IsFinished, IsHalted, Stops, finished, halted, run_status}
@@ -18,12 +18,12 @@ none : {A : Type 0} (xs : List A) → length xs ≡ 0 → xs ≡ []
 none [] e = refl
 none (x ∷ xs) e = absurd (omega arith)
 
-none-ready : (jobs : List Member) → live_tasks jobs ≡ 0 → flat_map ready_of jobs ≡ []
+none-ready : (jobs : List SessionJob) → live_tasks jobs ≡ 0 → flat_map ready_of jobs ≡ []
 none-ready [] e = refl
 none-ready (m ∷ jobs) e =
-    let both : length m.course.job.tasks + live_tasks jobs ≡ 0 = sym (sum_by-cons (λ (m : Member). length m.course.job.tasks) m jobs) ∙ e in
-    let own : m.course.job.tasks ≡ [] = none m.course.job.tasks (omega (arith, both)) in
-    ap (λ (tasks : List Task). map (λ (t : Task). record { job = m.setting.number; task = t.number }) (filter is_ready (reverse tasks)) ++ flat_map ready_of jobs) own
+    let both : length m.progress.job.tasks + live_tasks jobs ≡ 0 = sym (sum_by-cons (λ (m : SessionJob). length m.progress.job.tasks) m jobs) ∙ e in
+    let own : m.progress.job.tasks ≡ [] = none m.progress.job.tasks (omega (arith, both)) in
+    ap (λ (tasks : List Task). map (λ (t : Task). record { job = m.constants.number; task = t.number }) (filter is_ready (reverse tasks)) ++ flat_map ready_of jobs) own
     ∙ none-ready jobs (omega (arith, both))
 
 none-chosen : (s : Session) → ready s ≡ [] → choice s ≡ None
@@ -43,7 +43,7 @@ after-stays : (n : ℕ) (s : Session) → next s ≡ None → after n s ≡ s
 after-stays zero s e = refl
 after-stays (suc n) s e = ap (after_from (suc n) s) e
 
-one-more : (k m : ℕ) (s : Session) → ((t : Session) → after (k + m) t ≡ after m (after k t)) → (o : Option Moment) → next s ≡ o → after_from (suc (k + m)) s o ≡ after m (after_from (suc k) s o)
+one-more : (k m : ℕ) (s : Session) → ((t : Session) → after (k + m) t ≡ after m (after k t)) → (o : Option StepResult) → next s ≡ o → after_from (suc (k + m)) s o ≡ after m (after_from (suc k) s o)
 one-more k m s more None e = sym (after-stays m s e)
 one-more k m s more (Some n) e = more n.session
 
@@ -61,7 +61,7 @@ no-lines : (n : ℕ) (s : Session) → next s ≡ None → lines n s ≡ []
 no-lines zero s e = refl
 no-lines (suc n) s e = ap (lines_from (suc n)) e
 
-more-lines : (k m : ℕ) (s : Session) → ((t : Session) → lines (k + m) t ≡ lines k t ++ lines m (after k t)) → (o : Option Moment) → next s ≡ o
+more-lines : (k m : ℕ) (s : Session) → ((t : Session) → lines (k + m) t ≡ lines k t ++ lines m (after k t)) → (o : Option StepResult) → next s ≡ o
     → lines_from (suc (k + m)) o ≡ lines_from (suc k) o ++ lines m (after_from (suc k) s o)
 more-lines k m s more None e = sym (no-lines m s e)
 more-lines k m s more (Some n) e = ap (λ ls. n.lines ++ ls) (more n.session) ∙ sym (append_assoc n.lines (lines k n.session) (lines m (after k n.session)))

@@ -5,7 +5,7 @@ use Rattle.std.proofs.lemmas.Grind.{flat_map-append}
 use Rattle.b67_io.specs.Line.{ended}
 use Rattle.b67_model.specs.Schedule.{Session}
 use Rattle.b67_model.specs.Lines.{run_text}
-use Rattle.b67_model.specs.Run.{Moment, next, live_tasks, lines, lines_from, after, after_from}
+use Rattle.b67_model.specs.Run.{StepResult, next, live_tasks, lines, lines_from, after, after_from}
 use Rattle.b67_session_lines.specs.Stops.{Run, live_after, halted_line, IsFinished, IsHalted, Stops, finished, halted}
 
 -- so many steps lead from the first session to this one, and print this text
@@ -22,12 +22,12 @@ ran-none s = record {
 one_more : (n more : ℕ) → n + 1 + more ≡ n + suc more
 one_more n more = omega arith
 
-pub ran-next : (n : ℕ) (first s : Session) (printed : List ℕ) (m : Moment) → Ran n first s printed → next s ≡ Some m → Ran (n + 1) first m.session (printed ++ run_text m.lines)
+pub ran-next : (n : ℕ) (first s : Session) (printed : List ℕ) (m : StepResult) → Ran n first s printed → next s ≡ Some m → Ran (n + 1) first m.session (printed ++ run_text m.lines)
 ran-next n first s printed m r e = record {
   leads = λ more. ap (λ k. after k first) (one_more n more) ∙ r.leads (suc more) ∙ ap (after_from (suc more) s) e;
   prints = λ more.
       ap (λ k. run_text (lines k first)) (one_more n more) ∙ r.prints (suc more)
-      ∙ ap (λ (o : Option Moment). printed ++ run_text (lines_from (suc more) o)) e
+      ∙ ap (λ (o : Option StepResult). printed ++ run_text (lines_from (suc more) o)) e
       ∙ ap (λ text. printed ++ text) (flat_map-append _ m.lines (lines more m.session))
       ∙ sym (append_assoc printed (run_text m.lines) (run_text (lines more m.session)));
 }

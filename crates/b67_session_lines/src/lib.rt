@@ -5,8 +5,6 @@ mod laws;
 mod lines;
 mod names;
 mod printing;
-#[cfg(test)]
-mod tests;
 
 pub use laws::{runs_stop_once, runs_stop_with_their_status, steps_have_parts};
 pub use lines::{ending_line, halted_line, line_of, value_line, with_number, with_text};

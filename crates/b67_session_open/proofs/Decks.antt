@@ -8,23 +8,23 @@ use Rattle.b67_model_text.specs.declared.deck.Job.{Job}
 use Rattle.b67_model_text.specs.declared.deck.Switch as text
 use Rattle.b67_codefile.specs.declared.file.Segment.{Segment}
 use Rattle.b67_codefile.specs.declared.file.Codefile.{Codefile}
-use Rattle.b67_codefile.specs.Spelling.{Bears, IsSegment, IsRow}
+use Rattle.b67_codefile.specs.Spelling.{HasTag, IsSegment, IsRow}
 use Rattle.b67_codefile.specs.Meaning.{segment_of, program_of}
 use Rattle.b67_lemmas.specs.Lists.{Has}
+use Rattle.b67_lemmas.proofs.Places.{get_within}
 use Rattle.b67_model.specs.Program.{Program}
 use Rattle.b67_model.specs.InOrder.{SegmentInOrder}
 use Rattle.b67_law_order_runs.specs.Opening.{RowWithin, OpeningWithin, DeckWithin}
 use Rattle.b67_layout.specs.Rows.{JobRow, TaskRow, TablesShow}
 use Rattle.b67_session_open.specs.Opened.{opening_plan, programs_of}
 use Rattle.b67_session_open.specs.Tables.{first_row, first_rows, opening_rows, opening_counts}
-use Rattle.b67_session_open.proofs.Lists.{item_at}
 use Rattle.b67_session_open.proofs.InitialTables.{tables_show}
 use Rattle.b67_task_tables.specs.declared.tables.JobRow as kept
 use Rattle.b67_task_tables.specs.declared.tables.TaskRow as task
 use Rattle.b67_task_tables.specs.Tables.{switch_of, task_row}
 use Rattle.b67_session_open.specs.Decks.{openings_of, session_of, JobInRange, DeckInRange, IsLoaded, IsCountable}
 
-bits_fit : (tag : ℕ) (ws : List Tagged) → AllByRecursion (Bears tag) ws → AllByRecursion (λ (n : ℕ). n < 2 ^ 48) (contents ws)
+bits_fit : (tag : ℕ) (ws : List Tagged) → AllByRecursion (HasTag tag) ws → AllByRecursion (λ (n : ℕ). n < 2 ^ 48) (contents ws)
 bits_fit tag [] h = tt
 bits_fit tag (w ∷ ws) h = (h.0.bits, bits_fit tag ws h.1)
 
@@ -103,7 +103,7 @@ pushed f (y ∷ xs) x ys = ap (λ zs. f y ∷ zs) (pushed f xs x ys)
 pub rows_step : (rows new : List task.TaskRow) (row : task.TaskRow) (fs : List Codefile) (k : ℕ) (all : List TaskRow) → k < length fs → new ≡ rows ++ row ∷ [] → task_row row ≡ first_row k
     → map task_row rows ++ first_rows k (map program_of (drop k fs)) ≡ all → map task_row new ++ first_rows (k + 1) (map program_of (drop (k + 1) fs)) ≡ all
 rows_step rows new row fs k all low is shows e =
-    let f = item_at fs k low in
+    let f = get_within fs k low in
     let rest = first_rows (k + 1) (map program_of (drop (k + 1) fs)) in
     let next : first_rows k (map program_of (drop k fs)) ≡ first_row k ∷ rest = ap (λ (gs : List Codefile). first_rows k (map program_of gs)) (drop_more fs k f.0 low) in
     ap (λ rs. map task_row rs ++ rest) is

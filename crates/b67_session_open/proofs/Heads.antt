@@ -10,14 +10,14 @@ use Rattle.b67_codefile.specs.declared.file.Codefile.{Codefile}
 use Rattle.b67_codefile.specs.Meaning.{program_of}
 use Rattle.b67_lemmas.specs.Lists.{total}
 use Rattle.b67_model.specs.Program.{Program}
-use Rattle.b67_load.specs.Things.{things_of, entries_of, sectors_of_program}
-use Rattle.b67_load.specs.Resting.{stocked, DictionaryIs, Stocks}
+use Rattle.b67_load.specs.Objects.{objects_of, entries_of, sectors_of_program}
+use Rattle.b67_load.specs.Resting.{stocked, DictionaryIs, WritesFreeSectors}
 use Rattle.b67_load.specs.Writing.{Parts, Spares, Writes}
-use Rattle.b67_load.proofs.Steps.{sectors-things}
+use Rattle.b67_load.proofs.Steps.{sectors-objects}
 use Rattle.b67_load.proofs.Writing.{writes_none, writes_both, spares-refl, spares_both, spares_wider}
-use Rattle.b67_session_open.specs.Opened.{dictionary_words, dictionaries, things_from}
+use Rattle.b67_session_open.specs.Opened.{dictionary_words, dictionaries, objects_from}
 use Rattle.b67_session_open.specs.Words.{HeadLies, HeadsLie}
-use Rattle.b67_session_open.proofs.Things.{things_within}
+use Rattle.b67_session_open.proofs.Objects.{objects_within}
 
 pub head_at : (core : List Tagged) (at : ℕ) (programs : List Program) (k : ℕ) (p : Program) → HeadsLie core at programs → slice_get programs k ≡ Some p → HeadLies core (at + dictionaries (take k programs)) (entries_of p)
 head_at core at [] k p h e = absurd (none-some p e)
@@ -39,20 +39,20 @@ module _ {D : Type 0} (tell : D → Option (List (List ℕ))) where
   -- a program was installed
   pub record Installs (at : ℕ) (p : Program) (old new : Parts D) : Type 0 where
     pub head : HeadLies new.core at (entries_of p)
-    pub writes : Writes tell (things_of at p) old new
+    pub writes : Writes tell (objects_of at p) old new
     pub spares : Spares tell at (dictionary_words p) old new
 
   pub installs : (at : ℕ) (p : Program) (old new : Parts D) → (st : Shelf) × IsShelf old.table st
       → ((s : Shelf) → IsShelf old.table s → DictionaryIs new.core at p s.free)
-      → ((s : Shelf) → IsShelf old.table s → IsShelf new.table (stocked (things_of at p) s))
-      → ((s : Shelf) → IsShelf old.table s → Changes tell old.device new.device (Stocks (things_of at p) s.free))
+      → ((s : Shelf) → IsShelf old.table s → IsShelf new.table (stocked (objects_of at p) s))
+      → ((s : Shelf) → IsShelf old.table s → Changes tell old.device new.device (WritesFreeSectors (objects_of at p) s.free))
       → new.table.free + sectors_of_program p ≡ old.table.free
       → Spares tell at (dictionary_words p) old new → Installs at p old new
   installs at p old new known dictionary shelf stocks left spares =
       let d = dictionary known.0 known.1 in
       record {
         head = record { mark = d.mark; entries = d.entries };
-        writes = record { shelf = shelf; descriptors = λ s is. (dictionary s is).descriptors; stocks = stocks; left = omega (arith, left, sectors-things at p) };
+        writes = record { shelf = shelf; descriptors = λ s is. (dictionary s is).descriptors; stocks = stocks; left = omega (arith, left, sectors-objects at p) };
         spares = spares;
       }
 
@@ -63,7 +63,7 @@ module _ {D : Type 0} (tell : D → Option (List (List ℕ))) where
     pub room : total sectors_of_program rest ≤ now.table.free
     pub known : (st : Shelf) × IsShelf now.table st
     pub spares : Spares tell 160 (dictionaries all) start now
-    pub writes : (end : Parts D) → Writes tell (things_from at rest) now end → Spares tell at (dictionaries rest) now end → Writes tell (things_from 160 all) start end
+    pub writes : (end : Parts D) → Writes tell (objects_from at rest) now end → Spares tell at (dictionaries rest) now end → Writes tell (objects_from 160 all) start end
     pub heads : (core : List Tagged) → ((i : ℕ) → i < at → slice_get core i ≡ slice_get now.core i) → HeadsLie core at rest → HeadsLie core 160 all
 
   pub installing_first : (all : List Program) (start : Parts D) → (st : Shelf) × IsShelf start.table st → total sectors_of_program all ≤ start.table.free → Installing 160 all all start start
@@ -84,11 +84,11 @@ module _ {D : Type 0} (tell : D → Option (List (List ℕ))) where
     by_cons g = record {
       low = omega (arith, g.low);
       high = omega (arith, g.high);
-      room = omega (arith, g.room, step.writes.left, sectors-things at p);
-      known = (stocked (things_of at p) g.known.0, step.writes.shelf g.known.0 g.known.1);
+      room = omega (arith, g.room, step.writes.left, sectors-objects at p);
+      known = (stocked (objects_of at p) g.known.0, step.writes.shelf g.known.0 g.known.1);
       spares = spares_both tell 160 (dictionaries all) start now next g.spares (spares_wider tell at (dictionary_words p) 160 (dictionaries all) now next g.low (omega (arith, g.high)) step.spares);
       writes = λ end v r. g.writes end
-          (writes_both tell (things_of at p) (things_from (at + dictionary_words p) more) (at + dictionary_words p) (dictionaries more) now next end step.writes v r (λ t h. inl (things_within at p t h).high))
+          (writes_both tell (objects_of at p) (objects_from (at + dictionary_words p) more) (at + dictionary_words p) (dictionaries more) now next end step.writes v r (λ t h. inl (objects_within at p t h).high))
           (spares_both tell at (dictionary_words p + dictionaries more) now next end
           (spares_wider tell at (dictionary_words p) at (dictionary_words p + dictionaries more) now next (omega arith) (omega arith) step.spares)
           (spares_wider tell (at + dictionary_words p) (dictionaries more) at (dictionary_words p + dictionaries more) next end (omega arith) (omega arith) r));
@@ -103,9 +103,9 @@ module _ {D : Type 0} (tell : D → Option (List (List ℕ))) where
       (spares_wider tell at (dictionary_words p) 160 (dictionaries all) now next g.low (omega (arith, g.high, ap dictionaries e)) s)
 
   pub installing_all : (at : ℕ) (all rest : List Program) (start now : Parts D) → rest ≡ [] → Installing at all rest start now
-      → (at ≡ 160 + dictionaries all) × HeadsLie now.core 160 all × Writes tell (things_from 160 all) start now
+      → (at ≡ 160 + dictionaries all) × HeadsLie now.core 160 all × Writes tell (objects_from 160 all) start now
   installing_all at all rest start now e g = by_nil (subst (λ (r : List Program). Installing at all r start now) e g) where
-    by_nil : Installing at all [] start now → (at ≡ 160 + dictionaries all) × HeadsLie now.core 160 all × Writes tell (things_from 160 all) start now
+    by_nil : Installing at all [] start now → (at ≡ 160 + dictionaries all) × HeadsLie now.core 160 all × Writes tell (objects_from 160 all) start now
     by_nil g = (omega (arith, g.high), g.heads now.core (λ i h. refl) tt, g.writes now (writes_none tell now) (spares-refl tell at 0 now))
 
 -- the first of the programs that are left

@@ -12,17 +12,18 @@ use Rattle.b67_model.specs.Program.{Program}
 use Rattle.b67_model.specs.Schedule.{Switch}
 use Rattle.b67_law_order_runs.specs.Opening.{Opening, DeckWithin, opening}
 use Rattle.b67_stack.specs.declared.Cpu.{Cpu}
-use Rattle.b67_layout.specs.Session.{McpStands, SessionStands}
+use Rattle.b67_layout.specs.Session.{RepresentsMcp, RepresentsSession}
 use Rattle.b67_load.specs.Resting.{stocked}
 use Rattle.b67_load.specs.Writing.{Parts as Writing_parts, Spares, Writes}
-use Rattle.b67_load.proofs.Shelves.{placed_thing}
-use Rattle.b67_session_open.specs.Opened.{dictionaries, things_from, opening_plan, programs_of}
+use Rattle.b67_load.proofs.Shelves.{placed_object}
+use Rattle.b67_session_open.specs.Opened.{dictionaries, objects_from, opening_plan, programs_of}
 use Rattle.b67_session_open.specs.Words.{SlotsLie, HeadsLie}
-use Rattle.b67_session_open.specs.Stored.{absent_storage, told_after}
+use Rattle.b67_session_open.specs.Stored.{absent_storage}
+use Rattle.b67_layout_storage.specs.Machine.{content_after, DeviceAfterCalls}
 use Rattle.b67_session_open.specs.InitialOpens.{Opens}
 use Rattle.b67_session_open.proofs.Heads.{heads_same}
-use Rattle.b67_session_open.proofs.Things.{is_thing, thing_within, things_long}
-use Rattle.b67_session_open.proofs.Rests.{Stored, thing_stands, owned}
+use Rattle.b67_session_open.proofs.Objects.{is_object, object_within, objects_long}
+use Rattle.b67_session_open.proofs.Rests.{Stored, object_stands, owned}
 use Rattle.b67_session_open.proofs.Whole.{Parts, opening_stands}
 
 pub each_is : {A : Type 0} (x : A) (n k : ℕ) → k < n → slice_get (replicate n x) k ≡ Some x
@@ -32,7 +33,7 @@ each_is x (suc n) (suc k) h = each_is x n k (omega arith)
 
 -- core after the dictionaries were written, where the rest was laid out
 pub record LaidOut (mid : List Tagged) (cpu : Cpu) (areas : Areas) (stack : ℕ) (programs : List Program) : Type 0 where
-  pub mcp : McpStands cpu.core
+  pub mcp : RepresentsMcp cpu.core
   pub slots : SlotsLie cpu.core (160 + dictionaries programs) stack (length programs)
   pub vector : (k : ℕ) → length programs ≤ k → k < 120 → slice_get cpu.core (32 + k) ≡ slice_get mid (32 + k)
   pub kept : (i : ℕ) → 160 ≤ i → i < 160 + dictionaries programs → slice_get cpu.core i ≡ slice_get mid i
@@ -49,13 +50,13 @@ pub record LaidOut (mid : List Tagged) (cpu : Cpu) (areas : Areas) (stack : ℕ)
 module _ {D : Type 0} (tell : D → Option (List (List ℕ))) (old mid : Writing_parts D) (cpu : Cpu) (areas : Areas) (stack : ℕ) (programs : List Program) where
   parts_of : (openings : List Opening) (switches : List Switch) (st : Shelf) → programs_of openings ≡ programs → DeckWithin stack switches openings
       → old.core ≡ replicate (length old.core) (word 0 0) → 160 ≤ length old.core
-      → HeadsLie mid.core 160 programs → Writes tell (things_from 160 programs) old mid → Spares tell 160 (dictionaries programs) old mid
+      → HeadsLie mid.core 160 programs → Writes tell (objects_from 160 programs) old mid → Spares tell 160 (dictionaries programs) old mid
       → LaidOut mid.core cpu areas stack programs → IsShelf old.table st → st.chains ≡ []
-      → Parts (absent_storage cpu.core areas.low (stocked (things_from 160 programs) st) (told_after (tell old.device) (tell mid.device))) cpu stack programs
+      → Parts (absent_storage cpu.core areas.low (stocked (objects_from 160 programs) st) (content_after (tell old.device) (tell mid.device))) cpu stack programs
   parts_of openings switches st same within zero_words some heads writes spares laid is none = record {
     heads = heads_same mid.core cpu.core 160 programs laid.kept heads;
-    things = thing_stands cpu.core areas.low old.table mid.table st (things_from 160 programs) (tell old.device) (tell mid.device) stored;
-    owned = owned cpu.core areas.low old.table mid.table st (things_from 160 programs) (tell old.device) (tell mid.device) stored;
+    objects = object_stands cpu.core areas.low old.table mid.table st (objects_from 160 programs) (tell old.device) (tell mid.device) stored;
+    owned = owned cpu.core areas.low old.table mid.table st (objects_from 160 programs) (tell old.device) (tell mid.device) stored;
     mcp = laid.mcp;
     slots = laid.slots;
     free = λ k low high. laid.vector k low high ∙ (spares.outside (32 + k) (inl (omega (arith, high))) ∙ (ap (λ c. slice_get c (32 + k)) zero_words ∙ each_is (word 0 0) (length old.core) (32 + k) (omega (arith, high, some))));
@@ -68,36 +69,36 @@ module _ {D : Type 0} (tell : D → Option (List (List ℕ))) (old mid : Writing
     directory = laid.directory;
     inside = laid.inside;
   } where
-    stored : Stored cpu.core old.table mid.table st (things_from 160 programs) (tell old.device) (tell mid.device)
+    stored : Stored cpu.core old.table mid.table st (objects_from 160 programs) (tell old.device) (tell mid.device)
     stored = record {
       old_shelf = is;
       new_shelf = writes.shelf st is;
       links = spares.links;
       none = none;
       room = omega (arith, writes.left, is.count);
-      long = λ t h. (things_long 160 openings t within.each (subst (λ (ps : List Program). Has (things_from 160 ps) t) (sym same) h)).0;
+      long = λ t h. (objects_long 160 openings t within.each (subst (λ (ps : List Program). Has (objects_from 160 ps) t) (sym same) h)).0;
       descriptors = λ r h.
-          let home = thing_within programs r.thing (is_thing programs r.thing (placed_thing (things_from 160 programs) st.free r h)) in
-          laid.kept r.thing.home (omega (arith, home.low)) home.high ∙ writes.descriptors st is r h;
+          let home = object_within programs r.object (is_object programs r.object (placed_object (objects_from 160 programs) st.free r h)) in
+          laid.kept r.object.home (omega (arith, home.low)) home.high ∙ writes.descriptors st is r h;
       stocks = λ a e. (writes.stocks st is).told a e;
     }
 
   pub opens : old.core ≡ replicate (length old.core) (word 0 0) → 160 ≤ length old.core
-      → HeadsLie mid.core 160 programs → Writes tell (things_from 160 programs) old mid → Spares tell 160 (dictionaries programs) old mid
+      → HeadsLie mid.core 160 programs → Writes tell (objects_from 160 programs) old mid → Spares tell 160 (dictionaries programs) old mid
       → LaidOut mid.core cpu areas stack programs → (st : Shelf) → IsShelf old.table st → st.chains ≡ []
-      → Opens areas mid.table (told_after (tell old.device) (tell mid.device)) (absent_storage cpu.core areas.low (stocked (things_from 160 programs) st) (told_after (tell old.device) (tell mid.device))) cpu stack programs
+      → Opens areas mid.table (content_after (tell old.device) (tell mid.device)) (absent_storage cpu.core areas.low (stocked (objects_from 160 programs) st) (content_after (tell old.device) (tell mid.device))) cpu stack programs
   opens zero_words some heads writes spares laid st is none = record {
     storage = record { low = refl; size = laid.size; shelf = writes.shelf st is; device = refl };
     session = λ quantum switches openings same within.
-        let x = absent_storage cpu.core areas.low (stocked (things_from 160 programs) st) (told_after (tell old.device) (tell mid.device)) in
-        subst (λ (ps : List Program). SessionStands x cpu (opening_plan stack ps) (opening stack quantum switches openings)) same
+        let x = absent_storage cpu.core areas.low (stocked (objects_from 160 programs) st) (content_after (tell old.device) (tell mid.device)) in
+        subst (λ (ps : List Program). RepresentsSession x cpu (opening_plan stack ps) (opening stack quantum switches openings)) same
         (opening_stands x cpu stack quantum switches openings within
         (subst (λ (ps : List Program). Parts x cpu stack ps) (sym same)
         (parts_of openings switches st same within zero_words some heads writes spares laid is none)));
   }
 
 pub laid_out : (mid : List Tagged) (cpu : Cpu) (areas : Areas) (stack stacks jobs : ℕ) (programs : List Program) → stacks ≡ 160 + dictionaries programs → jobs ≡ length programs
-    → McpStands cpu.core → SlotsLie cpu.core stacks stack jobs
+    → RepresentsMcp cpu.core → SlotsLie cpu.core stacks stack jobs
     → ((k : ℕ) → jobs ≤ k → k < 120 → slice_get cpu.core (32 + k) ≡ slice_get mid (32 + k))
     → ((i : ℕ) → 160 ≤ i → i < stacks → slice_get cpu.core i ≡ slice_get mid i)
     → areas ≡ record { size = length mid; low = stacks + jobs * stack }
@@ -124,6 +125,12 @@ laid_out mid cpu areas stack stacks jobs programs at count mcp slots vector kept
       peak = peak ∙ count;
     }
 
--- a device that told its sectors still does
-pub still_tells : {D : Type 0} (tell : D → Option (List (List ℕ))) (old new : D) (free : List ℕ) → Changes tell old new (SameBut free) → Changes tell old new (λ before after. length after ≡ length before)
-still_tells tell old new free c = record { told = λ x e. let h = c.told x e in (h.0, h.1, h.2.count) }
+-- a device after calls that left all sectors but free ones as they were
+pub after_calls : {D : Type 0} (tell : D → Option (List (List ℕ))) (size calls faults : D → ℕ) (old new : D) (free : List ℕ) → size new ≡ size old → calls old ≤ calls new → faults old ≤ faults new
+    → Changes tell old new (SameBut free) → DeviceAfterCalls tell size calls faults old new
+after_calls tell size calls faults old new free same called failed c =
+    record { size = same; calls = called; faults = failed; tells = record { told = λ x e. let h = c.told x e in (h.0, h.1, h.2.count) } }
+
+-- a device that wasn't called
+pub uncalled : {D : Type 0} (tell : D → Option (List (List ℕ))) (size calls faults : D → ℕ) (now : D) → DeviceAfterCalls tell size calls faults now now
+uncalled tell size calls faults now = record { size = refl; calls = omega arith; faults = omega arith; tells = record { told = λ x e. (x, e, refl) } }

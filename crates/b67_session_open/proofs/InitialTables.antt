@@ -3,18 +3,18 @@ use Rattle.std.proofs.Common.{◌≡◌, ℕ, zero, suc, ◌+◌, ◌<◌, ◌�
 use Rattle.std.specs.List.{slice_get}
 use Rattle.std.proofs.lemmas.Option.{none-some, slice_get_past, slice_get_within}
 use Rattle.b67_lemmas.specs.Lists.{Has}
-use Rattle.b67_model.specs.State.{Task, Member}
+use Rattle.b67_lemmas.proofs.Places.{at_mapped, mapped_at}
+use Rattle.b67_model.specs.State.{Task, SessionJob}
 use Rattle.b67_model.specs.Program.{Program}
 use Rattle.b67_model.specs.Schedule.{Switch}
 use Rattle.b67_law_order_runs.specs.Opening.{Opening, opened_from, opening}
 use Rattle.b67_law_order_runs.proofs.Rows.{entries_count}
-use Rattle.b67_layout.specs.Plan.{Plan}
+use Rattle.b67_layout.specs.Placement.{Placement}
 use Rattle.b67_layout.specs.Rows.{TaskRow, TaskShows, JobsShow, RunningRow, Differ, TablesShow}
 use Rattle.b67_session_open.specs.Opened.{dictionary_words, dictionaries, opening_plan, programs_of}
 use Rattle.b67_session_open.specs.Tables.{first_row, first_rows, opening_rows, opening_counts}
-use Rattle.b67_session_open.proofs.Lists.{mapped, from_mapped}
 use Rattle.b67_session_open.proofs.Members.{member, has_member}
-use Rattle.b67_session_open.proofs.Things.{dictionary_is}
+use Rattle.b67_session_open.proofs.Objects.{dictionary_is}
 use Rattle.b67_session_open.proofs.Slots.{slot_number}
 use Rattle.b67_session_open.proofs.Plans.{first_task, for_tasks, count_is}
 
@@ -41,7 +41,7 @@ rows_count : (n : ℕ) (programs : List Program) → length (first_rows n progra
 rows_count n [] = refl
 rows_count n (p ∷ more) = ap suc (rows_count (n + 1) more)
 
-jobs_show : (plan : Plan) (stack n at : ℕ) (openings : List Opening) →
+jobs_show : (plan : Placement) (stack n at : ℕ) (openings : List Opening) →
     ((k j : ℕ) (o : Opening) → slice_get openings k ≡ Some o → j ≡ n + k → plan.dictionary j ≡ at + dictionaries (take k (programs_of openings))) →
     JobsShow plan (opened_from n stack openings) (opening_rows at openings)
 jobs_show plan stack n at [] h = tt
@@ -77,15 +77,15 @@ module _ (stack quantum : ℕ) (switches : List Switch) (openings : List Opening
       let jobs = opened_from 1 stack openings in
       let rows = first_rows 0 (programs_of openings) in
       record {
-        tasks = for_rows (λ row. (m : Member) × (t : Task) × Has jobs m × Has m.course.job.tasks t × TaskShows plan m t row) 0 (programs_of openings)
+        tasks = for_rows (λ row. (m : SessionJob) × (t : Task) × Has jobs m × Has m.progress.job.tasks t × TaskShows plan m t row) 0 (programs_of openings)
             (λ k s p e f.
-            let o = from_mapped (λ (x : Opening). x.program) openings k p e in
+            let o = mapped_at (λ (x : Opening). x.program) openings k p e in
             let is : s ≡ k = omega (arith, f) in
             (member stack (s + 1) o.0, first_task, has_member stack 1 openings k (s + 1) o.0 o.1 (omega (arith, f)), inl refl, shows s o.0 (ap (slice_get openings) is ∙ o.1)));
         each = for_tasks (λ m t. (row : TaskRow) × Has rows row × TaskShows plan m t row) stack openings
             (λ k j o e f.
             let is : k + 1 ≡ j = omega (arith, f) in
-            (first_row k, has_row 0 (programs_of openings) k k o.program (mapped (λ (x : Opening). x.program) openings k o e) (omega arith), subst (λ i. TaskShows plan (member stack i o) first_task (first_row k)) is (shows k o e)));
+            (first_row k, has_row 0 (programs_of openings) k k o.program (at_mapped (λ (x : Opening). x.program) openings k o e) (omega arith), subst (λ i. TaskShows plan (member stack i o) first_task (first_row k)) is (shows k o e)));
         once = slots_differ 0 (programs_of openings);
         jobs = jobs_show plan stack 1 160 openings (λ k j o e f. dictionary_is stack openings k j o e f);
         counts = record {

@@ -1,7 +1,7 @@
 pub mod Lists
 pub mod Writes
 pub mod Members
-pub mod Things
+pub mod Objects
 pub mod Heads
 pub mod Slots
 pub mod Plans

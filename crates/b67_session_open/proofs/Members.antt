@@ -6,20 +6,20 @@ use Rattle.std.proofs.lemmas.Option.{same_Some, none-some}
 use Rattle.std.proofs.lemmas.Bool.{eq-eqb, ne_eqb}
 use Rattle.b67_lemmas.specs.Lists.{Has}
 use Rattle.b67_model.specs.Keyed.{keyed}
-use Rattle.b67_model.specs.State.{Member}
+use Rattle.b67_model.specs.State.{SessionJob}
 use Rattle.b67_model.specs.Program.{Program, opened}
 use Rattle.b67_model.specs.Run.{number_of}
 use Rattle.b67_law_order_runs.specs.Opening.{Opening, opened_from}
-use Rattle.b67_layout.specs.Plan.{Slotted, is_row_of}
+use Rattle.b67_layout.specs.Placement.{Slotted, is_row_of}
 use Rattle.b67_session_open.specs.Opened.{slots_from}
 
 -- the job with a number
-abbrev pub member : ℕ → ℕ → Opening → Member
+abbrev pub member : ℕ → ℕ → Opening → SessionJob
 member stack j o = opened j o.program stack o.limit o.numbers
 
-pub for_members : (P : Member → Type 0) (stack n : ℕ) (openings : List Opening) →
+pub for_members : (P : SessionJob → Type 0) (stack n : ℕ) (openings : List Opening) →
     ((k j : ℕ) (o : Opening) → slice_get openings k ≡ Some o → j ≡ n + k → P (member stack j o)) →
-    (m : Member) → Has (opened_from n stack openings) m → P m
+    (m : SessionJob) → Has (opened_from n stack openings) m → P m
 for_members P stack n [] h m i = absurd i
 for_members P stack n (o ∷ more) h m (inl e) = subst P e (h 0 n o refl (omega arith))
 for_members P stack n (o ∷ more) h m (inr i) = for_members P stack (n + 1) more (λ k j p e f. h (suc k) j p e (omega (arith, f))) m i

@@ -1,17 +1,20 @@
 -- The machine that was set up, with its tables, stands for the opening state of a deck's session.
-use Rattle.std.proofs.Common.{◌≡◌, ℕ, zero, suc, ◌+◌, List, length, map, Option, refl, ◌∙◌, ap}
+use Rattle.std.proofs.Common.{◌+◌, ◌≡◌, ℕ, List, length, map, Option, ◌∙◌}
 use Rattle.std.specs.List.{AllByRecursion}
 use Rattle.std.proofs.lemmas.List.{length-map}
-use Rattle.b67_backing.specs.Shelf.{Table, IsShelf, row, all_free}
+use Rattle.b67_backing.specs.Shelf.{Table, IsShelf, all_free}
+use Rattle.b67_backing.proofs.News.{length-row}
 use Rattle.b67_model_text.specs.declared.deck.Deck.{Deck}
 use Rattle.b67_codefile.specs.declared.file.Codefile.{Codefile}
 use Rattle.b67_codefile.specs.Meaning.{program_of}
-use Rattle.b67_stack.specs.Stands.{Storage}
+use Rattle.b67_lemmas.specs.Lists.{Has}
+use Rattle.b67_stack.specs.Represents.{Storage}
 use Rattle.b67_session_open.specs.Opened.{opening_plan, programs_of}
 use Rattle.b67_session_open.specs.InitialOpens.{Opens}
+use Rattle.b67_task_tables.specs.declared.tables.JobRow.{JobRow}
 use Rattle.b67_task_tables.specs.declared.tables.Machine.{Machine}
 use Rattle.b67_task_tables.specs.Tables.{switch_of, TasksShow}
-use Rattle.b67_session_open.specs.Decks.{openings_of, session_of, job_names, row_names, DeckInRange, IsLoaded}
+use Rattle.b67_session_open.specs.Decks.{openings_of, session_of, job_names, row_names, DeckInRange, IsLoaded, IsCountable}
 use Rattle.b67_session_open.specs.Opens.{OpensAs}
 use Rattle.b67_session_open.proofs.Decks.{deck_within, programs_back}
 
@@ -19,20 +22,16 @@ use Rattle.b67_session_open.proofs.Decks.{deck_within, programs_back}
 pub programs_are : (d : Deck) (fs : List Codefile) → length fs ≡ length d.jobs → programs_of (openings_of d.jobs (map program_of fs)) ≡ map program_of fs
 programs_are d fs each = programs_back d.jobs (map program_of fs) (length-map fs program_of ∙ each)
 
-row_length : (c n : ℕ) → length (row c n) ≡ n
-row_length c zero = refl
-row_length c (suc n) = ap suc (row_length (c + 1) n)
-
 -- all sectors are free
 pub free_are : (t : Table) (n : ℕ) → IsShelf t (all_free n) → t.free ≡ n
-free_are t n is = is.count ∙ row_length 1 n
+free_are t n is = is.count ∙ length-row 1 n
 
-pub machine_opens : (d : Deck) (fs : List Codefile) (told : Option (List (List ℕ))) (x : Storage) (k : Machine) (core : ℕ) → DeckInRange d → length fs ≡ length d.jobs → AllByRecursion IsLoaded fs
-    → Opens k.areas k.sectors told x k.cpu d.stack (map program_of fs)
+pub machine_opens : (d : Deck) (fs : List Codefile) (known : Option (List (List ℕ))) (x : Storage) (k : Machine) (core sectors : ℕ) → DeckInRange d → length fs ≡ length d.jobs → AllByRecursion IsLoaded fs
+    → Opens k.areas k.sectors known x k.cpu d.stack (map program_of fs)
     → TasksShow (opening_plan d.stack (map program_of fs)) (session_of d (map program_of fs)) k.tasks
     → row_names k.tasks.jobs ≡ job_names d.jobs → k.tasks.halt ≡ d.halt → k.tasks.printed ≡ 0 → length k.cpu.core ≡ core
-    → OpensAs told d (map program_of fs) core k
-machine_opens d fs told x k core range each loaded opens shows names halt printed len = record {
+    → length k.sectors.links ≡ sectors + 1 → ((r : JobRow) → Has k.tasks.jobs r → IsCountable r) → OpensAs known d (map program_of fs) core sectors k
+machine_opens d fs known x k core sectors range each loaded opens shows names halt printed len links countable = record {
   storage = x;
   stands = record {
     session = opens.session d.quantum (map switch_of d.switches) (openings_of d.jobs (map program_of fs)) (programs_are d fs each) (deck_within d fs range loaded);
@@ -43,4 +42,6 @@ machine_opens d fs told x k core range each loaded opens shows names halt printe
   halt = halt;
   printed = printed;
   core_size = len;
+  sized = links;
+  countable = countable;
 }

@@ -1,12 +1,12 @@
--- The chains of things that rest.
+-- The chains of objects that rest.
 use Rattle.std.proofs.Common.{◌≡◌, ℕ, ◌<◌, ◌≤◌, ◌⊎◌, List, [], ◌∷◌, length, take, drop, refl, sym, ◌∙◌, ap, subst, arith, inl, inr, ⊎_elim, length-drop}
 use Rattle.std.proofs.lemmas.Bool.{eq-eqb, ne_eqb, cases_eq, cases_lt}
 use Rattle.std.proofs.lemmas.List.{length-take, nil_from_length}
 use Rattle.b67_backing.specs.Shelf.{Table, Shelf, IsShelf, AreChains, one, times, uses, first, chain_of, taken}
 use Rattle.b67_backing.proofs.Links.{chain_there, one-same, uses-split}
 use Rattle.b67_lemmas.specs.Lists.{Has}
-use Rattle.b67_stack.specs.Picture.{Thing}
-use Rattle.b67_load.specs.Things.{sectors_of, sectors_of_all}
+use Rattle.b67_stack.specs.MachineView.{PagedObject}
+use Rattle.b67_load.specs.Objects.{sectors_of, sectors_of_all}
 use Rattle.b67_load.specs.Resting.{Resting, placed, stocked}
 use Rattle.b67_load.proofs.Shelves.{Apart, chain_apart, has_uses, has_times, times-take_drop}
 
@@ -61,31 +61,31 @@ chain_begins (k ∷ ks) x h = ⊎_elim
     rw t (inr b.0, b.1))
     (cases_eq (first k) x)
 
--- each thing has its sectors
-pub placed_length : (ts : List Thing) (free : List ℕ) (r : Resting) → sectors_of_all ts ≤ length free → Has (placed ts free) r → length r.chain ≡ sectors_of r.thing
+-- each object has its sectors
+pub placed_length : (ts : List PagedObject) (free : List ℕ) (r : Resting) → sectors_of_all ts ≤ length free → Has (placed ts free) r → length r.chain ≡ sectors_of r.object
 placed_length [] free r fits h = absurd h
 placed_length (t ∷ more) free r fits (inl e) =
-    subst (λ (q : Resting). length q.chain ≡ sectors_of q.thing) e (omega (arith, fits, length-take (sectors_of t) free))
+    subst (λ (q : Resting). length q.chain ≡ sectors_of q.object) e (omega (arith, fits, length-take (sectors_of t) free))
 placed_length (t ∷ more) free r fits (inr h) = placed_length more (drop (sectors_of t) free) r (omega (arith, fits, length-drop (sectors_of t) free)) h
 
-pub placed_has : (ts : List Thing) (free : List ℕ) (t : Thing) → Has ts t → (r : Resting) × Has (placed ts free) r × (r.thing ≡ t)
+pub placed_has : (ts : List PagedObject) (free : List ℕ) (t : PagedObject) → Has ts t → (r : Resting) × Has (placed ts free) r × (r.object ≡ t)
 placed_has [] free t h = absurd h
-placed_has (u ∷ more) free t (inl e) = (record { thing = u; chain = take (sectors_of u) free }, inl refl, e)
+placed_has (u ∷ more) free t (inl e) = (record { object = u; chain = take (sectors_of u) free }, inl refl, e)
 placed_has (u ∷ more) free t (inr h) = let r = placed_has more (drop (sectors_of u) free) t h in (r.0, inr r.1, r.2)
 
--- the chains are those of before and those of the things
-pub chain_placed : (ts : List Thing) (s : Shelf) (k : List ℕ) → Has (stocked ts s).chains k → Has s.chains k ⊎ ((r : Resting) × Has (placed ts s.free) r × (r.chain ≡ k))
+-- the chains are those of before and those of the objects
+pub chain_placed : (ts : List PagedObject) (s : Shelf) (k : List ℕ) → Has (stocked ts s).chains k → Has s.chains k ⊎ ((r : Resting) × Has (placed ts s.free) r × (r.chain ≡ k))
 chain_placed [] s k h = inl h
 chain_placed (t ∷ more) s k h = ⊎_elim
     (λ (m : Has (take (sectors_of t) s.free ∷ s.chains) k). ⊎_elim
-    (λ (e : take (sectors_of t) s.free ≡ k). inr (record { thing = t; chain = take (sectors_of t) s.free }, inl refl, e))
+    (λ (e : take (sectors_of t) s.free ≡ k). inr (record { object = t; chain = take (sectors_of t) s.free }, inl refl, e))
     (λ (i : Has s.chains k). inl i)
     m)
     (λ (m : (r : Resting) × Has (placed more (drop (sectors_of t) s.free)) r × (r.chain ≡ k)). inr (m.0, inr m.1, m.2))
     (chain_placed more (taken (sectors_of t) s) k h)
 
--- no two things have the same first sector
-part_times : (ts : List Thing) (free : List ℕ) (r : Resting) (c : ℕ) → Has (placed ts free) r → times c r.chain ≤ times c free
+-- no two objects have the same first sector
+part_times : (ts : List PagedObject) (free : List ℕ) (r : Resting) (c : ℕ) → Has (placed ts free) r → times c r.chain ≤ times c free
 part_times [] free r c h = absurd h
 part_times (t ∷ more) free r c (inl e) = subst (λ (q : Resting). times c q.chain ≤ times c free) e (omega (arith, times-take_drop c (sectors_of t) free))
 part_times (t ∷ more) free r c (inr h) = omega (arith, part_times more (drop (sectors_of t) free) r c h, times-take_drop c (sectors_of t) free)
@@ -94,7 +94,7 @@ pub record Alone (free : List ℕ) (r : Resting) : Type 0 where
   pub some : 1 ≤ length r.chain
   pub once : times (first r.chain) free ≤ 1
 
-pub one_place : (ts : List Thing) (free : List ℕ) (r q : Resting) → Alone free r → Alone free q → Has (placed ts free) r → Has (placed ts free) q → first r.chain ≡ first q.chain → r ≡ q
+pub one_place : (ts : List PagedObject) (free : List ℕ) (r q : Resting) → Alone free r → Alone free q → Has (placed ts free) r → Has (placed ts free) q → first r.chain ≡ first q.chain → r ≡ q
 one_place [] free r q a b h g e = absurd h
 one_place (t ∷ more) free r q a b (inl h) (inl g) e = sym h ∙ g
 one_place (t ∷ more) free r q a b (inl h) (inr g) e =

@@ -1,4 +1,4 @@
--- Things that were written to free sectors stand at rest.
+-- Objects that were written to free sectors stand at rest.
 use Rattle.std.proofs.Common.{◌≡◌, ℕ, zero, suc, ◌-◌, ◌%◌, ◌<◌, ◌≤◌, ◌^◌, List, [], length, map, Option, Some, None, refl, sym, ◌∙◌, ap, subst, arith, inl, ⊎_elim}
 use Rattle.std.specs.List.{slice_get}
 use Rattle.std.proofs.lemmas.Option.{none-some}
@@ -9,24 +9,26 @@ use Rattle.b67_area.specs.declared.Kind.{Kind}
 use Rattle.b67_area.specs.declared.Kind.TheVariants.{Array, Row, Code}
 use Rattle.b67_backing.specs.Shelf.{Table, Shelf, IsShelf, first, chain_of}
 use Rattle.b67_lemmas.specs.Lists.{Has}
-use Rattle.b67_stack.specs.Picture.{Thing, home_word_of, home_word, words_of}
-use Rattle.b67_stack.specs.Stands.{Storage, Told, HoldsIn, ThingStands, Owned}
-use Rattle.b67_load.specs.Things.{sectors_of, sectors_of_all}
-use Rattle.b67_load.specs.Resting.{Resting, placed, stocked, at_rest, DescriptorsStand, Stocks}
-use Rattle.b67_load.proofs.Shelves.{Apart, placed_chain, placed_thing}
-use Rattle.b67_session_open.specs.Stored.{sector_named, absent_storage, told_after}
+use Rattle.b67_stack.specs.MachineView.{PagedObject, home_word_of, home_word, words_of}
+use Rattle.b67_stack.specs.Represents.{Storage, Told, HoldsIn, RepresentsObject, Owned}
+use Rattle.b67_stack.specs.Shapes.{at_rest}
+use Rattle.b67_load.specs.Objects.{sectors_of, sectors_of_all}
+use Rattle.b67_load.specs.Resting.{Resting, placed, stocked, DescriptorsStand, WritesFreeSectors}
+use Rattle.b67_load.proofs.Shelves.{Apart, placed_chain, placed_object}
+use Rattle.b67_session_open.specs.Stored.{sector_named, absent_storage}
+use Rattle.b67_layout_storage.specs.Machine.{content_after}
 use Rattle.b67_session_open.proofs.Resting.{first_apart, chain_found, no_zero, chain_begins, placed_length, placed_has, chain_placed, Alone, one_place}
 
--- things that were written, from sectors that were all free
-pub record Stored (core : List Tagged) (old new : Table) (st : Shelf) (ts : List Thing) (before now : Option (List (List ℕ))) : Type 0 where
+-- objects that were written, from sectors that were all free
+pub record Stored (core : List Tagged) (old new : Table) (st : Shelf) (ts : List PagedObject) (before now : Option (List (List ℕ))) : Type 0 where
   pub old_shelf : IsShelf old st
   pub new_shelf : IsShelf new (stocked ts st)
   pub links : length new.links ≡ length old.links
   pub none : st.chains ≡ []
   pub room : sectors_of_all ts ≤ length st.free
-  pub long : (t : Thing) → Has ts t → 0 < length t.numbers
+  pub long : (t : PagedObject) → Has ts t → 0 < length t.numbers
   pub descriptors : DescriptorsStand core (placed ts st.free)
-  pub stocks : (a : List (List ℕ)) → before ≡ Some a → (b : List (List ℕ)) × (now ≡ Some b) × Stocks ts st.free a b
+  pub stocks : (a : List (List ℕ)) → before ≡ Some a → (b : List (List ℕ)) × (now ≡ Some b) × WritesFreeSectors ts st.free a b
 
 -- the sector that a descriptor names
 named : (kind : Kind) (n f : ℕ) → f < 2 ^ 20 → (home_word_of kind n (at_rest f)).bits % 2 ^ 20 ≡ f
@@ -38,20 +40,20 @@ pub no_areas : (low n at : ℕ) → area_at low (left n []) at ≡ None
 no_areas low zero at = refl
 no_areas low (suc n) at = refl
 
-told_words : (before now : Option (List (List ℕ))) (r : Resting) (ts : List Thing) (free : List ℕ) → Has (placed ts free) r →
-    ((a : List (List ℕ)) → before ≡ Some a → (b : List (List ℕ)) × (now ≡ Some b) × Stocks ts free a b) → Told (told_after before now) r.chain (map number (words_of r.thing))
+told_words : (before now : Option (List (List ℕ))) (r : Resting) (ts : List PagedObject) (free : List ℕ) → Has (placed ts free) r →
+    ((a : List (List ℕ)) → before ≡ Some a → (b : List (List ℕ)) × (now ≡ Some b) × WritesFreeSectors ts free a b) → Told (content_after before now) r.chain (map number (words_of r.object))
 told_words None now r ts free h stocks = tt
 told_words (Some a) now r ts free h stocks =
-    let b = stocks a refl in subst (λ o. Told o r.chain (map number (words_of r.thing))) (sym b.1) (b.2.rest r h)
+    let b = stocks a refl in subst (λ o. Told o r.chain (map number (words_of r.object))) (sym b.1) (b.2.rest r h)
 
-module _ (core : List Tagged) (low : ℕ) (old new : Table) (st : Shelf) (ts : List Thing) (before now : Option (List (List ℕ))) (stored : Stored core old new st ts before now) where
+module _ (core : List Tagged) (low : ℕ) (old new : Table) (st : Shelf) (ts : List PagedObject) (before now : Option (List (List ℕ))) (stored : Stored core old new st ts before now) where
   abbrev x : Storage
-  x = absent_storage core low (stocked ts st) (told_after before now)
+  x = absent_storage core low (stocked ts st) (content_after before now)
 
   long : (r : Resting) → Has (placed ts st.free) r → 1 ≤ length r.chain
   long r h =
-      let some = stored.long r.thing (placed_thing ts st.free r h) in
-      let many : length r.chain ≡ sectors_of r.thing = placed_length ts st.free r stored.room h in
+      let some = stored.long r.object (placed_object ts st.free r h) in
+      let many : length r.chain ≡ sectors_of r.object = placed_length ts st.free r stored.room h in
       omega (arith, some, many)
 
   apart : (r : Resting) → Has (placed ts st.free) r → Apart new (stocked ts st) (first r.chain)
@@ -63,42 +65,42 @@ module _ (core : List Tagged) (low : ℕ) (old new : Table) (st : Shelf) (ts : L
   alone : (r : Resting) → Has (placed ts st.free) r → Alone st.free r
   alone r h = record { some = long r h; once = omega (arith, stored.old_shelf.once (first r.chain) (apart r h).low (omega (arith, (apart r h).high, stored.links))) }
 
-  names : (r : Resting) → Has (placed ts st.free) r → sector_named (slice_get core r.thing.home) ≡ first r.chain
-  names r h = ap sector_named (stored.descriptors r h) ∙ named r.thing.kind (length r.thing.numbers) (first r.chain) (small r h)
+  names : (r : Resting) → Has (placed ts st.free) r → sector_named (slice_get core r.object.home) ≡ first r.chain
+  names r h = ap sector_named (stored.descriptors r h) ∙ named r.object.kind (length r.object.numbers) (first r.chain) (small r h)
 
-  holds : (r : Resting) → Has (placed ts st.free) r → HoldsIn x r.thing (first r.chain)
+  holds : (r : Resting) → Has (placed ts st.free) r → HoldsIn x r.object (first r.chain)
   holds r h =
       let is = chain_found new (stocked ts st) r.chain stored.new_shelf (placed_chain ts st r h) in
       record {
         chain = record { some = (apart r h).low; small = small r h; sectors = ap length is ∙ placed_length ts st.free r stored.room h };
-        told = subst (λ k. Told (told_after before now) k (map number (words_of r.thing))) (sym is) (told_words before now r ts st.free h stored.stocks);
+        told = subst (λ k. Told (content_after before now) k (map number (words_of r.object))) (sym is) (told_words before now r ts st.free h stored.stocks);
       }
 
-  pub thing_stands : (t : Thing) → Has ts t → ThingStands x core t
-  thing_stands t h =
+  pub object_stands : (t : PagedObject) → Has ts t → RepresentsObject x core t
+  object_stands t h =
       let r = placed_has ts st.free t h in
-      subst (λ u. ThingStands x core u) r.2 (record {
-        home = stored.descriptors r.0 r.1 ∙ ap (λ f. Some (home_word r.0.thing (at_rest f))) (sym (names r.0 r.1));
-        content = inl (subst (λ f. HoldsIn x r.0.thing f) (sym (names r.0 r.1)) (holds r.0 r.1));
+      subst (λ u. RepresentsObject x core u) r.2 (record {
+        home = stored.descriptors r.0 r.1 ∙ ap (λ f. Some (home_word r.0.object (at_rest f))) (sym (names r.0 r.1));
+        content = inl (subst (λ f. HoldsIn x r.0.object f) (sym (names r.0 r.1)) (holds r.0 r.1));
       })
 
-  chained : (first_sector : ℕ) → 0 < length (chain_of first_sector (stocked ts st).chains) → (t : Thing) × Has ts t × ((x.held t.home).chain ≡ first_sector)
+  chained : (first_sector : ℕ) → 0 < length (chain_of first_sector (stocked ts st).chains) → (t : PagedObject) × Has ts t × ((x.held t.home).chain ≡ first_sector)
   chained c some =
       let b = chain_begins (stocked ts st).chains c some in
       ⊎_elim
       (λ (m : Has st.chains (chain_of c (stocked ts st).chains)). absurd (subst (λ ks. Has ks (chain_of c (stocked ts st).chains)) stored.none m))
       (λ (m : (r : Resting) × Has (placed ts st.free) r × (r.chain ≡ chain_of c (stocked ts st).chains)).
-      (m.0.thing, placed_thing ts st.free m.0 m.1, names m.0 m.1 ∙ ap first m.2 ∙ b.1))
+      (m.0.object, placed_object ts st.free m.0 m.1, names m.0 m.1 ∙ ap first m.2 ∙ b.1))
       (chain_placed ts st (chain_of c (stocked ts st).chains) b.0)
 
-  one_home : (t u : Thing) → Has ts t → Has ts u → (x.held t.home).chain ≡ (x.held u.home).chain → t.home ≡ u.home
+  one_home : (t u : PagedObject) → Has ts t → Has ts u → (x.held t.home).chain ≡ (x.held u.home).chain → t.home ≡ u.home
   one_home t u h k e =
       let r = placed_has ts st.free t h in
       let q = placed_has ts st.free u k in
-      let a : sector_named (slice_get core t.home) ≡ first r.0.chain = subst (λ (v : Thing). sector_named (slice_get core v.home) ≡ first r.0.chain) r.2 (names r.0 r.1) in
-      let b : sector_named (slice_get core u.home) ≡ first q.0.chain = subst (λ (v : Thing). sector_named (slice_get core v.home) ≡ first q.0.chain) q.2 (names q.0 q.1) in
+      let a : sector_named (slice_get core t.home) ≡ first r.0.chain = subst (λ (v : PagedObject). sector_named (slice_get core v.home) ≡ first r.0.chain) r.2 (names r.0 r.1) in
+      let b : sector_named (slice_get core u.home) ≡ first q.0.chain = subst (λ (v : PagedObject). sector_named (slice_get core v.home) ≡ first q.0.chain) q.2 (names q.0 q.1) in
       let same : r.0 ≡ q.0 = one_place ts st.free r.0 q.0 (alone r.0 r.1) (alone q.0 q.1) r.1 q.1 (sym a ∙ (e ∙ b)) in
-      ap (λ (v : Thing). v.home) (sym r.2) ∙ ap (λ (v : Resting). v.thing.home) same ∙ ap (λ (v : Thing). v.home) q.2
+      ap (λ (v : PagedObject). v.home) (sym r.2) ∙ ap (λ (v : Resting). v.object.home) same ∙ ap (λ (v : PagedObject). v.home) q.2
 
   pub owned : Owned x ts
   owned = record {

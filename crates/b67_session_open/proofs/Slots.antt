@@ -6,45 +6,45 @@ use Rattle.std.proofs.lemmas.Bool.{ne_eqb}
 use Rattle.b67_word.specs.Tagged.{Tagged, word}
 use Rattle.b67_law_order_runs.specs.Opening.{Opening, opened_from}
 use Rattle.b67_ctl.specs.declared.registers.Regs.{Regs}
-use Rattle.b67_stack.specs.Shapes.{Map, Fits, Lie}
+use Rattle.b67_stack.specs.Shapes.{Locations, Fits, LieDownward}
 use Rattle.b67_stack.specs.Stacks.{words}
-use Rattle.b67_stack.specs.Picture.{Waiting, Picture, slot_base, CopiesName, SlotFits}
-use Rattle.b67_stack.specs.Stands.{SlotStands}
-use Rattle.b67_layout.specs.Plan.{Slotted, slot_of}
+use Rattle.b67_stack.specs.MachineView.{Waiting, MachineView, slot_base, CopiesName, SlotFits}
+use Rattle.b67_stack.specs.Represents.{RepresentsSlot}
+use Rattle.b67_layout.specs.Placement.{Slotted, slot_of}
 use Rattle.b67_layout.specs.Layout.{slot_in, slot_by, slot_at}
 use Rattle.b67_session_open.specs.Opened.{first_stack, opening_plan, programs_of}
 use Rattle.b67_session_open.specs.Words.{SlotLies}
-use Rattle.b67_session_open.proofs.Lists.{mapped}
 use Rattle.b67_session_open.proofs.Members.{member_at, slot_at_place, slot_of_job}
+use Rattle.b67_lemmas.proofs.Places.{at_mapped}
 
 module _ (stack : ℕ) (openings : List Opening) (k : ℕ) (o : Opening) (found : slice_get openings k ≡ Some o) (small : k < 8) where
   pub slot_is : slot_at (opening_plan stack (programs_of openings)) (opened_from 1 stack openings) k ≡ Waiting (first_stack (k + 1))
   slot_is =
       let plan = opening_plan stack (programs_of openings) in
       let jobs = opened_from 1 stack openings in
-      ap (slot_by plan jobs k) (slot_at_place 0 (programs_of openings) k k o.program (mapped (λ (x : Opening). x.program) openings k o found) (omega arith))
+      ap (slot_by plan jobs k) (slot_at_place 0 (programs_of openings) k k o.program (at_mapped (λ (x : Opening). x.program) openings k o found) (omega arith))
       ∙ ap (slot_in plan k (k + 1) 1) (member_at stack 1 openings k (k + 1) o found (omega arith))
       ∙ rw (ne_eqb k 255 (λ e. omega (arith, e, small))) refl
 
   pub slot_number : slot_of (opening_plan stack (programs_of openings)) (k + 1) 1 ≡ k
-  slot_number = ap (λ (r : Option Slotted). unwrap_or (option_map (λ (s : Slotted). s.slot) r) 255) (slot_of_job 0 (programs_of openings) k k o.program (mapped (λ (x : Opening). x.program) openings k o found) (omega arith))
+  slot_number = ap (λ (r : Option Slotted). unwrap_or (option_map (λ (s : Slotted). s.slot) r) 255) (slot_of_job 0 (programs_of openings) k k o.program (at_mapped (λ (x : Opening). x.program) openings k o found) (omega arith))
 
 -- a stack that hasn't run fits its slot
-pub first_fits : (p : Picture) (k job : ℕ) → 64 ≤ p.size → job ≤ 8 → SlotFits p k (Waiting (first_stack job))
+pub first_fits : (p : MachineView) (k job : ℕ) → 64 ≤ p.size → job ≤ 8 → SlotFits p k (Waiting (first_stack job))
 first_fits p k job low few = (
   record { some = λ e. cc; heads = ((omega arith, omega (arith, few), omega arith, refl), tt); fits = omega (arith, low) },
   λ c home h. none c home h,
 ) where
-  none : CopiesName p.things (words k (first_stack job))
+  none : CopiesName p.objects (words k (first_stack job))
   none c home (inl e) = absurd (let z : ⊥ = cc in z)
   none c home (inr (inl e)) = absurd (let z : ⊥ = cc in z)
   none c home (inr (inr h)) = absurd h
 
 -- and stands in core
-pub first_stands : (core : List Tagged) (r : Regs) (p : Picture) (k job : ℕ) → r.slot ≢ k → SlotLies core (slot_base p k) job → SlotStands core r p k (Waiting (first_stack job))
+pub first_stands : (core : List Tagged) (r : Regs) (p : MachineView) (k job : ℕ) → r.slot ≢ k → SlotLies core (slot_base p k) job → RepresentsSlot core r p k (Waiting (first_stack job))
 first_stands core r p k job other lies = (other, lies.top)
 
-pub first_lies : (held : Map) (core : List Tagged) (p : Picture) (k job : ℕ) → k < 8 → SlotLies core (slot_base p k) job → Lie (Fits held) core (suc (slot_base p k)) (words k (first_stack job))
+pub first_lies : (held : Locations) (core : List Tagged) (p : MachineView) (k job : ℕ) → k < 8 → SlotLies core (slot_base p k) job → LieDownward (Fits held) core (suc (slot_base p k)) (words k (first_stack job))
 first_lies held core p k job small lies =
     let upper : suc (slot_base p k) + 1 ≡ slot_base p k + 2 = omega arith in
     let lower : suc (slot_base p k) + 0 ≡ slot_base p k + 1 = omega arith in (

@@ -1,25 +1,22 @@
 -- What the opening of programs needs.
 use Rattle.std.proofs.Common.{◌≡◌, ℕ, ◌+◌, ◌*◌, List, [], ◌∷◌, length, reverse, refl, sym, ◌∙◌, ap, arith}
 use Rattle.std.specs.List.{sum_by}
-use Rattle.std.proofs.lemmas.List.Sums.{sum_by-cons}
 use Rattle.b67_backing.specs.Held.{sectors_for}
 use Rattle.b67_lemmas.specs.Lists.{total}
-use Rattle.b67_model.specs.State.{Array, Segment, Member}
+use Rattle.b67_lemmas.proofs.Members.{total_reverse}
+use Rattle.b67_lemmas.proofs.Sums.{sum_total}
+use Rattle.b67_model.specs.State.{Array, Segment, SessionJob}
 use Rattle.b67_model.specs.Program.{Program, row_arrays}
 use Rattle.b67_model.specs.Need.{need_at_opening}
 use Rattle.b67_model.specs.Sectors.{sectors_of, sectors}
 use Rattle.b67_law_order_runs.specs.Opening.{Opening, opened_from}
 use Rattle.b67_law_order_runs.proofs.Rows.{entries_count}
-use Rattle.b67_law_order_runs.proofs.Turned.{total_reverse}
-use Rattle.b67_load.specs.Things.{sectors_of_program}
+use Rattle.b67_law_order_runs.proofs.Opens.{jobs_count}
+use Rattle.b67_load.specs.Objects.{sectors_of_program}
 use Rattle.b67_session_open.specs.Opened.{dictionaries, programs_of}
-use Rattle.b67_session_open.proofs.Plans.{count_is, length_opened}
+use Rattle.b67_session_open.proofs.Plans.{count_is}
 
-sum_is : {A : Type 0} (f : A → ℕ) (xs : List A) → sum_by f xs ≡ total f xs
-sum_is f [] = refl
-sum_is f (x ∷ xs) = omega (arith, sum_by-cons f x xs, sum_is f xs)
-
-dictionaries_are : (n stack : ℕ) (openings : List Opening) → total (λ (m : Member). 2 + length m.setting.dictionary.cells) (opened_from n stack openings) ≡ dictionaries (programs_of openings)
+dictionaries_are : (n stack : ℕ) (openings : List Opening) → total (λ (m : SessionJob). 2 + length m.constants.dictionary.cells) (opened_from n stack openings) ≡ dictionaries (programs_of openings)
 dictionaries_are n stack [] = refl
 dictionaries_are n stack (o ∷ more) = omega (arith, entries_count o.program.segments o.program.rows, dictionaries_are (n + 1) stack more)
 
@@ -27,10 +24,10 @@ pub need_is : (stack : ℕ) (openings : List Opening) (programs : List Program) 
     → 160 + dictionaries programs + count * stack ≡ need_at_opening stack (opened_from 1 stack openings)
 need_is stack openings programs count same many =
     let jobs = opened_from 1 stack openings in
-    let words : dictionaries programs ≡ sum_by (λ (m : Member). 2 + length m.setting.dictionary.cells) jobs =
-    ap dictionaries (sym same) ∙ sym (sum_is (λ (m : Member). 2 + length m.setting.dictionary.cells) jobs ∙ dictionaries_are 1 stack openings) in
-    let number : count ≡ length jobs = many ∙ (ap length (sym same) ∙ (count_is openings ∙ sym (length_opened 1 stack openings))) in
-    ap (λ d. 160 + d + count * stack) words ∙ ap (λ n. 160 + sum_by (λ (m : Member). 2 + length m.setting.dictionary.cells) jobs + n * stack) number
+    let words : dictionaries programs ≡ sum_by (λ (m : SessionJob). 2 + length m.constants.dictionary.cells) jobs =
+    ap dictionaries (sym same) ∙ sym (sum_total (λ (m : SessionJob). 2 + length m.constants.dictionary.cells) jobs ∙ dictionaries_are 1 stack openings) in
+    let number : count ≡ length jobs = many ∙ (ap length (sym same) ∙ (count_is openings ∙ sym (jobs_count 1 stack openings))) in
+    ap (λ d. 160 + d + count * stack) words ∙ ap (λ n. 160 + sum_by (λ (m : SessionJob). 2 + length m.constants.dictionary.cells) jobs + n * stack) number
 
 rows_are : (n : ℕ) (rows : List (List ℕ)) → total (λ (a : Array). sectors_for (length a.numbers)) (row_arrays n rows) ≡ total (λ (r : List ℕ). sectors_for (length r)) rows
 rows_are n [] = refl
@@ -40,8 +37,8 @@ sectors_are : (n stack : ℕ) (openings : List Opening) → total sectors_of (op
 sectors_are n stack [] = refl
 sectors_are n stack (o ∷ more) = omega (
   arith,
-  sum_is (λ (s : Segment). sectors_for (length s.code)) o.program.segments,
-  sum_is (λ (a : Array). sectors_for (length a.numbers)) (reverse (row_arrays 1 o.program.rows)),
+  sum_total (λ (s : Segment). sectors_for (length s.code)) o.program.segments,
+  sum_total (λ (a : Array). sectors_for (length a.numbers)) (reverse (row_arrays 1 o.program.rows)),
   total_reverse (λ (a : Array). sectors_for (length a.numbers)) (row_arrays 1 o.program.rows),
   rows_are 1 o.program.rows,
   sectors_are (n + 1) stack more,
@@ -50,4 +47,4 @@ sectors_are n stack (o ∷ more) = omega (
 pub sectors_is : (stack : ℕ) (openings : List Opening) (programs : List Program) → programs_of openings ≡ programs
     → total sectors_of_program programs ≡ sectors (opened_from 1 stack openings)
 sectors_is stack openings programs same =
-    ap (total sectors_of_program) (sym same) ∙ sym (sum_is sectors_of (opened_from 1 stack openings) ∙ sectors_are 1 stack openings)
+    ap (total sectors_of_program) (sym same) ∙ sym (sum_total sectors_of (opened_from 1 stack openings) ∙ sectors_are 1 stack openings)

@@ -14,6 +14,7 @@ use Rattle.b67_model.specs.InOrder.{SwitchesRise}
 use Rattle.b67_law_order_runs.specs.Opening.{Opening, opening}
 use Rattle.b67_task_tables.specs.declared.tables.JobRow.{JobRow}
 use Rattle.b67_task_tables.specs.Tables.{switch_of}
+pub use Rattle.b67_task_tables.specs.Tables.{IsCountable}
 
 -- a job with its program
 abbrev pub opening_of : Job → Program → Opening
@@ -54,7 +55,3 @@ row_names rows = map (λ (r : JobRow). r.name) rows
 pub record IsLoaded (f : Codefile) : Type 0 where
   pub within : IsWithin f
   pub admitted : IsAdmitted (program_of f)
-
--- a job with fewer numbers than the tables can count
-abbrev pub IsCountable : JobRow → Type 0
-IsCountable r = length r.numbers < 2 ^ 32

@@ -1,13 +1,13 @@
--- Where a machine keeps the things of a session that opens: the dictionaries lie in a row, the first task of each job has
+-- Where a machine keeps the objects of a session that opens: the dictionaries lie in a row, the first task of each job has
 -- the slot before the job's number, and no task runs.
 use Rattle.std.specs.Prelude.{ℕ, ◌+◌, ◌-◌, List, [], ◌∷◌, ◌++◌, length, map, take, Option, Some, None, slice_get}
 use Rattle.b67_lemmas.specs.Lists.{total}
 use Rattle.b67_model.specs.Program.{Program}
 use Rattle.b67_law_order_runs.specs.Opening.{Opening}
 use Rattle.b67_stack.specs.Stacks.{Entered, Activation}
-use Rattle.b67_stack.specs.Picture.{Thing}
-use Rattle.b67_layout.specs.Plan.{Slotted, Plan}
-use Rattle.b67_load.specs.Things.{entries_of, things_of}
+use Rattle.b67_stack.specs.MachineView.{PagedObject}
+use Rattle.b67_layout.specs.Placement.{Slotted, Placement}
+use Rattle.b67_load.specs.Objects.{entries_of, objects_of}
 
 -- the words of a program's dictionary, and of the dictionaries of programs
 abbrev pub dictionary_words : Program → ℕ
@@ -29,7 +29,7 @@ abbrev pub slots_from : ℕ → List Program → List Slotted
 slots_from k [] = []
 slots_from k (p ∷ more) = record { job = k + 1; task = 1; slot = k } ∷ slots_from (k + 1) more
 
-abbrev pub opening_plan : ℕ → List Program → Plan
+abbrev pub opening_plan : ℕ → List Program → Placement
 opening_plan stack programs = record {
   stacks = 160 + dictionaries programs;
   size = stack;
@@ -40,10 +40,10 @@ opening_plan stack programs = record {
   home = λ job n. dictionary_at programs job + 1 + segments_in (slice_get programs (job - 1)) + n;
 }
 
--- the things of programs whose dictionaries lie in a row from an address on
-abbrev pub things_from : ℕ → List Program → List Thing
-things_from at [] = []
-things_from at (p ∷ more) = things_of at p ++ things_from (at + dictionary_words p) more
+-- the objects of programs whose dictionaries lie in a row from an address on
+abbrev pub objects_from : ℕ → List Program → List PagedObject
+objects_from at [] = []
+objects_from at (p ∷ more) = objects_of at p ++ objects_from (at + dictionary_words p) more
 
 -- the stack of a job's first task
 abbrev pub first_stack : ℕ → List Activation

@@ -1,18 +1,20 @@
 -- What opening a session answers.
-use Rattle.std.specs.Prelude.{◌≡◌, ℕ, ◌<◌, ◌≤◌, List, length, Option, Result, Ok, Err}
+use Rattle.std.specs.Prelude.{◌≡◌, ℕ, ◌+◌, ◌<◌, ◌≤◌, List, length, Option, Result, Ok, Err}
 use Rattle.b67_io.specs.Causes.{Rose}
+use Rattle.b67_lemmas.specs.Lists.{Has}
 use Rattle.b67_model_text.specs.declared.deck.Deck.{Deck}
 use Rattle.b67_model.specs.Program.{Program}
 use Rattle.b67_model.specs.Need.{need_at_opening}
 use Rattle.b67_model.specs.Sectors.{sectors}
-use Rattle.b67_stack.specs.Stands.{Storage}
+use Rattle.b67_stack.specs.Represents.{Storage}
 use Rattle.b67_session_open.specs.Opened.{opening_plan}
-use Rattle.b67_session_open.specs.Stored.{told_after}
+use Rattle.b67_layout_storage.specs.Machine.{content_after}
+use Rattle.b67_task_tables.specs.declared.tables.JobRow.{JobRow}
 use Rattle.b67_task_tables.specs.declared.tables.Machine.{Machine}
-use Rattle.b67_task_tables.specs.Tables.{MachineStands}
+use Rattle.b67_task_tables.specs.Tables.{MachineRepresents}
 use Rattle.b67_session_open.specs.declared.fault.OpenFault.{OpenFault}
 use Rattle.b67_session_open.specs.declared.fault.OpenFault.TheVariants.{Memory, NoCore, BackingFull, BackingFault}
-use Rattle.b67_session_open.specs.Decks.{session_of, job_names, row_names}
+use Rattle.b67_session_open.specs.Decks.{session_of, job_names, row_names, IsCountable}
 
 -- the opening's need of core, and the sectors of its programs
 abbrev pub need_of : Deck → List Program → ℕ
@@ -21,21 +23,25 @@ need_of d ps = need_at_opening d.stack (session_of d ps).jobs
 abbrev pub sectors_of_all : Deck → List Program → ℕ
 sectors_of_all d ps = sectors (session_of d ps).jobs
 
--- the machine stands for the opening state of a deck's session, over a device that tells this
-pub record OpensAs (told : Option (List (List ℕ))) (d : Deck) (ps : List Program) (core : ℕ) (k : Machine) : Type 0 where
+-- the machine represents the opening state of a deck's session, in a core of so many words over a device of so many sectors,
+-- of which this is known. A slice of steps may be called on it
+pub record OpensAs (known : Option (List (List ℕ))) (d : Deck) (ps : List Program) (core sectors : ℕ) (k : Machine) : Type 0 where
   pub storage : Storage
-  pub stands : MachineStands storage told k (opening_plan d.stack ps) (session_of d ps)
+  pub stands : MachineRepresents storage known k (opening_plan d.stack ps) (session_of d ps)
   pub names : row_names k.tasks.jobs ≡ job_names d.jobs
   pub halt : k.tasks.halt ≡ d.halt
   pub printed : k.tasks.printed ≡ 0
   pub core_size : length k.cpu.core ≡ core
+  pub sized : length k.sectors.links ≡ sectors + 1
+  pub countable : (r : JobRow) → Has k.tasks.jobs r → IsCountable r
 
--- Need and the programs' sectors fit exactly where there is a machine or the device failed. Want of memory is free
+-- Need and the programs' sectors fit exactly if there is a machine or the device failed. Want of memory is free. The device
+-- is as it was where it is too small, core is, or memory was refused
 abbrev pub IsOpened : {D : Type 0} → (D → Option (List (List ℕ))) → (D → ℕ) → (D → ℕ) → Deck → List Program → ℕ → D → D → Result Machine OpenFault → Type 0
 IsOpened tell size faults d ps core old new (Ok k) =
-    (need_of d ps ≤ core) × (sectors_of_all d ps ≤ size old) × OpensAs (told_after (tell old) (tell new)) d ps core k
-IsOpened tell size faults d ps core old new (Err Memory) = Unit {0}
-IsOpened tell size faults d ps core old new (Err (NoCore need words)) = (need ≡ need_of d ps) × (words ≡ core) × (core < need_of d ps)
+    (need_of d ps ≤ core) × (sectors_of_all d ps ≤ size old) × OpensAs (content_after (tell old) (tell new)) d ps core (size old) k
+IsOpened tell size faults d ps core old new (Err Memory) = new ≡ old
+IsOpened tell size faults d ps core old new (Err (NoCore need words)) = (need ≡ need_of d ps) × (words ≡ core) × (core < need_of d ps) × (new ≡ old)
 IsOpened tell size faults d ps core old new (Err (BackingFull sum count)) =
-    (need_of d ps ≤ core) × (sum ≡ sectors_of_all d ps) × (count ≡ size old) × (size old < sectors_of_all d ps)
+    (need_of d ps ≤ core) × (sum ≡ sectors_of_all d ps) × (count ≡ size old) × (size old < sectors_of_all d ps) × (new ≡ old)
 IsOpened tell size faults d ps core old new (Err BackingFault) = (need_of d ps ≤ core) × (sectors_of_all d ps ≤ size old) × Rose faults old new

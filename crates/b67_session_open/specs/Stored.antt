@@ -4,25 +4,19 @@ use Rattle.b67_word.specs.Tagged.{Tagged}
 use Rattle.b67_area.specs.Spans.{left}
 use Rattle.b67_backing.specs.Shelf.{Shelf}
 use Rattle.std.specs.List.{slice_get}
-use Rattle.b67_stack.specs.Shapes.{Map}
-use Rattle.b67_stack.specs.Stands.{Storage}
-use Rattle.b67_load.specs.Resting.{at_rest}
+use Rattle.b67_stack.specs.Shapes.{Locations, at_rest}
+use Rattle.b67_stack.specs.Represents.{Storage}
 
 -- the sector that an absent descriptor names
 abbrev pub sector_named : Option Tagged → ℕ
 sector_named None = 0
 sector_named (Some w) = w.bits % 2 ^ 20
 
--- each thing is held where its descriptor says
-abbrev pub held_in : List Tagged → Map
+-- each object is held where its descriptor says
+abbrev pub held_in : List Tagged → Locations
 held_in core home = at_rest (sector_named (slice_get core home))
 
 -- one hole from `low` to the end of core, if there is a word left, and no area
 abbrev pub absent_storage : List Tagged → ℕ → Shelf → Option (List (List ℕ)) → Storage
 absent_storage core low shelf told =
     record { held = held_in core; low = low; spans = left (length core - low) []; shelf = shelf; device = told }
-
--- what a device tells now, if it told its sectors before
-abbrev pub told_after : Option (List (List ℕ)) → Option (List (List ℕ)) → Option (List (List ℕ))
-told_after None now = None
-told_after (Some before) now = now

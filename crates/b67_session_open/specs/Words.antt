@@ -2,7 +2,7 @@
 use Rattle.std.specs.Prelude.{◌≡◌, ℕ, ◌+◌, ◌*◌, ◌^◌, ◌<◌, List, [], ◌∷◌, Some, slice_get}
 use Rattle.b67_word.specs.Tagged.{Tagged, word}
 use Rattle.b67_model.specs.Program.{Program}
-use Rattle.b67_load.specs.Things.{entries_of}
+use Rattle.b67_load.specs.Objects.{entries_of}
 use Rattle.b67_load.specs.Resting.{dictionary_mark}
 use Rattle.b67_session_open.specs.Opened.{dictionary_words}
 

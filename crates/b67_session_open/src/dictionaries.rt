@@ -7,9 +7,9 @@ ghost use Rattle.b67_backing.specs.declared.refusals.SpaceFault.TheVariants.{Bac
 ghost use Rattle.b67_codefile.specs.Meaning.{program_of};
 ghost use Rattle.b67_lemmas.specs.Lists.{total};
 ghost use Rattle.b67_stack.specs.declared.Cpu.{Cpu};
-ghost use Rattle.b67_load.specs.Things.{sectors_of_program};
+ghost use Rattle.b67_load.specs.Objects.{sectors_of_program};
 ghost use Rattle.b67_load.specs.Writing.{Parts, Spares, Writes};
-ghost use Rattle.b67_session_open.specs.Opened.{dictionary_words as words_of_dictionary, dictionaries, things_from};
+ghost use Rattle.b67_session_open.specs.Opened.{dictionary_words as words_of_dictionary, dictionaries, objects_from};
 ghost use Rattle.b67_session_open.specs.Words.{HeadsLie};
 
 use b67_backing::{Backing, Sectors, SpaceFault};
@@ -39,7 +39,7 @@ pub fn install_all<B: Backing>(
     requires same { B.size backing.old + 1 ≡ length sectors.old.links }
     ensures end { IfOk result (λ at. at ≡ 160 + dictionaries (map program_of programs.now)) }
     ensures heads { OnOk result (HeadsLie cpu.new.core 160 (map program_of programs.now)) }
-    ensures writes { OnOk result (Writes B.holds (things_from 160 (map program_of programs.now))
+    ensures writes { OnOk result (Writes B.holds (objects_from 160 (map program_of programs.now))
         (record { core = cpu.old.core; table = sectors.old; device = backing.old })
         (record { core = cpu.new.core; table = sectors.new; device = backing.new })) }
     ensures spares { Spares B.holds 160 (dictionaries (map program_of programs.now))
@@ -49,6 +49,7 @@ pub fn install_all<B: Backing>(
     ensures size { B.size backing.new ≡ B.size backing.old }
     ensures refusal { IfErr result (λ fault. fault ≡ BackingFault) }
     ensures cause { HasCause B.faults backing.old backing.new result }
+    ensures calls { B.calls backing.old ≤ B.calls backing.new }
 {
     let _size = cpu.core.size();
     let mut at = 160;

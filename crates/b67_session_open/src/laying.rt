@@ -3,7 +3,7 @@
 ghost use Rattle.std.specs.Prelude.{◌≡◌, ◌≢◌, ◌⊎◌, ℕ, ◌+◌, ◌-◌, ◌*◌, ◌^◌, ◌<◌, ◌≤◌, length, slice_get, []};
 ghost use Rattle.b67_area.specs.Spans.{left};
 ghost use Rattle.b67_area.specs.Directory.{IsDirectory};
-ghost use Rattle.b67_layout.specs.Session.{McpStands};
+ghost use Rattle.b67_layout.specs.Session.{RepresentsMcp};
 ghost use Rattle.b67_session_open.specs.Words.{SlotLies, SlotsLie, first_vector_word, FirstTaskLies};
 
 use b67_area::Areas;
@@ -14,7 +14,7 @@ use b67_word::Word;
 /// Writes the mark of the MCP and the intrinsics.
 fn lay_mcp(core: &mut Core)
     requires { 17 ≤ length core.old }
-    ensures words { McpStands core.new }
+    ensures words { RepresentsMcp core.new }
     ensures outside { (i : ℕ) → 17 ≤ i → slice_get core.new i ≡ slice_get core.old i }
     ensures len { length core.new ≡ length core.old }
 {
@@ -93,7 +93,7 @@ pub fn lay_core(core: &mut Core, stacks: u32, size: u16, jobs: u8) -> Areas
     requires above { 160 ≤ stacks }
     requires size { 64 ≤ size }
     requires inside { stacks + jobs * size ≤ length core.old }
-    ensures mcp { McpStands core.new }
+    ensures mcp { RepresentsMcp core.new }
     ensures slots { SlotsLie core.new stacks size jobs }
     ensures vector { (k : ℕ) → jobs ≤ k → k < 120 → slice_get core.new (32 + k) ≡ slice_get core.old (32 + k) }
     ensures dictionaries { (i : ℕ) → 160 ≤ i → i < stacks → slice_get core.new i ≡ slice_get core.old i }

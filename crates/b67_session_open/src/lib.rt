@@ -18,4 +18,3 @@ pub use dictionaries::dictionary_words;
 pub use fault::OpenFault;
 pub use needs::{opening_need, opening_sectors};
 pub use opening::open;
-pub use setting::{Initial, set_up};

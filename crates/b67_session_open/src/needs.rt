@@ -11,7 +11,7 @@ ghost use Rattle.b67_model.specs.State.{Segment as ModelSegment};
 ghost use Rattle.b67_model.specs.Need.{need_at_opening};
 ghost use Rattle.b67_model.specs.Sectors.{sectors};
 ghost use Rattle.b67_law_order_runs.specs.Opening.{Opening, opened_from};
-ghost use Rattle.b67_load.specs.Things.{sectors_of_program};
+ghost use Rattle.b67_load.specs.Objects.{sectors_of_program};
 ghost use Rattle.b67_session_open.specs.Opened.{dictionaries, programs_of};
 
 use crate::dictionaries::dictionary_words;

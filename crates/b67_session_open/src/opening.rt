@@ -1,29 +1,28 @@
 //! Opening a session.
 
-ghost use Rattle.std.specs.Prelude.{◌≡◌, ◌+◌, ◌<◌, ◌≤◌, ◌^◌, IfOk, OnOk, length, map};
-ghost use Rattle.b67_backing.specs.Held.{Changes};
+ghost use Rattle.std.specs.Prelude.{◌≡◌, ◌<◌, ◌≤◌, ◌^◌, length, map};
 ghost use Rattle.b67_codefile.specs.Meaning.{program_of};
-ghost use Rattle.b67_lemmas.specs.Lists.{Has};
-ghost use Rattle.b67_task_tables.specs.declared.tables.JobRow.{JobRow};
+ghost use Rattle.b67_layout_storage.specs.Machine.{DeviceAfterCalls};
 ghost use Rattle.b67_session_open.specs.Decks.{DeckInRange};
 ghost use Rattle.b67_session_open.specs.Opens.{IsOpened};
 
 use crate::fault::OpenFault;
+use crate::needs::{opening_need, opening_sectors};
+use crate::setting::set_up;
 use crate::tables::opening_tasks;
 use b67_backing::{Backing, Sectors};
 use b67_core::Core;
-use crate::needs::{opening_need, opening_sectors};
-use crate::setting::set_up;
 use b67_load_verify::Admitted;
-use b67_task_tables::Machine;
 use b67_model_text::Deck;
+use b67_task_tables::Machine;
 use std::alloc::Global;
 
-/// Opens a deck's session with a program for each job, in a core of so many words over a device: the machine stands for
-/// the opening state, and nothing is present. Refused in this order: where memory is refused; with `NoCore` exactly where
-/// the opening's need exceeds core; with `BackingFull` exactly where the programs take more sectors than the device has;
-/// with `BackingFault` only where the device failed. A job of 2 ^ 32 numbers or more, which the tables can't count, is
-/// refused as want of memory; a deck that was read, of at most 4,194,304 bytes, has no such job.
+/// Opens a deck's session with a program for each job, in a core of so many words over a device: the machine represents
+/// the opening state, and nothing is present. Refused in this order: if memory is refused; with `NoCore` exactly if the
+/// opening's need exceeds core; with `BackingFull` exactly if the programs take more sectors than the device has; with
+/// `BackingFault` only if the device failed. The device isn't called before all other refusals are tried. A job of 2 ^ 32
+/// numbers or more, which the tables can't count, is refused as out of memory; a deck that was read, of at most 4,194,304
+/// bytes, has no such job.
 pub fn open<B: Backing>(
     alloc: Global,
     deck: &Deck,
@@ -36,11 +35,7 @@ pub fn open<B: Backing>(
     requires core_low { 256 ≤ core_words }
     requires core_high { core_words < 2 ^ 20 }
     ensures opens { IsOpened B.holds B.size B.faults deck.now (map program_of programs.now) core_words backing.old backing.new result }
-    ensures tells { OnOk result (Changes B.holds backing.old backing.new (λ before after. length after ≡ length before)) }
-    ensures size { B.size backing.new ≡ B.size backing.old }
-    ensures count { IfOk result (λ k. length k.sectors.links ≡ B.size backing.old + 1) }
-    ensures countable { IfOk result (λ k. (r : JobRow) → Has k.tasks.jobs r → length r.numbers < 2 ^ 32) }
-    ensures later { B.faults backing.old ≤ B.faults backing.new }
+    ensures device { DeviceAfterCalls B.holds B.size B.calls B.faults backing.old backing.new }
 {
     let count = backing.sectors();
     let core = Core::new(alloc, core_words)?;

@@ -1,6 +1,7 @@
 ghost use Rattle.std.specs.Prelude.{◌≡◌, ◌<◌, ◌≤◌, ◌^◌, length};
 
 use super::*;
+use crate::setting::{Initial, set_up};
 use b67_backing::{MemoryBacking, Sectors, SpaceFault};
 use b67_codefile::read;
 use b67_core::Core;

@@ -9,11 +9,11 @@ ghost use Rattle.b67_task_tables.specs.Tables.{task_row, job_row, TasksShow};
 ghost use Rattle.b67_session_open.specs.Decks.{opening_of, openings_of, session_of, job_names, row_names, JobInRange, DeckInRange, IsLoaded, IsCountable};
 
 use crate::copies::{copied_name, copied_numbers, copied_switches};
-use arrayvec::ArrayVec;
 use crate::dictionaries::dictionary_words;
+use arrayvec::ArrayVec;
 use b67_load_verify::Admitted;
-use b67_task_tables::{JobRow, JobRows, TaskRow, TaskState, Tasks};
 use b67_model_text::{Deck, Job};
+use b67_task_tables::{JobRow, JobRows, TaskRow, TaskState, Tasks};
 use b67_word::Place;
 use std::alloc::{AllocError, Global};
 

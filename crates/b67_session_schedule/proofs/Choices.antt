@@ -1,13 +1,14 @@
 -- The choice, by what the rows and switches tell.
 use Rattle.std.proofs.Common.{◌≡◌, ℕ, ◌<◌, ◌≤◌, ◌&&◌, Bool, true, false, not, List, [], ◌∷◌, ◌++◌, map, filter, length, Option, Some, None, refl, sym, ◌∙◌, ap, arith, inl, inr, subst}
-use Rattle.std.specs.Prelude.{find, IfSome}
+use Rattle.std.specs.Prelude.{IfSome}
 use Rattle.std.proofs.lemmas.Option.{slice_get_within}
 use Rattle.std.specs.List.{list_any}
 use Rattle.std.proofs.lemmas.Bool.{cases_Bool, true≢false}
 use Rattle.b67_lemmas.specs.Lists.{Has}
+use Rattle.b67_lemmas.proofs.Members.{any_has, any_some, find_none, find_one}
 use Rattle.b67_model.specs.Schedule.{Who, Switch, Session, Choice, is_same, is_before, ready, switched, goes_on, first, next_after, afresh, choice_by, choice}
 use Rattle.b67_model.specs.InOrder.{SwitchesRise, IsInOrderButPlaces}
-use Rattle.b67_layout.specs.Plan.{Plan}
+use Rattle.b67_layout.specs.Placement.{Placement}
 use Rattle.b67_layout.specs.Rows as rows
 use Rattle.b67_layout.specs.Rows.{TablesShow}
 use Rattle.b67_task_tables.specs.declared.tables.TaskRow.{TaskRow}
@@ -17,20 +18,8 @@ use Rattle.b67_session_schedule.specs.declared.counting.Chosen.{Chosen}
 use Rattle.b67_session_schedule.specs.Counted.{Past, choice_of}
 use Rattle.b67_session_schedule.specs.Chosen.{IsReadyAt, ReadyRow, IsNextAt, NextRow, RowOf, GoesOnAt, SwitchesTo, Chooses, turn_lasts}
 use Rattle.b67_session_schedule.proofs.Rising.{is_named, nobody_named, is_named_one, named_one}
-use Rattle.b67_law_order.proofs.Members.{any_some, any_has}
 use Rattle.b67_session_schedule.proofs.Orders.{same_is, is_self, before_job}
 use Rattle.b67_session_schedule.proofs.ReadyTasks.{Rises, ready_rises, from_one, row_ready, ready_row}
-
-pub find_none : {A : Type 0} (p : A → Bool) (xs : List A) → ((x : A) → Has xs x → p x ≡ false) → find p xs ≡ None
-find_none p [] none = refl
-find_none p (x ∷ xs) none = let t = none x (inl refl) in rw t (find_none p xs (λ y k. none y (inr k)))
-
-pub find_one : {A : Type 0} (p : A → Bool) (xs : List A) (w : A) → Has xs w → p w ≡ true → ((x : A) → p x ≡ true → x ≡ w) → find p xs ≡ Some w
-find_one p [] w h t one = absurd h
-find_one p (x ∷ xs) w h t one = elim (cases_Bool (p x)) [
-  | inl e ↦ rw e (ap Some (one x e))
-  | inr e ↦ rw e (elim h [ inl is ↦ absurd (true≢false (sym t ∙ ap p (sym is) ∙ e)) | inr k ↦ find_one p xs w k t one ])
-]
 
 -- the first of a part of a list in order
 pub first_passing : (p : Who → Bool) (xs : List Who) (w : Who) → Rises xs → Has xs w → p w ≡ true → ((x : Who) → Has xs x → p x ≡ true → is_before x w ≡ false) → first (filter p xs) ≡ Some w
@@ -85,7 +74,7 @@ cyclic_none last before (x ∷ xs) none all q = absurd (true≢false (sym (all x
 pub choice_is : (s : Session) (o : Option Who) (b : Bool) → switched s ≡ o → goes_on s ≡ b → choice s ≡ choice_by s o b
 choice_is s o b e f = ap (λ (v : Option Who). choice_by s v (goes_on s)) e ∙ ap (λ (v : Bool). choice_by s o v) f
 
-module _ (plan : Plan) (s : Session) (o : IsInOrderButPlaces s) (task_rows : List TaskRow) (job_rows : List rows.JobRow) (c : rows.Counts) (shows : TablesShow plan s (map task_row task_rows) job_rows c) where
+module _ (plan : Placement) (s : Session) (o : IsInOrderButPlaces s) (task_rows : List TaskRow) (job_rows : List rows.JobRow) (c : rows.Counts) (shows : TablesShow plan s (map task_row task_rows) job_rows c) where
   in_row : (i : ℕ) (w : Who) → IsReadyAt task_rows i w → Has (ready s) w
   in_row = row_ready plan s o task_rows job_rows c shows
 

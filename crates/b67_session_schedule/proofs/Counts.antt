@@ -7,20 +7,20 @@ use Rattle.std.proofs.lemmas.Bool.{cases_lt}
 use Rattle.std.proofs.lemmas.Bool.Decides.{eqb_tells}
 use Rattle.b67_model_text.specs.declared.deck.Switch as text
 use Rattle.b67_lemmas.specs.Lists.{Has}
-use Rattle.b67_model.specs.State.{Task, Member}
+use Rattle.b67_lemmas.proofs.Places.{at_mapped, came_back, map-slice_set, mapped_at}
+use Rattle.b67_model.specs.State.{Task, SessionJob}
 use Rattle.b67_model.specs.Keyed.{change_keyed}
 use Rattle.b67_model.specs.Run.{number_of}
 use Rattle.b67_model.specs.Schedule.{Switch, Session, Choice}
 use Rattle.b67_model.specs.InOrder.{NumberedFrom}
-use Rattle.b67_layout.specs.Plan.{Plan}
+use Rattle.b67_layout.specs.Placement.{Placement}
 use Rattle.b67_layout.specs.Rows as rows
 use Rattle.b67_layout.specs.Rows.{TaskRow, Counts, TaskShows, JobShows, JobsShow, TablesShow}
 use Rattle.b67_task_tables.specs.declared.tables.JobRow.{JobRow}
 use Rattle.b67_task_tables.specs.declared.tables.Tasks.{Tasks}
 use Rattle.b67_task_tables.specs.Tables.{task_row, job_row, switch_of, counts_of, TasksShow}
 use Rattle.b67_session_schedule.specs.declared.counting.Chosen.{Chosen}
-use Rattle.b67_session_schedule.specs.Counted.{choice_of, counted_member, counted_row, counted, HasRoom, Past}
-use Rattle.b67_task_switch.proofs.Lists.{mapped_at, at_mapped, map-slice_set}
+use Rattle.b67_session_schedule.specs.Counted.{choice_of, counted_member, counted_row, counted, CountsHaveRoom, Past}
 
 -- one switch more is past
 pub past_grown : (xs : List text.Switch) (from made n : ℕ) (d : text.Switch) → from < length xs → (get_or xs from d).count < made → n ≤ from + 1 → Past from made (map switch_of xs) → Past n made (map switch_of xs)
@@ -34,7 +34,7 @@ past_grown xs from made n d inside low few past = λ i w lt e. elim (cases_lt i 
 ]
 
 -- the members once one of them has made one operator more: the others, and that one
-pub has_counted : (n : ℕ) (jobs : List Member) (m : Member) → Has (change_keyed number_of n counted_member jobs) m → (y : Member) × Has jobs y × ((y ≡ m) ⊎ (counted_member y ≡ m))
+pub has_counted : (n : ℕ) (jobs : List SessionJob) (m : SessionJob) → Has (change_keyed number_of n counted_member jobs) m → (y : SessionJob) × Has jobs y × ((y ≡ m) ⊎ (counted_member y ≡ m))
 has_counted n [] m h = absurd h
 has_counted n (y ∷ more) m h = elim (eqb_tells (number_of y) n) [
   | inl t ↦ elim (rw t.0 at h) [ inl e ↦ (y, inl refl, inr e) | inr k ↦ (m, inr k, inl refl) ]
@@ -44,7 +44,7 @@ has_counted n (y ∷ more) m h = elim (eqb_tells (number_of y) n) [
   ]
 ]
 
-pub has_counted_of : (n : ℕ) (jobs : List Member) (m : Member) → Has jobs m → Has (change_keyed number_of n counted_member jobs) m ⊎ Has (change_keyed number_of n counted_member jobs) (counted_member m)
+pub has_counted_of : (n : ℕ) (jobs : List SessionJob) (m : SessionJob) → Has jobs m → Has (change_keyed number_of n counted_member jobs) m ⊎ Has (change_keyed number_of n counted_member jobs) (counted_member m)
 has_counted_of n [] m h = absurd h
 has_counted_of n (y ∷ more) m h = elim (eqb_tells (number_of y) n) [
   | inl t ↦ rw t.0 (elim h [ inl e ↦ inr (inl (ap counted_member e)) | inr k ↦ inl (inr k) ])
@@ -55,13 +55,13 @@ has_counted_of n (y ∷ more) m h = elim (eqb_tells (number_of y) n) [
 ]
 
 -- a row shows a task's state, whatever its job has made
-pub task_counted : (plan : Plan) (m : Member) (t : Task) (row : TaskRow) → TaskShows plan m t row → TaskShows plan (counted_member m) t row
+pub task_counted : (plan : Placement) (m : SessionJob) (t : Task) (row : TaskRow) → TaskShows plan m t row → TaskShows plan (counted_member m) t row
 task_counted plan m t row h = record { job = h.job; number = h.number; slot = h.slot; parent = h.parent; critical = h.critical; state = h.state; segment = h.segment; place = h.place }
 
 abbrev pub row_counted : rows.JobRow → rows.JobRow
 row_counted r = record r { made = r.made + 1 }
 
-pub jobs_counted : (plan : Plan) (k i n : ℕ) (jobs : List Member) (job_rows : List rows.JobRow) (r : rows.JobRow) → k + i ≡ n → NumberedFrom k jobs → JobsShow plan jobs job_rows → slice_get job_rows i ≡ Some r
+pub jobs_counted : (plan : Placement) (k i n : ℕ) (jobs : List SessionJob) (job_rows : List rows.JobRow) (r : rows.JobRow) → k + i ≡ n → NumberedFrom k jobs → JobsShow plan jobs job_rows → slice_get job_rows i ≡ Some r
     → JobsShow plan (change_keyed number_of n counted_member jobs) (slice_set job_rows i (row_counted r))
 jobs_counted plan k i n [] [] r e d h at = absurd (none-some r at)
 jobs_counted plan k i n [] (q ∷ job_rows) r e d h at = absurd h
@@ -85,8 +85,8 @@ jobs_counted plan k (suc i) n (m ∷ more) (q ∷ job_rows) r e d h at = elim (e
   | inr t ↦ rw t.0 (h.0, jobs_counted plan (k + 1) i n more job_rows r (omega (arith, e)) d.1 h.1 at)
 ]
 
-module _ (plan : Plan) (s : Session) (choice : Choice) (task_rows : List TaskRow) (job_rows : List rows.JobRow) (c : Counts) (numbered : NumberedFrom 1 s.jobs) (shows : TablesShow plan s task_rows job_rows c) where
-  after : List Member
+module _ (plan : Placement) (s : Session) (choice : Choice) (task_rows : List TaskRow) (job_rows : List rows.JobRow) (c : Counts) (numbered : NumberedFrom 1 s.jobs) (shows : TablesShow plan s task_rows job_rows c) where
+  after : List SessionJob
   after = change_keyed number_of choice.who.job counted_member s.jobs
 
   tables_counted : (r : rows.JobRow) (next : ℕ) → 1 ≤ choice.who.job → slice_get job_rows (choice.who.job - 1) ≡ Some r → next ≤ length c.switches → Past next (c.made + 1) c.switches
@@ -102,9 +102,9 @@ module _ (plan : Plan) (s : Session) (choice : Choice) (task_rows : List TaskRow
     each = λ m t inm int.
         let (y, iny, is) = has_counted choice.who.job s.jobs m inm in
         elim is [
-          | inl e ↦ shows.each m t (subst (λ (z : Member). Has s.jobs z) e iny) int
+          | inl e ↦ shows.each m t (subst (λ (z : SessionJob). Has s.jobs z) e iny) int
           | inr e ↦
-              let P : Member → Type 0 = λ z. Has z.course.job.tasks t → (row : TaskRow) × Has task_rows row × TaskShows plan z t row in
+              let P : SessionJob → Type 0 = λ z. Has z.progress.job.tasks t → (row : TaskRow) × Has task_rows row × TaskShows plan z t row in
               subst P e (λ inside. let (row, k, w) = shows.each y t iny inside in (row, k, task_counted plan y t row w)) int
         ];
     once = shows.once;
@@ -122,22 +122,15 @@ module _ (plan : Plan) (s : Session) (choice : Choice) (task_rows : List TaskRow
     };
   }
 
--- a list that was lent and comes back with its length
-came_back : {A : Type 0} (xs ws : List A) → length ws ≡ length xs → take (length xs) (ws ++ drop (length ws) xs) ≡ ws
-came_back [] [] e = refl
-came_back [] (w ∷ ws) e = absurd (omega (arith, e))
-came_back (x ∷ xs) [] e = absurd (omega (arith, e))
-came_back (x ∷ xs) (w ∷ ws) e = ap (λ r. w ∷ r) (came_back xs ws (omega (arith, e)))
-
 pub jobs_after : (xs lent new : List JobRow) (n : ℕ) (r : JobRow) → lent ≡ xs → (slice_get lent n ≡ Some r → new ≡ slice_set lent n (counted_row r)) → length new ≡ length lent → slice_get xs n ≡ Some r
     → take (length xs) (new ++ drop (length new) xs) ≡ slice_set xs n (counted_row r)
 jobs_after xs lent new n r same changed len at =
     came_back xs new (len ∙ ap length same) ∙ changed (ap (λ (l : List JobRow). slice_get l n) same ∙ at) ∙ ap (λ (l : List JobRow). slice_set l n (counted_row r)) same
 
-pub count_shows : (tasks : Tasks) (chosen : Chosen) (room : HasRoom tasks chosen) (lent new : List JobRow) (switches : List text.Switch) (next : ℕ) → lent ≡ tasks.jobs → switches ≡ tasks.switches
+pub count_shows : (tasks : Tasks) (chosen : Chosen) (room : CountsHaveRoom tasks chosen) (lent new : List JobRow) (switches : List text.Switch) (next : ℕ) → lent ≡ tasks.jobs → switches ≡ tasks.switches
     → (slice_get lent (chosen.job - 1) ≡ Some room.job → new ≡ slice_set lent (chosen.job - 1) (counted_row room.job)) → length new ≡ length lent
     → next ≤ length switches → (Past tasks.next_switch (tasks.made + 1) (map switch_of switches) → Past next (tasks.made + 1) (map switch_of switches))
-    → (plan : Plan) (s : Session) → NumberedFrom 1 s.jobs → TasksShow plan s tasks
+    → (plan : Placement) (s : Session) → NumberedFrom 1 s.jobs → TasksShow plan s tasks
     → TablesShow plan (counted s (choice_of chosen)) (map task_row tasks.rows.items) (map job_row (take (length tasks.jobs) (new ++ drop (length new) tasks.jobs)))
     (record (counts_of tasks) { made = tasks.made + 1; turn = chosen.turn + 1; last_job = chosen.job; last_number = chosen.number; next_switch = next })
 count_shows tasks chosen room lent new switches next same_jobs same_switches changed len inside past plan s numbered shows =

@@ -7,11 +7,11 @@ use Rattle.b67_model.specs.Schedule.{Who, is_before, is_same}
 use Rattle.b67_task_tables.specs.declared.tables.TaskRow.{TaskRow}
 use Rattle.b67_session_schedule.specs.Chosen.{who_of, is_ready, comes, is_row_of, IsReadyAt, IsNextAt, NextRow}
 use Rattle.b67_session_schedule.proofs.Orders.{before_same, before_after, same_is, is_self}
-use Rattle.b67_task_switch.proofs.Lists.{there}
+use Rattle.b67_lemmas.proofs.Places.{get_within}
 
 -- the item that is read at a place within a list
 pub seen : {A : Type 0} (xs : List A) (i : ℕ) (d : A) → i < length xs → slice_get xs i ≡ Some (get_or xs i d)
-seen xs i d h = let (x, e) = there xs i h in e ∙ ap Some (sym (get_or_from_slice_get xs i x d e))
+seen xs i d h = let (x, e) = get_within xs i h in e ∙ ap Some (sym (get_or_from_slice_get xs i x d e))
 
 module _ (rows : List TaskRow) (k : ℕ) (row : TaskRow) (e : slice_get rows k ≡ Some row) where
   same_row : (w : Who) (a : IsReadyAt rows k w) → (is_ready row.state ≡ true) × (who_of row ≡ w)

@@ -7,15 +7,15 @@ use Rattle.std.proofs.lemmas.Bool.Decides.{eqb_tells}
 use Rattle.std.proofs.lemmas.List.{length-map}
 use Rattle.b67_model_text.specs.declared.deck.Switch as text
 use Rattle.b67_lemmas.specs.Lists.{Has}
+use Rattle.b67_lemmas.proofs.Members.{any_has, any_some, has_get}
+use Rattle.b67_lemmas.proofs.Places.{at_mapped, get_within, has_at, mapped_at}
 use Rattle.b67_model.specs.InOrder.{SwitchesRise}
 use Rattle.b67_model.specs.Schedule.{Who, Switch, is_same}
-use Rattle.b67_law_order.proofs.Members.{any_some, any_has}
 use Rattle.b67_session_schedule.specs.Counted.{Past, IsLeft}
 use Rattle.b67_session_schedule.specs.Chosen.{SwitchesTo}
 use Rattle.b67_task_tables.specs.Tables.{switch_of}
 use Rattle.b67_session_schedule.proofs.Nearer.{seen}
 use Rattle.b67_session_schedule.proofs.Orders.{same_is, is_self}
-use Rattle.b67_task_switch.proofs.Lists.{at_has, has_at, at_mapped, mapped_at, there}
 
 rise_rest : (a : Switch) (more : List Switch) → SwitchesRise (a ∷ more) → SwitchesRise more
 rise_rest a [] h = h
@@ -30,7 +30,7 @@ rise_low a (b ∷ more) w h (inr k) = omega (arith, h.0, rise_low b more w h.1 k
 rise_at : (xs : List Switch) (i j : ℕ) (a b : Switch) → SwitchesRise xs → i < j → slice_get xs i ≡ Some a → slice_get xs j ≡ Some b → a.count < b.count
 rise_at [] i j a b h lt ea eb = absurd (none-some a ea)
 rise_at (x ∷ xs) i zero a b h lt ea eb = absurd (omega (arith, lt))
-rise_at (x ∷ xs) zero (suc j) a b h lt ea eb = omega (arith, rise_low x xs b h (at_has xs j b eb), ap (λ (v : Switch). v.count) (same_Some x a ea))
+rise_at (x ∷ xs) zero (suc j) a b h lt ea eb = omega (arith, rise_low x xs b h (has_get xs j b eb), ap (λ (v : Switch). v.count) (same_Some x a ea))
 rise_at (x ∷ xs) (suc i) (suc j) a b h lt ea eb = rise_at xs i j a b (rise_rest x xs h) (omega (arith, lt)) ea eb
 
 rise_once : (xs : List Switch) (a b : Switch) → SwitchesRise xs → Has xs a → Has xs b → a.count ≡ b.count → a ≡ b
@@ -43,7 +43,7 @@ rise_once (x ∷ xs) a b h (inr k) (inr l) e = rise_once xs a b (rise_rest x xs 
 module _ (xs : List Switch) (i made : ℕ) (past : Past i made xs) where
   -- the switch after those that are past is the one of this count
   pub named : (w : Switch) → slice_get xs i ≡ Some w → w.count ≡ made → Has xs (record { count = made; to = w.to })
-  named w at e = subst (λ (n : ℕ). Has xs (record { count = n; to = w.to })) e (at_has xs i w at)
+  named w at e = subst (λ (n : ℕ). Has xs (record { count = n; to = w.to })) e (has_get xs i w at)
 
   -- or none is, where its count is higher, or all are past
   pub none_named : (w : Switch) → SwitchesRise xs → slice_get xs i ≡ Some w → made < w.count → (v : Switch) → Has xs v → v.count ≡ made → ⊥
@@ -66,7 +66,7 @@ module _ (xs : List Switch) (i made : ℕ) (past : Past i made xs) where
 -- the last switch tells whether one is left
 pub left_last : (xs : List Switch) (made : ℕ) (w : Switch) → SwitchesRise xs → slice_get xs (length xs - 1) ≡ Some w → list_any (λ v. ltb made v.count) xs ≡ ltb made w.count
 left_last xs made w rise at = elim (cases_lt made w.count) [
-  | inl lt ↦ any_some (λ v. ltb made v.count) xs w (at_has xs (length xs - 1) w at) (lt-ltb made w.count lt) ∙ sym (lt-ltb made w.count lt)
+  | inl lt ↦ any_some (λ v. ltb made v.count) xs w (has_get xs (length xs - 1) w at) (lt-ltb made w.count lt) ∙ sym (lt-ltb made w.count lt)
   | inr le ↦ elim (cases_Bool (list_any (λ v. ltb made v.count) xs)) [
     | inl t ↦
         let (v, k, high) = any_has (λ v. ltb made v.count) xs t in
@@ -117,7 +117,7 @@ named_one made xs who v rise k t =
 -- the next switch is left, where the one before it was left before this operator
 pub next_left : (xs : List text.Switch) (from before made : ℕ) → SwitchesRise (map switch_of xs) → from < length xs → made ≤ before + 1 → IsLeft from before (map switch_of xs) → IsLeft (from + 1) made (map switch_of xs)
 next_left xs from before made rise inside more left = λ w at.
-    let (v, e) = there (map switch_of xs) from (omega (arith, inside, length-map xs switch_of)) in
+    let (v, e) = get_within (map switch_of xs) from (omega (arith, inside, length-map xs switch_of)) in
     omega (arith, more, left v e, rise_at (map switch_of xs) from (from + 1) v w rise (omega arith) e at)
 
 pub still_left : (xs : List text.Switch) (from made : ℕ) (d : text.Switch) → (from < length xs → made ≤ (get_or xs from d).count) → IsLeft from made (map switch_of xs)

@@ -7,21 +7,22 @@ use Rattle.std.proofs.lemmas.List.Sums.{sum_by-cons}
 use Rattle.std.proofs.lemmas.Option.{none-some}
 use Rattle.std.proofs.lemmas.Bool.{cases_Bool}
 use Rattle.b67_lemmas.specs.Lists.{Has}
-use Rattle.b67_model.specs.State.{Member}
+use Rattle.b67_lemmas.proofs.Members.{all_in}
+use Rattle.b67_lemmas.proofs.Places.{mapped_at}
+use Rattle.b67_model.specs.State.{SessionJob}
 use Rattle.b67_model.specs.InOrder.{JobInOrder, IsSegment, IsInOrderButPlaces}
 use Rattle.b67_model.specs.Schedule.{Who, Session, Choice, is_before, ready, switched, goes_on, first, next_after, afresh, choice_by, choice}
-use Rattle.b67_law_order.proofs.Members.{all_in}
-use Rattle.b67_layout.specs.Plan.{Plan}
+use Rattle.b67_layout.specs.Placement.{Placement}
 use Rattle.b67_layout.specs.Rows as rows
 use Rattle.b67_task_tables.specs.declared.tables.Tasks.{Tasks}
 use Rattle.b67_task_tables.specs.Tables.{job_row, switch_of, counts_of, TasksShow}
 use Rattle.b67_session_schedule.specs.declared.counting.Chosen.{Chosen}
-use Rattle.b67_session_schedule.specs.Counted.{choice_of, HasRoom}
+use Rattle.b67_session_schedule.specs.Counted.{choice_of, CountsHaveRoom}
 use Rattle.b67_session_schedule.specs.Chosen.{IsReadyAt, Chooses}
 use Rattle.b67_session_schedule.proofs.ReadyTasks.{among_members, among_tasks, row_ready}
 use Rattle.b67_session_schedule.proofs.Choices.{cyclic}
-use Rattle.b67_task_switch.proofs.Lists.{mapped_at}
-use Rattle.b67_task_switch.proofs.Tables.{numbered_low, job_at}
+use Rattle.b67_task_switch.proofs.Tables.{job_at}
+use Rattle.b67_law_order.proofs.Numbered.{numbered_low}
 
 -- a list in which none comes next is empty
 first_cons : (xs ys : List Who) (w : Who) → first (xs ++ (w ∷ ys)) ≡ None → ⊥
@@ -58,28 +59,28 @@ turn_by s None true c e = let same : record { who = s.last; turn = s.turn } ≡ 
 turn_by s None false c e = omega (arith, afresh_turn (next_after s) c e)
 
 -- the operators of a session are few
-sum_few : (bound : ℕ) (jobs : List Member) → ((m : Member) → Has jobs m → m.course.made ≤ bound) → length jobs ≤ 8 → sum_by (λ (m : Member). m.course.made) jobs ≤ length jobs * bound
+sum_few : (bound : ℕ) (jobs : List SessionJob) → ((m : SessionJob) → Has jobs m → m.progress.made ≤ bound) → length jobs ≤ 8 → sum_by (λ (m : SessionJob). m.progress.made) jobs ≤ length jobs * bound
 sum_few bound [] few short = omega arith
-sum_few bound (m ∷ more) few short = omega (arith, sum_by-cons (λ (y : Member). y.course.made) m more, few m (inl refl), sum_few bound more (λ y k. few y (inr k)) (omega (arith, short)))
+sum_few bound (m ∷ more) few short = omega (arith, sum_by-cons (λ (y : SessionJob). y.progress.made) m more, few m (inl refl), sum_few bound more (λ y k. few y (inr k)) (omega (arith, short)))
 
 module _ (s : Session) (o : IsInOrderButPlaces s) where
-  pub made_few : (m : Member) → Has s.jobs m → m.course.made ≤ 100000000
+  pub made_few : (m : SessionJob) → Has s.jobs m → m.progress.made ≤ 100000000
   made_few m inm =
-      let j = all_in (λ (y : Member). JobInOrder (IsSegment y.setting) y.setting y.course) s.jobs m o.jobs inm in
+      let j = all_in (λ (y : SessionJob). JobInOrder (IsSegment y.constants) y.constants y.progress) s.jobs m o.jobs inm in
       omega (arith, j.counts.within, j.unchanging.limit)
 
   pub all_few : s.made ≤ 800000000
   all_few = omega (arith, o.counted, sum_few 100000000 s.jobs made_few o.few, o.few)
 
-module _ (plan : Plan) (s : Session) (o : IsInOrderButPlaces s) (tasks : Tasks) (shows : TasksShow plan s tasks) where
-  pub room_of : (c : Chosen) → IsReadyAt tasks.rows.items c.row (choice_of c).who → choice s ≡ Some (choice_of c) → HasRoom tasks c
+module _ (plan : Placement) (s : Session) (o : IsInOrderButPlaces s) (tasks : Tasks) (shows : TasksShow plan s tasks) where
+  pub room_of : (c : Chosen) → IsReadyAt tasks.rows.items c.row (choice_of c).who → choice s ≡ Some (choice_of c) → CountsHaveRoom tasks c
   room_of c a e =
       let (m, inm, k) = among_members s.jobs (choice_of c).who (row_ready plan s o tasks.rows.items (map job_row tasks.jobs) (counts_of tasks) shows c.row (choice_of c).who a) in
-      let (t, int, r, named) = among_tasks m.setting.number m.course.job.tasks (choice_of c).who k in
-      let number : m.setting.number ≡ c.job = ap (λ (w : Who). w.job) named in
+      let (t, int, r, named) = among_tasks m.constants.number m.progress.job.tasks (choice_of c).who k in
+      let number : m.constants.number ≡ c.job = ap (λ (w : Who). w.job) named in
       let b = job_at plan 1 s.jobs (map job_row tasks.jobs) m o.numbered shows.jobs inm in
-      let (j, at, same) = mapped_at job_row tasks.jobs (m.setting.number - 1) b.row b.at in
-      let made : j.made ≡ m.course.made = ap (λ (y : rows.JobRow). y.made) same ∙ b.shows.made in
+      let (j, at, same) = mapped_at job_row tasks.jobs (m.constants.number - 1) b.row b.at in
+      let made : j.made ≡ m.progress.made = ap (λ (y : rows.JobRow). y.made) same ∙ b.shows.made in
       let turn : c.turn ≤ s.turn = turn_by s (switched s) (goes_on s) (choice_of c) e in
       record {
         job = j;
@@ -91,7 +92,7 @@ module _ (plan : Plan) (s : Session) (o : IsInOrderButPlaces s) (tasks : Tasks) 
         next = omega (arith, shows.counts.next, length-map tasks.switches switch_of);
       }
 
-  pub room_if : (result : Option Chosen) → Chooses tasks.rows.items result (choice s) → IfSome result (HasRoom tasks)
+  pub room_if : (result : Option Chosen) → Chooses tasks.rows.items result (choice s) → IfSome result (CountsHaveRoom tasks)
   room_if None h = tt
   room_if (Some c) h = room_of c h.0 h.1
 

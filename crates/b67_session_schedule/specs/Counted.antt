@@ -1,7 +1,7 @@
 -- What one operator more of a task changes in a session's counts.
 use Rattle.std.specs.Prelude.{◌≡◌, ℕ, ◌+◌, ◌-◌, ◌^◌, ◌<◌, ◌≤◌, List, length, Some, slice_get}
 use Rattle.b67_model.specs.Keyed.{change_keyed}
-use Rattle.b67_model.specs.State.{Member}
+use Rattle.b67_model.specs.State.{SessionJob}
 use Rattle.b67_model.specs.Run.{number_of}
 use Rattle.b67_model.specs.Schedule.{Switch, Session, Choice}
 use Rattle.b67_task_tables.specs.declared.tables.JobRow.{JobRow}
@@ -11,8 +11,8 @@ use Rattle.b67_session_schedule.specs.declared.counting.Chosen.{Chosen}
 abbrev pub choice_of : Chosen → Choice
 choice_of c = record { who = record { job = c.job; task = c.number }; turn = c.turn }
 
-abbrev pub counted_member : Member → Member
-counted_member m = record m { course = record m.course { made = m.course.made + 1 } }
+abbrev pub counted_member : SessionJob → SessionJob
+counted_member m = record m { progress = record m.progress { made = m.progress.made + 1 } }
 
 abbrev pub counted_row : JobRow → JobRow
 counted_row r = record r { made = r.made + 1 }
@@ -27,7 +27,7 @@ counted s c = record s {
 }
 
 -- one operator more fits the counts
-pub record HasRoom (tasks : Tasks) (c : Chosen) : Type 0 where
+pub record CountsHaveRoom (tasks : Tasks) (c : Chosen) : Type 0 where
   pub job : JobRow
   pub from_one : 1 ≤ c.job
   pub at : slice_get tasks.jobs (c.job - 1) ≡ Some job

@@ -6,15 +6,15 @@ ghost use Rattle.b67_model.specs.InOrder.{NumberedFrom, SwitchesRise};
 ghost use Rattle.b67_model.specs.Keyed.{keyed};
 ghost use Rattle.b67_model.specs.Run.{number_of, with_moment};
 ghost use Rattle.b67_model.specs.Schedule.{Session, Switch};
-ghost use Rattle.b67_model.specs.State.{Member};
+ghost use Rattle.b67_model.specs.State.{SessionJob};
 ghost use Rattle.b67_layout.specs.Meets.{with_job};
-ghost use Rattle.b67_layout.specs.Plan.{Plan};
+ghost use Rattle.b67_layout.specs.Placement.{Placement};
 ghost use Rattle.b67_task_tables.specs.declared.tables.JobRow.{JobRow};
 ghost use Rattle.b67_task_tables.specs.Tables.{switch_of, TasksShow};
-ghost use Rattle.b67_session_schedule.specs.Counted.{choice_of, counted, counted_row, HasRoom, Past, IsLeft};
+ghost use Rattle.b67_session_schedule.specs.Counted.{choice_of, counted, counted_row, CountsHaveRoom, Past, IsLeft};
 
-use b67_task_tables::{JobRow, Tasks};
 use b67_model_text::Switch;
+use b67_task_tables::{JobRow, Tasks};
 
 /// The task that makes the next operator: its row; its job and number, from 1 on; and how many operators of its turn it
 /// has made.
@@ -27,6 +27,7 @@ pub struct Chosen {
 }
 
 /// A job has made one operator more.
+#[inline(always)]
 fn count_of_job(rows: &mut [JobRow], at: usize)
     requires { (r : JobRow) × (slice_get rows.old at ≡ Some r) × (r.made + 1 < 2 ^ 64) }
     ensures { (r : JobRow) → slice_get rows.old at ≡ Some r → rows.new ≡ slice_set rows.old at (counted_row r) }
@@ -36,6 +37,7 @@ fn count_of_job(rows: &mut [JobRow], at: usize)
 }
 
 /// The first switch that is left, where that was `from` before one operator more was made.
+#[inline(always)]
 fn first_left(switches: &[Switch], from: u32, made: u64) -> u32
     requires { from ≤ length switches.now }
     ensures within { result ≤ length switches.now }
@@ -51,13 +53,14 @@ fn first_left(switches: &[Switch], from: u32, made: u64) -> u32
 
 /// Counts one operator of the chosen task, in the session, in its job and in its turn; that task is then the last one.
 /// All else of the tables stays.
+#[inline(always)]
 pub fn count(tasks: &mut Tasks, chosen: Chosen)
-    requires { HasRoom tasks.old chosen }
-    ensures counted { (plan : Plan) (s : Session) → NumberedFrom 1 s.jobs → TasksShow plan s tasks.old → TasksShow plan (counted s (choice_of chosen)) tasks.new }
+    requires { CountsHaveRoom tasks.old chosen }
+    ensures counted { (plan : Placement) (s : Session) → NumberedFrom 1 s.jobs → TasksShow plan s tasks.old → TasksShow plan (counted s (choice_of chosen)) tasks.new }
     // Of the tables once the operator has changed its job, it makes those of the session's step.
-    ensures moment { (plan : Plan) (s : Session) (m : Member) (made : JobMoment) → NumberedFrom 1 s.jobs
-        → keyed number_of chosen.job s.jobs ≡ Some m → made.course.made ≡ m.course.made + 1
-        → TasksShow plan (with_job s m made.course.job) tasks.old → TasksShow plan (with_moment s (choice_of chosen) m made) tasks.new }
+    ensures moment { (plan : Placement) (s : Session) (m : SessionJob) (made : JobMoment) → NumberedFrom 1 s.jobs
+        → keyed number_of chosen.job s.jobs ≡ Some m → made.progress.made ≡ m.progress.made + 1
+        → TasksShow plan (with_job s m made.progress.job) tasks.old → TasksShow plan (with_moment s (choice_of chosen) m made) tasks.new }
     // Where the first switch that is left was known, it is known again.
     ensures left { length tasks.old.switches < 2 ^ 32 → SwitchesRise (map switch_of tasks.old.switches)
         → IsLeft tasks.old.next_switch tasks.old.made (map switch_of tasks.old.switches)

@@ -5,8 +5,6 @@ mod choosing;
 mod counting;
 mod ready;
 mod switches;
-#[cfg(test)]
-mod tests;
 
 pub use choosing::{choose, schedule};
 pub use counting::{Chosen, count};

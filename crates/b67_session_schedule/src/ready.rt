@@ -14,12 +14,14 @@ pub(crate) struct Who {
     pub task: u32,
 }
 
+#[inline(always)]
 fn is_before(a: Who, b: Who) -> bool
     ensures { result ≡ schedule.is_before (who_is a) (who_is b) }
 {
     a.job < b.job || (a.job == b.job && a.task < b.task)
 }
 
+#[inline(always)]
 fn is_ready(state: TaskState) -> bool
     ensures { result ≡ rows.is_ready state }
 {
@@ -29,6 +31,7 @@ fn is_ready(state: TaskState) -> bool
     }
 }
 
+#[inline(always)]
 fn who_of(row: TaskRow) -> Who
     ensures { who_is result ≡ rows.who_of row }
 {
@@ -39,6 +42,7 @@ fn who_of(row: TaskRow) -> Who
 }
 
 /// Whether a row is that of a ready task after the last one.
+#[inline(always)]
 fn comes(row: TaskRow, last: Who) -> bool
     ensures { result ≡ rows.comes (who_is last) row }
 {
@@ -46,6 +50,7 @@ fn comes(row: TaskRow, last: Who) -> bool
 }
 
 /// Whether a row is that of a task which is ready.
+#[inline(always)]
 fn is_row_of(row: TaskRow, who: Who) -> bool
     ensures { result ≡ rows.is_row_of (who_is who) row }
 {
@@ -53,6 +58,7 @@ fn is_row_of(row: TaskRow, who: Who) -> bool
 }
 
 /// The row of a task, where it is ready.
+#[inline(always)]
 pub(crate) fn ready_row(rows: &[TaskRow], who: Who) -> Option<u8>
     requires { length rows.now ≤ 255 }
     ensures { ReadyRow rows.now (who_is who) result }
@@ -67,6 +73,7 @@ pub(crate) fn ready_row(rows: &[TaskRow], who: Who) -> Option<u8>
 }
 
 /// The first of two rows in order, where the second is that of a ready task after the last one.
+#[inline(always)]
 fn nearer(rows: &[TaskRow], last: Who, best: Option<u8>, at: u8) -> Option<u8>
     requires inside { at < length rows.now }
     requires before { NextRow at rows.now (who_is last) best }
@@ -89,6 +96,7 @@ fn nearer(rows: &[TaskRow], last: Who, best: Option<u8>, at: u8) -> Option<u8>
 }
 
 /// The row of the first ready task after another, by job and number.
+#[inline(always)]
 pub(crate) fn next_row(rows: &[TaskRow], last: Who) -> Option<u8>
     requires { length rows.now ≤ 255 }
     ensures { NextRow (length rows.now) rows.now (who_is last) result }

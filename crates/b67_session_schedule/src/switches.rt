@@ -11,6 +11,7 @@ use crate::ready::Who;
 use b67_model_text::Switch;
 
 /// Whom the switch of a count names, if there is one. All switches before `from` are for lower counts.
+#[inline(always)]
 pub(crate) fn switch_to(switches: &[Switch], from: u32, made: u64) -> Option<Who>
     ensures { SwitchesRise (map switch_of switches.now) → Past from made (map switch_of switches.now)
         → SwitchesTo made (map switch_of switches.now) (option_map who_is result) }
@@ -31,6 +32,7 @@ pub(crate) fn switch_to(switches: &[Switch], from: u32, made: u64) -> Option<Who
 }
 
 /// Whether a switch is left for a higher count.
+#[inline(always)]
 pub(crate) fn is_left(switches: &[Switch], made: u64) -> bool
     ensures { SwitchesRise (map switch_of switches.now)
         → result ≡ list_any (λ w. nat_lt made w.count) (map switch_of switches.now) }

@@ -2,7 +2,7 @@
 use Rattle.std.proofs.Common.{◌≡◌, ℕ, zero, suc, ◌+◌, List, [], ◌++◌, refl, sym, ap, ◌∙◌, subst, None, Option, Some, append_assoc, append-nil, arith}
 use Rattle.std.proofs.lemmas.Option.{none-some}
 use Rattle.b67_model.specs.Schedule.{Session}
-use Rattle.b67_model.specs.Run.{RunLine, Moment, next, lines_from, lines, after_from, after}
+use Rattle.b67_model.specs.Run.{RunLine, StepResult, next, lines_from, lines, after_from, after}
 
 -- a run of so many steps that leads to a session, and what it prints
 pub record Came (first : Session) (steps : ℕ) (s : Session) (printed : List RunLine) : Type 0 where
@@ -12,7 +12,7 @@ pub record Came (first : Session) (steps : ℕ) (s : Session) (printed : List Ru
 pub came-none : (s : Session) → Came s 0 s []
 came-none s = record { session = refl; lines_are = refl }
 
-more : (steps : ℕ) (first s : Session) (m : Moment) → after steps first ≡ s → next s ≡ Some m
+more : (steps : ℕ) (first s : Session) (m : StepResult) → after steps first ≡ s → next s ≡ Some m
     → (after (suc steps) first ≡ m.session) × (lines (suc steps) first ≡ lines steps first ++ m.lines)
 more zero first s m e n =
     let at : next first ≡ Some m = ap next e ∙ n in
@@ -20,7 +20,7 @@ more zero first s m e n =
 more (suc steps) first s m e n = by (λ f at. more steps f s m at n) (next first) refl
   where
     by : ((f : Session) → after steps f ≡ s → (after (suc steps) f ≡ m.session) × (lines (suc steps) f ≡ lines steps f ++ m.lines))
-        → (o : Option Moment) → next first ≡ o → (after (suc (suc steps)) first ≡ m.session) × (lines (suc (suc steps)) first ≡ lines (suc steps) first ++ m.lines)
+        → (o : Option StepResult) → next first ≡ o → (after (suc (suc steps)) first ≡ m.session) × (lines (suc (suc steps)) first ≡ lines (suc steps) first ++ m.lines)
     by further None at =
         let stays : first ≡ s = sym (ap (after_from (suc steps) first) at) ∙ e in
         absurd (none-some m (sym at ∙ ap next stays ∙ n))
@@ -32,7 +32,7 @@ more (suc steps) first s m e n = by (λ f at. more steps f s m at n) (next first
               ∙ ap (λ (ls : List RunLine). ls ++ m.lines) (sym (ap (lines_from (suc steps)) at)),
         )
 
-pub came-more : (first : Session) (steps : ℕ) (s : Session) (printed : List RunLine) (m : Moment) → Came first steps s printed → next s ≡ Some m
+pub came-more : (first : Session) (steps : ℕ) (s : Session) (printed : List RunLine) (m : StepResult) → Came first steps s printed → next s ≡ Some m
     → Came first (steps + 1) m.session (printed ++ m.lines)
 came-more first steps s printed m c n =
     let one = more steps first s m c.session n in

@@ -12,9 +12,9 @@ use Rattle.b67_area.specs.declared.Kind.{Kind}
 use Rattle.b67_area.specs.declared.Kind.TheVariants.{Array, Row, Code}
 use Rattle.b67_area.proofs.Laws.{area_inside}
 use Rattle.b67_lemmas.specs.Lists.{Has}
-use Rattle.b67_stack.specs.Shapes.{Held, Shape, Is, Original, Copy, copy_desc, Fits}
-use Rattle.b67_stack.specs.Picture.{Thing, Picture, home_desc, home_word_of}
-use Rattle.b67_stack.specs.Stands.{Storage, Content, Keeps, Stands, info_of}
+use Rattle.b67_stack.specs.Shapes.{Location, Shape, Is, Original, Copy, copy_desc, Fits}
+use Rattle.b67_stack.specs.MachineView.{PagedObject, MachineView, home_desc, home_word_of}
+use Rattle.b67_stack.specs.Represents.{Storage, Content, KeptChain, Represents, info_of}
 
 same_bit : (a b : Bool) → bit a ≡ bit b → a ≡ b
 same_bit true true e = refl
@@ -22,7 +22,7 @@ same_bit true false e = absurd (omega arith)
 same_bit false true e = absurd (omega arith)
 same_bit false false e = refl
 
-bit-lt : (a : Bool) → bit a < 2
+pub bit-lt : (a : Bool) → bit a < 2
 bit-lt true = omega arith
 bit-lt false = omega arith
 
@@ -56,31 +56,31 @@ home_no_copy Array n a f d small fits af fd e c = false≢true ((same_desc (home
 home_no_copy Row n a f d small fits af fd e c = false≢true ((same_desc (home_desc true n (record { area = a; chain = f })) d (fits_home true n a f small fits af) fd e).copy ∙ c)
 home_no_copy Code n a f d small fits af fd e c = let z : ◌≡◌ {A = ℕ} 3 5 = ap (λ (x : Tagged). x.tag) e in absurd (omega arith)
 
-Keeps-small : (x : Storage) (t : Thing) (k : Kind) (f : ℕ) → Keeps x t k f → f < 2 ^ 20
+Keeps-small : (x : Storage) (t : PagedObject) (k : Kind) (f : ℕ) → KeptChain x t k f → f < 2 ^ 20
 Keeps-small x t Array f (inl z) = omega arith
 Keeps-small x t Array f (inr h) = h.small
 Keeps-small x t Row f h = h.chain.small
 Keeps-small x t Code f h = h.chain.small
 
-pub chain_small : (x : Storage) (core : List Tagged) (t : Thing) (a : Option ℕ) (f : ℕ) → Content x core t a f → f < 2 ^ 20
+pub chain_small : (x : Storage) (core : List Tagged) (t : PagedObject) (a : Option ℕ) (f : ℕ) → Content x core t a f → f < 2 ^ 20
 chain_small x core t (Some a) f c = Keeps-small x t t.kind f c.1
 chain_small x core t None f (inl h) = h.chain.small
 chain_small x core t None f (inr z) = omega (arith, z.0)
 
-tag-home : (k : Kind) (n : ℕ) (h : Held) → k ≢ Code → (home_word_of k n h).tag ≡ 5
+tag-home : (k : Kind) (n : ℕ) (h : Location) → k ≢ Code → (home_word_of k n h).tag ≡ 5
 tag-home Array n h ne = refl
 tag-home Row n h ne = refl
 tag-home Code n h ne = absurd (ne refl)
 
 -- no plain word and no copy stands at a home above slot 0
-pub not_home : (x : Storage) (core : List Tagged) (r : Regs) (p : Picture) (c : Shape) (w : Tagged) (i : ℕ) → Stands x core r p → p.stacks ≤ i → slice_get core i ≡ Some w → Fits x.held c i w → ((home : ℕ) → c ≢ Original home)
-    → (t : Thing) → Has p.things t → t.home ≢ i
+pub not_home : (x : Storage) (core : List Tagged) (r : Regs) (p : MachineView) (c : Shape) (w : Tagged) (i : ℕ) → Represents x core r p → p.stacks ≤ i → slice_get core i ≡ Some w → Fits x.held c i w → ((home : ℕ) → c ≢ Original home)
+    → (t : PagedObject) → Has p.objects t → t.home ≢ i
 not_home x core r p c w i s low get fit plain t int e = by_shape c fit plain where
   no_code : t.kind ≢ Code
   no_code z = omega (arith, s.slots.laid.codes t int z, e, low)
 
   is : w ≡ home_word_of t.kind (length t.numbers) (x.held t.home)
-  is = same_Some _ _ (sym get ∙ ap (slice_get core) (sym e) ∙ (s.things t int).home)
+  is = same_Some _ _ (sym get ∙ ap (slice_get core) (sym e) ∙ (s.objects t int).home)
 
   area_small : (b : ℕ) → (x.held t.home).area ≡ Some b → b < 2 ^ 20
   area_small b q =
@@ -90,4 +90,4 @@ not_home x core r p c w i s low get fit plain t int e = by_shape c fit plain whe
   by_shape : (d : Shape) → Fits x.held d i w → ((home : ℕ) → d ≢ Original home) → ⊥
   by_shape (Is v) f n = f.1 (ap (λ (z : Tagged). z.tag) (sym f.0 ∙ is) ∙ tag-home t.kind (length t.numbers) (x.held t.home) no_code)
   by_shape (Original home) f n = n home refl
-  by_shape (Copy d home) f n = home_no_copy t.kind (length t.numbers) (x.held t.home).area (x.held t.home).chain (copy_desc d f.number f.present f.address) (omega (arith, (s.slots.laid.lengths t int).1)) (chain_small x core t (x.held t.home).area (x.held t.home).chain (s.things t int).content) area_small f.fits (sym is ∙ f.is) refl
+  by_shape (Copy d home) f n = home_no_copy t.kind (length t.numbers) (x.held t.home).area (x.held t.home).chain (copy_desc d f.number f.present f.address) (omega (arith, (s.slots.laid.lengths t int).1)) (chain_small x core t (x.held t.home).area (x.held t.home).chain (s.objects t int).content) area_small f.fits (sym is ∙ f.is) refl

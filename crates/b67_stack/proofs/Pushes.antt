@@ -7,18 +7,18 @@ use Rattle.b67_ctl.specs.Layout.{mscw_word}
 use Rattle.b67_core.proofs.Writes.{slice_get-set_other}
 use Rattle.b67_lemmas.specs.Lists.{Has}
 use Rattle.b67_ctl.specs.declared.registers.Regs.{Regs}
-use Rattle.b67_stack.specs.Shapes.{Shape, Is, Copy, Fits, Lie}
-use Rattle.b67_stack.specs.Stacks.{Activation, Head, Marked, Entered, IsStack, top_size, high, mark_place, running_level, mark_of, headed, words}
-use Rattle.b67_stack.specs.Picture.{Thing, Picture, Running, stack_of, RunsOn, slot_base, CopiesName, Settled}
-use Rattle.b67_stack.specs.Stands.{Storage, RunningStands, Stands}
+use Rattle.b67_stack.specs.Shapes.{Shape, Is, Copy, Fits, LieDownward}
+use Rattle.b67_stack.specs.Stacks.{Activation, Head, Marked, Entered, IsStack, top_size, stack_words, mark_place, running_level, mark_of, headed, words}
+use Rattle.b67_stack.specs.MachineView.{PagedObject, MachineView, Running, stack_of, RunsOn, slot_base, CopiesName, NoOriginalAboveTop}
+use Rattle.b67_stack.specs.Represents.{Storage, RepresentsRunning, Represents}
 use Rattle.b67_stack.specs.Changes.{with_stack, with_cells, top_cells, without_first, below_top, new_mark, MayPush}
 use Rattle.b67_stack.proofs.Lies.{Lie-push, Lie-under}
 use Rattle.b67_stack.proofs.Heights.{words-length}
-use Rattle.b67_stack.proofs.Slots.{Stands-slot, slot-same, by_slot, running_slot, running_fits, running_lies}
+use Rattle.b67_stack.proofs.Slots.{Represents-slot, slot-same, by_slot, running_slot, running_fits, running_lies}
 use Rattle.b67_stack.proofs.Bases.{base-apart}
 
 -- where the running stack lies
-pub record Room (x : Storage) (core : List Tagged) (r : Regs) (p : Picture) (k : ℕ) (stack : List Activation) : Type 0 where
+pub record Room (x : Storage) (core : List Tagged) (r : Regs) (p : MachineView) (k : ℕ) (stack : List Activation) : Type 0 where
   pub low : 160 ≤ r.bosr
   pub mark : r.bosr < r.f
   pub top : r.f ≤ r.s
@@ -27,14 +27,14 @@ pub record Room (x : Storage) (core : List Tagged) (r : Regs) (p : Picture) (k :
   pub inside : x.low ≤ length core
   pub bound : length core < 2 ^ 20
 
-mark_low : (stack : List Activation) → stack ≢ [] → (0 < mark_place stack) × (mark_place stack ≤ high stack)
+mark_low : (stack : List Activation) → stack ≢ [] → (0 < mark_place stack) × (mark_place stack ≤ stack_words stack)
 mark_low [] n = absurd (n refl)
 mark_low (a ∷ below) n = head a.head a.cells below where
-  head : (h : Head) (cs : List Shape) (below : List Activation) → let st = record { head = h; cells = cs } ∷ below in (0 < mark_place st) × (mark_place st ≤ high st)
+  head : (h : Head) (cs : List Shape) (below : List Activation) → let st = record { head = h; cells = cs } ∷ below in (0 < mark_place st) × (mark_place st ≤ stack_words st)
   head Marked cs below = (omega arith, omega arith)
   head (Entered level environment back) cs below = (omega arith, omega arith)
 
-pub room_of : (x : Storage) (core : List Tagged) (r : Regs) (p : Picture) (k : ℕ) (stack : List Activation) → Stands x core r p → RunsOn p k stack → Room x core r p k stack
+pub room_of : (x : Storage) (core : List Tagged) (r : Regs) (p : MachineView) (k : ℕ) (stack : List Activation) → Represents x core r p → RunsOn p k stack → Room x core r p k stack
 room_of x core r p k stack s u =
     let c = running_slot x core r p k stack s u in
     let f = (running_fits x core r p k stack s u).0 in
@@ -50,49 +50,49 @@ room_of x core r p k stack s u =
       bound = s.directory.small;
     }
 
--- the picture after a step that leaves the slots' sizes as they are
-pub RunsOn-with : (p : Picture) (k : ℕ) (stack after : List Activation) → RunsOn p k stack → RunsOn (with_stack p k after) k after
+-- the view after a step that leaves the slots' sizes as they are
+pub RunsOn-with : (p : MachineView) (k : ℕ) (stack after : List Activation) → RunsOn p k stack → RunsOn (with_stack p k after) k after
 RunsOn-with p k stack after u = record { used = u.used; is = slot-same p k (Running after) }
 
-running_high : (p : Picture) (k : ℕ) (stack : List Activation) → RunsOn p k stack → high (stack_of (p.slots k)) ≡ high stack
-running_high p k stack u = ap (λ y. high (stack_of y)) u.is
+running_high : (p : MachineView) (k : ℕ) (stack : List Activation) → RunsOn p k stack → stack_words (stack_of (p.slots k)) ≡ stack_words stack
+running_high p k stack u = ap (λ y. stack_words (stack_of y)) u.is
 
-pub Settled-with : (p : Picture) (k : ℕ) (stack after : List Activation) → RunsOn p k stack
-    → ((t : Thing) → Has p.things t → slot_base p k ≤ t.home → t.home ≤ slot_base p k + high stack → t.home ≤ slot_base p k + high after)
-    → Settled p → Settled (with_stack p k after)
-Settled-with p k stack after u here s t int = by_slot p k (Running after) (λ j y. slot_base p j ≤ t.home → t.home < slot_base p j + p.size → t.home ≤ slot_base p j + high (stack_of y))
+pub Settled-with : (p : MachineView) (k : ℕ) (stack after : List Activation) → RunsOn p k stack
+    → ((t : PagedObject) → Has p.objects t → slot_base p k ≤ t.home → t.home ≤ slot_base p k + stack_words stack → t.home ≤ slot_base p k + stack_words after)
+    → NoOriginalAboveTop p → NoOriginalAboveTop (with_stack p k after)
+Settled-with p k stack after u here s t int = by_slot p k (Running after) (λ j y. slot_base p j ≤ t.home → t.home < slot_base p j + p.size → t.home ≤ slot_base p j + stack_words (stack_of y))
     (λ low up. here t int low (omega (arith, s t int k u.used low up, running_high p k stack u)))
     (λ j hj n. s t int j hj)
 
-module _ (x : Storage) (core : List Tagged) (r : Regs) (p : Picture) (k : ℕ) where
+module _ (x : Storage) (core : List Tagged) (r : Regs) (p : MachineView) (k : ℕ) where
   -- a word more
-  pub Stands-push : (stack : List Activation) (c : Shape) (w : Tagged) (q : Place) → Stands x core r p → RunsOn p k stack → Settled p → MayPush p.things c → Fits x.held c (r.s + 1) w → r.s ≢ r.losr
-      → Stands x (slice_set core (r.s + 1) w) (record r { s = r.s + 1; place = q }) (with_stack p k (with_cells stack (c ∷ top_cells stack)))
-  Stands-push [] c w q s u settled may fit ne = absurd ((running_fits x core r p k [] s u).0.some refl)
-  Stands-push (a ∷ below) c w q s u settled may fit ne = Stands-slot x core (slice_set core (r.s + 1) w) r (record r { s = r.s + 1; place = q }) p k (a ∷ below) (record a { cells = c ∷ a.cells } ∷ below) u
+  pub Represents-push : (stack : List Activation) (c : Shape) (w : Tagged) (q : Place) → Represents x core r p → RunsOn p k stack → NoOriginalAboveTop p → MayPush p.objects c → Fits x.held c (r.s + 1) w → r.s ≢ r.losr
+      → Represents x (slice_set core (r.s + 1) w) (record r { s = r.s + 1; place = q }) (with_stack p k (with_cells stack (c ∷ top_cells stack)))
+  Represents-push [] c w q s u settled may fit ne = absurd ((running_fits x core r p k [] s u).0.some refl)
+  Represents-push (a ∷ below) c w q s u settled may fit ne = Represents-slot x core (slice_set core (r.s + 1) w) r (record r { s = r.s + 1; place = q }) p k (a ∷ below) (record a { cells = c ∷ a.cells } ∷ below) u
       (record {
         size = length-set core (r.s + 1) w;
         outside = λ i o. slice_get-set_other core (r.s + 1) i w (λ z. ⊎_elim (λ (g : i < slot_base p k). omega (arith, g, z, g0.first, g0.top)) (λ (g : slot_base p k + p.size ≤ i). omega (arith, g, z, g0.last, ne, f.0.fits, g0.top)) o);
         regs = record { stacks = s.slots.regs.stacks; size = s.slots.regs.size; peak = s.slots.regs.peak };
         runs = record { slot = g0.slot; first = g0.first; last = g0.last; top = omega (arith, g0.top); mark = g0.mark; level = g0.level };
         fits = record { some = λ e. cc; heads = f.0.heads; fits = omega (arith, g0.last, g0.top, ne, f.0.fits) };
-        copies = λ d h there. ⊎_elim (λ (e : c ≡ Copy d h). let P : Shape → Type 0 = λ z. MayPush p.things z in subst P e may) (λ o. f.1 d h o) there;
+        copies = λ d h there. ⊎_elim (λ (e : c ≡ Copy d h). let P : Shape → Type 0 = λ z. MayPush p.objects z in subst P e may) (λ o. f.1 d h o) there;
         lies = Lie-push (Fits x.held) core (suc (slot_base p k)) (r.s + 1) c w (words k (a ∷ below)) (omega (arith, g0.top, words-length k (a ∷ below))) (omega (arith, g1.last, g1.under, g1.inside, ne)) fit (running_lies x core r p k (a ∷ below) s u);
         homes = λ t int low up. slice_get-set_other core (r.s + 1) t.home w (λ z. omega (arith, z, settled t int k u.used low up, running_high p k (a ∷ below) u, g0.top));
       }) s where
-        g0 : RunningStands r p k (a ∷ below)
+        g0 : RepresentsRunning r p k (a ∷ below)
         g0 = running_slot x core r p k (a ∷ below) s u
 
         g1 : Room x core r p k (a ∷ below)
         g1 = room_of x core r p k (a ∷ below) s u
 
-        f : IsStack p.size (a ∷ below) × CopiesName p.things (words k (a ∷ below))
+        f : IsStack p.size (a ∷ below) × CopiesName p.objects (words k (a ∷ below))
         f = running_fits x core r p k (a ∷ below) s u
 
   -- a word less
-  pub Stands-pop : (a : Activation) (below : List Activation) (c : Shape) (cells : List Shape) (q : Place) → a.cells ≡ c ∷ cells → Stands x core r p → RunsOn p k (a ∷ below)
-      → Stands x core (record r { s = r.s - 1; place = q }) (with_stack p k (record a { cells = cells } ∷ below))
-  Stands-pop a below c cells q e s u = Stands-slot x core core r (record r { s = r.s - 1; place = q }) p k (a ∷ below) (record a { cells = cells } ∷ below) u
+  pub Represents-pop : (a : Activation) (below : List Activation) (c : Shape) (cells : List Shape) (q : Place) → a.cells ≡ c ∷ cells → Represents x core r p → RunsOn p k (a ∷ below)
+      → Represents x core (record r { s = r.s - 1; place = q }) (with_stack p k (record a { cells = cells } ∷ below))
+  Represents-pop a below c cells q e s u = Represents-slot x core core r (record r { s = r.s - 1; place = q }) p k (a ∷ below) (record a { cells = cells } ∷ below) u
       (record {
         size = refl;
         outside = λ i o. refl;
@@ -100,20 +100,20 @@ module _ (x : Storage) (core : List Tagged) (r : Regs) (p : Picture) (k : ℕ) w
         runs = record { slot = g0.slot; first = g0.first; last = g0.last; top = omega (arith, g0.top, ap length e); mark = g0.mark; level = g0.level };
         fits = record { some = λ z. cc; heads = f.0.heads; fits = omega (arith, f.0.fits, ap length e) };
         copies = λ d h there. f.1 d h (let P : List Shape → Type 0 = λ cs. Has (cs ++ headed k a.head below (words k below)) (Copy d h) in subst P (sym e) (inr there));
-        lies = (let P : List Shape → Type 0 = λ cs. Lie (Fits x.held) core (suc (slot_base p k)) (cs ++ headed k a.head below (words k below)) in (subst P e (running_lies x core r p k (a ∷ below) s u)).1);
+        lies = (let P : List Shape → Type 0 = λ cs. LieDownward (Fits x.held) core (suc (slot_base p k)) (cs ++ headed k a.head below (words k below)) in (subst P e (running_lies x core r p k (a ∷ below) s u)).1);
         homes = λ t int low up. refl;
       }) s where
-        g0 : RunningStands r p k (a ∷ below)
+        g0 : RepresentsRunning r p k (a ∷ below)
         g0 = running_slot x core r p k (a ∷ below) s u
 
-        f : IsStack p.size (a ∷ below) × CopiesName p.things (words k (a ∷ below))
+        f : IsStack p.size (a ∷ below) × CopiesName p.objects (words k (a ∷ below))
         f = running_fits x core r p k (a ∷ below) s u
 
   -- a mark more
-  pub Stands-mark : (a : Activation) (below : List Activation) (w : Tagged) (q : Place) → w ≡ mscw_word (record { far = false; entered = false; env_stack = 0; env_disp = 0; value = false; level = 0; back = r.s + 1 - r.f })
-      → Stands x core r p → RunsOn p k (a ∷ below) → Settled p → r.s ≢ r.losr
-      → Stands x (slice_set core (r.s + 1) w) (record r { s = r.s + 1; f = r.s + 1; place = q }) (with_stack p k (new_mark ∷ a ∷ below))
-  Stands-mark a below w q is s u settled ne = Stands-slot x core (slice_set core (r.s + 1) w) r (record r { s = r.s + 1; f = r.s + 1; place = q }) p k (a ∷ below) (new_mark ∷ a ∷ below) u
+  pub Represents-mark : (a : Activation) (below : List Activation) (w : Tagged) (q : Place) → w ≡ mscw_word (record { far = false; entered = false; env_stack = 0; env_disp = 0; value = false; level = 0; back = r.s + 1 - r.f })
+      → Represents x core r p → RunsOn p k (a ∷ below) → NoOriginalAboveTop p → r.s ≢ r.losr
+      → Represents x (slice_set core (r.s + 1) w) (record r { s = r.s + 1; f = r.s + 1; place = q }) (with_stack p k (new_mark ∷ a ∷ below))
+  Represents-mark a below w q is s u settled ne = Represents-slot x core (slice_set core (r.s + 1) w) r (record r { s = r.s + 1; f = r.s + 1; place = q }) p k (a ∷ below) (new_mark ∷ a ∷ below) u
       (record {
         size = length-set core (r.s + 1) w;
         outside = λ i o. slice_get-set_other core (r.s + 1) i w (λ z. ⊎_elim (λ (g : i < slot_base p k). omega (arith, g, z, g0.first, g0.top)) (λ (g : slot_base p k + p.size ≤ i). omega (arith, g, z, g0.last, ne, f.0.fits, g0.top)) o);
@@ -125,36 +125,36 @@ module _ (x : Storage) (core : List Tagged) (r : Regs) (p : Picture) (k : ℕ) w
             (is ∙ ap (λ n. mscw_word (record { far = false; entered = false; env_stack = 0; env_disp = 0; value = false; level = 0; back = n })) back, λ e. omega (arith, e)) (running_lies x core r p k (a ∷ below) s u);
         homes = λ t int low up. slice_get-set_other core (r.s + 1) t.home w (λ z. omega (arith, z, settled t int k u.used low up, running_high p k (a ∷ below) u, g0.top));
       }) s where
-        g0 : RunningStands r p k (a ∷ below)
+        g0 : RepresentsRunning r p k (a ∷ below)
         g0 = running_slot x core r p k (a ∷ below) s u
 
         g1 : Room x core r p k (a ∷ below)
         g1 = room_of x core r p k (a ∷ below) s u
 
-        f : IsStack p.size (a ∷ below) × CopiesName p.things (words k (a ∷ below))
+        f : IsStack p.size (a ∷ below) × CopiesName p.objects (words k (a ∷ below))
         f = running_fits x core r p k (a ∷ below) s u
 
         back : r.s + 1 - r.f ≡ top_size (a ∷ below)
         back = omega (arith, g0.top, g0.mark)
 
   -- an activation record less
-  pub Stands-cut : (a : Activation) (below : List Activation) (g : ℕ) (q : Place) → below ≢ [] → Stands x core r p → RunsOn p k (a ∷ below)
-      → Stands x core (record r { s = r.bosr + high below; f = r.bosr + mark_place below; level = running_level below; segment = g; place = q }) (with_stack p k below)
-  Stands-cut a below g q some s u = Stands-slot x core core r (record r { s = r.bosr + high below; f = r.bosr + mark_place below; level = running_level below; segment = g; place = q }) p k (a ∷ below) below u
+  pub Represents-cut : (a : Activation) (below : List Activation) (g : ℕ) (q : Place) → below ≢ [] → Represents x core r p → RunsOn p k (a ∷ below)
+      → Represents x core (record r { s = r.bosr + stack_words below; f = r.bosr + mark_place below; level = running_level below; segment = g; place = q }) (with_stack p k below)
+  Represents-cut a below g q some s u = Represents-slot x core core r (record r { s = r.bosr + stack_words below; f = r.bosr + mark_place below; level = running_level below; segment = g; place = q }) p k (a ∷ below) below u
       (record {
         size = refl;
         outside = λ i o. refl;
         regs = record { stacks = s.slots.regs.stacks; size = s.slots.regs.size; peak = s.slots.regs.peak };
-        runs = record { slot = g0.slot; first = g0.first; last = g0.last; top = ap (λ n. n + high below) g0.first; mark = ap (λ n. n + mark_place below) g0.first; level = refl };
+        runs = record { slot = g0.slot; first = g0.first; last = g0.last; top = ap (λ n. n + stack_words below) g0.first; mark = ap (λ n. n + mark_place below) g0.first; level = refl };
         fits = record { some = some; heads = f.0.heads.1; fits = omega (arith, f.0.fits) };
         copies = λ d h there. f.1 d h (Has-under a.cells (headed k a.head below (words k below)) (Copy d h) (Has-headed k a.head below (words k below) (Copy d h) there));
         lies = Lie-headed (Fits x.held) core (suc (slot_base p k)) k a.head below (words k below) (Lie-under (Fits x.held) core (suc (slot_base p k)) a.cells (headed k a.head below (words k below)) (running_lies x core r p k (a ∷ below) s u));
         homes = λ t int low up. refl;
       }) s where
-        g0 : RunningStands r p k (a ∷ below)
+        g0 : RepresentsRunning r p k (a ∷ below)
         g0 = running_slot x core r p k (a ∷ below) s u
 
-        f : IsStack p.size (a ∷ below) × CopiesName p.things (words k (a ∷ below))
+        f : IsStack p.size (a ∷ below) × CopiesName p.objects (words k (a ∷ below))
         f = running_fits x core r p k (a ∷ below) s u
 
         Has-under : (xs ys : List Shape) (z : Shape) → Has ys z → Has (xs ++ ys) z
@@ -165,28 +165,28 @@ module _ (x : Storage) (core : List Tagged) (r : Regs) (p : Picture) (k : ℕ) w
         Has-headed k Marked below under z o = inr o
         Has-headed k (Entered level environment back) below under z o = inr (inr o)
 
-        Lie-headed : (R : Shape → ℕ → Tagged → Type 0) (core : List Tagged) (from k : ℕ) (h : Head) (below : List Activation) (under : List Shape) → Lie R core from (headed k h below under) → Lie R core from under
+        Lie-headed : (R : Shape → ℕ → Tagged → Type 0) (core : List Tagged) (from k : ℕ) (h : Head) (below : List Activation) (under : List Shape) → LieDownward R core from (headed k h below under) → LieDownward R core from under
         Lie-headed R core from k Marked below under l = l.1
         Lie-headed R core from k (Entered level environment back) below under l = l.1.1
 
 -- the same for a stack that isn't taken apart
-module _ (x : Storage) (core : List Tagged) (r : Regs) (p : Picture) (k : ℕ) where
-  pub Stands-popped : (stack : List Activation) (q : Place) → top_cells stack ≢ [] → Stands x core r p → RunsOn p k stack
-      → Stands x core (record r { s = r.s - 1; place = q }) (with_stack p k (with_cells stack (without_first (top_cells stack))))
-  Stands-popped [] q n s u = absurd (n refl)
-  Stands-popped (a ∷ below) q n s u = by_cells a.cells refl n where
-    by_cells : (cs : List Shape) → a.cells ≡ cs → cs ≢ [] → Stands x core (record r { s = r.s - 1; place = q }) (with_stack p k (record a { cells = without_first a.cells } ∷ below))
+module _ (x : Storage) (core : List Tagged) (r : Regs) (p : MachineView) (k : ℕ) where
+  pub Represents-popped : (stack : List Activation) (q : Place) → top_cells stack ≢ [] → Represents x core r p → RunsOn p k stack
+      → Represents x core (record r { s = r.s - 1; place = q }) (with_stack p k (with_cells stack (without_first (top_cells stack))))
+  Represents-popped [] q n s u = absurd (n refl)
+  Represents-popped (a ∷ below) q n s u = by_cells a.cells refl n where
+    by_cells : (cs : List Shape) → a.cells ≡ cs → cs ≢ [] → Represents x core (record r { s = r.s - 1; place = q }) (with_stack p k (record a { cells = without_first a.cells } ∷ below))
     by_cells [] e n = absurd (n refl)
-    by_cells (c ∷ cs) e n = let P : List Shape → Type 0 = λ ds. Stands x core (record r { s = r.s - 1; place = q }) (with_stack p k (record a { cells = ds } ∷ below)) in subst P (ap without_first (sym e)) (Stands-pop x core r p k a below c cs q e s u)
+    by_cells (c ∷ cs) e n = let P : List Shape → Type 0 = λ ds. Represents x core (record r { s = r.s - 1; place = q }) (with_stack p k (record a { cells = ds } ∷ below)) in subst P (ap without_first (sym e)) (Represents-pop x core r p k a below c cs q e s u)
 
-  pub Stands-marked : (stack : List Activation) (w : Tagged) (q : Place) → w ≡ mscw_word (record { far = false; entered = false; env_stack = 0; env_disp = 0; value = false; level = 0; back = r.s + 1 - r.f })
-      → Stands x core r p → RunsOn p k stack → Settled p → r.s ≢ r.losr
-      → Stands x (slice_set core (r.s + 1) w) (record r { s = r.s + 1; f = r.s + 1; place = q }) (with_stack p k (new_mark ∷ stack))
-  Stands-marked [] w q is s u settled ne = absurd ((running_fits x core r p k [] s u).0.some refl)
-  Stands-marked (a ∷ below) w q is s u settled ne = Stands-mark x core r p k a below w q is s u settled ne
+  pub Represents-marked : (stack : List Activation) (w : Tagged) (q : Place) → w ≡ mscw_word (record { far = false; entered = false; env_stack = 0; env_disp = 0; value = false; level = 0; back = r.s + 1 - r.f })
+      → Represents x core r p → RunsOn p k stack → NoOriginalAboveTop p → r.s ≢ r.losr
+      → Represents x (slice_set core (r.s + 1) w) (record r { s = r.s + 1; f = r.s + 1; place = q }) (with_stack p k (new_mark ∷ stack))
+  Represents-marked [] w q is s u settled ne = absurd ((running_fits x core r p k [] s u).0.some refl)
+  Represents-marked (a ∷ below) w q is s u settled ne = Represents-mark x core r p k a below w q is s u settled ne
 
-  pub Stands-below : (stack : List Activation) (t f l g : ℕ) (q : Place) → below_top stack ≢ [] → Stands x core r p → RunsOn p k stack
-      → t ≡ r.bosr + high (below_top stack) → f ≡ r.bosr + mark_place (below_top stack) → l ≡ running_level (below_top stack)
-      → Stands x core (record r { s = t; f = f; level = l; segment = g; place = q }) (with_stack p k (below_top stack))
-  Stands-below [] t f l g q n s u et ef el = absurd (n refl)
-  Stands-below (a ∷ below) t f l g q n s u et ef el = rw (et, ef, el) (Stands-cut x core r p k a below g q n s u)
+  pub Represents-below : (stack : List Activation) (t f l g : ℕ) (q : Place) → below_top stack ≢ [] → Represents x core r p → RunsOn p k stack
+      → t ≡ r.bosr + stack_words (below_top stack) → f ≡ r.bosr + mark_place (below_top stack) → l ≡ running_level (below_top stack)
+      → Represents x core (record r { s = t; f = f; level = l; segment = g; place = q }) (with_stack p k (below_top stack))
+  Represents-below [] t f l g q n s u et ef el = absurd (n refl)
+  Represents-below (a ∷ below) t f l g q n s u et ef el = rw (et, ef, el) (Represents-cut x core r p k a below g q n s u)

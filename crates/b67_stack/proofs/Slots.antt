@@ -1,97 +1,90 @@
 -- A step that changes the running stack alone needs a proof for that stack alone.
-use Rattle.std.proofs.Common.{◌≡◌, ◌≢◌, ℕ, suc, ◌+◌, ◌<◌, ◌≤◌, List, [], ◌∷◌, length, Option, Some, None, refl, sym, ◌∙◌, arith, inl, inr, ◌⊎◌, ⊎_elim, subst}
+use Rattle.std.proofs.Common.{◌≡◌, ◌≢◌, ℕ, suc, ◌+◌, ◌<◌, ◌≤◌, List, length, Option, Some, None, refl, sym, ◌∙◌, arith, inl, inr, ◌⊎◌, ⊎_elim, subst}
 use Rattle.std.specs.List.{slice_get}
 use Rattle.std.proofs.lemmas.Bool.{cases_eq, cases_lt, eq-eqb, ne_eqb}
 use Rattle.b67_word.specs.Tagged.{Tagged}
-use Rattle.b67_area.specs.Spans.{Span, Area, Hole}
 use Rattle.b67_area.proofs.Climbs.{area_at-low}
-use Rattle.b67_area.proofs.Separation.{Controls, IsDirectory-same}
+use Rattle.b67_area.proofs.Separation.{IsDirectory-same, controls_above}
 use Rattle.b67_lemmas.specs.Lists.{Has}
 use Rattle.b67_ctl.specs.declared.registers.Regs.{Regs}
-use Rattle.b67_stack.specs.Shapes.{Fits, Lie}
-use Rattle.b67_stack.specs.Stacks.{Activation, IsStack, high, words}
-use Rattle.b67_stack.specs.Picture.{Thing, Picture, Slot, Free, Running, Waiting, stack_of, slot_base, RunsOn, SlotFits, CopiesName, Laid, with_slot, words_of}
-use Rattle.b67_stack.specs.Stands.{Storage, SlotStands, RunningStands, StacksLie, ThingsStand, Content, RegsStand, Stands, info_of}
+use Rattle.b67_stack.specs.Shapes.{Fits, LieDownward}
+use Rattle.b67_stack.specs.Stacks.{Activation, IsStack, stack_words, words}
+use Rattle.b67_stack.specs.MachineView.{PagedObject, MachineView, Slot, Free, Running, Waiting, stack_of, slot_base, RunsOn, SlotFits, CopiesName, Laid, with_slot, words_of}
+use Rattle.b67_stack.specs.Represents.{Storage, RepresentsSlot, RepresentsRunning, StacksLie, RepresentsObjects, Content, RepresentsRegs, Represents, info_of}
 use Rattle.b67_stack.specs.Changes.{with_stack}
 use Rattle.b67_stack.proofs.Bases.{base-apart}
 use Rattle.b67_stack.proofs.Lies.{Lie-same, Upward-same}
 use Rattle.b67_stack.proofs.Heights.{words-length}
 
-pub slot-same : (p : Picture) (k : ℕ) (slot : Slot) → (with_slot p k slot).slots k ≡ slot
+pub slot-same : (p : MachineView) (k : ℕ) (slot : Slot) → (with_slot p k slot).slots k ≡ slot
 slot-same p k slot = rw (eq-eqb k k refl) refl
 
-pub slot-other : (p : Picture) (k : ℕ) (slot : Slot) (j : ℕ) → j ≢ k → (with_slot p k slot).slots j ≡ p.slots j
+pub slot-other : (p : MachineView) (k : ℕ) (slot : Slot) (j : ℕ) → j ≢ k → (with_slot p k slot).slots j ≡ p.slots j
 slot-other p k slot j n = rw (ne_eqb j k n) refl
 
 -- a word of the running stack is that of slot k
-pub by_slot : (p : Picture) (k : ℕ) (slot : Slot) (P : ℕ → Slot → Type 0) → P k slot → ((j : ℕ) → j < p.peak → j ≢ k → P j (p.slots j)) → (j : ℕ) → j < p.peak → P j ((with_slot p k slot).slots j)
+pub by_slot : (p : MachineView) (k : ℕ) (slot : Slot) (P : ℕ → Slot → Type 0) → P k slot → ((j : ℕ) → j < p.peak → j ≢ k → P j (p.slots j)) → (j : ℕ) → j < p.peak → P j ((with_slot p k slot).slots j)
 by_slot p k slot P here others j hj = ⊎_elim
     (λ (z : j ≡ k). let Q : ℕ → Type 0 = λ m. P m ((with_slot p k slot).slots m) in let R : Slot → Type 0 = λ x. P k x in subst Q (sym z) (subst R (sym (slot-same p k slot)) here))
     (λ (n : j ≡ k → ⊥). let R : Slot → Type 0 = λ x. P j x in subst R (sym (slot-other p k slot j n)) (others j hj n))
     (cases_eq j k)
 
-slot_other : (old new : List Tagged) (r r' : Regs) (p : Picture) (k j : ℕ) (slot s : Slot) → j ≢ k → r.slot ≡ k → r'.slot ≡ k → slice_get new (slot_base p j) ≡ slice_get old (slot_base p j) → SlotStands old r p j s → SlotStands new r' (with_slot p k slot) j s
+slot_other : (old new : List Tagged) (r r' : Regs) (p : MachineView) (k j : ℕ) (slot s : Slot) → j ≢ k → r.slot ≡ k → r'.slot ≡ k → slice_get new (slot_base p j) ≡ slice_get old (slot_base p j) → RepresentsSlot old r p j s → RepresentsSlot new r' (with_slot p k slot) j s
 slot_other old new r r' p k j slot Free n e e' same t = (λ z. n (sym z ∙ e'), same ∙ t.1)
 slot_other old new r r' p k j slot (Running stack) n e e' same t = absurd (n (sym t.slot ∙ e))
 slot_other old new r r' p k j slot (Waiting stack) n e e' same t = (λ z. n (sym z ∙ e'), same ∙ t.1)
 
--- heads and tails of areas, and the first words of holes, lie above the slots
-controls_above : (at : ℕ) (ss : List Span) (i : ℕ) → Controls at ss i → at ≤ i
-controls_above at [] i c = absurd c
-controls_above at (Area a ∷ ss) i c = ⊎_elim (λ e. omega arith) (λ d. ⊎_elim (λ e. omega arith) (λ r. omega (arith, controls_above (at + (a.words + 2)) ss i r)) d) c
-controls_above at (Hole n ∷ ss) i c = ⊎_elim (λ e. omega arith) (λ r. omega (arith, controls_above (at + n) ss i r)) c
-
 -- a slot's words fit in it
-slot_room : (p : Picture) (k : ℕ) (s : Slot) → SlotFits p k s → 0 < p.size → high (stack_of s) < p.size
+pub slot_room : (p : MachineView) (k : ℕ) (s : Slot) → SlotFits p k s → 0 < p.size → stack_words (stack_of s) < p.size
 slot_room p k Free f some = some
 slot_room p k (Running stack) f some = f.0.fits
 slot_room p k (Waiting stack) f some = f.0.fits
 
 -- content read in areas alone
-pub Content-areas : (x : Storage) (old new : List Tagged) (t : Thing) (a : Option ℕ) (f : ℕ)
+pub Content-areas : (x : Storage) (old new : List Tagged) (t : PagedObject) (a : Option ℕ) (f : ℕ)
     → ((b : ℕ) → a ≡ Some b → x.low ≤ b) → ((q : ℕ) → x.low ≤ q → slice_get new q ≡ slice_get old q) → Content x old t a f → Content x new t a f
 Content-areas x old new t (Some a) f up same c = (Upward-same old new a (words_of t) (λ q above below. same q (omega (arith, up a refl))) c.0, c.1)
 Content-areas x old new t None f up same c = c
 
-pub running_slot : (x : Storage) (core : List Tagged) (r : Regs) (p : Picture) (k : ℕ) (stack : List Activation) → Stands x core r p → RunsOn p k stack → RunningStands r p k stack
-running_slot x core r p k stack s u = let P : Slot → Type 0 = λ y. SlotStands core r p k y in subst P u.is (s.slots.slots k u.used)
+pub running_slot : (x : Storage) (core : List Tagged) (r : Regs) (p : MachineView) (k : ℕ) (stack : List Activation) → Represents x core r p → RunsOn p k stack → RepresentsRunning r p k stack
+running_slot x core r p k stack s u = let P : Slot → Type 0 = λ y. RepresentsSlot core r p k y in subst P u.is (s.slots.slots k u.used)
 
-pub running_fits : (x : Storage) (core : List Tagged) (r : Regs) (p : Picture) (k : ℕ) (stack : List Activation) → Stands x core r p → RunsOn p k stack → IsStack p.size stack × CopiesName p.things (words k stack)
+pub running_fits : (x : Storage) (core : List Tagged) (r : Regs) (p : MachineView) (k : ℕ) (stack : List Activation) → Represents x core r p → RunsOn p k stack → IsStack p.size stack × CopiesName p.objects (words k stack)
 running_fits x core r p k stack s u = let P : Slot → Type 0 = λ y. SlotFits p k y in subst P u.is (s.slots.laid.slots k u.used)
 
-pub running_lies : (x : Storage) (core : List Tagged) (r : Regs) (p : Picture) (k : ℕ) (stack : List Activation) → Stands x core r p → RunsOn p k stack → Lie (Fits x.held) core (suc (slot_base p k)) (words k stack)
-running_lies x core r p k stack s u = let P : Slot → Type 0 = λ y. Lie (Fits x.held) core (suc (slot_base p k)) (words k (stack_of y)) in subst P u.is (s.stacks k u.used)
+pub running_lies : (x : Storage) (core : List Tagged) (r : Regs) (p : MachineView) (k : ℕ) (stack : List Activation) → Represents x core r p → RunsOn p k stack → LieDownward (Fits x.held) core (suc (slot_base p k)) (words k stack)
+running_lies x core r p k stack s u = let P : Slot → Type 0 = λ y. LieDownward (Fits x.held) core (suc (slot_base p k)) (words k (stack_of y)) in subst P u.is (s.stacks k u.used)
 
 -- what a changed running stack must show
-pub record Changed (x : Storage) (core new : List Tagged) (r' : Regs) (p : Picture) (k : ℕ) (stack : List Activation) : Type 0 where
+pub record Changed (x : Storage) (core new : List Tagged) (r' : Regs) (p : MachineView) (k : ℕ) (stack : List Activation) : Type 0 where
   pub size : length new ≡ length core
   pub outside : (i : ℕ) → (i < slot_base p k) ⊎ (slot_base p k + p.size ≤ i) → slice_get new i ≡ slice_get core i
-  pub regs : RegsStand r' p
-  pub runs : RunningStands r' p k stack
+  pub regs : RepresentsRegs r' p
+  pub runs : RepresentsRunning r' p k stack
   pub fits : IsStack p.size stack
-  pub copies : CopiesName p.things (words k stack)
-  pub lies : Lie (Fits x.held) new (suc (slot_base p k)) (words k stack)
-  pub homes : (t : Thing) → Has p.things t → slot_base p k ≤ t.home → t.home < slot_base p k + p.size → slice_get new t.home ≡ slice_get core t.home
+  pub copies : CopiesName p.objects (words k stack)
+  pub lies : LieDownward (Fits x.held) new (suc (slot_base p k)) (words k stack)
+  pub homes : (t : PagedObject) → Has p.objects t → slot_base p k ≤ t.home → t.home < slot_base p k + p.size → slice_get new t.home ≡ slice_get core t.home
 
 -- the running stack is another, and all words outside its slot are as they were. Nothing is to be shown of other
 -- stacks, of areas, of sectors and of who owns what; of originals only that those in this slot still stand
-pub Stands-slot : (x : Storage) (core new : List Tagged) (r r' : Regs) (p : Picture) (k : ℕ) (before stack : List Activation)
-    → RunsOn p k before → Changed x core new r' p k stack → Stands x core r p → Stands x new r' (with_stack p k stack)
-Stands-slot x core new r r' p k before stack u c s = record {
+pub Represents-slot : (x : Storage) (core new : List Tagged) (r r' : Regs) (p : MachineView) (k : ℕ) (before stack : List Activation)
+    → RunsOn p k before → Changed x core new r' p k stack → Represents x core r p → Represents x new r' (with_stack p k stack)
+Represents-slot x core new r r' p k before stack u c s = record {
   slots = record {
     laid = laid';
     regs = record { stacks = c.regs.stacks; size = c.regs.size; peak = c.regs.peak };
-    slots = by_slot p k (Running stack) (λ j y. SlotStands new r' p' j y) runs (λ j hj n. slot_other core new r r' p k j (Running stack) (p.slots j) n is_k c.runs.slot (elsewhere j hj n (slot_base p j) (omega arith) (omega (arith, room))) (s.slots.slots j hj));
+    slots = by_slot p k (Running stack) (λ j y. RepresentsSlot new r' p' j y) runs (λ j hj n. slot_other core new r r' p k j (Running stack) (p.slots j) n is_k c.runs.slot (elsewhere j hj n (slot_base p j) (omega arith) (omega (arith, room))) (s.slots.slots j hj));
   };
   stacks = stacks;
-  things = things;
+  objects = objects;
   owned = record { of_area = s.owned.of_area; of_held = s.owned.of_held; of_chain = s.owned.of_chain; no_zero = s.owned.no_zero; one_chain = s.owned.one_chain };
   directory = IsDirectory-same core new x.low x.spans c.size
       (λ i h. c.outside i (inl (omega (arith, h.1, laid.first))))
       (λ i h. c.outside i (inr (omega (arith, controls_above x.low x.spans i h, base-apart p k p.peak u.used, laid.low)))) s.directory;
   inside = rw c.size s.inside;
 } where
-  p' : Picture
+  p' : MachineView
   p' = with_stack p k stack
 
   laid : Laid x.low p
@@ -109,7 +102,7 @@ Stands-slot x core new r r' p k before stack u c s = record {
       (λ (a : k ≤ j). c.outside i (inr (omega (arith, base-apart p k j (omega arith)))))
       (cases_lt j k)
 
-  runs : RunningStands r' p' k stack
+  runs : RepresentsRunning r' p' k stack
   runs = record { slot = c.runs.slot; first = c.runs.first; last = c.runs.last; top = c.runs.top; mark = c.runs.mark; level = c.runs.level }
 
   fits_same : (j : ℕ) (y : Slot) → SlotFits p j y → SlotFits p' j y
@@ -131,13 +124,13 @@ Stands-slot x core new r r' p k before stack u c s = record {
   }
 
   stacks : StacksLie x.held new p'
-  stacks = by_slot p k (Running stack) (λ j y. Lie (Fits x.held) new (suc (slot_base p j)) (words j (stack_of y))) c.lies
+  stacks = by_slot p k (Running stack) (λ j y. LieDownward (Fits x.held) new (suc (slot_base p j)) (words j (stack_of y))) c.lies
       (λ j hj n. Lie-same (Fits x.held) core new (suc (slot_base p j)) (words j (stack_of (p.slots j)))
       (λ i down up. elsewhere j hj n i (omega arith) (omega (arith, words-length j (stack_of (p.slots j)), slot_room p j (p.slots j) (laid.slots j hj) room))) (s.stacks j hj))
 
-  things : ThingsStand x new p.things
-  things t int =
-      let was = s.things t int in
+  objects : RepresentsObjects x new p.objects
+  objects t int =
+      let was = s.objects t int in
       let home : slice_get new t.home ≡ slice_get core t.home = ⊎_elim
       (λ (a : t.home < slot_base p k). c.outside t.home (inl a))
       (λ (a : slot_base p k ≤ t.home). ⊎_elim (λ (b : t.home < slot_base p k + p.size). c.homes t int a b) (λ (b : slot_base p k + p.size ≤ t.home). c.outside t.home (inr b)) (cases_lt t.home (slot_base p k + p.size)))

@@ -7,10 +7,10 @@ use Rattle.b67_ctl.specs.declared.marks.Mscw.{Mscw}
 use Rattle.b67_ctl.specs.declared.marks.Rcw.{Rcw}
 use Rattle.b67_ctl.specs.Layout.{bit, mscw_word, IsMscw, rcw_word, IsRcw}
 use Rattle.b67_model.specs.State.{Return}
-use Rattle.b67_stack.specs.Shapes.{Map, Fits, Lie}
-use Rattle.b67_stack.specs.Stacks.{Activation, Head, Marked, Entered, ReturnFits, HeadFits, HeadsFit, head_size, size, top_size, high, mark_place, running_level, level_from, mark_of, top_mark, return_of, headed, words}
-use Rattle.b67_stack.specs.Picture.{Picture, RunsOn, slot_base}
-use Rattle.b67_stack.specs.Stands.{Storage, Stands}
+use Rattle.b67_stack.specs.Shapes.{Locations, Fits, LieDownward}
+use Rattle.b67_stack.specs.Stacks.{Activation, Head, Marked, Entered, ReturnFits, HeadFits, HeadsFit, head_size, size, top_size, stack_words, mark_place, running_level, level_from, mark_of, top_mark, return_of, headed, words}
+use Rattle.b67_stack.specs.MachineView.{MachineView, RunsOn, slot_base}
+use Rattle.b67_stack.specs.Represents.{Storage, Represents}
 use Rattle.b67_stack.specs.declared.Cpu.{Cpu}
 use Rattle.b67_stack.specs.Changes.{top_cells, below_top, topped}
 use Rattle.b67_stack.proofs.Lies.{Lie-under}
@@ -25,11 +25,11 @@ pub level-small : (stack : List Activation) → HeadsFit stack → running_level
 level-small [] h = omega arith
 level-small (a ∷ below) h = level-head a.head below h.0 (level-small below h.1)
 
-head-lies : (R : Map) (core : List Tagged) (from k : ℕ) (h : Head) (below : List Activation) → Lie (Fits R) core from (headed k h below (words k below)) → slice_get core (from + high below) ≡ Some (mscw_word (mark_of k h below))
+head-lies : (R : Locations) (core : List Tagged) (from k : ℕ) (h : Head) (below : List Activation) → LieDownward (Fits R) core from (headed k h below (words k below)) → slice_get core (from + stack_words below) ≡ Some (mscw_word (mark_of k h below))
 head-lies R core from k Marked below l = ap (λ n. slice_get core (from + n)) (sym (words-length k below)) ∙ l.0.1 ∙ ap Some l.0.2.0
 head-lies R core from k (Entered level environment back) below l = ap (λ n. slice_get core (from + n)) (sym (words-length k below)) ∙ l.1.0.1 ∙ ap Some l.1.0.2.0
 
-mark-fits : (k : ℕ) (h : Head) (below : List Activation) → HeadFits h below → top_size below < 2 ^ 14 → IsMscw (mark_of k h below)
+pub mark-fits : (k : ℕ) (h : Head) (below : List Activation) → HeadFits h below → top_size below < 2 ^ 14 → IsMscw (mark_of k h below)
 mark-fits k Marked below f small = record { env_stack = omega arith; env_disp = omega arith; level = omega arith; back = small; marked = λ e. refl }
 mark-fits k (Entered level environment back) below f small = record { env_stack = f.1; env_disp = f.2; level = f.0; back = small; marked = λ e. absurd (let z : ⊥ = cc in z) }
 
@@ -37,35 +37,35 @@ mark-size : (k : ℕ) (h : Head) (below : List Activation) → bit (mark_of k h 
 mark-size k Marked below = refl
 mark-size k (Entered level environment back) below = refl
 
-top_size-high : (stack : List Activation) → top_size stack ≤ high stack
+pub top_size-high : (stack : List Activation) → top_size stack ≤ stack_words stack
 top_size-high [] = omega arith
 top_size-high (a ∷ below) = omega arith
 
-module _ (x : Storage) (core : List Tagged) (r : Regs) (p : Picture) (k : ℕ) where
+module _ (x : Storage) (core : List Tagged) (r : Regs) (p : MachineView) (k : ℕ) where
   -- the mark at F
-  pub mark_at_f : (stack : List Activation) → Stands x core r p → RunsOn p k stack → slice_get core r.f ≡ Some (mscw_word (top_mark k stack))
+  pub mark_at_f : (stack : List Activation) → Represents x core r p → RunsOn p k stack → slice_get core r.f ≡ Some (mscw_word (top_mark k stack))
   mark_at_f [] s u = absurd ((running_fits x core r p k [] s u).0.some refl)
   mark_at_f (a ∷ below) s u =
       let g = running_slot x core r p k (a ∷ below) s u in
       let l = Lie-under (Fits x.held) core (suc (slot_base p k)) a.cells (headed k a.head below (words k below)) (running_lies x core r p k (a ∷ below) s u) in
-      ap (slice_get core) (let e : r.f ≡ suc (slot_base p k) + high below = omega (arith, g.mark) in e) ∙ head-lies x.held core (suc (slot_base p k)) k a.head below l
+      ap (slice_get core) (let e : r.f ≡ suc (slot_base p k) + stack_words below = omega (arith, g.mark) in e) ∙ head-lies x.held core (suc (slot_base p k)) k a.head below l
 
-  pub mark_is : (stack : List Activation) → Stands x core r p → RunsOn p k stack → IsMscw (top_mark k stack)
+  pub mark_is : (stack : List Activation) → Represents x core r p → RunsOn p k stack → IsMscw (top_mark k stack)
   mark_is [] s u = absurd ((running_fits x core r p k [] s u).0.some refl)
   mark_is (a ∷ below) s u =
       let f = (running_fits x core r p k (a ∷ below) s u).0 in
       mark-fits k a.head below f.heads.0 (omega (arith, f.fits, s.slots.laid.room, top_size-high below))
 
   -- S by F and the cells
-  pub cells_above : (stack : List Activation) → Stands x core r p → RunsOn p k stack → r.s ≡ r.f + bit (top_mark k stack).entered + length (top_cells stack)
+  pub cells_above : (stack : List Activation) → Represents x core r p → RunsOn p k stack → r.s ≡ r.f + bit (top_mark k stack).entered + length (top_cells stack)
   cells_above [] s u = absurd ((running_fits x core r p k [] s u).0.some refl)
   cells_above (a ∷ below) s u =
       let g = running_slot x core r p k (a ∷ below) s u in
       omega (arith, g.mark, g.top, mark-size k a.head below)
 
   -- the mark before, by the distance in the mark at F
-  pub mark_before : (stack : List Activation) → Stands x core r p → RunsOn p k stack → below_top stack ≢ []
-      → (r.f - 1 ≡ r.bosr + high (below_top stack)) × (r.f - (top_mark k stack).back ≡ r.bosr + mark_place (below_top stack)) × ((top_mark k stack).back ≤ r.f)
+  pub mark_before : (stack : List Activation) → Represents x core r p → RunsOn p k stack → below_top stack ≢ []
+      → (r.f - 1 ≡ r.bosr + stack_words (below_top stack)) × (r.f - (top_mark k stack).back ≡ r.bosr + mark_place (below_top stack)) × ((top_mark k stack).back ≤ r.f)
   mark_before [] s u n = absurd (n refl)
   mark_before (a ∷ []) s u n = absurd (n refl)
   mark_before (a ∷ b ∷ below) s u n =
@@ -77,7 +77,7 @@ module _ (x : Storage) (core : List Tagged) (r : Regs) (p : Picture) (k : ℕ) w
         back (Entered level environment r) = refl
 
   -- the level of the record that runs without the top one: that of the return word, if there is one
-  pub level_under : (stack : List Activation) → Stands x core r p → RunsOn p k stack
+  pub level_under : (stack : List Activation) → Represents x core r p → RunsOn p k stack
       → ((top_mark k stack).entered ≡ false → r.level ≡ running_level (below_top stack))
       × ((top_mark k stack).entered ≡ true → (c : Rcw) × IsRcw c × (slice_get core (r.f + 1) ≡ Some (rcw_word c)) × (c.level ≡ running_level (below_top stack)))
   level_under [] s u = absurd ((running_fits x core r p k [] s u).0.some refl)
@@ -90,7 +90,7 @@ module _ (x : Storage) (core : List Tagged) (r : Regs) (p : Picture) (k : ℕ) w
         returned level None e hs = (record { place = record { syllable = omega arith; word = omega arith }; level = omega arith; segment = omega arith }, ap running_level (sym e))
         returned level (Some b) e hs = (record { place = e.0; level = level-small below hs; segment = e.1 }, refl)
 
-        by_head : (h : Head) → r.level ≡ level_from h (running_level below) → r.f ≡ suc (slot_base p k) + high below → HeadFits h below → HeadsFit below → Lie (Fits x.held) core (suc (slot_base p k)) (headed k h below (words k below))
+        by_head : (h : Head) → r.level ≡ level_from h (running_level below) → r.f ≡ suc (slot_base p k) + stack_words below → HeadFits h below → HeadsFit below → LieDownward (Fits x.held) core (suc (slot_base p k)) (headed k h below (words k below))
             → ((mark_of k h below).entered ≡ false → r.level ≡ running_level below) × ((mark_of k h below).entered ≡ true → (c : Rcw) × IsRcw c × (slice_get core (r.f + 1) ≡ Some (rcw_word c)) × (c.level ≡ running_level below))
         by_head Marked e at fits hs l = (λ z. e, λ z. absurd (let b : ⊥ = cc in b))
         by_head (Entered level environment back) e at fits hs l =
@@ -104,13 +104,20 @@ module _ (x : Storage) (core : List Tagged) (r : Regs) (p : Picture) (k : ℕ) w
   no_items (y ∷ ys) e = absurd (omega arith)
 
   -- the top activation record has no cell exactly where S is at its last head word
-  pub empty_at : (stack : List Activation) (m : Mscw) (n : ℕ) → Stands x core r p → RunsOn p k stack → m ≡ top_mark k stack → n ≡ bit m.entered
+  pub empty_at : (stack : List Activation) (m : Mscw) (n : ℕ) → Represents x core r p → RunsOn p k stack → m ≡ top_mark k stack → n ≡ bit m.entered
       → (r.s ≡ r.f + n → top_cells stack ≡ []) × (top_cells stack ≡ [] → r.s ≡ r.f + n)
   empty_at stack m n s u em en =
       let h : r.s ≡ r.f + n + length (top_cells stack) = cells_above stack s u ∙ ap (λ (i : ℕ). r.f + i + length (top_cells stack)) (sym (en ∙ ap (λ (w : Mscw). bit w.entered) em)) in
       (λ e. no_items (top_cells stack) (omega (arith, e, h)), λ e. omega (arith, h, ap length e))
 
 -- the registers of a stack, by their numbers
-pub topped_by : (cpu : Cpu) (stack : List Activation) (t f l : ℕ) → t ≡ cpu.regs.bosr + high stack → f ≡ cpu.regs.bosr + mark_place stack → l ≡ running_level stack
+pub topped_by : (cpu : Cpu) (stack : List Activation) (t f l : ℕ) → t ≡ cpu.regs.bosr + stack_words stack → f ≡ cpu.regs.bosr + mark_place stack → l ≡ running_level stack
     → ◌≡◌ {A = Cpu} (record cpu { regs = record cpu.regs { s = t; f = f; level = l } }) (topped cpu stack)
 topped_by cpu stack t f l a b e = rw (a, b, e) refl
+
+pub mark_high : (stack : List Activation) → mark_place stack ≤ stack_words stack
+mark_high [] = omega arith
+mark_high (a ∷ below) = head a.head where
+  head : (h : Head) → stack_words below + 1 ≤ stack_words (record { head = h; cells = a.cells } ∷ below)
+  head Marked = omega arith
+  head (Entered level environment back) = omega arith

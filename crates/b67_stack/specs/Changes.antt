@@ -4,17 +4,17 @@ use Rattle.b67_word.specs.Tagged.{Tagged}
 use Rattle.b67_ctl.specs.Layout.{mscw_word}
 use Rattle.b67_stack.specs.declared.Cpu.{Cpu}
 use Rattle.b67_stack.specs.Shapes.{Shape, Is, Original, Copy}
-use Rattle.b67_stack.specs.Stacks.{Activation, Marked, high, mark_place, running_level}
-use Rattle.b67_stack.specs.Picture.{Thing, Picture, Running, with_slot, RunsOn, IsArrayAt}
-use Rattle.b67_stack.specs.Stands.{Storage, Stands}
+use Rattle.b67_stack.specs.Stacks.{Activation, Marked, stack_words, mark_place, running_level}
+use Rattle.b67_stack.specs.MachineView.{PagedObject, MachineView, Running, with_slot, RunsOn, IsArrayAt}
+use Rattle.b67_stack.specs.Represents.{Storage, Represents}
 
--- a task runs on a stack of some picture that the machine stands for
+-- a task runs on a stack of some view that the machine stands for
 pub record Runs (cpu : Cpu) : Type 0 where
   pub storage : Storage
-  pub picture : Picture
+  pub machine_view : MachineView
   pub stack : List Activation
-  pub stands : Stands storage cpu.core cpu.regs picture
-  pub runs : RunsOn picture cpu.regs.slot stack
+  pub stands : Represents storage cpu.core cpu.regs machine_view
+  pub runs : RunsOn machine_view cpu.regs.slot stack
 
 -- the machine with a word more on the stack, or one less
 abbrev pub pushed : Cpu → Tagged → Cpu
@@ -34,7 +34,7 @@ marked cpu = record cpu {
 -- with the registers of a stack in the running slot
 abbrev pub topped : Cpu → List Activation → Cpu
 topped cpu stack = record cpu {
-  regs = record cpu.regs { s = cpu.regs.bosr + high stack; f = cpu.regs.bosr + mark_place stack; level = running_level stack };
+  regs = record cpu.regs { s = cpu.regs.bosr + stack_words stack; f = cpu.regs.bosr + mark_place stack; level = running_level stack };
 }
 
 -- the cells of the top activation record, and the stack with others there
@@ -58,12 +58,12 @@ below_top (a ∷ below) = below
 abbrev pub new_mark : Activation
 new_mark = record { head = Marked; cells = [] }
 
--- the picture with another stack running in slot k
-abbrev pub with_stack : Picture → ℕ → List Activation → Picture
+-- the view with another stack running in slot k
+abbrev pub with_stack : MachineView → ℕ → List Activation → MachineView
 with_stack p k stack = with_slot p k (Running stack)
 
 -- a word that may be pushed: no original, and a copy of an array that is there
-abbrev pub MayPush : List Thing → Shape → Type 0
-MayPush things (Is w) = Unit {0}
-MayPush things (Original home) = ⊥
-MayPush things (Copy c home) = IsArrayAt things home
+abbrev pub MayPush : List PagedObject → Shape → Type 0
+MayPush objects (Is w) = Unit {0}
+MayPush objects (Original home) = ⊥
+MayPush objects (Copy c home) = IsArrayAt objects home

@@ -1,5 +1,5 @@
 pub mod Shapes
 pub mod Stacks
-pub mod Picture
-pub mod Stands
+pub mod MachineView
+pub mod Represents
 pub mod Changes

@@ -8,14 +8,14 @@ use Rattle.b67_model.specs.State.{Return}
 use Rattle.b67_stack.specs.Shapes.{Shape, Is}
 
 -- where a mark stands: the number of a stack, and the displacement from that stack's base
-pub record Spot : Type 0 where
+pub record StackPlace : Type 0 where
   pub stack : ℕ
   pub disp : ℕ
 
 -- how an activation record begins: with a mark alone, or entered at a level, with its static link
 pub data Head : Type 0 where
   Marked : Head
-  Entered : (level : ℕ) (environment : Spot) (back : Option Return) → Head
+  Entered : (level : ℕ) (environment : StackPlace) (back : Option Return) → Head
 
 -- an activation record, its cells from the top down
 pub record Activation : Type 0 where
@@ -35,14 +35,14 @@ abbrev pub top_size : List Activation → ℕ
 top_size [] = 0
 top_size (a ∷ below) = size a
 
-abbrev pub high : List Activation → ℕ
-high [] = 0
-high (a ∷ below) = high below + size a
+abbrev pub stack_words : List Activation → ℕ
+stack_words [] = 0
+stack_words (a ∷ below) = stack_words below + size a
 
 -- the displacement of the topmost mark from the stack's base, whose own word isn't counted; 0 for none
 abbrev pub mark_place : List Activation → ℕ
 mark_place [] = 0
-mark_place (a ∷ below) = high below + 1
+mark_place (a ∷ below) = stack_words below + 1
 
 -- the level of the topmost entered one
 abbrev pub level_from : Head → ℕ → ℕ
@@ -87,7 +87,7 @@ words k (a ∷ below) = a.cells ++ headed k a.head below (words k below)
 
 -- the top of stack word of a stack that doesn't run
 abbrev pub toscw_of : List Activation → Toscw
-toscw_of stack = record { s = high stack; level = running_level stack; f = mark_place stack }
+toscw_of stack = record { s = stack_words stack; level = running_level stack; f = mark_place stack }
 
 -- the fields of its words fit, and nothing returns from the bottom one alone
 abbrev pub ReturnFits : Option Return → List Activation → Type 0
@@ -107,4 +107,4 @@ HeadsFit (a ∷ below) = HeadFits a.head below × HeadsFit below
 pub record IsStack (room : ℕ) (stack : List Activation) : Type 0 where
   pub some : stack ≢ []
   pub heads : HeadsFit stack
-  pub fits : high stack < room
+  pub fits : stack_words stack < room

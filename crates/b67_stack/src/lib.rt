@@ -4,8 +4,8 @@
 ghost use Rattle.std.specs.Prelude.{◌≡◌, ◌≢◌, ◌↔◌, ℕ, ◌+◌, ◌-◌, ◌<◌, ◌≤◌, IsErr, IsOk, OnOk, OnErr, IfOk, [], ◌∷◌, List, length, slice_get, Some};
 ghost use Rattle.b67_stack.specs.Shapes.{Shape, Fits};
 ghost use Rattle.b67_stack.specs.Stacks.{Activation, running_level, top_mark as top_mark_of};
-ghost use Rattle.b67_stack.specs.Picture.{Picture, RunsOn, Settled};
-ghost use Rattle.b67_stack.specs.Stands.{Storage, Stands};
+ghost use Rattle.b67_stack.specs.MachineView.{MachineView, RunsOn, NoOriginalAboveTop};
+ghost use Rattle.b67_stack.specs.Represents.{Storage, Represents};
 ghost use Rattle.b67_stack.specs.Changes.{Runs, pushed, popped, marked, topped, top_cells, with_cells, without_first, below_top, new_mark, with_stack, MayPush};
 
 use b67_core::Core;
@@ -53,7 +53,7 @@ impl Cpu {
     /// The mark of the top activation record.
     pub fn top_mark(&self) -> Mscw
         requires { Runs self.now }
-        ensures { (x : Storage) (p : Picture) (stack : List Activation) → Stands x self.now.core self.now.regs p
+        ensures { (x : Storage) (p : MachineView) (stack : List Activation) → Represents x self.now.core self.now.regs p
             → RunsOn p self.now.regs.slot stack → result ≡ top_mark_of self.now.regs.slot stack }
     {
         match Mscw::from_word(self.core.get(self.regs.f)) {
@@ -62,10 +62,19 @@ impl Cpu {
         }
     }
 
+    /// Whether the top activation record is entered.
+    pub fn is_top_entered(&self) -> bool
+        requires { Runs self.now }
+        ensures { (x : Storage) (p : MachineView) (stack : List Activation) → Represents x self.now.core self.now.regs p
+            → RunsOn p self.now.regs.slot stack → result ≡ (top_mark_of self.now.regs.slot stack).entered }
+    {
+        Mscw::is_entered(self.core.get(self.regs.f))
+    }
+
     /// The running level without the top activation record.
     fn level_below(&self) -> u8
         requires { Runs self.now }
-        ensures { (x : Storage) (p : Picture) (stack : List Activation) → Stands x self.now.core self.now.regs p
+        ensures { (x : Storage) (p : MachineView) (stack : List Activation) → Represents x self.now.core self.now.regs p
             → RunsOn p self.now.regs.slot stack → result ≡ running_level (below_top stack) }
     {
         if !self.top_mark().entered {
@@ -77,15 +86,26 @@ impl Cpu {
         }
     }
 
+    /// Puts a word on the stack, where there is room.
+    pub fn put(&mut self, w: Word)
+        requires { self.old.regs.s + 1 < length self.old.core }
+        ensures { self.new ≡ pushed self.old w }
+    {
+        let _size = self.core.size();
+        let top = self.regs.s + 1;
+        self.core.set(top, w);
+        self.regs.s = top;
+    }
+
     /// Puts a word on the stack. Refused, with nothing changed, exactly where the stack's top is its slot's last word.
     pub fn push(&mut self, w: Word) -> Result<(), StackOverflow>
         requires { Runs self.old }
         ensures full { IsErr result ↔ (self.old.regs.s ≡ self.old.regs.losr) }
         ensures ok { OnOk result (self.new ≡ pushed self.old w) }
         ensures err { OnErr result (self.new ≡ self.old) }
-        ensures stands { OnOk result ((x : Storage) (p : Picture) (stack : List Activation) (c : Shape) → Stands x self.old.core self.old.regs p
-            → RunsOn p self.old.regs.slot stack → Settled p → MayPush p.things c → Fits x.held c (self.old.regs.s + 1) w
-            → Stands x self.new.core self.new.regs (with_stack p self.old.regs.slot (with_cells stack (c ∷ top_cells stack)))) }
+        ensures stands { OnOk result ((x : Storage) (p : MachineView) (stack : List Activation) (c : Shape) → Represents x self.old.core self.old.regs p
+            → RunsOn p self.old.regs.slot stack → NoOriginalAboveTop p → MayPush p.objects c → Fits x.held c (self.old.regs.s + 1) w
+            → Represents x self.new.core self.new.regs (with_stack p self.old.regs.slot (with_cells stack (c ∷ top_cells stack)))) }
     {
         if self.regs.s == self.regs.losr {
             return Err(StackOverflow {});
@@ -98,13 +118,13 @@ impl Cpu {
     /// Takes a word off the stack. Refused, with nothing changed, exactly where the top activation record has no cell.
     pub fn pop(&mut self) -> Result<Word, StackUnderflow>
         requires { Runs self.old }
-        ensures empty { (x : Storage) (p : Picture) (stack : List Activation) → Stands x self.old.core self.old.regs p
+        ensures empty { (x : Storage) (p : MachineView) (stack : List Activation) → Represents x self.old.core self.old.regs p
             → RunsOn p self.old.regs.slot stack → IsErr result ↔ (top_cells stack ≡ []) }
         ensures ok { IfOk result (λ w. (slice_get self.old.core self.old.regs.s ≡ Some w) × (self.new ≡ popped self.old)) }
         ensures err { OnErr result (self.new ≡ self.old) }
-        ensures stands { OnOk result ((x : Storage) (p : Picture) (stack : List Activation) → Stands x self.old.core self.old.regs p
+        ensures stands { OnOk result ((x : Storage) (p : MachineView) (stack : List Activation) → Represents x self.old.core self.old.regs p
             → RunsOn p self.old.regs.slot stack
-            → Stands x self.new.core self.new.regs (with_stack p self.old.regs.slot (with_cells stack (without_first (top_cells stack))))) }
+            → Represents x self.new.core self.new.regs (with_stack p self.old.regs.slot (with_cells stack (without_first (top_cells stack))))) }
     {
         let m = self.top_mark();
         if self.regs.s == self.regs.f + u32::from(m.entered) {
@@ -122,9 +142,9 @@ impl Cpu {
         ensures full { IsErr result ↔ (self.old.regs.s ≡ self.old.regs.losr) }
         ensures ok { OnOk result (self.new ≡ marked self.old) }
         ensures err { OnErr result (self.new ≡ self.old) }
-        ensures stands { OnOk result ((x : Storage) (p : Picture) (stack : List Activation) → Stands x self.old.core self.old.regs p
-            → RunsOn p self.old.regs.slot stack → Settled p
-            → Stands x self.new.core self.new.regs (with_stack p self.old.regs.slot (new_mark ∷ stack))) }
+        ensures stands { OnOk result ((x : Storage) (p : MachineView) (stack : List Activation) → Represents x self.old.core self.old.regs p
+            → RunsOn p self.old.regs.slot stack → NoOriginalAboveTop p
+            → Represents x self.new.core self.new.regs (with_stack p self.old.regs.slot (new_mark ∷ stack))) }
     {
         let m = Mscw {
             far: false,
@@ -147,13 +167,13 @@ impl Cpu {
     /// Drops the top activation record, of two or more. The running level is that of the record that then runs; place,
     /// segment and display are the caller's.
     pub fn cut(&mut self)
-        requires { (x : Storage) × (p : Picture) × (stack : List Activation) × Stands x self.old.core self.old.regs p
+        requires { (x : Storage) × (p : MachineView) × (stack : List Activation) × Represents x self.old.core self.old.regs p
             × RunsOn p self.old.regs.slot stack × (below_top stack ≢ []) }
-        ensures row { (x : Storage) (p : Picture) (stack : List Activation) → Stands x self.old.core self.old.regs p
+        ensures row { (x : Storage) (p : MachineView) (stack : List Activation) → Represents x self.old.core self.old.regs p
             → RunsOn p self.old.regs.slot stack → below_top stack ≢ [] → self.new ≡ topped self.old (below_top stack) }
-        ensures stands { (x : Storage) (p : Picture) (stack : List Activation) → Stands x self.old.core self.old.regs p
+        ensures stands { (x : Storage) (p : MachineView) (stack : List Activation) → Represents x self.old.core self.old.regs p
             → RunsOn p self.old.regs.slot stack → below_top stack ≢ []
-            → Stands x self.new.core self.new.regs (with_stack p self.old.regs.slot (below_top stack)) }
+            → Represents x self.new.core self.new.regs (with_stack p self.old.regs.slot (below_top stack)) }
     {
         let m = self.top_mark();
         self.regs.level = self.level_below();

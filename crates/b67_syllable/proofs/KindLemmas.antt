@@ -25,16 +25,16 @@ pub name_kind : (first high : ℕ) → 0x40 ≤ first → first ≤ 0x7f → hig
 name_kind first high from upto is = rw (not_below first 0x40 from, below first 0x80 (omega arith), is) refl
 
 -- the forms of the rows
-table_is : map (option_map form) KINDS ≡ map (form_in operators) (range_with_len 0x80 64)
+table_is : map (option_map form) KINDS ≡ map (form_in operators) (range_with_len 0x80 128)
 table_is = refl
 
 -- the operators from 0x80 on
 late : (first : ℕ) → 0x80 ≤ first → form_of first ≡ form_in operators first
 late first from = rw (not_below first 0x40 (omega arith), not_below first 0x80 from) refl
 
-pub table_kind : (first : ℕ) (kind : Option Kind) → 0x80 ≤ first → first ≤ 0xbf → slice_get KINDS (first - 0x80) ≡ Some kind → form_of first ≡ option_map form kind
+pub table_kind : (first : ℕ) (kind : Option Kind) → 0x80 ≤ first → first ≤ 0xff → slice_get KINDS (first - 0x80) ≡ Some kind → form_of first ≡ option_map form kind
 table_kind first kind from upto is =
     let here : slice_get (map (option_map form) KINDS) (first - 0x80) ≡ Some (option_map form kind) = slice_get-map (option_map form) KINDS (first - 0x80) ∙ ap (option_map (option_map form)) is in
     let row : get_or (map (option_map form) KINDS) (first - 0x80) None ≡ option_map form kind = get_or_from_slice_get (map (option_map form) KINDS) (first - 0x80) (option_map form kind) None here in
-    let there : get_or (map (form_in operators) (range_with_len 0x80 64)) (first - 0x80) None ≡ form_in operators first = get_or-map-range_with_len (form_in operators) 0x80 64 (first - 0x80) first None (omega arith) (omega arith) in
+    let there : get_or (map (form_in operators) (range_with_len 0x80 128)) (first - 0x80) None ≡ form_in operators first = get_or-map-range_with_len (form_in operators) 0x80 128 (first - 0x80) first None (omega arith) (omega arith) in
     late first from ∙ sym there ∙ sym (ap (λ (xs : List (Option Form)). get_or xs (first - 0x80) None) table_is) ∙ row

@@ -9,6 +9,7 @@ use b67_model::{Code, Op};
 use b67_word::Place;
 
 /// The syllable of an operator without parameters.
+#[inline(always)]
 fn syllable_of(code: Code) -> u8
     ensures { result ≡ first_of code }
 {
@@ -52,6 +53,7 @@ fn syllable_of(code: Code) -> u8
 }
 
 /// Puts a first syllable with one more.
+#[inline(always)]
 fn put_8(out: &mut ArrayVec<u8, 3>, first: u8, n: u8)
     requires { out.old.items ≡ [] }
     ensures { out.new.items ≡ first ∷ n ∷ [] }
@@ -61,6 +63,7 @@ fn put_8(out: &mut ArrayVec<u8, 3>, first: u8, n: u8)
 }
 
 /// Puts sixteen bits, the higher syllable first.
+#[inline(always)]
 fn put_couple(out: &mut ArrayVec<u8, 3>, bits: u16)
     requires { out.old.items ≡ [] }
     ensures { out.new.items ≡ to_be_bytes w16 bits }
@@ -70,6 +73,7 @@ fn put_couple(out: &mut ArrayVec<u8, 3>, bits: u16)
 }
 
 /// Puts a first syllable with two more.
+#[inline(always)]
 fn put_two(out: &mut ArrayVec<u8, 3>, first: u8, high: u8, low: u8)
     requires { out.old.items ≡ [] }
     ensures { out.new.items ≡ first ∷ high ∷ low ∷ [] }
@@ -79,6 +83,7 @@ fn put_two(out: &mut ArrayVec<u8, 3>, first: u8, high: u8, low: u8)
 }
 
 /// Puts a first syllable and sixteen bits.
+#[inline(always)]
 fn put_16(out: &mut ArrayVec<u8, 3>, first: u8, n: u16)
     requires { out.old.items ≡ [] }
     ensures { out.new.items ≡ with_16 first n }
@@ -88,6 +93,7 @@ fn put_16(out: &mut ArrayVec<u8, 3>, first: u8, n: u16)
 }
 
 /// A branch's sixteen bits: three of syllable, thirteen of word.
+#[inline(always)]
 fn target_of(place: Place) -> u16
     requires syllable { place.syllable < 8 }
     requires word { place.word < 2 ^ 13 }
@@ -97,6 +103,7 @@ fn target_of(place: Place) -> u16
 }
 
 /// Puts an operator's syllables, and gives its literal.
+#[inline(always)]
 fn put(op: Op, out: &mut ArrayVec<u8, 3>) -> Option<u64>
     requires empty { out.old.items ≡ [] }
     requires bits { IsTrue (has_bits op) }
@@ -131,6 +138,7 @@ fn put(op: Op, out: &mut ArrayVec<u8, 3>) -> Option<u64>
 /// Puts an operator's syllables into the empty `out`, and gives the literal that stands in the next whole word, if the
 /// operator has one. Each number must be within the bits that the operator has for it: 14 for a couple, 48 for a
 /// literal, 3 and 13 for a branch's syllable and word. `decode` gives the operator back wherever these stand.
+#[inline(always)]
 pub fn encode(op: Op, out: &mut ArrayVec<u8, 3>) -> Option<u64>
     requires empty { out.old.items ≡ [] }
     requires bits { IsTrue (has_bits op) }

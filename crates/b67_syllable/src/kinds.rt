@@ -26,8 +26,8 @@ pub enum Kind {
     Branch,
 }
 
-/// The kinds of the first syllables 0x80 to 0xbf.
-const KINDS: [Option<Kind>; 64] = [
+/// The kinds of the first syllables from 0x80 on.
+const KINDS: [Option<Kind>; 128] = [
     Some(Kind::Lone(Code::Add)),
     Some(Kind::Lone(Code::Subt)),
     Some(Kind::Lone(Code::Mult)),
@@ -92,8 +92,73 @@ const KINDS: [Option<Kind>; 64] = [
     Some(Kind::Lone(Code::Load)),
     Some(Kind::Literal48),
     Some(Kind::MakePcw),
+    None,
+    None,
+    None,
+    None,
+    None,
+    None,
+    None,
+    None,
+    None,
+    None,
+    None,
+    None,
+    None,
+    None,
+    None,
+    None,
+    None,
+    None,
+    None,
+    None,
+    None,
+    None,
+    None,
+    None,
+    None,
+    None,
+    None,
+    None,
+    None,
+    None,
+    None,
+    None,
+    None,
+    None,
+    None,
+    None,
+    None,
+    None,
+    None,
+    None,
+    None,
+    None,
+    None,
+    None,
+    None,
+    None,
+    None,
+    None,
+    None,
+    None,
+    None,
+    None,
+    None,
+    None,
+    None,
+    None,
+    None,
+    None,
+    None,
+    None,
+    None,
+    None,
+    Some(Kind::Lone(Code::Noop)),
+    Some(Kind::Lone(Code::Nvld)),
 ];
 
+#[inline(always)]
 fn kind_in(kinds: &[Option<Kind>], i: u8) -> Option<Kind>
     requires { i < length kinds.now }
     ensures { slice_get kinds.now i ≡ Some result }
@@ -102,15 +167,13 @@ fn kind_in(kinds: &[Option<Kind>], i: u8) -> Option<Kind>
 }
 
 /// The kind of operator that a first syllable begins, if it begins one.
+#[inline(always)]
 pub fn kind_of(first: u8) -> Option<Kind>
     ensures { form_of first ≡ option_map form result }
 {
     match first {
         0..=0x3f => Some(Kind::ValueCall(first)),
         0x40..=0x7f => Some(Kind::NameCall(first - 0x40)),
-        0x80..=0xbf => kind_in(&KINDS, first - 0x80),
-        0xfe => Some(Kind::Lone(Code::Noop)),
-        0xff => Some(Kind::Lone(Code::Nvld)),
-        _ => None,
+        _ => kind_in(&KINDS, first - 0x80),
     }
 }

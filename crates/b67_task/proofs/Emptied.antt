@@ -1,24 +1,23 @@
--- The machine after the only slot with a task was emptied: it stands for the picture without tasks.
-use Rattle.std.proofs.Common.{◌≡◌, ◌≢◌, ℕ, ◌+◌, ◌<◌, ◌≤◌, List, [], ◌∷◌, length, Some, refl, sym, ◌∙◌, ap, arith, ⊎_elim, subst}
+-- The machine after the only slot with a task was emptied: it stands for the view without tasks.
+use Rattle.std.proofs.Common.{◌≡◌, ◌≢◌, ℕ, ◌+◌, ◌<◌, ◌≤◌, List, length, Some, refl, sym, ◌∙◌, ap, arith, ⊎_elim, subst}
 use Rattle.std.specs.List.{slice_get}
 use Rattle.std.proofs.lemmas.Bool.{cases_eq, cases_lt}
 use Rattle.b67_word.specs.Tagged.{Tagged, word}
-use Rattle.b67_area.specs.Spans.{Span, Area, Hole}
 use Rattle.b67_area.proofs.Climbs.{area_at-low}
-use Rattle.b67_area.proofs.Separation.{Controls, IsDirectory-same}
+use Rattle.b67_area.proofs.Separation.{IsDirectory-same, controls_above}
 use Rattle.b67_ctl.specs.declared.registers.Regs.{Regs}
-use Rattle.b67_stack.specs.Picture.{Thing, Slot, Free, Picture, slot_base, Laid}
-use Rattle.b67_stack.specs.Stands.{Storage, SlotStands, ThingsStand, Stands, info_of}
+use Rattle.b67_stack.specs.MachineView.{PagedObject, Slot, Free, MachineView, slot_base, Laid}
+use Rattle.b67_stack.specs.Represents.{Storage, RepresentsSlot, RepresentsObjects, Represents, info_of}
 use Rattle.b67_stack.proofs.Bases.{base-apart}
 use Rattle.b67_stack.proofs.Slots.{Content-areas}
-use Rattle.b67_layout_leave.proofs.Things.{SameThings}
+use Rattle.b67_layout_leave.proofs.Objects.{SameObjects}
 
--- the picture without tasks, and with these things
-abbrev pub bare : Picture → List Thing → Picture
-bare p things = record { stacks = p.stacks; size = p.size; peak = p.peak; slots = λ q. Free; things = things }
+-- the view without tasks, and with these objects
+abbrev pub bare : MachineView → List PagedObject → MachineView
+bare p objects = record { stacks = p.stacks; size = p.size; peak = p.peak; slots = λ q. Free; objects = objects }
 
 -- no other slot than k has a task; its base word is zero, and besides that only its word in the stack vector has changed
-pub record Emptied (core new : List Tagged) (r r' : Regs) (p : Picture) (k : ℕ) : Type 0 where
+pub record Emptied (core new : List Tagged) (r r' : Regs) (p : MachineView) (k : ℕ) : Type 0 where
   pub used : k < p.peak
   pub few : p.peak ≤ 120
   pub room : 0 < p.size
@@ -28,14 +27,8 @@ pub record Emptied (core new : List Tagged) (r r' : Regs) (p : Picture) (k : ℕ
   pub outside : (i : ℕ) → i ≢ slot_base p k → i ≢ 32 + k → slice_get new i ≡ slice_get core i
   pub regs : r' ≡ record r { slot = 255 }
 
--- heads and tails of areas, and the first words of holes, lie above the slots
-controls_above : (at : ℕ) (ss : List Span) (i : ℕ) → Controls at ss i → at ≤ i
-controls_above at [] i c = absurd c
-controls_above at (Area a ∷ ss) i c = ⊎_elim (λ e. omega arith) (λ d. ⊎_elim (λ e. omega arith) (λ r. omega (arith, controls_above (at + (a.words + 2)) ss i r)) d) c
-controls_above at (Hole n ∷ ss) i c = ⊎_elim (λ e. omega arith) (λ r. omega (arith, controls_above (at + n) ss i r)) c
-
-module _ (x : Storage) (core new : List Tagged) (r : Regs) (p : Picture) (k : ℕ) (rest : List Thing)
-    (c : Emptied core new r (record r { slot = 255 }) p k) (same : SameThings p.things rest) (s : Stands x core r p) where
+module _ (x : Storage) (core new : List Tagged) (r : Regs) (p : MachineView) (k : ℕ) (rest : List PagedObject)
+    (c : Emptied core new r (record r { slot = 255 }) p k) (same : SameObjects p.objects rest) (s : Represents x core r p) where
   laid : Laid x.low p
   laid = s.slots.laid
 
@@ -48,9 +41,9 @@ module _ (x : Storage) (core new : List Tagged) (r : Regs) (p : Picture) (k : �
       (λ (z : k ≤ q). omega (arith, base-apart p k q (omega (arith, ne)), c.room, e))
       (cases_lt q k)
 
-  things : ThingsStand x new rest
-  things t int =
-      let was = s.things t (same.back t int) in
+  objects : RepresentsObjects x new rest
+  objects t int =
+      let was = s.objects t (same.back t int) in
       record {
         home = c.outside t.home (laid.not_base t (same.back t int) k c.used) (λ e. omega (arith, e, (laid.homes t (same.back t int)).0, c.used, c.few)) ∙ was.home;
         content = Content-areas x core new t (x.held t.home).area (x.held t.home).chain
@@ -58,19 +51,19 @@ module _ (x : Storage) (core new : List Tagged) (r : Regs) (p : Picture) (k : �
             (λ q up. c.outside q (λ e. omega (arith, low_end)) (λ e. omega (arith, low_end, laid.first, c.used, c.few))) was.content;
       }
 
-  slot_stands : (q : ℕ) → q < p.peak → SlotStands new (record r { slot = 255 }) (bare p rest) q Free
+  slot_stands : (q : ℕ) → q < p.peak → RepresentsSlot new (record r { slot = 255 }) (bare p rest) q Free
   slot_stands q hq =
       let Z : Type 0 = ◌≡◌ (slice_get new (slot_base p q)) (Some (word 0 0)) in (
         λ e. omega (arith, e, hq, c.few),
         ⊎_elim
             (λ (e : q ≡ k). let z : Z = ap (λ (i : ℕ). slice_get new (slot_base p i)) e ∙ c.zero in z)
             (λ (ne : q ≡ k → ⊥).
-            let was = subst (λ (y : Slot). SlotStands core r p q y) (c.others q hq ne) (s.slots.slots q hq) in
+            let was = subst (λ (y : Slot). RepresentsSlot core r p q y) (c.others q hq ne) (s.slots.slots q hq) in
             let z : Z = c.outside (slot_base p q) (apart q ne) (λ e. omega (arith, e, laid.first, c.used, c.few)) ∙ was.1 in z)
             (cases_eq q k),
       )
 
-  emptied_here : Stands x new (record r { slot = 255 }) (bare p rest)
+  emptied_here : Represents x new (record r { slot = 255 }) (bare p rest)
   emptied_here = record {
     slots = record {
       laid = record {
@@ -88,7 +81,7 @@ module _ (x : Storage) (core new : List Tagged) (r : Regs) (p : Picture) (k : �
       slots = slot_stands;
     };
     stacks = λ q hq. tt;
-    things = things;
+    objects = objects;
     owned = record {
       of_area = λ at a e. let (t, i, h, q) = s.owned.of_area at a e in (t, same.there t i, h, q);
       of_held = λ home at e. let (t, i, h, q) = s.owned.of_held home at e in (t, same.there t i, h, q);
@@ -102,7 +95,7 @@ module _ (x : Storage) (core new : List Tagged) (r : Regs) (p : Picture) (k : �
     inside = rw c.size s.inside;
   }
 
-pub Stands-emptied : (x : Storage) (core new : List Tagged) (r r' : Regs) (p : Picture) (k : ℕ) (rest : List Thing) → Emptied core new r r' p k → SameThings p.things rest → Stands x core r p → Stands x new r' (bare p rest)
-Stands-emptied x core new r r' p k rest c same s =
+pub Represents-emptied : (x : Storage) (core new : List Tagged) (r r' : Regs) (p : MachineView) (k : ℕ) (rest : List PagedObject) → Emptied core new r r' p k → SameObjects p.objects rest → Represents x core r p → Represents x new r' (bare p rest)
+Represents-emptied x core new r r' p k rest c same s =
     let d : Emptied core new r (record r { slot = 255 }) p k = record { used = c.used; few = c.few; room = c.room; others = c.others; size = c.size; zero = c.zero; outside = c.outside; regs = refl } in
-    subst (λ (q : Regs). Stands x new q (bare p rest)) (sym c.regs) (emptied_here x core new r p k rest d same s)
+    subst (λ (q : Regs). Represents x new q (bare p rest)) (sym c.regs) (emptied_here x core new r p k rest d same s)

@@ -3,7 +3,7 @@ use Rattle.std.proofs.Common.{◌≡◌, ℕ, List, [], ◌∷◌, refl, sym, �
 use Rattle.std.specs.Prelude.{◌==◌, filter}
 use Rattle.std.proofs.lemmas.Bool.{eq-eqb}
 use Rattle.b67_word.specs.declared.faults.Ending.{Ending}
-use Rattle.b67_model.specs.State.{Array, Task, Job, Member}
+use Rattle.b67_model.specs.State.{Array, Task, Job, SessionJob}
 use Rattle.b67_model.specs.Keyed.{change_keyed}
 use Rattle.b67_model.specs.Endings.{is_owned_by, ends_task}
 use Rattle.b67_model.specs.Run.{number_of}
@@ -30,17 +30,17 @@ ends_alone job t ending only first =
     ∙ ends_first job t ending (t.number == t.number) refl (eq-eqb t.number t.number refl)
 
 -- the session of one job with another course
-abbrev pub alone : Session → Member → Job → Session
-alone s m job = record s { jobs = record m { course = record m.course { job = job } } ∷ [] }
+abbrev pub alone : Session → SessionJob → Job → Session
+alone s m job = record s { jobs = record m { progress = record m.progress { job = job } } ∷ [] }
 
-with_alone : (s : Session) (m : Member) (t : Task) → IsSingle s m t → (job : Job) → with_job s m job ≡ alone s m job
+with_alone : (s : Session) (m : SessionJob) (t : Task) → IsSingle s m t → (job : Job) → with_job s m job ≡ alone s m job
 with_alone s m t single job =
-    ap (λ (ms : List Member). record s { jobs = change_keyed number_of m.setting.number (λ (y : Member). record y { course = record m.course { job = job } }) ms }) single.jobs
-    ∙ rw (eq-eqb m.setting.number m.setting.number refl) refl
+    ap (λ (ms : List SessionJob). record s { jobs = change_keyed number_of m.constants.number (λ (y : SessionJob). record y { progress = record m.progress { job = job } }) ms }) single.jobs
+    ∙ rw (eq-eqb m.constants.number m.constants.number refl) refl
 
 -- the session after the end of its only task: the model's, written out, and by what is left
-pub ended_alone : (s : Session) (m : Member) (t : Task) (ending : Ending) → IsSingle s m t → ended s m t.number ending ≡ record s { jobs = record m { course = record m.course { job = (ends_task m.course.job t.number ending).job } } ∷ [] }
-ended_alone s m t ending single = with_alone s m t single (ends_task m.course.job t.number ending).job
+pub ended_alone : (s : Session) (m : SessionJob) (t : Task) (ending : Ending) → IsSingle s m t → ended s m t.number ending ≡ record s { jobs = record m { progress = record m.progress { job = (ends_task m.progress.job t.number ending).job } } ∷ [] }
+ended_alone s m t ending single = with_alone s m t single (ends_task m.progress.job t.number ending).job
 
-pub ended_left : (s : Session) (m : Member) (t : Task) (ending : Ending) → IsSingle s m t → alone s m (left_job m.course.job t) ≡ ended s m t.number ending
-ended_left s m t ending single = sym (ended_alone s m t ending single ∙ ap (alone s m) (ends_alone m.course.job t ending single.tasks single.first))
+pub ended_left : (s : Session) (m : SessionJob) (t : Task) (ending : Ending) → IsSingle s m t → alone s m (left_job m.progress.job t) ≡ ended s m t.number ending
+ended_left s m t ending single = sym (ended_alone s m t ending single ∙ ap (alone s m) (ends_alone m.progress.job t ending single.tasks single.first))

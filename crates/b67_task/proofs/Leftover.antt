@@ -1,45 +1,42 @@
 -- After its slot was emptied the arrays of the only task are left, and nothing else is.
-use Rattle.std.proofs.Common.{◌≡◌, ◌≢◌, ℕ, ◌+◌, ◌<◌, ◌≤◌, List, ◌++◌, length, Option, Some, None, sym, ◌∙◌, ap, arith, slice_set, length-set}
+use Rattle.std.proofs.Common.{◌≡◌, ◌≢◌, ℕ, ◌+◌, ◌<◌, ◌≤◌, List, ◌++◌, length, Option, Some, sym, ◌∙◌, ap, arith, slice_set, length-set}
 use Rattle.std.specs.List.{slice_get}
 use Rattle.b67_word.specs.Tagged.{Tagged, word}
 use Rattle.b67_core.proofs.Writes.{slice_get-set_same, slice_get-set_other}
 use Rattle.b67_area.specs.declared.Areas.{Areas}
 use Rattle.b67_backing.specs.Shelf.{Table}
-use Rattle.b67_model.specs.State.{Task, Member}
+use Rattle.b67_model.specs.State.{Task, SessionJob}
 use Rattle.b67_model.specs.Schedule.{Session}
 use Rattle.b67_model.specs.InOrder.{IsInOrderButPlaces}
 use Rattle.b67_single.specs.Single.{IsSingle}
 use Rattle.b67_stack.specs.declared.Cpu.{Cpu}
-use Rattle.b67_stack.specs.Stacks.{high}
-use Rattle.b67_stack.specs.Picture.{Thing, Picture, slot_base}
-use Rattle.b67_stack.specs.Stands.{Storage, Stands}
+use Rattle.b67_stack.specs.Stacks.{stack_words}
+use Rattle.b67_stack.specs.MachineView.{PagedObject, MachineView, slot_base}
+use Rattle.b67_stack.specs.Represents.{Storage, Represents}
 use Rattle.b67_stack.proofs.Bases.{base-apart}
-use Rattle.b67_layout_storage.specs.Machine.{Says, MachineStands}
-use Rattle.b67_layout.specs.Plan.{Plan, slot_of}
-use Rattle.b67_layout.specs.Layout.{picture}
-use Rattle.b67_layout.specs.Session.{with_things, SessionStands, StorageStands}
+use Rattle.b67_layout_storage.specs.Machine.{MachineRepresentsView}
+use Rattle.b67_layout_storage.proofs.Devices.{says_of}
+use Rattle.b67_layout.specs.Placement.{Placement, slot_of}
+use Rattle.b67_layout.specs.Layout.{machine_view}
+use Rattle.b67_layout.specs.Session.{with_objects, RepresentsSession, RepresentsStorage}
 use Rattle.b67_task_release.specs.Released.{AreLeft}
 use Rattle.b67_task.specs.Endings.{vacated}
-use Rattle.b67_task.proofs.Alone.{others_free, left, stays, same_things}
+use Rattle.b67_task.proofs.Alone.{others_free, left, stays, same_objects}
 use Rattle.b67_task.proofs.Homes.{stack, base, used, stack_fits, goes_each, left_between, stays_low}
-use Rattle.b67_task.proofs.Emptied.{bare, Emptied, Stands-emptied}
+use Rattle.b67_task.proofs.Emptied.{bare, Emptied, Represents-emptied}
 
-says : (d told : Option (List (List ℕ))) → told ≡ d → Says d told
-says None told e = tt
-says (Some all) told e = e
-
-module _ (x : Storage) (cpu : Cpu) (plan : Plan) (s : Session) (m : Member) (t : Task) (o : IsInOrderButPlaces s) (h : SessionStands x cpu plan s) (single : IsSingle s m t) where
-  abbrev p : Picture
-  p = picture plan s.jobs
+module _ (x : Storage) (cpu : Cpu) (plan : Placement) (s : Session) (m : SessionJob) (t : Task) (o : IsInOrderButPlaces s) (h : RepresentsSession x cpu plan s) (single : IsSingle s m t) where
+  abbrev p : MachineView
+  p = machine_view plan s.jobs
 
   abbrev k : ℕ
-  k = slot_of plan m.setting.number t.number
+  k = slot_of plan m.constants.number t.number
 
   abbrev pub slot_start : ℕ
   slot_start = base x cpu.core cpu.regs cpu.critical plan s m t o h.holds single
 
   abbrev pub slot_high : ℕ
-  slot_high = high (stack x cpu.core cpu.regs cpu.critical plan s m t o h.holds single)
+  slot_high = stack_words (stack x cpu.core cpu.regs cpu.critical plan s m t o h.holds single)
 
   pub slot_used : k < plan.peak
   slot_used = used x cpu.core cpu.regs cpu.critical plan s m t o h.holds single
@@ -56,11 +53,11 @@ module _ (x : Storage) (cpu : Cpu) (plan : Plan) (s : Session) (m : Member) (t :
   pub core_long : slot_start + plan.size ≤ length cpu.core
   core_long = omega (arith, slot_inside, h.holds.memory.slots.laid.low, h.holds.memory.inside)
 
-  abbrev pub gone : List Thing
+  abbrev pub gone : List PagedObject
   gone = left plan s m t single
 
-  abbrev pub bare_picture : Picture
-  bare_picture = bare (picture plan s.jobs) (stays plan s m t single)
+  abbrev pub bare_machine_view : MachineView
+  bare_machine_view = bare (machine_view plan s.jobs) (stays plan s m t single)
 
   module _ (new : Cpu) (slot at : ℕ) (here : slot ≡ k) (start : at ≡ slot_start) (is : new ≡ vacated cpu slot at) where
     abbrev written : List Tagged
@@ -109,10 +106,10 @@ module _ (x : Storage) (cpu : Cpu) (plan : Plan) (s : Session) (m : Member) (t :
       regs = new_regs;
     }
 
-    stands : Stands x new.core new.regs (bare p (gone ++ stays plan s m t single))
-    stands = Stands-emptied x cpu.core new.core cpu.regs new.regs p k (gone ++ stays plan s m t single) emptied (same_things plan s m t single) h.holds.memory
+    stands : Represents x new.core new.regs (bare p (gone ++ stays plan s m t single))
+    stands = Represents-emptied x cpu.core new.core cpu.regs new.regs p k (gone ++ stays plan s m t single) emptied (same_objects plan s m t single) h.holds.memory
 
-    pub are_left : AreLeft bare_picture new.core (slot_start + 1) (slot_start + slot_high + 1) gone
+    pub are_left : AreLeft bare_machine_view new.core (slot_start + 1) (slot_start + slot_high + 1) gone
     are_left = record {
       low = omega arith;
       high = omega (arith, slot_inside, slot_fits);
@@ -127,5 +124,5 @@ module _ (x : Storage) (cpu : Cpu) (plan : Plan) (s : Session) (m : Member) (t :
       fits = λ q hq. tt;
     }
 
-    pub machine_left : (areas : Areas) (table : Table) (told : Option (List (List ℕ))) → StorageStands areas table told cpu.core x → MachineStands x new areas table told (with_things gone bare_picture)
-    machine_left areas table told b = record { stands = stands; low = b.low; shelf = b.shelf; device = says x.device told b.device }
+    pub machine_left : (areas : Areas) (table : Table) (told : Option (List (List ℕ))) → RepresentsStorage areas table told cpu.core x → MachineRepresentsView x new areas table told (with_objects gone bare_machine_view)
+    machine_left areas table told b = record { stands = stands; low = b.low; shelf = b.shelf; device = says_of x.device told b.device }

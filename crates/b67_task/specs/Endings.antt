@@ -4,30 +4,30 @@ use Rattle.b67_word.specs.Tagged.{word}
 use Rattle.b67_word.specs.declared.faults.Ending.{Ending}
 use Rattle.b67_area.specs.declared.Areas.{Areas}
 use Rattle.b67_backing.specs.Shelf.{Table}
-use Rattle.b67_model.specs.State.{Task, Member}
+use Rattle.b67_model.specs.State.{Task, SessionJob}
 use Rattle.b67_model.specs.Endings.{ends_task}
 use Rattle.b67_model.specs.Schedule.{Session}
 use Rattle.b67_model.specs.InOrder.{IsInOrderButPlaces}
 use Rattle.b67_single.specs.Single.{IsSingle}
 use Rattle.b67_stack.specs.declared.Cpu.{Cpu}
-use Rattle.b67_stack.specs.Stands.{Storage}
-use Rattle.b67_layout.specs.Plan.{Slotted, Plan, slot_of}
+use Rattle.b67_stack.specs.Represents.{Storage}
+use Rattle.b67_layout.specs.Placement.{Slotted, Placement, slot_of}
 use Rattle.b67_layout.specs.Meets.{with_job}
-use Rattle.b67_layout.specs.Session.{SessionStands, StorageStands}
+use Rattle.b67_layout.specs.Session.{RepresentsSession, RepresentsStorage}
 use Rattle.b67_task_tables.specs.declared.tables.Machine.{Machine}
 use Rattle.b67_task_tables.specs.declared.tables.Tasks.{Tasks}
-use Rattle.b67_task_tables.specs.Tables.{MachineStands}
+use Rattle.b67_task_tables.specs.Tables.{MachineRepresents}
 
 -- the plan without the row of a slot, whose task's registers aren't in use any more
-abbrev pub without_slot : Plan → ℕ → Plan
+abbrev pub without_slot : Placement → ℕ → Placement
 without_slot plan k = record plan {
   rows = filter (λ (r : Slotted). not (r.slot == k)) plan.rows;
   running = if plan.running == k then 255 else plan.running;
 }
 
 -- the session after a task of a job has ended, its descendants first. The counts are as they were
-abbrev pub ended : Session → Member → ℕ → Ending → Session
-ended s m number ending = with_job s m (ends_task m.course.job number ending).job
+abbrev pub ended : Session → SessionJob → ℕ → Ending → Session
+ended s m number ending = with_job s m (ends_task m.progress.job number ending).job
 
 -- a slot's base word and its word in the stack vector are zeros, and no task's registers are in use
 abbrev pub vacated : Cpu → ℕ → ℕ → Cpu
@@ -40,15 +40,15 @@ vacated cpu k base = record cpu {
 pub record HasSlot (cpu : Cpu) (areas : Areas) (table : Table) (k : ℕ) : Type 0 where
   pub storage : Storage
   pub told : Option (List (List ℕ))
-  pub plan : Plan
+  pub plan : Placement
   pub session : Session
-  pub member : Member
+  pub member : SessionJob
   pub task : Task
   pub ordered : IsInOrderButPlaces session
-  pub stands : SessionStands storage cpu plan session
-  pub beside : StorageStands areas table told cpu.core storage
+  pub stands : RepresentsSession storage cpu plan session
+  pub beside : RepresentsStorage areas table told cpu.core storage
   pub single : IsSingle session member task
-  pub slot : k ≡ slot_of plan member.setting.number task.number
+  pub slot : k ≡ slot_of plan member.constants.number task.number
 
 -- tables with the same rows, and the same one running. Their counts may be others
 pub record HasRowsOf (machine : Machine) (u : Tasks) : Type 0 where
@@ -61,21 +61,21 @@ pub record HasOne (machine : Machine) : Type 0 where
   pub same : HasRowsOf machine tables
   pub storage : Storage
   pub told : Option (List (List ℕ))
-  pub plan : Plan
+  pub plan : Placement
   pub session : Session
-  pub member : Member
+  pub member : SessionJob
   pub task : Task
   pub ordered : IsInOrderButPlaces session
-  pub stands : MachineStands storage told (record machine { tasks = tables }) plan session
+  pub stands : MachineRepresents storage told (record machine { tasks = tables }) plan session
   pub single : IsSingle session member task
 
 -- the machine without its tables stands for the session after the task's end
-pub record HasEnded (told : Option (List (List ℕ))) (plan : Plan) (s : Session) (m : Member) (t : Task) (ending : Ending) (cpu : Cpu) (areas : Areas) (table : Table) : Type 0 where
+pub record HasEnded (told : Option (List (List ℕ))) (plan : Placement) (s : Session) (m : SessionJob) (t : Task) (ending : Ending) (cpu : Cpu) (areas : Areas) (table : Table) : Type 0 where
   pub storage : Storage
-  pub stands : SessionStands storage cpu (without_slot plan (slot_of plan m.setting.number t.number)) (ended s m t.number ending)
-  pub beside : StorageStands areas table told cpu.core storage
+  pub stands : RepresentsSession storage cpu (without_slot plan (slot_of plan m.constants.number t.number)) (ended s m t.number ending)
+  pub beside : RepresentsStorage areas table told cpu.core storage
 
 -- the whole machine does
-pub record EndsIn (told : Option (List (List ℕ))) (plan : Plan) (s : Session) (m : Member) (t : Task) (ending : Ending) (machine : Machine) : Type 0 where
+pub record EndsIn (told : Option (List (List ℕ))) (plan : Placement) (s : Session) (m : SessionJob) (t : Task) (ending : Ending) (machine : Machine) : Type 0 where
   pub storage : Storage
-  pub stands : MachineStands storage told machine (without_slot plan (slot_of plan m.setting.number t.number)) (ended s m t.number ending)
+  pub stands : MachineRepresents storage told machine (without_slot plan (slot_of plan m.constants.number t.number)) (ended s m t.number ending)

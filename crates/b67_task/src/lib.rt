@@ -4,8 +4,8 @@
 mod last;
 mod slots;
 
+pub use b67_task_need::{need, sector_sum};
 pub use b67_task_release::release;
 pub use b67_task_switch::switch_to;
-pub use b67_task_need::{need, sector_sum};
 pub use b67_task_tables::{JobRow, JobRows, Machine, TaskRow, TaskState, Tasks};
 pub use last::end_last;

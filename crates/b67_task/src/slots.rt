@@ -2,20 +2,20 @@
 
 ghost use Rattle.std.specs.Prelude.{◌≡◌, ◌+◌, ◌<◌, ◌≤◌, ℕ, List, Option, length};
 ghost use Rattle.b67_word.specs.declared.faults.Ending.{Ending};
-ghost use Rattle.b67_model.specs.State.{Task, Member};
+ghost use Rattle.b67_model.specs.State.{Task, SessionJob};
 ghost use Rattle.b67_model.specs.Schedule.{Session};
 ghost use Rattle.b67_model.specs.InOrder.{IsInOrderButPlaces};
 ghost use Rattle.b67_single.specs.Single.{IsSingle};
-ghost use Rattle.b67_stack.specs.Stands.{Storage};
-ghost use Rattle.b67_layout.specs.Plan.{Plan, slot_of};
-ghost use Rattle.b67_layout.specs.Session.{SessionStands, StorageStands};
+ghost use Rattle.b67_stack.specs.Represents.{Storage};
+ghost use Rattle.b67_layout.specs.Placement.{Placement, slot_of};
+ghost use Rattle.b67_layout.specs.Session.{RepresentsSession, RepresentsStorage};
 ghost use Rattle.b67_task.specs.Endings.{vacated, HasSlot, HasEnded};
 
 use b67_area::Areas;
 use b67_backing::Sectors;
 use b67_overlay::stack_top;
-use b67_task_release::release_words;
 use b67_stack::Cpu;
+use b67_task_release::release_words;
 use b67_word::Word;
 
 /// Makes a slot's base word and its word in the stack vector zeros; no task's registers are in use then.
@@ -38,8 +38,8 @@ pub fn end_slot(cpu: &mut Cpu, areas: &mut Areas, sectors: &mut Sectors, slot: u
     ensures len { length cpu.new.core ≡ length cpu.old.core }
     ensures areas { areas.new ≡ areas.old }
     ensures count { length sectors.new.links ≡ length sectors.old.links }
-    ensures stands { (x : Storage) (told : Option (List (List ℕ))) (plan : Plan) (s : Session) (m : Member) (t : Task) (ending : Ending) → IsInOrderButPlaces s
-        → SessionStands x cpu.old plan s → StorageStands areas.old sectors.old told cpu.old.core x → IsSingle s m t → slot ≡ slot_of plan m.setting.number t.number
+    ensures stands { (x : Storage) (told : Option (List (List ℕ))) (plan : Placement) (s : Session) (m : SessionJob) (t : Task) (ending : Ending) → IsInOrderButPlaces s
+        → RepresentsSession x cpu.old plan s → RepresentsStorage areas.old sectors.old told cpu.old.core x → IsSingle s m t → slot ≡ slot_of plan m.constants.number t.number
         → HasEnded told plan s m t ending cpu.new areas.new sectors.new }
 {
     let _size = cpu.core.size();

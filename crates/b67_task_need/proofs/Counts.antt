@@ -3,16 +3,17 @@ use Rattle.std.proofs.Common.{◌≡◌, ◌≢◌, ℕ, ◌+◌, ◌≤◌, Lis
 use Rattle.std.proofs.lemmas.List.{length-map}
 use Rattle.std.proofs.lemmas.List.Sums.{sum_by-cons}
 use Rattle.b67_lemmas.specs.Lists.{Has, Falls}
-use Rattle.b67_model.specs.State.{Task, Member}
+use Rattle.b67_lemmas.proofs.Members.{falls_low, has_append_cases, has_flat, has_flat_back, has_map, has_map_back}
+use Rattle.b67_model.specs.State.{Task, SessionJob}
 use Rattle.b67_model.specs.Run.{live_tasks}
 use Rattle.b67_model.specs.Schedule.{Session}
 use Rattle.b67_model.specs.InOrder.{NumberedFrom, IsInOrderButPlaces}
-use Rattle.b67_law_order.proofs.Members.{has_append_cases, has_map, has_map_back, has_flat, Part, falls_low}
-use Rattle.b67_layout.specs.Plan.{Slotted, Plan, slot_of}
+use Rattle.b67_layout.specs.Placement.{Slotted, Placement, slot_of}
 use Rattle.b67_layout.specs.Rows.{TaskRow, JobRow, Counts, Differ, TablesShow}
 use Rattle.b67_layout.specs.Session.{RowsFit}
 use Rattle.b67_layout.proofs.Rows.{task_row}
 use Rattle.b67_layout.proofs.Fresh.{job_in_order}
+use Rattle.b67_law_order.proofs.Numbered.{numbered_low}
 
 -- a list without one of its numbers
 record Without (ys : List ℕ) (n : ℕ) : Type 0 where
@@ -40,65 +41,53 @@ differ_append [] ys d e apart = e
 differ_append (x ∷ xs) ys d e apart =
     (λ h. ⊎_elim (λ (i : Has xs x). d.0 i) (λ (i : Has ys x). apart x (inl refl) i) (has_append_cases xs ys x h), differ_append xs ys d.1 e (λ n h k. apart n (inr h) k))
 
-pub part_of : {A B : Type 0} (f : A → List B) (xs : List A) (y : B) → Has (flat_map f xs) y → Part f xs y
-part_of f [] y h = absurd h
-part_of f (x ∷ xs) y h = ⊎_elim
-    (λ (i : Has (f x) y). record { item = x; among = inl refl; inside = i })
-    (λ (i : Has (flat_map f xs) y). let p = part_of f xs y i in record { item = p.item; among = inr p.among; inside = p.inside })
-    (has_append_cases (f x) (flat_map f xs) y h)
-
-numbered_low : (n : ℕ) (jobs : List Member) (m : Member) → NumberedFrom n jobs → Has jobs m → n ≤ m.setting.number
-numbered_low n [] m d h = absurd h
-numbered_low n (y ∷ more) m d (inl e) = let P : Member → Type 0 = λ z. n ≤ z.setting.number in subst P e (omega (arith, d.0))
-numbered_low n (y ∷ more) m d (inr h) = omega (arith, numbered_low (n + 1) more m d.1 h)
-
 -- the slots of a job's live tasks
-abbrev pub slots_of : Plan → Member → List ℕ
-slots_of plan m = map (λ (t : Task). slot_of plan m.setting.number t.number) m.course.job.tasks
+abbrev pub slots_of : Placement → SessionJob → List ℕ
+slots_of plan m = map (λ (t : Task). slot_of plan m.constants.number t.number) m.progress.job.tasks
 
-slots_length : (plan : Plan) (jobs : List Member) → length (flat_map (slots_of plan) jobs) ≡ live_tasks jobs
+slots_length : (plan : Placement) (jobs : List SessionJob) → length (flat_map (slots_of plan) jobs) ≡ live_tasks jobs
 slots_length plan [] = refl
 slots_length plan (m ∷ more) = omega (
   arith,
   length-append (slots_of plan m) (flat_map (slots_of plan) more),
-  length-map m.course.job.tasks (λ (t : Task). slot_of plan m.setting.number t.number),
+  length-map m.progress.job.tasks (λ (t : Task). slot_of plan m.constants.number t.number),
   slots_length plan more,
-  sum_by-cons (λ (y : Member). length y.course.job.tasks) m more,
+  sum_by-cons (λ (y : SessionJob). length y.progress.job.tasks) m more,
 )
 
-module _ (plan : Plan) (s : Session) (o : IsInOrderButPlaces s) (fit : RowsFit plan s.jobs) where
+module _ (plan : Placement) (s : Session) (o : IsInOrderButPlaces s) (fit : RowsFit plan s.jobs) where
   -- a slot tells the task
-  slot_tells : (m y : Member) (t u : Task) → Has s.jobs m → Has m.course.job.tasks t → Has s.jobs y → Has y.course.job.tasks u
-      → slot_of plan m.setting.number t.number ≡ slot_of plan y.setting.number u.number → (m.setting.number ≡ y.setting.number) × (t.number ≡ u.number)
+  slot_tells : (m y : SessionJob) (t u : Task) → Has s.jobs m → Has m.progress.job.tasks t → Has s.jobs y → Has y.progress.job.tasks u
+      → slot_of plan m.constants.number t.number ≡ slot_of plan y.constants.number u.number → (m.constants.number ≡ y.constants.number) × (t.number ≡ u.number)
   slot_tells m y t u inm int iny inu e =
       let a = task_row plan s.jobs m t fit inm int in
       let b = task_row plan s.jobs y u fit iny inu in
       let same : a.row ≡ b.row = fit.differ a.row b.row a.among b.among (sym a.slot ∙ e ∙ b.slot) in
       (sym a.job ∙ ap (λ (r : Slotted). r.job) same ∙ b.job, sym a.number ∙ ap (λ (r : Slotted). r.task) same ∙ b.number)
 
-  tasks_differ : (m : Member) (bound : ℕ) (ts : List Task) → Has s.jobs m → ((t : Task) → Has ts t → Has m.course.job.tasks t) → Falls bound (map (λ (t : Task). t.number) ts)
-      → Differ (map (λ (t : Task). slot_of plan m.setting.number t.number) ts)
+  tasks_differ : (m : SessionJob) (bound : ℕ) (ts : List Task) → Has s.jobs m → ((t : Task) → Has ts t → Has m.progress.job.tasks t) → Falls bound (map (λ (t : Task). t.number) ts)
+      → Differ (map (λ (t : Task). slot_of plan m.constants.number t.number) ts)
   tasks_differ m bound [] inm inside f = tt
   tasks_differ m bound (t ∷ ts) inm inside f = (
     λ h.
-        let u = has_map_back (λ (v : Task). slot_of plan m.setting.number v.number) ts (slot_of plan m.setting.number t.number) h in
+        let u = has_map_back (λ (v : Task). slot_of plan m.constants.number v.number) ts (slot_of plan m.constants.number t.number) h in
         let e = (slot_tells m m u.item t inm (inside u.item (inr u.among)) inm (inside t (inl refl)) u.is).1 in
         let low = falls_low t.number (map (λ (v : Task). v.number) ts) u.item.number f.1 (has_map (λ (v : Task). v.number) ts u.item u.among) in
         omega (arith, e, low),
     tasks_differ m t.number ts inm (λ u h. inside u (inr h)) f.1,
   )
 
-  pub jobs_differ : (n : ℕ) (ms : List Member) → NumberedFrom n ms → ((m : Member) → Has ms m → Has s.jobs m) → Differ (flat_map (slots_of plan) ms)
+  pub jobs_differ : (n : ℕ) (ms : List SessionJob) → NumberedFrom n ms → ((m : SessionJob) → Has ms m → Has s.jobs m) → Differ (flat_map (slots_of plan) ms)
   jobs_differ n [] d inside = tt
   jobs_differ n (m ∷ more) d inside =
       let inm = inside m (inl refl) in
       differ_append (slots_of plan m) (flat_map (slots_of plan) more)
-      (tasks_differ m m.course.job.next_task m.course.job.tasks inm (λ t h. h) (job_in_order s m o inm).tasks.numbers)
+      (tasks_differ m m.progress.job.next_task m.progress.job.tasks inm (λ t h. h) (job_in_order s m o inm).tasks.numbers)
       (jobs_differ (n + 1) more d.1 (λ y h. inside y (inr h)))
       (λ k h i.
-      let t = has_map_back (λ (v : Task). slot_of plan m.setting.number v.number) m.course.job.tasks k h in
-      let y = part_of (slots_of plan) more k i in
-      let u = has_map_back (λ (v : Task). slot_of plan y.item.setting.number v.number) y.item.course.job.tasks k y.inside in
+      let t = has_map_back (λ (v : Task). slot_of plan m.constants.number v.number) m.progress.job.tasks k h in
+      let y = has_flat_back (slots_of plan) more k i in
+      let u = has_map_back (λ (v : Task). slot_of plan y.item.constants.number v.number) y.item.progress.job.tasks k y.inside in
       let e = (slot_tells m y.item t.item u.item inm t.among (inside y.item (inr y.among)) u.among (t.is ∙ sym u.is)).0 in
       omega (arith, e, d.0, numbered_low (n + 1) more y.item d.1 y.among))
 
@@ -111,10 +100,10 @@ module _ (plan : Plan) (s : Session) (o : IsInOrderButPlaces s) (fit : RowsFit p
       let r = has_map_back (λ (q : TaskRow). q.slot) rows n h in
       let (m, t, inm, int, w) = shows.tasks r.item r.among in
       subst (Has live) (sym w.slot ∙ r.is)
-      (has_flat (slots_of plan) s.jobs m (slot_of plan m.setting.number t.number) inm (has_map (λ (v : Task). slot_of plan m.setting.number v.number) m.course.job.tasks t int))) in
+      (has_flat (slots_of plan) s.jobs m (slot_of plan m.constants.number t.number) inm (has_map (λ (v : Task). slot_of plan m.constants.number v.number) m.progress.job.tasks t int))) in
       let down = not_more live slots (jobs_differ 1 s.jobs o.numbered (λ m h. h)) (λ n h.
-      let y = part_of (slots_of plan) s.jobs n h in
-      let u = has_map_back (λ (v : Task). slot_of plan y.item.setting.number v.number) y.item.course.job.tasks n y.inside in
+      let y = has_flat_back (slots_of plan) s.jobs n h in
+      let u = has_map_back (λ (v : Task). slot_of plan y.item.constants.number v.number) y.item.progress.job.tasks n y.inside in
       let (r, inr_, w) = shows.each y.item u.item y.among u.among in
       subst (Has slots) (w.slot ∙ u.is) (has_map (λ (q : TaskRow). q.slot) rows r inr_)) in
       omega (arith, up, down, slots_length plan s.jobs, length-map rows (λ (r : TaskRow). r.slot))

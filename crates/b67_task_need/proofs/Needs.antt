@@ -5,7 +5,7 @@ use Rattle.std.proofs.lemmas.List.{length-map}
 use Rattle.std.proofs.lemmas.Bool.{cases_eq, eq-eqb, ne_eqb}
 use Rattle.std.proofs.lemmas.Nat.{mul-le}
 use Rattle.std.proofs.lemmas.List.Sums.{sum_by-cons}
-use Rattle.b67_model.specs.State.{Task, Job, Member}
+use Rattle.b67_model.specs.State.{Task, Job, SessionJob}
 use Rattle.b67_model.specs.Arrays.{array}
 use Rattle.b67_model.specs.Answers.{Answer}
 use Rattle.b67_model.specs.Steps.{Done}
@@ -14,44 +14,44 @@ use Rattle.b67_model.specs.Rows.{code_of, step}
 use Rattle.b67_model.specs.Run.{live_tasks, number_of}
 use Rattle.b67_model.specs.Schedule.{Session}
 use Rattle.b67_model.specs.InOrder.{IsInOrderButPlaces}
-use Rattle.b67_stack.specs.Stands.{Storage}
-use Rattle.b67_layout.specs.Plan.{Plan}
+use Rattle.b67_stack.specs.Represents.{Storage}
+use Rattle.b67_layout.specs.Placement.{Placement}
 use Rattle.b67_layout.specs.Session.{DictionariesFollow, IsRunning}
-use Rattle.b67_layout.proofs.Others.{keyed-has}
 use Rattle.b67_task_tables.specs.declared.tables.Machine.{Machine}
-use Rattle.b67_task_tables.specs.Tables.{MachineStands, task_row, job_row, counts_of}
+use Rattle.b67_task_tables.specs.Tables.{MachineRepresents, task_row, job_row, counts_of}
 use Rattle.b67_exec_cells.proofs.Codes.{short}
 use Rattle.b67_task_need.specs.Needing.{array_area, need_with, touched_words, HasWords}
 use Rattle.b67_task_need.proofs.Counts.{rows_live}
+use Rattle.b67_lemmas.proofs.Members.{keyed-has}
 
-follow_all : (plan : Plan) (at : ℕ) (jobs : List Member) → DictionariesFollow plan at jobs → at + sum_by (λ (m : Member). 2 + length m.setting.dictionary.cells) jobs ≡ plan.stacks
+pub follow_all : (plan : Placement) (at : ℕ) (jobs : List SessionJob) → DictionariesFollow plan at jobs → at + sum_by (λ (m : SessionJob). 2 + length m.constants.dictionary.cells) jobs ≡ plan.stacks
 follow_all plan at [] d = omega (arith, d)
 follow_all plan at (m ∷ more) d = omega (
   arith,
-  follow_all plan (at + (2 + length m.setting.dictionary.cells)) more d.1,
-  sum_by-cons (λ (y : Member). 2 + length y.setting.dictionary.cells) m more,
+  follow_all plan (at + (2 + length m.constants.dictionary.cells)) more d.1,
+  sum_by-cons (λ (y : SessionJob). 2 + length y.constants.dictionary.cells) m more,
 )
 
 -- the numbers that the code reads
-pub record Read (k : Machine) (s : Session) (m : Member) (t : Task) : Type 0 where
+pub record Read (k : Machine) (s : Session) (m : SessionJob) (t : Task) : Type 0 where
   pub stacks : k.cpu.regs.stacks ≡ fixed s.jobs
   pub peak : k.cpu.regs.peak ≡ s.peak
-  pub size : k.cpu.regs.stack_size ≡ m.setting.stack_size
+  pub size : k.cpu.regs.stack_size ≡ m.constants.stack_size
   pub live : length k.tasks.rows.items ≡ live_tasks s.jobs
   pub low : k.cpu.regs.stacks < 2 ^ 20
   pub small : k.cpu.regs.stack_size < 2 ^ 14
   pub few : s.peak ≤ 120
   pub within : live_tasks s.jobs ≤ s.peak
-  pub short : length (code_of m.setting t.segment) < 2 ^ 13
+  pub short : length (code_of m.constants t.segment) < 2 ^ 13
 
-pub read : (x : Storage) (told : Option (List (List ℕ))) (k : Machine) (plan : Plan) (s : Session) (m : Member) (t : Task) → IsInOrderButPlaces s → MachineStands x told k plan s → IsRunning plan s.jobs m t → Read k s m t
+pub read : (x : Storage) (told : Option (List (List ℕ))) (k : Machine) (plan : Placement) (s : Session) (m : SessionJob) (t : Task) → IsInOrderButPlaces s → MachineRepresents x told k plan s → IsRunning plan s.jobs m t → Read k s m t
 read x told k plan s m t o h runs =
     let holds = h.session.holds in
     let slots = holds.memory.slots in
     record {
       stacks = slots.regs.stacks ∙ sym (follow_all plan 160 s.jobs holds.fits.dictionaries);
       peak = slots.regs.peak ∙ holds.fits.peak;
-      size = slots.regs.size ∙ sym (holds.fits.sizes m (keyed-has number_of m.setting.number s.jobs m runs.member));
+      size = slots.regs.size ∙ sym (holds.fits.sizes m (keyed-has number_of m.constants.number s.jobs m runs.member));
       live = sym (length-map k.tasks.rows.items task_row) ∙ rows_live plan s o holds.fits.rows (map task_row k.tasks.rows.items) (map job_row k.tasks.jobs) (counts_of k.tasks) h.tables;
       low = omega (arith, slots.regs.stacks, slots.laid.low, holds.memory.inside, holds.memory.directory.small);
       small = omega (arith, slots.regs.size, slots.laid.room);
@@ -68,21 +68,21 @@ area_same job None h = refl
 area_same job (Some a) h = rw (ne_eqb (length (array job a).numbers) 0 h) refl
 
 -- what a step needs: without a new stack and the array where that much isn't there, else with both
-pub need_whole : (core : ℕ) (s : Session) (m : Member) (t : Task) → live_tasks s.jobs ≤ s.peak → (made : Answer Done) → made ≡ step m.setting m.course.job t → HasWords m.course.job (touched_of m.setting m.course.job t made)
-    → need core s m t ≡ (if nat_lt core (need_with s m t 0 0) then need_with s m t 0 0 else need_with s m t (started_by m.course.job made) (touched_words m.course.job (touched_of m.setting m.course.job t made)))
+pub need_whole : (core : ℕ) (s : Session) (m : SessionJob) (t : Task) → live_tasks s.jobs ≤ s.peak → (made : Answer Done) → made ≡ step m.constants m.progress.job t → HasWords m.progress.job (touched_of m.constants m.progress.job t made)
+    → need core s m t ≡ (if nat_lt core (need_with s m t 0 0) then need_with s m t 0 0 else need_with s m t (started_by m.progress.job made) (touched_words m.progress.job (touched_of m.constants m.progress.job t made)))
 need_whole core s m t low made is h =
-    let code = length (code_of m.setting t.segment) + 2 in
-    let size = m.setting.stack_size in
+    let code = length (code_of m.constants t.segment) + 2 in
+    let size = m.constants.stack_size in
     let peak : max s.peak (live_tasks s.jobs + 0) ≡ s.peak = omega (arith, low) in
     let base : fixed s.jobs + s.peak * size + code ≡ need_with s m t 0 0 = rw peak (omega arith) in
-    let full : fixed s.jobs + max s.peak (live_tasks s.jobs + started_by m.course.job made) * size + code + area_of m.course.job (touched_of m.setting m.course.job t made) ≡ need_with s m t (started_by m.course.job made) (touched_words m.course.job (touched_of m.setting m.course.job t made)) =
-    ap (λ (n : ℕ). fixed s.jobs + max s.peak (live_tasks s.jobs + started_by m.course.job made) * size + code + n) (area_same m.course.job (touched_of m.setting m.course.job t made) h) in
+    let full : fixed s.jobs + max s.peak (live_tasks s.jobs + started_by m.progress.job made) * size + code + area_of m.progress.job (touched_of m.constants m.progress.job t made) ≡ need_with s m t (started_by m.progress.job made) (touched_words m.progress.job (touched_of m.constants m.progress.job t made)) =
+    ap (λ (n : ℕ). fixed s.jobs + max s.peak (live_tasks s.jobs + started_by m.progress.job made) * size + code + n) (area_same m.progress.job (touched_of m.constants m.progress.job t made) h) in
     let N : ℕ → ℕ → ℕ = λ b f. if nat_lt core b then b else f in
-    ap (λ (a : Answer Done). N (fixed s.jobs + s.peak * size + code) (fixed s.jobs + max s.peak (live_tasks s.jobs + started_by m.course.job a) * size + code + area_of m.course.job (touched_of m.setting m.course.job t a))) (sym is)
-    ∙ ap (λ (b : ℕ). N b (fixed s.jobs + max s.peak (live_tasks s.jobs + started_by m.course.job made) * size + code + area_of m.course.job (touched_of m.setting m.course.job t made))) base
+    ap (λ (a : Answer Done). N (fixed s.jobs + s.peak * size + code) (fixed s.jobs + max s.peak (live_tasks s.jobs + started_by m.progress.job a) * size + code + area_of m.progress.job (touched_of m.constants m.progress.job t a))) (sym is)
+    ∙ ap (λ (b : ℕ). N b (fixed s.jobs + max s.peak (live_tasks s.jobs + started_by m.progress.job made) * size + code + area_of m.progress.job (touched_of m.constants m.progress.job t made))) base
     ∙ ap (N (need_with s m t 0 0)) full
 
-module _ (k : Machine) (s : Session) (m : Member) (t : Task) (r : Read k s m t) (stacks peak size : ℕ)
+module _ (k : Machine) (s : Session) (m : SessionJob) (t : Task) (r : Read k s m t) (stacks peak size : ℕ)
     (peak_is : peak ≡ max k.cpu.regs.peak (length k.tasks.rows.items + stacks)) (size_is : size ≡ k.cpu.regs.stack_size) where
   peak_same : peak ≡ max s.peak (live_tasks s.jobs + stacks)
   peak_same = peak_is ∙ ap (λ (n : ℕ). max n (length k.tasks.rows.items + stacks)) r.peak ∙ ap (λ (n : ℕ). max s.peak (n + stacks)) r.live
@@ -91,18 +91,18 @@ module _ (k : Machine) (s : Session) (m : Member) (t : Task) (r : Read k s m t) 
   pub stacks_low : stacks ≤ 1 → peak * size ≤ 121 * 2 ^ 14
   stacks_low one = mul-le peak size 121 (2 ^ 14) (omega (arith, peak_same, one, r.few, r.within)) (omega (arith, size_is, r.small))
 
-  pub need_is : (code words area : ℕ) → code ≡ length (code_of m.setting t.segment) → area ≡ array_area words → k.cpu.regs.stacks + peak * size + (code + 2) + area ≡ need_with s m t stacks words
+  pub need_is : (code words area : ℕ) → code ≡ length (code_of m.constants t.segment) → area ≡ array_area words → k.cpu.regs.stacks + peak * size + (code + 2) + area ≡ need_with s m t stacks words
   need_is code words area code_is area_is =
-      let e : peak * size ≡ max s.peak (live_tasks s.jobs + stacks) * m.setting.stack_size = ap (λ (n : ℕ). n * size) peak_same ∙ ap (λ (n : ℕ). max s.peak (live_tasks s.jobs + stacks) * n) (size_is ∙ r.size) in
+      let e : peak * size ≡ max s.peak (live_tasks s.jobs + stacks) * m.constants.stack_size = ap (λ (n : ℕ). n * size) peak_same ∙ ap (λ (n : ℕ). max s.peak (live_tasks s.jobs + stacks) * n) (size_is ∙ r.size) in
       ap (λ (n : ℕ). n + peak * size + (code + 2) + area) r.stacks
       ∙ ap (λ (n : ℕ). fixed s.jobs + n + (code + 2) + area) e
-      ∙ ap (λ (n : ℕ). fixed s.jobs + max s.peak (live_tasks s.jobs + stacks) * m.setting.stack_size + (n + 2) + area) code_is
-      ∙ ap (λ (n : ℕ). fixed s.jobs + max s.peak (live_tasks s.jobs + stacks) * m.setting.stack_size + (length (code_of m.setting t.segment) + 2) + n) area_is
+      ∙ ap (λ (n : ℕ). fixed s.jobs + max s.peak (live_tasks s.jobs + stacks) * m.constants.stack_size + (n + 2) + area) code_is
+      ∙ ap (λ (n : ℕ). fixed s.jobs + max s.peak (live_tasks s.jobs + stacks) * m.constants.stack_size + (length (code_of m.constants t.segment) + 2) + n) area_is
 
 -- areas begin behind the dictionaries and the stacks of the slots used so far, so that without a new stack the need is
 -- what lies below them, the running segment's area and the array's
-module _ (x : Storage) (told : Option (List (List ℕ))) (k : Machine) (plan : Plan) (s : Session) (m : Member) (t : Task) (o : IsInOrderButPlaces s) (h : MachineStands x told k plan s) (runs : IsRunning plan s.jobs m t) where
-  pub low_is : k.areas.low ≡ fixed s.jobs + s.peak * m.setting.stack_size
+module _ (x : Storage) (told : Option (List (List ℕ))) (k : Machine) (plan : Placement) (s : Session) (m : SessionJob) (t : Task) (o : IsInOrderButPlaces s) (h : MachineRepresents x told k plan s) (runs : IsRunning plan s.jobs m t) where
+  pub low_is : k.areas.low ≡ fixed s.jobs + s.peak * m.constants.stack_size
   low_is =
       let holds = h.session.holds in
       let slots = holds.memory.slots in
@@ -112,8 +112,8 @@ module _ (x : Storage) (told : Option (List (List ℕ))) (k : Machine) (plan : P
       ∙ ap (λ (n : ℕ). fixed s.jobs + n * plan.size) holds.fits.peak
       ∙ ap (λ (n : ℕ). fixed s.jobs + s.peak * n) (sym slots.regs.size ∙ r.size)
 
-  pub need_above_low : (words : ℕ) → need_with s m t 0 words ≡ k.areas.low + (length (code_of m.setting t.segment) + 2) + array_area words
+  pub need_above_low : (words : ℕ) → need_with s m t 0 words ≡ k.areas.low + (length (code_of m.constants t.segment) + 2) + array_area words
   need_above_low words =
       let peak : max s.peak (live_tasks s.jobs + 0) ≡ s.peak = omega (arith, o.peak_low) in
-      ap (λ (n : ℕ). fixed s.jobs + n * m.setting.stack_size + (length (code_of m.setting t.segment) + 2) + array_area words) peak
-      ∙ ap (λ (n : ℕ). n + (length (code_of m.setting t.segment) + 2) + array_area words) (sym low_is)
+      ap (λ (n : ℕ). fixed s.jobs + n * m.constants.stack_size + (length (code_of m.constants t.segment) + 2) + array_area words) peak
+      ∙ ap (λ (n : ℕ). n + (length (code_of m.constants t.segment) + 2) + array_area words) (sym low_is)

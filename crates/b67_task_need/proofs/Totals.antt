@@ -5,11 +5,12 @@ use Rattle.std.specs.List.{slice_get}
 use Rattle.std.proofs.lemmas.Bool.{cases_Bool, cases_eq, eq-eqb, ne_eqb}
 use Rattle.b67_word.specs.Tagged.{Tagged}
 use Rattle.b67_lemmas.specs.Lists.{Has, Falls, total, how_many}
+use Rattle.b67_lemmas.proofs.Members.{falls_low, has_map, total_same, total_zero}
+use Rattle.b67_lemmas.proofs.Sums.{total_plus}
 use Rattle.b67_model.specs.Words.{Word}
 use Rattle.b67_model.specs.State.{Array}
 use Rattle.b67_model.specs.Sectors.{sectors_for}
 use Rattle.b67_model.specs.InOrder.{is_original_of}
-use Rattle.b67_law_order.proofs.Members.{total_same, total_zero, falls_low, has_map}
 use Rattle.b67_layout.specs.Rows.{Differ}
 use Rattle.b67_task_need.specs.Sums.{sectors_at, sectors_from}
 
@@ -72,10 +73,6 @@ range_first code core from n b e =
 -- what the arrays of a list keep for the original that a word is
 abbrev pub kept : List Array → Word → ℕ
 kept arrays w = total (λ (a : Array). if is_original_of a.identity w then sectors_for (length a.numbers) else 0) arrays
-
-pub total_plus : {A : Type 0} (f g : A → ℕ) (xs : List A) → total (λ x. f x + g x) xs ≡ total f xs + total g xs
-total_plus f g [] = refl
-total_plus f g (x ∷ xs) = omega (arith, total_plus f g xs)
 
 no_hit : {A : Type 0} (test : A → Bool) (c : ℕ) (xs : List A) → how_many test xs ≡ 0 → total (λ x. if test x then c else 0) xs ≡ 0
 no_hit test c [] e = refl

@@ -1,5 +1,5 @@
 -- What the words of stacks and of dictionaries keep.
-use Rattle.std.proofs.Common.{◌≡◌, ◌≢◌, ℕ, ◌+◌, ◌*◌, ◌^◌, ◌/◌, ◌%◌, ◌<◌, Bool, true, false, List, [], ◌∷◌, length, Some, refl, sym, ◌∙◌, ap, arith, inl, inr, ◌⊎◌}
+use Rattle.std.proofs.Common.{◌≡◌, ◌≢◌, ℕ, ◌+◌, ◌*◌, ◌^◌, ◌/◌, ◌%◌, ◌<◌, Bool, true, false, List, [], ◌∷◌, length, Some, refl, sym, ◌∙◌, ap, arith}
 use Rattle.std.specs.List.{slice_get}
 use Rattle.std.proofs.lemmas.Bool.{eq-eqb, ne_eqb}
 use Rattle.b67_word.specs.Tagged.{Tagged, bits_at}
@@ -9,9 +9,10 @@ use Rattle.b67_ctl.specs.Layout.{bit}
 use Rattle.b67_lemmas.specs.Lists.{total}
 use Rattle.b67_model.specs.Sectors.{sectors_for}
 use Rattle.b67_stack.specs.Shapes as Shapes
-use Rattle.b67_stack.specs.Shapes.{Held, Map, Shape, Is, Copy, Fits, Lie}
-use Rattle.b67_stack.specs.Stacks.{Head, Marked, Entered, Activation, headed, high}
-use Rattle.b67_stack.specs.Picture.{Picture, Slot, Free, Running, Waiting, stack_of, SlotFits, is_present, address_or, home_word_of}
+use Rattle.b67_stack.specs.Shapes.{Location, Locations, Shape, Is, Copy, Fits, LieDownward}
+use Rattle.b67_stack.specs.Stacks.{Head, Marked, Entered, Activation, headed}
+use Rattle.b67_stack.specs.MachineView.{is_present, address_or, home_word_of}
+use Rattle.b67_stack.proofs.Homes.{bit-lt}
 use Rattle.b67_task_need.specs.Sums.{sectors_of_word, sectors_at, sectors_from}
 
 -- the fields of a descriptor
@@ -30,10 +31,6 @@ code_bit p l a hp hl ha = omega arith
 code_length : (p l a : ℕ) → p < 2 → l < 2 ^ 16 → a < 2 ^ 20 → (p * 2 ^ 47 + l * 2 ^ 20 + a) / 2 ^ 20 % 2 ^ 16 ≡ l
 code_length p l a hp hl ha = omega arith
 
-bit_low : (b : Bool) → bit b < 2
-bit_low true = omega arith
-bit_low false = omega arith
-
 -- a word by its tag and fields
 is_data : (code : Bool) (w : Tagged) (n : ℕ) → w.tag ≡ 5 → bits_at w 46 1 ≡ 0 → bits_at w 20 16 ≡ n → sectors_of_word code w ≡ sectors_for n
 is_data code w n t b l = rw (eq-eqb w.tag 5 t, eq-eqb (bits_at w 46 1) 0 b) (ap sectors_for l)
@@ -47,15 +44,15 @@ is_copy w t b = rw (eq-eqb w.tag 5 t, ne_eqb (bits_at w 46 1) 0 (λ z. omega (ar
 is_plain : (w : Tagged) → w.tag ≢ 5 → sectors_of_word false w ≡ 0
 is_plain w t = rw (ne_eqb w.tag 5 t) refl
 
--- the word at the home of a thing
-module _ (n : ℕ) (h : Held) (short : n < 2 ^ 16) (low : address_or h.area h.chain < 2 ^ 20) where
+-- the word at the home of an object
+module _ (n : ℕ) (h : Location) (short : n < 2 ^ 16) (low : address_or h.area h.chain < 2 ^ 20) where
   pub home_array : (code : Bool) (k : Kind) → k ≢ Code → sectors_of_word code (home_word_of k n h) ≡ sectors_for n
-  home_array code Array ne = is_data code (home_word_of Array n h) n refl (own_bit (bit (is_present h.area)) 0 n (address_or h.area h.chain) (bit_low (is_present h.area)) (omega arith) short low) (own_length (bit (is_present h.area)) 0 n (address_or h.area h.chain) (bit_low (is_present h.area)) (omega arith) short low)
-  home_array code Row ne = is_data code (home_word_of Row n h) n refl (own_bit (bit (is_present h.area)) 1 n (address_or h.area h.chain) (bit_low (is_present h.area)) (omega arith) short low) (own_length (bit (is_present h.area)) 1 n (address_or h.area h.chain) (bit_low (is_present h.area)) (omega arith) short low)
+  home_array code Array ne = is_data code (home_word_of Array n h) n refl (own_bit (bit (is_present h.area)) 0 n (address_or h.area h.chain) (bit-lt (is_present h.area)) (omega arith) short low) (own_length (bit (is_present h.area)) 0 n (address_or h.area h.chain) (bit-lt (is_present h.area)) (omega arith) short low)
+  home_array code Row ne = is_data code (home_word_of Row n h) n refl (own_bit (bit (is_present h.area)) 1 n (address_or h.area h.chain) (bit-lt (is_present h.area)) (omega arith) short low) (own_length (bit (is_present h.area)) 1 n (address_or h.area h.chain) (bit-lt (is_present h.area)) (omega arith) short low)
   home_array code Code ne = absurd (ne refl)
 
   pub home_code : sectors_of_word true (home_word_of Code n h) ≡ sectors_for n
-  home_code = is_code (home_word_of Code n h) n refl (code_bit (bit (is_present h.area)) n (address_or h.area h.chain) (bit_low (is_present h.area)) short low) (code_length (bit (is_present h.area)) n (address_or h.area h.chain) (bit_low (is_present h.area)) short low)
+  home_code = is_code (home_word_of Code n h) n refl (code_bit (bit (is_present h.area)) n (address_or h.area h.chain) (bit-lt (is_present h.area)) short low) (code_length (bit (is_present h.area)) n (address_or h.area h.chain) (bit-lt (is_present h.area)) short low)
 
 -- what a word of a shape keeps
 abbrev pub of_shape : List Tagged → Shape → ℕ
@@ -63,14 +60,14 @@ of_shape core (Is v) = 0
 of_shape core (Shapes.Original home) = sectors_at false (slice_get core home)
 of_shape core (Copy c home) = 0
 
-word_fits : (held : Map) (core : List Tagged) (c : Shape) (at : ℕ) (w : Tagged) → slice_get core at ≡ Some w → Fits held c at w → sectors_of_word false w ≡ of_shape core c
+word_fits : (held : Locations) (core : List Tagged) (c : Shape) (at : ℕ) (w : Tagged) → slice_get core at ≡ Some w → Fits held c at w → sectors_of_word false w ≡ of_shape core c
 word_fits held core (Is v) at w get f = is_plain w (λ z. f.1 (ap (λ (u : Tagged). u.tag) (sym f.0) ∙ z))
 word_fits held core (Shapes.Original home) at w get f = ap (sectors_at false) (sym get ∙ ap (slice_get core) f.0)
 word_fits held core (Copy c home) at w get f =
     ap (sectors_of_word false) f.is
-    ∙ is_copy _ refl (copy_bit (bit f.present) (bit c.indexed) (bit c.read_only) c.number f.address (bit_low f.present) (bit_low c.indexed) (bit_low c.read_only) f.fits.words f.fits.address)
+    ∙ is_copy _ refl (copy_bit (bit f.present) (bit c.indexed) (bit c.read_only) c.number f.address (bit-lt f.present) (bit-lt c.indexed) (bit-lt c.read_only) f.fits.words f.fits.address)
 
-pub lies_total : (held : Map) (core : List Tagged) (from : ℕ) (xs : List Shape) → Lie (Fits held) core from xs → sectors_from false core from (length xs) ≡ total (of_shape core) xs
+pub lies_total : (held : Locations) (core : List Tagged) (from : ℕ) (xs : List Shape) → LieDownward (Fits held) core from xs → sectors_from false core from (length xs) ≡ total (of_shape core) xs
 lies_total held core from [] l = refl
 lies_total held core from (a ∷ more) l =
     let here : sectors_at false (slice_get core (from + length more)) ≡ of_shape core a = ap (sectors_at false) l.0.1 ∙ word_fits held core a (from + length more) l.0.0 l.0.1 l.0.2 in
@@ -79,9 +76,3 @@ lies_total held core from (a ∷ more) l =
 pub headed_total : (core : List Tagged) (k : ℕ) (h : Head) (below : List Activation) (under : List Shape) → total (of_shape core) (headed k h below under) ≡ total (of_shape core) under
 headed_total core k Marked below under = omega arith
 headed_total core k (Entered level environment back) below under = omega arith
-
--- a slot's words fit in it
-pub slot_high : (p : Picture) (k : ℕ) (y : Slot) → SlotFits p k y → (high (stack_of y) ≡ 0) ⊎ (high (stack_of y) < p.size)
-slot_high p k Free f = inl refl
-slot_high p k (Running stack) f = inr f.0.fits
-slot_high p k (Waiting stack) f = inr f.0.fits

@@ -1,17 +1,16 @@
--- The core that an operator of the running task needs, and the machines that have one.
+-- The core that an operator of the running task needs.
 use Rattle.std.specs.Prelude.{◌≢◌, ℕ, ◌+◌, ◌*◌, max, ◌==◌, List, length, Option, Some, None, if◌then◌else◌}
-use Rattle.b67_model.specs.State.{Task, Job, Member}
+use Rattle.b67_model.specs.State.{Task, Job, SessionJob}
 use Rattle.b67_model.specs.Arrays.{array}
 use Rattle.b67_model.specs.Rows.{code_of}
 use Rattle.b67_model.specs.Run.{live_tasks}
 use Rattle.b67_model.specs.Schedule.{Session}
 use Rattle.b67_model.specs.Need.{fixed}
 use Rattle.b67_model.specs.InOrder.{IsInOrderButPlaces}
-use Rattle.b67_stack.specs.Stands.{Storage}
-use Rattle.b67_layout.specs.Plan.{Plan}
-use Rattle.b67_layout.specs.Session.{IsRunning}
+use Rattle.b67_stack.specs.Represents.{Storage}
+use Rattle.b67_layout.specs.Placement.{Placement}
 use Rattle.b67_task_tables.specs.declared.tables.Machine.{Machine}
-use Rattle.b67_task_tables.specs.Tables.{MachineStands}
+use Rattle.b67_task_tables.specs.Tables.{MachineRepresents}
 
 -- the area of an array of so many words, 0 for none
 abbrev pub array_area : ℕ → ℕ
@@ -19,9 +18,9 @@ array_area words = if words == 0 then 0 else words + 2
 
 -- the MCP, dictionaries, stacks, the running segment and an array, where an operator starts so many tasks and touches an
 -- array of so many words, 0 for none
-abbrev pub need_with : Session → Member → Task → ℕ → ℕ → ℕ
+abbrev pub need_with : Session → SessionJob → Task → ℕ → ℕ → ℕ
 need_with s m t stacks words =
-    fixed s.jobs + max s.peak (live_tasks s.jobs + stacks) * m.setting.stack_size + (length (code_of m.setting t.segment) + 2) + array_area words
+    fixed s.jobs + max s.peak (live_tasks s.jobs + stacks) * m.constants.stack_size + (length (code_of m.constants t.segment) + 2) + array_area words
 
 -- the words of the array that is touched, 0 for none
 abbrev pub touched_words : Job → Option ℕ → ℕ
@@ -33,23 +32,11 @@ abbrev pub HasWords : Job → Option ℕ → Type 0
 HasWords job None = Unit {0}
 HasWords job (Some a) = touched_words job (Some a) ≢ 0
 
--- the machine stands for some session in order, of which a task runs
-pub record MachineRuns (k : Machine) : Type 0 where
-  pub storage : Storage
-  pub told : Option (List (List ℕ))
-  pub plan : Plan
-  pub session : Session
-  pub member : Member
-  pub task : Task
-  pub ordered : IsInOrderButPlaces session
-  pub stands : MachineStands storage told k plan session
-  pub running : IsRunning plan session.jobs member task
-
 -- the machine stands for some session in order
 pub record StandsInOrder (k : Machine) : Type 0 where
   pub storage : Storage
   pub told : Option (List (List ℕ))
-  pub plan : Plan
+  pub plan : Placement
   pub session : Session
   pub ordered : IsInOrderButPlaces session
-  pub stands : MachineStands storage told k plan session
+  pub stands : MachineRepresents storage told k plan session

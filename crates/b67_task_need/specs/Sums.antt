@@ -3,8 +3,8 @@ use Rattle.std.specs.Prelude.{ℕ, zero, suc, ◌+◌, Bool, false, ◌==◌, �
 use Rattle.b67_word.specs.Tagged.{Tagged, bits_at}
 use Rattle.b67_ctl.specs.declared.registers.Regs.{Regs}
 use Rattle.b67_model.specs.Sectors.{sectors_for}
-use Rattle.b67_stack.specs.Stacks.{high}
-use Rattle.b67_stack.specs.Picture.{Picture, stack_of, slot_base}
+use Rattle.b67_stack.specs.Stacks.{stack_words}
+use Rattle.b67_stack.specs.MachineView.{MachineView, stack_of, slot_base}
 use Rattle.b67_overlay.specs.Turns.{Lies}
 
 -- an original or, among code, a segment's descriptor too. A copy has bit 46, and so has a dictionary's mark
@@ -24,13 +24,13 @@ sectors_from code core from zero = 0
 sectors_from code core from (suc n) = sectors_from code core from n + sectors_at code (slice_get core (from + n))
 
 -- those of a slot's stack, and of the stacks of the slots below one
-abbrev pub sectors_of_slot : List Tagged → Picture → ℕ → ℕ
-sectors_of_slot core p k = sectors_from false core (slot_base p k + 1) (high (stack_of (p.slots k)))
+abbrev pub sectors_of_slot : List Tagged → MachineView → ℕ → ℕ
+sectors_of_slot core p k = sectors_from false core (slot_base p k + 1) (stack_words (stack_of (p.slots k)))
 
-abbrev pub sectors_of_slots : List Tagged → Picture → ℕ → ℕ
+abbrev pub sectors_of_slots : List Tagged → MachineView → ℕ → ℕ
 sectors_of_slots core p zero = 0
 sectors_of_slots core p (suc k) = sectors_of_slots core p k + sectors_of_slot core p k
 
--- the slots of some picture lie in core, behind the dictionaries
+-- the slots of some view lie in core, behind the dictionaries
 abbrev pub LiesSome : List Tagged → Regs → Type 0
-LiesSome core r = (low : ℕ) × (p : Picture) × Lies core r low p
+LiesSome core r = (low : ℕ) × (p : MachineView) × Lies core r low p

@@ -3,8 +3,6 @@
 
 mod needing;
 mod sums;
-#[cfg(test)]
-mod tests;
 
 pub use needing::need;
 pub use sums::sector_sum;

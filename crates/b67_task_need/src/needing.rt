@@ -1,14 +1,8 @@
 //! The core that an operator of the running task needs.
 
-ghost use Rattle.std.specs.Prelude.{◌≡◌, ℕ, ◌+◌, ◌^◌, ◌<◌, ◌≤◌, length, List, Option};
-ghost use Rattle.b67_model.specs.State.{Task, Member};
-ghost use Rattle.b67_model.specs.Schedule.{Session};
-ghost use Rattle.b67_model.specs.InOrder.{IsInOrderButPlaces};
-ghost use Rattle.b67_stack.specs.Stands.{Storage};
-ghost use Rattle.b67_layout.specs.Plan.{Plan};
-ghost use Rattle.b67_layout.specs.Session.{IsRunning};
-ghost use Rattle.b67_task_tables.specs.Tables.{MachineStands};
-ghost use Rattle.b67_task_need.specs.Needing.{MachineRuns, need_with, array_area};
+ghost use Rattle.std.specs.Prelude.{◌≡◌, ◌^◌, ◌<◌, ◌≤◌};
+ghost use Rattle.b67_task_tables.specs.Runs.{RunsTask, ForEachRun};
+ghost use Rattle.b67_task_need.specs.Needing.{need_with, array_area};
 
 use b67_exec_cells::descriptor;
 use b67_task_tables::Machine;
@@ -28,11 +22,10 @@ fn area_of(array: u32) -> u32
 /// array of that many words, at most 65,535; 0 for none. A stack is counted for each task alive at one moment so far,
 /// the one that it starts included.
 pub fn need(machine: &Machine, stacks: u8, array: u32) -> u32
-    requires runs { MachineRuns machine.now }
+    requires runs { RunsTask machine.now }
     requires stacks { stacks ≤ 1 }
     requires array { array < 2 ^ 16 }
-    ensures { (x : Storage) (told : Option (List (List ℕ))) (plan : Plan) (s : Session) (m : Member) (t : Task) → IsInOrderButPlaces s
-        → MachineStands x told machine.now plan s → IsRunning plan s.jobs m t → result ≡ need_with s m t stacks array }
+    ensures { ForEachRun machine.now (λ x told plan s m t. result ≡ need_with s m t stacks array) }
 {
     let regs = &machine.cpu.regs;
     let code = descriptor(&machine.cpu).words + 2;

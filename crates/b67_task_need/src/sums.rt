@@ -4,10 +4,10 @@ ghost use Rattle.std.specs.Prelude.{◌≡◌, ℕ, true, false, ◌+◌, ◌-�
 ghost use Rattle.b67_model.specs.Sectors.{sectors};
 ghost use Rattle.b67_model.specs.Schedule.{Session};
 ghost use Rattle.b67_model.specs.InOrder.{IsInOrderButPlaces};
-ghost use Rattle.b67_stack.specs.Stands.{Storage};
-ghost use Rattle.b67_layout.specs.Plan.{Plan};
-ghost use Rattle.b67_task_tables.specs.Tables.{MachineStands};
-ghost use Rattle.b67_stack.specs.Picture.{Picture};
+ghost use Rattle.b67_stack.specs.Represents.{Storage};
+ghost use Rattle.b67_layout.specs.Placement.{Placement};
+ghost use Rattle.b67_task_tables.specs.Tables.{MachineRepresents};
+ghost use Rattle.b67_stack.specs.MachineView.{MachineView};
 ghost use Rattle.b67_overlay.specs.Turns.{Lies};
 ghost use Rattle.b67_task_need.specs.Sums.{sectors_of_word, sectors_from, sectors_of_slots, LiesSome};
 ghost use Rattle.b67_task_need.specs.Needing.{StandsInOrder};
@@ -50,7 +50,7 @@ pub(crate) fn range_sectors(core: &Core, from: u32, upto: u32, code: bool) -> u3
 /// Those of the words of all dictionaries and of all stacks up to their tops.
 fn core_sectors(core: &Core, regs: &Regs) -> u32
     requires { LiesSome core.now regs.now }
-    ensures { (low : ℕ) (p : Picture) → Lies core.now regs.now low p
+    ensures { (low : ℕ) (p : MachineView) → Lies core.now regs.now low p
         → result ≡ sectors_from true core.now 160 (p.stacks - 160) + sectors_of_slots core.now p p.peak }
 {
     let size = u32::from(regs.stack_size);
@@ -68,8 +68,8 @@ fn core_sectors(core: &Core, regs: &Regs) -> u32
 /// not, those of its words, 30 to a sector.
 pub fn sector_sum(machine: &Machine) -> u32
     requires { StandsInOrder machine.now }
-    ensures { (x : Storage) (told : Option (List (List ℕ))) (plan : Plan) (s : Session) → IsInOrderButPlaces s
-        → MachineStands x told machine.now plan s → result ≡ sectors s.jobs }
+    ensures { (x : Storage) (told : Option (List (List ℕ))) (plan : Placement) (s : Session) → IsInOrderButPlaces s
+        → MachineRepresents x told machine.now plan s → result ≡ sectors s.jobs }
 {
     core_sectors(&machine.cpu.core, &machine.cpu.regs)
 }

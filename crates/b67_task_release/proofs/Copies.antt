@@ -5,21 +5,21 @@ use Rattle.std.specs.List.{AllByRecursion}
 use Rattle.b67_word.specs.Tagged.{Tagged}
 use Rattle.b67_area.specs.declared.Kind.TheVariants as kind
 use Rattle.b67_lemmas.specs.Lists.{Has}
+use Rattle.b67_lemmas.proofs.Members.{all_in, has_append_cases, has_append_right, has_flat, has_map, has_map_back, keyed_has}
 use Rattle.b67_model.specs.Keyed.{keyed}
 use Rattle.b67_model.specs.Words as Words
 use Rattle.b67_model.specs.Words.{Word, Operand, Name, Ref, Row, Element, Original, Proc, Intrinsic}
-use Rattle.b67_model.specs.State.{Frame, Array, Task, Job, Member}
+use Rattle.b67_model.specs.State.{Frame, Array, Task, Job, SessionJob}
 use Rattle.b67_model.specs.Run.{number_of}
 use Rattle.b67_model.specs.Schedule.{Session}
 use Rattle.b67_model.specs.InOrder.{Starts, IsSegment, Known, WordInOrder, FramesInOrder, TaskInOrder, JobInOrder, IsInOrderButPlaces, outer_of}
-use Rattle.b67_law_order.proofs.Members.{has_append_right, has_append_cases, has_map, has_map_back, has_flat, keyed_has, all_in}
 use Rattle.b67_stack.specs.Shapes as Shapes
 use Rattle.b67_stack.specs.Shapes.{Shape, Is, Copy, Copied}
-use Rattle.b67_stack.specs.Stacks.{Spot, Head, Marked, Entered, Activation, headed, words}
-use Rattle.b67_stack.specs.Picture.{Thing, Slot, Free, Running, Waiting, stack_of, SlotFits, CopiesName}
-use Rattle.b67_layout.specs.Plan.{Slotted, Plan, spot_in, outer_spots}
-use Rattle.b67_layout.specs.Layout.{shape, activations, stack_of_task, slot_with, slot_in, slot_by, slot_at, array_thing, code_things, things_of, picture}
-use Rattle.b67_layout.specs.Session.{with_things}
+use Rattle.b67_stack.specs.Stacks.{StackPlace, Head, Marked, Entered, Activation, headed, words}
+use Rattle.b67_stack.specs.MachineView.{PagedObject, Slot, Free, Running, Waiting, stack_of, SlotFits, CopiesName}
+use Rattle.b67_layout.specs.Placement.{Slotted, Placement, spot_in, outer_spots}
+use Rattle.b67_layout.specs.Layout.{shape, activations, stack_of_task, slot_with, slot_in, slot_by, slot_at, array_object, code_objects, objects_of, machine_view}
+use Rattle.b67_layout.specs.Session.{with_objects}
 
 -- a descriptor's shape
 abbrev pub IsDescriptor : Shape → Type 0
@@ -48,15 +48,15 @@ words_descriptor k (e ∷ below) a n h = ⊎_elim
     (has_append_cases e.cells (headed k e.head below (words k below)) a h)
 
 -- the word of a frame that it stands for
-pub record IsWord (plan : Plan) (j : ℕ) (job : Job) (frames : List Frame) (a : Shape) : Type 0 where
+pub record IsWord (plan : Placement) (j : ℕ) (job : Job) (frames : List Frame) (a : Shape) : Type 0 where
   pub frame : Frame
   pub among : Has frames frame
-  pub spot : ℕ → Spot
+  pub spot : ℕ → StackPlace
   pub word : Word
   pub cell : Has frame.cells word
   pub is : shape plan j job spot word ≡ a
 
-module _ (plan : Plan) (j : ℕ) (job : Job) (k : ℕ) (outer : ℕ → Spot) where
+module _ (plan : Placement) (j : ℕ) (job : Job) (k : ℕ) (outer : ℕ → StackPlace) where
   pub cell_word : (frames : List Frame) (a : Shape) (e : Activation) → Has (activations plan j job k outer frames) e → Has e.cells a → IsWord plan j job frames a
   cell_word [] a e h i = absurd h
   cell_word (f ∷ below) a e (inl q) i =
@@ -72,7 +72,7 @@ home_of (Is w) = 0
 home_of (Shapes.Original home) = home
 home_of (Copy c home) = home
 
-module _ (plan : Plan) (j : ℕ) (job : Job) (spot : ℕ → Spot) (P : Starts) (reach : List Known) (owner : ℕ) where
+module _ (plan : Placement) (j : ℕ) (job : Job) (spot : ℕ → StackPlace) (P : Starts) (reach : List Known) (owner : ℕ) where
   copy_named : (v : Word) (c : Copied) (home : ℕ) → shape plan j job spot v ≡ Copy c home → WordInOrder P job.arrays reach owner v → (a : Array) × Has job.arrays a × (plan.home j a.identity ≡ home)
   copy_named (Row a) c home e o = (o.item, o.live, ap (plan.home j) o.named ∙ ap home_of e)
   copy_named (Element a index) c home e o = (o.item, o.live, ap (plan.home j) o.named ∙ ap home_of e)
@@ -101,55 +101,55 @@ array_kind true e = cc
 array_kind false e = cc
 
 -- in a session in order each task's frames are
-pub frames_in_order : (s : Session) → IsInOrderButPlaces s → (m : Member) (t : Task) → Has s.jobs m → Has m.course.job.tasks t → FramesInOrder (IsSegment m.setting) m.course.job.arrays (outer_of m.course.job t) t.frames
+pub frames_in_order : (s : Session) → IsInOrderButPlaces s → (m : SessionJob) (t : Task) → Has s.jobs m → Has m.progress.job.tasks t → FramesInOrder (IsSegment m.constants) m.progress.job.arrays (outer_of m.progress.job t) t.frames
 frames_in_order s o m t inm int =
-    let order = all_in (λ (n : Member). JobInOrder (IsSegment n.setting) n.setting n.course) s.jobs m o.jobs inm in
-    (all_in (TaskInOrder (IsSegment m.setting) m.setting m.course.job) m.course.job.tasks t order.tasks.tasks int).frames
+    let order = all_in (λ (n : SessionJob). JobInOrder (IsSegment n.constants) n.constants n.progress) s.jobs m o.jobs inm in
+    (all_in (TaskInOrder (IsSegment m.constants) m.constants m.progress.job) m.progress.job.tasks t order.tasks.tasks int).frames
 
-module _ (plan : Plan) (s : Session) (o : (m : Member) (t : Task) → Has s.jobs m → Has m.course.job.tasks t → FramesInOrder (IsSegment m.setting) m.course.job.arrays (outer_of m.course.job t) t.frames) where
-  abbrev things : List Thing
-  things = flat_map (things_of plan) s.jobs
+module _ (plan : Placement) (s : Session) (o : (m : SessionJob) (t : Task) → Has s.jobs m → Has m.progress.job.tasks t → FramesInOrder (IsSegment m.constants) m.progress.job.arrays (outer_of m.progress.job t) t.frames) where
+  abbrev objects : List PagedObject
+  objects = flat_map (objects_of plan) s.jobs
 
-  task_names : (m : Member) (t : Task) (k : ℕ) → Has s.jobs m → Has m.course.job.tasks t → CopiesName things (words k (stack_of_task plan m.setting.number m.course.job k t))
+  task_names : (m : SessionJob) (t : Task) (k : ℕ) → Has s.jobs m → Has m.progress.job.tasks t → CopiesName objects (words k (stack_of_task plan m.constants.number m.progress.job k t))
   task_names m t k inm int = λ c home h.
-      let job = m.course.job in
-      let j = m.setting.number in
+      let job = m.progress.job in
+      let j = m.constants.number in
       let outer = outer_spots plan j job t.critical t.parents in
       let cell = words_descriptor k (stack_of_task plan j job k t) (Copy c home) (λ w z. cc) h in
       let w = cell_word plan j job k outer t.frames (Copy c home) cell.activation cell.among cell.cell in
-      let f = frame_words (IsSegment m.setting) job.arrays (outer_of job t) t.frames w.frame (o m t inm int) w.among in
-      let a = copy_named plan j job w.spot (IsSegment m.setting) f.reach w.frame.identity w.word c home w.is (all_in (WordInOrder (IsSegment m.setting) job.arrays f.reach w.frame.identity) w.frame.cells w.word f.words w.cell) in
-      let there : Has (things_of plan m) (array_thing plan j a.0) = has_append_right (code_things plan j 1 m.setting.segments) (map (array_thing plan j) job.arrays) (array_thing plan j a.0) (has_map (array_thing plan j) job.arrays a.0 a.1) in
-      (array_thing plan j a.0, has_flat (things_of plan) s.jobs m (array_thing plan j a.0) inm there, a.2, array_kind a.0.writable)
+      let f = frame_words (IsSegment m.constants) job.arrays (outer_of job t) t.frames w.frame (o m t inm int) w.among in
+      let a = copy_named plan j job w.spot (IsSegment m.constants) f.reach w.frame.identity w.word c home w.is (all_in (WordInOrder (IsSegment m.constants) job.arrays f.reach w.frame.identity) w.frame.cells w.word f.words w.cell) in
+      let there : Has (objects_of plan m) (array_object plan j a.0) = has_append_right (code_objects plan j 1 m.constants.segments) (map (array_object plan j) job.arrays) (array_object plan j a.0) (has_map (array_object plan j) job.arrays a.0 a.1) in
+      (array_object plan j a.0, has_flat (objects_of plan) s.jobs m (array_object plan j a.0) inm there, a.2, array_kind a.0.writable)
 
   -- each slot's words
-  pub slot_names : (k : ℕ) → CopiesName things (words k (stack_of (slot_at plan s.jobs k)))
+  pub slot_names : (k : ℕ) → CopiesName objects (words k (stack_of (slot_at plan s.jobs k)))
   slot_names k = by_row (keyed (λ (r : Slotted). r.slot) k plan.rows) where
-    by_bool : (b : Bool) (stack : List Activation) → CopiesName things (words k stack) → CopiesName things (words k (stack_of (if b then Running stack else Waiting stack)))
+    by_bool : (b : Bool) (stack : List Activation) → CopiesName objects (words k stack) → CopiesName objects (words k (stack_of (if b then Running stack else Waiting stack)))
     by_bool true stack n = n
     by_bool false stack n = n
 
-    by_task : (j : ℕ) (m : Member) → Has s.jobs m → m.setting.number ≡ j → (number : ℕ) (t : Option Task) → keyed (λ (t : Task). t.number) number m.course.job.tasks ≡ t → CopiesName things (words k (stack_of (slot_with plan k j m.course.job t)))
+    by_task : (j : ℕ) (m : SessionJob) → Has s.jobs m → m.constants.number ≡ j → (number : ℕ) (t : Option Task) → keyed (λ (t : Task). t.number) number m.progress.job.tasks ≡ t → CopiesName objects (words k (stack_of (slot_with plan k j m.progress.job t)))
     by_task j m inm e number None q = λ c home h. absurd h
     by_task j m inm e number (Some t) q =
-        let n = task_names m t k inm (keyed_has (λ (t : Task). t.number) number m.course.job.tasks t q).0 in
-        let P : ℕ → Type 0 = λ i. CopiesName things (words k (stack_of_task plan i m.course.job k t)) in
-        by_bool (k == plan.running) (stack_of_task plan j m.course.job k t) (subst P e n)
+        let n = task_names m t k inm (keyed_has (λ (t : Task). t.number) number m.progress.job.tasks t q).0 in
+        let P : ℕ → Type 0 = λ i. CopiesName objects (words k (stack_of_task plan i m.progress.job k t)) in
+        by_bool (k == plan.running) (stack_of_task plan j m.progress.job k t) (subst P e n)
 
-    by_member : (r : Slotted) (m : Option Member) → keyed number_of r.job s.jobs ≡ m → CopiesName things (words k (stack_of (slot_in plan k r.job r.task m)))
+    by_member : (r : Slotted) (m : Option SessionJob) → keyed number_of r.job s.jobs ≡ m → CopiesName objects (words k (stack_of (slot_in plan k r.job r.task m)))
     by_member r None q = λ c home h. absurd h
     by_member r (Some m) q =
         let h = keyed_has number_of r.job s.jobs m q in
-        by_task r.job m h.0 h.1 r.task (keyed (λ (t : Task). t.number) r.task m.course.job.tasks) refl
+        by_task r.job m h.0 h.1 r.task (keyed (λ (t : Task). t.number) r.task m.progress.job.tasks) refl
 
-    by_row : (r : Option Slotted) → CopiesName things (words k (stack_of (slot_by plan s.jobs k r)))
+    by_row : (r : Option Slotted) → CopiesName objects (words k (stack_of (slot_by plan s.jobs k r)))
     by_row None = λ c home h. absurd h
     by_row (Some r) = by_member r (keyed number_of r.job s.jobs) refl
 
-  fits_named : (more : List Thing) (k : ℕ) (slot : Slot) → SlotFits (with_things more (picture plan s.jobs)) k slot → CopiesName things (words k (stack_of slot)) → SlotFits (picture plan s.jobs) k slot
+  fits_named : (more : List PagedObject) (k : ℕ) (slot : Slot) → SlotFits (with_objects more (machine_view plan s.jobs)) k slot → CopiesName objects (words k (stack_of slot)) → SlotFits (machine_view plan s.jobs) k slot
   fits_named more k Free f n = f
   fits_named more k (Running stack) f n = (f.0, n)
   fits_named more k (Waiting stack) f n = (f.0, n)
 
-  pub slots_fit : (more : List Thing) (k : ℕ) → SlotFits (with_things more (picture plan s.jobs)) k (slot_at plan s.jobs k) → SlotFits (picture plan s.jobs) k (slot_at plan s.jobs k)
+  pub slots_fit : (more : List PagedObject) (k : ℕ) → SlotFits (with_objects more (machine_view plan s.jobs)) k (slot_at plan s.jobs k) → SlotFits (machine_view plan s.jobs) k (slot_at plan s.jobs k)
   slots_fit more k f = fits_named more k (slot_at plan s.jobs k) f (slot_names k)

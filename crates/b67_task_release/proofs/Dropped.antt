@@ -1,41 +1,29 @@
--- The machine stands for the things but one, whose area and chain are free.
-use Rattle.std.proofs.Common.{◌≡◌, ◌≢◌, ℕ, suc, ◌<◌, ◌≤◌, ◌==◌, List, [], length, Option, Some, None, refl, sym, ◌∙◌, ap, arith, inl, inr, ◌⊎◌, ⊎_elim, Bool, true, false, subst}
+-- The machine stands for the objects but one, whose area and chain are free.
+use Rattle.std.proofs.Common.{◌≡◌, ◌≢◌, ℕ, suc, ◌<◌, ◌≤◌, ◌==◌, List, [], length, Some, refl, sym, ◌∙◌, ap, arith, inl, inr, ◌⊎◌, ⊎_elim, Bool, true, false, subst}
 use Rattle.std.specs.Prelude.{MatchBool}
 use Rattle.std.specs.List.{slice_get}
 use Rattle.std.proofs.lemmas.Bool.{cases_eq, cond-true, eq-eqb, ne_eqb}
 use Rattle.std.proofs.lemmas.Option.{same_Some, none-some}
 use Rattle.b67_word.specs.Tagged.{Tagged}
 use Rattle.b67_area.specs.declared.Info.{Info}
-use Rattle.b67_area.specs.declared.Kind.{Kind}
-use Rattle.b67_area.specs.declared.Kind.TheVariants.{Array, Row, Code}
 use Rattle.b67_area.specs.Spans.{area_at}
 use Rattle.b67_backing.specs.Shelf.{Shelf, Table, IsShelf, chain_of}
 use Rattle.b67_backing.proofs.News.{chain_of-others, chain_of-given}
 use Rattle.b67_ctl.specs.declared.registers.Regs.{Regs}
 use Rattle.b67_lemmas.specs.Lists.{Has}
-use Rattle.b67_stack.specs.Shapes.{Held, Map, Shape, Is, Original, Copy, Copied, Fits}
+use Rattle.b67_stack.specs.Shapes.{Location, Locations, Shape, Is, Original, Copy, Copied, Fits, nowhere}
 use Rattle.b67_stack.specs.Stacks.{words}
-use Rattle.b67_stack.specs.Picture.{Thing, Picture, Slot, Free, Running, Waiting, stack_of, slot_base, SlotFits, CopiesName, home_word}
-use Rattle.b67_stack.specs.Stands.{Storage, SlotStands, StacksLie, ThingStands, Content, Keeps, HasChain, Owned, Stands, info_of}
+use Rattle.b67_stack.specs.MachineView.{PagedObject, MachineView, Slot, Free, Running, Waiting, stack_of, slot_base, SlotFits, CopiesName, home_word}
+use Rattle.b67_stack.specs.Represents.{Storage, RepresentsSlot, StacksLie, RepresentsObject, Content, HasChain, Owned, Represents, info_of}
 use Rattle.b67_stack.proofs.Lies.{Lie-each}
 use Rattle.b67_layout_storage.specs.Machine.{with_held, ChainStays}
 use Rattle.b67_layout_storage.proofs.Helds.{held-other, held-same}
 use Rattle.b67_layout_storage.proofs.Reheld.{Content-stays}
-use Rattle.b67_layout_storage.proofs.Unchanged.{area_of_thing, home_below, slot_below, base_low}
-use Rattle.b67_task_release.specs.Released.{nowhere, without_chain, released, of_things, Drops, Vacated}
+use Rattle.b67_layout_storage.proofs.Unchanged.{area_of_object, home_below, slot_below, base_low}
+use Rattle.b67_layout_storage.proofs.Chained.{Content-chain}
+use Rattle.b67_task_release.specs.Released.{without_chain, released, of_objects, Drops, Vacated}
 
--- a thing's chain, if it has one
-keeps_chain : (x : Storage) (t : Thing) (k : Kind) (f : ℕ) → Keeps x t k f → (f ≡ 0) ⊎ HasChain x t f
-keeps_chain x t Array f c = c
-keeps_chain x t Row f c = inr c.chain
-keeps_chain x t Code f c = inr c.chain
-
-pub content_chain : (x : Storage) (core : List Tagged) (t : Thing) (a : Option ℕ) (f : ℕ) → Content x core t a f → (f ≡ 0) ⊎ HasChain x t f
-content_chain x core t (Some a) f c = keeps_chain x t t.kind f c.1
-content_chain x core t None f (inl h) = inr h.chain
-content_chain x core t None f (inr z) = inl z.0
-
-sectors_some : (x : Storage) (t : Thing) (f : ℕ) → 0 < length t.numbers → HasChain x t f → 1 ≤ length (chain_of f x.shelf.chains)
+sectors_some : (x : Storage) (t : PagedObject) (f : ℕ) → 0 < length t.numbers → HasChain x t f → 1 ≤ length (chain_of f x.shelf.chains)
 sectors_some x t f some h = omega (arith, h.sectors)
 
 -- the chains but one, where that is free
@@ -55,27 +43,27 @@ chains_gone table f st sh no_zero has = ⊎_elim
     (cases_eq f 0)
 
 -- a word that isn't a copy of the array
-fits_other : (held : Map) (home : ℕ) (h : Held) (a : Shape) (i : ℕ) (v : Tagged) → ((c : Copied) (q : ℕ) → a ≡ Copy c q → q ≢ home) → Fits held a i v → Fits (with_held held home h) a i v
+fits_other : (held : Locations) (home : ℕ) (h : Location) (a : Shape) (i : ℕ) (v : Tagged) → ((c : Copied) (q : ℕ) → a ≡ Copy c q → q ≢ home) → Fits held a i v → Fits (with_held held home h) a i v
 fits_other held home h (Is u) i v other f = f
 fits_other held home h (Original q) i v other f = f
 fits_other held home h (Copy c q) i v other f = record { present = f.present; address = f.address; fits = f.fits; is = f.is; to = by f.present f.to } where
   by : (b : Bool) → MatchBool b ((held q).area ≡ Some f.address) (f.address ≡ q) → MatchBool b ((with_held held home h q).area ≡ Some f.address) (f.address ≡ q)
   by false e = e
-  by true e = ap (λ (g : Held). g.area) (held-other held home h q (other c q refl)) ∙ e
+  by true e = ap (λ (g : Location). g.area) (held-other held home h q (other c q refl)) ∙ e
 
-pub has_chain : (x : Storage) (core : List Tagged) (r : Regs) (p : Picture) → Stands x core r p → (t : Thing) → Has p.things t → ((x.held t.home).chain ≡ 0) ⊎ (1 ≤ length (chain_of (x.held t.home).chain x.shelf.chains))
+pub has_chain : (x : Storage) (core : List Tagged) (r : Regs) (p : MachineView) → Represents x core r p → (t : PagedObject) → Has p.objects t → ((x.held t.home).chain ≡ 0) ⊎ (1 ≤ length (chain_of (x.held t.home).chain x.shelf.chains))
 has_chain x core r p s t int = ⊎_elim
     (λ (z : (x.held t.home).chain ≡ 0). inl z)
     (λ (h : HasChain x t (x.held t.home).chain). inr (sectors_some x t (x.held t.home).chain (s.slots.laid.lengths t int).0 h))
-    (content_chain x core t (x.held t.home).area (x.held t.home).chain (s.things t int).content)
+    (Content-chain x core t (x.held t.home).area (x.held t.home).chain (s.objects t int).content)
 
-module _ (x : Storage) (core : List Tagged) (r : Regs) (p : Picture) (s : Stands x core r p) (t : Thing) (things : List Thing) (d : Drops p t things)
+module _ (x : Storage) (core : List Tagged) (r : Regs) (p : MachineView) (s : Represents x core r p) (t : PagedObject) (objects : List PagedObject) (d : Drops p t objects)
     (table : Table) (sh : IsShelf table x.shelf) (new : List Tagged) (v : Vacated x.low (x.held t.home).area x.spans core new) where
   abbrev y : Storage
   y = released x t
 
-  abbrev q : Picture
-  q = of_things p things
+  abbrev q : MachineView
+  q = of_objects p objects
 
   abbrev f : ℕ
   f = (x.held t.home).chain
@@ -86,11 +74,11 @@ module _ (x : Storage) (core : List Tagged) (r : Regs) (p : Picture) (s : Stands
   other : (home : ℕ) → home ≢ t.home → y.held home ≡ x.held home
   other home n = held-other x.held t.home nowhere home n
 
-  held_there : (u : Thing) → Has things u → y.held u.home ≡ x.held u.home
+  held_there : (u : PagedObject) → Has objects u → y.held u.home ≡ x.held u.home
   held_there u inu = other u.home (d.fewer u inu).1
 
-  -- another thing's chain
-  chain_stays : (u : Thing) → Has things u → ChainStays x y (x.held u.home).chain
+  -- another object's chain
+  chain_stays : (u : PagedObject) → Has objects u → ChainStays x y (x.held u.home).chain
   chain_stays u inu = record { chain = by; told = λ ns e. e } where
     by : chain_of (x.held u.home).chain y.shelf.chains ≡ chain_of (x.held u.home).chain x.shelf.chains
     by = ⊎_elim
@@ -102,21 +90,21 @@ module _ (x : Storage) (core : List Tagged) (r : Regs) (p : Picture) (s : Stands
         (cases_eq (x.held u.home).chain f)
 
   -- and its area
-  area_stays : (u : Thing) → Has things u → (b : ℕ) → (x.held u.home).area ≡ Some b → (x.held t.home).area ≢ Some b
+  area_stays : (u : PagedObject) → Has objects u → (b : ℕ) → (x.held u.home).area ≡ Some b → (x.held t.home).area ≢ Some b
   area_stays u inu b e z =
-      let here = area_of_thing x core r p s u (d.fewer u inu).0 b e in
-      let there = area_of_thing x core r p s t d.there b z in
+      let here = area_of_object x core r p s u (d.fewer u inu).0 b e in
+      let there = area_of_object x core r p s t d.there b z in
       (d.fewer u inu).1 (ap (λ (i : Info). i.owner) (same_Some (info_of x u) (info_of x t) (sym here ∙ there)))
 
   words_low : (i : ℕ) → 160 ≤ i → i < x.low → slice_get new i ≡ slice_get core i
   words_low i down up = v.below i up (λ e. omega arith)
 
-  stands : (k : ℕ) (a : Slot) → slice_get new (slot_base p k) ≡ slice_get core (slot_base p k) → SlotStands core r p k a → SlotStands new r q k a
+  stands : (k : ℕ) (a : Slot) → slice_get new (slot_base p k) ≡ slice_get core (slot_base p k) → RepresentsSlot core r p k a → RepresentsSlot new r q k a
   stands k Free e h = (h.0, e ∙ h.1)
   stands k (Running stack) e h = record { slot = h.slot; first = h.first; last = h.last; top = h.top; mark = h.mark; level = h.level }
   stands k (Waiting stack) e h = (h.0, e ∙ h.1)
 
-  names : (k : ℕ) (a : Slot) → SlotFits q k a → CopiesName things (words k (stack_of a))
+  names : (k : ℕ) (a : Slot) → SlotFits q k a → CopiesName objects (words k (stack_of a))
   names k Free h = λ c home e. absurd e
   names k (Running stack) h = h.1
   names k (Waiting stack) h = h.1
@@ -132,53 +120,53 @@ module _ (x : Storage) (core : List Tagged) (r : Regs) (p : Picture) (s : Stands
       ))
       (s.stacks k hk)
 
-  thing : (u : Thing) → Has things u → ThingStands y new u
-  thing u inu =
+  object : (u : PagedObject) → Has objects u → RepresentsObject y new u
+  object u inu =
       let inp = (d.fewer u inu).0 in
-      let was = s.things u inp in
+      let was = s.objects u inp in
       let it = Content-stays x y u (x.held u.home).chain (chain_stays u inu) core new (x.held u.home).area
-      (λ b e i low high. v.bodies b (info_of x u) (v.stays b (info_of x u) (area_of_thing x core r p s u inp b e) (area_stays u inu b e)) i low high) was.content in
-      let P : Held → Type 0 = λ g. (slice_get new u.home ≡ Some (home_word u g)) × Content y new u g.area g.chain in
+      (λ b e i low high. v.bodies b (info_of x u) (v.stays b (info_of x u) (area_of_object x core r p s u inp b e) (area_stays u inu b e)) i low high) was.content in
+      let P : Location → Type 0 = λ g. (slice_get new u.home ≡ Some (home_word u g)) × Content y new u g.area g.chain in
       let both = subst P (sym (held_there u inu)) (words_low u.home (home_below x core r p s u inp).0 (home_below x core r p s u inp).1 ∙ was.home, it) in
       record { home = both.0; content = both.1 }
 
-  info_there : (u : Thing) → Has things u → info_of x u ≡ info_of y u
-  info_there u inu = ap (λ (h : Held). let a : Info = record { kind = u.kind; words = length u.numbers; owner = u.home; kept = h.chain } in a) (sym (held_there u inu))
+  info_there : (u : PagedObject) → Has objects u → info_of x u ≡ info_of y u
+  info_there u inu = ap (λ (h : Location). let a : Info = record { kind = u.kind; words = length u.numbers; owner = u.home; kept = h.chain } in a) (sym (held_there u inu))
 
-  owned : Owned y things
+  owned : Owned y objects
   owned = record {
     of_area = λ at a e.
         let g = v.gone at a e in
         let o = s.owned.of_area at a g.0 in
         let n : o.0.home ≢ t.home = λ z. g.1 (ap (λ h. (x.held h).area) (sym z) ∙ o.2) in
         let inu = d.rest o.0 o.1 n in
-        (o.0, inu, ap (λ (h : Held). h.area) (other o.0.home n) ∙ o.2, o.3 ∙ info_there o.0 inu);
+        (o.0, inu, ap (λ (h : Location). h.area) (other o.0.home n) ∙ o.2, o.3 ∙ info_there o.0 inu);
     of_held = λ home at e. ⊎_elim
-        (λ (z : home ≡ t.home). absurd (none-some at (sym (ap (λ h. (y.held h).area) z ∙ ap (λ (h : Held). h.area) (held-same x.held t.home nowhere)) ∙ e)))
+        (λ (z : home ≡ t.home). absurd (none-some at (sym (ap (λ h. (y.held h).area) z ∙ ap (λ (h : Location). h.area) (held-same x.held t.home nowhere)) ∙ e)))
         (λ (n : home ≡ t.home → ⊥).
-        let was : (x.held home).area ≡ Some at = sym (ap (λ (h : Held). h.area) (other home n)) ∙ e in
+        let was : (x.held home).area ≡ Some at = sym (ap (λ (h : Location). h.area) (other home n)) ∙ e in
         let o = s.owned.of_held home at was in
         let inu = d.rest o.0 o.1 (λ z. n (sym o.2 ∙ z)) in
-        let r : (u : Thing) × Has things u × (u.home ≡ home) × (area_at y.low y.spans at ≡ Some (info_of y u)) =
+        let r : (u : PagedObject) × Has objects u × (u.home ≡ home) × (area_at y.low y.spans at ≡ Some (info_of y u)) =
         (o.0, inu, o.2, v.stays at (info_of x o.0) o.3 (area_stays o.0 inu at (ap (λ h. (x.held h).area) o.2 ∙ was)) ∙ ap Some (info_there o.0 inu)) in r)
         (cases_eq home t.home);
     of_chain = λ first some.
         let n : first ≢ f = λ z. omega (arith, some, ap length (ap (λ g. chain_of g y.shelf.chains) z ∙ gone)) in
         let o = s.owned.of_chain first (omega (arith, some, ap length (chains_other f first x.shelf n))) in
         let m : o.0.home ≢ t.home = λ z. n (sym o.2 ∙ ap (λ h. (x.held h).chain) z) in
-        (o.0, d.rest o.0 o.1 m, ap (λ (h : Held). h.chain) (other o.0.home m) ∙ o.2);
+        (o.0, d.rest o.0 o.1 m, ap (λ (h : Location). h.chain) (other o.0.home m) ∙ o.2);
     no_zero = ⊎_elim
         (λ (z : f ≡ 0). ap (λ g. chain_of g y.shelf.chains) (sym z) ∙ gone)
         (λ (m : f ≡ 0 → ⊥). chains_other f 0 x.shelf (λ e. m (sym e)) ∙ s.owned.no_zero)
         (cases_eq f 0);
     one_chain = λ a b ina inb some e.
-        let ea = ap (λ (h : Held). h.chain) (held_there a ina) in
-        let eb = ap (λ (h : Held). h.chain) (held_there b inb) in
+        let ea = ap (λ (h : Location). h.chain) (held_there a ina) in
+        let eb = ap (λ (h : Location). h.chain) (held_there b inb) in
         s.owned.one_chain a b (d.fewer a ina).0 (d.fewer b inb).0 (omega (arith, some, ea)) (sym ea ∙ e ∙ eb);
   }
 
-  pub Stands-released : Stands (released x t) new r (of_things p things)
-  Stands-released = record {
+  pub Represents-released : Represents (released x t) new r (of_objects p objects)
+  Represents-released = record {
     slots = record {
       laid = record {
         low = s.slots.laid.low;
@@ -195,7 +183,7 @@ module _ (x : Storage) (core : List Tagged) (r : Regs) (p : Picture) (s : Stands
       slots = λ k hk. stands k (p.slots k) (words_low (slot_base p k) (slot_below x core r p s k hk).0 (base_low x core r p s k hk)) (s.slots.slots k hk);
     };
     stacks = stacks;
-    things = thing;
+    objects = object;
     owned = owned;
     directory = v.directory;
     inside = rw v.size s.inside;

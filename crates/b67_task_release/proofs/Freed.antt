@@ -6,12 +6,12 @@ use Rattle.b67_word.specs.Tagged.{Tagged}
 use Rattle.b67_area.specs.Spans.{Span, area_at, without, but}
 use Rattle.b67_area.specs.Directory.{IsDirectory, OnlyHoles}
 use Rattle.b67_area.proofs.Laws.{OnlyHoles-area, OnlyHoles-below}
-use Rattle.b67_stack.specs.Shapes.{Held}
-use Rattle.b67_stack.specs.Picture.{is_present, address_or}
+use Rattle.b67_stack.specs.Shapes.{Location}
+use Rattle.b67_stack.specs.MachineView.{is_present, address_or}
 use Rattle.b67_task_release.specs.Released.{Vacated}
 
 -- a present one's area
-pub present_area : (h : Held) (present : Bool) (address : ℕ) → not present ≡ false → present ≡ is_present h.area → address ≡ address_or h.area h.chain → h.area ≡ Some address
+pub present_area : (h : Location) (present : Bool) (address : ℕ) → not present ≡ false → present ≡ is_present h.area → address ≡ address_or h.area h.chain → h.area ≡ Some address
 present_area h present address e p a = by h.area (cases_Bool present) p a where
   by : (o : Option ℕ) → (present ≡ true) ⊎ (present ≡ false) → present ≡ is_present o → address ≡ address_or o h.chain → o ≡ Some address
   by (Some at) b p a = ap Some (sym a)

@@ -1,7 +1,7 @@
 -- The arrays that are left, one word after another.
 use Rattle.std.proofs.Common.{◌≡◌, ◌≢◌, ℕ, ◌+◌, ◌<◌, ◌^◌, ◌==◌, List, [], ◌∷◌, ◌++◌, length, Option, Some, None, refl, sym, ◌∙◌, ap, arith, inl, inr, ◌⊎◌, ⊎_elim, Bool, true, false, not, subst, if◌then◌else◌}
 use Rattle.std.specs.List.{slice_get}
-use Rattle.std.proofs.lemmas.Bool.{cases_eq, eq-eqb, ne_eqb, false≢true}
+use Rattle.std.proofs.lemmas.Bool.{cases_eq, eq-eqb, ne_eqb, false≢true, not-true}
 use Rattle.std.proofs.lemmas.Option.{same_Some, none-some}
 use Rattle.b67_word.specs.Tagged.{Tagged}
 use Rattle.b67_area.specs.declared.Areas.{Areas}
@@ -12,22 +12,22 @@ use Rattle.b67_ctl.specs.declared.descriptors.DataDesc.{DataDesc}
 use Rattle.b67_ctl.specs.declared.registers.Regs.{Regs}
 use Rattle.b67_ctl.specs.Descriptors.{data_word, IsDataDesc}
 use Rattle.b67_lemmas.specs.Lists.{Has}
-use Rattle.b67_law_order.proofs.Members.{has_append_left, has_append_right, has_append_cases}
+use Rattle.b67_lemmas.proofs.Members.{has_append_cases, has_append_left, has_append_right}
 use Rattle.b67_stack.specs.declared.Cpu.{Cpu}
-use Rattle.b67_stack.specs.Shapes.{Held, IsOriginal}
-use Rattle.b67_stack.specs.Picture.{Thing, Picture, Slot, Free, Running, Waiting, SlotFits, is_present, address_or, home_desc, home_word_of}
-use Rattle.b67_stack.specs.Stands.{Storage, Stands, info_of}
+use Rattle.b67_stack.specs.Shapes.{Location, IsOriginal, nowhere}
+use Rattle.b67_stack.specs.MachineView.{PagedObject, MachineView, Slot, Free, Running, Waiting, SlotFits, is_present, address_or, home_desc, home_word_of}
+use Rattle.b67_stack.specs.Represents.{Storage, Represents, info_of}
 use Rattle.b67_stack.proofs.Homes.{same_desc, chain_small}
-use Rattle.b67_layout_storage.specs.Machine.{MachineStands}
+use Rattle.b67_layout_storage.specs.Machine.{MachineRepresentsView}
 use Rattle.b67_layout_storage.proofs.Helds.{held-other, held-same}
-use Rattle.b67_layout_storage.proofs.Unchanged.{area_of_thing, area_bounds}
+use Rattle.b67_layout_storage.proofs.Unchanged.{area_of_object, area_bounds}
 use Rattle.b67_layout_storage.proofs.Words.{original_of_home}
-use Rattle.b67_layout.specs.Session.{with_things}
-use Rattle.b67_task_release.specs.Released.{nowhere, released, of_things, Drops, Finds, SameBelow, HasHome, Released, AreLeft, Remains}
+use Rattle.b67_layout.specs.Session.{with_objects}
+use Rattle.b67_task_release.specs.Released.{released, of_objects, Drops, Finds, SameBelow, HasHome, Released, AreLeft, Remains}
 use Rattle.b67_task_release.proofs.Dropped.{chains_other, chains_gone, has_chain}
 
 -- the word of an array's original, as a descriptor
-record HomeDesc (k : Kind) (n : ℕ) (h : Held) : Type 0 where
+record HomeDesc (k : Kind) (n : ℕ) (h : Location) : Type 0 where
   desc : DataDesc
   fits : IsDataDesc desc
   is : home_word_of k n h ≡ data_word desc
@@ -38,29 +38,25 @@ home_fits : (read_only : Bool) (n : ℕ) (a : Option ℕ) (f : ℕ) → n < 2 ^ 
 home_fits read_only n (Some b) f small chain area = record { words = small; address = area b refl; indexed = λ z. absurd (false≢true z) }
 home_fits read_only n None f small chain area = record { words = small; address = chain; indexed = λ z. absurd (false≢true z) }
 
-home_desc_of : (k : Kind) (n : ℕ) (h : Held) → k ≢ Code → n < 2 ^ 20 → h.chain < 2 ^ 20 → ((b : ℕ) → h.area ≡ Some b → b < 2 ^ 20) → HomeDesc k n h
+home_desc_of : (k : Kind) (n : ℕ) (h : Location) → k ≢ Code → n < 2 ^ 20 → h.chain < 2 ^ 20 → ((b : ℕ) → h.area ≡ Some b → b < 2 ^ 20) → HomeDesc k n h
 home_desc_of Array n h ne small chain area = record { desc = home_desc false n h; fits = home_fits false n h.area h.chain small chain area; is = refl; present = refl; address = refl }
 home_desc_of Row n h ne small chain area = record { desc = home_desc true n h; fits = home_fits true n h.area h.chain small chain area; is = refl; present = refl; address = refl }
 home_desc_of Code n h ne small chain area = absurd (ne refl)
 
-module _ (x : Storage) (core : List Tagged) (r : Regs) (p : Picture) (s : Stands x core r p) (t : Thing) (int : Has p.things t) (array : t.kind ≢ Code) where
+module _ (x : Storage) (core : List Tagged) (r : Regs) (p : MachineView) (s : Represents x core r p) (t : PagedObject) (int : Has p.objects t) (array : t.kind ≢ Code) where
   -- the descriptor at an array's home tells how it is held
   pub finds : (w : Tagged) (d : DataDesc) → slice_get core t.home ≡ Some w → IsDataDesc d → w ≡ data_word d → Finds x.low x.spans (x.held t.home) d
   finds w d get fits is =
-      let e = home_desc_of t.kind (length t.numbers) (x.held t.home) array (omega (arith, (s.slots.laid.lengths t int).1)) (chain_small x core t (x.held t.home).area (x.held t.home).chain (s.things t int).content)
+      let e = home_desc_of t.kind (length t.numbers) (x.held t.home) array (omega (arith, (s.slots.laid.lengths t int).1)) (chain_small x core t (x.held t.home).area (x.held t.home).chain (s.objects t int).content)
       (λ b e. omega (arith, (area_bounds x core r p s t int b e).1, s.directory.small)) in
-      let same = same_desc d e.desc fits e.fits (sym is ∙ same_Some _ _ (sym get ∙ (s.things t int).home) ∙ e.is) in
-      record { present = same.present ∙ e.present; address = same.address ∙ e.address; area = λ at a. (info_of x t, area_of_thing x core r p s t int at a, refl) }
+      let same = same_desc d e.desc fits e.fits (sym is ∙ same_Some _ _ (sym get ∙ (s.objects t int).home) ∙ e.is) in
+      record { present = same.present ∙ e.present; address = same.address ∙ e.address; area = λ at a. (info_of x t, area_of_object x core r p s t int at a, refl) }
 
   -- and is an original
   pub is_original : (w : Tagged) → slice_get core t.home ≡ Some w → IsOriginal w
   is_original w get =
       let P : Tagged → Type 0 = λ v. IsOriginal v in
-      subst P (same_Some _ _ (sym (s.things t int).home ∙ get)) (original_of_home x core r p s t int array)
-
-no_copy : (b : Bool) → not b ≡ true → b ≡ false
-no_copy false e = refl
-no_copy true e = absurd (false≢true e)
+      subst P (same_Some _ _ (sym (s.objects t int).home ∙ get)) (original_of_home x core r p s t int array)
 
 -- a copy is no original
 pub copy_none : (w : Tagged) (d : DataDesc) → IsDataDesc d → w ≡ data_word d → not d.copy ≡ false → IsOriginal w → ⊥
@@ -72,24 +68,24 @@ copy_none w d fits is copy o =
 pub other_none : (w : Tagged) (r : Option DataDesc) → ((d : DataDesc) → IsDataDesc d → w ≡ data_word d → r ≡ Some d) → r ≡ None → IsOriginal w → ⊥
 other_none w r known none o = none-some o.desc (sym none ∙ known o.desc o.fits o.is)
 
--- the things but for those of a home
-abbrev without_home : ℕ → List Thing → List Thing
+-- the objects but for those of a home
+abbrev without_home : ℕ → List PagedObject → List PagedObject
 without_home home [] = []
 without_home home (t ∷ ts) = if t.home == home then without_home home ts else t ∷ without_home home ts
 
-without_home-in : (home : ℕ) (ts : List Thing) (t : Thing) → Has (without_home home ts) t → Has ts t × (t.home ≢ home)
+without_home-in : (home : ℕ) (ts : List PagedObject) (t : PagedObject) → Has (without_home home ts) t → Has ts t × (t.home ≢ home)
 without_home-in home [] t h = absurd h
 without_home-in home (u ∷ us) t h = ⊎_elim
     (λ (e : u.home ≡ home). let r = without_home-in home us t (rw (eq-eqb u.home home e) at h) in let q : Has (u ∷ us) t × (t.home ≢ home) = (inr r.0, r.1) in q)
     (λ (n : u.home ≡ home → ⊥). ⊎_elim
-    (λ (e : u ≡ t). let q : Has (u ∷ us) t × (t.home ≢ home) = (inl e, λ z. n (ap (λ (v : Thing). v.home) e ∙ z)) in q)
+    (λ (e : u ≡ t). let q : Has (u ∷ us) t × (t.home ≢ home) = (inl e, λ z. n (ap (λ (v : PagedObject). v.home) e ∙ z)) in q)
     (λ (k : Has (without_home home us) t). let r = without_home-in home us t k in let q : Has (u ∷ us) t × (t.home ≢ home) = (inr r.0, r.1) in q)
     (rw (ne_eqb u.home home n) at h))
     (cases_eq u.home home)
 
-without_home-there : (home : ℕ) (ts : List Thing) (t : Thing) → Has ts t → t.home ≢ home → Has (without_home home ts) t
+without_home-there : (home : ℕ) (ts : List PagedObject) (t : PagedObject) → Has ts t → t.home ≢ home → Has (without_home home ts) t
 without_home-there home [] t h n = absurd h
-without_home-there home (u ∷ us) t (inl e) n = rw (ne_eqb u.home home (λ z. n (sym (ap (λ (v : Thing). v.home) e) ∙ z))) (inl e)
+without_home-there home (u ∷ us) t (inl e) n = rw (ne_eqb u.home home (λ z. n (sym (ap (λ (v : PagedObject). v.home) e) ∙ z))) (inl e)
 without_home-there home (u ∷ us) t (inr k) n = ⊎_elim
     (λ (e : u.home ≡ home). rw (eq-eqb u.home home e) (without_home-there home us t k n))
     (λ (m : u.home ≡ home → ⊥). rw (ne_eqb u.home home m) (inr (without_home-there home us t k n)))
@@ -120,9 +116,9 @@ Released-then P Q R x y z apart cases left right a b = record {
       (cases home g);
   free = λ home g. ⊎_elim
       (λ (q : P home). b.no_more (x.held home).chain (a.free home q))
-      (λ (q : Q home). ap (λ (h : Held). chain_of h.chain z.shelf.chains) (sym (a.others home (λ m. apart home m q))) ∙ b.free home q)
+      (λ (q : Q home). ap (λ (h : Location). chain_of h.chain z.shelf.chains) (sym (a.others home (λ m. apart home m q))) ∙ b.free home q)
       (cases home g);
-  chains = λ first n. b.chains first (λ home q e. n home (right home q) (ap (λ (h : Held). h.chain) (sym (a.others home (λ m. apart home m q))) ∙ e)) ∙ a.chains first (λ home q. n home (left home q));
+  chains = λ first n. b.chains first (λ home q e. n home (right home q) (ap (λ (h : Location). h.chain) (sym (a.others home (λ m. apart home m q))) ∙ e)) ∙ a.chains first (λ home q. n home (left home q));
   no_more = λ first e. b.no_more first (a.no_more first e);
 }
 
@@ -138,7 +134,7 @@ Released-same P Q x y to from a = record {
 }
 
 -- one array
-pub Released-one : (x : Storage) (core : List Tagged) (r : Regs) (p : Picture) (table : Table) → Stands x core r p → IsShelf table x.shelf → (t : Thing) → Has p.things t
+pub Released-one : (x : Storage) (core : List Tagged) (r : Regs) (p : MachineView) (table : Table) → Represents x core r p → IsShelf table x.shelf → (t : PagedObject) → Has p.objects t
     → (Gone : ℕ → Type 0) → Gone t.home → ((home : ℕ) → Gone home → home ≡ t.home) → Released Gone x (released x t)
 Released-one x core r p table s sh t int Gone here only = record {
   low = refl;
@@ -158,20 +154,20 @@ Released-one x core r p table s sh t int Gone here only = record {
   gone : chain_of f (released x t).shelf.chains ≡ []
   gone = chains_gone table f x.shelf sh s.owned.no_zero (has_chain x core r p s t int)
 
-fits_more : (p : Picture) (more : List Thing) (k : ℕ) (slot : Slot) → SlotFits p k slot → SlotFits (of_things p (more ++ p.things)) k slot
+fits_more : (p : MachineView) (more : List PagedObject) (k : ℕ) (slot : Slot) → SlotFits p k slot → SlotFits (of_objects p (more ++ p.objects)) k slot
 fits_more p more k Free f = f
-fits_more p more k (Running stack) f = (f.0, λ c home h. let (t, i, e, n) = f.1 c home h in (t, has_append_right more p.things t i, e, n))
-fits_more p more k (Waiting stack) f = (f.0, λ c home h. let (t, i, e, n) = f.1 c home h in (t, has_append_right more p.things t i, e, n))
+fits_more p more k (Running stack) f = (f.0, λ c home h. let (t, i, e, n) = f.1 c home h in (t, has_append_right more p.objects t i, e, n))
+fits_more p more k (Waiting stack) f = (f.0, λ c home h. let (t, i, e, n) = f.1 c home h in (t, has_append_right more p.objects t i, e, n))
 
-module _ (x : Storage) (cpu : Cpu) (areas : Areas) (table : Table) (told : Option (List (List ℕ))) (p : Picture) (left : List Thing) (at upto : ℕ)
-    (m : MachineStands x cpu areas table told (with_things left p)) (l : AreLeft p cpu.core at upto left) where
-  pub in_all : (t : Thing) → Has left t → Has (left ++ p.things) t
-  in_all t h = has_append_left left p.things t h
+module _ (x : Storage) (cpu : Cpu) (areas : Areas) (table : Table) (told : Option (List (List ℕ))) (p : MachineView) (left : List PagedObject) (at upto : ℕ)
+    (m : MachineRepresentsView x cpu areas table told (with_objects left p)) (l : AreLeft p cpu.core at upto left) where
+  pub in_all : (t : PagedObject) → Has left t → Has (left ++ p.objects) t
+  in_all t h = has_append_left left p.objects t h
 
   -- a word that is no original
   pub remains_none : (w : Tagged) → slice_get cpu.core at ≡ Some w → (IsOriginal w → ⊥) → Remains (λ home. (home ≡ at) × HasHome left home) x x p cpu.core cpu.core (at + 1) upto left left
   remains_none w get no_one =
-      let not_here : (t : Thing) → Has left t → t.home ≢ at = λ t int e. no_one (is_original x cpu.core cpu.regs (with_things left p) m.stands t (in_all t int) (l.arrays t int) w (ap (slice_get cpu.core) e ∙ get)) in
+      let not_here : (t : PagedObject) → Has left t → t.home ≢ at = λ t int e. no_one (is_original x cpu.core cpu.regs (with_objects left p) m.stands t (in_all t int) (l.arrays t int) w (ap (slice_get cpu.core) e ∙ get)) in
       record {
         released = Released-none (λ home. (home ≡ at) × HasHome left home) x (λ home g. not_here g.1.0 g.1.1 (g.1.2 ∙ g.0));
         among = λ t h. h;
@@ -190,33 +186,33 @@ module _ (x : Storage) (cpu : Cpu) (areas : Areas) (table : Table) (told : Optio
 
   -- a word that is one
   pub one_left : (w : Tagged) (d : DataDesc) → slice_get cpu.core at ≡ Some w → IsDataDesc d → w ≡ data_word d → not d.copy ≡ true → at < upto
-      → (t : Thing) × Has left t × (t.home ≡ at) × Finds x.low x.spans (x.held t.home) d
+      → (t : PagedObject) × Has left t × (t.home ≡ at) × Finds x.low x.spans (x.held t.home) d
   one_left w d get fits is own inside =
-      let o : IsOriginal w = record { desc = d; fits = fits; own = no_copy d.copy own; is = is } in
+      let o : IsOriginal w = record { desc = d; fits = fits; own = not-true d.copy own; is = is } in
       let r = l.each at w (omega arith) inside get o in
-      (r.0, r.1, r.2, finds x cpu.core cpu.regs (with_things left p) m.stands r.0 (in_all r.0 r.1) (l.arrays r.0 r.1) w d (ap (slice_get cpu.core) r.2 ∙ get) fits is)
+      (r.0, r.1, r.2, finds x cpu.core cpu.regs (with_objects left p) m.stands r.0 (in_all r.0 r.1) (l.arrays r.0 r.1) w d (ap (slice_get cpu.core) r.2 ∙ get) fits is)
 
-  module _ (t : Thing) (int : Has left t) (home : t.home ≡ at) where
-    abbrev pub rest : List Thing
+  module _ (t : PagedObject) (int : Has left t) (home : t.home ≡ at) where
+    abbrev pub rest : List PagedObject
     rest = without_home at left
 
-    pub drops : Drops (with_things left p) t (rest ++ p.things)
+    pub drops : Drops (with_objects left p) t (rest ++ p.objects)
     drops = record {
       there = in_all t int;
       fewer = λ u h. ⊎_elim
-          (λ (a : Has rest u). let r = without_home-in at left u a in let q : Has (left ++ p.things) u × (u.home ≢ t.home) = (in_all u r.0, λ e. r.1 (e ∙ home)) in q)
-          (λ (a : Has p.things u). let q : Has (left ++ p.things) u × (u.home ≢ t.home) = (has_append_right left p.things u a, l.alone t u int a) in q)
-          (has_append_cases rest p.things u h);
+          (λ (a : Has rest u). let r = without_home-in at left u a in let q : Has (left ++ p.objects) u × (u.home ≢ t.home) = (in_all u r.0, λ e. r.1 (e ∙ home)) in q)
+          (λ (a : Has p.objects u). let q : Has (left ++ p.objects) u × (u.home ≢ t.home) = (has_append_right left p.objects u a, l.alone t u int a) in q)
+          (has_append_cases rest p.objects u h);
       rest = λ u h n. ⊎_elim
-          (λ (a : Has left u). has_append_left rest p.things u (without_home-there at left u a (λ e. n (e ∙ sym home))))
-          (λ (a : Has p.things u). has_append_right rest p.things u a)
-          (has_append_cases left p.things u h);
+          (λ (a : Has left u). has_append_left rest p.objects u (without_home-there at left u a (λ e. n (e ∙ sym home))))
+          (λ (a : Has p.objects u). has_append_right rest p.objects u a)
+          (has_append_cases left p.objects u h);
       fits = λ k hk. fits_more p rest k (p.slots k) (l.fits k hk);
     }
 
     pub remains_one : (new : List Tagged) → SameBelow x.low cpu.core new → Remains (λ h. (h ≡ at) × HasHome left h) x (released x t) p cpu.core new (at + 1) upto left rest
     remains_one new same = record {
-      released = Released-one x cpu.core cpu.regs (with_things left p) table m.stands m.shelf t (in_all t int) (λ h. (h ≡ at) × HasHome left h) (home, (t, int, refl)) (λ h g. g.0 ∙ sym home);
+      released = Released-one x cpu.core cpu.regs (with_objects left p) table m.stands m.shelf t (in_all t int) (λ h. (h ≡ at) × HasHome left h) (home, (t, int, refl)) (λ h g. g.0 ∙ sym home);
       among = λ u h. (without_home-in at left u h).0;
       others = λ u h n. without_home-there at left u h (λ e. omega arith);
       still = record {
@@ -235,7 +231,7 @@ module _ (x : Storage) (cpu : Cpu) (areas : Areas) (table : Table) (told : Optio
     }
 
 -- the words up to here, and the next one
-pub Remains-then : (x y z : Storage) (p : Picture) (old mid new : List Tagged) (at upto : ℕ) (left rest more : List Thing)
+pub Remains-then : (x y z : Storage) (p : MachineView) (old mid new : List Tagged) (at upto : ℕ) (left rest more : List PagedObject)
     → Remains (λ home. (home < at) × HasHome left home) x y p old mid at upto left rest
     → Remains (λ home. (home ≡ at) × HasHome rest home) y z p mid new (at + 1) upto rest more
     → Remains (λ home. (home < at + 1) × HasHome left home) x z p old new (at + 1) upto left more
@@ -255,21 +251,21 @@ Remains-then x y z p old mid new at upto left rest more a b = record {
   below = λ i h n. b.below i (let e = a.released.low in omega (arith, e)) n ∙ a.below i h n;
 }
 
-no_rest : (upto : ℕ) (p : Picture) (core : List Tagged) (rest : List Thing) → AreLeft p core upto upto rest → rest ≡ []
+no_rest : (upto : ℕ) (p : MachineView) (core : List Tagged) (rest : List PagedObject) → AreLeft p core upto upto rest → rest ≡ []
 no_rest upto p core [] l = refl
 no_rest upto p core (t ∷ ts) l = let b = l.among t (inl refl) in absurd (omega (arith, b.0, b.1))
 
 -- all of them
-pub remains_all : (x y : Storage) (cpu : Cpu) (areas : Areas) (table : Table) (told : Option (List (List ℕ))) (p : Picture) (old : List Tagged) (from upto : ℕ) (left rest : List Thing) → AreLeft p old from upto left
-    → MachineStands y cpu areas table told (with_things rest p) → Remains (λ home. (home < upto) × HasHome left home) x y p old cpu.core upto upto left rest
-    → Released (HasHome left) x y × MachineStands y cpu areas table told p × SameBelow x.low old cpu.core
+pub remains_all : (x y : Storage) (cpu : Cpu) (areas : Areas) (table : Table) (told : Option (List (List ℕ))) (p : MachineView) (old : List Tagged) (from upto : ℕ) (left rest : List PagedObject) → AreLeft p old from upto left
+    → MachineRepresentsView y cpu areas table told (with_objects rest p) → Remains (λ home. (home < upto) × HasHome left home) x y p old cpu.core upto upto left rest
+    → Released (HasHome left) x y × MachineRepresentsView y cpu areas table told p × SameBelow x.low old cpu.core
 remains_all x y cpu areas table told p old from upto left rest l m r = (
   Released-same (λ home. (home < upto) × HasHome left home) (HasHome left) x y (λ home g. g.1) (λ home g. (omega (arith, (l.among g.0 g.1).1, g.2), g)) r.released,
-  subst (λ (ts : List Thing). MachineStands y cpu areas table told (with_things ts p)) (no_rest upto p cpu.core rest r.still) m,
+  subst (λ (ts : List PagedObject). MachineRepresentsView y cpu areas table told (with_objects ts p)) (no_rest upto p cpu.core rest r.still) m,
   r.below,
 )
 
-pub remains_start : (x : Storage) (p : Picture) (core : List Tagged) (from upto : ℕ) (left : List Thing) → AreLeft p core from upto left → Remains (λ home. (home < from) × HasHome left home) x x p core core from upto left left
+pub remains_start : (x : Storage) (p : MachineView) (core : List Tagged) (from upto : ℕ) (left : List PagedObject) → AreLeft p core from upto left → Remains (λ home. (home < from) × HasHome left home) x x p core core from upto left left
 remains_start x p core from upto left l = record {
   released = Released-none (λ home. (home < from) × HasHome left home) x (λ home g. omega (arith, g.0, (l.among g.1.0 g.1.1).0, g.1.2));
   among = λ t h. h;

@@ -4,52 +4,52 @@ use Rattle.b67_area.specs.declared.Areas.{Areas}
 use Rattle.b67_backing.specs.Shelf.{Table}
 use Rattle.b67_ctl.specs.declared.registers.Regs.{Regs}
 use Rattle.b67_lemmas.specs.Lists.{Has}
-use Rattle.b67_model.specs.State.{Task, Member}
+use Rattle.b67_lemmas.proofs.Members.{keyed-has}
+use Rattle.b67_model.specs.State.{Task, SessionJob}
 use Rattle.b67_model.specs.Run.{number_of}
 use Rattle.b67_model.specs.Schedule.{Session}
 use Rattle.b67_stack.specs.declared.Cpu.{Cpu}
-use Rattle.b67_stack.specs.Stacks.{high}
-use Rattle.b67_stack.specs.Picture.{Thing, Picture, Slot, stack_of, slot_base}
-use Rattle.b67_stack.specs.Stands.{Storage, Stands}
+use Rattle.b67_stack.specs.Stacks.{stack_words}
+use Rattle.b67_stack.specs.MachineView.{PagedObject, MachineView, Slot, stack_of, slot_base}
+use Rattle.b67_stack.specs.Represents.{Storage, Represents}
 use Rattle.b67_stack.proofs.Bases.{base-apart}
 use Rattle.b67_stack.proofs.Slots.{running_slot}
-use Rattle.b67_layout_storage.specs.Machine.{MachineStands, Says}
+use Rattle.b67_layout_storage.specs.Machine.{MachineRepresentsView, Says}
 use Rattle.b67_layout_storage.proofs.Below.{not_heads}
-use Rattle.b67_layout.specs.Plan.{Plan}
-use Rattle.b67_layout.specs.Layout.{picture, stack_of_task}
-use Rattle.b67_layout.specs.Session.{with_things, StorageStands}
-use Rattle.b67_layout.proofs.Others.{keyed-has}
+use Rattle.b67_layout.specs.Placement.{Placement}
+use Rattle.b67_layout.specs.Layout.{machine_view, stack_of_task}
+use Rattle.b67_layout.specs.Session.{with_objects, RepresentsStorage}
 use Rattle.b67_layout.proofs.Rows.{runs_on}
 use Rattle.b67_layout_step.proofs.Alike.{AllAlike}
-use Rattle.b67_layout_step.proofs.Paged.{SessionStands-over}
+use Rattle.b67_layout_step.proofs.Paged.{RepresentsSession-over}
 use Rattle.b67_task_release.specs.Released.{HasHome, Released, SameBelow, AreLeft}
 use Rattle.b67_task_release.specs.Left.{IsLeft, AreReleased}
 use Rattle.b67_task_release.proofs.Copies.{slots_fit}
 
-same_jobs : (ms : List Member) → AllAlike ms ms
+same_jobs : (ms : List SessionJob) → AllAlike ms ms
 same_jobs [] = tt
 same_jobs (m ∷ ms) = (record { number = refl; stack_size = refl; dictionary = refl; count = refl; tasks = refl }, same_jobs ms)
 
 -- where the running stack's top is, and its slot's end
-pub record TopIs (p : Picture) (r : Regs) : Type 0 where
+pub record TopIs (p : MachineView) (r : Regs) : Type 0 where
   pub slot : ℕ
   pub used : slot < p.peak
-  pub top : r.s ≡ slot_base p slot + high (stack_of (p.slots slot))
+  pub top : r.s ≡ slot_base p slot + stack_words (stack_of (p.slots slot))
   pub last : r.losr + 1 ≡ slot_base p slot + p.size
 
-module _ (left : List Thing) (x : Storage) (cpu : Cpu) (plan : Plan) (s : Session) (from upto : ℕ) (l : IsLeft left x cpu plan s from upto) where
-  abbrev p : Picture
-  p = picture plan s.jobs
+module _ (left : List PagedObject) (x : Storage) (cpu : Cpu) (plan : Placement) (s : Session) (from upto : ℕ) (l : IsLeft left x cpu plan s from upto) where
+  abbrev p : MachineView
+  p = machine_view plan s.jobs
 
   top_is : TopIs p cpu.regs
   top_is =
       let (m, t, runs) = l.stands.holds.live l.runs in
-      let on = runs_on plan s.jobs m t l.stands.holds.fits.rows (keyed-has number_of m.setting.number s.jobs m runs.member) (keyed-has (λ (u : Task). u.number) t.number m.course.job.tasks t runs.task) runs.slot runs.member runs.task in
-      let stack = stack_of_task plan m.setting.number m.course.job plan.running t in
-      let r = running_slot x cpu.core cpu.regs (with_things left p) plan.running stack l.stands.holds.memory (record { used = on.used; is = on.is }) in
-      record { slot = plan.running; used = on.used; top = r.top ∙ ap (λ (a : Slot). slot_base p plan.running + high (stack_of a)) (sym on.is); last = r.last }
+      let on = runs_on plan s.jobs m t l.stands.holds.fits.rows (keyed-has number_of m.constants.number s.jobs m runs.member) (keyed-has (λ (u : Task). u.number) t.number m.progress.job.tasks t runs.task) runs.slot runs.member runs.task in
+      let stack = stack_of_task plan m.constants.number m.progress.job plan.running t in
+      let r = running_slot x cpu.core cpu.regs (with_objects left p) plan.running stack l.stands.holds.memory (record { used = on.used; is = on.is }) in
+      record { slot = plan.running; used = on.used; top = r.top ∙ ap (λ (a : Slot). slot_base p plan.running + stack_words (stack_of a)) (sym on.is); last = r.last }
 
-  alone : (t u : Thing) → Has left t → Has p.things u → u.home ≢ t.home
+  alone : (t u : PagedObject) → Has left t → Has p.objects u → u.home ≢ t.home
   alone t u int inu e =
       let k = top_is in
       let a = l.among t int in
@@ -66,22 +66,22 @@ module _ (left : List Thing) (x : Storage) (cpu : Cpu) (plan : Plan) (s : Sessio
     fits = λ k hk. slots_fit plan s l.frames left k (l.stands.holds.memory.slots.laid.slots k hk);
   }
 
-  module _ (areas : Areas) (table : Table) (told : Option (List (List ℕ))) (b : StorageStands areas table told cpu.core x) where
+  module _ (areas : Areas) (table : Table) (told : Option (List (List ℕ))) (b : RepresentsStorage areas table told cpu.core x) where
     says : (d : Option (List (List ℕ))) → told ≡ d → Says d told
     says None e = tt
     says (Some all) e = e
 
-    pub machine_left : MachineStands x cpu areas table told (with_things left p)
+    pub machine_left : MachineRepresentsView x cpu areas table told (with_objects left p)
     machine_left = record { stands = l.stands.holds.memory; low = b.low; shelf = b.shelf; device = says x.device b.device }
 
-    pub all_released : (new : Cpu) (after : Areas) (now : Table) (y : Storage) → new ≡ record cpu { core = new.core } → length new.core ≡ length cpu.core → after ≡ areas → Released (HasHome left) x y → MachineStands y new after now told p → SameBelow x.low cpu.core new.core
+    pub all_released : (new : Cpu) (after : Areas) (now : Table) (y : Storage) → new ≡ record cpu { core = new.core } → length new.core ≡ length cpu.core → after ≡ areas → Released (HasHome left) x y → MachineRepresentsView y new after now told p → SameBelow x.low cpu.core new.core
         → AreReleased left x cpu new after now told plan s
     all_released new after now y rest len same r m below = record {
       storage = y;
       released = r;
-      stands = SessionStands-over left [] x y cpu new plan s s l.stands (same_jobs s.jobs) refl
+      stands = RepresentsSession-over left [] x y cpu new plan s s l.stands (same_jobs s.jobs) refl
           (ap (λ (z : Cpu). z.regs) rest) (ap (λ (z : Cpu). z.display) rest) (ap (λ (z : Cpu). z.critical) rest)
-          (subst (λ (q : Regs). Stands y new.core q p) (ap (λ (z : Cpu). z.regs) rest) m.stands)
+          (subst (λ (q : Regs). Represents y new.core q p) (ap (λ (z : Cpu). z.regs) rest) m.stands)
           l.stands.holds.settled
           (λ i low out apart. below i (omega (arith, low, l.stands.holds.memory.slots.laid.low)) (not_heads i out));
       beside = record { low = m.low; size = ap (λ (a : Areas). a.size) same ∙ b.size ∙ sym len; shelf = m.shelf; device = b.device ∙ sym r.device };

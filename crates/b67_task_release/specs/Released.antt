@@ -8,14 +8,10 @@ use Rattle.b67_area.specs.declared.Kind.TheVariants.{Code}
 use Rattle.b67_backing.specs.Shelf.{Shelf, given, chain_of}
 use Rattle.b67_ctl.specs.declared.descriptors.DataDesc.{DataDesc}
 use Rattle.b67_lemmas.specs.Lists.{Has}
-use Rattle.b67_stack.specs.Shapes.{Held, IsOriginal}
-use Rattle.b67_stack.specs.Picture.{Thing, Picture, SlotFits, slot_base, is_present, address_or}
-use Rattle.b67_stack.specs.Stands.{Storage}
+use Rattle.b67_stack.specs.Shapes.{Location, IsOriginal, nowhere}
+use Rattle.b67_stack.specs.MachineView.{PagedObject, MachineView, SlotFits, slot_base, is_present, address_or}
+use Rattle.b67_stack.specs.Represents.{Storage}
 use Rattle.b67_layout_storage.specs.Machine.{with_held}
-
--- in no area and in no chain
-abbrev pub nowhere : Held
-nowhere = record { area = None; chain = 0 }
 
 -- the spans without an area, if there is one, and a shelf where a chain is free, if there is one
 abbrev pub without_area : ℕ → Option ℕ → List Span → List Span
@@ -26,26 +22,26 @@ abbrev pub without_chain : ℕ → Shelf → Shelf
 without_chain first shelf = if first == 0 then shelf else given first shelf
 
 -- the storage where the area and the chain of an array are free
-abbrev pub released : Storage → Thing → Storage
+abbrev pub released : Storage → PagedObject → Storage
 released x t = record x {
   held = with_held x.held t.home nowhere;
   spans = without_area x.low (x.held t.home).area x.spans;
   shelf = without_chain (x.held t.home).chain x.shelf;
 }
 
--- the picture with these things
-abbrev pub of_things : Picture → List Thing → Picture
-of_things p things = record p { things = things }
+-- the view with these objects
+abbrev pub of_objects : MachineView → List PagedObject → MachineView
+of_objects p objects = record p { objects = objects }
 
--- the things but for one, which no word of a stack is a copy of
-pub record Drops (p : Picture) (t : Thing) (things : List Thing) : Type 0 where
-  pub there : Has p.things t
-  pub fewer : (u : Thing) → Has things u → Has p.things u × (u.home ≢ t.home)
-  pub rest : (u : Thing) → Has p.things u → u.home ≢ t.home → Has things u
-  pub fits : (k : ℕ) → k < p.peak → SlotFits (of_things p things) k (p.slots k)
+-- the objects but for one, which no word of a stack is a copy of
+pub record Drops (p : MachineView) (t : PagedObject) (objects : List PagedObject) : Type 0 where
+  pub there : Has p.objects t
+  pub fewer : (u : PagedObject) → Has objects u → Has p.objects u × (u.home ≢ t.home)
+  pub rest : (u : PagedObject) → Has p.objects u → u.home ≢ t.home → Has objects u
+  pub fits : (k : ℕ) → k < p.peak → SlotFits (of_objects p objects) k (p.slots k)
 
 -- the fields of an original by which its array is found: it is held so, and its area's tail says its chain
-pub record Finds (low : ℕ) (spans : List Span) (h : Held) (original : DataDesc) : Type 0 where
+pub record Finds (low : ℕ) (spans : List Span) (h : Location) (original : DataDesc) : Type 0 where
   pub present : original.present ≡ is_present h.area
   pub address : original.address ≡ address_or h.area h.chain
   pub area : (at : ℕ) → h.area ≡ Some at → (a : Info) × (area_at low spans at ≡ Some a) × (a.kept ≡ h.chain)
@@ -63,9 +59,9 @@ pub record Vacated (low : ℕ) (area : Option ℕ) (spans : List Span) (core new
   pub stays : (b : ℕ) (i : Info) → area_at low spans b ≡ Some i → area ≢ Some b → area_at low (without_area low area spans) b ≡ Some i
   pub size : length new ≡ length core
 
--- the homes of things
-abbrev pub HasHome : List Thing → ℕ → Type 0
-HasHome left home = (t : Thing) × Has left t × (t.home ≡ home)
+-- the homes of objects
+abbrev pub HasHome : List PagedObject → ℕ → Type 0
+HasHome left home = (t : PagedObject) × Has left t × (t.home ≡ home)
 
 -- the arrays of some homes, and no others, are nowhere: their chains are free, and all other chains are as they were
 pub record Released (Gone : ℕ → Type 0) (x y : Storage) : Type 0 where
@@ -77,21 +73,21 @@ pub record Released (Gone : ℕ → Type 0) (x y : Storage) : Type 0 where
   pub chains : (first : ℕ) → ((home : ℕ) → Gone home → (x.held home).chain ≢ first) → chain_of first y.shelf.chains ≡ chain_of first x.shelf.chains
   pub no_more : (first : ℕ) → chain_of first x.shelf.chains ≡ [] → chain_of first y.shelf.chains ≡ []
 
--- arrays are left in a part of a stack's slot: its originals are theirs, no thing of the picture has an original of them,
+-- arrays are left in a part of a stack's slot: its originals are theirs, no object of the view has an original of them,
 -- and no word of a stack is a copy of them
-pub record AreLeft (p : Picture) (core : List Tagged) (from upto : ℕ) (left : List Thing) : Type 0 where
+pub record AreLeft (p : MachineView) (core : List Tagged) (from upto : ℕ) (left : List PagedObject) : Type 0 where
   pub low : p.stacks ≤ from
   pub high : upto ≤ slot_base p p.peak
   pub each : (i : ℕ) (w : Tagged) → from ≤ i → i < upto → slice_get core i ≡ Some w → IsOriginal w → HasHome left i
-  pub among : (t : Thing) → Has left t → (from ≤ t.home) × (t.home < upto)
-  pub arrays : (t : Thing) → Has left t → t.kind ≢ Code
-  pub alone : (t u : Thing) → Has left t → Has p.things u → u.home ≢ t.home
+  pub among : (t : PagedObject) → Has left t → (from ≤ t.home) × (t.home < upto)
+  pub arrays : (t : PagedObject) → Has left t → t.kind ≢ Code
+  pub alone : (t u : PagedObject) → Has left t → Has p.objects u → u.home ≢ t.home
   pub fits : (k : ℕ) → k < p.peak → SlotFits p k (p.slots k)
 
 -- what is still left when some are gone
-pub record Remains (Gone : ℕ → Type 0) (x y : Storage) (p : Picture) (old new : List Tagged) (next upto : ℕ) (left rest : List Thing) : Type 0 where
+pub record Remains (Gone : ℕ → Type 0) (x y : Storage) (p : MachineView) (old new : List Tagged) (next upto : ℕ) (left rest : List PagedObject) : Type 0 where
   pub released : Released Gone x y
-  pub among : (t : Thing) → Has rest t → Has left t
-  pub others : (t : Thing) → Has left t → next ≤ t.home → Has rest t
+  pub among : (t : PagedObject) → Has rest t → Has left t
+  pub others : (t : PagedObject) → Has left t → next ≤ t.home → Has rest t
   pub still : AreLeft p new next upto rest
   pub below : SameBelow x.low old new

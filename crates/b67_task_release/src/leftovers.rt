@@ -1,10 +1,10 @@
 //! The arrays whose originals lie above a stack's top.
 
 ghost use Rattle.std.specs.Prelude.{◌≡◌, ℕ, ◌+◌, ◌<◌, ◌≤◌, List, Option, length};
-ghost use Rattle.b67_stack.specs.Picture.{Thing, Picture};
-ghost use Rattle.b67_stack.specs.Stands.{Storage};
-ghost use Rattle.b67_layout_storage.specs.Machine.{MachineStands};
-ghost use Rattle.b67_layout.specs.Session.{with_things};
+ghost use Rattle.b67_stack.specs.MachineView.{PagedObject, MachineView};
+ghost use Rattle.b67_stack.specs.Represents.{Storage};
+ghost use Rattle.b67_layout_storage.specs.Machine.{MachineRepresentsView};
+ghost use Rattle.b67_layout.specs.Session.{with_objects};
 ghost use Rattle.b67_task_release.specs.Released.{HasHome, Released, AreLeft, Remains, SameBelow};
 
 use crate::originals::release_original;
@@ -15,16 +15,16 @@ use b67_stack::Cpu;
 
 /// Gives back the array whose original is the word at an address, if that word is an original.
 fn release_word(cpu: &mut Cpu, areas: &mut Areas, sectors: &mut Sectors, at: u32)
-    requires left { (x : Storage) × (told : Option (List (List ℕ))) × (p : Picture) × (left : List Thing) × (upto : ℕ)
-        × MachineStands x cpu.old areas.old sectors.old told (with_things left p) × AreLeft p cpu.old.core at upto left × (at < upto) }
+    requires left { (x : Storage) × (told : Option (List (List ℕ))) × (p : MachineView) × (left : List PagedObject) × (upto : ℕ)
+        × MachineRepresentsView x cpu.old areas.old sectors.old told (with_objects left p) × AreLeft p cpu.old.core at upto left × (at < upto) }
     requires inside { at < length cpu.old.core }
     ensures rest { cpu.new ≡ record cpu.old { core = cpu.new.core } }
     ensures len { length cpu.new.core ≡ length cpu.old.core }
     ensures areas { areas.new ≡ areas.old }
     ensures count { length sectors.new.links ≡ length sectors.old.links }
-    ensures stands { (x : Storage) (told : Option (List (List ℕ))) (p : Picture) (left : List Thing) (upto : ℕ)
-        → MachineStands x cpu.old areas.old sectors.old told (with_things left p) → AreLeft p cpu.old.core at upto left → at < upto
-        → (y : Storage) × (rest : List Thing) × MachineStands y cpu.new areas.new sectors.new told (with_things rest p)
+    ensures stands { (x : Storage) (told : Option (List (List ℕ))) (p : MachineView) (left : List PagedObject) (upto : ℕ)
+        → MachineRepresentsView x cpu.old areas.old sectors.old told (with_objects left p) → AreLeft p cpu.old.core at upto left → at < upto
+        → (y : Storage) × (rest : List PagedObject) × MachineRepresentsView y cpu.new areas.new sectors.new told (with_objects rest p)
         × Remains (λ home. (home ≡ at) × HasHome left home) x y p cpu.old.core cpu.new.core (at + 1) upto left rest }
 {
     match DataDesc::from_word(cpu.core.get(at)) {
@@ -39,16 +39,16 @@ fn release_word(cpu: &mut Cpu, areas: &mut Areas, sectors: &mut Sectors, at: u32
 
 /// Gives back the arrays whose originals lie from an address up to another, not included.
 pub fn release_words(cpu: &mut Cpu, areas: &mut Areas, sectors: &mut Sectors, from: u32, upto: u32)
-    requires left { (x : Storage) × (told : Option (List (List ℕ))) × (p : Picture) × (left : List Thing)
-        × MachineStands x cpu.old areas.old sectors.old told (with_things left p) × AreLeft p cpu.old.core from upto left }
+    requires left { (x : Storage) × (told : Option (List (List ℕ))) × (p : MachineView) × (left : List PagedObject)
+        × MachineRepresentsView x cpu.old areas.old sectors.old told (with_objects left p) × AreLeft p cpu.old.core from upto left }
     requires order { from ≤ upto }
     ensures rest { cpu.new ≡ record cpu.old { core = cpu.new.core } }
     ensures len { length cpu.new.core ≡ length cpu.old.core }
     ensures areas { areas.new ≡ areas.old }
     ensures count { length sectors.new.links ≡ length sectors.old.links }
-    ensures stands { (x : Storage) (told : Option (List (List ℕ))) (p : Picture) (left : List Thing)
-        → MachineStands x cpu.old areas.old sectors.old told (with_things left p) → AreLeft p cpu.old.core from upto left
-        → (y : Storage) × Released (HasHome left) x y × MachineStands y cpu.new areas.new sectors.new told p × SameBelow x.low cpu.old.core cpu.new.core }
+    ensures stands { (x : Storage) (told : Option (List (List ℕ))) (p : MachineView) (left : List PagedObject)
+        → MachineRepresentsView x cpu.old areas.old sectors.old told (with_objects left p) → AreLeft p cpu.old.core from upto left
+        → (y : Storage) × Released (HasHome left) x y × MachineRepresentsView y cpu.new areas.new sectors.new told p × SameBelow x.low cpu.old.core cpu.new.core }
 {
     for at in from..upto {
         release_word(cpu, areas, sectors, at);

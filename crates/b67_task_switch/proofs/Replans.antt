@@ -1,40 +1,40 @@
--- The picture of a session under the plan in which another task's registers are in use.
+-- The view of a session under the plan in which another task's registers are in use.
 use Rattle.std.proofs.Common.{◌≡◌, ◌≢◌, ℕ, ◌+◌, ◌<◌, ◌≤◌, List, [], ◌∷◌, ◌++◌, map, Option, Some, None, refl, sym, ◌∙◌, ap, arith, false, ◌==◌, ⊎_elim}
 use Rattle.std.specs.Prelude.{if◌then◌else◌, flat_map}
 use Rattle.std.proofs.lemmas.Bool.{cases_eq, eqb-true}
 use Rattle.b67_area.specs.declared.Kind.TheVariants as kind
 use Rattle.b67_model.specs.Words as Words
 use Rattle.b67_model.specs.Words.{Word, Operand, Name, Ref, Row, Element, Original, Proc, Intrinsic}
-use Rattle.b67_model.specs.State.{Frame, Segment, Task, Job, Member}
+use Rattle.b67_model.specs.State.{Frame, Segment, Task, Job, SessionJob}
 use Rattle.b67_model.specs.Keyed.{keyed}
 use Rattle.b67_model.specs.Run.{number_of}
 use Rattle.b67_model.specs.InOrder.{from_frame, frames_of_task, critical_of}
 use Rattle.b67_stack.specs.Shapes.{Shape}
-use Rattle.b67_stack.specs.Stacks.{Spot, Activation}
-use Rattle.b67_stack.specs.Picture.{Thing, Slot, Running, Waiting, with_slot}
+use Rattle.b67_stack.specs.Stacks.{StackPlace, Activation}
+use Rattle.b67_stack.specs.MachineView.{PagedObject, Slot, Running, Waiting, with_slot}
 use Rattle.b67_stack.proofs.Slots.{slot-same, slot-other}
-use Rattle.b67_layout.specs.Plan.{Plan, Slotted, slot_of, spot_in, outer_spots, spots}
-use Rattle.b67_layout.specs.Layout.{shape, head, activations, stack_of_task, slot_with, slot_in, slot_by, slot_at, code_things, array_thing, things_of, picture}
+use Rattle.b67_layout.specs.Placement.{Placement, Slotted, slot_of, spot_in, outer_spots, spots}
+use Rattle.b67_layout.specs.Layout.{shape, head, activations, stack_of_task, slot_with, slot_in, slot_by, slot_at, code_objects, array_object, objects_of, machine_view}
 use Rattle.b67_layout.specs.Session.{RowsFit}
-use Rattle.b67_layout.proofs.Others.{keyed-has}
-use Rattle.b67_layout.proofs.Rows.{row_of, found-has}
+use Rattle.b67_layout.proofs.Rows.{row_of}
 use Rattle.b67_task_switch.specs.Turns.{with_running}
+use Rattle.b67_lemmas.proofs.Members.{found-has, keyed-has}
 
-module _ (plan : Plan) (k : ℕ) where
+module _ (plan : Placement) (k : ℕ) where
   outer_spots-replan : (j : ℕ) (job : Job) (parents : List ℕ) (c id : ℕ) → outer_spots (with_running plan k) j job c parents id ≡ outer_spots plan j job c parents id
   outer_spots-replan j job [] c id = refl
   outer_spots-replan j job (parent ∷ more) c id =
       let t = keyed (λ (u : Task). u.number) parent job.tasks in
       let outer : outer_spots (with_running plan k) j job (critical_of t) more ≡ outer_spots plan j job (critical_of t) more = λ i x. outer_spots-replan j job more (critical_of t) x i in
-      ap (λ (o : ℕ → Spot). spot_in (slot_of plan j parent) o (from_frame c (frames_of_task t)) id) outer
+      ap (λ (o : ℕ → StackPlace). spot_in (slot_of plan j parent) o (from_frame c (frames_of_task t)) id) outer
 
   -- spots of frames don't depend on which registers are in use
   pub spots-replan : (j : ℕ) (job : Job) (t : Task) (id : ℕ) → spots (with_running plan k) j job t id ≡ spots plan j job t id
   spots-replan j job t id =
       let outer : outer_spots (with_running plan k) j job t.critical t.parents ≡ outer_spots plan j job t.critical t.parents = λ i x. outer_spots-replan j job t.parents t.critical x i in
-      ap (λ (o : ℕ → Spot). spot_in (slot_of plan j t.number) o t.frames id) outer
+      ap (λ (o : ℕ → StackPlace). spot_in (slot_of plan j t.number) o t.frames id) outer
 
-  shape-replan : (j : ℕ) (job : Job) (spot : ℕ → Spot) (w : Word) → shape (with_running plan k) j job spot w ≡ shape plan j job spot w
+  shape-replan : (j : ℕ) (job : Job) (spot : ℕ → StackPlace) (w : Word) → shape (with_running plan k) j job spot w ≡ shape plan j job spot w
   shape-replan j job spot (Operand bits) = refl
   shape-replan j job spot (Name c) = refl
   shape-replan j job spot (Ref f o) = refl
@@ -45,7 +45,7 @@ module _ (plan : Plan) (k : ℕ) where
   shape-replan j job spot (Intrinsic x) = refl
   shape-replan j job spot (Words.Segment x) = refl
 
-  activations-replan : (j : ℕ) (job : Job) (q : ℕ) (outer : ℕ → Spot) (fs : List Frame) → activations (with_running plan k) j job q outer fs ≡ activations plan j job q outer fs
+  activations-replan : (j : ℕ) (job : Job) (q : ℕ) (outer : ℕ → StackPlace) (fs : List Frame) → activations (with_running plan k) j job q outer fs ≡ activations plan j job q outer fs
   activations-replan j job q outer [] = refl
   activations-replan j job q outer (f ∷ below) =
       let same : shape (with_running plan k) j job (spot_in q outer (f ∷ below)) ≡ shape plan j job (spot_in q outer (f ∷ below)) = λ i w. shape-replan j job (spot_in q outer (f ∷ below)) w i in
@@ -56,52 +56,52 @@ module _ (plan : Plan) (k : ℕ) where
   pub stack-replan : (j : ℕ) (job : Job) (q : ℕ) (t : Task) → stack_of_task (with_running plan k) j job q t ≡ stack_of_task plan j job q t
   stack-replan j job q t =
       let outer : outer_spots (with_running plan k) j job t.critical t.parents ≡ outer_spots plan j job t.critical t.parents = λ i x. outer_spots-replan j job t.parents t.critical x i in
-      activations-replan j job q (outer_spots (with_running plan k) j job t.critical t.parents) t.frames ∙ ap (λ (o : ℕ → Spot). activations plan j job q o t.frames) outer
+      activations-replan j job q (outer_spots (with_running plan k) j job t.critical t.parents) t.frames ∙ ap (λ (o : ℕ → StackPlace). activations plan j job q o t.frames) outer
 
-  code_things-replan : (j n : ℕ) (segments : List Segment) → code_things (with_running plan k) j n segments ≡ code_things plan j n segments
-  code_things-replan j n [] = refl
-  code_things-replan j n (s ∷ more) = ap (λ (ts : List Thing). record { home = plan.dictionary j + 1 + n; kind = kind.Code; numbers = s.code } ∷ ts) (code_things-replan j (n + 1) more)
+  code_objects-replan : (j n : ℕ) (segments : List Segment) → code_objects (with_running plan k) j n segments ≡ code_objects plan j n segments
+  code_objects-replan j n [] = refl
+  code_objects-replan j n (s ∷ more) = ap (λ (ts : List PagedObject). record { home = plan.dictionary j + 1 + n; kind = kind.Code; numbers = s.code } ∷ ts) (code_objects-replan j (n + 1) more)
 
-  pub things-replan : (jobs : List Member) → flat_map (things_of (with_running plan k)) jobs ≡ flat_map (things_of plan) jobs
-  things-replan [] = refl
-  things-replan (m ∷ more) =
-      ap (λ (ts : List Thing). (ts ++ map (array_thing plan m.setting.number) m.course.job.arrays) ++ flat_map (things_of (with_running plan k)) more) (code_things-replan m.setting.number 1 m.setting.segments)
-      ∙ ap (λ (ts : List Thing). things_of plan m ++ ts) (things-replan more)
+  pub objects-replan : (jobs : List SessionJob) → flat_map (objects_of (with_running plan k)) jobs ≡ flat_map (objects_of plan) jobs
+  objects-replan [] = refl
+  objects-replan (m ∷ more) =
+      ap (λ (ts : List PagedObject). (ts ++ map (array_object plan m.constants.number) m.progress.job.arrays) ++ flat_map (objects_of (with_running plan k)) more) (code_objects-replan m.constants.number 1 m.constants.segments)
+      ∙ ap (λ (ts : List PagedObject). objects_of plan m ++ ts) (objects-replan more)
 
   -- the slot of a task whose registers are neither in use nor were
-  module _ (jobs : List Member) (q : ℕ) (now : (q == k) ≡ false) (before : (q == plan.running) ≡ false) where
+  module _ (jobs : List SessionJob) (q : ℕ) (now : (q == k) ≡ false) (before : (q == plan.running) ≡ false) where
     slot_with-replan : (j : ℕ) (job : Job) (o : Option Task) → slot_with (with_running plan k) q j job o ≡ slot_with plan q j job o
     slot_with-replan j job None = refl
     slot_with-replan j job (Some t) = rw (now, before) (ap Waiting (stack-replan j job q t))
 
-    slot_in-replan : (j task : ℕ) (o : Option Member) → slot_in (with_running plan k) q j task o ≡ slot_in plan q j task o
+    slot_in-replan : (j task : ℕ) (o : Option SessionJob) → slot_in (with_running plan k) q j task o ≡ slot_in plan q j task o
     slot_in-replan j task None = refl
-    slot_in-replan j task (Some m) = slot_with-replan j m.course.job (keyed (λ (u : Task). u.number) task m.course.job.tasks)
+    slot_in-replan j task (Some m) = slot_with-replan j m.progress.job (keyed (λ (u : Task). u.number) task m.progress.job.tasks)
 
     pub slot_by-replan : (o : Option Slotted) → slot_by (with_running plan k) jobs q o ≡ slot_by plan jobs q o
     slot_by-replan None = refl
     slot_by-replan (Some r) = slot_in-replan r.job r.task (keyed number_of r.job jobs)
 
-pub fit_replan : (plan : Plan) (k : ℕ) (jobs : List Member) → RowsFit plan jobs → RowsFit (with_running plan k) jobs
+pub fit_replan : (plan : Placement) (k : ℕ) (jobs : List SessionJob) → RowsFit plan jobs → RowsFit (with_running plan k) jobs
 fit_replan plan k jobs f = record { live = f.live; slotted = f.slotted; below = f.below; differ = f.differ; tasks_differ = f.tasks_differ }
 
 -- the slot of a live task
-slot-of_task : (plan : Plan) (jobs : List Member) (m : Member) (t : Task) → RowsFit plan jobs → keyed number_of m.setting.number jobs ≡ Some m → keyed (λ (u : Task). u.number) t.number m.course.job.tasks ≡ Some t → (q : ℕ) → q ≡ slot_of plan m.setting.number t.number
-    → slot_at plan jobs q ≡ slot_with plan q m.setting.number m.course.job (Some t)
+slot-of_task : (plan : Placement) (jobs : List SessionJob) (m : SessionJob) (t : Task) → RowsFit plan jobs → keyed number_of m.constants.number jobs ≡ Some m → keyed (λ (u : Task). u.number) t.number m.progress.job.tasks ≡ Some t → (q : ℕ) → q ≡ slot_of plan m.constants.number t.number
+    → slot_at plan jobs q ≡ slot_with plan q m.constants.number m.progress.job (Some t)
 slot-of_task plan jobs m t fit km kt q here =
-    let inm = keyed-has number_of m.setting.number jobs m km in
-    let int = keyed-has (λ (u : Task). u.number) t.number m.course.job.tasks t kt in
+    let inm = keyed-has number_of m.constants.number jobs m km in
+    let int = keyed-has (λ (u : Task). u.number) t.number m.progress.job.tasks t kt in
     let r = row_of (with_running plan q) jobs m t (fit_replan plan q jobs fit) inm int here in
     ap (slot_by plan jobs q) r.found
     ∙ ap (λ (i : ℕ). slot_in plan q i r.row.task (keyed number_of i jobs)) r.job
-    ∙ ap (slot_in plan q m.setting.number r.row.task) km
-    ∙ ap (λ (i : ℕ). slot_with plan q m.setting.number m.course.job (keyed (λ (u : Task). u.number) i m.course.job.tasks)) r.number
-    ∙ ap (slot_with plan q m.setting.number m.course.job) kt
+    ∙ ap (slot_in plan q m.constants.number r.row.task) km
+    ∙ ap (λ (i : ℕ). slot_with plan q m.constants.number m.progress.job (keyed (λ (u : Task). u.number) i m.progress.job.tasks)) r.number
+    ∙ ap (slot_with plan q m.constants.number m.progress.job) kt
 
-module _ (plan : Plan) (jobs : List Member) (m : Member) (t : Task) (fit : RowsFit plan jobs) (few : plan.peak ≤ 120)
-    (km : keyed number_of m.setting.number jobs ≡ Some m) (kt : keyed (λ (u : Task). u.number) t.number m.course.job.tasks ≡ Some t) (q : ℕ) (here : q ≡ slot_of plan m.setting.number t.number) where
+module _ (plan : Placement) (jobs : List SessionJob) (m : SessionJob) (t : Task) (fit : RowsFit plan jobs) (few : plan.peak ≤ 120)
+    (km : keyed number_of m.constants.number jobs ≡ Some m) (kt : keyed (λ (u : Task). u.number) t.number m.progress.job.tasks ≡ Some t) (q : ℕ) (here : q ≡ slot_of plan m.constants.number t.number) where
   -- the slot of the task, whose registers may be in use
-  pub slot_here : slot_at plan jobs q ≡ (if q == plan.running then Running (stack_of_task plan m.setting.number m.course.job q t) else Waiting (stack_of_task plan m.setting.number m.course.job q t))
+  pub slot_here : slot_at plan jobs q ≡ (if q == plan.running then Running (stack_of_task plan m.constants.number m.progress.job q t) else Waiting (stack_of_task plan m.constants.number m.progress.job q t))
   slot_here = slot-of_task plan jobs m t fit km kt q here
 
   -- where the registers in use are those of slot q or of none, before and after, other slots stay
@@ -116,14 +116,14 @@ module _ (plan : Plan) (jobs : List Member) (m : Member) (t : Task) (fit : RowsF
         let small : k < 120 = omega (arith, is, fit.below r h.0) in
         slot_by-replan plan a jobs k (now k ne small) (before k ne small) (Some r)
 
-  pub picture-turned : (a : ℕ) (slot : Slot) → ((k : ℕ) → k ≢ q → k < 120 → (k == a) ≡ false) → ((k : ℕ) → k ≢ q → k < 120 → (k == plan.running) ≡ false)
-      → slot_at (with_running plan a) jobs q ≡ slot → picture (with_running plan a) jobs ≡ with_slot (picture plan jobs) q slot
-  picture-turned a slot now before is =
-      let p = picture plan jobs in
-      let each : (k : ℕ) → slot_at (with_running plan a) jobs k ≡ (with_slot (picture plan jobs) q slot).slots k = λ k. ⊎_elim
-      (λ (e : k ≡ q). ap (slot_at (with_running plan a) jobs) e ∙ is ∙ sym (slot-same (picture plan jobs) q slot) ∙ ap (with_slot (picture plan jobs) q slot).slots (sym e))
-      (λ (e : k ≡ q → ⊥). others_stay a now before k e ∙ sym (slot-other (picture plan jobs) q slot k e))
+  pub machine_view-turned : (a : ℕ) (slot : Slot) → ((k : ℕ) → k ≢ q → k < 120 → (k == a) ≡ false) → ((k : ℕ) → k ≢ q → k < 120 → (k == plan.running) ≡ false)
+      → slot_at (with_running plan a) jobs q ≡ slot → machine_view (with_running plan a) jobs ≡ with_slot (machine_view plan jobs) q slot
+  machine_view-turned a slot now before is =
+      let p = machine_view plan jobs in
+      let each : (k : ℕ) → slot_at (with_running plan a) jobs k ≡ (with_slot (machine_view plan jobs) q slot).slots k = λ k. ⊎_elim
+      (λ (e : k ≡ q). ap (slot_at (with_running plan a) jobs) e ∙ is ∙ sym (slot-same (machine_view plan jobs) q slot) ∙ ap (with_slot (machine_view plan jobs) q slot).slots (sym e))
+      (λ (e : k ≡ q → ⊥). others_stay a now before k e ∙ sym (slot-other (machine_view plan jobs) q slot k e))
       (cases_eq k q) in
-      let same : slot_at (with_running plan a) jobs ≡ (with_slot (picture plan jobs) q slot).slots = λ i k. each k i in
-      ap (λ (f : ℕ → Slot). record { stacks = plan.stacks; size = plan.size; peak = plan.peak; slots = f; things = flat_map (things_of (with_running plan a)) jobs }) same
-      ∙ ap (λ (ts : List Thing). record { stacks = plan.stacks; size = plan.size; peak = plan.peak; slots = (with_slot (picture plan jobs) q slot).slots; things = ts }) (things-replan plan a jobs)
+      let same : slot_at (with_running plan a) jobs ≡ (with_slot (machine_view plan jobs) q slot).slots = λ i k. each k i in
+      ap (λ (f : ℕ → Slot). record { stacks = plan.stacks; size = plan.size; peak = plan.peak; slots = f; objects = flat_map (objects_of (with_running plan a)) jobs }) same
+      ∙ ap (λ (ts : List PagedObject). record { stacks = plan.stacks; size = plan.size; peak = plan.peak; slots = (with_slot (machine_view plan jobs) q slot).slots; objects = ts }) (objects-replan plan a jobs)

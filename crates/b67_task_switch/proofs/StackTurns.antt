@@ -3,68 +3,55 @@ use Rattle.std.proofs.Common.{◌≡◌, ◌≢◌, ℕ, suc, ◌+◌, ◌<◌, 
 use Rattle.std.specs.List.{slice_get}
 use Rattle.std.proofs.lemmas.Bool.{cases_eq, cases_lt}
 use Rattle.b67_word.specs.Tagged.{Tagged}
-use Rattle.b67_area.specs.Spans.{Span, Area, Hole}
 use Rattle.b67_area.proofs.Climbs.{area_at-low}
-use Rattle.b67_area.proofs.Separation.{Controls, IsDirectory-same}
+use Rattle.b67_area.proofs.Separation.{IsDirectory-same, controls_above}
 use Rattle.b67_ctl.specs.declared.registers.Regs.{Regs}
-use Rattle.b67_model.specs.State.{Task, Member}
+use Rattle.b67_model.specs.State.{Task, SessionJob}
 use Rattle.b67_model.specs.Schedule.{Session}
-use Rattle.b67_stack.specs.Shapes.{Fits, Lie}
-use Rattle.b67_stack.specs.Stacks.{Activation, high, words}
-use Rattle.b67_stack.specs.Picture.{Picture, Slot, Free, Running, Waiting, stack_of, slot_base, SlotFits, Laid, with_slot, Settled}
-use Rattle.b67_stack.specs.Stands.{Storage, SlotStands, StacksLie, ThingsStand, RegsStand, Stands, info_of}
+use Rattle.b67_stack.specs.Shapes.{Fits, LieDownward}
+use Rattle.b67_stack.specs.Stacks.{Activation, stack_words, words}
+use Rattle.b67_stack.specs.MachineView.{MachineView, Slot, Free, Running, Waiting, stack_of, slot_base, SlotFits, Laid, with_slot, NoOriginalAboveTop}
+use Rattle.b67_stack.specs.Represents.{Storage, RepresentsSlot, StacksLie, RepresentsObjects, RepresentsRegs, Represents, info_of}
 use Rattle.b67_stack.proofs.Bases.{base-apart}
 use Rattle.b67_stack.proofs.Heights.{words-length}
 use Rattle.b67_stack.proofs.Lies.{Lie-same}
-use Rattle.b67_stack.proofs.Slots.{by_slot, Content-areas}
-use Rattle.b67_layout.specs.Plan.{Plan, slot_of}
-use Rattle.b67_layout.specs.Layout.{picture}
-use Rattle.b67_layout.specs.Session.{DictionariesFollow, PlanFits, vector_word, IsRunning, TaskStands, SessionHolds}
+use Rattle.b67_stack.proofs.Slots.{by_slot, Content-areas, slot_room}
+use Rattle.b67_layout.specs.Placement.{Placement, slot_of}
+use Rattle.b67_layout.specs.Layout.{machine_view}
+use Rattle.b67_layout.specs.Session.{DictionariesFollow, PlanFits, vector_word, IsRunning, RepresentsTask, SessionHolds}
 use Rattle.b67_layout.proofs.Rows.{slot_below}
 use Rattle.b67_layout.proofs.Sessions.{dictionary_below}
 use Rattle.b67_task_switch.specs.Turns.{with_running}
 use Rattle.b67_task_switch.proofs.Replans.{fit_replan}
 
 -- slot k is another with the same stack, and no word but its base word has changed
-pub record Turned (x : Storage) (core new : List Tagged) (r r' : Regs) (p : Picture) (k : ℕ) (slot : Slot) : Type 0 where
+pub record Turned (x : Storage) (core new : List Tagged) (r r' : Regs) (p : MachineView) (k : ℕ) (slot : Slot) : Type 0 where
   pub used : k < p.peak
   pub size : length new ≡ length core
   pub outside : (i : ℕ) → i ≢ slot_base p k → slice_get new i ≡ slice_get core i
-  pub regs : RegsStand r' p
+  pub regs : RepresentsRegs r' p
   pub elsewhere : (j : ℕ) → j < p.peak → j ≢ k → (r.slot ≢ j) × (r'.slot ≢ j)
   pub fits : SlotFits p k slot
   pub stack : stack_of slot ≡ stack_of (p.slots k)
-  pub stands : SlotStands new r' p k slot
+  pub stands : RepresentsSlot new r' p k slot
 
-turned_other : (core new : List Tagged) (r r' : Regs) (p p' : Picture) (j : ℕ) (s : Slot) → p'.stacks ≡ p.stacks → p'.size ≡ p.size → r.slot ≢ j → r'.slot ≢ j → slice_get new (slot_base p j) ≡ slice_get core (slot_base p j) → SlotStands core r p j s → SlotStands new r' p' j s
+turned_other : (core new : List Tagged) (r r' : Regs) (p p' : MachineView) (j : ℕ) (s : Slot) → p'.stacks ≡ p.stacks → p'.size ≡ p.size → r.slot ≢ j → r'.slot ≢ j → slice_get new (slot_base p j) ≡ slice_get core (slot_base p j) → RepresentsSlot core r p j s → RepresentsSlot new r' p' j s
 turned_other core new r r' p p' j Free es ez n n' same t = rw (es, ez) (n', same ∙ t.1)
 turned_other core new r r' p p' j (Running stack) es ez n n' same t = absurd (n t.slot)
 turned_other core new r r' p p' j (Waiting stack) es ez n n' same t = rw (es, ez) (n', same ∙ t.1)
 
-turned_here : (new : List Tagged) (r' : Regs) (p : Picture) (k : ℕ) (slot s : Slot) → SlotStands new r' p k s → SlotStands new r' (with_slot p k slot) k s
+turned_here : (new : List Tagged) (r' : Regs) (p : MachineView) (k : ℕ) (slot s : Slot) → RepresentsSlot new r' p k s → RepresentsSlot new r' (with_slot p k slot) k s
 turned_here new r' p k slot Free t = t
 turned_here new r' p k slot (Running stack) t = record { slot = t.slot; first = t.first; last = t.last; top = t.top; mark = t.mark; level = t.level }
 turned_here new r' p k slot (Waiting stack) t = t
 
-fits_same : (p : Picture) (k : ℕ) (slot : Slot) (j : ℕ) (y : Slot) → SlotFits p j y → SlotFits (with_slot p k slot) j y
+fits_same : (p : MachineView) (k : ℕ) (slot : Slot) (j : ℕ) (y : Slot) → SlotFits p j y → SlotFits (with_slot p k slot) j y
 fits_same p k slot j Free f = f
 fits_same p k slot j (Running q) f = f
 fits_same p k slot j (Waiting q) f = f
 
--- heads and tails of areas, and the first words of holes, lie above the slots
-controls_above : (at : ℕ) (ss : List Span) (i : ℕ) → Controls at ss i → at ≤ i
-controls_above at [] i c = absurd c
-controls_above at (Area a ∷ ss) i c = ⊎_elim (λ e. omega arith) (λ d. ⊎_elim (λ e. omega arith) (λ r. omega (arith, controls_above (at + (a.words + 2)) ss i r)) d) c
-controls_above at (Hole n ∷ ss) i c = ⊎_elim (λ e. omega arith) (λ r. omega (arith, controls_above (at + n) ss i r)) c
-
--- a slot's words fit in it
-slot_room : (p : Picture) (k : ℕ) (s : Slot) → SlotFits p k s → 0 < p.size → high (stack_of s) < p.size
-slot_room p k Free f some = some
-slot_room p k (Running stack) f some = f.0.fits
-slot_room p k (Waiting stack) f some = f.0.fits
-
-module _ (x : Storage) (core new : List Tagged) (r r' : Regs) (p : Picture) (k : ℕ) (slot : Slot) (c : Turned x core new r r' p k slot) (room : 0 < p.size) (s : Stands x core r p) where
-  abbrev p' : Picture
+module _ (x : Storage) (core new : List Tagged) (r r' : Regs) (p : MachineView) (k : ℕ) (slot : Slot) (c : Turned x core new r r' p k slot) (room : 0 < p.size) (s : Represents x core r p) where
+  abbrev p' : MachineView
   p' = with_slot p k slot
 
   laid : Laid x.low p
@@ -93,20 +80,20 @@ module _ (x : Storage) (core new : List Tagged) (r r' : Regs) (p : Picture) (k :
       (λ (a : k ≤ j). ⊎_elim (λ (b : k ≡ j). omega (arith, ap (slot_base p) b)) (λ (b : k ≡ j → ⊥). omega (arith, base-apart p k j (omega arith))) (cases_eq k j))
       (cases_lt j k)
 
-  lies : (j : ℕ) → j < p.peak → Lie (Fits x.held) new (suc (slot_base p j)) (words j (stack_of (p.slots j)))
+  lies : (j : ℕ) → j < p.peak → LieDownward (Fits x.held) new (suc (slot_base p j)) (words j (stack_of (p.slots j)))
   lies j hj = Lie-same (Fits x.held) core new (suc (slot_base p j)) (words j (stack_of (p.slots j))) (λ i down up. c.outside i (not_word j hj i down up)) (s.stacks j hj)
 
   stacks : StacksLie x.held new p'
-  stacks = by_slot p k slot (λ j y. Lie (Fits x.held) new (suc (slot_base p j)) (words j (stack_of y)))
-      (subst (λ (st : List Activation). Lie (Fits x.held) new (suc (slot_base p k)) (words k st)) (sym c.stack) (lies k c.used))
+  stacks = by_slot p k slot (λ j y. LieDownward (Fits x.held) new (suc (slot_base p j)) (words j (stack_of y)))
+      (subst (λ (st : List Activation). LieDownward (Fits x.held) new (suc (slot_base p k)) (words k st)) (sym c.stack) (lies k c.used))
       (λ j hj n. lies j hj)
 
   low_end : slot_base p k < x.low
   low_end = omega (arith, base-apart p k p.peak c.used, laid.low)
 
-  things : ThingsStand x new p.things
-  things t int =
-      let was = s.things t int in
+  objects : RepresentsObjects x new p.objects
+  objects t int =
+      let was = s.objects t int in
       record {
         home = c.outside t.home (laid.not_base t int k c.used) ∙ was.home;
         content = Content-areas x core new t (x.held t.home).area (x.held t.home).chain
@@ -114,17 +101,17 @@ module _ (x : Storage) (core new : List Tagged) (r r' : Regs) (p : Picture) (k :
             (λ q up. c.outside q (λ e. omega (arith, low_end))) was.content;
       }
 
-  pub Stands-turned : Stands x new r' (with_slot p k slot)
-  Stands-turned = record {
+  pub Represents-turned : Represents x new r' (with_slot p k slot)
+  Represents-turned = record {
     slots = record {
       laid = laid';
       regs = record { stacks = c.regs.stacks; size = c.regs.size; peak = c.regs.peak };
-      slots = by_slot p k slot (λ j y. SlotStands new r' p' j y) (turned_here new r' p k slot slot c.stands)
+      slots = by_slot p k slot (λ j y. RepresentsSlot new r' p' j y) (turned_here new r' p k slot slot c.stands)
           (λ j hj n. let (a, b) = c.elsewhere j hj n in turned_other core new r r' p p' j (p.slots j) refl refl a b
           (c.outside (slot_base p j) (λ e. ⊎_elim (λ (z : j < k). omega (arith, base-apart p j k z)) (λ (z : k ≤ j). omega (arith, base-apart p k j (omega (arith, n)))) (cases_lt j k))) (s.slots.slots j hj));
     };
     stacks = stacks;
-    things = things;
+    objects = objects;
     owned = record { of_area = s.owned.of_area; of_held = s.owned.of_held; of_chain = s.owned.of_chain; no_zero = s.owned.no_zero; one_chain = s.owned.one_chain };
     directory = IsDirectory-same core new x.low x.spans c.size
         (λ i h. c.outside i (λ e. omega (arith, h.1, laid.first)))
@@ -132,21 +119,21 @@ module _ (x : Storage) (core new : List Tagged) (r r' : Regs) (p : Picture) (k :
     inside = rw c.size s.inside;
   }
 
-  pub Settled-turned : Settled p → Settled (with_slot p k slot)
-  Settled-turned h t int j hj = by_slot p k slot (λ i y. slot_base p i ≤ t.home → t.home < slot_base p i + p.size → t.home ≤ slot_base p i + high (stack_of y))
-      (subst (λ (st : List Activation). slot_base p k ≤ t.home → t.home < slot_base p k + p.size → t.home ≤ slot_base p k + high st) (sym c.stack) (h t int k c.used))
+  pub Settled-turned : NoOriginalAboveTop p → NoOriginalAboveTop (with_slot p k slot)
+  Settled-turned h t int j hj = by_slot p k slot (λ i y. slot_base p i ≤ t.home → t.home < slot_base p i + p.size → t.home ≤ slot_base p i + stack_words (stack_of y))
+      (subst (λ (st : List Activation). slot_base p k ≤ t.home → t.home < slot_base p k + p.size → t.home ≤ slot_base p k + stack_words st) (sym c.stack) (h t int k c.used))
       (λ i hi n. h t int i hi) j hj
 
 -- the session
-follow-replan : (plan : Plan) (k at : ℕ) (jobs : List Member) → DictionariesFollow plan at jobs → DictionariesFollow (with_running plan k) at jobs
+follow-replan : (plan : Placement) (k at : ℕ) (jobs : List SessionJob) → DictionariesFollow plan at jobs → DictionariesFollow (with_running plan k) at jobs
 follow-replan plan k at [] d = d
-follow-replan plan k at (m ∷ more) d = (d.0, follow-replan plan k (at + (2 + length m.setting.dictionary.cells)) more d.1)
+follow-replan plan k at (m ∷ more) d = (d.0, follow-replan plan k (at + (2 + length m.constants.dictionary.cells)) more d.1)
 
-vector_word-replan : (plan : Plan) (k j : ℕ) (parents : List ℕ) → vector_word (with_running plan k) j parents ≡ vector_word plan j parents
+vector_word-replan : (plan : Placement) (k j : ℕ) (parents : List ℕ) → vector_word (with_running plan k) j parents ≡ vector_word plan j parents
 vector_word-replan plan k j [] = refl
 vector_word-replan plan k j (parent ∷ more) = refl
 
-module _ (x : Storage) (core new : List Tagged) (r r' : Regs) (marks : List ℕ) (plan : Plan) (s : Session) (k : ℕ) (h : SessionHolds x core r marks plan s) where
+module _ (x : Storage) (core new : List Tagged) (r r' : Regs) (marks : List ℕ) (plan : Placement) (s : Session) (k : ℕ) (h : SessionHolds x core r marks plan s) where
   plan_fits : PlanFits (with_running plan k) s
   plan_fits = record {
     rows = fit_replan plan k s.jobs h.fits.rows;
@@ -158,9 +145,9 @@ module _ (x : Storage) (core new : List Tagged) (r r' : Regs) (marks : List ℕ)
   }
 
   pub SessionHolds-turned : ((i : ℕ) → i < plan.stacks → slice_get new i ≡ slice_get core i)
-      → Stands x new r' (picture (with_running plan k) s.jobs) → Settled (picture (with_running plan k) s.jobs)
-      → (k ≢ 255 → (m : Member) × (t : Task) × IsRunning (with_running plan k) s.jobs m t)
-      → ((m : Member) (t : Task) → IsRunning (with_running plan k) s.jobs m t → TaskStands r' (with_running plan k) m t)
+      → Represents x new r' (machine_view (with_running plan k) s.jobs) → NoOriginalAboveTop (machine_view (with_running plan k) s.jobs)
+      → (k ≢ 255 → (m : SessionJob) × (t : Task) × IsRunning (with_running plan k) s.jobs m t)
+      → ((m : SessionJob) (t : Task) → IsRunning (with_running plan k) s.jobs m t → RepresentsTask r' (with_running plan k) m t)
       → (k ≡ 255 → r'.slot ≡ 255)
       → SessionHolds x new r' marks (with_running plan k) s
   SessionHolds-turned same stands settled live running none = record {
@@ -170,10 +157,10 @@ module _ (x : Storage) (core new : List Tagged) (r r' : Regs) (marks : List ℕ)
     dictionaries = λ m inm.
         let d = dictionary_below plan 160 s.jobs m h.fits.dictionaries inm in
         let o = h.dictionaries m inm in
-        record { mark = same (plan.dictionary m.setting.number) (omega arith) ∙ o.mark; entries = same (plan.dictionary m.setting.number + 1) (omega arith) ∙ o.entries };
+        record { mark = same (plan.dictionary m.constants.number) (omega arith) ∙ o.mark; entries = same (plan.dictionary m.constants.number + 1) (omega arith) ∙ o.entries };
     mcp = record { mark = same 0 (omega arith) ∙ h.mcp.mark; intrinsics = λ i low up. same i (omega arith) ∙ h.mcp.intrinsics i low up };
     vector = record {
-      live = λ m t inm int. same (32 + slot_of plan m.setting.number t.number) (omega (arith, slot_below plan s.jobs m t h.fits.rows inm int, h.fits.few)) ∙ h.vector.live m t inm int ∙ ap Some (sym (vector_word-replan plan k m.setting.number t.parents));
+      live = λ m t inm int. same (32 + slot_of plan m.constants.number t.number) (omega (arith, slot_below plan s.jobs m t h.fits.rows inm int, h.fits.few)) ∙ h.vector.live m t inm int ∙ ap Some (sym (vector_word-replan plan k m.constants.number t.parents));
       free = λ i small others. same (32 + i) (omega arith) ∙ h.vector.free i small others;
     };
     critical = record { live = h.critical.live; free = h.critical.free };

@@ -2,50 +2,38 @@
 use Rattle.std.proofs.Common.{◌≡◌, ◌≢◌, ℕ, zero, suc, ◌+◌, ◌-◌, ◌≤◌, List, [], ◌∷◌, length, Option, Some, None, refl, sym, ◌∙◌, ap, arith, inl, inr, ⊎_elim, slice_set, subst, length-set}
 use Rattle.std.specs.List.{slice_get}
 use Rattle.std.proofs.lemmas.Option.{same_Some, slice_get_within, slice_get_past}
-use Rattle.std.proofs.lemmas.Bool.{cases_eq, eq-eqb, ne_eqb}
+use Rattle.std.proofs.lemmas.Bool.{cases_eq, eq-eqb}
 use Rattle.b67_core.proofs.Writes.{slice_get-set_same, slice_get-set_other}
 use Rattle.b67_word.specs.Tagged.{Tagged}
 use Rattle.b67_ctl.specs.declared.registers.Regs.{Regs}
 use Rattle.b67_lemmas.specs.Lists.{Has}
-use Rattle.b67_model.specs.State.{Condition, Ready, Awaits, WaitsAt, Task, Job, Member}
+use Rattle.b67_lemmas.proofs.Members.{all_in, has_get, keyed_falls}
+use Rattle.b67_lemmas.proofs.Places.{has_at, same_mapped}
+use Rattle.b67_model.specs.State.{Condition, Ready, Awaits, WaitsAt, Task, Job, SessionJob}
 use Rattle.b67_model.specs.Keyed.{keyed}
-use Rattle.b67_model.specs.Run.{number_of}
 use Rattle.b67_model.specs.Schedule.{Session}
 use Rattle.b67_model.specs.InOrder.{JobInOrder, IsSegment, NumberedFrom, IsInOrderButPlaces}
-use Rattle.b67_law_order.proofs.Members.{all_in, keyed_falls}
-use Rattle.b67_stack.specs.Stands.{Storage}
-use Rattle.b67_stack.specs.Stacks.{Spot}
-use Rattle.b67_layout.specs.Plan.{Plan, slot_of, address_of}
+use Rattle.b67_stack.specs.Represents.{Storage}
+use Rattle.b67_stack.specs.Stacks.{StackPlace}
+use Rattle.b67_layout.specs.Placement.{Placement, slot_of, address_of}
 use Rattle.b67_layout.specs.Rows.{WaitsAtCell, TaskRow, JobRow, Counts, shown, parent_slot, critical_disp, TaskShows, JobShows, JobsShow, RunningRow, Differ, TablesShow}
 use Rattle.b67_layout.specs.Session.{RowsFit, IsRunning, SessionHolds}
 use Rattle.b67_layout.proofs.Rows.{slot_below}
 use Rattle.b67_task_switch.specs.Turns.{with_running}
 use Rattle.b67_task_switch.proofs.Replans.{spots-replan}
-use Rattle.b67_task_switch.proofs.Lists.{at_has, has_at, differ_at, same_mapped}
+use Rattle.b67_task_switch.proofs.Lists.{differ_at}
+use Rattle.b67_law_order.proofs.Numbered.{keyed_member, numbered_low}
 
 keyed-head : {A : Type 0} (key : A → ℕ) (y : A) (more : List A) → keyed key (key y) (y ∷ more) ≡ Some y
 keyed-head key y more = rw (eq-eqb (key y) (key y) refl) refl
 
--- a job of a session in order is the first of its number, and a task the first of its number in its job
-pub numbered_low : (n : ℕ) (jobs : List Member) (m : Member) → NumberedFrom n jobs → Has jobs m → n ≤ m.setting.number
-numbered_low n [] m d h = absurd h
-numbered_low n (y ∷ more) m d (inl e) = let P : Member → Type 0 = λ z. n ≤ z.setting.number in subst P e (omega (arith, d.0))
-numbered_low n (y ∷ more) m d (inr h) = omega (arith, numbered_low (n + 1) more m d.1 h)
-
-pub first_member : (n : ℕ) (jobs : List Member) (m : Member) → NumberedFrom n jobs → Has jobs m → keyed number_of m.setting.number jobs ≡ Some m
-first_member n [] m d h = absurd h
-first_member n (y ∷ more) m d (inl e) = let P : Member → Type 0 = λ z. keyed number_of z.setting.number (y ∷ more) ≡ Some z in subst P e (keyed-head number_of y more)
-first_member n (y ∷ more) m d (inr h) =
-    let low = numbered_low (n + 1) more m d.1 h in
-    rw (ne_eqb y.setting.number m.setting.number (λ e. omega (arith, e, d.0, low))) (first_member (n + 1) more m d.1 h)
-
-pub live_in_order : (s : Session) (m : Member) (t : Task) → IsInOrderButPlaces s → Has s.jobs m → Has m.course.job.tasks t → keyed (λ (u : Task). u.number) t.number m.course.job.tasks ≡ Some t
+pub live_in_order : (s : Session) (m : SessionJob) (t : Task) → IsInOrderButPlaces s → Has s.jobs m → Has m.progress.job.tasks t → keyed (λ (u : Task). u.number) t.number m.progress.job.tasks ≡ Some t
 live_in_order s m t o inm int =
-    let j = all_in (λ (y : Member). JobInOrder (IsSegment y.setting) y.setting y.course) s.jobs m o.jobs inm in
-    keyed_falls (λ (u : Task). u.number) m.course.job.next_task m.course.job.tasks t j.tasks.numbers int
+    let j = all_in (λ (y : SessionJob). JobInOrder (IsSegment y.constants) y.constants y.progress) s.jobs m o.jobs inm in
+    keyed_falls (λ (u : Task). u.number) m.progress.job.next_task m.progress.job.tasks t j.tasks.numbers int
 
 -- a row of a task, whatever registers are in use
-module _ (plan : Plan) (k : ℕ) where
+module _ (plan : Placement) (k : ℕ) where
   parent_slot-replan : (j : ℕ) (parents : List ℕ) → parent_slot (with_running plan k) j parents ≡ parent_slot plan j parents
   parent_slot-replan j [] = refl
   parent_slot-replan j (p ∷ more) = refl
@@ -57,33 +45,33 @@ module _ (plan : Plan) (k : ℕ) where
   shown-replan : (j : ℕ) (job : Job) (t : Task) (c : Condition) → shown (with_running plan k) j job t c ≡ shown plan j job t c
   shown-replan j job t Ready = refl
   shown-replan j job t (Awaits n) = refl
-  shown-replan j job t (WaitsAt frame offset) = ap (λ (w : Spot). WaitsAtCell (address_of plan w) offset) (spots-replan plan k j job t frame)
+  shown-replan j job t (WaitsAt frame offset) = ap (λ (w : StackPlace). WaitsAtCell (address_of plan w) offset) (spots-replan plan k j job t frame)
 
   -- a row that is another but for segment and place
-  pub TaskShows-replan : (m : Member) (t : Task) (old row : TaskRow) → TaskShows plan m t old → row.job ≡ old.job → row.number ≡ old.number → row.slot ≡ old.slot → row.parent ≡ old.parent → row.critical ≡ old.critical → row.state ≡ old.state
+  pub TaskShows-replan : (m : SessionJob) (t : Task) (old row : TaskRow) → TaskShows plan m t old → row.job ≡ old.job → row.number ≡ old.number → row.slot ≡ old.slot → row.parent ≡ old.parent → row.critical ≡ old.critical → row.state ≡ old.state
       → (row.slot ≢ k → row.segment ≡ t.segment + 1) → (row.slot ≢ k → row.place ≡ t.place) → TaskShows (with_running plan k) m t row
   TaskShows-replan m t old row h ej en es ep ec et segment place = record {
     job = ej ∙ h.job;
     number = en ∙ h.number;
     slot = es ∙ h.slot;
-    parent = ep ∙ h.parent ∙ sym (parent_slot-replan m.setting.number t.parents);
-    critical = ec ∙ h.critical ∙ sym (critical-replan m.setting.number m.course.job t.critical t.parents);
-    state = et ∙ h.state ∙ sym (shown-replan m.setting.number m.course.job t t.condition);
+    parent = ep ∙ h.parent ∙ sym (parent_slot-replan m.constants.number t.parents);
+    critical = ec ∙ h.critical ∙ sym (critical-replan m.constants.number m.progress.job t.critical t.parents);
+    state = et ∙ h.state ∙ sym (shown-replan m.constants.number m.progress.job t t.condition);
     segment = segment;
     place = place;
   }
 
-  pub JobsShow-replan : (jobs : List Member) (rows : List JobRow) → JobsShow plan jobs rows → JobsShow (with_running plan k) jobs rows
+  pub JobsShow-replan : (jobs : List SessionJob) (rows : List JobRow) → JobsShow plan jobs rows → JobsShow (with_running plan k) jobs rows
   JobsShow-replan [] [] h = h
   JobsShow-replan [] (r ∷ rows) h = absurd h
   JobsShow-replan (m ∷ more) [] h = absurd h
   JobsShow-replan (m ∷ more) (r ∷ rows) h =
       (record { dictionary = h.0.dictionary; segments = h.0.segments; rows = h.0.rows; limit = h.0.limit; made = h.0.made; next_task = h.0.next_task; numbers = h.0.numbers }, JobsShow-replan more rows h.1)
 
-module _ (x : Storage) (core : List Tagged) (r : Regs) (marks : List ℕ) (plan : Plan) (s : Session) (o : IsInOrderButPlaces s) (h : SessionHolds x core r marks plan s)
+module _ (x : Storage) (core : List Tagged) (r : Regs) (marks : List ℕ) (plan : Placement) (s : Session) (o : IsInOrderButPlaces s) (h : SessionHolds x core r marks plan s)
     (rows : List TaskRow) (job_rows : List JobRow) (c : Counts) (shows : TablesShow plan s rows job_rows c) (few : length rows ≤ 120) where
-  is_running : (m : Member) (t : Task) → Has s.jobs m → Has m.course.job.tasks t → plan.running ≡ slot_of plan m.setting.number t.number → IsRunning plan s.jobs m t
-  is_running m t inm int e = record { member = first_member 1 s.jobs m o.numbered inm; task = live_in_order s m t o inm int; slot = e }
+  is_running : (m : SessionJob) (t : Task) → Has s.jobs m → Has m.progress.job.tasks t → plan.running ≡ slot_of plan m.constants.number t.number → IsRunning plan s.jobs m t
+  is_running m t inm int e = record { member = keyed_member 1 s.jobs m o.numbered inm; task = live_in_order s m t o inm int; slot = e }
 
   module _ (row : TaskRow) (at : slice_get rows c.running ≡ Some row) where
     abbrev pub noted : TaskRow
@@ -93,12 +81,12 @@ module _ (x : Storage) (core : List Tagged) (r : Regs) (marks : List ℕ) (plan 
     in_use = let P : Option TaskRow → Type 0 = λ y. RunningRow plan y c.running in (subst P at shows.counts.running).1
 
     -- the row shows the running task, also under the plan where its registers aren't in use
-    noted_shows : (m : Member) (t : Task) → Has s.jobs m → Has m.course.job.tasks t → TaskShows plan m t row → TaskShows (with_running plan 255) m t noted
+    noted_shows : (m : SessionJob) (t : Task) → Has s.jobs m → Has m.progress.job.tasks t → TaskShows plan m t row → TaskShows (with_running plan 255) m t noted
     noted_shows m t inm int w =
         let stands = h.running m t (is_running m t inm int (sym in_use ∙ w.slot)) in
         TaskShows-replan plan 255 m t row noted w refl refl refl refl refl refl (λ ne. stands.segment) (λ ne. stands.place)
 
-    other_shows : (k : ℕ) (y : TaskRow) (m : Member) (t : Task) → k ≢ c.running → slice_get rows k ≡ Some y → TaskShows plan m t y → TaskShows (with_running plan 255) m t y
+    other_shows : (k : ℕ) (y : TaskRow) (m : SessionJob) (t : Task) → k ≢ c.running → slice_get rows k ≡ Some y → TaskShows plan m t y → TaskShows (with_running plan 255) m t y
     other_shows k y m t ne at_k w =
         let apart : y.slot ≢ plan.running = λ e. ne (differ_at (λ (z : TaskRow). z.slot) rows k c.running y row shows.once at_k at (e ∙ sym in_use)) in
         TaskShows-replan plan 255 m t y y w refl refl refl refl refl refl (λ z. w.segment apart) (λ z. w.place apart)
@@ -119,11 +107,11 @@ module _ (x : Storage) (core : List Tagged) (r : Regs) (marks : List ℕ) (plan 
           ⊎_elim
           (λ (e : k ≡ c.running).
           let same : noted ≡ y = same_Some noted y (sym here ∙ ap (slice_get new_rows) (sym e) ∙ at_k) in
-          let (m, t, inm, int, w) = shows.tasks row (at_has rows c.running row at) in
+          let (m, t, inm, int, w) = shows.tasks row (has_get rows c.running row at) in
           (m, t, inm, int, subst (λ (z : TaskRow). TaskShows (with_running plan 255) m t z) same (noted_shows m t inm int w)))
           (λ (ne : k ≡ c.running → ⊥).
           let old : slice_get rows k ≡ Some y = sym (slice_get-set_other rows c.running k noted ne) ∙ at_k in
-          let (m, t, inm, int, w) = shows.tasks y (at_has rows k y old) in
+          let (m, t, inm, int, w) = shows.tasks y (has_get rows k y old) in
           (m, t, inm, int, other_shows k y m t ne old w))
           (cases_eq k c.running);
       each = λ m t inm int.
@@ -132,8 +120,8 @@ module _ (x : Storage) (core : List Tagged) (r : Regs) (marks : List ℕ) (plan 
           ⊎_elim
           (λ (e : k ≡ c.running).
           let same : y ≡ row = same_Some y row (sym at_k ∙ ap (slice_get rows) e ∙ at) in
-          (noted, at_has new_rows c.running noted here, noted_shows m t inm int (subst (λ (z : TaskRow). TaskShows plan m t z) same w)))
-          (λ (ne : k ≡ c.running → ⊥). (y, at_has new_rows k y (slice_get-set_other rows c.running k noted ne ∙ at_k), other_shows k y m t ne at_k w))
+          (noted, has_get new_rows c.running noted here, noted_shows m t inm int (subst (λ (z : TaskRow). TaskShows plan m t z) same w)))
+          (λ (ne : k ≡ c.running → ⊥). (y, has_get new_rows k y (slice_get-set_other rows c.running k noted ne ∙ at_k), other_shows k y m t ne at_k w))
           (cases_eq k c.running);
       once = subst Differ (sym (same_mapped (λ (z : TaskRow). z.slot) rows c.running row noted at refl)) shows.once;
       jobs = JobsShow-replan plan 255 s.jobs job_rows shows.jobs;
@@ -146,15 +134,15 @@ module _ (x : Storage) (core : List Tagged) (r : Regs) (marks : List ℕ) (plan 
       let none : slice_get rows c.running ≡ None = ap (slice_get rows) e ∙ slice_get_past rows 255 (omega (arith, few)) in
       let P : Option TaskRow → Type 0 = λ y. RunningRow plan y c.running in (subst P none shows.counts.running).1
 
-module _ (plan : Plan) (s : Session) (fit : RowsFit plan s.jobs) (small : plan.peak ≤ 120) (idle : plan.running ≡ 255)
+module _ (plan : Placement) (s : Session) (fit : RowsFit plan s.jobs) (small : plan.peak ≤ 120) (idle : plan.running ≡ 255)
     (rows : List TaskRow) (job_rows : List JobRow) (c : Counts) (shows : TablesShow plan s rows job_rows c) where
   -- every row says where its task goes on
-  pub goes_on : (m : Member) (t : Task) (y : TaskRow) → Has s.jobs m → Has m.course.job.tasks t → TaskShows plan m t y → (y.segment ≡ t.segment + 1) × (y.place ≡ t.place)
+  pub goes_on : (m : SessionJob) (t : Task) (y : TaskRow) → Has s.jobs m → Has m.progress.job.tasks t → TaskShows plan m t y → (y.segment ≡ t.segment + 1) × (y.place ≡ t.place)
   goes_on m t y inm int w =
       let apart : y.slot ≢ plan.running = λ e. omega (arith, e, idle, w.slot, slot_below plan s.jobs m t fit inm int) in
       (w.segment apart, w.place apart)
 
-  again : (k : ℕ) (m : Member) (t : Task) (y : TaskRow) → Has s.jobs m → Has m.course.job.tasks t → TaskShows plan m t y → TaskShows (with_running plan k) m t y
+  again : (k : ℕ) (m : SessionJob) (t : Task) (y : TaskRow) → Has s.jobs m → Has m.progress.job.tasks t → TaskShows plan m t y → TaskShows (with_running plan k) m t y
   again k m t y inm int w =
       let on = goes_on m t y inm int w in
       TaskShows-replan plan k m t y y w refl refl refl refl refl refl (λ ne. on.0) (λ ne. on.1)
@@ -170,20 +158,20 @@ module _ (plan : Plan) (s : Session) (fit : RowsFit plan s.jobs) (small : plan.p
   }
 
 -- a job's row
-pub record JobAt (plan : Plan) (rows : List JobRow) (i : ℕ) (m : Member) : Type 0 where
+pub record JobAt (plan : Placement) (rows : List JobRow) (i : ℕ) (m : SessionJob) : Type 0 where
   pub row : JobRow
   pub at : slice_get rows i ≡ Some row
   pub shows : JobShows plan m row
 
-pub job_at : (plan : Plan) (n : ℕ) (jobs : List Member) (rows : List JobRow) (m : Member) → NumberedFrom n jobs → JobsShow plan jobs rows → Has jobs m → JobAt plan rows (m.setting.number - n) m
+pub job_at : (plan : Placement) (n : ℕ) (jobs : List SessionJob) (rows : List JobRow) (m : SessionJob) → NumberedFrom n jobs → JobsShow plan jobs rows → Has jobs m → JobAt plan rows (m.constants.number - n) m
 job_at plan n [] rows m d h inm = absurd inm
 job_at plan n (y ∷ more) [] m d h inm = absurd h
 job_at plan n (y ∷ more) (r ∷ rows) m d h (inl e) =
-    let P : Member → Type 0 = λ z. JobAt plan (r ∷ rows) (z.setting.number - n) z in
-    let first : y.setting.number - n ≡ zero = omega (arith, d.0) in
+    let P : SessionJob → Type 0 = λ z. JobAt plan (r ∷ rows) (z.constants.number - n) z in
+    let first : y.constants.number - n ≡ zero = omega (arith, d.0) in
     subst P e (record { row = r; at = ap (slice_get (r ∷ rows)) first; shows = h.0 })
 job_at plan n (y ∷ more) (r ∷ rows) m d h (inr k) =
     let b = job_at plan (n + 1) more rows m d.1 h.1 k in
     let low = numbered_low (n + 1) more m d.1 k in
-    let next : m.setting.number - n ≡ suc (m.setting.number - (n + 1)) = omega (arith, low) in
+    let next : m.constants.number - n ≡ suc (m.constants.number - (n + 1)) = omega (arith, low) in
     record { row = b.row; at = ap (slice_get (r ∷ rows)) next ∙ b.at; shows = b.shows }

@@ -5,12 +5,11 @@ use Rattle.std.proofs.lemmas.List.{length-map}
 use Rattle.std.proofs.lemmas.Option.{same_Some, get_or_from_slice_get, slice_get_within}
 use Rattle.b67_word.specs.Tagged.{Tagged}
 use Rattle.b67_ctl.specs.declared.registers.Regs.{Regs}
-use Rattle.b67_model.specs.State.{Task, Member}
+use Rattle.b67_model.specs.State.{Task, SessionJob}
 use Rattle.b67_model.specs.Schedule.{Session}
 use Rattle.b67_model.specs.InOrder.{JobInOrder, IsSegment, IsInOrderButPlaces}
-use Rattle.b67_law_order.proofs.Members.{all_in}
-use Rattle.b67_stack.specs.Stands.{Storage}
-use Rattle.b67_layout.specs.Plan.{Plan}
+use Rattle.b67_stack.specs.Represents.{Storage}
+use Rattle.b67_layout.specs.Placement.{Placement}
 use Rattle.b67_layout.specs.Rows as rows
 use Rattle.b67_layout.specs.Rows.{RunningRow, TablesShow}
 use Rattle.b67_layout.specs.Session.{SessionHolds}
@@ -22,11 +21,13 @@ use Rattle.b67_task_tables.specs.declared.tables.JobRow.{JobRow}
 use Rattle.b67_task_tables.specs.declared.tables.Tasks.{Tasks}
 use Rattle.b67_task_tables.specs.Tables.{task_row, job_row, counts_of, TasksShow}
 use Rattle.b67_task_switch.specs.Standing.{Rests}
-use Rattle.b67_task_switch.proofs.Lists.{at_has, mapped_at, at_mapped, map-slice_set, same_mapped, came_back}
-use Rattle.b67_task_switch.proofs.Tables.{first_member, numbered_low, live_in_order, paused, resumed, goes_on, job_at}
+use Rattle.b67_task_switch.proofs.Tables.{live_in_order, paused, resumed, goes_on, job_at}
+use Rattle.b67_lemmas.proofs.Members.{all_in, has_get}
+use Rattle.b67_lemmas.proofs.Places.{at_mapped, map-slice_set, mapped_at, refill_whole, same_mapped}
+use Rattle.b67_law_order.proofs.Numbered.{keyed_member, numbered_low}
 
-pub record TurnKnown (tasks : Tasks) (plan : Plan) (s : Session) (r : TaskRow) : Type 0 where
-  pub member : Member
+pub record TurnKnown (tasks : Tasks) (plan : Placement) (s : Session) (r : TaskRow) : Type 0 where
+  pub member : SessionJob
   pub task : Task
   pub job : JobRow
   pub from_one : 1 ≤ r.job
@@ -34,15 +35,15 @@ pub record TurnKnown (tasks : Tasks) (plan : Plan) (s : Session) (r : TaskRow) :
   pub fits : job.segments + job.rows < 2 ^ 16
   pub turn : IsTurnOf plan s.jobs member task (record { slot = r.slot; dict = job.dict; entries = job.segments + job.rows; segment = r.segment; place = r.place })
 
-pub turn_known : (tasks : Tasks) (plan : Plan) (s : Session) → Rests tasks plan s → (i : ℕ) (r : TaskRow) → slice_get tasks.rows.items i ≡ Some r → TurnKnown tasks plan s r
+pub turn_known : (tasks : Tasks) (plan : Placement) (s : Session) → Rests tasks plan s → (i : ℕ) (r : TaskRow) → slice_get tasks.rows.items i ≡ Some r → TurnKnown tasks plan s r
 turn_known tasks plan s q i r at =
-    let (m, t, inm, int, w) = q.shows.tasks (task_row r) (at_has (map task_row tasks.rows.items) i (task_row r) (at_mapped task_row tasks.rows.items i r at)) in
+    let (m, t, inm, int, w) = q.shows.tasks (task_row r) (has_get (map task_row tasks.rows.items) i (task_row r) (at_mapped task_row tasks.rows.items i r at)) in
     let b = job_at plan 1 s.jobs (map job_row tasks.jobs) m q.ordered.numbered q.shows.jobs inm in
-    let (j, there_is, same) = mapped_at job_row tasks.jobs (m.setting.number - 1) b.row b.at in
-    let in_order = all_in (λ (y : Member). JobInOrder (IsSegment y.setting) y.setting y.course) s.jobs m q.ordered.jobs inm in
+    let (j, there_is, same) = mapped_at job_row tasks.jobs (m.constants.number - 1) b.row b.at in
+    let in_order = all_in (λ (y : SessionJob). JobInOrder (IsSegment y.constants) y.constants y.progress) s.jobs m q.ordered.jobs inm in
     let on = goes_on plan s q.fits (omega (arith, q.few)) q.none (map task_row tasks.rows.items) (map job_row tasks.jobs) (counts_of tasks) q.shows m t (task_row r) inm int w in
-    let segments : j.segments ≡ length m.setting.segments = ap (λ (y : rows.JobRow). y.segments) same ∙ b.shows.segments in
-    let entries : j.segments + j.rows ≡ length m.setting.dictionary.cells = ap (λ (y : rows.JobRow). y.segments + y.rows) same ∙ b.shows.rows in
+    let segments : j.segments ≡ length m.constants.segments = ap (λ (y : rows.JobRow). y.segments) same ∙ b.shows.segments in
+    let entries : j.segments + j.rows ≡ length m.constants.dictionary.cells = ap (λ (y : rows.JobRow). y.segments + y.rows) same ∙ b.shows.rows in
     record {
       member = m;
       task = t;
@@ -51,7 +52,7 @@ turn_known tasks plan s q i r at =
       at = ap (λ (n : ℕ). slice_get tasks.jobs (n - 1)) w.job ∙ there_is;
       fits = omega (arith, entries, in_order.unchanging.entries);
       turn = record {
-        member = first_member 1 s.jobs m q.ordered.numbered inm;
+        member = keyed_member 1 s.jobs m q.ordered.numbered inm;
         task = live_in_order s m t q.ordered inm int;
         slot = w.slot;
         dict = ap (λ (y : rows.JobRow). y.dictionary) same ∙ b.shows.dictionary;
@@ -62,11 +63,11 @@ turn_known tasks plan s q i r at =
     }
 
 -- the row of the running task
-pub running_row : (plan : Plan) (o : Option rows.TaskRow) (n : ℕ) → RunningRow plan o n → n ≢ 255 → (row : rows.TaskRow) × (o ≡ Some row)
+pub running_row : (plan : Placement) (o : Option rows.TaskRow) (n : ℕ) → RunningRow plan o n → n ≢ 255 → (row : rows.TaskRow) × (o ≡ Some row)
 running_row plan None n h ne = absurd (ne h.0)
 running_row plan (Some row) n h ne = (row, refl)
 
-pub running_in : (tasks : Tasks) (plan : Plan) (s : Session) → TasksShow plan s tasks → tasks.running ≢ 255 → (r : TaskRow) × (slice_get tasks.rows.items tasks.running ≡ Some r)
+pub running_in : (tasks : Tasks) (plan : Placement) (s : Session) → TasksShow plan s tasks → tasks.running ≢ 255 → (r : TaskRow) × (slice_get tasks.rows.items tasks.running ≡ Some r)
 running_in tasks plan s shows ne =
     let (row, at) = running_row plan (slice_get (map task_row tasks.rows.items) tasks.running) tasks.running shows.counts.running ne in
     let (r, there_is, same) = mapped_at task_row tasks.rows.items tasks.running row at in
@@ -85,12 +86,12 @@ module _ (tasks : Tasks) (r : TaskRow) (at : slice_get tasks.rows.items tasks.ru
   noted_row = record r { segment = regs.segment; place = regs.place }
 
   back : refill (length tasks.rows.items) tasks.rows.items new ≡ slice_set tasks.rows.items tasks.running noted_row
-  back = came_back tasks.rows.items new len ∙ is
+  back = refill_whole tasks.rows.items new len ∙ is
 
   pub slots_stay : map (λ (z : TaskRow). z.slot) (refill (length tasks.rows.items) tasks.rows.items new) ≡ map (λ (z : TaskRow). z.slot) tasks.rows.items
   slots_stay = ap (map (λ (z : TaskRow). z.slot)) back ∙ same_mapped (λ (z : TaskRow). z.slot) tasks.rows.items tasks.running r noted_row at refl
 
-  pub rests_after : (x : Storage) (core : List Tagged) (marks : List ℕ) (plan : Plan) (s : Session) → IsInOrderButPlaces s → SessionHolds x core regs marks plan s → TasksShow plan s tasks → length tasks.rows.items ≤ 120
+  pub rests_after : (x : Storage) (core : List Tagged) (marks : List ℕ) (plan : Placement) (s : Session) → IsInOrderButPlaces s → SessionHolds x core regs marks plan s → TasksShow plan s tasks → length tasks.rows.items ≤ 120
       → TablesShow (with_running plan 255) s (map task_row (refill (length tasks.rows.items) tasks.rows.items new)) (map job_row tasks.jobs) (record (counts_of tasks) { running = 255 })
   rests_after x core marks plan s o h shows few =
       let made : map task_row (refill (length tasks.rows.items) tasks.rows.items new) ≡ slice_set (map task_row tasks.rows.items) tasks.running (task_row noted_row) =
@@ -102,7 +103,7 @@ module _ (tasks : Tasks) (r : TaskRow) (at : slice_get tasks.rows.items tasks.ru
 pub seen_row : (xs seen : List TaskRow) (i : ℕ) (r d : TaskRow) → seen ≡ xs → slice_get xs i ≡ Some r → get_or seen i d ≡ r
 seen_row xs seen i r d e at = get_or_from_slice_get seen i r d (ap (λ (l : List TaskRow). slice_get l i) e ∙ at)
 
-module _ (tasks : Tasks) (plan : Plan) (s : Session) (r : TaskRow) (k : TurnKnown tasks plan s r) (v : TaskRow) (is : v ≡ r) (seen : List JobRow) (same : seen ≡ tasks.jobs) where
+module _ (tasks : Tasks) (plan : Placement) (s : Session) (r : TaskRow) (k : TurnKnown tasks plan s r) (v : TaskRow) (is : v ≡ r) (seen : List JobRow) (same : seen ≡ tasks.jobs) where
   found : slice_get seen (v.job - 1) ≡ Some k.job
   found = ap (λ (l : List JobRow). slice_get l (v.job - 1)) same ∙ ap (λ (z : TaskRow). slice_get tasks.jobs (z.job - 1)) is ∙ k.at
 
@@ -119,7 +120,7 @@ module _ (tasks : Tasks) (plan : Plan) (s : Session) (r : TaskRow) (k : TurnKnow
     pub seen_fits : j.segments + j.rows < 2 ^ 16
     seen_fits = omega (arith, k.fits, ap (λ (z : JobRow). z.segments + z.rows) job_is)
 
-    pub seen_turn : (m : Member) × (t : Task) × IsTurnOf plan s.jobs m t (record { slot = v.slot; dict = j.dict; entries = j.segments + j.rows; segment = v.segment; place = v.place })
+    pub seen_turn : (m : SessionJob) × (t : Task) × IsTurnOf plan s.jobs m t (record { slot = v.slot; dict = j.dict; entries = j.segments + j.rows; segment = v.segment; place = v.place })
     seen_turn =
         let made : JobRow → TaskRow → Turn = λ y z. record { slot = z.slot; dict = y.dict; entries = y.segments + y.rows; segment = z.segment; place = z.place } in
         let e : made k.job r ≡ made j v = sym (ap (λ (y : JobRow). made y v) job_is ∙ ap (made k.job) is) in
@@ -134,15 +135,15 @@ pub inside_same : (old new : List TaskRow) (i : ℕ) → map (λ (z : TaskRow). 
 inside_same old new i e h = omega (arith, h, length-map new (λ (z : TaskRow). z.slot), length-map old (λ (z : TaskRow). z.slot), ap length e)
 
 -- the tables where no registers are in use
-pub rests_is : (x : Storage) (core : List Tagged) (r : Regs) (marks : List ℕ) (plan : Plan) (s : Session) (tasks : Tasks) → IsInOrderButPlaces s → SessionHolds x core r marks plan s → TasksShow (with_running plan 255) s tasks → Rests tasks (with_running plan 255) s
+pub rests_is : (x : Storage) (core : List Tagged) (r : Regs) (marks : List ℕ) (plan : Placement) (s : Session) (tasks : Tasks) → IsInOrderButPlaces s → SessionHolds x core r marks plan s → TasksShow (with_running plan 255) s tasks → Rests tasks (with_running plan 255) s
 rests_is x core r marks plan s tasks o h shows = record { ordered = o; fits = fit_replan plan 255 s.jobs h.fits.rows; few = omega (arith, h.fits.few); none = refl; shows = shows }
 
 -- the turn under the plan before
-pub turn_out : (plan : Plan) (k : ℕ) (s : Session) (m : Member) (t : Task) (turn : Turn) → IsTurnOf (with_running plan k) s.jobs m t turn → IsTurnOf plan s.jobs m t turn
+pub turn_out : (plan : Placement) (k : ℕ) (s : Session) (m : SessionJob) (t : Task) (turn : Turn) → IsTurnOf (with_running plan k) s.jobs m t turn → IsTurnOf plan s.jobs m t turn
 turn_out plan k s m t turn q = record { member = q.member; task = q.task; slot = q.slot; dict = q.dict; entries = q.entries; segment = q.segment; place = q.place }
 
 -- the tables once the registers of a row's task are in use
-pub in_use_again : (tasks : Tasks) (plan : Plan) (s : Session) → Rests tasks (with_running plan 255) s → (i : ℕ) (r : TaskRow) → slice_get tasks.rows.items i ≡ Some r → i < 120
+pub in_use_again : (tasks : Tasks) (plan : Placement) (s : Session) → Rests tasks (with_running plan 255) s → (i : ℕ) (r : TaskRow) → slice_get tasks.rows.items i ≡ Some r → i < 120
     → TablesShow (with_running plan r.slot) s (map task_row tasks.rows.items) (map job_row tasks.jobs) (record (counts_of tasks) { running = i })
 in_use_again tasks plan s q i r at low =
     resumed (with_running plan 255) s q.fits (omega (arith, q.few)) refl (map task_row tasks.rows.items) (map job_row tasks.jobs) (counts_of tasks) q.shows i (task_row r) (at_mapped task_row tasks.rows.items i r at) (λ e. omega (arith, e, low))

@@ -4,21 +4,21 @@ use Rattle.b67_word.specs.Tagged.{Tagged}
 use Rattle.b67_ctl.specs.declared.registers.Regs.{Regs}
 use Rattle.b67_model.specs.Schedule.{Session}
 use Rattle.b67_model.specs.InOrder.{IsInOrderButPlaces}
-use Rattle.b67_stack.specs.Stands.{Storage}
-use Rattle.b67_layout.specs.Plan.{Plan}
+use Rattle.b67_stack.specs.Represents.{Storage}
+use Rattle.b67_layout.specs.Placement.{Placement}
 use Rattle.b67_layout.specs.Session.{RowsFit, SessionHolds}
 use Rattle.b67_task_tables.specs.declared.tables.Tasks.{Tasks}
 use Rattle.b67_task_tables.specs.declared.tables.Machine.{Machine}
-use Rattle.b67_task_tables.specs.Tables.{TasksShow, MachineStands}
+use Rattle.b67_task_tables.specs.Tables.{TasksShow, MachineRepresents}
 
 -- the machine stands for some session in order, and has a row of this number
 pub record HasRow (k : Machine) (row : ℕ) : Type 0 where
   pub storage : Storage
   pub told : Option (List (List ℕ))
-  pub plan : Plan
+  pub plan : Placement
   pub session : Session
   pub ordered : IsInOrderButPlaces session
-  pub stands : MachineStands storage told k plan session
+  pub stands : MachineRepresents storage told k plan session
   pub inside : row < length k.tasks.rows.items
 
 -- the registers and the tables are those of a session in order
@@ -26,14 +26,14 @@ pub record InUse (r : Regs) (tasks : Tasks) : Type 0 where
   pub storage : Storage
   pub core : List Tagged
   pub marks : List ℕ
-  pub plan : Plan
+  pub plan : Placement
   pub session : Session
   pub ordered : IsInOrderButPlaces session
   pub holds : SessionHolds storage core r marks plan session
   pub shows : TasksShow plan session tasks
 
 -- the tables show a session in order, where no task's registers are in use
-pub record Rests (tasks : Tasks) (plan : Plan) (s : Session) : Type 0 where
+pub record Rests (tasks : Tasks) (plan : Placement) (s : Session) : Type 0 where
   pub ordered : IsInOrderButPlaces s
   pub fits : RowsFit plan s.jobs
   pub few : plan.peak < 121

@@ -1,8 +1,8 @@
 //! Another task runs, and the same session stands.
 #![tactic(auto)]
 
-pub mod switching;
+mod switching;
 mod turning;
 
-pub use switching::Turn;
+pub use switching::{Turn, switch_stack};
 pub use turning::switch_to;

@@ -2,16 +2,16 @@
 
 ghost use Rattle.std.specs.Prelude.{◌≡◌, ◌≢◌, ℕ, ◌+◌, ◌<◌, ◌≤◌, ◌^◌, List, length, slice_get};
 ghost use Rattle.b67_ctl.specs.Layout.{toscw_word};
-ghost use Rattle.b67_model.specs.State.{Task, Member};
+ghost use Rattle.b67_model.specs.State.{Task, SessionJob};
 ghost use Rattle.b67_model.specs.Schedule.{Session};
 ghost use Rattle.b67_model.specs.InOrder.{IsInOrderButPlaces};
 ghost use Rattle.b67_stack.specs.declared.Cpu.{Cpu};
 ghost use Rattle.b67_stack.specs.Stacks.{Activation, toscw_of};
-ghost use Rattle.b67_stack.specs.Picture.{Picture, RunsOn};
-ghost use Rattle.b67_stack.specs.Stands.{Storage, Stands};
+ghost use Rattle.b67_stack.specs.MachineView.{MachineView, RunsOn};
+ghost use Rattle.b67_stack.specs.Represents.{Storage, Represents};
 ghost use Rattle.b67_stack.specs.Changes.{Runs};
-ghost use Rattle.b67_layout.specs.Plan.{Plan};
-ghost use Rattle.b67_layout.specs.Session.{SessionStands};
+ghost use Rattle.b67_layout.specs.Placement.{Placement};
+ghost use Rattle.b67_layout.specs.Session.{RepresentsSession};
 ghost use Rattle.b67_task_switch.specs.Turns.{with_running, IsTurnOf, HasTurn, StandsForOne, WaitsOn, WaitsInOne, loaded};
 
 use b67_core::Core;
@@ -34,7 +34,7 @@ pub struct Turn {
 /// The top of stack word of the running task.
 fn top_word(cpu: &Cpu) -> Word
     requires { Runs cpu.now }
-    ensures { (x : Storage) (p : Picture) (stack : List Activation) → Stands x cpu.now.core cpu.now.regs p
+    ensures { (x : Storage) (p : MachineView) (stack : List Activation) → Represents x cpu.now.core cpu.now.regs p
         → RunsOn p cpu.now.regs.slot stack → result ≡ toscw_word (toscw_of stack) }
 {
     let regs = cpu.regs;
@@ -50,8 +50,8 @@ fn top_word(cpu: &Cpu) -> Word
 /// aren't kept. Then no task's registers are in use.
 fn put_away(cpu: &mut Cpu)
     requires { StandsForOne cpu.old }
-    ensures stands { (x : Storage) (plan : Plan) (s : Session) → SessionStands x cpu.old plan s
-        → SessionStands x cpu.new (with_running plan 255) s }
+    ensures stands { (x : Storage) (plan : Placement) (s : Session) → RepresentsSession x cpu.old plan s
+        → RepresentsSession x cpu.new (with_running plan 255) s }
     ensures words { (i : ℕ) → i ≢ cpu.old.regs.bosr → slice_get cpu.new.core i ≡ slice_get cpu.old.core i }
     ensures len { length cpu.new.core ≡ length cpu.old.core }
 {
@@ -66,7 +66,7 @@ fn put_away(cpu: &mut Cpu)
 /// The registers of a waiting task.
 fn registers(core: &Core, regs: &Regs, turn: Turn) -> Regs
     requires { WaitsInOne core.now regs.now turn.slot }
-    ensures { (x : Storage) (p : Picture) (stack : List Activation) → Stands x core.now regs.now p
+    ensures { (x : Storage) (p : MachineView) (stack : List Activation) → Represents x core.now regs.now p
         → WaitsOn p turn.slot stack → result ≡ loaded regs.now p stack turn }
 {
     let _size = core.size();
@@ -95,10 +95,10 @@ fn registers(core: &Core, regs: &Regs, turn: Turn) -> Regs
 
 /// Brings the registers and the display of a live task into use; those of the task that ran before are put away, but for
 /// its segment and place, which the caller keeps. The session's state stays.
-pub fn switch_to(cpu: &mut Cpu, turn: Turn)
+pub fn switch_stack(cpu: &mut Cpu, turn: Turn)
     requires { HasTurn cpu.old turn }
-    ensures stands { (x : Storage) (plan : Plan) (s : Session) (m : Member) (t : Task) → IsInOrderButPlaces s
-        → SessionStands x cpu.old plan s → IsTurnOf plan s.jobs m t turn → SessionStands x cpu.new (with_running plan turn.slot) s }
+    ensures stands { (x : Storage) (plan : Placement) (s : Session) (m : SessionJob) (t : Task) → IsInOrderButPlaces s
+        → RepresentsSession x cpu.old plan s → IsTurnOf plan s.jobs m t turn → RepresentsSession x cpu.new (with_running plan turn.slot) s }
     ensures words { (i : ℕ) → i ≢ cpu.old.regs.bosr → slice_get cpu.new.core i ≡ slice_get cpu.old.core i }
     ensures len { length cpu.new.core ≡ length cpu.old.core }
 {

@@ -2,20 +2,20 @@
 
 ghost use Rattle.std.specs.Prelude.{◌≡◌, ◌≢◌, ℕ, ◌<◌, List, length, map, Option, Some, slice_get, slice_set};
 ghost use Rattle.b67_word.specs.Tagged.{Tagged};
-ghost use Rattle.b67_model.specs.State.{Task, Member};
+ghost use Rattle.b67_model.specs.State.{Task, SessionJob};
 ghost use Rattle.b67_model.specs.Schedule.{Session};
 ghost use Rattle.b67_model.specs.InOrder.{IsInOrderButPlaces};
-ghost use Rattle.b67_stack.specs.Stands.{Storage};
-ghost use Rattle.b67_layout.specs.Plan.{Plan};
+ghost use Rattle.b67_stack.specs.Represents.{Storage};
+ghost use Rattle.b67_layout.specs.Placement.{Placement};
 ghost use Rattle.b67_layout.specs.Session.{SessionHolds};
 ghost use Rattle.b67_task_switch.specs.Turns.{with_running, IsTurnOf};
 ghost use Rattle.b67_task_tables.specs.declared.tables.TaskRow.{TaskRow};
 ghost use Rattle.b67_task_tables.specs.declared.tables.Tasks.{Tasks};
-ghost use Rattle.b67_task_tables.specs.Tables.{TasksShow, MachineStands};
+ghost use Rattle.b67_task_tables.specs.Tables.{TasksShow, MachineRepresents};
 ghost use Rattle.b67_task_switch.specs.Standing.{HasRow, InUse, Rests};
 
+use crate::switching::{Turn, switch_stack};
 use b67_ctl::Regs;
-use crate::switching::Turn;
 use b67_task_tables::{Machine, TaskRow, Tasks};
 
 /// Notes in a row where its task goes on.
@@ -33,7 +33,7 @@ fn note(rows: &mut [TaskRow], at: u8, regs: &Regs)
 /// Notes where the running task goes on, if there is one; then the tables say that no registers are in use.
 fn pause(tasks: &mut Tasks, regs: &Regs)
     requires { InUse regs.now tasks.old }
-    ensures rests { (x : Storage) (core : List Tagged) (marks : List ℕ) (plan : Plan) (s : Session) → IsInOrderButPlaces s
+    ensures rests { (x : Storage) (core : List Tagged) (marks : List ℕ) (plan : Placement) (s : Session) → IsInOrderButPlaces s
         → SessionHolds x core regs.now marks plan s → TasksShow plan s tasks.old → TasksShow (with_running plan 255) s tasks.new }
     ensures rest { tasks.new ≡ record tasks.old { rows = tasks.new.rows; running = 255 } }
     ensures slots { map (λ (r : TaskRow). r.slot) tasks.new.rows.items ≡ map (λ (r : TaskRow). r.slot) tasks.old.rows.items }
@@ -47,9 +47,9 @@ fn pause(tasks: &mut Tasks, regs: &Regs)
 
 /// The turn of a row's task.
 fn turn_of(tasks: &Tasks, row: u8) -> Turn
-    requires known { (plan : Plan) × (s : Session) × Rests tasks.now plan s }
+    requires known { (plan : Placement) × (s : Session) × Rests tasks.now plan s }
     requires inside { row < length tasks.now.rows.items }
-    ensures turn { (plan : Plan) (s : Session) → Rests tasks.now plan s → (m : Member) × (t : Task) × IsTurnOf plan s.jobs m t result }
+    ensures turn { (plan : Placement) (s : Session) → Rests tasks.now plan s → (m : SessionJob) × (t : Task) × IsTurnOf plan s.jobs m t result }
     ensures slot { (r : TaskRow) → slice_get tasks.now.rows.items row ≡ Some r → result.slot ≡ r.slot }
     ensures few { row < 120 }
 {
@@ -68,9 +68,9 @@ fn turn_of(tasks: &Tasks, row: u8) -> Turn
 /// before tells where that one goes on. The session's state stays.
 pub fn switch_to(machine: &mut Machine, row: u8)
     requires { HasRow machine.old row }
-    ensures stands { (x : Storage) (told : Option (List (List ℕ))) (plan : Plan) (s : Session) (r : TaskRow) → IsInOrderButPlaces s
-        → MachineStands x told machine.old plan s → slice_get machine.old.tasks.rows.items row ≡ Some r
-        → MachineStands x told machine.new (with_running plan r.slot) s }
+    ensures stands { (x : Storage) (told : Option (List (List ℕ))) (plan : Placement) (s : Session) (r : TaskRow) → IsInOrderButPlaces s
+        → MachineRepresents x told machine.old plan s → slice_get machine.old.tasks.rows.items row ≡ Some r
+        → MachineRepresents x told machine.new (with_running plan r.slot) s }
     ensures tables { machine.new.tasks ≡ record machine.old.tasks { rows = machine.new.tasks.rows; running = row } }
     ensures words { (i : ℕ) → i ≢ machine.old.cpu.regs.bosr → slice_get machine.new.cpu.core i ≡ slice_get machine.old.cpu.core i }
     ensures areas { machine.new.areas ≡ machine.old.areas }
@@ -78,6 +78,6 @@ pub fn switch_to(machine: &mut Machine, row: u8)
 {
     pause(&mut machine.tasks, &machine.cpu.regs);
     let turn = turn_of(&machine.tasks, row);
-    crate::switching::switch_to(&mut machine.cpu, turn);
+    switch_stack(&mut machine.cpu, turn);
     machine.tasks.running = row;
 }

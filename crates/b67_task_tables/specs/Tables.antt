@@ -1,12 +1,13 @@
 -- When the machine with its tables stands for a session.
-use Rattle.std.specs.Prelude.{ℕ, List, map, Option}
+use Rattle.std.specs.Prelude.{ℕ, ◌<◌, ◌^◌, List, length, map, Option}
+use Rattle.b67_lemmas.specs.Lists.{Has}
 use Rattle.b67_model_text.specs.declared.deck.Switch as text
 use Rattle.b67_model.specs.Schedule.{Switch, Session}
-use Rattle.b67_stack.specs.Stands.{Storage}
-use Rattle.b67_layout.specs.Plan.{Plan}
+use Rattle.b67_stack.specs.Represents.{Storage}
+use Rattle.b67_layout.specs.Placement.{Placement}
 use Rattle.b67_layout.specs.Rows as rows
 use Rattle.b67_layout.specs.Rows.{RowState, IsReady, AwaitsTask, WaitsAtCell, Counts, TablesShow}
-use Rattle.b67_layout.specs.Session.{SessionStands, StorageStands}
+use Rattle.b67_layout.specs.Session.{RepresentsSession, RepresentsStorage}
 use Rattle.b67_task_tables.specs.declared.tables.TaskState.{TaskState}
 use Rattle.b67_task_tables.specs.declared.tables.TaskState.TheVariants.{Ready, Awaits, WaitsAt}
 use Rattle.b67_task_tables.specs.declared.tables.TaskRow.{TaskRow}
@@ -41,11 +42,18 @@ counts_of t = record {
 }
 
 -- the tables of tasks and jobs, and the counts
-abbrev pub TasksShow : Plan → Session → Tasks → Type 0
+abbrev pub TasksShow : Placement → Session → Tasks → Type 0
 TasksShow plan s t = TablesShow plan s (map task_row t.rows.items) (map job_row t.jobs) (counts_of t)
 
 -- the whole machine, over a device that tells what its sectors hold or doesn't
-pub record MachineStands (x : Storage) (told : Option (List (List ℕ))) (k : Machine) (plan : Plan) (s : Session) : Type 0 where
-  pub session : SessionStands x k.cpu plan s
-  pub storage : StorageStands k.areas k.sectors told k.cpu.core x
+pub record MachineRepresents (x : Storage) (told : Option (List (List ℕ))) (k : Machine) (plan : Placement) (s : Session) : Type 0 where
+  pub session : RepresentsSession x k.cpu plan s
+  pub storage : RepresentsStorage k.areas k.sectors told k.cpu.core x
   pub tables : TasksShow plan s k.tasks
+
+-- a job with fewer numbers than the tables can count
+abbrev pub IsCountable : JobRow → Type 0
+IsCountable r = length r.numbers < 2 ^ 32
+
+abbrev pub AreCountable : List JobRow → Type 0
+AreCountable rows = (r : JobRow) → Has rows r → IsCountable r

@@ -11,9 +11,10 @@ use Rattle.b67_model.specs.declared.operators.Code.TheVariants.{Entr}
 use Rattle.b67_model.specs.Answers.{Answer}
 use Rattle.b67_model.specs.Keyed.{keyed}
 use Rattle.b67_lemmas.specs.Lists.{Has}
+use Rattle.b67_lemmas.proofs.Members.{all_in, has_get, has_reverse_back, keyed_has}
 use Rattle.b67_model.specs.Words as Words
 use Rattle.b67_model.specs.Words.{Word, Operand, Name, Ref, Row, Element, Original, Proc, Intrinsic}
-use Rattle.b67_model.specs.State.{Frame, Standing, Marked, Entered, Task, Here, top, mcp, no_frame, all_frames, frame}
+use Rattle.b67_model.specs.State.{Frame, Standing, Marked, Entered, Task, OperatorContext, top, mcp, no_frame, all_frames, frame}
 use Rattle.b67_model.specs.Environment.{running_level}
 use Rattle.b67_model.specs.Cells.{first_offset, cell_of, cell, named, place_of}
 use Rattle.b67_model.specs.Chase.{End, AtCell, AtElement, AtArray, AtProc, AtIntrinsic, Link, Stops, Leads, link_at, link_in, link_from, link, chase_on, follow_reference}
@@ -21,7 +22,6 @@ use Rattle.b67_model.specs.Steps.{top_of, cells_of}
 use Rattle.b67_model.specs.Rows.{stff_word, stff}
 use Rattle.b67_model.specs.InOrder.{Starts, EntryInOrder, SettingInOrder, TasksInOrder}
 use Rattle.b67_model.specs.Called.{called_at, called_by, called_on, called}
-use Rattle.b67_law_order.proofs.Members.{all_in, keyed_has, has_get, has_reverse_back}
 use Rattle.b67_law_order.proofs.Posts.{Post, post_ok, post_err, post_bind, post_any, post_if_is}
 use Rattle.b67_law_order.proofs.Chases.{some_ok}
 use Rattle.b67_uncalled.proofs.Couples.{Apart, split_apart}
@@ -82,7 +82,7 @@ same_intrinsic a b e = cc
 link_intrinsic : (f offset : ℕ) → Apart offset → offset < 17 → LinkApart (link_at f offset (Intrinsic offset))
 link_intrinsic f offset apart low = λ k e. let same = same_intrinsic offset k e in elim apart [ inl x ↦ omega (arith, same, x) | inr y ↦ absurd (omega (arith, y, low)) ]
 
-module _ (P : Starts) (h : Here) (unchanging : SettingInOrder h.setting) (order : TasksInOrder P h.setting h.job) (found : Task) (live : Has h.job.tasks found) (frames : found.frames ≡ h.task.frames) (safe : AllSafe h.job.tasks) where
+module _ (P : Starts) (h : OperatorContext) (unchanging : SettingInOrder h.constants) (order : TasksInOrder P h.constants h.job) (found : Task) (live : Has h.job.tasks found) (frames : found.frames ≡ h.task.frames) (safe : AllSafe h.job.tasks) where
   named_apart : (bits : ℕ) → bits < 2 ^ 14 → Apart bits → Post PlaceApart (named h (couple bits (running_level h)))
   named_apart bits low apart =
       let c = couple bits (running_level h) in
@@ -113,7 +113,7 @@ module _ (P : Starts) (h : Here) (unchanging : SettingInOrder h.setting) (order 
     where
       by : FrameOf h x → x.identity ≡ f → Safe w ⊎ ((f ≡ 0) × IsIntrinsic offset w)
       by (of_task i) named_f = inl (safe i.task i.live x i.among w (cell_has x offset w e))
-      by (is_dictionary d) named_f = inl (entry_safe h.job.arrays w (all_in (EntryInOrder h.job.arrays) h.setting.dictionary.cells w order.entries (subst (λ (y : Frame). Has y.cells w) d (cell_has x offset w e))))
+      by (is_dictionary d) named_f = inl (entry_safe h.job.arrays w (all_in (EntryInOrder h.job.arrays) h.constants.dictionary.cells w order.entries (subst (λ (y : Frame). Has y.cells w) d (cell_has x offset w e))))
       by (is_mcp d) named_f = inr (sym named_f ∙ ap (λ (y : Frame). y.identity) d, mcp_cell offset w (subst (λ (y : Frame). cell_of y offset ≡ Some w) d e))
 
   link_cell : (f offset : ℕ) → PlaceApart (f, offset) → (a : Answer Word) → cell h f offset ≡ a → LinkApart (link_in f offset a)

@@ -1,7 +1,7 @@
 -- Each step of a task leaves its job with safe words.
-use Rattle.std.proofs.Common.{◌≡◌, ℕ, zero, suc, ◌+◌, ◌-◌, Bool, true, false, not, eqb, ◌&&◌, List, [], ◌∷◌, map, filter, Option, Some, None, Ok, Err, refl, sym, ap, ◌∙◌, subst, inl, inr, ◌⊎◌}
+use Rattle.std.proofs.Common.{◌≡◌, ℕ, zero, suc, ◌+◌, ◌-◌, Bool, true, false, not, eqb, List, [], ◌∷◌, map, filter, Option, Some, None, Ok, Err, refl, sym, ◌∙◌, subst, inl, inr, ◌⊎◌}
 use Rattle.std.specs.List.{slice_get}
-use Rattle.std.proofs.lemmas.Bool.{true≢false}
+use Rattle.std.proofs.lemmas.Bool.{and_parts}
 use Rattle.std.proofs.lemmas.Bool.Decides.{eqb_tells}
 use Rattle.b67_word.specs.declared.couples.Place.{Place}
 use Rattle.b67_word.specs.declared.faults.Ending.{Ending}
@@ -12,41 +12,38 @@ use Rattle.b67_model.specs.declared.operators.Code.TheVariants.{Stff}
 use Rattle.b67_model.specs.Answers.{Answer}
 use Rattle.b67_model.specs.Keyed.{keyed, change_keyed}
 use Rattle.b67_lemmas.specs.Lists.{Has}
+use Rattle.b67_lemmas.proofs.Members.{all_in, has_filter, has_map_back, keyed_has}
 use Rattle.b67_model.specs.Words as Words
 use Rattle.b67_model.specs.Words.{Word, Operand, Name, Ref, Row, Element, Original, Proc, Intrinsic}
-use Rattle.b67_model.specs.State.{Frame, Standing, Task, Segment, Setting, Job, Course, Here, with_task}
+use Rattle.b67_model.specs.State.{Frame, Standing, Task, Segment, JobConstants, Job, JobProgress, OperatorContext, with_task}
 use Rattle.b67_model.specs.Environment.{level_of_frame, running}
 use Rattle.b67_model.specs.Operators.{Reading, operator_at}
 use Rattle.b67_model.specs.Loader.{Entry, At, Break, origin, listing}
+use Rattle.b67_model.specs.Called.{called}
 use Rattle.b67_model.specs.Steps.{Line, Done, Goes, Leaves, Waits}
 use Rattle.b67_model.specs.Rows.{stff, row, reading_of, step_by, step}
 use Rattle.b67_model.specs.Endings.{Settled, among, released, ends_all, ends_task, ends_each_if, unsettled, settles, stepped}
 use Rattle.b67_model.specs.Alone.{by_task, step_of}
 use Rattle.b67_model.specs.InOrder.{IsStart, SettingInOrder, TaskInOrder, TasksInOrder}
-use Rattle.b67_law_order.proofs.Members.{all_in, has_map_back, has_filter, keyed_has}
 use Rattle.b67_law_order.proofs.Posts.{post_at}
 use Rattle.b67_law_order_rows.proofs.Kept.{here}
 use Rattle.b67_law_order_steps.proofs.Readings.{ReadFits}
 use Rattle.b67_law_order_steps.proofs.Segments.{reading_fits}
 use Rattle.b67_law_order_steps.proofs.Admitted.{Entered, entered}
-use Rattle.b67_law_made.specs.Made.{Makes, StandsIn}
+use Rattle.b67_law_made.specs.Made.{OperatorMakes, StandsIn}
 use Rattle.b67_law_made.proofs.Rows.{each_row_makes_its_words}
 use Rattle.b67_law_made.proofs.Steps as S
+use Rattle.b67_law_made.proofs.Ended.{op_read}
 use Rattle.b67_uncalled.specs.Uncalled.{op_uses_built, entries_use_built, segments_use_built}
 use Rattle.b67_uncalled.proofs.Couples.{apart_by}
 use Rattle.b67_uncalled.proofs.Safe.{Safe, AllSafe}
 use Rattle.b67_uncalled.proofs.Chains.{stff_safe}
 
--- the operators of a segment
-both : (a b : Bool) → (a && b) ≡ true → (a ≡ true) × (b ≡ true)
-both true b e = (refl, e)
-both false b e = absurd (true≢false (sym e))
-
 entry_built : (level : ℕ) (entries : List Entry) (place : Place) (op : Op) → entries_use_built level entries ≡ true → Has entries (At place op) → op_uses_built level op ≡ true
 entry_built level [] place op e k = absurd k
 entry_built level (Break at why ∷ more) place op e k = elim k [ inl is ↦ absurd (let z : ⊥ = cc in z) | inr m ↦ entry_built level more place op e m ]
 entry_built level (At at other ∷ more) place op e k =
-    let r = both (op_uses_built level other) (entries_use_built level more) e in
+    let r = and_parts (op_uses_built level other) (entries_use_built level more) e in
     elim k [
       | inl is ↦ let same : other ≡ op = cc in subst (λ (o : Op). op_uses_built level o ≡ true) same r.0
       | inr m ↦ entry_built level more place op r.1 m
@@ -54,67 +51,64 @@ entry_built level (At at other ∷ more) place op e k =
 
 segment_built : (segments : List Segment) (i : ℕ) (s : Segment) → segments_use_built segments ≡ true → slice_get segments i ≡ Some s → entries_use_built s.level (listing s.code) ≡ true
 segment_built [] i s e found = cc
-segment_built (x ∷ more) zero s e found = let same : x ≡ s = cc in subst (λ (y : Segment). entries_use_built y.level (listing y.code) ≡ true) same (both (entries_use_built x.level (listing x.code)) (segments_use_built more) e).0
-segment_built (x ∷ more) (suc i) s e found = segment_built more i s (both (entries_use_built x.level (listing x.code)) (segments_use_built more) e).1 found
-
-op_read : (a b : Op) (m n : Place) → (let first : Reading = Ok (a, m) in first ≡ Ok (b, n)) → a ≡ b
-op_read a b m n e = let pair : (a, m) ≡ (b, n) = cc in ap (λ (y : Op × Place). y.0) pair
+segment_built (x ∷ more) zero s e found = let same : x ≡ s = cc in subst (λ (y : Segment). entries_use_built y.level (listing y.code) ≡ true) same (and_parts (entries_use_built x.level (listing x.code)) (segments_use_built more) e).0
+segment_built (x ∷ more) (suc i) s e found = segment_built more i s (and_parts (entries_use_built x.level (listing x.code)) (segments_use_built more) e).1 found
 
 -- the operator that is read at a start
-read_built : (setting : Setting) (task : Task) (level : ℕ) (op : Op) (next : Place) → segments_use_built setting.segments ≡ true → IsStart setting task.segment level task.place → reading_of setting task ≡ Ok (op, next) → (l : ℕ) × (op_uses_built l op ≡ true)
-read_built setting task level op next built at e =
+read_built : (constants : JobConstants) (task : Task) (level : ℕ) (op : Op) (next : Place) → segments_use_built constants.segments ≡ true → IsStart constants task.segment level task.place → reading_of constants task ≡ Ok (op, next) → (l : ℕ) × (op_uses_built l op ≡ true)
+read_built constants task level op next built at e =
     let entry : Entered at.code.code (listing at.code.code) task.place at.op = entered _ at.code.code origin (operator_at at.code.code origin) task.place at.op refl at.stands in
     let is : operator_at at.code.code task.place ≡ Ok (op, next) = rw at.found at e in
     let same : at.op ≡ op = op_read at.op op entry.next next (sym entry.reads ∙ is) in
-    (at.code.level, subst (λ (o : Op). op_uses_built at.code.level o ≡ true) same (entry_built at.code.level (listing at.code.code) task.place at.op (segment_built setting.segments (task.segment - 1) at.code built at.found) at.stands))
+    (at.code.level, subst (λ (o : Op). op_uses_built at.code.level o ≡ true) same (entry_built at.code.level (listing at.code.code) task.place at.op (segment_built constants.segments (task.segment - 1) at.code built at.found) at.stands))
 
 -- the job of a step, and its task
-pub record Stands (setting : Setting) (job : Job) (task : Task) : Type 0 where
-  pub unchanging : SettingInOrder setting
-  pub order : TasksInOrder (IsStart setting) setting job
-  pub built : segments_use_built setting.segments ≡ true
+pub record Stands (constants : JobConstants) (job : Job) (task : Task) : Type 0 where
+  pub unchanging : SettingInOrder constants
+  pub order : TasksInOrder (IsStart constants) constants job
+  pub built : segments_use_built constants.segments ≡ true
   pub live : Has job.tasks task
 
-name_safe : (setting : Setting) (job : Job) (task : Task) (op : Op) (next : Place) (couple : ℕ) → Stands setting job task → reading_of setting task ≡ Ok (op, next) → op ≡ Namc couple → Safe (Name couple)
-name_safe setting job task op next couple s e is =
-    let own = all_in (TaskInOrder (IsStart setting) setting job) job.tasks task s.order.tasks s.live in
-    let named : reading_of setting task ≡ Ok (Namc couple, next) = subst (λ (o : Op). reading_of setting task ≡ Ok (o, next)) is e in
-    let read : ReadFits (Ok (Namc couple, next)) = subst ReadFits named (reading_fits setting task s.unchanging) in
-    let built = read_built setting task (level_of_frame (running task.frames)) (Namc couple) next s.built own.place named in
+name_safe : (constants : JobConstants) (job : Job) (task : Task) (op : Op) (next : Place) (couple : ℕ) → Stands constants job task → reading_of constants task ≡ Ok (op, next) → op ≡ Namc couple → Safe (Name couple)
+name_safe constants job task op next couple s e is =
+    let own = all_in (TaskInOrder (IsStart constants) constants job) job.tasks task s.order.tasks s.live in
+    let named : reading_of constants task ≡ Ok (Namc couple, next) = subst (λ (o : Op). reading_of constants task ≡ Ok (o, next)) is e in
+    let read : ReadFits (Ok (Namc couple, next)) = subst ReadFits named (reading_fits constants task s.unchanging) in
+    let built = read_built constants task (level_of_frame (running task.frames)) (Namc couple) next s.built own.place named in
     (read.0, apart_by couple built.0 built.1)
 
 abbrev AnyMark : ℕ → Standing → Type 0
 AnyMark n standing = Unit {0}
 
 -- the row of STFF
-stff_keeps : (setting : Setting) (job : Job) (task : Task) (next : Place) (after : Job) (printed : List Line) (touched : Option ℕ) → Stands setting job task → AllSafe job.tasks → row (Plain Stff) (here setting job task next) ≡ Ok (Goes after printed touched) → AllSafe after.tasks
-stff_keeps setting job task next after printed touched s safe e = λ t live f among w has. (good t live f among).0 w has
+stff_keeps : (constants : JobConstants) (job : Job) (task : Task) (next : Place) (after : Job) (printed : List Line) (touched : Option ℕ) → Stands constants job task → AllSafe job.tasks → row (Plain Stff) (here constants job task next) ≡ Ok (Goes after printed touched) → AllSafe after.tasks
+stff_keeps constants job task next after printed touched s safe e = λ t live f among w has. (good t live f among).0 w has
   where
-    h : Here
-    h = here setting job task next
+    h : OperatorContext
+    h = here constants job task next
 
     source : S.Source Safe AnyMark (λ bits. tt) h
     source = record { tasks = λ t live f among. (safe t live f among, tt); own = λ f among. (safe task s.live f among, tt) }
 
     good : S.TasksMade Safe AnyMark (λ bits. tt) after.tasks
     good = post_at (S.Kept Safe AnyMark (λ bits. tt)) (row (Plain Stff) h) (Goes after printed touched) e
-        (S.on_cells_good Safe AnyMark (λ bits. tt) h (stff h) source (stff_safe (IsStart setting) h s.unchanging s.order task s.live refl safe))
+        (S.on_cells_good Safe AnyMark (λ bits. tt) h (stff h) source (stff_safe (IsStart constants) h s.unchanging s.order task s.live refl safe))
 
 -- the row of any operator
-row_keeps : (setting : Setting) (job : Job) (task : Task) (op : Op) (next : Place) (after : Job) (printed : List Line) (touched : Option ℕ) → Stands setting job task → AllSafe job.tasks →
-    reading_of setting task ≡ Ok (op, next) → row op (here setting job task next) ≡ Ok (Goes after printed touched) → AllSafe after.tasks
-row_keeps setting job task op next after printed touched s safe reads e t live f among w has =
+row_keeps : (constants : JobConstants) (job : Job) (task : Task) (op : Op) (next : Place) (after : Job) (printed : List Line) (touched : Option ℕ) → Stands constants job task → AllSafe job.tasks →
+    reading_of constants task ≡ Ok (op, next) → row op (here constants job task next) ≡ Ok (Goes after printed touched) → AllSafe after.tasks
+row_keeps constants job task op next after printed touched s safe reads e t live f among w has =
     let stands : StandsIn after.tasks f = record { task = t; live = live; among = among } in
-    let made = each_row_makes_its_words op (here setting job task next) task after printed touched s.live refl e f stands in
+    let made = each_row_makes_its_words op (here constants job task next) task after printed touched s.live refl e f stands in
     elim (made.words w has) [
       | inl old ↦ safe old.stands.task old.stands.live old.frame old.stands.among w old.among
       | inr new ↦ by w has new
     ]
   where
-    by : (v : Word) → Has f.cells v → Makes op v → Safe v
+    by : (v : Word) → Has f.cells v → OperatorMakes op (called op (here constants job task next)) v → Safe v
     by (Operand bits) k m = tt
-    by (Name couple) k m = name_safe setting job task op next couple s reads m
-    by (Ref g offset) k m = stff_keeps setting job task next after printed touched s safe (subst (λ (o : Op). row o (here setting job task next) ≡ Ok (Goes after printed touched)) m e) t live f among (Ref g offset) k
+    by (Name couple) k m = name_safe constants job task op next couple s reads m
+    by (Ref g offset) k m = stff_keeps constants job task next after printed touched s safe (subst (λ (o : Op). row o (here constants job task next) ≡ Ok (Goes after printed touched)) m e) t live f among (Ref g offset) k
     by (Row array) k m = tt
     by (Element array index) k m = tt
     by (Original array) k m = tt
@@ -122,13 +116,13 @@ row_keeps setting job task op next after printed touched s safe reads e t live f
     by (Intrinsic number) k m = m
     by (Words.Segment number) k m = tt
 
-step_row : (setting : Setting) (job : Job) (task : Task) (after : Job) (printed : List Line) (touched : Option ℕ) → Stands setting job task → AllSafe job.tasks → step setting job task ≡ Ok (Goes after printed touched) → AllSafe after.tasks
+step_row : (constants : JobConstants) (job : Job) (task : Task) (after : Job) (printed : List Line) (touched : Option ℕ) → Stands constants job task → AllSafe job.tasks → step constants job task ≡ Ok (Goes after printed touched) → AllSafe after.tasks
 unfolding step
-step_row setting job task after printed touched s safe e = by (reading_of setting task) refl e
+step_row constants job task after printed touched s safe e = by (reading_of constants task) refl e
   where
-    by : (r : Reading) → reading_of setting task ≡ r → step_by setting job task r ≡ Ok (Goes after printed touched) → AllSafe after.tasks
+    by : (r : Reading) → reading_of constants task ≡ r → step_by constants job task r ≡ Ok (Goes after printed touched) → AllSafe after.tasks
     by (Err why) is f = absurd (let z : ⊥ = cc in z)
-    by (Ok read) is f = row_keeps setting job task read.0 read.1 after printed touched s safe is f
+    by (Ok read) is f = row_keeps constants job task read.0 read.1 after printed touched s safe is f
 
 -- the end of a step takes tasks away
 ends_keep : (s : Settled) (endings : List (ℕ × Ending)) → AllSafe s.job.tasks → AllSafe (ends_all s endings).job.tasks
@@ -163,17 +157,17 @@ settles_keep job task (Ok (Waits condition)) live all goes =
 settles_keep job task (Ok Leaves) live all goes = each_keeps _ Deadlock (ends_task job task.number Ended) (ends_keep (unsettled job) _ all)
 settles_keep job task (Err fault) live all goes = each_keeps _ Deadlock (ends_task job task.number (Faulted fault)) (ends_keep (unsettled job) _ all)
 
-stepped_keeps : (setting : Setting) (job : Job) (task : Task) → Stands setting job task → AllSafe job.tasks → AllSafe (stepped setting job task).settled.job.tasks
+stepped_keeps : (constants : JobConstants) (job : Job) (task : Task) → Stands constants job task → AllSafe job.tasks → AllSafe (stepped constants job task).settled.job.tasks
 unfolding stepped
-stepped_keeps setting job task s all = settles_keep job task (step setting job task) s.live all (λ after printed touched e. step_row setting job task after printed touched s all e)
+stepped_keeps constants job task s all = settles_keep job task (step constants job task) s.live all (λ after printed touched e. step_row constants job task after printed touched s all e)
 
 -- a whole step of a job
-pub step_keeps : (setting : Setting) (c : Course) (number : ℕ) → SettingInOrder setting → TasksInOrder (IsStart setting) setting c.job → segments_use_built setting.segments ≡ true → AllSafe c.job.tasks → AllSafe (step_of setting c number).course.job.tasks
+pub step_keeps : (constants : JobConstants) (c : JobProgress) (number : ℕ) → SettingInOrder constants → TasksInOrder (IsStart constants) constants c.job → segments_use_built constants.segments ≡ true → AllSafe c.job.tasks → AllSafe (step_of constants c number).progress.job.tasks
 unfolding step_of
-step_keeps setting c number unchanging order built all = by (keyed (λ t. t.number) number c.job.tasks) refl
+step_keeps constants c number unchanging order built all = by (keyed (λ t. t.number) number c.job.tasks) refl
   where
-    by : (o : Option Task) → keyed (λ t. t.number) number c.job.tasks ≡ o → AllSafe (by_task setting c o).course.job.tasks
+    by : (o : Option Task) → keyed (λ t. t.number) number c.job.tasks ≡ o → AllSafe (by_task constants c o).progress.job.tasks
     by None e = all
     by (Some task) e =
-        each_keeps (eqb (c.made + 1) setting.limit) Limit (stepped setting c.job task).settled
-        (stepped_keeps setting c.job task (record { unchanging = unchanging; order = order; built = built; live = (keyed_has (λ t. t.number) number c.job.tasks task e).0 }) all)
+        each_keeps (eqb (c.made + 1) constants.limit) Limit (stepped constants c.job task).settled
+        (stepped_keeps constants c.job task (record { unchanging = unchanging; order = order; built = built; live = (keyed_has (λ t. t.number) number c.job.tasks task e).0 }) all)

@@ -7,7 +7,7 @@ use Rattle.b67_word.specs.Couples.{couple}
 use Rattle.b67_model.specs.declared.operators.Op.{Op}
 use Rattle.b67_model.specs.declared.operators.Op.TheVariants.{Namc}
 use Rattle.b67_lemmas.specs.Lists.{Has}
-use Rattle.b67_model.specs.State.{Task, Segment, Member, Here}
+use Rattle.b67_model.specs.State.{Task, Segment, SessionJob, OperatorContext}
 use Rattle.b67_model.specs.Program.{Program}
 use Rattle.b67_model.specs.Loader.{Entry, At, Break, listing}
 use Rattle.b67_model.specs.Rows.{reading_of}
@@ -43,9 +43,9 @@ abbrev pub UnbuiltIsNeverCalled : Type 0
 UnbuiltIsNeverCalled =
     (n stack quantum : ℕ) (switches : List Switch) (openings : List Opening) → DeckWithin stack switches openings →
     AllByRecursion (λ (o : Opening). uses_built o.program ≡ true) openings →
-    (m : Member) (t : Task) → Has (after n (opening stack quantum switches openings)).jobs m → Has m.course.job.tasks t →
-    (op : Op) (next : Place) → reading_of m.setting t ≡ Ok (op, next) →
-    let h : Here = record { setting = m.setting; job = m.course.job; task = record t { place = next }; at = t.place } in
+    (m : SessionJob) (t : Task) → Has (after n (opening stack quantum switches openings)).jobs m → Has m.progress.job.tasks t →
+    (op : Op) (next : Place) → reading_of m.constants t ≡ Ok (op, next) →
+    let h : OperatorContext = record { constants = m.constants; job = m.progress.job; task = record t { place = next }; at = t.place } in
     (k : ℕ) → called op h ≡ Some k → k < 12
 
 -- an outer block of one word of code

@@ -10,6 +10,3 @@ pub use couples::{Couple, Place, bits_of, couple_of};
 pub use faults::{Ending, Failed, Fault};
 pub use lists::{Bytes, Numbers, Words};
 pub use tagged::Word;
-
-#[cfg(test)]
-mod tests;

@@ -3,7 +3,7 @@ use Rattle.b67_ctl.specs.declared.programs.Pcw.{Pcw}
 use Rattle.b67_ctl.specs.Layout.{IsMscw}
 use Rattle.b67_model.specs.State.{frame}
 use Rattle.b67_model.specs.Environment.{level_of_frame}
-use Rattle.b67_layout.specs.Layout.{picture, stack_of_task}
+use Rattle.b67_layout.specs.Layout.{machine_view, stack_of_task}
 use Rattle.b67_layout.specs.Meets.{here}
 use Rattle.b67_layout.proofs.Starts.{meets_runs, runs_here}
 use Rattle.b67_refer.specs.declared.activation.Activation.{Activation}
@@ -34,7 +34,7 @@ word-requires c =
     let (a, f, segment, level, place, reference, arguments, e, w) = c.requires.procedure in
     let env = c.activation_of-env.ensures a c.args.next f segment level place e.procedure in
     let pcw = c.procedure_at-procedure.ensures (Unasked.pcw c.args.cpu.now c.args.cpu.now.regs a c.args.next c.args.cell f segment level place e.procedure) (pcw_fits c.args.cpu.now c.args.cpu.now.regs a c.args.next c.args.cell f segment level place e.procedure) (pcw_there c.args.cpu.now c.args.cpu.now.regs a c.args.next c.args.cell f segment level place e.procedure) in
-    let top = c.top_mark-top.ensures a.storage (picture a.plan a.session.jobs) (stack_of_task a.plan a.member.setting.number a.member.course.job a.plan.running a.task) e.stands.holds.memory (runs_here a.storage c.args.cpu.now a.plan a.session a.member a.task e.stands a.running) in
+    let top = c.top_mark-top.ensures a.storage (machine_view a.plan a.session.jobs) (stack_of_task a.plan a.member.constants.number a.member.progress.job a.plan.running a.task) e.stands.holds.memory (runs_here a.storage c.args.cpu.now a.plan a.session a.member a.task e.stands a.running) in
     let mark = Called.mark_is c.args.cpu.now a c.args.next c.requires.next c.args.cell f segment level place reference arguments e w c.activation_of-env.result c.procedure_at-procedure.result c.top_mark-top.result env pcw top c.entered_mark-mark.result c.entered_mark-mark.ensures in
     subst IsMscw (sym mark) (Called.mark_good c.args.cpu.now a c.args.next c.requires.next c.args.cell f segment level place reference arguments e w)
 
@@ -77,7 +77,7 @@ begin-requires c =
     let (a, f, segment, level, place, reference, arguments, e, w) = c.requires.procedure in
     let env = c.activation_of-env.ensures a c.args.next f segment level place e.procedure in
     let pcw = c.procedure_at-procedure.ensures (Unasked.pcw c.args.cpu.now c.args.cpu.now.regs a c.args.next c.args.cell f segment level place e.procedure) (pcw_fits c.args.cpu.now c.args.cpu.now.regs a c.args.next c.args.cell f segment level place e.procedure) (pcw_there c.args.cpu.now c.args.cpu.now.regs a c.args.next c.args.cell f segment level place e.procedure) in
-    let top = c.top_mark-top.ensures a.storage (picture a.plan a.session.jobs) (stack_of_task a.plan a.member.setting.number a.member.course.job a.plan.running a.task) e.stands.holds.memory (runs_here a.storage c.args.cpu.now a.plan a.session a.member a.task e.stands a.running) in
+    let top = c.top_mark-top.ensures a.storage (machine_view a.plan a.session.jobs) (stack_of_task a.plan a.member.constants.number a.member.progress.job a.plan.running a.task) e.stands.holds.memory (runs_here a.storage c.args.cpu.now a.plan a.session a.member a.task e.stands a.running) in
     let mark = Called.mark_is c.args.cpu.now a c.args.next c.requires.next c.args.cell f segment level place reference arguments e w c.activation_of-env.result c.procedure_at-procedure.result c.top_mark-top.result env pcw top c.entered_mark-mark.result c.entered_mark-mark.ensures in
     let core = Called.core_is c.args.cpu.now a c.args.next c.requires.next c.args.cell f segment level place reference arguments e w c.word.result c.word-2.result c.entered_mark-mark.result c.set.new.self c.set-2.new.self c.set.ensures.value c.word.ensures mark c.set-2.ensures.value c.word-2.ensures in
     let one : c.activation_of-env.result.level ≡ level_of_frame (frame (here a.member a.task c.args.next) f) = ap (λ (z : Activation). z.level) env in
@@ -90,7 +90,7 @@ returns c = record {
   row = λ a f segment level place reference arguments e w.
       let env = c.activation_of-env.ensures a c.args.next f segment level place e.procedure in
       let pcw = c.procedure_at-procedure.ensures (Unasked.pcw c.args.cpu.now c.args.cpu.now.regs a c.args.next c.args.cell f segment level place e.procedure) (pcw_fits c.args.cpu.now c.args.cpu.now.regs a c.args.next c.args.cell f segment level place e.procedure) (pcw_there c.args.cpu.now c.args.cpu.now.regs a c.args.next c.args.cell f segment level place e.procedure) in
-      let top = c.top_mark-top.ensures a.storage (picture a.plan a.session.jobs) (stack_of_task a.plan a.member.setting.number a.member.course.job a.plan.running a.task) e.stands.holds.memory (runs_here a.storage c.args.cpu.now a.plan a.session a.member a.task e.stands a.running) in
+      let top = c.top_mark-top.ensures a.storage (machine_view a.plan a.session.jobs) (stack_of_task a.plan a.member.constants.number a.member.progress.job a.plan.running a.task) e.stands.holds.memory (runs_here a.storage c.args.cpu.now a.plan a.session a.member a.task e.stands a.running) in
       let mark = Called.mark_is c.args.cpu.now a c.args.next c.requires.next c.args.cell f segment level place reference arguments e w c.activation_of-env.result c.procedure_at-procedure.result c.top_mark-top.result env pcw top c.entered_mark-mark.result c.entered_mark-mark.ensures in
       let core = Called.core_is c.args.cpu.now a c.args.next c.requires.next c.args.cell f segment level place reference arguments e w c.word.result c.word-2.result c.entered_mark-mark.result c.set.new.self c.set-2.new.self c.set.ensures.value c.word.ensures mark c.set-2.ensures.value c.word-2.ensures in
       let one : c.activation_of-env.result.level ≡ level_of_frame (frame (here a.member a.task c.args.next) f) = ap (λ (z : Activation). z.level) env in

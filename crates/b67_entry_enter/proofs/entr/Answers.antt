@@ -7,7 +7,7 @@ use Rattle.b67_model.specs.Rows.{entr}
 use Rattle.b67_model.specs.Steps.{top_of}
 use Rattle.b67_model.specs.State.{top}
 use Rattle.b67_stack.specs.declared.Step.TheVariants as step
-use Rattle.b67_layout.specs.Layout.{picture, stack_of_task}
+use Rattle.b67_layout.specs.Layout.{machine_view, stack_of_task}
 use Rattle.b67_layout.specs.Meets.{here}
 use Rattle.b67_layout.proofs.Starts.{meets_runs, runs_here}
 use Rattle.b67_refer.proofs.Scenes.{scene}
@@ -25,28 +25,28 @@ top_mark-requires c = let r = c.requires.runs in meets_runs r.storage c.args.cpu
 pub returns-then-top_mark : goal.returns-then-top_mark
 returns-then-top_mark c = record {
   row = λ x plan s m t o h runs.
-      let k = c.top_mark.ensures x (picture plan s.jobs) (stack_of_task plan m.setting.number m.course.job plan.running t) h.holds.memory (runs_here x c.args.cpu.now plan s m t h runs) in
+      let k = c.top_mark.ensures x (machine_view plan s.jobs) (stack_of_task plan m.constants.number m.progress.job plan.running t) h.holds.memory (runs_here x c.args.cpu.now plan s m t h runs) in
       meets_fault x plan s m _ c.args.cpu.now c.args.cpu.now _ _ (faults_entered x c.args.cpu.now plan s m t c.args.next o h runs c.top_mark.result k c.if-top_mark.true) refl;
 }
 
 pub returns-then-cpu : goal.returns-then-cpu
 returns-then-cpu c = record {
   row = λ x plan s m t o h runs.
-      let k = c.top_mark.ensures x (picture plan s.jobs) (stack_of_task plan m.setting.number m.course.job plan.running t) h.holds.memory (runs_here x c.args.cpu.now plan s m t h runs) in
+      let k = c.top_mark.ensures x (machine_view plan s.jobs) (stack_of_task plan m.constants.number m.progress.job plan.running t) h.holds.memory (runs_here x c.args.cpu.now plan s m t h runs) in
       meets_fault x plan s m _ c.args.cpu.now c.args.cpu.now _ _ (faults_empty x c.args.cpu.now plan s m t c.args.next o h runs c.top_mark.result k c.if-top_mark.false c.if-cpu.true) refl;
 }
 
 pub get-first-requires : goal.get-first-requires
 get-first-requires c =
     let r = c.requires.runs in let x = r.storage in let plan = r.plan in let s = r.session in let m = r.member in let t = r.task in let o = r.ordered in let h = r.stands in let runs = r.running in
-    let k = c.top_mark.ensures x (picture plan s.jobs) (stack_of_task plan m.setting.number m.course.job plan.running t) h.holds.memory (runs_here x c.args.cpu.now plan s m t h runs) in
+    let k = c.top_mark.ensures x (machine_view plan s.jobs) (stack_of_task plan m.constants.number m.progress.job plan.running t) h.holds.memory (runs_here x c.args.cpu.now plan s m t h runs) in
     let f = facing x c.args.cpu.now plan s m t c.args.next o h runs c.top_mark.result k c.if-top_mark.false c.if-cpu.false in
     slice_get_within _ _ _ f.there
 
 pub overflow_add-cpu : goal.overflow_add-cpu
 overflow_add-cpu c =
     let r = c.requires.runs in let x = r.storage in let plan = r.plan in let s = r.session in let m = r.member in let t = r.task in let o = r.ordered in let h = r.stands in let runs = r.running in
-    let k = c.top_mark.ensures x (picture plan s.jobs) (stack_of_task plan m.setting.number m.course.job plan.running t) h.holds.memory (runs_here x c.args.cpu.now plan s m t h runs) in
+    let k = c.top_mark.ensures x (machine_view plan s.jobs) (stack_of_task plan m.constants.number m.progress.job plan.running t) h.holds.memory (runs_here x c.args.cpu.now plan s m t h runs) in
     let f = facing x c.args.cpu.now plan s m t c.args.next o h runs c.top_mark.result k c.if-top_mark.false c.if-cpu.false in
     let within : c.args.cpu.now.regs.f + 1 < length c.args.cpu.now.core = slice_get_within _ _ _ f.there in
     omega (arith, within, h.holds.memory.directory.small)
@@ -54,7 +54,7 @@ overflow_add-cpu c =
 pub returns-then-tag-ne1 : goal.returns-then-tag-ne1
 returns-then-tag-ne1 c = record {
   row = λ x plan s m t o h runs.
-      let k = c.top_mark.ensures x (picture plan s.jobs) (stack_of_task plan m.setting.number m.course.job plan.running t) h.holds.memory (runs_here x c.args.cpu.now plan s m t h runs) in
+      let k = c.top_mark.ensures x (machine_view plan s.jobs) (stack_of_task plan m.constants.number m.progress.job plan.running t) h.holds.memory (runs_here x c.args.cpu.now plan s m t h runs) in
       let f = facing x c.args.cpu.now plan s m t c.args.next o h runs c.top_mark.result k c.if-top_mark.false c.if-cpu.false in
       let word : c.get-first.result ≡ f.word = same_Some _ _ (sym c.get-first.ensures ∙ f.there) in
       meets_fault x plan s m _ c.args.cpu.now c.args.cpu.now _ _ (faults_other x c.args.cpu.now plan s m t c.args.next o h runs c.top_mark.result k c.if-top_mark.false c.if-cpu.false (λ e. c.if-tag-ne1.true (c.tag.ensures.value ∙ ap (λ (w : Tagged). w.tag) word ∙ e))) refl;
@@ -63,7 +63,7 @@ returns-then-tag-ne1 c = record {
 pub chase-requires : goal.chase-requires
 chase-requires c =
     let r = c.requires.runs in let x = r.storage in let plan = r.plan in let s = r.session in let m = r.member in let t = r.task in let o = r.ordered in let h = r.stands in let runs = r.running in
-    let k = c.top_mark.ensures x (picture plan s.jobs) (stack_of_task plan m.setting.number m.course.job plan.running t) h.holds.memory (runs_here x c.args.cpu.now plan s m t h runs) in
+    let k = c.top_mark.ensures x (machine_view plan s.jobs) (stack_of_task plan m.constants.number m.progress.job plan.running t) h.holds.memory (runs_here x c.args.cpu.now plan s m t h runs) in
     let f = facing x c.args.cpu.now plan s m t c.args.next o h runs c.top_mark.result k c.if-top_mark.false c.if-cpu.false in
     let word : c.get-first.result ≡ f.word = same_Some _ _ (sym c.get-first.ensures ∙ f.there) in
     let tag : f.word.tag ≡ 1 = ap (λ (w : Tagged). w.tag) (sym word) ∙ sym c.tag.ensures.value ∙ c.if-tag-ne1.false in
@@ -74,7 +74,7 @@ chase-requires c =
 pub enter-requires-clause-procedure : goal.enter-requires-clause-procedure
 enter-requires-clause-procedure c =
     let r = c.requires.runs in let x = r.storage in let plan = r.plan in let s = r.session in let m = r.member in let t = r.task in let o = r.ordered in let h = r.stands in let runs = r.running in
-    let k = c.top_mark.ensures x (picture plan s.jobs) (stack_of_task plan m.setting.number m.course.job plan.running t) h.holds.memory (runs_here x c.args.cpu.now plan s m t h runs) in
+    let k = c.top_mark.ensures x (machine_view plan s.jobs) (stack_of_task plan m.constants.number m.progress.job plan.running t) h.holds.memory (runs_here x c.args.cpu.now plan s m t h runs) in
     let f = facing x c.args.cpu.now plan s m t c.args.next o h runs c.top_mark.result k c.if-top_mark.false c.if-cpu.false in
     let word : c.get-first.result ≡ f.word = same_Some _ _ (sym c.get-first.ensures ∙ f.there) in
     let tag : f.word.tag ≡ 1 = ap (λ (w : Tagged). w.tag) (sym word) ∙ sym c.tag.ensures.value ∙ c.if-tag-ne1.false in
@@ -88,7 +88,7 @@ enter-requires-clause-procedure c =
 pub returns-in-Ok-Proc : goal.returns-in-Ok-Proc
 returns-in-Ok-Proc c = record {
   row = λ x plan s m t o h runs.
-      let k = c.top_mark.ensures x (picture plan s.jobs) (stack_of_task plan m.setting.number m.course.job plan.running t) h.holds.memory (runs_here x c.args.cpu.now plan s m t h runs) in
+      let k = c.top_mark.ensures x (machine_view plan s.jobs) (stack_of_task plan m.constants.number m.progress.job plan.running t) h.holds.memory (runs_here x c.args.cpu.now plan s m t h runs) in
       let f = facing x c.args.cpu.now plan s m t c.args.next o h runs c.top_mark.result k c.if-top_mark.false c.if-cpu.false in
       let word : c.get-first.result ≡ f.word = same_Some _ _ (sym c.get-first.ensures ∙ f.there) in
       let tag : f.word.tag ≡ 1 = ap (λ (w : Tagged). w.tag) (sym word) ∙ sym c.tag.ensures.value ∙ c.if-tag-ne1.false in
@@ -105,7 +105,7 @@ returns-in-Ok-Proc c = record {
 pub returns-in-Ok-Intrinsic : goal.returns-in-Ok-Intrinsic
 returns-in-Ok-Intrinsic c = record {
   row = λ x plan s m t o h runs.
-      let k = c.top_mark.ensures x (picture plan s.jobs) (stack_of_task plan m.setting.number m.course.job plan.running t) h.holds.memory (runs_here x c.args.cpu.now plan s m t h runs) in
+      let k = c.top_mark.ensures x (machine_view plan s.jobs) (stack_of_task plan m.constants.number m.progress.job plan.running t) h.holds.memory (runs_here x c.args.cpu.now plan s m t h runs) in
       let f = facing x c.args.cpu.now plan s m t c.args.next o h runs c.top_mark.result k c.if-top_mark.false c.if-cpu.false in
       let word : c.get-first.result ≡ f.word = same_Some _ _ (sym c.get-first.ensures ∙ f.there) in
       let tag : f.word.tag ≡ 1 = ap (λ (w : Tagged). w.tag) (sym word) ∙ sym c.tag.ensures.value ∙ c.if-tag-ne1.false in
@@ -120,7 +120,7 @@ returns-in-Ok-Intrinsic c = record {
 pub returns-in-Err : goal.returns-in-Err
 returns-in-Err c = record {
   row = λ x plan s m t o h runs.
-      let k = c.top_mark.ensures x (picture plan s.jobs) (stack_of_task plan m.setting.number m.course.job plan.running t) h.holds.memory (runs_here x c.args.cpu.now plan s m t h runs) in
+      let k = c.top_mark.ensures x (machine_view plan s.jobs) (stack_of_task plan m.constants.number m.progress.job plan.running t) h.holds.memory (runs_here x c.args.cpu.now plan s m t h runs) in
       let f = facing x c.args.cpu.now plan s m t c.args.next o h runs c.top_mark.result k c.if-top_mark.false c.if-cpu.false in
       let word : c.get-first.result ≡ f.word = same_Some _ _ (sym c.get-first.ensures ∙ f.there) in
       let tag : f.word.tag ≡ 1 = ap (λ (w : Tagged). w.tag) (sym word) ∙ sym c.tag.ensures.value ∙ c.if-tag-ne1.false in
@@ -135,7 +135,7 @@ returns-in-Err c = record {
 pub returns-in-Ok-Cell : goal.returns-in-Ok-Cell
 returns-in-Ok-Cell c = record {
   row = λ x plan s m t o h runs.
-      let k = c.top_mark.ensures x (picture plan s.jobs) (stack_of_task plan m.setting.number m.course.job plan.running t) h.holds.memory (runs_here x c.args.cpu.now plan s m t h runs) in
+      let k = c.top_mark.ensures x (machine_view plan s.jobs) (stack_of_task plan m.constants.number m.progress.job plan.running t) h.holds.memory (runs_here x c.args.cpu.now plan s m t h runs) in
       let f = facing x c.args.cpu.now plan s m t c.args.next o h runs c.top_mark.result k c.if-top_mark.false c.if-cpu.false in
       let word : c.get-first.result ≡ f.word = same_Some _ _ (sym c.get-first.ensures ∙ f.there) in
       let tag : f.word.tag ≡ 1 = ap (λ (w : Tagged). w.tag) (sym word) ∙ sym c.tag.ensures.value ∙ c.if-tag-ne1.false in
@@ -151,7 +151,7 @@ returns-in-Ok-Cell c = record {
 pub returns-in-Ok-Element : goal.returns-in-Ok-Element
 returns-in-Ok-Element c = record {
   row = λ x plan s m t o h runs.
-      let k = c.top_mark.ensures x (picture plan s.jobs) (stack_of_task plan m.setting.number m.course.job plan.running t) h.holds.memory (runs_here x c.args.cpu.now plan s m t h runs) in
+      let k = c.top_mark.ensures x (machine_view plan s.jobs) (stack_of_task plan m.constants.number m.progress.job plan.running t) h.holds.memory (runs_here x c.args.cpu.now plan s m t h runs) in
       let f = facing x c.args.cpu.now plan s m t c.args.next o h runs c.top_mark.result k c.if-top_mark.false c.if-cpu.false in
       let word : c.get-first.result ≡ f.word = same_Some _ _ (sym c.get-first.ensures ∙ f.there) in
       let tag : f.word.tag ≡ 1 = ap (λ (w : Tagged). w.tag) (sym word) ∙ sym c.tag.ensures.value ∙ c.if-tag-ne1.false in
@@ -167,7 +167,7 @@ returns-in-Ok-Element c = record {
 pub returns-in-Ok-Array : goal.returns-in-Ok-Array
 returns-in-Ok-Array c = record {
   row = λ x plan s m t o h runs.
-      let k = c.top_mark.ensures x (picture plan s.jobs) (stack_of_task plan m.setting.number m.course.job plan.running t) h.holds.memory (runs_here x c.args.cpu.now plan s m t h runs) in
+      let k = c.top_mark.ensures x (machine_view plan s.jobs) (stack_of_task plan m.constants.number m.progress.job plan.running t) h.holds.memory (runs_here x c.args.cpu.now plan s m t h runs) in
       let f = facing x c.args.cpu.now plan s m t c.args.next o h runs c.top_mark.result k c.if-top_mark.false c.if-cpu.false in
       let word : c.get-first.result ≡ f.word = same_Some _ _ (sym c.get-first.ensures ∙ f.there) in
       let tag : f.word.tag ≡ 1 = ap (λ (w : Tagged). w.tag) (sym word) ∙ sym c.tag.ensures.value ∙ c.if-tag-ne1.false in

@@ -1,11 +1,11 @@
 use Rattle.std.proofs.Common.{◌∷◌, sym, ◌∙◌, ap, arith, refl, subst}
 use Rattle.std.proofs.lemmas.Bool.{not-false, not-true}
 use Rattle.b67_ctl.specs.declared.registers.Regs.{Regs}
-use Rattle.b67_layout.specs.Plan.{outer_spots}
-use Rattle.b67_layout.specs.Layout.{picture, stack_of_task}
+use Rattle.b67_layout.specs.Placement.{outer_spots}
+use Rattle.b67_layout.specs.Layout.{machine_view, stack_of_task}
 use Rattle.b67_layout.proofs.Fresh.{running_in_order}
 use Rattle.b67_layout.proofs.Starts.{meets_runs, runs_here}
-use Rattle.b67_refer.specs.Scene.{Scene}
+use Rattle.b67_refer.specs.RunningContext.{RunningContext}
 use Rattle.b67_entry.proofs.Callers.{below_mark}
 use Rattle.b67_entry.proofs.Exits.{leaves_pending, leaves_critical, leaves_last}
 use Rattle.b67_entry.proofs.Leaving.{under, on_top, on_stack, may_return, scene_left, exit_done}
@@ -18,8 +18,8 @@ top_mark-mark-requires c = let r = c.requires in meets_runs r.storage c.args.cpu
 pub returns-then-not-mark : goal.returns-then-not-mark
 returns-then-not-mark c = record {
   row = λ x plan s m t o h runs next. (
-    let p = is_pending plan m t plan.running c.args.cpu.now.regs.slot (outer_spots plan m.setting.number m.course.job t.critical t.parents) (running_in_order plan s m t o runs).1 c.top_mark-mark.result
-        (c.top_mark-mark.ensures x (picture plan s.jobs) (stack_of_task plan m.setting.number m.course.job plan.running t) h.holds.memory (runs_here x c.args.cpu.now plan s m t h runs)) (not-true _ c.if-not-mark.true) in
+    let p = is_pending plan m t plan.running c.args.cpu.now.regs.slot (outer_spots plan m.constants.number m.progress.job t.critical t.parents) (running_in_order plan s m t o runs).1 c.top_mark-mark.result
+        (c.top_mark-mark.ensures x (machine_view plan s.jobs) (stack_of_task plan m.constants.number m.progress.job plan.running t) h.holds.memory (runs_here x c.args.cpu.now plan s m t h runs)) (not-true _ c.if-not-mark.true) in
         leaves_pending m t next _ p.f p.below p.frames p.marked,
     refl,
   );
@@ -30,8 +30,8 @@ returns-then-not-mark c = record {
 pub returns-then-is_critical : goal.returns-then-is_critical
 returns-then-is_critical c = record {
   row = λ x plan s m t o h runs next. (
-    let p = is_entered plan m t plan.running c.args.cpu.now.regs.slot (outer_spots plan m.setting.number m.course.job t.critical t.parents) (running_in_order plan s m t o runs).1 c.top_mark-mark.result
-        (c.top_mark-mark.ensures x (picture plan s.jobs) (stack_of_task plan m.setting.number m.course.job plan.running t) h.holds.memory (runs_here x c.args.cpu.now plan s m t h runs)) (not-false _ c.if-not-mark.false) in
+    let p = is_entered plan m t plan.running c.args.cpu.now.regs.slot (outer_spots plan m.constants.number m.progress.job t.critical t.parents) (running_in_order plan s m t o runs).1 c.top_mark-mark.result
+        (c.top_mark-mark.ensures x (machine_view plan s.jobs) (stack_of_task plan m.constants.number m.progress.job plan.running t) h.holds.memory (runs_here x c.args.cpu.now plan s m t h runs)) (not-false _ c.if-not-mark.false) in
         leaves_critical m t next _ p.f p.below p.level p.environment p.back p.frames p.entered (sym (c.is_critical.ensures x plan s m t o h runs) ∙ c.if-is_critical.true),
     refl,
   );
@@ -42,8 +42,8 @@ returns-then-is_critical c = record {
 pub returns-then-mark-eq0 : goal.returns-then-mark-eq0
 returns-then-mark-eq0 c = record {
   row = λ x plan s m t o h runs next. (
-    let p = is_last plan m t plan.running c.args.cpu.now.regs.slot (outer_spots plan m.setting.number m.course.job t.critical t.parents) (running_in_order plan s m t o runs).1 c.top_mark-mark.result
-        (c.top_mark-mark.ensures x (picture plan s.jobs) (stack_of_task plan m.setting.number m.course.job plan.running t) h.holds.memory (runs_here x c.args.cpu.now plan s m t h runs)) (not-false _ c.if-not-mark.false) c.if-mark-eq0.true in
+    let p = is_last plan m t plan.running c.args.cpu.now.regs.slot (outer_spots plan m.constants.number m.progress.job t.critical t.parents) (running_in_order plan s m t o runs).1 c.top_mark-mark.result
+        (c.top_mark-mark.ensures x (machine_view plan s.jobs) (stack_of_task plan m.constants.number m.progress.job plan.running t) h.holds.memory (runs_here x c.args.cpu.now plan s m t h runs)) (not-false _ c.if-not-mark.false) c.if-mark-eq0.true in
         leaves_last m t next _ p.f p.level p.environment p.frames p.entered (sym (c.is_critical.ensures x plan s m t o h runs) ∙ c.if-is_critical.false),
     refl,
   );
@@ -57,13 +57,13 @@ caller-cpu-requires c =
     let cpu = c.args.cpu.now in
     let m = r.member in
     let t = r.task in
-    let a = returns_of r.plan m t r.plan.running cpu.regs.slot (outer_spots r.plan m.setting.number m.course.job t.critical t.parents) (running_in_order r.plan r.session m t r.ordered r.running).1 c.top_mark-mark.result
-    (c.top_mark-mark.ensures r.storage (picture r.plan r.session.jobs) (stack_of_task r.plan m.setting.number m.course.job r.plan.running t) r.stands.holds.memory (runs_here r.storage cpu r.plan r.session m t r.stands r.running))
+    let a = returns_of r.plan m t r.plan.running cpu.regs.slot (outer_spots r.plan m.constants.number m.progress.job t.critical t.parents) (running_in_order r.plan r.session m t r.ordered r.running).1 c.top_mark-mark.result
+    (c.top_mark-mark.ensures r.storage (machine_view r.plan r.session.jobs) (stack_of_task r.plan m.constants.number m.progress.job r.plan.running t) r.stands.holds.memory (runs_here r.storage cpu r.plan r.session m t r.stands r.running))
     (not-false _ c.if-not-mark.false) c.if-mark-eq0.false (sym (c.is_critical.ensures r.storage r.plan r.session m t r.ordered r.stands r.running) ∙ c.if-is_critical.false) in
     let top = on_top r.storage cpu r.plan r.session m t r.ordered r.stands r.running a in
     let below = under r.storage cpu r.plan r.session m t r.ordered r.stands r.running a in (
       may_return r.storage cpu r.plan r.session m t r.ordered r.stands r.running a,
-      c.top_mark-mark.ensures r.storage (picture r.plan r.session.jobs) (top ∷ below) r.stands.holds.memory (on_stack r.storage cpu r.plan r.session m t r.ordered r.stands r.running a),
+      c.top_mark-mark.ensures r.storage (machine_view r.plan r.session.jobs) (top ∷ below) r.stands.holds.memory (on_stack r.storage cpu r.plan r.session m t r.ordered r.stands r.running a),
     )
 
 pub rebuild-requires : goal.rebuild-requires
@@ -72,24 +72,24 @@ rebuild-requires c =
     let cpu = c.args.cpu.now in
     let m = r.member in
     let t = r.task in
-    let a = returns_of r.plan m t r.plan.running cpu.regs.slot (outer_spots r.plan m.setting.number m.course.job t.critical t.parents) (running_in_order r.plan r.session m t r.ordered r.running).1 c.top_mark-mark.result
-    (c.top_mark-mark.ensures r.storage (picture r.plan r.session.jobs) (stack_of_task r.plan m.setting.number m.course.job r.plan.running t) r.stands.holds.memory (runs_here r.storage cpu r.plan r.session m t r.stands r.running))
+    let a = returns_of r.plan m t r.plan.running cpu.regs.slot (outer_spots r.plan m.constants.number m.progress.job t.critical t.parents) (running_in_order r.plan r.session m t r.ordered r.running).1 c.top_mark-mark.result
+    (c.top_mark-mark.ensures r.storage (machine_view r.plan r.session.jobs) (stack_of_task r.plan m.constants.number m.progress.job r.plan.running t) r.stands.holds.memory (runs_here r.storage cpu r.plan r.session m t r.stands r.running))
     (not-false _ c.if-not-mark.false) c.if-mark-eq0.false (sym (c.is_critical.ensures r.storage r.plan r.session m t r.ordered r.stands r.running) ∙ c.if-is_critical.false) in
     let top = on_top r.storage cpu r.plan r.session m t r.ordered r.stands r.running a in
     let below = under r.storage cpu r.plan r.session m t r.ordered r.stands r.running a in
     let is = c.caller-cpu.ensures (may_return r.storage cpu r.plan r.session m t r.ordered r.stands r.running a)
-    (c.top_mark-mark.ensures r.storage (picture r.plan r.session.jobs) (top ∷ below) r.stands.holds.memory (on_stack r.storage cpu r.plan r.session m t r.ordered r.stands r.running a)) in
-    subst (λ (v : Regs). Scene cpu.core v) (sym is) (scene_left r.storage cpu r.plan r.session m t r.ordered r.stands r.running a)
+    (c.top_mark-mark.ensures r.storage (machine_view r.plan r.session.jobs) (top ∷ below) r.stands.holds.memory (on_stack r.storage cpu r.plan r.session m t r.ordered r.stands r.running a)) in
+    subst (λ (v : Regs). RunningContext cpu.core v) (sym is) (scene_left r.storage cpu r.plan r.session m t r.ordered r.stands r.running a)
 
 pub returns : goal.returns
 returns c = record {
   row = λ x plan s m t o h runs next.
       (let cpu = c.args.cpu.now in
-      let a = returns_of plan m t plan.running cpu.regs.slot (outer_spots plan m.setting.number m.course.job t.critical t.parents) (running_in_order plan s m t o runs).1 c.top_mark-mark.result
-      (c.top_mark-mark.ensures x (picture plan s.jobs) (stack_of_task plan m.setting.number m.course.job plan.running t) h.holds.memory (runs_here x cpu plan s m t h runs))
+      let a = returns_of plan m t plan.running cpu.regs.slot (outer_spots plan m.constants.number m.progress.job t.critical t.parents) (running_in_order plan s m t o runs).1 c.top_mark-mark.result
+      (c.top_mark-mark.ensures x (machine_view plan s.jobs) (stack_of_task plan m.constants.number m.progress.job plan.running t) h.holds.memory (runs_here x cpu plan s m t h runs))
       (not-false _ c.if-not-mark.false) c.if-mark-eq0.false (sym (c.is_critical.ensures x plan s m t o h runs) ∙ c.if-is_critical.false) in
       let is = c.caller-cpu.ensures (may_return x cpu plan s m t o h runs a)
-      (c.top_mark-mark.ensures x (picture plan s.jobs) (on_top x cpu plan s m t o h runs a ∷ under x cpu plan s m t o h runs a) h.holds.memory (on_stack x cpu plan s m t o h runs a)) in
+      (c.top_mark-mark.ensures x (machine_view plan s.jobs) (on_top x cpu plan s m t o h runs a ∷ under x cpu plan s m t o h runs a) h.holds.memory (on_stack x cpu plan s m t o h runs a)) in
       exit_done x cpu plan s m t o h runs a next c.caller-cpu.result c.rebuild.new.display is c.rebuild.ensures);
   core = refl;
   top = λ e.
@@ -97,10 +97,10 @@ returns c = record {
       let cpu = c.args.cpu.now in
       let m = r.member in
       let t = r.task in
-      let a = returns_of r.plan m t r.plan.running cpu.regs.slot (outer_spots r.plan m.setting.number m.course.job t.critical t.parents) (running_in_order r.plan r.session m t r.ordered r.running).1 c.top_mark-mark.result
-      (c.top_mark-mark.ensures r.storage (picture r.plan r.session.jobs) (stack_of_task r.plan m.setting.number m.course.job r.plan.running t) r.stands.holds.memory (runs_here r.storage cpu r.plan r.session m t r.stands r.running))
+      let a = returns_of r.plan m t r.plan.running cpu.regs.slot (outer_spots r.plan m.constants.number m.progress.job t.critical t.parents) (running_in_order r.plan r.session m t r.ordered r.running).1 c.top_mark-mark.result
+      (c.top_mark-mark.ensures r.storage (machine_view r.plan r.session.jobs) (stack_of_task r.plan m.constants.number m.progress.job r.plan.running t) r.stands.holds.memory (runs_here r.storage cpu r.plan r.session m t r.stands r.running))
       (not-false _ c.if-not-mark.false) c.if-mark-eq0.false (sym (c.is_critical.ensures r.storage r.plan r.session m t r.ordered r.stands r.running) ∙ c.if-is_critical.false) in
       let may = may_return r.storage cpu r.plan r.session m t r.ordered r.stands r.running a in
-      let is = c.caller-cpu.ensures may (c.top_mark-mark.ensures r.storage (picture r.plan r.session.jobs) (may.top ∷ may.below) r.stands.holds.memory (on_stack r.storage cpu r.plan r.session m t r.ordered r.stands r.running a)) in
+      let is = c.caller-cpu.ensures may (c.top_mark-mark.ensures r.storage (machine_view r.plan r.session.jobs) (may.top ∷ may.below) r.stands.holds.memory (on_stack r.storage cpu r.plan r.session m t r.ordered r.stands r.running a)) in
       omega (arith, ap (λ (v : Regs). v.s) is, below_mark cpu may);
 }

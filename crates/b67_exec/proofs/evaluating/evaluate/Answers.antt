@@ -5,7 +5,7 @@ use Rattle.b67_model.specs.Entry.{accident, back_to}
 use Rattle.b67_model.specs.Rows as rows
 use Rattle.b67_model.specs.Steps.{cells_of}
 use Rattle.b67_stack.specs.declared.Cpu.{Cpu}
-use Rattle.b67_layout.specs.Session.{SessionStands}
+use Rattle.b67_layout.specs.Session.{RepresentsSession}
 use Rattle.b67_layout.specs.Meets.{here, Meets}
 use Rattle.b67_fetch.specs.Fetches.{enters_at}
 use Rattle.b67_fetch.proofs.Values.{here_scene}
@@ -18,7 +18,7 @@ procedure_cell-cell-requires c =
     let old = c.args.cpu.now in
     let h = here q.member q.task c.args.next in
     let i = called_by q.storage q.plan q.session q.member c.in-Call.field-0 old c.valc.new.cpu (enters_at (chase h (Name c.args.couple))) (rows.valc h c.args.couple) (c.in-Call.ensures.row q.storage q.plan q.session q.member q.task q.ordered q.stands q.running) in
-    let S : Cpu → Type 0 = λ z. SessionStands q.storage z q.plan q.session in
+    let S : Cpu → Type 0 = λ z. RepresentsSession q.storage z q.plan q.session in
     let stands = subst S (sym i.1) q.stands in
     let p = at_procedure (chase h (Name c.args.couple)) i.0 in (
       here_scene q.storage c.valc.new.cpu q.plan q.session q.member q.task q.ordered stands q.running,
@@ -37,7 +37,7 @@ accident-requires-clause-procedure c =
     let new = c.valc.new.cpu in
     let h = here q.member q.task c.args.next in
     let i = called_by q.storage q.plan q.session q.member c.in-Call.field-0 old new (enters_at (chase h (Name c.args.couple))) (rows.valc h c.args.couple) (c.in-Call.ensures.row q.storage q.plan q.session q.member q.task q.ordered q.stands q.running) in
-    let S : Cpu → Type 0 = λ z. SessionStands q.storage z q.plan q.session in
+    let S : Cpu → Type 0 = λ z. RepresentsSession q.storage z q.plan q.session in
     let stands = subst S (sym i.1) q.stands in
     let p = at_procedure (chase h (Name c.args.couple)) i.0 in
     let a = here_scene q.storage new q.plan q.session q.member q.task q.ordered stands q.running in
@@ -58,7 +58,7 @@ returns-in-Call c = record {
       let new = c.valc.new.cpu in
       let hh = here m t c.args.next in
       let i = called_by x plan s m c.in-Call.field-0 old new (enters_at (chase hh (Name c.args.couple))) (rows.valc hh c.args.couple) (c.in-Call.ensures.row x plan s m t ordered h runs) in
-      let S : Cpu → Type 0 = λ z. SessionStands x z plan s in
+      let S : Cpu → Type 0 = λ z. RepresentsSession x z plan s in
       let stands = subst S (sym i.1) h in
       let p = at_procedure (chase hh (Name c.args.couple)) i.0 in
       let a = here_scene x new plan s m t ordered stands runs in

@@ -1,19 +1,16 @@
-use Rattle.std.proofs.Common.{ℕ, Option, sym, subst}
+use Rattle.std.proofs.Common.{sym, subst}
 use Rattle.b67_model.specs.declared.operators.Code.{Code}
 use Rattle.b67_model.specs.declared.operators.Op.TheVariants.{Plain}
 use Rattle.b67_model.specs.Rows.{plain, entr}
-use Rattle.b67_model.specs.Steps.{top_of}
 use Rattle.b67_layout.specs.Meets.{here}
 use Rattle.b67_model.specs.Called.{called}
 use Rattle.b67_entry_enter.specs.Procedures.{CallsOrMeets}
-use Rattle.b67_exec.proofs.Readings.{same_called}
 use Rattle.b67_exec.proofs.operators.plain.Goals as goal
 
 pub returns-in-Entr : goal.returns-in-Entr
 returns-in-Entr c = record {
   row = λ x plan s m t ordered h runs.
       let hh = here m t c.args.next in
-      let P : Option ℕ → Type 0 = λ o. CallsOrMeets x plan s m c.entr.result c.args.cpu.now c.entr.new.cpu o (entr hh (top_of hh).standing) in
       let Q : Code → Type 0 = λ k. CallsOrMeets x plan s m c.entr.result c.args.cpu.now c.entr.new.cpu (called (Plain k) hh) (plain k hh) in
-      subst Q (sym c.in-Entr.is) (subst P (same_called hh (top_of hh).standing) (c.entr.ensures.row x plan s m t ordered h runs));
+      subst Q (sym c.in-Entr.is) (c.entr.ensures.row x plan s m t ordered h runs);
 }

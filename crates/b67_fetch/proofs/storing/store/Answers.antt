@@ -1,4 +1,4 @@
-use Rattle.std.proofs.Common.{◌≡◌, ℕ, sym, ◌∙◌, ap, subst, refl, inl, inr, Result, Ok, ◌∷◌, arith}
+use Rattle.std.proofs.Common.{◌≡◌, ℕ, sym, ◌∙◌, ap, subst, refl, inl, inr, Ok, Err, ◌∷◌, arith}
 use Rattle.b67_word.specs.Tagged.{Tagged, word}
 use Rattle.b67_word.specs.declared.faults.Fault.{Fault}
 use Rattle.b67_word.specs.declared.faults.Fault.TheVariants.{MemoryProtect}
@@ -6,22 +6,19 @@ use Rattle.std.specs.Prelude.{if◌then◌else◌}
 use Rattle.b67_model.specs.Answers.{◌>>=◌}
 use Rattle.b67_model.specs.Words.{Operand}
 use Rattle.b67_model.specs.Rows.{store_at}
-use Rattle.b67_model.specs.Arrays.{in_order}
+use Rattle.b67_model.specs.Indexing.{in_order}
 use Rattle.b67_model.specs.Chase.{follow}
 use Rattle.b67_stack.specs.declared.Cpu.{Cpu}
-use Rattle.b67_stack.specs.declared.Step.{Step}
 use Rattle.b67_stack.specs.declared.Step.TheVariants as step
 use Rattle.b67_layout.specs.Meets.{here}
 use Rattle.b67_exec_cells.proofs.Put.{room}
-use Rattle.b67_refer.specs.declared.ends.End.{End}
-use Rattle.b67_refer.specs.Ends.{EndMeets}
 use Rattle.b67_fetch.proofs.Values.{here_scene, here_shown, followed_stands}
 use Rattle.b67_exec_cells.specs.Tops.{cells, GivesTwo}
-use Rattle.b67_exec_cells.specs.Elements.{HasElement}
 use Rattle.b67_fetch.specs.Fetches.{enters_at, EntersOrMeets}
-use Rattle.b67_fetch.specs.Stores.{ElementAt, stored}
-use Rattle.b67_fetch.proofs.Words.{Choice, given, is_operand, no_operand, followed}
+use Rattle.b67_fetch.specs.Stores.{stored}
+use Rattle.b67_fetch.proofs.Words.{Choice, given, no_operand, followed}
 use Rattle.b67_fetch.proofs.Stores.{missing, refused, followed_end, at_fault, at_proc, at_array, at_intrinsic, cell_inside, element_inside, holds, cell_done, element_done, element_not}
+use Rattle.b67_fetch.proofs.StoreContext.{context, leads_to, MeetsElement}
 use Rattle.b67_fetch.proofs.storing.store.Goals.{then-tag-eq0, else-tag-eq0, in-Cell, in-Element+in-Ok-element_at}
 use Rattle.b67_fetch.proofs.storing.store.Goals as goal
 
@@ -58,19 +55,10 @@ pub returns-in-Err-chase : goal.returns-in-Err-chase
 returns-in-Err-chase c = record {
   row = λ x plan s m t o h runs.
       let ch : Choice c.in-Ok.two c.if-tag-eq0.reference = elim c.if-tag-eq0.branch [ then-tag-eq0 w ↦ inl (sym c.tag.ensures.value ∙ w.if-tag-eq0.true, w.reference-is) | else-tag-eq0 w ↦ inr (λ z. w.if-tag-eq0.false (c.tag.ensures.value ∙ z), w.reference-is) ] in
-      let old = c.args.cpu.now in
-      let q = c.args.next in
-      let p = c.if-tag-eq0.reference in
-      let g = given x plan m t old c.in-Ok.two p (c.in-Ok.ensures.cells x plan s m t o h runs) ch in
-      let zero : p.1.tag ≡ 0 = sym c.tag-2.ensures.value ∙ c.if-tag-ne0.false in
-      let op = is_operand x plan m t old p g zero in
-      let w = (in_order g.first g.second).0 in
-      let f = followed x plan s m t o runs old p g in
-      let a = here_scene x old plan s m t o h runs in
-      let met = c.chase.ensures a q (here_shown x old plan s m t o h runs) f.at f.owner w (followed_stands x old plan s m t o h runs p.0 w f) in
-      let M : Result End Fault → Type 0 = λ r. EndMeets a q r (follow (here m t q) w) in
-      followed_end x old plan s m t o h runs q c.args.keeps p g (step.Fault c.in-Err-chase.fault) old op.0 op.1
-      (at_fault x old plan s m t o h runs q c.args.keeps (step.Fault c.in-Err-chase.fault) old g.rest op.0 c.in-Err-chase.fault (follow (here m t q) w) (subst M c.in-Err-chase.is met) refl refl);
+      let old = c.args.cpu.now in let q = c.args.next in let p = c.if-tag-eq0.reference in
+      let k = context x old plan s m t o h runs q c.in-Ok.two p (c.in-Ok.ensures.cells x plan s m t o h runs) ch (sym c.tag-2.ensures.value ∙ c.if-tag-ne0.false) c.chase.result c.chase.ensures in
+      followed_end x old plan s m t o h runs q c.args.keeps p k.cells (step.Fault c.in-Err-chase.fault) old k.bits k.operand
+      (at_fault x old plan s m t o h runs q c.args.keeps (step.Fault c.in-Err-chase.fault) old k.cells.rest k.bits c.in-Err-chase.fault (follow (here m t q) (in_order k.cells.first k.cells.second).0) (leads_to x old plan s m t o h runs q p c.chase.result (Err c.in-Err-chase.fault) k c.in-Err-chase.is) refl refl);
 }
 
 pub element_at-requires : goal.element_at-requires
@@ -78,37 +66,19 @@ element_at-requires c =
     let r = c.requires in
     let x = r.storage in let plan = r.plan in let s = r.session in let m = r.member in let t = r.task in let o = r.ordered in let h = r.stands in let runs = r.running in
     let ch : Choice c.in-Ok.two c.if-tag-eq0.reference = elim c.if-tag-eq0.branch [ then-tag-eq0 w ↦ inl (sym c.tag.ensures.value ∙ w.if-tag-eq0.true, w.reference-is) | else-tag-eq0 w ↦ inr (λ z. w.if-tag-eq0.false (c.tag.ensures.value ∙ z), w.reference-is) ] in
-    let old = c.args.cpu.now in
-    let q = c.args.next in
-    let p = c.if-tag-eq0.reference in
-    let g = given x plan m t old c.in-Ok.two p (c.in-Ok.ensures.cells x plan s m t o h runs) ch in
-    let zero : p.1.tag ≡ 0 = sym c.tag-2.ensures.value ∙ c.if-tag-ne0.false in
-    let op = is_operand x plan m t old p g zero in
-    let w = (in_order g.first g.second).0 in
-    let f = followed x plan s m t o runs old p g in
-    let a = here_scene x old plan s m t o h runs in
-    let met = c.chase.ensures a q (here_shown x old plan s m t o h runs) f.at f.owner w (followed_stands x old plan s m t o h runs p.0 w f) in
-    let M : Result End Fault → Type 0 = λ r. EndMeets a q r (follow (here m t q) w) in
-    holds x old plan s m t o h runs q c.args.keeps c.in-Element.original c.in-Element.index (follow (here m t q) w) (subst M (c.in-Ok-chase.is ∙ ap Ok c.in-Element.is) met)
+    let old = c.args.cpu.now in let q = c.args.next in let p = c.if-tag-eq0.reference in
+    let k = context x old plan s m t o h runs q c.in-Ok.two p (c.in-Ok.ensures.cells x plan s m t o h runs) ch (sym c.tag-2.ensures.value ∙ c.if-tag-ne0.false) c.chase.result c.chase.ensures in
+    holds x old plan s m t o h runs q c.args.keeps c.in-Element.original c.in-Element.index (follow (here m t q) (in_order k.cells.first k.cells.second).0) (leads_to x old plan s m t o h runs q p c.chase.result _ k (c.in-Ok-chase.is ∙ ap Ok c.in-Element.is))
 
 pub returns-in-Err-element_at : goal.returns-in-Err-element_at
 returns-in-Err-element_at c = record {
   row = λ x plan s m t o h runs.
       let ch : Choice c.in-Ok.two c.if-tag-eq0.reference = elim c.if-tag-eq0.branch [ then-tag-eq0 w ↦ inl (sym c.tag.ensures.value ∙ w.if-tag-eq0.true, w.reference-is) | else-tag-eq0 w ↦ inr (λ z. w.if-tag-eq0.false (c.tag.ensures.value ∙ z), w.reference-is) ] in
-      let old = c.args.cpu.now in
-      let q = c.args.next in
-      let p = c.if-tag-eq0.reference in
-      let g = given x plan m t old c.in-Ok.two p (c.in-Ok.ensures.cells x plan s m t o h runs) ch in
-      let zero : p.1.tag ≡ 0 = sym c.tag-2.ensures.value ∙ c.if-tag-ne0.false in
-      let op = is_operand x plan m t old p g zero in
-      let w = (in_order g.first g.second).0 in
-      let f = followed x plan s m t o runs old p g in
-      let a = here_scene x old plan s m t o h runs in
-      let met = c.chase.ensures a q (here_shown x old plan s m t o h runs) f.at f.owner w (followed_stands x old plan s m t o h runs p.0 w f) in
-      let M : Result End Fault → Type 0 = λ r. EndMeets a q r (follow (here m t q) w) in
-      let E : Result ℕ Step → Type 0 = λ r. (n : ℕ) → c.in-Element.original ≡ plan.home m.setting.number n → HasElement m.course.job n c.in-Element.index → ElementAt x plan m n c.in-Element.original c.in-Element.index r in
-      followed_end x old plan s m t o h runs q c.args.keeps p g c.in-Err-element_at.step old op.0 op.1
-      (element_not x old plan s m t o h runs q c.args.keeps g.first g.second g.rest g.is c.in-Ok.ensures.above op.0 op.1 c.in-Element.original c.in-Element.index c.in-Err-element_at.step old refl (subst M (c.in-Ok-chase.is ∙ ap Ok c.in-Element.is) met)
+      let old = c.args.cpu.now in let q = c.args.next in let p = c.if-tag-eq0.reference in
+      let k = context x old plan s m t o h runs q c.in-Ok.two p (c.in-Ok.ensures.cells x plan s m t o h runs) ch (sym c.tag-2.ensures.value ∙ c.if-tag-ne0.false) c.chase.result c.chase.ensures in
+      let E = MeetsElement x old plan s m t o h runs q c.in-Element.original c.in-Element.index in
+      followed_end x old plan s m t o h runs q c.args.keeps p k.cells c.in-Err-element_at.step old k.bits k.operand
+      (element_not x old plan s m t o h runs q c.args.keeps k.cells.first k.cells.second k.cells.rest k.cells.is c.in-Ok.ensures.above k.bits k.operand c.in-Element.original c.in-Element.index c.in-Err-element_at.step old refl (leads_to x old plan s m t o h runs q p c.chase.result _ k (c.in-Ok-chase.is ∙ ap Ok c.in-Element.is))
       (subst E c.in-Err-element_at.is (c.element_at.ensures x plan s m t o h runs)));
 }
 
@@ -116,21 +86,12 @@ pub returns-in-Array : goal.returns-in-Array
 returns-in-Array c = record {
   row = λ x plan s m t o h runs.
       let ch : Choice c.in-Ok.two c.if-tag-eq0.reference = elim c.if-tag-eq0.branch [ then-tag-eq0 w ↦ inl (sym c.tag.ensures.value ∙ w.if-tag-eq0.true, w.reference-is) | else-tag-eq0 w ↦ inr (λ z. w.if-tag-eq0.false (c.tag.ensures.value ∙ z), w.reference-is) ] in
-      let old = c.args.cpu.now in
-      let q = c.args.next in
-      let p = c.if-tag-eq0.reference in
-      let g = given x plan m t old c.in-Ok.two p (c.in-Ok.ensures.cells x plan s m t o h runs) ch in
-      let zero : p.1.tag ≡ 0 = sym c.tag-2.ensures.value ∙ c.if-tag-ne0.false in
-      let op = is_operand x plan m t old p g zero in
-      let w = (in_order g.first g.second).0 in
-      let f = followed x plan s m t o runs old p g in
-      let a = here_scene x old plan s m t o h runs in
-      let met = c.chase.ensures a q (here_shown x old plan s m t o h runs) f.at f.owner w (followed_stands x old plan s m t o h runs p.0 w f) in
-      let M : Result End Fault → Type 0 = λ r. EndMeets a q r (follow (here m t q) w) in
-      followed_end x old plan s m t o h runs q c.args.keeps p g (step.Fault MemoryProtect) old op.0 op.1
+      let old = c.args.cpu.now in let q = c.args.next in let p = c.if-tag-eq0.reference in
+      let k = context x old plan s m t o h runs q c.in-Ok.two p (c.in-Ok.ensures.cells x plan s m t o h runs) ch (sym c.tag-2.ensures.value ∙ c.if-tag-ne0.false) c.chase.result c.chase.ensures in
+      followed_end x old plan s m t o h runs q c.args.keeps p k.cells (step.Fault MemoryProtect) old k.bits k.operand
       (elim c.in-Array.is [
-        | inl i ↦ at_array x old plan s m t o h runs q c.args.keeps (step.Fault MemoryProtect) old g.rest op.0 i.0 (follow (here m t q) w) (subst M (c.in-Ok-chase.is ∙ ap Ok i.1) met) refl refl
-        | inr i ↦ at_intrinsic x old plan s m t o h runs q c.args.keeps (step.Fault MemoryProtect) old g.rest op.0 i.0 (follow (here m t q) w) (subst M (c.in-Ok-chase.is ∙ ap Ok i.1) met) refl refl
+        | inl i ↦ at_array x old plan s m t o h runs q c.args.keeps (step.Fault MemoryProtect) old k.cells.rest k.bits i.0 (follow (here m t q) (in_order k.cells.first k.cells.second).0) (leads_to x old plan s m t o h runs q p c.chase.result _ k (c.in-Ok-chase.is ∙ ap Ok i.1)) refl refl
+        | inr i ↦ at_intrinsic x old plan s m t o h runs q c.args.keeps (step.Fault MemoryProtect) old k.cells.rest k.bits i.0 (follow (here m t q) (in_order k.cells.first k.cells.second).0) (leads_to x old plan s m t o h runs q p c.chase.result _ k (c.in-Ok-chase.is ∙ ap Ok i.1)) refl refl
       ]);
 }
 
@@ -138,19 +99,10 @@ pub returns-in-Proc : goal.returns-in-Proc
 returns-in-Proc c = record {
   row = λ x plan s m t o h runs.
       let ch : Choice c.in-Ok.two c.if-tag-eq0.reference = elim c.if-tag-eq0.branch [ then-tag-eq0 w ↦ inl (sym c.tag.ensures.value ∙ w.if-tag-eq0.true, w.reference-is) | else-tag-eq0 w ↦ inr (λ z. w.if-tag-eq0.false (c.tag.ensures.value ∙ z), w.reference-is) ] in
-      let old = c.args.cpu.now in
-      let q = c.args.next in
-      let p = c.if-tag-eq0.reference in
-      let g = given x plan m t old c.in-Ok.two p (c.in-Ok.ensures.cells x plan s m t o h runs) ch in
-      let zero : p.1.tag ≡ 0 = sym c.tag-2.ensures.value ∙ c.if-tag-ne0.false in
-      let op = is_operand x plan m t old p g zero in
-      let w = (in_order g.first g.second).0 in
-      let f = followed x plan s m t o runs old p g in
-      let a = here_scene x old plan s m t o h runs in
-      let met = c.chase.ensures a q (here_shown x old plan s m t o h runs) f.at f.owner w (followed_stands x old plan s m t o h runs p.0 w f) in
-      let M : Result End Fault → Type 0 = λ r. EndMeets a q r (follow (here m t q) w) in
-      followed_end x old plan s m t o h runs q c.args.keeps p g (step.Call 255) old op.0 op.1
-      (at_proc x old plan s m t o h runs q c.args.keeps (step.Call 255) old g.rest op.0 c.in-Proc.field-0 (follow (here m t q) w) (subst M (c.in-Ok-chase.is ∙ ap Ok c.in-Proc.is) met) refl refl);
+      let old = c.args.cpu.now in let q = c.args.next in let p = c.if-tag-eq0.reference in
+      let k = context x old plan s m t o h runs q c.in-Ok.two p (c.in-Ok.ensures.cells x plan s m t o h runs) ch (sym c.tag-2.ensures.value ∙ c.if-tag-ne0.false) c.chase.result c.chase.ensures in
+      followed_end x old plan s m t o h runs q c.args.keeps p k.cells (step.Call 255) old k.bits k.operand
+      (at_proc x old plan s m t o h runs q c.args.keeps (step.Call 255) old k.cells.rest k.bits c.in-Proc.field-0 (follow (here m t q) (in_order k.cells.first k.cells.second).0) (leads_to x old plan s m t o h runs q p c.chase.result _ k (c.in-Ok-chase.is ∙ ap Ok c.in-Proc.is)) refl refl);
 }
 
 pub put-requires-clause-at : goal.put-requires-clause-at
@@ -158,23 +110,14 @@ put-requires-clause-at c =
     let r = c.requires in
     let x = r.storage in let plan = r.plan in let s = r.session in let m = r.member in let t = r.task in let o = r.ordered in let h = r.stands in let runs = r.running in
     let ch : Choice c.in-Ok.two c.if-tag-eq0.reference = elim c.if-tag-eq0.branch [ then-tag-eq0 w ↦ inl (sym c.tag.ensures.value ∙ w.if-tag-eq0.true, w.reference-is) | else-tag-eq0 w ↦ inr (λ z. w.if-tag-eq0.false (c.tag.ensures.value ∙ z), w.reference-is) ] in
-    let old = c.args.cpu.now in
-    let q = c.args.next in
-    let p = c.if-tag-eq0.reference in
-    let g = given x plan m t old c.in-Ok.two p (c.in-Ok.ensures.cells x plan s m t o h runs) ch in
-    let zero : p.1.tag ≡ 0 = sym c.tag-2.ensures.value ∙ c.if-tag-ne0.false in
-    let op = is_operand x plan m t old p g zero in
-    let w = (in_order g.first g.second).0 in
-    let f = followed x plan s m t o runs old p g in
-    let a = here_scene x old plan s m t o h runs in
-    let met = c.chase.ensures a q (here_shown x old plan s m t o h runs) f.at f.owner w (followed_stands x old plan s m t o h runs p.0 w f) in
-    let M : Result End Fault → Type 0 = λ r. EndMeets a q r (follow (here m t q) w) in
+    let old = c.args.cpu.now in let q = c.args.next in let p = c.if-tag-eq0.reference in
+    let k = context x old plan s m t o h runs q c.in-Ok.two p (c.in-Ok.ensures.cells x plan s m t o h runs) ch (sym c.tag-2.ensures.value ∙ c.if-tag-ne0.false) c.chase.result c.chase.ensures in
     elim c.match-end.branch [
-      | in-Cell k ↦ let low = cell_inside x old plan s m t o h runs q c.args.keeps k.in-Cell.at (follow (here m t q) w) (subst M (c.in-Ok-chase.is ∙ ap Ok k.in-Cell.is) met) in omega (arith, low, k.at-is)
-      | in-Element+in-Ok-element_at k ↦
-          let E : Result ℕ Step → Type 0 = λ r. (n : ℕ) → k.in-Element.original ≡ plan.home m.setting.number n → HasElement m.course.job n k.in-Element.index → ElementAt x plan m n k.in-Element.original k.in-Element.index r in
-          let low = element_inside x old plan s m t o h runs q c.args.keeps k.in-Element.original k.in-Element.index k.in-Ok-element_at.at (follow (here m t q) w) (subst M (c.in-Ok-chase.is ∙ ap Ok k.in-Element.is) met) (subst E k.in-Ok-element_at.is (k.element_at.ensures x plan s m t o h runs)) in
-          omega (arith, low, k.at-is)
+      | in-Cell w ↦ let low = cell_inside x old plan s m t o h runs q c.args.keeps w.in-Cell.at (follow (here m t q) (in_order k.cells.first k.cells.second).0) (leads_to x old plan s m t o h runs q p c.chase.result _ k (c.in-Ok-chase.is ∙ ap Ok w.in-Cell.is)) in omega (arith, low, w.at-is)
+      | in-Element+in-Ok-element_at w ↦
+          let E = MeetsElement x old plan s m t o h runs q w.in-Element.original w.in-Element.index in
+          let low = element_inside x old plan s m t o h runs q c.args.keeps w.in-Element.original w.in-Element.index w.in-Ok-element_at.at (follow (here m t q) (in_order k.cells.first k.cells.second).0) (leads_to x old plan s m t o h runs q p c.chase.result _ k (c.in-Ok-chase.is ∙ ap Ok w.in-Element.is)) (subst E w.in-Ok-element_at.is (w.element_at.ensures x plan s m t o h runs)) in
+          omega (arith, low, w.at-is)
     ]
 
 pub put-requires-clause-top : goal.put-requires-clause-top
@@ -184,26 +127,17 @@ pub returns : goal.returns
 returns c = record {
   row = λ x plan s m t o h runs.
       let ch : Choice c.in-Ok.two c.if-tag-eq0.reference = elim c.if-tag-eq0.branch [ then-tag-eq0 w ↦ inl (sym c.tag.ensures.value ∙ w.if-tag-eq0.true, w.reference-is) | else-tag-eq0 w ↦ inr (λ z. w.if-tag-eq0.false (c.tag.ensures.value ∙ z), w.reference-is) ] in
-      let old = c.args.cpu.now in
-      let q = c.args.next in
-      let p = c.if-tag-eq0.reference in
-      let g = given x plan m t old c.in-Ok.two p (c.in-Ok.ensures.cells x plan s m t o h runs) ch in
-      let zero : p.1.tag ≡ 0 = sym c.tag-2.ensures.value ∙ c.if-tag-ne0.false in
-      let op = is_operand x plan m t old p g zero in
-      let w = (in_order g.first g.second).0 in
-      let f = followed x plan s m t o runs old p g in
-      let a = here_scene x old plan s m t o h runs in
-      let met = c.chase.ensures a q (here_shown x old plan s m t o h runs) f.at f.owner w (followed_stands x old plan s m t o h runs p.0 w f) in
-      let M : Result End Fault → Type 0 = λ r. EndMeets a q r (follow (here m t q) w) in
-      let N : Cpu → Type 0 = λ new. EntersOrMeets x plan s m step.Done old new (enters_at (follow (here m t q) w)) (follow (here m t q) w >>= store_at (here m t q) g.rest (if c.args.keeps then Operand op.0 ∷ g.rest else g.rest) op.0) in
-      let back : (at : ℕ) → c.match-end.at ≡ at → N (stored old at (word 0 op.0) c.args.keeps q) → N c.put.new.cpu = λ at e n.
-      subst N (sym (c.put.ensures ∙ ap (λ (i : ℕ). stored old i p.1 c.args.keeps q) e ∙ ap (λ (v : Tagged). stored old at v c.args.keeps q) op.2)) n in
-      followed_end x old plan s m t o h runs q c.args.keeps p g step.Done c.put.new.cpu op.0 op.1
+      let old = c.args.cpu.now in let q = c.args.next in let p = c.if-tag-eq0.reference in
+      let k = context x old plan s m t o h runs q c.in-Ok.two p (c.in-Ok.ensures.cells x plan s m t o h runs) ch (sym c.tag-2.ensures.value ∙ c.if-tag-ne0.false) c.chase.result c.chase.ensures in
+      let N : Cpu → Type 0 = λ new. EntersOrMeets x plan s m step.Done old new (enters_at (follow (here m t q) (in_order k.cells.first k.cells.second).0)) (follow (here m t q) (in_order k.cells.first k.cells.second).0 >>= store_at (here m t q) k.cells.rest (if c.args.keeps then Operand k.bits ∷ k.cells.rest else k.cells.rest) k.bits) in
+      let back : (at : ℕ) → c.match-end.at ≡ at → N (stored old at (word 0 k.bits) c.args.keeps q) → N c.put.new.cpu = λ at e n.
+      subst N (sym (c.put.ensures ∙ ap (λ (i : ℕ). stored old i p.1 c.args.keeps q) e ∙ ap (λ (v : Tagged). stored old at v c.args.keeps q) k.word_is)) n in
+      followed_end x old plan s m t o h runs q c.args.keeps p k.cells step.Done c.put.new.cpu k.bits k.operand
       (elim c.match-end.branch [
-        | in-Cell k ↦ back k.in-Cell.at k.at-is (cell_done x old plan s m t o h runs q c.args.keeps g.first g.second g.rest g.is c.in-Ok.ensures.above op.0 op.1 k.in-Cell.at (subst M (c.in-Ok-chase.is ∙ ap Ok k.in-Cell.is) met))
-        | in-Element+in-Ok-element_at k ↦
-            let E : Result ℕ Step → Type 0 = λ r. (n : ℕ) → k.in-Element.original ≡ plan.home m.setting.number n → HasElement m.course.job n k.in-Element.index → ElementAt x plan m n k.in-Element.original k.in-Element.index r in
-            back k.in-Ok-element_at.at k.at-is (element_done x old plan s m t o h runs q c.args.keeps g.first g.second g.rest g.is c.in-Ok.ensures.above op.0 op.1 k.in-Element.original k.in-Element.index k.in-Ok-element_at.at
-            (subst M (c.in-Ok-chase.is ∙ ap Ok k.in-Element.is) met) (subst E k.in-Ok-element_at.is (k.element_at.ensures x plan s m t o h runs)))
+        | in-Cell w ↦ back w.in-Cell.at w.at-is (cell_done x old plan s m t o h runs q c.args.keeps k.cells.first k.cells.second k.cells.rest k.cells.is c.in-Ok.ensures.above k.bits k.operand w.in-Cell.at (leads_to x old plan s m t o h runs q p c.chase.result _ k (c.in-Ok-chase.is ∙ ap Ok w.in-Cell.is)))
+        | in-Element+in-Ok-element_at w ↦
+            let E = MeetsElement x old plan s m t o h runs q w.in-Element.original w.in-Element.index in
+            back w.in-Ok-element_at.at w.at-is (element_done x old plan s m t o h runs q c.args.keeps k.cells.first k.cells.second k.cells.rest k.cells.is c.in-Ok.ensures.above k.bits k.operand w.in-Element.original w.in-Element.index w.in-Ok-element_at.at
+            (leads_to x old plan s m t o h runs q p c.chase.result _ k (c.in-Ok-chase.is ∙ ap Ok w.in-Element.is)) (subst E w.in-Ok-element_at.is (w.element_at.ensures x plan s m t o h runs)))
       ]);
 }

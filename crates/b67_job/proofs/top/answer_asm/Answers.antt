@@ -1,8 +1,4 @@
-use Rattle.std.proofs.Common.{refl}
-use Rattle.b67_job_admit.specs.Verdicts.{asm_verdict}
-use Rattle.b67_job.specs.declared.command.CommandLine.TheVariants as lines
-use Rattle.b67_job.proofs.Served.{served_text}
 use Rattle.b67_job.proofs.top.answer_asm.Goals as goal
 
 pub returns : goal.returns
-returns g c = λ d. served_text d lines.Asm asm_verdict c.asm_text-text.result c.answer_text.result (λ bytes. refl) c.asm_text-text.ensures.answer c.answer_text.ensures
+returns g c = (c.asm_text-text.result, c.asm_text-text.ensures.answer, c.answer_text.ensures)

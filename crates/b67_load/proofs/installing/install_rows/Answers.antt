@@ -1,19 +1,20 @@
 use Rattle.std.proofs.Common.{◌∙◌, List, length, map, refl, arith}
 use Rattle.std.proofs.lemmas.List.{length-map}
 use Rattle.b67_word.specs.Tagged.{contents}
-use Rattle.b67_stack.specs.Picture.{Thing}
-use Rattle.b67_load.specs.Things.{rows_from}
+use Rattle.b67_stack.specs.MachineView.{PagedObject}
+use Rattle.b67_load.specs.Objects.{rows_from}
 use Rattle.b67_load.proofs.Writing.{going_first, going_next, going_all, going_failed}
 use Rattle.b67_load.proofs.Steps.{length-rows_from, rows_step, rows_end}
 use Rattle.b67_load.proofs.installing.install_rows.Goals as goal
 
 pub loop-row-init : goal.loop-row-init
 loop-row-init g c =
-    let all : List Thing = rows_from c.args.base (map contents c.args.rows.now) in
+    let all : List PagedObject = rows_from c.args.base (map contents c.args.rows.now) in
     record {
       going = going_first g.B.Backing.holds c.args.base all (length c.args.rows.now) _ (length-rows_from c.args.base (map contents c.args.rows.now) ∙ length-map c.args.rows.now contents) c.requires.room;
       size = refl;
       faults = omega arith;
+      calls = omega arith;
     }
 
 pub returns-in_err-install_row-clause-spares :
@@ -30,6 +31,7 @@ loop-row-preserved g c = record {
       c.loop-row.invariant.going c.in_ok-install_row.ensures.writes c.install_row.ensures.spares;
   size = c.install_row.ensures.size ∙ c.loop-row.invariant.size;
   faults = omega (arith, c.loop-row.invariant.faults, c.install_row.ensures.cause.later);
+  calls = omega (arith, c.loop-row.invariant.calls, c.install_row.ensures.calls);
 }
 
 pub returns-clause-writes : goal.returns-clause-writes

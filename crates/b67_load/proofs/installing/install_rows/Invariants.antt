@@ -1,6 +1,6 @@
 use Rattle.std.proofs.Common.{◌≡◌, ◌≤◌, length, map, drop}
 use Rattle.b67_word.specs.Tagged.{contents}
-use Rattle.b67_load.specs.Things.{rows_from}
+use Rattle.b67_load.specs.Objects.{rows_from}
 use Rattle.b67_load.proofs.Writing.{Going}
 use Rattle.b67_load.proofs.installing.install_rows.Given as goal
 
@@ -11,4 +11,5 @@ invariant-loop-row g l = record {
       (record { core = l.core; table = l.sectors; device = l.backing });
   size : g.B.Backing.size l.backing ≡ g.B.Backing.size l.initial.backing;
   faults : g.B.Backing.faults l.initial.backing ≤ g.B.Backing.faults l.backing;
+  calls : g.B.Backing.calls l.initial.backing ≤ g.B.Backing.calls l.backing;
 }

@@ -1,19 +1,20 @@
 use Rattle.std.proofs.Common.{◌∙◌, List, length, map, refl, arith}
 use Rattle.std.proofs.lemmas.List.{length-map}
 use Rattle.b67_codefile.specs.Meaning.{segment_of}
-use Rattle.b67_stack.specs.Picture.{Thing}
-use Rattle.b67_load.specs.Things.{code_from}
+use Rattle.b67_stack.specs.MachineView.{PagedObject}
+use Rattle.b67_load.specs.Objects.{code_from}
 use Rattle.b67_load.proofs.Writing.{going_first, going_next, going_all, going_failed}
 use Rattle.b67_load.proofs.Steps.{length-code_from, code_step, code_end}
 use Rattle.b67_load.proofs.installing.install_segments.Goals as goal
 
 pub loop-segment-init : goal.loop-segment-init
 loop-segment-init g c =
-    let all : List Thing = code_from c.args.base (map segment_of c.args.segments.now) in
+    let all : List PagedObject = code_from c.args.base (map segment_of c.args.segments.now) in
     record {
       going = going_first g.B.Backing.holds c.args.base all (length c.args.segments.now) _ (length-code_from c.args.base (map segment_of c.args.segments.now) ∙ length-map c.args.segments.now segment_of) c.requires.room;
       size = refl;
       faults = omega arith;
+      calls = omega arith;
     }
 
 pub returns-in_err-install_segment-clause-spares :
@@ -30,6 +31,7 @@ loop-segment-preserved g c = record {
       c.loop-segment.invariant.going c.in_ok-install_segment.ensures.writes c.install_segment.ensures.spares;
   size = c.install_segment.ensures.size ∙ c.loop-segment.invariant.size;
   faults = omega (arith, c.loop-segment.invariant.faults, c.install_segment.ensures.cause.later);
+  calls = omega (arith, c.loop-segment.invariant.calls, c.install_segment.ensures.calls);
 }
 
 pub returns-clause-writes : goal.returns-clause-writes

@@ -5,7 +5,7 @@ use Rattle.b67_model.specs.declared.operators.Op.TheVariants.{Plain}
 use Rattle.b67_model.specs.declared.operators.Code.TheVariants.{Entr}
 use Rattle.b67_mcp_calls.specs.Declaring.{job_declared, with_home, without}
 use Rattle.b67_task_tables.specs.declared.tables.Machine.{Machine}
-use Rattle.b67_task_tables.specs.Tables.{MachineStands}
+use Rattle.b67_task_tables.specs.Tables.{MachineRepresents}
 use Rattle.b67_mcp.proofs.Callings.{calling, reads_of, call_some}
 use Rattle.b67_mcp.proofs.Cut.{one_behind}
 use Rattle.b67_mcp.proofs.Sizes.{same_size}
@@ -24,21 +24,21 @@ next_place-next-requires c = reads_of c.args.machine.now 8 c.requires
 
 pub answer_array-requires-clause-call : goal.answer_array-requires-clause-call
 answer_array-requires-clause-call c =
-    let q = c.requires in
-    let k = calling q.member q.task 8 q.called in
+    let q = c.requires.runs in
+    let k = calling q.member q.task 8 c.requires.called in
     let r = c.in-Ok.ensures.row q.storage q.plan q.session q.member q.task q.ordered q.stands.session q.running k.reference k.arguments k.call in
-    record { runs = (call_some c.args.machine.now 8 q).runs; may = r.2 }
+    record { runs = (call_some c.args.machine.now 8 c.requires).runs; may = r.2 }
 
 pub answer_array-requires-clause-some : goal.answer_array-requires-clause-some
 answer_array-requires-clause-some c =
-    let q = c.requires in
-    let k = calling q.member q.task 8 q.called in
+    let q = c.requires.runs in
+    let k = calling q.member q.task 8 c.requires.called in
     (c.in-Ok.ensures.row q.storage q.plan q.session q.member q.task q.ordered q.stands.session q.running k.reference k.arguments k.call).0
 
 pub answer_array-requires-clause-small : goal.answer_array-requires-clause-small
 answer_array-requires-clause-small c =
-    let q = c.requires in
-    let k = calling q.member q.task 8 q.called in
+    let q = c.requires.runs in
+    let k = calling q.member q.task 8 c.requires.called in
     (c.in-Ok.ensures.row q.storage q.plan q.session q.member q.task q.ordered q.stands.session q.running k.reference k.arguments k.call).1
 
 pub returns-clause-row : goal.returns-clause-row
@@ -50,11 +50,11 @@ returns-clause-row c = λ x told plan s m t o h runs code called.
     let n = c.in-Ok.length in
     let r = c.in-Ok.ensures.row x plan s m t o h.session runs k.reference k.arguments k.call in
     let q = c.next_place-next.result in
-    let there = with_home plan m.setting.number m.course.job.next_array cpu.regs.s in
+    let there = with_home plan m.constants.number m.progress.job.next_array cpu.regs.s in
     let same = one_behind m t q k.next (c.next_place-next.ensures.behind x told plan s m t o h runs code) (Plain Entr, k.reading) in
     let session = c.answer_array.ensures.stands x plan s m t o h.session runs r.2 in
     let size = same_size x (without x cpu.regs.s) old.cpu cpu plan there s (with_job s m (job_declared m t n q)) h.session session refl refl in
-    let P : Place → Type 0 = λ p. MachineStands (without x cpu.regs.s) told new there (with_job s m (job_declared m t n p)) in
+    let P : Place → Type 0 = λ p. MachineRepresents (without x cpu.regs.s) told new there (with_job s m (job_declared m t n p)) in
     record {
       job = job_declared m t n k.next;
       is = k.is ∙ r.3 k.next;
@@ -70,16 +70,15 @@ returns-clause-row c = λ x told plan s m t o h runs code called.
 
 pub returns-clause-kept : goal.returns-clause-kept
 returns-clause-kept c =
-    let q = c.requires in
+    let q = c.requires.runs in
     let old = c.args.machine.now in
     let cpu = c.answer_array.new.cpu in
-    let k = calling q.member q.task 8 q.called in
+    let k = calling q.member q.task 8 c.requires.called in
     let r = c.in-Ok.ensures.row q.storage q.plan q.session q.member q.task q.ordered q.stands.session q.running k.reference k.arguments k.call in
     let session = c.answer_array.ensures.stands q.storage q.plan q.session q.member q.task q.ordered q.stands.session q.running r.2 in
     record {
       countable = λ few. few;
-      len = same_size q.storage (without q.storage cpu.regs.s) old.cpu cpu q.plan (with_home q.plan q.member.setting.number q.member.course.job.next_array cpu.regs.s) q.session (with_job q.session q.member (job_declared q.member q.task c.in-Ok.length c.next_place-next.result)) q.stands.session session refl refl;
+      keeps = record { core = same_size q.storage (without q.storage cpu.regs.s) old.cpu cpu q.plan (with_home q.plan q.member.constants.number q.member.progress.job.next_array cpu.regs.s) q.session (with_job q.session q.member (job_declared q.member q.task c.in-Ok.length c.next_place-next.result)) q.stands.session session refl refl; sectors = refl; halt = refl };
       changed = c.answer_array.ensures.changed q.storage q.plan q.session q.member q.task q.ordered q.stands.session q.running r.2;
       sectors = refl;
-      halt = refl;
     }

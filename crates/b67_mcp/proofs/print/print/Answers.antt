@@ -32,9 +32,9 @@ returns-in-Err-say_value-clause-row g c = λ x told plan s m t o h runs code cal
 
 pub cut-requires : goal.cut-requires
 cut-requires g c =
-    let q = c.requires in
-    let k = calling q.member q.task 9 q.called in
-    record { reads = reads_of c.args.machine.now 9 q; may = (c.in-Ok.ensures.row q.storage q.plan q.session q.member q.task q.ordered q.stands.session q.running k.reference k.arguments k.call).1 }
+    let q = c.requires.runs in
+    let k = calling q.member q.task 9 c.requires.called in
+    record { reads = reads_of c.args.machine.now 9 c.requires; may = (c.in-Ok.ensures.row q.storage q.plan q.session q.member q.task q.ordered q.stands.session q.running k.reference k.arguments k.call).1 }
 
 pub returns-in-Ok-say_value-clause-row : goal.returns-in-Ok-say_value-clause-row
 returns-in-Ok-say_value-clause-row g c = λ x told plan s m t o h runs code called.
@@ -73,3 +73,6 @@ returns-in-Err-say_value-clause-present g c = λ x told plan s m t o h runs code
 
 pub returns-in-Err-say_value-clause-kept : goal.returns-in-Err-say_value-clause-kept
 returns-in-Err-say_value-clause-kept g c = kept_printed c.args.machine.now c.say_value.new.printed
+
+pub returns-in-Ok-say_value-clause-cause : goal.returns-in-Ok-say_value-clause-cause
+returns-in-Ok-say_value-clause-cause g c = record { later = c.say_value.ensures.cause.later; failed = λ e. absurd cc }

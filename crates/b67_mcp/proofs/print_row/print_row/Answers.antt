@@ -26,26 +26,26 @@ say_words-requires-clause-reads g c = reads_of c.args.machine.now 10 c.requires
 
 pub say_words-requires-clause-inside : goal.say_words-requires-clause-inside
 say_words-requires-clause-inside g c =
-    let q = c.requires in
-    let k = calling q.member q.task 10 q.called in
+    let q = c.requires.runs in
+    let k = calling q.member q.task 10 c.requires.called in
     let P : Found → Type 0 = λ f. RowMeets q.storage q.plan q.member q.task c.args.machine.now.cpu.core k.arguments (Ok f) in
     (subst P c.in-Words.is (c.in-Ok.ensures.row q.storage q.plan q.session q.member q.task q.ordered q.stands.session q.running k.reference k.arguments k.call)).inside
 
 pub say_words-requires-clause-whole : goal.say_words-requires-clause-whole
 say_words-requires-clause-whole g c =
-    let q = c.requires in
-    let k = calling q.member q.task 10 q.called in
+    let q = c.requires.runs in
+    let k = calling q.member q.task 10 c.requires.called in
     let P : Found → Type 0 = λ f. RowMeets q.storage q.plan q.member q.task c.args.machine.now.cpu.core k.arguments (Ok f) in
     let row = subst P c.in-Words.is (c.in-Ok.ensures.row q.storage q.plan q.session q.member q.task q.ordered q.stands.session q.running k.reference k.arguments k.call) in
     (row.values, row.lies)
 
 pub cut-requires : goal.cut-requires
 cut-requires g c =
-    let q = c.requires in
-    let k = calling q.member q.task 10 q.called in
+    let q = c.requires.runs in
+    let k = calling q.member q.task 10 c.requires.called in
     let P : Found → Type 0 = λ f. RowMeets q.storage q.plan q.member q.task c.args.machine.now.cpu.core k.arguments (Ok f) in
     let row = subst P c.in-Words.is (c.in-Ok.ensures.row q.storage q.plan q.session q.member q.task q.ordered q.stands.session q.running k.reference k.arguments k.call) in
-    record { reads = reads_of c.args.machine.now 10 q; may = row.may }
+    record { reads = reads_of c.args.machine.now 10 c.requires; may = row.may }
 
 pub returns-in-Absent-clause-row : goal.returns-in-Absent-clause-row
 returns-in-Absent-clause-row g c = λ x told plan s m t o h runs code called.

@@ -8,13 +8,13 @@ use Rattle.b67_layout.specs.Meets.{with_job}
 use Rattle.b67_mcp_calls.specs.Reads.{job_read}
 use Rattle.b67_task_tables.specs.declared.tables.Machine.{Machine}
 use Rattle.b67_task_tables.specs.declared.tables.Tasks.{Tasks}
-use Rattle.b67_task_tables.specs.Tables.{MachineStands}
-use Rattle.b67_task_switch.proofs.Lists.{at_has}
+use Rattle.b67_task_tables.specs.Tables.{MachineRepresents}
 use Rattle.b67_mcp.proofs.Callings.{calling, reads_of, call_some}
 use Rattle.b67_mcp.proofs.Cut.{one_behind}
 use Rattle.b67_mcp.proofs.Sizes.{same_size, kept_same}
 use Rattle.b67_mcp.proofs.Numbers.{job_in, tasks_same, countable_read, tables_read}
 use Rattle.b67_mcp.proofs.read.read.Goals as goal
+use Rattle.b67_lemmas.proofs.Members.{has_get}
 
 pub next_place-next-requires : goal.next_place-next-requires
 next_place-next-requires c = reads_of c.args.machine.now 11 c.requires.calls
@@ -24,21 +24,21 @@ running_row-requires c = reads_of c.args.machine.now 11 c.requires.calls
 
 pub overflow_sub-at : goal.overflow_sub-at
 overflow_sub-at c =
-    let q = c.requires.calls in
+    let q = c.requires.calls.runs in
     let j = job_in c.args.machine.now.tasks q.plan q.session q.member q.task q.ordered q.stands.tables q.running in
-    let e = c.running_row.ensures.job q.storage q.told q.plan q.session q.member q.task q.ordered q.stands q.running q.code in
+    let e = c.running_row.ensures.job q.storage q.told q.plan q.session q.member q.task q.ordered q.stands q.running c.requires.calls.code in
     omega (arith, j.from_one, e)
 
 pub take_number-requires : goal.take_number-requires
 take_number-requires c =
-    let q = c.requires.calls in
+    let q = c.requires.calls.runs in
     let tasks = c.args.machine.now.tasks in
     let j = job_in tasks q.plan q.session q.member q.task q.ordered q.stands.tables q.running in
-    let e = c.running_row.ensures.job q.storage q.told q.plan q.session q.member q.task q.ordered q.stands q.running q.code in (
+    let e = c.running_row.ensures.job q.storage q.told q.plan q.session q.member q.task q.ordered q.stands q.running c.requires.calls.code in (
       j.row,
       ap (λ (n : ℕ). slice_get tasks.jobs (n - 1)) e ∙ j.at,
-      record { some = call_some c.args.machine.now 11 q; shows = j.shows },
-      c.requires.countable j.row (at_has tasks.jobs (q.member.setting.number - 1) j.row j.at),
+      record { some = call_some c.args.machine.now 11 c.requires.calls; shows = j.shows },
+      c.requires.countable j.row (has_get tasks.jobs (q.member.constants.number - 1) j.row j.at),
     )
 
 pub returns-in-Err-clause-row : goal.returns-in-Err-clause-row
@@ -53,24 +53,24 @@ returns-in-Err-clause-row c = λ x told plan s m t o h runs code called.
 
 pub returns-in-Err-clause-kept : goal.returns-in-Err-clause-kept
 returns-in-Err-clause-kept c =
-    let q = c.requires.calls in
-    let k = calling q.member q.task 11 q.called in
+    let q = c.requires.calls.runs in
+    let k = calling q.member q.task 11 c.requires.calls.called in
     let old = c.args.machine.now in
     let j = job_in old.tasks q.plan q.session q.member q.task q.ordered q.stands.tables q.running in
-    let at = ap (λ (n : ℕ). slice_get old.tasks.jobs (n - 1)) (c.running_row.ensures.job q.storage q.told q.plan q.session q.member q.task q.ordered q.stands q.running q.code) ∙ j.at in
+    let at = ap (λ (n : ℕ). slice_get old.tasks.jobs (n - 1)) (c.running_row.ensures.job q.storage q.told q.plan q.session q.member q.task q.ordered q.stands q.running c.requires.calls.code) ∙ j.at in
     let did = c.in-Err.ensures.takes j.row at in
     let meets = did.takes q.storage q.plan q.session q.member q.task q.ordered q.stands.session q.running k.reference k.arguments k.call j.shows in
     kept_same old (record old { tasks = c.take_number.new.tasks }) (ap (λ (z : Tasks). record old { tasks = z }) (tasks_same old.tasks c.take_number.new.tasks (c.running_row.result.job - 1) j.row did.new at did.is meets.1 c.take_number.ensures.rest))
 
 pub answer_call-requires-clause-call : goal.answer_call-requires-clause-call
 answer_call-requires-clause-call c =
-    let q = c.requires.calls in
-    let k = calling q.member q.task 11 q.called in
+    let q = c.requires.calls.runs in
+    let k = calling q.member q.task 11 c.requires.calls.called in
     let old = c.args.machine.now in
     let j = job_in old.tasks q.plan q.session q.member q.task q.ordered q.stands.tables q.running in
-    let at = ap (λ (n : ℕ). slice_get old.tasks.jobs (n - 1)) (c.running_row.ensures.job q.storage q.told q.plan q.session q.member q.task q.ordered q.stands q.running q.code) ∙ j.at in
+    let at = ap (λ (n : ℕ). slice_get old.tasks.jobs (n - 1)) (c.running_row.ensures.job q.storage q.told q.plan q.session q.member q.task q.ordered q.stands q.running c.requires.calls.code) ∙ j.at in
     let did = c.in-Ok.ensures.takes j.row at in
-    record { runs = (call_some old 11 q).runs; may = (did.takes q.storage q.plan q.session q.member q.task q.ordered q.stands.session q.running k.reference k.arguments k.call j.shows).may }
+    record { runs = (call_some old 11 c.requires.calls).runs; may = (did.takes q.storage q.plan q.session q.member q.task q.ordered q.stands.session q.running k.reference k.arguments k.call j.shows).may }
 
 pub returns-clause-row : goal.returns-clause-row
 returns-clause-row c = λ x told plan s m t o h runs code called.
@@ -84,13 +84,13 @@ returns-clause-row c = λ x told plan s m t o h runs code called.
     let at = ap (λ (n : ℕ). slice_get old.tasks.jobs (n - 1)) ej ∙ j.at in
     let did = c.in-Ok.ensures.takes j.row at in
     let meets = did.takes x plan s m t o h.session runs k.reference k.arguments k.call j.shows in
-    let taken = read_from m.course.job.numbers in
+    let taken = read_from m.progress.job.numbers in
     let q = c.next_place-next.result in
     let same = one_behind m t q k.next (c.next_place-next.ensures.behind x told plan s m t o h runs code) (Plain Entr, k.reading) in
     let session = c.answer_call.ensures.stands x plan s m t o h.session runs taken.0 taken.1 meets.may meets.is in
     let size = same_size x x old.cpu cpu plan plan s (with_job s m (job_read m t q)) h.session session refl refl in
     let is = did.is ∙ ap (λ (n : ℕ). slice_set old.tasks.jobs (n - 1) did.new) ej in
-    let P : Place → Type 0 = λ p. MachineStands x told new plan (with_job s m (job_read m t p)) in
+    let P : Place → Type 0 = λ p. MachineRepresents x told new plan (with_job s m (job_read m t p)) in
     record {
       job = job_read m t k.next;
       is = k.is ∙ meets.makes k.next;
@@ -106,20 +106,23 @@ returns-clause-row c = λ x told plan s m t o h runs code called.
 
 pub returns-clause-kept : goal.returns-clause-kept
 returns-clause-kept c =
-    let q = c.requires.calls in
-    let k = calling q.member q.task 11 q.called in
+    let q = c.requires.calls.runs in
+    let k = calling q.member q.task 11 c.requires.calls.called in
     let old = c.args.machine.now in
     let cpu = c.answer_call.new.cpu in
     let j = job_in old.tasks q.plan q.session q.member q.task q.ordered q.stands.tables q.running in
-    let at = ap (λ (n : ℕ). slice_get old.tasks.jobs (n - 1)) (c.running_row.ensures.job q.storage q.told q.plan q.session q.member q.task q.ordered q.stands q.running q.code) ∙ j.at in
+    let at = ap (λ (n : ℕ). slice_get old.tasks.jobs (n - 1)) (c.running_row.ensures.job q.storage q.told q.plan q.session q.member q.task q.ordered q.stands q.running c.requires.calls.code) ∙ j.at in
     let did = c.in-Ok.ensures.takes j.row at in
     let meets = did.takes q.storage q.plan q.session q.member q.task q.ordered q.stands.session q.running k.reference k.arguments k.call j.shows in
-    let taken = read_from q.member.course.job.numbers in
+    let taken = read_from q.member.progress.job.numbers in
     let session = c.answer_call.ensures.stands q.storage q.plan q.session q.member q.task q.ordered q.stands.session q.running taken.0 taken.1 meets.may meets.is in
     record {
       countable = countable_read q.plan q.member q.task k.arguments old.tasks.jobs c.take_number.new.tasks.jobs (c.running_row.result.job - 1) j.row did.new (Ok c.in-Ok.number) at did.is meets;
-      len = same_size q.storage q.storage old.cpu cpu q.plan q.plan q.session (with_job q.session q.member (job_read q.member q.task c.next_place-next.result)) q.stands.session session refl refl;
+      keeps = record {
+        core = same_size q.storage q.storage old.cpu cpu q.plan q.plan q.session (with_job q.session q.member (job_read q.member q.task c.next_place-next.result)) q.stands.session session refl refl;
+        sectors = refl;
+        halt = ap (λ (z : Tasks). z.halt) c.take_number.ensures.rest;
+      };
       changed = c.answer_call.ensures.changed q.storage q.plan q.session q.member q.task q.ordered q.stands.session q.running meets.may;
       sectors = refl;
-      halt = ap (λ (z : Tasks). z.halt) c.take_number.ensures.rest;
     }

@@ -1,8 +1,8 @@
 use Rattle.std.proofs.Common.{List, length, ap, ◌∙◌, slice_set}
 use Rattle.std.specs.List.{slice_get}
 use Rattle.b67_task_tables.specs.declared.tables.JobRow.{JobRow}
-use Rattle.b67_mcp.proofs.Numbers.{came_back}
 use Rattle.b67_mcp.proofs.read.take_number.Goals as goal
+use Rattle.b67_lemmas.proofs.Places.{came_back}
 
 pub returns-clause-takes : goal.returns-clause-takes
 returns-clause-takes c = λ row at.

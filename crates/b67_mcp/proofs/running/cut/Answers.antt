@@ -5,20 +5,20 @@ use Rattle.b67_word.specs.declared.couples.Place.{Place}
 use Rattle.b67_layout.specs.Meets.{with_job}
 use Rattle.b67_mcp_calls.specs.Calls.{job_cut}
 use Rattle.b67_task_tables.specs.declared.tables.Machine.{Machine}
-use Rattle.b67_task_tables.specs.Tables.{MachineStands}
+use Rattle.b67_task_tables.specs.Tables.{MachineRepresents}
 use Rattle.b67_mcp.proofs.Cut.{one_behind, tables_cut, storage_same}
 use Rattle.b67_mcp.proofs.running.cut.Goals as goal
 
 pub cut_call-requires-clause-call : goal.cut_call-requires-clause-call
 cut_call-requires-clause-call c =
-    let q = c.requires.reads in
+    let q = c.requires.reads.runs in
     record { runs = record { storage = q.storage; plan = q.plan; session = q.session; member = q.member; task = q.task; ordered = q.ordered; stands = q.stands.session; running = q.running }; may = c.requires.may }
 
 pub returns-clause-stands : goal.returns-clause-stands
 returns-clause-stands c = λ x told plan s m t o h runs code may next behind.
     (let k = c.args.machine.now in
     let new : Machine = record k { cpu = c.cut_call.new.cpu; tasks = record k.tasks { printed = 0 } } in
-    let P : Place → Type 0 = λ q. MachineStands x told new plan (with_job s m (job_cut m t q)) in
+    let P : Place → Type 0 = λ q. MachineRepresents x told new plan (with_job s m (job_cut m t q)) in
     subst P (one_behind m t c.next_place-next.result next (c.next_place-next.ensures.behind x told plan s m t o h runs code) behind) (record {
       session = c.cut_call.ensures.stands x plan s m t o h.session runs may;
       storage = storage_same x told k c.cut_call.new.cpu.core c.cut_call.ensures.core h.storage;
@@ -28,8 +28,7 @@ returns-clause-stands c = λ x told plan s m t o h runs code may next behind.
 pub returns-clause-kept : goal.returns-clause-kept
 returns-clause-kept c = record {
   countable = λ few. few;
-  len = ap (λ (l : List Tagged). length l) c.cut_call.ensures.core;
+  keeps = record { core = ap (λ (l : List Tagged). length l) c.cut_call.ensures.core; sectors = refl; halt = refl };
   changed = λ i. inl (ap (λ (l : List Tagged). slice_get l i) c.cut_call.ensures.core);
   sectors = refl;
-  halt = refl;
 }

@@ -7,7 +7,7 @@ use Rattle.b67_mcp.proofs.running.running_row.Goals as goal
 
 pub bounds-deref-machine : goal.bounds-deref-machine
 bounds-deref-machine c =
-    let q = c.requires in
+    let q = c.requires.runs in
     let k = c.args.machine.now in
     let r = row_of q.storage k.cpu k.tasks q.plan q.session q.member q.task q.ordered q.stands.session q.stands.tables q.running in
     slice_get_within c.deref.result.now k.tasks.running r.row (ap (λ (l : List TaskRow). slice_get l k.tasks.running) c.deref.ensures.0 ∙ r.at)

@@ -3,7 +3,7 @@ use Rattle.std.specs.List.{slice_get}
 use Rattle.b67_model.specs.Words.{Operand}
 use Rattle.b67_stack.specs.declared.Cpu.{Cpu}
 use Rattle.b67_layout.specs.Meets.{with_job, IsInStack}
-use Rattle.b67_layout.specs.Session.{SessionStands}
+use Rattle.b67_layout.specs.Session.{RepresentsSession}
 use Rattle.b67_mcp_calls.specs.Calls.{job_cut}
 use Rattle.b67_mcp_calls.specs.Answered.{job_answered}
 use Rattle.b67_mcp_calls.proofs.Pushed.{room}
@@ -23,7 +23,7 @@ put-requires c =
 pub returns-clause-stands : goal.returns-clause-stands
 returns-clause-stands c = λ x plan s m t o h runs bits numbers may e.
     (let cut = c.cut_call.ensures.stands x plan s m t o h runs may in
-    let P : Cpu → Type 0 = λ cpu. SessionStands x cpu plan (with_job s m (job_answered m t (Operand bits) c.args.next numbers)) in
+    let P : Cpu → Type 0 = λ cpu. RepresentsSession x cpu plan (with_job s m (job_answered m t (Operand bits) c.args.next numbers)) in
     subst P (sym c.put.ensures) (stands_answered x c.args.cpu.now c.cut_call.new.cpu plan s m t c.args.next o h runs may cut (Operand bits) c.args.w numbers tt (e, λ z. cc)))
 
 pub returns-clause-changed : goal.returns-clause-changed

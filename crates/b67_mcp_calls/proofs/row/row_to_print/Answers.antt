@@ -12,8 +12,8 @@ use Rattle.b67_mcp_calls.proofs.Words.{row_words}
 use Rattle.b67_mcp_calls.proofs.Founds.{two_cells, not_whole, critical, row_is, copies_present}
 use Rattle.b67_mcp_calls.proofs.row.row_to_print.Goals as goal
 
-pub descriptor-desc-requires : goal.descriptor-desc-requires
-descriptor-desc-requires c =
+pub array_descriptor-desc-requires : goal.array_descriptor-desc-requires
+array_descriptor-desc-requires c =
     let q = c.requires.runs in
     let k = c.in-Ok.ensures.row q.storage q.plan q.session q.member q.task q.ordered q.stands q.running c.requires.reference c.requires.arguments c.requires.call in
     (0, record { runs = q; number = k.array; home = k.home; element = k.some })
@@ -21,14 +21,14 @@ descriptor-desc-requires c =
 pub returns-then-not-desc-clause-row : goal.returns-then-not-desc-clause-row
 returns-then-not-desc-clause-row c = λ x plan s m t o h runs r arguments call.
     (let k = c.in-Ok.ensures.row x plan s m t o h runs r arguments call in
-    let d = c.descriptor-desc.result in
-    let is = c.descriptor-desc.ensures x plan s m t o h runs k.array 0 k.home k.some in
+    let d = c.array_descriptor-desc.result in
+    let is = c.array_descriptor-desc.ensures x plan s m t o h runs k.array 0 k.home k.some in
     record {
       array = k.some.item;
       among = k.some.live;
       are = k.are ∙ ap (λ (i : ℕ). Row i ∷ []) (sym k.some.named);
-      home = k.home ∙ ap (plan.home m.setting.number) (sym k.some.named);
-      absent = ap (area_held x plan m.setting.number) k.some.named ∙ absent x c.args.cpu.now plan s m t o h runs k.array 0 k.some d is (not-true d.present c.if-not-desc.true);
+      home = k.home ∙ ap (plan.home m.constants.number) (sym k.some.named);
+      absent = ap (area_held x plan m.constants.number) k.some.named ∙ absent x c.args.cpu.now plan s m t o h runs k.array 0 k.some d is (not-true d.present c.if-not-desc.true);
     })
 
 pub words-requires : goal.words-requires
@@ -36,8 +36,8 @@ words-requires c =
     let q = c.requires.runs in
     let cpu = c.args.cpu.now in
     let k = c.in-Ok.ensures.row q.storage q.plan q.session q.member q.task q.ordered q.stands q.running c.requires.reference c.requires.arguments c.requires.call in
-    let d = c.descriptor-desc.result in
-    let is = c.descriptor-desc.ensures q.storage q.plan q.session q.member q.task q.ordered q.stands q.running k.array 0 k.home k.some in
+    let d = c.array_descriptor-desc.result in
+    let is = c.array_descriptor-desc.ensures q.storage q.plan q.session q.member q.task q.ordered q.stands q.running k.array 0 k.home k.some in
     let on = present q.storage cpu q.plan q.session q.member q.task q.ordered q.stands q.running k.array 0 k.some d is (not-false d.present c.if-not-desc.false) in
     let inside = area-inside q.storage cpu q.plan q.session q.member q.task q.ordered q.stands q.running k.array 0 k.some d.address on in
     omega (arith, inside, ap (λ (z : DataDesc). z.length) is)
@@ -46,8 +46,8 @@ pub returns-then-not-are_whole-clause-row : goal.returns-then-not-are_whole-clau
 returns-then-not-are_whole-clause-row c = λ x plan s m t o h runs r arguments call.
     (let cpu = c.args.cpu.now in
     let k = c.in-Ok.ensures.row x plan s m t o h runs r arguments call in
-    let d = c.descriptor-desc.result in
-    let is = c.descriptor-desc.ensures x plan s m t o h runs k.array 0 k.home k.some in
+    let d = c.array_descriptor-desc.result in
+    let is = c.array_descriptor-desc.ensures x plan s m t o h runs k.array 0 k.home k.some in
     let on = present x cpu plan s m t o h runs k.array 0 k.some d is (not-false d.present c.if-not-desc.false) in
     let lies = ap (λ (n : ℕ). slice_range cpu.core d.address (d.address + n)) (ap (λ (z : DataDesc). z.length) is) ∙ row_words x cpu plan s m t o h runs k.array k.some d.address on in
     let none = sym (ap (λ (ws : List Tagged). is_some (values_of ws)) c.words.ensures) ∙ sym c.are_whole.ensures ∙ c.if-not-are_whole.true in
@@ -56,16 +56,16 @@ returns-then-not-are_whole-clause-row c = λ x plan s m t o h runs r arguments c
 pub returns-then-not-are_whole-clause-present : goal.returns-then-not-are_whole-clause-present
 returns-then-not-are_whole-clause-present c = λ x plan s m t o h runs r arguments call.
     (let k = c.in-Ok.ensures.row x plan s m t o h runs r arguments call in
-    let d = c.descriptor-desc.result in
-    let is = c.descriptor-desc.ensures x plan s m t o h runs k.array 0 k.home k.some in
+    let d = c.array_descriptor-desc.result in
+    let is = c.array_descriptor-desc.ensures x plan s m t o h runs k.array 0 k.home k.some in
     copies_present x plan m arguments c.in-Ok.original d.address k (present x c.args.cpu.now plan s m t o h runs k.array 0 k.some d is (not-false d.present c.if-not-desc.false)))
 
 pub returns-then-is_critical-clause-row : goal.returns-then-is_critical-clause-row
 returns-then-is_critical-clause-row c = λ x plan s m t o h runs r arguments call.
     (let cpu = c.args.cpu.now in
     let k = c.in-Ok.ensures.row x plan s m t o h runs r arguments call in
-    let d = c.descriptor-desc.result in
-    let is = c.descriptor-desc.ensures x plan s m t o h runs k.array 0 k.home k.some in
+    let d = c.array_descriptor-desc.result in
+    let is = c.array_descriptor-desc.ensures x plan s m t o h runs k.array 0 k.home k.some in
     let on = present x cpu plan s m t o h runs k.array 0 k.some d is (not-false d.present c.if-not-desc.false) in
     let lies = ap (λ (n : ℕ). slice_range cpu.core d.address (d.address + n)) (ap (λ (z : DataDesc). z.length) is) ∙ row_words x cpu plan s m t o h runs k.array k.some d.address on in
     let some = sym (ap (λ (ws : List Tagged). is_some (values_of ws)) c.words.ensures) ∙ sym c.are_whole.ensures ∙ c.if-not-are_whole.false in
@@ -74,16 +74,16 @@ returns-then-is_critical-clause-row c = λ x plan s m t o h runs r arguments cal
 pub returns-then-is_critical-clause-present : goal.returns-then-is_critical-clause-present
 returns-then-is_critical-clause-present c = λ x plan s m t o h runs r arguments call.
     (let k = c.in-Ok.ensures.row x plan s m t o h runs r arguments call in
-    let d = c.descriptor-desc.result in
-    let is = c.descriptor-desc.ensures x plan s m t o h runs k.array 0 k.home k.some in
+    let d = c.array_descriptor-desc.result in
+    let is = c.array_descriptor-desc.ensures x plan s m t o h runs k.array 0 k.home k.some in
     copies_present x plan m arguments c.in-Ok.original d.address k (present x c.args.cpu.now plan s m t o h runs k.array 0 k.some d is (not-false d.present c.if-not-desc.false)))
 
 pub returns-clause-row : goal.returns-clause-row
 returns-clause-row c = λ x plan s m t o h runs r arguments call.
     (let cpu = c.args.cpu.now in
     let k = c.in-Ok.ensures.row x plan s m t o h runs r arguments call in
-    let d = c.descriptor-desc.result in
-    let is = c.descriptor-desc.ensures x plan s m t o h runs k.array 0 k.home k.some in
+    let d = c.array_descriptor-desc.result in
+    let is = c.array_descriptor-desc.ensures x plan s m t o h runs k.array 0 k.home k.some in
     let on = present x cpu plan s m t o h runs k.array 0 k.some d is (not-false d.present c.if-not-desc.false) in
     let long = ap (λ (z : DataDesc). z.length) is in
     let lies = ap (λ (n : ℕ). slice_range cpu.core d.address (d.address + n)) long ∙ row_words x cpu plan s m t o h runs k.array k.some d.address on in
@@ -95,8 +95,8 @@ returns-clause-row c = λ x plan s m t o h runs r arguments call.
 pub returns-clause-present : goal.returns-clause-present
 returns-clause-present c = λ x plan s m t o h runs r arguments call.
     (let k = c.in-Ok.ensures.row x plan s m t o h runs r arguments call in
-    let d = c.descriptor-desc.result in
-    let is = c.descriptor-desc.ensures x plan s m t o h runs k.array 0 k.home k.some in
+    let d = c.array_descriptor-desc.result in
+    let is = c.array_descriptor-desc.ensures x plan s m t o h runs k.array 0 k.home k.some in
     copies_present x plan m arguments c.in-Ok.original d.address k (present x c.args.cpu.now plan s m t o h runs k.array 0 k.some d is (not-false d.present c.if-not-desc.false)))
 
 pub returns-in-Err-clause-present : goal.returns-in-Err-clause-present

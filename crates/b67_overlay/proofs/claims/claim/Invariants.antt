@@ -1,8 +1,8 @@
 use Rattle.std.proofs.Common.{◌≡◌, length}
-use Rattle.b67_stack.specs.Picture.{Picture}
-use Rattle.b67_stack.specs.Stands.{Storage}
-use Rattle.b67_layout_storage.specs.Machine.{MachineStands, Served, Stayed}
-use Rattle.b67_overlay.specs.Sheds.{Sheds, Remains}
+use Rattle.b67_stack.specs.MachineView.{MachineView}
+use Rattle.b67_stack.specs.Represents.{Storage}
+use Rattle.b67_layout_storage.specs.Machine.{MachineRepresentsView, DeviceAfterCalls, Stayed}
+use Rattle.b67_overlay.specs.AreasEvicted.{EvictedBelow, Remains}
 use Rattle.b67_overlay.proofs.Visits.{left_of}
 use Rattle.b67_overlay.proofs.claims.claim.Given as goal
 
@@ -14,9 +14,9 @@ invariant-areas g l =
       size : length l.cpu.core ≡ length l.initial.cpu.core;
       areas : l.areas ≡ l.initial.areas;
       count : length l.sectors.links ≡ length l.initial.sectors.links;
-      device : Served holds g.B.Backing.size g.B.Backing.calls g.B.Backing.faults l.initial.backing l.backing;
-      stands : (x : Storage) (p : Picture) → MachineStands x l.initial.cpu l.initial.areas l.initial.sectors (holds l.initial.backing) p
-          → (y : Storage) × Sheds x y 0 × Remains y.low y.spans 0 l.next × MachineStands y l.cpu l.areas l.sectors (holds l.backing) p
+      device : DeviceAfterCalls holds g.B.Backing.size g.B.Backing.calls g.B.Backing.faults l.initial.backing l.backing;
+      stands : (x : Storage) (p : MachineView) → MachineRepresentsView x l.initial.cpu l.initial.areas l.initial.sectors (holds l.initial.backing) p
+          → (y : Storage) × EvictedBelow l.fn.upto x y × Remains y.low y.spans 0 l.next × MachineRepresentsView y l.cpu l.areas l.sectors (holds l.backing) p
           × Stayed p l.initial.cpu.core l.cpu.core;
     }
 

@@ -3,8 +3,8 @@ use Rattle.b67_area.specs.declared.Areas.{Areas}
 use Rattle.b67_area.specs.declared.Info.{Info}
 use Rattle.b67_area.specs.Spans.{area_at}
 use Rattle.b67_area.specs.Directory.{IsDirectory}
-use Rattle.b67_stack.specs.Stands.{Stands, info_of}
-use Rattle.b67_layout_storage.specs.Machine.{MachineStands}
+use Rattle.b67_stack.specs.Represents.{Represents, info_of}
+use Rattle.b67_layout_storage.specs.Machine.{MachineRepresentsView}
 use Rattle.b67_overlay.specs.Overlaid.{overlaid, dropped, IsOut}
 use Rattle.b67_overlay.proofs.Sectors.{about, out_clean}
 use Rattle.b67_ctl.specs.declared.registers.Regs.{Regs}
@@ -37,9 +37,9 @@ returns-clause-stands c = λ x table told p t m at no_array.
     let is : c.info-info.result ≡ info_of x t = c.info-info.ensures x.spans (info_of x t) dir here in
     let out = out_clean x c.args.cpu.now.core c.args.cpu.now.regs p m.stands c.args.area t at no_array in
     let I : ℕ → Type 0 = λ n. IsOut x x p t n in
-    let J : ℕ → Regs → Type 0 = λ n r. Stands (dropped x x t c.args.area n) c.give_back.new.cpu.core r p in
+    let J : ℕ → Regs → Type 0 = λ n r. Represents (dropped x x t c.args.area n) c.give_back.new.cpu.core r p in
     let regs : c.give_back.new.cpu.regs ≡ c.args.cpu.now.regs = ap (λ (z : Cpu). z.regs) c.give_back.ensures.rest in
-    let M : Cpu → Type 0 = λ z. MachineStands (overlaid x t c.args.area told) z c.give_back.new.areas table told p in
+    let M : Cpu → Type 0 = λ z. MachineRepresentsView (overlaid x t c.args.area told) z c.give_back.new.areas table told p in
     let kept : c.info-info.result.kept ≡ (x.held t.home).chain = ap (λ (i : Info). i.kept) is in
     let d = subst (J (x.held t.home).chain) regs (subst (λ (n : ℕ). J n c.give_back.new.cpu.regs) kept (c.give_back.ensures.stands x x p t m.stands m.low at is (subst I (sym kept) out))) in
     subst M (sym c.give_back.ensures.rest) (clean_machine x c.args.cpu.now c.args.areas.now c.give_back.new.areas table told p c.args.area t m at no_array (ap (λ (z : Areas). z.low) c.give_back.ensures.areas) c.give_back.new.cpu.core d)

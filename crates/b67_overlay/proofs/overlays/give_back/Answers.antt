@@ -3,21 +3,21 @@ use Rattle.b67_word.specs.Tagged.{Tagged}
 use Rattle.b67_area.specs.declared.Info.{Info}
 use Rattle.b67_area.specs.Spans.{area_at}
 use Rattle.b67_area.specs.Directory.{IsDirectory}
-use Rattle.b67_stack.specs.Shapes.{Held}
-use Rattle.b67_stack.specs.Picture.{home_word_of}
-use Rattle.b67_stack.specs.Stands.{Stands, info_of}
+use Rattle.b67_stack.specs.Shapes.{Location}
+use Rattle.b67_stack.specs.MachineView.{home_word_of}
+use Rattle.b67_stack.specs.Represents.{Represents, info_of}
 use Rattle.b67_ctl.specs.declared.registers.Regs.{Regs}
 use Rattle.b67_stack.specs.declared.Cpu.{Cpu}
 use Rattle.b67_overlay.specs.Overlaid.{dropped}
 use Rattle.b67_layout_storage.proofs.Unchanged.{home_below}
 use Rattle.b67_overlay.proofs.Sectors.{about}
-use Rattle.b67_overlay.proofs.Dropping.{Freed, directory2, below_dropped, Stands-dropped}
+use Rattle.b67_overlay.proofs.Dropping.{Freed, directory2, below_dropped, Represents-dropped}
 use Rattle.b67_overlay.proofs.overlays.give_back.Goals as goal
 
 pub set-requires : goal.set-requires
 set-requires c =
     let (x, p, t, s, low, at, is) = c.requires.machine in
-    let h : Held = record { area = None; chain = c.args.first } in
+    let h : Location = record { area = None; chain = c.args.first } in
     let hd = c.hide_copies.ensures.hides x p t h s at is in
     omega (arith, (home_below x c.args.cpu.now.core c.args.cpu.now.regs p s t at.there).1, s.inside, hd.size, ap (λ (i : Info). i.owner) is)
 
@@ -29,7 +29,7 @@ absent_word-requires-clause-words c =
 pub free-requires : goal.free-requires
 free-requires c =
     let (x, p, t, s, low, at, is) = c.requires.machine in
-    let h : Held = record { area = None; chain = c.args.first } in
+    let h : Location = record { area = None; chain = c.args.first } in
     let hd = c.hide_copies.ensures.hides x p t h s at is in
     let mid = c.hide_copies.new.cpu.core in
     let W : Info → Tagged → Type 0 = λ i w. c.set.new.self ≡ slice_set mid i.owner w in
@@ -45,13 +45,13 @@ free-requires c =
 pub returns-clause-len : goal.returns-clause-len
 returns-clause-len c =
     let (x, p, t, s, low, at, is) = c.requires.machine in
-    let h : Held = record { area = None; chain = c.args.first } in
+    let h : Location = record { area = None; chain = c.args.first } in
     let hd = c.hide_copies.ensures.hides x p t h s at is in
     c.free.ensures.len ∙ c.set.ensures.len ∙ hd.size
 
 pub returns-clause-stands : goal.returns-clause-stands
 returns-clause-stands c = λ x y p t s low at is o.
-    let h : Held = record { area = None; chain = c.args.first } in
+    let h : Location = record { area = None; chain = c.args.first } in
     let hd = c.hide_copies.ensures.hides x p t h s at is in
     let mid = c.hide_copies.new.cpu.core in
     let W : Info → Tagged → Type 0 = λ i w. c.set.new.self ≡ slice_set mid i.owner w in
@@ -69,12 +69,12 @@ returns-clause-stands c = λ x y p t s low at is o.
       size = c.free.ensures.len;
     } in
     let F : List Tagged → ℕ → Type 0 = λ core n. Freed n c.args.area x.spans core c.free.new.core in
-    let R : Regs → Type 0 = λ r. Stands (dropped x y t c.args.area c.args.first) c.free.new.core r p in
-    subst R (ap (λ (z : Cpu). z.regs) (sym c.hide_copies.ensures.rest)) (Stands-dropped x y c.args.cpu.now.core c.args.cpu.now.regs p s c.args.area t at c.args.first mid hd o c.free.new.core (subst (λ (k : List Tagged). F k x.low) new_is (subst (F c.set.new.self) low fr)))
+    let R : Regs → Type 0 = λ r. Represents (dropped x y t c.args.area c.args.first) c.free.new.core r p in
+    subst R (ap (λ (z : Cpu). z.regs) (sym c.hide_copies.ensures.rest)) (Represents-dropped x y c.args.cpu.now.core c.args.cpu.now.regs p s c.args.area t at c.args.first mid hd o c.free.new.core (subst (λ (k : List Tagged). F k x.low) new_is (subst (F c.set.new.self) low fr)))
 
 pub returns-clause-outside : goal.returns-clause-outside
 returns-clause-outside c = λ x p t s low at is.
-    let h : Held = record { area = None; chain = c.args.first } in
+    let h : Location = record { area = None; chain = c.args.first } in
     let hd = c.hide_copies.ensures.hides x p t h s at is in
     let mid = c.hide_copies.new.cpu.core in
     let W : Info → Tagged → Type 0 = λ i w. c.set.new.self ≡ slice_set mid i.owner w in

@@ -9,12 +9,12 @@ use Rattle.b67_area.specs.Spans.{area_at}
 use Rattle.b67_area.specs.Directory.{IsDirectory}
 use Rattle.b67_backing.specs.Shelf.{IsShelf, HasChain as ChainIs}
 use Rattle.b67_backing.specs.Held.{sectors_for, Stores, SameBut, Changes}
-use Rattle.b67_stack.specs.Picture.{words_of, tag_of}
-use Rattle.b67_stack.specs.Stands.{Storage, Stands, HasChain, info_of}
-use Rattle.b67_layout_storage.specs.Machine.{MachineStands, retold}
+use Rattle.b67_stack.specs.MachineView.{words_of, tag_of}
+use Rattle.b67_stack.specs.Represents.{Storage, Represents, HasChain, info_of}
+use Rattle.b67_layout_storage.specs.Machine.{MachineRepresentsView, content_after}
 use Rattle.std.proofs.lemmas.List.{length-map}
 use Rattle.b67_overlay.specs.Overlaid.{chain_out, shelf_out, sectors_out, overlaid, dropped, IsOut}
-use Rattle.b67_overlay.proofs.Sectors.{about, kept_chain, out_written, Stands-retold, range_up}
+use Rattle.b67_overlay.proofs.Sectors.{about, kept_chain, out_written, Represents-retold, range_up}
 use Rattle.b67_ctl.specs.declared.registers.Regs.{Regs}
 use Rattle.b67_stack.specs.declared.Cpu.{Cpu}
 use Rattle.b67_backing.specs.declared.SpaceFault.{SpaceFault}
@@ -124,11 +124,11 @@ returns-in-Ok-clause-stands g c = λ x p t m at.
     let S : List Tagged → Type 0 = λ ws. Changes g.B.Backing.holds c.args.backing.now c.write_out.new.backing (Stores (sectors_out x.shelf (x.held t.home).chain (length t.numbers)) (map number ws)) in
     let stores = subst S (range_up c.args.cpu.now.core c.args.area (length t.numbers) (words_of t) (length-map t.numbers (word (tag_of t.kind))) ab.words) wr.2 in
     let o = out_written x c.args.cpu.now.core c.args.cpu.now.regs p m.stands c.args.area t at c.args.sectors.now (g.B.Backing.holds c.args.backing.now) (g.B.Backing.holds c.write_out.new.backing) m.shelf m.device array stores.told room in
-    let y : Storage = record x { shelf = shelf_out x.shelf (x.held t.home).chain (length t.numbers); device = retold x.device (g.B.Backing.holds c.write_out.new.backing) } in
+    let y : Storage = record x { shelf = shelf_out x.shelf (x.held t.home).chain (length t.numbers); device = content_after x.device (g.B.Backing.holds c.write_out.new.backing) } in
     let I : ℕ → Type 0 = λ n. IsOut x y p t n in
-    let J : ℕ → Regs → Type 0 = λ n r. Stands (dropped x y t c.args.area n) c.give_back.new.cpu.core r p in
+    let J : ℕ → Regs → Type 0 = λ n r. Represents (dropped x y t c.args.area n) c.give_back.new.cpu.core r p in
     let regs : c.give_back.new.cpu.regs ≡ c.args.cpu.now.regs = ap (λ (z : Cpu). z.regs) c.give_back.ensures.rest in
-    let M : Cpu → Type 0 = λ z. MachineStands (overlaid x t c.args.area (g.B.Backing.holds c.write_out.new.backing)) z c.give_back.new.areas c.write_out.new.sectors (g.B.Backing.holds c.write_out.new.backing) p in
+    let M : Cpu → Type 0 = λ z. MachineRepresentsView (overlaid x t c.args.area (g.B.Backing.holds c.write_out.new.backing)) z c.give_back.new.areas c.write_out.new.sectors (g.B.Backing.holds c.write_out.new.backing) p in
     let d = subst (J (chain_out x.shelf (x.held t.home).chain)) regs (subst (λ (n : ℕ). J n c.give_back.new.cpu.regs) wr.0 (c.give_back.ensures.stands x y p t m.stands m.low at is (subst I (sym wr.0) o))) in
     subst M (sym c.give_back.ensures.rest) (overlaid_machine x c.args.cpu.now c.args.areas.now c.give_back.new.areas c.args.sectors.now c.write_out.new.sectors (g.B.Backing.holds c.args.backing.now) (g.B.Backing.holds c.write_out.new.backing) p c.args.area t m
     (ap (λ (z : Areas). z.low) c.give_back.ensures.areas) wr.1 (λ all e. let (q, i, st) = stores.told all e in (q, i)) c.give_back.new.cpu.core d)
@@ -147,7 +147,7 @@ returns-in-Err-clause-refused g c = λ x p t m at.
     (kept_chain x c.args.cpu.now.core c.args.cpu.now.regs p m.stands c.args.area t at c.args.sectors.now (g.B.Backing.holds c.args.backing.now) (g.B.Backing.holds c.args.backing.now) m.shelf m.device array)) in
     let W : Info → Type 0 = λ i. IsShelf c.write_out.new.sectors x.shelf × Changes g.B.Backing.holds c.args.backing.now c.write_out.new.backing (SameBut (sectors_out x.shelf i.kept i.words)) in
     let rf = subst W is (c.in-Err.ensures.refused x.shelf m.shelf chain) in
-    let st = Stands-retold x c.args.cpu.now.core c.args.cpu.now.regs p m.stands c.args.area t at c.args.sectors.now (g.B.Backing.holds c.args.backing.now) (g.B.Backing.holds c.write_out.new.backing) m.shelf m.device array rf.1.told in
+    let st = Represents-retold x c.args.cpu.now.core c.args.cpu.now.regs p m.stands c.args.area t at c.args.sectors.now (g.B.Backing.holds c.args.backing.now) (g.B.Backing.holds c.write_out.new.backing) m.shelf m.device array rf.1.told in
     retold_machine x c.args.cpu.now c.args.areas.now c.args.areas.now c.args.sectors.now c.write_out.new.sectors (g.B.Backing.holds c.args.backing.now) (g.B.Backing.holds c.write_out.new.backing) p m refl rf.0 (λ all e. let (q, i, s) = rf.1.told all e in (q, i)) st
 
 pub returns-in-Row-clause-full : goal.returns-in-Row-clause-full

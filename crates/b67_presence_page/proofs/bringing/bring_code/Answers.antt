@@ -2,7 +2,7 @@ use Rattle.std.proofs.Common.{◌≡◌, ◌+◌, length, Err, refl, sym, ◌∙
 use Rattle.std.proofs.lemmas.Result.{on_ok_weaker, on_err_weaker}
 use Rattle.b67_layout_storage.proofs.Below.{Stayed-then}
 use Rattle.b67_layout_storage.proofs.Devices.{Served-then, Served-same}
-use Rattle.b67_overlay.proofs.Shedding.{Sheds-none}
+use Rattle.b67_overlay.proofs.Shedding.{AreasEvicted-none}
 use Rattle.b67_presence_page.specs.declared.paging.Refusal.TheVariants.{NoHole}
 use Rattle.b67_presence_page.specs.declared.paging.Resting.{Resting}
 use Rattle.b67_presence_page.specs.Brings.{need_one}
@@ -67,7 +67,7 @@ force_code-requires-clause-machine g c =
     (x, p, t, mx, a, omega (arith, c.if-need-size.false, need_same, c.size-size.ensures.value, c.page_in.ensures.len))
 
 pub returns-in-Ok-clause-came : goal.returns-in-Ok-clause-came
-returns-in-Ok-clause-came g c = λ x p t m a r. came_of x x p t 0 c.page_in.new.cpu c.page_in.new.areas c.args.sectors.now (g.B.Backing.holds c.page_in.new.backing) (Sheds-none x 0) (read_in x c.args.cpu.now.core c.args.cpu.now.regs p c.args.code t c.page_in.new.cpu c.page_in.new.areas c.args.sectors.now (g.B.Backing.holds c.page_in.new.backing) m.stands a r (λ q. c.in-Ok.ensures.known x p t m a q) (λ q. c.in-Ok.ensures.untold x p t m a q))
+returns-in-Ok-clause-came g c = λ x p t m a r. came_of x x p t 0 c.page_in.new.cpu c.page_in.new.areas c.args.sectors.now (g.B.Backing.holds c.page_in.new.backing) (AreasEvicted-none x 0) (read_in x c.args.cpu.now.core c.args.cpu.now.regs p c.args.code t c.page_in.new.cpu c.page_in.new.areas c.args.sectors.now (g.B.Backing.holds c.page_in.new.backing) m.stands a r (λ q. c.in-Ok.ensures.known x p t m a q) (λ q. c.in-Ok.ensures.untold x p t m a q))
 
 pub returns-in-Ok-clause-hole : goal.returns-in-Ok-clause-hole
 returns-in-Ok-clause-hole g c = λ x p t m a room. (refl, c.page_in.ensures.device, λ r. read_in x c.args.cpu.now.core c.args.cpu.now.regs p c.args.code t c.page_in.new.cpu c.page_in.new.areas c.args.sectors.now (g.B.Backing.holds c.page_in.new.backing) m.stands a r (λ q. c.in-Ok.ensures.known x p t m a q) (λ q. c.in-Ok.ensures.untold x p t m a q), tt)

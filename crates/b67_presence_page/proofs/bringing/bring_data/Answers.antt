@@ -2,8 +2,8 @@ use Rattle.std.proofs.Common.{◌≡◌, ℕ, ◌+◌, length, Err, refl, sym, �
 use Rattle.std.proofs.lemmas.Result.{on_ok_weaker, on_err_weaker}
 use Rattle.b67_layout_storage.proofs.Below.{Stayed-then}
 use Rattle.b67_layout_storage.proofs.Devices.{Served-then, Served-same}
-use Rattle.b67_overlay.specs.Sheds.{IsShortBy}
-use Rattle.b67_overlay.proofs.Shedding.{Sheds-none}
+use Rattle.b67_overlay.specs.AreasEvicted.{IsShortBy}
+use Rattle.b67_overlay.proofs.Shedding.{AreasEvicted-none}
 use Rattle.b67_presence_page.specs.declared.paging.Refusal.TheVariants.{NoHole, BackingFault}
 use Rattle.b67_presence_page.specs.declared.paging.Resting.{Resting}
 use Rattle.b67_presence_page.specs.Brings.{Waits, IsCode, need_both}
@@ -94,7 +94,7 @@ force_data-requires-clause-machine g c =
     (x, p, t, d, mx, a, ks, omega (arith, c.if-need-size.false, need_same, c.size-size.ensures.value, c.page_in.ensures.len))
 
 pub returns-then-need-size-clause-refused : goal.returns-then-need-size-clause-refused
-returns-then-need-size-clause-refused g c = λ x p t d at m a k r. may_wait x p c.args.home 0 t d a c.args.cpu.now c.args.areas.now c.args.sectors.now (g.B.Backing.holds c.args.backing.now) (record { storage = x; sheds = Sheds-none x 0; stands = m })
+returns-then-need-size-clause-refused g c = λ x p t d at m a k r. may_wait x p c.args.home 0 t d a c.args.cpu.now c.args.areas.now c.args.sectors.now (g.B.Backing.holds c.args.backing.now) (record { storage = x; sheds = AreasEvicted-none x 0; stands = m })
 
 pub returns-in-Ok-clause-outside : goal.returns-in-Ok-clause-outside
 returns-in-Ok-clause-outside g c = λ x p t d at m a k. c.page_in.ensures.outside x p t m a
@@ -103,10 +103,10 @@ pub returns-in-Err-BackingFault-clause-outside : goal.returns-in-Err-BackingFaul
 returns-in-Err-BackingFault-clause-outside g c = λ x p t d at m a k. c.page_in.ensures.outside x p t m a
 
 pub returns-in-Ok-clause-both : goal.returns-in-Ok-clause-both
-returns-in-Ok-clause-both g c = λ x p t d at m a k r. both_came x c.args.cpu.now c.args.areas.now c.args.sectors.now (g.B.Backing.holds c.args.backing.now) p c.args.home c.args.code at t d m a k c.page_in.new.cpu c.page_in.new.areas c.args.sectors.now (g.B.Backing.holds c.page_in.new.backing) (came_of x x p t at c.page_in.new.cpu c.page_in.new.areas c.args.sectors.now (g.B.Backing.holds c.page_in.new.backing) (Sheds-none x at) (read_in x c.args.cpu.now.core c.args.cpu.now.regs p c.args.home t c.page_in.new.cpu c.page_in.new.areas c.args.sectors.now (g.B.Backing.holds c.page_in.new.backing) m.stands a r (λ q. c.in-Ok.ensures.known x p t m a q) (λ q. c.in-Ok.ensures.untold x p t m a q)))
+returns-in-Ok-clause-both g c = λ x p t d at m a k r. both_came x c.args.cpu.now c.args.areas.now c.args.sectors.now (g.B.Backing.holds c.args.backing.now) p c.args.home c.args.code at t d m a k c.page_in.new.cpu c.page_in.new.areas c.args.sectors.now (g.B.Backing.holds c.page_in.new.backing) (came_of x x p t at c.page_in.new.cpu c.page_in.new.areas c.args.sectors.now (g.B.Backing.holds c.page_in.new.backing) (AreasEvicted-none x at) (read_in x c.args.cpu.now.core c.args.cpu.now.regs p c.args.home t c.page_in.new.cpu c.page_in.new.areas c.args.sectors.now (g.B.Backing.holds c.page_in.new.backing) m.stands a r (λ q. c.in-Ok.ensures.known x p t m a q) (λ q. c.in-Ok.ensures.untold x p t m a q)))
 
 pub returns-in-Err-BackingFault-clause-refused : goal.returns-in-Err-BackingFault-clause-refused
-returns-in-Err-BackingFault-clause-refused g c = λ x p t d at m a k r. may_wait x p c.args.home 0 t d a c.page_in.new.cpu c.page_in.new.areas c.args.sectors.now (g.B.Backing.holds c.page_in.new.backing) (record { storage = x; sheds = Sheds-none x 0; stands = c.in-Err-BackingFault.ensures.refused x p t m a })
+returns-in-Err-BackingFault-clause-refused g c = λ x p t d at m a k r. may_wait x p c.args.home 0 t d a c.page_in.new.cpu c.page_in.new.areas c.args.sectors.now (g.B.Backing.holds c.page_in.new.backing) (record { storage = x; sheds = AreasEvicted-none x 0; stands = c.in-Err-BackingFault.ensures.refused x p t m a })
 
 pub returns-in-Ok-clause-hole : goal.returns-in-Ok-clause-hole
 returns-in-Ok-clause-hole g c = λ x p t m a room. (refl, c.page_in.ensures.device, λ r. read_in x c.args.cpu.now.core c.args.cpu.now.regs p c.args.home t c.page_in.new.cpu c.page_in.new.areas c.args.sectors.now (g.B.Backing.holds c.page_in.new.backing) m.stands a r (λ q. c.in-Ok.ensures.known x p t m a q) (λ q. c.in-Ok.ensures.untold x p t m a q), tt)
@@ -166,7 +166,7 @@ returns-in-Err-NoHole-clause-device g c =
 pub returns-in-Err-BackingFault-clause-hole : goal.returns-in-Err-BackingFault-clause-hole
 returns-in-Err-BackingFault-clause-hole g c = λ x p t m a room. (refl, c.page_in.ensures.device, tt, c.in-Err-BackingFault.ensures.refused x p t m a)
 
--- an area for the code and a hole for the thing are in core
+-- an area for the code and a hole for the object are in core
 pub returns-then-need-size-clause-zeros : goal.returns-then-need-size-clause-zeros
 returns-then-need-size-clause-zeros g c = λ x p t d at m a k room z.
     let is = c.at.ensures x c.args.cpu.now.regs p t m.stands a in

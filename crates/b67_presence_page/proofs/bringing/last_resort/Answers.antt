@@ -2,7 +2,7 @@ use Rattle.std.proofs.Common.{refl, ap, inl, subst}
 use Rattle.std.proofs.lemmas.Result.{on_ok_weaker, on_err_weaker}
 use Rattle.b67_ctl.specs.declared.registers.Regs.{Regs}
 use Rattle.b67_stack.specs.declared.Cpu.{Cpu}
-use Rattle.b67_stack.specs.Stands.{Storage, Stands}
+use Rattle.b67_stack.specs.Represents.{Storage, Represents}
 use Rattle.b67_layout_storage.specs.Machine.{IsAbsent}
 use Rattle.b67_layout_storage.proofs.Untold.{untold, Machine-untold}
 use Rattle.b67_layout_storage.proofs.Below.{Stayed-then}
@@ -23,7 +23,7 @@ page_in_room-requires-clause-machine g c =
     let pc = present_code x c.args.cpu.now c.args.areas.now c.args.sectors.now (g.B.Backing.holds c.args.backing.now) p c.args.home c.args.code c.args.spare t d m a k in
     let na = no_array x c.args.cpu.now c.args.areas.now c.args.sectors.now (g.B.Backing.holds c.args.backing.now) p c.args.home c.args.code c.args.spare t d m a k in
     let my = c.discard.ensures.stands x c.args.sectors.now (g.B.Backing.holds c.args.backing.now) p d m pc na in
-    let R : Regs → Type 0 = λ q. Stands (overlaid x d c.args.spare (g.B.Backing.holds c.args.backing.now)) c.discard.new.cpu.core q p in
+    let R : Regs → Type 0 = λ q. Represents (overlaid x d c.args.spare (g.B.Backing.holds c.args.backing.now)) c.discard.new.cpu.core q p in
     let sy = subst R (ap (λ (z : Cpu). z.regs) c.discard.ensures.rest) my.stands in
     let at = absent_t x c.args.cpu.now c.args.areas.now c.args.sectors.now (g.B.Backing.holds c.args.backing.now) p c.args.home c.args.code c.args.spare t d m a k in
     (overlaid x d c.args.spare (g.B.Backing.holds c.args.backing.now), p, t, my, at, room_t x c.args.cpu.now c.args.areas.now c.args.sectors.now (g.B.Backing.holds c.args.backing.now) p c.args.home c.args.code c.args.spare t d m a k alone c.discard.new.cpu.core c.discard.ensures.len fits sy)
@@ -39,18 +39,18 @@ page_in_room-requires-in-Ok-clause-machine g c =
     let pc = present_code x c.args.cpu.now c.args.areas.now c.args.sectors.now (g.B.Backing.holds c.args.backing.now) p c.args.home c.args.code c.args.spare t d m a k in
     let na = no_array x c.args.cpu.now c.args.areas.now c.args.sectors.now (g.B.Backing.holds c.args.backing.now) p c.args.home c.args.code c.args.spare t d m a k in
     let my = c.discard.ensures.stands x c.args.sectors.now (g.B.Backing.holds c.args.backing.now) p d m pc na in
-    let R : Regs → Type 0 = λ q. Stands (overlaid x d c.args.spare (g.B.Backing.holds c.args.backing.now)) c.discard.new.cpu.core q p in
+    let R : Regs → Type 0 = λ q. Represents (overlaid x d c.args.spare (g.B.Backing.holds c.args.backing.now)) c.discard.new.cpu.core q p in
     let sy = subst R (ap (λ (z : Cpu). z.regs) c.discard.ensures.rest) my.stands in
     let at = absent_t x c.args.cpu.now c.args.areas.now c.args.sectors.now (g.B.Backing.holds c.args.backing.now) p c.args.home c.args.code c.args.spare t d m a k in
     let rd = c.in-Ok.ensures.came (overlaid x d c.args.spare (g.B.Backing.holds c.args.backing.now)) p t my at (readable_y x c.args.cpu.now c.args.areas.now c.args.sectors.now (g.B.Backing.holds c.args.backing.now) p c.args.home c.args.code c.args.spare t d m a k r) in
-    (brought (overlaid x d c.args.spare (g.B.Backing.holds c.args.backing.now)) t rd.at, rd.picture, d, rd.stands, absent_z x c.args.cpu.now c.args.areas.now c.args.sectors.now (g.B.Backing.holds c.args.backing.now) p c.args.home c.args.code c.args.spare t d m a k c.page_in_room.new.cpu c.page_in_room.new.areas (g.B.Backing.holds c.page_in_room.new.backing) rd, room_c x c.args.cpu.now c.args.areas.now c.args.sectors.now (g.B.Backing.holds c.args.backing.now) p c.args.home c.args.code c.args.spare t d m a k alone c.discard.new.cpu.core c.discard.ensures.len fits sy rd.at)
+    (brought (overlaid x d c.args.spare (g.B.Backing.holds c.args.backing.now)) t rd.at, rd.machine_view, d, rd.stands, absent_z x c.args.cpu.now c.args.areas.now c.args.sectors.now (g.B.Backing.holds c.args.backing.now) p c.args.home c.args.code c.args.spare t d m a k c.page_in_room.new.cpu c.page_in_room.new.areas (g.B.Backing.holds c.page_in_room.new.backing) rd, room_c x c.args.cpu.now c.args.areas.now c.args.sectors.now (g.B.Backing.holds c.args.backing.now) p c.args.home c.args.code c.args.spare t d m a k alone c.discard.new.cpu.core c.discard.ensures.len fits sy rd.at)
 
 pub returns-in-Err-clause-waits : goal.returns-in-Err-clause-waits
 returns-in-Err-clause-waits g c = λ x p t d m a k alone r.
     let pc = present_code x c.args.cpu.now c.args.areas.now c.args.sectors.now (g.B.Backing.holds c.args.backing.now) p c.args.home c.args.code c.args.spare t d m a k in
     let na = no_array x c.args.cpu.now c.args.areas.now c.args.sectors.now (g.B.Backing.holds c.args.backing.now) p c.args.home c.args.code c.args.spare t d m a k in
     let my = c.discard.ensures.stands x c.args.sectors.now (g.B.Backing.holds c.args.backing.now) p d m pc na in
-    let R : Regs → Type 0 = λ q. Stands (overlaid x d c.args.spare (g.B.Backing.holds c.args.backing.now)) c.discard.new.cpu.core q p in
+    let R : Regs → Type 0 = λ q. Represents (overlaid x d c.args.spare (g.B.Backing.holds c.args.backing.now)) c.discard.new.cpu.core q p in
     let sy = subst R (ap (λ (z : Cpu). z.regs) c.discard.ensures.rest) my.stands in
     let at = absent_t x c.args.cpu.now c.args.areas.now c.args.sectors.now (g.B.Backing.holds c.args.backing.now) p c.args.home c.args.code c.args.spare t d m a k in
     waits_first x c.args.cpu.now c.args.areas.now c.args.sectors.now (g.B.Backing.holds c.args.backing.now) p c.args.home c.args.code c.args.spare t d m a k c.page_in_room.new.cpu c.page_in_room.new.areas (g.B.Backing.holds c.page_in_room.new.backing) (c.in-Err.ensures.refused (overlaid x d c.args.spare (g.B.Backing.holds c.args.backing.now)) p t my at)
@@ -60,31 +60,31 @@ returns-in-Ok-clause-both g c = on_ok_weaker c.page_in_room-in-Ok.result (λ cam
     let pc = present_code x c.args.cpu.now c.args.areas.now c.args.sectors.now (g.B.Backing.holds c.args.backing.now) p c.args.home c.args.code c.args.spare t d m a k in
     let na = no_array x c.args.cpu.now c.args.areas.now c.args.sectors.now (g.B.Backing.holds c.args.backing.now) p c.args.home c.args.code c.args.spare t d m a k in
     let my = c.discard.ensures.stands x c.args.sectors.now (g.B.Backing.holds c.args.backing.now) p d m pc na in
-    let R : Regs → Type 0 = λ q. Stands (overlaid x d c.args.spare (g.B.Backing.holds c.args.backing.now)) c.discard.new.cpu.core q p in
+    let R : Regs → Type 0 = λ q. Represents (overlaid x d c.args.spare (g.B.Backing.holds c.args.backing.now)) c.discard.new.cpu.core q p in
     let sy = subst R (ap (λ (z : Cpu). z.regs) c.discard.ensures.rest) my.stands in
     let at = absent_t x c.args.cpu.now c.args.areas.now c.args.sectors.now (g.B.Backing.holds c.args.backing.now) p c.args.home c.args.code c.args.spare t d m a k in
     let rd = c.in-Ok.ensures.came (overlaid x d c.args.spare (g.B.Backing.holds c.args.backing.now)) p t my at (readable_y x c.args.cpu.now c.args.areas.now c.args.sectors.now (g.B.Backing.holds c.args.backing.now) p c.args.home c.args.code c.args.spare t d m a k r) in
     let az = absent_z x c.args.cpu.now c.args.areas.now c.args.sectors.now (g.B.Backing.holds c.args.backing.now) p c.args.home c.args.code c.args.spare t d m a k c.page_in_room.new.cpu c.page_in_room.new.areas (g.B.Backing.holds c.page_in_room.new.backing) rd in
-    both_in x c.args.cpu.now c.args.areas.now c.args.sectors.now (g.B.Backing.holds c.args.backing.now) p c.args.home c.args.code c.args.spare t d m a k c.page_in_room.new.cpu c.page_in_room.new.areas (g.B.Backing.holds c.page_in_room.new.backing) rd c.page_in_room-in-Ok.new.cpu c.page_in_room-in-Ok.new.areas (g.B.Backing.holds c.page_in_room-in-Ok.new.backing) (came (brought (overlaid x d c.args.spare (g.B.Backing.holds c.args.backing.now)) t rd.at) rd.picture d rd.stands az (readable_z x c.args.cpu.now c.args.areas.now c.args.sectors.now (g.B.Backing.holds c.args.backing.now) p c.args.home c.args.code c.args.spare t d m a k c.page_in_room.new.cpu c.page_in_room.new.areas (g.B.Backing.holds c.page_in_room.new.backing) rd r))) c.page_in_room-in-Ok.ensures.came
+    both_in x c.args.cpu.now c.args.areas.now c.args.sectors.now (g.B.Backing.holds c.args.backing.now) p c.args.home c.args.code c.args.spare t d m a k c.page_in_room.new.cpu c.page_in_room.new.areas (g.B.Backing.holds c.page_in_room.new.backing) rd c.page_in_room-in-Ok.new.cpu c.page_in_room-in-Ok.new.areas (g.B.Backing.holds c.page_in_room-in-Ok.new.backing) (came (brought (overlaid x d c.args.spare (g.B.Backing.holds c.args.backing.now)) t rd.at) rd.machine_view d rd.stands az (readable_z x c.args.cpu.now c.args.areas.now c.args.sectors.now (g.B.Backing.holds c.args.backing.now) p c.args.home c.args.code c.args.spare t d m a k c.page_in_room.new.cpu c.page_in_room.new.areas (g.B.Backing.holds c.page_in_room.new.backing) rd r))) c.page_in_room-in-Ok.ensures.came
 
 pub returns-in-Ok-clause-waits : goal.returns-in-Ok-clause-waits
 returns-in-Ok-clause-waits g c = on_err_weaker c.page_in_room-in-Ok.result (λ refused x p t d m a k alone r.
     let pc = present_code x c.args.cpu.now c.args.areas.now c.args.sectors.now (g.B.Backing.holds c.args.backing.now) p c.args.home c.args.code c.args.spare t d m a k in
     let na = no_array x c.args.cpu.now c.args.areas.now c.args.sectors.now (g.B.Backing.holds c.args.backing.now) p c.args.home c.args.code c.args.spare t d m a k in
     let my = c.discard.ensures.stands x c.args.sectors.now (g.B.Backing.holds c.args.backing.now) p d m pc na in
-    let R : Regs → Type 0 = λ q. Stands (overlaid x d c.args.spare (g.B.Backing.holds c.args.backing.now)) c.discard.new.cpu.core q p in
+    let R : Regs → Type 0 = λ q. Represents (overlaid x d c.args.spare (g.B.Backing.holds c.args.backing.now)) c.discard.new.cpu.core q p in
     let sy = subst R (ap (λ (z : Cpu). z.regs) c.discard.ensures.rest) my.stands in
     let at = absent_t x c.args.cpu.now c.args.areas.now c.args.sectors.now (g.B.Backing.holds c.args.backing.now) p c.args.home c.args.code c.args.spare t d m a k in
     let rd = c.in-Ok.ensures.came (overlaid x d c.args.spare (g.B.Backing.holds c.args.backing.now)) p t my at (readable_y x c.args.cpu.now c.args.areas.now c.args.sectors.now (g.B.Backing.holds c.args.backing.now) p c.args.home c.args.code c.args.spare t d m a k r) in
     let az = absent_z x c.args.cpu.now c.args.areas.now c.args.sectors.now (g.B.Backing.holds c.args.backing.now) p c.args.home c.args.code c.args.spare t d m a k c.page_in_room.new.cpu c.page_in_room.new.areas (g.B.Backing.holds c.page_in_room.new.backing) rd in
-    waits_second x c.args.cpu.now c.args.areas.now c.args.sectors.now (g.B.Backing.holds c.args.backing.now) p c.args.home c.args.code c.args.spare t d m a k c.page_in_room.new.cpu c.page_in_room.new.areas (g.B.Backing.holds c.page_in_room.new.backing) rd c.page_in_room-in-Ok.new.cpu c.page_in_room-in-Ok.new.areas (g.B.Backing.holds c.page_in_room-in-Ok.new.backing) (refused (brought (overlaid x d c.args.spare (g.B.Backing.holds c.args.backing.now)) t rd.at) rd.picture d rd.stands az)) c.page_in_room-in-Ok.ensures.refused
+    waits_second x c.args.cpu.now c.args.areas.now c.args.sectors.now (g.B.Backing.holds c.args.backing.now) p c.args.home c.args.code c.args.spare t d m a k c.page_in_room.new.cpu c.page_in_room.new.areas (g.B.Backing.holds c.page_in_room.new.backing) rd c.page_in_room-in-Ok.new.cpu c.page_in_room-in-Ok.new.areas (g.B.Backing.holds c.page_in_room-in-Ok.new.backing) (refused (brought (overlaid x d c.args.spare (g.B.Backing.holds c.args.backing.now)) t rd.at) rd.machine_view d rd.stands az)) c.page_in_room-in-Ok.ensures.refused
 
 pub returns-in-Err-clause-outside : goal.returns-in-Err-clause-outside
 returns-in-Err-clause-outside g c = λ x p t d m a k alone.
     let pc = present_code x c.args.cpu.now c.args.areas.now c.args.sectors.now (g.B.Backing.holds c.args.backing.now) p c.args.home c.args.code c.args.spare t d m a k in
     let na = no_array x c.args.cpu.now c.args.areas.now c.args.sectors.now (g.B.Backing.holds c.args.backing.now) p c.args.home c.args.code c.args.spare t d m a k in
     let my = c.discard.ensures.stands x c.args.sectors.now (g.B.Backing.holds c.args.backing.now) p d m pc na in
-    let R : Regs → Type 0 = λ q. Stands (overlaid x d c.args.spare (g.B.Backing.holds c.args.backing.now)) c.discard.new.cpu.core q p in
+    let R : Regs → Type 0 = λ q. Represents (overlaid x d c.args.spare (g.B.Backing.holds c.args.backing.now)) c.discard.new.cpu.core q p in
     let sy = subst R (ap (λ (z : Cpu). z.regs) c.discard.ensures.rest) my.stands in
     let at = absent_t x c.args.cpu.now c.args.areas.now c.args.sectors.now (g.B.Backing.holds c.args.backing.now) p c.args.home c.args.code c.args.spare t d m a k in
     Stayed-then p c.args.cpu.now.core c.discard.new.cpu.core c.page_in_room.new.cpu.core (c.discard.ensures.outside x p d m.stands m.low pc) (c.page_in_room.ensures.outside (overlaid x d c.args.spare (g.B.Backing.holds c.args.backing.now)) p t my at)
@@ -99,10 +99,10 @@ returns-in-Ok-clause-outside g c = λ x' p t d m' a' k' alone.
     let pc = present_code x c.args.cpu.now c.args.areas.now c.args.sectors.now (g.B.Backing.holds c.args.backing.now) p c.args.home c.args.code c.args.spare t d m a k in
     let na = no_array x c.args.cpu.now c.args.areas.now c.args.sectors.now (g.B.Backing.holds c.args.backing.now) p c.args.home c.args.code c.args.spare t d m a k in
     let my = c.discard.ensures.stands x c.args.sectors.now (g.B.Backing.holds c.args.backing.now) p d m pc na in
-    let R : Regs → Type 0 = λ q. Stands (overlaid x d c.args.spare (g.B.Backing.holds c.args.backing.now)) c.discard.new.cpu.core q p in
+    let R : Regs → Type 0 = λ q. Represents (overlaid x d c.args.spare (g.B.Backing.holds c.args.backing.now)) c.discard.new.cpu.core q p in
     let sy = subst R (ap (λ (z : Cpu). z.regs) c.discard.ensures.rest) my.stands in
     let at = absent_t x c.args.cpu.now c.args.areas.now c.args.sectors.now (g.B.Backing.holds c.args.backing.now) p c.args.home c.args.code c.args.spare t d m a k in
     let rd = c.in-Ok.ensures.came (overlaid x d c.args.spare (g.B.Backing.holds c.args.backing.now)) p t my at (readable_y x c.args.cpu.now c.args.areas.now c.args.sectors.now (g.B.Backing.holds c.args.backing.now) p c.args.home c.args.code c.args.spare t d m a k r) in
     let one = Stayed-then p c.args.cpu.now.core c.discard.new.cpu.core c.page_in_room.new.cpu.core (c.discard.ensures.outside x p d m.stands m.low pc) (c.page_in_room.ensures.outside (overlaid x d c.args.spare (g.B.Backing.holds c.args.backing.now)) p t my at) in
-    let two = c.page_in_room-in-Ok.ensures.outside (brought (overlaid x d c.args.spare (g.B.Backing.holds c.args.backing.now)) t rd.at) rd.picture d rd.stands (absent_z x c.args.cpu.now c.args.areas.now c.args.sectors.now (g.B.Backing.holds c.args.backing.now) p c.args.home c.args.code c.args.spare t d m a k c.page_in_room.new.cpu c.page_in_room.new.areas (g.B.Backing.holds c.page_in_room.new.backing) rd) in
-    Stayed-then p c.args.cpu.now.core c.page_in_room.new.cpu.core c.page_in_room-in-Ok.new.cpu.core one (Stayed-read x p rd.picture t (reads_x x c.args.cpu.now c.args.areas.now c.args.sectors.now (g.B.Backing.holds c.args.backing.now) p c.args.home c.args.code c.args.spare t d m a k c.page_in_room.new.cpu c.page_in_room.new.areas (g.B.Backing.holds c.page_in_room.new.backing) rd) c.page_in_room.new.cpu.core c.page_in_room-in-Ok.new.cpu.core two)
+    let two = c.page_in_room-in-Ok.ensures.outside (brought (overlaid x d c.args.spare (g.B.Backing.holds c.args.backing.now)) t rd.at) rd.machine_view d rd.stands (absent_z x c.args.cpu.now c.args.areas.now c.args.sectors.now (g.B.Backing.holds c.args.backing.now) p c.args.home c.args.code c.args.spare t d m a k c.page_in_room.new.cpu c.page_in_room.new.areas (g.B.Backing.holds c.page_in_room.new.backing) rd) in
+    Stayed-then p c.args.cpu.now.core c.page_in_room.new.cpu.core c.page_in_room-in-Ok.new.cpu.core one (Stayed-read x p rd.machine_view t (reads_x x c.args.cpu.now c.args.areas.now c.args.sectors.now (g.B.Backing.holds c.args.backing.now) p c.args.home c.args.code c.args.spare t d m a k c.page_in_room.new.cpu c.page_in_room.new.areas (g.B.Backing.holds c.page_in_room.new.backing) rd) c.page_in_room.new.cpu.core c.page_in_room-in-Ok.new.cpu.core two)

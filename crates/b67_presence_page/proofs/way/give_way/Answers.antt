@@ -1,12 +1,12 @@
 use Rattle.std.proofs.Common.{◌≡◌, ◌≢◌, ℕ, List, Option, Some, None, sym, ◌∙◌, ap, subst, Result, Err}
 use Rattle.std.proofs.lemmas.Option.{none-some}
-use Rattle.b67_stack.specs.Stands.{Storage}
-use Rattle.b67_layout_storage.specs.Machine.{MachineStands}
+use Rattle.b67_stack.specs.Represents.{Storage}
+use Rattle.b67_layout_storage.specs.Machine.{MachineRepresentsView}
 use Rattle.b67_layout_storage.proofs.Below.{Stayed-then}
 use Rattle.b67_layout_storage.proofs.Devices.{still_tells}
 use Rattle.b67_overlay.specs.Overlaid.{overlaid, retelling}
-use Rattle.b67_overlay.specs.Sheds.{Sheds}
-use Rattle.b67_overlay.proofs.Shedding.{Sheds-retelling, Sheds-overlaid, short_by}
+use Rattle.b67_overlay.specs.AreasEvicted.{AreasEvicted}
+use Rattle.b67_overlay.proofs.Shedding.{AreasEvicted-retelling, AreasEvicted-overlaid, short_by}
 use Rattle.b67_presence_page.specs.Brings.{Waits}
 use Rattle.b67_presence_page.proofs.Ways.{absent_after, readable_after, read_in, came_of}
 use Rattle.b67_backing.specs.declared.SpaceFault.{SpaceFault}
@@ -22,7 +22,7 @@ page_in-requires-clause-machine g c =
     let tells : (all : List (List ℕ)) → g.B.Backing.holds c.args.backing.now ≡ Some all → g.B.Backing.holds c.overlay.new.backing ≢ None = λ all e n. let (q, i) = still_tells g.B.Backing.holds g.B.Backing.size g.B.Backing.calls g.B.Backing.faults c.args.backing.now c.overlay.new.backing c.overlay.ensures.device all e in none-some q (sym n ∙ i) in
     let y : Storage = overlaid x u c.args.at (g.B.Backing.holds c.overlay.new.backing) in
     let my = c.in-Ok.ensures.stands x p u m pr in
-    let sh : Sheds x y spare = Sheds-overlaid x (g.B.Backing.holds c.args.backing.now) (g.B.Backing.holds c.overlay.new.backing) m.device tells u c.args.at spare pr.present n in
+    let sh : AreasEvicted x y spare = AreasEvicted-overlaid x (g.B.Backing.holds c.args.backing.now) (g.B.Backing.holds c.overlay.new.backing) m.device tells u c.args.at spare pr.present n in
     let ay = absent_after x y p c.args.home spare t sh a in
     (y, p, t, my, ay)
 
@@ -31,7 +31,7 @@ returns-in-Err-clause-refused g c = λ x p t u m a pr.
     let spare = c.args.spare in
     let n = c.if-at-spare.false in
     let tells : (all : List (List ℕ)) → g.B.Backing.holds c.args.backing.now ≡ Some all → g.B.Backing.holds c.overlay.new.backing ≢ None = λ all e n. let (q, i) = still_tells g.B.Backing.holds g.B.Backing.size g.B.Backing.calls g.B.Backing.faults c.args.backing.now c.overlay.new.backing c.overlay.ensures.device all e in none-some q (sym n ∙ i) in
-    let sh = Sheds-retelling x (g.B.Backing.holds c.args.backing.now) (g.B.Backing.holds c.overlay.new.backing) m.device tells spare in
+    let sh = AreasEvicted-retelling x (g.B.Backing.holds c.args.backing.now) (g.B.Backing.holds c.overlay.new.backing) m.device tells spare in
     let w : Waits x p spare c.overlay.new.cpu c.overlay.new.areas c.overlay.new.sectors (g.B.Backing.holds c.overlay.new.backing) = record { storage = retelling x (g.B.Backing.holds c.overlay.new.backing); sheds = sh; stands = c.in-Err.ensures.refused x p u m pr } in
     w
 
@@ -40,7 +40,7 @@ returns-in-Err-clause-full g c = λ x p t u wants free m a pr e.
     let spare = c.args.spare in
     let n = c.if-at-spare.false in
     let tells : (all : List (List ℕ)) → g.B.Backing.holds c.args.backing.now ≡ Some all → g.B.Backing.holds c.overlay.new.backing ≢ None = λ all e n. let (q, i) = still_tells g.B.Backing.holds g.B.Backing.size g.B.Backing.calls g.B.Backing.faults c.args.backing.now c.overlay.new.backing c.overlay.ensures.device all e in none-some q (sym n ∙ i) in
-    let sh = Sheds-retelling x (g.B.Backing.holds c.args.backing.now) (g.B.Backing.holds c.overlay.new.backing) m.device tells spare in
+    let sh = AreasEvicted-retelling x (g.B.Backing.holds c.args.backing.now) (g.B.Backing.holds c.overlay.new.backing) m.device tells spare in
     let w : Waits x p spare c.overlay.new.cpu c.overlay.new.areas c.overlay.new.sectors (g.B.Backing.holds c.overlay.new.backing) = record { storage = retelling x (g.B.Backing.holds c.overlay.new.backing); sheds = sh; stands = c.in-Err.ensures.refused x p u m pr } in
     (w, short_by x p u c.args.at wants free (g.B.Backing.holds c.overlay.new.backing) pr ((c.in-Err.ensures.full x p u wants free m pr).0 (let z : ◌≡◌ {A = Result (Unit {0}) SpaceFault} (Err c.in-Err.fault) (Err (BackingFull wants free)) = cc in z)))
 
@@ -51,7 +51,7 @@ returns-in-Ok-page_in-clause-came g c = λ _ x p t u m a pr readable.
     let tells : (all : List (List ℕ)) → g.B.Backing.holds c.args.backing.now ≡ Some all → g.B.Backing.holds c.overlay.new.backing ≢ None = λ all e n. let (q, i) = still_tells g.B.Backing.holds g.B.Backing.size g.B.Backing.calls g.B.Backing.faults c.args.backing.now c.overlay.new.backing c.overlay.ensures.device all e in none-some q (sym n ∙ i) in
     let y : Storage = overlaid x u c.args.at (g.B.Backing.holds c.overlay.new.backing) in
     let my = c.in-Ok.ensures.stands x p u m pr in
-    let sh : Sheds x y spare = Sheds-overlaid x (g.B.Backing.holds c.args.backing.now) (g.B.Backing.holds c.overlay.new.backing) m.device tells u c.args.at spare pr.present n in
+    let sh : AreasEvicted x y spare = AreasEvicted-overlaid x (g.B.Backing.holds c.args.backing.now) (g.B.Backing.holds c.overlay.new.backing) m.device tells u c.args.at spare pr.present n in
     let ay = absent_after x y p c.args.home spare t sh a in
     came_of x y p t spare c.page_in.new.cpu c.page_in.new.areas c.overlay.new.sectors (g.B.Backing.holds c.page_in.new.backing) sh
     (read_in y c.overlay.new.cpu.core c.overlay.new.cpu.regs p c.args.home t c.page_in.new.cpu c.page_in.new.areas c.overlay.new.sectors (g.B.Backing.holds c.page_in.new.backing) my.stands ay (readable_after x y p spare sh readable)
@@ -64,9 +64,9 @@ returns-in-Err-NoHole-clause-gone g c = λ _ x p t u m a pr.
     let tells : (all : List (List ℕ)) → g.B.Backing.holds c.args.backing.now ≡ Some all → g.B.Backing.holds c.overlay.new.backing ≢ None = λ all e n. let (q, i) = still_tells g.B.Backing.holds g.B.Backing.size g.B.Backing.calls g.B.Backing.faults c.args.backing.now c.overlay.new.backing c.overlay.ensures.device all e in none-some q (sym n ∙ i) in
     let y : Storage = overlaid x u c.args.at (g.B.Backing.holds c.overlay.new.backing) in
     let my = c.in-Ok.ensures.stands x p u m pr in
-    let sh : Sheds x y spare = Sheds-overlaid x (g.B.Backing.holds c.args.backing.now) (g.B.Backing.holds c.overlay.new.backing) m.device tells u c.args.at spare pr.present n in
+    let sh : AreasEvicted x y spare = AreasEvicted-overlaid x (g.B.Backing.holds c.args.backing.now) (g.B.Backing.holds c.overlay.new.backing) m.device tells u c.args.at spare pr.present n in
     let ay = absent_after x y p c.args.home spare t sh a in
-    let P : Option (List (List ℕ)) → Type 0 = λ d. MachineStands (overlaid x u c.args.at d) c.page_in.new.cpu c.page_in.new.areas c.overlay.new.sectors (g.B.Backing.holds c.page_in.new.backing) p in
+    let P : Option (List (List ℕ)) → Type 0 = λ d. MachineRepresentsView (overlaid x u c.args.at d) c.page_in.new.cpu c.page_in.new.areas c.overlay.new.sectors (g.B.Backing.holds c.page_in.new.backing) p in
     (λ e. absurd (n e), λ _. subst P (ap g.B.Backing.holds (sym (c.page_in.ensures.unchanged (let z : c.page_in.result ≡ Err NoHole = cc in z)).1)) (c.in-Err-NoHole.ensures.refused y p t my ay))
 
 pub returns-in-Err-BackingFault-clause-refused : goal.returns-in-Err-BackingFault-clause-refused
@@ -76,7 +76,7 @@ returns-in-Err-BackingFault-clause-refused g c = λ x p t u m a pr.
     let tells : (all : List (List ℕ)) → g.B.Backing.holds c.args.backing.now ≡ Some all → g.B.Backing.holds c.overlay.new.backing ≢ None = λ all e n. let (q, i) = still_tells g.B.Backing.holds g.B.Backing.size g.B.Backing.calls g.B.Backing.faults c.args.backing.now c.overlay.new.backing c.overlay.ensures.device all e in none-some q (sym n ∙ i) in
     let y : Storage = overlaid x u c.args.at (g.B.Backing.holds c.overlay.new.backing) in
     let my = c.in-Ok.ensures.stands x p u m pr in
-    let sh : Sheds x y spare = Sheds-overlaid x (g.B.Backing.holds c.args.backing.now) (g.B.Backing.holds c.overlay.new.backing) m.device tells u c.args.at spare pr.present n in
+    let sh : AreasEvicted x y spare = AreasEvicted-overlaid x (g.B.Backing.holds c.args.backing.now) (g.B.Backing.holds c.overlay.new.backing) m.device tells u c.args.at spare pr.present n in
     let ay = absent_after x y p c.args.home spare t sh a in
     record { storage = y; sheds = sh; stands = c.in-Err-BackingFault.ensures.refused y p t my ay }
 
@@ -90,7 +90,7 @@ returns-in-Ok-page_in-clause-outside g c = λ x p t u m a pr.
     let tells : (all : List (List ℕ)) → g.B.Backing.holds c.args.backing.now ≡ Some all → g.B.Backing.holds c.overlay.new.backing ≢ None = λ all e n. let (q, i) = still_tells g.B.Backing.holds g.B.Backing.size g.B.Backing.calls g.B.Backing.faults c.args.backing.now c.overlay.new.backing c.overlay.ensures.device all e in none-some q (sym n ∙ i) in
     let y : Storage = overlaid x u c.args.at (g.B.Backing.holds c.overlay.new.backing) in
     let my = c.in-Ok.ensures.stands x p u m pr in
-    let sh : Sheds x y spare = Sheds-overlaid x (g.B.Backing.holds c.args.backing.now) (g.B.Backing.holds c.overlay.new.backing) m.device tells u c.args.at spare pr.present n in
+    let sh : AreasEvicted x y spare = AreasEvicted-overlaid x (g.B.Backing.holds c.args.backing.now) (g.B.Backing.holds c.overlay.new.backing) m.device tells u c.args.at spare pr.present n in
     let ay = absent_after x y p c.args.home spare t sh a in
     Stayed-then p c.args.cpu.now.core c.overlay.new.cpu.core c.page_in.new.cpu.core (c.overlay.ensures.outside x p u m pr) (c.page_in.ensures.outside y p t my ay)
 
@@ -101,7 +101,7 @@ returns-in-Err-NoHole-clause-outside g c = λ x p t u m a pr.
     let tells : (all : List (List ℕ)) → g.B.Backing.holds c.args.backing.now ≡ Some all → g.B.Backing.holds c.overlay.new.backing ≢ None = λ all e n. let (q, i) = still_tells g.B.Backing.holds g.B.Backing.size g.B.Backing.calls g.B.Backing.faults c.args.backing.now c.overlay.new.backing c.overlay.ensures.device all e in none-some q (sym n ∙ i) in
     let y : Storage = overlaid x u c.args.at (g.B.Backing.holds c.overlay.new.backing) in
     let my = c.in-Ok.ensures.stands x p u m pr in
-    let sh : Sheds x y spare = Sheds-overlaid x (g.B.Backing.holds c.args.backing.now) (g.B.Backing.holds c.overlay.new.backing) m.device tells u c.args.at spare pr.present n in
+    let sh : AreasEvicted x y spare = AreasEvicted-overlaid x (g.B.Backing.holds c.args.backing.now) (g.B.Backing.holds c.overlay.new.backing) m.device tells u c.args.at spare pr.present n in
     let ay = absent_after x y p c.args.home spare t sh a in
     Stayed-then p c.args.cpu.now.core c.overlay.new.cpu.core c.page_in.new.cpu.core (c.overlay.ensures.outside x p u m pr) (c.page_in.ensures.outside y p t my ay)
 
@@ -112,6 +112,6 @@ returns-in-Err-BackingFault-clause-outside g c = λ x p t u m a pr.
     let tells : (all : List (List ℕ)) → g.B.Backing.holds c.args.backing.now ≡ Some all → g.B.Backing.holds c.overlay.new.backing ≢ None = λ all e n. let (q, i) = still_tells g.B.Backing.holds g.B.Backing.size g.B.Backing.calls g.B.Backing.faults c.args.backing.now c.overlay.new.backing c.overlay.ensures.device all e in none-some q (sym n ∙ i) in
     let y : Storage = overlaid x u c.args.at (g.B.Backing.holds c.overlay.new.backing) in
     let my = c.in-Ok.ensures.stands x p u m pr in
-    let sh : Sheds x y spare = Sheds-overlaid x (g.B.Backing.holds c.args.backing.now) (g.B.Backing.holds c.overlay.new.backing) m.device tells u c.args.at spare pr.present n in
+    let sh : AreasEvicted x y spare = AreasEvicted-overlaid x (g.B.Backing.holds c.args.backing.now) (g.B.Backing.holds c.overlay.new.backing) m.device tells u c.args.at spare pr.present n in
     let ay = absent_after x y p c.args.home spare t sh a in
     Stayed-then p c.args.cpu.now.core c.overlay.new.cpu.core c.page_in.new.cpu.core (c.overlay.ensures.outside x p u m pr) (c.page_in.ensures.outside y p t my ay)

@@ -4,13 +4,13 @@ use Rattle.std.proofs.lemmas.Bool.{cases_eq}
 use Rattle.b67_backing.specs.declared.SpaceFault.{SpaceFault}
 use Rattle.b67_backing.specs.declared.SpaceFault.TheVariants.{BackingFull}
 use Rattle.b67_stack.specs.declared.Cpu.{Cpu}
-use Rattle.b67_stack.specs.Stands.{Storage}
-use Rattle.b67_layout_storage.specs.Machine.{MachineStands, Stayed}
+use Rattle.b67_stack.specs.Represents.{Storage}
+use Rattle.b67_layout_storage.specs.Machine.{MachineRepresentsView, Stayed}
 use Rattle.b67_layout_storage.proofs.Below.{Stayed-none, Stayed-then}
 use Rattle.b67_layout_storage.proofs.Devices.{Served-none, Served-then, still_tells}
 use Rattle.b67_overlay.specs.Overlaid.{overlaid}
-use Rattle.b67_overlay.specs.Sheds.{Sheds, Remains}
-use Rattle.b67_overlay.proofs.Shedding.{Sheds-none, Sheds-then, Sheds-overlaid, directory_here, thing_here, after_here, falls_here, gone_here, past_here, first_here}
+use Rattle.b67_overlay.specs.AreasEvicted.{AreasEvicted, Remains}
+use Rattle.b67_overlay.proofs.Shedding.{AreasEvicted-none, AreasEvicted-then, AreasEvicted-overlaid, directory_here, object_here, after_here, falls_here, gone_here, past_here, first_here}
 use Rattle.b67_presence_page.specs.Brings.{Waits}
 use Rattle.b67_presence_page.proofs.Ways.{absent_after, readable_after, Came-before, Waits-before}
 use Rattle.b67_presence_page.proofs.way.make_way.Goals as goal
@@ -22,7 +22,7 @@ areas-init g c = record {
   areas = refl;
   count = refl;
   device = Served-none g.B.Backing.holds g.B.Backing.size g.B.Backing.calls g.B.Backing.faults c.args.backing.now;
-  stands = λ x p t m a. (x, Sheds-none x c.args.spare, first_here x c.args.cpu.now c.args.areas.now c.args.sectors.now (g.B.Backing.holds c.args.backing.now) p c.args.spare c.first-next.result m c.first-next.ensures, m, Stayed-none p c.args.cpu.now.core);
+  stands = λ x p t m a. (x, AreasEvicted-none x c.args.spare, first_here x c.args.cpu.now c.args.areas.now c.args.sectors.now (g.B.Backing.holds c.args.backing.now) p c.args.spare c.first-next.result m c.first-next.ensures, m, Stayed-none p c.args.cpu.now.core);
 }
 
 pub after-next-requires : goal.after-next-requires
@@ -38,14 +38,14 @@ give_way-requires-clause-machine g c =
     let (x, p, t, m, a) = c.requires.machine in
     let (y, sh, re, my, st) = c.areas.invariant.stands x p t m a in
     let ay = absent_after x y p c.args.home c.args.spare t sh a in
-    let (u, pr) = thing_here y c.areas.cpu c.areas.areas c.areas.sectors (g.B.Backing.holds c.areas.backing) p my c.args.spare c.in-Some.at c.areas.next c.in-Some.is re in
+    let (u, pr) = object_here y c.areas.cpu c.areas.areas c.areas.sectors (g.B.Backing.holds c.areas.backing) p my c.args.spare c.in-Some.at c.areas.next c.in-Some.is re in
     (y, p, t, u, my, ay, pr)
 
 pub returns-in-Ok-true-clause-came : goal.returns-in-Ok-true-clause-came
 returns-in-Ok-true-clause-came g c = λ _ x p t m a readable.
     let (y, sh, re, my, st) = c.areas.invariant.stands x p t m a in
     let ay = absent_after x y p c.args.home c.args.spare t sh a in
-    let (u, pr) = thing_here y c.areas.cpu c.areas.areas c.areas.sectors (g.B.Backing.holds c.areas.backing) p my c.args.spare c.in-Some.at c.areas.next c.in-Some.is re in
+    let (u, pr) = object_here y c.areas.cpu c.areas.areas c.areas.sectors (g.B.Backing.holds c.areas.backing) p my c.args.spare c.in-Some.at c.areas.next c.in-Some.is re in
     Came-before x y p t c.args.spare c.give_way.new.cpu c.give_way.new.areas c.give_way.new.sectors (g.B.Backing.holds c.give_way.new.backing) sh (c.give_way.ensures.came (c.in-Ok-true.is ∙ ap Ok c.in-Ok-true.field-0-test) y p t u my ay pr (readable_after x y p c.args.spare sh readable))
 
 pub areas-smaller : goal.areas-smaller
@@ -67,7 +67,7 @@ areas-preserved g c =
       stands = λ x p t m a.
           let (y, sh, re, my, st) = c.areas.invariant.stands x p t m a in
           let ay = absent_after x y p c.args.home c.args.spare t sh a in
-          let (u, pr) = thing_here y c.areas.cpu c.areas.areas c.areas.sectors (g.B.Backing.holds c.areas.backing) p my c.args.spare c.in-Some.at c.areas.next c.in-Some.is re in
+          let (u, pr) = object_here y c.areas.cpu c.areas.areas c.areas.sectors (g.B.Backing.holds c.areas.backing) p my c.args.spare c.in-Some.at c.areas.next c.in-Some.is re in
           let tells : (all : List (List ℕ)) → g.B.Backing.holds c.areas.backing ≡ Some all → g.B.Backing.holds c.give_way.new.backing ≢ None = λ all e n. let (q, i) = still_tells g.B.Backing.holds g.B.Backing.size g.B.Backing.calls g.B.Backing.faults c.areas.backing c.give_way.new.backing c.give_way.ensures.device all e in none-some q (sym n ∙ i) in
           let z = overlaid y u c.in-Some.at (g.B.Backing.holds c.give_way.new.backing) in
           let r = c.give_way.ensures.gone (c.in-Ok-false.is ∙ ap Ok c.in-Ok-false.field-0-test) y p t u my ay pr in
@@ -75,11 +75,11 @@ areas-preserved g c =
           let e = (after_here y c.areas.cpu c.areas.areas c.areas.sectors (g.B.Backing.holds c.areas.backing) p my c.args.spare c.in-Some.at c.areas.next c.in-Some.is re c.after-next.result c.after-next.ensures) in
           ⊎_elim
           (λ (q : c.in-Some.at ≡ c.args.spare).
-          let done : (s : Storage) × Sheds x s c.args.spare × Remains s.low s.spans c.args.spare c.after-next.result × MachineStands s c.give_way.new.cpu c.give_way.new.areas c.give_way.new.sectors (g.B.Backing.holds c.give_way.new.backing) p × Stayed p c.args.cpu.now.core c.give_way.new.cpu.core = (y, sh, past_here y c.areas.cpu c.areas.areas c.areas.sectors (g.B.Backing.holds c.areas.backing) p my c.args.spare c.in-Some.at c.areas.next c.in-Some.is re c.after-next.result e q, r.0 q, sw) in done)
+          let done : (s : Storage) × AreasEvicted x s c.args.spare × Remains s.low s.spans c.args.spare c.after-next.result × MachineRepresentsView s c.give_way.new.cpu c.give_way.new.areas c.give_way.new.sectors (g.B.Backing.holds c.give_way.new.backing) p × Stayed p c.args.cpu.now.core c.give_way.new.cpu.core = (y, sh, past_here y c.areas.cpu c.areas.areas c.areas.sectors (g.B.Backing.holds c.areas.backing) p my c.args.spare c.in-Some.at c.areas.next c.in-Some.is re c.after-next.result e q, r.0 q, sw) in done)
           (λ (n : c.in-Some.at ≡ c.args.spare → ⊥).
-          let done : (s : Storage) × Sheds x s c.args.spare × Remains s.low s.spans c.args.spare c.after-next.result × MachineStands s c.give_way.new.cpu c.give_way.new.areas c.give_way.new.sectors (g.B.Backing.holds c.give_way.new.backing) p × Stayed p c.args.cpu.now.core c.give_way.new.cpu.core = (
+          let done : (s : Storage) × AreasEvicted x s c.args.spare × Remains s.low s.spans c.args.spare c.after-next.result × MachineRepresentsView s c.give_way.new.cpu c.give_way.new.areas c.give_way.new.sectors (g.B.Backing.holds c.give_way.new.backing) p × Stayed p c.args.cpu.now.core c.give_way.new.cpu.core = (
             z,
-            Sheds-then x y z c.args.spare sh (Sheds-overlaid y (g.B.Backing.holds c.areas.backing) (g.B.Backing.holds c.give_way.new.backing) my.device tells u c.in-Some.at c.args.spare pr.present n),
+            AreasEvicted-then x y z c.args.spare sh (AreasEvicted-overlaid y (g.B.Backing.holds c.areas.backing) (g.B.Backing.holds c.give_way.new.backing) my.device tells u c.in-Some.at c.args.spare pr.present n),
             gone_here y c.areas.cpu c.areas.areas c.areas.sectors (g.B.Backing.holds c.areas.backing) p my c.args.spare c.in-Some.at c.areas.next c.in-Some.is re c.after-next.result e n,
             r.1 n,
             sw,
@@ -91,14 +91,14 @@ pub returns-in-Err-clause-refused : goal.returns-in-Err-clause-refused
 returns-in-Err-clause-refused g c = λ x p t m a.
     let (y, sh, re, my, st) = c.areas.invariant.stands x p t m a in
     let ay = absent_after x y p c.args.home c.args.spare t sh a in
-    let (u, pr) = thing_here y c.areas.cpu c.areas.areas c.areas.sectors (g.B.Backing.holds c.areas.backing) p my c.args.spare c.in-Some.at c.areas.next c.in-Some.is re in
+    let (u, pr) = object_here y c.areas.cpu c.areas.areas c.areas.sectors (g.B.Backing.holds c.areas.backing) p my c.args.spare c.in-Some.at c.areas.next c.in-Some.is re in
     Waits-before x y p c.args.spare c.give_way.new.cpu c.give_way.new.areas c.give_way.new.sectors (g.B.Backing.holds c.give_way.new.backing) sh (c.in-Err.ensures.refused y p t u my ay pr)
 
 pub returns-in-Err-clause-full : goal.returns-in-Err-clause-full
 returns-in-Err-clause-full g c = λ x p t wants free m a e.
     let (y, sh, re, my, st) = c.areas.invariant.stands x p t m a in
     let ay = absent_after x y p c.args.home c.args.spare t sh a in
-    let (u, pr) = thing_here y c.areas.cpu c.areas.areas c.areas.sectors (g.B.Backing.holds c.areas.backing) p my c.args.spare c.in-Some.at c.areas.next c.in-Some.is re in
+    let (u, pr) = object_here y c.areas.cpu c.areas.areas c.areas.sectors (g.B.Backing.holds c.areas.backing) p my c.args.spare c.in-Some.at c.areas.next c.in-Some.is re in
     let r = c.in-Err.ensures.full y p t u wants free my ay pr (let z : ◌≡◌ {A = Result Bool SpaceFault} (Err c.in-Err.fault) (Err (BackingFull wants free)) = cc in z) in
     (Waits-before x y p c.args.spare c.give_way.new.cpu c.give_way.new.areas c.give_way.new.sectors (g.B.Backing.holds c.give_way.new.backing) sh r.0, r.1)
 
@@ -115,14 +115,14 @@ pub returns-in-Ok-true-clause-outside : goal.returns-in-Ok-true-clause-outside
 returns-in-Ok-true-clause-outside g c = λ x p t m a.
     let (y, sh, re, my, st) = c.areas.invariant.stands x p t m a in
     let ay = absent_after x y p c.args.home c.args.spare t sh a in
-    let (u, pr) = thing_here y c.areas.cpu c.areas.areas c.areas.sectors (g.B.Backing.holds c.areas.backing) p my c.args.spare c.in-Some.at c.areas.next c.in-Some.is re in
+    let (u, pr) = object_here y c.areas.cpu c.areas.areas c.areas.sectors (g.B.Backing.holds c.areas.backing) p my c.args.spare c.in-Some.at c.areas.next c.in-Some.is re in
     Stayed-then p c.args.cpu.now.core c.areas.cpu.core c.give_way.new.cpu.core st (c.give_way.ensures.outside y p t u my ay pr)
 
 pub returns-in-Err-clause-outside : goal.returns-in-Err-clause-outside
 returns-in-Err-clause-outside g c = λ x p t m a.
     let (y, sh, re, my, st) = c.areas.invariant.stands x p t m a in
     let ay = absent_after x y p c.args.home c.args.spare t sh a in
-    let (u, pr) = thing_here y c.areas.cpu c.areas.areas c.areas.sectors (g.B.Backing.holds c.areas.backing) p my c.args.spare c.in-Some.at c.areas.next c.in-Some.is re in
+    let (u, pr) = object_here y c.areas.cpu c.areas.areas c.areas.sectors (g.B.Backing.holds c.areas.backing) p my c.args.spare c.in-Some.at c.areas.next c.in-Some.is re in
     Stayed-then p c.args.cpu.now.core c.areas.cpu.core c.give_way.new.cpu.core st (c.give_way.ensures.outside y p t u my ay pr)
 
 pub returns-clause-outside : goal.returns-clause-outside

@@ -1,8 +1,8 @@
 use Rattle.std.proofs.Common.{◌≡◌, length}
-use Rattle.b67_stack.specs.Picture.{Thing, Picture}
-use Rattle.b67_stack.specs.Stands.{Storage}
-use Rattle.b67_layout_storage.specs.Machine.{MachineStands, IsAbsent, Served, Stayed}
-use Rattle.b67_overlay.specs.Sheds.{Sheds, Remains}
+use Rattle.b67_stack.specs.MachineView.{PagedObject, MachineView}
+use Rattle.b67_stack.specs.Represents.{Storage}
+use Rattle.b67_layout_storage.specs.Machine.{MachineRepresentsView, IsAbsent, DeviceAfterCalls, Stayed}
+use Rattle.b67_overlay.specs.AreasEvicted.{AreasEvicted, Remains}
 use Rattle.b67_overlay.proofs.Visits.{left_of}
 use Rattle.b67_presence_page.proofs.way.make_way.Given as goal
 
@@ -14,9 +14,9 @@ invariant-areas g l =
       size : length l.cpu.core ≡ length l.initial.cpu.core;
       areas : l.areas ≡ l.initial.areas;
       count : length l.sectors.links ≡ length l.initial.sectors.links;
-      device : Served holds g.B.Backing.size g.B.Backing.calls g.B.Backing.faults l.initial.backing l.backing;
-      stands : (x : Storage) (p : Picture) (t : Thing) → MachineStands x l.initial.cpu l.initial.areas l.initial.sectors (holds l.initial.backing) p → IsAbsent x p l.home t
-          → (y : Storage) × Sheds x y l.spare × Remains y.low y.spans l.spare l.next × MachineStands y l.cpu l.areas l.sectors (holds l.backing) p
+      device : DeviceAfterCalls holds g.B.Backing.size g.B.Backing.calls g.B.Backing.faults l.initial.backing l.backing;
+      stands : (x : Storage) (p : MachineView) (t : PagedObject) → MachineRepresentsView x l.initial.cpu l.initial.areas l.initial.sectors (holds l.initial.backing) p → IsAbsent x p l.home t
+          → (y : Storage) × AreasEvicted x y l.spare × Remains y.low y.spans l.spare l.next × MachineRepresentsView y l.cpu l.areas l.sectors (holds l.backing) p
           × Stayed p l.initial.cpu.core l.cpu.core;
     }
 

@@ -1,5 +1,5 @@
 use Rattle.std.proofs.Common.{◌≡◌, ◌<◌, length}
-use Rattle.b67_refer.specs.Scene.{Scene}
+use Rattle.b67_refer.specs.RunningContext.{RunningContext}
 use Rattle.b67_refer.proofs.Chains.{Written}
 use Rattle.b67_refer.proofs.environment.rebuild.Given as goal
 
@@ -7,7 +7,7 @@ abbrev pub invariant-out : goal.invariant-out
 invariant-out l = record {
   len : length l.display ≡ 32;
   high : l.level < 32;
-  written : (a : Scene l.core l.regs) → Written l.core l.regs a l.at l.level l.display;
+  written : (a : RunningContext l.core l.regs) → Written l.core l.regs a l.at l.level l.display;
 }
 
 abbrev pub decreases-out : goal.decreases-out

@@ -1,26 +1,22 @@
-use Rattle.std.proofs.Common.{◌≡◌, ◌≢◌, ◌≤◌, ℕ, List, Option, None, length}
-use Rattle.b67_model.specs.State.{Task, Member}
+use Rattle.std.proofs.Common.{◌≡◌, ◌≢◌, ◌≤◌, ℕ, List, Option, None}
+use Rattle.b67_model.specs.State.{Task, SessionJob}
 use Rattle.b67_model.specs.Schedule.{Session}
-use Rattle.b67_layout_storage.specs.Machine.{Says, Served, retold}
+use Rattle.b67_layout_storage.specs.Machine.{Says, DeviceAfterCalls, content_after}
 use Rattle.b67_session_attempt.specs.Passed.{AreCountable}
 use Rattle.b67_session_attempt.specs.Brought.{WantsNothing}
-use Rattle.b67_session.specs.Slices.{IsLone, StepsFit}
+use Rattle.b67_session.specs.Slices.{IsLone, Keeps}
 use Rattle.b67_session.proofs.Going.{Going}
 use Rattle.b67_session.proofs.slices.go_on.Given as goal
 
 abbrev pub invariant-step : goal.invariant-step
 invariant-step g l = record {
-  later : g.K.Sink.faults l.initial.paper ≤ g.K.Sink.faults l.paper;
-  device : Served g.B.Backing.holds g.B.Backing.size g.B.Backing.calls g.B.Backing.faults l.initial.backing l.backing;
   countable : AreCountable l.machine.tasks.jobs;
-  len : length l.machine.cpu.core ≡ length l.initial.machine.cpu.core;
-  count : length l.machine.sectors.links ≡ length l.initial.machine.sectors.links;
-  halt : l.machine.tasks.halt ≡ l.initial.machine.tasks.halt;
-  going : (known : Option (List (List ℕ))) (s : Session) (m : Member) (t : Task) → Says known (g.B.Backing.holds l.initial.backing) → IsLone known l.initial.machine s m t
-      → Going g.K.Sink.taken (known ≢ None) (retold known (g.B.Backing.holds l.backing)) l._made s l.initial.machine l.machine l.initial.paper l.paper;
-  unprinted : l.initial.machine.tasks.printed ≡ 0 → l.machine.tasks.printed ≡ 0;
+  later : g.K.Sink.faults l.initial.paper ≤ g.K.Sink.faults l.paper;
+  device : DeviceAfterCalls g.B.Backing.holds g.B.Backing.size g.B.Backing.calls g.B.Backing.faults l.initial.backing l.backing;
+  keeps : Keeps l.initial.machine l.machine;
+  going : (known : Option (List (List ℕ))) (s : Session) (m : SessionJob) (t : Task) → Says known (g.B.Backing.holds l.initial.backing) → IsLone known l.initial.machine s m t
+      → Going g.K.Sink.taken (known ≢ None) (content_after known (g.B.Backing.holds l.backing)) l._made s l.initial.machine l.machine l.initial.paper l.paper;
   begun : l._made ≡ 0 → (l.machine ≡ l.initial.machine) × (l.backing ≡ l.initial.backing);
-  quiet : (known : Option (List (List ℕ))) (s : Session) (m : Member) (t : Task) (h : IsLone known l.initial.machine s m t) → Says known (g.B.Backing.holds l.initial.backing)
+  quiet : (known : Option (List (List ℕ))) (s : Session) (m : SessionJob) (t : Task) (h : IsLone known l.initial.machine s m t) → Says known (g.B.Backing.holds l.initial.backing)
       → l.n ≤ 1 → WantsNothing h.storage h.plan m t → l.backing ≡ l.initial.backing;
-  fits : (known : Option (List (List ℕ))) (s : Session) (m : Member) (t : Task) → Says known (g.B.Backing.holds l.initial.backing) → known ≢ None → IsLone known l.initial.machine s m t → StepsFit (length l.initial.machine.cpu.core) l._made s;
 }

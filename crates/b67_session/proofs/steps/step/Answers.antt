@@ -1,35 +1,47 @@
-use Rattle.std.proofs.Common.{length, Ok, Err, sym, ap, ◌∙◌, subst, inl, inr}
-use Rattle.b67_layout_storage.specs.Machine.{retold}
+use Rattle.std.proofs.Common.{◌≡◌, Ok, Err, sym, ap, ◌∙◌, subst}
 use Rattle.b67_task_tables.specs.declared.tables.Tasks.{Tasks}
 use Rattle.b67_session_attempt.specs.Passed.{AreCountable}
-use Rattle.b67_session_attempt.specs.Stops.{Stop}
+use Rattle.b67_session_attempt.specs.declared.attempts.Attempt.{Attempt}
 use Rattle.b67_session_attempt.specs.declared.attempts.Attempt.TheVariants as attempts
-use Rattle.b67_session.proofs.Turned.{Attempted, chooses_one, has_row, turned, over, runs_over, attempted_here, quiet_here}
-use Rattle.b67_session.proofs.Stepping.{made_room, has_one, made_steps, ends_room, ends_one, ends_steps, stop_steps}
-use Rattle.b67_session.proofs.Tabled.{advanced_unprinted, stop_printed, stop_made, ended_printed, turned_printed, turned_made}
-use Rattle.b67_session.proofs.Fitting.{turned_fits, device_told}
+use Rattle.b67_session.proofs.Turned.{Tries, chooses_one, has_row, turned, runs_over}
+use Rattle.b67_session.proofs.Tried.{tries_as, made_counts, made_has, made_row, made_present, ends_counts, ends_has, ends_row, ends_present, stop_row, stop_present}
+use Rattle.b67_session.proofs.steps.step.Given.{Over}
+use Rattle.b67_session.proofs.steps.step.Goals.{After-attempt}
 use Rattle.b67_session.proofs.steps.step.Goals as goal
 
-pub returns-in-None-clause-row : goal.returns-in-None-clause-row
-returns-in-None-clause-row g c = λ known s m t says h.
-    chooses_one known c.args.machine.now s m t h (c.in-None.ensures.choice h.plan s h.ordered h.stands.tables)
+-- a task has the turn, and its operator was tried
+context : (g : Over) (c : After-attempt g) → Tries g.K.Sink.taken (g.B.Backing.holds c.args.backing.now) (g.B.Backing.holds c.attempt.new.backing) (g.B.Backing.size c.args.backing.now) c.args.machine.now c.in-Some.chosen c.give_turn.new.machine c.attempt.result c.attempt.new.machine c.args.paper.now c.attempt.new.paper
+context g c = record {
+  chooses = c.in-Some.ensures.choice;
+  counts = c.in-Some.ensures.room;
+  gives = c.give_turn.ensures.stands;
+  tables = c.give_turn.ensures.tables;
+  core = c.give_turn.ensures.len;
+  row = c.attempt.ensures.row;
+  room = c.attempt.ensures.fits;
+  stay = c.attempt.ensures.tables;
+  halt = c.attempt.ensures.keeps.halt;
+}
 
-pub returns-in-None-clause-fits : goal.returns-in-None-clause-fits
-returns-in-None-clause-fits g c = λ known s m t says tells h.
-    chooses_one known c.args.machine.now s m t h (c.in-None.ensures.choice h.plan s h.ordered h.stands.tables)
+halted : (g : Over) (c : After-attempt g) → c.attempt.new.machine.tasks.halt ≡ c.args.machine.now.tasks.halt
+halted g c = c.attempt.ensures.keeps.halt ∙ ap (λ (z : Tasks). z.halt) c.give_turn.ensures.tables
+
+pub returns-in-None-clause-row : goal.returns-in-None-clause-row
+returns-in-None-clause-row g c = λ known s m t says h. chooses_one known c.args.machine.now s m t h (c.in-None.ensures.choice h.plan s h.ordered h.stands.tables)
+
+pub returns-in-None-clause-present : goal.returns-in-None-clause-present
+returns-in-None-clause-present g c = λ known s m t says h. chooses_one known c.args.machine.now s m t h (c.in-None.ensures.choice h.plan s h.ordered h.stands.tables)
 
 pub give_turn-requires : goal.give_turn-requires
 give_turn-requires g c =
-    let k = c.args.machine.now in
     let l = c.requires.lives in
-    has_row l.known k l.session l.member l.task l.lone c.in-Some.chosen (c.in-Some.ensures.choice l.lone.plan l.session l.lone.ordered l.lone.stands.tables)
+    has_row l.known c.args.machine.now l.session l.member l.task l.lone c.in-Some.chosen (c.in-Some.ensures.choice l.lone.plan l.session l.lone.ordered l.lone.stands.tables)
 
 pub attempt-requires-clause-runs : goal.attempt-requires-clause-runs
 attempt-requires-clause-runs g c =
-    let k = c.args.machine.now in
     let l = c.requires.lives in
     runs_over l.known (g.B.Backing.holds c.args.backing.now) l.says c.give_turn.new.machine l.session l.member l.task c.in-Some.chosen
-    (turned l.known k l.session l.member l.task l.lone c.in-Some.chosen (c.in-Some.ensures.choice l.lone.plan l.session l.lone.ordered l.lone.stands.tables)
+    (turned l.known c.args.machine.now l.session l.member l.task l.lone c.in-Some.chosen (c.in-Some.ensures.choice l.lone.plan l.session l.lone.ordered l.lone.stands.tables)
     c.give_turn.new.machine c.give_turn.ensures.stands (c.in-Some.ensures.room l.lone.plan l.session l.lone.ordered l.lone.stands.tables))
 
 pub attempt-requires-clause-countable : goal.attempt-requires-clause-countable
@@ -38,96 +50,59 @@ attempt-requires-clause-countable g c = subst (λ (z : Tasks). AreCountable z.jo
 pub advance-requires-clause-room : goal.advance-requires-clause-room
 advance-requires-clause-room g c =
     let l = c.requires.lives in
-    let h = l.lone in
-    let a : Attempted g.K.Sink.taken l.known (retold l.known (g.B.Backing.holds c.attempt.new.backing)) (length c.give_turn.new.machine.cpu.core) (g.B.Backing.size c.args.backing.now) c.give_turn.new.machine.tasks.printed l.session c.in-Some.chosen (Ok (attempts.Made)) c.attempt.new.machine c.args.paper.now c.attempt.new.paper = rw c.in-Ok-Made.field-0-is at
-    (attempted_here g.K.Sink.taken l.known (g.B.Backing.holds c.args.backing.now) (g.B.Backing.holds c.attempt.new.backing) (length c.give_turn.new.machine.cpu.core) (g.B.Backing.size c.args.backing.now) c.args.machine.now c.give_turn.new.machine c.attempt.new.machine l.session l.member l.task h c.in-Some.chosen (c.in-Some.ensures.choice h.plan l.session h.ordered h.stands.tables) c.give_turn.ensures.stands (c.in-Some.ensures.room h.plan l.session h.ordered h.stands.tables) l.says (Ok c.in-Ok-Made.field-0) c.args.paper.now c.attempt.new.paper c.in-Ok-Made.ensures.row) in
-    made_room g.K.Sink.taken l.known (retold l.known (g.B.Backing.holds c.attempt.new.backing)) (length c.give_turn.new.machine.cpu.core) (g.B.Backing.size c.args.backing.now) c.give_turn.new.machine.tasks.printed l.session c.in-Some.chosen c.attempt.new.machine c.args.paper.now c.attempt.new.paper a
+    made_counts (tries_as c.attempt.result (Ok attempts.Made) (c.in-Ok-Made.is ∙ ap (λ (z : Attempt). Ok z) c.in-Ok-Made.field-0-is) (context g (goal.at.advance-requires-clause-room g c).After-attempt))
+    l.known l.session l.member l.task l.says l.lone
 
 pub advance-requires-clause-one : goal.advance-requires-clause-one
 advance-requires-clause-one g c =
     let l = c.requires.lives in
-    let h = l.lone in
-    let a : Attempted g.K.Sink.taken l.known (retold l.known (g.B.Backing.holds c.attempt.new.backing)) (length c.give_turn.new.machine.cpu.core) (g.B.Backing.size c.args.backing.now) c.give_turn.new.machine.tasks.printed l.session c.in-Some.chosen (Ok (attempts.Made)) c.attempt.new.machine c.args.paper.now c.attempt.new.paper = rw c.in-Ok-Made.field-0-is at
-    (attempted_here g.K.Sink.taken l.known (g.B.Backing.holds c.args.backing.now) (g.B.Backing.holds c.attempt.new.backing) (length c.give_turn.new.machine.cpu.core) (g.B.Backing.size c.args.backing.now) c.args.machine.now c.give_turn.new.machine c.attempt.new.machine l.session l.member l.task h c.in-Some.chosen (c.in-Some.ensures.choice h.plan l.session h.ordered h.stands.tables) c.give_turn.ensures.stands (c.in-Some.ensures.room h.plan l.session h.ordered h.stands.tables) l.says (Ok c.in-Ok-Made.field-0) c.args.paper.now c.attempt.new.paper c.in-Ok-Made.ensures.row) in
-    has_one g.K.Sink.taken l.known (retold l.known (g.B.Backing.holds c.attempt.new.backing)) (length c.give_turn.new.machine.cpu.core) (g.B.Backing.size c.args.backing.now) c.give_turn.new.machine.tasks.printed l.session c.in-Some.chosen c.attempt.new.machine c.args.paper.now c.attempt.new.paper a
+    made_has (tries_as c.attempt.result (Ok attempts.Made) (c.in-Ok-Made.is ∙ ap (λ (z : Attempt). Ok z) c.in-Ok-Made.field-0-is) (context g (goal.at.advance-requires-clause-one g c).After-attempt))
+    l.known l.session l.member l.task l.says l.lone
 
 pub close-requires-clause-room : goal.close-requires-clause-room
 close-requires-clause-room g c =
     let l = c.requires.lives in
-    let h = l.lone in
-    let a : Attempted g.K.Sink.taken l.known (retold l.known (g.B.Backing.holds c.attempt.new.backing)) (length c.give_turn.new.machine.cpu.core) (g.B.Backing.size c.args.backing.now) c.give_turn.new.machine.tasks.printed l.session c.in-Some.chosen (Ok (attempts.Ends c.in-Ok-Ends.ending)) c.attempt.new.machine c.args.paper.now c.attempt.new.paper = rw c.in-Ok-Ends.field-0-is at
-    (attempted_here g.K.Sink.taken l.known (g.B.Backing.holds c.args.backing.now) (g.B.Backing.holds c.attempt.new.backing) (length c.give_turn.new.machine.cpu.core) (g.B.Backing.size c.args.backing.now) c.args.machine.now c.give_turn.new.machine c.attempt.new.machine l.session l.member l.task h c.in-Some.chosen (c.in-Some.ensures.choice h.plan l.session h.ordered h.stands.tables) c.give_turn.ensures.stands (c.in-Some.ensures.room h.plan l.session h.ordered h.stands.tables) l.says (Ok c.in-Ok-Ends.field-0) c.args.paper.now c.attempt.new.paper c.in-Ok-Ends.ensures.row) in
-    ends_room g.K.Sink.taken l.known (retold l.known (g.B.Backing.holds c.attempt.new.backing)) (length c.give_turn.new.machine.cpu.core) (g.B.Backing.size c.args.backing.now) c.give_turn.new.machine.tasks.printed l.session c.in-Some.chosen c.attempt.new.machine c.args.paper.now c.attempt.new.paper c.in-Ok-Ends.ending a
+    ends_counts c.in-Ok-Ends.ending (tries_as c.attempt.result (Ok (attempts.Ends c.in-Ok-Ends.ending)) (c.in-Ok-Ends.is ∙ ap (λ (z : Attempt). Ok z) c.in-Ok-Ends.field-0-is) (context g (goal.at.close-requires-clause-room g c).After-attempt))
+    l.known l.session l.member l.task l.says l.lone
 
 pub close-requires-clause-one : goal.close-requires-clause-one
 close-requires-clause-one g c =
     let l = c.requires.lives in
-    let h = l.lone in
-    let a : Attempted g.K.Sink.taken l.known (retold l.known (g.B.Backing.holds c.attempt.new.backing)) (length c.give_turn.new.machine.cpu.core) (g.B.Backing.size c.args.backing.now) c.give_turn.new.machine.tasks.printed l.session c.in-Some.chosen (Ok (attempts.Ends c.in-Ok-Ends.ending)) c.attempt.new.machine c.args.paper.now c.attempt.new.paper = rw c.in-Ok-Ends.field-0-is at
-    (attempted_here g.K.Sink.taken l.known (g.B.Backing.holds c.args.backing.now) (g.B.Backing.holds c.attempt.new.backing) (length c.give_turn.new.machine.cpu.core) (g.B.Backing.size c.args.backing.now) c.args.machine.now c.give_turn.new.machine c.attempt.new.machine l.session l.member l.task h c.in-Some.chosen (c.in-Some.ensures.choice h.plan l.session h.ordered h.stands.tables) c.give_turn.ensures.stands (c.in-Some.ensures.room h.plan l.session h.ordered h.stands.tables) l.says (Ok c.in-Ok-Ends.field-0) c.args.paper.now c.attempt.new.paper c.in-Ok-Ends.ensures.row) in
-    ends_one g.K.Sink.taken l.known (retold l.known (g.B.Backing.holds c.attempt.new.backing)) (length c.give_turn.new.machine.cpu.core) (g.B.Backing.size c.args.backing.now) c.give_turn.new.machine.tasks.printed l.session c.in-Some.chosen c.attempt.new.machine c.args.paper.now c.attempt.new.paper c.in-Ok-Ends.ending a
+    ends_has c.in-Ok-Ends.ending (tries_as c.attempt.result (Ok (attempts.Ends c.in-Ok-Ends.ending)) (c.in-Ok-Ends.is ∙ ap (λ (z : Attempt). Ok z) c.in-Ok-Ends.field-0-is) (context g (goal.at.close-requires-clause-one g c).After-attempt))
+    l.known l.session l.member l.task l.says l.lone
 
 pub returns-in-Ok-Made-clause-row : goal.returns-in-Ok-Made-clause-row
 returns-in-Ok-Made-clause-row g c = λ known s m t says h.
-    let a : Attempted g.K.Sink.taken known (retold known (g.B.Backing.holds c.attempt.new.backing)) (length c.give_turn.new.machine.cpu.core) (g.B.Backing.size c.args.backing.now) c.give_turn.new.machine.tasks.printed s c.in-Some.chosen (Ok (attempts.Made)) c.attempt.new.machine c.args.paper.now c.attempt.new.paper = rw c.in-Ok-Made.field-0-is at
-    (attempted_here g.K.Sink.taken known (g.B.Backing.holds c.args.backing.now) (g.B.Backing.holds c.attempt.new.backing) (length c.give_turn.new.machine.cpu.core) (g.B.Backing.size c.args.backing.now) c.args.machine.now c.give_turn.new.machine c.attempt.new.machine s m t h c.in-Some.chosen (c.in-Some.ensures.choice h.plan s h.ordered h.stands.tables) c.give_turn.ensures.stands (c.in-Some.ensures.room h.plan s h.ordered h.stands.tables) says (Ok c.in-Ok-Made.field-0) c.args.paper.now c.attempt.new.paper c.in-Ok-Made.ensures.row) in
-    made_steps g.K.Sink.taken known (retold known (g.B.Backing.holds c.attempt.new.backing)) (length c.give_turn.new.machine.cpu.core) (g.B.Backing.size c.args.backing.now) c.give_turn.new.machine.tasks.printed s c.in-Some.chosen c.attempt.new.machine c.args.paper.now c.attempt.new.paper a c.advance.result c.args.machine.now c.advance.new.machine c.advance.new.paper h.stands.tables.counts.made (sym (turned_printed c.args.machine.now.tasks c.give_turn.new.machine.tasks c.in-Some.chosen.row c.give_turn.ensures.tables)) (sym c.give_turn.ensures.len) c.advance.ensures.advances
+    made_row (tries_as c.attempt.result (Ok attempts.Made) (c.in-Ok-Made.is ∙ ap (λ (z : Attempt). Ok z) c.in-Ok-Made.field-0-is) (context g (goal.at.returns-in-Ok-Made-clause-row g c).After-attempt))
+    known s m t says h c.advance.result c.advance.new.machine c.advance.new.paper c.advance.ensures.advances
 
-pub returns-in-Ok-Made-clause-quiet : goal.returns-in-Ok-Made-clause-quiet
-returns-in-Ok-Made-clause-quiet g c = λ known s m t h says wants.
-    quiet_here g.K.Sink.taken known (g.B.Backing.holds c.args.backing.now) (g.B.Backing.holds c.attempt.new.backing) (length c.give_turn.new.machine.cpu.core) (g.B.Backing.size c.args.backing.now) c.args.machine.now c.give_turn.new.machine c.attempt.new.machine s m t h c.in-Some.chosen (c.in-Some.ensures.choice h.plan s h.ordered h.stands.tables) c.give_turn.ensures.stands says c.attempt.ensures.quiet wants
-
-pub returns-in-Ok-Made-clause-unprinted : goal.returns-in-Ok-Made-clause-unprinted
-returns-in-Ok-Made-clause-unprinted g c = λ fine zero. advanced_unprinted g.K.Sink.taken c.in-Some.chosen c.advance.result c.attempt.new.machine c.advance.new.machine c.attempt.new.paper c.advance.new.paper c.advance.ensures.advances fine
-
-pub returns-in-Ok-Made-clause-fits : goal.returns-in-Ok-Made-clause-fits
-returns-in-Ok-Made-clause-fits g c = λ known s m t says tells h.
-    let k = c.args.machine.now in
-    let after = c.give_turn.new.machine in
-    let r = turned known k s m t h c.in-Some.chosen (c.in-Some.ensures.choice h.plan s h.ordered h.stands.tables) after c.give_turn.ensures.stands (c.in-Some.ensures.room h.plan s h.ordered h.stands.tables) in
-    inr (turned_fits known k after s m t c.in-Some.chosen r c.give_turn.ensures.len
-    (c.in-Ok-Made.ensures.fits r.storage r.plan s m t r.ordered (over r.storage known (g.B.Backing.holds c.args.backing.now) after r.plan s says r.stands) r.running r.single.ready (device_told known after s m t c.in-Some.chosen r tells)))
+pub returns-in-Ok-Made-clause-present : goal.returns-in-Ok-Made-clause-present
+returns-in-Ok-Made-clause-present g c = λ known s m t says h.
+    made_present (tries_as c.attempt.result (Ok attempts.Made) (c.in-Ok-Made.is ∙ ap (λ (z : Attempt). Ok z) c.in-Ok-Made.field-0-is) (context g (goal.at.returns-in-Ok-Made-clause-present g c).After-attempt))
+    known s m t says h c.args.backing.now c.attempt.new.backing c.attempt.ensures.quiet c.advance.result c.advance.new.machine c.advance.new.paper c.advance.ensures.advances
 
 pub returns-in-Ok-Made-clause-countable : goal.returns-in-Ok-Made-clause-countable
 returns-in-Ok-Made-clause-countable g c = c.advance.ensures.countable c.attempt.ensures.countable
 
 pub returns-in-Ok-Ends-clause-row : goal.returns-in-Ok-Ends-clause-row
 returns-in-Ok-Ends-clause-row g c = λ known s m t says h.
-    let a : Attempted g.K.Sink.taken known (retold known (g.B.Backing.holds c.attempt.new.backing)) (length c.give_turn.new.machine.cpu.core) (g.B.Backing.size c.args.backing.now) c.give_turn.new.machine.tasks.printed s c.in-Some.chosen (Ok (attempts.Ends c.in-Ok-Ends.ending)) c.attempt.new.machine c.args.paper.now c.attempt.new.paper = rw c.in-Ok-Ends.field-0-is at
-    (attempted_here g.K.Sink.taken known (g.B.Backing.holds c.args.backing.now) (g.B.Backing.holds c.attempt.new.backing) (length c.give_turn.new.machine.cpu.core) (g.B.Backing.size c.args.backing.now) c.args.machine.now c.give_turn.new.machine c.attempt.new.machine s m t h c.in-Some.chosen (c.in-Some.ensures.choice h.plan s h.ordered h.stands.tables) c.give_turn.ensures.stands (c.in-Some.ensures.room h.plan s h.ordered h.stands.tables) says (Ok c.in-Ok-Ends.field-0) c.args.paper.now c.attempt.new.paper c.in-Ok-Ends.ensures.row) in
-    let printed = turned_printed c.args.machine.now.tasks c.give_turn.new.machine.tasks c.in-Some.chosen.row c.give_turn.ensures.tables in
-    ends_steps g.K.Sink.taken known (retold known (g.B.Backing.holds c.attempt.new.backing)) (length c.give_turn.new.machine.cpu.core) (g.B.Backing.size c.args.backing.now) c.give_turn.new.machine.tasks.printed s c.in-Some.chosen c.attempt.new.machine c.args.paper.now c.attempt.new.paper c.in-Ok-Ends.ending a c.close.result c.args.machine.now c.close.new.machine c.close.new.paper h.stands.tables.counts.made (sym printed) (ended_printed c.in-Ok-Ends.ending c.give_turn.new.machine.tasks c.attempt.new.machine.tasks (rw c.in-Ok-Ends.field-0-is at c.in-Ok-Ends.ensures.tables)) (sym c.give_turn.ensures.len) c.close.ensures.closes c.close.ensures.over
+    ends_row c.in-Ok-Ends.ending (tries_as c.attempt.result (Ok (attempts.Ends c.in-Ok-Ends.ending)) (c.in-Ok-Ends.is ∙ ap (λ (z : Attempt). Ok z) c.in-Ok-Ends.field-0-is) (context g (goal.at.returns-in-Ok-Ends-clause-row g c).After-attempt))
+    known s m t says h c.requires.due c.close.result c.close.new.machine c.close.new.paper
+    (c.close.ensures.halt ∙ halted g (goal.at.returns-in-Ok-Ends-clause-row g c).After-attempt) c.close.ensures.closes c.close.ensures.over
 
-pub returns-in-Ok-Ends-clause-quiet : goal.returns-in-Ok-Ends-clause-quiet
-returns-in-Ok-Ends-clause-quiet g c = λ known s m t h says wants.
-    quiet_here g.K.Sink.taken known (g.B.Backing.holds c.args.backing.now) (g.B.Backing.holds c.attempt.new.backing) (length c.give_turn.new.machine.cpu.core) (g.B.Backing.size c.args.backing.now) c.args.machine.now c.give_turn.new.machine c.attempt.new.machine s m t h c.in-Some.chosen (c.in-Some.ensures.choice h.plan s h.ordered h.stands.tables) c.give_turn.ensures.stands says c.attempt.ensures.quiet wants
-
-pub returns-in-Ok-Ends-clause-fits : goal.returns-in-Ok-Ends-clause-fits
-returns-in-Ok-Ends-clause-fits g c = λ known s m t says tells h.
-    let k = c.args.machine.now in
-    let after = c.give_turn.new.machine in
-    let r = turned known k s m t h c.in-Some.chosen (c.in-Some.ensures.choice h.plan s h.ordered h.stands.tables) after c.give_turn.ensures.stands (c.in-Some.ensures.room h.plan s h.ordered h.stands.tables) in
-    inr (turned_fits known k after s m t c.in-Some.chosen r c.give_turn.ensures.len
-    (c.in-Ok-Ends.ensures.fits r.storage r.plan s m t r.ordered (over r.storage known (g.B.Backing.holds c.args.backing.now) after r.plan s says r.stands) r.running r.single.ready (device_told known after s m t c.in-Some.chosen r tells)))
+pub returns-in-Ok-Ends-clause-present : goal.returns-in-Ok-Ends-clause-present
+returns-in-Ok-Ends-clause-present g c = λ known s m t says h.
+    ends_present c.in-Ok-Ends.ending (tries_as c.attempt.result (Ok (attempts.Ends c.in-Ok-Ends.ending)) (c.in-Ok-Ends.is ∙ ap (λ (z : Attempt). Ok z) c.in-Ok-Ends.field-0-is) (context g (goal.at.returns-in-Ok-Ends-clause-present g c).After-attempt))
+    known s m t says h c.args.backing.now c.attempt.new.backing c.attempt.ensures.quiet c.close.result c.close.new.machine c.close.new.paper c.close.ensures.closes
 
 pub returns-in-Ok-Ends-clause-countable : goal.returns-in-Ok-Ends-clause-countable
 returns-in-Ok-Ends-clause-countable g c = c.close.ensures.countable c.attempt.ensures.countable
 
 pub returns-in-Err-clause-row : goal.returns-in-Err-clause-row
 returns-in-Err-clause-row g c = λ known s m t says h.
-    let a : Attempted g.K.Sink.taken known (retold known (g.B.Backing.holds c.attempt.new.backing)) (length c.give_turn.new.machine.cpu.core) (g.B.Backing.size c.args.backing.now) c.give_turn.new.machine.tasks.printed s c.in-Some.chosen (Err c.in-Err.stop) c.attempt.new.machine c.args.paper.now c.attempt.new.paper =
-    attempted_here g.K.Sink.taken known (g.B.Backing.holds c.args.backing.now) (g.B.Backing.holds c.attempt.new.backing) (length c.give_turn.new.machine.cpu.core) (g.B.Backing.size c.args.backing.now) c.args.machine.now c.give_turn.new.machine c.attempt.new.machine s m t h c.in-Some.chosen (c.in-Some.ensures.choice h.plan s h.ordered h.stands.tables) c.give_turn.ensures.stands (c.in-Some.ensures.room h.plan s h.ordered h.stands.tables) says (Err c.in-Err.stop) c.args.paper.now c.attempt.new.paper c.in-Err.ensures.row in
-    let printed = turned_printed c.args.machine.now.tasks c.give_turn.new.machine.tasks c.in-Some.chosen.row c.give_turn.ensures.tables in
-    stop_steps g.K.Sink.taken known (retold known (g.B.Backing.holds c.attempt.new.backing)) (length c.give_turn.new.machine.cpu.core) (g.B.Backing.size c.args.backing.now) c.give_turn.new.machine.tasks.printed s c.in-Some.chosen c.attempt.new.machine c.args.paper.now c.attempt.new.paper c.in-Err.stop a c.args.machine.now h.stands.tables.counts.made (sym printed) (sym c.give_turn.ensures.len) (λ other. stop_printed c.in-Err.stop c.give_turn.new.machine.tasks c.attempt.new.machine.tasks c.in-Err.ensures.tables other ∙ printed)
+    stop_row c.in-Err.stop (tries_as c.attempt.result (Err c.in-Err.stop) c.in-Err.is (context g (goal.at.returns-in-Err-clause-row g c).After-attempt)) known s m t says h c.requires.due (halted g (goal.at.returns-in-Err-clause-row g c).After-attempt)
 
-pub returns-in-Err-clause-quiet : goal.returns-in-Err-clause-quiet
-returns-in-Err-clause-quiet g c = λ known s m t h says wants.
-    quiet_here g.K.Sink.taken known (g.B.Backing.holds c.args.backing.now) (g.B.Backing.holds c.attempt.new.backing) (length c.give_turn.new.machine.cpu.core) (g.B.Backing.size c.args.backing.now) c.args.machine.now c.give_turn.new.machine c.attempt.new.machine s m t h c.in-Some.chosen (c.in-Some.ensures.choice h.plan s h.ordered h.stands.tables) c.give_turn.ensures.stands says c.attempt.ensures.quiet wants
-
-pub returns-in-Err-clause-unprinted : goal.returns-in-Err-clause-unprinted
-returns-in-Err-clause-unprinted g c = λ fine zero.
-    stop_printed c.in-Err.stop c.give_turn.new.machine.tasks c.attempt.new.machine.tasks c.in-Err.ensures.tables (λ e. fine (ap (λ (x : Stop). Err x) e)) ∙ turned_printed c.args.machine.now.tasks c.give_turn.new.machine.tasks c.in-Some.chosen.row c.give_turn.ensures.tables ∙ zero
-
-pub returns-in-Err-clause-fits : goal.returns-in-Err-clause-fits
-returns-in-Err-clause-fits g c = λ known s m t says tells h.
-    inl (stop_made c.in-Err.stop c.give_turn.new.machine.tasks c.attempt.new.machine.tasks c.in-Err.ensures.tables ∙ turned_made c.args.machine.now.tasks c.give_turn.new.machine.tasks c.in-Some.chosen.row c.give_turn.ensures.tables)
+pub returns-in-Err-clause-present : goal.returns-in-Err-clause-present
+returns-in-Err-clause-present g c = λ known s m t says h.
+    stop_present c.in-Err.stop (tries_as c.attempt.result (Err c.in-Err.stop) c.in-Err.is (context g (goal.at.returns-in-Err-clause-present g c).After-attempt)) known s m t says h
+    c.args.backing.now c.attempt.new.backing c.attempt.ensures.quiet

@@ -1,12 +1,16 @@
 use Rattle.std.proofs.Common.{◌≡◌, ◌∙◌, Err, Ok, refl, sym, ap, length}
-use Rattle.b67_layout_storage.specs.Machine.{retold}
+use Rattle.b67_layout_storage.specs.Machine.{content_after}
 use Rattle.b67_layout_storage.proofs.Devices.{still_tells}
 use Rattle.b67_task_tables.specs.declared.tables.Machine.{Machine}
 use Rattle.b67_task_tables.specs.declared.tables.Tasks.{Tasks}
-use Rattle.b67_mcp.specs.declared.ends.Stop.TheVariants.{BackingFault}
+use Rattle.b67_mcp.specs.declared.ends.Stop.TheVariants.{BackingFault, PrintFault}
 use Rattle.b67_session_attempt.specs.declared.attempts.Attempt.TheVariants.{Made, Ends}
-use Rattle.b67_session_attempt.proofs.Composed.{made_once, ends_once, stops_once, no_device_fault, never, unchanged_over, told_is, goes_on_telling, stopped_attempt, runs_over, wants_some, tables_after_end, tables_after_want, tables_after_stop, tables_stay, tables_from, room_after_stop, no_room_asked, attempt_as, same_needs, still_told, other, in_order, code_there, then_coded}
+use Rattle.b67_session_attempt.proofs.Composed.{made_once, ends_once, stops_once, no_device_fault, never, unchanged_over, told_is, goes_on_telling, stopped_attempt, runs_over, wants_some, tables_after_end, tables_after_want, tables_after_stop, tables_stay, tables_from, room_after_stop, attempt_as, same_needs, still_told, other, in_order, code_there, then_coded, room_after_want}
+use Rattle.b67_session_attempt.proofs.Runs.{ready_over, rose_later, heard_stop, heard_later}
 use Rattle.b67_session_attempt.proofs.attempting.attempt.Goals as goal
+
+pub try_once-requires-clause-runs : goal.try_once-requires-clause-runs
+try_once-requires-clause-runs g c = ready_over c.args.machine.now (g.B.Backing.holds c.args.backing.now) c.requires.runs
 
 pub bring_wanted-requires-clause-wants : goal.bring_wanted-requires-clause-wants
 bring_wanted-requires-clause-wants g c =
@@ -29,7 +33,7 @@ returns-in-Ok-Made-clause-row g c = λ x plan s m t o h runs ready.
     let told = g.B.Backing.holds c.args.backing.now in
     let core = length c.args.machine.now.cpu.core in
     let count = g.B.Backing.size c.args.backing.now in
-    attempt_as g.K.Sink.taken x x.device (retold x.device told) core core count count c.args.machine.now.tasks.printed c.args.machine.now.tasks.printed plan s t (Ok Made) c.try_once.new.machine c.args.paper.now c.args.paper.now c.try_once.new.paper (sym (told_is x.device told h.says)) refl refl refl refl
+    attempt_as g.K.Sink.taken x x.device (content_after x.device told) core core count count c.args.machine.now.tasks.printed c.args.machine.now.tasks.printed plan s t (Ok Made) c.try_once.new.machine c.args.paper.now c.args.paper.now c.try_once.new.paper (sym (told_is x.device told h.says)) refl refl refl refl
     (made_once g.K.Sink.taken x core count plan s m t o runs c.args.machine.now c.try_once.new.machine h.stands c.args.paper.now c.try_once.new.paper
     ((rw c.in-Ok-Made.field-0-is at c.in-Ok-Made.ensures.row) x x.device plan s m t o h.stands runs ready))
 
@@ -38,7 +42,7 @@ returns-in-Ok-Ends-clause-row g c = λ x plan s m t o h runs ready.
     let told = g.B.Backing.holds c.args.backing.now in
     let core = length c.args.machine.now.cpu.core in
     let count = g.B.Backing.size c.args.backing.now in
-    attempt_as g.K.Sink.taken x x.device (retold x.device told) core core count count c.args.machine.now.tasks.printed c.args.machine.now.tasks.printed plan s t (Ok (Ends c.in-Ok-Ends.ending)) c.try_once.new.machine c.args.paper.now c.args.paper.now c.try_once.new.paper (sym (told_is x.device told h.says)) refl refl refl refl
+    attempt_as g.K.Sink.taken x x.device (content_after x.device told) core core count count c.args.machine.now.tasks.printed c.args.machine.now.tasks.printed plan s t (Ok (Ends c.in-Ok-Ends.ending)) c.try_once.new.machine c.args.paper.now c.args.paper.now c.try_once.new.paper (sym (told_is x.device told h.says)) refl refl refl refl
     (ends_once g.K.Sink.taken x core count plan s m t o runs c.args.machine.now c.try_once.new.machine h.stands c.args.paper.now c.try_once.new.paper c.in-Ok-Ends.ending
     ((rw c.in-Ok-Ends.field-0-is at c.in-Ok-Ends.ensures.row) x x.device plan s m t o h.stands runs ready))
 
@@ -47,17 +51,37 @@ returns-in-Err-clause-row g c = λ x plan s m t o h runs ready.
     let told = g.B.Backing.holds c.args.backing.now in
     let core = length c.args.machine.now.cpu.core in
     let count = g.B.Backing.size c.args.backing.now in
-    attempt_as g.K.Sink.taken x x.device (retold x.device told) core core count count c.args.machine.now.tasks.printed c.args.machine.now.tasks.printed plan s t (Err c.in-Err.stop) c.try_once.new.machine c.args.paper.now c.args.paper.now c.try_once.new.paper (sym (told_is x.device told h.says)) refl refl refl refl
+    attempt_as g.K.Sink.taken x x.device (content_after x.device told) core core count count c.args.machine.now.tasks.printed c.args.machine.now.tasks.printed plan s t (Err c.in-Err.stop) c.try_once.new.machine c.args.paper.now c.args.paper.now c.try_once.new.paper (sym (told_is x.device told h.says)) refl refl refl refl
     (stops_once g.K.Sink.taken x core count plan s m t o runs c.args.machine.now c.try_once.new.machine h.stands c.args.paper.now c.try_once.new.paper c.in-Err.stop
     (c.in-Err.ensures.row x x.device plan s m t o h.stands runs ready))
 
-pub returns-in-Err-clause-full_cause : goal.returns-in-Err-clause-full_cause
-returns-in-Err-clause-full_cause g c = λ e.
+pub returns-in-Ok-Made-clause-causes : goal.returns-in-Ok-Made-clause-causes
+returns-in-Ok-Made-clause-causes g c = record { device = λ e. absurd cc; printer = record { later = c.try_once.ensures.cause.later; failed = λ e. absurd cc } }
+
+pub returns-in-Ok-Ends-clause-causes : goal.returns-in-Ok-Ends-clause-causes
+returns-in-Ok-Ends-clause-causes g c = record { device = λ e. absurd cc; printer = record { later = c.try_once.ensures.cause.later; failed = λ e. absurd cc } }
+
+pub returns-in-Err-clause-causes : goal.returns-in-Err-clause-causes
+returns-in-Err-clause-causes g c =
     let r = c.requires.runs in
     let never = no_device_fault g.K.Sink.taken r.storage r.storage.device r.plan r.session r.member r.task c.in-Err.stop c.args.machine.now c.try_once.new.machine c.args.paper.now c.try_once.new.paper
     (c.in-Err.ensures.row r.storage r.storage.device r.plan r.session r.member r.task r.ordered r.stands.stands r.running r.ready) in
-    let is : c.in-Err.stop ≡ BackingFault = cc in
-    absurd (never is)
+    record {
+      device = λ e. let is : c.in-Err.stop ≡ BackingFault = cc in absurd (never is);
+      printer = heard_stop g.K.Sink.faults c.args.paper.now c.try_once.new.paper c.in-Err.stop c.in-Err.ensures.cause;
+    }
+
+pub returns-in-Err-bring_wanted-clause-causes : goal.returns-in-Err-bring_wanted-clause-causes
+returns-in-Err-bring_wanted-clause-causes g c = record {
+  device = λ e. (let is : c.in-Err-bring_wanted.stop ≡ BackingFault = cc in c.in-Err-bring_wanted.ensures.cause (ap Err is));
+  printer = record { later = c.try_once.ensures.cause.later; failed = λ e. (let is : c.in-Err-bring_wanted.stop ≡ PrintFault = cc in absurd (c.in-Err-bring_wanted.ensures.silent (ap Err is))) };
+}
+
+pub returns-in-Ok-clause-causes : goal.returns-in-Ok-clause-causes
+returns-in-Ok-clause-causes g c = record {
+  device = λ e. rose_later g.B.Backing.faults c.args.backing.now c.bring_wanted.new.backing c.with_code.new.backing c.bring_wanted.ensures.device.faults (c.with_code.ensures.full_cause e);
+  printer = heard_later g.K.Sink.faults c.args.paper.now c.try_once.new.paper c.with_code.new.paper c.with_code.result c.try_once.ensures.cause.later (record { later = c.with_code.ensures.later; failed = c.with_code.ensures.print_cause });
+}
 
 pub returns-in-Err-bring_wanted-clause-row : goal.returns-in-Err-bring_wanted-clause-row
 returns-in-Err-bring_wanted-clause-row g c = λ x plan s m t o h runs ready.
@@ -66,9 +90,9 @@ returns-in-Err-bring_wanted-clause-row g c = λ x plan s m t o h runs ready.
     let w = (rw c.in-Ok-Absent.field-0-is at c.in-Ok-Absent.ensures.row) x x.device plan s m t o h.stands runs ready in
     let k = unchanged_over x told plan s c.args.machine.now c.try_once.new.machine w.3 h in
     let stop = c.in-Err-bring_wanted.stop in
-    attempt_as g.K.Sink.taken x (retold x.device told') (retold x.device told') (length c.try_once.new.machine.cpu.core) (length c.args.machine.now.cpu.core) (g.B.Backing.size c.args.backing.now) (g.B.Backing.size c.args.backing.now) c.args.machine.now.tasks.printed c.args.machine.now.tasks.printed plan s t (Err stop) c.bring_wanted.new.machine
+    attempt_as g.K.Sink.taken x (content_after x.device told') (content_after x.device told') (length c.try_once.new.machine.cpu.core) (length c.args.machine.now.cpu.core) (g.B.Backing.size c.args.backing.now) (g.B.Backing.size c.args.backing.now) c.args.machine.now.tasks.printed c.args.machine.now.tasks.printed plan s t (Err stop) c.bring_wanted.new.machine
     c.args.paper.now c.try_once.new.paper c.try_once.new.paper refl (ap (λ (z : Machine). length z.cpu.core) w.3) refl refl w.4
-    (stopped_attempt g.K.Sink.taken x (retold x.device told') (length c.try_once.new.machine.cpu.core) (g.B.Backing.size c.args.backing.now) c.args.machine.now.tasks.printed plan s t stop c.bring_wanted.new.machine c.try_once.new.paper
+    (stopped_attempt g.K.Sink.taken x (content_after x.device told') (length c.try_once.new.machine.cpu.core) (g.B.Backing.size c.args.backing.now) c.args.machine.now.tasks.printed plan s t stop c.bring_wanted.new.machine c.try_once.new.paper
     (c.in-Err-bring_wanted.ensures.row x plan s m t w.0 o k runs w.1 w.2))
 
 pub returns-in-Ok-clause-row : goal.returns-in-Ok-clause-row
@@ -111,10 +135,16 @@ returns-in-Ok-clause-fits g c = λ x plan s m t o h runs ready n.
     (code_there x told' new plan s m t o runs found b) still)
 
 pub returns-in-Err-clause-fits : goal.returns-in-Err-clause-fits
-returns-in-Err-clause-fits g c = λ x plan s m t o h runs ready tells. room_after_stop (length c.args.machine.now.cpu.core) s m t c.in-Err.stop (c.in-Err.ensures.fits x x.device plan s m t o h.stands runs ready)
+returns-in-Err-clause-fits g c = λ x plan s m t o h runs ready tells.
+    room_after_stop g.K.Sink.taken x.device c.args.machine.now c.try_once.new.machine c.args.paper.now c.try_once.new.paper (length c.args.machine.now.cpu.core) x plan s m t c.in-Err.stop
+    (c.in-Err.ensures.row x x.device plan s m t o h.stands runs ready) (c.in-Err.ensures.fits x x.device plan s m t o h.stands runs ready)
 
 pub returns-in-Err-bring_wanted-clause-fits : goal.returns-in-Err-bring_wanted-clause-fits
-returns-in-Err-bring_wanted-clause-fits g c = λ x plan s m t o h runs ready tells. no_room_asked (length c.args.machine.now.cpu.core) s m t c.in-Err-bring_wanted.stop (λ e. c.in-Err-bring_wanted.ensures.silent (ap Err e))
+returns-in-Err-bring_wanted-clause-fits g c = λ x plan s m t o h runs ready tells.
+    let w = (rw c.in-Ok-Absent.field-0-is at c.in-Ok-Absent.ensures.row) x x.device plan s m t o h.stands runs ready in
+    let k = unchanged_over x (g.B.Backing.holds c.args.backing.now) plan s c.args.machine.now c.try_once.new.machine w.3 h in
+    room_after_want (length c.args.machine.now.cpu.core) (length c.try_once.new.machine.cpu.core) x plan s m t c.in-Err-bring_wanted.stop (ap (λ (z : Machine). length z.cpu.core) w.3)
+    (λ e. c.in-Err-bring_wanted.ensures.silent (ap Err e)) (c.in-Err-bring_wanted.ensures.fits x plan s m t w.0 o k runs w.1 w.2)
 
 pub returns-in-Ok-Ends-clause-tables : goal.returns-in-Ok-Ends-clause-tables
 returns-in-Ok-Ends-clause-tables g c =

@@ -26,9 +26,9 @@ returns-in-Err-clause-row g c = λ x core count plan s m t o h runs ready none.
 
 pub returns-in-Err-clause-full : goal.returns-in-Err-clause-full
 returns-in-Err-clause-full g c = λ e.
-    let r = c.requires.runs in
+    let r = c.requires.runs.runs in
     let never = no_device_fault g.K.Sink.taken r.storage r.told r.plan r.session r.member r.task c.in-Err.stop c.args.machine.now c.try_once.new.machine c.args.paper.now c.try_once.new.paper
-    (c.in-Err.ensures.row r.storage r.told r.plan r.session r.member r.task r.ordered r.stands r.running r.ready) in
+    (c.in-Err.ensures.row r.storage r.told r.plan r.session r.member r.task r.ordered r.stands r.running c.requires.runs.ready) in
     let is : c.in-Err.stop ≡ BackingFault = cc in
     never is
 
@@ -44,22 +44,24 @@ returns-in-Ok-Absent-clause-fits g c = λ x plan s m t o h runs ready none.
     ((rw c.in-Ok-Absent.field-0-is at c.in-Ok-Absent.ensures.row) x x.device plan s m t o h runs ready))
 
 pub returns-in-Err-clause-fits : goal.returns-in-Err-clause-fits
-returns-in-Err-clause-fits g c = λ x plan s m t o h runs ready none. room_after_stop (length c.args.machine.now.cpu.core) s m t c.in-Err.stop (c.in-Err.ensures.fits x x.device plan s m t o h runs ready)
+returns-in-Err-clause-fits g c = λ x plan s m t o h runs ready none.
+    room_after_stop g.K.Sink.taken x.device c.args.machine.now c.try_once.new.machine c.args.paper.now c.try_once.new.paper (length c.args.machine.now.cpu.core) x plan s m t c.in-Err.stop
+    (c.in-Err.ensures.row x x.device plan s m t o h runs ready) (c.in-Err.ensures.fits x x.device plan s m t o h runs ready)
 
 pub returns-in-Ok-Ends-clause-tables : goal.returns-in-Ok-Ends-clause-tables
 returns-in-Ok-Ends-clause-tables g c =
-    let r = c.requires.runs in
+    let r = c.requires.runs.runs in
     tables_after_end g.K.Sink.taken r.storage r.told r.plan r.session r.member r.task c.in-Ok-Ends.ending c.args.machine.now c.try_once.new.machine c.args.paper.now c.try_once.new.paper
-    ((rw c.in-Ok-Ends.field-0-is at c.in-Ok-Ends.ensures.row) r.storage r.told r.plan r.session r.member r.task r.ordered r.stands r.running r.ready)
+    ((rw c.in-Ok-Ends.field-0-is at c.in-Ok-Ends.ensures.row) r.storage r.told r.plan r.session r.member r.task r.ordered r.stands r.running c.requires.runs.ready)
 
 pub returns-in-Ok-Absent-clause-tables : goal.returns-in-Ok-Absent-clause-tables
 returns-in-Ok-Absent-clause-tables g c =
-    let r = c.requires.runs in
+    let r = c.requires.runs.runs in
     tables_after_want g.K.Sink.taken r.storage r.told r.plan r.session r.member r.task c.in-Ok-Absent.field-0-0 c.args.machine.now c.try_once.new.machine c.args.paper.now c.try_once.new.paper
-    ((rw c.in-Ok-Absent.field-0-is at c.in-Ok-Absent.ensures.row) r.storage r.told r.plan r.session r.member r.task r.ordered r.stands r.running r.ready)
+    ((rw c.in-Ok-Absent.field-0-is at c.in-Ok-Absent.ensures.row) r.storage r.told r.plan r.session r.member r.task r.ordered r.stands r.running c.requires.runs.ready)
 
 pub returns-in-Err-clause-tables : goal.returns-in-Err-clause-tables
 returns-in-Err-clause-tables g c =
-    let r = c.requires.runs in
+    let r = c.requires.runs.runs in
     tables_after_stop g.K.Sink.taken r.storage r.told r.plan r.session r.member r.task c.in-Err.stop c.args.machine.now c.try_once.new.machine c.args.paper.now c.try_once.new.paper
-    (c.in-Err.ensures.row r.storage r.told r.plan r.session r.member r.task r.ordered r.stands r.running r.ready)
+    (c.in-Err.ensures.row r.storage r.told r.plan r.session r.member r.task r.ordered r.stands r.running c.requires.runs.ready)

@@ -1,12 +1,16 @@
 use Rattle.std.proofs.Common.{◌≡◌, ◌∙◌, Err, Ok, refl, sym, ap, length}
-use Rattle.b67_layout_storage.specs.Machine.{retold}
+use Rattle.b67_layout_storage.specs.Machine.{content_after}
 use Rattle.b67_layout_storage.proofs.Devices.{still_tells}
 use Rattle.b67_task_tables.specs.declared.tables.Machine.{Machine}
 use Rattle.b67_task_tables.specs.declared.tables.Tasks.{Tasks}
 use Rattle.b67_mcp.specs.declared.ends.Stop.TheVariants.{BackingFault}
 use Rattle.b67_session_attempt.specs.declared.attempts.Attempt.TheVariants.{Made, Ends}
-use Rattle.b67_session_attempt.proofs.Composed.{made_once, ends_once, stops_once, no_device_fault, unchanged_over, told_is, goes_on_telling, stopped_attempt, runs_over, wants_some, tables_after_end, tables_after_want, tables_after_stop, tables_stay, tables_from, room_after_stop, no_room_asked, attempt_as, same_needs, still_told, other, in_order, wants_nothing, then_last}
+use Rattle.b67_session_attempt.proofs.Composed.{made_once, ends_once, stops_once, no_device_fault, unchanged_over, told_is, goes_on_telling, stopped_attempt, runs_over, wants_some, tables_after_end, tables_after_want, tables_after_stop, tables_stay, tables_from, room_after_stop, attempt_as, same_needs, still_told, other, in_order, wants_nothing, then_last, room_after_want}
+use Rattle.b67_session_attempt.proofs.Runs.{ready_over}
 use Rattle.b67_session_attempt.proofs.attempting.with_code.Goals as goal
+
+pub try_once-requires-clause-runs : goal.try_once-requires-clause-runs
+try_once-requires-clause-runs g c = ready_over c.args.machine.now (g.B.Backing.holds c.args.backing.now) c.requires.runs
 
 pub bring_wanted-requires-clause-wants : goal.bring_wanted-requires-clause-wants
 bring_wanted-requires-clause-wants g c =
@@ -21,15 +25,15 @@ last_try-requires-clause-runs g c =
     let w = (rw c.in-Ok-Absent.field-0-is at c.in-Ok-Absent.ensures.row) r.storage r.storage.device r.plan r.session r.member r.task r.ordered r.stands.stands r.running r.ready in
     let k = unchanged_over r.storage told r.plan r.session c.args.machine.now c.try_once.new.machine w.3 r.stands in
     let b = c.in-Ok.ensures.row r.storage r.plan r.session r.member r.task w.0 r.ordered k r.running w.1 w.2 in
-    let over = runs_over r.storage (g.B.Backing.holds c.bring_wanted.new.backing) c.bring_wanted.new.machine r.plan r.session r.member r.task r.ordered r.running c.in-Ok-Absent.wanted b r.ready in
-    record { storage = over.storage; told = over.storage.device; plan = over.plan; session = over.session; member = over.member; task = over.task; ordered = over.ordered; stands = over.stands.stands; running = over.running; ready = over.ready }
+    let now = g.B.Backing.holds c.bring_wanted.new.backing in
+    ready_over c.bring_wanted.new.machine now (runs_over r.storage now c.bring_wanted.new.machine r.plan r.session r.member r.task r.ordered r.running c.in-Ok-Absent.wanted b r.ready)
 
 pub returns-in-Ok-Made-clause-row : goal.returns-in-Ok-Made-clause-row
 returns-in-Ok-Made-clause-row g c = λ x plan s m t o h runs ready code.
     let told = g.B.Backing.holds c.args.backing.now in
     let core = length c.args.machine.now.cpu.core in
     let count = g.B.Backing.size c.args.backing.now in
-    attempt_as g.K.Sink.taken x x.device (retold x.device told) core core count count c.args.machine.now.tasks.printed c.args.machine.now.tasks.printed plan s t (Ok Made) c.try_once.new.machine c.args.paper.now c.args.paper.now c.try_once.new.paper (sym (told_is x.device told h.says)) refl refl refl refl
+    attempt_as g.K.Sink.taken x x.device (content_after x.device told) core core count count c.args.machine.now.tasks.printed c.args.machine.now.tasks.printed plan s t (Ok Made) c.try_once.new.machine c.args.paper.now c.args.paper.now c.try_once.new.paper (sym (told_is x.device told h.says)) refl refl refl refl
     (made_once g.K.Sink.taken x core count plan s m t o runs c.args.machine.now c.try_once.new.machine h.stands c.args.paper.now c.try_once.new.paper
     ((rw c.in-Ok-Made.field-0-is at c.in-Ok-Made.ensures.row) x x.device plan s m t o h.stands runs ready))
 
@@ -38,7 +42,7 @@ returns-in-Ok-Ends-clause-row g c = λ x plan s m t o h runs ready code.
     let told = g.B.Backing.holds c.args.backing.now in
     let core = length c.args.machine.now.cpu.core in
     let count = g.B.Backing.size c.args.backing.now in
-    attempt_as g.K.Sink.taken x x.device (retold x.device told) core core count count c.args.machine.now.tasks.printed c.args.machine.now.tasks.printed plan s t (Ok (Ends c.in-Ok-Ends.ending)) c.try_once.new.machine c.args.paper.now c.args.paper.now c.try_once.new.paper (sym (told_is x.device told h.says)) refl refl refl refl
+    attempt_as g.K.Sink.taken x x.device (content_after x.device told) core core count count c.args.machine.now.tasks.printed c.args.machine.now.tasks.printed plan s t (Ok (Ends c.in-Ok-Ends.ending)) c.try_once.new.machine c.args.paper.now c.args.paper.now c.try_once.new.paper (sym (told_is x.device told h.says)) refl refl refl refl
     (ends_once g.K.Sink.taken x core count plan s m t o runs c.args.machine.now c.try_once.new.machine h.stands c.args.paper.now c.try_once.new.paper c.in-Ok-Ends.ending
     ((rw c.in-Ok-Ends.field-0-is at c.in-Ok-Ends.ensures.row) x x.device plan s m t o h.stands runs ready))
 
@@ -47,7 +51,7 @@ returns-in-Err-clause-row g c = λ x plan s m t o h runs ready code.
     let told = g.B.Backing.holds c.args.backing.now in
     let core = length c.args.machine.now.cpu.core in
     let count = g.B.Backing.size c.args.backing.now in
-    attempt_as g.K.Sink.taken x x.device (retold x.device told) core core count count c.args.machine.now.tasks.printed c.args.machine.now.tasks.printed plan s t (Err c.in-Err.stop) c.try_once.new.machine c.args.paper.now c.args.paper.now c.try_once.new.paper (sym (told_is x.device told h.says)) refl refl refl refl
+    attempt_as g.K.Sink.taken x x.device (content_after x.device told) core core count count c.args.machine.now.tasks.printed c.args.machine.now.tasks.printed plan s t (Err c.in-Err.stop) c.try_once.new.machine c.args.paper.now c.args.paper.now c.try_once.new.paper (sym (told_is x.device told h.says)) refl refl refl refl
     (stops_once g.K.Sink.taken x core count plan s m t o runs c.args.machine.now c.try_once.new.machine h.stands c.args.paper.now c.try_once.new.paper c.in-Err.stop
     (c.in-Err.ensures.row x x.device plan s m t o h.stands runs ready))
 
@@ -66,9 +70,9 @@ returns-in-Err-bring_wanted-clause-row g c = λ x plan s m t o h runs ready code
     let w = (rw c.in-Ok-Absent.field-0-is at c.in-Ok-Absent.ensures.row) x x.device plan s m t o h.stands runs ready in
     let k = unchanged_over x told plan s c.args.machine.now c.try_once.new.machine w.3 h in
     let stop = c.in-Err-bring_wanted.stop in
-    attempt_as g.K.Sink.taken x (retold x.device told') (retold x.device told') (length c.try_once.new.machine.cpu.core) (length c.args.machine.now.cpu.core) (g.B.Backing.size c.args.backing.now) (g.B.Backing.size c.args.backing.now) c.args.machine.now.tasks.printed c.args.machine.now.tasks.printed plan s t (Err stop) c.bring_wanted.new.machine
+    attempt_as g.K.Sink.taken x (content_after x.device told') (content_after x.device told') (length c.try_once.new.machine.cpu.core) (length c.args.machine.now.cpu.core) (g.B.Backing.size c.args.backing.now) (g.B.Backing.size c.args.backing.now) c.args.machine.now.tasks.printed c.args.machine.now.tasks.printed plan s t (Err stop) c.bring_wanted.new.machine
     c.args.paper.now c.try_once.new.paper c.try_once.new.paper refl (ap (λ (z : Machine). length z.cpu.core) w.3) refl refl w.4
-    (stopped_attempt g.K.Sink.taken x (retold x.device told') (length c.try_once.new.machine.cpu.core) (g.B.Backing.size c.args.backing.now) c.args.machine.now.tasks.printed plan s t stop c.bring_wanted.new.machine c.try_once.new.paper
+    (stopped_attempt g.K.Sink.taken x (content_after x.device told') (length c.try_once.new.machine.cpu.core) (g.B.Backing.size c.args.backing.now) c.args.machine.now.tasks.printed plan s t stop c.bring_wanted.new.machine c.try_once.new.paper
     (c.in-Err-bring_wanted.ensures.row x plan s m t w.0 o k runs w.1 w.2))
 
 pub returns-in-Ok-clause-row : goal.returns-in-Ok-clause-row
@@ -110,10 +114,16 @@ returns-in-Ok-clause-fits g c = λ x plan s m t o h runs ready code n.
     (wants_nothing x told' new plan s m t o runs found b w.0 code w.1 w.2 still))
 
 pub returns-in-Err-clause-fits : goal.returns-in-Err-clause-fits
-returns-in-Err-clause-fits g c = λ x plan s m t o h runs ready code tells. room_after_stop (length c.args.machine.now.cpu.core) s m t c.in-Err.stop (c.in-Err.ensures.fits x x.device plan s m t o h.stands runs ready)
+returns-in-Err-clause-fits g c = λ x plan s m t o h runs ready code tells.
+    room_after_stop g.K.Sink.taken x.device c.args.machine.now c.try_once.new.machine c.args.paper.now c.try_once.new.paper (length c.args.machine.now.cpu.core) x plan s m t c.in-Err.stop
+    (c.in-Err.ensures.row x x.device plan s m t o h.stands runs ready) (c.in-Err.ensures.fits x x.device plan s m t o h.stands runs ready)
 
 pub returns-in-Err-bring_wanted-clause-fits : goal.returns-in-Err-bring_wanted-clause-fits
-returns-in-Err-bring_wanted-clause-fits g c = λ x plan s m t o h runs ready code tells. no_room_asked (length c.args.machine.now.cpu.core) s m t c.in-Err-bring_wanted.stop (λ e. c.in-Err-bring_wanted.ensures.silent (ap Err e))
+returns-in-Err-bring_wanted-clause-fits g c = λ x plan s m t o h runs ready code tells.
+    let w = (rw c.in-Ok-Absent.field-0-is at c.in-Ok-Absent.ensures.row) x x.device plan s m t o h.stands runs ready in
+    let k = unchanged_over x (g.B.Backing.holds c.args.backing.now) plan s c.args.machine.now c.try_once.new.machine w.3 h in
+    room_after_want (length c.args.machine.now.cpu.core) (length c.try_once.new.machine.cpu.core) x plan s m t c.in-Err-bring_wanted.stop (ap (λ (z : Machine). length z.cpu.core) w.3)
+    (λ e. c.in-Err-bring_wanted.ensures.silent (ap Err e)) (c.in-Err-bring_wanted.ensures.fits x plan s m t w.0 o k runs w.1 w.2)
 
 pub returns-in-Ok-Ends-clause-tables : goal.returns-in-Ok-Ends-clause-tables
 returns-in-Ok-Ends-clause-tables g c =

@@ -2,7 +2,7 @@ use Rattle.std.proofs.Common.{◌≡◌, Err, length, refl, ap, arith}
 use Rattle.b67_law_order_steps.proofs.Sessions.{other_numbers_keep_order}
 use Rattle.b67_backing.specs.declared.refusals.SpaceFault.TheVariants.{NoCore}
 use Rattle.b67_task_need.specs.Needing.{need_with}
-use Rattle.b67_session_attempt.proofs.Stops.{stopped_so}
+use Rattle.b67_session_attempt.proofs.Stops.{stopped_so, stopped_fits}
 use Rattle.b67_session_attempt.proofs.bringing.bring_wanted.Goals as goal
 
 pub stopped-requires : goal.stopped-requires
@@ -30,3 +30,11 @@ returns-in-Err-clause-row g c = λ x plan s m t words o h runs wanted touched.
     let z : c.in-Err.fault ≡ NoCore (need_with s m t 0 words) (length k.cpu.core) = cc in z)
     (λ need size e. let (a, b) = c.in-Err.ensures.unchanged need size (ap Err e) in (a, ap holds b))
     (λ wants free e. let z = c.in-Err.ensures.full x plan s m t words wants free o h runs wanted (ap Err e) in (z.0, z.2))
+
+pub returns-in-Err-clause-fits : goal.returns-in-Err-clause-fits
+returns-in-Err-clause-fits g c = λ x plan s m t words o h runs wanted touched.
+    let k = c.args.machine.now in
+    stopped_fits x (g.B.Backing.holds c.args.backing.now) (g.B.Backing.holds c.bring.new.backing) k c.bring.new.machine plan s m t (g.B.Backing.size c.args.backing.now) words c.args.wanted o h runs wanted touched
+    c.in-Err.fault c.stopped.result c.stopped.ensures
+    (λ above. let is = (c.in-Err.ensures.no_core x plan s m t words (need_with s m t 0 words) (length k.cpu.core) o h runs wanted).1 (above, refl, refl) in
+    let z : c.in-Err.fault ≡ NoCore (need_with s m t 0 words) (length k.cpu.core) = cc in z)

@@ -1,34 +1,36 @@
 use Rattle.std.proofs.Common.{◌∙◌, ◌≡◌, ℕ, List, length, Option, Err, sym, subst, refl}
 use Rattle.b67_model.specs.Schedule.{Session}
 use Rattle.b67_stack.specs.declared.Step.TheVariants as answers
-use Rattle.b67_stack.specs.Stands.{Storage}
-use Rattle.b67_layout.specs.Plan.{Plan}
+use Rattle.b67_stack.specs.Represents.{Storage}
+use Rattle.b67_layout.specs.Placement.{Placement}
 use Rattle.b67_exec_cells.specs.Running.{code_area}
 use Rattle.b67_task_tables.specs.declared.tables.Machine.{Machine}
-use Rattle.b67_task_tables.specs.Tables.{MachineStands}
+use Rattle.b67_task_tables.specs.Tables.{MachineRepresents}
 use Rattle.b67_session_attempt.specs.Tries.{TryFits}
 use Rattle.b67_session_attempt.proofs.Trying.{wants_array, was_made, was_built, was_fault, was_ended, was_call, was_absent, called_made, called_so, stops_so}
 use Rattle.b67_session_attempt.proofs.AttemptFits.{was_operator, fault_touches, leaves_touches, made_touches, operator_fits, call_fits, fault_fits, stop_fits}
 use Rattle.b67_session_attempt.proofs.tries.try_once.Goals as goal
 
 -- the machine after an operator that calls an intrinsic
-stays : (x : Storage) (told : Option (List (List ℕ))) (plan : Plan) (s : Session) (old new : Machine) → new ≡ old → MachineStands x told old plan s → MachineStands x told new plan s
-stays x told plan s old new same h = let P : Machine → Type 0 = λ k. MachineStands x told k plan s in subst P (sym same) h
+stays : (x : Storage) (told : Option (List (List ℕ))) (plan : Placement) (s : Session) (old new : Machine) → new ≡ old → MachineRepresents x told old plan s → MachineRepresents x told new plan s
+stays x told plan s old new same h = let P : Machine → Type 0 = λ k. MachineRepresents x told k plan s in subst P (sym same) h
 
 pub intrinsic-requires-clause-calls : goal.intrinsic-requires-clause-calls
 intrinsic-requires-clause-calls g c =
-    let r = c.requires.runs in
-    let it = was_call r.storage r.told r.plan r.session r.member r.task c.args.machine.now c.make.new.machine c.in-Call.n (code_area r.storage r.plan r.member r.task) refl (c.in-Call.ensures.row r.storage r.told r.plan r.session r.member r.task r.ordered r.stands r.running r.ready) in
+    let r = c.requires.runs.runs in
+    let it = was_call r.storage r.told r.plan r.session r.member r.task c.args.machine.now c.make.new.machine c.in-Call.n (code_area r.storage r.plan r.member r.task) refl (c.in-Call.ensures.row r.storage r.told r.plan r.session r.member r.task r.ordered r.stands r.running c.requires.runs.ready) in
     record {
-      storage = r.storage;
-      told = r.told;
-      plan = r.plan;
-      session = r.session;
-      member = r.member;
-      task = r.task;
-      ordered = r.ordered;
-      stands = stays r.storage r.told r.plan r.session c.args.machine.now c.make.new.machine it.2 r.stands;
-      running = r.running;
+      runs = record {
+        storage = r.storage;
+        told = r.told;
+        plan = r.plan;
+        session = r.session;
+        member = r.member;
+        task = r.task;
+        ordered = r.ordered;
+        stands = stays r.storage r.told r.plan r.session c.args.machine.now c.make.new.machine it.2 r.stands;
+        running = r.running;
+      };
       code = it.0;
       called = it.1;
     }
@@ -86,7 +88,7 @@ returns-in-Done-clause-fits g c = λ x told plan s m t o h runs ready.
     let new = c.make.new.machine in
     let row = c.in-Done.ensures.row x told plan s m t o h runs ready in
     let is = was_operator x told plan s m t answers.Done old new (code_area x plan m t) refl (λ e. absurd cc) (λ n e. absurd cc) row in
-    operator_fits x told plan s m t o runs old h is (made_touches x told plan s m t o runs new (was_made x told plan s m t old new (code_area x plan m t) row))
+    operator_fits x told plan s m t o runs old h is (made_touches x told plan s m t o runs old new (was_made x told plan s m t old new (code_area x plan m t) row))
 
 pub returns-in-Fault-clause-fits : goal.returns-in-Fault-clause-fits
 returns-in-Fault-clause-fits g c = λ x told plan s m t o h runs ready.

@@ -29,6 +29,7 @@ programs-preserved g c = record {
   cpu = search rules;
   size = c.install.ensures.size ∙ c.programs.invariant.size;
   faults = omega (arith, c.programs.invariant.faults, c.install.ensures.cause.later);
+  calls = omega (arith, c.programs.invariant.calls, c.install.ensures.calls);
 }
 
 pub returns-clause-writes : goal.returns-clause-writes

@@ -11,4 +11,5 @@ invariant-programs g l = record {
   cpu : l.cpu ≡ record l.initial.cpu { core = l.cpu.core };
   size : g.B.Backing.size l.backing ≡ g.B.Backing.size l.initial.backing;
   faults : g.B.Backing.faults l.initial.backing ≤ g.B.Backing.faults l.backing;
+  calls : g.B.Backing.calls l.initial.backing ≤ g.B.Backing.calls l.backing;
 }

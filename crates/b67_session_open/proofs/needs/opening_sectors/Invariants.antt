@@ -1,7 +1,7 @@
 use Rattle.std.proofs.Common.{◌≡◌, ◌+◌, ◌*◌, ◌≤◌, map, drop}
 use Rattle.b67_codefile.specs.Meaning.{program_of}
 use Rattle.b67_lemmas.specs.Lists.{total}
-use Rattle.b67_load.specs.Things.{sectors_of_program}
+use Rattle.b67_load.specs.Objects.{sectors_of_program}
 use Rattle.b67_session_open.proofs.needs.opening_sectors.Given as goal
 
 abbrev pub invariant-programs : goal.invariant-programs

@@ -3,7 +3,7 @@ use Rattle.b67_codefile.specs.Meaning.{program_of}
 use Rattle.std.specs.List.{slice_get}
 use Rattle.std.proofs.lemmas.List.{length-map}
 use Rattle.b67_stack.specs.declared.Cpu.{Cpu}
-use Rattle.b67_session_open.proofs.InitialOpens.{each_is, laid_out, opens, still_tells}
+use Rattle.b67_session_open.proofs.InitialOpens.{each_is, laid_out, opens, after_calls}
 use Rattle.b67_session_open.proofs.setting.set_up.Goals as goal
 
 pub returns-clause-opens : goal.returns-clause-opens
@@ -21,7 +21,14 @@ returns-clause-opens g c =
     (λ k h. ap (λ (z : Cpu). slice_get z.critical k) c.install_all.ensures.cpu ∙ each_is 0 120 k h)
     c.idle_registers-cpu.ensures.slot c.idle_registers-cpu.ensures.stacks c.idle_registers-cpu.ensures.size c.idle_registers-cpu.ensures.peak)
 
-pub returns-clause-tells : goal.returns-clause-tells
-returns-clause-tells g c =
+pub returns-in_err-stacks-clause-device : goal.returns-in_err-stacks-clause-device
+returns-in_err-stacks-clause-device g c =
     let known = c.requires.known in
-    still_tells g.B.Backing.holds c.args.backing.now c.install_all.new.backing known.0.free (c.install_all.ensures.spares.others known.0 known.1)
+    after_calls g.B.Backing.holds g.B.Backing.size g.B.Backing.calls g.B.Backing.faults c.args.backing.now c.install_all.new.backing known.0.free
+    c.install_all.ensures.size c.install_all.ensures.calls c.install_all.ensures.cause.later (c.install_all.ensures.spares.others known.0 known.1)
+
+pub returns-clause-device : goal.returns-clause-device
+returns-clause-device g c =
+    let known = c.requires.known in
+    after_calls g.B.Backing.holds g.B.Backing.size g.B.Backing.calls g.B.Backing.faults c.args.backing.now c.install_all.new.backing known.0.free
+    c.install_all.ensures.size c.install_all.ensures.calls c.install_all.ensures.cause.later (c.install_all.ensures.spares.others known.0 known.1)

@@ -16,7 +16,7 @@ returns-clause-moment c = λ plan s m made numbered found more shows.
     let tasks = c.args.tasks.now in
     moment_shows plan s m made (choice_of c.args.chosen) (map task_row tasks.rows.items) _ _ found more
     (count_shows tasks c.args.chosen c.requires c.as_mut_slice.result.now c.count_of_job.new.rows c.as_slice.result.now c.first_left-tasks.result c.as_mut_slice.ensures.value c.as_slice.ensures (c.count_of_job.ensures c.requires.job)
-    c.count_of_job.auto.rows c.first_left-tasks.ensures.within c.first_left-tasks.ensures.past plan (with_job s m made.course.job) (numbered_with_job s m made.course.job numbered) shows)
+    c.count_of_job.auto.rows c.first_left-tasks.ensures.within c.first_left-tasks.ensures.past plan (with_job s m made.progress.job) (numbered_with_job s m made.progress.job numbered) shows)
 
 pub returns-clause-left : goal.returns-clause-left
 returns-clause-left c = λ short rise left.

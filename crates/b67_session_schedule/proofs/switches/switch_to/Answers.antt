@@ -4,8 +4,8 @@ use Rattle.b67_task_tables.specs.Tables.{switch_of}
 use Rattle.b67_session_schedule.proofs.Counts.{past_grown}
 use Rattle.b67_session_schedule.proofs.Nearer.{seen}
 use Rattle.b67_session_schedule.proofs.Rising.{named, none_named, all_past}
-use Rattle.b67_task_switch.proofs.Lists.{at_mapped}
 use Rattle.b67_session_schedule.proofs.switches.switch_to.Goals as goal
+use Rattle.b67_lemmas.proofs.Places.{at_mapped}
 
 pub returns-then-switch-made : goal.returns-then-switch-made
 returns-then-switch-made c = λ rise past.

@@ -12,14 +12,14 @@ returns-then-not-top_mark c = λ x p stack s u.
 
 pub get-requires : goal.get-requires
 get-requires c =
-    let x = c.requires.storage in let p = c.requires.picture in let stack = c.requires.stack in let s = c.requires.stands in let u = c.requires.runs in
+    let x = c.requires.storage in let p = c.requires.machine_view in let stack = c.requires.stack in let s = c.requires.stands in let u = c.requires.runs in
     let r = c.args.self.now.regs in
     let l = (level_under x c.args.self.now.core r p r.slot stack s u).1 (ap (λ m. m.entered) (sym (c.top_mark.ensures x p stack s u)) ∙ not-false _ c.if-not-top_mark.false) in
     slice_get_within _ _ _ l.2
 
 pub unreachable-requires : goal.unreachable-requires
 unreachable-requires c =
-    let x = c.requires.storage in let p = c.requires.picture in let stack = c.requires.stack in let s = c.requires.stands in let u = c.requires.runs in
+    let x = c.requires.storage in let p = c.requires.machine_view in let stack = c.requires.stack in let s = c.requires.stands in let u = c.requires.runs in
     let r = c.args.self.now.regs in
     let l = (level_under x c.args.self.now.core r p r.slot stack s u).1 (ap (λ m. m.entered) (sym (c.top_mark.ensures x p stack s u)) ∙ not-false _ c.if-not-top_mark.false) in
     none-some l.0 (sym c.in-None.is ∙ c.from_word.ensures.known l.0 l.1 (same_Some _ _ (sym c.get.ensures ∙ l.2)))

@@ -1,7 +1,7 @@
 use Rattle.std.proofs.Common.{◌≡◌, refl, rules}
 use Rattle.b67_ctl.specs.Layout.{bit}
 use Rattle.b67_stack.proofs.Tops.{empty_at}
-use Rattle.b67_stack.proofs.Pushes.{Stands-popped}
+use Rattle.b67_stack.proofs.Pushes.{Represents-popped}
 use Rattle.b67_stack.proofs.Cpu.pop.Goals as goal
 
 pub returns-then-self-from-clause-empty : goal.returns-then-self-from-clause-empty
@@ -20,4 +20,4 @@ pub returns-clause-stands : goal.returns-clause-stands
 returns-clause-stands c = λ x p stack s u.
     let r = c.args.self.now.regs in
     let e = empty_at x c.args.self.now.core r p r.slot stack c.top_mark-m.result c.from.result s u (c.top_mark-m.ensures x p stack s u) (let h : c.from.result ≡ bit c.top_mark-m.result.entered = search (rules, c.from.ensures) in h) in
-    Stands-popped x c.args.self.now.core r p r.slot stack r.place (λ z. c.if-self-from.false (e.1 z)) s u
+    Represents-popped x c.args.self.now.core r p r.slot stack r.place (λ z. c.if-self-from.false (e.1 z)) s u

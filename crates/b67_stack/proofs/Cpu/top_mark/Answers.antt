@@ -6,7 +6,7 @@ use Rattle.b67_stack.proofs.Cpu.top_mark.Goals as goal
 
 pub unreachable-requires : goal.unreachable-requires
 unreachable-requires c =
-    let x = c.requires.storage in let p = c.requires.picture in let stack = c.requires.stack in let s = c.requires.stands in let u = c.requires.runs in
+    let x = c.requires.storage in let p = c.requires.machine_view in let stack = c.requires.stack in let s = c.requires.stands in let u = c.requires.runs in
     let r = c.args.self.now.regs in
     let k = r.slot in
     let w : c.get.result ≡ _ = same_Some _ _ (sym c.get.ensures ∙ mark_at_f x c.args.self.now.core r p k stack s u) in

@@ -5,5 +5,5 @@ use Rattle.b67_syllable.proofs.kinds.kind_of.Goals as goal
 pub returns-in-64-to-127 : goal.returns-in-64-to-127
 returns-in-64-to-127 c = name_kind c.args.first _ (omega arith) (omega arith) refl
 
-pub returns-in-128-to-191 : goal.returns-in-128-to-191
-returns-in-128-to-191 c = table_kind c.args.first c.kind_in.result (omega arith) (omega arith) c.kind_in.ensures
+pub returns-in_default : goal.returns-in_default
+returns-in_default c = table_kind c.args.first c.kind_in.result (omega arith) (omega arith) c.kind_in.ensures

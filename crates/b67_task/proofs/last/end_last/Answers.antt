@@ -1,5 +1,5 @@
 use Rattle.std.proofs.Common.{List, map, sym, subst, ◌∙◌}
-use Rattle.b67_layout.specs.Plan.{slot_of}
+use Rattle.b67_layout.specs.Placement.{slot_of}
 use Rattle.b67_layout.specs.Rows.{TablesShow}
 use Rattle.b67_task_tables.specs.declared.tables.TaskRow.{TaskRow}
 use Rattle.b67_task_tables.specs.Tables.{task_row, job_row, counts_of}
@@ -38,7 +38,7 @@ returns-clause-stands c = λ u x told plan s m t ending same o h single.
     let k = c.args.machine.now.tasks in
     let e = c.end_slot.ensures.stands x told plan s m t ending o h.session h.storage single
     (first_slot plan s m t single (map job_row u.jobs) (counts_of u) u.rows.items _ _ (c.deref.ensures.0 ∙ sym (row_items u k same.rows)) h.tables) in
-    let P : List TaskRow → Type 0 = λ rs. TablesShow (without_slot plan (slot_of plan m.setting.number t.number)) (ended s m t.number ending) (map task_row rs) (map job_row u.jobs) (record (counts_of u) { running = 255 }) in
+    let P : List TaskRow → Type 0 = λ rs. TablesShow (without_slot plan (slot_of plan m.constants.number t.number)) (ended s m t.number ending) (map task_row rs) (map job_row u.jobs) (record (counts_of u) { running = 255 }) in
     record {
       storage = e.storage;
       stands = record {

@@ -1,8 +1,8 @@
 use Rattle.std.proofs.Common.{sym, ◌∙◌, ap, arith}
-use Rattle.b67_layout.specs.Layout.{picture}
-use Rattle.b67_stack.specs.Picture.{slot_base}
+use Rattle.b67_layout.specs.Layout.{machine_view}
+use Rattle.b67_stack.specs.MachineView.{slot_base}
 use Rattle.b67_overlay.proofs.Turning.{lies_of}
-use Rattle.b67_task.proofs.Leftover.{slot_used, slot_fits, core_long, gone, bare_picture, machine_left}
+use Rattle.b67_task.proofs.Leftover.{slot_used, slot_fits, core_long, gone, bare_machine_view, machine_left}
 use Rattle.b67_task.proofs.Ended.{start_is, top_is, left_here, has_ended}
 use Rattle.b67_task.proofs.slots.end_slot.Goals as goal
 
@@ -10,7 +10,7 @@ pub stack_top-top-requires : goal.stack_top-top-requires
 stack_top-top-requires c =
     let q = c.requires in
     let cpu = c.args.cpu.now in
-    let p = picture q.plan q.session.jobs in
+    let p = machine_view q.plan q.session.jobs in
     let base = start_is q.storage cpu q.plan q.session q.member q.task q.ordered q.stands q.single c.args.slot c.from.result c.from-2.result q.slot c.from.ensures c.from-2.ensures in
     (q.storage.low, p, lies_of q.storage cpu.core cpu.regs p q.stands.holds.memory, omega (arith, q.slot, slot_used q.storage cpu q.plan q.session q.member q.task q.ordered q.stands q.single), base ∙ ap (slot_base p) (sym q.slot))
 
@@ -34,7 +34,7 @@ pub overflow_add-top : goal.overflow_add-top
 overflow_add-top c =
     let q = c.requires in
     let cpu = c.args.cpu.now in
-    let p = picture q.plan q.session.jobs in
+    let p = machine_view q.plan q.session.jobs in
     let base = start_is q.storage cpu q.plan q.session q.member q.task q.ordered q.stands q.single c.args.slot c.from.result c.from-2.result q.slot c.from.ensures c.from-2.ensures in
     let used = slot_used q.storage cpu q.plan q.session q.member q.task q.ordered q.stands q.single in
     let top = top_is q.storage cpu q.plan q.session q.member q.task q.ordered q.stands q.single c.args.slot c.stack_top-top.result _ q.slot base
@@ -52,14 +52,14 @@ pub release_words-requires-clause-left : goal.release_words-requires-clause-left
 release_words-requires-clause-left c =
     let q = c.requires in
     let cpu = c.args.cpu.now in
-    let p = picture q.plan q.session.jobs in
+    let p = machine_view q.plan q.session.jobs in
     let base = start_is q.storage cpu q.plan q.session q.member q.task q.ordered q.stands q.single c.args.slot c.from.result c.from-2.result q.slot c.from.ensures c.from-2.ensures in
     let used = slot_used q.storage cpu q.plan q.session q.member q.task q.ordered q.stands q.single in
     let top = top_is q.storage cpu q.plan q.session q.member q.task q.ordered q.stands q.single c.args.slot c.stack_top-top.result _ q.slot base
     (c.stack_top-top.ensures q.storage.low p (lies_of q.storage cpu.core cpu.regs p q.stands.holds.memory) (omega (arith, q.slot, used)) (base ∙ ap (slot_base p) (sym q.slot))) in (
       q.storage,
       q.told,
-      bare_picture q.storage cpu q.plan q.session q.member q.task q.ordered q.stands q.single,
+      bare_machine_view q.storage cpu q.plan q.session q.member q.task q.ordered q.stands q.single,
       gone q.storage cpu q.plan q.session q.member q.task q.ordered q.stands q.single,
       machine_left q.storage cpu q.plan q.session q.member q.task q.ordered q.stands q.single c.vacate.new.cpu c.args.slot _ q.slot base c.vacate.ensures c.args.areas.now c.args.sectors.now q.told q.beside,
       left_here q.storage cpu q.plan q.session q.member q.task q.ordered q.stands q.single c.vacate.new.cpu c.args.slot _ c.stack_top-top.result q.slot base c.vacate.ensures top,
@@ -69,7 +69,7 @@ pub release_words-requires-clause-order : goal.release_words-requires-clause-ord
 release_words-requires-clause-order c =
     let q = c.requires in
     let cpu = c.args.cpu.now in
-    let p = picture q.plan q.session.jobs in
+    let p = machine_view q.plan q.session.jobs in
     let base = start_is q.storage cpu q.plan q.session q.member q.task q.ordered q.stands q.single c.args.slot c.from.result c.from-2.result q.slot c.from.ensures c.from-2.ensures in
     let used = slot_used q.storage cpu q.plan q.session q.member q.task q.ordered q.stands q.single in
     omega (arith, c.stack_top-top.ensures q.storage.low p (lies_of q.storage cpu.core cpu.regs p q.stands.holds.memory) (omega (arith, q.slot, used)) (base ∙ ap (slot_base p) (sym q.slot)))
@@ -77,13 +77,13 @@ release_words-requires-clause-order c =
 pub returns-clause-stands : goal.returns-clause-stands
 returns-clause-stands c = λ x told plan s m t ending o h b single here.
     let cpu = c.args.cpu.now in
-    let p = picture plan s.jobs in
+    let p = machine_view plan s.jobs in
     let base = start_is x cpu plan s m t o h single c.args.slot c.from.result c.from-2.result here c.from.ensures c.from-2.ensures in
     let used = slot_used x cpu plan s m t o h single in
     let top = top_is x cpu plan s m t o h single c.args.slot c.stack_top-top.result _ here base
     (c.stack_top-top.ensures x.low p (lies_of x cpu.core cpu.regs p h.holds.memory) (omega (arith, here, used)) (base ∙ ap (slot_base p) (sym here))) in
     let e = c.release_words.ensures in
-    let r = e.stands x told (bare_picture x cpu plan s m t o h single) (gone x cpu plan s m t o h single)
+    let r = e.stands x told (bare_machine_view x cpu plan s m t o h single) (gone x cpu plan s m t o h single)
     (machine_left x cpu plan s m t o h single c.vacate.new.cpu c.args.slot _ here base c.vacate.ensures c.args.areas.now c.args.sectors.now told b)
     (left_here x cpu plan s m t o h single c.vacate.new.cpu c.args.slot _ c.stack_top-top.result here base c.vacate.ensures top) in
     has_ended x cpu plan s m t o h single told ending c.vacate.new.cpu c.release_words.new.cpu c.args.areas.now c.release_words.new.areas c.args.sectors.now c.release_words.new.sectors c.args.slot _ r.0

@@ -1,10 +1,9 @@
 use Rattle.std.proofs.Common.{◌≡◌, ℕ, suc, false, ◌+◌, ◌-◌, ◌<◌, arith, ◌∙◌, ap, ⊎_elim}
-use Rattle.b67_stack.specs.Stacks.{high}
-use Rattle.b67_stack.specs.Picture.{slot_base, stack_of}
+use Rattle.b67_stack.specs.Stacks.{stack_words}
+use Rattle.b67_stack.specs.MachineView.{slot_base, stack_of}
 use Rattle.b67_stack.proofs.Bases.{base-step}
-use Rattle.b67_overlay.proofs.Turning.{stack_low}
+use Rattle.b67_overlay.proofs.Turning.{stack_low, slot_high}
 use Rattle.b67_task_need.specs.Sums.{sectors_from, sectors_of_slots}
-use Rattle.b67_task_need.proofs.Words.{slot_high}
 use Rattle.b67_task_need.proofs.sums.core_sectors.Goals as goal
 
 pub range_sectors-sum-requires-in-loop-slot-clause-inside : goal.range_sectors-sum-requires-in-loop-slot-clause-inside
@@ -29,9 +28,9 @@ loop-slot-preserved c = record {
       let m = c.loop-slot.invariant.value low p l in
       let h : k < p.peak = omega (arith, l.slots.regs.peak) in
       let top = c.stack_top-top.ensures low p l h m.0 in
-      let words : c.stack_top-top.result + 1 - (c.loop-slot.base + 1) ≡ high (stack_of (p.slots k)) = omega (arith, top) in
-      let part : c.range_sectors-sum-in-loop-slot.result ≡ sectors_from false core (slot_base p k + 1) (high (stack_of (p.slots k))) =
-      c.range_sectors-sum-in-loop-slot.ensures.value ∙ ap (sectors_from false core (c.loop-slot.base + 1)) words ∙ ap (λ (n : ℕ). sectors_from false core (n + 1) (high (stack_of (p.slots k)))) m.0 in
+      let words : c.stack_top-top.result + 1 - (c.loop-slot.base + 1) ≡ stack_words (stack_of (p.slots k)) = omega (arith, top) in
+      let part : c.range_sectors-sum-in-loop-slot.result ≡ sectors_from false core (slot_base p k + 1) (stack_words (stack_of (p.slots k))) =
+      c.range_sectors-sum-in-loop-slot.ensures.value ∙ ap (sectors_from false core (c.loop-slot.base + 1)) words ∙ ap (λ (n : ℕ). sectors_from false core (n + 1) (stack_words (stack_of (p.slots k)))) m.0 in
       let next : sectors_of_slots core p (k + 1) ≡ sectors_of_slots core p (suc k) = ap (sectors_of_slots core p) (let e : k + 1 ≡ suc k = omega arith in e) in
       (omega (arith, base-step p k, m.0, l.slots.regs.size, c.from-size.ensures), omega (arith, m.1, part, next));
   low =
@@ -40,7 +39,7 @@ loop-slot-preserved c = record {
       let h : c.loop-slot.slot < p.peak = omega (arith, l.slots.regs.peak) in
       let top = c.stack_top-top.ensures low p l h m.0 in
       ⊎_elim
-      (λ (e : high (stack_of (p.slots c.loop-slot.slot)) ≡ 0). omega (arith, e, top, c.loop-slot.invariant.low, c.range_sectors-sum-in-loop-slot.ensures.low))
-      (λ (e : high (stack_of (p.slots c.loop-slot.slot)) < p.size). omega (arith, e, top, l.slots.regs.size, c.from-size.ensures, c.loop-slot.invariant.low, c.range_sectors-sum-in-loop-slot.ensures.low))
+      (λ (e : stack_words (stack_of (p.slots c.loop-slot.slot)) ≡ 0). omega (arith, e, top, c.loop-slot.invariant.low, c.range_sectors-sum-in-loop-slot.ensures.low))
+      (λ (e : stack_words (stack_of (p.slots c.loop-slot.slot)) < p.size). omega (arith, e, top, l.slots.regs.size, c.from-size.ensures, c.loop-slot.invariant.low, c.range_sectors-sum-in-loop-slot.ensures.low))
       (slot_high p c.loop-slot.slot (p.slots c.loop-slot.slot) (l.slots.laid.slots c.loop-slot.slot h));
 }

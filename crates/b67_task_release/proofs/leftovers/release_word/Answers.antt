@@ -1,4 +1,4 @@
-use Rattle.b67_layout.specs.Session.{with_things}
+use Rattle.b67_layout.specs.Session.{with_objects}
 use Rattle.b67_task_release.specs.Released.{released}
 use Rattle.b67_task_release.proofs.Remaining.{one_left, copy_none, other_none, rest, drops, remains_one, remains_none, in_all}
 use Rattle.b67_task_release.proofs.leftovers.release_word.Goals as goal
@@ -8,7 +8,7 @@ release_original-requires c =
     let (x, told, p, left, upto, m, l, inside) = c.requires.left in
     let d = c.in-Some.ensures.some in
     let o = one_left x c.args.cpu.now c.args.areas.now c.args.sectors.now told p left c.args.at upto m l c.get.result c.in-Some.original c.get.ensures d.0 d.1 c.if-not-original.true inside in
-    (x, told, with_things left p, o.0, m, in_all x c.args.cpu.now c.args.areas.now c.args.sectors.now told p left c.args.at upto m l o.0 o.1, o.3)
+    (x, told, with_objects left p, o.0, m, in_all x c.args.cpu.now c.args.areas.now c.args.sectors.now told p left c.args.at upto m l o.0 o.1, o.3)
 
 pub returns-then-not-original-clause-stands : goal.returns-then-not-original-clause-stands
 returns-then-not-original-clause-stands c = λ x told p left upto m l inside.
@@ -22,8 +22,8 @@ returns-then-not-original-clause-stands c = λ x told p left upto m l inside.
     let e = c.release_original.ensures in (
       released x o.0,
       rest x cpu areas table told p left at upto m l o.0 o.1 o.2,
-      e.stands x told (with_things left p) o.0 _ m o.3 (drops x cpu areas table told p left at upto m l o.0 o.1 o.2),
-      remains_one x cpu areas table told p left at upto m l o.0 o.1 o.2 c.release_original.new.cpu.core (e.below x told (with_things left p) o.0 m there o.3),
+      e.stands x told (with_objects left p) o.0 _ m o.3 (drops x cpu areas table told p left at upto m l o.0 o.1 o.2),
+      remains_one x cpu areas table told p left at upto m l o.0 o.1 o.2 c.release_original.new.cpu.core (e.below x told (with_objects left p) o.0 m there o.3),
     )
 
 pub returns-else-not-original-clause-stands : goal.returns-else-not-original-clause-stands

@@ -1,8 +1,8 @@
 use Rattle.std.proofs.Common.{◌≡◌, ℕ, ◌<◌, List, Option, length}
-use Rattle.b67_stack.specs.Picture.{Thing, Picture}
-use Rattle.b67_stack.specs.Stands.{Storage}
-use Rattle.b67_layout_storage.specs.Machine.{MachineStands}
-use Rattle.b67_layout.specs.Session.{with_things}
+use Rattle.b67_stack.specs.MachineView.{PagedObject, MachineView}
+use Rattle.b67_stack.specs.Represents.{Storage}
+use Rattle.b67_layout_storage.specs.Machine.{MachineRepresentsView}
+use Rattle.b67_layout.specs.Session.{with_objects}
 use Rattle.b67_task_release.specs.Released.{HasHome, AreLeft, Remains}
 use Rattle.b67_task_release.proofs.leftovers.release_words.Given as goal
 
@@ -12,8 +12,8 @@ invariant-loop-at l = record {
   len : length l.cpu.core ≡ length l.initial.cpu.core;
   areas : l.areas ≡ l.initial.areas;
   count : length l.sectors.links ≡ length l.initial.sectors.links;
-  stands : (x : Storage) (told : Option (List (List ℕ))) (p : Picture) (left : List Thing)
-      → MachineStands x l.initial.cpu l.initial.areas l.initial.sectors told (with_things left p) → AreLeft p l.initial.cpu.core l.from l.upto left
-      → (y : Storage) × (rest : List Thing) × MachineStands y l.cpu l.areas l.sectors told (with_things rest p)
+  stands : (x : Storage) (told : Option (List (List ℕ))) (p : MachineView) (left : List PagedObject)
+      → MachineRepresentsView x l.initial.cpu l.initial.areas l.initial.sectors told (with_objects left p) → AreLeft p l.initial.cpu.core l.from l.upto left
+      → (y : Storage) × (rest : List PagedObject) × MachineRepresentsView y l.cpu l.areas l.sectors told (with_objects rest p)
       × Remains (λ home. (home < l.at) × HasHome left home) x y p l.initial.cpu.core l.cpu.core l.at l.upto left rest;
 }

@@ -11,9 +11,9 @@ use Rattle.b67_task_switch.proofs.switching.registers.Goals as goal
 pub unreachable-requires : goal.unreachable-requires
 unreachable-requires c =
     let q = c.requires in
-    let base = base_is c.args.regs.now q.picture q.stands.slots.regs c.from.result c.from-size.result c.args.turn.slot c.from.ensures c.from-size.ensures in
-    let word : c.get.result ≡ toscw_word (toscw_of q.stack) = same_Some _ _ (sym c.get.ensures ∙ ap (slice_get c.args.core.now) base ∙ waiting_word q.storage c.args.core.now c.args.regs.now q.picture q.stands c.args.turn.slot q.stack q.waits) in
-    none-some (toscw_of q.stack) (c.in-None.ensures.known (toscw_of q.stack) (waiting_top q.storage c.args.core.now c.args.regs.now q.picture q.stands c.args.turn.slot q.stack q.waits) word)
+    let base = base_is c.args.regs.now q.machine_view q.stands.slots.regs c.from.result c.from-size.result c.args.turn.slot c.from.ensures c.from-size.ensures in
+    let word : c.get.result ≡ toscw_word (toscw_of q.stack) = same_Some _ _ (sym c.get.ensures ∙ ap (slice_get c.args.core.now) base ∙ waiting_word q.storage c.args.core.now c.args.regs.now q.machine_view q.stands c.args.turn.slot q.stack q.waits) in
+    none-some (toscw_of q.stack) (c.in-None.ensures.known (toscw_of q.stack) (waiting_top q.storage c.args.core.now c.args.regs.now q.machine_view q.stands c.args.turn.slot q.stack q.waits) word)
 
 pub returns : goal.returns
 returns c = λ x p stack s w.

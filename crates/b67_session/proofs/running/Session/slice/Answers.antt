@@ -3,20 +3,17 @@ use Rattle.b67_session.proofs.running.Session.slice.Goals as goal
 pub returns-clause-row : goal.returns-clause-row
 returns-clause-row g c = rw (← c.self.view_is) c.slice.ensures.row
 
+pub returns-clause-present : goal.returns-clause-present
+returns-clause-present g c = rw (← c.self.view_is) c.slice.ensures.present
+
 pub returns-clause-resumed : goal.returns-clause-resumed
 returns-clause-resumed g c = rw (← c.self.view_is) c.slice.ensures.resumed
 
-pub returns-clause-quiet : goal.returns-clause-quiet
-returns-clause-quiet g c = rw (← c.self.view_is) c.slice.ensures.quiet
+pub returns-clause-ended : goal.returns-clause-ended
+returns-clause-ended g c = rw (← c.self.view_is) c.slice.ensures.ended
 
-pub returns-clause-unprinted : goal.returns-clause-unprinted
-returns-clause-unprinted g c = rw (← c.self.view_is) c.slice.ensures.unprinted
+pub returns-clause-open : goal.returns-clause-open
+returns-clause-open g c = c.slice.ensures.open
 
-pub returns-clause-over : goal.returns-clause-over
-returns-clause-over g c = rw (← c.self.view_is) c.slice.ensures.over
-
-pub returns-clause-fits : goal.returns-clause-fits
-returns-clause-fits g c = rw (← c.self.view_is) c.slice.ensures.fits
-
-pub returns-clause-again : goal.returns-clause-again
-returns-clause-again g c = c.slice.ensures.again
+pub returns-clause-keeps : goal.returns-clause-keeps
+returns-clause-keeps g c = rw (← c.self.view_is) c.slice.ensures.keeps

@@ -1,0 +1,36 @@
+#!/bin/sh
+# The instructions of one operator, by valgrind: each deck runs with two limits, and the difference is divided by the
+# operators between. The same on every machine. Takes the built program's path (default crates/b67/out/b67).
+# The last line is the whole run of the paging deck, in millions of instructions.
+set -eu
+here=$(cd "$(dirname "$0")" && pwd)
+program=${1:-$here/../crates/b67/out/b67}
+room=$(mktemp -d)
+trap 'rm -rf "$room"' EXIT
+
+# instructions of a run of the deck on standard input, at a size of core
+count() {
+    valgrind --tool=callgrind --callgrind-out-file=/dev/null "$program" run --core "$1" --backing "$room/b" 2>&1 >"$room/lines" |
+        sed -n 's/.*Collected : *\([0-9]*\).*/\1/p'
+}
+
+# name, deck, core
+row() {
+    few=$(sed 's/^?LIMIT .*/?LIMIT 200000/' "$2" | count "$3")
+    many=$(sed 's/^?LIMIT .*/?LIMIT 400000/' "$2" | count "$3")
+    grep -q LIMIT "$room/lines" || echo "$1: ended before its limit" >&2
+    echo "$1 $3 $(((many - few) / 200000))"
+}
+
+echo "deck core instructions-an-operator"
+for core in 4096 1048575; do
+    row counting "$here/count.deck" $core
+    row calls "$here/calls.deck" $core
+    row elements "$here/elements.deck" $core
+    row thunks "$here/thunks.deck" $core
+done
+sed -e 's/^LT8 8$/LT8 12/' -e 's/^?ASM/?LIMIT 1\n?ASM/' "$here/../decks/manboy/stdin" >"$room/manboy"
+row man-or-boy "$room/manboy" 32768
+sh "$here/arrays.sh" | sed 's/^LT8 100 .*/LT8 20/' >"$room/arrays"
+echo "paging-total 1910 $(($(count 1910 <"$room/arrays") / 1000000))"
+echo "present-total 65536 $(($(count 65536 <"$room/arrays") / 1000000))"

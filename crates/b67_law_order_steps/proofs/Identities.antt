@@ -1,0 +1,265 @@
+-- Identities only grow, and the next number of a task by one at most: a law of all rows, by one rule for each way in which rows are made.
+use Rattle.std.proofs.Common.{◌≡◌, ℕ, ◌+◌, ◌≤◌, Bool, true, false, ℤ, pos, negsuc, List, [], ◌∷◌, reverse, Option, Some, None, refl, arith}
+use Rattle.b67_word.specs.declared.couples.Place.{Place}
+use Rattle.b67_model.specs.declared.operators.Op.{Op}
+use Rattle.b67_model.specs.declared.operators.Op.TheVariants.{Valc, Brun, Brtr, Brfl, Plain}
+use Rattle.b67_model.specs.declared.operators.Code.{Code}
+use Rattle.b67_model.specs.declared.operators.Code.TheVariants.{Exit, Indx, Retn, Entr, Nxlv, Mkst, Stod, Ston, Load}
+use Rattle.b67_model.specs.Answers.{Answer}
+use Rattle.b67_model.specs.Words.{Word, Operand}
+use Rattle.b67_model.specs.State.{Standing, Marked, Entered, Return, Task, Job, OperatorContext}
+use Rattle.b67_model.specs.Chase.{End, AtCell, AtElement, AtArray, AtProc, AtIntrinsic, follow}
+use Rattle.b67_model.specs.Steps.{Line, Done, Goes, Leaves, Waits, top_of, cells_of, result, with_cells, leaves_cells, pushes}
+use Rattle.b67_model.specs.Entry.{mkst, accident, evaluates, enters, left, leaves, exit, returnable, returned, retn_word}
+use Rattle.b67_model.specs.Intrinsics.{answers, arraydec, print, printrow, read, starts, process, awaits, await, status, waits_at, wait, causes, cause, deallocate, resize, intrinsic}
+use Rattle.b67_model.specs.Rows.{CellRow, on_cells, branch_if, valc, load_at, load, indx, nxlv, store_at, store, entr_at, entr_with, entr, plain, row}
+use Rattle.b67_law_order.proofs.Posts.{Post, post_any, post_err, post_if, post_ok, post_then}
+
+-- what the law says of a step
+pub record Grown (before after : Job) : Type 0 where
+  pub frames : before.next_frame ≤ after.next_frame
+  pub arrays : before.next_array ≤ after.next_array
+  pub tasks : before.next_task ≤ after.next_task
+  pub one : after.next_task ≤ before.next_task + 1
+
+-- of a step's job
+abbrev pub Keeps : Job → Done → Type 0
+Keeps job (Goes after printed touched) = Grown job after
+Keeps job Leaves = Unit {0}
+Keeps job (Waits condition) = Unit {0}
+
+abbrev pub Good : OperatorContext → Answer Done → Type 0
+Good h answer = Post (Keeps h.job) answer
+
+result_good : (h : OperatorContext) (k : OperatorContext) (job : Job) (task : Task) (printed : List Line) (touched : Option ℕ) → Grown h.job job → Good h (result k job task printed touched)
+result_good h k job task printed touched kept = post_then (Keeps h.job) _ _ (post_ok (Keeps h.job) _ (record { frames = kept.frames; arrays = kept.arrays; tasks = kept.tasks; one = kept.one }))
+
+same : (job : Job) → Grown job job
+same job = record { frames = omega arith; arrays = omega arith; tasks = omega arith; one = omega arith }
+
+cells_good : (h k : OperatorContext) (cells : List Word) (touched : Option ℕ) → Grown h.job k.job → Good h (leaves_cells k cells touched)
+cells_good h k cells touched kept = result_good h k k.job (with_cells k cells) [] touched kept
+
+-- all rows on cells at once
+on_cells_good : (f : CellRow) (h : OperatorContext) → Good h (on_cells f h)
+on_cells_good f h = post_any (Keeps h.job) (f (cells_of h)) _ (λ cells. cells_good h h cells None (same h.job))
+
+push_good : (h : OperatorContext) (w : Word) (touched : Option ℕ) → Good h (pushes h w touched)
+push_good h w touched = cells_good h h (w ∷ cells_of h) touched (same h.job)
+
+accident_good : (h k : OperatorContext) (cells : List Word) (back : Return) (end : End) → Grown h.job k.job → Good h (accident k cells back end)
+accident_good h k cells back (AtProc f segment level place) kept =
+    let up : Grown h.job (record k.job { next_frame = k.job.next_frame + 1 }) = record { frames = omega (arith, kept.frames); arrays = kept.arrays; tasks = kept.tasks; one = kept.one } in search (post_then, result_good, up)
+accident_good h k cells back (AtCell f offset bits) kept = post_err (Keeps h.job) _
+accident_good h k cells back (AtElement a index) kept = post_err (Keeps h.job) _
+accident_good h k cells back (AtArray a) kept = post_err (Keeps h.job) _
+accident_good h k cells back (AtIntrinsic n) kept = post_err (Keeps h.job) _
+
+evaluates_good : (h k : OperatorContext) (end : End) → Grown h.job k.job → Good h (evaluates k end)
+evaluates_good h k (AtCell f offset bits) kept = cells_good h k _ None kept
+evaluates_good h k (AtElement a index) kept = cells_good h k _ (Some a) kept
+evaluates_good h k (AtProc f segment level place) kept = accident_good h k _ _ (AtProc f segment level place) kept
+evaluates_good h k (AtArray a) kept = post_err (Keeps h.job) _
+evaluates_good h k (AtIntrinsic n) kept = post_err (Keeps h.job) _
+
+enters_good : (h : OperatorContext) (arguments : List Word) (end : End) → Good h (enters h arguments end)
+enters_good h arguments (AtProc f segment level place) = search (post_then, result_good, same)
+enters_good h arguments (AtCell f offset bits) = post_err (Keeps h.job) _
+enters_good h arguments (AtElement a index) = post_err (Keeps h.job) _
+enters_good h arguments (AtArray a) = post_err (Keeps h.job) _
+enters_good h arguments (AtIntrinsic n) = post_err (Keeps h.job) _
+
+leaves_good : (h : OperatorContext) (standing : Standing) (go : OperatorContext → Bool → Answer Done) → ((k : OperatorContext) (value : Bool) → Grown h.job k.job → Good h (go k value)) → Good h (leaves h standing go)
+leaves_good h Marked go each = post_err (Keeps h.job) _
+leaves_good h (Entered level environment None) go each = post_then (Keeps h.job) _ _ (post_ok (Keeps h.job) _ tt)
+leaves_good h (Entered level environment (Some back)) go each =
+    post_then (Keeps h.job) _ _ (each (left h back) back.value (record { frames = omega arith; arrays = omega arith; tasks = omega arith; one = omega arith }))
+
+returned_good : (h k : OperatorContext) (w : Word) (value : Bool) → Grown h.job k.job → Good h (returned k w value)
+returned_good h k w false kept = cells_good h k _ None kept
+returned_good h k (Operand bits) true kept = cells_good h k _ None kept
+returned_good h k w true kept = post_any (Keeps h.job) (follow k w) _ (λ end. evaluates_good h k end kept)
+
+retn_good : (h : OperatorContext) (standing : Standing) (cells : List Word) → Good h (retn_word h standing cells)
+retn_good h Marked cells = post_err (Keeps h.job) _
+retn_good h (Entered level environment back) [] = post_err (Keeps h.job) _
+retn_good h (Entered level environment back) (w ∷ cells) =
+    post_any (Keeps h.job) (returnable h.job (top_of h).identity w) _
+    (λ v. leaves_good h (Entered level environment back) (λ after value. returned after v value) (λ k value kept. returned_good h k v value kept))
+
+grown_not : (job after : Job) → after.next_frame ≡ job.next_frame → after.next_array ≡ job.next_array → after.next_task ≡ job.next_task → Grown job after
+grown_not job after f a t = record { frames = omega (arith, f); arrays = omega (arith, a); tasks = omega (arith, t); one = omega (arith, t) }
+
+grown_array : (job after : Job) → after.next_frame ≡ job.next_frame → after.next_array ≡ job.next_array + 1 → after.next_task ≡ job.next_task → Grown job after
+grown_array job after f a t = record { frames = omega (arith, f); arrays = omega (arith, a); tasks = omega (arith, t); one = omega (arith, t) }
+
+grown_task : (job after : Job) → after.next_frame ≡ job.next_frame + 1 → after.next_array ≡ job.next_array → after.next_task ≡ job.next_task + 1 → Grown job after
+grown_task job after f a t = record { frames = omega (arith, f); arrays = omega (arith, a); tasks = omega (arith, t); one = omega (arith, t) }
+
+ruleset steps_rules = (refl, grown_not, grown_array, grown_task, post_if, post_then, post_any, post_ok, post_err, result_good, cells_good, on_cells_good, push_good, accident_good, evaluates_good, enters_good, leaves_good, returned_good, retn_good, same)
+
+mkst_good : (h : OperatorContext) → Good h (mkst h)
+mkst_good h = let up : Grown h.job (record h.job { next_frame = h.job.next_frame + 1 }) = record { frames = omega arith; arrays = omega arith; tasks = omega arith; one = omega arith } in search (steps_rules, up)
+
+exit_good : (h : OperatorContext) → Good h (exit h)
+exit_good h = leaves_good h (top_of h).standing _ (λ k value kept. result_good h k k.job k.task [] None kept)
+
+branch_good : (wanted : Bool) (h : OperatorContext) (cells : List Word) (target : Place) → Good h (branch_if wanted h cells target)
+branch_good wanted h [] target = search steps_rules
+branch_good wanted h (a ∷ rest) target = search steps_rules
+
+valc_good : (h : OperatorContext) (couple : ℕ) → Good h (valc h couple)
+valc_good h couple = search steps_rules
+
+load_at_good : (h : OperatorContext) (rest : List Word) (end : End) → Good h (load_at h rest end)
+load_at_good h rest (AtProc f segment level place) = search steps_rules
+load_at_good h rest (AtCell f offset bits) = search steps_rules
+load_at_good h rest (AtElement a index) = search steps_rules
+load_at_good h rest (AtArray a) = search steps_rules
+load_at_good h rest (AtIntrinsic n) = search steps_rules
+
+load_good : (h : OperatorContext) (cells : List Word) → Good h (load h cells)
+load_good h [] = search steps_rules
+load_good h (w ∷ rest) = search (steps_rules, load_at_good)
+
+indx_good : (h : OperatorContext) (cells : List Word) → Good h (indx h cells)
+indx_good h [] = search steps_rules
+indx_good h (b ∷ []) = search steps_rules
+indx_good h (b ∷ a ∷ rest) = search steps_rules
+
+nxlv_good : (h : OperatorContext) (cells : List Word) → Good h (nxlv h cells)
+nxlv_good h [] = search steps_rules
+nxlv_good h (b ∷ []) = search steps_rules
+nxlv_good h (b ∷ a ∷ rest) = search steps_rules
+
+store_at_good : (h : OperatorContext) (rest kept : List Word) (bits : ℕ) (end : End) → Good h (store_at h rest kept bits end)
+store_at_good h rest kept bits (AtCell f offset old) = post_ok (Keeps h.job) _ (record { frames = omega arith; arrays = omega arith; tasks = omega arith; one = omega arith })
+store_at_good h rest kept bits (AtElement a index) = search steps_rules
+store_at_good h rest kept bits (AtProc f segment level place) = search steps_rules
+store_at_good h rest kept bits (AtArray a) = search steps_rules
+store_at_good h rest kept bits (AtIntrinsic n) = search steps_rules
+
+store_good : (keeps : Bool) (h : OperatorContext) (cells : List Word) → Good h (store keeps h cells)
+store_good keeps h [] = search steps_rules
+store_good keeps h (b ∷ []) = search steps_rules
+store_good keeps h (b ∷ a ∷ rest) = search (steps_rules, store_at_good)
+
+answers_good : (h : OperatorContext) (job : Job) (words : List Word) (printed : List Line) (touched : Option ℕ) → Grown h.job job → Good h (answers h job words printed touched)
+answers_good h job words printed touched kept = search steps_rules
+
+starts_good : (h : OperatorContext) (words : List Word) (end : End) → Good h (starts h words end)
+starts_good h words (AtProc f segment level place) = search (steps_rules, answers_good)
+starts_good h words (AtCell f offset bits) = search steps_rules
+starts_good h words (AtElement a index) = search steps_rules
+starts_good h words (AtArray a) = search steps_rules
+starts_good h words (AtIntrinsic n) = search steps_rules
+
+arraydec_good : (h : OperatorContext) (arguments : List Word) → Good h (arraydec h arguments)
+arraydec_good h [] = search steps_rules
+arraydec_good h (w ∷ []) = search (steps_rules, answers_good) depth 8
+arraydec_good h (w ∷ v ∷ more) = search steps_rules
+
+print_good : (h : OperatorContext) (arguments : List Word) → Good h (print h arguments)
+print_good h [] = search steps_rules
+print_good h (w ∷ []) = search (steps_rules, answers_good)
+print_good h (w ∷ v ∷ more) = search steps_rules
+
+read_good : (h : OperatorContext) (arguments : List Word) → Good h (read h arguments)
+read_good h [] = search (steps_rules, answers_good)
+read_good h (w ∷ more) = search steps_rules
+
+process_good : (h : OperatorContext) (arguments : List Word) → Good h (process h arguments)
+process_good h [] = search steps_rules
+process_good h (w ∷ more) = search (steps_rules, starts_good)
+
+printrow_good : (h : OperatorContext) (arguments : List Word) → Good h (printrow h arguments)
+printrow_good h [] = search steps_rules
+printrow_good h (w ∷ []) = search (steps_rules, answers_good) depth 8
+printrow_good h (w ∷ v ∷ more) = search steps_rules
+
+awaits_good : (h : OperatorContext) (n : ℤ) → Good h (awaits h n)
+awaits_good h (pos n) = search (steps_rules, answers_good, tt)
+awaits_good h (negsuc n) = search (steps_rules, answers_good)
+
+await_good : (h : OperatorContext) (arguments : List Word) → Good h (await h arguments)
+await_good h [] = search steps_rules
+await_good h (w ∷ []) = search (steps_rules, awaits_good)
+await_good h (w ∷ v ∷ more) = search steps_rules
+
+status_good : (h : OperatorContext) (arguments : List Word) → Good h (status h arguments)
+status_good h [] = search steps_rules
+status_good h (w ∷ []) = search (steps_rules, answers_good)
+status_good h (w ∷ v ∷ more) = search steps_rules
+
+waits_at_good : (h : OperatorContext) (end : End) → Good h (waits_at h end)
+waits_at_good h (AtCell f offset bits) = search (steps_rules, answers_good, tt)
+waits_at_good h (AtProc f segment level place) = search steps_rules
+waits_at_good h (AtElement a index) = search steps_rules
+waits_at_good h (AtArray a) = search steps_rules
+waits_at_good h (AtIntrinsic n) = search steps_rules
+
+wait_good : (h : OperatorContext) (arguments : List Word) → Good h (wait h arguments)
+wait_good h [] = search steps_rules
+wait_good h (w ∷ []) = search (steps_rules, waits_at_good)
+wait_good h (w ∷ v ∷ more) = search steps_rules
+
+causes_good : (h : OperatorContext) (end : End) → Good h (causes h end)
+causes_good h (AtCell f offset bits) = search steps_rules
+causes_good h (AtProc f segment level place) = search steps_rules
+causes_good h (AtElement a index) = search steps_rules
+causes_good h (AtArray a) = search steps_rules
+causes_good h (AtIntrinsic n) = search steps_rules
+
+cause_good : (h : OperatorContext) (arguments : List Word) → Good h (cause h arguments)
+cause_good h [] = search steps_rules
+cause_good h (w ∷ []) = search (steps_rules, causes_good)
+cause_good h (w ∷ v ∷ more) = search steps_rules
+
+deallocate_good : (h : OperatorContext) (arguments : List Word) → Good h (deallocate h arguments)
+deallocate_good h [] = search steps_rules
+deallocate_good h (w ∷ []) = search (steps_rules, answers_good) depth 8
+deallocate_good h (w ∷ v ∷ more) = search steps_rules
+
+resize_good : (h : OperatorContext) (arguments : List Word) → Good h (resize h arguments)
+resize_good h [] = search steps_rules
+resize_good h (r ∷ []) = search steps_rules
+resize_good h (r ∷ w ∷ []) = search (steps_rules, answers_good) depth 10
+resize_good h (r ∷ w ∷ v ∷ more) = search steps_rules
+
+intrinsic_good : (n : ℕ) (h : OperatorContext) (arguments : List Word) → Good h (intrinsic n h arguments)
+intrinsic_good n h arguments = search (steps_rules, arraydec_good, print_good, printrow_good, read_good, process_good, await_good, status_good, wait_good, cause_good, deallocate_good, resize_good) depth 17
+
+entr_at_good : (h : OperatorContext) (arguments : List Word) (end : End) → Good h (entr_at h arguments end)
+entr_at_good h arguments (AtIntrinsic n) = intrinsic_good n h arguments
+entr_at_good h arguments (AtCell f offset bits) = search steps_rules
+entr_at_good h arguments (AtElement a index) = search steps_rules
+entr_at_good h arguments (AtArray a) = search steps_rules
+entr_at_good h arguments (AtProc f segment level place) = enters_good h arguments (AtProc f segment level place)
+
+entr_with_good : (h : OperatorContext) (cells : List Word) → Good h (entr_with h cells)
+entr_with_good h [] = search steps_rules
+entr_with_good h (w ∷ more) = search (steps_rules, entr_at_good)
+
+entr_good : (h : OperatorContext) (standing : Standing) → Good h (entr h standing)
+entr_good h Marked = entr_with_good h (reverse (cells_of h))
+entr_good h (Entered level environment back) = search steps_rules
+
+plain_good : (code : Code) (h : OperatorContext) → Good h (plain code h)
+plain_good Exit h = exit_good h
+plain_good Indx h = indx_good h (cells_of h)
+plain_good Retn h = retn_good h (top_of h).standing (cells_of h)
+plain_good Entr h = entr_good h (top_of h).standing
+plain_good Nxlv h = nxlv_good h (cells_of h)
+plain_good Mkst h = mkst_good h
+plain_good Stod h = store_good false h (cells_of h)
+plain_good Ston h = store_good true h (cells_of h)
+plain_good Load h = load_good h (cells_of h)
+plain_good code h = search steps_rules
+
+pub row_good : (op : Op) (h : OperatorContext) → Good h (row op h)
+row_good (Valc couple) h = valc_good h couple
+row_good (Brun target) h = search steps_rules
+row_good (Brtr target) h = branch_good true h (cells_of h) target
+row_good (Brfl target) h = branch_good false h (cells_of h) target
+row_good (Plain code) h = plain_good code h
+row_good op h = search steps_rules

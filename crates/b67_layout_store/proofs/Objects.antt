@@ -1,0 +1,154 @@
+-- The objects of a session with another number in an array: one of them is replaced.
+use Rattle.std.proofs.Common.{◌≡◌, ◌≢◌, ℕ, List, [], ◌∷◌, map, flat_map, Some, refl, sym, ◌∙◌, ap, Bool, true, false, ◌==◌, ⊎_elim, inl, inr, ◌⊎◌, subst}
+use Rattle.std.proofs.lemmas.Bool.{cases_Bool, cases_eq}
+use Rattle.std.proofs.lemmas.Option.{same_Some}
+use Rattle.b67_word.specs.Tagged.{Tagged}
+use Rattle.b67_area.specs.declared.Kind.TheVariants as kind
+use Rattle.b67_ctl.specs.declared.registers.Regs.{Regs}
+use Rattle.b67_lemmas.specs.Lists.{Has, Falls}
+use Rattle.b67_lemmas.proofs.Members.{falls_same, has_append_cases, has_append_left, has_append_right, has_flat, has_flat_back, has_map, has_map_back, keyed-has}
+use Rattle.b67_lemmas.proofs.Keyed.{changed_there}
+use Rattle.b67_model.specs.Keyed.{keyed, change_keyed}
+use Rattle.b67_model.specs.State.{Array, Job, JobProgress, SessionJob}
+use Rattle.b67_model.specs.Arrays as Arrays
+use Rattle.b67_model.specs.Arrays.{with_element}
+use Rattle.b67_model.specs.Run.{number_of}
+use Rattle.b67_model.specs.Schedule.{Session}
+use Rattle.b67_model.specs.InOrder.{IsInOrderButPlaces}
+use Rattle.b67_stack.specs.MachineView.{PagedObject}
+use Rattle.b67_stack.specs.Represents.{Storage, Represents}
+use Rattle.b67_layout.specs.Placement.{Placement}
+use Rattle.b67_layout.specs.Layout.{array_object, code_objects, objects_of, machine_view}
+use Rattle.b67_layout.specs.Session.{PlanFits}
+use Rattle.b67_layout.proofs.Fresh.{job_in_order}
+use Rattle.b67_layout.proofs.MachineViews.{with_course, member-same}
+use Rattle.b67_layout.proofs.Sessions.{change-has, change-kept}
+use Rattle.b67_layout_leave.proofs.Settles.{numbered_course}
+use Rattle.b67_layout_leave.proofs.Settled.{code_kind}
+use Rattle.b67_layout_store.proofs.Elements.{with_number, Replaces}
+use Rattle.b67_layout_store.proofs.Homes.{one_home}
+use Rattle.b67_law_order.proofs.Numbered.{keyed_member}
+
+pub identities_kept : (id i v : ℕ) (xs : List Array) → map (λ (a : Array). a.identity) (change_keyed (λ (a : Array). a.identity) id (Arrays.with_number i v) xs) ≡ map (λ (a : Array). a.identity) xs
+identities_kept id i v [] = refl
+identities_kept id i v (x ∷ xs) = ⊎_elim
+    (λ (t : (x.identity == id) ≡ true). rw t refl)
+    (λ (t : (x.identity == id) ≡ false). rw t (ap (λ (ns : List ℕ). x.identity ∷ ns) (identities_kept id i v xs)))
+    (cases_Bool (x.identity == id))
+
+array_kind : (plan : Placement) (j : ℕ) (a : Array) → (array_object plan j a).kind ≢ kind.Code
+array_kind plan j a = by a.writable where
+  by : (b : Bool) → Rattle.std.specs.Prelude.if◌then◌else◌ b kind.Array kind.Row ≢ kind.Code
+  by true e = let f : ⊥ = cc in f
+  by false e = let f : ⊥ = cc in f
+
+module _ (x : Storage) (core : List Tagged) (r : Regs) (plan : Placement) (s : Session) (o : IsInOrderButPlaces s) (fits : PlanFits plan s) (memory : Represents x core r (machine_view plan s.jobs))
+    (m : SessionJob) (member : keyed number_of m.constants.number s.jobs ≡ Some m) (a : Array) (found : keyed (λ (z : Array). z.identity) a.identity m.progress.job.arrays ≡ Some a) (i v : ℕ) where
+  abbrev j : ℕ
+  j = m.constants.number
+
+  abbrev key : Array → ℕ
+  key = λ (z : Array). z.identity
+
+  abbrev job' : Job
+  job' = with_element m.progress.job a.identity i v
+
+  abbrev c : JobProgress
+  c = record m.progress { job = with_element m.progress.job a.identity i v }
+
+  abbrev moved : SessionJob
+  moved = record m { progress = record m.progress { job = with_element m.progress.job a.identity i v } }
+
+  abbrev jobs' : List SessionJob
+  jobs' = with_course s.jobs m.constants.number (record m.progress { job = with_element m.progress.job a.identity i v })
+
+  abbrev pub t : PagedObject
+  t = array_object plan m.constants.number a
+
+  abbrev a' : Array
+  a' = Arrays.with_number i v a
+
+  has_m : Has s.jobs m
+  has_m = keyed-has number_of m.constants.number s.jobs m member
+
+  has_a : Has m.progress.job.arrays a
+  has_a = keyed-has (λ (z : Array). z.identity) a.identity m.progress.job.arrays a found
+
+  has_new : Has (with_element m.progress.job a.identity i v).arrays (Arrays.with_number i v a)
+  has_new = changed_there (λ (z : Array). z.identity) a.identity (Arrays.with_number i v) m.progress.job.arrays a found
+
+  pub old_object : Has (machine_view plan s.jobs).objects (array_object plan m.constants.number a)
+  old_object = has_flat (objects_of plan) s.jobs m t has_m (has_append_right (code_objects plan j 1 m.constants.segments) (map (array_object plan j) m.progress.job.arrays) t (has_map (array_object plan j) m.progress.job.arrays a has_a))
+
+  moved_there : Has jobs' moved
+  moved_there = keyed-has number_of m.constants.number jobs' moved (member-same s.jobs m.constants.number c m member)
+
+  -- an array of the changed job: the changed one, or another of before
+  array_of : (b : Array) → Has (with_element m.progress.job a.identity i v).arrays b → (b ≡ Arrays.with_number i v a) ⊎ (Has m.progress.job.arrays b × (b.identity ≢ a.identity))
+  array_of b h = ⊎_elim
+      (λ (e : b.identity ≡ a.identity). inl (falls_same (λ (z : Array). z.identity) m.progress.job.next_array job'.arrays b a' falls h has_new e))
+      (λ (ne : b.identity ≡ a.identity → ⊥). inr (⊎_elim (λ k. k) (λ (e : b ≡ a'). absurd (ne (ap (λ (z : Array). z.identity) e))) (change-has (λ (z : Array). z.identity) a.identity (Arrays.with_number i v) m.progress.job.arrays a found b h), ne))
+      (cases_eq b.identity a.identity) where
+        falls : Falls m.progress.job.next_array (map (λ (z : Array). z.identity) (with_element m.progress.job a.identity i v).arrays)
+        falls = subst (Falls m.progress.job.next_array) (sym (identities_kept a.identity i v m.progress.job.arrays)) (job_in_order s m o has_m).tasks.names
+
+  -- a member of the changed session: the changed one, or another of before
+  member_of : (y : SessionJob) → Has jobs' y → (y ≡ moved) ⊎ (Has s.jobs y × (y.constants.number ≢ m.constants.number))
+  member_of y h = ⊎_elim
+      (λ (e : y.constants.number ≡ m.constants.number). inl (
+      let there = keyed_member 1 jobs' y (numbered_course 1 m.constants.number c s.jobs o.numbered) h in
+      same_Some y moved (sym there ∙ ap (λ (n : ℕ). keyed number_of n jobs') e ∙ member-same s.jobs m.constants.number c m member)))
+      (λ (ne : y.constants.number ≡ m.constants.number → ⊥). inr (⊎_elim (λ k. k) (λ (e : y ≡ moved). absurd (ne (ap (λ (z : SessionJob). z.constants.number) e))) (change-has number_of m.constants.number (λ (z : SessionJob). record z { progress = c }) s.jobs m member y h), ne))
+      (cases_eq y.constants.number m.constants.number)
+
+  -- code has another address
+  code_apart : (y : SessionJob) → Has s.jobs y → (u : PagedObject) → Has (code_objects plan y.constants.number 1 y.constants.segments) u → u.home ≢ t.home
+  code_apart y h u k e =
+      let there = has_flat (objects_of plan) s.jobs y u h (has_append_left (code_objects plan y.constants.number 1 y.constants.segments) (map (array_object plan y.constants.number) y.progress.job.arrays) u k) in
+      let same : u ≡ t = memory.slots.laid.differ u t there old_object e in
+      array_kind plan j a (ap (λ (z : PagedObject). z.kind) (sym same) ∙ code_kind plan y.constants.number 1 y.constants.segments u k)
+
+  other_array : (y : SessionJob) (b : Array) → Has s.jobs y → Has y.progress.job.arrays b → (y ≡ m → b.identity ≢ a.identity) → plan.home y.constants.number b.identity ≢ plan.home j a.identity
+  other_array y b hy hb ne e = let one = one_home x core r plan s o fits memory y m b a hy has_m hb has_a e in ne one.0 one.1
+
+  in_moved : (u : PagedObject) → Has (objects_of plan moved) u → (u ≡ with_number i v t) ⊎ (Has (objects_of plan m) u × (u.home ≢ t.home))
+  in_moved u h = ⊎_elim
+      (λ k. inr (has_append_left (code_objects plan j 1 m.constants.segments) (map (array_object plan j) m.progress.job.arrays) u k, code_apart m has_m u k))
+      (λ k. (let b = has_map_back (array_object plan j) job'.arrays u k in ⊎_elim
+      (λ (e : b.item ≡ a'). inl (sym b.is ∙ ap (array_object plan j) e))
+      (λ q. inr (
+        has_append_right (code_objects plan j 1 m.constants.segments) (map (array_object plan j) m.progress.job.arrays) u (subst (Has (map (array_object plan j) m.progress.job.arrays)) b.is (has_map (array_object plan j) m.progress.job.arrays b.item q.0)),
+        λ e. other_array m b.item has_m q.0 (λ z. q.1) (ap (λ (z : PagedObject). z.home) b.is ∙ e),
+      ))
+      (array_of b.item b.among)))
+      (has_append_cases (code_objects plan j 1 m.constants.segments) (map (array_object plan j) job'.arrays) u h)
+
+  in_other : (y : SessionJob) (u : PagedObject) → Has s.jobs y → y.constants.number ≢ m.constants.number → Has (objects_of plan y) u → u.home ≢ t.home
+  in_other y u hy ne h = ⊎_elim
+      (λ k. code_apart y hy u k)
+      (λ k e. (let b = has_map_back (array_object plan y.constants.number) y.progress.job.arrays u k in
+      other_array y b.item hy b.among (λ z n. ne (ap (λ (w : SessionJob). w.constants.number) z)) (ap (λ (z : PagedObject). z.home) b.is ∙ e)))
+      (has_append_cases (code_objects plan y.constants.number 1 y.constants.segments) (map (array_object plan y.constants.number) y.progress.job.arrays) u h)
+
+  kept_in : (u : PagedObject) → Has (objects_of plan m) u → u.home ≢ t.home → Has (objects_of plan moved) u
+  kept_in u h ne = ⊎_elim
+      (λ k. has_append_left (code_objects plan j 1 m.constants.segments) (map (array_object plan j) job'.arrays) u k)
+      (λ k. (let b = has_map_back (array_object plan j) m.progress.job.arrays u k in ⊎_elim
+      (λ q. has_append_right (code_objects plan j 1 m.constants.segments) (map (array_object plan j) job'.arrays) u (subst (Has (map (array_object plan j) job'.arrays)) b.is (has_map (array_object plan j) job'.arrays b.item q)))
+      (λ q. absurd (ne (ap (λ (z : PagedObject). z.home) (sym b.is ∙ ap (array_object plan j) q.0))))
+      (change-kept (λ (z : Array). z.identity) a.identity (Arrays.with_number i v) m.progress.job.arrays a found b.item b.among)))
+      (has_append_cases (code_objects plan j 1 m.constants.segments) (map (array_object plan j) m.progress.job.arrays) u h)
+
+  pub replaces : Replaces (flat_map (objects_of plan) s.jobs) (flat_map (objects_of plan) (with_course s.jobs m.constants.number (record m.progress { job = with_element m.progress.job a.identity i v }))) (array_object plan m.constants.number a) i v
+  replaces = record {
+    new = has_flat (objects_of plan) jobs' moved (with_number i v t) moved_there
+        (has_append_right (code_objects plan j 1 m.constants.segments) (map (array_object plan j) job'.arrays) (with_number i v t) (has_map (array_object plan j) job'.arrays a' has_new));
+    each = λ u h. (let f = has_flat_back (objects_of plan) jobs' u h in ⊎_elim
+        (λ (e : f.item ≡ moved). ⊎_elim inl (λ q. inr (has_flat (objects_of plan) s.jobs m u has_m q.0, q.1)) (in_moved u (subst (λ (y : SessionJob). Has (objects_of plan y) u) e f.inside)))
+        (λ q. inr (has_flat (objects_of plan) s.jobs f.item u q.0 f.inside, in_other f.item u q.0 q.1 f.inside))
+        (member_of f.item f.among));
+    kept = λ u h ne. (let f = has_flat_back (objects_of plan) s.jobs u h in ⊎_elim
+        (λ k. has_flat (objects_of plan) jobs' f.item u k f.inside)
+        (λ k. has_flat (objects_of plan) jobs' moved u k.1 (kept_in u (subst (λ (y : SessionJob). Has (objects_of plan y) u) k.0 f.inside) ne))
+        (change-kept number_of m.constants.number (λ (z : SessionJob). record z { progress = c }) s.jobs m member f.item f.among));
+  }

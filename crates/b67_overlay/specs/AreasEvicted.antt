@@ -1,0 +1,42 @@
+-- What remains of a storage where areas were given back.
+use Rattle.std.specs.Prelude.{◌≡◌, ◌≢◌, ℕ, ◌<◌, ◌≤◌, ◌⊎◌, List, length, Option, Some, None}
+use Rattle.b67_area.specs.declared.Info.{Info}
+use Rattle.b67_area.specs.Spans.{Span, area_at}
+use Rattle.b67_backing.specs.Held.{sectors_for}
+use Rattle.b67_stack.specs.MachineView.{PagedObject, MachineView}
+use Rattle.b67_stack.specs.Represents.{Storage}
+use Rattle.b67_layout_storage.specs.Machine.{IsPresent}
+use Rattle.b67_overlay.specs.Overlaid.{IsShort}
+
+-- areas were given back, but not the one at `spare`: what was not in core is where it was
+pub record AreasEvicted (x y : Storage) (spare : ℕ) : Type 0 where
+  pub low : y.low ≡ x.low
+  pub resting : (home : ℕ) → (x.held home).area ≡ None → y.held home ≡ x.held home
+  pub spared : (home : ℕ) → (x.held home).area ≡ Some spare → y.held home ≡ x.held home
+  pub untold : x.device ≡ None → y.device ≡ None
+  pub told : x.device ≢ None → y.device ≢ None
+
+-- an area's head stands before its address, so the areas at addresses above `upto` are those without a word below it.
+-- Each of them is where it was, with the same words and the same chain
+abbrev pub StaysAbove : ℕ → Storage → Storage → Type 0
+StaysAbove upto x y = (at : ℕ) (a : Info) → upto < at → area_at x.low x.spans at ≡ Some a → area_at y.low y.spans at ≡ Some a
+
+-- areas were given back, and none without a word below `upto`
+pub record EvictedBelow (upto : ℕ) (x y : Storage) : Type 0 where
+  pub evicted : AreasEvicted x y 0
+  pub stays : StaysAbove upto x y
+
+-- the next area of a walk upwards is there, and all areas but that at `spare` are this one or lie above it
+abbrev pub Remains : ℕ → List Span → ℕ → Option ℕ → Type 0
+Remains low spans spare None = (at : ℕ) (a : Info) → area_at low spans at ≡ Some a → at ≡ spare
+Remains low spans spare (Some next) =
+    ((a : Info) × (area_at low spans next ≡ Some a)) × ((at : ℕ) (a : Info) → area_at low spans at ≡ Some a → (at ≡ spare) ⊎ (next ≤ at))
+
+-- a present array that keeps no chain needs so many sectors, and no more than that are free
+pub record IsShortBy (x : Storage) (p : MachineView) (wants free : ℕ) : Type 0 where
+  pub object : PagedObject
+  pub at : ℕ
+  pub present : IsPresent x p at object
+  pub short : IsShort x object
+  pub wants_is : wants ≡ sectors_for (length object.numbers)
+  pub free_is : free ≡ length x.shelf.free

@@ -1,0 +1,38 @@
+//! Opening a session that runs.
+
+ghost use Rattle.std.specs.Prelude.{◌≡◌, ◌<◌, ◌≤◌, ◌^◌, length, map};
+ghost use Rattle.b67_codefile.specs.Meaning.{program_of};
+ghost use Rattle.b67_layout_storage.specs.Machine.{DeviceAfterCalls};
+ghost use Rattle.b67_session_open.specs.Decks.{DeckInRange};
+ghost use Rattle.b67_session_open.specs.Opens.{IsOpened};
+
+use crate::running::Session;
+use b67_backing::Backing;
+use b67_load_verify::Admitted;
+use b67_model_text::Deck;
+use b67_session_open::{OpenFault, open as open_machine};
+use std::alloc::Global;
+
+/// Opens a deck's session with a program for each job, in a core of so many words over a device: its machine represents the
+/// opening state, and a slice of steps may be called. Refused in this order: if memory is refused; with `NoCore` exactly if
+/// the opening's need exceeds core; with `BackingFull` exactly if the programs take more sectors than the device has; with
+/// `BackingFault` only if the device failed. After all other refusals the device is as it was.
+pub fn open<B: Backing>(
+    alloc: Global,
+    deck: &Deck,
+    programs: &[Admitted],
+    core_words: u32,
+    backing: &mut B,
+) -> Result<Session, OpenFault>
+    requires range { DeckInRange deck.now }
+    requires each { length programs.now ≡ length deck.now.jobs }
+    requires core_low { 256 ≤ core_words }
+    requires core_high { core_words < 2 ^ 20 }
+    ensures opens { IsOpened B.holds B.size B.faults deck.now (map program_of programs.now) core_words backing.old backing.new result }
+    ensures device { DeviceAfterCalls B.holds B.size B.calls B.faults backing.old backing.new }
+{
+    match open_machine(alloc, deck, programs, core_words, backing) {
+        Ok(machine) => Ok(Session::of(machine)),
+        Err(fault) => Err(fault),
+    }
+}

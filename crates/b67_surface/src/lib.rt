@@ -1,0 +1,37 @@
+//! The public surface: each call once, at the crate where it is promised, with its signature and what it asks for; and the
+//! rows of the crates whose calls need no machine.
+#![tactic(auto)]
+
+#[cfg(test)]
+mod area_rows;
+#[cfg(test)]
+mod arith_rows;
+#[cfg(test)]
+mod asm_rows;
+#[cfg(test)]
+mod card_rows;
+#[cfg(test)]
+mod codefile_rows;
+mod control;
+#[cfg(test)]
+mod core_rows;
+#[cfg(test)]
+mod ctl_rows;
+mod devices;
+#[cfg(test)]
+mod job_admit_rows;
+#[cfg(test)]
+mod job_texts_rows;
+#[cfg(test)]
+mod load_verify_rows;
+mod pages;
+mod session;
+#[cfg(test)]
+mod session_lines_rows;
+#[cfg(test)]
+mod session_schedule_rows;
+mod stacks;
+mod texts;
+#[cfg(test)]
+mod word_rows;
+mod words;

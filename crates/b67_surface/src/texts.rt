@@ -1,0 +1,36 @@
+//! Codefiles, decks, the assembler.
+
+ghost use Rattle.b67_codefile.specs.Spelling.{IsWithin};
+
+use b67_asm::AsmFault;
+use b67_card::DeckFault;
+use b67_codefile::{BadFile, Codefile};
+use b67_io::Source;
+use b67_model_text::{Cards, Deck};
+use b67_word::Bytes;
+use std::alloc::{AllocError, Global};
+
+// b67_codefile
+pub fn read(alloc: Global, bytes: &[u8]) -> Result<Codefile, BadFile> {
+    b67_codefile::read(alloc, bytes)
+}
+
+pub fn write(alloc: Global, file: &Codefile) -> Result<Bytes, AllocError>
+    requires { IsWithin file.now }
+{
+    b67_codefile::write(alloc, file)
+}
+
+// b67_card
+pub fn read_deck<S: Source>(alloc: Global, source: &mut S) -> Result<Deck, DeckFault> {
+    b67_card::read_deck(alloc, source)
+}
+
+pub fn read_cards<S: Source>(alloc: Global, source: &mut S) -> Result<Cards, DeckFault> {
+    b67_card::read_cards(alloc, source)
+}
+
+// b67_asm
+pub fn assemble(alloc: Global, cards: &Cards) -> Result<Codefile, AsmFault> {
+    b67_asm::assemble(alloc, cards)
+}
