@@ -406,3 +406,25 @@ deallocated_row =
 abbrev pub resized_row : ℕ → List Segment
 resized_row to =
     segment 2 (MKST ∷ NAMC 0 18 ∷ NAMC 1 3 ∷ LOAD ∷ LT8 to ∷ ENTR ∷ EXIT ∷ []) ∷ []
+
+-- a copy of the array is made, the array becomes longer, and the row of the copy is printed
+abbrev pub printed_longer : List Segment
+printed_longer =
+    segment 2 (MKST ∷ NAMC 0 8 ∷ LT8 2 ∷ ENTR ∷ NAMC 2 2 ∷ LOAD ∷ MKST ∷ NAMC 0 18 ∷ NAMC 2 2 ∷ LOAD ∷ LT8 4 ∷ ENTR ∷
+    MKST ∷ NAMC 0 10 ∷ NAMC 2 3 ∷ LOAD ∷ ENTR ∷ EXIT ∷ []) ∷ []
+
+-- an array of two numbers becomes one of so many
+abbrev pub resized_to : ℕ → List Segment
+resized_to to =
+    segment 2 (MKST ∷ NAMC 0 8 ∷ LT8 2 ∷ ENTR ∷ MKST ∷ NAMC 0 18 ∷ NAMC 2 2 ∷ LOAD ∷ LT48 to ∷ ENTR ∷ EXIT ∷ []) ∷ []
+
+-- the marked element, the tenth, is indexed as if it were an array, once the array has so many numbers
+abbrev pub indexed_as_array : ℕ → List Segment
+indexed_as_array to =
+    segment 2 (marks_last ++ (MKST ∷ NAMC 0 18 ∷ NAMC 2 2 ∷ LOAD ∷ LT8 to ∷ ENTR ∷ NAMC 2 3 ∷ LT8 0 ∷ INDX ∷ EXIT ∷ [])) ∷ []
+
+-- the array becomes shorter, and then as long as it was; the marked element
+abbrev pub shortened_and_back : List Segment
+shortened_and_back =
+    segment 2 (marks_last ++ (MKST ∷ NAMC 0 18 ∷ NAMC 2 2 ∷ LOAD ∷ LT8 9 ∷ ENTR ∷ MKST ∷ NAMC 0 18 ∷ NAMC 2 2 ∷ LOAD ∷ LT8 10 ∷ ENTR ∷
+    MKST ∷ NAMC 0 9 ∷ VALC 2 3 ∷ ENTR ∷ EXIT ∷ [])) ∷ []
