@@ -8,7 +8,8 @@ use Rattle.b67_word.specs.declared.couples.Place.{Place}
 use Rattle.b67_word.specs.declared.faults.Fault.{Fault}
 use Rattle.b67_word.specs.declared.faults.Fault.TheVariants.{InvalidOperand, MemoryProtect, StackOverflow}
 use Rattle.b67_model.specs.Answers.{Answer, ◌>>=◌}
-use Rattle.b67_model.specs.Arrays.{array, no_array, in_order, with_element}
+use Rattle.b67_model.specs.Arrays.{array, no_array, with_element}
+use Rattle.b67_model.specs.Indexing.{in_order}
 use Rattle.b67_model.specs.Keyed.{keyed}
 use Rattle.b67_model.specs.Chase as Chase
 use Rattle.b67_model.specs.Chase.{AtCell, AtElement, AtArray, AtProc, AtIntrinsic, follow}

@@ -90,7 +90,7 @@ pub record OperatorContext : Type 0 where
 -- identity 0 is the frame of the MCP in each job, and 1 the job's dictionary. The MCP's frame has no environment beside
 -- itself
 abbrev pub mcp : Frame
-mcp = record { identity = 0; standing = Entered 0 0 None; cells = Intrinsic 16 ∷ Intrinsic 15 ∷ Intrinsic 14 ∷ Intrinsic 13 ∷ Intrinsic 12 ∷ Intrinsic 11 ∷ Intrinsic 10 ∷ Intrinsic 9 ∷ Intrinsic 8 ∷ [] }
+mcp = record { identity = 0; standing = Entered 0 0 None; cells = Intrinsic 18 ∷ Intrinsic 17 ∷ Intrinsic 16 ∷ Intrinsic 15 ∷ Intrinsic 14 ∷ Intrinsic 13 ∷ Intrinsic 12 ∷ Intrinsic 11 ∷ Intrinsic 10 ∷ Intrinsic 9 ∷ Intrinsic 8 ∷ [] }
 
 -- what stands for a frame that no identity names
 abbrev pub no_frame : Frame
