@@ -13,7 +13,7 @@ use Rattle.b67_model.specs.Words.{Word, Operand, Name, Ref, Row, Element, Origin
 use Rattle.b67_model.specs.State.{Array, Task, Segment, JobConstants, Job, SessionJob}
 use Rattle.b67_model.specs.Operators.{operator_at, reads, count_at, form_of, syllable}
 use Rattle.b67_model.specs.declared.operators.Undecodable.TheVariants.{BadPlace}
-use Rattle.b67_model.specs.InOrder.{Known, IsSegment, IsStart, NamesArray, OwnsArray, NamesEntered, ArrayInOrder, EntryInOrder, TaskInOrder, SettingInOrder, SegmentInOrder, DictionaryWords, JobInOrder, NumberedFrom, originals_of}
+use Rattle.b67_model.specs.InOrder.{Known, IsSegment, IsStart, NamesArray, OwnsArray, NamesEntered, ArrayInOrder, EntryInOrder, TaskInOrder, TasksInOrder, SettingInOrder, SegmentInOrder, DictionaryWords, JobInOrder, NumberedFrom, originals_of}
 use Rattle.b67_law_order_steps.proofs.Admitted.{entered}
 use Rattle.b67_law_order_steps.specs.Weaker.{Recoded, RefilledArray, Refilled, AllOtherNumbers, StartsAreSegments, OtherNumbersKeepOrder}
 use Rattle.b67_law_order_steps.proofs.Maps.{task_up}

@@ -16,6 +16,7 @@ use Rattle.b67_model.specs.State.{JobProgress, Task, SessionJob}
 use Rattle.b67_single.specs.Single.{IsSingle}
 use Rattle.b67_stack.specs.Represents.{Storage}
 use Rattle.b67_layout.specs.Meets.{with_job}
+use Rattle.b67_layout.specs.Orders.{IsInOrderButCounts}
 use Rattle.b67_layout.specs.Placement.{Placement}
 use Rattle.b67_task_tables.specs.declared.tables.JobRow.{JobRow}
 use Rattle.b67_task_tables.specs.declared.tables.Tasks.{Tasks}
@@ -66,7 +67,7 @@ PutsText taken text (Err _) before after paper paper' = ⊥
 
 -- the only task's row is gone, its slot is free, and its arrays are given back, whatever the counts are
 pub record IsEmptied (old new : Machine) : Type 0 where
-  pub stands : (u : Tasks) (x : Storage) (told : Option (List (List ℕ))) (plan : Placement) (s : Session) (m : SessionJob) (t : Task) (ending : Ending) → HasRowsOf old u → IsInOrderButPlaces s
+  pub stands : (u : Tasks) (x : Storage) (told : Option (List (List ℕ))) (plan : Placement) (s : Session) (m : SessionJob) (t : Task) (ending : Ending) → HasRowsOf old u → IsInOrderButCounts s
       → MachineRepresents x told (record old { tasks = u }) plan s → IsSingle s m t → EndsIn told plan s m t ending (record new { tasks = record u { rows = new.tasks.rows; running = 255 } })
   pub tasks : new.tasks ≡ record old.tasks { rows = new.tasks.rows; running = 255; printed = 0 }
   pub rows : new.tasks.rows.items ≡ []
