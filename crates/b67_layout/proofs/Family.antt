@@ -96,7 +96,7 @@ zeros n = replicate n (word 0 0)
 abbrev mcp_words : List Tagged
 mcp_words =
     word 3 (2 ^ 46) ∷ zeros 7
-    ++ word 7 (2 ^ 19 + 8) ∷ word 7 (2 ^ 19 + 9) ∷ word 7 (2 ^ 19 + 10) ∷ word 7 (2 ^ 19 + 11) ∷ word 7 (2 ^ 19 + 12) ∷ word 7 (2 ^ 19 + 13) ∷ word 7 (2 ^ 19 + 14) ∷ word 7 (2 ^ 19 + 15) ∷ word 7 (2 ^ 19 + 16) ∷ zeros 15
+    ++ word 7 (2 ^ 19 + 8) ∷ word 7 (2 ^ 19 + 9) ∷ word 7 (2 ^ 19 + 10) ∷ word 7 (2 ^ 19 + 11) ∷ word 7 (2 ^ 19 + 12) ∷ word 7 (2 ^ 19 + 13) ∷ word 7 (2 ^ 19 + 14) ∷ word 7 (2 ^ 19 + 15) ∷ word 7 (2 ^ 19 + 16) ∷ word 7 (2 ^ 19 + 17) ∷ word 7 (2 ^ 19 + 18) ∷ zeros 13
     ++ word 3 (2 ^ 46 + 1023 * 2 ^ 36 + 1 * 2 ^ 16) ∷ word 3 (2 ^ 46 + 0 * 2 ^ 36 + 1 * 2 ^ 16) ∷ []
 
 -- from word 152: the link to the hole, the dictionary, the two stacks, the area and the hole
@@ -300,7 +300,7 @@ holds = record {
   settled = only object (λ t. (k : ℕ) → k < 2 → slot_base p k ≤ t.home → t.home < slot_base p k + p.size → t.home ≤ slot_base p k + stack_words (stack_of (p.slots k)))
       (two_slots (λ k. slot_base p k ≤ 162 → 162 < slot_base p k + p.size → 162 ≤ slot_base p k + stack_words (stack_of (p.slots k))) (λ low up. absurd (omega arith)) (λ low up. absurd (omega arith)));
   dictionaries = only member (RepresentsDictionary core plan) (record { mark = refl; entries = refl });
-  mcp = record { mark = refl; intrinsics = λ n low up. all_from (λ q. slice_get core q ≡ Some (word 7 (2 ^ 19 + q))) 8 9 (refl, (refl, (refl, (refl, (refl, (refl, (refl, (refl, (refl, tt))))))))) n low (omega arith) };
+  mcp = record { mark = refl; intrinsics = λ n low up. all_from (λ q. slice_get core q ≡ Some (word 7 (2 ^ 19 + q))) 8 11 (refl, (refl, (refl, (refl, (refl, (refl, (refl, (refl, (refl, (refl, (refl, tt))))))))))) n low (omega arith) };
   vector = vector;
   critical = critical;
   live = λ n. (member, child, runs);
