@@ -40,7 +40,7 @@ abbrev code : List ℕ
 code = 0xae4009b202b2 ∷ 0x0380aba3ffff ∷ []
 
 abbrev program : Program
-program = record { segments = record { level = 2; code = code } ∷ []; rows = [] }
+program = record { segments = record { level = 2; entries = []; code = code } ∷ []; rows = [] }
 
 abbrev parent : Task
 parent = record { number = 1; parents = []; critical = 0; frames = record { identity = 2; standing = Entered 2 1 None; cells = [] } ∷ []; segment = 1; place = record { word = 0; syllable = 0 }; condition = Ready }
