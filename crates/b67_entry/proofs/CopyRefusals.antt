@@ -1,5 +1,5 @@
 -- Which descriptors may not be returned, by their words.
-use Rattle.std.proofs.Common.{◌≡◌, ◌≢◌, ℕ, ◌+◌, ◌<◌, ◌≤◌, List, ◌∷◌, map, unwrap_or, Option, Some, None, refl, sym, ◌∙◌, ap, arith, true, false, inl, inr, subst}
+use Rattle.std.proofs.Common.{◌≡◌, ◌≢◌, ℕ, ◌+◌, ◌<◌, ◌≤◌, List, ◌∷◌, map, unwrap_or, Option, Some, None, refl, sym, ◌∙◌, ap, arith, true, false, not, inl, inr, subst}
 use Rattle.std.proofs.lemmas.Bool.{true≢false, cases_eq}
 use Rattle.std.proofs.lemmas.Bool.Decides.{eqb_tells}
 use Rattle.b67_word.specs.Tagged.{Tagged}
@@ -49,6 +49,13 @@ module _ (x : Storage) (cpu : Cpu) (plan : Placement) (s : Session) (m : Session
   abbrev Ordered : Word → Type 0
   Ordered u = WordInOrder (IsSegment m.constants) m.progress.job.arrays (reach_of m.progress.job t) b.frame.identity u
 
+  -- copies of an array, and of its element
+  abbrev row_copied : ℕ → Copied
+  row_copied a = record { index = None; read_only = not (array m.progress.job a).writable }
+
+  abbrev element_copied : ℕ → ℕ → Copied
+  element_copied a index = record { index = Some index; read_only = not (array m.progress.job a).writable }
+
   tag_apart : {A : Type 0} (u : Tagged) → w.tag ≡ 5 → w ≡ u → u.tag ≢ 5 → A
   tag_apart u five is ne = absurd (ne (sym (ap (λ (z : Tagged). z.tag) is) ∙ five))
 
@@ -57,8 +64,8 @@ module _ (x : Storage) (cpu : Cpu) (plan : Placement) (s : Session) (m : Session
   has_desc five = by v b.fits b.order where
     by : (u : Word) → Fit u → Ordered u → (d : DataDesc) × IsDataDesc d × (w ≡ data_word d)
     by (Original a) fit g = (fit.1.desc, fit.1.fits, fit.1.is)
-    by (Row a) fit g = (copy_desc _ fit.number fit.present fit.address, fit.fits, fit.is)
-    by (Element a index) fit g = (copy_desc _ fit.number fit.present fit.address, fit.fits, fit.is)
+    by (Row a) fit g = (copy_desc (row_copied a) fit.number fit.present fit.address, fit.fits, fit.is)
+    by (Element a index) fit g = (copy_desc (element_copied a index) fit.number fit.present fit.address, fit.fits, fit.is)
     by (Operand bits) fit g = tag_apart _ five fit.0 (λ e. omega (arith, e))
     by (Name couple) fit g = tag_apart _ five fit.0 (λ e. omega (arith, e))
     by (Ref a offset) fit g = tag_apart _ five fit.0 (λ e. omega (arith, e))
@@ -75,8 +82,8 @@ module _ (x : Storage) (cpu : Cpu) (plan : Placement) (s : Session) (m : Session
     by : (u : Word) → Fit u → Ordered u → Refuses (Some InvalidOperand) u (returnable m.progress.job (top t.frames).identity u)
     by (Original a) fit g = refl
     by (Name couple) fit g = refl
-    by (Row a) fit g = no_copy (copy_desc _ fit.number fit.present fit.address) fit.fits fit.is refl
-    by (Element a index) fit g = no_copy (copy_desc _ fit.number fit.present fit.address) fit.fits fit.is refl
+    by (Row a) fit g = no_copy (copy_desc (row_copied a) fit.number fit.present fit.address) fit.fits fit.is refl
+    by (Element a index) fit g = no_copy (copy_desc (element_copied a index) fit.number fit.present fit.address) fit.fits fit.is refl
     by (Operand bits) fit g = tag_apart _ five fit.0 (λ e. omega (arith, e))
     by (Ref a offset) fit g = tag_apart _ five fit.0 (λ e. omega (arith, e))
     by (Proc segment level place) fit g = tag_apart _ five fit.0 (λ e. omega (arith, e))

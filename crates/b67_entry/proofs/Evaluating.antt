@@ -181,7 +181,7 @@ module _ (x : Storage) (old : Cpu) (plan : Placement) (s : Session) (m : Session
         touched = number;
         is = element_answer ∙ pushes_there (Operand (element m.progress.job number index)) (Some number);
         absent = none;
-        named = ap what.Array q.home;
+        named = ap what.Array q.array_of.home;
       }
 
     pub array_refused : (original : ℕ) → EndMeets scene a.back.place (Ok (end.Array original)) (follow seen v) → returned (here_left m t a) v true ≡ Err InvalidOperand

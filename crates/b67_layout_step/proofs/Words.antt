@@ -1,5 +1,5 @@
 -- The array that a word names, a reference leads to, or an end is in.
-use Rattle.std.proofs.Common.{◌≡◌, ℕ, zero, suc, List, [], ◌∷◌, flat_map, length, Option, Some, None, unwrap_or, Ok, Err, refl, subst, inl, inr, ◌⊎◌, ◌==◌}
+use Rattle.std.proofs.Common.{ltb, ◌≡◌, ℕ, zero, suc, List, [], ◌∷◌, flat_map, length, Option, Some, None, unwrap_or, Ok, Err, refl, subst, inl, inr, ◌⊎◌, ◌==◌}
 use Rattle.std.proofs.lemmas.Bool.{cases_Bool}
 use Rattle.b67_model.specs.Answers.{Answer}
 use Rattle.b67_model.specs.Keyed.{keyed, change_keyed}
