@@ -240,6 +240,15 @@ fitted n (Some op) = needs (nat_le (next n op) (6 * 8191)) 7 >> Ok op
 abbrev pub entered : Names → sketch.Sketch → Op → Answer Op
 entered names sketch op = needs (has_entry names sketch) 11 >> Ok op
 
+-- the operator of a segment's card that begins at syllable n
+abbrev pub operator_of : Scope → ℕ → Option (List ℕ) → sketch.Sketch → Answer Op
+operator_of x n label sketch = do
+  needs (is_in_range sketch) 3
+  needs (is_first_label x.labels n label) 4
+  needs (has_names x.names sketch && has_label x.labels sketch) 5
+  op ← fitted n (denoted x sketch)
+  entered x.names sketch op
+
 -- what a segment's card adds: an operator, or the syllable of an entry
 pub data Added : Type 0 where
   AddedOperator : Op → Added
@@ -252,13 +261,7 @@ entry_at entries (Some n) = needs (not (n == 0) && not (list_any (λ m. m == n) 
 
 -- what a segment's card adds that stands at syllable n behind the cards of these entries
 abbrev pub added_by : Scope → (n : ℕ) (entries : List ℕ) → statement.Statement → Answer Added
-added_by x n entries (statements.Operator label sketch) = do
-  needs (is_in_range sketch) 3
-  needs (is_first_label x.labels n label) 4
-  needs (has_names x.names sketch && has_label x.labels sketch) 5
-  op ← fitted n (denoted x sketch)
-  op ← entered x.names sketch op
-  Ok (AddedOperator op)
+added_by x n entries (statements.Operator label sketch) = operator_of x n label sketch >>= λ op. Ok (AddedOperator op)
 added_by x n entries (statements.Entry label) = entry_at entries (x.labels label)
 added_by x n entries other = Err (misplaced x.names other)
 
