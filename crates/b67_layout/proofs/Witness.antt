@@ -35,7 +35,7 @@ abbrev code : List ℕ
 code = 0xae4009b202b2 ∷ 0x0380aba3ffff ∷ []
 
 abbrev program : Program
-program = record { segments = record { level = 2; code = code } ∷ []; rows = [] }
+program = record { segments = record { level = 2; entries = []; code = code } ∷ []; rows = [] }
 
 abbrev member : SessionJob
 member = opened 1 program 64 1000 []

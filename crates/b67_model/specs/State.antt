@@ -47,9 +47,10 @@ pub record Task : Type 0 where
   pub place : Place
   pub condition : Condition
 
--- a segment of code, of 48-bit words
+-- a segment of code, of 48-bit words. Beside its first place a procedure may begin at its entries, each as a branch's 16 bits
 pub record Segment : Type 0 where
   pub level : ℕ
+  pub entries : List ℕ
   pub code : List ℕ
 
 -- what no step of a job changes: its number, the stack size and the limit, its segments and its dictionary

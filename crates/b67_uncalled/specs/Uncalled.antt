@@ -50,7 +50,7 @@ UnbuiltIsNeverCalled =
 
 -- an outer block of one word of code
 abbrev pub block : ℕ → Program
-block word = record { segments = record { level = 2; code = word ∷ [] } ∷ []; rows = [] }
+block word = record { segments = record { level = 2; entries = []; code = word ∷ [] } ∷ []; rows = [] }
 
 -- MKST, NAMC, ONE, ENTR, EXIT where the couple names the intrinsic 11, 12 or 16, or the cell 12 of level 1; and with VALC
 -- of the intrinsic 12, which calls nothing, in the place of NAMC
