@@ -139,8 +139,8 @@ headed x n entries l more content e =
 filled_length : (n : ℕ) → length (filling n) ≡ (6 - n % 6) % 6
 filled_length n = length-replicate ((6 - n % 6) % 6) 0xFF
 
-literal_next : (n bits : ℕ) → 6 * (n / 6 + 2) ≡ n + (1 + length (filling (n + 1) ++ six_syllables bits))
-literal_next n bits = omega (arith, length-append (filling (n + 1)) (six_syllables bits), filled_length (n + 1))
+literal_next : (s n bits : ℕ) → 6 * (n / 6 + 2) ≡ n + length ((s ∷ []) ++ (filling (n + 1) ++ six_syllables bits))
+literal_next s n bits = omega (arith, length-append (filling (n + 1)) (six_syllables bits), filled_length (n + 1))
 
 -- the syllable behind an operator, as it is counted and as it is laid
 pub next_is : (op : Op) (n : ℕ) → syllable_after op n ≡ next n op
@@ -148,8 +148,8 @@ next_is (Valc bits) n = refl
 next_is (Namc bits) n = refl
 next_is (Lt8 bits) n = refl
 next_is (Lt16 bits) n = refl
-next_is (Lt48 bits) n = literal_next n bits
-next_is (Mpcw bits) n = literal_next n bits
+next_is (Lt48 bits) n = literal_next 0xBE n bits
+next_is (Mpcw bits) n = literal_next 0xBF n bits
 next_is (Brun place) n = refl
 next_is (Brtr place) n = refl
 next_is (Brfl place) n = refl
