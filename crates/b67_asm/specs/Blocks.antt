@@ -19,15 +19,15 @@ use Rattle.b67_asm.specs.declared.fault.AsmFault.TheVariants.{Card, Memory}
 abbrev pub segment_head : asm.Names → (s r : ℕ) (name : List ℕ) (level : Option ℕ) → List Line → Answer ℕ
 segment_head names s r name level lines = do
   l ← or_reason level 3
-  needs (asm.is_segment_number s (names name)) 4
-  needs (list_any (λ l. not (asm.is_numbers l.kind)) lines) 7
+  needs (asm.is_segment_number s (names.means name)) 4
+  needs (list_any asm.is_code lines) 7
   needs (nat_lt (s + r) 255) 9
   Ok l
 
 -- what is refused of a data row's card
 abbrev pub row_head : asm.Names → (s r : ℕ) (name : List ℕ) → List Line → Answer ⊤
 row_head names s r name lines = do
-  needs (asm.is_row_number r (names name)) 4
+  needs (asm.is_row_number r (names.means name)) 4
   needs (list_any (λ l. asm.is_numbers l.kind) lines) 7
   needs (nat_lt (s + r) 255) 9
 
@@ -79,15 +79,15 @@ abbrev pub with_names : asm.Names → List Line → Result Program Refusal
 with_names names all = asm.no_strays names all >>= λ _. asm.program_from names (asm.segment_count 0 all) 0 0 all
 
 abbrev pub assembled_lines : List Line → Result Program Refusal
-assembled_lines all = with_names (λ name. asm.meaning (asm.definitions 0 0 all) name) all
+assembled_lines all = with_names (asm.names_of all) all
 
 abbrev pub IsChecked : Result ⊤ AsmFault → Result ⊤ Refusal → Type 0
 IsChecked (Ok done) answer = answer ≡ Ok tt
 IsChecked (Err (Card card reason)) answer = answer ≡ Err (record { card = card; reason = reason })
 IsChecked (Err Memory) answer = ⊥
 
--- the codefile that the cards denote, or the first refused card
-abbrev pub IsAssembled : Result Codefile AsmFault → Result Program Refusal → Type 0
-IsAssembled (Ok f) answer = (answer ≡ Ok (program_of f)) × IsWithin f
-IsAssembled (Err (Card card reason)) answer = answer ≡ Err (record { card = card; reason = reason })
-IsAssembled (Err Memory) answer = Unit {0}
+-- the codefile of this version that the cards denote, or the first refused card
+abbrev pub IsAssembled : Result Codefile AsmFault → ℕ → Result Program Refusal → Type 0
+IsAssembled (Ok f) version answer = (answer ≡ Ok (program_of f)) × (f.version ≡ version) × IsWithin f
+IsAssembled (Err (Card card reason)) version answer = answer ≡ Err (record { card = card; reason = reason })
+IsAssembled (Err Memory) version answer = Unit {0}
