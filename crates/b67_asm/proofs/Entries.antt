@@ -23,33 +23,32 @@ strictly m n le e = grind arith
 -- a number that isn't there is put among numbers that rise
 rises_in : (low n : ℕ) (xs : List ℕ) → Rises low xs → low < n → list_any (λ m. m == n) xs ≡ false → Rises low (asm.in_order n xs)
 rises_in low n [] h lt none = (lt, tt)
-rises_in low n (m ∷ more) h lt none = by_test (nat_lt n m) refl
+rises_in low n (m ∷ more) h lt none =
+    let parts = or_parts (m == n) (list_any (λ m. m == n) more) none in
+    by_test (λ le. rises_in m n more h.1 (strictly m n le parts.0) parts.1) (nat_lt n m) refl
   where
-    parts : ((m == n) ≡ false) × (list_any (λ m. m == n) more ≡ false)
-    parts = or_parts (m == n) (list_any (λ m. m == n) more) none
-
-    by_test : (b : Bool) → nat_lt n m ≡ b → Rises low (cond b (n ∷ m ∷ more) (m ∷ asm.in_order n more))
-    by_test true t = (lt, ltb-true n m t, h.1)
-    by_test false t = (h.0, rises_in m n more h.1 (strictly m n (ltb-false n m t) parts.0) parts.1)
+    by_test : (m ≤ n → Rises m (asm.in_order n more)) → (b : Bool) → nat_lt n m ≡ b → Rises low (cond b (n ∷ m ∷ more) (m ∷ asm.in_order n more))
+    by_test go true t = (lt, (ltb-true n m t, h.1))
+    by_test go false t = (h.0, go (ltb-false n m t))
 
 length_in : (n : ℕ) (xs : List ℕ) → length (asm.in_order n xs) ≡ length xs + 1
 length_in n [] = refl
-length_in n (m ∷ more) = by_test (nat_lt n m)
+length_in n (m ∷ more) = by_test (length_in n more) (nat_lt n m)
   where
-    by_test : (b : Bool) → length (cond b (n ∷ m ∷ more) (m ∷ asm.in_order n more)) ≡ length (m ∷ more) + 1
-    by_test true = omega arith
-    by_test false = omega (arith, length_in n more)
+    by_test : length (asm.in_order n more) ≡ length more + 1 → (b : Bool) → length (cond b (n ∷ m ∷ more) (m ∷ asm.in_order n more)) ≡ length (m ∷ more) + 1
+    by_test rest true = omega arith
+    by_test rest false = omega (arith, rest)
 
 abbrev IsLow : ℕ → Type 0
 IsLow n = n ≤ 6 * 8191
 
 all_low : (n : ℕ) (xs : List ℕ) → AllByRecursion IsLow xs → IsLow n → AllByRecursion IsLow (asm.in_order n xs)
 all_low n [] h low = (low, tt)
-all_low n (m ∷ more) h low = by_test (nat_lt n m)
+all_low n (m ∷ more) h low = by_test (all_low n more h.1 low) (nat_lt n m)
   where
-    by_test : (b : Bool) → AllByRecursion IsLow (cond b (n ∷ m ∷ more) (m ∷ asm.in_order n more))
-    by_test true = (low, h)
-    by_test false = (h.0, all_low n more h.1 low)
+    by_test : AllByRecursion IsLow (asm.in_order n more) → (b : Bool) → AllByRecursion IsLow (cond b (n ∷ m ∷ more) (m ∷ asm.in_order n more))
+    by_test rest true = (low, h)
+    by_test rest false = (h.0, rest)
 
 -- syllables of entries
 record Fit (entries : List ℕ) : Type 0 where
@@ -141,21 +140,20 @@ no_entries names segments l lines syllables entries own e is none =
 
 -- ---- the own cards of a segment or row
 
-pub plain_rest : (n : ℕ) (lines : List Line) → has_entry_card lines ≡ false → has_entry_card (asm.own (drop n lines)) ≡ false
-plain_rest n lines none = plain_own (drop n lines) (dropped n lines none)
+plain_own : (lines : List Line) → has_entry_card lines ≡ false → has_entry_card (asm.own lines) ≡ false
+plain_own [] none = refl
+plain_own (l ∷ more) none =
+    let parts = or_parts (asm.says_entry l.says) (has_entry_card more) none in
+    by_test parts.0 (plain_own more parts.1) (not (asm.is_head l.kind))
   where
-    dropped : (n : ℕ) (lines : List Line) → has_entry_card lines ≡ false → has_entry_card (drop n lines) ≡ false
-    dropped zero lines none = none
-    dropped (suc n) [] none = none
-    dropped (suc n) (l ∷ more) none = dropped n more (or_parts (asm.says_entry l.says) (has_entry_card more) none).1
+    by_test : asm.says_entry l.says ≡ false → has_entry_card (asm.own more) ≡ false → (b : Bool) → has_entry_card (cond b (l ∷ asm.own more) []) ≡ false
+    by_test first rest true = rw first rest
+    by_test first rest false = refl
 
-    plain_own : (lines : List Line) → has_entry_card lines ≡ false → has_entry_card (asm.own lines) ≡ false
-    plain_own [] none = refl
-    plain_own (l ∷ more) none = by_test (not (asm.is_head l.kind))
-      where
-        parts : (asm.says_entry l.says ≡ false) × (has_entry_card more ≡ false)
-        parts = or_parts (asm.says_entry l.says) (has_entry_card more) none
+plain_drop : (n : ℕ) (lines : List Line) → has_entry_card lines ≡ false → has_entry_card (drop n lines) ≡ false
+plain_drop zero lines none = none
+plain_drop (suc n) [] none = none
+plain_drop (suc n) (l ∷ more) none = plain_drop n more (or_parts (asm.says_entry l.says) (has_entry_card more) none).1
 
-        by_test : (b : Bool) → has_entry_card (cond b (l ∷ asm.own more) []) ≡ false
-        by_test true = rw parts.0 (plain_own more parts.1)
-        by_test false = refl
+pub plain_rest : (n : ℕ) (lines : List Line) → has_entry_card lines ≡ false → has_entry_card (asm.own (drop n lines)) ≡ false
+plain_rest n lines none = plain_own (drop n lines) (plain_drop n lines none)

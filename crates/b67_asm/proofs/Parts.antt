@@ -10,9 +10,10 @@ use Rattle.b67_model_text.specs.Answers.{Answer, ◌>>=◌, ◌>>◌, needs}
 use Rattle.b67_model_text.specs.Deck.{Refusal, of_card}
 use Rattle.b67_model_text.specs.Encoding.{code_of, packed, laid}
 use Rattle.b67_model_text.specs.Asm as asm
-use Rattle.b67_asm.specs.Blocks.{segment_head, row_head, has_entry_card, Grows}
+use Rattle.b67_asm.specs.Blocks.{segment_head, row_head, has_entry_card, Grows, SegmentPut}
 use Rattle.b67_asm.specs.Putting.{put_behind, code_count, IsCode}
 use Rattle.b67_asm.specs.Scope.{scope_at}
+use Rattle.b67_asm.proofs.Entries.{entries_fit, no_entries}
 use Rattle.b67_codefile.specs.Spelling.{IsSegment, AreWords, HasTag, HasNoEntries}
 use Rattle.b67_codefile.specs.declared.file.Segment.{Segment}
 use Rattle.b67_codefile.specs.declared.file.Codefile.{Codefile}
@@ -89,11 +90,11 @@ any_some p (x ∷ xs) e = omega arith
 
 pub code_some : (lines : List Line) → list_any asm.is_code lines ≡ true → 1 ≤ code_count lines
 code_some [] e = absurd (let z : ⊥ = cc in z)
-code_some (l ∷ more) e = by_test (asm.is_code l) e
+code_some (l ∷ more) e = by_test (λ e. code_some more e) (asm.is_code l) e
   where
-    by_test : (b : Bool) → (b || list_any asm.is_code more) ≡ true → 1 ≤ cond b 1 0 + code_count more
-    by_test true e = omega arith
-    by_test false e = code_some more e
+    by_test : (list_any asm.is_code more ≡ true → 1 ≤ code_count more) → (b : Bool) → (b || list_any asm.is_code more) ≡ true → 1 ≤ cond b 1 0 + code_count more
+    by_test go true e = omega arith
+    by_test go false e = omega (arith, go e)
 
 pub all_one : {A : Type 0} (P : A → Type 0) (xs : List A) (x : A) → AllByRecursion P xs → P x → AllByRecursion P (xs ++ x ∷ [])
 all_one P [] x h p = (p, tt)
@@ -106,3 +107,16 @@ pub all_plain : (old new : Codefile) (s : Segment) (own : List Line) → Grows o
 all_plain old new s own grows plain none same is one =
     let first : old.version ≡ 1 = sym same ∙ one in
     subst (AllByRecursion HasNoEntries) (sym is) (all_one HasNoEntries old.segments s (grows.plain first) (none (plain first)))
+
+-- a segment that was made of its own cards
+pub segment_made : (names : asm.Names) (segments s r number l : ℕ) (name : List ℕ) (level : Option ℕ) (lines : List Line) (syllables entries own : List ℕ) (code : List Tagged) → segment_head names s r name level lines ≡ Ok l → l < 2 ^ 8 → 1 ≤ code_count lines → put_behind [] (asm.content_of (scope_at names segments l lines) 0 [] lines) ≡ Ok (syllables, entries) → IsCode code syllables (code_count lines) → own ≡ map asm.place_bits entries
+    → SegmentPut (Ok (record { level = l; entries = own; code = code })) (asm.segment_part names segments s r number name level lines) lines
+segment_made names segments s r number l name level lines syllables entries own code head small some e is o = (
+  segment_ok names segments s r number l name level lines syllables entries own (contents code) head e o is.code,
+  record {
+    level = small;
+    entries = entries_fit names segments l lines syllables entries own e o;
+    code = record { some = is.some some; few = is.few; each = is.tags };
+  },
+  λ none. no_entries names segments l lines syllables entries own e o none,
+)

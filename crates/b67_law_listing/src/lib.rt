@@ -12,7 +12,8 @@ pub fn operators_are_read()
 
 /// In the code of each assembled segment the operators of its cards are read in their order, the first at 0:0 and each
 /// at the place behind the one before, with NVLD behind the last up to a whole word. A label means the place at which
-/// the operator of its card is read, and a branch goes there.
+/// the operator of its card is read, and a branch goes there. A segment's entries are places of labels that its ENTRY cards
+/// name.
 pub fn cards_are_read()
     ensures { CardsAreRead }
 {}

@@ -226,3 +226,52 @@ label_small x n entries (l ∷ more) content q m e is =
     one_small n (label_at n l.says) (labels (syllable_behind n h.added) more) q m (here_small x n entries l h.added h.adds)
     (λ there. label_small x (syllable_behind n h.added) (entries_behind entries h.added) more h.rest q m h.behind_it there)
     (subst (λ (rows : List (List ℕ × ℕ)). meaning rows q ≡ Some m) (labels_behind x n entries l more h.added h.adds) is)
+
+-- ---- the first card of a segment's cards
+
+pub record FirstOperator (x : Scope) (n : ℕ) (entries : List ℕ) (l : Line) (more : List Line) (content : Content) : Type 0 where
+  pub label : Option (List ℕ)
+  pub own : sketch.Sketch
+  pub op : Op
+  pub rest : Content
+  pub says : l.says ≡ Ok (statements.Operator label own)
+  pub taken : Taken x n label own op
+  pub behind_it : content_of x (next n op) entries more ≡ Ok rest
+  pub all : with_added (AddedOperator op) rest ≡ content
+  pub named : labels n (l ∷ more) ≡ cons_option (option_map {U = List ℕ × ℕ} (λ text. (text, n)) label) (labels (next n op) more)
+
+pub record FirstEntry (x : Scope) (n : ℕ) (entries : List ℕ) (l : Line) (more : List Line) (content : Content) : Type 0 where
+  pub label : List ℕ
+  pub syllable : ℕ
+  pub says : l.says ≡ Ok (statements.Entry label)
+  pub found : x.labels label ≡ Some syllable
+  pub behind_it : content_of x n (entries_behind entries (AddedEntry syllable)) more ≡ Ok content
+  pub named : labels n (l ∷ more) ≡ labels n more
+
+pub first_card : (x : Scope) (n : ℕ) (entries : List ℕ) (l : Line) (more : List Line) (content : Content) → content_of x n entries (l ∷ more) ≡ Ok content → FirstOperator x n entries l more content ⊎ FirstEntry x n entries l more content
+first_card x n entries l more content e =
+    let h = headed x n entries l more content e in
+    by_added h h.adds
+  where
+    by_added : (h : Headed x n entries l more content) → Adds x n entries l h.added → FirstOperator x n entries l more content ⊎ FirstEntry x n entries l more content
+    by_added h (inl a) = inl (record {
+      label = a.label;
+      own = a.own;
+      op = a.op;
+      rest = h.rest;
+      says = a.says;
+      taken = a.taken;
+      behind_it = subst (λ (added : Added). content_of x (syllable_behind n added) (entries_behind entries added) more ≡ Ok h.rest) (sym a.is) h.behind_it;
+      all = ap (λ (added : Added). with_added added h.rest) a.is ∙ h.all;
+      named = labels_behind x n entries l more h.added (inl a) ∙ ap (λ (s : Answer statement.Statement). cons_option (label_at n s) (labels (syllable_behind n h.added) more)) a.says ∙ ap (λ (added : Added). cons_option (option_map {U = List ℕ × ℕ} (λ text. (text, n)) a.label) (labels (syllable_behind n added) more)) (sym a.is);
+    })
+    by_added h (inr a) = inr (record {
+      label = a.label;
+      syllable = a.syllable;
+      says = a.says;
+      found = a.found;
+      behind_it =
+          subst (λ (added : Added). content_of x (syllable_behind n added) (entries_behind entries added) more ≡ Ok h.rest) (sym a.is) h.behind_it
+          ∙ ap (λ (c : Content). Ok c) (ap (λ (added : Added). with_added added h.rest) a.is ∙ h.all);
+      named = labels_behind x n entries l more h.added (inr a) ∙ ap (λ (s : Answer statement.Statement). cons_option (label_at n s) (labels (syllable_behind n h.added) more)) a.says ∙ ap (λ (added : Added). labels (syllable_behind n added) more) (sym a.is);
+    })
