@@ -1,45 +1,53 @@
 -- What is read for a segment's cards.
-use Rattle.std.proofs.Common.{◌⊎◌, inl, inr, ◌≡◌, ℕ, zero, suc, ◌+◌, ◌-◌, ◌*◌, ◌%◌, ◌≤◌, Bool, true, false, refl, sym, ◌∙◌, ap, subst, arith, cond, Option, Some, None, List, [], ◌∷◌, map, length, replicate, min, Result, Ok, Err}
-use Rattle.std.specs.Prelude.{nat_lt}
+use Rattle.std.proofs.Common.{◌⊎◌, inl, inr, ◌≡◌, ℕ, zero, suc, ◌+◌, ◌-◌, ◌*◌, ◌/◌, ◌%◌, ◌^◌, ◌<◌, ◌≤◌, Bool, true, false, refl, sym, ◌∙◌, ap, subst, arith, cond, Option, Some, None, List, [], ◌∷◌, length, map, replicate, min, Ok}
 use Rattle.std.specs.Option.{option_map}
 use Rattle.std.specs.List.{AllByRecursion, cons_option}
 use Rattle.std.specs.Str.{bytes_eq}
-use Rattle.std.proofs.lemmas.Bool.{leb-true, eqb-true}
+use Rattle.std.proofs.lemmas.Bool.{eqb-true}
 use Rattle.std.proofs.lemmas.Option.{same_Some, none-some}
 use Rattle.std.proofs.lemmas.Slice.Eq.{bytes_eq-Decides}
+use Rattle.b67_word.specs.declared.couples.Place.{Place}
 use Rattle.b67_model.specs.declared.operators.Op.{Op}
-use Rattle.b67_model.specs.declared.operators.Op.TheVariants.{Plain}
+use Rattle.b67_model.specs.declared.operators.Op.TheVariants.{Mpcw, Plain}
 use Rattle.b67_model.specs.declared.operators.Code.TheVariants.{Nvld}
-use Rattle.b67_model.specs.Operators.{place_at}
-use Rattle.b67_model.specs.Loader.{Entry, listing, target_of}
+use Rattle.b67_model.specs.Operators.{place_at, place_of_bits}
+use Rattle.b67_model.specs.Loader.{Entry, origin, listing, target_of}
 use Rattle.b67_model_text.specs.declared.assembly.Branch as branch
 use Rattle.b67_model_text.specs.declared.assembly.Branch.TheVariants as branches
 use Rattle.b67_model_text.specs.declared.assembly.Sketch as sketch
 use Rattle.b67_model_text.specs.declared.assembly.Sketch.TheVariants.{Whole, OutOfRange, Couple as Coupled, Row as RowCoupled, Jump, Pcw, PcwAt}
 use Rattle.b67_model_text.specs.declared.assembly.Statement as statement
 use Rattle.b67_model_text.specs.declared.assembly.Statement.TheVariants as statements
+use Rattle.b67_model_text.specs.declared.assembly.Named as named
+use Rattle.b67_model_text.specs.declared.assembly.Named.TheVariants as means
 use Rattle.b67_model_text.specs.declared.assembly.Line.{Line}
 use Rattle.b67_model_text.specs.Answers.{Answer}
 use Rattle.b67_model_text.specs.Encoding.{code_of}
-use Rattle.b67_model_text.specs.Asm.{Scope, Content, AddedEntry, entries_behind, in_order, place_bits, is_place, is_first_label, branch_to, denoted, next, content_of, meaning, labels}
-use Rattle.b67_model_text.proofs.Contents.{same_Ok, mapped, Taken, first_card, label_small}
-use Rattle.b67_law_listing.specs.Operators.{HasBits, AllHaveBits, filled, entries_of}
-use Rattle.b67_law_listing.specs.Listing.{HasLabel, IsLabelled, IsListed, StandsAt, GoesTo, IsFilled, AreFilled, AreRead, CardIsRead, read_behind, IsNamed}
+use Rattle.b67_model_text.specs.Asm.{Names, Scope, Added, AddedOperator, Content, is_place, is_first_label, pcw_in, label_in, place_bits, pcw_at, branch_to, denoted, next, syllable_behind, entries_behind, with_added, content_of, meaning, labels, label_at}
+use Rattle.b67_model_text.proofs.Contents.{same_Ok, mapped, Adds, headed, labels_behind, label_small}
+use Rattle.b67_law_listing.specs.Operators.{AllHaveBits, filled, entries_of}
+use Rattle.b67_law_listing.specs.Listing.{begins_at, HasLabel, Labels, IsLabelled, IsListed, StandsAt, GoesTo, IsFilled, AreFilled, Reads, AreRead}
 use Rattle.b67_law_listing.proofs.Laying.{listing_is}
-use Rattle.b67_law_listing.proofs.Denoting.{AreSmall, denoted_bits}
-
-taken_bits : (x : Scope) (n : ℕ) (label : Option (List ℕ)) (own : sketch.Sketch) (op : Op) → AreSmall x.names → Taken x n label own op → HasBits op
-taken_bits x n label own op small t = denoted_bits x own op small t.in_range t.denotes
+use Rattle.b67_law_listing.proofs.Denoting.{AreSmall, pcw_small, at_label, denoted_bits}
+use Rattle.b67_law_listing.proofs.Entries.{are_entered}
 
 operators_bits : (x : Scope) (n : ℕ) (entries : List ℕ) (lines : List Line) (content : Content) → AreSmall x.names → content_of x n entries lines ≡ Ok content → AllHaveBits content.operators
-operators_bits x n entries [] content small e = subst (λ (c : Content). AllHaveBits c.operators) (same_Ok (record { operators = []; entries = entries }) content e) tt
-operators_bits x n entries (l ∷ more) content small e = elim (first_card x n entries l more content e) [
-  | inl a ↦ subst (λ (c : Content). AllHaveBits c.operators) a.all (taken_bits x n a.label a.own a.op small a.taken, operators_bits x (next n a.op) entries more a.rest small a.behind_it)
-  | inr a ↦ operators_bits x n (entries_behind entries (AddedEntry a.syllable)) more content small a.behind_it
-]
+operators_bits x n entries [] content small e = subst (λ (c : Content). AllHaveBits c.operators) (same_Ok _ content e) tt
+operators_bits x n entries (l ∷ more) content small e =
+    let h = headed x n entries l more content e in
+    subst (λ (c : Content). AllHaveBits c.operators) h.all
+    (by h.added h.rest h.adds (operators_bits x (syllable_behind n h.added) (entries_behind entries h.added) more h.rest small h.behind_it))
+  where
+    by : (added : Added) (rest : Content) → Adds x n entries l added → AllHaveBits rest.operators → AllHaveBits (with_added added rest).operators
+    by added rest (inl a) h = subst (λ (z : Added). AllHaveBits (with_added z rest).operators) a.is (denoted_bits x a.own a.op small a.taken.in_range a.taken.denotes, h)
+    by added rest (inr a) h = subst (λ (z : Added). AllHaveBits (with_added z rest).operators) a.is h
 
-abbrev LabelsAreSmall : (List ℕ → Option ℕ) → Type 0
+abbrev pub LabelsAreSmall : (List ℕ → Option ℕ) → Type 0
 LabelsAreSmall labels = (q : List ℕ) (m : ℕ) → labels q ≡ Some m → m ≤ 6 * 8191
+
+-- the labels of all segments
+abbrev pub AllLabelsAreSmall : Names → Type 0
+AllLabelsAreSmall names = (number : ℕ) → LabelsAreSmall (names.label number)
 
 stands_there : (n : ℕ) (o : Option ℕ) → is_place n o ≡ true → option_map place_at o ≡ Some (place_at n)
 stands_there n None e = absurd (let z : ⊥ = cc in z)
@@ -60,16 +68,42 @@ branch_target b n h = by_branch b
     by_branch branches.IfTrue = ap (λ k. Some (place_at k)) same
     by_branch branches.IfFalse = ap (λ k. Some (place_at k)) same
 
-goes_to : (x : Scope) (s : sketch.Sketch) (op : Op) → LabelsAreSmall x.labels → denoted x s ≡ Some op → GoesTo x.labels s op
-goes_to x (Jump b label) op small e =
+place_is : (a b : Place) → a.word ≡ b.word → a.syllable ≡ b.syllable → a ≡ b
+place_is a b w s = λ i. record { word = w i; syllable = s i }
+
+-- the place in a procedure's bits
+first_place : (bits : ℕ) → bits < 2 ^ 19 → place_of_bits (bits / 2 ^ 20) ≡ origin
+first_place bits low = place_is (place_of_bits (bits / 2 ^ 20)) origin (omega (arith, low)) (omega (arith, low))
+
+label_place : (own n bits : ℕ) → own < 2 ^ 19 → n ≤ 6 * 8191 → own + place_bits n * 2 ^ 20 ≡ bits → place_of_bits (bits / 2 ^ 20) ≡ place_at n
+label_place own n bits low few is =
+    let same : min n (6 * 8191) ≡ n = omega (arith, few) in
+    let place : place_bits n ≡ n % 6 * 2 ^ 13 + n / 6 = ap (λ (k : ℕ). k % 6 * 2 ^ 13 + k / 6) same in
+    let bits_is : bits / 2 ^ 20 ≡ n % 6 * 2 ^ 13 + n / 6 = omega (arith, low, is, place) in
+    place_is (place_of_bits (bits / 2 ^ 20)) (place_at n) (omega (arith, bits_is, few)) (omega (arith, bits_is, few))
+
+label_in_small : (names : Names) (o : Option named.Named) (label : List ℕ) (n : ℕ) → AllLabelsAreSmall names → label_in names o label ≡ Some n → n ≤ 6 * 8191
+label_in_small names None label n all e = absurd (none-some n e)
+label_in_small names (Some (means.Row number)) label n all e = absurd (none-some n e)
+label_in_small names (Some (means.Segment number level)) label n all e = all number label n e
+
+goes_to : (x : Scope) (s : sketch.Sketch) (op : Op) → AreSmall x.names → AllLabelsAreSmall x.names → LabelsAreSmall x.labels → denoted x s ≡ Some op → GoesTo x s op
+goes_to x (Jump b label) op small all own e =
     let m = mapped (branch_to b) (x.labels label) op e in
-    ap target_of (sym m.2) ∙ branch_target b m.0 (small label m.0 m.1) ∙ ap (option_map place_at) (sym m.1)
-goes_to x (Whole own) op small e = tt
-goes_to x OutOfRange op small e = tt
-goes_to x (Coupled c couple) op small e = tt
-goes_to x (RowCoupled c row) op small e = tt
-goes_to x (Pcw segment) op small e = tt
-goes_to x (PcwAt segment label) op small e = tt
+    ap target_of (sym m.2) ∙ branch_target b m.0 (own label m.0 m.1) ∙ ap (option_map place_at) (sym m.1)
+goes_to x (Whole op') op small all own e = tt
+goes_to x OutOfRange op small all own e = tt
+goes_to x (Coupled c couple) op small all own e = tt
+goes_to x (RowCoupled c row) op small all own e = tt
+goes_to x (Pcw segment) op small all own e =
+    let m = mapped Mpcw (pcw_in (x.names.means segment)) op e in
+    ap begins_at (sym m.2) ∙ ap Some (first_place m.0 (pcw_small (x.names.means segment) m.0 (small segment) m.1))
+goes_to x (PcwAt segment label) op small all own e =
+    let m = mapped Mpcw (pcw_at (pcw_in (x.names.means segment)) (label_in x.names (x.names.means segment) label)) op e in
+    let at = at_label (pcw_in (x.names.means segment)) (label_in x.names (x.names.means segment) label) m.0 m.1 in
+    let low = pcw_small (x.names.means segment) at.own (small segment) at.base_is in
+    let few = label_in_small x.names (x.names.means segment) label at.syllable all at.label_is in
+    ap begins_at (sym m.2) ∙ ap Some (label_place at.own at.syllable m.0 low few at.is) ∙ ap (option_map place_at) (sym at.label_is)
 
 -- NVLD up to a whole word
 filling_each : (k n : ℕ) → AllByRecursion IsFilled (entries_of n (replicate k (Plain Nvld)))
@@ -83,80 +117,86 @@ filling_few (suc k) n = omega (arith, filling_few k (next n (Plain Nvld)))
 filling_is : (n : ℕ) → AreFilled (entries_of n (replicate ((6 - n % 6) % 6) (Plain Nvld)))
 filling_is n = record { few = omega (arith, filling_few ((6 - n % 6) % 6) n); each = filling_each ((6 - n % 6) % 6) n }
 
-are_read : (x : Scope) (n : ℕ) (entries : List ℕ) (lines : List Line) (content : Content) → LabelsAreSmall x.labels → content_of x n entries lines ≡ Ok content → AreRead x lines (entries_of n (filled n content.operators))
-are_read x n entries [] content small e = subst (λ (c : Content). AreRead x [] (entries_of n (filled n c.operators))) (same_Ok (record { operators = []; entries = entries }) content e) (filling_is n)
-are_read x n entries (l ∷ more) content small e = elim (first_card x n entries l more content e) [
-  | inl a ↦ subst (λ (c : Content). AreRead x (l ∷ more) (entries_of n (filled n c.operators))) a.all
-      (subst (λ (s : Answer statement.Statement). CardIsRead x l s (entries_of n (filled n (a.op ∷ a.rest.operators))) × AreRead x more (read_behind s (entries_of n (filled n (a.op ∷ a.rest.operators))))) (sym a.says) (
-        record {
-          label = a.label;
-          sketch = a.own;
-          says = a.says;
-          denotes = a.taken.denotes;
-          stands = stands_at x.labels n a.label a.taken.first;
-          goes = goes_to x a.own a.op small a.taken.denotes;
-        },
-        are_read x (next n a.op) entries more a.rest small a.behind_it,
-      ))
-  | inr a ↦ subst (λ (s : Answer statement.Statement). CardIsRead x l s (entries_of n (filled n content.operators)) × AreRead x more (read_behind s (entries_of n (filled n content.operators)))) (sym a.says)
-      (tt, are_read x n (entries_behind entries (AddedEntry a.syllable)) more content small a.behind_it)
-]
+-- the listing of a content's operators from syllable n on
+abbrev listed : ℕ → Content → List Entry
+listed n content = entries_of n (filled n content.operators)
 
-label_here : (q text : List ℕ) (n m : ℕ) (own : sketch.Sketch) (l : Line) (rest : List (List ℕ × ℕ)) (B : Type 0) → l.says ≡ Ok (statements.Operator (Some text) own) → (meaning rest q ≡ Some m → B) → (b : Bool) → bytes_eq q text ≡ b → cond b (Some n) (meaning rest q) ≡ Some m → (HasLabel q l × (place_at n ≡ place_at m)) ⊎ B
-label_here q text n m own l rest B says go true t e =
-    let same : text ≡ q = sym ((bytes_eq-Decides q text).0 t) in
-    inl ((own, says ∙ ap (λ z. Ok (statements.Operator (Some z) own)) same), ap place_at (same_Some n m e))
-label_here q text n m own l rest B says go false t e = inr (go e)
-
-label_or_not : (q : List ℕ) (n m : ℕ) (label : Option (List ℕ)) (own : sketch.Sketch) (l : Line) (rest : List (List ℕ × ℕ)) (B : Type 0) → l.says ≡ Ok (statements.Operator label own) → (meaning rest q ≡ Some m → B) → meaning (cons_option (option_map {U = List ℕ × ℕ} (λ text. (text, n)) label) rest) q ≡ Some m → (HasLabel q l × (place_at n ≡ place_at m)) ⊎ B
-label_or_not q n m None own l rest B says go e = inr (go e)
-label_or_not q n m (Some text) own l rest B says go e = label_here q text n m own l rest B says go (bytes_eq q text) refl e
+are_read : (x : Scope) (n : ℕ) (entries : List ℕ) (lines : List Line) (content : Content) → AreSmall x.names → AllLabelsAreSmall x.names → LabelsAreSmall x.labels → content_of x n entries lines ≡ Ok content → AreRead x lines (listed n content)
+are_read x n entries [] content small all own e = subst (λ (c : Content). AreRead x [] (listed n c)) (same_Ok _ content e) (filling_is n)
+are_read x n entries (l ∷ more) content small all own e =
+    let h = headed x n entries l more content e in
+    subst (λ (c : Content). AreRead x (l ∷ more) (listed n c)) h.all
+    (by h.added h.rest h.adds (are_read x (syllable_behind n h.added) (entries_behind entries h.added) more h.rest small all own h.behind_it))
+  where
+    by : (added : Added) (rest : Content) → Adds x n entries l added → AreRead x more (listed (syllable_behind n added) rest) → AreRead x (l ∷ more) (listed n (with_added added rest))
+    by added rest (inl a) h =
+        let there : AreRead x more (listed (next n a.op) rest) = subst (λ (z : Added). AreRead x more (listed (syllable_behind n z) rest)) (sym a.is) h in
+        subst (λ (z : Added). Reads x l l.says (listed n (with_added z rest)) (AreRead x more)) a.is
+        (subst (λ (s : Answer statement.Statement). Reads x l s (listed n (with_added (AddedOperator a.op) rest)) (AreRead x more)) (sym a.says) (
+          record {
+            label = a.label;
+            sketch = a.own;
+            says = a.says;
+            denotes = a.taken.denotes;
+            stands = stands_at x.labels n a.label a.taken.first;
+            goes = goes_to x a.own a.op small all own a.taken.denotes;
+            enters = a.taken.enters;
+          },
+          there,
+        ))
+    by added rest (inr a) h =
+        let there : AreRead x more (listed n rest) = subst (λ (z : Added). AreRead x more (listed (syllable_behind n z) rest)) (sym a.is) h in
+        subst (λ (z : Added). Reads x l l.says (listed n (with_added z rest)) (AreRead x more)) a.is
+        (subst (λ (s : Answer statement.Statement). Reads x l s (listed n rest) (AreRead x more)) (sym a.says) there)
 
 -- a label that means a place stands on a card that is read there
-labelled : (x : Scope) (n : ℕ) (entries : List ℕ) (lines : List Line) (content : Content) (q : List ℕ) (m : ℕ) → content_of x n entries lines ≡ Ok content → meaning (labels n lines) q ≡ Some m → IsLabelled q (place_at m) lines (entries_of n (filled n content.operators))
+labelled : (x : Scope) (n : ℕ) (entries : List ℕ) (lines : List Line) (content : Content) (q : List ℕ) (m : ℕ) → content_of x n entries lines ≡ Ok content → meaning (labels n lines) q ≡ Some m → IsLabelled q (place_at m) lines (listed n content)
 labelled x n entries [] content q m e is = absurd (none-some m is)
-labelled x n entries (l ∷ more) content q m e is = elim (first_card x n entries l more content e) [
-  | inl a ↦ subst (λ (c : Content). IsLabelled q (place_at m) (l ∷ more) (entries_of n (filled n c.operators))) a.all
-      (subst (λ (s : Answer statement.Statement). (HasLabel q l × (place_at n ≡ place_at m)) ⊎ IsLabelled q (place_at m) more (read_behind s (entries_of n (filled n (a.op ∷ a.rest.operators))))) (sym a.says)
-        (label_or_not q n m a.label a.own l (labels (next n a.op) more) (IsLabelled q (place_at m) more (entries_of (next n a.op) (filled (next n a.op) a.rest.operators))) a.says
-          (λ there. labelled x (next n a.op) entries more a.rest q m a.behind_it there)
-          (subst (λ (rows : List (List ℕ × ℕ)). meaning rows q ≡ Some m) a.named is)))
-  | inr a ↦ inr (subst (λ (s : Answer statement.Statement). IsLabelled q (place_at m) more (read_behind s (entries_of n (filled n content.operators)))) (sym a.says)
-      (labelled x n (entries_behind entries (AddedEntry a.syllable)) more content q m a.behind_it (subst (λ (rows : List (List ℕ × ℕ)). meaning rows q ≡ Some m) a.named is)))
-]
-
--- ---- entries
-
-abbrev Named : Scope → List Line → ℕ → Type 0
-Named x lines m = IsNamed x.labels lines (place_bits m)
-
-put_named : (P : ℕ → Type 0) (n : ℕ) (xs : List ℕ) → AllByRecursion P xs → P n → AllByRecursion P (in_order n xs)
-put_named P n [] h p = (p, tt)
-put_named P n (m ∷ more) h p = by_test (nat_lt n m)
+labelled x n entries (l ∷ more) content q m e is =
+    let h = headed x n entries l more content e in
+    subst (λ (c : Content). IsLabelled q (place_at m) (l ∷ more) (listed n c)) h.all
+    (by h.added h.rest h.adds (λ there. labelled x (syllable_behind n h.added) (entries_behind entries h.added) more h.rest q m h.behind_it there)
+    (subst (λ (rows : List (List ℕ × ℕ)). meaning rows q ≡ Some m) (labels_behind x n entries l more h.added h.adds) is))
   where
-    by_test : (b : Bool) → AllByRecursion P (cond b (n ∷ m ∷ more) (m ∷ in_order n more))
-    by_test true = (p, h)
-    by_test false = (h.0, put_named P n more h.1 p)
+    by_test : (rows : List (List ℕ × ℕ)) (rest : List Entry) (own : sketch.Sketch) (text : List ℕ) → l.says ≡ Ok (statements.Operator (Some text) own) → (meaning rows q ≡ Some m → IsLabelled q (place_at m) more rest) → (b : Bool) → bytes_eq q text ≡ b → cond b (Some n) (meaning rows q) ≡ Some m → (HasLabel q l × (place_at n ≡ place_at m)) ⊎ IsLabelled q (place_at m) more rest
+    by_test rows rest own text says go true t e =
+        let same : text ≡ q = sym ((bytes_eq-Decides q text).0 t) in
+        inl ((own, says ∙ ap (λ z. Ok (statements.Operator (Some z) own)) same), ap place_at (same_Some n m e))
+    by_test rows rest own text says go false t e = inr (go e)
 
-all_named : (x : Scope) (n : ℕ) (entries : List ℕ) (lines : List Line) (content : Content) (P : ℕ → Type 0) → ((m : ℕ) → Named x lines m → P m) → AllByRecursion P entries → content_of x n entries lines ≡ Ok content → AllByRecursion P content.entries
-all_named x n entries [] content P named all e = subst (λ (c : Content). AllByRecursion P c.entries) (same_Ok (record { operators = []; entries = entries }) content e) all
-all_named x n entries (l ∷ more) content P named all e = elim (first_card x n entries l more content e) [
-  | inl a ↦ subst (λ (c : Content). AllByRecursion P c.entries) a.all (all_named x (next n a.op) entries more a.rest P (λ m h. named m (inr h)) all a.behind_it)
-  | inr a ↦ all_named x n (entries_behind entries (AddedEntry a.syllable)) more content P (λ m h. named m (inr h))
-      (put_named P a.syllable entries all (named a.syllable (inl (a.label, a.syllable, a.says, a.found, refl)))) a.behind_it
-]
+    by_label : (rows : List (List ℕ × ℕ)) (rest : List Entry) (own : sketch.Sketch) (label : Option (List ℕ)) → l.says ≡ Ok (statements.Operator label own) → (meaning rows q ≡ Some m → IsLabelled q (place_at m) more rest) → meaning (cons_option (option_map (λ text. (text, n)) label) rows) q ≡ Some m → (HasLabel q l × (place_at n ≡ place_at m)) ⊎ IsLabelled q (place_at m) more rest
+    by_label rows rest own None says go e = inr (go e)
+    by_label rows rest own (Some text) says go e = by_test rows rest own text says go (bytes_eq q text) refl e
 
-bits_named : (x : Scope) (lines : List Line) (entries : List ℕ) → AllByRecursion (Named x lines) entries → AllByRecursion (IsNamed x.labels lines) (map place_bits entries)
-bits_named x lines [] all = tt
-bits_named x lines (n ∷ more) all = (all.0, bits_named x lines more all.1)
+    by : (added : Added) (rest : Content) → Adds x n entries l added → (meaning (labels (syllable_behind n added) more) q ≡ Some m → IsLabelled q (place_at m) more (listed (syllable_behind n added) rest))
+        → meaning (cons_option (label_at n l.says) (labels (syllable_behind n added) more)) q ≡ Some m → IsLabelled q (place_at m) (l ∷ more) (listed n (with_added added rest))
+    by added rest (inl a) go is =
+        let go' : meaning (labels (next n a.op) more) q ≡ Some m → IsLabelled q (place_at m) more (listed (next n a.op) rest) =
+        subst (λ (z : Added). meaning (labels (syllable_behind n z) more) q ≡ Some m → IsLabelled q (place_at m) more (listed (syllable_behind n z) rest)) (sym a.is) go in
+        let is' : meaning (cons_option (option_map (λ text. (text, n)) a.label) (labels (next n a.op) more)) q ≡ Some m =
+        subst (λ (s : Answer statement.Statement). meaning (cons_option (label_at n s) (labels (next n a.op) more)) q ≡ Some m) a.says
+        (subst (λ (z : Added). meaning (cons_option (label_at n l.says) (labels (syllable_behind n z) more)) q ≡ Some m) (sym a.is) is) in
+        subst (λ (z : Added). Labels q (place_at m) l l.says (listed n (with_added z rest)) (IsLabelled q (place_at m) more)) a.is
+        (subst (λ (s : Answer statement.Statement). Labels q (place_at m) l s (listed n (with_added (AddedOperator a.op) rest)) (IsLabelled q (place_at m) more)) (sym a.says)
+        (by_label (labels (next n a.op) more) (listed (next n a.op) rest) a.own a.label a.says go' is'))
+    by added rest (inr a) go is =
+        let go' : meaning (labels n more) q ≡ Some m → IsLabelled q (place_at m) more (listed n rest) =
+        subst (λ (z : Added). meaning (labels (syllable_behind n z) more) q ≡ Some m → IsLabelled q (place_at m) more (listed (syllable_behind n z) rest)) (sym a.is) go in
+        let is' : meaning (labels n more) q ≡ Some m =
+        subst (λ (s : Answer statement.Statement). meaning (cons_option (label_at n s) (labels n more)) q ≡ Some m) a.says
+        (subst (λ (z : Added). meaning (cons_option (label_at n l.says) (labels (syllable_behind n z) more)) q ≡ Some m) (sym a.is) is) in
+        subst (λ (z : Added). Labels q (place_at m) l l.says (listed n (with_added z rest)) (IsLabelled q (place_at m) more)) a.is
+        (subst (λ (s : Answer statement.Statement). Labels q (place_at m) l s (listed n rest) (IsLabelled q (place_at m) more)) (sym a.says) (go' is'))
 
 -- a segment's cards
-pub segment_read : (x : Scope) (lines : List Line) (content : Content) → AreSmall x.names → x.labels ≡ (λ label. meaning (labels 0 lines) label) → content_of x 0 [] lines ≡ Ok content → IsListed x lines (record { level = x.level; entries = map place_bits content.entries; code = code_of content.operators })
-segment_read x lines content small same e =
+pub segment_read : (x : Scope) (lines : List Line) (content : Content) → AreSmall x.names → AllLabelsAreSmall x.names → x.labels ≡ (λ label. meaning (labels 0 lines) label) → content_of x 0 [] lines ≡ Ok content
+    → IsListed x lines (record { level = x.level; entries = map place_bits content.entries; code = code_of content.operators })
+segment_read x lines content small all same e =
     let known : (q : List ℕ) (m : ℕ) → x.labels q ≡ Some m → meaning (labels 0 lines) q ≡ Some m = λ q m is. sym (ap (λ (f : List ℕ → Option ℕ). f q) same) ∙ is in
-    let listed = sym (listing_is content.operators (operators_bits x 0 [] lines content small e)) in
+    let own : LabelsAreSmall x.labels = λ q m is. label_small x 0 [] lines content q m e (known q m is) in
+    let code : listing (code_of content.operators) ≡ listed 0 content = listing_is content.operators (operators_bits x 0 [] lines content small e) in
     record {
-      read = subst (AreRead x lines) listed (are_read x 0 [] lines content (λ q m is. label_small x 0 [] lines content q m e (known q m is)) e);
-      labelled = λ q m is. subst (IsLabelled q (place_at m) lines) listed (labelled x 0 [] lines content q m e (known q m is));
-      entered = bits_named x lines content.entries (all_named x 0 [] lines content (Named x lines) (λ m h. h) tt e);
+      read = subst (AreRead x lines) (sym code) (are_read x 0 [] lines content small all own e);
+      labelled = λ q m is. subst (IsLabelled q (place_at m) lines) (sym code) (labelled x 0 [] lines content q m e (known q m is));
+      entered = are_entered x lines content own e;
     }

@@ -1,7 +1,7 @@
--- The operators that cards denote: their numbers are within their bits, and their lengths are known beforehand.
-use Rattle.std.proofs.Common.{◌≡◌, ℕ, zero, suc, ◌+◌, ◌-◌, ◌*◌, ◌/◌, ◌%◌, ◌^◌, ◌≤◌, ◌<◌, Bool, true, false, refl, sym, ◌∙◌, ap, subst, arith, cond, Option, Some, None, List, [], ◌∷◌, min}
+-- The operators that cards denote: their numbers are within their bits.
+use Rattle.std.proofs.Common.{◌≡◌, ℕ, zero, suc, ◌+◌, ◌-◌, ◌*◌, ◌/◌, ◌%◌, ◌^◌, ◌≤◌, ◌<◌, Bool, true, false, refl, subst, arith, cond, Option, Some, None, List, [], ◌∷◌, min}
 use Rattle.std.specs.Prelude.{nat_lt, nat_le, ◌&&◌}
-use Rattle.std.specs.Option.{option_map, option_and_then}
+use Rattle.std.specs.Option.{option_and_then}
 use Rattle.std.specs.List.{AllByRecursion}
 use Rattle.std.proofs.lemmas.Bool.{and_parts, and_from, ltb-true, leb-true, lt-ltb}
 use Rattle.std.proofs.lemmas.Option.{same_Some, none-some}
@@ -9,7 +9,6 @@ use Rattle.b67_word.specs.declared.couples.Couple.{Couple}
 use Rattle.b67_word.specs.Couples.{splits, bits_in, level_bits, fits_split, reversed_bits, couple_bits}
 use Rattle.b67_model.specs.declared.operators.Op.{Op}
 use Rattle.b67_model.specs.declared.operators.Op.TheVariants.{Mpcw}
-use Rattle.b67_model.specs.Encoding.{syllable_after}
 use Rattle.b67_model_text.specs.declared.assembly.Call as call
 use Rattle.b67_model_text.specs.declared.assembly.Call.TheVariants as calls
 use Rattle.b67_model_text.specs.declared.assembly.Branch as branch
@@ -18,7 +17,7 @@ use Rattle.b67_model_text.specs.declared.assembly.Sketch as sketch
 use Rattle.b67_model_text.specs.declared.assembly.Sketch.TheVariants.{Whole, OutOfRange, Couple as Coupled, Row as RowCoupled, Jump, Pcw, PcwAt}
 use Rattle.b67_model_text.specs.declared.assembly.Named as named
 use Rattle.b67_model_text.specs.declared.assembly.Named.TheVariants as means
-use Rattle.b67_model_text.specs.Asm.{Names, Scope, is_in_range, pcw_in, pcw_at, label_in, place_bits, row_in, called, branch_to, denoted}
+use Rattle.b67_model_text.specs.Asm.{Names, Scope, is_in_range, pcw_in, label_in, place_bits, pcw_at, row_in, called, branch_to, denoted}
 use Rattle.b67_model_text.proofs.Contents.{mapped}
 use Rattle.b67_law_listing.specs.Operators.{HasBits}
 
@@ -63,23 +62,28 @@ IsSmall o = (number : ℕ) (level : Option ℕ) → o ≡ Some (means.Segment nu
 abbrev pub AreSmall : Names → Type 0
 AreSmall names = (q : List ℕ) → IsSmall (names.means q)
 
-pcw_small : (o : Option named.Named) (bits : ℕ) → IsSmall o → pcw_in o ≡ Some bits → bits < 2 ^ 20
+pub pcw_small : (o : Option named.Named) (bits : ℕ) → IsSmall o → pcw_in o ≡ Some bits → bits < 2 ^ 19
 pcw_small None bits h e = absurd (none-some bits e)
 pcw_small (Some (means.Row number)) bits h e = absurd (none-some bits e)
 pcw_small (Some (means.Segment number None)) bits h e = absurd (none-some bits e)
 pcw_small (Some (means.Segment number (Some level))) bits h e = by_test (nat_le level 31) refl e
   where
-    by_test : (b : Bool) → nat_le level 31 ≡ b → cond b (Some (level * 2 ^ 14 + (number + 2))) None ≡ Some bits → bits < 2 ^ 20
+    by_test : (b : Bool) → nat_le level 31 ≡ b → cond b (Some (level * 2 ^ 14 + (number + 2))) None ≡ Some bits → bits < 2 ^ 19
     by_test true t e = omega (arith, same_Some (level * 2 ^ 14 + (number + 2)) bits e, leb-true level 31 t, h number (Some level) refl)
     by_test false t e = absurd (none-some bits e)
 
-entry_small : (o p : Option ℕ) (bits : ℕ) → ((b : ℕ) → o ≡ Some b → b < 2 ^ 20) → pcw_at o p ≡ Some bits → bits < 2 ^ 48
-entry_small None p bits low e = absurd (none-some bits e)
-entry_small (Some b) None bits low e = absurd (none-some bits e)
-entry_small (Some b) (Some n) bits low e =
-    let few : place_bits n < 2 ^ 16 = omega arith in
-    let here = low b refl in
-    omega (arith, same_Some (b + place_bits n * 2 ^ 20) bits e, few, here)
+-- a procedure's bits with the place of a label
+pub record AtLabel (base : Option ℕ) (label : Option ℕ) (bits : ℕ) : Type 0 where
+  pub own : ℕ
+  pub base_is : base ≡ Some own
+  pub syllable : ℕ
+  pub label_is : label ≡ Some syllable
+  pub is : own + place_bits syllable * 2 ^ 20 ≡ bits
+
+pub at_label : (base label : Option ℕ) (bits : ℕ) → pcw_at base label ≡ Some bits → AtLabel base label bits
+at_label None label bits e = absurd (none-some bits e)
+at_label (Some own) None bits e = absurd (none-some bits e)
+at_label (Some own) (Some n) bits e = record { own = own; base_is = refl; syllable = n; label_is = refl; is = same_Some (own + place_bits n * 2 ^ 20) bits e }
 
 called_bits : (c : call.Call) (bits : ℕ) → bits < 2 ^ 14 → HasBits (called c bits)
 called_bits calls.Value bits h = lt-ltb bits (2 ^ 14) h
@@ -114,4 +118,9 @@ denoted_bits x (Pcw segment) op small h e =
     subst HasBits m.2 (lt-ltb m.0 (2 ^ 48) (omega (arith, low)))
 denoted_bits x (PcwAt segment label) op small h e =
     let m = mapped Mpcw (pcw_at (pcw_in (x.names.means segment)) (label_in x.names (x.names.means segment) label)) op e in
-    subst HasBits m.2 (lt-ltb m.0 (2 ^ 48) (entry_small (pcw_in (x.names.means segment)) (label_in x.names (x.names.means segment) label) m.0 (λ bits is. pcw_small (x.names.means segment) bits (small segment) is) m.1))
+    let at = at_label (pcw_in (x.names.means segment)) (label_in x.names (x.names.means segment) label) m.0 m.1 in
+    let low = pcw_small (x.names.means segment) at.own (small segment) at.base_is in
+    subst HasBits m.2 (lt-ltb m.0 (2 ^ 48) (with_place at.own at.syllable m.0 low at.is))
+  where
+    with_place : (own n bits : ℕ) → own < 2 ^ 19 → own + place_bits n * 2 ^ 20 ≡ bits → bits < 2 ^ 48
+    with_place own n bits low is = omega (arith, low, is)
