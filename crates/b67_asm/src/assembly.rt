@@ -1,13 +1,12 @@
 //! The codefile of assembly cards.
 
-ghost use Rattle.std.specs.Prelude.{◌≡◌, ◌+◌, ◌≤◌, ◌<◌, ◌^◌, length, drop, [], ◌∷◌};
-ghost use Rattle.std.specs.List.{list_any};
+ghost use Rattle.std.specs.Prelude.{◌≡◌, ◌⊎◌, ◌+◌, ◌≤◌, ◌<◌, ◌^◌, length, drop, [], ◌∷◌, false};
 ghost use Rattle.b67_model_text.specs.Asm as asm;
 ghost use Rattle.b67_asm.specs.Scope.{names_in};
-ghost use Rattle.b67_asm.specs.Blocks.{IsAssembled, IsChecked, assembled_lines, with_names};
+ghost use Rattle.b67_asm.specs.Blocks.{IsAssembled, IsChecked, assembled_lines, with_names, has_entry_card};
 
 use crate::block::put_part;
-use crate::cards::{is_head, own_of, rest_from};
+use crate::cards::{is_head, own_from};
 use crate::fault::AsmFault;
 use crate::names::{Names, names_of, segments_behind};
 use crate::operator::misplaced;
@@ -26,14 +25,16 @@ fn says_entry(line: &Line) -> bool
 }
 
 fn has_entry_card(lines: &[Line]) -> bool
-    ensures { result ≡ list_any (λ l. asm.says_entry l.says) lines.now }
+    ensures { result ≡ has_entry_card lines.now }
 {
     lines.iter().any(|l| says_entry(l))
 }
 
 // Cards make a file of version 2 if one of them is an ENTRY.
 fn version_in(lines: &[Line]) -> u8
-    ensures { result ≡ asm.version_in lines.now }
+    ensures exact { result ≡ asm.version_in lines.now }
+    ensures either { (result ≡ 1) ⊎ (result ≡ 2) }
+    ensures plain { result ≡ 1 → has_entry_card lines.now ≡ false }
 {
     if has_entry_card(lines) { 2 } else { 1 }
 }
@@ -68,7 +69,7 @@ fn program_in(
     for line in lines {
         next += 1;
         if is_head(line.kind) {
-            let own = own_of(rest_from(lines, next));
+            let own = own_from(lines, next);
             match put_part(alloc, names, segments, line, own, &mut file) {
                 Ok(()) => {}
                 Err(fault) => return Err(fault),

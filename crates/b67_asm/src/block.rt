@@ -1,10 +1,10 @@
 // Segments and data rows, each from its card and the cards behind it.
-ghost use Rattle.std.specs.Prelude.{◌≡◌, ◌+◌, ◌≤◌, ◌<◌, ◌^◌, not, length, [], OnOk, IfOk};
+ghost use Rattle.std.specs.Prelude.{◌≡◌, ◌+◌, ◌≤◌, ◌<◌, ◌^◌, false, length, [], OnOk, IfOk};
 ghost use Rattle.std.specs.List.{list_any};
 ghost use Rattle.b67_model_text.specs.Asm as asm;
 ghost use Rattle.b67_asm.specs.Scope.{names_in, scope_at};
 ghost use Rattle.b67_asm.specs.Putting.{CodePut, put_behind, code_count};
-ghost use Rattle.b67_asm.specs.Blocks.{segment_head, row_head, SegmentPut, RowPartPut, SegmentAdded, RowAdded, PartPut, Grows};
+ghost use Rattle.b67_asm.specs.Blocks.{segment_head, row_head, SegmentPut, RowPartPut, SegmentAdded, RowAdded, PartPut, Grows, has_entry_card};
 
 use crate::fault::AsmFault;
 use crate::names::{Names, labels_of, meaning_of};
@@ -157,7 +157,7 @@ fn segment_in(
 ) -> Result<Segment, AsmFault>
     requires counts { block.now.segments + block.now.rows ≤ 255 }
     requires small { length block.now.own.now < 2 ^ 31 }
-    ensures exact { SegmentPut result (asm.segment_part (names_in names.now) segments block.now.segments block.now.rows block.now.number block.now.name.now level block.now.own.now) }
+    ensures exact { SegmentPut result (asm.segment_part (names_in names.now) segments block.now.segments block.now.rows block.now.number block.now.name.now level block.now.own.now) block.now.own.now }
     ensures room { OnOk result (block.now.segments + block.now.rows < 255) }
 {
     match level_of(names, block, level) {
@@ -193,7 +193,7 @@ fn row_in(alloc: Global, names: &Names, block: &Block) -> Result<Words, AsmFault
     }
 }
 
-#[tactic(auto, using(crate::proofs::Parts::all_one))]
+#[tactic(auto, using(crate::proofs::Parts::all_one, crate::proofs::Parts::all_plain))]
 fn put_segment(
     alloc: Global,
     names: &Names,
@@ -206,6 +206,7 @@ fn put_segment(
     requires segments { block.now.segments ≡ length file.old.segments }
     requires rows { block.now.rows ≡ length file.old.rows }
     requires small { length block.now.own.now < 2 ^ 31 }
+    requires plain { file.old.version ≡ 1 → has_entry_card block.now.own.now ≡ false }
     ensures { SegmentAdded result (asm.segment_part (names_in names.now) segments block.now.segments block.now.rows block.now.number block.now.name.now level block.now.own.now) file.old file.new }
 {
     match segment_in(alloc, names, segments, block, level) {
@@ -265,6 +266,7 @@ pub fn put_part(
 ) -> Result<(), AsmFault>
     requires grows { Grows file.old }
     requires small { length own.now < 2 ^ 31 }
+    requires plain { file.old.version ≡ 1 → has_entry_card own.now ≡ false }
     ensures { PartPut result (asm.part_of (names_in names.now) segments (length file.old.segments) (length file.old.rows) line.now.number line.now.says own.now) line.now file.old file.new }
 {
     match &line.says {

@@ -1,6 +1,7 @@
 // The cards of a segment or a data row.
-ghost use Rattle.std.specs.Prelude.{◌≡◌, ◌≤◌, length, drop};
+ghost use Rattle.std.specs.Prelude.{◌≡◌, ◌≤◌, false, length, drop};
 ghost use Rattle.b67_model_text.specs.Asm as asm;
+ghost use Rattle.b67_asm.specs.Blocks.{has_entry_card};
 
 use b67_model_text::{Kind, Line};
 
@@ -14,7 +15,7 @@ pub fn is_head(kind: Kind) -> bool
 }
 
 // The lines from a place on.
-pub fn rest_from(lines: &[Line], from: usize) -> &[Line]
+fn rest_from(lines: &[Line], from: usize) -> &[Line]
     requires { from ≤ length lines.now }
     ensures rest { result.now ≡ drop from lines.now }
     ensures short { length result.now ≤ length lines.now }
@@ -32,4 +33,14 @@ pub fn own_of(lines: &[Line]) -> &[Line]
         count += 1;
     }
     &lines[..count]
+}
+
+// The cards of the segment or row whose own card stands before a place.
+pub fn own_from(lines: &[Line], from: usize) -> &[Line]
+    requires { from ≤ length lines.now }
+    ensures own { result.now ≡ asm.own (drop from lines.now) }
+    ensures short { length result.now ≤ length lines.now }
+    ensures plain { has_entry_card lines.now ≡ false → has_entry_card result.now ≡ false }
+{
+    own_of(rest_from(lines, from))
 }
