@@ -90,8 +90,8 @@ pub record DeviceAfterReads {D : Type 0} (holds : D → Option (List (List ℕ))
   pub faults : failed old ≤ failed new
 
 -- what every call of paging keeps: the registers, the size of core, where areas may lie, and how many sectors the table has
-pub record PagingKeeps (old new : Cpu) (areas areas_new : Areas) (table table_new : Table) : Type 0 where
+pub record PagingKeeps (old new : Cpu) (before after : Areas) (table table_new : Table) : Type 0 where
   pub rest : new ≡ record old { core = new.core }
   pub len : length new.core ≡ length old.core
-  pub areas : areas_new ≡ areas
+  pub areas : after ≡ before
   pub count : length table_new.links ≡ length table.links

@@ -1,4 +1,4 @@
-use Rattle.std.proofs.Common.{◌≡◌, ◌≢◌, ℕ, ◌≤◌, List, Option, Some, None, refl, sym, ◌∙◌, ap, arith, ⊎_elim, subst}
+use Rattle.std.proofs.Common.{◌≡◌, ◌≢◌, ℕ, ◌≤◌, List, Option, Some, None, sym, ◌∙◌, arith, ⊎_elim, subst}
 use Rattle.b67_layout_storage.proofs.Devices.{Served-none, Served-then, Keeps-none, Keeps-then, still_tells}
 use Rattle.std.proofs.lemmas.Option.{none-some}
 use Rattle.b67_area.proofs.Laws.{area_inside}
@@ -20,7 +20,7 @@ returns-then-at-upto-clause-row g c = λ x p m.
     let (y, sh, re, my, st) = c.areas.invariant.stands x p m in
     record {
       outside = st;
-      clear = 
+      clear =
           let h = here y c.areas.cpu c.areas.areas c.areas.sectors (g.B.Backing.holds c.areas.backing) p my 0 c.in-Some.at c.areas.next c.in-Some.is re in
           (y, sh, λ b i e. ⊎_elim (λ (z : b ≡ 0). absurd (omega (arith, z, (area_inside c.areas.cpu.core y.low y.spans b i my.stands.directory e).0))) (λ (q : c.in-Some.at ≤ b). omega (arith, c.if-at-upto.true)) (h.1 b i e), my);
       refused = tt;
@@ -35,19 +35,19 @@ returns-in-Err-clause-row g c = λ x p m.
       outside = Stayed-then p c.args.cpu.now.core c.areas.cpu.core c.overlay.new.cpu.core st ((c.overlay.ensures.row y p t my pr).outside);
       clear = tt;
       refused = let tells : (all : List (List ℕ)) → g.B.Backing.holds c.areas.backing ≡ Some all → g.B.Backing.holds c.overlay.new.backing ≢ None = λ all e n. let (q, i) = still_tells g.B.Backing.holds g.B.Backing.size g.B.Backing.calls g.B.Backing.faults c.areas.backing c.overlay.new.backing c.overlay.ensures.device all e in none-some q (sym n ∙ i) in (
-      retelling y (g.B.Backing.holds c.overlay.new.backing),
-      EvictedBelow-then c.args.upto x y _ sh (EvictedBelow-retelling c.args.upto y (g.B.Backing.holds c.areas.backing) (g.B.Backing.holds c.overlay.new.backing) my.device tells),
-      (c.in-Err.ensures.row y p t my pr).refused,
-    );
-      full = λ wants free e. 
+        retelling y (g.B.Backing.holds c.overlay.new.backing),
+        EvictedBelow-then c.args.upto x y _ sh (EvictedBelow-retelling c.args.upto y (g.B.Backing.holds c.areas.backing) (g.B.Backing.holds c.overlay.new.backing) my.device tells),
+        (c.in-Err.ensures.row y p t my pr).refused,
+      );
+      full = λ wants free e.
           let tells : (all : List (List ℕ)) → g.B.Backing.holds c.areas.backing ≡ Some all → g.B.Backing.holds c.overlay.new.backing ≢ None = λ all e n. let (q, i) = still_tells g.B.Backing.holds g.B.Backing.size g.B.Backing.calls g.B.Backing.faults c.areas.backing c.overlay.new.backing c.overlay.ensures.device all e in none-some q (sym n ∙ i) in
           let short = short_at y p t c.in-Some.at wants free (g.B.Backing.holds c.overlay.new.backing) pr (((c.in-Err.ensures.row y p t my pr).full wants free).0 e) in (
-      retelling y (g.B.Backing.holds c.overlay.new.backing),
-      short.0,
-      omega (arith, short.1, c.if-at-upto.false),
-      EvictedBelow-then c.args.upto x y _ sh (EvictedBelow-retelling c.args.upto y (g.B.Backing.holds c.areas.backing) (g.B.Backing.holds c.overlay.new.backing) my.device tells),
-      (c.in-Err.ensures.row y p t my pr).refused,
-    );
+            retelling y (g.B.Backing.holds c.overlay.new.backing),
+            short.0,
+            omega (arith, short.1, c.if-at-upto.false),
+            EvictedBelow-then c.args.upto x y _ sh (EvictedBelow-retelling c.args.upto y (g.B.Backing.holds c.areas.backing) (g.B.Backing.holds c.overlay.new.backing) my.device tells),
+            (c.in-Err.ensures.row y p t my pr).refused,
+          );
     }
 
 pub returns-clause-row : goal.returns-clause-row
@@ -55,7 +55,7 @@ returns-clause-row g c = λ x p m.
     let (y, sh, re, my, st) = c.areas.invariant.stands x p m in
     record {
       outside = st;
-      clear = 
+      clear =
           let P : Option ℕ → Type 0 = λ o. Remains y.low y.spans 0 o in
           let none : Remains y.low y.spans 0 None = subst P c.in_default.is re in
           (y, sh, λ b i e. absurd (omega (arith, none b i e, (area_inside c.areas.cpu.core y.low y.spans b i my.stands.directory e).0)), my);

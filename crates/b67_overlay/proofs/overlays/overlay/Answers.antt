@@ -113,7 +113,7 @@ pub returns-in-Ok-clause-row : goal.returns-in-Ok-clause-row
 returns-in-Ok-clause-row g c = λ x p t m at.
     let dir : IsDirectory c.args.cpu.now.core c.args.areas.now.low x.spans = subst (λ (n : ℕ). IsDirectory c.args.cpu.now.core n x.spans) (sym m.low) m.stands.directory in
     record {
-      stands = 
+      stands =
           let ab = about x c.args.cpu.now.core c.args.cpu.now.regs p m.stands c.args.area t at in
           let here : area_at c.args.areas.now.low x.spans c.args.area ≡ Some (info_of x t) = ap (λ (n : ℕ). area_at n x.spans c.args.area) m.low ∙ ab.here in
           let is : c.info-info.result ≡ info_of x t = c.info-info.ensures x.spans (info_of x t) dir here in
@@ -138,21 +138,21 @@ returns-in-Ok-clause-row g c = λ x p t m at.
           let M : Cpu → Type 0 = λ z. MachineRepresentsView (overlaid x t c.args.area (g.B.Backing.holds c.write_out.new.backing)) z c.give_back.new.areas c.write_out.new.sectors (g.B.Backing.holds c.write_out.new.backing) p in
           let d = subst (J (chain_out x.shelf (x.held t.home).chain)) regs (subst (λ (n : ℕ). J n c.give_back.new.cpu.regs) wr.0 (c.give_back.ensures.stands x y p t m.stands m.low at is (subst I (sym wr.0) o))) in
           subst M (sym c.give_back.ensures.rest) (overlaid_machine x c.args.cpu.now c.args.areas.now c.give_back.new.areas c.args.sectors.now c.write_out.new.sectors (g.B.Backing.holds c.args.backing.now) (g.B.Backing.holds c.write_out.new.backing) p c.args.area t m
-    (ap (λ (z : Areas). z.low) c.give_back.ensures.areas) wr.1 (λ all e. let (q, i, st) = stores.told all e in (q, i)) c.give_back.new.cpu.core d);
+          (ap (λ (z : Areas). z.low) c.give_back.ensures.areas) wr.1 (λ all e. let (q, i, st) = stores.told all e in (q, i)) c.give_back.new.cpu.core d);
       refused = tt;
-      outside = 
+      outside =
           let ab = about x c.args.cpu.now.core c.args.cpu.now.regs p m.stands c.args.area t at in
           let here : area_at c.args.areas.now.low x.spans c.args.area ≡ Some (info_of x t) = ap (λ (n : ℕ). area_at n x.spans c.args.area) m.low ∙ ab.here in
           let is : c.info-info.result ≡ info_of x t = c.info-info.ensures x.spans (info_of x t) dir here in
           c.give_back.ensures.outside x p t m.stands m.low at is;
-      full = λ wants free. 
+      full = λ wants free.
           let ab = about x c.args.cpu.now.core c.args.cpu.now.regs p m.stands c.args.area t at in
           let here : area_at c.args.areas.now.low x.spans c.args.area ≡ Some (info_of x t) = ap (λ (n : ℕ). area_at n x.spans c.args.area) m.low ∙ ab.here in
           let is : c.info-info.result ≡ info_of x t = c.info-info.ensures x.spans (info_of x t) dir here in
           let R : Info → Type 0 = λ i. i.kept ≡ 0 → sectors_for i.words ≤ length x.shelf.free in
           let room = subst R is ((c.in-Ok.ensures.row x.shelf m.shelf).room) in
           (λ e. absurd (let b : ⊥ = cc in b), λ h. absurd (omega (arith, h.0.few, room h.0.none)));
-      clean = λ no_array. 
+      clean = λ no_array.
           let ab = about x c.args.cpu.now.core c.args.cpu.now.regs p m.stands c.args.area t at in
           let here : area_at c.args.areas.now.low x.spans c.args.area ≡ Some (info_of x t) = ap (λ (n : ℕ). area_at n x.spans c.args.area) m.low ∙ ab.here in
           let is : c.info-info.result ≡ info_of x t = c.info-info.ensures x.spans (info_of x t) dir here in
@@ -169,7 +169,7 @@ returns-in-Err-clause-row g c = λ x p t m at.
     let array : t.kind ≡ Array = ap (λ (i : Info). i.kind) (sym is) ∙ c.in-Array.is in
     record {
       stands = tt;
-      refused = 
+      refused =
           let Q : Info → Type 0 = λ i. (i.kept ≡ 0) ⊎ ChainIs c.args.sectors.now x.shelf i.kept (sectors_for i.words) in
           let chain : (c.info-info.result.kept ≡ 0) ⊎ ChainIs c.args.sectors.now x.shelf c.info-info.result.kept (sectors_for c.info-info.result.words) = subst Q (sym is) (⊎_elim
           (λ (z : (x.held t.home).chain ≡ 0). let r : Q (info_of x t) = inl z in r)
@@ -180,13 +180,13 @@ returns-in-Err-clause-row g c = λ x p t m at.
           let st = Represents-retold x c.args.cpu.now.core c.args.cpu.now.regs p m.stands c.args.area t at c.args.sectors.now (g.B.Backing.holds c.args.backing.now) (g.B.Backing.holds c.write_out.new.backing) m.shelf m.device array rf.1.told in
           retold_machine x c.args.cpu.now c.args.areas.now c.args.areas.now c.args.sectors.now c.write_out.new.sectors (g.B.Backing.holds c.args.backing.now) (g.B.Backing.holds c.write_out.new.backing) p m refl rf.0 (λ all e. let (q, i, s) = rf.1.told all e in (q, i)) st;
       outside = Stayed-none p c.args.cpu.now.core;
-      full = λ wants free. 
+      full = λ wants free.
           let F : Info → Type 0 = λ i. (◌≡◌ {A = Result ℕ SpaceFault} (Err c.in-Err.fault) (Err (BackingFull wants free)) → (i.kept ≡ 0) × (length x.shelf.free < sectors_for i.words) × (wants ≡ sectors_for i.words) × (free ≡ length x.shelf.free))
           × ((i.kept ≡ 0) × (length x.shelf.free < sectors_for i.words) × (wants ≡ sectors_for i.words) × (free ≡ length x.shelf.free) → ◌≡◌ {A = Result ℕ SpaceFault} (Err c.in-Err.fault) (Err (BackingFull wants free))) in
           let fl = subst F is ((c.in-Err.ensures.row x.shelf m.shelf).full wants free) in (
-      λ e. let r = fl.0 (let z : ◌≡◌ {A = Result ℕ SpaceFault} (Err c.in-Err.fault) (Err (BackingFull wants free)) = cc in z) in (record { kind = array; none = r.0; few = r.1 }, r.2, r.3),
-      λ h. let z = fl.1 (h.0.none, h.0.few, h.1, h.2) in (let q : ◌≡◌ {A = Result (Unit {0}) SpaceFault} (Err c.in-Err.fault) (Err (BackingFull wants free)) = cc in q),
-    );
+            λ e. let r = fl.0 (let z : ◌≡◌ {A = Result ℕ SpaceFault} (Err c.in-Err.fault) (Err (BackingFull wants free)) = cc in z) in (record { kind = array; none = r.0; few = r.1 }, r.2, r.3),
+            λ h. let z = fl.1 (h.0.none, h.0.few, h.1, h.2) in (let q : ◌≡◌ {A = Result (Unit {0}) SpaceFault} (Err c.in-Err.fault) (Err (BackingFull wants free)) = cc in q),
+          );
       clean = λ no_array. absurd (no_array array);
     }
 

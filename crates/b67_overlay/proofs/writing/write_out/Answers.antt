@@ -53,13 +53,13 @@ returns-in-Err-save-clause-row g c = λ st sh. record {
   written = search rules;
   room = search rules;
   refused = λ k.
-          let n = sectors_for c.args.words in
-          let h : HasChain c.take.new.self (taken n st) c.in-Some.first n = c.in-Some.ensures.chain st sh in
-          let row = c.in-Some.ensures.row st sh in
-          let back = given_taken n c.in-Some.first st (omega arith) row.0 row.1 in
-          let S : Shelf → Type 0 = λ z. IsShelf c.give.new.self z in
-          let C : List ℕ → Type 0 = λ z. Changes g.B.Backing.holds c.args.backing.now c.save-in-Some.new.backing (SameBut z) in
-          (subst S back (c.give.ensures.row (taken n st) h.shelf (omega (arith, h.many))), subst C (sym (new_out st c.args.kept c.args.words c.if-kept-ne0.false ∙ ap (λ (f : ℕ). chain_of f (taken n st).chains) (sym row.1))) (c.in-Err-save.ensures.others (taken n st) h));
+      let n = sectors_for c.args.words in
+      let h : HasChain c.take.new.self (taken n st) c.in-Some.first n = c.in-Some.ensures.chain st sh in
+      let row = c.in-Some.ensures.row st sh in
+      let back = given_taken n c.in-Some.first st (omega arith) row.0 row.1 in
+      let S : Shelf → Type 0 = λ z. IsShelf c.give.new.self z in
+      let C : List ℕ → Type 0 = λ z. Changes g.B.Backing.holds c.args.backing.now c.save-in-Some.new.backing (SameBut z) in
+      (subst S back (c.give.ensures.row (taken n st) h.shelf (omega (arith, h.many))), subst C (sym (new_out st c.args.kept c.args.words c.if-kept-ne0.false ∙ ap (λ (f : ℕ). chain_of f (taken n st).chains) (sym row.1))) (c.in-Err-save.ensures.others (taken n st) h));
   full = search rules;
 }
 

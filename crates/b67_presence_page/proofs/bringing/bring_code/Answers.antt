@@ -40,11 +40,11 @@ returns-in-Err-NoHole-clause-row g c = λ x p t m a.
     let mx = (c.in-Err-NoHole.ensures.row x p t m a).refused in
     record {
       outside = Stayed-then p c.args.cpu.now.core c.page_in.new.cpu.core c.force_code.new.cpu.core ((c.page_in.ensures.row x p t m a).outside) (c.force_code.ensures.outside x p t mx a);
-      came = on_ok_weaker c.force_code.result ( λ f r. 
+      came = on_ok_weaker c.force_code.result (λ f r.
           f x p t ((c.in-Err-NoHole.ensures.row x p t m a).refused) a r) c.force_code.ensures.came;
-      refused = on_err_weaker c.force_code.result ( λ f. 
+      refused = on_err_weaker c.force_code.result (λ f.
           f x p t ((c.in-Err-NoHole.ensures.row x p t m a).refused) a) c.force_code.ensures.refused;
-      full = λ wants free e. 
+      full = λ wants free e.
           let none : c.page_in.result ≡ Err NoHole = cc in
           let r = c.force_code.ensures.full x p t wants free mx a e in
           (((c.page_in.ensures.row x p t m a).full).0 none, r.0, r.1);

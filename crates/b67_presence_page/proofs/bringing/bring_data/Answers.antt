@@ -51,12 +51,12 @@ returns-in-Err-NoHole-clause-row g c = λ x p t d at m a k.
     let none : c.page_in.result ≡ Err NoHole = cc in
     record {
       outside = Stayed-then p c.args.cpu.now.core c.page_in.new.cpu.core c.force_data.new.cpu.core ((c.page_in.ensures.row x p t m a).outside) (c.force_data.ensures.outside x p t d mx a ks);
-      both = on_ok_weaker c.force_data.result ( λ f r. 
+      both = on_ok_weaker c.force_data.result (λ f r.
           f x p t d mx a ks r) c.force_data.ensures.both;
-      refused = on_err_weaker c.force_data.result ( λ f r. 
+      refused = on_err_weaker c.force_data.result (λ f r.
           f x p t d mx a ks r) c.force_data.ensures.refused;
       zeros = λ room z. absurd (((c.page_in.ensures.row x p t m a).full).0 none room);
-      full = λ wants free e. 
+      full = λ wants free e.
           let Q : ℕ → Type 0 = λ n. (w : Waits x p n c.force_data.new.cpu c.force_data.new.areas c.force_data.new.sectors (g.B.Backing.holds c.force_data.new.backing)) × IsShortBy w.storage p wants free in
           let r = subst Q seg.1 (c.force_data.ensures.full x p t wants free mx a e) in
           (((c.page_in.ensures.row x p t m a).full).0 none, r.0, r.1);

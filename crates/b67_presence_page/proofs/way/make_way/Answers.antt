@@ -60,7 +60,7 @@ returns-in-Err-clause-row g c = λ x p t m a.
       came = λ e. absurd (let b : ⊥ = cc in b);
       clear = λ e. absurd (let b : ⊥ = cc in b);
       refused = Waits-before x y p c.args.spare c.give_way.new.cpu c.give_way.new.areas c.give_way.new.sectors (g.B.Backing.holds c.give_way.new.backing) sh (c.in-Err.ensures.refused y p t u my ay pr);
-      full = λ wants free e. 
+      full = λ wants free e.
           let r = c.in-Err.ensures.full y p t u wants free my ay pr (let z : ◌≡◌ {A = Result Bool SpaceFault} (Err c.in-Err.fault) (Err (BackingFull wants free)) = cc in z) in
           (Waits-before x y p c.args.spare c.give_way.new.cpu c.give_way.new.areas c.give_way.new.sectors (g.B.Backing.holds c.give_way.new.backing) sh r.0, r.1);
     }
@@ -72,7 +72,7 @@ returns-clause-row g c = λ x p t m a.
     record {
       outside = st;
       came = λ e. absurd (let b : ⊥ = cc in b);
-      clear = λ _. 
+      clear = λ _.
           let P : Option ℕ → Type 0 = λ o. Remains y.low y.spans c.args.spare o in
           let none : Remains y.low y.spans c.args.spare None = subst P c.in_default.is re in
           let w : Waits x p c.args.spare c.areas.cpu c.areas.areas c.areas.sectors (g.B.Backing.holds c.areas.backing) = record { storage = y; sheds = sh; stands = my } in

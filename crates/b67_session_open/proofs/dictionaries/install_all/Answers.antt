@@ -34,6 +34,6 @@ programs-preserved g c = record {
 pub returns-clause-installed : goal.returns-clause-installed
 returns-clause-installed g c =
     let (_, heads, writes) = installing_all g.B.Backing.holds c.programs.at (map program_of c.args.programs.now) _ _ _
-        (programs_end c.args.programs.now c.programs.program-index c.programs-test.false)
-        c.programs.invariant.installing in
+    (programs_end c.args.programs.now c.programs.program-index c.programs-test.false)
+    c.programs.invariant.installing in
     record { heads = heads; writes = writes }
