@@ -9,7 +9,8 @@ use Rattle.b67_model.specs.State.{Task, SessionJob}
 use Rattle.b67_model.specs.Rows.{code_of}
 use Rattle.b67_model.specs.Run.{number_of}
 use Rattle.b67_model.specs.Schedule.{Session}
-use Rattle.b67_model.specs.InOrder.{ArrayInOrder, IsInOrderButPlaces}
+use Rattle.b67_model.specs.InOrder.{ArrayInOrder}
+use Rattle.b67_layout.specs.Orders.{IsInOrderButCounts}
 use Rattle.b67_stack.specs.declared.What.{What}
 use Rattle.b67_stack.specs.declared.What.TheVariants as what
 use Rattle.b67_stack.specs.MachineView.{PagedObject}
@@ -45,7 +46,7 @@ pub record CodeObject (plan : Placement) (s : Session) (m : SessionJob) (t : Tas
   pub kind : object.kind ≡ Code
   pub count : length object.numbers ≡ length (code_of m.constants t.segment)
 
-pub code_found : (plan : Placement) (s : Session) (m : SessionJob) (t : Task) → IsInOrderButPlaces s → IsRunning plan s.jobs m t → CodeObject plan s m t
+pub code_found : (plan : Placement) (s : Session) (m : SessionJob) (t : Task) → IsInOrderButCounts s → IsRunning plan s.jobs m t → CodeObject plan s m t
 code_found plan s m t o runs =
     let has_m : Has s.jobs m = keyed-has number_of m.constants.number s.jobs m runs.member in
     let place = (running_in_order plan s m t o runs).1.place in
@@ -62,7 +63,7 @@ code_found plan s m t o runs =
       count = rw (found.1) refl;
     }
 
-module _ (x : Storage) (told : Option (List (List ℕ))) (k : Machine) (plan : Placement) (s : Session) (m : SessionJob) (t : Task) (o : IsInOrderButPlaces s) (h : StandsOver x told k plan s) (runs : IsRunning plan s.jobs m t) where
+module _ (x : Storage) (told : Option (List (List ℕ))) (k : Machine) (plan : Placement) (s : Session) (m : SessionJob) (t : Task) (o : IsInOrderButCounts s) (h : StandsOver x told k plan s) (runs : IsRunning plan s.jobs m t) where
   pub address : k.cpu.regs.dict + k.cpu.regs.segment ≡ plan.dictionary m.constants.number + 1 + t.segment
   address = at-is x k.cpu plan s m t o h.stands.session runs
 
@@ -117,7 +118,7 @@ pub brings_as : (x : Storage) (told : Option (List (List ℕ))) (k : Machine) (p
 brings_as x told k plan s m t absent other e b = subst (λ (z : What). Brings x told k plan s m t z) (sym e) b
 
 -- the need that was computed is the step's
-pub needed_is : (x : Storage) (told : Option (List (List ℕ))) (k : Machine) (plan : Placement) (s : Session) (m : SessionJob) (t : Task) → IsInOrderButPlaces s → StandsOver x told k plan s → IsRunning plan s.jobs m t
+pub needed_is : (x : Storage) (told : Option (List (List ℕ))) (k : Machine) (plan : Placement) (s : Session) (m : SessionJob) (t : Task) → IsInOrderButCounts s → StandsOver x told k plan s → IsRunning plan s.jobs m t
     → (words array needed : ℕ) → array ≡ words → needed ≡ need_with s m t 0 array → needed ≡ need_with s m t 0 words
 needed_is x told k plan s m t o h runs words array needed e is = is ∙ ap (need_with s m t 0) e
 
@@ -128,7 +129,7 @@ pub core_has : (needed core size need here : ℕ) → needed ≤ core → core �
 core_has needed core size need here fits e is same = omega (arith, fits, e, is, same)
 
 -- if a hole has room for an array that was never touched, core has the step's need
-pub room_fits : (x : Storage) (told : Option (List (List ℕ))) (k : Machine) (plan : Placement) (s : Session) (m : SessionJob) (t : Task) → IsInOrderButPlaces s → StandsOver x told k plan s → IsRunning plan s.jobs m t
+pub room_fits : (x : Storage) (told : Option (List (List ℕ))) (k : Machine) (plan : Placement) (s : Session) (m : SessionJob) (t : Task) → IsInOrderButCounts s → StandsOver x told k plan s → IsRunning plan s.jobs m t
     → (absent : What) (words : ℕ) → IsWanted x plan m t absent words → HasHole (words_wanted m t absent words) x.spans → IsUntouched x absent → need_with s m t 0 words ≤ length k.cpu.core
 room_fits x told k plan s m t o h runs (what.Code d) words wanted room untouched = absurd untouched
 room_fits x told k plan s m t o h runs (what.Array home) words w room untouched =

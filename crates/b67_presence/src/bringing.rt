@@ -4,7 +4,7 @@ ghost use Rattle.std.specs.Prelude.{◌≡◌, ℕ, ◌+◌, ◌<◌, ◌^◌, L
 ghost use Rattle.b67_io.specs.Causes.{Rose};
 ghost use Rattle.b67_model.specs.State.{Task, SessionJob};
 ghost use Rattle.b67_model.specs.Schedule.{Session};
-ghost use Rattle.b67_model.specs.InOrder.{IsInOrderButPlaces};
+ghost use Rattle.b67_layout.specs.Orders.{IsInOrderButCounts};
 ghost use Rattle.b67_stack.specs.Represents.{Storage};
 ghost use Rattle.b67_layout_storage.specs.Machine.{DeviceAfterCalls, PagingKeeps};
 ghost use Rattle.b67_layout.specs.Placement.{Placement};
@@ -22,7 +22,7 @@ use b67_task_tables::Machine;
 fn words_of(machine: &Machine, absent: What) -> u32
     requires { (told : Option (List (List ℕ))) × WantsSome machine.now told absent }
     ensures small { result < 2 ^ 16 }
-    ensures words { (x : Storage) (told : Option (List (List ℕ))) (plan : Placement) (s : Session) (m : SessionJob) (t : Task) (words : ℕ) → IsInOrderButPlaces s
+    ensures words { (x : Storage) (told : Option (List (List ℕ))) (plan : Placement) (s : Session) (m : SessionJob) (t : Task) (words : ℕ) → IsInOrderButCounts s
         → StandsOver x told machine.now plan s → IsRunning plan s.jobs m t → IsWanted x plan m t absent words → result ≡ words }
 {
     match absent {
@@ -48,7 +48,7 @@ pub fn bring<B: Backing>(
     requires same { B.size backing.old + 1 ≡ length machine.old.sectors.links }
     ensures keeps { PagingKeeps machine.old.cpu machine.new.cpu machine.old.areas machine.new.areas machine.old.sectors machine.new.sectors }
     ensures tasks { machine.new.tasks ≡ machine.old.tasks }
-    ensures row { (x : Storage) (plan : Placement) (s : Session) (m : SessionJob) (t : Task) (words : ℕ) → IsInOrderButPlaces s
+    ensures row { (x : Storage) (plan : Placement) (s : Session) (m : SessionJob) (t : Task) (words : ℕ) → IsInOrderButCounts s
         → StandsOver x (B.holds backing.old) machine.old plan s → IsRunning plan s.jobs m t → IsWanted x plan m t absent words
         → BringMeets B.holds (B.size backing.old) x plan s m t absent words result machine.old machine.new backing.old backing.new }
     ensures unchanged { (need size : ℕ) → result ≡ Err (NoCore need size) → (machine.new ≡ machine.old) × (backing.new ≡ backing.old) }
