@@ -12,6 +12,15 @@ use Rattle.b67_presence.proofs.Seen.{readable}
 use Rattle.b67_presence.proofs.Wants.{code_found, address, address_small, displaced, code_absent, code_present, array_absent, need_code, need_array, needed_is, fits_not, core_has, room_fits, wanted_code, wanted_array, brings_as}
 use Rattle.b67_presence.proofs.bringing.bring.Goals as goal
 
+pub words_of-words-requires : goal.words_of-words-requires
+words_of-words-requires g c = (g.B.Backing.holds c.args.backing.now, c.requires.wants)
+
+pub returns-in-Code-clause-unchanged : goal.returns-in-Code-clause-unchanged
+returns-in-Code-clause-unchanged g c = λ need size e. absurd (c.bring_code.ensures.no_core need size e)
+
+pub returns-in-Array-clause-unchanged : goal.returns-in-Array-clause-unchanged
+returns-in-Array-clause-unchanged g c = λ need size e. absurd (c.bring_data.ensures.no_core need size e)
+
 pub need-needed-requires-clause-runs : goal.need-needed-requires-clause-runs
 need-needed-requires-clause-runs g c =
     let q = c.requires.wants in
