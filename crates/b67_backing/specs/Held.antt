@@ -1,7 +1,7 @@
 -- What a call did to the sectors of a device, where it tells them.
-use Rattle.std.specs.Prelude.{◌≡◌, ℕ, zero, replicate, ◌+◌, ◌-◌, ◌/◌, ◌%◌, ◌^◌, ◌<◌, ◌≤◌, List, [], ◌∷◌, length, Option, Some, slice_get}
+use Rattle.std.specs.Prelude.{◌≡◌, ℕ, zero, replicate, ◌+◌, ◌-◌, ◌/◌, ◌%◌, ◌^◌, ◌<◌, ◌≤◌, List, [], ◌∷◌, length, Option, Some, slice_get, Result}
 use Rattle.b67_word.specs.Tagged.{Tagged, word}
-use Rattle.b67_io.specs.Causes.{Rose}
+use Rattle.b67_io.specs.Causes.{Rose, HasCause}
 use Rattle.b67_backing.specs.Shelf.{times}
 
 -- what is told has this property
@@ -20,6 +20,12 @@ pub record Changes {D A : Type 0} (tell : D → Option A) (old new : D) (R : A �
 pub record Counts {D : Type 0} (calls : D → ℕ) (old new : D) : Type 0 where
   pub later : calls old ≤ calls new
   pub rose : Rose calls old new
+
+-- what a call leaves of a device: as many sectors, a count of calls that hasn't fallen, and a count of faults that has risen if it failed
+pub record KeepsCounts {D T E : Type 0} (many counted failed : D → ℕ) (old new : D) (result : Result T E) : Type 0 where
+  pub size : many new ≡ many old
+  pub calls : counted old ≤ counted new
+  pub cause : HasCause failed old new result
 
 -- the numbers of a sector; sectors are numbered from 1
 abbrev pub sector : List (List ℕ) → ℕ → Option (List ℕ)
