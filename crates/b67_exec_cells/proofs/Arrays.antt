@@ -142,6 +142,8 @@ module _ (x : Storage) (cpu : Cpu) (plan : Placement) (s : Session) (m : Session
   -- a copy of the descriptor is a row copy
   pub present-copy : (d : DataDesc) (w : Tagged) (at : ℕ) → d ≡ original_desc x plan m n → d.present ≡ true → w ≡ data_word (record d { copy = true }) → IsWordOf x plan m t (Row n) at w
   present-copy d w at is on made = record {
+    number = length (array m.progress.job n).numbers;
+    numbered = (omega (arith, inside), long);
     present = true;
     address = d.address;
     fits = record { words = omega (arith, long); address = (let a = area-inside d.address (present d is on) in omega (arith, a, bound)); indexed = λ z. absurd (false≢true z) };
@@ -153,6 +155,8 @@ module _ (x : Storage) (cpu : Cpu) (plan : Placement) (s : Session) (m : Session
 
   pub absent-copy : (d : DataDesc) (w : Tagged) (at : ℕ) → d ≡ original_desc x plan m n → d.present ≡ false → w ≡ data_word (record d { copy = true; address = plan.home m.constants.number n }) → IsWordOf x plan m t (Row n) at w
   absent-copy d w at is off made = record {
+    number = length (array m.progress.job n).numbers;
+    numbered = (omega (arith, inside), long);
     present = false;
     address = plan.home m.constants.number n;
     fits = record { words = omega (arith, long); address = omega (arith, home-inside, bound); indexed = λ z. absurd (false≢true z) };

@@ -37,6 +37,8 @@ module _ (x : Storage) (cpu : Cpu) (plan : Placement) (s : Session) (m : Session
 
   pub present-item : (d : DataDesc) (w : Tagged) (at : ℕ) → d ≡ original_desc x plan m n → d.present ≡ true → w ≡ data_word (item_desc d d.present index d.address) → IsWordOf x plan m t (Element n index) at w
   present-item d w at is on made = record {
+    number = index;
+    numbered = refl;
     present = true;
     address = d.address;
     fits = record { words = small; address = (item-fits d is).address; indexed = λ z. refl };
@@ -46,6 +48,8 @@ module _ (x : Storage) (cpu : Cpu) (plan : Placement) (s : Session) (m : Session
 
   pub absent-item : (d : DataDesc) (w : Tagged) (at : ℕ) → d ≡ original_desc x plan m n → d.present ≡ false → w ≡ data_word (item_desc d d.present index (plan.home m.constants.number n)) → IsWordOf x plan m t (Element n index) at w
   absent-item d w at is off made = record {
+    number = index;
+    numbered = refl;
     present = false;
     address = plan.home m.constants.number n;
     fits = record { words = small; address = low; indexed = λ z. refl };

@@ -11,7 +11,8 @@ use Rattle.b67_arith.specs.OnWords.{bits_in}
 use Rattle.b67_model.specs.Answers.{Answer, ◌>>=◌}
 use Rattle.b67_model.specs.Words as Words
 use Rattle.b67_model.specs.Words.{Word, Operand, Name, Ref, Row, Element, Original, Proc, Intrinsic, operand, number}
-use Rattle.b67_model.specs.Arrays.{array, array_of, index_below, indexed, in_order}
+use Rattle.b67_model.specs.Arrays.{array}
+use Rattle.b67_model.specs.Indexing.{array_of, index_below, indexed, in_order}
 use Rattle.b67_model.specs.Intrinsics.{is_original}
 use Rattle.b67_model.specs.State.{Array, Frame, Task, SessionJob, top}
 use Rattle.b67_model.specs.Schedule.{Session}

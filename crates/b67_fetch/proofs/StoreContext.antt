@@ -3,7 +3,7 @@ use Rattle.std.proofs.Common.{◌≡◌, ℕ, Result, Ok, subst}
 use Rattle.b67_word.specs.Tagged.{Tagged, word}
 use Rattle.b67_word.specs.declared.couples.Place.{Place}
 use Rattle.b67_word.specs.declared.faults.Fault.{Fault}
-use Rattle.b67_model.specs.Arrays.{in_order}
+use Rattle.b67_model.specs.Indexing.{in_order}
 use Rattle.b67_model.specs.Chase.{follow}
 use Rattle.b67_model.specs.InOrder.{IsInOrderButPlaces}
 use Rattle.b67_model.specs.Schedule.{Session}

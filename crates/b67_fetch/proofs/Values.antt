@@ -35,6 +35,7 @@ use Rattle.b67_layout.specs.Session.{IsRunning, RepresentsSession}
 use Rattle.b67_layout.specs.Meets.{here, IsPresent, IsTouched, IsMade, IsAbsent, Meets, RunsSome, area_held}
 use Rattle.b67_layout.proofs.Whole.{task_with}
 use Rattle.b67_layout.proofs.Fresh.{running_in_order}
+use Rattle.b67_refer.proofs.Items.{array_is, not_empty}
 use Rattle.b67_exec_cells.specs.Tops.{IsWordOf, cells, GivesTop}
 use Rattle.b67_exec_cells.specs.Elements.{HasElement, HoldsElement}
 use Rattle.b67_exec_cells.proofs.Put.{fitting}
@@ -65,8 +66,14 @@ module _ (x : Storage) (cpu : Cpu) (plan : Placement) (s : Session) (m : Session
 
   end_is : (q : Place) (found : End) (e : Chase.End) → EndIs here_scene q found e → IsEnd plan m cpu.core found e
   end_is q (end.Cell at) (AtCell f offset bits) i = i.there ∙ ap Some i.stands.0.0
-  end_is q (end.Element original index) (AtElement n k) i = (i.0, i.1.home, record { item = i.1.names.item; live = i.1.names.live; named = i.1.names.named; inside = i.1.names.inside })
-  end_is q (end.Array original) (AtArray n) i = (i.home, record { item = i.names.item; live = i.names.live; named = i.names.named; inside = i.names.inside })
+  end_is q (end.Element original index) (AtElement n k) i = let o = i.1.array_of in
+      (i.0, o.home, record { item = o.names.item; live = o.names.live; named = o.names.named; inside = subst (λ (z : Array). k < length z.numbers) (array_is cpu.core cpu.regs here_scene n o.names) i.1.inside })
+  end_is q (end.Array original) (AtArray n) i = (i.home, record {
+    item = i.names.item;
+    live = i.names.live;
+    named = i.names.named;
+    inside = not_empty cpu.core cpu.regs here_scene n i.names;
+  })
   end_is q (end.Proc at) (AtProc f segment level place) i = tt
   end_is q (end.Intrinsic n) (AtIntrinsic k) i = tt
   end_is q (end.Cell at) (AtElement n k) i = i

@@ -2,7 +2,7 @@
 use Rattle.std.proofs.Common.{◌≡◌, ◌≢◌, ℕ, ◌-◌, List, [], ◌∷◌, ◌++◌, map, Ok, Err, refl, sym, ◌∙◌, ap, arith, false, inl, inr, ◌⊎◌, subst}
 use Rattle.b67_word.specs.Tagged.{Tagged, word}
 use Rattle.b67_word.specs.declared.faults.Fault.TheVariants.{InvalidOperand}
-use Rattle.b67_model.specs.Arrays.{in_order}
+use Rattle.b67_model.specs.Indexing.{in_order}
 use Rattle.b67_model.specs.Chase.{End, follow}
 use Rattle.b67_model.specs.InOrder.{IsSegment, known_of, outer_of, FramesInOrder, WordInOrder, IsInOrderButPlaces}
 use Rattle.b67_model.specs.Intrinsics.{is_original}

@@ -55,7 +55,7 @@ member_start m h = record {
   unchanging = h.unchanging;
   tasks = record {
     tasks = all_tasks (TaskInOrder (IsStart m.constants) m.constants m.progress.job) (TaskInOrder (IsSegment m.constants) m.constants m.progress.job)
-        (λ t o. task_up (IsStart m.constants) (IsSegment m.constants) (start_up m.constants h.unchanging) m.constants m.constants m.progress.job m.progress.job refl refl refl (λ reach a i n. n) (λ owner a n. n) t o) m.progress.job.tasks h.tasks.tasks;
+        (λ t o. task_up (IsStart m.constants) (IsSegment m.constants) (start_up m.constants h.unchanging) m.constants m.constants m.progress.job m.progress.job refl refl refl (λ reach a n. n) (λ owner a n. n) t o) m.progress.job.tasks h.tasks.tasks;
     apart = h.tasks.apart;
     arrays = h.tasks.arrays;
     once = h.tasks.once;
@@ -118,16 +118,14 @@ twin_array (x ∷ xs) (y ∷ ys) h a (inr k) = let t = twin_array xs ys h.1 a k 
 twin_array [] (y ∷ ys) h a k = absurd h
 twin_array (x ∷ xs) [] h a k = absurd h
 
-names_up : (xs ys : List Array) → Refilled xs ys → (reach : List Known) (a i : ℕ) → NamesArray xs reach a i → NamesArray ys reach a i
-names_up xs ys h reach a i n =
+names_up : (xs ys : List Array) → Refilled xs ys → (reach : List Known) (a : ℕ) → NamesArray xs reach a → NamesArray ys reach a
+names_up xs ys h reach a n =
     let t = twin_array xs ys h n.item n.live in
-    let inside = n.inside in
     record {
       item = t.item;
       live = t.among;
       named = t.same.identity ∙ n.named;
       owner = (let P : ℕ → Type 0 = λ o. NamesEntered reach o in subst P (sym t.same.owner) n.owner);
-      inside = omega (arith, inside, t.same.numbers.count);
     }
 
 owns_up : (xs ys : List Array) → Refilled xs ys → (owner a : ℕ) → OwnsArray xs owner a → OwnsArray ys owner a

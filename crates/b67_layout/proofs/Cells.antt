@@ -87,7 +87,7 @@ module _ (plan : Placement) (s : Session) (m : SessionJob) (t : Task) (ordered :
     alike = λ u k. alike_with u.critical t.frames cs;
     stays = λ u k c. stays_with u.critical t.frames cs c;
     fewer = λ n low. (let e = named_with n t.frames cs in omega (arith, e));
-    kept = λ a k. record { case = inl (record { item = a; live = k; named = refl; owned = refl; long = omega arith }) };
+    kept = λ a k. record { case = inl (record { item = a; live = k; named = refl; owned = refl }) };
     arrays = whole.tasks.arrays;
     once = λ a k. (let e = originals_with a.identity t.frames cs own.some (originals a.identity) in let one = all_in (λ (b : Array). originals_of b.identity m.constants m.progress.job ≡ 1) m.progress.job.arrays a whole.tasks.once k in omega (arith, e, one));
     names = whole.tasks.names;

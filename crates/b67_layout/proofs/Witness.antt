@@ -35,7 +35,7 @@ abbrev code : List ℕ
 code = 0xae4009b202b2 ∷ 0x0380aba3ffff ∷ []
 
 abbrev program : Program
-program = record { segments = record { level = 2; code = code } ∷ []; rows = [] }
+program = record { segments = record { level = 2; entries = []; code = code } ∷ []; rows = [] }
 
 abbrev member : SessionJob
 member = opened 1 program 64 1000 []
@@ -71,7 +71,7 @@ abbrev zeros : ℕ → List Tagged
 zeros n = replicate n (word 0 0)
 
 abbrev mcp_words : List Tagged
-mcp_words = word 3 (2 ^ 46) ∷ zeros 7 ++ word 7 (2 ^ 19 + 8) ∷ word 7 (2 ^ 19 + 9) ∷ word 7 (2 ^ 19 + 10) ∷ word 7 (2 ^ 19 + 11) ∷ word 7 (2 ^ 19 + 12) ∷ word 7 (2 ^ 19 + 13) ∷ word 7 (2 ^ 19 + 14) ∷ word 7 (2 ^ 19 + 15) ∷ word 7 (2 ^ 19 + 16) ∷ zeros 15 ++ word 3 (2 ^ 46 + 1023 * 2 ^ 36 + 1 * 2 ^ 16) ∷ []
+mcp_words = word 3 (2 ^ 46) ∷ zeros 7 ++ word 7 (2 ^ 19 + 8) ∷ word 7 (2 ^ 19 + 9) ∷ word 7 (2 ^ 19 + 10) ∷ word 7 (2 ^ 19 + 11) ∷ word 7 (2 ^ 19 + 12) ∷ word 7 (2 ^ 19 + 13) ∷ word 7 (2 ^ 19 + 14) ∷ word 7 (2 ^ 19 + 15) ∷ word 7 (2 ^ 19 + 16) ∷ word 7 (2 ^ 19 + 17) ∷ word 7 (2 ^ 19 + 18) ∷ zeros 13 ++ word 3 (2 ^ 46 + 1023 * 2 ^ 36 + 1 * 2 ^ 16) ∷ []
 
 -- from word 152: the link to the hole, the dictionary, the stack, the area and the hole
 abbrev after_vector : List Tagged
@@ -265,7 +265,7 @@ holds = record {
   memory = stands;
   settled = only object (λ t. (k : ℕ) → k < 1 → slot_base p k ≤ t.home → t.home < slot_base p k + p.size → t.home ≤ slot_base p k + stack_words (stack_of (p.slots k))) (first_slot (λ k. slot_base p k ≤ 162 → 162 < slot_base p k + p.size → 162 ≤ slot_base p k + stack_words (stack_of (p.slots k))) (λ low up. absurd (omega arith)));
   dictionaries = only member (RepresentsDictionary core plan) (record { mark = refl; entries = refl });
-  mcp = record { mark = refl; intrinsics = λ n low up. all_from (λ q. slice_get core q ≡ Some (word 7 (2 ^ 19 + q))) 8 9 (refl, (refl, (refl, (refl, (refl, (refl, (refl, (refl, (refl, tt))))))))) n low (omega arith) };
+  mcp = record { mark = refl; intrinsics = λ n low up. all_from (λ q. slice_get core q ≡ Some (word 7 (2 ^ 19 + q))) 8 11 (refl, (refl, (refl, (refl, (refl, (refl, (refl, (refl, (refl, (refl, (refl, tt))))))))))) n low (omega arith) };
   vector = vector;
   critical = critical;
   live = λ n. (member, task, record { member = refl; task = refl; slot = refl });

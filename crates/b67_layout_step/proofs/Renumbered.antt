@@ -125,10 +125,10 @@ module _ (plan : Placement) (j home : ℕ) (ns : List ℕ) where
     shape_same spot (Name c) = refl
     shape_same spot (Ref f o) = refl
     shape_same spot (Row a) =
-        let S : Bool → ℕ → Shape = λ b n. Copy (record { indexed = false; read_only = not b; number = n }) (plan.home j a) in
-        ap (λ (b : Bool). S b (length (array (job_refilled plan j home ns job) a).numbers)) (array_same a).writable ∙ ap (S (array job a).writable) (array_same a).count
+        let S : Bool → Shape = λ b. Copy (record { index = None; read_only = not b }) (plan.home j a) in
+        ap S (array_same a).writable
     shape_same spot (Element a index) =
-        let S : Bool → Shape = λ b. Copy (record { indexed = true; read_only = not b; number = index }) (plan.home j a) in
+        let S : Bool → Shape = λ b. Copy (record { index = Some index; read_only = not b }) (plan.home j a) in
         ap S (array_same a).writable
     shape_same spot (Original a) = refl
     shape_same spot (Proc s l p) = refl

@@ -74,7 +74,7 @@ module _ (core : List Tagged) (r : Regs) (a : RunningContext core r) (q : Place)
       (λ (z : f < 1).
       (let is : f ≡ 0 = omega (arith, z) in
       let h = cell_has mcp offset (Operand bits) (sym (ap (λ (g : Frame). ok_or (cell_of g offset) InvalidAddress) (ap (frame (here a.member a.task q)) is ∙ frame_mcp core r a q)) ∙ here_at.found) in
-      all_in IsNoOperand mcp.cells (Operand bits) (tt, (tt, (tt, (tt, (tt, (tt, (tt, (tt, (tt, tt))))))))) h))
+      all_in IsNoOperand mcp.cells (Operand bits) (tt, (tt, (tt, (tt, (tt, (tt, (tt, (tt, (tt, (tt, (tt, tt))))))))))) h))
       (λ (z : 1 ≤ f).
       (let is : f ≡ 1 = omega (arith, z, low) in
       let h = cell_has a.member.constants.dictionary offset (Operand bits) (sym (ap (λ (g : Frame). ok_or (cell_of g offset) InvalidAddress) (ap (frame (here a.member a.task q)) is ∙ frame_dictionary core r a q)) ∙ here_at.found) in

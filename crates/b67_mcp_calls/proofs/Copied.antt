@@ -9,6 +9,7 @@ use Rattle.b67_model.specs.Intrinsics.{row_copy}
 use Rattle.b67_model.specs.Schedule.{Session}
 use Rattle.b67_model.specs.InOrder.{IsInOrderButPlaces}
 use Rattle.b67_refer.specs.Ends.{IsCopyOf}
+use Rattle.b67_refer.proofs.Items.{not_empty}
 use Rattle.b67_refer.proofs.Links.{Described, own, row, item}
 use Rattle.b67_stack.specs.declared.Cpu.{Cpu}
 use Rattle.b67_stack.specs.Represents.{Storage}
@@ -25,4 +26,4 @@ module _ (x : Storage) (cpu : Cpu) (plan : Placement) (s : Session) (m : Session
   copy_found d original (item b n e c j k l o) z y found = absurd (true≢false (sym j ∙ y))
   copy_found d original (row b e c j k o) z y found =
       let P : Word → Type 0 = λ u. FindsArray plan m (Ok original) (row_copy u) in
-      subst P (sym e) (found (plan.home m.constants.number b) k, record { item = o.item; live = o.live; named = o.named; inside = o.inside })
+      subst P (sym e) (found (plan.home m.constants.number b) k, record { item = o.item; live = o.live; named = o.named; inside = not_empty cpu.core cpu.regs (here_scene x cpu plan s m t ordered h runs) b o })

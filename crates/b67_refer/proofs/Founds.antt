@@ -47,10 +47,10 @@ module _ (core : List Tagged) (r : Regs) (a : RunningContext core r) (q : Place)
         let i = slot_inside core r a b.slot b.top_is.used in
         (omega (arith, b.part.room, i.0, i.1), i.2)
 
-  pub mcp_far : from ≡ 0 → (offset < 8) ⊎ (16 < offset) → CellMeets a q f offset (Err InvalidAddress) (cell (here a.member a.task q) f offset)
+  pub mcp_far : from ≡ 0 → (offset < 8) ⊎ (18 < offset) → CellMeets a q f offset (Err InvalidAddress) (cell (here a.member a.task q) f offset)
   mcp_far zero far = refused (ap (λ (i : ℕ). cell (here a.member a.task q) i offset) (is_mcp core r a f from n e zero) ∙ mcp_misses core r a q offset far)
 
-  pub mcp_found : (at : ℕ) → at ≡ offset → from ≡ 0 → 8 ≤ offset → offset ≤ 16 → CellMeets a q f offset (Ok at) (cell (here a.member a.task q) f offset)
+  pub mcp_found : (at : ℕ) → at ≡ offset → from ≡ 0 → 8 ≤ offset → offset ≤ 18 → CellMeets a q f offset (Ok at) (cell (here a.member a.task q) f offset)
   mcp_found at z zero low up =
       let F : ℕ → Type 0 = λ i. CellMeets a q i offset (Ok at) (cell (here a.member a.task q) i offset) in
       let G : ℕ → Type 0 = λ x. CellMeets a q 0 offset (Ok x) (cell (here a.member a.task q) 0 offset) in

@@ -175,7 +175,7 @@ module _ (core : List Tagged) (r : Regs) (a : RunningContext core r) where
       pub no_mark : word.tag ≡ 3 → ⊥
 
     wide : Wider (map known_of (b.frame ∷ b.below) ++ b.known) (reach_of a.member.progress.job a.task) a.member.progress.job.arrays a.member.progress.job.arrays
-    wide = record { entered = λ n z i k. b.among (n, z) k; kept = λ x k at. record { item = x; live = k; named = refl; owned = refl; long = omega arith } }
+    wide = record { entered = λ n z i k. b.among (n, z) k; kept = λ x k at. record { item = x; live = k; named = refl; owned = refl } }
 
     here_known : Has (known_numbers (reach_of a.member.progress.job a.task)) b.frame.identity
     here_known = has_map (λ (k : Known). k.0) (reach_of a.member.progress.job a.task) (known_of b.frame) (b.among (known_of b.frame) (inl refl))

@@ -32,7 +32,7 @@ module _ {core : List Tagged} {r : Regs} (a : RunningContext core r) where
 
   -- a word of core at an address is this one of a frame that the running task may name
   abbrev pub StandsFor : (at owner : ℕ) → Tagged → Word → Type 0
-  StandsFor at owner v (Intrinsic n) = (v ≡ intrinsic_word (record { number = n })) × (8 ≤ n) × (n ≤ 16)
+  StandsFor at owner v (Intrinsic n) = (v ≡ intrinsic_word (record { number = n })) × (8 ≤ n) × (n ≤ 18)
   StandsFor at owner v (Words.Segment n) = v.tag ≡ 3
   StandsFor at owner v w =
       Fits a.storage.held (shape a.plan a.member.constants.number a.member.progress.job view w) at v

@@ -56,7 +56,7 @@ fn cell_in(core: &Core, regs: &Regs, base: u32, offset: u16) -> Result<u32, Faul
         → CellMeets a q f offset result (cell (here a.member a.task q) f offset) }
 {
     if base == 0 {
-        if offset < 8 || offset > 16 {
+        if offset < 8 || offset > 18 {
             return Err(Fault::InvalidAddress);
         }
         return Ok(u32::from(offset));
@@ -72,7 +72,7 @@ fn cell_in(core: &Core, regs: &Regs, base: u32, offset: u16) -> Result<u32, Faul
 
 /// The core address of the cell that a couple names in the running environment. INVALID ADDRESS exactly where the level
 /// is above the running one, or the activation record at that level has no such cell: displacements 2 and up, and 8 to
-/// 16 of the MCP.
+/// 18 of the MCP.
 pub fn cell_of(core: &Core, regs: &Regs, display: &[u32; 32], c: Couple) -> Result<u32, Fault>
     requires { (a : RunningContext core.now regs.now) × IsShown a display.now }
     ensures { (a : RunningContext core.now regs.now) (q : Place) → IsShown a display.now

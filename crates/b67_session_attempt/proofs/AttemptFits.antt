@@ -56,7 +56,7 @@ module _ (m : SessionJob) (t : Task) (a : ℕ) where
   by_standing next Marked (r ∷ arguments) is none e =
       let at_call : OperatorContext = record { constants = m.constants; job = m.progress.job; task = t; at = t.place } in
       let f = row_only r arguments (follow_reference at_call r) a e in
-      let ends : follow_reference (here m t next) r ≡ Ok (AtIntrinsic 10) = reference_same (here m t next) at_call refl refl r ∙ f.called in
+      let ends : follow_reference (here m t next) r ≡ Ok (AtIntrinsic 10) = reference_same (here m t next) at_call refl refl refl r ∙ f.called in
       none-some 10 (sym none ∙ called_is next r arguments is ends)
     where
       called_is : (next : Place) (r : Word) (arguments : List Word) → reverse (top t.frames).cells ≡ r ∷ arguments → follow_reference (here m t next) r ≡ Ok (AtIntrinsic 10) → called_on (here m t next) Marked ≡ Some 10

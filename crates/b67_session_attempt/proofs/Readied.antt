@@ -64,7 +64,7 @@ module _ (plan : Placement) (s : Session) (m : SessionJob) (t : Task) (o : IsInO
         alike = λ u k. alike_same (map known_of (from_frame u.critical t.frames));
         stays = λ u k c. c;
         fewer = λ n low. omega arith;
-        kept = λ a k. record { case = inl (record { item = a; live = k; named = refl; owned = refl; long = omega arith }) };
+        kept = λ a k. record { case = inl (record { item = a; live = k; named = refl; owned = refl }) };
         arrays = j.tasks.arrays;
         once = λ a k. omega (arith, all_in (λ (x : Array). originals_of x.identity m.constants m.progress.job ≡ 1) m.progress.job.arrays a j.tasks.once k);
         names = j.tasks.names;

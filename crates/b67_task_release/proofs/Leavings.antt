@@ -68,7 +68,7 @@ original_tag w o = ap (λ (v : Tagged). v.tag) o.is
 pub original_shape : (held : Locations) (a : Shape) (i : ℕ) (w : Tagged) → Fits held a i w → IsOriginal w → a ≡ Shapes.Original i
 original_shape held (Is v) i w f o = absurd (f.1 (ap (λ (u : Tagged). u.tag) (sym f.0 ∙ o.is)))
 original_shape held (Shapes.Original q) i w f o = ap Shapes.Original (sym f.0)
-original_shape held (Copy c q) i w f o = absurd (true≢false ((same_desc (copy_desc c f.present f.address) o.desc f.fits o.fits (sym f.is ∙ o.is)).copy ∙ o.own))
+original_shape held (Copy c q) i w f o = absurd (true≢false ((same_desc (copy_desc c f.number f.present f.address) o.desc f.fits o.fits (sym f.is ∙ o.is)).copy ∙ o.own))
 
 module _ (plan : Placement) (j : ℕ) (job : Job) (spot : ℕ → StackPlace) (P : Starts) (reach : List Known) (owner : ℕ) where
   pub original_named : (v : Word) (home : ℕ) → shape plan j job spot v ≡ Shapes.Original home → WordInOrder P job.arrays reach owner v → (a : Array) × Has job.arrays a × (plan.home j a.identity ≡ home)
