@@ -32,6 +32,12 @@ pub record WasRead {D A T E : Type 0} (tell : D → Option A) (many counted fail
   pub called : WasCalled many counted failed old new result
   pub same : Becomes tell old new (λ all. all)
 
+-- what a call leaves of a device: as many sectors, a count of calls that hasn't fallen, and a count of faults that has risen if it failed
+pub record KeepsCounts {D T E : Type 0} (many counted failed : D → ℕ) (old new : D) (result : Result T E) : Type 0 where
+  pub size : many new ≡ many old
+  pub calls : counted old ≤ counted new
+  pub cause : HasCause failed old new result
+
 -- the numbers of a sector; sectors are numbered from 1
 abbrev pub sector : List (List ℕ) → ℕ → Option (List ℕ)
 sector all n = slice_get all (n - 1)

@@ -20,7 +20,7 @@ use Rattle.b67_model.specs.Chase.{AtCell, AtElement, AtArray, AtProc, AtIntrinsi
 use Rattle.b67_model.specs.Entry.{evaluates, returned}
 use Rattle.b67_model.specs.Steps.{Done, Goes, pushes, without_arrays_of}
 use Rattle.b67_model.specs.Schedule.{Session}
-use Rattle.b67_model.specs.InOrder.{IsInOrderButPlaces}
+use Rattle.b67_layout.specs.Orders.{IsInOrderButCounts}
 use Rattle.b67_stack.specs.declared.Cpu.{Cpu}
 use Rattle.b67_stack.specs.declared.What.TheVariants as what
 use Rattle.b67_stack.specs.Represents.{Storage}
@@ -103,7 +103,7 @@ module _ {core : List Tagged} {r : Regs} (c : RunningContext core r) (q : Place)
   intrinsic_end h number (Ok (AtArray n)) k = absurd k
   intrinsic_end h number (Err g) k = absurd k
 
-module _ (x : Storage) (old : Cpu) (plan : Placement) (s : Session) (m : SessionJob) (t : Task) (o : IsInOrderButPlaces s) (h : RepresentsSession x old plan s) (runs : IsRunning plan s.jobs m t) (a : Returns m t) where
+module _ (x : Storage) (old : Cpu) (plan : Placement) (s : Session) (m : SessionJob) (t : Task) (o : IsInOrderButCounts s) (h : RepresentsSession x old plan s) (runs : IsRunning plan s.jobs m t) (a : Returns m t) where
   abbrev pub scene : RunningContext old.core (regs_left x old plan s m t o h runs a)
   scene = scene_left x old plan s m t o h runs a
 

@@ -11,7 +11,8 @@ use Rattle.b67_model.specs.State.{Ready, Frame, Standing, Array, Task, Job, Sess
 use Rattle.b67_model.specs.Arrays.{owner_of}
 use Rattle.b67_model.specs.Entry.{returnable}
 use Rattle.b67_model.specs.Schedule.{Session}
-use Rattle.b67_model.specs.InOrder.{IsSegment, IsEntered, Known, known_of, outer_of, reach_of, NamesEntered, NamesArray, WordInOrder, IsInOrderButPlaces}
+use Rattle.b67_model.specs.InOrder.{IsSegment, IsEntered, Known, known_of, outer_of, reach_of, NamesEntered, NamesArray, WordInOrder}
+use Rattle.b67_layout.specs.Orders.{IsInOrderButCounts}
 use Rattle.b67_law_order.proofs.Reaches.{Alike, alike_has, alike_under}
 use Rattle.b67_stack.specs.declared.Cpu.{Cpu}
 use Rattle.b67_stack.specs.Shapes.{Shape, Fits}
@@ -33,7 +34,7 @@ use Rattle.b67_entry.proofs.Returning.{other_frame, other_row, other_element}
 use Rattle.b67_entry.proofs.CopyRefusals.{found_array}
 use Rattle.b67_entry.proofs.Replacing.{Puts, new_shape, frame_is, puts_word}
 
-module _ (x : Storage) (old : Cpu) (plan : Placement) (s : Session) (m : SessionJob) (t : Task) (o : IsInOrderButPlaces s) (h : RepresentsSession x old plan s) (runs : IsRunning plan s.jobs m t) (a : Returns m t) where
+module _ (x : Storage) (old : Cpu) (plan : Placement) (s : Session) (m : SessionJob) (t : Task) (o : IsInOrderButCounts s) (h : RepresentsSession x old plan s) (runs : IsRunning plan s.jobs m t) (a : Returns m t) where
   abbrev job : Job
   job = job_at x old plan s m t o h runs a Ready
 

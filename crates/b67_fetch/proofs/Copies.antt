@@ -6,7 +6,7 @@ use Rattle.b67_ctl.specs.Descriptors.{data_word, IsDataDesc}
 use Rattle.b67_model.specs.Words.{Element}
 use Rattle.b67_model.specs.State.{Task, SessionJob}
 use Rattle.b67_model.specs.Schedule.{Session}
-use Rattle.b67_model.specs.InOrder.{IsInOrderButPlaces}
+use Rattle.b67_layout.specs.Orders.{IsInOrderButCounts}
 use Rattle.b67_stack.specs.declared.Cpu.{Cpu}
 use Rattle.b67_stack.specs.Represents.{Storage}
 use Rattle.b67_layout.specs.Placement.{Placement}
@@ -18,7 +18,7 @@ use Rattle.b67_exec_cells.proofs.Arrays as arrays
 abbrev pub item_desc : DataDesc → Bool → ℕ → ℕ → DataDesc
 item_desc d present index address = record { present = present; copy = true; indexed = true; read_only = d.read_only; length = index; address = address }
 
-module _ (x : Storage) (cpu : Cpu) (plan : Placement) (s : Session) (m : SessionJob) (t : Task) (ordered : IsInOrderButPlaces s) (h : RepresentsSession x cpu plan s) (runs : IsRunning plan s.jobs m t) (n index : ℕ) (e : HasElement m.progress.job n index) where
+module _ (x : Storage) (cpu : Cpu) (plan : Placement) (s : Session) (m : SessionJob) (t : Task) (ordered : IsInOrderButCounts s) (h : RepresentsSession x cpu plan s) (runs : IsRunning plan s.jobs m t) (n index : ℕ) (e : HasElement m.progress.job n index) where
   small : index < 2 ^ 20
   small = let i = arrays.inside x cpu plan s m t ordered h runs n index e in let l = arrays.long x cpu plan s m t ordered h runs n index e in omega (arith, i, l)
 

@@ -16,7 +16,7 @@ use Rattle.b67_model.specs.Chase as Chase
 use Rattle.b67_model.specs.Chase.{AtCell, AtElement, AtArray, AtProc, AtIntrinsic, follow}
 use Rattle.b67_model.specs.Indexing.{array_of, array_at}
 use Rattle.b67_model.specs.Schedule.{Session}
-use Rattle.b67_model.specs.InOrder.{IsInOrderButPlaces}
+use Rattle.b67_layout.specs.Orders.{IsInOrderButCounts}
 use Rattle.b67_refer.specs.declared.ends.End.{End}
 use Rattle.b67_refer.specs.declared.ends.End.TheVariants as end
 use Rattle.b67_refer.specs.Ends.{IsCopyOf}
@@ -88,7 +88,7 @@ module _ (x : Storage) (plan : Placement) (m : SessionJob) (t : Task) (q : Place
   found_fault core w v fault i ne e = subst (FindsArray plan m (Err fault)) (sym (not_row w v i ne)) (refused core fault (follow (here m t q) v) e)
 
 -- a descriptor
-module _ (x : Storage) (cpu : Cpu) (plan : Placement) (s : Session) (m : SessionJob) (t : Task) (ordered : IsInOrderButPlaces s) (h : RepresentsSession x cpu plan s) (runs : IsRunning plan s.jobs m t) (w : Tagged) (v : Word) (i : IsFollowed x plan m t w v) (five : w.tag ≡ 5) where
+module _ (x : Storage) (cpu : Cpu) (plan : Placement) (s : Session) (m : SessionJob) (t : Task) (ordered : IsInOrderButCounts s) (h : RepresentsSession x cpu plan s) (runs : IsRunning plan s.jobs m t) (w : Tagged) (v : Word) (i : IsFollowed x plan m t w v) (five : w.tag ≡ 5) where
   abbrev pub Desc : DataDesc → Type 0
   Desc d = Described cpu.core cpu.regs (here_scene x cpu plan s m t ordered h runs) i.at i.owner v d
 

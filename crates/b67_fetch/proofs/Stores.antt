@@ -13,7 +13,7 @@ use Rattle.b67_model.specs.Indexing.{in_order}
 use Rattle.b67_model.specs.Keyed.{keyed}
 use Rattle.b67_model.specs.Chase as Chase
 use Rattle.b67_model.specs.Chase.{AtCell, AtElement, AtArray, AtProc, AtIntrinsic, follow}
-use Rattle.b67_model.specs.InOrder.{IsInOrderButPlaces}
+use Rattle.b67_layout.specs.Orders.{IsInOrderButCounts}
 use Rattle.b67_model.specs.Words.{Word, Operand, operand}
 use Rattle.b67_model.specs.State.{Frame, Array, Task, SessionJob, height, with_top_cells, with_task}
 use Rattle.b67_model.specs.Schedule.{Session}
@@ -46,7 +46,7 @@ use Rattle.b67_fetch.proofs.Elements as Elements
 use Rattle.b67_fetch.proofs.Words.{Given, plain_two}
 use Rattle.b67_lemmas.proofs.Members.{keyed_falls}
 
-module _ (x : Storage) (old : Cpu) (plan : Placement) (s : Session) (m : SessionJob) (t : Task) (o : IsInOrderButPlaces s) (h : RepresentsSession x old plan s) (runs : IsRunning plan s.jobs m t) (q : Place) (keeps : Bool) where
+module _ (x : Storage) (old : Cpu) (plan : Placement) (s : Session) (m : SessionJob) (t : Task) (o : IsInOrderButCounts s) (h : RepresentsSession x old plan s) (runs : IsRunning plan s.jobs m t) (q : Place) (keeps : Bool) where
   abbrev a : RunningContext old.core old.regs
   a = here_scene x old plan s m t o h runs
 

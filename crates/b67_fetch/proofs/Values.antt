@@ -15,7 +15,8 @@ use Rattle.b67_model.specs.Chase.{AtCell, AtElement, AtArray, AtProc, AtIntrinsi
 use Rattle.b67_model.specs.Words as Words
 use Rattle.b67_model.specs.Words.{Word, Operand, Name, Ref, Row, Element, Original, Proc, Intrinsic}
 use Rattle.b67_model.specs.State.{Frame, Array, Task, Job, SessionJob, top, with_top_cells, height, with_task}
-use Rattle.b67_model.specs.InOrder.{Starts, IsSegment, Known, known_of, outer_of, reach_of, FramesInOrder, WordInOrder, IsInOrderButPlaces}
+use Rattle.b67_model.specs.InOrder.{Starts, IsSegment, Known, known_of, outer_of, reach_of, FramesInOrder, WordInOrder}
+use Rattle.b67_layout.specs.Orders.{IsInOrderButCounts}
 use Rattle.b67_model.specs.Schedule.{Session}
 use Rattle.b67_model.specs.Steps.{Done, Goes, leaves_cells}
 use Rattle.b67_model.specs.Rows as rows
@@ -42,7 +43,7 @@ use Rattle.b67_exec_cells.proofs.Put.{fitting}
 use Rattle.b67_fetch.specs.Fetches.{IsFollowed, IsEnd, SomeEnd, FindsEnd, value_of, enters, enters_at, EntersOrMeets, top_end}
 
 -- the scene of a machine that stands for a session
-module _ (x : Storage) (cpu : Cpu) (plan : Placement) (s : Session) (m : SessionJob) (t : Task) (ordered : IsInOrderButPlaces s) (h : RepresentsSession x cpu plan s) (runs : IsRunning plan s.jobs m t) where
+module _ (x : Storage) (cpu : Cpu) (plan : Placement) (s : Session) (m : SessionJob) (t : Task) (ordered : IsInOrderButCounts s) (h : RepresentsSession x cpu plan s) (runs : IsRunning plan s.jobs m t) where
   abbrev pub here_scene : RunningContext cpu.core cpu.regs
   here_scene = scene [] x cpu.core cpu.regs cpu.critical plan s m t ordered h.holds runs
 
@@ -144,7 +145,7 @@ pub overflow_touching : (m : SessionJob) (t : Task) (q : Place) (cs : List Word)
 overflow_touching m t q cs touched e = overflow_by m t q cs touched (nat_le (height (with_top_cells t.frames cs)) m.constants.stack_size) e
 
 -- an absent element
-pub absent_element : (x : Storage) (old : Cpu) (plan : Placement) (s : Session) (m : SessionJob) (t : Task) (ordered : IsInOrderButPlaces s) (h : RepresentsSession x old plan s) (runs : IsRunning plan s.jobs m t)
+pub absent_element : (x : Storage) (old : Cpu) (plan : Placement) (s : Session) (m : SessionJob) (t : Task) (ordered : IsInOrderButCounts s) (h : RepresentsSession x old plan s) (runs : IsRunning plan s.jobs m t)
     (count original : ℕ) (q : Place) (gone rest : List Word) (n : ℕ) (v : Word) → cells t ≡ gone ++ rest → length gone ≡ count → old.regs.f + count ≤ old.regs.s → old.regs.s - count < old.regs.losr
     → original ≡ plan.home m.constants.number n → area_held x plan m.constants.number n ≡ None
     → IsAbsent x plan m (what.Array original) (leaves_cells (here m t q) (v ∷ rest) (Some n))
@@ -194,7 +195,7 @@ top_order P arrays outer (f ∷ below) a rest o e =
     let A : List Word → Type 0 = λ cs. AllByRecursion (WordInOrder P arrays (map known_of (f ∷ below) ++ outer) f.identity) cs in
     (subst A e o.0.0).0
 
-pub top_followed : (x : Storage) (cpu : Cpu) (plan : Placement) (s : Session) (m : SessionJob) (t : Task) (w : Tagged) → IsInOrderButPlaces s → IsRunning plan s.jobs m t → GivesTop x plan m t cpu (cells t) (Ok w) → TopFollowed x plan m t w
+pub top_followed : (x : Storage) (cpu : Cpu) (plan : Placement) (s : Session) (m : SessionJob) (t : Task) (w : Tagged) → IsInOrderButCounts s → IsRunning plan s.jobs m t → GivesTop x plan m t cpu (cells t) (Ok w) → TopFollowed x plan m t w
 top_followed x cpu plan s m t w ordered runs given = by_cells (cells t) refl given where
   by_cells : (cs : List Word) → cells t ≡ cs → GivesTop x plan m t cpu cs (Ok w) → TopFollowed x plan m t w
   by_cells [] e g = absurd (let z : ⊥ = cc in z)

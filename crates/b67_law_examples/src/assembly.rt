@@ -59,12 +59,16 @@ pub fn unknown_cards_are_refused()
     ensures label_close { assembly (codes "SEGMENT A 2\nL:ADD\n") ≡ refused 2 1 }
 {}
 
-/// Reason 2: an operand that is missing, malformed or one too many.
-pub fn operands_are_refused()
+/// Reason 2: a malformed number.
+pub fn malformed_numbers_are_refused()
     ensures minus_sign { assembly (codes "SEGMENT A 2\nLT8 -1\n") ≡ refused 2 2 }
     ensures plus_sign { assembly (codes "SEGMENT A 2\nLT8 +5\n") ≡ refused 2 2 }
     ensures zeros_in_front { assembly (codes "SEGMENT A 2\nLT8 007\n") ≡ refused 2 2 }
     ensures minus_zero { assembly (codes "SEGMENT A 2\nLT48 -0\n") ≡ refused 2 2 }
+{}
+
+/// Reason 2: an operand that is missing, one too many, or malformed otherwise.
+pub fn operands_are_refused()
     ensures no_operand { assembly (codes "SEGMENT A 2\nLT8\n") ≡ refused 2 2 }
     ensures two_operands { assembly (codes "SEGMENT A 2\nLT8 5 5\n") ≡ refused 2 2 }
     ensures none_wanted { assembly (codes "SEGMENT A 2\nADD 5\n") ≡ refused 2 2 }

@@ -39,8 +39,8 @@ pub fn long_and_unknown_cards_are_refused()
     ensures space_in_front { deck_of (codes " ?END") ≡ refused 1 5 }
 {}
 
-/// Reason 4: a parameter that is missing, one too many, malformed or out of its range.
-pub fn parameters_are_refused()
+/// Reason 4: a parameter of ?STACK that is missing, one too many, malformed or out of its range.
+pub fn stack_sizes_are_refused()
     ensures no_parameter { deck_of (codes "?STACK") ≡ refused 1 4 }
     ensures two_parameters { deck_of (codes "?STACK 64 64") ≡ refused 1 4 }
     ensures too_low { deck_of (codes "?STACK 63") ≡ refused 1 4 }
@@ -48,6 +48,10 @@ pub fn parameters_are_refused()
     ensures zero_in_front { deck_of (codes "?STACK 064") ≡ refused 1 4 }
     ensures plus_sign { deck_of (codes "?STACK +64") ≡ refused 1 4 }
     ensures minus_sign { deck_of (codes "?STACK -64") ≡ refused 1 4 }
+{}
+
+/// Reason 4: parameters of the other run cards.
+pub fn parameters_are_refused()
     ensures too_high_halt { deck_of (codes "?HALT 800000001") ≡ refused 1 4 }
     ensures quantum_0 { deck_of (codes "?QUANTUM 0") ≡ refused 1 4 }
     ensures switch_job { deck_of (codes "?SWITCH 1 9.1") ≡ refused 1 4 }

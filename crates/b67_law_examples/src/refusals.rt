@@ -17,7 +17,7 @@ pub fn branch_into_a_literal_is_refused()
     ensures { refusals (without_rows into_a_literal) ≡ refused_at 2 0 3 }
 {}
 
-/// Of the twelve places of two words a branch is admitted exactly to the starts.
+/// Of the six places of its own word a branch is admitted exactly to the starts.
 pub fn branches_go_to_starts()
     ensures to_0_0 { refusals (branching 0 0) ≡ [] }
     ensures to_0_1 { refusals (branching 0 1) ≡ [] }
@@ -25,6 +25,10 @@ pub fn branches_go_to_starts()
     ensures to_0_3 { refusals (branching 0 3) ≡ [] }
     ensures to_0_4 { refusals (branching 0 4) ≡ refused_at 0 5 3 }
     ensures to_0_5 { refusals (branching 0 5) ≡ [] }
+{}
+
+/// And of the six places of the next word.
+pub fn branches_go_to_starts_of_the_next_word()
     ensures to_1_0 { refusals (branching 1 0) ≡ refused_at 0 5 3 }
     ensures to_1_1 { refusals (branching 1 1) ≡ refused_at 0 5 3 }
     ensures to_1_2 { refusals (branching 1 2) ≡ [] }

@@ -93,28 +93,28 @@ abbrev pub machine : Cpu
 machine = record { core = core; regs = regs; display = 0 ∷ 160 ∷ 164 ∷ replicate 29 0; critical = replicate 120 0 }
 
 -- facts for each number of a range
-abbrev AllFrom : (ℕ → Type 0) → ℕ → ℕ → Type 0
+abbrev pub AllFrom : (ℕ → Type 0) → ℕ → ℕ → Type 0
 AllFrom P from zero = Unit {0}
 AllFrom P from (suc n) = P from × AllFrom P (from + 1) n
 
-all_from : (P : ℕ → Type 0) (from n : ℕ) → AllFrom P from n → (i : ℕ) → from ≤ i → i < from + n → P i
+pub all_from : (P : ℕ → Type 0) (from n : ℕ) → AllFrom P from n → (i : ℕ) → from ≤ i → i < from + n → P i
 all_from P from zero a i low up = absurd (omega arith)
 all_from P from (suc n) a i low up = ⊎_elim
     (λ (e : i ≡ from). subst P (sym e) a.0)
     (λ (e : i ≡ from → ⊥). all_from P (from + 1) n a.1 i (omega arith) (omega arith))
     (cases_eq i from)
 
-get-past : {A : Type 0} (xs ys : List A) (i k : ℕ) → k ≡ length xs + i → slice_get (xs ++ ys) k ≡ slice_get ys i
+pub get-past : {A : Type 0} (xs ys : List A) (i k : ℕ) → k ≡ length xs + i → slice_get (xs ++ ys) k ≡ slice_get ys i
 get-past [] ys i k e = ap (slice_get ys) (let z : k ≡ i = omega arith in z)
 get-past (x ∷ xs) ys i zero e = absurd (omega arith)
 get-past (x ∷ xs) ys i (suc k) e = get-past xs ys i k (omega arith)
 
-get-replicate : {A : Type 0} (n : ℕ) (x : A) (ys : List A) (i : ℕ) → i < n → slice_get (replicate n x ++ ys) i ≡ Some x
+pub get-replicate : {A : Type 0} (n : ℕ) (x : A) (ys : List A) (i : ℕ) → i < n → slice_get (replicate n x ++ ys) i ≡ Some x
 get-replicate zero x ys i h = absurd (omega arith)
 get-replicate (suc n) x ys zero h = refl
 get-replicate (suc n) x ys (suc i) h = get-replicate n x ys i (omega arith)
 
-get-only : {A : Type 0} (n : ℕ) (x : A) (i : ℕ) → i < n → slice_get (replicate n x) i ≡ Some x
+pub get-only : {A : Type 0} (n : ℕ) (x : A) (i : ℕ) → i < n → slice_get (replicate n x) i ≡ Some x
 get-only zero x i h = absurd (omega arith)
 get-only (suc n) x zero h = refl
 get-only (suc n) x (suc i) h = get-only n x i (omega arith)
@@ -128,7 +128,7 @@ task = record { number = 1; parents = []; critical = 0; frames = record { identi
 abbrev object : PagedObject
 object = record { home = 162; kind = kind.Code; numbers = code }
 
-only : {A : Type 0} (x : A) (P : A → Type 0) → P x → (y : A) → Has (x ∷ []) y → P y
+pub only : {A : Type 0} (x : A) (P : A → Type 0) → P x → (y : A) → Has (x ∷ []) y → P y
 only x P h y (inl e) = subst P e h
 only x P h y (inr k) = absurd k
 

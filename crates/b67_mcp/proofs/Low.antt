@@ -12,7 +12,8 @@ use Rattle.b67_model.specs.State.{Frame, Array, Task, JobConstants, SessionJob, 
 use Rattle.b67_model.specs.Cells.{cell, place_of}
 use Rattle.b67_model.specs.Chase.{End, AtElement, AtIntrinsic, Link, Stops, Leads, link_at, link_in, link_from, link, chase_on, follow_reference}
 use Rattle.b67_model.specs.Schedule.{Session}
-use Rattle.b67_model.specs.InOrder.{Starts, IsSegment, Known, outer_of, WordInOrder, EntryInOrder, FramesInOrder, TaskInOrder, TasksInOrder, IsInOrderButPlaces}
+use Rattle.b67_model.specs.InOrder.{Starts, IsSegment, Known, outer_of, WordInOrder, EntryInOrder, FramesInOrder, TaskInOrder, TasksInOrder}
+use Rattle.b67_layout.specs.Orders.{IsInOrderButCounts}
 use Rattle.b67_layout.specs.Placement.{Placement}
 use Rattle.b67_layout.specs.Session.{IsRunning}
 use Rattle.b67_layout.specs.Meets.{here}
@@ -122,7 +123,7 @@ module _ (constants : JobConstants) (h : OperatorContext) (same : h.constants �
   followed (Intrinsic n) = tt
   followed (Words.Segment n) = tt
 
-pub from_eight : (plan : Placement) (s : Session) (m : SessionJob) (t : Task) (n : ℕ) → IsInOrderButPlaces s → IsRunning plan s.jobs m t → called_in m t ≡ Some n → 8 ≤ n
+pub from_eight : (plan : Placement) (s : Session) (m : SessionJob) (t : Task) (n : ℕ) → IsInOrderButCounts s → IsRunning plan s.jobs m t → called_in m t ≡ Some n → 8 ≤ n
 from_eight plan s m t n o runs c =
     let k = calling m t n c in
     subst EndLow k.ends (followed m.constants (here m t k.next) refl (running_in_order plan s m t o runs).0.tasks k.reference)

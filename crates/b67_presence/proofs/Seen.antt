@@ -1,24 +1,24 @@
 -- The session that a view shows after objects were read: with other numbers where the device tells nothing.
 use Rattle.std.proofs.Common.{◌≡◌, ◌≢◌, ℕ, ◌+◌, ◌==◌, List, [], ◌∷◌, length, map, None, refl, sym, ◌∙◌, ap, true, false, subst, inl, inr, ⊎_elim}
-use Rattle.std.specs.Prelude.{if◌then◌else◌, flat_map}
+use Rattle.std.specs.Prelude.{flat_map}
 use Rattle.std.specs.List.{AllByRecursion}
-use Rattle.std.proofs.lemmas.Bool.{cases_Bool, eqb-true}
 use Rattle.b67_word.specs.Tagged.{Tagged}
 use Rattle.b67_area.specs.declared.kinds.Kind.TheVariants as kind
 use Rattle.b67_ctl.specs.declared.registers.Regs.{Regs}
 use Rattle.b67_lemmas.specs.Lists.{Has}
-use Rattle.b67_lemmas.proofs.Members.{has_append_cases, has_append_left, has_append_right, has_map_back}
+use Rattle.b67_lemmas.proofs.Members.{has_append_cases, has_map_back}
 use Rattle.b67_model.specs.State.{Array, Segment, SessionJob}
 use Rattle.b67_model.specs.Schedule.{Session}
-use Rattle.b67_model.specs.InOrder.{IsSegment, SegmentInOrder, ArrayInOrder, JobInOrder, IsInOrderButPlaces}
-use Rattle.b67_law_order_steps.specs.Weaker.{Renumbers, Recoded, RefilledArray, Refilled, AllOtherNumbers}
-use Rattle.b67_law_order_steps.proofs.Sessions.{other_numbers_keep_order}
+use Rattle.b67_model.specs.InOrder.{IsSegment, SegmentInOrder, ArrayInOrder}
+use Rattle.b67_layout.specs.Orders.{JobInOrderButCounts, IsInOrderButCounts}
+use Rattle.b67_law_order_steps.specs.Weaker.{AllOtherNumbers}
+use Rattle.b67_layout_step.proofs.OtherNumbers.{others_in_order}
 use Rattle.b67_stack.specs.MachineView.{PagedObject, MachineView, NoOriginalAboveTop}
 use Rattle.b67_stack.specs.Represents.{Storage, Represents}
 use Rattle.b67_layout_storage.specs.Machine.{AreBits, renumber, renumbered}
 use Rattle.b67_layout.specs.Placement.{Placement}
 use Rattle.b67_layout.specs.Layout.{array_object, code_objects, objects_of, machine_view}
-use Rattle.b67_layout_step.proofs.Renumbered.{recoded, refilled, member_with, Fitting, machine_view_renumbered, settled_renumbered}
+use Rattle.b67_layout_step.proofs.Renumbered.{member_with, others_from, Fitting, machine_view_renumbered, settled_renumbered}
 use Rattle.b67_presence_page.specs.Brings.{IsReadable, ReadBack}
 use Rattle.b67_presence_page.proofs.Ways.{none_or}
 use Rattle.b67_presence.proofs.Others.{others_same, others_then}
@@ -35,7 +35,7 @@ array_bits plan j (a ∷ more) o t (inl e) = let P : PagedObject → Type 0 = λ
 array_bits plan j (a ∷ more) o t (inr i) = array_bits plan j more o.1 t i
 
 abbrev InOrder : List SessionJob → Type 0
-InOrder jobs = AllByRecursion (λ (m : SessionJob). JobInOrder (IsSegment m.constants) m.constants m.progress) jobs
+InOrder jobs = AllByRecursion (λ (m : SessionJob). JobInOrderButCounts (IsSegment m.constants) m.constants m.progress) jobs
 
 all_bits : (plan : Placement) (jobs : List SessionJob) → InOrder jobs → (t : PagedObject) → Has (flat_map (objects_of plan) jobs) t → AreBits t.numbers
 all_bits plan [] o t i = absurd i
@@ -47,47 +47,11 @@ all_bits plan (m ∷ more) o t i = ⊎_elim
     (λ (rest : Has (flat_map (objects_of plan) more) t). all_bits plan more o.1 t rest)
     (has_append_cases (objects_of plan m) (flat_map (objects_of plan) more) t i)
 
-pub object_bits : (plan : Placement) (s : Session) → IsInOrderButPlaces s → (t : PagedObject) → Has (flat_map (objects_of plan) s.jobs) t → AreBits t.numbers
+pub object_bits : (plan : Placement) (s : Session) → IsInOrderButCounts s → (t : PagedObject) → Has (flat_map (objects_of plan) s.jobs) t → AreBits t.numbers
 object_bits plan s o t i = all_bits plan s.jobs o.jobs t i
 
-pub readable : (x : Storage) (plan : Placement) (s : Session) → IsInOrderButPlaces s → IsReadable x (machine_view plan s.jobs)
+pub readable : (x : Storage) (plan : Placement) (s : Session) → IsInOrderButCounts s → IsReadable x (machine_view plan s.jobs)
 readable x plan s o = inr (object_bits plan s o)
-
--- the session with other numbers in an object has other numbers
-module _ (plan : Placement) (home : ℕ) (ns : List ℕ) (bits : AreBits ns) where
-  recoded_other : (j n : ℕ) (segments : List Segment) → AllByRecursion SegmentInOrder segments → Fitting home ns (code_objects plan j n segments) → Recoded segments (recoded plan j home ns n segments)
-  recoded_other j n [] order fits = tt
-  recoded_other j n (s ∷ more) order fits =
-      let object : PagedObject = record { home = plan.dictionary j + 1 + n; kind = kind.Code; numbers = s.code } in
-      let here : Renumbers s.code (if plan.dictionary j + 1 + n == home then record s { code = ns } else s).code = ⊎_elim
-      (λ (e : (plan.dictionary j + 1 + n == home) ≡ true). rw e (record { count = fits object (inl refl) (eqb-true (plan.dictionary j + 1 + n) home e); bits = bits }))
-      (λ (e : (plan.dictionary j + 1 + n == home) ≡ false). rw e (record { count = refl; bits = order.0.words }))
-      (cases_Bool (plan.dictionary j + 1 + n == home)) in
-      (here, recoded_other j (n + 1) more order.1 (λ t int. fits t (inr int)))
-
-  refilled_other : (j : ℕ) (arrays : List Array) → AllByRecursion ArrayInOrder arrays → Fitting home ns (map (array_object plan j) arrays) → Refilled arrays (map (refilled plan j home ns) arrays)
-  refilled_other j [] order fits = tt
-  refilled_other j (a ∷ more) order fits =
-      let here : RefilledArray a (refilled plan j home ns a) = ⊎_elim
-      (λ (e : (plan.home j a.identity == home) ≡ true). rw e (record { identity = refl; owner = refl; writable = refl; numbers = record { count = fits (array_object plan j a) (inl refl) (eqb-true (plan.home j a.identity) home e); bits = bits } }))
-      (λ (e : (plan.home j a.identity == home) ≡ false). rw e (record { identity = refl; owner = refl; writable = refl; numbers = record { count = refl; bits = order.0.words } }))
-      (cases_Bool (plan.home j a.identity == home)) in
-      (here, refilled_other j more order.1 (λ t int. fits t (inr int)))
-
-  others_with : (jobs : List SessionJob) → InOrder jobs → Fitting home ns (flat_map (objects_of plan) jobs) → AllOtherNumbers jobs (map (member_with plan home ns) jobs)
-  others_with [] order fits = tt
-  others_with (m ∷ more) order fits =
-      let own : Fitting home ns (objects_of plan m) = λ t int. fits t (has_append_left (objects_of plan m) (flat_map (objects_of plan) more) t int) in
-      let j = m.constants.number in
-      let code = code_objects plan j 1 m.constants.segments in
-      let filled = map (array_object plan j) m.progress.job.arrays in (
-        record {
-          segments = recoded_other j 1 m.constants.segments order.0.unchanging.segments (λ t int. own t (has_append_left code filled t int));
-          arrays = refilled_other j m.progress.job.arrays order.0.tasks.arrays (λ t int. own t (has_append_right code filled t int));
-          rest = refl;
-        },
-        others_with more order.1 (λ t int. fits t (has_append_right (objects_of plan m) (flat_map (objects_of plan) more) t int)),
-      )
 
 -- a view shows the session of other numbers, which are the same where the device tells its sectors
 pub record Sees (x : Storage) (plan : Placement) (jobs : List SessionJob) (q : MachineView) : Type 0 where
@@ -97,17 +61,17 @@ pub record Sees (x : Storage) (plan : Placement) (jobs : List SessionJob) (q : M
   pub is : q ≡ machine_view plan seen
   pub settled : NoOriginalAboveTop (machine_view plan jobs) → NoOriginalAboveTop q
 
-abbrev pub sees_none : (x : Storage) (plan : Placement) (s : Session) → IsInOrderButPlaces s → Sees x plan s.jobs (machine_view plan s.jobs)
+abbrev pub sees_none : (x : Storage) (plan : Placement) (s : Session) → IsInOrderButCounts s → Sees x plan s.jobs (machine_view plan s.jobs)
 sees_none x plan s o = record { seen = s.jobs; others = others_same s o; same = λ n. refl; is = refl; settled = λ z. z }
 
-module _ (x : Storage) (plan : Placement) (s : Session) (o : IsInOrderButPlaces s) (q : MachineView) (t : PagedObject) (r : ReadBack x (machine_view plan s.jobs) q t)
+module _ (x : Storage) (plan : Placement) (s : Session) (o : IsInOrderButCounts s) (q : MachineView) (t : PagedObject) (r : ReadBack x (machine_view plan s.jobs) q t)
     (fits : Fitting t.home r.numbers (flat_map (objects_of plan) s.jobs)) (bits : AreBits t.numbers) where
   pub sees_read : Sees x plan s.jobs q
   sees_read = ⊎_elim
       (λ (e : x.device ≡ None).
       let it : Sees x plan s.jobs q = record {
         seen = map (member_with plan t.home r.numbers) s.jobs;
-        others = others_with plan t.home r.numbers (r.bits bits) s.jobs o.jobs fits;
+        others = others_from plan t.home r.numbers (r.bits bits) s.jobs o.jobs fits;
         same = λ n. absurd (n e);
         is = r.is ∙ machine_view_renumbered plan t.home r.numbers s.jobs fits;
         settled = λ z. let P : MachineView → Type 0 = λ p. NoOriginalAboveTop p in subst P (sym r.is) (settled_renumbered (machine_view plan s.jobs) t.home r.numbers z);
@@ -145,7 +109,7 @@ pub fitting : (x : Storage) (core : List Tagged) (r : Regs) (p : MachineView) �
 fitting x core r p s t int ns count u inu e = count ∙ ap (λ (v : PagedObject). length v.numbers) (sym (s.slots.laid.differ u t inu int e))
 
 -- two objects were read
-module _ (x : Storage) (core : List Tagged) (r : Regs) (plan : Placement) (s : Session) (o : IsInOrderButPlaces s) (h : Represents x core r (machine_view plan s.jobs)) (t c : PagedObject)
+module _ (x : Storage) (core : List Tagged) (r : Regs) (plan : Placement) (s : Session) (o : IsInOrderButCounts s) (h : Represents x core r (machine_view plan s.jobs)) (t c : PagedObject)
     (int : Has (flat_map (objects_of plan) s.jobs) t) (inc : Has (flat_map (objects_of plan) s.jobs) c) (read q : MachineView) (first : ReadBack x (machine_view plan s.jobs) read t) (second : ReadBack x read q c) where
   pub sees_one : Sees x plan s.jobs read
   sees_one = sees_read x plan s o read t first (fitting x core r (machine_view plan s.jobs) h t int first.numbers first.count) (object_bits plan s o t int)
@@ -154,7 +118,7 @@ module _ (x : Storage) (core : List Tagged) (r : Regs) (plan : Placement) (s : S
   sees_both =
       let k = sees_one in
       let s' : Session = record s { jobs = k.seen } in
-      let o' : IsInOrderButPlaces s' = other_numbers_keep_order s k.seen k.others o in
+      let o' : IsInOrderButCounts s' = others_in_order s k.seen k.others o in
       let fits_t : Fitting t.home first.numbers (flat_map (objects_of plan) s.jobs) = fitting x core r (machine_view plan s.jobs) h t int first.numbers first.count in
       let fits_c : Fitting c.home second.numbers (flat_map (objects_of plan) s.jobs) = fitting x core r (machine_view plan s.jobs) h c inc second.numbers second.count in
       let fits : Fitting c.home second.numbers read.objects = read_fits (machine_view plan s.jobs) read t.home first.numbers c.home second.numbers first.is fits_t fits_c in

@@ -32,8 +32,8 @@ use Rattle.b67_layout.specs.Layout.{array_object, code_objects, objects_of}
 use Rattle.b67_layout.specs.Session.{frame_address}
 use Rattle.b67_layout.specs.Meets.{here}
 use Rattle.b67_layout.proofs.Sessions.{code_object, dictionary_above, entry_row}
-use Rattle.b67_refer.specs.RunningContext.{RunningContext}
-use Rattle.b67_refer.specs.Cells.{StandsFor, IsCellAt, CellMeets}
+use Rattle.b67_refer.specs.RunningContext.{LiveContext}
+use Rattle.b67_refer.specs.LiveCells.{StandsFor, IsCellAt, CellMeets}
 use Rattle.b67_refer.proofs.Bases.{pictured}
 use Rattle.b67_refer.proofs.Marks.{view_low, base_in, frame_dictionary, frame_mcp, dictionary_address}
 
@@ -84,7 +84,7 @@ no_code : (b : Bool) → (if b then kind.Array else kind.Row) ≢ kind.Code
 no_code true e = cc
 no_code false e = cc
 
-module _ (core : List Tagged) (r : Regs) (a : RunningContext core r) where
+module _ (core : List Tagged) (r : Regs) (a : LiveContext core r) where
   pub mcp_address : frame_address a.plan a.member a.task 0 ≡ 0
   mcp_address = ap (address_of a.plan) (view_low core r a 0 (omega arith))
 

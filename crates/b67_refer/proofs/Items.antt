@@ -25,7 +25,7 @@ use Rattle.b67_layout.specs.Placement.{Placement}
 use Rattle.b67_layout.specs.Layout.{array_object, code_objects}
 use Rattle.b67_layout.specs.Meets.{here}
 use Rattle.b67_refer.specs.declared.ends.End.TheVariants as end
-use Rattle.b67_refer.specs.RunningContext.{RunningContext}
+use Rattle.b67_refer.specs.RunningContext.{RunningContext, live_of}
 use Rattle.b67_refer.specs.Cells.{reach}
 use Rattle.b67_refer.specs.Ends.{EndMeets}
 use Rattle.b67_refer.proofs.Bases.{pictured}
@@ -48,8 +48,8 @@ module _ (core : List Tagged) (r : Regs) (a : RunningContext core r) (n : ℕ) (
   abbrev object : PagedObject
   object = array_object a.plan a.member.constants.number names.item
 
-  there : Has (pictured core r a).objects object
-  there = has_object core r a object (has_append_right (code_objects a.plan a.member.constants.number 1 a.member.constants.segments) (map (array_object a.plan a.member.constants.number) a.member.progress.job.arrays) object (has_map (array_object a.plan a.member.constants.number) a.member.progress.job.arrays names.item names.live))
+  there : Has (pictured core r (live_of a)).objects object
+  there = has_object core r (live_of a) object (has_append_right (code_objects a.plan a.member.constants.number 1 a.member.constants.segments) (map (array_object a.plan a.member.constants.number) a.member.progress.job.arrays) object (has_map (array_object a.plan a.member.constants.number) a.member.progress.job.arrays names.item names.live))
 
   abbrev pub desc : DataDesc
   desc = home_desc (not names.item.writable) (length names.item.numbers) (a.storage.held object.home)
@@ -62,10 +62,10 @@ module _ (core : List Tagged) (r : Regs) (a : RunningContext core r) (n : ℕ) (
       ∙ ap Some (home_by a.plan a.member.constants.number names.item names.item.writable (a.storage.held object.home) refl)
 
   pub desc_is : IsDataDesc desc
-  desc_is = desc_fits a.storage core r (pictured core r a) a.holds.memory object there (not names.item.writable) (length names.item.numbers) (a.storage.held object.home).area (a.storage.held object.home).chain
+  desc_is = desc_fits a.storage core r (pictured core r (live_of a)) a.holds.memory object there (not names.item.writable) (length names.item.numbers) (a.storage.held object.home).area (a.storage.held object.home).chain
       (omega (arith, (a.holds.memory.slots.laid.lengths object there).1))
       (chain_small a.storage core object (a.storage.held object.home).area (a.storage.held object.home).chain stands.content)
-      (area_small a.storage core r (pictured core r a) a.holds.memory object there)
+      (area_small a.storage core r (pictured core r (live_of a)) a.holds.memory object there)
 
   pub length_is : (d : DataDesc) → d ≡ desc → d.length ≡ length (array a.member.progress.job n).numbers
   length_is d e = ap (λ (z : DataDesc). z.length) e ∙ ap (λ (z : Array). length z.numbers) (sym array_is)

@@ -20,7 +20,7 @@ use Rattle.b67_stack.specs.Shapes.{Copied, copy_desc, IsCopy}
 use Rattle.b67_refer.specs.declared.ends.End.{End}
 use Rattle.b67_refer.specs.declared.ends.End.TheVariants as end
 use Rattle.b67_word.specs.declared.faults.Fault.{Fault}
-use Rattle.b67_refer.specs.RunningContext.{RunningContext}
+use Rattle.b67_refer.specs.RunningContext.{RunningContext, live_of}
 use Rattle.b67_refer.specs.Cells.{reach, StandsFor, IsCellAt}
 use Rattle.b67_refer.specs.Ends.{IsCopyOf, HasTag, EndMeets, LinkMeets, on_link}
 use Rattle.b67_refer.proofs.Bases.{pictured}
@@ -43,7 +43,7 @@ module _ (core : List Tagged) (r : Regs) (a : RunningContext core r) where
 
   -- a copy by its descriptor
   pub copy_of : (c : Copied) (home : ℕ) (v : Tagged) (d : DataDesc) → IsDataDesc d → v ≡ data_word d → IsCopy a.storage.held c home v → IsCopyOf core d home
-  copy_of c home v d fits e is = record { storage = a.storage; registers = r; machine_view = pictured core r a; stands = a.holds.memory; copied = c; fits = fits; is = subst (λ (w : Tagged). IsCopy a.storage.held c home w) e is }
+  copy_of c home v d fits e is = record { storage = a.storage; registers = r; machine_view = pictured core r (live_of a); stands = a.holds.memory; copied = c; fits = fits; is = subst (λ (w : Tagged). IsCopy a.storage.held c home w) e is }
 
   -- a data descriptor among the words that stand for something: an original, a row copy or an element copy
   pub data Described (at owner : ℕ) (w : Word) (d : DataDesc) : Type 0 where

@@ -23,7 +23,7 @@ use Rattle.b67_stack.specs.Stacks.{StackPlace}
 use Rattle.b67_layout.specs.Placement.{base_spot}
 use Rattle.b67_layout.specs.Meets.{here}
 use Rattle.b67_refer.specs.declared.ends.End.{End}
-use Rattle.b67_refer.specs.RunningContext.{RunningContext}
+use Rattle.b67_refer.specs.RunningContext.{RunningContext, live_of}
 use Rattle.b67_refer.specs.Cells.{reach, view, StandsFor, IsCellAt, CellMeets, FindsCell}
 use Rattle.b67_refer.specs.Ends.{IsReference, EndMeets, LinkMeets}
 use Rattle.b67_refer.proofs.Seats.{seat}
@@ -35,7 +35,7 @@ module _ (core : List Tagged) (r : Regs) (a : RunningContext core r) where
   -- the fields of a reference's spot fit its word
   spot_fits : (g offset : ℕ) → NamesEntered (reach a) g → offset < 2 ^ 12 → IsSirw (record { stack = (view a g).stack; disp = (view a g).disp; offset = offset })
   spot_fits g offset n low =
-      let k = stack_known core r a g n.standing n.among in
+      let k = stack_known core r (live_of a) g n.standing n.among in
       let few = a.holds.fits.few in
       let number = a.ordered.few in
       record {
@@ -52,12 +52,12 @@ module _ (core : List Tagged) (r : Regs) (a : RunningContext core r) where
         disp_fits : (view a g).disp < 2 ^ 16
         disp_fits = ⊎_elim
             (λ (own : 1 < g).
-            (let b = seat core r a g n.standing n.among own in
+            (let b = seat core r (live_of a) g n.standing n.among own in
             let small = a.holds.memory.slots.laid.room in
-            let low = seat_low core r a g n own in
+            let low = seat_low core r (live_of a) g n own in
             let e : (view a g).disp ≡ height b.below = ap (λ (z : StackPlace). z.disp) b.spot in
             omega (arith, e, low, small)))
-            (λ (low : g ≤ 1). by_base (view a g) (view_low core r a g low))
+            (λ (low : g ≤ 1). by_base (view a g) (view_low core r (live_of a) g low))
             (cases_lt 1 g)
 
   -- an IRW is that of a couple, and another reference an SIRW

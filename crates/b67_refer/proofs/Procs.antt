@@ -20,7 +20,7 @@ use Rattle.b67_law_order.proofs.Chases.{cell_has}
 use Rattle.b67_layout.specs.Meets.{here}
 use Rattle.b67_layout.proofs.Sessions.{words_enough}
 use Rattle.b67_refer.specs.declared.ends.End.TheVariants as end
-use Rattle.b67_refer.specs.RunningContext.{RunningContext}
+use Rattle.b67_refer.specs.RunningContext.{RunningContext, live_of}
 use Rattle.b67_refer.specs.Cells.{StandsFor, IsCellAt}
 use Rattle.b67_refer.specs.Ends.{LinkMeets}
 use Rattle.b67_refer.proofs.Marks.{frame_dictionary, frame_mcp}
@@ -41,11 +41,11 @@ module _ (core : List Tagged) (r : Regs) (a : RunningContext core r) (q : Place)
       (λ (low : f ≤ 1). absurd (⊎_elim
       (λ (z : f < 1).
       (let is : f ≡ 0 = omega (arith, z) in
-      let h = cell_has mcp offset (Proc segment level place) (sym (ap (λ (g : Frame). ok_or (cell_of g offset) InvalidAddress) (ap (frame (here a.member a.task q)) is ∙ frame_mcp core r a q)) ∙ c.found) in
+      let h = cell_has mcp offset (Proc segment level place) (sym (ap (λ (g : Frame). ok_or (cell_of g offset) InvalidAddress) (ap (frame (here a.member a.task q)) is ∙ frame_mcp core r (live_of a) q)) ∙ c.found) in
       all_in IsNoProc mcp.cells (Proc segment level place) (tt, (tt, (tt, (tt, (tt, (tt, (tt, (tt, (tt, (tt, (tt, tt))))))))))) h))
       (λ (z : 1 ≤ f).
       (let is : f ≡ 1 = omega (arith, z, low) in
-      let h = cell_has a.member.constants.dictionary offset (Proc segment level place) (sym (ap (λ (g : Frame). ok_or (cell_of g offset) InvalidAddress) (ap (frame (here a.member a.task q)) is ∙ frame_dictionary core r a q)) ∙ c.found) in
+      let h = cell_has a.member.constants.dictionary offset (Proc segment level place) (sym (ap (λ (g : Frame). ok_or (cell_of g offset) InvalidAddress) (ap (frame (here a.member a.task q)) is ∙ frame_dictionary core r (live_of a) q)) ∙ c.found) in
       no_entry a.member.progress.job.arrays segment level place (all_in (EntryInOrder a.member.progress.job.arrays) a.member.constants.dictionary.cells (Proc segment level place) a.ordered.tasks.entries h)))
       (cases_lt f 1)))
       (cases_lt 1 f)

@@ -1,7 +1,7 @@
 use Rattle.std.proofs.Common.{◌+◌, sym, arith, inl, inr, subst, ℕ, Ok}
 use Rattle.b67_model.specs.Cells.{cell}
 use Rattle.b67_layout.specs.Meets.{here}
-use Rattle.b67_refer.specs.Cells.{CellMeets}
+use Rattle.b67_refer.specs.LiveCells.{CellMeets}
 use Rattle.b67_refer.proofs.Unders.{is_task}
 use Rattle.b67_refer.proofs.Founds.{mcp_far, mcp_found, dictionary_far, dictionary_found, dictionary_small}
 use Rattle.b67_refer.proofs.cells.cell_in.Goals as goal
