@@ -59,6 +59,16 @@ renumber home ns t = if t.home == home then record t { numbers = ns } else t
 abbrev pub renumbered : MachineView → ℕ → List ℕ → MachineView
 renumbered p home ns = record p { objects = map (renumber home ns) p.objects }
 
+-- of the objects one was replaced by another one of the same home and kind
+pub record TakesPlace (objects objects' : List PagedObject) (t t' : PagedObject) : Type 0 where
+  pub home : t'.home ≡ t.home
+  pub kind : t'.kind ≡ t.kind
+  pub some : 0 < length t'.numbers
+  pub few : length t'.numbers < 2 ^ 16
+  pub new : Has objects' t'
+  pub each : (u : PagedObject) → Has objects' u → (u ≡ t') ⊎ (Has objects u × (u.home ≢ t.home))
+  pub kept : (u : PagedObject) → Has objects u → u.home ≢ t.home → Has objects' u
+
 -- a hole of n words or more
 abbrev pub HasHole : ℕ → List Span → Type 0
 HasHole n [] = ⊥
