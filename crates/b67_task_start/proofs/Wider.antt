@@ -55,7 +55,7 @@ module _ (plan : Placement) (n : ℕ) where
       ap (λ (f : ℕ → Slot). record { stacks = plan.stacks; size = plan.size; peak = n; slots = f; objects = flat_map (objects_of wide) jobs }) same
       ∙ ap (λ (ts : List PagedObject). record { stacks = plan.stacks; size = plan.size; peak = n; slots = slot_at plan jobs; objects = ts }) (objects-wide jobs)
 
-  spots-wide : (i : ℕ) (job : Job) (t : Task) (id : ℕ) → spots wide i job t id ≡ spots plan i job t id
+  pub spots-wide : (i : ℕ) (job : Job) (t : Task) (id : ℕ) → spots wide i job t id ≡ spots plan i job t id
   spots-wide i job t id = spots-twin plan wide i job job (λ u. Unit {0}) (λ a. Unit {0}) (λ u ok. refl) (λ u ok. like_same (keyed (λ (t : Task). t.number) u job.tasks)) (λ a ok. (refl, refl)) t t (like_same (Some t)) (λ u z. tt) tt id
 
   follow-wide : (at : ℕ) (jobs : List SessionJob) → DictionariesFollow plan at jobs → DictionariesFollow wide at jobs
