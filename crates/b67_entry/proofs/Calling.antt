@@ -17,7 +17,7 @@ use Rattle.b67_model.specs.Chase.{AtProc, follow}
 use Rattle.b67_model.specs.Entry.{accident, back_to, evaluates, returned}
 use Rattle.b67_model.specs.Steps.{Done, Goes, cells_of, without_arrays_of}
 use Rattle.b67_model.specs.Schedule.{Session}
-use Rattle.b67_model.specs.InOrder.{IsInOrderButPlaces}
+use Rattle.b67_layout.specs.Orders.{IsInOrderButCounts}
 use Rattle.b67_stack.specs.declared.Cpu.{Cpu}
 use Rattle.b67_stack.specs.declared.Step.{Step}
 use Rattle.b67_stack.specs.declared.Step.TheVariants as step
@@ -52,7 +52,7 @@ accident_at : (h : OperatorContext) (cells : List Word) (back : Return) (f segme
 accident_at h cells back f segment level place true e low = rw e (rw (le-leb (height (record { identity = h.job.next_frame; standing = State.Entered level f (Some back); cells = [] } ∷ with_top_cells h.task.frames cells)) h.constants.stack_size low) refl)
 accident_at h cells back f segment level place false e low = rw e refl
 
-module _ (x : Storage) (old : Cpu) (plan : Placement) (s : Session) (m : SessionJob) (t : Task) (o : IsInOrderButPlaces s) (h : RepresentsSession x old plan s) (runs : IsRunning plan s.jobs m t) (a : Returns m t)
+module _ (x : Storage) (old : Cpu) (plan : Placement) (s : Session) (m : SessionJob) (t : Task) (o : IsInOrderButCounts s) (h : RepresentsSession x old plan s) (runs : IsRunning plan s.jobs m t) (a : Returns m t)
     (cell f segment level : ℕ) (place : Place) (p : IsProcAt (scene x old plan s m t o h runs a) a.back.place cell f segment level place) where
   stack_is : RepresentsRunning old.regs (machine_view plan s.jobs) old.regs.slot (on_top x old plan s m t o h runs a ∷ under x old plan s m t o h runs a)
   stack_is = running_slot x old.core old.regs (machine_view plan s.jobs) old.regs.slot (on_top x old plan s m t o h runs a ∷ under x old plan s m t o h runs a) h.holds.memory (on_stack x old plan s m t o h runs a)

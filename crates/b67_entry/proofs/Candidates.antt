@@ -11,7 +11,7 @@ use Rattle.b67_model.specs.Chase.{AtProc, follow}
 use Rattle.b67_model.specs.Entry.{accident, back_to}
 use Rattle.b67_model.specs.Steps.{Done, cells_of}
 use Rattle.b67_model.specs.Schedule.{Session}
-use Rattle.b67_model.specs.InOrder.{IsInOrderButPlaces}
+use Rattle.b67_layout.specs.Orders.{IsInOrderButCounts}
 use Rattle.b67_stack.specs.declared.Cpu.{Cpu}
 use Rattle.b67_stack.specs.declared.Step.{Step}
 use Rattle.b67_stack.specs.Represents.{Storage}
@@ -31,7 +31,7 @@ use Rattle.b67_entry.proofs.Moved.{stands_for}
 use Rattle.b67_entry.proofs.Evaluating.{scene, seen}
 use Rattle.b67_entry.proofs.Calling.{can_enter}
 
-module _ (x : Storage) (old : Cpu) (plan : Placement) (s : Session) (m : SessionJob) (t : Task) (o : IsInOrderButPlaces s) (h : RepresentsSession x old plan s) (runs : IsRunning plan s.jobs m t) (a : Returns m t)
+module _ (x : Storage) (old : Cpu) (plan : Placement) (s : Session) (m : SessionJob) (t : Task) (o : IsInOrderButCounts s) (h : RepresentsSession x old plan s) (runs : IsRunning plan s.jobs m t) (a : Returns m t)
     (r : Regs) (is : r ≡ caller_regs old.regs (caller_stack plan m t a) a.back) where
   pub scene_there : RunningContext old.core r
   scene_there = subst (λ (z : Regs). RunningContext old.core z) (sym is) (scene x old plan s m t o h runs a)

@@ -1,5 +1,5 @@
 -- Which descriptors may not be returned, by their words.
-use Rattle.std.proofs.Common.{◌≡◌, ◌≢◌, ℕ, ◌+◌, ◌<◌, ◌≤◌, List, ◌∷◌, map, unwrap_or, Option, Some, None, refl, sym, ◌∙◌, ap, arith, true, false, inl, inr, subst}
+use Rattle.std.proofs.Common.{◌≡◌, ◌≢◌, ℕ, ◌+◌, ◌<◌, ◌≤◌, List, ◌∷◌, map, unwrap_or, Option, Some, None, refl, sym, ◌∙◌, ap, arith, true, false, not, inl, inr, subst}
 use Rattle.std.proofs.lemmas.Bool.{true≢false, cases_eq}
 use Rattle.std.proofs.lemmas.Bool.Decides.{eqb_tells}
 use Rattle.b67_word.specs.Tagged.{Tagged}
@@ -16,7 +16,8 @@ use Rattle.b67_model.specs.Keyed.{keyed}
 use Rattle.b67_model.specs.Entry.{returnable}
 use Rattle.b67_model.specs.Run.{number_of}
 use Rattle.b67_model.specs.Schedule.{Session}
-use Rattle.b67_model.specs.InOrder.{IsSegment, Known, NamesArray, WordInOrder, reach_of, IsInOrderButPlaces}
+use Rattle.b67_model.specs.InOrder.{IsSegment, Known, NamesArray, WordInOrder, reach_of}
+use Rattle.b67_layout.specs.Orders.{IsInOrderButCounts}
 use Rattle.b67_stack.specs.declared.Cpu.{Cpu}
 use Rattle.b67_stack.specs.Shapes.{Fits, IsCopy, Copied, copy_desc}
 use Rattle.b67_stack.specs.Stacks.{StackPlace, stack_words}
@@ -34,11 +35,11 @@ use Rattle.b67_layout_leave.proofs.Settles.{under, all, homes_low, homes_high}
 use Rattle.b67_entry.specs.Words.{IsTopWord, Refuses}
 
 -- the array that a word names is found
-pub found_array : (job : Job) (reach : List Known) (a index : ℕ) (n : NamesArray job.arrays reach a index) → Falls job.next_array (map (λ (b : Array). b.identity) job.arrays) → array job a ≡ n.item
-found_array job reach a index n falls =
+pub found_array : (job : Job) (reach : List Known) (a : ℕ) (n : NamesArray job.arrays reach a) → Falls job.next_array (map (λ (b : Array). b.identity) job.arrays) → array job a ≡ n.item
+found_array job reach a n falls =
     ap (λ (o : Option Array). unwrap_or o no_array) (ap (λ (i : ℕ). keyed (λ (b : Array). b.identity) i job.arrays) (sym n.named) ∙ keyed_falls (λ (b : Array). b.identity) job.next_array job.arrays n.item falls n.live)
 
-module _ (x : Storage) (cpu : Cpu) (plan : Placement) (s : Session) (m : SessionJob) (t : Task) (o : IsInOrderButPlaces s) (h : RepresentsSession x cpu plan s) (runs : IsRunning plan s.jobs m t) (v : Word) (w : Tagged) (b : IsTopWord x plan m t cpu v w) where
+module _ (x : Storage) (cpu : Cpu) (plan : Placement) (s : Session) (m : SessionJob) (t : Task) (o : IsInOrderButCounts s) (h : RepresentsSession x cpu plan s) (runs : IsRunning plan s.jobs m t) (v : Word) (w : Tagged) (b : IsTopWord x plan m t cpu v w) where
   abbrev spot : ℕ → StackPlace
   spot = spot_in plan.running (outer_spots plan m.constants.number m.progress.job t.critical t.parents) (b.frame ∷ b.below)
 
@@ -48,6 +49,13 @@ module _ (x : Storage) (cpu : Cpu) (plan : Placement) (s : Session) (m : Session
   abbrev Ordered : Word → Type 0
   Ordered u = WordInOrder (IsSegment m.constants) m.progress.job.arrays (reach_of m.progress.job t) b.frame.identity u
 
+  -- copies of an array, and of its element
+  abbrev row_copied : ℕ → Copied
+  row_copied a = record { index = None; read_only = not (array m.progress.job a).writable }
+
+  abbrev element_copied : ℕ → ℕ → Copied
+  element_copied a index = record { index = Some index; read_only = not (array m.progress.job a).writable }
+
   tag_apart : {A : Type 0} (u : Tagged) → w.tag ≡ 5 → w ≡ u → u.tag ≢ 5 → A
   tag_apart u five is ne = absurd (ne (sym (ap (λ (z : Tagged). z.tag) is) ∙ five))
 
@@ -56,8 +64,8 @@ module _ (x : Storage) (cpu : Cpu) (plan : Placement) (s : Session) (m : Session
   has_desc five = by v b.fits b.order where
     by : (u : Word) → Fit u → Ordered u → (d : DataDesc) × IsDataDesc d × (w ≡ data_word d)
     by (Original a) fit g = (fit.1.desc, fit.1.fits, fit.1.is)
-    by (Row a) fit g = (copy_desc _ fit.present fit.address, fit.fits, fit.is)
-    by (Element a index) fit g = (copy_desc _ fit.present fit.address, fit.fits, fit.is)
+    by (Row a) fit g = (copy_desc (row_copied a) fit.number fit.present fit.address, fit.fits, fit.is)
+    by (Element a index) fit g = (copy_desc (element_copied a index) fit.number fit.present fit.address, fit.fits, fit.is)
     by (Operand bits) fit g = tag_apart _ five fit.0 (λ e. omega (arith, e))
     by (Name couple) fit g = tag_apart _ five fit.0 (λ e. omega (arith, e))
     by (Ref a offset) fit g = tag_apart _ five fit.0 (λ e. omega (arith, e))
@@ -74,8 +82,8 @@ module _ (x : Storage) (cpu : Cpu) (plan : Placement) (s : Session) (m : Session
     by : (u : Word) → Fit u → Ordered u → Refuses (Some InvalidOperand) u (returnable m.progress.job (top t.frames).identity u)
     by (Original a) fit g = refl
     by (Name couple) fit g = refl
-    by (Row a) fit g = no_copy (copy_desc _ fit.present fit.address) fit.fits fit.is refl
-    by (Element a index) fit g = no_copy (copy_desc _ fit.present fit.address) fit.fits fit.is refl
+    by (Row a) fit g = no_copy (copy_desc (row_copied a) fit.number fit.present fit.address) fit.fits fit.is refl
+    by (Element a index) fit g = no_copy (copy_desc (element_copied a index) fit.number fit.present fit.address) fit.fits fit.is refl
     by (Operand bits) fit g = tag_apart _ five fit.0 (λ e. omega (arith, e))
     by (Ref a offset) fit g = tag_apart _ five fit.0 (λ e. omega (arith, e))
     by (Proc segment level place) fit g = tag_apart _ five fit.0 (λ e. omega (arith, e))
@@ -90,7 +98,7 @@ module _ (x : Storage) (cpu : Cpu) (plan : Placement) (s : Session) (m : Session
     stands = h.holds.memory;
     copied = c;
     fits = fits;
-    is = record { present = i.present; address = i.address; fits = i.fits; is = sym is ∙ i.is; to = i.to };
+    is = record { number = i.number; numbered = i.numbered; present = i.present; address = i.address; fits = i.fits; is = sym is ∙ i.is; to = i.to };
   }
 
   -- the array of which a word is a copy
@@ -138,16 +146,16 @@ module _ (x : Storage) (cpu : Cpu) (plan : Placement) (s : Session) (m : Session
       (omega (arith, r.mark, e), omega (arith, r.top, e), f.0.fits)
 
   -- an array that a word in order names: its owner by its home
-  owned_above : (a index : ℕ) → NamesArray m.progress.job.arrays (reach_of m.progress.job t) a index → owner_of m.progress.job a ≡ b.frame.identity → (cpu.regs.f < plan.home m.constants.number a) × (plan.home m.constants.number a ≤ cpu.regs.s)
-  owned_above a index n e =
-      let item = found_array m.progress.job (reach_of m.progress.job t) a index n (running_in_order plan s m t o runs).0.tasks.names in
+  owned_above : (a : ℕ) → NamesArray m.progress.job.arrays (reach_of m.progress.job t) a → owner_of m.progress.job a ≡ b.frame.identity → (cpu.regs.f < plan.home m.constants.number a) × (plan.home m.constants.number a ≤ cpu.regs.s)
+  owned_above a n e =
+      let item = found_array m.progress.job (reach_of m.progress.job t) a n (running_in_order plan s m t o runs).0.tasks.names in
       let q = homes_high x cpu.core cpu.regs cpu.critical plan s m t b.frame b.below o h.holds runs b.frames n.item n.live (sym (ap (λ (z : Array). z.owner) item) ∙ e) in
       let is : plan.home m.constants.number n.item.identity ≡ plan.home m.constants.number a = ap (plan.home m.constants.number) n.named in
       (omega (arith, q.0, is, bounds.0), omega (arith, q.1, is, bounds.1))
 
-  not_owned : (a index : ℕ) → NamesArray m.progress.job.arrays (reach_of m.progress.job t) a index → owner_of m.progress.job a ≢ b.frame.identity → cpu.regs.f < plan.home m.constants.number a → plan.home m.constants.number a ≤ cpu.regs.s → ⊥
-  not_owned a index n ne low up =
-      let item = found_array m.progress.job (reach_of m.progress.job t) a index n (running_in_order plan s m t o runs).0.tasks.names in
+  not_owned : (a : ℕ) → NamesArray m.progress.job.arrays (reach_of m.progress.job t) a → owner_of m.progress.job a ≢ b.frame.identity → cpu.regs.f < plan.home m.constants.number a → plan.home m.constants.number a ≤ cpu.regs.s → ⊥
+  not_owned a n ne low up =
+      let item = found_array m.progress.job (reach_of m.progress.job t) a n (running_in_order plan s m t o runs).0.tasks.names in
       let is : plan.home m.constants.number n.item.identity ≡ plan.home m.constants.number a = ap (plan.home m.constants.number) n.named in
       elim (homes_low x cpu.core cpu.regs cpu.critical plan s m t b.frame b.below o h.holds runs b.frames m in_m n.item n.live) [
         | inl q ↦ ne (ap (λ (z : Array). z.owner) item ∙ q.1)
@@ -157,15 +165,15 @@ module _ (x : Storage) (cpu : Cpu) (plan : Placement) (s : Session) (m : Session
   -- an array of the top frame
   pub own_copy_refused : (home : ℕ) → CopyOf v home → cpu.regs.f < home → home ≤ cpu.regs.s → Refuses (Some Uplevel) v (returnable m.progress.job (top t.frames).identity v)
   own_copy_refused home c low up = by v c b.order where
-    owned : (a index : ℕ) → home ≡ plan.home m.constants.number a → NamesArray m.progress.job.arrays (reach_of m.progress.job t) a index → owner_of m.progress.job a ≡ (top t.frames).identity
-    owned a index e n = elim (cases_eq (owner_of m.progress.job a) b.frame.identity) [
+    owned : (a : ℕ) → home ≡ plan.home m.constants.number a → NamesArray m.progress.job.arrays (reach_of m.progress.job t) a → owner_of m.progress.job a ≡ (top t.frames).identity
+    owned a e n = elim (cases_eq (owner_of m.progress.job a) b.frame.identity) [
       | inl z ↦ z ∙ sym id_is
-      | inr z ↦ absurd (not_owned a index n z (omega (arith, low, e)) (omega (arith, up, e)))
+      | inr z ↦ absurd (not_owned a n z (omega (arith, low, e)) (omega (arith, up, e)))
     ]
 
     by : (u : Word) → CopyOf u home → Ordered u → Refuses (Some Uplevel) u (returnable m.progress.job (top t.frames).identity u)
-    by (Row a) e g = elim (eqb_tells (owner_of m.progress.job a) (top t.frames).identity) [ inl q ↦ rw q.0 refl | inr q ↦ absurd (q.1 (owned a 0 e g)) ]
-    by (Element a index) e g = elim (eqb_tells (owner_of m.progress.job a) (top t.frames).identity) [ inl q ↦ rw q.0 refl | inr q ↦ absurd (q.1 (owned a index e g)) ]
+    by (Row a) e g = elim (eqb_tells (owner_of m.progress.job a) (top t.frames).identity) [ inl q ↦ rw q.0 refl | inr q ↦ absurd (q.1 (owned a e g)) ]
+    by (Element a index) e g = elim (eqb_tells (owner_of m.progress.job a) (top t.frames).identity) [ inl q ↦ rw q.0 refl | inr q ↦ absurd (q.1 (owned a e g)) ]
     by (Original a) e g = absurd e
     by (Operand bits) e g = absurd e
     by (Name couple) e g = absurd e
@@ -177,12 +185,12 @@ module _ (x : Storage) (cpu : Cpu) (plan : Placement) (s : Session) (m : Session
   -- another array
   pub other_copy_passes : (home : ℕ) → CopyOf v home → (cpu.regs.f < home → home ≤ cpu.regs.s → ⊥) → Refuses None v (returnable m.progress.job (top t.frames).identity v)
   other_copy_passes home c apart = by v c b.order where
-    differs : (a index : ℕ) → home ≡ plan.home m.constants.number a → NamesArray m.progress.job.arrays (reach_of m.progress.job t) a index → owner_of m.progress.job a ≢ (top t.frames).identity
-    differs a index e n z = let q = owned_above a index n (z ∙ id_is) in apart (omega (arith, q.0, e)) (omega (arith, q.1, e))
+    differs : (a : ℕ) → home ≡ plan.home m.constants.number a → NamesArray m.progress.job.arrays (reach_of m.progress.job t) a → owner_of m.progress.job a ≢ (top t.frames).identity
+    differs a e n z = let q = owned_above a n (z ∙ id_is) in apart (omega (arith, q.0, e)) (omega (arith, q.1, e))
 
     by : (u : Word) → CopyOf u home → Ordered u → Refuses None u (returnable m.progress.job (top t.frames).identity u)
-    by (Row a) e g = elim (eqb_tells (owner_of m.progress.job a) (top t.frames).identity) [ inl q ↦ absurd (differs a 0 e g q.1) | inr q ↦ rw q.0 refl ]
-    by (Element a index) e g = elim (eqb_tells (owner_of m.progress.job a) (top t.frames).identity) [ inl q ↦ absurd (differs a index e g q.1) | inr q ↦ rw q.0 refl ]
+    by (Row a) e g = elim (eqb_tells (owner_of m.progress.job a) (top t.frames).identity) [ inl q ↦ absurd (differs a e g q.1) | inr q ↦ rw q.0 refl ]
+    by (Element a index) e g = elim (eqb_tells (owner_of m.progress.job a) (top t.frames).identity) [ inl q ↦ absurd (differs a e g q.1) | inr q ↦ rw q.0 refl ]
     by (Original a) e g = absurd e
     by (Operand bits) e g = absurd e
     by (Name couple) e g = absurd e

@@ -8,7 +8,7 @@ use Rattle.b67_model.specs.State.{Frame, Task, Job, SessionJob, words_of, height
 use Rattle.b67_model.specs.Run.{number_of}
 use Rattle.b67_model.specs.Steps.{is_critical}
 use Rattle.b67_model.specs.Schedule.{Session}
-use Rattle.b67_model.specs.InOrder.{IsInOrderButPlaces}
+use Rattle.b67_layout.specs.Orders.{IsInOrderButCounts}
 use Rattle.b67_stack.specs.declared.Cpu.{Cpu}
 use Rattle.b67_stack.specs.Stacks.{stack_words, mark_place}
 use Rattle.b67_stack.specs.Represents.{Storage, RepresentsRunning}
@@ -36,7 +36,7 @@ tells job f below = by (is_critical job f.identity) where
   by true = eq-eqb (height below) (height below) refl
   by false = ne_eqb (critical_mark job below) (height below) (λ e. (let low = mark_under job below in omega (arith, low, e)))
 
-module _ (x : Storage) (cpu : Cpu) (plan : Placement) (s : Session) (m : SessionJob) (t : Task) (o : IsInOrderButPlaces s) (h : RepresentsSession x cpu plan s) (runs : IsRunning plan s.jobs m t) where
+module _ (x : Storage) (cpu : Cpu) (plan : Placement) (s : Session) (m : SessionJob) (t : Task) (o : IsInOrderButCounts s) (h : RepresentsSession x cpu plan s) (runs : IsRunning plan s.jobs m t) where
   pub slot_small : cpu.regs.slot < 120
   slot_small = omega (arith, (h.holds.running m t runs).slot, h.holds.fits.few, slot_below plan s.jobs m t h.holds.fits.rows (keyed-has number_of m.constants.number s.jobs m runs.member) (keyed-has (λ (u : Task). u.number) t.number m.progress.job.tasks t runs.task))
 

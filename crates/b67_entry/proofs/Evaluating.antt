@@ -20,7 +20,7 @@ use Rattle.b67_model.specs.Chase.{AtCell, AtElement, AtArray, AtProc, AtIntrinsi
 use Rattle.b67_model.specs.Entry.{evaluates, returned}
 use Rattle.b67_model.specs.Steps.{Done, Goes, pushes, without_arrays_of}
 use Rattle.b67_model.specs.Schedule.{Session}
-use Rattle.b67_model.specs.InOrder.{IsInOrderButPlaces}
+use Rattle.b67_layout.specs.Orders.{IsInOrderButCounts}
 use Rattle.b67_stack.specs.declared.Cpu.{Cpu}
 use Rattle.b67_stack.specs.declared.What.TheVariants as what
 use Rattle.b67_stack.specs.Represents.{Storage}
@@ -31,7 +31,8 @@ use Rattle.b67_layout.proofs.Fresh.{running_in_order}
 use Rattle.b67_refer.specs.declared.ends.End.TheVariants as end
 use Rattle.b67_refer.specs.RunningContext.{RunningContext, IsShown}
 use Rattle.b67_refer.specs.Cells.{IsCellAt}
-use Rattle.b67_refer.specs.Ends.{IsArrayOf, IsProcAt, EndMeets}
+use Rattle.b67_refer.specs.Ends.{IsElementOf, IsProcAt, EndMeets}
+use Rattle.b67_refer.proofs.Items.{array_is}
 use Rattle.b67_exec_cells.specs.Elements.{HasElement}
 use Rattle.b67_layout_leave.proofs.Nowhere.{array_stays}
 use Rattle.b67_entry.specs.Left.{Returns, here_left}
@@ -70,8 +71,8 @@ module _ {core : List Tagged} {r : Regs} (c : RunningContext core r) (q : Place)
   cell_end at (Ok (AtIntrinsic n)) k = absurd k
   cell_end at (Err g) k = absurd k
 
-  pub element_end : (original index : ℕ) (a : Answer Chase.End) → EndMeets c q (Ok (end.Element original index)) a → (n : ℕ) × (a ≡ Ok (AtElement n index)) × IsArrayOf c q original n index
-  element_end original index (Ok (AtElement n i)) k = (n, ap (λ (z : ℕ). Ok (AtElement n z)) (sym k.0), subst (λ (z : ℕ). IsArrayOf c q original n z) (sym k.0) k.1)
+  pub element_end : (original index : ℕ) (a : Answer Chase.End) → EndMeets c q (Ok (end.Element original index)) a → (n : ℕ) × (a ≡ Ok (AtElement n index)) × IsElementOf c q original n index
+  element_end original index (Ok (AtElement n i)) k = (n, ap (λ (z : ℕ). Ok (AtElement n z)) (sym k.0), subst (λ (z : ℕ). IsElementOf c q original n z) (sym k.0) k.1)
   element_end original index (Ok (AtCell f offset bits)) k = absurd k
   element_end original index (Ok (AtArray n)) k = absurd k
   element_end original index (Ok (AtProc f segment level place)) k = absurd k
@@ -102,7 +103,7 @@ module _ {core : List Tagged} {r : Regs} (c : RunningContext core r) (q : Place)
   intrinsic_end h number (Ok (AtArray n)) k = absurd k
   intrinsic_end h number (Err g) k = absurd k
 
-module _ (x : Storage) (old : Cpu) (plan : Placement) (s : Session) (m : SessionJob) (t : Task) (o : IsInOrderButPlaces s) (h : RepresentsSession x old plan s) (runs : IsRunning plan s.jobs m t) (a : Returns m t) where
+module _ (x : Storage) (old : Cpu) (plan : Placement) (s : Session) (m : SessionJob) (t : Task) (o : IsInOrderButCounts s) (h : RepresentsSession x old plan s) (runs : IsRunning plan s.jobs m t) (a : Returns m t) where
   abbrev pub scene : RunningContext old.core (regs_left x old plan s m t o h runs a)
   scene = scene_left x old plan s m t o h runs a
 
@@ -114,7 +115,7 @@ module _ (x : Storage) (old : Cpu) (plan : Placement) (s : Session) (m : Session
   frames_same = ap (λ (fs : List Frame). fs ++ (m.constants.dictionary ∷ mcp ∷ [])) (flat_same t.number (here_left m t a).task (task_left x old plan s m t o h runs a Ready) m.progress.job.tasks refl)
 
   pub answer_is : (v : Word) → (IsOperand v → ⊥) → returned (here_left m t a) v true ≡ (follow seen v >>= evaluates (here_left m t a))
-  answer_is v n = follows (here_left m t a) v n ∙ ap (λ (e : Answer Chase.End). e >>= evaluates (here_left m t a)) (follow_same (here_left m t a) seen frames_same refl v)
+  answer_is v n = follows (here_left m t a) v n ∙ ap (λ (e : Answer Chase.End). e >>= evaluates (here_left m t a)) (follow_same (here_left m t a) seen frames_same refl refl v)
 
   -- a word that is pushed there
   pushes_there : (u : Word) (touched : Option ℕ) → pushes (here_left m t a) u touched ≡ Ok (Goes (job_with x old plan s m t o h runs a (frames_with x old plan s m t o h runs a (u ∷ a.next.cells)) t.condition) [] touched)
@@ -151,17 +152,17 @@ module _ (x : Storage) (old : Cpu) (plan : Placement) (s : Session) (m : Session
           (answer_is v not_operand ∙ ap (λ (e : Answer Chase.End). e >>= evaluates (here_left m t a)) is))
 
     -- at an element of an array
-    module _ (original number index : ℕ) (is : follow seen v ≡ Ok (AtElement number index)) (q : IsArrayOf scene a.back.place original number index) where
+    module _ (original number index : ℕ) (is : follow seen v ≡ Ok (AtElement number index)) (q : IsElementOf scene a.back.place original number index) where
       -- the array, with its element
       pub element_there : HasElement m.progress.job number index
-      element_there = record { item = q.names.item; live = (has_filter (λ (z : Array). not (z.owner == a.f.identity)) m.progress.job.arrays q.names.item q.names.live).0; named = q.names.named; inside = q.names.inside }
+      element_there = record { item = q.array_of.names.item; live = (has_filter (λ (z : Array). not (z.owner == a.f.identity)) m.progress.job.arrays q.array_of.names.item q.array_of.names.live).0; named = q.array_of.names.named; inside = subst (λ (z : Array). index < length z.numbers) (array_is old.core (regs_left x old plan s m t o h runs a) scene number q.array_of.names) q.inside }
 
       element_same : element (here_left m t a).job number index ≡ element m.progress.job number index
       element_same =
-          let live = has_filter (λ (z : Array). not (z.owner == a.f.identity)) m.progress.job.arrays q.names.item q.names.live in
-          let apart : q.names.item.owner ≢ a.f.identity = λ e. elim (eqb_tells q.names.item.owner a.f.identity) [ inl z ↦ true≢false (sym live.1 ∙ ap not z.0) | inr z ↦ z.1 e ] in
-          let same = array_stays (here_left m t a).job m.progress.job a.f.identity refl (running_in_order plan s m t o runs).0.tasks.names q.names.item live.0 apart in
-          ap (λ (n : ℕ). element (here_left m t a).job n index) (sym q.names.named) ∙ ap (λ (z : Array). slice_index z.numbers index) same ∙ ap (λ (n : ℕ). element m.progress.job n index) q.names.named
+          let live = has_filter (λ (z : Array). not (z.owner == a.f.identity)) m.progress.job.arrays q.array_of.names.item q.array_of.names.live in
+          let apart : q.array_of.names.item.owner ≢ a.f.identity = λ e. elim (eqb_tells q.array_of.names.item.owner a.f.identity) [ inl z ↦ true≢false (sym live.1 ∙ ap not z.0) | inr z ↦ z.1 e ] in
+          let same = array_stays (here_left m t a).job m.progress.job a.f.identity refl (running_in_order plan s m t o runs).0.tasks.names q.array_of.names.item live.0 apart in
+          ap (λ (n : ℕ). element (here_left m t a).job n index) (sym q.array_of.names.named) ∙ ap (λ (z : Array). slice_index z.numbers index) same ∙ ap (λ (n : ℕ). element m.progress.job n index) q.array_of.names.named
 
       element_answer : returned (here_left m t a) v true ≡ pushes (here_left m t a) (Operand (element m.progress.job number index)) (Some number)
       element_answer =
@@ -180,7 +181,7 @@ module _ (x : Storage) (old : Cpu) (plan : Placement) (s : Session) (m : Session
         touched = number;
         is = element_answer ∙ pushes_there (Operand (element m.progress.job number index)) (Some number);
         absent = none;
-        named = ap what.Array q.home;
+        named = ap what.Array q.array_of.home;
       }
 
     pub array_refused : (original : ℕ) → EndMeets scene a.back.place (Ok (end.Array original)) (follow seen v) → returned (here_left m t a) v true ≡ Err InvalidOperand

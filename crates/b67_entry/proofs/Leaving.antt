@@ -7,7 +7,7 @@ use Rattle.b67_model.specs.Entry.{exit}
 use Rattle.b67_model.specs.Run.{number_of}
 use Rattle.b67_model.specs.Steps.{is_critical, without_arrays_of}
 use Rattle.b67_model.specs.Schedule.{Session}
-use Rattle.b67_model.specs.InOrder.{IsInOrderButPlaces}
+use Rattle.b67_layout.specs.Orders.{IsInOrderButCounts}
 use Rattle.b67_stack.specs.declared.Cpu.{Cpu}
 use Rattle.b67_stack.specs.Stacks.{StackPlace, Activation, stack_words}
 use Rattle.b67_stack.specs.MachineView.{RunsOn}
@@ -33,7 +33,7 @@ use Rattle.b67_lemmas.proofs.Members.{keyed-has}
 pub some_first : {A : Type 0} (x : A) (xs : List A) → x ∷ xs ≢ []
 some_first x xs e = cc
 
-module _ (x : Storage) (old : Cpu) (plan : Placement) (s : Session) (m : SessionJob) (t : Task) (o : IsInOrderButPlaces s) (h : RepresentsSession x old plan s) (runs : IsRunning plan s.jobs m t) (a : Returns m t) where
+module _ (x : Storage) (old : Cpu) (plan : Placement) (s : Session) (m : SessionJob) (t : Task) (o : IsInOrderButCounts s) (h : RepresentsSession x old plan s) (runs : IsRunning plan s.jobs m t) (a : Returns m t) where
   pub may : Leaver plan s m t a.f (a.next ∷ a.more)
   may = record { ordered = o; running = runs; frames = a.frames; free = a.free }
 

@@ -11,7 +11,8 @@ use Rattle.b67_model.specs.State.{Ready, Frame, Standing, Array, Task, Job, Sess
 use Rattle.b67_model.specs.Arrays.{owner_of}
 use Rattle.b67_model.specs.Entry.{returnable}
 use Rattle.b67_model.specs.Schedule.{Session}
-use Rattle.b67_model.specs.InOrder.{IsSegment, IsEntered, Known, known_of, outer_of, reach_of, NamesEntered, NamesArray, WordInOrder, IsInOrderButPlaces}
+use Rattle.b67_model.specs.InOrder.{IsSegment, IsEntered, Known, known_of, outer_of, reach_of, NamesEntered, NamesArray, WordInOrder}
+use Rattle.b67_layout.specs.Orders.{IsInOrderButCounts}
 use Rattle.b67_law_order.proofs.Reaches.{Alike, alike_has, alike_under}
 use Rattle.b67_stack.specs.declared.Cpu.{Cpu}
 use Rattle.b67_stack.specs.Shapes.{Shape, Fits}
@@ -33,7 +34,7 @@ use Rattle.b67_entry.proofs.Returning.{other_frame, other_row, other_element}
 use Rattle.b67_entry.proofs.CopyRefusals.{found_array}
 use Rattle.b67_entry.proofs.Replacing.{Puts, new_shape, frame_is, puts_word}
 
-module _ (x : Storage) (old : Cpu) (plan : Placement) (s : Session) (m : SessionJob) (t : Task) (o : IsInOrderButPlaces s) (h : RepresentsSession x old plan s) (runs : IsRunning plan s.jobs m t) (a : Returns m t) where
+module _ (x : Storage) (old : Cpu) (plan : Placement) (s : Session) (m : SessionJob) (t : Task) (o : IsInOrderButCounts s) (h : RepresentsSession x old plan s) (runs : IsRunning plan s.jobs m t) (a : Returns m t) where
   abbrev job : Job
   job = job_at x old plan s m t o h runs a Ready
 
@@ -56,23 +57,22 @@ module _ (x : Storage) (old : Cpu) (plan : Placement) (s : Session) (m : Session
   entered_moved : (n : ℕ) → n ≢ a.f.identity → NamesEntered (reach_of m.progress.job t) n → NamesEntered (reach_of job task) n
   entered_moved n ne g = record { standing = g.standing; among = known_moved n g.standing g.entered ne g.among; entered = g.entered }
 
-  array_moved : (n index : ℕ) → owner_of m.progress.job n ≢ a.f.identity → NamesArray m.progress.job.arrays (reach_of m.progress.job t) n index → NamesArray job.arrays (reach_of job task) n index
-  array_moved n index ne g =
-      let is = found_array m.progress.job (reach_of m.progress.job t) n index g (running_in_order plan s m t o runs).0.tasks.names in
+  array_moved : (n : ℕ) → owner_of m.progress.job n ≢ a.f.identity → NamesArray m.progress.job.arrays (reach_of m.progress.job t) n → NamesArray job.arrays (reach_of job task) n
+  array_moved n ne g =
+      let is = found_array m.progress.job (reach_of m.progress.job t) n g (running_in_order plan s m t o runs).0.tasks.names in
       let apart : g.item.owner ≢ a.f.identity = λ e. ne (ap (λ (z : Array). z.owner) is ∙ e) in
       record {
         item = g.item;
         live = has_filter_in (λ (z : Array). not (z.owner == a.f.identity)) m.progress.job.arrays g.item g.live (elim (eqb_tells g.item.owner a.f.identity) [ inl e ↦ absurd (apart e.1) | inr e ↦ ap not e.0 ]);
         named = g.named;
         owner = entered_moved g.item.owner apart g.owner;
-        inside = g.inside;
       }
 
   pub word_moved : (v : Word) → WordInOrder (IsSegment m.constants) m.progress.job.arrays (reach_of m.progress.job t) a.f.identity v → returnable m.progress.job a.f.identity v ≡ Ok v
       → WordInOrder (IsSegment m.constants) job.arrays (reach_of job task) a.next.identity v
   word_moved (Ref f offset) g e = (entered_moved f (other_frame m.progress.job a.f.identity f offset e) g.0, g.1)
-  word_moved (Row n) g e = array_moved n 0 (other_row m.progress.job a.f.identity n e) g
-  word_moved (Element n index) g e = array_moved n index (other_element m.progress.job a.f.identity n index e) g
+  word_moved (Row n) g e = array_moved n (other_row m.progress.job a.f.identity n e) g
+  word_moved (Element n index) g e = array_moved n (other_element m.progress.job a.f.identity n index e) g
   word_moved (Original n) g e = absurd (let z : ⊥ = cc in z)
   word_moved (Operand bits) g e = g
   word_moved (Name couple) g e = g

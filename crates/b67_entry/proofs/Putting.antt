@@ -11,7 +11,7 @@ use Rattle.b67_model.specs.State.{Frame, Task, SessionJob, height, top}
 use Rattle.b67_model.specs.Entry.{returnable, returned, retn}
 use Rattle.b67_model.specs.Steps.{Done, is_critical}
 use Rattle.b67_model.specs.Schedule.{Session}
-use Rattle.b67_model.specs.InOrder.{IsInOrderButPlaces}
+use Rattle.b67_layout.specs.Orders.{IsInOrderButCounts}
 use Rattle.b67_stack.specs.declared.Cpu.{Cpu}
 use Rattle.b67_stack.specs.declared.Step.{Step}
 use Rattle.b67_stack.specs.Represents.{Storage}
@@ -40,7 +40,7 @@ put_above old r display w new e i low =
 pub put_top : (old : Cpu) (r : Regs) (display : List ℕ) (w : Tagged) (new : Cpu) → new ≡ with_word old r display w → (r.s < new.regs.s) × (new.regs.s ≤ r.s + 2)
 put_top old r display w new e = let top = ap (λ (k : Cpu). k.regs.s) e in (omega arith, omega arith)
 
-module _ (x : Storage) (old : Cpu) (plan : Placement) (s : Session) (m : SessionJob) (t : Task) (o : IsInOrderButPlaces s) (h : RepresentsSession x old plan s) (runs : IsRunning plan s.jobs m t) (a : Returns m t) where
+module _ (x : Storage) (old : Cpu) (plan : Placement) (s : Session) (m : SessionJob) (t : Task) (o : IsInOrderButCounts s) (h : RepresentsSession x old plan s) (runs : IsRunning plan s.jobs m t) (a : Returns m t) where
   -- no live task depends on the frame, which is the top one
   pub free_top : is_critical m.progress.job (top t.frames).identity ≡ false
   free_top = ap (λ (fs : List Frame). is_critical m.progress.job (top fs).identity) a.frames ∙ a.free

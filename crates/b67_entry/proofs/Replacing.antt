@@ -11,7 +11,8 @@ use Rattle.b67_model.specs.Words.{Word, Operand}
 use Rattle.b67_model.specs.State.{Frame, Condition, Ready, Task, Job, SessionJob, with_top_cells, with_task}
 use Rattle.b67_model.specs.Steps.{without_arrays_of}
 use Rattle.b67_model.specs.Schedule.{Session}
-use Rattle.b67_model.specs.InOrder.{IsSegment, WordInOrder, reach_of, IsInOrderButPlaces}
+use Rattle.b67_model.specs.InOrder.{IsSegment, WordInOrder, reach_of}
+use Rattle.b67_layout.specs.Orders.{IsInOrderButCounts}
 use Rattle.b67_stack.specs.declared.Cpu.{Cpu}
 use Rattle.b67_stack.specs.Shapes.{Shape, Fits}
 use Rattle.b67_stack.specs.Stacks.{StackPlace, Activation, stack_words, IsStack, headed, words}
@@ -39,7 +40,7 @@ use Rattle.b67_entry.specs.Returned.{ReturnsWord}
 use Rattle.b67_entry.proofs.Leaving.{may, outer, under, on_top, on_stack, may_return, regs_left, member_at, task_left, shown_left}
 use Rattle.b67_entry.proofs.Returning.{shape_below, may_push, array_kept}
 
-module _ (x : Storage) (old : Cpu) (plan : Placement) (s : Session) (m : SessionJob) (t : Task) (o : IsInOrderButPlaces s) (h : RepresentsSession x old plan s) (runs : IsRunning plan s.jobs m t) (a : Returns m t) where
+module _ (x : Storage) (old : Cpu) (plan : Placement) (s : Session) (m : SessionJob) (t : Task) (o : IsInOrderButCounts s) (h : RepresentsSession x old plan s) (runs : IsRunning plan s.jobs m t) (a : Returns m t) where
   -- the frames with words on the caller's
   abbrev pub frames_with : List Word → List Frame
   frames_with cells = with_top_cells (a.next ∷ a.more) cells

@@ -15,7 +15,8 @@ use Rattle.b67_model.specs.State.{Standing, Frame, Task, SessionJob, top}
 use Rattle.b67_model.specs.Entry.{returnable, returned, retn}
 use Rattle.b67_model.specs.Steps.{Leaves, is_critical}
 use Rattle.b67_model.specs.Schedule.{Session}
-use Rattle.b67_model.specs.InOrder.{IsSegment, known_of, outer_of, FramesInOrder, WordInOrder, reach_of, IsInOrderButPlaces}
+use Rattle.b67_model.specs.InOrder.{IsSegment, known_of, outer_of, FramesInOrder, WordInOrder, reach_of}
+use Rattle.b67_layout.specs.Orders.{IsInOrderButCounts}
 use Rattle.b67_stack.specs.declared.Cpu.{Cpu}
 use Rattle.b67_stack.specs.Shapes.{Fits}
 use Rattle.b67_stack.specs.Stacks.{StackPlace, Activation, mark_of, top_mark}
@@ -58,7 +59,7 @@ passed_is : (v : Word) (answer : Answer Word) → Refuses None v answer → answ
 passed_is v (Ok u) r = ap Ok r
 passed_is v (Err other) r = absurd r
 
-module _ (x : Storage) (cpu : Cpu) (plan : Placement) (s : Session) (m : SessionJob) (t : Task) (o : IsInOrderButPlaces s) (h : RepresentsSession x cpu plan s) (runs : IsRunning plan s.jobs m t) where
+module _ (x : Storage) (cpu : Cpu) (plan : Placement) (s : Session) (m : SessionJob) (t : Task) (o : IsInOrderButCounts s) (h : RepresentsSession x cpu plan s) (runs : IsRunning plan s.jobs m t) where
   abbrev outer : ℕ → StackPlace
   outer = outer_spots plan m.constants.number m.progress.job t.critical t.parents
 

@@ -71,14 +71,14 @@ module _ (job : Job) (id : ℕ) where
   may_push plan j spot objects shapes (Words.Segment number) copies h e = tt
 
   -- and its array stays
-  kept : (new : Job) (reach : List Known) (a index : ℕ) → NamesArray job.arrays reach a index → new.arrays ≡ others id job.arrays → Falls job.next_array (map (λ (b : Array). b.identity) job.arrays) → owner_of job a ≢ id → array new a ≡ array job a
-  kept new reach a index n is falls ne =
-      let same = found_array job reach a index n falls in
+  kept : (new : Job) (reach : List Known) (a : ℕ) → NamesArray job.arrays reach a → new.arrays ≡ others id job.arrays → Falls job.next_array (map (λ (b : Array). b.identity) job.arrays) → owner_of job a ≢ id → array new a ≡ array job a
+  kept new reach a n is falls ne =
+      let same = found_array job reach a n falls in
       subst (λ (i : ℕ). array new i ≡ array job i) n.named (array_stays new job id is falls n.item n.live (λ e. ne (ap (λ (b : Array). b.owner) same ∙ e)))
 
   pub array_kept : (new : Job) (constants : JobConstants) (reach : List Known) (v : Word) → WordInOrder (IsSegment constants) job.arrays reach id v → new.arrays ≡ others id job.arrays → Falls job.next_array (map (λ (b : Array). b.identity) job.arrays) → returnable job id v ≡ Ok v → SameArray new job v
-  array_kept new constants reach (Row a) g is falls e = kept new reach a 0 g is falls (other_row a e)
-  array_kept new constants reach (Element a index) g is falls e = kept new reach a index g is falls (other_element a index e)
+  array_kept new constants reach (Row a) g is falls e = kept new reach a g is falls (other_row a e)
+  array_kept new constants reach (Element a index) g is falls e = kept new reach a g is falls (other_element a index e)
   array_kept new constants reach (Operand bits) g is falls e = tt
   array_kept new constants reach (Name couple) g is falls e = tt
   array_kept new constants reach (Ref h offset) g is falls e = tt

@@ -14,7 +14,8 @@ use Rattle.b67_model.specs.State.{Frame, Task, SessionJob, height, top}
 use Rattle.b67_model.specs.Entry.{returnable}
 use Rattle.b67_model.specs.Run.{number_of}
 use Rattle.b67_model.specs.Schedule.{Session}
-use Rattle.b67_model.specs.InOrder.{IsSegment, WordInOrder, reach_of, IsInOrderButPlaces}
+use Rattle.b67_model.specs.InOrder.{IsSegment, WordInOrder, reach_of}
+use Rattle.b67_layout.specs.Orders.{IsInOrderButCounts}
 use Rattle.b67_stack.specs.declared.Cpu.{Cpu}
 use Rattle.b67_stack.specs.Shapes.{Fits}
 use Rattle.b67_stack.specs.Stacks.{StackPlace}
@@ -37,7 +38,7 @@ base_low x cpu plan s m t h runs =
     let r = running_slot x cpu.core cpu.regs (machine_view plan s.jobs) cpu.regs.slot (stack_of_task plan m.constants.number m.progress.job plan.running t) h.holds.memory (runs_here x cpu plan s m t h runs) in
     omega (arith, r.first, r.mark)
 
-module _ (x : Storage) (cpu : Cpu) (plan : Placement) (s : Session) (m : SessionJob) (t : Task) (o : IsInOrderButPlaces s) (h : RepresentsSession x cpu plan s) (runs : IsRunning plan s.jobs m t) (v : Word) (w : Tagged) (b : IsTopWord x plan m t cpu v w) where
+module _ (x : Storage) (cpu : Cpu) (plan : Placement) (s : Session) (m : SessionJob) (t : Task) (o : IsInOrderButCounts s) (h : RepresentsSession x cpu plan s) (runs : IsRunning plan s.jobs m t) (v : Word) (w : Tagged) (b : IsTopWord x plan m t cpu v w) where
   abbrev spot : ℕ → StackPlace
   spot = spot_in plan.running (outer_spots plan m.constants.number m.progress.job t.critical t.parents) (b.frame ∷ b.below)
 

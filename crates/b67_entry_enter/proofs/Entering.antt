@@ -18,7 +18,8 @@ use Rattle.b67_model.specs.Chase.{AtProc}
 use Rattle.b67_model.specs.Entry.{enters, back_to}
 use Rattle.b67_model.specs.Run.{number_of}
 use Rattle.b67_model.specs.Schedule.{Session}
-use Rattle.b67_model.specs.InOrder.{IsSegment, NamesEntered, IsInOrderButPlaces, TasksInOrder, TaskInOrder, EnvironmentInOrder, CellsInOrder, FramesInOrder, outer_of, reach_of, known_of, is_original_of}
+use Rattle.b67_model.specs.InOrder.{IsSegment, NamesEntered, TasksInOrder, TaskInOrder, EnvironmentInOrder, CellsInOrder, FramesInOrder, outer_of, reach_of, known_of, is_original_of}
+use Rattle.b67_layout.specs.Orders.{IsInOrderButCounts}
 use Rattle.b67_stack.specs.declared.Cpu.{Cpu}
 use Rattle.b67_stack.specs.Shapes.{Original}
 use Rattle.b67_stack.specs.Stacks.{StackPlace, Activation, Entered, HeadFits, IsStack, mark_of, top_mark, return_of, running_level, top_size, words}
@@ -53,7 +54,7 @@ apart_spot : (k : ℕ) (outer : ℕ → StackPlace) (fs : List Frame) (n : ℕ) 
 apart_spot k outer [] n some ne = absurd (some refl)
 apart_spot k outer (f ∷ below) n some ne = rw (ne_eqb f.identity n ne) refl
 
-module _ (x : Storage) (old : Cpu) (plan : Placement) (s : Session) (m : SessionJob) (t : Task) (q : Place) (o : IsInOrderButPlaces s) (h : RepresentsSession x old plan s) (runs : IsRunning plan s.jobs m t)
+module _ (x : Storage) (old : Cpu) (plan : Placement) (s : Session) (m : SessionJob) (t : Task) (q : Place) (o : IsInOrderButCounts s) (h : RepresentsSession x old plan s) (runs : IsRunning plan s.jobs m t)
     (f segment level : ℕ) (place : Place) (names : NamesEntered (reach_of m.progress.job t) f) (own : 1 < f) (high : level ≤ 31) (starts : IsSegment m.constants segment level place) (good : IsPlace q)
     (first : Word) (arguments : List Word) (w : IsMarkedWith t.frames first (reverse arguments)) (plain : (n : ℕ) → is_original_of n first ≡ false) where
   at_site : Site old.core old.regs (scene [] x old.core old.regs old.critical plan s m t o h.holds runs) q f

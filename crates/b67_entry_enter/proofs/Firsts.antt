@@ -20,7 +20,8 @@ use Rattle.b67_model.specs.Chase.{End, follow, follow_reference}
 use Rattle.b67_model.specs.Steps.{cells_of, top_of}
 use Rattle.b67_model.specs.Rows.{entr, entr_at, entr_with}
 use Rattle.b67_model.specs.Schedule.{Session}
-use Rattle.b67_model.specs.InOrder.{Starts, Known, IsSegment, IsInOrderButPlaces, WordInOrder, FramesInOrder, known_of, outer_of, reach_of}
+use Rattle.b67_model.specs.InOrder.{Starts, Known, IsSegment, WordInOrder, FramesInOrder, known_of, outer_of, reach_of}
+use Rattle.b67_layout.specs.Orders.{IsInOrderButCounts}
 use Rattle.b67_model.specs.Called.{called_at, called_by, called_on}
 use Rattle.b67_stack.specs.declared.Cpu.{Cpu}
 use Rattle.b67_stack.specs.Shapes.{Shape, Fits}
@@ -145,7 +146,7 @@ entr_goes h st first arguments end marked up leads =
 pub entr_empty : (h : OperatorContext) (st : Standing) → st ≡ State.Marked → cells_of h ≡ [] → (entr h st ≡ Err StackUnderflow) × (called_on h st ≡ None)
 entr_empty h st marked none = (ap (entr h) marked ∙ ap (λ (cs : List Word). entr_with h (reverse cs)) none, ap (called_on h) marked ∙ ap (λ (cs : List Word). called_by h (reverse cs)) none)
 
-module _ (x : Storage) (old : Cpu) (plan : Placement) (s : Session) (m : SessionJob) (t : Task) (q : Place) (o : IsInOrderButPlaces s) (h : RepresentsSession x old plan s) (runs : IsRunning plan s.jobs m t) where
+module _ (x : Storage) (old : Cpu) (plan : Placement) (s : Session) (m : SessionJob) (t : Task) (q : Place) (o : IsInOrderButCounts s) (h : RepresentsSession x old plan s) (runs : IsRunning plan s.jobs m t) where
   abbrev pub stack_now : List Activation
   stack_now = stack_of_task plan m.constants.number m.progress.job plan.running t
 

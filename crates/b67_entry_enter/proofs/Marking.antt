@@ -9,7 +9,7 @@ use Rattle.b67_model.specs.State.{Task, SessionJob, height}
 use Rattle.b67_model.specs.Entry.{mkst}
 use Rattle.b67_model.specs.Run.{number_of}
 use Rattle.b67_model.specs.Schedule.{Session}
-use Rattle.b67_model.specs.InOrder.{IsInOrderButPlaces}
+use Rattle.b67_layout.specs.Orders.{IsInOrderButCounts}
 use Rattle.b67_stack.specs.declared.Cpu.{Cpu}
 use Rattle.b67_stack.specs.MachineView.{PagedObject, RunsOn, NoOriginalAboveTop}
 use Rattle.b67_stack.specs.Represents.{Storage, Represents}
@@ -32,7 +32,7 @@ use Rattle.b67_lemmas.proofs.Members.{keyed-has}
 abbrev pub marked_at : Cpu → Place → Cpu
 marked_at cpu q = record (marked cpu) { regs = record (marked cpu).regs { place = q } }
 
-module _ (x : Storage) (old : Cpu) (plan : Placement) (s : Session) (m : SessionJob) (t : Task) (q : Place) (o : IsInOrderButPlaces s) (h : RepresentsSession x old plan s) (runs : IsRunning plan s.jobs m t) where
+module _ (x : Storage) (old : Cpu) (plan : Placement) (s : Session) (m : SessionJob) (t : Task) (q : Place) (o : IsInOrderButCounts s) (h : RepresentsSession x old plan s) (runs : IsRunning plan s.jobs m t) where
   pub mkst_full : old.regs.s ≡ old.regs.losr → mkst (here m t q) ≡ Err StackOverflow
   mkst_full full = rw (lt-leb (height t.frames + 1) m.constants.stack_size (omega (arith, full, height_room [] x old.core old.regs old.critical plan s m t h.holds runs))) refl
 

@@ -5,7 +5,7 @@ use Rattle.b67_word.specs.declared.couples.Place.{Place}
 use Rattle.b67_model.specs.State.{Array}
 use Rattle.b67_model.specs.Answers.{Answer}
 use Rattle.b67_model.specs.Steps.{Done}
-use Rattle.b67_model.specs.InOrder.{IsInOrderButPlaces}
+use Rattle.b67_layout.specs.Orders.{IsInOrderButCounts}
 use Rattle.b67_stack.specs.declared.Cpu.{Cpu}
 use Rattle.b67_stack.specs.declared.Step.{Step}
 use Rattle.b67_stack.specs.declared.Step.TheVariants as step
@@ -22,7 +22,7 @@ use Rattle.b67_entry_enter.specs.Procedures.{ReachesProc, CanEnter, IsEntered, E
 
 module _ (cpu : Cpu) (a : RunningContext cpu.core cpu.regs) where
   -- the scene with nothing to release
-  abbrev pub plain_scene : IsInOrderButPlaces a.session → RepresentsSession a.storage cpu a.plan a.session → RunningContext cpu.core cpu.regs
+  abbrev pub plain_scene : IsInOrderButCounts a.session → RepresentsSession a.storage cpu a.plan a.session → RunningContext cpu.core cpu.regs
   plain_scene o h = scene [] a.storage cpu.core cpu.regs cpu.critical a.plan a.session a.member a.task o h.holds a.running
 
 module _ (cpu : Cpu) (a : RunningContext cpu.core cpu.regs) (q : Place) (at f segment level : ℕ) (place : Place) (e : ReachesProc cpu a q at f segment level place) where

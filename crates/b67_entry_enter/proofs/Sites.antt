@@ -12,7 +12,7 @@ use Rattle.b67_stack.specs.Stacks.{StackPlace}
 use Rattle.b67_layout.specs.Placement.{spots}
 use Rattle.b67_layout.specs.Meets.{here}
 use Rattle.b67_layout.proofs.Frames.{height-is}
-use Rattle.b67_refer.specs.RunningContext.{RunningContext}
+use Rattle.b67_refer.specs.RunningContext.{RunningContext, live_of}
 use Rattle.b67_refer.proofs.Seats.{seat}
 use Rattle.b67_refer.proofs.Marks.{frame_known}
 
@@ -39,8 +39,8 @@ module _ (core : List Tagged) (r : Regs) (a : RunningContext core r) (q : Place)
   pub site : (f : ℕ) → NamesEntered (reach_of a.member.progress.job a.task) f → 1 < f → Site f
   site f names own =
       let s = names.standing in
-      let b = seat core r a f s names.among own in
-      let known = frame_known core r a q f s names.among in
+      let b = seat core r (live_of a) f s names.among own in
+      let known = frame_known core r (live_of a) q f s names.among in
       let order : StandsInOrder (map known_of b.below ++ b.known) s = subst (λ (z : Standing). StandsInOrder (map known_of b.below ++ b.known) z) b.stands b.order.1 in
       let room = a.holds.memory.slots.laid.room in
       let disp : height b.below < 2 ^ 16 = omega (arith, height-is a.plan a.member.constants.number a.member.progress.job b.slot b.outer b.below, b.part.low, b.part.room, room) in

@@ -8,7 +8,7 @@ use Rattle.b67_lemmas.specs.Lists.{Has}
 use Rattle.b67_model.specs.Words.{Word}
 use Rattle.b67_model.specs.State.{Marked, Task, Job, SessionJob, top}
 use Rattle.b67_model.specs.Steps.{Done, Goes}
-use Rattle.b67_model.specs.InOrder.{IsInOrderButPlaces}
+use Rattle.b67_layout.specs.Orders.{IsInOrderButCounts}
 use Rattle.b67_model.specs.Schedule.{Session}
 use Rattle.b67_stack.specs.declared.Cpu.{Cpu}
 use Rattle.b67_stack.specs.declared.Step.{Step}
@@ -47,7 +47,7 @@ EntersOrFaults a _ old new answer = ⊥
 
 -- the machine stands for a session in order, and at an address is a procedure's cell that the running task can reach
 pub record ReachesProc (cpu : Cpu) (a : RunningContext cpu.core cpu.regs) (q : Place) (at f segment level : ℕ) (place : Place) : Type 0 where
-  pub ordered : IsInOrderButPlaces a.session
+  pub ordered : IsInOrderButCounts a.session
   pub stands : RepresentsSession a.storage cpu a.plan a.session
   pub procedure : IsProcAt a q at f segment level place
 

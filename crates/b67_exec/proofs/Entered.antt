@@ -14,7 +14,7 @@ use Rattle.b67_model.specs.Rows as rows
 use Rattle.b67_model.specs.State.{Task, SessionJob}
 use Rattle.b67_model.specs.Steps.{Done, cells_of}
 use Rattle.b67_model.specs.Schedule.{Session}
-use Rattle.b67_model.specs.InOrder.{IsInOrderButPlaces}
+use Rattle.b67_layout.specs.Orders.{IsInOrderButCounts}
 use Rattle.b67_stack.specs.declared.Cpu.{Cpu}
 use Rattle.b67_stack.specs.declared.Step.{Step}
 use Rattle.b67_stack.specs.declared.Step.TheVariants as step
@@ -74,7 +74,7 @@ pub called_by : (x : Storage) (plan : Placement) (s : Session) (m : SessionJob) 
 called_by x plan s m n old new true answer i = (refl, i.1)
 called_by x plan s m n old new false answer i = absurd i
 
-module _ (x : Storage) (cpu : Cpu) (plan : Placement) (s : Session) (m : SessionJob) (t : Task) (ordered : IsInOrderButPlaces s) (h : RepresentsSession x cpu plan s) (runs : IsRunning plan s.jobs m t) where
+module _ (x : Storage) (cpu : Cpu) (plan : Placement) (s : Session) (m : SessionJob) (t : Task) (ordered : IsInOrderButCounts s) (h : RepresentsSession x cpu plan s) (runs : IsRunning plan s.jobs m t) where
   -- a couple that leads to a procedure
   pub couple_leads : (q : Place) (couple : ℕ) (w : Tagged) → couple < 2 ^ 14 → w ≡ irw_word (record { couple = couple }) → (p : AtProcedure (chase (here m t q) (Name couple)))
       → Leads cpu (here_scene x cpu plan s m t ordered h runs) q w p.frame p.segment p.level p.place

@@ -11,7 +11,8 @@ use Rattle.b67_model.specs.Answers.{Answer, ◌>>◌, needs}
 use Rattle.b67_model.specs.Chase.{AtProc}
 use Rattle.b67_model.specs.Entry.{accident, back_to}
 use Rattle.b67_model.specs.Environment.{level_of_frame}
-use Rattle.b67_model.specs.InOrder.{NamesEntered, IsInOrderButPlaces}
+use Rattle.b67_model.specs.InOrder.{NamesEntered}
+use Rattle.b67_layout.specs.Orders.{IsInOrderButCounts}
 use Rattle.b67_model.specs.Keyed.{change_keyed}
 use Rattle.b67_lemmas.specs.Lists.{Has}
 use Rattle.b67_lemmas.proofs.Members.{change_twice, change_found, keyed-has}
@@ -64,8 +65,8 @@ entered_by job t size level wanted segment place f below tasks =
     let T : Task = record t { frames = f ∷ below; segment = segment; place = place } in
     needs (level + 1 == wanted) InvalidOperand >> (needs (nat_le (height (f ∷ below)) size) StackOverflow >> Ok (Goes (record job { next_frame = job.next_frame + 1; tasks = change_keyed (λ (u : Task). u.number) t.number (λ (u : Task). T) tasks }) [] None))
 
-module _ (x : Storage) (old : Cpu) (plan : Placement) (s : Session) (m : SessionJob) (t : Task) (ordered : IsInOrderButPlaces s) (h : RepresentsSession x old plan s) (runs : IsRunning plan s.jobs m t) (cs : List Word)
-    (ordered0 : IsInOrderButPlaces (with_job s m (with_task m.progress.job (task_with t cs t.place)))) (cpu0 : Cpu) (level0 : ℕ)
+module _ (x : Storage) (old : Cpu) (plan : Placement) (s : Session) (m : SessionJob) (t : Task) (ordered : IsInOrderButCounts s) (h : RepresentsSession x old plan s) (runs : IsRunning plan s.jobs m t) (cs : List Word)
+    (ordered0 : IsInOrderButCounts (with_job s m (with_task m.progress.job (task_with t cs t.place)))) (cpu0 : Cpu) (level0 : ℕ)
     (critical : cpu0.critical ≡ old.critical)
     (holds0 : SessionHoldsBut [] x cpu0.core (record old.regs { s = level0 }) old.critical plan (with_job s m (with_task m.progress.job (task_with t cs t.place)))) where
   abbrev pub task0 : Task

@@ -8,7 +8,8 @@ use Rattle.b67_model.specs.Answers.{Answer, ◌>>=◌}
 use Rattle.b67_model.specs.Chase as Chase
 use Rattle.b67_model.specs.Chase.{AtProc, follow}
 use Rattle.b67_model.specs.Entry.{accident, back_to}
-use Rattle.b67_model.specs.InOrder.{Starts, Known, known_of, outer_of, is_original_of, IsSegment, CellsInOrder, FramesInOrder, IsInOrderButPlaces}
+use Rattle.b67_model.specs.InOrder.{Starts, Known, known_of, outer_of, is_original_of, IsSegment, CellsInOrder, FramesInOrder}
+use Rattle.b67_layout.specs.Orders.{IsInOrderButCounts}
 use Rattle.b67_model.specs.Intrinsics.{is_original}
 use Rattle.b67_lemmas.specs.Lists.{how_many}
 use Rattle.b67_model.specs.Rows as rows
@@ -72,7 +73,7 @@ pub some_cells : (m : SessionJob) (t : Task) (q : Place) (cs : List Word) → en
 some_cells m t q [] e = absurd (let z : ⊥ = cc in z)
 some_cells m t q (a ∷ rest) e = omega arith
 
-module _ (x : Storage) (cpu : Cpu) (plan : Placement) (s : Session) (m : SessionJob) (t : Task) (ordered : IsInOrderButPlaces s) (h : RepresentsSession x cpu plan s) (runs : IsRunning plan s.jobs m t) (q : Place)
+module _ (x : Storage) (cpu : Cpu) (plan : Placement) (s : Session) (m : SessionJob) (t : Task) (ordered : IsInOrderButCounts s) (h : RepresentsSession x cpu plan s) (runs : IsRunning plan s.jobs m t) (q : Place)
     (enters : enters_at (top_end (here m t q) (cells t)) ≡ true) where
   -- the registers and their bounds
   pub bounds : (cpu.regs.s < length cpu.core) × (1 ≤ cpu.regs.s)
@@ -104,7 +105,7 @@ module _ (x : Storage) (cpu : Cpu) (plan : Placement) (s : Session) (m : Session
     plain = followed_plain x m t q top_is.word (AtProc at_end.frame at_end.segment at_end.level at_end.place) at_end.is
 
     -- the session without the top cell
-    pub ordered_without : IsInOrderButPlaces (with_job s m (with_task m.progress.job (task_with t top_is.rest t.place)))
+    pub ordered_without : IsInOrderButCounts (with_job s m (with_task m.progress.job (task_with t top_is.rest t.place)))
     ordered_without =
         let i = running_in_order plan s m t ordered runs in
         cells_in_order plan s m t ordered runs top_is.rest t.place (tail_order (IsSegment m.constants) m.progress.job.arrays (outer_of m.progress.job t) t.frames top_is.word top_is.rest i.1.frames top_is.is)

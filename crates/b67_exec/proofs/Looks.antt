@@ -18,7 +18,8 @@ use Rattle.b67_model.specs.State as State
 use Rattle.b67_model.specs.State.{Frame, Task, Job, SessionJob, OperatorContext, top, with_top_cells, with_task, all_frames, frame, no_frame}
 use Rattle.b67_model.specs.Environment.{level_of_frame}
 use Rattle.b67_model.specs.Cells.{cell, cell_of, first_offset}
-use Rattle.b67_model.specs.InOrder.{Known, known_of, from_frame, frames_of_task, critical_of, outer_reach, reach_of, IsInOrderButPlaces}
+use Rattle.b67_model.specs.InOrder.{Known, known_of, from_frame, frames_of_task, critical_of, outer_reach, reach_of}
+use Rattle.b67_layout.specs.Orders.{IsInOrderButCounts}
 use Rattle.b67_model.specs.Schedule.{Session}
 use Rattle.b67_stack.specs.Stacks.{StackPlace}
 use Rattle.b67_layout.specs.Placement.{Placement, slot_of, spot_in, outer_spots, spots}
@@ -98,7 +99,7 @@ cell_other f gone rest put offset w e found other = ⊎_elim
     rw t (get_other gone rest put (offset - first_offset f) w (ap (λ xs. slice_get (reverse xs) (offset - first_offset f)) (sym e) ∙ at) other))
     (cases_Bool (nat_lt offset (first_offset f)))
 
-module _ (plan : Placement) (s : Session) (m : SessionJob) (t : Task) (ordered : IsInOrderButPlaces s) (runs : IsRunning plan s.jobs m t) (cs : List Word) (p : Place) where
+module _ (plan : Placement) (s : Session) (m : SessionJob) (t : Task) (ordered : IsInOrderButCounts s) (runs : IsRunning plan s.jobs m t) (cs : List Word) (p : Place) where
   abbrev pub job_with : Job
   job_with = with_task m.progress.job (task_with t cs p)
 

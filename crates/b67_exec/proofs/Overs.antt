@@ -8,7 +8,8 @@ use Rattle.b67_ctl.specs.Layout.{IsPlace}
 use Rattle.b67_ctl.specs.declared.registers.Regs.{Regs}
 use Rattle.b67_model.specs.Chase.{AtProc, follow}
 use Rattle.b67_model.specs.Entry.{accident, back_to}
-use Rattle.b67_model.specs.InOrder.{Starts, IsSegment, Known, known_of, outer_of, FramesInOrder, WordInOrder, IsInOrderButPlaces}
+use Rattle.b67_model.specs.InOrder.{Starts, IsSegment, Known, known_of, outer_of, FramesInOrder, WordInOrder}
+use Rattle.b67_layout.specs.Orders.{IsInOrderButCounts}
 use Rattle.b67_model.specs.Rows as rows
 use Rattle.b67_model.specs.Schedule.{Session}
 use Rattle.b67_model.specs.State.{Frame, Array, Task, SessionJob, top}
@@ -49,7 +50,7 @@ Enters cpu r cell back result new =
     (a : RunningContext cpu.core r) (q : Place) (f segment level : ℕ) (place : Place) → CanEnter cpu r a q cell f segment level place
     → EntersOrFaults a result cpu new (accident (here a.member a.task q) (cells_of (here a.member a.task q)) (back_to (here a.member a.task q) false back) (AtProc f segment level place))
 
-module _ (x : Storage) (cpu : Cpu) (plan : Placement) (s : Session) (m : SessionJob) (t : Task) (ordered : IsInOrderButPlaces s) (h : RepresentsSession x cpu plan s) (runs : IsRunning plan s.jobs m t) (q : Place) (u v : Tagged) (o : ValueOver cpu x plan m t q u v) where
+module _ (x : Storage) (cpu : Cpu) (plan : Placement) (s : Session) (m : SessionJob) (t : Task) (ordered : IsInOrderButCounts s) (h : RepresentsSession x cpu plan s) (runs : IsRunning plan s.jobs m t) (q : Place) (u v : Tagged) (o : ValueOver cpu x plan m t q u v) where
   abbrev pub proc_of : AtProcedure (follow (here m t q) o.reference)
   proc_of = record { frame = o.frame; segment = o.segment; level = o.level; place = o.place; is = o.ends }
 

@@ -12,7 +12,8 @@ use Rattle.b67_model.specs.Answers.{Answer, ◌>>=◌}
 use Rattle.b67_model.specs.Chase as Chase
 use Rattle.b67_model.specs.Chase.{AtProc, follow}
 use Rattle.b67_model.specs.Entry.{accident, back_to}
-use Rattle.b67_model.specs.InOrder.{Starts, Known, known_of, outer_of, is_original_of, IsSegment, CellsInOrder, FramesInOrder, IsInOrderButPlaces}
+use Rattle.b67_model.specs.InOrder.{Starts, Known, known_of, outer_of, is_original_of, IsSegment, CellsInOrder, FramesInOrder}
+use Rattle.b67_layout.specs.Orders.{IsInOrderButCounts}
 use Rattle.b67_model.specs.Intrinsics.{is_original}
 use Rattle.b67_lemmas.specs.Lists.{Has, how_many}
 use Rattle.b67_lemmas.proofs.Places.{set-back}
@@ -102,13 +103,13 @@ no_proc h bits a f segment level place e g l p (inl z) = cc
 no_proc h bits a f segment level place e g l p (inr (inl z)) = let k : follow h (Proc g l p) ≡ Ok (AtProc f segment level place) = ap (follow h) (sym z) ∙ e in let b : ⊥ = cc in b
 no_proc h bits a f segment level place e g l p (inr (inr z)) = z
 
-module _ (x : Storage) (cpu : Cpu) (plan : Placement) (s : Session) (m : SessionJob) (t : Task) (ordered : IsInOrderButPlaces s) (h : RepresentsSession x cpu plan s) (runs : IsRunning plan s.jobs m t) (q : Place)
+module _ (x : Storage) (cpu : Cpu) (plan : Placement) (s : Session) (m : SessionJob) (t : Task) (ordered : IsInOrderButCounts s) (h : RepresentsSession x cpu plan s) (runs : IsRunning plan s.jobs m t) (q : Place)
     (bits : ℕ) (a : Word) (rest : List Word) (e : cells t ≡ Operand bits ∷ a ∷ rest) (p : AtProcedure (follow (here m t q) a)) (u v : Tagged)
     (at_u : IsAt x plan m t cpu.core a (cpu.regs.s - 1) u) (at_v : IsAt x plan m t cpu.core (Operand bits) cpu.regs.s v) (enough : cpu.regs.f + 2 ≤ cpu.regs.s) where
   plain : is_original a ≡ false
   plain = leads_plain (here m t q) a p.frame p.segment p.level p.place p.is
 
-  pub under_ordered : IsInOrderButPlaces (with_job s m (with_task m.progress.job (task_with t (Operand bits ∷ rest) t.place)))
+  pub under_ordered : IsInOrderButCounts (with_job s m (with_task m.progress.job (task_with t (Operand bits ∷ rest) t.place)))
   under_ordered =
       let i = running_in_order plan s m t ordered runs in
       let tall = height-with t.frames (Operand bits ∷ rest) i.1.some in

@@ -17,7 +17,7 @@ use Rattle.b67_model.specs.Keyed.{keyed}
 use Rattle.b67_model.specs.State.{Array, Task, SessionJob}
 use Rattle.b67_model.specs.Run.{number_of}
 use Rattle.b67_model.specs.Schedule.{Session}
-use Rattle.b67_model.specs.InOrder.{IsInOrderButPlaces}
+use Rattle.b67_layout.specs.Orders.{IsInOrderButCounts}
 use Rattle.b67_stack.specs.declared.Cpu.{Cpu}
 use Rattle.b67_stack.specs.Shapes.{Location, LieUpward}
 use Rattle.b67_stack.specs.MachineView.{PagedObject, is_present, address_or, home_desc, home_word, tag_of}
@@ -46,7 +46,7 @@ upward-get core tag at [] i low u = absurd (omega (arith, low))
 upward-get core tag at (n ∷ ns) zero low u = ap (slice_get core) (let e : at + 0 ≡ at = omega arith in e) ∙ u.0
 upward-get core tag at (n ∷ ns) (suc i) low u = ap (slice_get core) (let e : at + suc i ≡ at + 1 + i = omega arith in e) ∙ upward-get core tag (at + 1) ns i (omega (arith, low)) u.1
 
-module _ (x : Storage) (cpu : Cpu) (plan : Placement) (s : Session) (m : SessionJob) (t : Task) (ordered : IsInOrderButPlaces s) (h : RepresentsSession x cpu plan s) (runs : IsRunning plan s.jobs m t) (n index : ℕ) (e : HasElement m.progress.job n index) where
+module _ (x : Storage) (cpu : Cpu) (plan : Placement) (s : Session) (m : SessionJob) (t : Task) (ordered : IsInOrderButCounts s) (h : RepresentsSession x cpu plan s) (runs : IsRunning plan s.jobs m t) (n index : ℕ) (e : HasElement m.progress.job n index) where
   held : Location
   held = x.held (plan.home m.constants.number n)
 
@@ -142,6 +142,8 @@ module _ (x : Storage) (cpu : Cpu) (plan : Placement) (s : Session) (m : Session
   -- a copy of the descriptor is a row copy
   pub present-copy : (d : DataDesc) (w : Tagged) (at : ℕ) → d ≡ original_desc x plan m n → d.present ≡ true → w ≡ data_word (record d { copy = true }) → IsWordOf x plan m t (Row n) at w
   present-copy d w at is on made = record {
+    number = length (array m.progress.job n).numbers;
+    numbered = (omega (arith, inside), long);
     present = true;
     address = d.address;
     fits = record { words = omega (arith, long); address = (let a = area-inside d.address (present d is on) in omega (arith, a, bound)); indexed = λ z. absurd (false≢true z) };
@@ -153,6 +155,8 @@ module _ (x : Storage) (cpu : Cpu) (plan : Placement) (s : Session) (m : Session
 
   pub absent-copy : (d : DataDesc) (w : Tagged) (at : ℕ) → d ≡ original_desc x plan m n → d.present ≡ false → w ≡ data_word (record d { copy = true; address = plan.home m.constants.number n }) → IsWordOf x plan m t (Row n) at w
   absent-copy d w at is off made = record {
+    number = length (array m.progress.job n).numbers;
+    numbered = (omega (arith, inside), long);
     present = false;
     address = plan.home m.constants.number n;
     fits = record { words = omega (arith, long); address = omega (arith, home-inside, bound); indexed = λ z. absurd (false≢true z) };

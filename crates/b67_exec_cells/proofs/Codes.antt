@@ -16,7 +16,8 @@ use Rattle.b67_model.specs.Operators.{Reading, operator_at}
 use Rattle.b67_model.specs.Rows.{code_of, reading_of}
 use Rattle.b67_model.specs.Run.{number_of}
 use Rattle.b67_model.specs.Schedule.{Session}
-use Rattle.b67_model.specs.InOrder.{SegmentInOrder, IsInOrderButPlaces}
+use Rattle.b67_model.specs.InOrder.{SegmentInOrder}
+use Rattle.b67_layout.specs.Orders.{IsInOrderButCounts}
 use Rattle.b67_stack.specs.declared.Cpu.{Cpu}
 use Rattle.b67_stack.specs.MachineView.{PagedObject, is_present, address_or}
 use Rattle.b67_stack.specs.Represents.{Storage, Content, RepresentsObject, info_of}
@@ -41,7 +42,7 @@ contents-words : (tag : ℕ) (ns : List ℕ) → contents (map (word tag) ns) �
 contents-words tag [] = refl
 contents-words tag (n ∷ ns) = ap (λ ms. n ∷ ms) (contents-words tag ns)
 
-module _ (x : Storage) (cpu : Cpu) (plan : Placement) (s : Session) (m : SessionJob) (t : Task) (ordered : IsInOrderButPlaces s) (h : RepresentsSession x cpu plan s) (runs : IsRunning plan s.jobs m t) where
+module _ (x : Storage) (cpu : Cpu) (plan : Placement) (s : Session) (m : SessionJob) (t : Task) (ordered : IsInOrderButCounts s) (h : RepresentsSession x cpu plan s) (runs : IsRunning plan s.jobs m t) where
   has_m : Has s.jobs m
   has_m = keyed-has number_of m.constants.number s.jobs m runs.member
 

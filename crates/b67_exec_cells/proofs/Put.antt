@@ -17,7 +17,7 @@ use Rattle.b67_model.specs.State.{Task, Job, SessionJob, with_top_cells, height,
 use Rattle.b67_model.specs.Steps.{leaves_cells}
 use Rattle.b67_model.specs.Run.{number_of}
 use Rattle.b67_model.specs.Schedule.{Session}
-use Rattle.b67_model.specs.InOrder.{IsInOrderButPlaces}
+use Rattle.b67_layout.specs.Orders.{IsInOrderButCounts}
 use Rattle.b67_stack.specs.declared.Cpu.{Cpu}
 use Rattle.b67_stack.specs.Shapes.{Shape, Fits}
 use Rattle.b67_stack.specs.Stacks.{StackPlace, Activation, stack_words, top_mark}
@@ -42,7 +42,7 @@ use Rattle.b67_exec_cells.specs.Tops.{IsWordOf, IsAt, cells, GivesTop, GivesTwo,
 use Rattle.b67_exec_cells.proofs.Replaced.{cells-are, height-with, shapes_plain, may_push, Represents-less, Represents-put, word_under}
 use Rattle.b67_lemmas.proofs.Members.{keyed-has}
 
-module _ (x : Storage) (old : Cpu) (plan : Placement) (s : Session) (m : SessionJob) (t : Task) (ordered : IsInOrderButPlaces s) (h : RepresentsSession x old plan s) (runs : IsRunning plan s.jobs m t) where
+module _ (x : Storage) (old : Cpu) (plan : Placement) (s : Session) (m : SessionJob) (t : Task) (ordered : IsInOrderButCounts s) (h : RepresentsSession x old plan s) (runs : IsRunning plan s.jobs m t) where
   -- the running stack, and the shapes of its top cells
   abbrev pub stack : List Activation
   stack = stack_of_task plan m.constants.number m.progress.job plan.running t

@@ -21,7 +21,8 @@ use Rattle.b67_word.specs.declared.faults.Fault.TheVariants.{InvalidOperator}
 use Rattle.b67_model.specs.Steps.{leaves_cells}
 use Rattle.b67_model.specs.Rows.{is_proc, proc_of, mpcw}
 use Rattle.b67_model.specs.Schedule.{Session}
-use Rattle.b67_model.specs.InOrder.{OwnsArray, EntryInOrder, DictionaryWords, IsInOrderButPlaces}
+use Rattle.b67_model.specs.InOrder.{OwnsArray, EntryInOrder, DictionaryWords}
+use Rattle.b67_layout.specs.Orders.{IsInOrderButCounts}
 use Rattle.b67_stack.specs.declared.Cpu.{Cpu}
 use Rattle.b67_stack.specs.Shapes.{Location}
 use Rattle.b67_stack.specs.MachineView.{home_word_of, home_word}
@@ -53,7 +54,7 @@ and_none : (a b c : Bool) → (a && b) ≡ false → (b ≡ false → c ≡ fals
 and_none true b c e f = f e
 and_none false b c e f = refl
 
-module _ (x : Storage) (cpu : Cpu) (plan : Placement) (s : Session) (m : SessionJob) (t : Task) (ordered : IsInOrderButPlaces s) (h : RepresentsSession x cpu plan s) (runs : IsRunning plan s.jobs m t) where
+module _ (x : Storage) (cpu : Cpu) (plan : Placement) (s : Session) (m : SessionJob) (t : Task) (ordered : IsInOrderButCounts s) (h : RepresentsSession x cpu plan s) (runs : IsRunning plan s.jobs m t) where
   has_m : Has s.jobs m
   has_m = keyed-has number_of m.constants.number s.jobs m runs.member
 

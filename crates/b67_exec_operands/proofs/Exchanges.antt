@@ -11,7 +11,7 @@ use Rattle.b67_model.specs.Words.{Word}
 use Rattle.b67_model.specs.State.{Task, SessionJob}
 use Rattle.b67_model.specs.Run.{number_of}
 use Rattle.b67_model.specs.Schedule.{Session}
-use Rattle.b67_model.specs.InOrder.{IsInOrderButPlaces}
+use Rattle.b67_layout.specs.Orders.{IsInOrderButCounts}
 use Rattle.b67_model.specs.Steps.{Done, leaves_cells}
 use Rattle.b67_model.specs.Rows.{on_cells, exch}
 use Rattle.b67_model.specs.Intrinsics.{is_original}
@@ -62,7 +62,7 @@ module _ (x : Storage) (core : List Tagged) (r : Regs) (p : MachineView) (k : �
       let P : MachineView → Type 0 = λ z. Represents x (slice_set (slice_set core (r.s - 1) v) r.s w) (record r { place = q }) z in
       (subst P same both.0, subst NoOriginalAboveTop same both.1)
 
-module _ (x : Storage) (old : Cpu) (plan : Placement) (s : Session) (m : SessionJob) (t : Task) (ordered : IsInOrderButPlaces s) (h : RepresentsSession x old plan s) (runs : IsRunning plan s.jobs m t) where
+module _ (x : Storage) (old : Cpu) (plan : Placement) (s : Session) (m : SessionJob) (t : Task) (ordered : IsInOrderButCounts s) (h : RepresentsSession x old plan s) (runs : IsRunning plan s.jobs m t) where
   pub exchanged : (u v : Tagged) (q : Place) (b a : Word) (rest : List Word) → cells t ≡ b ∷ a ∷ rest → old.regs.f + 2 ≤ old.regs.s → is_original a ≡ false → is_original b ≡ false → MayStand m.progress.job a → MayStand m.progress.job b
       → IsWordOf x plan m t a old.regs.s u → IsWordOf x plan m t b (old.regs.s - 1) v
       → IsMade x plan s m old (record old { core = slice_set (slice_set old.core (old.regs.s - 1) v) old.regs.s u; regs = record old.regs { place = q } }) (leaves_cells (here m t q) (a ∷ b ∷ rest) None)

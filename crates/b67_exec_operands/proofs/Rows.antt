@@ -10,7 +10,8 @@ use Rattle.b67_model.specs.Answers.{Answer, ◌>>=◌}
 use Rattle.b67_model.specs.Words as Words
 use Rattle.b67_model.specs.Words.{Word, Operand, Name, Ref, Row, Element, Original, Proc, Intrinsic, operand}
 use Rattle.b67_model.specs.State.{Frame, Array, Task, Job, SessionJob, top}
-use Rattle.b67_model.specs.InOrder.{Starts, IsSegment, Known, known_of, outer_of, FramesInOrder, WordInOrder, IsInOrderButPlaces}
+use Rattle.b67_model.specs.InOrder.{Starts, IsSegment, Known, known_of, outer_of, FramesInOrder, WordInOrder}
+use Rattle.b67_layout.specs.Orders.{IsInOrderButCounts}
 use Rattle.b67_model.specs.Arithmetic.{Binary}
 use Rattle.b67_model.specs.Steps.{Done, leaves_cells}
 use Rattle.b67_model.specs.Intrinsics.{is_original}
@@ -106,7 +107,7 @@ may_stand P job reach owner (Intrinsic k) o n = tt
 may_stand P job reach owner (Words.Segment k) o n = tt
 
 -- the top cell may be put on the stack again
-pub top_may_stand : (plan : Placement) (s : Session) (m : SessionJob) (t : Task) → IsInOrderButPlaces s → IsRunning plan s.jobs m t → (a : Word) (rest : List Word) → cells t ≡ a ∷ rest → is_original a ≡ false → MayStand m.progress.job a
+pub top_may_stand : (plan : Placement) (s : Session) (m : SessionJob) (t : Task) → IsInOrderButCounts s → IsRunning plan s.jobs m t → (a : Word) (rest : List Word) → cells t ≡ a ∷ rest → is_original a ≡ false → MayStand m.progress.job a
 top_may_stand plan s m t ordered runs a rest e n =
     let o = in_order (IsSegment m.constants) m.progress.job.arrays (outer_of m.progress.job t) t.frames a rest (running_in_order plan s m t ordered runs).1.frames e in
     may_stand (IsSegment m.constants) m.progress.job o.0 o.1 a o.2 n
@@ -119,7 +120,7 @@ two_in_order P arrays outer (f ∷ below) b a rest o e =
     let A : List Word → Type 0 = λ cs. AllByRecursion (WordInOrder P arrays (map known_of (f ∷ below) ++ outer) f.identity) cs in
     (map known_of (f ∷ below) ++ outer, f.identity, (subst A e o.0.0).1.0)
 
-pub two_may_stand : (plan : Placement) (s : Session) (m : SessionJob) (t : Task) → IsInOrderButPlaces s → IsRunning plan s.jobs m t → (b a : Word) (rest : List Word) → cells t ≡ b ∷ a ∷ rest → is_original b ≡ false → is_original a ≡ false
+pub two_may_stand : (plan : Placement) (s : Session) (m : SessionJob) (t : Task) → IsInOrderButCounts s → IsRunning plan s.jobs m t → (b a : Word) (rest : List Word) → cells t ≡ b ∷ a ∷ rest → is_original b ≡ false → is_original a ≡ false
     → MayStand m.progress.job a × MayStand m.progress.job b
 two_may_stand plan s m t ordered runs b a rest e nb na =
     let o = two_in_order (IsSegment m.constants) m.progress.job.arrays (outer_of m.progress.job t) t.frames b a rest (running_in_order plan s m t ordered runs).1.frames e in
@@ -240,7 +241,7 @@ module _ (x : Storage) (old : Cpu) (plan : Placement) (s : Session) (m : Session
         let n : is_original a ≡ false = plain a (subst P same g.2.is) in
         rw n (drops (a ∷ []) rest e refl (n, tt))
 
-  pub doubled_top : IsInOrderButPlaces s → IsRunning plan s.jobs m t → (r : Step) (new : Cpu) (u : Tagged) → GivesTop x plan m t old (cells t) (Ok u) → ((w : Word) → IsWordOf x plan m t w old.regs.s u → is_original w ≡ false) → Replaces 0 u r new
+  pub doubled_top : IsInOrderButCounts s → IsRunning plan s.jobs m t → (r : Step) (new : Cpu) (u : Tagged) → GivesTop x plan m t old (cells t) (Ok u) → ((w : Word) → IsWordOf x plan m t w old.regs.s u → is_original w ≡ false) → Replaces 0 u r new
       → Meets x plan s m r old new (on_cells dupl (here m t q))
   doubled_top ordered runs r new u given plain replaces = by_cells (cells t) refl given where
     by_cells : (cs : List Word) → cells t ≡ cs → GivesTop x plan m t old cs (Ok u) → Meets x plan s m r old new (dupl cs >>= λ ds. leaves_cells (here m t q) ds None)

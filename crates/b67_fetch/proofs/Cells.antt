@@ -12,7 +12,8 @@ use Rattle.b67_model.specs.Cells.{with_cell}
 use Rattle.b67_model.specs.Intrinsics.{is_original}
 use Rattle.b67_model.specs.Schedule.{Session}
 use Rattle.b67_model.specs.Steps.{Goes, with_cells}
-use Rattle.b67_model.specs.InOrder.{IsInOrderButPlaces, IsEntered}
+use Rattle.b67_model.specs.InOrder.{IsEntered}
+use Rattle.b67_layout.specs.Orders.{IsInOrderButCounts}
 use Rattle.b67_stack.specs.declared.Cpu.{Cpu}
 use Rattle.b67_stack.specs.MachineView.{PagedObject}
 use Rattle.b67_stack.specs.Represents.{Storage}
@@ -96,7 +97,7 @@ kept_value : (b : Bool) (i : ℕ) (w : Word) (rest : List Word) → stored b i w
 kept_value true i w rest = ap (λ v. v ∷ put i w rest) (same_choice (i == length rest) w)
 kept_value false i w rest = refl
 
-module _ (x : Storage) (old : Cpu) (plan : Placement) (s : Session) (m : SessionJob) (t : Task) (o : IsInOrderButPlaces s) (h : RepresentsSession x old plan s) (runs : IsRunning plan s.jobs m t) (q : Place)
+module _ (x : Storage) (old : Cpu) (plan : Placement) (s : Session) (m : SessionJob) (t : Task) (o : IsInOrderButCounts s) (h : RepresentsSession x old plan s) (runs : IsRunning plan s.jobs m t) (q : Place)
     (at f offset old_bits bits : ℕ) (cell : IsCellAt (Scenes.scene [] x old.core old.regs old.critical plan s m t o h.holds runs) q at f offset (Operand old_bits)) where
   abbrev scene : RunningContext old.core old.regs
   scene = Scenes.scene [] x old.core old.regs old.critical plan s m t o h.holds runs

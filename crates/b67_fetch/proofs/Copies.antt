@@ -6,7 +6,7 @@ use Rattle.b67_ctl.specs.Descriptors.{data_word, IsDataDesc}
 use Rattle.b67_model.specs.Words.{Element}
 use Rattle.b67_model.specs.State.{Task, SessionJob}
 use Rattle.b67_model.specs.Schedule.{Session}
-use Rattle.b67_model.specs.InOrder.{IsInOrderButPlaces}
+use Rattle.b67_layout.specs.Orders.{IsInOrderButCounts}
 use Rattle.b67_stack.specs.declared.Cpu.{Cpu}
 use Rattle.b67_stack.specs.Represents.{Storage}
 use Rattle.b67_layout.specs.Placement.{Placement}
@@ -18,7 +18,7 @@ use Rattle.b67_exec_cells.proofs.Arrays as arrays
 abbrev pub item_desc : DataDesc → Bool → ℕ → ℕ → DataDesc
 item_desc d present index address = record { present = present; copy = true; indexed = true; read_only = d.read_only; length = index; address = address }
 
-module _ (x : Storage) (cpu : Cpu) (plan : Placement) (s : Session) (m : SessionJob) (t : Task) (ordered : IsInOrderButPlaces s) (h : RepresentsSession x cpu plan s) (runs : IsRunning plan s.jobs m t) (n index : ℕ) (e : HasElement m.progress.job n index) where
+module _ (x : Storage) (cpu : Cpu) (plan : Placement) (s : Session) (m : SessionJob) (t : Task) (ordered : IsInOrderButCounts s) (h : RepresentsSession x cpu plan s) (runs : IsRunning plan s.jobs m t) (n index : ℕ) (e : HasElement m.progress.job n index) where
   small : index < 2 ^ 20
   small = let i = arrays.inside x cpu plan s m t ordered h runs n index e in let l = arrays.long x cpu plan s m t ordered h runs n index e in omega (arith, i, l)
 
@@ -37,6 +37,8 @@ module _ (x : Storage) (cpu : Cpu) (plan : Placement) (s : Session) (m : Session
 
   pub present-item : (d : DataDesc) (w : Tagged) (at : ℕ) → d ≡ original_desc x plan m n → d.present ≡ true → w ≡ data_word (item_desc d d.present index d.address) → IsWordOf x plan m t (Element n index) at w
   present-item d w at is on made = record {
+    number = index;
+    numbered = refl;
     present = true;
     address = d.address;
     fits = record { words = small; address = (item-fits d is).address; indexed = λ z. refl };
@@ -46,6 +48,8 @@ module _ (x : Storage) (cpu : Cpu) (plan : Placement) (s : Session) (m : Session
 
   pub absent-item : (d : DataDesc) (w : Tagged) (at : ℕ) → d ≡ original_desc x plan m n → d.present ≡ false → w ≡ data_word (item_desc d d.present index (plan.home m.constants.number n)) → IsWordOf x plan m t (Element n index) at w
   absent-item d w at is off made = record {
+    number = index;
+    numbered = refl;
     present = false;
     address = plan.home m.constants.number n;
     fits = record { words = small; address = low; indexed = λ z. refl };

@@ -12,7 +12,7 @@ use Rattle.b67_model.specs.State.{Array, Task, Job, SessionJob, with_task}
 use Rattle.b67_model.specs.Arrays.{array, no_array, with_element}
 use Rattle.b67_model.specs.Schedule.{Session}
 use Rattle.b67_model.specs.Steps.{Goes, with_cells}
-use Rattle.b67_model.specs.InOrder.{IsInOrderButPlaces}
+use Rattle.b67_layout.specs.Orders.{IsInOrderButCounts}
 use Rattle.b67_stack.specs.declared.Cpu.{Cpu}
 use Rattle.b67_stack.specs.MachineView.{PagedObject}
 use Rattle.b67_stack.specs.Represents.{Storage}
@@ -31,7 +31,7 @@ use Rattle.b67_layout_store.proofs.Objects.{identities_kept}
 use Rattle.b67_layout_store.proofs.Machine.{RepresentsSession-element, still_runs}
 use Rattle.b67_fetch.proofs.Finishes.{finish_drop, finish_keep}
 
-module _ (x : Storage) (old : Cpu) (plan : Placement) (s : Session) (m : SessionJob) (t : Task) (o : IsInOrderButPlaces s) (h : RepresentsSession x old plan s) (runs : IsRunning plan s.jobs m t) (q : Place)
+module _ (x : Storage) (old : Cpu) (plan : Placement) (s : Session) (m : SessionJob) (t : Task) (o : IsInOrderButCounts s) (h : RepresentsSession x old plan s) (runs : IsRunning plan s.jobs m t) (q : Place)
     (a : Array) (found : keyed (λ (z : Array). z.identity) a.identity m.progress.job.arrays ≡ Some a) (writable : a.writable ≡ true) (i bits b : ℕ) (low : i < length a.numbers) (held : (x.held (plan.home m.constants.number a.identity)).area ≡ Some b) where
   abbrev job1 : Job
   job1 = with_element m.progress.job a.identity i bits

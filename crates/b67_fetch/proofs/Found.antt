@@ -14,12 +14,13 @@ use Rattle.b67_model.specs.Words.{Word, Operand, Name, Ref, Row, Element, Origin
 use Rattle.b67_model.specs.State.{Task, SessionJob}
 use Rattle.b67_model.specs.Chase as Chase
 use Rattle.b67_model.specs.Chase.{AtCell, AtElement, AtArray, AtProc, AtIntrinsic, follow}
-use Rattle.b67_model.specs.Arrays.{array_of, array_at}
+use Rattle.b67_model.specs.Indexing.{array_of, array_at}
 use Rattle.b67_model.specs.Schedule.{Session}
-use Rattle.b67_model.specs.InOrder.{IsInOrderButPlaces}
+use Rattle.b67_layout.specs.Orders.{IsInOrderButCounts}
 use Rattle.b67_refer.specs.declared.ends.End.{End}
 use Rattle.b67_refer.specs.declared.ends.End.TheVariants as end
 use Rattle.b67_refer.specs.Ends.{IsCopyOf}
+use Rattle.b67_refer.proofs.Items.{not_empty}
 use Rattle.b67_refer.proofs.Links.{Described, own, row, item, described}
 use Rattle.b67_stack.specs.declared.Cpu.{Cpu}
 use Rattle.b67_stack.specs.Represents.{Storage}
@@ -87,7 +88,7 @@ module _ (x : Storage) (plan : Placement) (m : SessionJob) (t : Task) (q : Place
   found_fault core w v fault i ne e = subst (FindsArray plan m (Err fault)) (sym (not_row w v i ne)) (refused core fault (follow (here m t q) v) e)
 
 -- a descriptor
-module _ (x : Storage) (cpu : Cpu) (plan : Placement) (s : Session) (m : SessionJob) (t : Task) (ordered : IsInOrderButPlaces s) (h : RepresentsSession x cpu plan s) (runs : IsRunning plan s.jobs m t) (w : Tagged) (v : Word) (i : IsFollowed x plan m t w v) (five : w.tag ≡ 5) where
+module _ (x : Storage) (cpu : Cpu) (plan : Placement) (s : Session) (m : SessionJob) (t : Task) (ordered : IsInOrderButCounts s) (h : RepresentsSession x cpu plan s) (runs : IsRunning plan s.jobs m t) (w : Tagged) (v : Word) (i : IsFollowed x plan m t w v) (five : w.tag ≡ 5) where
   abbrev pub Desc : DataDesc → Type 0
   Desc d = Described cpu.core cpu.regs (here_scene x cpu plan s m t ordered h runs) i.at i.owner v d
 
@@ -108,7 +109,7 @@ module _ (x : Storage) (cpu : Cpu) (plan : Placement) (s : Session) (m : Session
   row_found q d original (item b n e c j k l o) z y found = absurd (true≢false (sym j ∙ y))
   row_found q d original (row b e c j k o) z y found =
       let P : Word → Type 0 = λ u. FindsArray plan m (Ok original) (array_of (here m t q) u) in
-      subst P (sym e) (found (plan.home m.constants.number b) k, record { item = o.item; live = o.live; named = o.named; inside = o.inside })
+      subst P (sym e) (found (plan.home m.constants.number b) k, record { item = o.item; live = o.live; named = o.named; inside = not_empty cpu.core cpu.regs (here_scene x cpu plan s m t ordered h runs) b o })
 
   -- no row copy
   pub no_row : (q : Place) (d : DataDesc) → Desc d → (d.copy ≡ true → d.indexed ≡ false → ⊥) → FindsArray plan m (Err InvalidOperand) (array_of (here m t q) v)

@@ -11,12 +11,14 @@ use Rattle.b67_arith.specs.OnWords.{bits_in}
 use Rattle.b67_model.specs.Answers.{Answer, ◌>>=◌}
 use Rattle.b67_model.specs.Words as Words
 use Rattle.b67_model.specs.Words.{Word, Operand, Name, Ref, Row, Element, Original, Proc, Intrinsic, operand, number}
-use Rattle.b67_model.specs.Arrays.{array, array_of, index_below, indexed, in_order}
+use Rattle.b67_model.specs.Arrays.{array}
+use Rattle.b67_model.specs.Indexing.{array_of, index_below, indexed, in_order}
 use Rattle.b67_model.specs.Intrinsics.{is_original}
 use Rattle.b67_model.specs.State.{Array, Frame, Task, SessionJob, top}
 use Rattle.b67_model.specs.Schedule.{Session}
 use Rattle.b67_model.specs.Steps.{Done}
-use Rattle.b67_model.specs.InOrder.{Starts, IsSegment, Known, known_of, outer_of, FramesInOrder, WordInOrder, IsInOrderButPlaces}
+use Rattle.b67_model.specs.InOrder.{Starts, IsSegment, Known, known_of, outer_of, FramesInOrder, WordInOrder}
+use Rattle.b67_layout.specs.Orders.{IsInOrderButCounts}
 use Rattle.b67_ctl.specs.declared.descriptors.DataDesc.{DataDesc}
 use Rattle.b67_stack.specs.declared.Cpu.{Cpu}
 use Rattle.b67_stack.specs.declared.Step.{Step}
@@ -91,7 +93,7 @@ module _ (plan : Placement) (m : SessionJob) (t : Task) (q : Place) where
   holds_found cpu runs original (Ok n) f = record { runs = runs; number = n; home = f.0; element = f.1 }
   holds_found cpu runs original (Err g) f = absurd f
 
-  module _ (x : Storage) (cpu : Cpu) (s : Session) (ordered : IsInOrderButPlaces s) (h : RepresentsSession x cpu plan s) (runs : IsRunning plan s.jobs m t) (v i : Word) (index : Tagged) (original : ℕ) (d : DataDesc)
+  module _ (x : Storage) (cpu : Cpu) (s : Session) (ordered : IsInOrderButCounts s) (h : RepresentsSession x cpu plan s) (runs : IsRunning plan s.jobs m t) (v i : Word) (index : Tagged) (original : ℕ) (d : DataDesc)
       (zero : index.tag ≡ 0) (same : bits_in index ≡ operand i) (found : FindsArray plan m (Ok original) (array_of (here m t q) v))
       (desc : (n k : ℕ) → original ≡ plan.home m.constants.number n → HasElement m.progress.job n k → d ≡ original_desc x plan m n) where
     length_is : (n : ℕ) → original ≡ plan.home m.constants.number n → HasElement m.progress.job n 0 → d.length ≡ length (array m.progress.job n).numbers
@@ -211,7 +213,7 @@ two_order P arrays outer (f ∷ below) b a rest o e =
     let A : List Word → Type 0 = λ cs. AllByRecursion (WordInOrder P arrays (map known_of (f ∷ below) ++ outer) f.identity) cs in
     let all = subst A e o.0.0 in (all.0, all.1.0)
 
-pub two_followed : (x : Storage) (cpu : Cpu) (plan : Placement) (s : Session) (m : SessionJob) (t : Task) (u v : Tagged) → IsInOrderButPlaces s → IsRunning plan s.jobs m t → GivesTwo x plan m t cpu (cells t) (Ok (u, v)) → TwoFollowed x plan m t u v
+pub two_followed : (x : Storage) (cpu : Cpu) (plan : Placement) (s : Session) (m : SessionJob) (t : Task) (u v : Tagged) → IsInOrderButCounts s → IsRunning plan s.jobs m t → GivesTwo x plan m t cpu (cells t) (Ok (u, v)) → TwoFollowed x plan m t u v
 unfolding first_word second_word
 two_followed x cpu plan s m t u v ordered runs given = by_cells (cells t) refl given where
   by_cells : (cs : List Word) → cells t ≡ cs → GivesTwo x plan m t cpu cs (Ok (u, v)) → TwoFollowed x plan m t u v

@@ -12,7 +12,7 @@ use Rattle.b67_model.specs.Run.{number_of}
 use Rattle.b67_stack.specs.Stacks.{StackPlace}
 use Rattle.b67_layout.specs.Placement.{Placement}
 use Rattle.b67_layout.specs.Session.{vector_word}
-use Rattle.b67_refer.specs.RunningContext.{RunningContext}
+use Rattle.b67_refer.specs.RunningContext.{RunningContext, live_of}
 use Rattle.b67_refer.specs.Cells.{view, frame_at_core}
 use Rattle.b67_refer.proofs.Seats.{seat}
 use Rattle.b67_refer.proofs.Bases.{stacks_is, size_is}
@@ -30,8 +30,8 @@ vector_job plan j parents small = by parents where
 module _ (core : List Tagged) (r : Regs) (a : RunningContext core r) (f base offset : ℕ) (n : NamesEntered (reach_of a.member.progress.job a.task) f) (e : base ≡ frame_at_core a f) where
   pub at_mcp : base ≡ 0 → ◌≡◌ {A = Sirw} (record { stack = 136; disp = 0; offset = offset }) (record { stack = (view a f).stack; disp = (view a f).disp; offset = offset })
   at_mcp zero =
-      let is : f ≡ 0 = is_mcp core r a f base n e zero in
-      let spot : view a f ≡ record { stack = 136; disp = 0 } = ap (view a) is ∙ view_low core r a 0 (omega arith) in
+      let is : f ≡ 0 = is_mcp core r (live_of a) f base n e zero in
+      let spot : view a f ≡ record { stack = 136; disp = 0 } = ap (view a) is ∙ view_low core r (live_of a) 0 (omega arith) in
       ap (λ (z : StackPlace). let k : Sirw = record { stack = z.stack; disp = z.disp; offset = offset } in k) (sym spot)
 
   -- the word of the running slot in the stack vector
@@ -53,21 +53,21 @@ module _ (core : List Tagged) (r : Regs) (a : RunningContext core r) (f base off
 
   pub at_dictionary : (job : ℕ) → base ≢ 0 → base ≡ r.dict → job ≡ a.member.constants.number → ◌≡◌ {A = Sirw} (record { stack = 127 + job; disp = 0; offset = offset }) (record { stack = (view a f).stack; disp = (view a f).disp; offset = offset })
   at_dictionary job some at j =
-      let is : f ≡ 1 = is_dictionary core r a f base n e some at in
-      let spot : view a f ≡ record { stack = 127 + a.member.constants.number; disp = 0 } = ap (view a) is ∙ view_low core r a 1 (omega arith) in
+      let is : f ≡ 1 = is_dictionary core r (live_of a) f base n e some at in
+      let spot : view a f ≡ record { stack = 127 + a.member.constants.number; disp = 0 } = ap (view a) is ∙ view_low core r (live_of a) 1 (omega arith) in
       ap (λ (k : ℕ). let z : Sirw = record { stack = 127 + k; disp = 0; offset = offset } in z) j ∙ ap (λ (z : StackPlace). let k : Sirw = record { stack = z.stack; disp = z.disp; offset = offset } in k) (sym spot)
 
   -- in a slot
   pub in_slot : (size : ℕ) → base ≢ 0 → base ≢ r.dict → size ≡ r.stack_size → (r.stacks ≤ base) × ((base - r.stacks) / size ≡ (view a f).stack) × ((base - r.stacks) % size ≡ (view a f).disp) × (0 < size) × ((view a f).stack < 120) × ((view a f).disp < 2 ^ 14)
   in_slot size some other is =
-      let own = is_task core r a f base n e some other in
-      let b = seat core r a f n.standing n.among own in
-      let at = seat_address core r a a.task.place f n.standing b n.entered own in
-      let low = seat_low core r a f n own in
-      let k = stacks_is core r a in
-      let z : size ≡ a.plan.size = is ∙ size_is core r a in
+      let own = is_task core r (live_of a) f base n e some other in
+      let b = seat core r (live_of a) f n.standing n.among own in
+      let at = seat_address core r (live_of a) a.task.place f n.standing b n.entered own in
+      let low = seat_low core r (live_of a) f n own in
+      let k = stacks_is core r (live_of a) in
+      let z : size ≡ a.plan.size = is ∙ size_is core r (live_of a) in
       let d : base - r.stacks ≡ b.slot * a.plan.size + height b.below = omega (arith, e, at, k) in
-      let h = high_address core r a f n own in
+      let h = high_address core r (live_of a) f n own in
       let few = a.holds.fits.few in
       let small = a.holds.memory.slots.laid.room in
       let used = b.top_is.used in

@@ -3,9 +3,9 @@ use Rattle.std.proofs.Common.{◌≡◌, ℕ, Result, Ok, subst}
 use Rattle.b67_word.specs.Tagged.{Tagged, word}
 use Rattle.b67_word.specs.declared.couples.Place.{Place}
 use Rattle.b67_word.specs.declared.faults.Fault.{Fault}
-use Rattle.b67_model.specs.Arrays.{in_order}
+use Rattle.b67_model.specs.Indexing.{in_order}
 use Rattle.b67_model.specs.Chase.{follow}
-use Rattle.b67_model.specs.InOrder.{IsInOrderButPlaces}
+use Rattle.b67_layout.specs.Orders.{IsInOrderButCounts}
 use Rattle.b67_model.specs.Schedule.{Session}
 use Rattle.b67_model.specs.State.{Task, SessionJob}
 use Rattle.b67_model.specs.Words.{Word, Operand}
@@ -25,7 +25,7 @@ use Rattle.b67_fetch.specs.Stores.{ElementAt}
 use Rattle.b67_fetch.proofs.Values.{here_scene, here_shown, followed_stands}
 use Rattle.b67_fetch.proofs.Words.{Choice, Given, given, is_operand, followed}
 
-module _ (x : Storage) (old : Cpu) (plan : Placement) (s : Session) (m : SessionJob) (t : Task) (o : IsInOrderButPlaces s) (h : RepresentsSession x old plan s) (runs : IsRunning plan s.jobs m t) (q : Place) where
+module _ (x : Storage) (old : Cpu) (plan : Placement) (s : Session) (m : SessionJob) (t : Task) (o : IsInOrderButCounts s) (h : RepresentsSession x old plan s) (runs : IsRunning plan s.jobs m t) (q : Place) where
   pub record Context (p : Tagged × Tagged) (end : Result End Fault) : Type 0 where
     pub cells : Given x plan m t old p
     pub bits : ℕ

@@ -8,11 +8,12 @@ use Rattle.b67_word.specs.declared.couples.Place.{Place}
 use Rattle.b67_word.specs.declared.faults.Fault.{Fault}
 use Rattle.b67_word.specs.declared.faults.Fault.TheVariants.{InvalidOperand, MemoryProtect, StackOverflow}
 use Rattle.b67_model.specs.Answers.{Answer, ◌>>=◌}
-use Rattle.b67_model.specs.Arrays.{array, no_array, in_order, with_element}
+use Rattle.b67_model.specs.Arrays.{array, no_array, with_element}
+use Rattle.b67_model.specs.Indexing.{in_order}
 use Rattle.b67_model.specs.Keyed.{keyed}
 use Rattle.b67_model.specs.Chase as Chase
 use Rattle.b67_model.specs.Chase.{AtCell, AtElement, AtArray, AtProc, AtIntrinsic, follow}
-use Rattle.b67_model.specs.InOrder.{IsInOrderButPlaces}
+use Rattle.b67_layout.specs.Orders.{IsInOrderButCounts}
 use Rattle.b67_model.specs.Words.{Word, Operand, operand}
 use Rattle.b67_model.specs.State.{Frame, Array, Task, SessionJob, height, with_top_cells, with_task}
 use Rattle.b67_model.specs.Schedule.{Session}
@@ -31,7 +32,8 @@ use Rattle.b67_layout.proofs.Fresh.{running_in_order}
 use Rattle.b67_refer.specs.declared.ends.End.TheVariants as end
 use Rattle.b67_refer.specs.RunningContext.{RunningContext}
 use Rattle.b67_refer.specs.Cells.{IsCellAt}
-use Rattle.b67_refer.specs.Ends.{EndMeets}
+use Rattle.b67_refer.specs.Ends.{EndMeets, IsElementOf}
+use Rattle.b67_refer.proofs.Items.{array_is as item_is}
 use Rattle.b67_exec_cells.specs.Tops.{cells, GivesTwo, NoOriginals}
 use Rattle.b67_exec_cells.proofs.Put.{fitting, room}
 use Rattle.b67_exec_cells.specs.Elements.{HasElement, HoldsElement}
@@ -44,7 +46,7 @@ use Rattle.b67_fetch.proofs.Elements as Elements
 use Rattle.b67_fetch.proofs.Words.{Given, plain_two}
 use Rattle.b67_lemmas.proofs.Members.{keyed_falls}
 
-module _ (x : Storage) (old : Cpu) (plan : Placement) (s : Session) (m : SessionJob) (t : Task) (o : IsInOrderButPlaces s) (h : RepresentsSession x old plan s) (runs : IsRunning plan s.jobs m t) (q : Place) (keeps : Bool) where
+module _ (x : Storage) (old : Cpu) (plan : Placement) (s : Session) (m : SessionJob) (t : Task) (o : IsInOrderButCounts s) (h : RepresentsSession x old plan s) (runs : IsRunning plan s.jobs m t) (q : Place) (keeps : Bool) where
   abbrev a : RunningContext old.core old.regs
   a = here_scene x old plan s m t o h runs
 
@@ -86,6 +88,12 @@ module _ (x : Storage) (old : Cpu) (plan : Placement) (s : Session) (m : Session
     -- one is
     pub followed_end : (r : Step) (new : Cpu) (bits : ℕ) → (in_order g.first g.second).1 ≡ Operand bits → ForEnd r new g.rest bits (follow (here m t q) (in_order g.first g.second).0) → ForCells r new (cells_of (here m t q))
     followed_end r new bits e f = subst (ForCells r new) (sym g.is) (by_pair r new g.rest (in_order g.first g.second) bits e f)
+
+  -- an element that was found is one of the job
+  of_item : (original n index : ℕ) → IsElementOf (here_scene x old plan s m t o h runs) q original n index → HasElement m.progress.job n index
+  of_item original n index e =
+      let names = e.array_of.names in
+      record { item = names.item; live = names.live; named = names.named; inside = subst (λ (z : Array). index < length z.numbers) (item_is old.core old.regs (here_scene x old plan s m t o h runs) n names) e.inside }
 
   -- by the end that was found
   module _ (r : Step) (new : Cpu) (rest : List Word) (bits : ℕ) where
@@ -134,8 +142,7 @@ module _ (x : Storage) (old : Cpu) (plan : Placement) (s : Session) (m : Session
         → ((n : ℕ) → follow (here m t q) w ≡ Ok (AtElement n index) → original ≡ plan.home m.constants.number n → HasElement m.progress.job n index → Meets x plan s m r old new (store_at (here m t q) rest (kept bits rest) bits (AtElement n index))) → ForEnd r new rest bits y
     at_element original index w (Ok (AtElement n i)) z e done =
         let P : ℕ → Type 0 = λ k. follow (here m t q) w ≡ Ok (AtElement n k) → (HasElement m.progress.job n k) → Meets x plan s m r old new (store_at (here m t q) rest (kept bits rest) bits (AtElement n k)) in
-        let a = e.1.names in
-        subst P e.0 (λ z has. done n z e.1.home has) z (record { item = a.item; live = a.live; named = a.named; inside = a.inside })
+        subst P e.0 (λ z has. done n z e.1.array_of.home has) z (of_item original n i e.1)
     at_element original index w (Ok (AtCell f offset b)) z e done = absurd e
     at_element original index w (Ok (AtArray n)) z e done = absurd e
     at_element original index w (Ok (AtProc f segment level place)) z e done = absurd e
@@ -172,10 +179,8 @@ module _ (x : Storage) (old : Cpu) (plan : Placement) (s : Session) (m : Session
 
   named : (original index : ℕ) (y : Answer Chase.End) → EndMeets (here_scene x old plan s m t o h runs) q (Ok (end.Element original index)) y → Named original index
   named original index (Ok (AtElement n i)) e =
-      let a = e.1.names in
       let P : ℕ → Type 0 = λ k. HasElement m.progress.job n k in
-      let has : HasElement m.progress.job n i = record { item = a.item; live = a.live; named = a.named; inside = a.inside } in
-      record { number = n; home = e.1.home; element = subst P (sym e.0) has }
+      record { number = n; home = e.1.array_of.home; element = subst P (sym e.0) (of_item original n i e.1) }
   named original index (Ok (AtCell f offset b)) e = absurd e
   named original index (Ok (AtArray n)) e = absurd e
   named original index (Ok (AtProc f segment level place)) e = absurd e

@@ -13,7 +13,8 @@ use Rattle.b67_ctl.specs.Layout.{irw_word, IsIrw, sirw_word}
 use Rattle.b67_model.specs.Answers.{Answer, ◌>>=◌}
 use Rattle.b67_model.specs.Cells.{cell, named, place_of}
 use Rattle.b67_model.specs.Environment.{frame_at}
-use Rattle.b67_model.specs.InOrder.{NamesEntered, reach_of, IsInOrderButPlaces}
+use Rattle.b67_model.specs.InOrder.{NamesEntered, reach_of}
+use Rattle.b67_layout.specs.Orders.{IsInOrderButCounts}
 use Rattle.b67_model.specs.Intrinsics.{is_original}
 use Rattle.b67_model.specs.Rows.{on_cells, stff, stff_word}
 use Rattle.b67_model.specs.Schedule.{Session}
@@ -38,7 +39,7 @@ use Rattle.b67_refer.proofs.Unders.{named_above, named_at, names_level, display_
 use Rattle.b67_exec_operands.proofs.Rows.{Replaces}
 use Rattle.b67_fetch.proofs.Values.{TopFollowed, here_scene, here_shown, followed_stands}
 
-module _ (x : Storage) (cpu : Cpu) (plan : Placement) (s : Session) (m : SessionJob) (t : Task) (ordered : IsInOrderButPlaces s) (h : RepresentsSession x cpu plan s) (runs : IsRunning plan s.jobs m t) (q : Place) (w : Tagged) (top : TopFollowed x plan m t w) where
+module _ (x : Storage) (cpu : Cpu) (plan : Placement) (s : Session) (m : SessionJob) (t : Task) (ordered : IsInOrderButCounts s) (h : RepresentsSession x cpu plan s) (runs : IsRunning plan s.jobs m t) (q : Place) (w : Tagged) (top : TopFollowed x plan m t w) where
   stands : StandsFor (here_scene x cpu plan s m t ordered h runs) top.followed.at top.followed.owner w top.word
   stands = followed_stands x cpu plan s m t ordered h runs w top.word top.followed
 

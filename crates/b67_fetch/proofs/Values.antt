@@ -15,7 +15,8 @@ use Rattle.b67_model.specs.Chase.{AtCell, AtElement, AtArray, AtProc, AtIntrinsi
 use Rattle.b67_model.specs.Words as Words
 use Rattle.b67_model.specs.Words.{Word, Operand, Name, Ref, Row, Element, Original, Proc, Intrinsic}
 use Rattle.b67_model.specs.State.{Frame, Array, Task, Job, SessionJob, top, with_top_cells, height, with_task}
-use Rattle.b67_model.specs.InOrder.{Starts, IsSegment, Known, known_of, outer_of, reach_of, FramesInOrder, WordInOrder, IsInOrderButPlaces}
+use Rattle.b67_model.specs.InOrder.{Starts, IsSegment, Known, known_of, outer_of, reach_of, FramesInOrder, WordInOrder}
+use Rattle.b67_layout.specs.Orders.{IsInOrderButCounts}
 use Rattle.b67_model.specs.Schedule.{Session}
 use Rattle.b67_model.specs.Steps.{Done, Goes, leaves_cells}
 use Rattle.b67_model.specs.Rows as rows
@@ -35,13 +36,14 @@ use Rattle.b67_layout.specs.Session.{IsRunning, RepresentsSession}
 use Rattle.b67_layout.specs.Meets.{here, IsPresent, IsTouched, IsMade, IsAbsent, Meets, RunsSome, area_held}
 use Rattle.b67_layout.proofs.Whole.{task_with}
 use Rattle.b67_layout.proofs.Fresh.{running_in_order}
+use Rattle.b67_refer.proofs.Items.{array_is, not_empty}
 use Rattle.b67_exec_cells.specs.Tops.{IsWordOf, cells, GivesTop}
 use Rattle.b67_exec_cells.specs.Elements.{HasElement, HoldsElement}
 use Rattle.b67_exec_cells.proofs.Put.{fitting}
 use Rattle.b67_fetch.specs.Fetches.{IsFollowed, IsEnd, SomeEnd, FindsEnd, value_of, enters, enters_at, EntersOrMeets, top_end}
 
 -- the scene of a machine that stands for a session
-module _ (x : Storage) (cpu : Cpu) (plan : Placement) (s : Session) (m : SessionJob) (t : Task) (ordered : IsInOrderButPlaces s) (h : RepresentsSession x cpu plan s) (runs : IsRunning plan s.jobs m t) where
+module _ (x : Storage) (cpu : Cpu) (plan : Placement) (s : Session) (m : SessionJob) (t : Task) (ordered : IsInOrderButCounts s) (h : RepresentsSession x cpu plan s) (runs : IsRunning plan s.jobs m t) where
   abbrev pub here_scene : RunningContext cpu.core cpu.regs
   here_scene = scene [] x cpu.core cpu.regs cpu.critical plan s m t ordered h.holds runs
 
@@ -65,8 +67,14 @@ module _ (x : Storage) (cpu : Cpu) (plan : Placement) (s : Session) (m : Session
 
   end_is : (q : Place) (found : End) (e : Chase.End) → EndIs here_scene q found e → IsEnd plan m cpu.core found e
   end_is q (end.Cell at) (AtCell f offset bits) i = i.there ∙ ap Some i.stands.0.0
-  end_is q (end.Element original index) (AtElement n k) i = (i.0, i.1.home, record { item = i.1.names.item; live = i.1.names.live; named = i.1.names.named; inside = i.1.names.inside })
-  end_is q (end.Array original) (AtArray n) i = (i.home, record { item = i.names.item; live = i.names.live; named = i.names.named; inside = i.names.inside })
+  end_is q (end.Element original index) (AtElement n k) i = let o = i.1.array_of in
+      (i.0, o.home, record { item = o.names.item; live = o.names.live; named = o.names.named; inside = subst (λ (z : Array). k < length z.numbers) (array_is cpu.core cpu.regs here_scene n o.names) i.1.inside })
+  end_is q (end.Array original) (AtArray n) i = (i.home, record {
+    item = i.names.item;
+    live = i.names.live;
+    named = i.names.named;
+    inside = not_empty cpu.core cpu.regs here_scene n i.names;
+  })
   end_is q (end.Proc at) (AtProc f segment level place) i = tt
   end_is q (end.Intrinsic n) (AtIntrinsic k) i = tt
   end_is q (end.Cell at) (AtElement n k) i = i
@@ -137,7 +145,7 @@ pub overflow_touching : (m : SessionJob) (t : Task) (q : Place) (cs : List Word)
 overflow_touching m t q cs touched e = overflow_by m t q cs touched (nat_le (height (with_top_cells t.frames cs)) m.constants.stack_size) e
 
 -- an absent element
-pub absent_element : (x : Storage) (old : Cpu) (plan : Placement) (s : Session) (m : SessionJob) (t : Task) (ordered : IsInOrderButPlaces s) (h : RepresentsSession x old plan s) (runs : IsRunning plan s.jobs m t)
+pub absent_element : (x : Storage) (old : Cpu) (plan : Placement) (s : Session) (m : SessionJob) (t : Task) (ordered : IsInOrderButCounts s) (h : RepresentsSession x old plan s) (runs : IsRunning plan s.jobs m t)
     (count original : ℕ) (q : Place) (gone rest : List Word) (n : ℕ) (v : Word) → cells t ≡ gone ++ rest → length gone ≡ count → old.regs.f + count ≤ old.regs.s → old.regs.s - count < old.regs.losr
     → original ≡ plan.home m.constants.number n → area_held x plan m.constants.number n ≡ None
     → IsAbsent x plan m (what.Array original) (leaves_cells (here m t q) (v ∷ rest) (Some n))
@@ -187,7 +195,7 @@ top_order P arrays outer (f ∷ below) a rest o e =
     let A : List Word → Type 0 = λ cs. AllByRecursion (WordInOrder P arrays (map known_of (f ∷ below) ++ outer) f.identity) cs in
     (subst A e o.0.0).0
 
-pub top_followed : (x : Storage) (cpu : Cpu) (plan : Placement) (s : Session) (m : SessionJob) (t : Task) (w : Tagged) → IsInOrderButPlaces s → IsRunning plan s.jobs m t → GivesTop x plan m t cpu (cells t) (Ok w) → TopFollowed x plan m t w
+pub top_followed : (x : Storage) (cpu : Cpu) (plan : Placement) (s : Session) (m : SessionJob) (t : Task) (w : Tagged) → IsInOrderButCounts s → IsRunning plan s.jobs m t → GivesTop x plan m t cpu (cells t) (Ok w) → TopFollowed x plan m t w
 top_followed x cpu plan s m t w ordered runs given = by_cells (cells t) refl given where
   by_cells : (cs : List Word) → cells t ≡ cs → GivesTop x plan m t cpu cs (Ok w) → TopFollowed x plan m t w
   by_cells [] e g = absurd (let z : ⊥ = cc in z)

@@ -2,9 +2,10 @@
 use Rattle.std.proofs.Common.{◌≡◌, ◌≢◌, ℕ, ◌-◌, List, [], ◌∷◌, ◌++◌, map, Ok, Err, refl, sym, ◌∙◌, ap, arith, false, inl, inr, ◌⊎◌, subst}
 use Rattle.b67_word.specs.Tagged.{Tagged, word}
 use Rattle.b67_word.specs.declared.faults.Fault.TheVariants.{InvalidOperand}
-use Rattle.b67_model.specs.Arrays.{in_order}
+use Rattle.b67_model.specs.Indexing.{in_order}
 use Rattle.b67_model.specs.Chase.{End, follow}
-use Rattle.b67_model.specs.InOrder.{IsSegment, known_of, outer_of, FramesInOrder, WordInOrder, IsInOrderButPlaces}
+use Rattle.b67_model.specs.InOrder.{IsSegment, known_of, outer_of, FramesInOrder, WordInOrder}
+use Rattle.b67_layout.specs.Orders.{IsInOrderButCounts}
 use Rattle.b67_model.specs.Intrinsics.{is_original}
 use Rattle.b67_lemmas.specs.Lists.{Has}
 use Rattle.b67_lemmas.proofs.Members.{all_in}
@@ -113,7 +114,7 @@ has_first (Intrinsic n) a rest = inl refl
 has_first (Words.Segment n) a rest = inl refl
 
 -- the word that is followed
-module _ (x : Storage) (plan : Placement) (s : Session) (m : SessionJob) (t : Task) (o : IsInOrderButPlaces s) (runs : IsRunning plan s.jobs m t) where
+module _ (x : Storage) (plan : Placement) (s : Session) (m : SessionJob) (t : Task) (o : IsInOrderButCounts s) (runs : IsRunning plan s.jobs m t) where
   words_of : (fs : List Frame) → FramesInOrder (IsSegment m.constants) m.progress.job.arrays (outer_of m.progress.job t) fs → (w : Word) → Has (top fs).cells w → WordInOrder (IsSegment m.constants) m.progress.job.arrays (map known_of fs ++ outer_of m.progress.job t) (top fs).identity w
   words_of [] g w k = absurd k
   words_of (f ∷ below) g w k = all_in (WordInOrder (IsSegment m.constants) m.progress.job.arrays (map known_of (f ∷ below) ++ outer_of m.progress.job t) f.identity) f.cells w g.0.0 k

@@ -5,7 +5,7 @@ use Rattle.b67_word.specs.declared.faults.Fault.TheVariants.{StackUnderflow, Inv
 use Rattle.b67_model.specs.Answers.{Answer, ◌>>=◌}
 use Rattle.b67_model.specs.Words.{Word, number}
 use Rattle.b67_model.specs.State.{SessionJob, OperatorContext}
-use Rattle.b67_model.specs.Arrays.{index_below, indexed, in_order}
+use Rattle.b67_model.specs.Indexing.{index_below, indexed, in_order}
 use Rattle.b67_refer.specs.declared.ends.End.{End}
 use Rattle.b67_refer.specs.declared.ends.End.TheVariants as end
 use Rattle.b67_layout.specs.Placement.{Placement}

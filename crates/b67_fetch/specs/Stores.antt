@@ -4,7 +4,8 @@ use Rattle.b67_word.specs.Tagged.{Tagged}
 use Rattle.b67_word.specs.declared.couples.Place.{Place}
 use Rattle.b67_word.specs.declared.faults.Fault.TheVariants.{StackUnderflow, MemoryProtect}
 use Rattle.b67_model.specs.Answers.{Answer, ◌>>=◌}
-use Rattle.b67_model.specs.Arrays.{array, in_order}
+use Rattle.b67_model.specs.Arrays.{array}
+use Rattle.b67_model.specs.Indexing.{in_order}
 use Rattle.b67_model.specs.Chase.{End, follow}
 use Rattle.b67_model.specs.Words.{Word, operand}
 use Rattle.b67_model.specs.State.{SessionJob, OperatorContext}

@@ -4,7 +4,7 @@ ghost use Rattle.std.specs.Prelude.{◌≡◌, ℕ, ◌+◌, ◌<◌, ◌≤◌,
 ghost use Rattle.b67_word.specs.declared.couples.Place.{Place};
 ghost use Rattle.b67_model.specs.Words as words;
 ghost use Rattle.b67_model.specs.Words.{Element, operand};
-ghost use Rattle.b67_model.specs.Arrays.{array_of as array_of_row, indexed as indexed_row};
+ghost use Rattle.b67_model.specs.Indexing.{array_of as array_of_row, indexed as indexed_row};
 ghost use Rattle.b67_model.specs.Rows as rows;
 ghost use Rattle.b67_model.specs.Steps.{cells_of};
 ghost use Rattle.b67_arith.specs.OnWords.{bits_in};

@@ -114,6 +114,7 @@ module _ {K B : Type 0} (taken : K → Option (List ℕ)) (failures : K → ℕ)
         fitted = λ tells j low. absurd (omega (arith, low, made));
         core_size = o.2.core_size;
         halt = o.2.halt;
+        names = o.2.names;
         goes_on = record {
           stage = inr (inr (record { known = content_after (holds b) (holds b'); says = says_after (holds b) (holds b'); session = session_of d ps; rests = resting }));
           countable = o.2.countable;
@@ -203,6 +204,7 @@ module _ {K B : Type 0} (taken : K → Option (List ℕ)) (failures : K → ℕ)
         fitted = λ told. subst (λ n. StepsFit n k.tasks.made first) o.2.core_size (subst (λ n. StepsFit (length k0.cpu.core) n first) (sym made) (r.slices.fits (exact told)));
         core_size = keeps.core ∙ o.2.core_size;
         halt = keeps.halt ∙ o.2.halt;
+        names = keeps.names ∙ o.2.names;
         goes_on = may_go_on;
         sized = omega (arith, begun_links, links, again, same);
       })

@@ -17,7 +17,7 @@ use Rattle.b67_model_text.specs.declared.deck.Job.{Job}
 use Rattle.b67_job_admit.specs.declared.refusal.Refusal.TheVariants as refusals
 use Rattle.b67_job_admit.specs.Admitting.{Prepared}
 use Rattle.b67_job_admit.specs.Told.{refusal_line}
-use Rattle.b67_session_open.specs.Decks.{session_of}
+use Rattle.b67_session_open.specs.Decks.{session_of, job_names, row_names}
 use Rattle.b67_session_open.specs.Opens.{need_of, sectors_of_all}
 use Rattle.b67_task_tables.specs.declared.tables.Machine.{Machine}
 use Rattle.b67_session.specs.Slices.{IsLone, IsLimited}
@@ -171,14 +171,16 @@ pub data StopsUnopened {B : Type 0} (d : Device B) (core : ℕ) (p : Prepared) (
   opening_fails : RoomSuffices d core p → Failed d → status ≡ 6 → text ≡ only (ended backing_fault_line) → StopsUnopened d core p status text
 
 -- A session was opened, for which there is room. Each state up to the count of the machine is in order; and if the device
--- told what its sectors hold, none of the steps up to there needed more words than core has. The machine has that core and
--- the halt of the deck. A slice may be called on it again, and its table of sectors has one for each of the device.
+-- told what its sectors hold, none of the steps up to there needed more words than core has. The machine has that core, the
+-- halt of the deck and the names of its jobs. A slice may be called on it again, and its table of sectors has one for each of
+-- the device.
 pub record WasOpened {B : Type 0} (d : Device B) (core : ℕ) (p : Prepared) (k : Machine) : Type 0 where
   pub room : RoomSuffices d core p
   pub in_order : StatesInOrder k.tasks.made (run_of p).session
   pub fitted : Tells d → StepsFit core k.tasks.made (run_of p).session
   pub core_size : length k.cpu.core ≡ core
   pub halt : k.tasks.halt ≡ p.0.halt
+  pub names : row_names k.tasks.jobs ≡ job_names p.0.jobs
   pub goes_on : IsOpen d.now k
   pub sized : d.sectors_now + 1 ≡ length k.sectors.links
 

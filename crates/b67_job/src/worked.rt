@@ -271,6 +271,35 @@ fn halted_machine(rt: HostRuntime) -> Result<(), Fail> {
     Ok(())
 }
 
+/// The first cards of a deck whose fourth operator enters a segment of 61 words. The operator after that needs 291 words of
+/// core.
+const LONG_ENTRY: &str =
+    "?JOB A\n?ASM\nSEGMENT MAIN 2\nMPCW P\nMKST\nNAMC 2,2\nENTR\nEXIT\nSEGMENT P 3\n";
+
+// The run halts where core has no room for the operator after the halt. One operator later, or with no halt, it wants core.
+#[test]
+fn halted_before_a_want_of_core(rt: HostRuntime) -> Result<(), Fail> {
+    let alloc = rt.alloc();
+    let mut job = String::from_str(alloc, LONG_ENTRY)?;
+    for _i in 0..360u32 {
+        job.push_str("NOOP\n")?;
+    }
+    job.push_str("EXIT\n?END\n")?;
+    let rows = [
+        ("?STACK 64\n?HALT 4\n", 3, "HALTED 4\n"),
+        ("?STACK 64\n?HALT 5\n", 4, "NO CORE 291 256\n"),
+        ("?STACK 64\n", 4, "NO CORE 291 256\n"),
+    ];
+    for (cards, status, lines) in rows {
+        let mut backing = HonestBacking::new(alloc, 4096)?;
+        let (printed, outcome) = run_over(alloc, "256", cards, job.as_str(), &mut backing)?;
+        assert_eq!(rt; printed.as_slice(), lines.as_bytes(), "{cards}");
+        assert_eq!(rt; outcome.status, status, "{cards}");
+        assert_eq!(rt; outcome.machine.as_ref().map(|k| k.tasks.made), Some(4), "{cards}");
+    }
+    Ok(())
+}
+
 // The third write, which brings an array out, fails; and the first one, which opening makes.
 #[test]
 fn backing_fails(rt: HostRuntime) -> Result<(), Fail> {

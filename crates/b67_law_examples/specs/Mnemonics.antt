@@ -14,7 +14,7 @@ Operator = ℕ → Op
 
 -- a segment of a level
 abbrev pub segment : ℕ → List Operator → Segment
-segment level operators = record { level = level; code = code_of (map (λ (o : Operator). o level) operators) }
+segment level operators = record { level = level; entries = []; code = code_of (map (λ (o : Operator). o level) operators) }
 
 -- operators so many times
 abbrev pub times : ℕ → List Operator → List Operator

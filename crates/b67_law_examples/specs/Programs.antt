@@ -1,7 +1,7 @@
 -- The programs of worked runs.
 use Rattle.std.specs.Prelude.{ℕ, zero, suc, ◌+◌, List, [], ◌∷◌, ◌++◌}
 use Rattle.b67_model.specs.State.{Segment}
-use Rattle.b67_law_examples.specs.Mnemonics.{segment, times, ADD, BRTR, BRUN, CHSN, DLET, ENTR, EXIT, GRTR, IDIV, INDX, ISOL, LNOT, LOAD, LT16, LT48, LT8, MKST, MPCW, MULT, NAMC, NOOP, NVLD, NXLV, ONE, RDIV, RETN, SAME, STFF, STOD, VALC, ZERO}
+use Rattle.b67_law_examples.specs.Mnemonics.{Operator, segment, times, ADD, BRTR, BRUN, CHSN, DLET, ENTR, EXIT, GRTR, IDIV, INDX, ISOL, LNOT, LOAD, LT16, LT48, LT8, MKST, MPCW, MULT, NAMC, NOOP, NVLD, NXLV, ONE, RDIV, RETN, SAME, STFF, STOD, VALC, ZERO}
 
 -- two and three
 abbrev pub sum : List Segment
@@ -361,3 +361,70 @@ names_none = segment 2 (MPCW 5 3 ∷ EXIT ∷ []) ∷ []
 -- two words with a branch to a place
 abbrev pub branches_to : ℕ → ℕ → List Segment
 branches_to word syllable = segment 2 (MKST ∷ NAMC 0 9 ∷ LT8 2 ∷ BRUN word syllable ∷ EXIT ∷ []) ∷ []
+
+-- seven in the last element of ten, whose copy is cell 3
+abbrev pub marks_last : List Operator
+marks_last =
+    MKST ∷ NAMC 0 8 ∷ LT8 10 ∷ ENTR ∷ NAMC 2 2 ∷ LT8 9 ∷ INDX ∷ LT8 7 ∷ NAMC 2 3 ∷ STOD ∷ []
+
+-- the array becomes shorter than the copy's index
+abbrev pub shortened : List Segment
+shortened =
+    segment 2 (marks_last ++ (MKST ∷ NAMC 0 18 ∷ NAMC 2 2 ∷ LOAD ∷ LT8 9 ∷ ENTR ∷ VALC 2 3 ∷ EXIT ∷ [])) ∷ []
+
+-- the array becomes longer; the marked element and the new last one
+abbrev pub lengthened : List Segment
+lengthened =
+    segment 2 (marks_last ++ (MKST ∷ NAMC 0 18 ∷ NAMC 2 2 ∷ LOAD ∷ LT8 12 ∷ ENTR ∷ MKST ∷ NAMC 0 9 ∷ VALC 2 3 ∷
+    NAMC 2 2 ∷ LT8 11 ∷ NXLV ∷ ADD ∷ ENTR ∷ EXIT ∷ [])) ∷ []
+
+-- the array's numbers are given back
+abbrev pub deallocated : List Segment
+deallocated =
+    segment 2 (marks_last ++ (MKST ∷ NAMC 0 17 ∷ NAMC 2 2 ∷ LOAD ∷ ENTR ∷ MKST ∷ NAMC 0 9 ∷ VALC 2 3 ∷ ENTR ∷ EXIT ∷ [])) ∷ []
+
+-- thirty numbers become sixty
+abbrev pub doubled : List Segment
+doubled =
+    segment 2 (MKST ∷ NAMC 0 8 ∷ LT8 30 ∷ ENTR ∷ MKST ∷ NAMC 0 18 ∷ NAMC 2 2 ∷ LOAD ∷ LT8 60 ∷ ENTR ∷ EXIT ∷ []) ∷ []
+
+-- an array of so many numbers becomes one of so many, with LT16 for both
+abbrev pub resized_from_to : ℕ → ℕ → List Segment
+resized_from_to from to =
+    segment 2 (MKST ∷ NAMC 0 8 ∷ LT16 from ∷ ENTR ∷ MKST ∷ NAMC 0 18 ∷ NAMC 2 2 ∷ LOAD ∷ LT16 to ∷ ENTR ∷ EXIT ∷ []) ∷ []
+
+-- an array of three thousand numbers is given back
+abbrev pub deallocated_long : List Segment
+deallocated_long =
+    segment 2 (MKST ∷ NAMC 0 8 ∷ LT16 3000 ∷ ENTR ∷ MKST ∷ NAMC 0 17 ∷ NAMC 2 2 ∷ LOAD ∷ ENTR ∷ EXIT ∷ []) ∷ []
+
+-- a data row is given back, or becomes longer by a number
+abbrev pub deallocated_row : List Segment
+deallocated_row =
+    segment 2 (MKST ∷ NAMC 0 17 ∷ NAMC 1 3 ∷ LOAD ∷ ENTR ∷ EXIT ∷ []) ∷ []
+
+abbrev pub resized_row : ℕ → List Segment
+resized_row to =
+    segment 2 (MKST ∷ NAMC 0 18 ∷ NAMC 1 3 ∷ LOAD ∷ LT8 to ∷ ENTR ∷ EXIT ∷ []) ∷ []
+
+-- a copy of the array is made, the array becomes longer, and the row of the copy is printed
+abbrev pub printed_longer : List Segment
+printed_longer =
+    segment 2 (MKST ∷ NAMC 0 8 ∷ LT8 2 ∷ ENTR ∷ NAMC 2 2 ∷ LOAD ∷ MKST ∷ NAMC 0 18 ∷ NAMC 2 2 ∷ LOAD ∷ LT8 4 ∷ ENTR ∷
+    MKST ∷ NAMC 0 10 ∷ NAMC 2 3 ∷ LOAD ∷ ENTR ∷ EXIT ∷ []) ∷ []
+
+-- an array of two numbers becomes one of so many
+abbrev pub resized_to : ℕ → List Segment
+resized_to to =
+    segment 2 (MKST ∷ NAMC 0 8 ∷ LT8 2 ∷ ENTR ∷ MKST ∷ NAMC 0 18 ∷ NAMC 2 2 ∷ LOAD ∷ LT48 to ∷ ENTR ∷ EXIT ∷ []) ∷ []
+
+-- the marked element, the tenth, is indexed as if it were an array, once the array has so many numbers
+abbrev pub indexed_as_array : ℕ → List Segment
+indexed_as_array to =
+    segment 2 (marks_last ++ (MKST ∷ NAMC 0 18 ∷ NAMC 2 2 ∷ LOAD ∷ LT8 to ∷ ENTR ∷ NAMC 2 3 ∷ LT8 0 ∷ INDX ∷ EXIT ∷ [])) ∷ []
+
+-- the array becomes shorter, and then as long as it was; the marked element
+abbrev pub shortened_and_back : List Segment
+shortened_and_back =
+    segment 2 (marks_last ++ (MKST ∷ NAMC 0 18 ∷ NAMC 2 2 ∷ LOAD ∷ LT8 9 ∷ ENTR ∷ MKST ∷ NAMC 0 18 ∷ NAMC 2 2 ∷ LOAD ∷ LT8 10 ∷ ENTR ∷
+    MKST ∷ NAMC 0 9 ∷ VALC 2 3 ∷ ENTR ∷ EXIT ∷ [])) ∷ []

@@ -61,6 +61,10 @@ refused_row_program = record { segments = refused_row; rows = (5 ∷ []) ∷ [] 
 abbrev pub row_with_bits_program : Program
 row_with_bits_program = record { segments = row_with_bits; rows = (0x800000000000 ∷ []) ∷ [] }
 
+-- segments with one data row, of five and six
+abbrev pub with_row : List Segment → Session
+with_row segments = one_job (record { segments = segments; rows = (5 ∷ 6 ∷ []) ∷ [] }) 512 1000 [] []
+
 -- two jobs that loop, with turns of three operators
 abbrev pub two_loops : List Switch → Session
 two_loops switches =

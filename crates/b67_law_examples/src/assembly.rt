@@ -9,7 +9,7 @@ ghost use Rattle.b67_law_examples.specs.Texts.{eight_cards, jensen_cards, leave_
 
 /// The cards of a sum denote its two words.
 pub fn sum_is_assembled()
-    ensures words { assembly (text_of sum_cards) ≡ Ok (record { segments = record { level = 2; code = 0xae4009b202b2 ∷ 0x0380aba3ffff ∷ [] } ∷ []; rows = [] }) }
+    ensures words { assembly (text_of sum_cards) ≡ Ok (record { segments = record { level = 2; entries = []; code = 0xae4009b202b2 ∷ 0x0380aba3ffff ∷ [] } ∷ []; rows = [] }) }
     ensures program { assembly (text_of sum_cards) ≡ Ok (without_rows sum) }
 {}
 
@@ -35,18 +35,18 @@ pub fn leave_is_assembled()
 
 /// The rest of a word before a literal is filled, and the last word too.
 pub fn literals_fill_their_words()
-    ensures fills { assembly (codes "SEGMENT A 2\nZERO\nLT48 -5\nONE\nMPCW A\nL: LT16 65535\nINSR 40,8\nBRUN L\nNOOP\nNVLD\n") ≡ Ok (record { segments = record { level = 2; code = 0xb0beffffffff ∷ 0x400000000005 ∷ 0xb1bfffffffff ∷ 0x000000008002 ∷ 0xb3ffff9c2808 ∷ 0xa20004feffff ∷ [] } ∷ []; rows = [] }) }
-    ensures short_fills { assembly (codes "SEGMENT A 2\nLT48 1\nLT8 1\nLT8 1\nONE\nLT48 2\nBSET 5\nBRST 6\nPUSH\n") ≡ Ok (record { segments = record { level = 2; code = 0xbeffffffffff ∷ 0x000000000001 ∷ 0xb201b201b1be ∷ 0x000000000002 ∷ 0x96059e06b4ff ∷ [] } ∷ []; rows = [] }) }
+    ensures fills { assembly (codes "SEGMENT A 2\nZERO\nLT48 -5\nONE\nMPCW A\nL: LT16 65535\nINSR 40,8\nBRUN L\nNOOP\nNVLD\n") ≡ Ok (record { segments = record { level = 2; entries = []; code = 0xb0beffffffff ∷ 0x400000000005 ∷ 0xb1bfffffffff ∷ 0x000000008002 ∷ 0xb3ffff9c2808 ∷ 0xa20004feffff ∷ [] } ∷ []; rows = [] }) }
+    ensures short_fills { assembly (codes "SEGMENT A 2\nLT48 1\nLT8 1\nLT8 1\nONE\nLT48 2\nBSET 5\nBRST 6\nPUSH\n") ≡ Ok (record { segments = record { level = 2; entries = []; code = 0xbeffffffffff ∷ 0x000000000001 ∷ 0xb201b201b1be ∷ 0x000000000002 ∷ 0x96059e06b4ff ∷ [] } ∷ []; rows = [] }) }
 {}
 
 /// Rows stand behind the segments; couples are split at the segment's level, 31 for levels above.
 pub fn rows_and_couples_are_assembled()
-    ensures row_named { assembly (codes "SEGMENT A 2\nVALC 1,R\nNAMC 1,S\nEXIT\nROW R\nNUM 1 -2 #800000000000\nNUM 549755813887\nROW S\nNUM #aBcDeF012345\n") ≡ Ok (record { segments = record { level = 2; code = 0x20036004a3ff ∷ [] } ∷ []; rows = (0x000000000001 ∷ 0x400000000002 ∷ 0x800000000000 ∷ 0x007fffffffff ∷ []) ∷ (0xabcdef012345 ∷ []) ∷ [] }) }
-    ensures level_31 { assembly (codes "SEGMENT A 2\nMPCW B\nEXIT\nSEGMENT B 31\nVALC 31,511\nNAMC 16,5\nNAMC 1,0\nEXIT\n") ≡ Ok (record { segments = record { level = 2; code = 0xbfffffffffff ∷ 0x00000007c003 ∷ 0xa3ffffffffff ∷ [] } ∷ record { level = 31; code = 0x3fff42056000 ∷ 0xa3ffffffffff ∷ [] } ∷ []; rows = [] }) }
-    ensures level_255 { assembly (codes "SEGMENT A 255\nVALC 31,511\nEXIT\n") ≡ Ok (record { segments = record { level = 255; code = 0x3fffa3ffffff ∷ [] } ∷ []; rows = [] }) }
-    ensures label_other_segment { assembly (codes "SEGMENT A 2\nL: ADD\nSEGMENT B 3\nL: ADD\nBRUN L\nBRTR L\nBRFL L\n") ≡ Ok (record { segments = record { level = 2; code = 0x80ffffffffff ∷ [] } ∷ record { level = 3; code = 0x80a20000a100 ∷ 0x00a00000ffff ∷ [] } ∷ []; rows = [] }) }
-    ensures label_mnemonic { assembly (codes "SEGMENT A 2\nADD: ADD ; x\nBRUN ADD\n") ≡ Ok (record { segments = record { level = 2; code = 0x80a20000ffff ∷ [] } ∷ []; rows = [] }) }
-    ensures comments { assembly (codes "; only\n  SEGMENT   A   2 ; x\n\nMKST;\n  L:   EXIT;;\n ;\n") ≡ Ok (record { segments = record { level = 2; code = 0xaea3ffffffff ∷ [] } ∷ []; rows = [] }) }
+    ensures row_named { assembly (codes "SEGMENT A 2\nVALC 1,R\nNAMC 1,S\nEXIT\nROW R\nNUM 1 -2 #800000000000\nNUM 549755813887\nROW S\nNUM #aBcDeF012345\n") ≡ Ok (record { segments = record { level = 2; entries = []; code = 0x20036004a3ff ∷ [] } ∷ []; rows = (0x000000000001 ∷ 0x400000000002 ∷ 0x800000000000 ∷ 0x007fffffffff ∷ []) ∷ (0xabcdef012345 ∷ []) ∷ [] }) }
+    ensures level_31 { assembly (codes "SEGMENT A 2\nMPCW B\nEXIT\nSEGMENT B 31\nVALC 31,511\nNAMC 16,5\nNAMC 1,0\nEXIT\n") ≡ Ok (record { segments = record { level = 2; entries = []; code = 0xbfffffffffff ∷ 0x00000007c003 ∷ 0xa3ffffffffff ∷ [] } ∷ record { level = 31; entries = []; code = 0x3fff42056000 ∷ 0xa3ffffffffff ∷ [] } ∷ []; rows = [] }) }
+    ensures level_255 { assembly (codes "SEGMENT A 255\nVALC 31,511\nEXIT\n") ≡ Ok (record { segments = record { level = 255; entries = []; code = 0x3fffa3ffffff ∷ [] } ∷ []; rows = [] }) }
+    ensures label_other_segment { assembly (codes "SEGMENT A 2\nL: ADD\nSEGMENT B 3\nL: ADD\nBRUN L\nBRTR L\nBRFL L\n") ≡ Ok (record { segments = record { level = 2; entries = []; code = 0x80ffffffffff ∷ [] } ∷ record { level = 3; entries = []; code = 0x80a20000a100 ∷ 0x00a00000ffff ∷ [] } ∷ []; rows = [] }) }
+    ensures label_mnemonic { assembly (codes "SEGMENT A 2\nADD: ADD ; x\nBRUN ADD\n") ≡ Ok (record { segments = record { level = 2; entries = []; code = 0x80a20000ffff ∷ [] } ∷ []; rows = [] }) }
+    ensures comments { assembly (codes "; only\n  SEGMENT   A   2 ; x\n\nMKST;\n  L:   EXIT;;\n ;\n") ≡ Ok (record { segments = record { level = 2; entries = []; code = 0xaea3ffffffff ∷ [] } ∷ []; rows = [] }) }
 {}
 
 /// Reason 1: an unknown mnemonic, a malformed label, or no card of the table.

@@ -5,6 +5,7 @@
 pub mod assembly;
 pub mod choices;
 pub mod decks;
+pub mod lengths;
 pub mod long;
 pub mod refusals;
 pub mod runs;

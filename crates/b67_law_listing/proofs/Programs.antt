@@ -98,7 +98,7 @@ record IsSegment (names : Names) (segments s r : ℕ) (lines : List Line) (part 
   level : ℕ
   ops : List Op
   taken : operators (record { names = names; segments = segments; level = level; labels = λ label. meaning (labels 0 lines) label }) 0 lines ≡ Ok ops
-  is : CodePart (record { level = level; code = code_of ops }) ≡ part
+  is : CodePart (record { level = level; entries = []; code = code_of ops }) ≡ part
   few : s + r < 255
 
 after_card : {B : Type 0} (number : ℕ) (t : Bool) (reason : ℕ) (rest : Result B Refusal) (b : B) → (of_card number (needs t reason) >> rest) ≡ Ok b → (t ≡ true) × (rest ≡ Ok b)
@@ -109,12 +109,12 @@ segment_is : (names : Names) (segments s r number : ℕ) (name : List ℕ) (leve
 segment_is names segments s r number name None lines part e = err-ok (record { card = number; reason = 3 }) part _ e
 segment_is names segments s r number name (Some level) lines part e =
     let scope : Scope = record { names = names; segments = segments; level = level; labels = λ label. meaning (labels 0 lines) label } in
-    let put : Result Part Refusal = operators scope 0 lines >>= λ ops. Ok (CodePart (record { level = level; code = code_of ops })) in
+    let put : Result Part Refusal = operators scope 0 lines >>= λ ops. Ok (CodePart (record { level = level; entries = []; code = code_of ops })) in
     let a = after_card number (is_segment_number s (names name)) 4 (of_card number (needs (list_any (λ l. not (is_numbers l.kind)) lines) 7) >> (of_card number (needs (nat_lt (s + r) 255) 9) >> put)) part e in
     let b = after_card number (list_any (λ l. not (is_numbers l.kind)) lines) 7 (of_card number (needs (nat_lt (s + r) 255) 9) >> put) part a.1 in
     let c = after_card number (nat_lt (s + r) 255) 9 put part b.1 in
-    let d = after_both (operators scope 0 lines) (λ ops. Ok (CodePart (record { level = level; code = code_of ops }))) part c.1 in
-    record { level = level; ops = d.0; taken = d.1; is = same_Ok (CodePart (record { level = level; code = code_of d.0 })) part d.2; few = ltb-true (s + r) 255 c.0 }
+    let d = after_both (operators scope 0 lines) (λ ops. Ok (CodePart (record { level = level; entries = []; code = code_of ops }))) part c.1 in
+    record { level = level; ops = d.0; taken = d.1; is = same_Ok (CodePart (record { level = level; entries = []; code = code_of d.0 })) part d.2; few = ltb-true (s + r) 255 c.0 }
 
 row_is : (names : Names) (s r number : ℕ) (name : List ℕ) (lines : List Line) (part : Part) → row_part names s r number name lines ≡ Ok part → (words : List ℕ) × (RowPart words ≡ part)
 row_is names s r number name lines part e =

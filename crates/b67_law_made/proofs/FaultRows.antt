@@ -14,12 +14,13 @@ use Rattle.b67_model.specs.Words as Words
 use Rattle.b67_model.specs.Words.{Word, Operand, Name, Ref, Row, Element, Original, Proc, Intrinsic, operand, number, whole, to_operand}
 use Rattle.b67_model.specs.State.{Standing, Marked, Entered, Return, Task, Job, OperatorContext}
 use Rattle.b67_model.specs.Cells.{place_of, cell}
-use Rattle.b67_model.specs.Chase.{End, AtCell, AtElement, AtArray, AtProc, AtIntrinsic, Link, Stops, Leads, link_at, link_in, link_from, link, chase_on, chase, follow, follow_reference}
-use Rattle.b67_model.specs.Arrays.{array, array_at, array_of, index_below, indexed, in_order}
+use Rattle.b67_model.specs.Chase.{End, AtCell, AtElement, AtArray, AtProc, AtIntrinsic, Link, Stops, Leads, element_end, link_at, link_in, link_from, link, chase_on, chase, follow, follow_reference}
+use Rattle.b67_model.specs.Arrays.{array}
+use Rattle.b67_model.specs.Indexing.{array_at, array_of, index_below, indexed, in_order}
 use Rattle.b67_model.specs.Arithmetic.{Binary, on_numbers, compared, divided, add, subt, mult, idiv, rdiv, less, greq, grtr, lseq, equl, neql, land, lor, leqv, same, chsn, lnot, bset, brst, isol, insr}
 use Rattle.b67_model.specs.Steps.{Line, Done, top_of, cells_of, result, with_cells, leaves_cells, pushes}
 use Rattle.b67_model.specs.Entry.{accident, evaluates, enters, leaves, exit, returnable, returned, retn_word}
-use Rattle.b67_model.specs.Intrinsics.{answers, array_length, arraydec, print, row_copy, numbers_of, printrow, read, starts, process, awaits, await, status, waits_at, wait, causes, cause, intrinsic}
+use Rattle.b67_model.specs.Intrinsics.{answers, array_length, arraydec, print, row_copy, numbers_of, printrow, read, starts, process, awaits, await, status, waits_at, wait, causes, cause, deallocate, resize, intrinsic}
 use Rattle.b67_model.specs.Rows.{CellRow, on_one, on_two, movable, dlet, exch, dupl, on_cells, branches, branch_if, valc, stff_word, stff, load_at, load, indx, nxlv, store_at, store, entr_at, entr_with, entr, is_proc, proc_of, plain}
 use Rattle.b67_law_made.specs.Faults.{InvalidOperatorIsNvld}
 
@@ -150,24 +151,27 @@ abbrev LinkOther : Link → Type 0
 LinkOther (Stops end) = Other end
 LinkOther (Leads w) = Unit {0}
 
-at_o : (f offset : ℕ) (w : Word) → LinkOther (link_at f offset w)
-at_o f offset (Operand bits) = o_ok _
-at_o f offset (Name couple) = tt
-at_o f offset (Ref g other') = tt
-at_o f offset (Row a) = o_ok _
-at_o f offset (Element a index) = o_ok _
-at_o f offset (Original a) = o_ok _
-at_o f offset (Proc segment level place) = o_ok _
-at_o f offset (Intrinsic n) = o_ok _
-at_o f offset (Words.Segment n) = o_err _ operand_ne
+element_o : (h : OperatorContext) (a index : ℕ) → Other (element_end h a index)
+element_o h a index = o_if _ _ _ (o_ok _) (o_err _ index_ne)
 
-in_o : (f offset : ℕ) (a : Answer Word) → Other a → LinkOther (link_in f offset a)
-in_o f offset (Err fault) g = record { by = g.by }
-in_o f offset (Ok w) g = at_o f offset w
+at_o : (h : OperatorContext) (f offset : ℕ) (w : Word) → LinkOther (link_at h f offset w)
+at_o h f offset (Operand bits) = o_ok _
+at_o h f offset (Name couple) = tt
+at_o h f offset (Ref g other') = tt
+at_o h f offset (Row a) = o_ok _
+at_o h f offset (Element a index) = element_o h a index
+at_o h f offset (Original a) = o_ok _
+at_o h f offset (Proc segment level place) = o_ok _
+at_o h f offset (Intrinsic n) = o_ok _
+at_o h f offset (Words.Segment n) = o_err _ operand_ne
+
+in_o : (h : OperatorContext) (f offset : ℕ) (a : Answer Word) → Other a → LinkOther (link_in h f offset a)
+in_o h f offset (Err fault) g = record { by = g.by }
+in_o h f offset (Ok w) g = at_o h f offset w
 
 from_o : (h : OperatorContext) (a : Answer (ℕ × ℕ)) → Other a → LinkOther (link_from h a)
 from_o h (Err fault) g = record { by = g.by }
-from_o h (Ok at) g = in_o at.0 at.1 (cell h at.0 at.1) (some_o _)
+from_o h (Ok at) g = in_o h at.0 at.1 (cell h at.0 at.1) (some_o _)
 
 links_o : (h : OperatorContext) (links : ℕ) (l : Link) → LinkOther l → Other (chase_on h links l)
 links_o h links (Stops end) g = g
@@ -180,7 +184,7 @@ chase_o h w = links_o h 1024 (Leads w) tt
 follow_o : (h : OperatorContext) (w : Word) → Other (follow h w)
 follow_o h (Name couple) = chase_o h (Name couple)
 follow_o h (Ref f offset) = chase_o h (Ref f offset)
-follow_o h (Element a index) = o_ok _
+follow_o h (Element a index) = element_o h a index
 follow_o h w = o_err _ operand_ne
 
 reference_o : (h : OperatorContext) (w : Word) → Other (follow_reference h w)
@@ -385,8 +389,19 @@ cause_o h [] = o_err _ operand_ne
 cause_o h (w ∷ []) = search (calls, causes_o)
 cause_o h (w ∷ v ∷ more) = o_err _ operand_ne
 
+deallocate_o : (h : OperatorContext) (arguments : List Word) → Other (deallocate h arguments)
+deallocate_o h [] = o_err _ operand_ne
+deallocate_o h (w ∷ []) = search calls depth 8
+deallocate_o h (w ∷ v ∷ more) = o_err _ operand_ne
+
+resize_o : (h : OperatorContext) (arguments : List Word) → Other (resize h arguments)
+resize_o h [] = o_err _ operand_ne
+resize_o h (r ∷ []) = o_err _ operand_ne
+resize_o h (r ∷ w ∷ []) = search calls depth 10
+resize_o h (r ∷ w ∷ v ∷ more) = o_err _ operand_ne
+
 intrinsic_o : (n : ℕ) (h : OperatorContext) (arguments : List Word) → Other (intrinsic n h arguments)
-intrinsic_o n h arguments = search (other, arraydec_o, print_o, printrow_o, read_o, process_o, await_o, status_o, wait_o, cause_o) depth 15
+intrinsic_o n h arguments = search (other, arraydec_o, print_o, printrow_o, read_o, process_o, await_o, status_o, wait_o, cause_o, deallocate_o, resize_o) depth 17
 
 entr_at_o : (h : OperatorContext) (arguments : List Word) (end : End) → Other (entr_at h arguments end)
 entr_at_o h arguments (AtIntrinsic n) = intrinsic_o n h arguments

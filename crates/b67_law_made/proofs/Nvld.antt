@@ -59,7 +59,7 @@ start_faults p constants job task level admitted same at = record {
     passes : (bits : ℕ) → at.op ≡ Mpcw bits → is_proc (here constants job task entry.next) bits ≡ true
     passes bits is =
         let stands : Has (listing at.code.code) (At task.place (Mpcw bits)) = subst (λ o. Has (listing at.code.code) (At task.place o)) is at.stands in
-        literal_passes p (here constants job task entry.next) bits same (sound.1 (At task.place (Mpcw bits)) stands (7, has_stray_bits p bits) (inr (inr (inr (inr (inl refl))))))
+        literal_passes p (here constants job task entry.next) bits same (sound.1.rules (At task.place (Mpcw bits)) stands (7, has_stray_bits p bits) (inr (inr (inr (inr (inl refl))))))
 
 pub task_faults : (p : Program) (constants : JobConstants) (job : Job) (task : Task) → IsAdmitted p → constants.segments ≡ p.segments → TasksInOrder (IsStart constants) constants job → Has job.tasks task → FaultsAtNvld constants job task
 task_faults p constants job task admitted same order live =

@@ -14,12 +14,13 @@ use Rattle.b67_model.specs.State.{Return, Frame, Standing, Marked, Entered, Task
 use Rattle.b67_model.specs.Called.{called, called_on, called_by, called_at}
 use Rattle.std.proofs.lemmas.Bool.{eqb-true}
 use Rattle.b67_model.specs.Cells.{place_of, cell, with_cell}
-use Rattle.b67_model.specs.Arrays.{array, element, with_element, indexed, in_order}
+use Rattle.b67_model.specs.Arrays.{array, element, with_element, with_array, all_zero, resized}
+use Rattle.b67_model.specs.Indexing.{indexed, in_order}
 use Rattle.b67_model.specs.Chase.{End, AtCell, AtElement, AtArray, AtProc, AtIntrinsic, chase, follow, follow_reference}
 use Rattle.b67_model.specs.Steps.{Line, Value, Values, Done, Goes, top_of, cells_of, with_cells, leaves_cells, pushes}
 use Rattle.b67_model.specs.Entry.{back_to, needs_level}
 use Rattle.b67_word.specs.declared.faults.Fault.TheVariants.{StackOverflow}
-use Rattle.b67_model.specs.Intrinsics.{answered, answers, array_length, arraydec, print, row_copy, numbers_of, printrow, read_from, read, child_of, starts, process, awaits, await, status_of, status, waits_at, wait, causes, cause, intrinsic}
+use Rattle.b67_model.specs.Intrinsics.{answered, answers, array_length, arraydec, print, row_copy, numbers_of, printrow, read_from, read, child_of, starts, process, awaits, await, status_of, status, waits_at, wait, causes, cause, needs_writable, deallocate, resize, intrinsic}
 use Rattle.b67_model.specs.Rows.{on_one, on_two, dlet, exch, dupl, on_cells, branches, branch_if, stff_word, stff, load_at, load, indx, nxlv, store_at, store, entr_at, entr_with, entr, proc_of, plain, row}
 use Rattle.b67_law_order.proofs.Posts.{Post, post_ok, post_err, post_bind, post_any, post_then, post_if, post_at, post_if_is, post_is}
 use Rattle.b67_law_made.specs.Made.{OperatorMakes, MakesMark, by_mkst, by_entr, by_retn, by_load, by_stod, by_ston, by_valc, StandsIn, HasWord, HasMark, EachRowMakesItsWords, by_process}
@@ -185,6 +186,18 @@ module _ (W : Word → Type 0) (M : ℕ → Standing → Type 0) (numbers : (bit
   cause_good h (r ∷ []) s = post_any Kept (follow_reference h r) _ (λ end. causes_good h end s)
   cause_good h (r ∷ v ∷ more) s = post_err Kept _
 
+  deallocate_good : (h : OperatorContext) (arguments : List Word) → Source h → Good (deallocate h arguments)
+  deallocate_good h [] s = post_err Kept _
+  deallocate_good h (w ∷ []) s = post_any Kept (row_copy w) _ (λ a. post_then Kept (needs_writable h a) _ (S.answers_good W M numbers h (with_array h.job a all_zero) [] [] None s s.tasks (S.no_words W M numbers)))
+  deallocate_good h (w ∷ v ∷ more) s = post_err Kept _
+
+  resize_good : (h : OperatorContext) (arguments : List Word) → Source h → Good (resize h arguments)
+  resize_good h [] s = post_err Kept _
+  resize_good h (r ∷ []) s = post_err Kept _
+  resize_good h (r ∷ w ∷ []) s = post_any Kept (row_copy r) _ (λ a. post_any Kept (whole w) _ (λ n. post_any Kept (array_length n) _ (λ len.
+      post_then Kept (needs_writable h a) _ (S.answers_good W M numbers h (with_array h.job a (resized len)) [] [] (Some a) s s.tasks (S.no_words W M numbers)))))
+  resize_good h (r ∷ w ∷ v ∷ more) s = post_err Kept _
+
   -- what the call of an intrinsic makes, if it is this one
   pub record Calls (call : Option ℕ) : Type 0 where
     pub arraydec : call ≡ Some 8 → (a : ℕ) → W (Original a)
@@ -197,7 +210,8 @@ module _ (W : Word → Type 0) (M : ℕ → Standing → Type 0) (numbers : (bit
   intrinsic_good : (n : ℕ) (h : OperatorContext) (arguments : List Word) (call : Option ℕ) → call ≡ Some n → Source h → Calls call → AllW arguments → Good (intrinsic n h arguments)
   intrinsic_good n h arguments call is s made all =
       post_if_is Kept _ _ _ (λ e. arraydec_good h arguments s (made.arraydec (named 8 n call is e))) (λ _. post_if Kept _ _ _ (print_good h arguments s) (post_if Kept _ _ _ (printrow_good h arguments s) (post_if Kept _ _ _ (read_good h arguments s)
-      (post_if_is Kept _ _ _ (λ e. process_good h arguments s (made.process (named 12 n call is e)) all) (λ _. post_if Kept _ _ _ (await_good h arguments s) (post_if Kept _ _ _ (status_good h arguments s) (post_if Kept _ _ _ (wait_good h arguments s) (post_if Kept _ _ _ (cause_good h arguments s) (post_err Kept _)))))))))
+      (post_if_is Kept _ _ _ (λ e. process_good h arguments s (made.process (named 12 n call is e)) all) (λ _. post_if Kept _ _ _ (await_good h arguments s) (post_if Kept _ _ _ (status_good h arguments s) (post_if Kept _ _ _ (wait_good h arguments s) (post_if Kept _ _ _ (cause_good h arguments s)
+      (post_if Kept _ _ _ (deallocate_good h arguments s) (post_if Kept _ _ _ (resize_good h arguments s) (post_err Kept _)))))))))))
 
   entr_at_good : (h : OperatorContext) (arguments : List Word) (end : End) (call : Option ℕ) → call ≡ called_at (Ok end) → Source h → Calls call → AllW arguments → Good (entr_at h arguments end)
   entr_at_good h arguments (AtIntrinsic n) call is s made all = intrinsic_good n h arguments call is s made all

@@ -84,7 +84,7 @@ no_change P h run =
     }
 
 itself : (arrays : List Array) (a : Array) → Has arrays a → Stays arrays a
-itself arrays a k = record { item = a; live = k; named = refl; owned = refl; long = omega arith }
+itself arrays a k = record { item = a; live = k; named = refl; owned = refl }
 
 -- the same frames among other arrays
 pub change_arrays : (P : Starts) (h : OperatorContext) (arrays arrays' : List Array) (frames : List Frame) (next : ℕ) → Change P h arrays frames next →

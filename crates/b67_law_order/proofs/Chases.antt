@@ -9,16 +9,17 @@ use Rattle.b67_word.specs.Couples.{couple}
 use Rattle.b67_model.specs.Answers.{Answer}
 use Rattle.b67_model.specs.Keyed.{keyed}
 use Rattle.b67_lemmas.specs.Lists.{Has}
-use Rattle.b67_lemmas.proofs.Members.{all_in, has_append_left, has_get, has_map, has_reverse_back, keyed_falls}
-use Rattle.b67_model.specs.Arrays.{no_array, array, array_at, array_of, index_below, indexed}
+use Rattle.b67_lemmas.proofs.Members.{has_append_left, has_get, has_map, has_reverse_back, keyed_falls}
+use Rattle.b67_model.specs.Arrays.{no_array, array}
+use Rattle.b67_model.specs.Indexing.{array_at, array_of, index_below, indexed}
 use Rattle.b67_model.specs.Words as Words
 use Rattle.b67_model.specs.Words.{Word, Operand, Name, Ref, Row, Element, Original, Proc, Intrinsic, operand, number}
 use Rattle.b67_model.specs.State.{Frame, Standing, Marked, Entered, Array, OperatorContext, frame}
 use Rattle.b67_model.specs.Environment.{level_of_standing, level_of_frame, environment_of, running, running_from, outward, running_level}
 use Rattle.b67_model.specs.Cells.{first_offset, cell_of, cell, named, place_of}
-use Rattle.b67_model.specs.Chase.{End, AtCell, AtElement, AtArray, AtProc, AtIntrinsic, Link, Stops, Leads, link_at, link_in, link_from, link, chase_on, chase, follow, follow_reference}
-use Rattle.b67_model.specs.InOrder.{Starts, Known, known_of, IsEntered, NamesEntered, NamesArray, OwnsArray, WordInOrder, StackInOrder, ReturnsInOrder, ArrayInOrder}
-use Rattle.b67_law_order.specs.Ends.{EndInOrder}
+use Rattle.b67_model.specs.Chase.{End, AtCell, AtElement, AtArray, AtProc, AtIntrinsic, Link, Stops, Leads, element_end, link_at, link_in, link_from, link, chase_on, chase, follow, follow_reference}
+use Rattle.b67_model.specs.InOrder.{Starts, Known, known_of, IsEntered, NamesEntered, NamesArray, OwnsArray, WordInOrder, StackInOrder, ReturnsInOrder}
+use Rattle.b67_law_order.specs.Ends.{IsElement, EndInOrder}
 use Rattle.b67_law_order.proofs.Looks.{SeenWord, Run, reach, own_order, see, closed, level_low, own_high}
 use Rattle.b67_law_order.proofs.Posts.{Post, post_ok, post_err, post_bind, post_any, post_if_is}
 
@@ -113,27 +114,32 @@ module _ (P : Starts) (h : OperatorContext) (run : Run P h) where
   place_in (Words.Segment number) g = post_err (PlaceInOrder (reach h)) _
 
   -- an original that is seen in an entered frame
-  owned_named : (f array : ℕ) → NamesEntered (reach h) f → OwnsArray h.job.arrays f array → NamesArray h.job.arrays (reach h) array 0
+  owned_named : (f array : ℕ) → NamesEntered (reach h) f → OwnsArray h.job.arrays f array → NamesArray h.job.arrays (reach h) array
   owned_named f array names g = record {
     item = g.item;
     live = g.live;
     named = g.named;
     owner = subst (NamesEntered (reach h)) (sym g.owned) names;
-    inside = (all_in ArrayInOrder h.job.arrays g.item run.order.arrays g.live).length_low;
   }
 
-  link_word : (f offset : ℕ) → PlaceInOrder (reach h) (f, offset) → (w : Word) → cell h f offset ≡ Ok w → SeenWord P h.job.arrays (reach h) f w → LinkInOrder P h (link_at f offset w)
+  -- the index is tested as it is used
+  element_in : (a index : ℕ) → NamesArray h.job.arrays (reach h) a → Post (EndInOrder P h) (element_end h a index)
+  element_in a index g = post_if_is (EndInOrder P h) (ltb index (length (array h.job a).numbers)) _ _
+      (λ t. post_ok (EndInOrder P h) (AtElement a index) (record { names = g; inside = ltb-true index _ t }))
+      (λ t. post_err (EndInOrder P h) _)
+
+  link_word : (f offset : ℕ) → PlaceInOrder (reach h) (f, offset) → (w : Word) → cell h f offset ≡ Ok w → SeenWord P h.job.arrays (reach h) f w → LinkInOrder P h (link_at h f offset w)
   link_word f offset at (Operand bits) e g = post_ok (EndInOrder P h) (AtCell f offset bits) (record { names = at.0; low = at.1; bound = g; found = e })
   link_word f offset at (Name couple) e g = g
   link_word f offset at (Ref identity other) e g = g
-  link_word f offset at (Element array index) e g = post_ok (EndInOrder P h) (AtElement array index) g
+  link_word f offset at (Element a index) e g = element_in a index g
   link_word f offset at (Original array) e g = post_ok (EndInOrder P h) (AtArray array) (owned_named f array at.0 g)
   link_word f offset at (Row array) e g = post_ok (EndInOrder P h) (AtArray array) g
   link_word f offset at (Proc segment level place) e g = post_ok (EndInOrder P h) (AtProc f segment level place) (record { names = at.0; own = g.2; high = g.0; starts = g.1 })
   link_word f offset at (Intrinsic number) e g = post_ok (EndInOrder P h) (AtIntrinsic number) tt
   link_word f offset at (Words.Segment number) e g = post_err (EndInOrder P h) _
 
-  link_cell : (f offset : ℕ) → PlaceInOrder (reach h) (f, offset) → (a : Answer Word) → cell h f offset ≡ a → LinkInOrder P h (link_in f offset a)
+  link_cell : (f offset : ℕ) → PlaceInOrder (reach h) (f, offset) → (a : Answer Word) → cell h f offset ≡ a → LinkInOrder P h (link_in h f offset a)
   link_cell f offset at (Err fault) e = post_err (EndInOrder P h) fault
   link_cell f offset at (Ok w) e = link_word f offset at w e ((see P h run f at.0.standing at.0.among).words w (cell_has (frame h f) offset w e))
 
@@ -152,7 +158,7 @@ module _ (P : Starts) (h : OperatorContext) (run : Run P h) where
   pub follow_in : (owner : ℕ) (w : Word) → WordInOrder P h.job.arrays (reach h) owner w → Post (EndInOrder P h) (follow h w)
   follow_in owner (Name couple) g = chase_in (Name couple) g
   follow_in owner (Ref f offset) g = chase_in (Ref f offset) g
-  follow_in owner (Element array index) g = post_ok (EndInOrder P h) (AtElement array index) g
+  follow_in owner (Element a index) g = element_in a index g
   follow_in owner (Operand bits) g = post_err (EndInOrder P h) _
   follow_in owner (Row array) g = post_err (EndInOrder P h) _
   follow_in owner (Original array) g = post_err (EndInOrder P h) _
@@ -172,7 +178,7 @@ module _ (P : Starts) (h : OperatorContext) (run : Run P h) where
   follow_reference_in owner (Words.Segment number) g = post_err (EndInOrder P h) _
 
   abbrev pub IsArray : ℕ → Type 0
-  IsArray array = NamesArray h.job.arrays (reach h) array 0
+  IsArray array = NamesArray h.job.arrays (reach h) array
 
   array_at_in : (end : End) → EndInOrder P h end → Post IsArray (array_at end)
   array_at_in (AtArray array) g = post_ok IsArray array g
@@ -193,30 +199,24 @@ module _ (P : Starts) (h : OperatorContext) (run : Run P h) where
   array_of_in owner (Words.Segment number) g = post_err IsArray _
 
   -- the array of an identity is the one that is named
-  pub array_is : (n index : ℕ) (a : NamesArray h.job.arrays (reach h) n index) → array h.job n ≡ a.item
-  array_is n index a =
+  pub array_is : (n : ℕ) (a : NamesArray h.job.arrays (reach h) n) → array h.job n ≡ a.item
+  array_is n a =
       let e : keyed (λ (x : Array). x.identity) n h.job.arrays ≡ Some a.item =
       subst (λ m. keyed (λ (x : Array). x.identity) m h.job.arrays ≡ Some a.item) a.named (keyed_falls (λ (x : Array). x.identity) h.job.next_array h.job.arrays a.item run.order.names a.live) in
       ap (λ o. unwrap_or o no_array) e
 
-  abbrev pub IsElement : (ℕ × ℕ) → Type 0
-  IsElement at = NamesArray h.job.arrays (reach h) at.0 at.1
+  abbrev pub IsIndexed : (ℕ × ℕ) → Type 0
+  IsIndexed at = IsElement h (reach h) at.0 at.1
 
-  index_in : (a : ℕ) (g : IsArray a) (n : ℤ) → Post (λ index. IsElement (a, index)) (index_below (length (array h.job a).numbers) n)
-  index_in a g (negsuc n) = post_err (λ index. IsElement (a, index)) _
-  index_in a g (pos n) = post_if_is (λ index. IsElement (a, index)) (ltb n (length (array h.job a).numbers)) _ _
-      (λ t. post_ok (λ index. IsElement (a, index)) n (record {
-        item = g.item;
-        live = g.live;
-        named = g.named;
-        owner = g.owner;
-        inside = let low : n < length (array h.job a).numbers = ltb-true n _ t in let is = array_is a 0 g in subst (λ (x : Array). n < length x.numbers) is low;
-      }))
-      (λ t. post_err (λ index. IsElement (a, index)) _)
+  index_in : (a : ℕ) (g : IsArray a) (n : ℤ) → Post (λ index. IsIndexed (a, index)) (index_below (length (array h.job a).numbers) n)
+  index_in a g (negsuc n) = post_err (λ index. IsIndexed (a, index)) _
+  index_in a g (pos n) = post_if_is (λ index. IsIndexed (a, index)) (ltb n (length (array h.job a).numbers)) _ _
+      (λ t. post_ok (λ index. IsIndexed (a, index)) n (record { names = g; inside = ltb-true n _ t }))
+      (λ t. post_err (λ index. IsIndexed (a, index)) _)
 
-  pub indexed_in : (owner : ℕ) (r i : Word) → WordInOrder P h.job.arrays (reach h) owner r → Post IsElement (indexed h r i)
-  indexed_in owner r i g = post_any IsElement (operand i) _ (λ bits. post_bind IsArray IsElement (array_of h r) _ (array_of_in owner r g)
-      (λ a is. post_any IsElement (number bits) _ (λ n. post_bind (λ index. IsElement (a, index)) IsElement (index_below (length (array h.job a).numbers) n) _ (index_in a is n) (λ index e. post_ok IsElement (a, index) e))))
+  pub indexed_in : (owner : ℕ) (r i : Word) → WordInOrder P h.job.arrays (reach h) owner r → Post IsIndexed (indexed h r i)
+  indexed_in owner r i g = post_any IsIndexed (operand i) _ (λ bits. post_bind IsArray IsIndexed (array_of h r) _ (array_of_in owner r g)
+      (λ a is. post_any IsIndexed (number bits) _ (λ n. post_bind (λ index. IsIndexed (a, index)) IsIndexed (index_below (length (array h.job a).numbers) n) _ (index_in a is n) (λ index e. post_ok IsIndexed (a, index) e))))
 
 pub ok_some : (o : Option Word) (w : Word) → ok_or o InvalidAddress ≡ Ok w → o ≡ Some w
 ok_some None w e = cc

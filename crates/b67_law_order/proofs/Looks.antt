@@ -109,8 +109,8 @@ abbrev pub SeenWord : Starts → List Array → List Known → ℕ → Word → 
 SeenWord P arrays reach owner (Operand bits) = bits < 2 ^ 48
 SeenWord P arrays reach owner (Name couple) = couple < 2 ^ 14
 SeenWord P arrays reach owner (Ref identity offset) = NamesEntered reach identity × (offset < 2 ^ 12)
-SeenWord P arrays reach owner (Row array) = NamesArray arrays reach array 0
-SeenWord P arrays reach owner (Element array index) = NamesArray arrays reach array index
+SeenWord P arrays reach owner (Row array) = NamesArray arrays reach array
+SeenWord P arrays reach owner (Element array index) = NamesArray arrays reach array
 SeenWord P arrays reach owner (Original array) = OwnsArray arrays owner array
 SeenWord P arrays reach owner (Proc segment level place) = (level ≤ 31) × P segment level place × (1 < owner)
 SeenWord P arrays reach owner (Intrinsic number) = Unit {0}
@@ -139,7 +139,7 @@ entry_seen P arrays reach (Intrinsic number) g = tt
 entry_seen P arrays reach (Words.Segment number) g = tt
 
 mcp_seen : (P : Starts) (arrays : List Array) (reach : List Known) (w : Word) → Has mcp.cells w → SeenWord P arrays reach 0 w
-mcp_seen P arrays reach w h = all_in (SeenWord P arrays reach 0) mcp.cells w (tt, (tt, (tt, (tt, (tt, (tt, (tt, (tt, (tt, tt))))))))) h
+mcp_seen P arrays reach w h = all_in (SeenWord P arrays reach 0) mcp.cells w (tt, (tt, (tt, (tt, (tt, (tt, (tt, (tt, (tt, (tt, (tt, tt))))))))))) h
 
 -- a frame of a list in order: its words and its environment by the whole list
 line_words : (P : Starts) (arrays : List Array) (outer : List Known) (fs : List Frame) (f : Frame) → FramesInOrder P arrays outer fs → Has fs f →
@@ -151,7 +151,7 @@ line_words P arrays outer (x ∷ fs) f g h = elim h [
   | inr m ↦
       let r = line_words P arrays outer fs f g.2 m in
       let wide : Wider (map known_of fs ++ outer) (map known_of (x ∷ fs) ++ outer) arrays arrays =
-      record { entered = λ n s e k. inr k; kept = λ a k at. record { item = a; live = k; named = refl; owned = refl; long = omega arith } } in
+      record { entered = λ n s e k. inr k; kept = λ a k at. record { item = a; live = k; named = refl; owned = refl } } in
       let at : Has (known_numbers (map known_of (x ∷ fs) ++ outer)) f.identity = known_number (map known_of (x ∷ fs) ++ outer) f.identity f.standing (inr (has_append_left (map known_of fs) outer (known_of f) (has_map known_of fs f m))) in (
         words_wider P (map known_of fs ++ outer) (map known_of (x ∷ fs) ++ outer) arrays arrays f.identity wide at f.cells r.0,
         stands_wider (map known_of fs ++ outer) (map known_of (x ∷ fs) ++ outer) f.standing (λ n t e k. inr k) r.1,

@@ -259,7 +259,7 @@ module _ (P : Starts) (constants : JobConstants) (job : Job) (change : Task → 
       let s = each t h in
       let own = task_of t h in
       let kept : TaskInOrder P constants (mapped change job) t = task_kept P constants job (mapped change job) (λ n. Unit {0}) map_follows (λ u k. (task_of u k).birth) (omega arith) t h (λ n k. tt)
-      (λ a k at. record { item = a; live = k; named = refl; owned = refl; long = omega arith }) own in
+      (λ a k at. record { item = a; live = k; named = refl; owned = refl }) own in
       let outer : outer_of (mapped change job) t ≡ outer_of (mapped change job) (change t) = rw (s.critical, s.line) refl in
       let reach : reach_of (mapped change job) t ≡ reach_of (mapped change job) (change t) = rw outer (ap (λ ks. ks ++ outer_of (mapped change job) (change t)) (frames_known t.frames (change t).frames s.frames)) in
       record {

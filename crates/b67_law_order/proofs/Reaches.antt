@@ -1,5 +1,5 @@
 -- Reaches that are alike: the same identities, and the same entered frames.
-use Rattle.std.proofs.Common.{◌≡◌, ℕ, ◌≤◌, List, [], ◌∷◌, ◌++◌, map, length, Some, refl, sym, ap, ◌∙◌, subst, inl, inr, arith}
+use Rattle.std.proofs.Common.{◌≡◌, ℕ, List, [], ◌∷◌, ◌++◌, map, Some, refl, sym, ap, ◌∙◌, subst, inl, inr}
 use Rattle.std.specs.List.{AllByRecursion}
 use Rattle.b67_model.specs.Keyed.{keyed}
 use Rattle.b67_lemmas.specs.Lists.{Has}
@@ -48,13 +48,12 @@ alike_has (k ∷ ks) (l ∷ ls) n s a e h = elim h [
   | inr m ↦ inr (alike_has ks ls n s a.2 e m)
 ]
 
--- the array is there, at least as long
+-- the array is there, of whatever length
 pub record Stays (arrays' : List Array) (a : Array) : Type 0 where
   pub item : Array
   pub live : Has arrays' item
   pub named : item.identity ≡ a.identity
   pub owned : item.owner ≡ a.owner
-  pub long : length a.numbers ≤ length item.numbers
 
 -- what a reach and its arrays show of another
 pub record Wider (reach reach' : List Known) (arrays arrays' : List Array) : Type 0 where
@@ -67,8 +66,8 @@ names_entered reach reach' arrays arrays' n wide e = record { standing = e.stand
 pub known_number : (reach : List Known) (n : ℕ) (s : Standing) → Has reach (n, s) → Has (known_numbers reach) n
 known_number reach n s h = has_map (λ (k : Known). k.0) reach (n, s) h
 
-pub names_array : (reach reach' : List Known) (arrays arrays' : List Array) (array index : ℕ) → Wider reach reach' arrays arrays' → NamesArray arrays reach array index → NamesArray arrays' reach' array index
-names_array reach reach' arrays arrays' array index wide e =
+pub names_array : (reach reach' : List Known) (arrays arrays' : List Array) (array : ℕ) → Wider reach reach' arrays arrays' → NamesArray arrays reach array → NamesArray arrays' reach' array
+names_array reach reach' arrays arrays' array wide e =
     let owner = names_entered reach reach' arrays arrays' e.item.owner wide e.owner in
     let kept = wide.kept e.item e.live (known_number reach' e.item.owner owner.standing owner.among) in
     record {
@@ -76,7 +75,6 @@ names_array reach reach' arrays arrays' array index wide e =
       live = kept.live;
       named = kept.named ∙ e.named;
       owner = subst (NamesEntered reach') (sym kept.owned) owner;
-      inside = omega (arith, kept.long, e.inside);
     }
 
 pub word_wider : (P : Starts) (reach reach' : List Known) (arrays arrays' : List Array) (owner : ℕ) → Wider reach reach' arrays arrays' → Has (known_numbers reach') owner → (w : Word) →
@@ -84,8 +82,8 @@ pub word_wider : (P : Starts) (reach reach' : List Known) (arrays arrays' : List
 word_wider P reach reach' arrays arrays' owner wide at (Operand bits) g = g
 word_wider P reach reach' arrays arrays' owner wide at (Name couple) g = g
 word_wider P reach reach' arrays arrays' owner wide at (Ref identity offset) g = (names_entered reach reach' arrays arrays' identity wide g.0, g.1)
-word_wider P reach reach' arrays arrays' owner wide at (Row array) g = names_array reach reach' arrays arrays' array 0 wide g
-word_wider P reach reach' arrays arrays' owner wide at (Element array index) g = names_array reach reach' arrays arrays' array index wide g
+word_wider P reach reach' arrays arrays' owner wide at (Row array) g = names_array reach reach' arrays arrays' array wide g
+word_wider P reach reach' arrays arrays' owner wide at (Element array index) g = names_array reach reach' arrays arrays' array wide g
 word_wider P reach reach' arrays arrays' owner wide at (Original array) g =
     let kept = wide.kept g.item g.live (subst (Has (known_numbers reach')) (sym g.owned) at) in
     record { item = kept.item; live = kept.live; named = kept.named ∙ g.named; owned = kept.owned ∙ g.owned }

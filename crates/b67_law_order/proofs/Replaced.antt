@@ -197,7 +197,7 @@ module _ (P : Starts) (constants : JobConstants) (job : Job) (old : Task) (job' 
       let outer' = outer_kept in
       let reach : Alike (map known_of new.frames ++ outer_of job old) (reach_of job' new) = alike_under (outer_of job old) (outer_of job' new) new.frames outer' in
       record {
-        frames = frames_alike P job'.arrays job'.arrays (outer_of job old) (outer_of job' new) new.frames outer' (λ a h at. record { item = a; live = h; named = refl; owned = refl; long = omega arith }) r.frames;
+        frames = frames_alike P job'.arrays job'.arrays (outer_of job old) (outer_of job' new) new.frames outer' (λ a h at. record { item = a; live = h; named = refl; owned = refl }) r.frames;
         returns = r.returns;
         some = r.some;
         falls = subst (Falls job'.next_frame) (alike_numbers (map known_of new.frames ++ outer_of job old) (reach_of job' new) reach) r.falls;

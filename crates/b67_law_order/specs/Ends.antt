@@ -1,11 +1,12 @@
 -- Where references lead in a state in order.
-use Rattle.std.specs.Prelude.{◌≡◌, ℕ, ◌^◌, ◌<◌, ◌≤◌, List, Some, Ok, Err}
+use Rattle.std.specs.Prelude.{◌≡◌, ℕ, ◌^◌, ◌<◌, ◌≤◌, List, length, Some, Ok, Err}
 use Rattle.b67_word.specs.declared.couples.Place.{Place}
 use Rattle.b67_model.specs.Answers.{Answer}
 use Rattle.b67_model.specs.Keyed.{keyed}
 use Rattle.b67_model.specs.Words.{Operand, Name}
 use Rattle.b67_model.specs.State.{Ready, Task, JobConstants, Job, OperatorContext}
 use Rattle.b67_model.specs.Cells.{cell}
+use Rattle.b67_model.specs.Arrays.{array}
 use Rattle.b67_model.specs.Chase.{End, AtCell, AtElement, AtArray, AtProc, AtIntrinsic, chase}
 use Rattle.b67_model.specs.InOrder.{Starts, IsSegment, IsStart, Known, NamesEntered, NamesArray, SettingInOrder, TasksInOrder, reach_of}
 
@@ -22,11 +23,16 @@ pub record IsCell (h : OperatorContext) (reach : List Known) (f offset bits : �
   pub bound : bits < 2 ^ 48
   pub found : cell h f offset ≡ Ok (Operand bits)
 
+-- an element of a live array, by the array's length as it is now
+pub record IsElement (h : OperatorContext) (reach : List Known) (a index : ℕ) : Type 0 where
+  pub names : NamesArray h.job.arrays reach a
+  pub inside : index < length (array h.job a).numbers
+
 -- what the end of a reference may be
 abbrev pub EndInOrder : Starts → OperatorContext → End → Type 0
 EndInOrder P h (AtCell f offset bits) = IsCell h (reach_of h.job h.task) f offset bits
-EndInOrder P h (AtElement array index) = NamesArray h.job.arrays (reach_of h.job h.task) array index
-EndInOrder P h (AtArray array) = NamesArray h.job.arrays (reach_of h.job h.task) array 0
+EndInOrder P h (AtElement a index) = IsElement h (reach_of h.job h.task) a index
+EndInOrder P h (AtArray a) = NamesArray h.job.arrays (reach_of h.job h.task) a
 EndInOrder P h (AtProc f segment level place) = IsProcOf P (reach_of h.job h.task) f segment level place
 EndInOrder P h (AtIntrinsic n) = Unit {0}
 

@@ -33,11 +33,11 @@ use Rattle.b67_law_order.proofs.Maps.{HoldsOperand, cell_stored, map_good, frame
 use Rattle.b67_law_order_rows.proofs.Stores.{holds_operand, same_item, operand_is, own_frame}
 use Rattle.b67_model.specs.InOrder.{is_copy_of, EntryInOrder}
 
-length_replicate : (n : ℕ) → length {A = ℕ} (replicate n 0) ≡ n
+pub length_replicate : (n : ℕ) → length {A = ℕ} (replicate n 0) ≡ n
 length_replicate zero = refl
 length_replicate (suc n) = ap suc (length_replicate n)
 
-zeros_low : (n : ℕ) → AllByRecursion (λ (m : ℕ). m < 2 ^ 48) (replicate n 0)
+pub zeros_low : (n : ℕ) → AllByRecursion (λ (m : ℕ). m < 2 ^ 48) (replicate n 0)
 zeros_low zero = tt
 zeros_low (suc n) = (omega arith, zeros_low n)
 
@@ -163,7 +163,7 @@ module _ (P : Starts) (h : OperatorContext) (cut : Cut P h) where
       let arrays' : List Array = made ∷ h.job.arrays in
       let job' : Job = record h.job { arrays = arrays'; next_array = h.job.next_array + 1 } in
       let cells = Original h.job.next_array ∷ (top below).cells in
-      let stay : (x : Array) → Has h.job.arrays x → Stays arrays' x = λ x k. record { item = x; live = inr k; named = refl; owned = refl; long = omega arith } in
+      let stay : (x : Array) → Has h.job.arrays x → Stays arrays' x = λ x k. record { item = x; live = inr k; named = refl; owned = refl } in
       let c = cut_change P h cut free in
       let c' : Change P h arrays' below h.job.next_frame = change_arrays P h h.job.arrays arrays' below h.job.next_frame c (λ x k at. stay x k) in
       let old_words = top_words P h.job.arrays (outside h) below c.order in
@@ -224,7 +224,7 @@ module _ (P : Starts) (h : OperatorContext) (cut : Cut P h) where
       originals_more n [] cells more some e = absurd (some refl)
       originals_more n (f ∷ fs) cells more some e = omega (arith, e)
 
-  length_fits : (n : ℤ) → Post (λ len. (0 < len) × (len < 65536)) (array_length n)
+  pub length_fits : (n : ℤ) → Post (λ len. (0 < len) × (len < 65536)) (array_length n)
   length_fits (negsuc n) = post_err _ _
   length_fits (pos n) = post_if_is (λ len. (0 < len) × (len < 65536)) (ltb 0 n && ltb n 65536) _ _
       (λ t. post_ok (λ len. (0 < len) × (len < 65536)) n (both (ltb 0 n) (ltb n 65536) t (λ a. ltb-true 0 n a) (λ b. ltb-true n 65536 b)))

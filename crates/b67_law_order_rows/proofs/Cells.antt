@@ -12,15 +12,15 @@ use Rattle.b67_model.specs.Chase.{End, AtCell, AtElement, AtArray, AtProc, AtInt
 use Rattle.b67_model.specs.Steps.{top_of, cells_of, leaves_cells}
 use Rattle.b67_model.specs.Entry.{back_to}
 use Rattle.b67_model.specs.Intrinsics.{is_original}
-use Rattle.b67_model.specs.InOrder.{Starts, NamesArray, CopiesAbove, is_original_of}
+use Rattle.b67_model.specs.InOrder.{Starts, CopiesAbove, is_original_of}
 use Rattle.b67_law_order.proofs.Looks.{Run, reach}
-use Rattle.b67_law_order.specs.Ends.{EndInOrder}
+use Rattle.b67_law_order.specs.Ends.{IsElement, EndInOrder}
 use Rattle.b67_law_order.proofs.Chases.{follow_in}
 use Rattle.b67_law_order.proofs.Posts.{Post, post_ok, post_err, post_bind, post_any, post_if_is, post_more, post_both, post_any_at}
 use Rattle.b67_model.specs.Words.{operand}
 use Rattle.b67_model.specs.Cells.{place_of, cell}
 use Rattle.b67_model.specs.Arithmetic.{Binary}
-use Rattle.b67_model.specs.Arrays.{array_of, indexed, in_order}
+use Rattle.b67_model.specs.Indexing.{array_of, indexed, in_order}
 use Rattle.b67_model.specs.Rows.{CellRow, on_one, on_two, movable, dlet, exch, dupl, on_cells, branches, branch_if, valc, stff_word, stff, load_at, load, indx, nxlv}
 use Rattle.b67_law_order_rows.proofs.Steps.{Keeps, Good, Fit, AllFit, originals, SameOriginals, own_fit, own_copies, plain_above, cells_good, accident_good, element_low, evaluates_good}
 use Rattle.b67_law_order.proofs.Chases.{chase_in, place_in, indexed_in}
@@ -128,7 +128,7 @@ pub go_good : (P : Starts) (h : OperatorContext) (target : Place) (cells : List 
     Good P h (leaves_cells (branches h target) cells None)
 go_good P h target cells run starts fit above same = cells_good P (branches h target) cells None (run_at P h target run starts) fit above same
 
-operand_plain : (w : Word) → Post (λ bits. is_original w ≡ false) (operand w)
+pub operand_plain : (w : Word) → Post (λ bits. is_original w ≡ false) (operand w)
 operand_plain (Operand bits) = post_ok (λ b. is_original (Operand bits) ≡ false) bits refl
 operand_plain (Original a) = post_err _ _
 operand_plain w = post_err _ _
@@ -152,7 +152,7 @@ valc_good P h couple low run = post_bind (EndInOrder P h) (Keeps P h) _ _ (chase
 follow_plain : (h : OperatorContext) (w : Word) → Post (λ end. is_original w ≡ false) (follow h w)
 follow_plain h (Name couple) = post_any_at (follow h (Name couple)) (λ end. refl)
 follow_plain h (Ref f offset) = post_any_at (follow h (Ref f offset)) (λ end. refl)
-follow_plain h (Element array index) = post_ok _ _ refl
+follow_plain h (Element a index) = post_any_at (follow h (Element a index)) (λ end. refl)
 follow_plain h (Operand bits) = post_err _ _
 follow_plain h (Row array) = post_err _ _
 follow_plain h (Original array) = post_err _ _
@@ -172,7 +172,7 @@ followed P h run w fit = post_more (λ end. EndInOrder P h end × (is_original w
 load_at_good : (P : Starts) (h : OperatorContext) (rest : List Word) (end : End) → Run P h → P h.task.segment (level_of_frame (running h.task.frames)) h.at → EndInOrder P h end → AllFit P h rest → CopiesAbove rest → SameOriginals rest (cells_of h) →
     Good P h (load_at h rest end)
 load_at_good P h rest (AtCell f offset bits) run at is fit above same = cells_good P h (Operand bits ∷ rest) None run (is.bound, fit) (tt, above) (λ n. omega (arith, same n))
-load_at_good P h rest (AtElement a index) run at is fit above same = cells_good P h (Operand (element h.job a index) ∷ rest) (Some a) run (element_low P h run a index index is, fit) (tt, above) (λ n. omega (arith, same n))
+load_at_good P h rest (AtElement a index) run at is fit above same = cells_good P h (Operand (element h.job a index) ∷ rest) (Some a) run (element_low P h run a index is.names, fit) (tt, above) (λ n. omega (arith, same n))
 load_at_good P h rest (AtArray a) run at is fit above same = cells_good P h (Row a ∷ rest) None run (is, fit) (tt, above) (λ n. omega (arith, same n))
 load_at_good P h rest (AtProc f segment level place) run at is fit above same = accident_good P h rest (back_to h false h.at) (AtProc f segment level place) run is fit above same at
 load_at_good P h rest (AtIntrinsic n) run at is fit above same = post_err (Keeps P h) _
@@ -221,8 +221,8 @@ pair P h (Words.Segment number) a x y = record { first = x; second = y; plain = 
 pub two_plain : (n : ℕ) (b a : Word) (rest : List Word) → is_original a ≡ false → is_original b ≡ false → originals n (b ∷ a ∷ rest) ≡ originals n rest
 two_plain n b a rest p q = none_of b (a ∷ rest) n q ∙ none_of a rest n p
 
-pub indexed_good : (P : Starts) (h : OperatorContext) (r i : Word) → Run P h → Fit P h r → Post (λ at. NamesArray h.job.arrays (reach h) at.0 at.1 × ((is_original r ≡ false) × (is_original i ≡ false))) (indexed h r i)
-indexed_good P h r i run fit = post_both (λ at. NamesArray h.job.arrays (reach h) at.0 at.1) (λ at. (is_original r ≡ false) × (is_original i ≡ false)) (indexed h r i) (indexed_in P h run (top_of h).identity r i fit) (indexed_plain h r i)
+pub indexed_good : (P : Starts) (h : OperatorContext) (r i : Word) → Run P h → Fit P h r → Post (λ at. IsElement h (reach h) at.0 at.1 × ((is_original r ≡ false) × (is_original i ≡ false))) (indexed h r i)
+indexed_good P h r i run fit = post_both (λ at. IsElement h (reach h) at.0 at.1) (λ at. (is_original r ≡ false) × (is_original i ≡ false)) (indexed h r i) (indexed_in P h run (top_of h).identity r i fit) (indexed_plain h r i)
 
 pub indx_good : (P : Starts) (h : OperatorContext) (cells : List Word) → Run P h → cells_of h ≡ cells → Good P h (indx h cells)
 indx_good P h [] run are = post_err (Keeps P h) _
@@ -233,7 +233,7 @@ indx_good P h (b ∷ a ∷ rest) run are =
     let two = pair P h b a fit.0 fit.1.0 in
     post_bind _ (Keeps P h) _ _ (indexed_good P h (in_order b a).0 (in_order b a).1 run two.first)
     (λ at g. let plain = two.plain g.1.0 g.1.1 in
-    cells_good P h (Element at.0 at.1 ∷ rest) None run (g.0, fit.1.1) (tt, above.1.1) (λ n. omega (arith, two_plain n b a rest plain.0 plain.1, ap (originals n) are)))
+    cells_good P h (Element at.0 at.1 ∷ rest) None run (g.0.names, fit.1.1) (tt, above.1.1) (λ n. omega (arith, two_plain n b a rest plain.0 plain.1, ap (originals n) are)))
 
 pub nxlv_good : (P : Starts) (h : OperatorContext) (cells : List Word) → Run P h → cells_of h ≡ cells → Good P h (nxlv h cells)
 nxlv_good P h [] run are = post_err (Keeps P h) _
@@ -244,4 +244,4 @@ nxlv_good P h (b ∷ a ∷ rest) run are =
     let two = pair P h b a fit.0 fit.1.0 in
     post_bind _ (Keeps P h) _ _ (indexed_good P h (in_order b a).0 (in_order b a).1 run two.first)
     (λ at g. let plain = two.plain g.1.0 g.1.1 in
-    cells_good P h (Operand (element h.job at.0 at.1) ∷ rest) (Some at.0) run (element_low P h run at.0 at.1 at.1 g.0, fit.1.1) (tt, above.1.1) (λ n. omega (arith, two_plain n b a rest plain.0 plain.1, ap (originals n) are)))
+    cells_good P h (Operand (element h.job at.0 at.1) ∷ rest) (Some at.0) run (element_low P h run at.0 at.1 g.0.names, fit.1.1) (tt, above.1.1) (λ n. omega (arith, two_plain n b a rest plain.0 plain.1, ap (originals n) are)))

@@ -82,7 +82,7 @@ module _ (P : Starts) (constants : JobConstants) (job : Job) (parent child : Tas
 
   old_task : (t : Task) → Has job.tasks t → TaskInOrder P constants (with_child job child) t
   old_task t h = task_kept P constants job (with_child job child) (λ n. Unit {0}) child_follows births (omega arith) t h (λ n k. tt)
-      (λ a k at. record { item = a; live = k; named = refl; owned = refl; long = omega arith }) (all_in (TaskInOrder P constants job) job.tasks t g.tasks h)
+      (λ a k at. record { item = a; live = k; named = refl; owned = refl }) (all_in (TaskInOrder P constants job) job.tasks t g.tasks h)
 
   parent_live : Has job.tasks parent
   parent_live = (keyed_has (λ t. t.number) parent.number job.tasks parent c.live).0
@@ -99,7 +99,7 @@ module _ (P : Starts) (constants : JobConstants) (job : Job) (parent child : Tas
 
   word_fits : (w : Word) → Has c.cells w → WordInOrder P job.arrays (map known_of (child_frame ∷ []) ++ reach_of (with_child job child) parent) job.next_frame w
   word_fits w k = word_wider P (reach_of job parent) (map known_of (child_frame ∷ []) ++ reach_of (with_child job child) parent) job.arrays job.arrays job.next_frame
-      (record { entered = λ n s e h. inr (alike_has (reach_of job parent) (reach_of (with_child job child) parent) n s reach_alike e h); kept = λ a h at. record { item = a; live = h; named = refl; owned = refl; long = omega arith } })
+      (record { entered = λ n s e h. inr (alike_has (reach_of job parent) (reach_of (with_child job child) parent) n s reach_alike e h); kept = λ a h at. record { item = a; live = h; named = refl; owned = refl } })
       (inl refl) w (c.fit w k).0
 
   environment_fits : EnvironmentInOrder (reach_of (with_child job child) parent) c.level c.environment
@@ -169,8 +169,8 @@ word_any P arrays reach reach' owner other (Original a) wide plain g = absurd (t
 word_any P arrays reach reach' owner other (Operand bits) wide plain g = g
 word_any P arrays reach reach' owner other (Name couple) wide plain g = g
 word_any P arrays reach reach' owner other (Ref identity offset) wide plain g = (names_entered reach reach' arrays arrays identity wide g.0, g.1)
-word_any P arrays reach reach' owner other (Row array) wide plain g = names_array reach reach' arrays arrays array 0 wide g
-word_any P arrays reach reach' owner other (Element array index) wide plain g = names_array reach reach' arrays arrays array index wide g
+word_any P arrays reach reach' owner other (Row array) wide plain g = names_array reach reach' arrays arrays array wide g
+word_any P arrays reach reach' owner other (Element array index) wide plain g = names_array reach reach' arrays arrays array wide g
 word_any P arrays reach reach' owner other (Proc segment level place) wide plain g = g
 word_any P arrays reach reach' owner other (Intrinsic number) wide plain g = g
 word_any P arrays reach reach' owner other (Words.Segment number) wide plain g = g
@@ -200,7 +200,7 @@ module _ (P : Starts) (h : OperatorContext) (run : Run P h) (marked : (top_of h)
       let r = keyed_has (λ t. t.number) h.task.number h.job.tasks run.found run.running in
       let l = falls_low h.job.next_task (map (λ (t : Task). t.number) h.job.tasks) run.found.number run.order.numbers (has_map (λ (t : Task). t.number) h.job.tasks run.found r.0) in
       omega (arith, l, r.1) in
-      let narrow : Wider (reach h) (reach_of job1 new) h.job.arrays h.job.arrays = record { entered = wide; kept = λ a k at. record { item = a; live = k; named = refl; owned = refl; long = omega arith } } in
+      let narrow : Wider (reach h) (reach_of job1 new) h.job.arrays h.job.arrays = record { entered = wide; kept = λ a k at. record { item = a; live = k; named = refl; owned = refl } } in
       let in_child : ChildInOrder P h.constants job1 new child = record {
         live = found;
         number = refl;

@@ -52,7 +52,7 @@ changed_reads P h frames numbers run c low level same reads =
       alike = c.alike;
       stays = c.stays;
       fewer = c.fewer;
-      kept = λ a k. record { case = inl (record { item = a; live = k; named = refl; owned = refl; long = omega arith }) };
+      kept = λ a k. record { case = inl (record { item = a; live = k; named = refl; owned = refl }) };
       arrays = run.order.arrays;
       once = λ a k. omega (arith, same a.identity, all_in (λ (x : Array). originals_of x.identity h.constants h.job ≡ 1) h.job.arrays a run.order.once k);
       names = run.order.names;

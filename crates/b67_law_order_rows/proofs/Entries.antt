@@ -117,7 +117,6 @@ module _ (P : Starts) (h : OperatorContext) (run : Run P h) where
     live = has_filter_in (λ (x : Array). not (eqb x.owner n)) h.job.arrays a live (elim (eqb_tells a.owner n) [ inl e ↦ absurd (other e.1) | inr e ↦ rw e.0 refl ]);
     named = refl;
     owned = refl;
-    long = omega arith;
   }
 
   pub left_good : (back : Return) → (p : Apart h) → not (is_critical h.job p.f.identity) ≡ true → p.below ≢ [] → P back.segment (level_of_frame (running p.below)) back.place → Left P h back

@@ -6,6 +6,7 @@ pub mod Stores
 pub mod Bounds
 pub mod Cuts
 pub mod Calls
+pub mod Lengths
 pub mod Children
 pub mod Rows
 pub mod Kept

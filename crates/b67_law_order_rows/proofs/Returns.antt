@@ -111,10 +111,10 @@ module _ (P : Starts) (h : OperatorContext) (run : Run P h) where
   names_still : (back : Return) → Left P h back → (n : ℕ) → n ≢ (top_of h).identity → NamesEntered (reach h) n → NamesEntered (reach (left h back)) n
   names_still back l n other g = record { standing = g.standing; among = narrower back l n g.standing g.entered other g.among; entered = g.entered }
 
-  array_still : (back : Return) → Left P h back → (a index : ℕ) → not (eqb (owner_of h.job a) (top_of h).identity) ≡ true → NamesArray h.job.arrays (reach h) a index → NamesArray (left h back).job.arrays (reach (left h back)) a index
-  array_still back l a index test g =
+  array_still : (back : Return) → Left P h back → (a : ℕ) → not (eqb (owner_of h.job a) (top_of h).identity) ≡ true → NamesArray h.job.arrays (reach h) a → NamesArray (left h back).job.arrays (reach (left h back)) a
+  array_still back l a test g =
       let n = (top_of h).identity in
-      let is : array h.job a ≡ g.item = array_is P h run a index g in
+      let is : array h.job a ≡ g.item = array_is P h run a g in
       let other : not (eqb g.item.owner n) ≡ true = subst (λ (x : Array). not (eqb x.owner n) ≡ true) is test in
       let apart : g.item.owner ≢ n = λ e. elim (eqb_tells g.item.owner n) [ inl s ↦ true≢false (sym other ∙ rw s.0 refl) | inr s ↦ s.1 e ] in
       record {
@@ -122,7 +122,6 @@ module _ (P : Starts) (h : OperatorContext) (run : Run P h) where
         live = has_filter_in (λ (x : Array). not (eqb x.owner n)) h.job.arrays g.item g.live other;
         named = g.named;
         owner = names_still back l g.item.owner apart g.owner;
-        inside = g.inside;
       }
 
   not_eqb : (a b : ℕ) → not (eqb a b) ≡ true → a ≢ b
@@ -132,9 +131,9 @@ module _ (P : Starts) (h : OperatorContext) (run : Run P h) where
   returnable_good back l (Ref f offset) g = post_needs (Moves P (left h back)) (not (eqb f (top_of h).identity)) _ _
       (λ t. post_ok (Moves P (left h back)) (Ref f offset) (record { fit = (names_still back l f (not_eqb f (top_of h).identity t) g.0, g.1); plain = λ n. refl }))
   returnable_good back l (Row a) g = post_needs (Moves P (left h back)) (not (eqb (owner_of h.job a) (top_of h).identity)) _ _
-      (λ t. post_ok (Moves P (left h back)) (Row a) (record { fit = array_still back l a 0 t g; plain = λ n. refl }))
+      (λ t. post_ok (Moves P (left h back)) (Row a) (record { fit = array_still back l a t g; plain = λ n. refl }))
   returnable_good back l (Element a index) g = post_needs (Moves P (left h back)) (not (eqb (owner_of h.job a) (top_of h).identity)) _ _
-      (λ t. post_ok (Moves P (left h back)) (Element a index) (record { fit = array_still back l a index t g; plain = λ n. refl }))
+      (λ t. post_ok (Moves P (left h back)) (Element a index) (record { fit = array_still back l a t g; plain = λ n. refl }))
   returnable_good back l (Original a) g = post_err (Moves P (left h back)) _
   returnable_good back l (Name couple) g = post_err (Moves P (left h back)) _
   returnable_good back l (Operand bits) g = post_ok (Moves P (left h back)) _ (record { fit = g; plain = λ n. refl })

@@ -15,21 +15,21 @@ use Rattle.b67_model.specs.Intrinsics.{is_original}
 use Rattle.b67_model.specs.InOrder.{Starts, WordInOrder, CopiesAbove, NoCopyUnder, is_original_of}
 use Rattle.b67_law_order.proofs.Looks.{Run, reach}
 use Rattle.b67_law_order.specs.Ends.{EndInOrder}
-use Rattle.b67_law_order.proofs.Posts.{Post, post_err, post_bind, post_needs, post_if, post_if_is, post_more, post_both, post_any_at}
+use Rattle.b67_law_order.proofs.Posts.{Post, post_ok, post_err, post_bind, post_needs, post_if, post_if_is, post_more, post_both, post_any_at}
 use Rattle.b67_model.specs.Words.{operand}
 use Rattle.b67_model.specs.Arithmetic.{Binary}
 use Rattle.b67_model.specs.Rows.{on_two, dlet, exch, dupl, on_cells, branches, stff}
 use Rattle.b67_law_order_rows.proofs.Steps.{Keeps, Good, Fit, AllFit, originals, own_fit, own_copies, result_good, cells_good, push_good}
 use Rattle.std.proofs.Common.{ltb}
 use Rattle.std.proofs.lemmas.Bool.{ltb-true}
-use Rattle.b67_model.specs.Intrinsics.{answered, arraydec, print, printrow, read, child_of, starts, process, await, status, wait, cause}
+use Rattle.b67_model.specs.Intrinsics.{answered, arraydec, print, printrow, read, child_of, starts, row_copy, process, await, status, wait, cause, deallocate, resize}
 use Rattle.b67_model.specs.Words.{number, whole}
 use Rattle.b67_law_order_rows.proofs.Cuts.{Cut, answers_operand}
 use Rattle.b67_law_order_rows.proofs.Bounds.{bits_low}
 use Rattle.b67_law_order.proofs.Chases.{follow_reference_in}
 use Rattle.b67_model.specs.InOrder.{is_copy_of}
 use Rattle.std.specs.List.{list_any}
-use Rattle.b67_law_order_rows.proofs.Cells.{plain_word}
+use Rattle.b67_law_order_rows.proofs.Cells.{plain_word, operand_plain, two_plain}
 use Rattle.std.proofs.lemmas.List.{reverse-reverse}
 use Rattle.b67_law_order_rows.proofs.Cells.{followed, Followed}
 use Rattle.b67_model.specs.declared.operators.Op.{Op}
@@ -54,6 +54,7 @@ use Rattle.b67_law_order_rows.proofs.Returns.{exit_good, retn_good}
 use Rattle.b67_law_order_rows.proofs.Steps.{mkst_good}
 use Rattle.b67_law_order_rows.proofs.Cuts.{print_good, printrow_good, status_good, await_good}
 use Rattle.b67_law_order_rows.proofs.Calls.{read_good, wait_good, cause_good, arraydec_good}
+use Rattle.b67_law_order_rows.proofs.Lengths.{deallocate_good, resizes_good}
 use Rattle.b67_law_order_rows.proofs.Children.{started_good}
 
 above_left : (xs ys : List Word) → CopiesAbove (xs ++ ys) → CopiesAbove xs
@@ -70,6 +71,20 @@ above_left (x ∷ xs) ys g = (no_copy_left x xs ys g.0, above_left xs ys g.1) wh
   no_copy_left (Intrinsic number) xs ys g = tt
   no_copy_left (Words.Segment number) xs ys g = tt
 
+row_copy_plain : (w : Word) → Post (λ a. is_original w ≡ false) (row_copy w)
+row_copy_plain (Row a) = post_ok _ _ refl
+row_copy_plain (Operand bits) = post_err _ _
+row_copy_plain (Name couple) = post_err _ _
+row_copy_plain (Ref f offset) = post_err _ _
+row_copy_plain (Element a index) = post_err _ _
+row_copy_plain (Original a) = post_err _ _
+row_copy_plain (Proc segment level place) = post_err _ _
+row_copy_plain (Intrinsic n) = post_err _ _
+row_copy_plain (Words.Segment n) = post_err _ _
+
+whole_plain : (w : Word) → Post (λ n. is_original w ≡ false) (whole w)
+whole_plain w = post_bind (λ bits. is_original w ≡ false) (λ n. is_original w ≡ false) (operand w) _ (operand_plain w) (λ bits e. post_any_at (number bits) (λ n. e))
+
 -- the mark of a call: its first cell is a reference, and these are its arguments
 pub record Call (P : Starts) (h : OperatorContext) (arguments : List Word) : Type 0 where
   pub run : Run P h
@@ -79,11 +94,12 @@ pub record Call (P : Starts) (h : OperatorContext) (arguments : List Word) : Typ
   pub counts : (n : ℕ) → originals n (cells_of h) ≡ originals n arguments
   pub next : h.job.next_task < 2 ^ 48
 
-nine : (P : Starts) (h : OperatorContext) (n : ℕ) (arguments : List Word) → Good P h (arraydec h arguments) → Good P h (print h arguments) → Good P h (printrow h arguments) → Good P h (read h arguments) → Good P h (process h arguments) →
-    Good P h (await h arguments) → Good P h (status h arguments) → Good P h (wait h arguments) → Good P h (cause h arguments) → Good P h (intrinsic n h arguments)
-nine P h n arguments a b c d e f g i j =
+each_call : (P : Starts) (h : OperatorContext) (n : ℕ) (arguments : List Word) → Good P h (arraydec h arguments) → Good P h (print h arguments) → Good P h (printrow h arguments) → Good P h (read h arguments) → Good P h (process h arguments) →
+    Good P h (await h arguments) → Good P h (status h arguments) → Good P h (wait h arguments) → Good P h (cause h arguments) → Good P h (deallocate h arguments) → Good P h (resize h arguments) → Good P h (intrinsic n h arguments)
+each_call P h n arguments a b c d e f g i j k l =
     post_if (Keeps P h) _ _ _ a (post_if (Keeps P h) _ _ _ b (post_if (Keeps P h) _ _ _ c (post_if (Keeps P h) _ _ _ d (post_if (Keeps P h) _ _ _ e
-    (post_if (Keeps P h) _ _ _ f (post_if (Keeps P h) _ _ _ g (post_if (Keeps P h) _ _ _ i (post_if (Keeps P h) _ _ _ j (post_err (Keeps P h) _)))))))))
+    (post_if (Keeps P h) _ _ _ f (post_if (Keeps P h) _ _ _ g (post_if (Keeps P h) _ _ _ i (post_if (Keeps P h) _ _ _ j
+    (post_if (Keeps P h) _ _ _ k (post_if (Keeps P h) _ _ _ l (post_err (Keeps P h) _)))))))))))
 
 follow_reference_plain : (h : OperatorContext) (w : Word) → Post (λ end. is_original w ≡ false) (follow_reference h w)
 follow_reference_plain h (Name couple) = post_any_at (follow_reference h (Name couple)) (λ end. refl)
@@ -132,16 +148,23 @@ module _ (P : Starts) (h : OperatorContext) where
   one_good : (n : ℕ) (w : Word) → Call P h (w ∷ []) → is_original w ≡ false → Good P h (intrinsic n h (w ∷ []))
   one_good n w c plain =
       let cut = cut_of (w ∷ []) c (λ m. Cells.none_of w [] m plain) in
-      nine P h n (w ∷ []) (arraydec_good P h cut (w ∷ [])) (print_good P h cut (w ∷ [])) (printrow_good P h cut (w ∷ [])) (post_err (Keeps P h) _) (process_good (w ∷ []) c) (await_good P h cut (w ∷ [])) (status_good P h cut (w ∷ []))
+      each_call P h n (w ∷ []) (arraydec_good P h cut (w ∷ [])) (print_good P h cut (w ∷ [])) (printrow_good P h cut (w ∷ [])) (post_err (Keeps P h) _) (process_good (w ∷ []) c) (await_good P h cut (w ∷ [])) (status_good P h cut (w ∷ []))
       (wait_good P h cut (w ∷ []) c.fit) (cause_good P h cut (w ∷ []) c.fit)
+      (deallocate_good P h cut (w ∷ [])) (post_err (Keeps P h) _)
+
+  -- a row copy and a number are no originals
+  resize_good : (r w : Word) → Call P h (r ∷ w ∷ []) → Good P h (resize h (r ∷ w ∷ []))
+  resize_good r w c = post_bind (λ a. is_original r ≡ false) (Keeps P h) (row_copy r) _ (row_copy_plain r)
+      (λ a p. post_bind (λ n. is_original w ≡ false) (Keeps P h) (whole w) _ (whole_plain w)
+      (λ n q. resizes_good P h (cut_of (r ∷ w ∷ []) c (λ m. two_plain m r w [] q p)) a n))
 
   original_good : (n a : ℕ) → Call P h (Original a ∷ []) → Good P h (intrinsic n h (Original a ∷ []))
-  original_good n a c = nine P h n (Original a ∷ []) (post_err _ _) (post_err _ _) (post_err _ _) (post_err _ _) (process_good (Original a ∷ []) c) (post_err _ _) (post_err _ _) (post_err _ _) (post_err _ _)
+  original_good n a c = each_call P h n (Original a ∷ []) (post_err _ _) (post_err _ _) (post_err _ _) (post_err _ _) (process_good (Original a ∷ []) c) (post_err _ _) (post_err _ _) (post_err _ _) (post_err _ _) (post_err _ _) (post_err _ _)
 
   pub intrinsic_good : (n : ℕ) (arguments : List Word) → Call P h arguments → Good P h (intrinsic n h arguments)
   intrinsic_good n [] c =
       let cut = cut_of [] c (λ m. refl) in
-      nine P h n [] (post_err _ _) (post_err _ _) (post_err _ _) (read_good P h cut []) (post_err _ _) (post_err _ _) (post_err _ _) (post_err _ _) (post_err _ _)
+      each_call P h n [] (post_err _ _) (post_err _ _) (post_err _ _) (read_good P h cut []) (post_err _ _) (post_err _ _) (post_err _ _) (post_err _ _) (post_err _ _) (post_err _ _) (post_err _ _)
   intrinsic_good n (Original a ∷ []) c = original_good n a c
   intrinsic_good n (Operand bits ∷ []) c = one_good n (Operand bits) c refl
   intrinsic_good n (Name couple ∷ []) c = one_good n (Name couple) c refl
@@ -151,8 +174,10 @@ module _ (P : Starts) (h : OperatorContext) where
   intrinsic_good n (Proc segment level place ∷ []) c = one_good n (Proc segment level place) c refl
   intrinsic_good n (Intrinsic m ∷ []) c = one_good n (Intrinsic m) c refl
   intrinsic_good n (Words.Segment m ∷ []) c = one_good n (Words.Segment m) c refl
-  intrinsic_good n (w ∷ v ∷ more) c =
-      nine P h n (w ∷ v ∷ more) (post_err _ _) (post_err _ _) (post_err _ _) (post_err _ _) (process_good (w ∷ v ∷ more) c) (post_err _ _) (post_err _ _) (post_err _ _) (post_err _ _)
+  intrinsic_good n (w ∷ v ∷ []) c =
+      each_call P h n (w ∷ v ∷ []) (post_err _ _) (post_err _ _) (post_err _ _) (post_err _ _) (process_good (w ∷ v ∷ []) c) (post_err _ _) (post_err _ _) (post_err _ _) (post_err _ _) (post_err _ _) (resize_good w v c)
+  intrinsic_good n (w ∷ v ∷ u ∷ more) c =
+      each_call P h n (w ∷ v ∷ u ∷ more) (post_err _ _) (post_err _ _) (post_err _ _) (post_err _ _) (process_good (w ∷ v ∷ u ∷ more) c) (post_err _ _) (post_err _ _) (post_err _ _) (post_err _ _) (post_err _ _) (post_err _ _)
 
   entr_at_good : (arguments : List Word) (end : End) → Call P h arguments → EndInOrder P h end → Good P h (entr_at h arguments end)
   entr_at_good arguments (AtIntrinsic n) c is = intrinsic_good n arguments c

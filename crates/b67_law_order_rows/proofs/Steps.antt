@@ -130,14 +130,14 @@ number_low [] i all = omega arith
 number_low (x ∷ xs) zero all = all.0
 number_low (x ∷ xs) (suc i) all = number_low xs i all.1
 
-pub element_low : (P : Starts) (h : OperatorContext) → Run P h → (a index i : ℕ) → NamesArray h.job.arrays (reach h) a i → element h.job a index < 2 ^ 48
-element_low P h run a index i names =
+pub element_low : (P : Starts) (h : OperatorContext) → Run P h → (a index : ℕ) → NamesArray h.job.arrays (reach h) a → element h.job a index < 2 ^ 48
+element_low P h run a index names =
     let low : get_or names.item.numbers index 0 < 2 ^ 48 = number_low names.item.numbers index (all_in ArrayInOrder h.job.arrays names.item run.order.arrays names.live).words in
-    rw (array_is P h run a i names) low
+    rw (array_is P h run a names) low
 
 pub evaluates_good : (P : Starts) (h : OperatorContext) (end : End) → Run P h → EndInOrder P h end → Good P h (evaluates h end)
 evaluates_good P h (AtCell f offset bits) run is = push_good P h (Operand bits) None run is.bound (λ n. refl)
-evaluates_good P h (AtElement a index) run is = push_good P h (Operand (element h.job a index)) (Some a) run (element_low P h run a index index is) (λ n. refl)
+evaluates_good P h (AtElement a index) run is = push_good P h (Operand (element h.job a index)) (Some a) run (element_low P h run a index is.names) (λ n. refl)
 evaluates_good P h (AtProc f segment level place) run is = accident_good P h (cells_of h) (back_to h true h.task.place) (AtProc f segment level place) run is (own_fit P h run) (own_copies P h run) (λ n. refl) run.place
 evaluates_good P h (AtArray a) run is = post_err (Keeps P h) _
 evaluates_good P h (AtIntrinsic n) run is = post_err (Keeps P h) _

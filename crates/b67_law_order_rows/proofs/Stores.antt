@@ -21,7 +21,7 @@ use Rattle.b67_law_order.specs.Ends.{EndInOrder}
 use Rattle.b67_law_order.proofs.Posts.{Post, post_ok, post_err, post_bind, post_needs}
 use Rattle.b67_model.specs.Words.{operand}
 use Rattle.b67_model.specs.Cells.{cell}
-use Rattle.b67_model.specs.Arrays.{in_order}
+use Rattle.b67_model.specs.Indexing.{in_order}
 use Rattle.b67_law_order_rows.proofs.Steps.{Keeps, Good, Fit, AllFit, originals, SameOriginals, own_fit, own_copies, plain_above, originals_cells, result_good, accident_good}
 use Rattle.b67_model.specs.Cells.{first_offset, cell_of}
 use Rattle.b67_model.specs.Arrays.{with_number, with_element}
@@ -50,18 +50,18 @@ cells_low P h cells run fit above same low = changed P h (with_top_cells h.task.
     (λ n. originals_cells n h.task.frames cells (same n))
 
 -- an array's element changes
-change_has : (n : ℕ) (f : Array → Array) (xs : List Array) (a : Array) → Has xs a → ((x : Array) → Stays (f x ∷ []) x) → Stays (change_keyed (λ x. x.identity) n f xs) a
+pub change_has : (n : ℕ) (f : Array → Array) (xs : List Array) (a : Array) → Has xs a → ((x : Array) → Stays (f x ∷ []) x) → Stays (change_keyed (λ x. x.identity) n f xs) a
 change_has n f [] a h same = absurd h
 change_has n f (x ∷ xs) a h same = elim (eqb_tells x.identity n) [
   | inl e ↦ rw e.0 (elim h [
     | inl is ↦ let s = same x in
         let item : f x ≡ s.item = elim s.live [ inl z ↦ z | inr z ↦ absurd z ] in
-        subst (Stays (f x ∷ xs)) is (record { item = s.item; live = inl item; named = s.named; owned = s.owned; long = s.long })
-    | inr m ↦ record { item = a; live = inr m; named = refl; owned = refl; long = omega arith }
+        subst (Stays (f x ∷ xs)) is (record { item = s.item; live = inl item; named = s.named; owned = s.owned })
+    | inr m ↦ record { item = a; live = inr m; named = refl; owned = refl }
   ])
   | inr e ↦ rw e.0 (elim h [
-    | inl is ↦ record { item = a; live = inl is; named = refl; owned = refl; long = omega arith }
-    | inr m ↦ let s = change_has n f xs a m same in record { item = s.item; live = inr s.live; named = s.named; owned = s.owned; long = s.long }
+    | inl is ↦ record { item = a; live = inl is; named = refl; owned = refl }
+    | inr m ↦ let s = change_has n f xs a m same in record { item = s.item; live = inr s.live; named = s.named; owned = s.owned }
   ])
 ]
 
@@ -83,22 +83,23 @@ number_kept index bits a low g = record {
   writes = g.writes;
 }
 
-arrays_kept : (n index bits : ℕ) (xs : List Array) → bits < 2 ^ 48 → AllByRecursion ArrayInOrder xs → AllByRecursion ArrayInOrder (change_keyed (λ a. a.identity) n (with_number index bits) xs)
-arrays_kept n index bits [] low all = tt
-arrays_kept n index bits (x ∷ xs) low all = elim (eqb_tells x.identity n) [
-  | inl e ↦ rw e.0 (number_kept index bits x low all.0, all.1)
-  | inr e ↦ rw e.0 (all.0, arrays_kept n index bits xs low all.1)
+-- one array changes to another in order
+pub arrays_changed : (n : ℕ) (f : Array → Array) (xs : List Array) → ((a : Array) → ArrayInOrder a → ArrayInOrder (f a)) → AllByRecursion ArrayInOrder xs → AllByRecursion ArrayInOrder (change_keyed (λ a. a.identity) n f xs)
+arrays_changed n f [] fits all = tt
+arrays_changed n f (x ∷ xs) fits all = elim (eqb_tells x.identity n) [
+  | inl e ↦ rw e.0 (fits x all.0, all.1)
+  | inr e ↦ rw e.0 (all.0, arrays_changed n f xs fits all.1)
 ]
 
-names_kept : (n index bits : ℕ) (xs : List Array) → map (λ (a : Array). a.identity) (change_keyed (λ a. a.identity) n (with_number index bits) xs) ≡ map (λ (a : Array). a.identity) xs
-names_kept n index bits [] = refl
-names_kept n index bits (x ∷ xs) = elim (eqb_tells x.identity n) [
-  | inl e ↦ rw e.0 refl
-  | inr e ↦ rw e.0 (ap (λ ms. x.identity ∷ ms) (names_kept n index bits xs))
+pub names_changed : (n : ℕ) (f : Array → Array) (xs : List Array) → ((a : Array) → (f a).identity ≡ a.identity) → map (λ (a : Array). a.identity) (change_keyed (λ a. a.identity) n f xs) ≡ map (λ (a : Array). a.identity) xs
+names_changed n f [] same = refl
+names_changed n f (x ∷ xs) same = elim (eqb_tells x.identity n) [
+  | inl e ↦ rw e.0 (ap (λ m. m ∷ map (λ (a : Array). a.identity) xs) (same x))
+  | inr e ↦ rw e.0 (ap (λ ms. x.identity ∷ ms) (names_changed n f xs same))
 ]
 
 -- a fact of identities alone
-by_names : (Q : ℕ → Type 0) (xs ys : List Array) → map (λ (a : Array). a.identity) xs ≡ map (λ (a : Array). a.identity) ys → AllByRecursion (λ (a : Array). Q a.identity) ys → (a : Array) → Has xs a → Q a.identity
+pub by_names : (Q : ℕ → Type 0) (xs ys : List Array) → map (λ (a : Array). a.identity) xs ≡ map (λ (a : Array). a.identity) ys → AllByRecursion (λ (a : Array). Q a.identity) ys → (a : Array) → Has xs a → Q a.identity
 by_names Q xs ys same all a h =
     let there : Has (map (λ (x : Array). x.identity) ys) a.identity = subst (λ ns. Has ns a.identity) same (has_map (λ (x : Array). x.identity) xs a h) in
     let r = has_map_back (λ (x : Array). x.identity) ys a.identity there in
@@ -107,7 +108,7 @@ by_names Q xs ys same all a h =
 pub element_stored : (P : Starts) (h : OperatorContext) (a index bits : ℕ) (cells : List Word) → Run P h → bits < 2 ^ 48 → AllFit P h cells → CopiesAbove cells → SameOriginals cells (cells_of h) → Good P h (result h (with_element h.job a index bits) (with_cells h cells) [] (Some a))
 element_stored P h a index bits cells run low fit above same = result_good P h h (with_element h.job a index bits) (with_cells h cells) [] (Some a) (λ high.
     let arrays' : List Array = change_keyed (λ x. x.identity) a (with_number index bits) h.job.arrays in
-    let stay : (x : Array) → Has h.job.arrays x → Stays arrays' x = λ x k. change_has a (with_number index bits) h.job.arrays x k (λ y. record { item = with_number index bits y; live = inl refl; named = refl; owned = refl; long = omega (arith, set_length y.numbers index bits) }) in
+    let stay : (x : Array) → Has h.job.arrays x → Stays arrays' x = λ x k. change_has a (with_number index bits) h.job.arrays x k (λ y. record { item = with_number index bits y; live = inl refl; named = refl; owned = refl }) in
     let c = change_cells P h h.job.arrays h.task.frames h.job.next_frame cells (no_change P h run) (fit, above) in
     let frames' = with_top_cells h.task.frames cells in
     let c' : Change P h arrays' frames' h.job.next_frame = change_arrays P h h.job.arrays arrays' frames' h.job.next_frame c (λ x k at. stay x k) in
@@ -130,9 +131,9 @@ element_stored P h a index bits cells run low fit above same = result_good P h h
       stays = c'.stays;
       fewer = c'.fewer;
       kept = λ x k. record { case = inl (stay x k) };
-      arrays = arrays_kept a index bits h.job.arrays low run.order.arrays;
-      once = λ x k. omega (arith, originals_cells x.identity h.task.frames cells (same x.identity), by_names (λ n. originals_of n h.constants h.job ≡ 1) arrays' h.job.arrays (names_kept a index bits h.job.arrays) run.order.once x k);
-      names = rw (names_kept a index bits h.job.arrays) run.order.names;
+      arrays = arrays_changed a (with_number index bits) h.job.arrays (λ x g. number_kept index bits x low g) run.order.arrays;
+      once = λ x k. omega (arith, originals_cells x.identity h.task.frames cells (same x.identity), by_names (λ n. originals_of n h.constants h.job ≡ 1) arrays' h.job.arrays (names_changed a (with_number index bits) h.job.arrays (λ x. refl)) run.order.once x k);
+      names = rw (names_changed a (with_number index bits) h.job.arrays (λ x. refl)) run.order.names;
       reads = run.order.reads;
     })).0)
 

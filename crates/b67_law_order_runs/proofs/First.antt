@@ -10,7 +10,7 @@ use Rattle.b67_lemmas.specs.Lists.{Has}
 use Rattle.b67_model.specs.State.{Segment}
 use Rattle.b67_model.specs.Operators.{Reading, operator_at, form_of, syllable, count_at}
 use Rattle.b67_model.specs.Program.{Program}
-use Rattle.b67_model.specs.Loader.{At, Listed, origin, listing, entries_from, refused, broken_at, broken_in, refusals_of, refusals_from, IsAdmitted}
+use Rattle.b67_model.specs.Loader.{At, Listed, origin, listing, entries_from, refused, broken_at, broken_in, refusals_of, wrong_entries, refusals_from, IsAdmitted}
 use Rattle.b67_law_order_steps.proofs.Admitted.{reads_good}
 
 -- where there is no refusal no test holds
@@ -61,11 +61,11 @@ pub first_stands : (s : Segment) (more : List Segment) (rows : List (List ℕ)) 
 first_stands s more rows some admitted =
     let p : Program = record { segments = s ∷ more; rows = rows } in
     let l : Listed = record { program = p; number = 1; segment = s; entries = listing s.code } in
-    let all : refusals_of l (listing s.code) ++ refusals_from p 2 more ≡ [] = elim (cases_Bool (eqb (length (s ∷ more)) 0)) [
+    let all : (refusals_of l (listing s.code) ++ wrong_entries l s.entries) ++ refusals_from p 2 more ≡ [] = elim (cases_Bool (eqb (length (s ∷ more)) 0)) [
       | inl t ↦ absurd (omega (arith, eqb-true (length (s ∷ more)) 0 t))
       | inr t ↦ rw t at admitted
     ] in
-    let own : refusals_of l (listing s.code) ≡ [] = nil_left (refusals_of l (listing s.code)) (refusals_from p 2 more) all in
+    let own : refusals_of l (listing s.code) ≡ [] = nil_left (refusals_of l (listing s.code)) (wrong_entries l s.entries) (nil_left (refusals_of l (listing s.code) ++ wrong_entries l s.entries) (refusals_from p 2 more) all) in
     let read = operator_at s.code origin in
     let fuel : 6 * length s.code ≡ suc (6 * length s.code - 1) = omega (arith, some) in
     let found = by_reading p s (6 * length s.code - 1) read (origin_well s.code some) (subst (λ k. refusals_of l (entries_from k s.code origin read) ≡ []) fuel own) in

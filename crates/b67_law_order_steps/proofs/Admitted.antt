@@ -1,8 +1,8 @@
 -- What admission says of listings: an operator stands wherever one may go on.
-use Rattle.std.proofs.Common.{◌≡◌, ◌≢◌, ℕ, zero, suc, ◌+◌, ◌*◌, ◌/◌, ◌<◌, Bool, true, false, cond, eqb, ltb, leb, ◌&&◌, List, [], ◌∷◌, ◌++◌, length, Option, Some, None, Ok, Err, refl, sym, ap, ◌∙◌, subst, inl, inr, arith}
+use Rattle.std.proofs.Common.{◌≡◌, ◌≢◌, ℕ, zero, suc, ◌+◌, ◌*◌, ◌/◌, ◌<◌, Bool, true, false, cond, eqb, ltb, leb, ◌&&◌, not, List, [], ◌∷◌, ◌++◌, length, Option, Some, None, Ok, Err, refl, sym, ap, ◌∙◌, subst, inl, inr, arith}
 use Rattle.std.specs.List.{slice_get, slice_index}
 use Rattle.std.proofs.lemmas.Bool.Decides.{eqb_tells}
-use Rattle.std.proofs.lemmas.Bool.{cases_Bool, true≢false, ltb-false, eqb-true}
+use Rattle.std.proofs.lemmas.Bool.{cases_Bool, true≢false, ltb-false, eqb-true, not-false}
 use Rattle.b67_word.specs.declared.couples.Place.{Place}
 use Rattle.b67_model.specs.declared.operators.Op.{Op}
 use Rattle.b67_model.specs.declared.operators.Op.TheVariants.{Plain}
@@ -10,9 +10,9 @@ use Rattle.b67_model.specs.declared.operators.Undecodable.TheVariants.{BadPlace,
 use Rattle.b67_lemmas.specs.Lists.{Has}
 use Rattle.b67_lemmas.proofs.Members.{has_append_left}
 use Rattle.b67_model.specs.State.{Segment}
-use Rattle.b67_model.specs.Operators.{Form, Alone, OneMore, TwoMore, Literal, form_of, syllable, Reading, ends_at, reads, operator_at}
+use Rattle.b67_model.specs.Operators.{Form, Alone, OneMore, TwoMore, Literal, form_of, syllable, Reading, ends_at, reads, operator_at, place_of_bits}
 use Rattle.b67_model.specs.Program.{Program}
-use Rattle.b67_model.specs.Loader.{Entry, At, Break, entries_from, origin, listing, place_of_entry, same_place, is_start, Listed, is_last, broken_at, broken_in, Refusal, refused, refusals_of, refusals_from, IsAdmitted}
+use Rattle.b67_model.specs.Loader.{Entry, At, Break, entries_from, origin, listing, place_of_entry, same_place, is_start, Listed, is_last, broken_at, broken_in, Refusal, refused, refusals_of, wrong_entries, refusals_from, IsAdmitted}
 
 -- nothing is refused of two lists where nothing is of their whole
 none_left : {A : Type 0} (xs ys : List A) → (xs ++ ys) ≡ [] → xs ≡ []
@@ -33,9 +33,10 @@ tests_false number place (x ∷ tests) t e h = elim (cases_Bool x.1) [
   ]
 ]
 
--- no rule is broken at an entry
-abbrev pub Sound : Listed → Type 0
-Sound l = (e : Entry) → Has l.entries e → (t : ℕ × Bool) → Has (broken_at l e) t → t.1 ≡ false
+-- no rule is broken at an entry of the listing, and each entry of the segment is a start
+pub record Sound (l : Listed) : Type 0 where
+  pub rules : (e : Entry) → Has l.entries e → (t : ℕ × Bool) → Has (broken_at l e) t → t.1 ≡ false
+  pub starts : (bits : ℕ) → Has l.segment.entries bits → is_start l.entries (place_of_bits bits) ≡ true
 
 entries_sound : (l : Listed) (entries : List Entry) → refusals_of l entries ≡ [] → (e : Entry) → Has entries e → (t : ℕ × Bool) → Has (broken_at l e) t → t.1 ≡ false
 entries_sound l [] none e h t k = absurd h
@@ -53,18 +54,35 @@ entries_sound l (x ∷ more) none e h t k =
     by x t k true = has_append_left (broken_at l x) (broken_in l) t k
     by x t k false = k
 
+starts_sound : (l : Listed) (entries : List ℕ) → wrong_entries l entries ≡ [] → (bits : ℕ) → Has entries bits → is_start l.entries (place_of_bits bits) ≡ true
+starts_sound l [] none bits h = absurd h
+starts_sound l (e ∷ more) none bits h =
+    let place = place_of_bits e in
+    let tests : List (ℕ × Bool) = (11, not (is_start l.entries place)) ∷ [] in
+    let first = none_left (refused l.number place tests) (wrong_entries l more) none in
+    elim h [
+      | inl is ↦ subst (λ (b : ℕ). is_start l.entries (place_of_bits b) ≡ true) is (not-false (is_start l.entries place) (tests_false l.number place tests (11, not (is_start l.entries place)) first (inl refl)))
+      | inr m ↦ starts_sound l more (none_right (refused l.number place tests) (wrong_entries l more) none) bits m
+    ]
+
 abbrev pub listed : Program → ℕ → Segment → Listed
 listed p n s = record { program = p; number = n; segment = s; entries = listing s.code }
+
+own_sound : (l : Listed) → refusals_of l l.entries ++ wrong_entries l l.segment.entries ≡ [] → Sound l
+own_sound l none = record {
+  rules = entries_sound l l.entries (none_left (refusals_of l l.entries) (wrong_entries l l.segment.entries) none);
+  starts = starts_sound l l.segment.entries (none_right (refusals_of l l.entries) (wrong_entries l l.segment.entries) none);
+}
 
 segments_sound : (p : Program) (n : ℕ) (segments : List Segment) (i : ℕ) (s : Segment) → refusals_from p n segments ≡ [] → slice_get segments i ≡ Some s → (m : ℕ) × Sound (listed p m s)
 segments_sound p n [] i s none e = cc
 segments_sound p n (x ∷ more) zero s none e =
     let same : x ≡ s = cc in
     let l = listed p n x in
-    (n, subst (λ (y : Segment). Sound (listed p n y)) same (entries_sound l l.entries (none_left (refusals_of l l.entries) (refusals_from p (n + 1) more) none)))
+    (n, subst (λ (y : Segment). Sound (listed p n y)) same (own_sound l (none_left (refusals_of l l.entries ++ wrong_entries l x.entries) (refusals_from p (n + 1) more) none)))
 segments_sound p n (x ∷ more) (suc i) s none e =
     let l = listed p n x in
-    segments_sound p (n + 1) more i s (none_right (refusals_of l l.entries) (refusals_from p (n + 1) more) none) e
+    segments_sound p (n + 1) more i s (none_right (refusals_of l l.entries ++ wrong_entries l x.entries) (refusals_from p (n + 1) more) none) e
 
 pub admitted_sound : (p : Program) (i : ℕ) (s : Segment) → IsAdmitted p → slice_get p.segments i ≡ Some s → (m : ℕ) × Sound (listed p m s)
 admitted_sound p i s admitted e = elim (cases_Bool (eqb (length p.segments) 0)) [
@@ -145,8 +163,8 @@ no_bad (suc n) code at (Ok read) place h = elim h [ inl is ↦ cc | inr m ↦ no
 -- in a sound listing an operator stands wherever something does
 pub stands_sound : (l : Listed) → Sound l → (place : Place) → StandsAt l.entries place → (op : Op) × Has l.entries (At place op)
 stands_sound l sound place (operator op h) = (op, h)
-stands_sound l sound place (refused_1 h) = absurd (true≢false (sound (Break place NotAdmitted) h (1, true) (inl refl)))
-stands_sound l sound place (refused_2 h) = absurd (true≢false (sound (Break place PastEnd) h (2, true) (inl refl)))
+stands_sound l sound place (refused_1 h) = absurd (true≢false (sound.rules (Break place NotAdmitted) h (1, true) (inl refl)))
+stands_sound l sound place (refused_2 h) = absurd (true≢false (sound.rules (Break place PastEnd) h (2, true) (inl refl)))
 
 -- a start of a listing
 pub start_stands : (code : List ℕ) (place : Place) (entries : List Entry) → ((e : Entry) → Has entries e → Has (listing code) e) → is_start entries place ≡ true → StandsAt (listing code) place

@@ -83,7 +83,7 @@ module _ (P : Starts) (constants : JobConstants) (job : Job) (numbers : List ℕ
       ]
 
   in_arrays : (a : Array) → Has job.arrays a → is_owned_by (gone_of numbers job) a ≡ false → Stays job'.arrays a
-  in_arrays a k e = record { item = a; live = has_filter_in (λ (x : Array). not (is_owned_by (gone_of numbers job) x)) job.arrays a k (not_from_false (is_owned_by (gone_of numbers job) a) e); named = refl; owned = refl; long = omega arith }
+  in_arrays a k e = record { item = a; live = has_filter_in (λ (x : Array). not (is_owned_by (gone_of numbers job) x)) job.arrays a k (not_from_false (is_owned_by (gone_of numbers job) a) e); named = refl; owned = refl }
 
   array_stays : (a : Array) → Has job.arrays a → IsLive job' a.owner → Stays job'.arrays a
   array_stays a k live = elim (cases_Bool (is_owned_by (gone_of numbers job) a)) [

@@ -11,7 +11,7 @@ use Rattle.b67_model.specs.State.{Standing, Marked, Entered, Return, Task, Job, 
 use Rattle.b67_model.specs.Chase.{End, AtCell, AtElement, AtArray, AtProc, AtIntrinsic, follow}
 use Rattle.b67_model.specs.Steps.{Line, Done, Goes, Leaves, Waits, top_of, cells_of, result, with_cells, leaves_cells, pushes}
 use Rattle.b67_model.specs.Entry.{mkst, accident, evaluates, enters, left, leaves, exit, returnable, returned, retn_word}
-use Rattle.b67_model.specs.Intrinsics.{answers, arraydec, print, printrow, read, starts, process, awaits, await, status, waits_at, wait, causes, cause, intrinsic}
+use Rattle.b67_model.specs.Intrinsics.{answers, arraydec, print, printrow, read, starts, process, awaits, await, status, waits_at, wait, causes, cause, deallocate, resize, intrinsic}
 use Rattle.b67_model.specs.Rows.{CellRow, on_cells, branch_if, valc, load_at, load, indx, nxlv, store_at, store, entr_at, entr_with, entr, plain, row}
 use Rattle.b67_law_order.proofs.Posts.{Post, post_any, post_err, post_if, post_ok, post_then}
 
@@ -215,8 +215,19 @@ cause_good h [] = search steps_rules
 cause_good h (w ∷ []) = search (steps_rules, causes_good)
 cause_good h (w ∷ v ∷ more) = search steps_rules
 
+deallocate_good : (h : OperatorContext) (arguments : List Word) → Good h (deallocate h arguments)
+deallocate_good h [] = search steps_rules
+deallocate_good h (w ∷ []) = search (steps_rules, answers_good) depth 8
+deallocate_good h (w ∷ v ∷ more) = search steps_rules
+
+resize_good : (h : OperatorContext) (arguments : List Word) → Good h (resize h arguments)
+resize_good h [] = search steps_rules
+resize_good h (r ∷ []) = search steps_rules
+resize_good h (r ∷ w ∷ []) = search (steps_rules, answers_good) depth 10
+resize_good h (r ∷ w ∷ v ∷ more) = search steps_rules
+
 intrinsic_good : (n : ℕ) (h : OperatorContext) (arguments : List Word) → Good h (intrinsic n h arguments)
-intrinsic_good n h arguments = search (steps_rules, arraydec_good, print_good, printrow_good, read_good, process_good, await_good, status_good, wait_good, cause_good) depth 15
+intrinsic_good n h arguments = search (steps_rules, arraydec_good, print_good, printrow_good, read_good, process_good, await_good, status_good, wait_good, cause_good, deallocate_good, resize_good) depth 17
 
 entr_at_good : (h : OperatorContext) (arguments : List Word) (end : End) → Good h (entr_at h arguments end)
 entr_at_good h arguments (AtIntrinsic n) = intrinsic_good n h arguments

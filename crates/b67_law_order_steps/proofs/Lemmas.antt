@@ -15,7 +15,8 @@ use Rattle.b67_model.specs.State.{Array, Frame, Standing, Marked, Entered, Retur
 use Rattle.b67_model.specs.Keyed.{keyed, change_keyed}
 use Rattle.b67_model.specs.Cells.{with_cell_of}
 use Rattle.b67_model.specs.Chase.{End, AtCell, AtElement, AtArray, AtProc, AtIntrinsic, chase, follow, follow_reference}
-use Rattle.b67_model.specs.Arrays.{with_number, with_element, indexed, in_order}
+use Rattle.b67_model.specs.Arrays.{with_number, with_element}
+use Rattle.b67_model.specs.Indexing.{indexed, in_order}
 use Rattle.b67_model.specs.Steps.{Line, Value, Done, Goes, Leaves, Waits, top_of, cells_of, result, with_cells, leaves_cells, pushes, without_arrays_of}
 use Rattle.b67_model.specs.Entry.{accident, needs_level, back_to, evaluates, enters, left, leaves, returnable, returned, retn_word}
 use Rattle.b67_model.specs.Intrinsics.{answered, print}

@@ -19,13 +19,13 @@ module _ (P Q : Starts) (up : (segment level : ℕ) (place : Place) → P segmen
   stack_up [] h = h
   stack_up (f ∷ below) h = (returns_up f.standing below h.0, stack_up below h.1)
 
-  module _ (old new : List Array) (names : (reach : List Known) (a i : ℕ) → NamesArray old reach a i → NamesArray new reach a i) (owns : (owner a : ℕ) → OwnsArray old owner a → OwnsArray new owner a) where
+  module _ (old new : List Array) (names : (reach : List Known) (a : ℕ) → NamesArray old reach a → NamesArray new reach a) (owns : (owner a : ℕ) → OwnsArray old owner a → OwnsArray new owner a) where
     word_up : (reach : List Known) (owner : ℕ) (w : Word) → WordInOrder P old reach owner w → WordInOrder Q new reach owner w
     word_up reach owner (Operand bits) h = h
     word_up reach owner (Name couple) h = h
     word_up reach owner (Ref identity offset) h = h
-    word_up reach owner (Row a) h = names reach a 0 h
-    word_up reach owner (Element a index) h = names reach a index h
+    word_up reach owner (Row a) h = names reach a h
+    word_up reach owner (Element a index) h = names reach a h
     word_up reach owner (Original a) h = owns owner a h
     word_up reach owner (Proc segment level place) h = (h.0, up segment level place h.1)
     word_up reach owner (Intrinsic n) h = h
@@ -59,7 +59,7 @@ birth_same job job' e t (parent ∷ above) h = record {
 
 pub task_up : (P Q : Starts) (up : (segment level : ℕ) (place : Place) → P segment level place → Q segment level place)
     (constants setting' : JobConstants) (job job' : Job) → job'.tasks ≡ job.tasks → job'.next_frame ≡ job.next_frame → setting'.stack_size ≡ constants.stack_size
-    → (names : (reach : List Known) (a i : ℕ) → NamesArray job.arrays reach a i → NamesArray job'.arrays reach a i) (owns : (owner a : ℕ) → OwnsArray job.arrays owner a → OwnsArray job'.arrays owner a)
+    → (names : (reach : List Known) (a : ℕ) → NamesArray job.arrays reach a → NamesArray job'.arrays reach a) (owns : (owner a : ℕ) → OwnsArray job.arrays owner a → OwnsArray job'.arrays owner a)
     → (t : Task) → TaskInOrder P constants job t → TaskInOrder Q setting' job' t
 task_up P Q up constants setting' job job' tasks next size names owns t h =
     let outer : outer_of job' t ≡ outer_of job t = outer_same job job' tasks t.critical t.parents in

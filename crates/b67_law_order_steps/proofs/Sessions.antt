@@ -13,7 +13,7 @@ use Rattle.b67_model.specs.Words.{Word, Operand, Name, Ref, Row, Element, Origin
 use Rattle.b67_model.specs.State.{Array, Task, Segment, JobConstants, Job, SessionJob}
 use Rattle.b67_model.specs.Operators.{operator_at, reads, count_at, form_of, syllable}
 use Rattle.b67_model.specs.declared.operators.Undecodable.TheVariants.{BadPlace}
-use Rattle.b67_model.specs.InOrder.{Known, IsSegment, IsStart, NamesArray, OwnsArray, NamesEntered, ArrayInOrder, EntryInOrder, TaskInOrder, SettingInOrder, SegmentInOrder, DictionaryWords, JobInOrder, NumberedFrom, originals_of}
+use Rattle.b67_model.specs.InOrder.{Known, IsSegment, IsStart, NamesArray, OwnsArray, NamesEntered, ArrayInOrder, EntryInOrder, TaskInOrder, TasksInOrder, SettingInOrder, SegmentInOrder, DictionaryWords, JobInOrder, NumberedFrom, originals_of}
 use Rattle.b67_law_order_steps.proofs.Admitted.{entered}
 use Rattle.b67_law_order_steps.specs.Weaker.{Recoded, RefilledArray, Refilled, AllOtherNumbers, StartsAreSegments, OtherNumbersKeepOrder}
 use Rattle.b67_law_order_steps.proofs.Maps.{task_up}
@@ -55,7 +55,7 @@ member_start m h = record {
   unchanging = h.unchanging;
   tasks = record {
     tasks = all_tasks (TaskInOrder (IsStart m.constants) m.constants m.progress.job) (TaskInOrder (IsSegment m.constants) m.constants m.progress.job)
-        (λ t o. task_up (IsStart m.constants) (IsSegment m.constants) (start_up m.constants h.unchanging) m.constants m.constants m.progress.job m.progress.job refl refl refl (λ reach a i n. n) (λ owner a n. n) t o) m.progress.job.tasks h.tasks.tasks;
+        (λ t o. task_up (IsStart m.constants) (IsSegment m.constants) (start_up m.constants h.unchanging) m.constants m.constants m.progress.job m.progress.job refl refl refl (λ reach a n. n) (λ owner a n. n) t o) m.progress.job.tasks h.tasks.tasks;
     apart = h.tasks.apart;
     arrays = h.tasks.arrays;
     once = h.tasks.once;
@@ -118,16 +118,14 @@ twin_array (x ∷ xs) (y ∷ ys) h a (inr k) = let t = twin_array xs ys h.1 a k 
 twin_array [] (y ∷ ys) h a k = absurd h
 twin_array (x ∷ xs) [] h a k = absurd h
 
-names_up : (xs ys : List Array) → Refilled xs ys → (reach : List Known) (a i : ℕ) → NamesArray xs reach a i → NamesArray ys reach a i
-names_up xs ys h reach a i n =
+names_up : (xs ys : List Array) → Refilled xs ys → (reach : List Known) (a : ℕ) → NamesArray xs reach a → NamesArray ys reach a
+names_up xs ys h reach a n =
     let t = twin_array xs ys h n.item n.live in
-    let inside = n.inside in
     record {
       item = t.item;
       live = t.among;
       named = t.same.identity ∙ n.named;
       owner = (let P : ℕ → Type 0 = λ o. NamesEntered reach o in subst P (sym t.same.owner) n.owner);
-      inside = omega (arith, inside, t.same.numbers.count);
     }
 
 owns_up : (xs ys : List Array) → Refilled xs ys → (owner a : ℕ) → OwnsArray xs owner a → OwnsArray ys owner a
@@ -180,10 +178,10 @@ entries_up xs ys h [] o = o
 entries_up xs ys h (w ∷ ws) o = (entry_up xs ys h w o.0, entries_up xs ys h ws o.1)
 
 module _ (m : SessionJob) (segments : List Segment) (arrays : List Array) (code : Recoded m.constants.segments segments) (filled : Refilled m.progress.job.arrays arrays) where
-  abbrev setting' : JobConstants
+  abbrev pub setting' : JobConstants
   setting' = record m.constants { segments = segments }
 
-  abbrev job' : Job
+  abbrev pub job' : Job
   job' = record m.progress.job { arrays = arrays }
 
   segment_up : (segment level : ℕ) (place : Place) → IsSegment m.constants segment level place → IsSegment setting' segment level place
@@ -191,30 +189,36 @@ module _ (m : SessionJob) (segments : List Segment) (arrays : List Array) (code 
       let within = h.within in
       record { from_one = h.from_one; within = omega (arith, within, recoded_count m.constants.segments segments code); word_fits = h.word_fits; syllable_fits = h.syllable_fits }
 
+  pub setting_up : SettingInOrder m.constants → SettingInOrder setting'
+  setting_up h = record {
+    limit = h.limit;
+    stack_low = h.stack_low;
+    stack_high = h.stack_high;
+    segments = recoded_order m.constants.segments segments code h.segments;
+    entries = h.entries;
+    named = h.named;
+    stands = h.stands;
+    dictionary = recoded_words 1 m.constants.segments segments (reverse m.constants.dictionary.cells) code h.dictionary;
+  }
+
+  pub tasks_up : TasksInOrder (IsSegment m.constants) m.constants m.progress.job → TasksInOrder (IsSegment setting') setting' job'
+  tasks_up h = record {
+    tasks = all_tasks (TaskInOrder (IsSegment m.constants) m.constants m.progress.job) (TaskInOrder (IsSegment setting') setting' job')
+        (λ t o. task_up (IsSegment m.constants) (IsSegment setting') segment_up m.constants setting' m.progress.job job' refl refl refl (names_up m.progress.job.arrays arrays filled) (owns_up m.progress.job.arrays arrays filled) t o) m.progress.job.tasks h.tasks;
+    apart = h.apart;
+    arrays = arrays_order m.progress.job.arrays arrays filled h.arrays;
+    once = once_up (λ (n : ℕ). originals_of n m.constants m.progress.job) m.progress.job.arrays arrays filled h.once;
+    entries = entries_up m.progress.job.arrays arrays filled m.constants.dictionary.cells h.entries;
+    numbers = h.numbers;
+    names = (let P : List ℕ → Type 0 = λ ns. Falls m.progress.job.next_array ns in subst P (sym (identities_same m.progress.job.arrays arrays filled)) h.names);
+    few = h.few;
+    reads = h.reads;
+  }
+
   member_up : JobInOrder (IsSegment m.constants) m.constants m.progress → JobInOrder (IsSegment setting') setting' (record m.progress { job = job' })
   member_up h = record {
-    unchanging = record {
-      limit = h.unchanging.limit;
-      stack_low = h.unchanging.stack_low;
-      stack_high = h.unchanging.stack_high;
-      segments = recoded_order m.constants.segments segments code h.unchanging.segments;
-      entries = h.unchanging.entries;
-      named = h.unchanging.named;
-      stands = h.unchanging.stands;
-      dictionary = recoded_words 1 m.constants.segments segments (reverse m.constants.dictionary.cells) code h.unchanging.dictionary;
-    };
-    tasks = record {
-      tasks = all_tasks (TaskInOrder (IsSegment m.constants) m.constants m.progress.job) (TaskInOrder (IsSegment setting') setting' job')
-          (λ t o. task_up (IsSegment m.constants) (IsSegment setting') segment_up m.constants setting' m.progress.job job' refl refl refl (names_up m.progress.job.arrays arrays filled) (owns_up m.progress.job.arrays arrays filled) t o) m.progress.job.tasks h.tasks.tasks;
-      apart = h.tasks.apart;
-      arrays = arrays_order m.progress.job.arrays arrays filled h.tasks.arrays;
-      once = once_up (λ (n : ℕ). originals_of n m.constants m.progress.job) m.progress.job.arrays arrays filled h.tasks.once;
-      entries = entries_up m.progress.job.arrays arrays filled m.constants.dictionary.cells h.tasks.entries;
-      numbers = h.tasks.numbers;
-      names = (let P : List ℕ → Type 0 = λ ns. Falls m.progress.job.next_array ns in subst P (sym (identities_same m.progress.job.arrays arrays filled)) h.tasks.names);
-      few = h.tasks.few;
-      reads = h.tasks.reads;
-    };
+    unchanging = setting_up h.unchanging;
+    tasks = tasks_up h.tasks;
     counts = record { next = h.counts.next; within = h.counts.within; goes_on = h.counts.goes_on };
     below_limit = h.below_limit;
   }
@@ -228,25 +232,25 @@ members_up (m ∷ ms) (n ∷ ns) h o = (subst Good (sym h.0.rest) (member_up m n
 members_up [] (n ∷ ns) h o = absurd h
 members_up (m ∷ ms) [] h o = absurd h
 
-numbered_up : (n : ℕ) (ms ns : List SessionJob) → AllOtherNumbers ms ns → NumberedFrom n ms → NumberedFrom n ns
+pub numbered_up : (n : ℕ) (ms ns : List SessionJob) → AllOtherNumbers ms ns → NumberedFrom n ms → NumberedFrom n ns
 numbered_up n [] [] h o = o
 numbered_up n (m ∷ ms) (y ∷ ns) h o = (ap (λ (z : SessionJob). z.constants.number) h.0.rest ∙ o.0, numbered_up (n + 1) ms ns h.1 o.1)
 numbered_up n [] (y ∷ ns) h o = absurd h
 numbered_up n (m ∷ ms) [] h o = absurd h
 
-sizes_up : (size : ℕ) (ms ns : List SessionJob) → AllOtherNumbers ms ns → AllByRecursion (λ (m : SessionJob). m.constants.stack_size ≡ size) ms → AllByRecursion (λ (m : SessionJob). m.constants.stack_size ≡ size) ns
+pub sizes_up : (size : ℕ) (ms ns : List SessionJob) → AllOtherNumbers ms ns → AllByRecursion (λ (m : SessionJob). m.constants.stack_size ≡ size) ms → AllByRecursion (λ (m : SessionJob). m.constants.stack_size ≡ size) ns
 sizes_up size [] [] h o = o
 sizes_up size (m ∷ ms) (n ∷ ns) h o = (ap (λ (z : SessionJob). z.constants.stack_size) h.0.rest ∙ o.0, sizes_up size ms ns h.1 o.1)
 sizes_up size [] (n ∷ ns) h o = absurd h
 sizes_up size (m ∷ ms) [] h o = absurd h
 
-count_up : (ms ns : List SessionJob) → AllOtherNumbers ms ns → length ns ≡ length ms
+pub count_up : (ms ns : List SessionJob) → AllOtherNumbers ms ns → length ns ≡ length ms
 count_up [] [] h = refl
 count_up (m ∷ ms) (n ∷ ns) h = ap suc (count_up ms ns h.1)
 count_up [] (n ∷ ns) h = absurd h
 count_up (m ∷ ms) [] h = absurd h
 
-sum_up : (f : SessionJob → ℕ) → ((m : SessionJob) (segments : List Segment) (arrays : List Array) → f (record m { constants = record m.constants { segments = segments }; progress = record m.progress { job = record m.progress.job { arrays = arrays } } }) ≡ f m)
+pub sum_up : (f : SessionJob → ℕ) → ((m : SessionJob) (segments : List Segment) (arrays : List Array) → f (record m { constants = record m.constants { segments = segments }; progress = record m.progress { job = record m.progress.job { arrays = arrays } } }) ≡ f m)
     → (ms ns : List SessionJob) → AllOtherNumbers ms ns → sum_by f ns ≡ sum_by f ms
 sum_up f same [] [] h = refl
 sum_up f same (m ∷ ms) (n ∷ ns) h =

@@ -52,7 +52,7 @@ waits_good P constants job task condition s waits =
       alike = λ t k. alike_same (map known_of (from_frame t.critical task.frames));
       stays = λ t k c. c;
       fewer = λ n low. omega arith;
-      kept = λ a k. record { case = inl (record { item = a; live = k; named = refl; owned = refl; long = omega arith }) };
+      kept = λ a k. record { case = inl (record { item = a; live = k; named = refl; owned = refl }) };
       arrays = s.order.arrays;
       once = λ a k. omega (arith, all_in (λ (x : Array). originals_of x.identity constants job ≡ 1) job.arrays a s.order.once k);
       names = s.order.names;

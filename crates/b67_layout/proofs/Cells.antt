@@ -1,15 +1,14 @@
 -- The running task with other cells on top: its job and its session in order.
-use Rattle.std.proofs.Common.{◌≡◌, ◌≢◌, ℕ, ◌+◌, ◌<◌, ◌≤◌, ◌^◌, List, [], ◌∷◌, ◌++◌, map, refl, sym, ap, subst, inl, inr, arith, IsTrue}
+use Rattle.std.proofs.Common.{◌≡◌, ◌≢◌, ℕ, ◌+◌, ◌<◌, ◌≤◌, ◌^◌, List, [], ◌∷◌, ◌++◌, map, refl, sym, ap, subst, inl, inr, arith}
 use Rattle.std.proofs.lemmas.Bool.Decides.{eqb_tells}
 use Rattle.b67_word.specs.declared.couples.Place.{Place}
-use Rattle.b67_model.specs.Keyed.{change_keyed}
 use Rattle.b67_lemmas.specs.Lists.{Has, Falls, how_many}
 use Rattle.b67_lemmas.proofs.Members.{all_in, length_change}
 use Rattle.b67_model.specs.Words.{Word}
 use Rattle.b67_model.specs.State.{Frame, Array, Task, Job, SessionJob, top, with_top_cells, height, with_task}
-use Rattle.b67_model.specs.Endings.{is_ready}
 use Rattle.b67_model.specs.Schedule.{Session}
-use Rattle.b67_model.specs.InOrder.{Starts, IsSegment, Known, known_of, known_numbers, from_frame, outer_of, identities, is_original_of, originals_in, originals_of, frames_named, FramesInOrder, StackInOrder, CellsInOrder, ConditionInOrder, TaskInOrder, TasksInOrder, JobInOrder, IsInOrderButPlaces}
+use Rattle.b67_model.specs.InOrder.{Starts, IsSegment, Known, known_of, known_numbers, from_frame, outer_of, identities, is_original_of, originals_in, originals_of, frames_named, FramesInOrder, StackInOrder, CellsInOrder, ConditionInOrder, TaskInOrder, TasksInOrder}
+use Rattle.b67_layout.specs.Orders.{JobInOrderButCounts, IsInOrderButCounts}
 use Rattle.b67_law_order.proofs.Reaches.{Alike, alike_same}
 use Rattle.b67_law_order.proofs.Replaced.{replaced}
 use Rattle.b67_law_order.proofs.Looks.{some_cells}
@@ -18,7 +17,6 @@ use Rattle.b67_layout.specs.Session.{IsRunning}
 use Rattle.b67_layout.specs.Meets.{with_job}
 use Rattle.b67_layout.proofs.Whole.{task_with}
 use Rattle.b67_layout.proofs.Fresh.{running_in_order}
-use Rattle.b67_layout.proofs.Sessions.{change-kept}
 use Rattle.b67_layout.proofs.Members.{member_kept}
 
 -- what other cells leave of the frames
@@ -53,14 +51,14 @@ originals_with : (n : ℕ) (fs : List Frame) (cs : List Word) → fs ≢ [] → 
 originals_with n [] cs some e = absurd (some refl)
 originals_with n (f ∷ below) cs some e = ap (λ (k : ℕ). k + originals_in n below) e
 
-module _ (plan : Placement) (s : Session) (m : SessionJob) (t : Task) (ordered : IsInOrderButPlaces s) (runs : IsRunning plan s.jobs m t) (cs : List Word) (q : Place)
+module _ (plan : Placement) (s : Session) (m : SessionJob) (t : Task) (ordered : IsInOrderButCounts s) (runs : IsRunning plan s.jobs m t) (cs : List Word) (q : Place)
     (words : CellsInOrder (IsSegment m.constants) m.progress.job.arrays (map known_of t.frames ++ outer_of m.progress.job t) (top t.frames).identity cs)
     (originals : (n : ℕ) → how_many (is_original_of n) cs ≡ how_many (is_original_of n) (top t.frames).cells)
     (fits : height (with_top_cells t.frames cs) ≤ m.constants.stack_size) (word_fits : q.word < 2 ^ 13) (syllable_fits : q.syllable < 2 ^ 3) where
   new : Job
   new = with_task m.progress.job (task_with t cs q)
 
-  whole : JobInOrder (IsSegment m.constants) m.constants m.progress
+  whole : JobInOrderButCounts (IsSegment m.constants) m.constants m.progress
   whole = (running_in_order plan s m t ordered runs).0
 
   own : TaskInOrder (IsSegment m.constants) m.constants m.progress.job t
@@ -87,34 +85,20 @@ module _ (plan : Placement) (s : Session) (m : SessionJob) (t : Task) (ordered :
     alike = λ u k. alike_with u.critical t.frames cs;
     stays = λ u k c. stays_with u.critical t.frames cs c;
     fewer = λ n low. (let e = named_with n t.frames cs in omega (arith, e));
-    kept = λ a k. record { case = inl (record { item = a; live = k; named = refl; owned = refl; long = omega arith }) };
+    kept = λ a k. record { case = inl (record { item = a; live = k; named = refl; owned = refl }) };
     arrays = whole.tasks.arrays;
     once = λ a k. (let e = originals_with a.identity t.frames cs own.some (originals a.identity) in let one = all_in (λ (b : Array). originals_of b.identity m.constants m.progress.job ≡ 1) m.progress.job.arrays a whole.tasks.once k in omega (arith, e, one));
     names = whole.tasks.names;
     reads = whole.tasks.reads;
   })
 
-  some_ready : (u : Task) → Has m.progress.job.tasks u → IsTrue (is_ready u) → (v : Task) × Has (with_task m.progress.job (task_with t cs q)).tasks v × IsTrue (is_ready v)
-  some_ready u h ready = elim (change-kept (λ (v : Task). v.number) t.number (λ (v : Task). task_with t cs q) m.progress.job.tasks t runs.task u h) [
-    | inl k ↦ (u, k, ready)
-    | inr k ↦ (task_with t cs q, k.1, subst (λ (v : Task). IsTrue (is_ready v)) k.0 ready)
-  ]
-
-  was_some : (with_task m.progress.job (task_with t cs q)).tasks ≢ [] → m.progress.job.tasks ≢ []
-  was_some new_some e = new_some (ap (change_keyed (λ (v : Task). v.number) t.number (λ (v : Task). task_with t cs q)) e)
-
-  job_in_order : JobInOrder (IsSegment m.constants) m.constants (record m.progress { job = with_task m.progress.job (task_with t cs q) })
+  job_in_order : JobInOrderButCounts (IsSegment m.constants) m.constants (record m.progress { job = with_task m.progress.job (task_with t cs q) })
   job_in_order = record {
     unchanging = whole.unchanging;
     tasks = tasks_in_order;
-    counts = record {
-      next = whole.counts.next;
-      within = whole.counts.within;
-      goes_on = λ z. (let r = whole.counts.goes_on (was_some z) in some_ready r.0 r.1 r.2);
-    };
-    below_limit = λ z. whole.below_limit (was_some z);
+    few_born = whole.few_born;
   }
 
   -- the session with these cells on top is in order
-  pub cells_in_order : IsInOrderButPlaces (with_job s m (with_task m.progress.job (task_with t cs q)))
+  pub cells_in_order : IsInOrderButCounts (with_job s m (with_task m.progress.job (task_with t cs q)))
   cells_in_order = member_kept s m (with_task m.progress.job (task_with t cs q)) ordered runs.member job_in_order (length_change (λ (v : Task). v.number) t.number (task_with t cs q) m.progress.job.tasks)

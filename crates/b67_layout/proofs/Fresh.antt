@@ -8,7 +8,8 @@ use Rattle.b67_model.specs.State.{Frame, Task, JobConstants, Job, SessionJob}
 use Rattle.b67_model.specs.Steps.{is_critical}
 use Rattle.b67_model.specs.Run.{number_of}
 use Rattle.b67_model.specs.Schedule.{Session}
-use Rattle.b67_model.specs.InOrder.{Starts, IsSegment, Known, known_of, known_numbers, identities, outer_of, reach_of, BirthInOrder, TaskInOrder, TasksInOrder, JobInOrder, IsInOrderButPlaces}
+use Rattle.b67_model.specs.InOrder.{Starts, IsSegment, Known, known_of, known_numbers, identities, outer_of, reach_of, BirthInOrder, TaskInOrder, TasksInOrder}
+use Rattle.b67_layout.specs.Orders.{JobInOrderButCounts, IsInOrderButCounts}
 use Rattle.b67_layout.specs.Placement.{Placement}
 use Rattle.b67_layout.specs.Session.{IsRunning}
 use Rattle.b67_layout.proofs.Steps.{IsFree}
@@ -23,10 +24,10 @@ first-below bound [] outer some f = absurd (some refl)
 first-below bound (g ∷ below) outer some f = omega (arith, f.0)
 
 -- a member of a session in order is in order, and so are the tasks of one
-pub job_in_order : (s : Session) (m : SessionJob) → IsInOrderButPlaces s → Has s.jobs m → JobInOrder (IsSegment m.constants) m.constants m.progress
-job_in_order s m o h = all_in (λ (y : SessionJob). JobInOrder (IsSegment y.constants) y.constants y.progress) s.jobs m o.jobs h
+pub job_in_order : (s : Session) (m : SessionJob) → IsInOrderButCounts s → Has s.jobs m → JobInOrderButCounts (IsSegment m.constants) m.constants m.progress
+job_in_order s m o h = all_in (λ (y : SessionJob). JobInOrderButCounts (IsSegment y.constants) y.constants y.progress) s.jobs m o.jobs h
 
-pub running_in_order : (plan : Placement) (s : Session) (m : SessionJob) (t : Task) → IsInOrderButPlaces s → IsRunning plan s.jobs m t → JobInOrder (IsSegment m.constants) m.constants m.progress × TaskInOrder (IsSegment m.constants) m.constants m.progress.job t
+pub running_in_order : (plan : Placement) (s : Session) (m : SessionJob) (t : Task) → IsInOrderButCounts s → IsRunning plan s.jobs m t → JobInOrderButCounts (IsSegment m.constants) m.constants m.progress × TaskInOrder (IsSegment m.constants) m.constants m.progress.job t
 running_in_order plan s m t o runs =
     let j = job_in_order s m o (keyed-has number_of m.constants.number s.jobs m runs.member) in
     (j, all_in (TaskInOrder (IsSegment m.constants) m.constants m.progress.job) m.progress.job.tasks t j.tasks.tasks (keyed-has (λ (u : Task). u.number) t.number m.progress.job.tasks t runs.task))
@@ -59,6 +60,6 @@ pub free-uncritical : (job : Job) (n : ℕ) → IsFree job n → is_critical job
 free-uncritical job n free = none_critical n job.tasks free.uncritical
 
 -- in a session in order
-pub fresh : (plan : Placement) (s : Session) (m : SessionJob) (t : Task) → IsInOrderButPlaces s → IsRunning plan s.jobs m t → IsFree m.progress.job m.progress.job.next_frame
+pub fresh : (plan : Placement) (s : Session) (m : SessionJob) (t : Task) → IsInOrderButCounts s → IsRunning plan s.jobs m t → IsFree m.progress.job m.progress.job.next_frame
 fresh plan s m t o runs =
     next_is_free (IsSegment m.constants) m.constants m.progress.job (job_in_order s m o (keyed-has number_of m.constants.number s.jobs m runs.member)).tasks t (keyed-has (λ (u : Task). u.number) t.number m.progress.job.tasks t runs.task)

@@ -13,3 +13,5 @@ pub mod Gone
 pub mod Witness
 pub mod Members
 pub mod Cells
+pub mod Weaker
+pub mod Family

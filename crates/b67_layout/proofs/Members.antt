@@ -7,34 +7,29 @@ use Rattle.b67_lemmas.proofs.Sums.{sum_total}
 use Rattle.b67_model.specs.State.{Job, SessionJob}
 use Rattle.b67_model.specs.Run.{number_of}
 use Rattle.b67_model.specs.Schedule.{Session}
-use Rattle.b67_model.specs.InOrder.{IsSegment, JobInOrder, IsInOrderButPlaces}
+use Rattle.b67_model.specs.InOrder.{IsSegment}
+use Rattle.b67_layout.specs.Orders.{JobInOrderButCounts, IsInOrderButCounts}
 use Rattle.b67_layout.specs.Meets.{with_job}
-use Rattle.b67_law_order.proofs.Numbered.{numbered_change, made_of, tasks_of}
+use Rattle.b67_law_order.proofs.Numbered.{numbered_change, tasks_of}
 
 -- with another job of the member
-pub member_kept : (s : Session) (m : SessionJob) (job : Job) → IsInOrderButPlaces s → keyed number_of m.constants.number s.jobs ≡ Some m
-    → JobInOrder (IsSegment m.constants) m.constants (record m.progress { job = job }) → length job.tasks ≡ length m.progress.job.tasks → IsInOrderButPlaces (with_job s m job)
+pub member_kept : (s : Session) (m : SessionJob) (job : Job) → IsInOrderButCounts s → keyed number_of m.constants.number s.jobs ≡ Some m
+    → JobInOrderButCounts (IsSegment m.constants) m.constants (record m.progress { job = job }) → length job.tasks ≡ length m.progress.job.tasks → IsInOrderButCounts (with_job s m job)
 member_kept s m job o found good few =
     let new : SessionJob = record m { progress = record m.progress { job = job } } in
     let named = keyed_has number_of m.constants.number s.jobs m found in
     let same = change_is number_of m.constants.number (λ (k : SessionJob). record k { progress = record m.progress { job = job } }) m s.jobs found in
     let jobs = change_keyed number_of m.constants.number (λ (y : SessionJob). new) s.jobs in
     let tasks = total_change number_of tasks_of m.constants.number m new s.jobs found in
-    let counts = total_change number_of made_of m.constants.number m new s.jobs found in
     let lengths = length_change number_of m.constants.number new s.jobs in
     let t = sum_total tasks_of s.jobs in
     let j = sum_total tasks_of jobs in
-    let before = sum_total made_of s.jobs in
-    let behind = sum_total made_of jobs in
     let S : List SessionJob → Session = λ js. record s { jobs = js } in
-    subst (λ (js : List SessionJob). IsInOrderButPlaces (S js)) (sym same) (record {
+    subst (λ (js : List SessionJob). IsInOrderButCounts (S js)) (sym same) (record {
       few = omega (arith, lengths, o.few);
       numbered = numbered_change 1 m.constants.number new s.jobs o.numbered named.1;
       one_size = (o.one_size.0, all_change (λ (k : SessionJob). k.constants.stack_size ≡ o.one_size.0) number_of m.constants.number new s.jobs o.one_size.1 (all_in (λ (k : SessionJob). k.constants.stack_size ≡ o.one_size.0) s.jobs m o.one_size.1 named.0));
-      jobs = all_change (λ (k : SessionJob). JobInOrder (IsSegment k.constants) k.constants k.progress) number_of m.constants.number new s.jobs o.jobs good;
-      switches = o.switches;
+      jobs = all_change (λ (k : SessionJob). JobInOrderButCounts (IsSegment k.constants) k.constants k.progress) number_of m.constants.number new s.jobs o.jobs good;
       peak_low = omega (arith, tasks, t, j, few, o.peak_low);
       peak_high = o.peak_high;
-      counted = omega (arith, counts, before, behind, o.counted);
-      turn = o.turn;
     })

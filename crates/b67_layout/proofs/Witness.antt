@@ -35,7 +35,7 @@ abbrev code : List ℕ
 code = 0xae4009b202b2 ∷ 0x0380aba3ffff ∷ []
 
 abbrev program : Program
-program = record { segments = record { level = 2; code = code } ∷ []; rows = [] }
+program = record { segments = record { level = 2; entries = []; code = code } ∷ []; rows = [] }
 
 abbrev member : SessionJob
 member = opened 1 program 64 1000 []
@@ -71,7 +71,7 @@ abbrev zeros : ℕ → List Tagged
 zeros n = replicate n (word 0 0)
 
 abbrev mcp_words : List Tagged
-mcp_words = word 3 (2 ^ 46) ∷ zeros 7 ++ word 7 (2 ^ 19 + 8) ∷ word 7 (2 ^ 19 + 9) ∷ word 7 (2 ^ 19 + 10) ∷ word 7 (2 ^ 19 + 11) ∷ word 7 (2 ^ 19 + 12) ∷ word 7 (2 ^ 19 + 13) ∷ word 7 (2 ^ 19 + 14) ∷ word 7 (2 ^ 19 + 15) ∷ word 7 (2 ^ 19 + 16) ∷ zeros 15 ++ word 3 (2 ^ 46 + 1023 * 2 ^ 36 + 1 * 2 ^ 16) ∷ []
+mcp_words = word 3 (2 ^ 46) ∷ zeros 7 ++ word 7 (2 ^ 19 + 8) ∷ word 7 (2 ^ 19 + 9) ∷ word 7 (2 ^ 19 + 10) ∷ word 7 (2 ^ 19 + 11) ∷ word 7 (2 ^ 19 + 12) ∷ word 7 (2 ^ 19 + 13) ∷ word 7 (2 ^ 19 + 14) ∷ word 7 (2 ^ 19 + 15) ∷ word 7 (2 ^ 19 + 16) ∷ word 7 (2 ^ 19 + 17) ∷ word 7 (2 ^ 19 + 18) ∷ zeros 13 ++ word 3 (2 ^ 46 + 1023 * 2 ^ 36 + 1 * 2 ^ 16) ∷ []
 
 -- from word 152: the link to the hole, the dictionary, the stack, the area and the hole
 abbrev after_vector : List Tagged
@@ -92,28 +92,28 @@ abbrev pub machine : Cpu
 machine = record { core = core; regs = regs; display = 0 ∷ 160 ∷ 164 ∷ replicate 29 0; critical = replicate 120 0 }
 
 -- facts for each number of a range
-abbrev AllFrom : (ℕ → Type 0) → ℕ → ℕ → Type 0
+abbrev pub AllFrom : (ℕ → Type 0) → ℕ → ℕ → Type 0
 AllFrom P from zero = Unit {0}
 AllFrom P from (suc n) = P from × AllFrom P (from + 1) n
 
-all_from : (P : ℕ → Type 0) (from n : ℕ) → AllFrom P from n → (i : ℕ) → from ≤ i → i < from + n → P i
+pub all_from : (P : ℕ → Type 0) (from n : ℕ) → AllFrom P from n → (i : ℕ) → from ≤ i → i < from + n → P i
 all_from P from zero a i low up = absurd (omega arith)
 all_from P from (suc n) a i low up = ⊎_elim
     (λ (e : i ≡ from). subst P (sym e) a.0)
     (λ (e : i ≡ from → ⊥). all_from P (from + 1) n a.1 i (omega arith) (omega arith))
     (cases_eq i from)
 
-get-past : {A : Type 0} (xs ys : List A) (i k : ℕ) → k ≡ length xs + i → slice_get (xs ++ ys) k ≡ slice_get ys i
+pub get-past : {A : Type 0} (xs ys : List A) (i k : ℕ) → k ≡ length xs + i → slice_get (xs ++ ys) k ≡ slice_get ys i
 get-past [] ys i k e = ap (slice_get ys) (let z : k ≡ i = omega arith in z)
 get-past (x ∷ xs) ys i zero e = absurd (omega arith)
 get-past (x ∷ xs) ys i (suc k) e = get-past xs ys i k (omega arith)
 
-get-replicate : {A : Type 0} (n : ℕ) (x : A) (ys : List A) (i : ℕ) → i < n → slice_get (replicate n x ++ ys) i ≡ Some x
+pub get-replicate : {A : Type 0} (n : ℕ) (x : A) (ys : List A) (i : ℕ) → i < n → slice_get (replicate n x ++ ys) i ≡ Some x
 get-replicate zero x ys i h = absurd (omega arith)
 get-replicate (suc n) x ys zero h = refl
 get-replicate (suc n) x ys (suc i) h = get-replicate n x ys i (omega arith)
 
-get-only : {A : Type 0} (n : ℕ) (x : A) (i : ℕ) → i < n → slice_get (replicate n x) i ≡ Some x
+pub get-only : {A : Type 0} (n : ℕ) (x : A) (i : ℕ) → i < n → slice_get (replicate n x) i ≡ Some x
 get-only zero x i h = absurd (omega arith)
 get-only (suc n) x zero h = refl
 get-only (suc n) x (suc i) h = get-only n x i (omega arith)
@@ -127,7 +127,7 @@ task = record { number = 1; parents = []; critical = 0; frames = record { identi
 abbrev object : PagedObject
 object = record { home = 162; kind = kind.Code; numbers = code }
 
-only : {A : Type 0} (x : A) (P : A → Type 0) → P x → (y : A) → Has (x ∷ []) y → P y
+pub only : {A : Type 0} (x : A) (P : A → Type 0) → P x → (y : A) → Has (x ∷ []) y → P y
 only x P h y (inl e) = subst P e h
 only x P h y (inr k) = absurd k
 
@@ -265,7 +265,7 @@ holds = record {
   memory = stands;
   settled = only object (λ t. (k : ℕ) → k < 1 → slot_base p k ≤ t.home → t.home < slot_base p k + p.size → t.home ≤ slot_base p k + stack_words (stack_of (p.slots k))) (first_slot (λ k. slot_base p k ≤ 162 → 162 < slot_base p k + p.size → 162 ≤ slot_base p k + stack_words (stack_of (p.slots k))) (λ low up. absurd (omega arith)));
   dictionaries = only member (RepresentsDictionary core plan) (record { mark = refl; entries = refl });
-  mcp = record { mark = refl; intrinsics = λ n low up. all_from (λ q. slice_get core q ≡ Some (word 7 (2 ^ 19 + q))) 8 9 (refl, (refl, (refl, (refl, (refl, (refl, (refl, (refl, (refl, tt))))))))) n low (omega arith) };
+  mcp = record { mark = refl; intrinsics = λ n low up. all_from (λ q. slice_get core q ≡ Some (word 7 (2 ^ 19 + q))) 8 11 (refl, (refl, (refl, (refl, (refl, (refl, (refl, (refl, (refl, (refl, (refl, tt))))))))))) n low (omega arith) };
   vector = vector;
   critical = critical;
   live = λ n. (member, task, record { member = refl; task = refl; slot = refl });

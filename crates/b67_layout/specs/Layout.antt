@@ -21,9 +21,9 @@ shape plan j job spot (Operand bits) = Is (word 0 bits)
 shape plan j job spot (Name couple) = Is (irw_word (record { couple = couple }))
 shape plan j job spot (Ref frame offset) = Is (sirw_word (record { stack = (spot frame).stack; disp = (spot frame).disp; offset = offset }))
 shape plan j job spot (Row a) =
-    Copy (record { indexed = false; read_only = not (array job a).writable; number = length (array job a).numbers }) (plan.home j a)
+    Copy (record { index = None; read_only = not (array job a).writable }) (plan.home j a)
 shape plan j job spot (Element a index) =
-    Copy (record { indexed = true; read_only = not (array job a).writable; number = index }) (plan.home j a)
+    Copy (record { index = Some index; read_only = not (array job a).writable }) (plan.home j a)
 shape plan j job spot (Original a) = Shapes.Original (plan.home j a)
 shape plan j job spot (Proc segment level place) = Is (pcw_word (record { place = place; level = level; segment = segment + 1 }))
 shape plan j job spot (Intrinsic n) = Is (intrinsic_word (record { number = n }))

@@ -11,7 +11,7 @@ use Rattle.b67_model.specs.Arrays.{array}
 use Rattle.b67_model.specs.Steps.{Done, Goes, Leaves}
 use Rattle.b67_model.specs.Run.{number_of}
 use Rattle.b67_model.specs.Schedule.{Session}
-use Rattle.b67_model.specs.InOrder.{IsInOrderButPlaces}
+use Rattle.b67_layout.specs.Orders.{IsInOrderButCounts}
 use Rattle.b67_stack.specs.declared.Cpu.{Cpu}
 use Rattle.b67_stack.specs.declared.What.{What}
 use Rattle.b67_stack.specs.declared.What.TheVariants as what
@@ -105,12 +105,12 @@ pub record RunsSome (cpu : Cpu) : Type 0 where
   pub session : Session
   pub member : SessionJob
   pub task : Task
-  pub ordered : IsInOrderButPlaces session
+  pub ordered : IsInOrderButCounts session
   pub stands : RepresentsSession storage cpu plan session
   pub running : IsRunning plan session.jobs member task
 
 -- for each session in order that the machine stands for, with its running task
 abbrev pub ForEach : Cpu → (Storage → Placement → Session → SessionJob → Task → Type 0) → Type 0
 ForEach cpu P =
-    (x : Storage) (plan : Placement) (s : Session) (m : SessionJob) (t : Task) → IsInOrderButPlaces s → RepresentsSession x cpu plan s
+    (x : Storage) (plan : Placement) (s : Session) (m : SessionJob) (t : Task) → IsInOrderButCounts s → RepresentsSession x cpu plan s
     → IsRunning plan s.jobs m t → P x plan s m t

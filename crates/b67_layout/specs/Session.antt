@@ -52,7 +52,7 @@ pub record RepresentsDictionary (core : List Tagged) (plan : Placement) (m : Ses
 -- the MCP's mark and the intrinsics
 pub record RepresentsMcp (core : List Tagged) : Type 0 where
   pub mark : slice_get core 0 ≡ Some (word 3 (2 ^ 46))
-  pub intrinsics : (n : ℕ) → 8 ≤ n → n ≤ 16 → slice_get core n ≡ Some (word 7 (2 ^ 19 + n))
+  pub intrinsics : (n : ℕ) → 8 ≤ n → n ≤ 18 → slice_get core n ≡ Some (word 7 (2 ^ 19 + n))
 
 -- the word of a slot in the stack vector: the parent's slot, 1,023 for a first task, and the job
 abbrev pub vector_word : Placement → ℕ → List ℕ → Tagged

@@ -1,2 +1,6 @@
 //! How core, registers and display stand for a session's state: definitions and lemmas.
 #![tactic(auto)]
+
+mod families;
+
+pub use families::children_can_run;

@@ -135,7 +135,7 @@ module _ (P : Starts) (constants : JobConstants) (job : Job) (t : Task) (g : Tas
     alike = c.alike;
     stays = c.stays;
     fewer = c.fewer;
-    kept = λ a k. record { case = inl (record { item = a; live = k; named = refl; owned = refl; long = omega arith }) };
+    kept = λ a k. record { case = inl (record { item = a; live = k; named = refl; owned = refl }) };
     arrays = g.arrays;
     once = λ a k. omega (arith, same a.identity, all_in (λ (b : Array). originals_of b.identity constants job ≡ 1) job.arrays a g.once k);
     names = g.names;

@@ -12,7 +12,8 @@ use Rattle.b67_model.specs.State.{Frame, Array, Condition, Task, Job, JobProgres
 use Rattle.b67_model.specs.Keyed.{change_keyed}
 use Rattle.b67_model.specs.Steps.{is_critical}
 use Rattle.b67_model.specs.Schedule.{Session}
-use Rattle.b67_model.specs.InOrder.{IsSegment, from_frame, FramesInOrder, outer_of, TaskInOrder, JobInOrder, IsInOrderButPlaces}
+use Rattle.b67_model.specs.InOrder.{IsSegment, from_frame, FramesInOrder, outer_of, TaskInOrder}
+use Rattle.b67_layout.specs.Orders.{JobInOrderButCounts, IsInOrderButCounts}
 use Rattle.b67_stack.specs.Stacks.{StackPlace, Activation, stack_words}
 use Rattle.b67_stack.specs.Represents.{Storage, Represents}
 use Rattle.b67_stack.specs.Changes.{with_stack}
@@ -31,7 +32,7 @@ use Rattle.b67_layout_leave.proofs.Settled.{settled-after}
 
 -- the running task may leave its top frame
 pub record Leaver (plan : Placement) (s : Session) (m : SessionJob) (t : Task) (f : Frame) (below : List Frame) : Type 0 where
-  pub ordered : IsInOrderButPlaces s
+  pub ordered : IsInOrderButCounts s
   pub running : IsRunning plan s.jobs m t
   pub frames : t.frames ≡ f ∷ below
   pub free : is_critical m.progress.job f.identity ≡ false
@@ -41,7 +42,7 @@ abbrev pub task_at : Task → List Frame → ℕ → Place → Condition → Tas
 task_at t fs segment place condition = record t { frames = fs; segment = segment; place = place; condition = condition }
 
 module _ (plan : Placement) (s : Session) (m : SessionJob) (t : Task) (f : Frame) (below : List Frame) (may : Leaver plan s m t f below) where
-  job_order : JobInOrder (IsSegment m.constants) m.constants m.progress
+  job_order : JobInOrderButCounts (IsSegment m.constants) m.constants m.progress
   job_order = (running_in_order plan s m t may.ordered may.running).0
 
   own_order : TaskInOrder (IsSegment m.constants) m.constants m.progress.job t

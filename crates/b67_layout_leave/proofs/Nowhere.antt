@@ -135,8 +135,8 @@ module _ (new old : Job) (owner : ℕ) (is : new.arrays ≡ others owner old.arr
       let two = keyed_falls (λ (b : Array). b.identity) old.next_array (others owner old.arrays) a (falls_filter (λ (b : Array). b.identity) (λ (b : Array). not (b.owner == owner)) old.next_array old.arrays falls) (has_filter_in (λ (b : Array). not (b.owner == owner)) old.arrays a h test) in
       ap (λ (xs : List Array). unwrap_or (keyed (λ (b : Array). b.identity) a.identity xs) no_array) is ∙ ap (λ (o : Option Array). unwrap_or o no_array) (two ∙ sym one)
 
-  by_name : (reach : List Known) (a index : ℕ) → (Has (known_numbers reach) owner → ⊥) → NamesArray old.arrays reach a index → array new a ≡ array old a
-  by_name reach a index none n =
+  by_name : (reach : List Known) (a : ℕ) → (Has (known_numbers reach) owner → ⊥) → NamesArray old.arrays reach a → array new a ≡ array old a
+  by_name reach a none n =
       let ne : n.item.owner ≢ owner = λ e. none (subst (Has (known_numbers reach)) e (has_map (λ (k : Known). k.0) reach (n.item.owner, n.owner.standing) n.owner.among)) in
       subst (λ (i : ℕ). array new i ≡ array old i) n.named (array_stays n.item n.live ne)
 
@@ -144,8 +144,8 @@ module _ (new old : Job) (owner : ℕ) (is : new.arrays ≡ others owner old.arr
   word_stays P reach home (Operand bits) none g = tt
   word_stays P reach home (Name couple) none g = tt
   word_stays P reach home (Ref identity offset) none g = tt
-  word_stays P reach home (Row a) none g = by_name reach a 0 none g
-  word_stays P reach home (Element a index) none g = by_name reach a index none g
+  word_stays P reach home (Row a) none g = by_name reach a none g
+  word_stays P reach home (Element a index) none g = by_name reach a none g
   word_stays P reach home (Original a) none g = tt
   word_stays P reach home (Proc segment level place) none g = tt
   word_stays P reach home (Intrinsic number) none g = tt

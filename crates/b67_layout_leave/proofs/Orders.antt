@@ -47,7 +47,6 @@ module _ (constants : JobConstants) (job : Job) (t : Task) (f : Frame) (below : 
     live = has_filter_in (λ (x : Array). not (eqb x.owner f.identity)) job.arrays a k (elim (eqb_tells a.owner f.identity) [ inl e ↦ absurd (other e.1) | inr e ↦ rw e.0 refl ]);
     named = refl;
     owned = refl;
-    long = omega arith;
   }
 
   -- without the frame

@@ -13,7 +13,7 @@ use Rattle.b67_model.specs.State.{Frame, Array, Segment, Task, JobProgress, Sess
 use Rattle.b67_model.specs.Keyed.{keyed}
 use Rattle.b67_model.specs.Run.{number_of}
 use Rattle.b67_model.specs.Schedule.{Session}
-use Rattle.b67_model.specs.InOrder.{IsInOrderButPlaces}
+use Rattle.b67_layout.specs.Orders.{IsInOrderButCounts}
 use Rattle.b67_stack.specs.Stacks.{stack_words}
 use Rattle.b67_stack.specs.MachineView.{PagedObject, Slot, Running, stack_of, slot_base, NoOriginalAboveTop}
 use Rattle.b67_stack.specs.Represents.{Storage}
@@ -35,7 +35,7 @@ code_kind plan j n (s ∷ more) t (inl e) = ap (λ (z : PagedObject). z.kind) (s
 code_kind plan j n (s ∷ more) t (inr h) = code_kind plan j (n + 1) more t h
 
 module _ (x : Storage) (core : List Tagged) (r : Regs) (marks : List ℕ) (plan : Placement) (s : Session) (m : SessionJob) (t : Task) (f : Frame) (below : List Frame)
-    (o : IsInOrderButPlaces s) (h : SessionHolds x core r marks plan s) (runs : IsRunning plan s.jobs m t) (frames : t.frames ≡ f ∷ below)
+    (o : IsInOrderButCounts s) (h : SessionHolds x core r marks plan s) (runs : IsRunning plan s.jobs m t) (frames : t.frames ≡ f ∷ below)
     (c : JobProgress) (t' : Task) (by : Replaces m.progress.job c.job t t') (row : RowOf plan m.constants.number t.number plan.running) (words : OthersSame c.job m.progress.job t) (bound : ℕ)
     (falls : Falls bound (map (λ (a : Array). a.identity) m.progress.job.arrays)) (is : c.job.arrays ≡ others f.identity m.progress.job.arrays) where
   abbrev high_under : ℕ

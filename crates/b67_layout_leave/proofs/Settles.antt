@@ -14,7 +14,8 @@ use Rattle.b67_model.specs.State.{Frame, Array, Task, Job, JobProgress, SessionJ
 use Rattle.b67_model.specs.Keyed.{keyed}
 use Rattle.b67_model.specs.Run.{number_of}
 use Rattle.b67_model.specs.Schedule.{Session}
-use Rattle.b67_model.specs.InOrder.{Known, known_of, OwnsArray, EntryInOrder, frames_named, IsSegment, NumberedFrom, JobInOrder, IsInOrderButPlaces}
+use Rattle.b67_model.specs.InOrder.{Known, known_of, OwnsArray, EntryInOrder, frames_named, IsSegment, NumberedFrom}
+use Rattle.b67_layout.specs.Orders.{JobInOrderButCounts, IsInOrderButCounts}
 use Rattle.b67_law_order.proofs.Replaced.{has_counts}
 use Rattle.b67_law_order.proofs.Numbered.{keyed_member}
 use Rattle.b67_stack.specs.Shapes as Shapes
@@ -85,7 +86,7 @@ head_length k Stacks.Marked below under = omega arith
 head_length k (Stacks.Entered level environment back) below under = omega arith
 
 module _ (x : Storage) (core : List Tagged) (r : Regs) (marks : List ℕ) (plan : Placement) (s : Session) (m : SessionJob) (t : Task) (f : Frame) (below : List Frame)
-    (o : IsInOrderButPlaces s) (h : SessionHolds x core r marks plan s) (runs : IsRunning plan s.jobs m t) (frames : t.frames ≡ f ∷ below) where
+    (o : IsInOrderButCounts s) (h : SessionHolds x core r marks plan s) (runs : IsRunning plan s.jobs m t) (frames : t.frames ≡ f ∷ below) where
   abbrev pub under : List Activation
   under = activations plan m.constants.number m.progress.job plan.running (outer_spots plan m.constants.number m.progress.job t.critical t.parents) below
 
@@ -96,8 +97,8 @@ module _ (x : Storage) (core : List Tagged) (r : Regs) (marks : List ℕ) (plan 
   abbrev pub Low : SessionJob → Array → Type 0
   Low y b = (plan.home y.constants.number b.identity ≤ base + stack_words under) ⊎ (base + plan.size ≤ plan.home y.constants.number b.identity)
 
-  order_of : (y : SessionJob) → Has s.jobs y → JobInOrder (IsSegment y.constants) y.constants y.progress
-  order_of y in_y = all_in (λ (z : SessionJob). JobInOrder (IsSegment z.constants) z.constants z.progress) s.jobs y o.jobs in_y
+  order_of : (y : SessionJob) → Has s.jobs y → JobInOrderButCounts (IsSegment y.constants) y.constants y.progress
+  order_of y in_y = all_in (λ (z : SessionJob). JobInOrderButCounts (IsSegment z.constants) z.constants z.progress) s.jobs y o.jobs in_y
 
   used : RunsOn (machine_view plan s.jobs) plan.running (stack_of_task plan m.constants.number m.progress.job plan.running t)
   used = runs_on plan s.jobs m t h.fits.rows (keyed-has number_of m.constants.number s.jobs m runs.member) (keyed-has (λ (u : Task). u.number) t.number m.progress.job.tasks t runs.task) runs.slot runs.member runs.task

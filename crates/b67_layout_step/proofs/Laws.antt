@@ -10,7 +10,8 @@ use Rattle.b67_model.specs.State.{Frame, Array, Task, JobConstants, Job, Session
 use Rattle.b67_model.specs.Operators.{Reading}
 use Rattle.b67_model.specs.Steps.{Line, Goes}
 use Rattle.b67_model.specs.Rows.{row, reading_of, step_by, step}
-use Rattle.b67_model.specs.InOrder.{Starts, IsSegment, Known, known_of, WordInOrder, EntryInOrder, FramesInOrder, TaskInOrder, TasksInOrder, JobInOrder, outer_of}
+use Rattle.b67_model.specs.InOrder.{Starts, IsSegment, Known, known_of, WordInOrder, EntryInOrder, FramesInOrder, TaskInOrder, TasksInOrder, outer_of}
+use Rattle.b67_layout.specs.Orders.{JobInOrderButCounts}
 use Rattle.b67_law_order.proofs.Posts.{Post, post_err, post_at}
 use Rattle.b67_law_order_rows.proofs.Kept.{here}
 use Rattle.b67_layout_step.specs.Keeping.{RowsKeepArrays, StepsTouchArrays}
@@ -103,5 +104,5 @@ step_touches P constants job t g k after printed touched is =
 
 pub touches_arrays : StepsTouchArrays
 touches_arrays s m t order here task after printed touched is =
-    let g = all_in (λ (x : SessionJob). JobInOrder (IsSegment x.constants) x.constants x.progress) s.jobs m order.jobs here in
+    let g = all_in (λ (x : SessionJob). JobInOrderButCounts (IsSegment x.constants) x.constants x.progress) s.jobs m order.jobs here in
     step_touches (IsSegment m.constants) m.constants m.progress.job t g.tasks task after printed touched is

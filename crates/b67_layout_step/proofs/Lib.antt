@@ -6,3 +6,4 @@ pub mod Stepped
 pub mod Words
 pub mod Rows
 pub mod Laws
+pub mod OtherNumbers

@@ -7,9 +7,10 @@ use Rattle.std.specs.List.{AllByRecursion}
 use Rattle.b67_lemmas.specs.Lists.{Has}
 use Rattle.b67_lemmas.proofs.Members.{has_append_left, has_append_right, keyed_has, keyed-has}
 use Rattle.b67_model.specs.Schedule.{Session}
-use Rattle.b67_model.specs.InOrder.{IsSegment, SegmentInOrder, ArrayInOrder, JobInOrder, IsInOrderButPlaces}
+use Rattle.b67_model.specs.InOrder.{IsSegment, SegmentInOrder, ArrayInOrder}
+use Rattle.b67_layout.specs.Orders.{JobInOrderButCounts, IsInOrderButCounts}
 use Rattle.b67_law_order_steps.specs.Weaker.{Renumbers, Recoded, RefilledArray, Refilled, AllOtherNumbers}
-use Rattle.b67_law_order_steps.proofs.Sessions.{other_numbers_keep_order}
+use Rattle.b67_layout_step.proofs.OtherNumbers.{others_in_order}
 use Rattle.b67_model.specs.Words as Words
 use Rattle.b67_model.specs.Words.{Word, Operand, Name, Ref, Row, Element, Original, Proc, Intrinsic}
 use Rattle.b67_model.specs.State.{Frame, Array, Task, Segment, JobConstants, Job, SessionJob}
@@ -125,10 +126,10 @@ module _ (plan : Placement) (j home : ℕ) (ns : List ℕ) where
     shape_same spot (Name c) = refl
     shape_same spot (Ref f o) = refl
     shape_same spot (Row a) =
-        let S : Bool → ℕ → Shape = λ b n. Copy (record { indexed = false; read_only = not b; number = n }) (plan.home j a) in
-        ap (λ (b : Bool). S b (length (array (job_refilled plan j home ns job) a).numbers)) (array_same a).writable ∙ ap (S (array job a).writable) (array_same a).count
+        let S : Bool → Shape = λ b. Copy (record { index = None; read_only = not b }) (plan.home j a) in
+        ap S (array_same a).writable
     shape_same spot (Element a index) =
-        let S : Bool → Shape = λ b. Copy (record { indexed = true; read_only = not b; number = index }) (plan.home j a) in
+        let S : Bool → Shape = λ b. Copy (record { index = Some index; read_only = not b }) (plan.home j a) in
         ap S (array_same a).writable
     shape_same spot (Original a) = refl
     shape_same spot (Proc s l p) = refl
@@ -221,7 +222,7 @@ module _ (plan : Placement) (home : ℕ) (ns : List ℕ) (bits : AllByRecursion 
       (cases_Bool (plan.home j a.identity == home)) in
       (here, refilled_other j more order.1 (λ t int. fits t (inr int)))
 
-  others_from : (jobs : List SessionJob) → AllByRecursion (λ (m : SessionJob). JobInOrder (IsSegment m.constants) m.constants m.progress) jobs → Fitting home ns (flat_map (objects_of plan) jobs)
+  others_from : (jobs : List SessionJob) → AllByRecursion (λ (m : SessionJob). JobInOrderButCounts (IsSegment m.constants) m.constants m.progress) jobs → Fitting home ns (flat_map (objects_of plan) jobs)
       → AllOtherNumbers jobs (map (member_with plan home ns) jobs)
   others_from [] order fits = tt
   others_from (m ∷ more) order fits =
@@ -255,5 +256,5 @@ abbrev pub session_renumbered : Placement → ℕ → List ℕ → Session → S
 session_renumbered plan home ns s = record s { jobs = map (member_with plan home ns) s.jobs }
 
 pub order_renumbered : (plan : Placement) (home : ℕ) (ns : List ℕ) (s : Session) → AllByRecursion (λ (n : ℕ). n < 2 ^ 48) ns → Fitting home ns (flat_map (objects_of plan) s.jobs)
-    → IsInOrderButPlaces s → IsInOrderButPlaces (session_renumbered plan home ns s)
-order_renumbered plan home ns s bits fits order = other_numbers_keep_order s (map (member_with plan home ns) s.jobs) (others_from plan home ns bits s.jobs order.jobs fits) order
+    → IsInOrderButCounts s → IsInOrderButCounts (session_renumbered plan home ns s)
+order_renumbered plan home ns s bits fits order = others_in_order s (map (member_with plan home ns) s.jobs) (others_from plan home ns bits s.jobs order.jobs fits) order

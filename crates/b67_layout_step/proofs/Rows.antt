@@ -16,11 +16,12 @@ use Rattle.b67_model.specs.Arithmetic.{add, subt, mult, idiv, rdiv, less, greq, 
 use Rattle.b67_model.specs.Words as Words
 use Rattle.b67_model.specs.Words.{Word, Operand, Name, Ref, Row, Element, Original, Proc, Intrinsic, operand, whole}
 use Rattle.b67_model.specs.State.{Frame, Standing, Marked, Entered, Return, Array, Task, Job, OperatorContext, below_top, with_top_cells, top}
-use Rattle.b67_model.specs.Arrays.{array, element, with_number, with_element, indexed, in_order}
+use Rattle.b67_model.specs.Arrays.{array, element, with_number, with_element, with_array, all_zero, resized}
+use Rattle.b67_model.specs.Indexing.{indexed, in_order}
 use Rattle.b67_model.specs.Chase.{End, AtCell, AtElement, AtArray, AtProc, AtIntrinsic, chase, follow, follow_reference}
 use Rattle.b67_model.specs.Steps.{Line, Value, Values, Done, Goes, Leaves, Waits, top_of, cells_of, result, with_cells, leaves_cells, pushes}
 use Rattle.b67_model.specs.Entry.{accident, needs_level, back_to, evaluates, enters, left, leaves, returnable, returned, retn_word}
-use Rattle.b67_model.specs.Intrinsics.{answered, needs_free, answers, array_length, arraydec, print, row_copy, numbers_of, printrow, read_from, read, child_of, starts, process, awaits, await, status_of, status, waits_at, wait, causes, cause, intrinsic}
+use Rattle.b67_model.specs.Intrinsics.{answered, needs_free, answers, array_length, arraydec, print, row_copy, numbers_of, printrow, read_from, read, child_of, starts, process, awaits, await, status_of, status, waits_at, wait, causes, cause, needs_writable, deallocate, resize, intrinsic}
 use Rattle.b67_model.specs.Rows.{CellRow, on_one, on_two, dlet, exch, dupl, on_cells, branches, branch_if, stff, load_at, load, indx, nxlv, store_at, store, entr_at, entr_with, entr, proc_of, plain, row}
 use Rattle.b67_law_order.proofs.Posts.{Post, post_ok, post_err, post_bind, post_any, post_then, post_if}
 use Rattle.b67_layout_step.specs.Keeping.{is_leaving}
@@ -182,20 +183,20 @@ module _ (T : ℕ → Type 0) (first : List Array) (keeps : Type 0) where
       post_bind (W.OfPair T h s.words) Keeps (indexed h (in_order b a).0 (in_order b a).1) _ (W.indexed_names T h s.words (in_order b a).0 (in_order b a).1 (pair_names b a rest all))
       (λ at g. cells_good h (Operand (element h.job at.0 at.1) ∷ rest) (Some at.0) s g)
 
-  -- a store into an element leaves the identities
-  stored : (n : ℕ) (index bits m : ℕ) (arrays : List Array) → list_any (λ (b : Array). b.identity == m) (change_keyed (λ (b : Array). b.identity) n (with_number index bits) arrays) ≡ list_any (λ (b : Array). b.identity == m) arrays
-  stored n index bits m [] = refl
-  stored n index bits m (x ∷ xs) = elim (cases_Bool (x.identity == n)) [
-    | inl q ↦ rw q refl
-    | inr q ↦ rw (q, stored n index bits m xs) refl
+  -- a change of an array's numbers leaves the identities
+  stored : (n : ℕ) (f : Array → Array) → ((x : Array) → (f x).identity ≡ x.identity) → (m : ℕ) (arrays : List Array) → list_any (λ (b : Array). b.identity == m) (change_keyed (λ (b : Array). b.identity) n f arrays) ≡ list_any (λ (b : Array). b.identity == m) arrays
+  stored n f same m [] = refl
+  stored n f same m (x ∷ xs) = elim (cases_Bool (x.identity == n)) [
+    | inl q ↦ rw (q, same x) refl
+    | inr q ↦ rw (q, stored n f same m xs) refl
   ]
 
-  element_stays : (h : OperatorContext) (a index bits : ℕ) → Source h → keeps → Stay (with_element h.job a index bits).arrays
-  element_stays h a index bits s k n there = rw (stored a index bits n h.job.arrays) (s.arrays k n there)
+  numbers_stay : (h : OperatorContext) (a : ℕ) (f : Array → Array) → ((x : Array) → (f x).identity ≡ x.identity) → Source h → keeps → Stay (with_array h.job a f).arrays
+  numbers_stay h a f same s k n there = rw (stored a f same n h.job.arrays) (s.arrays k n there)
 
   store_at_good : (h : OperatorContext) (rest kept : List Word) (bits : ℕ) (end : End) → Source h → W.EndNames T end → Good (store_at h rest kept bits end)
   store_at_good h rest kept bits (AtCell f offset old) s g = post_ok Keeps _ (tt, s.arrays)
-  store_at_good h rest kept bits (AtElement a index) s g = post_then Keeps _ _ (result_good h (with_element h.job a index bits) (with_cells h kept) [] (Some a) g (element_stays h a index bits s))
+  store_at_good h rest kept bits (AtElement a index) s g = post_then Keeps _ _ (result_good h (with_element h.job a index bits) (with_cells h kept) [] (Some a) g (numbers_stay h a (with_number index bits) (λ x. refl) s))
   store_at_good h rest kept bits (AtProc f segment level place) s g = accident_good h (Operand bits ∷ rest) _ (AtProc f segment level place) s
   store_at_good h rest kept bits (AtArray a) s g = post_err Keeps _
   store_at_good h rest kept bits (AtIntrinsic n) s g = post_err Keeps _
@@ -304,10 +305,24 @@ module _ (T : ℕ → Type 0) (first : List Array) (keeps : Type 0) where
   cause_good h (r ∷ []) s = post_any Keeps (follow_reference h r) _ (λ end. causes_good h end s)
   cause_good h (r ∷ v ∷ more) s = post_err Keeps _
 
+  deallocate_good : (h : OperatorContext) (arguments : List Word) → Source h → Good (deallocate h arguments)
+  deallocate_good h [] s = post_err Keeps _
+  deallocate_good h (w ∷ []) s = post_any Keeps (row_copy w) _ (λ a. post_then Keeps (needs_writable h a) _ (answers_good h (with_array h.job a all_zero) [] [] None tt (numbers_stay h a all_zero (λ x. refl) s)))
+  deallocate_good h (w ∷ v ∷ more) s = post_err Keeps _
+
+  resize_good : (h : OperatorContext) (arguments : List Word) → Source h → AllName arguments → Good (resize h arguments)
+  resize_good h [] s all = post_err Keeps _
+  resize_good h (r ∷ []) s all = post_err Keeps _
+  resize_good h (r ∷ w ∷ []) s all = post_bind T Keeps (row_copy r) _ (copy_names r (all r (inl refl)))
+      (λ a g. post_any Keeps (whole w) _ (λ n. post_any Keeps (array_length n) _ (λ len.
+      post_then Keeps (needs_writable h a) _ (answers_good h (with_array h.job a (resized len)) [] [] (Some a) g (numbers_stay h a (resized len) (λ x. refl) s)))))
+  resize_good h (r ∷ w ∷ v ∷ more) s all = post_err Keeps _
+
   intrinsic_good : (n : ℕ) (h : OperatorContext) (arguments : List Word) → Source h → AllName arguments → Good (intrinsic n h arguments)
   intrinsic_good n h arguments s all =
       post_if Keeps _ _ _ (arraydec_good h arguments s) (post_if Keeps _ _ _ (print_good h arguments s) (post_if Keeps _ _ _ (printrow_good h arguments s all) (post_if Keeps _ _ _ (read_good h arguments s)
-      (post_if Keeps _ _ _ (process_good h arguments s) (post_if Keeps _ _ _ (await_good h arguments s) (post_if Keeps _ _ _ (status_good h arguments s) (post_if Keeps _ _ _ (wait_good h arguments s) (post_if Keeps _ _ _ (cause_good h arguments s) (post_err Keeps _)))))))))
+      (post_if Keeps _ _ _ (process_good h arguments s) (post_if Keeps _ _ _ (await_good h arguments s) (post_if Keeps _ _ _ (status_good h arguments s) (post_if Keeps _ _ _ (wait_good h arguments s) (post_if Keeps _ _ _ (cause_good h arguments s)
+      (post_if Keeps _ _ _ (deallocate_good h arguments s) (post_if Keeps _ _ _ (resize_good h arguments s all) (post_err Keeps _)))))))))))
 
   entr_at_good : (h : OperatorContext) (arguments : List Word) (end : End) → Source h → AllName arguments → Good (entr_at h arguments end)
   entr_at_good h arguments (AtIntrinsic n) s all = intrinsic_good n h arguments s all

@@ -1,17 +1,18 @@
 -- The array that a word names, a reference leads to, or an end is in.
-use Rattle.std.proofs.Common.{◌≡◌, ℕ, zero, suc, List, [], ◌∷◌, flat_map, length, Option, Some, None, unwrap_or, Ok, Err, refl, subst, inl, inr, ◌⊎◌, ◌==◌}
+use Rattle.std.proofs.Common.{ltb, ◌≡◌, ℕ, zero, suc, List, [], ◌∷◌, flat_map, length, Option, Some, None, unwrap_or, Ok, Err, refl, subst, inl, inr, ◌⊎◌, ◌==◌}
 use Rattle.std.proofs.lemmas.Bool.{cases_Bool}
 use Rattle.b67_model.specs.Answers.{Answer}
 use Rattle.b67_model.specs.Keyed.{keyed, change_keyed}
 use Rattle.b67_lemmas.specs.Lists.{Has}
 use Rattle.b67_lemmas.proofs.Members.{all_in, has_append_cases, keyed_has, has_flat_back}
-use Rattle.b67_model.specs.Arrays.{array, array_at, array_of, index_below, indexed}
+use Rattle.b67_model.specs.Arrays.{array}
+use Rattle.b67_model.specs.Indexing.{array_at, array_of, index_below, indexed}
 use Rattle.b67_model.specs.Words as Words
 use Rattle.b67_model.specs.Words.{Word, Operand, Name, Ref, Row, Element, Original, Proc, Intrinsic, operand, number}
 use Rattle.b67_model.specs.State.{Frame, Task, OperatorContext, mcp, no_frame, all_frames, frame, top, below_top}
 use Rattle.b67_model.specs.Cells.{cell, place_of}
-use Rattle.b67_model.specs.Chase.{End, AtCell, AtElement, AtArray, AtProc, AtIntrinsic, Link, Stops, Leads, link_at, link_in, link_from, link, chase_on, chase, follow}
-use Rattle.b67_law_order.proofs.Posts.{Post, post_ok, post_err, post_bind, post_any}
+use Rattle.b67_model.specs.Chase.{End, AtCell, AtElement, AtArray, AtProc, AtIntrinsic, Link, Stops, Leads, element_end, link_at, link_in, link_from, link, chase_on, chase, follow}
+use Rattle.b67_law_order.proofs.Posts.{Post, post_ok, post_err, post_bind, post_any, post_if}
 use Rattle.b67_law_order.proofs.Chases.{cell_has}
 
 -- a task put in the place of another
@@ -54,7 +55,7 @@ module _ (T : ℕ → Type 0) where
   tail_names w words all v k = all v (inr k)
 
   mcp_names : AllName mcp.cells
-  mcp_names w k = all_in Names mcp.cells w (tt, (tt, (tt, (tt, (tt, (tt, (tt, (tt, (tt, tt))))))))) k
+  mcp_names w k = all_in Names mcp.cells w (tt, (tt, (tt, (tt, (tt, (tt, (tt, (tt, (tt, (tt, (tt, tt))))))))))) k
 
   frame_names : (h : OperatorContext) → Holds h → FramesName (all_frames h)
   frame_names h s f k = elim (has_append_cases (flat_map (λ (t : Task). t.frames) h.job.tasks) (h.constants.dictionary ∷ mcp ∷ []) f k) [
@@ -81,21 +82,25 @@ module _ (T : ℕ → Type 0) where
   LinkNames (Stops end) = Post EndNames end
   LinkNames (Leads w) = Unit {0}
 
-  link_word : (f offset : ℕ) (w : Word) → Names w → LinkNames (link_at f offset w)
-  link_word f offset (Operand bits) g = post_ok EndNames _ tt
-  link_word f offset (Name couple) g = tt
-  link_word f offset (Ref identity other) g = tt
-  link_word f offset (Element a index) g = post_ok EndNames (AtElement a index) g
-  link_word f offset (Original a) g = post_ok EndNames (AtArray a) g
-  link_word f offset (Row a) g = post_ok EndNames (AtArray a) g
-  link_word f offset (Proc segment level place) g = post_ok EndNames _ tt
-  link_word f offset (Intrinsic n) g = post_ok EndNames _ tt
-  link_word f offset (Words.Segment n) g = post_err EndNames _
+  -- whatever the index is, the array is named
+  element_names : (h : OperatorContext) (a index : ℕ) → T a → Post EndNames (element_end h a index)
+  element_names h a index g = post_if EndNames (ltb index (length (array h.job a).numbers)) _ _ (post_ok EndNames (AtElement a index) g) (post_err EndNames _)
+
+  link_word : (h : OperatorContext) (f offset : ℕ) (w : Word) → Names w → LinkNames (link_at h f offset w)
+  link_word h f offset (Operand bits) g = post_ok EndNames _ tt
+  link_word h f offset (Name couple) g = tt
+  link_word h f offset (Ref identity other) g = tt
+  link_word h f offset (Element a index) g = element_names h a index g
+  link_word h f offset (Original a) g = post_ok EndNames (AtArray a) g
+  link_word h f offset (Row a) g = post_ok EndNames (AtArray a) g
+  link_word h f offset (Proc segment level place) g = post_ok EndNames _ tt
+  link_word h f offset (Intrinsic n) g = post_ok EndNames _ tt
+  link_word h f offset (Words.Segment n) g = post_err EndNames _
 
   module _ (h : OperatorContext) (s : Holds h) where
-    link_cell : (f offset : ℕ) (a : Answer Word) → cell h f offset ≡ a → LinkNames (link_in f offset a)
+    link_cell : (f offset : ℕ) (a : Answer Word) → cell h f offset ≡ a → LinkNames (link_in h f offset a)
     link_cell f offset (Err fault) e = post_err EndNames fault
-    link_cell f offset (Ok w) e = link_word f offset w (cell_names h s f offset w e)
+    link_cell f offset (Ok w) e = link_word h f offset w (cell_names h s f offset w e)
 
     link_place : (a : Answer (ℕ × ℕ)) → LinkNames (link_from h a)
     link_place (Err fault) = post_err EndNames fault
@@ -112,7 +117,7 @@ module _ (T : ℕ → Type 0) where
     pub follow_names : (w : Word) → Names w → Post EndNames (follow h w)
     follow_names (Name couple) g = chase_names (Name couple)
     follow_names (Ref f offset) g = chase_names (Ref f offset)
-    follow_names (Element a index) g = post_ok EndNames (AtElement a index) g
+    follow_names (Element a index) g = element_names h a index g
     follow_names (Operand bits) g = post_err EndNames _
     follow_names (Row a) g = post_err EndNames _
     follow_names (Original a) g = post_err EndNames _

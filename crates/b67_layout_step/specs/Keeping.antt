@@ -8,7 +8,7 @@ use Rattle.b67_model.specs.State.{Array, Task, Job, SessionJob, OperatorContext}
 use Rattle.b67_model.specs.Steps.{Line, Goes}
 use Rattle.b67_model.specs.Rows.{row, step}
 use Rattle.b67_model.specs.Schedule.{Session}
-use Rattle.b67_model.specs.InOrder.{IsInOrderButPlaces}
+use Rattle.b67_layout.specs.Orders.{IsInOrderButCounts}
 use Rattle.b67_layout.specs.Meets.{gone}
 
 -- the operators that leave an activation record
@@ -26,6 +26,6 @@ RowsKeepArrays =
 -- a step of a session in order touches an array of its job alone
 abbrev pub StepsTouchArrays : Type 0
 StepsTouchArrays =
-    (s : Session) (m : SessionJob) (t : Task) → IsInOrderButPlaces s → Has s.jobs m → Has m.progress.job.tasks t
+    (s : Session) (m : SessionJob) (t : Task) → IsInOrderButCounts s → Has s.jobs m → Has m.progress.job.tasks t
     → (after : Job) (printed : List Line) (touched : ℕ) → step m.constants m.progress.job t ≡ Ok (Goes after printed (Some touched))
     → (a : Array) × Has m.progress.job.arrays a × (a.identity ≡ touched)

@@ -41,7 +41,7 @@ original_word k n h no_code few small area = by k no_code where
 pub copy_other : (held : Locations) (home : ℕ) (h : Location) (a : Shape) (i : ℕ) (v : Tagged) → ((b : ℕ) → (held home).area ≡ Some b → ⊥) → Fits held a i v → Fits (with_held held home h) a i v
 copy_other held home h (Is u) i v absent f = f
 copy_other held home h (Original q) i v absent f = f
-copy_other held home h (Copy c q) i v absent f = record { present = f.present; address = f.address; fits = f.fits; is = f.is; to = by f.present f.to } where
+copy_other held home h (Copy c q) i v absent f = record { number = f.number; numbered = f.numbered; present = f.present; address = f.address; fits = f.fits; is = f.is; to = by f.present f.to } where
   by : (b : Bool) → MatchBool b ((held q).area ≡ Some f.address) (f.address ≡ q) → MatchBool b ((with_held held home h q).area ≡ Some f.address) (f.address ≡ q)
   by false e = e
   by true e = ap (λ (g : Location). g.area) (held-other held home h q (λ z. absent f.address (ap (λ n. (held n).area) (sym z) ∙ e))) ∙ e

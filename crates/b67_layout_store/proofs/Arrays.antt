@@ -45,10 +45,8 @@ module _ (plan : Placement) (j : ℕ) (job : Job) (id i v : ℕ) where
   shape_same spot (Operand bits) = refl
   shape_same spot (Name couple) = refl
   shape_same spot (Ref identity offset) = refl
-  shape_same spot (Row a) =
-      ap (λ (b : Bool). Copy (record { indexed = false; read_only = not b; number = length (array job' a).numbers }) (plan.home j a)) (same a).0
-      ∙ ap (λ (n : ℕ). Copy (record { indexed = false; read_only = not (array job a).writable; number = n }) (plan.home j a)) (same a).1
-  shape_same spot (Element a index) = ap (λ (b : Bool). Copy (record { indexed = true; read_only = not b; number = index }) (plan.home j a)) (same a).0
+  shape_same spot (Row a) = ap (λ (b : Bool). Copy (record { index = None; read_only = not b }) (plan.home j a)) (same a).0
+  shape_same spot (Element a index) = ap (λ (b : Bool). Copy (record { index = Some index; read_only = not b }) (plan.home j a)) (same a).0
   shape_same spot (Original a) = refl
   shape_same spot (Proc segment level place) = refl
   shape_same spot (Intrinsic n) = refl

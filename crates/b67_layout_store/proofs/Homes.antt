@@ -12,7 +12,8 @@ use Rattle.b67_model.specs.Words.{Word, Original}
 use Rattle.b67_model.specs.State.{Frame, Array, Task, Job, SessionJob}
 use Rattle.b67_model.specs.Run.{number_of}
 use Rattle.b67_model.specs.Schedule.{Session}
-use Rattle.b67_model.specs.InOrder.{IsSegment, JobInOrder, IsInOrderButPlaces}
+use Rattle.b67_model.specs.InOrder.{IsSegment}
+use Rattle.b67_layout.specs.Orders.{JobInOrderButCounts, IsInOrderButCounts}
 use Rattle.b67_stack.specs.Shapes as Shapes
 use Rattle.b67_stack.specs.Shapes.{Shape, Fits, LieDownward}
 use Rattle.b67_stack.specs.Stacks.{StackPlace, Head, Marked, Entered, Activation, stack_words, headed, words}
@@ -105,11 +106,11 @@ dictionaries_apart plan at (m ∷ more) y z d (inr hy) (inl ez) =
     inr (inr (omega (arith, low, d.0, same)))
 dictionaries_apart plan at (m ∷ more) y z d (inr hy) (inr hz) = dictionaries_apart plan (at + (2 + length m.constants.dictionary.cells)) more y z d.1 hy hz
 
-module _ (x : Storage) (core : List Tagged) (r : Regs) (plan : Placement) (s : Session) (o : IsInOrderButPlaces s) (fits : PlanFits plan s) (memory : Represents x core r (machine_view plan s.jobs)) where
+module _ (x : Storage) (core : List Tagged) (r : Regs) (plan : Placement) (s : Session) (o : IsInOrderButCounts s) (fits : PlanFits plan s) (memory : Represents x core r (machine_view plan s.jobs)) where
   abbrev base : ℕ → ℕ
   base k = slot_base (machine_view plan s.jobs) k
 
-  order_of : (y : SessionJob) → Has s.jobs y → JobInOrder (IsSegment y.constants) y.constants y.progress
+  order_of : (y : SessionJob) → Has s.jobs y → JobInOrderButCounts (IsSegment y.constants) y.constants y.progress
   order_of y h = job_in_order s y o h
 
   room : (p : MachineView) (k : ℕ) (q : Slot) → SlotFits p k q → 0 < p.size → stack_words (stack_of q) < p.size

@@ -14,7 +14,8 @@ use Rattle.b67_model.specs.Environment.{frame_at}
 use Rattle.b67_model.specs.Arrays.{with_element}
 use Rattle.b67_model.specs.Run.{number_of}
 use Rattle.b67_model.specs.Schedule.{Session}
-use Rattle.b67_model.specs.InOrder.{Known, IsInOrderButPlaces}
+use Rattle.b67_model.specs.InOrder.{Known}
+use Rattle.b67_layout.specs.Orders.{IsInOrderButCounts}
 use Rattle.b67_stack.specs.declared.Cpu.{Cpu}
 use Rattle.b67_stack.specs.MachineView.{PagedObject, Slot, MachineView, NoOriginalAboveTop}
 use Rattle.b67_stack.specs.Represents.{Storage, Represents, info_of}
@@ -40,7 +41,7 @@ Shows-element display plan m t id i v shown n up =
     ∙ ap (λ (g : ℕ). Some (address_of plan (spots plan m.constants.number m.progress.job t g))) (sym same)
     ∙ ap (λ s. Some (address_of plan (s (frame_at h' n).identity))) (sym (spots_same plan m.constants.number m.progress.job id i v t))
 
-module _ (x : Storage) (old : Cpu) (plan : Placement) (s : Session) (m : SessionJob) (t : Task) (o : IsInOrderButPlaces s) (h : RepresentsSession x old plan s) (runs : IsRunning plan s.jobs m t)
+module _ (x : Storage) (old : Cpu) (plan : Placement) (s : Session) (m : SessionJob) (t : Task) (o : IsInOrderButCounts s) (h : RepresentsSession x old plan s) (runs : IsRunning plan s.jobs m t)
     (a : Array) (found : keyed (λ (z : Array). z.identity) a.identity m.progress.job.arrays ≡ Some a) (writable : a.writable ≡ true) (i v b : ℕ) (low : i < length a.numbers) (held : (x.held (plan.home m.constants.number a.identity)).area ≡ Some b) where
   abbrev pub job' : Job
   job' = with_element m.progress.job a.identity i v

@@ -14,7 +14,7 @@ use Rattle.b67_model.specs.Arrays as Arrays
 use Rattle.b67_model.specs.Arrays.{with_element}
 use Rattle.b67_model.specs.Run.{number_of}
 use Rattle.b67_model.specs.Schedule.{Session}
-use Rattle.b67_model.specs.InOrder.{IsInOrderButPlaces}
+use Rattle.b67_layout.specs.Orders.{IsInOrderButCounts}
 use Rattle.b67_stack.specs.MachineView.{PagedObject}
 use Rattle.b67_stack.specs.Represents.{Storage, Represents}
 use Rattle.b67_layout.specs.Placement.{Placement}
@@ -42,7 +42,7 @@ array_kind plan j a = by a.writable where
   by true e = let f : ⊥ = cc in f
   by false e = let f : ⊥ = cc in f
 
-module _ (x : Storage) (core : List Tagged) (r : Regs) (plan : Placement) (s : Session) (o : IsInOrderButPlaces s) (fits : PlanFits plan s) (memory : Represents x core r (machine_view plan s.jobs))
+module _ (x : Storage) (core : List Tagged) (r : Regs) (plan : Placement) (s : Session) (o : IsInOrderButCounts s) (fits : PlanFits plan s) (memory : Represents x core r (machine_view plan s.jobs))
     (m : SessionJob) (member : keyed number_of m.constants.number s.jobs ≡ Some m) (a : Array) (found : keyed (λ (z : Array). z.identity) a.identity m.progress.job.arrays ≡ Some a) (i v : ℕ) where
   abbrev j : ℕ
   j = m.constants.number

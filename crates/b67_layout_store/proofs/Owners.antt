@@ -12,7 +12,7 @@ use Rattle.b67_law_order.proofs.Replaced.{numbers_append}
 use Rattle.b67_stack.specs.Stacks.{StackPlace}
 use Rattle.b67_layout.specs.Placement.{slot_of, spot_in, outer_spots, spots}
 use Rattle.b67_layout.proofs.Fresh.{has-number}
-use Rattle.b67_refer.specs.RunningContext.{RunningContext}
+use Rattle.b67_refer.specs.RunningContext.{RunningContext, live_of}
 use Rattle.b67_refer.proofs.Seats.{order_of, has_task}
 use Rattle.b67_layout_store.proofs.Frames.{frames_under}
 
@@ -81,7 +81,7 @@ module _ (core : List Tagged) (r : Regs) (a : RunningContext core r) where
   owner_outer u here [] line id s high h = absurd (no_base id s h high)
   owner_outer u here (n ∷ more) line id s high h =
       let job = a.member.progress.job in
-      let birth : ParentInOrder job u n more = subst (BirthInOrder job u) line (order_of core r a u here).birth in
+      let birth : ParentInOrder job u n more = subst (BirthInOrder job u) line (order_of core r (live_of a) u here).birth in
       let q = birth.parent in
       let at = keyed_has (λ (v : Task). v.number) n job.tasks q birth.found in
       let found : keyed (λ (v : Task). v.number) q.number job.tasks ≡ Some q = subst (λ (i : ℕ). keyed (λ (v : Task). v.number) i job.tasks ≡ Some q) (sym at.1) birth.found in
@@ -89,7 +89,7 @@ module _ (core : List Tagged) (r : Regs) (a : RunningContext core r) where
       let slot_is : slot_of a.plan a.member.constants.number n ≡ k = ap (slot_of a.plan a.member.constants.number) (sym at.1) in
       let known = outer_reach job q.critical more in
       let outer = outer_spots a.plan a.member.constants.number job q.critical more in
-      let falls : Falls job.next_frame (known_numbers (map known_of q.frames ++ known)) = subst (λ (ps : List ℕ). Falls job.next_frame (known_numbers (map known_of q.frames ++ outer_reach job q.critical ps))) birth.line (order_of core r a q at.0).falls in
+      let falls : Falls job.next_frame (known_numbers (map known_of q.frames ++ known)) = subst (λ (ps : List ℕ). Falls job.next_frame (known_numbers (map known_of q.frames ++ outer_reach job q.critical ps))) birth.line (order_of core r (live_of a) q at.0).falls in
       let fs = from_frame u.critical q.frames in
       let h' : Has (map known_of fs ++ known) (id, s) = rw birth.found at h in
       let F : Option Task → ℕ → Type 0 = λ v i. OwnerAt (λ g. spot_in i (outer_spots a.plan a.member.constants.number job (critical_of v) more) (from_frame u.critical (frames_of_task v)) g) id in
@@ -118,11 +118,11 @@ module _ (core : List Tagged) (r : Regs) (a : RunningContext core r) where
       let t = a.task in
       let k = slot_of a.plan a.member.constants.number t.number in
       let outer = outer_spots a.plan a.member.constants.number job t.critical t.parents in
-      let falls = (order_of core r a t (has_task core r a)).falls in
+      let falls = (order_of core r (live_of a) t (has_task core r (live_of a))).falls in
       ⊎_elim
       (λ m. (let inside = identity_has t.frames id n.standing m in
       let o : OwnerAt (spots a.plan a.member.constants.number a.member.progress.job a.task) id = record { task = t; there = a.running.task; has = inside; spot = spot_under k outer t.frames id inside } in o))
-      (λ m. (let o = owner_outer t (has_task core r a) t.parents refl id n.standing high m in
+      (λ m. (let o = owner_outer t (has_task core r (live_of a)) t.parents refl id n.standing high m in
       let p : OwnerAt (spots a.plan a.member.constants.number a.member.progress.job a.task) id = record { task = o.task; there = o.there; has = o.has; spot = apart job.next_frame t.frames (outer_of job t) id falls (has_map (λ (z : Known). z.0) (outer_of job t) (id, n.standing) m) k outer ∙ o.spot } in p))
       (has_append_cases (map known_of t.frames) (outer_of job t) (id, n.standing) n.among)
 

@@ -17,7 +17,8 @@ use Rattle.b67_model.specs.State.{Frame, Task, Job, JobProgress, SessionJob, mcp
 use Rattle.b67_model.specs.Cells.{cell_of}
 use Rattle.b67_model.specs.Run.{number_of}
 use Rattle.b67_model.specs.Schedule.{Session}
-use Rattle.b67_model.specs.InOrder.{Known, known_of, identities, IsEntered, IsSegment, NamesEntered, EntryInOrder, IsInOrderButPlaces}
+use Rattle.b67_model.specs.InOrder.{Known, known_of, identities, IsEntered, IsSegment, NamesEntered, EntryInOrder}
+use Rattle.b67_layout.specs.Orders.{IsInOrderButCounts}
 use Rattle.b67_law_order.proofs.Chases.{cell_has}
 use Rattle.b67_law_order.proofs.Looks.{IsFrame, found_frame}
 use Rattle.b67_stack.specs.declared.Cpu.{Cpu}
@@ -34,7 +35,7 @@ use Rattle.b67_layout.proofs.Frames.{height-is}
 use Rattle.b67_layout.proofs.MachineViews.{with_course, member-same}
 use Rattle.b67_layout.proofs.Rows.{slot_below}
 use Rattle.b67_layout.proofs.Sessions.{change-has, dictionary_below, running_only}
-use Rattle.b67_refer.specs.RunningContext.{RunningContext}
+use Rattle.b67_refer.specs.RunningContext.{RunningContext, live_of}
 use Rattle.b67_refer.specs.Cells.{IsCellAt}
 use Rattle.b67_refer.proofs.Scenes as Scenes
 use Rattle.b67_refer.proofs.Seats.{seat}
@@ -73,11 +74,11 @@ module _ (core : List Tagged) (r : Regs) (a : RunningContext core r) (q : Place)
       (λ (low : f ≤ 1). absurd (⊎_elim
       (λ (z : f < 1).
       (let is : f ≡ 0 = omega (arith, z) in
-      let h = cell_has mcp offset (Operand bits) (sym (ap (λ (g : Frame). ok_or (cell_of g offset) InvalidAddress) (ap (frame (here a.member a.task q)) is ∙ frame_mcp core r a q)) ∙ here_at.found) in
-      all_in IsNoOperand mcp.cells (Operand bits) (tt, (tt, (tt, (tt, (tt, (tt, (tt, (tt, (tt, tt))))))))) h))
+      let h = cell_has mcp offset (Operand bits) (sym (ap (λ (g : Frame). ok_or (cell_of g offset) InvalidAddress) (ap (frame (here a.member a.task q)) is ∙ frame_mcp core r (live_of a) q)) ∙ here_at.found) in
+      all_in IsNoOperand mcp.cells (Operand bits) (tt, (tt, (tt, (tt, (tt, (tt, (tt, (tt, (tt, (tt, (tt, tt))))))))))) h))
       (λ (z : 1 ≤ f).
       (let is : f ≡ 1 = omega (arith, z, low) in
-      let h = cell_has a.member.constants.dictionary offset (Operand bits) (sym (ap (λ (g : Frame). ok_or (cell_of g offset) InvalidAddress) (ap (frame (here a.member a.task q)) is ∙ frame_dictionary core r a q)) ∙ here_at.found) in
+      let h = cell_has a.member.constants.dictionary offset (Operand bits) (sym (ap (λ (g : Frame). ok_or (cell_of g offset) InvalidAddress) (ap (frame (here a.member a.task q)) is ∙ frame_dictionary core r (live_of a) q)) ∙ here_at.found) in
       let e : EntryInOrder a.member.progress.job.arrays (Operand bits) = all_in (EntryInOrder a.member.progress.job.arrays) a.member.constants.dictionary.cells (Operand bits) a.ordered.tasks.entries h in e))
       (cases_lt f 1)))
       (cases_lt 1 f)
@@ -98,14 +99,14 @@ module _ (core : List Tagged) (r : Regs) (a : RunningContext core r) (q : Place)
 
   pub found_entered : IsEntered (frame_found f own_of.task.frames).standing
   found_entered =
-      let k = frame_known core r a q f here_at.names.standing here_at.names.among in
+      let k = frame_known core r (live_of a) q f here_at.names.standing here_at.names.among in
       subst (λ (g : Frame). IsEntered g.standing) found_is (subst (λ (z : Known). IsEntered z.1) (sym k) here_at.names.entered)
 
   pub bounds : (2 ≤ offset) × (offset < 2 + length (frame_found f own_of.task.frames).cells)
   bounds =
-      let b = seat core r a f here_at.names.standing here_at.names.among operand_own in
-      let i = inside core r a q f here_at.names.standing b here_at.names.entered operand_own offset (Operand bits) here_at.found in
-      let e : b.frame ≡ frame_found f own_of.task.frames = sym (frame_seat core r a q f here_at.names.standing b) ∙ found_is in
+      let b = seat core r (live_of a) f here_at.names.standing here_at.names.among operand_own in
+      let i = inside core r (live_of a) q f here_at.names.standing b here_at.names.entered operand_own offset (Operand bits) here_at.found in
+      let e : b.frame ≡ frame_found f own_of.task.frames = sym (frame_seat core r (live_of a) q f here_at.names.standing b) ∙ found_is in
       let n : length b.frame.cells ≡ length (frame_found f own_of.task.frames).cells = ap (λ (g : Frame). length g.cells) e in
       (i.0, omega (arith, i.1, n))
 
@@ -124,7 +125,7 @@ module _ (core : List Tagged) (r : Regs) (a : RunningContext core r) (q : Place)
 
   pub at_is : at ≡ suc (a.plan.stacks + slot_of a.plan a.member.constants.number own_of.task.number * a.plan.size) + (stack_words (activations a.plan a.member.constants.number a.member.progress.job k outer (frames_under f own_of.task.frames)) + 2 + (offset - 2))
   at_is =
-      let e = ap (address_of a.plan) own_of.spot ∙ slot_address core r a (slot_of a.plan a.member.constants.number own_of.task.number) (height (frames_under f own_of.task.frames)) used in
+      let e = ap (address_of a.plan) own_of.spot ∙ slot_address core r (live_of a) (slot_of a.plan a.member.constants.number own_of.task.number) (height (frames_under f own_of.task.frames)) used in
       let h = height-is a.plan a.member.constants.number a.member.progress.job (slot_of a.plan a.member.constants.number own_of.task.number) outer (frames_under f own_of.task.frames) in
       let c = here_at.address in
       let low = bounds.0 in
@@ -139,7 +140,7 @@ module _ (core : List Tagged) (r : Regs) (a : RunningContext core r) (q : Place)
       ap (frame_address a.plan a.member u) g.1 ∙ ap (address_of a.plan) (spot_under (slot_of a.plan a.member.constants.number u.number) (outer_spots a.plan a.member.constants.number a.member.progress.job u.critical u.parents) u.frames f own_of.has ∙ sym own_of.spot) in
       here_at.address ∙ ap (λ (n : ℕ). n + offset) (sym e)
 
-module _ (x : Storage) (old : Cpu) (plan : Placement) (s : Session) (m : SessionJob) (t : Task) (o : IsInOrderButPlaces s) (h : RepresentsSession x old plan s) (runs_t : IsRunning plan s.jobs m t) where
+module _ (x : Storage) (old : Cpu) (plan : Placement) (s : Session) (m : SessionJob) (t : Task) (o : IsInOrderButCounts s) (h : RepresentsSession x old plan s) (runs_t : IsRunning plan s.jobs m t) where
   -- the scene of the machine
   abbrev pub scene : RunningContext old.core old.regs
   scene = Scenes.scene [] x old.core old.regs old.critical plan s m t o h.holds runs_t

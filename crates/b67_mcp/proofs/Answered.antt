@@ -5,7 +5,7 @@ use Rattle.b67_model.specs.Words.{Word, Original}
 use Rattle.b67_model.specs.State.{Task, SessionJob, top, below_top}
 use Rattle.b67_model.specs.Intrinsics.{answered}
 use Rattle.b67_model.specs.Schedule.{Session}
-use Rattle.b67_model.specs.InOrder.{IsInOrderButPlaces}
+use Rattle.b67_layout.specs.Orders.{IsInOrderButCounts}
 use Rattle.b67_layout.specs.Placement.{Placement}
 use Rattle.b67_layout.specs.Rows.{TablesShow}
 use Rattle.b67_layout.specs.Session.{IsRunning}
@@ -18,7 +18,7 @@ use Rattle.b67_task_tables.specs.Tables.{task_row, job_row, counts_of, TasksShow
 use Rattle.b67_mcp.proofs.Tables.{jobs_kept, tables_after}
 use Rattle.b67_mcp.proofs.Frames.{replaces_answered, waits_answered}
 
-module _ (plan : Placement) (s : Session) (m : SessionJob) (t : Task) (o : IsInOrderButPlaces s) (runs : IsRunning plan s.jobs m t) (may : MayCut m t) (q : Place) (length at : ℕ) where
+module _ (plan : Placement) (s : Session) (m : SessionJob) (t : Task) (o : IsInOrderButCounts s) (runs : IsRunning plan s.jobs m t) (may : MayCut m t) (q : Place) (length at : ℕ) where
   there : Placement
   there = with_home plan m.constants.number m.progress.job.next_array at
 

@@ -6,7 +6,7 @@ use Rattle.b67_model.specs.State.{Task, SessionJob}
 use Rattle.b67_model.specs.Operators.{Reading}
 use Rattle.b67_model.specs.Intrinsics.{answered}
 use Rattle.b67_model.specs.Schedule.{Session}
-use Rattle.b67_model.specs.InOrder.{IsInOrderButPlaces}
+use Rattle.b67_layout.specs.Orders.{IsInOrderButCounts}
 use Rattle.b67_stack.specs.Represents.{Storage}
 use Rattle.b67_layout.specs.Placement.{Placement}
 use Rattle.b67_layout.specs.Session.{IsRunning, RepresentsStorage}
@@ -28,7 +28,7 @@ one_behind m t p q (a, e) (b, f) =
     place_in (Ok read) = read.1
     place_in (Err why) = p
 
-module _ (plan : Placement) (s : Session) (m : SessionJob) (t : Task) (o : IsInOrderButPlaces s) (runs : IsRunning plan s.jobs m t) (may : MayCut m t) (q : Place) where
+module _ (plan : Placement) (s : Session) (m : SessionJob) (t : Task) (o : IsInOrderButCounts s) (runs : IsRunning plan s.jobs m t) (may : MayCut m t) (q : Place) where
   pub tables_cut : (tasks : Tasks) → TasksShow plan s tasks → TasksShow plan (with_job s m (job_cut m t q)) tasks
   tables_cut tasks h =
       tables_after plan s m t (answered (here m t q) []) (job_cut m t q) o runs (replaces_cut plan s m t o runs may q (job_cut m t q) refl) refl (waits_cut plan s m t o runs may)

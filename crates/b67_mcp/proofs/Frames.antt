@@ -9,7 +9,8 @@ use Rattle.b67_model.specs.State.{Frame, Marked, Condition, Ready, Awaits, Waits
 use Rattle.b67_model.specs.Keyed.{change_keyed}
 use Rattle.b67_model.specs.Intrinsics.{answered}
 use Rattle.b67_model.specs.Schedule.{Session}
-use Rattle.b67_model.specs.InOrder.{Known, known_of, known_numbers, from_frame, outer_of, reach_of, IsEntered, NamesEntered, ConditionInOrder, IsInOrderButPlaces}
+use Rattle.b67_model.specs.InOrder.{Known, known_of, known_numbers, from_frame, outer_of, reach_of, IsEntered, NamesEntered, ConditionInOrder}
+use Rattle.b67_layout.specs.Orders.{IsInOrderButCounts}
 use Rattle.b67_stack.specs.Stacks.{StackPlace}
 use Rattle.b67_layout.specs.Placement.{Placement, spot_in}
 use Rattle.b67_layout.specs.Session.{IsRunning}
@@ -33,7 +34,7 @@ not_waited g rest bound f marked falls names e = by names.among
         subst IsEntered (sym same ∙ marked) names.entered
     by (inr k) = let low : f < g.identity = falls_low g.identity (known_numbers rest) f falls.1 (has_map (λ (k : Known). k.0) rest (f, names.standing) k) in omega (arith, low, e)
 
-module _ (plan : Placement) (s : Session) (m : SessionJob) (t : Task) (o : IsInOrderButPlaces s) (runs : IsRunning plan s.jobs m t) (may : MayCut m t) where
+module _ (plan : Placement) (s : Session) (m : SessionJob) (t : Task) (o : IsInOrderButCounts s) (runs : IsRunning plan s.jobs m t) (may : MayCut m t) where
   cut : Cut m t
   cut = cut_of plan s m t o runs may
 

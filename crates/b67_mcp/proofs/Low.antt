@@ -1,6 +1,8 @@
 -- The intrinsics that the MCP's cells hold have numbers from 8 on.
-use Rattle.std.proofs.Common.{◌≡◌, ℕ, zero, suc, ◌≤◌, List, [], ◌∷◌, flat_map, Option, Some, None, unwrap_or, Ok, Err, refl, sym, ◌∙◌, ap, subst, inl, inr, arith}
+use Rattle.std.proofs.Common.{◌≡◌, ℕ, zero, suc, ◌≤◌, ltb, cond, Bool, true, false, length, List, [], ◌∷◌, flat_map, Option, Some, None, unwrap_or, Ok, Err, refl, sym, ◌∙◌, ap, subst, inl, inr, arith}
+use Rattle.b67_word.specs.declared.faults.Fault.TheVariants.{InvalidIndex}
 use Rattle.b67_model.specs.Answers.{Answer}
+use Rattle.b67_model.specs.Arrays.{array}
 use Rattle.b67_model.specs.Keyed.{keyed}
 use Rattle.b67_lemmas.specs.Lists.{Has}
 use Rattle.b67_lemmas.proofs.Members.{all_in, has_append_cases, has_flat_back, keyed_has}
@@ -8,9 +10,10 @@ use Rattle.b67_model.specs.Words as Words
 use Rattle.b67_model.specs.Words.{Word, Operand, Name, Ref, Row, Element, Original, Proc, Intrinsic}
 use Rattle.b67_model.specs.State.{Frame, Array, Task, JobConstants, SessionJob, OperatorContext, mcp, no_frame, all_frames, frame}
 use Rattle.b67_model.specs.Cells.{cell, place_of}
-use Rattle.b67_model.specs.Chase.{End, AtIntrinsic, Link, Stops, Leads, link_at, link_in, link_from, link, chase_on, follow_reference}
+use Rattle.b67_model.specs.Chase.{End, AtElement, AtIntrinsic, Link, Stops, Leads, link_at, link_in, link_from, link, chase_on, follow_reference}
 use Rattle.b67_model.specs.Schedule.{Session}
-use Rattle.b67_model.specs.InOrder.{Starts, IsSegment, Known, outer_of, WordInOrder, EntryInOrder, FramesInOrder, TaskInOrder, TasksInOrder, IsInOrderButPlaces}
+use Rattle.b67_model.specs.InOrder.{Starts, IsSegment, Known, outer_of, WordInOrder, EntryInOrder, FramesInOrder, TaskInOrder, TasksInOrder}
+use Rattle.b67_layout.specs.Orders.{IsInOrderButCounts}
 use Rattle.b67_layout.specs.Placement.{Placement}
 use Rattle.b67_layout.specs.Session.{IsRunning}
 use Rattle.b67_layout.specs.Meets.{here}
@@ -72,7 +75,7 @@ module _ (constants : JobConstants) (h : OperatorContext) (same : h.constants �
         of_entry h.job.arrays w (all_in (EntryInOrder h.job.arrays) constants.dictionary.cells w o.entries there)
     | inr (inr (inl e)) ↦
         let there : Has mcp.cells w = subst (λ (z : Frame). Has z.cells w) (sym e) c in
-        all_in IsLow mcp.cells w (omega arith, (omega arith, (omega arith, (omega arith, (omega arith, (omega arith, (omega arith, (omega arith, (omega arith, tt))))))))) there
+        all_in IsLow mcp.cells w (omega arith, (omega arith, (omega arith, (omega arith, (omega arith, (omega arith, (omega arith, (omega arith, (omega arith, (omega arith, (omega arith, tt))))))))))) there
     | inr (inr (inr z)) ↦ absurd z
   ]
 
@@ -80,18 +83,23 @@ module _ (constants : JobConstants) (h : OperatorContext) (same : h.constants �
   in_frame id None e w c = absurd c
   in_frame id (Some f) e w c = in_frames f w (keyed_has (λ (f : Frame). f.identity) id (all_frames h) f e).0 c
 
-  at_word : (f offset : ℕ) (w : Word) → IsLow w → LinkLow (link_at f offset w)
+  -- an element is no intrinsic, whether its index is below the length or not
+  at_item : (test : Bool) (a i : ℕ) → EndLow (cond test (Ok (AtElement a i)) (Err InvalidIndex))
+  at_item true a i = tt
+  at_item false a i = tt
+
+  at_word : (f offset : ℕ) (w : Word) → IsLow w → LinkLow (link_at h f offset w)
   at_word f offset (Operand bits) g = tt
   at_word f offset (Name c) g = tt
   at_word f offset (Ref i k) g = tt
   at_word f offset (Row a) g = tt
-  at_word f offset (Element a i) g = tt
+  at_word f offset (Element a i) g = at_item (ltb i (length (array h.job a).numbers)) a i
   at_word f offset (Original a) g = tt
   at_word f offset (Proc s l p) g = tt
   at_word f offset (Intrinsic n) g = g
   at_word f offset (Words.Segment n) g = tt
 
-  at_cell : (f offset : ℕ) (a : Answer Word) → cell h f offset ≡ a → LinkLow (link_in f offset a)
+  at_cell : (f offset : ℕ) (a : Answer Word) → cell h f offset ≡ a → LinkLow (link_in h f offset a)
   at_cell f offset (Err fault) e = tt
   at_cell f offset (Ok w) e = at_word f offset w (in_frame f (keyed (λ (g : Frame). g.identity) f (all_frames h)) refl w (cell_has (frame h f) offset w e))
 
@@ -115,7 +123,7 @@ module _ (constants : JobConstants) (h : OperatorContext) (same : h.constants �
   followed (Intrinsic n) = tt
   followed (Words.Segment n) = tt
 
-pub from_eight : (plan : Placement) (s : Session) (m : SessionJob) (t : Task) (n : ℕ) → IsInOrderButPlaces s → IsRunning plan s.jobs m t → called_in m t ≡ Some n → 8 ≤ n
+pub from_eight : (plan : Placement) (s : Session) (m : SessionJob) (t : Task) (n : ℕ) → IsInOrderButCounts s → IsRunning plan s.jobs m t → called_in m t ≡ Some n → 8 ≤ n
 from_eight plan s m t n o runs c =
     let k = calling m t n c in
     subst EndLow k.ends (followed m.constants (here m t k.next) refl (running_in_order plan s m t o runs).0.tasks k.reference)

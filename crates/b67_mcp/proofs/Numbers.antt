@@ -12,7 +12,7 @@ use Rattle.b67_model.specs.State.{Task, SessionJob, top, below_top}
 use Rattle.b67_model.specs.Intrinsics.{answered, read_from}
 use Rattle.b67_model.specs.Run.{number_of}
 use Rattle.b67_model.specs.Schedule.{Session}
-use Rattle.b67_model.specs.InOrder.{IsInOrderButPlaces}
+use Rattle.b67_layout.specs.Orders.{IsInOrderButCounts}
 use Rattle.b67_layout.specs.Placement.{Placement}
 use Rattle.b67_layout.specs.Rows as rows
 use Rattle.b67_layout.specs.Rows.{JobShows, TablesShow}
@@ -21,7 +21,7 @@ use Rattle.b67_layout.specs.Meets.{here, with_job}
 use Rattle.b67_mcp_calls.specs.Reads.{job_read, IsRead, ReadMeets}
 use Rattle.b67_task_tables.specs.declared.tables.JobRow.{JobRow}
 use Rattle.b67_task_tables.specs.declared.tables.Tasks.{Tasks}
-use Rattle.b67_task_tables.specs.Tables.{task_row, job_row, counts_of, TasksShow}
+use Rattle.b67_task_tables.specs.Tables.{task_row, job_row, counts_of, TasksShow, row_names}
 use Rattle.b67_task_switch.proofs.Tables.{job_at}
 use Rattle.b67_mcp.specs.Called.{AreCountable}
 use Rattle.b67_mcp.proofs.Tables.{jobs_put, tables_after}
@@ -35,7 +35,7 @@ pub record JobIn (tasks : Tasks) (plan : Placement) (m : SessionJob) : Type 0 wh
   pub shows : JobShows plan m (job_row row)
   pub from_one : 1 ≤ m.constants.number
 
-pub job_in : (tasks : Tasks) (plan : Placement) (s : Session) (m : SessionJob) (t : Task) → IsInOrderButPlaces s → TasksShow plan s tasks → IsRunning plan s.jobs m t → JobIn tasks plan m
+pub job_in : (tasks : Tasks) (plan : Placement) (s : Session) (m : SessionJob) (t : Task) → IsInOrderButCounts s → TasksShow plan s tasks → IsRunning plan s.jobs m t → JobIn tasks plan m
 job_in tasks plan s m t o h runs =
     let inm = keyed-has number_of m.constants.number s.jobs m runs.member in
     let b = job_at plan 1 s.jobs (map job_row tasks.jobs) m o.numbered h.jobs inm in
@@ -68,7 +68,19 @@ countable_read plan m t arguments jobs jobs' i old new answer at is meets few = 
           subst (λ (r : JobRow). length r.numbers < 2 ^ 32) e (omega (arith, low, ap length (same_numbers plan m t arguments old new answer meets)))
     ])
 
-module _ (plan : Placement) (s : Session) (m : SessionJob) (t : Task) (o : IsInOrderButPlaces s) (runs : IsRunning plan s.jobs m t) (q : Place) (arguments : List Word) (tasks tasks' : Tasks) (h : TasksShow plan s tasks) (old new : JobRow) (w : Tagged)
+-- and no name
+same_name : (plan : Placement) (m : SessionJob) (t : Task) (arguments : List Word) (old new : JobRow) (answer : Result Tagged Fault) → ReadMeets plan m t arguments old new answer → new.name ≡ old.name
+same_name plan m t arguments old new (Ok w) h = ap (λ (r : JobRow). r.name) h.same
+same_name plan m t arguments old new (Err fault) h = ap (λ (r : JobRow). r.name) h.1
+
+pub names_read : (plan : Placement) (m : SessionJob) (t : Task) (arguments : List Word) (jobs jobs' : List JobRow) (i : ℕ) (old new : JobRow) (answer : Result Tagged Fault) → slice_get jobs i ≡ Some old → jobs' ≡ slice_set jobs i new
+    → ReadMeets plan m t arguments old new answer → row_names jobs' ≡ row_names jobs
+names_read plan m t arguments jobs jobs' i old new answer at is meets =
+    let name : JobRow → List ℕ = λ r. r.name in
+    ap row_names is ∙ map-slice_set name jobs i new ∙ ap (slice_set (row_names jobs) i) (same_name plan m t arguments old new answer meets)
+    ∙ put_back (row_names jobs) i old.name (at_mapped name jobs i old at)
+
+module _ (plan : Placement) (s : Session) (m : SessionJob) (t : Task) (o : IsInOrderButCounts s) (runs : IsRunning plan s.jobs m t) (q : Place) (arguments : List Word) (tasks tasks' : Tasks) (h : TasksShow plan s tasks) (old new : JobRow) (w : Tagged)
     (at : slice_get tasks.jobs (m.constants.number - 1) ≡ Some old) (is : tasks'.jobs ≡ slice_set tasks.jobs (m.constants.number - 1) new) (rest : tasks' ≡ record tasks { jobs = tasks'.jobs }) (did : IsRead plan m t arguments old new w) where
   pub tables_read : TasksShow plan (with_job s m (job_read m t q)) tasks'
   tables_read =

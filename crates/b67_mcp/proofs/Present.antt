@@ -91,7 +91,7 @@ module _ (m : SessionJob) (t : Task) where
         let by_cells : List Word → Option ℕ = λ cs. touched_at_mark at_call Marked cs in
         let by_end : Answer End → Option ℕ = λ e. touched_by_call (k.reference ∷ k.arguments) e in
         ap by_reading k.reading ∙ ap by_mark k.call.marked ∙ ap by_cells k.call.cells
-        ∙ ap by_end (reference_same at_call (here m t k.next) refl refl k.reference ∙ k.ends)
+        ∙ ap by_end (reference_same at_call (here m t k.next) refl refl refl k.reference ∙ k.ends)
 
     -- a call that faults
     fault_touches : (fault : Fault) → step m.constants m.progress.job t ≡ Err fault → (a : ℕ) → touched (step m.constants m.progress.job t) ≡ Some a → (n ≡ 10) × (k.arguments ≡ Row a ∷ [])

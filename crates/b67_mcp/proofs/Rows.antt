@@ -4,7 +4,7 @@ use Rattle.std.specs.List.{slice_get}
 use Rattle.b67_model.specs.State.{Task, SessionJob}
 use Rattle.b67_model.specs.Run.{number_of}
 use Rattle.b67_model.specs.Schedule.{Session}
-use Rattle.b67_model.specs.InOrder.{IsInOrderButPlaces}
+use Rattle.b67_layout.specs.Orders.{IsInOrderButCounts}
 use Rattle.b67_stack.specs.declared.Cpu.{Cpu}
 use Rattle.b67_stack.specs.Represents.{Storage}
 use Rattle.b67_layout.specs.Placement.{Placement}
@@ -27,7 +27,7 @@ pub record RowOf (tasks : Tasks) (m : SessionJob) (t : Task) : Type 0 where
   pub job : row.job ≡ m.constants.number
   pub number : row.number ≡ t.number
 
-pub row_of : (x : Storage) (cpu : Cpu) (tasks : Tasks) (plan : Placement) (s : Session) (m : SessionJob) (t : Task) → IsInOrderButPlaces s → RepresentsSession x cpu plan s → TasksShow plan s tasks → IsRunning plan s.jobs m t → RowOf tasks m t
+pub row_of : (x : Storage) (cpu : Cpu) (tasks : Tasks) (plan : Placement) (s : Session) (m : SessionJob) (t : Task) → IsInOrderButCounts s → RepresentsSession x cpu plan s → TasksShow plan s tasks → IsRunning plan s.jobs m t → RowOf tasks m t
 row_of x cpu tasks plan s m t o h shows runs = by (slice_get (map task_row tasks.rows.items) tasks.running) refl shows.counts.running
   where
     low : plan.running < 120

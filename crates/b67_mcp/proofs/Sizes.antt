@@ -15,8 +15,8 @@ same_size x y old new plan there s z a b low spans =
     sym b.holds.memory.directory.all ∙ ap (λ (i : ℕ). end i y.spans) low ∙ ap (λ (ss : List Span). end x.low ss) spans ∙ a.holds.memory.directory.all
 
 pub kept_same : (old new : Machine) → new ≡ old → Kept old new
-kept_same old new e = subst (λ (k : Machine). Kept old k) (sym e) (record { countable = λ c. c; keeps = record { core = refl; sectors = refl; halt = refl }; changed = λ i. inl refl; sectors = refl })
+kept_same old new e = subst (λ (k : Machine). Kept old k) (sym e) (record { countable = λ c. c; keeps = record { core = refl; sectors = refl; halt = refl; names = refl }; changed = λ i. inl refl; sectors = refl })
 
 -- how much is printed is no part of it
 pub kept_printed : (old : Machine) (printed : ℕ) → Kept old (record old { tasks = record old.tasks { printed = printed } })
-kept_printed old printed = record { countable = λ c. c; keeps = record { core = refl; sectors = refl; halt = refl }; changed = λ i. inl refl; sectors = refl }
+kept_printed old printed = record { countable = λ c. c; keeps = record { core = refl; sectors = refl; halt = refl; names = refl }; changed = λ i. inl refl; sectors = refl }

@@ -10,7 +10,8 @@ use Rattle.b67_model.specs.State.{Frame, Condition, Ready, Awaits, WaitsAt, Task
 use Rattle.b67_model.specs.Keyed.{keyed, change_keyed}
 use Rattle.b67_model.specs.Run.{number_of}
 use Rattle.b67_model.specs.Schedule.{Session}
-use Rattle.b67_model.specs.InOrder.{from_frame, frames_of_task, NumberedFrom, IsInOrderButPlaces}
+use Rattle.b67_model.specs.InOrder.{from_frame, frames_of_task, NumberedFrom}
+use Rattle.b67_layout.specs.Orders.{IsInOrderButCounts}
 use Rattle.b67_stack.specs.Stacks.{StackPlace}
 use Rattle.b67_layout.specs.Placement.{Placement, slot_of, spot_in, base_spot, outer_spots, address_of}
 use Rattle.b67_layout.specs.Rows.{RowState, WaitsAtCell, TaskRow, JobRow, Counts, shown, critical_disp, TaskShows, JobShows, JobsShow, TablesShow}
@@ -106,7 +107,7 @@ jobs_put plan k (suc i) n m c (y ∷ more) (q ∷ rows) row row' e d found at w 
   | inr t ↦ rw t.0 (h.0, jobs_put plan (k + 1) i n m c more rows row row' (omega (arith, e)) d.1 (rw t.0 at found) at w h.1)
 ]
 
-module _ (plan : Placement) (s : Session) (m : SessionJob) (t t' : Task) (job' : Job) (o : IsInOrderButPlaces s) (runs : IsRunning plan s.jobs m t) (by : Replaces m.progress.job job' t t')
+module _ (plan : Placement) (s : Session) (m : SessionJob) (t t' : Task) (job' : Job) (o : IsInOrderButCounts s) (runs : IsRunning plan s.jobs m t) (by : Replaces m.progress.job job' t t')
     (condition : t'.condition ≡ t.condition) (waits : WaitsThere t.condition t.frames t'.frames) where
   abbrev pub after : SessionJob
   after = record m { progress = record m.progress { job = job' } }

@@ -17,16 +17,16 @@ use Rattle.b67_layout.specs.Meets.{here}
 use Rattle.b67_entry.proofs.Heres.{follow_same}
 use Rattle.b67_mcp.proofs.Callings.{Calling}
 
-pub reference_same : (h k : OperatorContext) → all_frames h ≡ all_frames k → h.task.frames ≡ k.task.frames → (w : Word) → follow_reference h w ≡ follow_reference k w
-reference_same h k frames own (Name c) = follow_same h k frames own (Name c)
-reference_same h k frames own (Ref f offset) = follow_same h k frames own (Ref f offset)
-reference_same h k frames own (Operand bits) = refl
-reference_same h k frames own (Row a) = refl
-reference_same h k frames own (Element a i) = refl
-reference_same h k frames own (Original a) = refl
-reference_same h k frames own (Proc s l p) = refl
-reference_same h k frames own (Intrinsic n) = refl
-reference_same h k frames own (Words.Segment n) = refl
+pub reference_same : (h k : OperatorContext) → all_frames h ≡ all_frames k → h.task.frames ≡ k.task.frames → h.job.arrays ≡ k.job.arrays → (w : Word) → follow_reference h w ≡ follow_reference k w
+reference_same h k frames own arrays (Name c) = follow_same h k frames own arrays (Name c)
+reference_same h k frames own arrays (Ref f offset) = follow_same h k frames own arrays (Ref f offset)
+reference_same h k frames own arrays (Operand bits) = refl
+reference_same h k frames own arrays (Row a) = refl
+reference_same h k frames own arrays (Element a i) = refl
+reference_same h k frames own arrays (Original a) = refl
+reference_same h k frames own arrays (Proc s l p) = refl
+reference_same h k frames own arrays (Intrinsic n) = refl
+reference_same h k frames own arrays (Words.Segment n) = refl
 
 module _ (m : SessionJob) (t : Task) (k : Calling m t 10) (a : ℕ) (are : k.arguments ≡ Row a ∷ []) where
   abbrev at_call : OperatorContext
@@ -40,7 +40,7 @@ module _ (m : SessionJob) (t : Task) (k : Calling m t 10) (a : ℕ) (are : k.arg
       let by_arguments : List Word → Option ℕ = λ ws. touched_by_call (k.reference ∷ ws) (follow_reference at_call k.reference) in
       let by_end : Answer End → Option ℕ = λ e. touched_by_call (k.reference ∷ Row a ∷ []) e in
       ap by_reading k.reading ∙ ap by_mark k.call.marked ∙ ap by_cells k.call.cells ∙ ap by_arguments are
-      ∙ ap by_end (reference_same at_call (here m t k.next) refl refl k.reference ∙ k.ends)
+      ∙ ap by_end (reference_same at_call (here m t k.next) refl refl refl k.reference ∙ k.ends)
 
   abbrev IsTouch : Answer Done → Type 0
   IsTouch answer = touched_of m.constants m.progress.job t answer ≡ Some a

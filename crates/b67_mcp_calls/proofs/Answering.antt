@@ -10,7 +10,7 @@ use Rattle.b67_model.specs.State as State
 use Rattle.b67_model.specs.State.{Frame, Task, Job, SessionJob, height, top, below_top, with_top_cells}
 use Rattle.b67_model.specs.Intrinsics.{answered}
 use Rattle.b67_model.specs.Schedule.{Session}
-use Rattle.b67_model.specs.InOrder.{IsInOrderButPlaces}
+use Rattle.b67_layout.specs.Orders.{IsInOrderButCounts}
 use Rattle.b67_stack.specs.declared.Cpu.{Cpu}
 use Rattle.b67_stack.specs.Shapes.{Fits}
 use Rattle.b67_stack.specs.Represents.{Storage}
@@ -49,7 +49,7 @@ no_higher (f ∷ g ∷ more) w some = omega (arith, some)
 lower : (fs : List Frame) (f : Frame) (below : List Frame) → fs ≡ f ∷ below → f.standing ≡ State.Marked → height (below_top fs) + 1 ≤ height fs
 lower fs f below e marked = subst (λ (gs : List Frame). height (below_top gs) + 1 ≤ height gs) (sym e) (omega (arith, ap State.head_words marked))
 
-module _ (x : Storage) (old mid : Cpu) (plan : Placement) (s : Session) (m : SessionJob) (t : Task) (q : Place) (o : IsInOrderButPlaces s) (h : RepresentsSession x old plan s) (runs : IsRunning plan s.jobs m t) (may : MayCut m t)
+module _ (x : Storage) (old mid : Cpu) (plan : Placement) (s : Session) (m : SessionJob) (t : Task) (q : Place) (o : IsInOrderButCounts s) (h : RepresentsSession x old plan s) (runs : IsRunning plan s.jobs m t) (may : MayCut m t)
     (cut : RepresentsSession x mid plan (with_job s m (job_cut m t q))) where
   pub runs_cut : IsRunning plan (with_job s m (job_cut m t q)).jobs (member_cut m t q) (task_cut m t q)
   runs_cut = record {

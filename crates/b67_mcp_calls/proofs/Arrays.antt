@@ -15,7 +15,8 @@ use Rattle.b67_model.specs.Keyed.{keyed}
 use Rattle.b67_model.specs.Run.{number_of}
 use Rattle.b67_model.specs.Schedule.{Session}
 use Rattle.b67_model.specs.Intrinsics.{answered}
-use Rattle.b67_model.specs.InOrder.{IsSegment, JobInOrder, IsInOrderButPlaces}
+use Rattle.b67_model.specs.InOrder.{IsSegment}
+use Rattle.b67_layout.specs.Orders.{JobInOrderButCounts, IsInOrderButCounts}
 use Rattle.b67_stack.specs.declared.Cpu.{Cpu}
 use Rattle.b67_stack.specs.Shapes.{IsOriginal, nowhere}
 use Rattle.b67_stack.specs.MachineView.{AreZero, home_desc, home_word_of}
@@ -50,7 +51,7 @@ below_avoids n (f ∷ fs) a = a.1
 is_original_word : (n : ℕ) → n < 2 ^ 16 → IsOriginal (data_word (home_desc false n nowhere))
 is_original_word n small = record { desc = home_desc false n nowhere; fits = record { words = omega (arith, small); address = omega arith; indexed = λ z. absurd (let b : ⊥ = cc in b) }; own = refl; is = refl }
 
-module _ (x : Storage) (old mid : Cpu) (plan : Placement) (s : Session) (m : SessionJob) (t : Task) (q : Place) (o : IsInOrderButPlaces s) (h : RepresentsSession x old plan s) (runs : IsRunning plan s.jobs m t) (may : MayCut m t)
+module _ (x : Storage) (old mid : Cpu) (plan : Placement) (s : Session) (m : SessionJob) (t : Task) (q : Place) (o : IsInOrderButCounts s) (h : RepresentsSession x old plan s) (runs : IsRunning plan s.jobs m t) (may : MayCut m t)
     (cut : (there : Placement) → RepresentsSession x old there s → IsRunning there s.jobs m t → RepresentsSession x mid there (with_job s m (job_cut m t q))) where
   abbrev n : ℕ
   n = m.progress.job.next_array
@@ -58,7 +59,7 @@ module _ (x : Storage) (old mid : Cpu) (plan : Placement) (s : Session) (m : Ses
   abbrev there : Placement
   there = with_home plan m.constants.number n (mid.regs.s + 1)
 
-  order : JobInOrder (IsSegment m.constants) m.constants m.progress
+  order : JobInOrderButCounts (IsSegment m.constants) m.constants m.progress
   order = (running_in_order plan s m t o runs).0
 
   only : (y : SessionJob) → Has s.jobs y → y.constants.number ≡ m.constants.number → y ≡ m

@@ -8,7 +8,8 @@ use Rattle.b67_lemmas.proofs.Members.{all_from, all_in, falls_low, has_map, has_
 use Rattle.b67_model.specs.Words as Words
 use Rattle.b67_model.specs.Words.{Word, Operand, Name, Ref, Row, Element, Original, Proc, Intrinsic}
 use Rattle.b67_model.specs.State.{Frame, Array, Segment, Task, JobConstants, Job, JobProgress}
-use Rattle.b67_model.specs.InOrder.{Starts, Known, known_of, outer_of, WordInOrder, FramesInOrder, EntryInOrder, DictionaryWords, rows_after, TaskInOrder, JobInOrder}
+use Rattle.b67_model.specs.InOrder.{Starts, Known, known_of, outer_of, WordInOrder, FramesInOrder, EntryInOrder, DictionaryWords, rows_after, TaskInOrder}
+use Rattle.b67_layout.specs.Orders.{JobInOrderButCounts}
 
 -- a word that names no array of an identity
 abbrev pub Avoids : ℕ → Word → Type 0
@@ -72,7 +73,7 @@ entry_there g k [] ws d low high = row_there 1 k ws d low (omega (arith, high))
 entry_there g k (s ∷ more) [] d low high = absurd d
 entry_there g k (s ∷ more) (w ∷ ws) d low high = inr (entry_there (g + 1) k more ws d.1 low (omega (arith, high)))
 
-module _ (P : Starts) (constants : JobConstants) (c : JobProgress) (o : JobInOrder P constants c) where
+module _ (P : Starts) (constants : JobConstants) (c : JobProgress) (o : JobInOrderButCounts P constants c) where
   pub job_avoids : JobAvoids c.job.next_array c.job
   job_avoids = record {
     tasks = λ t h. frames_avoid P c.job.arrays c.job.next_array o.tasks.names (outer_of c.job t) t.frames (all_in (TaskInOrder P constants c.job) c.job.tasks t o.tasks.tasks h).frames;

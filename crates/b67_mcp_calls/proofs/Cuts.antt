@@ -12,7 +12,8 @@ use Rattle.b67_model.specs.Intrinsics.{is_original}
 use Rattle.b67_model.specs.Run.{number_of}
 use Rattle.b67_model.specs.Steps.{is_critical}
 use Rattle.b67_model.specs.Schedule.{Session}
-use Rattle.b67_model.specs.InOrder.{IsSegment, ReturnsInOrder, StackInOrder, TaskInOrder, TasksInOrder, IsInOrderButPlaces}
+use Rattle.b67_model.specs.InOrder.{IsSegment, ReturnsInOrder, StackInOrder, TaskInOrder, TasksInOrder}
+use Rattle.b67_layout.specs.Orders.{IsInOrderButCounts}
 use Rattle.b67_stack.specs.declared.Cpu.{Cpu}
 use Rattle.b67_stack.specs.Stacks.{StackPlace, Activation, stack_words, mark_place, running_level}
 use Rattle.b67_stack.specs.MachineView.{RunsOn}
@@ -47,7 +48,7 @@ pub record Cut (m : SessionJob) (t : Task) : Type 0 where
   pub plain : AllByRecursion (λ (w : Word). is_original w ≡ false) f.cells
   pub free : is_critical m.progress.job f.identity ≡ false
 
-module _ (x : Storage) (old : Cpu) (plan : Placement) (s : Session) (m : SessionJob) (t : Task) (o : IsInOrderButPlaces s) (h : RepresentsSession x old plan s) (runs : IsRunning plan s.jobs m t) (a : Cut m t) (q : Place) (q_fits : IsPlace q) where
+module _ (x : Storage) (old : Cpu) (plan : Placement) (s : Session) (m : SessionJob) (t : Task) (o : IsInOrderButCounts s) (h : RepresentsSession x old plan s) (runs : IsRunning plan s.jobs m t) (a : Cut m t) (q : Place) (q_fits : IsPlace q) where
   pub may : Leaver plan s m t a.f (a.next ∷ a.more)
   may = record { ordered = o; running = runs; frames = a.frames; free = a.free }
 
@@ -142,7 +143,7 @@ module _ (x : Storage) (old : Cpu) (plan : Placement) (s : Session) (m : Session
       })
 
 -- a call that may be cut lies on another frame
-pub cut_of : (plan : Placement) (s : Session) (m : SessionJob) (t : Task) → IsInOrderButPlaces s → IsRunning plan s.jobs m t → MayCut m t → Cut m t
+pub cut_of : (plan : Placement) (s : Session) (m : SessionJob) (t : Task) → IsInOrderButCounts s → IsRunning plan s.jobs m t → MayCut m t → Cut m t
 cut_of plan s m t o runs may = by t.frames refl may.marked may.plain may.free own.some own.returns
   where
     own : TaskInOrder (IsSegment m.constants) m.constants m.progress.job t

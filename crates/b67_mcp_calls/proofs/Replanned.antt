@@ -49,8 +49,8 @@ module _ (plan : Placement) (j n at : ℕ) where
 
   module _ (i : ℕ) where
     shape-there : (job : Job) (spot : ℕ → StackPlace) (w : Word) → (i ≡ j → Avoids n w) → shape there i job spot w ≡ shape plan i job spot w
-    shape-there job spot (Row a) ne = ap (λ (k : ℕ). Copy (record { indexed = false; read_only = not (array job a).writable; number = length (array job a).numbers }) k) (home_other i a ne)
-    shape-there job spot (Element a index) ne = ap (λ (k : ℕ). Copy (record { indexed = true; read_only = not (array job a).writable; number = index }) k) (home_other i a ne)
+    shape-there job spot (Row a) ne = ap (λ (k : ℕ). Copy (record { index = None; read_only = not (array job a).writable }) k) (home_other i a ne)
+    shape-there job spot (Element a index) ne = ap (λ (k : ℕ). Copy (record { index = Some index; read_only = not (array job a).writable }) k) (home_other i a ne)
     shape-there job spot (Original a) ne = ap Shapes.Original (home_other i a ne)
     shape-there job spot (Operand bits) ne = refl
     shape-there job spot (Name c) ne = refl

@@ -14,7 +14,7 @@ use Rattle.b67_model.specs.State.{Array, Task, SessionJob}
 use Rattle.b67_model.specs.Intrinsics.{numbers_of}
 use Rattle.b67_model.specs.Run.{number_of as number_of_member}
 use Rattle.b67_model.specs.Schedule.{Session}
-use Rattle.b67_model.specs.InOrder.{IsInOrderButPlaces}
+use Rattle.b67_layout.specs.Orders.{IsInOrderButCounts}
 use Rattle.b67_stack.specs.declared.Cpu.{Cpu}
 use Rattle.b67_stack.specs.Shapes.{LieUpward}
 use Rattle.b67_stack.specs.Represents.{Storage, Content}
@@ -46,7 +46,7 @@ numbers_are (n ∷ ns) =
     ap (λ (a : Answer (List ℤ)). number n >>= λ v. a >>= λ vs. Ok (v ∷ vs)) (numbers_are ns)
     ∙ joins (is_whole n) (Rattle.b67_word.specs.Operands.value_of n) (values_of (map (word 0) ns))
 
-module _ (x : Storage) (cpu : Cpu) (plan : Placement) (s : Session) (m : SessionJob) (t : Task) (ordered : IsInOrderButPlaces s) (h : RepresentsSession x cpu plan s) (runs : IsRunning plan s.jobs m t) (n : ℕ) (e : HasElement m.progress.job n 0) where
+module _ (x : Storage) (cpu : Cpu) (plan : Placement) (s : Session) (m : SessionJob) (t : Task) (ordered : IsInOrderButCounts s) (h : RepresentsSession x cpu plan s) (runs : IsRunning plan s.jobs m t) (n : ℕ) (e : HasElement m.progress.job n 0) where
   pub row_words : (at : ℕ) → area_held x plan m.constants.number n ≡ Some at → slice_range cpu.core at (at + length (array m.progress.job n).numbers) ≡ map (word 0) (array m.progress.job n).numbers
   row_words at held =
       let object = array_object plan m.constants.number e.item in

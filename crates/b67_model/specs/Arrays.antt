@@ -1,11 +1,7 @@
--- Arrays, their elements, and the words that name them.
-use Rattle.std.specs.Prelude.{ℕ, nat_lt, false, ℤ, pos, negsuc, [], length, unwrap_or, if◌then◌else◌, slice_index, slice_set, Ok, Err}
-use Rattle.b67_word.specs.declared.faults.Fault.TheVariants.{InvalidOperand, InvalidIndex}
-use Rattle.b67_model.specs.Answers.{Answer, ◌>>=◌}
-use Rattle.b67_model.specs.Words.{Word, Operand, Name, Ref, Row, operand, number}
+-- Arrays, their elements, and how they change.
+use Rattle.std.specs.Prelude.{ℕ, ◌-◌, ◌++◌, false, [], length, take, replicate, unwrap_or, slice_index, slice_set}
 use Rattle.b67_model.specs.Keyed.{keyed, change_keyed}
-use Rattle.b67_model.specs.State.{Array, Job, OperatorContext}
-use Rattle.b67_model.specs.Chase.{End, AtArray, chase}
+use Rattle.b67_model.specs.State.{Array, Job}
 
 -- what stands for an array that no identity names
 abbrev pub no_array : Array
@@ -27,35 +23,12 @@ abbrev pub with_element : Job → ℕ → ℕ → ℕ → Job
 with_element job identity index bits =
     record job { arrays = change_keyed (λ a. a.identity) identity (with_number index bits) job.arrays }
 
-abbrev pub array_at : End → Answer ℕ
-array_at (AtArray array) = Ok array
-array_at _ = Err InvalidOperand
+abbrev pub with_array : Job → ℕ → (Array → Array) → Job
+with_array job identity change = record job { arrays = change_keyed (λ a. a.identity) identity change job.arrays }
 
--- the array that a reference or a row copy leads to
-abbrev pub array_of : OperatorContext → Word → Answer ℕ
-array_of h (Row array) = Ok array
-array_of h (Name couple) = do
-  end ← chase h (Name couple)
-  array_at end
-array_of h (Ref f offset) = do
-  end ← chase h (Ref f offset)
-  array_at end
-array_of h _ = Err InvalidOperand
+abbrev pub all_zero : Array → Array
+all_zero a = record a { numbers = replicate (length a.numbers) 0 }
 
-abbrev pub index_below : ℕ → ℤ → Answer ℕ
-index_below length (pos n) = if nat_lt n length then Ok n else Err InvalidIndex
-index_below length (negsuc n) = Err InvalidIndex
-
--- the array and the index that two words give
-abbrev pub indexed : OperatorContext → Word → Word → Answer (ℕ × ℕ)
-indexed h r i = do
-  bits ← operand i
-  a ← array_of h r
-  n ← number bits
-  index ← index_below (length (array h.job a).numbers) n
-  Ok (a, index)
-
--- two words, the top one first, with an operand below
-abbrev pub in_order : Word → Word → Word × Word
-in_order (Operand bits) lower = (lower, Operand bits)
-in_order upper lower = (upper, lower)
+-- the array with another length: its first numbers, and zeros where it becomes longer
+abbrev pub resized : ℕ → Array → Array
+resized n a = record a { numbers = take n a.numbers ++ replicate (n - length a.numbers) 0 }

@@ -1,11 +1,12 @@
 -- Where a reference leads: a relation on whole chains, and the function that it determines.
-use Rattle.std.specs.Prelude.{◌≡◌, ℕ, zero, suc, ◌≤◌, ◌↔◌, Ok, Err}
-use Rattle.b67_word.specs.declared.faults.Fault.TheVariants.{InvalidOperand, Loop}
+use Rattle.std.specs.Prelude.{◌≡◌, ℕ, zero, suc, ◌≤◌, ◌↔◌, nat_lt, length, if◌then◌else◌, Ok, Err}
+use Rattle.b67_word.specs.declared.faults.Fault.TheVariants.{InvalidOperand, InvalidIndex, Loop}
 use Rattle.b67_word.specs.declared.couples.Place.{Place}
 use Rattle.b67_model.specs.Answers.{Answer}
 use Rattle.b67_model.specs.Words.{Word, Operand, Name, Ref, Row, Element, Original, Proc, Intrinsic, Segment}
 use Rattle.b67_model.specs.State.{OperatorContext}
 use Rattle.b67_model.specs.Cells.{cell, place_of}
+use Rattle.b67_model.specs.Arrays.{array}
 
 pub data End : Type 0 where
   AtCell : (frame offset bits : ℕ) → End
@@ -19,25 +20,29 @@ pub data Link : Type 0 where
   Stops : (end : Answer End) → Link
   Leads : (reference : Word) → Link
 
--- by the word in the cell
-abbrev pub link_at : ℕ → ℕ → Word → Link
-link_at f offset (Operand bits) = Stops (Ok (AtCell f offset bits))
-link_at f offset (Name couple) = Leads (Name couple)
-link_at f offset (Ref g other) = Leads (Ref g other)
-link_at f offset (Element array index) = Stops (Ok (AtElement array index))
-link_at f offset (Original array) = Stops (Ok (AtArray array))
-link_at f offset (Row array) = Stops (Ok (AtArray array))
-link_at f offset (Proc segment level place) = Stops (Ok (AtProc f segment level place))
-link_at f offset (Intrinsic number) = Stops (Ok (AtIntrinsic number))
-link_at f offset (Segment number) = Stops (Err InvalidOperand)
+-- an element copy's index is tested against the array's length as it is now
+abbrev pub element_end : OperatorContext → ℕ → ℕ → Answer End
+element_end h a index = if nat_lt index (length (array h.job a).numbers) then Ok (AtElement a index) else Err InvalidIndex
 
-abbrev pub link_in : ℕ → ℕ → Answer Word → Link
-link_in f offset (Err fault) = Stops (Err fault)
-link_in f offset (Ok w) = link_at f offset w
+-- by the word in the cell
+abbrev pub link_at : OperatorContext → ℕ → ℕ → Word → Link
+link_at h f offset (Operand bits) = Stops (Ok (AtCell f offset bits))
+link_at h f offset (Name couple) = Leads (Name couple)
+link_at h f offset (Ref g other) = Leads (Ref g other)
+link_at h f offset (Element a index) = Stops (element_end h a index)
+link_at h f offset (Original a) = Stops (Ok (AtArray a))
+link_at h f offset (Row a) = Stops (Ok (AtArray a))
+link_at h f offset (Proc segment level place) = Stops (Ok (AtProc f segment level place))
+link_at h f offset (Intrinsic number) = Stops (Ok (AtIntrinsic number))
+link_at h f offset (Segment number) = Stops (Err InvalidOperand)
+
+abbrev pub link_in : OperatorContext → ℕ → ℕ → Answer Word → Link
+link_in h f offset (Err fault) = Stops (Err fault)
+link_in h f offset (Ok w) = link_at h f offset w
 
 abbrev pub link_from : OperatorContext → Answer (ℕ × ℕ) → Link
 link_from h (Err fault) = Stops (Err fault)
-link_from h (Ok at) = link_in at.0 at.1 (cell h at.0 at.1)
+link_from h (Ok at) = link_in h at.0 at.1 (cell h at.0 at.1)
 
 abbrev pub link : OperatorContext → Word → Link
 link h w = link_from h (place_of h w)
@@ -70,7 +75,7 @@ chase h w = chase_on h 1024 (Leads w)
 abbrev pub follow : OperatorContext → Word → Answer End
 follow h (Name couple) = chase h (Name couple)
 follow h (Ref f offset) = chase h (Ref f offset)
-follow h (Element array index) = Ok (AtElement array index)
+follow h (Element a index) = element_end h a index
 follow h _ = Err InvalidOperand
 
 -- the end of a reference alone

@@ -2,7 +2,7 @@
 -- Each item that speaks of a place of code takes what such a place must be as a parameter: `IsStart`, that an operator
 -- stands there, gives the whole order, and `IsSegment`, that its segment is one of the job, gives the items that any
 -- code words keep.
-use Rattle.std.specs.Prelude.{◌≡◌, ◌≢◌, ◌↔◌, ℕ, ◌+◌, ◌-◌, ◌^◌, ◌<◌, ◌≤◌, ◌==◌, Bool, false, nat_abs, List, [], ◌∷◌, ◌++◌, map, flat_map, reverse, length, sum_by, Option, Some, None, IsTrue, if◌then◌else◌, slice_get}
+use Rattle.std.specs.Prelude.{◌≡◌, ◌≢◌, ◌↔◌, ℕ, ◌+◌, ◌-◌, ◌^◌, ◌<◌, ◌≤◌, ◌==◌, Bool, false, nat_abs, List, [], ◌∷◌, ◌++◌, map, reverse, length, sum_by, Option, Some, None, IsTrue, if◌then◌else◌, slice_get}
 use Rattle.std.specs.List.{AllByRecursion}
 use Rattle.b67_word.specs.declared.couples.Place.{Place}
 use Rattle.b67_model.specs.declared.operators.Op.{Op}
@@ -10,7 +10,7 @@ use Rattle.b67_model.specs.Keyed.{keyed}
 use Rattle.b67_lemmas.specs.Lists.{Has, total, how_many, Falls}
 use Rattle.b67_model.specs.Words as Words
 use Rattle.b67_model.specs.Words.{Word, Operand, Name, Ref, Row, Element, Original, Proc, Intrinsic}
-use Rattle.b67_model.specs.State.{Frame, Standing, Marked, Entered, Return, Array, Condition, Ready, Awaits, WaitsAt, Task, Segment, JobConstants, Job, JobProgress, SessionJob, height}
+use Rattle.b67_model.specs.State.{Frame, Standing, Marked, Entered, Array, Condition, Ready, Awaits, WaitsAt, Task, Segment, JobConstants, Job, JobProgress, SessionJob, height}
 use Rattle.b67_model.specs.Environment.{level_of_standing, level_of_frame, running}
 use Rattle.b67_model.specs.Endings.{is_ready}
 use Rattle.b67_model.specs.Loader.{listing, At}
@@ -90,13 +90,12 @@ pub record NamesEntered (reach : List Known) (identity : ℕ) : Type 0 where
   pub among : Has reach (identity, standing)
   pub entered : IsEntered standing
 
--- the array of a row or element copy
-pub record NamesArray (arrays : List Array) (reach : List Known) (array index : ℕ) : Type 0 where
+-- the array of a row or element copy. An index is tested where it is used
+pub record NamesArray (arrays : List Array) (reach : List Known) (array : ℕ) : Type 0 where
   pub item : Array
   pub live : Has arrays item
   pub named : item.identity ≡ array
   pub owner : NamesEntered reach item.owner
-  pub inside : index < length item.numbers
 
 -- the array of an original, in its owner
 pub record OwnsArray (arrays : List Array) (owner array : ℕ) : Type 0 where
@@ -110,8 +109,8 @@ abbrev pub WordInOrder : Starts → List Array → List Known → ℕ → Word �
 WordInOrder P arrays reach owner (Operand bits) = bits < 2 ^ 48
 WordInOrder P arrays reach owner (Name couple) = couple < 2 ^ 14
 WordInOrder P arrays reach owner (Ref identity offset) = NamesEntered reach identity × (offset < 2 ^ 12)
-WordInOrder P arrays reach owner (Row array) = NamesArray arrays reach array 0
-WordInOrder P arrays reach owner (Element array index) = NamesArray arrays reach array index
+WordInOrder P arrays reach owner (Row array) = NamesArray arrays reach array
+WordInOrder P arrays reach owner (Element array index) = NamesArray arrays reach array
 WordInOrder P arrays reach owner (Original array) = OwnsArray arrays owner array
 WordInOrder P arrays reach owner (Proc segment level place) = (level ≤ 31) × P segment level place
 WordInOrder P arrays reach owner (Intrinsic number) = ⊥

@@ -1,7 +1,7 @@
--- The intrinsics 8 to 16.
+-- The intrinsics 8 to 18.
 use Rattle.std.specs.Prelude.{ℕ, ◌+◌, ◌==◌, ◌&&◌, nat_lt, nat_le, not, Bool, true, false, ℤ, pos, negsuc, List, [], ◌∷◌, reverse, replicate, length, find, map, Option, Some, None, Ok, Err, if◌then◌else◌}
 use Rattle.std.specs.List.{list_any}
-use Rattle.b67_word.specs.declared.faults.Fault.TheVariants.{StackOverflow, InvalidOperand, InvalidIndex, CriticalBlock}
+use Rattle.b67_word.specs.declared.faults.Fault.TheVariants.{StackOverflow, InvalidOperand, InvalidIndex, MemoryProtect, CriticalBlock}
 use Rattle.b67_word.specs.declared.couples.Place.{Place}
 use Rattle.b67_model.specs.Answers.{Answer, ◌>>=◌, ◌>>◌, needs}
 use Rattle.b67_word.specs.Operands.{bits_of}
@@ -11,7 +11,7 @@ use Rattle.b67_model.specs.Cells.{with_cell}
 use Rattle.b67_model.specs.Chase.{End, AtCell, AtProc, follow_reference}
 use Rattle.b67_model.specs.Steps.{Line, Value, Values, Done, Goes, Waits, top_of, result, with_frames, is_critical}
 use Rattle.b67_model.specs.Entry.{needs_level}
-use Rattle.b67_model.specs.Arrays.{array}
+use Rattle.b67_model.specs.Arrays.{array, with_array, all_zero, resized}
 
 -- the call's mark is cut, and these words are pushed on the frame below
 abbrev pub answered : OperatorContext → List Word → Task
@@ -179,11 +179,35 @@ cause h (r ∷ []) = do
   causes h end
 cause h _ = Err InvalidOperand
 
+-- a data row's array stays as it is
+abbrev pub needs_writable : OperatorContext → ℕ → Answer (Unit {0})
+needs_writable h a = needs (array h.job a).writable MemoryProtect
+
+abbrev pub deallocate : OperatorContext → List Word → Answer Done
+deallocate h (w ∷ []) = do
+  a ← row_copy w
+  needs_writable h a
+  answers h (with_array h.job a all_zero) [] [] None
+deallocate h _ = Err InvalidOperand
+
+abbrev pub resizes : OperatorContext → ℕ → ℤ → Answer Done
+resizes h a n = do
+  len ← array_length n
+  needs_writable h a
+  answers h (with_array h.job a (resized len)) [] [] (Some a)
+
+abbrev pub resize : OperatorContext → List Word → Answer Done
+resize h (r ∷ w ∷ []) = do
+  a ← row_copy r
+  n ← whole w
+  resizes h a n
+resize h _ = Err InvalidOperand
+
 abbrev pub Call : Type 0
 Call = OperatorContext → List Word → Answer Done
 
 abbrev pub calls : List (ℕ × Call)
-calls = (8, arraydec) ∷ (9, print) ∷ (10, printrow) ∷ (11, read) ∷ (12, process) ∷ (13, await) ∷ (14, status) ∷ (15, wait) ∷ (16, cause) ∷ []
+calls = (8, arraydec) ∷ (9, print) ∷ (10, printrow) ∷ (11, read) ∷ (12, process) ∷ (13, await) ∷ (14, status) ∷ (15, wait) ∷ (16, cause) ∷ (17, deallocate) ∷ (18, resize) ∷ []
 
 -- the call of this number, with the cells after the reference as its arguments
 abbrev pub call_in : List (ℕ × Call) → ℕ → OperatorContext → List Word → Answer Done

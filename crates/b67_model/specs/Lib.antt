@@ -6,11 +6,12 @@ pub mod Keyed
 pub mod State
 pub mod Environment
 pub mod Cells
+pub mod Arrays
 pub mod Chase
+pub mod Indexing
 pub mod Arithmetic
 pub mod Steps
 pub mod Entry
-pub mod Arrays
 pub mod Intrinsics
 pub mod Rows
 pub mod Endings

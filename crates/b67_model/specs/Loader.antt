@@ -1,4 +1,4 @@
--- The listing of a segment, and the ten rules that admit a program.
+-- The listing of a segment, and the eleven rules that admit a program.
 use Rattle.std.specs.Prelude.{◌≡◌, ℕ, zero, suc, ◌+◌, ◌-◌, ◌*◌, ◌/◌, ◌%◌, ◌^◌, ◌==◌, ◌&&◌, ◌||◌, not, nat_lt, nat_le, Bool, true, false, List, [], ◌∷◌, ◌++◌, map, filter, length, Option, Some, None, Ok, Err, slice_get, if◌then◌else◌}
 use Rattle.std.specs.List.{list_any}
 use Rattle.b67_word.specs.declared.couples.Place.{Place}
@@ -9,7 +9,7 @@ use Rattle.b67_model.specs.declared.operators.Undecodable.{Undecodable}
 use Rattle.b67_model.specs.declared.operators.Undecodable.TheVariants.{BadPlace, NotAdmitted, PastEnd}
 use Rattle.b67_word.specs.Operands.{bit}
 use Rattle.b67_word.specs.Couples.{couple}
-use Rattle.b67_model.specs.Operators.{Reading, operator_at}
+use Rattle.b67_model.specs.Operators.{Reading, operator_at, place_of_bits}
 use Rattle.b67_model.specs.State.{Segment}
 use Rattle.b67_model.specs.Program.{Program}
 
@@ -90,26 +90,34 @@ is_last (e ∷ []) place = same_place (place_of_entry e) place
 is_last (e ∷ f ∷ more) place = is_last (f ∷ more) place
 
 -- the literal's segment, by its displacement
+abbrev pub named_segment : Program → ℕ → Option Segment
+named_segment p disp = if nat_lt disp 2 then None else slice_get p.segments (disp - 2)
+
 abbrev pub named_level : Program → ℕ → Option ℕ
-named_level p disp = level_in (if nat_lt disp 2 then None else slice_get p.segments (disp - 2))
+named_level p disp = level_in (named_segment p disp)
   where
     level_in : Option Segment → Option ℕ
     level_in None = None
     level_in (Some s) = Some s.level
 
+-- a procedure may begin at a segment's first place and at its entries
+abbrev pub may_begin_at : Option Segment → ℕ → Bool
+may_begin_at None bits = false
+may_begin_at (Some s) bits = (bits == 0) || list_any (λ e. e == bits) s.entries
+
 -- a bit stands outside the fields of a PCW, or the segment field names no segment
 abbrev pub has_stray_bits : Program → ℕ → Bool
 has_stray_bits p bits = not (nat_lt bits (2 ^ 36)) || not (bit 19 bits == 0) || not (holds_of (named_level p (bits % 2 ^ 14)) (λ level. true))
 
--- the level isn't that of the named segment or isn't one above the own segment's, or the place isn't 0:0. A bit above
--- the place is refused by the rule before
+-- the level isn't that of the named segment or isn't one above the own segment's, or the place is neither 0:0 nor an
+-- entry of the named segment. A bit above the place is refused by the rule before
 abbrev pub breaks_rule_8 : Listed → ℕ → Bool
 breaks_rule_8 l bits =
     let level = (bits / 2 ^ 14) % 2 ^ 5 in
     not (holds_of (named_level l.program (bits % 2 ^ 14)) (λ named. named == level))
-    || not (level == l.segment.level + 1) || not (bits / 2 ^ 20 == 0)
+    || not (level == l.segment.level + 1) || not (may_begin_at (named_segment l.program (bits % 2 ^ 14)) (bits / 2 ^ 20))
 
--- the rules that an entry breaks, but for 9 and 10
+-- the rules that an entry of the listing breaks, but for 9 and 10
 abbrev pub broken_at : Listed → Entry → List (ℕ × Bool)
 broken_at l (Break place NotAdmitted) = (1, true) ∷ []
 broken_at l (Break place PastEnd) = (2, true) ∷ []
@@ -136,22 +144,46 @@ pub record Refusal : Type 0 where
 abbrev pub refused : ℕ → Place → List (ℕ × Bool) → List Refusal
 refused number place tests = map (λ t. record { segment = number; place = place; rule = t.0 }) (filter (λ t. t.1) tests)
 
--- the refusals of a segment by place, then by rule
+-- what is refused at the places of the listing
 abbrev pub refusals_of : Listed → List Entry → List Refusal
 refusals_of l [] = []
 refusals_of l (e ∷ more) =
     refused l.number (place_of_entry e) (if same_place (place_of_entry e) origin then broken_at l e ++ broken_in l else broken_at l e)
     ++ refusals_of l more
 
+-- rule 11 stands at an entry of the segment that isn't a start
+abbrev pub wrong_entries : Listed → List ℕ → List Refusal
+wrong_entries l [] = []
+wrong_entries l (e ∷ more) = refused l.number (place_of_bits e) ((11, not (is_start l.entries (place_of_bits e))) ∷ []) ++ wrong_entries l more
+
 abbrev pub refusals_from : Program → ℕ → List Segment → List Refusal
 refusals_from p n [] = []
 refusals_from p n (s ∷ more) =
     let l : Listed = record { program = p; number = n; segment = s; entries = listing s.code } in
-    refusals_of l l.entries ++ refusals_from p (n + 1) more
+    (refusals_of l l.entries ++ wrong_entries l s.entries) ++ refusals_from p (n + 1) more
 
--- all refusals by segment, then by place, then by rule
+-- all refusals
 abbrev pub refusals : Program → List Refusal
 refusals p = if length p.segments == 0 then record { segment = 0; place = origin; rule = 10 } ∷ [] else refusals_from p 1 p.segments
 
 abbrev pub IsAdmitted : Program → Type 0
 IsAdmitted p = refusals p ≡ []
+
+-- a place comes before another by word, then by syllable
+abbrev pub stands_before : Place → Place → Bool
+stands_before a b = nat_lt a.word b.word || ((a.word == b.word) && nat_lt a.syllable b.syllable)
+
+-- a refusal comes before another by segment, then by place, then by rule
+abbrev pub comes_before : Refusal → Refusal → Bool
+comes_before a b =
+    nat_lt a.segment b.segment
+    || ((a.segment == b.segment) && (stands_before a.place b.place || (same_place a.place b.place && nat_lt a.rule b.rule)))
+
+-- the refusal that is reported: none comes before it
+abbrev pub first_of : List Refusal → Option Refusal
+first_of [] = None
+first_of (r ∷ more) = Some (earlier r (first_of more))
+  where
+    earlier : Refusal → Option Refusal → Refusal
+    earlier r None = r
+    earlier r (Some s) = if comes_before s r then s else r

@@ -53,6 +53,10 @@ place_at n = record { word = n / 6; syllable = n % 6 }
 abbrev pub count_at : Place → ℕ
 count_at at = 6 * at.word + at.syllable
 
+-- the place in a branch's 16 bits: three of syllable, thirteen of word
+abbrev pub place_of_bits : ℕ → Place
+place_of_bits bits = record { word = bits % 2 ^ 13; syllable = bits / 2 ^ 13 }
+
 -- an operator and the place after it
 abbrev pub Reading : Type 0
 Reading = Result (Op × Place) Undecodable

@@ -17,7 +17,8 @@ use Rattle.b67_model.specs.Chase.{End, AtCell, AtElement, AtArray, AtProc, AtInt
 use Rattle.b67_model.specs.Arithmetic.{Binary, add, subt, mult, idiv, rdiv, less, greq, grtr, lseq, equl, neql, land, lor, leqv, same, chsn, lnot, bset, brst, isol, insr}
 use Rattle.b67_model.specs.Steps.{Line, Done, Goes, top_of, cells_of, result, with_cells, leaves_cells, pushes}
 use Rattle.b67_model.specs.Entry.{mkst, accident, back_to, evaluates, enters, exit, retn}
-use Rattle.b67_model.specs.Arrays.{array, element, with_element, indexed, in_order}
+use Rattle.b67_model.specs.Arrays.{array, element, with_element}
+use Rattle.b67_model.specs.Indexing.{indexed, in_order}
 use Rattle.b67_model.specs.Intrinsics.{is_original, intrinsic}
 
 -- cells, from the top down, to cells

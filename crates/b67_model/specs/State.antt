@@ -47,9 +47,10 @@ pub record Task : Type 0 where
   pub place : Place
   pub condition : Condition
 
--- a segment of code, of 48-bit words
+-- a segment of code, of 48-bit words. Beside its first place a procedure may begin at its entries, each as a branch's 16 bits
 pub record Segment : Type 0 where
   pub level : ℕ
+  pub entries : List ℕ
   pub code : List ℕ
 
 -- what no step of a job changes: its number, the stack size and the limit, its segments and its dictionary
@@ -90,7 +91,7 @@ pub record OperatorContext : Type 0 where
 -- identity 0 is the frame of the MCP in each job, and 1 the job's dictionary. The MCP's frame has no environment beside
 -- itself
 abbrev pub mcp : Frame
-mcp = record { identity = 0; standing = Entered 0 0 None; cells = Intrinsic 16 ∷ Intrinsic 15 ∷ Intrinsic 14 ∷ Intrinsic 13 ∷ Intrinsic 12 ∷ Intrinsic 11 ∷ Intrinsic 10 ∷ Intrinsic 9 ∷ Intrinsic 8 ∷ [] }
+mcp = record { identity = 0; standing = Entered 0 0 None; cells = Intrinsic 18 ∷ Intrinsic 17 ∷ Intrinsic 16 ∷ Intrinsic 15 ∷ Intrinsic 14 ∷ Intrinsic 13 ∷ Intrinsic 12 ∷ Intrinsic 11 ∷ Intrinsic 10 ∷ Intrinsic 9 ∷ Intrinsic 8 ∷ [] }
 
 -- what stands for a frame that no identity names
 abbrev pub no_frame : Frame

@@ -240,7 +240,7 @@ segment_part names segments s r number name level lines = do
   of_card number (needs (list_any (λ l. not (is_numbers l.kind)) lines) 7)
   of_card number (needs (nat_lt (s + r) 255) 9)
   ops ← operators (record { names = names; segments = segments; level = l; labels = λ label. meaning (labels 0 lines) label }) 0 lines
-  Ok (CodePart (record { level = l; code = code_of ops }))
+  Ok (CodePart (record { level = l; entries = []; code = code_of ops }))
 
 abbrev pub row_part : Names → (s r number : ℕ) (name : List ℕ) → List Line → Result Part Refusal
 row_part names s r number name lines = do

@@ -61,27 +61,31 @@ tag_is d v e = ap (λ (w : Tagged). w.tag) e
 module _ (held : Locations) (area home : ℕ) (h : Location) (has : (held home).area ≡ Some area) (alone : (q : ℕ) → (held q).area ≡ Some area → q ≡ home) (small : home < 2 ^ 20) where
   copy_turned : (v w : Tagged) → Turns area home v w → (c : Copied) (q : ℕ) → IsCopy held c q v → IsCopy (with_held held home h) c q w
   copy_turned v w t c q k = by k.present k.fits k.is k.to where
-    by : (b : Bool) → IsDataDesc (copy_desc c b k.address) → v ≡ data_word (copy_desc c b k.address) → MatchBool b ((held q).area ≡ Some k.address) (k.address ≡ q) → IsCopy (with_held held home h) c q w
+    by : (b : Bool) → IsDataDesc (copy_desc c k.number b k.address) → v ≡ data_word (copy_desc c k.number b k.address) → MatchBool b ((held q).area ≡ Some k.address) (k.address ≡ q) → IsCopy (with_held held home h) c q w
     by false fits is to = record {
+      number = k.number;
+      numbered = k.numbered;
       present = false;
       address = k.address;
       fits = fits;
       to = to;
-      is = t.others (λ d fd e s. false≢true ((same_desc (copy_desc c false k.address) d fits fd (sym is ∙ e)).present ∙ s.0)) ∙ is;
+      is = t.others (λ d fd e s. false≢true ((same_desc (copy_desc c k.number false k.address) d fits fd (sym is ∙ e)).present ∙ s.0)) ∙ is;
     }
     by true fits is to = ⊎_elim
         (λ (e : k.address ≡ area).
         let is_home : q ≡ home = alone q (to ∙ ap Some e) in
-        let w_is : w ≡ data_word (copy_desc c false home) = t.copies (copy_desc c true k.address) fits is (refl, refl, e) in
-        let r : IsCopy (with_held held home h) c q w = record { present = false; address = home; fits = record { words = fits.words; address = small; indexed = λ z. refl }; is = w_is; to = sym is_home } in
+        let w_is : w ≡ data_word (copy_desc c k.number false home) = t.copies (copy_desc c k.number true k.address) fits is (refl, refl, e) in
+        let r : IsCopy (with_held held home h) c q w = record { number = k.number; numbered = k.numbered; present = false; address = home; fits = record { words = fits.words; address = small; indexed = λ z. refl }; is = w_is; to = sym is_home } in
         r)
         (λ (n : k.address ≡ area → ⊥).
         let other : q ≢ home = λ e. n (same_Some _ _ (sym to ∙ ap (λ (x : ℕ). (held x).area) e ∙ has)) in
         let r : IsCopy (with_held held home h) c q w = record {
+          number = k.number;
+          numbered = k.numbered;
           present = true;
           address = k.address;
           fits = fits;
-          is = t.others (λ d fd e s. n ((same_desc (copy_desc c true k.address) d fits fd (sym is ∙ e)).address ∙ s.2)) ∙ is;
+          is = t.others (λ d fd e s. n ((same_desc (copy_desc c k.number true k.address) d fits fd (sym is ∙ e)).address ∙ s.2)) ∙ is;
           to = ap (λ (x : Location). x.area) (held-other held home h q other) ∙ to;
         } in
         r)
@@ -170,4 +174,4 @@ module _ (x : Storage) (core : List Tagged) (r : Regs) (p : MachineView) (s : Re
         let u = names k (p.slots k) (s.slots.laid.slots k hk) c q there in
         let n : q ≢ t.home = λ e. u.3 (ap (λ (z : PagedObject). z.kind) (s.slots.laid.differ u.0 t u.1 at.there (u.2 ∙ e)) ∙ code) in
         let P : Location → Type 0 = λ g. MatchBool f.present (g.area ≡ Some f.address) (f.address ≡ q) in
-        record { present = f.present; address = f.address; fits = f.fits; is = f.is; to = subst P (sym (held-other x.held t.home h q n)) f.to }
+        record { number = f.number; numbered = f.numbered; present = f.present; address = f.address; fits = f.fits; is = f.is; to = subst P (sym (held-other x.held t.home h q n)) f.to }

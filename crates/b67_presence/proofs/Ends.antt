@@ -6,7 +6,7 @@ use Rattle.b67_backing.specs.Shelf.{Table}
 use Rattle.b67_lemmas.specs.Lists.{Has}
 use Rattle.b67_model.specs.State.{Task, SessionJob}
 use Rattle.b67_model.specs.Schedule.{Session}
-use Rattle.b67_model.specs.InOrder.{IsInOrderButPlaces}
+use Rattle.b67_layout.specs.Orders.{IsInOrderButCounts}
 use Rattle.b67_stack.specs.declared.Cpu.{Cpu}
 use Rattle.b67_stack.specs.declared.What.TheVariants as what
 use Rattle.b67_stack.specs.Shapes.{Location}
@@ -26,7 +26,7 @@ use Rattle.b67_presence.proofs.Seen.{Sees, sees_none, sees_read, sees_both, fitt
 use Rattle.b67_presence.proofs.Again.{machine_of, again}
 use Rattle.b67_presence.proofs.Wants.{code_found, array_absent}
 
-module _ (x : Storage) (told now : Option (List (List ℕ))) (k : Machine) (plan : Placement) (s : Session) (o : IsInOrderButPlaces s) (h : StandsOver x told k plan s) (cpu : Cpu) (areas : Areas) (table : Table)
+module _ (x : Storage) (told now : Option (List (List ℕ))) (k : Machine) (plan : Placement) (s : Session) (o : IsInOrderButCounts s) (h : StandsOver x told k plan s) (cpu : Cpu) (areas : Areas) (table : Table)
     (rest : cpu ≡ record k.cpu { core = cpu.core }) (len : length cpu.core ≡ length k.cpu.core) (same_areas : areas ≡ k.areas) (stayed : Stayed (machine_view plan s.jobs) k.cpu.core cpu.core) where
   pub waits_again : (spare : ℕ) (w : Waits x (machine_view plan s.jobs) spare cpu areas table now) → (a : StandsAgain x now (machine_of cpu areas table k.tasks) plan s) × (a.storage ≡ w.storage) × (a.jobs ≡ s.jobs)
   waits_again spare w = again x w.storage told now k plan s h cpu areas table rest len same_areas stayed (machine_view plan s.jobs) (sees_none x plan s o) w.stands w.sheds.untold w.sheds.told

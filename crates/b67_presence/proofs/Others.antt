@@ -12,7 +12,8 @@ use Rattle.b67_model.specs.Rows.{code_of}
 use Rattle.b67_model.specs.Run.{live_tasks, number_of}
 use Rattle.b67_model.specs.Schedule.{Session}
 use Rattle.b67_model.specs.Sectors.{sectors_for, sectors_of, sectors}
-use Rattle.b67_model.specs.InOrder.{IsSegment, SegmentInOrder, ArrayInOrder, JobInOrder, IsInOrderButPlaces}
+use Rattle.b67_model.specs.InOrder.{IsSegment, SegmentInOrder, ArrayInOrder}
+use Rattle.b67_layout.specs.Orders.{JobInOrderButCounts, IsInOrderButCounts}
 use Rattle.b67_law_order_steps.specs.Weaker.{Renumbers, Recoded, Refilled, OtherNumbers, AllOtherNumbers}
 use Rattle.b67_law_order_steps.proofs.Sessions.{recoded_count}
 use Rattle.b67_stack.specs.Stacks.{StackPlace}
@@ -33,11 +34,11 @@ refilled_same : (xs : List Array) → AllByRecursion ArrayInOrder xs → Refille
 refilled_same [] o = tt
 refilled_same (x ∷ xs) o = (record { identity = refl; owner = refl; writable = refl; numbers = record { count = refl; bits = o.0.words } }, refilled_same xs o.1)
 
-members_same : (ms : List SessionJob) → AllByRecursion (λ (m : SessionJob). JobInOrder (IsSegment m.constants) m.constants m.progress) ms → AllOtherNumbers ms ms
+members_same : (ms : List SessionJob) → AllByRecursion (λ (m : SessionJob). JobInOrderButCounts (IsSegment m.constants) m.constants m.progress) ms → AllOtherNumbers ms ms
 members_same [] o = tt
 members_same (m ∷ ms) o = (record { segments = recoded_same m.constants.segments o.0.unchanging.segments; arrays = refilled_same m.progress.job.arrays o.0.tasks.arrays; rest = refl }, members_same ms o.1)
 
-pub others_same : (s : Session) → IsInOrderButPlaces s → AllOtherNumbers s.jobs s.jobs
+pub others_same : (s : Session) → IsInOrderButCounts s → AllOtherNumbers s.jobs s.jobs
 others_same s o = members_same s.jobs o.jobs
 
 -- other numbers than other numbers

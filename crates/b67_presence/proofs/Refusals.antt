@@ -6,7 +6,7 @@ use Rattle.b67_backing.specs.declared.SpaceFault.{SpaceFault}
 use Rattle.b67_model.specs.State.{Task, SessionJob}
 use Rattle.b67_model.specs.Rows.{code_of}
 use Rattle.b67_model.specs.Schedule.{Session}
-use Rattle.b67_model.specs.InOrder.{IsInOrderButPlaces}
+use Rattle.b67_layout.specs.Orders.{IsInOrderButCounts}
 use Rattle.b67_stack.specs.declared.Cpu.{Cpu}
 use Rattle.b67_stack.specs.declared.What.{What}
 use Rattle.b67_stack.specs.declared.What.TheVariants as what
@@ -43,7 +43,7 @@ array_lacks x y plan m t home words spare w s =
     let none = array_none x plan m t home words w in
     inr (ap (λ (h : Location). h.area) (s.resting home none) ∙ none)
 
-module _ (x : Storage) (told now : Option (List (List ℕ))) (k : Machine) (plan : Placement) (s : Session) (o : IsInOrderButPlaces s) (h : StandsOver x told k plan s) (cpu : Cpu) (areas : Areas) (table : Table)
+module _ (x : Storage) (told now : Option (List (List ℕ))) (k : Machine) (plan : Placement) (s : Session) (o : IsInOrderButCounts s) (h : StandsOver x told k plan s) (cpu : Cpu) (areas : Areas) (table : Table)
     (rest : cpu ≡ record k.cpu { core = cpu.core }) (len : length cpu.core ≡ length k.cpu.core) (same_areas : areas ≡ k.areas) (stayed : Stayed (machine_view plan s.jobs) k.cpu.core cpu.core) where
   module _ (m : SessionJob) (t : Task) (absent : What) (spare : ℕ) (w : Waits x (machine_view plan s.jobs) spare cpu areas table now) (lacks : (y : Storage) → AreasEvicted x y spare → Lacks y absent plan m t) where
     pub refused_waits : Refused x now (machine_of cpu areas table k.tasks) plan s m t absent

@@ -10,9 +10,10 @@ use Rattle.b67_lemmas.specs.Lists.{Has}
 use Rattle.b67_lemmas.proofs.Members.{has_append_cases, has_append_left, has_append_right, has_map_back}
 use Rattle.b67_model.specs.State.{Array, Segment, SessionJob}
 use Rattle.b67_model.specs.Schedule.{Session}
-use Rattle.b67_model.specs.InOrder.{IsSegment, SegmentInOrder, ArrayInOrder, JobInOrder, IsInOrderButPlaces}
+use Rattle.b67_model.specs.InOrder.{IsSegment, SegmentInOrder, ArrayInOrder}
+use Rattle.b67_layout.specs.Orders.{JobInOrderButCounts, IsInOrderButCounts}
 use Rattle.b67_law_order_steps.specs.Weaker.{Renumbers, Recoded, RefilledArray, Refilled, AllOtherNumbers}
-use Rattle.b67_law_order_steps.proofs.Sessions.{other_numbers_keep_order}
+use Rattle.b67_layout_step.proofs.OtherNumbers.{others_in_order}
 use Rattle.b67_stack.specs.MachineView.{PagedObject, MachineView, NoOriginalAboveTop}
 use Rattle.b67_stack.specs.Represents.{Storage, Represents}
 use Rattle.b67_layout_storage.specs.Machine.{AreBits, renumber, renumbered}
@@ -35,7 +36,7 @@ array_bits plan j (a ∷ more) o t (inl e) = let P : PagedObject → Type 0 = λ
 array_bits plan j (a ∷ more) o t (inr i) = array_bits plan j more o.1 t i
 
 abbrev InOrder : List SessionJob → Type 0
-InOrder jobs = AllByRecursion (λ (m : SessionJob). JobInOrder (IsSegment m.constants) m.constants m.progress) jobs
+InOrder jobs = AllByRecursion (λ (m : SessionJob). JobInOrderButCounts (IsSegment m.constants) m.constants m.progress) jobs
 
 all_bits : (plan : Placement) (jobs : List SessionJob) → InOrder jobs → (t : PagedObject) → Has (flat_map (objects_of plan) jobs) t → AreBits t.numbers
 all_bits plan [] o t i = absurd i
@@ -47,10 +48,10 @@ all_bits plan (m ∷ more) o t i = ⊎_elim
     (λ (rest : Has (flat_map (objects_of plan) more) t). all_bits plan more o.1 t rest)
     (has_append_cases (objects_of plan m) (flat_map (objects_of plan) more) t i)
 
-pub object_bits : (plan : Placement) (s : Session) → IsInOrderButPlaces s → (t : PagedObject) → Has (flat_map (objects_of plan) s.jobs) t → AreBits t.numbers
+pub object_bits : (plan : Placement) (s : Session) → IsInOrderButCounts s → (t : PagedObject) → Has (flat_map (objects_of plan) s.jobs) t → AreBits t.numbers
 object_bits plan s o t i = all_bits plan s.jobs o.jobs t i
 
-pub readable : (x : Storage) (plan : Placement) (s : Session) → IsInOrderButPlaces s → IsReadable x (machine_view plan s.jobs)
+pub readable : (x : Storage) (plan : Placement) (s : Session) → IsInOrderButCounts s → IsReadable x (machine_view plan s.jobs)
 readable x plan s o = inr (object_bits plan s o)
 
 -- the session with other numbers in an object has other numbers
@@ -97,10 +98,10 @@ pub record Sees (x : Storage) (plan : Placement) (jobs : List SessionJob) (q : M
   pub is : q ≡ machine_view plan seen
   pub settled : NoOriginalAboveTop (machine_view plan jobs) → NoOriginalAboveTop q
 
-abbrev pub sees_none : (x : Storage) (plan : Placement) (s : Session) → IsInOrderButPlaces s → Sees x plan s.jobs (machine_view plan s.jobs)
+abbrev pub sees_none : (x : Storage) (plan : Placement) (s : Session) → IsInOrderButCounts s → Sees x plan s.jobs (machine_view plan s.jobs)
 sees_none x plan s o = record { seen = s.jobs; others = others_same s o; same = λ n. refl; is = refl; settled = λ z. z }
 
-module _ (x : Storage) (plan : Placement) (s : Session) (o : IsInOrderButPlaces s) (q : MachineView) (t : PagedObject) (r : ReadBack x (machine_view plan s.jobs) q t)
+module _ (x : Storage) (plan : Placement) (s : Session) (o : IsInOrderButCounts s) (q : MachineView) (t : PagedObject) (r : ReadBack x (machine_view plan s.jobs) q t)
     (fits : Fitting t.home r.numbers (flat_map (objects_of plan) s.jobs)) (bits : AreBits t.numbers) where
   pub sees_read : Sees x plan s.jobs q
   sees_read = ⊎_elim
@@ -145,7 +146,7 @@ pub fitting : (x : Storage) (core : List Tagged) (r : Regs) (p : MachineView) �
 fitting x core r p s t int ns count u inu e = count ∙ ap (λ (v : PagedObject). length v.numbers) (sym (s.slots.laid.differ u t inu int e))
 
 -- two objects were read
-module _ (x : Storage) (core : List Tagged) (r : Regs) (plan : Placement) (s : Session) (o : IsInOrderButPlaces s) (h : Represents x core r (machine_view plan s.jobs)) (t c : PagedObject)
+module _ (x : Storage) (core : List Tagged) (r : Regs) (plan : Placement) (s : Session) (o : IsInOrderButCounts s) (h : Represents x core r (machine_view plan s.jobs)) (t c : PagedObject)
     (int : Has (flat_map (objects_of plan) s.jobs) t) (inc : Has (flat_map (objects_of plan) s.jobs) c) (read q : MachineView) (first : ReadBack x (machine_view plan s.jobs) read t) (second : ReadBack x read q c) where
   pub sees_one : Sees x plan s.jobs read
   sees_one = sees_read x plan s o read t first (fitting x core r (machine_view plan s.jobs) h t int first.numbers first.count) (object_bits plan s o t int)
@@ -154,7 +155,7 @@ module _ (x : Storage) (core : List Tagged) (r : Regs) (plan : Placement) (s : S
   sees_both =
       let k = sees_one in
       let s' : Session = record s { jobs = k.seen } in
-      let o' : IsInOrderButPlaces s' = other_numbers_keep_order s k.seen k.others o in
+      let o' : IsInOrderButCounts s' = others_in_order s k.seen k.others o in
       let fits_t : Fitting t.home first.numbers (flat_map (objects_of plan) s.jobs) = fitting x core r (machine_view plan s.jobs) h t int first.numbers first.count in
       let fits_c : Fitting c.home second.numbers (flat_map (objects_of plan) s.jobs) = fitting x core r (machine_view plan s.jobs) h c inc second.numbers second.count in
       let fits : Fitting c.home second.numbers read.objects = read_fits (machine_view plan s.jobs) read t.home first.numbers c.home second.numbers first.is fits_t fits_c in

@@ -9,7 +9,8 @@ use Rattle.b67_model.specs.State.{Task, SessionJob}
 use Rattle.b67_model.specs.Rows.{code_of}
 use Rattle.b67_model.specs.Run.{number_of}
 use Rattle.b67_model.specs.Schedule.{Session}
-use Rattle.b67_model.specs.InOrder.{ArrayInOrder, IsInOrderButPlaces}
+use Rattle.b67_model.specs.InOrder.{ArrayInOrder}
+use Rattle.b67_layout.specs.Orders.{IsInOrderButCounts}
 use Rattle.b67_stack.specs.declared.What.{What}
 use Rattle.b67_stack.specs.declared.What.TheVariants as what
 use Rattle.b67_stack.specs.MachineView.{PagedObject}
@@ -43,7 +44,7 @@ pub record CodeObject (plan : Placement) (s : Session) (m : SessionJob) (t : Tas
   pub kind : object.kind ≡ Code
   pub count : length object.numbers ≡ length (code_of m.constants t.segment)
 
-pub code_found : (plan : Placement) (s : Session) (m : SessionJob) (t : Task) → IsInOrderButPlaces s → IsRunning plan s.jobs m t → CodeObject plan s m t
+pub code_found : (plan : Placement) (s : Session) (m : SessionJob) (t : Task) → IsInOrderButCounts s → IsRunning plan s.jobs m t → CodeObject plan s m t
 code_found plan s m t o runs =
     let has_m : Has s.jobs m = keyed-has number_of m.constants.number s.jobs m runs.member in
     let place = (running_in_order plan s m t o runs).1.place in
@@ -60,7 +61,7 @@ code_found plan s m t o runs =
       count = rw (found.1) refl;
     }
 
-module _ (x : Storage) (told : Option (List (List ℕ))) (k : Machine) (plan : Placement) (s : Session) (m : SessionJob) (t : Task) (o : IsInOrderButPlaces s) (h : StandsOver x told k plan s) (runs : IsRunning plan s.jobs m t) where
+module _ (x : Storage) (told : Option (List (List ℕ))) (k : Machine) (plan : Placement) (s : Session) (m : SessionJob) (t : Task) (o : IsInOrderButCounts s) (h : StandsOver x told k plan s) (runs : IsRunning plan s.jobs m t) where
   pub address : k.cpu.regs.dict + k.cpu.regs.segment ≡ plan.dictionary m.constants.number + 1 + t.segment
   address = at-is x k.cpu plan s m t o h.stands.session runs
 

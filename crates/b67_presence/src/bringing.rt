@@ -6,7 +6,7 @@ ghost use Rattle.b67_io.specs.Causes.{Rose};
 ghost use Rattle.b67_model.specs.State.{Task, SessionJob};
 ghost use Rattle.b67_model.specs.Sectors.{sectors};
 ghost use Rattle.b67_model.specs.Schedule.{Session};
-ghost use Rattle.b67_model.specs.InOrder.{IsInOrderButPlaces};
+ghost use Rattle.b67_layout.specs.Orders.{IsInOrderButCounts};
 ghost use Rattle.b67_stack.specs.Represents.{Storage};
 ghost use Rattle.b67_layout_storage.specs.Machine.{DeviceAfterCalls, HasHole};
 ghost use Rattle.b67_layout.specs.Placement.{Placement};
@@ -39,24 +39,24 @@ pub fn bring<B: Backing>(
     ensures len { length machine.new.cpu.core ≡ length machine.old.cpu.core }
     ensures tasks { machine.new.tasks ≡ machine.old.tasks }
     ensures count { length machine.new.sectors.links ≡ length machine.old.sectors.links }
-    ensures came { OnOk result ((x : Storage) (plan : Placement) (s : Session) (m : SessionJob) (t : Task) (words : ℕ) → IsInOrderButPlaces s
+    ensures came { OnOk result ((x : Storage) (plan : Placement) (s : Session) (m : SessionJob) (t : Task) (words : ℕ) → IsInOrderButCounts s
         → StandsOver x (B.holds backing.old) machine.old plan s → IsRunning plan s.jobs m t → IsWanted x plan m t absent words
         → Brings x (B.holds backing.new) machine.new plan s m t absent) }
-    ensures refused { OnErr result ((x : Storage) (plan : Placement) (s : Session) (m : SessionJob) (t : Task) (words : ℕ) → IsInOrderButPlaces s
+    ensures refused { OnErr result ((x : Storage) (plan : Placement) (s : Session) (m : SessionJob) (t : Task) (words : ℕ) → IsInOrderButCounts s
         → StandsOver x (B.holds backing.old) machine.old plan s → IsRunning plan s.jobs m t → IsWanted x plan m t absent words
         → Refused x (B.holds backing.new) machine.new plan s m t absent) }
-    ensures hole { (x : Storage) (plan : Placement) (s : Session) (m : SessionJob) (t : Task) (words : ℕ) → IsInOrderButPlaces s
+    ensures hole { (x : Storage) (plan : Placement) (s : Session) (m : SessionJob) (t : Task) (words : ℕ) → IsInOrderButCounts s
         → StandsOver x (B.holds backing.old) machine.old plan s → IsRunning plan s.jobs m t → IsWanted x plan m t absent words
         → HasHole (words_wanted m t absent words) x.spans → (machine.new.sectors ≡ machine.old.sectors) × Becomes B.holds backing.old backing.new (λ all. all)
         × StaysIn x (B.holds backing.new) machine.new plan s }
-    ensures zeros { (x : Storage) (plan : Placement) (s : Session) (m : SessionJob) (t : Task) (words : ℕ) → IsInOrderButPlaces s
+    ensures zeros { (x : Storage) (plan : Placement) (s : Session) (m : SessionJob) (t : Task) (words : ℕ) → IsInOrderButCounts s
         → StandsOver x (B.holds backing.old) machine.old plan s → IsRunning plan s.jobs m t → IsWanted x plan m t absent words
         → HasHole (words_wanted m t absent words) x.spans → IsUntouched x absent → IsOk result × (backing.new ≡ backing.old) }
-    ensures no_core { (x : Storage) (plan : Placement) (s : Session) (m : SessionJob) (t : Task) (words need size : ℕ) → IsInOrderButPlaces s
+    ensures no_core { (x : Storage) (plan : Placement) (s : Session) (m : SessionJob) (t : Task) (words need size : ℕ) → IsInOrderButCounts s
         → StandsOver x (B.holds backing.old) machine.old plan s → IsRunning plan s.jobs m t → IsWanted x plan m t absent words
         → (result ≡ Err (NoCore need size)) ↔ ((length machine.old.cpu.core < need_with s m t 0 words) × (need ≡ need_with s m t 0 words) × (size ≡ length machine.old.cpu.core)) }
     ensures unchanged { (need size : ℕ) → result ≡ Err (NoCore need size) → (machine.new ≡ machine.old) × (backing.new ≡ backing.old) }
-    ensures full { (x : Storage) (plan : Placement) (s : Session) (m : SessionJob) (t : Task) (words wants free : ℕ) → IsInOrderButPlaces s
+    ensures full { (x : Storage) (plan : Placement) (s : Session) (m : SessionJob) (t : Task) (words wants free : ℕ) → IsInOrderButCounts s
         → StandsOver x (B.holds backing.old) machine.old plan s → IsRunning plan s.jobs m t → IsWanted x plan m t absent words
         → result ≡ Err (BackingFull wants free) → (B.size backing.old < sectors s.jobs) × (HasHole (words_wanted m t absent words) x.spans → ⊥)
         × RefusedFull x (B.holds backing.new) machine.new plan s m t absent wants free }

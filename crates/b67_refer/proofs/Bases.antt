@@ -10,10 +10,10 @@ use Rattle.b67_layout.specs.Placement.{base_of}
 use Rattle.b67_layout.specs.Layout.{machine_view}
 use Rattle.b67_layout.specs.Session.{with_objects}
 use Rattle.b67_layout.proofs.Sessions.{dictionary_below}
-use Rattle.b67_refer.specs.RunningContext.{RunningContext, IsStackOf}
+use Rattle.b67_refer.specs.RunningContext.{LiveContext, IsStackOf}
 use Rattle.b67_lemmas.proofs.Members.{keyed-has}
 
-module _ (core : List Tagged) (r : Regs) (a : RunningContext core r) where
+module _ (core : List Tagged) (r : Regs) (a : LiveContext core r) where
   abbrev pub pictured : MachineView
   pictured = with_objects a.left (machine_view a.plan a.session.jobs)
 
@@ -31,7 +31,7 @@ module _ (core : List Tagged) (r : Regs) (a : RunningContext core r) where
   size_is = a.holds.memory.slots.regs.size
 
   pub dictionary_is : r.dict ≡ a.plan.dictionary a.member.constants.number
-  dictionary_is = (a.holds.running a.member a.task a.running).dict
+  dictionary_is = (a.holds.running a.member a.runner a.running).dict
 
   -- the dictionary lies below slot 0
   pub dictionary_low : a.plan.dictionary a.member.constants.number + 2 ≤ a.plan.stacks

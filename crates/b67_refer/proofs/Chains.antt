@@ -20,7 +20,7 @@ use Rattle.b67_layout.specs.Placement.{slot_of, outer_spots, address_of}
 use Rattle.b67_layout.specs.Session.{frame_address}
 use Rattle.b67_layout.specs.Meets.{here}
 use Rattle.b67_layout.proofs.Frames.{level-is}
-use Rattle.b67_refer.specs.RunningContext.{RunningContext, IsShown, IsStackOf}
+use Rattle.b67_refer.specs.RunningContext.{RunningContext, IsShown, IsStackOf, live_of}
 use Rattle.b67_refer.proofs.Slots.{whole, registers}
 use Rattle.b67_refer.proofs.Seats.{has_task, order_of}
 use Rattle.b67_refer.proofs.Marks.{MarkOf, mark, frame_known}
@@ -52,14 +52,14 @@ module _ (core : List Tagged) (r : Regs) (a : RunningContext core r) where
 
     pub run_level : Level level (running a.task.frames)
     run_level =
-        let o = order_of core r a a.task (has_task core r a) in
+        let o = order_of core r (live_of a) a.task (has_task core r (live_of a)) in
         let b = running_in (IsSegment a.member.constants) a.task.frames o.returns o.some in
         record { among = has_append_left (map known_of a.task.frames) (outer_of a.member.progress.job a.task) (known_of (running a.task.frames)) (has_map known_of a.task.frames (running a.task.frames) b.0); entered = b.1; level = refl }
 
     next_level : (n : ℕ) (f : Frame) → Level (suc n) f → Level n (frame (here a.member a.task q) (environment_of f.standing))
     next_level n f b =
-        let m = mark core r a f.identity f.standing b.among b.entered (omega (arith, b.level)) in
-        let k = frame_known core r a q (environment_of f.standing) m.standing m.among in
+        let m = mark core r (live_of a) f.identity f.standing b.among b.entered (omega (arith, b.level)) in
+        let k = frame_known core r (live_of a) q (environment_of f.standing) m.standing m.among in
         record {
           among = subst (Has (reach_of a.member.progress.job a.task)) (sym k) m.among;
           entered = subst (λ (z : Known). IsEntered z.1) (sym k) m.entered;
@@ -85,29 +85,29 @@ module _ (core : List Tagged) (r : Regs) (a : RunningContext core r) where
     pub top_address : address_at level ≡ frame_address a.plan a.member a.task (running a.task.frames).identity
     top_address = let e : level - level ≡ 0 = omega arith in ap (λ (i : ℕ). frame_address a.plan a.member a.task (outward (here a.member a.task q) i (running a.task.frames)).identity) e
 
-    pub mark_of_level : (n : ℕ) → suc n ≤ level → MarkOf core r a (frame_at (here a.member a.task q) (suc n)).identity (frame_at (here a.member a.task q) (suc n)).standing
+    pub mark_of_level : (n : ℕ) → suc n ≤ level → MarkOf core r (live_of a) (frame_at (here a.member a.task q) (suc n)).identity (frame_at (here a.member a.task q) (suc n)).standing
     mark_of_level n up =
         let b = level_at (suc n) up in
-        mark core r a (frame_at (here a.member a.task q) (suc n)).identity (frame_at (here a.member a.task q) (suc n)).standing b.among b.entered (omega (arith, b.level))
+        mark core r (live_of a) (frame_at (here a.member a.task q) (suc n)).identity (frame_at (here a.member a.task q) (suc n)).standing b.among b.entered (omega (arith, b.level))
 
     -- the mark at a level names the frame of the level below
     pub next_address : (n : ℕ) (up : suc n ≤ level) → address_of a.plan (let s : Stacks.StackPlace = record { stack = (mark_of_level n up).mark.env_stack; disp = (mark_of_level n up).mark.env_disp } in s) ≡ address_at n
     next_address n up =
         let m = mark_of_level n up in
-        let k = frame_known core r a q (environment_of (frame_at (here a.member a.task q) (suc n)).standing) m.standing m.among in
+        let k = frame_known core r (live_of a) q (environment_of (frame_at (here a.member a.task q) (suc n)).standing) m.standing m.among in
         m.address ∙ ap (frame_address a.plan a.member a.task) (sym (ap (λ (z : Known). z.0) k) ∙ ap (λ (f : Frame). f.identity) (sym (frame_at_next n up)))
 
   -- the level in the registers
   pub level_is : r.level ≡ level
   level_is =
-      let g = registers core r a in
+      let g = registers core r (live_of a) in
       g.level ∙ level-is a.plan a.member.constants.number a.member.progress.job (slot_of a.plan a.member.constants.number a.task.number) (outer_spots a.plan a.member.constants.number a.member.progress.job a.task.critical a.task.parents) a.task.frames
 
   pub level_small : level < 32
   level_small =
-      let w = whole core r a a.task a.running.task in
+      let w = whole core r (live_of a) a.task a.running.task in
       let e = level_is in
-      let g = registers core r a in
+      let g = registers core r (live_of a) in
       omega (arith, e, g.level, level-small _ w.part.heads)
 
   -- the display is written down to a level, and at is the address of that level's frame
@@ -136,7 +136,7 @@ module _ (core : List Tagged) (r : Regs) (a : RunningContext core r) where
   abbrev pub Reads : ℕ → Mscw → Type 0
   Reads at m = (k : Mscw) → IsMscw k → slice_get core at ≡ Some (mscw_word k) → m ≡ k
 
-  pub written_mark : (at n : ℕ) (display : List ℕ) → Written at (suc n) display → (m : Mscw) × IsMscw m × (slice_get core at ≡ Some (mscw_word m)) × IsStackOf a m.env_stack × (address_of a.plan (let s : Stacks.StackPlace = record { stack = m.env_stack; disp = m.env_disp } in s) ≡ address_at a.task.place n)
+  pub written_mark : (at n : ℕ) (display : List ℕ) → Written at (suc n) display → (m : Mscw) × IsMscw m × (slice_get core at ≡ Some (mscw_word m)) × IsStackOf (live_of a) m.env_stack × (address_of a.plan (let s : Stacks.StackPlace = record { stack = m.env_stack; disp = m.env_disp } in s) ≡ address_at a.task.place n)
   written_mark at n display w =
       let m = mark_of_level a.task.place n w.low in
       (m.mark, m.fits, ap (slice_get core) w.address ∙ m.there, m.stack, next_address a.task.place n w.low)
@@ -149,13 +149,13 @@ module _ (core : List Tagged) (r : Regs) (a : RunningContext core r) where
   }
 
   -- one turn: the mark at the address of a level above 0, and what is written and found next
-  pub turn_mark : (at n : ℕ) (display : List ℕ) → Written at n display → n ≢ 0 → (m : Mscw) × IsMscw m × (slice_get core at ≡ Some (mscw_word m)) × IsStackOf a m.env_stack × (address_of a.plan (let s : Stacks.StackPlace = record { stack = m.env_stack; disp = m.env_disp } in s) ≡ address_at a.task.place (n - 1))
+  pub turn_mark : (at n : ℕ) (display : List ℕ) → Written at n display → n ≢ 0 → (m : Mscw) × IsMscw m × (slice_get core at ≡ Some (mscw_word m)) × IsStackOf (live_of a) m.env_stack × (address_of a.plan (let s : Stacks.StackPlace = record { stack = m.env_stack; disp = m.env_disp } in s) ≡ address_at a.task.place (n - 1))
   turn_mark at n display w some = written_mark at (n - 1) display (subst (λ (i : ℕ). Written at i display) (let e : n ≡ suc (n - 1) = omega (arith, some) in e) w)
 
-  pub turn_down : (at n : ℕ) (display : List ℕ) (m : Mscw) → Written at n display → n ≢ 0 → Reads at m → IsStackOf a m.env_stack × (address_of a.plan (let s : Stacks.StackPlace = record { stack = m.env_stack; disp = m.env_disp } in s) ≡ address_at a.task.place (n - 1))
+  pub turn_down : (at n : ℕ) (display : List ℕ) (m : Mscw) → Written at n display → n ≢ 0 → Reads at m → IsStackOf (live_of a) m.env_stack × (address_of a.plan (let s : Stacks.StackPlace = record { stack = m.env_stack; disp = m.env_disp } in s) ≡ address_at a.task.place (n - 1))
   turn_down at n display m w some read =
       let k = turn_mark at n display w some in
-      let P : Mscw → Type 0 = λ z. IsStackOf a z.env_stack × (address_of a.plan (let s : Stacks.StackPlace = record { stack = z.env_stack; disp = z.env_disp } in s) ≡ address_at a.task.place (n - 1)) in
+      let P : Mscw → Type 0 = λ z. IsStackOf (live_of a) z.env_stack × (address_of a.plan (let s : Stacks.StackPlace = record { stack = z.env_stack; disp = z.env_disp } in s) ≡ address_at a.task.place (n - 1)) in
       subst P (sym (read k.0 k.1 k.2)) (k.3, k.4)
 
   pub turn_next : (at n down : ℕ) (display : List ℕ) → Written at n display → n ≢ 0 → length display ≡ 32 → down ≡ address_at a.task.place (n - 1) → Written down (n - 1) (slice_set display n at)

@@ -38,8 +38,8 @@ kind_small kind.Row = omega arith
 kind_small kind.Code = omega arith
 
 module _ (core : List Tagged) (copy : DataDesc) (home : ℕ) (c : IsCopyOf core copy home) where
-  same : SameDesc copy (copy_desc c.copied c.is.present c.is.address)
-  same = same_desc copy (copy_desc c.copied c.is.present c.is.address) c.fits c.is.fits c.is.is
+  same : SameDesc copy (copy_desc c.copied c.is.number c.is.present c.is.address)
+  same = same_desc copy (copy_desc c.copied c.is.number c.is.present c.is.address) c.fits c.is.fits c.is.is
 
   pub absent_owner : copy.present ≡ false → copy.address ≡ home
   absent_owner e =

@@ -32,12 +32,12 @@ use Rattle.b67_layout.specs.Layout.{array_object, code_objects, objects_of}
 use Rattle.b67_layout.specs.Session.{frame_address}
 use Rattle.b67_layout.specs.Meets.{here}
 use Rattle.b67_layout.proofs.Sessions.{code_object, dictionary_above, entry_row}
-use Rattle.b67_refer.specs.RunningContext.{RunningContext}
-use Rattle.b67_refer.specs.Cells.{StandsFor, IsCellAt, CellMeets}
+use Rattle.b67_refer.specs.RunningContext.{LiveContext}
+use Rattle.b67_refer.specs.LiveCells.{StandsFor, IsCellAt, CellMeets}
 use Rattle.b67_refer.proofs.Bases.{pictured}
 use Rattle.b67_refer.proofs.Marks.{view_low, base_in, frame_dictionary, frame_mcp, dictionary_address}
 
-mcp_get : (i : ℕ) → i < 9 → slice_get (reverse mcp.cells) i ≡ Some (Intrinsic (8 + i))
+mcp_get : (i : ℕ) → i < 11 → slice_get (reverse mcp.cells) i ≡ Some (Intrinsic (8 + i))
 mcp_get zero low = refl
 mcp_get (suc zero) low = refl
 mcp_get (suc (suc zero)) low = refl
@@ -47,7 +47,9 @@ mcp_get (suc (suc (suc (suc (suc zero))))) low = refl
 mcp_get (suc (suc (suc (suc (suc (suc zero)))))) low = refl
 mcp_get (suc (suc (suc (suc (suc (suc (suc zero))))))) low = refl
 mcp_get (suc (suc (suc (suc (suc (suc (suc (suc zero)))))))) low = refl
-mcp_get (suc (suc (suc (suc (suc (suc (suc (suc (suc i))))))))) low = absurd (omega (arith, low))
+mcp_get (suc (suc (suc (suc (suc (suc (suc (suc (suc zero))))))))) low = refl
+mcp_get (suc (suc (suc (suc (suc (suc (suc (suc (suc (suc zero)))))))))) low = refl
+mcp_get (suc (suc (suc (suc (suc (suc (suc (suc (suc (suc (suc i))))))))))) low = absurd (omega (arith, low))
 
 entry_is : (n : ℕ) (ss : List Segment) (ws : List Word) (i : ℕ) (w : Word) → DictionaryWords n ss ws → slice_get ws i ≡ Some w
     → ((i < length ss) × (w ≡ Words.Segment (n + i))) ⊎ ((length ss ≤ i) × (w ≡ Original (1 + (i - length ss))))
@@ -60,12 +62,12 @@ entry_is n (s ∷ ss) (v ∷ ws) (suc i) w d e = ⊎_elim
     (entry_is (n + 1) ss ws i w d.1 e)
 
 module _ (x : Storage) (core : List Tagged) (r : Regs) (p : MachineView) (s : Represents x core r p) (t : PagedObject) (int : Has p.objects t) where
-  area_small : (b : ℕ) → (x.held t.home).area ≡ Some b → b < 2 ^ 20
+  pub area_small : (b : ℕ) → (x.held t.home).area ≡ Some b → b < 2 ^ 20
   area_small b e =
       let o = s.owned.of_held t.home b e in
       omega (arith, (area_inside core x.low x.spans b (info_of x o.0) s.directory o.3).1, s.directory.small)
 
-  desc_fits : (b : Bool) (n : ℕ) (o : Option ℕ) (f : ℕ) → n < 2 ^ 20 → f < 2 ^ 20 → ((z : ℕ) → o ≡ Some z → z < 2 ^ 20) → IsDataDesc (home_desc b n (record { area = o; chain = f }))
+  pub desc_fits : (b : Bool) (n : ℕ) (o : Option ℕ) (f : ℕ) → n < 2 ^ 20 → f < 2 ^ 20 → ((z : ℕ) → o ≡ Some z → z < 2 ^ 20) → IsDataDesc (home_desc b n (record { area = o; chain = f }))
   desc_fits b n (Some z) f small fits af = record { words = small; address = af z refl; indexed = λ y. absurd (false≢true y) }
   desc_fits b n None f small fits af = record { words = small; address = fits; indexed = λ y. absurd (false≢true y) }
 
@@ -82,7 +84,7 @@ no_code : (b : Bool) → (if b then kind.Array else kind.Row) ≢ kind.Code
 no_code true e = cc
 no_code false e = cc
 
-module _ (core : List Tagged) (r : Regs) (a : RunningContext core r) where
+module _ (core : List Tagged) (r : Regs) (a : LiveContext core r) where
   pub mcp_address : frame_address a.plan a.member a.task 0 ≡ 0
   mcp_address = ap (address_of a.plan) (view_low core r a 0 (omega arith))
 
@@ -95,22 +97,22 @@ module _ (core : List Tagged) (r : Regs) (a : RunningContext core r) where
   pub dictionary_high : 160 ≤ a.plan.dictionary a.member.constants.number
   dictionary_high = dictionary_above a.plan 160 a.session.jobs a.member a.holds.fits.dictionaries has_member
 
-  has_object : (t : PagedObject) → Has (objects_of a.plan a.member) t → Has (a.left ++ flat_map (objects_of a.plan) a.session.jobs) t
+  pub has_object : (t : PagedObject) → Has (objects_of a.plan a.member) t → Has (a.left ++ flat_map (objects_of a.plan) a.session.jobs) t
   has_object t h = has_append_right a.left (flat_map (objects_of a.plan) a.session.jobs) t (has_flat (objects_of a.plan) a.session.jobs a.member t has_member h)
 
   module _ (q : Place) where
     look_mcp : (offset : ℕ) → cell (here a.member a.task q) 0 offset ≡ ok_or (if nat_lt offset 8 then None else slice_get (reverse mcp.cells) (offset - 8)) InvalidAddress
     look_mcp offset = ap (λ (g : Frame). ok_or (cell_of g offset) InvalidAddress) (frame_mcp core r a q)
 
-    pub mcp_misses : (offset : ℕ) → (offset < 8) ⊎ (16 < offset) → cell (here a.member a.task q) 0 offset ≡ Err InvalidAddress
+    pub mcp_misses : (offset : ℕ) → (offset < 8) ⊎ (18 < offset) → cell (here a.member a.task q) 0 offset ≡ Err InvalidAddress
     mcp_misses offset far = look_mcp offset ∙ ⊎_elim
         (λ (low : offset < 8). (let t : nat_lt offset 8 ≡ true = lt-ltb offset 8 low in rw t refl))
-        (λ (past : 16 < offset). (let t : nat_lt offset 8 ≡ false = le-ltb offset 8 (omega (arith, past)) in
+        (λ (past : 18 < offset). (let t : nat_lt offset 8 ≡ false = le-ltb offset 8 (omega (arith, past)) in
         let n : slice_get (reverse mcp.cells) (offset - 8) ≡ None = slice_get_past (reverse mcp.cells) (offset - 8) (omega (arith, past)) in
         rw t (ap (λ (o : Option Word). ok_or o InvalidAddress) n)))
         far
 
-    pub mcp_lands : (offset : ℕ) → 8 ≤ offset → offset ≤ 16 → CellMeets a q 0 offset (Ok offset) (cell (here a.member a.task q) 0 offset)
+    pub mcp_lands : (offset : ℕ) → 8 ≤ offset → offset ≤ 18 → CellMeets a q 0 offset (Ok offset) (cell (here a.member a.task q) 0 offset)
     mcp_lands offset low up =
         let t : nat_lt offset 8 ≡ false = le-ltb offset 8 low in
         let w : slice_get (reverse mcp.cells) (offset - 8) ≡ Some (Intrinsic offset) = mcp_get (offset - 8) (omega (arith, low, up)) ∙ ap (λ n. Some (Intrinsic n)) (let e : 8 + (offset - 8) ≡ offset = omega (arith, low) in e) in

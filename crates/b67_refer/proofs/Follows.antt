@@ -1,5 +1,5 @@
 -- Words that are no references, and element copies.
-use Rattle.std.proofs.Common.{◌≡◌, ℕ, List, Ok, Err, Some, Option, refl, sym, ◌∙◌, ap, arith, true, false, subst}
+use Rattle.std.proofs.Common.{◌≡◌, ℕ, List, Result, Ok, Err, Some, Option, refl, sym, ◌∙◌, ap, arith, true, false, subst}
 use Rattle.std.proofs.lemmas.Bool.{true≢false, false≢true}
 use Rattle.std.proofs.lemmas.Option.{same_Some}
 use Rattle.b67_word.specs.Tagged.{Tagged}
@@ -10,11 +10,13 @@ use Rattle.b67_ctl.specs.declared.descriptors.DataDesc.{DataDesc}
 use Rattle.b67_ctl.specs.Descriptors.{data_word, IsDataDesc}
 use Rattle.b67_model.specs.Words as Words
 use Rattle.b67_model.specs.Words.{Word, Operand, Name, Ref, Row, Element, Original, Proc, Intrinsic}
-use Rattle.b67_model.specs.Chase.{chase, follow}
+use Rattle.b67_model.specs.Chase.{element_end, chase, follow}
+use Rattle.b67_model.specs.InOrder.{NamesArray}
 use Rattle.b67_layout.specs.Meets.{here}
-use Rattle.b67_refer.specs.declared.ends.End.TheVariants as end
+use Rattle.b67_refer.specs.declared.ends.End.{End}
+use Rattle.b67_word.specs.declared.faults.Fault.{Fault}
 use Rattle.b67_refer.specs.RunningContext.{RunningContext}
-use Rattle.b67_refer.specs.Cells.{StandsFor}
+use Rattle.b67_refer.specs.Cells.{reach, StandsFor}
 use Rattle.b67_refer.specs.Ends.{IsCopyOf, IsReference, EndMeets}
 use Rattle.b67_refer.proofs.Links.{Described, own, row, item, described}
 
@@ -59,15 +61,26 @@ module _ (core : List Tagged) (r : Regs) (a : RunningContext core r) where
     follows_whole at owner v d (row b e c i h o) z = let P : Word → Type 0 = λ x. EndMeets a q (Err InvalidOperand) (follow (here a.member a.task q) x) in subst P (sym e) refl
     follows_whole at owner v d (item b x e c i k h o) z = absurd (true≢false (sym i ∙ z))
 
-    pub follows_item : (at owner : ℕ) (v : Word) (d : DataDesc) (original : ℕ) → Described core r a at owner v d → IsDataDesc d → d.indexed ≡ true → ((home : ℕ) → IsCopyOf core d home → original ≡ home) → EndMeets a q (Ok (end.Element original d.length)) (follow (here a.member a.task q) v)
-    follows_item at owner v d original (own b e c h o) fits z found = absurd (false≢true (sym c ∙ fits.indexed z))
-    follows_item at owner v d original (row b e c i h o) fits z found = absurd (false≢true (sym i ∙ z))
-    follows_item at owner v d original (item b x e c i k h o) fits z found = let P : Word → Type 0 = λ y. EndMeets a q (Ok (end.Element original d.length)) (follow (here a.member a.task q) y) in subst P (sym e) (k, record { home = found (a.plan.home a.member.constants.number b) h; names = o })
+    pub follows_item : (at owner : ℕ) (v : Word) (d : DataDesc) (original : ℕ) (found : Result End Fault) → Described core r a at owner v d → IsDataDesc d → d.indexed ≡ true → ((home : ℕ) → IsCopyOf core d home → original ≡ home)
+        → ((n : ℕ) → original ≡ a.plan.home a.member.constants.number n → NamesArray a.member.progress.job.arrays (reach a) n → EndMeets a q found (element_end (here a.member a.task q) n d.length))
+        → EndMeets a q found (follow (here a.member a.task q) v)
+    follows_item at owner v d original found (own b e c h o) fits z is each = absurd (false≢true (sym c ∙ fits.indexed z))
+    follows_item at owner v d original found (row b e c i h o) fits z is each = absurd (false≢true (sym i ∙ z))
+    follows_item at owner v d original found (item b x e c i k h o) fits z is each =
+        let E : ℕ → Type 0 = λ n. EndMeets a q found (element_end (here a.member a.task q) b n) in
+        let P : Word → Type 0 = λ y. EndMeets a q found (follow (here a.member a.task q) y) in
+        subst P (sym e) (subst E k (each b (is (a.plan.home a.member.constants.number b) h) o))
 
   pub item_copied : (at owner : ℕ) (v : Word) (d : DataDesc) → Described core r a at owner v d → IsDataDesc d → d.indexed ≡ true → (home : ℕ) × IsCopyOf core d home
   item_copied at owner v d (own b e c h o) fits z = absurd (false≢true (sym c ∙ fits.indexed z))
   item_copied at owner v d (row b e c i h o) fits z = absurd (false≢true (sym i ∙ z))
   item_copied at owner v d (item b x e c i k h o) fits z = (a.plan.home a.member.constants.number b, h)
+
+  pub item_named : (at owner : ℕ) (v : Word) (d : DataDesc) (original : ℕ) → Described core r a at owner v d → IsDataDesc d → d.indexed ≡ true → ((home : ℕ) → IsCopyOf core d home → original ≡ home)
+      → (n : ℕ) × (original ≡ a.plan.home a.member.constants.number n) × NamesArray a.member.progress.job.arrays (reach a) n
+  item_named at owner v d original (own b e c h o) fits z is = absurd (false≢true (sym c ∙ fits.indexed z))
+  item_named at owner v d original (row b e c i h o) fits z is = absurd (false≢true (sym i ∙ z))
+  item_named at owner v d original (item b x e c i k h o) fits z is = (b, is (a.plan.home a.member.constants.number b) h, o)
 
   pub word_described : (at owner : ℕ) (w : Tagged) (v : Word) (o : Option DataDesc) (d : DataDesc) → StandsFor a at owner w v → w.tag ≡ 5 → ((x : DataDesc) → IsDataDesc x → w ≡ data_word x → o ≡ Some x) → o ≡ Some d → Described core r a at owner v d × IsDataDesc d
   word_described at owner w v o d s t known e =

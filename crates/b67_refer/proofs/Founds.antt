@@ -11,15 +11,15 @@ use Rattle.b67_model.specs.Cells.{cell}
 use Rattle.b67_model.specs.InOrder.{reach_of, NamesEntered}
 use Rattle.b67_layout.specs.Session.{frame_address}
 use Rattle.b67_layout.specs.Meets.{here}
-use Rattle.b67_refer.specs.RunningContext.{RunningContext}
-use Rattle.b67_refer.specs.Cells.{CellMeets}
+use Rattle.b67_refer.specs.RunningContext.{LiveContext}
+use Rattle.b67_refer.specs.LiveCells.{CellMeets}
 use Rattle.b67_refer.proofs.Bases.{slot_inside, dictionary_is, dictionary_low, slot_zero}
 use Rattle.b67_refer.proofs.Seats.{seat}
 use Rattle.b67_refer.proofs.Rule.{misses, marks, lands}
 use Rattle.b67_refer.proofs.Unders.{is_mcp, is_dictionary, entries_is, high_address}
 use Rattle.b67_refer.proofs.Fixed.{mcp_misses, mcp_lands, dictionary_misses, dictionary_lands}
 
-module _ (core : List Tagged) (r : Regs) (a : RunningContext core r) (q : Place) (f from offset : ℕ) (n : NamesEntered (reach_of a.member.progress.job a.task) f) (e : from ≡ frame_address a.plan a.member a.task f) where
+module _ (core : List Tagged) (r : Regs) (a : LiveContext core r) (q : Place) (f from offset : ℕ) (n : NamesEntered (reach_of a.member.progress.job a.task) f) (e : from ≡ frame_address a.plan a.member a.task f) where
   refused : cell (here a.member a.task q) f offset ≡ Err InvalidAddress → CellMeets a q f offset (Err InvalidAddress) (cell (here a.member a.task q) f offset)
   refused z = let F : Answer Word → Type 0 = λ y. CellMeets a q f offset (Err InvalidAddress) y in subst F (sym z) refl
 
@@ -47,10 +47,10 @@ module _ (core : List Tagged) (r : Regs) (a : RunningContext core r) (q : Place)
         let i = slot_inside core r a b.slot b.top_is.used in
         (omega (arith, b.part.room, i.0, i.1), i.2)
 
-  pub mcp_far : from ≡ 0 → (offset < 8) ⊎ (16 < offset) → CellMeets a q f offset (Err InvalidAddress) (cell (here a.member a.task q) f offset)
+  pub mcp_far : from ≡ 0 → (offset < 8) ⊎ (18 < offset) → CellMeets a q f offset (Err InvalidAddress) (cell (here a.member a.task q) f offset)
   mcp_far zero far = refused (ap (λ (i : ℕ). cell (here a.member a.task q) i offset) (is_mcp core r a f from n e zero) ∙ mcp_misses core r a q offset far)
 
-  pub mcp_found : (at : ℕ) → at ≡ offset → from ≡ 0 → 8 ≤ offset → offset ≤ 16 → CellMeets a q f offset (Ok at) (cell (here a.member a.task q) f offset)
+  pub mcp_found : (at : ℕ) → at ≡ offset → from ≡ 0 → 8 ≤ offset → offset ≤ 18 → CellMeets a q f offset (Ok at) (cell (here a.member a.task q) f offset)
   mcp_found at z zero low up =
       let F : ℕ → Type 0 = λ i. CellMeets a q i offset (Ok at) (cell (here a.member a.task q) i offset) in
       let G : ℕ → Type 0 = λ x. CellMeets a q 0 offset (Ok x) (cell (here a.member a.task q) 0 offset) in
@@ -73,6 +73,6 @@ module _ (core : List Tagged) (r : Regs) (a : RunningContext core r) (q : Place)
   pub address_small : 1 < f → from < 2 ^ 20
   address_small own = let h = high_address core r a f n own in omega (arith, h.1, e)
 
-module _ (core : List Tagged) (r : Regs) (a : RunningContext core r) where
+module _ (core : List Tagged) (r : Regs) (a : LiveContext core r) where
   pub dictionary_small : r.dict < 2 ^ 20
   dictionary_small = let d = dictionary_is core r a in let l = dictionary_low core r a in let z = slot_zero core r a in omega (arith, d, l, z.0, z.1)

@@ -10,6 +10,7 @@ pub mod Fixed
 pub mod Unders
 pub mod Founds
 pub mod Copies
+pub mod Items
 pub mod Links
 pub mod Procs
 pub mod Names

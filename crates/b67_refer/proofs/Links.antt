@@ -1,5 +1,5 @@
 -- What the words of cells come to, and one turn of a chain of references.
-use Rattle.std.proofs.Common.{◌≡◌, ℕ, ◌+◌, ◌*◌, ◌<◌, ◌≤◌, ◌^◌, List, length, Option, Some, Ok, refl, sym, ◌∙◌, ap, arith, true, false, subst}
+use Rattle.std.proofs.Common.{◌≡◌, ℕ, ◌+◌, ◌*◌, ◌<◌, ◌≤◌, ◌^◌, List, length, Option, Some, None, Result, Ok, Err, refl, sym, ◌∙◌, ap, arith, true, false, subst}
 use Rattle.std.specs.List.{slice_get, AllByRecursion}
 use Rattle.std.proofs.lemmas.Bool.{true≢false, false≢true}
 use Rattle.std.proofs.lemmas.Option.{same_Some}
@@ -11,13 +11,18 @@ use Rattle.b67_ctl.specs.Descriptors.{data_word, IsDataDesc}
 use Rattle.b67_model.specs.Words as Words
 use Rattle.b67_model.specs.Words.{Word, Operand, Name, Ref, Row, Element, Original, Proc, Intrinsic}
 use Rattle.b67_model.specs.State.{Segment}
-use Rattle.b67_model.specs.Chase.{link_at}
+use Rattle.b67_model.specs.Answers.{Answer}
+use Rattle.b67_model.specs.Chase as Chase
+use Rattle.b67_model.specs.Chase.{Stops, element_end, link_at}
+use Rattle.b67_layout.specs.Meets.{here}
 use Rattle.b67_model.specs.InOrder.{NamesEntered, NamesArray, OwnsArray, ArrayInOrder}
 use Rattle.b67_stack.specs.Shapes.{Copied, copy_desc, IsCopy}
+use Rattle.b67_refer.specs.declared.ends.End.{End}
 use Rattle.b67_refer.specs.declared.ends.End.TheVariants as end
-use Rattle.b67_refer.specs.RunningContext.{RunningContext}
+use Rattle.b67_word.specs.declared.faults.Fault.{Fault}
+use Rattle.b67_refer.specs.RunningContext.{RunningContext, live_of}
 use Rattle.b67_refer.specs.Cells.{reach, StandsFor, IsCellAt}
-use Rattle.b67_refer.specs.Ends.{IsCopyOf, HasTag, LinkMeets}
+use Rattle.b67_refer.specs.Ends.{IsCopyOf, HasTag, EndMeets, LinkMeets, on_link}
 use Rattle.b67_refer.proofs.Bases.{pictured}
 use Rattle.b67_refer.proofs.Chains.{level}
 use Rattle.b67_lemmas.proofs.Members.{all_in}
@@ -28,24 +33,23 @@ not_intrinsic syllable place level segment number a b c d e z = omega arith
 
 module _ (core : List Tagged) (r : Regs) (a : RunningContext core r) where
   -- an original that is named in a frame of the reach
-  named_original : (f array : ℕ) → NamesEntered (reach a) f → OwnsArray a.member.progress.job.arrays f array → NamesArray a.member.progress.job.arrays (reach a) array 0
+  named_original : (f array : ℕ) → NamesEntered (reach a) f → OwnsArray a.member.progress.job.arrays f array → NamesArray a.member.progress.job.arrays (reach a) array
   named_original f array n o = record {
     item = o.item;
     live = o.live;
     named = o.named;
     owner = subst (NamesEntered (reach a)) (sym o.owned) n;
-    inside = (all_in ArrayInOrder a.member.progress.job.arrays o.item a.ordered.tasks.arrays o.live).length_low;
   }
 
   -- a copy by its descriptor
   pub copy_of : (c : Copied) (home : ℕ) (v : Tagged) (d : DataDesc) → IsDataDesc d → v ≡ data_word d → IsCopy a.storage.held c home v → IsCopyOf core d home
-  copy_of c home v d fits e is = record { storage = a.storage; registers = r; machine_view = pictured core r a; stands = a.holds.memory; copied = c; fits = fits; is = subst (λ (w : Tagged). IsCopy a.storage.held c home w) e is }
+  copy_of c home v d fits e is = record { storage = a.storage; registers = r; machine_view = pictured core r (live_of a); stands = a.holds.memory; copied = c; fits = fits; is = subst (λ (w : Tagged). IsCopy a.storage.held c home w) e is }
 
   -- a data descriptor among the words that stand for something: an original, a row copy or an element copy
   pub data Described (at owner : ℕ) (w : Word) (d : DataDesc) : Type 0 where
     own : (array : ℕ) → w ≡ Original array → d.copy ≡ false → at ≡ a.plan.home a.member.constants.number array → OwnsArray a.member.progress.job.arrays owner array → Described at owner w d
-    row : (array : ℕ) → w ≡ Row array → d.copy ≡ true → d.indexed ≡ false → IsCopyOf core d (a.plan.home a.member.constants.number array) → NamesArray a.member.progress.job.arrays (reach a) array 0 → Described at owner w d
-    item : (array index : ℕ) → w ≡ Element array index → d.copy ≡ true → d.indexed ≡ true → d.length ≡ index → IsCopyOf core d (a.plan.home a.member.constants.number array) → NamesArray a.member.progress.job.arrays (reach a) array index → Described at owner w d
+    row : (array : ℕ) → w ≡ Row array → d.copy ≡ true → d.indexed ≡ false → IsCopyOf core d (a.plan.home a.member.constants.number array) → NamesArray a.member.progress.job.arrays (reach a) array → Described at owner w d
+    item : (array index : ℕ) → w ≡ Element array index → d.copy ≡ true → d.indexed ≡ true → d.length ≡ index → IsCopyOf core d (a.plan.home a.member.constants.number array) → NamesArray a.member.progress.job.arrays (reach a) array → Described at owner w d
 
   pub described : (at owner : ℕ) (v : Tagged) (w : Word) → StandsFor a at owner v w → v.tag ≡ 5 → (d : DataDesc) × IsDataDesc d × (v ≡ data_word d) × Described at owner w d
   described at owner v (Operand bits) s t = absurd (let z = ap (λ (x : Tagged). x.tag) s.0.0 in omega (arith, z, t))
@@ -53,12 +57,12 @@ module _ (core : List Tagged) (r : Regs) (a : RunningContext core r) where
   described at owner v (Ref g d) s t = absurd (let z = ap (λ (x : Tagged). x.tag) s.0.0 in omega (arith, z, t))
   described at owner v (Row b) s t =
       let f = s.0 in
-      let c : Copied = record { indexed = false; read_only = Rattle.std.specs.Prelude.not (Rattle.b67_model.specs.Arrays.array a.member.progress.job b).writable; number = length (Rattle.b67_model.specs.Arrays.array a.member.progress.job b).numbers } in
-      (copy_desc c f.present f.address, f.fits, f.is, row b refl refl refl (copy_of c (a.plan.home a.member.constants.number b) v (copy_desc c f.present f.address) f.fits f.is f) s.1)
+      let c : Copied = record { index = None; read_only = Rattle.std.specs.Prelude.not (Rattle.b67_model.specs.Arrays.array a.member.progress.job b).writable } in
+      (copy_desc c f.number f.present f.address, f.fits, f.is, row b refl refl refl (copy_of c (a.plan.home a.member.constants.number b) v (copy_desc c f.number f.present f.address) f.fits f.is f) s.1)
   described at owner v (Element b i) s t =
       let f = s.0 in
-      let c : Copied = record { indexed = true; read_only = Rattle.std.specs.Prelude.not (Rattle.b67_model.specs.Arrays.array a.member.progress.job b).writable; number = i } in
-      (copy_desc c f.present f.address, f.fits, f.is, item b i refl refl refl refl (copy_of c (a.plan.home a.member.constants.number b) v (copy_desc c f.present f.address) f.fits f.is f) s.1)
+      let c : Copied = record { index = Some i; read_only = Rattle.std.specs.Prelude.not (Rattle.b67_model.specs.Arrays.array a.member.progress.job b).writable } in
+      (copy_desc c f.number f.present f.address, f.fits, f.is, item b i refl refl refl f.numbered (copy_of c (a.plan.home a.member.constants.number b) v (copy_desc c f.number f.present f.address) f.fits f.is f) s.1)
   described at owner v (Original b) s t = let f = s.0.1 in (f.desc, f.fits, f.is, own b refl f.own s.0.0 s.1)
   described at owner v (Proc g l p) s t = absurd (let z = ap (λ (x : Tagged). x.tag) s.0.0 in omega (arith, z, t))
   described at owner v (Intrinsic n) s t = absurd (let z = ap (λ (x : Tagged). x.tag) s.0 in omega (arith, z, t))
@@ -66,20 +70,38 @@ module _ (core : List Tagged) (r : Regs) (a : RunningContext core r) where
 
   module _ (q : Place) (at f offset : ℕ) where
     -- the end at a descriptor
-    pub end_own : (w : Word) (d : DataDesc) → NamesEntered (reach a) f → Described at f w d → d.copy ≡ false → LinkMeets a q (Ok (Some (end.Array at))) (link_at f offset w)
-    end_own w d n (own b e c h o) z = let P : Word → Type 0 = λ x. LinkMeets a q (Ok (Some (end.Array at))) (link_at f offset x) in subst P (sym e) (record { home = h; names = named_original f b n o })
+    pub end_own : (w : Word) (d : DataDesc) → NamesEntered (reach a) f → Described at f w d → d.copy ≡ false → LinkMeets a q (Ok (Some (end.Array at))) (link_at (here a.member a.task q) f offset w)
+    end_own w d n (own b e c h o) z = let P : Word → Type 0 = λ x. LinkMeets a q (Ok (Some (end.Array at))) (link_at (here a.member a.task q) f offset x) in subst P (sym e) (record { home = h; names = named_original f b n o })
     end_own w d n (row b e c i h o) z = absurd (true≢false (sym c ∙ z))
     end_own w d n (item b x e c i k h o) z = absurd (true≢false (sym c ∙ z))
 
-    pub end_row : (w : Word) (d : DataDesc) (original : ℕ) → Described at f w d → d.copy ≡ true → d.indexed ≡ false → ((home : ℕ) → IsCopyOf core d home → original ≡ home) → LinkMeets a q (Ok (Some (end.Array original))) (link_at f offset w)
+    pub end_row : (w : Word) (d : DataDesc) (original : ℕ) → Described at f w d → d.copy ≡ true → d.indexed ≡ false → ((home : ℕ) → IsCopyOf core d home → original ≡ home) → LinkMeets a q (Ok (Some (end.Array original))) (link_at (here a.member a.task q) f offset w)
     end_row w d original (own b e c h o) z y found = absurd (false≢true (sym c ∙ z))
-    end_row w d original (row b e c i h o) z y found = let P : Word → Type 0 = λ x. LinkMeets a q (Ok (Some (end.Array original))) (link_at f offset x) in subst P (sym e) (record { home = found (a.plan.home a.member.constants.number b) h; names = o })
+    end_row w d original (row b e c i h o) z y found = let P : Word → Type 0 = λ x. LinkMeets a q (Ok (Some (end.Array original))) (link_at (here a.member a.task q) f offset x) in subst P (sym e) (record { home = found (a.plan.home a.member.constants.number b) h; names = o })
     end_row w d original (item b x e c i k h o) z y found = absurd (true≢false (sym i ∙ y))
 
-    pub end_item : (w : Word) (d : DataDesc) (original : ℕ) → Described at f w d → d.copy ≡ true → d.indexed ≡ true → ((home : ℕ) → IsCopyOf core d home → original ≡ home) → LinkMeets a q (Ok (Some (end.Element original d.length))) (link_at f offset w)
-    end_item w d original (own b e c h o) z y found = absurd (false≢true (sym c ∙ z))
-    end_item w d original (row b e c i h o) z y found = absurd (false≢true (sym i ∙ y))
-    end_item w d original (item b x e c i k h o) z y found = let P : Word → Type 0 = λ y. LinkMeets a q (Ok (Some (end.Element original d.length))) (link_at f offset y) in subst P (sym e) (k, record { home = found (a.plan.home a.member.constants.number b) h; names = o })
+    pub end_item : (w : Word) (d : DataDesc) (original : ℕ) (found : Result End Fault) → Described at f w d → d.copy ≡ true → d.indexed ≡ true → ((home : ℕ) → IsCopyOf core d home → original ≡ home)
+        → ((n : ℕ) → original ≡ a.plan.home a.member.constants.number n → NamesArray a.member.progress.job.arrays (reach a) n → EndMeets a q found (element_end (here a.member a.task q) n d.length))
+        → LinkMeets a q (on_link found) (link_at (here a.member a.task q) f offset w)
+    end_item w d original found (own b e c h o) z y is each = absurd (false≢true (sym c ∙ z))
+    end_item w d original found (row b e c i h o) z y is each = absurd (false≢true (sym i ∙ y))
+    end_item w d original found (item b x e c i k h o) z y is each =
+        let m = each b (is (a.plan.home a.member.constants.number b) h) o in
+        let E : ℕ → Type 0 = λ n. EndMeets a q found (element_end (here a.member a.task q) b n) in
+        let P : Word → Type 0 = λ v. LinkMeets a q (on_link found) (link_at (here a.member a.task q) f offset v) in
+        subst P (sym e) (linked found (element_end (here a.member a.task q) b x) (subst E k m))
+      where
+        linked : (r : Result End Fault) (end : Answer Chase.End) → EndMeets a q r end → LinkMeets a q (on_link r) (Stops end)
+        linked (Ok r) (Ok end) m = m
+        linked (Err x) (Err y) m = m
+        linked (Ok r) (Err y) m = absurd m
+        linked (Err x) (Ok end) m = absurd m
+
+  pub item_of : (at owner : ℕ) (w : Word) (d : DataDesc) (original : ℕ) → Described at owner w d → d.copy ≡ true → d.indexed ≡ true → ((home : ℕ) → IsCopyOf core d home → original ≡ home)
+      → (n : ℕ) × (original ≡ a.plan.home a.member.constants.number n) × NamesArray a.member.progress.job.arrays (reach a) n
+  item_of at owner w d original (own b e c h o) z y is = absurd (false≢true (sym c ∙ z))
+  item_of at owner w d original (row b e c i h o) z y is = absurd (false≢true (sym i ∙ y))
+  item_of at owner w d original (item b x e c i k h o) z y is = (b, is (a.plan.home a.member.constants.number b) h, o)
 
   pub copied : (at owner : ℕ) (w : Word) (d : DataDesc) → Described at owner w d → d.copy ≡ true → (home : ℕ) × IsCopyOf core d home
   copied at owner w d (own b e c h o) z = absurd (false≢true (sym c ∙ z))

@@ -22,11 +22,11 @@ use Rattle.b67_layout.specs.Meets.{here}
 use Rattle.b67_word.specs.declared.couples.Place.{Place}
 use Rattle.b67_stack.specs.Stacks as Stacks
 use Rattle.b67_layout.specs.Layout.{head}
-use Rattle.b67_refer.specs.RunningContext.{RunningContext, IsStackOf}
+use Rattle.b67_refer.specs.RunningContext.{LiveContext, IsStackOf}
 use Rattle.b67_refer.proofs.Slots.{mark_in, part_mark, base, acts}
 use Rattle.b67_refer.proofs.Seats.{spot_low, Seat, seat, has_task, order_of}
 
-module _ (core : List Tagged) (r : Regs) (a : RunningContext core r) where
+module _ (core : List Tagged) (r : Regs) (a : LiveContext core r) where
   high_frames : (u : Task) → Has a.member.progress.job.tasks u → (f : Frame) → Has u.frames f → 1 < f.identity
   high_frames u h f m = above_one (IsSegment a.member.constants) a.member.constants a.member.progress.job a.ordered.tasks u h f m
 

@@ -23,7 +23,7 @@ use Rattle.b67_stack.specs.Stacks.{StackPlace}
 use Rattle.b67_layout.specs.Placement.{base_spot}
 use Rattle.b67_layout.specs.Meets.{here}
 use Rattle.b67_refer.specs.declared.ends.End.{End}
-use Rattle.b67_refer.specs.RunningContext.{RunningContext}
+use Rattle.b67_refer.specs.RunningContext.{RunningContext, live_of}
 use Rattle.b67_refer.specs.Cells.{reach, view, StandsFor, IsCellAt, CellMeets, FindsCell}
 use Rattle.b67_refer.specs.Ends.{IsReference, EndMeets, LinkMeets}
 use Rattle.b67_refer.proofs.Seats.{seat}
@@ -35,7 +35,7 @@ module _ (core : List Tagged) (r : Regs) (a : RunningContext core r) where
   -- the fields of a reference's spot fit its word
   spot_fits : (g offset : ℕ) → NamesEntered (reach a) g → offset < 2 ^ 12 → IsSirw (record { stack = (view a g).stack; disp = (view a g).disp; offset = offset })
   spot_fits g offset n low =
-      let k = stack_known core r a g n.standing n.among in
+      let k = stack_known core r (live_of a) g n.standing n.among in
       let few = a.holds.fits.few in
       let number = a.ordered.few in
       record {
@@ -52,12 +52,12 @@ module _ (core : List Tagged) (r : Regs) (a : RunningContext core r) where
         disp_fits : (view a g).disp < 2 ^ 16
         disp_fits = ⊎_elim
             (λ (own : 1 < g).
-            (let b = seat core r a g n.standing n.among own in
+            (let b = seat core r (live_of a) g n.standing n.among own in
             let small = a.holds.memory.slots.laid.room in
-            let low = seat_low core r a g n own in
+            let low = seat_low core r (live_of a) g n own in
             let e : (view a g).disp ≡ height b.below = ap (λ (z : StackPlace). z.disp) b.spot in
             omega (arith, e, low, small)))
-            (λ (low : g ≤ 1). by_base (view a g) (view_low core r a g low))
+            (λ (low : g ≤ 1). by_base (view a g) (view_low core r (live_of a) g low))
             (cases_lt 1 g)
 
   -- an IRW is that of a couple, and another reference an SIRW
@@ -106,7 +106,7 @@ module _ (core : List Tagged) (r : Regs) (a : RunningContext core r) where
     pub turn_err : (n : ℕ) (v : Word) (fault : Fault) → 0 < n → FindsCell a q (Err fault) (place_of (here a.member a.task q) v) → chase_on (here a.member a.task q) n (Leads v) ≡ Err fault
     turn_err zero v fault some h = absurd (omega (arith, some))
     turn_err (suc n) v fault some h = ap (chase_on (here a.member a.task q) n) (by_place (place_of (here a.member a.task q) v) h) where
-      by_cell : (f offset : ℕ) (y : Answer Word) → CellMeets a q f offset (Err fault) y → link_in f offset y ≡ Stops (Err fault)
+      by_cell : (f offset : ℕ) (y : Answer Word) → CellMeets a q f offset (Err fault) y → link_in (here a.member a.task q) f offset y ≡ Stops (Err fault)
       by_cell f offset (Err y) h = ap (λ z. Stops (Err z)) (sym h)
       by_cell f offset (Ok w) h = absurd h
 
@@ -120,11 +120,11 @@ module _ (core : List Tagged) (r : Regs) (a : RunningContext core r) where
       pub offset : ℕ
       pub word : Word
       pub cell : IsCellAt a q at frame offset word
-      pub is : link (here a.member a.task q) v ≡ link_at frame offset word
+      pub is : link (here a.member a.task q) v ≡ link_at (here a.member a.task q) frame offset word
 
     pub turn : (at : ℕ) (v : Word) → FindsCell a q (Ok at) (place_of (here a.member a.task q) v) → Turn at v
     turn at v h = by_place (place_of (here a.member a.task q) v) refl h where
-      by_cell : (f offset : ℕ) (y : Answer Word) → link (here a.member a.task q) v ≡ link_in f offset y → CellMeets a q f offset (Ok at) y → Turn at v
+      by_cell : (f offset : ℕ) (y : Answer Word) → link (here a.member a.task q) v ≡ link_in (here a.member a.task q) f offset y → CellMeets a q f offset (Ok at) y → Turn at v
       by_cell f offset (Err y) e h = absurd h
       by_cell f offset (Ok w) e h = record { frame = f; offset = offset; word = w; cell = h; is = e }
 
@@ -133,23 +133,23 @@ module _ (core : List Tagged) (r : Regs) (a : RunningContext core r) where
       by_place (Ok p) e h = by_cell p.0 p.1 (cell (here a.member a.task q) p.0 p.1) (ap (link_from (here a.member a.task q)) e) h
 
     -- an end or a fault ends the chain
-    pub turn_end : (n at : ℕ) (v : Word) (t : Turn at v) (found : End) → 0 < n → LinkMeets a q (Ok (Some found)) (link_at t.frame t.offset t.word) → EndMeets a q (Ok found) (chase_on (here a.member a.task q) n (Leads v))
+    pub turn_end : (n at : ℕ) (v : Word) (t : Turn at v) (found : End) → 0 < n → LinkMeets a q (Ok (Some found)) (link_at (here a.member a.task q) t.frame t.offset t.word) → EndMeets a q (Ok found) (chase_on (here a.member a.task q) n (Leads v))
     turn_end zero at v t found some h = absurd (omega (arith, some))
-    turn_end (suc n) at v t found some h = by_link (link_at t.frame t.offset t.word) t.is h where
+    turn_end (suc n) at v t found some h = by_link (link_at (here a.member a.task q) t.frame t.offset t.word) t.is h where
       by_link : (l : Link) → link (here a.member a.task q) v ≡ l → LinkMeets a q (Ok (Some found)) l → EndMeets a q (Ok found) (chase_on (here a.member a.task q) n (link (here a.member a.task q) v))
       by_link (Stops (Ok end)) e h = let P : Link → Type 0 = λ l. EndMeets a q (Ok found) (chase_on (here a.member a.task q) n l) in subst P (sym e) h
       by_link (Stops (Err y)) e h = absurd h
       by_link (Leads w) e h = absurd h
 
-    pub turn_fault : (n at : ℕ) (v : Word) (t : Turn at v) (fault : Fault) → 0 < n → LinkMeets a q (Err fault) (link_at t.frame t.offset t.word) → EndMeets a q (Err fault) (chase_on (here a.member a.task q) n (Leads v))
+    pub turn_fault : (n at : ℕ) (v : Word) (t : Turn at v) (fault : Fault) → 0 < n → LinkMeets a q (Err fault) (link_at (here a.member a.task q) t.frame t.offset t.word) → EndMeets a q (Err fault) (chase_on (here a.member a.task q) n (Leads v))
     turn_fault zero at v t fault some h = absurd (omega (arith, some))
-    turn_fault (suc n) at v t fault some h = by_link (link_at t.frame t.offset t.word) t.is h where
+    turn_fault (suc n) at v t fault some h = by_link (link_at (here a.member a.task q) t.frame t.offset t.word) t.is h where
       by_link : (l : Link) → link (here a.member a.task q) v ≡ l → LinkMeets a q (Err fault) l → EndMeets a q (Err fault) (chase_on (here a.member a.task q) n (link (here a.member a.task q) v))
       by_link (Stops (Ok end)) e h = absurd h
       by_link (Stops (Err y)) e h = let P : Link → Type 0 = λ l. EndMeets a q (Err fault) (chase_on (here a.member a.task q) n l) in subst P (sym e) h
       by_link (Leads w) e h = absurd h
 
-    leads : (f offset : ℕ) (w : Word) → LinkMeets a q (Ok None) (link_at f offset w) → IsReference w × (link_at f offset w ≡ Leads w)
+    leads : (f offset : ℕ) (w : Word) → LinkMeets a q (Ok None) (link_at (here a.member a.task q) f offset w) → IsReference w × (link_at (here a.member a.task q) f offset w ≡ Leads w)
     leads f offset (Name c) h = (tt, refl)
     leads f offset (Ref g d) h = (tt, refl)
     leads f offset (Operand b) h = absurd h
@@ -169,7 +169,7 @@ module _ (core : List Tagged) (r : Regs) (a : RunningContext core r) where
       pub reference : IsReference word
       pub same : chase_on (here a.member a.task q) 1024 (Leads first) ≡ chase_on (here a.member a.task q) links (Leads word)
 
-    pub turn_on : (n at : ℕ) (first : Word) (w v : Tagged) (l : Rest n first w) (t : Turn at l.word) → 0 < n → LinkMeets a q (Ok None) (link_at t.frame t.offset t.word) → slice_get core at ≡ Some v → Rest (n - 1) first v
+    pub turn_on : (n at : ℕ) (first : Word) (w v : Tagged) (l : Rest n first w) (t : Turn at l.word) → 0 < n → LinkMeets a q (Ok None) (link_at (here a.member a.task q) t.frame t.offset t.word) → slice_get core at ≡ Some v → Rest (n - 1) first v
     turn_on zero at first w v l t some h there = absurd (omega (arith, some))
     turn_on (suc n) at first w v l t some h there =
         let k = leads t.frame t.offset t.word h in

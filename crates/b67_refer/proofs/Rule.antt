@@ -32,8 +32,8 @@ use Rattle.b67_layout.specs.Layout.{shape, head}
 use Rattle.b67_layout.specs.Session.{frame_address}
 use Rattle.b67_layout.specs.Meets.{here}
 use Rattle.b67_layout.proofs.Frames.{height-is}
-use Rattle.b67_refer.specs.RunningContext.{RunningContext}
-use Rattle.b67_refer.specs.Cells.{StandsFor, IsCellAt, CellMeets}
+use Rattle.b67_refer.specs.RunningContext.{LiveContext}
+use Rattle.b67_refer.specs.LiveCells.{StandsFor, IsCellAt, CellMeets}
 use Rattle.b67_refer.proofs.Slots.{base, acts}
 use Rattle.b67_refer.proofs.Seats.{Seat}
 use Rattle.b67_refer.proofs.Marks.{slot_address, frame_seat}
@@ -113,7 +113,7 @@ same_shape P arrays reach owner plan j job spot spot' (Proc s l p) o same = refl
 same_shape P arrays reach owner plan j job spot spot' (Intrinsic n) o same = refl
 same_shape P arrays reach owner plan j job spot spot' (Words.Segment n) o same = refl
 
-module _ (core : List Tagged) (r : Regs) (a : RunningContext core r) where
+module _ (core : List Tagged) (r : Regs) (a : LiveContext core r) where
   -- a word in order stands for itself
   pub word_stands : (at owner : ℕ) (v : Tagged) (w : Word) → Fits a.storage.held (shape a.plan a.member.constants.number a.member.progress.job (spots a.plan a.member.constants.number a.member.progress.job a.task) w) at v
       → WordInOrder (IsSegment a.member.constants) a.member.progress.job.arrays (reach_of a.member.progress.job a.task) owner w → StandsFor a at owner v w
@@ -175,7 +175,7 @@ module _ (core : List Tagged) (r : Regs) (a : RunningContext core r) where
       pub no_mark : word.tag ≡ 3 → ⊥
 
     wide : Wider (map known_of (b.frame ∷ b.below) ++ b.known) (reach_of a.member.progress.job a.task) a.member.progress.job.arrays a.member.progress.job.arrays
-    wide = record { entered = λ n z i k. b.among (n, z) k; kept = λ x k at. record { item = x; live = k; named = refl; owned = refl; long = omega arith } }
+    wide = record { entered = λ n z i k. b.among (n, z) k; kept = λ x k at. record { item = x; live = k; named = refl; owned = refl } }
 
     here_known : Has (known_numbers (reach_of a.member.progress.job a.task)) b.frame.identity
     here_known = has_map (λ (k : Known). k.0) (reach_of a.member.progress.job a.task) (known_of b.frame) (b.among (known_of b.frame) (inl refl))

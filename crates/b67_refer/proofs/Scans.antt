@@ -16,7 +16,7 @@ use Rattle.b67_model.specs.InOrder.{Known}
 use Rattle.b67_stack.specs.Stacks.{StackPlace}
 use Rattle.b67_layout.specs.Meets.{here}
 use Rattle.b67_refer.specs.declared.activation.Activation.{Activation}
-use Rattle.b67_refer.specs.RunningContext.{RunningContext}
+use Rattle.b67_refer.specs.RunningContext.{RunningContext, live_of}
 use Rattle.b67_refer.specs.Cells.{view, frame_at_core}
 use Rattle.b67_refer.specs.Ends.{IsProcAt}
 use Rattle.b67_refer.proofs.Seats.{seat}
@@ -33,8 +33,8 @@ module _ (core : List Tagged) (r : Regs) (a : RunningContext core r) (q : Place)
     pub high : steps ≤ p.offset
     pub is : at ≡ frame_at_core a f + steps
 
-  bounds : (2 ≤ p.offset) × (p.offset < 2 + length (seat core r a f p.cell.names.standing p.cell.names.among p.own).frame.cells)
-  bounds = inside core r a q f p.cell.names.standing (seat core r a f p.cell.names.standing p.cell.names.among p.own) p.cell.names.entered p.own p.offset (Proc segment level place) p.cell.found
+  bounds : (2 ≤ p.offset) × (p.offset < 2 + length (seat core r (live_of a) f p.cell.names.standing p.cell.names.among p.own).frame.cells)
+  bounds = inside core r (live_of a) q f p.cell.names.standing (seat core r (live_of a) f p.cell.names.standing p.cell.names.among p.own) p.cell.names.entered p.own p.offset (Proc segment level place) p.cell.found
 
   pub over_start : Over cell
   over_start = record { steps = p.offset; low = omega (arith, bounds.0); high = omega arith; is = p.cell.address }
@@ -46,12 +46,12 @@ module _ (core : List Tagged) (r : Regs) (a : RunningContext core r) (q : Place)
   pub over_ends : (at : ℕ) (w : Tagged) → Over at → slice_get core at ≡ Some w → w.tag ≡ 3 → at ≡ frame_at_core a f + 1
   over_ends at w o there tag = ⊎_elim
       (λ (one : o.steps < 2). (let i = o.is in let l = o.low in omega (arith, one, i, l)))
-      (λ (more : 2 ≤ o.steps). absurd (no_mark_under core r a q f p.cell.names.standing (seat core r a f p.cell.names.standing p.cell.names.among p.own) p.cell.names.entered p.own p.offset o.steps (Proc segment level place) w p.cell.found more o.high (ap (slice_get core) (sym o.is) ∙ there) tag))
+      (λ (more : 2 ≤ o.steps). absurd (no_mark_under core r (live_of a) q f p.cell.names.standing (seat core r (live_of a) f p.cell.names.standing p.cell.names.among p.own) p.cell.names.entered p.own p.offset o.steps (Proc segment level place) w p.cell.found more o.high (ap (slice_get core) (sym o.is) ∙ there) tag))
       (cases_lt o.steps 2)
 
   pub over_next : (at : ℕ) (w : Tagged) → Over at → slice_get core at ≡ Some w → (w.tag ≡ 3 → ⊥) → Over (at - 1) × (1 ≤ at)
   over_next at w o there tag =
-      let t = return_tag core r a q f p.cell.names.standing (seat core r a f p.cell.names.standing p.cell.names.among p.own) p.cell.names.entered p.own in
+      let t = return_tag core r (live_of a) q f p.cell.names.standing (seat core r (live_of a) f p.cell.names.standing p.cell.names.among p.own) p.cell.names.entered p.own in
       let i = o.is in
       let h = o.high in
       let l = o.low in
@@ -63,15 +63,15 @@ module _ (core : List Tagged) (r : Regs) (a : RunningContext core r) (q : Place)
 
   -- the spot of the mark, and its level
   pub mark_low : (r.stacks ≤ frame_at_core a f) × (frame_at_core a f < 2 ^ 20)
-  mark_low = let h = high_address core r a f p.cell.names p.own in let k = stacks_is core r a in (omega (arith, h.0, k), h.1)
+  mark_low = let h = high_address core r (live_of a) f p.cell.names p.own in let k = stacks_is core r (live_of a) in (omega (arith, h.0, k), h.1)
 
   pub spot_is : (size : ℕ) → size ≡ r.stack_size → ((frame_at_core a f - r.stacks) / size ≡ (view a f).stack) × ((frame_at_core a f - r.stacks) % size ≡ (view a f).disp) × (0 < size) × ((view a f).stack < 120) × ((view a f).disp < 2 ^ 14)
   spot_is size e =
-      let b = seat core r a f p.cell.names.standing p.cell.names.among p.own in
-      let at = seat_address core r a q f p.cell.names.standing b p.cell.names.entered p.own in
-      let low = seat_low core r a f p.cell.names p.own in
-      let k = stacks_is core r a in
-      let z : size ≡ a.plan.size = e ∙ size_is core r a in
+      let b = seat core r (live_of a) f p.cell.names.standing p.cell.names.among p.own in
+      let at = seat_address core r (live_of a) q f p.cell.names.standing b p.cell.names.entered p.own in
+      let low = seat_low core r (live_of a) f p.cell.names p.own in
+      let k = stacks_is core r (live_of a) in
+      let z : size ≡ a.plan.size = e ∙ size_is core r (live_of a) in
       let d : frame_at_core a f - r.stacks ≡ b.slot * a.plan.size + height b.below = omega (arith, at, k) in
       let few = a.holds.fits.few in
       let small = a.holds.memory.slots.laid.room in
@@ -88,9 +88,9 @@ module _ (core : List Tagged) (r : Regs) (a : RunningContext core r) (q : Place)
   mark_there =
       let n = p.cell.names in
       let own = p.own in
-      let low = high_level core r a f n.standing n.among n.entered own in
-      let m = mark core r a f n.standing n.among n.entered (omega (arith, low)) in
-      (m.mark, m.fits, m.there, m.level ∙ ap (λ (k : Known). level_of_standing k.1) (sym (frame_known core r a q f n.standing n.among)))
+      let low = high_level core r (live_of a) f n.standing n.among n.entered own in
+      let m = mark core r (live_of a) f n.standing n.among n.entered (omega (arith, low)) in
+      (m.mark, m.fits, m.there, m.level ∙ ap (λ (k : Known). level_of_standing k.1) (sym (frame_known core r (live_of a) q f n.standing n.among)))
 
   -- the same for the address that was found
   pub found_spot : (m size : ℕ) → m ≡ frame_at_core a f → size ≡ r.stack_size → ((m - r.stacks) / size ≡ (view a f).stack) × ((m - r.stacks) % size ≡ (view a f).disp) × (0 < size) × ((view a f).stack < 120) × ((view a f).disp < 2 ^ 14)

@@ -6,7 +6,8 @@ use Rattle.b67_lemmas.specs.Lists.{Has}
 use Rattle.b67_lemmas.proofs.Members.{all_in, keyed-has}
 use Rattle.b67_model.specs.State.{Task, SessionJob}
 use Rattle.b67_model.specs.Schedule.{Session}
-use Rattle.b67_model.specs.InOrder.{JobInOrder, IsSegment, NumberedFrom, IsInOrderButPlaces}
+use Rattle.b67_model.specs.InOrder.{IsSegment, NumberedFrom}
+use Rattle.b67_layout.specs.Orders.{JobInOrderButCounts, IsInOrderButCounts}
 use Rattle.b67_stack.specs.MachineView.{PagedObject}
 use Rattle.b67_stack.specs.Represents.{Storage}
 use Rattle.b67_layout.specs.Placement.{Placement}
@@ -18,15 +19,15 @@ numbered n [] m d h = absurd h
 numbered n (y ∷ more) m d (inl e) = let P : SessionJob → Type 0 = λ z. (n ≤ z.constants.number) × (z.constants.number < n + length (y ∷ more)) in subst P e (omega (arith, d.0), omega (arith, d.0))
 numbered n (y ∷ more) m d (inr h) = let b = numbered (n + 1) more m d.1 h in (omega (arith, b.0), omega (arith, b.1))
 
-pub member_in_order : (s : Session) (m : SessionJob) → IsInOrderButPlaces s → Has s.jobs m → MemberInOrder m
+pub member_in_order : (s : Session) (m : SessionJob) → IsInOrderButCounts s → Has s.jobs m → MemberInOrder m
 member_in_order s m o h =
-    let j = all_in (λ (y : SessionJob). JobInOrder (IsSegment y.constants) y.constants y.progress) s.jobs m o.jobs h in
+    let j = all_in (λ (y : SessionJob). JobInOrderButCounts (IsSegment y.constants) y.constants y.progress) s.jobs m o.jobs h in
     let n = numbered 1 s.jobs m o.numbered h in
     record { from_one = n.0; few = omega (arith, n.1, o.few); constants = j.unchanging; tasks = j.tasks }
 
 module _ (left : List PagedObject) (x : Storage) (core : List Tagged) (r : Regs) (marks : List ℕ) (plan : Placement) (s : Session) (m : SessionJob) (t : Task) where
   -- a session in order whose display isn't looked at
-  abbrev pub scene : IsInOrderButPlaces s → SessionHoldsBut left x core r marks plan s → IsRunning plan s.jobs m t → RunningContext core r
+  abbrev pub scene : IsInOrderButCounts s → SessionHoldsBut left x core r marks plan s → IsRunning plan s.jobs m t → RunningContext core r
   scene o h runs = record {
     left = left;
     storage = x;

@@ -12,8 +12,8 @@ use Rattle.b67_stack.specs.Stacks.{StackPlace}
 use Rattle.b67_law_order.proofs.Looks.{IsFrame, from_has}
 use Rattle.b67_law_order.proofs.Replaced.{numbers_append}
 use Rattle.b67_layout.specs.Placement.{slot_of, spot_in, outer_spots, spots}
-use Rattle.b67_refer.specs.RunningContext.{RunningContext}
-use Rattle.b67_refer.specs.Cells.{IsTop}
+use Rattle.b67_refer.specs.RunningContext.{LiveContext}
+use Rattle.b67_refer.specs.LiveCells.{IsTop}
 use Rattle.b67_refer.proofs.Slots.{Part, drop, part_from, whole}
 
 -- what other frames' spots look like: frames whose identities are above one don't hide the dictionary and the MCP
@@ -23,7 +23,7 @@ spot_low k outer (f ∷ fs) id low high =
     let ne : (f.identity == id) ≡ false = ne_eqb f.identity id (λ e. omega (arith, e, low, high f (inl refl))) in
     rw ne (spot_low k outer fs id low (λ g h. high g (inr h)))
 
-module _ (core : List Tagged) (r : Regs) (a : RunningContext core r) where
+module _ (core : List Tagged) (r : Regs) (a : LiveContext core r) where
   -- a frame of a reach, seen from the frame whose spots are view
   pub record Seat (view : ℕ → StackPlace) (reach : List Known) (id : ℕ) (s : Standing) : Type 0 where
     pub frame : Frame
@@ -172,7 +172,7 @@ module _ (core : List Tagged) (r : Regs) (a : RunningContext core r) where
       subst H (sym birth.found) (subst G (sym slot_is) seat)
 
   pub has_task : Has a.member.progress.job.tasks a.task
-  has_task = (keyed_has (λ (v : Task). v.number) a.task.number a.member.progress.job.tasks a.task a.running.task).0
+  has_task = (keyed_has (λ (v : Task). v.number) a.task.number a.member.progress.job.tasks a.task a.live).0
 
   -- what the running task may name
   abbrev pub view : ℕ → StackPlace
@@ -185,7 +185,7 @@ module _ (core : List Tagged) (r : Regs) (a : RunningContext core r) where
   pub seat : (id : ℕ) (s : Standing) → Has (reach_of a.member.progress.job a.task) (id, s) → 1 < id → Seat (spots a.plan a.member.constants.number a.member.progress.job a.task) (reach_of a.member.progress.job a.task) id s
   seat id s h high =
       let job = a.member.progress.job in
-      let w = whole core r a a.task a.running.task in
+      let w = whole core r a a.task a.live in
       let o = order_of a.task has_task in
       find_both (slot_of a.plan a.member.constants.number a.task.number) (outer_spots a.plan a.member.constants.number job a.task.critical a.task.parents) (outer_of job a.task) w.top job.next_frame a.task.frames w.part w.top_is o.frames
       (λ f m. record { task = a.task; live = has_task; among = m }) o.falls id s (λ m. find_outer a.task has_task a.task.parents refl id s high m) h

@@ -23,8 +23,8 @@ use Rattle.b67_layout.specs.Layout.{shape, head, activations, stack_of_task, slo
 use Rattle.b67_layout.specs.Session.{RowsFit, with_objects}
 use Rattle.b67_layout.proofs.Rows.{finds, task_row}
 use Rattle.b67_layout.proofs.Frames.{height-is}
-use Rattle.b67_refer.specs.RunningContext.{RunningContext}
-use Rattle.b67_refer.specs.Cells.{IsTop}
+use Rattle.b67_refer.specs.RunningContext.{LiveContext}
+use Rattle.b67_refer.specs.LiveCells.{IsTop}
 use Rattle.b67_lemmas.proofs.Members.{keyed-has}
 
 -- the slot of a live task, by its number
@@ -50,7 +50,7 @@ pub head_lies : (R : Locations) (core : List Tagged) (from k : ℕ) (h : Head) (
 head_lies R core from k Marked below l = (l.1, ap (λ n. slice_get core (from + n)) (sym (words-length k below)) ∙ l.0.1 ∙ ap Some l.0.2.0)
 head_lies R core from k (Entered level environment back) below l = (l.1.1, ap (λ n. slice_get core (from + n)) (sym (words-length k below)) ∙ l.1.0.1 ∙ ap Some l.1.0.2.0)
 
-module _ (core : List Tagged) (r : Regs) (a : RunningContext core r) where
+module _ (core : List Tagged) (r : Regs) (a : LiveContext core r) where
   -- the address of a slot
   abbrev pub base : ℕ → ℕ
   base k = a.plan.stacks + k * a.plan.size
@@ -136,12 +136,12 @@ module _ (core : List Tagged) (r : Regs) (a : RunningContext core r) where
       }
 
   -- the registers of the running task
-  pub registers : RepresentsRunning r (with_objects a.left (machine_view a.plan a.session.jobs)) (slot_of a.plan a.member.constants.number a.task.number)
-      (stack_of_task a.plan a.member.constants.number a.member.progress.job (slot_of a.plan a.member.constants.number a.task.number) a.task)
+  pub registers : RepresentsRunning r (with_objects a.left (machine_view a.plan a.session.jobs)) (slot_of a.plan a.member.constants.number a.runner.number)
+      (stack_of_task a.plan a.member.constants.number a.member.progress.job (slot_of a.plan a.member.constants.number a.runner.number) a.runner)
   registers =
-      let k = slot_of a.plan a.member.constants.number a.task.number in
-      let stack = stack_of_task a.plan a.member.constants.number a.member.progress.job k a.task in
-      let s = live_slot a.plan a.session.jobs a.member a.task a.holds.fits.rows a.running.member a.running.task in
+      let k = slot_of a.plan a.member.constants.number a.runner.number in
+      let stack = stack_of_task a.plan a.member.constants.number a.member.progress.job k a.runner in
+      let s = live_slot a.plan a.session.jobs a.member a.runner a.holds.fits.rows a.running.member a.running.task in
       let p : MachineView = with_objects a.left (machine_view a.plan a.session.jobs) in
       let S : Slot → Type 0 = λ y. RepresentsSlot core r p k y in
       let runs : (k == a.plan.running) ≡ true = eq-eqb k a.plan.running (sym a.running.slot) in

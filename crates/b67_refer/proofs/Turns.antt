@@ -17,7 +17,7 @@ use Rattle.b67_layout.specs.Placement.{slot_of, spot_in, outer_spots, spots, add
 use Rattle.b67_layout.specs.Layout.{head}
 use Rattle.b67_layout.specs.Session.{frame_address}
 use Rattle.b67_layout.proofs.Frames.{height-is, size-is}
-use Rattle.b67_refer.specs.RunningContext.{RunningContext}
+use Rattle.b67_refer.specs.RunningContext.{RunningContext, live_of}
 use Rattle.b67_refer.specs.Cells.{IsTop}
 use Rattle.b67_refer.proofs.Slots.{Part, whole, drop, base, acts, mark_in, part_mark, registers}
 use Rattle.b67_refer.proofs.Seats.{has_task, order_of}
@@ -49,9 +49,9 @@ module _ (core : List Tagged) (r : Regs) (a : RunningContext core r) where
     pub bound : ℕ
     pub frame : Frame
     pub below : List Frame
-    pub part : Part core r a (slot_of a.plan a.member.constants.number a.task.number) (outer_spots a.plan a.member.constants.number a.member.progress.job a.task.critical a.task.parents) top (frame ∷ below)
+    pub part : Part core r (live_of a) (slot_of a.plan a.member.constants.number a.task.number) (outer_spots a.plan a.member.constants.number a.member.progress.job a.task.critical a.task.parents) top (frame ∷ below)
     pub top_is : IsTop a (slot_of a.plan a.member.constants.number a.task.number) top
-    pub at_is : at ≡ base core r a (slot_of a.plan a.member.constants.number a.task.number) + height below
+    pub at_is : at ≡ base core r (live_of a) (slot_of a.plan a.member.constants.number a.task.number) + height below
     pub same : running (frame ∷ below) ≡ running a.task.frames
     pub sees : (g : ℕ) → Has (known_numbers (map known_of (frame ∷ below) ++ outer_of a.member.progress.job a.task)) g
         → spots a.plan a.member.constants.number a.member.progress.job a.task g ≡ spot_in (slot_of a.plan a.member.constants.number a.task.number) (outer_spots a.plan a.member.constants.number a.member.progress.job a.task.critical a.task.parents) (frame ∷ below) g
@@ -61,15 +61,15 @@ module _ (core : List Tagged) (r : Regs) (a : RunningContext core r) where
   pub start : On r.f
   start = by_frames a.task.frames refl where
     o : TaskInOrder (IsSegment a.member.constants) a.member.constants a.member.progress.job a.task
-    o = order_of core r a a.task (has_task core r a)
+    o = order_of core r (live_of a) a.task (has_task core r (live_of a))
 
     by_frames : (fs : List Frame) → a.task.frames ≡ fs → On r.f
     by_frames [] e = absurd (o.some e)
     by_frames (f ∷ below) e =
-        let w = whole core r a a.task a.running.task in
-        let g = registers core r a in
-        let P : List Frame → Type 0 = λ fs. Part core r a (slot_of a.plan a.member.constants.number a.task.number) (outer_spots a.plan a.member.constants.number a.member.progress.job a.task.critical a.task.parents) w.top fs in
-        let m : mark_place (acts core r a slot outer a.task.frames) ≡ height below = ap (λ (fs : List Frame). mark_place (acts core r a slot outer fs)) e ∙ (let x = height-is a.plan a.member.constants.number a.member.progress.job slot outer below in omega (arith, x)) in
+        let w = whole core r (live_of a) a.task a.running.task in
+        let g = registers core r (live_of a) in
+        let P : List Frame → Type 0 = λ fs. Part core r (live_of a) (slot_of a.plan a.member.constants.number a.task.number) (outer_spots a.plan a.member.constants.number a.member.progress.job a.task.critical a.task.parents) w.top fs in
+        let m : mark_place (acts core r (live_of a) slot outer a.task.frames) ≡ height below = ap (λ (fs : List Frame). mark_place (acts core r (live_of a) slot outer fs)) e ∙ (let x = height-is a.plan a.member.constants.number a.member.progress.job slot outer below in omega (arith, x)) in
         let F : List Frame → Type 0 = λ fs. Falls a.member.progress.job.next_frame (known_numbers (map known_of fs ++ outer_of a.member.progress.job a.task)) in
         record {
           top = w.top;
@@ -78,44 +78,44 @@ module _ (core : List Tagged) (r : Regs) (a : RunningContext core r) where
           below = below;
           part = subst P e w.part;
           top_is = w.top_is;
-          at_is = g.mark ∙ ap (λ (n : ℕ). base core r a slot + n) m;
+          at_is = g.mark ∙ ap (λ (n : ℕ). base core r (live_of a) slot + n) m;
           same = ap running (sym e);
           sees = λ i h. ap (λ (fs : List Frame). spot_in slot outer fs i) e;
           falls = subst F e o.falls;
           returns = subst (StackInOrder (IsSegment a.member.constants)) e o.returns;
         }
 
-  read : (at : ℕ) (m : Mscw) (on : On at) → Reads core r a at m → m ≡ mark_in core r a slot outer on.frame on.below
-  read at m on d = let g = part_mark core r a slot outer on.top on.frame on.below on.part in d _ g.0 (ap (slice_get core) on.at_is ∙ g.1)
+  read : (at : ℕ) (m : Mscw) (on : On at) → Reads core r a at m → m ≡ mark_in core r (live_of a) slot outer on.frame on.below
+  read at m on d = let g = part_mark core r (live_of a) slot outer on.top on.frame on.below on.part in d _ g.0 (ap (slice_get core) on.at_is ∙ g.1)
 
   pub has_mark : (at : ℕ) → On at → (m : Mscw) × IsMscw m × (slice_get core at ≡ Some (mscw_word m))
-  has_mark at on = let g = part_mark core r a slot outer on.top on.frame on.below on.part in (mark_in core r a slot outer on.frame on.below, g.0, ap (slice_get core) on.at_is ∙ g.1)
+  has_mark at on = let g = part_mark core r (live_of a) slot outer on.top on.frame on.below on.part in (mark_in core r (live_of a) slot outer on.frame on.below, g.0, ap (slice_get core) on.at_is ∙ g.1)
 
   pub ends : (at : ℕ) (m : Mscw) → On at → Reads core r a at m → m.entered ≡ true → at ≡ frame_address a.plan a.member a.task (running a.task.frames).identity
   ends at m on d e =
       let is = read at m on d in
-      let run : running (on.frame ∷ on.below) ≡ on.frame = entered_only slot (spot_in slot outer on.below) on.frame.standing (acts core r a slot outer on.below) on.frame (running on.below) (ap (λ (k : Mscw). k.entered) (sym is) ∙ e) in
+      let run : running (on.frame ∷ on.below) ≡ on.frame = entered_only slot (spot_in slot outer on.below) on.frame.standing (acts core r (live_of a) slot outer on.below) on.frame (running on.below) (ap (λ (k : Mscw). k.entered) (sym is) ∙ e) in
       let spot : spots a.plan a.member.constants.number a.member.progress.job a.task on.frame.identity ≡ record { stack = slot; disp = height on.below } = on.sees on.frame.identity (inl refl) ∙ (let t : (on.frame.identity == on.frame.identity) ≡ true = eq-eqb on.frame.identity on.frame.identity refl in rw t refl) in
-      on.at_is ∙ sym (slot_address core r a slot (height on.below) on.top_is.used) ∙ ap (address_of a.plan) (sym spot)
+      on.at_is ∙ sym (slot_address core r (live_of a) slot (height on.below) on.top_is.used) ∙ ap (address_of a.plan) (sym spot)
       ∙ ap (λ (f : Frame). frame_address a.plan a.member a.task f.identity) (sym run ∙ on.same)
 
   pub goes : (at : ℕ) (m : Mscw) → On at → Reads core r a at m → m.entered ≡ false → (1 ≤ m.back) × (m.back ≤ at) × On (at - m.back)
   goes at m on d e = by_below on.below refl where
-    is : m ≡ mark_in core r a slot outer on.frame on.below
+    is : m ≡ mark_in core r (live_of a) slot outer on.frame on.below
     is = read at m on d
 
     marked : on.frame.standing ≡ State.Marked
-    marked = marked_only slot (spot_in slot outer on.below) on.frame.standing (acts core r a slot outer on.below) (ap (λ (k : Mscw). k.entered) (sym is) ∙ e)
+    marked = marked_only slot (spot_in slot outer on.below) on.frame.standing (acts core r (live_of a) slot outer on.below) (ap (λ (k : Mscw). k.entered) (sym is) ∙ e)
 
-    back : m.back ≡ top_size (acts core r a slot outer on.below)
-    back = ap (λ (k : Mscw). k.back) is ∙ back_of slot (spot_in slot outer on.below) on.frame.standing (acts core r a slot outer on.below)
+    back : m.back ≡ top_size (acts core r (live_of a) slot outer on.below)
+    back = ap (λ (k : Mscw). k.back) is ∙ back_of slot (spot_in slot outer on.below) on.frame.standing (acts core r (live_of a) slot outer on.below)
 
     by_below : (fs : List Frame) → on.below ≡ fs → (1 ≤ m.back) × (m.back ≤ at) × On (at - m.back)
     by_below [] z = absurd (let n : ReturnsInOrder (IsSegment a.member.constants) State.Marked on.below = subst (λ (s : Standing). ReturnsInOrder (IsSegment a.member.constants) s on.below) marked on.returns.0 in n z)
     by_below (g ∷ fs) z =
-        let P : List Frame → Type 0 = λ fs. Part core r a (slot_of a.plan a.member.constants.number a.task.number) (outer_spots a.plan a.member.constants.number a.member.progress.job a.task.critical a.task.parents) on.top fs in
+        let P : List Frame → Type 0 = λ fs. Part core r (live_of a) (slot_of a.plan a.member.constants.number a.task.number) (outer_spots a.plan a.member.constants.number a.member.progress.job a.task.critical a.task.parents) on.top fs in
         let words = size-is a.plan a.member.constants.number a.member.progress.job slot outer g fs in
-        let size : m.back ≡ State.words_of g = back ∙ ap (λ (gs : List Frame). top_size (acts core r a slot outer gs)) z ∙ words in
+        let size : m.back ≡ State.words_of g = back ∙ ap (λ (gs : List Frame). top_size (acts core r (live_of a) slot outer gs)) z ∙ words in
         let some : 1 ≤ State.words_of g = one_word g.standing in
         let high : height on.below ≡ height fs + State.words_of g = ap height z in
         let at_is = on.at_is in
@@ -127,7 +127,7 @@ module _ (core : List Tagged) (r : Regs) (a : RunningContext core r) where
             bound = on.frame.identity;
             frame = g;
             below = fs;
-            part = subst P z (drop core r a slot outer on.top on.frame on.below on.part);
+            part = subst P z (drop core r (live_of a) slot outer on.top on.frame on.below on.part);
             top_is = on.top_is;
             at_is = omega (arith, size, high, at_is);
             same = ap running (sym z) ∙ (let x : running_from on.frame.standing on.frame (running on.below) ≡ running on.below = ap (λ (s : Standing). running_from s on.frame (running on.below)) marked in sym x) ∙ on.same;

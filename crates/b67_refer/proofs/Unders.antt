@@ -23,8 +23,8 @@ use Rattle.b67_layout.specs.Layout.{head}
 use Rattle.b67_layout.specs.Session.{frame_address}
 use Rattle.b67_layout.specs.Meets.{here}
 use Rattle.b67_layout.proofs.Frames.{height-is}
-use Rattle.b67_refer.specs.RunningContext.{RunningContext, IsShown}
-use Rattle.b67_refer.specs.Cells.{IsUnder}
+use Rattle.b67_refer.specs.RunningContext.{RunningContext, LiveContext, IsShown}
+use Rattle.b67_refer.specs.LiveCells.{IsUnder}
 use Rattle.b67_refer.proofs.Bases.{stacks_is, size_is, slot_inside, dictionary_is, dictionary_low}
 use Rattle.b67_refer.proofs.Seats.{seat}
 use Rattle.b67_refer.proofs.Rule.{seat_address}
@@ -35,7 +35,7 @@ one_word : (spot : ℕ → StackPlace) (s : Standing) → 1 ≤ head_size (head 
 one_word spot State.Marked = omega arith
 one_word spot (State.Entered l environment back) = omega arith
 
-module _ (core : List Tagged) (r : Regs) (a : RunningContext core r) where
+module _ (core : List Tagged) (r : Regs) (a : LiveContext core r) where
   pub slot_found : (from top size : ℕ) (u : IsUnder a from top) → size ≡ r.stack_size → (from - r.stacks) / size ≡ u.slot
   slot_found from top size u e =
       let z : size ≡ a.plan.size = e ∙ size_is core r a in
@@ -116,9 +116,10 @@ module _ (core : List Tagged) (r : Regs) (a : RunningContext core r) where
 
   -- the number of a dictionary's entries
   pub entries_is : r.entries ≡ length a.member.constants.dictionary.cells
-  entries_is = (a.holds.running a.member a.task a.running).entries
+  entries_is = (a.holds.running a.member a.runner a.running).entries
 
-  -- a couple's frame
+-- a couple's frame
+module _ (core : List Tagged) (r : Regs) (a : RunningContext core r) where
   module _ (q : Place) (display : List ℕ) (shown : IsShown a display) (c : Couple) where
     pub named_above : r.level < c.level → named (here a.member a.task q) c ≡ Err InvalidAddress
     named_above high = let e = level_is core r a in let t : nat_le c.level (level core r a) ≡ false = lt-leb c.level (level core r a) (omega (arith, e, stack_words)) in rw t refl

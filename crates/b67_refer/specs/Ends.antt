@@ -1,5 +1,5 @@
 -- Where references end in core.
-use Rattle.std.specs.Prelude.{◌≡◌, ℕ, ◌<◌, List, Option, Some, None, Result, Ok, Err, slice_get}
+use Rattle.std.specs.Prelude.{◌≡◌, ℕ, ◌<◌, List, Option, Some, None, Result, Ok, Err, length, slice_get}
 use Rattle.b67_word.specs.Tagged.{Tagged}
 use Rattle.b67_word.specs.declared.couples.Place.{Place}
 use Rattle.b67_word.specs.declared.faults.Fault.{Fault}
@@ -9,6 +9,7 @@ use Rattle.b67_ctl.specs.Descriptors.{data_word, IsDataDesc}
 use Rattle.b67_model.specs.Answers.{Answer}
 use Rattle.b67_model.specs.Words.{Word, Operand, Name, Ref, Proc}
 use Rattle.b67_model.specs.InOrder.{NamesArray}
+use Rattle.b67_model.specs.Arrays.{array}
 use Rattle.b67_model.specs.Chase as Chase
 use Rattle.b67_model.specs.Chase.{AtCell, AtElement, AtArray, AtProc, AtIntrinsic, Link, Stops, Leads}
 use Rattle.b67_stack.specs.Shapes.{Copied, IsCopy}
@@ -39,6 +40,11 @@ IsReference (Name couple) = Unit {0}
 IsReference (Ref frame offset) = Unit {0}
 IsReference _ = ⊥
 
+-- an end, or a fault, as what a link comes to
+abbrev pub on_link : Result End Fault → Result (Option End) Fault
+on_link (Ok found) = Ok (Some found)
+on_link (Err fault) = Err fault
+
 module _ {core : List Tagged} {r : Regs} (a : RunningContext core r) (q : Place) where
   -- the cell of a procedure
   pub record IsProcAt (at f segment level : ℕ) (place : Place) : Type 0 where
@@ -47,14 +53,19 @@ module _ {core : List Tagged} {r : Regs} (a : RunningContext core r) (q : Place)
     pub cell : IsCellAt a q at f offset (Proc segment level place)
 
   -- an array whose original has this address
-  pub record IsArrayOf (original array index : ℕ) : Type 0 where
-    pub home : original ≡ a.plan.home a.member.constants.number array
-    pub names : NamesArray a.member.progress.job.arrays (reach a) array index
+  pub record IsArrayOf (original n : ℕ) : Type 0 where
+    pub home : original ≡ a.plan.home a.member.constants.number n
+    pub names : NamesArray a.member.progress.job.arrays (reach a) n
+
+  -- an element of it
+  pub record IsElementOf (original n index : ℕ) : Type 0 where
+    pub array_of : IsArrayOf original n
+    pub inside : index < length (array a.member.progress.job n).numbers
 
   abbrev pub EndIs : End → Chase.End → Type 0
   EndIs (end.Cell at) (AtCell f offset bits) = IsCellAt a q at f offset (Operand bits)
-  EndIs (end.Element original index) (AtElement array i) = (index ≡ i) × IsArrayOf original array i
-  EndIs (end.Array original) (AtArray array) = IsArrayOf original array 0
+  EndIs (end.Element original index) (AtElement n i) = (index ≡ i) × IsElementOf original n i
+  EndIs (end.Array original) (AtArray n) = IsArrayOf original n
   EndIs (end.Proc at) (AtProc f segment level place) = IsProcAt at f segment level place
   EndIs (end.Intrinsic n) (AtIntrinsic k) = n ≡ k
   EndIs _ _ = ⊥

@@ -1,3 +1,4 @@
 pub mod RunningContext
+pub mod LiveCells
 pub mod Cells
 pub mod Ends

@@ -1,7 +1,8 @@
 -- The session that core and registers stand for, with its running task, whatever the display shows.
-use Rattle.std.specs.Prelude.{◌≡◌, ℕ, ◌+◌, ◌<◌, ◌≤◌, ◌⊎◌, List}
+use Rattle.std.specs.Prelude.{◌≡◌, ℕ, ◌+◌, ◌<◌, ◌≤◌, ◌⊎◌, List, Some}
 use Rattle.b67_word.specs.Tagged.{Tagged}
 use Rattle.b67_ctl.specs.declared.registers.Regs.{Regs}
+use Rattle.b67_model.specs.Keyed.{keyed}
 use Rattle.b67_model.specs.State.{Task, Job, SessionJob}
 use Rattle.b67_model.specs.Schedule.{Session}
 use Rattle.b67_model.specs.InOrder.{IsSegment, SettingInOrder, TasksInOrder}
@@ -29,6 +30,38 @@ pub record RunningContext (core : List Tagged) (r : Regs) : Type 0 where
   pub holds : SessionHoldsBut left storage core r marks plan session
   pub running : IsRunning plan session.jobs member task
 
+-- the same, seen from any live task of the running task's job
+pub record LiveContext (core : List Tagged) (r : Regs) : Type 0 where
+  pub left : List PagedObject
+  pub storage : Storage
+  pub marks : List ℕ
+  pub plan : Placement
+  pub session : Session
+  pub member : SessionJob
+  pub task : Task
+  pub ordered : MemberInOrder member
+  pub holds : SessionHoldsBut left storage core r marks plan session
+  pub live : keyed (λ (u : Task). u.number) task.number member.progress.job.tasks ≡ Some task
+  pub runner : Task
+  pub running : IsRunning plan session.jobs member runner
+
+-- from the running task itself
+abbrev pub live_of : {core : List Tagged} {r : Regs} → RunningContext core r → LiveContext core r
+live_of a = record {
+  left = a.left;
+  storage = a.storage;
+  marks = a.marks;
+  plan = a.plan;
+  session = a.session;
+  member = a.member;
+  task = a.task;
+  ordered = a.ordered;
+  holds = a.holds;
+  live = a.running.task;
+  runner = a.task;
+  running = a.running;
+}
+
 -- the number of the running task's job, and its state
 abbrev pub number_in : {core : List Tagged} {r : Regs} → RunningContext core r → ℕ
 number_in a = a.member.constants.number
@@ -40,6 +73,9 @@ job_in a = a.member.progress.job
 abbrev pub IsShown : {core : List Tagged} {r : Regs} → RunningContext core r → List ℕ → Type 0
 IsShown a display = ShowsDisplay display a.plan a.member a.task
 
--- a stack that a word of the running task may name: a slot, the job's dictionary or the MCP
-abbrev pub IsStackOf : {core : List Tagged} {r : Regs} → RunningContext core r → ℕ → Type 0
-IsStackOf a k = (k < a.plan.peak) ⊎ ((k ≡ 127 + a.member.constants.number) ⊎ (k ≡ 136))
+-- a stack that a word of a task of this job may name: a slot, the job's dictionary or the MCP
+abbrev pub IsStackIn : Placement → SessionJob → ℕ → Type 0
+IsStackIn plan m k = (k < plan.peak) ⊎ ((k ≡ 127 + m.constants.number) ⊎ (k ≡ 136))
+
+abbrev pub IsStackOf : {core : List Tagged} {r : Regs} → LiveContext core r → ℕ → Type 0
+IsStackOf a k = IsStackIn a.plan a.member k

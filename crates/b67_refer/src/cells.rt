@@ -6,8 +6,9 @@ ghost use Rattle.b67_model.specs.InOrder.{NamesEntered};
 ghost use Rattle.b67_model.specs.Cells.{cell, named};
 ghost use Rattle.b67_stack.specs.Stacks.{StackPlace};
 ghost use Rattle.b67_layout.specs.Meets.{here};
-ghost use Rattle.b67_refer.specs.RunningContext.{RunningContext, IsShown};
-ghost use Rattle.b67_refer.specs.Cells.{reach, view, frame_at_core, IsUnder, CellMeets, FindsCell};
+ghost use Rattle.b67_refer.specs.RunningContext.{RunningContext, LiveContext, IsShown};
+ghost use Rattle.b67_refer.specs.LiveCells as live;
+ghost use Rattle.b67_refer.specs.Cells.{FindsCell};
 
 use crate::environment::address_of;
 use b67_core::Core;
@@ -16,8 +17,8 @@ use b67_word::{Couple, Fault};
 
 /// The address of the top word of the stack in which an address of a slot is.
 fn top_of(core: &Core, regs: &Regs, base: u32) -> u32
-    requires { (a : RunningContext core.now regs.now) × (top : ℕ) × IsUnder a base top }
-    ensures { (a : RunningContext core.now regs.now) (top : ℕ) → IsUnder a base top → result ≡ top }
+    requires { (a : LiveContext core.now regs.now) × (top : ℕ) × live.IsUnder a base top }
+    ensures { (a : LiveContext core.now regs.now) (top : ℕ) → live.IsUnder a base top → result ≡ top }
 {
     let size = u32::from(regs.stack_size);
     let slot = (base - regs.stacks) / size;
@@ -33,9 +34,9 @@ fn top_of(core: &Core, regs: &Regs, base: u32) -> u32
 
 /// The cell at an offset of an activation record whose mark is at an address of a slot: no mark lies between.
 fn slot_cell(core: &Core, regs: &Regs, base: u32, offset: u16) -> Result<u32, Fault>
-    requires { (a : RunningContext core.now regs.now) × (f : ℕ) × NamesEntered (reach a) f × (1 < f) × (base ≡ frame_at_core a f) }
-    ensures { (a : RunningContext core.now regs.now) (q : Place) (f : ℕ) → NamesEntered (reach a) f → 1 < f → base ≡ frame_at_core a f
-        → CellMeets a q f offset result (cell (here a.member a.task q) f offset) }
+    requires { (a : LiveContext core.now regs.now) × (f : ℕ) × NamesEntered (live.reach a) f × (1 < f) × (base ≡ live.frame_at_core a f) }
+    ensures { (a : LiveContext core.now regs.now) (q : Place) (f : ℕ) → NamesEntered (live.reach a) f → 1 < f → base ≡ live.frame_at_core a f
+        → live.CellMeets a q f offset result (cell (here a.member a.task q) f offset) }
 {
     let at = base + u32::from(offset);
     if offset < 2 || at > top_of(core, regs, base) {
@@ -51,12 +52,12 @@ fn slot_cell(core: &Core, regs: &Regs, base: u32, offset: u16) -> Result<u32, Fa
 
 /// The cell at an offset of the activation record whose mark is at an address: in a slot, the dictionary's or the MCP's.
 fn cell_in(core: &Core, regs: &Regs, base: u32, offset: u16) -> Result<u32, Fault>
-    requires { (a : RunningContext core.now regs.now) × (f : ℕ) × NamesEntered (reach a) f × (base ≡ frame_at_core a f) }
-    ensures { (a : RunningContext core.now regs.now) (q : Place) (f : ℕ) → NamesEntered (reach a) f → base ≡ frame_at_core a f
-        → CellMeets a q f offset result (cell (here a.member a.task q) f offset) }
+    requires { (a : LiveContext core.now regs.now) × (f : ℕ) × NamesEntered (live.reach a) f × (base ≡ live.frame_at_core a f) }
+    ensures { (a : LiveContext core.now regs.now) (q : Place) (f : ℕ) → NamesEntered (live.reach a) f → base ≡ live.frame_at_core a f
+        → live.CellMeets a q f offset result (cell (here a.member a.task q) f offset) }
 {
     if base == 0 {
-        if offset < 8 || offset > 16 {
+        if offset < 8 || offset > 18 {
             return Err(Fault::InvalidAddress);
         }
         return Ok(u32::from(offset));
@@ -72,7 +73,7 @@ fn cell_in(core: &Core, regs: &Regs, base: u32, offset: u16) -> Result<u32, Faul
 
 /// The core address of the cell that a couple names in the running environment. INVALID ADDRESS exactly where the level
 /// is above the running one, or the activation record at that level has no such cell: displacements 2 and up, and 8 to
-/// 16 of the MCP.
+/// 18 of the MCP.
 pub fn cell_of(core: &Core, regs: &Regs, display: &[u32; 32], c: Couple) -> Result<u32, Fault>
     requires { (a : RunningContext core.now regs.now) × IsShown a display.now }
     ensures { (a : RunningContext core.now regs.now) (q : Place) → IsShown a display.now
@@ -84,12 +85,13 @@ pub fn cell_of(core: &Core, regs: &Regs, display: &[u32; 32], c: Couple) -> Resu
     cell_in(core, regs, display[c.level as usize], c.disp)
 }
 
-/// The core address of the cell that a stuffed reference names. It needs the reference's activation record alive, and,
-/// where it is a dictionary, that of the running task's job. INVALID ADDRESS exactly where there is no such cell.
+/// The core address of the cell that a stuffed reference names. It needs the reference's activation record alive, in the reach
+/// of any live task of the running task's job, and, where it is a dictionary, that of this job. INVALID ADDRESS exactly where
+/// there is no such cell.
 pub fn cell_at(core: &Core, regs: &Regs, r: Sirw) -> Result<u32, Fault>
-    requires { (a : RunningContext core.now regs.now) × (f : ℕ) × NamesEntered (reach a) f × (view a f ≡ record { stack = r.stack; disp = r.disp }) }
-    ensures { (a : RunningContext core.now regs.now) (q : Place) (f : ℕ) → NamesEntered (reach a) f → view a f ≡ record { stack = r.stack; disp = r.disp }
-        → CellMeets a q f r.offset result (cell (here a.member a.task q) f r.offset) }
+    requires { (a : LiveContext core.now regs.now) × (f : ℕ) × NamesEntered (live.reach a) f × (live.view a f ≡ record { stack = r.stack; disp = r.disp }) }
+    ensures { (a : LiveContext core.now regs.now) (q : Place) (f : ℕ) → NamesEntered (live.reach a) f → live.view a f ≡ record { stack = r.stack; disp = r.disp }
+        → live.CellMeets a q f r.offset result (cell (here a.member a.task q) f r.offset) }
 {
     let base = address_of(core, regs, r.stack, r.disp);
     cell_in(core, regs, base, r.offset)

@@ -4,10 +4,11 @@ ghost use Rattle.std.specs.Prelude.{◌≡◌, ℕ, List, Result, Option, Some, 
 ghost use Rattle.b67_word.specs.declared.couples.Place.{Place};
 ghost use Rattle.b67_model.specs.Words as Words;
 ghost use Rattle.b67_model.specs.Cells.{place_of};
-ghost use Rattle.b67_model.specs.Chase.{link_at, chase as chase_of, follow};
+ghost use Rattle.b67_model.specs.Chase.{element_end, link_at, chase as chase_of, follow};
+ghost use Rattle.b67_model.specs.InOrder.{NamesArray};
 ghost use Rattle.b67_layout.specs.Meets.{here};
 ghost use Rattle.b67_refer.specs.RunningContext.{RunningContext, IsShown};
-ghost use Rattle.b67_refer.specs.Cells.{StandsFor, IsCellAt, FindsCell};
+ghost use Rattle.b67_refer.specs.Cells.{reach, StandsFor, IsCellAt, FindsCell};
 ghost use Rattle.b67_refer.specs.Ends.{IsCopyOf, HasTag, IsReference, EndMeets, LinkMeets};
 
 use crate::cells::{cell_at, cell_of};
@@ -40,26 +41,42 @@ pub fn owner(core: &Core, copy: DataDesc) -> u32
     }
 }
 
+/// The element of an array at an index. INVALID INDEX where the array, as it is now, is no longer than the index.
+fn element_at(core: &Core, regs: &Regs, original: u32, index: u32) -> Result<End, Fault>
+    requires { (a : RunningContext core.now regs.now) × (n : ℕ) × (original ≡ a.plan.home a.member.constants.number n) × NamesArray a.member.progress.job.arrays (reach a) n }
+    ensures { (a : RunningContext core.now regs.now) (q : Place) (n : ℕ) → original ≡ a.plan.home a.member.constants.number n
+        → NamesArray a.member.progress.job.arrays (reach a) n → EndMeets a q result (element_end (here a.member a.task q) n index) }
+{
+    let d = match DataDesc::from_word(core.get(original)) {
+        Some(d) => d,
+        None => unreachable!(),
+    };
+    if index >= d.length {
+        return Err(Fault::InvalidIndex);
+    }
+    Ok(End::Element { original, index })
+}
+
 /// The end at an array's descriptor in a cell.
-fn array_end(core: &Core, regs: &Regs, at: u32) -> End
+fn array_end(core: &Core, regs: &Regs, at: u32) -> Result<Option<End>, Fault>
     requires { (a : RunningContext core.now regs.now) × (q : Place) × (f : ℕ) × (offset : ℕ) × (w : Words.Word) × IsCellAt a q at f offset w × HasTag core.now at 5 }
     ensures { (a : RunningContext core.now regs.now) (q : Place) (f offset : ℕ) (w : Words.Word) → IsCellAt a q at f offset w → HasTag core.now at 5
-        → LinkMeets a q (Ok (Some result)) (link_at f offset w) }
+        → LinkMeets a q result (link_at (here a.member a.task q) f offset w) }
 {
     let d = match DataDesc::from_word(core.get(at)) {
         Some(d) => d,
         None => unreachable!(),
     };
     if !d.copy {
-        return End::Array(at);
+        return Ok(Some(End::Array(at)));
     }
     let original = owner(core, d);
     if !d.indexed {
-        return End::Array(original);
+        return Ok(Some(End::Array(original)));
     }
-    End::Element {
-        original,
-        index: d.length,
+    match element_at(core, regs, original, d.length) {
+        Ok(end) => Ok(Some(end)),
+        Err(fault) => Err(fault),
     }
 }
 
@@ -68,7 +85,7 @@ fn array_end(core: &Core, regs: &Regs, at: u32) -> End
 fn end_at(core: &Core, regs: &Regs, at: u32) -> Result<Option<End>, Fault>
     requires { (a : RunningContext core.now regs.now) × (q : Place) × (f : ℕ) × (offset : ℕ) × (w : Words.Word) × IsCellAt a q at f offset w }
     ensures { (a : RunningContext core.now regs.now) (q : Place) (f offset : ℕ) (w : Words.Word) → IsCellAt a q at f offset w
-        → LinkMeets a q result (link_at f offset w) }
+        → LinkMeets a q result (link_at (here a.member a.task q) f offset w) }
 {
     let w = core.get(at);
     if w.tag() == 0 {
@@ -78,7 +95,7 @@ fn end_at(core: &Core, regs: &Regs, at: u32) -> Result<Option<End>, Fault>
         return Ok(None);
     }
     if w.tag() == 5 {
-        return Ok(Some(array_end(core, regs, at)));
+        return array_end(core, regs, at);
     }
     if w.tag() != 7 {
         return Err(Fault::InvalidOperand);
@@ -151,8 +168,5 @@ pub fn chase(core: &Core, regs: &Regs, display: &[u32; 32], w: Word) -> Result<E
         return Err(Fault::InvalidOperand);
     }
     let original = owner(core, d);
-    Ok(End::Element {
-        original,
-        index: d.length,
-    })
+    element_at(core, regs, original, d.length)
 }

@@ -7,7 +7,7 @@ ghost use Rattle.b67_model.specs.Environment.{running as running_frame};
 ghost use Rattle.b67_stack.specs.Stacks.{StackPlace};
 ghost use Rattle.b67_layout.specs.Placement.{base_of as base_of_stack, address_of as address_of_spot};
 ghost use Rattle.b67_layout.specs.Session.{frame_address};
-ghost use Rattle.b67_refer.specs.RunningContext.{RunningContext, IsShown, IsStackOf};
+ghost use Rattle.b67_refer.specs.RunningContext.{RunningContext, LiveContext, IsShown, IsStackOf};
 
 use b67_core::Core;
 use b67_ctl::{Mscw, Regs};
@@ -25,8 +25,8 @@ pub(crate) fn mark_at(core: &Core, at: u32) -> Mscw
 
 /// The core address of a stack's base word: a slot's, the running job's dictionary's or the MCP's.
 fn base_of(core: &Core, regs: &Regs, stack: u16) -> u32
-    requires { (a : RunningContext core.now regs.now) × IsStackOf a stack }
-    ensures value { (a : RunningContext core.now regs.now) → IsStackOf a stack → result ≡ base_of_stack a.plan stack }
+    requires { (a : LiveContext core.now regs.now) × IsStackOf a stack }
+    ensures value { (a : LiveContext core.now regs.now) → IsStackOf a stack → result ≡ base_of_stack a.plan stack }
     ensures small { result < 2 ^ 20 }
 {
     if stack < 120 {
@@ -40,8 +40,8 @@ fn base_of(core: &Core, regs: &Regs, stack: u16) -> u32
 
 /// The core address of a displacement in a stack.
 pub(crate) fn address_of(core: &Core, regs: &Regs, stack: u16, disp: u16) -> u32
-    requires { (a : RunningContext core.now regs.now) × IsStackOf a stack }
-    ensures { (a : RunningContext core.now regs.now) → IsStackOf a stack → result ≡ address_of_spot a.plan (record { stack = stack; disp = disp }) }
+    requires { (a : LiveContext core.now regs.now) × IsStackOf a stack }
+    ensures { (a : LiveContext core.now regs.now) → IsStackOf a stack → result ≡ address_of_spot a.plan (record { stack = stack; disp = disp }) }
 {
     base_of(core, regs, stack) + u32::from(disp)
 }

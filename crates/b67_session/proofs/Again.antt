@@ -46,14 +46,7 @@ still_limited known k printed h m t l = record {
   last = l.last;
   named = l.named;
   stands = record { session = l.stands.session; storage = l.stands.storage; tables = l.stands.tables };
-  session = l.session;
-  made = l.made;
   ordered = l.ordered;
-  single_before = l.single_before;
-  peak = l.peak;
-  tables = l.tables;
-  same = record { rows = l.same.rows; running = l.same.running };
-  stands_before = record { session = l.stands_before.session; storage = l.stands_before.storage; tables = l.stands_before.tables };
 }
 
 -- from a session whose task is to end by LIMIT

@@ -15,7 +15,7 @@ use Rattle.b67_model.specs.Keyed.{keyed}
 use Rattle.b67_model.specs.Arrays.{array}
 use Rattle.b67_model.specs.Chase.{End, AtCell, AtElement, AtArray, AtProc, AtIntrinsic, follow_reference}
 use Rattle.b67_model.specs.Steps.{Line, Value, Values, Done, Goes, Leaves, Waits, top_of, cells_of}
-use Rattle.b67_model.specs.Intrinsics.{answered, answers, array_length, arraydec, print, numbers_of, row_copy, printrow, read_from, read, process, await, status, wait, cause, intrinsic}
+use Rattle.b67_model.specs.Intrinsics.{answered, answers, array_length, arraydec, print, numbers_of, row_copy, printrow, read_from, read, process, await, status, wait, cause, deallocate, resize, intrinsic}
 use Rattle.b67_model.specs.Rows.{entr_at, entr_with, entr, row}
 use Rattle.b67_law_order.proofs.Posts.{Post, post_ok, post_err, post_any, post_then, post_if, post_if_is, post_at}
 use Rattle.b67_model.specs.Called.{called_at, called_by, called_on, called}
@@ -76,7 +76,9 @@ module _ (first : List Profile) (next : ℕ) (own : Profile) (known : keyed (λ 
   intrinsic_good : (n : ℕ) (h : OperatorContext) (arguments : List Word) → n < 12 → Source h → Good (intrinsic n h arguments)
   intrinsic_good n h arguments low s =
       let none : Good (Err InvalidOperand) = post_err Keeps _ in
-      let from_16 = unless 16 n (cause h arguments) _ (λ e. omega (arith, low, e)) none in
+      let from_18 = unless 18 n (resize h arguments) _ (λ e. omega (arith, low, e)) none in
+      let from_17 = unless 17 n (deallocate h arguments) _ (λ e. omega (arith, low, e)) from_18 in
+      let from_16 = unless 16 n (cause h arguments) _ (λ e. omega (arith, low, e)) from_17 in
       let from_15 = unless 15 n (wait h arguments) _ (λ e. omega (arith, low, e)) from_16 in
       let from_14 = unless 14 n (status h arguments) _ (λ e. omega (arith, low, e)) from_15 in
       let from_13 = unless 13 n (await h arguments) _ (λ e. omega (arith, low, e)) from_14 in

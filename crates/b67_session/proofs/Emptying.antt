@@ -3,7 +3,7 @@ use Rattle.std.proofs.Common.{◌≡◌, ℕ, List, [], Option, refl, sym, ap, �
 use Rattle.b67_word.specs.declared.faults.Ending.{Ending}
 use Rattle.b67_model.specs.State.{Task, SessionJob}
 use Rattle.b67_model.specs.Schedule.{Session}
-use Rattle.b67_model.specs.InOrder.{IsInOrderButPlaces}
+use Rattle.b67_layout.specs.Orders.{IsInOrderButCounts}
 use Rattle.b67_single.specs.Single.{IsSingle}
 use Rattle.b67_stack.specs.Represents.{Storage}
 use Rattle.b67_layout.specs.Placement.{Placement}
@@ -16,7 +16,7 @@ use Rattle.b67_session.specs.Steps.{IsEmptied}
 -- what ending the last task promises of it
 abbrev pub Ending-stands : Machine → Machine → Type 0
 Ending-stands old new =
-    (u : Tasks) (x : Storage) (told : Option (List (List ℕ))) (plan : Placement) (s : Session) (m : SessionJob) (t : Task) (ending : Ending) → HasRowsOf old u → IsInOrderButPlaces s
+    (u : Tasks) (x : Storage) (told : Option (List (List ℕ))) (plan : Placement) (s : Session) (m : SessionJob) (t : Task) (ending : Ending) → HasRowsOf old u → IsInOrderButCounts s
     → MachineRepresents x told (record old { tasks = u }) plan s → IsSingle s m t → EndsIn told plan s m t ending (record new { tasks = record u { rows = new.tasks.rows; running = 255 } })
 
 -- other counts
@@ -46,7 +46,7 @@ emptied old mid printed stands tasks rows = record {
 
 -- the tables' own counts
 pub ends_in : (old mid : Machine) (printed : ℕ) → Ending-stands (record old { tasks = record old.tasks { printed = printed } }) mid → mid.tasks ≡ record old.tasks { rows = mid.tasks.rows; running = 255; printed = printed }
-    → (x : Storage) (told : Option (List (List ℕ))) (plan : Placement) (s : Session) (m : SessionJob) (t : Task) (ending : Ending) → IsInOrderButPlaces s → MachineRepresents x told old plan s → IsSingle s m t
+    → (x : Storage) (told : Option (List (List ℕ))) (plan : Placement) (s : Session) (m : SessionJob) (t : Task) (ending : Ending) → IsInOrderButCounts s → MachineRepresents x told old plan s → IsSingle s m t
     → EndsIn told plan s m t ending mid
 ends_in old mid printed stands tasks x told plan s m t ending o h single =
     let P : Tasks → Type 0 = λ z. EndsIn told plan s m t ending (record mid { tasks = z }) in

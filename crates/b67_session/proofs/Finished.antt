@@ -14,6 +14,7 @@ use Rattle.b67_model.specs.Rows.{step}
 use Rattle.b67_model.specs.Run.{RunLine, StepResult, next, number_of, with_moment, of_job}
 use Rattle.b67_model.specs.Schedule.{Session, choice}
 use Rattle.b67_model.specs.InOrder.{IsInOrderButPlaces}
+use Rattle.b67_layout.specs.Orders.{IsInOrderButCounts}
 use Rattle.b67_session_lines.specs.Moments.{first_part}
 use Rattle.b67_stack.specs.declared.Cpu.{Cpu}
 use Rattle.b67_stack.specs.MachineView.{MachineView, NoOriginalAboveTop as Calm}
@@ -222,25 +223,31 @@ module _ {s : Session} {m : SessionJob} {t : Task} {c : Chosen} (p : OneStep s m
     single = single_with s m t p.turn.single p.turn.ordered p.made p.printed p.touched p.is p.same p.next_is;
   }
 
+  half_ordered : IsInOrderButCounts half
+  half_ordered =
+      let S : List SessionJob → Session = λ js. record s { jobs = js } in
+      let o : IsInOrderButCounts (S (record m { progress = record m.progress { job = p.made } } ∷ [])) =
+      subst (λ (js : List SessionJob). IsInOrderButCounts (S js)) (with_is s m t p.turn.single p.made) (ordered_with s m t p.turn.single p.turn.ordered p.made p.printed p.touched p.is p.same p.next_is) in
+      record {
+        few = o.few;
+        numbered = o.numbered;
+        one_size = o.one_size;
+        jobs = (record { unchanging = o.jobs.0.unchanging; tasks = o.jobs.0.tasks; few_born = o.jobs.0.few_born }, tt);
+        peak_low = o.peak_low;
+        peak_high = o.peak_high;
+      }
+
   -- it was the last that its job may make
-  pub half_limited : {known : Option (List (List ℕ))} (k new : Machine) (x : Storage) (plan : Placement) → MachineRepresents x known k plan (with_job s m p.made) → MachineRepresents x known new plan half → new.tasks.rows ≡ k.tasks.rows → new.tasks.running ≡ k.tasks.running
-      → new ≡ record k { tasks = new.tasks } → m.progress.made + 1 ≡ m.constants.limit → IsLimited known new half half_member one_left.task
-  half_limited {known} k new x plan before h rows running rest limit = record {
+  pub half_limited : {known : Option (List (List ℕ))} (new : Machine) (x : Storage) (plan : Placement) → MachineRepresents x known new plan half → m.progress.made + 1 ≡ m.constants.limit → IsLimited known new half half_member one_left.task
+  half_limited {known} new x plan h limit = record {
     storage = x;
     plan = plan;
+    ordered = half_ordered;
     single = half_single;
     limit = limit;
     last = p.turn.job;
     named = p.turn.number ∙ sym one_left.number;
     stands = h;
-    session = with_job s m p.made;
-    made = m.progress.made;
-    ordered = ordered_with s m t p.turn.single p.turn.ordered p.made p.printed p.touched p.is p.same p.next_is;
-    single_before = single_with s m t p.turn.single p.turn.ordered p.made p.printed p.touched p.is p.same p.next_is;
-    peak = refl;
-    tables = k.tasks;
-    same = record { rows = sym rows; running = sym running };
-    stands_before = subst (λ (z : Machine). MachineRepresents x known (record z { tasks = k.tasks }) plan (with_job s m p.made)) (sym rest) (record { session = before.session; storage = before.storage; tables = before.tables });
   }
 
   abbrev limit_course : JobProgress

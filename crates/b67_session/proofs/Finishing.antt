@@ -17,6 +17,8 @@ use Rattle.b67_model.specs.Rows.{step}
 use Rattle.b67_model.specs.Run.{number_of, with_moment, live_tasks}
 use Rattle.b67_model.specs.Schedule.{Session, Choice}
 use Rattle.b67_model.specs.InOrder.{IsSegment, JobInOrder, IsInOrderButPlaces}
+use Rattle.b67_layout.specs.Orders.{JobInOrderButCounts, IsInOrderButCounts}
+use Rattle.b67_layout.proofs.Weaker.{but_counts}
 use Rattle.b67_law_order.specs.Ends.{StepsFrom}
 use Rattle.b67_law_order_rows.specs.Keeping.{KeepsOrder}
 use Rattle.b67_law_order_steps.proofs.Segments.{rows_keep_order_but_places}
@@ -74,25 +76,17 @@ module _ (s : Session) (m : SessionJob) (t : Task) (single : IsSingle s m t) (o 
   steps_from : StepsFrom (IsSegment m.constants) m.constants m.progress.job t
   steps_from = record { unchanging = j.unchanging; order = j.tasks; live = task_found s m t single; ready = single.ready; few = omega (arith, j.counts.next, j.counts.within, j.unchanging.limit) }
 
-  some_task : m.progress.job.tasks ≢ []
-  some_task none = let e : t ∷ [] ≡ [] = sym single.tasks ∙ none in absurd cc
-
-  order_with : JobInOrder (IsSegment m.constants) m.constants (record m.progress { job = job })
+  order_with : JobInOrderButCounts (IsSegment m.constants) m.constants (record m.progress { job = job })
   order_with =
       let K : Answer Done → Type 0 = KeepsOrder (IsSegment m.constants) m.constants m.progress.job t in
       record {
         unchanging = j.unchanging;
         tasks = (let there : K (Ok (Goes job printed touched)) = subst K is (rows_keep_order_but_places m.constants m.progress.job t steps_from) in there);
-        counts = record {
-          next = omega (arith, next_is, j.counts.next);
-          within = j.counts.within;
-          goes_on = λ some. (one.task, subst (λ (ts : List Task). Has ts one.task) (sym one.is) (inl refl), subst (λ (c : Condition). IsTrue (is_ready (record one.task { condition = c }))) (sym one.ready) refl);
-        };
-        below_limit = λ some. j.below_limit some_task;
+        few_born = omega (arith, next_is, j.counts.next, j.counts.within, j.unchanging.limit);
       }
 
-  pub ordered_with : IsInOrderButPlaces (with_job s m job)
-  ordered_with = member_kept s m job o (found s m t single) order_with (ap (λ (ts : List Task). length ts) one.is ∙ sym (ap (λ (ts : List Task). length ts) single.tasks))
+  pub ordered_with : IsInOrderButCounts (with_job s m job)
+  ordered_with = member_kept s m job (but_counts s o) (found s m t single) order_with (ap (λ (ts : List Task). length ts) one.is ∙ sym (ap (λ (ts : List Task). length ts) single.tasks))
 
 -- a session whose only job has no task left
 pub none_lives : (s : Session) (m : SessionJob) → s.jobs ≡ m ∷ [] → m.progress.job.tasks ≡ [] → live_tasks s.jobs ≡ 0

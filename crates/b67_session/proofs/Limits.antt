@@ -17,6 +17,7 @@ use Rattle.b67_model.specs.Lines.{run_text}
 use Rattle.b67_model.specs.Run.{StepResult, number_of, of_job}
 use Rattle.b67_model.specs.Schedule.{Session}
 use Rattle.b67_model.specs.InOrder.{NumberedFrom, IsInOrderButPlaces}
+use Rattle.b67_layout.specs.Orders.{IsInOrderButCounts}
 use Rattle.b67_session_lines.specs.Moments.{first_part, last_part, last_part_by, last_part_if, is_at_limit, has_tasks, text_of, due}
 use Rattle.b67_stack.specs.Represents.{Storage}
 use Rattle.b67_layout.specs.Placement.{Placement, slot_of}
@@ -75,7 +76,7 @@ module _ (plan : Placement) (s : Session) (m : SessionJob) (tasks : Tasks) (jobs
       sym same.0 ∙ eqb-true r.made r.limit (a.is r low at) ∙ same.1
 
 module _ (s : Session) (m : SessionJob) (t : Task) (single : IsSingle s m t) where
-  pub is_one : IsInOrderButPlaces s → m.constants.number ≡ 1
+  pub is_one : IsInOrderButCounts s → m.constants.number ≡ 1
   is_one o = let numbered : NumberedFrom 1 (m ∷ []) = subst (NumberedFrom 1) single.jobs o.numbered in numbered.0
 
   -- a job in order with a task is below its limit
@@ -169,21 +170,21 @@ tables_with q s m js c gone h = record {
 module _ (known : Option (List (List ℕ))) (k : Machine) (h : Session) (m : SessionJob) (t : Task) (l : IsLimited known k h m t) where
   pub limited_one : HasOne k
   limited_one = record {
-    tables = l.tables;
-    same = l.same;
+    tables = k.tasks;
+    same = record { rows = refl; running = refl };
     storage = l.storage;
     told = known;
     plan = l.plan;
-    session = l.session;
-    member = record m { progress = record m.progress { made = l.made } };
+    session = h;
+    member = m;
     task = t;
     ordered = l.ordered;
-    stands = l.stands_before;
-    single = l.single_before;
+    stands = l.stands;
+    single = l.single;
   }
 
   pub limited_number : m.constants.number ≡ 1
-  limited_number = is_one l.session (record m { progress = record m.progress { made = l.made } }) t l.single_before l.ordered
+  limited_number = is_one h m t l.single l.ordered
 
   pub limited_not : AtLimit k.tasks false → ⊥
   limited_not a =
@@ -214,14 +215,13 @@ module _ (known : Option (List (List ℕ))) (k : Machine) (h : Session) (m : Ses
 
   pub limit_stands : (new : Machine) → IsEmptied k new → (y : Storage) × (p : Placement) × MachineRepresents y known new p (limit_part h m t l.single).session
   limit_stands new e =
-      let before : SessionJob = record m { progress = record m.progress { made = l.made } } in
       let after = (limit_part h m t l.single).session in
       let progress : JobProgress = record m.progress { job = (ends_task m.progress.job t.number Limit).job; ended = m.progress.ended ++ (t.number, Limit) ∷ [] } in
-      let d = e.stands l.tables l.storage known l.plan l.session before t Limit l.same l.ordered l.stands_before l.single_before in (
+      let d = e.stands k.tasks l.storage known l.plan h m t Limit (record { rows = refl; running = refl }) l.ordered l.stands l.single in (
         d.storage,
         q,
         record {
-          session = stands_with l.session before t l.single_before d.storage new.cpu q progress after refl (sym l.peak) d.stands.session;
+          session = stands_with h m t l.single d.storage new.cpu q progress after refl refl d.stands.session;
           storage = d.stands.storage;
           tables = tables_after new e;
         },

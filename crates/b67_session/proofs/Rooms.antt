@@ -5,7 +5,7 @@ use Rattle.std.proofs.lemmas.List.{length-map}
 use Rattle.std.proofs.lemmas.Option.{same_Some}
 use Rattle.std.proofs.lemmas.Bool.{eq-eqb}
 use Rattle.b67_lemmas.specs.Lists.{Has}
-use Rattle.b67_lemmas.proofs.Places.{mapped_at}
+use Rattle.b67_lemmas.proofs.Places.{at_mapped, map-slice_set, mapped_at, put_back}
 use Rattle.b67_model.specs.State.{Task, Job, SessionJob}
 use Rattle.b67_model.specs.Keyed.{change_keyed}
 use Rattle.b67_model.specs.Run.{number_of}
@@ -17,7 +17,7 @@ use Rattle.b67_layout.specs.Meets.{with_job}
 use Rattle.b67_single.specs.Single.{IsSingle}
 use Rattle.b67_task_tables.specs.declared.tables.JobRow.{JobRow}
 use Rattle.b67_task_tables.specs.declared.tables.Tasks.{Tasks}
-use Rattle.b67_task_tables.specs.Tables.{job_row, switch_of, TasksShow}
+use Rattle.b67_task_tables.specs.Tables.{job_row, switch_of, TasksShow, row_names}
 use Rattle.b67_session_schedule.specs.declared.counting.Chosen.{Chosen}
 use Rattle.b67_session_schedule.specs.Counted.{counted_row, CountsHaveRoom}
 use Rattle.b67_session_schedule.proofs.Rooms.{made_few, all_few}
@@ -96,3 +96,9 @@ counted_in (y ∷ rows) (suc i) r q at (inr k) = let (z, inz, same) = counted_in
 
 pub countable_counted : (rows : List JobRow) (i : ℕ) (r : JobRow) → slice_get rows i ≡ Some r → AreCountable rows → AreCountable (slice_set rows i (counted_row r))
 countable_counted rows i r at all q h = let (y, iny, same) = counted_in rows i r q at h in omega (arith, all y iny, same)
+
+-- and their names
+pub names_counted : (rows : List JobRow) (i : ℕ) (r : JobRow) → slice_get rows i ≡ Some r → row_names (slice_set rows i (counted_row r)) ≡ row_names rows
+names_counted rows i r at =
+    let name : JobRow → List ℕ = λ z. z.name in
+    map-slice_set name rows i (counted_row r) ∙ put_back (row_names rows) i r.name (at_mapped name rows i r at)

@@ -29,6 +29,7 @@ use Rattle.b67_session_attempt.specs.Stops.{Stop}
 use Rattle.b67_session_attempt.specs.Stops as stops
 use Rattle.b67_session_attempt.specs.declared.attempts.Attempt.TheVariants as attempts
 use Rattle.b67_session_attempt.specs.Attempts.{StillStands, StandsLacking}
+use Rattle.b67_layout.proofs.Weaker.{but_counts}
 use Rattle.b67_task.specs.Endings.{HasOne}
 use Rattle.b67_session.specs.declared.ends.StepEnd.{StepEnd}
 use Rattle.b67_session.specs.declared.ends.StepEnd.TheVariants as ends
@@ -103,7 +104,7 @@ module _ {K : Type 0} (taken : K → Option (List ℕ)) (known known' : Option (
       at_limit at a =
           at_limit_is called.plan middle middle_member tasks refl
           (half_tables one_step called.plan k.tasks tasks called.stands.tables counted)
-          (is_one h.session h.member h.task h.turn.single h.turn.ordered) h.turn.job at a
+          (is_one h.session h.member h.task h.turn.single (but_counts h.session h.turn.ordered)) h.turn.job at a
 
       abbrev after : Machine
       after = record k { tasks = tasks }
@@ -141,12 +142,8 @@ module _ {K : Type 0} (taken : K → Option (List ℕ)) (known known' : Option (
         limit_made : h.member.progress.made + 1 ≡ h.member.constants.limit
         limit_made = eqb-true (h.member.progress.made + 1) h.member.constants.limit (at_limit true at)
 
-        limited_at : (new : Machine) → MachineRepresents called.storage known' new called.plan middle → new.tasks.rows ≡ tasks.rows → new.tasks.running ≡ tasks.running → new ≡ record k { tasks = new.tasks } → IsLimited known' new middle middle_member left.task
-        limited_at new stands rows running rest =
-            half_limited one_step k new called.storage called.plan called.stands stands (rows ∙ counted.rows) (running ∙ counted.running) rest limit_made
-
         limited : IsLimited known' after middle middle_member left.task
-        limited = limited_at after stands_half refl refl refl
+        limited = half_limited one_step after called.storage called.plan stands_half limit_made
 
         abbrev end_lines : List RunLine
         end_lines = task_lines middle_member left.task (Ends Limit ∷ [])
@@ -191,9 +188,7 @@ module _ {K : Type 0} (taken : K → Option (List ℕ)) (known known' : Option (
         limited_after : (new : Machine) → OnlyPrinted after new → IsLimited known' new middle middle_member left.task
         limited_after new only =
             let put : Machine → Type 0 = λ z. MachineRepresents called.storage known' z called.plan middle in
-            let stands : put new = subst put (sym only) (record { session = stands_half.session; storage = stands_half.storage; tables = stands_half.tables }) in
-            limited_at new stands (ap (λ (z : Machine). z.tasks.rows) only) (ap (λ (z : Machine). z.tasks.running) only)
-            (only ∙ ap (λ (z : Tasks). record k { tasks = z }) (sym (ap (λ (z : Machine). z.tasks) only)))
+            half_limited one_step new called.storage called.plan (subst put (sym only) (record { session = stands_half.session; storage = stands_half.storage; tables = stands_half.tables })) limit_made
 
         half_left : last_part middle ≢ None
         half_left none = none-some (limit_part middle middle_member left.task limited.single) (sym none ∙ limited_part known' after middle middle_member left.task limited)
@@ -305,7 +300,7 @@ module _ {K : Type 0} (taken : K → Option (List ℕ)) (known known' : Option (
       session = h.session;
       member = h.member;
       task = h.task;
-      ordered = h.turn.ordered;
+      ordered = but_counts h.session h.turn.ordered;
       stands = still.1;
       single = h.turn.single;
     }

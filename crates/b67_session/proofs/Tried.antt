@@ -3,7 +3,7 @@ use Rattle.std.proofs.Common.{◌≡◌, ◌≢◌, ℕ, List, length, Option, S
 use Rattle.b67_word.specs.declared.faults.Ending.{Ending}
 use Rattle.b67_model.specs.State.{Ready, Task, SessionJob}
 use Rattle.b67_model.specs.Schedule.{Session}
-use Rattle.b67_model.specs.InOrder.{IsInOrderButPlaces}
+use Rattle.b67_layout.specs.Orders.{IsInOrderButCounts}
 use Rattle.b67_stack.specs.Represents.{Storage}
 use Rattle.b67_layout_storage.specs.Machine.{Says, content_after}
 use Rattle.b67_layout.specs.Placement.{Placement}
@@ -57,7 +57,7 @@ stopped_room core x plan s m t stops.Unbuilt fits code = tt
 -- what the attempt promises where nothing is wanted
 abbrev pub AttemptQuiet : {D : Type 0} → Option (List (List ℕ)) → Machine → D → D → Type 0
 AttemptQuiet told old device device' =
-    (x : Storage) (plan : Placement) (s : Session) (m : SessionJob) (t : Task) → IsInOrderButPlaces s → StandsOver x told old plan s → IsRunning plan s.jobs m t → t.condition ≡ Ready → WantsNothing x plan m t → device' ≡ device
+    (x : Storage) (plan : Placement) (s : Session) (m : SessionJob) (t : Task) → IsInOrderButCounts s → StandsOver x told old plan s → IsRunning plan s.jobs m t → t.condition ≡ Ready → WantsNothing x plan m t → device' ≡ device
 
 module _ {K : Type 0} {taken : K → Option (List ℕ)} {told told' : Option (List (List ℕ))} {count : ℕ} {k mid new : Machine} {c : Chosen} {paper paper' : K} where
   -- at another answer

@@ -5,6 +5,8 @@ use Rattle.std.proofs.lemmas.Option.{slice_get_within}
 use Rattle.b67_model.specs.State.{Ready, Task, SessionJob}
 use Rattle.b67_model.specs.Schedule.{Session, choice}
 use Rattle.b67_model.specs.InOrder.{IsInOrderButPlaces}
+use Rattle.b67_layout.specs.Orders.{IsInOrderButCounts}
+use Rattle.b67_layout.proofs.Weaker.{but_counts}
 use Rattle.b67_stack.specs.Represents.{Storage}
 use Rattle.b67_layout_storage.specs.Machine.{Says, content_after}
 use Rattle.b67_session_attempt.specs.Passed.{StandsOver}
@@ -66,10 +68,10 @@ module _ (known : Option (List (List ℕ))) (k : Machine) (s : Session) (m : Ses
     the_row = chose h.plan s m t h.single k.tasks h.stands.tables c chooses.0
 
     pub has_row : HasRow k c.row
-    has_row = record { storage = h.storage; told = known; plan = h.plan; session = s; ordered = h.ordered; stands = h.stands; inside = slice_get_within k.tasks.rows.items c.row the_row.row the_row.at }
+    has_row = record { storage = h.storage; told = known; plan = h.plan; session = s; ordered = but_counts s h.ordered; stands = h.stands; inside = slice_get_within k.tasks.rows.items c.row the_row.row the_row.at }
 
     abbrev pub turned : (new : Machine)
-        → ((x : Storage) (known : Option (List (List ℕ))) (plan : Placement) (s : Session) (r : TaskRow) → IsInOrderButPlaces s → MachineRepresents x known k plan s → slice_get k.tasks.rows.items c.row ≡ Some r → MachineRepresents x known new (with_running plan r.slot) s)
+        → ((x : Storage) (known : Option (List (List ℕ))) (plan : Placement) (s : Session) (r : TaskRow) → IsInOrderButCounts s → MachineRepresents x known k plan s → slice_get k.tasks.rows.items c.row ≡ Some r → MachineRepresents x known new (with_running plan r.slot) s)
         → CountsHaveRoom k.tasks c → Turned known new s m t c
     turned new stands room =
         let r = the_row in record {
@@ -77,7 +79,7 @@ module _ (known : Option (List (List ℕ))) (k : Machine) (s : Session) (m : Ses
           plan = with_running h.plan r.row.slot;
           ordered = h.ordered;
           single = h.single;
-          stands = stands h.storage known h.plan s r.row h.ordered h.stands r.at;
+          stands = stands h.storage known h.plan s r.row (but_counts s h.ordered) h.stands r.at;
           running = runs_then h.plan s m t h.single r.row.slot r.slot;
           choice = chooses.1;
           job = r.job;
@@ -93,7 +95,7 @@ over x known told k plan s says h = record {
 }
 
 pub runs_over : (known told : Option (List (List ℕ))) → Says known told → (k : Machine) (s : Session) (m : SessionJob) (t : Task) (c : Chosen) → Turned known k s m t c → RunsOver k told
-runs_over known told says k s m t c h = record { storage = h.storage; plan = h.plan; session = s; member = m; task = t; ordered = h.ordered; stands = over h.storage known told k h.plan s says h.stands; running = h.running; ready = h.single.ready }
+runs_over known told says k s m t c h = record { storage = h.storage; plan = h.plan; session = s; member = m; task = t; ordered = but_counts s h.ordered; stands = over h.storage known told k h.plan s says h.stands; running = h.running; ready = h.single.ready }
 
 -- what the attempt answered, for the session or where nothing is known of the sectors for one with other numbers
 pub record Attempted {K : Type 0} (taken : K → Option (List ℕ)) (known known' : Option (List (List ℕ))) (core count before : ℕ) (s : Session) (c : Chosen) (answered : Result Attempt Stop) (k : Machine) (paper paper' : K) : Type 0 where
@@ -112,18 +114,18 @@ pub record Attempted {K : Type 0} (taken : K → Option (List ℕ)) (known known
 -- what the attempt promises of each session that the machine represents
 abbrev pub AttemptRow : {K : Type 0} → (K → Option (List ℕ)) → Option (List (List ℕ)) → Option (List (List ℕ)) → ℕ → Machine → Result Attempt Stop → Machine → K → K → Type 0
 AttemptRow taken told told' count old answered new paper paper' =
-    (x : Storage) (plan : Placement) (s : Session) (m : SessionJob) (t : Task) → IsInOrderButPlaces s → StandsOver x told old plan s → IsRunning plan s.jobs m t → t.condition ≡ Ready
+    (x : Storage) (plan : Placement) (s : Session) (m : SessionJob) (t : Task) → IsInOrderButCounts s → StandsOver x told old plan s → IsRunning plan s.jobs m t → t.condition ≡ Ready
     → Attempts taken x (content_after x.device told') (length old.cpu.core) count old.tasks.printed plan s t answered new paper paper'
 
 abbrev pub AttemptRoom : Option (List (List ℕ)) → Machine → Result Attempt Stop → Type 0
 AttemptRoom told old answered =
-    (x : Storage) (plan : Placement) (s : Session) (m : SessionJob) (t : Task) → IsInOrderButPlaces s → StandsOver x told old plan s → IsRunning plan s.jobs m t → t.condition ≡ Ready → x.device ≢ None
+    (x : Storage) (plan : Placement) (s : Session) (m : SessionJob) (t : Task) → IsInOrderButCounts s → StandsOver x told old plan s → IsRunning plan s.jobs m t → t.condition ≡ Ready → x.device ≢ None
     → AttemptFits (length old.cpu.core) x plan s m t answered
 
 -- the chosen task's row, and what the machine then stands for
 abbrev pub GivesTurn : Machine → ℕ → Machine → Type 0
 GivesTurn k row new =
-    (x : Storage) (known : Option (List (List ℕ))) (plan : Placement) (s : Session) (r : TaskRow) → IsInOrderButPlaces s → MachineRepresents x known k plan s → slice_get k.tasks.rows.items row ≡ Some r → MachineRepresents x known new (with_running plan r.slot) s
+    (x : Storage) (known : Option (List (List ℕ))) (plan : Placement) (s : Session) (r : TaskRow) → IsInOrderButCounts s → MachineRepresents x known k plan s → slice_get k.tasks.rows.items row ≡ Some r → MachineRepresents x known new (with_running plan r.slot) s
 
 abbrev pub ChoosesRow : Machine → Chosen → Type 0
 ChoosesRow k c = (plan : Placement) (s : Session) → IsInOrderButPlaces s → TasksShow plan s k.tasks → Chooses k.tasks.rows.items (Some c) (choice s)
@@ -158,7 +160,7 @@ module _ {K : Type 0} {taken : K → Option (List ℕ)} {told told' : Option (Li
   device_told tells = subst (λ (d : Option (List (List ℕ))). d ≢ None) device_is tells
 
   abbrev a : Attempts taken here.storage (content_after here.storage.device told') (length mid.cpu.core) count mid.tasks.printed here.plan s t answered new paper paper'
-  a = x.row here.storage here.plan s m t here.ordered stood here.running here.single.ready
+  a = x.row here.storage here.plan s m t (but_counts s here.ordered) stood here.running here.single.ready
 
   one : Other s a.jobs m a.member t
   one = other here.plan s m a.member t a.jobs here.single a.others a.running
@@ -172,7 +174,7 @@ module _ {K : Type 0} {taken : K → Option (List ℕ)} {told told' : Option (Li
       ap first (sym one.single.jobs ∙ jobs_same tells ∙ here.single.jobs)
 
   room_here : known ≢ None → AttemptFits (length mid.cpu.core) here.storage here.plan s m t answered
-  room_here tells = x.room here.storage here.plan s m t here.ordered stood here.running here.single.ready (device_told tells)
+  room_here tells = x.room here.storage here.plan s m t (but_counts s here.ordered) stood here.running here.single.ready (device_told tells)
 
   -- the same of the session that the machine represents again
   room_again : known ≢ None → AttemptFits (length mid.cpu.core) here.storage here.plan (record s { jobs = a.jobs }) a.member t answered
@@ -218,6 +220,6 @@ module _ {K : Type 0} {taken : K → Option (List ℕ)} {told told' : Option (Li
 
   -- what the attempt promises where nothing is wanted
   pub quiet_here : {A : Type 0}
-      → ((x : Storage) (plan : Placement) (s : Session) (m : SessionJob) (t : Task) → IsInOrderButPlaces s → StandsOver x told mid plan s → IsRunning plan s.jobs m t → t.condition ≡ Ready → WantsNothing x plan m t → A)
+      → ((x : Storage) (plan : Placement) (s : Session) (m : SessionJob) (t : Task) → IsInOrderButCounts s → StandsOver x told mid plan s → IsRunning plan s.jobs m t → t.condition ≡ Ready → WantsNothing x plan m t → A)
       → WantsNothing h.storage h.plan m t → A
-  quiet_here quiet wants = quiet here.storage here.plan s m t here.ordered stood here.running here.single.ready (record { code = wants.code; array = wants.array })
+  quiet_here quiet wants = quiet here.storage here.plan s m t (but_counts s here.ordered) stood here.running here.single.ready (record { code = wants.code; array = wants.array })

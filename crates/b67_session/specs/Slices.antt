@@ -13,6 +13,7 @@ use Rattle.b67_session_lines.specs.Moments.{first_part, last_part, due}
 use Rattle.b67_stack.specs.Represents.{Storage}
 use Rattle.b67_layout_storage.specs.Machine.{Says}
 use Rattle.b67_layout.specs.Placement.{Placement}
+use Rattle.b67_layout.specs.Orders.{IsInOrderButCounts}
 use Rattle.b67_exec_cells.specs.Running.{code_area}
 use Rattle.b67_exec_cells.specs.Called.{called_in}
 use Rattle.b67_single.specs.Single.{IsSingle}
@@ -20,7 +21,6 @@ use Rattle.b67_task_tables.specs.declared.tables.Tasks.{Tasks}
 use Rattle.b67_task_tables.specs.declared.tables.Machine.{Machine}
 use Rattle.b67_task_tables.specs.Tables.{MachineRepresents}
 pub use Rattle.b67_task_tables.specs.Runs.{Keeps}
-use Rattle.b67_task.specs.Endings.{HasRowsOf}
 use Rattle.b67_session_attempt.specs.Passed.{AreCountable, IsShortOf}
 use Rattle.b67_session_attempt.specs.Attempts.{IsLacking}
 use Rattle.b67_session_attempt.specs.Brought.{WantsNothing}
@@ -49,24 +49,17 @@ pub record LivesOn (told : Option (List (List ℕ))) (k : Machine) : Type 0 wher
   pub task : Task
   pub lone : IsLone known k session member task
 
--- the machine stands for a session whose one task has just made the last operator that its job may make, and is to end by
--- LIMIT. With so many operators made (`made`) the job was in order before, in a session that stands with the counts of other tables
+-- the machine stands for a session in order but for its counts, whose one task has just made the last operator that its job
+-- may make, and is to end by LIMIT
 pub record IsLimited (known : Option (List (List ℕ))) (k : Machine) (h : Session) (m : SessionJob) (t : Task) : Type 0 where
   pub storage : Storage
   pub plan : Placement
+  pub ordered : IsInOrderButCounts h
   pub single : IsSingle h m t
   pub limit : m.progress.made ≡ m.constants.limit
   pub last : h.last.job ≡ m.constants.number
   pub named : h.last.task ≡ t.number
   pub stands : MachineRepresents storage known k plan h
-  pub session : Session
-  pub made : ℕ
-  pub ordered : IsInOrderButPlaces session
-  pub single_before : IsSingle session (record m { progress = record m.progress { made = made } }) t
-  pub peak : session.peak ≡ h.peak
-  pub tables : Tasks
-  pub same : HasRowsOf k tables
-  pub stands_before : MachineRepresents storage known (record k { tasks = tables }) plan session
 
 pub record StandsLimited (told : Option (List (List ℕ))) (k : Machine) : Type 0 where
   pub known : Option (List (List ℕ))

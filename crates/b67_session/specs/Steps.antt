@@ -16,11 +16,12 @@ use Rattle.b67_model.specs.State.{JobProgress, Task, SessionJob}
 use Rattle.b67_single.specs.Single.{IsSingle}
 use Rattle.b67_stack.specs.Represents.{Storage}
 use Rattle.b67_layout.specs.Meets.{with_job}
+use Rattle.b67_layout.specs.Orders.{IsInOrderButCounts}
 use Rattle.b67_layout.specs.Placement.{Placement}
 use Rattle.b67_task_tables.specs.declared.tables.JobRow.{JobRow}
 use Rattle.b67_task_tables.specs.declared.tables.Tasks.{Tasks}
 use Rattle.b67_task_tables.specs.declared.tables.Machine.{Machine}
-use Rattle.b67_task_tables.specs.Tables.{TasksShow, MachineRepresents}
+use Rattle.b67_task_tables.specs.Tables.{TasksShow, MachineRepresents, row_names}
 use Rattle.b67_session_schedule.specs.declared.counting.Chosen.{Chosen}
 use Rattle.b67_session_schedule.specs.Counted.{choice_of}
 use Rattle.b67_task.specs.Endings.{HasRowsOf, EndsIn}
@@ -45,6 +46,7 @@ pub record IsCounted (c : Chosen) (old new : Tasks) : Type 0 where
   pub last_number : new.last_number ≡ c.number
   pub printed : new.printed ≡ 0
   pub countable : AreCountable old.jobs → AreCountable new.jobs
+  pub names : row_names new.jobs ≡ row_names old.jobs
 
 -- whether the job that made the last operator has made as many as it may
 pub record AtLimit (tasks : Tasks) (at : Bool) : Type 0 where
@@ -65,7 +67,7 @@ PutsText taken text (Err _) before after paper paper' = ⊥
 
 -- the only task's row is gone, its slot is free, and its arrays are given back, whatever the counts are
 pub record IsEmptied (old new : Machine) : Type 0 where
-  pub stands : (u : Tasks) (x : Storage) (told : Option (List (List ℕ))) (plan : Placement) (s : Session) (m : SessionJob) (t : Task) (ending : Ending) → HasRowsOf old u → IsInOrderButPlaces s
+  pub stands : (u : Tasks) (x : Storage) (told : Option (List (List ℕ))) (plan : Placement) (s : Session) (m : SessionJob) (t : Task) (ending : Ending) → HasRowsOf old u → IsInOrderButCounts s
       → MachineRepresents x told (record old { tasks = u }) plan s → IsSingle s m t → EndsIn told plan s m t ending (record new { tasks = record u { rows = new.tasks.rows; running = 255 } })
   pub tasks : new.tasks ≡ record old.tasks { rows = new.tasks.rows; running = 255; printed = 0 }
   pub rows : new.tasks.rows.items ≡ []

@@ -3,6 +3,7 @@
 ghost use Rattle.std.specs.Prelude.{◌≡◌, ℕ, ◌+◌, ◌-◌, ◌≤◌, ◌==◌, Err, Some, length, slice_get};
 ghost use Rattle.b67_io.specs.Causes.{Rose};
 ghost use Rattle.b67_task_tables.specs.declared.tables.JobRow.{JobRow};
+ghost use Rattle.b67_task_tables.specs.Tables.{row_names};
 ghost use Rattle.b67_session_schedule.specs.Counted.{CountsHaveRoom};
 ghost use Rattle.b67_task.specs.Endings.{HasOne};
 ghost use Rattle.b67_session_attempt.specs.Passed.{AreCountable};
@@ -110,6 +111,7 @@ pub(crate) fn close<K: Sink>(
     ensures closes { Closes K.taken chosen ending result machine.old machine.new paper.old paper.new }
     ensures over { Finishes chosen ending result machine.old machine.new }
     ensures halt { machine.new.tasks.halt ≡ machine.old.tasks.halt }
+    ensures names { row_names machine.new.tasks.jobs ≡ row_names machine.old.tasks.jobs }
     ensures countable { AreCountable machine.old.tasks.jobs → AreCountable machine.new.tasks.jobs }
     ensures cause { result ≡ Err PrintFault → Rose K.faults paper.old paper.new }
     ensures later { K.faults paper.old ≤ K.faults paper.new }
@@ -143,6 +145,7 @@ pub(crate) fn advance<K: Sink>(
     requires one { HasOne machine.old }
     ensures advances { Advances K.taken chosen result machine.old machine.new paper.old paper.new }
     ensures halt { machine.new.tasks.halt ≡ machine.old.tasks.halt }
+    ensures names { row_names machine.new.tasks.jobs ≡ row_names machine.old.tasks.jobs }
     ensures countable { AreCountable machine.old.tasks.jobs → AreCountable machine.new.tasks.jobs }
     ensures cause { result ≡ Err PrintFault → Rose K.faults paper.old paper.new }
     ensures later { K.faults paper.old ≤ K.faults paper.new }

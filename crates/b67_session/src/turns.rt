@@ -2,7 +2,7 @@
 
 ghost use Rattle.std.specs.Prelude.{◌≡◌, ℕ, List, length, Option, Some, slice_get};
 ghost use Rattle.b67_model.specs.Schedule.{Session};
-ghost use Rattle.b67_model.specs.InOrder.{IsInOrderButPlaces};
+ghost use Rattle.b67_layout.specs.Orders.{IsInOrderButCounts};
 ghost use Rattle.b67_stack.specs.Represents.{Storage};
 ghost use Rattle.b67_layout.specs.Placement.{Placement};
 ghost use Rattle.b67_task_switch.specs.Turns.{with_running};
@@ -17,7 +17,7 @@ use b67_task_tables::Machine;
 #[inline(always)]
 pub(crate) fn give_turn(machine: &mut Machine, row: u8)
     requires { HasRow machine.old row }
-    ensures stands { (x : Storage) (told : Option (List (List ℕ))) (plan : Placement) (s : Session) (r : TaskRow) → IsInOrderButPlaces s
+    ensures stands { (x : Storage) (told : Option (List (List ℕ))) (plan : Placement) (s : Session) (r : TaskRow) → IsInOrderButCounts s
         → MachineRepresents x told machine.old plan s → slice_get machine.old.tasks.rows.items row ≡ Some r
         → MachineRepresents x told machine.new (with_running plan r.slot) s }
     ensures tables { machine.new.tasks ≡ record machine.old.tasks { rows = machine.new.tasks.rows; running = row } }

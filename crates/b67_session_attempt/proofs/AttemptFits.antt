@@ -17,7 +17,7 @@ use Rattle.b67_model.specs.Need.{touched_of, touched_at_mark, touched_before_fau
 use Rattle.b67_model.specs.Rows.{reading_of, step}
 use Rattle.b67_model.specs.Run.{number_of}
 use Rattle.b67_model.specs.Schedule.{Session}
-use Rattle.b67_model.specs.InOrder.{IsInOrderButPlaces}
+use Rattle.b67_layout.specs.Orders.{IsInOrderButCounts}
 use Rattle.b67_stack.specs.declared.What.TheVariants as what
 use Rattle.b67_stack.specs.declared.Step.{Step}
 use Rattle.b67_stack.specs.declared.Step.TheVariants as answers
@@ -56,7 +56,7 @@ module _ (m : SessionJob) (t : Task) (a : ℕ) where
   by_standing next Marked (r ∷ arguments) is none e =
       let at_call : OperatorContext = record { constants = m.constants; job = m.progress.job; task = t; at = t.place } in
       let f = row_only r arguments (follow_reference at_call r) a e in
-      let ends : follow_reference (here m t next) r ≡ Ok (AtIntrinsic 10) = reference_same (here m t next) at_call refl refl r ∙ f.called in
+      let ends : follow_reference (here m t next) r ≡ Ok (AtIntrinsic 10) = reference_same (here m t next) at_call refl refl refl r ∙ f.called in
       none-some 10 (sym none ∙ called_is next r arguments is ends)
     where
       called_is : (next : Place) (r : Word) (arguments : List Word) → reverse (top t.frames).cells ≡ r ∷ arguments → follow_reference (here m t next) r ≡ Ok (AtIntrinsic 10) → called_on (here m t next) Marked ≡ Some 10
@@ -90,7 +90,7 @@ module _ (x : Storage) (told : Option (List (List ℕ))) (plan : Placement) (s :
     by None is some = absurd (some is)
     by (Some at) is some = (at, is)
 
-  pub step_fits : (k : Machine) → IsInOrderButPlaces s → MachineRepresents x told k plan s → IsRunning plan s.jobs m t → code_area x plan m t ≢ None → TouchesPresent x plan m t → started_by m.progress.job (step m.constants m.progress.job t) ≡ 0
+  pub step_fits : (k : Machine) → IsInOrderButCounts s → MachineRepresents x told k plan s → IsRunning plan s.jobs m t → code_area x plan m t ≢ None → TouchesPresent x plan m t → started_by m.progress.job (step m.constants m.progress.job t) ≡ 0
       → need (length k.cpu.core) s m t ≤ length k.cpu.core
   step_fits k o h runs code touches none = by (code_area x plan m t) refl code where
     by : (area : Option ℕ) → code_area x plan m t ≡ area → area ≢ None → need (length k.cpu.core) s m t ≤ length k.cpu.core
@@ -115,7 +115,7 @@ module _ (x : Storage) (told : Option (List (List ℕ))) (plan : Placement) (s :
   pub leaves_touches : step m.constants m.progress.job t ≡ Ok Leaves → TouchesPresent x plan m t
   leaves_touches is a e = absurd (none-some a (sym (ap touched is) ∙ e))
 
-  module _ (o : IsInOrderButPlaces s) (runs : IsRunning plan s.jobs m t) where
+  module _ (o : IsInOrderButCounts s) (runs : IsRunning plan s.jobs m t) where
     pub made_touches : (old new : Machine) → OperatorMade x told plan s m t old new → TouchesPresent x plan m t
     made_touches old new h a e =
         let same : h.touched ≡ Some a = sym (ap touched h.is) ∙ e in

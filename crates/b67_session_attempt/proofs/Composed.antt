@@ -7,7 +7,7 @@ use Rattle.b67_model.specs.Keyed.{keyed}
 use Rattle.b67_model.specs.Need.{need}
 use Rattle.b67_model.specs.Run.{number_of}
 use Rattle.b67_model.specs.Schedule.{Session}
-use Rattle.b67_model.specs.InOrder.{IsInOrderButPlaces}
+use Rattle.b67_layout.specs.Orders.{IsInOrderButCounts}
 use Rattle.b67_stack.specs.declared.What.{What}
 use Rattle.b67_stack.specs.declared.What.TheVariants as what
 use Rattle.b67_stack.specs.Represents.{Storage}
@@ -15,7 +15,7 @@ use Rattle.b67_layout_storage.specs.Machine.{Says, content_after}
 use Rattle.b67_layout.specs.Placement.{Placement}
 use Rattle.b67_layout.specs.Session.{IsRunning}
 use Rattle.b67_exec_cells.specs.Running.{code_area}
-use Rattle.b67_law_order_steps.proofs.Sessions.{other_numbers_keep_order}
+use Rattle.b67_layout_step.proofs.OtherNumbers.{others_in_order}
 use Rattle.b67_task_tables.specs.declared.tables.Machine.{Machine}
 use Rattle.b67_task_tables.specs.declared.tables.Tasks.{Tasks}
 use Rattle.b67_task_tables.specs.Tables.{MachineRepresents}
@@ -80,7 +80,7 @@ never taken x plan s m t old new paper paper' (what.Array home) nothing meets =
     nothing.array a.identity is (ap (λ (at : ℕ). (x.held at).area) (home_is ∙ sym w.home_is) ∙ w.absent)
 
 -- the answer of the session itself
-module _ {K : Type 0} (taken : K → Option (List ℕ)) (x : Storage) (core count : ℕ) (plan : Placement) (s : Session) (m : SessionJob) (t : Task) (o : IsInOrderButPlaces s) (runs : IsRunning plan s.jobs m t) (old new : Machine) (h : MachineRepresents x x.device old plan s) (paper paper' : K) where
+module _ {K : Type 0} (taken : K → Option (List ℕ)) (x : Storage) (core count : ℕ) (plan : Placement) (s : Session) (m : SessionJob) (t : Task) (o : IsInOrderButCounts s) (runs : IsRunning plan s.jobs m t) (old new : Machine) (h : MachineRepresents x x.device old plan s) (paper paper' : K) where
   at_once : (answered : Result Attempt Stop) → AttemptMeets taken x.device (x.device ≢ None) core count old.tasks.printed plan s m t answered new paper paper' → Attempts taken x x.device core count old.tasks.printed plan s t answered new paper paper'
   at_once answered meets = record { jobs = s.jobs; others = others_same s o; same = λ e. refl; member = m; running = runs; meets = meets }
 
@@ -224,12 +224,12 @@ same_member plan s jobs m t runs r e =
     same_Some r.member m (sym at ∙ runs.member)
 
 -- the machine after something was brought in
-module _ (x : Storage) (told : Told) (k : Machine) (plan : Placement) (s : Session) (m : SessionJob) (t : Task) (o : IsInOrderButPlaces s) (runs : IsRunning plan s.jobs m t) (found : What) (b : Brings x told k plan s m t found) where
+module _ (x : Storage) (told : Told) (k : Machine) (plan : Placement) (s : Session) (m : SessionJob) (t : Task) (o : IsInOrderButCounts s) (runs : IsRunning plan s.jobs m t) (found : What) (b : Brings x told k plan s m t found) where
   pub other : RunsOther plan b.again.jobs m t
   other = others_running plan s.jobs b.again.jobs b.again.others m t runs
 
-  pub in_order : IsInOrderButPlaces (record s { jobs = b.again.jobs })
-  in_order = other_numbers_keep_order s b.again.jobs b.again.others o
+  pub in_order : IsInOrderButCounts (record s { jobs = b.again.jobs })
+  in_order = others_in_order s b.again.jobs b.again.others o
 
   number_is : other.member.constants.number ≡ m.constants.number
   number_is = ap (λ (z : SessionJob). z.constants.number) other.other.rest
@@ -262,7 +262,7 @@ module _ (x : Storage) (told : Told) (k : Machine) (plan : Placement) (s : Sessi
       subst W (sym (member_is (b.again.same tells))) (nothing found words code w touched b b)
 
 -- what core has room for afterwards it had room for before, where the device tells
-module _ (x : Storage) (told : Told) (k : Machine) (plan : Placement) (s : Session) (m : SessionJob) (t : Task) (o : IsInOrderButPlaces s) (runs : IsRunning plan s.jobs m t) (found : What) (b : Brings x told k plan s m t found) (n : x.device ≢ None) (tells : x.device ≢ None → told ≢ None) where
+module _ (x : Storage) (told : Told) (k : Machine) (plan : Placement) (s : Session) (m : SessionJob) (t : Task) (o : IsInOrderButCounts s) (runs : IsRunning plan s.jobs m t) (found : What) (b : Brings x told k plan s m t found) (n : x.device ≢ None) (tells : x.device ≢ None → told ≢ None) where
   pub still_told : b.again.storage.device ≢ None
   still_told = let P : Told → Type 0 = λ d. d ≢ None in subst P (sym b.again.device) (retold_some x.device told tells n)
 
@@ -303,12 +303,12 @@ attempt_as {K} taken x told told' core core' count count' before before' plan s 
     subst A a (subst B b (subst C c (subst D d (subst E e h))))
 
 -- the tries after something was brought in
-module _ {K : Type 0} (taken : K → Option (List ℕ)) (x : Storage) (told told' after : Told) (new last : Machine) (core count printed : ℕ) (plan : Placement) (s : Session) (m : SessionJob) (t : Task) (o : IsInOrderButPlaces s) (runs : IsRunning plan s.jobs m t) (found : What)
+module _ {K : Type 0} (taken : K → Option (List ℕ)) (x : Storage) (told told' after : Told) (new last : Machine) (core count printed : ℕ) (plan : Placement) (s : Session) (m : SessionJob) (t : Task) (o : IsInOrderButCounts s) (runs : IsRunning plan s.jobs m t) (found : What)
     (b : Brings x told' new plan s m t found) (ready : t.condition ≡ Ready) (tells : x.device ≢ None → told' ≢ None) (answered : Result Attempt Stop) (paper first paper' : K) (same_paper : first ≡ paper) (same_printed : new.tasks.printed ≡ printed) where
   -- what the last try shows
   abbrev pub Last : Type 0
   Last =
-      (y : Storage) (core count : ℕ) (plan : Placement) (s : Session) (m : SessionJob) (t : Task) → IsInOrderButPlaces s → MachineRepresents y y.device new plan s → IsRunning plan s.jobs m t → t.condition ≡ Ready → (y.device ≢ None → WantsNothing y plan m t)
+      (y : Storage) (core count : ℕ) (plan : Placement) (s : Session) (m : SessionJob) (t : Task) → IsInOrderButCounts s → MachineRepresents y y.device new plan s → IsRunning plan s.jobs m t → t.condition ≡ Ready → (y.device ≢ None → WantsNothing y plan m t)
       → Attempts taken y y.device core count new.tasks.printed plan s t answered last first paper'
 
   pub then_last : (words : ℕ) → code_area x plan m t ≢ None → IsWanted x plan m t found words → IsTouched plan m t found words → Last → Attempts taken x (content_after x.device told') core count printed plan s t answered last paper paper'
@@ -324,7 +324,7 @@ module _ {K : Type 0} (taken : K → Option (List ℕ)) (x : Storage) (told told
   -- what the tries behind the code's show
   abbrev pub Coded : ℕ → ℕ → Type 0
   Coded core count =
-      (y : Storage) (plan : Placement) (s : Session) (m : SessionJob) (t : Task) → IsInOrderButPlaces s → StandsOver y told' new plan s → IsRunning plan s.jobs m t → t.condition ≡ Ready → code_area y plan m t ≢ None
+      (y : Storage) (plan : Placement) (s : Session) (m : SessionJob) (t : Task) → IsInOrderButCounts s → StandsOver y told' new plan s → IsRunning plan s.jobs m t → t.condition ≡ Ready → code_area y plan m t ≢ None
       → Attempts taken y (content_after y.device after) core count new.tasks.printed plan s t answered last first paper'
 
   pub then_coded : (core' count' : ℕ) → core' ≡ core → count' ≡ count → Coded core' count' → Attempts taken x (content_after x.device after) core count printed plan s t answered last paper paper'

@@ -11,7 +11,8 @@ use Rattle.b67_model.specs.Arrays.{no_array, array}
 use Rattle.b67_model.specs.Rows.{step}
 use Rattle.b67_model.specs.Need.{touched_of, started_by, need}
 use Rattle.b67_model.specs.Schedule.{Session}
-use Rattle.b67_model.specs.InOrder.{ArrayInOrder, IsInOrderButPlaces}
+use Rattle.b67_model.specs.InOrder.{ArrayInOrder}
+use Rattle.b67_layout.specs.Orders.{IsInOrderButCounts}
 use Rattle.b67_stack.specs.declared.Cpu.{Cpu}
 use Rattle.b67_stack.specs.Represents.{Storage}
 use Rattle.b67_layout.specs.Placement.{Placement}
@@ -28,7 +29,7 @@ use Rattle.b67_session_attempt.proofs.Space.{has_space}
 chosen : (core base full n : ℕ) → n ≡ (if nat_lt core base then base else full) → base ≤ core → full ≤ core → n ≤ core
 chosen core base full n e low high = ⊎_elim (λ t. omega (arith, rw t at e, low)) (λ t. omega (arith, rw t at e, high)) (cases_Bool (nat_lt core base))
 
-module _ (x : Storage) (cpu : Cpu) (plan : Placement) (s : Session) (m : SessionJob) (t : Task) (o : IsInOrderButPlaces s) (h : RepresentsSession x cpu plan s) (runs : IsRunning plan s.jobs m t) (at : ℕ) (present : code_area x plan m t ≡ Some at) where
+module _ (x : Storage) (cpu : Cpu) (plan : Placement) (s : Session) (m : SessionJob) (t : Task) (o : IsInOrderButCounts s) (h : RepresentsSession x cpu plan s) (runs : IsRunning plan s.jobs m t) (at : ℕ) (present : code_area x plan m t ≡ Some at) where
   space : HasSpace x plan s m t (length cpu.core)
   space = has_space x cpu plan s m t o h runs at present
 

@@ -5,7 +5,8 @@ use Rattle.b67_area.specs.declared.Areas.{Areas}
 use Rattle.b67_model.specs.State.{Ready, Task, SessionJob}
 use Rattle.b67_model.specs.Rows.{reading_of, row}
 use Rattle.b67_model.specs.Schedule.{Session}
-use Rattle.b67_model.specs.InOrder.{IsSegment, TasksInOrder, IsInOrderButPlaces}
+use Rattle.b67_model.specs.InOrder.{IsSegment, TasksInOrder}
+use Rattle.b67_layout.specs.Orders.{IsInOrderButCounts}
 use Rattle.b67_stack.specs.declared.Cpu.{Cpu}
 use Rattle.b67_stack.specs.declared.Step.{Step}
 use Rattle.b67_stack.specs.declared.Step.TheVariants.{Done}
@@ -17,7 +18,7 @@ use Rattle.b67_layout.specs.Session.{IsRunning, RepresentsSession, RepresentsSto
 use Rattle.b67_layout.proofs.Fresh.{running_in_order}
 use Rattle.b67_task_tables.specs.declared.tables.Machine.{Machine}
 use Rattle.b67_task_tables.specs.declared.tables.Tasks.{Tasks}
-use Rattle.b67_task_tables.specs.Tables.{TasksShow, task_row, job_row, counts_of, MachineRepresents}
+use Rattle.b67_task_tables.specs.Tables.{TasksShow, task_row, job_row, counts_of, MachineRepresents, row_names}
 use Rattle.b67_task_release.specs.Left.{IsLeft, AreReleased}
 use Rattle.b67_task_tables.specs.Runs.{RunsTask, Keeps}
 use Rattle.b67_session_attempt.specs.Makes.{OperatorMade, MakesOperator}
@@ -77,7 +78,7 @@ module _ (old : Machine) (new : Cpu) (answered : Step) (left : Bool) (rows : Row
   left_so : ForEach old.cpu (λ x plan s m t. LeftBy x plan s m t old.cpu new)
   left_so x plan s m t o h runs = left_by x plan s m t old.cpu new (leaves_so x plan s m t o h runs) (meets x plan s m t o h runs)
 
-  module _ (x : Storage) (plan : Placement) (s : Session) (m : SessionJob) (t : Task) (o : IsInOrderButPlaces s) (h : RepresentsSession x old.cpu plan s) (runs : IsRunning plan s.jobs m t) (ready : t.condition ≡ Ready) where
+  module _ (x : Storage) (plan : Placement) (s : Session) (m : SessionJob) (t : Task) (o : IsInOrderButCounts s) (h : RepresentsSession x old.cpu plan s) (runs : IsRunning plan s.jobs m t) (ready : t.condition ≡ Ready) where
     abbrev by : LeftBy x plan s m t old.cpu new
     by = left_so x plan s m t o h runs
 
@@ -134,10 +135,10 @@ module _ (old : Machine) (new : Cpu) (answered : Step) (left : Bool) (rows : Row
   kept_after r after areas tasks count released =
       let (left, x, told, plan, s, is, b) = asks r in
       let g = released left x told plan s is b in
-      record { core = sym g.beside.size ∙ ap (λ (a : Areas). a.size) areas ∙ r.stands.storage.size; sectors = count; halt = ap (λ (k : Tasks). k.halt) tasks }
+      record { core = sym g.beside.size ∙ ap (λ (a : Areas). a.size) areas ∙ r.stands.storage.size; sectors = count; halt = ap (λ (k : Tasks). k.halt) tasks; names = ap (λ (k : Tasks). row_names k.jobs) tasks }
 
   -- what is made
-  pub gives : (after : Machine) → after.areas ≡ old.areas → after.tasks ≡ old.tasks → GivesBack old new after → (x : Storage) (told : Option (List (List ℕ))) (plan : Placement) (s : Session) (m : SessionJob) (t : Task) → IsInOrderButPlaces s
+  pub gives : (after : Machine) → after.areas ≡ old.areas → after.tasks ≡ old.tasks → GivesBack old new after → (x : Storage) (told : Option (List (List ℕ))) (plan : Placement) (s : Session) (m : SessionJob) (t : Task) → IsInOrderButCounts s
       → MachineRepresents x told old plan s → IsRunning plan s.jobs m t → t.condition ≡ Ready → MakesOperator x told plan s m t Done old after
   gives after areas tasks back x told plan s m t o h runs ready =
       let k = by x plan s m t o h.session runs ready in

@@ -14,7 +14,8 @@ use Rattle.b67_model.specs.Words.{Word, Operand, Name, operand}
 use Rattle.b67_model.specs.State.{Frame, Standing, Marked, Entered, Return, Task, Job, SessionJob, OperatorContext, with_task, below_top, top, with_top_cells}
 use Rattle.b67_model.specs.Keyed.{keyed, change_keyed}
 use Rattle.b67_model.specs.Chase.{End, AtCell, AtElement, AtArray, AtProc, AtIntrinsic, chase, follow, follow_reference}
-use Rattle.b67_model.specs.Arrays.{with_element, indexed, in_order}
+use Rattle.b67_model.specs.Arrays.{with_element}
+use Rattle.b67_model.specs.Indexing.{indexed, in_order}
 use Rattle.b67_model.specs.Steps.{Line, Done, Goes, Leaves, Waits, top_of, cells_of, result, with_cells, leaves_cells, pushes, is_critical, without_arrays_of}
 use Rattle.b67_model.specs.Entry.{accident, needs_level, back_to, evaluates, enters, left, leaves, returnable, returned, retn_word}
 use Rattle.b67_model.specs.Rows.{CellRow, on_one, on_two, dlet, exch, dupl, on_cells, branches, branch_if, stff, load_at, load, indx, nxlv, store_at, store, entr_at, entr_with, entr, plain, row}

@@ -9,7 +9,7 @@ use Rattle.b67_model.specs.Steps.{Done as Result}
 use Rattle.b67_model.specs.Operators.{Reading}
 use Rattle.b67_model.specs.Rows.{reading_of, row, step}
 use Rattle.b67_model.specs.Schedule.{Session}
-use Rattle.b67_model.specs.InOrder.{IsInOrderButPlaces}
+use Rattle.b67_layout.specs.Orders.{IsInOrderButCounts}
 use Rattle.b67_stack.specs.declared.Cpu.{Cpu}
 use Rattle.b67_stack.specs.declared.Step.{Step}
 use Rattle.b67_stack.specs.declared.Step.TheVariants as answers
@@ -63,7 +63,7 @@ called_length x plan s m answered old new None answer h made = unchanged_length 
 none_released : (left : List PagedObject) (x : Storage) → left ≡ [] → Released (HasHome left) x x
 none_released left x e = Released-none (HasHome left) x (λ home g. let P : List PagedObject → Type 0 = λ l. HasHome l home in let k = subst P e g in k.1)
 
-module _ (x : Storage) (told : Option (List (List ℕ))) (plan : Placement) (s : Session) (m : SessionJob) (t : Task) (old : Machine) (o : IsInOrderButPlaces s) (h : MachineRepresents x told old plan s) (runs : IsRunning plan s.jobs m t)
+module _ (x : Storage) (told : Option (List (List ℕ))) (plan : Placement) (s : Session) (m : SessionJob) (t : Task) (old : Machine) (o : IsInOrderButCounts s) (h : MachineRepresents x told old plan s) (runs : IsRunning plan s.jobs m t)
     (ready : t.condition ≡ Ready) (new : Cpu) where
   -- the operator was made, and no array is gone
   goes_on : (op : Op) (q : Place) → is_leaving op ≡ false → step m.constants m.progress.job t ≡ row op (here m t q) → called op (here m t q) ≡ None → IsMade x plan s m old.cpu new (row op (here m t q))

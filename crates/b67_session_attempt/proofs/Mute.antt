@@ -1,11 +1,12 @@
 -- The calls of intrinsics that aren't built print nothing.
-use Rattle.std.proofs.Common.{◌≡◌, ◌≢◌, ℕ, ◌+◌, ◌<◌, ◌≤◌, ltb, eqb, ℤ, pos, negsuc, List, [], ◌∷◌, length, Option, None, Ok, refl, sym, ◌∙◌, arith, ⊎_elim}
+use Rattle.std.proofs.Common.{◌≡◌, ◌≢◌, ℕ, ◌+◌, ◌<◌, ◌≤◌, ltb, eqb, ℤ, pos, negsuc, List, [], ◌∷◌, length, Option, Some, None, Ok, refl, sym, ◌∙◌, arith, ⊎_elim}
 use Rattle.std.proofs.lemmas.Bool.{eqb-true, cases_lt}
 use Rattle.b67_model.specs.Words.{Word, Operand, whole}
 use Rattle.b67_model.specs.State.{Task, Job, SessionJob, OperatorContext}
+use Rattle.b67_model.specs.Arrays.{with_array, all_zero, resized}
 use Rattle.b67_model.specs.Chase.{End, AtCell, AtElement, AtArray, AtProc, AtIntrinsic, follow_reference}
 use Rattle.b67_model.specs.Steps.{Line, Done, Goes, Leaves, Waits}
-use Rattle.b67_model.specs.Intrinsics.{answers, child_of, starts, process, is_live, awaits, await, status_of, status, waits_at, wait, causes, cause, Call, call_in, calls, intrinsic}
+use Rattle.b67_model.specs.Intrinsics.{answers, array_length, row_copy, needs_writable, deallocate, resize, child_of, starts, process, is_live, awaits, await, status_of, status, waits_at, wait, causes, cause, Call, call_in, calls, intrinsic}
 use Rattle.b67_model.specs.Rows.{step}
 use Rattle.b67_law_order.proofs.Posts.{Post, post_ok, post_err, post_any, post_then, post_if, post_if_is, post_at}
 use Rattle.b67_layout.specs.Meets.{here}
@@ -71,6 +72,17 @@ cause_mute h [] = post_err Mute _
 cause_mute h (r ∷ []) = post_any Mute (follow_reference h r) _ (causes_mute h)
 cause_mute h (r ∷ v ∷ more) = post_err Mute _
 
+deallocate_mute : (h : OperatorContext) (arguments : List Word) → Post Mute (deallocate h arguments)
+deallocate_mute h [] = post_err Mute _
+deallocate_mute h (w ∷ []) = post_any Mute (row_copy w) _ (λ a. post_then Mute (needs_writable h a) _ (mute h (with_array h.job a all_zero) [] None))
+deallocate_mute h (w ∷ v ∷ more) = post_err Mute _
+
+resize_mute : (h : OperatorContext) (arguments : List Word) → Post Mute (resize h arguments)
+resize_mute h [] = post_err Mute _
+resize_mute h (r ∷ []) = post_err Mute _
+resize_mute h (r ∷ w ∷ []) = post_any Mute (row_copy r) _ (λ a. post_any Mute (whole w) _ (λ n. post_any Mute (array_length n) _ (λ len. post_then Mute (needs_writable h a) _ (mute h (with_array h.job a (resized len)) [] (Some a)))))
+resize_mute h (r ∷ w ∷ v ∷ more) = post_err Mute _
+
 -- the row of a call, among rows of which that one prints nothing
 module _ (n : ℕ) (h : OperatorContext) (arguments : List Word) where
   abbrev Each : List (ℕ × Call) → Type 0
@@ -83,8 +95,8 @@ module _ (n : ℕ) (h : OperatorContext) (arguments : List Word) where
 
   unbuilt_mute : 12 ≤ n → Post Mute (intrinsic n h arguments)
   unbuilt_mute above =
-      let last : Each ((12, process) ∷ (13, await) ∷ (14, status) ∷ (15, wait) ∷ (16, cause) ∷ []) =
-      (λ e. process_mute h arguments, (λ e. await_mute h arguments, (λ e. status_mute h arguments, (λ e. wait_mute h arguments, (λ e. cause_mute h arguments, tt))))) in
+      let last : Each ((12, process) ∷ (13, await) ∷ (14, status) ∷ (15, wait) ∷ (16, cause) ∷ (17, deallocate) ∷ (18, resize) ∷ []) =
+      (λ e. process_mute h arguments, (λ e. await_mute h arguments, (λ e. status_mute h arguments, (λ e. wait_mute h arguments, (λ e. cause_mute h arguments, (λ e. deallocate_mute h arguments, (λ e. resize_mute h arguments, tt))))))) in
       by_rows calls (λ e. absurd (omega (arith, e, above)), (λ e. absurd (omega (arith, e, above)), (λ e. absurd (omega (arith, e, above)), (λ e. absurd (omega (arith, e, above)), last))))
 
 -- an intrinsic whose call prints is built

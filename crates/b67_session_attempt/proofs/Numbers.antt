@@ -10,7 +10,8 @@ use Rattle.b67_model.specs.Need.{fixed, touched_of, started_by, area_of, need}
 use Rattle.b67_model.specs.Rows.{code_of, step}
 use Rattle.b67_model.specs.Run.{live_tasks}
 use Rattle.b67_model.specs.Schedule.{Session}
-use Rattle.b67_model.specs.InOrder.{ArrayInOrder, IsInOrderButPlaces}
+use Rattle.b67_model.specs.InOrder.{ArrayInOrder}
+use Rattle.b67_layout.specs.Orders.{IsInOrderButCounts}
 use Rattle.b67_stack.specs.declared.What.{What}
 use Rattle.b67_stack.specs.declared.What.TheVariants as what
 use Rattle.b67_stack.specs.Represents.{Storage, info_of}
@@ -67,7 +68,7 @@ module _ (core : ℕ) (s : Session) (m : SessionJob) (t : Task) (low : live_task
 array_is : (job : Job) (a : Array) → keyed (λ (z : Array). z.identity) a.identity job.arrays ≡ Some a → array job a.identity ≡ a
 array_is job a e = ap (λ (o : Option Array). unwrap_or o no_array) e
 
-module _ (x : Storage) (told : Option (List (List ℕ))) (k : Machine) (plan : Placement) (s : Session) (m : SessionJob) (t : Task) (o : IsInOrderButPlaces s) (h : MachineRepresents x told k plan s) (runs : IsRunning plan s.jobs m t) where
+module _ (x : Storage) (told : Option (List (List ℕ))) (k : Machine) (plan : Placement) (s : Session) (m : SessionJob) (t : Task) (o : IsInOrderButCounts s) (h : MachineRepresents x told k plan s) (runs : IsRunning plan s.jobs m t) where
   -- the running segment's area lies in core, behind the stacks
   code_fits : (area : Option ℕ) → code_area x plan m t ≡ area → area ≢ None → need_with s m t 0 0 ≤ length k.cpu.core
   code_fits None is some = absurd (some refl)

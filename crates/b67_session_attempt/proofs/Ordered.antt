@@ -12,7 +12,8 @@ use Rattle.b67_model.specs.Loader.{may_be_last}
 use Rattle.b67_model.specs.Rows.{row}
 use Rattle.b67_model.specs.Run.{number_of}
 use Rattle.b67_model.specs.Schedule.{Session}
-use Rattle.b67_model.specs.InOrder.{IsSegment, FramesInOrder, outer_of, TaskInOrder, TasksInOrder, IsInOrderButPlaces}
+use Rattle.b67_model.specs.InOrder.{IsSegment, FramesInOrder, outer_of, TaskInOrder, TasksInOrder}
+use Rattle.b67_layout.specs.Orders.{IsInOrderButCounts}
 use Rattle.b67_law_order.specs.Ends.{StepsFrom}
 use Rattle.b67_law_order_rows.specs.Keeping.{KeepsOrder}
 use Rattle.b67_law_order_rows.specs.Parameters.{ParametersFit}
@@ -23,11 +24,11 @@ use Rattle.b67_layout.specs.Meets.{here, with_job}
 use Rattle.b67_layout.proofs.Fresh.{job_in_order, running_in_order}
 use Rattle.b67_layout.proofs.Sessions.{change-has}
 
-module _ (plan : Placement) (s : Session) (m : SessionJob) (t : Task) (o : IsInOrderButPlaces s) (runs : IsRunning plan s.jobs m t) (ready : t.condition ≡ Ready) where
+module _ (plan : Placement) (s : Session) (m : SessionJob) (t : Task) (o : IsInOrderButCounts s) (runs : IsRunning plan s.jobs m t) (ready : t.condition ≡ Ready) where
   steps_from : StepsFrom (IsSegment m.constants) m.constants m.progress.job t
   steps_from =
       let j = (running_in_order plan s m t o runs).0 in
-      record { unchanging = j.unchanging; order = j.tasks; live = runs.task; ready = ready; few = omega (arith, j.counts.next, j.counts.within, j.unchanging.limit) }
+      record { unchanging = j.unchanging; order = j.tasks; live = runs.task; ready = ready; few = j.few_born }
 
   -- the job after an operator that may stand last in its segment
   pub job_after : (op : Op) (q : Place) → may_be_last op ≡ true → ParametersFit (IsSegment m.constants) (here m t q) op → (job : Job) (printed : List Line) (touched : Option ℕ)

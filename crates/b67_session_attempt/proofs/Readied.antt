@@ -7,7 +7,8 @@ use Rattle.b67_lemmas.proofs.Keyed.{change_same}
 use Rattle.b67_model.specs.State.{Array, Ready, Task, Job, SessionJob, with_task}
 use Rattle.b67_model.specs.Run.{number_of}
 use Rattle.b67_model.specs.Schedule.{Session}
-use Rattle.b67_model.specs.InOrder.{IsSegment, known_of, from_frame, originals_of, JobInOrder, IsInOrderButPlaces}
+use Rattle.b67_model.specs.InOrder.{IsSegment, known_of, from_frame, originals_of}
+use Rattle.b67_layout.specs.Orders.{JobInOrderButCounts, IsInOrderButCounts}
 use Rattle.b67_law_order.proofs.Reaches.{alike_same}
 use Rattle.b67_law_order.proofs.Replaced.{Replaced, replaced}
 use Rattle.b67_layout.proofs.Members.{member_kept}
@@ -21,11 +22,7 @@ use Rattle.b67_layout.proofs.MachineViews.{member-same}
 use Rattle.b67_layout.proofs.Steps.{IsFree}
 use Rattle.b67_layout_enter.proofs.Awaits.{RepresentsSession-condition}
 
-not_empty : {A : Type 0} (x : A) (xs : List A) → Has xs x → xs ≢ []
-not_empty x [] h = absurd h
-not_empty x (y ∷ ys) h = λ e. cc
-
-module _ (plan : Placement) (s : Session) (m : SessionJob) (t : Task) (o : IsInOrderButPlaces s) (runs : IsRunning plan s.jobs m t) where
+module _ (plan : Placement) (s : Session) (m : SessionJob) (t : Task) (o : IsInOrderButCounts s) (runs : IsRunning plan s.jobs m t) where
   abbrev pub task : Task
   task = record t { condition = Ready }
 
@@ -64,24 +61,23 @@ module _ (plan : Placement) (s : Session) (m : SessionJob) (t : Task) (o : IsInO
         alike = λ u k. alike_same (map known_of (from_frame u.critical t.frames));
         stays = λ u k c. c;
         fewer = λ n low. omega arith;
-        kept = λ a k. record { case = inl (record { item = a; live = k; named = refl; owned = refl; long = omega arith }) };
+        kept = λ a k. record { case = inl (record { item = a; live = k; named = refl; owned = refl }) };
         arrays = j.tasks.arrays;
         once = λ a k. omega (arith, all_in (λ (x : Array). originals_of x.identity m.constants m.progress.job ≡ 1) m.progress.job.arrays a j.tasks.once k);
         names = j.tasks.names;
         reads = j.tasks.reads;
       }
 
-  job_ordered : JobInOrder (IsSegment m.constants) m.constants (record m.progress { job = job })
+  job_ordered : JobInOrderButCounts (IsSegment m.constants) m.constants (record m.progress { job = job })
   job_ordered =
       let j = (running_in_order plan s m t o runs).0 in
       record {
         unchanging = j.unchanging;
         tasks = replaced (IsSegment m.constants) m.constants m.progress.job t job task j.tasks runs.task replaces;
-        counts = record { next = j.counts.next; within = j.counts.within; goes_on = λ some. (task, keyed-has (λ (u : Task). u.number) t.number job.tasks task there, refl) };
-        below_limit = λ some. j.below_limit (not_empty t m.progress.job.tasks in_t);
+        few_born = j.few_born;
       }
 
-  pub ordered : IsInOrderButPlaces session
+  pub ordered : IsInOrderButCounts session
   ordered = member_kept s m job o runs.member job_ordered (length_change (λ (u : Task). u.number) t.number task m.progress.job.tasks)
 
   pub running : IsRunning plan session.jobs member task

@@ -6,7 +6,8 @@ use Rattle.b67_backing.specs.Shelf.{Table}
 use Rattle.b67_model.specs.State.{Standing, Frame, Ready, Task, Job, SessionJob}
 use Rattle.b67_model.specs.Run.{number_of}
 use Rattle.b67_model.specs.Schedule.{Session}
-use Rattle.b67_model.specs.InOrder.{IsSegment, TasksInOrder, IsInOrderButPlaces}
+use Rattle.b67_model.specs.InOrder.{IsSegment, TasksInOrder}
+use Rattle.b67_layout.specs.Orders.{IsInOrderButCounts}
 use Rattle.b67_stack.specs.declared.Cpu.{Cpu}
 use Rattle.b67_stack.specs.Shapes.{Shape}
 use Rattle.b67_stack.specs.Stacks.{StackPlace, Activation, size}
@@ -50,7 +51,7 @@ entered_size : (spot : ℕ → StackPlace) (standing : Standing) → IsEntered s
 entered_size spot standing e cells =
     let P : Standing → Type 0 = λ z. 2 ≤ size (record { head = head spot z; cells = cells }) in subst P (sym e.is) (omega arith)
 
-module _ (x : Storage) (old : Cpu) (plan : Placement) (s : Session) (m : SessionJob) (t : Task) (o : IsInOrderButPlaces s) (h : RepresentsSession x old plan s) (runs : IsRunning plan s.jobs m t) where
+module _ (x : Storage) (old : Cpu) (plan : Placement) (s : Session) (m : SessionJob) (t : Task) (o : IsInOrderButCounts s) (h : RepresentsSession x old plan s) (runs : IsRunning plan s.jobs m t) where
   abbrev stack : List Activation
   stack = stack_of_task plan m.constants.number m.progress.job plan.running t
 

@@ -14,7 +14,8 @@ use Rattle.b67_model.specs.Rows.{code_of}
 use Rattle.b67_model.specs.Need.{fixed}
 use Rattle.b67_model.specs.Run.{live_tasks, number_of}
 use Rattle.b67_model.specs.Schedule.{Session}
-use Rattle.b67_model.specs.InOrder.{ArrayInOrder, IsInOrderButPlaces}
+use Rattle.b67_model.specs.InOrder.{ArrayInOrder}
+use Rattle.b67_layout.specs.Orders.{IsInOrderButCounts}
 use Rattle.b67_stack.specs.declared.Cpu.{Cpu}
 use Rattle.b67_stack.specs.MachineView.{PagedObject}
 use Rattle.b67_stack.specs.Represents.{Storage, info_of}
@@ -36,7 +37,7 @@ not_code : (b : Bool) → kind.Code ≡ (if b then kind.Array else kind.Row) →
 not_code true e = cc
 not_code false e = cc
 
-module _ (x : Storage) (cpu : Cpu) (plan : Placement) (s : Session) (m : SessionJob) (t : Task) (o : IsInOrderButPlaces s) (h : RepresentsSession x cpu plan s) (runs : IsRunning plan s.jobs m t) where
+module _ (x : Storage) (cpu : Cpu) (plan : Placement) (s : Session) (m : SessionJob) (t : Task) (o : IsInOrderButCounts s) (h : RepresentsSession x cpu plan s) (runs : IsRunning plan s.jobs m t) where
   has_m : Has s.jobs m
   has_m = keyed-has number_of m.constants.number s.jobs m runs.member
 

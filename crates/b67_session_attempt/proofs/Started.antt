@@ -11,11 +11,11 @@ use Rattle.b67_model.specs.Words.{Word, Operand, Original, whole}
 use Rattle.b67_model.specs.Operators.{Reading}
 use Rattle.b67_model.specs.State.{Frame, Array, Standing, Marked, Entered, Task, JobConstants, Job, SessionJob, OperatorContext, top, below_top}
 use Rattle.b67_model.specs.Keyed.{keyed}
-use Rattle.b67_model.specs.Arrays.{array}
+use Rattle.b67_model.specs.Arrays.{array, with_array, all_zero, resized}
 use Rattle.b67_model.specs.Chase.{End, AtCell, AtElement, AtArray, AtProc, AtIntrinsic, follow_reference}
 use Rattle.b67_model.specs.Steps.{Line, Done, Goes, Leaves, Waits, top_of, cells_of, result}
 use Rattle.b67_model.specs.Entry.{needs_level, back_to}
-use Rattle.b67_model.specs.Intrinsics.{answered, answers, array_length, arraydec, print, numbers_of, row_copy, printrow, read_from, read, child_of, starts, process, awaits, await, status_of, status, waits_at, wait, causes, cause, intrinsic}
+use Rattle.b67_model.specs.Intrinsics.{answered, answers, array_length, arraydec, print, numbers_of, row_copy, printrow, read_from, read, child_of, starts, process, awaits, await, status_of, status, waits_at, wait, causes, cause, needs_writable, deallocate, resize, intrinsic}
 use Rattle.b67_model.specs.Need.{touched_of, started_by}
 use Rattle.b67_model.specs.Rows.{entr_at, entr_with, entr, row, reading_of, step_by, step}
 use Rattle.b67_law_order.proofs.Posts.{Post, post_ok, post_err, post_any, post_then, post_if, post_more, post_is}
@@ -117,10 +117,24 @@ module _ (n : ℕ) where
   cause_quiet h (r ∷ []) = post_any (Quiet n) (follow_reference h r) _ (λ end. causes_quiet h end)
   cause_quiet h (r ∷ v ∷ more) = post_err (Quiet n) _
 
+  deallocate_quiet : (h : OperatorContext) (arguments : List Word) → Post (Quiet n) (deallocate h arguments)
+  deallocate_quiet h [] = post_err (Quiet n) _
+  deallocate_quiet h (w ∷ []) = post_any (Quiet n) (row_copy w) _ (λ a. post_then (Quiet n) (needs_writable h a) _ (none h (with_array h.job a all_zero) [] []))
+  deallocate_quiet h (w ∷ v ∷ more) = post_err (Quiet n) _
+
+  resize_quiet : (h : OperatorContext) (arguments : List Word) → length h.job.tasks ≡ n → Post (Quiet n) (resize h arguments)
+  resize_quiet h [] e = post_err (Quiet n) _
+  resize_quiet h (r ∷ []) e = post_err (Quiet n) _
+  resize_quiet h (r ∷ w ∷ []) e = post_any (Quiet n) (row_copy r) _ (λ a. post_any (Quiet n) (whole w) _ (λ v. post_any (Quiet n) (array_length v) _ (λ len.
+      post_then (Quiet n) (needs_writable h a) _
+      (post_then (Quiet n) _ _ (post_then (Quiet n) _ _ (post_ok (Quiet n) _ (length_change (λ (u : Task). u.number) (answered h []).number (answered h []) h.job.tasks ∙ e)))))))
+  resize_quiet h (r ∷ w ∷ v ∷ more) e = post_err (Quiet n) _
+
   intrinsic_quiet : (k : ℕ) (h : OperatorContext) (arguments : List Word) → length h.job.tasks ≡ n → Post (Quiet n) (intrinsic k h arguments)
   intrinsic_quiet k h arguments e =
       post_if (Quiet n) _ _ _ (arraydec_quiet h arguments) (post_if (Quiet n) _ _ _ (print_quiet h arguments) (post_if (Quiet n) _ _ _ (printrow_quiet h arguments e) (post_if (Quiet n) _ _ _ (read_quiet h arguments)
-      (post_if (Quiet n) _ _ _ (process_quiet h arguments) (post_if (Quiet n) _ _ _ (await_quiet h arguments) (post_if (Quiet n) _ _ _ (status_quiet h arguments) (post_if (Quiet n) _ _ _ (wait_quiet h arguments) (post_if (Quiet n) _ _ _ (cause_quiet h arguments) (post_err (Quiet n) _)))))))))
+      (post_if (Quiet n) _ _ _ (process_quiet h arguments) (post_if (Quiet n) _ _ _ (await_quiet h arguments) (post_if (Quiet n) _ _ _ (status_quiet h arguments) (post_if (Quiet n) _ _ _ (wait_quiet h arguments) (post_if (Quiet n) _ _ _ (cause_quiet h arguments)
+      (post_if (Quiet n) _ _ _ (deallocate_quiet h arguments) (post_if (Quiet n) _ _ _ (resize_quiet h arguments e) (post_err (Quiet n) _)))))))))))
 
   entr_at_quiet : (h : OperatorContext) (arguments : List Word) (end : End) → length h.job.tasks ≡ n → Post (Quiet n) (entr_at h arguments end)
   entr_at_quiet h arguments (AtIntrinsic k) e = intrinsic_quiet k h arguments e

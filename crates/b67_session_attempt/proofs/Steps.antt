@@ -7,7 +7,8 @@ use Rattle.b67_model.specs.Operators.{Reading}
 use Rattle.b67_model.specs.Steps.{Line, Goes, is_critical}
 use Rattle.b67_model.specs.Rows.{row, reading_of, step, step_by}
 use Rattle.b67_model.specs.Schedule.{Session}
-use Rattle.b67_model.specs.InOrder.{IsSegment, IsInOrderButPlaces}
+use Rattle.b67_model.specs.InOrder.{IsSegment}
+use Rattle.b67_layout.specs.Orders.{IsInOrderButCounts}
 use Rattle.b67_model.specs.Called.{called}
 use Rattle.b67_layout.specs.Placement.{Placement}
 use Rattle.b67_layout.specs.Session.{IsRunning}
@@ -25,7 +26,7 @@ pub record JobKept (m : SessionJob) (t : Task) (after : Job) : Type 0 where
   pub next_task : after.next_task ≡ m.progress.job.next_task
   pub numbers : after.numbers ≡ m.progress.job.numbers
 
-module _ (plan : Placement) (s : Session) (m : SessionJob) (t : Task) (o : IsInOrderButPlaces s) (runs : IsRunning plan s.jobs m t) where
+module _ (plan : Placement) (s : Session) (m : SessionJob) (t : Task) (o : IsInOrderButCounts s) (runs : IsRunning plan s.jobs m t) where
   some : t.frames ≢ []
   some = (running_in_order plan s m t o runs).1.some
 

@@ -5,7 +5,7 @@ use Rattle.b67_model.specs.State.{Task, SessionJob}
 use Rattle.b67_model.specs.Sectors.{sectors}
 use Rattle.b67_model.specs.Need.{need}
 use Rattle.b67_model.specs.Schedule.{Session}
-use Rattle.b67_model.specs.InOrder.{IsInOrderButPlaces}
+use Rattle.b67_layout.specs.Orders.{IsInOrderButCounts}
 use Rattle.b67_backing.specs.declared.refusals.SpaceFault.{SpaceFault}
 use Rattle.b67_backing.specs.declared.refusals.SpaceFault.TheVariants as space
 use Rattle.b67_stack.specs.declared.What.{What}
@@ -16,7 +16,7 @@ use Rattle.b67_layout.specs.Placement.{Placement}
 use Rattle.b67_layout.specs.Session.{IsRunning}
 use Rattle.b67_exec_cells.specs.Running.{code_area}
 use Rattle.b67_task_need.specs.Needing.{need_with}
-use Rattle.b67_law_order_steps.proofs.Sessions.{other_numbers_keep_order}
+use Rattle.b67_layout_step.proofs.OtherNumbers.{others_in_order}
 use Rattle.b67_task_tables.specs.declared.tables.Machine.{Machine}
 use Rattle.b67_task_tables.specs.Tables.{MachineRepresents}
 use Rattle.b67_mcp.specs.declared.ends.Stop.{Stop}
@@ -29,7 +29,7 @@ use Rattle.b67_session_attempt.specs.Brought.{StopsFor, Stopped, BroughtFits}
 use Rattle.b67_session_attempt.proofs.Numbers.{need_of, need_fits}
 use Rattle.b67_session_attempt.proofs.Composed.{told_is, unchanged, same_member}
 
-module _ (x : Storage) (told told' : Option (List (List ℕ))) (old new : Machine) (plan : Placement) (s : Session) (m : SessionJob) (t : Task) (count words : ℕ) (found : What) (o : IsInOrderButPlaces s) (h : StandsOver x told old plan s) (runs : IsRunning plan s.jobs m t)
+module _ (x : Storage) (told told' : Option (List (List ℕ))) (old new : Machine) (plan : Placement) (s : Session) (m : SessionJob) (t : Task) (count words : ℕ) (found : What) (o : IsInOrderButCounts s) (h : StandsOver x told old plan s) (runs : IsRunning plan s.jobs m t)
     (wanted : IsWanted x plan m t found words) (touched : IsTouched plan m t found words) where
   -- nothing has changed where core is too small
   small : (need_words size : ℕ) → length old.cpu.core < need_with s m t 0 words → need_words ≡ need_with s m t 0 words → size ≡ length old.cpu.core → new ≡ old → told' ≡ told
@@ -87,11 +87,11 @@ module _ (x : Storage) (told told' : Option (List (List ℕ))) (old new : Machin
         subst M (sym (same_member plan s again.jobs m t runs other (again.same n))) (subst J (sym (again.same n)) (room again.storage found wanted touched absent low))
 
   -- a refusal for want of sectors, and by the device
-  full_so : (sum size wants free : ℕ) (r : RefusedFull x told' new plan s m t found wants free) → ((y : Storage) (d : Option (List (List ℕ))) (p : Placement) (z : Session) → IsInOrderButPlaces z → MachineRepresents y d new p z → sum ≡ sectors z.jobs)
+  full_so : (sum size wants free : ℕ) (r : RefusedFull x told' new plan s m t found wants free) → ((y : Storage) (d : Option (List (List ℕ))) (p : Placement) (z : Session) → IsInOrderButCounts z → MachineRepresents y d new p z → sum ≡ sectors z.jobs)
       → size ≡ count → count < sectors s.jobs → need_with s m t 0 words ≤ length old.cpu.core → Stopped x (content_after x.device told') (length old.cpu.core) count plan s t (stops.BackingFull sum size) new
   full_so sum size wants free r sums size_is below low =
       let again = r.refused.again in
-      let is : sum ≡ sectors again.jobs = sums again.storage again.storage.device plan (record s { jobs = again.jobs }) (other_numbers_keep_order s again.jobs again.others o) again.stands.stands in
+      let is : sum ≡ sectors again.jobs = sums again.storage again.storage.device plan (record s { jobs = again.jobs }) (others_in_order s again.jobs again.others o) again.stands.stands in
       record {
         jobs = again.jobs;
         others = again.others;

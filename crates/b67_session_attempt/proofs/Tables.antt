@@ -9,7 +9,8 @@ use Rattle.b67_model.specs.State.{Frame, Condition, Ready, Awaits, WaitsAt, Task
 use Rattle.b67_model.specs.Keyed.{keyed, change_keyed}
 use Rattle.b67_model.specs.Run.{number_of}
 use Rattle.b67_model.specs.Schedule.{Session}
-use Rattle.b67_model.specs.InOrder.{from_frame, frames_of_task, critical_of, IsInOrderButPlaces}
+use Rattle.b67_model.specs.InOrder.{from_frame, frames_of_task, critical_of}
+use Rattle.b67_layout.specs.Orders.{IsInOrderButCounts}
 use Rattle.b67_law_order_steps.specs.Profiles.{Profile, profile}
 use Rattle.b67_stack.specs.Stacks.{StackPlace}
 use Rattle.b67_layout.specs.Placement.{Placement, slot_of, spot_in, base_spot, outer_spots, spots, address_of}
@@ -83,7 +84,7 @@ back D n (u ∷ us) [] a v h = absurd a
 back D n (u ∷ us) (y ∷ vs) a v (inl e) = (u, inl refl, subst (λ (z : Task). Same D n u z) e a.0)
 back D n (u ∷ us) (y ∷ vs) a v (inr h) = let (w, i, s) = back D n us vs a.1 v h in (w, inr i, s)
 
-module _ (plan : Placement) (s : Session) (m : SessionJob) (t : Task) (o : IsInOrderButPlaces s) (runs : IsRunning plan s.jobs m t) (ready : t.condition ≡ Ready) (job : Job) (kept : JobKept m t job) where
+module _ (plan : Placement) (s : Session) (m : SessionJob) (t : Task) (o : IsInOrderButCounts s) (runs : IsRunning plan s.jobs m t) (ready : t.condition ≡ Ready) (job : Job) (kept : JobKept m t job) where
   abbrev j : ℕ
   j = m.constants.number
 

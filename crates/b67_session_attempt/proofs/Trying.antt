@@ -10,7 +10,7 @@ use Rattle.b67_model.specs.Rows.{step}
 use Rattle.b67_model.specs.Need.{touched_of}
 use Rattle.b67_model.specs.Run.{number_of}
 use Rattle.b67_model.specs.Schedule.{Session}
-use Rattle.b67_model.specs.InOrder.{IsInOrderButPlaces}
+use Rattle.b67_layout.specs.Orders.{IsInOrderButCounts}
 use Rattle.b67_stack.specs.declared.What.{What}
 use Rattle.b67_stack.specs.declared.What.TheVariants as what
 use Rattle.b67_stack.specs.declared.Step.TheVariants as answers
@@ -82,7 +82,7 @@ module _ (x : Storage) (told : Option (List (List ℕ))) (plan : Placement) (s :
     by (Some k) at_k h = (λ none. (let e : None ≡ Some at = sym none ∙ is in absurd cc), (let e = h.0 in cc), h.1)
     by None at_k h = absurd h
 
-  module _ (o : IsInOrderButPlaces s) (runs : IsRunning plan s.jobs m t) where
+  module _ (o : IsInOrderButCounts s) (runs : IsRunning plan s.jobs m t) where
     touches : (found : What) → IsAbsent x plan m found (step m.constants m.progress.job t) → TouchesAbsent x plan m t found
     touches found a =
         let T : Answer Done → Option ℕ = touched_of m.constants m.progress.job t in

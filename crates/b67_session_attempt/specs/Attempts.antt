@@ -6,7 +6,7 @@ use Rattle.b67_model.specs.Sectors.{sectors}
 use Rattle.b67_model.specs.Need.{touched_of, need}
 use Rattle.b67_model.specs.Rows.{step}
 use Rattle.b67_model.specs.Schedule.{Session}
-use Rattle.b67_model.specs.InOrder.{IsInOrderButPlaces}
+use Rattle.b67_layout.specs.Orders.{IsInOrderButCounts}
 use Rattle.b67_stack.specs.Represents.{Storage}
 use Rattle.b67_layout.specs.Placement.{Placement}
 use Rattle.b67_layout.specs.Session.{IsRunning}
@@ -33,7 +33,7 @@ pub record RunsOver (k : Machine) (told : Option (List (List ℕ))) : Type 0 whe
   pub session : Session
   pub member : SessionJob
   pub task : Task
-  pub ordered : IsInOrderButPlaces session
+  pub ordered : IsInOrderButCounts session
   pub stands : StandsOver storage told k plan session
   pub running : IsRunning plan session.jobs member task
   pub ready : task.condition ≡ Ready

@@ -5,7 +5,7 @@ use Rattle.b67_model.specs.Sectors.{sectors}
 use Rattle.b67_model.specs.Need.{touched_of, need}
 use Rattle.b67_model.specs.Rows.{step}
 use Rattle.b67_model.specs.Schedule.{Session}
-use Rattle.b67_model.specs.InOrder.{IsInOrderButPlaces}
+use Rattle.b67_layout.specs.Orders.{IsInOrderButCounts}
 use Rattle.b67_backing.specs.declared.refusals.SpaceFault.{SpaceFault}
 use Rattle.b67_backing.specs.declared.refusals.SpaceFault.TheVariants as space
 use Rattle.b67_stack.specs.declared.What.{What}
@@ -31,7 +31,7 @@ pub record WantsNothing (x : Storage) (plan : Placement) (m : SessionJob) (t : T
 -- the sectors of each session that the machine stands for are so many
 abbrev pub SumsTo : Machine → ℕ → Type 0
 SumsTo k sum =
-    (x : Storage) (told : Option (List (List ℕ))) (plan : Placement) (s : Session) → IsInOrderButPlaces s → MachineRepresents x told k plan s → sum ≡ sectors s.jobs
+    (x : Storage) (told : Option (List (List ℕ))) (plan : Placement) (s : Session) → IsInOrderButCounts s → MachineRepresents x told k plan s → sum ≡ sectors s.jobs
 
 -- the stop for a want of space: where sectors are missing, with the session's and the device's
 abbrev pub StopsFor : Machine → SpaceFault → Stop → Type 0

@@ -4,13 +4,13 @@ ghost use Rattle.std.specs.Prelude.{◌≡◌, ◌≢◌, ℕ, ◌+◌, ◌≤�
 ghost use Rattle.b67_io.specs.Causes.{Rose};
 ghost use Rattle.b67_model.specs.State.{Ready, Task, SessionJob};
 ghost use Rattle.b67_model.specs.Schedule.{Session};
-ghost use Rattle.b67_model.specs.InOrder.{IsInOrderButPlaces};
+ghost use Rattle.b67_layout.specs.Orders.{IsInOrderButCounts};
 ghost use Rattle.b67_stack.specs.Represents.{Storage};
 ghost use Rattle.b67_layout_storage.specs.Machine.{DeviceAfterCalls, content_after};
 ghost use Rattle.b67_layout.specs.Placement.{Placement};
 ghost use Rattle.b67_layout.specs.Session.{IsRunning};
 ghost use Rattle.b67_exec_cells.specs.Running.{code_area};
-ghost use Rattle.b67_task_tables.specs.Tables.{MachineRepresents};
+ghost use Rattle.b67_task_tables.specs.Tables.{MachineRepresents, row_names};
 ghost use Rattle.b67_task_tables.specs.Runs.{Keeps};
 ghost use Rattle.b67_presence.specs.Bringing.{StandsOver};
 ghost use Rattle.b67_mcp.specs.Called.{AreCountable};
@@ -34,10 +34,10 @@ use b67_word::{Ending, Fault};
 fn last_try<K: Sink>(machine: &mut Machine, paper: &mut K) -> Result<Attempt, Stop>
     requires runs { ReadyRuns machine.old }
     requires countable { AreCountable machine.old.tasks.jobs }
-    ensures row { (x : Storage) (core count : ℕ) (plan : Placement) (s : Session) (m : SessionJob) (t : Task) → IsInOrderButPlaces s → MachineRepresents x x.device machine.old plan s
+    ensures row { (x : Storage) (core count : ℕ) (plan : Placement) (s : Session) (m : SessionJob) (t : Task) → IsInOrderButCounts s → MachineRepresents x x.device machine.old plan s
         → IsRunning plan s.jobs m t → t.condition ≡ Ready → (x.device ≢ None → WantsNothing x plan m t)
         → Attempts K.taken x x.device core count machine.old.tasks.printed plan s t result machine.new paper.old paper.new }
-    ensures fits { (x : Storage) (plan : Placement) (s : Session) (m : SessionJob) (t : Task) → IsInOrderButPlaces s → MachineRepresents x x.device machine.old plan s
+    ensures fits { (x : Storage) (plan : Placement) (s : Session) (m : SessionJob) (t : Task) → IsInOrderButCounts s → MachineRepresents x x.device machine.old plan s
         → IsRunning plan s.jobs m t → t.condition ≡ Ready → WantsNothing x plan m t → AttemptFits (length machine.old.cpu.core) x plan s m t result }
     ensures full { result ≢ Err BackingFault }
     ensures print_cause { result ≡ Err PrintFault → Rose K.faults paper.old paper.new }
@@ -46,6 +46,7 @@ fn last_try<K: Sink>(machine: &mut Machine, paper: &mut K) -> Result<Attempt, St
     ensures len { length machine.new.cpu.core ≡ length machine.old.cpu.core }
     ensures count { length machine.new.sectors.links ≡ length machine.old.sectors.links }
     ensures halt { machine.new.tasks.halt ≡ machine.old.tasks.halt }
+    ensures names { row_names machine.new.tasks.jobs ≡ row_names machine.old.tasks.jobs }
     ensures tables { TablesStay result machine.old.tasks machine.new.tasks }
 {
     match try_once(machine, paper) {
@@ -66,10 +67,10 @@ fn with_code<B: Backing, K: Sink>(
     requires runs { RunsOver machine.old (B.holds backing.old) }
     requires countable { AreCountable machine.old.tasks.jobs }
     requires same { B.size backing.old + 1 ≡ length machine.old.sectors.links }
-    ensures row { (x : Storage) (plan : Placement) (s : Session) (m : SessionJob) (t : Task) → IsInOrderButPlaces s → StandsOver x (B.holds backing.old) machine.old plan s
+    ensures row { (x : Storage) (plan : Placement) (s : Session) (m : SessionJob) (t : Task) → IsInOrderButCounts s → StandsOver x (B.holds backing.old) machine.old plan s
         → IsRunning plan s.jobs m t → t.condition ≡ Ready → code_area x plan m t ≢ None
         → Attempts K.taken x (content_after x.device (B.holds backing.new)) (length machine.old.cpu.core) (B.size backing.old) machine.old.tasks.printed plan s t result machine.new paper.old paper.new }
-    ensures fits { (x : Storage) (plan : Placement) (s : Session) (m : SessionJob) (t : Task) → IsInOrderButPlaces s → StandsOver x (B.holds backing.old) machine.old plan s
+    ensures fits { (x : Storage) (plan : Placement) (s : Session) (m : SessionJob) (t : Task) → IsInOrderButCounts s → StandsOver x (B.holds backing.old) machine.old plan s
         → IsRunning plan s.jobs m t → t.condition ≡ Ready → code_area x plan m t ≢ None → x.device ≢ None → AttemptFits (length machine.old.cpu.core) x plan s m t result }
     ensures full_cause { result ≡ Err BackingFault → Rose B.faults backing.old backing.new }
     ensures print_cause { result ≡ Err PrintFault → Rose K.faults paper.old paper.new }
@@ -78,6 +79,7 @@ fn with_code<B: Backing, K: Sink>(
     ensures len { length machine.new.cpu.core ≡ length machine.old.cpu.core }
     ensures count { length machine.new.sectors.links ≡ length machine.old.sectors.links }
     ensures halt { machine.new.tasks.halt ≡ machine.old.tasks.halt }
+    ensures names { row_names machine.new.tasks.jobs ≡ row_names machine.old.tasks.jobs }
     ensures tables { TablesStay result machine.old.tasks machine.new.tasks }
     ensures device { DeviceAfterCalls B.holds B.size B.calls B.faults backing.old backing.new }
 {
@@ -111,12 +113,12 @@ pub fn attempt<B: Backing, K: Sink>(
     requires runs { RunsOver machine.old (B.holds backing.old) }
     requires countable { AreCountable machine.old.tasks.jobs }
     requires same { B.size backing.old + 1 ≡ length machine.old.sectors.links }
-    ensures row { (x : Storage) (plan : Placement) (s : Session) (m : SessionJob) (t : Task) → IsInOrderButPlaces s → StandsOver x (B.holds backing.old) machine.old plan s
+    ensures row { (x : Storage) (plan : Placement) (s : Session) (m : SessionJob) (t : Task) → IsInOrderButCounts s → StandsOver x (B.holds backing.old) machine.old plan s
         → IsRunning plan s.jobs m t → t.condition ≡ Ready
         → Attempts K.taken x (content_after x.device (B.holds backing.new)) (length machine.old.cpu.core) (B.size backing.old) machine.old.tasks.printed plan s t result machine.new paper.old paper.new }
-    ensures fits { (x : Storage) (plan : Placement) (s : Session) (m : SessionJob) (t : Task) → IsInOrderButPlaces s → StandsOver x (B.holds backing.old) machine.old plan s
+    ensures fits { (x : Storage) (plan : Placement) (s : Session) (m : SessionJob) (t : Task) → IsInOrderButCounts s → StandsOver x (B.holds backing.old) machine.old plan s
         → IsRunning plan s.jobs m t → t.condition ≡ Ready → x.device ≢ None → AttemptFits (length machine.old.cpu.core) x plan s m t result }
-    ensures quiet { (x : Storage) (plan : Placement) (s : Session) (m : SessionJob) (t : Task) → IsInOrderButPlaces s → StandsOver x (B.holds backing.old) machine.old plan s
+    ensures quiet { (x : Storage) (plan : Placement) (s : Session) (m : SessionJob) (t : Task) → IsInOrderButCounts s → StandsOver x (B.holds backing.old) machine.old plan s
         → IsRunning plan s.jobs m t → t.condition ≡ Ready → WantsNothing x plan m t → backing.new ≡ backing.old }
     ensures causes { HaveCauses B.faults K.faults backing.old backing.new paper.old paper.new result }
     ensures countable { AreCountable machine.new.tasks.jobs }

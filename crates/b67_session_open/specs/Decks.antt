@@ -14,7 +14,7 @@ use Rattle.b67_model.specs.InOrder.{SwitchesRise}
 use Rattle.b67_law_order_runs.specs.Opening.{Opening, opening}
 use Rattle.b67_task_tables.specs.declared.tables.JobRow.{JobRow}
 use Rattle.b67_task_tables.specs.Tables.{switch_of}
-pub use Rattle.b67_task_tables.specs.Tables.{IsCountable}
+pub use Rattle.b67_task_tables.specs.Tables.{IsCountable, row_names}
 
 -- a job with its program
 abbrev pub opening_of : Job → Program → Opening
@@ -47,9 +47,6 @@ pub record DeckInRange (d : Deck) : Type 0 where
 -- the names of jobs
 abbrev pub job_names : List Job → List (List ℕ)
 job_names jobs = map (λ (j : Job). j.name) jobs
-
-abbrev pub row_names : List JobRow → List (List ℕ)
-row_names rows = map (λ (r : JobRow). r.name) rows
 
 -- a file as the loader admits it
 pub record IsLoaded (f : Codefile) : Type 0 where

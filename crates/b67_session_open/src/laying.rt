@@ -13,9 +13,9 @@ use b67_word::Word;
 
 /// Writes the mark of the MCP and the intrinsics.
 fn lay_mcp(core: &mut Core)
-    requires { 17 ≤ length core.old }
+    requires { 19 ≤ length core.old }
     ensures words { RepresentsMcp core.new }
-    ensures outside { (i : ℕ) → 17 ≤ i → slice_get core.new i ≡ slice_get core.old i }
+    ensures outside { (i : ℕ) → 19 ≤ i → slice_get core.new i ≡ slice_get core.old i }
     ensures len { length core.new ≡ length core.old }
 {
     let mark = Mscw {
@@ -28,7 +28,7 @@ fn lay_mcp(core: &mut Core)
         back: 0,
     };
     core.set(0, mark.word());
-    for number in 8..17u16 {
+    for number in 8..19u16 {
         let intrinsic = IntrinsicPcw { number };
         core.set(u32::from(number), intrinsic.word());
     }

@@ -44,7 +44,7 @@ fn words_lie_where_they_belong(rt: HostRuntime) -> Result<(), Fail> {
     let words = [
         (0, Word::of(3, 0x4000_0000_0000)),
         (8, Word::of(7, 0x8_0008)),
-        (16, Word::of(7, 0x8_0010)),
+        (18, Word::of(7, 0x8_0012)),
         (32, Word::of(3, 0x7ff0_0001_0000)),
         (33, Word::of(0, 0)),
         (152, Word::of(3, 228)),

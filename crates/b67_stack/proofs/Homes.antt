@@ -90,4 +90,4 @@ not_home x core r p c w i s low get fit plain t int e = by_shape c fit plain whe
   by_shape : (d : Shape) → Fits x.held d i w → ((home : ℕ) → d ≢ Original home) → ⊥
   by_shape (Is v) f n = f.1 (ap (λ (z : Tagged). z.tag) (sym f.0 ∙ is) ∙ tag-home t.kind (length t.numbers) (x.held t.home) no_code)
   by_shape (Original home) f n = n home refl
-  by_shape (Copy d home) f n = home_no_copy t.kind (length t.numbers) (x.held t.home).area (x.held t.home).chain (copy_desc d f.present f.address) (omega (arith, (s.slots.laid.lengths t int).1)) (chain_small x core t (x.held t.home).area (x.held t.home).chain (s.objects t int).content) area_small f.fits (sym is ∙ f.is) refl
+  by_shape (Copy d home) f n = home_no_copy t.kind (length t.numbers) (x.held t.home).area (x.held t.home).chain (copy_desc d f.number f.present f.address) (omega (arith, (s.slots.laid.lengths t int).1)) (chain_small x core t (x.held t.home).area (x.held t.home).chain (s.objects t int).content) area_small f.fits (sym is ∙ f.is) refl

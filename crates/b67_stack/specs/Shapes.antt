@@ -1,5 +1,5 @@
 -- What a word of a stack stands for, and when a word of core is such a word.
-use Rattle.std.specs.Prelude.{◌≡◌, ◌≢◌, ℕ, Bool, true, false, ◌+◌, List, [], ◌∷◌, length, Option, Some, MatchBool, slice_get, None}
+use Rattle.std.specs.Prelude.{◌≡◌, ◌≢◌, ℕ, Bool, true, false, ◌+◌, ◌<◌, ◌^◌, List, [], ◌∷◌, length, Option, Some, None, MatchBool, slice_get, None}
 use Rattle.b67_word.specs.Tagged.{Tagged}
 use Rattle.b67_ctl.specs.declared.descriptors.DataDesc.{DataDesc}
 use Rattle.b67_ctl.specs.Descriptors.{data_word, IsDataDesc}
@@ -14,11 +14,10 @@ pub record Location : Type 0 where
 abbrev pub Locations : Type 0
 Locations = ℕ → Location
 
--- a copy of an array's descriptor, but for its address. The number is the length, or the index of an indexed one
+-- a copy of an array's descriptor, but for its address: an element copy has an index, a row copy none
 pub record Copied : Type 0 where
-  pub indexed : Bool
+  pub index : Option ℕ
   pub read_only : Bool
-  pub number : ℕ
 
 pub data Shape : Type 0 where
   -- a word that is no data descriptor
@@ -28,8 +27,17 @@ pub data Shape : Type 0 where
   -- a copy of it
   Copy : (copied : Copied) (home : ℕ) → Shape
 
-abbrev pub copy_desc : Copied → Bool → ℕ → DataDesc
-copy_desc c present address = record { present = present; copy = true; indexed = c.indexed; read_only = c.read_only; length = c.number; address = address }
+abbrev pub is_indexed : Option ℕ → Bool
+is_indexed None = false
+is_indexed (Some index) = true
+
+-- what the length field of a copy says: the index, or any length, since the array's own may have changed since
+abbrev pub IsNumber : Option ℕ → ℕ → Type 0
+IsNumber None number = (0 < number) × (number < 2 ^ 16)
+IsNumber (Some index) number = number ≡ index
+
+abbrev pub copy_desc : Copied → ℕ → Bool → ℕ → DataDesc
+copy_desc c number present address = record { present = present; copy = true; indexed = is_indexed c.index; read_only = c.read_only; length = number; address = address }
 
 -- an original's word. Which array's it is, and where that is, tells the list of objects
 pub record IsOriginal (w : Tagged) : Type 0 where
@@ -40,10 +48,12 @@ pub record IsOriginal (w : Tagged) : Type 0 where
 
 -- a present copy has the address of its array's area, an absent one that of the original
 pub record IsCopy (held : Locations) (c : Copied) (home : ℕ) (w : Tagged) : Type 0 where
+  pub number : ℕ
+  pub numbered : IsNumber c.index number
   pub present : Bool
   pub address : ℕ
-  pub fits : IsDataDesc (copy_desc c present address)
-  pub is : w ≡ data_word (copy_desc c present address)
+  pub fits : IsDataDesc (copy_desc c number present address)
+  pub is : w ≡ data_word (copy_desc c number present address)
   pub to : MatchBool present ((held home).area ≡ Some address) (address ≡ home)
 
 -- a word at a core address is that of a shape

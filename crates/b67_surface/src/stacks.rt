@@ -4,9 +4,10 @@ ghost use Rattle.b67_ctl.specs.Layout.{IsPlace};
 ghost use Rattle.b67_entry_enter.specs.Procedures.{ReachesProc};
 ghost use Rattle.b67_layout.specs.Meets.{RunsSome};
 ghost use Rattle.b67_model.specs.InOrder.{NamesEntered};
-ghost use Rattle.b67_refer.specs.Cells.{StandsFor, reach, view};
+ghost use Rattle.b67_refer.specs.Cells.{StandsFor};
 ghost use Rattle.b67_refer.specs.Ends.{IsCopyOf};
-ghost use Rattle.b67_refer.specs.RunningContext.{IsShown, RunningContext};
+ghost use Rattle.b67_refer.specs.LiveCells as live;
+ghost use Rattle.b67_refer.specs.RunningContext.{IsShown, LiveContext, RunningContext};
 ghost use Rattle.b67_stack.specs.Changes.{Runs, below_top};
 ghost use Rattle.b67_stack.specs.MachineView.{MachineView, RunsOn};
 ghost use Rattle.b67_stack.specs.Represents.{Represents, Storage};
@@ -54,7 +55,7 @@ pub fn cell_of(core: &Core, regs: &Regs, display: &[u32; 32], c: Couple) -> Resu
 }
 
 pub fn cell_at(core: &Core, regs: &Regs, r: Sirw) -> Result<u32, Fault>
-    requires { (a : RunningContext core.now regs.now) × (f : ℕ) × NamesEntered (reach a) f × (view a f ≡ record { stack = r.stack; disp = r.disp }) }
+    requires { (a : LiveContext core.now regs.now) × (f : ℕ) × NamesEntered (live.reach a) f × (live.view a f ≡ record { stack = r.stack; disp = r.disp }) }
 {
     b67_refer::cell_at(core, regs, r)
 }

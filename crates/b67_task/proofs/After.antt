@@ -11,7 +11,8 @@ use Rattle.b67_model.specs.State.{Frame, Segment, Task, Job, SessionJob}
 use Rattle.b67_model.specs.Steps.{is_critical}
 use Rattle.b67_model.specs.Run.{number_of}
 use Rattle.b67_model.specs.Schedule.{Session}
-use Rattle.b67_model.specs.InOrder.{IsSegment, BirthInOrder, TaskInOrder, JobInOrder, IsInOrderButPlaces}
+use Rattle.b67_model.specs.InOrder.{IsSegment, BirthInOrder, TaskInOrder}
+use Rattle.b67_layout.specs.Orders.{JobInOrderButCounts, IsInOrderButCounts}
 use Rattle.b67_single.specs.Single.{IsSingle}
 use Rattle.b67_law_order.proofs.Looks.{above_one}
 use Rattle.b67_stack.specs.declared.Cpu.{Cpu}
@@ -33,7 +34,7 @@ not_critical : (job : Job) (frames : List Frame) → ((f : Frame) → Has frames
 not_critical job [] h = refl
 not_critical job (f ∷ below) h = rw (h f (inl refl)) (not_critical job below (λ g i. h g (inr i)))
 
-module _ (x : Storage) (cpu : Cpu) (plan : Placement) (s : Session) (m : SessionJob) (t : Task) (o : IsInOrderButPlaces s) (h : RepresentsSession x cpu plan s) (single : IsSingle s m t) where
+module _ (x : Storage) (cpu : Cpu) (plan : Placement) (s : Session) (m : SessionJob) (t : Task) (o : IsInOrderButCounts s) (h : RepresentsSession x cpu plan s) (single : IsSingle s m t) where
   abbrev k : ℕ
   k = slot_of plan m.constants.number t.number
 
@@ -83,8 +84,8 @@ module _ (x : Storage) (cpu : Cpu) (plan : Placement) (s : Session) (m : Session
       let P : List PagedObject → MachineView = λ cs. record { stacks = plan.stacks; size = plan.size; peak = plan.peak; slots = λ q. Free; objects = (cs ++ arrays_of plan s m t single (kept plan s m t single)) ++ [] } in
       ap P (sym (codes_bare plan m.constants.number 1 m.constants.segments))
 
-  order : JobInOrder (IsSegment m.constants) m.constants m.progress
-  order = all_in (λ (y : SessionJob). JobInOrder (IsSegment y.constants) y.constants y.progress) s.jobs m o.jobs (in_jobs s m t single)
+  order : JobInOrderButCounts (IsSegment m.constants) m.constants m.progress
+  order = all_in (λ (y : SessionJob). JobInOrderButCounts (IsSegment y.constants) y.constants y.progress) s.jobs m o.jobs (in_jobs s m t single)
 
   task_order : TaskInOrder (IsSegment m.constants) m.constants m.progress.job t
   task_order = all_in (TaskInOrder (IsSegment m.constants) m.constants m.progress.job) m.progress.job.tasks t order.tasks.tasks (in_tasks s m t single)

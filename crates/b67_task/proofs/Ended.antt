@@ -5,7 +5,7 @@ use Rattle.b67_area.specs.declared.Areas.{Areas}
 use Rattle.b67_backing.specs.Shelf.{Table}
 use Rattle.b67_model.specs.State.{Task, SessionJob}
 use Rattle.b67_model.specs.Schedule.{Session}
-use Rattle.b67_model.specs.InOrder.{IsInOrderButPlaces}
+use Rattle.b67_layout.specs.Orders.{IsInOrderButCounts}
 use Rattle.b67_single.specs.Single.{IsSingle}
 use Rattle.b67_stack.specs.declared.Cpu.{Cpu}
 use Rattle.b67_stack.specs.MachineView.{stack_of}
@@ -24,7 +24,7 @@ use Rattle.b67_task.proofs.Homes.{stack_is}
 use Rattle.b67_task.proofs.Leftover.{slot_start, slot_high, slot_used, gone, bare_machine_view, are_left, new_length, new_regs, words_stay, vector_zero}
 use Rattle.b67_task.proofs.After.{stands_after}
 
-module _ (x : Storage) (cpu : Cpu) (plan : Placement) (s : Session) (m : SessionJob) (t : Task) (o : IsInOrderButPlaces s) (h : RepresentsSession x cpu plan s) (single : IsSingle s m t) where
+module _ (x : Storage) (cpu : Cpu) (plan : Placement) (s : Session) (m : SessionJob) (t : Task) (o : IsInOrderButCounts s) (h : RepresentsSession x cpu plan s) (single : IsSingle s m t) where
   abbrev k : ℕ
   k = slot_of plan m.constants.number t.number
 

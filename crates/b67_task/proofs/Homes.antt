@@ -14,7 +14,8 @@ use Rattle.b67_lemmas.proofs.Members.{all_in, any_has, any_some, falls_same, has
 use Rattle.b67_model.specs.Words.{Original}
 use Rattle.b67_model.specs.State.{Frame, Array, Segment, Task, SessionJob}
 use Rattle.b67_model.specs.Schedule.{Session}
-use Rattle.b67_model.specs.InOrder.{IsSegment, WordInOrder, OwnsArray, EntryInOrder, JobInOrder, IsInOrderButPlaces, outer_of}
+use Rattle.b67_model.specs.InOrder.{IsSegment, WordInOrder, OwnsArray, EntryInOrder, outer_of}
+use Rattle.b67_layout.specs.Orders.{JobInOrderButCounts, IsInOrderButCounts}
 use Rattle.b67_single.specs.Single.{IsSingle}
 use Rattle.b67_law_order.proofs.Looks.{above_one}
 use Rattle.b67_stack.specs.Shapes as Shapes
@@ -42,7 +43,7 @@ code_kind plan j n (q ∷ more) u (inl e) = ap (λ (v : PagedObject). v.kind) (s
 code_kind plan j n (q ∷ more) u (inr i) = code_kind plan j (n + 1) more u i
 
 module _ (x : Storage) (core : List Tagged) (r : Regs) (marks : List ℕ) (plan : Placement) (s : Session) (m : SessionJob) (t : Task)
-    (o : IsInOrderButPlaces s) (h : SessionHolds x core r marks plan s) (single : IsSingle s m t) where
+    (o : IsInOrderButCounts s) (h : SessionHolds x core r marks plan s) (single : IsSingle s m t) where
   abbrev j : ℕ
   j = m.constants.number
 
@@ -58,8 +59,8 @@ module _ (x : Storage) (core : List Tagged) (r : Regs) (marks : List ℕ) (plan 
   abbrev pub base : ℕ
   base = slot_base (machine_view plan s.jobs) (slot_of plan m.constants.number t.number)
 
-  order : JobInOrder (IsSegment m.constants) m.constants m.progress
-  order = all_in (λ (y : SessionJob). JobInOrder (IsSegment y.constants) y.constants y.progress) s.jobs m o.jobs (in_jobs s m t single)
+  order : JobInOrderButCounts (IsSegment m.constants) m.constants m.progress
+  order = all_in (λ (y : SessionJob). JobInOrderButCounts (IsSegment y.constants) y.constants y.progress) s.jobs m o.jobs (in_jobs s m t single)
 
   pub used : k < plan.peak
   used = slot_below plan s.jobs m t h.fits.rows (in_jobs s m t single) (in_tasks s m t single)

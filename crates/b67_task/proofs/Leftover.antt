@@ -7,7 +7,7 @@ use Rattle.b67_area.specs.declared.Areas.{Areas}
 use Rattle.b67_backing.specs.Shelf.{Table}
 use Rattle.b67_model.specs.State.{Task, SessionJob}
 use Rattle.b67_model.specs.Schedule.{Session}
-use Rattle.b67_model.specs.InOrder.{IsInOrderButPlaces}
+use Rattle.b67_layout.specs.Orders.{IsInOrderButCounts}
 use Rattle.b67_single.specs.Single.{IsSingle}
 use Rattle.b67_stack.specs.declared.Cpu.{Cpu}
 use Rattle.b67_stack.specs.Stacks.{stack_words}
@@ -25,7 +25,7 @@ use Rattle.b67_task.proofs.Alone.{others_free, left, stays, same_objects}
 use Rattle.b67_task.proofs.Homes.{stack, base, used, stack_fits, goes_each, left_between, stays_low}
 use Rattle.b67_task.proofs.Emptied.{bare, Emptied, Represents-emptied}
 
-module _ (x : Storage) (cpu : Cpu) (plan : Placement) (s : Session) (m : SessionJob) (t : Task) (o : IsInOrderButPlaces s) (h : RepresentsSession x cpu plan s) (single : IsSingle s m t) where
+module _ (x : Storage) (cpu : Cpu) (plan : Placement) (s : Session) (m : SessionJob) (t : Task) (o : IsInOrderButCounts s) (h : RepresentsSession x cpu plan s) (single : IsSingle s m t) where
   abbrev p : MachineView
   p = machine_view plan s.jobs
 

@@ -7,7 +7,7 @@ use Rattle.b67_backing.specs.Shelf.{Table}
 use Rattle.b67_model.specs.State.{Task, SessionJob}
 use Rattle.b67_model.specs.Endings.{ends_task}
 use Rattle.b67_model.specs.Schedule.{Session}
-use Rattle.b67_model.specs.InOrder.{IsInOrderButPlaces}
+use Rattle.b67_layout.specs.Orders.{IsInOrderButCounts}
 use Rattle.b67_single.specs.Single.{IsSingle}
 use Rattle.b67_stack.specs.declared.Cpu.{Cpu}
 use Rattle.b67_stack.specs.Represents.{Storage}
@@ -44,7 +44,7 @@ pub record HasSlot (cpu : Cpu) (areas : Areas) (table : Table) (k : ℕ) : Type 
   pub session : Session
   pub member : SessionJob
   pub task : Task
-  pub ordered : IsInOrderButPlaces session
+  pub ordered : IsInOrderButCounts session
   pub stands : RepresentsSession storage cpu plan session
   pub beside : RepresentsStorage areas table told cpu.core storage
   pub single : IsSingle session member task
@@ -65,7 +65,7 @@ pub record HasOne (machine : Machine) : Type 0 where
   pub session : Session
   pub member : SessionJob
   pub task : Task
-  pub ordered : IsInOrderButPlaces session
+  pub ordered : IsInOrderButCounts session
   pub stands : MachineRepresents storage told (record machine { tasks = tables }) plan session
   pub single : IsSingle session member task
 

@@ -4,7 +4,7 @@ ghost use Rattle.std.specs.Prelude.{◌≡◌, ℕ, [], List, Option, length};
 ghost use Rattle.b67_word.specs.declared.faults.Ending.{Ending};
 ghost use Rattle.b67_model.specs.State.{Task, SessionJob};
 ghost use Rattle.b67_model.specs.Schedule.{Session};
-ghost use Rattle.b67_model.specs.InOrder.{IsInOrderButPlaces};
+ghost use Rattle.b67_layout.specs.Orders.{IsInOrderButCounts};
 ghost use Rattle.b67_single.specs.Single.{IsSingle};
 ghost use Rattle.b67_stack.specs.Represents.{Storage};
 ghost use Rattle.b67_layout.specs.Placement.{Placement};
@@ -22,7 +22,7 @@ use b67_task_tables::Machine;
 pub fn end_last(machine: &mut Machine)
     requires { HasOne machine.old }
     ensures stands { (u : Tasks) (x : Storage) (told : Option (List (List ℕ))) (plan : Placement) (s : Session) (m : SessionJob) (t : Task) (ending : Ending) → HasRowsOf machine.old u
-        → IsInOrderButPlaces s → MachineRepresents x told (record machine.old { tasks = u }) plan s → IsSingle s m t
+        → IsInOrderButCounts s → MachineRepresents x told (record machine.old { tasks = u }) plan s → IsSingle s m t
         → EndsIn told plan s m t ending (record machine.new { tasks = record u { rows = machine.new.tasks.rows; running = 255 } }) }
     ensures tasks { machine.new.tasks ≡ record machine.old.tasks { rows = machine.new.tasks.rows; running = 255 } }
     ensures rows { machine.new.tasks.rows.items ≡ [] }

@@ -4,7 +4,7 @@ ghost use Rattle.std.specs.Prelude.{◌≡◌, ◌+◌, ◌<◌, ◌≤◌, ℕ,
 ghost use Rattle.b67_word.specs.declared.faults.Ending.{Ending};
 ghost use Rattle.b67_model.specs.State.{Task, SessionJob};
 ghost use Rattle.b67_model.specs.Schedule.{Session};
-ghost use Rattle.b67_model.specs.InOrder.{IsInOrderButPlaces};
+ghost use Rattle.b67_layout.specs.Orders.{IsInOrderButCounts};
 ghost use Rattle.b67_single.specs.Single.{IsSingle};
 ghost use Rattle.b67_stack.specs.Represents.{Storage};
 ghost use Rattle.b67_layout.specs.Placement.{Placement, slot_of};
@@ -38,7 +38,7 @@ pub fn end_slot(cpu: &mut Cpu, areas: &mut Areas, sectors: &mut Sectors, slot: u
     ensures len { length cpu.new.core ≡ length cpu.old.core }
     ensures areas { areas.new ≡ areas.old }
     ensures count { length sectors.new.links ≡ length sectors.old.links }
-    ensures stands { (x : Storage) (told : Option (List (List ℕ))) (plan : Placement) (s : Session) (m : SessionJob) (t : Task) (ending : Ending) → IsInOrderButPlaces s
+    ensures stands { (x : Storage) (told : Option (List (List ℕ))) (plan : Placement) (s : Session) (m : SessionJob) (t : Task) (ending : Ending) → IsInOrderButCounts s
         → RepresentsSession x cpu.old plan s → RepresentsStorage areas.old sectors.old told cpu.old.core x → IsSingle s m t → slot ≡ slot_of plan m.constants.number t.number
         → HasEnded told plan s m t ending cpu.new areas.new sectors.new }
 {

@@ -7,7 +7,8 @@ use Rattle.b67_lemmas.proofs.Members.{falls_low, has_append_cases, has_flat, has
 use Rattle.b67_model.specs.State.{Task, SessionJob}
 use Rattle.b67_model.specs.Run.{live_tasks}
 use Rattle.b67_model.specs.Schedule.{Session}
-use Rattle.b67_model.specs.InOrder.{NumberedFrom, IsInOrderButPlaces}
+use Rattle.b67_model.specs.InOrder.{NumberedFrom}
+use Rattle.b67_layout.specs.Orders.{IsInOrderButCounts}
 use Rattle.b67_layout.specs.Placement.{Slotted, Placement, slot_of}
 use Rattle.b67_layout.specs.Rows.{TaskRow, JobRow, Counts, Differ, TablesShow}
 use Rattle.b67_layout.specs.Session.{RowsFit}
@@ -55,7 +56,7 @@ slots_length plan (m ∷ more) = omega (
   sum_by-cons (λ (y : SessionJob). length y.progress.job.tasks) m more,
 )
 
-module _ (plan : Placement) (s : Session) (o : IsInOrderButPlaces s) (fit : RowsFit plan s.jobs) where
+module _ (plan : Placement) (s : Session) (o : IsInOrderButCounts s) (fit : RowsFit plan s.jobs) where
   -- a slot tells the task
   slot_tells : (m y : SessionJob) (t u : Task) → Has s.jobs m → Has m.progress.job.tasks t → Has s.jobs y → Has y.progress.job.tasks u
       → slot_of plan m.constants.number t.number ≡ slot_of plan y.constants.number u.number → (m.constants.number ≡ y.constants.number) × (t.number ≡ u.number)

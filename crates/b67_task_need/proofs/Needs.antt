@@ -13,7 +13,7 @@ use Rattle.b67_model.specs.Need.{fixed, touched_of, started_by, area_of, need}
 use Rattle.b67_model.specs.Rows.{code_of, step}
 use Rattle.b67_model.specs.Run.{live_tasks, number_of}
 use Rattle.b67_model.specs.Schedule.{Session}
-use Rattle.b67_model.specs.InOrder.{IsInOrderButPlaces}
+use Rattle.b67_layout.specs.Orders.{IsInOrderButCounts}
 use Rattle.b67_stack.specs.Represents.{Storage}
 use Rattle.b67_layout.specs.Placement.{Placement}
 use Rattle.b67_layout.specs.Session.{DictionariesFollow, IsRunning}
@@ -44,7 +44,7 @@ pub record Read (k : Machine) (s : Session) (m : SessionJob) (t : Task) : Type 0
   pub within : live_tasks s.jobs ≤ s.peak
   pub short : length (code_of m.constants t.segment) < 2 ^ 13
 
-pub read : (x : Storage) (told : Option (List (List ℕ))) (k : Machine) (plan : Placement) (s : Session) (m : SessionJob) (t : Task) → IsInOrderButPlaces s → MachineRepresents x told k plan s → IsRunning plan s.jobs m t → Read k s m t
+pub read : (x : Storage) (told : Option (List (List ℕ))) (k : Machine) (plan : Placement) (s : Session) (m : SessionJob) (t : Task) → IsInOrderButCounts s → MachineRepresents x told k plan s → IsRunning plan s.jobs m t → Read k s m t
 read x told k plan s m t o h runs =
     let holds = h.session.holds in
     let slots = holds.memory.slots in
@@ -101,7 +101,7 @@ module _ (k : Machine) (s : Session) (m : SessionJob) (t : Task) (r : Read k s m
 
 -- areas begin behind the dictionaries and the stacks of the slots used so far, so that without a new stack the need is
 -- what lies below them, the running segment's area and the array's
-module _ (x : Storage) (told : Option (List (List ℕ))) (k : Machine) (plan : Placement) (s : Session) (m : SessionJob) (t : Task) (o : IsInOrderButPlaces s) (h : MachineRepresents x told k plan s) (runs : IsRunning plan s.jobs m t) where
+module _ (x : Storage) (told : Option (List (List ℕ))) (k : Machine) (plan : Placement) (s : Session) (m : SessionJob) (t : Task) (o : IsInOrderButCounts s) (h : MachineRepresents x told k plan s) (runs : IsRunning plan s.jobs m t) where
   pub low_is : k.areas.low ≡ fixed s.jobs + s.peak * m.constants.stack_size
   low_is =
       let holds = h.session.holds in

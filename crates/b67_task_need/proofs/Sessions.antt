@@ -16,7 +16,8 @@ use Rattle.b67_model.specs.State.{Frame, Array, Segment, JobConstants, Task, Job
 use Rattle.b67_model.specs.Keyed.{keyed}
 use Rattle.b67_model.specs.Sectors.{sectors_for, sectors_of, sectors}
 use Rattle.b67_model.specs.Schedule.{Session}
-use Rattle.b67_model.specs.InOrder.{Starts, IsSegment, Known, known_of, OwnsArray, FramesInOrder, WordInOrder, EntryInOrder, is_original_of, originals_of, outer_of, rows_after, DictionaryWords, TaskInOrder, TasksInOrder, IsInOrderButPlaces}
+use Rattle.b67_model.specs.InOrder.{Starts, IsSegment, Known, known_of, OwnsArray, FramesInOrder, WordInOrder, EntryInOrder, is_original_of, originals_of, outer_of, rows_after, DictionaryWords, TaskInOrder, TasksInOrder}
+use Rattle.b67_layout.specs.Orders.{IsInOrderButCounts}
 use Rattle.b67_stack.specs.declared.Cpu.{Cpu}
 use Rattle.b67_stack.specs.Shapes as Shapes
 use Rattle.b67_stack.specs.Shapes.{Location}
@@ -117,7 +118,7 @@ dict_rows arrays n (g ∷ more) (w ∷ ws) d =
     let none : kept arrays w ≡ 0 = ap (kept arrays) d.0 ∙ total_zero (λ (a : Array). if is_original_of a.identity (Words.Segment n) then sectors_for (length a.numbers) else 0) arrays (λ a there. refl) in
     record { rows = r.rows; after = r.after; count = omega (arith, r.count); same = omega (arith, none, r.same); inside = λ v there. inr (r.inside v there) }
 
-module _ (x : Storage) (cpu : Cpu) (plan : Placement) (s : Session) (o : IsInOrderButPlaces s) (h : RepresentsSession x cpu plan s) where
+module _ (x : Storage) (cpu : Cpu) (plan : Placement) (s : Session) (o : IsInOrderButCounts s) (h : RepresentsSession x cpu plan s) where
   abbrev core : List Tagged
   core = cpu.core
 

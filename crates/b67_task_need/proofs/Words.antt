@@ -9,7 +9,7 @@ use Rattle.b67_ctl.specs.Layout.{bit}
 use Rattle.b67_lemmas.specs.Lists.{total}
 use Rattle.b67_model.specs.Sectors.{sectors_for}
 use Rattle.b67_stack.specs.Shapes as Shapes
-use Rattle.b67_stack.specs.Shapes.{Location, Locations, Shape, Is, Copy, Fits, LieDownward}
+use Rattle.b67_stack.specs.Shapes.{Location, Locations, Shape, Is, Copy, Fits, LieDownward, is_indexed}
 use Rattle.b67_stack.specs.Stacks.{Head, Marked, Entered, Activation, headed}
 use Rattle.b67_stack.specs.MachineView.{is_present, address_or, home_word_of}
 use Rattle.b67_stack.proofs.Homes.{bit-lt}
@@ -65,7 +65,7 @@ word_fits held core (Is v) at w get f = is_plain w (λ z. f.1 (ap (λ (u : Tagge
 word_fits held core (Shapes.Original home) at w get f = ap (sectors_at false) (sym get ∙ ap (slice_get core) f.0)
 word_fits held core (Copy c home) at w get f =
     ap (sectors_of_word false) f.is
-    ∙ is_copy _ refl (copy_bit (bit f.present) (bit c.indexed) (bit c.read_only) c.number f.address (bit-lt f.present) (bit-lt c.indexed) (bit-lt c.read_only) f.fits.words f.fits.address)
+    ∙ is_copy _ refl (copy_bit (bit f.present) (bit (is_indexed c.index)) (bit c.read_only) f.number f.address (bit-lt f.present) (bit-lt (is_indexed c.index)) (bit-lt c.read_only) f.fits.words f.fits.address)
 
 pub lies_total : (held : Locations) (core : List Tagged) (from : ℕ) (xs : List Shape) → LieDownward (Fits held) core from xs → sectors_from false core from (length xs) ≡ total (of_shape core) xs
 lies_total held core from [] l = refl

@@ -6,7 +6,7 @@ use Rattle.b67_model.specs.Rows.{code_of}
 use Rattle.b67_model.specs.Run.{live_tasks}
 use Rattle.b67_model.specs.Schedule.{Session}
 use Rattle.b67_model.specs.Need.{fixed}
-use Rattle.b67_model.specs.InOrder.{IsInOrderButPlaces}
+use Rattle.b67_layout.specs.Orders.{IsInOrderButCounts}
 use Rattle.b67_stack.specs.Represents.{Storage}
 use Rattle.b67_layout.specs.Placement.{Placement}
 use Rattle.b67_task_tables.specs.declared.tables.Machine.{Machine}
@@ -38,5 +38,5 @@ pub record StandsInOrder (k : Machine) : Type 0 where
   pub told : Option (List (List ℕ))
   pub plan : Placement
   pub session : Session
-  pub ordered : IsInOrderButPlaces session
+  pub ordered : IsInOrderButCounts session
   pub stands : MachineRepresents storage told k plan session

@@ -3,7 +3,7 @@
 ghost use Rattle.std.specs.Prelude.{◌≡◌, ℕ, true, false, ◌+◌, ◌-◌, ◌*◌, ◌≤◌, length, List, Option};
 ghost use Rattle.b67_model.specs.Sectors.{sectors};
 ghost use Rattle.b67_model.specs.Schedule.{Session};
-ghost use Rattle.b67_model.specs.InOrder.{IsInOrderButPlaces};
+ghost use Rattle.b67_layout.specs.Orders.{IsInOrderButCounts};
 ghost use Rattle.b67_stack.specs.Represents.{Storage};
 ghost use Rattle.b67_layout.specs.Placement.{Placement};
 ghost use Rattle.b67_task_tables.specs.Tables.{MachineRepresents};
@@ -68,7 +68,7 @@ fn core_sectors(core: &Core, regs: &Regs) -> u32
 /// not, those of its words, 30 to a sector.
 pub fn sector_sum(machine: &Machine) -> u32
     requires { StandsInOrder machine.now }
-    ensures { (x : Storage) (told : Option (List (List ℕ))) (plan : Placement) (s : Session) → IsInOrderButPlaces s
+    ensures { (x : Storage) (told : Option (List (List ℕ))) (plan : Placement) (s : Session) → IsInOrderButCounts s
         → MachineRepresents x told machine.now plan s → result ≡ sectors s.jobs }
 {
     core_sectors(&machine.cpu.core, &machine.cpu.regs)

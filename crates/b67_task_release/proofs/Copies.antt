@@ -12,7 +12,8 @@ use Rattle.b67_model.specs.Words.{Word, Operand, Name, Ref, Row, Element, Origin
 use Rattle.b67_model.specs.State.{Frame, Array, Task, Job, SessionJob}
 use Rattle.b67_model.specs.Run.{number_of}
 use Rattle.b67_model.specs.Schedule.{Session}
-use Rattle.b67_model.specs.InOrder.{Starts, IsSegment, Known, WordInOrder, FramesInOrder, TaskInOrder, JobInOrder, IsInOrderButPlaces, outer_of}
+use Rattle.b67_model.specs.InOrder.{Starts, IsSegment, Known, WordInOrder, FramesInOrder, TaskInOrder, outer_of}
+use Rattle.b67_layout.specs.Orders.{JobInOrderButCounts, IsInOrderButCounts}
 use Rattle.b67_stack.specs.Shapes as Shapes
 use Rattle.b67_stack.specs.Shapes.{Shape, Is, Copy, Copied}
 use Rattle.b67_stack.specs.Stacks.{StackPlace, Head, Marked, Entered, Activation, headed, words}
@@ -101,9 +102,9 @@ array_kind true e = cc
 array_kind false e = cc
 
 -- in a session in order each task's frames are
-pub frames_in_order : (s : Session) → IsInOrderButPlaces s → (m : SessionJob) (t : Task) → Has s.jobs m → Has m.progress.job.tasks t → FramesInOrder (IsSegment m.constants) m.progress.job.arrays (outer_of m.progress.job t) t.frames
+pub frames_in_order : (s : Session) → IsInOrderButCounts s → (m : SessionJob) (t : Task) → Has s.jobs m → Has m.progress.job.tasks t → FramesInOrder (IsSegment m.constants) m.progress.job.arrays (outer_of m.progress.job t) t.frames
 frames_in_order s o m t inm int =
-    let order = all_in (λ (n : SessionJob). JobInOrder (IsSegment n.constants) n.constants n.progress) s.jobs m o.jobs inm in
+    let order = all_in (λ (n : SessionJob). JobInOrderButCounts (IsSegment n.constants) n.constants n.progress) s.jobs m o.jobs inm in
     (all_in (TaskInOrder (IsSegment m.constants) m.constants m.progress.job) m.progress.job.tasks t order.tasks.tasks int).frames
 
 module _ (plan : Placement) (s : Session) (o : (m : SessionJob) (t : Task) → Has s.jobs m → Has m.progress.job.tasks t → FramesInOrder (IsSegment m.constants) m.progress.job.arrays (outer_of m.progress.job t) t.frames) where

@@ -13,7 +13,8 @@ use Rattle.b67_model.specs.Words.{Word, Operand, Name, Ref, Row, Element, Origin
 use Rattle.b67_model.specs.State.{Standing, Entered, Return, Frame, Array, Task, Job, SessionJob}
 use Rattle.b67_model.specs.Run.{number_of}
 use Rattle.b67_model.specs.Schedule.{Session}
-use Rattle.b67_model.specs.InOrder.{Starts, IsSegment, Known, WordInOrder, FramesInOrder, JobInOrder, IsInOrderButPlaces, outer_of}
+use Rattle.b67_model.specs.InOrder.{Starts, IsSegment, Known, WordInOrder, FramesInOrder, outer_of}
+use Rattle.b67_layout.specs.Orders.{JobInOrderButCounts, IsInOrderButCounts}
 use Rattle.b67_stack.specs.declared.Cpu.{Cpu}
 use Rattle.b67_stack.specs.Shapes as Shapes
 use Rattle.b67_stack.specs.Shapes.{Locations, Shape, Is, Copy, IsOriginal, Fits, LieDownward, copy_desc}
@@ -68,7 +69,7 @@ original_tag w o = ap (λ (v : Tagged). v.tag) o.is
 pub original_shape : (held : Locations) (a : Shape) (i : ℕ) (w : Tagged) → Fits held a i w → IsOriginal w → a ≡ Shapes.Original i
 original_shape held (Is v) i w f o = absurd (f.1 (ap (λ (u : Tagged). u.tag) (sym f.0 ∙ o.is)))
 original_shape held (Shapes.Original q) i w f o = ap Shapes.Original (sym f.0)
-original_shape held (Copy c q) i w f o = absurd (true≢false ((same_desc (copy_desc c f.present f.address) o.desc f.fits o.fits (sym f.is ∙ o.is)).copy ∙ o.own))
+original_shape held (Copy c q) i w f o = absurd (true≢false ((same_desc (copy_desc c f.number f.present f.address) o.desc f.fits o.fits (sym f.is ∙ o.is)).copy ∙ o.own))
 
 module _ (plan : Placement) (j : ℕ) (job : Job) (spot : ℕ → StackPlace) (P : Starts) (reach : List Known) (owner : ℕ) where
   pub original_named : (v : Word) (home : ℕ) → shape plan j job spot v ≡ Shapes.Original home → WordInOrder P job.arrays reach owner v → (a : Array) × Has job.arrays a × (plan.home j a.identity ≡ home)
@@ -106,7 +107,7 @@ owned_gone owner bound old new falls is a h e = ⊎_elim
     (λ (t : list_any (names a.identity) new.arrays ≡ false). has_filter_in (λ (b : Array). not (list_any (names b.identity) new.arrays)) old.arrays a h (ap not t))
     (cases_Bool (list_any (names a.identity) new.arrays))
 
-module _ (x : Storage) (old : Cpu) (plan : Placement) (s : Session) (m : SessionJob) (t : Task) (f : Frame) (below : List Frame) (o : IsInOrderButPlaces s) (h : RepresentsSession x old plan s)
+module _ (x : Storage) (old : Cpu) (plan : Placement) (s : Session) (m : SessionJob) (t : Task) (f : Frame) (below : List Frame) (o : IsInOrderButCounts s) (h : RepresentsSession x old plan s)
     (runs : IsRunning plan s.jobs m t) (frames : t.frames ≡ f ∷ below) (job : Job) (is : job.arrays ≡ others f.identity m.progress.job.arrays) where
   abbrev j : ℕ
   j = m.constants.number
@@ -165,7 +166,7 @@ module _ (x : Storage) (old : Cpu) (plan : Placement) (s : Session) (m : Session
         fits = (running_fits x old.core old.regs p plan.running stack h.holds.memory on).0.fits
 
         names_in : Falls m.progress.job.next_array (map (λ (a : Array). a.identity) m.progress.job.arrays)
-        names_in = (all_in (λ (y : SessionJob). JobInOrder (IsSegment y.constants) y.constants y.progress) s.jobs m o.jobs in_m).tasks.names
+        names_in = (all_in (λ (y : SessionJob). JobInOrderButCounts (IsSegment y.constants) y.constants y.progress) s.jobs m o.jobs in_m).tasks.names
 
         by : (a : Array) → Has m.progress.job.arrays a → ((m ≡ m) × (a.owner ≡ f.identity)) ⊎ ((plan.home j a.identity ≤ new_top) ⊎ (slot_base p plan.running + plan.size ≤ plan.home j a.identity)) → plan.home j a.identity ≡ i → HasHome (objects_gone plan m job) i
         by a ina (inl e) home = (array_object plan j a, has_map (array_object plan j) (gone m.progress.job job) a (owned_gone f.identity m.progress.job.next_array m.progress.job job names_in is a ina e.1), home)

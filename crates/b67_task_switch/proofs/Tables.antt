@@ -12,7 +12,8 @@ use Rattle.b67_lemmas.proofs.Places.{has_at, same_mapped}
 use Rattle.b67_model.specs.State.{Condition, Ready, Awaits, WaitsAt, Task, Job, SessionJob}
 use Rattle.b67_model.specs.Keyed.{keyed}
 use Rattle.b67_model.specs.Schedule.{Session}
-use Rattle.b67_model.specs.InOrder.{JobInOrder, IsSegment, NumberedFrom, IsInOrderButPlaces}
+use Rattle.b67_model.specs.InOrder.{IsSegment, NumberedFrom}
+use Rattle.b67_layout.specs.Orders.{JobInOrderButCounts, IsInOrderButCounts}
 use Rattle.b67_stack.specs.Represents.{Storage}
 use Rattle.b67_stack.specs.Stacks.{StackPlace}
 use Rattle.b67_layout.specs.Placement.{Placement, slot_of, address_of}
@@ -27,9 +28,9 @@ use Rattle.b67_law_order.proofs.Numbered.{keyed_member, numbered_low}
 keyed-head : {A : Type 0} (key : A → ℕ) (y : A) (more : List A) → keyed key (key y) (y ∷ more) ≡ Some y
 keyed-head key y more = rw (eq-eqb (key y) (key y) refl) refl
 
-pub live_in_order : (s : Session) (m : SessionJob) (t : Task) → IsInOrderButPlaces s → Has s.jobs m → Has m.progress.job.tasks t → keyed (λ (u : Task). u.number) t.number m.progress.job.tasks ≡ Some t
+pub live_in_order : (s : Session) (m : SessionJob) (t : Task) → IsInOrderButCounts s → Has s.jobs m → Has m.progress.job.tasks t → keyed (λ (u : Task). u.number) t.number m.progress.job.tasks ≡ Some t
 live_in_order s m t o inm int =
-    let j = all_in (λ (y : SessionJob). JobInOrder (IsSegment y.constants) y.constants y.progress) s.jobs m o.jobs inm in
+    let j = all_in (λ (y : SessionJob). JobInOrderButCounts (IsSegment y.constants) y.constants y.progress) s.jobs m o.jobs inm in
     keyed_falls (λ (u : Task). u.number) m.progress.job.next_task m.progress.job.tasks t j.tasks.numbers int
 
 -- a row of a task, whatever registers are in use
@@ -68,7 +69,7 @@ module _ (plan : Placement) (k : ℕ) where
   JobsShow-replan (m ∷ more) (r ∷ rows) h =
       (record { dictionary = h.0.dictionary; segments = h.0.segments; rows = h.0.rows; limit = h.0.limit; made = h.0.made; next_task = h.0.next_task; numbers = h.0.numbers }, JobsShow-replan more rows h.1)
 
-module _ (x : Storage) (core : List Tagged) (r : Regs) (marks : List ℕ) (plan : Placement) (s : Session) (o : IsInOrderButPlaces s) (h : SessionHolds x core r marks plan s)
+module _ (x : Storage) (core : List Tagged) (r : Regs) (marks : List ℕ) (plan : Placement) (s : Session) (o : IsInOrderButCounts s) (h : SessionHolds x core r marks plan s)
     (rows : List TaskRow) (job_rows : List JobRow) (c : Counts) (shows : TablesShow plan s rows job_rows c) (few : length rows ≤ 120) where
   is_running : (m : SessionJob) (t : Task) → Has s.jobs m → Has m.progress.job.tasks t → plan.running ≡ slot_of plan m.constants.number t.number → IsRunning plan s.jobs m t
   is_running m t inm int e = record { member = keyed_member 1 s.jobs m o.numbered inm; task = live_in_order s m t o inm int; slot = e }

@@ -7,7 +7,8 @@ use Rattle.b67_word.specs.Tagged.{Tagged}
 use Rattle.b67_ctl.specs.declared.registers.Regs.{Regs}
 use Rattle.b67_model.specs.State.{Task, SessionJob}
 use Rattle.b67_model.specs.Schedule.{Session}
-use Rattle.b67_model.specs.InOrder.{JobInOrder, IsSegment, IsInOrderButPlaces}
+use Rattle.b67_model.specs.InOrder.{IsSegment}
+use Rattle.b67_layout.specs.Orders.{JobInOrderButCounts, IsInOrderButCounts}
 use Rattle.b67_stack.specs.Represents.{Storage}
 use Rattle.b67_layout.specs.Placement.{Placement}
 use Rattle.b67_layout.specs.Rows as rows
@@ -40,7 +41,7 @@ turn_known tasks plan s q i r at =
     let (m, t, inm, int, w) = q.shows.tasks (task_row r) (has_get (map task_row tasks.rows.items) i (task_row r) (at_mapped task_row tasks.rows.items i r at)) in
     let b = job_at plan 1 s.jobs (map job_row tasks.jobs) m q.ordered.numbered q.shows.jobs inm in
     let (j, there_is, same) = mapped_at job_row tasks.jobs (m.constants.number - 1) b.row b.at in
-    let in_order = all_in (λ (y : SessionJob). JobInOrder (IsSegment y.constants) y.constants y.progress) s.jobs m q.ordered.jobs inm in
+    let in_order = all_in (λ (y : SessionJob). JobInOrderButCounts (IsSegment y.constants) y.constants y.progress) s.jobs m q.ordered.jobs inm in
     let on = goes_on plan s q.fits (omega (arith, q.few)) q.none (map task_row tasks.rows.items) (map job_row tasks.jobs) (counts_of tasks) q.shows m t (task_row r) inm int w in
     let segments : j.segments ≡ length m.constants.segments = ap (λ (y : rows.JobRow). y.segments) same ∙ b.shows.segments in
     let entries : j.segments + j.rows ≡ length m.constants.dictionary.cells = ap (λ (y : rows.JobRow). y.segments + y.rows) same ∙ b.shows.rows in
@@ -91,7 +92,7 @@ module _ (tasks : Tasks) (r : TaskRow) (at : slice_get tasks.rows.items tasks.ru
   pub slots_stay : map (λ (z : TaskRow). z.slot) (refill (length tasks.rows.items) tasks.rows.items new) ≡ map (λ (z : TaskRow). z.slot) tasks.rows.items
   slots_stay = ap (map (λ (z : TaskRow). z.slot)) back ∙ same_mapped (λ (z : TaskRow). z.slot) tasks.rows.items tasks.running r noted_row at refl
 
-  pub rests_after : (x : Storage) (core : List Tagged) (marks : List ℕ) (plan : Placement) (s : Session) → IsInOrderButPlaces s → SessionHolds x core regs marks plan s → TasksShow plan s tasks → length tasks.rows.items ≤ 120
+  pub rests_after : (x : Storage) (core : List Tagged) (marks : List ℕ) (plan : Placement) (s : Session) → IsInOrderButCounts s → SessionHolds x core regs marks plan s → TasksShow plan s tasks → length tasks.rows.items ≤ 120
       → TablesShow (with_running plan 255) s (map task_row (refill (length tasks.rows.items) tasks.rows.items new)) (map job_row tasks.jobs) (record (counts_of tasks) { running = 255 })
   rests_after x core marks plan s o h shows few =
       let made : map task_row (refill (length tasks.rows.items) tasks.rows.items new) ≡ slice_set (map task_row tasks.rows.items) tasks.running (task_row noted_row) =
@@ -135,7 +136,7 @@ pub inside_same : (old new : List TaskRow) (i : ℕ) → map (λ (z : TaskRow). 
 inside_same old new i e h = omega (arith, h, length-map new (λ (z : TaskRow). z.slot), length-map old (λ (z : TaskRow). z.slot), ap length e)
 
 -- the tables where no registers are in use
-pub rests_is : (x : Storage) (core : List Tagged) (r : Regs) (marks : List ℕ) (plan : Placement) (s : Session) (tasks : Tasks) → IsInOrderButPlaces s → SessionHolds x core r marks plan s → TasksShow (with_running plan 255) s tasks → Rests tasks (with_running plan 255) s
+pub rests_is : (x : Storage) (core : List Tagged) (r : Regs) (marks : List ℕ) (plan : Placement) (s : Session) (tasks : Tasks) → IsInOrderButCounts s → SessionHolds x core r marks plan s → TasksShow (with_running plan 255) s tasks → Rests tasks (with_running plan 255) s
 rests_is x core r marks plan s tasks o h shows = record { ordered = o; fits = fit_replan plan 255 s.jobs h.fits.rows; few = omega (arith, h.fits.few); none = refl; shows = shows }
 
 -- the turn under the plan before

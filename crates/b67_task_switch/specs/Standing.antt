@@ -3,7 +3,7 @@ use Rattle.std.specs.Prelude.{◌≡◌, ℕ, ◌<◌, List, length, Option}
 use Rattle.b67_word.specs.Tagged.{Tagged}
 use Rattle.b67_ctl.specs.declared.registers.Regs.{Regs}
 use Rattle.b67_model.specs.Schedule.{Session}
-use Rattle.b67_model.specs.InOrder.{IsInOrderButPlaces}
+use Rattle.b67_layout.specs.Orders.{IsInOrderButCounts}
 use Rattle.b67_stack.specs.Represents.{Storage}
 use Rattle.b67_layout.specs.Placement.{Placement}
 use Rattle.b67_layout.specs.Session.{RowsFit, SessionHolds}
@@ -17,7 +17,7 @@ pub record HasRow (k : Machine) (row : ℕ) : Type 0 where
   pub told : Option (List (List ℕ))
   pub plan : Placement
   pub session : Session
-  pub ordered : IsInOrderButPlaces session
+  pub ordered : IsInOrderButCounts session
   pub stands : MachineRepresents storage told k plan session
   pub inside : row < length k.tasks.rows.items
 
@@ -28,13 +28,13 @@ pub record InUse (r : Regs) (tasks : Tasks) : Type 0 where
   pub marks : List ℕ
   pub plan : Placement
   pub session : Session
-  pub ordered : IsInOrderButPlaces session
+  pub ordered : IsInOrderButCounts session
   pub holds : SessionHolds storage core r marks plan session
   pub shows : TasksShow plan session tasks
 
 -- the tables show a session in order, where no task's registers are in use
 pub record Rests (tasks : Tasks) (plan : Placement) (s : Session) : Type 0 where
-  pub ordered : IsInOrderButPlaces s
+  pub ordered : IsInOrderButCounts s
   pub fits : RowsFit plan s.jobs
   pub few : plan.peak < 121
   pub none : plan.running ≡ 255

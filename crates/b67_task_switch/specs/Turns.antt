@@ -6,7 +6,7 @@ use Rattle.b67_model.specs.State.{Task, SessionJob}
 use Rattle.b67_model.specs.Keyed.{keyed}
 use Rattle.b67_model.specs.Run.{number_of}
 use Rattle.b67_model.specs.Schedule.{Session}
-use Rattle.b67_model.specs.InOrder.{IsInOrderButPlaces}
+use Rattle.b67_layout.specs.Orders.{IsInOrderButCounts}
 use Rattle.b67_stack.specs.declared.Cpu.{Cpu}
 use Rattle.b67_stack.specs.Stacks.{Activation, stack_words, mark_place, running_level}
 use Rattle.b67_stack.specs.MachineView.{MachineView, Waiting, slot_base}
@@ -36,7 +36,7 @@ pub record HasTurn (cpu : Cpu) (turn : Turn) : Type 0 where
   pub session : Session
   pub member : SessionJob
   pub task : Task
-  pub ordered : IsInOrderButPlaces session
+  pub ordered : IsInOrderButCounts session
   pub stands : RepresentsSession storage cpu plan session
   pub waits : IsTurnOf plan session.jobs member task turn
 

@@ -4,7 +4,7 @@ ghost use Rattle.std.specs.Prelude.{◌≡◌, ◌≢◌, ℕ, ◌+◌, ◌<◌,
 ghost use Rattle.b67_ctl.specs.Layout.{toscw_word};
 ghost use Rattle.b67_model.specs.State.{Task, SessionJob};
 ghost use Rattle.b67_model.specs.Schedule.{Session};
-ghost use Rattle.b67_model.specs.InOrder.{IsInOrderButPlaces};
+ghost use Rattle.b67_layout.specs.Orders.{IsInOrderButCounts};
 ghost use Rattle.b67_stack.specs.declared.Cpu.{Cpu};
 ghost use Rattle.b67_stack.specs.Stacks.{Activation, toscw_of};
 ghost use Rattle.b67_stack.specs.MachineView.{MachineView, RunsOn};
@@ -97,7 +97,7 @@ fn registers(core: &Core, regs: &Regs, turn: Turn) -> Regs
 /// its segment and place, which the caller keeps. The session's state stays.
 pub fn switch_stack(cpu: &mut Cpu, turn: Turn)
     requires { HasTurn cpu.old turn }
-    ensures stands { (x : Storage) (plan : Placement) (s : Session) (m : SessionJob) (t : Task) → IsInOrderButPlaces s
+    ensures stands { (x : Storage) (plan : Placement) (s : Session) (m : SessionJob) (t : Task) → IsInOrderButCounts s
         → RepresentsSession x cpu.old plan s → IsTurnOf plan s.jobs m t turn → RepresentsSession x cpu.new (with_running plan turn.slot) s }
     ensures words { (i : ℕ) → i ≢ cpu.old.regs.bosr → slice_get cpu.new.core i ≡ slice_get cpu.old.core i }
     ensures len { length cpu.new.core ≡ length cpu.old.core }

@@ -4,7 +4,7 @@ ghost use Rattle.std.specs.Prelude.{◌≡◌, ◌≢◌, ℕ, ◌<◌, List, le
 ghost use Rattle.b67_word.specs.Tagged.{Tagged};
 ghost use Rattle.b67_model.specs.State.{Task, SessionJob};
 ghost use Rattle.b67_model.specs.Schedule.{Session};
-ghost use Rattle.b67_model.specs.InOrder.{IsInOrderButPlaces};
+ghost use Rattle.b67_layout.specs.Orders.{IsInOrderButCounts};
 ghost use Rattle.b67_stack.specs.Represents.{Storage};
 ghost use Rattle.b67_layout.specs.Placement.{Placement};
 ghost use Rattle.b67_layout.specs.Session.{SessionHolds};
@@ -33,7 +33,7 @@ fn note(rows: &mut [TaskRow], at: u8, regs: &Regs)
 /// Notes where the running task goes on, if there is one; then the tables say that no registers are in use.
 fn pause(tasks: &mut Tasks, regs: &Regs)
     requires { InUse regs.now tasks.old }
-    ensures rests { (x : Storage) (core : List Tagged) (marks : List ℕ) (plan : Placement) (s : Session) → IsInOrderButPlaces s
+    ensures rests { (x : Storage) (core : List Tagged) (marks : List ℕ) (plan : Placement) (s : Session) → IsInOrderButCounts s
         → SessionHolds x core regs.now marks plan s → TasksShow plan s tasks.old → TasksShow (with_running plan 255) s tasks.new }
     ensures rest { tasks.new ≡ record tasks.old { rows = tasks.new.rows; running = 255 } }
     ensures slots { map (λ (r : TaskRow). r.slot) tasks.new.rows.items ≡ map (λ (r : TaskRow). r.slot) tasks.old.rows.items }
@@ -68,7 +68,7 @@ fn turn_of(tasks: &Tasks, row: u8) -> Turn
 /// before tells where that one goes on. The session's state stays.
 pub fn switch_to(machine: &mut Machine, row: u8)
     requires { HasRow machine.old row }
-    ensures stands { (x : Storage) (told : Option (List (List ℕ))) (plan : Placement) (s : Session) (r : TaskRow) → IsInOrderButPlaces s
+    ensures stands { (x : Storage) (told : Option (List (List ℕ))) (plan : Placement) (s : Session) (r : TaskRow) → IsInOrderButCounts s
         → MachineRepresents x told machine.old plan s → slice_get machine.old.tasks.rows.items row ≡ Some r
         → MachineRepresents x told machine.new (with_running plan r.slot) s }
     ensures tables { machine.new.tasks ≡ record machine.old.tasks { rows = machine.new.tasks.rows; running = row } }

@@ -2,12 +2,12 @@
 use Rattle.std.specs.Prelude.{◌≡◌, ℕ, List, length, Option}
 use Rattle.b67_model.specs.State.{Task, SessionJob}
 use Rattle.b67_model.specs.Schedule.{Session}
-use Rattle.b67_model.specs.InOrder.{IsInOrderButPlaces}
+use Rattle.b67_layout.specs.Orders.{IsInOrderButCounts}
 use Rattle.b67_stack.specs.Represents.{Storage}
 use Rattle.b67_layout.specs.Placement.{Placement}
 use Rattle.b67_layout.specs.Session.{IsRunning}
 use Rattle.b67_task_tables.specs.declared.tables.Machine.{Machine}
-use Rattle.b67_task_tables.specs.Tables.{MachineRepresents}
+use Rattle.b67_task_tables.specs.Tables.{MachineRepresents, row_names}
 
 -- the machine stands for some session in order, of which a task runs
 pub record RunsTask (k : Machine) : Type 0 where
@@ -17,18 +17,19 @@ pub record RunsTask (k : Machine) : Type 0 where
   pub session : Session
   pub member : SessionJob
   pub task : Task
-  pub ordered : IsInOrderButPlaces session
+  pub ordered : IsInOrderButCounts session
   pub stands : MachineRepresents storage told k plan session
   pub running : IsRunning plan session.jobs member task
 
 -- for each session in order that the machine stands for, with its running task
 abbrev pub ForEachRun : Machine → (Storage → Option (List (List ℕ)) → Placement → Session → SessionJob → Task → Type 0) → Type 0
 ForEachRun k P =
-    (x : Storage) (told : Option (List (List ℕ))) (plan : Placement) (s : Session) (m : SessionJob) (t : Task) → IsInOrderButPlaces s → MachineRepresents x told k plan s
+    (x : Storage) (told : Option (List (List ℕ))) (plan : Placement) (s : Session) (m : SessionJob) (t : Task) → IsInOrderButCounts s → MachineRepresents x told k plan s
     → IsRunning plan s.jobs m t → P x told plan s m t
 
--- the machine has as many words of core, as many sectors and the same halt
+-- the machine has as many words of core, as many sectors, the same halt and jobs of the same names
 pub record Keeps (old new : Machine) : Type 0 where
   pub core : length new.cpu.core ≡ length old.cpu.core
   pub sectors : length new.sectors.links ≡ length old.sectors.links
   pub halt : new.tasks.halt ≡ old.tasks.halt
+  pub names : row_names new.tasks.jobs ≡ row_names old.tasks.jobs

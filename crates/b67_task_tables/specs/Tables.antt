@@ -51,6 +51,10 @@ pub record MachineRepresents (x : Storage) (told : Option (List (List ℕ))) (k 
   pub storage : RepresentsStorage k.areas k.sectors told k.cpu.core x
   pub tables : TasksShow plan s k.tasks
 
+-- the names of the jobs
+abbrev pub row_names : List JobRow → List (List ℕ)
+row_names rows = map (λ (r : JobRow). r.name) rows
+
 -- a job with fewer numbers than the tables can count
 abbrev pub IsCountable : JobRow → Type 0
 IsCountable r = length r.numbers < 2 ^ 32

@@ -1,14 +1,15 @@
 -- Safe words lead to no intrinsic from 12 on.
-use Rattle.std.proofs.Common.{◌≡◌, ℕ, zero, suc, ◌+◌, ◌-◌, ◌^◌, ◌<◌, ◌≤◌, ltb, leb, List, [], ◌∷◌, reverse, length, Option, Some, None, unwrap_or, Ok, Err, refl, sym, ap, ◌∙◌, subst, inl, inr, ◌⊎◌, arith}
+use Rattle.std.proofs.Common.{◌≡◌, ℕ, zero, suc, Bool, true, false, cond, ◌+◌, ◌-◌, ◌^◌, ◌<◌, ◌≤◌, ltb, leb, List, [], ◌∷◌, reverse, length, Option, Some, None, unwrap_or, Ok, Err, refl, sym, ap, ◌∙◌, subst, inl, inr, ◌⊎◌, arith}
 use Rattle.std.specs.List.{slice_get}
 use Rattle.std.proofs.lemmas.Bool.{cases_Bool, leb-true, ltb-false}
 use Rattle.std.proofs.lemmas.Bool.Decides.{eqb_tells}
-use Rattle.b67_word.specs.declared.faults.Fault.TheVariants.{InvalidAddress}
+use Rattle.b67_word.specs.declared.faults.Fault.TheVariants.{InvalidAddress, InvalidIndex}
 use Rattle.b67_word.specs.Couples.{couple}
 use Rattle.b67_model.specs.declared.operators.Op.{Op}
 use Rattle.b67_model.specs.declared.operators.Op.TheVariants.{Plain}
 use Rattle.b67_model.specs.declared.operators.Code.TheVariants.{Entr}
 use Rattle.b67_model.specs.Answers.{Answer}
+use Rattle.b67_model.specs.Arrays.{array}
 use Rattle.b67_model.specs.Keyed.{keyed}
 use Rattle.b67_lemmas.specs.Lists.{Has}
 use Rattle.b67_lemmas.proofs.Members.{all_in, has_get, has_reverse_back, keyed_has}
@@ -46,14 +47,14 @@ count_get n (v ∷ more) (suc i) w c e = let r = count_get (n + 1) more i w c.1 
 
 pub record IsIntrinsic (offset : ℕ) (w : Word) : Type 0 where
   pub is : w ≡ Intrinsic offset
-  pub low : offset < 17
+  pub low : offset < 19
 
 mcp_cell : (offset : ℕ) (w : Word) → cell_of mcp offset ≡ Some w → IsIntrinsic offset w
 mcp_cell offset w e = elim (cases_Bool (ltb offset 8)) [
   | inl t ↦ let none : None ≡ Some w = rw t at e in cc
   | inr t ↦
       let high : 8 ≤ offset = ltb-false offset 8 t in
-      let r = count_get 8 (reverse mcp.cells) (offset - 8) w (refl, (refl, (refl, (refl, (refl, (refl, (refl, (refl, (refl, tt))))))))) (rw t at e) in
+      let r = count_get 8 (reverse mcp.cells) (offset - 8) w (refl, (refl, (refl, (refl, (refl, (refl, (refl, (refl, (refl, (refl, (refl, tt))))))))))) (rw t at e) in
       record { is = r.0 ∙ ap Intrinsic (omega (arith, high)); low = omega (arith, high, r.1) }
 ]
 
@@ -65,22 +66,27 @@ abbrev LinkApart : Link → Type 0
 LinkApart (Stops end) = (k : ℕ) → end ≡ Ok (AtIntrinsic k) → k < 12
 LinkApart (Leads w) = Safe w
 
-link_word : (f offset : ℕ) (w : Word) → Safe w → LinkApart (link_at f offset w)
-link_word f offset (Operand bits) g = λ k e. cc
-link_word f offset (Name couple) g = g
-link_word f offset (Ref other place) g = g
-link_word f offset (Element array index) g = λ k e. cc
-link_word f offset (Original array) g = λ k e. cc
-link_word f offset (Row array) g = λ k e. cc
-link_word f offset (Proc segment level place) g = λ k e. cc
-link_word f offset (Intrinsic number) g = absurd g
-link_word f offset (Words.Segment number) g = λ k e. cc
+-- an element is no intrinsic, whether its index is below the length or not
+element_apart : (test : Bool) (a index k : ℕ) → (let end : Answer End = cond test (Ok (AtElement a index)) (Err InvalidIndex) in end ≡ Ok (AtIntrinsic k)) → ⊥
+element_apart true a index k e = cc
+element_apart false a index k e = cc
+
+link_word : (h : OperatorContext) (f offset : ℕ) (w : Word) → Safe w → LinkApart (link_at h f offset w)
+link_word h f offset (Operand bits) g = λ k e. cc
+link_word h f offset (Name couple) g = g
+link_word h f offset (Ref other place) g = g
+link_word h f offset (Element a index) g = λ k e. absurd (element_apart (ltb index (length (array h.job a).numbers)) a index k e)
+link_word h f offset (Original a) g = λ k e. cc
+link_word h f offset (Row a) g = λ k e. cc
+link_word h f offset (Proc segment level place) g = λ k e. cc
+link_word h f offset (Intrinsic number) g = absurd g
+link_word h f offset (Words.Segment number) g = λ k e. cc
 
 same_intrinsic : (a b : ℕ) → (let first : Answer End = Ok (AtIntrinsic a) in first ≡ Ok (AtIntrinsic b)) → a ≡ b
 same_intrinsic a b e = cc
 
-link_intrinsic : (f offset : ℕ) → Apart offset → offset < 17 → LinkApart (link_at f offset (Intrinsic offset))
-link_intrinsic f offset apart low = λ k e. let same = same_intrinsic offset k e in elim apart [ inl x ↦ omega (arith, same, x) | inr y ↦ absurd (omega (arith, y, low)) ]
+link_intrinsic : (h : OperatorContext) (f offset : ℕ) → Apart offset → offset < 19 → LinkApart (link_at h f offset (Intrinsic offset))
+link_intrinsic h f offset apart low = λ k e. let same = same_intrinsic offset k e in elim apart [ inl x ↦ omega (arith, same, x) | inr y ↦ absurd (omega (arith, y, low)) ]
 
 module _ (P : Starts) (h : OperatorContext) (unchanging : SettingInOrder h.constants) (order : TasksInOrder P h.constants h.job) (found : Task) (live : Has h.job.tasks found) (frames : found.frames ≡ h.task.frames) (safe : AllSafe h.job.tasks) where
   named_apart : (bits : ℕ) → bits < 2 ^ 14 → Apart bits → Post PlaceApart (named h (couple bits (running_level h)))
@@ -116,11 +122,11 @@ module _ (P : Starts) (h : OperatorContext) (unchanging : SettingInOrder h.const
       by (is_dictionary d) named_f = inl (entry_safe h.job.arrays w (all_in (EntryInOrder h.job.arrays) h.constants.dictionary.cells w order.entries (subst (λ (y : Frame). Has y.cells w) d (cell_has x offset w e))))
       by (is_mcp d) named_f = inr (sym named_f ∙ ap (λ (y : Frame). y.identity) d, mcp_cell offset w (subst (λ (y : Frame). cell_of y offset ≡ Some w) d e))
 
-  link_cell : (f offset : ℕ) → PlaceApart (f, offset) → (a : Answer Word) → cell h f offset ≡ a → LinkApart (link_in f offset a)
+  link_cell : (f offset : ℕ) → PlaceApart (f, offset) → (a : Answer Word) → cell h f offset ≡ a → LinkApart (link_in h f offset a)
   link_cell f offset at (Err fault) e = λ k e'. cc
   link_cell f offset at (Ok w) e = elim (frame_cell f offset w (keyed (λ (x : Frame). x.identity) f (all_frames h)) refl (some_ok (cell_of (frame h f) offset) InvalidAddress w e)) [
-    | inl g ↦ link_word f offset w g
-    | inr r ↦ subst (λ v. LinkApart (link_at f offset v)) (sym r.1.is) (link_intrinsic f offset (at r.0) r.1.low)
+    | inl g ↦ link_word h f offset w g
+    | inr r ↦ subst (λ v. LinkApart (link_at h f offset v)) (sym r.1.is) (link_intrinsic h f offset (at r.0) r.1.low)
   ]
 
   link_place : (a : Answer (ℕ × ℕ)) → Post PlaceApart a → LinkApart (link_from h a)

@@ -1,4 +1,4 @@
--- Words that lead to none of the intrinsics 12 to 16.
+-- Words that lead to none of the intrinsics 12 to 18.
 use Rattle.std.proofs.Common.{◌≡◌, ◌^◌, ◌<◌, List}
 use Rattle.b67_lemmas.specs.Lists.{Has}
 use Rattle.b67_model.specs.Words as Words

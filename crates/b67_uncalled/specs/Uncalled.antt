@@ -1,4 +1,4 @@
--- Programs that name none of the intrinsics 12 to 16, which aren't built.
+-- Programs that name none of the intrinsics 12 to 18, which aren't built.
 use Rattle.std.specs.Prelude.{◌≡◌, ℕ, ◌<◌, ◌==◌, ◌&&◌, nat_lt, not, Bool, true, false, List, [], ◌∷◌, Some, Ok}
 use Rattle.std.specs.List.{AllByRecursion}
 use Rattle.b67_word.specs.declared.couples.Place.{Place}
@@ -16,9 +16,9 @@ use Rattle.b67_model.specs.Run.{after}
 use Rattle.b67_model.specs.Called.{called}
 use Rattle.b67_law_order_runs.specs.Opening.{Opening, DeckWithin, opening}
 
--- the cells of the MCP's record from 12 to 16
+-- the cells of the MCP's record from 12 to 18
 abbrev pub names_unbuilt : Couple → Bool
-names_unbuilt c = (c.level == 0) && nat_lt 11 c.disp && nat_lt c.disp 17
+names_unbuilt c = (c.level == 0) && nat_lt 11 c.disp && nat_lt c.disp 19
 
 -- in a segment of this level the operator doesn't push the name of one of them
 abbrev pub op_uses_built : ℕ → Op → Bool
@@ -34,7 +34,7 @@ abbrev pub segments_use_built : List Segment → Bool
 segments_use_built [] = true
 segments_use_built (s ∷ more) = entries_use_built s.level (listing s.code) && segments_use_built more
 
--- no operator in the listing of a segment pushes the name of one of the intrinsics 12 to 16
+-- no operator in the listing of a segment pushes the name of one of the intrinsics 12 to 18
 abbrev pub uses_built : Program → Bool
 uses_built p = segments_use_built p.segments
 
@@ -50,14 +50,14 @@ UnbuiltIsNeverCalled =
 
 -- an outer block of one word of code
 abbrev pub block : ℕ → Program
-block word = record { segments = record { level = 2; code = word ∷ [] } ∷ []; rows = [] }
+block word = record { segments = record { level = 2; entries = []; code = word ∷ [] } ∷ []; rows = [] }
 
--- MKST, NAMC, ONE, ENTR, EXIT where the couple names the intrinsic 11, 12 or 16, or the cell 12 of level 1; and with VALC
+-- MKST, NAMC, ONE, ENTR, EXIT where the couple names the intrinsic 11, 12 or 18, or the cell 12 of level 1; and with VALC
 -- of the intrinsic 12, which calls nothing, in the place of NAMC
 abbrev pub UsesBuiltExamples : Type 0
 UsesBuiltExamples =
     (uses_built (block 0xAE400BB1ABA3) ≡ true)
     × (uses_built (block 0xAE400CB1ABA3) ≡ false)
-    × (uses_built (block 0xAE4010B1ABA3) ≡ false)
+    × (uses_built (block 0xAE4012B1ABA3) ≡ false)
     × (uses_built (block 0xAE600CB1ABA3) ≡ true)
     × (uses_built (block 0xAE000CB1ABA3) ≡ true)

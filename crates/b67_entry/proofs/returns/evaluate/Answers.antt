@@ -74,7 +74,7 @@ element-requires c =
     let k : EndMeets (scene x cpu plan s m t o h runs a) a.back.place (Ok (end.Element c.in-Ok-Element.original c.in-Ok-Element.index)) (follow (seen x cpu plan s m t o h runs a) v) = subst (λ (z : Result End Fault). EndMeets (scene x cpu plan s m t o h runs a) a.back.place z (follow (seen x cpu plan s m t o h runs a) v)) (c.in-Ok-Element.is ∙ ap Ok c.in-Ok-Element.field-0-is) E in
     let (n, e, q) = element_end (scene x cpu plan s m t o h runs a) a.back.place c.in-Ok-Element.original c.in-Ok-Element.index (follow (seen x cpu plan s m t o h runs a) v) k in
     let no_operand = not_operand x cpu plan s m t o h runs v c.args.word b.word c.requires.tag in
-    record { runs = run; number = n; home = q.home; element = element_there x cpu plan s m t o h runs a v c.args.word b no_operand c.in-Ok-Element.original n c.in-Ok-Element.index e q }
+    record { runs = run; number = n; home = q.array_of.home; element = element_there x cpu plan s m t o h runs a v c.args.word b no_operand c.in-Ok-Element.original n c.in-Ok-Element.index e q }
 
 pub put-requires-in-Some : goal.put-requires-in-Some
 put-requires-in-Some c =
@@ -131,7 +131,7 @@ returns-in-Some c = record {
       let no_operand = not_operand x cpu plan s m t o h runs v c.args.word b.word c.requires.tag in
       let shown = shown_there x cpu plan s m t o h runs a c.args.regs is c.args.display c.requires.shown in
       let there = element_there x cpu plan s m t o h runs a v c.args.word b no_operand c.in-Ok-Element.original n c.in-Ok-Element.index e q in
-      let gives = c.element.ensures x plan s m t o h runs n q.home there in
+      let gives = c.element.ensures x plan s m t o h runs n q.array_of.home there in
       let g = subst (λ (z : Option Tagged). GivesElement x plan m n c.in-Ok-Element.index z) c.in-Some.is gives in
       made_there x cpu plan s m t o h runs a c.args.regs is c.in-Some.value c.args.display c.put-in-Some.new.cpu _ c.put-in-Some.ensures
       (element_made x cpu plan s m t o h runs a v c.args.word b no_operand c.in-Ok-Element.original n c.in-Ok-Element.index e q g.0 c.in-Some.value c.args.display g.1 g.2 shown));
@@ -148,7 +148,7 @@ returns-in-None c = record {
       let (n, e, q) = element_end (scene x cpu plan s m t o h runs a) a.back.place c.in-Ok-Element.original c.in-Ok-Element.index (follow (seen x cpu plan s m t o h runs a) v) k in
       let no_operand = not_operand x cpu plan s m t o h runs v c.args.word b.word c.requires.tag in
       let there = element_there x cpu plan s m t o h runs a v c.args.word b no_operand c.in-Ok-Element.original n c.in-Ok-Element.index e q in
-      let gives = c.element.ensures x plan s m t o h runs n q.home there in
+      let gives = c.element.ensures x plan s m t o h runs n q.array_of.home there in
       let g = subst (λ (z : Option Tagged). GivesElement x plan m n c.in-Ok-Element.index z) c.in-None.is gives in
       (element_absent x cpu plan s m t o h runs a v c.args.word b no_operand c.in-Ok-Element.original n c.in-Ok-Element.index e q g, refl));
   above = λ i low. refl;

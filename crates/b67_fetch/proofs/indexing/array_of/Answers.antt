@@ -5,7 +5,7 @@ use Rattle.b67_model.specs.Chase.{follow}
 use Rattle.b67_layout.specs.Meets.{here}
 use Rattle.b67_fetch.proofs.Values.{here_scene, here_shown, followed_stands, finds_end}
 use Rattle.b67_fetch.specs.Indexes.{FindsArray}
-use Rattle.b67_model.specs.Arrays.{array_of}
+use Rattle.b67_model.specs.Indexing.{array_of}
 use Rattle.b67_fetch.proofs.Found.{found_end, found_fault, desc, desc_is, row_found}
 use Rattle.b67_fetch.proofs.indexing.array_of.Goals as goal
 

@@ -1,5 +1,5 @@
 use Rattle.std.proofs.Common.{sym, ◌∙◌}
-use Rattle.b67_model.specs.Arrays.{array_of}
+use Rattle.b67_model.specs.Indexing.{array_of}
 use Rattle.b67_layout.specs.Meets.{here}
 use Rattle.b67_fetch.proofs.Items.{array_fault, holds_found, found_index, no_index}
 use Rattle.b67_fetch.proofs.indexing.item_at.Goals as goal

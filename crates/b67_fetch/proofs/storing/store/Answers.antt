@@ -6,7 +6,7 @@ use Rattle.std.specs.Prelude.{if◌then◌else◌}
 use Rattle.b67_model.specs.Answers.{◌>>=◌}
 use Rattle.b67_model.specs.Words.{Operand}
 use Rattle.b67_model.specs.Rows.{store_at}
-use Rattle.b67_model.specs.Arrays.{in_order}
+use Rattle.b67_model.specs.Indexing.{in_order}
 use Rattle.b67_model.specs.Chase.{follow}
 use Rattle.b67_stack.specs.declared.Cpu.{Cpu}
 use Rattle.b67_stack.specs.declared.Step.TheVariants as step

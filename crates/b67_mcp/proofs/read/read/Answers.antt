@@ -12,7 +12,7 @@ use Rattle.b67_task_tables.specs.Tables.{MachineRepresents}
 use Rattle.b67_mcp.proofs.Callings.{calling, reads_of, call_some}
 use Rattle.b67_mcp.proofs.Cut.{one_behind}
 use Rattle.b67_mcp.proofs.Sizes.{same_size, kept_same}
-use Rattle.b67_mcp.proofs.Numbers.{job_in, tasks_same, countable_read, tables_read}
+use Rattle.b67_mcp.proofs.Numbers.{job_in, tasks_same, countable_read, names_read, tables_read}
 use Rattle.b67_mcp.proofs.read.read.Goals as goal
 use Rattle.b67_lemmas.proofs.Members.{has_get}
 
@@ -122,6 +122,7 @@ returns-clause-kept c =
         core = same_size q.storage q.storage old.cpu cpu q.plan q.plan q.session (with_job q.session q.member (job_read q.member q.task c.next_place-next.result)) q.stands.session session refl refl;
         sectors = refl;
         halt = ap (λ (z : Tasks). z.halt) c.take_number.ensures.rest;
+        names = names_read q.plan q.member q.task k.arguments old.tasks.jobs c.take_number.new.tasks.jobs (c.running_row.result.job - 1) j.row did.new (Ok c.in-Ok.number) at did.is meets;
       };
       changed = c.answer_call.ensures.changed q.storage q.plan q.session q.member q.task q.ordered q.stands.session q.running meets.may;
       sectors = refl;

@@ -3,6 +3,7 @@ use Rattle.b67_word.specs.declared.faults.Fault.TheVariants.{InvalidAddress}
 use Rattle.b67_model.specs.Answers.{Answer}
 use Rattle.b67_model.specs.Environment.{frame_at}
 use Rattle.b67_layout.specs.Meets.{here}
+use Rattle.b67_refer.specs.RunningContext.{live_of}
 use Rattle.b67_refer.specs.Cells.{FindsCell}
 use Rattle.b67_refer.proofs.Chains.{level_is, level_small}
 use Rattle.b67_refer.proofs.Unders.{named_above, named_at, names_level, display_at}
@@ -21,12 +22,12 @@ cell_in-requires c =
     let (a, shown) = c.requires in
     let q = a.task.place in
     let low : c.args.c.level ≤ c.args.regs.now.level = omega (arith, c.if-c-regs.false) in
-    (a, (frame_at (here a.member a.task q) c.args.c.level).identity, names_level c.args.core.now c.args.regs.now a q c.args.display.now shown c.args.c low, display_at c.args.core.now c.args.regs.now a q c.args.display.now shown c.args.c low)
+    (live_of a, (frame_at (here a.member a.task q) c.args.c.level).identity, names_level c.args.core.now c.args.regs.now a q c.args.display.now shown c.args.c low, display_at c.args.core.now c.args.regs.now a q c.args.display.now shown c.args.c low)
 
 pub returns : goal.returns
 returns c = λ a q shown.
     let low : c.args.c.level ≤ c.args.regs.now.level = omega (arith, c.if-c-regs.false) in
     let f = (frame_at (here a.member a.task q) c.args.c.level).identity in
     let is = named_at c.args.core.now c.args.regs.now a q c.args.display.now shown c.args.c low in
-    let found = c.cell_in.ensures a q f (names_level c.args.core.now c.args.regs.now a q c.args.display.now shown c.args.c low) (display_at c.args.core.now c.args.regs.now a q c.args.display.now shown c.args.c low) in
+    let found = c.cell_in.ensures (live_of a) q f (names_level c.args.core.now c.args.regs.now a q c.args.display.now shown c.args.c low) (display_at c.args.core.now c.args.regs.now a q c.args.display.now shown c.args.c low) in
     subst (λ (y : Answer (ℕ × ℕ)). FindsCell a q c.cell_in.result y) (sym is) found

@@ -1,7 +1,7 @@
 use Rattle.std.proofs.Common.{◌+◌, ◌∙◌, sym, arith, inl, inr, subst, ℕ, Ok}
 use Rattle.b67_model.specs.Cells.{cell}
 use Rattle.b67_layout.specs.Meets.{here}
-use Rattle.b67_refer.specs.Cells.{CellMeets, IsUnder}
+use Rattle.b67_refer.specs.LiveCells.{CellMeets, IsUnder}
 use Rattle.b67_refer.proofs.Unders.{under}
 use Rattle.b67_refer.proofs.Founds.{top, task_misses, task_marks, task_lands, top_inside, address_small}
 use Rattle.b67_refer.proofs.cells.slot_cell.Goals as goal

@@ -4,6 +4,7 @@ use Rattle.b67_word.specs.declared.faults.Fault.{Fault}
 use Rattle.b67_model.specs.Answers.{Answer}
 use Rattle.b67_model.specs.Chase as Chase
 use Rattle.b67_model.specs.Chase.{link_at}
+use Rattle.b67_layout.specs.Meets.{here}
 use Rattle.b67_refer.specs.declared.ends.End.{End}
 use Rattle.b67_refer.specs.Ends.{EndMeets, LinkMeets}
 use Rattle.b67_refer.proofs.Names.{Rest, turn, turn_err, turn_end, turn_fault, turn_on, turn_last}
@@ -36,7 +37,7 @@ pub returns-in-Ok-Some : goal.returns-in-Ok-Some
 returns-in-Ok-Some c = λ a q shown at owner v stands ref.
     let l = c.loop-i.invariant a q shown at owner v stands ref in
     let t = turn c.args.core.now c.args.regs.now a q c.in-Ok.at l.word (c.in-Ok.ensures a q shown l.at l.owner l.word l.stands l.reference) in
-    let m = subst (λ (y : Result (Option End) Fault). LinkMeets a q y (link_at t.frame t.offset t.word)) (c.in-Ok-Some.is ∙ ap Ok c.in-Ok-Some.field-0-is) (c.end_at.ensures a q t.frame t.offset t.word t.cell) in
+    let m = subst (λ (y : Result (Option End) Fault). LinkMeets a q y (link_at (here a.member a.task q) t.frame t.offset t.word)) (c.in-Ok-Some.is ∙ ap Ok c.in-Ok-Some.field-0-is) (c.end_at.ensures a q t.frame t.offset t.word t.cell) in
     let e = turn_end c.args.core.now c.args.regs.now a q (1024 - c.loop-i._i) c.in-Ok.at l.word t c.in-Ok-Some.end (omega (arith, c.loop-i-test.true)) m in
     subst (λ (y : Answer Chase.End). EndMeets a q (Ok c.in-Ok-Some.end) y) (sym l.same) e
 
@@ -52,7 +53,7 @@ pub returns-in-Err-end_at : goal.returns-in-Err-end_at
 returns-in-Err-end_at c = λ a q shown at owner v stands ref.
     let l = c.loop-i.invariant a q shown at owner v stands ref in
     let t = turn c.args.core.now c.args.regs.now a q c.in-Ok.at l.word (c.in-Ok.ensures a q shown l.at l.owner l.word l.stands l.reference) in
-    let m = subst (λ (y : Result (Option End) Fault). LinkMeets a q y (link_at t.frame t.offset t.word)) c.in-Err-end_at.is (c.end_at.ensures a q t.frame t.offset t.word t.cell) in
+    let m = subst (λ (y : Result (Option End) Fault). LinkMeets a q y (link_at (here a.member a.task q) t.frame t.offset t.word)) c.in-Err-end_at.is (c.end_at.ensures a q t.frame t.offset t.word t.cell) in
     let e = turn_fault c.args.core.now c.args.regs.now a q (1024 - c.loop-i._i) c.in-Ok.at l.word t c.in-Err-end_at.fault (omega (arith, c.loop-i-test.true)) m in
     subst (λ (y : Answer Chase.End). EndMeets a q (Err c.in-Err-end_at.fault) y) (sym l.same) e
 
@@ -60,7 +61,7 @@ pub loop-i-preserved : goal.loop-i-preserved
 loop-i-preserved c = λ a q shown at owner v stands ref.
     let l = c.loop-i.invariant a q shown at owner v stands ref in
     let t = turn c.args.core.now c.args.regs.now a q c.in-Ok.at l.word (c.in-Ok.ensures a q shown l.at l.owner l.word l.stands l.reference) in
-    let m = subst (λ (y : Result (Option End) Fault). LinkMeets a q y (link_at t.frame t.offset t.word)) (c.in-Ok-None.is ∙ ap Ok c.in-Ok-None.field-0-is) (c.end_at.ensures a q t.frame t.offset t.word t.cell) in
+    let m = subst (λ (y : Result (Option End) Fault). LinkMeets a q y (link_at (here a.member a.task q) t.frame t.offset t.word)) (c.in-Ok-None.is ∙ ap Ok c.in-Ok-None.field-0-is) (c.end_at.ensures a q t.frame t.offset t.word t.cell) in
     let n : 1024 - c.loop-i._i - 1 ≡ 1024 - (c.loop-i._i + 1) = omega arith in
     subst (λ (i : ℕ). Rest c.args.core.now c.args.regs.now a q i v c.get-w.result) n (turn_on c.args.core.now c.args.regs.now a q (1024 - c.loop-i._i) c.in-Ok.at v c.loop-i.w c.get-w.result l t (omega (arith, c.loop-i-test.true)) m c.get-w.ensures)
 

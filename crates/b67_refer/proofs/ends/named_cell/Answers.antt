@@ -4,6 +4,7 @@ use Rattle.b67_ctl.specs.declared.references.Sirw.{Sirw}
 use Rattle.b67_model.specs.Cells.{cell}
 use Rattle.b67_layout.specs.Meets.{here}
 use Rattle.b67_stack.specs.Stacks.{StackPlace}
+use Rattle.b67_refer.specs.RunningContext.{live_of}
 use Rattle.b67_refer.specs.Cells.{CellMeets, view}
 use Rattle.b67_refer.proofs.Chains.{level_is, level_small}
 use Rattle.b67_refer.proofs.Names.{irw_is, stuffed, finds_name, finds_ref}
@@ -18,7 +19,7 @@ cell_at-requires c =
     let s = stuffed c.args.core.now c.args.regs.now a at owner c.args.w v stands ref (λ i fits e. none-some i (sym c.in-None.is ∙ c.from_word.ensures.known i fits e)) in
     let k : Sirw = record { stack = (view a s.frame).stack; disp = (view a s.frame).disp; offset = s.offset } in
     let same : k ≡ c.in-Some-from_word.r = same_Some _ _ (sym (c.from_word-in-None.ensures.known k s.fits s.is) ∙ c.in-Some-from_word.is) in
-    (a, s.frame, s.names, ap (λ (x : Sirw). let z : StackPlace = record { stack = x.stack; disp = x.disp } in z) same)
+    (live_of a, s.frame, s.names, ap (λ (x : Sirw). let z : StackPlace = record { stack = x.stack; disp = x.disp } in z) same)
 
 pub unreachable-requires : goal.unreachable-requires
 unreachable-requires c =
@@ -37,6 +38,6 @@ returns-in-Some-from_word c = λ a q shown at owner v stands ref.
     let s = stuffed c.args.core.now c.args.regs.now a at owner c.args.w v stands ref (λ i fits e. none-some i (sym c.in-None.is ∙ c.from_word.ensures.known i fits e)) in
     let k : Sirw = record { stack = (view a s.frame).stack; disp = (view a s.frame).disp; offset = s.offset } in
     let same : k ≡ c.in-Some-from_word.r = same_Some _ _ (sym (c.from_word-in-None.ensures.known k s.fits s.is) ∙ c.in-Some-from_word.is) in
-    let found = c.cell_at.ensures a q s.frame s.names (ap (λ (x : Sirw). let z : StackPlace = record { stack = x.stack; disp = x.disp } in z) same) in
+    let found = c.cell_at.ensures (live_of a) q s.frame s.names (ap (λ (x : Sirw). let z : StackPlace = record { stack = x.stack; disp = x.disp } in z) same) in
     let moved = subst (λ (n : ℕ). CellMeets a q s.frame n c.cell_at.result (cell (here a.member a.task q) s.frame n)) (sym (ap (λ (x : Sirw). x.offset) same)) found in
     finds_ref c.args.core.now c.args.regs.now a q v s.frame s.offset c.cell_at.result s.word moved

@@ -1,5 +1,6 @@
 use Rattle.std.proofs.Common.{◌∙◌, arith}
 use Rattle.std.proofs.lemmas.List.{length-set}
+use Rattle.b67_refer.specs.RunningContext.{live_of}
 use Rattle.b67_refer.proofs.Chains.{written_start, level_is, level_small, turn_mark, turn_down, turn_next, turn_end}
 use Rattle.b67_refer.proofs.environment.rebuild.Goals as goal
 
@@ -22,7 +23,7 @@ mark_at-m-requires c =
 pub address_of-at-requires : goal.address_of-at-requires
 address_of-at-requires c =
     let a = c.requires in
-    (a, (turn_down c.args.core.now c.args.regs.now a c.out.at c.out.level c.out.display c.mark_at-m.result (c.out.invariant.written a) c.if-level-eq0.false c.mark_at-m.ensures).0)
+    (live_of a, (turn_down c.args.core.now c.args.regs.now a c.out.at c.out.level c.out.display c.mark_at-m.result (c.out.invariant.written a) c.if-level-eq0.false c.mark_at-m.ensures).0)
 
 pub out-preserved : goal.out-preserved
 out-preserved c = record {
@@ -30,5 +31,5 @@ out-preserved c = record {
   high = omega (arith, c.out.invariant.high);
   written = λ a.
       let d = turn_down c.args.core.now c.args.regs.now a c.out.at c.out.level c.out.display c.mark_at-m.result (c.out.invariant.written a) c.if-level-eq0.false c.mark_at-m.ensures in
-      turn_next c.args.core.now c.args.regs.now a c.out.at c.out.level c.address_of-at.result c.out.display (c.out.invariant.written a) c.if-level-eq0.false c.out.invariant.len (c.address_of-at.ensures a d.0 ∙ d.1);
+      turn_next c.args.core.now c.args.regs.now a c.out.at c.out.level c.address_of-at.result c.out.display (c.out.invariant.written a) c.if-level-eq0.false c.out.invariant.len (c.address_of-at.ensures (live_of a) d.0 ∙ d.1);
 }

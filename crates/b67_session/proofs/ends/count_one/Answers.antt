@@ -1,5 +1,5 @@
 use Rattle.std.proofs.Common.{◌-◌}
-use Rattle.b67_session.proofs.Rooms.{countable_counted}
+use Rattle.b67_session.proofs.Rooms.{countable_counted, names_counted}
 use Rattle.b67_session.proofs.ends.count_one.Goals as goal
 
 pub returns : goal.returns
@@ -13,4 +13,5 @@ returns c = record {
   last_number = cc;
   printed = cc;
   countable = λ all. rw (c.count.ensures.jobs c.requires.job c.requires.at) (countable_counted c.args.tasks.now.jobs (c.args.chosen.job - 1) c.requires.job c.requires.at all);
+  names = rw (c.count.ensures.jobs c.requires.job c.requires.at) (names_counted c.args.tasks.now.jobs (c.args.chosen.job - 1) c.requires.job c.requires.at);
 }

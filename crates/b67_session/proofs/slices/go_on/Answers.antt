@@ -25,6 +25,7 @@ module _ (g : Over) (c : After-step-in-step g) where
     core = c.step-in-step.ensures.keeps.core ∙ c.step.invariant.keeps.core;
     sectors = c.step-in-step.ensures.keeps.sectors ∙ c.step.invariant.keeps.sectors;
     halt = c.step-in-step.ensures.keeps.halt ∙ c.step.invariant.keeps.halt;
+    names = c.step-in-step.ensures.keeps.names ∙ c.step.invariant.keeps.names;
   }
 
   module _ (known : Option (List (List ℕ))) (s : Session) (m : SessionJob) (t : Task) (says : Says known (g.B.Backing.holds c.args.backing.now)) (h : IsLone known c.args.machine.now s m t) where
@@ -62,7 +63,7 @@ step-init g c = record {
   countable = c.requires.countable;
   later = omega arith;
   device = Served-none g.B.Backing.holds g.B.Backing.size g.B.Backing.calls g.B.Backing.faults c.args.backing.now;
-  keeps = record { core = refl; sectors = refl; halt = refl };
+  keeps = record { core = refl; sectors = refl; halt = refl; names = refl };
   going = λ known s m t says h.
       let P : Option (List (List ℕ)) → Type 0 = λ d. Going g.K.Sink.taken (known ≢ None) d 0 s c.args.machine.now c.args.machine.now c.args.paper.now c.args.paper.now in
       subst P (sym (retold-same known (g.B.Backing.holds c.args.backing.now) says)) (going-begins g.K.Sink.taken (known ≢ None) known s m t c.args.machine.now c.args.paper.now h);

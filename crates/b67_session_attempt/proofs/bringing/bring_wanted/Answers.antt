@@ -1,5 +1,5 @@
 use Rattle.std.proofs.Common.{◌≡◌, Err, length, refl, ap, arith}
-use Rattle.b67_law_order_steps.proofs.Sessions.{other_numbers_keep_order}
+use Rattle.b67_layout_step.proofs.OtherNumbers.{others_in_order}
 use Rattle.b67_backing.specs.declared.refusals.SpaceFault.TheVariants.{NoCore}
 use Rattle.b67_task_need.specs.Needing.{need_with}
 use Rattle.b67_session_attempt.proofs.Stops.{stopped_so, stopped_fits}
@@ -14,7 +14,7 @@ stopped-requires g c =
       told = a.storage.device;
       plan = q.plan;
       session = record q.session { jobs = a.jobs };
-      ordered = other_numbers_keep_order q.session a.jobs a.others q.ordered;
+      ordered = others_in_order q.session a.jobs a.others q.ordered;
       stands = a.stands.stands;
     }
 

@@ -20,6 +20,7 @@ returns-then-not-made-clause-keeps c =
           (c.operate-made.ensures.row r.storage r.plan r.session r.member r.task r.ordered r.stands.session r.running);
       sectors = refl;
       halt = refl;
+      names = refl;
     }
 
 pub overflow_add-from : goal.overflow_add-from
@@ -59,6 +60,7 @@ returns-in_default c = record {
         (c.operate-made.ensures.row r.storage r.plan r.session r.member r.task r.ordered r.stands.session r.running);
     sectors = refl;
     halt = refl;
+    names = refl;
   });
   tasks = refl;
 }

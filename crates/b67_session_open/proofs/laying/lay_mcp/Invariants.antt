@@ -8,4 +8,4 @@ invariant-loop-number l =
     (length l.core ≡ length l.fn.core)
     × (slice_get l.core 0 ≡ Some (word 3 (2 ^ 46)))
     × ((n : ℕ) → 8 ≤ n → n < l.number → slice_get l.core n ≡ Some (word 7 (2 ^ 19 + n)))
-    × ((i : ℕ) → 17 ≤ i → slice_get l.core i ≡ slice_get l.fn.core i)
+    × ((i : ℕ) → 19 ≤ i → slice_get l.core i ≡ slice_get l.fn.core i)

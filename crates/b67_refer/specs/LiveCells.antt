@@ -1,0 +1,74 @@
+-- The cells of frames in core, seen from a live task.
+use Rattle.std.specs.Prelude.{◌≡◌, ◌≢◌, ℕ, ◌+◌, ◌*◌, ◌<◌, ◌≤◌, ◌⊎◌, List, Some, Result, Ok, Err, slice_get}
+use Rattle.b67_word.specs.Tagged.{Tagged}
+use Rattle.b67_word.specs.declared.couples.Place.{Place}
+use Rattle.b67_word.specs.declared.faults.Fault.{Fault}
+use Rattle.b67_ctl.specs.declared.registers.Regs.{Regs}
+use Rattle.b67_ctl.specs.declared.marks.Toscw.{Toscw}
+use Rattle.b67_ctl.specs.Layout.{intrinsic_word, toscw_word, IsToscw}
+use Rattle.b67_model.specs.Answers.{Answer}
+use Rattle.b67_model.specs.Words as Words
+use Rattle.b67_model.specs.Words.{Word, Operand, Name, Ref, Row, Element, Original, Proc, Intrinsic}
+use Rattle.b67_model.specs.InOrder.{Known, reach_of, IsSegment, NamesEntered, WordInOrder}
+use Rattle.b67_model.specs.Cells.{cell}
+use Rattle.b67_stack.specs.Stacks.{StackPlace}
+use Rattle.b67_stack.specs.Shapes.{Fits}
+use Rattle.b67_layout.specs.Placement.{spots}
+use Rattle.b67_layout.specs.Layout.{shape}
+use Rattle.b67_layout.specs.Session.{frame_address}
+use Rattle.b67_layout.specs.Meets.{here}
+use Rattle.b67_refer.specs.RunningContext.{LiveContext}
+
+module _ {core : List Tagged} {r : Regs} (a : LiveContext core r) where
+  -- what the task may name, and where the frames are
+  abbrev pub reach : List Known
+  reach = reach_of a.member.progress.job a.task
+
+  abbrev pub view : ℕ → StackPlace
+  view = spots a.plan a.member.constants.number a.member.progress.job a.task
+
+  abbrev pub frame_at_core : ℕ → ℕ
+  frame_at_core f = frame_address a.plan a.member a.task f
+
+  -- a word of core at an address is this one of a frame that the task may name
+  abbrev pub StandsFor : (at owner : ℕ) → Tagged → Word → Type 0
+  StandsFor at owner v (Intrinsic n) = (v ≡ intrinsic_word (record { number = n })) × (8 ≤ n) × (n ≤ 18)
+  StandsFor at owner v (Words.Segment n) = v.tag ≡ 3
+  StandsFor at owner v w =
+      Fits a.storage.held (shape a.plan a.member.constants.number a.member.progress.job view w) at v
+      × WordInOrder (IsSegment a.member.constants) a.member.progress.job.arrays reach owner w
+
+  -- the top word of the stack in slot k has this address: by the register, or by the word at the stack's base
+  pub record IsTop (k top : ℕ) : Type 0 where
+    pub used : k < a.plan.peak
+    pub by : ((r.slot ≡ k) × (r.s ≡ top))
+        ⊎ ((r.slot ≢ k) × ((w : Toscw) × IsToscw w × (slice_get core (a.plan.stacks + k * a.plan.size) ≡ Some (toscw_word w)) × (a.plan.stacks + k * a.plan.size + w.s ≡ top)))
+
+  module _ (q : Place) where
+    -- the cell of an entered frame at an offset has this address, and this word
+    pub record IsCellAt (at f offset : ℕ) (w : Word) : Type 0 where
+      pub address : at ≡ frame_at_core f + offset
+      pub names : NamesEntered reach f
+      pub found : cell (here a.member a.task q) f offset ≡ Ok w
+      pub word : Tagged
+      pub there : slice_get core at ≡ Some word
+      pub stands : StandsFor at f word w
+
+    -- a cell was found for an offset of a frame, or there is none
+    abbrev pub CellMeets : (f offset : ℕ) → Result ℕ Fault → Answer Word → Type 0
+    CellMeets f offset (Ok at) (Ok w) = IsCellAt at f offset w
+    CellMeets f offset (Err x) (Err y) = x ≡ y
+    CellMeets f offset _ _ = ⊥
+
+    -- the same for a frame and an offset that are looked up first
+    abbrev pub FindsCell : Result ℕ Fault → Answer (ℕ × ℕ) → Type 0
+    FindsCell found (Ok at) = CellMeets at.0 at.1 found (cell (here a.member a.task q) at.0 at.1)
+    FindsCell found (Err y) = found ≡ Err y
+
+  -- an address in a slot, and the address of the top word there
+  pub record IsUnder (base top : ℕ) : Type 0 where
+    pub slot : ℕ
+    pub disp : ℕ
+    pub low : disp < a.plan.size
+    pub at : base ≡ a.plan.stacks + slot * a.plan.size + disp
+    pub is : IsTop slot top
