@@ -21,7 +21,7 @@ use Rattle.b67_layout.proofs.MachineViews.{with_course}
 use Rattle.b67_layout.proofs.Rows.{task_row, slot_below}
 use Rattle.b67_layout.proofs.Sessions.{dictionary_below}
 use Rattle.b67_task_start.proofs.Births.{changed_member, kept_member, moved_member}
-use Rattle.b67_task_end.specs.Orders.{JobHolds, JobsHold}
+use Rattle.b67_layout.specs.Orders.{IsInOrderButCounts}
 use Rattle.b67_task_end.specs.Leaves.{Lost, Stays, Leaves, Lists, Cleared, Marked}
 use Rattle.b67_task_end.proofs.Slotwise.{In, one_each, found_member}
 use Rattle.b67_task_end.proofs.Turns.{SomeDied, pic}
@@ -44,7 +44,7 @@ dictionary_above plan at [] z d h = absurd h
 dictionary_above plan at (w ∷ ws) z d (inl e) = let P : SessionJob → Type 0 = λ q. at ≤ plan.dictionary q.constants.number in subst P e (omega (arith, d.0))
 dictionary_above plan at (w ∷ ws) z d (inr h) = omega (arith, dictionary_above plan (at + (2 + length w.constants.dictionary.cells)) ws z d.1 h)
 
-module _ (x : Storage) (core : List Tagged) (r : Regs) (marks : List ℕ) (plan : Placement) (s : Session) (o : JobsHold s) (h : SessionHolds x core r marks plan s)
+module _ (x : Storage) (core : List Tagged) (r : Regs) (marks : List ℕ) (plan : Placement) (s : Session) (o : IsInOrderButCounts s) (h : SessionHolds x core r marks plan s)
     (m : SessionJob) (in_m : Has s.jobs m) (some : 0 < plan.size) (rows : List Slotted) (job' : Job) (gone : List Task) (lv : Leaves plan m gone rows 255 job')
     (f : ℕ → Slot) (ts : List PagedObject) (d : SomeDied x core r marks plan s o h m in_m some f ts gone) (ls : Lists plan m gone rows job') where
   abbrev j : ℕ

@@ -20,7 +20,7 @@ use Rattle.b67_layout.specs.Layout.{slot_at, machine_view}
 use Rattle.b67_layout.specs.Session.{RepresentsCritical, SessionHolds, ShowsDisplay, IsRunning}
 use Rattle.b67_layout.proofs.MachineViews.{with_course}
 use Rattle.b67_layout.proofs.Rows.{slot_below}
-use Rattle.b67_task_end.specs.Orders.{JobHolds, JobsHold}
+use Rattle.b67_layout.specs.Orders.{IsInOrderButCounts}
 use Rattle.b67_task_end.specs.Vacated.{put_out}
 use Rattle.b67_task_end.specs.Graves.{Death, MayAllDie, all_died, slots_of, SameButSlots, ZeroVector, all_put_out}
 use Rattle.b67_task_end.specs.Turns.{InTurn, lies_out, deaths}
@@ -60,7 +60,7 @@ halts r (k ∷ ks) e = halts (put_out r k) ks (elim (cases_eq r.slot k) [
       e
 ])
 
-module _ (x : Storage) (core : List Tagged) (r : Regs) (marks : List ℕ) (plan : Placement) (s : Session) (o : JobsHold s) (h : SessionHolds x core r marks plan s)
+module _ (x : Storage) (core : List Tagged) (r : Regs) (marks : List ℕ) (plan : Placement) (s : Session) (o : IsInOrderButCounts s) (h : SessionHolds x core r marks plan s)
     (m : SessionJob) (in_m : Has s.jobs m) (some : 0 < plan.size) (todo : List Task) (turn : InTurn m.progress.job.tasks [] todo) where
   abbrev j : ℕ
   j = m.constants.number

@@ -20,7 +20,7 @@ use Rattle.b67_layout.specs.Placement.{Placement, Slotted, slot_of, is_row_of}
 use Rattle.b67_layout.specs.Session.{SessionHolds}
 use Rattle.b67_layout.proofs.Rows.{task_row}
 use Rattle.b67_task_start.proofs.Twins.{Like, SameStack}
-use Rattle.b67_task_end.specs.Orders.{JobHolds, JobsHold}
+use Rattle.b67_layout.specs.Orders.{IsInOrderButCounts}
 use Rattle.b67_task_end.specs.Leaves.{Lost, Stays, NotTheirs, Kept, Leaves, Lists}
 use Rattle.b67_task_end.specs.Ends.{gone_of, job_without, row_stays, rows_without}
 use Rattle.b67_task_end.proofs.Slotwise.{order_of, found_member}
@@ -81,7 +81,7 @@ not_owned gone a away = elim (cases_Bool (is_owned_by gone a)) [
   | inr t ↦ ap not t
 ]
 
-module _ (x : Storage) (core : List Tagged) (r : Regs) (marks : List ℕ) (plan : Placement) (s : Session) (o : JobsHold s) (h : SessionHolds x core r marks plan s)
+module _ (x : Storage) (core : List Tagged) (r : Regs) (marks : List ℕ) (plan : Placement) (s : Session) (o : IsInOrderButCounts s) (h : SessionHolds x core r marks plan s)
     (m : SessionJob) (in_m : Has s.jobs m) (numbers : List ℕ) where
   abbrev j : ℕ
   j = m.constants.number

@@ -28,7 +28,7 @@ use Rattle.b67_layout.proofs.Sessions.{change-has, change-kept}
 use Rattle.b67_layout_leave.proofs.Settles.{numbered_course}
 use Rattle.b67_layout_leave.proofs.Objects.{SameObjects, Represents-objects}
 use Rattle.b67_task_start.proofs.Twins.{NamesOnly, FramesName, like_same, slot_with-twin, name_all}
-use Rattle.b67_task_end.specs.Orders.{JobHolds, JobsHold}
+use Rattle.b67_layout.specs.Orders.{IsInOrderButCounts}
 use Rattle.b67_task_end.specs.Leaves.{Lost, Stays, NotTheirs, Kept, Leaves}
 use Rattle.b67_task_end.proofs.Owners.{NamesForeign, words_foreign}
 use Rattle.b67_task_end.proofs.Slotwise.{In, frames_in_order, order_of, found_member, not_there, owned_lies}
@@ -73,7 +73,7 @@ module _ (P : Starts) (arrays : List Array) (gone : List Task) (bound : ℕ) (fa
   kept_frames outer [] o away = tt
   kept_frames outer (f ∷ below) o away = (kept_words (map known_of (f ∷ below) ++ outer) f.identity f.cells o.0.0 (away f (inl refl)), kept_frames outer below o.2 (λ g i. away g (inr i)))
 
-module _ (x : Storage) (core : List Tagged) (r : Regs) (marks : List ℕ) (plan : Placement) (s : Session) (o : JobsHold s) (h : SessionHolds x core r marks plan s)
+module _ (x : Storage) (core : List Tagged) (r : Regs) (marks : List ℕ) (plan : Placement) (s : Session) (o : IsInOrderButCounts s) (h : SessionHolds x core r marks plan s)
     (m : SessionJob) (in_m : Has s.jobs m) (some : 0 < plan.size) (rows : List Slotted) (running : ℕ) (job' : Job) (gone : List Task) (lv : Leaves plan m gone rows running job') where
   abbrev j : ℕ
   j = m.constants.number

@@ -33,7 +33,7 @@ use Rattle.b67_layout_leave.proofs.Originals.{lies_at, original_word, InFrame, o
 use Rattle.b67_layout_leave.proofs.Settles.{stack_in_slot}
 use Rattle.b67_task_release.proofs.Copies.{words_descriptor, cell_word, frame_words, home_of}
 use Rattle.b67_task_release.proofs.Leavings.{here_lies, original_shape, original_named}
-use Rattle.b67_task_end.specs.Orders.{JobHolds, JobsHold}
+use Rattle.b67_layout.specs.Orders.{JobInOrderButCounts, IsInOrderButCounts}
 use Rattle.b67_task_end.proofs.Owners.{NamesForeign, words_foreign, total_two, counted}
 use Rattle.b67_law_order.proofs.Numbered.{keyed_member}
 use Rattle.b67_task_end.proofs.Vacates.{slot_room}
@@ -51,9 +51,9 @@ dictionary_end plan at (m ∷ more) y d (inl e) =
 dictionary_end plan at (m ∷ more) y d (inr k) = dictionary_end plan (at + (2 + length m.constants.dictionary.cells)) more y d.1 k
 
 -- each task's frames are in order
-pub frames_in_order : (s : Session) → JobsHold s → (m : SessionJob) (t : Task) → Has s.jobs m → Has m.progress.job.tasks t → FramesInOrder (IsSegment m.constants) m.progress.job.arrays (outer_of m.progress.job t) t.frames
+pub frames_in_order : (s : Session) → IsInOrderButCounts s → (m : SessionJob) (t : Task) → Has s.jobs m → Has m.progress.job.tasks t → FramesInOrder (IsSegment m.constants) m.progress.job.arrays (outer_of m.progress.job t) t.frames
 frames_in_order s o m t inm int =
-    let order = all_in JobHolds s.jobs m o.jobs inm in
+    let order = all_in (λ (z : SessionJob). JobInOrderButCounts (IsSegment z.constants) z.constants z.progress) s.jobs m o.jobs inm in
     (all_in (TaskInOrder (IsSegment m.constants) m.constants m.progress.job) m.progress.job.tasks t order.tasks.tasks int).frames
 
 -- the array of a copy
@@ -80,15 +80,15 @@ module _ (plan : Placement) (j : ℕ) (job : Job) (spot : ℕ → StackPlace) wh
   copy_foreign t (Intrinsic n) c home e o = absurd cc
   copy_foreign t (Words.Segment n) c home e o = absurd cc
 
-module _ (x : Storage) (core : List Tagged) (r : Regs) (marks : List ℕ) (plan : Placement) (s : Session) (o : JobsHold s) (h : SessionHolds x core r marks plan s) where
+module _ (x : Storage) (core : List Tagged) (r : Regs) (marks : List ℕ) (plan : Placement) (s : Session) (o : IsInOrderButCounts s) (h : SessionHolds x core r marks plan s) where
   abbrev p : MachineView
   p = machine_view plan s.jobs
 
   abbrev pub In : ℕ → ℕ → Type 0
   In k home = (slot_base p k < home) × (home < slot_base p k + plan.size)
 
-  pub order_of : (y : SessionJob) → Has s.jobs y → JobHolds y
-  order_of y in_y = all_in JobHolds s.jobs y o.jobs in_y
+  pub order_of : (y : SessionJob) → Has s.jobs y → JobInOrderButCounts (IsSegment y.constants) y.constants y.progress
+  order_of y in_y = all_in (λ (z : SessionJob). JobInOrderButCounts (IsSegment z.constants) z.constants z.progress) s.jobs y o.jobs in_y
 
   pub found_member : (y : SessionJob) → Has s.jobs y → keyed number_of y.constants.number s.jobs ≡ Some y
   found_member y in_y = keyed_member 1 s.jobs y o.numbered in_y

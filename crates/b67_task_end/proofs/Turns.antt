@@ -20,7 +20,7 @@ use Rattle.b67_layout.specs.Layout.{slot_at, array_object, code_objects, objects
 use Rattle.b67_layout.specs.Session.{SessionHolds}
 use Rattle.b67_layout.proofs.Rows.{slot_below}
 use Rattle.b67_task_release.specs.Released.{HasHome, of_objects}
-use Rattle.b67_task_end.specs.Orders.{JobHolds, JobsHold}
+use Rattle.b67_layout.specs.Orders.{IsInOrderButCounts}
 use Rattle.b67_task_end.specs.Vacated.{died, MayDie}
 use Rattle.b67_task_end.specs.Graves.{Death, MayAllDie, all_died}
 use Rattle.b67_task_end.specs.Turns.{InTurn, lies_in, lies_out, deaths}
@@ -46,7 +46,7 @@ free_slot p q k rest Free f = f
 free_slot p q k rest (Running st) f = f
 free_slot p q k rest (Waiting st) f = f
 
-module _ (x : Storage) (core : List Tagged) (r : Regs) (marks : List ℕ) (plan : Placement) (s : Session) (o : JobsHold s) (h : SessionHolds x core r marks plan s)
+module _ (x : Storage) (core : List Tagged) (r : Regs) (marks : List ℕ) (plan : Placement) (s : Session) (o : IsInOrderButCounts s) (h : SessionHolds x core r marks plan s)
     (m : SessionJob) (in_m : Has s.jobs m) (some : 0 < plan.size) where
   abbrev p : MachineView
   p = machine_view plan s.jobs

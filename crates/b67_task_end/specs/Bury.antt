@@ -11,7 +11,7 @@ use Rattle.b67_model.specs.Schedule.{Session}
 use Rattle.b67_stack.specs.Represents.{Storage}
 use Rattle.b67_layout.specs.Placement.{Placement, slot_of}
 use Rattle.b67_layout.specs.Session.{RepresentsCritical, SessionHolds}
-use Rattle.b67_task_end.specs.Orders.{JobHolds, JobsHold}
+use Rattle.b67_layout.specs.Orders.{IsInOrderButCounts}
 use Rattle.b67_task_end.specs.Leaves.{Lost}
 use Rattle.b67_task_end.specs.Ends.{gone_of, job_without, rows_without}
 
@@ -21,7 +21,7 @@ slots_gone plan m numbers = map (λ (t : Task). slot_of plan m.constants.number 
 
 -- nobody under one of them stays, and no other task's registers are in use
 pub record MayBury (x : Storage) (core : List Tagged) (r : Regs) (marks : List ℕ) (plan : Placement) (s : Session) (m : SessionJob) (numbers : List ℕ) : Type 0 where
-  pub ordered : JobsHold s
+  pub ordered : IsInOrderButCounts s
   pub holds : SessionHolds x core r marks plan s
   pub member : Has s.jobs m
   pub room : 0 < plan.size

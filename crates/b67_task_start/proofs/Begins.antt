@@ -9,7 +9,8 @@ use Rattle.b67_lemmas.specs.Lists.{Has, total}
 use Rattle.b67_lemmas.proofs.Members.{all_in, keyed-has}
 use Rattle.b67_lemmas.proofs.Sums.{sum_total, total_gap}
 use Rattle.b67_model.specs.State.{Task, SessionJob}
-use Rattle.b67_model.specs.InOrder.{IsSegment, IsInOrderButPlaces, JobInOrder}
+use Rattle.b67_model.specs.InOrder.{IsSegment}
+use Rattle.b67_layout.specs.Orders.{IsInOrderButCounts, JobInOrderButCounts}
 use Rattle.b67_model.specs.Run.{live_tasks, number_of}
 use Rattle.b67_model.specs.Schedule.{Session}
 use Rattle.b67_stack.specs.declared.Cpu.{Cpu}
@@ -30,7 +31,7 @@ fifteens : (jobs : List SessionJob) → total (λ (y : SessionJob). 15) jobs ≡
 fifteens [] = refl
 fifteens (y ∷ ys) = omega (arith, fifteens ys)
 
-module _ (x : Storage) (cpu : Cpu) (plan : Placement) (s : Session) (m : SessionJob) (t : Task) (o : IsInOrderButPlaces s) (h : RepresentsSession x cpu plan s) (runs : IsRunning plan s.jobs m t)
+module _ (x : Storage) (cpu : Cpu) (plan : Placement) (s : Session) (m : SessionJob) (t : Task) (o : IsInOrderButCounts s) (h : RepresentsSession x cpu plan s) (runs : IsRunning plan s.jobs m t)
     (core at count f segment level : ℕ) (place : Place) (k : ℕ) (may : MayStart x plan m t core at count f segment level place k) where
   has_m : Has s.jobs m
   has_m = keyed-has number_of m.constants.number s.jobs m runs.member
@@ -55,17 +56,14 @@ module _ (x : Storage) (cpu : Cpu) (plan : Placement) (s : Session) (m : Session
   abbrev pub opened_session : Session
   opened_session = record s { peak = peak_with s 1 }
 
-  pub opened_order : IsInOrderButPlaces (record s { peak = peak_with s 1 })
+  pub opened_order : IsInOrderButCounts (record s { peak = peak_with s 1 })
   opened_order = record {
     few = o.few;
     numbered = o.numbered;
     one_size = o.one_size;
     jobs = o.jobs;
-    switches = o.switches;
     peak_low = (let e : live_tasks s.jobs ≤ max s.peak (live_tasks s.jobs + 1) = omega arith in e);
     peak_high = (let e : max s.peak (live_tasks s.jobs + 1) ≤ 120 = omega (arith, o.peak_high, live_low) in e);
-    counted = o.counted;
-    turn = o.turn;
   }
 
   pub opened_runs : IsRunning (with_peak plan (peak_with s 1)) s.jobs m t

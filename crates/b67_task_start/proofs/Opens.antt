@@ -13,7 +13,7 @@ use Rattle.b67_model.specs.State.{Task, SessionJob}
 use Rattle.b67_model.specs.Keyed.{keyed}
 use Rattle.b67_model.specs.Run.{live_tasks}
 use Rattle.b67_model.specs.Schedule.{Session}
-use Rattle.b67_model.specs.InOrder.{IsInOrderButPlaces}
+use Rattle.b67_layout.specs.Orders.{IsInOrderButCounts}
 use Rattle.b67_stack.specs.declared.Cpu.{Cpu}
 use Rattle.b67_stack.specs.MachineView.{MachineView, Free, NoOriginalAboveTop, slot_base}
 use Rattle.b67_stack.specs.Represents.{Storage, Represents}
@@ -111,7 +111,7 @@ below_differ : (n : ℕ) → Differ (below n)
 below_differ zero = tt
 below_differ (suc n) = (λ h. omega (arith, below_low n n h), below_differ n)
 
-module _ (plan : Placement) (s : Session) (o : IsInOrderButPlaces s) (fit : RowsFit plan s.jobs) (same_peak : plan.peak ≡ s.peak) (k : ℕ) (l : IsLowestFree plan k) where
+module _ (plan : Placement) (s : Session) (o : IsInOrderButCounts s) (fit : RowsFit plan s.jobs) (same_peak : plan.peak ≡ s.peak) (k : ℕ) (l : IsLowestFree plan k) where
   abbrev live : List ℕ
   live = flat_map (slots_of plan) s.jobs
 
@@ -153,7 +153,7 @@ module _ (plan : Placement) (s : Session) (o : IsInOrderButPlaces s) (fit : Rows
   pub peak_rises : k ≡ plan.peak → peak_with s 1 ≡ plan.peak + 1
   peak_rises e = (let q : max s.peak (live_tasks s.jobs + 1) ≡ plan.peak + 1 = omega (arith, lowest_low, e, same_peak, o.peak_low) in q)
 
-module _ (x : Storage) (cpu new : Cpu) (areas areas' : Areas) (plan : Placement) (s : Session) (k : ℕ) (o : IsInOrderButPlaces s) (h : RepresentsSession x cpu plan s) (low : areas.low ≡ x.low)
+module _ (x : Storage) (cpu new : Cpu) (areas areas' : Areas) (plan : Placement) (s : Session) (k : ℕ) (o : IsInOrderButCounts s) (h : RepresentsSession x cpu plan s) (low : areas.low ≡ x.low)
     (has : HasSlot x plan s (length cpu.core) k) where
   -- a slot that was used before
   pub opened_before : k < plan.peak → IsOpened x plan s cpu areas

@@ -12,7 +12,8 @@ use Rattle.b67_model.specs.State.{Task, Job, SessionJob}
 use Rattle.b67_model.specs.Keyed.{keyed}
 use Rattle.b67_model.specs.Run.{number_of}
 use Rattle.b67_model.specs.Schedule.{Session}
-use Rattle.b67_model.specs.InOrder.{NumberedFrom, IsInOrderButPlaces}
+use Rattle.b67_model.specs.InOrder.{NumberedFrom}
+use Rattle.b67_layout.specs.Orders.{IsInOrderButCounts}
 use Rattle.b67_stack.specs.Represents.{Storage}
 use Rattle.b67_layout.specs.Placement.{Placement}
 use Rattle.b67_layout.specs.Rows as rows
@@ -41,7 +42,7 @@ pub record RowOf (tasks : Tasks) (plan : Placement) (m : SessionJob) (t : Task) 
   pub job : row.job ≡ m.constants.number
   pub slot : row.slot ≡ plan.running
 
-pub row_of : (x : Storage) (cpu : Cpu) (tasks : Tasks) (plan : Placement) (s : Session) (m : SessionJob) (t : Task) → IsInOrderButPlaces s → RepresentsSession x cpu plan s → TasksShow plan s tasks → IsRunning plan s.jobs m t → RowOf tasks plan m t
+pub row_of : (x : Storage) (cpu : Cpu) (tasks : Tasks) (plan : Placement) (s : Session) (m : SessionJob) (t : Task) → IsInOrderButCounts s → RepresentsSession x cpu plan s → TasksShow plan s tasks → IsRunning plan s.jobs m t → RowOf tasks plan m t
 row_of x cpu tasks plan s m t o h shows runs = by (slice_get (map task_row tasks.rows.items) tasks.running) refl shows.counts.running
   where
     low : plan.running < 120
@@ -72,7 +73,7 @@ job_row_of tasks plan s m numbered shows i =
     record { row = row; at = at; next = ap (λ (z : rows.JobRow). z.next_task) same ∙ b.shows.next_task }
 
 -- as many rows as live tasks
-pub rows_few : (tasks : Tasks) (plan : Placement) (s : Session) (x : Storage) (cpu : Cpu) → IsInOrderButPlaces s → RepresentsSession x cpu plan s → TasksShow plan s tasks → length tasks.rows.items ≡ Rattle.b67_model.specs.Run.live_tasks s.jobs
+pub rows_few : (tasks : Tasks) (plan : Placement) (s : Session) (x : Storage) (cpu : Cpu) → IsInOrderButCounts s → RepresentsSession x cpu plan s → TasksShow plan s tasks → length tasks.rows.items ≡ Rattle.b67_model.specs.Run.live_tasks s.jobs
 rows_few tasks plan s x cpu o h shows = sym (length-map tasks.rows.items task_row) ∙ rows_live plan s o h.holds.fits.rows (map task_row tasks.rows.items) (map job_row tasks.jobs) (counts_of tasks) shows
 
 module _ (plan : Placement) (m : SessionJob) (job' : Job) (number k peak : ℕ) (next : job'.next_task ≡ m.progress.job.next_task + 1) (numbers : job'.numbers ≡ m.progress.job.numbers) where
@@ -123,7 +124,7 @@ counted_is xs lent new n r same changed len at =
     came_back xs new (len ∙ ap length same) ∙ changed (ap (λ (l : List JobRow). slice_get l n) same ∙ at) ∙ ap (λ (l : List JobRow). slice_set l n (with_next r)) same
 
 -- the tables show the session with the new task
-pub tables_started : (tasks tasks' : Tasks) (plan : Placement) (s : Session) (m : SessionJob) (t new : Task) (k : ℕ) (x : Storage) (cpu : Cpu) (o : IsInOrderButPlaces s) (h : RepresentsSession x cpu plan s) (shows : TasksShow plan s tasks) (runs : IsRunning plan s.jobs m t)
+pub tables_started : (tasks tasks' : Tasks) (plan : Placement) (s : Session) (m : SessionJob) (t new : Task) (k : ℕ) (x : Storage) (cpu : Cpu) (o : IsInOrderButCounts s) (h : RepresentsSession x cpu plan s) (shows : TasksShow plan s tasks) (runs : IsRunning plan s.jobs m t)
     → Joins plan s.jobs m (with_child m.progress.job new) new k (peak_with s 1) → (row : TaskRow) → row.job ≡ m.constants.number → row.slot ≡ k
     → TaskShows (with_task_at plan m.constants.number new.number k (peak_with s 1)) (record m { progress = record m.progress { job = with_child m.progress.job new } }) new (task_row row)
     → tasks'.rows.items ≡ tasks.rows.items ++ row ∷ [] → ((r : JobRow) → slice_get tasks.jobs (row.job - 1) ≡ Some r → tasks'.jobs ≡ slice_set tasks.jobs (row.job - 1) (with_next r)) → tasks' ≡ record tasks { rows = tasks'.rows; jobs = tasks'.jobs }

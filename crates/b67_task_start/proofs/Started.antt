@@ -17,7 +17,8 @@ use Rattle.b67_model.specs.Keyed.{keyed}
 use Rattle.b67_model.specs.Intrinsics.{is_original}
 use Rattle.b67_model.specs.Steps.{is_critical}
 use Rattle.b67_model.specs.Schedule.{Session}
-use Rattle.b67_model.specs.InOrder.{IsSegment, IsInOrderButPlaces, JobInOrder, from_frame, frames_of_task, critical_of}
+use Rattle.b67_model.specs.InOrder.{IsSegment, from_frame, frames_of_task, critical_of}
+use Rattle.b67_layout.specs.Orders.{IsInOrderButCounts, JobInOrderButCounts}
 use Rattle.b67_lemmas.proofs.Members.{has_append_left, has_append_cases, has_map, has_map_back, keyed_falls, keyed-has, found-has}
 use Rattle.b67_stack.specs.declared.Cpu.{Cpu}
 use Rattle.b67_stack.specs.Shapes.{Locations, Shape, Copy, Copied, Is, Fits, LieDownward}
@@ -62,7 +63,7 @@ pub record Built (cpu new : Cpu) (plan : Placement) (m : SessionJob) (t : Task) 
   pub own : slice_get new.critical (slot_of plan m.constants.number t.number) ≡ Some (critical_mark job' t.frames)
 
 module _ (x : Storage) (cpu : Cpu) (plan : Placement) (s : Session) (m : SessionJob) (t : Task) (job' : Job) (child : Task) (k : ℕ)
-    (o : IsInOrderButPlaces s) (h : RepresentsSession x cpu plan s) (runs : IsRunning plan s.jobs m t) (joins : Joins plan s.jobs m job' child k plan.peak)
+    (o : IsInOrderButCounts s) (h : RepresentsSession x cpu plan s) (runs : IsRunning plan s.jobs m t) (joins : Joins plan s.jobs m job' child k plan.peak)
     (c : Calls plan m t job' child) where
   abbrev j : ℕ
   j = m.constants.number
@@ -82,7 +83,7 @@ module _ (x : Storage) (cpu : Cpu) (plan : Placement) (s : Session) (m : Session
   has_t : Has m.progress.job.tasks t
   has_t = keyed-has (λ (u : Task). u.number) t.number m.progress.job.tasks t runs.task
 
-  order : JobInOrder (IsSegment m.constants) m.constants m.progress
+  order : JobInOrderButCounts (IsSegment m.constants) m.constants m.progress
   order = job_in_order s m o has_m
 
   -- the parent's stack

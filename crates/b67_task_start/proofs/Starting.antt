@@ -22,7 +22,8 @@ use Rattle.b67_model.specs.Words as Words
 use Rattle.b67_model.specs.Words.{Word, Proc}
 use Rattle.b67_model.specs.State as State
 use Rattle.b67_model.specs.State.{Standing, Frame, Task, Job, SessionJob, top, below_top, height}
-use Rattle.b67_model.specs.InOrder.{Starts, Known, known_of, known_numbers, from_frame, frames_of_task, critical_of, outer_of, reach_of, IsEntered, IsSegment, IsInOrderButPlaces, NamesEntered, WordInOrder, FramesInOrder, StackInOrder, ReturnsInOrder, BirthInOrder, ParentInOrder, TaskInOrder, TasksInOrder, JobInOrder}
+use Rattle.b67_model.specs.InOrder.{Starts, Known, known_of, known_numbers, from_frame, frames_of_task, critical_of, outer_of, reach_of, IsEntered, IsSegment, NamesEntered, WordInOrder, FramesInOrder, StackInOrder, ReturnsInOrder, BirthInOrder, ParentInOrder, TaskInOrder, TasksInOrder}
+use Rattle.b67_layout.specs.Orders.{IsInOrderButCounts, JobInOrderButCounts}
 use Rattle.b67_law_order.proofs.Numbered.{keyed_member}
 use Rattle.b67_stack.specs.declared.Cpu.{Cpu}
 use Rattle.b67_stack.specs.Stacks.{StackPlace}
@@ -33,14 +34,15 @@ use Rattle.b67_layout.specs.Session.{IsRunning, RepresentsSession, frame_address
 use Rattle.b67_layout.specs.Meets.{here}
 use Rattle.b67_layout.proofs.Fresh.{running_in_order}
 use Rattle.b67_layout.proofs.Rows.{task_row}
-use Rattle.b67_refer.specs.RunningContext.{RunningContext}
+use Rattle.b67_refer.specs.RunningContext.{RunningContext, live_of}
 use Rattle.b67_refer.specs.Cells.{reach, view, frame_at_core, CellMeets, IsCellAt}
 use Rattle.b67_refer.specs.Ends.{IsProcAt}
-use Rattle.b67_refer.proofs.Names.{spot_fits}
+use Rattle.b67_refer.proofs.Marks.{stack_known}
 use Rattle.b67_refer.proofs.Procs.{segments_few}
 use Rattle.b67_refer.proofs.Rule.{inside, misses, no_mark_under, lands}
 use Rattle.b67_refer.proofs.Scenes.{member_in_order}
 use Rattle.b67_refer.proofs.Seats.{seat}
+use Rattle.b67_refer.proofs.Unders.{seat_low}
 use Rattle.b67_task_start.specs.Born.{with_task_at}
 use Rattle.b67_task_start.specs.Joining.{Sees, Joins, Calls, MayBuild}
 use Rattle.b67_task_start.specs.Starts.{IsProcCell, arguments, child, with_child}
@@ -53,17 +55,17 @@ err_ok x w e = cc
 -- a cell of an entered frame that is found lies at its offset in core
 found_cell : (core : List Tagged) (r : Regs) (a : RunningContext core r) (q : Place) (f offset : ℕ) (w : Word) → NamesEntered (reach a) f → 1 < f → cell (here a.member a.task q) f offset ≡ Ok w → IsCellAt a q (frame_at_core a f + offset) f offset w
 found_cell core r a q f offset w n own found =
-    let b = seat core r a f n.standing n.among own in
-    let i = inside core r a q f n.standing b n.entered own offset w found in
+    let b = seat core r (live_of a) f n.standing n.among own in
+    let i = inside core r (live_of a) q f n.standing b n.entered own offset w found in
     let up : frame_address a.plan a.member a.task f + offset ≤ b.top = elim (cases_lt b.top (frame_address a.plan a.member a.task f + offset)) [
-      | inl past ↦ absurd (err_ok _ w (sym (misses core r a q f n.standing b n.entered own offset (inr past)) ∙ found))
+      | inl past ↦ absurd (err_ok _ w (sym (misses core r (live_of a) q f n.standing b n.entered own offset (inr past)) ∙ found))
       | inr low ↦ low
     ] in
     let F : Answer Word → Type 0 = λ y. CellMeets a q f offset (Ok (frame_at_core a f + offset)) y in
-    subst F found (lands core r a q f n.standing b n.entered own offset i.0 up
+    subst F found (lands core r (live_of a) q f n.standing b n.entered own offset i.0 up
     (λ k v low high there tag.
     let at : k ≡ frame_address a.plan a.member a.task f + (k - frame_address a.plan a.member a.task f) = omega (arith, low) in
-    no_mark_under core r a q f n.standing b n.entered own offset (k - frame_address a.plan a.member a.task f) w v found (omega (arith, low)) (omega (arith, high)) (ap (slice_get core) (sym at) ∙ there) tag))
+    no_mark_under core r (live_of a) q f n.standing b n.entered own offset (k - frame_address a.plan a.member a.task f) w v found (omega (arith, low)) (omega (arith, high)) (ap (slice_get core) (sym at) ∙ there) tag))
 
 -- a marked top frame, and the one under it
 record Two (fs : List Frame) : Type 0 where
@@ -93,7 +95,7 @@ parents_live P constants job g t inside (p ∷ more) line n h =
 second_spot : (k : ℕ) (outer : ℕ → StackPlace) (f g : Frame) (below : List Frame) → f.identity ≢ g.identity → (spot_in k outer (f ∷ g ∷ below) g.identity).disp ≡ height below
 second_spot k outer f g below apart = rw (ne_eqb f.identity g.identity apart, eq-eqb g.identity g.identity refl) refl
 
-module _ (x : Storage) (cpu : Cpu) (plan : Placement) (s : Session) (m : SessionJob) (t : Task) (o : IsInOrderButPlaces s) (h : RepresentsSession x cpu plan s) (runs : IsRunning plan s.jobs m t) where
+module _ (x : Storage) (cpu : Cpu) (plan : Placement) (s : Session) (m : SessionJob) (t : Task) (o : IsInOrderButCounts s) (h : RepresentsSession x cpu plan s) (runs : IsRunning plan s.jobs m t) where
   pub has_m : Has s.jobs m
   has_m = keyed-has number_of m.constants.number s.jobs m runs.member
 
@@ -103,7 +105,7 @@ module _ (x : Storage) (cpu : Cpu) (plan : Placement) (s : Session) (m : Session
   abbrev pub context : RunningContext cpu.core cpu.regs
   context = record { left = []; storage = x; marks = cpu.critical; plan = plan; session = s; member = m; task = t; ordered = member_in_order s m o (has_m x cpu plan s m t o h runs); holds = h.holds; running = runs }
 
-  order : JobInOrder (IsSegment m.constants) m.constants m.progress
+  order : JobInOrderButCounts (IsSegment m.constants) m.constants m.progress
   order = (running_in_order plan s m t o runs).0
 
   mine : TaskInOrder (IsSegment m.constants) m.constants m.progress.job t
@@ -234,8 +236,17 @@ module _ (x : Storage) (cpu : Cpu) (plan : Placement) (s : Session) (m : Session
 
       pub environment_fits : ((spots plan m.constants.number m.progress.job t f).stack < 2 ^ 10) × ((spots plan m.constants.number m.progress.job t f).disp < 2 ^ 16) × (level < 2 ^ 5)
       environment_fits =
-          let w = spot_fits cpu.core cpu.regs (context x cpu plan s m t o h runs) f 0 proc.names (omega arith) in
-          (w.stack, w.disp, pcw.fits.level)
+          let a = live_of (context x cpu plan s m t o h runs) in
+          let b = seat cpu.core cpu.regs a f proc.names.standing proc.names.among proc.own in
+          let small = h.holds.memory.slots.laid.room in
+          let low = seat_low cpu.core cpu.regs a f proc.names proc.own in
+          let disp : (spots plan m.constants.number m.progress.job t f).disp ≡ height b.below = ap (λ (z : StackPlace). z.disp) b.spot in
+          let few = h.holds.fits.few in
+          let job_low = a.ordered.few in (
+            ⊎_elim (λ u. omega (arith, u, few)) (λ z. ⊎_elim (λ e. omega (arith, e, job_low)) (λ e. omega (arith, e)) z) (stack_known cpu.core cpu.regs a f proc.names.standing proc.names.among),
+            omega (arith, disp, low, small),
+            pcw.fits.level,
+          )
 
       module _ (enough : count ≤ length (top t.frames).cells) (plain : AllByRecursion (λ (w : Word). is_original w ≡ false) (arguments t count)) (room : 3 + count ≤ m.constants.stack_size) where
         calls : (c : Calls plan m t (with_child m.progress.job new) new) × (c.spot ≡ spots plan m.constants.number m.progress.job t f) × (c.level ≡ level) × (length c.only.cells ≡ count)

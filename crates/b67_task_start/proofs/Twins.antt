@@ -79,11 +79,11 @@ module _ (plan plan' : Placement) (i : ℕ) (job job' : Job) (Old Named : ℕ �
   shape-twin : (spot : ℕ → StackPlace) (w : Word) → NamesOnly Named w → shape plan' i job' spot w ≡ shape plan i job spot w
   shape-twin spot (Row a) g =
       let n = arrays a g in
-      let C : Array → ℕ → Shape = λ x h. Copy (record { indexed = false; read_only = not x.writable; number = length x.numbers }) h in
+      let C : Array → ℕ → Shape = λ x h. Copy (record { index = None; read_only = not x.writable }) h in
       ap (λ (x : Array). C x (plan'.home i a)) n.0 ∙ ap (λ (h : ℕ). C (array job a) h) n.1
   shape-twin spot (Element a index) g =
       let n = arrays a g in
-      let C : Array → ℕ → Shape = λ x h. Copy (record { indexed = true; read_only = not x.writable; number = index }) h in
+      let C : Array → ℕ → Shape = λ x h. Copy (record { index = Some index; read_only = not x.writable }) h in
       ap (λ (x : Array). C x (plan'.home i a)) n.0 ∙ ap (λ (h : ℕ). C (array job a) h) n.1
   shape-twin spot (Original a) g = ap Shapes.Original (arrays a g).1
   shape-twin spot (Operand bits) g = refl

@@ -9,7 +9,7 @@ use Rattle.b67_model.specs.Keyed.{keyed}
 use Rattle.b67_model.specs.Run.{number_of}
 use Rattle.b67_model.specs.Intrinsics.{is_original}
 use Rattle.b67_model.specs.Schedule.{Session}
-use Rattle.b67_model.specs.InOrder.{IsInOrderButPlaces}
+use Rattle.b67_layout.specs.Orders.{IsInOrderButCounts}
 use Rattle.b67_stack.specs.declared.Cpu.{Cpu}
 use Rattle.b67_stack.specs.Stacks.{StackPlace, Entered, HeadFits}
 use Rattle.b67_stack.specs.Represents.{Storage}
@@ -69,7 +69,7 @@ pub record Calls (plan : Placement) (m : SessionJob) (t : Task) (job' : Job) (ch
 
 -- the running task of the machine's session starts a task so, in this slot, with an environment at this spot
 pub record MayBuild (x : Storage) (cpu : Cpu) (plan : Placement) (s : Session) (m : SessionJob) (t : Task) (job' : Job) (child : Task) (slot job env_stack env_disp level count : ℕ) : Type 0 where
-  pub ordered : IsInOrderButPlaces s
+  pub ordered : IsInOrderButCounts s
   pub stands : RepresentsSession x cpu plan s
   pub running : IsRunning plan s.jobs m t
   pub joins : Joins plan s.jobs m job' child slot plan.peak

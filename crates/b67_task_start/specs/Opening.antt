@@ -6,7 +6,7 @@ use Rattle.b67_area.specs.declared.Info.{Info}
 use Rattle.b67_area.specs.Spans.{area_at}
 use Rattle.b67_ctl.specs.declared.registers.Regs.{Regs}
 use Rattle.b67_lemmas.specs.Lists.{Has}
-use Rattle.b67_model.specs.InOrder.{IsInOrderButPlaces}
+use Rattle.b67_layout.specs.Orders.{IsInOrderButCounts}
 use Rattle.b67_model.specs.Run.{live_tasks}
 use Rattle.b67_model.specs.Schedule.{Session}
 use Rattle.b67_stack.specs.declared.Cpu.{Cpu}
@@ -50,7 +50,7 @@ pub record HasSomeSlot (cpu : Cpu) (areas : Areas) : Type 0 where
   pub plan : Placement
   pub session : Session
   pub slot : ℕ
-  pub ordered : IsInOrderButPlaces session
+  pub ordered : IsInOrderButCounts session
   pub stands : RepresentsSession storage cpu plan session
   pub low : areas.low ≡ storage.low
   pub has : HasSlot storage plan session (length cpu.core) slot

@@ -8,7 +8,8 @@ use Rattle.b67_model.specs.Words.{Word, Proc}
 use Rattle.b67_model.specs.State.{Marked, Task, Job, SessionJob, frame, top}
 use Rattle.b67_model.specs.Cells.{cell}
 use Rattle.b67_model.specs.Environment.{level_of_frame}
-use Rattle.b67_model.specs.InOrder.{NamesEntered, IsInOrderButPlaces, reach_of}
+use Rattle.b67_model.specs.InOrder.{NamesEntered, reach_of}
+use Rattle.b67_layout.specs.Orders.{IsInOrderButCounts}
 use Rattle.b67_model.specs.Intrinsics.{child_of, is_original}
 use Rattle.b67_model.specs.Schedule.{Session}
 use Rattle.b67_stack.specs.Represents.{Storage}
@@ -69,7 +70,7 @@ pub record StartsSome (k : Machine) (at count : ℕ) : Type 0 where
   pub session : Session
   pub member : SessionJob
   pub task : Task
-  pub ordered : IsInOrderButPlaces session
+  pub ordered : IsInOrderButCounts session
   pub stands : MachineRepresents storage told k plan session
   pub running : IsRunning plan session.jobs member task
   pub f : ℕ

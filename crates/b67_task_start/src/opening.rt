@@ -1,7 +1,7 @@
 //! The slot of a new task.
 
 ghost use Rattle.std.specs.Prelude.{◌≡◌, ℕ, ◌≤◌, List, length};
-ghost use Rattle.b67_model.specs.InOrder.{IsInOrderButPlaces};
+ghost use Rattle.b67_layout.specs.Orders.{IsInOrderButCounts};
 ghost use Rattle.b67_model.specs.Schedule.{Session};
 ghost use Rattle.b67_stack.specs.Represents.{Storage};
 ghost use Rattle.b67_layout.specs.Placement.{Placement};
@@ -34,7 +34,7 @@ fn lowest_free(core: &Core, regs: &Regs) -> u8
 pub fn open_slot(cpu: &mut Cpu, areas: &mut Areas) -> u8
     requires { HasSomeSlot cpu.old areas.old }
     ensures slot { (x : Storage) (plan : Placement) (s : Session) (k : ℕ) → RepresentsSession x cpu.old plan s → IsLowestFree plan k → result ≡ k }
-    ensures stands { (x : Storage) (plan : Placement) (s : Session) (k : ℕ) → IsInOrderButPlaces s → RepresentsSession x cpu.old plan s → areas.old.low ≡ x.low
+    ensures stands { (x : Storage) (plan : Placement) (s : Session) (k : ℕ) → IsInOrderButCounts s → RepresentsSession x cpu.old plan s → areas.old.low ≡ x.low
         → HasSlot x plan s (length cpu.old.core) k → IsOpened x plan s cpu.new areas.new }
     ensures rest { cpu.new ≡ record cpu.old { core = cpu.new.core; regs = record cpu.old.regs { peak = cpu.new.regs.peak } } }
     ensures areas { areas.new ≡ record areas.old { low = areas.new.low } }

@@ -6,7 +6,7 @@ ghost use Rattle.b67_ctl.specs.Layout.{IsPcw, pcw_word};
 ghost use Rattle.b67_ctl.specs.declared.programs.Pcw.{Pcw};
 ghost use Rattle.b67_model.specs.State.{Task, SessionJob};
 ghost use Rattle.b67_model.specs.Schedule.{Session};
-ghost use Rattle.b67_model.specs.InOrder.{IsInOrderButPlaces};
+ghost use Rattle.b67_layout.specs.Orders.{IsInOrderButCounts};
 ghost use Rattle.b67_stack.specs.Represents.{Storage};
 ghost use Rattle.b67_layout.specs.Placement.{Placement};
 ghost use Rattle.b67_layout.specs.Session.{IsRunning};
@@ -58,9 +58,9 @@ fn add_row(tasks: &mut Tasks, row: TaskRow)
 /// area has a word. Answers its number.
 pub fn start(machine: &mut Machine, cell: u32, args: u32) -> u32
     requires { StartsSome machine.old cell args }
-    ensures number { (x : Storage) (told : Option (List (List ℕ))) (plan : Placement) (s : Session) (m : SessionJob) (t : Task) → IsInOrderButPlaces s
+    ensures number { (x : Storage) (told : Option (List (List ℕ))) (plan : Placement) (s : Session) (m : SessionJob) (t : Task) → IsInOrderButCounts s
         → MachineRepresents x told machine.old plan s → IsRunning plan s.jobs m t → result ≡ m.progress.job.next_task }
-    ensures stands { (x : Storage) (told : Option (List (List ℕ))) (plan : Placement) (s : Session) (m : SessionJob) (t : Task) (f segment level : ℕ) (place : Place) (slot : ℕ) → IsInOrderButPlaces s
+    ensures stands { (x : Storage) (told : Option (List (List ℕ))) (plan : Placement) (s : Session) (m : SessionJob) (t : Task) (f segment level : ℕ) (place : Place) (slot : ℕ) → IsInOrderButCounts s
         → MachineRepresents x told machine.old plan s → IsRunning plan s.jobs m t → MayStart x plan m t (length machine.old.cpu.core) cell args f segment level place slot
         → IsStarted told plan s m t (child m t args f segment level place) slot machine.new }
     ensures keeps { Keeps machine.old machine.new }
