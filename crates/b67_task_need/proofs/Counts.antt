@@ -30,7 +30,7 @@ without (y ∷ ys) n (inr h) =
     record { rest = y ∷ r.rest; shorter = omega (arith, r.shorter); others = λ k ne o. ⊎_elim (λ (z : y ≡ k). inl z) (λ (i : Has ys k). inr (r.others k ne i)) o }
 
 -- numbers that differ and are all in another list are at most as many as that has
-pub not_more : (xs ys : List ℕ) → Differ xs → ((n : ℕ) → Has xs n → Has ys n) → length xs ≤ length ys
+not_more : (xs ys : List ℕ) → Differ xs → ((n : ℕ) → Has xs n → Has ys n) → length xs ≤ length ys
 not_more [] ys d h = omega arith
 not_more (x ∷ xs) ys d h =
     let r = without ys x (h x (inl refl)) in
@@ -46,7 +46,7 @@ differ_append (x ∷ xs) ys d e apart =
 abbrev pub slots_of : Placement → SessionJob → List ℕ
 slots_of plan m = map (λ (t : Task). slot_of plan m.constants.number t.number) m.progress.job.tasks
 
-pub slots_length : (plan : Placement) (jobs : List SessionJob) → length (flat_map (slots_of plan) jobs) ≡ live_tasks jobs
+slots_length : (plan : Placement) (jobs : List SessionJob) → length (flat_map (slots_of plan) jobs) ≡ live_tasks jobs
 slots_length plan [] = refl
 slots_length plan (m ∷ more) = omega (
   arith,

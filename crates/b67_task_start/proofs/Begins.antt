@@ -19,13 +19,13 @@ use Rattle.b67_stack.specs.Represents.{Storage}
 use Rattle.b67_layout.specs.Placement.{Slotted, Placement, address_of, spots}
 use Rattle.b67_layout.specs.Session.{IsRunning, RepresentsSession, RepresentsStorage}
 use Rattle.b67_layout.proofs.Fresh.{job_in_order}
-use Rattle.b67_task_start.specs.Born.{with_peak, with_task_at}
-use Rattle.b67_task_start.specs.Joining.{MayBuild, joined}
+use Rattle.b67_task_start_stack.specs.Born.{with_peak, with_task_at}
+use Rattle.b67_task_start_stack.specs.Joining.{MayBuild, joined}
 use Rattle.b67_task_start.specs.Opening.{IsLowestFree, peak_with, HasSlot, IsOpened}
 use Rattle.b67_task_start.specs.Starts.{IsProcCell, MayStart, child, with_child, moved}
 use Rattle.b67_task_start.proofs.Opens.{not_past, peak_stays, peak_rises}
 use Rattle.b67_task_start.proofs.Starting.{may_build}
-use Rattle.b67_task_start.proofs.Wider.{spots-wide}
+use Rattle.b67_task_start_stack.proofs.Wider.{spots-wide}
 
 fifteens : (jobs : List SessionJob) → total (λ (y : SessionJob). 15) jobs ≡ 15 * length jobs
 fifteens [] = refl

@@ -29,11 +29,11 @@ use Rattle.b67_task_tables.specs.declared.tables.JobRow.{JobRow}
 use Rattle.b67_task_tables.specs.declared.tables.TaskRow.{TaskRow}
 use Rattle.b67_task_tables.specs.declared.tables.Tasks.{Tasks}
 use Rattle.b67_task_tables.specs.Tables.{task_row, job_row, counts_of, TasksShow}
-use Rattle.b67_task_start.specs.Born.{with_task_at}
-use Rattle.b67_task_start.specs.Joining.{Joins}
+use Rattle.b67_task_start_stack.specs.Born.{with_task_at}
+use Rattle.b67_task_start_stack.specs.Joining.{Joins}
 use Rattle.b67_task_start.specs.Opening.{peak_with}
 use Rattle.b67_task_start.specs.Starts.{with_child, with_next, moved}
-use Rattle.b67_task_start.proofs.Tabled.{tables_born}
+use Rattle.b67_task_start_stack.proofs.Tabled.{tables_born}
 
 -- the row of the running task
 pub record RowOf (tasks : Tasks) (plan : Placement) (m : SessionJob) (t : Task) : Type 0 where

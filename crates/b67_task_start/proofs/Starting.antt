@@ -43,11 +43,11 @@ use Rattle.b67_refer.proofs.Rule.{inside, misses, no_mark_under, lands}
 use Rattle.b67_refer.proofs.Scenes.{member_in_order}
 use Rattle.b67_refer.proofs.Seats.{seat}
 use Rattle.b67_refer.proofs.Unders.{seat_low}
-use Rattle.b67_task_start.specs.Born.{with_task_at}
-use Rattle.b67_task_start.specs.Joining.{Sees, Joins, Calls, MayBuild}
+use Rattle.b67_task_start_stack.specs.Born.{with_task_at}
+use Rattle.b67_task_start_stack.specs.Joining.{Sees, Joins, Calls, MayBuild}
 use Rattle.b67_task_start.specs.Starts.{IsProcCell, arguments, child, with_child}
-use Rattle.b67_task_start.proofs.Copies.{seen_below}
-use Rattle.b67_task_start.proofs.OneMore.{slot_of-other, slot_of-new, keyed_old}
+use Rattle.b67_task_start_stack.proofs.Copies.{seen_below}
+use Rattle.b67_task_start_stack.proofs.OneMore.{slot_of-other, slot_of-new, keyed_old}
 
 err_ok : (x : Fault) (w : Word) → ◌≡◌ {A = Answer Word} (Err x) (Ok w) → ⊥
 err_ok x w e = cc

@@ -13,7 +13,7 @@ use Rattle.b67_stack.specs.declared.Cpu.{Cpu}
 use Rattle.b67_stack.specs.Represents.{Storage}
 use Rattle.b67_layout.specs.Placement.{Slotted, Placement}
 use Rattle.b67_layout.specs.Session.{SessionHolds, RepresentsSession}
-use Rattle.b67_task_start.specs.Born.{with_peak}
+use Rattle.b67_task_start_stack.specs.Born.{with_peak}
 
 -- slot k is the lowest in which no task lives
 pub record IsLowestFree (plan : Placement) (k : ℕ) : Type 0 where

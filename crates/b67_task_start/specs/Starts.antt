@@ -21,7 +21,7 @@ use Rattle.b67_task_tables.specs.declared.tables.TaskRow.{TaskRow}
 use Rattle.b67_task_tables.specs.declared.tables.Tasks.{Tasks}
 use Rattle.b67_task_tables.specs.declared.tables.Machine.{Machine}
 use Rattle.b67_task_tables.specs.Tables.{MachineRepresents}
-use Rattle.b67_task_start.specs.Born.{with_task_at}
+use Rattle.b67_task_start_stack.specs.Born.{with_task_at}
 use Rattle.b67_task_start.specs.Opening.{IsLowestFree, slot_end, peak_with}
 
 -- the cell of a procedure in an entered frame that a task may name, by its core address; the procedure's level is one above
@@ -92,6 +92,7 @@ with_next r = record r { next_task = r.next_task + 1 }
 -- there is room for a row more, and its job's next number is one
 pub record HasRowRoom (tasks : Tasks) (row : TaskRow) : Type 0 where
   pub few : length tasks.rows.items < 120
+  pub from_one : 1 ≤ row.job
   pub job : JobRow
   pub at : slice_get tasks.jobs (row.job - 1) ≡ Some job
   pub small : job.next_task + 1 < 2 ^ 32

@@ -8,11 +8,12 @@ ghost use Rattle.b67_layout.specs.Placement.{Placement};
 ghost use Rattle.b67_layout.specs.Session.{SessionHolds, RepresentsSession};
 ghost use Rattle.b67_task_start.specs.Opening.{IsLowestFree, HoldsOne, HasSlot, HasSomeSlot, IsOpened};
 
-use crate::slots::add_slot;
+
 use b67_area::Areas;
 use b67_core::Core;
 use b67_ctl::Regs;
 use b67_stack::Cpu;
+use b67_task_start_stack::add_slot;
 
 /// The lowest slot in which no task lives: its word in the stack vector is zero. It may be the one after those used so far.
 fn lowest_free(core: &Core, regs: &Regs) -> u8
@@ -20,14 +21,12 @@ fn lowest_free(core: &Core, regs: &Regs) -> u8
     ensures { (x : Storage) (marks : List ℕ) (plan : Placement) (s : Session) → SessionHolds x core.now regs.now marks plan s
         → IsLowestFree plan result × (result ≤ plan.peak) }
 {
-    let mut slot = 0;
-    'up: while slot < regs.peak {
+    for slot in 0..regs.peak {
         if core.get(32 + u32::from(slot)).tag() == 0 {
             return slot;
         }
-        slot += 1;
     }
-    slot
+    regs.peak
 }
 
 /// Opens the slot of a new task: the lowest in which no task lives. The session's peak counts that task from now on.

@@ -1,6 +1,6 @@
 //! The birth of a task.
 
-ghost use Rattle.std.specs.Prelude.{◌≡◌, ℕ, ◌+◌, ◌-◌, ◌<◌, List, [], ◌∷◌, ◌++◌, Option, Some, length, slice_get, slice_set};
+ghost use Rattle.std.specs.Prelude.{◌≡◌, ℕ, ◌+◌, ◌-◌, ◌<◌, ◌≤◌, List, [], ◌∷◌, ◌++◌, Option, Some, length, slice_get, slice_set};
 ghost use Rattle.b67_word.specs.declared.couples.Place.{Place};
 ghost use Rattle.b67_ctl.specs.Layout.{IsPcw, pcw_word};
 ghost use Rattle.b67_ctl.specs.declared.programs.Pcw.{Pcw};
@@ -11,15 +11,16 @@ ghost use Rattle.b67_stack.specs.Represents.{Storage};
 ghost use Rattle.b67_layout.specs.Placement.{Placement};
 ghost use Rattle.b67_layout.specs.Session.{IsRunning};
 ghost use Rattle.b67_task_tables.specs.declared.tables.JobRow.{JobRow};
-ghost use Rattle.b67_task_tables.specs.Runs.{Keeps};
+ghost use Rattle.b67_task_tables.specs.Runs.{ForEachRun, Keeps, RunsTask};
 ghost use Rattle.b67_task_tables.specs.Tables.{MachineRepresents};
 ghost use Rattle.b67_task_start.specs.Starts.{StartsSome, MayStart, IsStarted, child, HasRowRoom, with_next};
 
-use crate::children::{build_child, mark_under};
+
 use crate::opening::open_slot;
 use b67_core::Core;
 use b67_ctl::Pcw;
 use b67_refer::activation_of;
+use b67_task_start_stack::{build_child, mark_under};
 use b67_task_tables::{JobRow, Machine, TaskRow, TaskState, Tasks};
 
 /// The program control word at an address.
@@ -53,6 +54,22 @@ fn add_row(tasks: &mut Tasks, row: TaskRow)
     count_task(tasks.jobs.as_mut_slice(), row.job as usize - 1);
 }
 
+/// The row of the running task.
+fn running_row(machine: &Machine) -> TaskRow
+    requires { RunsTask machine.now }
+    ensures { ForEachRun machine.now (λ x told plan s m t. (result.job ≡ m.constants.number) × (result.slot ≡ plan.running)) }
+{
+    machine.tasks.rows[machine.tasks.running as usize]
+}
+
+/// The number of a job's next task.
+fn next_number(tasks: &Tasks, job: u8) -> u32
+    requires { (r : JobRow) × (slice_get tasks.now.jobs (job - 1) ≡ Some r) × (1 ≤ job) }
+    ensures { (r : JobRow) → slice_get tasks.now.jobs (job - 1) ≡ Some r → result ≡ r.next_task }
+{
+    tasks.jobs.as_slice()[job as usize - 1].next_task
+}
+
 /// Starts a child of the running task in the procedure whose word lies at a core address, with copies of the last `args`
 /// cells of the top activation record as its cells; nothing is cut. Its stack stands in the lowest free slot, under which no
 /// area has a word. Answers its number.
@@ -66,9 +83,9 @@ pub fn start(machine: &mut Machine, cell: u32, args: u32) -> u32
     ensures keeps { Keeps machine.old machine.new }
     ensures sectors { machine.new.sectors ≡ machine.old.sectors }
 {
+    let parent = running_row(machine);
+    let number = next_number(&machine.tasks, parent.job);
     let slot = open_slot(&mut machine.cpu, &mut machine.areas);
-    let parent = machine.tasks.rows[machine.tasks.running as usize];
-    let number = machine.tasks.jobs.as_slice()[parent.job as usize - 1].next_task;
     let procedure = procedure_at(&machine.cpu.core, cell);
     let env = activation_of(&machine.cpu.core, &machine.cpu.regs, cell);
     let row = TaskRow {
