@@ -1,5 +1,5 @@
 -- A task is started: its slot is opened, its stack built, its row added.
-use Rattle.std.proofs.Common.{◌≡◌, ◌≢◌, ℕ, suc, ◌+◌, ◌*◌, ◌<◌, ◌≤◌, List, [], ◌∷◌, ◌++◌, length, Option, Some, refl, sym, ◌∙◌, ap, arith, inl, inr, subst}
+use Rattle.std.proofs.Common.{◌≡◌, ◌≢◌, ℕ, suc, ◌+◌, ◌-◌, ◌*◌, ◌<◌, ◌≤◌, List, [], ◌∷◌, ◌++◌, length, Option, Some, refl, sym, ◌∙◌, ap, arith, inl, inr, subst, slice_set}
 use Rattle.std.specs.Prelude.{max}
 use Rattle.std.specs.List.{slice_get}
 use Rattle.b67_word.specs.declared.couples.Place.{Place}
@@ -8,23 +8,39 @@ use Rattle.b67_backing.specs.Shelf.{Table, IsShelf}
 use Rattle.b67_lemmas.specs.Lists.{Has, total}
 use Rattle.b67_lemmas.proofs.Members.{all_in, keyed-has}
 use Rattle.b67_lemmas.proofs.Sums.{sum_total, total_gap}
-use Rattle.b67_model.specs.State.{Task, SessionJob}
+use Rattle.b67_model.specs.State.{Frame, Task, SessionJob, height}
+use Rattle.b67_model.specs.Words.{Proc}
+use Rattle.b67_law_order.proofs.Numbered.{numbered_low}
 use Rattle.b67_model.specs.InOrder.{IsSegment}
 use Rattle.b67_layout.specs.Orders.{IsInOrderButCounts, JobInOrderButCounts}
 use Rattle.b67_model.specs.Run.{live_tasks, number_of}
 use Rattle.b67_model.specs.Schedule.{Session}
 use Rattle.b67_stack.specs.declared.Cpu.{Cpu}
-use Rattle.b67_stack.specs.Stacks.{StackPlace}
+use Rattle.b67_stack.specs.Stacks.{StackPlace, mark_place}
+use Rattle.b67_stack.specs.Changes as Changes
 use Rattle.b67_stack.specs.Represents.{Storage}
 use Rattle.b67_layout.specs.Placement.{Slotted, Placement, address_of, spots}
 use Rattle.b67_layout.specs.Session.{IsRunning, RepresentsSession, RepresentsStorage}
+use Rattle.b67_layout.specs.Layout.{stack_of_task}
+use Rattle.b67_layout.specs.Rows.{IsReady}
 use Rattle.b67_layout.proofs.Fresh.{job_in_order}
+use Rattle.b67_refer.specs.Cells.{IsCellAt}
+use Rattle.b67_refer.specs.Ends.{IsProcAt}
+use Rattle.b67_refer.specs.RunningContext.{RunningContext}
+use Rattle.b67_refer.proofs.Scenes.{member_in_order}
+use Rattle.b67_task_tables.specs.declared.tables.JobRow.{JobRow}
+use Rattle.b67_task_tables.specs.declared.tables.TaskRow.{TaskRow}
+use Rattle.b67_task_tables.specs.declared.tables.Tasks.{Tasks}
+use Rattle.b67_task_tables.specs.declared.tables.Machine.{Machine}
+use Rattle.b67_task_tables.specs.Tables.{state_of, task_row, MachineRepresents}
 use Rattle.b67_task_start_stack.specs.Born.{with_peak, with_task_at}
 use Rattle.b67_task_start_stack.specs.Joining.{MayBuild, joined}
 use Rattle.b67_task_start.specs.Opening.{IsLowestFree, peak_with, HasSlot, IsOpened}
-use Rattle.b67_task_start.specs.Starts.{IsProcCell, MayStart, child, with_child, moved}
+use Rattle.b67_task_start.specs.Starts.{IsProcCell, MayStart, IsStarted, child, with_child, with_next, moved}
 use Rattle.b67_task_start.proofs.Opens.{not_past, peak_stays, peak_rises}
-use Rattle.b67_task_start.proofs.Starting.{may_build}
+use Rattle.b67_task_start.proofs.Rows.{JobRowOf, job_row_of, rows_few, tables_started}
+use Rattle.b67_task_start.proofs.Starting.{Two, IsPcwAt, found_cell, frames, joins, may_build, pcw, row_shows}
+use Rattle.b67_task_start_stack.proofs.Started.{under_place}
 use Rattle.b67_task_start_stack.proofs.Wider.{spots-wide}
 
 fifteens : (jobs : List SessionJob) → total (λ (y : SessionJob). 15) jobs ≡ 15 * length jobs
@@ -104,3 +120,83 @@ module _ (x : Storage) (cpu : Cpu) (plan : Placement) (s : Session) (m : Session
     shelf = subst (IsShelf table) (sym op.shelf) r.shelf;
     device = r.device ∙ sym op.device;
   }
+
+module _ (x : Storage) (told : Option (List (List ℕ))) (k : Machine) (plan : Placement) (s : Session) (m : SessionJob) (t : Task) (o : IsInOrderButCounts s) (h : MachineRepresents x told k plan s) (runs : IsRunning plan s.jobs m t)
+    (at count f segment level : ℕ) (place : Place) (slot : ℕ) (may : MayStart x plan m t (length k.cpu.core) at count f segment level place slot) where
+  abbrev new : Task
+  new = child m t count f segment level place
+
+  pub may_open : HasSlot x plan s (length k.cpu.core) slot
+  may_open = has_slot x k.cpu plan s m t o h.session runs (length k.cpu.core) at count f segment level place slot may
+
+  proc : IsProcCell (with_peak plan (peak_with s 1)) m t at f segment level place
+  proc = opened_proc x k.cpu plan s m t o h.session runs (length k.cpu.core) at count f segment level place slot may
+
+  order : IsInOrderButCounts (record s { peak = peak_with s 1 })
+  order = opened_order x k.cpu plan s m t o h.session runs (length k.cpu.core) at count f segment level place slot may
+
+  still : IsRunning (with_peak plan (peak_with s 1)) s.jobs m t
+  still = opened_runs x k.cpu plan s m t o h.session runs (length k.cpu.core) at count f segment level place slot may
+
+  pub job_row : JobRowOf k.tasks m
+  job_row = job_row_of k.tasks plan s m o.numbered h.tables (keyed-has number_of m.constants.number s.jobs m runs.member)
+
+  pub first_job : 1 ≤ m.constants.number
+  first_job = numbered_low 1 s.jobs m o.numbered (keyed-has number_of m.constants.number s.jobs m runs.member)
+
+  pub row_room : length k.tasks.rows.items < 120
+  row_room = omega (arith, rows_few k.tasks plan s x k.cpu o h.session h.tables, may_open.few)
+
+  module _ (now : Cpu) (areas' : Areas) (op : IsOpened x plan s now areas') where
+    -- what the new machine shows of the procedure
+    abbrev pub seen : RunningContext now.core now.regs
+    seen = record { left = []; storage = op.storage; marks = now.critical; plan = with_peak plan (peak_with s 1); session = record s { peak = peak_with s 1 }; member = m; task = t; ordered = member_in_order s m o (keyed-has number_of m.constants.number s.jobs m runs.member); holds = op.stands.holds; running = opened_runs x k.cpu plan s m t o h.session runs (length k.cpu.core) at count f segment level place slot may }
+
+    pub seen_procedure : IsProcAt seen t.place at f segment level place
+    seen_procedure = record {
+      own = proc.own;
+      offset = proc.offset;
+      cell = subst (λ (n : ℕ). IsCellAt seen t.place n f proc.offset (Proc segment level place)) (sym proc.at_is) (found_cell now.core now.regs seen t.place f proc.offset (Proc segment level place) proc.names proc.own proc.found);
+    }
+
+    pub seen_pcw : IsPcwAt op.storage now (with_peak plan (peak_with s 1)) (record s { peak = peak_with s 1 }) m t order op.stands still at count f segment level place proc
+    seen_pcw = pcw op.storage now (with_peak plan (peak_with s 1)) (record s { peak = peak_with s 1 }) m t order op.stands still at count f segment level place proc
+
+    pub may_child : (free job env_stack env_disp : ℕ) → free ≡ slot → m.constants.number ≡ job → spots (with_peak plan (peak_with s 1)) m.constants.number m.progress.job t f ≡ record { stack = env_stack; disp = env_disp }
+        → MayBuild op.storage now (with_peak plan (peak_with s 1)) (record s { peak = peak_with s 1 }) m t (with_child m.progress.job new) new free job env_stack env_disp level count
+    may_child free job env_stack env_disp e job_is spot_is =
+        subst (λ (n : ℕ). MayBuild op.storage now (with_peak plan (peak_with s 1)) (record s { peak = peak_with s 1 }) m t (with_child m.progress.job new) new n job env_stack env_disp level count) (sym e)
+        (opened_build x k.cpu plan s m t o h.session runs (length k.cpu.core) at count f segment level place slot may op.storage now op.stands job env_stack env_disp job_is spot_is)
+
+    module _ (free job env_stack env_disp : ℕ) (b : MayBuild op.storage now (with_peak plan (peak_with s 1)) (record s { peak = peak_with s 1 }) m t (with_child m.progress.job new) new free job env_stack env_disp level count) (is : free ≡ slot) where
+      two_frames : Two t.frames
+      two_frames = frames x k.cpu plan s m t o h.session runs at count f segment level place may.proc may.marked
+
+      under_same : (call call' under under' : Frame) (below below' : List Frame) → (call ∷ under ∷ below) ≡ (call' ∷ under' ∷ below') → below ≡ below'
+      under_same call call' under under' below below' e = cc
+
+      pub critical_is : (under : ℕ) → under ≡ mark_place (Changes.below_top (stack_of_task (with_peak plan (peak_with s 1)) m.constants.number m.progress.job plan.running t)) → under ≡ height two_frames.below
+      critical_is under e =
+          e ∙ under_place op.storage now (with_peak plan (peak_with s 1)) (record s { peak = peak_with s 1 }) m t (with_child m.progress.job new) new free b.ordered b.stands b.running b.joins b.calls
+          ∙ ap height (under_same b.calls.call two_frames.call b.calls.under two_frames.under b.calls.below two_frames.below (sym b.calls.frames ∙ two_frames.is))
+
+      pub started : (built : Cpu) (tasks' : Tasks) (row : TaskRow)
+          → RepresentsSession op.storage built (with_task_at (with_peak plan (peak_with s 1)) m.constants.number new.number free (peak_with s 1)) (joined (with_peak plan (peak_with s 1)) (record s { peak = peak_with s 1 }) m (with_child m.progress.job new))
+          → areas' ≡ record k.areas { low = areas'.low } → length now.core ≡ length k.cpu.core → length built.core ≡ length now.core
+          → row.job ≡ m.constants.number → row.number ≡ m.progress.job.next_task → row.slot ≡ free → row.parent ≡ plan.running → row.critical ≡ height two_frames.below → state_of row.state ≡ IsReady → row.segment ≡ segment + 1 → row.place ≡ place
+          → tasks'.rows.items ≡ k.tasks.rows.items ++ row ∷ [] → ((r : JobRow) → slice_get k.tasks.jobs (row.job - 1) ≡ Some r → tasks'.jobs ≡ slice_set k.tasks.jobs (row.job - 1) (with_next r)) → tasks' ≡ record k.tasks { rows = tasks'.rows; jobs = tasks'.jobs }
+          → IsStarted told plan s m t new slot (record k { cpu = built; areas = areas'; tasks = tasks' })
+      started built tasks' row session areas_are len len' job_is number_is slot_is parent_is critical state segment_is place_is rows_are jobs_are rest =
+          let P = peak_with s 1 in
+          let below = below_peak x k.cpu plan s m t o h.session runs (length k.cpu.core) at count f segment level place slot may in
+          let wider = peak_wider x k.cpu plan s m t o h.session runs (length k.cpu.core) at count f segment level place slot may in
+          let j = joins x k.cpu plan s m t o h.session runs at count f segment level place may.proc slot P may.lowest.free below wider in
+          let shows = row_shows x k.cpu plan s m t o h.session runs at count f segment level place may.proc may.marked slot P j (task_row row) job_is number_is (slot_is ∙ is) parent_is critical state segment_is place_is in
+          record {
+            storage = op.storage;
+            stands = record {
+              session = subst (λ (n : ℕ). RepresentsSession op.storage built (with_task_at plan m.constants.number new.number n P) (moved s m (with_child m.progress.job new) 1)) is session;
+              storage = opened_storage x k.cpu plan s m t o h.session runs (length k.cpu.core) at count f segment level place slot may k.areas areas' k.sectors told now built op h.storage areas_are len len';
+              tables = tables_started k.tasks tasks' plan s m t new slot x k.cpu o h.session h.tables runs j row job_is (slot_is ∙ is) shows rows_are jobs_are rest;
+            };
+          }

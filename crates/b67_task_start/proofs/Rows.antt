@@ -7,10 +7,10 @@ use Rattle.std.proofs.lemmas.Option.{same_Some, none-some}
 use Rattle.b67_lemmas.specs.Lists.{Has}
 use Rattle.b67_lemmas.proofs.Members.{has_get, keyed-has}
 use Rattle.b67_lemmas.proofs.Places.{came_back, map-slice_set, mapped_at, at_mapped}
-use Rattle.b67_law_order.proofs.Numbered.{keyed_member}
+use Rattle.b67_law_order.proofs.Numbered.{keyed_member, numbered_low}
 use Rattle.b67_model.specs.State.{Task, Job, SessionJob}
 use Rattle.b67_model.specs.Keyed.{keyed}
-use Rattle.b67_model.specs.Run.{number_of}
+use Rattle.b67_model.specs.Run.{live_tasks, number_of}
 use Rattle.b67_model.specs.Schedule.{Session}
 use Rattle.b67_model.specs.InOrder.{NumberedFrom}
 use Rattle.b67_layout.specs.Orders.{IsInOrderButCounts}
@@ -73,7 +73,7 @@ job_row_of tasks plan s m numbered shows i =
     record { row = row; at = at; next = ap (λ (z : rows.JobRow). z.next_task) same ∙ b.shows.next_task }
 
 -- as many rows as live tasks
-pub rows_few : (tasks : Tasks) (plan : Placement) (s : Session) (x : Storage) (cpu : Cpu) → IsInOrderButCounts s → RepresentsSession x cpu plan s → TasksShow plan s tasks → length tasks.rows.items ≡ Rattle.b67_model.specs.Run.live_tasks s.jobs
+pub rows_few : (tasks : Tasks) (plan : Placement) (s : Session) (x : Storage) (cpu : Cpu) → IsInOrderButCounts s → RepresentsSession x cpu plan s → TasksShow plan s tasks → length tasks.rows.items ≡ live_tasks s.jobs
 rows_few tasks plan s x cpu o h shows = sym (length-map tasks.rows.items task_row) ∙ rows_live plan s o h.holds.fits.rows (map task_row tasks.rows.items) (map job_row tasks.jobs) (counts_of tasks) shows
 
 module _ (plan : Placement) (m : SessionJob) (job' : Job) (number k peak : ℕ) (next : job'.next_task ≡ m.progress.job.next_task + 1) (numbers : job'.numbers ≡ m.progress.job.numbers) where
@@ -134,7 +134,7 @@ tables_started tasks tasks' plan s m t new k x cpu o h shows runs joins row job_
     let has_m = keyed-has number_of m.constants.number s.jobs m runs.member in
     let of = row_of x cpu tasks plan s m t o h shows runs in
     let j = job_row_of tasks plan s m o.numbered shows has_m in
-    let low : 1 ≤ m.constants.number = Rattle.b67_law_order.proofs.Numbered.numbered_low 1 s.jobs m o.numbered has_m in
+    let low : 1 ≤ m.constants.number = numbered_low 1 s.jobs m o.numbered has_m in
     let got : slice_get tasks.jobs (row.job - 1) ≡ Some j.row = ap (λ (n : ℕ). slice_get tasks.jobs (n - 1)) job_is ∙ j.at in
     let jobs_mapped : slice_set (map job_row tasks.jobs) (m.constants.number - 1) (job_row (with_next j.row)) ≡ map job_row tasks'.jobs =
     sym (ap (map job_row) (jobs_are j.row got) ∙ map-slice_set job_row tasks.jobs (row.job - 1) (with_next j.row) ∙ ap (λ (n : ℕ). slice_set (map job_row tasks.jobs) (n - 1) (job_row (with_next j.row))) job_is) in

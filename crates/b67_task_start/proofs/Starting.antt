@@ -53,7 +53,7 @@ err_ok : (x : Fault) (w : Word) → ◌≡◌ {A = Answer Word} (Err x) (Ok w) �
 err_ok x w e = cc
 
 -- a cell of an entered frame that is found lies at its offset in core
-found_cell : (core : List Tagged) (r : Regs) (a : RunningContext core r) (q : Place) (f offset : ℕ) (w : Word) → NamesEntered (reach a) f → 1 < f → cell (here a.member a.task q) f offset ≡ Ok w → IsCellAt a q (frame_at_core a f + offset) f offset w
+pub found_cell : (core : List Tagged) (r : Regs) (a : RunningContext core r) (q : Place) (f offset : ℕ) (w : Word) → NamesEntered (reach a) f → 1 < f → cell (here a.member a.task q) f offset ≡ Ok w → IsCellAt a q (frame_at_core a f + offset) f offset w
 found_cell core r a q f offset w n own found =
     let b = seat core r (live_of a) f n.standing n.among own in
     let i = inside core r (live_of a) q f n.standing b n.entered own offset w found in
@@ -68,7 +68,7 @@ found_cell core r a q f offset w n own found =
     no_mark_under core r (live_of a) q f n.standing b n.entered own offset (k - frame_address a.plan a.member a.task f) w v found (omega (arith, low)) (omega (arith, high)) (ap (slice_get core) (sym at) ∙ there) tag))
 
 -- a marked top frame, and the one under it
-record Two (fs : List Frame) : Type 0 where
+pub record Two (fs : List Frame) : Type 0 where
   pub call : Frame
   pub under : Frame
   pub below : List Frame
@@ -149,13 +149,14 @@ module _ (x : Storage) (cpu : Cpu) (plan : Placement) (s : Session) (m : Session
       member = runs.member;
       tasks = refl;
       arrays = refl;
-      newest = λ u i e. omega (arith, newest u i, e);
-      above = λ u i v l e. (let (w, iw, same) = parents_live (IsSegment m.constants) m.constants m.progress.job order.tasks u i u.parents refl v l in omega (arith, newest w iw, same, e));
+      newest = λ u i e. (let same : u.number ≡ m.progress.job.next_task = e in omega (arith, newest u i, same));
+      above = λ u i v l e. (let (w, iw, same) = parents_live (IsSegment m.constants) m.constants m.progress.job order.tasks u i u.parents refl v l in let next : v ≡ m.progress.job.next_task = e in omega (arith, newest w iw, same, next));
       rows = h.holds.fits.rows;
       row = λ r i ej et. (let (y, u, in_y, ey, in_u, eu) = h.holds.fits.rows.live r i in
           let same : y ≡ m = one_member y in_y (ey ∙ ej) in
           let here : Has m.progress.job.tasks u = subst (λ (z : SessionJob). Has z.progress.job.tasks u) same in_u in
-          omega (arith, newest u here, eu, et));
+          let next : r.task ≡ m.progress.job.next_task = et in
+          omega (arith, newest u here, eu, next));
       free = free;
       away = λ e. (let (r, i, is) = on_running in free r i (is ∙ sym e));
       inside = inside;
