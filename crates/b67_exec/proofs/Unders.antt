@@ -1,5 +1,5 @@
 -- A store into a procedure: the value stays, the reference goes, and the procedure is entered.
-use Rattle.std.proofs.Common.{◌≡◌, ◌≢◌, ℕ, ◌+◌, ◌-◌, ◌<◌, ◌≤◌, List, [], ◌∷◌, ◌++◌, map, length, Ok, Err, refl, sym, ◌∙◌, ap, arith, Bool, false, inl, inr, ◌⊎◌, ⊎_elim, subst, slice_set}
+use Rattle.std.proofs.Common.{◌≡◌, ◌≢◌, ℕ, ◌+◌, ◌-◌, ◌<◌, ◌≤◌, List, [], ◌∷◌, ◌++◌, map, length, Ok, Err, refl, sym, ◌∙◌, ap, arith, cond, ltb, Bool, true, false, inl, inr, ◌⊎◌, ⊎_elim, subst, slice_set}
 use Rattle.std.specs.Prelude.{if◌then◌else◌}
 use Rattle.std.specs.List.{slice_get}
 use Rattle.std.proofs.lemmas.Bool.{cases_eq}
@@ -7,10 +7,12 @@ use Rattle.std.proofs.lemmas.Option.{same_Some}
 use Rattle.b67_word.specs.Tagged.{Tagged}
 use Rattle.b67_word.specs.declared.couples.Place.{Place}
 use Rattle.b67_word.specs.declared.faults.Fault.{Fault}
+use Rattle.b67_word.specs.declared.faults.Fault.TheVariants.{InvalidIndex}
 use Rattle.b67_core.proofs.Writes.{slice_get-set_other}
 use Rattle.b67_model.specs.Answers.{Answer, ◌>>=◌}
+use Rattle.b67_model.specs.Arrays.{array}
 use Rattle.b67_model.specs.Chase as Chase
-use Rattle.b67_model.specs.Chase.{AtProc, follow}
+use Rattle.b67_model.specs.Chase.{AtElement, AtProc, follow}
 use Rattle.b67_model.specs.Entry.{accident, back_to}
 use Rattle.b67_model.specs.InOrder.{Starts, Known, known_of, outer_of, is_original_of, IsSegment, CellsInOrder, FramesInOrder}
 use Rattle.b67_layout.specs.Orders.{IsInOrderButCounts}
@@ -67,12 +69,17 @@ leads_plain h (Proc g l p) f segment level place e = refl
 leads_plain h (Intrinsic n) f segment level place e = refl
 leads_plain h (Words.Segment n) f segment level place e = refl
 
+-- an element is no procedure, whether its index is below the length or not
+no_element : (test : Bool) (b k f segment level : ℕ) (place : Place) → (let end : Answer Chase.End = cond test (Ok (AtElement b k)) (Err InvalidIndex) in end ≡ Ok (AtProc f segment level place)) → ⊥
+no_element true b k f segment level place e = cc
+no_element false b k f segment level place e = cc
+
 leads_tag : (x : Storage) (plan : Placement) (m : SessionJob) (t : Task) (h : OperatorContext) (a : Word) (at : ℕ) (u : Tagged) (f segment level : ℕ) (place : Place) → follow h a ≡ Ok (AtProc f segment level place) → IsWordOf x plan m t a at u → u.tag ≡ 1
 leads_tag x plan m t h (Operand n) at u f segment level place e i = cc
 leads_tag x plan m t h (Name c) at u f segment level place e i = ap (λ (w : Tagged). w.tag) i.0
 leads_tag x plan m t h (Ref g o) at u f segment level place e i = ap (λ (w : Tagged). w.tag) i.0
 leads_tag x plan m t h (Row b) at u f segment level place e i = cc
-leads_tag x plan m t h (Element b k) at u f segment level place e i = cc
+leads_tag x plan m t h (Element b k) at u f segment level place e i = absurd (no_element (ltb k (length (array h.job b).numbers)) b k f segment level place e)
 leads_tag x plan m t h (Original b) at u f segment level place e i = cc
 leads_tag x plan m t h (Proc g l p) at u f segment level place e i = cc
 leads_tag x plan m t h (Intrinsic n) at u f segment level place e i = cc

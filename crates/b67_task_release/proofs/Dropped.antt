@@ -46,7 +46,7 @@ chains_gone table f st sh no_zero has = ⊎_elim
 fits_other : (held : Locations) (home : ℕ) (h : Location) (a : Shape) (i : ℕ) (v : Tagged) → ((c : Copied) (q : ℕ) → a ≡ Copy c q → q ≢ home) → Fits held a i v → Fits (with_held held home h) a i v
 fits_other held home h (Is u) i v other f = f
 fits_other held home h (Original q) i v other f = f
-fits_other held home h (Copy c q) i v other f = record { present = f.present; address = f.address; fits = f.fits; is = f.is; to = by f.present f.to } where
+fits_other held home h (Copy c q) i v other f = record { number = f.number; numbered = f.numbered; present = f.present; address = f.address; fits = f.fits; is = f.is; to = by f.present f.to } where
   by : (b : Bool) → MatchBool b ((held q).area ≡ Some f.address) (f.address ≡ q) → MatchBool b ((with_held held home h q).area ≡ Some f.address) (f.address ≡ q)
   by false e = e
   by true e = ap (λ (g : Location). g.area) (held-other held home h q (other c q refl)) ∙ e
