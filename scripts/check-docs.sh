@@ -8,9 +8,11 @@
 # - a block that begins with ```console holds commands after `$ ` and, after each, exactly what it prints;
 # - a block that begins with ```sh holds commands without their output: each must end with status 0;
 # - a block that begins with a `?` card is the deck of a folder of decks/, and a block of lines that begin with `1.1 `
-#   after it is that deck's stdout.
+#   after it is that deck's stdout;
+# - cards in a sentence, as `ZERO / EXIT` gives `1.1 ENDED`, are the outer block of a deck that prints this first.
 # A block after a line <!-- check-docs: skip, WHY --> isn't run, and is listed as such. The program is found as `b67`
-# and as crates/b67/out/b67. The two lines with a status that `rt try` adds are left out of the comparison.
+# and as crates/b67/out/b67. Beside that, the table of decks must name each folder of decks/, and the manual page each
+# status's line. The two lines with a status that `rt try` adds are left out of the comparison.
 set -u
 [ $# -ge 1 ] || { echo "usage: bash scripts/check-docs.sh PROGRAM [DOCUMENT..]" >&2; exit 2; }
 program=$(cd "$(dirname "$1")" && pwd)/$(basename "$1")
@@ -85,6 +87,21 @@ for document in "$@"; do
             ;;
         esac
     done
+    grep -oE '`[A-Z0-9, ]+( / [A-Z0-9, ]+)+` gives `[^`]+`' "$document" | sed 's/`//g; s/ gives /\t/' >"$room/sentences"
+    while IFS="$(printf '\t')" read -r cards printed; do
+        { printf '?JOB A\n?ASM\nSEGMENT MAIN 2\n'; printf '%s\n' "$cards" | sed 's: / :\n:g'; echo '?END'; } >"$room/text"
+        if [ "$(b67 run --core 4096 --backing b <"$room/text" | head -1)" = "$printed" ]; then passed=$((passed + 1)); else
+            wrong "$document: $cards"
+        fi
+    done <"$room/sentences"
+done
+
+if [ "$(ls -d decks/*/ | sed 's:decks/::; s:/::' | sort)" = "$(sed -n '/^## The decks/,$s/^| `\([a-z]*\)` .*/\1/p' docs/ASSEMBLER.md | sort)" ]; then
+    passed=$((passed + 1))
+else wrong 'the table of decks in docs/ASSEMBLER.md'; fi
+page=$(MANWIDTH=1000 man -l docs/b67.1 2>/dev/null | col -b)
+for words in 'USAGE: b67 run' DECK ASM CODEFILE LOAD HALTED 'NO CORE' 'BACKING FULL' 'BACKING FAULT' 'READING FAULT' 'NO MEMORY'; do
+    case $page in *"$words"*) passed=$((passed + 1)) ;; *) wrong "docs/b67.1: $words" ;; esac
 done
 echo "$passed passed, $failed failed, $skipped not run"
 [ $failed = 0 ]
