@@ -1,7 +1,8 @@
 #!/bin/sh
 # Runs the decks of this folder, or those that are named, and compares what each prints and its status with the
 # files `stdout` and `status` (0 if there is none). Each deck that ends so is run again in the greatest core, where
-# it must print the same. This is no part of the gate: run it by hand, over any build of the program.
+# it must print the same; but not one of status 5, since a larger core fills the backing file later.
+# This is no part of the gate: run it by hand, over any build of the program.
 #
 #     sh decks/run.sh PROGRAM [DECK..]
 set -u
@@ -44,7 +45,7 @@ for name in "$@"; do
         unbuilt=$((unbuilt + 1))
         continue
     fi
-    if [ $status = "$wanted" ] && cmp -s lines "$here/$name/stdout"; then
+    if [ $status = "$wanted" ] && cmp -s lines "$here/$name/stdout" && [ $status != 5 ]; then
         run "$name" 1048575
         status=$?
         core=' in the greatest core'
