@@ -11,8 +11,8 @@
 #   after it is that deck's stdout;
 # - cards in a sentence, as `ZERO / EXIT` gives `1.1 ENDED`, are the outer block of a deck that prints this first.
 # A block after a line <!-- check-docs: skip, WHY --> isn't run, and is listed as such. The program is found as `b67`
-# and as crates/b67/out/b67. Beside that, the table of decks must name each folder of decks/, and the manual page each
-# status's line. The two lines with a status that `rt try` adds are left out of the comparison.
+# and as crates/b67/out/b67. Beside that, each link must lead to a file and a heading, the table of decks must name each
+# folder of decks/, and the manual page each status's line. The two lines with a status that `rt try` adds are left out of the comparison.
 set -u
 [ $# -ge 1 ] || { echo "usage: bash scripts/check-docs.sh PROGRAM [DOCUMENT..]" >&2; exit 2; }
 program=$(cd "$(dirname "$1")" && pwd)/$(basename "$1")
@@ -86,6 +86,14 @@ for document in "$@"; do
             fi
             ;;
         esac
+    done
+    for link in $(grep -oE '\]\([^) ]+\)' "$document" | sed 's/^](//; s/)$//' | grep -v '^http'); do
+        target=${link%%#*}
+        if [ -z "$target" ]; then target=$document; else target=$(dirname "$document")/$target; fi
+        case $link in
+        *'#'*) sed -n 's/^##* //p' "$target" 2>/dev/null | tr '[:upper:]' '[:lower:]' | sed "s/[^a-z0-9 _-]//g; s/ /-/g" | grep -qxF -- "${link#*#}" ;;
+        *) [ -e "$target" ] ;;
+        esac || wrong "$document: the link $link"
     done
     grep -oE '`[A-Z0-9, ]+( / [A-Z0-9, ]+)+` gives `[^`]+`' "$document" | sed 's/`//g; s/ gives /\t/' >"$room/sentences"
     while IFS="$(printf '\t')" read -r cards printed; do
