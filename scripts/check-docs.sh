@@ -11,8 +11,9 @@
 #   after it is that deck's stdout;
 # - cards in a sentence, as `ZERO / EXIT` gives `1.1 ENDED`, are the outer block of a deck that prints this first.
 # A block after a line <!-- check-docs: skip, WHY --> isn't run, and is listed as such. The program is found as `b67`
-# and as crates/b67/out/b67. Beside that, each link must lead to a file and a heading, the table of decks must name each
-# folder of decks/, and the manual page each status's line. The two lines with a status that `rt try` adds are left out of the comparison.
+# and as crates/b67/out/b67. The two lines with a status that `rt try` adds are left out of the comparison. Beside that,
+# each link must lead to a file and a heading, the table of decks must name each folder of decks/, and the manual page
+# each status's line.
 set -u
 [ $# -ge 1 ] || { echo "usage: bash scripts/check-docs.sh PROGRAM [DOCUMENT..]" >&2; exit 2; }
 program=$(cd "$(dirname "$1")" && pwd)/$(basename "$1")
