@@ -13,11 +13,14 @@ function trim(s) {
     return s
 }
 function unknown() { print "    no line of b67" }
-# prints what the row says from column `from` on, the first of it after `subject`
-function look(key, from, subject,    i) {
+# prints what the row says from column `from` on, the first of it after `subject`, with the numbers of the line
+function look(key, from, subject,    i, name, text) {
     if (!(key in columns)) { unknown(); return }
     for (i = from; i <= columns[key]; i++) {
-        if (cell[key, i] != "") print "    " subject cell[key, i]
+        text = cell[key, i]
+        for (name in numbers) gsub("`" name "`", numbers[name], text)
+        gsub(/`/, "", text)
+        if (text != "") print "    " subject text
         subject = ""
     }
 }
@@ -32,14 +35,13 @@ BEGIN {
         columns[key] = n - 2
         for (i = 1; i <= n - 2; i++) {
             text = trim(part[i + 1])
-            gsub(/`/, "", text)
             gsub(/\[[^]]*\]\([^)]*\)/, "docs/MESSAGES.md", text)
             cell[key, i] = text
         }
     }
     if (section == "") { print "cannot read " pages > "/dev/stderr"; exit 1 }
 }
-{ print }
+{ print; split("", numbers) }
 /^status [0-9]$/ { look("Statuses:" $2, 3); next }
 /^USAGE: / { look("Statuses:1", 3); next }
 /^DECK [0-9]+ REASON [0-9]+$/ { look("DECK:" $4, 2, "Card " $2 " "); next }
@@ -47,8 +49,8 @@ BEGIN {
 /^CODEFILE [0-9]+ REASON [0-9]+ BYTE [0-9]+$/ { look("CODEFILE:" $4, 2, "The bytes under card " $2 " "); next }
 /^LOAD [0-9]+ REASON [0-9]+ SEGMENT [0-9]+ AT [0-9]+:[0-9]$/ { look("LOAD:" $4, 2, "The program of card " $2 " "); next }
 /^HALTED [0-9]+$/ { look("Statuses:3", 3); next }
-/^NO CORE [0-9]+ [0-9]+$/ { look("Statuses:4", 3); next }
-/^BACKING FULL [0-9]+ [0-9]+$/ { look("Statuses:5", 3); next }
+/^NO CORE [0-9]+ [0-9]+$/ { numbers["need"] = $3; numbers["core"] = $4; look("Statuses:4", 3); next }
+/^BACKING FULL [0-9]+ [0-9]+$/ { numbers["sum"] = $3; numbers["sectors"] = $4; look("Statuses:5", 3); next }
 /^BACKING FAULT$/ { look("Statuses:6", 3); next }
 /^READING FAULT$/ { look("Statuses:7", 3); next }
 /^NO MEMORY$/ { look("Statuses:9", 3); next }
