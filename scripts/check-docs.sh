@@ -4,7 +4,7 @@
 #
 #     bash scripts/check-docs.sh PROGRAM [DOCUMENT..]
 #
-# In README.md, docs/ and bench/README.md
+# In README.md, docs/, bench/README.md and decks/README.md
 # - a block that begins with ```console holds commands after `$ ` and, after each, exactly what it prints;
 # - a block that begins with ```sh holds commands without their output: each must end with status 0;
 # - a block that begins with a `?` card is the deck of a folder of decks/, and a block of lines that begin with `1.1 `
@@ -30,7 +30,7 @@ done
 export PATH="$room/bin:$PATH" HOME="$room/home"
 mkdir -p "$HOME"
 cd "$room/clone" || exit 2
-[ $# -gt 0 ] || set -- README.md docs/*.md bench/README.md
+[ $# -gt 0 ] || set -- README.md docs/*.md bench/README.md decks/README.md
 
 passed=0
 failed=0

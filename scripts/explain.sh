@@ -42,7 +42,7 @@ BEGIN {
     if (section == "") { print "cannot read " pages > "/dev/stderr"; exit 1 }
 }
 { print; split("", numbers) }
-/^status [0-9]$/ { look("Statuses:" $2, 3); next }
+/^status [0-9]$/ { look("Statuses:" $2, 2); next }
 /^USAGE: / { look("Statuses:1", 3); next }
 /^DECK [0-9]+ REASON [0-9]+$/ { look("DECK:" $4, 2, "Card " $2 " "); next }
 /^ASM [0-9]+ REASON [0-9]+$/ { look("ASM:" $4, 2, "Card " $2 " "); next }
