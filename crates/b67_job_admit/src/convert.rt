@@ -40,8 +40,8 @@ fn second_version(alloc: Global, file: &Codefile) -> Result<Bytes, AllocError>
     requires { IsWithin file.now }
     ensures { IfOk result (λ text. text ≡ hex_lines (spelling (record file.now { version = 2 }))) }
 {
-    let file = convert(alloc, file)?;
-    text_of(alloc, &file)
+    let second = convert(alloc, file)?;
+    text_of(alloc, &second)
 }
 
 fn converted_text(alloc: Global, cards: &[Card]) -> Result<Bytes, AdmitFault>
