@@ -69,9 +69,9 @@ returns-in-Ok-save-clause-device g c =
     let h : HasChain c.take.new.self (taken (sectors_for c.args.words) st) c.in-Some.first (sectors_for c.args.words) = c.in-Some.ensures.chain st sh in
     let e = c.save-in-Some.ensures in
     record {
-      size = e.size;
-      calls = e.calls.later;
-      faults = e.cause.later;
+      size = e.device.size;
+      calls = e.device.calls.later;
+      faults = e.device.cause.later;
       tells = record { told = λ x is. let (y, i, same) = (e.others (taken (sectors_for c.args.words) st) h).told x is in (y, i, same.count) };
     }
 
@@ -81,8 +81,8 @@ returns-in-Err-save-clause-device g c =
     let h : HasChain c.take.new.self (taken (sectors_for c.args.words) st) c.in-Some.first (sectors_for c.args.words) = c.in-Some.ensures.chain st sh in
     let e = c.save-in-Some.ensures in
     record {
-      size = e.size;
-      calls = e.calls.later;
-      faults = e.cause.later;
+      size = e.device.size;
+      calls = e.device.calls.later;
+      faults = e.device.cause.later;
       tells = record { told = λ x is. let (y, i, same) = (e.others (taken (sectors_for c.args.words) st) h).told x is in (y, i, same.count) };
     }
