@@ -4,7 +4,7 @@ ghost use Rattle.std.specs.Prelude.{◌≡◌, [], ◌∷◌, None, Ok, Some, co
 ghost use Rattle.b67_law_examples.specs.Cards.{refused};
 ghost use Rattle.b67_law_examples.specs.Texts.{small_job, sum_deck, text_of, times};
 ghost use Rattle.b67_model_text.specs.declared.deck.Body.TheVariants.{Bytes, Cards};
-ghost use Rattle.b67_model_text.specs.Deck.{deck_of};
+ghost use Rattle.b67_model_text.specs.Deck.{deck_of, hexadecimal_cards};
 
 /// A deck of no bytes has no jobs and the defaults.
 pub fn no_bytes_are_a_deck()
@@ -98,4 +98,14 @@ pub fn bodies_are_refused()
     ensures minus_zero { deck_of (codes "?JOB A\n?ASM\n?DATA\n-0") ≡ refused 4 12 }
     ensures too_far { deck_of (codes "?JOB A\n?ASM\n?DATA\n549755813888") ≡ refused 4 12 }
     ensures letters { deck_of (codes "?JOB A\n?ASM\n?DATA\n5 x") ≡ refused 4 12 }
+{}
+
+/// Reasons 1, 2 and 11 of hexadecimal cards without a deck, card by card.
+pub fn hexadecimal_cards_are_refused()
+    ensures odd { hexadecimal_cards (codes "42\n\n423\n4\t\n") ≡ refused 3 11 }
+    ensures tab { hexadecimal_cards (codes "4\t\n") ≡ refused 1 2 }
+    ensures command { hexadecimal_cards (codes "42\n?HEX\n") ≡ refused 2 11 }
+    ensures space_in_front { hexadecimal_cards (codes " 42") ≡ refused 1 11 }
+    ensures long { hexadecimal_cards (codes "000000000000000000000000000000000000000000000000000000000000000000000000000000000\n") ≡ refused 1 1 }
+    ensures none { hexadecimal_cards (codes "\n\n") ≡ Ok [] }
 {}
