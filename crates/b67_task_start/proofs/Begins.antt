@@ -162,13 +162,14 @@ module _ (x : Storage) (told : Option (List (List ℕ))) (k : Machine) (plan : P
     pub seen_pcw : IsPcwAt op.storage now (with_peak plan (peak_with s 1)) (record s { peak = peak_with s 1 }) m t order op.stands still at count f segment level place proc
     seen_pcw = pcw op.storage now (with_peak plan (peak_with s 1)) (record s { peak = peak_with s 1 }) m t order op.stands still at count f segment level place proc
 
-    pub may_child : (free job env_stack env_disp : ℕ) → free ≡ slot → m.constants.number ≡ job → spots (with_peak plan (peak_with s 1)) m.constants.number m.progress.job t f ≡ record { stack = env_stack; disp = env_disp }
-        → MayBuild op.storage now (with_peak plan (peak_with s 1)) (record s { peak = peak_with s 1 }) m t (with_child m.progress.job new) new free job env_stack env_disp level count
-    may_child free job env_stack env_disp e job_is spot_is =
-        subst (λ (n : ℕ). MayBuild op.storage now (with_peak plan (peak_with s 1)) (record s { peak = peak_with s 1 }) m t (with_child m.progress.job new) new n job env_stack env_disp level count) (sym e)
-        (opened_build x k.cpu plan s m t o h.session runs (length k.cpu.core) at count f segment level place slot may op.storage now op.stands job env_stack env_disp job_is spot_is)
+    pub may_child : (free job env_stack env_disp lev : ℕ) → free ≡ slot → m.constants.number ≡ job → spots (with_peak plan (peak_with s 1)) m.constants.number m.progress.job t f ≡ record { stack = env_stack; disp = env_disp } → lev ≡ level
+        → MayBuild op.storage now (with_peak plan (peak_with s 1)) (record s { peak = peak_with s 1 }) m t (with_child m.progress.job new) new free job env_stack env_disp lev count
+    may_child free job env_stack env_disp lev e job_is spot_is level_is =
+        let M : ℕ → ℕ → Type 0 = λ n l. MayBuild op.storage now (with_peak plan (peak_with s 1)) (record s { peak = peak_with s 1 }) m t (with_child m.progress.job new) new n job env_stack env_disp l count in
+        subst (M free) (sym level_is) (subst (λ (n : ℕ). M n level) (sym e)
+        (opened_build x k.cpu plan s m t o h.session runs (length k.cpu.core) at count f segment level place slot may op.storage now op.stands job env_stack env_disp job_is spot_is))
 
-    module _ (free job env_stack env_disp : ℕ) (b : MayBuild op.storage now (with_peak plan (peak_with s 1)) (record s { peak = peak_with s 1 }) m t (with_child m.progress.job new) new free job env_stack env_disp level count) (is : free ≡ slot) where
+    module _ (free job env_stack env_disp lev : ℕ) (b : MayBuild op.storage now (with_peak plan (peak_with s 1)) (record s { peak = peak_with s 1 }) m t (with_child m.progress.job new) new free job env_stack env_disp lev count) (is : free ≡ slot) where
       two_frames : Two t.frames
       two_frames = frames x k.cpu plan s m t o h.session runs at count f segment level place may.proc may.marked
 
