@@ -145,11 +145,11 @@ module _ (x : Storage) (core : List Tagged) (r : Regs) (marks : List ℕ) (plan 
         y new (all_put_out r (slots_of dying)) marks' (cleared new same zero) (halts r (slots_of dying) running_among) (subst (λ (q : MachineView). Represents y new (all_put_out r (slots_of dying)) q) result.is st) critical
 
 -- who goes in turn lives
-turn_live : (live gone todo : List Task) (t : Task) → InTurn live gone todo → Has todo t → Has live t
+turn_live : (live before todo : List Task) (t : Task) → InTurn live before todo → Has todo t → Has live t
 unfolding InTurn
-turn_live live gone [] t h i = absurd i
-turn_live live gone (u ∷ todo) t h (inl e) = subst (Has live) e h.0
-turn_live live gone (u ∷ todo) t h (inr i) = turn_live live (u ∷ gone) todo t h.3 i
+turn_live live before [] t h i = absurd i
+turn_live live before (u ∷ todo) t h (inl e) = subst (Has live) e h.0
+turn_live live before (u ∷ todo) t h (inr i) = turn_live live (u ∷ before) todo t h.3 i
 
 module _ (x : Storage) (core : List Tagged) (r : Regs) (marks : List ℕ) (plan : Placement) (s : Session) (m : SessionJob) (numbers : List ℕ) (b : MayBury x core r marks plan s m numbers) where
   abbrev all_dying : List Death
@@ -160,7 +160,7 @@ module _ (x : Storage) (core : List Tagged) (r : Regs) (marks : List ℕ) (plan 
     all_dying,
     may_die x core r marks plan s b.ordered b.holds m b.member b.room b.todo b.turn,
     slots_deaths plan m.constants.number b.todo (machine_view plan s.jobs).objects
-    ∙ sym (map-map (slot_of plan m.constants.number) (λ (t : Task). t.number) b.todo) ∙ ap (map (slot_of plan m.constants.number)) b.named,
+        ∙ sym (map-map (slot_of plan m.constants.number) (λ (t : Task). t.number) b.todo) ∙ ap (map (slot_of plan m.constants.number)) b.named,
   )
 
   -- they are the tasks with these numbers

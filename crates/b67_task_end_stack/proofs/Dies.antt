@@ -112,7 +112,7 @@ module _ (x : Storage) (cpu : Cpu) (p : MachineView) (k : ℕ) (gone rest : List
     pub are_left : (top : ℕ) → top ≡ slot_base p k + stack_words (stack_of (p.slots k)) → AreLeft (died p k rest) new.core (at + 1) (top + 1) gone
     are_left top up = record {
       low = omega (arith, start, s.slots.laid.first);
-      stack_words = omega (arith, up, may.room, inside);
+      high = omega (arith, up, may.room, inside);
       each = λ i w from upto get original. may.each i w (omega (arith, from, start)) (omega (arith, upto, up))
           (sym (outside i (λ e. omega (arith, e, from, start)) (λ e. omega (arith, e, from, start, low, may.used, may.few))) ∙ get) original;
       among = λ t i. let a = may.among t i in (omega (arith, a.0, start), omega (arith, a.1, up));

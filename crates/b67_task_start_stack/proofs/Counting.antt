@@ -42,4 +42,3 @@ slots_length plan (m ∷ more) = omega (
   slots_length plan more,
   sum_by-cons (λ (y : SessionJob). length y.progress.job.tasks) m more,
 )
-
