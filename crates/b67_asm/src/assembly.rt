@@ -101,11 +101,7 @@ fn check_front(names: &Names, lines: &[Line]) -> Result<(), AsmFault>
     }
 }
 
-fn with_names(
-    alloc: Global,
-    names: &Names,
-    lines: &[Line],
-) -> Result<Codefile, AsmFault>
+fn with_names(alloc: Global, names: &Names, lines: &[Line]) -> Result<Codefile, AsmFault>
     requires { length lines.now < 2 ^ 31 }
     ensures { IsAssembled result (asm.version_in lines.now) (with_names (names_in names.now) lines.now) }
 {

@@ -219,12 +219,7 @@ fn put_segment(
 }
 
 #[tactic(auto, using(crate::proofs::Parts::all_one))]
-fn put_row(
-    alloc: Global,
-    names: &Names,
-    block: &Block,
-    file: &mut Codefile,
-) -> Result<(), AsmFault>
+fn put_row(alloc: Global, names: &Names, block: &Block, file: &mut Codefile) -> Result<(), AsmFault>
     requires grows { Grows file.old }
     requires segments { block.now.segments ≡ length file.old.segments }
     requires rows { block.now.rows ≡ length file.old.rows }

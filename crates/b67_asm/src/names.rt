@@ -296,10 +296,7 @@ pub fn labels_of<'a>(
 }
 
 // Adds the label that a card names, if it is an ENTRY.
-fn enter_line<'a>(
-    entries: &mut IndexMap<&'a [u8], u64>,
-    line: &'a Line,
-) -> Result<(), AllocError>
+fn enter_line<'a>(entries: &mut IndexMap<&'a [u8], u64>, line: &'a Line) -> Result<(), AllocError>
     ensures { OnOk result ((q : List ℕ) → is_some (meaning (label_entries entries.new.entries) q) ≡ (is_some (meaning (label_entries entries.old.entries) q) || names_entry q line.now.says)) }
 {
     match &line.says {
@@ -324,10 +321,7 @@ fn enter_statement<'a>(
 }
 
 // The labels that ENTRY cards name.
-fn entries_of<'a>(
-    alloc: Global,
-    lines: &'a [Line],
-) -> Result<IndexMap<&'a [u8], u64>, AllocError>
+fn entries_of<'a>(alloc: Global, lines: &'a [Line]) -> Result<IndexMap<&'a [u8], u64>, AllocError>
     ensures { IfOk result (λ m. (q : List ℕ) → is_some (meaning (label_entries m.entries) q) ≡ list_any (λ l. names_entry q l.says) lines.now) }
 {
     let mut entries = IndexMap::new(alloc);

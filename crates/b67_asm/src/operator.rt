@@ -121,12 +121,18 @@ pub fn has_names(names: &Names, sketch: &Sketch) -> bool
     ensures { result ≡ asm.has_names (names_in names.now) sketch.now }
 {
     match sketch {
-        Sketch::Pcw { segment } => pcw_in(meaning_of(&names.meanings, segment.as_str().as_bytes())).is_some(),
+        Sketch::Pcw { segment } => pcw_in(meaning_of(
+            &names.meanings,
+            segment.as_str().as_bytes(),
+        )).is_some(),
         Sketch::PcwAt { segment, label } => {
             let named = meaning_of(&names.meanings, segment.as_str().as_bytes());
             pcw_in(named).is_some() && label_in(names, named, label.as_str().as_bytes()).is_some()
         }
-        Sketch::Row { row, .. } => row_in(meaning_of(&names.meanings, row.as_str().as_bytes())).is_some(),
+        Sketch::Row { row, .. } => row_in(meaning_of(
+            &names.meanings,
+            row.as_str().as_bytes(),
+        )).is_some(),
         _ => true,
     }
 }

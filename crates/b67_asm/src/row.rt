@@ -45,11 +45,7 @@ fn put_values(first: Option<u64>, more: &[Option<u64>], into: &mut Words) -> Res
     put_more(more, into)
 }
 
-fn put_statement(
-    names: &Names,
-    statement: &Statement,
-    into: &mut Words,
-) -> Result<(), Refused>
+fn put_statement(names: &Names, statement: &Statement, into: &mut Words) -> Result<(), Refused>
     requires { length into.old ≤ 65535 }
     ensures { WordsPut result (asm.values_of (names_in names.now) (length into.old) statement.now) into.old into.new }
 {
@@ -84,11 +80,7 @@ fn put_line(names: &Names, line: &Line, into: &mut Words) -> Result<(), Refused>
 }
 
 /// The words of a data row's cards, or the first refused card.
-pub fn words_in(
-    alloc: Global,
-    names: &Names,
-    lines: &[Line],
-) -> Result<Words, AsmFault>
+pub fn words_in(alloc: Global, names: &Names, lines: &[Line]) -> Result<Words, AsmFault>
     ensures { RowPut result (asm.row_words (names_in names.now) 0 lines.now) (length lines.now) }
 {
     let mut words = Words::new(alloc);
