@@ -1,3 +1,4 @@
 pub mod Freeing
 pub mod Emptied
 pub mod Shorter
+pub mod Longer
