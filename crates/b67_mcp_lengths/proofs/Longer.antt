@@ -1,34 +1,39 @@
 -- An array that gets zeros after its numbers, in a chain that goes on.
-use Rattle.std.proofs.Common.{◌≡◌, ◌≢◌, ℕ, zero, suc, ◌+◌, ◌-◌, ◌<◌, ◌≤◌, ◌^◌, ◌⊎◌, List, [], ◌∷◌, ◌++◌, length, map, take, replicate, Option, Some, None, refl, sym, ◌∙◌, ap, arith, inl, inr, ⊎_elim, subst, slice_set, length-append}
+use Rattle.std.proofs.Common.{◌≡◌, ◌≢◌, ℕ, zero, suc, ◌+◌, ◌-◌, ◌<◌, ◌≤◌, ◌^◌, ◌==◌, List, [], ◌∷◌, ◌++◌, length, map, take, replicate, Option, Some, None, refl, sym, ◌∙◌, ap, arith, inl, inr, ⊎_elim, subst, slice_set, length-append}
 use Rattle.std.specs.List.{slice_get}
 use Rattle.std.proofs.lemmas.List.{length-set, length-map, length-replicate}
-use Rattle.std.proofs.lemmas.Option.{none-some, same_Some}
-use Rattle.std.proofs.lemmas.Bool.{cases_eq}
+use Rattle.std.proofs.lemmas.Option.{none-some}
+use Rattle.std.proofs.lemmas.Bool.{cases_eq, cases_lt, cond-true, cond-false, eq-eqb, ne_eqb}
 use Rattle.b67_word.specs.Tagged.{Tagged, word}
 use Rattle.b67_core.specs.Numbers.{number}
 use Rattle.b67_core.proofs.Writes.{slice_get-set_same, slice_get-set_other}
-use Rattle.b67_area.specs.declared.Info.{Info}
 use Rattle.b67_area.specs.declared.Kind.{Kind}
-use Rattle.b67_area.specs.declared.Kind.TheVariants.{Array, Code}
+use Rattle.b67_area.specs.declared.Kind.TheVariants.{Array}
 use Rattle.b67_area.proofs.Climbs.{area_at-low}
 use Rattle.b67_area.proofs.Separation.{IsDirectory-set_below}
-use Rattle.b67_backing.specs.Shelf.{Table, Shelf, IsShelf, chain_of}
-use Rattle.b67_backing.specs.Held.{SameBut, Fills, Changes, sectors_for}
-use Rattle.b67_backing.specs.Extending.{extended, sectors_more, Prolongs, IsExtended}
+use Rattle.b67_backing.specs.Shelf.{Table, Shelf, IsShelf, chain_of, first}
+use Rattle.b67_backing.specs.Held.{SameBut, sectors_for}
+use Rattle.b67_backing.specs.Extending.{extended, sectors_more, Prolongs, ExtendMeets, KeepsDevice}
 use Rattle.b67_lemmas.specs.Lists.{Has}
 use Rattle.b67_ctl.specs.declared.registers.Regs.{Regs}
 use Rattle.b67_stack.specs.Shapes.{Location}
 use Rattle.b67_stack.specs.MachineView.{PagedObject, MachineView, slot_base, home_word_of, words_of, tag_of}
-use Rattle.b67_stack.specs.Represents.{Storage, Represents, HasChain, HoldsIn, AbsentContent, Content, Told, info_of}
-use Rattle.b67_layout_storage.specs.Machine.{TakesPlace, Stayed, Says, ChainStays, content_after, with_held}
+use Rattle.b67_stack.specs.Represents.{Storage, Represents, HoldsIn, Content, Told, info_of}
+use Rattle.b67_layout_storage.specs.Machine.{MachineRepresentsView, IsPresent, DeviceAfterCalls, TakesPlace, Says, content_after, with_held}
 use Rattle.b67_layout_storage.proofs.Unchanged.{area_of_object, home_below}
 use Rattle.b67_layout_storage.proofs.Words.{StacksLie-home, original_word}
-use Rattle.b67_layout_storage.proofs.Helds.{held-back}
+use Rattle.b67_layout_storage.proofs.Helds.{held-other, held-same}
 use Rattle.b67_layout_storage.proofs.Reheld.{storage_with, Content-stays}
 use Rattle.b67_layout_storage.proofs.Changed.{Changed, Represents-changed}
-use Rattle.b67_overlay.specs.Overlaid.{retelling}
-use Rattle.b67_overlay.proofs.Chains.{free_apart, Told-same}
-use Rattle.b67_mcp_lengths.specs.Lengths.{grown_to}
+use Rattle.std.specs.Prelude.{Result, Ok, Err}
+use Rattle.b67_area.specs.declared.Areas.{Areas}
+use Rattle.b67_backing.specs.declared.SpaceFault.{SpaceFault}
+use Rattle.b67_backing.specs.declared.SpaceFault.TheVariants as spaces
+use Rattle.b67_stack.specs.declared.Cpu.{Cpu}
+use Rattle.b67_overlay.specs.AreasEvicted.{Overlays}
+use Rattle.b67_overlay.specs.Overlaid.{retelling, overlaid, chain_out, IsShort}
+use Rattle.b67_overlay.proofs.Chains.{free_apart, free_first, Told-same, Says-retold}
+use Rattle.b67_mcp_lengths.specs.Lengths.{grown_to, OthersStay, LengthenMeets}
 
 -- what a device tells after a call
 abbrev pub Tells : Option (List (List ℕ)) → Option (List (List ℕ)) → (List (List ℕ) → List (List ℕ) → Type 0) → Type 0
@@ -159,3 +164,81 @@ module _ (x : Storage) (core : List Tagged) (r : Regs) (p : MachineView) (s : Re
       pub made_longer : Represents (storage_with x t.home (record { area = None; chain = (x.held t.home).chain }) x.spans (extended (x.held t.home).chain (sectors_more (length t.numbers) words) x.shelf) (content_after x.device new))
           (slice_set core t.home (home_word_of t.kind words (record { area = None; chain = (x.held t.home).chain }))) r (record p { objects = objects })
       made_longer = Represents-changed x core core' r p objects t (grown_to words t) h x.spans shelf device int s re changed
+
+-- an array that was written out is absent, in a chain
+pub record IsOut (y : Storage) (t : PagedObject) : Type 0 where
+  pub absent : (y.held t.home).area ≡ None
+  pub some : 0 < (y.held t.home).chain
+
+pub is_out : (x : Storage) (core : List Tagged) (r : Regs) (p : MachineView) → Represents x core r p → (t : PagedObject) → Has p.objects t → t.kind ≡ Array → (table : Table) → IsShelf table x.shelf → (at : ℕ) (told : Option (List (List ℕ))) → (IsShort x t → ⊥) → IsOut (overlaid x t at told) t
+is_out x core r p s t int array table sh at told full =
+    let kept = (x.held t.home).chain in
+    let h : Location = record { area = None; chain = chain_out x.shelf kept } in
+    let same : with_held x.held t.home h t.home ≡ h = held-same x.held t.home h in
+    let long = (s.slots.laid.lengths t int).0 in
+    record {
+      absent = ap (λ (g : Location). g.area) same;
+      some = subst (λ (g : Location). 0 < g.chain) (sym same) (⊎_elim
+          (λ (e : kept ≡ 0).
+          let room : sectors_for (length t.numbers) ≤ length x.shelf.free = ⊎_elim
+          (λ l. absurd (full (record { kind = array; none = e; few = l })))
+          (λ l. l)
+          (cases_lt (length x.shelf.free) (sectors_for (length t.numbers))) in
+          let ff = free_first table x.shelf sh (sectors_for (length t.numbers)) (omega (arith, long)) room in
+          let out : chain_out x.shelf kept ≡ first x.shelf.free = cond-true (kept == 0) _ _ (eq-eqb kept 0 e) in
+          omega (arith, ff.0, out))
+          (λ (n : kept ≡ 0 → ⊥). let out : chain_out x.shelf kept ≡ kept = cond-false (kept == 0) _ _ (ne_eqb kept 0 n) in omega (arith, out, n))
+          (cases_eq kept 0));
+    }
+
+-- all but it is held as it was
+pub others_out : (x : Storage) (t : PagedObject) (at : ℕ) (told : Option (List (List ℕ))) → OthersStay x (overlaid x t at told) t.home told
+others_out x t at told = record { low = refl; others = λ q n. held-other x.held t.home (record { area = None; chain = chain_out x.shelf (x.held t.home).chain }) q n; device = refl }
+
+-- a device that is retold twice
+pub retold_twice : (d told told1 told2 : Option (List (List ℕ))) → Says d told → ((all : List (List ℕ)) → told ≡ Some all → (y : List (List ℕ)) × (told1 ≡ Some y)) → content_after (content_after d told1) told2 ≡ content_after d told2
+retold_twice None told told1 told2 says f = refl
+retold_twice (Some all) told told1 told2 says f = let k = f all says in ap (λ (z : Option (List (List ℕ))). content_after z told2) k.1
+
+-- refusals
+module _ {D : Type 0} (tell : D → Option (List (List ℕ))) (x : Storage) (p : MachineView) (t : PagedObject) (at words : ℕ) (areas : Areas) where
+  pub refused_overlay : (fault : SpaceFault) (old cpu : Cpu) (table table' : Table) (b0 b1 : D) → IsPresent x p at t → ((need size : ℕ) → ◌≡◌ {A = Result (Unit {0}) SpaceFault} (Err fault) (Err (spaces.NoCore need size)) → ⊥) → Overlays tell x p at t (Err fault) old cpu areas table table' b0 b1
+      → LengthenMeets x p t words (Err fault) cpu areas table' (tell b1)
+  refused_overlay (spaces.BackingFull wants free) old cpu table table' b0 b1 h none o =
+      let k = (o.full wants free).0 refl in
+      (retelling x (tell b1), record { low = refl; others = λ q n. refl; device = refl }, o.refused, (k.2, omega (arith, k.0.few, k.1, k.2), inl (k.0.none, λ e. none-some at (sym e ∙ h.present), k.1)))
+  refused_overlay spaces.BackingFault old cpu table table' b0 b1 h none o = (retelling x (tell b1), record { low = refl; others = λ q n. refl; device = refl }, o.refused)
+  refused_overlay (spaces.NoCore need size) old cpu table table' b0 b1 h none o = none need size refl
+
+  -- the chain is as before
+  pub refused_extend : (fault : SpaceFault) (told : Option (List (List ℕ))) (cpu : Cpu) (t1 t2 : Table) (b1 b2 : D) → Says x.device told → ((all : List (List ℕ)) → told ≡ Some all → (y : List (List ℕ)) × (tell b1 ≡ Some y))
+      → MachineRepresentsView (overlaid x t at (tell b1)) cpu areas t1 (tell b1) p → IsOut (overlaid x t at (tell b1)) t → length t.numbers < words
+      → ExtendMeets tell b1 b2 t1 t2 (overlaid x t at (tell b1)).shelf ((overlaid x t at (tell b1)).held t.home).chain (length t.numbers) words (Err fault)
+      → LengthenMeets x p t words (Err fault) cpu areas t2 (tell b2)
+  refused_extend (spaces.BackingFull wants free) told cpu t1 t2 b1 b2 says f m out longer (w, e, less, same, still) =
+      let y = overlaid x t at (tell b1) in
+      let M : Table → D → Type 0 = λ z b. MachineRepresentsView y cpu areas z (tell b) p in
+      let O : D → Type 0 = λ b. OthersStay x y t.home (tell b) in
+      (y, subst O (sym still) (others_out x t at (tell b1)), subst (λ (z : Table). M z b2) (sym same) (subst (M t1) (sym still) m), (e, less, inr (λ z. omega (arith, out.some, z), omega (arith, w, longer))))
+  refused_extend spaces.BackingFault told cpu t1 t2 b1 b2 says f m out longer (room, shelf, same) =
+      let y = overlaid x t at (tell b1) in (
+        retelling y (tell b2),
+        record { low = refl; others = (others_out x t at (tell b1)).others; device = retold_twice x.device told (tell b1) (tell b2) says f },
+        record {
+          stands = retold_free y cpu.core cpu.regs p m.stands t1 m.shelf (tell b1) (tell b2) m.device (sectors_more (length t.numbers) words) same.told;
+          low = m.low;
+          shelf = shelf;
+          device = Says-retold y.device (tell b1) (tell b2) m.device (λ all is. let k = same.told all is in (k.0, k.1));
+        },
+      )
+  refused_extend (spaces.NoCore need size) told cpu t1 t2 b1 b2 says f m out longer e = e
+
+-- a device after a chain was made longer, or wasn't
+pub device_extended : {D : Type 0} (tell : D → Option (List (List ℕ))) (many counted failed : D → ℕ) (b1 b2 : D) (t1 t2 : Table) (s : Shelf) (first have want : ℕ) (result : Result (Unit {0}) SpaceFault) → KeepsDevice many counted failed b1 b2 result
+    → ExtendMeets tell b1 b2 t1 t2 s first have want result → DeviceAfterCalls tell many counted failed b1 b2
+device_extended tell many counted failed b1 b2 t1 t2 s first have want result d e = record { size = d.size; calls = d.calls; faults = d.faults; tells = record { told = by result e } } where
+  by : (result : Result (Unit {0}) SpaceFault) → ExtendMeets tell b1 b2 t1 t2 s first have want result → (all : List (List ℕ)) → tell b1 ≡ Some all → (y : List (List ℕ)) × (tell b2 ≡ Some y) × (length y ≡ length all)
+  by (Ok done) e all is = let k = e.same.told all is in (k.0, k.1, k.2.count)
+  by (Err (spaces.BackingFull wants free)) (w, f, less, same, still) all is = (all, ap tell still ∙ is, refl)
+  by (Err spaces.BackingFault) (room, shelf, same) all is = let k = same.told all is in (k.0, k.1, k.2.count)
+  by (Err (spaces.NoCore need size)) e all is = absurd e

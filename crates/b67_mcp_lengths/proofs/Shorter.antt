@@ -1,19 +1,19 @@
 -- An array that is left only its first words.
-use Rattle.std.proofs.Common.{◌≡◌, ◌≢◌, ℕ, zero, suc, ◌+◌, ◌<◌, ◌≤◌, ◌^◌, ◌⊎◌, ◌==◌, List, [], ◌∷◌, length, map, take, Option, Some, None, refl, sym, ◌∙◌, ap, arith, inl, inr, ⊎_elim, subst, slice_set}
+use Rattle.std.proofs.Common.{◌≡◌, ◌≢◌, ℕ, zero, suc, ◌+◌, ◌<◌, ◌≤◌, ◌⊎◌, ◌==◌, List, [], ◌∷◌, length, map, take, Option, Some, None, refl, sym, ◌∙◌, ap, arith, inl, inr, ⊎_elim, subst, slice_set}
 use Rattle.std.specs.List.{slice_get}
 use Rattle.std.specs.Prelude.{MatchBool, Bool, true, false}
 use Rattle.std.proofs.lemmas.List.{length-set, length-take-le, length-map}
 use Rattle.std.proofs.lemmas.Bool.{cases_eq, cond-true, cond-false, eq-eqb, ne_eqb}
-use Rattle.std.proofs.lemmas.Option.{none-some, same_Some}
+use Rattle.std.proofs.lemmas.Option.{same_Some}
 use Rattle.b67_word.specs.Tagged.{Tagged, word}
 use Rattle.b67_core.proofs.Writes.{slice_get-set_same, slice_get-set_other}
 use Rattle.b67_area.specs.declared.Info.{Info}
 use Rattle.b67_area.specs.declared.Kind.{Kind}
-use Rattle.b67_area.specs.declared.Kind.TheVariants.{Array, Code}
+use Rattle.b67_area.specs.declared.Kind.TheVariants.{Array}
 use Rattle.b67_area.specs.Spans.{Span, area_at, keeping, shortened, with_words, with_kept, InHole}
 use Rattle.b67_area.specs.Directory.{IsDirectory}
 use Rattle.b67_area.proofs.Climbs.{area_at-low}
-use Rattle.b67_area.proofs.Laws.{hole-low, hole-area, areas_apart, area_inside}
+use Rattle.b67_area.proofs.Laws.{hole-low, hole-area, areas_apart}
 use Rattle.b67_area.proofs.Separation.{IsDirectory-set_below}
 use Rattle.b67_backing.specs.Shelf.{Table, IsShelf}
 use Rattle.b67_lemmas.specs.Lists.{Has}

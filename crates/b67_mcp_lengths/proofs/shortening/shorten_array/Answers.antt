@@ -1,19 +1,17 @@
-use Rattle.std.proofs.Common.{◌≡◌, ◌≢◌, ℕ, ◌+◌, ◌<◌, ◌≤◌, ◌^◌, ◌==◌, List, Option, Some, length, sym, ◌∙◌, ap, arith, subst, slice_set, true, false, refl}
+use Rattle.std.proofs.Common.{◌≡◌, ℕ, ◌<◌, ◌==◌, List, Option, Some, length, sym, ◌∙◌, ap, arith, subst, slice_set, true, false, refl}
 use Rattle.std.proofs.lemmas.Bool.{cond-true, eq-eqb}
 use Rattle.b67_word.specs.Tagged.{Tagged}
 use Rattle.b67_area.specs.declared.Areas.{Areas}
 use Rattle.b67_area.specs.declared.Info.{Info}
 use Rattle.b67_area.specs.Spans.{Span, area_at, shortened, keeping, with_words}
 use Rattle.b67_area.specs.Directory.{IsDirectory}
-use Rattle.b67_backing.specs.Shelf.{Shelf, IsShelf}
+use Rattle.b67_backing.specs.Shelf.{IsShelf}
 use Rattle.b67_ctl.specs.declared.descriptors.DataDesc.{DataDesc}
-use Rattle.b67_ctl.specs.Descriptors.{data_word}
-use Rattle.b67_stack.specs.Shapes.{Location}
-use Rattle.b67_stack.specs.MachineView.{PagedObject, MachineView, home_desc, home_word_of, is_present, address_or}
+use Rattle.b67_stack.specs.MachineView.{PagedObject, MachineView, home_desc, home_word_of, address_or}
 use Rattle.b67_stack.specs.Represents.{Storage, Represents, info_of}
-use Rattle.b67_layout_storage.specs.Machine.{MachineRepresentsView, IsPresent, Stayed, TakesPlace}
+use Rattle.b67_layout_storage.specs.Machine.{MachineRepresentsView, IsPresent, Stayed}
 use Rattle.b67_layout_storage.proofs.Unchanged.{area_of_object, area_bounds}
-use Rattle.b67_mcp_lengths.specs.Lengths.{IsArray, IsChain, cut_to, shorter, freed_chain}
+use Rattle.b67_mcp_lengths.specs.Lengths.{IsArray, IsChain, shorter, freed_chain}
 use Rattle.b67_mcp_lengths.proofs.Freeing.{is_chain, original_is, original_read, set_original}
 use Rattle.b67_mcp_lengths.proofs.Shorter.{Shrunk, made_shorter, below_short}
 use Rattle.b67_mcp_lengths.proofs.shortening.shorten_array.Goals.{After-original_at-at, After-keep, After-set}
