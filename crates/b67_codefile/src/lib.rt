@@ -1,12 +1,14 @@
 //! Codefiles: programs of segments and data rows, and their bytes.
 #![tactic(auto)]
 
+mod converting;
 mod fault;
 mod file;
 mod reading;
 mod writing;
 
+pub use converting::convert;
 pub use fault::BadFile;
-pub use file::{Codefile, Rows, Segment, Segments};
+pub use file::{Codefile, Entries, Rows, Segment, Segments, place_of_entry};
 pub use reading::read;
 pub use writing::write;

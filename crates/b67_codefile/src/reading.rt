@@ -3,11 +3,11 @@
 ghost use Rattle.std.specs.Prelude.{◌≡◌, ◌<◌, length, IfOk, Ok};
 ghost use Rattle.std.specs.Int.{w8, w16, w64};
 ghost use Rattle.b67_codefile.specs.declared.file.Codefile.{Codefile};
-ghost use Rattle.b67_codefile.specs.Spelling.{IsWithin, spelling};
-ghost use Rattle.b67_codefile.specs.Reading.{Gives, Answers, number_at, word_at, words_at, many_at, segment_at, row_at, header_at, counts_at, reading, file_of};
+ghost use Rattle.b67_codefile.specs.Spelling.{IsWithin, spelling, entry_count};
+ghost use Rattle.b67_codefile.specs.Reading.{Gives, Answers, number_at, word_at, words_at, many_at, entry_at, many_entries_at, entries_at, segment_at, row_at, header_at, counts_at, reading, file_of};
 
 use crate::fault::{BadFile, FormatError, ReadError};
-use crate::file::{Codefile, Rows, Segment, Segments};
+use crate::file::{Codefile, Entries, Rows, Segment, Segments};
 use b67_word::{Word, Words};
 use std::alloc::Global;
 
@@ -94,25 +94,93 @@ fn words_of(alloc: Global, tag: u8, limit: u16, bytes: &[u8]) -> Result<(Words, 
     many_words_of(alloc, tag, count, rest)
 }
 
+/// The number of syllables before an entry.
+fn entry_count(entry: u16) -> u16
+    ensures { result ≡ entry_count entry }
+{
+    6 * (entry % 0x2000) + entry / 0x2000
+}
+
+fn entry_of(before: u16, bytes: &[u8]) -> Result<(u16, &[u8]), ReadError>
+    ensures { Gives (λ x. (x.0, x.1.now)) result (entry_at before bytes.now) }
+{
+    let (entry, rest) = u16_at(bytes)?;
+    if entry / 0x2000 >= 6 || entry_count(entry) <= before {
+        return Err(ReadError::Format(FormatError::BadEntry {
+            remaining: bytes.len(),
+        }));
+    }
+    Ok((entry, rest))
+}
+
+fn many_entries_of(
+    alloc: Global,
+    count: u8,
+    bytes: &[u8],
+) -> Result<(Entries, &[u8]), ReadError>
+    ensures { Gives (λ x. (x.0, x.1.now)) result (many_entries_at 0 count bytes.now) }
+{
+    let mut entries = Entries::new(alloc);
+    let mut before = 0;
+    let mut rest = bytes;
+    'entries: for _ in 0..count {
+        let (entry, after) = match entry_of(before, rest) {
+            Ok(found) => found,
+            Err(e) => return Err(e),
+        };
+        entries.push(entry)?;
+        before = entry_count(entry);
+        rest = after;
+    }
+    Ok((entries, rest))
+}
+
+#[tactic(auto, unfolding(crate::specs::Reading::entries_at))]
+fn entries_of(alloc: Global, version: u8, bytes: &[u8]) -> Result<(Entries, &[u8]), ReadError>
+    ensures { Gives (λ x. (x.0, x.1.now)) result (entries_at version bytes.now) }
+{
+    if version == 1 {
+        return Ok((Entries::new(alloc), bytes));
+    }
+    let (count, rest) = u8_at(bytes)?;
+    many_entries_of(alloc, count, rest)
+}
+
 #[tactic(auto, unfolding(crate::specs::Reading::segment_at))]
-fn segment_of(alloc: Global, bytes: &[u8]) -> Result<(Segment, &[u8]), ReadError>
-    ensures { Gives (λ x. (x.0, x.1.now)) result (segment_at bytes.now) }
+fn segment_of(alloc: Global, version: u8, bytes: &[u8]) -> Result<(Segment, &[u8]), ReadError>
+    ensures { Gives (λ x. (x.0, x.1.now)) result (segment_at version bytes.now) }
 {
     let (level, rest) = u8_at(bytes)?;
+    let (entries, rest) = match entries_of(alloc, version, rest) {
+        Ok(found) => found,
+        Err(e) => return Err(e),
+    };
     let (code, rest) = match words_of(alloc, 3, 8191, rest) {
         Ok(found) => found,
         Err(e) => return Err(e),
     };
-    Ok((Segment { level, code }, rest))
+    Ok((
+        Segment {
+            level,
+            entries,
+            code,
+        },
+        rest,
+    ))
 }
 
-fn segments_of(alloc: Global, count: u16, bytes: &[u8]) -> Result<(Segments, &[u8]), ReadError>
-    ensures { Gives (λ x. (x.0, x.1.now)) result (many_at segment_at count bytes.now) }
+fn segments_of(
+    alloc: Global,
+    version: u8,
+    count: u16,
+    bytes: &[u8],
+) -> Result<(Segments, &[u8]), ReadError>
+    ensures { Gives (λ x. (x.0, x.1.now)) result (many_at (segment_at version) count bytes.now) }
 {
     let mut segments = Segments::new(alloc);
     let mut rest = bytes;
     'segments: for _ in 0..count {
-        let (segment, after) = match segment_of(alloc, rest) {
+        let (segment, after) = match segment_of(alloc, version, rest) {
             Ok(found) => found,
             Err(e) => return Err(e),
         };
@@ -138,14 +206,18 @@ fn rows_of(alloc: Global, count: u16, bytes: &[u8]) -> Result<(Rows, &[u8]), Rea
     Ok((rows, rest))
 }
 
-fn header_of(bytes: &[u8]) -> Result<(u64, &[u8]), ReadError>
+/// The version that the first eight bytes tell.
+fn header_of(bytes: &[u8]) -> Result<(u8, &[u8]), ReadError>
     ensures { Gives (λ x. (x.0, x.1.now)) result (header_at bytes.now) }
 {
     let (number, rest) = u64_at(bytes)?;
-    if number != 0x4236_3743_4f44_4531 {
-        return Err(ReadError::Format(FormatError::BadHeader));
+    if number == 0x4236_3743_4f44_4531 {
+        return Ok((1, rest));
     }
-    Ok((number, rest))
+    if number == 0x4236_3743_4f44_4532 {
+        return Ok((2, rest));
+    }
+    Err(ReadError::Format(FormatError::BadHeader))
 }
 
 fn counts_of(bytes: &[u8]) -> Result<((u16, u16), &[u8]), ReadError>
@@ -165,9 +237,9 @@ fn counts_of(bytes: &[u8]) -> Result<((u16, u16), &[u8]), ReadError>
 fn whole(alloc: Global, bytes: &[u8]) -> Result<Codefile, ReadError>
     ensures { Gives (λ x. x) result (reading bytes.now) }
 {
-    let (_, rest) = header_of(bytes)?;
+    let (version, rest) = header_of(bytes)?;
     let ((segments, rows), rest) = counts_of(rest)?;
-    let (segments, rest) = match segments_of(alloc, segments, rest) {
+    let (segments, rest) = match segments_of(alloc, version, segments, rest) {
         Ok(found) => found,
         Err(e) => return Err(e),
     };
@@ -180,7 +252,11 @@ fn whole(alloc: Global, bytes: &[u8]) -> Result<Codefile, ReadError>
             remaining: rest.len(),
         }));
     }
-    Ok(Codefile { segments, rows })
+    Ok(Codefile {
+        version,
+        segments,
+        rows,
+    })
 }
 
 fn answer_of(alloc: Global, bytes: &[u8]) -> Result<Codefile, BadFile>
@@ -200,12 +276,15 @@ fn answer_of(alloc: Global, bytes: &[u8]) -> Result<Codefile, BadFile>
         Err(ReadError::Format(FormatError::Trailing { remaining })) => Err(BadFile::Trailing {
             at: bytes.len().saturating_sub(remaining),
         }),
+        Err(ReadError::Format(FormatError::BadEntry { remaining })) => Err(BadFile::BadEntry {
+            at: bytes.len().saturating_sub(remaining),
+        }),
     }
 }
 
-/// The codefile whose bytes these are, all of them. The format is a header, the numbers of segments and data rows, each
-/// segment's level, length and words, and each row's length and words, all numbers in big-endian order. No file has two
-/// spellings.
+/// The codefile whose bytes these are, all of them. The format is a header with the version, the numbers of segments and
+/// data rows, each segment's level, in version 2 its number of entries and these, its length and words, and each row's
+/// length and words, all numbers in big-endian order. No file has two spellings.
 pub fn read(alloc: Global, bytes: &[u8]) -> Result<Codefile, BadFile>
     // A file that is read is within the limits, and these are its bytes.
     ensures found { IfOk result (λ f. IsWithin f × (bytes.now ≡ spelling f)) }

@@ -1,22 +1,29 @@
--- The first refusal, by entries and by segments.
-use Rattle.std.proofs.Common.{◌≡◌, ℕ, ◌+◌, ◌<◌, ◌≤◌, Bool, true, false, cond, eqb, List, [], ◌∷◌, ◌++◌, length, map, filter, get_or, drop, Some, None, Err, refl, sym, ap, subst, ◌∙◌}
+-- The first refusal of a listing, of a segment's entries and of a program.
+use Rattle.std.proofs.Common.{◌≡◌, ℕ, ◌+◌, ◌/◌, ◌^◌, ◌<◌, ◌≤◌, Bool, true, false, not, cond, eqb, List, [], ◌∷◌, ◌++◌, length, map, filter, get_or, drop, Some, None, Err, refl, sym, ap, subst, ◌∙◌, arith, inl}
 use Rattle.std.specs.Prelude.{option_map, slice_get, find}
 use Rattle.std.specs.List.{AllByRecursion}
 use Rattle.std.proofs.lemmas.List.{drop_more, drop_all, length-map}
 use Rattle.b67_word.specs.declared.couples.Place.{Place}
 use Rattle.b67_word.specs.Tagged.{contents}
+use Rattle.b67_lemmas.proofs.Joins.{all_by}
+use Rattle.b67_model.specs.State as state
+use Rattle.b67_model.specs.Operators.{place_of_bits}
 use Rattle.b67_model.specs.Loader as loader
-use Rattle.b67_model.specs.Loader.{Listed, Refusal, place_of_entry, same_place, origin, broken_at, broken_in, refused, refusals_of, refusals_from, refusals, listing}
+use Rattle.b67_model.specs.Loader.{Listed, Refusal, place_of_entry, same_place, origin, is_start, broken_at, broken_in, refused, refusals_of, wrong_entries, refusals_from, refusals, listing}
 use Rattle.b67_model.specs.Program.{Program}
 use Rattle.b67_codefile.specs.declared.file.Segment.{Segment}
 use Rattle.b67_codefile.specs.declared.file.Codefile.{Codefile}
 use Rattle.b67_codefile.specs.Meaning.{segment_of, program_of}
+use Rattle.b67_codefile.specs.Spelling.{entry_count, EntriesRise}
 use Rattle.b67_load_verify.specs.declared.fault.LoadFault.{LoadFault}
 use Rattle.b67_load_verify.specs.declared.fault.LoadFault.TheVariants.{Refused, Memory}
 use Rattle.b67_load_verify.specs.declared.entry.Entry.{Entry}
 use Rattle.b67_load_verify.specs.Listing.{seen, CouplesFit}
-use Rattle.b67_load_verify.specs.Broken.{listed, rules_at, first_broken, Finds}
+use Rattle.b67_load_verify.specs.Broken.{listed, rules_at, first_broken, FindsFirst}
+use Rattle.b67_load_verify.specs.Order.{ComesBefore, IsFirst}
 use Rattle.b67_load_verify.proofs.Starts.{place_of-seen}
+use Rattle.b67_load_verify.proofs.InOrder.{InSegment, own-segment, segments-later}
+use Rattle.b67_load_verify.proofs.Least.{has_all, first_before}
 
 abbrev refusal : ℕ → Place → ℕ → Refusal
 refusal number place rule = record { segment = number; place = place; rule = rule }
@@ -92,6 +99,39 @@ refuses l all entries i d rule lt some r =
 pub is_done : (l : Listed) (all : List loader.Entry) (entries : List Entry) (i : ℕ) → length entries ≤ i → Remains l all (map seen (drop i entries)) → refusals_of l all ≡ []
 is_done l all entries i le r = sym r.refusals ∙ ap (λ (rest : List Entry). refusals_of l (map seen rest)) (drop_all i entries le)
 
+-- ---- entries of a segment
+
+-- what is wrong of the entries from here on is what is wrong of all
+pub record RemainsWrong (l : Listed) (entries rest : List ℕ) : Type 0 where
+  pub refusals : wrong_entries l rest ≡ wrong_entries l entries
+
+-- the entries from here on still rise
+abbrev pub StillRise : List ℕ → Type 0
+StillRise rest = (before : ℕ) × EntriesRise before rest
+
+wrong-step : (l : Listed) (entries : List ℕ) (i d : ℕ) → i < length entries
+    → wrong_entries l (drop i entries) ≡ refused l.number (place_of_bits (get_or entries i d)) ((11, not (is_start l.entries (place_of_bits (get_or entries i d)))) ∷ []) ++ wrong_entries l (drop (i + 1) entries)
+wrong-step l entries i d lt = rw (drop_more entries i d lt) refl
+
+pub entry-here : (entries : List ℕ) (i d : ℕ) → i < length entries → StillRise (drop i entries) → (get_or entries i d / 2 ^ 13 < 6) × StillRise (drop (i + 1) entries)
+entry-here entries i d lt r =
+    let h : EntriesRise r.0 (get_or entries i d ∷ drop (i + 1) entries) = subst (EntriesRise r.0) (drop_more entries i d lt) r.1 in
+    (h.0.syllable, (entry_count (get_or entries i d), h.1))
+
+pub wrong-goes_on : (l : Listed) (entries : List ℕ) (i d : ℕ) → i < length entries → is_start l.entries (place_of_bits (get_or entries i d)) ≡ true
+    → RemainsWrong l entries (drop i entries) → RemainsWrong l entries (drop (i + 1) entries)
+wrong-goes_on l entries i d lt start r =
+    let one : wrong_entries l (drop i entries) ≡ wrong_entries l (drop (i + 1) entries) = wrong-step l entries i d lt ∙ rw start refl in
+    record { refusals = sym one ∙ r.refusals }
+
+pub wrong-here : (l : Listed) (entries : List ℕ) (i d : ℕ) → i < length entries → is_start l.entries (place_of_bits (get_or entries i d)) ≡ false
+    → RemainsWrong l entries (drop i entries) → slice_get (wrong_entries l entries) 0 ≡ Some (refusal l.number (place_of_bits (get_or entries i d)) 11)
+wrong-here l entries i d lt start r =
+    ap (λ (x : List Refusal). slice_get x 0) (sym r.refusals ∙ wrong-step l entries i d lt) ∙ rw start refl
+
+pub wrong-done : (l : Listed) (entries : List ℕ) (i : ℕ) → length entries ≤ i → RemainsWrong l entries (drop i entries) → wrong_entries l entries ≡ []
+wrong-done l entries i le r = sym r.refusals ∙ ap (wrong_entries l) (drop_all i entries le)
+
 -- ---- segments
 
 -- what is refused of the segments from here on is what is refused of the program
@@ -102,8 +142,11 @@ pub segments-begin : (f : Codefile) → eqb (length f.segments) 0 ≡ false → 
 segments-begin f e = record { refusals = sym (rw (length-map f.segments segment_of, e) refl) }
 
 -- the refusals of segment n
+abbrev listed_at : Codefile → ℕ → Segment → Listed
+listed_at f n s = listed f n s (listing (contents s.code))
+
 abbrev refusals_at : Codefile → ℕ → Segment → List Refusal
-refusals_at f n s = refusals_of (listed f n s (listing (contents s.code))) (listing (contents s.code))
+refusals_at f n s = refusals_of (listed_at f n s) (listing (contents s.code)) ++ wrong_entries (listed_at f n s) s.entries
 
 segments-step : (f : Codefile) (n i : ℕ) (segments : List Segment) (s : Segment) → i < length segments → s ≡ get_or segments i s
     → refusals_from (program_of f) n (map segment_of (drop i segments)) ≡ refusals_at f n s ++ refusals_from (program_of f) (n + 1) (map segment_of (drop (i + 1) segments))
@@ -116,14 +159,23 @@ pub segments-go_on : (f : Codefile) (n i : ℕ) (segments : List Segment) (s : S
 segments-go_on f n i segments s lt is none h =
     record { refusals = sym (segments-step f n i segments s lt is ∙ ap (λ (x : List Refusal). x ++ refusals_from (program_of f) (n + 1) (map segment_of (drop (i + 1) segments))) none) ∙ h.refusals }
 
-first_finds : (X Y : Type 0) (e : LoadFault) (xs ys : List Refusal) → Finds {X = X} (Err e) xs → Finds {X = Y} (Err e) (xs ++ ys)
-first_finds X Y (Refused segment place reason) xs ys h = first-append xs ys _ h
-first_finds X Y Memory xs ys h = tt
+-- what is first of a segment is first of it and of the segments after it
+first_finds : (X Y : Type 0) (e : LoadFault) (p : Program) (l : Listed) (more : List state.Segment) → FindsFirst {X = X} (Err e) (refusals_of l l.entries ++ wrong_entries l l.segment.entries)
+    → FindsFirst {X = Y} (Err e) ((refusals_of l l.entries ++ wrong_entries l l.segment.entries) ++ refusals_from p (l.number + 1) more)
+first_finds X Y (Refused segment place reason) p l more h =
+    let r : Refusal = record { segment = segment; place = place; rule = reason } in
+    let own : segment ≡ l.number = has_all (InSegment l.number) _ r (own-segment l) h.among in
+    first_before _ _ r h (all_by (λ b. l.number + 1 ≤ b.segment) (ComesBefore r) (λ b le. inl (omega (arith, le, own))) _ (segments-later p (l.number + 1) more))
+first_finds X Y Memory p l more h = tt
 
-pub segments-refuse : (X Y : Type 0) (f : Codefile) (n i : ℕ) (segments : List Segment) (s : Segment) (e : LoadFault) → i < length segments → s ≡ get_or segments i s → Finds {X = X} (Err e) (refusals_at f n s)
-    → Segments (program_of f) n (drop i segments) → Finds {X = Y} (Err e) (refusals (program_of f))
+pub segments-refuse : (X Y : Type 0) (f : Codefile) (n i : ℕ) (segments : List Segment) (s : Segment) (e : LoadFault) → i < length segments → s ≡ get_or segments i s → FindsFirst {X = X} (Err e) (refusals_at f n s)
+    → Segments (program_of f) n (drop i segments) → FindsFirst {X = Y} (Err e) (refusals (program_of f))
 segments-refuse X Y f n i segments s e lt is found h =
-    subst (λ (x : List Refusal). Finds {X = Y} (Err e) x) (sym (segments-step f n i segments s lt is) ∙ h.refusals) (first_finds X Y e _ _ found)
+    subst (λ (x : List Refusal). FindsFirst {X = Y} (Err e) x) (sym (segments-step f n i segments s lt is) ∙ h.refusals) (first_finds X Y e (program_of f) (listed_at f n s) (map segment_of (drop (i + 1) segments)) found)
 
 pub segments-done : (f : Codefile) (n i : ℕ) (segments : List Segment) → length segments ≤ i → Segments (program_of f) n (drop i segments) → refusals (program_of f) ≡ []
 segments-done f n i segments le h = sym h.refusals ∙ ap (λ (rest : List Segment). refusals_from (program_of f) n (map segment_of rest)) (drop_all i segments le)
+
+-- no segment: rule 10
+pub no_segments : (f : Codefile) → eqb (length f.segments) 0 ≡ true → IsFirst (refusals (program_of f)) (refusal 0 origin 10)
+no_segments f e = rw (length-map f.segments segment_of, e) (record { among = inl refl; least = (inl refl, tt) })

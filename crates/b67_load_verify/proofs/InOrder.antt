@@ -1,25 +1,23 @@
--- The refusals of a program stand in order: by segment, then by place, then by rule.
-use Rattle.std.proofs.Common.{◌≡◌, ◌⊎◌, ℕ, zero, suc, ◌+◌, ◌*◌, ◌<◌, ◌≤◌, lit<, Bool, true, false, cond, eqb, List, [], ◌∷◌, ◌++◌, length, map, filter, Some, Ok, Err, refl, sym, subst, ◌∙◌, arith, inl, inr}
-use Rattle.std.specs.Prelude.{slice_get}
+-- The refusals at places of a listing stand in order, by place and then by rule, and so do those at entries.
+use Rattle.std.proofs.Common.{◌≡◌, ◌⊎◌, ℕ, zero, suc, ◌+◌, ◌*◌, ◌<◌, ◌≤◌, lit<, Bool, true, false, not, cond, List, [], ◌∷◌, ◌++◌, length, map, filter, Ok, Err, refl, sym, ◌∙◌, arith, inl, inr}
 use Rattle.std.specs.List.{AllByRecursion}
 use Rattle.std.proofs.Math.Nat.{le_refl}
 use Rattle.std.proofs.lemmas.Bool.{cases_lt}
 use Rattle.b67_word.specs.declared.couples.Place.{Place}
 use Rattle.b67_model.specs.declared.operators.Undecodable.TheVariants.{BadPlace, NotAdmitted, PastEnd}
-use Rattle.b67_model.specs.Operators.{Reading, count_at, operator_at}
+use Rattle.b67_model.specs.Operators.{Reading, count_at, operator_at, place_of_bits}
 use Rattle.b67_model.specs.State.{Segment}
 use Rattle.b67_model.specs.Program.{Program}
-use Rattle.b67_model.specs.Loader.{Entry, At, Break, entries_from, origin, listing, place_of_entry, same_place, Listed, Refusal, refused, refusals_of, refusals_from, refusals}
-use Rattle.b67_load_verify.specs.declared.fault.LoadFault.{LoadFault}
-use Rattle.b67_load_verify.specs.declared.fault.LoadFault.TheVariants.{Refused, Memory}
-use Rattle.b67_load_verify.specs.Broken.{rules_at, Finds}
-use Rattle.b67_load_verify.specs.Order.{StandsBefore, ComesBefore, IsLeast, TellsLeast}
+use Rattle.b67_model.specs.Loader.{Entry, At, Break, entries_from, origin, listing, place_of_entry, same_place, is_start, Listed, Refusal, refused, refusals_of, wrong_entries, refusals_from}
+use Rattle.b67_codefile.specs.Spelling.{entry_count, EntriesRise}
+use Rattle.b67_load_verify.specs.Broken.{rules_at}
+use Rattle.b67_load_verify.specs.Order.{StandsBefore, ComesBefore}
 use Rattle.b67_load_verify.proofs.Operator.{operator_at-is}
 use Rattle.b67_load_verify.proofs.Listed.{IsRead, listing-read}
 use Rattle.b67_lemmas.proofs.Joins.{all_append, all_by}
 
 -- each refusal comes before those behind it
-abbrev InOrder : List Refusal → Type 0
+abbrev pub InOrder : List Refusal → Type 0
 InOrder [] = Unit {0}
 InOrder (r ∷ rs) = AllByRecursion (ComesBefore r) rs × InOrder rs
 
@@ -109,8 +107,8 @@ before-count a b sa sb lt = elim (cases_lt a.word b.word) [
   | inr le ↦ inr (omega arith, omega arith)
 ]
 
-of-from : (number : ℕ) (e : Entry) → IsSound e → (r : Refusal) → IsOf number (place_of_entry e) r → IsFrom number (count_at (place_of_entry e)) r
-of-from number e sound r h = record { segment = h.in_segment; count = rw h.at_place (le_refl (count_at (place_of_entry e))); syllable = rw h.at_place sound }
+of-from : (number : ℕ) (place : Place) → place.syllable < 6 → (r : Refusal) → IsOf number place r → IsFrom number (count_at place) r
+of-from number place sound r h = record { segment = h.in_segment; count = rw h.at_place (le_refl (count_at place)); syllable = rw h.at_place sound }
 
 from-lower : (number n m : ℕ) → n ≤ m → (r : Refusal) → IsFrom number m r → IsFrom number n r
 from-lower number n m le r h = record { segment = h.segment; count = omega (arith, h.count); syllable = h.syllable }
@@ -119,24 +117,22 @@ refusals_of-from : (l : Listed) (n : ℕ) (entries : List Entry) → Climb n ent
 refusals_of-from l n [] h sound = tt
 refusals_of-from l n (e ∷ more) h sound =
     let at : ℕ = count_at (place_of_entry e) in
-    let here = all_by (IsOf l.number (place_of_entry e)) (IsFrom l.number n) (λ r o. from-lower l.number n at h.0 r (of-from l.number e sound.0 r o)) _ (refused-of l.number (place_of_entry e) (rules_at l e)) in
+    let here = all_by (IsOf l.number (place_of_entry e)) (IsFrom l.number n) (λ r o. from-lower l.number n at h.0 r (of-from l.number (place_of_entry e) sound.0 r o)) _ (refused-of l.number (place_of_entry e) (rules_at l e)) in
     let there = refusals_of-from l (suc at) more h.1 sound.1 in
     all_append (IsFrom l.number n) _ _ here (all_by (IsFrom l.number (suc at)) (IsFrom l.number n) (λ r o. from-lower l.number n (suc at) (omega (arith, h.0)) r o) _ there)
 
-of-before : (number : ℕ) (e : Entry) → IsSound e → (a b : Refusal) → IsOf number (place_of_entry e) a → IsFrom number (suc (count_at (place_of_entry e))) b → ComesBefore a b
-of-before number e sound a b p q =
-    let place : a.place ≡ place_of_entry e = p.at_place in
-    let lt : count_at a.place < count_at b.place = rw place (omega (arith, q.count)) in
-    inr (p.in_segment ∙ sym q.segment, inl (before-count a.place b.place (rw place sound) q.syllable lt))
+of-before : (number : ℕ) (place : Place) → place.syllable < 6 → (a b : Refusal) → IsOf number place a → IsFrom number (suc (count_at place)) b → ComesBefore a b
+of-before number place sound a b p q =
+    let at : a.place ≡ place = p.at_place in
+    let lt : count_at a.place < count_at b.place = rw at (omega (arith, q.count)) in
+    inr (p.in_segment ∙ sym q.segment, inl (before-count a.place b.place (rw at sound) q.syllable lt))
 
 refusals_of-in_order : (l : Listed) (n : ℕ) (entries : List Entry) → Climb n entries → AllByRecursion IsSound entries → InOrder (refusals_of l entries)
 refusals_of-in_order l n [] h sound = tt
 refusals_of-in_order l n (e ∷ more) h sound =
-    in_order-append (IsOf l.number (place_of_entry e)) (IsFrom l.number (suc (count_at (place_of_entry e)))) (of-before l.number e sound.0) _ _
+    in_order-append (IsOf l.number (place_of_entry e)) (IsFrom l.number (suc (count_at (place_of_entry e)))) (of-before l.number (place_of_entry e) sound.0) _ _
     (refused-of l.number (place_of_entry e) (rules_at l e)) (refusals_of-from l (suc (count_at (place_of_entry e))) more h.1 sound.1)
     (refused-in_order l.number (place_of_entry e) (rules_at l e) (rules_at-rising l e)) (refusals_of-in_order l (suc (count_at (place_of_entry e))) more h.1 sound.1)
-
--- ---- the segments of a program
 
 listing-climb : (code : List ℕ) → Climb 0 (listing code)
 listing-climb code = entries_from-climb (6 * length code) code origin (operator_at code origin) refl
@@ -144,36 +140,79 @@ listing-climb code = entries_from-climb (6 * length code) code origin (operator_
 listing-sound : (code : List ℕ) → AllByRecursion IsSound (listing code)
 listing-sound code = all_by (IsRead code) IsSound (λ e h. h.inside.syllable) (listing code) (listing-read code)
 
-refusals_from-number : (p : Program) (n : ℕ) (segments : List Segment) → AllByRecursion (λ r. n ≤ r.segment) (refusals_from p n segments)
-refusals_from-number p n [] = tt
-refusals_from-number p n (s ∷ more) =
-    let l : Listed = record { program = p; number = n; segment = s; entries = listing s.code } in
-    all_append (λ r. n ≤ r.segment) _ _
-    (all_by (IsFrom n 0) (λ r. n ≤ r.segment) (λ r h. omega (arith, h.segment)) _ (refusals_of-from l 0 (listing s.code) (listing-climb s.code) (listing-sound s.code)))
-    (all_by (λ r. n + 1 ≤ r.segment) (λ r. n ≤ r.segment) (λ r h. omega (arith, h)) _ (refusals_from-number p (n + 1) more))
+-- what is refused of a listing
+pub listing-in_order : (l : Listed) (code : List ℕ) → InOrder (refusals_of l (listing code))
+listing-in_order l code = refusals_of-in_order l 0 (listing code) (listing-climb code) (listing-sound code)
 
-refusals_from-in_order : (p : Program) (n : ℕ) (segments : List Segment) → InOrder (refusals_from p n segments)
-refusals_from-in_order p n [] = tt
-refusals_from-in_order p n (s ∷ more) =
-    let l : Listed = record { program = p; number = n; segment = s; entries = listing s.code } in
-    in_order-append (IsFrom n 0) (λ r. n + 1 ≤ r.segment) (λ a b h k. inl (omega (arith, h.segment, k))) _ _
-    (refusals_of-from l 0 (listing s.code) (listing-climb s.code) (listing-sound s.code)) (refusals_from-number p (n + 1) more)
-    (refusals_of-in_order l 0 (listing s.code) (listing-climb s.code) (listing-sound s.code)) (refusals_from-in_order p (n + 1) more)
+-- ---- entries of a segment
 
-refusals-in_order : (p : Program) → InOrder (refusals p)
-refusals-in_order p = at_test (eqb (length p.segments) 0)
+abbrev rule_11 : Listed → ℕ → List (ℕ × Bool)
+rule_11 l bits = (11, not (is_start l.entries (place_of_bits bits))) ∷ []
+
+wrong-from : (l : Listed) (before : ℕ) (entries : List ℕ) → EntriesRise before entries → AllByRecursion (IsFrom l.number (suc before)) (wrong_entries l entries)
+wrong-from l before [] rise = tt
+wrong-from l before (bits ∷ more) rise =
+    let here = all_by (IsOf l.number (place_of_bits bits)) (IsFrom l.number (suc before)) (λ r o. from-lower l.number (suc before) (entry_count bits) (omega (arith, rise.0.later)) r (of-from l.number (place_of_bits bits) rise.0.syllable r o)) _ (refused-of l.number (place_of_bits bits) (rule_11 l bits)) in
+    let there = wrong-from l (entry_count bits) more rise.1 in
+    all_append (IsFrom l.number (suc before)) _ _ here (all_by (IsFrom l.number (suc (entry_count bits))) (IsFrom l.number (suc before)) (λ r o. from-lower l.number (suc before) (suc (entry_count bits)) (omega (arith, rise.0.later)) r o) _ there)
+
+pub wrong-in_order : (l : Listed) (before : ℕ) (entries : List ℕ) → EntriesRise before entries → InOrder (wrong_entries l entries)
+wrong-in_order l before [] rise = tt
+wrong-in_order l before (bits ∷ more) rise =
+    in_order-append (IsOf l.number (place_of_bits bits)) (IsFrom l.number (suc (entry_count bits))) (of-before l.number (place_of_bits bits) rise.0.syllable) _ _
+    (refused-of l.number (place_of_bits bits) (rule_11 l bits)) (wrong-from l (entry_count bits) more rise.1)
+    (refused-in_order l.number (place_of_bits bits) (rule_11 l bits) (tt, tt)) (wrong-in_order l (entry_count bits) more rise.1)
+
+-- ---- rules and segments of refusals
+
+abbrev pub IsLow : Refusal → Type 0
+IsLow r = r.rule < 11
+
+abbrev AreLow : List (ℕ × Bool) → Type 0
+AreLow rules = AllByRecursion (λ (t : ℕ × Bool). t.0 < 11) rules
+
+refused-low : (number : ℕ) (place : Place) (rules : List (ℕ × Bool)) → AreLow rules → AllByRecursion IsLow (refused number place rules)
+refused-low number place [] h = tt
+refused-low number place (t ∷ ts) h = at_test t.1 h.0 (refused-low number place ts h.1)
   where
-    at_test : (b : Bool) → InOrder (cond b (record { segment = 0; place = origin; rule = 10 } ∷ []) (refusals_from p 1 p.segments))
-    at_test true = (tt, tt)
-    at_test false = refusals_from-in_order p 1 p.segments
+    at_test : (b : Bool) → t.0 < 11 → AllByRecursion IsLow (refused number place ts) → AllByRecursion IsLow (map (λ u. record { segment = number; place = place; rule = u.0 }) (cond b (t ∷ filter (λ u. u.1) ts) (filter (λ u. u.1) ts)))
+    at_test true lt h = (lt, h)
+    at_test false lt h = h
 
-least : (rs : List Refusal) (r : Refusal) → InOrder rs → slice_get rs 0 ≡ Some r → IsLeast rs r
-least [] r h e = absurd cc
-least (x ∷ rs) r h e =
-    let same : x ≡ r = cc in
-    (inl same, all_by (ComesBefore x) (λ b. (b ≡ r) ⊎ ComesBefore r b) (λ b k. inr (subst (λ (a : Refusal). ComesBefore a b) same k)) rs h.0)
+either_low : (b : Bool) (xs ys : List (ℕ × Bool)) → AreLow xs → AreLow ys → AreLow (cond b xs ys)
+either_low true xs ys x y = x
+either_low false xs ys x y = y
 
--- what is found first is the least
-pub finds-least : (X : Type 0) (p : Program) (fault : LoadFault) → Finds {X = X} (Err fault) (refusals p) → TellsLeast fault (refusals p)
-finds-least X p (Refused segment place reason) h = least (refusals p) (record { segment = segment; place = place; rule = reason }) (refusals-in_order p) h
-finds-least X p Memory h = tt
+rules_at-low : (l : Listed) (e : Entry) → AreLow (rules_at l e)
+rules_at-low l (Break place NotAdmitted) = either_low (same_place place origin) _ _ (lit< tt, (lit< tt, (lit< tt, tt))) (lit< tt, tt)
+rules_at-low l (Break place PastEnd) = either_low (same_place place origin) _ _ (lit< tt, (lit< tt, (lit< tt, tt))) (lit< tt, tt)
+rules_at-low l (Break place BadPlace) = either_low (same_place place origin) _ _ (lit< tt, (lit< tt, tt)) tt
+rules_at-low l (At place op) = either_low (same_place place origin) _ _ (lit< tt, (lit< tt, (lit< tt, (lit< tt, (lit< tt, (lit< tt, (lit< tt, (lit< tt, tt)))))))) (lit< tt, (lit< tt, (lit< tt, (lit< tt, (lit< tt, (lit< tt, tt))))))
+
+pub listing-low : (l : Listed) (entries : List Entry) → AllByRecursion IsLow (refusals_of l entries)
+listing-low l [] = tt
+listing-low l (e ∷ more) = all_append IsLow _ _ (refused-low l.number (place_of_entry e) (rules_at l e) (rules_at-low l e)) (listing-low l more)
+
+abbrev pub InSegment : ℕ → Refusal → Type 0
+InSegment number r = r.segment ≡ number
+
+listing-segment : (l : Listed) (entries : List Entry) → AllByRecursion (InSegment l.number) (refusals_of l entries)
+listing-segment l [] = tt
+listing-segment l (e ∷ more) =
+    all_append (InSegment l.number) _ _ (all_by (IsOf l.number (place_of_entry e)) (InSegment l.number) (λ r o. o.in_segment) _ (refused-of l.number (place_of_entry e) (rules_at l e))) (listing-segment l more)
+
+wrong-segment : (l : Listed) (entries : List ℕ) → AllByRecursion (InSegment l.number) (wrong_entries l entries)
+wrong-segment l [] = tt
+wrong-segment l (bits ∷ more) =
+    all_append (InSegment l.number) _ _ (all_by (IsOf l.number (place_of_bits bits)) (InSegment l.number) (λ r o. o.in_segment) _ (refused-of l.number (place_of_bits bits) (rule_11 l bits))) (wrong-segment l more)
+
+pub own-segment : (l : Listed) → AllByRecursion (InSegment l.number) (refusals_of l l.entries ++ wrong_entries l l.segment.entries)
+own-segment l = all_append (InSegment l.number) (refusals_of l l.entries) (wrong_entries l l.segment.entries) (listing-segment l l.entries) (wrong-segment l l.segment.entries)
+
+-- all refusals from segment n on are of segment n or a later one
+pub segments-later : (p : Program) (n : ℕ) (segments : List Segment) → AllByRecursion (λ r. n ≤ r.segment) (refusals_from p n segments)
+segments-later p n [] = tt
+segments-later p n (s ∷ more) =
+    let l : Listed = record { program = p; number = n; segment = s; entries = listing s.code } in
+    all_append (λ r. n ≤ r.segment) _ _ (all_by (InSegment n) (λ r. n ≤ r.segment) (λ r h. omega (arith, h)) _ (own-segment l))
+    (all_by (λ r. n + 1 ≤ r.segment) (λ r. n ≤ r.segment) (λ r h. omega (arith, h)) _ (segments-later p (n + 1) more))

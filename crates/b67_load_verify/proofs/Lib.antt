@@ -1,5 +1,6 @@
 pub mod Operator
 pub mod Listed
 pub mod Starts
-pub mod FirstRefusal
 pub mod InOrder
+pub mod Least
+pub mod FirstRefusal

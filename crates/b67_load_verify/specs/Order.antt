@@ -2,6 +2,7 @@
 use Rattle.std.specs.Prelude.{◌≡◌, ◌⊎◌, ◌<◌, List}
 use Rattle.std.specs.List.{AllByRecursion}
 use Rattle.b67_word.specs.declared.couples.Place.{Place}
+use Rattle.b67_lemmas.specs.Lists.{Has}
 use Rattle.b67_model.specs.Loader.{Refusal}
 use Rattle.b67_load_verify.specs.declared.fault.LoadFault.{LoadFault}
 use Rattle.b67_load_verify.specs.declared.fault.LoadFault.TheVariants.{Refused, Memory}
@@ -17,6 +18,11 @@ ComesBefore a b = (a.segment < b.segment) ⊎ ((a.segment ≡ b.segment) × (Sta
 -- no refusal comes before this one
 abbrev pub IsLeast : List Refusal → Refusal → Type 0
 IsLeast refusals least = AllByRecursion (λ r. (r ≡ least) ⊎ ComesBefore least r) refusals
+
+-- a refusal of the list, before which no other comes
+pub record IsFirst (refusals : List Refusal) (first : Refusal) : Type 0 where
+  pub among : Has refusals first
+  pub least : IsLeast refusals first
 
 -- what is told is the least refusal
 abbrev pub TellsLeast : LoadFault → List Refusal → Type 0

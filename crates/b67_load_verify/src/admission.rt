@@ -1,39 +1,39 @@
 //! Admitting a program.
 
-ghost use Rattle.std.specs.Prelude.{◌≡◌, ◌≤◌, length, IfOk, IfErr};
+ghost use Rattle.std.specs.Prelude.{◌≡◌, ◌++◌, IfOk, IfErr, option_map, slice_get};
 ghost use Rattle.b67_word.specs.Tagged.{contents};
-ghost use Rattle.b67_model.specs.Loader.{listing, refusals, refusals_of};
-ghost use Rattle.b67_codefile.specs.Spelling.{IsWithin};
+ghost use Rattle.b67_model.specs.Loader.{listing, refusals, refusals_of, wrong_entries};
+ghost use Rattle.b67_codefile.specs.Spelling.{IsSegment, IsWithin};
 ghost use Rattle.b67_codefile.specs.Meaning.{program_of};
-ghost use Rattle.b67_load_verify.specs.Broken.{listed, Finds};
+ghost use Rattle.b67_load_verify.specs.Broken.{listed, refusal_at, Finds, FindsFirst};
 ghost use Rattle.b67_load_verify.specs.Order.{TellsLeast};
 
 use crate::admitted::Admitted;
 use crate::entry::ORIGIN;
 use crate::fault::LoadFault;
 use crate::listing::Listing;
-use crate::rules::broken_rule;
+use crate::rules::{Broken, broken_rule, earlier, wrong_entry};
 use b67_codefile::{Codefile, Segment};
 use std::alloc::Global;
 
-fn check_listing(
+/// The first rule that is broken at a place of the listing.
+fn broken_in_listing(
     file: &Codefile,
     number: u8,
     segment: &Segment,
     listing: &Listing,
-) -> Result<(), LoadFault>
-    ensures { Finds result (refusals_of (listed file.now number segment.now listing.now) listing.now) }
+) -> Option<Broken>
+    ensures { slice_get (refusals_of (listed file.now number segment.now listing.now) listing.now) 0 ≡ option_map (refusal_at number) result }
 {
     'entries: for entry in listing.entries() {
-        if let Some(reason) = broken_rule(file, number, segment, listing, entry) {
-            return Err(LoadFault::Refused {
-                segment: number,
+        if let Some(rule) = broken_rule(file, number, segment, listing, entry) {
+            return Some(Broken {
                 place: entry.place,
-                reason,
+                rule,
             });
         }
     }
-    Ok(())
+    None
 }
 
 fn check_segment(
@@ -42,16 +42,24 @@ fn check_segment(
     number: u8,
     segment: &Segment,
 ) -> Result<(), LoadFault>
-    requires { length segment.now.code ≤ 8191 }
-    ensures { let entries = listing (contents segment.now.code) in Finds result (refusals_of (listed file.now number segment.now entries) entries) }
+    requires { IsSegment segment.now }
+    ensures { let l = listed file.now number segment.now (listing (contents segment.now.code)) in FindsFirst result (refusals_of l l.entries ++ wrong_entries l segment.now.entries) }
 {
     let listing = Listing::new(alloc, segment.code.as_slice())?;
-    check_listing(file, number, segment, &listing)
+    let listed = broken_in_listing(file, number, segment, &listing);
+    match earlier(listed, wrong_entry(segment, &listing)) {
+        Some(broken) => Err(LoadFault::Refused {
+            segment: number,
+            place: broken.place,
+            reason: broken.rule,
+        }),
+        None => Ok(()),
+    }
 }
 
 fn check(alloc: Global, file: &Codefile) -> Result<(), LoadFault>
     requires { IsWithin file.now }
-    ensures { Finds result (refusals (program_of file.now)) }
+    ensures { FindsFirst result (refusals (program_of file.now)) }
 {
     let segments = file.segments.as_slice();
     if segments.is_empty() {

@@ -11,7 +11,7 @@ use thiserror::Error;
 #[derive(Clone, Copy, Debug, PartialEq, Eq, Error)]
 pub enum LoadFault {
     /// The first rule that is broken, by segment, then by place, then by rule. Segments are numbered from 1. Rules 9 and
-    /// 10 stand at place 0:0; a program without segments breaks rule 10 at segment 0.
+    /// 10 stand at place 0:0, and rule 11 at the entry's; a program without segments breaks rule 10 at segment 0.
     ///
     /// 1. A place of the listing has no operator's first syllable.
     /// 2. An operator's syllables or its literal word run past the segment.
@@ -21,9 +21,10 @@ pub enum LoadFault {
     /// 6. A couple's level, split at the segment's level, is above the segment's level.
     /// 7. An MPCW literal has a bit outside syllable, word, level and segment, or names no segment.
     /// 8. An MPCW literal's level isn't the named segment's, or isn't one above that of the segment in which it stands, or
-    ///    its place isn't 0:0.
+    ///    its place is neither 0:0 nor an entry of the named segment.
     /// 9. A segment's level is below 2 or above 31.
     /// 10. The first segment isn't of level 2, or there is none.
+    /// 11. An entry of a segment isn't a place of its listing.
     #[error("segment {segment} breaks rule {reason} at {}:{}", .place.word, .place.syllable)]
     Refused {
         segment: u8,

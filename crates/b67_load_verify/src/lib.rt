@@ -1,4 +1,4 @@
-//! Admitting programs: the ten rules of the loader.
+//! Admitting programs: the eleven rules of the loader.
 #![tactic(auto)]
 
 mod admission;

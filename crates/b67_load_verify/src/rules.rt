@@ -1,17 +1,19 @@
 //! The rules that an operator may break.
 
-ghost use Rattle.std.specs.Prelude.{◌≡◌, ◌<◌, ◌^◌, ◌&&◌, ◌||◌, ℕ, List, not, nat_lt, ◌==◌};
+ghost use Rattle.std.specs.Prelude.{◌≡◌, ◌<◌, ◌^◌, ◌&&◌, ◌||◌, ℕ, List, not, nat_lt, ◌==◌, option_map, slice_get};
+ghost use Rattle.std.specs.List.{list_any};
 ghost use Rattle.b67_word.specs.Couples.{couple};
-ghost use Rattle.b67_model.specs.Loader.{At, target_of, couple_bits, proc_bits, may_be_last, holds_of, holds_at, is_outside, is_start, is_last, named_level, has_stray_bits, breaks_rule_8, broken_at, broken_in};
+ghost use Rattle.b67_model.specs.Loader.{At, target_of, couple_bits, proc_bits, may_be_last, holds_of, holds_at, is_outside, is_start, is_last, named_segment, named_level, may_begin_at, has_stray_bits, breaks_rule_8, broken_at, broken_in, stands_before, wrong_entries};
 ghost use Rattle.b67_model.specs.Loader as loader;
 ghost use Rattle.b67_codefile.specs.Meaning.{segment_of, program_of};
 ghost use Rattle.b67_load_verify.specs.Listing.{seen, CoupleFits, CouplesFit};
-ghost use Rattle.b67_load_verify.specs.Broken.{listed, rules_at, first_broken};
+ghost use Rattle.b67_load_verify.specs.Broken.{listed, rules_at, first_broken, refusal_at, wrong_at, earlier};
+ghost use Rattle.b67_codefile.specs.Spelling.{EntriesRise};
 ghost use Rattle.b67_codefile.specs.declared.file.Codefile.{Codefile};
 
 use crate::entry::{Entry, ORIGIN, same_place};
 use crate::listing::Listing;
-use b67_codefile::{Codefile, Segment};
+use b67_codefile::{Codefile, Segment, place_of_entry};
 use b67_syllable::{Code, Op, Undecodable};
 use b67_word::{Place, couple_of};
 
@@ -61,15 +63,33 @@ fn is_outside(segment: &Segment, place: Place) -> bool
     usize::from(place.word) >= segment.code.as_slice().len() || place.syllable > 5
 }
 
-/// The level of the segment that has this displacement in the dictionary, in which the first segment has 2.
-fn named_level(file: &Codefile, disp: u16) -> Option<u8>
-    ensures { result ≡ named_level (program_of file.now) disp }
+/// The segment that has this displacement in the dictionary, in which the first segment has 2.
+fn named_segment(file: &Codefile, disp: u16) -> Option<&Segment>
+    ensures { option_map (λ s. segment_of s.now) result ≡ named_segment (program_of file.now) disp }
 {
     if disp < 2 {
         return None;
     }
-    let segment = file.segments.as_slice().get(usize::from(disp - 2));
-    segment.map(|segment| segment.level)
+    file.segments.as_slice().get(usize::from(disp - 2))
+}
+
+fn named_level(file: &Codefile, disp: u16) -> Option<u8>
+    ensures { result ≡ named_level (program_of file.now) disp }
+{
+    named_segment(file, disp).map(|segment| segment.level)
+}
+
+/// Whether a procedure may begin at a place, given as a branch's 16 bits: at the segment's first one or at an entry.
+fn may_begin_at(segment: &Segment, bits: u64) -> bool
+    ensures { result ≡ may_begin_at (Some (segment_of segment.now)) bits }
+{
+    bits == 0 || has_entry(segment.entries.as_slice(), bits)
+}
+
+fn has_entry(entries: &[u16], bits: u64) -> bool
+    ensures { result ≡ list_any (λ e. e == bits) entries.now }
+{
+    entries.iter().any(|entry| u64::from(*entry) == bits)
 }
 
 /// Rule 3: a branch to a place inside the segment at which no operator begins.
@@ -112,7 +132,7 @@ fn pcw_is_malformed(file: &Codefile, op: Op) -> bool
 }
 
 /// Rule 8: a program control word whose level isn't its segment's, or isn't one above that of the segment in which the
-/// word stands, or whose place isn't the first.
+/// word stands, or whose place is neither the first nor an entry of its segment.
 fn pcw_is_misplaced(file: &Codefile, segment: &Segment, op: Op) -> bool
     ensures { (number : ℕ) (entries : List loader.Entry) → result ≡ holds_of (proc_bits op) (breaks_rule_8 (listed file.now number segment.now entries)) }
 {
@@ -121,7 +141,7 @@ fn pcw_is_misplaced(file: &Codefile, segment: &Segment, op: Op) -> bool
             let level = (bits >> 14) % 32;
             !is_level_of(named_level(file, (bits % 0x4000) as u16), level)
                 || level != u64::from(segment.level) + 1
-                || bits >> 20 != 0
+                || !named_segment(file, (bits % 0x4000) as u16).is_some_and(|named| may_begin_at(named, bits >> 20))
         }
         None => false,
     }
@@ -207,5 +227,46 @@ pub(crate) fn broken_rule(
         Some(rule) => Some(rule),
         None if same_place(entry.place, ORIGIN) => broken_by_level(number, segment),
         None => None,
+    }
+}
+
+/// A rule that is broken at a place.
+#[derive(Clone, Copy)]
+pub(crate) struct Broken {
+    pub place: Place,
+    pub rule: u8,
+}
+
+/// Whether a place stands before another: by word, then by syllable.
+fn stands_before(a: Place, b: Place) -> bool
+    ensures { result ≡ stands_before a b }
+{
+    a.word < b.word || (a.word == b.word && a.syllable < b.syllable)
+}
+
+/// Rule 11: the first entry of a segment that isn't a start.
+pub(crate) fn wrong_entry(segment: &Segment, listing: &Listing) -> Option<Place>
+    requires { EntriesRise 0 segment.now.entries }
+    ensures { (file : Codefile) (number : ℕ) → slice_get (wrong_entries (listed file number segment.now listing.now) segment.now.entries) 0 ≡ option_map (λ place. refusal_at number (wrong_at place)) result }
+{
+    'entries: for entry in segment.entries.as_slice() {
+        let place = place_of_entry(*entry);
+        if !listing.has_start(place) {
+            return Some(place);
+        }
+    }
+    None
+}
+
+/// What is broken first of a rule at a place of the listing and of rule 11 at an entry.
+pub(crate) fn earlier(listed: Option<Broken>, wrong: Option<Place>) -> Option<Broken>
+    ensures { result ≡ earlier listed wrong }
+{
+    match listed {
+        Some(broken) => match wrong {
+            Some(place) if stands_before(place, broken.place) => Some(Broken { place, rule: 11 }),
+            _ => Some(broken),
+        },
+        None => wrong.map(|place| Broken { place, rule: 11 }),
     }
 }

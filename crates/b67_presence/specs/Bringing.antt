@@ -123,8 +123,8 @@ abbrev pub IsUntouched : Storage → What → Type 0
 IsUntouched x (what.Code displacement) = ⊥
 IsUntouched x (what.Array home) = (x.held home).chain ≡ 0
 
--- what is wanted is brought in, for a session's running task that wants an array of so many words, 0 for its segment. Core is
--- too small exactly if the step's need exceeds it; too few free sectors refuse it only if the session takes more than the
+-- what is wanted is brought in, for a session's running task that wants an array of that many words, 0 for its segment. Core
+-- is too small exactly if the step's need exceeds it; too few free sectors refuse it only if the session takes more than the
 -- device has and there was no hole; if there was one, no sector is written and no area moves
 pub record BringMeets {D : Type 0} (tell : D → Option (List (List ℕ))) (many : ℕ) (x : Storage) (plan : Placement) (s : Session) (m : SessionJob) (t : Task) (absent : What) (words : ℕ)
     (result : Result (Unit {0}) SpaceFault) (old new : Machine) (before after : D) : Type 0 where

@@ -111,7 +111,7 @@ pub record PagesIn {D : Type 0} (tell : D → Option (List (List ℕ))) (x : Sto
   pub untouched : (x.held home).chain ≡ 0 → after ≡ before
   pub zeros : (x.held home).chain ≡ 0 → result ≢ Err BackingFault
 
--- areas but the one at `spare` give way to an absent object until it is placed, or none of them is left
+-- areas but the one at `spare` are evicted for an absent object until it is placed, or none of them is left
 pub record MakesWay (x : Storage) (p : MachineView) (t : PagedObject) (spare : ℕ)
     (result : Result Bool SpaceFault) (old cpu : Cpu) (areas : Areas) (table : Table) (told : Option (List (List ℕ))) : Type 0 where
   pub outside : Stayed p old.core cpu.core

@@ -50,7 +50,7 @@ pub record SlotsFit (core : List Tagged) (at size jobs : ℕ) : Type 0 where
   pub long : 64 ≤ size
   pub inside : at + jobs * size ≤ length core
 
--- core of zeros, in which so many words of dictionaries fit and the slots after them
+-- core of zeros, in which that many words of dictionaries fit and the slots after them
 pub record IsBlankFor (core : List Tagged) (words size jobs : ℕ) : Type 0 where
   pub zeros : core ≡ replicate (length core) (word 0 0)
   pub slots : SlotsFit core (160 + words) size jobs

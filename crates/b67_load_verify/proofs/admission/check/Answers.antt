@@ -19,4 +19,4 @@ segments-preserved c =
     (omega (arith, c.segments.invariant.0), segments-go_on c.args.file.now (c.segments.number + 1) c.segments.segment-index c.as_slice-segments.result.now c.segment-item.result c.segments-test.true c.segment-item.is c.in_ok-check_segment.ensures c.segments.invariant.1)
 
 pub returns : goal.returns
-returns c = segments-done _ _ c.segments.segment-index c.as_slice-segments.result.now c.segments-test.false c.segments.invariant.1
+returns c = segments-done c.args.file.now _ c.segments.segment-index c.as_slice-segments.result.now c.segments-test.false c.segments.invariant.1

@@ -49,3 +49,12 @@ returns-in-Err-clause-full g c = λ x p t wants free m a e. (c.in-Err.ensures.ro
 
 pub returns-in-Ok-false-clause-full : goal.returns-in-Ok-false-clause-full
 returns-in-Ok-false-clause-full g c = λ x p t wants free m a e. absurd (c.page_in_room.ensures.not_full wants free e)
+
+pub returns-in-Ok-true-clause-outside : goal.returns-in-Ok-true-clause-outside
+returns-in-Ok-true-clause-outside g c = λ x p t m a. (c.make_way.ensures.row x p t m a).outside
+
+pub returns-in-Err-clause-outside : goal.returns-in-Err-clause-outside
+returns-in-Err-clause-outside g c = λ x p t m a. (c.make_way.ensures.row x p t m a).outside
+
+pub returns-in-Err-clause-refused : goal.returns-in-Err-clause-refused
+returns-in-Err-clause-refused g c = λ x p t m a. (c.in-Err.ensures.row x p t m a).refused
