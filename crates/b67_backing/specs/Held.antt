@@ -88,7 +88,7 @@ abbrev pub under : ℕ → ℕ → Tagged
 under tag number = word tag (number % 2 ^ 48)
 
 -- the words of core from an address on have this tag and the 48 bits of a word
-pub record AreWords (core : List Tagged) (at words tag : ℕ) : Type 0 where
+pub record AreTagged (core : List Tagged) (at words tag : ℕ) : Type 0 where
   pub tags : (i : ℕ) → i < words → (w : Tagged) × (slice_get core (at + i) ≡ Some w) × (w.tag ≡ tag)
   pub low : (i : ℕ) → i < words → (w : Tagged) × (slice_get core (at + i) ≡ Some w) × (w.bits < 2 ^ 48)
 

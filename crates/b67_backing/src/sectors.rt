@@ -5,7 +5,7 @@ ghost use Rattle.b67_word.specs.Tagged.{Tagged};
 ghost use Rattle.b67_core.specs.Numbers.{number};
 ghost use Rattle.b67_io.specs.Causes.{HasCause};
 ghost use Rattle.b67_backing.specs.Shelf.{Table, Shelf, IsShelf, HasChain, chain_of, taken, given, joined, first, last, all_free};
-ghost use Rattle.b67_backing.specs.Held.{Tells, Changes, SameBut, Stores, Holds, AreWords, OnlyWords, WasCalled, WasRead, sectors_for, under};
+ghost use Rattle.b67_backing.specs.Held.{Tells, Changes, SameBut, Stores, Holds, AreTagged, OnlyWords, WasCalled, WasRead, sectors_for, under};
 ghost use Rattle.b67_backing.specs.Extending.{ExtendMeets, KeepsDevice};
 
 use crate::copies::{pack, unpack};
@@ -285,7 +285,7 @@ impl Sectors {
             → Tells B.holds backing.old (λ all. (numbers : List ℕ) → length numbers ≡ words
             → Holds all (chain_of first st.chains) 0 numbers
             → (i : ℕ) → i < words → slice_get core.new (at + i) ≡ option_map (under tag) (slice_get numbers i))) }
-        ensures words { OnOk result (AreWords core.new at words tag) }
+        ensures words { OnOk result (AreTagged core.new at words tag) }
         ensures rest { OnlyWords at words core.old core.new }
         ensures device { WasRead B.holds B.size B.calls B.faults backing.old backing.new result }
     {

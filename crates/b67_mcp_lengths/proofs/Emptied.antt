@@ -1,24 +1,23 @@
 -- An array that is in no area and no chain.
-use Rattle.std.proofs.Common.{◌≡◌, ◌≢◌, ℕ, zero, suc, ◌+◌, ◌<◌, ◌≤◌, ◌^◌, ◌⊎◌, List, [], length, Option, Some, None, refl, sym, ◌∙◌, ap, arith, inl, inr, ⊎_elim, subst, slice_set, replicate}
+use Rattle.std.proofs.Common.{◌≡◌, ◌≢◌, ℕ, zero, suc, ◌<◌, ◌≤◌, ◌^◌, List, length, Option, Some, None, refl, sym, ◌∙◌, ap, arith, inr, subst, slice_set, replicate}
 use Rattle.std.specs.List.{slice_get}
 use Rattle.std.proofs.lemmas.List.{length-set, length-replicate}
-use Rattle.std.proofs.lemmas.Option.{none-some, same_Some}
+use Rattle.std.proofs.lemmas.Option.{none-some}
 use Rattle.b67_word.specs.Tagged.{Tagged}
 use Rattle.b67_core.proofs.Writes.{slice_get-set_same, slice_get-set_other}
-use Rattle.b67_area.specs.declared.Info.{Info}
 use Rattle.b67_area.specs.declared.Kind.{Kind}
 use Rattle.b67_area.specs.declared.Kind.TheVariants.{Array, Code}
-use Rattle.b67_area.specs.Spans.{Span, area_at, without}
+use Rattle.b67_area.specs.Spans.{Span, without}
 use Rattle.b67_area.proofs.Climbs.{area_at-low}
 use Rattle.b67_area.proofs.Separation.{IsDirectory-set_below}
 use Rattle.b67_backing.specs.Shelf.{Table, IsShelf}
 use Rattle.b67_lemmas.specs.Lists.{Has}
 use Rattle.b67_ctl.specs.declared.registers.Regs.{Regs}
-use Rattle.b67_stack.specs.Shapes.{Location, nowhere}
+use Rattle.b67_stack.specs.Shapes.{nowhere}
 use Rattle.b67_stack.specs.MachineView.{PagedObject, MachineView, slot_base, home_word_of, AreZero}
-use Rattle.b67_stack.specs.Represents.{Storage, Represents, Content, info_of}
+use Rattle.b67_stack.specs.Represents.{Storage, Represents, info_of}
 use Rattle.b67_layout_storage.specs.Machine.{IsPresent, TakesPlace, Stayed}
-use Rattle.b67_layout_storage.proofs.Unchanged.{area_of_object, home_below, base_low}
+use Rattle.b67_layout_storage.proofs.Unchanged.{area_of_object, home_below}
 use Rattle.b67_layout_storage.proofs.Words.{StacksLie-home, original_word}
 use Rattle.b67_layout_storage.proofs.Reheld.{storage_with}
 use Rattle.b67_layout_storage.proofs.Changed.{Changed, Represents-changed}

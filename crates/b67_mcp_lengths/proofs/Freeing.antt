@@ -1,5 +1,5 @@
 -- A chain that is given back, and the chains that stay.
-use Rattle.std.proofs.Common.{◌≡◌, ◌≢◌, ℕ, zero, suc, ◌+◌, ◌^◌, ◌<◌, ◌≤◌, ◌==◌, ◌⊎◌, List, [], length, Option, Some, None, refl, sym, ◌∙◌, ap, arith, inl, inr, ⊎_elim, subst, slice_set, if◌then◌else◌}
+use Rattle.std.proofs.Common.{◌≡◌, ◌≢◌, ℕ, ◌^◌, ◌<◌, ◌≤◌, ◌==◌, ◌⊎◌, List, [], length, Option, Some, None, refl, sym, ◌∙◌, ap, arith, inl, inr, ⊎_elim, subst, slice_set, if◌then◌else◌}
 use Rattle.std.specs.List.{slice_get}
 use Rattle.std.proofs.lemmas.Bool.{cases_eq, cond-true, cond-false, eq-eqb, ne_eqb}
 use Rattle.b67_word.specs.Tagged.{Tagged}
@@ -11,12 +11,12 @@ use Rattle.b67_ctl.specs.declared.registers.Regs.{Regs}
 use Rattle.b67_ctl.specs.declared.descriptors.DataDesc.{DataDesc}
 use Rattle.b67_ctl.specs.Descriptors.{data_word, IsDataDesc}
 use Rattle.b67_area.specs.declared.Kind.{Kind}
-use Rattle.b67_area.specs.declared.Kind.TheVariants.{Array, Row, Code}
+use Rattle.b67_area.specs.declared.Kind.TheVariants.{Array}
 use Rattle.b67_stack.specs.Shapes.{Location}
-use Rattle.b67_stack.specs.MachineView.{PagedObject, MachineView, home_desc, home_word, home_word_of}
+use Rattle.b67_stack.specs.MachineView.{PagedObject, MachineView, home_desc, home_word_of}
 use Rattle.b67_stack.specs.Represents.{Storage, Represents, HasChain}
 use Rattle.b67_stack.proofs.Homes.{chain_small}
-use Rattle.b67_layout_storage.specs.Machine.{ChainStays, content_after}
+use Rattle.b67_layout_storage.specs.Machine.{ChainStays}
 use Rattle.b67_layout_storage.proofs.Unchanged.{area_bounds}
 use Rattle.b67_layout_storage.proofs.Chained.{Content-chain}
 use Rattle.b67_mcp_lengths.specs.Lengths.{IsArray, IsChain, freed_chain}

@@ -1,5 +1,5 @@
 -- Machines in which an array has another length, or is in no area and no chain.
-use Rattle.std.specs.Prelude.{◌≡◌, ◌≢◌, ℕ, ◌+◌, ◌-◌, ◌<◌, ◌≤◌, ◌==◌, ◌⊎◌, zero, List, [], ◌++◌, length, take, replicate, Option, Some, None, Result, Ok, Err, if◌then◌else◌}
+use Rattle.std.specs.Prelude.{◌≡◌, ◌≢◌, ℕ, ◌+◌, ◌-◌, ◌<◌, ◌≤◌, ◌==◌, ◌⊎◌, zero, List, ◌++◌, length, take, replicate, Option, Some, None, Result, Ok, Err, if◌then◌else◌}
 use Rattle.b67_area.specs.declared.Areas.{Areas}
 use Rattle.b67_area.specs.declared.Kind.TheVariants.{Array}
 use Rattle.b67_area.specs.Spans.{Span, without, keeping, shortened}
@@ -9,7 +9,7 @@ use Rattle.b67_backing.specs.declared.SpaceFault.{SpaceFault}
 use Rattle.b67_backing.specs.declared.SpaceFault.TheVariants as spaces
 use Rattle.b67_lemmas.specs.Lists.{Has}
 use Rattle.b67_stack.specs.declared.Cpu.{Cpu}
-use Rattle.b67_stack.specs.Shapes.{Location, nowhere}
+use Rattle.b67_stack.specs.Shapes.{nowhere}
 use Rattle.b67_stack.specs.MachineView.{PagedObject, MachineView}
 use Rattle.b67_stack.specs.Represents.{Storage}
 use Rattle.b67_layout_storage.specs.Machine.{MachineRepresentsView, TakesPlace, with_held, content_after}
@@ -69,7 +69,7 @@ abbrev pub IsLackingFor : Storage → PagedObject → ℕ → ℕ → ℕ → Ty
 IsLackingFor y t words wants free =
     (free ≡ length y.shelf.free) × (free < wants)
     × ((((y.held t.home).chain ≡ 0) × ((y.held t.home).area ≢ None) × (wants ≡ sectors_for (length t.numbers)))
-      ⊎ (((y.held t.home).chain ≢ 0) × (sectors_for (length t.numbers) + wants ≡ sectors_for words)))
+    ⊎ (((y.held t.home).chain ≢ 0) × (sectors_for (length t.numbers) + wants ≡ sectors_for words)))
 
 -- by what was answered: the array is longer; or the same view stands, after a want of sectors in a storage that lacks them
 abbrev pub LengthenMeets : Storage → MachineView → PagedObject → ℕ → Result (Unit {0}) SpaceFault → Cpu → Areas → Table → Option (List (List ℕ)) → Type 0

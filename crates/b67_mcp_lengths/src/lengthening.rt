@@ -43,7 +43,8 @@ pub fn lengthen_array<B: Backing>(
             let first = original_at(&cpu.core, home).address;
             match sectors.extend(first, original.length, words, backing) {
                 Ok(()) => {
-                    cpu.core.set(home, DataDesc::original(false, false, words, first));
+                    cpu.core
+                        .set(home, DataDesc::original(false, false, words, first));
                     Ok(())
                 }
                 Err(fault) => Err(fault),

@@ -14,13 +14,7 @@ use b67_stack::Cpu;
 
 /// Leaves a present array only its first words, fewer than it has. They stay in place; the words after them become a part of
 /// a hole, and the sectors that the array kept are free. No device is called.
-pub fn shorten_array(
-    cpu: &mut Cpu,
-    areas: &mut Areas,
-    sectors: &mut Sectors,
-    home: u32,
-    words: u32,
-)
+pub fn shorten_array(cpu: &mut Cpu, areas: &mut Areas, sectors: &mut Sectors, home: u32, words: u32)
     requires some { 1 ≤ words }
     requires machine { (x : Storage) × (told : Option (List (List ℕ))) × (p : MachineView) × (t : PagedObject) × (at : ℕ) × MachineRepresentsView x cpu.old areas.old sectors.old told p × IsArray p home t × IsPresent x p at t × (words < length t.numbers) }
     ensures keeps { PagingKeeps cpu.old cpu.new areas.old areas.new sectors.old sectors.new }
@@ -33,6 +27,7 @@ pub fn shorten_array(
     let kept = areas.info(&cpu.core, at).kept;
     areas.shrink(&mut cpu.core, at, words);
     areas.keep(&mut cpu.core, at, 0);
-    cpu.core.set(home, DataDesc::original(true, false, words, at));
+    cpu.core
+        .set(home, DataDesc::original(true, false, words, at));
     give_kept(sectors, kept);
 }

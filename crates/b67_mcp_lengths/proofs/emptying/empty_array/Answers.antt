@@ -1,24 +1,23 @@
-use Rattle.std.proofs.Common.{◌≡◌, ℕ, ◌+◌, ◌<◌, ◌^◌, List, Option, Some, length, sym, ◌∙◌, ap, arith, subst, slice_set, true, false, refl}
+use Rattle.std.proofs.Common.{◌≡◌, ℕ, List, Option, Some, length, sym, ◌∙◌, ap, arith, subst, slice_set, false}
 use Rattle.b67_word.specs.Tagged.{Tagged}
 use Rattle.b67_area.specs.declared.Areas.{Areas}
 use Rattle.b67_area.specs.declared.Info.{Info}
-use Rattle.b67_area.specs.Spans.{Span, area_at, without}
+use Rattle.b67_area.specs.Spans.{Span, area_at}
 use Rattle.b67_area.specs.Directory.{IsDirectory}
-use Rattle.b67_backing.specs.Shelf.{Table, Shelf, IsShelf}
+use Rattle.b67_backing.specs.Shelf.{Table, IsShelf}
 use Rattle.b67_ctl.specs.declared.descriptors.DataDesc.{DataDesc}
 use Rattle.b67_ctl.specs.declared.registers.Regs.{Regs}
 use Rattle.b67_ctl.specs.Descriptors.{data_word}
-use Rattle.b67_lemmas.specs.Lists.{Has}
 use Rattle.b67_stack.specs.declared.Cpu.{Cpu}
-use Rattle.b67_stack.specs.Shapes.{Location, nowhere}
+use Rattle.b67_stack.specs.Shapes.{nowhere}
 use Rattle.b67_stack.specs.MachineView.{PagedObject, MachineView, home_desc, home_word_of}
 use Rattle.b67_stack.specs.Represents.{Storage, Represents, info_of}
-use Rattle.b67_layout_storage.specs.Machine.{MachineRepresentsView, IsPresent, PagingKeeps, Stayed, TakesPlace}
-use Rattle.b67_layout_storage.proofs.Unchanged.{area_of_object, home_below}
+use Rattle.b67_layout_storage.specs.Machine.{MachineRepresentsView, IsPresent, Stayed}
+use Rattle.b67_layout_storage.proofs.Unchanged.{area_of_object}
 use Rattle.b67_overlay.specs.Turns.{Searched, Hides}
 use Rattle.b67_overlay.proofs.Hiding.{hidden_data}
 use Rattle.b67_overlay.proofs.Dropping.{Freed, directory2, below_dropped}
-use Rattle.b67_mcp_lengths.specs.Lengths.{IsArray, IsChain, zeroed, emptied, freed_chain}
+use Rattle.b67_mcp_lengths.specs.Lengths.{IsArray, IsChain, emptied, freed_chain}
 use Rattle.b67_mcp_lengths.proofs.Freeing.{is_chain, original_is, original_read, read_present, read_absent, set_original}
 use Rattle.b67_mcp_lengths.proofs.Emptied.{emptied_area, emptied_absent, stayed_absent}
 use Rattle.b67_mcp_lengths.proofs.emptying.empty_array.Goals.{Start, Then-original, After-free}
