@@ -12,4 +12,4 @@ pub restore-restored-requires-clause-chain : goal.restore-restored-requires-clau
 restore-restored-requires-clause-chain g c = (taken 2 (all_free 3), c.in-Some.ensures.chain (all_free 3) c.in_ok-sectors.ensures.1)
 
 pub restore-restored-requires-clause-same : goal.restore-restored-requires-clause-same
-restore-restored-requires-clause-same g c = omega (arith, c.save-saved.ensures.size, ap length c.in_ok-backing.ensures.zeros, c.take.ensures.count, c.in_ok-sectors.ensures.0)
+restore-restored-requires-clause-same g c = omega (arith, c.save-saved.ensures.device.size, ap length c.in_ok-backing.ensures.zeros, c.take.ensures.count, c.in_ok-sectors.ensures.0)
