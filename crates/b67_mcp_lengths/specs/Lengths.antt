@@ -71,10 +71,10 @@ IsLackingFor y t words wants free =
     × ((((y.held t.home).chain ≡ 0) × ((y.held t.home).area ≢ None) × (wants ≡ sectors_for (length t.numbers)))
     ⊎ (((y.held t.home).chain ≢ 0) × (sectors_for (length t.numbers) + wants ≡ sectors_for words)))
 
--- by what was answered: the array is longer; or the same view stands, after a want of sectors in a storage that lacks them
+-- by what was answered: the array is longer, and absent; or the same view stands, after a want of sectors in a storage that lacks them
 abbrev pub LengthenMeets : Storage → MachineView → PagedObject → ℕ → Result (Unit {0}) SpaceFault → Cpu → Areas → Table → Option (List (List ℕ)) → Type 0
 LengthenMeets x p t words (Ok done) cpu areas table told =
-    (y : Storage) × OthersStay x y t.home told
+    (y : Storage) × OthersStay x y t.home told × ((y.held t.home).area ≡ None)
     × ((objects : List PagedObject) → TakesPlace p.objects objects t (grown_to words t) → MachineRepresentsView y cpu areas table told (record p { objects = objects }))
 LengthenMeets x p t words (Err (spaces.BackingFull wants free)) cpu areas table told =
     (y : Storage) × OthersStay x y t.home told × MachineRepresentsView y cpu areas table told p × IsLackingFor y t words wants free

@@ -4,6 +4,7 @@ use Rattle.b67_backing.specs.Shelf.{HasChain}
 use Rattle.b67_backing.specs.Held.{sectors_for}
 use Rattle.b67_ctl.specs.declared.descriptors.DataDesc.{DataDesc}
 use Rattle.b67_stack.specs.MachineView.{PagedObject, MachineView, home_desc, address_or}
+use Rattle.b67_stack.specs.Shapes.{Location}
 use Rattle.b67_stack.specs.Represents.{Storage, Represents}
 use Rattle.b67_layout_storage.specs.Machine.{MachineRepresentsView, IsPresent, Stayed, content_after}
 use Rattle.b67_overlay.specs.Overlaid.{overlaid}
@@ -13,7 +14,7 @@ use Rattle.std.specs.Prelude.{Err}
 use Rattle.b67_backing.specs.Extending.{extended, sectors_more, IsExtended, ExtendMeets}
 use Rattle.b67_layout_storage.proofs.Below.{Stayed-then}
 use Rattle.b67_layout_storage.proofs.Devices.{Served-then, still_tells}
-use Rattle.b67_layout_storage.proofs.Helds.{held-other}
+use Rattle.b67_layout_storage.proofs.Helds.{held-other, held-same}
 use Rattle.b67_layout_storage.proofs.Reheld.{storage_with}
 use Rattle.b67_overlay.proofs.Chains.{Says-retold}
 use Rattle.b67_mcp_lengths.proofs.Emptied.{stayed_absent}
@@ -195,6 +196,7 @@ returns-in-Ok-extend-clause-row g c = λ x p t at m a h.
         others = λ z apart. held-other y.held t.home (record { area = None; chain = chain }) z apart ∙ (others_out x t c.original_at-original.result.address told1).others z apart;
         device = retold_twice x.device (g.B.Backing.holds c.args.backing.now) told1 told2 m.device (still_tells g.B.Backing.holds g.B.Backing.size g.B.Backing.calls g.B.Backing.faults c.args.backing.now c.overlay.new.backing c.overlay.ensures.device);
       },
+      ap (λ (h : Location). h.area) (held-same y.held t.home (record { area = None; chain = chain })),
       λ objects re.
           let it = made_longer y c.overlay.new.cpu.core c.overlay.new.cpu.regs p q.machine.stands t a.there a.kind q.out.absent q.out.some c.overlay.new.sectors c.extend.new.self q.machine.shelf told1 told2 q.machine.device c.args.words k.longer c.requires.few
           ext.others ext.chain.many ext.same.told ext.content.told objects re in
