@@ -1,9 +1,10 @@
 //! PRINT.
 
-ghost use Rattle.std.specs.Prelude.{◌≡◌, ℕ, OnOk, OnErr, Err, ◌∷◌, []};
+ghost use Rattle.std.specs.Prelude.{◌≡◌, ◌≢◌, ℕ, OnOk, OnErr, Err, ◌∷◌, []};
 ghost use Rattle.b67_io.specs.Causes.{HasCause};
 ghost use Rattle.b67_session_lines.specs.Parts.{TookRest, TookMore};
 ghost use Rattle.b67_model.specs.Steps.{Value};
+ghost use Rattle.b67_mcp.specs.declared.ends.Stop.TheVariants.{BackingFault};
 ghost use Rattle.b67_mcp.specs.Called.{printed_text, CallsSome, CallMeets, CallTouches};
 ghost use Rattle.b67_mcp.specs.Running.{ForRuns, ForCalls, ReadsOperator, KeptOutside, IsHeard};
 
@@ -39,6 +40,7 @@ pub(crate) fn print<K: Sink>(machine: &mut Machine, paper: &mut K) -> Result<Cal
     ensures row { ForCalls machine.old 9 (λ x told plan s m t. (count : ℕ) → CallMeets K.taken told count x plan s m t 9 result machine.old machine.new paper.old paper.new) }
     ensures present { ForCalls machine.old 9 (λ x told plan s m t. CallTouches x plan m t result) }
     ensures cause { IsHeard K.faults paper.old paper.new result }
+    ensures stops { result ≢ Err BackingFault }
     ensures kept { KeptOutside machine.old machine.new }
 {
     let value = match print_value(&machine.cpu) {

@@ -31,25 +31,26 @@ use b67_word::{Ending, Fault};
 /// Makes the next operator, whose segment and array are present. Over a device that doesn't tell what its sectors hold, the
 /// code that was read back may want another array: it then ends its task by INVALID OPERATOR.
 #[inline(always)]
-fn last_try<K: Sink>(machine: &mut Machine, paper: &mut K) -> Result<Attempt, Stop>
-    requires runs { ReadyRuns machine.old }
+fn last_try<B: Backing, K: Sink>(
+    machine: &mut Machine,
+    backing: &mut B,
+    paper: &mut K,
+) -> Result<Attempt, Stop>
+    requires runs { RunsOver machine.old (B.holds backing.old) }
     requires countable { AreCountable machine.old.tasks.jobs }
-    ensures row { (x : Storage) (core count : ℕ) (plan : Placement) (s : Session) (m : SessionJob) (t : Task) → IsInOrderButCounts s → MachineRepresents x x.device machine.old plan s
+    requires same { B.size backing.old + 1 ≡ length machine.old.sectors.links }
+    ensures row { (x : Storage) (plan : Placement) (s : Session) (m : SessionJob) (t : Task) → IsInOrderButCounts s → StandsOver x (B.holds backing.old) machine.old plan s
         → IsRunning plan s.jobs m t → t.condition ≡ Ready → (x.device ≢ None → WantsNothing x plan m t)
-        → Attempts K.taken x x.device core count machine.old.tasks.printed plan s t result machine.new paper.old paper.new }
-    ensures fits { (x : Storage) (plan : Placement) (s : Session) (m : SessionJob) (t : Task) → IsInOrderButCounts s → MachineRepresents x x.device machine.old plan s
+        → Attempts K.taken x (content_after x.device (B.holds backing.new)) (length machine.old.cpu.core) (B.size backing.old) machine.old.tasks.printed plan s t result machine.new paper.old paper.new }
+    ensures fits { (x : Storage) (plan : Placement) (s : Session) (m : SessionJob) (t : Task) → IsInOrderButCounts s → StandsOver x (B.holds backing.old) machine.old plan s
         → IsRunning plan s.jobs m t → t.condition ≡ Ready → WantsNothing x plan m t → AttemptFits (length machine.old.cpu.core) x plan s m t result }
-    ensures full { result ≢ Err BackingFault }
-    ensures print_cause { result ≡ Err PrintFault → Rose K.faults paper.old paper.new }
-    ensures later { K.faults paper.old ≤ K.faults paper.new }
+    ensures causes { HaveCauses B.faults K.faults backing.old backing.new paper.old paper.new result }
     ensures countable { AreCountable machine.new.tasks.jobs }
-    ensures len { length machine.new.cpu.core ≡ length machine.old.cpu.core }
-    ensures count { length machine.new.sectors.links ≡ length machine.old.sectors.links }
-    ensures halt { machine.new.tasks.halt ≡ machine.old.tasks.halt }
-    ensures names { row_names machine.new.tasks.jobs ≡ row_names machine.old.tasks.jobs }
+    ensures keeps { Keeps machine.old machine.new }
     ensures tables { TablesStay result machine.old.tasks machine.new.tasks }
+    ensures device { DeviceAfterCalls B.holds B.size B.calls B.faults backing.old backing.new }
 {
-    match try_once(machine, paper) {
+    match try_once(machine, backing, paper) {
         Ok(Tried::Made) => Ok(Attempt::Made),
         Ok(Tried::Ends(ending)) => Ok(Attempt::Ends(ending)),
         Ok(Tried::Absent(_)) => Ok(Attempt::Ends(Ending::Faulted(Fault::InvalidOperator))),
@@ -83,11 +84,11 @@ fn with_code<B: Backing, K: Sink>(
     ensures tables { TablesStay result machine.old.tasks machine.new.tasks }
     ensures device { DeviceAfterCalls B.holds B.size B.calls B.faults backing.old backing.new }
 {
-    match try_once(machine, paper) {
+    match try_once(machine, backing, paper) {
         Ok(Tried::Made) => Ok(Attempt::Made),
         Ok(Tried::Ends(ending)) => Ok(Attempt::Ends(ending)),
         Ok(Tried::Absent(wanted)) => match bring_wanted(machine, backing, wanted) {
-            Ok(()) => last_try(machine, paper),
+            Ok(()) => last_try(machine, backing, paper),
             Err(stop) => Err(stop),
         },
         Err(stop) => Err(stop),
@@ -126,7 +127,7 @@ pub fn attempt<B: Backing, K: Sink>(
     ensures tables { TablesStay result machine.old.tasks machine.new.tasks }
     ensures device { DeviceAfterCalls B.holds B.size B.calls B.faults backing.old backing.new }
 {
-    match try_once(machine, paper) {
+    match try_once(machine, backing, paper) {
         Ok(Tried::Made) => Ok(Attempt::Made),
         Ok(Tried::Ends(ending)) => Ok(Attempt::Ends(ending)),
         Ok(Tried::Absent(wanted)) => match bring_wanted(machine, backing, wanted) {

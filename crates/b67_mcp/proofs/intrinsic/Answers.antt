@@ -59,3 +59,9 @@ returns-in-9-clause-present g c = λ x told plan s m t o h runs code called. c.p
 
 pub returns-in-10-clause-present : goal.returns-in-10-clause-present
 returns-in-10-clause-present g c = λ x told plan s m t o h runs code called. c.print_row.ensures.present x told plan s m t o h runs code (called ∙ ap Some c.in-10.is)
+
+pub returns-in-9-clause-causes : goal.returns-in-9-clause-causes
+returns-in-9-clause-causes g c = record { printer = c.print.ensures.cause; device = λ e. absurd (c.print.ensures.stops e) }
+
+pub returns-in-10-clause-causes : goal.returns-in-10-clause-causes
+returns-in-10-clause-causes g c = record { printer = c.print_row.ensures.cause; device = λ e. absurd (c.print_row.ensures.stops e) }
