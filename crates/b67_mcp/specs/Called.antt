@@ -93,9 +93,17 @@ TouchesPresent x plan m t = (n : ℕ) → touched_of m.constants m.progress.job 
 abbrev pub MayWrite : Storage → Placement → SessionJob → Task → Type 0
 MayWrite x plan m t = Lengthens m t × TouchesPresent x plan m t
 
+-- after every other answer the device is as it was
+abbrev pub CallWrites : Storage → Placement → SessionJob → Task → Result CallEnd Stop → Type 0
+CallWrites x plan m t (Ok ends.Done) = MayWrite x plan m t
+CallWrites x plan m t (Err (stops.BackingFull sum size)) = MayWrite x plan m t
+CallWrites x plan m t (Err stops.BackingFault) = MayWrite x plan m t
+CallWrites x plan m t answered = ⊥
+
 -- The call was to make an array longer, and isn't made: the machine stands for the same session. The array may be absent now,
 -- and everything else is held as it was
 pub record IsRefused (x : Storage) (told : Option (List (List ℕ))) (plan : Placement) (s : Session) (m : SessionJob) (t : Task) (old new : Machine) : Type 0 where
+  pub built : CallsBuilt m t
   pub longer : Lengthens m t
   pub storage : Storage
   pub stands : MachineRepresents storage told new plan s

@@ -10,7 +10,7 @@ mod running;
 
 ghost use Rattle.std.specs.Prelude.{◌≡◌, ◌+◌, length};
 ghost use Rattle.b67_layout_storage.specs.Machine.{Says, DeviceAfterCalls, content_after};
-ghost use Rattle.b67_mcp.specs.Called.{CallsSome, CallMeets, CallTouches, MayWrite, AreCountable};
+ghost use Rattle.b67_mcp.specs.Called.{CallsSome, CallMeets, CallTouches, CallWrites, AreCountable};
 ghost use Rattle.b67_mcp.specs.Answers.{end_of};
 ghost use Rattle.b67_mcp.specs.Running.{ForCalls, CallCauses, Kept};
 
@@ -43,7 +43,8 @@ fn silent(done: Result<(), Fault>) -> CallEnd
 /// exactly where the row touches an absent array. `Fault` changes nothing and prints nothing. `BackingFull`, only where
 /// the session that the call would make takes more sectors than the device has, with both, and `BackingFault`, only where
 /// the device failed, leave the machine for the same session. Where the call was made, faults, or is stopped, what its row
-/// touches is present. A call that makes no present array longer doesn't call the backing.
+/// touches is present. The backing is called only where the call makes a present array longer, and is made or stopped by the
+/// backing.
 pub fn intrinsic<B: Backing, K: Sink>(
     machine: &mut Machine,
     n: u8,
@@ -56,7 +57,7 @@ pub fn intrinsic<B: Backing, K: Sink>(
     ensures row { ForCalls machine.old n (λ x told plan s m t. Says told (B.holds backing.old)
         → CallMeets K.taken (content_after told (B.holds backing.new)) (B.size backing.old) x plan s m t n result machine.old machine.new paper.old paper.new) }
     ensures present { ForCalls machine.old n (λ x told plan s m t. CallTouches x plan m t result) }
-    ensures quiet { ForCalls machine.old n (λ x told plan s m t. (MayWrite x plan m t → ⊥) → backing.new ≡ backing.old) }
+    ensures quiet { ForCalls machine.old n (λ x told plan s m t. (CallWrites x plan m t result → ⊥) → backing.new ≡ backing.old) }
     ensures causes { CallCauses B.faults K.faults backing.old backing.new paper.old paper.new result }
     ensures kept { Kept machine.old machine.new }
     ensures device { DeviceAfterCalls B.holds B.size B.calls B.faults backing.old backing.new }

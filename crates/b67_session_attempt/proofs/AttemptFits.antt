@@ -145,11 +145,11 @@ module _ (x : Storage) (told : Option (List (List ℕ))) (plan : Placement) (s :
         by [] e low = omega (arith, low)
         by (line ∷ more) e low = absurd cc
 
-    pub stop_fits : {K : Type 0} (taken : K → Option (List ℕ)) (k new : Machine) (paper paper' : K) (n : ℕ) (stop : Stop) → MachineRepresents x told k plan s → code_area x plan m t ≢ None → called_in m t ≡ Some n
-        → CallMeets taken x told plan s m t n (Err stop) k new paper paper' → CallTouches x plan m t (Err stop) → TryFits (length k.cpu.core) s m t (Err stop)
-    stop_fits taken k new paper paper' n stops.PrintFault h code called meets touches =
+    pub stop_fits : {K : Type 0} (taken : K → Option (List ℕ)) (after : Option (List (List ℕ))) (count : ℕ) (k new : Machine) (paper paper' : K) (n : ℕ) (stop : Stop) → MachineRepresents x told k plan s → code_area x plan m t ≢ None → called_in m t ≡ Some n
+        → CallMeets taken after count x plan s m t n (Err stop) k new paper paper' → CallTouches x plan m t (Err stop) → TryFits (length k.cpu.core) s m t (Err stop)
+    stop_fits taken after count k new paper paper' n stops.PrintFault h code called meets touches =
         call_fits k n h code called (cut_built taken paper paper' n k.tasks.printed new.tasks.printed called meets.0) touches
-    stop_fits taken k new paper paper' n stops.Unbuilt h code called meets touches = tt
-    stop_fits taken k new paper paper' n (stops.NoCore need core) h code called meets touches = tt
-    stop_fits taken k new paper paper' n (stops.BackingFull sum sectors) h code called meets touches = tt
-    stop_fits taken k new paper paper' n stops.BackingFault h code called meets touches = tt
+    stop_fits taken after count k new paper paper' n stops.Unbuilt h code called meets touches = tt
+    stop_fits taken after count k new paper paper' n (stops.NoCore need core) h code called meets touches = tt
+    stop_fits taken after count k new paper paper' n (stops.BackingFull sum sectors) h code called meets touches = call_fits k n h code called meets.0.refused.built touches
+    stop_fits taken after count k new paper paper' n stops.BackingFault h code called meets touches = call_fits k n h code called meets.0.built touches

@@ -1,9 +1,9 @@
 -- A machine of which a ready task runs; and causes of what two calls answered.
-use Rattle.std.proofs.Common.{◌≡◌, ℕ, ◌≤◌, List, Option, Result, Err, arith, ap}
+use Rattle.std.proofs.Common.{◌≡◌, ℕ, ◌≤◌, List, Option, Result, Ok, Err, arith, ap}
 use Rattle.b67_io.specs.Causes.{Rose}
 use Rattle.b67_mcp.specs.declared.ends.Stop.{Stop}
-use Rattle.b67_mcp.specs.declared.ends.Stop.TheVariants.{PrintFault}
-use Rattle.b67_mcp.specs.Running.{IsHeard}
+use Rattle.b67_mcp.specs.declared.ends.Stop.TheVariants.{BackingFault, PrintFault}
+use Rattle.b67_mcp.specs.Running.{CallCauses}
 use Rattle.b67_task_tables.specs.declared.tables.Machine.{Machine}
 use Rattle.b67_session_attempt.specs.Tries.{ReadyRuns}
 use Rattle.b67_session_attempt.specs.Attempts.{RunsOver}
@@ -29,9 +29,20 @@ pub rose_later : {D : Type 0} (faults : D → ℕ) (old mid new : D) → faults 
 rose_later faults old mid new a b = omega (arith, a, b)
 
 -- a stop of another call
-pub heard_stop : {K A B : Type 0} (faults : K → ℕ) (old new : K) (stop : Stop) → IsHeard {A = A} faults old new (Err stop) → IsHeard {A = B} faults old new (Err stop)
-heard_stop {K} {A} {B} faults old new stop h = record { later = h.later; failed = λ e. let is : stop ≡ PrintFault = (let d = e in cc) in h.failed (ap Err is) }
+pub caused_stop : {B K A C : Type 0} (failed : B → ℕ) (unprinted : K → ℕ) (old new : B) (paper paper' : K) (stop : Stop) → CallCauses {A = A} failed unprinted old new paper paper' (Err stop) → CallCauses {A = C} failed unprinted old new paper paper' (Err stop)
+caused_stop {B} {K} {A} {C} failed unprinted old new paper paper' stop h = record {
+  printer = record { later = h.printer.later; failed = λ e. let is : stop ≡ PrintFault = (let d = e in cc) in h.printer.failed (ap Err is) };
+  device = λ e. let is : stop ≡ BackingFault = (let d = e in cc) in h.device (ap Err is);
+}
 
--- what was heard in a second call
-pub heard_later : {K A : Type 0} (faults : K → ℕ) (old mid new : K) (answered : Result A Stop) → faults old ≤ faults mid → IsHeard faults mid new answered → IsHeard faults old new answered
-heard_later faults old mid new answered a h = record { later = omega (arith, a, h.later); failed = λ e. rose_later faults old mid new a (h.failed e) }
+-- no stop
+pub caused_none : {B K A : Type 0} (failed : B → ℕ) (unprinted : K → ℕ) (old new : B) (paper paper' : K) (made : A) → unprinted paper ≤ unprinted paper' → CallCauses failed unprinted old new paper paper' (Ok made)
+caused_none failed unprinted old new paper paper' made later = record { printer = record { later = later; failed = λ e. absurd cc }; device = λ e. absurd cc }
+
+-- what a second call has caused
+pub caused_later : {B K A : Type 0} (failed : B → ℕ) (unprinted : K → ℕ) (old mid new : B) (paper first paper' : K) (answered : Result A Stop) → failed old ≤ failed mid → unprinted paper ≤ unprinted first
+    → CallCauses failed unprinted mid new first paper' answered → CallCauses failed unprinted old new paper paper' answered
+caused_later failed unprinted old mid new paper first paper' answered a b h = record {
+  printer = record { later = (let c = h.printer.later in omega (arith, b, c)); failed = λ e. rose_later unprinted paper first paper' b (h.printer.failed e) };
+  device = λ e. rose_later failed old mid new a (h.device e);
+}

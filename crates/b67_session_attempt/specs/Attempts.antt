@@ -1,6 +1,5 @@
 -- What the next operator of the running task answers and leaves, with what it wants brought into core.
 use Rattle.std.specs.Prelude.{◌≡◌, ◌≢◌, ℕ, ◌<◌, ◌≤◌, ◌⊎◌, List, Option, Some, None, Result, Ok, Err}
-use Rattle.b67_io.specs.Causes.{Rose}
 use Rattle.b67_model.specs.State.{Ready, Task, SessionJob}
 use Rattle.b67_model.specs.Sectors.{sectors}
 use Rattle.b67_model.specs.Need.{touched_of, need}
@@ -19,7 +18,6 @@ use Rattle.b67_task_tables.specs.declared.tables.Machine.{Machine}
 use Rattle.b67_task_tables.specs.declared.tables.Tasks.{Tasks}
 use Rattle.b67_task_tables.specs.Tables.{MachineRepresents}
 use Rattle.b67_mcp.specs.Called.{IsBuilt, IsCalled, IsCut, IsShortAt, Lengthens}
-use Rattle.b67_mcp.specs.Running.{IsHeard}
 use Rattle.b67_mcp.specs.declared.ends.Stop.{Stop}
 use Rattle.b67_mcp.specs.declared.ends.Stop.TheVariants as stops
 use Rattle.b67_session_attempt.specs.declared.attempts.Attempt.{Attempt}
@@ -37,6 +35,12 @@ pub record RunsOver (k : Machine) (told : Option (List (List ℕ))) : Type 0 whe
   pub stands : StandsOver storage told k plan session
   pub running : IsRunning plan session.jobs member task
   pub ready : task.condition ≡ Ready
+
+-- for each session in order that the machine stands for over a device that tells this, of which a ready task runs
+abbrev pub ForEachOver : Machine → Option (List (List ℕ)) → (Storage → Placement → Session → SessionJob → Task → Type 0) → Type 0
+ForEachOver k told P =
+    (x : Storage) (plan : Placement) (s : Session) (m : SessionJob) (t : Task) → IsInOrderButCounts s → StandsOver x told k plan s → IsRunning plan s.jobs m t → t.condition ≡ Ready
+    → P x plan s m t
 
 -- the machine stands for the session, in some storage
 abbrev pub StillStands : Option (List (List ℕ)) → Machine → Placement → Session → Type 0
@@ -108,8 +112,3 @@ TablesStay (Ok attempts.Made) old new = Unit {0}
 TablesStay (Ok (attempts.Ends ending)) old new = new ≡ old
 TablesStay (Err stops.PrintFault) old new = new ≡ record old { printed = new.printed }
 TablesStay (Err stop) old new = new ≡ old
-
--- the device's count of failures has risen where it failed; so has the printer's, which never falls
-pub record HaveCauses {B K : Type 0} (failed : B → ℕ) (unprinted : K → ℕ) (backing backing' : B) (paper paper' : K) (answered : Result Attempt Stop) : Type 0 where
-  pub device : answered ≡ Err stops.BackingFault → Rose failed backing backing'
-  pub printer : IsHeard unprinted paper paper' answered

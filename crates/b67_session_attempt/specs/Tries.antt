@@ -1,5 +1,5 @@
 -- What one try at the next operator of the running task answers and leaves.
-use Rattle.std.specs.Prelude.{◌≡◌, ◌≢◌, ℕ, ◌≤◌, List, length, Option, Some, None, Result, Ok, Err}
+use Rattle.std.specs.Prelude.{◌≡◌, ℕ, ◌≤◌, List, length, Option, Some, Result, Ok, Err}
 use Rattle.b67_word.specs.declared.faults.Ending.{Ending}
 use Rattle.b67_word.specs.declared.faults.Ending.TheVariants.{Ended, Faulted}
 use Rattle.b67_lemmas.specs.Lists.{Has}
@@ -12,7 +12,6 @@ use Rattle.b67_stack.specs.declared.What.{What}
 use Rattle.b67_stack.specs.declared.What.TheVariants as what
 use Rattle.b67_stack.specs.Represents.{Storage}
 use Rattle.b67_layout.specs.Placement.{Placement}
-use Rattle.b67_exec_cells.specs.Running.{code_area}
 use Rattle.b67_exec_cells.specs.Called.{called_in}
 use Rattle.b67_presence.specs.Bringing.{IsWanted}
 use Rattle.b67_task_tables.specs.declared.tables.Machine.{Machine}
@@ -55,9 +54,12 @@ TryMeets taken told count x plan s m t (Err stops.BackingFault) old new paper pa
 TryMeets taken told count x plan s m t (Err stops.Unbuilt) old new paper paper' = (n : ℕ) × (called_in m t ≡ Some n) × (IsBuilt n → ⊥) × (new ≡ old) × (paper' ≡ paper)
 TryMeets taken told count x plan s m t (Err (stops.NoCore words size)) old new paper paper' = ⊥
 
--- the call at the running place may write to the device
-abbrev pub WritesNow : Storage → Placement → SessionJob → Task → Type 0
-WritesNow x plan m t = (code_area x plan m t ≢ None) × MayWrite x plan m t
+-- after every other answer the device is as it was
+abbrev pub TryWrites : Storage → Placement → SessionJob → Task → Result Tried Stop → Type 0
+TryWrites x plan m t (Ok tries.Made) = MayWrite x plan m t
+TryWrites x plan m t (Err (stops.BackingFull sum size)) = MayWrite x plan m t
+TryWrites x plan m t (Err stops.BackingFault) = MayWrite x plan m t
+TryWrites x plan m t answered = ⊥
 
 -- a step that was made, ends its task, or was stopped by the printer or the device needs no more words than core has
 abbrev pub TryFits : ℕ → Session → SessionJob → Task → Result Tried Stop → Type 0

@@ -6,7 +6,7 @@ ghost use Rattle.b67_task_tables.specs.Runs.{Keeps};
 ghost use Rattle.b67_mcp.specs.Called.{AreCountable};
 ghost use Rattle.b67_mcp.specs.Running.{CallCauses};
 ghost use Rattle.b67_session_attempt.specs.Makes.{ForEachReady};
-ghost use Rattle.b67_session_attempt.specs.Tries.{ReadyRuns, TryMeets, TryFits, WritesNow};
+ghost use Rattle.b67_session_attempt.specs.Tries.{ReadyRuns, TryMeets, TryFits, TryWrites};
 
 use crate::making::make;
 use b67_backing::Backing;
@@ -29,7 +29,7 @@ pub enum Tried {
 /// that were taken, which aren't all, only where the printer failed. `BackingFull`, only where the session that the call would
 /// make takes more sectors than the device has, with both, and `BackingFault`, only where the device failed, leave the
 /// machine for the same session. A step that was made, ends its task, or was stopped by either of the two needs no more words
-/// than core has. An operator that makes no present array longer doesn't call the backing.
+/// than core has. The backing is called only where a call makes a present array longer, and is made or stopped by the backing.
 #[inline(always)]
 pub fn try_once<B: Backing, K: Sink>(
     machine: &mut Machine,
@@ -42,7 +42,7 @@ pub fn try_once<B: Backing, K: Sink>(
     ensures row { ForEachReady machine.old (λ x told plan s m t. Says told (B.holds backing.old)
         → TryMeets K.taken (content_after told (B.holds backing.new)) (B.size backing.old) x plan s m t result machine.old machine.new paper.old paper.new) }
     ensures fits { ForEachReady machine.old (λ x told plan s m t. TryFits (length machine.old.cpu.core) s m t result) }
-    ensures quiet { ForEachReady machine.old (λ x told plan s m t. (WritesNow x plan m t → ⊥) → backing.new ≡ backing.old) }
+    ensures quiet { ForEachReady machine.old (λ x told plan s m t. (TryWrites x plan m t result → ⊥) → backing.new ≡ backing.old) }
     ensures causes { CallCauses B.faults K.faults backing.old backing.new paper.old paper.new result }
     ensures countable { AreCountable machine.new.tasks.jobs }
     ensures keeps { Keeps machine.old machine.new }
