@@ -19,7 +19,7 @@ use Rattle.b67_layout_step.proofs.OtherNumbers.{others_in_order}
 use Rattle.b67_task_tables.specs.declared.tables.Machine.{Machine}
 use Rattle.b67_task_tables.specs.declared.tables.Tasks.{Tasks}
 use Rattle.b67_task_tables.specs.Tables.{MachineRepresents}
-use Rattle.b67_mcp.specs.Called.{OnlyPrinted, IsRefused}
+use Rattle.b67_mcp.specs.Called.{OnlyPrinted, IsRefused, Lengthens}
 use Rattle.b67_mcp.proofs.Told.{told_is}
 use Rattle.b67_mcp.specs.declared.ends.Stop.{Stop}
 use Rattle.b67_mcp.specs.declared.ends.Stop.TheVariants as stops
@@ -157,6 +157,14 @@ room_after_stop core x plan s m t (stops.BackingFull sum size) fits = λ code. f
 room_after_stop core x plan s m t stops.BackingFault fits = λ code. fits
 room_after_stop core x plan s m t stops.PrintFault fits = fits
 room_after_stop core x plan s m t stops.Unbuilt fits = tt
+
+-- a stop after which the device may have been written
+pub stop_longer : (x : Storage) (plan : Placement) (m : SessionJob) (t : Task) (stop : Stop) → TryWrites x plan m t (Err stop) → Lengthens m t
+stop_longer x plan m t (stops.NoCore words size) w = absurd w
+stop_longer x plan m t (stops.BackingFull sum size) w = w.0
+stop_longer x plan m t stops.BackingFault w = w.0
+stop_longer x plan m t stops.PrintFault w = absurd w
+stop_longer x plan m t stops.Unbuilt w = absurd w
 
 -- and where what was wanted wasn't brought in
 pub room_after_want : (core size : ℕ) (x : Storage) (plan : Placement) (s : Session) (m : SessionJob) (t : Task) (stop : Stop) → size ≡ core → stop ≢ stops.PrintFault → BroughtFits size x plan s m t (Err stop) → AttemptFits core x plan s m t (Err stop)

@@ -1,5 +1,5 @@
 -- A machine of which a ready task runs; and causes of what two calls answered.
-use Rattle.std.proofs.Common.{◌≡◌, ℕ, ◌≤◌, List, Option, Result, Ok, Err, arith, ap}
+use Rattle.std.proofs.Common.{◌≡◌, ◌≢◌, ℕ, ◌≤◌, List, Option, Result, Ok, Err, arith, ap}
 use Rattle.b67_io.specs.Causes.{Rose}
 use Rattle.b67_mcp.specs.declared.ends.Stop.{Stop}
 use Rattle.b67_mcp.specs.declared.ends.Stop.TheVariants.{BackingFault, PrintFault}
@@ -38,6 +38,14 @@ caused_stop {B} {K} {A} {C} failed unprinted old new paper paper' stop h = recor
 -- no stop
 pub caused_none : {B K A : Type 0} (failed : B → ℕ) (unprinted : K → ℕ) (old new : B) (paper paper' : K) (made : A) → unprinted paper ≤ unprinted paper' → CallCauses failed unprinted old new paper paper' (Ok made)
 caused_none failed unprinted old new paper paper' made later = record { printer = record { later = later; failed = λ e. absurd cc }; device = λ e. absurd cc }
+
+-- what wasn't brought in after a first call
+pub caused_want : {B K A C : Type 0} (failed : B → ℕ) (unprinted : K → ℕ) (old mid new : B) (paper paper' : K) (stop : Stop) → failed old ≤ failed mid → unprinted paper ≤ unprinted paper'
+    → (Err {A = A} stop ≡ Err BackingFault → Rose failed mid new) → Err {A = A} stop ≢ Err PrintFault → CallCauses {A = C} failed unprinted old new paper paper' (Err stop)
+caused_want {B} {K} {A} {C} failed unprinted old mid new paper paper' stop a later cause silent = record {
+  printer = record { later = later; failed = λ e. let is : stop ≡ PrintFault = (let d = e in cc) in absurd (silent (ap Err is)) };
+  device = λ e. let is : stop ≡ BackingFault = (let d = e in cc) in rose_later failed old mid new a (cause (ap Err is));
+}
 
 -- what a second call has caused
 pub caused_later : {B K A : Type 0} (failed : B → ℕ) (unprinted : K → ℕ) (old mid new : B) (paper first paper' : K) (answered : Result A Stop) → failed old ≤ failed mid → unprinted paper ≤ unprinted first
