@@ -1,10 +1,13 @@
 -- A machine of which a ready task runs; and causes of what two calls answered.
-use Rattle.std.proofs.Common.{◌≡◌, ◌≢◌, ℕ, ◌≤◌, List, Option, Result, Ok, Err, arith, ap}
+use Rattle.std.proofs.Common.{◌≡◌, ◌≢◌, ℕ, ◌≤◌, List, length, Option, Result, Ok, Err, sym, ◌∙◌, arith, ap, subst}
 use Rattle.b67_io.specs.Causes.{Rose}
 use Rattle.b67_mcp.specs.declared.ends.Stop.{Stop}
 use Rattle.b67_mcp.specs.declared.ends.Stop.TheVariants.{BackingFault, PrintFault}
-use Rattle.b67_mcp.specs.Running.{CallCauses}
+use Rattle.b67_mcp.specs.Called.{AreCountable}
+use Rattle.b67_mcp.specs.Running.{CallCauses, Kept}
 use Rattle.b67_task_tables.specs.declared.tables.Machine.{Machine}
+use Rattle.b67_task_tables.specs.declared.tables.Tasks.{Tasks}
+use Rattle.b67_task_tables.specs.Tables.{row_names}
 use Rattle.b67_session_attempt.specs.Tries.{ReadyRuns}
 use Rattle.b67_session_attempt.specs.Attempts.{RunsOver}
 
@@ -53,4 +56,23 @@ pub caused_later : {B K A : Type 0} (failed : B → ℕ) (unprinted : K → ℕ)
 caused_later failed unprinted old mid new paper first paper' answered a b h = record {
   printer = record { later = (let c = h.printer.later in omega (arith, b, c)); failed = λ e. rose_later unprinted paper first paper' b (h.printer.failed e) };
   device = λ e. rose_later failed old mid new a (h.device e);
+}
+
+-- what two calls keep, one after the other
+pub kept_then : (old mid new : Machine) → Kept old mid → Kept mid new → Kept old new
+kept_then old mid new a b = record {
+  countable = λ few. b.countable (a.countable few);
+  keeps = record {
+    core = b.keeps.core ∙ a.keeps.core;
+    sectors = b.keeps.sectors ∙ a.keeps.sectors;
+    halt = b.keeps.halt ∙ a.keeps.halt;
+    names = b.keeps.names ∙ a.keeps.names;
+  };
+}
+
+-- and one that leaves the tables
+pub kept_tasks : (old new : Machine) → new.tasks ≡ old.tasks → length new.cpu.core ≡ length old.cpu.core → length new.sectors.links ≡ length old.sectors.links → Kept old new
+kept_tasks old new tasks core sectors = record {
+  countable = λ few. subst (λ (z : Tasks). AreCountable z.jobs) (sym tasks) few;
+  keeps = record { core = core; sectors = sectors; halt = ap (λ (z : Tasks). z.halt) tasks; names = ap (λ (z : Tasks). row_names z.jobs) tasks };
 }

@@ -1,12 +1,12 @@
 use Rattle.std.proofs.Common.{◌≢◌, ◌∙◌, None, Err, refl, ap, arith, length}
 use Rattle.b67_layout_storage.specs.Machine.{content_after}
-use Rattle.b67_layout_storage.proofs.Devices.{still_tells}
+use Rattle.b67_layout_storage.proofs.Devices.{still_tells, Served-then}
 use Rattle.b67_task_tables.specs.declared.tables.Machine.{Machine}
 use Rattle.b67_task_tables.specs.declared.tables.Tasks.{Tasks}
 use Rattle.b67_session_attempt.specs.declared.attempts.Attempt.TheVariants.{Made, Ends}
 use Rattle.b67_session_attempt.specs.Brought.{WantsNothing}
 use Rattle.b67_session_attempt.proofs.Composed.{made_once, ends_once, stops_once, unchanged_over, goes_on_telling, stopped_attempt, runs_over, wants_some, tables_after_end, tables_after_want, tables_after_stop, tables_stay, tables_from, room_after_stop, attempt_as, same_needs, still_told, other, in_order, then_on, room_after_want, wants_nothing}
-use Rattle.b67_session_attempt.proofs.Runs.{ready_over, caused_none, caused_stop, caused_want, caused_later}
+use Rattle.b67_session_attempt.proofs.Runs.{ready_over, caused_none, caused_stop, caused_want, caused_later, kept_then, kept_tasks}
 use Rattle.b67_session_attempt.proofs.attempting.with_code.Goals as goal
 
 pub try_once-requires-clause-runs : goal.try_once-requires-clause-runs
@@ -169,3 +169,22 @@ returns-in-Ok-clause-tables g c =
     let same = tables_after_want g.K.Sink.taken (content_after r.storage.device (B.holds c.try_once.new.backing)) (B.size c.args.backing.now) r.storage r.plan r.session r.member r.task c.args.machine.now c.try_once.new.machine c.args.paper.now c.try_once.new.paper c.in-Ok-Absent.wanted
     ((rw c.in-Ok-Absent.field-0-is at c.in-Ok-Absent.ensures.row) r.storage r.storage.device r.plan r.session r.member r.task r.ordered r.stands.stands r.running r.ready r.stands.says) in
     tables_from c.last_try.result c.args.machine.now.tasks c.bring_wanted.new.machine.tasks c.last_try.new.machine.tasks (c.bring_wanted.ensures.tasks ∙ same) c.last_try.ensures.tables
+
+pub returns-in-Err-bring_wanted-clause-kept : goal.returns-in-Err-bring_wanted-clause-kept
+returns-in-Err-bring_wanted-clause-kept g c = kept_then c.args.machine.now c.try_once.new.machine c.bring_wanted.new.machine (record { countable = λ k. c.try_once.ensures.countable; keeps = c.try_once.ensures.keeps }) (kept_tasks c.try_once.new.machine c.bring_wanted.new.machine c.bring_wanted.ensures.tasks c.bring_wanted.ensures.len c.bring_wanted.ensures.count)
+
+pub returns-in-Ok-clause-kept : goal.returns-in-Ok-clause-kept
+returns-in-Ok-clause-kept g c =
+    kept_then c.args.machine.now c.try_once.new.machine c.last_try.new.machine (record { countable = λ k. c.try_once.ensures.countable; keeps = c.try_once.ensures.keeps })
+    (kept_then c.try_once.new.machine c.bring_wanted.new.machine c.last_try.new.machine (kept_tasks c.try_once.new.machine c.bring_wanted.new.machine c.bring_wanted.ensures.tasks c.bring_wanted.ensures.len c.bring_wanted.ensures.count) c.last_try.ensures.kept)
+
+pub returns-in-Err-bring_wanted-clause-device : goal.returns-in-Err-bring_wanted-clause-device
+returns-in-Err-bring_wanted-clause-device g c =
+    let B = g.B.Backing in
+    Served-then B.holds B.size B.calls B.faults c.args.backing.now c.try_once.new.backing c.bring_wanted.new.backing c.try_once.ensures.device c.bring_wanted.ensures.device
+
+pub returns-in-Ok-clause-device : goal.returns-in-Ok-clause-device
+returns-in-Ok-clause-device g c =
+    let B = g.B.Backing in
+    Served-then B.holds B.size B.calls B.faults c.args.backing.now c.try_once.new.backing c.last_try.new.backing c.try_once.ensures.device
+    (Served-then B.holds B.size B.calls B.faults c.try_once.new.backing c.bring_wanted.new.backing c.last_try.new.backing c.bring_wanted.ensures.device c.last_try.ensures.device)
