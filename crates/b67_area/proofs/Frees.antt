@@ -142,13 +142,13 @@ hole_below low (Area a ∷ ds) h s e = absurd (omega (arith, link_room-end low d
 hole_below low (Hole n ∷ ds) h s e = (n, ds, refl)
 
 module _ (core : List Tagged) (low : ℕ) (ss : List Span) (address : ℕ) (a : Info) (v : Vacancy) (d : IsDirectory core low ss) (t : Leaves low ss address a v) where
-  opened_here : Below core low t.below × Laid core (link_place low t.below) (link_high t.below) (top low t.below) (Area a ∷ t.above)
+  pub opened_here : Below core low t.below × Laid core (link_place low t.below) (link_high t.below) (top low t.below) (Area a ∷ t.above)
   opened_here = opened core low t.below (Area a ∷ t.above) (rw t.is at d.laid)
 
-  spans_here : AreSpans t.below × AreSpans (Area a ∷ t.above) × Meet t.below (Area a ∷ t.above)
+  pub spans_here : AreSpans t.below × AreSpans (Area a ∷ t.above) × Meet t.below (Area a ∷ t.above)
   spans_here = spans_opened t.below (Area a ∷ t.above) (rw t.is at d.spans)
 
-  facts : Vacates core v
+  pub facts : Vacates core v
   facts = vacates core low ss address a v d t
 
   gone : without low address ss ≡ rejoin t.below (Hole v.size ∷ behind t.above)
@@ -157,19 +157,19 @@ module _ (core : List Tagged) (low : ℕ) (ss : List Span) (address : ℕ) (a : 
       ap (without low address) t.is ∙ without-unzip low t.below (Area a ∷ t.above) address (omega arith) spans_here.0
       ∙ ap (rejoin t.below) (cond-true (top low t.below + 1 == address) _ _ (eq-eqb (top low t.below + 1) address here) ∙ join-front (a.words + 2) t.above ∙ ap (λ (k : ℕ). Hole k ∷ behind t.above) (sym t.size))
 
-  place_below : (v.before ≡ 152) ⊎ (low ≤ v.before)
+  pub place_below : (v.before ≡ 152) ⊎ (low ≤ v.before)
   place_below = rw t.before (link_place_low low t.below d.above spans_here.0).1
 
-  z : top low t.below + (a.words + 2) + front t.above ≡ v.at + v.size
+  pub z : top low t.below + (a.words + 2) + front t.above ≡ v.at + v.size
   z = omega (arith, t.size, t.at_is)
 
-  rest_laid : (b : ℕ) × (h : ℕ) × Laid core b h (v.at + v.size) (behind t.above)
+  pub rest_laid : (b : ℕ) × (h : ℕ) × Laid core b h (v.at + v.size) (behind t.above)
   rest_laid = let r = behind_laid core (link_place low t.below) (link_high t.below) (top low t.below + (a.words + 2)) t.above opened_here.1.2 in (r.0, r.1, rw z at r.2)
 
-  rest_spans : NoHole (behind t.above) × AreSpans (behind t.above)
+  pub rest_spans : NoHole (behind t.above) × AreSpans (behind t.above)
   rest_spans = NoHole-behind t.above spans_here.1.1
 
-  rest_end : end (v.at + v.size) (behind t.above) ≡ length core
+  pub rest_end : end (v.at + v.size) (behind t.above) ≡ length core
   rest_end =
       let all : end (top low t.below + (a.words + 2)) t.above ≡ length core = sym (end-unzip low t.below (Area a ∷ t.above)) ∙ rw t.is at d.all in
       let i : IsAbove core (link_place low t.below) (link_high t.below) (top low t.below + (a.words + 2)) t.above = record { laid = opened_here.1.2; spans = spans_here.1.1; ends = all; small = d.small; some = omega arith } in

@@ -2,7 +2,7 @@
 
 ghost use Rattle.std.specs.Prelude.{◌≡◌, ◌≢◌, ◌⊎◌, ℕ, ◌+◌, ◌-◌, ◌^◌, ◌<◌, ◌≤◌, Some, None, IfSome, IfNone, List, [], length, slice_get};
 ghost use Rattle.b67_area.specs.declared.kinds.Info.{Info};
-ghost use Rattle.b67_area.specs.Spans.{Span, spot, fill, address, fresh, without, area_at, first_area, area_after, keeping, with_kept, cut, left, over, but, InHole};
+ghost use Rattle.b67_area.specs.Spans.{Span, spot, fill, address, fresh, without, area_at, first_area, area_after, keeping, with_kept, shortened, with_words, cut, left, over, but, InHole};
 ghost use Rattle.b67_area.specs.Directory.{IsDirectory, OnlyHoles};
 
 use crate::chain::{leave, link_of, linked, room_of};
@@ -77,6 +77,30 @@ impl Areas {
         } else {
             leave(core, v.before, v.at, v.size, v.next);
         }
+    }
+
+    /// Leaves an area only its first words. They stay in place, and so do its kind, its owner and the sector that it keeps.
+    /// The words after its new tail become a hole, one with the hole behind it.
+    pub fn shrink(&mut self, core: &mut Core, address: u32, words: u32)
+        requires some { 1 ≤ words }
+        requires area { (ss : List Span) × (a : Info) × IsDirectory core.old self.old.low ss × (area_at self.old.low ss address ≡ Some a) × (words ≤ a.words) }
+        ensures same { self.new ≡ self.old }
+        ensures row { (ss : List Span) (a : Info) → IsDirectory core.old self.old.low ss → area_at self.old.low ss address ≡ Some a
+            → IsDirectory core.new self.old.low (shortened self.old.low address words ss) }
+        ensures outside { (ss : List Span) (a : Info) → IsDirectory core.old self.old.low ss → area_at self.old.low ss address ≡ Some a
+            → (i : ℕ) → i ≢ 152 → i + 1 ≢ address → i ≢ address + words → (InHole self.old.low (shortened self.old.low address words ss) i → ⊥)
+            → slice_get core.new i ≡ slice_get core.old i }
+        ensures areas { (ss : List Span) (a : Info) (x : ℕ) → IsDirectory core.old self.old.low ss → area_at self.old.low ss address ≡ Some a
+            → area_at self.old.low (shortened self.old.low address words ss) x ≡ with_words address words x (area_at self.old.low ss x) }
+        ensures len { length core.new ≡ length core.old }
+    {
+        let whole = info_at(core, address - 1);
+        let v = vacated(core, address);
+        let a = Info { words, ..whole };
+        let taken = words + 2;
+        leave(core, v.before, v.at + taken, v.size - taken, v.next);
+        core.set(v.at, a.head());
+        core.set(v.at + (words + 1), a.tail());
     }
 
     /// What is known of an area.

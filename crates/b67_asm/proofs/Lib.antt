@@ -4,3 +4,4 @@ pub mod Laid
 pub mod Taking
 pub mod Parts
 pub mod Program
+pub mod Entries

@@ -1,10 +1,12 @@
--- What is known while code is written.
-use Rattle.std.specs.Prelude.{◌≡◌, ◌≤◌, ◌<◌, ◌+◌, ◌*◌, ℕ, List, [], ◌++◌, length, Result, Ok, Err, ⊤}
+-- What is known while the code and the entries of a segment are written.
+use Rattle.std.specs.Prelude.{◌≡◌, ◌≤◌, ◌<◌, ◌+◌, ◌*◌, ℕ, List, [], ◌∷◌, ◌++◌, map, length, Result, Ok, Err, ⊤, if◌then◌else◌}
 use Rattle.std.specs.List.{AllByRecursion}
 use Rattle.b67_word.specs.Tagged.{Tagged, contents}
 use Rattle.b67_codefile.specs.Spelling.{HasTag}
 use Rattle.b67_model.specs.declared.operators.Op.{Op}
 use Rattle.b67_model_text.specs.declared.assembly.Line.{Line}
+use Rattle.b67_model_text.specs.declared.assembly.Statement as statement
+use Rattle.b67_model_text.specs.declared.assembly.Statement.TheVariants as statements
 use Rattle.b67_model_text.specs.Answers.{Answer, ◌>>=◌}
 use Rattle.b67_model_text.specs.Deck.{Refusal}
 use Rattle.b67_model_text.specs.Encoding.{laid_one, laid, filling, packed}
@@ -13,6 +15,7 @@ use Rattle.b67_asm.specs.declared.fault.AsmFault.{AsmFault}
 use Rattle.b67_asm.specs.declared.fault.AsmFault.TheVariants as faults
 use Rattle.b67_asm.specs.declared.fault.Refused.{Refused}
 use Rattle.b67_asm.specs.declared.fault.Refused.TheVariants.{Reason, Memory}
+use Rattle.b67_asm.specs.declared.segment.Coded.{Coded}
 
 -- the operator is written behind the syllables, or the card is refused
 abbrev pub OperatorPut : Result ⊤ Refused → Answer Op → List ℕ → List ℕ → Type 0
@@ -20,19 +23,54 @@ OperatorPut (Ok done) answer old new = (op : Op) × (answer ≡ Ok op) × (new �
 OperatorPut (Err (Reason r)) answer old new = answer ≡ Err r
 OperatorPut (Err Memory) answer old new = Unit {0}
 
-abbrev pub line_operator : asm.Scope → ℕ → Line → Answer Op
-line_operator x n l = l.says >>= asm.operator_of x n
+-- the entry is put among the others, or the card is refused
+abbrev pub EntryPut : Result ⊤ Refused → Answer asm.Added → List ℕ → List ℕ → Type 0
+EntryPut (Ok done) answer old new = (n : ℕ) × (answer ≡ Ok (asm.AddedEntry n)) × (new ≡ asm.in_order n old)
+EntryPut (Err (Reason r)) answer old new = answer ≡ Err r
+EntryPut (Err Memory) answer old new = Unit {0}
 
--- the syllables of operators behind these
-abbrev pub syllables_behind : List ℕ → Result (List Op) Refusal → Result (List ℕ) Refusal
-syllables_behind out (Ok ops) = Ok (out ++ laid (length out) ops)
-syllables_behind out (Err refusal) = Err refusal
+-- the syllables that a card adds from syllable n on
+abbrev pub laid_added : ℕ → asm.Added → List ℕ
+laid_added n (asm.AddedOperator op) = laid_one n op
+laid_added n (asm.AddedEntry m) = []
 
--- all operators are written, or this is the first refused card
-abbrev pub OperatorsPut : Result ⊤ AsmFault → Result (List ℕ) Refusal → ℕ → List ℕ → Type 0
-OperatorsPut (Ok done) answer count out = (answer ≡ Ok (out ++ filling (length out))) × (length out ≤ 6 * 8191) × (count ≤ length out)
-OperatorsPut (Err (faults.Card card reason)) answer count out = answer ≡ Err (record { card = card; reason = reason })
-OperatorsPut (Err faults.Memory) answer count out = Unit {0}
+-- the least that a card adds to the code that it is written to
+abbrev pub least : statement.Statement → ℕ
+least (statements.Entry label) = 0
+least _ = 1
+
+-- what a card adds is written, or it is refused
+abbrev pub AddedPut : Result ⊤ Refused → Answer asm.Added → statement.Statement → (old new : List ℕ) (entries entries' : List ℕ) → Type 0
+AddedPut (Ok done) answer s old new entries entries' = (added : asm.Added) × (answer ≡ Ok added) × (new ≡ old ++ laid_added (length old) added) × (entries' ≡ asm.entries_behind entries added) × (length new ≤ 6 * 8191) × (length old + least s ≤ length new)
+AddedPut (Err (Reason r)) answer s old new entries entries' = answer ≡ Err r
+AddedPut (Err Memory) answer s old new entries entries' = Unit {0}
+
+abbrev pub line_added : asm.Scope → ℕ → List ℕ → Line → Answer asm.Added
+line_added x n entries l = l.says >>= asm.added_by x n entries
+
+abbrev pub code_weight : Line → ℕ
+code_weight l = if asm.is_code l then 1 else 0
+
+-- how many cards a segment gets beside its ENTRY cards
+abbrev pub code_count : List Line → ℕ
+code_count [] = 0
+code_count (l ∷ more) = code_weight l + code_count more
+
+abbrev pub LinePut : Result ⊤ Refused → Answer asm.Added → Line → (old new : List ℕ) (entries entries' : List ℕ) → Type 0
+LinePut (Ok done) answer l old new entries entries' = (added : asm.Added) × (answer ≡ Ok added) × (new ≡ old ++ laid_added (length old) added) × (entries' ≡ asm.entries_behind entries added) × (length new ≤ 6 * 8191) × (length old + code_weight l ≤ length new)
+LinePut (Err (Reason r)) answer l old new entries entries' = answer ≡ Err r
+LinePut (Err Memory) answer l old new entries entries' = Unit {0}
+
+-- the syllables of a segment behind these, and its entries
+abbrev pub put_behind : List ℕ → Result asm.Content Refusal → Result (List ℕ × List ℕ) Refusal
+put_behind out (Ok content) = Ok (out ++ laid (length out) content.operators, content.entries)
+put_behind out (Err refusal) = Err refusal
+
+-- all cards are written, or this is the first refused card
+abbrev pub ContentPut : Result ⊤ AsmFault → Result (List ℕ × List ℕ) Refusal → ℕ → (out entries : List ℕ) → Type 0
+ContentPut (Ok done) answer count out entries = (answer ≡ Ok (out ++ filling (length out), entries)) × (length out ≤ 6 * 8191) × (count ≤ length out)
+ContentPut (Err (faults.Card card reason)) answer count out entries = answer ≡ Err (record { card = card; reason = reason })
+ContentPut (Err faults.Memory) answer count out entries = Unit {0}
 
 -- the code of these syllables
 pub record IsCode (words : List Tagged) (syllables : List ℕ) (count : ℕ) : Type 0 where
@@ -41,7 +79,7 @@ pub record IsCode (words : List Tagged) (syllables : List ℕ) (count : ℕ) : T
   pub few : length words ≤ 8191
   pub some : 1 ≤ count → 1 ≤ length words
 
-abbrev pub CodePut : Result (List Tagged) AsmFault → Result (List ℕ) Refusal → ℕ → Type 0
-CodePut (Ok words) answer count = (syllables : List ℕ) × (answer ≡ Ok syllables) × IsCode words syllables count
+abbrev pub CodePut : Result Coded AsmFault → Result (List ℕ × List ℕ) Refusal → ℕ → Type 0
+CodePut (Ok coded) answer count = (syllables : List ℕ) × (entries : List ℕ) × (answer ≡ Ok (syllables, entries)) × IsCode coded.code syllables count × (coded.entries ≡ map asm.place_bits entries)
 CodePut (Err (faults.Card card reason)) answer count = answer ≡ Err (record { card = card; reason = reason })
 CodePut (Err faults.Memory) answer count = Unit {0}

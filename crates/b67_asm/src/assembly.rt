@@ -1,27 +1,42 @@
 //! The codefile of assembly cards.
 
-ghost use Rattle.std.specs.Prelude.{◌≡◌, ◌+◌, ◌≤◌, ◌<◌, ◌^◌, length, drop, [], ◌∷◌};
+ghost use Rattle.std.specs.Prelude.{◌≡◌, ◌⊎◌, ◌+◌, ◌≤◌, ◌<◌, ◌^◌, length, drop, [], ◌∷◌, false};
 ghost use Rattle.b67_model_text.specs.Asm as asm;
 ghost use Rattle.b67_asm.specs.Scope.{names_in};
-ghost use Rattle.b67_asm.specs.Blocks.{IsAssembled, IsChecked, assembled_lines, with_names};
+ghost use Rattle.b67_asm.specs.Blocks.{IsAssembled, IsChecked, assembled_lines, with_names, has_entry_card};
 
-use crate::block::{is_head, own_of, put_part};
+use crate::block::put_part;
+use crate::cards::{is_head, own_from};
 use crate::fault::AsmFault;
-use crate::names::{names_of, segments_behind};
+use crate::names::{Names, names_of, segments_behind};
 use crate::operator::misplaced;
 use b67_asm_read::lines_of;
 use b67_codefile::{Codefile, Rows, Segments};
-use b67_model_text::{Cards, Line, Named};
-use indexmap::IndexMap;
+use b67_model_text::{Cards, Line, Statement};
 use std::alloc::Global;
 
-// The lines from a place on.
-fn rest_from(lines: &[Line], from: usize) -> &[Line]
-    requires { from ≤ length lines.now }
-    ensures rest { result.now ≡ drop from lines.now }
-    ensures short { length result.now ≤ length lines.now }
+fn says_entry(line: &Line) -> bool
+    ensures { result ≡ asm.says_entry line.now.says }
 {
-    &lines[from..]
+    match &line.says {
+        Ok(Statement::Entry { .. }) => true,
+        _ => false,
+    }
+}
+
+fn has_entry_card(lines: &[Line]) -> bool
+    ensures { result ≡ has_entry_card lines.now }
+{
+    lines.iter().any(|l| says_entry(l))
+}
+
+// Cards make a file of version 2 if one of them is an ENTRY.
+fn version_in(lines: &[Line]) -> u8
+    ensures exact { result ≡ asm.version_in lines.now }
+    ensures either { (result ≡ 1) ⊎ (result ≡ 2) }
+    ensures plain { result ≡ 1 → has_entry_card lines.now ≡ false }
+{
+    if has_entry_card(lines) { 2 } else { 1 }
 }
 
 fn segment_count(lines: &[Line]) -> u32
@@ -38,14 +53,15 @@ fn segment_count(lines: &[Line]) -> u32
 #[tactic(auto, using(crate::proofs::Program::none_before))]
 fn program_in(
     alloc: Global,
-    names: &IndexMap<&[u8], Named>,
+    names: &Names,
     segments: u32,
     lines: &[Line],
 ) -> Result<Codefile, AsmFault>
     requires { length lines.now < 2 ^ 31 }
-    ensures { IsAssembled result (asm.program_from (names_in names.now.entries) segments 0 0 lines.now) }
+    ensures { IsAssembled result (asm.version_in lines.now) (asm.program_from (names_in names.now) segments 0 0 lines.now) }
 {
     let mut file = Codefile {
+        version: version_in(lines),
         segments: Segments::new(alloc),
         rows: Rows::new(alloc),
     };
@@ -53,7 +69,7 @@ fn program_in(
     for line in lines {
         next += 1;
         if is_head(line.kind) {
-            let own = own_of(rest_from(lines, next));
+            let own = own_from(lines, next);
             match put_part(alloc, names, segments, line, own, &mut file) {
                 Ok(()) => {}
                 Err(fault) => return Err(fault),
@@ -64,8 +80,8 @@ fn program_in(
 }
 
 // A card that stands before all segments and data rows is refused.
-fn check_front(names: &IndexMap<&[u8], Named>, lines: &[Line]) -> Result<(), AsmFault>
-    ensures { IsChecked result (asm.no_strays (names_in names.now.entries) lines.now) }
+fn check_front(names: &Names, lines: &[Line]) -> Result<(), AsmFault>
+    ensures { IsChecked result (asm.no_strays (names_in names.now) lines.now) }
 {
     match lines {
         [] => Ok(()),
@@ -85,13 +101,9 @@ fn check_front(names: &IndexMap<&[u8], Named>, lines: &[Line]) -> Result<(), Asm
     }
 }
 
-fn with_names(
-    alloc: Global,
-    names: &IndexMap<&[u8], Named>,
-    lines: &[Line],
-) -> Result<Codefile, AsmFault>
+fn with_names(alloc: Global, names: &Names, lines: &[Line]) -> Result<Codefile, AsmFault>
     requires { length lines.now < 2 ^ 31 }
-    ensures { IsAssembled result (with_names (names_in names.now.entries) lines.now) }
+    ensures { IsAssembled result (asm.version_in lines.now) (with_names (names_in names.now) lines.now) }
 {
     match check_front(names, lines) {
         Ok(()) => program_in(alloc, names, segment_count(lines), lines),
@@ -100,7 +112,7 @@ fn with_names(
 }
 
 fn assemble_lines(alloc: Global, lines: &[Line]) -> Result<Codefile, AsmFault>
-    ensures { IsAssembled result (assembled_lines lines.now) }
+    ensures { IsAssembled result (asm.version_in lines.now) (assembled_lines lines.now) }
 {
     if lines.len() >= 0x8000_0000 {
         return Err(AsmFault::Memory);
@@ -112,7 +124,7 @@ fn assemble_lines(alloc: Global, lines: &[Line]) -> Result<Codefile, AsmFault>
 /// The codefile that cards denote, or the first refused card with its lowest reason. More than 2,147,483,647 cards are
 /// more than memory is taken for.
 pub fn assemble(alloc: Global, cards: &Cards) -> Result<Codefile, AsmFault>
-    ensures { IsAssembled result (asm.assembled cards.now) }
+    ensures { IsAssembled result (asm.version_of cards.now) (asm.assembled cards.now) }
 {
     let lines = lines_of(alloc, cards.as_slice())?;
     assemble_lines(alloc, lines.as_slice())

@@ -1,20 +1,19 @@
 // Segments and data rows, each from its card and the cards behind it.
-ghost use Rattle.std.specs.Prelude.{◌≡◌, ◌+◌, ◌≤◌, ◌<◌, ◌^◌, not, length, [], OnOk, IfOk};
+ghost use Rattle.std.specs.Prelude.{◌≡◌, ◌+◌, ◌≤◌, ◌<◌, ◌^◌, false, length, [], OnOk, IfOk};
 ghost use Rattle.std.specs.List.{list_any};
 ghost use Rattle.b67_model_text.specs.Asm as asm;
 ghost use Rattle.b67_asm.specs.Scope.{names_in, scope_at};
-ghost use Rattle.b67_asm.specs.Putting.{CodePut, syllables_behind};
-ghost use Rattle.b67_asm.specs.Blocks.{segment_head, row_head, SegmentPut, RowPartPut, SegmentAdded, RowAdded, PartPut, Grows};
+ghost use Rattle.b67_asm.specs.Putting.{CodePut, put_behind, code_count};
+ghost use Rattle.b67_asm.specs.Blocks.{segment_head, row_head, SegmentPut, RowPartPut, SegmentAdded, RowAdded, PartPut, Grows, has_entry_card};
 
 use crate::fault::AsmFault;
-use crate::names::{labels_of, meaning_of};
+use crate::names::{Names, labels_of, meaning_of};
 use crate::operator::{Scope, misplaced};
 use crate::row::words_in;
-use crate::segment::code_in;
+use crate::segment::{Coded, code_in};
 use b67_codefile::{Codefile, Segment};
 use b67_model_text::{Kind, Line, Named, Statement};
 use b67_word::Words;
-use indexmap::IndexMap;
 use std::alloc::Global;
 
 /// A card that begins a segment or a data row, by its number and name, with what stands before it and its own cards.
@@ -27,21 +26,12 @@ pub struct Block<'a> {
     pub own: &'a [Line],
 }
 
-pub fn is_head(kind: Kind) -> bool
-    ensures { result ≡ asm.is_head kind }
-{
-    match kind {
-        Kind::Segment | Kind::Row => true,
-        Kind::Numbers | Kind::Operator => false,
-    }
-}
-
 fn is_numbers(kind: Kind) -> bool
     ensures { result ≡ asm.is_numbers kind }
 {
     match kind {
         Kind::Numbers => true,
-        Kind::Segment | Kind::Row | Kind::Operator => false,
+        Kind::Segment | Kind::Row | Kind::Entry | Kind::Operator => false,
     }
 }
 
@@ -51,22 +41,26 @@ fn has_numbers(lines: &[Line]) -> bool
     lines.iter().any(|l| is_numbers(l.kind))
 }
 
-fn has_operator(lines: &[Line]) -> bool
-    ensures { result ≡ list_any (λ l. not (asm.is_numbers l.kind)) lines.now }
+fn is_entry_card(line: &Line) -> bool
+    ensures { result ≡ asm.is_entry_card line.now.kind line.now.says }
 {
-    lines.iter().any(|l| !is_numbers(l.kind))
+    match &line.says {
+        Ok(Statement::Entry { .. }) => true,
+        Ok(_) => false,
+        Err(_) => line.kind == Kind::Entry,
+    }
 }
 
-// The cards of the segment or row at the front of these.
-pub fn own_of(lines: &[Line]) -> &[Line]
-    ensures own { result.now ≡ asm.own lines.now }
-    ensures short { length result.now ≤ length lines.now }
+fn is_code(line: &Line) -> bool
+    ensures { result ≡ asm.is_code line.now }
 {
-    let mut count = 0;
-    while count < lines.len() && !is_head(lines[count].kind) {
-        count += 1;
-    }
-    &lines[..count]
+    !is_numbers(line.kind) && !is_entry_card(line)
+}
+
+fn has_code(lines: &[Line]) -> bool
+    ensures { result ≡ list_any asm.is_code lines.now }
+{
+    lines.iter().any(|l| is_code(l))
 }
 
 fn is_segment_number(count: usize, named: Option<Named>) -> bool
@@ -87,21 +81,21 @@ fn is_row_number(count: usize, named: Option<Named>) -> bool
     }
 }
 
-#[tactic(auto, using(crate::proofs::Parts::any_some))]
-fn level_of(names: &IndexMap<&[u8], Named>, block: &Block, level: Option<u8>) -> Result<u8, u8>
+#[tactic(auto, using(crate::proofs::Parts::code_some))]
+fn level_of(names: &Names, block: &Block, level: Option<u8>) -> Result<u8, u8>
     requires { block.now.segments + block.now.rows ≤ 255 }
-    ensures exact { result ≡ segment_head (names_in names.now.entries) block.now.segments block.now.rows block.now.name.now level block.now.own.now }
+    ensures exact { result ≡ segment_head (names_in names.now) block.now.segments block.now.rows block.now.name.now level block.now.own.now }
     ensures small { IfOk result (λ l. l < 2 ^ 8) }
     ensures room { OnOk result (block.now.segments + block.now.rows < 255) }
-    ensures some { OnOk result (1 ≤ length block.now.own.now) }
+    ensures some { OnOk result (1 ≤ code_count block.now.own.now) }
 {
     match level {
         None => Err(3),
         Some(level) => {
-            if !is_segment_number(block.segments, meaning_of(names, block.name)) {
+            if !is_segment_number(block.segments, meaning_of(&names.meanings, block.name)) {
                 return Err(4);
             }
-            if !has_operator(block.own) {
+            if !has_code(block.own) {
                 return Err(7);
             }
             if block.segments + block.rows < 255 {
@@ -114,13 +108,13 @@ fn level_of(names: &IndexMap<&[u8], Named>, block: &Block, level: Option<u8>) ->
 }
 
 #[tactic(auto, using(crate::proofs::Parts::any_some))]
-fn check_row(names: &IndexMap<&[u8], Named>, block: &Block) -> Result<(), u8>
+fn check_row(names: &Names, block: &Block) -> Result<(), u8>
     requires { block.now.segments + block.now.rows ≤ 255 }
-    ensures exact { result ≡ row_head (names_in names.now.entries) block.now.segments block.now.rows block.now.name.now block.now.own.now }
+    ensures exact { result ≡ row_head (names_in names.now) block.now.segments block.now.rows block.now.name.now block.now.own.now }
     ensures room { OnOk result (block.now.segments + block.now.rows < 255) }
     ensures some { OnOk result (1 ≤ length block.now.own.now) }
 {
-    if !is_row_number(block.rows, meaning_of(names, block.name)) {
+    if !is_row_number(block.rows, meaning_of(&names.meanings, block.name)) {
         return Err(4);
     }
     if !has_numbers(block.own) {
@@ -133,16 +127,16 @@ fn check_row(names: &IndexMap<&[u8], Named>, block: &Block) -> Result<(), u8>
     }
 }
 
-// The code of a segment's own cards.
+// The code and the entries of a segment's own cards.
 fn segment_code(
     alloc: Global,
-    names: &IndexMap<&[u8], Named>,
+    names: &Names,
     segments: u32,
     level: u8,
     own: &[Line],
-) -> Result<Words, AsmFault>
+) -> Result<Coded, AsmFault>
     requires { length own.now < 2 ^ 31 }
-    ensures { CodePut result (syllables_behind [] (asm.operators (scope_at (names_in names.now.entries) segments level own.now) 0 own.now)) (length own.now) }
+    ensures { CodePut result (put_behind [] (asm.content_of (scope_at (names_in names.now) segments level own.now) 0 [] own.now)) (code_count own.now) }
 {
     let labels = labels_of(alloc, own)?;
     let scope = Scope {
@@ -156,19 +150,23 @@ fn segment_code(
 
 fn segment_in(
     alloc: Global,
-    names: &IndexMap<&[u8], Named>,
+    names: &Names,
     segments: u32,
     block: &Block,
     level: Option<u8>,
 ) -> Result<Segment, AsmFault>
     requires counts { block.now.segments + block.now.rows ≤ 255 }
     requires small { length block.now.own.now < 2 ^ 31 }
-    ensures exact { SegmentPut result (asm.segment_part (names_in names.now.entries) segments block.now.segments block.now.rows block.now.number block.now.name.now level block.now.own.now) }
+    ensures exact { SegmentPut result (asm.segment_part (names_in names.now) segments block.now.segments block.now.rows block.now.number block.now.name.now level block.now.own.now) block.now.own.now }
     ensures room { OnOk result (block.now.segments + block.now.rows < 255) }
 {
     match level_of(names, block, level) {
         Ok(level) => match segment_code(alloc, names, segments, level, block.own) {
-            Ok(code) => Ok(Segment { level, code }),
+            Ok(coded) => Ok(Segment {
+                level,
+                entries: coded.entries,
+                code: coded.code,
+            }),
             Err(fault) => Err(fault),
         },
         Err(reason) => Err(AsmFault::Card {
@@ -178,9 +176,9 @@ fn segment_in(
     }
 }
 
-fn row_in(alloc: Global, names: &IndexMap<&[u8], Named>, block: &Block) -> Result<Words, AsmFault>
+fn row_in(alloc: Global, names: &Names, block: &Block) -> Result<Words, AsmFault>
     requires { block.now.segments + block.now.rows ≤ 255 }
-    ensures exact { RowPartPut result (asm.row_part (names_in names.now.entries) block.now.segments block.now.rows block.now.number block.now.name.now block.now.own.now) }
+    ensures exact { RowPartPut result (asm.row_part (names_in names.now) block.now.segments block.now.rows block.now.number block.now.name.now block.now.own.now) }
     ensures room { OnOk result (block.now.segments + block.now.rows < 255) }
 {
     match check_row(names, block) {
@@ -195,10 +193,10 @@ fn row_in(alloc: Global, names: &IndexMap<&[u8], Named>, block: &Block) -> Resul
     }
 }
 
-#[tactic(auto, using(crate::proofs::Parts::all_one))]
+#[tactic(auto, using(crate::proofs::Parts::all_one, crate::proofs::Parts::all_plain))]
 fn put_segment(
     alloc: Global,
-    names: &IndexMap<&[u8], Named>,
+    names: &Names,
     segments: u32,
     block: &Block,
     level: Option<u8>,
@@ -208,7 +206,8 @@ fn put_segment(
     requires segments { block.now.segments ≡ length file.old.segments }
     requires rows { block.now.rows ≡ length file.old.rows }
     requires small { length block.now.own.now < 2 ^ 31 }
-    ensures { SegmentAdded result (asm.segment_part (names_in names.now.entries) segments block.now.segments block.now.rows block.now.number block.now.name.now level block.now.own.now) file.old file.new }
+    requires plain { file.old.version ≡ 1 → has_entry_card block.now.own.now ≡ false }
+    ensures { SegmentAdded result (asm.segment_part (names_in names.now) segments block.now.segments block.now.rows block.now.number block.now.name.now level block.now.own.now) file.old file.new }
 {
     match segment_in(alloc, names, segments, block, level) {
         Ok(segment) => {
@@ -220,16 +219,11 @@ fn put_segment(
 }
 
 #[tactic(auto, using(crate::proofs::Parts::all_one))]
-fn put_row(
-    alloc: Global,
-    names: &IndexMap<&[u8], Named>,
-    block: &Block,
-    file: &mut Codefile,
-) -> Result<(), AsmFault>
+fn put_row(alloc: Global, names: &Names, block: &Block, file: &mut Codefile) -> Result<(), AsmFault>
     requires grows { Grows file.old }
     requires segments { block.now.segments ≡ length file.old.segments }
     requires rows { block.now.rows ≡ length file.old.rows }
-    ensures { RowAdded result (asm.row_part (names_in names.now.entries) block.now.segments block.now.rows block.now.number block.now.name.now block.now.own.now) file.old file.new }
+    ensures { RowAdded result (asm.row_part (names_in names.now) block.now.segments block.now.rows block.now.number block.now.name.now block.now.own.now) file.old file.new }
 {
     match row_in(alloc, names, block) {
         Ok(words) => {
@@ -259,7 +253,7 @@ fn block_of<'a>(number: u32, name: &'a [u8], own: &'a [Line], file: &Codefile) -
 /// Puts the segment or data row that a card begins behind those of a codefile.
 pub fn put_part(
     alloc: Global,
-    names: &IndexMap<&[u8], Named>,
+    names: &Names,
     segments: u32,
     line: &Line,
     own: &[Line],
@@ -267,7 +261,8 @@ pub fn put_part(
 ) -> Result<(), AsmFault>
     requires grows { Grows file.old }
     requires small { length own.now < 2 ^ 31 }
-    ensures { PartPut result (asm.part_of (names_in names.now.entries) segments (length file.old.segments) (length file.old.rows) line.now.number line.now.says own.now) line.now file.old file.new }
+    requires plain { file.old.version ≡ 1 → has_entry_card own.now ≡ false }
+    ensures { PartPut result (asm.part_of (names_in names.now) segments (length file.old.segments) (length file.old.rows) line.now.number line.now.says own.now) line.now file.old file.new }
 {
     match &line.says {
         Err(reason) => Err(AsmFault::Card {
@@ -288,6 +283,10 @@ pub fn put_part(
                 reason: misplaced(names, statement),
             }),
             Statement::Operator { .. } => Err(AsmFault::Card {
+                card: line.number,
+                reason: misplaced(names, statement),
+            }),
+            Statement::Entry { .. } => Err(AsmFault::Card {
                 card: line.number,
                 reason: misplaced(names, statement),
             }),

@@ -10,7 +10,7 @@ use thiserror::Error;
 /// Why cards aren't assembled.
 #[derive(Clone, Copy, Debug, PartialEq, Eq, Error)]
 pub enum AsmFault {
-    /// The first card that is refused, by its number, and its lowest reason of 1 to 9.
+    /// The first card that is refused, by its number, and its lowest reason of 1 to 11.
     #[error("card {card} breaks reason {reason} of assembly")]
     Card { card: u32, reason: u8 },
     #[error("out of memory")]

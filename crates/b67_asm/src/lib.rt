@@ -3,6 +3,7 @@
 
 mod assembly;
 mod block;
+mod cards;
 mod fault;
 mod lay;
 mod names;

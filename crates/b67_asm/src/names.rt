@@ -1,21 +1,31 @@
 // The names and labels that cards define.
-ghost use Rattle.std.specs.Prelude.{◌≡◌, ◌+◌, ◌<◌, ◌≤◌, ◌^◌, ℕ, List, [], ◌∷◌, length, IfOk, OnOk};
+ghost use Rattle.std.specs.Prelude.{◌≡◌, ◌+◌, ◌<◌, ◌≤◌, ◌^◌, ◌||◌, ℕ, List, [], ◌∷◌, length, drop, is_some, IfOk, OnOk};
 ghost use Rattle.std.specs.Option.{option_or};
-ghost use Rattle.std.specs.List.{cons_option};
+ghost use Rattle.std.specs.List.{cons_option, list_any};
 ghost use Rattle.b67_model.specs.Encoding.{syllable_after};
-ghost use Rattle.b67_model_text.specs.Asm.{meaning, definition, definitions, segments_behind, rows_behind, labels, label_at, behind, reach};
+ghost use Rattle.b67_model_text.specs.Asm.{meaning, definition, definitions, segments_behind, rows_behind, labels, label_at, behind, reach, names_entry, own, cards_of_segments, names_of};
 ghost use Rattle.b67_asm.specs.Names.{name_entries, label_entries};
+ghost use Rattle.b67_asm.specs.Scope.{names_in, begins_segment, HoldLabels, HoldsLabels};
 
+use crate::cards::own_of;
 use b67_model::Op;
 use b67_model_text::{Line, Named, Sketch, Statement};
 use indexmap::IndexMap;
 use std::alloc::{AllocError, Global};
 
-/// Names and what they mean.
-pub type Names<'a> = IndexMap<&'a [u8], Named>;
+/// The labels of a segment's cards with their syllables, and the labels that its ENTRY cards name.
+#[derive(Drop)]
+pub struct Labels<'a> {
+    pub places: IndexMap<&'a [u8], u64>,
+    pub entries: IndexMap<&'a [u8], u64>,
+}
 
-/// Labels and their syllables.
-pub type Labels<'a> = IndexMap<&'a [u8], u64>;
+/// What names mean, and the labels of each segment, by its number.
+#[derive(Drop)]
+pub struct Names<'a> {
+    pub meanings: IndexMap<&'a [u8], Named>,
+    pub segments: Vec<Labels<'a>>,
+}
 
 // What a name means.
 pub fn meaning_of(names: &IndexMap<&[u8], Named>, name: &[u8]) -> Option<Named>
@@ -29,6 +39,28 @@ pub fn place_of(labels: &IndexMap<&[u8], u64>, label: &[u8]) -> Option<u64>
     ensures { result ≡ meaning (label_entries labels.now.entries) label.now }
 {
     labels.get(label).copied()
+}
+
+// The syllable of a segment's label.
+pub fn label_of(names: &Names, number: u32, label: &[u8]) -> Option<u64>
+    ensures { result ≡ (names_in names.now).label number label.now }
+{
+    match names.segments.get(number as usize) {
+        Some(labels) => place_of(&labels.places, label),
+        None => None,
+    }
+}
+
+// Whether a segment's label is an entry of it.
+pub fn is_entry(names: &Names, number: u32, label: &[u8]) -> bool
+    ensures { result ≡ (names_in names.now).entry number label.now }
+{
+    match names.segments.get(number as usize) {
+        Some(labels) => {
+            place_of(&labels.entries, label).is_some() && place_of(&labels.places, label) != Some(0)
+        }
+        None => false,
+    }
 }
 
 // Adds a name, unless it is there already.
@@ -90,6 +122,7 @@ fn define_statement<'a>(
         ),
         Statement::Values { .. } => Ok(()),
         Statement::Operator { .. } => Ok(()),
+        Statement::Entry { .. } => Ok(()),
     }
 }
 
@@ -124,6 +157,7 @@ fn label_statement<'a>(
         Statement::Segment { .. } => Ok(()),
         Statement::Row { .. } => Ok(()),
         Statement::Values { .. } => Ok(()),
+        Statement::Entry { .. } => Ok(()),
     }
 }
 
@@ -153,6 +187,7 @@ pub fn segments_behind(segments: u32, line: &Line) -> u32
             Statement::Row { .. } => segments,
             Statement::Values { .. } => segments,
             Statement::Operator { .. } => segments,
+            Statement::Entry { .. } => segments,
         },
         Err(_) => segments,
     }
@@ -170,6 +205,7 @@ pub fn rows_behind(rows: u32, line: &Line) -> u32
             Statement::Segment { .. } => rows,
             Statement::Values { .. } => rows,
             Statement::Operator { .. } => rows,
+            Statement::Entry { .. } => rows,
         },
         Err(_) => rows,
     }
@@ -202,6 +238,7 @@ fn behind_sketch(sketch: &Sketch, n: u64) -> u64
         Sketch::Row { .. } => n + 2,
         Sketch::Jump { .. } => n + 3,
         Sketch::Pcw { .. } => 6 * (n / 6 + 2),
+        Sketch::PcwAt { .. } => 6 * (n / 6 + 2),
     }
 }
 
@@ -216,13 +253,14 @@ fn reach(n: u64, line: &Line) -> u64
             Statement::Segment { .. } => n,
             Statement::Row { .. } => n,
             Statement::Values { .. } => n,
+            Statement::Entry { .. } => n,
         },
         Err(_) => n,
     }
 }
 
-/// What each name means: its first definition.
-pub fn names_of<'a>(
+// What each name means: its first definition.
+fn meanings_of<'a>(
     alloc: Global,
     lines: &'a [Line],
 ) -> Result<IndexMap<&'a [u8], Named>, AllocError>
@@ -255,4 +293,86 @@ pub fn labels_of<'a>(
         n = reach(n, line);
     }
     Ok(labels)
+}
+
+// Adds the label that a card names, if it is an ENTRY.
+fn enter_line<'a>(entries: &mut IndexMap<&'a [u8], u64>, line: &'a Line) -> Result<(), AllocError>
+    ensures { OnOk result ((q : List ℕ) → is_some (meaning (label_entries entries.new.entries) q) ≡ (is_some (meaning (label_entries entries.old.entries) q) || names_entry q line.now.says)) }
+{
+    match &line.says {
+        Ok(statement) => enter_statement(entries, statement),
+        Err(_) => Ok(()),
+    }
+}
+
+fn enter_statement<'a>(
+    entries: &mut IndexMap<&'a [u8], u64>,
+    statement: &'a Statement,
+) -> Result<(), AllocError>
+    ensures { OnOk result ((q : List ℕ) → is_some (meaning (label_entries entries.new.entries) q) ≡ (is_some (meaning (label_entries entries.old.entries) q) || names_entry q (Ok statement.now))) }
+{
+    match statement {
+        Statement::Entry { label } => define_at(entries, label.as_str().as_bytes(), 0),
+        Statement::Segment { .. } => Ok(()),
+        Statement::Row { .. } => Ok(()),
+        Statement::Values { .. } => Ok(()),
+        Statement::Operator { .. } => Ok(()),
+    }
+}
+
+// The labels that ENTRY cards name.
+fn entries_of<'a>(alloc: Global, lines: &'a [Line]) -> Result<IndexMap<&'a [u8], u64>, AllocError>
+    ensures { IfOk result (λ m. (q : List ℕ) → is_some (meaning (label_entries m.entries) q) ≡ list_any (λ l. names_entry q l.says) lines.now) }
+{
+    let mut entries = IndexMap::new(alloc);
+    for line in lines {
+        enter_line(&mut entries, line)?;
+    }
+    Ok(entries)
+}
+
+// The labels of a segment's own cards.
+fn labels_in<'a>(alloc: Global, lines: &'a [Line]) -> Result<Labels<'a>, AllocError>
+    requires { length lines.now < 2 ^ 31 }
+    ensures { IfOk result (λ labels. HoldsLabels labels lines.now) }
+{
+    let places = labels_of(alloc, lines)?;
+    let entries = entries_of(alloc, lines)?;
+    Ok(Labels { places, entries })
+}
+
+fn begins_segment(line: &Line) -> bool
+    ensures { result ≡ begins_segment line.now.says }
+{
+    match &line.says {
+        Ok(Statement::Segment { .. }) => true,
+        _ => false,
+    }
+}
+
+// The labels of each segment.
+fn segments_of<'a>(alloc: Global, lines: &'a [Line]) -> Result<Vec<Labels<'a>>, AllocError>
+    requires { length lines.now < 2 ^ 31 }
+    ensures { IfOk result (λ segments. HoldLabels segments.items (cards_of_segments lines.now)) }
+{
+    let mut segments = Vec::new(alloc);
+    let mut rest = lines;
+    while let [line, more @ ..] = rest {
+        if begins_segment(line) {
+            let labels = labels_in(alloc, own_of(more))?;
+            segments.push(labels)?;
+        }
+        rest = more;
+    }
+    Ok(segments)
+}
+
+/// What cards may name.
+pub fn names_of<'a>(alloc: Global, lines: &'a [Line]) -> Result<Names<'a>, AllocError>
+    requires { length lines.now < 2 ^ 31 }
+    ensures { IfOk result (λ names. names_in names ≡ names_of lines.now) }
+{
+    let meanings = meanings_of(alloc, lines)?;
+    let segments = segments_of(alloc, lines)?;
+    Ok(Names { meanings, segments })
 }

@@ -10,7 +10,7 @@ ghost use Rattle.b67_model.specs.Operators.{place_at};
 ghost use Rattle.b67_asm.specs.Names.{label_entries};
 ghost use Rattle.b67_asm.specs.Scope.{names_in, scope_of, IsOperator};
 
-use crate::names::{meaning_of, place_of};
+use crate::names::{Names, is_entry, label_of, meaning_of, place_of};
 use b67_model::Op;
 use b67_model_text::{Branch, Call, Name, Named, Sketch, Statement, Values};
 use b67_word::{Couple, Place, bits_of};
@@ -19,7 +19,7 @@ use indexmap::IndexMap;
 /// What the operators of a segment may name: names, labels, how many segments there are, and the segment's level.
 #[derive(Clone, Copy)]
 pub struct Scope<'a> {
-    pub names: &'a IndexMap<&'a [u8], Named>,
+    pub names: &'a Names<'a>,
     pub labels: &'a IndexMap<&'a [u8], u64>,
     pub segments: u32,
     pub level: u8,
@@ -27,7 +27,7 @@ pub struct Scope<'a> {
 
 fn pcw_in(named: Option<Named>) -> Option<u64>
     ensures exact { result ≡ asm.pcw_in named }
-    ensures small { IfSome result (λ bits. bits < 2 ^ 48) }
+    ensures small { IfSome result (λ bits. bits < 2 ^ 40) }
 {
     match named {
         Some(
@@ -43,6 +43,46 @@ fn pcw_in(named: Option<Named>) -> Option<u64>
             }
         }
         _ => None,
+    }
+}
+
+fn label_in(names: &Names, named: Option<Named>, label: &[u8]) -> Option<u64>
+    ensures { result ≡ asm.label_in (names_in names.now) named label.now }
+{
+    match named {
+        Some(Named::Segment { number, .. }) => label_of(names, number, label),
+        _ => None,
+    }
+}
+
+fn entry_in(names: &Names, named: Option<Named>, label: &[u8]) -> bool
+    ensures { result ≡ asm.entry_in (names_in names.now) named label.now }
+{
+    match named {
+        Some(Named::Segment { number, .. }) => is_entry(names, number, label),
+        _ => false,
+    }
+}
+
+/// A place's 16 bits, as a branch has them. None past the longest segment comes to code.
+pub fn place_bits(syllable: u64) -> u16
+    ensures { result ≡ asm.place_bits syllable }
+{
+    let place = place_at(syllable.min(6 * 8_191));
+    u16::from(place.syllable) * 0x2000 + place.word
+}
+
+fn pcw_at(bits: Option<u64>, syllable: Option<u64>) -> Option<u64>
+    requires { IfSome bits (λ bits. bits < 2 ^ 40) }
+    ensures exact { result ≡ asm.pcw_at bits syllable }
+    ensures small { IfSome result (λ bits. bits < 2 ^ 48) }
+{
+    match bits {
+        Some(bits) => match syllable {
+            Some(syllable) => Some(bits + u64::from(place_bits(syllable)) * 0x10_0000),
+            None => None,
+        },
+        None => None,
     }
 }
 
@@ -77,12 +117,36 @@ fn is_in_range(sketch: &Sketch) -> bool
     }
 }
 
-pub fn has_names(names: &IndexMap<&[u8], Named>, sketch: &Sketch) -> bool
-    ensures { result ≡ asm.has_names (names_in names.now.entries) sketch.now }
+pub fn has_names(names: &Names, sketch: &Sketch) -> bool
+    ensures { result ≡ asm.has_names (names_in names.now) sketch.now }
 {
     match sketch {
-        Sketch::Pcw { segment } => pcw_in(meaning_of(names, segment.as_str().as_bytes())).is_some(),
-        Sketch::Row { row, .. } => row_in(meaning_of(names, row.as_str().as_bytes())).is_some(),
+        Sketch::Pcw { segment } => pcw_in(meaning_of(
+            &names.meanings,
+            segment.as_str().as_bytes(),
+        )).is_some(),
+        Sketch::PcwAt { segment, label } => {
+            let named = meaning_of(&names.meanings, segment.as_str().as_bytes());
+            pcw_in(named).is_some() && label_in(names, named, label.as_str().as_bytes()).is_some()
+        }
+        Sketch::Row { row, .. } => row_in(meaning_of(
+            &names.meanings,
+            row.as_str().as_bytes(),
+        )).is_some(),
+        _ => true,
+    }
+}
+
+/// Whether the label of an MPCW is an entry of the segment named.
+pub fn has_entry(names: &Names, sketch: &Sketch) -> bool
+    ensures { result ≡ asm.has_entry (names_in names.now) sketch.now }
+{
+    match sketch {
+        Sketch::PcwAt { segment, label } => entry_in(
+            names,
+            meaning_of(&names.meanings, segment.as_str().as_bytes()),
+            label.as_str().as_bytes(),
+        ),
         _ => true,
     }
 }
@@ -158,8 +222,8 @@ fn misplaced_values(first: Option<u64>, more: &Values) -> u8
 }
 
 /// Why a card is refused that stands in no block of its kind.
-pub fn misplaced(names: &IndexMap<&[u8], Named>, statement: &Statement) -> u8
-    ensures { result ≡ asm.misplaced (names_in names.now.entries) statement.now }
+pub fn misplaced(names: &Names, statement: &Statement) -> u8
+    ensures { result ≡ asm.misplaced (names_in names.now) statement.now }
 {
     match statement {
         Statement::Values { first, more } => misplaced_values(*first, more),
@@ -215,10 +279,10 @@ fn is_first_label(labels: &IndexMap<&[u8], u64>, n: u64, label: &Option<Name>) -
 }
 
 fn row_operator(scope: &Scope, call: Call, row: &[u8]) -> Option<Op>
-    ensures exact { result ≡ option_map (asm.called call) (option_and_then (λ number. couple_bits (min scope.now.level 31) (record { level = 1; disp = scope.now.segments + number + 2 })) (asm.row_in (names_in scope.now.names.now.entries row.now))) }
+    ensures exact { result ≡ option_map (asm.called call) (option_and_then (λ number. couple_bits (min scope.now.level 31) (record { level = 1; disp = scope.now.segments + number + 2 })) (asm.row_in ((names_in scope.now.names.now).means row.now))) }
     ensures fits { IfSome result (λ op. IsTrue (has_bits op)) }
 {
-    match row_in(meaning_of(scope.names, row)) {
+    match row_in(meaning_of(&scope.names.meanings, row)) {
         Some(number) => match row_bits(scope.segments, number, scope.level) {
             Some(bits) => Some(called(call, bits)),
             None => None,
@@ -237,11 +301,22 @@ fn jump(labels: &IndexMap<&[u8], u64>, branch: Branch, label: &[u8]) -> Option<O
     }
 }
 
-fn pcw(names: &IndexMap<&[u8], Named>, segment: &[u8]) -> Option<Op>
-    ensures exact { result ≡ option_map Mpcw (asm.pcw_in (names_in names.now.entries segment.now)) }
+fn pcw(names: &Names, segment: &[u8]) -> Option<Op>
+    ensures exact { result ≡ option_map Mpcw (asm.pcw_in ((names_in names.now).means segment.now)) }
     ensures fits { IfSome result (λ op. IsTrue (has_bits op)) }
 {
-    match pcw_in(meaning_of(names, segment)) {
+    match pcw_in(meaning_of(&names.meanings, segment)) {
+        Some(bits) => Some(Op::Mpcw(bits)),
+        None => None,
+    }
+}
+
+fn pcw_of_label(names: &Names, segment: &[u8], label: &[u8]) -> Option<Op>
+    ensures exact { result ≡ option_map Mpcw (asm.pcw_at (asm.pcw_in ((names_in names.now).means segment.now)) (asm.label_in (names_in names.now) ((names_in names.now).means segment.now) label.now)) }
+    ensures fits { IfSome result (λ op. IsTrue (has_bits op)) }
+{
+    let named = meaning_of(&names.meanings, segment);
+    match pcw_at(pcw_in(named), label_in(names, named, label)) {
         Some(bits) => Some(Op::Mpcw(bits)),
         None => None,
     }
@@ -259,28 +334,33 @@ fn denoted(scope: &Scope, sketch: &Sketch) -> Option<Op>
         Sketch::Row { call, row } => row_operator(scope, *call, row.as_str().as_bytes()),
         Sketch::Jump { branch, label } => jump(scope.labels, *branch, label.as_str().as_bytes()),
         Sketch::Pcw { segment } => pcw(scope.names, segment.as_str().as_bytes()),
+        Sketch::PcwAt { segment, label } => pcw_of_label(
+            scope.names,
+            segment.as_str().as_bytes(),
+            label.as_str().as_bytes(),
+        ),
     }
 }
 
-/// What a card of a segment writes at syllable n, None for a couple that doesn't fit, or the reason of 3 to 6 why the card
-/// is refused.
-pub fn operator_in(scope: &Scope, n: u64, statement: &Statement) -> Result<Option<Op>, u8>
-    ensures exact { IsOperator result (scope_of scope.now) n statement.now }
+/// What an operator's card writes at syllable n, None for a couple that doesn't fit, or the reason of 3 to 5 why the card is
+/// refused.
+pub fn operator_in(
+    scope: &Scope,
+    n: u64,
+    label: &Option<Name>,
+    sketch: &Sketch,
+) -> Result<Option<Op>, u8>
+    ensures exact { IsOperator result (scope_of scope.now) n label.now sketch.now }
     ensures fits { IfOk result (λ o. IfSome o (λ op. IsTrue (has_bits op))) }
 {
-    match statement {
-        Statement::Operator { label, sketch } => {
-            if !is_in_range(sketch) {
-                return Err(3);
-            }
-            if !is_first_label(scope.labels, n, label) {
-                return Err(4);
-            }
-            if !has_names(scope.names, sketch) || !has_label(scope.labels, sketch) {
-                return Err(5);
-            }
-            Ok(denoted(scope, sketch))
-        }
-        _ => Err(misplaced(scope.names, statement)),
+    if !is_in_range(sketch) {
+        return Err(3);
     }
+    if !is_first_label(scope.labels, n, label) {
+        return Err(4);
+    }
+    if !has_names(scope.names, sketch) || !has_label(scope.labels, sketch) {
+        return Err(5);
+    }
+    Ok(denoted(scope, sketch))
 }

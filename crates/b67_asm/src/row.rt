@@ -8,10 +8,10 @@ ghost use Rattle.b67_asm.specs.Scope.{names_in};
 ghost use Rattle.b67_asm.specs.RowPutting.{WordsPut, RowPut, line_words, checked_values};
 
 use crate::fault::{AsmFault, Refused};
+use crate::names::Names;
 use crate::operator::{is_bad, misplaced};
-use b67_model_text::{Line, Named, Statement};
+use b67_model_text::{Line, Statement};
 use b67_word::{Word, Words};
-use indexmap::IndexMap;
 use std::alloc::{AllocError, Global};
 
 fn word_of(value: Option<u64>) -> Word
@@ -45,13 +45,9 @@ fn put_values(first: Option<u64>, more: &[Option<u64>], into: &mut Words) -> Res
     put_more(more, into)
 }
 
-fn put_statement(
-    names: &IndexMap<&[u8], Named>,
-    statement: &Statement,
-    into: &mut Words,
-) -> Result<(), Refused>
+fn put_statement(names: &Names, statement: &Statement, into: &mut Words) -> Result<(), Refused>
     requires { length into.old ≤ 65535 }
-    ensures { WordsPut result (asm.values_of (names_in names.now.entries) (length into.old) statement.now) into.old into.new }
+    ensures { WordsPut result (asm.values_of (names_in names.now) (length into.old) statement.now) into.old into.new }
 {
     match statement {
         Statement::Values { first, more } => put_checked(*first, more.as_slice(), into),
@@ -73,9 +69,9 @@ fn put_checked(first: Option<u64>, more: &[Option<u64>], into: &mut Words) -> Re
     Ok(())
 }
 
-fn put_line(names: &IndexMap<&[u8], Named>, line: &Line, into: &mut Words) -> Result<(), Refused>
+fn put_line(names: &Names, line: &Line, into: &mut Words) -> Result<(), Refused>
     requires { length into.old ≤ 65535 }
-    ensures { WordsPut result (line_words (names_in names.now.entries) (length into.old) line.now) into.old into.new }
+    ensures { WordsPut result (line_words (names_in names.now) (length into.old) line.now) into.old into.new }
 {
     match &line.says {
         Ok(statement) => put_statement(names, statement, into),
@@ -84,12 +80,8 @@ fn put_line(names: &IndexMap<&[u8], Named>, line: &Line, into: &mut Words) -> Re
 }
 
 /// The words of a data row's cards, or the first refused card.
-pub fn words_in(
-    alloc: Global,
-    names: &IndexMap<&[u8], Named>,
-    lines: &[Line],
-) -> Result<Words, AsmFault>
-    ensures { RowPut result (asm.row_words (names_in names.now.entries) 0 lines.now) (length lines.now) }
+pub fn words_in(alloc: Global, names: &Names, lines: &[Line]) -> Result<Words, AsmFault>
+    ensures { RowPut result (asm.row_words (names_in names.now) 0 lines.now) (length lines.now) }
 {
     let mut words = Words::new(alloc);
     for line in lines {

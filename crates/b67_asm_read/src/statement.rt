@@ -91,11 +91,29 @@ fn jump_to(branch: Branch, word: &[u8]) -> Option<Sketch>
     Some(Sketch::Jump { branch, label })
 }
 
-fn pcw_of(word: &[u8]) -> Option<Sketch>
-    ensures { result ≡ spec.pcw_of word.now }
+fn pcw_at(segment: &[u8], label: &[u8]) -> Option<Sketch>
+    ensures { result ≡ spec.pcw_at (segment.now, label.now) }
+{
+    let segment = name(segment)?;
+    let label = name(label)?;
+    Some(Sketch::PcwAt { segment, label })
+}
+
+fn pcw_named(word: &[u8]) -> Option<Sketch>
+    ensures { result ≡ spec.pcw_named word.now }
 {
     let segment = name(word)?;
     Some(Sketch::Pcw { segment })
+}
+
+// A procedure by its segment's name, or by a name and a label of that segment.
+fn pcw_of(word: &[u8]) -> Option<Sketch>
+    ensures { result ≡ spec.pcw_of word.now }
+{
+    match parted(word, b':') {
+        Some((segment, label)) => pcw_at(segment, label),
+        None => pcw_named(word),
+    }
 }
 
 fn row_call(call: Call, word: &[u8]) -> Option<Sketch>
@@ -304,6 +322,28 @@ fn row(parameters: &[&[u8]]) -> Option<Statement>
     }
 }
 
+fn entry_named(word: &[u8]) -> Option<Statement>
+    ensures { result ≡ spec.entry_named word.now }
+{
+    let label = name(word)?;
+    Some(Statement::Entry { label })
+}
+
+fn entry(parameters: &[&[u8]]) -> Option<Statement>
+    ensures { result ≡ spec.entry (map (λ w. w.now) parameters.now) }
+{
+    match parameters {
+        [] => None,
+        [word, more @ ..] => {
+            if more.is_empty() {
+                entry_named(word)
+            } else {
+                None
+            }
+        }
+    }
+}
+
 // Appends the words of a data row, and answers whether all are well formed.
 fn put_values(words: &[&[u8]], into: &mut Values) -> Result<bool, AllocError>
     ensures { ValuesPut result (spec.all_bits (map (λ w. w.now) words.now)) into.old into.new }
@@ -393,6 +433,7 @@ fn kind_of(word: &[u8]) -> Kind
         b"SEGMENT" => Kind::Segment,
         b"ROW" => Kind::Row,
         b"NUM" => Kind::Numbers,
+        b"ENTRY" => Kind::Entry,
         _ => Kind::Operator,
     }
 }
@@ -418,6 +459,7 @@ fn statement_of(alloc: Global, words: &[&[u8]]) -> Result<Result<Statement, u8>,
                 let statement = num(alloc, more)?;
                 Ok(or_malformed(statement))
             }
+            Kind::Entry => Ok(or_malformed(entry(more))),
             Kind::Operator => Ok(labelled(words)),
         },
     }

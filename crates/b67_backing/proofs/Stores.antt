@@ -6,7 +6,7 @@ use Rattle.b67_backing.proofs.Walks.{all_below}
 use Rattle.std.proofs.lemmas.Option.{same_Some}
 use Rattle.b67_word.specs.Tagged.{Tagged}
 use Rattle.b67_backing.specs.Shelf.{Table, Shelf, IsShelf, HasChain, Linked, times, first, chain_of}
-use Rattle.b67_backing.specs.Held.{Tells, Becomes, Changes, Counts, SameBut, Sets, Stores, Holds, under, sector}
+use Rattle.b67_backing.specs.Held.{Tells, Becomes, Changes, Counts, SameBut, Sets, Stores, Holds, Fills, number_at, under, sector}
 use Rattle.b67_backing.proofs.Links.{one-same, one-other, times-cons, link_first, linked_within, uses-split, chain_there, rest}
 
 abbrev pub AreLinked : List ℕ → List ℕ → Type 0
@@ -22,7 +22,7 @@ pub record Ahead (links : List ℕ) (k : List ℕ) (n j at : ℕ) (rest : List �
   pub inside : (m : ℕ) → times m k ≡ 0 → times m rest ≡ 0
   pub many : length rest + j ≡ n
 
-times-past : (m n : ℕ) (cs : List ℕ) → AllBelow n cs → n ≤ m → times m cs ≡ 0
+pub times-past : (m n : ℕ) (cs : List ℕ) → AllBelow n cs → n ≤ m → times m cs ≡ 0
 times-past m n [] a h = refl
 times-past m n (c ∷ cs) a h = omega (arith, one-other m c (λ e. omega arith), times-past m n cs a.1 h)
 
@@ -76,7 +76,7 @@ ahead_next links k n j at next c cs a r = record {
 
 -- what was written so far: once the rest is written too, the chain holds these numbers
 abbrev pub Missing : List ℕ → List ℕ → ℕ → List ℕ → List (List ℕ) → Type 0
-Missing k rest p ns h = (b : List (List ℕ)) → SameBut rest h b → Holds b rest p ns → Holds b k 0 ns
+Missing k rest p ns h = (b : List (List ℕ)) → SameBut rest h b → Fills b rest p ns → Fills b k 0 ns
 
 -- the sectors at a turn of a write, against those before all turns
 pub record Written (k rest : List ℕ) (p : ℕ) (ns : List ℕ) (old new : List (List ℕ)) : Type 0 where
@@ -89,7 +89,7 @@ pub record Storing {D : Type 0} (holds : D → Option (List (List ℕ))) (links 
   pub ahead : Ahead links k n j at rest
   pub changed : Changes holds old now (Written k rest (30 * j) ns)
 
-same_but-refl : (k : List ℕ) (h : List (List ℕ)) → SameBut k h h
+pub same_but-refl : (k : List ℕ) (h : List (List ℕ)) → SameBut k h h
 same_but-refl k h = record { count = refl; others = λ m _ _. refl }
 
 pub storing_first : {D : Type 0} (holds : D → Option (List (List ℕ))) (t : Table) (x : ℕ) (st : Shelf) (ns : List ℕ) (n : ℕ) (d : D) → HasChain t st x n → 1 ≤ n → Storing holds t.links (chain_of x st.chains) n 0 x ns d d
@@ -102,7 +102,7 @@ storing_first holds t x st ns n d c some = record {
 one_head : (i c : ℕ) (cs : List ℕ) → times i (c ∷ cs) ≡ 0 → times i (c ∷ []) ≡ 0
 one_head i c cs z = omega arith
 
-written_next : (k : List ℕ) (c : ℕ) (cs : List ℕ) (p : ℕ) (ns buf : List ℕ) (old now new : List (List ℕ)) → 1 ≤ c → times c cs ≡ 0 → ((m : ℕ) → times m k ≡ 0 → times m (c ∷ []) ≡ 0) → Written k (c ∷ cs) p ns old now → Sets c buf now new → ((i : ℕ) → i < 30 → p + i < length ns → slice_get buf i ≡ slice_get ns (p + i)) → Written k cs (p + 30) ns old new
+written_next : (k : List ℕ) (c : ℕ) (cs : List ℕ) (p : ℕ) (ns buf : List ℕ) (old now new : List (List ℕ)) → 1 ≤ c → times c cs ≡ 0 → ((m : ℕ) → times m k ≡ 0 → times m (c ∷ []) ≡ 0) → Written k (c ∷ cs) p ns old now → Sets c buf now new → ((i : ℕ) → i < 30 → slice_get buf i ≡ Some (number_at ns (p + i))) → Written k cs (p + 30) ns old new
 written_next k c cs p ns buf old now new low z inside w s f = record {
   same = record { count = s.same.count ∙ w.same.count; others = λ m pos t. s.same.others m pos (inside m t) ∙ w.same.others m pos t };
   missing = λ b same st. w.missing b
@@ -110,7 +110,7 @@ written_next k c cs p ns buf old now new low z inside w s f = record {
       ((buf, same.others c low z ∙ s.set, f), st);
 }
 
-pub storing_next : {D : Type 0} (holds : D → Option (List (List ℕ))) (links k : List ℕ) (n j at next : ℕ) (ns buf : List ℕ) (old now new : D) → j < n → Storing holds links k n j at ns old now → Changes holds now new (Sets at buf) → ((i : ℕ) → i < 30 → 30 * j + i < length ns → slice_get buf i ≡ slice_get ns (30 * j + i)) → slice_get links at ≡ Some next → Storing holds links k n (j + 1) next ns old new
+pub storing_next : {D : Type 0} (holds : D → Option (List (List ℕ))) (links k : List ℕ) (n j at next : ℕ) (ns buf : List ℕ) (old now new : D) → j < n → Storing holds links k n j at ns old now → Changes holds now new (Sets at buf) → ((i : ℕ) → i < 30 → slice_get buf i ≡ Some (number_at ns (30 * j + i))) → slice_get links at ≡ Some next → Storing holds links k n (j + 1) next ns old new
 storing_next holds links k n j at next ns buf old now new h s w f r = by_rest s.rest s.ahead s.changed where
   by_rest : (rest : List ℕ) → Ahead links k n j at rest → Changes holds old now (Written k rest (30 * j) ns) → Storing holds links k n (j + 1) next ns old new
   by_rest [] a ch = absurd (omega (arith, a.many))

@@ -1,4 +1,5 @@
 pub mod Shelf
 pub mod Held
+pub mod Extending
 pub mod File
 pub mod Memory

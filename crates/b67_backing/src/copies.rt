@@ -1,9 +1,9 @@
 //! Words as numbers of a sector, and back.
 
-ghost use Rattle.std.specs.Prelude.{◌≡◌, ◌⊎◌, ℕ, ◌+◌, ◌<◌, ◌≤◌, ◌^◌, length, slice_get, Some, option_map, IfOk};
+ghost use Rattle.std.specs.Prelude.{◌≡◌, ◌⊎◌, ℕ, ◌+◌, ◌<◌, ◌≤◌, ◌^◌, length, map, slice_get, Some, option_map, IfOk};
 ghost use Rattle.b67_word.specs.Tagged.{Tagged};
 ghost use Rattle.b67_core.specs.Numbers.{number};
-ghost use Rattle.b67_backing.specs.Held.{under, blank};
+ghost use Rattle.b67_backing.specs.Held.{under, blank, number_at};
 
 use b67_core::{Core, to_number};
 use b67_word::Word;
@@ -20,17 +20,25 @@ pub fn zeros(alloc: Global, sectors: u32) -> Result<Vec<[u64; 30]>, AllocError>
     Ok(held)
 }
 
+/// The number of a word at a place, 0 past the end.
+fn number_in(from: &[Word], at: usize) -> u64
+    ensures { result ≡ number_at (map number from.now) at }
+{
+    if at < from.len() {
+        to_number(from[at])
+    } else {
+        0
+    }
+}
+
 /// The numbers of 30 words from a place on, with 0 past their end.
 pub fn pack(from: &[Word], start: usize) -> [u64; 30]
     requires { start + 30 < 2 ^ 64 }
-    ensures { (i : ℕ) → i < 30 → start + i < length from.now
-        → slice_get result i ≡ option_map number (slice_get from.now (start + i)) }
+    ensures { (i : ℕ) → i < 30 → slice_get result i ≡ Some (number_at (map number from.now) (start + i)) }
 {
     let mut buffer = [0u64; 30];
     for i in 0..30usize {
-        if start + i < from.len() {
-            buffer[i] = to_number(from[start + i]);
-        }
+        buffer[i] = number_in(from, start + i);
     }
     buffer
 }

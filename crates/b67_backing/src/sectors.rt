@@ -1,14 +1,15 @@
 //! Which sectors of a device are free, and the chains of those that aren't.
 
-ghost use Rattle.std.specs.Prelude.{◌≡◌, ◌≢◌, ◌⊎◌, ℕ, ◌+◌, ◌<◌, ◌≤◌, ◌^◌, List, [], IfOk, IfSome, IfNone, MatchOption, Some, OnOk, length, map, option_map, slice_get, slice_range, take, if◌then◌else◌, ◌==◌};
+ghost use Rattle.std.specs.Prelude.{◌≡◌, ◌≢◌, ◌⊎◌, ℕ, ◌+◌, ◌*◌, ◌<◌, ◌≤◌, ◌^◌, List, [], IfOk, IfSome, IfNone, MatchOption, Some, OnOk, length, map, option_map, slice_get, slice_range, take, if◌then◌else◌, ◌==◌};
 ghost use Rattle.b67_word.specs.Tagged.{Tagged};
 ghost use Rattle.b67_core.specs.Numbers.{number};
 ghost use Rattle.b67_io.specs.Causes.{HasCause};
-ghost use Rattle.b67_backing.specs.Shelf.{Table, Shelf, IsShelf, HasChain, chain_of, taken, given, first, last, all_free};
-ghost use Rattle.b67_backing.specs.Held.{Tells, Becomes, Changes, Counts, SameBut, Stores, Holds, sectors_for, under};
+ghost use Rattle.b67_backing.specs.Shelf.{Table, Shelf, IsShelf, HasChain, chain_of, taken, given, joined, first, last, all_free};
+ghost use Rattle.b67_backing.specs.Held.{Tells, Changes, SameBut, Stores, Holds, AreTagged, OnlyWords, WasCalled, WasRead, sectors_for, under};
+ghost use Rattle.b67_backing.specs.Extending.{ExtendMeets, KeepsDevice};
 
-use crate::Backing;
 use crate::copies::{pack, unpack};
+use crate::{Backing, SpaceFault};
 use b67_core::Core;
 use b67_word::{Failed, Word};
 use std::alloc::{AllocError, Global};
@@ -145,7 +146,46 @@ impl Sectors {
         self.free += tail.count;
     }
 
-    /// Writes words to a chain, 30 to a sector.
+    /// Makes the sectors of another chain the last ones of a chain. No other chain is touched, and only the links of the
+    /// first chain are followed.
+    fn join(&mut self, first: u32, more: u32)
+        requires apart { first ≢ more }
+        requires chains { (st : Shelf) × IsShelf self.old st × (1 ≤ length (chain_of first st.chains)) × (1 ≤ length (chain_of more st.chains)) }
+        ensures row { (st : Shelf) → IsShelf self.old st → 1 ≤ length (chain_of first st.chains) → 1 ≤ length (chain_of more st.chains)
+            → IsShelf self.new (joined first more st) }
+        ensures count { length self.new.links ≡ length self.old.links }
+    {
+        let tail = self.last_of(first);
+        self.links[tail.last as usize] = more;
+    }
+
+    /// Writes words to the sectors of a chain, 30 to a sector, and zeros after them up to the end of the last one.
+    fn fill<B: Backing>(
+        &self,
+        first: u32,
+        sectors: usize,
+        from: &[Word],
+        backing: &mut B,
+    ) -> Result<(), Failed>
+        requires chain { (st : Shelf) × HasChain self.now st first sectors }
+        requires some { 1 ≤ sectors }
+        requires room { length from.now ≤ 30 * sectors }
+        requires same { B.size backing.old + 1 ≡ length self.now.links }
+        ensures stores { OnOk result ((st : Shelf) → HasChain self.now st first sectors
+            → Changes B.holds backing.old backing.new (Stores (chain_of first st.chains) (map number from.now))) }
+        ensures others { (st : Shelf) → HasChain self.now st first sectors
+            → Changes B.holds backing.old backing.new (SameBut (chain_of first st.chains)) }
+        ensures device { WasCalled B.size B.calls B.faults backing.old backing.new result }
+    {
+        let mut at = first;
+        for j in 0..sectors {
+            backing.write(at, &pack(from, 30 * j))?;
+            at = self.link(at);
+        }
+        Ok(())
+    }
+
+    /// Writes words to a chain, 30 to a sector. What is left of its last sector is filled with zeros.
     pub fn store<B: Backing>(
         &self,
         first: u32,
@@ -159,19 +199,12 @@ impl Sectors {
             → Changes B.holds backing.old backing.new (Stores (chain_of first st.chains) (map number from.now))) }
         ensures others { (st : Shelf) → HasChain self.now st first (sectors_for (length from.now))
             → Changes B.holds backing.old backing.new (SameBut (chain_of first st.chains)) }
-        ensures size { B.size backing.new ≡ B.size backing.old }
-        ensures calls { Counts B.calls backing.old backing.new }
-        ensures cause { HasCause B.faults backing.old backing.new result }
+        ensures device { WasCalled B.size B.calls B.faults backing.old backing.new result }
     {
-        let mut at = first;
-        for j in 0..(from.len() + 29) / 30 {
-            backing.write(at, &pack(from, 30 * j))?;
-            at = self.link(at);
-        }
-        Ok(())
+        self.fill(first, (from.len() + 29) / 30, from, backing)
     }
 
-    /// Writes words of core to a chain, 30 to a sector.
+    /// Writes words of core to a chain, 30 to a sector. What is left of its last sector is filled with zeros.
     pub fn save<B: Backing>(
         &self,
         first: u32,
@@ -189,11 +222,48 @@ impl Sectors {
             (Stores (chain_of first st.chains) (map number (slice_range core.now at (at + words))))) }
         ensures others { (st : Shelf) → HasChain self.now st first (sectors_for words)
             → Changes B.holds backing.old backing.new (SameBut (chain_of first st.chains)) }
-        ensures size { B.size backing.new ≡ B.size backing.old }
-        ensures calls { Counts B.calls backing.old backing.new }
-        ensures cause { HasCause B.faults backing.old backing.new result }
+        ensures device { WasCalled B.size B.calls B.faults backing.old backing.new result }
     {
         self.store(first, core.words(at, words), backing)
+    }
+
+    /// Makes the chain of so many words one of more words: it goes on through free sectors, which are filled with zeros.
+    /// `BackingFull`, with nothing changed, comes exactly where fewer sectors are free than are lacking; `BackingFault`
+    /// only where the device failed, and the sectors that were free are then free again.
+    pub fn extend<B: Backing>(
+        &mut self,
+        first: u32,
+        have: u32,
+        want: u32,
+        backing: &mut B,
+    ) -> Result<(), SpaceFault>
+        requires some { 1 ≤ have }
+        requires order { have ≤ want }
+        requires chain { (st : Shelf) × HasChain self.old st first (sectors_for have) }
+        requires same { B.size backing.old + 1 ≡ length self.old.links }
+        ensures row { (st : Shelf) → HasChain self.old st first (sectors_for have)
+            → ExtendMeets B.holds backing.old backing.new self.old self.new st first have want result }
+        ensures count { length self.new.links ≡ length self.old.links }
+        ensures device { KeepsDevice B.size B.calls B.faults backing.old backing.new result }
+    {
+        let wants = want.div_ceil(30) - have.div_ceil(30);
+        if wants == 0 {
+            return Ok(());
+        }
+        let free = self.free_count();
+        match self.take(wants) {
+            None => Err(SpaceFault::BackingFull { wants, free }),
+            Some(more) => match self.fill(more, wants as usize, &[], backing) {
+                Ok(()) => {
+                    self.join(first, more);
+                    Ok(())
+                }
+                Err(_) => {
+                    self.give(more);
+                    Err(SpaceFault::BackingFault)
+                }
+            },
+        }
     }
 
     /// Reads words into core from a chain, each as the word of its number's low 48 bits under a tag.
@@ -215,14 +285,9 @@ impl Sectors {
             → Tells B.holds backing.old (λ all. (numbers : List ℕ) → length numbers ≡ words
             → Holds all (chain_of first st.chains) 0 numbers
             → (i : ℕ) → i < words → slice_get core.new (at + i) ≡ option_map (under tag) (slice_get numbers i))) }
-        ensures tags { OnOk result ((i : ℕ) → i < words → (w : Tagged) × (slice_get core.new (at + i) ≡ Some w) × (w.tag ≡ tag)) }
-        ensures low { OnOk result ((i : ℕ) → i < words → (w : Tagged) × (slice_get core.new (at + i) ≡ Some w) × (w.bits < 2 ^ 48)) }
-        ensures outside { (i : ℕ) → (i < at) ⊎ (at + words ≤ i) → slice_get core.new i ≡ slice_get core.old i }
-        ensures len { length core.new ≡ length core.old }
-        ensures same { Becomes B.holds backing.old backing.new (λ all. all) }
-        ensures size { B.size backing.new ≡ B.size backing.old }
-        ensures calls { Counts B.calls backing.old backing.new }
-        ensures cause { HasCause B.faults backing.old backing.new result }
+        ensures words { OnOk result (AreTagged core.new at words tag) }
+        ensures rest { OnlyWords at words core.old core.new }
+        ensures device { WasRead B.holds B.size B.calls B.faults backing.old backing.new result }
     {
         let _size = core.size();
         let mut from = first;

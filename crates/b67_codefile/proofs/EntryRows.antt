@@ -1,6 +1,6 @@
 -- Bytes of version 2 and their answers, from an independent reader.
 use Rattle.std.proofs.Common.{◌≡◌, ℕ, zero, suc, ◌+◌, ◌*◌, ◌/◌, ◌%◌, ◌^◌, List, [], ◌∷◌, ◌++◌, length, take, drop, map, Option, Some, None, Result, Ok, Err, refl}
-use Rattle.std.specs.Int.{w8, w16, w64, to_be_bytes}
+use Rattle.std.specs.Int.{w16, w64, to_be_bytes}
 use Rattle.std.specs.List.{flat_map}
 use Rattle.b67_word.specs.Tagged.{word}
 use Rattle.b67_codefile.specs.declared.fault.BadFile.{BadFile}

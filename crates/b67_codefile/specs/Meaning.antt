@@ -1,5 +1,5 @@
 -- The program that a codefile holds.
-use Rattle.std.specs.Prelude.{ℕ, map}
+use Rattle.std.specs.Prelude.{map}
 use Rattle.b67_word.specs.Tagged.{contents}
 use Rattle.b67_model.specs.State as state
 use Rattle.b67_model.specs.Program.{Program}

@@ -113,11 +113,7 @@ fn entry_of(before: u16, bytes: &[u8]) -> Result<(u16, &[u8]), ReadError>
     Ok((entry, rest))
 }
 
-fn many_entries_of(
-    alloc: Global,
-    count: u8,
-    bytes: &[u8],
-) -> Result<(Entries, &[u8]), ReadError>
+fn many_entries_of(alloc: Global, count: u8, bytes: &[u8]) -> Result<(Entries, &[u8]), ReadError>
     ensures { Gives (λ x. (x.0, x.1.now)) result (many_entries_at 0 count bytes.now) }
 {
     let mut entries = Entries::new(alloc);

@@ -69,12 +69,15 @@ module _ (x : Storage) (cpu : Cpu) (plan : Placement) (s : Session) (m : Session
   end_is q (end.Cell at) (AtCell f offset bits) i = i.there ∙ ap Some i.stands.0.0
   end_is q (end.Element original index) (AtElement n k) i = let o = i.1.array_of in
       (i.0, o.home, record { item = o.names.item; live = o.names.live; named = o.names.named; inside = subst (λ (z : Array). k < length z.numbers) (array_is cpu.core cpu.regs here_scene n o.names) i.1.inside })
-  end_is q (end.Array original) (AtArray n) i = (i.home, record {
-    item = i.names.item;
-    live = i.names.live;
-    named = i.names.named;
-    inside = not_empty cpu.core cpu.regs here_scene n i.names;
-  })
+  end_is q (end.Array original) (AtArray n) i = (
+    i.home,
+    record {
+      item = i.names.item;
+      live = i.names.live;
+      named = i.names.named;
+      inside = not_empty cpu.core cpu.regs here_scene n i.names;
+    },
+  )
   end_is q (end.Proc at) (AtProc f segment level place) i = tt
   end_is q (end.Intrinsic n) (AtIntrinsic k) i = tt
   end_is q (end.Cell at) (AtElement n k) i = i

@@ -20,7 +20,7 @@ use Rattle.b67_job_admit.specs.Meets.{IsLoaded, prepared_of}
 use Rattle.b67_job_admit.specs.Told.{refusal_text}
 use Rattle.b67_job_admit.specs.Verdicts.{Verdict}
 use Rattle.b67_job_admit.specs.CommandMeets.{IsJudged}
-use Rattle.b67_job_admit.proofs.Judged.{too_long, check_long, asm_long}
+use Rattle.b67_job_admit.proofs.Judged.{too_long, check_long, asm_long, convert_long}
 use Rattle.b67_session_open.specs.Decks.{DeckInRange}
 use Rattle.b67_job.proofs.Prepared.{prepared_in_range}
 use Rattle.b67_job.specs.Device.{Device, IsUntouched}
@@ -72,6 +72,7 @@ asked_long : (command : CommandLine) (text : List ℕ) → limit < length text �
 asked_long (lines.Run core) text long = judged_long text long
 asked_long lines.Asm text long = ap printed (asm_long text long)
 asked_long lines.Check text long = ap printed (check_long text long)
+asked_long lines.Convert text long = ap printed (convert_long text long)
 
 asked_alike : (command : CommandLine) (text : List ℕ) → limit < length text → asked command (take (limit + 1) text) ≡ asked command text
 asked_alike command text long =

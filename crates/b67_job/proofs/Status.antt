@@ -10,7 +10,7 @@ use Rattle.b67_model_text.specs.Deck.{limit}
 use Rattle.b67_task_tables.specs.declared.tables.Machine.{Machine}
 use Rattle.b67_job_admit.specs.Admitting.{Prepared}
 use Rattle.b67_job_admit.specs.Verdicts.{Verdict}
-use Rattle.b67_job_admit.proofs.Judged.{check_long, asm_long}
+use Rattle.b67_job_admit.proofs.Judged.{check_long, asm_long, convert_long}
 use Rattle.b67_model.specs.Lines.{run_text}
 use Rattle.b67_model.specs.Need.{need}
 use Rattle.b67_model.specs.Sectors.{sectors}
@@ -52,6 +52,7 @@ long_status : (command : CommandLine) (text : List ℕ) → limit < length text 
 long_status (lines.Run core) text long = ap judged_status (judged_long text long)
 long_status lines.Asm text long = ap (λ (v : Verdict). judged_status (printed v)) (asm_long text long)
 long_status lines.Check text long = ap (λ (v : Verdict). judged_status (printed v)) (check_long text long)
+long_status lines.Convert text long = ap (λ (v : Verdict). judged_status (printed v)) (convert_long text long)
 
 read_status : {S : Type 0} {left : S → Option (List ℕ)} {deck deck' : S} (command : CommandLine) (bytes told : List ℕ) → left deck ≡ Some told → WasRead left deck deck' bytes
     → judged_status (asked command told) ≡ judged_status (asked command bytes)
@@ -72,6 +73,7 @@ core_of : CommandLine → ℕ
 core_of (lines.Run core) = core
 core_of lines.Asm = 0
 core_of lines.Check = 0
+core_of lines.Convert = 0
 
 run_status_is : {B : Type 0} (d : Device B) (core : ℕ) (p : Prepared) (machine : Option Machine) (status : ℕ) (text : Text) → Tells d → Suffices d core p → Worked d → RunStops d core p machine status text
     → (status ≡ judged_status (Runs p)) ⊎ (status ≡ 9)

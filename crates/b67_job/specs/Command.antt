@@ -41,7 +41,8 @@ request _ = None
 abbrev pub one_word : List (Bor (List ℕ)) → Option CommandLine
 one_word (word ∷ []) =
     if bytes_eq word.now (codes "asm") then Some lines.Asm
-    else (if bytes_eq word.now (codes "check") then Some lines.Check else None)
+    else (if bytes_eq word.now (codes "check") then Some lines.Check
+    else (if bytes_eq word.now (codes "convert") then Some lines.Convert else None))
 one_word _ = None
 
 -- the command that the words are

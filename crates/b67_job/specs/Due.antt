@@ -156,3 +156,4 @@ abbrev pub IsAmple : {B : Type 0} → Device B → CommandLine → List ℕ → 
 IsAmple d (lines.Run core) text = Tells d × ((p : Prepared) → judgement text ≡ Runs p → Suffices d core p)
 IsAmple d lines.Asm text = Unit {0}
 IsAmple d lines.Check text = Unit {0}
+IsAmple d lines.Convert text = Unit {0}

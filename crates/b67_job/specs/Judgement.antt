@@ -5,7 +5,7 @@ use Rattle.b67_model_text.specs.declared.deck.Job.{Job}
 use Rattle.b67_job_admit.specs.declared.refusal.Refusal.{Refusal}
 use Rattle.b67_job_admit.specs.declared.refusal.Refusal.TheVariants as refusals
 use Rattle.b67_job_admit.specs.Admitting.{Answer, Prepared, deck_prepared}
-use Rattle.b67_job_admit.specs.Verdicts.{Verdict, check_verdict, asm_verdict}
+use Rattle.b67_job_admit.specs.Verdicts.{Verdict, check_verdict, asm_verdict, convert_verdict}
 use Rattle.b67_session_lines.specs.Stops.{run_status}
 use Rattle.b67_uncalled.specs.Uncalled.{uses_built}
 use Rattle.b67_job.specs.Runs.{run_of}
@@ -59,6 +59,7 @@ abbrev pub asked : CommandLine → List ℕ → Judgement
 asked (lines.Run core) text = judgement text
 asked lines.Asm text = printed (asm_verdict text)
 asked lines.Check text = printed (check_verdict text)
+asked lines.Convert text = printed (convert_verdict text)
 
 abbrev pub judged_status : Judgement → ℕ
 judged_status (Refused refusal) = 2

@@ -17,3 +17,4 @@ abbrev pub HasCore : CommandLine → Type 0
 HasCore (lines.Run core) = (256 ≤ core) × (core < 2 ^ 20)
 HasCore lines.Asm = Unit {0}
 HasCore lines.Check = Unit {0}
+HasCore lines.Convert = Unit {0}

@@ -16,6 +16,8 @@ pub enum CommandLine {
     Asm,
     /// Reads a deck, and prints a line for each of its jobs.
     Check,
+    /// Reads hexadecimal cards, and prints their codefile in version 2.
+    Convert,
 }
 
 // The texts behind the two options.
@@ -96,6 +98,8 @@ fn one_word(words: &[&str]) -> Option<CommandLine>
                 Some(CommandLine::Asm)
             } else if *word == "check" {
                 Some(CommandLine::Check)
+            } else if *word == "convert" {
+                Some(CommandLine::Convert)
             } else {
                 None
             }
@@ -104,8 +108,8 @@ fn one_word(words: &[&str]) -> Option<CommandLine>
     }
 }
 
-/// The command that the words are: `run --core N --backing PATH`, the two options in either order, `asm` or `check`. N is 256 to
-/// 1,048,575 in decimal without sign or leading zero; PATH isn't empty and doesn't begin with `-`.
+/// The command that the words are: `run --core N --backing PATH`, the two options in either order, `asm`, `check` or
+/// `convert`. N is 256 to 1,048,575 in decimal without sign or leading zero; PATH isn't empty and doesn't begin with `-`.
 pub fn command_of(words: &[&str]) -> Option<CommandLine>
     ensures command { result ≡ command_of words.now }
     ensures core { IfSome result HasCore }

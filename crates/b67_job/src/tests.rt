@@ -187,6 +187,10 @@ fn stack_size(rt: HostRuntime) -> Result<(), Fail> {
 const SUM_CARDS: &str = "SEGMENT MAIN 2\nMKST\nNAMC 0,9\nLT8 2\nLT8 3\nADD\nENTR\nEXIT\n";
 
 /// Its mnemonic of card 6 is misspelt.
+/// A procedure that begins at an entry.
+const ENTRY_CARDS: &str =
+    "SEGMENT MAIN 2\nMPCW P:B\nMKST\nNAMC 2,2\nENTR\nEXIT\nSEGMENT P 3\nEXIT\nB: MKST\nNAMC 0,9\nONE\nENTR\nEXIT\nENTRY B\n";
+
 const ADDD_CARDS: &str = "SEGMENT MAIN 2\nMKST\nNAMC 0,9\nLT8 2\nLT8 3\nADDD\nENTR\nEXIT\n";
 
 /// SUM's deck, and behind it that of a job with a BRUN into a literal.
@@ -212,6 +216,27 @@ fn commands(rt: HostRuntime) -> Result<(), Fail> {
             2,
             "LOAD 6 REASON 3 SEGMENT 1 AT 2:0\n",
         ),
+        (
+            "asm",
+            ENTRY_CARDS,
+            0,
+            "423637434f44453200020000020000030003bfffffffffff000300020000c003\n0003ae5002aba3ff0301200000020003a3ae4009b1ab0003a3ffffffffff\n",
+        ),
+        (
+            "convert",
+            "\n423637434f44453100010000020002\n0003ae4009B202b200030380aba3ffff",
+            0,
+            "423637434f44453200010000020000020003ae4009b202b200030380aba3ffff\n",
+        ),
+        (
+            "convert",
+            "423637434f444531000100000200020003ae4009b202b200030380aba3ff\n",
+            2,
+            "CODEFILE 1 REASON 1 BYTE 30\n",
+        ),
+        ("convert", "\n\n4236\n", 2, "CODEFILE 3 REASON 1 BYTE 2\n"),
+        ("convert", "\n", 2, "CODEFILE 1 REASON 1 BYTE 0\n"),
+        ("convert", "42\n?HEX\n", 2, "DECK 2 REASON 11\n"),
         ("check", "?JOB a\n", 2, "DECK 1 REASON 4\n"),
         ("check", "?JOB A\n", 2, "DECK 1 REASON 13\n"),
     ];

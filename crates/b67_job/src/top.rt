@@ -8,7 +8,7 @@ ghost use Rattle.b67_layout_storage.specs.Machine.{DeviceAfterCalls};
 ghost use Rattle.b67_job_admit.specs.Told.{refusal_text};
 ghost use Rattle.b67_job_admit.specs.Admitting.{Prepared};
 ghost use Rattle.b67_job_admit.specs.Meets.{prepared_of};
-ghost use Rattle.b67_job_admit.specs.Verdicts.{asm_verdict, check_verdict};
+ghost use Rattle.b67_job_admit.specs.Verdicts.{asm_verdict, check_verdict, convert_verdict};
 ghost use Rattle.b67_session_open.specs.Decks.{DeckInRange};
 ghost use Rattle.b67_session_lines.specs.Ends.{Ends};
 ghost use Rattle.b67_job.specs.Device.{device_of};
@@ -27,7 +27,7 @@ use crate::planning::missing_card;
 use crate::runs::run_deck;
 use b67_backing::Backing;
 use b67_io::{Sink, Source};
-use b67_job_admit::{AdmitFault, Loaded, Refusal, admit, asm_text, check_text};
+use b67_job_admit::{AdmitFault, Loaded, Refusal, admit, asm_text, check_text, convert_text};
 use b67_session_lines::{line_of, say};
 use b67_word::Bytes;
 use std::alloc::Global;
@@ -83,6 +83,7 @@ fn answer<S: Source, K: Sink, B: Backing>(
         Some(CommandLine::Run { core }) => answer_run(alloc, core, deck, printer, backing),
         Some(CommandLine::Asm) => without_machine(answer_asm(alloc, deck, printer)),
         Some(CommandLine::Check) => without_machine(answer_check(alloc, deck, printer)),
+        Some(CommandLine::Convert) => without_machine(answer_convert(alloc, deck, printer)),
         None => without_machine(say(
             printer,
             1,
@@ -121,6 +122,13 @@ fn answer_check<S: Source, K: Sink>(alloc: Global, deck: &mut S, printer: &mut K
     ensures { Writes check_verdict S.left S.faults deck.old deck.new K.taken K.faults printer.old printer.new result }
 {
     let text = check_text(alloc, deck);
+    answer_text(&text, printer)
+}
+
+fn answer_convert<S: Source, K: Sink>(alloc: Global, deck: &mut S, printer: &mut K) -> u8
+    ensures { Writes convert_verdict S.left S.faults deck.old deck.new K.taken K.faults printer.old printer.new result }
+{
+    let text = convert_text(alloc, deck);
     answer_text(&text, printer)
 }
 
@@ -172,6 +180,8 @@ fn refuse_program<K: Sink>(fault: AdmitFault, printer: &mut K) -> u8
 ///   its run, up to its halt. What the machine doesn't have is refused with reason 90, once all programs are admitted.
 /// - `asm` prints the codefile of assembly cards as hexadecimal cards, 32 bytes to a card, in lower case.
 /// - `check` prints `name ADMITTED s r` for each job of the deck, with its numbers of segments and of data rows.
+/// - `convert` prints the codefile of hexadecimal cards in version 2, with the same segments and rows, as `asm` prints one. The
+///   file isn't verified.
 ///
 /// Status 0 is that all is done, 1 the usage, 2 a refused deck, 3 a run that halted, 4 a core that is too small, 5 a backing
 /// that is full, 6 a backing that failed, 7 a source that failed, 8 a printer that failed, 9 out of memory. The machine is

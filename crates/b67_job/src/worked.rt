@@ -295,7 +295,11 @@ fn halted_before_a_want_of_core(rt: HostRuntime) -> Result<(), Fail> {
         let (printed, outcome) = run_over(alloc, "256", cards, job.as_str(), &mut backing)?;
         assert_eq!(rt; printed.as_slice(), lines.as_bytes(), "{cards}");
         assert_eq!(rt; outcome.status, status, "{cards}");
-        assert_eq!(rt; outcome.machine.as_ref().map(|k| k.tasks.made), Some(4), "{cards}");
+        assert_eq!(rt;
+            outcome.machine.as_ref().map(|k| k.tasks.made),
+            Some(4),
+            "{cards}"
+        );
     }
     Ok(())
 }

@@ -12,7 +12,7 @@ use Rattle.b67_codefile.specs.Spelling.{spelling, HasTag, IsSegment, IsRow, IsWi
 use Rattle.b67_codefile.specs.Meaning.{segment_of, program_of}
 use Rattle.b67_model_text.specs.declared.card.Card.{Card}
 use Rattle.b67_model_text.specs.Hex.{hex_text}
-use Rattle.b67_model_text.specs.Asm.{assembled}
+use Rattle.b67_model_text.specs.Asm.{assembled, version_of}
 use Rattle.b67_job_admit.specs.Verdicts.{segment_file, codefile_of, hex_lines, asm_of}
 
 words_back : (tag : ℕ) (words : List Tagged) → AllByRecursion (HasTag tag) words → map (word tag) (contents words) ≡ words
@@ -28,12 +28,12 @@ rows_back [] all = refl
 rows_back (r ∷ rows) all = rw (words_back 0 r all.0.each, rows_back rows all.1) refl
 
 -- a codefile is that of its program
-pub file_back : (f : Codefile) → IsWithin f → codefile_of (program_of f) ≡ f
+pub file_back : (f : Codefile) → IsWithin f → codefile_of f.version (program_of f) ≡ f
 file_back f within = rw (segments_back f.segments within.segments, rows_back f.rows within.rows) refl
 
 -- cards that denote the program of a codefile
-pub assembled_file : (cards : List Card) (f : Codefile) → assembled cards ≡ Ok (program_of f) → IsWithin f → asm_of cards ≡ Ok (hex_lines (spelling f))
-assembled_file cards f e within = rw e (ap (λ (g : Codefile). Ok (hex_lines (spelling g))) (file_back f within))
+pub assembled_file : (cards : List Card) (f : Codefile) → assembled cards ≡ Ok (program_of f) → f.version ≡ version_of cards → IsWithin f → asm_of cards ≡ Ok (hex_lines (spelling f))
+assembled_file cards f e version within = rw e (ap (λ (g : Codefile). Ok (hex_lines (spelling g))) (ap (λ (n : ℕ). codefile_of n (program_of f)) (sym version) ∙ file_back f within))
 
 -- the first cards of bytes, so many
 abbrev pub first_cards : List ℕ → ℕ → List ℕ

@@ -9,7 +9,7 @@ use Rattle.b67_model_text.specs.declared.deck.Job.{Job}
 use Rattle.b67_codefile.specs.declared.file.Codefile.{Codefile}
 use Rattle.b67_codefile.specs.Meaning.{program_of}
 use Rattle.b67_model_text.specs.Deck as deck
-use Rattle.b67_model_text.specs.Deck.{plain_cards, limit}
+use Rattle.b67_model_text.specs.Deck.{plain_cards, hexadecimal_cards, limit}
 use Rattle.b67_card.specs.Reading.{GaveFirst, IsRead}
 use Rattle.b67_card.specs.declared.fault.DeckFault.{DeckFault}
 use Rattle.b67_card.specs.declared.fault.DeckFault.TheVariants as fault
@@ -20,7 +20,7 @@ use Rattle.b67_job_admit.specs.declared.fault.AdmitFault.{AdmitFault}
 use Rattle.b67_job_admit.specs.declared.fault.AdmitFault.TheVariants as admits
 use Rattle.b67_job_admit.specs.Admitting.{Prepared, deck_prepared}
 use Rattle.b67_job_admit.specs.Meets.{IsLoaded, prepared_of, of_deck_fault}
-use Rattle.b67_job_admit.specs.Verdicts.{Verdict, job_lines, check_verdict, asm_of, asm_verdict}
+use Rattle.b67_job_admit.specs.Verdicts.{Verdict, job_lines, check_verdict, asm_of, asm_verdict, converted_of, convert_verdict}
 use Rattle.b67_job_admit.specs.CommandMeets.{IsJudged}
 
 -- ---- check
@@ -57,6 +57,16 @@ abbrev IsRefused : Result (List Card) deck.Refusal → Type 0
 IsRefused (Ok cards) = ⊥
 IsRefused (Err r) = Unit {0}
 
+-- a source that gave all of a text within the limit gave its first bytes
+first_bytes : {S : Type 0} (left : S → Option (List ℕ)) (old new : S) (text : List ℕ) → length text ≤ limit → GaveAll left old new text → GaveFirst left (limit + 1) old new text
+first_bytes left old new text low all =
+    let le : length text ≤ limit + 1 = omega (arith, low) in
+    record {
+      told = λ before same.
+          let h = all.told before same in
+          (sym (take_all (limit + 1) text le) ∙ ap (take (limit + 1)) (sym h.0), h.1 ∙ ap Some (sym (drop_all (limit + 1) text le) ∙ ap (drop (limit + 1)) (sym h.0)));
+    }
+
 -- a text with cards is within the limit
 within : (text : List ℕ) (cards : List Card) → plain_cards text ≡ Ok cards → length text ≤ limit
 within text cards e = by_test (ltb limit (length text)) refl
@@ -67,20 +77,40 @@ within text cards e = by_test (ltb limit (length text)) refl
 
 -- and the source that gave all of it gave its first bytes
 pub first_of_all : {S : Type 0} (left : S → Option (List ℕ)) (old new : S) (text : List ℕ) (cards : List Card) → plain_cards text ≡ Ok cards → GaveAll left old new text → GaveFirst left (limit + 1) old new text
-first_of_all left old new text cards e all =
-    let low = within text cards e in
-    let le : length text ≤ limit + 1 = omega (arith, low) in
-    record {
-      told = λ before same.
-          let h = all.told before same in
-          (sym (take_all (limit + 1) text le) ∙ ap (take (limit + 1)) (sym h.0), h.1 ∙ ap Some (sym (drop_all (limit + 1) text le) ∙ ap (drop (limit + 1)) (sym h.0)));
-    }
+first_of_all left old new text cards e all = first_bytes left old new text (within text cards e) all
 
 -- cards that aren't read
 pub not_read : {S : Type 0} (left : S → Option (List ℕ)) (faults : S → ℕ) (old new : S) (f : DeckFault) → IsRead left faults old new plain_cards (Err f) → IsJudged left faults old new asm_verdict (Err (of_deck_fault f))
 not_read left faults old new (fault.Card card reason) h = (h.0, h.1, refused_card h.0 (record { card = card; reason = reason }) h.2)
 not_read left faults old new fault.SourceFault h = h
 not_read left faults old new fault.Memory h = h
+
+-- ---- convert
+
+pub converted_cards : (text : List ℕ) (cards : List Card) (v : Verdict) → hexadecimal_cards text ≡ Ok cards → converted_of cards ≡ v → convert_verdict text ≡ v
+unfolding convert_verdict
+converted_cards text cards v e f = rw e f
+
+refused_hexadecimal : (text : List ℕ) (r : deck.Refusal) → hexadecimal_cards text ≡ Err r → convert_verdict text ≡ Err (refusal.Deck r.card r.reason)
+unfolding convert_verdict
+refused_hexadecimal text r e = rw e refl
+
+-- a text with hexadecimal cards is within the limit
+within_hexadecimal : (text : List ℕ) (cards : List Card) → hexadecimal_cards text ≡ Ok cards → length text ≤ limit
+within_hexadecimal text cards e = by_test (ltb limit (length text)) refl
+  where
+    by_test : (b : Bool) → ltb limit (length text) ≡ b → length text ≤ limit
+    by_test true t = absurd (subst IsRefused (rw t at e) tt)
+    by_test false t = ltb-false limit (length text) t
+
+pub first_of_hexadecimal : {S : Type 0} (left : S → Option (List ℕ)) (old new : S) (text : List ℕ) (cards : List Card) → hexadecimal_cards text ≡ Ok cards → GaveAll left old new text → GaveFirst left (limit + 1) old new text
+first_of_hexadecimal left old new text cards e all = first_bytes left old new text (within_hexadecimal text cards e) all
+
+-- hexadecimal cards that aren't read
+pub not_read_hexadecimal : {S : Type 0} (left : S → Option (List ℕ)) (faults : S → ℕ) (old new : S) (f : DeckFault) → IsRead left faults old new hexadecimal_cards (Err f) → IsJudged left faults old new convert_verdict (Err (of_deck_fault f))
+not_read_hexadecimal left faults old new (fault.Card card reason) h = (h.0, h.1, refused_hexadecimal h.0 (record { card = card; reason = reason }) h.2)
+not_read_hexadecimal left faults old new fault.SourceFault h = h
+not_read_hexadecimal left faults old new fault.Memory h = h
 
 -- ---- texts past the limit
 
@@ -95,3 +125,7 @@ check_long text long = rw (lt-ltb limit (length text) long) refl
 pub asm_long : (text : List ℕ) → limit < length text → asm_verdict text ≡ Err (too_long text)
 unfolding asm_verdict
 asm_long text long = rw (lt-ltb limit (length text) long) refl
+
+pub convert_long : (text : List ℕ) → limit < length text → convert_verdict text ≡ Err (too_long text)
+unfolding convert_verdict
+convert_long text long = rw (lt-ltb limit (length text) long) refl

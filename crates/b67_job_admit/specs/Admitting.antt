@@ -1,5 +1,5 @@
 -- The programs of a deck: assembled or read in job order, then admitted in job order, or the first refusal.
-use Rattle.std.specs.Prelude.{ℕ, List, [], ◌∷◌, Option, Some, None, Result, Ok, Err, ⊤, slice_get}
+use Rattle.std.specs.Prelude.{ℕ, List, [], ◌∷◌, Option, Some, None, Result, Ok, Err, ⊤}
 use Rattle.b67_codefile.specs.declared.fault.BadFile.{BadFile}
 use Rattle.b67_codefile.specs.declared.fault.BadFile.TheVariants as bad
 use Rattle.b67_codefile.specs.declared.file.Codefile.{Codefile}
@@ -7,7 +7,7 @@ use Rattle.b67_codefile.specs.Reading.{file_of}
 use Rattle.b67_codefile.specs.Meaning.{program_of}
 use Rattle.b67_model.specs.Program.{Program}
 use Rattle.b67_model.specs.Loader as loader
-use Rattle.b67_model.specs.Loader.{refusals}
+use Rattle.b67_model.specs.Loader.{refusals, first_of}
 use Rattle.b67_model_text.specs.declared.deck.Body.{Body}
 use Rattle.b67_model_text.specs.declared.deck.Body.TheVariants.{Cards, Bytes}
 use Rattle.b67_model_text.specs.declared.deck.Job.{Job}
@@ -43,12 +43,17 @@ told_of card (bad.BadHeader at) = refusal.Codefile card 2 at
 told_of card (bad.BadWord at) = refusal.Codefile card 3 at
 told_of card (bad.TooMany at) = refusal.Codefile card 4 at
 told_of card (bad.Trailing at) = refusal.Codefile card 5 at
+told_of card (bad.BadEntry at) = refusal.Codefile card 6 at
 told_of card bad.Memory = refusal.Codefile card 0 0
+
+-- a codefile, or why bytes are none, by a card
+abbrev pub codefile_in : ℕ → Result Codefile BadFile → Answer Codefile
+codefile_in card (Ok file) = Ok file
+codefile_in card (Err e) = Err (told_of card e)
 
 -- a codefile's program, or why its bytes are none, by the card of the body
 abbrev pub of_file : ℕ → Result Codefile BadFile → Answer Program
-of_file card (Ok file) = Ok (program_of file)
-of_file card (Err e) = Err (told_of card e)
+of_file card file = codefile_in card file >>= λ file. Ok (program_of file)
 
 -- a job's program
 abbrev pub program_in : ℕ → Body → Answer Program
@@ -65,7 +70,7 @@ programs (j ∷ more) = do
 
 -- the first rule that a program breaks
 abbrev pub first_refusal : Program → Option loader.Refusal
-first_refusal p = slice_get (refusals p) 0
+first_refusal p = first_of (refusals p)
 
 -- the same by the card of its job
 abbrev pub by_rules : ℕ → Option loader.Refusal → Answer ⊤

@@ -8,12 +8,13 @@ use Rattle.b67_model.specs.Program.{Program}
 use Rattle.b67_codefile.specs.declared.file.Segment.{Segment}
 use Rattle.b67_codefile.specs.declared.file.Codefile.{Codefile}
 use Rattle.b67_codefile.specs.Spelling.{spelling}
+use Rattle.b67_codefile.specs.Reading.{file_of}
 use Rattle.b67_model_text.specs.declared.card.Card.{Card}
 use Rattle.b67_model_text.specs.declared.deck.Job.{Job}
 use Rattle.b67_model_text.specs.Hex.{hex_cards}
-use Rattle.b67_model_text.specs.Deck.{plain_cards}
-use Rattle.b67_model_text.specs.Asm.{assembled}
-use Rattle.b67_job_admit.specs.Admitting.{Answer, ◌>>=◌, of_deck, of_cards, deck_prepared}
+use Rattle.b67_model_text.specs.Deck.{plain_cards, hexadecimal_cards, bytes_in, first_number}
+use Rattle.b67_model_text.specs.Asm.{assembled, version_of}
+use Rattle.b67_job_admit.specs.Admitting.{Answer, ◌>>=◌, of_deck, of_cards, codefile_in, deck_prepared}
 
 -- the text to print, or the first refusal
 abbrev pub Verdict : Type 0
@@ -37,12 +38,12 @@ check_verdict text = do
 
 -- ---- asm
 
--- the codefile of a program: words of code have tag 3, words of data rows tag 0
+-- the codefile of a program in a version: words of code have tag 3, words of data rows tag 0
 abbrev pub segment_file : state.Segment → Segment
-segment_file s = record { level = s.level; code = map (word 3) s.code }
+segment_file s = record { level = s.level; entries = s.entries; code = map (word 3) s.code }
 
-abbrev pub codefile_of : Program → Codefile
-codefile_of p = record { segments = map segment_file p.segments; rows = map (map (word 0)) p.rows }
+abbrev pub codefile_of : ℕ → Program → Codefile
+codefile_of version p = record { version = version; segments = map segment_file p.segments; rows = map (map (word 0)) p.rows }
 
 -- the hexadecimal cards of bytes, each on a line
 abbrev pub hex_lines : List ℕ → List ℕ
@@ -52,10 +53,24 @@ hex_lines bytes = flat_map ended (hex_cards bytes)
 abbrev pub asm_of : List Card → Verdict
 asm_of cards = do
   p ← of_cards (assembled cards)
-  Ok (hex_lines (spelling (codefile_of p)))
+  Ok (hex_lines (spelling (codefile_of (version_of cards) p)))
 
 -- by a whole text of assembly cards
 unfoldable pub asm_verdict : List ℕ → Verdict
 asm_verdict text = do
   cards ← of_deck (plain_cards text)
   asm_of cards
+
+-- ---- convert
+
+-- by hexadecimal cards: those of the file of version 2 with the same segments and rows; a card is named even where none is
+abbrev pub converted_of : List Card → Verdict
+converted_of cards = do
+  file ← codefile_in (first_number cards) (file_of (bytes_in cards))
+  Ok (hex_lines (spelling (record file { version = 2 })))
+
+-- by a whole text of hexadecimal cards
+unfoldable pub convert_verdict : List ℕ → Verdict
+convert_verdict text = do
+  cards ← of_deck (hexadecimal_cards text)
+  converted_of cards

@@ -4,7 +4,8 @@ ghost use Rattle.std.specs.Prelude.{◌≡◌, ◌≤◌, List, IfOk, length, ma
 ghost use Rattle.std.specs.List.{AllByRecursion};
 ghost use Rattle.b67_codefile.specs.Spelling.{IsWithin};
 ghost use Rattle.b67_codefile.specs.Meaning as meaning;
-ghost use Rattle.b67_job_admit.specs.Admitting.{program_in, programs, by_rules, first_refusal, admitted, prepared};
+ghost use Rattle.b67_codefile.specs.Reading.{file_of};
+ghost use Rattle.b67_job_admit.specs.Admitting.{codefile_in, program_in, programs, by_rules, first_refusal, admitted, prepared};
 ghost use Rattle.b67_job_admit.specs.Meets.{Meets, IsLoaded, of_deck_fault};
 
 use crate::fault::AdmitFault;
@@ -19,9 +20,10 @@ use b67_model_text::{Body, Cards, Job};
 use std::alloc::Global;
 use std::collections::VecDeque;
 
-fn file_in(alloc: Global, card: u32, bytes: &[u8]) -> Result<Codefile, AdmitFault>
+/// The codefile of bytes, or the reason why they are none, by a card.
+pub fn codefile_in(alloc: Global, card: u32, bytes: &[u8]) -> Result<Codefile, AdmitFault>
     ensures within { IfOk result IsWithin }
-    ensures answer { Meets meaning.program_of result (program_in card (Body.Bytes bytes.now)) }
+    ensures answer { Meets (λ file. file) result (codefile_in card (file_of bytes.now)) }
 {
     match read(alloc, bytes) {
         Ok(file) => Ok(file),
@@ -30,7 +32,18 @@ fn file_in(alloc: Global, card: u32, bytes: &[u8]) -> Result<Codefile, AdmitFaul
         Err(BadFile::BadWord { at }) => Err(refused(card, 3, at)),
         Err(BadFile::TooMany { at }) => Err(refused(card, 4, at)),
         Err(BadFile::Trailing { at }) => Err(refused(card, 5, at)),
+        Err(BadFile::BadEntry { at }) => Err(refused(card, 6, at)),
         Err(BadFile::Memory) => Err(AdmitFault::Memory),
+    }
+}
+
+fn program_of_bytes(alloc: Global, card: u32, bytes: &[u8]) -> Result<Codefile, AdmitFault>
+    ensures within { IfOk result IsWithin }
+    ensures answer { Meets meaning.program_of result (program_in card (Body.Bytes bytes.now)) }
+{
+    match codefile_in(alloc, card, bytes) {
+        Ok(file) => Ok(file),
+        Err(fault) => Err(fault),
     }
 }
 
@@ -84,7 +97,7 @@ pub fn file_of(alloc: Global, job: &Job) -> Result<Codefile, AdmitFault>
 {
     match &job.program {
         Body::Cards(cards) => assembled_in(alloc, job.body_card, cards),
-        Body::Bytes(bytes) => file_in(alloc, job.body_card, bytes.as_slice()),
+        Body::Bytes(bytes) => program_of_bytes(alloc, job.body_card, bytes.as_slice()),
     }
 }
 
@@ -144,7 +157,8 @@ fn programs_of(alloc: Global, jobs: &[Job]) -> Result<Programs, AdmitFault>
     }
 }
 
-fn deck_fault(fault: DeckFault) -> AdmitFault
+/// A deck's fault, as it is handed on.
+pub fn deck_fault(fault: DeckFault) -> AdmitFault
     ensures { result ≡ of_deck_fault fault }
 {
     match fault {

@@ -3,21 +3,22 @@
 ghost use Rattle.std.specs.Prelude.{◌≡◌, ◌≤◌, IfOk};
 ghost use Rattle.b67_codefile.specs.Spelling.{IsWithin, spelling};
 ghost use Rattle.b67_job_admit.specs.Verdicts.{asm_verdict, asm_of, hex_lines};
-ghost use Rattle.b67_job_admit.specs.Meets.{of_deck_fault};
 ghost use Rattle.b67_job_admit.specs.CommandMeets.{IsJudged, Meets};
 
+use crate::admission::deck_fault;
 use crate::fault::AdmitFault;
 use crate::hex::put_cards;
 use crate::refusal::Refusal;
 use b67_asm::{AsmFault, assemble};
-use b67_card::{DeckFault, read_cards};
+use b67_card::read_cards;
 use b67_codefile::{Codefile, write};
 use b67_io::Source;
 use b67_model_text::Cards;
 use b67_word::Bytes;
 use std::alloc::{AllocError, Global};
 
-fn text_of(alloc: Global, file: &Codefile) -> Result<Bytes, AllocError>
+/// The hexadecimal cards of a codefile.
+pub fn text_of(alloc: Global, file: &Codefile) -> Result<Bytes, AllocError>
     requires { IsWithin file.now }
     ensures { IfOk result (λ text. text ≡ hex_lines (spelling file.now)) }
 {
@@ -39,16 +40,6 @@ fn assembled_text(alloc: Global, cards: &Cards) -> Result<Bytes, AdmitFault>
             Err(AdmitFault::Refused(Refusal::Asm { card, reason }))
         }
         Err(AsmFault::Memory) => Err(AdmitFault::Memory),
-    }
-}
-
-fn deck_fault(fault: DeckFault) -> AdmitFault
-    ensures { result ≡ of_deck_fault fault }
-{
-    match fault {
-        DeckFault::Card { card, reason } => AdmitFault::Refused(Refusal::Deck { card, reason }),
-        DeckFault::SourceFault => AdmitFault::SourceFault,
-        DeckFault::Memory => AdmitFault::Memory,
     }
 }
 

@@ -1,9 +1,10 @@
-//! From the bytes of a deck to admitted programs, and what asm and check print of a text.
+//! From the bytes of a deck to admitted programs, and what asm, check and convert print of a text.
 #![tactic(auto)]
 
 mod admission;
 mod asm;
 mod check;
+mod convert;
 mod fault;
 mod hex;
 mod programs;
@@ -13,6 +14,7 @@ mod refusal;
 pub use admission::{admit, file_of};
 pub use asm::asm_text;
 pub use check::check_text;
+pub use convert::convert_text;
 pub use fault::AdmitFault;
 pub use programs::{Loaded, Programs};
 pub use put::put_text;

@@ -15,7 +15,8 @@ pub enum Refusal {
         card: u32,
         reason: u8,
     },
-    /// The bytes of the body of this `?HEX` card are no codefile, from this byte on, counted from 0.
+    /// The bytes of the body of this `?HEX` card, or of the cards from this one on, are no codefile, from this byte on, counted
+    /// from 0.
     Codefile {
         card: u32,
         reason: u8,

@@ -4,3 +4,4 @@ pub mod LongPrograms
 pub mod Sessions
 pub mod Cards
 pub mod Texts
+pub mod TaskPrograms

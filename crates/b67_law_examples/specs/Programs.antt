@@ -1,6 +1,7 @@
 -- The programs of worked runs.
-use Rattle.std.specs.Prelude.{ℕ, zero, suc, ◌+◌, List, [], ◌∷◌, ◌++◌}
+use Rattle.std.specs.Prelude.{ℕ, zero, suc, ◌+◌, ◌*◌, ◌/◌, ◌%◌, ◌^◌, List, [], ◌∷◌, ◌++◌, map}
 use Rattle.b67_model.specs.State.{Segment}
+use Rattle.b67_model_text.specs.Encoding.{code_of}
 use Rattle.b67_law_examples.specs.Mnemonics.{Operator, segment, times, ADD, BRTR, BRUN, CHSN, DLET, ENTR, EXIT, GRTR, IDIV, INDX, ISOL, LNOT, LOAD, LT16, LT48, LT8, MKST, MPCW, MULT, NAMC, NOOP, NVLD, NXLV, ONE, RDIV, RETN, SAME, STFF, STOD, VALC, ZERO}
 
 -- two and three
@@ -428,3 +429,22 @@ abbrev pub shortened_and_back : List Segment
 shortened_and_back =
     segment 2 (marks_last ++ (MKST ∷ NAMC 0 18 ∷ NAMC 2 2 ∷ LOAD ∷ LT8 9 ∷ ENTR ∷ MKST ∷ NAMC 0 18 ∷ NAMC 2 2 ∷ LOAD ∷ LT8 10 ∷ ENTR ∷
     MKST ∷ NAMC 0 9 ∷ VALC 2 3 ∷ ENTR ∷ EXIT ∷ [])) ∷ []
+
+-- one word of level 2, with entries
+abbrev pub one_word : List ℕ → ℕ → List Segment
+one_word entries word = record { level = 2; entries = entries; code = word ∷ [] } ∷ []
+
+-- the second segment prints 1 from its second operator on, at which the first one enters it, and has these entries
+abbrev pub enters_at_0_1 : List ℕ → List Segment
+enters_at_0_1 entries =
+    record { level = 2; entries = []; code = 0xbfffffffffff ∷ 0x00020000c003 ∷ 0xae5002aba3ff ∷ [] } ∷
+    record { level = 3; entries = entries; code = 0xa3ae4009b1ab ∷ 0xa3ffffffffff ∷ [] } ∷ []
+
+-- so many entries, one at each syllable from the nth on
+abbrev pub entries_from : (n count : ℕ) → List ℕ
+entries_from n zero = []
+entries_from n (suc count) = ((n % 6) * 2 ^ 13 + n / 6) ∷ entries_from (n + 1) count
+
+-- 258 operators of a syllable each, and these entries
+abbrev pub with_entries : List ℕ → List Segment
+with_entries entries = record { level = 2; entries = entries; code = code_of (map (λ (o : Operator). o 2) (times 257 (NOOP ∷ []) ++ EXIT ∷ [])) } ∷ []

@@ -82,6 +82,10 @@ branching word syllable = without_rows (branches_to word syllable)
 abbrev pub refused_at : ℕ → ℕ → ℕ → List Refusal
 refused_at word syllable rule = record { segment = 1; place = record { word = word; syllable = syllable }; rule = rule } ∷ []
 
+-- the refusal that is reported, in the first segment
+abbrev pub first_at : ℕ → ℕ → ℕ → Option Refusal
+first_at word syllable rule = Some (record { segment = 1; place = record { word = word; syllable = syllable }; rule = rule })
+
 abbrev pub rule_of : Refusal → ℕ
 rule_of r = r.rule
 

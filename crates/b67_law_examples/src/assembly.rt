@@ -1,6 +1,8 @@
 //! What assembly cards denote, and which are refused.
 
 ghost use Rattle.std.specs.Prelude.{◌≡◌, [], ◌∷◌, Ok, codes};
+ghost use Rattle.b67_model_text.specs.Cards.{cards};
+ghost use Rattle.b67_model_text.specs.Asm.{version_of};
 ghost use Rattle.b67_law_examples.specs.Cards.{assembly, refused};
 ghost use Rattle.b67_law_examples.specs.LongPrograms.{manboy};
 ghost use Rattle.b67_law_examples.specs.Programs.{eight, jensen, leave, sum};
@@ -59,12 +61,16 @@ pub fn unknown_cards_are_refused()
     ensures label_close { assembly (codes "SEGMENT A 2\nL:ADD\n") ≡ refused 2 1 }
 {}
 
-/// Reason 2: an operand that is missing, malformed or one too many.
-pub fn operands_are_refused()
+/// Reason 2: a malformed number.
+pub fn malformed_numbers_are_refused()
     ensures minus_sign { assembly (codes "SEGMENT A 2\nLT8 -1\n") ≡ refused 2 2 }
     ensures plus_sign { assembly (codes "SEGMENT A 2\nLT8 +5\n") ≡ refused 2 2 }
     ensures zeros_in_front { assembly (codes "SEGMENT A 2\nLT8 007\n") ≡ refused 2 2 }
     ensures minus_zero { assembly (codes "SEGMENT A 2\nLT48 -0\n") ≡ refused 2 2 }
+{}
+
+/// Reason 2: an operand that is missing, one too many, or malformed otherwise.
+pub fn operands_are_refused()
     ensures no_operand { assembly (codes "SEGMENT A 2\nLT8\n") ≡ refused 2 2 }
     ensures two_operands { assembly (codes "SEGMENT A 2\nLT8 5 5\n") ≡ refused 2 2 }
     ensures none_wanted { assembly (codes "SEGMENT A 2\nADD 5\n") ≡ refused 2 2 }
@@ -131,4 +137,46 @@ pub fn unfit_couples_are_refused()
 /// Reason 9: segment or row number 256.
 pub fn segment_256_is_refused()
     ensures { assembly (text_of (small_segments 256 0)) ≡ refused 511 9 }
+{}
+
+/// A procedure that begins at an entry; entries stand in the order of their places, and make a file of version 2.
+pub fn entries_are_assembled()
+    ensures entry { assembly (codes "SEGMENT MAIN 2\nMPCW P:B\nMKST\nNAMC 2,2\nENTR\nEXIT\nSEGMENT P 3\nEXIT\nB: MKST\nNAMC 0,9\nONE\nENTR\nEXIT\nENTRY B\n") ≡ Ok (record { segments = record { level = 2; entries = []; code = 0xbfffffffffff ∷ 0x00020000c003 ∷ 0xae5002aba3ff ∷ [] } ∷ record { level = 3; entries = 0x2000 ∷ []; code = 0xa3ae4009b1ab ∷ 0xa3ffffffffff ∷ [] } ∷ []; rows = [] }) }
+    ensures in_order { assembly (codes "SEGMENT A 2\nEXIT\nENTRY M\nL: EXIT\nM: EXIT\nENTRY L\n") ≡ Ok (record { segments = record { level = 2; entries = 0x2000 ∷ 0x4000 ∷ []; code = 0xa3a3a3ffffff ∷ [] } ∷ []; rows = [] }) }
+    ensures second_version { version_of (cards (codes "SEGMENT A 2\nEXIT\nL: EXIT\nENTRY L\n")) ≡ 2 }
+    ensures first_version { version_of (cards (codes "SEGMENT A 2\nEXIT\nL: EXIT\n")) ≡ 1 }
+    ensures label_named_entry { assembly (codes "SEGMENT A 2\nENTRY: ADD\nBRUN ENTRY\n") ≡ Ok (record { segments = record { level = 2; entries = []; code = 0x80a20000ffff ∷ [] } ∷ []; rows = [] }) }
+{}
+
+/// Reasons 1 to 7 of ENTRY cards and of an MPCW with a label, which is looked for in the segment named.
+pub fn entry_cards_are_refused()
+    ensures labelled { assembly (codes "SEGMENT A 2\nEXIT\nL: ENTRY L\n") ≡ refused 3 1 }
+    ensures no_label { assembly (codes "SEGMENT A 2\nEXIT\nENTRY\n") ≡ refused 3 2 }
+    ensures two_labels { assembly (codes "SEGMENT A 2\nEXIT\nENTRY L M\n") ≡ refused 3 2 }
+    ensures no_label_of_segment { assembly (codes "SEGMENT A 2\nMPCW A:\n") ≡ refused 2 2 }
+    ensures three_names { assembly (codes "SEGMENT A 2\nMPCW A:L:M\n") ≡ refused 2 2 }
+    ensures unknown { assembly (codes "SEGMENT A 2\nEXIT\nENTRY L\nSEGMENT B 3\nEXIT\nL: EXIT\n") ≡ refused 3 5 }
+    ensures unknown_there { assembly (codes "SEGMENT A 2\nMPCW P:L\nL: EXIT\nSEGMENT P 3\nEXIT\n") ≡ refused 2 5 }
+    ensures unknown_outside { assembly (codes "MPCW P:L\nSEGMENT P 3\nEXIT\n") ≡ refused 1 5 }
+    ensures known_outside { assembly (codes "MPCW P:L\nSEGMENT P 3\nL: EXIT\n") ≡ refused 1 6 }
+    ensures outside { assembly (codes "ENTRY L\n") ≡ refused 1 6 }
+    ensures in_row { assembly (codes "ROW R\nNUM 1\nENTRY L\n") ≡ refused 3 6 }
+    ensures alone { assembly (codes "SEGMENT A 2\nENTRY L\n") ≡ refused 1 7 }
+    ensures bad_alone { assembly (codes "SEGMENT A 2\nENTRY\nSEGMENT B 3\nEXIT\n") ≡ refused 1 7 }
+{}
+
+/// Reason 10: an ENTRY at 0:0, or at a place that is an entry already.
+pub fn second_entries_are_refused()
+    ensures at_first_place { assembly (codes "SEGMENT A 2\nL: EXIT\nENTRY L\n") ≡ refused 3 10 }
+    ensures twice { assembly (codes "SEGMENT A 2\nEXIT\nL: EXIT\nENTRY L\nENTRY L\n") ≡ refused 5 10 }
+    ensures same_place { assembly (codes "SEGMENT A 2\nMKST\nENTRY L\nENTRY M\nL: LT8 300\nM: EXIT\n") ≡ refused 4 10 }
+{}
+
+/// Reason 11: an MPCW with a label that isn't an entry of the segment named. An ENTRY card that is refused makes one too, but
+/// none makes one at 0:0.
+pub fn labels_without_entries_are_refused()
+    ensures no_entry { assembly (codes "SEGMENT A 2\nMPCW P:L\nEXIT\nSEGMENT P 3\nEXIT\nL: EXIT\n") ≡ refused 2 11 }
+    ensures at_first_place { assembly (codes "SEGMENT A 2\nMPCW P:L\nEXIT\nSEGMENT P 3\nL: EXIT\n") ≡ refused 2 11 }
+    ensures named_at_first_place { assembly (codes "SEGMENT A 2\nMPCW P:L\nEXIT\nSEGMENT P 3\nL: EXIT\nENTRY L\n") ≡ refused 2 11 }
+    ensures refused_entry { assembly (codes "SEGMENT A 2\nMPCW P:L\nEXIT\nSEGMENT P 3\nEXIT\nL: EXIT\nENTRY L\nENTRY L\n") ≡ refused 8 10 }
 {}

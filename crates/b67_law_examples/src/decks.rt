@@ -4,7 +4,7 @@ ghost use Rattle.std.specs.Prelude.{◌≡◌, [], ◌∷◌, None, Ok, Some, co
 ghost use Rattle.b67_law_examples.specs.Cards.{refused};
 ghost use Rattle.b67_law_examples.specs.Texts.{small_job, sum_deck, text_of, times};
 ghost use Rattle.b67_model_text.specs.declared.deck.Body.TheVariants.{Bytes, Cards};
-ghost use Rattle.b67_model_text.specs.Deck.{deck_of};
+ghost use Rattle.b67_model_text.specs.Deck.{deck_of, hexadecimal_cards};
 
 /// A deck of no bytes has no jobs and the defaults.
 pub fn no_bytes_are_a_deck()
@@ -39,8 +39,8 @@ pub fn long_and_unknown_cards_are_refused()
     ensures space_in_front { deck_of (codes " ?END") ≡ refused 1 5 }
 {}
 
-/// Reason 4: a parameter that is missing, one too many, malformed or out of its range.
-pub fn parameters_are_refused()
+/// Reason 4: a parameter of ?STACK that is missing, one too many, malformed or out of its range.
+pub fn stack_sizes_are_refused()
     ensures no_parameter { deck_of (codes "?STACK") ≡ refused 1 4 }
     ensures two_parameters { deck_of (codes "?STACK 64 64") ≡ refused 1 4 }
     ensures too_low { deck_of (codes "?STACK 63") ≡ refused 1 4 }
@@ -48,6 +48,10 @@ pub fn parameters_are_refused()
     ensures zero_in_front { deck_of (codes "?STACK 064") ≡ refused 1 4 }
     ensures plus_sign { deck_of (codes "?STACK +64") ≡ refused 1 4 }
     ensures minus_sign { deck_of (codes "?STACK -64") ≡ refused 1 4 }
+{}
+
+/// Reason 4: parameters of the other run cards.
+pub fn parameters_are_refused()
     ensures too_high_halt { deck_of (codes "?HALT 800000001") ≡ refused 1 4 }
     ensures quantum_0 { deck_of (codes "?QUANTUM 0") ≡ refused 1 4 }
     ensures switch_job { deck_of (codes "?SWITCH 1 9.1") ≡ refused 1 4 }
@@ -94,4 +98,14 @@ pub fn bodies_are_refused()
     ensures minus_zero { deck_of (codes "?JOB A\n?ASM\n?DATA\n-0") ≡ refused 4 12 }
     ensures too_far { deck_of (codes "?JOB A\n?ASM\n?DATA\n549755813888") ≡ refused 4 12 }
     ensures letters { deck_of (codes "?JOB A\n?ASM\n?DATA\n5 x") ≡ refused 4 12 }
+{}
+
+/// Reasons 1, 2 and 11 of hexadecimal cards without a deck, card by card.
+pub fn hexadecimal_cards_are_refused()
+    ensures odd { hexadecimal_cards (codes "42\n\n423\n4\t\n") ≡ refused 3 11 }
+    ensures tab { hexadecimal_cards (codes "4\t\n") ≡ refused 1 2 }
+    ensures command { hexadecimal_cards (codes "42\n?HEX\n") ≡ refused 2 11 }
+    ensures space_in_front { hexadecimal_cards (codes " 42") ≡ refused 1 11 }
+    ensures long { hexadecimal_cards (codes "000000000000000000000000000000000000000000000000000000000000000000000000000000000\n") ≡ refused 1 1 }
+    ensures none { hexadecimal_cards (codes "\n\n") ≡ Ok [] }
 {}

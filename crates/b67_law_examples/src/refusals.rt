@@ -2,9 +2,9 @@
 
 ghost use Rattle.std.specs.Prelude.{◌≡◌, [], ◌∷◌, map};
 ghost use Rattle.b67_word.specs.Couples.{couple};
-ghost use Rattle.b67_model.specs.Loader.{refusals};
-ghost use Rattle.b67_law_examples.specs.Sessions.{branching, refused_at, rule_of, without_rows};
-ghost use Rattle.b67_law_examples.specs.Programs.{eight, exercise, into_a_literal, jensen, leave, names_itself, names_none, outer_of_level_3, popped_cell, sum, thirty_levels, two, two_tasks};
+ghost use Rattle.b67_model.specs.Loader.{refusals, first_of};
+ghost use Rattle.b67_law_examples.specs.Sessions.{branching, first_at, refused_at, rule_of, without_rows};
+ghost use Rattle.b67_law_examples.specs.Programs.{eight, enters_at_0_1, entries_from, exercise, into_a_literal, jensen, leave, names_itself, names_none, one_word, outer_of_level_3, popped_cell, sum, thirty_levels, two, two_tasks, with_entries};
 
 /// At level 2 the couple of level 2 and displacement 5 is 1005 in hexadecimal, and that of level 0 and 9 is 9.
 pub fn couple_in_reversed_bits()
@@ -17,7 +17,7 @@ pub fn branch_into_a_literal_is_refused()
     ensures { refusals (without_rows into_a_literal) ≡ refused_at 2 0 3 }
 {}
 
-/// Of the twelve places of two words a branch is admitted exactly to the starts.
+/// Of the six places of its own word a branch is admitted exactly to the starts.
 pub fn branches_go_to_starts()
     ensures to_0_0 { refusals (branching 0 0) ≡ [] }
     ensures to_0_1 { refusals (branching 0 1) ≡ [] }
@@ -25,6 +25,10 @@ pub fn branches_go_to_starts()
     ensures to_0_3 { refusals (branching 0 3) ≡ [] }
     ensures to_0_4 { refusals (branching 0 4) ≡ refused_at 0 5 3 }
     ensures to_0_5 { refusals (branching 0 5) ≡ [] }
+{}
+
+/// And of the six places of the next word.
+pub fn branches_go_to_starts_of_the_next_word()
     ensures to_1_0 { refusals (branching 1 0) ≡ refused_at 0 5 3 }
     ensures to_1_1 { refusals (branching 1 1) ≡ refused_at 0 5 3 }
     ensures to_1_2 { refusals (branching 1 2) ≡ [] }
@@ -56,4 +60,27 @@ pub fn first_segment_is_of_level_2()
 pub fn proc_of_the_own_level_is_refused()
     ensures level { refusals (without_rows names_itself) ≡ refused_at 0 0 8 }
     ensures none { map rule_of (refusals (without_rows names_none)) ≡ 7 ∷ 8 ∷ [] }
+{}
+
+/// An entry that isn't a start is refused by rule 11 at its place, also where that stands before all that is refused of
+/// the listing, or past the segment.
+pub fn entries_are_starts()
+    ensures before_a_break { first_of (refusals (without_rows (one_word (0x2000 ∷ []) 0x4009c0ffffff))) ≡ first_at 0 1 11 }
+    ensures past_the_segment { first_of (refusals (without_rows (one_word (5 ∷ []) 0x4009b0b1b0a3))) ≡ first_at 5 0 11 }
+    ensures past_a_refusal { first_of (refusals (without_rows (one_word (5 ∷ []) 0x4009b0b1b0b1))) ≡ first_at 0 5 5 }
+    ensures first_of_two { first_of (refusals (without_rows (one_word (0x2000 ∷ 5 ∷ []) 0x4009b0b1b0b1))) ≡ first_at 0 1 11 }
+    ensures of_segment { refusals (without_rows (one_word (5 ∷ []) 0x4009b0b1b0a3)) ≡ refused_at 5 0 11 }
+    ensures at_starts { refusals (without_rows (one_word (0x4000 ∷ 0x6000 ∷ 0x8000 ∷ 0xa000 ∷ []) 0x4009b0b1b0a3)) ≡ [] }
+    ensures at_a_break { first_of (refusals (without_rows (one_word (0x4000 ∷ []) 0x4009c0ffffff))) ≡ first_at 0 2 1 }
+    ensures most { refusals (without_rows (with_entries (entries_from 1 255))) ≡ [] }
+    ensures after_most { first_of (refusals (without_rows (with_entries (entries_from 4 255)))) ≡ first_at 43 0 11 }
+{}
+
+/// An MPCW makes the PCW of a segment's first place or of one of its entries. Any other place, also a start, is refused
+/// by rule 8.
+pub fn procedures_begin_at_entries()
+    ensures at_the_entry { refusals (without_rows (enters_at_0_1 (0x2000 ∷ []))) ≡ [] }
+    ensures among_entries { refusals (without_rows (enters_at_0_1 (0x2000 ∷ 0x4000 ∷ []))) ≡ [] }
+    ensures at_another_start { refusals (without_rows (enters_at_0_1 (0x4000 ∷ []))) ≡ refused_at 0 0 8 }
+    ensures without_entries { refusals (without_rows (enters_at_0_1 [])) ≡ refused_at 0 0 8 }
 {}

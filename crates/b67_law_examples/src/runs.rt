@@ -5,7 +5,7 @@ ghost use Rattle.b67_word.specs.declared.faults.Fault.TheVariants.{DivideByZero,
 ghost use Rattle.b67_word.specs.declared.faults.Ending.TheVariants.{Ended, Limit};
 ghost use Rattle.b67_model.specs.Run.{after, lines, start};
 ghost use Rattle.b67_law_examples.specs.Sessions.{alone, ends, faults, one_job, row, value, with_limit, with_stack, without_rows};
-ghost use Rattle.b67_law_examples.specs.Programs.{division, endless, enters_itself, exercise, index_at_length, indexes_itself, jensen, left_when_marked, limits, not_whole, one_cell, own_reference, place_of_mark, printed_row, pushes, reads, reads_itself, reads_under_itself, returns_own_cell, stores_in_itself, stores_under_itself, sum, thirty_levels, with_a_parameter, wrong_level};
+ghost use Rattle.b67_law_examples.specs.Programs.{division, endless, enters_at_0_1, enters_itself, exercise, index_at_length, indexes_itself, jensen, left_when_marked, limits, not_whole, one_cell, own_reference, place_of_mark, printed_row, pushes, reads, reads_itself, reads_under_itself, returns_own_cell, stores_in_itself, stores_under_itself, sum, thirty_levels, with_a_parameter, wrong_level};
 
 /// Two and three make five.
 pub fn sum_is_printed()
@@ -141,4 +141,9 @@ pub fn index_cell_is_no_array()
 /// An array that names its own cell is LOOP.
 pub fn indexing_itself_loops()
     ensures { lines 10 (alone indexes_itself) ≡ faults 1 Loop ∷ [] }
+{}
+
+/// A procedure begins at an entry of its segment.
+pub fn procedure_begins_at_an_entry()
+    ensures { lines 20 (alone (enters_at_0_1 (0x2000 ∷ []))) ≡ value 1 (pos 1) ∷ ends 1 Ended ∷ [] }
 {}

@@ -7,6 +7,7 @@ ghost use Rattle.b67_model.specs.Run.{after, lines};
 ghost use Rattle.b67_model.specs.Need.{need_at_opening, need_next};
 ghost use Rattle.b67_law_examples.specs.Sessions.{ends, faults, most_need, most_sectors, one_job, refused_row_program, row_with_bits_program, value, with_limit, with_stack};
 ghost use Rattle.b67_law_examples.specs.Programs.{critical_block, eight, leave, ten_words, three_segments, two};
+ghost use Rattle.b67_law_examples.specs.TaskPrograms.{awaited};
 
 /// One array under ten words of code with stacks of 256 words.
 pub fn ten_words_need_533()
@@ -61,4 +62,10 @@ pub fn faulting_row_is_touched()
 pub fn peak_counts_a_child_that_limit_ends()
     ensures printed { lines 10 (with_limit 512 5 critical_block) ≡ ends 2 Limit ∷ ends 1 Limit ∷ [] }
     ensures peak { (after 10 (with_limit 512 5 critical_block)).peak ≡ 2 }
+{}
+
+/// The operator that starts a task needs the new stack, before it is made.
+pub fn a_new_task_needs_its_stack()
+    ensures before { most_need 4 (with_stack 256 awaited) ≡ 427 }
+    ensures there { need_next 676 (after 4 (with_stack 256 awaited)) ≡ Some 683 }
 {}

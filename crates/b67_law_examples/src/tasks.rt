@@ -1,12 +1,13 @@
 //! What jobs with several tasks or arrays print, and several jobs.
 
 ghost use Rattle.std.specs.Prelude.{◌≡◌, [], ◌∷◌, pos};
-ghost use Rattle.b67_word.specs.declared.faults.Fault.TheVariants.{CriticalBlock, Exponent};
-ghost use Rattle.b67_word.specs.declared.faults.Ending.TheVariants.{Deadlock, Ended, Faulted, Parent};
+ghost use Rattle.b67_word.specs.declared.faults.Fault.TheVariants.{CriticalBlock, Exponent, InvalidOperator};
+ghost use Rattle.b67_word.specs.declared.faults.Ending.TheVariants.{Deadlock, Ended, Faulted, Limit, Parent};
 ghost use Rattle.b67_model.specs.Steps.{Ends};
 ghost use Rattle.b67_model.specs.Run.{after, lines, live_tasks};
 ghost use Rattle.b67_law_examples.specs.Sessions.{alone, ends, faults, one_job, switch, two_jobs, value, with_stack, without_rows};
 ghost use Rattle.b67_law_examples.specs.Programs.{critical_block, critical_mark, eight, event, fifteen, leave, never_started, popped_cell, three_segments, two, two_tasks, wait_at_zero};
+ghost use Rattle.b67_law_examples.specs.TaskPrograms.{family, faulting_parent, in_turns, left_by_value, stuck_beside_a_loop, watched};
 
 /// Without a switch the parent stores first, and both additions count.
 pub fn two_tasks_share_a_cell()
@@ -85,4 +86,29 @@ pub fn jobs_run_in_order()
 /// With turns of one operator the shorter job ends first.
 pub fn jobs_take_turns()
     ensures { lines 40 (two_jobs 1) ≡ (2, 1, Ends (Faulted Exponent)) ∷ value 1 (pos 5) ∷ ends 1 Ended ∷ [] }
+{}
+
+/// LIMIT ends the tasks of a job from the deepest up, and those of one depth by their numbers.
+pub fn limit_ends_the_deepest_first()
+    ensures { lines 80 (in_turns 60 family) ≡ ends 3 Limit ∷ ends 5 Limit ∷ ends 2 Limit ∷ ends 4 Limit ∷ ends 1 Limit ∷ [] }
+{}
+
+/// STATUS is 2 of a task that waits and 3 of one that has ended.
+pub fn status_tells_waiting_and_ended()
+    ensures { lines 80 (in_turns 1000 watched) ≡ value 1 (pos 2) ∷ ends 2 Ended ∷ value 1 (pos 3) ∷ ends 1 Ended ∷ [] }
+{}
+
+/// A deadlocked job ends, its child first, while another job goes on to its limit.
+pub fn deadlock_is_of_a_job()
+    ensures { lines 100 stuck_beside_a_loop ≡ ends 2 Deadlock ∷ ends 1 Deadlock ∷ (2, 1, Ends Limit) ∷ [] }
+{}
+
+/// A task that faults takes its child with it, whose line comes first; who awaited it goes on.
+pub fn fault_ends_the_children_first()
+    ensures { lines 80 (in_turns 1000 faulting_parent) ≡ ends 3 Parent ∷ faults 2 InvalidOperator ∷ value 1 (pos 3) ∷ ends 1 Ended ∷ [] }
+{}
+
+/// A RETN with a value may not leave an activation record on which a task depends.
+pub fn critical_value_may_not_return()
+    ensures { lines 40 (alone left_by_value) ≡ ends 2 Parent ∷ faults 1 CriticalBlock ∷ [] }
 {}

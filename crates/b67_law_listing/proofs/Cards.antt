@@ -1,114 +1,53 @@
 -- What is read for a segment's cards.
-use Rattle.std.proofs.Common.{◌⊎◌, inl, inr, ◌≡◌, ℕ, zero, suc, ◌+◌, ◌-◌, ◌*◌, ◌%◌, ◌≤◌, Bool, true, false, refl, sym, ◌∙◌, ap, subst, arith, cond, Option, Some, None, List, [], ◌∷◌, length, replicate, min, Result, Ok, Err}
-use Rattle.std.specs.Prelude.{nat_le, ◌&&◌}
+use Rattle.std.proofs.Common.{◌⊎◌, inl, inr, ◌≡◌, ℕ, zero, suc, ◌+◌, ◌-◌, ◌*◌, ◌/◌, ◌%◌, ◌^◌, ◌<◌, ◌≤◌, Bool, true, false, refl, sym, ◌∙◌, ap, subst, arith, cond, Option, Some, None, List, [], ◌∷◌, length, map, replicate, min, Ok}
 use Rattle.std.specs.Option.{option_map}
 use Rattle.std.specs.List.{AllByRecursion, cons_option}
 use Rattle.std.specs.Str.{bytes_eq}
-use Rattle.std.proofs.lemmas.Bool.{leb-true, eqb-true}
+use Rattle.std.proofs.lemmas.Bool.{eqb-true}
 use Rattle.std.proofs.lemmas.Option.{same_Some, none-some}
 use Rattle.std.proofs.lemmas.Slice.Eq.{bytes_eq-Decides}
+use Rattle.b67_word.specs.declared.couples.Place.{Place}
 use Rattle.b67_model.specs.declared.operators.Op.{Op}
-use Rattle.b67_model.specs.declared.operators.Op.TheVariants.{Plain}
+use Rattle.b67_model.specs.declared.operators.Op.TheVariants.{Mpcw, Plain}
 use Rattle.b67_model.specs.declared.operators.Code.TheVariants.{Nvld}
-use Rattle.b67_model.specs.Operators.{place_at}
-use Rattle.b67_model.specs.Loader.{Entry, listing, target_of}
+use Rattle.b67_model.specs.Operators.{place_at, place_of_bits}
+use Rattle.b67_model.specs.Loader.{Entry, origin, listing, target_of}
 use Rattle.b67_model_text.specs.declared.assembly.Branch as branch
 use Rattle.b67_model_text.specs.declared.assembly.Branch.TheVariants as branches
 use Rattle.b67_model_text.specs.declared.assembly.Sketch as sketch
-use Rattle.b67_model_text.specs.declared.assembly.Sketch.TheVariants.{Whole, OutOfRange, Couple as Coupled, Row as RowCoupled, Jump, Pcw}
+use Rattle.b67_model_text.specs.declared.assembly.Sketch.TheVariants.{Whole, OutOfRange, Couple as Coupled, Row as RowCoupled, Jump, Pcw, PcwAt}
 use Rattle.b67_model_text.specs.declared.assembly.Statement as statement
 use Rattle.b67_model_text.specs.declared.assembly.Statement.TheVariants as statements
+use Rattle.b67_model_text.specs.declared.assembly.Named as named
+use Rattle.b67_model_text.specs.declared.assembly.Named.TheVariants as means
 use Rattle.b67_model_text.specs.declared.assembly.Line.{Line}
-use Rattle.b67_model_text.specs.Answers.{Answer, ◌>>=◌}
-use Rattle.b67_model_text.specs.Deck.{of_card}
+use Rattle.b67_model_text.specs.Answers.{Answer}
 use Rattle.b67_model_text.specs.Encoding.{code_of}
-use Rattle.b67_model_text.specs.Asm.{Scope, behind, is_in_range, is_place, is_first_label, has_names, has_label, branch_to, denoted, misplaced, fitted, next, operator_of, operators, meaning, labels, label_at, reach}
-use Rattle.b67_model_text.proofs.Answers.{after_both, after_needs, err-ok}
-use Rattle.b67_law_listing.specs.Operators.{HasBits, AllHaveBits, filled, entries_of}
-use Rattle.b67_law_listing.specs.Listing.{HasLabel, IsLabelled, IsListed, StandsAt, GoesTo, IsFilled, AreFilled, AreRead}
-use Rattle.b67_law_listing.proofs.Laying.{after_is, listing_is}
-use Rattle.b67_law_listing.proofs.Denoting.{AreSmall, mapped, denoted_bits, behind_is}
+use Rattle.b67_model_text.specs.Asm.{Names, Scope, Added, AddedOperator, Content, is_place, is_first_label, pcw_in, label_in, place_bits, pcw_at, branch_to, denoted, next, syllable_behind, entries_behind, with_added, content_of, meaning, labels, label_at}
+use Rattle.b67_model_text.proofs.Contents.{same_Ok, mapped, Adds, headed, labels_behind, label_small}
+use Rattle.b67_law_listing.specs.Operators.{AllHaveBits, filled, entries_of}
+use Rattle.b67_law_listing.specs.Listing.{begins_at, HasLabel, Labels, IsLabelled, IsListed, StandsAt, GoesTo, IsFilled, AreFilled, Reads, AreRead}
+use Rattle.b67_law_listing.proofs.Laying.{listing_is}
+use Rattle.b67_law_listing.proofs.Denoting.{AreSmall, pcw_small, at_label, denoted_bits}
+use Rattle.b67_law_listing.proofs.Entries.{are_entered}
 
-pub same_Ok : {A R : Type 0} (a b : A) → ◌≡◌ {A = Result A R} (Ok a) (Ok b) → a ≡ b
-same_Ok a b e = cc
-
-pub of_card_ok : {A : Type 0} (number : ℕ) (r : Answer A) (a : A) → of_card number r ≡ Ok a → r ≡ Ok a
-of_card_ok number (Ok x) a e = let is : x ≡ a = cc in ap (λ y. Ok y) is
-of_card_ok number (Err reason) a e = err-ok (record { card = number; reason = reason }) a _ e
-
--- a card that has its operator at syllable n
-record Taken (x : Scope) (n : ℕ) (l : Line) (op : Op) : Type 0 where
-  label : Option (List ℕ)
-  own : sketch.Sketch
-  says : l.says ≡ Ok (statements.Operator label own)
-  in_range : is_in_range own ≡ true
-  first : is_first_label x.labels n label ≡ true
-  denotes : denoted x own ≡ Some op
-  room : next n op ≤ 6 * 8191
-
-fits_there : (n : ℕ) (o : Option Op) (op : Op) → fitted n o ≡ Ok op → (o ≡ Some op) × (next n op ≤ 6 * 8191)
-fits_there n None op e = err-ok 8 op _ (after_needs (nat_le (n + 2) (6 * 8191)) 7 (Err 8) op e).1
-fits_there n (Some own) op e =
-    let t = after_needs (nat_le (next n own) (6 * 8191)) 7 (Ok own) op e in
-    let is : own ≡ op = same_Ok own op t.1 in
-    (ap (λ o. Some o) is, subst (λ o. next n o ≤ 6 * 8191) is (leb-true (next n own) (6 * 8191) t.0))
-
-taken_of : (x : Scope) (n : ℕ) (l : Line) (s : statement.Statement) (op : Op) → l.says ≡ Ok s → operator_of x n s ≡ Ok op → Taken x n l op
-taken_of x n l (statements.Operator label own) op says e =
-    let a = after_needs (is_in_range own) 3 _ op e in
-    let b = after_needs (is_first_label x.labels n label) 4 _ op a.1 in
-    let c = after_needs (has_names x.names own && has_label x.labels own) 5 _ op b.1 in
-    let d = fits_there n (denoted x own) op c.1 in
-    record { label = label; own = own; says = says; in_range = a.0; first = b.0; denotes = d.0; room = d.1 }
-taken_of x n l (statements.Segment name level) op says e = err-ok (misplaced x.names (statements.Segment name level)) op _ e
-taken_of x n l (statements.Row name) op says e = err-ok (misplaced x.names (statements.Row name)) op _ e
-taken_of x n l (statements.Values first more) op says e = err-ok (misplaced x.names (statements.Values first more)) op _ e
-
--- the first card of these, and the cards behind it
-record Headed (x : Scope) (n : ℕ) (l : Line) (more : List Line) (ops : List Op) : Type 0 where
-  op : Op
-  rest : List Op
-  taken : Taken x n l op
-  behind_it : operators x (next n op) more ≡ Ok rest
-  all : op ∷ rest ≡ ops
-
-headed : (x : Scope) (n : ℕ) (l : Line) (more : List Line) (ops : List Op) → operators x n (l ∷ more) ≡ Ok ops → Headed x n l more ops
-headed x n l more ops e =
-    let a = after_both (of_card l.number (l.says >>= operator_of x n)) (λ op. operators x (next n op) more >>= λ rest. Ok (op ∷ rest)) ops e in
-    let b = after_both (operators x (next n a.0) more) (λ rest. Ok (a.0 ∷ rest)) ops a.2 in
-    let c = after_both l.says (operator_of x n) a.0 (of_card_ok l.number (l.says >>= operator_of x n) a.0 a.1) in
-    record { op = a.0; rest = b.0; taken = taken_of x n l c.0 a.0 c.1 c.2; behind_it = b.1; all = same_Ok (a.0 ∷ b.0) ops b.2 }
-
-taken_bits : (x : Scope) (n : ℕ) (l : Line) (op : Op) → AreSmall x.names → Taken x n l op → HasBits op
-taken_bits x n l op small t = denoted_bits x t.own op small t.in_range t.denotes
-
-operators_bits : (x : Scope) (n : ℕ) (lines : List Line) (ops : List Op) → AreSmall x.names → operators x n lines ≡ Ok ops → AllHaveBits ops
-operators_bits x n [] ops small e = subst AllHaveBits (same_Ok [] ops e) tt
-operators_bits x n (l ∷ more) ops small e =
-    let h = headed x n l more ops e in
-    subst AllHaveBits h.all (taken_bits x n l h.op small h.taken, operators_bits x (next n h.op) more h.rest small h.behind_it)
-
--- labels stand within the longest segment
-label_small : (x : Scope) (n : ℕ) (lines : List Line) (ops : List Op) (q : List ℕ) (m : ℕ) → AreSmall x.names → operators x n lines ≡ Ok ops → meaning (labels n lines) q ≡ Some m → m ≤ 6 * 8191
-label_small x n [] ops q m small e is = absurd (none-some m is)
-label_small x n (l ∷ more) ops q m small e is =
-    let h = headed x n l more ops e in
-    let t = h.taken in
-    let after : behind t.own n ≡ next n h.op = behind_is x t.own h.op n t.denotes ∙ after_is h.op n (taken_bits x n l h.op small t) in
-    by_label (labels (next n h.op) more) t.label (omega (arith, t.room)) (λ there. label_small x (next n h.op) more h.rest q m small h.behind_it there)
-    (subst (λ k. meaning (cons_option (option_map (λ text. (text, n)) t.label) (labels k more)) q ≡ Some m) after
-    (subst (λ (s : Answer statement.Statement). meaning (cons_option (label_at n s) (labels (reach n s) more)) q ≡ Some m) t.says is))
+operators_bits : (x : Scope) (n : ℕ) (entries : List ℕ) (lines : List Line) (content : Content) → AreSmall x.names → content_of x n entries lines ≡ Ok content → AllHaveBits content.operators
+operators_bits x n entries [] content small e = subst (λ (c : Content). AllHaveBits c.operators) (same_Ok _ content e) tt
+operators_bits x n entries (l ∷ more) content small e =
+    let h = headed x n entries l more content e in
+    subst (λ (c : Content). AllHaveBits c.operators) h.all
+    (by h.added h.rest h.adds (operators_bits x (syllable_behind n h.added) (entries_behind entries h.added) more h.rest small h.behind_it))
   where
-    by_test : (rest : List (List ℕ × ℕ)) (b : Bool) → n ≤ 6 * 8191 → (meaning rest q ≡ Some m → m ≤ 6 * 8191) → cond b (Some n) (meaning rest q) ≡ Some m → m ≤ 6 * 8191
-    by_test rest true low go e = omega (arith, same_Some n m e)
-    by_test rest false low go e = go e
+    by : (added : Added) (rest : Content) → Adds x n entries l added → AllHaveBits rest.operators → AllHaveBits (with_added added rest).operators
+    by added rest (inl a) h = subst (λ (z : Added). AllHaveBits (with_added z rest).operators) a.is (denoted_bits x a.own a.op small a.taken.in_range a.taken.denotes, h)
+    by added rest (inr a) h = subst (λ (z : Added). AllHaveBits (with_added z rest).operators) a.is h
 
-    by_label : (rest : List (List ℕ × ℕ)) (label : Option (List ℕ)) → n ≤ 6 * 8191 → (meaning rest q ≡ Some m → m ≤ 6 * 8191) → meaning (cons_option (option_map (λ text. (text, n)) label) rest) q ≡ Some m → m ≤ 6 * 8191
-    by_label rest None low go e = go e
-    by_label rest (Some text) low go e = by_test rest (bytes_eq q text) low go e
-
-abbrev LabelsAreSmall : (List ℕ → Option ℕ) → Type 0
+abbrev pub LabelsAreSmall : (List ℕ → Option ℕ) → Type 0
 LabelsAreSmall labels = (q : List ℕ) (m : ℕ) → labels q ≡ Some m → m ≤ 6 * 8191
+
+-- the labels of all segments
+abbrev pub AllLabelsAreSmall : Names → Type 0
+AllLabelsAreSmall names = (number : ℕ) → LabelsAreSmall (names.label number)
 
 stands_there : (n : ℕ) (o : Option ℕ) → is_place n o ≡ true → option_map place_at o ≡ Some (place_at n)
 stands_there n None e = absurd (let z : ⊥ = cc in z)
@@ -129,15 +68,42 @@ branch_target b n h = by_branch b
     by_branch branches.IfTrue = ap (λ k. Some (place_at k)) same
     by_branch branches.IfFalse = ap (λ k. Some (place_at k)) same
 
-goes_to : (x : Scope) (s : sketch.Sketch) (op : Op) → LabelsAreSmall x.labels → denoted x s ≡ Some op → GoesTo x.labels s op
-goes_to x (Jump b label) op small e =
+place_is : (a b : Place) → a.word ≡ b.word → a.syllable ≡ b.syllable → a ≡ b
+place_is a b w s = λ i. record { word = w i; syllable = s i }
+
+-- the place in a procedure's bits
+first_place : (bits : ℕ) → bits < 2 ^ 19 → place_of_bits (bits / 2 ^ 20) ≡ origin
+first_place bits low = place_is (place_of_bits (bits / 2 ^ 20)) origin (omega (arith, low)) (omega (arith, low))
+
+label_place : (own n bits : ℕ) → own < 2 ^ 19 → n ≤ 6 * 8191 → own + place_bits n * 2 ^ 20 ≡ bits → place_of_bits (bits / 2 ^ 20) ≡ place_at n
+label_place own n bits low few is =
+    let same : min n (6 * 8191) ≡ n = omega (arith, few) in
+    let place : place_bits n ≡ n % 6 * 2 ^ 13 + n / 6 = ap (λ (k : ℕ). k % 6 * 2 ^ 13 + k / 6) same in
+    let bits_is : bits / 2 ^ 20 ≡ n % 6 * 2 ^ 13 + n / 6 = omega (arith, low, is, place) in
+    place_is (place_of_bits (bits / 2 ^ 20)) (place_at n) (omega (arith, bits_is, few)) (omega (arith, bits_is, few))
+
+label_in_small : (names : Names) (o : Option named.Named) (label : List ℕ) (n : ℕ) → AllLabelsAreSmall names → label_in names o label ≡ Some n → n ≤ 6 * 8191
+label_in_small names None label n all e = absurd (none-some n e)
+label_in_small names (Some (means.Row number)) label n all e = absurd (none-some n e)
+label_in_small names (Some (means.Segment number level)) label n all e = all number label n e
+
+goes_to : (x : Scope) (s : sketch.Sketch) (op : Op) → AreSmall x.names → AllLabelsAreSmall x.names → LabelsAreSmall x.labels → denoted x s ≡ Some op → GoesTo x s op
+goes_to x (Jump b label) op small all own e =
     let m = mapped (branch_to b) (x.labels label) op e in
-    ap target_of (sym m.2) ∙ branch_target b m.0 (small label m.0 m.1) ∙ ap (option_map place_at) (sym m.1)
-goes_to x (Whole own) op small e = tt
-goes_to x OutOfRange op small e = tt
-goes_to x (Coupled c couple) op small e = tt
-goes_to x (RowCoupled c row) op small e = tt
-goes_to x (Pcw segment) op small e = tt
+    ap target_of (sym m.2) ∙ branch_target b m.0 (own label m.0 m.1) ∙ ap (option_map place_at) (sym m.1)
+goes_to x (Whole op') op small all own e = tt
+goes_to x OutOfRange op small all own e = tt
+goes_to x (Coupled c couple) op small all own e = tt
+goes_to x (RowCoupled c row) op small all own e = tt
+goes_to x (Pcw segment) op small all own e =
+    let m = mapped Mpcw (pcw_in (x.names.means segment)) op e in
+    ap begins_at (sym m.2) ∙ ap Some (first_place m.0 (pcw_small (x.names.means segment) m.0 (small segment) m.1))
+goes_to x (PcwAt segment label) op small all own e =
+    let m = mapped Mpcw (pcw_at (pcw_in (x.names.means segment)) (label_in x.names (x.names.means segment) label)) op e in
+    let at = at_label (pcw_in (x.names.means segment)) (label_in x.names (x.names.means segment) label) m.0 m.1 in
+    let low = pcw_small (x.names.means segment) at.own (small segment) at.base_is in
+    let few = label_in_small x.names (x.names.means segment) label at.syllable all at.label_is in
+    ap begins_at (sym m.2) ∙ ap Some (label_place at.own at.syllable m.0 low few at.is) ∙ ap (option_map place_at) (sym at.label_is)
 
 -- NVLD up to a whole word
 filling_each : (k n : ℕ) → AllByRecursion IsFilled (entries_of n (replicate k (Plain Nvld)))
@@ -151,50 +117,86 @@ filling_few (suc k) n = omega (arith, filling_few k (next n (Plain Nvld)))
 filling_is : (n : ℕ) → AreFilled (entries_of n (replicate ((6 - n % 6) % 6) (Plain Nvld)))
 filling_is n = record { few = omega (arith, filling_few ((6 - n % 6) % 6) n); each = filling_each ((6 - n % 6) % 6) n }
 
-are_read : (x : Scope) (n : ℕ) (lines : List Line) (ops : List Op) → LabelsAreSmall x.labels → operators x n lines ≡ Ok ops → AreRead x lines (entries_of n (filled n ops))
-are_read x n [] ops small e = subst (λ (os : List Op). AreRead x [] (entries_of n (filled n os))) (same_Ok [] ops e) (filling_is n)
-are_read x n (l ∷ more) ops small e =
-    let h = headed x n l more ops e in
-    let t = h.taken in
-    subst (λ (os : List Op). AreRead x (l ∷ more) (entries_of n (filled n os))) h.all (
-      record {
-        label = t.label;
-        sketch = t.own;
-        says = t.says;
-        denotes = t.denotes;
-        stands = stands_at x.labels n t.label t.first;
-        goes = goes_to x t.own h.op small t.denotes;
-      },
-      are_read x (next n h.op) more h.rest small h.behind_it,
-    )
+-- the listing of a content's operators from syllable n on
+abbrev listed : ℕ → Content → List Entry
+listed n content = entries_of n (filled n content.operators)
+
+are_read : (x : Scope) (n : ℕ) (entries : List ℕ) (lines : List Line) (content : Content) → AreSmall x.names → AllLabelsAreSmall x.names → LabelsAreSmall x.labels → content_of x n entries lines ≡ Ok content → AreRead x lines (listed n content)
+are_read x n entries [] content small all own e = subst (λ (c : Content). AreRead x [] (listed n c)) (same_Ok _ content e) (filling_is n)
+are_read x n entries (l ∷ more) content small all own e =
+    let h = headed x n entries l more content e in
+    subst (λ (c : Content). AreRead x (l ∷ more) (listed n c)) h.all
+    (by h.added h.rest h.adds (are_read x (syllable_behind n h.added) (entries_behind entries h.added) more h.rest small all own h.behind_it))
+  where
+    by : (added : Added) (rest : Content) → Adds x n entries l added → AreRead x more (listed (syllable_behind n added) rest) → AreRead x (l ∷ more) (listed n (with_added added rest))
+    by added rest (inl a) h =
+        let there : AreRead x more (listed (next n a.op) rest) = subst (λ (z : Added). AreRead x more (listed (syllable_behind n z) rest)) (sym a.is) h in
+        subst (λ (z : Added). Reads x l l.says (listed n (with_added z rest)) (AreRead x more)) a.is
+        (subst (λ (s : Answer statement.Statement). Reads x l s (listed n (with_added (AddedOperator a.op) rest)) (AreRead x more)) (sym a.says) (
+          record {
+            label = a.label;
+            sketch = a.own;
+            says = a.says;
+            denotes = a.taken.denotes;
+            stands = stands_at x.labels n a.label a.taken.first;
+            goes = goes_to x a.own a.op small all own a.taken.denotes;
+            enters = a.taken.enters;
+          },
+          there,
+        ))
+    by added rest (inr a) h =
+        let there : AreRead x more (listed n rest) = subst (λ (z : Added). AreRead x more (listed (syllable_behind n z) rest)) (sym a.is) h in
+        subst (λ (z : Added). Reads x l l.says (listed n (with_added z rest)) (AreRead x more)) a.is
+        (subst (λ (s : Answer statement.Statement). Reads x l s (listed n rest) (AreRead x more)) (sym a.says) there)
 
 -- a label that means a place stands on a card that is read there
-labelled : (x : Scope) (n : ℕ) (lines : List Line) (ops : List Op) (q : List ℕ) (m : ℕ) → AreSmall x.names → operators x n lines ≡ Ok ops → meaning (labels n lines) q ≡ Some m → IsLabelled q (place_at m) lines (entries_of n (filled n ops))
-labelled x n [] ops q m small e is = absurd (none-some m is)
-labelled x n (l ∷ more) ops q m small e is =
-    let h = headed x n l more ops e in
-    let t = h.taken in
-    let after : behind t.own n ≡ next n h.op = behind_is x t.own h.op n t.denotes ∙ after_is h.op n (taken_bits x n l h.op small t) in
-    subst (λ (os : List Op). IsLabelled q (place_at m) (l ∷ more) (entries_of n (filled n os))) h.all
-    (by_label (labels (next n h.op) more) (entries_of (next n h.op) (filled (next n h.op) h.rest)) t.own t.label t.says (λ there. labelled x (next n h.op) more h.rest q m small h.behind_it there)
-    (subst (λ k. meaning (cons_option (option_map (λ text. (text, n)) t.label) (labels k more)) q ≡ Some m) after
-    (subst (λ (s : Answer statement.Statement). meaning (cons_option (label_at n s) (labels (reach n s) more)) q ≡ Some m) t.says is)))
+labelled : (x : Scope) (n : ℕ) (entries : List ℕ) (lines : List Line) (content : Content) (q : List ℕ) (m : ℕ) → content_of x n entries lines ≡ Ok content → meaning (labels n lines) q ≡ Some m → IsLabelled q (place_at m) lines (listed n content)
+labelled x n entries [] content q m e is = absurd (none-some m is)
+labelled x n entries (l ∷ more) content q m e is =
+    let h = headed x n entries l more content e in
+    subst (λ (c : Content). IsLabelled q (place_at m) (l ∷ more) (listed n c)) h.all
+    (by h.added h.rest h.adds (λ there. labelled x (syllable_behind n h.added) (entries_behind entries h.added) more h.rest q m h.behind_it there)
+    (subst (λ (rows : List (List ℕ × ℕ)). meaning rows q ≡ Some m) (labels_behind x n entries l more h.added h.adds) is))
   where
-    by_test : (rest : List (List ℕ × ℕ)) (entries : List Entry) (own : sketch.Sketch) (text : List ℕ) → l.says ≡ Ok (statements.Operator (Some text) own) → (meaning rest q ≡ Some m → IsLabelled q (place_at m) more entries) → (b : Bool) → bytes_eq q text ≡ b → cond b (Some n) (meaning rest q) ≡ Some m → (HasLabel q l × (place_at n ≡ place_at m)) ⊎ IsLabelled q (place_at m) more entries
-    by_test rest entries own text says go true t e =
+    by_test : (rows : List (List ℕ × ℕ)) (rest : List Entry) (own : sketch.Sketch) (text : List ℕ) → l.says ≡ Ok (statements.Operator (Some text) own) → (meaning rows q ≡ Some m → IsLabelled q (place_at m) more rest) → (b : Bool) → bytes_eq q text ≡ b → cond b (Some n) (meaning rows q) ≡ Some m → (HasLabel q l × (place_at n ≡ place_at m)) ⊎ IsLabelled q (place_at m) more rest
+    by_test rows rest own text says go true t e =
         let same : text ≡ q = sym ((bytes_eq-Decides q text).0 t) in
         inl ((own, says ∙ ap (λ z. Ok (statements.Operator (Some z) own)) same), ap place_at (same_Some n m e))
-    by_test rest entries own text says go false t e = inr (go e)
+    by_test rows rest own text says go false t e = inr (go e)
 
-    by_label : (rest : List (List ℕ × ℕ)) (entries : List Entry) (own : sketch.Sketch) (label : Option (List ℕ)) → l.says ≡ Ok (statements.Operator label own) → (meaning rest q ≡ Some m → IsLabelled q (place_at m) more entries) → meaning (cons_option (option_map (λ text. (text, n)) label) rest) q ≡ Some m → (HasLabel q l × (place_at n ≡ place_at m)) ⊎ IsLabelled q (place_at m) more entries
-    by_label rest entries own None says go e = inr (go e)
-    by_label rest entries own (Some text) says go e = by_test rest entries own text says go (bytes_eq q text) refl e
+    by_label : (rows : List (List ℕ × ℕ)) (rest : List Entry) (own : sketch.Sketch) (label : Option (List ℕ)) → l.says ≡ Ok (statements.Operator label own) → (meaning rows q ≡ Some m → IsLabelled q (place_at m) more rest) → meaning (cons_option (option_map (λ text. (text, n)) label) rows) q ≡ Some m → (HasLabel q l × (place_at n ≡ place_at m)) ⊎ IsLabelled q (place_at m) more rest
+    by_label rows rest own None says go e = inr (go e)
+    by_label rows rest own (Some text) says go e = by_test rows rest own text says go (bytes_eq q text) refl e
+
+    by : (added : Added) (rest : Content) → Adds x n entries l added → (meaning (labels (syllable_behind n added) more) q ≡ Some m → IsLabelled q (place_at m) more (listed (syllable_behind n added) rest))
+        → meaning (cons_option (label_at n l.says) (labels (syllable_behind n added) more)) q ≡ Some m → IsLabelled q (place_at m) (l ∷ more) (listed n (with_added added rest))
+    by added rest (inl a) go is =
+        let go' : meaning (labels (next n a.op) more) q ≡ Some m → IsLabelled q (place_at m) more (listed (next n a.op) rest) =
+        subst (λ (z : Added). meaning (labels (syllable_behind n z) more) q ≡ Some m → IsLabelled q (place_at m) more (listed (syllable_behind n z) rest)) (sym a.is) go in
+        let is' : meaning (cons_option (option_map (λ text. (text, n)) a.label) (labels (next n a.op) more)) q ≡ Some m =
+        subst (λ (s : Answer statement.Statement). meaning (cons_option (label_at n s) (labels (next n a.op) more)) q ≡ Some m) a.says
+        (subst (λ (z : Added). meaning (cons_option (label_at n l.says) (labels (syllable_behind n z) more)) q ≡ Some m) (sym a.is) is) in
+        subst (λ (z : Added). Labels q (place_at m) l l.says (listed n (with_added z rest)) (IsLabelled q (place_at m) more)) a.is
+        (subst (λ (s : Answer statement.Statement). Labels q (place_at m) l s (listed n (with_added (AddedOperator a.op) rest)) (IsLabelled q (place_at m) more)) (sym a.says)
+        (by_label (labels (next n a.op) more) (listed (next n a.op) rest) a.own a.label a.says go' is'))
+    by added rest (inr a) go is =
+        let go' : meaning (labels n more) q ≡ Some m → IsLabelled q (place_at m) more (listed n rest) =
+        subst (λ (z : Added). meaning (labels (syllable_behind n z) more) q ≡ Some m → IsLabelled q (place_at m) more (listed (syllable_behind n z) rest)) (sym a.is) go in
+        let is' : meaning (labels n more) q ≡ Some m =
+        subst (λ (s : Answer statement.Statement). meaning (cons_option (label_at n s) (labels n more)) q ≡ Some m) a.says
+        (subst (λ (z : Added). meaning (cons_option (label_at n l.says) (labels (syllable_behind n z) more)) q ≡ Some m) (sym a.is) is) in
+        subst (λ (z : Added). Labels q (place_at m) l l.says (listed n (with_added z rest)) (IsLabelled q (place_at m) more)) a.is
+        (subst (λ (s : Answer statement.Statement). Labels q (place_at m) l s (listed n rest) (IsLabelled q (place_at m) more)) (sym a.says) (go' is'))
 
 -- a segment's cards
-pub segment_read : (x : Scope) (lines : List Line) (ops : List Op) → AreSmall x.names → x.labels ≡ (λ label. meaning (labels 0 lines) label) → operators x 0 lines ≡ Ok ops → IsListed x lines (listing (code_of ops))
-segment_read x lines ops small same e =
+pub segment_read : (x : Scope) (lines : List Line) (content : Content) → AreSmall x.names → AllLabelsAreSmall x.names → x.labels ≡ (λ label. meaning (labels 0 lines) label) → content_of x 0 [] lines ≡ Ok content
+    → IsListed x lines (record { level = x.level; entries = map place_bits content.entries; code = code_of content.operators })
+segment_read x lines content small all same e =
     let known : (q : List ℕ) (m : ℕ) → x.labels q ≡ Some m → meaning (labels 0 lines) q ≡ Some m = λ q m is. sym (ap (λ (f : List ℕ → Option ℕ). f q) same) ∙ is in
-    subst (IsListed x lines) (sym (listing_is ops (operators_bits x 0 lines ops small e))) (record {
-      read = are_read x 0 lines ops (λ q m is. label_small x 0 lines ops q m small e (known q m is)) e;
-      labelled = λ q m is. labelled x 0 lines ops q m small e (known q m is);
-    })
+    let own : LabelsAreSmall x.labels = λ q m is. label_small x 0 [] lines content q m e (known q m is) in
+    let code : listing (code_of content.operators) ≡ listed 0 content = listing_is content.operators (operators_bits x 0 [] lines content small e) in
+    record {
+      read = subst (AreRead x lines) (sym code) (are_read x 0 [] lines content small all own e);
+      labelled = λ q m is. subst (IsLabelled q (place_at m) lines) (sym code) (labelled x 0 [] lines content q m e (known q m is));
+      entered = are_entered x lines content own e;
+    }

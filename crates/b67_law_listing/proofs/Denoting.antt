@@ -1,7 +1,7 @@
--- The operators that cards denote: their numbers are within their bits, and their lengths are known beforehand.
-use Rattle.std.proofs.Common.{◌≡◌, ℕ, zero, suc, ◌+◌, ◌-◌, ◌*◌, ◌/◌, ◌%◌, ◌^◌, ◌≤◌, ◌<◌, Bool, true, false, refl, sym, ◌∙◌, ap, subst, arith, cond, Option, Some, None, List, [], ◌∷◌, min}
+-- The operators that cards denote: their numbers are within their bits.
+use Rattle.std.proofs.Common.{◌≡◌, ℕ, zero, suc, ◌+◌, ◌-◌, ◌*◌, ◌/◌, ◌%◌, ◌^◌, ◌≤◌, ◌<◌, Bool, true, false, refl, subst, arith, cond, Option, Some, None, List, [], ◌∷◌, min}
 use Rattle.std.specs.Prelude.{nat_lt, nat_le, ◌&&◌}
-use Rattle.std.specs.Option.{option_map, option_and_then}
+use Rattle.std.specs.Option.{option_and_then}
 use Rattle.std.specs.List.{AllByRecursion}
 use Rattle.std.proofs.lemmas.Bool.{and_parts, and_from, ltb-true, leb-true, lt-ltb}
 use Rattle.std.proofs.lemmas.Option.{same_Some, none-some}
@@ -9,21 +9,17 @@ use Rattle.b67_word.specs.declared.couples.Couple.{Couple}
 use Rattle.b67_word.specs.Couples.{splits, bits_in, level_bits, fits_split, reversed_bits, couple_bits}
 use Rattle.b67_model.specs.declared.operators.Op.{Op}
 use Rattle.b67_model.specs.declared.operators.Op.TheVariants.{Mpcw}
-use Rattle.b67_model.specs.Encoding.{syllable_after}
 use Rattle.b67_model_text.specs.declared.assembly.Call as call
 use Rattle.b67_model_text.specs.declared.assembly.Call.TheVariants as calls
 use Rattle.b67_model_text.specs.declared.assembly.Branch as branch
 use Rattle.b67_model_text.specs.declared.assembly.Branch.TheVariants as branches
 use Rattle.b67_model_text.specs.declared.assembly.Sketch as sketch
-use Rattle.b67_model_text.specs.declared.assembly.Sketch.TheVariants.{Whole, OutOfRange, Couple as Coupled, Row as RowCoupled, Jump, Pcw}
+use Rattle.b67_model_text.specs.declared.assembly.Sketch.TheVariants.{Whole, OutOfRange, Couple as Coupled, Row as RowCoupled, Jump, Pcw, PcwAt}
 use Rattle.b67_model_text.specs.declared.assembly.Named as named
 use Rattle.b67_model_text.specs.declared.assembly.Named.TheVariants as means
-use Rattle.b67_model_text.specs.Asm.{Names, Scope, behind, is_in_range, pcw_in, row_in, called, branch_to, denoted}
+use Rattle.b67_model_text.specs.Asm.{Names, Scope, is_in_range, pcw_in, label_in, place_bits, pcw_at, row_in, called, branch_to, denoted}
+use Rattle.b67_model_text.proofs.Contents.{mapped}
 use Rattle.b67_law_listing.specs.Operators.{HasBits}
-
-pub mapped : {A B : Type 0} (f : A → B) (o : Option A) (b : B) → option_map f o ≡ Some b → (a : A) × (o ≡ Some a) × (f a ≡ b)
-mapped f None b e = absurd (none-some b e)
-mapped f (Some a) b e = (a, refl, same_Some (f a) b e)
 
 chained : {A B : Type 0} (f : A → Option B) (o : Option A) (b : B) → option_and_then f o ≡ Some b → (a : A) × (o ≡ Some a) × (f a ≡ Some b)
 chained f None b e = absurd (none-some b e)
@@ -64,17 +60,30 @@ abbrev pub IsSmall : Option named.Named → Type 0
 IsSmall o = (number : ℕ) (level : Option ℕ) → o ≡ Some (means.Segment number level) → number < 255
 
 abbrev pub AreSmall : Names → Type 0
-AreSmall names = (q : List ℕ) → IsSmall (names q)
+AreSmall names = (q : List ℕ) → IsSmall (names.means q)
 
-pcw_small : (o : Option named.Named) (bits : ℕ) → IsSmall o → pcw_in o ≡ Some bits → bits < 2 ^ 48
+pub pcw_small : (o : Option named.Named) (bits : ℕ) → IsSmall o → pcw_in o ≡ Some bits → bits < 2 ^ 19
 pcw_small None bits h e = absurd (none-some bits e)
 pcw_small (Some (means.Row number)) bits h e = absurd (none-some bits e)
 pcw_small (Some (means.Segment number None)) bits h e = absurd (none-some bits e)
 pcw_small (Some (means.Segment number (Some level))) bits h e = by_test (nat_le level 31) refl e
   where
-    by_test : (b : Bool) → nat_le level 31 ≡ b → cond b (Some (level * 2 ^ 14 + (number + 2))) None ≡ Some bits → bits < 2 ^ 48
+    by_test : (b : Bool) → nat_le level 31 ≡ b → cond b (Some (level * 2 ^ 14 + (number + 2))) None ≡ Some bits → bits < 2 ^ 19
     by_test true t e = omega (arith, same_Some (level * 2 ^ 14 + (number + 2)) bits e, leb-true level 31 t, h number (Some level) refl)
     by_test false t e = absurd (none-some bits e)
+
+-- a procedure's bits with the place of a label
+pub record AtLabel (base : Option ℕ) (label : Option ℕ) (bits : ℕ) : Type 0 where
+  pub own : ℕ
+  pub base_is : base ≡ Some own
+  pub syllable : ℕ
+  pub label_is : label ≡ Some syllable
+  pub is : own + place_bits syllable * 2 ^ 20 ≡ bits
+
+pub at_label : (base label : Option ℕ) (bits : ℕ) → pcw_at base label ≡ Some bits → AtLabel base label bits
+at_label None label bits e = absurd (none-some bits e)
+at_label (Some own) None bits e = absurd (none-some bits e)
+at_label (Some own) (Some n) bits e = record { own = own; base_is = refl; syllable = n; label_is = refl; is = same_Some (own + place_bits n * 2 ^ 20) bits e }
 
 called_bits : (c : call.Call) (bits : ℕ) → bits < 2 ^ 14 → HasBits (called c bits)
 called_bits calls.Value bits h = lt-ltb bits (2 ^ 14) h
@@ -97,38 +106,21 @@ denoted_bits x (Coupled c couple) op small h e =
     subst HasBits m.2 (called_bits c m.0 (couple_small (min x.level 31) k.0 m.0 k.2))
 denoted_bits x (RowCoupled c row) op small h e =
     let f : ℕ → Option ℕ = λ number. couple_bits (min x.level 31) (record { level = 1; disp = x.segments + number + 2 }) in
-    let m = mapped (called c) (option_and_then f (row_in (x.names row))) op e in
-    let k = chained f (row_in (x.names row)) m.0 m.1 in
+    let m = mapped (called c) (option_and_then f (row_in (x.names.means row))) op e in
+    let k = chained f (row_in (x.names.means row)) m.0 m.1 in
     subst HasBits m.2 (called_bits c m.0 (couple_small (min x.level 31) (record { level = 1; disp = x.segments + k.0 + 2 }) m.0 k.2))
 denoted_bits x (Jump b label) op small h e =
     let m = mapped (branch_to b) (x.labels label) op e in
     subst HasBits m.2 (branch_bits b m.0)
 denoted_bits x (Pcw segment) op small h e =
-    let m = mapped Mpcw (pcw_in (x.names segment)) op e in
-    subst HasBits m.2 (lt-ltb m.0 (2 ^ 48) (pcw_small (x.names segment) m.0 (small segment) m.1))
-
-called_after : (c : call.Call) (bits n : ℕ) → syllable_after (called c bits) n ≡ n + 2
-called_after calls.Value bits n = refl
-called_after calls.Name bits n = refl
-
-branch_after : (b : branch.Branch) (m n : ℕ) → syllable_after (branch_to b m) n ≡ n + 3
-branch_after branches.Always m n = refl
-branch_after branches.IfTrue m n = refl
-branch_after branches.IfFalse m n = refl
-
--- the syllable behind an operator, before and after its names are known
-pub behind_is : (x : Scope) (s : sketch.Sketch) (op : Op) (n : ℕ) → denoted x s ≡ Some op → behind s n ≡ syllable_after op n
-behind_is x (Whole own) op n e = ap (λ o. syllable_after o n) (same_Some own op e)
-behind_is x OutOfRange op n e = absurd (none-some op e)
-behind_is x (Coupled c couple) op n e =
-    let m = mapped (called c) (option_and_then (couple_bits (min x.level 31)) couple) op e in
-    sym (called_after c m.0 n) ∙ ap (λ o. syllable_after o n) m.2
-behind_is x (RowCoupled c row) op n e =
-    let m = mapped (called c) (option_and_then (λ number. couple_bits (min x.level 31) (record { level = 1; disp = x.segments + number + 2 })) (row_in (x.names row))) op e in
-    sym (called_after c m.0 n) ∙ ap (λ o. syllable_after o n) m.2
-behind_is x (Jump b label) op n e =
-    let m = mapped (branch_to b) (x.labels label) op e in
-    sym (branch_after b m.0 n) ∙ ap (λ o. syllable_after o n) m.2
-behind_is x (Pcw segment) op n e =
-    let m = mapped Mpcw (pcw_in (x.names segment)) op e in
-    ap (λ o. syllable_after o n) m.2
+    let m = mapped Mpcw (pcw_in (x.names.means segment)) op e in
+    let low = pcw_small (x.names.means segment) m.0 (small segment) m.1 in
+    subst HasBits m.2 (lt-ltb m.0 (2 ^ 48) (omega (arith, low)))
+denoted_bits x (PcwAt segment label) op small h e =
+    let m = mapped Mpcw (pcw_at (pcw_in (x.names.means segment)) (label_in x.names (x.names.means segment) label)) op e in
+    let at = at_label (pcw_in (x.names.means segment)) (label_in x.names (x.names.means segment) label) m.0 m.1 in
+    let low = pcw_small (x.names.means segment) at.own (small segment) at.base_is in
+    subst HasBits m.2 (lt-ltb m.0 (2 ^ 48) (with_place at.own at.syllable m.0 low at.is))
+  where
+    with_place : (own n bits : ℕ) → own < 2 ^ 19 → own + place_bits n * 2 ^ 20 ≡ bits → bits < 2 ^ 48
+    with_place own n bits low is = omega (arith, low, is)

@@ -1,12 +1,11 @@
 -- What is read for a program's cards.
-use Rattle.std.proofs.Common.{◌≡◌, ℕ, ◌+◌, ◌<◌, Bool, true, false, not, refl, sym, subst, arith, cond, Option, Some, None, List, [], ◌∷◌, length, take, Result, Ok, Err}
-use Rattle.std.specs.Prelude.{nat_lt, ◌-◌, ⊤}
+use Rattle.std.proofs.Common.{◌≡◌, ℕ, zero, suc, ◌+◌, ◌<◌, Bool, true, false, refl, sym, subst, arith, cond, Option, Some, None, List, [], ◌∷◌, length, map, take, Result, Ok, Err}
+use Rattle.std.specs.Prelude.{nat_lt, ◌-◌, ⊤, slice_get, unwrap_or}
 use Rattle.std.specs.Option.{option_map, option_and_then}
 use Rattle.std.specs.List.{AllByRecursion, cons_option, list_any}
 use Rattle.std.specs.Str.{bytes_eq}
 use Rattle.std.proofs.lemmas.Bool.{ltb-true}
 use Rattle.std.proofs.lemmas.Option.{none-some}
-use Rattle.b67_model.specs.declared.operators.Op.{Op}
 use Rattle.b67_model.specs.Program.{Program}
 use Rattle.b67_model_text.specs.declared.card.Card.{Card}
 use Rattle.b67_model_text.specs.declared.assembly.Mnemonic.{Mnemonic}
@@ -19,16 +18,17 @@ use Rattle.b67_model_text.specs.declared.assembly.Named as named
 use Rattle.b67_model_text.specs.declared.assembly.Named.TheVariants as means
 use Rattle.b67_model_text.specs.declared.assembly.Line.{Line}
 use Rattle.b67_model_text.specs.Answers.{Answer, ◌>>=◌, ◌>>◌, needs, or_reason}
-use Rattle.b67_model_text.specs.Cards.{words, name_in}
+use Rattle.b67_model_text.specs.Cards.{words, name_in, is_empty}
 use Rattle.b67_model_text.specs.Command.{row_of}
 use Rattle.b67_model_text.specs.Deck.{Refusal, of_card}
 use Rattle.b67_model_text.specs.Encoding.{code_of}
-use Rattle.b67_model_text.specs.Statements.{mnemonics, sketch_of, bits_in, all_bits, num, operator, kind_of, is_label, with_label, labelled, says, without_comment, line_with, lines_of}
-use Rattle.b67_model_text.specs.Asm.{Names, Scope, Part, CodePart, RowPart, meaning, definition, definitions, segments_behind, rows_behind, segment_count, labels, operators, misplaced, is_head, is_numbers, own, is_segment_number, is_row_number, segment_part, row_part, part_of, row_words, with_part, program_from, no_strays, assembled}
+use Rattle.b67_model_text.specs.Statements.{mnemonics, sketch_of, bits_in, all_bits, num, entry, entry_named, operator, kind_of, is_label, with_label, labelled, says, without_comment, line_with, lines_of}
+use Rattle.b67_model_text.specs.Asm.{Names, names_of, Scope, Content, content_of, place_bits, Part, CodePart, RowPart, meaning, definition, definitions, segments_behind, rows_behind, segment_count, labels, misplaced, is_head, is_code, is_numbers, own, with_cards, cards_of_segments, is_segment_number, is_row_number, segment_part, row_part, part_of, row_words, with_part, program_from, no_strays, assembled}
 use Rattle.b67_model_text.proofs.Answers.{after_both, err-ok}
-use Rattle.b67_law_listing.specs.Listing.{scope_in, with_cards, cards_of_segments, SegmentsAreListed}
+use Rattle.b67_model_text.proofs.Contents.{same_Ok, label_small}
+use Rattle.b67_law_listing.specs.Listing.{scope_in, SegmentsAreListed}
 use Rattle.b67_law_listing.proofs.Denoting.{IsSmall, AreSmall}
-use Rattle.b67_law_listing.proofs.Cards.{same_Ok, segment_read}
+use Rattle.b67_law_listing.proofs.Cards.{LabelsAreSmall, AllLabelsAreSmall, segment_read}
 
 -- ---- only cards of segments and rows define names
 
@@ -54,6 +54,18 @@ mnemonic_defines : (label : Option (List ℕ)) (o : Option Mnemonic) (f : Mnemon
 mnemonic_defines label None f = refl
 mnemonic_defines label (Some m) f = sketch_defines label (f m)
 
+entry_defines : (o : Option (List ℕ)) → defines (or_reason (option_map statements.Entry o) 2) ≡ false
+entry_defines None = refl
+entry_defines (Some label) = refl
+
+entries_define : (more : List (List ℕ)) → defines (or_reason (entry more) 2) ≡ false
+entries_define [] = refl
+entries_define (word ∷ more) = by_test (is_empty more)
+  where
+    by_test : (b : Bool) → defines (or_reason (cond b (entry_named word) None) 2) ≡ false
+    by_test true = entry_defines (name_in word)
+    by_test false = refl
+
 operator_defines : (label : Option (List ℕ)) (ws : List (List ℕ)) → defines (operator label ws) ≡ false
 operator_defines label [] = refl
 operator_defines label (key ∷ operands) = mnemonic_defines label (row_of key mnemonics) (λ m. sketch_of m operands)
@@ -78,6 +90,7 @@ says_known : (k : kind.Kind) (more all : List (List ℕ)) → is_head k ≡ fals
 says_known kinds.Segment more all e = absurd (let z : ⊥ = cc in z)
 says_known kinds.Row more all e = absurd (let z : ⊥ = cc in z)
 says_known kinds.Numbers more all e = numbers_define more
+says_known kinds.Entry more all e = entries_define more
 says_known kinds.Operator more all e = labelled_defines all
 
 abbrev AllKnown : List Line → Type 0
@@ -96,9 +109,9 @@ lines_known (card ∷ more) = one_known card.number (words (without_comment card
 -- the part that a card begins
 record IsSegment (names : Names) (segments s r : ℕ) (lines : List Line) (part : Part) : Type 0 where
   level : ℕ
-  ops : List Op
-  taken : operators (record { names = names; segments = segments; level = level; labels = λ label. meaning (labels 0 lines) label }) 0 lines ≡ Ok ops
-  is : CodePart (record { level = level; entries = []; code = code_of ops }) ≡ part
+  content : Content
+  taken : content_of (record { names = names; segments = segments; level = level; labels = λ label. meaning (labels 0 lines) label }) 0 [] lines ≡ Ok content
+  is : CodePart (record { level = level; entries = map place_bits content.entries; code = code_of content.operators }) ≡ part
   few : s + r < 255
 
 after_card : {B : Type 0} (number : ℕ) (t : Bool) (reason : ℕ) (rest : Result B Refusal) (b : B) → (of_card number (needs t reason) >> rest) ≡ Ok b → (t ≡ true) × (rest ≡ Ok b)
@@ -109,17 +122,18 @@ segment_is : (names : Names) (segments s r number : ℕ) (name : List ℕ) (leve
 segment_is names segments s r number name None lines part e = err-ok (record { card = number; reason = 3 }) part _ e
 segment_is names segments s r number name (Some level) lines part e =
     let scope : Scope = record { names = names; segments = segments; level = level; labels = λ label. meaning (labels 0 lines) label } in
-    let put : Result Part Refusal = operators scope 0 lines >>= λ ops. Ok (CodePart (record { level = level; entries = []; code = code_of ops })) in
-    let a = after_card number (is_segment_number s (names name)) 4 (of_card number (needs (list_any (λ l. not (is_numbers l.kind)) lines) 7) >> (of_card number (needs (nat_lt (s + r) 255) 9) >> put)) part e in
-    let b = after_card number (list_any (λ l. not (is_numbers l.kind)) lines) 7 (of_card number (needs (nat_lt (s + r) 255) 9) >> put) part a.1 in
+    let part_with : Content → Part = λ content. CodePart (record { level = level; entries = map place_bits content.entries; code = code_of content.operators }) in
+    let put : Result Part Refusal = content_of scope 0 [] lines >>= λ content. Ok (part_with content) in
+    let a = after_card number (is_segment_number s (names.means name)) 4 (of_card number (needs (list_any is_code lines) 7) >> (of_card number (needs (nat_lt (s + r) 255) 9) >> put)) part e in
+    let b = after_card number (list_any is_code lines) 7 (of_card number (needs (nat_lt (s + r) 255) 9) >> put) part a.1 in
     let c = after_card number (nat_lt (s + r) 255) 9 put part b.1 in
-    let d = after_both (operators scope 0 lines) (λ ops. Ok (CodePart (record { level = level; entries = []; code = code_of ops }))) part c.1 in
-    record { level = level; ops = d.0; taken = d.1; is = same_Ok (CodePart (record { level = level; entries = []; code = code_of d.0 })) part d.2; few = ltb-true (s + r) 255 c.0 }
+    let d = after_both (content_of scope 0 [] lines) (λ content. Ok (part_with content)) part c.1 in
+    record { level = level; content = d.0; taken = d.1; is = same_Ok (part_with d.0) part d.2; few = ltb-true (s + r) 255 c.0 }
 
 row_is : (names : Names) (s r number : ℕ) (name : List ℕ) (lines : List Line) (part : Part) → row_part names s r number name lines ≡ Ok part → (words : List ℕ) × (RowPart words ≡ part)
 row_is names s r number name lines part e =
     let put : Result Part Refusal = row_words names 0 lines >>= λ words. Ok (RowPart words) in
-    let a = after_card number (is_row_number r (names name)) 4 (of_card number (needs (list_any (λ l. is_numbers l.kind) lines) 7) >> (of_card number (needs (nat_lt (s + r) 255) 9) >> put)) part e in
+    let a = after_card number (is_row_number r (names.means name)) 4 (of_card number (needs (list_any (λ l. is_numbers l.kind) lines) 7) >> (of_card number (needs (nat_lt (s + r) 255) 9) >> put)) part e in
     let b = after_card number (list_any (λ l. is_numbers l.kind) lines) 7 (of_card number (needs (nat_lt (s + r) 255) 9) >> put) part a.1 in
     let c = after_card number (nat_lt (s + r) 255) 9 put part b.1 in
     let d = after_both (row_words names 0 lines) (λ words. Ok (RowPart words)) part c.1 in
@@ -146,6 +160,7 @@ head_small names segments s r number (Ok (statements.Row name)) lines part e res
     by_test false = h
 head_small names segments s r number (Ok (statements.Values first more)) lines part e rest q h = h
 head_small names segments s r number (Ok (statements.Operator label own)) lines part e rest q h = h
+head_small names segments s r number (Ok (statements.Entry label)) lines part e rest q h = h
 head_small names segments s r number (Err reason) lines part e rest q h = h
 
 no_definition : (s r : ℕ) (says : Answer statement.Statement) → defines says ≡ false → (definition s r says ≡ None) × (segments_behind s says ≡ s) × (rows_behind r says ≡ r)
@@ -153,6 +168,7 @@ no_definition s r (Ok (statements.Segment name level)) e = absurd (let z : ⊥ =
 no_definition s r (Ok (statements.Row name)) e = absurd (let z : ⊥ = cc in z)
 no_definition s r (Ok (statements.Values first more)) e = (refl, refl, refl)
 no_definition s r (Ok (statements.Operator label own)) e = (refl, refl, refl)
+no_definition s r (Ok (statements.Entry label)) e = (refl, refl, refl)
 no_definition s r (Err reason) e = (refl, refl, refl)
 
 -- what follows a line
@@ -179,42 +195,89 @@ names_small names segments s r (l ∷ more) p known e q =
         (subst (λ (n : ℕ). IsSmall (meaning (definitions n (rows_behind r l.says) more) q)) (sym none.1)
         (subst (λ (n : ℕ). IsSmall (meaning (definitions s n more) q)) (sym none.2) (skip e)))
 
+-- ---- labels of all segments
+
+no_cards : (says : Answer statement.Statement) (cards : List Line) (rest : List (List Line)) → defines says ≡ false → with_cards says cards rest ≡ rest
+no_cards (Ok (statements.Segment name level)) cards rest e = absurd (let z : ⊥ = cc in z)
+no_cards (Ok (statements.Row name)) cards rest e = refl
+no_cards (Ok (statements.Values first more)) cards rest e = refl
+no_cards (Ok (statements.Operator label own)) cards rest e = refl
+no_cards (Ok (statements.Entry label)) cards rest e = refl
+no_cards (Err reason) cards rest e = refl
+
+abbrev CardsAreSmall : List Line → Type 0
+CardsAreSmall cards = LabelsAreSmall (λ label. meaning (labels 0 cards) label)
+
+head_cards_small : (names : Names) (segments s r number : ℕ) (says : Answer statement.Statement) (lines : List Line) (part : Part) → part_of names segments s r number says lines ≡ Ok part
+    → (rest : List (List Line)) → AllByRecursion CardsAreSmall rest → AllByRecursion CardsAreSmall (with_cards says lines rest)
+head_cards_small names segments s r number (Ok (statements.Segment name level)) lines part e rest h =
+    let i = segment_is names segments s r number name level lines part e in
+    ((λ q m is. label_small (record { names = names; segments = segments; level = i.level; labels = λ label. meaning (labels 0 lines) label }) 0 [] lines i.content q m i.taken is), h)
+head_cards_small names segments s r number (Ok (statements.Row name)) lines part e rest h = h
+head_cards_small names segments s r number (Ok (statements.Values first more)) lines part e rest h = h
+head_cards_small names segments s r number (Ok (statements.Operator label own)) lines part e rest h = h
+head_cards_small names segments s r number (Ok (statements.Entry label)) lines part e rest h = h
+head_cards_small names segments s r number (Err reason) lines part e rest h = h
+
+cards_small : (names : Names) (segments s r : ℕ) (lines : List Line) (p : Program) → AllKnown lines → program_from names segments s r lines ≡ Ok p → AllByRecursion CardsAreSmall (cards_of_segments lines)
+cards_small names segments s r [] p known e = tt
+cards_small names segments s r (l ∷ more) p known e =
+    by_head (λ p e. cards_small names segments (segments_behind s l.says) (rows_behind r l.says) more p known.1 e) (λ e. cards_small names segments s r more p known.1 e) (is_head l.kind) refl e
+  where
+    by_head : ((p : Program) → program_from names segments (segments_behind s l.says) (rows_behind r l.says) more ≡ Ok p → AllByRecursion CardsAreSmall (cards_of_segments more))
+        → (program_from names segments s r more ≡ Ok p → AllByRecursion CardsAreSmall (cards_of_segments more))
+        → (b : Bool) → is_head l.kind ≡ b
+        → cond b (part_of names segments s r l.number l.says (own more) >>= go_on names segments s r l more) (program_from names segments s r more) ≡ Ok p
+        → AllByRecursion CardsAreSmall (with_cards l.says (own more) (cards_of_segments more))
+    by_head part skip true t e =
+        let a = after_both (part_of names segments s r l.number l.says (own more)) (go_on names segments s r l more) p e in
+        let b = after_both (program_from names segments (segments_behind s l.says) (rows_behind r l.says) more) (λ rest. Ok (with_part a.0 rest)) p a.2 in
+        head_cards_small names segments s r l.number l.says (own more) a.0 a.1 (cards_of_segments more) (part b.0 b.1)
+    by_head part skip false t e = subst (AllByRecursion CardsAreSmall) (sym (no_cards l.says (own more) (cards_of_segments more) (known.0 t))) (skip e)
+
+found_small : (segments : List (List Line)) (number : ℕ) → AllByRecursion CardsAreSmall segments → CardsAreSmall (unwrap_or (slice_get segments number) [])
+found_small [] number all q m e = absurd (none-some m e)
+found_small (cards ∷ more) zero all q m e = all.0 q m e
+found_small (cards ∷ more) (suc number) all q m e = found_small more number all.1 q m e
+
 -- ---- all segments
 
-head_read : (all : List Line) (s r number : ℕ) (says : Answer statement.Statement) (lines : List Line) (part : Part) → AreSmall (λ name. meaning (definitions 0 0 all) name) → part_of (λ name. meaning (definitions 0 0 all) name) (segment_count 0 all) s r number says lines ≡ Ok part
+head_read : (all : List Line) (s r number : ℕ) (says : Answer statement.Statement) (lines : List Line) (part : Part) → AreSmall (names_of all) → AllLabelsAreSmall (names_of all) → part_of (names_of all) (segment_count 0 all) s r number says lines ≡ Ok part
     → (cards : List (List Line)) (rest : Program) → SegmentsAreListed all cards rest.segments → SegmentsAreListed all (with_cards says lines cards) (with_part part rest).segments
-head_read all s r number (Ok (statements.Segment name level)) lines part small e cards rest h =
-    let i = segment_is (λ name. meaning (definitions 0 0 all) name) (segment_count 0 all) s r number name level lines part e in
-    subst (λ (part : Part). SegmentsAreListed all (lines ∷ cards) (with_part part rest).segments) i.is (segment_read (scope_in all lines i.level) lines i.ops small refl i.taken, h)
-head_read all s r number (Ok (statements.Row name)) lines part small e cards rest h =
-    let i = row_is (λ name. meaning (definitions 0 0 all) name) s r number name lines part e in
+head_read all s r number (Ok (statements.Segment name level)) lines part small labelled e cards rest h =
+    let i = segment_is (names_of all) (segment_count 0 all) s r number name level lines part e in
+    subst (λ (part : Part). SegmentsAreListed all (lines ∷ cards) (with_part part rest).segments) i.is (segment_read (scope_in all lines i.level) lines i.content small labelled refl i.taken, h)
+head_read all s r number (Ok (statements.Row name)) lines part small labelled e cards rest h =
+    let i = row_is (names_of all) s r number name lines part e in
     subst (λ (part : Part). SegmentsAreListed all cards (with_part part rest).segments) i.1 h
-head_read all s r number (Ok (statements.Values first more)) lines part small e cards rest h = err-ok (record { card = number; reason = misplaced (λ name. meaning (definitions 0 0 all) name) (statements.Values first more) }) part _ e
-head_read all s r number (Ok (statements.Operator label own)) lines part small e cards rest h = err-ok (record { card = number; reason = misplaced (λ name. meaning (definitions 0 0 all) name) (statements.Operator label own) }) part _ e
-head_read all s r number (Err reason) lines part small e cards rest h = err-ok (record { card = number; reason = reason }) part _ e
+head_read all s r number (Ok (statements.Values first more)) lines part small labelled e cards rest h = err-ok (record { card = number; reason = misplaced (names_of all) (statements.Values first more) }) part _ e
+head_read all s r number (Ok (statements.Operator label own)) lines part small labelled e cards rest h = err-ok (record { card = number; reason = misplaced (names_of all) (statements.Operator label own) }) part _ e
+head_read all s r number (Ok (statements.Entry label)) lines part small labelled e cards rest h = err-ok (record { card = number; reason = misplaced (names_of all) (statements.Entry label) }) part _ e
+head_read all s r number (Err reason) lines part small labelled e cards rest h = err-ok (record { card = number; reason = reason }) part _ e
 
-segments_read : (all : List Line) (s r : ℕ) (lines : List Line) (p : Program) → AreSmall (λ name. meaning (definitions 0 0 all) name) → program_from (λ name. meaning (definitions 0 0 all) name) (segment_count 0 all) s r lines ≡ Ok p → SegmentsAreListed all (cards_of_segments lines) p.segments
-segments_read all s r [] p small e =
+segments_read : (all : List Line) (s r : ℕ) (lines : List Line) (p : Program) → AllKnown lines → AreSmall (names_of all) → AllLabelsAreSmall (names_of all) → program_from (names_of all) (segment_count 0 all) s r lines ≡ Ok p → SegmentsAreListed all (cards_of_segments lines) p.segments
+segments_read all s r [] p known small labelled e =
     let is : record { segments = []; rows = [] } ≡ p = same_Ok (record { segments = []; rows = [] }) p e in
     subst (λ (p : Program). SegmentsAreListed all [] p.segments) is tt
-segments_read all s r (l ∷ more) p small e =
-    by_head (λ p e. segments_read all (segments_behind s l.says) (rows_behind r l.says) more p small e) (λ e. segments_read all s r more p small e) (is_head l.kind) e
+segments_read all s r (l ∷ more) p known small labelled e =
+    by_head (λ p e. segments_read all (segments_behind s l.says) (rows_behind r l.says) more p known.1 small labelled e) (λ e. segments_read all s r more p known.1 small labelled e) (is_head l.kind) refl e
   where
-    by_head : ((p : Program) → program_from (λ name. meaning (definitions 0 0 all) name) (segment_count 0 all) (segments_behind s l.says) (rows_behind r l.says) more ≡ Ok p → SegmentsAreListed all (cards_of_segments more) p.segments)
-        → (program_from (λ name. meaning (definitions 0 0 all) name) (segment_count 0 all) s r more ≡ Ok p → SegmentsAreListed all (cards_of_segments more) p.segments)
-        → (b : Bool)
-        → cond b (part_of (λ name. meaning (definitions 0 0 all) name) (segment_count 0 all) s r l.number l.says (own more) >>= go_on (λ name. meaning (definitions 0 0 all) name) (segment_count 0 all) s r l more) (program_from (λ name. meaning (definitions 0 0 all) name) (segment_count 0 all) s r more) ≡ Ok p
-        → SegmentsAreListed all (cond b (with_cards l.says (own more) (cards_of_segments more)) (cards_of_segments more)) p.segments
-    by_head part skip true e =
-        let a = after_both (part_of (λ name. meaning (definitions 0 0 all) name) (segment_count 0 all) s r l.number l.says (own more)) (go_on (λ name. meaning (definitions 0 0 all) name) (segment_count 0 all) s r l more) p e in
-        let b = after_both (program_from (λ name. meaning (definitions 0 0 all) name) (segment_count 0 all) (segments_behind s l.says) (rows_behind r l.says) more) (λ rest. Ok (with_part a.0 rest)) p a.2 in
+    by_head : ((p : Program) → program_from (names_of all) (segment_count 0 all) (segments_behind s l.says) (rows_behind r l.says) more ≡ Ok p → SegmentsAreListed all (cards_of_segments more) p.segments)
+        → (program_from (names_of all) (segment_count 0 all) s r more ≡ Ok p → SegmentsAreListed all (cards_of_segments more) p.segments)
+        → (b : Bool) → is_head l.kind ≡ b
+        → cond b (part_of (names_of all) (segment_count 0 all) s r l.number l.says (own more) >>= go_on (names_of all) (segment_count 0 all) s r l more) (program_from (names_of all) (segment_count 0 all) s r more) ≡ Ok p
+        → SegmentsAreListed all (with_cards l.says (own more) (cards_of_segments more)) p.segments
+    by_head part skip true t e =
+        let a = after_both (part_of (names_of all) (segment_count 0 all) s r l.number l.says (own more)) (go_on (names_of all) (segment_count 0 all) s r l more) p e in
+        let b = after_both (program_from (names_of all) (segment_count 0 all) (segments_behind s l.says) (rows_behind r l.says) more) (λ rest. Ok (with_part a.0 rest)) p a.2 in
         subst (λ (p : Program). SegmentsAreListed all (with_cards l.says (own more) (cards_of_segments more)) p.segments) (same_Ok (with_part a.0 b.0) p b.2)
-        (head_read all s r l.number l.says (own more) a.0 small a.1 (cards_of_segments more) b.0 (part b.0 b.1))
-    by_head part skip false e = skip e
+        (head_read all s r l.number l.says (own more) a.0 small labelled a.1 (cards_of_segments more) b.0 (part b.0 b.1))
+    by_head part skip false t e = subst (λ (cards : List (List Line)). SegmentsAreListed all cards p.segments) (sym (no_cards l.says (own more) (cards_of_segments more) (known.0 t))) (skip e)
 
 pub cards_read : (cards : List Card) (p : Program) → assembled cards ≡ Ok p → SegmentsAreListed (lines_of cards) (cards_of_segments (lines_of cards)) p.segments
 cards_read cards p e =
     let all : List Line = lines_of cards in
-    let names : Names = λ name. meaning (definitions 0 0 all) name in
-    let a = after_both (no_strays names all) (λ (u : ⊤). program_from names (segment_count 0 all) 0 0 all) p e in
-    segments_read all 0 0 all p (names_small names (segment_count 0 all) 0 0 all p (lines_known cards) a.2) a.2
+    let known = lines_known cards in
+    let a = after_both (no_strays (names_of all) all) (λ (u : ⊤). program_from (names_of all) (segment_count 0 all) 0 0 all) p e in
+    segments_read all 0 0 all p known (names_small (names_of all) (segment_count 0 all) 0 0 all p known a.2)
+    (λ number. found_small (cards_of_segments all) number (cards_small (names_of all) (segment_count 0 all) 0 0 all p known a.2)) a.2

@@ -222,7 +222,7 @@ module _ (plan : Placement) (home : ℕ) (ns : List ℕ) (bits : AllByRecursion 
       (cases_Bool (plan.home j a.identity == home)) in
       (here, refilled_other j more order.1 (λ t int. fits t (inr int)))
 
-  others_from : (jobs : List SessionJob) → AllByRecursion (λ (m : SessionJob). JobInOrderButCounts (IsSegment m.constants) m.constants m.progress) jobs → Fitting home ns (flat_map (objects_of plan) jobs)
+  pub others_from : (jobs : List SessionJob) → AllByRecursion (λ (m : SessionJob). JobInOrderButCounts (IsSegment m.constants) m.constants m.progress) jobs → Fitting home ns (flat_map (objects_of plan) jobs)
       → AllOtherNumbers jobs (map (member_with plan home ns) jobs)
   others_from [] order fits = tt
   others_from (m ∷ more) order fits =

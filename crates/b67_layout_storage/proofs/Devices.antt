@@ -1,7 +1,9 @@
 -- A device over several calls.
-use Rattle.std.proofs.Common.{◌≡◌, ℕ, ◌≤◌, List, Option, Some, refl, ◌∙◌, arith, None}
-use Rattle.b67_backing.specs.Held.{Becomes}
-use Rattle.b67_layout_storage.specs.Machine.{DeviceAfterCalls, Says}
+use Rattle.std.proofs.Common.{◌≡◌, ℕ, List, Option, Some, refl, ◌∙◌, ap, arith, None}
+use Rattle.b67_area.specs.declared.Areas.{Areas}
+use Rattle.b67_backing.specs.Shelf.{Table}
+use Rattle.b67_stack.specs.declared.Cpu.{Cpu}
+use Rattle.b67_layout_storage.specs.Machine.{DeviceAfterCalls, DeviceAfterReads, PagingKeeps, Says}
 
 pub Served-none : {D : Type 0} (holds : D → Option (List (List ℕ))) (size calls faults : D → ℕ) (d : D) → DeviceAfterCalls holds size calls faults d d
 Served-none {D} holds size calls faults d = record { size = refl; calls = omega arith; faults = omega arith; tells = record { told = λ x e. (x, e, refl) } }
@@ -15,8 +17,8 @@ Served-then {D} holds size calls faults d e f a b = record {
 }
 
 -- a device whose sectors stayed
-pub Served-same : {D : Type 0} (holds : D → Option (List (List ℕ))) (size calls faults : D → ℕ) (d e : D) → size e ≡ size d → calls d ≤ calls e → faults d ≤ faults e → Becomes holds d e (λ all. all) → DeviceAfterCalls holds size calls faults d e
-Served-same {D} holds size calls faults d e a b c k = record { size = a; calls = b; faults = c; tells = record { told = λ x is. (x, k.told x is, refl) } }
+pub Served-same : {D : Type 0} (holds : D → Option (List (List ℕ))) (size calls faults : D → ℕ) (d e : D) → DeviceAfterReads holds size calls faults d e → DeviceAfterCalls holds size calls faults d e
+Served-same {D} holds size calls faults d e r = record { size = r.size; calls = r.calls; faults = r.faults; tells = record { told = λ x is. (x, r.same.told x is, refl) } }
 
 pub still_tells : {D : Type 0} (holds : D → Option (List (List ℕ))) (size calls faults : D → ℕ) (d e : D) → DeviceAfterCalls holds size calls faults d e → (all : List (List ℕ)) → holds d ≡ Some all → (y : List (List ℕ)) × (holds e ≡ Some y)
 still_tells {D} holds size calls faults d e s all is = let (y, i, l) = s.tells.told all is in (y, i)
@@ -28,3 +30,15 @@ says_of (Some all) told e = e
 pub says_self : (told : Option (List (List ℕ))) → Says told told
 says_self None = tt
 says_self (Some all) = refl
+
+-- what several calls of paging keep
+pub Keeps-none : (cpu : Cpu) (areas : Areas) (table : Table) → PagingKeeps cpu cpu areas areas table table
+Keeps-none cpu areas table = record { rest = refl; len = refl; areas = refl; count = refl }
+
+pub Keeps-then : (a b c : Cpu) (x y z : Areas) (t u v : Table) → PagingKeeps a b x y t u → PagingKeeps b c y z u v → PagingKeeps a c x z t v
+Keeps-then a b c x y z t u v p q = record {
+  rest = q.rest ∙ ap (λ (d : Cpu). let w : Cpu = record d { core = c.core } in w) p.rest;
+  len = q.len ∙ p.len;
+  areas = q.areas ∙ p.areas;
+  count = q.count ∙ p.count;
+}

@@ -1,5 +1,6 @@
 pub mod Helds
 pub mod Reheld
+pub mod Changed
 pub mod Unchanged
 pub mod Renumbered
 pub mod Words

@@ -21,7 +21,7 @@ use Rattle.b67_stack.proofs.Lies.{Upward-same}
 use Rattle.b67_layout_storage.specs.Machine.{with_held, ChainStays}
 use Rattle.b67_layout_storage.proofs.Helds.{held-other, held-same}
 
-slot_same : (core new : List Tagged) (r : Regs) (p : MachineView) (k : ℕ) (y : Slot) → slice_get new (slot_base p k) ≡ slice_get core (slot_base p k) → RepresentsSlot core r p k y → RepresentsSlot new r p k y
+pub slot_same : (core new : List Tagged) (r : Regs) (p : MachineView) (k : ℕ) (y : Slot) → slice_get new (slot_base p k) ≡ slice_get core (slot_base p k) → RepresentsSlot core r p k y → RepresentsSlot new r p k y
 slot_same core new r p k Free e t = (t.0, e ∙ t.1)
 slot_same core new r p k (Running stack) e t = t
 slot_same core new r p k (Waiting stack) e t = (t.0, e ∙ t.1)

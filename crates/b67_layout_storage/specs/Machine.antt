@@ -5,7 +5,7 @@ use Rattle.b67_word.specs.Tagged.{Tagged}
 use Rattle.b67_area.specs.declared.Areas.{Areas}
 use Rattle.b67_area.specs.Spans.{Span, Area, Hole}
 use Rattle.b67_backing.specs.Shelf.{Table, IsShelf, chain_of}
-use Rattle.b67_backing.specs.Held.{Changes}
+use Rattle.b67_backing.specs.Held.{Changes, Becomes}
 use Rattle.b67_lemmas.specs.Lists.{Has}
 use Rattle.b67_stack.specs.declared.Cpu.{Cpu}
 use Rattle.b67_stack.specs.Shapes.{Location, Locations}
@@ -59,6 +59,16 @@ renumber home ns t = if t.home == home then record t { numbers = ns } else t
 abbrev pub renumbered : MachineView → ℕ → List ℕ → MachineView
 renumbered p home ns = record p { objects = map (renumber home ns) p.objects }
 
+-- of the objects one was replaced by another one of the same home and kind
+pub record TakesPlace (objects objects' : List PagedObject) (t t' : PagedObject) : Type 0 where
+  pub home : t'.home ≡ t.home
+  pub kind : t'.kind ≡ t.kind
+  pub some : 0 < length t'.numbers
+  pub few : length t'.numbers < 2 ^ 16
+  pub new : Has objects' t'
+  pub each : (u : PagedObject) → Has objects' u → (u ≡ t') ⊎ (Has objects u × (u.home ≢ t.home))
+  pub kept : (u : PagedObject) → Has objects u → u.home ≢ t.home → Has objects' u
+
 -- a hole of n words or more
 abbrev pub HasHole : ℕ → List Span → Type 0
 HasHole n [] = ⊥
@@ -81,3 +91,17 @@ pub record DeviceAfterCalls {D : Type 0} (holds : D → Option (List (List ℕ))
 abbrev pub Stayed : MachineView → List Tagged → List Tagged → Type 0
 Stayed p core new =
     (i : ℕ) → i < p.stacks → (i < 152) ⊎ (160 ≤ i) → ((t : PagedObject) → Has p.objects t → t.home ≢ i) → slice_get new i ≡ slice_get core i
+
+-- a device that was read at most: its sectors hold what they held, and no count has fallen
+pub record DeviceAfterReads {D : Type 0} (holds : D → Option (List (List ℕ))) (many counted failed : D → ℕ) (old new : D) : Type 0 where
+  pub same : Becomes holds old new (λ all. all)
+  pub size : many new ≡ many old
+  pub calls : counted old ≤ counted new
+  pub faults : failed old ≤ failed new
+
+-- what every call of paging keeps: the registers, the size of core, where areas may lie, and how many sectors the table has
+pub record PagingKeeps (old new : Cpu) (before after : Areas) (table table_new : Table) : Type 0 where
+  pub rest : new ≡ record old { core = new.core }
+  pub len : length new.core ≡ length old.core
+  pub areas : after ≡ before
+  pub count : length table_new.links ≡ length table.links

@@ -3,7 +3,7 @@ use Rattle.std.proofs.Common.{◌≡◌, ℕ, zero, suc, ◌+◌, ◌-◌, ◌<�
 use Rattle.std.proofs.lemmas.Bool.{cond-true, cond-false, eq-eqb, ne_eqb, cases_eq, cases_lt}
 use Rattle.std.proofs.lemmas.List.{take-append-drop}
 use Rattle.b67_backing.specs.Shelf.{Table, Shelf, HasChain, IsShelf, Linked, AreChains, one, times, uses, first, chain_of, taken}
-use Rattle.b67_backing.specs.Held.{Holds, SameBut}
+use Rattle.b67_backing.specs.Held.{Fills, SameBut}
 use Rattle.b67_backing.proofs.Links.{Chain, chain_there, linked_within, rest, one-same, one-other, times-append, uses-split}
 use Rattle.b67_backing.proofs.News.{first_take}
 use Rattle.b67_lemmas.specs.Lists.{Has}
@@ -146,7 +146,7 @@ placed_object (x ∷ xs) free r (inl e) = inl (ap (λ (q : Resting). q.object) e
 placed_object (x ∷ xs) free r (inr h) = inr (placed_object xs (drop (sectors_of x) free) r h)
 
 -- what a chain holds stays under changes of other sectors
-pub holds_stay : (ns k : List ℕ) (a b : List (List ℕ)) (at : ℕ) (numbers : List ℕ) → SameBut ns a b → ((c : ℕ) → Has k c → (1 ≤ c) × (times c ns ≡ 0)) → Holds a k at numbers → Holds b k at numbers
+pub holds_stay : (ns k : List ℕ) (a b : List (List ℕ)) (at : ℕ) (numbers : List ℕ) → SameBut ns a b → ((c : ℕ) → Has k c → (1 ≤ c) × (times c ns ≡ 0)) → Fills a k at numbers → Fills b k at numbers
 holds_stay ns [] a b at numbers same apart h = h
 holds_stay ns (c ∷ cs) a b at numbers same apart h =
     let (low, out) = apart c (inl refl) in

@@ -14,7 +14,7 @@ use Rattle.b67_stack.specs.MachineView.{PagedObject}
 use Rattle.b67_load.specs.Objects.{code_from, rows_from, objects_of, entries_of, sectors_of, sectors_of_all, sectors_of_program}
 use Rattle.b67_load.specs.Resting.{placed, dictionary_mark, DescriptorsStand, DictionaryIs, SameOutside}
 use Rattle.b67_backing.specs.Shelf.{Shelf, IsShelf}
-use Rattle.b67_load.specs.Writing.{Parts, Spares, Writes}
+use Rattle.b67_load.specs.Writing.{Parts, Spares, Writes, Installed}
 use Rattle.b67_codefile.specs.declared.file.Codefile.{Codefile}
 use Rattle.b67_load.proofs.Writing.{word_set, outside_set, writes_both, spares_both, spares_wider}
 
@@ -90,7 +90,7 @@ all_spared tell base f segments rows a b c e q s t =
     (spares_wider tell (base + (2 + length segments)) (length rows) (base + 2) (entries_of (program_of f)) b c (omega arith) (omega (arith, long)) t)
 
 -- the two words before the entries are written first
-pub dictionary_stands : {D : Type 0} (tell : D → Option (List (List ℕ))) (base : ℕ) (f g : Codefile) (core one : List Tagged) (m n : Tagged) (a b : Parts D) (k : ℕ) → f ≡ g
+dictionary_stands : {D : Type 0} (tell : D → Option (List (List ℕ))) (base : ℕ) (f g : Codefile) (core one : List Tagged) (m n : Tagged) (a b : Parts D) (k : ℕ) → f ≡ g
     → base + 1 < length core → one ≡ slice_set core base m → length one ≡ length core → a.core ≡ slice_set one (base + 1) n
     → m ≡ dictionary_mark → n ≡ word 0 (entries_of (program_of g)) → Spares tell (base + 2) k a b → Writes tell (objects_of base (program_of f)) a b
     → (st : Shelf) → IsShelf a.table st → DictionaryIs b.core base (program_of g) st.free
@@ -100,12 +100,39 @@ dictionary_stands tell base f g core one m n a b k same inside first_set len sec
   descriptors = subst (λ (x : Codefile). DescriptorsStand b.core (placed (objects_of base (program_of x)) st.free)) same (w.descriptors st is);
 }
 
-pub dictionary_outside : {D : Type 0} (tell : D → Option (List (List ℕ))) (base : ℕ) (core one : List Tagged) (m n : Tagged) (a b : Parts D) (k : ℕ)
+dictionary_outside : {D : Type 0} (tell : D → Option (List (List ℕ))) (base : ℕ) (core one : List Tagged) (m n : Tagged) (a b : Parts D) (k : ℕ)
     → one ≡ slice_set core base m → a.core ≡ slice_set one (base + 1) n → Spares tell (base + 2) k a b → SameOutside base (base + (2 + k)) core b.core
 dictionary_outside tell base core one m n a b k first_set second_set s i h =
     s.outside i (⊎_elim (λ (l : i < base). inl (omega arith)) (λ (l : base + (2 + k) ≤ i). inr (omega arith)) h)
     ∙ outside_set one a.core (base + 1) n second_set i (⊎_elim (λ (l : i < base). inl (omega arith)) (λ (l : base + (2 + k) ≤ i). inr (omega arith)) h)
     ∙ outside_set core one base m first_set i (⊎_elim (λ (l : i < base). inl (omega arith)) (λ (l : base + (2 + k) ≤ i). inr (omega arith)) h)
+
+-- what a program's dictionary and its objects leave
+pub all_installed : {D : Type 0} (tell : D → Option (List (List ℕ))) (base : ℕ) (f g : Codefile) (core one : List Tagged) (m n : Tagged) (a b : Parts D) (k : ℕ) → f ≡ g
+    → base + 1 < length core → one ≡ slice_set core base m → length one ≡ length core → a.core ≡ slice_set one (base + 1) n
+    → m ≡ dictionary_mark → n ≡ word 0 (entries_of (program_of g)) → Spares tell (base + 2) k a b → Writes tell (objects_of base (program_of f)) a b
+    → Installed tell base (program_of g) (record a { core = core }) b
+all_installed tell base f g core one m n a b k same inside first_set len second_set mark_is count_is s w =
+    let there : (st : Shelf) → IsShelf a.table st → DictionaryIs b.core base (program_of g) st.free =
+    dictionary_stands tell base f g core one m n a b k same inside first_set len second_set mark_is count_is s w in
+    subst (λ (x : Codefile). Installed tell base (program_of x) (record a { core = core }) b) same
+    (record {
+      dictionary = subst (λ (x : Codefile). (st : Shelf) → IsShelf a.table st → DictionaryIs b.core base (program_of x) st.free) (sym same) there;
+      shelf = w.shelf;
+      stocks = w.stocks;
+      left = omega (arith, w.left, sectors-objects base (program_of f));
+    })
+
+pub all_spares : {D : Type 0} (tell : D → Option (List (List ℕ))) (base : ℕ) (core one : List Tagged) (m n : Tagged) (a b : Parts D) (k : ℕ)
+    → one ≡ slice_set core base m → length one ≡ length core → a.core ≡ slice_set one (base + 1) n → length a.core ≡ length one → Spares tell (base + 2) k a b
+    → Spares tell base (2 + k) (record a { core = core }) b
+all_spares tell base core one m n a b k first_set one_len second_set two_len s = record {
+  outside = λ i h. dictionary_outside tell base core one m n a b k first_set second_set s i h;
+  len = s.len ∙ two_len ∙ one_len;
+  links = s.links;
+  chains = s.chains;
+  others = s.others;
+}
 
 pub entries_word : (f g : Codefile) (segments : List Segment) (rows : List (List Tagged)) → f ≡ g → segments ≡ f.segments → rows ≡ f.rows → word 0 (length segments + length rows) ≡ word 0 (entries_of (program_of g))
 entries_word f g segments rows e p q =

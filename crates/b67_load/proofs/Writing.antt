@@ -6,7 +6,7 @@ use Rattle.b67_core.specs.Numbers.{number}
 use Rattle.b67_core.proofs.Writes.{slice_get-set_same, slice_get-set_other}
 use Rattle.b67_codefile.specs.Spelling.{HasTag}
 use Rattle.b67_backing.specs.Shelf.{Shelf, IsShelf, first, taken}
-use Rattle.b67_backing.specs.Held.{Changes, SameBut, Stores, Holds, sectors_for}
+use Rattle.b67_backing.specs.Held.{Changes, SameBut, Stores, Fills, sectors_for}
 use Rattle.b67_backing.proofs.News.{first_take}
 use Rattle.b67_lemmas.specs.Lists.{Has}
 use Rattle.b67_lemmas.proofs.Members.{has_append_cases, total_append}
@@ -114,7 +114,7 @@ module _ {D : Type 0} (tell : D → Option (List (List ℕ))) where
             told,
             record {
               same = record { count = one.same.count; others = λ m low out. one.same.others m low (omega (arith, out, times-take_drop m (sectors_of t) s.free)) };
-              rest = λ r h. ⊎_elim (λ e. subst (λ (q : Resting). Holds y q.chain 0 (map number (words_of q.object))) e one.holds) (λ k. absurd k) h;
+              rest = λ r h. ⊎_elim (λ e. subst (λ (q : Resting). Fills y q.chain 0 (map number (words_of q.object))) e one.holds) (λ k. absurd k) h;
             },
           );
     };

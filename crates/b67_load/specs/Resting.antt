@@ -3,7 +3,7 @@ use Rattle.std.specs.Prelude.{◌≡◌, ℕ, ◌+◌, ◌*◌, ◌^◌, ◌<◌
 use Rattle.b67_word.specs.Tagged.{Tagged, word}
 use Rattle.b67_core.specs.Numbers.{number}
 use Rattle.b67_backing.specs.Shelf.{Shelf, first, chain_of, taken}
-use Rattle.b67_backing.specs.Held.{Holds, SameBut}
+use Rattle.b67_backing.specs.Held.{Fills, SameBut}
 use Rattle.b67_lemmas.specs.Lists.{Has}
 use Rattle.b67_model.specs.Program.{Program}
 use Rattle.b67_stack.specs.Shapes.{at_rest}
@@ -45,7 +45,7 @@ pub record DictionaryIs (core : List Tagged) (base : ℕ) (p : Program) (free : 
 
 -- each one's words lie in its chain
 abbrev pub WordsRest : List (List ℕ) → List Resting → Type 0
-WordsRest all items = (r : Resting) → Has items r → Holds all r.chain 0 (map number (words_of r.object))
+WordsRest all items = (r : Resting) → Has items r → Fills all r.chain 0 (map number (words_of r.object))
 
 -- the words were written to sectors that were free, and all other sectors hold what they held
 pub record WritesFreeSectors (objects : List PagedObject) (free : List ℕ) (old new : List (List ℕ)) : Type 0 where

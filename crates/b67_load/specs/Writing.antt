@@ -1,11 +1,12 @@
 -- What writing objects does to core, to the table of sectors and to a device.
-use Rattle.std.specs.Prelude.{◌≡◌, ℕ, ◌+◌, List, length, Option}
+use Rattle.std.specs.Prelude.{◌≡◌, ℕ, ◌+◌, ◌≤◌, List, length, Option}
 use Rattle.b67_word.specs.Tagged.{Tagged}
 use Rattle.b67_backing.specs.Shelf.{Table, Shelf, IsShelf}
 use Rattle.b67_backing.specs.Held.{Changes, SameBut}
+use Rattle.b67_model.specs.Program.{Program}
 use Rattle.b67_stack.specs.MachineView.{PagedObject}
-use Rattle.b67_load.specs.Objects.{sectors_of_all}
-use Rattle.b67_load.specs.Resting.{placed, stocked, DescriptorsStand, WritesFreeSectors, SameOutside, KeepsChains}
+use Rattle.b67_load.specs.Objects.{objects_of, sectors_of_all, sectors_of_program}
+use Rattle.b67_load.specs.Resting.{placed, stocked, DescriptorsStand, DictionaryIs, WritesFreeSectors, SameOutside, KeepsChains}
 
 -- core, the table of sectors, and the device
 pub record Parts (D : Type 0) : Type 0 where
@@ -27,3 +28,16 @@ pub record Writes {D : Type 0} (tell : D → Option (List (List ℕ))) (objects 
   pub descriptors : (st : Shelf) → IsShelf old.table st → DescriptorsStand new.core (placed objects st.free)
   pub stocks : (st : Shelf) → IsShelf old.table st → Changes tell old.device new.device (WritesFreeSectors objects st.free)
   pub left : new.table.free + sectors_of_all objects ≡ old.table.free
+
+-- a table of chains and free sectors for a device of `many` sectors, of which as many as are wanted are free
+pub record HasSectors (many : ℕ) (table : Table) (wanted : ℕ) : Type 0 where
+  pub known : (st : Shelf) × IsShelf table st
+  pub same : many + 1 ≡ length table.links
+  pub room : wanted ≤ table.free
+
+-- the dictionary of a program stands at base, and its segments and data rows lie in sectors that were free
+pub record Installed {D : Type 0} (tell : D → Option (List (List ℕ))) (base : ℕ) (p : Program) (old new : Parts D) : Type 0 where
+  pub dictionary : (st : Shelf) → IsShelf old.table st → DictionaryIs new.core base p st.free
+  pub shelf : (st : Shelf) → IsShelf old.table st → IsShelf new.table (stocked (objects_of base p) st)
+  pub stocks : (st : Shelf) → IsShelf old.table st → Changes tell old.device new.device (WritesFreeSectors (objects_of base p) st.free)
+  pub left : new.table.free + sectors_of_program p ≡ old.table.free

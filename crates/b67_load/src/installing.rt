@@ -5,16 +5,14 @@ ghost use Rattle.std.specs.List.{AllByRecursion};
 ghost use Rattle.b67_word.specs.Tagged.{contents};
 ghost use Rattle.b67_core.specs.Numbers.{number};
 ghost use Rattle.b67_area.specs.declared.Kind.TheVariants.{Code, Row};
-ghost use Rattle.b67_io.specs.Causes.{HasCause};
 ghost use Rattle.b67_backing.specs.Shelf.{Shelf, IsShelf, first as first_of, taken};
-ghost use Rattle.b67_backing.specs.Held.{Changes, SameBut, Stores, sectors_for};
+ghost use Rattle.b67_backing.specs.Held.{Changes, SameBut, Stores, KeepsCounts, sectors_for};
 ghost use Rattle.b67_backing.specs.declared.refusals.SpaceFault.TheVariants.{BackingFault};
 ghost use Rattle.b67_codefile.specs.Spelling.{IsSegment, IsRow, IsWithin};
 ghost use Rattle.b67_codefile.specs.Meaning.{segment_of, program_of};
 ghost use Rattle.b67_stack.specs.declared.Cpu.{Cpu};
 ghost use Rattle.b67_load.specs.Objects.{code_from, rows_from, objects_of, entries_of, sectors_of_all, sectors_of_program};
-ghost use Rattle.b67_load.specs.Resting.{stocked, DictionaryIs, WritesFreeSectors, SameOutside, KeepsChains};
-ghost use Rattle.b67_load.specs.Writing.{Parts, Spares, Writes};
+ghost use Rattle.b67_load.specs.Writing.{Parts, Spares, Writes, HasSectors, Installed};
 
 use b67_backing::{Backing, Sectors, SpaceFault};
 use b67_codefile::{Codefile, Segment};
@@ -30,11 +28,9 @@ fn shelve<B: Backing>(
     backing: &mut B,
     words: &[Word],
 ) -> Result<u32, SpaceFault>
-    requires known { (st : Shelf) × IsShelf sectors.old st }
     requires some { 1 ≤ length words.now }
     requires few { length words.now < 2 ^ 16 }
-    requires room { sectors_for (length words.now) ≤ sectors.old.free }
-    requires same { B.size backing.old + 1 ≡ length sectors.old.links }
+    requires sectors { HasSectors (B.size backing.old) sectors.old (sectors_for (length words.now)) }
     ensures first { IfOk result (λ x. (st : Shelf) → IsShelf sectors.old st → x ≡ first_of st.free) }
     ensures small { IfOk result (λ x. x < 2 ^ 20) }
     ensures shelf { (st : Shelf) → IsShelf sectors.old st → IsShelf sectors.new (taken (sectors_for (length words.now)) st) }
@@ -43,10 +39,8 @@ fn shelve<B: Backing>(
     ensures others { (st : Shelf) → IsShelf sectors.old st
         → Changes B.holds backing.old backing.new (SameBut (take (sectors_for (length words.now)) st.free)) }
     ensures count { length sectors.new.links ≡ length sectors.old.links }
-    ensures size { B.size backing.new ≡ B.size backing.old }
     ensures refusal { IfErr result (λ fault. fault ≡ BackingFault) }
-    ensures cause { HasCause B.faults backing.old backing.new result }
-    ensures calls { B.calls backing.old ≤ B.calls backing.new }
+    ensures device { KeepsCounts B.size B.calls B.faults backing.old backing.new result }
 {
     let first = match sectors.take((words.len() as u32 + 29) / 30) {
         Some(first) => first,
@@ -66,21 +60,17 @@ fn install_segment<B: Backing>(
     at: u32,
     segment: &Segment,
 ) -> Result<(), SpaceFault>
-    requires known { (st : Shelf) × IsShelf sectors.old st }
     requires inside { at < length core.old }
     requires within { IsSegment segment.now }
-    requires room { sectors_for (length segment.now.code) ≤ sectors.old.free }
-    requires same { B.size backing.old + 1 ≡ length sectors.old.links }
+    requires sectors { HasSectors (B.size backing.old) sectors.old (sectors_for (length segment.now.code)) }
     ensures writes { OnOk result (Writes B.holds (record { home = at; kind = Code; numbers = contents segment.now.code } ∷ [])
         (record { core = core.old; table = sectors.old; device = backing.old })
         (record { core = core.new; table = sectors.new; device = backing.new })) }
     ensures spares { Spares B.holds at 1
         (record { core = core.old; table = sectors.old; device = backing.old })
         (record { core = core.new; table = sectors.new; device = backing.new }) }
-    ensures size { B.size backing.new ≡ B.size backing.old }
     ensures refusal { IfErr result (λ fault. fault ≡ BackingFault) }
-    ensures cause { HasCause B.faults backing.old backing.new result }
-    ensures calls { B.calls backing.old ≤ B.calls backing.new }
+    ensures device { KeepsCounts B.size B.calls B.faults backing.old backing.new result }
 {
     let code = segment.code.as_slice();
     let first = shelve(sectors, backing, code)?;
@@ -101,21 +91,17 @@ fn install_row<B: Backing>(
     at: u32,
     row: &Words,
 ) -> Result<(), SpaceFault>
-    requires known { (st : Shelf) × IsShelf sectors.old st }
     requires inside { at < length core.old }
     requires within { IsRow row.now }
-    requires room { sectors_for (length row.now) ≤ sectors.old.free }
-    requires same { B.size backing.old + 1 ≡ length sectors.old.links }
+    requires sectors { HasSectors (B.size backing.old) sectors.old (sectors_for (length row.now)) }
     ensures writes { OnOk result (Writes B.holds (record { home = at; kind = Row; numbers = contents row.now } ∷ [])
         (record { core = core.old; table = sectors.old; device = backing.old })
         (record { core = core.new; table = sectors.new; device = backing.new })) }
     ensures spares { Spares B.holds at 1
         (record { core = core.old; table = sectors.old; device = backing.old })
         (record { core = core.new; table = sectors.new; device = backing.new }) }
-    ensures size { B.size backing.new ≡ B.size backing.old }
     ensures refusal { IfErr result (λ fault. fault ≡ BackingFault) }
-    ensures cause { HasCause B.faults backing.old backing.new result }
-    ensures calls { B.calls backing.old ≤ B.calls backing.new }
+    ensures device { KeepsCounts B.size B.calls B.faults backing.old backing.new result }
 {
     let words = row.as_slice();
     let first = shelve(sectors, backing, words)?;
@@ -139,21 +125,17 @@ fn install_segments<B: Backing>(
     base: u32,
     segments: &[Segment],
 ) -> Result<(), SpaceFault>
-    requires known { (st : Shelf) × IsShelf sectors.old st }
     requires inside { base + length segments.now ≤ length core.old }
     requires within { AllByRecursion IsSegment segments.now }
-    requires room { sectors_of_all (code_from base (map segment_of segments.now)) ≤ sectors.old.free }
-    requires same { B.size backing.old + 1 ≡ length sectors.old.links }
+    requires sectors { HasSectors (B.size backing.old) sectors.old (sectors_of_all (code_from base (map segment_of segments.now))) }
     ensures writes { OnOk result (Writes B.holds (code_from base (map segment_of segments.now))
         (record { core = core.old; table = sectors.old; device = backing.old })
         (record { core = core.new; table = sectors.new; device = backing.new })) }
     ensures spares { Spares B.holds base (length segments.now)
         (record { core = core.old; table = sectors.old; device = backing.old })
         (record { core = core.new; table = sectors.new; device = backing.new }) }
-    ensures size { B.size backing.new ≡ B.size backing.old }
     ensures refusal { IfErr result (λ fault. fault ≡ BackingFault) }
-    ensures cause { HasCause B.faults backing.old backing.new result }
-    ensures calls { B.calls backing.old ≤ B.calls backing.new }
+    ensures device { KeepsCounts B.size B.calls B.faults backing.old backing.new result }
 {
     let _size = core.size();
     let mut at = base;
@@ -172,21 +154,17 @@ fn install_rows<B: Backing>(
     base: u32,
     rows: &[Words],
 ) -> Result<(), SpaceFault>
-    requires known { (st : Shelf) × IsShelf sectors.old st }
     requires inside { base + length rows.now ≤ length core.old }
     requires within { AllByRecursion IsRow rows.now }
-    requires room { sectors_of_all (rows_from base (map contents rows.now)) ≤ sectors.old.free }
-    requires same { B.size backing.old + 1 ≡ length sectors.old.links }
+    requires sectors { HasSectors (B.size backing.old) sectors.old (sectors_of_all (rows_from base (map contents rows.now))) }
     ensures writes { OnOk result (Writes B.holds (rows_from base (map contents rows.now))
         (record { core = core.old; table = sectors.old; device = backing.old })
         (record { core = core.new; table = sectors.new; device = backing.new })) }
     ensures spares { Spares B.holds base (length rows.now)
         (record { core = core.old; table = sectors.old; device = backing.old })
         (record { core = core.new; table = sectors.new; device = backing.new }) }
-    ensures size { B.size backing.new ≡ B.size backing.old }
     ensures refusal { IfErr result (λ fault. fault ≡ BackingFault) }
-    ensures cause { HasCause B.faults backing.old backing.new result }
-    ensures calls { B.calls backing.old ≤ B.calls backing.new }
+    ensures device { KeepsCounts B.size B.calls B.faults backing.old backing.new result }
 {
     let _size = core.size();
     let mut at = base;
@@ -205,21 +183,17 @@ fn install_objects<B: Backing>(
     base: u32,
     file: &Codefile,
 ) -> Result<(), SpaceFault>
-    requires known { (st : Shelf) × IsShelf sectors.old st }
     requires inside { base + (2 + entries_of (program_of file.now)) ≤ length core.old }
     requires within { IsWithin file.now }
-    requires room { sectors_of_all (objects_of base (program_of file.now)) ≤ sectors.old.free }
-    requires same { B.size backing.old + 1 ≡ length sectors.old.links }
+    requires sectors { HasSectors (B.size backing.old) sectors.old (sectors_of_all (objects_of base (program_of file.now))) }
     ensures writes { OnOk result (Writes B.holds (objects_of base (program_of file.now))
         (record { core = core.old; table = sectors.old; device = backing.old })
         (record { core = core.new; table = sectors.new; device = backing.new })) }
     ensures spares { Spares B.holds (base + 2) (entries_of (program_of file.now))
         (record { core = core.old; table = sectors.old; device = backing.old })
         (record { core = core.new; table = sectors.new; device = backing.new }) }
-    ensures size { B.size backing.new ≡ B.size backing.old }
     ensures refusal { IfErr result (λ fault. fault ≡ BackingFault) }
-    ensures cause { HasCause B.faults backing.old backing.new result }
-    ensures calls { B.calls backing.old ≤ B.calls backing.new }
+    ensures device { KeepsCounts B.size B.calls B.faults backing.old backing.new result }
 {
     let _size = core.size();
     let segments = file.segments.as_slice();
@@ -245,29 +219,18 @@ pub fn install<B: Backing>(
     base: u32,
     program: &Admitted,
 ) -> Result<(), SpaceFault>
-    requires known { (st : Shelf) × IsShelf sectors.old st }
     requires inside { base + (2 + entries_of (program_of program.now)) ≤ length cpu.old.core }
-    requires room { sectors_of_program (program_of program.now) ≤ sectors.old.free }
-    requires same { B.size backing.old + 1 ≡ length sectors.old.links }
-    ensures dictionary { OnOk result ((st : Shelf) → IsShelf sectors.old st
-        → DictionaryIs cpu.new.core base (program_of program.now) st.free) }
-    ensures shelf { OnOk result ((st : Shelf) → IsShelf sectors.old st
-        → IsShelf sectors.new (stocked (objects_of base (program_of program.now)) st)) }
-    ensures stocks { OnOk result ((st : Shelf) → IsShelf sectors.old st
-        → Changes B.holds backing.old backing.new (WritesFreeSectors (objects_of base (program_of program.now)) st.free)) }
-    ensures left { OnOk result (sectors.new.free + sectors_of_program (program_of program.now) ≡ sectors.old.free) }
-    // Whatever is answered, the chains that were there and what they hold stay.
-    ensures chains { (st : Shelf) → IsShelf sectors.old st
-        → (after : Shelf) × IsShelf sectors.new after × KeepsChains st after }
-    ensures others { (st : Shelf) → IsShelf sectors.old st → Changes B.holds backing.old backing.new (SameBut st.free) }
-    ensures outside { SameOutside base (base + (2 + entries_of (program_of program.now))) cpu.old.core cpu.new.core }
-    ensures len { length cpu.new.core ≡ length cpu.old.core }
+    requires sectors { HasSectors (B.size backing.old) sectors.old (sectors_of_program (program_of program.now)) }
+    ensures installed { OnOk result (Installed B.holds base (program_of program.now)
+        (record { core = cpu.old.core; table = sectors.old; device = backing.old })
+        (record { core = cpu.new.core; table = sectors.new; device = backing.new })) }
+    // Whatever is answered, no other word of core is changed, and the chains that were there and what they hold stay.
+    ensures spares { Spares B.holds base (2 + entries_of (program_of program.now))
+        (record { core = cpu.old.core; table = sectors.old; device = backing.old })
+        (record { core = cpu.new.core; table = sectors.new; device = backing.new }) }
     ensures cpu { cpu.new ≡ record cpu.old { core = cpu.new.core } }
-    ensures count { length sectors.new.links ≡ length sectors.old.links }
-    ensures size { B.size backing.new ≡ B.size backing.old }
     ensures refusal { IfErr result (λ fault. fault ≡ BackingFault) }
-    ensures cause { HasCause B.faults backing.old backing.new result }
-    ensures calls { B.calls backing.old ≤ B.calls backing.new }
+    ensures device { KeepsCounts B.size B.calls B.faults backing.old backing.new result }
 {
     let _size = cpu.core.size();
     let file = program.file();

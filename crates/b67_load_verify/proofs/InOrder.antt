@@ -1,5 +1,5 @@
 -- The refusals at places of a listing stand in order, by place and then by rule, and so do those at entries.
-use Rattle.std.proofs.Common.{◌≡◌, ◌⊎◌, ℕ, zero, suc, ◌+◌, ◌*◌, ◌<◌, ◌≤◌, lit<, Bool, true, false, not, cond, List, [], ◌∷◌, ◌++◌, length, map, filter, Ok, Err, refl, sym, ◌∙◌, arith, inl, inr}
+use Rattle.std.proofs.Common.{◌≡◌, ℕ, zero, suc, ◌+◌, ◌*◌, ◌<◌, ◌≤◌, lit<, Bool, true, false, not, cond, List, [], ◌∷◌, ◌++◌, length, map, filter, Ok, Err, refl, sym, ◌∙◌, arith, inl, inr}
 use Rattle.std.specs.List.{AllByRecursion}
 use Rattle.std.proofs.Math.Nat.{le_refl}
 use Rattle.std.proofs.lemmas.Bool.{cases_lt}

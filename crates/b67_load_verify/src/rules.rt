@@ -141,7 +141,10 @@ fn pcw_is_misplaced(file: &Codefile, segment: &Segment, op: Op) -> bool
             let level = (bits >> 14) % 32;
             !is_level_of(named_level(file, (bits % 0x4000) as u16), level)
                 || level != u64::from(segment.level) + 1
-                || !named_segment(file, (bits % 0x4000) as u16).is_some_and(|named| may_begin_at(named, bits >> 20))
+                || !named_segment(file, (bits % 0x4000) as u16).is_some_and(|named| may_begin_at(
+                    named,
+                    bits >> 20,
+                ))
         }
         None => false,
     }

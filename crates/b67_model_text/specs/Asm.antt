@@ -1,5 +1,5 @@
 -- Assembly: the program that cards denote, or the first refused card with its lowest reason.
-use Rattle.std.specs.Prelude.{ℕ, ◌+◌, ◌*◌, ◌/◌, ◌^◌, ◌==◌, ◌&&◌, not, nat_le, nat_lt, min, Bool, true, false, List, [], ◌∷◌, ◌++◌, length, map, unwrap_or, Option, Some, None, is_some, Result, Ok, Err, if◌then◌else◌, ⊤}
+use Rattle.std.specs.Prelude.{ℕ, ◌+◌, ◌*◌, ◌/◌, ◌^◌, ◌==◌, ◌&&◌, not, nat_le, nat_lt, min, Bool, true, false, List, [], ◌∷◌, ◌++◌, length, map, slice_get, unwrap_or, Option, Some, None, is_some, Result, Ok, Err, if◌then◌else◌, ⊤}
 use Rattle.std.specs.List.{list_any, cons_option}
 use Rattle.std.specs.Option.{option_map, option_and_then}
 use Rattle.std.specs.Str.{bytes_eq}
@@ -10,7 +10,7 @@ use Rattle.b67_word.specs.Couples.{couple_bits}
 use Rattle.b67_model.specs.declared.operators.Op.{Op}
 use Rattle.b67_model.specs.declared.operators.Op.TheVariants.{Valc, Namc, Mpcw, Brun, Brtr, Brfl}
 use Rattle.b67_model.specs.Operators.{place_at}
-use Rattle.b67_model.specs.Encoding.{has_bits, syllable_after}
+use Rattle.b67_model.specs.Encoding.{has_bits, syllable_after, target_bits}
 use Rattle.b67_model.specs.State as state
 use Rattle.b67_model.specs.Program.{Program}
 use Rattle.b67_model_text.specs.declared.card.Card.{Card}
@@ -19,7 +19,7 @@ use Rattle.b67_model_text.specs.declared.assembly.Call.TheVariants as calls
 use Rattle.b67_model_text.specs.declared.assembly.Branch as branch
 use Rattle.b67_model_text.specs.declared.assembly.Branch.TheVariants as branches
 use Rattle.b67_model_text.specs.declared.assembly.Sketch as sketch
-use Rattle.b67_model_text.specs.declared.assembly.Sketch.TheVariants.{Whole, OutOfRange, Couple as Coupled, Row as RowCoupled, Jump, Pcw}
+use Rattle.b67_model_text.specs.declared.assembly.Sketch.TheVariants.{Whole, OutOfRange, Couple as Coupled, Row as RowCoupled, Jump, Pcw, PcwAt}
 use Rattle.b67_model_text.specs.declared.assembly.Statement as statement
 use Rattle.b67_model_text.specs.declared.assembly.Statement.TheVariants as statements
 use Rattle.b67_model_text.specs.declared.assembly.Kind as kind
@@ -34,10 +34,6 @@ use Rattle.b67_model_text.specs.Encoding.{laid_one, code_of}
 use Rattle.b67_model_text.specs.Statements.{lines_of}
 
 -- ---- names
-
--- what each name means
-abbrev pub Names : Type 0
-Names = List ℕ → Option named.Named
 
 abbrev pub definition : ℕ → ℕ → Answer statement.Statement → Option (List ℕ × named.Named)
 definition s r (Ok (statements.Segment name level)) = Some (name, means.Segment s level)
@@ -69,7 +65,7 @@ meaning rows name = lookup (bytes_eq name) rows
 abbrev pub next : ℕ → Op → ℕ
 next n op = n + length (laid_one n op)
 
--- ---- the cards of a segment
+-- ---- the labels and entries of a segment's cards
 
 -- the syllable behind an operator that begins at syllable n
 abbrev pub behind : sketch.Sketch → ℕ → ℕ
@@ -79,6 +75,7 @@ behind (Coupled c couple) n = n + 2
 behind (RowCoupled c row) n = n + 2
 behind (Jump b label) n = n + 3
 behind (Pcw segment) n = 6 * (n / 6 + 2)
+behind (PcwAt segment label) n = 6 * (n / 6 + 2)
 
 abbrev pub label_at : ℕ → Answer statement.Statement → Option (List ℕ × ℕ)
 label_at n (Ok (statements.Operator label sketch)) = option_map (λ text. (text, n)) label
@@ -93,6 +90,57 @@ abbrev pub labels : ℕ → List Line → List (List ℕ × ℕ)
 labels n [] = []
 labels n (l ∷ more) = cons_option (label_at n l.says) (labels (reach n l.says) more)
 
+-- an ENTRY card names this label
+abbrev pub names_entry : List ℕ → Answer statement.Statement → Bool
+names_entry label (Ok (statements.Entry other)) = bytes_eq label other
+names_entry label _ = false
+
+-- a label's first place is this one
+abbrev pub is_place : ℕ → Option ℕ → Bool
+is_place n None = false
+is_place n (Some m) = m == n
+
+-- a label that an ENTRY card of these cards names, refused or not, is an entry unless it stands at 0:0
+abbrev pub is_entry : List Line → List ℕ → Bool
+is_entry lines label = list_any (λ l. names_entry label l.says) lines && not (is_place 0 (meaning (labels 0 lines) label))
+
+-- a card ends the segment or row before it, refused or not
+abbrev pub is_head : kind.Kind → Bool
+is_head kinds.Segment = true
+is_head kinds.Row = true
+is_head _ = false
+
+abbrev pub own : List Line → List Line
+own lines = leading (λ l. not (is_head l.kind)) lines
+
+abbrev pub with_cards : Answer statement.Statement → List Line → List (List Line) → List (List Line)
+with_cards (Ok (statements.Segment name level)) cards rest = cards ∷ rest
+with_cards _ cards rest = rest
+
+-- the own cards of each segment
+abbrev pub cards_of_segments : List Line → List (List Line)
+cards_of_segments [] = []
+cards_of_segments (l ∷ more) = with_cards l.says (own more) (cards_of_segments more)
+
+-- the own cards of a segment, by its number
+abbrev pub cards_of : List Line → ℕ → List Line
+cards_of lines number = unwrap_or (slice_get (cards_of_segments lines) number) []
+
+-- ---- what cards may name
+
+-- what each name means, and of each segment, by its number, the syllables and the entries among its labels
+pub record Names : Type 0 where
+  pub means : List ℕ → Option named.Named
+  pub label : ℕ → List ℕ → Option ℕ
+  pub entry : ℕ → List ℕ → Bool
+
+abbrev pub names_of : List Line → Names
+names_of lines = record {
+  means = λ name. meaning (definitions 0 0 lines) name;
+  label = λ number label. meaning (labels 0 (cards_of lines number)) label;
+  entry = λ number label. is_entry (cards_of lines number) label;
+}
+
 -- what the operators of a segment may name
 pub record Scope : Type 0 where
   pub names : Names
@@ -105,11 +153,6 @@ is_in_range (Whole op) = has_bits op
 is_in_range OutOfRange = false
 is_in_range _ = true
 
--- a label's first place is this one
-abbrev pub is_place : ℕ → Option ℕ → Bool
-is_place n None = false
-is_place n (Some m) = m == n
-
 abbrev pub is_first_label : (List ℕ → Option ℕ) → ℕ → Option (List ℕ) → Bool
 is_first_label labels n None = true
 is_first_label labels n (Some label) = is_place n (labels label)
@@ -119,15 +162,39 @@ abbrev pub pcw_in : Option named.Named → Option ℕ
 pcw_in (Some (means.Segment number (Some level))) = if nat_le level 31 then Some (level * 2 ^ 14 + (number + 2)) else None
 pcw_in _ = None
 
+-- a label is looked for in the segment named
+abbrev pub label_in : Names → Option named.Named → List ℕ → Option ℕ
+label_in names (Some (means.Segment number level)) label = names.label number label
+label_in names _ label = None
+
+abbrev pub entry_in : Names → Option named.Named → List ℕ → Bool
+entry_in names (Some (means.Segment number level)) label = names.entry number label
+entry_in names _ label = false
+
+-- a place's 16 bits; none past the longest segment comes to code
+abbrev pub place_bits : ℕ → ℕ
+place_bits n = target_bits (place_at (min n (6 * 8191)))
+
+-- a procedure's bits, from the place of a label of it
+abbrev pub pcw_at : Option ℕ → Option ℕ → Option ℕ
+pcw_at (Some bits) (Some n) = Some (bits + place_bits n * 2 ^ 20)
+pcw_at _ _ = None
+
 abbrev pub row_in : Option named.Named → Option ℕ
 row_in (Some (means.Row number)) = Some number
 row_in _ = None
 
 -- the names that a card uses are defined
 abbrev pub has_names : Names → sketch.Sketch → Bool
-has_names names (Pcw segment) = is_some (pcw_in (names segment))
-has_names names (RowCoupled c row) = is_some (row_in (names row))
+has_names names (Pcw segment) = is_some (pcw_in (names.means segment))
+has_names names (PcwAt segment label) = is_some (pcw_in (names.means segment)) && is_some (label_in names (names.means segment) label)
+has_names names (RowCoupled c row) = is_some (row_in (names.means row))
 has_names names _ = true
+
+-- an MPCW's label is an entry of the segment named
+abbrev pub has_entry : Names → sketch.Sketch → Bool
+has_entry names (PcwAt segment label) = entry_in names (names.means segment) label
+has_entry names _ = true
 
 abbrev pub has_label : (List ℕ → Option ℕ) → sketch.Sketch → Bool
 has_label labels (Jump b label) = is_some (labels label)
@@ -148,9 +215,10 @@ abbrev pub denoted : Scope → sketch.Sketch → Option Op
 denoted x (Whole op) = Some op
 denoted x OutOfRange = None
 denoted x (Coupled c couple) = option_map (called c) (option_and_then (couple_bits (min x.level 31)) couple)
-denoted x (RowCoupled c row) = option_map (called c) (option_and_then (λ number. couple_bits (min x.level 31) (record { level = 1; disp = x.segments + number + 2 })) (row_in (x.names row)))
+denoted x (RowCoupled c row) = option_map (called c) (option_and_then (λ number. couple_bits (min x.level 31) (record { level = 1; disp = x.segments + number + 2 })) (row_in (x.names.means row)))
 denoted x (Jump b label) = option_map (branch_to b) (x.labels label)
-denoted x (Pcw segment) = option_map Mpcw (pcw_in (x.names segment))
+denoted x (Pcw segment) = option_map Mpcw (pcw_in (x.names.means segment))
+denoted x (PcwAt segment label) = option_map Mpcw (pcw_at (pcw_in (x.names.means segment)) (label_in x.names (x.names.means segment) label))
 
 -- 48 bits
 abbrev pub is_word : Option ℕ → Bool
@@ -168,22 +236,64 @@ abbrev pub fitted : ℕ → Option Op → Answer Op
 fitted n None = needs (nat_le (n + 2) (6 * 8191)) 7 >> Err 8
 fitted n (Some op) = needs (nat_le (next n op) (6 * 8191)) 7 >> Ok op
 
+-- an operator, unless it is an MPCW whose label is no entry
+abbrev pub entered : Names → sketch.Sketch → Op → Answer Op
+entered names sketch op = needs (has_entry names sketch) 11 >> Ok op
+
 -- the operator of a segment's card that begins at syllable n
-abbrev pub operator_of : Scope → ℕ → statement.Statement → Answer Op
-operator_of x n (statements.Operator label sketch) = do
+abbrev pub operator_of : Scope → ℕ → Option (List ℕ) → sketch.Sketch → Answer Op
+operator_of x n label sketch = do
   needs (is_in_range sketch) 3
   needs (is_first_label x.labels n label) 4
   needs (has_names x.names sketch && has_label x.labels sketch) 5
-  fitted n (denoted x sketch)
-operator_of x n other = Err (misplaced x.names other)
+  op ← fitted n (denoted x sketch)
+  entered x.names sketch op
 
--- a segment's operators, in card order
-abbrev pub operators : Scope → ℕ → List Line → Result (List Op) Refusal
-operators x n [] = Ok []
-operators x n (l ∷ more) = do
-  op ← of_card l.number (l.says >>= operator_of x n)
-  rest ← operators x (next n op) more
-  Ok (op ∷ rest)
+-- what a segment's card adds: an operator, or the syllable of an entry
+pub data Added : Type 0 where
+  AddedOperator : Op → Added
+  AddedEntry : ℕ → Added
+
+-- an entry at a label, behind those in this list: it isn't at 0:0, nor an entry already, nor number 256
+abbrev pub entry_at : List ℕ → Option ℕ → Answer Added
+entry_at entries None = Err 5
+entry_at entries (Some n) = needs (not (n == 0) && not (list_any (λ m. m == n) entries) && nat_lt (length entries) 255) 10 >> Ok (AddedEntry n)
+
+-- what a segment's card adds that stands at syllable n behind the cards of these entries
+abbrev pub added_by : Scope → (n : ℕ) (entries : List ℕ) → statement.Statement → Answer Added
+added_by x n entries (statements.Operator label sketch) = operator_of x n label sketch >>= λ op. Ok (AddedOperator op)
+added_by x n entries (statements.Entry label) = entry_at entries (x.labels label)
+added_by x n entries other = Err (misplaced x.names other)
+
+abbrev pub syllable_behind : ℕ → Added → ℕ
+syllable_behind n (AddedOperator op) = next n op
+syllable_behind n (AddedEntry m) = n
+
+-- a number among numbers in order
+abbrev pub in_order : ℕ → List ℕ → List ℕ
+in_order n [] = n ∷ []
+in_order n (m ∷ more) = if nat_lt n m then n ∷ m ∷ more else m ∷ in_order n more
+
+abbrev pub entries_behind : List ℕ → Added → List ℕ
+entries_behind entries (AddedOperator op) = entries
+entries_behind entries (AddedEntry n) = in_order n entries
+
+-- the operators of a segment, in card order, and the syllables of its entries, in order
+pub record Content : Type 0 where
+  pub operators : List Op
+  pub entries : List ℕ
+
+abbrev pub with_added : Added → Content → Content
+with_added (AddedOperator op) content = record { operators = op ∷ content.operators; entries = content.entries }
+with_added (AddedEntry n) content = content
+
+-- the content of a segment's cards from syllable n on, behind these entries
+abbrev pub content_of : Scope → (n : ℕ) (entries : List ℕ) → List Line → Result Content Refusal
+content_of x n entries [] = Ok (record { operators = []; entries = entries })
+content_of x n entries (l ∷ more) = do
+  added ← of_card l.number (l.says >>= added_by x n entries)
+  rest ← content_of x (syllable_behind n added) (entries_behind entries added) more
+  Ok (with_added added rest)
 
 -- ---- the cards of a data row
 
@@ -207,18 +317,20 @@ row_words names n (l ∷ more) = do
 
 -- ---- segments and rows
 
--- a card ends the segment or row before it, refused or not
-abbrev pub is_head : kind.Kind → Bool
-is_head kinds.Segment = true
-is_head kinds.Row = true
-is_head _ = false
-
 abbrev pub is_numbers : kind.Kind → Bool
 is_numbers kinds.Numbers = true
 is_numbers _ = false
 
-abbrev pub own : List Line → List Line
-own lines = leading (λ l. not (is_head l.kind)) lines
+-- a card is an ENTRY by what it says, or by its first word where it says nothing
+abbrev pub is_entry_card : kind.Kind → Answer statement.Statement → Bool
+is_entry_card k (Ok (statements.Entry label)) = true
+is_entry_card k (Ok other) = false
+is_entry_card kinds.Entry (Err reason) = true
+is_entry_card k (Err reason) = false
+
+-- a card that a segment gets: neither a NUM nor an ENTRY
+abbrev pub is_code : Line → Bool
+is_code l = not (is_numbers l.kind) && not (is_entry_card l.kind l.says)
 
 abbrev pub is_segment_number : ℕ → Option named.Named → Bool
 is_segment_number s (Some (means.Segment number level)) = number == s
@@ -236,15 +348,15 @@ pub data Part : Type 0 where
 abbrev pub segment_part : Names → (segments s r number : ℕ) (name : List ℕ) (level : Option ℕ) → List Line → Result Part Refusal
 segment_part names segments s r number name level lines = do
   l ← of_card number (or_reason level 3)
-  of_card number (needs (is_segment_number s (names name)) 4)
-  of_card number (needs (list_any (λ l. not (is_numbers l.kind)) lines) 7)
+  of_card number (needs (is_segment_number s (names.means name)) 4)
+  of_card number (needs (list_any is_code lines) 7)
   of_card number (needs (nat_lt (s + r) 255) 9)
-  ops ← operators (record { names = names; segments = segments; level = l; labels = λ label. meaning (labels 0 lines) label }) 0 lines
-  Ok (CodePart (record { level = l; entries = []; code = code_of ops }))
+  content ← content_of (record { names = names; segments = segments; level = l; labels = λ label. meaning (labels 0 lines) label }) 0 [] lines
+  Ok (CodePart (record { level = l; entries = map place_bits content.entries; code = code_of content.operators }))
 
 abbrev pub row_part : Names → (s r number : ℕ) (name : List ℕ) → List Line → Result Part Refusal
 row_part names s r number name lines = do
-  of_card number (needs (is_row_number r (names name)) 4)
+  of_card number (needs (is_row_number r (names.means name)) 4)
   of_card number (needs (list_any (λ l. is_numbers l.kind) lines) 7)
   of_card number (needs (nat_lt (s + r) 255) 9)
   words ← row_words names 0 lines
@@ -274,7 +386,15 @@ no_strays names [] = Ok tt
 no_strays names (l ∷ more) = if is_head l.kind then Ok tt else of_card l.number (l.says >>= λ statement. Err (misplaced names statement))
 
 abbrev pub assembled : List Card → Result Program Refusal
-assembled cards =
-    let all = lines_of cards in
-    let names : Names = λ name. meaning (definitions 0 0 all) name in
-    no_strays names all >>= λ _. program_from names (segment_count 0 all) 0 0 all
+assembled cards = no_strays (names_of (lines_of cards)) (lines_of cards) >>= λ _. program_from (names_of (lines_of cards)) (segment_count 0 (lines_of cards)) 0 0 (lines_of cards)
+
+abbrev pub says_entry : Answer statement.Statement → Bool
+says_entry (Ok (statements.Entry label)) = true
+says_entry _ = false
+
+-- cards make a file of version 2 if one of them is an ENTRY
+abbrev pub version_in : List Line → ℕ
+version_in lines = if list_any (λ l. says_entry l.says) lines then 2 else 1
+
+abbrev pub version_of : List Card → ℕ
+version_of cards = version_in (lines_of cards)

@@ -11,7 +11,7 @@ use Rattle.b67_model_text.specs.declared.deck.Job as declared
 use Rattle.b67_model_text.specs.declared.deck.Deck.{Deck}
 use Rattle.b67_model_text.specs.Answers.{Answer, ◌>>=◌, ◌>>◌, needs}
 use Rattle.b67_model_text.specs.Cards.{cards, leading}
-use Rattle.b67_model_text.specs.Hex.{digit_bytes}
+use Rattle.b67_model_text.specs.Hex.{digit_bytes, is_hex}
 use Rattle.b67_model_text.specs.Command.{Command, Limit, Asm, Hex, Data, Plain, plain, said}
 use Rattle.b67_model_text.specs.Placing.{stand, placed, stack_in, quantum_in, halt_in, switch_in, name_in, first_of, numbers}
 
@@ -159,3 +159,20 @@ all_plain (card ∷ more) = of_card card.number (plain card.text) >> all_plain m
 -- the cards of a text of plain cards, or the first refused card with its lowest reason
 abbrev pub plain_cards : List ℕ → Result (List Card) Refusal
 plain_cards text = within_limit text >>= λ _. all_plain (cards text) >>= λ _. Ok (cards text)
+
+-- what is refused of a hexadecimal card
+abbrev pub hexadecimal : List ℕ → Answer ⊤
+hexadecimal text = plain text >> needs (is_hex text) 11
+
+abbrev pub all_hexadecimal : List Card → Result ⊤ Refusal
+all_hexadecimal [] = Ok tt
+all_hexadecimal (card ∷ more) = of_card card.number (hexadecimal card.text) >> all_hexadecimal more
+
+-- the cards of a text of hexadecimal cards, or the first refused card with its lowest reason
+abbrev pub hexadecimal_cards : List ℕ → Result (List Card) Refusal
+hexadecimal_cards text = within_limit text >>= λ _. all_hexadecimal (cards text) >>= λ _. Ok (cards text)
+
+-- the first of these cards, 1 for none
+abbrev pub first_number : List Card → ℕ
+first_number [] = 1
+first_number (card ∷ more) = card.number

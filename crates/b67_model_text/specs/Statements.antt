@@ -15,7 +15,7 @@ use Rattle.b67_model_text.specs.declared.assembly.Call.TheVariants as calls
 use Rattle.b67_model_text.specs.declared.assembly.Branch as branch
 use Rattle.b67_model_text.specs.declared.assembly.Branch.TheVariants as branches
 use Rattle.b67_model_text.specs.declared.assembly.Sketch as sketch
-use Rattle.b67_model_text.specs.declared.assembly.Sketch.TheVariants.{Whole, OutOfRange, Couple as Coupled, Row as RowCoupled, Jump, Pcw}
+use Rattle.b67_model_text.specs.declared.assembly.Sketch.TheVariants.{Whole, OutOfRange, Couple as Coupled, Row as RowCoupled, Jump, Pcw, PcwAt}
 use Rattle.b67_model_text.specs.declared.assembly.Statement as statement
 use Rattle.b67_model_text.specs.declared.assembly.Statement.TheVariants as statements
 use Rattle.b67_model_text.specs.declared.assembly.Kind as kind
@@ -67,8 +67,19 @@ couple_in c p = option_and_then (λ level. call_at c level p.1 (numeral_up_to 16
 abbrev pub jump_to : branch.Branch → List ℕ → Option sketch.Sketch
 jump_to b word = option_map (Jump b) (name_in word)
 
+-- a segment's name, and a label of it behind a colon
+abbrev pub pcw_at : List ℕ × List ℕ → Option sketch.Sketch
+pcw_at p = option_and_then (λ segment. option_map (PcwAt segment) (name_in p.1)) (name_in p.0)
+
+abbrev pub pcw_named : List ℕ → Option sketch.Sketch
+pcw_named word = option_map Pcw (name_in word)
+
+abbrev pub pcw_in_parts : List ℕ → Option (List ℕ × List ℕ) → Option sketch.Sketch
+pcw_in_parts word None = pcw_named word
+pcw_in_parts word (Some p) = pcw_at p
+
 abbrev pub pcw_of : List ℕ → Option sketch.Sketch
-pcw_of word = option_map Pcw (name_in word)
+pcw_of word = pcw_in_parts word (parted 58 word)
 
 -- the operand of a negative number: bit 46 is its sign
 abbrev pub negative_bits : Option ℕ → Option (Option ℕ)
@@ -157,6 +168,13 @@ abbrev pub num : List (List ℕ) → Option statement.Statement
 num [] = None
 num (word ∷ more) = option_and_then (λ first. option_map (statements.Values first) (all_bits more)) (bits_in word)
 
+abbrev pub entry_named : List ℕ → Option statement.Statement
+entry_named word = option_map statements.Entry (name_in word)
+
+abbrev pub entry : List (List ℕ) → Option statement.Statement
+entry [] = None
+entry (word ∷ more) = if is_empty more then entry_named word else None
+
 abbrev pub operator : Option (List ℕ) → List (List ℕ) → Answer statement.Statement
 operator label [] = Err 1
 operator label (key ∷ operands) = do
@@ -168,7 +186,8 @@ abbrev pub kind_of : List ℕ → kind.Kind
 kind_of word =
     if bytes_eq (codes "SEGMENT") word then kinds.Segment
     else (if bytes_eq (codes "ROW") word then kinds.Row
-    else (if bytes_eq (codes "NUM") word then kinds.Numbers else kinds.Operator))
+    else (if bytes_eq (codes "NUM") word then kinds.Numbers
+    else (if bytes_eq (codes "ENTRY") word then kinds.Entry else kinds.Operator)))
 
 abbrev pub is_label : List ℕ → Bool
 is_label w = slice_index w (length w - 1) == 58
@@ -187,6 +206,7 @@ abbrev pub says : kind.Kind → List (List ℕ) → List (List ℕ) → Answer s
 says kinds.Segment more all = or_reason (segment more) 2
 says kinds.Row more all = or_reason (row more) 2
 says kinds.Numbers more all = or_reason (num more) 2
+says kinds.Entry more all = or_reason (entry more) 2
 says kinds.Operator more all = labelled all
 
 abbrev pub statement_of : List (List ℕ) → Answer statement.Statement

@@ -53,7 +53,10 @@ pub enum Sketch {
     /// A data row at level 1.
     Row { call: Call, row: Name },
     Jump { branch: Branch, label: Name },
+    /// The procedure of a segment, from its first place.
     Pcw { segment: Name },
+    /// The procedure of a segment, from an entry of it.
+    PcwAt { segment: Name, label: Name },
 }
 
 /// Words of a data row, None for one out of its range.
@@ -105,6 +108,8 @@ pub enum Statement {
     /// One word of a data row or more.
     Values { first: Option<u64>, more: Values },
     Operator { label: Option<Name>, sketch: Sketch },
+    /// Makes a label's place an entry of the current segment.
+    Entry { label: Name },
 }
 
 /// What a card is by its first word.
@@ -113,6 +118,7 @@ pub enum Kind {
     Segment,
     Row,
     Numbers,
+    Entry,
     Operator,
 }
 

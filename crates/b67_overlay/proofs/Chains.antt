@@ -3,7 +3,7 @@ use Rattle.std.proofs.Common.{◌≡◌, ◌≢◌, ℕ, zero, suc, ◌+◌, ◌
 use Rattle.std.proofs.lemmas.List.{take-append-drop}
 use Rattle.std.proofs.lemmas.Bool.{cases_eq, cond-true, eq-eqb}
 use Rattle.b67_backing.specs.Shelf.{Shelf, Table, IsShelf, Linked, times, uses, first, taken, given, chain_of, others}
-use Rattle.b67_backing.specs.Held.{sectors_for, SameBut, Stores, Holds}
+use Rattle.b67_backing.specs.Held.{sectors_for, SameBut, Stores, Fills}
 use Rattle.b67_backing.proofs.Links.{one-same, one-other, times-append, uses-split, chain_there, rest, linked_within}
 use Rattle.b67_backing.proofs.News.{chain_of-others, first_take}
 use Rattle.b67_backing.proofs.Tallies.{AllBelow}
@@ -93,9 +93,9 @@ module _ (t : Table) (st : Shelf) (s : IsShelf t st) where
               absurd (omega (arith, one-same c, ap (times c) k.is, uses-split c c st.chains))
 
 -- what a chain holds whose sectors weren't written
-Holds-same : (ks cs : List ℕ) (at : ℕ) (ns : List ℕ) (old new : List (List ℕ)) → SameBut ks old new → Apart ks cs → Holds old cs at ns → Holds new cs at ns
-Holds-same ks [] at ns old new s a h = h
-Holds-same ks (c ∷ cs) at ns old new s a h = ((h.0.0, s.others c a.0 a.1 ∙ h.0.1, h.0.2), Holds-same ks cs (at + 30) ns old new s a.2 h.1)
+Fills-same : (ks cs : List ℕ) (at : ℕ) (ns : List ℕ) (old new : List (List ℕ)) → SameBut ks old new → Apart ks cs → Fills old cs at ns → Fills new cs at ns
+Fills-same ks [] at ns old new s a h = h
+Fills-same ks (c ∷ cs) at ns old new s a h = ((h.0.0, s.others c a.0 a.1 ∙ h.0.1, h.0.2), Fills-same ks cs (at + 30) ns old new s a.2 h.1)
 
 -- the same, as far as the device tells
 pub Told-same : (ks cs ns : List ℕ) (d told new : Option (List (List ℕ))) → Says d told → ((all : List (List ℕ)) → told ≡ Some all → (y : List (List ℕ)) × (new ≡ Some y) × SameBut ks all y) → Apart ks cs → Told d cs ns → Told (content_after d new) cs ns
@@ -103,7 +103,7 @@ Told-same ks cs ns None told new s f a h = tt
 Told-same ks cs ns (Some all) told new s f a h =
     let r = f all s in
     let P : Option (List (List ℕ)) → Type 0 = λ z. Told z cs ns in
-    subst P (sym r.1) (Holds-same ks cs 0 ns all r.0 r.2 a h)
+    subst P (sym r.1) (Fills-same ks cs 0 ns all r.0 r.2 a h)
 
 -- and what was written
 pub Told-stored : (cs ns : List ℕ) (d told new : Option (List (List ℕ))) → Says d told → ((all : List (List ℕ)) → told ≡ Some all → (y : List (List ℕ)) × (new ≡ Some y) × Stores cs ns all y) → Told (content_after d new) cs ns

@@ -1,12 +1,18 @@
--- What remains of a storage where areas were given back.
-use Rattle.std.specs.Prelude.{◌≡◌, ◌≢◌, ℕ, ◌<◌, ◌≤◌, ◌⊎◌, List, length, Option, Some, None}
+-- What remains of a storage after areas were given back.
+use Rattle.std.specs.Prelude.{◌≡◌, ◌≢◌, ◌↔◌, ℕ, ◌<◌, ◌≤◌, ◌⊎◌, List, length, Option, Some, None, Result, Err, OnOk, OnErr, IsOk}
+use Rattle.b67_area.specs.declared.Areas.{Areas}
 use Rattle.b67_area.specs.declared.Info.{Info}
 use Rattle.b67_area.specs.Spans.{Span, area_at}
+use Rattle.b67_area.specs.declared.Kind.TheVariants.{Array}
+use Rattle.b67_backing.specs.Shelf.{Table}
 use Rattle.b67_backing.specs.Held.{sectors_for}
+use Rattle.b67_backing.specs.declared.SpaceFault.{SpaceFault}
+use Rattle.b67_backing.specs.declared.SpaceFault.TheVariants.{BackingFull}
+use Rattle.b67_stack.specs.declared.Cpu.{Cpu}
 use Rattle.b67_stack.specs.MachineView.{PagedObject, MachineView}
 use Rattle.b67_stack.specs.Represents.{Storage}
-use Rattle.b67_layout_storage.specs.Machine.{IsPresent}
-use Rattle.b67_overlay.specs.Overlaid.{IsShort}
+use Rattle.b67_layout_storage.specs.Machine.{MachineRepresentsView, IsPresent, Stayed}
+use Rattle.b67_overlay.specs.Overlaid.{overlaid, retelling, IsShort}
 
 -- areas were given back, but not the one at `spare`: what was not in core is where it was
 pub record AreasEvicted (x y : Storage) (spare : ℕ) : Type 0 where
@@ -40,3 +46,24 @@ pub record IsShortBy (x : Storage) (p : MachineView) (wants free : ℕ) : Type 0
   pub short : IsShort x object
   pub wants_is : wants ≡ sectors_for (length object.numbers)
   pub free_is : free ≡ length x.shelf.free
+
+-- an area is taken out of core: too few free sectors refuse it exactly if it is an array that keeps none and needs more than
+-- are free; code and data rows go without a call of the device
+pub record Overlays {D : Type 0} (tell : D → Option (List (List ℕ))) (x : Storage) (p : MachineView) (area : ℕ) (t : PagedObject)
+    (result : Result (Unit {0}) SpaceFault) (old cpu : Cpu) (areas : Areas) (table table_new : Table) (before after : D) : Type 0 where
+  pub stands : OnOk result (MachineRepresentsView (overlaid x t area (tell after)) cpu areas table_new (tell after) p)
+  pub refused : OnErr result (MachineRepresentsView (retelling x (tell after)) cpu areas table_new (tell after) p)
+  pub outside : Stayed p old.core cpu.core
+  pub full : (wants free : ℕ) → (result ≡ Err (BackingFull wants free)) ↔ (IsShort x t × (wants ≡ sectors_for (length t.numbers)) × (free ≡ length x.shelf.free))
+  pub clean : t.kind ≢ Array → IsOk result × (table_new ≡ table) × (after ≡ before)
+
+-- every area with a word below `upto` is taken out of core, and no other; an array among them may be refused for too few free
+-- sectors
+pub record Claims (x : Storage) (p : MachineView) (upto : ℕ)
+    (result : Result (Unit {0}) SpaceFault) (old cpu : Cpu) (areas : Areas) (table : Table) (told : Option (List (List ℕ))) : Type 0 where
+  pub outside : Stayed p old.core cpu.core
+  pub clear : OnOk result ((y : Storage) × EvictedBelow upto x y × ((at : ℕ) (a : Info) → area_at y.low y.spans at ≡ Some a → upto < at)
+      × MachineRepresentsView y cpu areas table told p)
+  pub refused : OnErr result ((y : Storage) × EvictedBelow upto x y × MachineRepresentsView y cpu areas table told p)
+  pub full : (wants free : ℕ) → result ≡ Err (BackingFull wants free)
+      → (y : Storage) × (short : IsShortBy y p wants free) × (short.at ≤ upto) × EvictedBelow upto x y × MachineRepresentsView y cpu areas table told p

@@ -1,3 +1,4 @@
 pub mod Turns
 pub mod Overlaid
 pub mod AreasEvicted
+pub mod Written

@@ -1,14 +1,12 @@
 //! A part of core that is cleared of areas.
 
-ghost use Rattle.std.specs.Prelude.{◌≡◌, ◌≢◌, ℕ, ◌+◌, ◌<◌, ◌≤◌, Some, Err, OnOk, OnErr, length};
-ghost use Rattle.b67_area.specs.declared.Info.{Info};
-ghost use Rattle.b67_area.specs.Spans.{area_at};
+ghost use Rattle.std.specs.Prelude.{◌≡◌, ◌≢◌, ℕ, ◌+◌, Err, length};
 ghost use Rattle.b67_backing.specs.declared.SpaceFault.TheVariants.{NoCore, BackingFull, BackingFault};
 ghost use Rattle.b67_io.specs.Causes.{Rose};
 ghost use Rattle.b67_stack.specs.MachineView.{MachineView};
 ghost use Rattle.b67_stack.specs.Represents.{Storage};
-ghost use Rattle.b67_layout_storage.specs.Machine.{MachineRepresentsView, DeviceAfterCalls, Stayed};
-ghost use Rattle.b67_overlay.specs.AreasEvicted.{EvictedBelow, IsShortBy};
+ghost use Rattle.b67_layout_storage.specs.Machine.{MachineRepresentsView, DeviceAfterCalls, PagingKeeps};
+ghost use Rattle.b67_overlay.specs.AreasEvicted.{Claims};
 
 use crate::overlays::overlay;
 use b67_area::Areas;
@@ -27,19 +25,10 @@ pub fn claim<B: Backing>(
 ) -> Result<(), SpaceFault>
     requires machine { (x : Storage) × (p : MachineView) × MachineRepresentsView x cpu.old areas.old sectors.old (B.holds backing.old) p }
     requires same { B.size backing.old + 1 ≡ length sectors.old.links }
-    ensures rest { cpu.new ≡ record cpu.old { core = cpu.new.core } }
-    ensures len { length cpu.new.core ≡ length cpu.old.core }
-    ensures areas { areas.new ≡ areas.old }
-    ensures outside { (x : Storage) (p : MachineView) → MachineRepresentsView x cpu.old areas.old sectors.old (B.holds backing.old) p → Stayed p cpu.old.core cpu.new.core }
-    ensures clear { OnOk result ((x : Storage) (p : MachineView) → MachineRepresentsView x cpu.old areas.old sectors.old (B.holds backing.old) p
-        → (y : Storage) × EvictedBelow upto x y × ((at : ℕ) (a : Info) → area_at y.low y.spans at ≡ Some a → upto < at)
-        × MachineRepresentsView y cpu.new areas.new sectors.new (B.holds backing.new) p) }
-    ensures refused { OnErr result ((x : Storage) (p : MachineView) → MachineRepresentsView x cpu.old areas.old sectors.old (B.holds backing.old) p
-        → (y : Storage) × EvictedBelow upto x y × MachineRepresentsView y cpu.new areas.new sectors.new (B.holds backing.new) p) }
-    ensures full { (x : Storage) (p : MachineView) (wants free : ℕ) → MachineRepresentsView x cpu.old areas.old sectors.old (B.holds backing.old) p → result ≡ Err (BackingFull wants free)
-        → (y : Storage) × (short : IsShortBy y p wants free) × (short.at ≤ upto) × EvictedBelow upto x y × MachineRepresentsView y cpu.new areas.new sectors.new (B.holds backing.new) p }
+    ensures keeps { PagingKeeps cpu.old cpu.new areas.old areas.new sectors.old sectors.new }
+    ensures row { (x : Storage) (p : MachineView) → MachineRepresentsView x cpu.old areas.old sectors.old (B.holds backing.old) p
+        → Claims x p upto result cpu.old cpu.new areas.new sectors.new (B.holds backing.new) }
     ensures no_core { (need size : ℕ) → result ≢ Err (NoCore need size) }
-    ensures count { length sectors.new.links ≡ length sectors.old.links }
     ensures device { DeviceAfterCalls B.holds B.size B.calls B.faults backing.old backing.new }
     ensures cause { result ≡ Err BackingFault → Rose B.faults backing.old backing.new }
 {

@@ -3,16 +3,16 @@
 ghost use Rattle.std.specs.Prelude.{◌≡◌, ◌≢◌, ◌↔◌, ◌⊎◌, ℕ, ◌+◌, ◌^◌, ◌<◌, ◌≤◌, List, Option, Some, None, Err, OnOk, OnErr, IsOk, length};
 ghost use Rattle.b67_area.specs.declared.Kind.TheVariants.{Array, Row, Code};
 ghost use Rattle.b67_backing.specs.Shelf.{Table};
-ghost use Rattle.b67_backing.specs.Held.{sectors_for};
 ghost use Rattle.b67_backing.specs.declared.SpaceFault.TheVariants.{NoCore, BackingFull, BackingFault};
 ghost use Rattle.b67_ctl.specs.Descriptors.{data_word};
 ghost use Rattle.b67_io.specs.Causes.{Rose};
 ghost use Rattle.b67_stack.specs.Shapes.{Location};
 ghost use Rattle.b67_stack.specs.MachineView.{PagedObject, MachineView, home_desc, home_word_of};
 ghost use Rattle.b67_stack.specs.Represents.{Storage, Represents, info_of};
-ghost use Rattle.b67_layout_storage.specs.Machine.{MachineRepresentsView, IsPresent, DeviceAfterCalls, Stayed};
+ghost use Rattle.b67_layout_storage.specs.Machine.{MachineRepresentsView, IsPresent, DeviceAfterCalls, PagingKeeps, Stayed};
 ghost use Rattle.b67_overlay.specs.Turns.{Hides};
-ghost use Rattle.b67_overlay.specs.Overlaid.{overlaid, dropped, retelling, IsOut, IsShort};
+ghost use Rattle.b67_overlay.specs.Overlaid.{overlaid, dropped, IsOut};
+ghost use Rattle.b67_overlay.specs.AreasEvicted.{Overlays};
 
 use crate::search::search_copies;
 use crate::writing::write_out;
@@ -86,7 +86,7 @@ pub fn discard(cpu: &mut Cpu, areas: &mut Areas, area: u32)
 }
 
 /// Takes an area out of core: the words of an array are written to its chain of sectors, those of code and data rows are
-/// there already. Its copies become absent, and its original or segment descriptor. Nothing of core is changed where it is
+/// there already. Its copies become absent, and its original or segment descriptor. Nothing of core is changed if it is
 /// refused.
 pub fn overlay<B: Backing>(
     cpu: &mut Cpu,
@@ -97,22 +97,11 @@ pub fn overlay<B: Backing>(
 ) -> Result<(), SpaceFault>
     requires machine { (x : Storage) × (p : MachineView) × (t : PagedObject) × MachineRepresentsView x cpu.old areas.old sectors.old (B.holds backing.old) p × IsPresent x p area t }
     requires same { B.size backing.old + 1 ≡ length sectors.old.links }
-    ensures rest { cpu.new ≡ record cpu.old { core = cpu.new.core } }
-    ensures len { length cpu.new.core ≡ length cpu.old.core }
-    ensures areas { areas.new ≡ areas.old }
-    ensures stands { OnOk result ((x : Storage) (p : MachineView) (t : PagedObject) → MachineRepresentsView x cpu.old areas.old sectors.old (B.holds backing.old) p
-        → IsPresent x p area t → MachineRepresentsView (overlaid x t area (B.holds backing.new)) cpu.new areas.new sectors.new (B.holds backing.new) p) }
-    ensures refused { OnErr result ((x : Storage) (p : MachineView) (t : PagedObject) → MachineRepresentsView x cpu.old areas.old sectors.old (B.holds backing.old) p
-        → IsPresent x p area t → MachineRepresentsView (retelling x (B.holds backing.new)) cpu.new areas.new sectors.new (B.holds backing.new) p) }
+    ensures keeps { PagingKeeps cpu.old cpu.new areas.old areas.new sectors.old sectors.new }
+    ensures row { (x : Storage) (p : MachineView) (t : PagedObject) → MachineRepresentsView x cpu.old areas.old sectors.old (B.holds backing.old) p → IsPresent x p area t
+        → Overlays B.holds x p area t result cpu.old cpu.new areas.new sectors.old sectors.new backing.old backing.new }
     ensures unchanged { OnErr result (cpu.new ≡ cpu.old) }
-    ensures outside { (x : Storage) (p : MachineView) (t : PagedObject) → MachineRepresentsView x cpu.old areas.old sectors.old (B.holds backing.old) p → IsPresent x p area t
-        → Stayed p cpu.old.core cpu.new.core }
-    ensures full { (x : Storage) (p : MachineView) (t : PagedObject) (wants free : ℕ) → MachineRepresentsView x cpu.old areas.old sectors.old (B.holds backing.old) p → IsPresent x p area t
-        → (result ≡ Err (BackingFull wants free)) ↔ (IsShort x t × (wants ≡ sectors_for (length t.numbers)) × (free ≡ length x.shelf.free)) }
     ensures no_core { (need size : ℕ) → result ≢ Err (NoCore need size) }
-    ensures clean { (x : Storage) (p : MachineView) (t : PagedObject) → MachineRepresentsView x cpu.old areas.old sectors.old (B.holds backing.old) p → IsPresent x p area t
-        → t.kind ≢ Array → IsOk result × (sectors.new ≡ sectors.old) × (backing.new ≡ backing.old) }
-    ensures count { length sectors.new.links ≡ length sectors.old.links }
     ensures device { DeviceAfterCalls B.holds B.size B.calls B.faults backing.old backing.new }
     ensures cause { result ≡ Err BackingFault → Rose B.faults backing.old backing.new }
 {

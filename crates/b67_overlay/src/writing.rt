@@ -1,19 +1,19 @@
 //! The words of an area that go to sectors.
 
-ghost use Rattle.std.specs.Prelude.{◌≡◌, ◌≢◌, ◌↔◌, ◌⊎◌, ℕ, ◌+◌, ◌^◌, ◌<◌, ◌≤◌, Err, IfOk, OnErr, length, map, slice_range};
+ghost use Rattle.std.specs.Prelude.{◌≡◌, ◌≢◌, ◌⊎◌, ℕ, ◌+◌, Err, length, map, slice_range};
 ghost use Rattle.b67_core.specs.Numbers.{number};
 ghost use Rattle.b67_backing.specs.Shelf.{Shelf, IsShelf, HasChain};
-ghost use Rattle.b67_backing.specs.Held.{Changes, SameBut, Stores, sectors_for};
+ghost use Rattle.b67_backing.specs.Held.{sectors_for};
 ghost use Rattle.b67_backing.specs.declared.SpaceFault.TheVariants.{NoCore, BackingFull, BackingFault};
 ghost use Rattle.b67_io.specs.Causes.{Rose};
 ghost use Rattle.b67_layout_storage.specs.Machine.{DeviceAfterCalls};
-ghost use Rattle.b67_overlay.specs.Overlaid.{chain_out, shelf_out, sectors_out};
+ghost use Rattle.b67_overlay.specs.Written.{IsPieceOf, WritesOut};
 
 use b67_backing::{Backing, Sectors, SpaceFault};
 use b67_core::Core;
 
-/// Writes words of core to the chain that is kept, or to a new one where none is. The first sector. A chain that was taken
-/// and not written is given back.
+/// Writes words of core to the chain that is kept, or to a new one if none is, and answers its first sector. A chain that
+/// was taken and not written is given back.
 pub fn write_out<B: Backing>(
     core: &Core,
     sectors: &mut Sectors,
@@ -22,19 +22,11 @@ pub fn write_out<B: Backing>(
     words: u32,
     kept: u32,
 ) -> Result<u32, SpaceFault>
-    requires some { 1 ≤ words }
-    requires few { words < 2 ^ 16 }
-    requires inside { at + words ≤ length core.now }
+    requires words { IsPieceOf core.now at words }
     requires chain { (st : Shelf) × IsShelf sectors.old st × ((kept ≡ 0) ⊎ HasChain sectors.old st kept (sectors_for words)) }
     requires same { B.size backing.old + 1 ≡ length sectors.old.links }
-    ensures written { IfOk result (λ first. (st : Shelf) → IsShelf sectors.old st → (kept ≡ 0) ⊎ HasChain sectors.old st kept (sectors_for words)
-        → (first ≡ chain_out st kept) × IsShelf sectors.new (shelf_out st kept words)
-        × Changes B.holds backing.old backing.new (Stores (sectors_out st kept words) (map number (slice_range core.now at (at + words))))) }
-    ensures room { IfOk result (λ first. (st : Shelf) → IsShelf sectors.old st → kept ≡ 0 → sectors_for words ≤ length st.free) }
-    ensures refused { OnErr result ((st : Shelf) → IsShelf sectors.old st → (kept ≡ 0) ⊎ HasChain sectors.old st kept (sectors_for words)
-        → IsShelf sectors.new st × Changes B.holds backing.old backing.new (SameBut (sectors_out st kept words))) }
-    ensures full { (st : Shelf) (wants free : ℕ) → IsShelf sectors.old st
-        → (result ≡ Err (BackingFull wants free)) ↔ ((kept ≡ 0) × (length st.free < sectors_for words) × (wants ≡ sectors_for words) × (free ≡ length st.free)) }
+    ensures row { (st : Shelf) → IsShelf sectors.old st
+        → WritesOut B.holds st kept words (map number (slice_range core.now at (at + words))) result sectors.old sectors.new backing.old backing.new }
     ensures no_core { (need size : ℕ) → result ≢ Err (NoCore need size) }
     ensures count { length sectors.new.links ≡ length sectors.old.links }
     ensures device { DeviceAfterCalls B.holds B.size B.calls B.faults backing.old backing.new }

@@ -16,7 +16,9 @@ use Rattle.b67_stack.specs.Represents.{Storage}
 use Rattle.b67_layout_storage.specs.Machine as storage
 use Rattle.b67_layout_storage.specs.Machine.{IsAbsent, HasHole, Stayed}
 use Rattle.b67_layout_storage.proofs.Helds.{held-other}
+use Rattle.b67_layout_storage.proofs.Below.{Stayed-none}
 use Rattle.b67_overlay.specs.AreasEvicted.{AreasEvicted, IsShortBy}
+use Rattle.b67_overlay.proofs.Shedding.{AreasEvicted-none}
 use Rattle.b67_layout.specs.Placement.{Placement}
 use Rattle.b67_layout.specs.Layout.{array_object, machine_view}
 use Rattle.b67_layout.specs.Session.{IsRunning}
@@ -24,8 +26,8 @@ use Rattle.b67_exec_cells.specs.Running.{code_area}
 use Rattle.b67_presence_page.specs.Brought.{brought}
 use Rattle.b67_presence_page.specs.Brings.{IsReadable, ReadIn, Waits, MayWait}
 use Rattle.b67_task_tables.specs.declared.tables.Machine.{Machine}
-use Rattle.b67_presence.specs.Bringing.{StandsOver, IsArrayWanted, Lacks, Refused, RefusedFull, IsShortOf, AreasStay, StaysIn, IsUntouched, words_wanted}
-use Rattle.b67_presence.proofs.Again.{machine_of}
+use Rattle.b67_presence.specs.Bringing.{StandsOver, IsArrayWanted, IsWanted, Lacks, Refused, RefusedFull, IsShortOf, AreasStay, StaysIn, IsUntouched, words_wanted}
+use Rattle.b67_presence.proofs.Again.{machine_of, pictured}
 use Rattle.b67_presence.proofs.Ends.{waits_again, may_again, read_again, stays_again}
 use Rattle.b67_presence.proofs.Shortage.{short_of}
 use Rattle.b67_presence.proofs.Seen.{readable}
@@ -89,6 +91,24 @@ module _ (x : Storage) (told now : Option (List (List ℕ))) (k : Machine) (plan
       record { again = a.0; areas = subst A (sym a.1) all }
   stays_in home t b (Err fault) ok err =
       let a = stays_again x told now k plan s o h cpu areas table rest len same_areas stayed err in
+      let A : Storage → Type 0 = λ y. AreasStay x y in
+      let all : AreasStay x x = λ q some. refl in
+      record { again = a.0; areas = subst A (sym a.1) all }
+
+-- where nothing was changed
+wanted_lacks : (x y : Storage) (plan : Placement) (m : SessionJob) (t : Task) (absent : What) (words : ℕ) → IsWanted x plan m t absent words → AreasEvicted x y 0 → Lacks y absent plan m t
+wanted_lacks x y plan m t (what.Code d) words w s = code_lacks x y plan m t d 0 w.1 s
+wanted_lacks x y plan m t (what.Array home) words w s = array_lacks x y plan m t home words 0 w s
+
+module _ (x : Storage) (told : Option (List (List ℕ))) (k : Machine) (plan : Placement) (s : Session) (o : IsInOrderButCounts s) (h : StandsOver x told k plan s) where
+  pub refused_still : (m : SessionJob) (t : Task) (absent : What) (words : ℕ) → IsWanted x plan m t absent words → Refused x told k plan s m t absent
+  refused_still m t absent words wanted =
+      refused_waits x told told k plan s o h k.cpu k.areas k.sectors refl refl refl (Stayed-none (machine_view plan s.jobs) k.cpu.core) m t absent 0
+      (record { storage = x; sheds = AreasEvicted-none x 0; stands = pictured x told k plan s h }) (λ y sheds. wanted_lacks x y plan m t absent words wanted sheds)
+
+  pub stays_put : StaysIn x told k plan s
+  stays_put =
+      let a = stays_again x told told k plan s o h k.cpu k.areas k.sectors refl refl refl (Stayed-none (machine_view plan s.jobs) k.cpu.core) (pictured x told k plan s h) in
       let A : Storage → Type 0 = λ y. AreasStay x y in
       let all : AreasStay x x = λ q some. refl in
       record { again = a.0; areas = subst A (sym a.1) all }

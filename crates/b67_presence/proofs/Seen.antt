@@ -1,25 +1,25 @@
 -- The session that a view shows after objects were read: with other numbers where the device tells nothing.
 use Rattle.std.proofs.Common.{◌≡◌, ◌≢◌, ℕ, ◌+◌, ◌==◌, List, [], ◌∷◌, length, map, None, refl, sym, ◌∙◌, ap, true, false, subst, inl, inr, ⊎_elim}
-use Rattle.std.specs.Prelude.{if◌then◌else◌, flat_map}
+use Rattle.std.specs.Prelude.{flat_map}
 use Rattle.std.specs.List.{AllByRecursion}
 use Rattle.std.proofs.lemmas.Bool.{cases_Bool, eqb-true}
 use Rattle.b67_word.specs.Tagged.{Tagged}
 use Rattle.b67_area.specs.declared.kinds.Kind.TheVariants as kind
 use Rattle.b67_ctl.specs.declared.registers.Regs.{Regs}
 use Rattle.b67_lemmas.specs.Lists.{Has}
-use Rattle.b67_lemmas.proofs.Members.{has_append_cases, has_append_left, has_append_right, has_map_back}
+use Rattle.b67_lemmas.proofs.Members.{has_append_cases, has_map_back}
 use Rattle.b67_model.specs.State.{Array, Segment, SessionJob}
 use Rattle.b67_model.specs.Schedule.{Session}
 use Rattle.b67_model.specs.InOrder.{IsSegment, SegmentInOrder, ArrayInOrder}
 use Rattle.b67_layout.specs.Orders.{JobInOrderButCounts, IsInOrderButCounts}
-use Rattle.b67_law_order_steps.specs.Weaker.{Renumbers, Recoded, RefilledArray, Refilled, AllOtherNumbers}
+use Rattle.b67_law_order_steps.specs.Weaker.{AllOtherNumbers}
 use Rattle.b67_layout_step.proofs.OtherNumbers.{others_in_order}
 use Rattle.b67_stack.specs.MachineView.{PagedObject, MachineView, NoOriginalAboveTop}
 use Rattle.b67_stack.specs.Represents.{Storage, Represents}
 use Rattle.b67_layout_storage.specs.Machine.{AreBits, renumber, renumbered}
 use Rattle.b67_layout.specs.Placement.{Placement}
 use Rattle.b67_layout.specs.Layout.{array_object, code_objects, objects_of, machine_view}
-use Rattle.b67_layout_step.proofs.Renumbered.{recoded, refilled, member_with, Fitting, machine_view_renumbered, settled_renumbered}
+use Rattle.b67_layout_step.proofs.Renumbered.{member_with, others_from, Fitting, machine_view_renumbered, settled_renumbered}
 use Rattle.b67_presence_page.specs.Brings.{IsReadable, ReadBack}
 use Rattle.b67_presence_page.proofs.Ways.{none_or}
 use Rattle.b67_presence.proofs.Others.{others_same, others_then}
@@ -54,42 +54,6 @@ object_bits plan s o t i = all_bits plan s.jobs o.jobs t i
 pub readable : (x : Storage) (plan : Placement) (s : Session) → IsInOrderButCounts s → IsReadable x (machine_view plan s.jobs)
 readable x plan s o = inr (object_bits plan s o)
 
--- the session with other numbers in an object has other numbers
-module _ (plan : Placement) (home : ℕ) (ns : List ℕ) (bits : AreBits ns) where
-  recoded_other : (j n : ℕ) (segments : List Segment) → AllByRecursion SegmentInOrder segments → Fitting home ns (code_objects plan j n segments) → Recoded segments (recoded plan j home ns n segments)
-  recoded_other j n [] order fits = tt
-  recoded_other j n (s ∷ more) order fits =
-      let object : PagedObject = record { home = plan.dictionary j + 1 + n; kind = kind.Code; numbers = s.code } in
-      let here : Renumbers s.code (if plan.dictionary j + 1 + n == home then record s { code = ns } else s).code = ⊎_elim
-      (λ (e : (plan.dictionary j + 1 + n == home) ≡ true). rw e (record { count = fits object (inl refl) (eqb-true (plan.dictionary j + 1 + n) home e); bits = bits }))
-      (λ (e : (plan.dictionary j + 1 + n == home) ≡ false). rw e (record { count = refl; bits = order.0.words }))
-      (cases_Bool (plan.dictionary j + 1 + n == home)) in
-      (here, recoded_other j (n + 1) more order.1 (λ t int. fits t (inr int)))
-
-  refilled_other : (j : ℕ) (arrays : List Array) → AllByRecursion ArrayInOrder arrays → Fitting home ns (map (array_object plan j) arrays) → Refilled arrays (map (refilled plan j home ns) arrays)
-  refilled_other j [] order fits = tt
-  refilled_other j (a ∷ more) order fits =
-      let here : RefilledArray a (refilled plan j home ns a) = ⊎_elim
-      (λ (e : (plan.home j a.identity == home) ≡ true). rw e (record { identity = refl; owner = refl; writable = refl; numbers = record { count = fits (array_object plan j a) (inl refl) (eqb-true (plan.home j a.identity) home e); bits = bits } }))
-      (λ (e : (plan.home j a.identity == home) ≡ false). rw e (record { identity = refl; owner = refl; writable = refl; numbers = record { count = refl; bits = order.0.words } }))
-      (cases_Bool (plan.home j a.identity == home)) in
-      (here, refilled_other j more order.1 (λ t int. fits t (inr int)))
-
-  others_with : (jobs : List SessionJob) → InOrder jobs → Fitting home ns (flat_map (objects_of plan) jobs) → AllOtherNumbers jobs (map (member_with plan home ns) jobs)
-  others_with [] order fits = tt
-  others_with (m ∷ more) order fits =
-      let own : Fitting home ns (objects_of plan m) = λ t int. fits t (has_append_left (objects_of plan m) (flat_map (objects_of plan) more) t int) in
-      let j = m.constants.number in
-      let code = code_objects plan j 1 m.constants.segments in
-      let filled = map (array_object plan j) m.progress.job.arrays in (
-        record {
-          segments = recoded_other j 1 m.constants.segments order.0.unchanging.segments (λ t int. own t (has_append_left code filled t int));
-          arrays = refilled_other j m.progress.job.arrays order.0.tasks.arrays (λ t int. own t (has_append_right code filled t int));
-          rest = refl;
-        },
-        others_with more order.1 (λ t int. fits t (has_append_right (objects_of plan m) (flat_map (objects_of plan) more) t int)),
-      )
-
 -- a view shows the session of other numbers, which are the same where the device tells its sectors
 pub record Sees (x : Storage) (plan : Placement) (jobs : List SessionJob) (q : MachineView) : Type 0 where
   pub seen : List SessionJob
@@ -108,7 +72,7 @@ module _ (x : Storage) (plan : Placement) (s : Session) (o : IsInOrderButCounts 
       (λ (e : x.device ≡ None).
       let it : Sees x plan s.jobs q = record {
         seen = map (member_with plan t.home r.numbers) s.jobs;
-        others = others_with plan t.home r.numbers (r.bits bits) s.jobs o.jobs fits;
+        others = others_from plan t.home r.numbers (r.bits bits) s.jobs o.jobs fits;
         same = λ n. absurd (n e);
         is = r.is ∙ machine_view_renumbered plan t.home r.numbers s.jobs fits;
         settled = λ z. let P : MachineView → Type 0 = λ p. NoOriginalAboveTop p in subst P (sym r.is) (settled_renumbered (machine_view plan s.jobs) t.home r.numbers z);

@@ -1,5 +1,5 @@
 -- What is wanted, as an object of the view, and how much core it needs.
-use Rattle.std.proofs.Common.{◌≡◌, ◌≢◌, ℕ, ◌+◌, ◌-◌, ◌^◌, ◌<◌, ◌↔◌, List, length, map, flat_map, Option, Some, None, refl, sym, ◌∙◌, ap, arith, subst}
+use Rattle.std.proofs.Common.{◌≡◌, ◌≢◌, ℕ, ◌+◌, ◌-◌, ◌^◌, ◌<◌, ◌≤◌, List, length, map, flat_map, Option, Some, None, refl, sym, ◌∙◌, ap, arith, subst}
 use Rattle.std.proofs.lemmas.Bool.{ne_eqb}
 use Rattle.b67_area.specs.declared.kinds.Kind.TheVariants.{Code}
 use Rattle.b67_lemmas.specs.Lists.{Has}
@@ -15,7 +15,7 @@ use Rattle.b67_stack.specs.declared.What.{What}
 use Rattle.b67_stack.specs.declared.What.TheVariants as what
 use Rattle.b67_stack.specs.MachineView.{PagedObject}
 use Rattle.b67_stack.specs.Represents.{Storage}
-use Rattle.b67_layout_storage.specs.Machine.{IsAbsent}
+use Rattle.b67_layout_storage.specs.Machine.{IsAbsent, HasHole}
 use Rattle.b67_layout.specs.Placement.{Placement}
 use Rattle.b67_layout.specs.Layout.{code_objects, objects_of, array_object, machine_view}
 use Rattle.b67_layout.specs.Session.{IsRunning}
@@ -27,7 +27,9 @@ use Rattle.b67_task_need.specs.Needing.{array_area, need_with}
 use Rattle.b67_task_need.proofs.Needs.{need_above_low}
 use Rattle.b67_presence_page.specs.Brings.{IsCode, need_one, need_both}
 use Rattle.b67_task_tables.specs.declared.tables.Machine.{Machine}
-use Rattle.b67_presence.specs.Bringing.{StandsOver, IsArrayWanted, IsWanted, Brings}
+use Rattle.b67_presence_page.proofs.Resort.{room_beside}
+use Rattle.b67_presence.specs.Bringing.{StandsOver, IsArrayWanted, IsWanted, IsUntouched, Brings, words_wanted}
+use Rattle.b67_presence.proofs.Again.{pictured}
 
 some_of : (o : Option ℕ) → o ≢ None → (at : ℕ) × (o ≡ Some at)
 some_of None n = absurd (n refl)
@@ -105,10 +107,6 @@ module _ (x : Storage) (told : Option (List (List ℕ))) (k : Machine) (plan : P
       need_above_low x x.device k plan s m t o h.stands runs words
       ∙ (let z : k.areas.low + (length (code_of m.constants t.segment) + 2) + array_area words ≡ x.low + (length c.object.numbers + 2) + (length w.array.numbers + 2) = omega (arith, h.stands.storage.low, c.count, array_area-some words (omega (arith, some, w.words_are)), w.words_are) in z)
 
--- a refusal that comes exactly at one need comes exactly at another that is the same
-pub exactly : {A : Type 0} (core need size here there : ℕ) → there ≡ here → A ↔ ((core < here) × (need ≡ here) × (size ≡ core)) → A ↔ ((core < there) × (need ≡ there) × (size ≡ core))
-exactly {A} core need size here there e h = let P : ℕ → Type 0 = λ n. A ↔ ((core < n) × (need ≡ n) × (size ≡ core)) in subst P (sym e) h
-
 -- what is wanted, by its variant
 pub wanted_code : (x : Storage) (plan : Placement) (m : SessionJob) (t : Task) (absent : What) (words d : ℕ) → absent ≡ what.Code d → IsWanted x plan m t absent words → IsWanted x plan m t (what.Code d) words
 wanted_code x plan m t absent words d e w = subst (λ (z : What). IsWanted x plan m t z words) e w
@@ -118,3 +116,25 @@ wanted_array x plan m t absent words home e w = subst (λ (z : What). IsWanted x
 
 pub brings_as : (x : Storage) (told : Option (List (List ℕ))) (k : Machine) (plan : Placement) (s : Session) (m : SessionJob) (t : Task) (absent other : What) → absent ≡ other → Brings x told k plan s m t other → Brings x told k plan s m t absent
 brings_as x told k plan s m t absent other e b = subst (λ (z : What). Brings x told k plan s m t z) (sym e) b
+
+-- the need that was computed is the step's
+pub needed_is : (x : Storage) (told : Option (List (List ℕ))) (k : Machine) (plan : Placement) (s : Session) (m : SessionJob) (t : Task) → IsInOrderButCounts s → StandsOver x told k plan s → IsRunning plan s.jobs m t
+    → (words array needed : ℕ) → array ≡ words → needed ≡ need_with s m t 0 array → needed ≡ need_with s m t 0 words
+needed_is x told k plan s m t o h runs words array needed e is = is ∙ ap (need_with s m t 0) e
+
+pub fits_not : (needed core size need : ℕ) → needed ≤ core → core ≡ size → needed ≡ need → size < need → ⊥
+fits_not needed core size need fits e is less = omega (arith, fits, e, is, less)
+
+pub core_has : (needed core size need here : ℕ) → needed ≤ core → core ≡ size → needed ≡ need → need ≡ here → here ≤ size
+core_has needed core size need here fits e is same = omega (arith, fits, e, is, same)
+
+-- if a hole has room for an array that was never touched, core has the step's need
+pub room_fits : (x : Storage) (told : Option (List (List ℕ))) (k : Machine) (plan : Placement) (s : Session) (m : SessionJob) (t : Task) → IsInOrderButCounts s → StandsOver x told k plan s → IsRunning plan s.jobs m t
+    → (absent : What) (words : ℕ) → IsWanted x plan m t absent words → HasHole (words_wanted m t absent words) x.spans → IsUntouched x absent → need_with s m t 0 words ≤ length k.cpu.core
+room_fits x told k plan s m t o h runs (what.Code d) words wanted room untouched = absurd untouched
+room_fits x told k plan s m t o h runs (what.Array home) words w room untouched =
+    let (at, present) = code_present x told k plan s m t o h runs k.cpu.regs.segment refl w.code in
+    let a = array_absent x told k plan s m t o h runs home words w in
+    let hole = subst (λ (n : ℕ). HasHole (n + 2) x.spans) w.words_are room in
+    let fits = room_beside x k.cpu k.areas k.sectors told (machine_view plan s.jobs) home (k.cpu.regs.dict + k.cpu.regs.segment) at (array_object plan m.constants.number w.array) (code_found plan s m t o runs).object (pictured x told k plan s h) a present hole in
+    subst (λ (n : ℕ). n ≤ length k.cpu.core) (sym (need_array x told k plan s m t o h runs home words w)) fits

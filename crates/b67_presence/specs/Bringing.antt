@@ -1,5 +1,5 @@
 -- What is wanted in core, and the machine once it was brought in or refused.
-use Rattle.std.specs.Prelude.{◌≡◌, ◌≢◌, ℕ, ◌+◌, ◌<◌, ◌⊎◌, List, length, Option, None}
+use Rattle.std.specs.Prelude.{◌≡◌, ◌≢◌, ◌↔◌, ℕ, ◌+◌, ◌<◌, ◌⊎◌, List, length, Option, None, Result, Err, OnOk, OnErr, IsOk}
 use Rattle.b67_lemmas.specs.Lists.{Has}
 use Rattle.b67_model.specs.State.{Array, Task, SessionJob}
 use Rattle.b67_model.specs.Schedule.{Session}
@@ -15,7 +15,12 @@ use Rattle.b67_law_order_steps.specs.Weaker.{AllOtherNumbers}
 use Rattle.b67_task_tables.specs.declared.tables.Machine.{Machine}
 use Rattle.b67_task_tables.specs.Tables.{MachineRepresents}
 pub use Rattle.b67_task_tables.specs.Shortage.{IsShortOf}
-use Rattle.b67_layout_storage.specs.Machine.{Says, content_after}
+use Rattle.b67_layout_storage.specs.Machine.{Says, HasHole, content_after}
+use Rattle.b67_backing.specs.Held.{Becomes}
+use Rattle.b67_backing.specs.declared.SpaceFault.{SpaceFault}
+use Rattle.b67_backing.specs.declared.SpaceFault.TheVariants.{NoCore, BackingFull}
+use Rattle.b67_model.specs.Sectors.{sectors}
+use Rattle.b67_task_need.specs.Needing.{need_with}
 use Rattle.b67_model.specs.Rows.{code_of}
 
 -- the whole machine over a device that tells this: what the storage says of the sectors, if anything, is what the device
@@ -106,3 +111,17 @@ pub record StaysIn (x : Storage) (told : Option (List (List ℕ))) (k : Machine)
 abbrev pub IsUntouched : Storage → What → Type 0
 IsUntouched x (what.Code displacement) = ⊥
 IsUntouched x (what.Array home) = (x.held home).chain ≡ 0
+
+-- what is wanted is brought in, for a session's running task that wants an array of that many words, 0 for its segment. Core
+-- is too small exactly if the step's need exceeds it; too few free sectors refuse it only if the session takes more than the
+-- device has and there was no hole; if there was one, no sector is written and no area moves
+pub record BringMeets {D : Type 0} (tell : D → Option (List (List ℕ))) (many : ℕ) (x : Storage) (plan : Placement) (s : Session) (m : SessionJob) (t : Task) (absent : What) (words : ℕ)
+    (result : Result (Unit {0}) SpaceFault) (old new : Machine) (before after : D) : Type 0 where
+  pub came : OnOk result (Brings x (tell after) new plan s m t absent)
+  pub refused : OnErr result (Refused x (tell after) new plan s m t absent)
+  pub hole : HasHole (words_wanted m t absent words) x.spans → (new.sectors ≡ old.sectors) × Becomes tell before after (λ all. all) × StaysIn x (tell after) new plan s
+  pub zeros : HasHole (words_wanted m t absent words) x.spans → IsUntouched x absent → IsOk result × (after ≡ before)
+  pub no_core : (need size : ℕ) → (result ≡ Err (NoCore need size))
+      ↔ ((length old.cpu.core < need_with s m t 0 words) × (need ≡ need_with s m t 0 words) × (size ≡ length old.cpu.core))
+  pub full : (wants free : ℕ) → result ≡ Err (BackingFull wants free)
+      → (many < sectors s.jobs) × (HasHole (words_wanted m t absent words) x.spans → ⊥) × RefusedFull x (tell after) new plan s m t absent wants free

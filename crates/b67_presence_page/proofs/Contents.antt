@@ -8,6 +8,7 @@ use Rattle.b67_core.specs.Numbers.{number}
 use Rattle.b67_area.specs.declared.Areas.{Areas}
 use Rattle.b67_area.specs.declared.Kind.{Kind}
 use Rattle.b67_area.specs.declared.Kind.TheVariants.{Array}
+use Rattle.b67_backing.proofs.Fills.{Fills-holds}
 use Rattle.b67_backing.specs.Shelf.{Shelf, Table, HasChain, chain_of}
 use Rattle.b67_backing.specs.Held.{sectors_for, under, Holds}
 use Rattle.b67_stack.specs.declared.Cpu.{Cpu}
@@ -62,7 +63,7 @@ zeros_bits (n ∷ ns) z = (omega (arith, z.0), zeros_bits ns z.1)
 
 what_is_told : (d told : Option (List (List ℕ))) (chain ns : List ℕ) → Says d told → d ≢ None → Told d chain ns → (all : List (List ℕ)) × (told ≡ Some all) × Holds all chain 0 ns
 what_is_told None told chain ns s n h = absurd (n refl)
-what_is_told (Some all) told chain ns s n h = (all, s, h)
+what_is_told (Some all) told chain ns s n h = (all, s, Fills-holds all chain 0 ns h)
 
 module _ (x : Storage) (cpu : Cpu) (areas : Areas) (table : Table) (told : Option (List (List ℕ))) (p : MachineView) (home : ℕ) (t : PagedObject) (m : MachineRepresentsView x cpu areas table told p) (a : IsAbsent x p home t) where
   abbrev first : ℕ

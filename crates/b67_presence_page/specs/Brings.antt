@@ -1,17 +1,22 @@
 -- Objects that are brought into core where other areas give way.
-use Rattle.std.specs.Prelude.{◌≡◌, ◌≢◌, ℕ, ◌+◌, ◌⊎◌, List, length, Option, Some, None}
+use Rattle.std.specs.Prelude.{◌≡◌, ◌≢◌, ◌↔◌, ℕ, ◌+◌, ◌⊎◌, List, length, Option, Some, None, Bool, true, false, Result, Ok, Err, OnOk, OnErr, IsOk}
 use Rattle.b67_area.specs.declared.Areas.{Areas}
 use Rattle.b67_area.specs.declared.Info.{Info}
 use Rattle.b67_area.specs.Spans.{area_at}
 use Rattle.b67_area.specs.declared.Kind.TheVariants.{Code}
 use Rattle.b67_backing.specs.Shelf.{Table}
+use Rattle.b67_backing.specs.Held.{Becomes}
+use Rattle.b67_backing.specs.declared.SpaceFault.{SpaceFault}
+use Rattle.b67_backing.specs.declared.SpaceFault.TheVariants.{BackingFull}
 use Rattle.b67_lemmas.specs.Lists.{Has}
 use Rattle.b67_stack.specs.declared.Cpu.{Cpu}
 use Rattle.b67_stack.specs.MachineView.{PagedObject, MachineView}
 use Rattle.b67_stack.specs.Represents.{Storage}
-use Rattle.b67_layout_storage.specs.Machine.{MachineRepresentsView, AreBits, renumbered}
-use Rattle.b67_overlay.specs.AreasEvicted.{AreasEvicted}
-use Rattle.b67_presence_page.specs.Brought.{brought, IsPlace}
+use Rattle.b67_layout_storage.specs.Machine.{MachineRepresentsView, AreBits, HasHole, Stayed, renumbered}
+use Rattle.b67_overlay.specs.AreasEvicted.{AreasEvicted, IsShortBy}
+use Rattle.b67_presence_page.specs.declared.paging.Refusal.{Refusal}
+use Rattle.b67_presence_page.specs.declared.paging.Refusal.TheVariants.{NoHole, BackingFault}
+use Rattle.b67_presence_page.specs.Brought.{brought, IsPlace, IsKnown}
 
 -- the device tells nothing, or each number of the view is one of a word
 abbrev pub IsReadable : Storage → MachineView → Type 0
@@ -91,3 +96,54 @@ need_both x c t = x.low + (length c.numbers + 2) + (length t.numbers + 2)
 -- there is no area but the one at `spare`
 abbrev pub IsAlone : Storage → ℕ → Type 0
 IsAlone x spare = (at : ℕ) (a : Info) → area_at x.low x.spans at ≡ Some a → at ≡ spare
+
+-- an absent object is brought into a hole: refused for no hole exactly if there is none with room, and then the device isn't
+-- called; one that was never touched never fails and calls no device
+pub record PagesIn {D : Type 0} (tell : D → Option (List (List ℕ))) (x : Storage) (p : MachineView) (home : ℕ) (t : PagedObject)
+    (result : Result (Unit {0}) Refusal) (old cpu : Cpu) (areas : Areas) (table : Table) (before after : D) : Type 0 where
+  pub outside : Stayed p old.core cpu.core
+  pub known : OnOk result (IsKnown x t → (at : ℕ) × IsPlace x t at × MachineRepresentsView (brought x t at) cpu areas table (tell after) p)
+  pub untold : OnOk result (x.device ≡ None
+      → (at : ℕ) × (ns : List ℕ) × IsPlace x t at × (length ns ≡ length t.numbers) × AreBits ns
+      × MachineRepresentsView (brought x t at) cpu areas table (tell after) (renumbered p home ns))
+  pub refused : OnErr result (MachineRepresentsView x cpu areas table (tell after) p)
+  pub full : (result ≡ Err NoHole) ↔ (HasHole (length t.numbers + 2) x.spans → ⊥)
+  pub untouched : (x.held home).chain ≡ 0 → after ≡ before
+  pub zeros : (x.held home).chain ≡ 0 → result ≢ Err BackingFault
+
+-- areas but the one at `spare` are evicted for an absent object until it is placed, or none of them is left
+pub record MakesWay (x : Storage) (p : MachineView) (t : PagedObject) (spare : ℕ)
+    (result : Result Bool SpaceFault) (old cpu : Cpu) (areas : Areas) (table : Table) (told : Option (List (List ℕ))) : Type 0 where
+  pub outside : Stayed p old.core cpu.core
+  pub came : result ≡ Ok true → IsReadable x p → PlacedAfterEviction x p t spare cpu areas table told
+  pub clear : result ≡ Ok false → (w : Waits x p spare cpu areas table told) × IsAlone w.storage spare
+  pub refused : OnErr result (Waits x p spare cpu areas table told)
+  pub full : (wants free : ℕ) → result ≡ Err (BackingFull wants free) → (w : Waits x p spare cpu areas table told) × IsShortBy w.storage p wants free
+
+-- what was brought in found a hole: no sector is written and no area moves, whatever is answered
+pub record FoundHole {D : Type 0} (tell : D → Option (List (List ℕ))) (x : Storage) (p : MachineView) (t : PagedObject)
+    (result : Result (Unit {0}) SpaceFault) (cpu : Cpu) (areas : Areas) (table table_new : Table) (before after : D) : Type 0 where
+  pub sectors : table_new ≡ table
+  pub device : Becomes tell before after (λ all. all)
+  pub read : OnOk result (IsReadable x p → ReadIn x p t cpu areas table_new (tell after))
+  pub stays : OnErr result (MachineRepresentsView x cpu areas table_new (tell after) p)
+
+-- the code of an absent descriptor is brought in; too few free sectors refuse it only if there was no hole for it
+pub record BringsCode (x : Storage) (p : MachineView) (t : PagedObject)
+    (result : Result (Unit {0}) SpaceFault) (old cpu : Cpu) (areas : Areas) (table : Table) (told : Option (List (List ℕ))) : Type 0 where
+  pub outside : Stayed p old.core cpu.core
+  pub came : OnOk result (IsReadable x p → PlacedAfterEviction x p t 0 cpu areas table told)
+  pub refused : OnErr result (Waits x p 0 cpu areas table told)
+  pub full : (wants free : ℕ) → result ≡ Err (BackingFull wants free)
+      → (HasHole (length t.numbers + 2) x.spans → ⊥) × (w : Waits x p 0 cpu areas table told) × IsShortBy w.storage p wants free
+
+-- the same for an array or a data row beside the running code, which is in the area at `at`; one that was never touched is
+-- there at once if a hole has room, and no device is called
+pub record BringsData {D : Type 0} (tell : D → Option (List (List ℕ))) (x : Storage) (p : MachineView) (home : ℕ) (t c : PagedObject) (at : ℕ)
+    (result : Result (Unit {0}) SpaceFault) (old cpu : Cpu) (areas : Areas) (table : Table) (before after : D) : Type 0 where
+  pub outside : Stayed p old.core cpu.core
+  pub both : OnOk result (IsReadable x p → BothIn x p t c cpu areas table (tell after))
+  pub refused : OnErr result (IsReadable x p → MayWait x p t c cpu areas table (tell after))
+  pub zeros : HasHole (length t.numbers + 2) x.spans → (x.held home).chain ≡ 0 → IsOk result × (after ≡ before)
+  pub full : (wants free : ℕ) → result ≡ Err (BackingFull wants free)
+      → (HasHole (length t.numbers + 2) x.spans → ⊥) × (w : Waits x p at cpu areas table (tell after)) × IsShortBy w.storage p wants free

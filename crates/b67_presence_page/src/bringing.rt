@@ -1,17 +1,16 @@
-//! Objects that are brought into core, whatever has to give way.
+//! Objects that are brought into core, whatever has to be evicted.
 
-ghost use Rattle.std.specs.Prelude.{◌≡◌, ◌≢◌, ◌↔◌, ℕ, ◌+◌, ◌<◌, ◌≤◌, Some, None, Ok, Err, OnOk, OnErr, IsOk, length, true, false};
-ghost use Rattle.b67_backing.specs.Held.{Becomes};
+ghost use Rattle.std.specs.Prelude.{◌≡◌, ◌≢◌, ℕ, ◌+◌, ◌≤◌, Err, OnOk, OnErr, length};
 ghost use Rattle.b67_backing.specs.declared.SpaceFault.TheVariants.{NoCore, BackingFull, BackingFault};
 ghost use Rattle.b67_ctl.specs.declared.registers.Regs.{Regs};
 ghost use Rattle.b67_io.specs.Causes.{Rose};
 ghost use Rattle.b67_stack.specs.MachineView.{PagedObject, MachineView};
 ghost use Rattle.b67_stack.specs.Represents.{Storage, Represents};
-ghost use Rattle.b67_layout_storage.specs.Machine.{MachineRepresentsView, IsAbsent, DeviceAfterCalls, HasHole, Stayed};
+ghost use Rattle.b67_layout_storage.specs.Machine.{MachineRepresentsView, IsAbsent, DeviceAfterCalls, PagingKeeps, HasHole, Stayed};
 ghost use Rattle.b67_overlay.specs.AreasEvicted.{IsShortBy};
-ghost use Rattle.b67_presence_page.specs.Brings.{IsReadable, ReadIn, PlacedAfterEviction, Waits, IsCode, BothIn, MayWait, need_one, need_both, IsAlone};
+ghost use Rattle.b67_presence_page.specs.Brings.{IsReadable, ReadIn, PlacedAfterEviction, Waits, IsCode, BothIn, MayWait, need_one, need_both, IsAlone, FoundHole, BringsCode, BringsData};
 
-use crate::paging::{Refusal, Resting, page_in};
+use crate::paging::{Refusal, page_in};
 use crate::way::make_way;
 use b67_area::Areas;
 use b67_backing::{Backing, Sectors, SpaceFault};
@@ -42,9 +41,7 @@ fn page_in_room<B: Backing>(
 ) -> Result<(), SpaceFault>
     requires machine { (x : Storage) × (p : MachineView) × (t : PagedObject) × MachineRepresentsView x cpu.old areas.old sectors.now (B.holds backing.old) p × IsAbsent x p home t × HasHole (length t.numbers + 2) x.spans }
     requires same { B.size backing.old + 1 ≡ length sectors.now.links }
-    ensures rest { cpu.new ≡ record cpu.old { core = cpu.new.core } }
-    ensures len { length cpu.new.core ≡ length cpu.old.core }
-    ensures areas { areas.new ≡ areas.old }
+    ensures keeps { PagingKeeps cpu.old cpu.new areas.old areas.new sectors.now sectors.now }
     ensures outside { (x : Storage) (p : MachineView) (t : PagedObject) → MachineRepresentsView x cpu.old areas.old sectors.now (B.holds backing.old) p → IsAbsent x p home t
         → Stayed p cpu.old.core cpu.new.core }
     ensures came { OnOk result ((x : Storage) (p : MachineView) (t : PagedObject) → MachineRepresentsView x cpu.old areas.old sectors.now (B.holds backing.old) p
@@ -76,9 +73,7 @@ fn last_resort<B: Backing>(
     requires machine { (x : Storage) × (p : MachineView) × (t : PagedObject) × (c : PagedObject) × MachineRepresentsView x cpu.old areas.old sectors.now (B.holds backing.old) p × IsAbsent x p home t × IsCode x p code spare c
         × IsAlone x spare × (need_both x c t ≤ length cpu.old.core) }
     requires same { B.size backing.old + 1 ≡ length sectors.now.links }
-    ensures rest { cpu.new ≡ record cpu.old { core = cpu.new.core } }
-    ensures len { length cpu.new.core ≡ length cpu.old.core }
-    ensures areas { areas.new ≡ areas.old }
+    ensures keeps { PagingKeeps cpu.old cpu.new areas.old areas.new sectors.now sectors.now }
     ensures outside { (x : Storage) (p : MachineView) (t c : PagedObject) → MachineRepresentsView x cpu.old areas.old sectors.now (B.holds backing.old) p → IsAbsent x p home t → IsCode x p code spare c
         → IsAlone x spare → Stayed p cpu.old.core cpu.new.core }
     ensures both { OnOk result ((x : Storage) (p : MachineView) (t c : PagedObject) → MachineRepresentsView x cpu.old areas.old sectors.now (B.holds backing.old) p → IsAbsent x p home t
@@ -107,9 +102,7 @@ fn force_code<B: Backing>(
 ) -> Result<(), SpaceFault>
     requires machine { (x : Storage) × (p : MachineView) × (t : PagedObject) × MachineRepresentsView x cpu.old areas.old sectors.old (B.holds backing.old) p × IsAbsent x p code t × (need_one x t ≤ length cpu.old.core) }
     requires same { B.size backing.old + 1 ≡ length sectors.old.links }
-    ensures rest { cpu.new ≡ record cpu.old { core = cpu.new.core } }
-    ensures len { length cpu.new.core ≡ length cpu.old.core }
-    ensures areas { areas.new ≡ areas.old }
+    ensures keeps { PagingKeeps cpu.old cpu.new areas.old areas.new sectors.old sectors.new }
     ensures outside { (x : Storage) (p : MachineView) (t : PagedObject) → MachineRepresentsView x cpu.old areas.old sectors.old (B.holds backing.old) p → IsAbsent x p code t → Stayed p cpu.old.core cpu.new.core }
     ensures came { OnOk result ((x : Storage) (p : MachineView) (t : PagedObject) → MachineRepresentsView x cpu.old areas.old sectors.old (B.holds backing.old) p → IsAbsent x p code t
         → IsReadable x p → PlacedAfterEviction x p t 0 cpu.new areas.new sectors.new (B.holds backing.new)) }
@@ -118,7 +111,6 @@ fn force_code<B: Backing>(
     ensures full { (x : Storage) (p : MachineView) (t : PagedObject) (wants free : ℕ) → MachineRepresentsView x cpu.old areas.old sectors.old (B.holds backing.old) p → IsAbsent x p code t
         → result ≡ Err (BackingFull wants free) → (w : Waits x p 0 cpu.new areas.new sectors.new (B.holds backing.new)) × IsShortBy w.storage p wants free }
     ensures no_core { (need size : ℕ) → result ≢ Err (NoCore need size) }
-    ensures count { length sectors.new.links ≡ length sectors.old.links }
     ensures device { DeviceAfterCalls B.holds B.size B.calls B.faults backing.old backing.new }
     ensures cause { result ≡ Err BackingFault → Rose B.faults backing.old backing.new }
 {
@@ -143,9 +135,7 @@ fn force_data<B: Backing>(
     requires machine { (x : Storage) × (p : MachineView) × (t : PagedObject) × (c : PagedObject) × MachineRepresentsView x cpu.old areas.old sectors.old (B.holds backing.old) p × IsAbsent x p home t × IsCode x p code spare c
         × (need_both x c t ≤ length cpu.old.core) }
     requires same { B.size backing.old + 1 ≡ length sectors.old.links }
-    ensures rest { cpu.new ≡ record cpu.old { core = cpu.new.core } }
-    ensures len { length cpu.new.core ≡ length cpu.old.core }
-    ensures areas { areas.new ≡ areas.old }
+    ensures keeps { PagingKeeps cpu.old cpu.new areas.old areas.new sectors.old sectors.new }
     ensures outside { (x : Storage) (p : MachineView) (t c : PagedObject) → MachineRepresentsView x cpu.old areas.old sectors.old (B.holds backing.old) p → IsAbsent x p home t → IsCode x p code spare c
         → Stayed p cpu.old.core cpu.new.core }
     ensures both { OnOk result ((x : Storage) (p : MachineView) (t c : PagedObject) → MachineRepresentsView x cpu.old areas.old sectors.old (B.holds backing.old) p → IsAbsent x p home t
@@ -155,7 +145,6 @@ fn force_data<B: Backing>(
     ensures full { (x : Storage) (p : MachineView) (t : PagedObject) (wants free : ℕ) → MachineRepresentsView x cpu.old areas.old sectors.old (B.holds backing.old) p → IsAbsent x p home t
         → result ≡ Err (BackingFull wants free) → (w : Waits x p spare cpu.new areas.new sectors.new (B.holds backing.new)) × IsShortBy w.storage p wants free }
     ensures no_core { (need size : ℕ) → result ≢ Err (NoCore need size) }
-    ensures count { length sectors.new.links ≡ length sectors.old.links }
     ensures device { DeviceAfterCalls B.holds B.size B.calls B.faults backing.old backing.new }
     ensures cause { result ≡ Err BackingFault → Rose B.faults backing.old backing.new }
 {
@@ -166,10 +155,10 @@ fn force_data<B: Backing>(
     }
 }
 
-/// Brings the code of an absent segment descriptor into core. Where a hole has room for it no area moves and nothing is
-/// written to the device; else areas are written out, from the lowest up, until one has. Refused: core has not the words
-/// that the stacks and the code need; an array that must be written out finds too few free sectors; the device failed. After
-/// a refusal the same view stands, and where a hole has room no area has moved.
+/// Brings the code of an absent segment descriptor into core, which has the words that the stacks and the code need. If a
+/// hole has room for it, no area moves and nothing is written to the device; else areas are written out, from the lowest
+/// up, until one has. Refused if an array that must be written out finds too few free sectors, or if the device failed.
+/// After a refusal the machine represents the same view, and if a hole has room, no area has moved.
 pub fn bring_code<B: Backing>(
     cpu: &mut Cpu,
     areas: &mut Areas,
@@ -177,34 +166,18 @@ pub fn bring_code<B: Backing>(
     backing: &mut B,
     code: u32,
 ) -> Result<(), SpaceFault>
-    requires machine { (x : Storage) × (p : MachineView) × (t : PagedObject) × MachineRepresentsView x cpu.old areas.old sectors.old (B.holds backing.old) p × IsAbsent x p code t }
+    requires machine { (x : Storage) × (p : MachineView) × (t : PagedObject) × MachineRepresentsView x cpu.old areas.old sectors.old (B.holds backing.old) p × IsAbsent x p code t
+        × (need_one x t ≤ length cpu.old.core) }
     requires same { B.size backing.old + 1 ≡ length sectors.old.links }
-    ensures rest { cpu.new ≡ record cpu.old { core = cpu.new.core } }
-    ensures len { length cpu.new.core ≡ length cpu.old.core }
-    ensures areas { areas.new ≡ areas.old }
-    ensures outside { (x : Storage) (p : MachineView) (t : PagedObject) → MachineRepresentsView x cpu.old areas.old sectors.old (B.holds backing.old) p → IsAbsent x p code t → Stayed p cpu.old.core cpu.new.core }
-    ensures came { OnOk result ((x : Storage) (p : MachineView) (t : PagedObject) → MachineRepresentsView x cpu.old areas.old sectors.old (B.holds backing.old) p → IsAbsent x p code t
-        → IsReadable x p → PlacedAfterEviction x p t 0 cpu.new areas.new sectors.new (B.holds backing.new)) }
+    ensures keeps { PagingKeeps cpu.old cpu.new areas.old areas.new sectors.old sectors.new }
+    ensures row { (x : Storage) (p : MachineView) (t : PagedObject) → MachineRepresentsView x cpu.old areas.old sectors.old (B.holds backing.old) p → IsAbsent x p code t
+        → BringsCode x p t result cpu.old cpu.new areas.new sectors.new (B.holds backing.new) }
     ensures hole { (x : Storage) (p : MachineView) (t : PagedObject) → MachineRepresentsView x cpu.old areas.old sectors.old (B.holds backing.old) p → IsAbsent x p code t
-        → HasHole (length t.numbers + 2) x.spans → (sectors.new ≡ sectors.old) × Becomes B.holds backing.old backing.new (λ all. all)
-        × OnOk result (IsReadable x p → ReadIn x p t cpu.new areas.new sectors.new (B.holds backing.new))
-        × OnErr result (MachineRepresentsView x cpu.new areas.new sectors.new (B.holds backing.new) p) }
-    ensures refused { OnErr result ((x : Storage) (p : MachineView) (t : PagedObject) → MachineRepresentsView x cpu.old areas.old sectors.old (B.holds backing.old) p → IsAbsent x p code t
-        → Waits x p 0 cpu.new areas.new sectors.new (B.holds backing.new)) }
-    ensures full { (x : Storage) (p : MachineView) (t : PagedObject) (wants free : ℕ) → MachineRepresentsView x cpu.old areas.old sectors.old (B.holds backing.old) p → IsAbsent x p code t
-        → result ≡ Err (BackingFull wants free) → (HasHole (length t.numbers + 2) x.spans → ⊥) × (w : Waits x p 0 cpu.new areas.new sectors.new (B.holds backing.new)) × IsShortBy w.storage p wants free }
-    ensures no_core { (x : Storage) (p : MachineView) (t : PagedObject) (need size : ℕ) → MachineRepresentsView x cpu.old areas.old sectors.old (B.holds backing.old) p → IsAbsent x p code t
-        → (result ≡ Err (NoCore need size)) ↔ ((length cpu.old.core < need_one x t) × (need ≡ need_one x t) × (size ≡ length cpu.old.core)) }
-    ensures unchanged { (need size : ℕ) → result ≡ Err (NoCore need size) → (cpu.new ≡ cpu.old) × (sectors.new ≡ sectors.old) × (backing.new ≡ backing.old) }
-    ensures count { length sectors.new.links ≡ length sectors.old.links }
+        → HasHole (length t.numbers + 2) x.spans → FoundHole B.holds x p t result cpu.new areas.new sectors.old sectors.new backing.old backing.new }
+    ensures no_core { (need size : ℕ) → result ≢ Err (NoCore need size) }
     ensures device { DeviceAfterCalls B.holds B.size B.calls B.faults backing.old backing.new }
     ensures cause { result ≡ Err BackingFault → Rose B.faults backing.old backing.new }
 {
-    let size = cpu.core.size();
-    let need = areas.low + (Resting::at(&cpu.core, code).words + 2);
-    if need > size {
-        return Err(SpaceFault::NoCore { need, core: size });
-    }
     match page_in(cpu, areas, sectors, backing, code) {
         Ok(()) => Ok(()),
         Err(Refusal::BackingFault) => Err(SpaceFault::BackingFault),
@@ -212,12 +185,12 @@ pub fn bring_code<B: Backing>(
     }
 }
 
-/// Brings the array or data row of an absent original into core, beside the running code, which is there. Where a hole has
-/// room for it no area moves and nothing is written to the device; else areas are written out, from the lowest up, until one
-/// has; at last the running code gives way too and comes back behind the array. Refused: core has not the words that the
-/// stacks, the code and the array need; an array that must be written out finds too few free sectors; the device failed.
-/// After a refusal the same view stands, and the array or the running code is absent. An array of zeros that was never
-/// touched is never refused where a hole has room, and calls no device.
+/// Brings the array or data row of an absent original into core beside the running code, which is there; core has the words
+/// that the stacks, the code and the array need. If a hole has room for it, no area moves and nothing is written to the
+/// device; else areas are written out, from the lowest up, until one has; at last the running code is evicted too and comes
+/// back after the array. Refused if an array that must be written out finds too few free sectors, or if the device failed.
+/// After a refusal the machine represents the same view, and the array or the running code is absent. An array of zeros that
+/// was never touched is never refused if a hole has room, and calls no device.
 pub fn bring_data<B: Backing>(
     cpu: &mut Cpu,
     areas: &mut Areas,
@@ -226,38 +199,19 @@ pub fn bring_data<B: Backing>(
     home: u32,
     code: u32,
 ) -> Result<(), SpaceFault>
-    requires machine { (x : Storage) × (p : MachineView) × (t : PagedObject) × (c : PagedObject) × (at : ℕ) × MachineRepresentsView x cpu.old areas.old sectors.old (B.holds backing.old) p × IsAbsent x p home t × IsCode x p code at c }
+    requires machine { (x : Storage) × (p : MachineView) × (t : PagedObject) × (c : PagedObject) × (at : ℕ) × MachineRepresentsView x cpu.old areas.old sectors.old (B.holds backing.old) p × IsAbsent x p home t × IsCode x p code at c
+        × (need_both x c t ≤ length cpu.old.core) }
     requires same { B.size backing.old + 1 ≡ length sectors.old.links }
-    ensures rest { cpu.new ≡ record cpu.old { core = cpu.new.core } }
-    ensures len { length cpu.new.core ≡ length cpu.old.core }
-    ensures areas { areas.new ≡ areas.old }
-    ensures outside { (x : Storage) (p : MachineView) (t c : PagedObject) (at : ℕ) → MachineRepresentsView x cpu.old areas.old sectors.old (B.holds backing.old) p → IsAbsent x p home t → IsCode x p code at c
-        → Stayed p cpu.old.core cpu.new.core }
-    ensures both { OnOk result ((x : Storage) (p : MachineView) (t c : PagedObject) (at : ℕ) → MachineRepresentsView x cpu.old areas.old sectors.old (B.holds backing.old) p → IsAbsent x p home t
-        → IsCode x p code at c → IsReadable x p → BothIn x p t c cpu.new areas.new sectors.new (B.holds backing.new)) }
+    ensures keeps { PagingKeeps cpu.old cpu.new areas.old areas.new sectors.old sectors.new }
+    ensures row { (x : Storage) (p : MachineView) (t c : PagedObject) (at : ℕ) → MachineRepresentsView x cpu.old areas.old sectors.old (B.holds backing.old) p → IsAbsent x p home t → IsCode x p code at c
+        → BringsData B.holds x p home t c at result cpu.old cpu.new areas.new sectors.new backing.old backing.new }
     ensures hole { (x : Storage) (p : MachineView) (t : PagedObject) → MachineRepresentsView x cpu.old areas.old sectors.old (B.holds backing.old) p → IsAbsent x p home t
-        → HasHole (length t.numbers + 2) x.spans → (sectors.new ≡ sectors.old) × Becomes B.holds backing.old backing.new (λ all. all)
-        × OnOk result (IsReadable x p → ReadIn x p t cpu.new areas.new sectors.new (B.holds backing.new))
-        × OnErr result (MachineRepresentsView x cpu.new areas.new sectors.new (B.holds backing.new) p) }
-    ensures zeros { (x : Storage) (p : MachineView) (t c : PagedObject) (at : ℕ) → MachineRepresentsView x cpu.old areas.old sectors.old (B.holds backing.old) p → IsAbsent x p home t → IsCode x p code at c
-        → HasHole (length t.numbers + 2) x.spans → (x.held home).chain ≡ 0 → IsOk result × (backing.new ≡ backing.old) }
-    ensures refused { OnErr result ((x : Storage) (p : MachineView) (t c : PagedObject) (at : ℕ) → MachineRepresentsView x cpu.old areas.old sectors.old (B.holds backing.old) p → IsAbsent x p home t
-        → IsCode x p code at c → IsReadable x p → MayWait x p t c cpu.new areas.new sectors.new (B.holds backing.new)) }
-    ensures full { (x : Storage) (p : MachineView) (t c : PagedObject) (at wants free : ℕ) → MachineRepresentsView x cpu.old areas.old sectors.old (B.holds backing.old) p → IsAbsent x p home t → IsCode x p code at c
-        → result ≡ Err (BackingFull wants free) → (HasHole (length t.numbers + 2) x.spans → ⊥) × (w : Waits x p at cpu.new areas.new sectors.new (B.holds backing.new)) × IsShortBy w.storage p wants free }
-    ensures no_core { (x : Storage) (p : MachineView) (t c : PagedObject) (at need size : ℕ) → MachineRepresentsView x cpu.old areas.old sectors.old (B.holds backing.old) p → IsAbsent x p home t → IsCode x p code at c
-        → (result ≡ Err (NoCore need size)) ↔ ((length cpu.old.core < need_both x c t) × (need ≡ need_both x c t) × (size ≡ length cpu.old.core)) }
-    ensures unchanged { (need size : ℕ) → result ≡ Err (NoCore need size) → (cpu.new ≡ cpu.old) × (sectors.new ≡ sectors.old) × (backing.new ≡ backing.old) }
-    ensures count { length sectors.new.links ≡ length sectors.old.links }
+        → HasHole (length t.numbers + 2) x.spans → FoundHole B.holds x p t result cpu.new areas.new sectors.old sectors.new backing.old backing.new }
+    ensures no_core { (need size : ℕ) → result ≢ Err (NoCore need size) }
     ensures device { DeviceAfterCalls B.holds B.size B.calls B.faults backing.old backing.new }
     ensures cause { result ≡ Err BackingFault → Rose B.faults backing.old backing.new }
 {
-    let size = cpu.core.size();
     let segment = segment_at(&cpu.core, code);
-    let need = areas.low + (segment.words + 2) + (Resting::at(&cpu.core, home).words + 2);
-    if need > size {
-        return Err(SpaceFault::NoCore { need, core: size });
-    }
     match page_in(cpu, areas, sectors, backing, home) {
         Ok(()) => Ok(()),
         Err(Refusal::BackingFault) => Err(SpaceFault::BackingFault),

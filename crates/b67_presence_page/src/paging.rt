@@ -10,9 +10,10 @@ ghost use Rattle.b67_ctl.specs.declared.registers.Regs.{Regs};
 ghost use Rattle.b67_stack.specs.MachineView.{PagedObject, MachineView, home_word_of, home_desc, tag_of};
 ghost use Rattle.b67_ctl.specs.Descriptors.{data_word};
 ghost use Rattle.b67_stack.specs.Represents.{Storage, Represents};
-ghost use Rattle.b67_layout_storage.specs.Machine.{MachineRepresentsView, IsAbsent, AreBits, HasHole, Stayed, renumbered};
+ghost use Rattle.b67_layout_storage.specs.Machine.{MachineRepresentsView, IsAbsent, DeviceAfterReads, PagingKeeps};
 ghost use Rattle.b67_presence_page.specs.declared.paging.Refusal.TheVariants.{NoHole, BackingFault};
-ghost use Rattle.b67_presence_page.specs.Brought.{brought, IsPlace, IsKnown, resting, ReadFromChain};
+ghost use Rattle.b67_presence_page.specs.Brought.{resting, ReadFromChain};
+ghost use Rattle.b67_presence_page.specs.Brings.{PagesIn};
 
 use b67_area::{Areas, Kind};
 use b67_backing::{Backing, Sectors};
@@ -129,7 +130,7 @@ impl Resting {
 }
 
 /// Brings the array, data row or segment of an absent original or segment descriptor into the lowest hole with room for it.
-/// No area moves. Where it was never touched, no device is called, and only want of a hole refuses it.
+/// No area moves. If it was never touched, no device is called, and it is refused only if there is no hole.
 pub fn page_in<B: Backing>(
     cpu: &mut Cpu,
     areas: &mut Areas,
@@ -139,31 +140,11 @@ pub fn page_in<B: Backing>(
 ) -> Result<(), Refusal>
     requires machine { (x : Storage) × (p : MachineView) × (t : PagedObject) × MachineRepresentsView x cpu.old areas.old sectors.now (B.holds backing.old) p × IsAbsent x p home t }
     requires same { B.size backing.old + 1 ≡ length sectors.now.links }
-    ensures rest { cpu.new ≡ record cpu.old { core = cpu.new.core } }
-    ensures len { length cpu.new.core ≡ length cpu.old.core }
-    ensures areas { areas.new ≡ areas.old }
-    ensures outside { (x : Storage) (p : MachineView) (t : PagedObject) → MachineRepresentsView x cpu.old areas.old sectors.now (B.holds backing.old) p → IsAbsent x p home t
-        → Stayed p cpu.old.core cpu.new.core }
-    ensures known { OnOk result ((x : Storage) (p : MachineView) (t : PagedObject) → MachineRepresentsView x cpu.old areas.old sectors.now (B.holds backing.old) p
-        → IsAbsent x p home t → IsKnown x t
-        → (at : ℕ) × IsPlace x t at × MachineRepresentsView (brought x t at) cpu.new areas.new sectors.now (B.holds backing.new) p) }
-    ensures untold { OnOk result ((x : Storage) (p : MachineView) (t : PagedObject) → MachineRepresentsView x cpu.old areas.old sectors.now (B.holds backing.old) p
-        → IsAbsent x p home t → x.device ≡ None
-        → (at : ℕ) × (ns : List ℕ) × IsPlace x t at × (length ns ≡ length t.numbers) × AreBits ns
-        × MachineRepresentsView (brought x t at) cpu.new areas.new sectors.now (B.holds backing.new) (renumbered p home ns)) }
-    ensures refused { OnErr result ((x : Storage) (p : MachineView) (t : PagedObject) → MachineRepresentsView x cpu.old areas.old sectors.now (B.holds backing.old) p
-        → IsAbsent x p home t → MachineRepresentsView x cpu.new areas.new sectors.now (B.holds backing.new) p) }
-    ensures full { (x : Storage) (p : MachineView) (t : PagedObject) → MachineRepresentsView x cpu.old areas.old sectors.now (B.holds backing.old) p
-        → IsAbsent x p home t → (result ≡ Err NoHole) ↔ (HasHole (length t.numbers + 2) x.spans → ⊥) }
+    ensures keeps { PagingKeeps cpu.old cpu.new areas.old areas.new sectors.now sectors.now }
+    ensures row { (x : Storage) (p : MachineView) (t : PagedObject) → MachineRepresentsView x cpu.old areas.old sectors.now (B.holds backing.old) p → IsAbsent x p home t
+        → PagesIn B.holds x p home t result cpu.old cpu.new areas.new sectors.now backing.old backing.new }
     ensures unchanged { result ≡ Err NoHole → (cpu.new ≡ cpu.old) × (backing.new ≡ backing.old) }
-    ensures untouched { (x : Storage) (p : MachineView) (t : PagedObject) → MachineRepresentsView x cpu.old areas.old sectors.now (B.holds backing.old) p
-        → IsAbsent x p home t → (x.held home).chain ≡ 0 → backing.new ≡ backing.old }
-    ensures zeros { (x : Storage) (p : MachineView) (t : PagedObject) → MachineRepresentsView x cpu.old areas.old sectors.now (B.holds backing.old) p
-        → IsAbsent x p home t → (x.held home).chain ≡ 0 → result ≢ Err BackingFault }
-    ensures device { Becomes B.holds backing.old backing.new (λ all. all) }
-    ensures size { B.size backing.new ≡ B.size backing.old }
-    ensures calls { B.calls backing.old ≤ B.calls backing.new }
-    ensures later { B.faults backing.old ≤ B.faults backing.new }
+    ensures device { DeviceAfterReads B.holds B.size B.calls B.faults backing.old backing.new }
     ensures cause { result ≡ Err BackingFault → Rose B.faults backing.old backing.new }
 {
     let object = Resting::at(&cpu.core, home);

@@ -1,16 +1,14 @@
-//! Areas that give way to an object.
+//! Areas that are evicted for an object.
 
-ghost use Rattle.std.specs.Prelude.{◌≡◌, ◌≢◌, ℕ, ◌+◌, ◌<◌, ◌≤◌, Some, None, Ok, Err, OnOk, OnErr, length, true, false};
-ghost use Rattle.b67_area.specs.declared.Info.{Info};
-ghost use Rattle.b67_area.specs.Spans.{area_at};
+ghost use Rattle.std.specs.Prelude.{◌≡◌, ◌≢◌, ℕ, ◌+◌, Ok, Err, OnErr, length, true, false};
 ghost use Rattle.b67_backing.specs.declared.SpaceFault.TheVariants.{NoCore, BackingFull, BackingFault};
 ghost use Rattle.b67_io.specs.Causes.{Rose};
 ghost use Rattle.b67_stack.specs.MachineView.{PagedObject, MachineView};
 ghost use Rattle.b67_stack.specs.Represents.{Storage};
-ghost use Rattle.b67_layout_storage.specs.Machine.{MachineRepresentsView, IsAbsent, IsPresent, DeviceAfterCalls, HasHole, Stayed};
+ghost use Rattle.b67_layout_storage.specs.Machine.{MachineRepresentsView, IsAbsent, IsPresent, DeviceAfterCalls, PagingKeeps, Stayed};
 ghost use Rattle.b67_overlay.specs.Overlaid.{overlaid};
 ghost use Rattle.b67_overlay.specs.AreasEvicted.{IsShortBy};
-ghost use Rattle.b67_presence_page.specs.Brings.{IsReadable, PlacedAfterEviction, Waits};
+ghost use Rattle.b67_presence_page.specs.Brings.{IsReadable, PlacedAfterEviction, Waits, MakesWay};
 
 use crate::paging::{Refusal, page_in};
 use b67_area::Areas;
@@ -19,7 +17,7 @@ use b67_overlay::overlay;
 use b67_stack::Cpu;
 
 /// Takes an area out of core, if it isn't the one at `spare`, and tries to bring the object of an absent descriptor in. False
-/// is where there is still no hole for it, or nothing was done.
+/// if there is still no hole for it, or nothing was done.
 fn give_way<B: Backing>(
     cpu: &mut Cpu,
     areas: &mut Areas,
@@ -31,9 +29,7 @@ fn give_way<B: Backing>(
 ) -> Result<bool, SpaceFault>
     requires machine { (x : Storage) × (p : MachineView) × (t : PagedObject) × (u : PagedObject) × MachineRepresentsView x cpu.old areas.old sectors.old (B.holds backing.old) p × IsAbsent x p home t × IsPresent x p at u }
     requires same { B.size backing.old + 1 ≡ length sectors.old.links }
-    ensures rest { cpu.new ≡ record cpu.old { core = cpu.new.core } }
-    ensures len { length cpu.new.core ≡ length cpu.old.core }
-    ensures areas { areas.new ≡ areas.old }
+    ensures keeps { PagingKeeps cpu.old cpu.new areas.old areas.new sectors.old sectors.new }
     ensures outside { (x : Storage) (p : MachineView) (t u : PagedObject) → MachineRepresentsView x cpu.old areas.old sectors.old (B.holds backing.old) p → IsAbsent x p home t → IsPresent x p at u
         → Stayed p cpu.old.core cpu.new.core }
     ensures came { result ≡ Ok true → (x : Storage) (p : MachineView) (t u : PagedObject) → MachineRepresentsView x cpu.old areas.old sectors.old (B.holds backing.old) p
@@ -47,7 +43,6 @@ fn give_way<B: Backing>(
     ensures full { (x : Storage) (p : MachineView) (t u : PagedObject) (wants free : ℕ) → MachineRepresentsView x cpu.old areas.old sectors.old (B.holds backing.old) p → IsAbsent x p home t → IsPresent x p at u
         → result ≡ Err (BackingFull wants free) → (w : Waits x p spare cpu.new areas.new sectors.new (B.holds backing.new)) × IsShortBy w.storage p wants free }
     ensures no_core { (need size : ℕ) → result ≢ Err (NoCore need size) }
-    ensures count { length sectors.new.links ≡ length sectors.old.links }
     ensures device { DeviceAfterCalls B.holds B.size B.calls B.faults backing.old backing.new }
     ensures cause { result ≡ Err BackingFault → Rose B.faults backing.old backing.new }
 {
@@ -65,7 +60,7 @@ fn give_way<B: Backing>(
 }
 
 /// Takes areas out of core, from the lowest up, but not the one at `spare`, until the object of an absent descriptor is
-/// brought in. False is where no other area is left and there is no hole for it.
+/// brought in. False if no other area is left and there is no hole for it.
 pub fn make_way<B: Backing>(
     cpu: &mut Cpu,
     areas: &mut Areas,
@@ -76,21 +71,10 @@ pub fn make_way<B: Backing>(
 ) -> Result<bool, SpaceFault>
     requires machine { (x : Storage) × (p : MachineView) × (t : PagedObject) × MachineRepresentsView x cpu.old areas.old sectors.old (B.holds backing.old) p × IsAbsent x p home t }
     requires same { B.size backing.old + 1 ≡ length sectors.old.links }
-    ensures rest { cpu.new ≡ record cpu.old { core = cpu.new.core } }
-    ensures len { length cpu.new.core ≡ length cpu.old.core }
-    ensures areas { areas.new ≡ areas.old }
-    ensures outside { (x : Storage) (p : MachineView) (t : PagedObject) → MachineRepresentsView x cpu.old areas.old sectors.old (B.holds backing.old) p → IsAbsent x p home t
-        → Stayed p cpu.old.core cpu.new.core }
-    ensures came { result ≡ Ok true → (x : Storage) (p : MachineView) (t : PagedObject) → MachineRepresentsView x cpu.old areas.old sectors.old (B.holds backing.old) p
-        → IsAbsent x p home t → IsReadable x p → PlacedAfterEviction x p t spare cpu.new areas.new sectors.new (B.holds backing.new) }
-    ensures clear { result ≡ Ok false → (x : Storage) (p : MachineView) (t : PagedObject) → MachineRepresentsView x cpu.old areas.old sectors.old (B.holds backing.old) p → IsAbsent x p home t
-        → (w : Waits x p spare cpu.new areas.new sectors.new (B.holds backing.new)) × ((at : ℕ) (a : Info) → area_at w.storage.low w.storage.spans at ≡ Some a → at ≡ spare) }
-    ensures refused { OnErr result ((x : Storage) (p : MachineView) (t : PagedObject) → MachineRepresentsView x cpu.old areas.old sectors.old (B.holds backing.old) p
-        → IsAbsent x p home t → Waits x p spare cpu.new areas.new sectors.new (B.holds backing.new)) }
-    ensures full { (x : Storage) (p : MachineView) (t : PagedObject) (wants free : ℕ) → MachineRepresentsView x cpu.old areas.old sectors.old (B.holds backing.old) p → IsAbsent x p home t
-        → result ≡ Err (BackingFull wants free) → (w : Waits x p spare cpu.new areas.new sectors.new (B.holds backing.new)) × IsShortBy w.storage p wants free }
+    ensures keeps { PagingKeeps cpu.old cpu.new areas.old areas.new sectors.old sectors.new }
+    ensures row { (x : Storage) (p : MachineView) (t : PagedObject) → MachineRepresentsView x cpu.old areas.old sectors.old (B.holds backing.old) p → IsAbsent x p home t
+        → MakesWay x p t spare result cpu.old cpu.new areas.new sectors.new (B.holds backing.new) }
     ensures no_core { (need size : ℕ) → result ≢ Err (NoCore need size) }
-    ensures count { length sectors.new.links ≡ length sectors.old.links }
     ensures device { DeviceAfterCalls B.holds B.size B.calls B.faults backing.old backing.new }
     ensures cause { result ≡ Err BackingFault → Rose B.faults backing.old backing.new }
 {

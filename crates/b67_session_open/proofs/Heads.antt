@@ -5,14 +5,13 @@ use Rattle.std.proofs.lemmas.Option.{same_Some, none-some}
 use Rattle.std.proofs.lemmas.List.{drop_more, drop_all}
 use Rattle.b67_word.specs.Tagged.{Tagged}
 use Rattle.b67_backing.specs.Shelf.{Shelf, IsShelf}
-use Rattle.b67_backing.specs.Held.{Changes}
 use Rattle.b67_codefile.specs.declared.file.Codefile.{Codefile}
 use Rattle.b67_codefile.specs.Meaning.{program_of}
 use Rattle.b67_lemmas.specs.Lists.{total}
 use Rattle.b67_model.specs.Program.{Program}
 use Rattle.b67_load.specs.Objects.{objects_of, entries_of, sectors_of_program}
-use Rattle.b67_load.specs.Resting.{stocked, DictionaryIs, WritesFreeSectors}
-use Rattle.b67_load.specs.Writing.{Parts, Spares, Writes}
+use Rattle.b67_load.specs.Resting.{stocked}
+use Rattle.b67_load.specs.Writing.{Parts, Spares, Writes, Installed}
 use Rattle.b67_load.proofs.Steps.{sectors-objects}
 use Rattle.b67_load.proofs.Writing.{writes_none, writes_both, spares-refl, spares_both, spares_wider}
 use Rattle.b67_session_open.specs.Opened.{dictionary_words, dictionaries, objects_from}
@@ -42,17 +41,12 @@ module _ {D : Type 0} (tell : D → Option (List (List ℕ))) where
     pub writes : Writes tell (objects_of at p) old new
     pub spares : Spares tell at (dictionary_words p) old new
 
-  pub installs : (at : ℕ) (p : Program) (old new : Parts D) → (st : Shelf) × IsShelf old.table st
-      → ((s : Shelf) → IsShelf old.table s → DictionaryIs new.core at p s.free)
-      → ((s : Shelf) → IsShelf old.table s → IsShelf new.table (stocked (objects_of at p) s))
-      → ((s : Shelf) → IsShelf old.table s → Changes tell old.device new.device (WritesFreeSectors (objects_of at p) s.free))
-      → new.table.free + sectors_of_program p ≡ old.table.free
-      → Spares tell at (dictionary_words p) old new → Installs at p old new
-  installs at p old new known dictionary shelf stocks left spares =
-      let d = dictionary known.0 known.1 in
+  pub installs : (at : ℕ) (p : Program) (old new : Parts D) → (st : Shelf) × IsShelf old.table st → Installed tell at p old new → Spares tell at (dictionary_words p) old new → Installs at p old new
+  installs at p old new known i spares =
+      let d = i.dictionary known.0 known.1 in
       record {
         head = record { mark = d.mark; entries = d.entries };
-        writes = record { shelf = shelf; descriptors = λ s is. (dictionary s is).descriptors; stocks = stocks; left = omega (arith, left, sectors-objects at p) };
+        writes = record { shelf = i.shelf; descriptors = λ s is. (i.dictionary s is).descriptors; stocks = i.stocks; left = omega (arith, i.left, sectors-objects at p) };
         spares = spares;
       }
 

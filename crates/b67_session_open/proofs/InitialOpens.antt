@@ -17,7 +17,7 @@ use Rattle.b67_load.specs.Resting.{stocked}
 use Rattle.b67_load.specs.Writing.{Parts as Writing_parts, Spares, Writes}
 use Rattle.b67_load.proofs.Shelves.{placed_object}
 use Rattle.b67_session_open.specs.Opened.{dictionaries, objects_from, opening_plan, programs_of}
-use Rattle.b67_session_open.specs.Words.{SlotsLie, HeadsLie}
+use Rattle.b67_session_open.specs.Words.{SlotsLie, HeadsLie, InstalledAll, LiesAroundDictionaries}
 use Rattle.b67_session_open.specs.Stored.{absent_storage}
 use Rattle.b67_layout_storage.specs.Machine.{content_after, DeviceAfterCalls}
 use Rattle.b67_session_open.specs.InitialOpens.{Opens}
@@ -84,40 +84,38 @@ module _ {D : Type 0} (tell : D → Option (List (List ℕ))) (old mid : Writing
     }
 
   pub opens : old.core ≡ replicate (length old.core) (word 0 0) → 160 ≤ length old.core
-      → HeadsLie mid.core 160 programs → Writes tell (objects_from 160 programs) old mid → Spares tell 160 (dictionaries programs) old mid
+      → InstalledAll tell programs old mid → Spares tell 160 (dictionaries programs) old mid
       → LaidOut mid.core cpu areas stack programs → (st : Shelf) → IsShelf old.table st → st.chains ≡ []
       → Opens areas mid.table (content_after (tell old.device) (tell mid.device)) (absent_storage cpu.core areas.low (stocked (objects_from 160 programs) st) (content_after (tell old.device) (tell mid.device))) cpu stack programs
-  opens zero_words some heads writes spares laid st is none = record {
-    storage = record { low = refl; size = laid.size; shelf = writes.shelf st is; device = refl };
+  opens zero_words some installed spares laid st is none = record {
+    storage = record { low = refl; size = laid.size; shelf = installed.writes.shelf st is; device = refl };
     session = λ quantum switches openings same within.
         let x = absent_storage cpu.core areas.low (stocked (objects_from 160 programs) st) (content_after (tell old.device) (tell mid.device)) in
         subst (λ (ps : List Program). RepresentsSession x cpu (opening_plan stack ps) (opening stack quantum switches openings)) same
         (opening_stands x cpu stack quantum switches openings within
         (subst (λ (ps : List Program). Parts x cpu stack ps) (sym same)
-        (parts_of openings switches st same within zero_words some heads writes spares laid is none)));
+        (parts_of openings switches st same within zero_words some installed.heads installed.writes spares laid is none)));
   }
 
 pub laid_out : (mid : List Tagged) (cpu : Cpu) (areas : Areas) (stack stacks jobs : ℕ) (programs : List Program) → stacks ≡ 160 + dictionaries programs → jobs ≡ length programs
-    → RepresentsMcp cpu.core → SlotsLie cpu.core stacks stack jobs
-    → ((k : ℕ) → jobs ≤ k → k < 120 → slice_get cpu.core (32 + k) ≡ slice_get mid (32 + k))
-    → ((i : ℕ) → 160 ≤ i → i < stacks → slice_get cpu.core i ≡ slice_get mid i)
+    → LiesAroundDictionaries mid cpu.core stacks stack jobs
     → areas ≡ record { size = length mid; low = stacks + jobs * stack }
     → IsDirectory cpu.core (stacks + jobs * stack) (left (length mid - (stacks + jobs * stack)) [])
-    → length cpu.core ≡ length mid → stacks + jobs * stack ≤ length mid
+    → stacks + jobs * stack ≤ length mid
     → ((k : ℕ) → k < 120 → slice_get cpu.critical k ≡ Some 0)
     → cpu.regs.slot ≡ 255 → cpu.regs.stacks ≡ stacks → cpu.regs.stack_size ≡ stack → cpu.regs.peak ≡ jobs → LaidOut mid cpu areas stack programs
-laid_out mid cpu areas stack stacks jobs programs at count mcp slots vector kept is directory len inside critical slot base size peak =
+laid_out mid cpu areas stack stacks jobs programs at count around is directory inside critical slot base size peak =
     let low : areas.low ≡ stacks + jobs * stack = ap (λ (a : Areas). a.low) is in
     let from : stacks + jobs * stack ≡ 160 + dictionaries programs + length programs * stack = ap (λ n. n + jobs * stack) at ∙ ap (λ n. 160 + dictionaries programs + n * stack) count in
     record {
-      mcp = mcp;
-      slots = subst (λ j. SlotsLie cpu.core (160 + dictionaries programs) stack j) count (subst (λ a. SlotsLie cpu.core a stack jobs) at slots);
-      vector = λ k above high. vector k (omega (arith, above, count)) high;
-      kept = λ i above high. kept i above (omega (arith, high, at));
-      size = ap (λ (a : Areas). a.size) is ∙ sym len;
+      mcp = around.mcp;
+      slots = subst (λ j. SlotsLie cpu.core (160 + dictionaries programs) stack j) count (subst (λ a. SlotsLie cpu.core a stack jobs) at around.slots);
+      vector = λ k above high. around.vector k (omega (arith, above, count)) high;
+      kept = λ i above high. around.dictionaries i above (omega (arith, high, at));
+      size = ap (λ (a : Areas). a.size) is ∙ sym around.len;
       low = low ∙ from;
-      directory = subst (λ n. IsDirectory cpu.core areas.low (left (n - areas.low) [])) (sym len) (subst (λ n. IsDirectory cpu.core n (left (length mid - n) [])) (sym low) directory);
-      inside = omega (arith, low, inside, len);
+      directory = subst (λ n. IsDirectory cpu.core areas.low (left (n - areas.low) [])) (sym around.len) (subst (λ n. IsDirectory cpu.core n (left (length mid - n) [])) (sym low) directory);
+      inside = omega (arith, low, inside, around.len);
       critical = critical;
       slot = slot;
       stacks = base ∙ at;

@@ -1,10 +1,12 @@
 -- The words of a core in which a session opens.
-use Rattle.std.specs.Prelude.{◌≡◌, ℕ, ◌+◌, ◌*◌, ◌^◌, ◌<◌, List, [], ◌∷◌, Some, slice_get}
+use Rattle.std.specs.Prelude.{◌≡◌, ℕ, ◌+◌, ◌*◌, ◌^◌, ◌<◌, ◌≤◌, List, [], ◌∷◌, length, replicate, Option, Some, slice_get}
 use Rattle.b67_word.specs.Tagged.{Tagged, word}
 use Rattle.b67_model.specs.Program.{Program}
 use Rattle.b67_load.specs.Objects.{entries_of}
+use Rattle.b67_layout.specs.Session.{RepresentsMcp}
 use Rattle.b67_load.specs.Resting.{dictionary_mark}
-use Rattle.b67_session_open.specs.Opened.{dictionary_words}
+use Rattle.b67_load.specs.Writing.{Parts, Writes}
+use Rattle.b67_session_open.specs.Opened.{dictionary_words, objects_from}
 
 -- the slot of a first task that hasn't run: the top of its stack, the mark of its outer block on the job's dictionary,
 -- and a return to nowhere
@@ -35,3 +37,29 @@ pub record HeadLies (core : List Tagged) (base count : ℕ) : Type 0 where
 abbrev pub HeadsLie : List Tagged → ℕ → List Program → Type 0
 HeadsLie core at [] = Unit {0}
 HeadsLie core at (p ∷ more) = HeadLies core at (entries_of p) × HeadsLie core (at + dictionary_words p) more
+
+-- programs are installed, their dictionaries one after the other from word 160 on
+pub record InstalledAll {D : Type 0} (tell : D → Option (List (List ℕ))) (programs : List Program) (old new : Parts D) : Type 0 where
+  pub heads : HeadsLie new.core 160 programs
+  pub writes : Writes tell (objects_from 160 programs) old new
+
+-- at most eight slots of 64 words or more, which fit core from an address on
+pub record SlotsFit (core : List Tagged) (at size jobs : ℕ) : Type 0 where
+  pub few : jobs ≤ 8
+  pub above : 160 ≤ at
+  pub long : 64 ≤ size
+  pub inside : at + jobs * size ≤ length core
+
+-- core of zeros, in which that many words of dictionaries fit and the slots after them
+pub record IsBlankFor (core : List Tagged) (words size jobs : ℕ) : Type 0 where
+  pub zeros : core ≡ replicate (length core) (word 0 0)
+  pub slots : SlotsFit core (160 + words) size jobs
+
+-- the words of the MCP and the slots were written; the dictionaries, which end where the slots begin, are as they were, and
+-- so is the vector beyond those slots
+pub record LiesAroundDictionaries (old new : List Tagged) (at size jobs : ℕ) : Type 0 where
+  pub mcp : RepresentsMcp new
+  pub slots : SlotsLie new at size jobs
+  pub vector : (k : ℕ) → jobs ≤ k → k < 120 → slice_get new (32 + k) ≡ slice_get old (32 + k)
+  pub dictionaries : (i : ℕ) → 160 ≤ i → i < at → slice_get new i ≡ slice_get old i
+  pub len : length new ≡ length old

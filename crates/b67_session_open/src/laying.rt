@@ -4,7 +4,7 @@ ghost use Rattle.std.specs.Prelude.{◌≡◌, ◌≢◌, ◌⊎◌, ℕ, ◌+�
 ghost use Rattle.b67_area.specs.Spans.{left};
 ghost use Rattle.b67_area.specs.Directory.{IsDirectory};
 ghost use Rattle.b67_layout.specs.Session.{RepresentsMcp};
-ghost use Rattle.b67_session_open.specs.Words.{SlotLies, SlotsLie, first_vector_word, FirstTaskLies};
+ghost use Rattle.b67_session_open.specs.Words.{SlotLies, SlotsLie, first_vector_word, FirstTaskLies, SlotsFit, LiesAroundDictionaries};
 
 use b67_area::Areas;
 use b67_core::Core;
@@ -70,10 +70,7 @@ fn lay_first_task(core: &mut Core, slot: u8, at: u32)
 
 /// Writes the stacks of the first tasks of `jobs` jobs into slots of `size` words each, from an address on.
 fn lay_slots(core: &mut Core, stacks: u32, size: u16, jobs: u8)
-    requires few { jobs ≤ 8 }
-    requires above { 160 ≤ stacks }
-    requires size { 64 ≤ size }
-    requires inside { stacks + jobs * size ≤ length core.old }
+    requires { SlotsFit core.old stacks size jobs }
     ensures slots { SlotsLie core.new stacks size jobs }
     ensures outside { (i : ℕ) → (i < 32) ⊎ ((32 + jobs ≤ i) × (i < stacks)) → slice_get core.new i ≡ slice_get core.old i }
     ensures len { length core.new ≡ length core.old }
@@ -89,17 +86,10 @@ fn lay_slots(core: &mut Core, stacks: u32, size: u16, jobs: u8)
 /// Writes all that lies outside of the dictionaries, which end where the stacks begin, and leaves the rest of core to
 /// areas.
 pub fn lay_core(core: &mut Core, stacks: u32, size: u16, jobs: u8) -> Areas
-    requires few { jobs ≤ 8 }
-    requires above { 160 ≤ stacks }
-    requires size { 64 ≤ size }
-    requires inside { stacks + jobs * size ≤ length core.old }
-    ensures mcp { RepresentsMcp core.new }
-    ensures slots { SlotsLie core.new stacks size jobs }
-    ensures vector { (k : ℕ) → jobs ≤ k → k < 120 → slice_get core.new (32 + k) ≡ slice_get core.old (32 + k) }
-    ensures dictionaries { (i : ℕ) → 160 ≤ i → i < stacks → slice_get core.new i ≡ slice_get core.old i }
+    requires { SlotsFit core.old stacks size jobs }
+    ensures core { LiesAroundDictionaries core.old core.new stacks size jobs }
     ensures areas { result ≡ record { size = length core.old; low = stacks + jobs * size } }
     ensures directory { IsDirectory core.new (stacks + jobs * size) (left (length core.old - (stacks + jobs * size)) []) }
-    ensures len { length core.new ≡ length core.old }
 {
     let _size = core.size();
     lay_mcp(core);

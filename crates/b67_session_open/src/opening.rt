@@ -17,7 +17,7 @@ use b67_model_text::Deck;
 use b67_task_tables::Machine;
 use std::alloc::Global;
 
-/// Opens a deck's session with a program for each job, in a core of so many words over a device: the machine represents
+/// Opens a deck's session with a program for each job, in a core of that many words over a device: the machine represents
 /// the opening state, and nothing is present. Refused in this order: if memory is refused; with `NoCore` exactly if the
 /// opening's need exceeds core; with `BackingFull` exactly if the programs take more sectors than the device has; with
 /// `BackingFault` only if the device failed. The device isn't called before all other refusals are tried. A job of 2 ^ 32

@@ -1,7 +1,6 @@
 //! The machine of a session that opens.
 
-ghost use Rattle.std.specs.Prelude.{◌≡◌, ◌+◌, ◌*◌, ◌≤◌, [], length, map, replicate, IfOk, IfErr};
-ghost use Rattle.b67_word.specs.Tagged.{word};
+ghost use Rattle.std.specs.Prelude.{◌≡◌, ◌+◌, [], length, map, IfOk, IfErr};
 ghost use Rattle.b67_io.specs.Causes.{HasCause};
 ghost use Rattle.b67_backing.specs.Shelf.{Shelf, IsShelf};
 ghost use Rattle.b67_backing.specs.declared.refusals.SpaceFault.TheVariants.{BackingFault};
@@ -10,9 +9,11 @@ ghost use Rattle.b67_layout_storage.specs.Machine.{DeviceAfterCalls, content_aft
 ghost use Rattle.b67_lemmas.specs.Lists.{total};
 ghost use Rattle.b67_load.specs.Objects.{sectors_of_program};
 ghost use Rattle.b67_load.specs.Resting.{stocked};
+ghost use Rattle.b67_load.specs.Writing.{HasSectors};
 ghost use Rattle.b67_session_open.specs.Opened.{dictionaries, objects_from};
 ghost use Rattle.b67_session_open.specs.Stored.{absent_storage};
 ghost use Rattle.b67_session_open.specs.InitialOpens.{Opens};
+ghost use Rattle.b67_session_open.specs.Words.{IsBlankFor};
 
 use crate::dictionaries::install_all;
 use crate::laying::lay_core;
@@ -70,13 +71,8 @@ pub fn set_up<B: Backing>(
     stack: u16,
     programs: &[Admitted],
 ) -> Result<Initial, SpaceFault>
-    requires zeros { core ≡ replicate (length core) (word 0 0) }
-    requires stack_low { 64 ≤ stack }
-    requires few { length programs.now ≤ 8 }
-    requires inside { 160 + dictionaries (map program_of programs.now) + length programs.now * stack ≤ length core }
-    requires known { (st : Shelf) × IsShelf sectors.old st }
-    requires room { total sectors_of_program (map program_of programs.now) ≤ sectors.old.free }
-    requires same { B.size backing.old + 1 ≡ length sectors.old.links }
+    requires core { IsBlankFor core (dictionaries (map program_of programs.now)) stack (length programs.now) }
+    requires sectors { HasSectors (B.size backing.old) sectors.old (total sectors_of_program (map program_of programs.now)) }
     ensures opens { IfOk result (λ m. (st : Shelf) → IsShelf sectors.old st → st.chains ≡ []
         → Opens m.areas sectors.new (content_after (B.holds backing.old) (B.holds backing.new))
         (absent_storage m.cpu.core m.areas.low (stocked (objects_from 160 (map program_of programs.now)) st) (content_after (B.holds backing.old) (B.holds backing.new)))

@@ -9,7 +9,7 @@ use Rattle.b67_area.specs.declared.Kind.TheVariants.{Array, Row, Code}
 use Rattle.b67_area.specs.Spans.{Span, area_at}
 use Rattle.b67_area.specs.Directory.{IsDirectory}
 use Rattle.b67_backing.specs.Shelf.{Shelf, chain_of}
-use Rattle.b67_backing.specs.Held.{Holds, sectors_for}
+use Rattle.b67_backing.specs.Held.{Fills, sectors_for}
 use Rattle.b67_lemmas.specs.Lists.{Has}
 use Rattle.b67_ctl.specs.declared.registers.Regs.{Regs}
 use Rattle.b67_stack.specs.Shapes.{Locations, Fits, LieDownward, LieUpward}
@@ -62,10 +62,10 @@ pub record HasChain (x : Storage) (t : PagedObject) (first : ℕ) : Type 0 where
   pub small : first < 2 ^ 20
   pub sectors : length (chain_of first x.shelf.chains) ≡ sectors_for (length t.numbers)
 
--- numbers lie in the sectors of a chain, where the device tells them
+-- numbers lie in the sectors of a chain, with zeros after them, where the device tells them
 abbrev pub Told : Option (List (List ℕ)) → List ℕ → List ℕ → Type 0
 Told None chain numbers = Unit {0}
-Told (Some all) chain numbers = Holds all chain 0 numbers
+Told (Some all) chain numbers = Fills all chain 0 numbers
 
 -- a chain that holds an object's words
 pub record HoldsIn (x : Storage) (t : PagedObject) (first : ℕ) : Type 0 where

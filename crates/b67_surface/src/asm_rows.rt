@@ -94,3 +94,36 @@ fn refuses_the_first_card(rt: HostRuntime) -> Result<(), Fail> {
     }
     Ok(())
 }
+
+/// A segment with so many entries, and a label at 0:0.
+fn cards_of_entries(alloc: Global, count: u32) -> Result<Cards, Fail> {
+    let mut bytes = Bytes::new(alloc);
+    bytes.extend(b"SEGMENT A 2\n")?;
+    for i in 0..count + 1 {
+        bytes.extend(format!(in alloc; "L{i}: EXIT\n")?.as_bytes())?;
+    }
+    for i in 0..count {
+        bytes.extend(format!(in alloc; "ENTRY L{}\n", count - i)?.as_bytes())?;
+    }
+    let mut source = FreeTape::new(bytes, 512);
+    let cards = read_cards(alloc, &mut source)?;
+    Ok(cards)
+}
+
+#[test]
+fn assembles_entries_up_to_255(rt: HostRuntime) -> Result<(), Fail> {
+    let file = assemble(rt.alloc(), &cards_of_entries(rt.alloc(), 255)?)?;
+    assert_eq!(rt; file.version, 2);
+    let entries = file.segments.as_slice()[0].entries.as_slice();
+    assert_eq!(rt; entries.len(), 255);
+    assert_eq!(rt; (entries[0], entries[254]), (0x2000, 0x602a));
+    let more = assemble(rt.alloc(), &cards_of_entries(rt.alloc(), 256)?);
+    assert_eq!(rt;
+        more.err(),
+        Some(AsmFault::Card {
+            card: 514,
+            reason: 10
+        })
+    );
+    Ok(())
+}

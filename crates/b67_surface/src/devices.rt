@@ -9,7 +9,9 @@ ghost use Rattle.b67_core.specs.Numbers.{AreWords};
 ghost use Rattle.std.specs.Prelude.{List, Some, length, ℕ, ◌+◌, ◌<◌, ◌^◌, ◌≡◌, ◌≤◌};
 
 use b67_area::{Areas, Info, Kind};
-use b67_backing::{Backing, FileBacking, HonestBacking, MemoryBacking, RandomAccess, Sectors};
+use b67_backing::{
+    Backing, FileBacking, HonestBacking, MemoryBacking, RandomAccess, Sectors, SpaceFault,
+};
 use b67_core::Core;
 use b67_io::{FreeTape, Line, Paper, Sink, StdSink, StdSource, Tally, Tape};
 use b67_word::{Bytes, Failed, Numbers, Word};
@@ -203,6 +205,21 @@ pub fn sectors_store<B: Backing>(
     it.store(first, from, backing)
 }
 
+pub fn sectors_extend<B: Backing>(
+    it: &mut Sectors,
+    first: u32,
+    have: u32,
+    want: u32,
+    backing: &mut B,
+) -> Result<(), SpaceFault>
+    requires some { 1 ≤ have }
+    requires order { have ≤ want }
+    requires chain { (st : Shelf) × HasChain it.old st first (sectors_for have) }
+    requires same { B.size backing.old + 1 ≡ length it.old.links }
+{
+    it.extend(first, have, want, backing)
+}
+
 pub fn sectors_restore<B: Backing>(
     it: &Sectors,
     first: u32,
@@ -247,6 +264,13 @@ pub fn areas_free(it: &mut Areas, core: &mut Core, address: u32)
     requires { (ss : List Span) × (a : Info) × IsDirectory core.old it.old.low ss × (area_at it.old.low ss address ≡ Some a) }
 {
     it.free(core, address)
+}
+
+pub fn areas_shrink(it: &mut Areas, core: &mut Core, address: u32, words: u32)
+    requires some { 1 ≤ words }
+    requires area { (ss : List Span) × (a : Info) × IsDirectory core.old it.old.low ss × (area_at it.old.low ss address ≡ Some a) × (words ≤ a.words) }
+{
+    it.shrink(core, address, words)
 }
 
 pub fn areas_clear(it: &mut Areas, core: &mut Core)

@@ -145,3 +145,64 @@ fn tells_each_rule(rt: HostRuntime) -> Result<(), Fail> {
     }
     Ok(())
 }
+
+/// What `verify` says of a file of version 2 whose segments each have a level, entries and code words.
+fn refusal_with_entries(
+    alloc: Global,
+    segments: &[(u8, &[u16], &[u64])],
+) -> Result<Option<LoadFault>, Fail> {
+    let mut bytes = b"B67CODE2".to_vec(alloc)?;
+    bytes.extend_from_slice(&[0, (segments.len() % 256) as u8, 0, 0])?;
+    for (level, entries, code) in segments {
+        bytes.extend_from_slice(&[*level, (entries.len() % 256) as u8])?;
+        for entry in *entries {
+            bytes.extend_from_slice(&entry.to_be_bytes())?;
+        }
+        bytes.extend_from_slice(&[0, (code.len() % 256) as u8])?;
+        for word in *code {
+            bytes.extend_from_slice(&(0x0003_0000_0000_0000 | *word).to_be_bytes())?;
+        }
+    }
+    let file = read(alloc, &bytes)?;
+    Ok(verify(alloc, file).err())
+}
+
+#[test]
+fn entries_are_starts(rt: HostRuntime) -> Result<(), Fail> {
+    let rows: [(&[u16], u64, Option<LoadFault>); 6] = [
+        (&[0x2000], 0x4009_c0ff_ffff, refused(1, 0, 1, 11)),
+        (&[0x4000], 0x4009_c0ff_ffff, refused(1, 0, 2, 1)),
+        (&[5], 0x4009_b0b1_b0a3, refused(1, 5, 0, 11)),
+        (&[5], 0x4009_b0b1_b0b1, refused(1, 0, 5, 5)),
+        (&[0x2000, 5], 0x4009_b0b1_b0b1, refused(1, 0, 1, 11)),
+        (&[0x4000, 0xa000], 0x4009_b0b1_b0a3, None),
+    ];
+    for (entries, word, wanted) in rows {
+        assert_eq!(rt;
+            refusal_with_entries(rt.alloc(), &[(2, entries, &[word])])?,
+            wanted,
+            "at {word:x}"
+        );
+    }
+    Ok(())
+}
+
+/// The first segment makes the PCW of the second one at 0:1.
+#[test]
+fn procedures_begin_at_entries(rt: HostRuntime) -> Result<(), Fail> {
+    let first: &[u64] = &[0xbfff_ffff_ffff, 0x0002_0000_c003, 0xae50_02ab_a3ff];
+    let second: &[u64] = &[0xa3ae_4009_b1ab, 0xa3ff_ffff_ffff];
+    let rows: [(&[u16], Option<LoadFault>); 4] = [
+        (&[0x2000], None),
+        (&[0x2000, 0x4000], None),
+        (&[0x4000], refused(1, 0, 0, 8)),
+        (&[], refused(1, 0, 0, 8)),
+    ];
+    for (entries, wanted) in rows {
+        assert_eq!(rt;
+            refusal_with_entries(rt.alloc(), &[(2, &[], first), (3, entries, second)])?,
+            wanted
+        );
+    }
+    Ok(())
+}

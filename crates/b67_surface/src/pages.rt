@@ -1,12 +1,12 @@
 //! Page-out, page-in, loading, tasks.
 
-ghost use Rattle.b67_backing.specs.Shelf.{IsShelf, Shelf};
 ghost use Rattle.b67_codefile.specs.Meaning.{program_of};
 ghost use Rattle.b67_codefile.specs.Spelling.{IsWithin};
 ghost use Rattle.b67_layout.specs.Placement.{Placement};
 ghost use Rattle.b67_layout.specs.Session.{RepresentsStorage};
 ghost use Rattle.b67_layout_storage.specs.Machine.{IsPresent, MachineRepresentsView};
 ghost use Rattle.b67_load.specs.Objects.{entries_of, sectors_of_program};
+ghost use Rattle.b67_load.specs.Writing.{HasSectors};
 ghost use Rattle.b67_model.specs.Schedule.{Session};
 ghost use Rattle.b67_presence.specs.Bringing.{WantsSome};
 ghost use Rattle.b67_stack.specs.MachineView.{MachineView, PagedObject};
@@ -76,10 +76,8 @@ pub fn install<B: Backing>(
     base: u32,
     program: &Admitted,
 ) -> Result<(), SpaceFault>
-    requires known { (st : Shelf) × IsShelf sectors.old st }
     requires inside { base + (2 + entries_of (program_of program.now)) ≤ length cpu.old.core }
-    requires room { sectors_of_program (program_of program.now) ≤ sectors.old.free }
-    requires same { B.size backing.old + 1 ≡ length sectors.old.links }
+    requires sectors { HasSectors (B.size backing.old) sectors.old (sectors_of_program (program_of program.now)) }
 {
     b67_load::install(cpu, sectors, backing, base, program)
 }

@@ -7,7 +7,7 @@ use b67_card::DeckFault;
 use b67_codefile::{BadFile, Codefile};
 use b67_io::Source;
 use b67_model_text::{Cards, Deck};
-use b67_word::Bytes;
+use b67_word::{Bytes, Place};
 use std::alloc::{AllocError, Global};
 
 // b67_codefile
@@ -19,6 +19,14 @@ pub fn write(alloc: Global, file: &Codefile) -> Result<Bytes, AllocError>
     requires { IsWithin file.now }
 {
     b67_codefile::write(alloc, file)
+}
+
+pub fn convert(alloc: Global, file: &Codefile) -> Result<Codefile, AllocError> {
+    b67_codefile::convert(alloc, file)
+}
+
+pub fn place_of_entry(entry: u16) -> Place {
+    b67_codefile::place_of_entry(entry)
 }
 
 // b67_card

@@ -1,6 +1,6 @@
 use Rattle.std.proofs.Common.{sym, ap, ◌∙◌, refl, Some}
 use Rattle.std.specs.Prelude.{is_some}
-use Rattle.b67_job_admit.specs.Verdicts.{asm_verdict, check_verdict}
+use Rattle.b67_job_admit.specs.Verdicts.{asm_verdict, check_verdict, convert_verdict}
 use Rattle.b67_session_open.proofs.InitialOpens.{uncalled}
 use Rattle.b67_job.specs.Device.{device_of}
 use Rattle.b67_job.specs.Texts.{only}
@@ -27,6 +27,13 @@ returns-in-Some-Check-clause-answered g c =
     c.without_machine-in-Some-Check.result.machine c.without_machine-in-Some-Check.result.status c.answer_check.result c.without_machine-in-Some-Check.ensures.machine c.without_machine-in-Some-Check.ensures.status
     (served_text d lines.Check check_verdict c.answer_check.result refl (λ bytes. refl) c.answer_check.ensures c.args.words.now (sym c.command_of.ensures.command ∙ c.in-Some-Check.is ∙ ap (λ x. Some x) c.in-Some-Check.field-0-is))
 
+pub returns-in-Some-Convert-clause-answered : goal.returns-in-Some-Convert-clause-answered
+returns-in-Some-Convert-clause-answered g c =
+    let d = device_of g.B.Backing.holds g.B.Backing.size g.B.Backing.faults c.args.backing.now c.args.backing.now in
+    without c.args.words.now g.S.Source.left g.S.Source.faults c.args.deck.now c.answer_convert.new.deck d g.K.Sink.taken g.K.Sink.faults c.args.printer.now c.answer_convert.new.printer
+    c.without_machine-in-Some-Convert.result.machine c.without_machine-in-Some-Convert.result.status c.answer_convert.result c.without_machine-in-Some-Convert.ensures.machine c.without_machine-in-Some-Convert.ensures.status
+    (served_text d lines.Convert convert_verdict c.answer_convert.result refl (λ bytes. refl) c.answer_convert.ensures c.args.words.now (sym c.command_of.ensures.command ∙ c.in-Some-Convert.is ∙ ap (λ x. Some x) c.in-Some-Convert.field-0-is))
+
 pub returns-in-None-clause-answered : goal.returns-in-None-clause-answered
 returns-in-None-clause-answered g c =
     let d = device_of g.B.Backing.holds g.B.Backing.size g.B.Backing.faults c.args.backing.now c.args.backing.now in
@@ -39,6 +46,9 @@ returns-in-Some-Asm-clause-device g c = uncalled g.B.Backing.holds g.B.Backing.s
 
 pub returns-in-Some-Check-clause-device : goal.returns-in-Some-Check-clause-device
 returns-in-Some-Check-clause-device g c = uncalled g.B.Backing.holds g.B.Backing.size g.B.Backing.calls g.B.Backing.faults c.args.backing.now
+
+pub returns-in-Some-Convert-clause-device : goal.returns-in-Some-Convert-clause-device
+returns-in-Some-Convert-clause-device g c = uncalled g.B.Backing.holds g.B.Backing.size g.B.Backing.calls g.B.Backing.faults c.args.backing.now
 
 pub returns-in-None-clause-device : goal.returns-in-None-clause-device
 returns-in-None-clause-device g c = uncalled g.B.Backing.holds g.B.Backing.size g.B.Backing.calls g.B.Backing.faults c.args.backing.now

@@ -11,7 +11,7 @@ pub loop-row-init : goal.loop-row-init
 loop-row-init g c =
     let all : List PagedObject = rows_from c.args.base (map contents c.args.rows.now) in
     record {
-      going = going_first g.B.Backing.holds c.args.base all (length c.args.rows.now) _ (length-rows_from c.args.base (map contents c.args.rows.now) ∙ length-map c.args.rows.now contents) c.requires.room;
+      going = going_first g.B.Backing.holds c.args.base all (length c.args.rows.now) _ (length-rows_from c.args.base (map contents c.args.rows.now) ∙ length-map c.args.rows.now contents) c.requires.sectors.room;
       size = refl;
       faults = omega arith;
       calls = omega arith;
@@ -29,9 +29,9 @@ loop-row-preserved g c = record {
   going = going_next g.B.Backing.holds c.args.base (length c.args.rows.now) c.loop-row.at (rows_from c.args.base (map contents c.args.rows.now)) _ _ _ _ _ _
       (rows_step c.loop-row.at c.loop-row.row-index c.args.rows.now c.row-item.result c.row-item.is c.loop-row-test.true) refl
       c.loop-row.invariant.going c.in_ok-install_row.ensures.writes c.install_row.ensures.spares;
-  size = c.install_row.ensures.size ∙ c.loop-row.invariant.size;
-  faults = omega (arith, c.loop-row.invariant.faults, c.install_row.ensures.cause.later);
-  calls = omega (arith, c.loop-row.invariant.calls, c.install_row.ensures.calls);
+  size = c.install_row.ensures.device.size ∙ c.loop-row.invariant.size;
+  faults = omega (arith, c.loop-row.invariant.faults, c.install_row.ensures.device.cause.later);
+  calls = omega (arith, c.loop-row.invariant.calls, c.install_row.ensures.device.calls);
 }
 
 pub returns-clause-writes : goal.returns-clause-writes

@@ -11,7 +11,7 @@ pub loop-segment-init : goal.loop-segment-init
 loop-segment-init g c =
     let all : List PagedObject = code_from c.args.base (map segment_of c.args.segments.now) in
     record {
-      going = going_first g.B.Backing.holds c.args.base all (length c.args.segments.now) _ (length-code_from c.args.base (map segment_of c.args.segments.now) ∙ length-map c.args.segments.now segment_of) c.requires.room;
+      going = going_first g.B.Backing.holds c.args.base all (length c.args.segments.now) _ (length-code_from c.args.base (map segment_of c.args.segments.now) ∙ length-map c.args.segments.now segment_of) c.requires.sectors.room;
       size = refl;
       faults = omega arith;
       calls = omega arith;
@@ -29,9 +29,9 @@ loop-segment-preserved g c = record {
   going = going_next g.B.Backing.holds c.args.base (length c.args.segments.now) c.loop-segment.at (code_from c.args.base (map segment_of c.args.segments.now)) _ _ _ _ _ _
       (code_step c.loop-segment.at c.loop-segment.segment-index c.args.segments.now c.segment-item.result c.segment-item.is c.loop-segment-test.true) refl
       c.loop-segment.invariant.going c.in_ok-install_segment.ensures.writes c.install_segment.ensures.spares;
-  size = c.install_segment.ensures.size ∙ c.loop-segment.invariant.size;
-  faults = omega (arith, c.loop-segment.invariant.faults, c.install_segment.ensures.cause.later);
-  calls = omega (arith, c.loop-segment.invariant.calls, c.install_segment.ensures.calls);
+  size = c.install_segment.ensures.device.size ∙ c.loop-segment.invariant.size;
+  faults = omega (arith, c.loop-segment.invariant.faults, c.install_segment.ensures.device.cause.later);
+  calls = omega (arith, c.loop-segment.invariant.calls, c.install_segment.ensures.device.calls);
 }
 
 pub returns-clause-writes : goal.returns-clause-writes

@@ -7,17 +7,17 @@ use Rattle.b67_load.proofs.installing.shelve.Goals as goal
 
 pub unreachable-requires : goal.unreachable-requires
 unreachable-requires g c =
-    let (st, s) = c.requires.known in
-    omega (arith, c.in-None.ensures.row st s, s.count, c.requires.room)
+    let (st, s) = c.requires.sectors.known in
+    omega (arith, c.in-None.ensures.row st s, s.count, c.requires.sectors.room)
 
 pub store-requires-clause-chain : goal.store-requires-clause-chain
 store-requires-clause-chain g c =
-    let (st, s) = c.requires.known in
+    let (st, s) = c.requires.sectors.known in
     (taken (sectors_for (length c.args.words.now)) st, c.in-Some.ensures.chain st s)
 
 pub returns-in-Ok-clause-small : goal.returns-in-Ok-clause-small
 returns-in-Ok-clause-small g c =
-    let (st, s) = c.requires.known in
+    let (st, s) = c.requires.sectors.known in
     first_small c.take.new.self (taken (sectors_for (length c.args.words.now)) st) c.in-Some.first (sectors_for (length c.args.words.now)) (c.in-Some.ensures.chain st s) (omega (arith, c.requires.some))
 
 pub returns-in-Ok-clause-stores : goal.returns-in-Ok-clause-stores

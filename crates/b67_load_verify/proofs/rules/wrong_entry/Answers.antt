@@ -13,6 +13,8 @@ pub entries-preserved : goal.entries-preserved
 entries-preserved c =
     let start = sym c.has_start.ensures ∙ c.if-not-has_start.false in
     let inside = rw c.as_slice-entry-items.ensures at c.entries-test.true in
-    let rest = entry-here c.args.segment.now.entries c.entries.entry-index 0 inside c.entries.invariant.0 in
-    (rest.1, λ file number. wrong-goes_on (listed file number c.args.segment.now c.args.listing.now) c.args.segment.now.entries c.entries.entry-index 0 inside
-      (rw (c.place_of_entry-place.ensures, c.as_slice-entry-items.ensures) at start) (c.entries.invariant.1 file number))
+    let rest = entry-here c.args.segment.now.entries c.entries.entry-index 0 inside c.entries.invariant.0 in (
+      rest.1,
+      λ file number. wrong-goes_on (listed file number c.args.segment.now c.args.listing.now) c.args.segment.now.entries c.entries.entry-index 0 inside
+          (rw (c.place_of_entry-place.ensures, c.as_slice-entry-items.ensures) at start) (c.entries.invariant.1 file number),
+    )

@@ -1,4 +1,4 @@
-use Rattle.std.proofs.Common.{◌≡◌, ℕ, List, arith, sym, ◌∙◌, ap, subst, ⊎_elim}
+use Rattle.std.proofs.Common.{rules, ◌≡◌, ℕ, List, arith, sym, ◌∙◌, ap, subst, ⊎_elim}
 use Rattle.b67_backing.specs.Shelf.{Shelf, IsShelf, HasChain, taken, chain_of}
 use Rattle.b67_backing.specs.Held.{Changes, SameBut, sectors_for}
 use Rattle.b67_overlay.proofs.Chains.{given_taken, new_out}
@@ -16,15 +16,52 @@ give-requires g c =
     let h : HasChain c.take.new.self (taken (sectors_for c.args.words) st) c.in-Some.first (sectors_for c.args.words) = c.in-Some.ensures.chain st sh in
     (taken (sectors_for c.args.words) st, h.shelf, omega (arith, h.many))
 
-pub returns-in-Err-save-clause-refused : goal.returns-in-Err-save-clause-refused
-returns-in-Err-save-clause-refused g c = λ st sh k.
-    let n = sectors_for c.args.words in
-    let h : HasChain c.take.new.self (taken n st) c.in-Some.first n = c.in-Some.ensures.chain st sh in
-    let row = c.in-Some.ensures.row st sh in
-    let back = given_taken n c.in-Some.first st (omega arith) row.0 row.1 in
-    let S : Shelf → Type 0 = λ z. IsShelf c.give.new.self z in
-    let C : List ℕ → Type 0 = λ z. Changes g.B.Backing.holds c.args.backing.now c.save-in-Some.new.backing (SameBut z) in
-    (subst S back (c.give.ensures.row (taken n st) h.shelf (omega (arith, h.many))), subst C (sym (new_out st c.args.kept c.args.words c.if-kept-ne0.false ∙ ap (λ (f : ℕ). chain_of f (taken n st).chains) (sym row.1))) (c.in-Err-save.ensures.others (taken n st) h))
+pub returns-in-Ok-clause-row : goal.returns-in-Ok-clause-row
+returns-in-Ok-clause-row g c = λ st sh. record {
+  written = search rules;
+  room = search rules;
+  refused = search rules;
+  full = search rules;
+}
+
+pub returns-in-Err-clause-row : goal.returns-in-Err-clause-row
+returns-in-Err-clause-row g c = λ st sh. record {
+  written = search rules;
+  room = search rules;
+  refused = search rules;
+  full = search rules;
+}
+
+pub returns-in-None-clause-row : goal.returns-in-None-clause-row
+returns-in-None-clause-row g c = λ st sh. record {
+  written = search rules;
+  room = search rules;
+  refused = search rules;
+  full = search rules;
+}
+
+pub returns-in-Ok-save-clause-row : goal.returns-in-Ok-save-clause-row
+returns-in-Ok-save-clause-row g c = λ st sh. record {
+  written = search rules;
+  room = search rules;
+  refused = search rules;
+  full = search rules;
+}
+
+pub returns-in-Err-save-clause-row : goal.returns-in-Err-save-clause-row
+returns-in-Err-save-clause-row g c = λ st sh. record {
+  written = search rules;
+  room = search rules;
+  refused = λ k.
+      let n = sectors_for c.args.words in
+      let h : HasChain c.take.new.self (taken n st) c.in-Some.first n = c.in-Some.ensures.chain st sh in
+      let row = c.in-Some.ensures.row st sh in
+      let back = given_taken n c.in-Some.first st (omega arith) row.0 row.1 in
+      let S : Shelf → Type 0 = λ z. IsShelf c.give.new.self z in
+      let C : List ℕ → Type 0 = λ z. Changes g.B.Backing.holds c.args.backing.now c.save-in-Some.new.backing (SameBut z) in
+      (subst S back (c.give.ensures.row (taken n st) h.shelf (omega (arith, h.many))), subst C (sym (new_out st c.args.kept c.args.words c.if-kept-ne0.false ∙ ap (λ (f : ℕ). chain_of f (taken n st).chains) (sym row.1))) (c.in-Err-save.ensures.others (taken n st) h));
+  full = search rules;
+}
 
 pub returns-in-Ok-save-clause-device : goal.returns-in-Ok-save-clause-device
 returns-in-Ok-save-clause-device g c =
@@ -32,9 +69,9 @@ returns-in-Ok-save-clause-device g c =
     let h : HasChain c.take.new.self (taken (sectors_for c.args.words) st) c.in-Some.first (sectors_for c.args.words) = c.in-Some.ensures.chain st sh in
     let e = c.save-in-Some.ensures in
     record {
-      size = e.size;
-      calls = e.calls.later;
-      faults = e.cause.later;
+      size = e.device.size;
+      calls = e.device.calls.later;
+      faults = e.device.cause.later;
       tells = record { told = λ x is. let (y, i, same) = (e.others (taken (sectors_for c.args.words) st) h).told x is in (y, i, same.count) };
     }
 
@@ -44,8 +81,8 @@ returns-in-Err-save-clause-device g c =
     let h : HasChain c.take.new.self (taken (sectors_for c.args.words) st) c.in-Some.first (sectors_for c.args.words) = c.in-Some.ensures.chain st sh in
     let e = c.save-in-Some.ensures in
     record {
-      size = e.size;
-      calls = e.calls.later;
-      faults = e.cause.later;
+      size = e.device.size;
+      calls = e.device.calls.later;
+      faults = e.device.cause.later;
       tells = record { told = λ x is. let (y, i, same) = (e.others (taken (sectors_for c.args.words) st) h).told x is in (y, i, same.count) };
     }

@@ -1,16 +1,47 @@
-use Rattle.std.proofs.Common.{◌+◌, ◌∙◌, sym, arith, length}
+use Rattle.std.proofs.Common.{◌+◌, ◌∙◌, sym, refl, arith, length}
 use Rattle.std.proofs.lemmas.Result.{on_ok_weaker, on_err_weaker}
 use Rattle.b67_layout.specs.Layout.{array_object, machine_view}
 use Rattle.b67_stack.specs.declared.What.TheVariants as what
 use Rattle.b67_task_need.specs.Needing.{need_with}
-use Rattle.b67_presence_page.specs.Brings.{need_one, need_both}
+use Rattle.b67_presence_page.proofs.Forcing.{same_need, need_is}
 use Rattle.b67_presence.proofs.Again.{machine_of, pictured}
 use Rattle.b67_presence.proofs.Ends.{brings_code, brings_array}
-use Rattle.b67_presence.proofs.Refusals.{code_lacks, array_lacks, refused_waits, refused_full, refused_array, stays_in, refused_as, full_as, room_code, room_array, untouched_code, untouched_array}
+use Rattle.b67_presence.proofs.Refusals.{code_lacks, array_lacks, refused_waits, refused_full, refused_array, refused_still, stays_in, stays_put, refused_as, full_as, room_code, room_array, untouched_code, untouched_array}
 use Rattle.b67_presence.proofs.FullDevice.{short_full}
 use Rattle.b67_presence.proofs.Seen.{readable}
-use Rattle.b67_presence.proofs.Wants.{code_found, address, address_small, displaced, code_absent, code_present, array_absent, need_code, need_array, exactly, wanted_code, wanted_array, brings_as}
+use Rattle.b67_presence.proofs.Wants.{code_found, address, address_small, displaced, code_absent, code_present, array_absent, need_code, need_array, needed_is, fits_not, core_has, room_fits, wanted_code, wanted_array, brings_as}
 use Rattle.b67_presence.proofs.bringing.bring.Goals as goal
+
+pub words_of-words-requires : goal.words_of-words-requires
+words_of-words-requires g c = (g.B.Backing.holds c.args.backing.now, c.requires.wants)
+
+pub returns-in-Code-clause-unchanged : goal.returns-in-Code-clause-unchanged
+returns-in-Code-clause-unchanged g c = λ need size e. absurd (c.bring_code.ensures.no_core need size e)
+
+pub returns-in-Array-clause-unchanged : goal.returns-in-Array-clause-unchanged
+returns-in-Array-clause-unchanged g c = λ need size e. absurd (c.bring_data.ensures.no_core need size e)
+
+pub need-needed-requires-clause-runs : goal.need-needed-requires-clause-runs
+need-needed-requires-clause-runs g c =
+    let q = c.requires.wants in
+    record { storage = q.storage; told = q.storage.device; plan = q.plan; session = q.session; member = q.member; task = q.task; ordered = q.ordered; stands = q.stands.stands; running = q.running }
+
+pub returns-then-needed-core-clause-row : goal.returns-then-needed-core-clause-row
+returns-then-needed-core-clause-row g c = λ x plan s m t words o h runs wanted.
+    let told = g.B.Backing.holds c.args.backing.now in
+    let k = c.args.machine.now in
+    let is = needed_is x told k plan s m t o h runs words c.words_of-words.result c.need-needed.result (c.words_of-words.ensures.words x told plan s m t words o h runs wanted) (c.need-needed.ensures x x.device plan s m t o h.stands runs) in
+    record {
+      came = tt;
+      refused = refused_still x told k plan s o h m t c.args.absent words wanted;
+      hole = λ room. (refl, record { told = λ all e. e }, stays_put x told k plan s o h);
+      zeros = λ room untouched. absurd (fits_not (need_with s m t 0 words) (length k.cpu.core) (length k.cpu.core) (need_with s m t 0 words) (room_fits x told k plan s m t o h runs c.args.absent words wanted room untouched) refl refl (omega (arith, c.if-needed-core.true, c.size-core.ensures.value, is)));
+      no_core = λ need size. (
+        λ e. let q = need_is c.need-needed.result c.size-core.result need size e in (omega (arith, c.if-needed-core.true, c.size-core.ensures.value, is), sym q.0 ∙ is, sym q.1 ∙ c.size-core.ensures.value),
+        λ h. same_need c.need-needed.result c.size-core.result need size (is ∙ sym h.1) (c.size-core.ensures.value ∙ sym h.2),
+      );
+      full = λ wants free e. absurd (let b : ⊥ = cc in b);
+    }
 
 pub overflow_add-code : goal.overflow_add-code
 overflow_add-code g c =
@@ -34,6 +65,10 @@ bring_code-requires-clause-machine g c =
       (code_found q.plan q.session q.member q.task q.ordered q.running).object,
       pictured q.storage told k q.plan q.session q.stands,
       code_absent q.storage told k q.plan q.session q.member q.task q.ordered q.stands q.running c.from.result (c.from.ensures ∙ w.0) w.1,
+      core_has c.need-needed.result c.size-core.result (length k.cpu.core) (need_with q.session q.member q.task 0 q.words) _ (omega (arith, c.if-needed-core.false)) c.size-core.ensures.value
+          (needed_is q.storage told k q.plan q.session q.member q.task q.ordered q.stands q.running q.words c.words_of-words.result c.need-needed.result
+          (c.words_of-words.ensures.words q.storage told q.plan q.session q.member q.task q.words q.ordered q.stands q.running q.wanted) (c.need-needed.ensures q.storage q.storage.device q.plan q.session q.member q.task q.ordered q.stands.stands q.running))
+          (need_code q.storage told k q.plan q.session q.member q.task q.ordered q.stands q.running q.words w.2),
     )
 
 pub overflow_add-code-in-Array : goal.overflow_add-code-in-Array
@@ -59,93 +94,56 @@ bring_data-requires-clause-machine g c =
       pictured q.storage told k q.plan q.session q.stands,
       array_absent q.storage told k q.plan q.session q.member q.task q.ordered q.stands q.running c.in-Array.original q.words w,
       code,
+      core_has c.need-needed.result c.size-core.result (length k.cpu.core) (need_with q.session q.member q.task 0 q.words) _ (omega (arith, c.if-needed-core.false)) c.size-core.ensures.value
+          (needed_is q.storage told k q.plan q.session q.member q.task q.ordered q.stands q.running q.words c.words_of-words.result c.need-needed.result
+          (c.words_of-words.ensures.words q.storage told q.plan q.session q.member q.task q.words q.ordered q.stands q.running q.wanted) (c.need-needed.ensures q.storage q.storage.device q.plan q.session q.member q.task q.ordered q.stands.stands q.running))
+          (need_array q.storage told k q.plan q.session q.member q.task q.ordered q.stands q.running c.in-Array.original q.words w),
     )
 
-pub returns-in-Code-clause-came : goal.returns-in-Code-clause-came
-returns-in-Code-clause-came g c = on_ok_weaker c.bring_code.result (λ came x plan s m t words o h runs wanted.
+pub returns-in-Code-clause-row : goal.returns-in-Code-clause-row
+returns-in-Code-clause-row g c = λ x plan s m t words o h runs wanted.
     let told = g.B.Backing.holds c.args.backing.now in
     let k = c.args.machine.now in
     let new = c.bring_code.new in
-    let w = wanted_code x plan m t c.args.absent words c.in-Code.displacement c.in-Code.is wanted in
-    let p = machine_view plan s.jobs in
-    let mx = pictured x told k plan s h in
-    let a = code_absent x told k plan s m t o h runs c.from.result (c.from.ensures ∙ w.0) w.1 in
-    let code = (code_found plan s m t o runs).object in
-    let now = g.B.Backing.holds new.backing in
-    brings_as x now (machine_of new.cpu new.areas new.sectors k.tasks) plan s m t c.args.absent (what.Code c.in-Code.displacement) c.in-Code.is
-    (brings_code x told now k plan s o h new.cpu new.areas new.sectors c.bring_code.ensures.rest c.bring_code.ensures.len c.bring_code.ensures.areas (c.bring_code.ensures.outside x p code mx a) m t runs c.in-Code.displacement w.0
-    (came x p code mx a (readable x plan s o)))) c.bring_code.ensures.came
-
-pub returns-in-Code-clause-refused : goal.returns-in-Code-clause-refused
-returns-in-Code-clause-refused g c = on_err_weaker c.bring_code.result (λ refused x plan s m t words o h runs wanted.
-    let told = g.B.Backing.holds c.args.backing.now in
-    let k = c.args.machine.now in
-    let new = c.bring_code.new in
-    let w = wanted_code x plan m t c.args.absent words c.in-Code.displacement c.in-Code.is wanted in
-    let p = machine_view plan s.jobs in
-    let mx = pictured x told k plan s h in
-    let a = code_absent x told k plan s m t o h runs c.from.result (c.from.ensures ∙ w.0) w.1 in
-    let code = (code_found plan s m t o runs).object in
-    let now = g.B.Backing.holds new.backing in
     let d = c.in-Code.displacement in
-    refused_as x now (machine_of new.cpu new.areas new.sectors k.tasks) plan s m t c.args.absent (what.Code d) c.in-Code.is
-    (refused_waits x told now k plan s o h new.cpu new.areas new.sectors c.bring_code.ensures.rest c.bring_code.ensures.len c.bring_code.ensures.areas (c.bring_code.ensures.outside x p code mx a) m t (what.Code d) 0
-    (refused x p code mx a) (λ y sheds. code_lacks x y plan m t d 0 w.1 sheds))) c.bring_code.ensures.refused
-
-pub returns-in-Code-clause-no_core : goal.returns-in-Code-clause-no_core
-returns-in-Code-clause-no_core g c = λ x plan s m t words need size o h runs wanted.
-    let told = g.B.Backing.holds c.args.backing.now in
-    let k = c.args.machine.now in
-    let w = wanted_code x plan m t c.args.absent words c.in-Code.displacement c.in-Code.is wanted in
-    let a = code_absent x told k plan s m t o h runs c.from.result (c.from.ensures ∙ w.0) w.1 in
-    let is = need_code x told k plan s m t o h runs words w.2 in
-    exactly (length k.cpu.core) need size (need_one x (code_found plan s m t o runs).object) (need_with s m t 0 words) is
-    (c.bring_code.ensures.no_core x (machine_view plan s.jobs) (code_found plan s m t o runs).object need size (pictured x told k plan s h) a)
-
-pub returns-in-Code-clause-full : goal.returns-in-Code-clause-full
-returns-in-Code-clause-full g c = λ x plan s m t words wants free o h runs wanted e.
-    let told = g.B.Backing.holds c.args.backing.now in
-    let k = c.args.machine.now in
-    let new = c.bring_code.new in
-    let w = wanted_code x plan m t c.args.absent words c.in-Code.displacement c.in-Code.is wanted in
-    let a = code_absent x told k plan s m t o h runs c.from.result (c.from.ensures ∙ w.0) w.1 in
-    let p = machine_view plan s.jobs in
-    let found = code_found plan s m t o runs in
-    let code = found.object in
-    let mx = pictured x told k plan s h in
-    let now = g.B.Backing.holds new.backing in
-    let d = c.in-Code.displacement in
-    let (none, waits, short) = c.bring_code.ensures.full x p code wants free mx a e in (
-      short_full waits.storage new.cpu new.areas new.sectors now plan s wants free (g.B.Backing.size c.args.backing.now) waits.stands short (c.requires.same ∙ sym c.bring_code.ensures.count),
-      λ room. none (room_code x plan s m t c.args.absent words d found c.in-Code.is room),
-      full_as x now (machine_of new.cpu new.areas new.sectors k.tasks) plan s m t c.args.absent (what.Code d) wants free c.in-Code.is
-          (refused_full x told now k plan s o h new.cpu new.areas new.sectors c.bring_code.ensures.rest c.bring_code.ensures.len c.bring_code.ensures.areas (c.bring_code.ensures.outside x p code mx a) m t (what.Code d) 0
-          waits (λ y sheds. code_lacks x y plan m t d 0 w.1 sheds) wants free short),
-    )
-
-pub returns-in-Code-clause-hole : goal.returns-in-Code-clause-hole
-returns-in-Code-clause-hole g c = λ x plan s m t words o h runs wanted room.
-    let told = g.B.Backing.holds c.args.backing.now in
-    let k = c.args.machine.now in
-    let new = c.bring_code.new in
-    let w = wanted_code x plan m t c.args.absent words c.in-Code.displacement c.in-Code.is wanted in
+    let w = wanted_code x plan m t c.args.absent words d c.in-Code.is wanted in
     let p = machine_view plan s.jobs in
     let mx = pictured x told k plan s h in
     let a = code_absent x told k plan s m t o h runs c.from.result (c.from.ensures ∙ w.0) w.1 in
     let found = code_found plan s m t o runs in
     let code = found.object in
     let now = g.B.Backing.holds new.backing in
-    let (table, device, ok, err) = c.bring_code.ensures.hole x p code mx a (room_code x plan s m t c.args.absent words c.in-Code.displacement found c.in-Code.is room) in (
-      table,
-      device,
-      stays_in x told now k plan s o h new.cpu new.areas new.sectors c.bring_code.ensures.rest c.bring_code.ensures.len c.bring_code.ensures.areas (c.bring_code.ensures.outside x p code mx a) (k.cpu.regs.dict + c.from.result) code a c.bring_code.result ok err,
-    )
+    let keeps = c.bring_code.ensures.keeps in
+    let row = c.bring_code.ensures.row x p code mx a in
+    let need_is = needed_is x told k plan s m t o h runs words c.words_of-words.result c.need-needed.result (c.words_of-words.ensures.words x told plan s m t words o h runs wanted) (c.need-needed.ensures x x.device plan s m t o h.stands runs) in
+    record {
+      came = on_ok_weaker c.bring_code.result
+          (λ came. brings_as x now (machine_of new.cpu new.areas new.sectors k.tasks) plan s m t c.args.absent (what.Code d) c.in-Code.is
+          (brings_code x told now k plan s o h new.cpu new.areas new.sectors keeps.rest keeps.len keeps.areas row.outside m t runs d w.0 (came (readable x plan s o))))
+          row.came;
+      refused = on_err_weaker c.bring_code.result
+          (λ refused. refused_as x now (machine_of new.cpu new.areas new.sectors k.tasks) plan s m t c.args.absent (what.Code d) c.in-Code.is
+          (refused_waits x told now k plan s o h new.cpu new.areas new.sectors keeps.rest keeps.len keeps.areas row.outside m t (what.Code d) 0 refused (λ y sheds. code_lacks x y plan m t d 0 w.1 sheds)))
+          row.refused;
+      hole = λ room.
+          let hole = c.bring_code.ensures.hole x p code mx a (room_code x plan s m t c.args.absent words d found c.in-Code.is room) in
+          (hole.sectors, hole.device, stays_in x told now k plan s o h new.cpu new.areas new.sectors keeps.rest keeps.len keeps.areas row.outside (k.cpu.regs.dict + c.from.result) code a c.bring_code.result hole.read hole.stays);
+      zeros = λ room untouched. absurd (untouched_code x c.args.absent d c.in-Code.is untouched);
+      no_core = λ need size. (
+        λ e. absurd (c.bring_code.ensures.no_core need size e),
+        λ q. absurd (fits_not c.need-needed.result c.size-core.result (length k.cpu.core) (need_with s m t 0 words) (omega (arith, c.if-needed-core.false)) c.size-core.ensures.value need_is q.0),
+      );
+      full = λ wants free e.
+          let (none, waits, short) = row.full wants free e in (
+            short_full waits.storage new.cpu new.areas new.sectors now plan s wants free (g.B.Backing.size c.args.backing.now) waits.stands short (c.requires.same ∙ sym keeps.count),
+            λ room. none (room_code x plan s m t c.args.absent words d found c.in-Code.is room),
+            full_as x now (machine_of new.cpu new.areas new.sectors k.tasks) plan s m t c.args.absent (what.Code d) wants free c.in-Code.is
+                (refused_full x told now k plan s o h new.cpu new.areas new.sectors keeps.rest keeps.len keeps.areas row.outside m t (what.Code d) 0 waits (λ y sheds. code_lacks x y plan m t d 0 w.1 sheds) wants free short),
+          );
+    }
 
-pub returns-in-Code-clause-zeros : goal.returns-in-Code-clause-zeros
-returns-in-Code-clause-zeros g c = λ x plan s m t words o h runs wanted room untouched. absurd (untouched_code x c.args.absent c.in-Code.displacement c.in-Code.is untouched)
-
-pub returns-in-Array-clause-came : goal.returns-in-Array-clause-came
-returns-in-Array-clause-came g c = on_ok_weaker c.bring_data.result (λ both x plan s m t words o h runs wanted.
+pub returns-in-Array-clause-row : goal.returns-in-Array-clause-row
+returns-in-Array-clause-row g c = λ x plan s m t words o h runs wanted.
     let told = g.B.Backing.holds c.args.backing.now in
     let k = c.args.machine.now in
     let new = c.bring_data.new in
@@ -158,90 +156,31 @@ returns-in-Array-clause-came g c = on_ok_weaker c.bring_data.result (λ both x p
     let object = array_object plan m.constants.number w.array in
     let code = (code_found plan s m t o runs).object in
     let now = g.B.Backing.holds new.backing in
-    brings_as x now (machine_of new.cpu new.areas new.sectors k.tasks) plan s m t c.args.absent (what.Array home) c.in-Array.is
-    (brings_array x told now k plan s o h new.cpu new.areas new.sectors c.bring_data.ensures.rest c.bring_data.ensures.len c.bring_data.ensures.areas (c.bring_data.ensures.outside x p object code at mx a present) m t runs home words w
-    (both x p object code at mx a present (readable x plan s o)))) c.bring_data.ensures.both
-
-pub returns-in-Array-clause-refused : goal.returns-in-Array-clause-refused
-returns-in-Array-clause-refused g c = on_err_weaker c.bring_data.result (λ refused x plan s m t words o h runs wanted.
-    let told = g.B.Backing.holds c.args.backing.now in
-    let k = c.args.machine.now in
-    let new = c.bring_data.new in
-    let home = c.in-Array.original in
-    let w = wanted_array x plan m t c.args.absent words home c.in-Array.is wanted in
-    let (at, present) = code_present x told k plan s m t o h runs c.from-in-Array.result c.from-in-Array.ensures w.code in
-    let p = machine_view plan s.jobs in
-    let mx = pictured x told k plan s h in
-    let a = array_absent x told k plan s m t o h runs home words w in
-    let object = array_object plan m.constants.number w.array in
-    let code = (code_found plan s m t o runs).object in
-    let now = g.B.Backing.holds new.backing in
-    refused_as x now (machine_of new.cpu new.areas new.sectors k.tasks) plan s m t c.args.absent (what.Array home) c.in-Array.is
-    (refused_array x told now k plan s o h new.cpu new.areas new.sectors c.bring_data.ensures.rest c.bring_data.ensures.len c.bring_data.ensures.areas (c.bring_data.ensures.outside x p object code at mx a present) m t runs home words w
-    (refused x p object code at mx a present (readable x plan s o)))) c.bring_data.ensures.refused
-
-pub returns-in-Array-clause-no_core : goal.returns-in-Array-clause-no_core
-returns-in-Array-clause-no_core g c = λ x plan s m t words need size o h runs wanted.
-    let told = g.B.Backing.holds c.args.backing.now in
-    let k = c.args.machine.now in
-    let home = c.in-Array.original in
-    let w = wanted_array x plan m t c.args.absent words home c.in-Array.is wanted in
-    let (at, present) = code_present x told k plan s m t o h runs c.from-in-Array.result c.from-in-Array.ensures w.code in
-    let a = array_absent x told k plan s m t o h runs home words w in
-    let object = array_object plan m.constants.number w.array in
-    let code = (code_found plan s m t o runs).object in
-    exactly (length k.cpu.core) need size (need_both x code object) (need_with s m t 0 words) (need_array x told k plan s m t o h runs home words w)
-    (c.bring_data.ensures.no_core x (machine_view plan s.jobs) object code at need size (pictured x told k plan s h) a present)
-
-pub returns-in-Array-clause-full : goal.returns-in-Array-clause-full
-returns-in-Array-clause-full g c = λ x plan s m t words wants free o h runs wanted e.
-    let told = g.B.Backing.holds c.args.backing.now in
-    let k = c.args.machine.now in
-    let new = c.bring_data.new in
-    let home = c.in-Array.original in
-    let w = wanted_array x plan m t c.args.absent words home c.in-Array.is wanted in
-    let (at, present) = code_present x told k plan s m t o h runs c.from-in-Array.result c.from-in-Array.ensures w.code in
-    let a = array_absent x told k plan s m t o h runs home words w in
-    let object = array_object plan m.constants.number w.array in
-    let code = (code_found plan s m t o runs).object in
-    let p = machine_view plan s.jobs in
-    let mx = pictured x told k plan s h in
-    let now = g.B.Backing.holds new.backing in
-    let (none, waits, short) = c.bring_data.ensures.full x p object code at wants free mx a present e in (
-      short_full waits.storage new.cpu new.areas new.sectors now plan s wants free (g.B.Backing.size c.args.backing.now) waits.stands short (c.requires.same ∙ sym c.bring_data.ensures.count),
-      λ room. none (room_array x m t c.args.absent words home (length w.array.numbers) c.in-Array.is w.words_are room),
-      full_as x now (machine_of new.cpu new.areas new.sectors k.tasks) plan s m t c.args.absent (what.Array home) wants free c.in-Array.is
-          (refused_full x told now k plan s o h new.cpu new.areas new.sectors c.bring_data.ensures.rest c.bring_data.ensures.len c.bring_data.ensures.areas (c.bring_data.ensures.outside x p object code at mx a present) m t (what.Array home) at
-          waits (λ y sheds. array_lacks x y plan m t home words at w sheds) wants free short),
-    )
-
-pub returns-in-Array-clause-hole : goal.returns-in-Array-clause-hole
-returns-in-Array-clause-hole g c = λ x plan s m t words o h runs wanted room.
-    let told = g.B.Backing.holds c.args.backing.now in
-    let k = c.args.machine.now in
-    let new = c.bring_data.new in
-    let home = c.in-Array.original in
-    let w = wanted_array x plan m t c.args.absent words home c.in-Array.is wanted in
-    let (at, present) = code_present x told k plan s m t o h runs c.from-in-Array.result c.from-in-Array.ensures w.code in
-    let p = machine_view plan s.jobs in
-    let mx = pictured x told k plan s h in
-    let a = array_absent x told k plan s m t o h runs home words w in
-    let object = array_object plan m.constants.number w.array in
-    let code = (code_found plan s m t o runs).object in
-    let now = g.B.Backing.holds new.backing in
-    let (table, device, ok, err) = c.bring_data.ensures.hole x p object mx a (room_array x m t c.args.absent words home (length w.array.numbers) c.in-Array.is w.words_are room) in (
-      table,
-      device,
-      stays_in x told now k plan s o h new.cpu new.areas new.sectors c.bring_data.ensures.rest c.bring_data.ensures.len c.bring_data.ensures.areas (c.bring_data.ensures.outside x p object code at mx a present) home object a c.bring_data.result ok err,
-    )
-
-pub returns-in-Array-clause-zeros : goal.returns-in-Array-clause-zeros
-returns-in-Array-clause-zeros g c = λ x plan s m t words o h runs wanted room untouched.
-    let told = g.B.Backing.holds c.args.backing.now in
-    let k = c.args.machine.now in
-    let home = c.in-Array.original in
-    let w = wanted_array x plan m t c.args.absent words home c.in-Array.is wanted in
-    let (at, present) = code_present x told k plan s m t o h runs c.from-in-Array.result c.from-in-Array.ensures w.code in
-    let a = array_absent x told k plan s m t o h runs home words w in
-    c.bring_data.ensures.zeros x (machine_view plan s.jobs) (array_object plan m.constants.number w.array) (code_found plan s m t o runs).object at (pictured x told k plan s h) a present
-    (room_array x m t c.args.absent words home (length w.array.numbers) c.in-Array.is w.words_are room) (untouched_array x c.args.absent home c.in-Array.is untouched)
+    let keeps = c.bring_data.ensures.keeps in
+    let row = c.bring_data.ensures.row x p object code at mx a present in
+    let need_is = needed_is x told k plan s m t o h runs words c.words_of-words.result c.need-needed.result (c.words_of-words.ensures.words x told plan s m t words o h runs wanted) (c.need-needed.ensures x x.device plan s m t o h.stands runs) in
+    record {
+      came = on_ok_weaker c.bring_data.result
+          (λ both. brings_as x now (machine_of new.cpu new.areas new.sectors k.tasks) plan s m t c.args.absent (what.Array home) c.in-Array.is
+          (brings_array x told now k plan s o h new.cpu new.areas new.sectors keeps.rest keeps.len keeps.areas row.outside m t runs home words w (both (readable x plan s o))))
+          row.both;
+      refused = on_err_weaker c.bring_data.result
+          (λ refused. refused_as x now (machine_of new.cpu new.areas new.sectors k.tasks) plan s m t c.args.absent (what.Array home) c.in-Array.is
+          (refused_array x told now k plan s o h new.cpu new.areas new.sectors keeps.rest keeps.len keeps.areas row.outside m t runs home words w (refused (readable x plan s o))))
+          row.refused;
+      hole = λ room.
+          let hole = c.bring_data.ensures.hole x p object mx a (room_array x m t c.args.absent words home (length w.array.numbers) c.in-Array.is w.words_are room) in
+          (hole.sectors, hole.device, stays_in x told now k plan s o h new.cpu new.areas new.sectors keeps.rest keeps.len keeps.areas row.outside home object a c.bring_data.result hole.read hole.stays);
+      zeros = λ room untouched. row.zeros (room_array x m t c.args.absent words home (length w.array.numbers) c.in-Array.is w.words_are room) (untouched_array x c.args.absent home c.in-Array.is untouched);
+      no_core = λ need size. (
+        λ e. absurd (c.bring_data.ensures.no_core need size e),
+        λ q. absurd (fits_not c.need-needed.result c.size-core.result (length k.cpu.core) (need_with s m t 0 words) (omega (arith, c.if-needed-core.false)) c.size-core.ensures.value need_is q.0),
+      );
+      full = λ wants free e.
+          let (none, waits, short) = row.full wants free e in (
+            short_full waits.storage new.cpu new.areas new.sectors now plan s wants free (g.B.Backing.size c.args.backing.now) waits.stands short (c.requires.same ∙ sym keeps.count),
+            λ room. none (room_array x m t c.args.absent words home (length w.array.numbers) c.in-Array.is w.words_are room),
+            full_as x now (machine_of new.cpu new.areas new.sectors k.tasks) plan s m t c.args.absent (what.Array home) wants free c.in-Array.is
+                (refused_full x told now k plan s o h new.cpu new.areas new.sectors keeps.rest keeps.len keeps.areas row.outside m t (what.Array home) at waits (λ y sheds. array_lacks x y plan m t home words at w sheds) wants free short),
+          );
+    }

@@ -11,31 +11,31 @@ use Rattle.b67_presence_page.proofs.bringing.force_code.Goals as goal
 pub page_in_room-requires-clause-machine : goal.page_in_room-requires-clause-machine
 page_in_room-requires-clause-machine g c =
     let (x, p, t, m, a, fits) = c.requires.machine in
-    let (w, alone) = c.make_way.ensures.clear (c.in-Ok-false.is ∙ ap Ok c.in-Ok-false.field-0-test) x p t m a in
+    let (w, alone) = (c.make_way.ensures.row x p t m a).clear (c.in-Ok-false.is ∙ ap Ok c.in-Ok-false.field-0-test) in
     let y = w.storage in
     let ay = absent_after x y p c.args.code 0 t w.sheds a in
-    (y, p, t, w.stands, ay, room_alone y c.make_way.new.cpu c.make_way.new.areas c.make_way.new.sectors (g.B.Backing.holds c.make_way.new.backing) p (length t.numbers) w.stands alone (omega (arith, w.sheds.low, c.make_way.ensures.len)))
+    (y, p, t, w.stands, ay, room_alone y c.make_way.new.cpu c.make_way.new.areas c.make_way.new.sectors (g.B.Backing.holds c.make_way.new.backing) p (length t.numbers) w.stands alone (omega (arith, w.sheds.low, c.make_way.ensures.keeps.len)))
 
 pub returns-in-Ok-true-clause-came : goal.returns-in-Ok-true-clause-came
-returns-in-Ok-true-clause-came g c = λ x p t m a r. c.make_way.ensures.came (c.in-Ok-true.is ∙ ap Ok c.in-Ok-true.field-0-test) x p t m a r
+returns-in-Ok-true-clause-came g c = λ x p t m a r. (c.make_way.ensures.row x p t m a).came (c.in-Ok-true.is ∙ ap Ok c.in-Ok-true.field-0-test) r
 
 pub returns-in-Ok-false-clause-outside : goal.returns-in-Ok-false-clause-outside
 returns-in-Ok-false-clause-outside g c = λ x p t m a.
-    let (w, alone) = c.make_way.ensures.clear (c.in-Ok-false.is ∙ ap Ok c.in-Ok-false.field-0-test) x p t m a in
+    let (w, alone) = (c.make_way.ensures.row x p t m a).clear (c.in-Ok-false.is ∙ ap Ok c.in-Ok-false.field-0-test) in
     let y = w.storage in
     let ay = absent_after x y p c.args.code 0 t w.sheds a in
-    Stayed-then p c.args.cpu.now.core c.make_way.new.cpu.core c.page_in_room.new.cpu.core (c.make_way.ensures.outside x p t m a) (c.page_in_room.ensures.outside y p t w.stands ay)
+    Stayed-then p c.args.cpu.now.core c.make_way.new.cpu.core c.page_in_room.new.cpu.core ((c.make_way.ensures.row x p t m a).outside) (c.page_in_room.ensures.outside y p t w.stands ay)
 
 pub returns-in-Ok-false-clause-came : goal.returns-in-Ok-false-clause-came
 returns-in-Ok-false-clause-came g c = on_ok_weaker c.page_in_room.result (λ came x p t m a r.
-    let (w, alone) = c.make_way.ensures.clear (c.in-Ok-false.is ∙ ap Ok c.in-Ok-false.field-0-test) x p t m a in
+    let (w, alone) = (c.make_way.ensures.row x p t m a).clear (c.in-Ok-false.is ∙ ap Ok c.in-Ok-false.field-0-test) in
     let y = w.storage in
     let ay = absent_after x y p c.args.code 0 t w.sheds a in
     came_of x y p t 0 c.page_in_room.new.cpu c.page_in_room.new.areas c.make_way.new.sectors (g.B.Backing.holds c.page_in_room.new.backing) w.sheds (came y p t w.stands ay (readable_after x y p 0 w.sheds r))) c.page_in_room.ensures.came
 
 pub returns-in-Ok-false-clause-refused : goal.returns-in-Ok-false-clause-refused
 returns-in-Ok-false-clause-refused g c = on_err_weaker c.page_in_room.result (λ refused x p t m a.
-    let (w, alone) = c.make_way.ensures.clear (c.in-Ok-false.is ∙ ap Ok c.in-Ok-false.field-0-test) x p t m a in
+    let (w, alone) = (c.make_way.ensures.row x p t m a).clear (c.in-Ok-false.is ∙ ap Ok c.in-Ok-false.field-0-test) in
     let y = w.storage in
     let ay = absent_after x y p c.args.code 0 t w.sheds a in
     record { storage = y; sheds = w.sheds; stands = refused y p t w.stands ay }) c.page_in_room.ensures.refused
@@ -45,7 +45,16 @@ returns-in-Ok-false-clause-device g c =
     Served-then g.B.Backing.holds g.B.Backing.size g.B.Backing.calls g.B.Backing.faults c.args.backing.now c.make_way.new.backing c.page_in_room.new.backing c.make_way.ensures.device c.page_in_room.ensures.device
 
 pub returns-in-Err-clause-full : goal.returns-in-Err-clause-full
-returns-in-Err-clause-full g c = λ x p t wants free m a e. c.in-Err.ensures.full x p t wants free m a (let z : ◌≡◌ {A = Result Bool SpaceFault} (Err c.in-Err.fault) (Err (BackingFull wants free)) = cc in z)
+returns-in-Err-clause-full g c = λ x p t wants free m a e. (c.in-Err.ensures.row x p t m a).full wants free (let z : ◌≡◌ {A = Result Bool SpaceFault} (Err c.in-Err.fault) (Err (BackingFull wants free)) = cc in z)
 
 pub returns-in-Ok-false-clause-full : goal.returns-in-Ok-false-clause-full
 returns-in-Ok-false-clause-full g c = λ x p t wants free m a e. absurd (c.page_in_room.ensures.not_full wants free e)
+
+pub returns-in-Ok-true-clause-outside : goal.returns-in-Ok-true-clause-outside
+returns-in-Ok-true-clause-outside g c = λ x p t m a. (c.make_way.ensures.row x p t m a).outside
+
+pub returns-in-Err-clause-outside : goal.returns-in-Err-clause-outside
+returns-in-Err-clause-outside g c = λ x p t m a. (c.make_way.ensures.row x p t m a).outside
+
+pub returns-in-Err-clause-refused : goal.returns-in-Err-clause-refused
+returns-in-Err-clause-refused g c = λ x p t m a. (c.in-Err.ensures.row x p t m a).refused

@@ -11,35 +11,35 @@ use Rattle.b67_presence_page.proofs.bringing.force_data.Goals as goal
 pub last_resort-requires-clause-machine : goal.last_resort-requires-clause-machine
 last_resort-requires-clause-machine g c =
     let (x, p, t, d, m, a, k, fits) = c.requires.machine in
-    let (w, alone) = c.make_way.ensures.clear (c.in-Ok-false.is ∙ ap Ok c.in-Ok-false.field-0-test) x p t m a in
+    let (w, alone) = (c.make_way.ensures.row x p t m a).clear (c.in-Ok-false.is ∙ ap Ok c.in-Ok-false.field-0-test) in
     let y = w.storage in
     let ay = absent_after x y p c.args.home c.args.spare t w.sheds a in
     let ky = code_after x y p c.args.code c.args.spare d w.sheds k in
-    (y, p, t, d, w.stands, ay, ky, alone, omega (arith, w.sheds.low, c.make_way.ensures.len))
+    (y, p, t, d, w.stands, ay, ky, alone, omega (arith, w.sheds.low, c.make_way.ensures.keeps.len))
 
 pub returns-in-Ok-true-clause-outside : goal.returns-in-Ok-true-clause-outside
-returns-in-Ok-true-clause-outside g c = λ x p t d m a k. c.make_way.ensures.outside x p t m a
+returns-in-Ok-true-clause-outside g c = λ x p t d m a k. (c.make_way.ensures.row x p t m a).outside
 
 pub returns-in-Err-clause-outside : goal.returns-in-Err-clause-outside
-returns-in-Err-clause-outside g c = λ x p t d m a k. c.make_way.ensures.outside x p t m a
+returns-in-Err-clause-outside g c = λ x p t d m a k. (c.make_way.ensures.row x p t m a).outside
 
 pub returns-in-Ok-true-clause-both : goal.returns-in-Ok-true-clause-both
-returns-in-Ok-true-clause-both g c = λ x p t d m a k r. both_came x c.args.cpu.now c.args.areas.now c.args.sectors.now (g.B.Backing.holds c.args.backing.now) p c.args.home c.args.code c.args.spare t d m a k c.make_way.new.cpu c.make_way.new.areas c.make_way.new.sectors (g.B.Backing.holds c.make_way.new.backing) (c.make_way.ensures.came (c.in-Ok-true.is ∙ ap Ok c.in-Ok-true.field-0-test) x p t m a r)
+returns-in-Ok-true-clause-both g c = λ x p t d m a k r. both_came x c.args.cpu.now c.args.areas.now c.args.sectors.now (g.B.Backing.holds c.args.backing.now) p c.args.home c.args.code c.args.spare t d m a k c.make_way.new.cpu c.make_way.new.areas c.make_way.new.sectors (g.B.Backing.holds c.make_way.new.backing) ((c.make_way.ensures.row x p t m a).came (c.in-Ok-true.is ∙ ap Ok c.in-Ok-true.field-0-test) r)
 
 pub returns-in-Err-clause-refused : goal.returns-in-Err-clause-refused
-returns-in-Err-clause-refused g c = λ x p t d m a k r. may_wait x p c.args.home c.args.spare t d a c.make_way.new.cpu c.make_way.new.areas c.make_way.new.sectors (g.B.Backing.holds c.make_way.new.backing) (c.in-Err.ensures.refused x p t m a)
+returns-in-Err-clause-refused g c = λ x p t d m a k r. may_wait x p c.args.home c.args.spare t d a c.make_way.new.cpu c.make_way.new.areas c.make_way.new.sectors (g.B.Backing.holds c.make_way.new.backing) ((c.in-Err.ensures.row x p t m a).refused)
 
 pub returns-in-Ok-false-clause-outside : goal.returns-in-Ok-false-clause-outside
 returns-in-Ok-false-clause-outside g c = λ x p t d m a k.
-    let (w, alone) = c.make_way.ensures.clear (c.in-Ok-false.is ∙ ap Ok c.in-Ok-false.field-0-test) x p t m a in
+    let (w, alone) = (c.make_way.ensures.row x p t m a).clear (c.in-Ok-false.is ∙ ap Ok c.in-Ok-false.field-0-test) in
     let y = w.storage in
     let ay = absent_after x y p c.args.home c.args.spare t w.sheds a in
     let ky = code_after x y p c.args.code c.args.spare d w.sheds k in
-    Stayed-then p c.args.cpu.now.core c.make_way.new.cpu.core c.last_resort.new.cpu.core (c.make_way.ensures.outside x p t m a) (c.last_resort.ensures.outside y p t d w.stands ay ky alone)
+    Stayed-then p c.args.cpu.now.core c.make_way.new.cpu.core c.last_resort.new.cpu.core ((c.make_way.ensures.row x p t m a).outside) (c.last_resort.ensures.outside y p t d w.stands ay ky alone)
 
 pub returns-in-Ok-false-clause-both : goal.returns-in-Ok-false-clause-both
 returns-in-Ok-false-clause-both g c = on_ok_weaker c.last_resort.result (λ both x p t d m a k r.
-    let (w, alone) = c.make_way.ensures.clear (c.in-Ok-false.is ∙ ap Ok c.in-Ok-false.field-0-test) x p t m a in
+    let (w, alone) = (c.make_way.ensures.row x p t m a).clear (c.in-Ok-false.is ∙ ap Ok c.in-Ok-false.field-0-test) in
     let y = w.storage in
     let ay = absent_after x y p c.args.home c.args.spare t w.sheds a in
     let ky = code_after x y p c.args.code c.args.spare d w.sheds k in
@@ -47,7 +47,7 @@ returns-in-Ok-false-clause-both g c = on_ok_weaker c.last_resort.result (λ both
 
 pub returns-in-Ok-false-clause-refused : goal.returns-in-Ok-false-clause-refused
 returns-in-Ok-false-clause-refused g c = on_err_weaker c.last_resort.result (λ waits x p t d m a k r.
-    let (w, alone) = c.make_way.ensures.clear (c.in-Ok-false.is ∙ ap Ok c.in-Ok-false.field-0-test) x p t m a in
+    let (w, alone) = (c.make_way.ensures.row x p t m a).clear (c.in-Ok-false.is ∙ ap Ok c.in-Ok-false.field-0-test) in
     let y = w.storage in
     let ay = absent_after x y p c.args.home c.args.spare t w.sheds a in
     let ky = code_after x y p c.args.code c.args.spare d w.sheds k in
@@ -58,4 +58,4 @@ returns-in-Ok-false-clause-device g c =
     Served-then g.B.Backing.holds g.B.Backing.size g.B.Backing.calls g.B.Backing.faults c.args.backing.now c.make_way.new.backing c.last_resort.new.backing c.make_way.ensures.device c.last_resort.ensures.device
 
 pub returns-in-Err-clause-full : goal.returns-in-Err-clause-full
-returns-in-Err-clause-full g c = λ x p t wants free m a e. c.in-Err.ensures.full x p t wants free m a (let z : ◌≡◌ {A = Result Bool SpaceFault} (Err c.in-Err.fault) (Err (BackingFull wants free)) = cc in z)
+returns-in-Err-clause-full g c = λ x p t wants free m a e. (c.in-Err.ensures.row x p t m a).full wants free (let z : ◌≡◌ {A = Result Bool SpaceFault} (Err c.in-Err.fault) (Err (BackingFull wants free)) = cc in z)

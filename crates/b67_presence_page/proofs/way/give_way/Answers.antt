@@ -21,7 +21,7 @@ page_in-requires-clause-machine g c =
     let n = c.if-at-spare.false in
     let tells : (all : List (List ℕ)) → g.B.Backing.holds c.args.backing.now ≡ Some all → g.B.Backing.holds c.overlay.new.backing ≢ None = λ all e n. let (q, i) = still_tells g.B.Backing.holds g.B.Backing.size g.B.Backing.calls g.B.Backing.faults c.args.backing.now c.overlay.new.backing c.overlay.ensures.device all e in none-some q (sym n ∙ i) in
     let y : Storage = overlaid x u c.args.at (g.B.Backing.holds c.overlay.new.backing) in
-    let my = c.in-Ok.ensures.stands x p u m pr in
+    let my = (c.in-Ok.ensures.row x p u m pr).stands in
     let sh : AreasEvicted x y spare = AreasEvicted-overlaid x (g.B.Backing.holds c.args.backing.now) (g.B.Backing.holds c.overlay.new.backing) m.device tells u c.args.at spare pr.present n in
     let ay = absent_after x y p c.args.home spare t sh a in
     (y, p, t, my, ay)
@@ -32,7 +32,7 @@ returns-in-Err-clause-refused g c = λ x p t u m a pr.
     let n = c.if-at-spare.false in
     let tells : (all : List (List ℕ)) → g.B.Backing.holds c.args.backing.now ≡ Some all → g.B.Backing.holds c.overlay.new.backing ≢ None = λ all e n. let (q, i) = still_tells g.B.Backing.holds g.B.Backing.size g.B.Backing.calls g.B.Backing.faults c.args.backing.now c.overlay.new.backing c.overlay.ensures.device all e in none-some q (sym n ∙ i) in
     let sh = AreasEvicted-retelling x (g.B.Backing.holds c.args.backing.now) (g.B.Backing.holds c.overlay.new.backing) m.device tells spare in
-    let w : Waits x p spare c.overlay.new.cpu c.overlay.new.areas c.overlay.new.sectors (g.B.Backing.holds c.overlay.new.backing) = record { storage = retelling x (g.B.Backing.holds c.overlay.new.backing); sheds = sh; stands = c.in-Err.ensures.refused x p u m pr } in
+    let w : Waits x p spare c.overlay.new.cpu c.overlay.new.areas c.overlay.new.sectors (g.B.Backing.holds c.overlay.new.backing) = record { storage = retelling x (g.B.Backing.holds c.overlay.new.backing); sheds = sh; stands = (c.in-Err.ensures.row x p u m pr).refused } in
     w
 
 pub returns-in-Err-clause-full : goal.returns-in-Err-clause-full
@@ -41,8 +41,8 @@ returns-in-Err-clause-full g c = λ x p t u wants free m a pr e.
     let n = c.if-at-spare.false in
     let tells : (all : List (List ℕ)) → g.B.Backing.holds c.args.backing.now ≡ Some all → g.B.Backing.holds c.overlay.new.backing ≢ None = λ all e n. let (q, i) = still_tells g.B.Backing.holds g.B.Backing.size g.B.Backing.calls g.B.Backing.faults c.args.backing.now c.overlay.new.backing c.overlay.ensures.device all e in none-some q (sym n ∙ i) in
     let sh = AreasEvicted-retelling x (g.B.Backing.holds c.args.backing.now) (g.B.Backing.holds c.overlay.new.backing) m.device tells spare in
-    let w : Waits x p spare c.overlay.new.cpu c.overlay.new.areas c.overlay.new.sectors (g.B.Backing.holds c.overlay.new.backing) = record { storage = retelling x (g.B.Backing.holds c.overlay.new.backing); sheds = sh; stands = c.in-Err.ensures.refused x p u m pr } in
-    (w, short_by x p u c.args.at wants free (g.B.Backing.holds c.overlay.new.backing) pr ((c.in-Err.ensures.full x p u wants free m pr).0 (let z : ◌≡◌ {A = Result (Unit {0}) SpaceFault} (Err c.in-Err.fault) (Err (BackingFull wants free)) = cc in z)))
+    let w : Waits x p spare c.overlay.new.cpu c.overlay.new.areas c.overlay.new.sectors (g.B.Backing.holds c.overlay.new.backing) = record { storage = retelling x (g.B.Backing.holds c.overlay.new.backing); sheds = sh; stands = (c.in-Err.ensures.row x p u m pr).refused } in
+    (w, short_by x p u c.args.at wants free (g.B.Backing.holds c.overlay.new.backing) pr (((c.in-Err.ensures.row x p u m pr).full wants free).0 (let z : ◌≡◌ {A = Result (Unit {0}) SpaceFault} (Err c.in-Err.fault) (Err (BackingFull wants free)) = cc in z)))
 
 pub returns-in-Ok-page_in-clause-came : goal.returns-in-Ok-page_in-clause-came
 returns-in-Ok-page_in-clause-came g c = λ _ x p t u m a pr readable.
@@ -50,12 +50,12 @@ returns-in-Ok-page_in-clause-came g c = λ _ x p t u m a pr readable.
     let n = c.if-at-spare.false in
     let tells : (all : List (List ℕ)) → g.B.Backing.holds c.args.backing.now ≡ Some all → g.B.Backing.holds c.overlay.new.backing ≢ None = λ all e n. let (q, i) = still_tells g.B.Backing.holds g.B.Backing.size g.B.Backing.calls g.B.Backing.faults c.args.backing.now c.overlay.new.backing c.overlay.ensures.device all e in none-some q (sym n ∙ i) in
     let y : Storage = overlaid x u c.args.at (g.B.Backing.holds c.overlay.new.backing) in
-    let my = c.in-Ok.ensures.stands x p u m pr in
+    let my = (c.in-Ok.ensures.row x p u m pr).stands in
     let sh : AreasEvicted x y spare = AreasEvicted-overlaid x (g.B.Backing.holds c.args.backing.now) (g.B.Backing.holds c.overlay.new.backing) m.device tells u c.args.at spare pr.present n in
     let ay = absent_after x y p c.args.home spare t sh a in
     came_of x y p t spare c.page_in.new.cpu c.page_in.new.areas c.overlay.new.sectors (g.B.Backing.holds c.page_in.new.backing) sh
     (read_in y c.overlay.new.cpu.core c.overlay.new.cpu.regs p c.args.home t c.page_in.new.cpu c.page_in.new.areas c.overlay.new.sectors (g.B.Backing.holds c.page_in.new.backing) my.stands ay (readable_after x y p spare sh readable)
-    (λ k. c.in-Ok-page_in.ensures.known y p t my ay k) (λ k. c.in-Ok-page_in.ensures.untold y p t my ay k))
+    (λ k. (c.in-Ok-page_in.ensures.row y p t my ay).known k) (λ k. (c.in-Ok-page_in.ensures.row y p t my ay).untold k))
 
 pub returns-in-Err-NoHole-clause-gone : goal.returns-in-Err-NoHole-clause-gone
 returns-in-Err-NoHole-clause-gone g c = λ _ x p t u m a pr.
@@ -63,11 +63,11 @@ returns-in-Err-NoHole-clause-gone g c = λ _ x p t u m a pr.
     let n = c.if-at-spare.false in
     let tells : (all : List (List ℕ)) → g.B.Backing.holds c.args.backing.now ≡ Some all → g.B.Backing.holds c.overlay.new.backing ≢ None = λ all e n. let (q, i) = still_tells g.B.Backing.holds g.B.Backing.size g.B.Backing.calls g.B.Backing.faults c.args.backing.now c.overlay.new.backing c.overlay.ensures.device all e in none-some q (sym n ∙ i) in
     let y : Storage = overlaid x u c.args.at (g.B.Backing.holds c.overlay.new.backing) in
-    let my = c.in-Ok.ensures.stands x p u m pr in
+    let my = (c.in-Ok.ensures.row x p u m pr).stands in
     let sh : AreasEvicted x y spare = AreasEvicted-overlaid x (g.B.Backing.holds c.args.backing.now) (g.B.Backing.holds c.overlay.new.backing) m.device tells u c.args.at spare pr.present n in
     let ay = absent_after x y p c.args.home spare t sh a in
     let P : Option (List (List ℕ)) → Type 0 = λ d. MachineRepresentsView (overlaid x u c.args.at d) c.page_in.new.cpu c.page_in.new.areas c.overlay.new.sectors (g.B.Backing.holds c.page_in.new.backing) p in
-    (λ e. absurd (n e), λ _. subst P (ap g.B.Backing.holds (sym (c.page_in.ensures.unchanged (let z : c.page_in.result ≡ Err NoHole = cc in z)).1)) (c.in-Err-NoHole.ensures.refused y p t my ay))
+    (λ e. absurd (n e), λ _. subst P (ap g.B.Backing.holds (sym (c.page_in.ensures.unchanged (let z : c.page_in.result ≡ Err NoHole = cc in z)).1)) ((c.in-Err-NoHole.ensures.row y p t my ay).refused))
 
 pub returns-in-Err-BackingFault-clause-refused : goal.returns-in-Err-BackingFault-clause-refused
 returns-in-Err-BackingFault-clause-refused g c = λ x p t u m a pr.
@@ -75,13 +75,13 @@ returns-in-Err-BackingFault-clause-refused g c = λ x p t u m a pr.
     let n = c.if-at-spare.false in
     let tells : (all : List (List ℕ)) → g.B.Backing.holds c.args.backing.now ≡ Some all → g.B.Backing.holds c.overlay.new.backing ≢ None = λ all e n. let (q, i) = still_tells g.B.Backing.holds g.B.Backing.size g.B.Backing.calls g.B.Backing.faults c.args.backing.now c.overlay.new.backing c.overlay.ensures.device all e in none-some q (sym n ∙ i) in
     let y : Storage = overlaid x u c.args.at (g.B.Backing.holds c.overlay.new.backing) in
-    let my = c.in-Ok.ensures.stands x p u m pr in
+    let my = (c.in-Ok.ensures.row x p u m pr).stands in
     let sh : AreasEvicted x y spare = AreasEvicted-overlaid x (g.B.Backing.holds c.args.backing.now) (g.B.Backing.holds c.overlay.new.backing) m.device tells u c.args.at spare pr.present n in
     let ay = absent_after x y p c.args.home spare t sh a in
-    record { storage = y; sheds = sh; stands = c.in-Err-BackingFault.ensures.refused y p t my ay }
+    record { storage = y; sheds = sh; stands = (c.in-Err-BackingFault.ensures.row y p t my ay).refused }
 
 pub returns-in-Err-clause-outside : goal.returns-in-Err-clause-outside
-returns-in-Err-clause-outside g c = λ x p t u m a pr. c.overlay.ensures.outside x p u m pr
+returns-in-Err-clause-outside g c = λ x p t u m a pr. (c.overlay.ensures.row x p u m pr).outside
 
 pub returns-in-Ok-page_in-clause-outside : goal.returns-in-Ok-page_in-clause-outside
 returns-in-Ok-page_in-clause-outside g c = λ x p t u m a pr.
@@ -89,10 +89,10 @@ returns-in-Ok-page_in-clause-outside g c = λ x p t u m a pr.
     let n = c.if-at-spare.false in
     let tells : (all : List (List ℕ)) → g.B.Backing.holds c.args.backing.now ≡ Some all → g.B.Backing.holds c.overlay.new.backing ≢ None = λ all e n. let (q, i) = still_tells g.B.Backing.holds g.B.Backing.size g.B.Backing.calls g.B.Backing.faults c.args.backing.now c.overlay.new.backing c.overlay.ensures.device all e in none-some q (sym n ∙ i) in
     let y : Storage = overlaid x u c.args.at (g.B.Backing.holds c.overlay.new.backing) in
-    let my = c.in-Ok.ensures.stands x p u m pr in
+    let my = (c.in-Ok.ensures.row x p u m pr).stands in
     let sh : AreasEvicted x y spare = AreasEvicted-overlaid x (g.B.Backing.holds c.args.backing.now) (g.B.Backing.holds c.overlay.new.backing) m.device tells u c.args.at spare pr.present n in
     let ay = absent_after x y p c.args.home spare t sh a in
-    Stayed-then p c.args.cpu.now.core c.overlay.new.cpu.core c.page_in.new.cpu.core (c.overlay.ensures.outside x p u m pr) (c.page_in.ensures.outside y p t my ay)
+    Stayed-then p c.args.cpu.now.core c.overlay.new.cpu.core c.page_in.new.cpu.core ((c.overlay.ensures.row x p u m pr).outside) ((c.page_in.ensures.row y p t my ay).outside)
 
 pub returns-in-Err-NoHole-clause-outside : goal.returns-in-Err-NoHole-clause-outside
 returns-in-Err-NoHole-clause-outside g c = λ x p t u m a pr.
@@ -100,10 +100,10 @@ returns-in-Err-NoHole-clause-outside g c = λ x p t u m a pr.
     let n = c.if-at-spare.false in
     let tells : (all : List (List ℕ)) → g.B.Backing.holds c.args.backing.now ≡ Some all → g.B.Backing.holds c.overlay.new.backing ≢ None = λ all e n. let (q, i) = still_tells g.B.Backing.holds g.B.Backing.size g.B.Backing.calls g.B.Backing.faults c.args.backing.now c.overlay.new.backing c.overlay.ensures.device all e in none-some q (sym n ∙ i) in
     let y : Storage = overlaid x u c.args.at (g.B.Backing.holds c.overlay.new.backing) in
-    let my = c.in-Ok.ensures.stands x p u m pr in
+    let my = (c.in-Ok.ensures.row x p u m pr).stands in
     let sh : AreasEvicted x y spare = AreasEvicted-overlaid x (g.B.Backing.holds c.args.backing.now) (g.B.Backing.holds c.overlay.new.backing) m.device tells u c.args.at spare pr.present n in
     let ay = absent_after x y p c.args.home spare t sh a in
-    Stayed-then p c.args.cpu.now.core c.overlay.new.cpu.core c.page_in.new.cpu.core (c.overlay.ensures.outside x p u m pr) (c.page_in.ensures.outside y p t my ay)
+    Stayed-then p c.args.cpu.now.core c.overlay.new.cpu.core c.page_in.new.cpu.core ((c.overlay.ensures.row x p u m pr).outside) ((c.page_in.ensures.row y p t my ay).outside)
 
 pub returns-in-Err-BackingFault-clause-outside : goal.returns-in-Err-BackingFault-clause-outside
 returns-in-Err-BackingFault-clause-outside g c = λ x p t u m a pr.
@@ -111,7 +111,7 @@ returns-in-Err-BackingFault-clause-outside g c = λ x p t u m a pr.
     let n = c.if-at-spare.false in
     let tells : (all : List (List ℕ)) → g.B.Backing.holds c.args.backing.now ≡ Some all → g.B.Backing.holds c.overlay.new.backing ≢ None = λ all e n. let (q, i) = still_tells g.B.Backing.holds g.B.Backing.size g.B.Backing.calls g.B.Backing.faults c.args.backing.now c.overlay.new.backing c.overlay.ensures.device all e in none-some q (sym n ∙ i) in
     let y : Storage = overlaid x u c.args.at (g.B.Backing.holds c.overlay.new.backing) in
-    let my = c.in-Ok.ensures.stands x p u m pr in
+    let my = (c.in-Ok.ensures.row x p u m pr).stands in
     let sh : AreasEvicted x y spare = AreasEvicted-overlaid x (g.B.Backing.holds c.args.backing.now) (g.B.Backing.holds c.overlay.new.backing) m.device tells u c.args.at spare pr.present n in
     let ay = absent_after x y p c.args.home spare t sh a in
-    Stayed-then p c.args.cpu.now.core c.overlay.new.cpu.core c.page_in.new.cpu.core (c.overlay.ensures.outside x p u m pr) (c.page_in.ensures.outside y p t my ay)
+    Stayed-then p c.args.cpu.now.core c.overlay.new.cpu.core c.page_in.new.cpu.core ((c.overlay.ensures.row x p u m pr).outside) ((c.page_in.ensures.row y p t my ay).outside)

@@ -3,11 +3,10 @@ use Rattle.std.proofs.lemmas.Option.{none-some}
 use Rattle.std.proofs.lemmas.Bool.{cases_eq}
 use Rattle.b67_backing.specs.declared.SpaceFault.{SpaceFault}
 use Rattle.b67_backing.specs.declared.SpaceFault.TheVariants.{BackingFull}
-use Rattle.b67_stack.specs.declared.Cpu.{Cpu}
 use Rattle.b67_stack.specs.Represents.{Storage}
 use Rattle.b67_layout_storage.specs.Machine.{MachineRepresentsView, Stayed}
 use Rattle.b67_layout_storage.proofs.Below.{Stayed-none, Stayed-then}
-use Rattle.b67_layout_storage.proofs.Devices.{Served-none, Served-then, still_tells}
+use Rattle.b67_layout_storage.proofs.Devices.{Served-none, Served-then, Keeps-none, Keeps-then, still_tells}
 use Rattle.b67_overlay.specs.Overlaid.{overlaid}
 use Rattle.b67_overlay.specs.AreasEvicted.{AreasEvicted, Remains}
 use Rattle.b67_overlay.proofs.Shedding.{AreasEvicted-none, AreasEvicted-then, AreasEvicted-overlaid, directory_here, object_here, after_here, falls_here, gone_here, past_here, first_here}
@@ -17,10 +16,7 @@ use Rattle.b67_presence_page.proofs.way.make_way.Goals as goal
 
 pub areas-init : goal.areas-init
 areas-init g c = record {
-  rest = refl;
-  size = refl;
-  areas = refl;
-  count = refl;
+  keeps = Keeps-none c.args.cpu.now c.args.areas.now c.args.sectors.now;
   device = Served-none g.B.Backing.holds g.B.Backing.size g.B.Backing.calls g.B.Backing.faults c.args.backing.now;
   stands = λ x p t m a. (x, AreasEvicted-none x c.args.spare, first_here x c.args.cpu.now c.args.areas.now c.args.sectors.now (g.B.Backing.holds c.args.backing.now) p c.args.spare c.first-next.result m c.first-next.ensures, m, Stayed-none p c.args.cpu.now.core);
 }
@@ -41,12 +37,49 @@ give_way-requires-clause-machine g c =
     let (u, pr) = object_here y c.areas.cpu c.areas.areas c.areas.sectors (g.B.Backing.holds c.areas.backing) p my c.args.spare c.in-Some.at c.areas.next c.in-Some.is re in
     (y, p, t, u, my, ay, pr)
 
-pub returns-in-Ok-true-clause-came : goal.returns-in-Ok-true-clause-came
-returns-in-Ok-true-clause-came g c = λ _ x p t m a readable.
+pub returns-in-Ok-true-clause-row : goal.returns-in-Ok-true-clause-row
+returns-in-Ok-true-clause-row g c = λ x p t m a.
     let (y, sh, re, my, st) = c.areas.invariant.stands x p t m a in
     let ay = absent_after x y p c.args.home c.args.spare t sh a in
     let (u, pr) = object_here y c.areas.cpu c.areas.areas c.areas.sectors (g.B.Backing.holds c.areas.backing) p my c.args.spare c.in-Some.at c.areas.next c.in-Some.is re in
-    Came-before x y p t c.args.spare c.give_way.new.cpu c.give_way.new.areas c.give_way.new.sectors (g.B.Backing.holds c.give_way.new.backing) sh (c.give_way.ensures.came (c.in-Ok-true.is ∙ ap Ok c.in-Ok-true.field-0-test) y p t u my ay pr (readable_after x y p c.args.spare sh readable))
+    record {
+      outside = Stayed-then p c.args.cpu.now.core c.areas.cpu.core c.give_way.new.cpu.core st (c.give_way.ensures.outside y p t u my ay pr);
+      came = λ _ readable. Came-before x y p t c.args.spare c.give_way.new.cpu c.give_way.new.areas c.give_way.new.sectors (g.B.Backing.holds c.give_way.new.backing) sh (c.give_way.ensures.came (c.in-Ok-true.is ∙ ap Ok c.in-Ok-true.field-0-test) y p t u my ay pr (readable_after x y p c.args.spare sh readable));
+      clear = λ e. absurd (let b : ⊥ = cc in b);
+      refused = tt;
+      full = λ wants free e. absurd (let b : ⊥ = cc in b);
+    }
+
+pub returns-in-Err-clause-row : goal.returns-in-Err-clause-row
+returns-in-Err-clause-row g c = λ x p t m a.
+    let (y, sh, re, my, st) = c.areas.invariant.stands x p t m a in
+    let ay = absent_after x y p c.args.home c.args.spare t sh a in
+    let (u, pr) = object_here y c.areas.cpu c.areas.areas c.areas.sectors (g.B.Backing.holds c.areas.backing) p my c.args.spare c.in-Some.at c.areas.next c.in-Some.is re in
+    record {
+      outside = Stayed-then p c.args.cpu.now.core c.areas.cpu.core c.give_way.new.cpu.core st (c.give_way.ensures.outside y p t u my ay pr);
+      came = λ e. absurd (let b : ⊥ = cc in b);
+      clear = λ e. absurd (let b : ⊥ = cc in b);
+      refused = Waits-before x y p c.args.spare c.give_way.new.cpu c.give_way.new.areas c.give_way.new.sectors (g.B.Backing.holds c.give_way.new.backing) sh (c.in-Err.ensures.refused y p t u my ay pr);
+      full = λ wants free e.
+          let r = c.in-Err.ensures.full y p t u wants free my ay pr (let z : ◌≡◌ {A = Result Bool SpaceFault} (Err c.in-Err.fault) (Err (BackingFull wants free)) = cc in z) in
+          (Waits-before x y p c.args.spare c.give_way.new.cpu c.give_way.new.areas c.give_way.new.sectors (g.B.Backing.holds c.give_way.new.backing) sh r.0, r.1);
+    }
+
+pub returns-clause-row : goal.returns-clause-row
+returns-clause-row g c = λ x p t m a.
+    let (y, sh, re, my, st) = c.areas.invariant.stands x p t m a in
+    let ay = absent_after x y p c.args.home c.args.spare t sh a in
+    record {
+      outside = st;
+      came = λ e. absurd (let b : ⊥ = cc in b);
+      clear = λ _.
+          let P : Option ℕ → Type 0 = λ o. Remains y.low y.spans c.args.spare o in
+          let none : Remains y.low y.spans c.args.spare None = subst P c.in_default.is re in
+          let w : Waits x p c.args.spare c.areas.cpu c.areas.areas c.areas.sectors (g.B.Backing.holds c.areas.backing) = record { storage = y; sheds = sh; stands = my } in
+          (w, none);
+      refused = tt;
+      full = λ wants free e. absurd (let b : ⊥ = cc in b);
+    }
 
 pub areas-smaller : goal.areas-smaller
 areas-smaller g c =
@@ -59,10 +92,7 @@ pub areas-preserved : goal.areas-preserved
 areas-preserved g c =
     let v = c.areas.invariant in
     record {
-      rest = c.give_way.ensures.rest ∙ ap (λ (z : Cpu). let w : Cpu = record z { core = c.give_way.new.cpu.core } in w) v.rest;
-      size = c.give_way.ensures.len ∙ v.size;
-      areas = c.give_way.ensures.areas ∙ v.areas;
-      count = c.give_way.ensures.count ∙ v.count;
+      keeps = Keeps-then c.args.cpu.now c.areas.cpu c.give_way.new.cpu c.args.areas.now c.areas.areas c.give_way.new.areas c.args.sectors.now c.areas.sectors c.give_way.new.sectors v.keeps c.give_way.ensures.keeps;
       device = Served-then g.B.Backing.holds g.B.Backing.size g.B.Backing.calls g.B.Backing.faults c.args.backing.now c.areas.backing c.give_way.new.backing v.device c.give_way.ensures.device;
       stands = λ x p t m a.
           let (y, sh, re, my, st) = c.areas.invariant.stands x p t m a in
@@ -86,47 +116,3 @@ areas-preserved g c =
           ) in done)
           (cases_eq c.in-Some.at c.args.spare);
     }
-
-pub returns-in-Err-clause-refused : goal.returns-in-Err-clause-refused
-returns-in-Err-clause-refused g c = λ x p t m a.
-    let (y, sh, re, my, st) = c.areas.invariant.stands x p t m a in
-    let ay = absent_after x y p c.args.home c.args.spare t sh a in
-    let (u, pr) = object_here y c.areas.cpu c.areas.areas c.areas.sectors (g.B.Backing.holds c.areas.backing) p my c.args.spare c.in-Some.at c.areas.next c.in-Some.is re in
-    Waits-before x y p c.args.spare c.give_way.new.cpu c.give_way.new.areas c.give_way.new.sectors (g.B.Backing.holds c.give_way.new.backing) sh (c.in-Err.ensures.refused y p t u my ay pr)
-
-pub returns-in-Err-clause-full : goal.returns-in-Err-clause-full
-returns-in-Err-clause-full g c = λ x p t wants free m a e.
-    let (y, sh, re, my, st) = c.areas.invariant.stands x p t m a in
-    let ay = absent_after x y p c.args.home c.args.spare t sh a in
-    let (u, pr) = object_here y c.areas.cpu c.areas.areas c.areas.sectors (g.B.Backing.holds c.areas.backing) p my c.args.spare c.in-Some.at c.areas.next c.in-Some.is re in
-    let r = c.in-Err.ensures.full y p t u wants free my ay pr (let z : ◌≡◌ {A = Result Bool SpaceFault} (Err c.in-Err.fault) (Err (BackingFull wants free)) = cc in z) in
-    (Waits-before x y p c.args.spare c.give_way.new.cpu c.give_way.new.areas c.give_way.new.sectors (g.B.Backing.holds c.give_way.new.backing) sh r.0, r.1)
-
-pub returns-clause-clear : goal.returns-clause-clear
-returns-clause-clear g c = λ _ x p t m a.
-    let (y, sh, re, my, st) = c.areas.invariant.stands x p t m a in
-    let ay = absent_after x y p c.args.home c.args.spare t sh a in
-    let P : Option ℕ → Type 0 = λ o. Remains y.low y.spans c.args.spare o in
-    let none : Remains y.low y.spans c.args.spare None = subst P c.in_default.is re in
-    let w : Waits x p c.args.spare c.areas.cpu c.areas.areas c.areas.sectors (g.B.Backing.holds c.areas.backing) = record { storage = y; sheds = sh; stands = my } in
-    (w, none)
-
-pub returns-in-Ok-true-clause-outside : goal.returns-in-Ok-true-clause-outside
-returns-in-Ok-true-clause-outside g c = λ x p t m a.
-    let (y, sh, re, my, st) = c.areas.invariant.stands x p t m a in
-    let ay = absent_after x y p c.args.home c.args.spare t sh a in
-    let (u, pr) = object_here y c.areas.cpu c.areas.areas c.areas.sectors (g.B.Backing.holds c.areas.backing) p my c.args.spare c.in-Some.at c.areas.next c.in-Some.is re in
-    Stayed-then p c.args.cpu.now.core c.areas.cpu.core c.give_way.new.cpu.core st (c.give_way.ensures.outside y p t u my ay pr)
-
-pub returns-in-Err-clause-outside : goal.returns-in-Err-clause-outside
-returns-in-Err-clause-outside g c = λ x p t m a.
-    let (y, sh, re, my, st) = c.areas.invariant.stands x p t m a in
-    let ay = absent_after x y p c.args.home c.args.spare t sh a in
-    let (u, pr) = object_here y c.areas.cpu c.areas.areas c.areas.sectors (g.B.Backing.holds c.areas.backing) p my c.args.spare c.in-Some.at c.areas.next c.in-Some.is re in
-    Stayed-then p c.args.cpu.now.core c.areas.cpu.core c.give_way.new.cpu.core st (c.give_way.ensures.outside y p t u my ay pr)
-
-pub returns-clause-outside : goal.returns-clause-outside
-returns-clause-outside g c = λ x p t m a.
-    let (y, sh, re, my, st) = c.areas.invariant.stands x p t m a in
-    let ay = absent_after x y p c.args.home c.args.spare t sh a in
-    st

@@ -8,7 +8,7 @@ use Rattle.b67_session_attempt.proofs.bringing.bring_wanted.Goals as goal
 pub stopped-requires : goal.stopped-requires
 stopped-requires g c =
     let q = c.requires.wants in
-    let a = (c.in-Err.ensures.refused q.storage q.plan q.session q.member q.task q.words q.ordered q.stands q.running q.wanted).again in
+    let a = (c.in-Err.ensures.row q.storage q.plan q.session q.member q.task q.words q.ordered q.stands q.running q.wanted).refused.again in
     record {
       storage = a.storage;
       told = a.storage.device;
@@ -18,23 +18,28 @@ stopped-requires g c =
       stands = a.stands.stands;
     }
 
+pub returns-in-Ok-clause-row : goal.returns-in-Ok-clause-row
+returns-in-Ok-clause-row g c = λ x plan s m t words o h runs wanted touched. (c.in-Ok.ensures.row x plan s m t words o h runs wanted).came
+
 pub returns-in-Err-clause-row : goal.returns-in-Err-clause-row
 returns-in-Err-clause-row g c = λ x plan s m t words o h runs wanted touched.
     let holds = g.B.Backing.holds in
     let k = c.args.machine.now in
+    let row = c.in-Err.ensures.row x plan s m t words o h runs wanted in
     stopped_so x (holds c.args.backing.now) (holds c.bring.new.backing) k c.bring.new.machine plan s m t (g.B.Backing.size c.args.backing.now) words c.args.wanted o h runs wanted touched
-    (c.in-Err.ensures.refused x plan s m t words o h runs wanted) c.in-Err.fault c.stopped.result c.stopped.ensures
-    (omega (arith, c.requires.same, c.bring.ensures.count))
-    (λ need size e. (c.in-Err.ensures.no_core x plan s m t words need size o h runs wanted).0 (ap Err e))
-    (λ above. let is = (c.in-Err.ensures.no_core x plan s m t words (need_with s m t 0 words) (length k.cpu.core) o h runs wanted).1 (above, refl, refl) in
+    row.refused c.in-Err.fault c.stopped.result c.stopped.ensures
+    (omega (arith, c.requires.same, c.bring.ensures.keeps.count))
+    (λ need size e. (row.no_core need size).0 (ap Err e))
+    (λ above. let is = (row.no_core (need_with s m t 0 words) (length k.cpu.core)).1 (above, refl, refl) in
     let z : c.in-Err.fault ≡ NoCore (need_with s m t 0 words) (length k.cpu.core) = cc in z)
     (λ need size e. let (a, b) = c.in-Err.ensures.unchanged need size (ap Err e) in (a, ap holds b))
-    (λ wants free e. let z = c.in-Err.ensures.full x plan s m t words wants free o h runs wanted (ap Err e) in (z.0, z.2))
+    (λ wants free e. let z = row.full wants free (ap Err e) in (z.0, z.2))
 
 pub returns-in-Err-clause-fits : goal.returns-in-Err-clause-fits
 returns-in-Err-clause-fits g c = λ x plan s m t words o h runs wanted touched.
     let k = c.args.machine.now in
+    let row = c.in-Err.ensures.row x plan s m t words o h runs wanted in
     stopped_fits x (g.B.Backing.holds c.args.backing.now) (g.B.Backing.holds c.bring.new.backing) k c.bring.new.machine plan s m t (g.B.Backing.size c.args.backing.now) words c.args.wanted o h runs wanted touched
     c.in-Err.fault c.stopped.result c.stopped.ensures
-    (λ above. let is = (c.in-Err.ensures.no_core x plan s m t words (need_with s m t 0 words) (length k.cpu.core) o h runs wanted).1 (above, refl, refl) in
+    (λ above. let is = (row.no_core (need_with s m t 0 words) (length k.cpu.core)).1 (above, refl, refl) in
     let z : c.in-Err.fault ≡ NoCore (need_with s m t 0 words) (length k.cpu.core) = cc in z)

@@ -8,7 +8,7 @@ returns-in_err-install-clause-spares g c =
     installing_failed g.B.Backing.holds c.programs.at (map program_of c.args.programs.now) _ _ _ _ _ _
     (programs_step c.args.programs.now c.programs.program-index c.program-item.result c.program-item.is c.programs-test.true)
     c.programs.invariant.installing
-    (record { outside = c.install.ensures.outside; len = c.install.ensures.len; links = c.install.ensures.count; chains = c.install.ensures.chains; others = c.install.ensures.others })
+    c.install.ensures.spares
 
 pub programs-preserved : goal.programs-preserved
 programs-preserved g c = record {
@@ -24,16 +24,16 @@ programs-preserved g c = record {
       (record { core = c.programs.cpu.core; table = c.programs.sectors; device = c.programs.backing })
       (record { core = c.install.new.cpu.core; table = c.install.new.sectors; device = c.install.new.backing })
       c.programs.invariant.installing.known
-      c.in_ok-install.ensures.dictionary c.in_ok-install.ensures.shelf c.in_ok-install.ensures.stocks c.in_ok-install.ensures.left
-      (record { outside = c.install.ensures.outside; len = c.install.ensures.len; links = c.install.ensures.count; chains = c.install.ensures.chains; others = c.install.ensures.others })));
+      c.in_ok-install.ensures.installed c.install.ensures.spares));
   cpu = search rules;
-  size = c.install.ensures.size ∙ c.programs.invariant.size;
-  faults = omega (arith, c.programs.invariant.faults, c.install.ensures.cause.later);
-  calls = omega (arith, c.programs.invariant.calls, c.install.ensures.calls);
+  size = c.install.ensures.device.size ∙ c.programs.invariant.size;
+  faults = omega (arith, c.programs.invariant.faults, c.install.ensures.device.cause.later);
+  calls = omega (arith, c.programs.invariant.calls, c.install.ensures.device.calls);
 }
 
-pub returns-clause-writes : goal.returns-clause-writes
-returns-clause-writes g c =
-    (installing_all g.B.Backing.holds c.programs.at (map program_of c.args.programs.now) _ _ _
+pub returns-clause-installed : goal.returns-clause-installed
+returns-clause-installed g c =
+    let (_, heads, writes) = installing_all g.B.Backing.holds c.programs.at (map program_of c.args.programs.now) _ _ _
     (programs_end c.args.programs.now c.programs.program-index c.programs-test.false)
-    c.programs.invariant.installing).2
+    c.programs.invariant.installing in
+    record { heads = heads; writes = writes }

@@ -24,9 +24,12 @@ returns-then-sum-count-clause-opens g c =
     let sum : c.opening_sectors-sum.result ≡ sectors_of_all c.args.deck.now (map program_of c.args.programs.now) = c.opening_sectors-sum.ensures.sum c.args.deck.now.stack os same in
     (omega (arith, need, c.if-need-core_words.false), sum, c.sectors-count.ensures.value, omega (arith, sum, c.if-sum-count.true, c.sectors-count.ensures.value), refl)
 
-pub set_up-requires-clause-room : goal.set_up-requires-clause-room
-set_up-requires-clause-room g c =
-    omega (arith, c.opening_sectors-sum.ensures.value, c.if-sum-count.false, free_are c.in_ok-sectors.sectors c.sectors-count.result c.in_ok-sectors.ensures.1)
+pub set_up-requires-clause-sectors : goal.set_up-requires-clause-sectors
+set_up-requires-clause-sectors g c = record {
+  known = (all_free c.sectors-count.result, c.in_ok-sectors.ensures.1);
+  same = omega (arith, c.in_ok-sectors.ensures.0, c.sectors-count.ensures.value);
+  room = omega (arith, c.opening_sectors-sum.ensures.value, c.if-sum-count.false, free_are c.in_ok-sectors.sectors c.sectors-count.result c.in_ok-sectors.ensures.1);
+}
 
 pub returns-in-Ok-clause-opens : goal.returns-in-Ok-clause-opens
 returns-in-Ok-clause-opens g c =

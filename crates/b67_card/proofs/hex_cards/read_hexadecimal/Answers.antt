@@ -1,0 +1,18 @@
+use Rattle.std.proofs.Common.{◌≡◌, ℕ, List, Err, refl, sym, subst}
+use Rattle.b67_model_text.specs.Deck.{Refusal, within_limit, hexadecimal_cards}
+use Rattle.b67_card.specs.Reading.{IsRead}
+use Rattle.b67_card.specs.Meaning.{IsMeaning}
+use Rattle.b67_card.specs.declared.fault.DeckFault.{DeckFault}
+use Rattle.b67_card.proofs.Whole.{read_to_end, read_failed}
+use Rattle.b67_card.proofs.hex_cards.read_hexadecimal.Goals as goal
+
+first : (text : List ℕ) (r : Refusal) → within_limit text ≡ Err r → hexadecimal_cards text ≡ Err r
+first text r e = rw e refl
+
+pub returns-in-Ok-clause-answer : goal.returns-in-Ok-clause-answer
+returns-in-Ok-clause-answer g c =
+    read_to_end g.S.Source.left g.S.Source.faults c.args.source.now c.read_all.new.source hexadecimal_cards c.in-Ok.bytes c.hexadecimal_cards.result c.in-Ok.ensures.answer.0 c.in-Ok.ensures.answer.1 (subst (λ (text : List ℕ). IsMeaning c.hexadecimal_cards.result (hexadecimal_cards text)) c.as_slice.ensures c.hexadecimal_cards.ensures)
+
+pub returns-in-Err-clause-answer : goal.returns-in-Err-clause-answer
+returns-in-Err-clause-answer g c =
+    subst (λ (fault : DeckFault). IsRead g.S.Source.left g.S.Source.faults c.args.source.now c.read_all.new.source hexadecimal_cards (Err fault)) (sym c.from.ensures) (read_failed g.S.Source.left g.S.Source.faults c.args.source.now c.read_all.new.source hexadecimal_cards c.in-Err.fault first c.in-Err.ensures.answer)

@@ -1,0 +1,125 @@
+-- A chain that is given back, and the chains that stay.
+use Rattle.std.proofs.Common.{◌≡◌, ◌≢◌, ℕ, ◌^◌, ◌<◌, ◌≤◌, ◌==◌, ◌⊎◌, List, [], length, Option, Some, None, refl, sym, ◌∙◌, ap, arith, inl, inr, ⊎_elim, subst, slice_set, if◌then◌else◌}
+use Rattle.std.specs.List.{slice_get}
+use Rattle.std.proofs.lemmas.Bool.{cases_eq, cond-true, cond-false, eq-eqb, ne_eqb}
+use Rattle.b67_word.specs.Tagged.{Tagged}
+use Rattle.b67_backing.specs.Shelf.{Table, Shelf, IsShelf, chain_of, given}
+use Rattle.b67_backing.specs.Held.{sectors_for}
+use Rattle.b67_backing.proofs.News.{chain_of-given}
+use Rattle.b67_lemmas.specs.Lists.{Has}
+use Rattle.b67_ctl.specs.declared.registers.Regs.{Regs}
+use Rattle.b67_ctl.specs.declared.descriptors.DataDesc.{DataDesc}
+use Rattle.b67_ctl.specs.Descriptors.{data_word, IsDataDesc}
+use Rattle.b67_area.specs.declared.Kind.{Kind}
+use Rattle.b67_area.specs.declared.Kind.TheVariants.{Array}
+use Rattle.b67_stack.specs.Shapes.{Location}
+use Rattle.b67_stack.specs.MachineView.{PagedObject, MachineView, home_desc, home_word_of}
+use Rattle.b67_stack.specs.Represents.{Storage, Represents, HasChain}
+use Rattle.b67_stack.proofs.Homes.{chain_small}
+use Rattle.b67_layout_storage.specs.Machine.{ChainStays}
+use Rattle.b67_layout_storage.proofs.Unchanged.{area_bounds}
+use Rattle.b67_layout_storage.proofs.Chained.{Content-chain}
+use Rattle.b67_mcp_lengths.specs.Lengths.{IsArray, IsChain, freed_chain}
+
+pub freed_none : (s : Shelf) (first : ℕ) → first ≡ 0 → freed_chain first s ≡ s
+freed_none s first e = cond-true (first == 0) s (given first s) (eq-eqb first 0 e)
+
+pub freed_some : (s : Shelf) (first : ℕ) → first ≢ 0 → freed_chain first s ≡ given first s
+freed_some s first n = cond-false (first == 0) s (given first s) (ne_eqb first 0 n)
+
+module _ (x : Storage) (core : List Tagged) (r : Regs) (p : MachineView) (s : Represents x core r p) (t : PagedObject) (int : Has p.objects t) where
+  abbrev kept : ℕ
+  kept = (x.held t.home).chain
+
+  pub chain_or : (u : PagedObject) → Has p.objects u → ((x.held u.home).chain ≡ 0) ⊎ HasChain x u (x.held u.home).chain
+  chain_or u inu = Content-chain x core u (x.held u.home).area (x.held u.home).chain (s.objects u inu).content
+
+  some_sectors : (n : ℕ) → 0 < n → 1 ≤ sectors_for n
+  some_sectors n h = omega arith
+
+  pub is_chain : IsChain x.shelf (x.held t.home).chain
+  is_chain = ⊎_elim inl (λ (h : HasChain x t (x.held t.home).chain). inr (omega (arith, h.sectors, some_sectors (length t.numbers) (s.slots.laid.lengths t int).0))) (chain_or t int)
+
+  module _ (table : Table) (sh : IsShelf table x.shelf) where
+    -- what is left of the chains
+    left_of : (f : ℕ) → kept ≢ 0 → chain_of f (freed_chain (x.held t.home).chain x.shelf).chains ≡ (if (x.held t.home).chain == f then [] else chain_of f x.shelf.chains)
+    left_of f n =
+        let has : 1 ≤ length (chain_of kept x.shelf.chains) = ⊎_elim (λ e. absurd (n e)) (λ h. h) is_chain in
+        ap (λ (z : Shelf). chain_of f z.chains) (freed_some x.shelf kept n) ∙ chain_of-given table kept f x.shelf sh has
+
+    pub stays_left : (f : ℕ) → kept ≢ f → chain_of f (freed_chain (x.held t.home).chain x.shelf).chains ≡ chain_of f x.shelf.chains
+    stays_left f m = ⊎_elim
+        (λ (e : kept ≡ 0). ap (λ (z : Shelf). chain_of f z.chains) (freed_none x.shelf kept e))
+        (λ (n : kept ≡ 0 → ⊥). left_of f n ∙ cond-false (kept == f) [] (chain_of f x.shelf.chains) (ne_eqb kept f m))
+        (cases_eq kept 0)
+
+    pub no_zero_left : chain_of 0 (freed_chain (x.held t.home).chain x.shelf).chains ≡ []
+    no_zero_left = ⊎_elim
+        (λ (e : kept ≡ 0). ap (λ (z : Shelf). chain_of 0 z.chains) (freed_none x.shelf kept e) ∙ s.owned.no_zero)
+        (λ (n : kept ≡ 0 → ⊥). stays_left 0 n ∙ s.owned.no_zero)
+        (cases_eq kept 0)
+
+    pub of_left : (f : ℕ) → 0 < length (chain_of f (freed_chain (x.held t.home).chain x.shelf).chains) → (0 < length (chain_of f x.shelf.chains)) × (f ≢ (x.held t.home).chain)
+    of_left f some = ⊎_elim
+        (λ (e : kept ≡ f). absurd (⊎_elim
+        (λ (z : kept ≡ 0). omega (arith, some, ap length (ap (λ k. chain_of k (freed_chain kept x.shelf).chains) (sym e ∙ z) ∙ no_zero_left)))
+        (λ (n : kept ≡ 0 → ⊥). omega (arith, some, ap length (left_of f n ∙ cond-true (kept == f) [] (chain_of f x.shelf.chains) (eq-eqb kept f e))))
+        (cases_eq kept 0)))
+        (λ (m : kept ≡ f → ⊥). (omega (arith, some, ap length (stays_left f m)), λ e. m (sym e)))
+        (cases_eq kept f)
+
+    -- another object's chain
+    pub other_kept : (u : PagedObject) → Has p.objects u → u.home ≢ t.home → (kept ≡ 0) ⊎ (kept ≢ (x.held u.home).chain)
+    other_kept u inu m = ⊎_elim
+        (λ (e : kept ≡ 0). inl e)
+        (λ (n : kept ≡ 0 → ⊥). inr (λ e. m (sym (s.owned.one_chain t u int inu (omega (arith, n)) e))))
+        (cases_eq kept 0)
+
+    pub other_left : (y : Storage) → y.shelf ≡ freed_chain (x.held t.home).chain x.shelf → y.device ≡ x.device → (u : PagedObject) → Has p.objects u → u.home ≢ t.home → ChainStays x y (x.held u.home).chain
+    other_left y e d u inu m =
+        let c = (x.held u.home).chain in
+        let same : chain_of c (freed_chain kept x.shelf).chains ≡ chain_of c x.shelf.chains = ⊎_elim
+        (λ (z : kept ≡ 0). ap (λ (k : Shelf). chain_of c k.chains) (freed_none x.shelf kept z))
+        (λ (n : kept ≢ (x.held u.home).chain). stays_left c n)
+        (other_kept u inu m) in
+        record { chain = ap (λ (k : Shelf). chain_of c k.chains) e ∙ same; told = λ ns h. rw d h }
+
+-- the word of an array's original
+pub original_is : (x : Storage) (core : List Tagged) (r : Regs) (p : MachineView) → Represents x core r p → (t : PagedObject) (home : ℕ) → IsArray p home t
+    → IsDataDesc (home_desc Rattle.std.specs.Prelude.false (length t.numbers) (x.held t.home)) × (slice_get core home ≡ Some (data_word (home_desc Rattle.std.specs.Prelude.false (length t.numbers) (x.held t.home))))
+original_is x core r p s t home a =
+    let o = s.objects t a.there in
+    let small = chain_small x core t (x.held t.home).area (x.held t.home).chain o.content in
+    let few = (s.slots.laid.lengths t a.there).1 in
+    let W : Kind → Type 0 = λ k. slice_get core t.home ≡ Some (home_word_of k (length t.numbers) (x.held t.home)) in
+    (fits (x.held t.home).area (x.held t.home).chain small few (λ b e. let q = area_bounds x core r p s t a.there b e in omega (arith, q.1, s.directory.small)), ap (slice_get core) (sym a.is) ∙ subst W a.kind o.home) where
+      fits : (o : Option ℕ) (c : ℕ) → c < 2 ^ 20 → length t.numbers < 2 ^ 16 → ((b : ℕ) → o ≡ Some b → b < 2 ^ 20) → IsDataDesc (home_desc Rattle.std.specs.Prelude.false (length t.numbers) (record { area = o; chain = c }))
+      fits None c small few h = record { words = omega arith; address = small; indexed = λ z. absurd (Rattle.std.proofs.lemmas.Bool.false≢true z) }
+      fits (Some b) c small few h = record { words = omega arith; address = h b refl; indexed = λ z. absurd (Rattle.std.proofs.lemmas.Bool.false≢true z) }
+
+-- what is read of it
+pub original_read : (x : Storage) (core : List Tagged) (r : Regs) (p : MachineView) → Represents x core r p → (t : PagedObject) (home : ℕ) → IsArray p home t → (d : DataDesc) → ((e : DataDesc) → IsDataDesc e → slice_get core home ≡ Some (data_word e) → d ≡ e)
+    → d ≡ home_desc Rattle.std.specs.Prelude.false (length t.numbers) (x.held t.home)
+original_read x core r p s t home a d reads = let o = original_is x core r p s t home a in reads (home_desc Rattle.std.specs.Prelude.false (length t.numbers) (x.held t.home)) o.0 o.1
+
+pub read_present : (h : Location) (n : ℕ) (d : DataDesc) → d ≡ home_desc Rattle.std.specs.Prelude.false n h → d.present ≡ Rattle.std.specs.Prelude.true → h.area ≡ Some d.address
+read_present h n d e there = by h.area h.chain e where
+  by : (o : Option ℕ) (c : ℕ) → d ≡ home_desc Rattle.std.specs.Prelude.false n (record { area = o; chain = c }) → o ≡ Some d.address
+  by None c e = absurd (Rattle.std.proofs.lemmas.Bool.false≢true (sym (ap (λ (z : DataDesc). z.present) e) ∙ there))
+  by (Some b) c e = ap Some (sym (ap (λ (z : DataDesc). z.address) e))
+
+pub read_absent : (h : Location) (n : ℕ) (d : DataDesc) → d ≡ home_desc Rattle.std.specs.Prelude.false n h → d.present ≡ Rattle.std.specs.Prelude.false → (h.area ≡ None) × (d.address ≡ h.chain)
+read_absent h n d e there = by h.area h.chain e where
+  by : (o : Option ℕ) (c : ℕ) → d ≡ home_desc Rattle.std.specs.Prelude.false n (record { area = o; chain = c }) → (o ≡ None) × (d.address ≡ c)
+  by None c e = (refl, ap (λ (z : DataDesc). z.address) e)
+  by (Some b) c e = absurd (Rattle.std.proofs.lemmas.Bool.false≢true (sym there ∙ ap (λ (z : DataDesc). z.present) e))
+
+-- the word of an original that is written
+pub word_written : (n : ℕ) (h : Location) (t : PagedObject) (w : Tagged) → t.kind ≡ Array → w ≡ data_word (home_desc Rattle.std.specs.Prelude.false n h) → w ≡ home_word_of t.kind n h
+word_written n h t w array e = let P : Kind → Type 0 = λ k. w ≡ home_word_of k n h in subst P (sym array) e
+
+-- core with an original's word
+pub set_original : (mid new : List Tagged) (home n : ℕ) (h : Location) (t : PagedObject) (e : DataDesc) (w : Tagged) → t.home ≡ home → t.kind ≡ Array → e ≡ home_desc Rattle.std.specs.Prelude.false n h → w ≡ data_word e → new ≡ slice_set mid home w → new ≡ slice_set mid t.home (home_word_of t.kind n h)
+set_original mid new home n h t e w is array d word_is set =
+    let written = word_written n h t w array (word_is ∙ ap data_word d) in
+    set ∙ ap (λ (q : ℕ). slice_set mid q w) (sym is) ∙ ap (slice_set mid t.home) written

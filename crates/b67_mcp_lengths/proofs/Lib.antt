@@ -1,0 +1,4 @@
+pub mod Freeing
+pub mod Emptied
+pub mod Shorter
+pub mod Longer

@@ -1,0 +1,10 @@
+pub mod Vacates
+pub mod Dies
+pub mod Owners
+pub mod Graves
+pub mod Slotwise
+pub mod Turns
+pub mod Fewer
+pub mod After
+pub mod Ends
+pub mod Buries

@@ -1,0 +1,140 @@
+-- A machine of which one slot was vacated stands for the picture without its task, with the same things.
+use Rattle.std.proofs.Common.{◌≡◌, ◌≢◌, ℕ, suc, ◌+◌, ◌<◌, ◌≤◌, List, [], ◌∷◌, length, Some, refl, sym, ◌∙◌, ap, arith, inl, inr, ◌⊎◌, ⊎_elim, subst}
+use Rattle.std.specs.List.{slice_get}
+use Rattle.std.proofs.lemmas.Bool.{cases_eq, cases_lt}
+use Rattle.b67_word.specs.Tagged.{Tagged, word}
+use Rattle.b67_area.specs.Spans.{Span, Area, Hole}
+use Rattle.b67_area.proofs.Climbs.{area_at-low}
+use Rattle.b67_area.proofs.Separation.{Controls, IsDirectory-same}
+use Rattle.b67_ctl.specs.declared.registers.Regs.{Regs}
+use Rattle.b67_stack.specs.Shapes.{Fits, LieDownward}
+use Rattle.b67_stack.specs.Stacks.{stack_words, words}
+use Rattle.b67_stack.specs.MachineView.{PagedObject, Slot, Free, Running, Waiting, stack_of, MachineView, slot_base, SlotFits, Laid, with_slot}
+use Rattle.b67_stack.specs.Represents.{Storage, RepresentsSlot, RepresentsRegs, StacksLie, RepresentsObjects, Represents, info_of}
+use Rattle.b67_stack.proofs.Bases.{base-apart}
+use Rattle.b67_stack.proofs.Heights.{words-length}
+use Rattle.b67_stack.proofs.Lies.{Lie-same}
+use Rattle.b67_stack.proofs.Slots.{by_slot, Content-areas}
+use Rattle.b67_lemmas.specs.Lists.{Has}
+use Rattle.b67_task_end_stack.specs.Vacated.{Vacated}
+
+pub slot_room : (p : MachineView) (k : ℕ) (s : Slot) → SlotFits p k s → 0 < p.size → stack_words (stack_of s) < p.size
+slot_room p k Free f some = some
+slot_room p k (Running stack) f some = f.0.fits
+slot_room p k (Waiting stack) f some = f.0.fits
+
+fits_same : (p : MachineView) (k j : ℕ) (s : Slot) → SlotFits p j s → SlotFits (with_slot p k Free) j s
+fits_same p k j Free f = f
+fits_same p k j (Running q) f = f
+fits_same p k j (Waiting q) f = f
+
+-- heads and tails of areas, and the first words of holes, lie above the slots
+controls_above : (at : ℕ) (ss : List Span) (i : ℕ) → Controls at ss i → at ≤ i
+controls_above at [] i c = absurd c
+controls_above at (Area a ∷ ss) i c = ⊎_elim (λ e. omega arith) (λ d. ⊎_elim (λ e. omega arith) (λ r. omega (arith, controls_above (at + (a.words + 2)) ss i r)) d) c
+controls_above at (Hole n ∷ ss) i c = ⊎_elim (λ e. omega arith) (λ r. omega (arith, controls_above (at + n) ss i r)) c
+
+-- another slot stands where the registers were its own or not
+other_same : (core new : List Tagged) (r : Regs) (p : MachineView) (k j : ℕ) (s : Slot) → slice_get new (slot_base p j) ≡ slice_get core (slot_base p j) → RepresentsSlot core r p j s → RepresentsSlot new r (with_slot p k Free) j s
+other_same core new r p k j Free e t = (t.0, e ∙ t.1)
+other_same core new r p k j (Running stack) e t = record { slot = t.slot; first = t.first; last = t.last; top = t.top; mark = t.mark; level = t.level }
+other_same core new r p k j (Waiting stack) e t = (t.0, e ∙ t.1)
+
+other_out : (core new : List Tagged) (r : Regs) (p : MachineView) (k j : ℕ) (s : Slot) → j ≢ k → j < 120 → r.slot ≡ k → slice_get new (slot_base p j) ≡ slice_get core (slot_base p j) → RepresentsSlot core r p j s → RepresentsSlot new (record r { slot = 255 }) (with_slot p k Free) j s
+other_out core new r p k j Free ne small runs e t = (λ z. omega (arith, z, small), e ∙ t.1)
+other_out core new r p k j (Running stack) ne small runs e t = absurd (ne (sym t.slot ∙ runs))
+other_out core new r p k j (Waiting stack) ne small runs e t = (λ z. omega (arith, z, small), e ∙ t.1)
+
+module _ (x : Storage) (core new : List Tagged) (r r' : Regs) (p : MachineView) (k : ℕ) (c : Vacated core new r r' p k) (s : Represents x core r p) where
+  abbrev p' : MachineView
+  p' = with_slot p k Free
+
+  laid : Laid x.low p
+  laid = s.slots.laid
+
+  low_end : slot_base p k + p.size ≤ x.low
+  low_end = omega (arith, base-apart p k p.peak c.used, laid.low)
+
+  vector_low : 32 + k < 152
+  vector_low = omega (arith, c.used, c.few)
+
+  apart : (q : ℕ) → q ≢ k → slot_base p q ≢ slot_base p k
+  apart q ne e = ⊎_elim
+      (λ (z : q < k). omega (arith, base-apart p q k z, c.room, e))
+      (λ (z : k ≤ q). omega (arith, base-apart p k q (omega (arith, z, ne)), c.room, e))
+      (cases_lt q k)
+
+  elsewhere : (q : ℕ) → q ≢ k → slice_get new (slot_base p q) ≡ slice_get core (slot_base p q)
+  elsewhere q ne = c.outside (slot_base p q) (apart q ne) (λ e. omega (arith, e, laid.first, vector_low))
+
+  not_word : (j : ℕ) → j < p.peak → (i : ℕ) → suc (slot_base p j) ≤ i → i < suc (slot_base p j) + length (words j (stack_of (p.slots j))) → i ≢ slot_base p k
+  not_word j hj i down up e =
+      let long = words-length j (stack_of (p.slots j)) in
+      let fit = slot_room p j (p.slots j) (laid.slots j hj) c.room in
+      ⊎_elim
+      (λ (a : j < k). omega (arith, base-apart p j k a, down, up, e, long, fit))
+      (λ (a : k ≤ j). ⊎_elim (λ (b : k ≡ j). omega (arith, ap (slot_base p) b, down, e)) (λ (b : k ≡ j → ⊥). omega (arith, base-apart p k j (omega (arith, a, b)), down, e, c.room)) (cases_eq k j))
+      (cases_lt j k)
+
+  stacks : StacksLie x.held new p'
+  stacks = by_slot p k Free (λ j z. LieDownward (Fits x.held) new (suc (slot_base p j)) (words j (stack_of z))) tt
+      (λ j hj n. Lie-same (Fits x.held) core new (suc (slot_base p j)) (words j (stack_of (p.slots j))) (λ i down up. c.outside i (not_word j hj i down up) (λ e. omega (arith, e, down, laid.first, vector_low))) (s.stacks j hj))
+
+  objects : RepresentsObjects x new p.objects
+  objects t i =
+      let was = s.objects t i in
+      record {
+        home = c.outside t.home (laid.not_base t i k c.used) (λ e. omega (arith, e, (laid.homes t i).0, vector_low)) ∙ was.home;
+        content = Content-areas x core new t (x.held t.home).area (x.held t.home).chain
+            (λ b q. let o = s.owned.of_held t.home b q in omega (arith, area_at-low x.low x.spans b (info_of x o.0) o.3))
+            (λ q up. c.outside q (λ e. omega (arith, e, up, low_end, c.room)) (λ e. omega (arith, e, up, low_end, laid.first, vector_low))) was.content;
+      }
+
+  -- the registers afterwards
+  regs_stand : RepresentsRegs r' p
+  regs_stand = ⊎_elim
+      (λ (a : (r.slot ≢ k) × (r' ≡ r)). subst (λ (z : Regs). RepresentsRegs z p) (sym a.1) s.slots.regs)
+      (λ (a : (r.slot ≡ k) × (r' ≡ record r { slot = 255 })). subst (λ (z : Regs). RepresentsRegs z p) (sym a.1) (record { stacks = s.slots.regs.stacks; size = s.slots.regs.size; peak = s.slots.regs.peak }))
+      c.regs
+
+  here : RepresentsSlot new r' p' k Free
+  here = (
+    ⊎_elim
+        (λ (a : (r.slot ≢ k) × (r' ≡ r)). λ e. a.0 (ap (λ (z : Regs). z.slot) (sym a.1) ∙ e))
+        (λ (a : (r.slot ≡ k) × (r' ≡ record r { slot = 255 })). λ e. (let z : 255 ≡ k = ap (λ (z : Regs). z.slot) (sym a.1) ∙ e in omega (arith, z, c.used, c.few)))
+        c.regs,
+    c.zero,
+  )
+
+  there : (j : ℕ) → j < p.peak → j ≢ k → RepresentsSlot new r' p' j (p.slots j)
+  there j hj ne = ⊎_elim
+      (λ (a : (r.slot ≢ k) × (r' ≡ r)). subst (λ (z : Regs). RepresentsSlot new z p' j (p.slots j)) (sym a.1) (other_same core new r p k j (p.slots j) (elsewhere j ne) (s.slots.slots j hj)))
+      (λ (a : (r.slot ≡ k) × (r' ≡ record r { slot = 255 })). subst (λ (z : Regs). RepresentsSlot new z p' j (p.slots j)) (sym a.1)
+      (other_out core new r p k j (p.slots j) ne (omega (arith, hj, c.few)) a.0 (elsewhere j ne) (s.slots.slots j hj)))
+      c.regs
+
+  pub Represents-vacated : Represents x new r' (with_slot p k Free)
+  Represents-vacated = record {
+    slots = record {
+      laid = record {
+        low = laid.low;
+        first = laid.first;
+        room = laid.room;
+        slots = by_slot p k Free (λ j z. SlotFits p' j z) tt (λ j hj n. fits_same p k j (p.slots j) (laid.slots j hj));
+        homes = laid.homes;
+        codes = laid.codes;
+        differ = laid.differ;
+        not_base = laid.not_base;
+        lengths = laid.lengths;
+      };
+      regs = record { stacks = regs_stand.stacks; size = regs_stand.size; peak = regs_stand.peak };
+      slots = by_slot p k Free (λ j z. RepresentsSlot new r' p' j z) here there;
+    };
+    stacks = stacks;
+    objects = objects;
+    owned = record { of_area = s.owned.of_area; of_held = s.owned.of_held; of_chain = s.owned.of_chain; no_zero = s.owned.no_zero; one_chain = s.owned.one_chain };
+    directory = IsDirectory-same core new x.low x.spans c.size
+        (λ i h. c.outside i (λ e. omega (arith, e, h.1, laid.first)) (λ e. omega (arith, e, h.0, vector_low)))
+        (λ i h. c.outside i (λ e. omega (arith, e, controls_above x.low x.spans i h, low_end, c.room)) (λ e. omega (arith, e, controls_above x.low x.spans i h, low_end, laid.first, vector_low))) s.directory;
+    inside = rw c.size s.inside;
+  }

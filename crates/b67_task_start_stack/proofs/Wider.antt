@@ -1,0 +1,142 @@
+-- The machine with one slot more stands for the session whose peak is one higher.
+use Rattle.std.proofs.Common.{◌≡◌, ◌≢◌, ℕ, ◌+◌, ◌<◌, ◌≤◌, List, [], ◌∷◌, ◌++◌, map, length, Option, Some, None, refl, sym, ◌∙◌, ap, arith, ◌==◌, inl, inr, ◌⊎◌, ⊎_elim, subst}
+use Rattle.std.specs.Prelude.{if◌then◌else◌, flat_map}
+use Rattle.std.specs.List.{slice_get}
+use Rattle.b67_word.specs.Tagged.{Tagged}
+use Rattle.b67_area.specs.declared.Kind.TheVariants as kind
+use Rattle.b67_ctl.specs.declared.registers.Regs.{Regs}
+use Rattle.b67_lemmas.specs.Lists.{Has}
+use Rattle.b67_model.specs.State.{Segment, Task, Job, SessionJob}
+use Rattle.b67_model.specs.Environment.{frame_at}
+use Rattle.b67_model.specs.Keyed.{keyed}
+use Rattle.b67_model.specs.Run.{number_of}
+use Rattle.b67_model.specs.Schedule.{Session}
+use Rattle.b67_stack.specs.declared.Cpu.{Cpu}
+use Rattle.b67_stack.specs.Stacks.{StackPlace}
+use Rattle.b67_stack.specs.MachineView.{PagedObject, Slot, MachineView, NoOriginalAboveTop}
+use Rattle.b67_stack.specs.Represents.{Storage, Represents}
+use Rattle.b67_layout.specs.Placement.{Placement, Slotted, slot_of, spots, address_of}
+use Rattle.b67_layout.specs.Layout.{slot_in, slot_by, slot_at, code_objects, array_object, objects_of, machine_view}
+use Rattle.b67_layout.specs.Session.{RowsFit, DictionariesFollow, PlanFits, RepresentsDictionary, vector_word, IsRunning, SessionHolds, RepresentsSession}
+use Rattle.b67_layout.proofs.Rows.{slot_below}
+use Rattle.b67_layout.proofs.Sessions.{dictionary_below}
+use Rattle.b67_task_start_stack.specs.Slots.{grown}
+use Rattle.b67_task_start_stack.specs.Born.{with_peak}
+use Rattle.b67_task_start_stack.proofs.Twins.{like_same, name_all, slot_with-twin, spots-twin}
+
+module _ (plan : Placement) (n : ℕ) where
+  abbrev wide : Placement
+  wide = with_peak plan n
+
+  slot_in-wide : (q i u : ℕ) (o : Option SessionJob) → slot_in wide q i u o ≡ slot_in plan q i u o
+  slot_in-wide q i u None = refl
+  slot_in-wide q i u (Some y) =
+      let o = keyed (λ (t : Task). t.number) u y.progress.job.tasks in
+      slot_with-twin plan wide i y.progress.job y.progress.job (λ u. Unit {0}) (λ a. Unit {0}) (λ u ok. refl) (λ u ok. like_same (keyed (λ (t : Task). t.number) u y.progress.job.tasks)) (λ a ok. (refl, refl)) q refl o o (like_same o)
+      (λ t e. (λ u z. tt, name_all t.frames))
+
+  slot_by-wide : (jobs : List SessionJob) (q : ℕ) (o : Option Slotted) → slot_by wide jobs q o ≡ slot_by plan jobs q o
+  slot_by-wide jobs q None = refl
+  slot_by-wide jobs q (Some r) = slot_in-wide q r.job r.task (keyed number_of r.job jobs)
+
+  code-wide : (i at : ℕ) (segments : List Segment) → code_objects wide i at segments ≡ code_objects plan i at segments
+  code-wide i at [] = refl
+  code-wide i at (s ∷ rest) = ap (λ (ts : List PagedObject). record { home = plan.dictionary i + 1 + at; kind = kind.Code; numbers = s.code } ∷ ts) (code-wide i (at + 1) rest)
+
+  objects-wide : (jobs : List SessionJob) → flat_map (objects_of wide) jobs ≡ flat_map (objects_of plan) jobs
+  objects-wide [] = refl
+  objects-wide (m ∷ rest) =
+      ap (λ (ts : List PagedObject). (ts ++ map (array_object plan m.constants.number) m.progress.job.arrays) ++ flat_map (objects_of wide) rest) (code-wide m.constants.number 1 m.constants.segments)
+      ∙ ap (λ (ts : List PagedObject). objects_of plan m ++ ts) (objects-wide rest)
+
+  pub machine_view-wide : (jobs : List SessionJob) → machine_view (with_peak plan n) jobs ≡ record (machine_view plan jobs) { peak = n }
+  machine_view-wide jobs =
+      let same : slot_at wide jobs ≡ slot_at plan jobs = λ z q. slot_by-wide jobs q (keyed (λ (r : Slotted). r.slot) q plan.rows) z in
+      ap (λ (f : ℕ → Slot). record { stacks = plan.stacks; size = plan.size; peak = n; slots = f; objects = flat_map (objects_of wide) jobs }) same
+      ∙ ap (λ (ts : List PagedObject). record { stacks = plan.stacks; size = plan.size; peak = n; slots = slot_at plan jobs; objects = ts }) (objects-wide jobs)
+
+  pub spots-wide : (i : ℕ) (job : Job) (t : Task) (id : ℕ) → spots wide i job t id ≡ spots plan i job t id
+  spots-wide i job t id = spots-twin plan wide i job job (λ u. Unit {0}) (λ a. Unit {0}) (λ u ok. refl) (λ u ok. like_same (keyed (λ (t : Task). t.number) u job.tasks)) (λ a ok. (refl, refl)) t t (like_same (Some t)) (λ u z. tt) tt id
+
+  follow-wide : (at : ℕ) (jobs : List SessionJob) → DictionariesFollow plan at jobs → DictionariesFollow wide at jobs
+  follow-wide at [] d = d
+  follow-wide at (m ∷ rest) d = (d.0, follow-wide (at + (2 + length m.constants.dictionary.cells)) rest d.1)
+
+  vector-wide : (i : ℕ) (parents : List ℕ) → vector_word plan i parents ≡ vector_word wide i parents
+  vector-wide i [] = refl
+  vector-wide i (parent ∷ more) = refl
+
+module _ (x y : Storage) (cpu new : Cpu) (plan : Placement) (s : Session) (h : RepresentsSession x cpu plan s) (n : ℕ) (wider : plan.peak ≤ n) (few : n ≤ 120)
+    (regs : new.regs ≡ record cpu.regs { peak = new.regs.peak }) (critical : new.critical ≡ cpu.critical) (display : new.display ≡ cpu.display)
+    (words : (i : ℕ) → i < plan.stacks → i ≢ 152 → slice_get new.core i ≡ slice_get cpu.core i)
+    (memory : Represents y new.core new.regs (record (machine_view plan s.jobs) { peak = n })) (settled : NoOriginalAboveTop (record (machine_view plan s.jobs) { peak = n })) where
+  o : SessionHolds x cpu.core cpu.regs cpu.critical plan s
+  o = h.holds
+
+  low : 160 ≤ plan.stacks
+  low = o.memory.slots.laid.first
+
+  back : (m : SessionJob) (t : Task) → IsRunning (with_peak plan n) s.jobs m t → IsRunning plan s.jobs m t
+  back m t r = record { member = r.member; task = r.task; slot = r.slot }
+
+  dictionary : (m : SessionJob) → Has s.jobs m → RepresentsDictionary new.core (with_peak plan n) m
+  dictionary m i =
+      let d = dictionary_below plan 160 s.jobs m o.fits.dictionaries i in
+      let up = above 160 s.jobs o.fits.dictionaries i in
+      let w = o.dictionaries m i in
+      record {
+        mark = words (plan.dictionary m.constants.number) (omega (arith, d)) (λ e. omega (arith, e, up)) ∙ w.mark;
+        entries = words (plan.dictionary m.constants.number + 1) (omega (arith, d)) (λ e. omega (arith, e, up)) ∙ w.entries;
+      }
+    where
+      above : (at : ℕ) (jobs : List SessionJob) → DictionariesFollow plan at jobs → Has jobs m → at ≤ plan.dictionary m.constants.number
+      above at [] d k = absurd k
+      above at (w ∷ ws) d (inl e) = let P : SessionJob → Type 0 = λ q. at ≤ plan.dictionary q.constants.number in subst P e (omega (arith, d.0))
+      above at (w ∷ ws) d (inr k) = omega (arith, above (at + (2 + length w.constants.dictionary.cells)) ws d.1 k)
+
+  of_regs : (f : Regs → ℕ) → f (record cpu.regs { peak = new.regs.peak }) ≡ f cpu.regs → f new.regs ≡ f cpu.regs
+  of_regs f e = ap f regs ∙ e
+
+  holds : SessionHolds y new.core new.regs new.critical (with_peak plan n) (record s { peak = n })
+  holds = record {
+    fits = record {
+      rows = record { live = o.fits.rows.live; slotted = o.fits.rows.slotted; below = λ r i. omega (arith, o.fits.rows.below r i, wider); differ = o.fits.rows.differ; tasks_differ = o.fits.rows.tasks_differ };
+      peak = refl;
+      few = few;
+      sizes = o.fits.sizes;
+      dictionaries = follow-wide plan n 160 s.jobs o.fits.dictionaries;
+      row_homes = o.fits.row_homes;
+    };
+    memory = subst (λ (p : MachineView). Represents y new.core new.regs p) (sym (machine_view-wide plan n s.jobs)) memory;
+    settled = subst NoOriginalAboveTop (sym (machine_view-wide plan n s.jobs)) settled;
+    dictionaries = dictionary;
+    mcp = record { mark = words 0 (omega (arith, low)) (λ e. omega (arith, e)) ∙ o.mcp.mark; intrinsics = λ i a b. words i (omega (arith, low, b)) (λ e. omega (arith, e, b)) ∙ o.mcp.intrinsics i a b };
+    vector = record {
+      live = λ m t i k. (let small : slot_of plan m.constants.number t.number < 120 = omega (arith, slot_below plan s.jobs m t o.fits.rows i k, o.fits.few) in
+          words (32 + slot_of plan m.constants.number t.number) (omega (arith, small, low)) (λ e. omega (arith, e, small)) ∙ o.vector.live m t i k ∙ ap Some (vector-wide plan n m.constants.number t.parents));
+      free = λ k small others. words (32 + k) (omega (arith, small, low)) (λ e. omega (arith, e, small)) ∙ o.vector.free k small others;
+    };
+    critical = record {
+      live = λ m t i k. ap (λ (ns : List ℕ). slice_get ns (slot_of plan m.constants.number t.number)) critical ∙ o.critical.live m t i k;
+      free = λ k small others. ap (λ (ns : List ℕ). slice_get ns k) critical ∙ o.critical.free k small others;
+    };
+    live = λ ne. let (m, t, r) = o.live ne in (m, t, record { member = r.member; task = r.task; slot = r.slot });
+    running = λ m t r.
+        let q = o.running m t (back m t r) in
+        record {
+          slot = of_regs (λ z. z.slot) refl ∙ q.slot;
+          dict = of_regs (λ z. z.dict) refl ∙ q.dict;
+          entries = of_regs (λ z. z.entries) refl ∙ q.entries;
+          segment = of_regs (λ z. z.segment) refl ∙ q.segment;
+          place = ap (λ (z : Regs). z.place) regs ∙ q.place;
+        };
+    none = λ e. of_regs (λ z. z.slot) refl ∙ o.none e;
+  }
+
+  pub RepresentsSession-wider : RepresentsSession y new (with_peak plan n) (record s { peak = n })
+  RepresentsSession-wider = record {
+    holds = holds;
+    shows = λ m t r k up.
+        let id = (frame_at (record { constants = m.constants; job = m.progress.job; task = t; at = t.place }) k).identity in
+        ap (λ (d : List ℕ). slice_get d k) display ∙ h.shows m t (back m t r) k up ∙ ap (λ (q : StackPlace). Some (address_of plan q)) (sym (spots-wide plan n m.constants.number m.progress.job t id));
+  }

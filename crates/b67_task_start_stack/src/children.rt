@@ -1,0 +1,81 @@
+//! The stack of a new task.
+
+ghost use Rattle.std.specs.Prelude.{◌≡◌, ◌≢◌, ℕ, ◌+◌, ◌<◌, ◌≤◌, max, List, [], Some, length, slice_get};
+ghost use Rattle.b67_model.specs.State.{Job, SessionJob, Task};
+ghost use Rattle.b67_model.specs.Schedule.{Session};
+ghost use Rattle.b67_stack.specs.Changes.{below_top};
+ghost use Rattle.b67_stack.specs.MachineView.{MachineView, RunsOn};
+ghost use Rattle.b67_stack.specs.Stacks.{Activation, mark_place};
+ghost use Rattle.b67_stack.specs.Represents.{Storage, Represents};
+ghost use Rattle.b67_layout.specs.Placement.{Placement};
+ghost use Rattle.b67_layout.specs.Session.{RepresentsSession};
+ghost use Rattle.b67_task_start_stack.specs.Born.{with_task_at};
+ghost use Rattle.b67_task_start_stack.specs.Joining.{BuildsSome, MayBuild, joined};
+
+use crate::slots::build_stack;
+use b67_ctl::{Mscw, Toscw};
+use b67_stack::Cpu;
+use b67_word::Word;
+
+/// The displacement of the mark under the running stack's topmost one.
+pub fn mark_under(cpu: &Cpu) -> u16
+    requires { (x : Storage) × (p : MachineView) × (stack : List Activation) × Represents x cpu.now.core cpu.now.regs p × RunsOn p cpu.now.regs.slot stack × (below_top stack ≢ []) }
+    ensures { (x : Storage) (p : MachineView) (stack : List Activation) → Represents x cpu.now.core cpu.now.regs p → RunsOn p cpu.now.regs.slot stack → below_top stack ≢ []
+        → result ≡ mark_place (below_top stack) }
+{
+    let mark = cpu.top_mark();
+    (cpu.regs.f - u32::from(mark.back) - cpu.regs.bosr) as u16
+}
+
+/// The mark at a displacement is one that a live task depends on.
+fn depend(critical: &mut [u16; 120], slot: u8, at: u16)
+    requires { slot < 120 }
+    ensures own { (v : ℕ) → slice_get critical.old slot ≡ Some v → slice_get critical.new slot ≡ Some (max v at) }
+    ensures others { (q : ℕ) → q ≢ slot → slice_get critical.new q ≡ slice_get critical.old q }
+{
+    if critical[slot as usize] < at {
+        critical[slot as usize] = at;
+    }
+}
+
+/// Builds the stack of a new task in a free slot, of those used so far: one activation record, entered at a level on an
+/// environment, with copies of the last `count` cells of the running stack. The running task is its parent.
+pub fn build_child(
+    cpu: &mut Cpu,
+    slot: u8,
+    job: u8,
+    env_stack: u16,
+    env_disp: u16,
+    level: u8,
+    count: u32,
+)
+    requires { BuildsSome cpu.old slot job env_stack env_disp level count }
+    ensures stands { (x : Storage) (plan : Placement) (s : Session) (m : SessionJob) (t : Task) (after : Job) (child : Task) → MayBuild x cpu.old plan s m t after child slot job env_stack env_disp level count
+        → RepresentsSession x cpu.new (with_task_at plan m.constants.number child.number slot plan.peak) (joined plan s m after) }
+    ensures len { length cpu.new.core ≡ length cpu.old.core }
+    ensures regs { cpu.new.regs ≡ cpu.old.regs }
+{
+    let _size = cpu.core.size();
+    let base = cpu.regs.stacks + u32::from(slot) * u32::from(cpu.regs.stack_size);
+    let parent = cpu.regs.slot;
+    let under = mark_under(cpu);
+    let top = Toscw {
+        s: (2 + count) as u16,
+        level,
+        f: 1,
+    };
+    let mark = Mscw {
+        far: env_stack != u16::from(slot),
+        entered: true,
+        env_stack,
+        env_disp,
+        value: false,
+        level,
+        back: 0,
+    };
+    let from = cpu.regs.s + 1 - count;
+    build_stack(&mut cpu.core, base, top.word(), mark.word(), from, count);
+    let vector = 0x4000_0000_0000 + u64::from(parent) * 0x10_0000_0000 + u64::from(job) * 0x1_0000;
+    cpu.core.set(32 + u32::from(slot), Word::of(3, vector));
+    depend(&mut cpu.critical, parent, under);
+}

@@ -1,0 +1,8 @@
+//! A slot more, and the new task's stack in its slot.
+#![tactic(auto)]
+
+mod children;
+mod slots;
+
+pub use children::{build_child, mark_under};
+pub use slots::{add_slot, build_stack};

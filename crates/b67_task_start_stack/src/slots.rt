@@ -1,0 +1,54 @@
+//! A slot more, and the words of a new stack.
+
+ghost use Rattle.std.specs.Prelude.{◌≡◌, ◌≢◌, ◌⊎◌, ℕ, ◌+◌, ◌<◌, ◌≤◌, Some, length, slice_get};
+ghost use Rattle.b67_word.specs.Tagged.{Tagged, word};
+ghost use Rattle.b67_stack.specs.Represents.{Storage, Represents};
+ghost use Rattle.b67_stack.specs.MachineView.{MachineView};
+ghost use Rattle.b67_task_start_stack.specs.Slots.{grown, raised, HasRoom};
+
+use b67_area::Areas;
+use b67_core::Core;
+use b67_stack::Cpu;
+use b67_word::Word;
+
+/// Adds a slot behind those used so far. No task is in it yet, and no area had a word there; the areas begin behind it.
+pub fn add_slot(cpu: &mut Cpu, areas: &mut Areas)
+    requires room { (x : Storage) × (p : MachineView) × Represents x cpu.old.core cpu.old.regs p × HasRoom x cpu.old.core cpu.old.regs p × (areas.old.low ≡ x.low) }
+    ensures stands { (x : Storage) (p : MachineView) → Represents x cpu.old.core cpu.old.regs p → HasRoom x cpu.old.core cpu.old.regs p → areas.old.low ≡ x.low
+        → Represents (raised x areas.new.low) cpu.new.core cpu.new.regs (grown p) }
+    ensures rest { cpu.new ≡ record cpu.old { core = cpu.new.core; regs = record cpu.old.regs { peak = cpu.old.regs.peak + 1 } } }
+    ensures areas { areas.new ≡ record areas.old { low = areas.old.low + cpu.old.regs.stack_size } }
+    ensures below { (x : Storage) (p : MachineView) → Represents x cpu.old.core cpu.old.regs p → HasRoom x cpu.old.core cpu.old.regs p → areas.old.low ≡ x.low
+        → (i : ℕ) → i < areas.old.low → i ≢ 152 → slice_get cpu.new.core i ≡ slice_get cpu.old.core i }
+    ensures len { length cpu.new.core ≡ length cpu.old.core }
+{
+    let _size = cpu.core.size();
+    let base = areas.low;
+    let low = base + u32::from(cpu.regs.stack_size);
+    areas.raise(&mut cpu.core, low);
+    cpu.core.set(base, Word::of(0, 0));
+    cpu.regs.peak += 1;
+}
+
+/// Writes a stack of one entered activation record from its slot's base word up: the top of stack word, the mark, a return
+/// to nowhere, and as cells copies of so many words.
+pub fn build_stack(core: &mut Core, base: u32, top: Word, mark: Word, from: u32, count: u32)
+    requires inside { base + (3 + count) ≤ length core.old }
+    requires apart { (from + count ≤ base) ⊎ (base + (3 + count) ≤ from) }
+    requires source { from + count ≤ length core.old }
+    ensures top { slice_get core.new base ≡ Some top }
+    ensures mark { slice_get core.new (base + 1) ≡ Some mark }
+    ensures back { slice_get core.new (base + 2) ≡ Some (word 3 0) }
+    ensures cells { (i : ℕ) → i < count → slice_get core.new (base + 3 + i) ≡ slice_get core.old (from + i) }
+    ensures outside { (i : ℕ) → (i < base) ⊎ (base + (3 + count) ≤ i) → slice_get core.new i ≡ slice_get core.old i }
+    ensures len { length core.new ≡ length core.old }
+{
+    let _size = core.size();
+    core.set(base, top);
+    core.set(base + 1, mark);
+    core.set(base + 2, Word::of(3, 0));
+    for i in 0..count {
+        let w = core.get(from + i);
+        core.set(base + 3 + i, w);
+    }
+}

@@ -1,0 +1,116 @@
+#!/bin/bash
+# Runs the commands of the documents as they are written there, on a clone of the repository in the temporary folder,
+# and compares what they print. No part of the gate: run it by hand, with a built program.
+#
+#     bash scripts/check-docs.sh PROGRAM [DOCUMENT..]
+#
+# In README.md, docs/, bench/README.md and decks/README.md
+# - a block that begins with ```console holds commands after `$ ` and, after each, exactly what it prints;
+# - a block that begins with ```sh holds commands without their output: each must end with status 0;
+# - a block that begins with a `?` card is the deck of a folder of decks/, and a block of lines that begin with `1.1 `
+#   after it is that deck's stdout;
+# - cards in a sentence, as `ZERO / EXIT` gives `1.1 ENDED`, are the outer block of a deck that prints this first.
+# A block after a line <!-- check-docs: skip, WHY --> isn't run, and is listed as such. The program is found as `b67`
+# and as crates/b67/out/b67. The two lines with a status that `rt try` adds are left out of the comparison. Beside that,
+# each link must lead to a file and a heading, the table of decks must name each folder of decks/, and the manual page
+# each status's line.
+set -u
+[ $# -ge 1 ] || { echo "usage: bash scripts/check-docs.sh PROGRAM [DOCUMENT..]" >&2; exit 2; }
+program=$(cd "$(dirname "$1")" && pwd)/$(basename "$1")
+shift
+top=$(cd "$(dirname "$0")/.." && pwd)
+room=$(mktemp -d)
+trap 'rm -rf "$room"' EXIT
+git clone -q "$top" "$room/clone"
+mkdir -p "$room/bin" "$room/blocks" "$room/clone/crates/b67/out"
+for place in "$room/bin/b67" "$room/clone/crates/b67/out/b67"; do
+    printf '#!/bin/sh\nexec "%s" "$@"\n' "$program" >"$place"
+    chmod +x "$place"
+done
+export PATH="$room/bin:$PATH" HOME="$room/home"
+mkdir -p "$HOME"
+cd "$room/clone" || exit 2
+[ $# -gt 0 ] || set -- README.md docs/*.md bench/README.md decks/README.md
+
+passed=0
+failed=0
+skipped=0
+wrong() {
+    echo "FAILED: $1"
+    failed=$((failed + 1))
+}
+for document in "$@"; do
+    rm -f "$room"/blocks/*
+    # each block into a file NUMBER.KIND that begins with the number of its first line
+    awk -v folder="$room/blocks" '
+    /^<!-- check-docs: skip/ { skip = $0; next }
+    /^```/ && !inside { inside = 1; kind = substr($0, 4); if (kind == "") kind = "plain"; if (skip != "") kind = "skip"
+        n++; file = sprintf("%s/%04d.%s", folder, n, kind); print NR ": " skip > file; skip = ""; next }
+    /^```/ { inside = 0; close(file); next }
+    inside { print > file }' "$document"
+    deck=
+    for block in "$room"/blocks/*; do
+        [ -f "$block" ] || continue
+        line=$(sed -n '1s/:.*//p' "$block")
+        name="$document:$line"
+        tail -n +2 "$block" >"$room/text"
+        case $block in
+        *.console)
+            # the commands, each printed before it is run, with the status of the one before kept for it
+            awk '/^\$ / { command = substr($0, 3); quoted = command; gsub(/\047/, "\047\\\047\047", quoted)
+                print "status=$?; printf \047%s\\n\047 \047$ " quoted "\047; (exit $status)"; print command }' "$room/text" >"$room/script"
+            bash "$room/script" 2>&1 </dev/null | grep -vE '^(checked: |run=)ended status=' >"$room/printed"
+            if cmp -s "$room/text" "$room/printed"; then passed=$((passed + 1)); else
+                wrong "$name"
+                diff "$room/text" "$room/printed"
+            fi
+            ;;
+        *.sh)
+            if bash -e "$room/text" >"$room/printed" 2>&1 </dev/null; then passed=$((passed + 1)); else
+                wrong "$name"
+                cat "$room/printed"
+            fi
+            ;;
+        *.skip)
+            echo "not run: $name $(sed -n '1s/.*skip, \(.*\) -->/\1/p' "$block")"
+            skipped=$((skipped + 1))
+            ;;
+        *)
+            if head -1 "$room/text" | grep -q '^?'; then
+                deck=
+                for folder in decks/*/; do
+                    if cmp -s "$folder/stdin" "$room/text"; then deck=$folder; fi
+                done
+                if [ -n "$deck" ]; then passed=$((passed + 1)); else wrong "$name: no deck of decks/"; fi
+            elif head -1 "$room/text" | grep -q '^1\.1 '; then
+                if [ -n "$deck" ] && cmp -s "$deck/stdout" "$room/text"; then passed=$((passed + 1)); else wrong "$name: not what ${deck:-no deck} prints"; fi
+            fi
+            ;;
+        esac
+    done
+    for link in $(grep -oE '\]\([^) ]+\)' "$document" | sed 's/^](//; s/)$//' | grep -v '^http'); do
+        target=${link%%#*}
+        if [ -z "$target" ]; then target=$document; else target=$(dirname "$document")/$target; fi
+        case $link in
+        *'#'*) sed -n 's/^##* //p' "$target" 2>/dev/null | tr '[:upper:]' '[:lower:]' | sed "s/[^a-z0-9 _-]//g; s/ /-/g" | grep -qxF -- "${link#*#}" ;;
+        *) [ -e "$target" ] ;;
+        esac || wrong "$document: the link $link"
+    done
+    grep -oE '`[A-Z0-9, ]+( / [A-Z0-9, ]+)+` gives `[^`]+`' "$document" | sed 's/`//g; s/ gives /\t/' >"$room/sentences"
+    while IFS="$(printf '\t')" read -r cards printed; do
+        { printf '?JOB A\n?ASM\nSEGMENT MAIN 2\n'; printf '%s\n' "$cards" | sed 's: / :\n:g'; echo '?END'; } >"$room/text"
+        if [ "$(b67 run --core 4096 --backing b <"$room/text" | head -1)" = "$printed" ]; then passed=$((passed + 1)); else
+            wrong "$document: $cards"
+        fi
+    done <"$room/sentences"
+done
+
+if [ "$(ls -d decks/*/ | sed 's:decks/::; s:/::' | sort)" = "$(sed -n '/^## The decks/,$s/^| `\([a-z]*\)` .*/\1/p' docs/ASSEMBLER.md | sort)" ]; then
+    passed=$((passed + 1))
+else wrong 'the table of decks in docs/ASSEMBLER.md'; fi
+page=$(MANWIDTH=1000 man -l docs/b67.1 2>/dev/null | col -b)
+for words in 'USAGE: b67 run' DECK ASM CODEFILE LOAD HALTED 'NO CORE' 'BACKING FULL' 'BACKING FAULT' 'READING FAULT' 'NO MEMORY'; do
+    case $page in *"$words"*) passed=$((passed + 1)) ;; *) wrong "docs/b67.1: $words" ;; esac
+done
+echo "$passed passed, $failed failed, $skipped not run"
+[ $failed = 0 ]
