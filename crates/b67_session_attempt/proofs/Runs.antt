@@ -43,11 +43,11 @@ pub caused_none : {B K A : Type 0} (failed : B → ℕ) (unprinted : K → ℕ) 
 caused_none failed unprinted old new paper paper' made later = record { printer = record { later = later; failed = λ e. absurd cc }; device = λ e. absurd cc }
 
 -- what wasn't brought in after a first call
-pub caused_want : {B K A C : Type 0} (failed : B → ℕ) (unprinted : K → ℕ) (old mid new : B) (paper paper' : K) (stop : Stop) → failed old ≤ failed mid → unprinted paper ≤ unprinted paper'
-    → (Err {A = A} stop ≡ Err BackingFault → Rose failed mid new) → Err {A = A} stop ≢ Err PrintFault → CallCauses {A = C} failed unprinted old new paper paper' (Err stop)
-caused_want {B} {K} {A} {C} failed unprinted old mid new paper paper' stop a later cause silent = record {
-  printer = record { later = later; failed = λ e. let is : stop ≡ PrintFault = (let d = e in cc) in absurd (silent (ap Err is)) };
-  device = λ e. let is : stop ≡ BackingFault = (let d = e in cc) in rose_later failed old mid new a (cause (ap Err is));
+pub caused_want : {B K A C : Type 0} (failed : B → ℕ) (unprinted : K → ℕ) (old mid new : B) (paper paper' : K) (brought : Result A Stop) (stop : Stop) → brought ≡ Err stop → failed old ≤ failed mid → unprinted paper ≤ unprinted paper'
+    → (brought ≡ Err BackingFault → Rose failed mid new) → brought ≢ Err PrintFault → CallCauses {A = C} failed unprinted old new paper paper' (Err stop)
+caused_want {B} {K} {A} {C} failed unprinted old mid new paper paper' brought stop at a later cause silent = record {
+  printer = record { later = later; failed = λ e. let is : stop ≡ PrintFault = (let d = e in cc) in absurd (silent (at ∙ ap (λ (x : Stop). Err x) is)) };
+  device = λ e. let is : stop ≡ BackingFault = (let d = e in cc) in rose_later failed old mid new a (cause (at ∙ ap (λ (x : Stop). Err x) is));
 }
 
 -- what a second call has caused

@@ -131,8 +131,8 @@ returns-in-Err-clause-causes g c = caused_stop g.B.Backing.faults g.K.Sink.fault
 
 pub returns-in-Err-bring_wanted-clause-causes : goal.returns-in-Err-bring_wanted-clause-causes
 returns-in-Err-bring_wanted-clause-causes g c =
-    caused_want g.B.Backing.faults g.K.Sink.faults c.args.backing.now c.try_once.new.backing c.bring_wanted.new.backing c.args.paper.now c.try_once.new.paper c.in-Err-bring_wanted.stop c.try_once.ensures.device.faults c.try_once.ensures.causes.printer.later
-    c.in-Err-bring_wanted.ensures.cause c.in-Err-bring_wanted.ensures.silent
+    caused_want g.B.Backing.faults g.K.Sink.faults c.args.backing.now c.try_once.new.backing c.bring_wanted.new.backing c.args.paper.now c.try_once.new.paper c.bring_wanted.result c.in-Err-bring_wanted.stop c.in-Err-bring_wanted.is
+    c.try_once.ensures.device.faults c.try_once.ensures.causes.printer.later c.bring_wanted.ensures.cause c.bring_wanted.ensures.silent
 
 pub returns-in-Ok-clause-causes : goal.returns-in-Ok-clause-causes
 returns-in-Ok-clause-causes g c =
