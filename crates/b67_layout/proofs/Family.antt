@@ -12,6 +12,7 @@ use Rattle.b67_area.specs.Spans.{Span, Area, Hole, area_at}
 use Rattle.b67_area.specs.Words.{head_word, tail_word, link_word, hole_high}
 use Rattle.b67_area.specs.Directory.{IsDirectory}
 use Rattle.b67_backing.specs.Shelf.{chain_of}
+use Rattle.b67_backing.specs.Held.{number_at}
 use Rattle.b67_ctl.specs.declared.registers.Regs.{Regs}
 use Rattle.b67_lemmas.specs.Lists.{Has}
 use Rattle.b67_core.specs.Numbers.{number}
@@ -184,7 +185,7 @@ held_in = record {
     (
       (3 * 2 ^ 48 + 0xae4009b202b2) ∷ (3 * 2 ^ 48 + 0x0380aba3ffff) ∷ replicate 28 0,
       refl,
-      λ i small inside. all_from (λ q. slice_get ((3 * 2 ^ 48 + 0xae4009b202b2) ∷ (3 * 2 ^ 48 + 0x0380aba3ffff) ∷ replicate 28 0) q ≡ slice_get (map number (words_of object)) (0 + q)) 0 2 (refl, (refl, tt)) i (omega arith) (omega arith),
+      λ i small. all_from (λ q. slice_get ((3 * 2 ^ 48 + 0xae4009b202b2) ∷ (3 * 2 ^ 48 + 0x0380aba3ffff) ∷ replicate 28 0) q ≡ Some (number_at (map number (words_of object)) (0 + q))) 0 30 (refl, (refl, (refl, (refl, (refl, (refl, (refl, (refl, (refl, (refl, (refl, (refl, (refl, (refl, (refl, (refl, (refl, (refl, (refl, (refl, (refl, (refl, (refl, (refl, (refl, (refl, (refl, (refl, (refl, (refl, tt)))))))))))))))))))))))))))))) i (omega arith) (omega arith),
     ),
     omega arith,
   );
