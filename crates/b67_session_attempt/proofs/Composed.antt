@@ -80,20 +80,20 @@ never taken told count x plan s m t old new paper paper' (what.Array home) nothi
 
 -- one try, in the session itself
 module _ {B K : Type 0} (holds : B → Told) (taken : K → Option (List ℕ)) (backing backing' : B) (x : Storage) (core count : ℕ) (plan : Placement) (s : Session) (m : SessionJob) (t : Task) (o : IsInOrderButCounts s) (runs : IsRunning plan s.jobs m t) (old new : Machine) (h : StandsOver x (holds backing) old plan s) (paper paper' : K) where
-  abbrev told : Told
-  told = content_after x.device (holds backing')
+  abbrev known : Told
+  known = content_after x.device (holds backing')
 
   abbrev Try : Result Tried Stop → Type 0
-  Try answered = TryMeets taken told count x plan s m t answered old new paper paper'
+  Try answered = TryMeets taken known count x plan s m t answered old new paper paper'
 
   abbrev Whole : Result Attempt Stop → Type 0
-  Whole answered = Attempts taken x told core count old.tasks.printed plan s t answered new paper paper'
+  Whole answered = Attempts taken x known core count old.tasks.printed plan s t answered new paper paper'
 
-  at_once : (answered : Result Attempt Stop) → AttemptMeets taken told (x.device ≢ None) core count old.tasks.printed plan s m t answered new paper paper' → Whole answered
+  at_once : (answered : Result Attempt Stop) → AttemptMeets taken known (x.device ≢ None) core count old.tasks.printed plan s m t answered new paper paper' → Whole answered
   at_once answered meets = record { jobs = s.jobs; others = others_same s o; same = λ e. refl; member = m; running = runs; meets = meets }
 
   -- the device wasn't called
-  silent : backing' ≡ backing → MachineRepresents x x.device new plan s → StillStands told new plan s
+  silent : backing' ≡ backing → MachineRepresents x x.device new plan s → StillStands known new plan s
   silent same k =
       let says : Says x.device (holds backing') = subst (λ b. Says x.device (holds b)) (sym same) h.says in
       (x, subst (λ d. MachineRepresents x d new plan s) (sym (told_is x.device (holds backing') says)) k)
@@ -104,13 +104,13 @@ module _ {B K : Type 0} (holds : B → Told) (taken : K → Option (List ℕ)) (
   pub ends_once : (ending : Ending) → backing' ≡ backing → Try (Ok (tries.Ends ending)) → Whole (Ok (attempts.Ends ending))
   ends_once ending quiet meets = at_once (Ok (attempts.Ends ending)) (λ e. meets.0, silent quiet (unchanged x x.device plan s old new meets.1 h.stands), meets.2)
 
-  refused : IsRefused x told plan s m t old new → need core s m t ≤ core → StandsLacking (x.device ≢ None) told core new plan s m t
+  abbrev refused : IsRefused x known plan s m t old new → need core s m t ≤ core → StandsLacking (x.device ≢ None) known core new plan s m t
   refused r fits = record { storage = r.storage; stands = r.stands; lacks = λ e. inr (inr r.longer); room = λ e. inl fits }
 
   pub stops_once : (stop : Stop) → ((TryWrites x plan m t (Err stop) → ⊥) → backing' ≡ backing) → TryFits core s m t (Err stop) → Try (Err stop) → Whole (Err stop)
   stops_once stop quiet fits meets = at_once (Err stop) (by stop quiet fits meets) where
     by : (why : Stop) → ((TryWrites x plan m t (Err why) → ⊥) → backing' ≡ backing) → TryFits core s m t (Err why) → Try (Err why)
-        → AttemptMeets taken told (x.device ≢ None) core count old.tasks.printed plan s m t (Err why) new paper paper'
+        → AttemptMeets taken known (x.device ≢ None) core count old.tasks.printed plan s m t (Err why) new paper paper'
     by stops.PrintFault quiet fits meets = (meets.0, silent (quiet (λ w. w)) (only_printed x x.device plan s old new meets.1 h.stands))
     by stops.Unbuilt quiet fits meets = (meets.0, meets.1, meets.2, silent (quiet (λ w. w)) (unchanged x x.device plan s old new meets.3 h.stands), meets.4)
     by (stops.NoCore words size) quiet fits meets = absurd meets
@@ -122,7 +122,7 @@ module _ {B K : Type 0} (holds : B → Told) (taken : K → Option (List ℕ)) (
   -- nothing was wanted where the device tells
   pub gives_up_once : (ending : Ending) (found : What) → backing' ≡ backing → (x.device ≢ None → WantsNothing x plan m t) → Try (Ok (tries.Absent found)) → Whole (Ok (attempts.Ends ending))
   gives_up_once ending found quiet none meets =
-      at_once (Ok (attempts.Ends ending)) (λ e. absurd (never taken told count x plan s m t old new paper paper' found (none e) meets), silent quiet (unchanged x x.device plan s old new meets.3 h.stands), meets.4)
+      at_once (Ok (attempts.Ends ending)) (λ e. absurd (never taken known count x plan s m t old new paper paper' found (none e) meets), silent quiet (unchanged x x.device plan s old new meets.3 h.stands), meets.4)
 
 -- what a try leaves of the tables
 module _ {K : Type 0} (taken : K → Option (List ℕ)) (told : Told) (count : ℕ) (x : Storage) (plan : Placement) (s : Session) (m : SessionJob) (t : Task) (old new : Machine) (paper paper' : K) where
