@@ -1,10 +1,11 @@
 //! RESIZE.
 
-ghost use Rattle.std.specs.Prelude.{◌≡◌, ◌≢◌, ◌+◌, Err, length};
+ghost use Rattle.std.specs.Prelude.{◌≡◌, ◌≢◌, ◌+◌, ◌^◌, ◌<◌, ◌≤◌, Ok, Err, length};
 ghost use Rattle.b67_io.specs.Causes.{Rose};
+ghost use Rattle.b67_backing.specs.Held.{sectors_for};
 ghost use Rattle.b67_layout_storage.specs.Machine.{Says, DeviceAfterCalls, content_after};
 ghost use Rattle.b67_mcp.specs.Called.{CallsSome, CallTouches, CallWrites};
-ghost use Rattle.b67_mcp.specs.Resizing.{ResizeAnswers};
+ghost use Rattle.b67_mcp.specs.Resizing.{HasArray, ForArrays, LengthSet, ResizeAnswers};
 ghost use Rattle.b67_mcp.specs.Running.{ForCalls, Kept};
 ghost use Rattle.b67_mcp.specs.declared.ends.Stop.TheVariants.{BackingFault, PrintFault};
 
@@ -18,7 +19,9 @@ use b67_task_need::sector_sum;
 use b67_task_tables::Machine;
 
 /// The sectors that so many words take.
-fn sectors_of(words: u32) -> u32 {
+fn sectors_of(words: u32) -> u32
+    ensures { result ≡ sectors_for words }
+{
     words.div_ceil(30)
 }
 
@@ -30,7 +33,18 @@ fn set_length<B: Backing>(
     original: u32,
     before: u32,
     after: u32,
-) -> Result<(), Stop> {
+) -> Result<(), Stop>
+    requires array { HasArray machine.old original before }
+    requires some { 0 < after }
+    requires few { after < 2 ^ 16 }
+    requires same { B.size backing.old + 1 ≡ length machine.old.sectors.links }
+    ensures row { ForArrays machine.old original before (λ x told plan s m a. Says told (B.holds backing.old)
+        → LengthSet (content_after told (B.holds backing.new)) (B.size backing.old) x plan s m a after result machine.old machine.new) }
+    ensures quiet { after ≤ before → (result ≡ Ok tt) × (backing.new ≡ backing.old) }
+    ensures cause { result ≡ Err BackingFault → Rose B.faults backing.old backing.new }
+    ensures kept { Kept machine.old machine.new }
+    ensures device { DeviceAfterCalls B.holds B.size B.calls B.faults backing.old backing.new }
+{
     if after < before {
         shorten_array(
             &mut machine.cpu,
@@ -64,10 +78,7 @@ fn set_length<B: Backing>(
 
 /// RESIZE: the array has another length, and the call is cut. Where its array is absent, or the call faults, nothing is
 /// changed; where too few sectors are free or the device fails, the machine stands for the same session.
-pub(crate) fn resize<B: Backing>(
-    machine: &mut Machine,
-    backing: &mut B,
-) -> Result<CallEnd, Stop>
+pub(crate) fn resize<B: Backing>(machine: &mut Machine, backing: &mut B) -> Result<CallEnd, Stop>
     requires calls { CallsSome machine.old 18 }
     requires same { B.size backing.old + 1 ≡ length machine.old.sectors.links }
     ensures row { ForCalls machine.old 18 (λ x told plan s m t. Says told (B.holds backing.old)
