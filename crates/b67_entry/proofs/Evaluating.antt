@@ -29,7 +29,7 @@ use Rattle.b67_layout.specs.Session.{IsRunning, RepresentsSession}
 use Rattle.b67_layout.specs.Meets.{IsMade, FindsAbsent, IsPresent, area_held, here}
 use Rattle.b67_layout.proofs.Fresh.{running_in_order}
 use Rattle.b67_refer.specs.declared.ends.End.TheVariants as end
-use Rattle.b67_refer.specs.RunningContext.{RunningContext, IsShown}
+use Rattle.b67_refer.specs.RunningContext.{RunningContext, IsShown, live_of}
 use Rattle.b67_refer.specs.Cells.{IsCellAt}
 use Rattle.b67_refer.specs.Ends.{IsElementOf, IsProcAt, EndMeets}
 use Rattle.b67_refer.proofs.Items.{array_is}
@@ -155,7 +155,7 @@ module _ (x : Storage) (old : Cpu) (plan : Placement) (s : Session) (m : Session
     module _ (original number index : ℕ) (is : follow seen v ≡ Ok (AtElement number index)) (q : IsElementOf scene a.back.place original number index) where
       -- the array, with its element
       pub element_there : HasElement m.progress.job number index
-      element_there = record { item = q.array_of.names.item; live = (has_filter (λ (z : Array). not (z.owner == a.f.identity)) m.progress.job.arrays q.array_of.names.item q.array_of.names.live).0; named = q.array_of.names.named; inside = subst (λ (z : Array). index < length z.numbers) (array_is old.core (regs_left x old plan s m t o h runs a) scene number q.array_of.names) q.inside }
+      element_there = record { item = q.array_of.names.item; live = (has_filter (λ (z : Array). not (z.owner == a.f.identity)) m.progress.job.arrays q.array_of.names.item q.array_of.names.live).0; named = q.array_of.names.named; inside = subst (λ (z : Array). index < length z.numbers) (array_is old.core (regs_left x old plan s m t o h runs a) (live_of scene) number q.array_of.names) q.inside }
 
       element_same : element (here_left m t a).job number index ≡ element m.progress.job number index
       element_same =

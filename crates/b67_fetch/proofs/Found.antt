@@ -27,6 +27,7 @@ use Rattle.b67_stack.specs.Represents.{Storage}
 use Rattle.b67_layout.specs.Placement.{Placement}
 use Rattle.b67_layout.specs.Session.{IsRunning, RepresentsSession}
 use Rattle.b67_layout.specs.Meets.{here}
+use Rattle.b67_refer.specs.RunningContext.{live_of}
 use Rattle.b67_fetch.specs.Fetches.{IsFollowed, FindsEnd}
 use Rattle.b67_fetch.proofs.Values.{here_scene, followed_stands}
 use Rattle.b67_fetch.specs.Indexes.{array_in, FindsArray}
@@ -90,10 +91,10 @@ module _ (x : Storage) (plan : Placement) (m : SessionJob) (t : Task) (q : Place
 -- a descriptor
 module _ (x : Storage) (cpu : Cpu) (plan : Placement) (s : Session) (m : SessionJob) (t : Task) (ordered : IsInOrderButCounts s) (h : RepresentsSession x cpu plan s) (runs : IsRunning plan s.jobs m t) (w : Tagged) (v : Word) (i : IsFollowed x plan m t w v) (five : w.tag ≡ 5) where
   abbrev pub Desc : DataDesc → Type 0
-  Desc d = Described cpu.core cpu.regs (here_scene x cpu plan s m t ordered h runs) i.at i.owner v d
+  Desc d = Described cpu.core cpu.regs (live_of (here_scene x cpu plan s m t ordered h runs)) i.at i.owner v d
 
   pub desc : (d : DataDesc) × IsDataDesc d × (w ≡ data_word d) × Desc d
-  desc = described cpu.core cpu.regs (here_scene x cpu plan s m t ordered h runs) i.at i.owner w v (followed_stands x cpu plan s m t ordered h runs w v i) five
+  desc = described cpu.core cpu.regs (live_of (here_scene x cpu plan s m t ordered h runs)) i.at i.owner w v (followed_stands x cpu plan s m t ordered h runs w v i) five
 
   -- the one that is read
   pub desc_is : (d : DataDesc) → IsDataDesc d → w ≡ data_word d → ((e : DataDesc) → IsDataDesc e → w ≡ data_word e → Some d ≡ Some e) → Desc d
@@ -109,7 +110,7 @@ module _ (x : Storage) (cpu : Cpu) (plan : Placement) (s : Session) (m : Session
   row_found q d original (item b n e c j k l o) z y found = absurd (true≢false (sym j ∙ y))
   row_found q d original (row b e c j k o) z y found =
       let P : Word → Type 0 = λ u. FindsArray plan m (Ok original) (array_of (here m t q) u) in
-      subst P (sym e) (found (plan.home m.constants.number b) k, record { item = o.item; live = o.live; named = o.named; inside = not_empty cpu.core cpu.regs (here_scene x cpu plan s m t ordered h runs) b o })
+      subst P (sym e) (found (plan.home m.constants.number b) k, record { item = o.item; live = o.live; named = o.named; inside = not_empty cpu.core cpu.regs (live_of (here_scene x cpu plan s m t ordered h runs)) b o })
 
   -- no row copy
   pub no_row : (q : Place) (d : DataDesc) → Desc d → (d.copy ≡ true → d.indexed ≡ false → ⊥) → FindsArray plan m (Err InvalidOperand) (array_of (here m t q) v)

@@ -30,7 +30,7 @@ use Rattle.b67_layout.specs.Session.{IsRunning, RepresentsSession}
 use Rattle.b67_layout.specs.Meets.{here, IsMade, Meets}
 use Rattle.b67_layout.proofs.Fresh.{running_in_order}
 use Rattle.b67_refer.specs.declared.ends.End.TheVariants as end
-use Rattle.b67_refer.specs.RunningContext.{RunningContext}
+use Rattle.b67_refer.specs.RunningContext.{RunningContext, live_of}
 use Rattle.b67_refer.specs.Cells.{IsCellAt}
 use Rattle.b67_refer.specs.Ends.{EndMeets, IsElementOf}
 use Rattle.b67_refer.proofs.Items.{array_is as item_is}
@@ -93,7 +93,7 @@ module _ (x : Storage) (old : Cpu) (plan : Placement) (s : Session) (m : Session
   of_item : (original n index : ℕ) → IsElementOf (here_scene x old plan s m t o h runs) q original n index → HasElement m.progress.job n index
   of_item original n index e =
       let names = e.array_of.names in
-      record { item = names.item; live = names.live; named = names.named; inside = subst (λ (z : Array). index < length z.numbers) (item_is old.core old.regs (here_scene x old plan s m t o h runs) n names) e.inside }
+      record { item = names.item; live = names.live; named = names.named; inside = subst (λ (z : Array). index < length z.numbers) (item_is old.core old.regs (live_of (here_scene x old plan s m t o h runs)) n names) e.inside }
 
   -- by the end that was found
   module _ (r : Step) (new : Cpu) (rest : List Word) (bits : ℕ) where

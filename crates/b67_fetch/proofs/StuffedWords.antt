@@ -37,6 +37,7 @@ use Rattle.b67_refer.proofs.Follows.{is_reference}
 use Rattle.b67_refer.proofs.Names.{irw_is, stuffed}
 use Rattle.b67_refer.proofs.Unders.{named_above, named_at, names_level, display_at}
 use Rattle.b67_exec_operands.proofs.Rows.{Replaces}
+use Rattle.b67_refer.specs.RunningContext.{live_of}
 use Rattle.b67_fetch.proofs.Values.{TopFollowed, here_scene, here_shown, followed_stands}
 
 module _ (x : Storage) (cpu : Cpu) (plan : Placement) (s : Session) (m : SessionJob) (t : Task) (ordered : IsInOrderButCounts s) (h : RepresentsSession x cpu plan s) (runs : IsRunning plan s.jobs m t) (q : Place) (w : Tagged) (top : TopFollowed x plan m t w) where
@@ -67,19 +68,19 @@ module _ (x : Storage) (cpu : Cpu) (plan : Placement) (s : Session) (m : Session
 
   module _ (one : w.tag ≡ 1) where
     refers : IsReference top.word
-    refers = is_reference cpu.core cpu.regs (here_scene x cpu plan s m t ordered h runs) top.followed.at top.followed.owner w top.word stands one
+    refers = is_reference cpu.core cpu.regs (live_of (here_scene x cpu plan s m t ordered h runs)) top.followed.at top.followed.owner w top.word stands one
 
     -- a stuffed one stays
     pub stff_stays : (r : Step) (new : Cpu) → ((i : Irw) → IsIrw i → w ≡ irw_word i → ⊥) → Meets x plan s m r cpu new (leaves_cells (here m t q) (cells t) None) → Meets x plan s m r cpu new (on_cells (stff (here m t q)) (here m t q))
     stff_stays r new other i =
-        let k = stuffed cpu.core cpu.regs (here_scene x cpu plan s m t ordered h runs) top.followed.at top.followed.owner w top.word stands refers other in
+        let k = stuffed cpu.core cpu.regs (live_of (here_scene x cpu plan s m t ordered h runs)) top.followed.at top.followed.owner w top.word stands refers other in
         let e : stff_word (here m t q) top.word ≡ Ok top.word = ap (stff_word (here m t q)) k.word ∙ ap Ok (sym k.word) in
         let C : List Word → Type 0 = λ cs. Meets x plan s m r cpu new (leaves_cells (here m t q) cs None) in
         by_word r new (Ok top.word) e (subst C top.is i)
 
     module _ (name : Irw) (fits : IsIrw name) (is : w ≡ irw_word name) (c : Couple) (split : c ≡ couple name.couple cpu.regs.level) where
       named_word : top.word ≡ Name name.couple
-      named_word = irw_is cpu.core cpu.regs (here_scene x cpu plan s m t ordered h runs) top.followed.at top.followed.owner w top.word name stands refers fits is
+      named_word = irw_is cpu.core cpu.regs (live_of (here_scene x cpu plan s m t ordered h runs)) top.followed.at top.followed.owner w top.word name stands refers fits is
 
       place_is : place_of (here m t q) top.word ≡ named (here m t q) c
       place_is =

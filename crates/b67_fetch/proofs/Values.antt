@@ -22,7 +22,7 @@ use Rattle.b67_model.specs.Steps.{Done, Goes, leaves_cells}
 use Rattle.b67_model.specs.Rows as rows
 use Rattle.b67_refer.specs.declared.ends.End.{End}
 use Rattle.b67_refer.specs.declared.ends.End.TheVariants as end
-use Rattle.b67_refer.specs.RunningContext.{RunningContext, IsShown}
+use Rattle.b67_refer.specs.RunningContext.{RunningContext, IsShown, live_of}
 use Rattle.b67_refer.specs.Cells.{StandsFor}
 use Rattle.b67_refer.specs.Ends.{EndMeets, EndIs}
 use Rattle.b67_refer.proofs.Scenes.{scene}
@@ -68,14 +68,14 @@ module _ (x : Storage) (cpu : Cpu) (plan : Placement) (s : Session) (m : Session
   end_is : (q : Place) (found : End) (e : Chase.End) → EndIs here_scene q found e → IsEnd plan m cpu.core found e
   end_is q (end.Cell at) (AtCell f offset bits) i = i.there ∙ ap Some i.stands.0.0
   end_is q (end.Element original index) (AtElement n k) i = let o = i.1.array_of in
-      (i.0, o.home, record { item = o.names.item; live = o.names.live; named = o.names.named; inside = subst (λ (z : Array). k < length z.numbers) (array_is cpu.core cpu.regs here_scene n o.names) i.1.inside })
+      (i.0, o.home, record { item = o.names.item; live = o.names.live; named = o.names.named; inside = subst (λ (z : Array). k < length z.numbers) (array_is cpu.core cpu.regs (live_of here_scene) n o.names) i.1.inside })
   end_is q (end.Array original) (AtArray n) i = (
     i.home,
     record {
       item = i.names.item;
       live = i.names.live;
       named = i.names.named;
-      inside = not_empty cpu.core cpu.regs here_scene n i.names;
+      inside = not_empty cpu.core cpu.regs (live_of here_scene) n i.names;
     },
   )
   end_is q (end.Proc at) (AtProc f segment level place) i = tt

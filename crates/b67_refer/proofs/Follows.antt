@@ -15,12 +15,13 @@ use Rattle.b67_model.specs.InOrder.{NamesArray}
 use Rattle.b67_layout.specs.Meets.{here}
 use Rattle.b67_refer.specs.declared.ends.End.{End}
 use Rattle.b67_word.specs.declared.faults.Fault.{Fault}
-use Rattle.b67_refer.specs.RunningContext.{RunningContext}
-use Rattle.b67_refer.specs.Cells.{reach, StandsFor}
-use Rattle.b67_refer.specs.Ends.{IsCopyOf, IsReference, EndMeets}
+use Rattle.b67_refer.specs.RunningContext.{LiveContext}
+use Rattle.b67_refer.specs.LiveCells.{reach, StandsFor}
+use Rattle.b67_refer.specs.LiveEnds.{IsReference, EndMeets}
+use Rattle.b67_refer.specs.Ends.{IsCopyOf}
 use Rattle.b67_refer.proofs.Links.{Described, own, row, item, described}
 
-module _ (core : List Tagged) (r : Regs) (a : RunningContext core r) where
+module _ (core : List Tagged) (r : Regs) (a : LiveContext core r) where
   pub is_reference : (at owner : ℕ) (w : Tagged) (v : Word) → StandsFor a at owner w v → w.tag ≡ 1 → IsReference v
   is_reference at owner w (Operand b) s t = absurd (let z = ap (λ (x : Tagged). x.tag) s.0.0 in omega (arith, z, t))
   is_reference at owner w (Name c) s t = tt
@@ -33,7 +34,7 @@ module _ (core : List Tagged) (r : Regs) (a : RunningContext core r) where
   is_reference at owner w (Words.Segment n) s t = absurd (omega (arith, s, t))
 
   module _ (q : Place) where
-    pub follows_reference : (v : Word) → IsReference v → follow (here a.member a.task q) v ≡ chase (here a.member a.task q) v
+    pub follows_reference : (v : Word) → IsReference v → follow (here a.member a.runner q) v ≡ chase (here a.member a.runner q) v
     follows_reference (Name c) ref = refl
     follows_reference (Ref g d) ref = refl
     follows_reference (Operand b) ref = absurd ref
@@ -44,7 +45,7 @@ module _ (core : List Tagged) (r : Regs) (a : RunningContext core r) where
     follows_reference (Intrinsic n) ref = absurd ref
     follows_reference (Words.Segment n) ref = absurd ref
 
-    pub follows_none : (at owner : ℕ) (w : Tagged) (v : Word) → StandsFor a at owner w v → (w.tag ≡ 1 → ⊥) → (w.tag ≡ 5 → ⊥) → EndMeets a q (Err InvalidOperand) (follow (here a.member a.task q) v)
+    pub follows_none : (at owner : ℕ) (w : Tagged) (v : Word) → StandsFor a at owner w v → (w.tag ≡ 1 → ⊥) → (w.tag ≡ 5 → ⊥) → EndMeets a q (Err InvalidOperand) (follow (here a.member a.runner q) v)
     follows_none at owner w (Operand b) s one five = refl
     follows_none at owner w (Name c) s one five = absurd (one (ap (λ (x : Tagged). x.tag) s.0.0))
     follows_none at owner w (Ref g d) s one five = absurd (one (ap (λ (x : Tagged). x.tag) s.0.0))
@@ -56,19 +57,19 @@ module _ (core : List Tagged) (r : Regs) (a : RunningContext core r) where
     follows_none at owner w (Words.Segment n) s one five = refl
 
     -- a whole array isn't followed
-    pub follows_whole : (at owner : ℕ) (v : Word) (d : DataDesc) → Described core r a at owner v d → d.indexed ≡ false → EndMeets a q (Err InvalidOperand) (follow (here a.member a.task q) v)
-    follows_whole at owner v d (own b e c h o) z = let P : Word → Type 0 = λ x. EndMeets a q (Err InvalidOperand) (follow (here a.member a.task q) x) in subst P (sym e) refl
-    follows_whole at owner v d (row b e c i h o) z = let P : Word → Type 0 = λ x. EndMeets a q (Err InvalidOperand) (follow (here a.member a.task q) x) in subst P (sym e) refl
+    pub follows_whole : (at owner : ℕ) (v : Word) (d : DataDesc) → Described core r a at owner v d → d.indexed ≡ false → EndMeets a q (Err InvalidOperand) (follow (here a.member a.runner q) v)
+    follows_whole at owner v d (own b e c h o) z = let P : Word → Type 0 = λ x. EndMeets a q (Err InvalidOperand) (follow (here a.member a.runner q) x) in subst P (sym e) refl
+    follows_whole at owner v d (row b e c i h o) z = let P : Word → Type 0 = λ x. EndMeets a q (Err InvalidOperand) (follow (here a.member a.runner q) x) in subst P (sym e) refl
     follows_whole at owner v d (item b x e c i k h o) z = absurd (true≢false (sym i ∙ z))
 
     pub follows_item : (at owner : ℕ) (v : Word) (d : DataDesc) (original : ℕ) (found : Result End Fault) → Described core r a at owner v d → IsDataDesc d → d.indexed ≡ true → ((home : ℕ) → IsCopyOf core d home → original ≡ home)
-        → ((n : ℕ) → original ≡ a.plan.home a.member.constants.number n → NamesArray a.member.progress.job.arrays (reach a) n → EndMeets a q found (element_end (here a.member a.task q) n d.length))
-        → EndMeets a q found (follow (here a.member a.task q) v)
+        → ((n : ℕ) → original ≡ a.plan.home a.member.constants.number n → NamesArray a.member.progress.job.arrays (reach a) n → EndMeets a q found (element_end (here a.member a.runner q) n d.length))
+        → EndMeets a q found (follow (here a.member a.runner q) v)
     follows_item at owner v d original found (own b e c h o) fits z is each = absurd (false≢true (sym c ∙ fits.indexed z))
     follows_item at owner v d original found (row b e c i h o) fits z is each = absurd (false≢true (sym i ∙ z))
     follows_item at owner v d original found (item b x e c i k h o) fits z is each =
-        let E : ℕ → Type 0 = λ n. EndMeets a q found (element_end (here a.member a.task q) b n) in
-        let P : Word → Type 0 = λ y. EndMeets a q found (follow (here a.member a.task q) y) in
+        let E : ℕ → Type 0 = λ n. EndMeets a q found (element_end (here a.member a.runner q) b n) in
+        let P : Word → Type 0 = λ y. EndMeets a q found (follow (here a.member a.runner q) y) in
         subst P (sym e) (subst E k (each b (is (a.plan.home a.member.constants.number b) h) o))
 
   pub item_copied : (at owner : ℕ) (v : Word) (d : DataDesc) → Described core r a at owner v d → IsDataDesc d → d.indexed ≡ true → (home : ℕ) × IsCopyOf core d home

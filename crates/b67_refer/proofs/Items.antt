@@ -25,9 +25,9 @@ use Rattle.b67_layout.specs.Placement.{Placement}
 use Rattle.b67_layout.specs.Layout.{array_object, code_objects}
 use Rattle.b67_layout.specs.Meets.{here}
 use Rattle.b67_refer.specs.declared.ends.End.TheVariants as end
-use Rattle.b67_refer.specs.RunningContext.{RunningContext, live_of}
-use Rattle.b67_refer.specs.Cells.{reach}
-use Rattle.b67_refer.specs.Ends.{EndMeets}
+use Rattle.b67_refer.specs.RunningContext.{LiveContext}
+use Rattle.b67_refer.specs.LiveCells.{reach}
+use Rattle.b67_refer.specs.LiveEnds.{EndMeets}
 use Rattle.b67_refer.proofs.Bases.{pictured}
 use Rattle.b67_refer.proofs.Fixed.{area_small, desc_fits, has_object}
 
@@ -35,7 +35,7 @@ home_by : (plan : Placement) (j : ℕ) (a : Array) (b : Bool) (h : Location) →
 home_by plan j a true h e = rw e refl
 home_by plan j a false h e = rw e refl
 
-module _ (core : List Tagged) (r : Regs) (a : RunningContext core r) (n : ℕ) (names : NamesArray a.member.progress.job.arrays (reach a) n) where
+module _ (core : List Tagged) (r : Regs) (a : LiveContext core r) (n : ℕ) (names : NamesArray a.member.progress.job.arrays (reach a) n) where
   pub array_is : array a.member.progress.job n ≡ names.item
   array_is =
       let found : keyed (λ (x : Array). x.identity) n a.member.progress.job.arrays ≡ Some names.item =
@@ -48,8 +48,8 @@ module _ (core : List Tagged) (r : Regs) (a : RunningContext core r) (n : ℕ) (
   abbrev object : PagedObject
   object = array_object a.plan a.member.constants.number names.item
 
-  there : Has (pictured core r (live_of a)).objects object
-  there = has_object core r (live_of a) object (has_append_right (code_objects a.plan a.member.constants.number 1 a.member.constants.segments) (map (array_object a.plan a.member.constants.number) a.member.progress.job.arrays) object (has_map (array_object a.plan a.member.constants.number) a.member.progress.job.arrays names.item names.live))
+  there : Has (pictured core r a).objects object
+  there = has_object core r a object (has_append_right (code_objects a.plan a.member.constants.number 1 a.member.constants.segments) (map (array_object a.plan a.member.constants.number) a.member.progress.job.arrays) object (has_map (array_object a.plan a.member.constants.number) a.member.progress.job.arrays names.item names.live))
 
   abbrev pub desc : DataDesc
   desc = home_desc (not names.item.writable) (length names.item.numbers) (a.storage.held object.home)
@@ -62,19 +62,19 @@ module _ (core : List Tagged) (r : Regs) (a : RunningContext core r) (n : ℕ) (
       ∙ ap Some (home_by a.plan a.member.constants.number names.item names.item.writable (a.storage.held object.home) refl)
 
   pub desc_is : IsDataDesc desc
-  desc_is = desc_fits a.storage core r (pictured core r (live_of a)) a.holds.memory object there (not names.item.writable) (length names.item.numbers) (a.storage.held object.home).area (a.storage.held object.home).chain
+  desc_is = desc_fits a.storage core r (pictured core r a) a.holds.memory object there (not names.item.writable) (length names.item.numbers) (a.storage.held object.home).area (a.storage.held object.home).chain
       (omega (arith, (a.holds.memory.slots.laid.lengths object there).1))
       (chain_small a.storage core object (a.storage.held object.home).area (a.storage.held object.home).chain stands.content)
-      (area_small a.storage core r (pictured core r (live_of a)) a.holds.memory object there)
+      (area_small a.storage core r (pictured core r a) a.holds.memory object there)
 
   pub length_is : (d : DataDesc) → d ≡ desc → d.length ≡ length (array a.member.progress.job n).numbers
   length_is d e = ap (λ (z : DataDesc). z.length) e ∙ ap (λ (z : Array). length z.numbers) (sym array_is)
 
   module _ (q : Place) (d : DataDesc) (is : d ≡ desc) (original index : ℕ) (home : original ≡ a.plan.home a.member.constants.number n) where
-    pub past : d.length ≤ index → EndMeets a q (Err InvalidIndex) (element_end (here a.member a.task q) n index)
+    pub past : d.length ≤ index → EndMeets a q (Err InvalidIndex) (element_end (here a.member a.runner q) n index)
     past high = let t : nat_lt index (length (array a.member.progress.job n).numbers) ≡ false = le-ltb index (length (array a.member.progress.job n).numbers) (omega (arith, high, length_is d is)) in rw t refl
 
-    pub within : index < d.length → EndMeets a q (Ok (end.Element original index)) (element_end (here a.member a.task q) n index)
+    pub within : index < d.length → EndMeets a q (Ok (end.Element original index)) (element_end (here a.member a.runner q) n index)
     within low =
         let inside : index < length (array a.member.progress.job n).numbers = omega (arith, low, length_is d is) in
         let t : nat_lt index (length (array a.member.progress.job n).numbers) ≡ true = lt-ltb index (length (array a.member.progress.job n).numbers) inside in

@@ -20,9 +20,10 @@ use Rattle.b67_stack.specs.Shapes.{Copied, copy_desc, IsCopy}
 use Rattle.b67_refer.specs.declared.ends.End.{End}
 use Rattle.b67_refer.specs.declared.ends.End.TheVariants as end
 use Rattle.b67_word.specs.declared.faults.Fault.{Fault}
-use Rattle.b67_refer.specs.RunningContext.{RunningContext, live_of}
-use Rattle.b67_refer.specs.Cells.{reach, StandsFor, IsCellAt}
-use Rattle.b67_refer.specs.Ends.{IsCopyOf, HasTag, EndMeets, LinkMeets, on_link}
+use Rattle.b67_refer.specs.RunningContext.{LiveContext}
+use Rattle.b67_refer.specs.LiveCells.{reach, StandsFor, IsCellAt}
+use Rattle.b67_refer.specs.LiveEnds.{EndMeets, LinkMeets, on_link}
+use Rattle.b67_refer.specs.Ends.{IsCopyOf, HasTag}
 use Rattle.b67_refer.proofs.Bases.{pictured}
 use Rattle.b67_refer.proofs.Chains.{level}
 use Rattle.b67_lemmas.proofs.Members.{all_in}
@@ -31,7 +32,7 @@ use Rattle.b67_lemmas.proofs.Members.{all_in}
 pub not_intrinsic : (syllable place level segment number : ℕ) → syllable < 8 → place < 2 ^ 13 → level ≤ 31 → segment < 2 ^ 14 → number < 2 ^ 14 → syllable * 2 ^ 33 + place * 2 ^ 20 + level * 2 ^ 14 + segment ≡ 2 ^ 19 + number → ⊥
 not_intrinsic syllable place level segment number a b c d e z = omega arith
 
-module _ (core : List Tagged) (r : Regs) (a : RunningContext core r) where
+module _ (core : List Tagged) (r : Regs) (a : LiveContext core r) where
   -- an original that is named in a frame of the reach
   named_original : (f array : ℕ) → NamesEntered (reach a) f → OwnsArray a.member.progress.job.arrays f array → NamesArray a.member.progress.job.arrays (reach a) array
   named_original f array n o = record {
@@ -43,7 +44,7 @@ module _ (core : List Tagged) (r : Regs) (a : RunningContext core r) where
 
   -- a copy by its descriptor
   pub copy_of : (c : Copied) (home : ℕ) (v : Tagged) (d : DataDesc) → IsDataDesc d → v ≡ data_word d → IsCopy a.storage.held c home v → IsCopyOf core d home
-  copy_of c home v d fits e is = record { storage = a.storage; registers = r; machine_view = pictured core r (live_of a); stands = a.holds.memory; copied = c; fits = fits; is = subst (λ (w : Tagged). IsCopy a.storage.held c home w) e is }
+  copy_of c home v d fits e is = record { storage = a.storage; registers = r; machine_view = pictured core r a; stands = a.holds.memory; copied = c; fits = fits; is = subst (λ (w : Tagged). IsCopy a.storage.held c home w) e is }
 
   -- a data descriptor among the words that stand for something: an original, a row copy or an element copy
   pub data Described (at owner : ℕ) (w : Word) (d : DataDesc) : Type 0 where
@@ -70,26 +71,26 @@ module _ (core : List Tagged) (r : Regs) (a : RunningContext core r) where
 
   module _ (q : Place) (at f offset : ℕ) where
     -- the end at a descriptor
-    pub end_own : (w : Word) (d : DataDesc) → NamesEntered (reach a) f → Described at f w d → d.copy ≡ false → LinkMeets a q (Ok (Some (end.Array at))) (link_at (here a.member a.task q) f offset w)
-    end_own w d n (own b e c h o) z = let P : Word → Type 0 = λ x. LinkMeets a q (Ok (Some (end.Array at))) (link_at (here a.member a.task q) f offset x) in subst P (sym e) (record { home = h; names = named_original f b n o })
+    pub end_own : (w : Word) (d : DataDesc) → NamesEntered (reach a) f → Described at f w d → d.copy ≡ false → LinkMeets a q (Ok (Some (end.Array at))) (link_at (here a.member a.runner q) f offset w)
+    end_own w d n (own b e c h o) z = let P : Word → Type 0 = λ x. LinkMeets a q (Ok (Some (end.Array at))) (link_at (here a.member a.runner q) f offset x) in subst P (sym e) (record { home = h; names = named_original f b n o })
     end_own w d n (row b e c i h o) z = absurd (true≢false (sym c ∙ z))
     end_own w d n (item b x e c i k h o) z = absurd (true≢false (sym c ∙ z))
 
-    pub end_row : (w : Word) (d : DataDesc) (original : ℕ) → Described at f w d → d.copy ≡ true → d.indexed ≡ false → ((home : ℕ) → IsCopyOf core d home → original ≡ home) → LinkMeets a q (Ok (Some (end.Array original))) (link_at (here a.member a.task q) f offset w)
+    pub end_row : (w : Word) (d : DataDesc) (original : ℕ) → Described at f w d → d.copy ≡ true → d.indexed ≡ false → ((home : ℕ) → IsCopyOf core d home → original ≡ home) → LinkMeets a q (Ok (Some (end.Array original))) (link_at (here a.member a.runner q) f offset w)
     end_row w d original (own b e c h o) z y found = absurd (false≢true (sym c ∙ z))
-    end_row w d original (row b e c i h o) z y found = let P : Word → Type 0 = λ x. LinkMeets a q (Ok (Some (end.Array original))) (link_at (here a.member a.task q) f offset x) in subst P (sym e) (record { home = found (a.plan.home a.member.constants.number b) h; names = o })
+    end_row w d original (row b e c i h o) z y found = let P : Word → Type 0 = λ x. LinkMeets a q (Ok (Some (end.Array original))) (link_at (here a.member a.runner q) f offset x) in subst P (sym e) (record { home = found (a.plan.home a.member.constants.number b) h; names = o })
     end_row w d original (item b x e c i k h o) z y found = absurd (true≢false (sym i ∙ y))
 
     pub end_item : (w : Word) (d : DataDesc) (original : ℕ) (found : Result End Fault) → Described at f w d → d.copy ≡ true → d.indexed ≡ true → ((home : ℕ) → IsCopyOf core d home → original ≡ home)
-        → ((n : ℕ) → original ≡ a.plan.home a.member.constants.number n → NamesArray a.member.progress.job.arrays (reach a) n → EndMeets a q found (element_end (here a.member a.task q) n d.length))
-        → LinkMeets a q (on_link found) (link_at (here a.member a.task q) f offset w)
+        → ((n : ℕ) → original ≡ a.plan.home a.member.constants.number n → NamesArray a.member.progress.job.arrays (reach a) n → EndMeets a q found (element_end (here a.member a.runner q) n d.length))
+        → LinkMeets a q (on_link found) (link_at (here a.member a.runner q) f offset w)
     end_item w d original found (own b e c h o) z y is each = absurd (false≢true (sym c ∙ z))
     end_item w d original found (row b e c i h o) z y is each = absurd (false≢true (sym i ∙ y))
     end_item w d original found (item b x e c i k h o) z y is each =
         let m = each b (is (a.plan.home a.member.constants.number b) h) o in
-        let E : ℕ → Type 0 = λ n. EndMeets a q found (element_end (here a.member a.task q) b n) in
-        let P : Word → Type 0 = λ v. LinkMeets a q (on_link found) (link_at (here a.member a.task q) f offset v) in
-        subst P (sym e) (linked found (element_end (here a.member a.task q) b x) (subst E k m))
+        let E : ℕ → Type 0 = λ n. EndMeets a q found (element_end (here a.member a.runner q) b n) in
+        let P : Word → Type 0 = λ v. LinkMeets a q (on_link found) (link_at (here a.member a.runner q) f offset v) in
+        subst P (sym e) (linked found (element_end (here a.member a.runner q) b x) (subst E k m))
       where
         linked : (r : Result End Fault) (end : Answer Chase.End) → EndMeets a q r end → LinkMeets a q (on_link r) (Stops end)
         linked (Ok r) (Ok end) m = m

@@ -20,9 +20,9 @@ use Rattle.b67_law_order.proofs.Chases.{cell_has}
 use Rattle.b67_layout.specs.Meets.{here}
 use Rattle.b67_layout.proofs.Sessions.{words_enough}
 use Rattle.b67_refer.specs.declared.ends.End.TheVariants as end
-use Rattle.b67_refer.specs.RunningContext.{RunningContext, live_of}
-use Rattle.b67_refer.specs.Cells.{StandsFor, IsCellAt}
-use Rattle.b67_refer.specs.Ends.{LinkMeets}
+use Rattle.b67_refer.specs.RunningContext.{LiveContext}
+use Rattle.b67_refer.specs.LiveCells.{StandsFor, IsCellAt}
+use Rattle.b67_refer.specs.LiveEnds.{LinkMeets}
 use Rattle.b67_refer.proofs.Marks.{frame_dictionary, frame_mcp}
 use Rattle.b67_refer.proofs.Links.{not_intrinsic}
 
@@ -33,7 +33,7 @@ IsNoProc _ = Unit {0}
 no_entry : (arrays : List Rattle.b67_model.specs.State.Array) (segment level : ℕ) (place : Place) → EntryInOrder arrays (Proc segment level place) → ⊥
 no_entry arrays segment level place e = e
 
-module _ (core : List Tagged) (r : Regs) (a : RunningContext core r) (q : Place) where
+module _ (core : List Tagged) (r : Regs) (a : LiveContext core r) (q : Place) where
   -- a procedure's cell lies in a frame of a task
   pub proc_own : (at f offset segment level : ℕ) (place : Place) → IsCellAt a q at f offset (Proc segment level place) → 1 < f
   proc_own at f offset segment level place c = ⊎_elim
@@ -41,11 +41,11 @@ module _ (core : List Tagged) (r : Regs) (a : RunningContext core r) (q : Place)
       (λ (low : f ≤ 1). absurd (⊎_elim
       (λ (z : f < 1).
       (let is : f ≡ 0 = omega (arith, z) in
-      let h = cell_has mcp offset (Proc segment level place) (sym (ap (λ (g : Frame). ok_or (cell_of g offset) InvalidAddress) (ap (frame (here a.member a.task q)) is ∙ frame_mcp core r (live_of a) q)) ∙ c.found) in
+      let h = cell_has mcp offset (Proc segment level place) (sym (ap (λ (g : Frame). ok_or (cell_of g offset) InvalidAddress) (ap (frame (here a.member a.runner q)) is ∙ frame_mcp core r a q)) ∙ c.found) in
       all_in IsNoProc mcp.cells (Proc segment level place) (tt, (tt, (tt, (tt, (tt, (tt, (tt, (tt, (tt, (tt, (tt, tt))))))))))) h))
       (λ (z : 1 ≤ f).
       (let is : f ≡ 1 = omega (arith, z, low) in
-      let h = cell_has a.member.constants.dictionary offset (Proc segment level place) (sym (ap (λ (g : Frame). ok_or (cell_of g offset) InvalidAddress) (ap (frame (here a.member a.task q)) is ∙ frame_dictionary core r (live_of a) q)) ∙ c.found) in
+      let h = cell_has a.member.constants.dictionary offset (Proc segment level place) (sym (ap (λ (g : Frame). ok_or (cell_of g offset) InvalidAddress) (ap (frame (here a.member a.runner q)) is ∙ frame_dictionary core r a q)) ∙ c.found) in
       no_entry a.member.progress.job.arrays segment level place (all_in (EntryInOrder a.member.progress.job.arrays) a.member.constants.dictionary.cells (Proc segment level place) a.ordered.tasks.entries h)))
       (cases_lt f 1)))
       (cases_lt 1 f)
@@ -76,14 +76,14 @@ module _ (core : List Tagged) (r : Regs) (a : RunningContext core r) (q : Place)
       (ap Intrinsic same, omega (arith, same, s.2))
   intrinsic_is at owner v (Words.Segment n) p s i e = absurd (let y = ap (λ (x : Tagged). x.tag) e in omega (arith, s, y))
 
-  pub intrinsic_end : (at f offset : ℕ) (w : Word) (p : IntrinsicPcw) (k : ℕ) (c : IsCellAt a q at f offset w) → IsIntrinsicPcw p → c.word ≡ intrinsic_word p → k ≡ p.number → LinkMeets a q (Ok (Some (end.Intrinsic k))) (link_at (here a.member a.task q) f offset w)
+  pub intrinsic_end : (at f offset : ℕ) (w : Word) (p : IntrinsicPcw) (k : ℕ) (c : IsCellAt a q at f offset w) → IsIntrinsicPcw p → c.word ≡ intrinsic_word p → k ≡ p.number → LinkMeets a q (Ok (Some (end.Intrinsic k))) (link_at (here a.member a.runner q) f offset w)
   intrinsic_end at f offset w p k c i e z =
       let is = intrinsic_is at f c.word w p c.stands i e in
-      let P : Word → Type 0 = λ x. LinkMeets a q (Ok (Some (end.Intrinsic k))) (link_at (here a.member a.task q) f offset x) in
+      let P : Word → Type 0 = λ x. LinkMeets a q (Ok (Some (end.Intrinsic k))) (link_at (here a.member a.runner q) f offset x) in
       subst P (sym is.0) z
 
   -- another word of tag 7 is that of a procedure
-  pub proc_end : (at f offset : ℕ) (w : Word) (v : Tagged) → IsCellAt a q at f offset w → StandsFor a at f v w → v.tag ≡ 7 → ((p : IntrinsicPcw) → IsIntrinsicPcw p → v ≡ intrinsic_word p → ⊥) → LinkMeets a q (Ok (Some (end.Proc at))) (link_at (here a.member a.task q) f offset w)
+  pub proc_end : (at f offset : ℕ) (w : Word) (v : Tagged) → IsCellAt a q at f offset w → StandsFor a at f v w → v.tag ≡ 7 → ((p : IntrinsicPcw) → IsIntrinsicPcw p → v ≡ intrinsic_word p → ⊥) → LinkMeets a q (Ok (Some (end.Proc at))) (link_at (here a.member a.runner q) f offset w)
   proc_end at f offset (Operand bits) v c s t other = absurd (let z = ap (λ (x : Tagged). x.tag) s.0.0 in omega (arith, z, t))
   proc_end at f offset (Name d) v c s t other = absurd (let z = ap (λ (x : Tagged). x.tag) s.0.0 in omega (arith, z, t))
   proc_end at f offset (Ref g d) v c s t other = absurd (let z = ap (λ (x : Tagged). x.tag) s.0.0 in omega (arith, z, t))

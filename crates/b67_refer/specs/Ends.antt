@@ -1,5 +1,5 @@
--- Where references end in core.
-use Rattle.std.specs.Prelude.{◌≡◌, ℕ, ◌<◌, List, Option, Some, None, Result, Ok, Err, length, slice_get}
+-- Where references end in core, seen from the running task.
+use Rattle.std.specs.Prelude.{◌≡◌, ℕ, List, Some, Result, slice_get}
 use Rattle.b67_word.specs.Tagged.{Tagged}
 use Rattle.b67_word.specs.declared.couples.Place.{Place}
 use Rattle.b67_word.specs.declared.faults.Fault.{Fault}
@@ -7,18 +7,14 @@ use Rattle.b67_ctl.specs.declared.registers.Regs.{Regs}
 use Rattle.b67_ctl.specs.declared.descriptors.DataDesc.{DataDesc}
 use Rattle.b67_ctl.specs.Descriptors.{data_word, IsDataDesc}
 use Rattle.b67_model.specs.Answers.{Answer}
-use Rattle.b67_model.specs.Words.{Word, Operand, Name, Ref, Proc}
-use Rattle.b67_model.specs.InOrder.{NamesArray}
-use Rattle.b67_model.specs.Arrays.{array}
 use Rattle.b67_model.specs.Chase as Chase
-use Rattle.b67_model.specs.Chase.{AtCell, AtElement, AtArray, AtProc, AtIntrinsic, Link, Stops, Leads}
 use Rattle.b67_stack.specs.Shapes.{Copied, IsCopy}
 use Rattle.b67_stack.specs.MachineView.{MachineView}
 use Rattle.b67_stack.specs.Represents.{Storage, Represents}
 use Rattle.b67_refer.specs.declared.ends.End.{End}
-use Rattle.b67_refer.specs.declared.ends.End.TheVariants as end
-use Rattle.b67_refer.specs.RunningContext.{RunningContext}
-use Rattle.b67_refer.specs.Cells.{reach, IsCellAt}
+use Rattle.b67_refer.specs.RunningContext.{RunningContext, live_of}
+use Rattle.b67_refer.specs.LiveEnds as live
+pub use Rattle.b67_refer.specs.LiveEnds.{IsReference}
 
 -- a copy of the array whose original has this address, in some machine of this core
 pub record IsCopyOf (core : List Tagged) (copy : DataDesc) (home : ℕ) : Type 0 where
@@ -34,51 +30,15 @@ pub record IsCopyOf (core : List Tagged) (copy : DataDesc) (home : ℕ) : Type 0
 abbrev pub HasTag : List Tagged → (at tag : ℕ) → Type 0
 HasTag core at tag = (v : Tagged) × (slice_get core at ≡ Some v) × (v.tag ≡ tag)
 
--- an IRW's or an SIRW's word
-abbrev pub IsReference : Word → Type 0
-IsReference (Name couple) = Unit {0}
-IsReference (Ref frame offset) = Unit {0}
-IsReference _ = ⊥
-
--- an end, or a fault, as what a link comes to
-abbrev pub on_link : Result End Fault → Result (Option End) Fault
-on_link (Ok found) = Ok (Some found)
-on_link (Err fault) = Err fault
-
 module _ {core : List Tagged} {r : Regs} (a : RunningContext core r) (q : Place) where
-  -- the cell of a procedure
-  pub record IsProcAt (at f segment level : ℕ) (place : Place) : Type 0 where
-    pub own : 1 < f
-    pub offset : ℕ
-    pub cell : IsCellAt a q at f offset (Proc segment level place)
+  abbrev pub IsProcAt : (at f segment level : ℕ) (place : Place) → Type 0
+  IsProcAt at f segment level place = live.IsProcAt (live_of a) q at f segment level place
 
-  -- an array whose original has this address
-  pub record IsArrayOf (original n : ℕ) : Type 0 where
-    pub home : original ≡ a.plan.home a.member.constants.number n
-    pub names : NamesArray a.member.progress.job.arrays (reach a) n
-
-  -- an element of it
-  pub record IsElementOf (original n index : ℕ) : Type 0 where
-    pub array_of : IsArrayOf original n
-    pub inside : index < length (array a.member.progress.job n).numbers
+  abbrev pub IsElementOf : (original n index : ℕ) → Type 0
+  IsElementOf original n index = live.IsElementOf (live_of a) q original n index
 
   abbrev pub EndIs : End → Chase.End → Type 0
-  EndIs (end.Cell at) (AtCell f offset bits) = IsCellAt a q at f offset (Operand bits)
-  EndIs (end.Element original index) (AtElement n i) = (index ≡ i) × IsElementOf original n i
-  EndIs (end.Array original) (AtArray n) = IsArrayOf original n
-  EndIs (end.Proc at) (AtProc f segment level place) = IsProcAt at f segment level place
-  EndIs (end.Intrinsic n) (AtIntrinsic k) = n ≡ k
-  EndIs _ _ = ⊥
+  EndIs found end = live.EndIs (live_of a) q found end
 
-  -- what was found is the end, or the fault
   abbrev pub EndMeets : Result End Fault → Answer Chase.End → Type 0
-  EndMeets (Ok found) (Ok end) = EndIs found end
-  EndMeets (Err x) (Err y) = x ≡ y
-  EndMeets _ _ = ⊥
-
-  -- what a cell's word comes to: an end, a fault, or a reference to follow
-  abbrev pub LinkMeets : Result (Option End) Fault → Link → Type 0
-  LinkMeets (Ok (Some found)) (Stops (Ok end)) = EndIs found end
-  LinkMeets (Ok None) (Leads w) = IsReference w
-  LinkMeets (Err x) (Stops (Err y)) = x ≡ y
-  LinkMeets _ _ = ⊥
+  EndMeets found answer = live.EndMeets (live_of a) q found answer

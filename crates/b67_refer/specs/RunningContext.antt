@@ -62,6 +62,25 @@ live_of a = record {
   running = a.running;
 }
 
+-- the running task's own context
+abbrev pub running_of : {core : List Tagged} {r : Regs} → LiveContext core r → RunningContext core r
+running_of a = record {
+  left = a.left;
+  storage = a.storage;
+  marks = a.marks;
+  plan = a.plan;
+  session = a.session;
+  member = a.member;
+  task = a.runner;
+  ordered = a.ordered;
+  holds = a.holds;
+  running = a.running;
+}
+
+-- seen from the live task, or from the running one: in the running environment couples are looked up
+abbrev pub FromEither : {core : List Tagged} {r : Regs} → (LiveContext core r → Type 0) → LiveContext core r → Type 0
+FromEither P a = P a ⊎ P (live_of (running_of a))
+
 -- the number of the running task's job, and its state
 abbrev pub number_in : {core : List Tagged} {r : Regs} → RunningContext core r → ℕ
 number_in a = a.member.constants.number

@@ -7,9 +7,10 @@ ghost use Rattle.b67_model.specs.Cells.{place_of};
 ghost use Rattle.b67_model.specs.Chase.{element_end, link_at, chase as chase_of, follow};
 ghost use Rattle.b67_model.specs.InOrder.{NamesArray};
 ghost use Rattle.b67_layout.specs.Meets.{here};
-ghost use Rattle.b67_refer.specs.RunningContext.{RunningContext, IsShown};
-ghost use Rattle.b67_refer.specs.Cells.{reach, StandsFor, IsCellAt, FindsCell};
-ghost use Rattle.b67_refer.specs.Ends.{IsCopyOf, HasTag, IsReference, EndMeets, LinkMeets};
+ghost use Rattle.b67_refer.specs.RunningContext.{RunningContext, LiveContext, IsShown, live_of, running_of, FromEither};
+ghost use Rattle.b67_refer.specs.LiveCells.{reach, StandsFor, IsCellAt, FindsCell};
+ghost use Rattle.b67_refer.specs.LiveEnds.{IsReference, EndMeets, LinkMeets};
+ghost use Rattle.b67_refer.specs.Ends.{IsCopyOf, HasTag};
 
 use crate::cells::{cell_at, cell_of};
 use b67_core::Core;
@@ -43,9 +44,9 @@ pub fn owner(core: &Core, copy: DataDesc) -> u32
 
 /// The element of an array at an index. INVALID INDEX where the array, as it is now, is no longer than the index.
 fn element_at(core: &Core, regs: &Regs, original: u32, index: u32) -> Result<End, Fault>
-    requires { (a : RunningContext core.now regs.now) × (n : ℕ) × (original ≡ a.plan.home a.member.constants.number n) × NamesArray a.member.progress.job.arrays (reach a) n }
-    ensures { (a : RunningContext core.now regs.now) (q : Place) (n : ℕ) → original ≡ a.plan.home a.member.constants.number n
-        → NamesArray a.member.progress.job.arrays (reach a) n → EndMeets a q result (element_end (here a.member a.task q) n index) }
+    requires { (a : LiveContext core.now regs.now) × (n : ℕ) × (original ≡ a.plan.home a.member.constants.number n) × NamesArray a.member.progress.job.arrays (reach a) n }
+    ensures { (a : LiveContext core.now regs.now) (q : Place) (n : ℕ) → original ≡ a.plan.home a.member.constants.number n
+        → NamesArray a.member.progress.job.arrays (reach a) n → EndMeets a q result (element_end (here a.member a.runner q) n index) }
 {
     let d = match DataDesc::from_word(core.get(original)) {
         Some(d) => d,
@@ -59,9 +60,9 @@ fn element_at(core: &Core, regs: &Regs, original: u32, index: u32) -> Result<End
 
 /// The end at an array's descriptor in a cell.
 fn array_end(core: &Core, regs: &Regs, at: u32) -> Result<Option<End>, Fault>
-    requires { (a : RunningContext core.now regs.now) × (q : Place) × (f : ℕ) × (offset : ℕ) × (w : Words.Word) × IsCellAt a q at f offset w × HasTag core.now at 5 }
-    ensures { (a : RunningContext core.now regs.now) (q : Place) (f offset : ℕ) (w : Words.Word) → IsCellAt a q at f offset w → HasTag core.now at 5
-        → LinkMeets a q result (link_at (here a.member a.task q) f offset w) }
+    requires { (a : LiveContext core.now regs.now) × (q : Place) × (f : ℕ) × (offset : ℕ) × (w : Words.Word) × IsCellAt a q at f offset w × HasTag core.now at 5 }
+    ensures { (a : LiveContext core.now regs.now) (q : Place) (f offset : ℕ) (w : Words.Word) → IsCellAt a q at f offset w → HasTag core.now at 5
+        → LinkMeets a q result (link_at (here a.member a.runner q) f offset w) }
 {
     let d = match DataDesc::from_word(core.get(at)) {
         Some(d) => d,
@@ -83,9 +84,9 @@ fn array_end(core: &Core, regs: &Regs, at: u32) -> Result<Option<End>, Fault>
 /// What the word in a cell comes to: an end, or None where it is a reference. INVALID OPERAND exactly where it is
 /// neither.
 fn end_at(core: &Core, regs: &Regs, at: u32) -> Result<Option<End>, Fault>
-    requires { (a : RunningContext core.now regs.now) × (q : Place) × (f : ℕ) × (offset : ℕ) × (w : Words.Word) × IsCellAt a q at f offset w }
-    ensures { (a : RunningContext core.now regs.now) (q : Place) (f offset : ℕ) (w : Words.Word) → IsCellAt a q at f offset w
-        → LinkMeets a q result (link_at (here a.member a.task q) f offset w) }
+    requires { (a : LiveContext core.now regs.now) × (q : Place) × (f : ℕ) × (offset : ℕ) × (w : Words.Word) × IsCellAt a q at f offset w }
+    ensures { (a : LiveContext core.now regs.now) (q : Place) (f offset : ℕ) (w : Words.Word) → IsCellAt a q at f offset w
+        → LinkMeets a q result (link_at (here a.member a.runner q) f offset w) }
 {
     let w = core.get(at);
     if w.tag() == 0 {
@@ -111,9 +112,9 @@ fn end_at(core: &Core, regs: &Regs, at: u32) -> Result<Option<End>, Fault>
 
 /// The cell that a reference word names.
 fn named_cell(core: &Core, regs: &Regs, display: &[u32; 32], w: Word) -> Result<u32, Fault>
-    requires { (a : RunningContext core.now regs.now) × IsShown a display.now × (at : ℕ) × (owner : ℕ) × (v : Words.Word) × StandsFor a at owner w v × IsReference v }
-    ensures { (a : RunningContext core.now regs.now) (q : Place) → IsShown a display.now → (at owner : ℕ) (v : Words.Word) → StandsFor a at owner w v
-        → IsReference v → FindsCell a q result (place_of (here a.member a.task q) v) }
+    requires { (a : LiveContext core.now regs.now) × IsShown (running_of a) display.now × (at : ℕ) × (owner : ℕ) × (v : Words.Word) × StandsFor a at owner w v × IsReference v }
+    ensures { (a : LiveContext core.now regs.now) (q : Place) → IsShown (running_of a) display.now → (at owner : ℕ) (v : Words.Word) → StandsFor a at owner w v
+        → IsReference v → FromEither (λ (b : LiveContext core.now regs.now). FindsCell b q result (place_of (here a.member a.runner q) v)) a }
 {
     match Irw::from_word(w) {
         Some(r) => cell_of(core, regs, display, couple_of(r.couple, regs.level)),
@@ -126,9 +127,9 @@ fn named_cell(core: &Core, regs: &Regs, display: &[u32; 32], w: Word) -> Result<
 
 /// Follows a chain of references, of at most 1,024 links.
 fn chase_reference(core: &Core, regs: &Regs, display: &[u32; 32], w: Word) -> Result<End, Fault>
-    requires { (a : RunningContext core.now regs.now) × IsShown a display.now × (at : ℕ) × (owner : ℕ) × (v : Words.Word) × StandsFor a at owner w v × IsReference v }
-    ensures { (a : RunningContext core.now regs.now) (q : Place) → IsShown a display.now → (at owner : ℕ) (v : Words.Word) → StandsFor a at owner w v
-        → IsReference v → EndMeets a q result (chase_of (here a.member a.task q) v) }
+    requires { (a : LiveContext core.now regs.now) × IsShown (running_of a) display.now × (at : ℕ) × (owner : ℕ) × (v : Words.Word) × StandsFor a at owner w v × IsReference v }
+    ensures { (a : LiveContext core.now regs.now) (q : Place) → IsShown (running_of a) display.now → (at owner : ℕ) (v : Words.Word) → StandsFor a at owner w v
+        → IsReference v → FromEither (λ (b : LiveContext core.now regs.now). EndMeets b q result (chase_of (here a.member a.runner q) v)) a }
 {
     let mut w = w;
     for _i in 0..1024u32 {
@@ -146,13 +147,15 @@ fn chase_reference(core: &Core, regs: &Regs, display: &[u32; 32], w: Word) -> Re
 }
 
 /// Where a word leads: a reference to the end of its chain, an element copy to its element. The faults: INVALID ADDRESS
-/// where a reference names no cell, INVALID OPERAND where the chain comes to a word that is no end or where the word
-/// itself is neither a reference nor an element copy, and LOOP where a link after the 1,024th would be followed. The
-/// word is one of the running task's, and the display shows its environment.
+/// if a reference names no cell, INVALID OPERAND if the chain comes to a word that is no end or if the word itself is
+/// neither a reference nor an element copy, and LOOP if a link after the 1,024th would be followed. The word is one of any
+/// live task of the running task's job, and couples are looked up in the running environment, which the display shows.
 pub fn chase(core: &Core, regs: &Regs, display: &[u32; 32], w: Word) -> Result<End, Fault>
-    requires { (a : RunningContext core.now regs.now) × IsShown a display.now × (at : ℕ) × (owner : ℕ) × (v : Words.Word) × StandsFor a at owner w v }
-    ensures { (a : RunningContext core.now regs.now) (q : Place) → IsShown a display.now → (at owner : ℕ) (v : Words.Word) → StandsFor a at owner w v
-        → EndMeets a q result (follow (here a.member a.task q) v) }
+    requires { (a : LiveContext core.now regs.now) × IsShown (running_of a) display.now × (at : ℕ) × (owner : ℕ) × (v : Words.Word) × StandsFor a at owner w v }
+    ensures running { (a : RunningContext core.now regs.now) (q : Place) → IsShown a display.now → (at owner : ℕ) (v : Words.Word) → StandsFor (live_of a) at owner w v
+        → EndMeets (live_of a) q result (follow (here a.member a.task q) v) }
+    ensures alive { (a : LiveContext core.now regs.now) (q : Place) → IsShown (running_of a) display.now → (at owner : ℕ) (v : Words.Word) → StandsFor a at owner w v
+        → FromEither (λ (b : LiveContext core.now regs.now). EndMeets b q result (follow (here a.member a.runner q) v)) a }
 {
     if w.tag() == 1 {
         return chase_reference(core, regs, display, w);

@@ -4,10 +4,9 @@ ghost use Rattle.b67_ctl.specs.Layout.{IsPlace};
 ghost use Rattle.b67_entry_enter.specs.Procedures.{ReachesProc};
 ghost use Rattle.b67_layout.specs.Meets.{RunsSome};
 ghost use Rattle.b67_model.specs.InOrder.{NamesEntered};
-ghost use Rattle.b67_refer.specs.Cells.{StandsFor};
 ghost use Rattle.b67_refer.specs.Ends.{IsCopyOf};
 ghost use Rattle.b67_refer.specs.LiveCells as live;
-ghost use Rattle.b67_refer.specs.RunningContext.{IsShown, LiveContext, RunningContext};
+ghost use Rattle.b67_refer.specs.RunningContext.{IsShown, LiveContext, RunningContext, running_of};
 ghost use Rattle.b67_stack.specs.Changes.{Runs, below_top};
 ghost use Rattle.b67_stack.specs.MachineView.{MachineView, RunsOn};
 ghost use Rattle.b67_stack.specs.Represents.{Represents, Storage};
@@ -61,7 +60,7 @@ pub fn cell_at(core: &Core, regs: &Regs, r: Sirw) -> Result<u32, Fault>
 }
 
 pub fn chase(core: &Core, regs: &Regs, display: &[u32; 32], w: Word) -> Result<End, Fault>
-    requires { (a : RunningContext core.now regs.now) × IsShown a display.now × (at : ℕ) × (owner : ℕ) × (v : Words.Word) × StandsFor a at owner w v }
+    requires { (a : LiveContext core.now regs.now) × IsShown (running_of a) display.now × (at : ℕ) × (owner : ℕ) × (v : Words.Word) × live.StandsFor a at owner w v }
 {
     b67_refer::chase(core, regs, display, w)
 }

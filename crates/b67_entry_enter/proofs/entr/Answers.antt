@@ -14,6 +14,7 @@ use Rattle.b67_refer.proofs.Scenes.{scene}
 use Rattle.b67_refer.specs.Cells.{StandsFor}
 use Rattle.b67_refer.specs.Ends.{EndMeets}
 use Rattle.b67_refer.specs.declared.ends.End.TheVariants as end
+use Rattle.b67_refer.specs.RunningContext.{live_of}
 use Rattle.b67_entry_enter.specs.Procedures.{CallsOrMeets}
 use Rattle.b67_entry_enter.proofs.Firsts.{faults_entered, faults_empty, faults_other, facing, first_stands, calling, goes}
 use Rattle.b67_entry_enter.proofs.Leads.{meets_plain, meets_fault, proc_found, intrinsic_found, fault_found, cell_found, element_found, array_found}
@@ -69,7 +70,7 @@ chase-requires c =
     let tag : f.word.tag ≡ 1 = ap (λ (w : Tagged). w.tag) (sym word) ∙ sym c.tag.ensures.value ∙ c.if-tag-ne1.false in
     let a = scene [] x c.args.cpu.now.core c.args.cpu.now.regs c.args.cpu.now.critical plan s m t o h.holds runs in
     let stands : StandsFor a (c.args.cpu.now.regs.f + 1) (top t.frames).identity c.get-first.result f.first = subst (λ (w : Tagged). StandsFor a (c.args.cpu.now.regs.f + 1) (top t.frames).identity w f.first) (sym word) (first_stands x c.args.cpu.now plan s m t c.args.next o h runs c.top_mark.result k c.if-top_mark.false c.if-cpu.false tag) in
-    (a, h.shows m t runs, c.args.cpu.now.regs.f + 1, (top t.frames).identity, f.first, stands)
+    (live_of a, h.shows m t runs, c.args.cpu.now.regs.f + 1, (top t.frames).identity, f.first, stands)
 
 pub enter-requires-clause-procedure : goal.enter-requires-clause-procedure
 enter-requires-clause-procedure c =
@@ -80,7 +81,7 @@ enter-requires-clause-procedure c =
     let tag : f.word.tag ≡ 1 = ap (λ (w : Tagged). w.tag) (sym word) ∙ sym c.tag.ensures.value ∙ c.if-tag-ne1.false in
     let a = scene [] x c.args.cpu.now.core c.args.cpu.now.regs c.args.cpu.now.critical plan s m t o h.holds runs in
     let stands : StandsFor a (c.args.cpu.now.regs.f + 1) (top t.frames).identity c.get-first.result f.first = subst (λ (w : Tagged). StandsFor a (c.args.cpu.now.regs.f + 1) (top t.frames).identity w f.first) (sym word) (first_stands x c.args.cpu.now plan s m t c.args.next o h runs c.top_mark.result k c.if-top_mark.false c.if-cpu.false tag) in
-    let e = c.chase.ensures a c.args.next (h.shows m t runs) (c.args.cpu.now.regs.f + 1) (top t.frames).identity f.first stands in
+    let e = c.chase.ensures.running a c.args.next (h.shows m t runs) (c.args.cpu.now.regs.f + 1) (top t.frames).identity f.first stands in
     let e' : EndMeets a c.args.next (Ok (end.Proc c.in-Ok-Proc.cell)) (follow (here m t c.args.next) f.first) = subst (λ z. EndMeets a c.args.next z (follow (here m t c.args.next) f.first)) (c.in-Ok-Proc.is ∙ ap Ok c.in-Ok-Proc.field-0-is) e in
     let p = proc_found a c.args.next c.in-Ok-Proc.cell (follow (here m t c.args.next) f.first) e' in
     (a, p.f, p.segment, p.level, p.place, f.first, f.arguments, record { ordered = o; stands = h; procedure = p.procedure }, calling x c.args.cpu.now plan s m t c.args.next o h runs c.top_mark.result k c.if-top_mark.false c.if-cpu.false tag)
@@ -94,7 +95,7 @@ returns-in-Ok-Proc c = record {
       let tag : f.word.tag ≡ 1 = ap (λ (w : Tagged). w.tag) (sym word) ∙ sym c.tag.ensures.value ∙ c.if-tag-ne1.false in
       let a = scene [] x c.args.cpu.now.core c.args.cpu.now.regs c.args.cpu.now.critical plan s m t o h.holds runs in
       let stands : StandsFor a (c.args.cpu.now.regs.f + 1) (top t.frames).identity c.get-first.result f.first = subst (λ (w : Tagged). StandsFor a (c.args.cpu.now.regs.f + 1) (top t.frames).identity w f.first) (sym word) (first_stands x c.args.cpu.now plan s m t c.args.next o h runs c.top_mark.result k c.if-top_mark.false c.if-cpu.false tag) in
-      let e = c.chase.ensures a c.args.next (h.shows m t runs) (c.args.cpu.now.regs.f + 1) (top t.frames).identity f.first stands in
+      let e = c.chase.ensures.running a c.args.next (h.shows m t runs) (c.args.cpu.now.regs.f + 1) (top t.frames).identity f.first stands in
       let e' : EndMeets a c.args.next (Ok (end.Proc c.in-Ok-Proc.cell)) (follow (here m t c.args.next) f.first) = subst (λ z. EndMeets a c.args.next z (follow (here m t c.args.next) f.first)) (c.in-Ok-Proc.is ∙ ap Ok c.in-Ok-Proc.field-0-is) e in
       let p = proc_found a c.args.next c.in-Ok-Proc.cell (follow (here m t c.args.next) f.first) e' in
       let made = c.enter.ensures.row a p.f p.segment p.level p.place f.first f.arguments (record { ordered = o; stands = h; procedure = p.procedure }) (calling x c.args.cpu.now plan s m t c.args.next o h runs c.top_mark.result k c.if-top_mark.false c.if-cpu.false tag) in
@@ -111,7 +112,7 @@ returns-in-Ok-Intrinsic c = record {
       let tag : f.word.tag ≡ 1 = ap (λ (w : Tagged). w.tag) (sym word) ∙ sym c.tag.ensures.value ∙ c.if-tag-ne1.false in
       let a = scene [] x c.args.cpu.now.core c.args.cpu.now.regs c.args.cpu.now.critical plan s m t o h.holds runs in
       let stands : StandsFor a (c.args.cpu.now.regs.f + 1) (top t.frames).identity c.get-first.result f.first = subst (λ (w : Tagged). StandsFor a (c.args.cpu.now.regs.f + 1) (top t.frames).identity w f.first) (sym word) (first_stands x c.args.cpu.now plan s m t c.args.next o h runs c.top_mark.result k c.if-top_mark.false c.if-cpu.false tag) in
-      let e = c.chase.ensures a c.args.next (h.shows m t runs) (c.args.cpu.now.regs.f + 1) (top t.frames).identity f.first stands in
+      let e = c.chase.ensures.running a c.args.next (h.shows m t runs) (c.args.cpu.now.regs.f + 1) (top t.frames).identity f.first stands in
       let e' : EndMeets a c.args.next (Ok (end.Intrinsic c.in-Ok-Intrinsic.n)) (follow (here m t c.args.next) f.first) = subst (λ z. EndMeets a c.args.next z (follow (here m t c.args.next) f.first)) (c.in-Ok-Intrinsic.is ∙ ap Ok c.in-Ok-Intrinsic.field-0-is) e in
       let row = goes x c.args.cpu.now plan s m t c.args.next o h runs c.top_mark.result k c.if-top_mark.false c.if-cpu.false tag (Ok (AtIntrinsic c.in-Ok-Intrinsic.n)) (intrinsic_found a c.args.next c.in-Ok-Intrinsic.n (follow (here m t c.args.next) f.first) e') in
       subst (λ z. CallsOrMeets x plan s m (step.Call c.in-Ok-Intrinsic.n) c.args.cpu.now c.args.cpu.now z (entr (here m t c.args.next) (top_of (here m t c.args.next)).standing)) (sym row.1) (refl, refl);
@@ -126,7 +127,7 @@ returns-in-Err c = record {
       let tag : f.word.tag ≡ 1 = ap (λ (w : Tagged). w.tag) (sym word) ∙ sym c.tag.ensures.value ∙ c.if-tag-ne1.false in
       let a = scene [] x c.args.cpu.now.core c.args.cpu.now.regs c.args.cpu.now.critical plan s m t o h.holds runs in
       let stands : StandsFor a (c.args.cpu.now.regs.f + 1) (top t.frames).identity c.get-first.result f.first = subst (λ (w : Tagged). StandsFor a (c.args.cpu.now.regs.f + 1) (top t.frames).identity w f.first) (sym word) (first_stands x c.args.cpu.now plan s m t c.args.next o h runs c.top_mark.result k c.if-top_mark.false c.if-cpu.false tag) in
-      let e = c.chase.ensures a c.args.next (h.shows m t runs) (c.args.cpu.now.regs.f + 1) (top t.frames).identity f.first stands in
+      let e = c.chase.ensures.running a c.args.next (h.shows m t runs) (c.args.cpu.now.regs.f + 1) (top t.frames).identity f.first stands in
       let e' : EndMeets a c.args.next (Err c.in-Err.fault) (follow (here m t c.args.next) f.first) = subst (λ z. EndMeets a c.args.next z (follow (here m t c.args.next) f.first)) (c.in-Err.is) e in
       let row = goes x c.args.cpu.now plan s m t c.args.next o h runs c.top_mark.result k c.if-top_mark.false c.if-cpu.false tag (Err c.in-Err.fault) (fault_found a c.args.next c.in-Err.fault (follow (here m t c.args.next) f.first) e') in
       meets_fault x plan s m c.in-Err.fault c.args.cpu.now c.args.cpu.now _ _ row refl;
@@ -141,7 +142,7 @@ returns-in-Ok-Cell c = record {
       let tag : f.word.tag ≡ 1 = ap (λ (w : Tagged). w.tag) (sym word) ∙ sym c.tag.ensures.value ∙ c.if-tag-ne1.false in
       let a = scene [] x c.args.cpu.now.core c.args.cpu.now.regs c.args.cpu.now.critical plan s m t o h.holds runs in
       let stands : StandsFor a (c.args.cpu.now.regs.f + 1) (top t.frames).identity c.get-first.result f.first = subst (λ (w : Tagged). StandsFor a (c.args.cpu.now.regs.f + 1) (top t.frames).identity w f.first) (sym word) (first_stands x c.args.cpu.now plan s m t c.args.next o h runs c.top_mark.result k c.if-top_mark.false c.if-cpu.false tag) in
-      let e = c.chase.ensures a c.args.next (h.shows m t runs) (c.args.cpu.now.regs.f + 1) (top t.frames).identity f.first stands in
+      let e = c.chase.ensures.running a c.args.next (h.shows m t runs) (c.args.cpu.now.regs.f + 1) (top t.frames).identity f.first stands in
       let e' : EndMeets a c.args.next (Ok (end.Cell c.in-Ok-Cell.field-0-0)) (follow (here m t c.args.next) f.first) = subst (λ z. EndMeets a c.args.next z (follow (here m t c.args.next) f.first)) (c.in-Ok-Cell.is ∙ ap Ok c.in-Ok-Cell.field-0-is) e in
       let row = goes x c.args.cpu.now plan s m t c.args.next o h runs c.top_mark.result k c.if-top_mark.false c.if-cpu.false tag (follow (here m t c.args.next) f.first) refl in
       let not = cell_found a c.args.next (here m t c.args.next) f.arguments c.in-Ok-Cell.field-0-0 (follow (here m t c.args.next) f.first) e' in
@@ -157,7 +158,7 @@ returns-in-Ok-Element c = record {
       let tag : f.word.tag ≡ 1 = ap (λ (w : Tagged). w.tag) (sym word) ∙ sym c.tag.ensures.value ∙ c.if-tag-ne1.false in
       let a = scene [] x c.args.cpu.now.core c.args.cpu.now.regs c.args.cpu.now.critical plan s m t o h.holds runs in
       let stands : StandsFor a (c.args.cpu.now.regs.f + 1) (top t.frames).identity c.get-first.result f.first = subst (λ (w : Tagged). StandsFor a (c.args.cpu.now.regs.f + 1) (top t.frames).identity w f.first) (sym word) (first_stands x c.args.cpu.now plan s m t c.args.next o h runs c.top_mark.result k c.if-top_mark.false c.if-cpu.false tag) in
-      let e = c.chase.ensures a c.args.next (h.shows m t runs) (c.args.cpu.now.regs.f + 1) (top t.frames).identity f.first stands in
+      let e = c.chase.ensures.running a c.args.next (h.shows m t runs) (c.args.cpu.now.regs.f + 1) (top t.frames).identity f.first stands in
       let e' : EndMeets a c.args.next (Ok (end.Element c.in-Ok-Element.field-0-0 c.in-Ok-Element.field-0-1)) (follow (here m t c.args.next) f.first) = subst (λ z. EndMeets a c.args.next z (follow (here m t c.args.next) f.first)) (c.in-Ok-Element.is ∙ ap Ok c.in-Ok-Element.field-0-is) e in
       let row = goes x c.args.cpu.now plan s m t c.args.next o h runs c.top_mark.result k c.if-top_mark.false c.if-cpu.false tag (follow (here m t c.args.next) f.first) refl in
       let not = element_found a c.args.next (here m t c.args.next) f.arguments c.in-Ok-Element.field-0-0 c.in-Ok-Element.field-0-1 (follow (here m t c.args.next) f.first) e' in
@@ -173,7 +174,7 @@ returns-in-Ok-Array c = record {
       let tag : f.word.tag ≡ 1 = ap (λ (w : Tagged). w.tag) (sym word) ∙ sym c.tag.ensures.value ∙ c.if-tag-ne1.false in
       let a = scene [] x c.args.cpu.now.core c.args.cpu.now.regs c.args.cpu.now.critical plan s m t o h.holds runs in
       let stands : StandsFor a (c.args.cpu.now.regs.f + 1) (top t.frames).identity c.get-first.result f.first = subst (λ (w : Tagged). StandsFor a (c.args.cpu.now.regs.f + 1) (top t.frames).identity w f.first) (sym word) (first_stands x c.args.cpu.now plan s m t c.args.next o h runs c.top_mark.result k c.if-top_mark.false c.if-cpu.false tag) in
-      let e = c.chase.ensures a c.args.next (h.shows m t runs) (c.args.cpu.now.regs.f + 1) (top t.frames).identity f.first stands in
+      let e = c.chase.ensures.running a c.args.next (h.shows m t runs) (c.args.cpu.now.regs.f + 1) (top t.frames).identity f.first stands in
       let e' : EndMeets a c.args.next (Ok (end.Array c.in-Ok-Array.field-0-0)) (follow (here m t c.args.next) f.first) = subst (λ z. EndMeets a c.args.next z (follow (here m t c.args.next) f.first)) (c.in-Ok-Array.is ∙ ap Ok c.in-Ok-Array.field-0-is) e in
       let row = goes x c.args.cpu.now plan s m t c.args.next o h runs c.top_mark.result k c.if-top_mark.false c.if-cpu.false tag (follow (here m t c.args.next) f.first) refl in
       let not = array_found a c.args.next (here m t c.args.next) f.arguments c.in-Ok-Array.field-0-0 (follow (here m t c.args.next) f.first) e' in

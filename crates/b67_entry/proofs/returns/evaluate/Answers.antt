@@ -6,6 +6,7 @@ use Rattle.b67_refer.specs.declared.ends.End.{End}
 use Rattle.b67_refer.specs.declared.ends.End.TheVariants as end
 use Rattle.b67_refer.specs.Ends.{EndMeets}
 use Rattle.b67_exec_cells.specs.Elements.{GivesElement}
+use Rattle.b67_refer.specs.RunningContext.{live_of}
 use Rattle.b67_entry.proofs.Retning.{not_operand}
 use Rattle.b67_entry.proofs.Putting.{room_left, put_above, put_top}
 use Rattle.b67_entry.proofs.Evaluating.{scene, seen, element_end, proc_end, cell_inside, cell_made, element_there, element_made, element_absent, array_refused, intrinsic_refused, fault_refused}
@@ -25,7 +26,8 @@ chase-requires c =
     let h = run.stands in
     let runs = run.running in
     let cpu = c.args.cpu.now in
-    follows_there x cpu plan s m t o h runs a c.args.regs is v c.args.word b c.args.display c.requires.shown
+    let f = follows_there x cpu plan s m t o h runs a c.args.regs is v c.args.word b c.args.display c.requires.shown in
+    (live_of f.0, f.1)
 
 pub get-value-requires : goal.get-value-requires
 get-value-requires c =
@@ -39,7 +41,7 @@ get-value-requires c =
     let h = run.stands in
     let runs = run.running in
     let cpu = c.args.cpu.now in
-    let E = found_end x cpu plan s m t o h runs a c.args.regs is v c.args.word b c.args.display c.chase.result c.requires.shown c.chase.ensures in
+    let E = found_end x cpu plan s m t o h runs a c.args.regs is v c.args.word b c.args.display c.chase.result c.requires.shown c.chase.ensures.running in
     let k : EndMeets (scene x cpu plan s m t o h runs a) a.back.place (Ok (end.Cell c.in-Ok-Cell.at)) (follow (seen x cpu plan s m t o h runs a) v) = subst (λ (z : Result End Fault). EndMeets (scene x cpu plan s m t o h runs a) a.back.place z (follow (seen x cpu plan s m t o h runs a) v)) (c.in-Ok-Cell.is ∙ ap Ok c.in-Ok-Cell.field-0-is) E in
     let no_operand = not_operand x cpu plan s m t o h runs v c.args.word b.word c.requires.tag in
     cell_inside x cpu plan s m t o h runs a v c.args.word b no_operand c.in-Ok-Cell.at k
@@ -70,7 +72,7 @@ element-requires c =
     let h = run.stands in
     let runs = run.running in
     let cpu = c.args.cpu.now in
-    let E = found_end x cpu plan s m t o h runs a c.args.regs is v c.args.word b c.args.display c.chase.result c.requires.shown c.chase.ensures in
+    let E = found_end x cpu plan s m t o h runs a c.args.regs is v c.args.word b c.args.display c.chase.result c.requires.shown c.chase.ensures.running in
     let k : EndMeets (scene x cpu plan s m t o h runs a) a.back.place (Ok (end.Element c.in-Ok-Element.original c.in-Ok-Element.index)) (follow (seen x cpu plan s m t o h runs a) v) = subst (λ (z : Result End Fault). EndMeets (scene x cpu plan s m t o h runs a) a.back.place z (follow (seen x cpu plan s m t o h runs a) v)) (c.in-Ok-Element.is ∙ ap Ok c.in-Ok-Element.field-0-is) E in
     let (n, e, q) = element_end (scene x cpu plan s m t o h runs a) a.back.place c.in-Ok-Element.original c.in-Ok-Element.index (follow (seen x cpu plan s m t o h runs a) v) k in
     let no_operand = not_operand x cpu plan s m t o h runs v c.args.word b.word c.requires.tag in
@@ -102,7 +104,7 @@ accident_on-requires-clause-procedure c =
     let h = run.stands in
     let runs = run.running in
     let cpu = c.args.cpu.now in
-    let E = found_end x cpu plan s m t o h runs a c.args.regs is v c.args.word b c.args.display c.chase.result c.requires.shown c.chase.ensures in
+    let E = found_end x cpu plan s m t o h runs a c.args.regs is v c.args.word b c.args.display c.chase.result c.requires.shown c.chase.ensures.running in
     let k : EndMeets (scene x cpu plan s m t o h runs a) a.back.place (Ok (end.Proc c.in-Ok-Proc.cell)) (follow (seen x cpu plan s m t o h runs a) v) = subst (λ (z : Result End Fault). EndMeets (scene x cpu plan s m t o h runs a) a.back.place z (follow (seen x cpu plan s m t o h runs a) v)) (c.in-Ok-Proc.is ∙ ap Ok c.in-Ok-Proc.field-0-is) E in
     let (f, segment, level, place, e, p) = proc_end (scene x cpu plan s m t o h runs a) a.back.place c.in-Ok-Proc.cell (follow (seen x cpu plan s m t o h runs a) v) k in
     enters_there x cpu plan s m t o h runs a c.args.regs is c.in-Ok-Proc.cell f segment level place p
@@ -111,7 +113,7 @@ pub returns-in-Ok-Cell : goal.returns-in-Ok-Cell
 returns-in-Ok-Cell c = record {
   row = λ x plan s m t o h runs a v b is.
       (let cpu = c.args.cpu.now in
-      let E = found_end x cpu plan s m t o h runs a c.args.regs is v c.args.word b c.args.display c.chase.result c.requires.shown c.chase.ensures in
+      let E = found_end x cpu plan s m t o h runs a c.args.regs is v c.args.word b c.args.display c.chase.result c.requires.shown c.chase.ensures.running in
       let k : EndMeets (scene x cpu plan s m t o h runs a) a.back.place (Ok (end.Cell c.in-Ok-Cell.at)) (follow (seen x cpu plan s m t o h runs a) v) = subst (λ (z : Result End Fault). EndMeets (scene x cpu plan s m t o h runs a) a.back.place z (follow (seen x cpu plan s m t o h runs a) v)) (c.in-Ok-Cell.is ∙ ap Ok c.in-Ok-Cell.field-0-is) E in
       let no_operand = not_operand x cpu plan s m t o h runs v c.args.word b.word c.requires.tag in
       let shown = shown_there x cpu plan s m t o h runs a c.args.regs is c.args.display c.requires.shown in
@@ -125,7 +127,7 @@ pub returns-in-Some : goal.returns-in-Some
 returns-in-Some c = record {
   row = λ x plan s m t o h runs a v b is.
       (let cpu = c.args.cpu.now in
-      let E = found_end x cpu plan s m t o h runs a c.args.regs is v c.args.word b c.args.display c.chase.result c.requires.shown c.chase.ensures in
+      let E = found_end x cpu plan s m t o h runs a c.args.regs is v c.args.word b c.args.display c.chase.result c.requires.shown c.chase.ensures.running in
       let k : EndMeets (scene x cpu plan s m t o h runs a) a.back.place (Ok (end.Element c.in-Ok-Element.original c.in-Ok-Element.index)) (follow (seen x cpu plan s m t o h runs a) v) = subst (λ (z : Result End Fault). EndMeets (scene x cpu plan s m t o h runs a) a.back.place z (follow (seen x cpu plan s m t o h runs a) v)) (c.in-Ok-Element.is ∙ ap Ok c.in-Ok-Element.field-0-is) E in
       let (n, e, q) = element_end (scene x cpu plan s m t o h runs a) a.back.place c.in-Ok-Element.original c.in-Ok-Element.index (follow (seen x cpu plan s m t o h runs a) v) k in
       let no_operand = not_operand x cpu plan s m t o h runs v c.args.word b.word c.requires.tag in
@@ -143,7 +145,7 @@ pub returns-in-None : goal.returns-in-None
 returns-in-None c = record {
   row = λ x plan s m t o h runs a v b is.
       (let cpu = c.args.cpu.now in
-      let E = found_end x cpu plan s m t o h runs a c.args.regs is v c.args.word b c.args.display c.chase.result c.requires.shown c.chase.ensures in
+      let E = found_end x cpu plan s m t o h runs a c.args.regs is v c.args.word b c.args.display c.chase.result c.requires.shown c.chase.ensures.running in
       let k : EndMeets (scene x cpu plan s m t o h runs a) a.back.place (Ok (end.Element c.in-Ok-Element.original c.in-Ok-Element.index)) (follow (seen x cpu plan s m t o h runs a) v) = subst (λ (z : Result End Fault). EndMeets (scene x cpu plan s m t o h runs a) a.back.place z (follow (seen x cpu plan s m t o h runs a) v)) (c.in-Ok-Element.is ∙ ap Ok c.in-Ok-Element.field-0-is) E in
       let (n, e, q) = element_end (scene x cpu plan s m t o h runs a) a.back.place c.in-Ok-Element.original c.in-Ok-Element.index (follow (seen x cpu plan s m t o h runs a) v) k in
       let no_operand = not_operand x cpu plan s m t o h runs v c.args.word b.word c.requires.tag in
@@ -159,7 +161,7 @@ pub returns-in-Ok-Proc : goal.returns-in-Ok-Proc
 returns-in-Ok-Proc c = record {
   row = λ x plan s m t o h runs a v b is.
       (let cpu = c.args.cpu.now in
-      let E = found_end x cpu plan s m t o h runs a c.args.regs is v c.args.word b c.args.display c.chase.result c.requires.shown c.chase.ensures in
+      let E = found_end x cpu plan s m t o h runs a c.args.regs is v c.args.word b c.args.display c.chase.result c.requires.shown c.chase.ensures.running in
       let k : EndMeets (scene x cpu plan s m t o h runs a) a.back.place (Ok (end.Proc c.in-Ok-Proc.cell)) (follow (seen x cpu plan s m t o h runs a) v) = subst (λ (z : Result End Fault). EndMeets (scene x cpu plan s m t o h runs a) a.back.place z (follow (seen x cpu plan s m t o h runs a) v)) (c.in-Ok-Proc.is ∙ ap Ok c.in-Ok-Proc.field-0-is) E in
       let (f, segment, level, place, e, p) = proc_end (scene x cpu plan s m t o h runs a) a.back.place c.in-Ok-Proc.cell (follow (seen x cpu plan s m t o h runs a) v) k in
       let no_operand = not_operand x cpu plan s m t o h runs v c.args.word b.word c.requires.tag in
@@ -173,7 +175,7 @@ pub returns-in-Ok-Array : goal.returns-in-Ok-Array
 returns-in-Ok-Array c = record {
   row = λ x plan s m t o h runs a v b is.
       (let cpu = c.args.cpu.now in
-      let E = found_end x cpu plan s m t o h runs a c.args.regs is v c.args.word b c.args.display c.chase.result c.requires.shown c.chase.ensures in
+      let E = found_end x cpu plan s m t o h runs a c.args.regs is v c.args.word b c.args.display c.chase.result c.requires.shown c.chase.ensures.running in
       let k : EndMeets (scene x cpu plan s m t o h runs a) a.back.place (Ok (end.Array c.in-Ok-Array.field-0-0)) (follow (seen x cpu plan s m t o h runs a) v) = subst (λ (z : Result End Fault). EndMeets (scene x cpu plan s m t o h runs a) a.back.place z (follow (seen x cpu plan s m t o h runs a) v)) (c.in-Ok-Array.is ∙ ap Ok c.in-Ok-Array.field-0-is) E in
       let no_operand = not_operand x cpu plan s m t o h runs v c.args.word b.word c.requires.tag in
       (array_refused x cpu plan s m t o h runs a v c.args.word b no_operand c.in-Ok-Array.field-0-0 k, refl));
@@ -185,7 +187,7 @@ pub returns-in-Ok-Intrinsic : goal.returns-in-Ok-Intrinsic
 returns-in-Ok-Intrinsic c = record {
   row = λ x plan s m t o h runs a v b is.
       (let cpu = c.args.cpu.now in
-      let E = found_end x cpu plan s m t o h runs a c.args.regs is v c.args.word b c.args.display c.chase.result c.requires.shown c.chase.ensures in
+      let E = found_end x cpu plan s m t o h runs a c.args.regs is v c.args.word b c.args.display c.chase.result c.requires.shown c.chase.ensures.running in
       let k : EndMeets (scene x cpu plan s m t o h runs a) a.back.place (Ok (end.Intrinsic c.in-Ok-Intrinsic.field-0-0)) (follow (seen x cpu plan s m t o h runs a) v) = subst (λ (z : Result End Fault). EndMeets (scene x cpu plan s m t o h runs a) a.back.place z (follow (seen x cpu plan s m t o h runs a) v)) (c.in-Ok-Intrinsic.is ∙ ap Ok c.in-Ok-Intrinsic.field-0-is) E in
       let no_operand = not_operand x cpu plan s m t o h runs v c.args.word b.word c.requires.tag in
       (intrinsic_refused x cpu plan s m t o h runs a v c.args.word b no_operand c.in-Ok-Intrinsic.field-0-0 k, refl));
@@ -197,7 +199,7 @@ pub returns-in-Err : goal.returns-in-Err
 returns-in-Err c = record {
   row = λ x plan s m t o h runs a v b is.
       (let cpu = c.args.cpu.now in
-      let E = found_end x cpu plan s m t o h runs a c.args.regs is v c.args.word b c.args.display c.chase.result c.requires.shown c.chase.ensures in
+      let E = found_end x cpu plan s m t o h runs a c.args.regs is v c.args.word b c.args.display c.chase.result c.requires.shown c.chase.ensures.running in
       let no_operand = not_operand x cpu plan s m t o h runs v c.args.word b.word c.requires.tag in
       (fault_refused x cpu plan s m t o h runs a v c.args.word b no_operand c.in-Err.fault (subst (λ (z : Result End Fault). EndMeets (scene x cpu plan s m t o h runs a) a.back.place z (follow (seen x cpu plan s m t o h runs a) v)) c.in-Err.is E), refl));
   above = λ i low. refl;

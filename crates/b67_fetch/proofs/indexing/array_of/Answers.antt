@@ -3,6 +3,7 @@ use Rattle.std.proofs.lemmas.Bool.{not-true}
 use Rattle.std.proofs.lemmas.Option.{none-some}
 use Rattle.b67_model.specs.Chase.{follow}
 use Rattle.b67_layout.specs.Meets.{here}
+use Rattle.b67_refer.specs.RunningContext.{live_of}
 use Rattle.b67_fetch.proofs.Values.{here_scene, here_shown, followed_stands, finds_end}
 use Rattle.b67_fetch.specs.Indexes.{FindsArray}
 use Rattle.b67_model.specs.Indexing.{array_of}
@@ -13,7 +14,7 @@ pub chase-requires : goal.chase-requires
 chase-requires c =
     let q = c.requires.runs in
     let f = c.requires.followed in (
-      here_scene q.storage c.args.cpu.now q.plan q.session q.member q.task q.ordered q.stands q.running,
+      live_of (here_scene q.storage c.args.cpu.now q.plan q.session q.member q.task q.ordered q.stands q.running),
       here_shown q.storage c.args.cpu.now q.plan q.session q.member q.task q.ordered q.stands q.running,
       f.at,
       f.owner,
@@ -23,7 +24,7 @@ chase-requires c =
 
 pub returns-in-Ok : goal.returns-in-Ok
 returns-in-Ok c = λ x plan s m t o h runs q v i.
-    (let e = c.in-Ok.ensures (here_scene x c.args.cpu.now plan s m t o h runs) q (here_shown x c.args.cpu.now plan s m t o h runs) i.at i.owner v (followed_stands x c.args.cpu.now plan s m t o h runs c.args.w v i) in
+    (let e = c.in-Ok.ensures.running (here_scene x c.args.cpu.now plan s m t o h runs) q (here_shown x c.args.cpu.now plan s m t o h runs) i.at i.owner v (followed_stands x c.args.cpu.now plan s m t o h runs c.args.w v i) in
     subst (λ z. FindsArray plan m z (array_of (here m t q) v)) (sym c.array_in.ensures)
     (found_end x plan m t q c.args.cpu.now.core c.args.w v c.in-Ok.end i (λ z. c.if-tag-ne5.true (c.tag.ensures.value ∙ z))
     (finds_end x c.args.cpu.now plan s m t o h runs q (Ok c.in-Ok.end) (follow (here m t q) v) e)))
@@ -31,7 +32,7 @@ returns-in-Ok c = λ x plan s m t o h runs q v i.
 pub returns-in-Err : goal.returns-in-Err
 returns-in-Err c = λ x plan s m t o h runs q v i.
     found_fault x plan m t q c.args.cpu.now.core c.args.w v c.in-Err.fault i (λ z. c.if-tag-ne5.true (c.tag.ensures.value ∙ z))
-    (finds_end x c.args.cpu.now plan s m t o h runs q (Err c.in-Err.fault) (follow (here m t q) v) (c.in-Err.ensures (here_scene x c.args.cpu.now plan s m t o h runs) q (here_shown x c.args.cpu.now plan s m t o h runs) i.at i.owner v (followed_stands x c.args.cpu.now plan s m t o h runs c.args.w v i)))
+    (finds_end x c.args.cpu.now plan s m t o h runs q (Err c.in-Err.fault) (follow (here m t q) v) (c.in-Err.ensures.running (here_scene x c.args.cpu.now plan s m t o h runs) q (here_shown x c.args.cpu.now plan s m t o h runs) i.at i.owner v (followed_stands x c.args.cpu.now plan s m t o h runs c.args.w v i)))
 
 pub unreachable-requires : goal.unreachable-requires
 unreachable-requires c =

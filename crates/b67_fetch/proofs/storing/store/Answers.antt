@@ -12,6 +12,7 @@ use Rattle.b67_stack.specs.declared.Cpu.{Cpu}
 use Rattle.b67_stack.specs.declared.Step.TheVariants as step
 use Rattle.b67_layout.specs.Meets.{here}
 use Rattle.b67_exec_cells.proofs.Put.{room}
+use Rattle.b67_refer.specs.RunningContext.{live_of}
 use Rattle.b67_fetch.proofs.Values.{here_scene, here_shown, followed_stands}
 use Rattle.b67_exec_cells.specs.Tops.{cells, GivesTwo}
 use Rattle.b67_fetch.specs.Fetches.{enters_at, EntersOrMeets}
@@ -49,14 +50,14 @@ chase-requires c =
     let p = c.if-tag-eq0.reference in
     let g = given x plan m t old c.in-Ok.two p (c.in-Ok.ensures.cells x plan s m t o h runs) ch in
     let f = followed x plan s m t o runs old p g in
-    (here_scene x old plan s m t o h runs, here_shown x old plan s m t o h runs, f.at, f.owner, (in_order g.first g.second).0, followed_stands x old plan s m t o h runs p.0 (in_order g.first g.second).0 f)
+    (live_of (here_scene x old plan s m t o h runs), here_shown x old plan s m t o h runs, f.at, f.owner, (in_order g.first g.second).0, followed_stands x old plan s m t o h runs p.0 (in_order g.first g.second).0 f)
 
 pub returns-in-Err-chase : goal.returns-in-Err-chase
 returns-in-Err-chase c = record {
   row = λ x plan s m t o h runs.
       let ch : Choice c.in-Ok.two c.if-tag-eq0.reference = elim c.if-tag-eq0.branch [ then-tag-eq0 w ↦ inl (sym c.tag.ensures.value ∙ w.if-tag-eq0.true, w.reference-is) | else-tag-eq0 w ↦ inr (λ z. w.if-tag-eq0.false (c.tag.ensures.value ∙ z), w.reference-is) ] in
       let old = c.args.cpu.now in let q = c.args.next in let p = c.if-tag-eq0.reference in
-      let k = context x old plan s m t o h runs q c.in-Ok.two p (c.in-Ok.ensures.cells x plan s m t o h runs) ch (sym c.tag-2.ensures.value ∙ c.if-tag-ne0.false) c.chase.result c.chase.ensures in
+      let k = context x old plan s m t o h runs q c.in-Ok.two p (c.in-Ok.ensures.cells x plan s m t o h runs) ch (sym c.tag-2.ensures.value ∙ c.if-tag-ne0.false) c.chase.result c.chase.ensures.running in
       followed_end x old plan s m t o h runs q c.args.keeps p k.cells (step.Fault c.in-Err-chase.fault) old k.bits k.operand
       (at_fault x old plan s m t o h runs q c.args.keeps (step.Fault c.in-Err-chase.fault) old k.cells.rest k.bits c.in-Err-chase.fault (follow (here m t q) (in_order k.cells.first k.cells.second).0) (leads_to x old plan s m t o h runs q p c.chase.result (Err c.in-Err-chase.fault) k c.in-Err-chase.is) refl refl);
 }
@@ -67,7 +68,7 @@ element_at-requires c =
     let x = r.storage in let plan = r.plan in let s = r.session in let m = r.member in let t = r.task in let o = r.ordered in let h = r.stands in let runs = r.running in
     let ch : Choice c.in-Ok.two c.if-tag-eq0.reference = elim c.if-tag-eq0.branch [ then-tag-eq0 w ↦ inl (sym c.tag.ensures.value ∙ w.if-tag-eq0.true, w.reference-is) | else-tag-eq0 w ↦ inr (λ z. w.if-tag-eq0.false (c.tag.ensures.value ∙ z), w.reference-is) ] in
     let old = c.args.cpu.now in let q = c.args.next in let p = c.if-tag-eq0.reference in
-    let k = context x old plan s m t o h runs q c.in-Ok.two p (c.in-Ok.ensures.cells x plan s m t o h runs) ch (sym c.tag-2.ensures.value ∙ c.if-tag-ne0.false) c.chase.result c.chase.ensures in
+    let k = context x old plan s m t o h runs q c.in-Ok.two p (c.in-Ok.ensures.cells x plan s m t o h runs) ch (sym c.tag-2.ensures.value ∙ c.if-tag-ne0.false) c.chase.result c.chase.ensures.running in
     holds x old plan s m t o h runs q c.args.keeps c.in-Element.original c.in-Element.index (follow (here m t q) (in_order k.cells.first k.cells.second).0) (leads_to x old plan s m t o h runs q p c.chase.result _ k (c.in-Ok-chase.is ∙ ap Ok c.in-Element.is))
 
 pub returns-in-Err-element_at : goal.returns-in-Err-element_at
@@ -75,7 +76,7 @@ returns-in-Err-element_at c = record {
   row = λ x plan s m t o h runs.
       let ch : Choice c.in-Ok.two c.if-tag-eq0.reference = elim c.if-tag-eq0.branch [ then-tag-eq0 w ↦ inl (sym c.tag.ensures.value ∙ w.if-tag-eq0.true, w.reference-is) | else-tag-eq0 w ↦ inr (λ z. w.if-tag-eq0.false (c.tag.ensures.value ∙ z), w.reference-is) ] in
       let old = c.args.cpu.now in let q = c.args.next in let p = c.if-tag-eq0.reference in
-      let k = context x old plan s m t o h runs q c.in-Ok.two p (c.in-Ok.ensures.cells x plan s m t o h runs) ch (sym c.tag-2.ensures.value ∙ c.if-tag-ne0.false) c.chase.result c.chase.ensures in
+      let k = context x old plan s m t o h runs q c.in-Ok.two p (c.in-Ok.ensures.cells x plan s m t o h runs) ch (sym c.tag-2.ensures.value ∙ c.if-tag-ne0.false) c.chase.result c.chase.ensures.running in
       let E = MeetsElement x old plan s m t o h runs q c.in-Element.original c.in-Element.index in
       followed_end x old plan s m t o h runs q c.args.keeps p k.cells c.in-Err-element_at.step old k.bits k.operand
       (element_not x old plan s m t o h runs q c.args.keeps k.cells.first k.cells.second k.cells.rest k.cells.is c.in-Ok.ensures.above k.bits k.operand c.in-Element.original c.in-Element.index c.in-Err-element_at.step old refl (leads_to x old plan s m t o h runs q p c.chase.result _ k (c.in-Ok-chase.is ∙ ap Ok c.in-Element.is))
@@ -87,7 +88,7 @@ returns-in-Array c = record {
   row = λ x plan s m t o h runs.
       let ch : Choice c.in-Ok.two c.if-tag-eq0.reference = elim c.if-tag-eq0.branch [ then-tag-eq0 w ↦ inl (sym c.tag.ensures.value ∙ w.if-tag-eq0.true, w.reference-is) | else-tag-eq0 w ↦ inr (λ z. w.if-tag-eq0.false (c.tag.ensures.value ∙ z), w.reference-is) ] in
       let old = c.args.cpu.now in let q = c.args.next in let p = c.if-tag-eq0.reference in
-      let k = context x old plan s m t o h runs q c.in-Ok.two p (c.in-Ok.ensures.cells x plan s m t o h runs) ch (sym c.tag-2.ensures.value ∙ c.if-tag-ne0.false) c.chase.result c.chase.ensures in
+      let k = context x old plan s m t o h runs q c.in-Ok.two p (c.in-Ok.ensures.cells x plan s m t o h runs) ch (sym c.tag-2.ensures.value ∙ c.if-tag-ne0.false) c.chase.result c.chase.ensures.running in
       followed_end x old plan s m t o h runs q c.args.keeps p k.cells (step.Fault MemoryProtect) old k.bits k.operand
       (elim c.in-Array.is [
         | inl i ↦ at_array x old plan s m t o h runs q c.args.keeps (step.Fault MemoryProtect) old k.cells.rest k.bits i.0 (follow (here m t q) (in_order k.cells.first k.cells.second).0) (leads_to x old plan s m t o h runs q p c.chase.result _ k (c.in-Ok-chase.is ∙ ap Ok i.1)) refl refl
@@ -100,7 +101,7 @@ returns-in-Proc c = record {
   row = λ x plan s m t o h runs.
       let ch : Choice c.in-Ok.two c.if-tag-eq0.reference = elim c.if-tag-eq0.branch [ then-tag-eq0 w ↦ inl (sym c.tag.ensures.value ∙ w.if-tag-eq0.true, w.reference-is) | else-tag-eq0 w ↦ inr (λ z. w.if-tag-eq0.false (c.tag.ensures.value ∙ z), w.reference-is) ] in
       let old = c.args.cpu.now in let q = c.args.next in let p = c.if-tag-eq0.reference in
-      let k = context x old plan s m t o h runs q c.in-Ok.two p (c.in-Ok.ensures.cells x plan s m t o h runs) ch (sym c.tag-2.ensures.value ∙ c.if-tag-ne0.false) c.chase.result c.chase.ensures in
+      let k = context x old plan s m t o h runs q c.in-Ok.two p (c.in-Ok.ensures.cells x plan s m t o h runs) ch (sym c.tag-2.ensures.value ∙ c.if-tag-ne0.false) c.chase.result c.chase.ensures.running in
       followed_end x old plan s m t o h runs q c.args.keeps p k.cells (step.Call 255) old k.bits k.operand
       (at_proc x old plan s m t o h runs q c.args.keeps (step.Call 255) old k.cells.rest k.bits c.in-Proc.field-0 (follow (here m t q) (in_order k.cells.first k.cells.second).0) (leads_to x old plan s m t o h runs q p c.chase.result _ k (c.in-Ok-chase.is ∙ ap Ok c.in-Proc.is)) refl refl);
 }
@@ -111,7 +112,7 @@ put-requires-clause-at c =
     let x = r.storage in let plan = r.plan in let s = r.session in let m = r.member in let t = r.task in let o = r.ordered in let h = r.stands in let runs = r.running in
     let ch : Choice c.in-Ok.two c.if-tag-eq0.reference = elim c.if-tag-eq0.branch [ then-tag-eq0 w ↦ inl (sym c.tag.ensures.value ∙ w.if-tag-eq0.true, w.reference-is) | else-tag-eq0 w ↦ inr (λ z. w.if-tag-eq0.false (c.tag.ensures.value ∙ z), w.reference-is) ] in
     let old = c.args.cpu.now in let q = c.args.next in let p = c.if-tag-eq0.reference in
-    let k = context x old plan s m t o h runs q c.in-Ok.two p (c.in-Ok.ensures.cells x plan s m t o h runs) ch (sym c.tag-2.ensures.value ∙ c.if-tag-ne0.false) c.chase.result c.chase.ensures in
+    let k = context x old plan s m t o h runs q c.in-Ok.two p (c.in-Ok.ensures.cells x plan s m t o h runs) ch (sym c.tag-2.ensures.value ∙ c.if-tag-ne0.false) c.chase.result c.chase.ensures.running in
     elim c.match-end.branch [
       | in-Cell w ↦ let low = cell_inside x old plan s m t o h runs q c.args.keeps w.in-Cell.at (follow (here m t q) (in_order k.cells.first k.cells.second).0) (leads_to x old plan s m t o h runs q p c.chase.result _ k (c.in-Ok-chase.is ∙ ap Ok w.in-Cell.is)) in omega (arith, low, w.at-is)
       | in-Element+in-Ok-element_at w ↦
@@ -128,7 +129,7 @@ returns c = record {
   row = λ x plan s m t o h runs.
       let ch : Choice c.in-Ok.two c.if-tag-eq0.reference = elim c.if-tag-eq0.branch [ then-tag-eq0 w ↦ inl (sym c.tag.ensures.value ∙ w.if-tag-eq0.true, w.reference-is) | else-tag-eq0 w ↦ inr (λ z. w.if-tag-eq0.false (c.tag.ensures.value ∙ z), w.reference-is) ] in
       let old = c.args.cpu.now in let q = c.args.next in let p = c.if-tag-eq0.reference in
-      let k = context x old plan s m t o h runs q c.in-Ok.two p (c.in-Ok.ensures.cells x plan s m t o h runs) ch (sym c.tag-2.ensures.value ∙ c.if-tag-ne0.false) c.chase.result c.chase.ensures in
+      let k = context x old plan s m t o h runs q c.in-Ok.two p (c.in-Ok.ensures.cells x plan s m t o h runs) ch (sym c.tag-2.ensures.value ∙ c.if-tag-ne0.false) c.chase.result c.chase.ensures.running in
       let N : Cpu → Type 0 = λ new. EntersOrMeets x plan s m step.Done old new (enters_at (follow (here m t q) (in_order k.cells.first k.cells.second).0)) (follow (here m t q) (in_order k.cells.first k.cells.second).0 >>= store_at (here m t q) k.cells.rest (if c.args.keeps then Operand k.bits ∷ k.cells.rest else k.cells.rest) k.bits) in
       let back : (at : ℕ) → c.match-end.at ≡ at → N (stored old at (word 0 k.bits) c.args.keeps q) → N c.put.new.cpu = λ at e n.
       subst N (sym (c.put.ensures ∙ ap (λ (i : ℕ). stored old i p.1 c.args.keeps q) e ∙ ap (λ (v : Tagged). stored old at v c.args.keeps q) k.word_is)) n in

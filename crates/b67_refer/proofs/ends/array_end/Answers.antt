@@ -6,7 +6,7 @@ use Rattle.b67_word.specs.declared.faults.Fault.{Fault}
 use Rattle.b67_model.specs.Chase.{element_end}
 use Rattle.b67_layout.specs.Meets.{here}
 use Rattle.b67_refer.specs.declared.ends.End.{End}
-use Rattle.b67_refer.specs.Ends.{EndMeets}
+use Rattle.b67_refer.specs.LiveEnds.{EndMeets}
 use Rattle.b67_refer.proofs.ends.array_end.Goals as goal
 
 pub unreachable-requires : goal.unreachable-requires
@@ -42,10 +42,10 @@ pub returns-in-Ok : goal.returns-in-Ok
 returns-in-Ok c = λ a q f offset w cell tag.
     let d = read_described c.args.core.now c.args.regs.now a q c.args.at f offset w c.get.result c.from_word.result c.in-Some.d cell tag c.get.ensures c.from_word.ensures.known c.in-Some.is in
     end_item c.args.core.now c.args.regs.now a q c.args.at f offset w c.in-Some.d c.owner-original.result (Ok c.in-Ok.end) d (not-false _ c.if-not-d.false) (not-false _ c.if-not-d-2.false) c.owner-original.ensures
-    (λ n home names. subst (λ (y : Result End Fault). EndMeets a q y (element_end (here a.member a.task q) n c.in-Some.d.length)) c.in-Ok.is (c.element_at.ensures a q n home names))
+    (λ n home names. subst (λ (y : Result End Fault). EndMeets a q y (element_end (here a.member a.runner q) n c.in-Some.d.length)) c.in-Ok.is (c.element_at.ensures a q n home names))
 
 pub returns-in-Err : goal.returns-in-Err
 returns-in-Err c = λ a q f offset w cell tag.
     let d = read_described c.args.core.now c.args.regs.now a q c.args.at f offset w c.get.result c.from_word.result c.in-Some.d cell tag c.get.ensures c.from_word.ensures.known c.in-Some.is in
     end_item c.args.core.now c.args.regs.now a q c.args.at f offset w c.in-Some.d c.owner-original.result (Err c.in-Err.fault) d (not-false _ c.if-not-d.false) (not-false _ c.if-not-d-2.false) c.owner-original.ensures
-    (λ n home names. subst (λ (y : Result End Fault). EndMeets a q y (element_end (here a.member a.task q) n c.in-Some.d.length)) c.in-Err.is (c.element_at.ensures a q n home names))
+    (λ n home names. subst (λ (y : Result End Fault). EndMeets a q y (element_end (here a.member a.runner q) n c.in-Some.d.length)) c.in-Err.is (c.element_at.ensures a q n home names))

@@ -1,7 +1,7 @@
 use Rattle.std.proofs.Common.{◌∙◌, sym, subst, arith, refl}
 use Rattle.std.proofs.lemmas.Option.{none-some, same_Some}
 use Rattle.b67_word.specs.Tagged.{Tagged}
-use Rattle.b67_refer.specs.Cells.{StandsFor}
+use Rattle.b67_refer.specs.LiveCells.{StandsFor}
 use Rattle.b67_refer.proofs.Procs.{intrinsic_is, intrinsic_end, proc_end}
 use Rattle.b67_refer.proofs.ends.end_at.Goals as goal
 
