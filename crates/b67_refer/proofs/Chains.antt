@@ -10,7 +10,6 @@ use Rattle.b67_ctl.specs.declared.marks.Mscw.{Mscw}
 use Rattle.b67_ctl.specs.Layout.{mscw_word, IsMscw}
 use Rattle.b67_lemmas.specs.Lists.{Has}
 use Rattle.b67_lemmas.proofs.Members.{has_append_left, has_map}
-use Rattle.b67_model.specs.State as State
 use Rattle.b67_model.specs.State.{Frame, OperatorContext, frame}
 use Rattle.b67_model.specs.Environment.{level_of_standing, level_of_frame, environment_of, running, running_level, outward, frame_at}
 use Rattle.b67_model.specs.InOrder.{Known, known_of, outer_of, reach_of, IsEntered, IsSegment}

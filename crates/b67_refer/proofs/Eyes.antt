@@ -1,10 +1,10 @@
 -- From which live task something is seen: from the first one, or from the running one.
-use Rattle.std.proofs.Common.{◌≡◌, ℕ, List, Some, Bool, true, false, inl, inr, ◌⊎◌}
+use Rattle.std.proofs.Common.{◌≡◌, List, Some, Bool, true, false, inl, inr}
 use Rattle.b67_word.specs.Tagged.{Tagged}
 use Rattle.b67_ctl.specs.declared.registers.Regs.{Regs}
 use Rattle.b67_model.specs.Keyed.{keyed}
 use Rattle.b67_model.specs.State.{Task}
-use Rattle.b67_refer.specs.RunningContext.{RunningContext, LiveContext, live_of, running_of, FromEither}
+use Rattle.b67_refer.specs.RunningContext.{RunningContext, LiveContext, live_of, FromEither}
 
 module _ {core : List Tagged} {r : Regs} (a : LiveContext core r) where
   abbrev pub task_by : Bool → Task

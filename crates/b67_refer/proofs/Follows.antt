@@ -1,5 +1,5 @@
 -- Words that are no references, and element copies.
-use Rattle.std.proofs.Common.{◌≡◌, ℕ, List, Result, Ok, Err, Some, Option, refl, sym, ◌∙◌, ap, arith, true, false, subst}
+use Rattle.std.proofs.Common.{◌≡◌, ℕ, List, Result, Err, Some, Option, refl, sym, ◌∙◌, ap, arith, true, false, subst}
 use Rattle.std.proofs.lemmas.Bool.{true≢false, false≢true}
 use Rattle.std.proofs.lemmas.Option.{same_Some}
 use Rattle.b67_word.specs.Tagged.{Tagged}

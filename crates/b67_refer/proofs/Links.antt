@@ -1,6 +1,6 @@
 -- What the words of cells come to, and one turn of a chain of references.
-use Rattle.std.proofs.Common.{◌≡◌, ℕ, ◌+◌, ◌*◌, ◌<◌, ◌≤◌, ◌^◌, List, length, Option, Some, None, Result, Ok, Err, refl, sym, ◌∙◌, ap, arith, true, false, subst}
-use Rattle.std.specs.List.{slice_get, AllByRecursion}
+use Rattle.std.proofs.Common.{◌≡◌, ℕ, ◌+◌, ◌*◌, ◌<◌, ◌≤◌, ◌^◌, List, Option, Some, None, Result, Ok, Err, refl, sym, ◌∙◌, ap, arith, true, false, subst}
+use Rattle.std.specs.List.{slice_get}
 use Rattle.std.proofs.lemmas.Bool.{true≢false, false≢true}
 use Rattle.std.proofs.lemmas.Option.{same_Some}
 use Rattle.b67_word.specs.Tagged.{Tagged}
@@ -10,12 +10,11 @@ use Rattle.b67_ctl.specs.declared.descriptors.DataDesc.{DataDesc}
 use Rattle.b67_ctl.specs.Descriptors.{data_word, IsDataDesc}
 use Rattle.b67_model.specs.Words as Words
 use Rattle.b67_model.specs.Words.{Word, Operand, Name, Ref, Row, Element, Original, Proc, Intrinsic}
-use Rattle.b67_model.specs.State.{Segment}
 use Rattle.b67_model.specs.Answers.{Answer}
 use Rattle.b67_model.specs.Chase as Chase
 use Rattle.b67_model.specs.Chase.{Stops, element_end, link_at}
 use Rattle.b67_layout.specs.Meets.{here}
-use Rattle.b67_model.specs.InOrder.{NamesEntered, NamesArray, OwnsArray, ArrayInOrder}
+use Rattle.b67_model.specs.InOrder.{NamesEntered, NamesArray, OwnsArray}
 use Rattle.b67_stack.specs.Shapes.{Copied, copy_desc, IsCopy}
 use Rattle.b67_refer.specs.declared.ends.End.{End}
 use Rattle.b67_refer.specs.declared.ends.End.TheVariants as end
@@ -26,7 +25,6 @@ use Rattle.b67_refer.specs.LiveEnds.{EndMeets, LinkMeets, on_link}
 use Rattle.b67_refer.specs.Ends.{IsCopyOf, HasTag}
 use Rattle.b67_refer.proofs.Bases.{pictured}
 use Rattle.b67_refer.proofs.Chains.{level}
-use Rattle.b67_lemmas.proofs.Members.{all_in}
 
 -- the word of a procedure isn't that of an intrinsic
 pub not_intrinsic : (syllable place level segment number : ℕ) → syllable < 8 → place < 2 ^ 13 → level ≤ 31 → segment < 2 ^ 14 → number < 2 ^ 14 → syllable * 2 ^ 33 + place * 2 ^ 20 + level * 2 ^ 14 + segment ≡ 2 ^ 19 + number → ⊥

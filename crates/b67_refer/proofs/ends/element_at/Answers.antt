@@ -1,4 +1,4 @@
-use Rattle.std.proofs.Common.{◌≡◌, ◌∙◌, sym, ap, subst, arith, ℕ, ◌<◌, length, Some}
+use Rattle.std.proofs.Common.{◌∙◌, sym, ap, subst, arith, ℕ, ◌<◌, length}
 use Rattle.std.specs.List.{slice_get}
 use Rattle.std.proofs.lemmas.Option.{same_Some, none-some, slice_get_within}
 use Rattle.b67_ctl.specs.Descriptors.{data_word}
