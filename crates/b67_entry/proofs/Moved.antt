@@ -24,7 +24,7 @@ use Rattle.b67_layout.specs.Session.{IsRunning, RepresentsSession}
 use Rattle.b67_layout.proofs.Fresh.{running_in_order}
 use Rattle.b67_refer.specs.Cells.{StandsFor}
 use Rattle.b67_layout_leave.proofs.Nowhere.{shape-same}
-use Rattle.b67_layout_leave.proofs.Slots.{outer_spots-after}
+use Rattle.b67_layout.proofs.Replaces.{outer_spots-after}
 use Rattle.b67_layout_leave.proofs.Leaves.{may_leave, Frames-below, replaces}
 use Rattle.b67_layout_leave.proofs.Orders.{left_outer}
 use Rattle.b67_entry.specs.Left.{Returns}

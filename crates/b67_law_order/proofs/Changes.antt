@@ -1,12 +1,13 @@
 -- The ways in which a step changes the running task's frames, each of which keeps them in order.
-use Rattle.std.proofs.Common.{◌≡◌, ◌≢◌, ℕ, ◌+◌, ◌<◌, ◌≤◌, List, [], ◌∷◌, ◌++◌, map, Some, refl, sym, ap, ◌∙◌, subst, inl, inr, arith}
+use Rattle.std.proofs.Common.{◌≡◌, ◌≢◌, ℕ, ◌+◌, ◌<◌, ◌≤◌, List, [], ◌∷◌, ◌++◌, map, Some, refl, sym, ap, ◌∙◌, subst, inl, inr, arith, ℤ, nat_abs, ◌^◌}
+use Rattle.std.specs.List.{AllByRecursion}
 use Rattle.std.proofs.lemmas.Bool.Decides.{eqb_tells}
 use Rattle.b67_word.specs.declared.couples.Place.{Place}
 use Rattle.b67_model.specs.Keyed.{keyed}
 use Rattle.b67_lemmas.specs.Lists.{Has, Falls}
 use Rattle.b67_lemmas.proofs.Members.{all_in, falls_low, falls_more, has_append_left, has_map, has_map_back, keyed_has}
 use Rattle.b67_model.specs.Words.{Word}
-use Rattle.b67_model.specs.State.{Frame, Standing, Marked, Entered, Return, Array, Task, Job, OperatorContext, top, with_top_cells, height, with_task}
+use Rattle.b67_model.specs.State.{Frame, Standing, Marked, Entered, Return, Array, Condition, Task, Job, OperatorContext, top, with_top_cells, height, with_task}
 use Rattle.b67_model.specs.Environment.{level_of_frame, running}
 use Rattle.b67_model.specs.InOrder.{Starts, Known, known_of, from_frame, outer_of, reach_of, known_numbers, identities, IsEntered, EnvironmentInOrder, StandsInOrder, CellsInOrder, FramesInOrder, StackInOrder, ReturnsInOrder, BirthInOrder, ConditionInOrder, TaskInOrder, originals_in, originals_of, frames_named, TasksInOrder}
 use Rattle.b67_law_order.proofs.Reaches.{Alike, alike_same, Stays, Wider, words_wider, known_number, frames_alike}
@@ -206,32 +207,41 @@ change_enter P h arrays f below next level environment back c marked stands retu
       fewer = c.fewer;
     }
 
+-- a change among the same arrays, with the condition and the numbers to read afterwards
+pub change_replaces : (P : Starts) (h : OperatorContext) (frames : List Frame) (next segment : ℕ) (place : Place) (condition : Condition) (numbers : List ℤ) → TasksInOrder P h.constants h.job → Change P h h.job.arrays frames next →
+    height frames ≤ h.constants.stack_size → P segment (level_of_frame (running frames)) place → ConditionInOrder (map known_of frames ++ outside h) condition →
+    ((n : ℕ) → originals_in n frames ≡ originals_in n h.task.frames) → AllByRecursion (λ n. nat_abs n < 2 ^ 39) numbers →
+    Replaced P h.constants h.job h.task (with_task (record h.job { next_frame = next; numbers = numbers }) (record h.task { frames = frames; segment = segment; place = place; condition = condition }))
+    (record h.task { frames = frames; segment = segment; place = place; condition = condition })
+change_replaces P h frames next segment place condition numbers order c low starts waits same reads = record {
+  number = refl;
+  line = refl;
+  critical = refl;
+  tasks = refl;
+  next_task = refl;
+  next_frame = c.up;
+  frames = c.order;
+  returns = c.returns;
+  some = c.some;
+  falls = c.falls;
+  not_higher = low;
+  place = starts;
+  condition = waits;
+  alike = c.alike;
+  stays = c.stays;
+  fewer = c.fewer;
+  kept = λ a k. record { case = inl (itself h.job.arrays a k) };
+  arrays = order.arrays;
+  once = λ a k. omega (arith, same a.identity, all_in (λ (x : Array). originals_of x.identity h.constants h.job ≡ 1) h.job.arrays a order.once k);
+  names = order.names;
+  reads = reads;
+}
+
 -- the running task with these frames, among the same arrays
 pub changed : (P : Starts) (h : OperatorContext) (frames : List Frame) (next segment : ℕ) (place : Place) → Run P h → Change P h h.job.arrays frames next → height frames ≤ h.constants.stack_size →
     P segment (level_of_frame (running frames)) place → ((n : ℕ) → originals_in n frames ≡ originals_in n h.task.frames) →
     TasksInOrder P h.constants (with_task (record h.job { next_frame = next }) (record h.task { frames = frames; segment = segment; place = place }))
 changed P h frames next segment place run c low starts same =
     let new : Task = record h.task { frames = frames; segment = segment; place = place } in
-    (run_replaced P h (with_task (record h.job { next_frame = next }) new) new run (record {
-      number = refl;
-      line = refl;
-      critical = refl;
-      tasks = refl;
-      next_task = refl;
-      next_frame = c.up;
-      frames = c.order;
-      returns = c.returns;
-      some = c.some;
-      falls = c.falls;
-      not_higher = low;
-      place = starts;
-      condition = subst (ConditionInOrder (map known_of frames ++ outside h)) (sym run.ready) tt;
-      alike = c.alike;
-      stays = c.stays;
-      fewer = c.fewer;
-      kept = λ a k. record { case = inl (itself h.job.arrays a k) };
-      arrays = run.order.arrays;
-      once = λ a k. omega (arith, same a.identity, all_in (λ (x : Array). originals_of x.identity h.constants h.job ≡ 1) h.job.arrays a run.order.once k);
-      names = run.order.names;
-      reads = run.order.reads;
-    })).0
+    let waits : ConditionInOrder (map known_of frames ++ outside h) h.task.condition = subst (ConditionInOrder (map known_of frames ++ outside h)) (sym run.ready) tt in
+    (run_replaced P h (with_task (record h.job { next_frame = next }) new) new run (change_replaces P h frames next segment place h.task.condition h.job.numbers run.order c low starts waits same run.order.reads)).0

@@ -1,18 +1,18 @@
 -- Intrinsics that cut their mark and answer keep order.
-use Rattle.std.proofs.Common.{◌≡◌, ◌≢◌, ℕ, ◌+◌, ◌^◌, ◌<◌, ◌≤◌, Bool, true, false, not, cond, List, [], ◌∷◌, ◌++◌, map, Option, Some, None, refl, sym, ◌∙◌, subst, inl, arith}
+use Rattle.std.proofs.Common.{◌≡◌, ◌≢◌, ℕ, ◌+◌, ◌^◌, ◌<◌, ◌≤◌, Bool, true, false, not, cond, List, [], ◌∷◌, ◌++◌, map, Option, Some, None, refl, sym, ◌∙◌, subst, arith}
 use Rattle.std.specs.List.{AllByRecursion}
 use Rattle.b67_model.specs.Keyed.{keyed}
 use Rattle.b67_model.specs.Words.{Word, Operand}
-use Rattle.b67_model.specs.State.{Frame, Marked, Array, Condition, Ready, Awaits, WaitsAt, Task, OperatorContext, top, below_top, with_top_cells, height, with_task}
+use Rattle.b67_model.specs.State.{Frame, Marked, Condition, Ready, Awaits, WaitsAt, Task, OperatorContext, top, below_top, with_top_cells, height, with_task}
 use Rattle.b67_model.specs.Environment.{level_of_frame, running}
 use Rattle.b67_model.specs.Arrays.{array}
 use Rattle.b67_model.specs.Steps.{Line, Waits, top_of, cells_of, with_frames, is_critical}
 use Rattle.b67_model.specs.Intrinsics as Intrinsics
 use Rattle.b67_model.specs.Intrinsics.{is_original}
-use Rattle.b67_model.specs.InOrder.{Starts, known_of, outer_of, ConditionInOrder, originals_in, originals_of, TasksInOrder}
+use Rattle.b67_model.specs.InOrder.{Starts, known_of, outer_of, ConditionInOrder, originals_in, TasksInOrder}
 use Rattle.b67_law_order.proofs.Reaches.{Alike}
 use Rattle.b67_law_order.proofs.Looks.{Run, own_order, below_some, running_cells}
-use Rattle.b67_law_order.proofs.Changes.{Change, TopWords, outside, change_cells, change_drop, run_replaced}
+use Rattle.b67_law_order.proofs.Changes.{Change, TopWords, outside, change_cells, change_drop, change_replaces, run_replaced}
 use Rattle.b67_law_order.proofs.Posts.{post_ok, post_err, post_any, post_needs, post_if}
 use Rattle.b67_law_order_rows.proofs.Steps.{Keeps, Good, top_words, originals, originals_cells, result_good}
 use Rattle.std.proofs.Common.{ℤ, pos, negsuc, nat_abs, ltb, ◌&&◌}
@@ -20,7 +20,6 @@ use Rattle.b67_model.specs.Steps.{Value, Values}
 use Rattle.b67_model.specs.Intrinsics.{answered, needs_free, answers, array_length, arraydec, print, printrow, row_copy, numbers_of, read_from, read, child_of, starts, process, awaits, await, status_of, status, waits_at, wait, woken_at, wakes, causes, cause}
 use Rattle.b67_model.specs.Words.{whole}
 use Rattle.b67_law_order_rows.proofs.Entries.{taken_apart, parted, below_is, top_is, free_by, running_marked}
-use Rattle.b67_lemmas.proofs.Members.{all_in}
 
 -- the marked frame on top, whose cells hold no original
 pub record Cut (P : Starts) (h : OperatorContext) : Type 0 where
@@ -35,29 +34,8 @@ pub changed_reads : (P : Starts) (h : OperatorContext) (frames : List Frame) (nu
     × Alike (outside h) (outer_of (with_task (record h.job { numbers = numbers }) (with_frames h frames)) (with_frames h frames))
 changed_reads P h frames numbers run c low level same reads =
     let new : Task = with_frames h frames in
-    run_replaced P h (with_task (record h.job { numbers = numbers }) new) new run (record {
-      number = refl;
-      line = refl;
-      critical = refl;
-      tasks = refl;
-      next_task = refl;
-      next_frame = c.up;
-      frames = c.order;
-      returns = c.returns;
-      some = c.some;
-      falls = c.falls;
-      not_higher = low;
-      place = rw level run.place;
-      condition = subst (ConditionInOrder (map known_of frames ++ outside h)) (sym run.ready) tt;
-      alike = c.alike;
-      stays = c.stays;
-      fewer = c.fewer;
-      kept = λ a k. record { case = inl (record { item = a; live = k; named = refl; owned = refl }) };
-      arrays = run.order.arrays;
-      once = λ a k. omega (arith, same a.identity, all_in (λ (x : Array). originals_of x.identity h.constants h.job ≡ 1) h.job.arrays a run.order.once k);
-      names = run.order.names;
-      reads = reads;
-    })
+    let waits : ConditionInOrder (map known_of frames ++ outside h) h.task.condition = subst (ConditionInOrder (map known_of frames ++ outside h)) (sym run.ready) tt in
+    run_replaced P h (with_task (record h.job { numbers = numbers }) new) new run (change_replaces P h frames h.job.next_frame h.task.segment h.task.place h.task.condition numbers run.order c low (rw level run.place) waits same reads)
 
 module _ (P : Starts) (h : OperatorContext) (cut : Cut P h) where
   -- the frames without the marked one

@@ -1,6 +1,6 @@
--- A machine of a parent and a child: the job of `Witness`, whose first task has given birth to a second one. The child runs in
--- slot 1, and its outermost activation record has the parent's as its environment; the parent waits in slot 0.
-use Rattle.std.proofs.Common.{◌≡◌, suc, ◌≢◌, ℕ, ◌+◌, ◌-◌, ◌*◌, ◌<◌, ◌≤◌, ◌^◌, ◌==◌, List, [], ◌∷◌, ◌++◌, length, Some, None, refl, sym, ◌∙◌, ap, arith, inl, inr, ⊎_elim, subst, replicate}
+-- A machine of a parent and a child: a job whose first task has given birth to a second one. The child runs in slot 1, and its
+-- outermost activation record has the parent's as its environment; the parent waits in slot 0.
+use Rattle.std.proofs.Common.{◌≡◌, zero, suc, ◌≢◌, ℕ, ◌+◌, ◌-◌, ◌*◌, ◌<◌, ◌≤◌, ◌^◌, ◌==◌, List, [], ◌∷◌, ◌++◌, length, Some, None, refl, sym, ◌∙◌, ap, arith, inl, inr, ⊎_elim, subst, replicate}
 use Rattle.std.specs.Prelude.{if◌then◌else◌, map}
 use Rattle.std.specs.List.{slice_get}
 use Rattle.std.proofs.lemmas.Option.{none-some, same_Some}
@@ -33,10 +33,10 @@ use Rattle.b67_layout.specs.Layout.{machine_view}
 use Rattle.b67_layout.specs.Session.{PlanFits, RowsFit, IsRunning, RepresentsDictionary, RepresentsVector, RepresentsCritical, RepresentsTask, vector_word, critical_mark, frame_address, ShowsDisplay, SessionHolds, RepresentsSession}
 use Rattle.b67_layout.specs.Orders.{IsInOrderButCounts}
 use Rattle.b67_layout.specs.Families.{RunsChild}
-use Rattle.b67_layout.proofs.Witness.{all_from, get-past, get-replicate, get-only, only}
 
 -- ---- the session
 
+-- MKST, NAMC 0,9, LT8 2, LT8 3, ADD, ENTR, EXIT
 abbrev code : List ℕ
 code = 0xae4009b202b2 ∷ 0x0380aba3ffff ∷ []
 
@@ -127,7 +127,38 @@ p = machine_view plan session.jobs
 abbrev object : PagedObject
 object = record { home = 162; kind = kind.Code; numbers = code }
 
--- what holds of both of two, and of both slots
+-- facts for each number of a range
+abbrev AllFrom : (ℕ → Type 0) → ℕ → ℕ → Type 0
+AllFrom P from zero = Unit {0}
+AllFrom P from (suc n) = P from × AllFrom P (from + 1) n
+
+all_from : (P : ℕ → Type 0) (from n : ℕ) → AllFrom P from n → (i : ℕ) → from ≤ i → i < from + n → P i
+all_from P from zero a i low up = absurd (omega arith)
+all_from P from (suc n) a i low up = ⊎_elim
+    (λ (e : i ≡ from). subst P (sym e) a.0)
+    (λ (e : i ≡ from → ⊥). all_from P (from + 1) n a.1 i (omega arith) (omega arith))
+    (cases_eq i from)
+
+get-past : {A : Type 0} (xs ys : List A) (i k : ℕ) → k ≡ length xs + i → slice_get (xs ++ ys) k ≡ slice_get ys i
+get-past [] ys i k e = ap (slice_get ys) (let z : k ≡ i = omega arith in z)
+get-past (x ∷ xs) ys i zero e = absurd (omega arith)
+get-past (x ∷ xs) ys i (suc k) e = get-past xs ys i k (omega arith)
+
+get-replicate : {A : Type 0} (n : ℕ) (x : A) (ys : List A) (i : ℕ) → i < n → slice_get (replicate n x ++ ys) i ≡ Some x
+get-replicate zero x ys i h = absurd (omega arith)
+get-replicate (suc n) x ys zero h = refl
+get-replicate (suc n) x ys (suc i) h = get-replicate n x ys i (omega arith)
+
+get-only : {A : Type 0} (n : ℕ) (x : A) (i : ℕ) → i < n → slice_get (replicate n x) i ≡ Some x
+get-only zero x i h = absurd (omega arith)
+get-only (suc n) x zero h = refl
+get-only (suc n) x (suc i) h = get-only n x i (omega arith)
+
+-- what holds of the one item, of both of two, and of both slots
+only : {A : Type 0} (x : A) (P : A → Type 0) → P x → (y : A) → Has (x ∷ []) y → P y
+only x P h y (inl e) = subst P e h
+only x P h y (inr k) = absurd k
+
 both : {A : Type 0} (x y : A) (P : A → Type 0) → P x → P y → (z : A) → Has (x ∷ y ∷ []) z → P z
 both x y P h k z (inl e) = subst P e h
 both x y P h k z (inr (inl e)) = subst P e k

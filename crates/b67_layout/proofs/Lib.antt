@@ -1,5 +1,6 @@
 pub mod Frames
 pub mod Others
+pub mod Replaces
 pub mod MachineViews
 pub mod Rows
 pub mod Sessions
@@ -10,7 +11,6 @@ pub mod Settles
 pub mod Starts
 pub mod Fresh
 pub mod Gone
-pub mod Witness
 pub mod Members
 pub mod Cells
 pub mod Weaker

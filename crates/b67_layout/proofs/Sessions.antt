@@ -1,4 +1,4 @@
--- A step of the running task on top of its stack: what else the machine stands for stays.
+-- A task is replaced by one of whose frames others see the same: what the machine stands for beside the view.
 use Rattle.std.proofs.Common.{◌≡◌, ℕ, ◌+◌, ◌<◌, ◌≤◌, List, [], ◌∷◌, length, Some, refl, sym, ◌∙◌, ap, arith, Bool, true, false, ◌==◌, ⊎_elim, inl, inr, ◌⊎◌, subst, zero, suc}
 use Rattle.std.specs.Prelude.{if◌then◌else◌, ◌||◌}
 use Rattle.std.specs.List.{slice_get, list_any}
@@ -19,8 +19,8 @@ use Rattle.b67_stack.specs.MachineView.{NoOriginalAboveTop, PagedObject}
 use Rattle.b67_stack.specs.Represents.{Storage, Represents}
 use Rattle.b67_layout.specs.Placement.{Placement, Slotted, slot_of}
 use Rattle.b67_layout.specs.Layout.{machine_view, code_objects}
-use Rattle.b67_layout.specs.Session.{RowsFit, DictionariesFollow, RowHomes, PlanFits, RepresentsDictionary, vector_word, critical_mark, RepresentsTask, IsRunning, SessionHolds}
-use Rattle.b67_layout.proofs.Others.{OnTop, task-same}
+use Rattle.b67_layout.specs.Session.{RowsFit, DictionariesFollow, RowHomes, PlanFits, RepresentsDictionary, vector_word, critical_mark, RepresentsTask, IsRunning, with_objects, SessionHoldsBut}
+use Rattle.b67_layout.proofs.Replaces.{Replaces, task-same}
 use Rattle.b67_layout.proofs.MachineViews.{with_course, member-same}
 use Rattle.b67_layout.proofs.Rows.{task_row, slot_below}
 use Rattle.b67_area.specs.declared.Kind.TheVariants as kind
@@ -102,11 +102,9 @@ running_only plan jobs m y t u P fit a b h =
     let Q : Task → Type 0 = λ v. P y v in let R : SessionJob → Type 0 = λ z. P z t in
     subst Q (sym eu) (subst R (sym ey) h)
 
-module _ (x : Storage) (core new : List Tagged) (r r' : Regs) (marks : List ℕ) (plan : Placement) (s : Session) (m : SessionJob) (c : JobProgress) (t t' : Task) (n : ℕ)
-    (h : SessionHolds x core r marks plan s) (runs : IsRunning plan s.jobs m t) (top : OnTop m.progress.job c.job t t' n) where
-  j : ℕ
-  j = m.constants.number
-
+-- a task is replaced: what else the machine stands for stays
+module _ (before left : List PagedObject) (x : Storage) (core new : List Tagged) (r r' : Regs) (marks : List ℕ) (plan : Placement) (s : Session) (m : SessionJob) (c : JobProgress) (t t' : Task)
+    (h : SessionHoldsBut before x core r marks plan s) (runs : IsRunning plan s.jobs m t) (by : Replaces m.progress.job c.job t t') where
   abbrev pub moved : SessionJob
   moved = record m { progress = c }
 
@@ -119,23 +117,20 @@ module _ (x : Storage) (core new : List Tagged) (r r' : Regs) (marks : List ℕ)
   has_t : Has m.progress.job.tasks t
   has_t = keyed-has (λ (u : Task). u.number) t.number m.progress.job.tasks t runs.task
 
-  there : keyed (λ (u : Task). u.number) t.number m.progress.job.tasks ≡ Some t
-  there = top.there
-
-  -- each job is an old one or the one that moved, and each of that one's tasks an old one or the one that changed
+  -- each job is an old one or the one that moved, and each of that one's tasks an old one or the new one
   for_members : (P : SessionJob → Type 0) → ((y : SessionJob) → Has s.jobs y → P y) → P moved → (y : SessionJob) → Has jobs' y → P y
   for_members P old here y in_y = ⊎_elim (λ k. old y k) (λ (e : y ≡ moved). subst P (sym e) here) (change-has number_of m.constants.number (λ (z : SessionJob). record z { progress = c }) s.jobs m runs.member y in_y)
 
   for_tasks : (P : Task → Type 0) → ((u : Task) → Has m.progress.job.tasks u → P u) → P t' → (u : Task) → Has c.job.tasks u → P u
   for_tasks P old here u in_u =
       let Q : List Task → Type 0 = λ ts. Has ts u in
-      ⊎_elim (λ k. old u k) (λ (e : u ≡ t'). subst P (sym e) here) (change-has (λ (v : Task). v.number) t.number (λ (v : Task). t') m.progress.job.tasks t there u (subst Q top.tasks in_u))
+      ⊎_elim (λ k. old u k) (λ (e : u ≡ t'). subst P (sym e) here) (change-has (λ (v : Task). v.number) t.number (λ (v : Task). t') m.progress.job.tasks t by.there u (subst Q by.tasks in_u))
 
   for_both : (P : SessionJob → Task → Type 0) → ((y : SessionJob) (u : Task) → Has s.jobs y → Has y.progress.job.tasks u → P y u) → ((u : Task) → Has m.progress.job.tasks u → P moved u) → P moved t' → (y : SessionJob) (u : Task) → Has jobs' y → Has y.progress.job.tasks u → P y u
   for_both P old kept here y u in_y = for_members (λ z. Has z.progress.job.tasks u → P z u) (λ z in_z in_u. old z u in_z in_u) (λ in_u. for_tasks (P moved) kept here u in_u) y in_y
 
   criticals : (id : ℕ) → is_critical c.job id ≡ is_critical m.progress.job id
-  criticals id = ap (λ (ts : List Task). list_any (λ (u : Task). u.critical == id) ts) top.tasks ∙ any-change id t.number t t' top.critical m.progress.job.tasks there
+  criticals id = ap (λ (ts : List Task). list_any (λ (u : Task). u.critical == id) ts) by.tasks ∙ any-change id t.number t t' by.critical m.progress.job.tasks by.there
 
   rows : RowsFit plan jobs'
   rows = record {
@@ -149,12 +144,12 @@ module _ (x : Storage) (core new : List Tagged) (r r' : Regs) (marks : List ℕ)
         let Q : List Task → Type 0 = λ ts. Has ts u in
         let R : List Task → Type 0 = λ ts. Has ts t' in
         ⊎_elim
-        (λ (w : Has (change_keyed (λ (v : Task). v.number) t.number (λ (v : Task). t') m.progress.job.tasks) u). (moved, u, k.1, ej', subst Q (sym top.tasks) w, et))
-        (λ w. (moved, t', k.1, ej', subst R (sym top.tasks) w.1, top.number ∙ ap (λ (v : Task). v.number) (sym w.0) ∙ et))
-        (change-kept (λ (v : Task). v.number) t.number (λ (v : Task). t') m.progress.job.tasks t there u in_m))
+        (λ (w : Has (change_keyed (λ (v : Task). v.number) t.number (λ (v : Task). t') m.progress.job.tasks) u). (moved, u, k.1, ej', subst Q (sym by.tasks) w, et))
+        (λ w. (moved, t', k.1, ej', subst R (sym by.tasks) w.1, by.number ∙ ap (λ (v : Task). v.number) (sym w.0) ∙ et))
+        (change-kept (λ (v : Task). v.number) t.number (λ (v : Task). t') m.progress.job.tasks t by.there u in_m))
         (change-kept number_of m.constants.number (λ (z : SessionJob). record z { progress = c }) s.jobs m runs.member y in_y);
     slotted = for_both (λ y u. (q : Slotted) × Has plan.rows q × (q.job ≡ y.constants.number) × (q.task ≡ u.number)) h.fits.rows.slotted (λ u in_u. h.fits.rows.slotted m u has_m in_u)
-        (let (q, in_q, a, b) = h.fits.rows.slotted m t has_m has_t in (q, in_q, a, b ∙ sym top.number));
+        (let (q, in_q, a, b) = h.fits.rows.slotted m t has_m has_t in (q, in_q, a, b ∙ sym by.number));
     below = h.fits.rows.below;
     differ = h.fits.rows.differ;
     tasks_differ = h.fits.rows.tasks_differ;
@@ -170,18 +165,22 @@ module _ (x : Storage) (core new : List Tagged) (r r' : Regs) (marks : List ℕ)
     row_homes = for_members (λ y. RowHomes plan y) h.fits.row_homes (h.fits.row_homes m has_m);
   }
 
-  still_running : IsRunning plan jobs' moved t'
+  pub still_running : IsRunning plan jobs' moved t'
   still_running = record {
     member = member-same s.jobs m.constants.number c m runs.member;
-    task = ap (λ (q : ℕ). keyed (λ (u : Task). u.number) q c.job.tasks) top.number ∙ task-same plan m.constants.number m.progress.job c.job t t' n top;
-    slot = runs.slot ∙ ap (slot_of plan m.constants.number) (sym top.number);
+    task = ap (λ (q : ℕ). keyed (λ (u : Task). u.number) q c.job.tasks) by.number ∙ task-same plan m.constants.number m.progress.job c.job t t' by;
+    slot = runs.slot ∙ ap (slot_of plan m.constants.number) (sym by.number);
   }
 
+  -- what is shown of the running task, is shown of the one that runs
+  pub for_running : (P : SessionJob → Task → Type 0) → P moved t' → (y : SessionJob) (u : Task) → IsRunning plan jobs' y u → P y u
+  for_running P here y u q = running_only plan jobs' moved y t' u P rows still_running q here
+
   -- the session after the step, where no word below slot 0 changed and no critical frame of the task came or went
-  pub SessionHolds-after : ((i : ℕ) → i < plan.stacks → slice_get new i ≡ slice_get core i) → critical_mark m.progress.job t'.frames ≡ critical_mark m.progress.job t.frames
-      → Represents x new r' (machine_view plan jobs') → NoOriginalAboveTop (machine_view plan jobs') → RepresentsTask r' plan moved t'
-      → SessionHolds x new r' marks plan (record s { jobs = jobs' })
-  SessionHolds-after same criticals_same stands settled task = record {
+  pub SessionHoldsBut-after : ((i : ℕ) → i < plan.stacks → slice_get new i ≡ slice_get core i) → critical_mark m.progress.job t'.frames ≡ critical_mark m.progress.job t.frames
+      → Represents x new r' (with_objects left (machine_view plan jobs')) → NoOriginalAboveTop (machine_view plan jobs') → RepresentsTask r' plan moved t'
+      → SessionHoldsBut left x new r' marks plan (record s { jobs = jobs' })
+  SessionHoldsBut-after same criticals_same stands settled task = record {
     fits = plan_fits;
     memory = stands;
     settled = settled;
@@ -189,17 +188,17 @@ module _ (x : Storage) (core new : List Tagged) (r r' : Regs) (marks : List ℕ)
     mcp = record { mark = same 0 (omega arith) ∙ h.mcp.mark; intrinsics = λ i low up. same i (omega arith) ∙ h.mcp.intrinsics i low up };
     vector = record {
       live = for_both (λ y u. slice_get new (32 + slot_of plan y.constants.number u.number) ≡ Some (vector_word plan y.constants.number u.parents)) vector (λ u in_u. vector m u has_m in_u)
-          (ap (λ (i : ℕ). slice_get new (32 + slot_of plan m.constants.number i)) top.number ∙ vector m t has_m has_t ∙ ap (λ (ps : List ℕ). Some (vector_word plan m.constants.number ps)) (sym top.parents));
+          (ap (λ (i : ℕ). slice_get new (32 + slot_of plan m.constants.number i)) by.number ∙ vector m t has_m has_t ∙ ap (λ (ps : List ℕ). Some (vector_word plan m.constants.number ps)) (sym by.parents));
       free = λ k small others. same (32 + k) (omega arith) ∙ h.vector.free k small others;
     };
     critical = record {
       live = for_both (λ y u. slice_get marks (slot_of plan y.constants.number u.number) ≡ Some (critical_mark y.progress.job u.frames)) h.critical.live
           (λ u in_u. h.critical.live m u has_m in_u ∙ ap Some (sym (critical_mark-same m.progress.job c.job criticals u.frames)))
-          (ap (λ (i : ℕ). slice_get marks (slot_of plan m.constants.number i)) top.number ∙ h.critical.live m t has_m has_t ∙ ap Some (sym criticals_same ∙ sym (critical_mark-same m.progress.job c.job criticals t'.frames)));
+          (ap (λ (i : ℕ). slice_get marks (slot_of plan m.constants.number i)) by.number ∙ h.critical.live m t has_m has_t ∙ ap Some (sym criticals_same ∙ sym (critical_mark-same m.progress.job c.job criticals t'.frames)));
       free = h.critical.free;
     };
     live = λ z. (moved, t', still_running);
-    running = λ y u q. running_only plan jobs' moved y t' u (RepresentsTask r' plan) rows still_running q task;
+    running = λ y u q. for_running (RepresentsTask r' plan) task y u q;
     none = λ e. absurd (let z : ⊥ = omega (arith, e, runs.slot, slot_small) in z);
   } where
     low : 160 ≤ plan.stacks

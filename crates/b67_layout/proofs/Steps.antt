@@ -23,7 +23,8 @@ use Rattle.b67_layout.specs.Session.{RepresentsTask, IsRunning, critical_mark, S
 use Rattle.b67_layout.proofs.Others.{OnTop, seen-cells, seen-mark}
 use Rattle.b67_layout.proofs.MachineViews.{with_course, machine_view-after, stack-after}
 use Rattle.b67_layout.proofs.Rows.{row_of}
-use Rattle.b67_layout.proofs.Sessions.{SessionHolds-after}
+use Rattle.b67_layout.proofs.Replaces.{on_top_replaces}
+use Rattle.b67_layout.proofs.Sessions.{SessionHoldsBut-after}
 use Rattle.b67_model.specs.Keyed.{change_keyed}
 use Rattle.b67_model.specs.Run.{number_of}
 
@@ -89,7 +90,7 @@ module _ (x : Storage) (core new : List Tagged) (r r' : Regs) (marks : List ℕ)
       machine_view-after plan s.jobs m.constants.number m c t t' n plan.running runs.member top row
       ∙ ap (λ (xs : List Activation). with_stack (machine_view plan s.jobs) plan.running xs) (stack-after plan s.jobs m.constants.number m c t t' n plan.running runs.member top row ∙ is) in
       let P : MachineView → Type 0 = λ p. Represents x new r' p in
-      SessionHolds-after x core new r r' marks plan s m c t t' n h runs top same critical (subst P (sym e) stands) (subst NoOriginalAboveTop (sym e) settled) (task_stands c fs)
+      SessionHoldsBut-after [] [] x core new r r' marks plan s m c t t' h runs (on_top_replaces m.progress.job c.job t t' n top) same critical (subst P (sym e) stands) (subst NoOriginalAboveTop (sym e) settled) (task_stands c fs)
 
   -- other cells in the top frame
   pub SessionHolds-cells : (n : ℕ) (cells : List Word) → IsFree m.progress.job n

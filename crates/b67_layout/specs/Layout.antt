@@ -1,5 +1,5 @@
 -- The view of a session's state.
-use Rattle.std.specs.Prelude.{ℕ, ◌+◌, ◌==◌, not, true, false, List, [], ◌∷◌, ◌++◌, map, flat_map, length, Option, Some, None, if◌then◌else◌}
+use Rattle.std.specs.Prelude.{ℕ, ◌+◌, ◌==◌, not, List, [], ◌∷◌, ◌++◌, map, flat_map, Option, Some, None, if◌then◌else◌}
 use Rattle.b67_word.specs.Tagged.{word}
 use Rattle.b67_ctl.specs.Layout.{pcw_word, intrinsic_word, irw_word, sirw_word}
 use Rattle.b67_area.specs.declared.Kind.TheVariants as kind

@@ -1,6 +1,5 @@
 pub mod Heads
 pub mod Awaits
-pub mod Holds
 pub mod Conditions
 pub mod Rooms
 pub mod Accidents

@@ -14,7 +14,7 @@ use Rattle.b67_model.specs.Environment.{level_of_frame, running}
 use Rattle.b67_model.specs.InOrder.{Starts, Known, WordInOrder, NoCopyUnder, CopiesAbove, is_copy_of, is_original_of, known_numbers, known_of, from_frame, outer_of, EnvironmentInOrder, StandsInOrder, ReturnsInOrder, CellsInOrder, TaskInOrder, originals_in, originals_of, TasksInOrder}
 use Rattle.b67_law_order.proofs.Reaches.{alike_same, known_number}
 use Rattle.b67_law_order.proofs.Replaced.{replaced}
-use Rattle.b67_law_order.proofs.Changes.{Change, fresh_frame, change_cells, change_enter}
+use Rattle.b67_law_order.proofs.Changes.{Change, fresh_frame, change_cells, change_enter, change_replaces}
 use Rattle.b67_layout.proofs.Fresh.{critical-below}
 use Rattle.b67_layout_enter.proofs.Tops.{task_on}
 
@@ -118,26 +118,6 @@ module _ (P : Starts) (constants : JobConstants) (job : Job) (t : Task) (g : Tas
   pub ready_with : (frames : List Frame) (next segment : ℕ) (place : Place) → Change P at job.arrays frames next → height frames ≤ constants.stack_size
       → P segment (level_of_frame (running frames)) place → ((n : ℕ) → originals_in n frames ≡ originals_in n t.frames)
       → TasksInOrder P constants (with_task (record job { next_frame = next }) (task_on t frames segment place Ready))
-  ready_with frames next segment place c low starts same = replaced P constants job t (with_task (record job { next_frame = next }) (task_on t frames segment place Ready)) (task_on t frames segment place Ready) g found (record {
-    number = refl;
-    line = refl;
-    critical = refl;
-    tasks = refl;
-    next_task = refl;
-    next_frame = c.up;
-    frames = c.order;
-    returns = c.returns;
-    some = c.some;
-    falls = c.falls;
-    not_higher = low;
-    place = starts;
-    condition = tt;
-    alike = c.alike;
-    stays = c.stays;
-    fewer = c.fewer;
-    kept = λ a k. record { case = inl (record { item = a; live = k; named = refl; owned = refl }) };
-    arrays = g.arrays;
-    once = λ a k. omega (arith, same a.identity, all_in (λ (b : Array). originals_of b.identity constants job ≡ 1) job.arrays a g.once k);
-    names = g.names;
-    reads = g.reads;
-  })
+  ready_with frames next segment place c low starts same =
+      replaced P constants job t (with_task (record job { next_frame = next }) (task_on t frames segment place Ready)) (task_on t frames segment place Ready) g found
+      (change_replaces P at frames next segment place Ready job.numbers g c low starts tt same g.reads)

@@ -18,9 +18,10 @@ use Rattle.b67_layout.specs.Layout.{activations, machine_view}
 use Rattle.b67_layout.specs.Meets.{with_job}
 use Rattle.b67_layout.specs.Session.{RepresentsTask, IsRunning, critical_mark, with_objects, SessionHoldsBut}
 use Rattle.b67_layout.proofs.Others.{OnTop, task-same, outer_spots-after}
+use Rattle.b67_layout.proofs.Replaces.{on_top_replaces}
+use Rattle.b67_layout.proofs.Sessions.{SessionHoldsBut-after}
 use Rattle.b67_layout.proofs.MachineViews.{with_course, member-same, machine_view-after, stack-after}
 use Rattle.b67_layout.proofs.Rows.{row_of}
-use Rattle.b67_layout_enter.proofs.Holds.{SessionHoldsBut-after}
 
 -- the registers of a task that goes on at a place of a segment
 pub record GoesTo (r r' : Regs) (g : ℕ) (q : Place) : Type 0 where
@@ -62,7 +63,7 @@ module _ (left : List PagedObject) (x : Storage) (core new : List Tagged) (r r' 
         let P : MachineView → Type 0 = λ p. Represents x new r' (with_objects left p) in
         let o = h.running m t runs in
         let task : RepresentsTask r' plan (record m { progress = c }) t' = record { slot = on.slot ∙ o.slot; dict = on.dict ∙ o.dict; entries = on.entries ∙ o.entries; segment = on.segment; place = on.place } in
-        SessionHoldsBut-after left x core new r r' marks plan s m c t t' n h runs top same critical (subst P (sym e) stands) (subst NoOriginalAboveTop (sym e) settled) task
+        SessionHoldsBut-after left left x core new r r' marks plan s m c t t' h runs (on_top_replaces m.progress.job c.job t t' n top) same critical (subst P (sym e) stands) (subst NoOriginalAboveTop (sym e) settled) task
 
     -- the task still runs
     pub still_running : IsRunning plan (with_job s m job').jobs (record m { progress = record m.progress { job = job' } }) (task_on t fs segment q condition)

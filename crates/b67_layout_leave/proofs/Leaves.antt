@@ -26,8 +26,9 @@ use Rattle.b67_layout.proofs.MachineViews.{member-same}
 use Rattle.b67_layout.proofs.Rows.{row_of}
 use Rattle.b67_layout_leave.proofs.Objects.{others}
 use Rattle.b67_layout_leave.proofs.Nowhere.{MayLeave, high as identity_high, uncritical, under as once_only, elsewhere, not_in_reach, SameArrays, frames_stay}
-use Rattle.b67_layout_leave.proofs.Slots.{IsDependedOn, Replaces, OthersSame, task-same, stack-after, memory-after}
-use Rattle.b67_layout_leave.proofs.Holds.{SessionHoldsBut-after, for_running}
+use Rattle.b67_layout.proofs.Replaces.{IsDependedOn, Replaces, task-same}
+use Rattle.b67_layout.proofs.Sessions.{SessionHoldsBut-after, for_running}
+use Rattle.b67_layout_leave.proofs.Slots.{OthersSame, stack-after, memory-after}
 use Rattle.b67_layout_leave.proofs.Settled.{settled-after}
 
 -- the running task may leave its top frame

@@ -25,7 +25,8 @@ use Rattle.b67_layout.specs.Meets.{objects_gone}
 use Rattle.b67_layout.proofs.MachineViews.{with_course, member-same, RowOf}
 use Rattle.b67_layout.proofs.Sessions.{change-has}
 use Rattle.b67_layout_leave.proofs.Objects.{others, objects-after}
-use Rattle.b67_layout_leave.proofs.Slots.{Replaces, OthersSame, slots-after}
+use Rattle.b67_layout.proofs.Replaces.{Replaces}
+use Rattle.b67_layout_leave.proofs.Slots.{OthersSame, slots-after}
 use Rattle.b67_layout_leave.proofs.Settles.{numbered_course, under, homes_low}
 use Rattle.b67_law_order.proofs.Numbered.{keyed_member}
 

@@ -1,79 +1,32 @@
 -- A task is replaced by one of whose frames others see the same: the view changes in that task's slot, and its objects are
 -- those of before.
-use Rattle.std.proofs.Common.{◌≡◌, ◌≢◌, ℕ, List, [], ◌∷◌, ◌++◌, map, Option, Some, None, refl, sym, ◌∙◌, ap, Bool, ⊎_elim, inl, inr, ◌⊎◌, subst}
+use Rattle.std.proofs.Common.{◌≡◌, ◌≢◌, ℕ, List, ◌++◌, map, Option, Some, None, refl, sym, ◌∙◌, ap, Bool, ⊎_elim, inr, ◌⊎◌, subst}
 use Rattle.std.specs.Prelude.{if◌then◌else◌, flat_map, ◌==◌}
 use Rattle.std.proofs.lemmas.Bool.{cases_eq, eq-eqb}
 use Rattle.b67_word.specs.Tagged.{Tagged}
 use Rattle.b67_ctl.specs.declared.registers.Regs.{Regs}
 use Rattle.b67_lemmas.specs.Lists.{Has, Falls}
-use Rattle.b67_lemmas.proofs.Members.{keyed_has, change_found, change_other, keyed-has}
+use Rattle.b67_lemmas.proofs.Members.{keyed_has, keyed-has}
 use Rattle.b67_model.specs.State.{Array, Task, Job, JobProgress, SessionJob}
-use Rattle.b67_model.specs.Keyed.{keyed, change_keyed}
+use Rattle.b67_model.specs.Keyed.{keyed}
 use Rattle.b67_model.specs.Run.{number_of}
-use Rattle.b67_model.specs.InOrder.{from_frame, frames_of_task, critical_of}
 use Rattle.b67_stack.specs.Stacks.{StackPlace, Activation}
 use Rattle.b67_stack.specs.MachineView.{PagedObject, Slot, Running, Waiting, MachineView}
 use Rattle.b67_stack.specs.Represents.{Storage, Represents}
 use Rattle.b67_stack.specs.Changes.{with_stack}
 use Rattle.b67_stack.proofs.Slots.{slot-same, slot-other}
-use Rattle.b67_layout.specs.Placement.{Slotted, Placement, slot_of, spot_in, outer_spots}
+use Rattle.b67_layout.specs.Placement.{Slotted, Placement, outer_spots}
 use Rattle.b67_layout.specs.Layout.{activations, stack_of_task, slot_with, slot_in, slot_by, slot_at, objects_of, machine_view}
 use Rattle.b67_layout.specs.Session.{with_objects}
 use Rattle.b67_layout.specs.Meets.{objects_gone}
 use Rattle.b67_layout.proofs.MachineViews.{with_course, member-same, member-other, RowOf}
-use Rattle.b67_layout.proofs.Others.{spot_in-outer}
+use Rattle.b67_layout.proofs.Replaces.{Replaces, task-same, task-other, outer_spots-after}
 use Rattle.b67_layout_leave.proofs.Objects.{Represents-objects, others, objects-after}
 use Rattle.b67_layout_leave.proofs.Nowhere.{SameArrays, activations-same}
 
--- the MCP's frame, or one that a live task depends on
-abbrev pub IsDependedOn : Job → ℕ → Type 0
-IsDependedOn job c = (c ≡ 0) ⊎ ((u : Task) × Has job.tasks u × (u.critical ≡ c))
-
--- a task is replaced, and others find the frames on which they depend, and what lies below these, where they were
-pub record Replaces (job job' : Job) (t t' : Task) : Type 0 where
-  pub there : keyed (λ (u : Task). u.number) t.number job.tasks ≡ Some t
-  pub number : t'.number ≡ t.number
-  pub critical : t'.critical ≡ t.critical
-  pub parents : t'.parents ≡ t.parents
-  pub tasks : job'.tasks ≡ change_keyed (λ (u : Task). u.number) t.number (λ u. t') job.tasks
-  pub seen : (c s : ℕ) (outer : ℕ → StackPlace) (id : ℕ) → IsDependedOn job c → spot_in s outer (from_frame c t'.frames) id ≡ spot_in s outer (from_frame c t.frames) id
-
 module _ (plan : Placement) (j : ℕ) (job job' : Job) (t t' : Task) (by : Replaces job job' t t') where
-  depended : (m : ℕ) (o : Option Task) → keyed (λ (u : Task). u.number) m job.tasks ≡ o → IsDependedOn job (critical_of o)
-  depended m None e = inl refl
-  depended m (Some u) e = inr (u, keyed-has (λ (u : Task). u.number) m job.tasks u e, refl)
-
-  pub task-same : keyed (λ (u : Task). u.number) t.number job'.tasks ≡ Some t'
-  task-same = ap (λ (ts : List Task). keyed (λ (u : Task). u.number) t.number ts) by.tasks ∙ change_found (λ (u : Task). u.number) t.number t t' job.tasks by.number by.there
-
-  pub task-other : (m : ℕ) → m ≢ t.number → keyed (λ (u : Task). u.number) m job'.tasks ≡ keyed (λ (u : Task). u.number) m job.tasks
-  task-other m ne = ap (λ (ts : List Task). keyed (λ (u : Task). u.number) m ts) by.tasks ∙ change_other (λ (u : Task). u.number) m t.number t' job.tasks by.number ne
-
-  pub outer_spots-after : (parents : List ℕ) (c : ℕ) → IsDependedOn job c → (id : ℕ) → outer_spots plan j job' c parents id ≡ outer_spots plan j job c parents id
-  outer_spots-after [] c d id = refl
-  outer_spots-after (parent ∷ more) c d id =
-      let O : Job → Option Task → ℕ → StackPlace = λ k o. outer_spots plan j k (critical_of o) more in
-      let S : (ℕ → StackPlace) → Option Task → StackPlace = λ out o. spot_in (slot_of plan j parent) out (from_frame c (frames_of_task o)) id in
-      let old = keyed (λ (u : Task). u.number) parent job.tasks in
-      let new = keyed (λ (u : Task). u.number) parent job'.tasks in
-      ⊎_elim
-      (λ (e : parent ≡ t.number).
-      let is_old : old ≡ Some t = ap (λ m. keyed (λ (u : Task). u.number) m job.tasks) e ∙ by.there in
-      let is_new : new ≡ Some t' = ap (λ m. keyed (λ (u : Task). u.number) m job'.tasks) e ∙ task-same in
-      let inner : (x : ℕ) → O job' (Some t') x ≡ O job (Some t) x = λ x. outer_spots-after more t'.critical (inr (t, keyed-has (λ (u : Task). u.number) t.number job.tasks t by.there, sym by.critical)) x ∙ ap (λ d. outer_spots plan j job d more x) by.critical in
-      ap (λ o. S (O job' o) o) is_new
-      ∙ spot_in-outer (slot_of plan j parent) (O job (Some t)) (O job' (Some t')) inner (from_frame c t'.frames) id
-      ∙ by.seen c (slot_of plan j parent) (O job (Some t)) id d
-      ∙ ap (λ o. S (O job o) o) (sym is_old))
-      (λ (e : parent ≡ t.number → ⊥).
-      let is_new : new ≡ old = task-other parent e in
-      let inner : (x : ℕ) → O job' old x ≡ O job old x = λ x. outer_spots-after more (critical_of old) (depended parent old refl) x in
-      ap (λ o. S (O job' o) o) is_new
-      ∙ spot_in-outer (slot_of plan j parent) (O job old) (O job' old) inner (from_frame c (frames_of_task old)) id)
-      (cases_eq parent t.number)
-
   outer-same : (u : Task) → Has job.tasks u → outer_spots plan j job' u.critical u.parents ≡ outer_spots plan j job u.critical u.parents
-  outer-same u h = λ i id. outer_spots-after u.parents u.critical (inr (u, h, refl)) id i
+  outer-same u h = λ i id. outer_spots-after plan j job job' t t' by u.parents u.critical (inr (u, h, refl)) id i
 
   -- the slot of every task that names the same arrays is as it was
   pub slot_with-after : (k : ℕ) (u : Task) → Has job.tasks u → SameArrays job' job u.frames → slot_with plan k j job' (Some u) ≡ slot_with plan k j job (Some u)

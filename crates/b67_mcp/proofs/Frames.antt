@@ -18,7 +18,7 @@ use Rattle.b67_layout.specs.Meets.{here}
 use Rattle.b67_layout.proofs.Fresh.{running_in_order}
 use Rattle.b67_layout.proofs.Steps.{seen-with}
 use Rattle.b67_layout.proofs.Whole.{spots-with}
-use Rattle.b67_layout_leave.proofs.Slots.{IsDependedOn, Replaces}
+use Rattle.b67_layout.proofs.Replaces.{IsDependedOn, Replaces}
 use Rattle.b67_layout_leave.proofs.Leaves.{Leaver, Frames-below}
 use Rattle.b67_mcp_calls.specs.Calls.{MayCut}
 use Rattle.b67_mcp_calls.proofs.Cuts.{Cut, cut_of}

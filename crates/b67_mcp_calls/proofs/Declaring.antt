@@ -32,14 +32,14 @@ use Rattle.b67_layout.specs.Session.{RepresentsTask, IsRunning, ShowsDisplay, Se
 use Rattle.b67_layout.specs.Meets.{with_job}
 use Rattle.b67_layout.proofs.MachineViews.{with_course, member-same}
 use Rattle.b67_layout.proofs.Rows.{row_of}
-use Rattle.b67_layout.proofs.Sessions.{change-has, change-kept}
+use Rattle.b67_layout.proofs.Replaces.{Replaces, outer_spots-after}
+use Rattle.b67_layout.proofs.Sessions.{change-has, change-kept, SessionHoldsBut-after, for_running}
 use Rattle.b67_layout.proofs.Steps.{activations-with, seen-with, critical-with}
 use Rattle.b67_layout.proofs.Displays.{Shows-same}
 use Rattle.b67_layout.proofs.Whole.{spots-with}
 use Rattle.b67_layout_leave.proofs.Objects.{of_objects}
 use Rattle.b67_layout_leave.proofs.Nowhere.{SameArray, SameArrays, activations-same}
-use Rattle.b67_layout_leave.proofs.Slots.{Replaces, OthersSame, outer_spots-after, stack-after, slots-after}
-use Rattle.b67_layout_leave.proofs.Holds.{SessionHoldsBut-after, for_running}
+use Rattle.b67_layout_leave.proofs.Slots.{OthersSame, stack-after, slots-after}
 use Rattle.b67_exec_cells.specs.Tops.{cells}
 use Rattle.b67_exec_cells.proofs.Replaced.{cells-are}
 use Rattle.b67_mcp_calls.specs.Declaring.{without}

@@ -14,7 +14,7 @@ use Rattle.b67_layout.specs.Placement.{Placement}
 use Rattle.b67_layout.specs.Session.{IsRunning}
 use Rattle.b67_layout.specs.Meets.{here}
 use Rattle.b67_layout.proofs.Fresh.{running_in_order, critical-below, fresh}
-use Rattle.b67_layout_leave.proofs.Slots.{IsDependedOn}
+use Rattle.b67_layout.proofs.Replaces.{IsDependedOn}
 use Rattle.b67_layout_leave.proofs.Leaves.{depended_apart}
 use Rattle.b67_layout_step.proofs.Stepped.{CallsNone}
 use Rattle.b67_session_attempt.proofs.Places.{AllSame}

@@ -19,7 +19,7 @@ use Rattle.b67_layout.specs.Session.{IsRunning}
 use Rattle.b67_layout.specs.Meets.{with_job}
 use Rattle.b67_layout.proofs.Fresh.{running_in_order}
 use Rattle.b67_layout.proofs.Sessions.{change-has, change-kept}
-use Rattle.b67_layout_leave.proofs.Slots.{IsDependedOn}
+use Rattle.b67_layout.proofs.Replaces.{IsDependedOn}
 use Rattle.b67_session_attempt.proofs.Places.{At, places, IsAlike, Same, AllSame}
 use Rattle.b67_session_attempt.proofs.Steps.{JobKept}
 
