@@ -148,21 +148,25 @@ pub fn entries_are_assembled()
     ensures label_named_entry { assembly (codes "SEGMENT A 2\nENTRY: ADD\nBRUN ENTRY\n") ≡ Ok (record { segments = record { level = 2; entries = []; code = 0x80a20000ffff ∷ [] } ∷ []; rows = [] }) }
 {}
 
-/// Reasons 1 to 7 of ENTRY cards and of an MPCW with a label, which is looked for in the segment named.
+/// Reasons 1, 2, 5, 6 and 7 of ENTRY cards.
 pub fn entry_cards_are_refused()
     ensures labelled { assembly (codes "SEGMENT A 2\nEXIT\nL: ENTRY L\n") ≡ refused 3 1 }
     ensures no_label { assembly (codes "SEGMENT A 2\nEXIT\nENTRY\n") ≡ refused 3 2 }
     ensures two_labels { assembly (codes "SEGMENT A 2\nEXIT\nENTRY L M\n") ≡ refused 3 2 }
-    ensures no_label_of_segment { assembly (codes "SEGMENT A 2\nMPCW A:\n") ≡ refused 2 2 }
-    ensures three_names { assembly (codes "SEGMENT A 2\nMPCW A:L:M\n") ≡ refused 2 2 }
     ensures unknown { assembly (codes "SEGMENT A 2\nEXIT\nENTRY L\nSEGMENT B 3\nEXIT\nL: EXIT\n") ≡ refused 3 5 }
-    ensures unknown_there { assembly (codes "SEGMENT A 2\nMPCW P:L\nL: EXIT\nSEGMENT P 3\nEXIT\n") ≡ refused 2 5 }
-    ensures unknown_outside { assembly (codes "MPCW P:L\nSEGMENT P 3\nEXIT\n") ≡ refused 1 5 }
-    ensures known_outside { assembly (codes "MPCW P:L\nSEGMENT P 3\nL: EXIT\n") ≡ refused 1 6 }
     ensures outside { assembly (codes "ENTRY L\n") ≡ refused 1 6 }
     ensures in_row { assembly (codes "ROW R\nNUM 1\nENTRY L\n") ≡ refused 3 6 }
     ensures alone { assembly (codes "SEGMENT A 2\nENTRY L\n") ≡ refused 1 7 }
     ensures bad_alone { assembly (codes "SEGMENT A 2\nENTRY\nSEGMENT B 3\nEXIT\n") ≡ refused 1 7 }
+{}
+
+/// Reasons 2, 5 and 6 of an MPCW with a label, which is looked for in the segment named.
+pub fn labels_in_segments_are_refused()
+    ensures no_label { assembly (codes "SEGMENT A 2\nMPCW A:\n") ≡ refused 2 2 }
+    ensures three_names { assembly (codes "SEGMENT A 2\nMPCW A:L:M\n") ≡ refused 2 2 }
+    ensures unknown_there { assembly (codes "SEGMENT A 2\nMPCW P:L\nL: EXIT\nSEGMENT P 3\nEXIT\n") ≡ refused 2 5 }
+    ensures unknown_outside { assembly (codes "MPCW P:L\nSEGMENT P 3\nEXIT\n") ≡ refused 1 5 }
+    ensures known_outside { assembly (codes "MPCW P:L\nSEGMENT P 3\nL: EXIT\n") ≡ refused 1 6 }
 {}
 
 /// Reason 10: an ENTRY at 0:0, or at a place that is an entry already.

@@ -51,13 +51,13 @@ module _ (left : List PagedObject) (x : Storage) (core : List Tagged) (r : Regs)
   stack = stack_of_task plan m.constants.number m.progress.job plan.running t
 
   -- the view with the objects that are left
-  abbrev pub pictured : MachineView
-  pictured = with_objects left (machine_view plan s.jobs)
+  abbrev pub viewed : MachineView
+  viewed = with_objects left (machine_view plan s.jobs)
 
   under_objects : RunsOn (machine_view plan s.jobs) plan.running stack
   under_objects = runs_on plan s.jobs m t h.fits.rows (keyed-has number_of m.constants.number s.jobs m runs.member) (keyed-has (λ (u : Task). u.number) t.number m.progress.job.tasks t runs.task) runs.slot runs.member runs.task
 
-  pub on_stack : RunsOn pictured plan.running stack
+  pub on_stack : RunsOn viewed plan.running stack
   on_stack = record { used = under_objects.used; is = under_objects.is }
 
   abbrev pub mark : Tagged
@@ -66,15 +66,15 @@ module _ (left : List PagedObject) (x : Storage) (core : List Tagged) (r : Regs)
   abbrev pub rcw : Tagged
   rcw = rcw_word (return_of (Some back) stack)
 
-  top_is : RepresentsRunning r pictured plan.running stack
-  top_is = running_slot x core r pictured plan.running stack h.memory on_stack
+  top_is : RepresentsRunning r viewed plan.running stack
+  top_is = running_slot x core r viewed plan.running stack h.memory on_stack
 
-  room : Room x core r pictured plan.running stack
-  room = room_of x core r pictured plan.running stack h.memory on_stack
+  room : Room x core r viewed plan.running stack
+  room = room_of x core r viewed plan.running stack h.memory on_stack
 
   -- the distance to the mark before
   pub back_is : r.s + 1 - r.f ≡ top_size stack
-  back_is = distance stack (running_fits x core r pictured plan.running stack h.memory on_stack).0.some r.s r.f r.bosr (omega (arith, top_is.top, top_is.first)) (omega (arith, top_is.mark, top_is.first))
+  back_is = distance stack (running_fits x core r viewed plan.running stack h.memory on_stack).0.some r.s r.f r.bosr (omega (arith, top_is.top, top_is.first)) (omega (arith, top_is.mark, top_is.first))
 
   module _ (job : Job) (n : ℕ) (tasks : job.tasks ≡ m.progress.job.tasks) (arrays : job.arrays ≡ m.progress.job.arrays) (free : IsFree m.progress.job n) (segment : ℕ) (q : Place) where
     -- the task then, and the job with it
@@ -108,14 +108,14 @@ module _ (left : List PagedObject) (x : Storage) (core : List Tagged) (r : Regs)
     IsRunning-accident condition = still_running left x core core_after r regs_after marks plan s m t h runs (job_after condition) (new_frame n level environment back ∷ t.frames) segment q condition n (on_top condition)
 
     -- all but the display, where the frame is entered
-    pub SessionHolds-accident : (condition : Condition) → r.s + 2 ≤ r.losr → IsClear r pictured → spot_in plan.running outer t.frames environment ≡ spot → HeadFits (Entered level spot (Some back)) stack
+    pub SessionHolds-accident : (condition : Condition) → r.s + 2 ≤ r.losr → IsClear r viewed → spot_in plan.running outer t.frames environment ≡ spot → HeadFits (Entered level spot (Some back)) stack
         → SessionHoldsBut left x core_after regs_after marks plan (with_job s m (job_after condition))
     SessionHolds-accident condition stack_words clear at fit =
         let p = machine_view plan s.jobs in
         let fs = new_frame n level environment back ∷ t.frames in
         let after : List Activation = record { head = Entered level spot (Some back); cells = [] } ∷ stack in
         let is : activations plan m.constants.number m.progress.job plan.running outer fs ≡ after = ap (λ (o : StackPlace). record { head = Entered level o (Some back); cells = [] } ∷ stack) at in
-        let stands : Represents x core_after regs_after (with_stack pictured plan.running after) = Represents-accident x core r pictured plan.running level spot back (segment + 1) q stack h.memory on_stack clear stack_words fit in
+        let stands : Represents x core_after regs_after (with_stack viewed plan.running after) = Represents-accident x core r viewed plan.running level spot back (segment + 1) q stack h.memory on_stack clear stack_words fit in
         SessionHolds-top left x core core_after r regs_after marks plan s m t h runs (job_after condition) fs segment q condition n (on_top condition) after
         (λ i low. slice_get-set_other (slice_set core (r.s + 1) mark) (r.s + 2) i rcw (λ z. omega (arith, z, low, room.mark, room.top, top_is.first)) ∙ slice_get-set_other core (r.s + 1) i mark (λ z. omega (arith, z, low, room.mark, room.top, top_is.first)))
         (record { slot = refl; dict = refl; entries = refl; segment = refl; place = refl })
@@ -123,7 +123,7 @@ module _ (left : List PagedObject) (x : Storage) (core : List Tagged) (r : Regs)
         (Settled-more p plan.running stack after under_objects (omega arith) h.settled)
 
     -- the whole machine, with the display of the task if it were ready
-    pub RepresentsSession-accident : (new : Cpu) → new.core ≡ core_after → new.regs ≡ regs_after → new.critical ≡ marks → r.s + 2 ≤ r.losr → IsClear r pictured → spot_in plan.running outer t.frames environment ≡ spot → HeadFits (Entered level spot (Some back)) stack
+    pub RepresentsSession-accident : (new : Cpu) → new.core ≡ core_after → new.regs ≡ regs_after → new.critical ≡ marks → r.s + 2 ≤ r.losr → IsClear r viewed → spot_in plan.running outer t.frames environment ≡ spot → HeadFits (Entered level spot (Some back)) stack
         → ShowsDisplay new.display plan (record m { progress = record m.progress { job = job_after Ready } }) (task_after Ready)
         → RepresentsSessionBut left x new plan (with_job s m (job_after t.condition))
     RepresentsSession-accident new ec er em stack_words clear at fit shown =

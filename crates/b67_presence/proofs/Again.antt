@@ -42,9 +42,9 @@ not_silent x told k plan s n h = record {
 }
 
 -- what its view says of it
-pub pictured : (x : Storage) (told : Option (List (List ℕ))) (k : Machine) (plan : Placement) (s : Session) → StandsOver x told k plan s
+pub view_stands : (x : Storage) (told : Option (List (List ℕ))) (k : Machine) (plan : Placement) (s : Session) → StandsOver x told k plan s
     → storage.MachineRepresentsView x k.cpu k.areas k.sectors told (machine_view plan s.jobs)
-pictured x told k plan s h = record { stands = h.stands.session.holds.memory; low = h.stands.storage.low; shelf = h.stands.storage.shelf; device = h.says }
+view_stands x told k plan s h = record { stands = h.stands.session.holds.memory; low = h.stands.storage.low; shelf = h.stands.storage.shelf; device = h.says }
 
 -- what a storage says that said something, and nothing otherwise
 retelling : (d e now : Option (List (List ℕ))) → (d ≡ None → e ≡ None) → (d ≢ None → e ≢ None) → Says e now → e ≡ content_after d now

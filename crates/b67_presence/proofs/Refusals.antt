@@ -27,7 +27,7 @@ use Rattle.b67_presence_page.specs.Brought.{brought}
 use Rattle.b67_presence_page.specs.Brings.{IsReadable, ReadIn, Waits, MayWait}
 use Rattle.b67_task_tables.specs.declared.tables.Machine.{Machine}
 use Rattle.b67_presence.specs.Bringing.{StandsOver, IsArrayWanted, IsWanted, Lacks, Refused, RefusedFull, IsShortOf, AreasStay, StaysIn, IsUntouched, words_wanted}
-use Rattle.b67_presence.proofs.Again.{machine_of, pictured}
+use Rattle.b67_presence.proofs.Again.{machine_of, view_stands}
 use Rattle.b67_presence.proofs.Ends.{waits_again, may_again, read_again, stays_again}
 use Rattle.b67_presence.proofs.Shortage.{short_of}
 use Rattle.b67_presence.proofs.Seen.{readable}
@@ -104,11 +104,11 @@ module _ (x : Storage) (told : Option (List (List ℕ))) (k : Machine) (plan : P
   pub refused_still : (m : SessionJob) (t : Task) (absent : What) (words : ℕ) → IsWanted x plan m t absent words → Refused x told k plan s m t absent
   refused_still m t absent words wanted =
       refused_waits x told told k plan s o h k.cpu k.areas k.sectors refl refl refl (Stayed-none (machine_view plan s.jobs) k.cpu.core) m t absent 0
-      (record { storage = x; sheds = AreasEvicted-none x 0; stands = pictured x told k plan s h }) (λ y sheds. wanted_lacks x y plan m t absent words wanted sheds)
+      (record { storage = x; sheds = AreasEvicted-none x 0; stands = view_stands x told k plan s h }) (λ y sheds. wanted_lacks x y plan m t absent words wanted sheds)
 
   pub stays_put : StaysIn x told k plan s
   stays_put =
-      let a = stays_again x told told k plan s o h k.cpu k.areas k.sectors refl refl refl (Stayed-none (machine_view plan s.jobs) k.cpu.core) (pictured x told k plan s h) in
+      let a = stays_again x told told k plan s o h k.cpu k.areas k.sectors refl refl refl (Stayed-none (machine_view plan s.jobs) k.cpu.core) (view_stands x told k plan s h) in
       let A : Storage → Type 0 = λ y. AreasStay x y in
       let all : AreasStay x x = λ q some. refl in
       record { again = a.0; areas = subst A (sym a.1) all }

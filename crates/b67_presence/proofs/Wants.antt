@@ -29,7 +29,7 @@ use Rattle.b67_presence_page.specs.Brings.{IsCode, need_one, need_both}
 use Rattle.b67_task_tables.specs.declared.tables.Machine.{Machine}
 use Rattle.b67_presence_page.proofs.Resort.{room_beside}
 use Rattle.b67_presence.specs.Bringing.{StandsOver, IsArrayWanted, IsWanted, IsUntouched, Brings, words_wanted}
-use Rattle.b67_presence.proofs.Again.{pictured}
+use Rattle.b67_presence.proofs.Again.{view_stands}
 
 some_of : (o : Option ℕ) → o ≢ None → (at : ℕ) × (o ≡ Some at)
 some_of None n = absurd (n refl)
@@ -136,5 +136,5 @@ room_fits x told k plan s m t o h runs (what.Array home) words w room untouched 
     let (at, present) = code_present x told k plan s m t o h runs k.cpu.regs.segment refl w.code in
     let a = array_absent x told k plan s m t o h runs home words w in
     let hole = subst (λ (n : ℕ). HasHole (n + 2) x.spans) w.words_are room in
-    let fits = room_beside x k.cpu k.areas k.sectors told (machine_view plan s.jobs) home (k.cpu.regs.dict + k.cpu.regs.segment) at (array_object plan m.constants.number w.array) (code_found plan s m t o runs).object (pictured x told k plan s h) a present hole in
+    let fits = room_beside x k.cpu k.areas k.sectors told (machine_view plan s.jobs) home (k.cpu.regs.dict + k.cpu.regs.segment) at (array_object plan m.constants.number w.array) (code_found plan s m t o runs).object (view_stands x told k plan s h) a present hole in
     subst (λ (n : ℕ). n ≤ length k.cpu.core) (sym (need_array x told k plan s m t o h runs home words w)) fits

@@ -14,14 +14,14 @@ use Rattle.b67_refer.specs.RunningContext.{LiveContext, IsStackOf}
 use Rattle.b67_lemmas.proofs.Members.{keyed-has}
 
 module _ (core : List Tagged) (r : Regs) (a : LiveContext core r) where
-  abbrev pub pictured : MachineView
-  pictured = with_objects a.left (machine_view a.plan a.session.jobs)
+  abbrev pub viewed : MachineView
+  viewed = with_objects a.left (machine_view a.plan a.session.jobs)
 
   -- a slot lies inside core
   pub slot_inside : (k : ℕ) → k < a.plan.peak → (a.plan.stacks + k * a.plan.size + a.plan.size ≤ a.storage.low) × (a.storage.low ≤ length core) × (length core < 2 ^ 20)
   slot_inside k used =
       let m = a.holds.memory in
-      let after = base-apart pictured k a.plan.peak used in
+      let after = base-apart viewed k a.plan.peak used in
       (omega (arith, after, m.slots.laid.low), m.inside, m.directory.small)
 
   pub stacks_is : r.stacks ≡ a.plan.stacks

@@ -34,7 +34,7 @@ use Rattle.b67_layout.specs.Meets.{here}
 use Rattle.b67_layout.proofs.Sessions.{code_object, dictionary_above, entry_row}
 use Rattle.b67_refer.specs.RunningContext.{LiveContext}
 use Rattle.b67_refer.specs.LiveCells.{StandsFor, IsCellAt, CellMeets}
-use Rattle.b67_refer.proofs.Bases.{pictured}
+use Rattle.b67_refer.proofs.Bases.{viewed}
 use Rattle.b67_refer.proofs.Marks.{view_low, base_in, frame_dictionary, frame_mcp, dictionary_address}
 
 mcp_get : (i : ℕ) → i < 11 → slice_get (reverse mcp.cells) i ≡ Some (Intrinsic (8 + i))
@@ -174,7 +174,7 @@ module _ (core : List Tagged) (r : Regs) (a : LiveContext core r) where
         let is : Entry i (Original n) = record {
           word = home_word_of t.kind (length t.numbers) (a.storage.held t.home);
           there = ap (slice_get core) (at ∙ sym home) ∙ st.home;
-          stands = ((at, object_original a.storage core r (pictured core r a) a.holds.memory t int (no_code o.item.writable)), o);
+          stands = ((at, object_original a.storage core r (viewed core r a) a.holds.memory t int (no_code o.item.writable)), o);
         } in
         subst (Entry i) (sym l.1) is))
         (entry_is 1 a.member.constants.segments (reverse a.member.constants.dictionary.cells) i w a.ordered.constants.dictionary e)

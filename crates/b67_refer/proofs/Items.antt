@@ -27,7 +27,7 @@ use Rattle.b67_refer.specs.declared.ends.End.TheVariants as end
 use Rattle.b67_refer.specs.RunningContext.{LiveContext}
 use Rattle.b67_refer.specs.LiveCells.{reach}
 use Rattle.b67_refer.specs.LiveEnds.{EndMeets}
-use Rattle.b67_refer.proofs.Bases.{pictured}
+use Rattle.b67_refer.proofs.Bases.{viewed}
 use Rattle.b67_refer.proofs.Fixed.{area_small, desc_fits, has_object}
 
 home_by : (plan : Placement) (j : ℕ) (a : Array) (b : Bool) (h : Location) → a.writable ≡ b → home_word (array_object plan j a) h ≡ data_word (home_desc (not a.writable) (length a.numbers) h)
@@ -47,7 +47,7 @@ module _ (core : List Tagged) (r : Regs) (a : LiveContext core r) (n : ℕ) (nam
   abbrev object : PagedObject
   object = array_object a.plan a.member.constants.number names.item
 
-  there : Has (pictured core r a).objects object
+  there : Has (viewed core r a).objects object
   there = has_object core r a object (has_append_right (code_objects a.plan a.member.constants.number 1 a.member.constants.segments) (map (array_object a.plan a.member.constants.number) a.member.progress.job.arrays) object (has_map (array_object a.plan a.member.constants.number) a.member.progress.job.arrays names.item names.live))
 
   abbrev pub desc : DataDesc
@@ -61,10 +61,10 @@ module _ (core : List Tagged) (r : Regs) (a : LiveContext core r) (n : ℕ) (nam
       ∙ ap Some (home_by a.plan a.member.constants.number names.item names.item.writable (a.storage.held object.home) refl)
 
   pub desc_is : IsDataDesc desc
-  desc_is = desc_fits a.storage core r (pictured core r a) a.holds.memory object there (not names.item.writable) (length names.item.numbers) (a.storage.held object.home).area (a.storage.held object.home).chain
+  desc_is = desc_fits a.storage core r (viewed core r a) a.holds.memory object there (not names.item.writable) (length names.item.numbers) (a.storage.held object.home).area (a.storage.held object.home).chain
       (omega (arith, (a.holds.memory.slots.laid.lengths object there).1))
       (chain_small a.storage core object (a.storage.held object.home).area (a.storage.held object.home).chain stands.content)
-      (area_small a.storage core r (pictured core r a) a.holds.memory object there)
+      (area_small a.storage core r (viewed core r a) a.holds.memory object there)
 
   pub length_is : (d : DataDesc) → d ≡ desc → d.length ≡ length (array a.member.progress.job n).numbers
   length_is d e = ap (λ (z : DataDesc). z.length) e ∙ ap (λ (z : Array). length z.numbers) (sym array_is)

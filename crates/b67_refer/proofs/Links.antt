@@ -23,7 +23,7 @@ use Rattle.b67_refer.specs.RunningContext.{LiveContext}
 use Rattle.b67_refer.specs.LiveCells.{reach, StandsFor, IsCellAt}
 use Rattle.b67_refer.specs.LiveEnds.{EndMeets, LinkMeets, on_link}
 use Rattle.b67_refer.specs.Ends.{IsCopyOf, HasTag}
-use Rattle.b67_refer.proofs.Bases.{pictured}
+use Rattle.b67_refer.proofs.Bases.{viewed}
 use Rattle.b67_refer.proofs.Chains.{level}
 
 -- the word of a procedure isn't that of an intrinsic
@@ -42,7 +42,7 @@ module _ (core : List Tagged) (r : Regs) (a : LiveContext core r) where
 
   -- a copy by its descriptor
   pub copy_of : (c : Copied) (home : ℕ) (v : Tagged) (d : DataDesc) → IsDataDesc d → v ≡ data_word d → IsCopy a.storage.held c home v → IsCopyOf core d home
-  copy_of c home v d fits e is = record { storage = a.storage; registers = r; machine_view = pictured core r a; stands = a.holds.memory; copied = c; fits = fits; is = subst (λ (w : Tagged). IsCopy a.storage.held c home w) e is }
+  copy_of c home v d fits e is = record { storage = a.storage; registers = r; machine_view = viewed core r a; stands = a.holds.memory; copied = c; fits = fits; is = subst (λ (w : Tagged). IsCopy a.storage.held c home w) e is }
 
   -- a data descriptor among the words that stand for something: an original, a row copy or an element copy
   pub data Described (at owner : ℕ) (w : Word) (d : DataDesc) : Type 0 where

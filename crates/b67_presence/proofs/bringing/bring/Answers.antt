@@ -4,7 +4,7 @@ use Rattle.b67_layout.specs.Layout.{array_object, machine_view}
 use Rattle.b67_stack.specs.declared.What.TheVariants as what
 use Rattle.b67_task_need.specs.Needing.{need_with}
 use Rattle.b67_presence_page.proofs.Forcing.{same_need, need_is}
-use Rattle.b67_presence.proofs.Again.{machine_of, pictured}
+use Rattle.b67_presence.proofs.Again.{machine_of, view_stands}
 use Rattle.b67_presence.proofs.Ends.{brings_code, brings_array}
 use Rattle.b67_presence.proofs.Refusals.{code_lacks, array_lacks, refused_waits, refused_full, refused_array, refused_still, stays_in, stays_put, refused_as, full_as, room_code, room_array, untouched_code, untouched_array}
 use Rattle.b67_presence.proofs.FullDevice.{short_full}
@@ -63,7 +63,7 @@ bring_code-requires-clause-machine g c =
       q.storage,
       machine_view q.plan q.session.jobs,
       (code_found q.plan q.session q.member q.task q.ordered q.running).object,
-      pictured q.storage told k q.plan q.session q.stands,
+      view_stands q.storage told k q.plan q.session q.stands,
       code_absent q.storage told k q.plan q.session q.member q.task q.ordered q.stands q.running c.from.result (c.from.ensures ∙ w.0) w.1,
       core_has c.need-needed.result c.size-core.result (length k.cpu.core) (need_with q.session q.member q.task 0 q.words) _ (omega (arith, c.if-needed-core.false)) c.size-core.ensures.value
           (needed_is q.storage told k q.plan q.session q.member q.task q.ordered q.stands q.running q.words c.words_of-words.result c.need-needed.result
@@ -91,7 +91,7 @@ bring_data-requires-clause-machine g c =
       array_object q.plan q.member.constants.number w.array,
       (code_found q.plan q.session q.member q.task q.ordered q.running).object,
       at,
-      pictured q.storage told k q.plan q.session q.stands,
+      view_stands q.storage told k q.plan q.session q.stands,
       array_absent q.storage told k q.plan q.session q.member q.task q.ordered q.stands q.running c.in-Array.original q.words w,
       code,
       core_has c.need-needed.result c.size-core.result (length k.cpu.core) (need_with q.session q.member q.task 0 q.words) _ (omega (arith, c.if-needed-core.false)) c.size-core.ensures.value
@@ -108,7 +108,7 @@ returns-in-Code-clause-row g c = λ x plan s m t words o h runs wanted.
     let d = c.in-Code.displacement in
     let w = wanted_code x plan m t c.args.absent words d c.in-Code.is wanted in
     let p = machine_view plan s.jobs in
-    let mx = pictured x told k plan s h in
+    let mx = view_stands x told k plan s h in
     let a = code_absent x told k plan s m t o h runs c.from.result (c.from.ensures ∙ w.0) w.1 in
     let found = code_found plan s m t o runs in
     let code = found.object in
@@ -151,7 +151,7 @@ returns-in-Array-clause-row g c = λ x plan s m t words o h runs wanted.
     let w = wanted_array x plan m t c.args.absent words home c.in-Array.is wanted in
     let (at, present) = code_present x told k plan s m t o h runs c.from-in-Array.result c.from-in-Array.ensures w.code in
     let p = machine_view plan s.jobs in
-    let mx = pictured x told k plan s h in
+    let mx = view_stands x told k plan s h in
     let a = array_absent x told k plan s m t o h runs home words w in
     let object = array_object plan m.constants.number w.array in
     let code = (code_found plan s m t o runs).object in
