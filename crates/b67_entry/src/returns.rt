@@ -64,9 +64,9 @@ fn evaluate(cpu: &mut Cpu, regs: Regs, display: [u32; 32], word: Word) -> Step
 /// RETN: leaves the running activation record with the word at the top of the stack, which goes on the caller's record,
 /// and which is evaluated first where the caller wants a value. One word is then on the caller's record, or the two of a
 /// procedure that was entered, and no word above these changes. The record's arrays are gone, and are left to release.
-/// Faults where the top record is only marked, has no word, or may not be left with that word, and where the
-/// evaluation does. `Ended`, with nothing changed, where it is the task's outermost. `Absent`, with nothing changed,
-/// where the value is an element of an absent array.
+/// Faults if the top record is only marked, has no word, or may not be left with that word, and if the
+/// evaluation does. `Ended`, with nothing changed, if it is the task's outermost. `Absent`, with nothing changed,
+/// if the value is an element of an absent array.
 pub fn retn(cpu: &mut Cpu) -> Step
     requires { RunsSome cpu.old }
     ensures row { ForEach cpu.old (λ x plan s m t. (next : Place) → Meets x plan s m result cpu.old cpu.new (rows.retn (here m t next))) }

@@ -24,7 +24,7 @@ use b67_refer::{Activation, End, activation_of, chase, rebuild};
 use b67_stack::{Cpu, Step};
 use b67_word::{Fault, Place};
 
-/// MKST: puts a mark on the stack, or faults where the stack is as high as its slot. The task goes on at `next`.
+/// MKST: puts a mark on the stack, or faults if the stack is as high as its slot. The task goes on at `next`.
 pub fn mkst(cpu: &mut Cpu, next: Place) -> Step
     requires { RunsSome cpu.old }
     ensures row { ForEach cpu.old (λ x plan s m t. Meets x plan s m result cpu.old cpu.new (rows.mkst (here m t next))) }
@@ -79,7 +79,7 @@ fn begin(cpu: &mut Cpu, procedure: Pcw)
 /// The top activation record, which is marked, enters the procedure of a cell that its first cell refers to: that cell
 /// becomes the return to `next`.
 ///
-/// INVALID OPERAND, with nothing changed, where the procedure's level isn't the next one above that of its cell's
+/// INVALID OPERAND, with nothing changed, if the procedure's level isn't the next one above that of its cell's
 /// activation record.
 fn enter(cpu: &mut Cpu, cell: u32, next: Place) -> Step
     requires procedure { (a : RunningContext cpu.old.core cpu.old.regs) × (f : ℕ) × (segment : ℕ) × (level : ℕ) × (place : Place) × (reference : Word) × (arguments : List Word)
@@ -108,7 +108,7 @@ fn enter(cpu: &mut Cpu, cell: u32, next: Place) -> Step
 }
 
 /// ENTR: enters the procedure that the first cell of the marked activation record on top refers to. Its caller goes on
-/// at `next`. Where the reference ends at an intrinsic the answer is its number, with nothing changed.
+/// at `next`. If the reference ends at an intrinsic, the answer is its number, with nothing changed.
 pub fn entr(cpu: &mut Cpu, next: Place) -> Step
     requires runs { RunsSome cpu.old }
     requires next { IsPlace next }
@@ -173,8 +173,8 @@ pub fn accident_on(cpu: &mut Cpu, regs: Regs, cell: u32, value: bool, back: Plac
 /// Enters the procedure of a cell that a reference of the running task ends at, by a new activation record without
 /// cells. It returns to `back` in the running segment, and is marked to return a value where `value` says so.
 ///
-/// INVALID OPERAND where the procedure's level isn't the next one above that of its cell's activation record, then
-/// STACK OVERFLOW where two words don't fit; nothing is changed then.
+/// INVALID OPERAND if the procedure's level isn't the next one above that of its cell's activation record, then
+/// STACK OVERFLOW if two words don't fit; nothing is changed then.
 pub fn accident(cpu: &mut Cpu, cell: u32, value: bool, back: Place) -> Step
     requires procedure { (a : RunningContext cpu.old.core cpu.old.regs) × (q : Place) × (f : ℕ) × (segment : ℕ) × (level : ℕ) × (place : Place) × ReachesProc cpu.old a q cell f segment level place }
     requires back { IsPlace back }

@@ -55,10 +55,10 @@ fn enter(cpu: &mut Cpu) -> Step
 }
 
 /// Stores the operand of the two top cells where the other one leads, takes both off, and goes on at `next`. A procedure
-/// there is entered in the reference's place, and the operator is made again with what it returns. STACK UNDERFLOW,
-/// INVALID OPERAND where none of the two is an operand or the procedure's level doesn't fit, the faults of references,
-/// MEMORY PROTECT where it ends at a read-only element, an array or an intrinsic, STACK OVERFLOW. Where an element's array
-/// is absent nothing is changed.
+/// there is entered in the reference's place, and the operator is executed again with what it returns. STACK UNDERFLOW,
+/// INVALID OPERAND if none of the two is an operand or the procedure's level doesn't fit, the faults of references,
+/// MEMORY PROTECT if it ends at a read-only element, an array or an intrinsic, STACK OVERFLOW. If an element's array
+/// is absent, nothing is changed.
 pub fn stod(cpu: &mut Cpu, next: Place) -> Step
     requires { RunsSome cpu.old }
     ensures row { ForEach cpu.old (λ x plan s m t. let h = here m t next in Meets x plan s m result cpu.old cpu.new (rows.store false h (cells_of h))) }

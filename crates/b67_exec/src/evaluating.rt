@@ -34,8 +34,8 @@ pub fn procedure_cell(cpu: &Cpu, w: Word) -> u32
 }
 
 /// Pushes the value to which a couple of 14 bits leads, and goes on at `next`; a procedure there is entered, and its
-/// value pushed when it returns. The faults of references, INVALID OPERAND where it ends at an array or an intrinsic or
-/// where the procedure's level doesn't fit, STACK OVERFLOW. Where an array is absent nothing is changed.
+/// value pushed when it returns. The faults of references, INVALID OPERAND if it ends at an array or an intrinsic or
+/// if the procedure's level doesn't fit, STACK OVERFLOW. If an array is absent, nothing is changed.
 pub fn evaluate(cpu: &mut Cpu, couple: u16, next: Place) -> Step
     requires runs { RunsSome cpu.old }
     requires couple { couple < 2 ^ 14 }
@@ -52,7 +52,7 @@ pub fn evaluate(cpu: &mut Cpu, couple: u16, next: Place) -> Step
 }
 
 /// Enters the procedure to which the top cell leads, in that cell's place. It returns to the running operator. INVALID
-/// OPERAND where its level doesn't fit, STACK OVERFLOW.
+/// OPERAND if its level doesn't fit, STACK OVERFLOW.
 pub fn enter_in_place(cpu: &mut Cpu) -> Step
     requires { EntersTop cpu.old }
     ensures row { ForEach cpu.old (λ x plan s m t. (q : Place) → enters_at (top_end (here m t q) (cells t)) ≡ true → Meets x plan s m result cpu.old cpu.new (rows.load (here m t q) (cells t))) }
@@ -66,9 +66,9 @@ pub fn enter_in_place(cpu: &mut Cpu) -> Step
 }
 
 /// Puts the value or the row copy to which the top cell leads in its place, and goes on at `next`; a procedure there is
-/// entered in its place, and the operator is made again with what it returns. STACK UNDERFLOW, the faults of references,
-/// INVALID OPERAND where it ends at an intrinsic or where the procedure's level doesn't fit, STACK OVERFLOW. Where an
-/// element's array is absent nothing is changed.
+/// entered in its place, and the operator is executed again with what it returns. STACK UNDERFLOW, the faults of references,
+/// INVALID OPERAND if it ends at an intrinsic or if the procedure's level doesn't fit, STACK OVERFLOW. If an
+/// element's array is absent, nothing is changed.
 pub fn load(cpu: &mut Cpu, next: Place) -> Step
     requires { RunsSome cpu.old }
     ensures row { ForEach cpu.old (λ x plan s m t. let h = here m t next in Meets x plan s m result cpu.old cpu.new (rows.load h (cells_of h))) }

@@ -131,9 +131,9 @@ fn perform(cpu: &mut Cpu, op: Op, next: Place) -> Outcome
     }
 }
 
-/// Makes the operator at the running place, as `operator`, and tells whether it is one that leaves an activation record.
+/// Executes the operator at the running place, as `operator`, and says whether it leaves an activation record.
 ///
-/// Where the running segment is present, `left` is true exactly where EXIT or RETN stands at the running place. After its
+/// If the running segment is present, `left` is true exactly if EXIT or RETN stands at the running place. After its
 /// `Done` no word above the stack's top has changed: from the top on, up to the top before, stand the words of the record
 /// that was left.
 #[inline(always)]
@@ -161,11 +161,11 @@ pub fn operate(cpu: &mut Cpu) -> Outcome
     }
 }
 
-/// Makes the operator at the running place.
+/// Executes the operator at the running place.
 ///
-/// `Absent(Code(..))`, with nothing changed, exactly where the running segment is absent, and `Call(n)`, with nothing
-/// changed, exactly where the operator calls intrinsic n. INVALID OPERATOR where no operator is read. Else `Done`,
-/// `Absent(Array(..))`, `Fault` and `Ended` are by the operator's row; nothing is changed but at `Done`.
+/// `Absent(Code(..))`, with nothing changed, exactly if the running segment is absent, and `Call(n)`, with nothing
+/// changed, exactly if the operator calls intrinsic n. INVALID OPERATOR if no operator is read. Else `Done`,
+/// `Absent(Array(..))`, `Fault` and `Ended` are by the operator's row. Unless the answer is `Done`, nothing changes.
 #[inline(always)]
 pub fn operator(cpu: &mut Cpu) -> Step
     requires { RunsSome cpu.old }

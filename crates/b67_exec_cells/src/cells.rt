@@ -21,7 +21,7 @@ pub fn count_cells(cpu: &Cpu) -> u32
     cpu.regs.s - cpu.regs.f - u32::from(entered)
 }
 
-/// The top cell. STACK UNDERFLOW where the top activation record has none.
+/// The top cell. STACK UNDERFLOW if the top activation record has none.
 #[inline(always)]
 pub fn top_cell(cpu: &Cpu) -> Result<Word, Fault>
     requires { RunsSome cpu.now }
@@ -34,7 +34,7 @@ pub fn top_cell(cpu: &Cpu) -> Result<Word, Fault>
     Ok(cpu.core.get(cpu.regs.s))
 }
 
-/// The second cell from the top and the top one. STACK UNDERFLOW where the top activation record has fewer.
+/// The second cell from the top and the top one. STACK UNDERFLOW if the top activation record has fewer.
 #[inline(always)]
 pub fn two_cells(cpu: &Cpu) -> Result<(Word, Word), Fault>
     requires { RunsSome cpu.now }
@@ -59,7 +59,7 @@ pub fn drop_cells(cpu: &mut Cpu, count: u32, next: Place)
     cpu.regs.place = next;
 }
 
-/// Puts a word in the place of the `count` top cells, and goes on at `next`. STACK OVERFLOW where the stack would be
+/// Puts a word in the place of the `count` top cells, and goes on at `next`. STACK OVERFLOW if the stack would be
 /// higher than its slot.
 #[inline(always)]
 pub fn replace_cells(cpu: &mut Cpu, count: u32, w: Word, next: Place) -> Step

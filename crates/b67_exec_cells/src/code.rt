@@ -23,7 +23,7 @@ pub fn descriptor(cpu: &Cpu) -> SegDesc
     }
 }
 
-/// The operator at the running place and the place after it, or why there is none. None exactly where the running
+/// The operator at the running place and the place after it, or why there is none. None exactly if the running
 /// segment is absent.
 #[inline(always)]
 pub fn reading(cpu: &Cpu) -> Option<Result<(Op, Place), Undecodable>>

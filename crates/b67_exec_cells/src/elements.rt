@@ -21,7 +21,7 @@ pub fn array_descriptor(cpu: &Cpu, original: u32) -> DataDesc
     }
 }
 
-/// The word of an element of an array of the running job. None exactly where the array is absent.
+/// The word of an element of an array of the running job. None exactly if the array is absent.
 pub fn element(cpu: &Cpu, original: u32, index: u32) -> Option<Word>
     requires { HoldsElement cpu.now original index }
     ensures { ForEach cpu.now (λ x plan s m t. (n : ℕ) → original ≡ plan.home m.constants.number n → HasElement m.progress.job n index → GivesElement x plan m n index result) }

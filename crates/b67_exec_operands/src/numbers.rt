@@ -82,7 +82,7 @@ fn change(op: Unary, a: Word) -> Result<Word, Fault>
     }
 }
 
-/// Puts what an operator makes of the two top cells in their place, and goes on at `next`. STACK UNDERFLOW where there
+/// Puts what an operator makes of the two top cells in their place, and goes on at `next`. STACK UNDERFLOW if there
 /// are fewer, then the operator's faults.
 #[inline(always)]
 pub fn on_two(cpu: &mut Cpu, op: Binary, next: Place) -> Step
@@ -99,7 +99,7 @@ pub fn on_two(cpu: &mut Cpu, op: Binary, next: Place) -> Step
     }
 }
 
-/// Puts what an operator makes of the top cell in its place, and goes on at `next`. STACK UNDERFLOW where there is
+/// Puts what an operator makes of the top cell in its place, and goes on at `next`. STACK UNDERFLOW if there is
 /// none, then the operator's faults.
 #[inline(always)]
 pub fn on_one(cpu: &mut Cpu, op: Unary, next: Place) -> Step

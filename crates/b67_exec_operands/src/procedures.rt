@@ -33,7 +33,7 @@ fn is_procedure(cpu: &Cpu, bits: u64) -> bool
     cpu.core.get(cpu.regs.dict + (bits % 0x4000) as u32).tag() == 3
 }
 
-/// Pushes the word of a procedure of the running job, which the literal is, and goes on at `next`. INVALID OPERATOR where
+/// Pushes the word of a procedure of the running job, which the literal is, and goes on at `next`. INVALID OPERATOR if
 /// it names no segment or has other bits, then STACK OVERFLOW.
 #[inline(always)]
 pub fn mpcw(cpu: &mut Cpu, bits: u64, next: Place) -> Step

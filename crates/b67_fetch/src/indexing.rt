@@ -57,7 +57,7 @@ fn array_of(cpu: &Cpu, w: Word) -> Result<u32, Fault>
     }
 }
 
-/// The index that an operand is in an array of so many elements. EXPONENT where it isn't whole, INVALID INDEX where it is
+/// The index that an operand is in an array of so many elements. EXPONENT if it isn't whole, INVALID INDEX if it is
 /// none of them.
 fn index_below(index: Word, length: u32) -> Result<u32, Fault>
     requires { index.tag ≡ 0 }
@@ -73,7 +73,7 @@ fn index_below(index: Word, length: u32) -> Result<u32, Fault>
     Ok(n as u32)
 }
 
-/// The original and the index of the element that a word's array and an operand give. INVALID OPERAND where the index is
+/// The original and the index of the element that a word's array and an operand give. INVALID OPERAND if the index is
 /// none, the faults of `array_of`, those of `index_below`.
 fn item_at(cpu: &Cpu, reference: Word, index: Word) -> Result<(u32, u32), Fault>
     requires { MayFollow cpu.now reference }
@@ -150,7 +150,7 @@ pub fn indx(cpu: &mut Cpu, next: Place) -> Step
     }
 }
 
-/// NXLV: an element in the place of the two top cells, goes on at `next`. Where its array is absent nothing is changed.
+/// NXLV: an element in the place of the two top cells, goes on at `next`. If its array is absent, nothing is changed.
 pub fn nxlv(cpu: &mut Cpu, next: Place) -> Step
     requires { RunsSome cpu.old }
     ensures row { ForEach cpu.old (λ x plan s m t. let h = here m t next in Meets x plan s m result cpu.old cpu.new (rows.nxlv h (cells_of h))) }

@@ -1,6 +1,6 @@
 //! Operators that read through references.
 //!
-//! Where a reference ends at a procedure the answer is `Step::Call(255)`, with nothing changed: the caller then enters it.
+//! If a reference ends at a procedure, the answer is `Step::Call(255)`, with nothing changed: the caller then enters it.
 
 ghost use Rattle.std.specs.Prelude.{◌≡◌, ℕ, ◌+◌, ◌^◌, ◌<◌, ◌≤◌, List, ◌++◌, ◌∷◌, length, Some};
 ghost use Rattle.b67_word.specs.declared.couples.Place.{Place};
@@ -29,7 +29,7 @@ fn end_of(cpu: &Cpu, w: Word) -> Result<End, Fault>
     chase(&cpu.core, &cpu.regs, &cpu.display, w)
 }
 
-/// Puts an element in the place of the `count` top cells, and goes on at `next`. STACK OVERFLOW. Where the array is absent
+/// Puts an element in the place of the `count` top cells, and goes on at `next`. STACK OVERFLOW. If the array is absent,
 /// nothing is changed.
 pub fn put_element(cpu: &mut Cpu, count: u32, original: u32, index: u32, next: Place) -> Step
     requires holds { HoldsElement cpu.old original index }
@@ -48,7 +48,7 @@ pub fn put_element(cpu: &mut Cpu, count: u32, original: u32, index: u32, next: P
 }
 
 /// Puts the value at an end in the place of the `count` top cells, and goes on at `next`. INVALID OPERAND at an array and
-/// at an intrinsic, else STACK OVERFLOW. Where an array is absent nothing is changed.
+/// at an intrinsic, else STACK OVERFLOW. If an array is absent, nothing is changed.
 fn value(cpu: &mut Cpu, count: u32, end: End, next: Place) -> Step
     requires end { SomeEnd cpu.old end }
     requires cells { cpu.old.regs.f + count ≤ cpu.old.regs.s }
@@ -67,7 +67,7 @@ fn value(cpu: &mut Cpu, count: u32, end: End, next: Place) -> Step
 }
 
 /// Pushes the value to which a couple of 14 bits leads, and goes on at `next`. The faults of references, INVALID OPERAND
-/// where it ends at an array or an intrinsic, STACK OVERFLOW. Where an array is absent nothing is changed.
+/// if it ends at an array or an intrinsic, STACK OVERFLOW. If an array is absent, nothing is changed.
 pub fn valc(cpu: &mut Cpu, couple: u16, next: Place) -> Step
     requires runs { RunsSome cpu.old }
     requires couple { couple < 2 ^ 14 }
@@ -80,7 +80,7 @@ pub fn valc(cpu: &mut Cpu, couple: u16, next: Place) -> Step
 }
 
 /// Puts the value or the row copy to which the top cell leads in its place, and goes on at `next`. STACK UNDERFLOW, the
-/// faults of references, INVALID OPERAND where it ends at an intrinsic. Where an element's array is absent nothing is
+/// faults of references, INVALID OPERAND if it ends at an intrinsic. If an element's array is absent, nothing is
 /// changed.
 pub fn load(cpu: &mut Cpu, next: Place) -> Step
     requires { RunsSome cpu.old }

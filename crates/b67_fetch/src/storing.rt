@@ -1,6 +1,6 @@
 //! Operators that store through references.
 //!
-//! Where a reference ends at a procedure the answer is `Step::Call(255)`, with nothing changed: the caller then enters it.
+//! If a reference ends at a procedure, the answer is `Step::Call(255)`, with nothing changed: the caller then enters it.
 
 ghost use Rattle.std.specs.Prelude.{◌≡◌, ℕ, ◌+◌, ◌-◌, ◌<◌, ◌≤◌, length, true, false};
 ghost use Rattle.b67_model.specs.Steps.{cells_of};
@@ -15,7 +15,7 @@ use b67_refer::{End, chase};
 use b67_stack::{Cpu, Step, What};
 use b67_word::{Fault, Place, Word};
 
-/// The core address of an element that is to be stored into. Else what the operator answers: MEMORY PROTECT where the
+/// The core address of an element that is to be stored into. Else what the operator answers: MEMORY PROTECT if the
 /// array is read-only, then that it is absent.
 fn element_at(cpu: &Cpu, original: u32, index: u32) -> Result<u32, Step>
     requires { HoldsElement cpu.now original index }
@@ -84,8 +84,8 @@ fn store(cpu: &mut Cpu, keeps: bool, next: Place) -> Step
 }
 
 /// Stores the operand of the two top cells where the other one leads, takes both off, and goes on at `next`. STACK
-/// UNDERFLOW, INVALID OPERAND where none of the two is an operand, the faults of references, MEMORY PROTECT where it ends
-/// at a read-only element, an array or an intrinsic. Where an element's array is absent nothing is changed.
+/// UNDERFLOW, INVALID OPERAND if none of the two is an operand, the faults of references, MEMORY PROTECT if it ends
+/// at a read-only element, an array or an intrinsic. If an element's array is absent, nothing is changed.
 pub fn stod(cpu: &mut Cpu, next: Place) -> Step
     requires { RunsSome cpu.old }
     ensures row { ForEach cpu.old (λ x plan s m t. let h = here m t next in EntersOrMeets x plan s m result cpu.old cpu.new (enters_at (store_end h (cells_of h))) (rows.store false h (cells_of h))) }

@@ -41,7 +41,7 @@ pub fn literals_fill_their_words()
     ensures short_fills { assembly (codes "SEGMENT A 2\nLT48 1\nLT8 1\nLT8 1\nONE\nLT48 2\nBSET 5\nBRST 6\nPUSH\n") ≡ Ok (record { segments = record { level = 2; entries = []; code = 0xbeffffffffff ∷ 0x000000000001 ∷ 0xb201b201b1be ∷ 0x000000000002 ∷ 0x96059e06b4ff ∷ [] } ∷ []; rows = [] }) }
 {}
 
-/// Rows stand behind the segments; couples are split at the segment's level, 31 for levels above.
+/// Rows follow the segments; couples are split at the segment's level, 31 for levels above.
 pub fn rows_and_couples_are_assembled()
     ensures row_named { assembly (codes "SEGMENT A 2\nVALC 1,R\nNAMC 1,S\nEXIT\nROW R\nNUM 1 -2 #800000000000\nNUM 549755813887\nROW S\nNUM #aBcDeF012345\n") ≡ Ok (record { segments = record { level = 2; entries = []; code = 0x20036004a3ff ∷ [] } ∷ []; rows = (0x000000000001 ∷ 0x400000000002 ∷ 0x800000000000 ∷ 0x007fffffffff ∷ []) ∷ (0xabcdef012345 ∷ []) ∷ [] }) }
     ensures level_31 { assembly (codes "SEGMENT A 2\nMPCW B\nEXIT\nSEGMENT B 31\nVALC 31,511\nNAMC 16,5\nNAMC 1,0\nEXIT\n") ≡ Ok (record { segments = record { level = 2; entries = []; code = 0xbfffffffffff ∷ 0x00000007c003 ∷ 0xa3ffffffffff ∷ [] } ∷ record { level = 31; entries = []; code = 0x3fff42056000 ∷ 0xa3ffffffffff ∷ [] } ∷ []; rows = [] }) }

@@ -8,7 +8,7 @@ ghost use Rattle.b67_model.specs.Sectors.{sectors};
 ghost use Rattle.b67_law_examples.specs.Sessions.{alone, ends, faults, most_need, most_sectors, row, value, with_row, with_stack};
 ghost use Rattle.b67_law_examples.specs.Programs.{deallocated, deallocated_long, deallocated_row, doubled, indexed_as_array, lengthened, printed_longer, resized_from_to, resized_row, resized_to, shortened, shortened_and_back};
 
-/// A copy whose index is past the new length is INVALID INDEX where it is used.
+/// A copy whose index is past the new length is INVALID INDEX when it is used.
 pub fn index_past_the_new_length()
     ensures { lines 30 (alone shortened) ≡ faults 1 InvalidIndex ∷ [] }
 {}

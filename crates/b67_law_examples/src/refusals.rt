@@ -62,7 +62,7 @@ pub fn proc_of_the_own_level_is_refused()
     ensures none { map rule_of (refusals (without_rows names_none)) ≡ 7 ∷ 8 ∷ [] }
 {}
 
-/// An entry that isn't a start is refused by rule 11 at its place, also where that stands before all that is refused of
+/// An entry that isn't a start is refused by rule 11 at its place, also if that stands before all that is refused of
 /// the listing, or past the segment.
 pub fn entries_are_starts()
     ensures before_a_break { first_of (refusals (without_rows (one_word (0x2000 ∷ []) 0x4009c0ffffff))) ≡ first_at 0 1 11 }

@@ -52,7 +52,7 @@ pub fn refused_row_touches_nothing()
     ensures most { most_need 10 (one_job refused_row_program 256 1000 [] []) ≡ 424 }
 {}
 
-/// The array of a PRINTROW counts also where an element isn't whole.
+/// The array of a PRINTROW counts also if an element isn't whole.
 pub fn faulting_row_is_touched()
     ensures printed { lines 10 (one_job row_with_bits_program 256 1000 [] []) ≡ faults 1 Exponent ∷ [] }
     ensures most { most_need 10 (one_job row_with_bits_program 256 1000 [] []) ≡ 427 }

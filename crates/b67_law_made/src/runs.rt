@@ -6,7 +6,7 @@ ghost use Rattle.b67_law_made.specs.RunMade.{RunsMakeTheirWords};
 ghost use Rattle.b67_law_made.specs.Ended.{RunsEndExactlyAtNvld};
 
 /// Over an admitted program an operator stands at the place of each live task, and the task's step
-/// faults INVALID OPERATOR exactly where this is NVLD.
+/// faults INVALID OPERATOR exactly if this is NVLD.
 pub fn invalid_operator_exactly_at_nvld()
     ensures { InvalidOperatorExactlyAtNvld }
 {}

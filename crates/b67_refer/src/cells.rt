@@ -71,7 +71,7 @@ fn cell_in(core: &Core, regs: &Regs, base: u32, offset: u16) -> Result<u32, Faul
     slot_cell(core, regs, base, offset)
 }
 
-/// The core address of the cell that a couple names in the running environment. INVALID ADDRESS exactly where the level
+/// The core address of the cell that a couple names in the running environment. INVALID ADDRESS exactly if the level
 /// is above the running one, or the activation record at that level has no such cell: displacements 2 and up, and 8 to
 /// 18 of the MCP.
 pub fn cell_of(core: &Core, regs: &Regs, display: &[u32; 32], c: Couple) -> Result<u32, Fault>
@@ -86,7 +86,7 @@ pub fn cell_of(core: &Core, regs: &Regs, display: &[u32; 32], c: Couple) -> Resu
 }
 
 /// The core address of the cell that a stuffed reference names. It needs the reference's activation record alive, in the reach
-/// of any live task of the running task's job, and, where it is a dictionary, that of this job. INVALID ADDRESS exactly where
+/// of any live task of the running task's job, and, where it is a dictionary, that of this job. INVALID ADDRESS exactly if
 /// there is no such cell.
 pub fn cell_at(core: &Core, regs: &Regs, r: Sirw) -> Result<u32, Fault>
     requires { (a : LiveContext core.now regs.now) × (f : ℕ) × NamesEntered (live.reach a) f × (live.view a f ≡ record { stack = r.stack; disp = r.disp }) }

@@ -42,7 +42,7 @@ pub fn owner(core: &Core, copy: DataDesc) -> u32
     }
 }
 
-/// The element of an array at an index. INVALID INDEX where the array, as it is now, is no longer than the index.
+/// The element of an array at an index. INVALID INDEX if the array, as it is now, is no longer than the index.
 fn element_at(core: &Core, regs: &Regs, original: u32, index: u32) -> Result<End, Fault>
     requires { (a : LiveContext core.now regs.now) × (n : ℕ) × (original ≡ a.plan.home a.member.constants.number n) × NamesArray a.member.progress.job.arrays (reach a) n }
     ensures { (a : LiveContext core.now regs.now) (q : Place) (n : ℕ) → original ≡ a.plan.home a.member.constants.number n
@@ -81,7 +81,7 @@ fn array_end(core: &Core, regs: &Regs, at: u32) -> Result<Option<End>, Fault>
     }
 }
 
-/// What the word in a cell comes to: an end, or None where it is a reference. INVALID OPERAND exactly where it is
+/// What the word in a cell comes to: an end, or None if it is a reference. INVALID OPERAND exactly if it is
 /// neither.
 fn end_at(core: &Core, regs: &Regs, at: u32) -> Result<Option<End>, Fault>
     requires { (a : LiveContext core.now regs.now) × (q : Place) × (f : ℕ) × (offset : ℕ) × (w : Words.Word) × IsCellAt a q at f offset w }
