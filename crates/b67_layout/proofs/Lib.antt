@@ -11,6 +11,7 @@ pub mod Settles
 pub mod Starts
 pub mod Fresh
 pub mod Gone
+pub mod Counting
 pub mod Members
 pub mod Cells
 pub mod Weaker

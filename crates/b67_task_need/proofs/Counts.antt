@@ -13,48 +13,15 @@ use Rattle.b67_layout.specs.Placement.{Slotted, Placement, slot_of}
 use Rattle.b67_layout.specs.Rows.{TaskRow, JobRow, JobCounts, Differ, TablesShow}
 use Rattle.b67_layout.specs.Session.{RowsFit}
 use Rattle.b67_layout.proofs.Rows.{task_row}
+use Rattle.b67_layout.proofs.Counting.{not_more, slots_of, slots_length}
 use Rattle.b67_layout.proofs.Fresh.{job_in_order}
 use Rattle.b67_law_order.proofs.Numbered.{numbered_low}
 
--- a list without one of its numbers
-record Without (ys : List ℕ) (n : ℕ) : Type 0 where
-  pub rest : List ℕ
-  pub shorter : length ys ≡ length rest + 1
-  pub others : (k : ℕ) → k ≢ n → Has ys k → Has rest k
-
-without : (ys : List ℕ) (n : ℕ) → Has ys n → Without ys n
-without [] n h = absurd h
-without (y ∷ ys) n (inl e) = record { rest = ys; shorter = omega arith; others = λ k ne h. ⊎_elim (λ (z : y ≡ k). absurd (ne (sym z ∙ e))) (λ (i : Has ys k). i) h }
-without (y ∷ ys) n (inr h) =
-    let r = without ys n h in
-    record { rest = y ∷ r.rest; shorter = omega (arith, r.shorter); others = λ k ne o. ⊎_elim (λ (z : y ≡ k). inl z) (λ (i : Has ys k). inr (r.others k ne i)) o }
-
--- numbers that differ and are all in another list are at most as many as that has
-not_more : (xs ys : List ℕ) → Differ xs → ((n : ℕ) → Has xs n → Has ys n) → length xs ≤ length ys
-not_more [] ys d h = omega arith
-not_more (x ∷ xs) ys d h =
-    let r = without ys x (h x (inl refl)) in
-    let i = not_more xs r.rest d.1 (λ n k. r.others n (λ (e : n ≡ x). d.0 (subst (Has xs) e k)) (h n (inr k))) in
-    omega (arith, i, r.shorter)
-
+-- two lists of numbers that differ, without one in both
 differ_append : (xs ys : List ℕ) → Differ xs → Differ ys → ((n : ℕ) → Has xs n → Has ys n → ⊥) → Differ (xs ++ ys)
 differ_append [] ys d e apart = e
 differ_append (x ∷ xs) ys d e apart =
     (λ h. ⊎_elim (λ (i : Has xs x). d.0 i) (λ (i : Has ys x). apart x (inl refl) i) (has_append_cases xs ys x h), differ_append xs ys d.1 e (λ n h k. apart n (inr h) k))
-
--- the slots of a job's live tasks
-abbrev pub slots_of : Placement → SessionJob → List ℕ
-slots_of plan m = map (λ (t : Task). slot_of plan m.constants.number t.number) m.progress.job.tasks
-
-slots_length : (plan : Placement) (jobs : List SessionJob) → length (flat_map (slots_of plan) jobs) ≡ live_tasks jobs
-slots_length plan [] = refl
-slots_length plan (m ∷ more) = omega (
-  arith,
-  length-append (slots_of plan m) (flat_map (slots_of plan) more),
-  length-map m.progress.job.tasks (λ (t : Task). slot_of plan m.constants.number t.number),
-  slots_length plan more,
-  sum_by-cons (λ (y : SessionJob). length y.progress.job.tasks) m more,
-)
 
 module _ (plan : Placement) (s : Session) (o : IsInOrderButCounts s) (fit : RowsFit plan s.jobs) where
   -- a slot tells the task

@@ -37,7 +37,8 @@ use Rattle.b67_layout_leave.proofs.Settles.{stack_in_slot}
 use Rattle.b67_layout_leave.proofs.Originals.{entry_number}
 use Rattle.b67_exec_cells.proofs.Codes.{code_object}
 use Rattle.b67_task_need.specs.Sums.{sectors_at, sectors_from, sectors_of_slot, sectors_of_slots}
-use Rattle.b67_task_need.proofs.Counts.{slots_of, jobs_differ}
+use Rattle.b67_layout.proofs.Counting.{slots_of}
+use Rattle.b67_task_need.proofs.Counts.{jobs_differ}
 use Rattle.b67_task_need.proofs.Totals.{upto, slots_total, range_split, range_first, kept, kept_once, kept_original}
 use Rattle.b67_task_need.proofs.Words.{home_array, home_code, of_shape, lies_total, headed_total}
 use Rattle.b67_law_order.proofs.Numbered.{keyed_member}
