@@ -80,7 +80,7 @@ impl Areas {
     }
 
     /// Leaves an area only its first words. They stay in place, and so do its kind, its owner and the sector that it keeps.
-    /// The words after its new tail become a hole, one with the hole behind it.
+    /// The words after its new tail become a hole, one with the hole after it.
     pub fn shrink(&mut self, core: &mut Core, address: u32, words: u32)
         requires some { 1 ≤ words }
         requires area { (ss : List Span) × (a : Info) × IsDirectory core.old self.old.low ss × (area_at self.old.low ss address ≡ Some a) × (words ≤ a.words) }
@@ -111,7 +111,7 @@ impl Areas {
         info_at(core, address - 1)
     }
 
-    /// The lowest area's address. None is where there is no area.
+    /// The lowest area's address. None if there is no area.
     pub fn first(&self, core: &Core) -> Option<u32>
         requires { (ss : List Span) × IsDirectory core.now self.now.low ss }
         ensures { (ss : List Span) → IsDirectory core.now self.now.low ss → result ≡ first_area self.now.low ss }
@@ -119,7 +119,7 @@ impl Areas {
         next_area(core, self.low)
     }
 
-    /// The next area's address above an area. None is where there is none.
+    /// The next area's address above an area. None if there is none.
     pub fn after(&self, core: &Core, address: u32) -> Option<u32>
         requires { (ss : List Span) × (a : Info) × IsDirectory core.now self.now.low ss × (area_at self.now.low ss address ≡ Some a) }
         ensures { (ss : List Span) (a : Info) → IsDirectory core.now self.now.low ss → area_at self.now.low ss address ≡ Some a

@@ -35,7 +35,7 @@ pub struct Gap {
     pub next: u32,
 }
 
-/// What an area leaves: the words at `at`, with the hole behind it; the last link below, and the words of the hole there.
+/// What an area leaves: the words at `at`, with the hole after it; the last link below, and the words of the hole there.
 #[derive(Clone, Copy, Debug, PartialEq, Eq)]
 pub struct Vacancy {
     pub before: u32,

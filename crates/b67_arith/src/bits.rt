@@ -37,7 +37,7 @@ pub fn leqv(a: Word, b: Word) -> Result<Word, Fault>
     Ok(Word::of(0, ONES - (x ^ y)))
 }
 
-/// 1 where all 48 bits are alike, else 0: minus zero isn't 0 here. INVALID OPERAND.
+/// 1 if all 48 bits are alike, else 0: minus zero isn't 0 here. INVALID OPERAND.
 pub fn same(a: Word, b: Word) -> Result<Word, Fault>
     ensures { result ≡ on_words rows.same a b }
 {
@@ -54,7 +54,7 @@ pub fn lnot(a: Word) -> Result<Word, Fault>
     Ok(Word::of(0, ONES - x))
 }
 
-/// Sets bit `n`. INVALID OPERAND, also where `n` is past 47.
+/// Sets bit `n`. INVALID OPERAND, also if `n` is past 47.
 pub fn bset(a: Word, n: u8) -> Result<Word, Fault>
     ensures { result ≡ on_word (rows.bset n) a }
 {
@@ -66,7 +66,7 @@ pub fn bset(a: Word, n: u8) -> Result<Word, Fault>
     Ok(Word::of(0, if (x >> n) % 2 == 0 { x + bit } else { x }))
 }
 
-/// Resets bit `n`. INVALID OPERAND, also where `n` is past 47.
+/// Resets bit `n`. INVALID OPERAND, also if `n` is past 47.
 pub fn brst(a: Word, n: u8) -> Result<Word, Fault>
     ensures { result ≡ on_word (rows.brst n) a }
 {
@@ -78,7 +78,7 @@ pub fn brst(a: Word, n: u8) -> Result<Word, Fault>
     Ok(Word::of(0, if (x >> n) % 2 == 0 { x } else { x - bit }))
 }
 
-/// Bits `high` down to `high - width + 1` as a number. INVALID OPERAND, also where they aren't a field.
+/// Bits `high` down to `high - width + 1` as a number. INVALID OPERAND, also if they aren't a field.
 pub fn isol(a: Word, high: u8, width: u8) -> Result<Word, Fault>
     ensures { result ≡ on_word (rows.isol high width) a }
 {
@@ -100,7 +100,7 @@ fn inserted(x: u64, y: u64, high: u8, width: u8) -> u64
     (x >> above << above) + (y % (1 << width) << low) + x % (1 << low)
 }
 
-/// The field of `isol` in `a` replaced by the low bits of `b`. INVALID OPERAND, also where it isn't a field.
+/// The field of `isol` in `a` replaced by the low bits of `b`. INVALID OPERAND, also if it isn't a field.
 pub fn insr(a: Word, b: Word, high: u8, width: u8) -> Result<Word, Fault>
     ensures { result ≡ on_words (rows.insr high width) a b }
 {

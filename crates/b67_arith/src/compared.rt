@@ -7,7 +7,7 @@ ghost use Rattle.b67_arith.specs.OnWords.{on_words};
 use crate::operands::{numbers, truth_of};
 use b67_word::{Fault, Word};
 
-/// 1 where a < b, else 0. INVALID OPERAND, EXPONENT, in this order.
+/// 1 if a < b, else 0. INVALID OPERAND, EXPONENT, in this order.
 pub fn less(a: Word, b: Word) -> Result<Word, Fault>
     ensures { result ≡ on_words rows.less a b }
 {
@@ -15,7 +15,7 @@ pub fn less(a: Word, b: Word) -> Result<Word, Fault>
     Ok(truth_of(x < y))
 }
 
-/// 1 where a >= b, else 0. INVALID OPERAND, EXPONENT, in this order.
+/// 1 if a >= b, else 0. INVALID OPERAND, EXPONENT, in this order.
 pub fn greq(a: Word, b: Word) -> Result<Word, Fault>
     ensures { result ≡ on_words rows.greq a b }
 {
@@ -23,7 +23,7 @@ pub fn greq(a: Word, b: Word) -> Result<Word, Fault>
     Ok(truth_of(x >= y))
 }
 
-/// 1 where a > b, else 0. INVALID OPERAND, EXPONENT, in this order.
+/// 1 if a > b, else 0. INVALID OPERAND, EXPONENT, in this order.
 pub fn grtr(a: Word, b: Word) -> Result<Word, Fault>
     ensures { result ≡ on_words rows.grtr a b }
 {
@@ -31,7 +31,7 @@ pub fn grtr(a: Word, b: Word) -> Result<Word, Fault>
     Ok(truth_of(x > y))
 }
 
-/// 1 where a <= b, else 0. INVALID OPERAND, EXPONENT, in this order.
+/// 1 if a <= b, else 0. INVALID OPERAND, EXPONENT, in this order.
 pub fn lseq(a: Word, b: Word) -> Result<Word, Fault>
     ensures { result ≡ on_words rows.lseq a b }
 {
@@ -39,7 +39,7 @@ pub fn lseq(a: Word, b: Word) -> Result<Word, Fault>
     Ok(truth_of(x <= y))
 }
 
-/// 1 where a = b, where minus zero is 0, else 0. INVALID OPERAND, EXPONENT, in this order.
+/// 1 if a = b, where minus zero is 0, else 0. INVALID OPERAND, EXPONENT, in this order.
 pub fn equl(a: Word, b: Word) -> Result<Word, Fault>
     ensures { result ≡ on_words rows.equl a b }
 {
@@ -47,7 +47,7 @@ pub fn equl(a: Word, b: Word) -> Result<Word, Fault>
     Ok(truth_of(x == y))
 }
 
-/// 1 where a and b differ, where minus zero is 0, else 0. INVALID OPERAND, EXPONENT, in this order.
+/// 1 if a and b differ, where minus zero is 0, else 0. INVALID OPERAND, EXPONENT, in this order.
 pub fn neql(a: Word, b: Word) -> Result<Word, Fault>
     ensures { result ≡ on_words rows.neql a b }
 {

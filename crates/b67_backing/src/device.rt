@@ -8,7 +8,7 @@ use b67_word::Failed;
 
 /// A device of sectors of 30 numbers, numbered from 1. The number of a word is tag × 2^48 + bits.
 pub trait Backing {
-    /// The sectors, where it tells them.
+    /// The sectors, if it tells them.
     ghost holds: { Self → Option (List (List ℕ)) };
 
     /// How many sectors it has.

@@ -142,7 +142,7 @@ impl<F: RandomAccess + Drop> FileBacking<F> {
         }
     }
 
-    /// Counts a call, and its failure where it wasn't done.
+    /// Counts a call, and its failure if it wasn't done.
     fn counted(&mut self, done: bool) -> Result<(), Failed>
         ensures file { self.new.file ≡ self.old.file }
         ensures answer { IsOk result ↔ IsTrue done }

@@ -86,7 +86,7 @@ impl Sectors {
     }
 
     /// Makes a chain of n free sectors, and answers its first. No other chain and no other free sector is touched, and
-    /// only n links are followed. None, with nothing changed, is where fewer than n sectors are free.
+    /// only n links are followed. None, with nothing changed, if fewer than n sectors are free.
     pub fn take(&mut self, n: u32) -> Option<u32>
         requires { 1 ≤ n }
         ensures row { (st : Shelf) → IsShelf self.old st
@@ -228,8 +228,8 @@ impl Sectors {
     }
 
     /// Makes the chain of so many words one of more words: it goes on through free sectors, which are filled with zeros.
-    /// `BackingFull`, with nothing changed, comes exactly where fewer sectors are free than are lacking; `BackingFault`
-    /// only where the device failed, and the sectors that were free are then free again.
+    /// `BackingFull`, with nothing changed, occurs exactly if fewer sectors are free than are lacking; `BackingFault`
+    /// only if the device failed, and the sectors that were free are then free again.
     pub fn extend<B: Backing>(
         &mut self,
         first: u32,

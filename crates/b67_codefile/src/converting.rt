@@ -61,7 +61,7 @@ fn copy_of_rows(alloc: Global, rows: &[Words]) -> Result<Rows, AllocError>
     Ok(copy)
 }
 
-/// The file of version 2 with the same segments and rows. The only error is want of memory.
+/// The file of version 2 with the same segments and rows. Fails only when memory runs out.
 pub fn convert(alloc: Global, file: &Codefile) -> Result<Codefile, AllocError>
     ensures same { IfOk result (λ copy. copy ≡ record file.now { version = 2 }) }
     ensures within { IsWithin file.now → IfOk result (λ copy. IsWithin copy) }

@@ -1,4 +1,4 @@
-//! Reading a codefile from front to back: each function reads a part at the front of bytes, and gives the bytes behind it.
+//! Reading a codefile from front to back: each function reads a part at the front of bytes, and gives the bytes after it.
 
 ghost use Rattle.std.specs.Prelude.{◌≡◌, ◌<◌, length, IfOk, Ok};
 ghost use Rattle.std.specs.Int.{w8, w16, w64};

@@ -1,4 +1,4 @@
-//! The words before and behind an area of core.
+//! The words before and after an area of core.
 
 ghost use Rattle.std.specs.Prelude.{◌≡◌, ◌↔◌, ◌+◌, ◌*◌, ◌^◌, ◌<◌, IsSome, IfSome, IsTrue};
 ghost use Rattle.b67_ctl.specs.Areas.{area_head_word, IsAreaHead, area_tail_word, IsAreaTail};
@@ -16,7 +16,7 @@ pub struct AreaHead {
     pub owner: u32,
 }
 
-/// The word behind an area: its words, and the first sector that is kept for it, 0 for none.
+/// The word after an area: its words, and the first sector that is kept for it, 0 for none.
 #[derive(Clone, Copy, Debug, PartialEq, Eq)]
 pub struct AreaTail {
     pub words: u32,
@@ -37,7 +37,7 @@ impl AreaHead {
         )
     }
 
-    /// The word of a head. None where a field has too many bits, or where there is no such kind.
+    /// The word of a head. None if a field has too many bits, or if there is no such kind.
     pub fn to_word(self) -> Option<Word>
         ensures fits { IsSome result ↔ IsAreaHead self }
         ensures value { IfSome result (λ w. w ≡ area_head_word self) }
@@ -49,7 +49,7 @@ impl AreaHead {
         }
     }
 
-    /// What a head holds. None where the word is off its layout.
+    /// What a head holds. None if the word is off its layout.
     pub fn from_word(w: Word) -> Option<AreaHead>
         ensures some { IfSome result (λ h. IsAreaHead h × (w ≡ area_head_word h)) }
         ensures known { (h : AreaHead) → IsAreaHead h → w ≡ area_head_word h → result ≡ Some h }
@@ -76,7 +76,7 @@ impl AreaTail {
         Word::of(3, u64::from(self.words) * 0x10_0000 + u64::from(self.kept))
     }
 
-    /// The word of a tail. None where a field has too many bits.
+    /// The word of a tail. None if a field has too many bits.
     pub fn to_word(self) -> Option<Word>
         ensures fits { IsSome result ↔ IsAreaTail self }
         ensures value { IfSome result (λ w. w ≡ area_tail_word self) }
@@ -88,7 +88,7 @@ impl AreaTail {
         }
     }
 
-    /// What a tail holds. None where the word is off its layout.
+    /// What a tail holds. None if the word is off its layout.
     pub fn from_word(w: Word) -> Option<AreaTail>
         ensures some { IfSome result (λ t. IsAreaTail t × (w ≡ area_tail_word t)) }
         ensures known { (t : AreaTail) → IsAreaTail t → w ≡ area_tail_word t → result ≡ Some t }

@@ -60,7 +60,7 @@ impl DataDesc {
         )
     }
 
-    /// The word of a descriptor. None where a field has too many bits, or where an indexed one is no copy.
+    /// The word of a descriptor. None if a field has too many bits, or if an indexed one is no copy.
     pub fn to_word(self) -> Option<Word>
         ensures fits { IsSome result ↔ IsDataDesc self }
         ensures value { IfSome result (λ w. w ≡ data_word self) }
@@ -73,7 +73,7 @@ impl DataDesc {
         }
     }
 
-    /// What a descriptor holds. None where the word is off its layout.
+    /// What a descriptor holds. None if the word is off its layout.
     pub fn from_word(w: Word) -> Option<DataDesc>
         ensures some { IfSome result (λ d. IsDataDesc d × (w ≡ data_word d)) }
         ensures known { (d : DataDesc) → IsDataDesc d → w ≡ data_word d → result ≡ Some d }
@@ -108,7 +108,7 @@ impl SegDesc {
         )
     }
 
-    /// The word of a descriptor. None where a field has too many bits.
+    /// The word of a descriptor. None if a field has too many bits.
     pub fn to_word(self) -> Option<Word>
         ensures fits { IsSome result ↔ IsSegDesc self }
         ensures value { IfSome result (λ w. w ≡ seg_word self) }
@@ -120,7 +120,7 @@ impl SegDesc {
         }
     }
 
-    /// What a descriptor holds. None where the word is off its layout.
+    /// What a descriptor holds. None if the word is off its layout.
     pub fn from_word(w: Word) -> Option<SegDesc>
         ensures some { IfSome result (λ d. IsSegDesc d × (w ≡ seg_word d)) }
         ensures known { (d : SegDesc) → IsSegDesc d → w ≡ seg_word d → result ≡ Some d }

@@ -55,7 +55,7 @@ impl Mscw {
         Word::of(3, (flags * 0x400_0000 + env) * 0x10_0000 + low)
     }
 
-    /// The word of a mark. None where a field has too many bits, or where one that is only marked has more than the distance.
+    /// The word of a mark. None if a field has too many bits, or if one that is only marked has more than the distance.
     pub fn to_word(self) -> Option<Word>
         ensures fits { IsSome result ↔ IsMscw self }
         ensures value { IfSome result (λ w. w ≡ mscw_word self) }
@@ -73,7 +73,7 @@ impl Mscw {
         }
     }
 
-    /// What a mark holds. None where the word is off its layout.
+    /// What a mark holds. None if the word is off its layout.
     pub fn from_word(w: Word) -> Option<Mscw>
         ensures some { IfSome result (λ m. IsMscw m × (w ≡ mscw_word m)) }
         ensures known { (m : Mscw) → IsMscw m → w ≡ mscw_word m → result ≡ Some m }
@@ -114,7 +114,7 @@ impl Rcw {
         )
     }
 
-    /// The word of a return. None where a field has too many bits.
+    /// The word of a return. None if a field has too many bits.
     pub fn to_word(self) -> Option<Word>
         ensures fits { IsSome result ↔ IsRcw self }
         ensures value { IfSome result (λ w. w ≡ rcw_word self) }
@@ -126,7 +126,7 @@ impl Rcw {
         }
     }
 
-    /// What a return holds. None where the word is off its layout.
+    /// What a return holds. None if the word is off its layout.
     pub fn from_word(w: Word) -> Option<Rcw>
         ensures some { IfSome result (λ r. IsRcw r × (w ≡ rcw_word r)) }
         ensures known { (r : Rcw) → IsRcw r → w ≡ rcw_word r → result ≡ Some r }
@@ -158,7 +158,7 @@ impl Toscw {
         )
     }
 
-    /// The word of a top of stack. None where a field has too many bits.
+    /// The word of a top of stack. None if a field has too many bits.
     pub fn to_word(self) -> Option<Word>
         ensures fits { IsSome result ↔ IsToscw self }
         ensures value { IfSome result (λ w. w ≡ toscw_word self) }
@@ -170,7 +170,7 @@ impl Toscw {
         }
     }
 
-    /// What a top of stack holds. None where the word is off its layout.
+    /// What a top of stack holds. None if the word is off its layout.
     pub fn from_word(w: Word) -> Option<Toscw>
         ensures some { IfSome result (λ t. IsToscw t × (w ≡ toscw_word t)) }
         ensures known { (t : Toscw) → IsToscw t → w ≡ toscw_word t → result ≡ Some t }

@@ -50,7 +50,7 @@ impl Pcw {
         )
     }
 
-    /// The word of a procedure. None where a field has too many bits.
+    /// The word of a procedure. None if a field has too many bits.
     pub fn to_word(self) -> Option<Word>
         ensures fits { IsSome result ↔ IsPcw self }
         ensures value { IfSome result (λ w. w ≡ pcw_word self) }
@@ -62,7 +62,7 @@ impl Pcw {
         }
     }
 
-    /// What a procedure holds. None where the word is off its layout.
+    /// What a procedure holds. None if the word is off its layout.
     pub fn from_word(w: Word) -> Option<Pcw>
         ensures some { IfSome result (λ p. IsPcw p × (w ≡ pcw_word p)) }
         ensures known { (p : Pcw) → IsPcw p → w ≡ pcw_word p → result ≡ Some p }
@@ -91,7 +91,7 @@ impl IntrinsicPcw {
         Word::of(7, 0x8_0000 + u64::from(self.number))
     }
 
-    /// The word of an intrinsic. None where a field has too many bits.
+    /// The word of an intrinsic. None if a field has too many bits.
     pub fn to_word(self) -> Option<Word>
         ensures fits { IsSome result ↔ IsIntrinsicPcw self }
         ensures value { IfSome result (λ w. w ≡ intrinsic_word self) }
@@ -103,7 +103,7 @@ impl IntrinsicPcw {
         }
     }
 
-    /// What an intrinsic holds. None where the word is off its layout.
+    /// What an intrinsic holds. None if the word is off its layout.
     pub fn from_word(w: Word) -> Option<IntrinsicPcw>
         ensures some { IfSome result (λ p. IsIntrinsicPcw p × (w ≡ intrinsic_word p)) }
         ensures known { (p : IntrinsicPcw) → IsIntrinsicPcw p → w ≡ intrinsic_word p → result ≡ Some p }

@@ -31,7 +31,7 @@ impl Irw {
         Word::of(1, u64::from(self.couple))
     }
 
-    /// The word of a couple. None where a field has too many bits.
+    /// The word of a couple. None if a field has too many bits.
     pub fn to_word(self) -> Option<Word>
         ensures fits { IsSome result ↔ IsIrw self }
         ensures value { IfSome result (λ w. w ≡ irw_word self) }
@@ -43,7 +43,7 @@ impl Irw {
         }
     }
 
-    /// What a couple holds. None where the word is off its layout.
+    /// What a couple holds. None if the word is off its layout.
     pub fn from_word(w: Word) -> Option<Irw>
         ensures some { IfSome result (λ r. IsIrw r × (w ≡ irw_word r)) }
         ensures known { (r : Irw) → IsIrw r → w ≡ irw_word r → result ≡ Some r }
@@ -72,7 +72,7 @@ impl Sirw {
         )
     }
 
-    /// The word of a reference. None where a field has too many bits.
+    /// The word of a reference. None if a field has too many bits.
     pub fn to_word(self) -> Option<Word>
         ensures fits { IsSome result ↔ IsSirw self }
         ensures value { IfSome result (λ w. w ≡ sirw_word self) }
@@ -84,7 +84,7 @@ impl Sirw {
         }
     }
 
-    /// What a reference holds. None where the word is off its layout.
+    /// What a reference holds. None if the word is off its layout.
     pub fn from_word(w: Word) -> Option<Sirw>
         ensures some { IfSome result (λ r. IsSirw r × (w ≡ sirw_word r)) }
         ensures known { (r : Sirw) → IsSirw r → w ≡ sirw_word r → result ≡ Some r }

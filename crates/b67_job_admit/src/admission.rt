@@ -53,7 +53,7 @@ fn refused(card: u32, reason: u8, byte: usize) -> AdmitFault
     AdmitFault::Refused(Refusal::Codefile { card, reason, byte })
 }
 
-/// A program is admitted exactly where it breaks none of the loader's rules. The card is that of its job.
+/// A program is admitted exactly if it breaks none of the loader's rules. The card is that of its job.
 fn admitted_one(alloc: Global, card: u32, file: Codefile) -> Result<Admitted, AdmitFault>
     requires { IsWithin file }
     ensures kept { IfOk result (λ a. a ≡ file) }

@@ -77,7 +77,7 @@ fn check(alloc: Global, file: &Codefile) -> Result<(), LoadFault>
     Ok(())
 }
 
-/// Admits a file within the limits exactly where it breaks none of the loader's rules, and keeps it as it is. Else the
+/// Admits a file within the limits exactly if it breaks none of the loader's rules, and keeps it as it is. Else the
 /// first refusal is told. A file that is refused is dropped.
 pub fn verify(alloc: Global, file: Codefile) -> Result<Admitted, LoadFault>
     requires { IsWithin file }

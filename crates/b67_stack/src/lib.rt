@@ -97,7 +97,7 @@ impl Cpu {
         self.regs.s = top;
     }
 
-    /// Puts a word on the stack. Refused, with nothing changed, exactly where the stack's top is its slot's last word.
+    /// Puts a word on the stack. Refused, with nothing changed, exactly if the stack's top is its slot's last word.
     pub fn push(&mut self, w: Word) -> Result<(), StackOverflow>
         requires { Runs self.old }
         ensures full { IsErr result ↔ (self.old.regs.s ≡ self.old.regs.losr) }
@@ -115,7 +115,7 @@ impl Cpu {
         Ok(())
     }
 
-    /// Takes a word off the stack. Refused, with nothing changed, exactly where the top activation record has no cell.
+    /// Takes a word off the stack. Refused, with nothing changed, exactly if the top activation record has no cell.
     pub fn pop(&mut self) -> Result<Word, StackUnderflow>
         requires { Runs self.old }
         ensures empty { (x : Storage) (p : MachineView) (stack : List Activation) → Represents x self.old.core self.old.regs p
@@ -135,7 +135,7 @@ impl Cpu {
         Ok(w)
     }
 
-    /// Puts a mark on the stack, linked to the last one. Refused, with nothing changed, exactly where the stack's top is
+    /// Puts a mark on the stack, linked to the last one. Refused, with nothing changed, exactly if the stack's top is
     /// its slot's last word.
     pub fn mark(&mut self) -> Result<(), StackOverflow>
         requires { Runs self.old }

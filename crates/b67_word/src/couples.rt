@@ -69,7 +69,7 @@ pub fn couple_of(bits: u16, ll: u8) -> Couple
     }
 }
 
-/// The 14 bits of a couple at a running level. None where they have too few bits for the level or the displacement.
+/// The 14 bits of a couple at a running level. None if they have too few bits for the level or the displacement.
 pub fn bits_of(c: Couple, ll: u8) -> Option<u16>
     requires { ll ≤ 31 }
     ensures value { result ≡ couple_bits ll c }

@@ -70,7 +70,7 @@ impl Word {
         (self.bits() >> low) % (1u64 << width)
     }
 
-    /// Bits `high` down to `high - width + 1` as a number. None where they aren't a field: `high` is past 47, `width`
+    /// Bits `high` down to `high - width + 1` as a number. None if they aren't a field: `high` is past 47, `width`
     /// is 0, or the field would go on below bit 0.
     pub fn field(self, high: u8, width: u8) -> Option<u64>
         ensures { result ≡ field_of self high width }
@@ -96,7 +96,7 @@ impl Word {
         }
     }
 
-    /// The number of a whole operand, minus zero as 0. None where the word isn't an operand or has an exponent.
+    /// The number of a whole operand, minus zero as 0. None if the word isn't an operand or has an exponent.
     pub fn value(self) -> Option<i64>
         ensures { result ≡ number_of self }
     {
