@@ -227,7 +227,7 @@ impl Sectors {
         self.store(first, core.words(at, words), backing)
     }
 
-    /// Makes the chain of so many words one of more words: it goes on through free sectors, which are filled with zeros.
+    /// Makes the chain of `have` words one of `want` words: it goes on through free sectors, which are filled with zeros.
     /// `BackingFull`, with nothing changed, occurs exactly if fewer sectors are free than are lacking; `BackingFault`
     /// only if the device failed, and the sectors that were free are then free again.
     pub fn extend<B: Backing>(

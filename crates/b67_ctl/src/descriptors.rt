@@ -28,7 +28,7 @@ pub struct SegDesc {
 }
 
 impl DataDesc {
-    /// The word of an original of so many words. `address`: its area if it is present, else its first sector, 0 for none.
+    /// The word of an original of `words` words. `address`: its area if it is present, else its first sector, 0 for none.
     pub fn original(present: bool, read_only: bool, words: u32, address: u32) -> Word
         requires words { words < 2 ^ 20 }
         requires address { address < 2 ^ 20 }

@@ -1,6 +1,6 @@
 //! The operators on the top cells alone: numbers and bits, literals, moves of cells, and branches.
 //!
-//! Each answers and leaves what its row makes of every state that the machine stands for. A fault changes nothing.
+//! Each answers and leaves what its row makes of every state that the machine represents. A fault changes nothing.
 #![tactic(auto)]
 
 mod branches;

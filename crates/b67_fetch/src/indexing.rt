@@ -57,7 +57,7 @@ fn array_of(cpu: &Cpu, w: Word) -> Result<u32, Fault>
     }
 }
 
-/// The index that an operand is in an array of so many elements. EXPONENT if it isn't whole, INVALID INDEX if it is
+/// The index that an operand is in an array of `length` elements. EXPONENT if it isn't whole, INVALID INDEX if it is
 /// none of them.
 fn index_below(index: Word, length: u32) -> Result<u32, Fault>
     requires { index.tag ≡ 0 }

@@ -169,7 +169,7 @@ pub fn deck_fault(fault: DeckFault) -> AdmitFault
 }
 
 /// Reads a deck to its end, and loads its programs: each job's cards are assembled or its bytes read, in job order, and
-/// then each program is admitted, in job order. The first refusal of all is told.
+/// then each program is admitted, in job order. The answer is the first refusal of all.
 pub fn admit<S: Source>(alloc: Global, source: &mut S) -> Result<Loaded, AdmitFault>
     ensures answer { IsLoaded S.left S.faults source.old source.new result }
     ensures later { S.faults source.old ≤ S.faults source.new }

@@ -72,7 +72,7 @@ pub fn cards_out_of_order_are_refused()
     ensures end_after { deck_of (codes "?JOB A\n?HEX\n00\n?END\n?END") ≡ refused 5 5 }
 {}
 
-/// Reasons 6 and 7: a repeated card, and a switch that doesn't rise; a card out of its range comes first.
+/// Reasons 6 and 7: a repeated card, and a switch that doesn't rise; a card out of its range is refused first.
 pub fn repeated_cards_are_refused()
     ensures repeated { deck_of (codes "?STACK 64\n?QUANTUM 5\n?STACK 65") ≡ refused 3 6 }
     ensures repeated_out_of_range { deck_of (codes "?STACK 64\n?STACK 63") ≡ refused 2 4 }

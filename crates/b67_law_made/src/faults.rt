@@ -1,4 +1,4 @@
-//! When the fault INVALID OPERATOR comes.
+//! When the fault INVALID OPERATOR occurs.
 
 ghost use Rattle.b67_law_made.specs.Faults.{InvalidOperatorIsNvld};
 

@@ -1,4 +1,4 @@
-//! Every word of a run was made by the loader or by its own operator, and INVALID OPERATOR comes exactly at NVLD.
+//! Every word of a run was made by the loader or by its own operator, and INVALID OPERATOR occurs exactly at NVLD.
 #![tactic(auto)]
 
 mod faults;

@@ -1,4 +1,4 @@
-//! How core, registers and display stand for a session's state: definitions and lemmas.
+//! How core, registers and display represent a session's state: definitions and lemmas.
 #![tactic(auto)]
 
 mod families;

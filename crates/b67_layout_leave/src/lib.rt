@@ -1,2 +1,2 @@
-//! An activation record is left: the machine stands for the session without it. Lemmas alone.
+//! An activation record is left: the machine represents the session without it. Lemmas alone.
 #![tactic(auto)]

@@ -78,7 +78,7 @@ fn check(alloc: Global, file: &Codefile) -> Result<(), LoadFault>
 }
 
 /// Admits a file within the limits exactly if it breaks none of the loader's rules, and keeps it as it is. Else the
-/// first refusal is told. A file that is refused is dropped.
+/// first refusal is the answer. A file that is refused is dropped.
 pub fn verify(alloc: Global, file: Codefile) -> Result<Admitted, LoadFault>
     requires { IsWithin file }
     // There is no refusal, or else the first one is told, and this is the least by segment, then by place, then by rule.

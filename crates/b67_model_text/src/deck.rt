@@ -148,9 +148,9 @@ pub enum Keyword {
 pub enum Stand {
     /// Before any job.
     Front,
-    /// Behind `?JOB`.
+    /// After `?JOB`.
     Begun,
-    /// Behind `?LIMIT`.
+    /// After `?LIMIT`.
     Limited,
     /// In assembly cards.
     InAsm,
@@ -158,6 +158,6 @@ pub enum Stand {
     InHex,
     /// In cards of numbers.
     InData,
-    /// Behind a job.
+    /// After a job.
     Ended,
 }

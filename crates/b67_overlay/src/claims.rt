@@ -14,7 +14,7 @@ use b67_backing::{Backing, Sectors, SpaceFault};
 use b67_stack::Cpu;
 
 /// Takes each area out of core that has a word, its head included, below an address; each other area stays as it is.
-/// `BackingFull` comes only for an array of such an area that keeps no sectors, if fewer are free than it needs, and
+/// `BackingFull` occurs only for an array of such an area that keeps no sectors, if fewer are free than it needs, and
 /// `BackingFault` only if the backing's count of faults rose. Areas that were given back before a refusal stay so.
 pub fn claim<B: Backing>(
     cpu: &mut Cpu,

@@ -1,4 +1,4 @@
-//! The running segment or the array that is touched is brought in; too few free sectors are told exactly.
+//! The running segment or the array that is touched is brought in; too few free sectors are answered exactly.
 #![tactic(auto)]
 
 mod bringing;

@@ -31,7 +31,7 @@ fn first_at(code: &[Word], at: Place) -> u8
     code[at.word as usize].part(low, 8) as u8
 }
 
-/// The place behind a syllable.
+/// The place after a syllable.
 #[inline(always)]
 fn place_behind(at: Place) -> Place
     requires in_word { at.syllable < 6 }
@@ -51,7 +51,7 @@ fn place_behind(at: Place) -> Place
     }
 }
 
-/// The syllable behind an operator that begins at syllable `n`.
+/// The syllable after an operator that begins at syllable `n`.
 #[inline(always)]
 fn end_at(n: usize, kind: Kind) -> usize
     requires { n < 2 ^ 32 }
