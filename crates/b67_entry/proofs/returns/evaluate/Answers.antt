@@ -26,8 +26,8 @@ chase-requires c =
     let h = run.stands in
     let runs = run.running in
     let cpu = c.args.cpu.now in
-    let f = follows_there x cpu plan s m t o h runs a c.args.regs is v c.args.word b c.args.display c.requires.shown in
-    (live_of f.0, f.1)
+    let (left, shown, at, owner, word, stands) = follows_there x cpu plan s m t o h runs a c.args.regs is v c.args.word b c.args.display c.requires.shown in
+    (live_of left, shown, at, owner, word, stands)
 
 pub get-value-requires : goal.get-value-requires
 get-value-requires c =
